@@ -1,0 +1,111 @@
+-- What the checks of a query promise of its plan. Windows, evaluation and the operators rest on it.
+use Rattle.std.specs.Prelude.{◌≡◌, ℕ, ◌^◌, ◌<◌, ◌≤◌, List, [], ◌∷◌, length, Option, Some, None, Contains, false}
+use Rattle.std.specs.List.{AllByRecursion}
+use Rattle.saber_plan.specs.declared.rows.Side.{Side}
+use Rattle.saber_plan.specs.declared.rows.Side.TheVariants.{Left, Right}
+use Rattle.saber_plan.specs.declared.windows.Window.{Window}
+use Rattle.saber_plan.specs.declared.windows.Stream.{Stream}
+use Rattle.saber_plan.specs.declared.expressions.Factor.{Factor}
+use Rattle.saber_plan.specs.declared.expressions.Factor.TheVariants.{Column, Constant}
+use Rattle.saber_plan.specs.declared.expressions.Product.{Product}
+use Rattle.saber_plan.specs.declared.plans.Item.{Item}
+use Rattle.saber_plan.specs.declared.plans.Item.TheVariants.{Count, Sum, Min, Max, Value}
+use Rattle.saber_plan.specs.declared.plans.Shape.{Shape}
+use Rattle.saber_plan.specs.declared.plans.Shape.TheVariants.{Select, Group, Join}
+use Rattle.saber_plan.specs.Trees.{Tree, Test, negated, one_of, compare, Both, no_more, both, Tests, no_other, either}
+use Rattle.saber_plan.specs.Overlap.{overlap}
+use Rattle.saber_plan.specs.Bounds.{SumFits, sum_bound}
+
+-- ---- streams and windows
+
+-- sizes and slides are 1 to 2^40, and no point lies in more than 1,024 windows
+pub record WindowFits (w : Window) : Type 0 where
+  pub size : (1 ≤ w.size) × (w.size ≤ 2 ^ 40)
+  pub slide : (1 ≤ w.slide) × (w.slide ≤ 2 ^ 40)
+  pub few : overlap w.size w.slide ≤ 1024
+
+-- two windows of one measure and slide
+pub record Pairs (v w : Window) : Type 0 where
+  pub measure : v.measure ≡ w.measure
+  pub slide : v.slide ≡ w.slide
+
+-- a selection has one stream without a window, a group query one with a window, a join two with windows that pair
+abbrev pub StreamsFit : Shape → List Stream → Type 0
+StreamsFit Select (s ∷ []) = s.window ≡ None
+StreamsFit Group (s ∷ []) = (w : Window) × (s.window ≡ Some w) × WindowFits w
+StreamsFit Join (s ∷ t ∷ []) = (v w : Window) × (s.window ≡ Some v) × (t.window ≡ Some w) × WindowFits v × WindowFits w × Pairs v w
+StreamsFit _ _ = ⊥
+
+-- each stream has 1 to 32 columns
+abbrev pub ColumnsFit : List Stream → Type 0
+ColumnsFit = AllByRecursion (λ s. (1 ≤ s.columns) × (s.columns ≤ 32))
+
+-- how many columns the rows of a side have
+abbrev pub columns_on : List Stream → Side → ℕ
+columns_on [] side = 0
+columns_on (s ∷ []) Left = s.columns
+columns_on (s ∷ []) Right = 0
+columns_on (s ∷ t ∷ ts) Left = s.columns
+columns_on (s ∷ t ∷ ts) Right = t.columns
+
+-- ---- expressions
+
+-- a column is one of its side's
+abbrev pub HasColumn : (Side → ℕ) → Factor → Type 0
+HasColumn columns (Column side k) = k < columns side
+HasColumn columns (Constant z) = Unit {0}
+
+-- its columns are there, and no row makes it overflow
+pub record ExprFits (columns : Side → ℕ) (e : List Product) : Type 0 where
+  pub there : AllByRecursion (λ (p : Product). AllByRecursion (HasColumn columns) p.factors) e
+  pub small : SumFits 0 e
+
+-- ---- items
+
+-- a single column, which is one of these
+abbrev pub IsKeyAmong : List ℕ → List Product → Type 0
+IsKeyAmong keys (p ∷ []) = (k : ℕ) × (p ≡ record { minus = false; factors = Column Left k ∷ [] }) × Contains keys k
+IsKeyAmong keys _ = ⊥
+
+-- what a shape's items may be: a group query's values are its keys, and no other query has aggregates
+abbrev pub ItemFits : Shape → (Side → ℕ) → List ℕ → Item → Type 0
+ItemFits Group columns keys Count = Unit {0}
+ItemFits Group columns keys (Sum e) = ExprFits columns e × (sum_bound 0 e ≤ 2 ^ 86)
+ItemFits Group columns keys (Min e) = ExprFits columns e
+ItemFits Group columns keys (Max e) = ExprFits columns e
+ItemFits Group columns keys (Value e) = ExprFits columns e × IsKeyAmong keys e
+ItemFits Select columns keys (Value e) = ExprFits columns e
+ItemFits Join columns keys (Value e) = ExprFits columns e
+ItemFits _ _ _ _ = ⊥
+
+-- ---- predicates
+
+abbrev mutual
+  pub TestFits : (Side → ℕ) → Test → Type 0
+  TestFits columns (negated t) = TestFits columns t
+  TestFits columns (one_of ts) = SomeFit columns ts
+  TestFits columns (compare x c y) = ExprFits columns x × ExprFits columns y
+
+  pub AllFit : (Side → ℕ) → Both → Type 0
+  AllFit columns no_more = Unit {0}
+  AllFit columns (both t ts) = TestFits columns t × AllFit columns ts
+
+  pub SomeFit : (Side → ℕ) → Tests → Type 0
+  SomeFit columns no_other = Unit {0}
+  SomeFit columns (either b bs) = AllFit columns b × SomeFit columns bs
+
+abbrev pub PredicateFits : (Side → ℕ) → Option Tests → Type 0
+PredicateFits columns None = Unit {0}
+PredicateFits columns (Some ts) = SomeFit columns ts
+
+-- ---- the whole
+
+pub record IsChecked (q : Tree) : Type 0 where
+  pub streams : StreamsFit q.shape q.streams
+  pub columns : ColumnsFit q.streams
+  pub some_items : 1 ≤ length q.items
+  pub few_items : length q.items ≤ 32
+  pub items : AllByRecursion (ItemFits q.shape (columns_on q.streams) q.keys) q.items
+  pub few_keys : length q.keys ≤ 8
+  pub keys : AllByRecursion (λ k. k < columns_on q.streams Left) q.keys
+  pub predicate : PredicateFits (columns_on q.streams) q.predicate

@@ -1,0 +1,12 @@
+pub mod Rows
+pub mod Inputs
+pub mod Trees
+pub mod Values
+pub mod Overlap
+pub mod Windows
+pub mod Answers
+pub mod Merges
+pub mod Parts
+pub mod Tasks
+pub mod Bounds
+pub mod Checked

@@ -1,0 +1,144 @@
+-- The lines of a file, and the rows that they are.
+use Rattle.std.specs.Prelude.{ℕ, ◌+◌, ◌-◌, ◌^◌, List, [], ◌∷◌, length, drop, take, slice_index, map, is_some, unwrap_or, nat_abs, Bool, true, false, not, ◌&&◌, if◌then◌else◌, Option, Some, None, nat_lt, ◌==◌, ℤ, pos, neg_ℤ, int_lt, int_le}
+use Rattle.std.specs.List.{list_all}
+use Rattle.std.specs.Char.{is_ascii_digit}
+use Rattle.std.specs.Str.Parse.{digits_value, starts_with_minus}
+use Rattle.saber_plan.specs.declared.rows.Side.{Side}
+use Rattle.saber_plan.specs.declared.rows.Row.{Row}
+use Rattle.saber_plan.specs.declared.rows.RowCause.{RowCause}
+use Rattle.saber_plan.specs.declared.rows.RowCause.TheVariants.{TooManyLines, TooLong, FieldCount, BadNumber, Range, TimeOrder}
+
+-- what stands before a line feed or the end, and whether the line feed is there
+pub record Line : Type 0 where
+  pub content : List ℕ
+  pub whole : Bool
+
+-- a byte before the first line
+abbrev pub onto_line : ℕ → List Line → List Line
+onto_line b [] = record { content = b ∷ []; whole = false } ∷ []
+onto_line b (l ∷ ls) = record { content = b ∷ l.content; whole = l.whole } ∷ ls
+
+-- a file cut after each LF; the last part is a line only if it has a byte
+unfoldable pub lines_of : List ℕ → List Line
+lines_of [] = []
+lines_of (b ∷ bs) = if b == 10 then record { content = []; whole = true } ∷ lines_of bs else onto_line b (lines_of bs)
+
+-- without one CR at its end
+abbrev pub without_cr : List ℕ → List ℕ
+without_cr bs = if slice_index bs (length bs - 1) == 13 then take (length bs - 1) bs else bs
+
+abbrev pub onto_field : ℕ → List (List ℕ) → List (List ℕ)
+onto_field b [] = (b ∷ []) ∷ []
+onto_field b (f ∷ fs) = (b ∷ f) ∷ fs
+
+-- the parts between commas
+unfoldable pub fields_of : List ℕ → List (List ℕ)
+fields_of [] = [] ∷ []
+fields_of (b ∷ bs) = if b == 44 then [] ∷ fields_of bs else onto_field b (fields_of bs)
+
+-- one or more digits
+abbrev pub is_digits : List ℕ → Bool
+is_digits bs = not (length bs == 0) && list_all is_ascii_digit bs
+
+abbrev pub if_digits : List ℕ → ℤ → Option ℤ
+if_digits bs z = if is_digits bs then Some z else None
+
+-- an optional `-` and one or more digits
+abbrev pub number_of : List ℕ → Option ℤ
+number_of f = if starts_with_minus f then if_digits (drop 1 f) (neg_ℤ (pos (digits_value 10 (drop 1 f)))) else if_digits f (pos (digits_value 10 f))
+
+-- a line by itself: nothing, the numbers of a row, or a fault
+pub data Judged : Type 0 where
+  skipped : Judged
+  taken : List ℤ → Judged
+  refused : RowCause → Judged
+
+-- the first field that is no number, where fields count from k
+abbrev pub bad_field : ℕ → List (List ℕ) → Option ℕ
+bad_field k [] = None
+bad_field k (f ∷ fs) = if is_some (number_of f) then bad_field (k + 1) fs else Some k
+
+abbrev pub numbers : List (List ℕ) → List ℤ
+numbers fs = map (λ f. unwrap_or (number_of f) (pos 0)) fs
+
+-- the first column is a time, and the others are of 64 bits
+abbrev pub in_range : ℕ → ℤ → Bool
+in_range k z = if k == 1 then int_le (pos 0) z && int_le z (pos (2 ^ 62)) else int_le (neg_ℤ (pos (2 ^ 63))) z && int_lt z (pos (2 ^ 63))
+
+-- the first number out of its range, where fields count from k
+abbrev pub wide_field : ℕ → List ℤ → Option ℕ
+wide_field k [] = None
+wide_field k (z ∷ zs) = if in_range k z then wide_field (k + 1) zs else Some k
+
+-- the timestamp: the first number
+abbrev pub stamp : List ℤ → ℕ
+stamp [] = 0
+stamp (z ∷ zs) = nat_abs z
+
+abbrev pub falls : Option ℕ → List ℤ → Bool
+falls None zs = false
+falls (Some last) zs = nat_lt (stamp zs) last
+
+abbrev pub judge_numbers : Option ℕ → List ℤ → Option ℕ → Judged
+judge_numbers last zs (Some k) = refused (Range k)
+judge_numbers last zs None = if falls last zs then refused TimeOrder else taken zs
+
+abbrev pub judge_fields : Option ℕ → List (List ℕ) → Option ℕ → Judged
+judge_fields last fs (Some k) = refused (BadNumber k)
+judge_fields last fs None = judge_numbers last (numbers fs) (wide_field 1 (numbers fs))
+
+-- the content of a line with this number, after a row with this timestamp; the causes are tried in this order
+unfoldable pub judge : ℕ → ℕ → ℕ → Option ℕ → List ℕ → Judged
+judge columns most number last content =
+    if nat_lt most number then refused TooManyLines
+    else (if length content == 0 then skipped
+    else (if nat_lt 4096 (length content) then refused TooLong
+    else (if length (fields_of content) == columns then judge_fields last (fields_of content) (bad_field 1 (fields_of content))
+    else refused FieldCount)))
+
+-- where rows end
+pub data End : Type 0 where
+  all_read : End
+  cut : End
+  bad : Side → ℕ → RowCause → End
+
+-- some rows, and where they end
+pub record Read : Type 0 where
+  pub rows : List Row
+  pub end : End
+
+abbrev pub before : Row → Read → Read
+before r read = record { rows = r ∷ read.rows; end = read.end }
+
+-- what is fixed of one side: which it is, how many columns it has, and how many lines it may have
+pub record SideRules : Type 0 where
+  pub side : Side
+  pub columns : ℕ
+  pub most : ℕ
+
+-- how many lines are behind, and the last timestamp
+pub record Place : Type 0 where
+  pub lines : ℕ
+  pub last : Option ℕ
+
+abbrev pub start : Place
+start = record { lines = 0; last = None }
+
+-- what follows a line, from what the lines after it give
+abbrev pub after_line : SideRules → Place → Judged → (Place → Read) → Read
+after_line s p skipped rest = rest (record { lines = p.lines + 1; last = p.last })
+after_line s p (taken zs) rest = before (record { side = s.side; values = zs }) (rest (record { lines = p.lines + 1; last = Some (stamp zs) }))
+after_line s p (refused c) rest = record { rows = []; end = bad s.side (p.lines + 1) c }
+
+-- The rows of lines up to the first that is refused. Over lines that may go on, a last one that lacks its LF is not known yet.
+unfoldable pub read_by : Bool → SideRules → List Line → Place → Read
+read_by partial s [] p = record { rows = []; end = if partial then cut else all_read }
+read_by partial s (l ∷ ls) p = if partial && not l.whole then record { rows = []; end = cut } else after_line s p (judge s.columns s.most (p.lines + 1) p.last (without_cr l.content)) (read_by partial s ls)
+
+-- the rows of a file
+abbrev pub rows : SideRules → List ℕ → Read
+rows s bytes = read_by false s (lines_of bytes) start
+
+-- those of its whole lines, where more may follow
+abbrev pub whole : SideRules → List ℕ → Read
+whole s bytes = read_by true s (lines_of bytes) start

@@ -1,0 +1,64 @@
+-- Predicates and plans as trees, without where they lie in memory.
+use Rattle.std.specs.Prelude.{ℕ, List, [], ◌∷◌, Option, option_map}
+use Rattle.saber_plan.specs.declared.predicates.Cmp.{Cmp}
+use Rattle.saber_plan.specs.declared.plans.Item.{Item}
+use Rattle.saber_plan.specs.declared.expressions.Product.{Product}
+use Rattle.saber_plan.specs.declared.plans.Shape.{Shape}
+use Rattle.saber_plan.specs.declared.windows.Stream.{Stream}
+use Rattle.saber_plan.specs.declared.plans.Plan.{Plan}
+use Rattle.saber_plan.specs.declared.predicates.Pred.{Pred, fold-Pred}
+use Rattle.saber_plan.specs.declared.predicates.Conj.{Conj, fold-Conj}
+use Rattle.saber_plan.specs.declared.predicates.Unit.{Unit as Unit_tree, fold-Unit, Unit-F}
+use Rattle.saber_plan.specs.declared.predicates.Unit.TheOpen as open_unit
+
+mutual
+  -- a unit of a predicate
+  pub data Test : Type 0 where
+    negated : Test → Test
+    one_of : Tests → Test
+    compare : List Product → Cmp → List Product → Test
+
+  -- units joined by AND
+  pub data Both : Type 0 where
+    no_more : Both
+    both : Test → Both → Both
+
+  -- those joined by OR
+  pub data Tests : Type 0 where
+    no_other : Tests
+    either : Both → Tests → Tests
+
+abbrev pub joined : List Test → Both
+joined [] = no_more
+joined (t ∷ ts) = both t (joined ts)
+
+abbrev pub chosen : List Both → Tests
+chosen [] = no_other
+chosen (b ∷ bs) = either b (chosen bs)
+
+abbrev unit_step : Unit-F Test Both Tests → Test
+unit_step (open_unit.Not t) = negated t.value
+unit_step (open_unit.Any ts) = one_of ts
+unit_step (open_unit.Compare x c y) = compare x c y
+
+-- a unit's tree, and that of units joined by AND
+abbrev pub test_of : Unit_tree → Test
+test_of = fold-Unit Test Both Tests unit_step (λ c. joined c.units.items) (λ p. chosen p.conjs.items)
+
+abbrev pub both_of : Conj → Both
+both_of = fold-Conj Test Both Tests unit_step (λ c. joined c.units.items) (λ p. chosen p.conjs.items)
+
+-- a predicate's tree
+abbrev pub tests_of : Pred → Tests
+tests_of = fold-Pred Test Both Tests unit_step (λ c. joined c.units.items) (λ p. chosen p.conjs.items)
+
+pub record Tree : Type 0 where
+  pub shape : Shape
+  pub streams : List Stream
+  pub items : List Item
+  pub keys : List ℕ
+  pub predicate : Option Tests
+
+-- a plan's tree
+abbrev pub tree_of : Plan → Tree
+tree_of p = record { shape = p.shape; streams = p.streams.items; items = p.items.items; keys = p.keys.items; predicate = option_map tests_of p.predicate }

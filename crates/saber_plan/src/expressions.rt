@@ -1,0 +1,83 @@
+// Expressions over whole numbers: flat lists of signed products.
+use crate::Side;
+use std::marker::Model;
+
+/// A column of a row, counted from 0, or a number.
+#[derive(Clone, Copy, Debug, PartialEq, Eq)]
+pub enum Factor {
+    Column { side: Side, index: u32 },
+    Constant(i64),
+}
+
+/// The factors of a product, seen as a list.
+#[derive(Drop)]
+pub struct Factors {
+    items: Vec<Factor>,
+}
+
+impl Model for Factors {
+    ghost use Rattle.std.specs.Prelude.{List};
+    ghost use Rattle.saber_plan.specs.declared.expressions.Factor.{Factor};
+
+    ghost Value = { List Factor };
+
+    ghost view = { λ v. v.items.items };
+}
+
+impl Factors {
+    ghost use Rattle.std.specs.Prelude.{◌≡◌};
+
+    /// These factors in this order.
+    pub fn from_vec(items: Vec<Factor>) -> Factors
+        ensures { result ≡ items.items }
+    {
+        Factors { items }
+    }
+
+    /// The factors in order.
+    pub fn as_slice(&self) -> &[Factor]
+        ensures { result.now ≡ self.now }
+    {
+        &self.items
+    }
+}
+
+/// A product, and whether it is taken away.
+#[derive(Drop)]
+pub struct Product {
+    pub minus: bool,
+    pub factors: Factors,
+}
+
+/// A sum of signed products, seen as their list.
+#[derive(Drop)]
+pub struct Expr {
+    products: Vec<Product>,
+}
+
+impl Model for Expr {
+    ghost use Rattle.std.specs.Prelude.{List};
+    ghost use Rattle.saber_plan.specs.declared.expressions.Product.{Product};
+
+    ghost Value = { List Product };
+
+    ghost view = { λ v. v.products.items };
+}
+
+impl Expr {
+    ghost use Rattle.std.specs.Prelude.{◌≡◌};
+
+    /// The sum of these products.
+    pub fn from_vec(products: Vec<Product>) -> Expr
+        ensures { result ≡ products.items }
+    {
+        Expr { products }
+    }
+
+    /// The products in order.
+    pub fn as_slice(&self) -> &[Product]
+        ensures { result.now ≡ self.now }
+    {
+        &self.products
+    }
+}
