@@ -1,5 +1,5 @@
 -- The lines of a file, and the rows that they are.
-use Rattle.std.specs.Prelude.{ℕ, ◌+◌, ◌-◌, ◌^◌, List, [], ◌∷◌, length, drop, take, slice_index, map, is_some, unwrap_or, nat_abs, Bool, true, false, not, ◌&&◌, if◌then◌else◌, Option, Some, None, nat_lt, ◌==◌, ℤ, pos, neg_ℤ, int_lt, int_le}
+use Rattle.std.specs.Prelude.{◌≡◌, ℕ, ◌+◌, ◌-◌, ◌^◌, List, [], ◌∷◌, length, drop, take, slice_index, map, is_some, unwrap_or, nat_abs, Bool, true, false, not, ◌&&◌, if◌then◌else◌, Option, Some, None, nat_lt, ◌==◌, ℤ, pos, neg_ℤ, int_lt, int_le}
 use Rattle.std.specs.List.{list_all}
 use Rattle.std.specs.Char.{is_ascii_digit}
 use Rattle.std.specs.Str.Parse.{digits_value, starts_with_minus}
@@ -74,6 +74,12 @@ wide_field k (z ∷ zs) = if in_range k z then wide_field (k + 1) zs else Some k
 abbrev pub stamp : List ℤ → ℕ
 stamp [] = 0
 stamp (z ∷ zs) = nat_abs z
+
+-- a row of a side with so many columns, each number in its range
+pub record RowFits (side : Side) (columns : ℕ) (r : Row) : Type 0 where
+  pub own : r.side ≡ side
+  pub count : length r.values ≡ columns
+  pub range : wide_field 1 r.values ≡ None
 
 abbrev pub falls : Option ℕ → List ℤ → Bool
 falls None zs = false
