@@ -1,0 +1,4 @@
+pub mod Cases
+mod WorkedFiles
+mod WorkedAnswers
+mod WorkedJoins

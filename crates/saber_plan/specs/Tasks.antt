@@ -1,6 +1,7 @@
 -- Tasks, what they give, what is open, and how pieces are taken in.
-use Rattle.std.specs.Prelude.{◌≡◌, ℕ, zero, suc, ◌+◌, ◌-◌, ◌*◌, ◌/◌, min, List, ◌++◌, filter, flat_map, take, length, slice_range, Bool, true, false, if◌then◌else◌, nat_lt, nat_le, ◌==◌, Option, Some, None, option_map}
+use Rattle.std.specs.Prelude.{◌≡◌, ℕ, zero, suc, ◌+◌, ◌-◌, ◌*◌, min, List, ◌++◌, filter, flat_map, take, length, slice_range, Bool, true, false, if◌then◌else◌, nat_lt, nat_le, ◌==◌, Option, Some, None, option_map}
 use Rattle.std.specs.List.{filter_map}
+use Rattle.std.specs.Int.{div_ceil}
 use Rattle.std.specs.Ordering.{nat_cmp}
 use Rattle.std.specs.FinMap.{FinMap, empty, len, entries, from_entries, retain_keys}
 use Rattle.saber_plan.specs.declared.rows.Row.{Row}
@@ -22,9 +23,9 @@ cut n xs k = min (k * n) (length xs)
 abbrev pub upto : ℕ → List Row → ℕ → List Row
 upto n xs k = take (cut n xs k) xs
 
--- how many tasks there are, where n is at least 1
+-- how many tasks there are, where n is at least 1: the last one may be short, and none is empty
 abbrev pub task_count : ℕ → List Row → ℕ
-task_count n xs = (length xs + (n - 1)) / n
+task_count n xs = div_ceil (length xs) n
 
 -- ---- parts by window
 

@@ -92,3 +92,24 @@ pub enum RowCause {
     /// The timestamp is below that of the row before.
     TimeOrder,
 }
+
+#[cfg(test)]
+mod tests {
+    use super::*;
+    use std::test::Fail;
+
+    // Nine numbers: one more than lie in the value itself.
+    #[test]
+    fn numbers_are_kept(rt: HostRuntime) -> Result<(), Fail> {
+        let alloc = rt.alloc();
+        let nine = [0, 1, 2, 3, 4, 5, 6, 7, -8];
+        let mut values = Values::new(alloc);
+        for number in nine {
+            values.push(number)?;
+        }
+        assert_eq!(rt; values.as_slice(), nine.as_slice());
+        let copy = Values::from_slice(alloc, &nine)?;
+        assert_eq!(rt; copy.as_slice(), nine.as_slice());
+        Ok(())
+    }
+}

@@ -1,0 +1,10 @@
+pub mod ListLaws
+pub mod WindowLaws
+pub mod RowLaws
+pub mod NumberedLaws
+pub mod MergeLaws
+pub mod PartLaws
+pub mod PairLaws
+pub mod ShareLaws
+pub mod AssemblyLaws
+pub mod TaskLaws

@@ -1,0 +1,108 @@
+-- The parts of windows over positions of one list of rows.
+use Rattle.std.proofs.Common.{◌≡◌, ℕ, ◌+◌, ◌≤◌, ◌<◌, List, [], ◌++◌, map, filter, length, take, slice_range, true, false, refl, sym, ◌∙◌, ap, append-nil, length-take, length-take-le, le_refl, le_trans, zero-le, subst, arith}
+use Rattle.std.proofs.lemmas.List.{map-append}
+use Rattle.std.proofs.lemmas.List.Elements.{filter-append}
+use Rattle.saber_plan.specs.declared.rows.Row.{Row}
+use Rattle.saber_plan.specs.declared.plans.Shape.{Shape}
+use Rattle.saber_plan.specs.declared.plans.Shape.TheVariants.{Select, Group, Join}
+use Rattle.saber_plan.specs.Trees.{Tree}
+use Rattle.saber_plan.specs.Values.{passes}
+use Rattle.saber_plan.specs.Windows.{Frame, no_rows, mark_of, has, begun, closed, Ordered, Placed, place, placed, inside}
+use Rattle.saber_plan.specs.Answers.{key_cmp, passing, groups, pairs, pair_answers, entries_in, entry_lines, by_shape, frame, lines}
+use Rattle.saber_plan.specs.Parts.{no_part, part, part_lines, answers_of, answers_in, group_part, pair_part, merge}
+use Rattle.saber_laws.proofs.MergeLaws.{entries-empty}
+use Rattle.saber_laws.proofs.PartLaws.{merge-empty_left, merge-empty_right, group_part-append, group_part-empty, answers-group_part}
+use Rattle.saber_laws.proofs.RowLaws.{inside-join, inside-take, inside-not_begun, inside-closed, slice-placed, slice-front, take-placed}
+use Rattle.saber_laws.proofs.ListLaws.{Each, each-filter, each-weaker}
+use Rattle.saber_laws.proofs.PairLaws.{Rising, rising-filter, pair_part-join, pair_part-none, answers-pair_part, placed_from, placed_below, placed_rising, behind_after}
+
+pub passing-append : (q : Tree) (us vs : List Placed) → passing q (us ++ vs) ≡ passing q us ++ passing q vs
+passing-append q us vs = ap (filter (λ zs. passes q.predicate zs [])) (map-append (λ x. x.row.values) us vs) ∙ filter-append (λ zs. passes q.predicate zs []) (map (λ x. x.row.values) us) (map (λ x. x.row.values) vs)
+
+-- ---- where the rows inside stand
+
+length-cut : (xs : List Row) (y : ℕ) → 0 + length (take y xs) ≤ y
+length-cut xs y = omega (arith, length-take y xs)
+
+pub inside_below : (f : Frame) (i : ℕ) (xs : List Row) (y : ℕ) → Each (λ x. place x < y) (inside f i xs 0 y)
+inside_below f i xs y = each-filter (λ x. place x < y) (has f i) (slice_range (placed xs) 0 y) (subst (Each (λ x. place x < y)) (sym (slice-front (placed xs) y ∙ take-placed y no_rows xs)) (placed_below no_rows (take y xs) y (length-cut xs y)))
+
+inside_from : (f : Frame) (i : ℕ) (xs : List Row) (y z : ℕ) → y ≤ length xs → Each (λ x. y ≤ place x) (inside f i xs y z)
+inside_from f i xs y z h =
+    let at : 0 + length (take y xs) ≡ y = omega (arith, length-take-le y xs h) in
+    each-filter (λ x. y ≤ place x) (has f i) (slice_range (placed xs) y z) (subst (Each (λ x. y ≤ place x)) (sym (slice-placed xs y z))
+    (each-weaker _ _ (λ x p. omega (arith, behind_after no_rows (take y xs), at, p)) _ (placed_from (mark_of (take y xs)) (slice_range xs y z))))
+
+pub inside_rising : (f : Frame) (i : ℕ) (xs : List Row) (y : ℕ) → Rising (inside f i xs 0 y)
+inside_rising f i xs y = rising-filter (has f i) (slice_range (placed xs) 0 y) (subst Rising (sym (slice-front (placed xs) y ∙ take-placed y no_rows xs)) (placed_rising no_rows (take y xs)))
+
+-- ---- parts
+
+-- the part from x to z is the merge of that from x to y and that from y to z
+pub part-join : (q : Tree) (i : ℕ) (xs : List Row) (x y z : ℕ) → x ≤ y → y ≤ z → y ≤ length xs → part q i xs x z ≡ merge (part q i xs x y) (part q i xs y z)
+part-join q i xs x y z a b h =
+    let f = frame q in
+    let group : group_part q (passing q (inside f i xs x z)) ≡ merge (group_part q (passing q (inside f i xs x y))) (group_part q (passing q (inside f i xs y z))) =
+    ap (λ l. group_part q (passing q l)) (inside-join f i xs x y z a b) ∙ ap (group_part q) (passing-append q (inside f i xs x y) (inside f i xs y z)) ∙ group_part-append q (passing q (inside f i xs x y)) (passing q (inside f i xs y z)) in
+    let cut : inside f i xs 0 z ≡ inside f i xs 0 y ++ inside f i xs y z = inside-join f i xs 0 y z (omega arith) b in
+    let join : pair_part q x (inside f i xs 0 z) ≡ merge (pair_part q x (inside f i xs 0 y)) (pair_part q y (inside f i xs 0 z)) =
+    ap (pair_part q x) cut ∙ pair_part-join q x y (inside f i xs 0 y) (inside f i xs y z) a (inside_below f i xs y) (inside_from f i xs y z h) ∙ ap (λ l. merge (pair_part q x (inside f i xs 0 y)) (pair_part q y l)) (sym cut) in
+    elim (q.shape) as (λ s. by_shape s no_part (group_part q (passing q (inside f i xs x z))) (pair_part q x (inside f i xs 0 z))
+    ≡ merge (by_shape s no_part (group_part q (passing q (inside f i xs x y))) (pair_part q x (inside f i xs 0 y))) (by_shape s no_part (group_part q (passing q (inside f i xs y z))) (pair_part q y (inside f i xs 0 z)))) [
+      | Select ↦ sym (merge-empty_left no_part)
+      | Group ↦ group
+      | Join ↦ join
+    ]
+
+shaped : {A : Type 0} (s : Shape) (a b c d : A) → a ≡ d → b ≡ d → c ≡ d → by_shape s a b c ≡ d
+shaped Select a b c d e f g = e
+shaped Group a b c d e f g = f
+shaped Join a b c d e f g = g
+
+pub pair_part-nil : (q : Tree) (n : ℕ) → pair_part q n [] ≡ no_part
+pair_part-nil q n = pair_part-none q n [] tt
+
+-- a window that isn't begun has the empty part
+pub part-not_begun : (q : Tree) (i : ℕ) (xs : List Row) (y : ℕ) → Ordered no_rows xs → begun (frame q) i (mark_of (take y xs)) ≡ false → part q i xs 0 y ≡ no_part
+part-not_begun q i xs y o h =
+    let none = inside-not_begun (frame q) i xs y o h in
+    shaped q.shape _ _ _ no_part refl (ap (λ l. group_part q (passing q l)) none ∙ group_part-empty q) (ap (pair_part q 0) none ∙ pair_part-nil q 0)
+
+-- a window that is closed gets nothing from later rows
+pub part-closed : (q : Tree) (i : ℕ) (xs : List Row) (x y : ℕ) → Ordered no_rows xs → x ≤ y → closed (frame q) i (mark_of (take x xs)) ≡ true → part q i xs x y ≡ no_part
+part-closed q i xs x y o a h =
+    let none = inside-closed (frame q) i xs x y o h in
+    shaped q.shape _ _ _ no_part refl
+    (ap (λ l. group_part q (passing q l)) none ∙ group_part-empty q)
+    (ap (pair_part q x) (inside-join (frame q) i xs 0 x y (omega arith) a ∙ ap (λ l. inside (frame q) i xs 0 x ++ l) none ∙ append-nil _) ∙ pair_part-none q x _ (inside_below (frame q) i xs x))
+
+-- a part looks at no later row
+pub part-take : (q : Tree) (i : ℕ) (xs : List Row) (x y n : ℕ) → x ≤ y → y ≤ n → part q i (take n xs) x y ≡ part q i xs x y
+part-take q i xs x y n a b = λ j. by_shape q.shape no_part (group_part q (passing q (inside-take (frame q) i xs x y n a b j))) (pair_part q x (inside-take (frame q) i xs 0 y n zero-le b j))
+
+-- its answers from the first row on are those of the groups or pairs of the window
+pub answers-part : (q : Tree) (i : ℕ) (xs : List Row) (y : ℕ) → answers_in q (part q i xs 0 y) ≡ entries_in q (inside (frame q) i xs 0 y)
+answers-part q i xs y =
+    let rows = inside (frame q) i xs 0 y in
+    elim (q.shape) as (λ s. answers_in q (by_shape s no_part (group_part q (passing q rows)) (pair_part q 0 rows)) ≡ by_shape s [] (groups q (passing q rows)) (pairs q (pair_answers q) rows)) [
+      | Select ↦ ap (map (λ e. (e.0, answers_of q.items e.1))) (entries-empty key_cmp)
+      | Group ↦ answers-group_part q (passing q rows)
+      | Join ↦ answers-pair_part q rows (inside_rising (frame q) i xs y)
+    ]
+
+-- a window's lines are those of its part
+pub lines-part : (q : Tree) (i : ℕ) (xs : List Row) → lines q i xs ≡ part_lines q i (part q i xs 0 (length xs))
+unfolding lines
+lines-part q i xs = ap (entry_lines i) (sym (answers-part q i xs (length xs)))
+
+-- the lines of a window over the first y rows
+pub lines-upto : (q : Tree) (i : ℕ) (xs : List Row) (y : ℕ) → y ≤ length xs → lines q i (take y xs) ≡ part_lines q i (part q i xs 0 y)
+lines-upto q i xs y h = lines-part q i (take y xs) ∙ ap (λ n. part_lines q i (part q i (take y xs) 0 n)) (length-take-le y xs h) ∙ ap (λ p. part_lines q i p) (part-take q i xs 0 y y zero-le (le_refl y))
+
+-- the part of a closed window stays
+pub part-stays : (q : Tree) (i : ℕ) (xs : List Row) (x y : ℕ) → Ordered no_rows xs → x ≤ y → x ≤ length xs → closed (frame q) i (mark_of (take x xs)) ≡ true → part q i xs 0 y ≡ part q i xs 0 x
+part-stays q i xs x y o a h c = part-join q i xs 0 x y zero-le a h ∙ ap (merge (part q i xs 0 x)) (part-closed q i xs x y o a c) ∙ merge-empty_right (part q i xs 0 x)
+
+-- and so do its lines
+pub lines-stay : (q : Tree) (i : ℕ) (xs : List Row) (x y : ℕ) → Ordered no_rows xs → x ≤ y → y ≤ length xs → closed (frame q) i (mark_of (take x xs)) ≡ true → lines q i (take y xs) ≡ lines q i (take x xs)
+lines-stay q i xs x y o a h c = lines-upto q i xs y h ∙ ap (λ p. part_lines q i p) (part-stays q i xs x y o a (le_trans a h) c) ∙ sym (lines-upto q i xs x (le_trans a h))
