@@ -8,3 +8,5 @@ pub mod PairLaws
 pub mod ShareLaws
 pub mod AssemblyLaws
 pub mod TaskLaws
+pub mod FileLaws
+pub mod CheckedLaws

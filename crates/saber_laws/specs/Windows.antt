@@ -2,6 +2,9 @@
 use Rattle.std.specs.Prelude.{◌≡◌, ℕ, ◌≤◌, List, true, ◌&&◌, nat_lt, nat_le}
 use Rattle.saber_plan.specs.declared.rows.Row.{Row}
 use Rattle.saber_plan.specs.declared.windows.Mark.{Mark}
+use Rattle.saber_plan.specs.Trees.{Tree}
+use Rattle.saber_plan.specs.Answers.{frame}
+use Rattle.saber_plan.specs.Checked.{IsChecked}
 use Rattle.saber_plan.specs.Windows.{Frame, Fits, Ordered, closed, begun, closed_count, begun_count, count_to, spans, mark_after}
 
 -- window i is closed exactly where i is below the count of closed windows
@@ -26,3 +29,7 @@ BegunStay = (f : Frame) → Fits f → (m : Mark) (xs : List Row) → Ordered m 
 -- the windows that hold a point follow one another: from the first that ends behind it to the last that begins at or before it
 abbrev pub PointsSpan : Type 0
 PointsSpan = (slide size i p : ℕ) → nat_le 1 slide ≡ true → spans slide size i p ≡ (nat_le (count_to slide size p) i && nat_lt i (count_to slide 0 p))
+
+-- a checked plan's windows have sizes and slides of at least 1, as the laws of windows ask
+abbrev pub CheckedFit : Type 0
+CheckedFit = (q : Tree) → IsChecked q → Fits (frame q)

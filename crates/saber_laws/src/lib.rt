@@ -7,8 +7,11 @@ mod parts;
 mod pieces;
 mod windows;
 
-pub use parts::{closed_lines_stay, merge_has_unit, merge_is_associative, part_has_lines, parts_join};
+pub use parts::{
+    closed_lines_stay, merge_has_unit, merge_is_associative, part_has_lines, parts_join,
+};
 pub use pieces::{pieces_make_text, pieces_stay};
 pub use windows::{
-    begun_are_counted, begun_stay, closed_are_begun, closed_are_counted, closed_stay, points_span,
+    begun_are_counted, begun_stay, checked_fit, closed_are_begun, closed_are_counted, closed_stay,
+    points_span,
 };

@@ -1,5 +1,5 @@
 // Laws of windows.
-ghost use Rattle.saber_laws.specs.Windows.{ClosedAreCounted, BegunAreCounted, ClosedAreBegun, ClosedStay, BegunStay, PointsSpan};
+ghost use Rattle.saber_laws.specs.Windows.{ClosedAreCounted, BegunAreCounted, ClosedAreBegun, ClosedStay, BegunStay, PointsSpan, CheckedFit};
 
 /// Window i is closed exactly where i is below the count of closed windows.
 pub fn closed_are_counted()
@@ -29,4 +29,9 @@ pub fn begun_stay()
 /// The windows that hold a point are those from one number up to another.
 pub fn points_span()
     ensures { PointsSpan }
+{}
+
+/// The windows of a checked plan are such windows.
+pub fn checked_fit()
+    ensures { CheckedFit }
 {}

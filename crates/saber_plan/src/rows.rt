@@ -19,15 +19,17 @@ pub struct Values {
 }
 
 impl Model for Values {
-    ghost use Rattle.std.specs.Prelude.{List, ℤ};
+    ghost use Rattle.std.specs.Prelude.{List, ℤ, ◌≤◌};
 
     ghost Value = { List ℤ };
 
     ghost view = { λ v. v.items.items };
+
+    ghost invariant = { λ v. 8 ≤ v.items.capacity };
 }
 
 impl Values {
-    ghost use Rattle.std.specs.Prelude.{◌≡◌, [], ◌∷◌, ◌++◌, IfOk, OnOk, OnErr};
+    ghost use Rattle.std.specs.Prelude.{◌≡◌, ◌<◌, [], ◌∷◌, ◌++◌, length, IsOk, IfOk, OnOk, OnErr};
 
     /// No numbers yet. Takes no memory.
     #[inline]
@@ -43,13 +45,15 @@ impl Values {
     pub fn from_slice(alloc: Global, numbers: &[i64]) -> Result<Values, NoMemory>
         ensures { IfOk result (λ v. v ≡ numbers.now) }
     {
-        let items = SmallVec::from_slice(alloc, numbers)?;
+        let mut items = SmallVec::new(alloc);
+        items.extend_from_slice(numbers)?;
         Ok(Values { items })
     }
 
-    /// One number more, behind the others.
+    /// One number more, behind the others. Only the ninth and those behind it may want memory.
     #[inline]
     pub fn push(&mut self, number: i64) -> Result<(), NoMemory>
+        ensures few { length self.old < 8 → IsOk result }
         ensures ok { OnOk result (self.new ≡ self.old ++ number ∷ []) }
         ensures err { OnErr result (self.new ≡ self.old) }
     {
