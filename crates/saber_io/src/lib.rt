@@ -1,0 +1,16 @@
+//! What the engine reads from and writes to: traits that count faults, the same in memory, and thin adapters over the real ones.
+#![tactic(auto)]
+
+mod files;
+mod gate;
+mod host;
+mod memory;
+mod outside;
+#[cfg(test)]
+mod tests;
+
+pub use files::{MemFile, MemFiles, MemOpened};
+pub use gate::{Gate, OpenGate};
+pub use host::{FileSource, HostFiles, StdSink};
+pub use memory::{MemSink, MemSource};
+pub use outside::{Failed, Files, OpenFault, Sink, Source, WriteFault};

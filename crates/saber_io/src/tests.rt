@@ -1,0 +1,194 @@
+// What no clause says: that calls succeed with ample memory, what worked rows expect, and the real outside.
+use crate::{
+    Failed, FileSource, Files, Gate, HostFiles, MemFile, MemFiles, MemOpened, MemSink, MemSource,
+    OpenFault, OpenGate, Sink, Source, StdSink, WriteFault,
+};
+use std::alloc::{AllocError, Global};
+use std::io;
+use std::io::Write;
+use std::test::Fail;
+
+const BASE: &[u8] = b"0,1,10\n1,1,20\n2,2,5\n2,1,7\n9,2,1\n";
+
+// What each read gives, through the bound, until a read gives nothing or 9 reads were made.
+fn pieces<S: Source>(
+    alloc: Global,
+    source: &mut S,
+) -> Result<Vec<Result<Vec<u8>, Failed>>, AllocError> {
+    let mut all = Vec::new(alloc);
+    for _ in 0..9 {
+        let mut buf = [0; 4096];
+        let piece = match source.read(&mut buf) {
+            Ok(0) => return Ok(all),
+            Ok(n) => Ok(buf[..n].to_vec(alloc)?),
+            Err(Failed) => Err(Failed),
+        };
+        all.push(piece)?;
+    }
+    Ok(all)
+}
+
+// The base file in cuts of 7, 7 and 6 bytes, whose fourth read fails. Past the cuts a read gives all that fit.
+#[test]
+fn reads_in_cuts(rt: HostRuntime) -> Result<(), Fail> {
+    let alloc = rt.alloc();
+    let cuts = vec![in alloc; 7, 7, 6]?;
+    let mut source = MemSource::new(BASE.to_vec(alloc)?, cuts, vec![in alloc; 4]?);
+    let given = pieces(alloc, &mut source)?;
+    assert_eq!(rt; given.len(), 5);
+    assert!(rt; given[0] == Ok(b"0,1,10\n".to_vec(alloc)?));
+    assert!(rt; given[1] == Ok(b"1,1,20\n".to_vec(alloc)?));
+    assert!(rt; given[2] == Ok(b"2,2,5\n".to_vec(alloc)?));
+    assert!(rt; given[3] == Err(Failed));
+    assert!(rt; given[4] == Ok(b"2,1,7\n9,2,1\n".to_vec(alloc)?));
+    Ok(())
+}
+
+// Writes three pieces, through the bound.
+fn write_three<K: Sink>(sink: &mut K) -> [Result<(), WriteFault>; 3] {
+    [
+        sink.write_all(b"0,2\n"),
+        sink.write_all(b"1,2\n2,2\n"),
+        sink.write_all(b"3,2\n"),
+    ]
+}
+
+// The second write fails after five of its eight bytes; an entry for a write that is not made changes nothing.
+#[test]
+fn write_fails_after_five_bytes(rt: HostRuntime) -> Result<(), Fail> {
+    let alloc = rt.alloc();
+    let mut sink = MemSink::new(alloc, vec![in alloc; (9, 0), (2, 5)]?);
+    let [first, second, third] = write_three(&mut sink);
+    assert!(rt; first == Ok(()));
+    assert!(rt; second == Err(WriteFault::Failed));
+    assert!(rt; third == Ok(()));
+    assert_eq!(rt; sink.bytes(), b"0,2\n1,2\n23,2\n".as_slice());
+    Ok(())
+}
+
+fn file(alloc: Global, name: &str, bytes: &[u8]) -> Result<MemFile, AllocError> {
+    Ok(MemFile {
+        name: String::from_str(alloc, name)?,
+        bytes: bytes.to_vec(alloc)?,
+        cuts: Vec::new(alloc),
+        fails: Vec::new(alloc),
+    })
+}
+
+// Opens a file through the bound, reads it to its end, gives it back, and says what it had.
+fn content<F: Files>(alloc: Global, files: &mut F, name: &str) -> Result<Vec<u8>, OpenFault> {
+    let mut source = files.open_file(alloc, name)?;
+    let mut buf = [0; 64];
+    let size = source.read(&mut buf).unwrap_or(0);
+    files.close_file(source);
+    Ok(buf[..size].to_vec(alloc)?)
+}
+
+// The second open fails, and a name that is not there; of two files with one name the first is opened.
+#[test]
+fn opens_in_memory(rt: HostRuntime) -> Result<(), Fail> {
+    let alloc = rt.alloc();
+    let held = vec![in alloc;
+        file(alloc, "a", b"1\n")?,
+        file(alloc, "b", b"2\n")?,
+        file(alloc, "a", b"3\n")?,
+    ]?;
+    let mut files = MemFiles::new(alloc, held, vec![in alloc; 2]?);
+    assert!(rt; content(alloc, &mut files, "b")? == b"2\n".to_vec(alloc)?);
+    assert!(rt; content(alloc, &mut files, "b") == Err(OpenFault::Failed));
+    assert!(rt; content(alloc, &mut files, "c") == Err(OpenFault::Failed));
+    assert!(rt; content(alloc, &mut files, "a")? == b"1\n".to_vec(alloc)?);
+    Ok(())
+}
+
+// The real outside: a name that is not there, a device that ends at once, and a folder, whose reads fail.
+#[test]
+fn opens_of_the_system(rt: HostRuntime) -> Result<(), Fail> {
+    let alloc = rt.alloc();
+    let mut files = HostFiles::new(rt);
+    assert!(rt; content(alloc, &mut files, "/no/such/file") == Err(OpenFault::Failed));
+    let mut zeros = files.open_file(alloc, "/dev/zero")?;
+    let mut buf = [7; 4];
+    assert!(rt; zeros.read(&mut buf) == Ok(4));
+    assert!(rt; buf == [0; 4]);
+    files.close_file(zeros);
+    let mut nothing = files.open_file(alloc, "/dev/null")?;
+    assert!(rt; nothing.read(&mut buf) == Ok(0));
+    files.close_file(nothing);
+    let mut folder = files.open_file(alloc, "/")?;
+    assert!(rt; folder.read(&mut buf) == Err(Failed));
+    files.close_file(folder);
+    Ok(())
+}
+
+// A writer that takes two bytes at a time until it has so many, and then nothing.
+#[derive(Drop)]
+struct Narrow {
+    bytes: Vec<u8>,
+    most: usize,
+}
+
+impl Write for Narrow {
+    fn write(&mut self, buf: &[u8]) -> io::Result<usize> {
+        let n = buf
+            .len()
+            .min(2)
+            .min(self.most.saturating_sub(self.bytes.len()));
+        self.bytes.extend_from_slice(&buf[..n])?;
+        Ok(n)
+    }
+
+    fn flush(&mut self) -> io::Result<()> {
+        Ok(())
+    }
+}
+
+// A sink over a writer writes the whole piece, and fails where the writer takes nothing.
+#[test]
+fn writes_to_a_writer(rt: HostRuntime) -> Result<(), Fail> {
+    let alloc = rt.alloc();
+    for (most, second, bytes) in [
+        (99, Ok(()), b"0,2\n1,2\n2,2\n3,2\n".as_slice()),
+        (9, Err(WriteFault::Failed), b"0,2\n1,2\n2".as_slice()),
+    ] {
+        let mut narrow = Narrow {
+            bytes: Vec::new(alloc),
+            most,
+        };
+        let [first, got, third] = write_three(&mut StdSink::new(&mut narrow));
+        assert!(rt; first == Ok(()));
+        assert!(rt; got == second);
+        assert!(rt; third == second);
+        assert_eq!(rt; narrow.bytes.as_slice(), bytes);
+    }
+    let mut out = StdSink::new(rt.stdout());
+    assert!(rt; out.write_all(b"") == Ok(()));
+    Ok(())
+}
+
+fn passes<G: Gate + Sync>(gate: &G) {
+    gate.pass(0);
+    gate.done(0);
+}
+
+fn may_move<T: Send>(value: T) -> T {
+    value
+}
+
+// Sinks, sources and files may move to another thread, and the open gate may be shared.
+#[test]
+fn moves_between_threads(rt: HostRuntime) -> Result<(), Fail> {
+    let alloc = rt.alloc();
+    passes(&OpenGate);
+    let held = vec![in alloc; file(alloc, "a", b"1\n")?]?;
+    let mut files = may_move(MemFiles::new(alloc, held, Vec::new(alloc)));
+    let source: MemOpened = may_move(files.open_file(alloc, "a")?);
+    files.close_file(source);
+    let mut sink = may_move(MemSink::new(alloc, Vec::new(alloc)));
+    assert!(rt; sink.write_all(b"1") == Ok(()));
+    let mut out = may_move(StdSink::new(Vec::new(alloc)));
+    assert!(rt; out.write_all(b"1") == Ok(()));
+    let host: FileSource = may_move(HostFiles::new(rt).open_file(alloc, "/dev/null")?);
+    let _ = host;
+    Ok(())
+}
