@@ -1,0 +1,5 @@
+pub mod Phases
+pub mod Sounds
+pub mod Orders
+pub mod Stops
+pub mod Fits

@@ -1,0 +1,5 @@
+pub mod Machine
+pub mod Sound
+pub mod Fields
+pub mod Runs
+pub mod Works

@@ -1,0 +1,7 @@
+-- What a seat hands in for a task.
+use Rattle.std.specs.Prelude.{ℕ, Option, Some, None}
+
+-- the piece of a task, or the mark of want of memory
+abbrev pub IsPieceOrMark : {Told Piece : Type 0} → (Told → ℕ → Piece → Type 0) → Told → ℕ → Option Piece → Type 0
+IsPieceOrMark is_piece told task None = Unit {0}
+IsPieceOrMark is_piece told task (Some piece) = is_piece told task piece
