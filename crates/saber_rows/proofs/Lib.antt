@@ -1,0 +1,13 @@
+pub mod Digits
+pub mod FieldsLemmas
+pub mod LineFeedsLemmas
+pub mod BufferLemmas
+pub mod QuickNumbers
+pub mod QuickFields
+pub mod QuickLines
+pub mod LineSteps
+pub mod TakenRows
+pub mod ReadSteps
+pub mod LastLines
+pub mod Chains
+pub mod Told

@@ -1,0 +1,70 @@
+-- What a call of a reader does, by its answer.
+use Rattle.std.specs.Prelude.{◌≡◌, ◌<◌, ℕ, ◌+◌, length, List, [], ◌∷◌, ◌++◌, Bool, true, false, Option, Some, None, Result, Ok, Err}
+use Rattle.saber_plan.specs.declared.rows.Row.{Row}
+use Rattle.saber_plan.specs.Rows.{Line, Read, End, all_read, cut, bad, lines_of, before, stamp, falls, RowFits}
+use Rattle.saber_io.specs.Outside.{given, EndsEmpty}
+use Rattle.saber_rows.specs.declared.ends.RowEnd.{RowEnd}
+use Rattle.saber_rows.specs.declared.ends.RowEnd.TheVariants.{ReadFault, NoMemory, Bad}
+use Rattle.saber_rows.specs.Reader.{Reader, rest_of, CanFollow, HasEnd, NeedsMore}
+
+-- an answer's row and then these
+abbrev pub given_by : Result (Option Row) RowEnd → Read → Read
+given_by (Ok (Some row)) rest = before row rest
+given_by (Ok None) rest = rest
+given_by (Err e) rest = rest
+
+-- what each call answers after this answer, if it is one that ends the reader
+abbrev pub kept_by : Result (Option Row) RowEnd → Option (Result (Option Row) RowEnd)
+kept_by (Ok (Some row)) = None
+kept_by (Ok None) = Some (Ok None)
+kept_by (Err e) = Some (Err e)
+
+-- the last timestamp after this answer
+abbrev pub last_after : Option ℕ → Result (Option Row) RowEnd → Option ℕ
+last_after last (Ok (Some row)) = Some (stamp row.values)
+last_after last (Ok None) = last
+last_after last (Err e) = last
+
+-- The call took these bytes from its source, and is done with these lines. Whatever follows,
+-- what the reader held and the source then had is the lines that are done and then what the reader holds and the source then has;
+-- and what the old reader has still to give is what `out` makes of what the new one has.
+-- A reader that saw the end takes nothing; one that sees it now has a source with nothing left.
+pub record Moves (out : Read → Read) (old new : Reader) (had has : Option (List ℕ)) : Type 0 where
+  pub taken : List ℕ
+  pub left : had ≡ given taken has
+  pub done : List Line
+  pub count : new.place.lines ≡ old.place.lines + length done
+  pub lines : (z : List ℕ) → CanFollow false new z → lines_of (old.held ++ (taken ++ z)) ≡ done ++ lines_of (new.held ++ z)
+  pub rest : (partial : Bool) (z : List ℕ) → CanFollow partial new z → rest_of partial old (taken ++ z) ≡ out (rest_of partial new z)
+  pub still : old.ended ≡ true → (taken ≡ []) × (new.ended ≡ true)
+  pub seen : old.ended ≡ false → new.ended ≡ true → EndsEmpty has
+
+-- a row of the reader's side, not before the last one; the reader then has its timestamp, and a line more behind it
+pub record IsGiven (row : Row) (old new : Reader) : Type 0 where
+  pub fits : RowFits old.rules.side old.rules.columns row
+  pub ordered : falls old.place.last row.values ≡ false
+  pub last : new.place.last ≡ Some (stamp row.values)
+  pub rises : old.place.lines < new.place.lines
+
+-- Why a reader answers no row: the rows are at their end, or this line is refused, whatever follows; a read failed, where more was needed;
+-- or there was no memory, which up to eight columns don't want.
+abbrev pub EndsBy : Result (Option Row) RowEnd → Reader → Type 0
+EndsBy (Ok (Some row)) r = Unit {0}
+EndsBy (Ok None) r = HasEnd all_read r
+EndsBy (Err (Bad n c)) r = HasEnd (bad r.rules.side n c) r
+EndsBy (Err ReadFault) r = NeedsMore r
+EndsBy (Err NoMemory) r = 8 < r.rules.columns
+
+-- what comes first of some rows and their end
+abbrev pub first_of_rows : List Row → End → Result (Option Row) RowEnd
+first_of_rows (row ∷ rows) end = Ok (Some row)
+first_of_rows [] all_read = Ok None
+first_of_rows [] (bad side n c) = Err (Bad n c)
+first_of_rows [] cut = Err ReadFault
+
+-- the answer is what the definition has next, unless a read failed or there was no memory
+abbrev pub IsNext : Result (Option Row) RowEnd → Read → Type 0
+IsNext (Ok o) rest = first_of_rows rest.rows rest.end ≡ Ok o
+IsNext (Err (Bad n c)) rest = first_of_rows rest.rows rest.end ≡ Err (Bad n c)
+IsNext (Err ReadFault) rest = Unit {0}
+IsNext (Err NoMemory) rest = Unit {0}

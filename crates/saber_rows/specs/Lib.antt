@@ -1,0 +1,9 @@
+pub mod Numbers
+pub mod Fields
+pub mod Judged
+pub mod LineFeeds
+pub mod Buffer
+pub mod QuickRows
+pub mod Reader
+pub mod Calls
+pub mod Turns

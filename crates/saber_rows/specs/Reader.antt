@@ -1,0 +1,67 @@
+-- A reader of lines as contracts see it, and the rows that it has still to give.
+use Rattle.std.specs.Prelude.{◌≡◌, ℕ, List, [], ◌++◌, if◌then◌else◌, Bool, true, false, Option, None, Result, Ok, Err, option_map}
+use Rattle.saber_plan.specs.declared.rows.Row.{Row}
+use Rattle.saber_plan.specs.Rows.{SideRules, Place, Read, End, cut, start, lines_of, read_by}
+use Rattle.saber_rows.specs.declared.ends.RowEnd.{RowEnd}
+use Rattle.saber_rows.specs.declared.ends.Stop.{Stop}
+use Rattle.saber_rows.specs.declared.ends.Stop.TheVariants.{AllRead, Failed}
+use Rattle.saber_rows.specs.Buffer.{bytes_of}
+use Rattle.saber_rows.specs.declared.lines.Lines.{Lines}
+
+-- What is fixed of the reader's side, and how many lines and which timestamp are behind it; the bytes that it took from its source and has not used;
+-- whether it saw the end of its source; and, once an answer has ended it, that answer, which each later call gives again.
+pub record Reader : Type 0 where
+  pub rules : SideRules
+  pub place : Place
+  pub held : List ℕ
+  pub ended : Bool
+  pub answer : Option (Result (Option Row) RowEnd)
+
+-- what a reader that stopped so answers
+abbrev pub answer_of : Stop → Result (Option Row) RowEnd
+answer_of AllRead = Ok None
+answer_of (Failed e) = Err e
+
+-- the reader that a value is
+abbrev pub reader_of : Lines → Reader
+reader_of l = record {
+  rules = record { side = l.side; columns = l.columns; most = l.max_lines };
+  place = record { lines = l.lines; last = l.last };
+  held = bytes_of l.held;
+  ended = l.ended;
+  answer = option_map answer_of l.stop;
+}
+
+-- a reader before its first call
+abbrev pub new_reader : SideRules → Reader
+new_reader rules = record { rules = rules; place = start; held = []; ended = false; answer = None }
+
+-- What a reader has still to give if these bytes follow those that it holds: by the definition of a file's rows, from its place on.
+-- With `partial` more may follow them, and a last line without its line feed is not known yet.
+abbrev pub rest_of : Bool → Reader → List ℕ → Read
+rest_of partial r z = read_by partial r.rules (lines_of (r.held ++ z)) r.place
+
+-- these bytes can follow those that are held: none do, once the reader saw the end
+abbrev pub CanFollow : Bool → Reader → List ℕ → Type 0
+CanFollow partial r z = r.ended ≡ true → (partial ≡ false) × (z ≡ [])
+
+-- what a reader will still take of what its source has left: nothing, once it saw the end
+abbrev pub to_come : Reader → List ℕ → List ℕ
+to_come r left = if r.ended then [] else left
+
+-- what a reader has still to give over a source that tells what it has left
+abbrev pub rest_over : Reader → Option (List ℕ) → Option Read
+rest_over r left = option_map (λ z. rest_of false r (to_come r z)) left
+
+-- no rows, and this end
+abbrev pub nothing : End → Read
+nothing end = record { rows = []; end = end }
+
+-- whatever follows, the reader has no row left, and this end is next
+abbrev pub HasEnd : End → Reader → Type 0
+HasEnd end r = (z : List ℕ) → CanFollow false r z → rest_of false r z ≡ nothing end
+
+-- the reader holds no whole line that is a row or is refused, and did not see the end
+pub record NeedsMore (r : Reader) : Type 0 where
+  pub unended : r.ended ≡ false
+  pub none : rest_of true r [] ≡ nothing cut

@@ -1,0 +1,82 @@
+-- What one turn of a reader does: a line, or a read.
+use Rattle.std.specs.Prelude.{◌≡◌, ◌≤◌, ℕ, ◌+◌, ◌-◌, ◌*◌, length, if◌then◌else◌, List, [], ◌∷◌, ◌++◌, take, drop, Bool, true, false, Option, None, Ok, Err}
+use Rattle.saber_plan.specs.Rows.{Line, Read, lines_of, before, Judged, judge, without_cr}
+use Rattle.saber_rows.specs.declared.ends.RowEnd.TheVariants.{ReadFault, NoMemory, Bad}
+use Rattle.saber_rows.specs.declared.ends.Stop.{Stop}
+use Rattle.saber_rows.specs.declared.ends.Stop.TheVariants.{AllRead, Failed}
+use Rattle.saber_rows.specs.declared.lines.Turn.{Turn}
+use Rattle.saber_rows.specs.declared.lines.Turn.TheVariants as turns
+use Rattle.saber_rows.specs.Reader.{Reader, rest_of, CanFollow, NeedsMore, answer_of}
+use Rattle.saber_rows.specs.Calls.{Moves, IsGiven, EndsBy}
+
+-- the rows as they are
+abbrev pub same : Read → Read
+same read = read
+
+-- what the first line of a reader is, where it has n bytes
+abbrev pub first_judged : Reader → ℕ → Judged
+first_judged r n = judge r.rules.columns r.rules.most (r.place.lines + 1) r.place.last (without_cr (take n r.held))
+
+-- whatever follows (nothing does, where the line is not whole), the first n bytes are a line, and the rest begins at with_end
+abbrev pub Fronts : Bool → List ℕ → ℕ → ℕ → Type 0
+Fronts whole held n with_end = (z : List ℕ) → (whole ≡ false → z ≡ []) → lines_of (held ++ z) ≡ record { content = take n held; whole = whole } ∷ lines_of (drop with_end held ++ z)
+
+-- a line that is not whole is the last
+abbrev pub IsLastIf : Bool → Reader → Type 0
+IsLastIf whole r = whole ≡ false → r.ended ≡ true
+
+-- a step without the source, that is done with these lines
+pub record Steps (out : Read → Read) (old new : Reader) : Type 0 where
+  pub ended : new.ended ≡ old.ended
+  pub done : List Line
+  pub count : new.place.lines ≡ old.place.lines + length done
+  pub lines : (z : List ℕ) → CanFollow false new z → lines_of (old.held ++ z) ≡ done ++ lines_of (new.held ++ z)
+  pub rest : (partial : Bool) (z : List ℕ) → CanFollow partial new z → rest_of partial old z ≡ out (rest_of partial new z)
+
+-- the reader has nothing but this end left; no read failed
+abbrev pub Stops : Stop → Reader → Type 0
+Stops (Failed ReadFault) r = ⊥
+Stops (Failed NoMemory) r = EndsBy (Err NoMemory) r
+Stops (Failed (Bad n c)) r = EndsBy (Err (Bad n c)) r
+Stops AllRead r = EndsBy (Ok None) r
+
+-- what a turn without the source comes to
+abbrev pub LineGives : Turn → Reader → Reader → Type 0
+LineGives (turns.Row row) old new = Steps (before row) old new
+LineGives turns.Again old new = Steps same old new
+LineGives (turns.Stop s) old new = (new ≡ old) × Stops s old
+
+-- what any turn comes to
+abbrev pub TurnGives : Turn → Reader → Reader → Option (List ℕ) → Option (List ℕ) → Type 0
+TurnGives (turns.Row row) old new had has = Moves (before row) old new had has
+TurnGives turns.Again old new had has = Moves same old new had has
+TurnGives (turns.Stop s) old new had has = (new ≡ old) × (has ≡ had) × EndsBy (answer_of s) old
+
+-- what a turn does to the place of a reader
+abbrev pub PlaceMoves : Turn → Reader → Reader → Type 0
+PlaceMoves (turns.Row row) old new = IsGiven row old new
+PlaceMoves turns.Again old new = (new.place.last ≡ old.place.last) × (old.place.lines ≤ new.place.lines)
+PlaceMoves (turns.Stop s) old new = Unit {0}
+
+-- what is left to do: lines, room for bytes, and the end of the source
+abbrev pub work_left : Reader → ℕ
+work_left r = (r.rules.most - r.place.lines) * 16384 + (8193 - length r.held) + (if r.ended then 0 else 1)
+
+-- a fact of a turn that takes a line or reads, and gives no row
+abbrev pub IfAgain : Turn → Type 0 → Type 0
+IfAgain turns.Again P = P
+IfAgain (turns.Row row) P = Unit {0}
+IfAgain (turns.Stop s) P = Unit {0}
+
+-- a fact of a turn in which a read failed
+abbrev pub IfFault : Turn → Type 0 → Type 0
+IfFault (turns.Stop (Failed ReadFault)) P = P
+IfFault (turns.Stop (Failed NoMemory)) P = Unit {0}
+IfFault (turns.Stop (Failed (Bad n c))) P = Unit {0}
+IfFault (turns.Stop AllRead) P = Unit {0}
+IfFault turns.Again P = Unit {0}
+IfFault (turns.Row row) P = Unit {0}
+
+-- what is held decides the next answer with no read
+abbrev pub HasEnough : Reader → Type 0
+HasEnough r = ¬ NeedsMore r

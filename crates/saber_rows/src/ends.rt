@@ -1,0 +1,35 @@
+// How a reader ends.
+use saber_plan::{Row, RowCause};
+
+/// Why a reader gives no more rows, where that isn't the end of its source.
+#[derive(Clone, Copy, Debug, PartialEq, Eq)]
+pub enum RowEnd {
+    /// A read failed. Comes first only in a call in which the source's count of faults rose.
+    ReadFault,
+    /// Want of memory, which comes only with more than eight columns.
+    NoMemory,
+    /// A line is refused. Lines count from 1, empty ones too.
+    Bad { line: u64, cause: RowCause },
+}
+
+/// What a reader that has stopped answers.
+#[derive(Clone, Copy)]
+pub(crate) enum Stop {
+    AllRead,
+    Failed(RowEnd),
+}
+
+impl Stop {
+    ghost use Rattle.std.specs.Prelude.{◌≡◌};
+    ghost use Rattle.saber_rows.specs.Reader.{answer_of};
+
+    /// The answer of a reader that has stopped so.
+    pub(crate) fn answer(self) -> Result<Option<Row>, RowEnd>
+        ensures { result ≡ answer_of self }
+    {
+        match self {
+            Stop::AllRead => Ok(None),
+            Stop::Failed(end) => Err(end),
+        }
+    }
+}

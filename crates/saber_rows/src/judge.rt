@@ -1,0 +1,107 @@
+// One line by itself.
+ghost use Rattle.std.specs.Prelude.{◌≡◌, ◌≤◌, ◌<◌, IfOk, OnErr, length};
+ghost use Rattle.saber_plan.specs.Rows.{without_cr, stamp, falls, judge, judge_numbers, judge_fields, bad_field, fields_of, wide_field, numbers};
+ghost use Rattle.saber_rows.specs.Judged.{judged_of, IfCounted};
+
+use crate::fields::{count_fields, first_bad, values_of};
+use saber_plan::{NoMemory, RowCause, Values};
+use std::alloc::Global;
+
+/// The bytes of the longest content of a line: this project's limit.
+pub(crate) const LONGEST: usize = 4096;
+
+/// What a line is.
+#[derive(Drop)]
+pub(crate) enum Judged {
+    Skipped,
+    Taken(Values),
+    Refused(RowCause),
+}
+
+/// A line's content.
+pub(crate) fn content_of(line: &[u8]) -> &[u8]
+    ensures { result.now ≡ without_cr line.now }
+{
+    if !line.is_empty() && line[line.len() - 1] == b'\r' {
+        return &line[..line.len() - 1];
+    }
+    line
+}
+
+/// The timestamp of a row.
+#[inline]
+pub(crate) fn stamp_of(values: &[i64]) -> u64
+    ensures { result ≡ stamp values.now }
+{
+    match values.split_first() {
+        None => 0,
+        Some((first, _)) => first.unsigned_abs(),
+    }
+}
+
+/// Whether the timestamp falls.
+#[inline]
+pub(crate) fn does_fall(last: Option<u64>, values: &[i64]) -> bool
+    ensures { result ≡ falls last values.now }
+{
+    match last {
+        None => false,
+        Some(last) => stamp_of(values) < last,
+    }
+}
+
+// A line of as many fields as there are columns.
+fn judge_content(
+    alloc: Global,
+    columns: u32,
+    last: Option<u64>,
+    content: &[u8],
+) -> Result<Judged, NoMemory>
+    requires few { columns ≤ 32 }
+    requires count { length (fields_of content.now) ≡ columns }
+    ensures judged { IfOk result (λ j. judged_of j ≡ judge_fields last (fields_of content.now) (bad_field 1 (fields_of content.now))) }
+    ensures memory { OnErr result (8 < columns) }
+{
+    if let Some(field) = first_bad(content) {
+        return Ok(Judged::Refused(RowCause::BadNumber { field }));
+    }
+    match values_of(alloc, content)? {
+        Err(field) => Ok(Judged::Refused(RowCause::Range { field })),
+        Ok(values) => {
+            if does_fall(last, values.as_slice()) {
+                return Ok(Judged::Refused(RowCause::TimeOrder));
+            }
+            Ok(Judged::Taken(values))
+        }
+    }
+}
+
+/// A line with this content and number, after a row with this timestamp.
+#[tactic(auto, unfolding(saber_plan::specs::Rows::judge))]
+pub(crate) fn judge_line(
+    alloc: Global,
+    columns: u32,
+    most: u64,
+    number: u64,
+    last: Option<u64>,
+    content: &[u8],
+) -> Result<Judged, NoMemory>
+    requires { columns ≤ 32 }
+    ensures judged { IfOk result (λ j. judged_of j ≡ judge columns most number last content.now) }
+    ensures counted { IfOk result (λ j. IfCounted j (number ≤ most)) }
+    ensures memory { OnErr result (8 < columns) }
+{
+    if number > most {
+        return Ok(Judged::Refused(RowCause::TooManyLines));
+    }
+    if content.is_empty() {
+        return Ok(Judged::Skipped);
+    }
+    if content.len() > LONGEST {
+        return Ok(Judged::Refused(RowCause::TooLong));
+    }
+    if count_fields(content) != columns as usize {
+        return Ok(Judged::Refused(RowCause::FieldCount));
+    }
+    judge_content(alloc, columns, last, content)
+}
