@@ -1,0 +1,11 @@
+pub mod LexLemmas
+pub mod Back
+pub mod Forth
+pub mod Exact
+pub mod ParseLemmas
+pub mod QueryLemmas
+pub mod RealLemmas
+pub mod TextLemmas
+pub mod Checks
+pub mod LexBack
+pub mod Unique

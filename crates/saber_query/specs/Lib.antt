@@ -1,0 +1,12 @@
+pub mod Tokens
+pub mod Lexing
+pub mod Real
+pub mod Small
+pub mod Trees
+pub mod Words
+pub mod Parsed
+pub mod Machine
+pub mod Parts
+pub mod Reading
+pub mod Means
+pub mod Spelling

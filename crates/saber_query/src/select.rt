@@ -1,0 +1,187 @@
+// Queries from tokens.
+ghost use Rattle.std.specs.Prelude.{◌≡◌, ◌≤◌, ◌∷◌, ◌++◌, [], List, ℕ, Option, Bool, IfOk, Some, None, option_map};
+ghost use Rattle.saber_query.specs.declared.token.Token.{Token};
+ghost use Rattle.saber_query.specs.declared.token.Token.TheVariants.{Word, Mark, Named};
+ghost use Rattle.saber_query.specs.declared.token.Sign.TheVariants.{Open, Close, Star};
+ghost use Rattle.saber_query.specs.declared.token.Keyword.TheVariants.{From};
+ghost use Rattle.saber_query.specs.declared.tree.Expr.{Expr};
+ghost use Rattle.saber_query.specs.declared.select.Outputs.{Outputs};
+ghost use Rattle.saber_query.specs.declared.select.Streams.{Streams};
+ghost use Rattle.saber_query.specs.declared.select.Ends.{Ends};
+ghost use Rattle.saber_query.specs.Machine as m;
+ghost use Rattle.saber_query.specs.Words.{argument_words, item_words, items_words, where_words, last_words, words, outputs_words, streams_words, ends_words};
+ghost use Rattle.saber_query.specs.Trees.{tests_of, where_depth, depth, query_of};
+ghost use Rattle.saber_query.specs.Reading.{coming, Parses, QueryGives};
+
+use crate::clauses::{group, second, source};
+use crate::cursor::Tokens;
+use crate::declaration::{decl, decls};
+use crate::expression::expr;
+use crate::predicate::pred;
+use crate::stop::Stop;
+use crate::token::{Keyword, Sign};
+use crate::tree::{Expr, Item, Items, Keys, Pred, Select, Source};
+use std::alloc::Global;
+
+// What follows COUNT.
+fn all_rows(tokens: &mut Tokens) -> Result<(), Stop>
+    ensures { Parses (m.open_sign ∷ m.star_sign ∷ m.close_sign ∷ [])
+        (λ (u : Unit {0}). Mark Open ∷ Mark Star ∷ Mark Close ∷ []) result
+        (coming tokens.old) (coming tokens.new) }
+{
+    tokens.expect_mark(Sign::Open)?;
+    tokens.expect_mark(Sign::Star)?;
+    tokens.expect_mark(Sign::Close)
+}
+
+// What follows SUM, MIN or MAX.
+fn argument(alloc: Global, tokens: &mut Tokens) -> Result<Expr, Stop>
+    ensures { Parses (m.open_sign ∷ m.factor ∷ m.more_factors ∷ m.more_terms ∷ m.close_sign ∷ [])
+        argument_words result (coming tokens.old) (coming tokens.new) }
+{
+    tokens.expect_mark(Sign::Open)?;
+    let argument = expr(alloc, tokens)?;
+    tokens.expect_mark(Sign::Close)?;
+    Ok(argument)
+}
+
+fn item(alloc: Global, tokens: &mut Tokens) -> Result<Item, Stop>
+    ensures { Parses (m.item ∷ []) item_words result (coming tokens.old) (coming tokens.new) }
+{
+    if tokens.take_word(Keyword::Count) {
+        all_rows(tokens)?;
+        return Ok(Item::Count);
+    }
+    if tokens.take_word(Keyword::Sum) {
+        return Ok(Item::Sum(argument(alloc, tokens)?));
+    }
+    if tokens.take_word(Keyword::Min) {
+        return Ok(Item::Min(argument(alloc, tokens)?));
+    }
+    if tokens.take_word(Keyword::Max) {
+        return Ok(Item::Max(argument(alloc, tokens)?));
+    }
+    Ok(Item::Value(expr(alloc, tokens)?))
+}
+
+fn items(alloc: Global, tokens: &mut Tokens) -> Result<Items, Stop>
+    ensures { Parses (m.more_items ∷ []) items_words result (coming tokens.old) (coming tokens.new) }
+{
+    let mut items = Vec::new(alloc);
+    while tokens.take_mark(Sign::Comma) {
+        items.push(item(alloc, tokens)?)?;
+    }
+    Ok(Items::from_vec(items))
+}
+
+fn semicolon(tokens: &mut Tokens) -> bool
+    ensures { Parses (m.a_semicolon ∷ []) last_words (Ok result) (coming tokens.old)
+        (coming tokens.new) }
+{
+    tokens.take_mark(Sign::Semicolon)
+}
+
+fn condition(alloc: Global, tokens: &mut Tokens, left: u32) -> Result<Option<Pred>, Stop>
+    ensures parses { Parses (m.a_where left ∷ []) (λ p. where_words (option_map tests_of p)) result
+        (coming tokens.old) (coming tokens.new) }
+    ensures depth { IfOk result (λ p. where_depth (option_map tests_of p) ≤ left) }
+{
+    if !tokens.take_word(Keyword::Where) {
+        return Ok(None);
+    }
+    Ok(Some(pred(alloc, tokens, left)?))
+}
+
+// What stands between SELECT and FROM.
+#[derive(Drop)]
+struct Outputs {
+    item: Item,
+    items: Items,
+}
+
+fn take_outputs(alloc: Global, tokens: &mut Tokens) -> Result<Outputs, Stop>
+    ensures { Parses (m.select_word ∷ m.item ∷ m.more_items ∷ [])
+        (λ (o : Outputs). outputs_words o.item o.items) result (coming tokens.old)
+        (coming tokens.new) }
+{
+    tokens.expect_word(Keyword::Select)?;
+    let item = item(alloc, tokens)?;
+    let items = items(alloc, tokens)?;
+    Ok(Outputs { item, items })
+}
+
+// The streams of FROM.
+#[derive(Drop)]
+struct Streams {
+    from: Source,
+    second: Option<Source>,
+}
+
+fn take_streams(tokens: &mut Tokens) -> Result<Streams, Stop>
+    ensures { Parses (m.from_word ∷ m.source ∷ m.a_second ∷ [])
+        (λ (s : Streams). streams_words s.from s.second) result (coming tokens.old)
+        (coming tokens.new) }
+{
+    tokens.expect_word(Keyword::From)?;
+    let from = source(tokens)?;
+    let second = second(tokens)?;
+    Ok(Streams { from, second })
+}
+
+// What may follow the streams.
+#[derive(Drop)]
+struct Ends {
+    predicate: Option<Pred>,
+    group: Option<Keys>,
+    closed: bool,
+}
+
+fn take_ends(alloc: Global, tokens: &mut Tokens, left: u32) -> Result<Ends, Stop>
+    ensures parses { Parses (m.a_where left ∷ m.a_group ∷ m.a_semicolon ∷ [])
+        (λ (e : Ends). ends_words (option_map tests_of e.predicate) e.group e.closed) result
+        (coming tokens.old) (coming tokens.new) }
+    ensures depth { IfOk result (λ e. where_depth (option_map tests_of e.predicate) ≤ left) }
+{
+    let predicate = condition(alloc, tokens, left)?;
+    let group = group(alloc, tokens)?;
+    let closed = semicolon(tokens);
+    Ok(Ends {
+        predicate,
+        group,
+        closed,
+    })
+}
+
+fn select(alloc: Global, tokens: &mut Tokens, left: u32) -> Result<Select, Stop>
+    ensures parses { Parses (m.start left) (λ q. words (query_of q)) result (coming tokens.old)
+        (coming tokens.new) }
+    ensures depth { IfOk result (λ q. depth (query_of q) ≤ left) }
+{
+    let decl = decl(alloc, tokens)?;
+    let decls = decls(alloc, tokens)?;
+    let outputs = take_outputs(alloc, tokens)?;
+    let streams = take_streams(tokens)?;
+    let ends = take_ends(alloc, tokens, left)?;
+    Ok(Select {
+        decl,
+        decls,
+        item: outputs.item,
+        items: outputs.items,
+        from: streams.from,
+        second: streams.second,
+        predicate: ends.predicate,
+        group: ends.group,
+        closed: ends.closed,
+    })
+}
+
+/// The query that the tokens are the words of, else the first of them that doesn't fit, or goes too deep.
+pub(crate) fn query(alloc: Global, tokens: &mut Tokens) -> Result<Select, Stop>
+    ensures { QueryGives result (coming tokens.old) (coming tokens.new) }
+{
+    let query = select(alloc, tokens, 64)?;
+    if !tokens.is_empty() {
+        return Err(Stop::Syntax);
+    }
+    Ok(query)
+}
