@@ -1,0 +1,10 @@
+-- A query's words but the first.
+use Rattle.std.specs.Prelude.{List, ◌++◌, option_map}
+use Rattle.saber_query.specs.declared.token.Token.{Token}
+use Rattle.saber_query.specs.declared.tree.Select.{Select}
+use Rattle.saber_query.specs.Trees.{tests_of}
+use Rattle.saber_query.specs.Words.{declared_words, decls_words, outputs_words, streams_words, ends_words}
+
+-- from behind the first STREAM on
+abbrev pub rest_words : Select → List Token
+rest_words q = declared_words q.decl ++ (decls_words q.decls ++ (outputs_words q.item q.items ++ (streams_words q.from q.second ++ ends_words (option_map tests_of q.predicate) q.group q.closed)))

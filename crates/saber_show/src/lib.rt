@@ -1,0 +1,17 @@
+//! Queries as texts, the way back from the trees of `saber_query`.
+#![tactic(auto)]
+
+mod declaration;
+mod expression;
+mod predicate;
+mod query;
+mod select;
+mod spell;
+
+pub use query::show;
+
+/// Memory ran out.
+pub type NoMemory = std::alloc::AllocError;
+
+#[cfg(test)]
+mod tests;
