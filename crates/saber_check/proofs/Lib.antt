@@ -1,0 +1,17 @@
+pub mod Lemmas
+pub mod PredLemmas
+pub mod Shapes
+pub mod WidthLaws
+pub mod FirstLaws
+pub mod PlanLemmas
+pub mod IndexLaws
+pub mod NoFaults
+pub mod StreamLaws
+pub mod ColumnLaws
+pub mod BoundLaws
+pub mod ItemLaws
+pub mod ConditionLaws
+pub mod CheckedLaws
+pub mod SettledLaws
+pub mod TextLaws
+pub mod FrontLaws

@@ -1,0 +1,157 @@
+// What kind of query it is, and the tests of its parts.
+ghost use Rattle.std.specs.Prelude.{◌≡◌, ◌≤◌, ◌^◌, ◌&&◌, ◌||◌, not, is_some, false};
+ghost use Rattle.std.specs.Option.{option_map_or};
+ghost use Rattle.saber_query.specs.Trees.{query_of};
+ghost use Rattle.saber_check.specs.Faults.{any_aggregate, is_aggregate, is_join, is_group, is_selection, same_measure, is_apart, is_out, is_overlapping, own_name, same_stream, same_column, among_columns, is_column_key, is_key, keys};
+
+use saber_plan::overlap;
+use saber_query::{Column, Expr, Factor, Item, Measure, Name, Select, Window};
+
+/// COUNT, SUM, MIN or MAX.
+pub(crate) fn is_aggregate(item: &Item) -> bool
+    ensures { result ≡ is_aggregate item.now }
+{
+    match item {
+        Item::Count => true,
+        Item::Sum(_) => true,
+        Item::Min(_) => true,
+        Item::Max(_) => true,
+        Item::Value(_) => false,
+    }
+}
+
+fn any_aggregate(items: &[Item]) -> bool
+    ensures { result ≡ any_aggregate items.now }
+{
+    for item in items {
+        if is_aggregate(item) {
+            return true;
+        }
+    }
+    false
+}
+
+/// FROM has two streams.
+pub(crate) fn is_join(query: &Select) -> bool
+    ensures { result ≡ is_join (query_of query.now) }
+{
+    query.second.is_some()
+}
+
+/// One stream, with an aggregate or GROUP BY.
+pub(crate) fn is_group(query: &Select) -> bool
+    ensures { result ≡ is_group (query_of query.now) }
+{
+    if is_join(query) {
+        return false;
+    }
+    is_aggregate(&query.item) || any_aggregate(query.items.as_slice()) || query.group.is_some()
+}
+
+/// Neither a join nor a group query.
+pub(crate) fn is_selection(query: &Select) -> bool
+    ensures { result ≡ is_selection (query_of query.now) }
+{
+    !is_join(query) && !is_group(query)
+}
+
+fn same_measure(measure: Measure, other: Measure) -> bool
+    ensures { result ≡ same_measure measure other }
+{
+    match (measure, other) {
+        (Measure::Rows, Measure::Rows) => true,
+        (Measure::Range, Measure::Range) => true,
+        _ => false,
+    }
+}
+
+/// Whether there are two windows that differ in measure or slide.
+pub(crate) fn is_apart(first: Option<Window>, second: Option<Window>) -> bool
+    ensures { result ≡ is_apart first second }
+{
+    match (first, second) {
+        (Some(window), Some(other)) => {
+            !(same_measure(window.measure, other.measure) && window.slide == other.slide)
+        }
+        _ => false,
+    }
+}
+
+/// A size or slide that no window has.
+pub(crate) fn is_out(number: u64) -> bool
+    ensures { result ≡ is_out number }
+{
+    number < 1 || 1_099_511_627_776 < number
+}
+
+/// A point lies in too many windows.
+pub(crate) fn is_overlapping(window: Window) -> bool
+    ensures { result ≡ is_overlapping window }
+{
+    if is_out(window.size) || is_out(window.slide) {
+        return false;
+    }
+    1024 < overlap(window.size, window.slide)
+}
+
+pub(crate) fn own_name(column: &Column) -> &Name
+    ensures { result.now ≡ own_name column.now }
+{
+    match &column.second {
+        Some(name) => name,
+        None => &column.first,
+    }
+}
+
+fn same_stream(column: &Column, other: &Column) -> bool
+    ensures { result ≡ same_stream column.now other.now }
+{
+    if column.second.is_some() && other.second.is_some() {
+        return column.first.is(&other.first);
+    }
+    true
+}
+
+/// The same column, qualified or not.
+pub(crate) fn same_column(column: &Column, other: &Column) -> bool
+    ensures { result ≡ same_column column.now other.now }
+{
+    own_name(column).is(own_name(other)) && same_stream(column, other)
+}
+
+pub(crate) fn is_among_columns(column: &Column, columns: &[Column]) -> bool
+    ensures { result ≡ among_columns column.now columns.now }
+{
+    for other in columns {
+        if same_column(other, column) {
+            return true;
+        }
+    }
+    false
+}
+
+fn is_grouped(query: &Select, column: &Column) -> bool
+    ensures { result ≡ option_map_or (λ k. among_columns column.now (keys k)) query.now.group
+        false }
+{
+    match &query.group {
+        Some(keys) => {
+            same_column(&keys.first, column) || is_among_columns(column, keys.more.as_slice())
+        }
+        None => false,
+    }
+}
+
+/// A single column of GROUP BY.
+pub(crate) fn is_key(query: &Select, expr: &Expr) -> bool
+    ensures { result ≡ is_key (query_of query.now) expr.now }
+{
+    if !expr.more.as_slice().is_empty() || !expr.first.more.as_slice().is_empty() {
+        return false;
+    }
+    match &expr.first.first {
+        Factor::Column(column) => is_grouped(query, column),
+        Factor::Number(_) => false,
+        Factor::Negative(_) => false,
+    }
+}
