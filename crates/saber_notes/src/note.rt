@@ -1,0 +1,190 @@
+// Notes: one line for each end but the good one.
+ghost use Rattle.std.specs.Prelude.{◌≡◌, ◌≢◌, ◌≤◌, ◌+◌, ◌++◌, length, Err};
+ghost use Rattle.saber_notes.specs.Notes.{query_text, line_text, side_text, file_text, note_text, note_of};
+ghost use Rattle.saber_notes.specs.Lines.{bytes_of};
+ghost use Rattle.saber_notes.specs.declared.note.Noted.{Noted};
+ghost use Rattle.saber_io.specs.Outside.{Rose, appended, AppendsPrefix};
+
+use crate::line::Line;
+use crate::outcome::{InputFile, Outcome};
+use saber_io::{Sink, WriteFault};
+use saber_plan::{RowCause, Side};
+use saber_query::Cause;
+
+/// What became of the note line.
+#[derive(Clone, Copy, Debug, PartialEq, Eq)]
+pub enum Noted {
+    /// There was nothing to tell.
+    Nothing,
+    /// It went out whole.
+    Whole,
+    /// The sink of notes failed, and some prefix of it went out.
+    Failed,
+    /// The sink of notes lacked memory, and nothing went out.
+    NoMemory,
+}
+
+fn query_text(cause: Cause) -> &'static str
+    ensures text { result.now ≡ query_text cause }
+    ensures short { length result.now ≤ 19 }
+{
+    match cause {
+        Cause::TooLong => "too long",
+        Cause::BadByte => "bad byte",
+        Cause::NumberRange => "number range",
+        Cause::Syntax => "syntax",
+        Cause::Depth => "depth",
+        Cause::DuplicateName => "duplicate name",
+        Cause::UnknownStream => "unknown stream",
+        Cause::UnknownColumn => "unknown column",
+        Cause::Ambiguous => "ambiguous",
+        Cause::TooMany => "too many",
+        Cause::WindowRange => "window range",
+        Cause::Overlap => "overlap",
+        Cause::Shape => "shape",
+        Cause::NotGrouped => "not grouped",
+        Cause::ExprTooWide => "expression too wide",
+        Cause::SumTooWide => "sum too wide",
+    }
+}
+
+fn side_text(side: Side) -> &'static str
+    ensures text { result.now ≡ side_text side }
+    ensures short { length result.now ≤ 5 }
+{
+    match side {
+        Side::Left => "left",
+        Side::Right => "right",
+    }
+}
+
+fn file_text(file: InputFile) -> &'static str
+    ensures text { result.now ≡ file_text file }
+    ensures short { length result.now ≤ 5 }
+{
+    match file {
+        InputFile::Query => "query",
+        InputFile::Left => "left",
+        InputFile::Right => "right",
+    }
+}
+
+fn add_line_cause(line: &mut Line, cause: RowCause)
+    requires { length (bytes_of line.old) ≤ 64 }
+    ensures bytes { bytes_of line.new ≡ bytes_of line.old ++ line_text cause }
+    ensures short { length (bytes_of line.new) ≤ length (bytes_of line.old) + 40 }
+{
+    match cause {
+        RowCause::TooManyLines => line.add("too many lines"),
+        RowCause::TooLong => line.add("too long"),
+        RowCause::FieldCount => line.add("field count"),
+        RowCause::BadNumber { field } => {
+            line.add("bad number in field ");
+            line.add_number(u64::from(field));
+        }
+        RowCause::Range { field } => {
+            line.add("range in field ");
+            line.add_number(u64::from(field));
+        }
+        RowCause::TimeOrder => line.add("time order"),
+    }
+}
+
+fn add_file_fault(line: &mut Line, file: InputFile, fault: &str)
+    requires room { length (bytes_of line.old) ≤ 64 }
+    requires fault { length fault.now ≤ 16 }
+    ensures bytes { bytes_of line.new ≡ bytes_of line.old ++ (file_text file ++ fault.now) }
+    ensures short { length (bytes_of line.new) ≤ length (bytes_of line.old) + 21 }
+{
+    line.add(file_text(file));
+    line.add(fault);
+}
+
+fn add_file_count(line: &mut Line, streams: u64, files: u64)
+    requires { length (bytes_of line.old) ≤ 8 }
+    ensures bytes { bytes_of line.new ≡ bytes_of line.old ++ note_text (Outcome.FileCount streams files) }
+    ensures short { length (bytes_of line.new) ≤ 100 }
+{
+    line.add("streams ");
+    line.add_number(streams);
+    line.add(", files ");
+    line.add_number(files);
+}
+
+fn add_query_fault(line: &mut Line, byte: u64, cause: Cause)
+    requires { length (bytes_of line.old) ≤ 8 }
+    ensures bytes { bytes_of line.new ≡ bytes_of line.old ++ note_text (Outcome.QueryFault byte cause) }
+    ensures short { length (bytes_of line.new) ≤ 100 }
+{
+    line.add("query byte ");
+    line.add_number(byte);
+    line.add(": ");
+    line.add(query_text(cause));
+}
+
+fn add_line_refused(line: &mut Line, side: Side, number: u64, cause: RowCause)
+    requires { length (bytes_of line.old) ≤ 8 }
+    ensures bytes { bytes_of line.new ≡ bytes_of line.old ++ note_text (Outcome.LineRefused side number cause) }
+    ensures short { length (bytes_of line.new) ≤ 100 }
+{
+    line.add(side_text(side));
+    line.add(" line ");
+    line.add_number(number);
+    line.add(": ");
+    add_line_cause(line, cause);
+}
+
+fn add_outcome(line: &mut Line, outcome: Outcome)
+    requires { length (bytes_of line.old) ≤ 8 }
+    ensures bytes { bytes_of line.new ≡ bytes_of line.old ++ note_text outcome }
+    ensures short { length (bytes_of line.new) ≤ 100 }
+{
+    match outcome {
+        Outcome::Done => {}
+        Outcome::Usage => {
+            line.add("usage: saber run QUERY LEFT [RIGHT] | check QUERY | demo SEED ROWS")
+        }
+        Outcome::FileCount { streams, files } => add_file_count(line, streams, files),
+        Outcome::QueryFault { byte, cause } => add_query_fault(line, byte, cause),
+        Outcome::LineRefused {
+            side,
+            line: number,
+            cause,
+        } => add_line_refused(line, side, number, cause),
+        Outcome::OpenFault(file) => add_file_fault(line, file, ": open fault"),
+        Outcome::ReadFault(file) => add_file_fault(line, file, ": read fault"),
+        Outcome::WriteFault => line.add("write fault"),
+        Outcome::NoMemory => line.add("out of memory"),
+    }
+}
+
+fn note_line(outcome: Outcome) -> Line
+    ensures { bytes_of result ≡ note_of outcome }
+{
+    let mut line = Line::new();
+    line.add("saber: ");
+    add_outcome(&mut line, outcome);
+    line.add("\n");
+    line
+}
+
+/// Writes the note of an end in one write, from a buffer of a fixed size. A call that is done has none.
+pub fn write_note<N: Sink>(notes: &mut N, outcome: Outcome) -> Noted
+    ensures nothing { outcome ≡ Outcome.Done → (result ≡ Noted.Nothing) × (notes.new ≡ notes.old) }
+    ensures something { outcome ≢ Outcome.Done → result ≢ Noted.Nothing }
+    ensures whole { result ≡ Noted.Whole → N.written notes.new ≡ appended (N.written notes.old) (note_of outcome) }
+    ensures failed { result ≡ Noted.Failed → AppendsPrefix (N.written notes.old) (N.written notes.new) (note_of outcome) }
+    ensures memory { result ≡ Noted.NoMemory → N.written notes.new ≡ N.written notes.old }
+    ensures cause { result ≡ Noted.Failed → Rose (N.faults notes.old) (N.faults notes.new) }
+    ensures count { N.faults notes.old ≤ N.faults notes.new }
+{
+    if outcome == Outcome::Done {
+        return Noted::Nothing;
+    }
+    let line = note_line(outcome);
+    match notes.write_all(line.as_bytes()) {
+        Ok(()) => Noted::Whole,
+        Err(WriteFault::Failed) => Noted::Failed,
+        Err(WriteFault::NoMemory) => Noted::NoMemory,
+    }
+}

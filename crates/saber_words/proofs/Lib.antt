@@ -1,0 +1,7 @@
+mod Cases
+pub mod Apps
+pub mod Values
+pub mod Parses
+pub mod FileNames
+pub mod Levels
+pub mod OtherWords

@@ -1,0 +1,14 @@
+use Rattle.std.proofs.Common.{◌∙◌}
+use Rattle.saber_words.proofs.Parses.{command_of-met, command_of-refused, read_of}
+use Rattle.saber_words.proofs.reading.read_words.Goals as goal
+
+pub returns-in-Ok : goal.returns-in-Ok
+returns-in-Ok c =
+    let met = command_of-met _ _ c.in-Ok.matches c.in_ok-app.ensures c.in-Ok.ensures.kinds c.in-Ok.ensures.matches in
+    let read = read_of _ c.command.result _ met c.command.ensures in
+    rw c.ok_or.ensures.value (record { taken = read.0; usage = read.1 })
+
+pub returns-in-Err-clause-usage : goal.returns-in-Err-clause-usage
+returns-in-Err-clause-usage c = λ usage.
+    command_of-refused _ _ c.in-Err.error c.in_ok-app.ensures c.in-Err.ensures.kinds (λ short.
+    let memory = c.fault.ensures.1 (c.kind.ensures ∙ short) in cc)

@@ -1,0 +1,18 @@
+use Rattle.std.proofs.Common.{ap, true, [], ◌≡◌}
+use Rattle.std.proofs.lemmas.Result.{IfOk-weaker}
+use Rattle.clap.specs.Simple.{App, app_of}
+use Rattle.saber_words.specs.Commands.{saber_shape}
+use Rattle.saber_words.proofs.Apps.{app_with_subcommand}
+use Rattle.saber_words.proofs.reading.saber.Goals as goal
+
+-- the settings of the program
+abbrev set_up : App → App
+set_up a = record a { top = record a.top { disable_help_flag = true; disable_help_subcommand = true; disable_version_flag = true; subcommand_required = true } }
+
+pub returns : goal.returns
+returns c =
+    let top : app_of c.subcommand_required.result ≡ record { top = record saber_shape { is_leaf = true }; subs = [] } =
+    rw (c.subcommand_required.ensures, c.disable_version_flag.ensures, c.disable_help_subcommand.ensures, c.disable_help_flag.ensures) (ap set_up c.new.ensures.app) in
+    let one = app_with_subcommand c.subcommand_required.result c.in_ok-run.run' c.in_ok-subcommand.field-0 _ _ c.in_ok-subcommand.ensures top c.in_ok-run.ensures in
+    IfOk-weaker c.subcommand-2.result _ _ (λ app added.
+    app_with_subcommand c.in_ok-subcommand.field-0 c.in_ok-check.check app _ _ added one c.in_ok-check.ensures) c.subcommand-2.ensures

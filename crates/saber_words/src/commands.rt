@@ -1,0 +1,49 @@
+//! What the words of the command line may ask for.
+use std::alloc::AllocError;
+
+/// To answer a query over its files. Each text is the name of a file.
+#[derive(Clone, Copy, Debug, PartialEq, Eq)]
+pub struct Run<'a> {
+    /// The text of the query.
+    pub query: &'a str,
+    /// The rows of the first stream of FROM.
+    pub left: &'a str,
+    /// The rows of the second stream, where one was named.
+    pub right: Option<&'a str>,
+}
+
+/// To check a query, without its files. The text is the name of a file.
+#[derive(Clone, Copy, Debug, PartialEq, Eq)]
+pub struct Check<'a> {
+    /// The text of the query.
+    pub query: &'a str,
+}
+
+/// A command of the program.
+#[derive(Clone, Copy, Debug, PartialEq, Eq)]
+pub enum Command<'a> {
+    /// `run QUERY LEFT [RIGHT]`
+    Run(Run<'a>),
+    /// `check QUERY`
+    Check(Check<'a>),
+}
+
+/// Why no command was read.
+#[derive(Clone, Copy, Debug, PartialEq, Eq)]
+pub enum WordsFault {
+    /// Memory ran out, whatever the words say.
+    NoMemory,
+    /// The words are no command. A wish for help or for the version is one of these.
+    Usage,
+}
+
+impl From<AllocError> for WordsFault {
+    ghost use Rattle.std.specs.Prelude.{◌≡◌};
+    ghost use Rattle.saber_words.specs.declared.commands.WordsFault.{WordsFault};
+
+    ghost from_gives = { λ _ fault. fault ≡ WordsFault.NoMemory };
+
+    fn from(_error: AllocError) -> WordsFault {
+        WordsFault::NoMemory
+    }
+}

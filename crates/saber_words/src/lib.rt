@@ -1,0 +1,13 @@
+//! The words of the command line: which of them are a command of `saber`, and what it asks for.
+#![tactic(auto)]
+
+mod commands;
+mod laws;
+mod reading;
+
+pub use commands::{Check, Command, Run, WordsFault};
+pub use laws::words_of_file_names;
+pub use reading::read_words;
+
+#[cfg(test)]
+mod tests;
