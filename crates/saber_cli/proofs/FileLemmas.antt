@@ -1,0 +1,103 @@
+-- One file that is opened, read and given back.
+use Rattle.std.proofs.Common.{Result, Ok, Err, IfOk, IfErr, refl, ◌≡◌, ℕ, ◌<◌, ◌≤◌, List, take, Option, Some, None, IfSome, ◌∙◌, ap, subst, arith}
+use Rattle.std.proofs.lemmas.Bool.Decides.{nat_tests}
+use Rattle.saber_io.specs.Outside.{Told, asking, closing, raised, Rose, Opens}
+use Rattle.saber_notes.specs.declared.outcome.InputFile.{InputFile}
+use Rattle.saber_notes.specs.declared.outcome.InputFile.TheVariants.{Query, Left, Right}
+use Rattle.saber_notes.specs.declared.outcome.Outcome.{Outcome}
+use Rattle.saber_notes.specs.declared.outcome.Outcome.TheVariants.{Done, Usage, FileCount, QueryFault, LineRefused, OpenFault, ReadFault, WriteFault, NoMemory}
+use Rattle.saber_cli.specs.Outcomes.{IsFileFault}
+use Rattle.saber_cli.specs.Texts.{BeginsFile, read_limit}
+use Rattle.saber_cli.specs.Uses.{Uses, used, IsOpened, IsOfText, IsOfQuery, outcome_of, KeepsFaults}
+
+-- what was read of a source that was opened is the beginning of its file
+pub opened_front : (told : Option Told) (name : List ℕ) (left : Option (List ℕ)) (text : List ℕ) → Opens told name left → IfSome left (λ whole. text ≡ take read_limit whole) → IfSome told (λ t. BeginsFile t.contents name text)
+opened_front None name left text o h = tt
+opened_front (Some t) name left text o h = record { whole = o.0; there = o.1; front = subst (λ l. IfSome l (λ whole. text ≡ take read_limit whole)) o.2 h }
+
+-- a file that was opened, and whose source was given back
+pub used_by : (file : InputFile) (name : List ℕ) (o : Outcome) (old mid new : Option Told) (left : Option (List ℕ)) (faults : ℕ) → (o ≡ ReadFault file → 0 < faults) → IsOpened o → mid ≡ asking old name → new ≡ closing mid left faults → Uses file name o old new
+used_by file name o old mid new left faults read opened asked closed = used left faults read opened (closed ∙ ap (λ t. closing t left faults) asked)
+
+-- what was read of a source, or why there is nothing
+read_opened : (o : Outcome) → IsOfText o → IsOpened o
+read_opened Done h = absurd h
+read_opened Usage h = absurd h
+read_opened (FileCount s g) h = absurd h
+read_opened (QueryFault b c) h = absurd h
+read_opened (LineRefused s n c) h = absurd h
+read_opened (OpenFault f) h = absurd h
+read_opened (ReadFault f) h = tt
+read_opened WriteFault h = absurd h
+read_opened NoMemory h = tt
+
+-- of a result
+pub map_err : {X P Q : Type 0} (r : Result X Outcome) (p : Outcome) → (P → Q) → IfErr r (λ o. o ≡ p → P) → IfErr r (λ o. o ≡ p → Q)
+map_err (Ok x) p f h = tt
+map_err (Err o) p f h = λ e. f (h e)
+
+pub text_front : {X : Type 0} (bytes : X → List ℕ) (r : Result X Outcome) (told : Option Told) (name : List ℕ) (left : Option (List ℕ)) → Opens told name left → IfOk r (λ x. IfSome left (λ whole. bytes x ≡ take read_limit whole))
+    → IfOk r (λ x. IfSome told (λ t. BeginsFile t.contents name (bytes x)))
+text_front bytes (Ok x) told name left o h = opened_front told name left (bytes x) o h
+text_front bytes (Err e) told name left o h = tt
+
+pub text_used : {X : Type 0} (name : List ℕ) (r : Result X Outcome) (old mid new : Option Told) (left : Option (List ℕ)) (faults : ℕ) → IfErr r IsOfText → IfErr r (λ o. o ≡ ReadFault Query → 0 < faults)
+    → mid ≡ asking old name → new ≡ closing mid left faults → Uses Query name (outcome_of r) old new
+text_used name (Ok x) old mid new left faults h k asked closed = used_by Query name Done old mid new left faults (λ e. cc) tt asked closed
+text_used name (Err o) old mid new left faults h k asked closed = used_by Query name o old mid new left faults k (read_opened o h) asked closed
+
+-- a text's read fault is a fault of the files
+text_cause : (o : Outcome) → IsOfText o → IsFileFault o → o ≡ ReadFault Query
+text_cause Done h f = absurd f
+text_cause Usage h f = absurd f
+text_cause (FileCount s g) h f = absurd f
+text_cause (QueryFault b c) h f = absurd f
+text_cause (LineRefused s n c) h f = absurd f
+text_cause (OpenFault file) h f = absurd h
+text_cause (ReadFault Query) h f = refl
+text_cause (ReadFault Left) h f = absurd h
+text_cause (ReadFault Right) h f = absurd h
+text_cause WriteFault h f = absurd f
+text_cause NoMemory h f = absurd f
+
+pub text_fault : {X : Type 0} (r : Result X Outcome) (P : Type 0) → IfErr r IsOfText → IfErr r (λ o. o ≡ ReadFault Query → P) → IfErr r (λ o. IsFileFault o → P)
+text_fault (Ok x) P h k = tt
+text_fault (Err o) P h k = λ f. k (text_cause o h f)
+
+pub text_of_query : {X : Type 0} (r : Result X Outcome) → IfErr r IsOfText → IfErr r IsOfQuery
+text_of_query (Ok x) h = tt
+text_of_query (Err Done) h = absurd h
+text_of_query (Err Usage) h = absurd h
+text_of_query (Err (FileCount s g)) h = absurd h
+text_of_query (Err (QueryFault b c)) h = absurd h
+text_of_query (Err (LineRefused s n c)) h = absurd h
+text_of_query (Err (OpenFault file)) h = absurd h
+text_of_query (Err (ReadFault Query)) h = tt
+text_of_query (Err (ReadFault Left)) h = absurd h
+text_of_query (Err (ReadFault Right)) h = absurd h
+text_of_query (Err WriteFault) h = absurd h
+text_of_query (Err NoMemory) h = tt
+
+-- ---- counts of faults
+
+pub keeps_more : (a b : ℕ) → a ≤ b → KeepsFaults a b
+keeps_more a b h = omega arith
+
+-- giving a source back loses no fault
+pub keeps_raised : (a b f c : ℕ) → a ≤ b → c ≡ raised b f → KeepsFaults a c
+keeps_raised a b f c h e = grind (arith, nat_tests)
+
+-- faults of a source are a fault of its files
+pub rose_raised : (a b f c : ℕ) → a ≤ b → 0 < f → c ≡ raised b f → Rose a c
+rose_raised a b f c h k e = grind (arith, nat_tests)
+
+-- a count that rose from nothing is above nothing
+pub rose_some : (a b : ℕ) → a ≡ 0 → Rose a b → 0 < b
+rose_some a b e h = omega arith
+
+pub keeps_keeps : (a b c : ℕ) → KeepsFaults a b → KeepsFaults b c → KeepsFaults a c
+keeps_keeps a b c h k = omega arith
+
+-- a count that rose later rose from before too
+pub keeps_rose : (a b c : ℕ) → KeepsFaults a b → Rose b c → Rose a c
+keeps_rose a b c h k = omega arith

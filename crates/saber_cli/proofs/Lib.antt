@@ -1,0 +1,10 @@
+pub mod CountedLaws
+pub mod TextLemmas
+pub mod FileLemmas
+pub mod CountLemmas
+pub mod AnsweredLemmas
+pub mod PlannedLemmas
+pub mod LeavesLemmas
+pub mod DueLemmas
+pub mod RunLemmas
+pub mod WordLemmas

@@ -1,0 +1,15 @@
+use Rattle.std.proofs.Common.{◌≡◌, ◌≤◌, ◌-◌, length}
+use Rattle.saber_io.specs.Outside.{given}
+use Rattle.saber_cli.proofs.texts.read_text.Given as goal
+
+abbrev pub invariant-loop-text : goal.invariant-loop-text
+invariant-loop-text g l =
+    let left = g.S.Source.left in
+    record {
+      read : left l.initial.source ≡ given l.text.items (left l.source);
+      short : length l.text.items ≤ 65537;
+      count : g.S.Source.faults l.initial.source ≤ g.S.Source.faults l.source;
+    }
+
+abbrev pub decreases-loop-text : goal.decreases-loop-text
+decreases-loop-text g l = 65537 - length l.text.items

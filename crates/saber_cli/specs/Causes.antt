@@ -1,0 +1,42 @@
+-- Which outcome comes, and why.
+use Rattle.std.specs.Prelude.{◌≡◌, ◌⊎◌, ℕ}
+use Rattle.saber_plan.specs.declared.rows.Side.{Side}
+use Rattle.saber_plan.specs.declared.rows.RowCause.{RowCause}
+use Rattle.saber_plan.specs.Rows.{Read, all_read, bad}
+use Rattle.saber_plan.specs.Trees.{Tree}
+use Rattle.saber_notes.specs.declared.outcome.Outcome.{Outcome}
+use Rattle.saber_notes.specs.declared.outcome.Outcome.TheVariants.{Done, Usage, FileCount, QueryFault, LineRefused, OpenFault, ReadFault, WriteFault, NoMemory}
+use Rattle.saber_cli.specs.Outcomes.{IsFileFault, IsQueryFault}
+use Rattle.saber_cli.specs.Due.{Due, usage, missing, faulty, unlike, runs}
+
+-- a run is due over rows with this end
+pub record Ends (due : Due → Type 0) (end : Read → Type 0) : Type 0 where
+  pub plan : Tree
+  pub read : Read
+  pub is_due : due (runs plan read)
+  pub ends : end read
+
+-- Each outcome has its cause in what is due. A fault of a file or of the sink has its own in a count of faults, and want of memory has none.
+abbrev pub HasCause : (Due → Type 0) → Outcome → Type 0
+HasCause due Done = Ends due (λ read. read.end ≡ all_read)
+HasCause due Usage = due usage
+HasCause due (FileCount streams given) = due (unlike streams given)
+HasCause due (QueryFault byte cause) = due (faulty byte cause)
+HasCause due (LineRefused side line cause) = Ends due (λ read. read.end ≡ bad side line cause)
+HasCause due (OpenFault file) = Unit {0}
+HasCause due (ReadFault file) = Unit {0}
+HasCause due WriteFault = Ends due (λ read. Unit {0})
+HasCause due NoMemory = Unit {0}
+
+-- the outcomes of a run over rows with this end, where no count of faults rises and there is memory
+pub data EndAllows (read : Read) (o : Outcome) : Type 0 where
+  all_done : o ≡ Done → read.end ≡ all_read → EndAllows read o
+  line_refused : (side : Side) (line : ℕ) (cause : RowCause) → o ≡ LineRefused side line cause → read.end ≡ bad side line cause → EndAllows read o
+
+-- The outcomes that a due allows. Faults of files and of the sink come only where a count of faults rose.
+abbrev pub Allows : Due → Outcome → Type 0
+Allows usage o = (o ≡ Usage) ⊎ (o ≡ NoMemory)
+Allows missing o = IsFileFault o ⊎ (o ≡ NoMemory)
+Allows (faulty byte cause) o = IsQueryFault o ⊎ (IsFileFault o ⊎ (o ≡ NoMemory))
+Allows (unlike streams given) o = (o ≡ FileCount streams given) ⊎ (IsFileFault o ⊎ (o ≡ NoMemory))
+Allows (runs q read) o = EndAllows read o ⊎ (IsFileFault o ⊎ ((o ≡ WriteFault) ⊎ (o ≡ NoMemory)))

@@ -1,0 +1,16 @@
+pub mod Sources
+pub mod Outcomes
+pub mod Counted
+pub mod Counts
+pub mod Assembles
+pub mod Answered
+pub mod Texts
+pub mod Uses
+pub mod Planned
+pub mod Commands
+pub mod Due
+pub mod Causes
+pub mod Puts
+pub mod Leaves
+pub mod Gives
+pub mod Unread

@@ -1,0 +1,41 @@
+-- What is done with one file: it is opened, read and given back.
+use Rattle.std.specs.Prelude.{◌≡◌, ◌<◌, ◌≤◌, ℕ, List, Option, Result, Ok, Err}
+use Rattle.saber_io.specs.Outside.{Told, asking, closing, counted}
+use Rattle.saber_notes.specs.declared.outcome.InputFile.{InputFile}
+use Rattle.saber_notes.specs.declared.outcome.InputFile.TheVariants.{Query}
+use Rattle.saber_notes.specs.declared.outcome.Outcome.{Outcome}
+use Rattle.saber_notes.specs.declared.outcome.Outcome.TheVariants.{Done, OpenFault, ReadFault, NoMemory}
+
+-- a file was opened, whatever came after it
+abbrev pub IsOpened : Outcome → Type 0
+IsOpened (OpenFault file) = ⊥
+IsOpened _ = Unit {0}
+
+-- The file was not asked for, for want of memory; or it was asked for and not opened; or it was opened, and given back,
+-- with faults where it could not be read.
+pub data Uses (file : InputFile) (name : List ℕ) (o : Outcome) (old new : Option Told) : Type 0 where
+  unasked : o ≡ NoMemory → new ≡ old → Uses file name o old new
+  unopened : o ≡ OpenFault file → new ≡ asking old name → Uses file name o old new
+  used : (left : Option (List ℕ)) (faults : ℕ) → (o ≡ ReadFault file → 0 < faults) → IsOpened o → new ≡ closing (asking old name) left faults → Uses file name o old new
+
+-- no fault is lost: a count that rose afterwards rose before too
+abbrev pub KeepsFaults : ℕ → ℕ → Type 0
+KeepsFaults old new = counted old ≤ counted new
+
+-- what a call that gave no value came to
+abbrev pub outcome_of : {X : Type 0} → Result X Outcome → Outcome
+outcome_of (Ok x) = Done
+outcome_of (Err o) = o
+
+-- why an open query file gave no text
+abbrev pub IsOfText : Outcome → Type 0
+IsOfText (ReadFault Query) = Unit {0}
+IsOfText NoMemory = Unit {0}
+IsOfText _ = ⊥
+
+-- why there is no text of a query
+abbrev pub IsOfQuery : Outcome → Type 0
+IsOfQuery (OpenFault Query) = Unit {0}
+IsOfQuery (ReadFault Query) = Unit {0}
+IsOfQuery NoMemory = Unit {0}
+IsOfQuery _ = ⊥

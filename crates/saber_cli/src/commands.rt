@@ -1,0 +1,66 @@
+// A run over its files.
+ghost use Rattle.std.specs.Prelude.{◌≡◌, ◌≢◌, ℕ, List, IfSome};
+ghost use Rattle.saber_io.specs.Outside.{Rose, appended};
+ghost use Rattle.saber_cli.specs.Commands.{asked_run};
+ghost use Rattle.saber_notes.specs.declared.outcome.Outcome.{Outcome};
+ghost use Rattle.saber_cli.specs.Outcomes.{IsFileFault, IsBeforeRun};
+ghost use Rattle.saber_cli.specs.Due.{names_of};
+ghost use Rattle.saber_cli.specs.Gives.{Gives};
+ghost use Rattle.saber_cli.specs.Leaves.{LeavesTold};
+
+use crate::answer::Ran;
+use crate::left::run_left;
+use crate::plans::planned;
+use crate::queries::query_text;
+use saber_io::{Files, Sink};
+use saber_notes::Outcome;
+use saber_words::Run;
+use std::alloc::Global;
+
+/// `run`: reads and checks the query, and answers it over its row file.
+pub(crate) fn run_command<F: Files, K: Sink>(
+    alloc: Global,
+    command: &Run<'_>,
+    files: &mut F,
+    sink: K,
+) -> Ran<K>
+    ensures written { (out : List ℕ) × (K.written result.sink ≡ appended (K.written sink) out)
+        × IfSome (F.told files.old) (λ t. Gives t.contents (asked_run command.now) result.outcome result.tasks out) }
+    ensures early { IsBeforeRun result.outcome → (result.tasks ≡ 0) × (result.sink ≡ sink) }
+    ensures kinds { result.outcome ≢ Outcome.Usage }
+    ensures leaves { LeavesTold (names_of (asked_run command.now)) result.outcome (F.told files.old) (F.told files.new) }
+    ensures cause { IsFileFault result.outcome → Rose (F.faults files.old) (F.faults files.new) }
+    ensures write { result.outcome ≡ Outcome.WriteFault → Rose (K.faults sink) (K.faults result.sink) }
+{
+    let text = match query_text(alloc, files, command.query) {
+        Ok(text) => text,
+        Err(outcome) => {
+            return Ran {
+                outcome,
+                sink,
+                tasks: 0,
+            };
+        }
+    };
+    let query = match planned(alloc, &text) {
+        Ok(query) => query,
+        Err(outcome) => {
+            return Ran {
+                outcome,
+                sink,
+                tasks: 0,
+            };
+        }
+    };
+    match command.right {
+        None => run_left(alloc, query, files, command.left, sink),
+        Some(_) => Ran {
+            outcome: Outcome::FileCount {
+                streams: 1,
+                files: 2,
+            },
+            sink,
+            tasks: 0,
+        },
+    }
+}

@@ -1,0 +1,90 @@
+// The top call.
+ghost use Rattle.std.specs.Prelude.{◌≡◌, ◌≢◌, ◌≤◌, ℕ, List, IfSome, None, Some, map};
+ghost use Rattle.saber_io.specs.Outside.{Rose, appended, AppendsPrefix};
+ghost use Rattle.saber_words.specs.Commands.{AskedRun};
+ghost use Rattle.saber_cli.specs.Commands.{run_of};
+ghost use Rattle.saber_notes.specs.Notes.{status_of, note_of};
+ghost use Rattle.saber_notes.specs.declared.outcome.Outcome.{Outcome};
+ghost use Rattle.saber_notes.specs.declared.note.Noted.{Noted};
+ghost use Rattle.saber_cli.specs.Outcomes.{IsFileFault, IsBeforeRun};
+ghost use Rattle.saber_cli.specs.Due.{names_of};
+ghost use Rattle.saber_cli.specs.Gives.{Answers};
+ghost use Rattle.saber_cli.specs.Leaves.{LeavesTold};
+ghost use Rattle.saber_cli.specs.Unread.{EndsUnread};
+
+use crate::answer::Ran;
+use crate::words::run_words;
+use saber_io::{Files, Gate, Sink};
+use saber_notes::{Noted, Outcome, write_note};
+use std::alloc::Global;
+
+/// How a call ended.
+#[derive(Drop)]
+pub struct Ended<K> {
+    /// The status that the process ends with.
+    pub status: u8,
+    /// The sink that was handed in, with what was written to it.
+    pub sink: K,
+    /// How many tasks are assembled; 0 where nothing was run.
+    pub tasks: u64,
+    /// What became of the note.
+    pub noted: Noted,
+    /// How the call ended, of which the status and the note tell.
+    pub outcome: Outcome,
+}
+
+/// Does what the words ask for, over these files: the answer goes to the sink, and a note on every
+/// end but the good one to the notes. The first word is the program's name.
+///
+/// What is said of contents holds where the files, the sink and the notes tell theirs, as those in
+/// memory do.
+pub fn saber<F: Files, K: Sink + Send, N: Sink, G: Gate + Sync>(
+    alloc: Global,
+    words: &[&str],
+    files: &mut F,
+    sink: K,
+    notes: &mut N,
+    _gate: &G,
+) -> Ended<K>
+    ensures status { result.status ≡ status_of result.outcome }
+
+    // What goes out is the text of the first tasks' rows, the outcome has its cause, and is one that what is due allows.
+    ensures answers { (out : List ℕ) × (K.written result.sink ≡ appended (K.written sink) out)
+        × IfSome (F.told files.old) (λ t. Answers (map (λ word. word.now) words.now) t.contents result.outcome result.tasks out) }
+    ensures before { IsBeforeRun result.outcome → (result.tasks ≡ 0) × (result.sink ≡ sink) }
+
+    // Words that are no command, whether the files tell or not.
+    ensures unread { run_of (map (λ word. word.now) words.now) ≡ None →
+        EndsUnread result.outcome result.tasks files.old files.new sink result.sink }
+    ensures usage { result.outcome ≡ Outcome.Usage → run_of (map (λ word. word.now) words.now) ≡ None }
+
+    // A fault of the outside is real.
+    ensures files { IsFileFault result.outcome → Rose (F.faults files.old) (F.faults files.new) }
+    ensures sink { result.outcome ≡ Outcome.WriteFault → Rose (K.faults sink) (K.faults result.sink) }
+
+    // Which files were asked for and given back.
+    ensures leaves { (r : AskedRun) → run_of (map (λ word. word.now) words.now) ≡ Some r →
+        LeavesTold (names_of r) result.outcome (F.told files.old) (F.told files.new) }
+
+    // The note.
+    ensures nothing { result.outcome ≡ Outcome.Done → (result.noted ≡ Noted.Nothing) × (notes.new ≡ notes.old) }
+    ensures something { result.outcome ≢ Outcome.Done → result.noted ≢ Noted.Nothing }
+    ensures whole { result.noted ≡ Noted.Whole → N.written notes.new ≡ appended (N.written notes.old) (note_of result.outcome) }
+    ensures failed { result.noted ≡ Noted.Failed → AppendsPrefix (N.written notes.old) (N.written notes.new) (note_of result.outcome) }
+    ensures memory { result.noted ≡ Noted.NoMemory → N.written notes.new ≡ N.written notes.old }
+    ensures note { result.noted ≡ Noted.Failed → Rose (N.faults notes.old) (N.faults notes.new) }
+{
+    let Ran {
+        outcome,
+        sink,
+        tasks,
+    } = run_words(alloc, words, files, sink);
+    let noted = write_note(notes, outcome);
+    Ended {
+        status: outcome.status(),
+        sink,
+        tasks,
+        noted,
+        outcome,
+    }
+}

@@ -1,0 +1,63 @@
+// The run that the words ask for, over its files.
+ghost use Rattle.std.specs.Prelude.{◌≡◌, ◌≢◌, ℕ, List, IfSome, None, Some, map};
+ghost use Rattle.saber_io.specs.Outside.{Rose, appended};
+ghost use Rattle.saber_words.specs.Commands.{AskedRun};
+ghost use Rattle.saber_cli.specs.Commands.{run_of};
+ghost use Rattle.saber_notes.specs.declared.outcome.Outcome.{Outcome};
+ghost use Rattle.saber_cli.specs.Outcomes.{IsFileFault, IsBeforeRun};
+ghost use Rattle.saber_cli.specs.Due.{names_of};
+ghost use Rattle.saber_cli.specs.Gives.{Answers};
+ghost use Rattle.saber_cli.specs.Leaves.{LeavesTold};
+ghost use Rattle.saber_cli.specs.Unread.{unread, EndsUnread};
+
+use crate::answer::Ran;
+use crate::commands::run_command;
+use saber_io::{Files, Sink};
+use saber_notes::Outcome;
+use saber_words::{Command, WordsFault, read_words};
+use std::alloc::Global;
+
+fn unread(fault: WordsFault) -> Outcome
+    ensures { result ≡ unread fault }
+{
+    match fault {
+        WordsFault::NoMemory => Outcome::NoMemory,
+        WordsFault::Usage => Outcome::Usage,
+    }
+}
+
+/// Reads the words, and does what they ask for.
+pub(crate) fn run_words<F: Files, K: Sink>(
+    alloc: Global,
+    words: &[&str],
+    files: &mut F,
+    sink: K,
+) -> Ran<K>
+    ensures written { (out : List ℕ) × (K.written result.sink ≡ appended (K.written sink) out)
+        × IfSome (F.told files.old) (λ t. Answers (map (λ word. word.now) words.now) t.contents result.outcome result.tasks out) }
+    ensures unread { run_of (map (λ word. word.now) words.now) ≡ None → EndsUnread result.outcome result.tasks files.old files.new sink result.sink }
+    ensures usage { result.outcome ≡ Outcome.Usage → run_of (map (λ word. word.now) words.now) ≡ None }
+    ensures early { IsBeforeRun result.outcome → (result.tasks ≡ 0) × (result.sink ≡ sink) }
+    ensures leaves { (r : AskedRun) → run_of (map (λ word. word.now) words.now) ≡ Some r → LeavesTold (names_of r) result.outcome (F.told files.old) (F.told files.new) }
+    ensures cause { IsFileFault result.outcome → Rose (F.faults files.old) (F.faults files.new) }
+    ensures write { result.outcome ≡ Outcome.WriteFault → Rose (K.faults sink) (K.faults result.sink) }
+{
+    let command = match read_words(alloc, words) {
+        Ok(command) => command,
+        Err(fault) => {
+            return Ran {
+                outcome: unread(fault),
+                sink,
+                tasks: 0,
+            };
+        }
+    };
+    match &command {
+        Command::Run(run) => run_command(alloc, run, files, sink),
+        Command::Check(_) => Ran {
+            outcome: Outcome::Usage,
+            sink,
+            tasks: 0,
+        },
+    }
+}
