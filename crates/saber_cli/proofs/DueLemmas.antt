@@ -11,7 +11,7 @@ use Rattle.saber_query.specs.declared.fault.Cause.{Cause}
 use Rattle.saber_check.specs.Texts.{HasPlan, HasFault}
 use Rattle.saber_check.proofs.FrontLaws.{text_fault_or_plan, text_has_one_plan}
 use Rattle.saber_check.proofs.FrontLaws.{plan_of_text, front_has_plan, front_has_fault}
-use Rattle.saber_words.specs.Commands.{AskedRun}
+use Rattle.saber_words.specs.Commands.{Asked, run, check, AskedRun}
 use Rattle.saber_notes.specs.declared.outcome.Outcome.{Outcome}
 use Rattle.saber_notes.specs.declared.outcome.Outcome.TheVariants.{Done, Usage, FileCount, QueryFault, LineRefused, OpenFault, ReadFault, WriteFault, NoMemory}
 use Rattle.saber_cli.specs.Sources.{task_size}
@@ -20,9 +20,9 @@ use Rattle.saber_cli.specs.Counted.{can_run}
 use Rattle.saber_cli.specs.Texts.{BeginsFile}
 use Rattle.saber_cli.specs.Assembles.{Assembles}
 use Rattle.saber_cli.specs.Planned.{CantRun}
-use Rattle.saber_cli.specs.Due.{Contents, Due, usage, missing, faulty, unlike, runs, IsDueFor, HasRun}
+use Rattle.saber_cli.specs.Due.{Contents, Due, usage, missing, faulty, unlike, shows, runs, IsDueFor, HasRun}
 use Rattle.saber_cli.specs.Causes.{Allows}
-use Rattle.saber_cli.specs.Puts.{PutsOut}
+use Rattle.saber_cli.specs.Puts.{PutsOut, no_text}
 
 -- ---- nothing went out
 
@@ -49,20 +49,24 @@ run_fits : (files : Contents) (r : AskedRun) (q : Tree) → HasRun files r q →
 run_fits files r q h = checked_fits q (plan_of_text h.text q h.plan)
 
 -- where an early outcome comes, nothing went out, whatever is due
-pub early_puts : (files : Contents) (c : AskedRun) (o : Outcome) (d : Due) → IsEarly o → IsDueFor files c d → PutsOut d o 0 []
+pub early_puts : (files : Contents) (c : Asked) (o : Outcome) (d : Due) → IsEarly o → IsDueFor files c d → PutsOut d o 0 []
 early_puts files c o usage h d = (refl, refl)
 early_puts files c o missing h d = (refl, refl)
 early_puts files c o (faulty b k) h d = (refl, refl)
 early_puts files c o (unlike s g) h d = (refl, refl)
-early_puts files r o (runs q read) h d = nothing_assembled q read.rows o (run_fits files r q d.1) h
+early_puts files c o (shows out) h d = (refl, no_text (λ e. subst IsEarly e h) refl)
+early_puts files (run r) o (runs q read) h d = nothing_assembled q read.rows o (run_fits files r q d.1) h
+early_puts files (check r) o (runs q read) h d = absurd d
 
 -- ---- a fault of a file, and want of memory
 
-pub lacks_allowed : (files : Contents) (c : AskedRun) (o : Outcome) (d : Due) → IsFileFault o ⊎ (o ≡ NoMemory) → IsDueFor files c d → Allows d o
+pub lacks_allowed : (files : Contents) (c : Asked) (o : Outcome) (d : Due) → IsFileFault o ⊎ (o ≡ NoMemory) → IsDueFor files c d → Allows d o
 lacks_allowed files c o usage h d = absurd d
 lacks_allowed files c o missing h d = h
 lacks_allowed files c o (faulty b k) h d = inr h
 lacks_allowed files c o (unlike s g) h d = inr h
+lacks_allowed files c o (shows out) (inl f) d = inr (inl f)
+lacks_allowed files c o (shows out) (inr m) d = inr (inr (inr m))
 lacks_allowed files c o (runs q read) (inl f) d = inr (inl f)
 lacks_allowed files c o (runs q read) (inr m) d = inr (inr (inr m))
 

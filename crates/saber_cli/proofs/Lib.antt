@@ -7,4 +7,5 @@ pub mod PlannedLemmas
 pub mod LeavesLemmas
 pub mod DueLemmas
 pub mod RunLemmas
+pub mod ShowLemmas
 pub mod WordLemmas

@@ -1,14 +1,13 @@
 -- From what is due for a command to what is due for the words.
 use Rattle.std.proofs.Common.{◌≡◌, inl, inr, ℕ, List, [], Some, None, refl, sym, ◌∙◌, subst}
 use Rattle.saber_plan.specs.Rows.{Read}
-use Rattle.saber_words.specs.Commands.{AskedRun}
-use Rattle.saber_cli.specs.Commands.{run_of}
+use Rattle.saber_words.specs.Commands.{Asked, command_of}
 use Rattle.saber_words.specs.declared.commands.WordsFault.{WordsFault}
 use Rattle.saber_words.specs.declared.commands.WordsFault.TheVariants as fault
 use Rattle.saber_notes.specs.declared.outcome.Outcome.{Outcome}
 use Rattle.saber_notes.specs.declared.outcome.Outcome.TheVariants.{Done, Usage, FileCount, QueryFault, LineRefused, OpenFault, ReadFault, WriteFault, NoMemory}
-use Rattle.saber_cli.specs.Due.{Contents, Due, IsDueFor, IsDue, no_run, by_run}
-use Rattle.saber_cli.specs.Causes.{HasCause, Allows, Ends}
+use Rattle.saber_cli.specs.Due.{Contents, Due, IsDueFor, IsDue, no_command, by_command}
+use Rattle.saber_cli.specs.Causes.{HasCause, Allows, Ends, ShowsText}
 use Rattle.saber_cli.specs.Puts.{PutsOut}
 use Rattle.saber_cli.specs.Gives.{Gives, Answers}
 use Rattle.saber_cli.specs.Unread.{unread}
@@ -19,54 +18,59 @@ use Rattle.saber_cli.proofs.DueLemmas.{lacks_allowed, early_puts}
 more_ends : (p q : Due → Type 0) (end : Read → Type 0) → ((d : Due) → p d → q d) → Ends p end → Ends q end
 more_ends p q end f e = record { plan = e.plan; read = e.read; is_due = f _ e.is_due; ends = e.ends }
 
+more_shows : (p q : Due → Type 0) → ((d : Due) → p d → q d) → ShowsText p → ShowsText q
+more_shows p q f s = record { out = s.out; is_due = f _ s.is_due }
+
 -- what is due more widely is a cause too
 more_cause : (p q : Due → Type 0) (o : Outcome) → ((d : Due) → p d → q d) → HasCause p o → HasCause q o
-more_cause p q Done f e = more_ends p q _ f e
+more_cause p q Done f (inl e) = inl (more_ends p q _ f e)
+more_cause p q Done f (inr s) = inr (more_shows p q f s)
 more_cause p q Usage f h = f _ h
 more_cause p q (FileCount s g) f h = f _ h
 more_cause p q (QueryFault b c) f h = f _ h
 more_cause p q (LineRefused s n c) f h = more_ends p q _ f h
 more_cause p q (OpenFault file) f h = tt
 more_cause p q (ReadFault file) f h = tt
-more_cause p q WriteFault f e = more_ends p q _ f e
+more_cause p q WriteFault f (inl e) = inl (more_ends p q _ f e)
+more_cause p q WriteFault f (inr s) = inr (more_shows p q f s)
 more_cause p q NoMemory f h = tt
 
 -- ---- words that are a command
 
 -- the words have one command
-one_due : (P : Due → Type 0) (ws : List (List ℕ)) (files : Contents) (c : AskedRun) (d : Due) → run_of ws ≡ Some c → ((e : Due) → IsDueFor files c e → P e) → IsDue ws files d → P d
-one_due P ws files c d e f (no_run n u) = let clash : Some c ≡ None = sym e ∙ n in cc
-one_due P ws files c d e f (by_run b k h) = let same_command : Some b ≡ Some c = sym k ∙ e in let same : b ≡ c = cc in f d (subst (λ a. IsDueFor files a d) same h)
+one_due : (P : Due → Type 0) (ws : List (List ℕ)) (files : Contents) (c : Asked) (d : Due) → command_of ws ≡ Some c → ((e : Due) → IsDueFor files c e → P e) → IsDue ws files d → P d
+one_due P ws files c d e f (no_command n u) = let clash : Some c ≡ None = sym e ∙ n in cc
+one_due P ws files c d e f (by_command b k h) = let same_command : Some b ≡ Some c = sym k ∙ e in let same : b ≡ c = cc in f d (subst (λ a. IsDueFor files a d) same h)
 
-pub answers_of : (ws : List (List ℕ)) (files : Contents) (c : AskedRun) (o : Outcome) (tasks : ℕ) (out : List ℕ) → run_of ws ≡ Some c → Gives files c o tasks out → Answers ws files o tasks out
+pub answers_of : (ws : List (List ℕ)) (files : Contents) (c : Asked) (o : Outcome) (tasks : ℕ) (out : List ℕ) → command_of ws ≡ Some c → Gives files c o tasks out → Answers ws files o tasks out
 answers_of ws files c o tasks out e g = record {
-  cause = more_cause (IsDueFor files c) (IsDue ws files) o (λ d h. by_run c e h) g.cause;
+  cause = more_cause (IsDueFor files c) (IsDue ws files) o (λ d h. by_command c e h) g.cause;
   allows = λ d h. one_due (λ x. Allows x o) ws files c d e g.allows h;
   puts = λ d h. one_due (λ x. PutsOut x o tasks out) ws files c d e g.puts h;
 }
 
 -- ---- words that are none, or not read
 
-usage_allowed : (ws : List (List ℕ)) (files : Contents) (d : Due) → run_of ws ≡ None → IsDue ws files d → Allows d Usage
-usage_allowed ws files d e (no_run n u) = subst (λ x. Allows x Usage) (sym u) (inl refl)
-usage_allowed ws files d e (by_run c k h) = let clash : Some c ≡ None = sym k ∙ e in cc
+usage_allowed : (ws : List (List ℕ)) (files : Contents) (d : Due) → command_of ws ≡ None → IsDue ws files d → Allows d Usage
+usage_allowed ws files d e (no_command n u) = subst (λ x. Allows x Usage) (sym u) (inl refl)
+usage_allowed ws files d e (by_command c k h) = let clash : Some c ≡ None = sym k ∙ e in cc
 
-usage_puts : (ws : List (List ℕ)) (files : Contents) (d : Due) → run_of ws ≡ None → IsDue ws files d → PutsOut d Usage 0 []
-usage_puts ws files d e (no_run n u) = subst (λ x. PutsOut x Usage 0 []) (sym u) (refl, refl)
-usage_puts ws files d e (by_run c k h) = let clash : Some c ≡ None = sym k ∙ e in cc
+usage_puts : (ws : List (List ℕ)) (files : Contents) (d : Due) → command_of ws ≡ None → IsDue ws files d → PutsOut d Usage 0 []
+usage_puts ws files d e (no_command n u) = subst (λ x. PutsOut x Usage 0 []) (sym u) (refl, refl)
+usage_puts ws files d e (by_command c k h) = let clash : Some c ≡ None = sym k ∙ e in cc
 
-pub usage_answers : (ws : List (List ℕ)) (files : Contents) → run_of ws ≡ None → Answers ws files Usage 0 []
-usage_answers ws files e = record { cause = no_run e refl; allows = λ d h. usage_allowed ws files d e h; puts = λ d h. usage_puts ws files d e h }
+usage_answers : (ws : List (List ℕ)) (files : Contents) → command_of ws ≡ None → Answers ws files Usage 0 []
+usage_answers ws files e = record { cause = no_command e refl; allows = λ d h. usage_allowed ws files d e h; puts = λ d h. usage_puts ws files d e h }
 
 memory_allowed : (ws : List (List ℕ)) (files : Contents) (d : Due) → IsDue ws files d → Allows d NoMemory
-memory_allowed ws files d (no_run n u) = subst (λ x. Allows x NoMemory) (sym u) (inr refl)
-memory_allowed ws files d (by_run c k h) = lacks_allowed files c NoMemory d (inr refl) h
+memory_allowed ws files d (no_command n u) = subst (λ x. Allows x NoMemory) (sym u) (inr refl)
+memory_allowed ws files d (by_command c k h) = lacks_allowed files c NoMemory d (inr refl) h
 
 memory_puts : (ws : List (List ℕ)) (files : Contents) (d : Due) → IsDue ws files d → PutsOut d NoMemory 0 []
-memory_puts ws files d (no_run n u) = subst (λ x. PutsOut x NoMemory 0 []) (sym u) (refl, refl)
-memory_puts ws files d (by_run c k h) = early_puts files c NoMemory d tt h
+memory_puts ws files d (no_command n u) = subst (λ x. PutsOut x NoMemory 0 []) (sym u) (refl, refl)
+memory_puts ws files d (by_command c k h) = early_puts files c NoMemory d tt h
 
 -- words of which no command was read
-pub unread_answers : (ws : List (List ℕ)) (files : Contents) (f : WordsFault) → (f ≡ fault.Usage → run_of ws ≡ None) → Answers ws files (unread f) 0 []
+pub unread_answers : (ws : List (List ℕ)) (files : Contents) (f : WordsFault) → (f ≡ fault.Usage → command_of ws ≡ None) → Answers ws files (unread f) 0 []
 unread_answers ws files fault.NoMemory h = record { cause = tt; allows = memory_allowed ws files; puts = memory_puts ws files }
 unread_answers ws files fault.Usage h = usage_answers ws files (h refl)

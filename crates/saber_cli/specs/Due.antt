@@ -1,14 +1,19 @@
 -- What is due for some words and the contents of files, with no fault and memory enough.
-use Rattle.std.specs.Prelude.{◌≡◌, ◌≢◌, ℕ, List, [], ◌∷◌, length, Option, Some, None, option_map, option_and_then, option_to_list, true, false}
+use Rattle.std.specs.Prelude.{◌≡◌, ◌≢◌, ℕ, List, [], ◌∷◌, ◌++◌, length, Option, Some, None, option_map, option_and_then, option_to_list, true, false}
 use Rattle.saber_plan.specs.Rows.{Read}
 use Rattle.saber_plan.specs.Inputs.{input}
 use Rattle.saber_plan.specs.Trees.{Tree}
 use Rattle.saber_io.specs.Outside.{content_in}
 use Rattle.saber_query.specs.declared.fault.Cause.{Cause}
 use Rattle.saber_query.specs.declared.fault.Cause.TheVariants.{Shape}
+use Rattle.saber_query.specs.Parsed.{Parsed, IsParsed}
+use Rattle.saber_query.specs.Trees.{query_of}
+use Rattle.saber_query.specs.Words.{words}
+use Rattle.saber_query.specs.Means.{MeansTree}
+use Rattle.saber_query.specs.Spelling.{spelled}
+use Rattle.saber_check.specs.Outcome.{IsFaultless}
 use Rattle.saber_check.specs.Texts.{HasPlan, HasFault}
-use Rattle.saber_words.specs.Commands.{AskedRun}
-use Rattle.saber_cli.specs.Commands.{run_of}
+use Rattle.saber_words.specs.Commands.{Asked, run, check, AskedRun, command_of}
 use Rattle.saber_cli.specs.Counted.{can_run}
 use Rattle.saber_cli.specs.Sources.{sources}
 
@@ -16,13 +21,19 @@ use Rattle.saber_cli.specs.Sources.{sources}
 abbrev pub Contents : Type 0
 Contents = List (List ℕ × List ℕ)
 
+-- the query file of a command
+abbrev pub query_name : Asked → List ℕ
+query_name (run r) = r.query
+query_name (check c) = c.query
+
 -- the row files of a run, in the order in which they are opened
 abbrev pub row_names : AskedRun → List (List ℕ)
 row_names r = r.left ∷ option_to_list r.right
 
--- all files of a run, in that order
-abbrev pub names_of : AskedRun → List (List ℕ)
-names_of r = r.query ∷ row_names r
+-- all files of a command, in that order
+abbrev pub names_of : Asked → List (List ℕ)
+names_of (run r) = r.query ∷ row_names r
+names_of (check c) = c.query ∷ []
 
 -- what the files with these names have, if each is there
 abbrev pub contents_of : Contents → List (List ℕ) → Option (List (List ℕ))
@@ -38,6 +49,8 @@ pub data Due : Type 0 where
   faulty : ℕ → Cause → Due
   -- the query names so many streams, and the command so many row files
   unlike : ℕ → ℕ → Due
+  -- a query was checked, and this is its text
+  shows : List ℕ → Due
   -- the plan is run over these rows
   runs : Tree → Read → Due
 
@@ -52,25 +65,37 @@ pub record HasRun (files : Contents) (asked : AskedRun) (q : Tree) : Type 0 wher
 abbrev pub IsLike : AskedRun → Tree → Type 0
 IsLike asked q = length q.streams ≡ length (row_names asked)
 
--- the text has the fault; or its plan can't be run yet, which is a fault of shape at byte 0
-pub data IsFaulty (text : List ℕ) (byte : ℕ) (cause : Cause) : Type 0 where
-  by_text : HasFault text byte cause → IsFaulty text byte cause
-  by_shape : (q : Tree) → HasPlan text q → can_run q ≡ false → byte ≡ 0 → cause ≡ Shape → IsFaulty text byte cause
+-- the text has the fault; or the command is a run, and the text's plan can't be run yet, which is a fault of shape at byte 0
+pub data IsFaulty (command : Asked) (text : List ℕ) (byte : ℕ) (cause : Cause) : Type 0 where
+  by_text : HasFault text byte cause → IsFaulty command text byte cause
+  by_shape : (asked : AskedRun) (q : Tree) → command ≡ run asked → HasPlan text q → can_run q ≡ false → byte ≡ 0 → cause ≡ Shape → IsFaulty command text byte cause
 
--- a file isn't there: the query's, or one of the row files
-pub data IsMissing (files : Contents) (r : AskedRun) : Type 0 where
-  no_query : content_in files r.query ≡ None → IsMissing files r
-  no_rows : (q : Tree) → HasRun files r q → IsLike r q → contents_of files (row_names r) ≡ None → IsMissing files r
+-- a file isn't there: the query's, or one of the row files of a run
+pub data IsMissing (files : Contents) (command : Asked) : Type 0 where
+  no_query : content_in files (query_name command) ≡ None → IsMissing files command
+  no_rows : (asked : AskedRun) (q : Tree) → command ≡ run asked → HasRun files asked q → IsLike asked q → contents_of files (row_names asked) ≡ None → IsMissing files command
 
--- what is due for a run
-abbrev pub IsDueFor : Contents → AskedRun → Due → Type 0
-IsDueFor files r usage = ⊥
-IsDueFor files r missing = IsMissing files r
-IsDueFor files r (faulty byte cause) = (text : List ℕ) × (content_in files r.query ≡ Some text) × IsFaulty text byte cause
-IsDueFor files r (unlike streams given) = (q : Tree) × HasRun files r q × (length q.streams ≡ streams) × (length (row_names r) ≡ given) × (streams ≢ given)
-IsDueFor files r (runs q read) = (all : List (List ℕ)) × HasRun files r q × IsLike r q × (contents_of files (row_names r) ≡ Some all) × (read ≡ input (sources q all))
+-- the text means a query that passes its checks, and this is the query's own text, with a line feed
+pub record Shows (text out : List ℕ) : Type 0 where
+  pub query : Parsed
+  pub parsed : IsParsed query.select query.starts
+  pub means : MeansTree text query
+  pub faultless : IsFaultless (query_of query.select)
+  pub out_is : out ≡ spelled (words (query_of query.select)) ++ 10 ∷ []
+
+-- what is due for a command
+abbrev pub IsDueFor : Contents → Asked → Due → Type 0
+IsDueFor files c usage = ⊥
+IsDueFor files c missing = IsMissing files c
+IsDueFor files c (faulty byte cause) = (text : List ℕ) × (content_in files (query_name c) ≡ Some text) × IsFaulty c text byte cause
+IsDueFor files (run r) (unlike streams given) = (q : Tree) × HasRun files r q × (length q.streams ≡ streams) × (length (row_names r) ≡ given) × (streams ≢ given)
+IsDueFor files (check r) (unlike streams given) = ⊥
+IsDueFor files (run r) (shows out) = ⊥
+IsDueFor files (check r) (shows out) = (text : List ℕ) × (content_in files r.query ≡ Some text) × Shows text out
+IsDueFor files (run r) (runs q read) = (all : List (List ℕ)) × HasRun files r q × IsLike r q × (contents_of files (row_names r) ≡ Some all) × (read ≡ input (sources q all))
+IsDueFor files (check r) (runs q read) = ⊥
 
 -- what is due for some words
 pub data IsDue (ws : List (List ℕ)) (files : Contents) (d : Due) : Type 0 where
-  no_run : run_of ws ≡ None → d ≡ usage → IsDue ws files d
-  by_run : (r : AskedRun) → run_of ws ≡ Some r → IsDueFor files r d → IsDue ws files d
+  no_command : command_of ws ≡ None → d ≡ usage → IsDue ws files d
+  by_command : (c : Asked) → command_of ws ≡ Some c → IsDueFor files c d → IsDue ws files d

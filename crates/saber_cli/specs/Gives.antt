@@ -1,16 +1,16 @@
--- What a run gives over files that tell their contents.
+-- What a command gives over files that tell their contents.
 use Rattle.std.specs.Prelude.{ℕ, List}
-use Rattle.saber_words.specs.Commands.{AskedRun}
+use Rattle.saber_words.specs.Commands.{Asked}
 use Rattle.saber_notes.specs.declared.outcome.Outcome.{Outcome}
 use Rattle.saber_cli.specs.Due.{Contents, Due, IsDueFor, IsDue}
 use Rattle.saber_cli.specs.Causes.{HasCause, Allows}
 use Rattle.saber_cli.specs.Puts.{PutsOut}
 
 -- the outcome has its cause, whatever is due allows it, and what is due goes out
-pub record Gives (files : Contents) (r : AskedRun) (o : Outcome) (tasks : ℕ) (out : List ℕ) : Type 0 where
-  pub cause : HasCause (IsDueFor files r) o
-  pub allows : (d : Due) → IsDueFor files r d → Allows d o
-  pub puts : (d : Due) → IsDueFor files r d → PutsOut d o tasks out
+pub record Gives (files : Contents) (c : Asked) (o : Outcome) (tasks : ℕ) (out : List ℕ) : Type 0 where
+  pub cause : HasCause (IsDueFor files c) o
+  pub allows : (d : Due) → IsDueFor files c d → Allows d o
+  pub puts : (d : Due) → IsDueFor files c d → PutsOut d o tasks out
 
 -- What some words give over files that tell their contents: the same, of what is due for the words.
 pub record Answers (words : List (List ℕ)) (files : Contents) (o : Outcome) (tasks : ℕ) (out : List ℕ) : Type 0 where

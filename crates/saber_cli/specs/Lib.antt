@@ -7,10 +7,10 @@ pub mod Answered
 pub mod Texts
 pub mod Uses
 pub mod Planned
-pub mod Commands
 pub mod Due
 pub mod Causes
 pub mod Puts
 pub mod Leaves
+pub mod Shown
 pub mod Gives
 pub mod Unread

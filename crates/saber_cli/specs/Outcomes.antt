@@ -49,6 +49,14 @@ IsNoEnd (ReadFault file) = Unit {0}
 IsNoEnd NoMemory = Unit {0}
 IsNoEnd _ = ⊥
 
+-- how the check of a text can end
+abbrev pub IsOfShow : Outcome → Type 0
+IsOfShow Done = Unit {0}
+IsOfShow (QueryFault byte cause) = Unit {0}
+IsOfShow WriteFault = Unit {0}
+IsOfShow NoMemory = Unit {0}
+IsOfShow _ = ⊥
+
 -- nothing is run, or nothing comes of it
 abbrev pub IsEarly : Outcome → Type 0
 IsEarly (FileCount streams given) = Unit {0}

@@ -37,3 +37,9 @@ IsPlanFault text _ = ⊥
 abbrev pub refusal : Fault → Outcome
 refusal fault.NoMemory = NoMemory
 refusal (fault.At byte cause) = QueryFault byte cause
+
+-- why a text is refused
+abbrev pub IsTextFault : List ℕ → Outcome → Type 0
+IsTextFault text (QueryFault byte cause) = HasFault text byte cause
+IsTextFault text NoMemory = Unit {0}
+IsTextFault text _ = ⊥

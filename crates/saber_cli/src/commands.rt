@@ -1,7 +1,8 @@
-// A run over its files.
+// Each command over its files.
 ghost use Rattle.std.specs.Prelude.{◌≡◌, ◌≢◌, ℕ, List, IfSome};
 ghost use Rattle.saber_io.specs.Outside.{Rose, appended};
-ghost use Rattle.saber_cli.specs.Commands.{asked_run};
+ghost use Rattle.saber_words.specs.declared.commands.Command.{Command};
+ghost use Rattle.saber_words.specs.Commands.{asked};
 ghost use Rattle.saber_notes.specs.declared.outcome.Outcome.{Outcome};
 ghost use Rattle.saber_cli.specs.Outcomes.{IsFileFault, IsBeforeRun};
 ghost use Rattle.saber_cli.specs.Due.{names_of};
@@ -12,9 +13,10 @@ use crate::answer::Ran;
 use crate::left::run_left;
 use crate::plans::planned;
 use crate::queries::query_text;
+use crate::shows::put_text;
 use saber_io::{Files, Sink};
 use saber_notes::Outcome;
-use saber_words::Run;
+use saber_words::{Check, Run};
 use std::alloc::Global;
 
 /// `run`: reads and checks the query, and answers it over its row file.
@@ -25,10 +27,10 @@ pub(crate) fn run_command<F: Files, K: Sink>(
     sink: K,
 ) -> Ran<K>
     ensures written { (out : List ℕ) × (K.written result.sink ≡ appended (K.written sink) out)
-        × IfSome (F.told files.old) (λ t. Gives t.contents (asked_run command.now) result.outcome result.tasks out) }
+        × IfSome (F.told files.old) (λ t. Gives t.contents (asked (Command.Run command.now)) result.outcome result.tasks out) }
     ensures early { IsBeforeRun result.outcome → (result.tasks ≡ 0) × (result.sink ≡ sink) }
     ensures kinds { result.outcome ≢ Outcome.Usage }
-    ensures leaves { LeavesTold (names_of (asked_run command.now)) result.outcome (F.told files.old) (F.told files.new) }
+    ensures leaves { LeavesTold (names_of (asked (Command.Run command.now))) result.outcome (F.told files.old) (F.told files.new) }
     ensures cause { IsFileFault result.outcome → Rose (F.faults files.old) (F.faults files.new) }
     ensures write { result.outcome ≡ Outcome.WriteFault → Rose (K.faults sink) (K.faults result.sink) }
 {
@@ -59,6 +61,31 @@ pub(crate) fn run_command<F: Files, K: Sink>(
                 streams: 1,
                 files: 2,
             },
+            sink,
+            tasks: 0,
+        },
+    }
+}
+
+/// `check`: reads and checks the query, and writes its text.
+pub(crate) fn check_command<F: Files, K: Sink>(
+    alloc: Global,
+    command: &Check<'_>,
+    files: &mut F,
+    sink: K,
+) -> Ran<K>
+    ensures written { (out : List ℕ) × (K.written result.sink ≡ appended (K.written sink) out)
+        × IfSome (F.told files.old) (λ t. Gives t.contents (asked (Command.Check command.now)) result.outcome result.tasks out) }
+    ensures early { IsBeforeRun result.outcome → (result.tasks ≡ 0) × (result.sink ≡ sink) }
+    ensures kinds { result.outcome ≢ Outcome.Usage }
+    ensures leaves { LeavesTold (names_of (asked (Command.Check command.now))) result.outcome (F.told files.old) (F.told files.new) }
+    ensures cause { IsFileFault result.outcome → Rose (F.faults files.old) (F.faults files.new) }
+    ensures write { result.outcome ≡ Outcome.WriteFault → Rose (K.faults sink) (K.faults result.sink) }
+{
+    match query_text(alloc, files, command.query) {
+        Ok(text) => put_text(alloc, &text, sink),
+        Err(outcome) => Ran {
+            outcome,
             sink,
             tasks: 0,
         },

@@ -9,6 +9,7 @@ mod left;
 mod plans;
 mod queries;
 mod rows;
+mod shows;
 mod texts;
 mod top;
 mod words;

@@ -28,16 +28,7 @@ fn file(alloc: Global, name: &str, text: &str, fails: Vec<u64>) -> Result<MemFil
     })
 }
 
-fn call(
-    alloc: Global,
-    words: &[&str],
-    query: &str,
-    rows: MemFile,
-    sink: MemSink,
-) -> Result<Seen, Fail> {
-    let mut listed = Vec::new(alloc);
-    listed.push(file(alloc, "q", query, Vec::new(alloc))?)?;
-    listed.push(rows)?;
+fn call(alloc: Global, words: &[&str], listed: Vec<MemFile>, sink: MemSink) -> Result<Seen, Fail> {
     let mut files = MemFiles::new(alloc, listed, Vec::new(alloc));
     let mut notes = MemSink::new(alloc, Vec::new(alloc));
     let Ended {
@@ -55,16 +46,32 @@ fn call(
     })
 }
 
+// A query file and a row file.
+fn two(alloc: Global, query: &str, rows: MemFile) -> Result<Vec<MemFile>, Fail> {
+    let mut listed = Vec::new(alloc);
+    listed.push(file(alloc, "q", query, Vec::new(alloc))?)?;
+    listed.push(rows)?;
+    Ok(listed)
+}
+
 // A run of a query over rows that can be read, into a sink that takes all.
 fn run(alloc: Global, words: &[&str], query: &str, rows: &str) -> Result<Seen, Fail> {
     let left = file(alloc, "l", rows, Vec::new(alloc))?;
-    call(
-        alloc,
-        words,
-        query,
-        left,
-        MemSink::new(alloc, Vec::new(alloc)),
-    )
+    let listed = two(alloc, query, left)?;
+    call(alloc, words, listed, MemSink::new(alloc, Vec::new(alloc)))
+}
+
+// A check of the text of a query, into a sink that takes all.
+fn check(alloc: Global, bytes: Vec<u8>) -> Result<Seen, Fail> {
+    let mut listed = Vec::new(alloc);
+    listed.push(MemFile {
+        name: String::from_str(alloc, "q")?,
+        bytes,
+        cuts: Vec::new(alloc),
+        fails: Vec::new(alloc),
+    })?;
+    let words = ["saber", "check", "q"];
+    call(alloc, &words, listed, MemSink::new(alloc, Vec::new(alloc)))
 }
 
 #[test]
@@ -153,11 +160,80 @@ fn before_a_run(rt: HostRuntime) -> Result<(), Fail> {
 }
 
 #[test]
+fn checks(rt: HostRuntime) -> Result<(), Fail> {
+    let alloc = rt.alloc();
+    for (query, status, out, note) in [
+        (
+            "stream S(t,g,v);select v from S",
+            0u8,
+            "STREAM S ( t , g , v ) ; SELECT v FROM S\n",
+            "",
+        ),
+        (
+            "STREAM S(t,g,v); SELECT w FROM S",
+            3,
+            "",
+            "saber: query byte 24: unknown column\n",
+        ),
+        (
+            "STREAM S(t,g,v); SELECT v FROM S S",
+            3,
+            "",
+            "saber: query byte 33: syntax\n",
+        ),
+        (
+            "STREAM S(t,g,v); SELECT v FROM S WHERE v ! 1",
+            3,
+            "",
+            "saber: query byte 41: bad byte\n",
+        ),
+        (
+            "STREAM S(t,g,v); SELECT COUNT(*) FROM S [RANGE 1025 SLIDE 1]",
+            3,
+            "",
+            "saber: query byte 47: overlap\n",
+        ),
+        (
+            "STREAM S(t,g,v); SELECT SUM(v*v) FROM S [ROWS 2 SLIDE 2]",
+            3,
+            "",
+            "saber: query byte 24: sum too wide\n",
+        ),
+        (
+            "STREAM S(t,g,v); SELECT 9223372036854775808 FROM S",
+            3,
+            "",
+            "saber: query byte 24: number range\n",
+        ),
+    ] {
+        let seen = check(alloc, query.as_bytes().to_vec(alloc)?)?;
+        assert_eq!(rt; seen.status, status);
+        assert_eq!(rt; seen.out.as_slice(), out.as_bytes());
+        assert_eq!(rt; seen.note.as_slice(), note.as_bytes());
+    }
+    Ok(())
+}
+
+#[test]
+fn long_queries(rt: HostRuntime) -> Result<(), Fail> {
+    let alloc = rt.alloc();
+    for (spaces, note) in [
+        (65_537usize, "saber: query byte 65536: too long\n"),
+        (65_536, "saber: query byte 65536: syntax\n"),
+    ] {
+        let seen = check(alloc, vec![in alloc; b' '; spaces]?)?;
+        assert_eq!(rt; seen.status, 3);
+        assert_eq!(rt; seen.note.as_slice(), note.as_bytes());
+    }
+    Ok(())
+}
+
+#[test]
 fn a_write_fails(rt: HostRuntime) -> Result<(), Fail> {
     let alloc = rt.alloc();
     let left = file(alloc, "l", FIVE, Vec::new(alloc))?;
     let sink = MemSink::new(alloc, vec![in alloc; (1, 5)]?);
-    let seen = call(alloc, &RUN, COUNT, left, sink)?;
+    let seen = call(alloc, &RUN, two(alloc, COUNT, left)?, sink)?;
     assert_eq!(rt; seen.status, 6);
     assert_eq!(rt; seen.tasks, 0);
     assert_eq!(rt; seen.out.as_slice(), b"0,2\n1".as_slice());
@@ -170,7 +246,7 @@ fn a_read_fails(rt: HostRuntime) -> Result<(), Fail> {
     let alloc = rt.alloc();
     let left = file(alloc, "l", FIVE, vec![in alloc; 1]?)?;
     let sink = MemSink::new(alloc, Vec::new(alloc));
-    let seen = call(alloc, &RUN, COUNT, left, sink)?;
+    let seen = call(alloc, &RUN, two(alloc, COUNT, left)?, sink)?;
     assert_eq!(rt; seen.status, 5);
     assert_eq!(rt; seen.tasks, 0);
     assert_eq!(rt; seen.out.as_slice(), [].as_slice());

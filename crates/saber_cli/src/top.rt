@@ -1,8 +1,7 @@
 // The top call.
 ghost use Rattle.std.specs.Prelude.{◌≡◌, ◌≢◌, ◌≤◌, ℕ, List, IfSome, None, Some, map};
 ghost use Rattle.saber_io.specs.Outside.{Rose, appended, AppendsPrefix};
-ghost use Rattle.saber_words.specs.Commands.{AskedRun};
-ghost use Rattle.saber_cli.specs.Commands.{run_of};
+ghost use Rattle.saber_words.specs.Commands.{Asked, command_of};
 ghost use Rattle.saber_notes.specs.Notes.{status_of, note_of};
 ghost use Rattle.saber_notes.specs.declared.outcome.Outcome.{Outcome};
 ghost use Rattle.saber_notes.specs.declared.note.Noted.{Noted};
@@ -54,17 +53,17 @@ pub fn saber<F: Files, K: Sink + Send, N: Sink, G: Gate + Sync>(
     ensures before { IsBeforeRun result.outcome → (result.tasks ≡ 0) × (result.sink ≡ sink) }
 
     // Words that are no command, whether the files tell or not.
-    ensures unread { run_of (map (λ word. word.now) words.now) ≡ None →
+    ensures unread { command_of (map (λ word. word.now) words.now) ≡ None →
         EndsUnread result.outcome result.tasks files.old files.new sink result.sink }
-    ensures usage { result.outcome ≡ Outcome.Usage → run_of (map (λ word. word.now) words.now) ≡ None }
+    ensures usage { result.outcome ≡ Outcome.Usage → command_of (map (λ word. word.now) words.now) ≡ None }
 
     // A fault of the outside is real.
     ensures files { IsFileFault result.outcome → Rose (F.faults files.old) (F.faults files.new) }
     ensures sink { result.outcome ≡ Outcome.WriteFault → Rose (K.faults sink) (K.faults result.sink) }
 
     // Which files were asked for and given back.
-    ensures leaves { (r : AskedRun) → run_of (map (λ word. word.now) words.now) ≡ Some r →
-        LeavesTold (names_of r) result.outcome (F.told files.old) (F.told files.new) }
+    ensures leaves { (c : Asked) → command_of (map (λ word. word.now) words.now) ≡ Some c →
+        LeavesTold (names_of c) result.outcome (F.told files.old) (F.told files.new) }
 
     // The note.
     ensures nothing { result.outcome ≡ Outcome.Done → (result.noted ≡ Noted.Nothing) × (notes.new ≡ notes.old) }

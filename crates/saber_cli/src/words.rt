@@ -1,8 +1,7 @@
-// The run that the words ask for, over its files.
+// The command that the words are, over its files.
 ghost use Rattle.std.specs.Prelude.{◌≡◌, ◌≢◌, ℕ, List, IfSome, None, Some, map};
 ghost use Rattle.saber_io.specs.Outside.{Rose, appended};
-ghost use Rattle.saber_words.specs.Commands.{AskedRun};
-ghost use Rattle.saber_cli.specs.Commands.{run_of};
+ghost use Rattle.saber_words.specs.Commands.{Asked, command_of};
 ghost use Rattle.saber_notes.specs.declared.outcome.Outcome.{Outcome};
 ghost use Rattle.saber_cli.specs.Outcomes.{IsFileFault, IsBeforeRun};
 ghost use Rattle.saber_cli.specs.Due.{names_of};
@@ -11,7 +10,7 @@ ghost use Rattle.saber_cli.specs.Leaves.{LeavesTold};
 ghost use Rattle.saber_cli.specs.Unread.{unread, EndsUnread};
 
 use crate::answer::Ran;
-use crate::commands::run_command;
+use crate::commands::{check_command, run_command};
 use saber_io::{Files, Sink};
 use saber_notes::Outcome;
 use saber_words::{Command, WordsFault, read_words};
@@ -35,10 +34,10 @@ pub(crate) fn run_words<F: Files, K: Sink>(
 ) -> Ran<K>
     ensures written { (out : List ℕ) × (K.written result.sink ≡ appended (K.written sink) out)
         × IfSome (F.told files.old) (λ t. Answers (map (λ word. word.now) words.now) t.contents result.outcome result.tasks out) }
-    ensures unread { run_of (map (λ word. word.now) words.now) ≡ None → EndsUnread result.outcome result.tasks files.old files.new sink result.sink }
-    ensures usage { result.outcome ≡ Outcome.Usage → run_of (map (λ word. word.now) words.now) ≡ None }
+    ensures unread { command_of (map (λ word. word.now) words.now) ≡ None → EndsUnread result.outcome result.tasks files.old files.new sink result.sink }
+    ensures usage { result.outcome ≡ Outcome.Usage → command_of (map (λ word. word.now) words.now) ≡ None }
     ensures early { IsBeforeRun result.outcome → (result.tasks ≡ 0) × (result.sink ≡ sink) }
-    ensures leaves { (r : AskedRun) → run_of (map (λ word. word.now) words.now) ≡ Some r → LeavesTold (names_of r) result.outcome (F.told files.old) (F.told files.new) }
+    ensures leaves { (c : Asked) → command_of (map (λ word. word.now) words.now) ≡ Some c → LeavesTold (names_of c) result.outcome (F.told files.old) (F.told files.new) }
     ensures cause { IsFileFault result.outcome → Rose (F.faults files.old) (F.faults files.new) }
     ensures write { result.outcome ≡ Outcome.WriteFault → Rose (K.faults sink) (K.faults result.sink) }
 {
@@ -54,10 +53,6 @@ pub(crate) fn run_words<F: Files, K: Sink>(
     };
     match &command {
         Command::Run(run) => run_command(alloc, run, files, sink),
-        Command::Check(_) => Ran {
-            outcome: Outcome::Usage,
-            sink,
-            tasks: 0,
-        },
+        Command::Check(check) => check_command(alloc, check, files, sink),
     }
 }

@@ -1,13 +1,12 @@
-use Rattle.std.proofs.Common.{◌≡◌, ℕ, List, [], Some, None, Err, map, Bor, sym, ◌∙◌, ap, subst}
+use Rattle.std.proofs.Common.{◌≡◌, ℕ, List, [], Some, Err, map, Bor, sym, ◌∙◌, ap, subst}
 use Rattle.saber_io.specs.Outside.{Told}
 use Rattle.saber_words.specs.declared.commands.Command.{Command}
-use Rattle.saber_words.specs.Commands.{asked}
-use Rattle.saber_notes.specs.declared.outcome.Outcome.TheVariants.{Usage}
-use Rattle.saber_cli.specs.Commands.{asked_run, if_run, run_of}
+use Rattle.saber_words.specs.declared.commands.Command.TheVariants.{Run, Check}
+use Rattle.saber_words.specs.Commands.{asked, command_of}
 use Rattle.saber_cli.specs.Gives.{Gives, Answers}
 use Rattle.saber_cli.proofs.AnsweredLemmas.{appended_none, for_any}
 use Rattle.saber_cli.proofs.RunLemmas.{some_map}
-use Rattle.saber_cli.proofs.WordLemmas.{answers_of, usage_answers, unread_answers}
+use Rattle.saber_cli.proofs.WordLemmas.{answers_of, unread_answers}
 use Rattle.saber_cli.proofs.words.run_words.Goals as goal
 
 pub returns-in-Err-clause-written : goal.returns-in-Err-clause-written
@@ -16,22 +15,27 @@ returns-in-Err-clause-written g c =
       [],
       appended_none _,
       for_any (λ (t : Told). Answers ws t.contents c.unread.result 0 []) _
-          (λ t. subst (λ o. Answers ws t.contents o 0 []) (sym c.unread.ensures) (unread_answers ws t.contents c.in-Err.fault (λ e. ap if_run (c.in-Err.ensures.usage (ap Err e))))),
+          (λ t. subst (λ o. Answers ws t.contents o 0 []) (sym c.unread.ensures) (unread_answers ws t.contents c.in-Err.fault (λ e. c.in-Err.ensures.usage (ap Err e)))),
     )
 
 pub returns-in-Run-clause-written : goal.returns-in-Run-clause-written
 returns-in-Run-clause-written g c =
     let ws : List (List ℕ) = map (λ (word : Bor (List ℕ)). word.now) c.args.words.now in
     let w = c.run_command.ensures.written in
-    let is : run_of ws ≡ Some (asked_run c.in-Run.run') = ap if_run c.in-Ok.ensures.taken ∙ ap (λ (k : Command). if_run (Some (asked k))) c.in-Run.is in (
+    let is : command_of ws ≡ Some (asked (Run c.in-Run.run')) = c.in-Ok.ensures.taken ∙ ap (λ (k : Command). Some (asked k)) c.in-Run.is in (
       w.0,
       w.1,
-      some_map (λ (t : Told). Gives t.contents (asked_run c.in-Run.run') c.run_command.result.outcome c.run_command.result.tasks w.0) (λ t. Answers ws t.contents c.run_command.result.outcome c.run_command.result.tasks w.0) _
-          (λ t k. answers_of ws t.contents (asked_run c.in-Run.run') c.run_command.result.outcome c.run_command.result.tasks w.0 is k) w.2,
+      some_map (λ (t : Told). Gives t.contents (asked (Run c.in-Run.run')) c.run_command.result.outcome c.run_command.result.tasks w.0) (λ t. Answers ws t.contents c.run_command.result.outcome c.run_command.result.tasks w.0) _
+          (λ t k. answers_of ws t.contents (asked (Run c.in-Run.run')) c.run_command.result.outcome c.run_command.result.tasks w.0 is k) w.2,
     )
 
 pub returns-in-Check-clause-written : goal.returns-in-Check-clause-written
 returns-in-Check-clause-written g c =
     let ws : List (List ℕ) = map (λ (word : Bor (List ℕ)). word.now) c.args.words.now in
-    let is : run_of ws ≡ None = ap if_run c.in-Ok.ensures.taken ∙ ap (λ (k : Command). if_run (Some (asked k))) c.in-Check.is in
-    ([], appended_none _, for_any (λ (t : Told). Answers ws t.contents Usage 0 []) _ (λ t. usage_answers ws t.contents is))
+    let w = c.check_command.ensures.written in
+    let is : command_of ws ≡ Some (asked (Check c.in-Check.check)) = c.in-Ok.ensures.taken ∙ ap (λ (k : Command). Some (asked k)) c.in-Check.is in (
+      w.0,
+      w.1,
+      some_map (λ (t : Told). Gives t.contents (asked (Check c.in-Check.check)) c.check_command.result.outcome c.check_command.result.tasks w.0) (λ t. Answers ws t.contents c.check_command.result.outcome c.check_command.result.tasks w.0) _
+          (λ t k. answers_of ws t.contents (asked (Check c.in-Check.check)) c.check_command.result.outcome c.check_command.result.tasks w.0 is k) w.2,
+    )

@@ -1,0 +1,95 @@
+// The command `check`: a query's own text.
+ghost use Rattle.std.specs.Prelude.{◌≡◌, ℕ, List, [], ◌∷◌, ◌++◌, IfOk, IfErr};
+ghost use Rattle.saber_io.specs.Outside.{Rose, appended};
+ghost use Rattle.saber_query.specs.Trees.{query_of};
+ghost use Rattle.saber_query.specs.Words.{words};
+ghost use Rattle.saber_query.specs.Spelling.{spelled};
+ghost use Rattle.saber_query.specs.Means.{MeansTree};
+ghost use Rattle.saber_check.specs.Outcome.{IsFaultless};
+ghost use Rattle.saber_check.specs.Texts.{IsFaultIn};
+ghost use Rattle.saber_notes.specs.declared.outcome.Outcome.{Outcome};
+ghost use Rattle.saber_cli.specs.Outcomes.{IsQueryFault, IsOfShow};
+ghost use Rattle.saber_cli.specs.Due.{Shows};
+ghost use Rattle.saber_cli.specs.Planned.{IsTextFault};
+ghost use Rattle.saber_cli.specs.Shown.{Showed};
+
+use crate::answer::Ran;
+use crate::plans::refused;
+use saber_check::check;
+use saber_io::{Sink, WriteFault};
+use saber_notes::Outcome;
+use saber_query::{Query, QueryFault, parse};
+use saber_show::{NoMemory, show};
+use std::alloc::Global;
+
+// The query that a text means, which passes its checks, or the text's first fault.
+fn checked(alloc: Global, text: &[u8]) -> Result<Query, QueryFault>
+    ensures means { IfOk result (MeansTree text.now) }
+    ensures faultless { IfOk result (λ q. IsFaultless (query_of q.select)) }
+    ensures fault { IfErr result (IsFaultIn text.now) }
+{
+    let query = parse(alloc, text)?;
+    check(alloc, &query)?;
+    Ok(query)
+}
+
+// A query's own text, with a line feed.
+fn line(alloc: Global, query: &Query) -> Result<Vec<u8>, NoMemory>
+    ensures { IfOk result (λ out. out.items ≡ spelled (words (query_of query.now.select)) ++ 10 ∷ []) }
+{
+    let mut out = show(alloc, query)?;
+    out.push(b'\n')?;
+    Ok(out)
+}
+
+// The text with a line feed of the query that a text means, or why the text is refused.
+fn shown(alloc: Global, text: &[u8]) -> Result<Vec<u8>, Outcome>
+    ensures ok { IfOk result (λ out. Shows text.now out.items) }
+    ensures err { IfErr result (IsTextFault text.now) }
+{
+    let query = match checked(alloc, text) {
+        Ok(query) => query,
+        Err(fault) => return Err(refused(fault)),
+    };
+    match line(alloc, &query) {
+        Ok(out) => Ok(out),
+        Err(_) => Err(Outcome::NoMemory),
+    }
+}
+
+/// Checks the text of a query and writes the query's own text, in one write.
+pub(crate) fn put_text<K: Sink>(alloc: Global, text: &[u8], mut sink: K) -> Ran<K>
+    ensures written { (out : List ℕ) × (K.written result.sink ≡ appended (K.written sink) out) × Showed text.now result.outcome out }
+    ensures tasks { result.tasks ≡ 0 }
+    ensures early { IsQueryFault result.outcome → result.sink ≡ sink }
+    ensures kinds { IsOfShow result.outcome }
+    ensures write { result.outcome ≡ Outcome.WriteFault → Rose (K.faults sink) (K.faults result.sink) }
+{
+    let out = match shown(alloc, text) {
+        Ok(out) => out,
+        Err(outcome) => {
+            return Ran {
+                outcome,
+                sink,
+                tasks: 0,
+            };
+        }
+    };
+    match sink.write_all(&out) {
+        Ok(()) => Ran {
+            outcome: Outcome::Done,
+            sink,
+            tasks: 0,
+        },
+        Err(WriteFault::Failed) => Ran {
+            outcome: Outcome::WriteFault,
+            sink,
+            tasks: 0,
+        },
+        Err(WriteFault::NoMemory) => Ran {
+            outcome: Outcome::NoMemory,
+            sink,
+            tasks: 0,
+        },
+    }
+}
