@@ -21,7 +21,7 @@ use Rattle.saber_plan.specs.Answers.{key_cmp, groups, pairs, pair_answers, passi
 use Rattle.saber_plan.specs.Merges.{join}
 use Rattle.saber_plan.specs.Parts.{Part, no_part, part, part_lines, answers_of, Numbers, join_numbers, merge}
 use Rattle.saber_plan.specs.Tasks.{full, numbered, Parts, unclosed, is_part, is_complete, whole_lines, piece_between, taken_in, written_by, left_by}
-use Rattle.saber_laws.proofs.MergeLaws.{get-both, both_empty_left, both_empty_right, entries-empty}
+use Rattle.saber_plan.specs.MapFacts.{get-both, both_empty_left, both_empty_right, entries-empty}
 use Rattle.saber_laws.proofs.PartLaws.{total, exact, merge-empty_left, merge-empty_right}
 use Rattle.saber_laws.proofs.WindowLaws.{closed_is, begun_is, closed_count_rises, begun_count_rises, closed_within_begun}
 use Rattle.saber_laws.proofs.RowLaws.{mark-append, slice-join, slice-front, Ordered-slice}

@@ -1,5 +1,5 @@
 -- What a checked plan's windows are good for.
-use Rattle.std.proofs.Common.{List, [], ◌∷◌, Option, Some, sym, subst}
+use Rattle.std.proofs.Common.{◌≡◌, List, [], ◌∷◌, Option, Some, refl, sym, ◌∙◌, ap, subst}
 use Rattle.std.specs.Option.{option_map_or}
 use Rattle.std.proofs.lemmas.Bool.{le-leb}
 use Rattle.saber_plan.specs.declared.windows.Window.{Window}
@@ -10,6 +10,7 @@ use Rattle.saber_plan.specs.Trees.{Tree}
 use Rattle.saber_plan.specs.Windows.{Frame, unwindowed, one, two, frame_of, Fits}
 use Rattle.saber_plan.specs.Answers.{frame}
 use Rattle.saber_plan.specs.Checked.{IsChecked, StreamsFit}
+use Rattle.saber_laws.specs.Plans.{NoWindow, OneWindow, TwoWindows, SelectionsHaveNoWindow, GroupsHaveOneWindow, JoinsHaveTwoWindows}
 
 abbrev one_frame : Option Window → Frame
 one_frame o = option_map_or (λ w. one w.measure w.slide w.size) o unwindowed
@@ -33,3 +34,42 @@ streams_fit Join (s ∷ t ∷ u ∷ us) h = absurd h
 -- sizes and slides are at least 1
 pub checked_fits : (q : Tree) → IsChecked q → Fits (frame q)
 checked_fits q h = streams_fit q.shape q.streams h.streams
+
+-- ---- which windows they are
+
+select_case : (q : Tree) (ss : List Stream) → q.streams ≡ ss → StreamsFit Select ss → NoWindow q
+select_case q [] e h = absurd h
+select_case q (s ∷ []) e h = record { stream = s; streams = e; plain = h; has_frame = ap frame_of e ∙ ap one_frame h }
+select_case q (s ∷ t ∷ ts) e h = absurd h
+
+group_case : (q : Tree) (ss : List Stream) → q.streams ≡ ss → StreamsFit Group ss → OneWindow q
+group_case q [] e h = absurd h
+group_case q (s ∷ []) e (w, g, f) = record { stream = s; window = w; streams = e; windowed = g; fits = f; has_frame = ap frame_of e ∙ ap one_frame g }
+group_case q (s ∷ t ∷ ts) e h = absurd h
+
+join_case : (q : Tree) (ss : List Stream) → q.streams ≡ ss → StreamsFit Join ss → TwoWindows q
+join_case q [] e h = absurd h
+join_case q (s ∷ []) e h = absurd h
+join_case q (s ∷ t ∷ []) e (v, w, g, k, f, l, p) = record {
+  left_stream = s;
+  right_stream = t;
+  left_window = v;
+  right_window = w;
+  streams = e;
+  left_windowed = g;
+  right_windowed = k;
+  left_fits = f;
+  right_fits = l;
+  pair = p;
+  has_frame = ap frame_of e ∙ ap (λ o. two_frame o t.window) g ∙ ap (two_frame (Some v)) k;
+}
+join_case q (s ∷ t ∷ u ∷ us) e h = absurd h
+
+pub selection_has_none : SelectionsHaveNoWindow
+selection_has_none q h e = select_case q q.streams refl (subst (λ s. StreamsFit s q.streams) e h.streams)
+
+pub group_has_one : GroupsHaveOneWindow
+group_has_one q h e = group_case q q.streams refl (subst (λ s. StreamsFit s q.streams) e h.streams)
+
+pub join_has_two : JoinsHaveTwoWindows
+join_has_two q h e = join_case q q.streams refl (subst (λ s. StreamsFit s q.streams) e h.streams)

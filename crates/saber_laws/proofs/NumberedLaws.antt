@@ -11,8 +11,8 @@ use Rattle.std.specs.FinMap.{get, entries, from_entries, find, is_sorted, get-fr
 use Rattle.std.specs.FinMap.Entries.{below_all}
 use Rattle.saber_plan.specs.Windows.{from}
 use Rattle.saber_plan.specs.Tasks.{numbered}
-use Rattle.saber_laws.proofs.ListLaws.{and_T}
-use Rattle.saber_laws.proofs.MergeLaws.{entries-from_rising}
+use Rattle.saber_plan.specs.ListFacts.{and_T}
+use Rattle.saber_plan.specs.MapFacts.{entries-from_rising}
 
 pub from-append : (a m n : ℕ) → from a (m + n) ≡ from a m ++ from (a + m) n
 unfolding from

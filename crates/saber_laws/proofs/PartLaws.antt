@@ -20,7 +20,7 @@ use Rattle.saber_plan.specs.Values.{value}
 use Rattle.saber_plan.specs.Answers.{key_cmp, with_key, keys_of, key, rows_of_key, answers, item_answer, first_by, earlier, values_of, groups}
 use Rattle.saber_plan.specs.Merges.{join}
 use Rattle.saber_plan.specs.Parts.{Part, no_part, group_part, Numbers, numbers, summed, least, greatest, plain, zip_by, join_numbers, shown, answers_of, answers_in, merge}
-use Rattle.saber_laws.proofs.MergeLaws.{get-both, both-assoc, both-empty_left, both-empty_right, equal_if, entries-empty}
+use Rattle.saber_plan.specs.MapFacts.{get-both, both-assoc, both-empty_left, both-empty_right, equal_if, entries-empty}
 
 pub total : IsTotalOrder key_cmp
 total = lists_total int_cmp_total

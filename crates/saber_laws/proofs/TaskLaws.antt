@@ -71,7 +71,7 @@ no_numbers : {X : Type 0} (a n : ℕ) (f : ℕ → Option X) → n ≡ 0 → fro
 unfolding from
 no_numbers a n f e = ap (λ k. from_entries {R = nat_cmp} (numbered a k f)) e
 
-open-none : (q : Tree) → Fits (frame q) → unclosed q [] ≡ empty
+pub open-none : (q : Tree) → Fits (frame q) → unclosed q [] ≡ empty
 unfolding unclosed
 open-none q w = no_numbers _ _ (λ i. full (part q i [] 0 0)) (omega (arith, none_begun (frame q)))
 

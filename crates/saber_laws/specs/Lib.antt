@@ -1,3 +1,10 @@
 pub mod Windows
 pub mod Parts
 pub mod Pieces
+pub mod Shares
+pub mod Needs
+pub mod Plans
+pub mod Inputs
+pub mod Pairs
+pub mod Kinds
+pub mod Numbers

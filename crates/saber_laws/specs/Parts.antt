@@ -1,10 +1,14 @@
 -- Laws of parts: their merge, and the lines that they give.
-use Rattle.std.specs.Prelude.{◌≡◌, ℕ, ◌≤◌, List, length, take, true}
+use Rattle.std.specs.Prelude.{◌≡◌, ℕ, ◌≤◌, List, [], ◌∷◌, ◌++◌, filter, length, take, true, false, ◌&&◌, if◌then◌else◌, ℤ}
+use Rattle.std.specs.FinMap.{get}
 use Rattle.saber_plan.specs.declared.rows.Row.{Row}
 use Rattle.saber_plan.specs.Trees.{Tree}
-use Rattle.saber_plan.specs.Windows.{Ordered, no_rows, mark_of, closed}
-use Rattle.saber_plan.specs.Answers.{lines, frame}
-use Rattle.saber_plan.specs.Parts.{Part, part, no_part, merge, part_lines}
+use Rattle.saber_plan.specs.Windows.{Ordered, no_rows, mark_of, closed, begun, Placed, has}
+use Rattle.saber_plan.specs.Answers.{lines, frame, passing}
+use Rattle.saber_plan.specs.Values.{passes}
+use Rattle.saber_plan.specs.Merges.{join, both}
+use Rattle.saber_plan.specs.Parts.{Part, part, no_part, merge, join_numbers, part_lines, group_part, pair_part}
+use Rattle.saber_plan.specs.Tasks.{Parts, full}
 
 abbrev pub MergeIsAssociative : Type 0
 MergeIsAssociative = (a b c : Part) → merge (merge a b) c ≡ merge a (merge b c)
@@ -24,3 +28,40 @@ PartHasLines = (q : Tree) (i : ℕ) (xs : List Row) → lines q i xs ≡ part_li
 -- no later row changes the lines of a closed window
 abbrev pub ClosedLinesStay : Type 0
 ClosedLinesStay = (q : Tree) (i : ℕ) (xs : List Row) (x y : ℕ) → Ordered no_rows xs → x ≤ y → y ≤ length xs → closed (frame q) i (mark_of (take x xs)) ≡ true → lines q i (take y xs) ≡ lines q i (take x xs)
+
+-- ---- what a key has
+
+-- a merge has for a key what both have, joined
+abbrev pub MergesGive : Type 0
+MergesGive = (a b : Part) (k : List ℤ) → get (merge a b) k ≡ join join_numbers (get a k) (get b k)
+
+-- and so have the open parts of windows
+abbrev pub TakingInGives : Type 0
+TakingInGives = (a b : Parts) (i : ℕ) → get (both merge a b) i ≡ join merge (get a i) (get b i)
+
+-- a merge is empty only where both are
+abbrev pub FullMerges : Type 0
+FullMerges = (a b : Part) → full (merge a b) ≡ join merge (full a) (full b)
+
+-- ---- which windows have a part
+
+-- no row makes a part
+pub record EmptyParts (q : Tree) : Type 0 where
+  pub of_groups : group_part q [] ≡ no_part
+  pub of_pairs : (x : ℕ) → pair_part q x [] ≡ no_part
+
+abbrev pub NoRowsNoPart : Type 0
+NoRowsNoPart = (q : Tree) → EmptyParts q
+
+-- a window that is closed before some rows, or not begun by them, has no part of them
+pub record OutsideParts (q : Tree) (i : ℕ) (xs : List Row) (x y : ℕ) : Type 0 where
+  pub closed_before : closed (frame q) i (mark_of (take x xs)) ≡ true → part q i xs x y ≡ no_part
+  pub not_begun : begun (frame q) i (mark_of (take y xs)) ≡ false → part q i xs x y ≡ no_part
+
+abbrev pub PartsLieWithin : Type 0
+PartsLieWithin = (q : Tree) (i : ℕ) (xs : List Row) (x y : ℕ) → Ordered no_rows xs → x ≤ y → y ≤ length xs → OutsideParts q i xs x y
+
+-- a row that passes is merged into each window that has it, and into no other
+abbrev pub RowsAddToGroups : Type 0
+RowsAddToGroups = (q : Tree) (us : List Placed) (i : ℕ) (r : Placed) → group_part q (passing q (filter (has (frame q) i) (us ++ r ∷ [])))
+    ≡ (if has (frame q) i r && passes q.predicate r.row.values [] then merge (group_part q (passing q (filter (has (frame q) i) us))) (group_part q (r.row.values ∷ [])) else group_part q (passing q (filter (has (frame q) i) us)))

@@ -1,6 +1,6 @@
 // Laws of the pieces of tasks.
 ghost use Rattle.saber_plan.specs.Tasks.{PiecesMakeText};
-ghost use Rattle.saber_laws.specs.Pieces.{PiecesStay};
+ghost use Rattle.saber_laws.specs.Pieces.{PiecesStay, TextGoesOn, OpenGoesOn, NoRowsGiveNothing, TextGrows, NoTasksNoRows};
 
 /// Pieces taken in one after another, in the order of their tasks, make the text of the windows that
 /// their rows close, and leave the parts of those that stay open, for every task size.
@@ -11,4 +11,29 @@ pub fn pieces_make_text()
 /// The piece of a task stays the same when later rows come.
 pub fn pieces_stay()
     ensures { PiecesStay }
+{}
+
+/// What is written for a piece goes on with the text of the rows before it.
+pub fn text_goes_on()
+    ensures { TextGoesOn }
+{}
+
+/// What a piece leaves are the open parts of its rows and those before it.
+pub fn open_goes_on()
+    ensures { OpenGoesOn }
+{}
+
+/// No rows have no text, and leave nothing open.
+pub fn no_rows_give_nothing()
+    ensures { NoRowsGiveNothing }
+{}
+
+/// The text of more rows goes on from that of fewer.
+pub fn text_grows()
+    ensures { TextGrows }
+{}
+
+/// No task has rows.
+pub fn no_tasks_no_rows()
+    ensures { NoTasksNoRows }
 {}

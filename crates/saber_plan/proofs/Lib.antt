@@ -2,3 +2,4 @@ pub mod Cases
 mod WorkedFiles
 mod WorkedAnswers
 mod WorkedJoins
+mod WorkedNeeds

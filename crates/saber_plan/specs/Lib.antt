@@ -10,3 +10,12 @@ pub mod Parts
 pub mod Tasks
 pub mod Bounds
 pub mod Checked
+pub mod Needs
+pub mod Pairing
+pub mod Sizes
+pub mod Given
+pub mod Shares
+pub mod ListFacts
+pub mod MapFacts
+pub mod TreeFacts
+pub mod Codes

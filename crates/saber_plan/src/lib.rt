@@ -9,12 +9,14 @@ mod expressions;
 mod plans;
 mod predicates;
 mod rows;
+mod sizes;
 mod windows;
 
 pub use expressions::{Expr, Factor, Factors, Product};
 pub use plans::{Item, Plan, Shape};
 pub use predicates::{Cmp, Conj, Pred, Unit};
 pub use rows::{Row, RowCause, Side, Values};
+pub use sizes::Sizes;
 pub use windows::{Kind, Mark, Measure, Stream, Window, overlap};
 
 /// Want of memory, the one refusal that no input causes.

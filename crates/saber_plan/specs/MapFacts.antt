@@ -1,4 +1,4 @@
--- The merge of finite maps, key by key.
+-- Facts on finite maps: what entries that rise make, and the merge of two maps, key by key. Any proof may cite them.
 use Rattle.std.proofs.Common.{◌≡◌, List, [], ◌∷◌, ◌++◌, map, Bool, true, false, cond, Option, Some, None, refl, sym, ◌∙◌, ap, ap₂, T, length, arith}
 use Rattle.std.specs.Cmp.{IsTotalOrder}
 use Rattle.std.specs.declared.cmp.Ordering.{Ordering}
@@ -7,7 +7,7 @@ use Rattle.std.specs.Ordering.{eq_by_cmp, is_eq, is_lt}
 use Rattle.std.specs.FinMap.{FinMap, empty, get, insert, entries, from_entries, find, is_sorted, from_sorted, entries-from_sorted, get-from_sorted, len-entries, len-empty, get-empty, get-entries, get-from_entries, get-insert, get_tied, same_map, IsAntisymmetric}
 use Rattle.std.specs.FinMap.Entries.{find_tied, below_all}
 use Rattle.saber_plan.specs.Merges.{join, joined, both}
-use Rattle.saber_laws.proofs.ListLaws.{T_parts}
+use Rattle.saber_plan.specs.ListFacts.{T_parts}
 
 pub equal_if : (o : Ordering) → is_eq o ≡ true → o ≡ Equal
 equal_if Less e = cc

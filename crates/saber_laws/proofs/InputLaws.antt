@@ -1,0 +1,339 @@
+-- The merged input of two sides.
+use Rattle.std.proofs.Common.{◌≡◌, ℕ, ◌+◌, List, [], ◌∷◌, ◌++◌, map, filter, length, Bool, true, false, cond, not, ◌&&◌, nat_le, nat_lt, Option, Some, None, option_map, ℤ, pos, refl, sym, ◌∙◌, ap, append-nil, arith}
+use Rattle.std.proofs.lemmas.List.{length-map}
+use Rattle.std.proofs.lemmas.Bool.{both_ways, eqb-true}
+use Rattle.std.proofs.lemmas.Bool.Decides.{nat_tests}
+use Rattle.saber_plan.specs.declared.rows.Side.{Side}
+use Rattle.saber_plan.specs.declared.rows.Side.TheVariants.{Left, Right}
+use Rattle.saber_plan.specs.declared.rows.Row.{Row}
+use Rattle.saber_plan.specs.declared.windows.Mark.{Mark}
+use Rattle.saber_plan.specs.declared.rows.Values.{Values}
+use Rattle.saber_plan.specs.declared.rows.RowCause.TheVariants.{TooManyLines, TooLong, FieldCount, TimeOrder}
+use Rattle.saber_plan.specs.Rows.{End, all_read, cut, bad, Read, before, stamp, Line, Judged, skipped, taken, refused, SideRules, Place, start, after_line, judge, judge_fields, judge_numbers, falls, read_by, without_cr, bad_field, fields_of, wide_field, numbers}
+use Rattle.saber_plan.specs.Windows.{by_side, no_rows, step_mark, mark_after, in_order, Ordered, placed_after, own, from}
+use Rattle.saber_plan.specs.Answers.{is_left, is_right}
+use Rattle.saber_plan.specs.Inputs.{holds_up, alone, merged_rows, merged}
+use Rattle.saber_laws.specs.Inputs.{on}
+use Rattle.saber_plan.specs.ListFacts.{Each}
+
+-- ---- induction along a merge
+
+grows : (P : List Row → List Row → Type 0) → ((x : Row) (xs : List Row) → P (x ∷ xs) []) → ((x : Row) (xs : List Row) (y : Row) (ys : List Row) → P xs (y ∷ ys) → P (x ∷ xs) ys → P (x ∷ xs) (y ∷ ys))
+    → (x : Row) (xs : List Row) → ((ys : List Row) → P xs ys) → (ys : List Row) → P (x ∷ xs) ys
+grows P left step x xs rest [] = left x xs
+grows P left step x xs rest (y ∷ ys) = step x xs y ys (rest (y ∷ ys)) (grows P left step x xs rest ys)
+
+-- what holds where one side has no row, and on with a row of either side, holds of all rows
+pub both_sides : (P : List Row → List Row → Type 0) → ((ys : List Row) → P [] ys) → ((x : Row) (xs : List Row) → P (x ∷ xs) []) → ((x : Row) (xs : List Row) (y : Row) (ys : List Row) → P xs (y ∷ ys) → P (x ∷ xs) ys → P (x ∷ xs) (y ∷ ys))
+    → (xs ys : List Row) → P xs ys
+both_sides P none left step [] ys = none ys
+both_sides P none left step (x ∷ xs) ys = grows P left step x xs (both_sides P none left step xs) ys
+
+pub alone_holds : (P : List Row → Type 0) (other : End) (xs : List Row) (end : End) → P [] → P xs → P (alone other xs end).rows
+alone_holds P other xs end h k = elim (holds_up other) as (λ b. P (cond {A = Read} b (record { rows = []; end = other }) (record { rows = xs; end = end })).rows) [ true ↦ h | false ↦ k ]
+
+-- ---- timestamps do not fall
+
+-- only the last timestamp matters
+ordered_by_last : (m n : Mark) (xs : List Row) → m.last ≡ n.last → Ordered m xs → Ordered n xs
+unfolding Ordered
+ordered_by_last m n [] e o = tt
+ordered_by_last m n (x ∷ xs) e o = (sym (ap (λ l. in_order l (stamp x.values)) e) ∙ o.0, ordered_by_last (step_mark m x) (step_mark n x) xs refl o.1)
+
+ordered_none : (m : Mark) → Ordered m []
+unfolding Ordered
+ordered_none m = tt
+
+later_left : (x y : Row) → nat_le (stamp x.values) (stamp y.values) ≡ false → nat_le (stamp y.values) (stamp x.values) ≡ true
+later_left x y e = grind (arith, nat_tests)
+
+ordered_step : (e d : End) (x : Row) (xs : List Row) (y : Row) (ys : List Row) (m : Mark) → Ordered m (x ∷ xs) → Ordered m (y ∷ ys)
+    → ((n : Mark) → Ordered n xs → Ordered n (y ∷ ys) → Ordered n (merged_rows xs e (y ∷ ys) d).rows) → ((n : Mark) → Ordered n (x ∷ xs) → Ordered n ys → Ordered n (merged_rows (x ∷ xs) e ys d).rows)
+    → (b : Bool) → nat_le (stamp x.values) (stamp y.values) ≡ b → Ordered m (cond b (before x (merged_rows xs e (y ∷ ys) d)) (before y (merged_rows (x ∷ xs) e ys d))).rows
+unfolding Ordered
+ordered_step e d x xs y ys m o p left right true t = (o.0, left (step_mark m x) o.1 (t, ordered_by_last (step_mark m y) (step_mark (step_mark m x) y) ys refl p.1))
+ordered_step e d x xs y ys m o p left right false t = (p.0, right (step_mark m y) (later_left x y t, ordered_by_last (step_mark m x) (step_mark (step_mark m y) x) xs refl o.1) p.1)
+
+ordered_both : (e d : End) (xs ys : List Row) (m : Mark) → Ordered m xs → Ordered m ys → Ordered m (merged_rows xs e ys d).rows
+unfolding merged_rows
+ordered_both e d xs ys = both_sides (λ us vs. (m : Mark) → Ordered m us → Ordered m vs → Ordered m (merged_rows us e vs d).rows)
+    (λ vs m o p. alone_holds (Ordered m) e vs d (ordered_none m) p)
+    (λ u us m o p. alone_holds (Ordered m) d (u ∷ us) e (ordered_none m) o)
+    (λ x us y vs left right m o p. ordered_step e d x us y vs m o p left right _ refl) xs ys
+
+-- the timestamps of the merge do not fall, where those of each side do not
+pub merged_ordered : (l r : Read) (m : Mark) → Ordered m l.rows → Ordered m r.rows → Ordered m (merged l r).rows
+merged_ordered l r m o p = ordered_both l.end r.end l.rows r.rows m o p
+
+-- ---- each side's rows
+
+-- rows of one side
+abbrev pub All_of : Side → List Row → Type 0
+All_of s xs = Each (λ x. x.side ≡ s) xs
+
+side_kept : (s : Side) (x : Row) (xs : List Row) → x.side ≡ s → filter (on s) (x ∷ xs) ≡ x ∷ filter (on s) xs
+side_kept Left x xs e = ap (λ t. cond (by_side t true false) (x ∷ filter (on Left) xs) (filter (on Left) xs)) e
+side_kept Right x xs e = ap (λ t. cond (by_side t false true) (x ∷ filter (on Right) xs) (filter (on Right) xs)) e
+
+left_dropped : (x : Row) (xs : List Row) → x.side ≡ Right → filter (on Left) (x ∷ xs) ≡ filter (on Left) xs
+left_dropped x xs e = ap (λ t. cond (by_side t true false) (x ∷ filter (on Left) xs) (filter (on Left) xs)) e
+
+right_dropped : (x : Row) (xs : List Row) → x.side ≡ Left → filter (on Right) (x ∷ xs) ≡ filter (on Right) xs
+right_dropped x xs e = ap (λ t. cond (by_side t false true) (x ∷ filter (on Right) xs) (filter (on Right) xs)) e
+
+all_kept : (s : Side) (xs : List Row) → All_of s xs → filter (on s) xs ≡ xs
+all_kept s [] h = refl
+all_kept s (x ∷ xs) h = side_kept s x xs h.0 ∙ ap (λ l. x ∷ l) (all_kept s xs h.1)
+
+no_left : (xs : List Row) → All_of Right xs → filter (on Left) xs ≡ []
+no_left [] h = refl
+no_left (x ∷ xs) h = left_dropped x xs h.0 ∙ no_left xs h.1
+
+no_right : (xs : List Row) → All_of Left xs → filter (on Right) xs ≡ []
+no_right [] h = refl
+no_right (x ∷ xs) h = right_dropped x xs h.0 ∙ no_right xs h.1
+
+-- some rows, and then others, are a side's
+abbrev pub Begins : List Row → List Row → Type 0
+Begins us xs = (rest : List Row) × (us ++ rest ≡ xs)
+
+begins_none : (xs : List Row) → Begins [] xs
+begins_none xs = (xs, refl)
+
+begins_same : (us xs : List Row) → us ≡ xs → Begins us xs
+begins_same us xs e = ([], append-nil us ∙ e)
+
+begins_empty : (us xs : List Row) → us ≡ [] → Begins us xs
+begins_empty us xs e = (xs, ap (λ l. l ++ xs) e)
+
+begins_more : (x : Row) (us vs xs : List Row) → vs ≡ x ∷ us → Begins us xs → Begins vs (x ∷ xs)
+begins_more x us vs xs e h = (h.0, ap (λ l. l ++ h.0) e ∙ ap (λ l. x ∷ l) h.1)
+
+begins_on : (us vs xs : List Row) → vs ≡ us → Begins us xs → Begins vs xs
+begins_on us vs xs e h = (h.0, ap (λ l. l ++ h.0) e ∙ h.1)
+
+left_step : (e d : End) (x : Row) (xs : List Row) (y : Row) (ys : List Row) → x.side ≡ Left → y.side ≡ Right
+    → Begins (filter (on Left) (merged_rows xs e (y ∷ ys) d).rows) xs → Begins (filter (on Left) (merged_rows (x ∷ xs) e ys d).rows) (x ∷ xs)
+    → (b : Bool) → Begins (filter (on Left) (cond b (before x (merged_rows xs e (y ∷ ys) d)) (before y (merged_rows (x ∷ xs) e ys d))).rows) (x ∷ xs)
+left_step e d x xs y ys h k left right true = begins_more x _ _ xs (side_kept Left x (merged_rows xs e (y ∷ ys) d).rows h) left
+left_step e d x xs y ys h k left right false = begins_on _ _ (x ∷ xs) (left_dropped y (merged_rows (x ∷ xs) e ys d).rows k) right
+
+right_step : (e d : End) (x : Row) (xs : List Row) (y : Row) (ys : List Row) → x.side ≡ Left → y.side ≡ Right
+    → Begins (filter (on Right) (merged_rows xs e (y ∷ ys) d).rows) (y ∷ ys) → Begins (filter (on Right) (merged_rows (x ∷ xs) e ys d).rows) ys
+    → (b : Bool) → Begins (filter (on Right) (cond b (before x (merged_rows xs e (y ∷ ys) d)) (before y (merged_rows (x ∷ xs) e ys d))).rows) (y ∷ ys)
+right_step e d x xs y ys h k left right true = begins_on _ _ (y ∷ ys) (right_dropped x (merged_rows xs e (y ∷ ys) d).rows h) left
+right_step e d x xs y ys h k left right false = begins_more y _ _ ys (side_kept Right y (merged_rows (x ∷ xs) e ys d).rows k) right
+
+left_begins : (e d : End) (xs ys : List Row) → All_of Left xs → All_of Right ys → Begins (filter (on Left) (merged_rows xs e ys d).rows) xs
+unfolding merged_rows
+left_begins e d xs ys = both_sides (λ us vs. All_of Left us → All_of Right vs → Begins (filter (on Left) (merged_rows us e vs d).rows) us)
+    (λ vs h k. alone_holds (λ l. Begins (filter (on Left) l) []) e vs d (begins_none []) (begins_empty _ _ (no_left vs k)))
+    (λ u us h k. alone_holds (λ l. Begins (filter (on Left) l) (u ∷ us)) d (u ∷ us) e (begins_none (u ∷ us)) (begins_same _ _ (all_kept Left (u ∷ us) h)))
+    (λ x us y vs left right h k. left_step e d x us y vs h.0 k.0 (left h.1 k) (right h k.1) _) xs ys
+
+right_begins : (e d : End) (xs ys : List Row) → All_of Left xs → All_of Right ys → Begins (filter (on Right) (merged_rows xs e ys d).rows) ys
+unfolding merged_rows
+right_begins e d xs ys = both_sides (λ us vs. All_of Left us → All_of Right vs → Begins (filter (on Right) (merged_rows us e vs d).rows) vs)
+    (λ vs h k. alone_holds (λ l. Begins (filter (on Right) l) vs) e vs d (begins_none vs) (begins_same _ _ (all_kept Right vs k)))
+    (λ u us h k. alone_holds (λ l. Begins (filter (on Right) l) []) d (u ∷ us) e (begins_none []) (begins_empty _ _ (no_right (u ∷ us) h)))
+    (λ x us y vs left right h k. right_step e d x us y vs h.0 k.0 (left h.1 k) (right h k.1) _) xs ys
+
+-- the rows of either side in the merge are the first of its rows
+pub merged_left : (l r : Read) → All_of Left l.rows → All_of Right r.rows → Begins (filter (on Left) (merged l r).rows) l.rows
+merged_left l r h k = left_begins l.end r.end l.rows r.rows h k
+
+pub merged_right : (l r : Read) → All_of Left l.rows → All_of Right r.rows → Begins (filter (on Right) (merged l r).rows) r.rows
+merged_right l r h k = right_begins l.end r.end l.rows r.rows h k
+
+-- ---- where it ends
+
+-- both are read to their end, and all of their rows are there
+pub record Whole (m : Read) (e d : End) (xs ys : List Row) : Type 0 where
+  pub left_end : e ≡ all_read
+  pub right_end : d ≡ all_read
+  pub left_rows : filter (on Left) m.rows ≡ xs
+  pub right_rows : filter (on Right) m.rows ≡ ys
+
+no_hold : (e : End) → holds_up e ≡ false → e ≡ all_read
+no_hold all_read h = refl
+no_hold cut h = cc
+no_hold (bad s n c) h = cc
+
+held_read : (e : End) → holds_up e ≡ true → e ≡ all_read → ⊥
+held_read e h g = both_ways _ (ap holds_up g) h
+
+alone_right : (e d : End) (ys : List Row) → All_of Right ys → (b : Bool) → holds_up e ≡ b → (cond {A = Read} b (record { rows = []; end = e }) (record { rows = ys; end = d })).end ≡ all_read → Whole (cond {A = Read} b (record { rows = []; end = e }) (record { rows = ys; end = d })) e d [] ys
+alone_right e d ys k true h g = absurd (held_read e h g)
+alone_right e d ys k false h g = record { left_end = no_hold e h; right_end = g; left_rows = no_left ys k; right_rows = all_kept Right ys k }
+
+alone_left : (e d : End) (xs : List Row) → All_of Left xs → (b : Bool) → holds_up d ≡ b → (cond {A = Read} b (record { rows = []; end = d }) (record { rows = xs; end = e })).end ≡ all_read → Whole (cond {A = Read} b (record { rows = []; end = d }) (record { rows = xs; end = e })) e d xs []
+alone_left e d xs k true h g = absurd (held_read d h g)
+alone_left e d xs k false h g = record { left_end = g; right_end = no_hold d h; left_rows = all_kept Left xs k; right_rows = no_right xs k }
+
+whole_step : (e d : End) (x : Row) (xs : List Row) (y : Row) (ys : List Row) → x.side ≡ Left → y.side ≡ Right
+    → ((merged_rows xs e (y ∷ ys) d).end ≡ all_read → Whole (merged_rows xs e (y ∷ ys) d) e d xs (y ∷ ys)) → ((merged_rows (x ∷ xs) e ys d).end ≡ all_read → Whole (merged_rows (x ∷ xs) e ys d) e d (x ∷ xs) ys)
+    → (b : Bool) → (cond b (before x (merged_rows xs e (y ∷ ys) d)) (before y (merged_rows (x ∷ xs) e ys d))).end ≡ all_read → Whole (cond b (before x (merged_rows xs e (y ∷ ys) d)) (before y (merged_rows (x ∷ xs) e ys d))) e d (x ∷ xs) (y ∷ ys)
+whole_step e d x xs y ys h k left right true g =
+    let w = left g in
+    record { left_end = w.left_end; right_end = w.right_end; left_rows = side_kept Left x (merged_rows xs e (y ∷ ys) d).rows h ∙ ap (λ l. x ∷ l) w.left_rows; right_rows = right_dropped x (merged_rows xs e (y ∷ ys) d).rows h ∙ w.right_rows }
+whole_step e d x xs y ys h k left right false g =
+    let w = right g in
+    record { left_end = w.left_end; right_end = w.right_end; left_rows = left_dropped y (merged_rows (x ∷ xs) e ys d).rows k ∙ w.left_rows; right_rows = side_kept Right y (merged_rows (x ∷ xs) e ys d).rows k ∙ ap (λ l. y ∷ l) w.right_rows }
+
+whole_both : (e d : End) (xs ys : List Row) → All_of Left xs → All_of Right ys → (merged_rows xs e ys d).end ≡ all_read → Whole (merged_rows xs e ys d) e d xs ys
+unfolding merged_rows
+whole_both e d xs ys = both_sides (λ us vs. All_of Left us → All_of Right vs → (merged_rows us e vs d).end ≡ all_read → Whole (merged_rows us e vs d) e d us vs)
+    (λ vs h k g. alone_right e d vs k _ refl g)
+    (λ u us h k g. alone_left e d (u ∷ us) h _ refl g)
+    (λ x us y vs left right h k g. whole_step e d x us y vs h.0 k.0 (left h.1 k) (right h k.1) _ g) xs ys
+
+-- a merge that is read to its end has all rows of both sides, which are read to their ends
+pub merged_whole : (l r : Read) → All_of Left l.rows → All_of Right r.rows → (merged l r).end ≡ all_read → Whole (merged l r) l.end r.end l.rows r.rows
+merged_whole l r h k g = whole_both l.end r.end l.rows r.rows h k g
+
+-- ---- one row of a merge, by the heads of both sides
+
+pub merged_stops_left : (e d : End) (ys : List Row) → holds_up e ≡ true → merged_rows [] e ys d ≡ record { rows = []; end = e }
+unfolding merged_rows
+merged_stops_left e d ys h = ap (λ b. cond {A = Read} b (record { rows = []; end = e }) (record { rows = ys; end = d })) h
+
+pub merged_rest_right : (d : End) (ys : List Row) → merged_rows [] all_read ys d ≡ record { rows = ys; end = d }
+unfolding merged_rows
+merged_rest_right d ys = refl
+
+pub merged_stops_right : (x : Row) (xs : List Row) (e d : End) → holds_up d ≡ true → merged_rows (x ∷ xs) e [] d ≡ record { rows = []; end = d }
+unfolding merged_rows
+merged_stops_right x xs e d h = ap (λ b. cond {A = Read} b (record { rows = []; end = d }) (record { rows = x ∷ xs; end = e })) h
+
+pub merged_rest_left : (x : Row) (xs : List Row) (e : End) → merged_rows (x ∷ xs) e [] all_read ≡ record { rows = x ∷ xs; end = e }
+unfolding merged_rows
+merged_rest_left x xs e = refl
+
+pub merged_takes : (x : Row) (xs : List Row) (e : End) (y : Row) (ys : List Row) (d : End) → merged_rows (x ∷ xs) e (y ∷ ys) d ≡ cond (nat_le (stamp x.values) (stamp y.values)) (before x (merged_rows xs e (y ∷ ys) d)) (before y (merged_rows (x ∷ xs) e ys d))
+unfolding merged_rows
+merged_takes x xs e y ys d = refl
+
+-- ---- positions on a side
+
+abbrev row_of : Side → Values → Row
+row_of s v = record { side = s; values = v }
+
+left_row : (m : Mark) (s : Side) (v : Values) (xs : List Row) → map own (filter is_left (placed_after (step_mark m (row_of s v)) xs)) ≡ from (step_mark m (row_of s v)).left (length (filter (on Left) xs))
+    → map own (filter is_left (record { row = row_of s v; before = m } ∷ placed_after (step_mark m (row_of s v)) xs)) ≡ from m.left (length (filter (on Left) (row_of s v ∷ xs)))
+unfolding from
+left_row m Left v xs h = ap (λ l. m.left ∷ l) h
+left_row m Right v xs h = h
+
+-- the positions of left rows count left rows alone
+pub left_positions : (m : Mark) (xs : List Row) → map own (filter is_left (placed_after m xs)) ≡ from m.left (length (filter (on Left) xs))
+unfolding placed_after from
+left_positions m [] = refl
+left_positions m (x ∷ xs) = left_row m x.side x.values xs (left_positions (step_mark m x) xs)
+
+right_row : (m : Mark) (s : Side) (v : Values) (xs : List Row) → map own (filter is_right (placed_after (step_mark m (row_of s v)) xs)) ≡ from (step_mark m (row_of s v)).right (length (filter (on Right) xs))
+    → map own (filter is_right (record { row = row_of s v; before = m } ∷ placed_after (step_mark m (row_of s v)) xs)) ≡ from m.right (length (filter (on Right) (row_of s v ∷ xs)))
+unfolding from
+right_row m Left v xs h = h
+right_row m Right v xs h = ap (λ l. m.right ∷ l) h
+
+-- and those of right rows right rows alone
+pub right_positions : (m : Mark) (xs : List Row) → map own (filter is_right (placed_after m xs)) ≡ from m.right (length (filter (on Right) xs))
+unfolding placed_after from
+right_positions m [] = refl
+right_positions m (x ∷ xs) = right_row m x.side x.values xs (right_positions (step_mark m x) xs)
+
+row_counted : (m : Mark) (s : Side) (v : Values) (xs : List Row) → (mark_after (step_mark m (row_of s v)) xs).left ≡ (step_mark m (row_of s v)).left + length (filter (on Left) xs)
+    → (mark_after (step_mark m (row_of s v)) xs).right ≡ (step_mark m (row_of s v)).right + length (filter (on Right) xs)
+    → ((mark_after m (row_of s v ∷ xs)).left ≡ m.left + length (filter (on Left) (row_of s v ∷ xs))) × ((mark_after m (row_of s v ∷ xs)).right ≡ m.right + length (filter (on Right) (row_of s v ∷ xs)))
+row_counted m Left v xs h k = (h ∙ omega arith, k)
+row_counted m Right v xs h k = (h, k ∙ omega arith)
+
+-- a mark counts the rows of each side
+pub mark_counts : (m : Mark) (xs : List Row) → ((mark_after m xs).left ≡ m.left + length (filter (on Left) xs)) × ((mark_after m xs).right ≡ m.right + length (filter (on Right) xs))
+mark_counts m [] = (omega arith, omega arith)
+mark_counts m (x ∷ xs) = let rest = mark_counts (step_mark m x) xs in row_counted m x.side x.values xs rest.0 rest.1
+
+-- ---- the rows of a file
+
+judged_case : (a b c d : Bool) (j : Judged) (zs : List ℤ) → cond a (refused TooManyLines) (cond b skipped (cond c (refused TooLong) (cond d j (refused FieldCount)))) ≡ taken zs → (a ≡ false) × (d ≡ true) × (j ≡ taken zs)
+judged_case true b c d j zs e = cc
+judged_case false true c d j zs e = cc
+judged_case false false true d j zs e = cc
+judged_case false false false true j zs e = (refl, refl, e)
+judged_case false false false false j zs e = cc
+
+numbers_case : (last : Option ℕ) (ys zs : List ℤ) (b : Bool) → falls last ys ≡ b → cond b (refused TimeOrder) (taken ys) ≡ taken zs → (ys ≡ zs) × (falls last zs ≡ false)
+numbers_case last ys zs true e h = cc
+numbers_case last ys zs false e h = let same : ys ≡ zs = cc in (same, ap (falls last) (sym same) ∙ e)
+
+numbers_taken : (last : Option ℕ) (ys zs : List ℤ) (o : Option ℕ) → wide_field 1 ys ≡ o → judge_numbers last ys o ≡ taken zs → (wide_field 1 ys ≡ None) × (ys ≡ zs) × (falls last zs ≡ false)
+numbers_taken last ys zs (Some k) e h = cc
+numbers_taken last ys zs None e h = let n = numbers_case last ys zs _ refl h in (e, n.0, n.1)
+
+fields_taken : (last : Option ℕ) (fs : List (List ℕ)) (zs : List ℤ) (o : Option ℕ) → judge_fields last fs o ≡ taken zs → (wide_field 1 (numbers fs) ≡ None) × (numbers fs ≡ zs) × (falls last zs ≡ false)
+fields_taken last fs zs (Some k) h = cc
+fields_taken last fs zs None h = numbers_taken last (numbers fs) zs _ refl h
+
+-- what a line keeps that is a row
+pub record Kept (columns most number : ℕ) (last : Option ℕ) (zs : List ℤ) : Type 0 where
+  pub low : nat_lt most number ≡ false
+  pub count : length zs ≡ columns
+  pub range : wide_field 1 zs ≡ None
+  pub order : falls last zs ≡ false
+
+pub judge_kept : (columns most number : ℕ) (last : Option ℕ) (content : List ℕ) (zs : List ℤ) → judge columns most number last content ≡ taken zs → Kept columns most number last zs
+unfolding judge
+judge_kept columns most number last content zs h =
+    let c = judged_case _ _ _ _ _ zs h in
+    let f = fields_taken last (fields_of content) zs (bad_field 1 (fields_of content)) c.2 in
+    record {
+      low = c.0;
+      count = ap length (sym f.1) ∙ length-map (fields_of content) _ ∙ eqb-true (length (fields_of content)) columns c.1;
+      range = ap (wide_field 1) (sym f.1) ∙ f.0;
+      order = f.2;
+    }
+
+taken_falls_not : (columns most number : ℕ) (last : Option ℕ) (content : List ℕ) (zs : List ℤ) → judge columns most number last content ≡ taken zs → falls last zs ≡ false
+taken_falls_not columns most number last content zs h = (judge_kept columns most number last content zs h).order
+
+-- a mark with the last timestamp of a place
+abbrev Same_last : Mark → Option ℕ → Type 0
+Same_last m last = m.last ≡ option_map (λ n. pos n) last
+
+no_fall : (last : Option ℕ) (zs : List ℤ) → falls last zs ≡ false → in_order (option_map (λ n. pos n) last) (stamp zs) ≡ true
+no_fall None zs h = refl
+no_fall (Some n) zs h = grind (arith, nat_tests)
+
+abbrev Good : Mark → Side → List Row → Type 0
+Good m s xs = Ordered m xs × All_of s xs
+
+good_none : (m : Mark) (s : Side) → Good m s []
+good_none m s = (ordered_none m, tt)
+
+after_good : (s : SideRules) (p : Place) (j : Judged) (rest : Place → Read) (m : Mark) → Same_last m p.last → ((zs : List ℤ) → j ≡ taken zs → falls p.last zs ≡ false)
+    → ((r : Place) (n : Mark) → Same_last n r.last → Good n s.side (rest r).rows) → Good m s.side (after_line s p j rest).rows
+unfolding Ordered
+after_good s p skipped rest m e f g = g (record { lines = p.lines + 1; last = p.last }) m e
+after_good s p (taken zs) rest m e f g =
+    let more = g (record { lines = p.lines + 1; last = Some (stamp zs) }) (step_mark m (record { side = s.side; values = zs })) refl in
+    ((ap (λ l. in_order l (stamp zs)) e ∙ no_fall p.last zs (f zs refl), more.0), (refl, more.1))
+after_good s p (refused c) rest m e f g = good_none m s.side
+
+read_good : (partial : Bool) (s : SideRules) (ls : List Line) (p : Place) (m : Mark) → Same_last m p.last → Good m s.side (read_by partial s ls p).rows
+unfolding read_by
+read_good true s [] p m e = good_none m s.side
+read_good false s [] p m e = good_none m s.side
+read_good partial s (l ∷ ls) p m e =
+    let j = judge s.columns s.most (p.lines + 1) p.last (without_cr l.content) in
+    elim (partial && not l.whole) as (λ b. Good m s.side (cond {A = Read} b (record { rows = []; end = cut }) (after_line s p j (read_by partial s ls))).rows) [
+      | true ↦ good_none m s.side
+      | false ↦ after_good s p j (read_by partial s ls) m e (λ zs h. taken_falls_not s.columns s.most (p.lines + 1) p.last (without_cr l.content) zs h) (λ r n h. read_good partial s ls r n h)
+    ]
+
+-- the timestamps of a file's rows do not fall
+pub read_ordered : (partial : Bool) (s : SideRules) (ls : List Line) → Ordered no_rows (read_by partial s ls start).rows
+read_ordered partial s ls = (read_good partial s ls start no_rows refl).0
+
+-- and they are all of its side
+pub read_side : (partial : Bool) (s : SideRules) (ls : List Line) → All_of s.side (read_by partial s ls start).rows
+read_side partial s ls = (read_good partial s ls start no_rows refl).1

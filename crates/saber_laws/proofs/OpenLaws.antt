@@ -1,0 +1,130 @@
+-- An open part is that of its window over the rows so far, and a part of a piece is that over the task's rows.
+use Rattle.std.proofs.Common.{◌≡◌, ℕ, ◌-◌, ◌≤◌, ◌<◌, List, length, take, Bool, true, false, cond, nat_le, ◌==◌, Option, Some, None, refl, sym, ◌∙◌, ap, ap₂, length-take-le, le_refl, le_trans, zero-le, ⊎_elim, arith}
+use Rattle.std.proofs.lemmas.Bool.{le-ltb, le-leb, lt-leb, cases_lt}
+use Rattle.std.proofs.lemmas.Bool.Decides.{nat_tests}
+use Rattle.std.specs.Cmp.{nat_cmp_total}
+use Rattle.std.specs.FinMap.{len, get, len-empty}
+use Rattle.saber_plan.specs.declared.rows.Row.{Row}
+use Rattle.saber_plan.specs.Trees.{Tree}
+use Rattle.saber_plan.specs.Windows.{Fits, Ordered, no_rows, mark_of, closed_count, begun_count, kind_of}
+use Rattle.saber_plan.specs.Answers.{key_cmp, frame}
+use Rattle.saber_plan.specs.Merges.{join}
+use Rattle.saber_plan.specs.Parts.{Part, no_part, part, Numbers, merge}
+use Rattle.saber_plan.specs.Tasks.{full, is_part, unclosed, piece_between}
+use Rattle.saber_plan.specs.MapFacts.{get-both}
+use Rattle.saber_laws.specs.Shares.{Between, OpenPartsAre, PiecePartsAre, TakenPartsAre}
+use Rattle.saber_laws.proofs.WindowLaws.{begun_is, closed_within_begun}
+use Rattle.saber_laws.proofs.NumberedLaws.{get_low, get_in, get_high}
+use Rattle.saber_laws.proofs.PartLaws.{merge-empty_left}
+use Rattle.saber_laws.proofs.ShareLaws.{part-join, part-not_begun, part-take}
+use Rattle.saber_laws.proofs.AssemblyLaws.{full-merge, count_kind, kind_is, closed_rises, begun_rises}
+
+-- ---- a part that isn't empty is itself
+
+full_case : (b : Bool) (p r : Part) → cond b None (Some p) ≡ Some r → r ≡ p
+full_case true p r e = cc
+full_case false p r e = cc
+
+full_is : (p r : Part) → full p ≡ Some r → r ≡ p
+full_is p r e = full_case (len p == 0) p r e
+
+full_nothing : full no_part ≡ None
+full_nothing = ap (λ n. cond (n == 0) None (Some no_part)) (len-empty key_cmp Numbers)
+
+kept_is : (b : Bool) (p r : Part) → cond b (full p) None ≡ Some r → r ≡ p
+kept_is true p r e = full_is p r e
+kept_is false p r e = cc
+
+-- ---- kinds by counts
+
+no_part_low : (ca ga cb gb i : ℕ) → i < ca → is_part (count_kind ca ga cb gb i) ≡ false
+no_part_low ca ga cb gb i l = grind (arith, nat_tests)
+
+no_part_high : (ca ga cb gb i : ℕ) → gb ≤ i → is_part (count_kind ca ga cb gb i) ≡ false
+no_part_high ca ga cb gb i l = grind (arith, nat_tests)
+
+-- a window that is open before the rows has a part of them
+open_has_part : (ca ga cb gb i : ℕ) → ga ≤ gb → ca ≤ i → i < ga → is_part (count_kind ca ga cb gb i) ≡ true
+open_has_part ca ga cb gb i r l b = grind (arith, nat_tests)
+
+-- ---- the maps of parts, window by window
+
+abbrev open_before : Tree → List Row → ℕ → ℕ → Bool
+open_before q xs x i = nat_le (closed_count (frame q) (mark_of (take x xs))) i
+
+part_before : (q : Tree) → Fits (frame q) → (xs : List Row) (x i : ℕ) → Ordered no_rows xs → begun_count (frame q) (mark_of (take x xs)) ≤ i → part q i xs 0 x ≡ no_part
+part_before q w xs x i o h = part-not_begun q i xs x o (sym (begun_is (frame q) w i (mark_of (take x xs))) ∙ le-ltb i _ h)
+
+unclosed_at : (q : Tree) → Fits (frame q) → (xs : List Row) (x i : ℕ) → Ordered no_rows xs → x ≤ length xs → get (unclosed q (take x xs)) i ≡ cond (open_before q xs x i) (full (part q i xs 0 x)) None
+unfolding unclosed
+unclosed_at q w xs x i o h =
+    let c = closed_count (frame q) (mark_of (take x xs)) in
+    let g = begun_count (frame q) (mark_of (take x xs)) in
+    let c_g : c ≤ g = closed_within_begun (frame q) w (mark_of (take x xs)) in
+    let at = λ (k : ℕ). full (part q k (take x xs) 0 (length (take x xs))) in
+    let here : at i ≡ full (part q i xs 0 x) = ap (λ n. full (part q i (take x xs) 0 n)) (length-take-le x xs h) ∙ ap full (part-take q i xs 0 x x zero-le (le_refl x)) in
+    ⊎_elim
+    (λ l. get_low i c (g - c) at l ∙ sym (ap (λ b. cond b (full (part q i xs 0 x)) None) (lt-leb c i l)))
+    (λ l. ⊎_elim
+    (λ b. get_in i c (g - c) at l (omega (arith, l, b)) ∙ here)
+    (λ b. get_high i c (g - c) at (omega (arith, b, c_g)) ∙ sym (ap full (part_before q w xs x i o b) ∙ full_nothing))
+    (cases_lt i g)
+    ∙ sym (ap (λ b. cond b (full (part q i xs 0 x)) None) (le-leb c i l)))
+    (cases_lt i c)
+
+abbrev has_part : Tree → List Row → ℕ → ℕ → ℕ → Bool
+has_part q xs x y i = is_part (count_kind (closed_count (frame q) (mark_of (take x xs))) (begun_count (frame q) (mark_of (take x xs))) (closed_count (frame q) (mark_of (take y xs))) (begun_count (frame q) (mark_of (take y xs))) i)
+
+piece_at : (q : Tree) (xs : List Row) (x y : ℕ) → Between q xs x y → (i : ℕ) → get (piece_between q xs x y).parts i ≡ cond (has_part q xs x y i) (full (part q i xs x y)) None
+unfolding piece_between
+piece_at q xs x y t i =
+    let f = frame q in
+    let a = mark_of (take x xs) in
+    let b = mark_of (take y xs) in
+    let c = closed_count f a in
+    let g = begun_count f b in
+    let c_g : c ≤ g = le_trans (closed_rises f t.fits xs x y t.ordered t.rises) (closed_within_begun f t.fits b) in
+    let at = λ (k : ℕ). cond (is_part (kind_of f k a b)) (full (part q k xs x y)) None in
+    let there = λ (k : Bool). cond k (full (part q i xs x y)) None in
+    ⊎_elim
+    (λ l. get_low i c (g - c) at l ∙ sym (ap there (no_part_low c (begun_count f a) (closed_count f b) g i l)))
+    (λ l. ⊎_elim
+    (λ h. get_in i c (g - c) at l (omega (arith, l, h)) ∙ ap (λ k. there (is_part k)) (kind_is f t.fits i a b))
+    (λ h. get_high i c (g - c) at (omega (arith, h, c_g)) ∙ sym (ap there (no_part_high c (begun_count f a) (closed_count f b) g i h)))
+    (cases_lt i g))
+    (cases_lt i c)
+
+pub open_parts : OpenPartsAre
+open_parts q xs x y t i p e = kept_is (open_before q xs x i) (part q i xs 0 x) p (sym (unclosed_at q t.fits xs x i t.ordered (le_trans t.rises t.there)) ∙ e)
+
+pub piece_parts : PiecePartsAre
+piece_parts q xs x y t i p e = kept_is (has_part q xs x y i) (part q i xs x y) p (sym (piece_at q xs x y t i) ∙ e)
+
+-- ---- taking in
+
+none_taken : (o : Option Part) (s : Part) → o ≡ None → o ≡ Some s → ⊥
+none_taken o s n e = cc
+
+alone : (b : Bool) (p : Part) (o : Option Part) → p ≡ no_part → join merge (cond b (full p) None) o ≡ o
+alone true p o n = ap (λ m. join merge m o) (ap full n ∙ full_nothing)
+alone false p o n = refl
+
+-- an open window gets the piece's part, and one that isn't begun before has that part alone
+taken_case : (ca ga cb gb i : ℕ) (p r s : Part) → ga ≤ gb → (ga ≤ i → p ≡ no_part) → join merge (cond (nat_le ca i) (full p) None) (cond (is_part (count_kind ca ga cb gb i)) (full r) None) ≡ Some s → s ≡ merge p r
+taken_case ca ga cb gb i p r s h n e = ⊎_elim
+    (λ l. absurd (none_taken (join merge (cond (nat_le ca i) (full p) None) (cond (is_part (count_kind ca ga cb gb i)) (full r) None)) s (ap₂ (λ b c. join merge (cond b (full p) None) (cond c (full r) None)) (lt-leb ca i l) (no_part_low ca ga cb gb i l)) e))
+    (λ l. ⊎_elim
+    (λ b. full_is (merge p r) s (full-merge p r ∙ sym (ap₂ (λ b c. join merge (cond b (full p) None) (cond c (full r) None)) (le-leb ca i l) (open_has_part ca ga cb gb i h l b)) ∙ e))
+    (λ b. kept_is (is_part (count_kind ca ga cb gb i)) r s (sym (alone (nat_le ca i) p (cond (is_part (count_kind ca ga cb gb i)) (full r) None) (n b)) ∙ e) ∙ sym (ap (λ m. merge m r) (n b) ∙ merge-empty_left r))
+    (cases_lt i ga))
+    (cases_lt i ca)
+
+pub taken_parts : TakenPartsAre
+taken_parts q xs x y t i p e =
+    let f = frame q in
+    let a = mark_of (take x xs) in
+    let b = mark_of (take y xs) in
+    let within : x ≤ length xs = le_trans t.rises t.there in
+    taken_case (closed_count f a) (begun_count f a) (closed_count f b) (begun_count f b) i (part q i xs 0 x) (part q i xs x y) p (begun_rises f t.fits xs x y t.ordered t.rises) (part_before q t.fits xs x i t.ordered)
+    (sym (get-both nat_cmp_total merge (unclosed q (take x xs)) (piece_between q xs x y).parts i ∙ ap₂ (join merge) (unclosed_at q t.fits xs x i t.ordered within) (piece_at q xs x y t i)) ∙ e)
+    ∙ sym (part-join q i xs 0 x y zero-le t.rises within)

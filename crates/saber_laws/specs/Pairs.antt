@@ -1,0 +1,33 @@
+-- Laws of the pairs of a join: one more row, and their order.
+use Rattle.std.specs.Prelude.{◌≡◌, ℕ, ◌≤◌, List, [], ◌∷◌, ◌++◌, filter, Bool, if◌then◌else◌, nat_le}
+use Rattle.std.specs.FinMap.{entries}
+use Rattle.saber_plan.specs.declared.rows.Row.{Row}
+use Rattle.saber_plan.specs.declared.windows.Mark.{Mark}
+use Rattle.saber_plan.specs.Trees.{Tree}
+use Rattle.saber_plan.specs.Windows.{Placed, place, placed_after, mark_after, has}
+use Rattle.saber_plan.specs.Answers.{is_left, is_right, pairs, frame}
+use Rattle.saber_plan.specs.Parts.{Part, pair_numbers, pair_part, later}
+use Rattle.saber_plan.specs.Pairing.{row_pairs, with_entries}
+
+-- a row after some rows that follow a mark
+abbrev pub after_rows : Mark → List Row → Row → Placed
+after_rows m xs r = record { row = r; before = mark_after m xs }
+
+-- a part of some rows with one row more: its pairs with them
+abbrev pub with_row : Tree → ℕ → List Placed → Placed → Part
+with_row q x us r = with_entries (pair_part q x us) (row_pairs q r (filter is_left us) (filter is_right us))
+
+-- a row after some rows, of which these are chosen, adds its pairs with them
+abbrev pub RowsAddPairs : Type 0
+RowsAddPairs = (q : Tree) (x : ℕ) (chosen : Placed → Bool) (m : Mark) (xs : List Row) (r : Row) → x ≤ place (after_rows m xs r)
+    → pair_part q x (filter chosen (placed_after m xs) ++ after_rows m xs r ∷ []) ≡ with_row q x (filter chosen (placed_after m xs)) (after_rows m xs r)
+
+-- so each window that has the row gets its pairs, and no other
+abbrev pub WindowsGetPairs : Type 0
+WindowsGetPairs = (q : Tree) (x i : ℕ) (m : Mark) (xs : List Row) (r : Row) → x ≤ place (after_rows m xs r)
+    → pair_part q x (filter (has (frame q) i) (placed_after m (xs ++ r ∷ []))) ≡ (if has (frame q) i (after_rows m xs r) then with_row q x (filter (has (frame q) i) (placed_after m xs)) (after_rows m xs r) else pair_part q x (filter (has (frame q) i) (placed_after m xs)))
+
+-- the entries of a part are its pairs, in order
+abbrev pub PairsAreInOrder : Type 0
+PairsAreInOrder = (q : Tree) (x : ℕ) (chosen : Placed → Bool) (m : Mark) (xs : List Row)
+    → entries (pair_part q x (filter chosen (placed_after m xs))) ≡ filter (λ e. nat_le x (later e.0)) (pairs q (pair_numbers q) (filter chosen (placed_after m xs)))

@@ -1,0 +1,37 @@
+// Laws of what a task gives, its parts apart by kind.
+ghost use Rattle.saber_laws.specs.Shares.{SharesMakePiece, SharesRise, SharesAreLocal, SharesNeedNoMore, OpenPartsAre, PiecePartsAre, TakenPartsAre};
+
+/// The parts of closing, pending and opening windows together are the piece.
+pub fn shares_make_piece()
+    ensures { SharesMakePiece }
+{}
+
+/// Their windows rise.
+pub fn shares_rise()
+    ensures { SharesRise }
+{}
+
+/// A query that joins no streams needs a task's own rows alone.
+pub fn shares_are_local()
+    ensures { SharesAreLocal }
+{}
+
+/// Any query needs a task's rows and those that it looks back on.
+pub fn shares_need_no_more()
+    ensures { SharesNeedNoMore }
+{}
+
+/// The open parts are those of all rows so far.
+pub fn open_parts_are()
+    ensures { OpenPartsAre }
+{}
+
+/// The parts of a piece are those of the task's rows.
+pub fn piece_parts_are()
+    ensures { PiecePartsAre }
+{}
+
+/// The parts after a piece is taken in are those of all rows up to the task's end.
+pub fn taken_parts_are()
+    ensures { TakenPartsAre }
+{}
