@@ -1,0 +1,4 @@
+pub mod Products
+pub mod Sums
+pub mod Truths
+pub mod FittingLaws
