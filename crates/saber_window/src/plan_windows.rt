@@ -1,0 +1,268 @@
+// The windows of a plan, taken out of it once.
+ghost use Rattle.std.specs.Prelude.{◌≡◌, ℕ, ◌^◌, ◌<◌, ◌≤◌, ◌||◌, not, nat_lt, is_none};
+ghost use Rattle.saber_plan.specs.Trees.{tree_of};
+ghost use Rattle.saber_plan.specs.Answers.{frame};
+ghost use Rattle.saber_plan.specs.Checked.{IsChecked};
+ghost use Rattle.saber_plan.specs.Windows.{Fits, begun, begun_count, closed, closed_count, has, kind_of};
+ghost use Rattle.saber_plan.specs.Needs.{first_window, last_window, past_window};
+
+use crate::counts::{count_reached, count_to};
+use crate::laws::closed_within_begun;
+use crate::points::{ends_by, spans};
+use crate::rows::point;
+use crate::windowed::{Windowed, windowed_of};
+use saber_laws::{begun_are_counted, checked_fit, closed_are_counted};
+use saber_plan::{Kind, Mark, Measure, Plan, Row, Side};
+use std::marker::Model;
+
+/// The windows of a checked plan: one slide, and the size of each stream's windows. It is made once for
+/// a task, so that a row costs no walk through the plan. Contracts see it as the plan's frame.
+#[derive(Clone, Copy, Debug, PartialEq, Eq)]
+pub struct Windows {
+    windowed: Windowed,
+}
+
+impl Model for Windows {
+    ghost use Rattle.saber_plan.specs.Windows.{Frame, Fits};
+
+    ghost Value = { Frame };
+
+    ghost use Rattle.saber_window.specs.Frames.{frame_with, windowed_by};
+
+    ghost view = { λ w. frame_with w.windowed };
+
+    ghost invariant = { λ w. Fits (frame_with w.windowed) };
+
+    ghost inverse = { λ f. record { windowed = windowed_by f } };
+}
+
+impl Windows {
+    /// The windows of a checked plan.
+    pub fn of_plan(p: &Plan) -> Windows
+        requires { IsChecked (tree_of p.now) }
+        ensures frame { result ≡ frame (tree_of p.now) }
+        ensures fits { Fits result }
+    {
+        checked_fit();
+        Windows {
+            windowed: windowed_of(p.streams()),
+        }
+    }
+
+    /// How many windows are closed by the rows that this mark tells of, as the function of this name.
+    pub fn closed_below(&self, m: &Mark) -> u64
+        ensures count { result ≡ closed_count self.now m.now }
+        ensures closed { (i : ℕ) → nat_lt i result ≡ closed self.now i m.now }
+        ensures begun { result ≤ begun_count self.now m.now }
+    {
+        closed_are_counted();
+        closed_within_begun();
+        match self.windowed {
+            Windowed::Neither => 0,
+            Windowed::One {
+                measure: Measure::Rows,
+                slide,
+                size,
+            } => count_to(slide, size, m.left),
+            Windowed::One {
+                measure: Measure::Range,
+                slide,
+                size,
+            } => count_reached(slide, size, m.last),
+            Windowed::Both {
+                measure: Measure::Rows,
+                slide,
+                left,
+                right,
+            } => count_to(slide, left, m.left).min(count_to(slide, right, m.right)),
+            Windowed::Both {
+                measure: Measure::Range,
+                slide,
+                left,
+                right,
+            } => count_reached(slide, left.max(right), m.last),
+        }
+    }
+
+    /// How many windows are begun by them, as the function of this name.
+    pub fn begun_below(&self, m: &Mark) -> u64
+        ensures count { result ≡ begun_count self.now m.now }
+        ensures begun { (i : ℕ) → nat_lt i result ≡ begun self.now i m.now }
+    {
+        begun_are_counted();
+        match self.windowed {
+            Windowed::Neither => 0,
+            Windowed::One {
+                measure: Measure::Rows,
+                slide,
+                size: _,
+            } => count_to(slide, 1, m.left),
+            Windowed::Both {
+                measure: Measure::Rows,
+                slide,
+                left: _,
+                right: _,
+            } => count_to(slide, 1, m.left).max(count_to(slide, 1, m.right)),
+            Windowed::One {
+                measure: Measure::Range,
+                slide,
+                size: _,
+            } => count_reached(slide, 0, m.last),
+            Windowed::Both {
+                measure: Measure::Range,
+                slide,
+                left: _,
+                right: _,
+            } => count_reached(slide, 0, m.last),
+        }
+    }
+
+    /// What part of window i lies in a task's rows, as the function of this name.
+    pub fn kind_of(&self, i: u64, a: &Mark, b: &Mark) -> Option<Kind>
+        ensures kind { result ≡ kind_of self.now i a.now b.now }
+        ensures none { is_none result ≡ (closed self.now i a.now || not (begun self.now i b.now)) }
+    {
+        if i < self.closed_below(a) || i >= self.begun_below(b) {
+            return None;
+        }
+        let begun_before = i < self.begun_below(a);
+        if i < self.closed_below(b) {
+            return Some(if begun_before {
+                Kind::Closing
+            } else {
+                Kind::Complete
+            });
+        }
+        Some(if begun_before {
+            Kind::Pending
+        } else {
+            Kind::Opening
+        })
+    }
+
+    /// The first window that has a row, where the mark tells of the rows before it. It has the row only if
+    /// it is below the one of `past_window`. It is 0 for a row of a stream that has no windows.
+    #[inline]
+    pub fn first_window(&self, r: &Row, before: &Mark) -> u64
+        ensures { result ≡ first_window self.now (record { row = r.now; before = before.now }) }
+    {
+        match self.windowed {
+            Windowed::Neither => 0,
+            Windowed::One {
+                measure,
+                slide,
+                size,
+            } => match r.side {
+                Side::Left => count_to(slide, size, point(measure, r, before)),
+                Side::Right => 0,
+            },
+            Windowed::Both {
+                measure,
+                slide,
+                left,
+                right,
+            } => match r.side {
+                Side::Left => count_to(slide, left, point(measure, r, before)),
+                Side::Right => count_to(slide, right, point(measure, r, before)),
+            },
+        }
+    }
+
+    /// The window after the last one that has the row: how many windows begin at most there. Counts below
+    /// 2^63 leave room for it.
+    #[inline]
+    pub fn past_window(&self, r: &Row, before: &Mark) -> u64
+        requires left { before.now.left < 2 ^ 63 }
+        requires right { before.now.right < 2 ^ 63 }
+        ensures { result ≡ past_window self.now (record { row = r.now; before = before.now }) }
+    {
+        match self.windowed {
+            Windowed::Neither => 0,
+            Windowed::One {
+                measure,
+                slide,
+                size: _,
+            } => match r.side {
+                Side::Left => count_to(slide, 0, point(measure, r, before)),
+                Side::Right => 0,
+            },
+            Windowed::Both {
+                measure,
+                slide,
+                left: _,
+                right: _,
+            } => count_to(slide, 0, point(measure, r, before)),
+        }
+    }
+
+    /// Window i has the row.
+    #[inline]
+    pub fn has(&self, i: u64, r: &Row, before: &Mark) -> bool
+        ensures { result ≡ has self.now i (record { row = r.now; before = before.now }) }
+    {
+        match self.windowed {
+            Windowed::Neither => false,
+            Windowed::One {
+                measure,
+                slide,
+                size,
+            } => r.side == Side::Left && spans(slide, size, i, point(measure, r, before)),
+            Windowed::Both {
+                measure,
+                slide,
+                left,
+                right,
+            } => match r.side {
+                Side::Left => spans(slide, left, i, point(measure, r, before)),
+                Side::Right => spans(slide, right, i, point(measure, r, before)),
+            },
+        }
+    }
+
+    /// Both of these: the row lies in the windows from the one up to the other, and in no other.
+    #[inline]
+    pub fn row_windows(&self, r: &Row, before: &Mark) -> (u64, u64)
+        requires left { before.now.left < 2 ^ 63 }
+        requires right { before.now.right < 2 ^ 63 }
+        ensures first { result.0 ≡ first_window self.now (record { row = r.now; before = before.now }) }
+        ensures past { result.1 ≡ past_window self.now (record { row = r.now; before = before.now }) }
+    {
+        (self.first_window(r, before), self.past_window(r, before))
+    }
+
+    /// The last window that has the row, if any has it.
+    #[inline]
+    pub fn last_window(&self, r: &Row, before: &Mark) -> Option<u64>
+        requires left { before.now.left < 2 ^ 63 }
+        requires right { before.now.right < 2 ^ 63 }
+        ensures { result ≡ last_window self.now (record { row = r.now; before = before.now }) }
+    {
+        let (first, past) = self.row_windows(r, before);
+        if first < past { Some(past - 1) } else { None }
+    }
+
+    /// Window i ends at the row or before it: neither the row nor a later one of its stream is in it,
+    /// where timestamps do not fall (`past_have_none`).
+    #[inline]
+    pub fn is_past(&self, i: u64, r: &Row, before: &Mark) -> bool
+        ensures { result ≡ nat_lt i (first_window self.now (record { row = r.now; before = before.now })) }
+    {
+        match self.windowed {
+            Windowed::Neither => false,
+            Windowed::One {
+                measure,
+                slide,
+                size,
+            } => r.side == Side::Left && ends_by(slide, size, i, point(measure, r, before)),
+            Windowed::Both {
+                measure,
+                slide,
+                left,
+                right,
+            } => match r.side {
+                Side::Left => ends_by(slide, left, i, point(measure, r, before)),
+                Side::Right => ends_by(slide, right, i, point(measure, r, before)),
+            },
+        }
+    }
+}

@@ -1,0 +1,258 @@
+//! Windows worked out by hand.
+ghost use Rattle.std.specs.Prelude.{◌≡◌, ◌^◌, ◌<◌, IfOk};
+ghost use Rattle.saber_plan.specs.Rows.{stamp};
+ghost use Rattle.saber_plan.specs.Trees.{tree_of};
+ghost use Rattle.saber_plan.specs.Checked.{IsChecked, Pairs, WindowFits};
+
+use crate::{Windows, begun_below, closed_below, kind_of, step_mark, windows_of};
+use saber_plan::{
+    Expr, Item, Kind, Mark, Measure, NoMemory, Plan, Row, Shape, Side, Stream, Values, Window,
+};
+use std::alloc::Global;
+use std::test::Fail;
+
+const GREAT: u64 = 1 << 40;
+
+fn stream(window: Option<Window>) -> Stream
+    ensures { result ≡ record { columns = 1; window = window } }
+{
+    Stream { columns: 1, window }
+}
+
+// Counts the rows of each window of one stream.
+fn group(alloc: Global, measure: Measure, size: u64, slide: u64) -> Result<Plan, NoMemory>
+    requires { WindowFits (record { measure = measure; size = size; slide = slide }) }
+    ensures { IfOk result (λ p. IsChecked (tree_of p)) }
+{
+    let window = Window {
+        measure,
+        size,
+        slide,
+    };
+    let streams = vec![in alloc; stream(Some(window))]?;
+    let items = vec![in alloc; Item::Count]?;
+    Ok(Plan::new(Shape::Group, streams, items, Vec::new(alloc), None))
+}
+
+// Pairs the rows of each window of two streams, and prints 0 for each pair.
+fn join(alloc: Global, left: Window, right: Window) -> Result<Plan, NoMemory>
+    requires left { WindowFits left }
+    requires right { WindowFits right }
+    requires pairs { Pairs left right }
+    ensures { IfOk result (λ p. IsChecked (tree_of p)) }
+{
+    let streams = vec![in alloc; stream(Some(left)), stream(Some(right))]?;
+    let items = vec![in alloc; Item::Value(Expr::from_vec(Vec::new(alloc)))]?;
+    Ok(Plan::new(Shape::Join, streams, items, Vec::new(alloc), None))
+}
+
+// A row that has a timestamp alone.
+fn row(alloc: Global, side: Side, time: u32) -> Result<Row, NoMemory>
+    ensures { IfOk result (λ r. stamp r.values < 2 ^ 63) }
+{
+    let values = Values::from_slice(alloc, &[i64::from(time)])?;
+    Ok(Row { side, values })
+}
+
+#[test]
+fn points_lie_in_windows(rt: HostRuntime) {
+    let measure = Measure::Rows;
+    let wide = Window {
+        measure,
+        size: 3,
+        slide: 1,
+    };
+    assert_eq!(rt; windows_of(&wide, 4), Some((2, 4)));
+    assert_eq!(rt; windows_of(&wide, 1), Some((0, 1)));
+    let sparse = Window {
+        measure,
+        size: 1,
+        slide: 3,
+    };
+    assert_eq!(rt; windows_of(&sparse, 4), None);
+    assert_eq!(rt; windows_of(&sparse, 6), Some((2, 2)));
+    let single = Window {
+        measure,
+        size: 1,
+        slide: 1,
+    };
+    assert_eq!(rt; windows_of(&single, u64::MAX), Some((u64::MAX, u64::MAX)));
+    let great = Window {
+        measure,
+        size: GREAT,
+        slide: GREAT,
+    };
+    assert_eq!(rt; windows_of(&great, GREAT - 1), Some((0, 0)));
+    assert_eq!(rt; windows_of(&great, GREAT), Some((1, 1)));
+}
+
+// Windows of 3 seconds, every 2: 0 to 2, 2 to 4, 4 to 6, 6 to 8, 8 to 10, 10 to 12.
+#[test]
+fn rows_begin_and_close_windows(rt: HostRuntime) -> Result<(), Fail> {
+    let plan = group(rt.alloc(), Measure::Range, 3, 2)?;
+    let a = Mark {
+        left: 4,
+        right: 0,
+        last: Some(2),
+    };
+    let b = Mark {
+        left: 5,
+        right: 0,
+        last: Some(9),
+    };
+    let none = Mark {
+        left: 0,
+        right: 0,
+        last: None,
+    };
+    assert_eq!(rt;
+        (closed_below(&plan, &none), begun_below(&plan, &none)),
+        (0, 0)
+    );
+    assert_eq!(rt; (closed_below(&plan, &a), begun_below(&plan, &a)), (0, 2));
+    assert_eq!(rt; (closed_below(&plan, &b), begun_below(&plan, &b)), (4, 5));
+    let kinds = [
+        Some(Kind::Closing),
+        Some(Kind::Closing),
+        Some(Kind::Complete),
+        Some(Kind::Complete),
+        Some(Kind::Opening),
+        None,
+    ];
+    for (i, kind) in kinds.iter().enumerate() {
+        assert_eq!(rt; kind_of(&plan, i as u64, &a, &b), *kind, "window {i}");
+    }
+    // Window 1 has the time 2, and ends with 4.
+    assert_eq!(rt; kind_of(&plan, 1, &a, &a), Some(Kind::Pending));
+    assert_eq!(rt; kind_of(&plan, 3, &b, &b), None);
+    Ok(())
+}
+
+#[test]
+fn great_windows_close(rt: HostRuntime) -> Result<(), Fail> {
+    let windows = Windows::of_plan(&group(rt.alloc(), Measure::Rows, GREAT, GREAT)?);
+    for (left, closed, begun) in [
+        (0, 0, 0),
+        (1, 0, 1),
+        (GREAT - 1, 0, 1),
+        (GREAT, 1, 1),
+        (GREAT + 1, 1, 2),
+        (2 * GREAT, 2, 2),
+    ] {
+        let mark = Mark {
+            left,
+            right: 7,
+            last: Some(0),
+        };
+        assert_eq!(rt; windows.closed_below(&mark), closed, "{left} rows");
+        assert_eq!(rt; windows.begun_below(&mark), begun, "{left} rows");
+    }
+    Ok(())
+}
+
+// A join closes a window when both of its streams do.
+#[test]
+fn both_streams_close_windows(rt: HostRuntime) -> Result<(), Fail> {
+    let mark = Mark {
+        left: 5,
+        right: 3,
+        last: Some(6),
+    };
+    let measure = Measure::Rows;
+    let left = Window {
+        measure,
+        size: 2,
+        slide: 1,
+    };
+    let right = Window {
+        measure,
+        size: 3,
+        slide: 1,
+    };
+    let plan = join(rt.alloc(), left, right)?;
+    // Window 0 has the right rows 0 to 2, and window 4 the left row 4.
+    assert_eq!(rt;
+        (closed_below(&plan, &mark), begun_below(&plan, &mark)),
+        (1, 5)
+    );
+    let measure = Measure::Range;
+    let left = Window {
+        measure,
+        size: 2,
+        slide: 2,
+    };
+    let right = Window {
+        measure,
+        size: 5,
+        slide: 2,
+    };
+    let plan = join(rt.alloc(), left, right)?;
+    // Window 0 has the right rows of times 0 to 4, window 1 those of 2 to 6, window 3 begins with 6.
+    assert_eq!(rt;
+        (closed_below(&plan, &mark), begun_below(&plan, &mark)),
+        (1, 4)
+    );
+    Ok(())
+}
+
+// A row of time 4, after 5 left rows and 2 right ones.
+#[test]
+fn rows_lie_in_windows(rt: HostRuntime) -> Result<(), Fail> {
+    let alloc = rt.alloc();
+    let before = Mark {
+        left: 5,
+        right: 2,
+        last: Some(3),
+    };
+    let left = row(alloc, Side::Left, 4)?;
+    let right = row(alloc, Side::Right, 4)?;
+    let by_time = Windows::of_plan(&group(alloc, Measure::Range, 3, 2)?);
+    assert_eq!(rt; by_time.first_window(&left, &before), 1);
+    assert_eq!(rt; by_time.past_window(&left, &before), 3);
+    assert_eq!(rt; by_time.row_windows(&right, &before), (0, 0));
+    for (i, has, is_past) in [
+        (0, false, true),
+        (1, true, false),
+        (2, true, false),
+        (3, false, false),
+    ] {
+        assert_eq!(rt; by_time.has(i, &left, &before), has, "window {i}");
+        assert_eq!(rt; by_time.is_past(i, &left, &before), is_past, "window {i}");
+    }
+    let by_rows = Windows::of_plan(&group(alloc, Measure::Rows, 1, 4)?);
+    // Windows have the rows 0, 4, 8 and so on: not row 5.
+    assert_eq!(rt; by_rows.row_windows(&left, &before), (2, 2));
+    assert_eq!(rt; by_rows.last_window(&left, &before), None);
+    let measure = Measure::Rows;
+    let narrow = Window {
+        measure,
+        size: 1,
+        slide: 1,
+    };
+    let wide = Window {
+        measure,
+        size: 2,
+        slide: 1,
+    };
+    let joined = Windows::of_plan(&join(alloc, narrow, wide)?);
+    assert_eq!(rt; joined.row_windows(&left, &before), (5, 6));
+    assert_eq!(rt; joined.row_windows(&right, &before), (1, 3));
+    assert_eq!(rt; joined.last_window(&right, &before), Some(2));
+    assert_eq!(rt;
+        step_mark(&before, &left),
+        Mark {
+            left: 6,
+            right: 2,
+            last: Some(4)
+        }
+    );
+    assert_eq!(rt;
+        step_mark(&before, &right),
+        Mark {
+            left: 5,
+            right: 3,
+            last: Some(4)
+        }
+    );
+    Ok(())
+}
