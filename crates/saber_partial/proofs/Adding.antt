@@ -1,0 +1,43 @@
+-- One row added to a part.
+use Rattle.std.proofs.Common.{◌≡◌, List, [], ◌∷◌, Bool, true, false, cond, ℤ, Some, None, refl, sym, ◌∙◌, ap, subst, Vec, Global, ◌==◌, length}
+use Rattle.std.specs.Cmp.{tied_itself}
+use Rattle.std.specs.Ordering.{is_eq}
+use Rattle.std.specs.FinMap.{get, insert, from_entries, find, len, empty_of_len, get-from_entries, get-empty}
+use Rattle.std.proofs.lemmas.Bool.{eqb-true}
+use Rattle.saber_plan.specs.Tasks.{full}
+use Rattle.saber_plan.specs.Trees.{Tree}
+use Rattle.saber_plan.specs.Answers.{key_cmp, key}
+use Rattle.saber_plan.specs.Merges.{joined}
+use Rattle.saber_plan.specs.Parts.{Part, Numbers, numbers, join_numbers, group_part, merge}
+use Rattle.saber_partial.proofs.Keyed.{total, exact, merge-empty_right}
+use Rattle.saber_partial.specs.Tallies.{CanJoin, CanMerge, seen_entries, seen_groups}
+use Rattle.saber_partial.proofs.Finite.{take_one}
+use Rattle.saber_partial.proofs.Merging.{join_here, not_both}
+
+-- the part of one row
+pub one_part : (q : Tree) (zs : List ℤ) → group_part q (zs ∷ []) ≡ from_entries {R = key_cmp} ((key q.keys zs, numbers q.items (zs ∷ [])) ∷ [])
+unfolding group_part
+one_part q zs = ap (λ b. from_entries {R = key_cmp} ((key q.keys zs, numbers q.items (cond b (zs ∷ []) [])) ∷ [])) (ap is_eq (tied_itself total (key q.keys zs)))
+
+merge_one : (m : Part) (k : List ℤ) (v : Numbers) → insert m k (joined join_numbers (get m k) v) ≡ merge m (from_entries ((k, v) ∷ []))
+merge_one m k v = sym (merge-empty_right (insert m k (joined join_numbers (get m k) v))) ∙ take_one total exact join_numbers m k v [] refl
+
+-- put in at its key, joined with what was there
+pub add_at : (q : Tree) (m : Part) (zs : List ℤ) (k : List ℤ) (n : Numbers) → k ≡ key q.keys zs → n ≡ joined join_numbers (get m k) (numbers q.items (zs ∷ [])) → insert m k n ≡ merge m (group_part q (zs ∷ []))
+add_at q m zs k n h e = ap (insert m k) e ∙ ap (λ l. insert m l (joined join_numbers (get m l) (numbers q.items (zs ∷ [])))) h ∙ merge_one m (key q.keys zs) (numbers q.items (zs ∷ [])) ∙ ap (merge m) (sym (one_part q zs))
+
+-- the numbers there can be joined with those of the row
+pub add_fits : (q : Tree) (m : Part) (zs : List ℤ) (k : List ℤ) (a : Numbers) → k ≡ key q.keys zs → get m k ≡ Some a → CanMerge m (group_part q (zs ∷ [])) → CanJoin a (numbers q.items (zs ∷ []))
+add_fits q m zs k a h g c = join_here m (key q.keys zs) a (numbers q.items (zs ∷ [])) [] (subst (CanMerge m) (one_part q zs) c) (ap (get m) (sym h) ∙ g)
+
+some_found : (x : Vec ℤ Global × Numbers) (es : List (Vec ℤ Global × Numbers)) → get (seen_groups (x ∷ es)) x.0.items ≡ Some x.1
+some_found x es = get-from_entries total (seen_entries (x ∷ es)) x.0.items ∙ ap (λ b. cond (is_eq b) (Some x.1) (find key_cmp x.0.items (seen_entries es))) (tied_itself total x.0.items)
+
+some_case : (es : List (Vec ℤ Global × Numbers)) (b : Bool) → (len (seen_groups es) == 0) ≡ b → (length es ≡ 0 → ⊥) → cond b None (Some (seen_groups es)) ≡ Some (seen_groups es)
+some_case es false e h = refl
+some_case [] true e h = absurd (h refl)
+some_case (x ∷ es) true e h = absurd (not_both (ap (λ m. get m x.0.items) (empty_of_len (seen_groups (x ∷ es)) (eqb-true (len (seen_groups (x ∷ es))) 0 e)) ∙ get-empty key_cmp x.0.items) (some_found x es))
+
+-- a map with an entry is no empty part
+pub some_groups : (es : List (Vec ℤ Global × Numbers)) → (length es ≡ 0 → ⊥) → full (seen_groups es) ≡ Some (seen_groups es)
+some_groups es h = some_case es _ refl h

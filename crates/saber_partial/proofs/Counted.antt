@@ -1,0 +1,212 @@
+-- Parts of one query can be merged.
+use Rattle.std.proofs.Common.{◌≡◌, ℕ, suc, ◌+◌, ◌-◌, ◌^◌, ◌≤◌, List, [], ◌∷◌, ◌++◌, map, filter, flat_map, length, drop, Bool, true, false, cond, Option, Some, None, ℤ, unwrap_or, refl, sym, ◌∙◌, ap, subst, slice_range, arith}
+use Rattle.std.proofs.lemmas.List.{length-take, length-drop, length-map}
+use Rattle.std.specs.List.{AllByRecursion}
+use Rattle.std.specs.Ordering.{eq_by_cmp}
+use Rattle.std.specs.FinMap.{get, find, get-from_entries, get-empty}
+use Rattle.saber_plan.specs.declared.rows.Row.{Row}
+use Rattle.saber_plan.specs.declared.windows.Mark.{Mark}
+use Rattle.saber_plan.specs.declared.plans.Item.{Item}
+use Rattle.saber_plan.specs.declared.plans.Shape.{Shape}
+use Rattle.saber_plan.specs.declared.plans.Shape.TheVariants.{Select, Group, Join}
+use Rattle.saber_plan.specs.Trees.{Tree}
+use Rattle.saber_plan.specs.Values.{passes}
+use Rattle.saber_plan.specs.Windows.{Placed, placed, placed_after, no_rows, step_mark, inside, has}
+use Rattle.saber_plan.specs.Answers.{frame, passing, pairs_with, pair_key, is_left, is_right, by_shape, key_cmp, key, rows_of_key}
+use Rattle.saber_plan.specs.Parts.{Part, no_part, Numbers, numbers, join_numbers, merge, group_part, pair_part, pair_numbers, summed, least, greatest, plain, part}
+use Rattle.saber_partial.specs.Tallies.{CanJoin, CanMerge}
+use Rattle.saber_partial.specs.PartLaws.{OfItems, OfRows}
+use Rattle.saber_plan.specs.Merges.{join}
+use Rattle.saber_partial.proofs.Finite.{get-both}
+use Rattle.saber_partial.proofs.Zips.{zip_long}
+use Rattle.saber_partial.proofs.Keyed.{total, get-group_part, numbers_if}
+use Rattle.saber_partial.proofs.Merging.{not_both}
+
+can_join : (is : List Item) (a b : Numbers) → OfItems is a → OfItems is b → a.count + b.count ≤ 2 ^ 40 → CanJoin a b
+can_join is a b g h n = record {
+  counts = n;
+  sums = g.sums ∙ sym h.sums;
+  leasts = g.leasts ∙ sym h.leasts;
+  greatests = g.greatests ∙ sym h.greatests;
+  firsts = g.firsts ∙ sym h.firsts;
+}
+
+-- ---- groups
+
+numbers_fit : (is : List Item) (rows : List (List ℤ)) → OfItems is (numbers is rows)
+numbers_fit is rows = record { sums = length-map (summed is) _; leasts = length-map (least is) _; greatests = length-map (greatest is) _; firsts = length-map (plain is) _ }
+
+numbers_there : (is : List Item) (us : List (List ℤ)) (a : Numbers) → numbers_if is us ≡ Some a → numbers is us ≡ a
+numbers_there is [] a e = cc
+numbers_there is (zs ∷ us) a e = ap (λ o. unwrap_or o a) e
+
+few_case : {A : Type 0} (x : A) (l us : List A) (b : Bool) → length l ≤ length us → length (cond b (x ∷ l) l) ≤ suc (length us)
+few_case x l us true h = omega (arith, h)
+few_case x l us false h = omega (arith, h)
+
+few-filter : {A : Type 0} (p : A → Bool) (us : List A) → length (filter p us) ≤ length us
+few-filter p [] = omega arith
+few-filter p (x ∷ us) = few_case x (filter p us) us (p x) (few-filter p us)
+
+pub groups_of_rows : (q : Tree) (us : List (List ℤ)) → OfRows q (length us) (group_part q us)
+groups_of_rows q us = record {
+  at = λ k a e.
+      let low = few-filter (λ (zs : List ℤ). eq_by_cmp key_cmp k (key q.keys zs)) us in
+      let mine = numbers_there q.items (rows_of_key q.keys k us) a (sym (get-group_part q us k) ∙ e) in
+      subst (λ (x : Numbers). (x.count ≤ length us) × OfItems q.items x) mine (low, numbers_fit q.items (rows_of_key q.keys k us));
+}
+
+pub none_of_rows : (q : Tree) → OfRows q 0 no_part
+none_of_rows q = record { at = λ k a e. absurd (not_both (get-empty key_cmp k) e) }
+
+-- ---- merges
+
+pub small_merge : (q : Tree) (m n : ℕ) (a b : Part) → OfRows q m a → OfRows q n b → m + n ≤ 2 ^ 40 → CanMerge a b
+small_merge q m n a b g h l = record {
+  at = λ k x y e f.
+      let one = g.at k x e in
+      let two = h.at k y f in
+      let low = one.0 in
+      let high = two.0 in
+      can_join q.items x y one.1 two.1 (omega (arith, l, low, high));
+}
+
+joined_fit : (is : List Item) (x y : Numbers) → OfItems is x → OfItems is y → OfItems is (join_numbers x y)
+joined_fit is x y g h = record {
+  sums = zip_long _ x.sums y.sums (g.sums ∙ sym h.sums) ∙ g.sums;
+  leasts = zip_long _ x.leasts y.leasts (g.leasts ∙ sym h.leasts) ∙ g.leasts;
+  greatests = zip_long _ x.greatests y.greatests (g.greatests ∙ sym h.greatests) ∙ g.greatests;
+  firsts = zip_long _ x.firsts y.firsts (g.firsts ∙ sym h.firsts) ∙ g.firsts;
+}
+
+abbrev IsOf : Tree → ℕ → Numbers → Type 0
+IsOf q n x = (x.count ≤ n) × OfItems q.items x
+
+some_of : (x y : Numbers) → Some x ≡ Some y → x ≡ y
+some_of x y e = ap (λ o. unwrap_or o x) e
+
+join_case : (q : Tree) (m n : ℕ) (o p : Option Numbers) (z : Numbers) → ((x : Numbers) → o ≡ Some x → IsOf q m x) → ((y : Numbers) → p ≡ Some y → IsOf q n y) → join join_numbers o p ≡ Some z → IsOf q (m + n) z
+join_case q m n None p z g h e = let w = h z e in let high = w.0 in (omega (arith, high), w.1)
+join_case q m n (Some x) None z g h e = let w = g z e in let low = w.0 in (omega (arith, low), w.1)
+join_case q m n (Some x) (Some y) z g h e =
+    let one = g x refl in
+    let two = h y refl in
+    let low = one.0 in
+    let high = two.0 in
+    subst (IsOf q (m + n)) (some_of (join_numbers x y) z e) (omega (arith, low, high), joined_fit q.items x y one.1 two.1)
+
+pub small_stay : (q : Tree) (m n : ℕ) (a b : Part) → OfRows q m a → OfRows q n b → OfRows q (m + n) (merge a b)
+small_stay q m n a b g h = record { at = λ k z e. join_case q m n (get a k) (get b k) z (g.at k) (h.at k) (sym (get-both total join_numbers a b k) ∙ e) }
+
+pub groups_merge : (q : Tree) (us vs : List (List ℤ)) → length us + length vs ≤ 2 ^ 40 → CanMerge (group_part q us) (group_part q vs)
+groups_merge q us vs n = small_merge q (length us) (length vs) (group_part q us) (group_part q vs) (groups_of_rows q us) (groups_of_rows q vs) n
+
+-- ---- rows of windows
+
+placed_long : (m : Mark) (xs : List Row) → length (placed_after m xs) ≡ length xs
+unfolding placed_after
+placed_long m [] = refl
+placed_long m (x ∷ xs) = ap suc (placed_long (step_mark m x) xs)
+
+few_passing : (q : Tree) (i : ℕ) (xs : List Row) (x y : ℕ) → length (passing q (inside (frame q) i xs x y)) ≤ length (slice_range (placed xs) x y)
+few_passing q i xs x y =
+    let ps = inside (frame q) i xs x y in
+    let a = few-filter (λ (zs : List ℤ). passes q.predicate zs []) (map (λ (p : Placed). p.row.values) ps) in
+    let b = length-map ps (λ (p : Placed). p.row.values) in
+    let c = few-filter (has (frame q) i) (slice_range (placed xs) x y) in
+    omega (arith, a, b, c)
+
+range_long : (xs : List Row) (x y : ℕ) → length (slice_range (placed xs) x y) ≤ y - x
+range_long xs x y = let a = length-take (y - x) (drop x (placed xs)) in omega (arith, a)
+
+pub more_rows : (q : Tree) (m n : ℕ) (a : Part) → m ≤ n → OfRows q m a → OfRows q n a
+more_rows q m n a l g = record { at = λ k x e. let w = g.at k x e in let low = w.0 in (omega (arith, l, low), w.1) }
+
+pub parts_of_rows : (q : Tree) (i : ℕ) (xs : List Row) (x y : ℕ) → q.shape ≡ Group → OfRows q (y - x) (part q i xs x y)
+parts_of_rows q i xs x y g =
+    let us = passing q (inside (frame q) i xs x y) in
+    let few = few_passing q i xs x y in
+    let low = range_long xs x y in
+    subst (λ s. OfRows q (y - x) (by_shape s no_part (group_part q us) (pair_part q x (inside (frame q) i xs 0 y)))) (sym g)
+    (more_rows q (length us) (y - x) (group_part q us) (omega (arith, few, low)) (groups_of_rows q us))
+
+few_both : (xs : List Row) (x y z : ℕ) → length (slice_range (placed xs) x y) + length (slice_range (placed xs) y z) ≤ length xs
+few_both xs x y z =
+    let ps = placed xs in
+    let a = length-drop x ps in
+    let b = length-drop y ps in
+    let c = length-take (y - x) (drop x ps) in
+    let d = length-take (z - y) (drop y ps) in
+    let e = placed_long no_rows xs in
+    omega (arith, a, b, c, d, e)
+
+-- ---- pairs
+
+pair_fits : (q : Tree) (x y : Placed) → OfItems q.items (pair_numbers q x y)
+pair_fits q x y = record { sums = length-map (summed q.items) _; leasts = length-map (least q.items) _; greatests = length-map (greatest q.items) _; firsts = length-map (plain q.items) _ }
+
+-- numbers of one pair
+abbrev IsPair : Tree → Numbers → Type 0
+IsPair q a = (a.count ≡ 1) × OfItems q.items a
+
+abbrev ArePairs : Tree → List (List ℤ × Numbers) → Type 0
+ArePairs q es = AllByRecursion (λ e. IsPair q e.1) es
+
+pairs_append : (q : Tree) (es fs : List (List ℤ × Numbers)) → ArePairs q es → ArePairs q fs → ArePairs q (es ++ fs)
+pairs_append q [] fs g h = h
+pairs_append q (e ∷ es) fs g h = (g.0, pairs_append q es fs g.1 h)
+
+kept_case : (q : Tree) (e : List ℤ × Numbers) (l : List (List ℤ × Numbers)) (b : Bool) → IsPair q e.1 → ArePairs q l → ArePairs q (cond b (e ∷ l) l)
+kept_case q e l true g h = (g, h)
+kept_case q e l false g h = h
+
+pairs_filter : (q : Tree) (p : List ℤ × Numbers → Bool) (es : List (List ℤ × Numbers)) → ArePairs q es → ArePairs q (filter p es)
+pairs_filter q p [] h = tt
+pairs_filter q p (e ∷ es) h = kept_case q e (filter p es) (p e) h.0 (pairs_filter q p es h.1)
+
+pairs_map : (q : Tree) (x : Placed) (ys : List Placed) → ArePairs q (map (λ y. (pair_key x y, pair_numbers q x y)) ys)
+pairs_map q x [] = tt
+pairs_map q x (y ∷ ys) = ((refl, pair_fits q x y), pairs_map q x ys)
+
+pairs_all : (q : Tree) (xs ys : List Placed) → ArePairs q (flat_map (λ x. pairs_with q (pair_numbers q) x ys) xs)
+pairs_all q [] ys = tt
+pairs_all q (x ∷ xs) ys = pairs_append q (pairs_with q (pair_numbers q) x ys) (flat_map (λ x. pairs_with q (pair_numbers q) x ys) xs) (pairs_map q x (filter (λ y. passes q.predicate x.row.values y.row.values) ys)) (pairs_all q xs ys)
+
+found_case : (q : Tree) (v a : Numbers) (o : Option Numbers) (b : Bool) → IsPair q v → (o ≡ Some a → IsPair q a) → cond b (Some v) o ≡ Some a → IsPair q a
+found_case q v a o true g h e = subst (IsPair q) (ap (λ o. unwrap_or o a) e) g
+found_case q v a o false g h e = h e
+
+found_pair : (q : Tree) (k : List ℤ) (a : Numbers) (es : List (List ℤ × Numbers)) → ArePairs q es → find key_cmp k es ≡ Some a → IsPair q a
+found_pair q k a [] h e = cc
+found_pair q k a (x ∷ es) h e = found_case q x.1 a (find key_cmp k es) (eq_by_cmp key_cmp k x.0) h.0 (found_pair q k a es h.1) e
+
+pair_there : (q : Tree) (x : ℕ) (xs : List Placed) (k : List ℤ) (a : Numbers) → get (pair_part q x xs) k ≡ Some a → IsPair q a
+unfolding pair_part
+pair_there q x xs k a e = found_pair q k a _ (pairs_filter q _ _ (pairs_all q (filter is_left xs) (filter is_right xs))) (sym (get-from_entries total _ k) ∙ e)
+
+one_each : (m n : ℕ) → m ≡ 1 → n ≡ 1 → m + n ≤ 2 ^ 40
+one_each m n a b = omega (arith, a, b)
+
+pairs_merge : (q : Tree) (x y : ℕ) (xs ys : List Placed) → CanMerge (pair_part q x xs) (pair_part q y ys)
+pairs_merge q x y xs ys = record {
+  at = λ k a b e f.
+      let g = pair_there q x xs k a e in
+      let h = pair_there q y ys k b f in
+      can_join q.items a b g.1 h.1 (one_each a.count b.count g.0 h.0);
+}
+
+-- ---- parts
+
+shape_case : (s : Shape) (g h g1 h1 : Part) → CanMerge g g1 → CanMerge h h1 → CanMerge (by_shape s no_part g h) (by_shape s no_part g1 h1)
+shape_case Select g h g1 h1 a b = record { at = λ k x y e f. absurd (not_both (get-empty key_cmp k) e) }
+shape_case Group g h g1 h1 a b = a
+shape_case Join g h g1 h1 a b = b
+
+pub parts_merge : (q : Tree) (i : ℕ) (xs : List Row) (x y z : ℕ) → length xs ≤ 2 ^ 40 → CanMerge (part q i xs x y) (part q i xs y z)
+parts_merge q i xs x y z n =
+    let low = few_passing q i xs x y in
+    let high = few_passing q i xs y z in
+    let all = few_both xs x y z in
+    shape_case q.shape _ _ _ _
+    (groups_merge q (passing q (inside (frame q) i xs x y)) (passing q (inside (frame q) i xs y z)) (omega (arith, n, low, high, all)))
+    (pairs_merge q x y (inside (frame q) i xs 0 y) (inside (frame q) i xs 0 z))

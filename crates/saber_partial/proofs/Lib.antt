@@ -1,0 +1,11 @@
+pub mod Zips
+pub mod Sharing
+pub mod Gathered
+pub mod Finite
+pub mod Maps
+pub mod Keyed
+pub mod Merging
+pub mod Adding
+pub mod Fitting
+pub mod Lined
+pub mod Counted

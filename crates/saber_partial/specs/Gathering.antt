@@ -1,0 +1,59 @@
+-- What items want to know of rows, kind by kind.
+use Rattle.std.specs.Prelude.{◌^◌, ◌≤◌, List, [], map, nat_abs, ℤ, Option, Some, None}
+use Rattle.saber_plan.specs.declared.plans.Item.{Item}
+use Rattle.saber_plan.specs.declared.plans.Item.TheVariants.{Count, Sum, Min, Max, Value}
+use Rattle.saber_plan.specs.declared.expressions.Product.{Product}
+use Rattle.saber_plan.specs.Values.{value}
+use Rattle.saber_plan.specs.Bounds.{sum_bound}
+use Rattle.saber_plan.specs.Checked.{ExprFits}
+use Rattle.saber_plan.specs.Parts.{summed, least, greatest, plain}
+use Rattle.saber_eval.specs.Widths.{widths}
+use Rattle.saber_partial.specs.declared.gather.Gather.{Gather}
+use Rattle.saber_partial.specs.declared.gather.Gather.TheVariants.{Sums, Leasts, Greatests, Firsts}
+
+abbrev pub sum_of : Item → Option (List Product)
+sum_of (Sum e) = Some e
+sum_of _ = None
+
+abbrev pub least_of : Item → Option (List Product)
+least_of (Min e) = Some e
+least_of _ = None
+
+abbrev pub greatest_of : Item → Option (List Product)
+greatest_of (Max e) = Some e
+greatest_of _ = None
+
+abbrev pub plain_of : Item → Option (List Product)
+plain_of (Value e) = Some e
+plain_of _ = None
+
+-- the expression that an item wants gathered so
+abbrev pub wanted : Gather → Item → Option (List Product)
+wanted Sums i = sum_of i
+wanted Leasts i = least_of i
+wanted Greatests i = greatest_of i
+wanted Firsts i = plain_of i
+
+-- those of some items
+abbrev pub exprs_of : Gather → List Item → List (List Product)
+exprs_of Sums is = summed is
+exprs_of Leasts is = least is
+exprs_of Greatests is = greatest is
+exprs_of Firsts is = plain is
+
+-- their values over a row
+abbrev pub values_by : List ℤ → List (List Product) → List ℤ
+values_by zs es = map (λ e. value e zs []) es
+
+-- a sum grows by at most 2^86 a row
+abbrev pub IsSmall : Gather → ℤ → Type 0
+IsSmall Sums z = nat_abs z ≤ 2 ^ 86
+IsSmall _ z = Unit {0}
+
+-- an item can be worked out over a row
+abbrev pub CanCount : List ℤ → Item → Type 0
+CanCount zs Count = Unit {0}
+CanCount zs (Sum e) = ExprFits (widths zs []) e × (sum_bound 0 e ≤ 2 ^ 86)
+CanCount zs (Min e) = ExprFits (widths zs []) e
+CanCount zs (Max e) = ExprFits (widths zs []) e
+CanCount zs (Value e) = ExprFits (widths zs []) e

@@ -1,0 +1,24 @@
+-- Lines of groups, number by number.
+use Rattle.std.specs.Prelude.{◌≡◌, ℕ, List, ◌∷◌, ◌++◌, flat_map, map, ℤ, pos}
+use Rattle.std.specs.FinMap.{entries}
+use Rattle.std.specs.Fmt.{signed_decimal}
+use Rattle.saber_plan.specs.declared.plans.Item.{Item}
+use Rattle.saber_plan.specs.Answers.{line}
+use Rattle.saber_plan.specs.Parts.{Part, Numbers, answers_of}
+
+-- numbers with a comma before each
+abbrev pub cells : List ℤ → List ℕ
+cells zs = flat_map (λ z. 44 ∷ signed_decimal z) zs
+
+-- a line for each group's numbers
+abbrev pub lines_for : ℕ → List Item → List Numbers → List ℕ
+lines_for i is ns = flat_map (λ n. line (pos i ∷ answers_of is n)) ns
+
+-- what stands under each key, in the order of keys
+abbrev pub numbers_of : Part → List Numbers
+numbers_of p = map (λ e. e.1) (entries p)
+
+-- a text with something behind it, or nothing
+pub record Behind (old new : List ℕ) : Type 0 where
+  pub more : List ℕ
+  pub all : new ≡ old ++ more

@@ -1,0 +1,83 @@
+// Numbers of rows joined with those of later rows, in place.
+ghost use Rattle.std.specs.Prelude.{◌≡◌, ◌+◌, ◌≤◌, ◌+ℤ◌, length, take};
+ghost use Rattle.std.specs.Int.{int_min, int_max};
+ghost use Rattle.saber_plan.specs.Parts.{zip_by};
+ghost use Rattle.saber_partial.specs.Kinds.{SumsFit, joined_behind, joined_list};
+
+/// How many numbers of each kind a list has: sums, then least values, then greatest ones. Those
+/// behind them are the values of first rows.
+#[derive(Clone, Copy)]
+pub(crate) struct Shares {
+    pub(crate) sums: usize,
+    pub(crate) leasts: usize,
+    pub(crate) greatests: usize,
+}
+
+fn add_all(xs: &mut [i128], ys: &[i128])
+    requires long { length xs.old ≡ length ys.now }
+    requires fits { SumsFit xs.old ys.now }
+    ensures { xs.new ≡ zip_by ◌+ℤ◌ xs.old ys.now }
+{
+    for i in 0..xs.len() {
+        xs[i] += ys[i];
+    }
+}
+
+fn take_least(xs: &mut [i128], ys: &[i128])
+    requires long { length xs.old ≡ length ys.now }
+    ensures { xs.new ≡ zip_by int_min xs.old ys.now }
+{
+    for i in 0..xs.len() {
+        if ys[i] < xs[i] {
+            xs[i] = ys[i];
+        }
+    }
+}
+
+fn take_greatest(xs: &mut [i128], ys: &[i128])
+    requires long { length xs.old ≡ length ys.now }
+    ensures { xs.new ≡ zip_by int_max xs.old ys.now }
+{
+    for i in 0..xs.len() {
+        if xs[i] < ys[i] {
+            xs[i] = ys[i];
+        }
+    }
+}
+
+// Least values, then greatest ones; first values stay.
+fn join_behind(leasts: usize, greatests: usize, xs: &mut [i128], ys: &[i128])
+    requires there { leasts + greatests ≤ length xs.old }
+    requires long { length xs.old ≡ length ys.now }
+    ensures { xs.new ≡ joined_behind leasts greatests xs.old ys.now }
+{
+    let (front, rest) = xs.split_at_mut(leasts);
+    let (other_front, other_rest) = ys.split_at(leasts);
+    take_least(front, other_front);
+    let (middle, _) = rest.split_at_mut(greatests);
+    let (other_middle, _) = other_rest.split_at(greatests);
+    take_greatest(middle, other_middle);
+}
+
+fn join_slices(shares: Shares, xs: &mut [i128], ys: &[i128])
+    requires there { shares.sums + shares.leasts + shares.greatests ≤ length xs.old }
+    requires long { length xs.old ≡ length ys.now }
+    requires fits { SumsFit (take shares.sums xs.old) (take shares.sums ys.now) }
+    ensures { xs.new ≡ joined_list shares.sums shares.leasts shares.greatests xs.old ys.now }
+{
+    let (sums, rest) = xs.split_at_mut(shares.sums);
+    let (other_sums, other_rest) = ys.split_at(shares.sums);
+    add_all(sums, other_sums);
+    join_behind(shares.leasts, shares.greatests, rest, other_rest);
+}
+
+/// Joins numbers with those of later rows.
+#[tactic(auto, using(crate::proofs::Sharing::joined_long))]
+pub(crate) fn join_all(shares: Shares, xs: &mut Vec<i128>, ys: &[i128])
+    requires there { shares.sums + shares.leasts + shares.greatests ≤ length xs.old.items }
+    requires long { length xs.old.items ≡ length ys.now }
+    requires fits { SumsFit (take shares.sums xs.old.items) (take shares.sums ys.now) }
+    ensures { xs.new.items ≡ joined_list shares.sums shares.leasts shares.greatests xs.old.items ys.now }
+{
+    join_slices(shares, xs, ys);
+}

@@ -1,0 +1,87 @@
+// The lines of groups.
+ghost use Rattle.std.specs.Prelude.{◌≡◌, ◌∷◌, ◌++◌, OnOk, OnErr, decimal, pos};
+ghost use Rattle.std.specs.Fmt.{signed_decimal};
+ghost use Rattle.saber_plan.specs.Trees.{tree_of};
+ghost use Rattle.saber_plan.specs.Answers.{line};
+ghost use Rattle.saber_plan.specs.Parts.{answers_of, part_lines};
+ghost use Rattle.saber_partial.specs.Printing.{cells, lines_for, numbers_of, Behind};
+
+use crate::groups::Partial;
+use crate::tally::Tally;
+use itoa::Buffer;
+use saber_plan::{Item, NoMemory, Plan};
+
+fn write_window(out: &mut Vec<u8>, window: u64) -> Result<(), NoMemory>
+    ensures ok { OnOk result (out.new.items ≡ out.old.items ++ decimal window) }
+    ensures behind { Behind out.old.items out.new.items }
+{
+    let mut digits = Buffer::new();
+    out.extend_from_slice(digits.format(window).as_bytes())
+}
+
+fn write_number(out: &mut Vec<u8>, number: i128) -> Result<(), NoMemory>
+    ensures ok { OnOk result (out.new.items ≡ out.old.items ++ signed_decimal number) }
+    ensures behind { Behind out.old.items out.new.items }
+{
+    let mut digits = Buffer::new();
+    out.extend_from_slice(digits.format(number).as_bytes())
+}
+
+fn write_cell(out: &mut Vec<u8>, number: i128) -> Result<(), NoMemory>
+    ensures ok { OnOk result (out.new.items ≡ out.old.items ++ 44 ∷ signed_decimal number) }
+    ensures behind { Behind out.old.items out.new.items }
+{
+    out.push(b',')?;
+    write_number(out, number)
+}
+
+fn write_cells(out: &mut Vec<u8>, items: &[Item], tally: &Tally) -> Result<(), NoMemory>
+    ensures ok { OnOk result (out.new.items ≡ out.old.items ++ cells (answers_of items.now tally.now)) }
+    ensures behind { Behind out.old.items out.new.items }
+{
+    let mut unprinted = tally.unprinted();
+    for item in items {
+        let number = unprinted.next(item);
+        write_cell(out, number)?;
+    }
+    Ok(())
+}
+
+fn write_line(out: &mut Vec<u8>, window: u64, items: &[Item], tally: &Tally) -> Result<(), NoMemory>
+    ensures ok { OnOk result (out.new.items ≡ out.old.items ++ line (pos window ∷ answers_of items.now tally.now)) }
+    ensures behind { Behind out.old.items out.new.items }
+{
+    write_window(out, window)?;
+    write_cells(out, items, tally)?;
+    out.push(b'\n')?;
+    Ok(())
+}
+
+impl Partial {
+    fn write_lines(&self, items: &[Item], window: u64, out: &mut Vec<u8>) -> Result<(), NoMemory>
+        ensures ok { OnOk result (out.new.items ≡ out.old.items ++ lines_for window items.now (numbers_of self.now)) }
+        ensures behind { Behind out.old.items out.new.items }
+    {
+        for tally in self.groups.values() {
+            write_line(out, window, items, tally)?;
+        }
+        Ok(())
+    }
+
+    /// Writes the lines of the groups behind what `out` has: in the order of keys, each the window's
+    /// number and the answers to the plan's items in decimal, with commas between, and LF (this
+    /// project's rule). Where memory is wanting, `out` stays as it was.
+    pub fn lines(&self, plan: &Plan, window: u64, out: &mut Vec<u8>) -> Result<(), NoMemory>
+        ensures ok { OnOk result (out.new.items ≡ out.old.items ++ part_lines (tree_of plan.now) window self.now) }
+        ensures err { OnErr result (out.new.items ≡ out.old.items) }
+    {
+        let start = out.len();
+        match self.write_lines(plan.items(), window, out) {
+            Ok(()) => Ok(()),
+            Err(want) => {
+                out.truncate(start);
+                Err(want)
+            }
+        }
+    }
+}

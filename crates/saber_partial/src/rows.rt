@@ -1,0 +1,49 @@
+// Rows of a stream, counted into groups.
+ghost use Rattle.std.specs.Prelude.{◌≡◌, ◌<◌, ◌≤◌, [], ◌∷◌, length, OnOk, OnErr};
+ghost use Rattle.saber_plan.specs.declared.rows.Side.TheVariants.{Left};
+ghost use Rattle.saber_plan.specs.declared.plans.Shape.TheVariants.{Group};
+ghost use Rattle.saber_plan.specs.Trees.{tree_of};
+ghost use Rattle.saber_plan.specs.Rows.{RowFits};
+ghost use Rattle.saber_plan.specs.Checked.{IsChecked, columns_on};
+ghost use Rattle.saber_plan.specs.Answers.{key};
+ghost use Rattle.saber_plan.specs.Parts.{group_part, merge};
+ghost use Rattle.saber_partial.specs.Tallies.{CanMerge};
+ghost use Rattle.std.specs.List.{AllByRecursion};
+
+use crate::groups::Partial;
+use crate::row_numbers::RowNumbers;
+use arrayvec::ArrayVec;
+use saber_plan::{NoMemory, Plan, Row};
+use std::alloc::Global;
+
+// The key list of a row, of at most eight columns.
+fn key_of(columns: &[u32], numbers: &[i64]) -> ArrayVec<i64, 8>
+    requires few { length columns.now ≤ 8 }
+    requires there { AllByRecursion (λ k. k < length numbers.now) columns.now }
+    ensures { result.items ≡ key columns.now numbers.now }
+{
+    let mut list = ArrayVec::new();
+    for column in columns {
+        list.push(numbers[*column as usize]);
+    }
+    list
+}
+
+impl Partial {
+    /// Adds a row of a group query's stream to the group of its key (CQL 2006, GROUP BY; without
+    /// one, all rows have the empty key), whether or not it passes WHERE: callers ask
+    /// `saber_eval::holds` once a row. Only the first row of a group takes memory; where that is
+    /// wanting, nothing changes. `groups_can_merge` and `small_parts_merge` meet `room`.
+    pub fn add_row(&mut self, alloc: Global, plan: &Plan, row: &Row) -> Result<(), NoMemory>
+        requires checked { IsChecked (tree_of plan.now) }
+        requires group { (tree_of plan.now).shape ≡ Group }
+        requires row { RowFits Left (columns_on (tree_of plan.now).streams Left) row.now }
+        requires room { CanMerge self.old (group_part (tree_of plan.now) (row.now.values ∷ [])) }
+        ensures ok { OnOk result (self.new ≡ merge self.old (group_part (tree_of plan.now) (row.now.values ∷ []))) }
+        ensures err { OnErr result (self.new ≡ self.old) }
+    {
+        let numbers = RowNumbers::new(plan.items(), row);
+        let list = key_of(plan.keys(), row.values.as_slice());
+        self.add(alloc, list.as_slice(), &numbers)
+    }
+}

@@ -1,0 +1,152 @@
+// Groups that were worked out by hand, from the rules.
+ghost use Rattle.std.specs.Prelude.{◌≡◌, ◌^◌, ◌≤◌, ◌∷◌, [], length, IfOk, Some, None, false};
+ghost use Rattle.saber_plan.specs.declared.rows.Side.TheVariants as s;
+ghost use Rattle.saber_plan.specs.declared.expressions.Factor.TheVariants as f;
+ghost use Rattle.saber_plan.specs.declared.plans.Item.TheVariants as i;
+ghost use Rattle.saber_plan.specs.declared.plans.Shape.TheVariants as h;
+ghost use Rattle.saber_plan.specs.declared.windows.Measure.TheVariants as m;
+ghost use Rattle.saber_plan.specs.Trees.{tree_of};
+ghost use Rattle.saber_plan.specs.Rows.{RowFits};
+ghost use Rattle.saber_plan.specs.Checked.{IsChecked, columns_on};
+ghost use Rattle.saber_partial.specs.PartLaws.{OfRows};
+
+use super::*;
+use saber_plan::{
+    Expr, Factor, Factors, Item, Measure, NoMemory, Plan, Product, Row, Shape, Side, Stream,
+    Values, Window,
+};
+use std::alloc::Global;
+use std::test::Fail;
+
+fn column(alloc: Global, index: u32) -> Result<Expr, NoMemory>
+    ensures { IfOk result (λ e. e ≡ record { minus = false; factors = f.Column s.Left index ∷ [] } ∷ []) }
+{
+    let factor = Factor::Column {
+        side: Side::Left,
+        index,
+    };
+    let factors = Factors::from_vec(vec![in alloc; factor]?);
+    let product = Product {
+        minus: false,
+        factors,
+    };
+    Ok(Expr::from_vec(vec![in alloc; product]?))
+}
+
+// Three columns: a time, a key and a number.
+fn plan(alloc: Global, items: Vec<Item>, keys: Vec<u32>) -> Result<Plan, NoMemory>
+    ensures { IfOk result (λ p. tree_of p ≡ record { shape = h.Group; streams = record { columns = 3; window = Some (record { measure = m.Rows; size = 3; slide = 3 }) } ∷ []; items = items.items; keys = keys.items; predicate = None }) }
+{
+    let window = Window {
+        measure: Measure::Rows,
+        size: 3,
+        slide: 3,
+    };
+    let stream = Stream {
+        columns: 3,
+        window: Some(window),
+    };
+    let streams = vec![in alloc; stream]?;
+    Ok(Plan::new(Shape::Group, streams, items, keys, None))
+}
+
+// The key and the sum of the numbers, by the key.
+fn sums(alloc: Global) -> Result<Plan, NoMemory>
+    ensures { IfOk result (λ p. IsChecked (tree_of p) × ((tree_of p).shape ≡ h.Group) × (columns_on (tree_of p).streams s.Left ≡ 3)) }
+{
+    let key = Item::Value(column(alloc, 1)?);
+    let sum = Item::Sum(column(alloc, 2)?);
+    plan(alloc, vec![in alloc; key, sum]?, vec![in alloc; 1]?)
+}
+
+// The least and greatest number and the count, of all rows.
+fn ends(alloc: Global) -> Result<Plan, NoMemory>
+    ensures { IfOk result (λ p. IsChecked (tree_of p) × ((tree_of p).shape ≡ h.Group) × (columns_on (tree_of p).streams s.Left ≡ 3)) }
+{
+    let least = Item::Min(column(alloc, 2)?);
+    let greatest = Item::Max(column(alloc, 2)?);
+    let items = vec![in alloc; least, greatest, Item::Count]?;
+    plan(alloc, items, Vec::new(alloc))
+}
+
+fn row(alloc: Global, time: u32, key: i64, number: i64) -> Result<Row, NoMemory>
+    ensures { IfOk result (λ r. RowFits s.Left 3 r) }
+{
+    let values = Values::from_slice(alloc, &[i64::from(time), key, number])?;
+    Ok(Row {
+        side: Side::Left,
+        values,
+    })
+}
+
+fn grouped(alloc: Global, plan: &Plan, rows: &[(u32, i64, i64)]) -> Result<Partial, NoMemory>
+    requires checked { IsChecked (tree_of plan.now) }
+    requires group { (tree_of plan.now).shape ≡ h.Group }
+    requires columns { columns_on (tree_of plan.now).streams s.Left ≡ 3 }
+    requires few { length rows.now ≤ 2 ^ 40 }
+    ensures { IfOk result (λ p. OfRows (tree_of plan.now) (length rows.now) p) }
+{
+    let mut part = Partial::empty(alloc);
+    groups_are_of_rows();
+    small_parts_merge();
+    for (time, key, number) in rows {
+        let row = row(alloc, *time, *key, *number)?;
+        part.add_row(alloc, plan, &row)?;
+    }
+    Ok(part)
+}
+
+const ROWS: [(u32, i64, i64); 5] = [(0, 1, 10), (1, 1, 20), (2, 2, 5), (2, 1, 7), (9, 2, 1)];
+
+#[test]
+fn sums_by_key(rt: HostRuntime) -> Result<(), Fail> {
+    let alloc = rt.alloc();
+    let plan = sums(alloc)?;
+    let part = grouped(alloc, &plan, &ROWS[..3])?;
+    assert!(rt; !part.is_empty());
+    let mut out = vec![in alloc; b'#']?;
+    part.lines(&plan, 0, &mut out)?;
+    assert_eq!(rt; out.as_slice(), b"#0,1,30\n0,2,5\n".as_slice());
+    Ok(())
+}
+
+#[test]
+fn ends_of_all(rt: HostRuntime) -> Result<(), Fail> {
+    let alloc = rt.alloc();
+    let plan = ends(alloc)?;
+    let part = grouped(alloc, &plan, &ROWS[..4])?;
+    let mut out = Vec::new(alloc);
+    part.lines(&plan, 0, &mut out)?;
+    assert_eq!(rt; out.as_slice(), b"0,5,20,4\n".as_slice());
+    Ok(())
+}
+
+#[test]
+fn great_sums(rt: HostRuntime) -> Result<(), Fail> {
+    let alloc = rt.alloc();
+    let plan = sums(alloc)?;
+    let part = grouped(alloc, &plan, &[(0, -1, i64::MIN), (0, -1, i64::MIN)])?;
+    let mut out = Vec::new(alloc);
+    part.lines(&plan, 12, &mut out)?;
+    assert_eq!(rt; out.as_slice(), b"12,-1,-18446744073709551616\n".as_slice());
+    Ok(())
+}
+
+// Rows 0 to 2, and then rows 3 and 4: a key that both have, and one that the first alone has.
+#[test]
+fn halves_make_the_whole(rt: HostRuntime) -> Result<(), Fail> {
+    let alloc = rt.alloc();
+    let plan = sums(alloc)?;
+    let mut part = grouped(alloc, &plan, &[(0, 1, 10), (1, 3, 20), (2, 2, 5)])?;
+    let later = grouped(alloc, &plan, &[(2, 1, 7), (9, 4, 1)])?;
+    small_parts_merge();
+    part.merge(later)?;
+    let mut out = Vec::new(alloc);
+    part.lines(&plan, 7, &mut out)?;
+    assert_eq!(rt;
+        out.as_slice(),
+        b"7,1,17\n7,2,5\n7,3,20\n7,4,1\n".as_slice()
+    );
+    assert!(rt; Partial::empty(alloc).is_empty());
+    Ok(())
+}

@@ -1,0 +1,86 @@
+// The numbers of a group, in the order of the items.
+ghost use Rattle.std.specs.Prelude.{◌≡◌, List, ◌∷◌, drop};
+ghost use Rattle.saber_plan.specs.declared.plans.Item.{Item};
+ghost use Rattle.saber_plan.specs.Parts.{first_number, answers_of};
+
+use saber_plan::Item;
+use std::marker::Model;
+
+/// What is still to be printed of a group's numbers, kind by kind.
+#[derive(Drop)]
+pub(crate) struct Unprinted<'a> {
+    count: u64,
+    sums: &'a [i128],
+    leasts: &'a [i128],
+    greatests: &'a [i128],
+    firsts: &'a [i128],
+}
+
+impl<'a> Model for Unprinted<'a> {
+    ghost use Rattle.saber_plan.specs.Parts.{Numbers};
+
+    ghost Value = { Numbers };
+
+    ghost view = { λ u. record { count = u.count; sums = u.sums.now; leasts = u.leasts.now; greatests = u.greatests.now; firsts = u.firsts.now } };
+}
+
+// The first number, or 0, and those behind it.
+fn first(numbers: &[i128]) -> (i128, &[i128])
+    ensures number { result.0 ≡ first_number numbers.now }
+    ensures behind { result.1.now ≡ drop 1 numbers.now }
+{
+    match numbers.split_first() {
+        Some((number, behind)) => (*number, behind),
+        None => (0, numbers),
+    }
+}
+
+impl<'a> Unprinted<'a> {
+    /// All of a group's numbers.
+    pub(crate) fn new(
+        count: u64,
+        sums: &'a [i128],
+        leasts: &'a [i128],
+        greatests: &'a [i128],
+        firsts: &'a [i128],
+    ) -> Unprinted<'a>
+        ensures { result ≡ record { count = count; sums = sums.now; leasts = leasts.now; greatests = greatests.now; firsts = firsts.now } }
+    {
+        Unprinted {
+            count,
+            sums,
+            leasts,
+            greatests,
+            firsts,
+        }
+    }
+
+    /// The number of the next item.
+    pub(crate) fn next(&mut self, item: &Item) -> i128
+        ensures { (is : List Item) → answers_of (item.now ∷ is) self.old ≡ result ∷ answers_of is self.new }
+    {
+        match item {
+            Item::Count => i128::from(self.count),
+            Item::Sum(_) => {
+                let (number, behind) = first(self.sums);
+                self.sums = behind;
+                number
+            }
+            Item::Min(_) => {
+                let (number, behind) = first(self.leasts);
+                self.leasts = behind;
+                number
+            }
+            Item::Max(_) => {
+                let (number, behind) = first(self.greatests);
+                self.greatests = behind;
+                number
+            }
+            Item::Value(_) => {
+                let (number, behind) = first(self.firsts);
+                self.firsts = behind;
+                number
+            }
+        }
+    }
+}
