@@ -1,0 +1,11 @@
+//! What a task is, and what an operator makes of it: the rows of a task, its piece with the parts of
+//! windows (SABER 2016: fragments), and the trait that every kind of query implements.
+#![tactic(auto)]
+
+mod operator;
+mod pieces;
+mod tasks;
+
+pub use operator::Operator;
+pub use pieces::{Parts, Piece, Text};
+pub use tasks::{Rows, TaskRows};

@@ -1,0 +1,100 @@
+// A group query and its windows.
+ghost use Rattle.std.specs.Prelude.{◌≡◌, ◌≤◌, ◌^◌, nat_lt};
+ghost use Rattle.saber_plan.specs.declared.plans.Shape.TheVariants as shapes;
+ghost use Rattle.saber_plan.specs.Trees.{tree_of};
+ghost use Rattle.saber_plan.specs.Checked.{IsChecked};
+ghost use Rattle.saber_plan.specs.Windows.{Fits, closed_count, begun_count};
+ghost use Rattle.saber_plan.specs.Answers.{frame};
+ghost use Rattle.saber_plan.specs.Needs.{first_window, past_window};
+ghost use Rattle.saber_laws.specs.Plans.{OneWindow};
+
+use saber_laws::{checked_fit, groups_have_one_window};
+use saber_plan::{Mark, Plan, Row};
+use saber_window::Windows;
+use std::marker::Model;
+
+/// The operator of a checked group query, over its plan. Contracts see it as the plan.
+#[derive(Drop)]
+pub struct Group<'a> {
+    pub(crate) plan: &'a Plan,
+    pub(crate) windows: Windows,
+}
+
+impl<'a> Model for Group<'a> {
+    ghost use Rattle.std.specs.Prelude.{◌≡◌};
+    ghost use Rattle.saber_plan.specs.declared.plans.Shape.TheVariants as shapes;
+    ghost use Rattle.saber_plan.specs.declared.plans.Plan.{Plan};
+    ghost use Rattle.saber_plan.specs.Trees.{tree_of};
+    ghost use Rattle.saber_plan.specs.Checked.{IsChecked};
+    ghost use Rattle.saber_plan.specs.Answers.{frame};
+    ghost use Rattle.saber_plan.specs.contracts.predicates.Pred as e;
+    ghost use Rattle.std.specs.Coded.{codes};
+
+    ghost Value = { Plan };
+
+    ghost coded = { Prim.hlevel (codes, e.the_row.coded) };
+
+    ghost view = { λ g. g.plan.now };
+
+    ghost invariant = { λ g. IsChecked (tree_of g.plan.now) × ((tree_of g.plan.now).shape ≡ shapes.Group) × (g.windows ≡ frame (tree_of g.plan.now)) };
+}
+
+impl<'a> Group<'a> {
+    /// The operator of this plan. Takes no memory.
+    pub fn new(plan: &'a Plan) -> Group<'a>
+        requires checked { IsChecked (tree_of plan.now) }
+        requires group { (tree_of plan.now).shape ≡ shapes.Group }
+        ensures { result ≡ plan.now }
+    {
+        Group {
+            plan,
+            windows: Windows::of_plan(plan),
+        }
+    }
+
+    /// It groups rows, and its stream has a window, which fits.
+    pub(crate) fn has_window(&self)
+        ensures group { (tree_of self.now).shape ≡ shapes.Group }
+        ensures window { OneWindow (tree_of self.now) }
+        ensures fits { Fits (frame (tree_of self.now)) }
+    {
+        let _plan = &self.plan;
+        groups_have_one_window();
+        checked_fit();
+    }
+
+    /// Window i ends at the row or before it.
+    pub(crate) fn is_past(&self, i: u64, row: &Row, before: &Mark) -> bool
+        ensures { result ≡ nat_lt i (first_window (frame (tree_of self.now)) (record { row = row.now; before = before.now })) }
+    {
+        let _plan = &self.plan;
+        self.windows.is_past(i, row, before)
+    }
+
+    /// The row lies in the windows from the one up to the other, and in no other.
+    pub(crate) fn row_windows(&self, row: &Row, before: &Mark) -> (u64, u64)
+        requires left { before.now.left ≤ 2 ^ 40 }
+        requires right { before.now.right ≤ 2 ^ 40 }
+        ensures first { result.0 ≡ first_window (frame (tree_of self.now)) (record { row = row.now; before = before.now }) }
+        ensures past { result.1 ≡ past_window (frame (tree_of self.now)) (record { row = row.now; before = before.now }) }
+    {
+        let _plan = &self.plan;
+        self.windows.row_windows(row, before)
+    }
+
+    /// How many windows are closed by the rows that a mark tells of.
+    pub(crate) fn closed_below(&self, mark: &Mark) -> u64
+        ensures { result ≡ closed_count (frame (tree_of self.now)) mark.now }
+    {
+        let _plan = &self.plan;
+        self.windows.closed_below(mark)
+    }
+
+    /// How many windows are begun by them.
+    pub(crate) fn begun_below(&self, mark: &Mark) -> u64
+        ensures { result ≡ begun_count (frame (tree_of self.now)) mark.now }
+    {
+        let _plan = &self.plan;
+        self.windows.begun_below(mark)
+    }
+}

@@ -1,0 +1,65 @@
+// The rows of a task, one by one.
+ghost use Rattle.std.specs.Prelude.{◌≡◌, ◌≤◌, ◌^◌, [], IfOk};
+ghost use Rattle.std.specs.List.{AllByRecursion};
+ghost use Rattle.saber_plan.specs.Values as v;
+ghost use Rattle.saber_plan.specs.Windows as w;
+ghost use Rattle.saber_plan.specs.Trees.{tree_of};
+ghost use Rattle.saber_plan.specs.Given.{IsRowOf, RowsFit};
+ghost use Rattle.saber_group.specs.Batches.{flags};
+
+use crate::group::Group;
+use saber_eval::{holds, one_stream_fits};
+use saber_laws::groups_have_one_window;
+use saber_plan::{Mark, NoMemory, Row};
+use saber_window::{stamps_fit, step_mark};
+use std::alloc::Global;
+
+impl Group<'_> {
+    /// Whether a row passes WHERE.
+    fn passes(&self, row: &Row) -> bool
+        requires { IsRowOf (tree_of self.now) row.now }
+        ensures { result ≡ v.passes (tree_of self.now).predicate row.now.values [] }
+    {
+        groups_have_one_window();
+        one_stream_fits();
+        match self.plan.predicate() {
+            Some(predicate) => holds(predicate, row),
+            None => true,
+        }
+    }
+
+    /// Which of some rows pass.
+    pub(crate) fn passing(&self, alloc: Global, rows: &[Row]) -> Result<Vec<bool>, NoMemory>
+        requires { AllByRecursion (IsRowOf (tree_of self.now)) rows.now }
+        ensures { IfOk result (λ passing. passing.items ≡ flags (tree_of self.now) rows.now) }
+    {
+        let mut passing = Vec::with_capacity(alloc, rows.len())?;
+        for row in rows {
+            passing.push(self.passes(row))?;
+        }
+        Ok(passing)
+    }
+
+    /// The mark after one more row.
+    pub(crate) fn step(&self, before: &Mark, row: &Row) -> Mark
+        requires row { IsRowOf (tree_of self.now) row.now }
+        requires left { before.now.left ≤ 2 ^ 40 }
+        requires right { before.now.right ≤ 2 ^ 40 }
+        ensures { result ≡ w.step_mark before.now row.now }
+    {
+        stamps_fit();
+        step_mark(before, row)
+    }
+
+    /// The mark after some rows.
+    pub(crate) fn mark_over(&self, before: &Mark, rows: &[Row]) -> Mark
+        requires { RowsFit (tree_of self.now) before.now rows.now }
+        ensures { result ≡ w.mark_after before.now rows.now }
+    {
+        let mut mark = *before;
+        for row in rows {
+            mark = self.step(&mark, row);
+        }
+        mark
+    }
+}
