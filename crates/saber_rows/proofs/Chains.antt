@@ -11,6 +11,7 @@ use Rattle.saber_rows.specs.declared.ends.Stop.{Stop}
 use Rattle.saber_rows.specs.declared.ends.Stop.TheVariants.{AllRead, Failed}
 use Rattle.saber_rows.specs.Reader.{Reader, rest_of, CanFollow, answer_of}
 use Rattle.saber_rows.specs.Calls.{Moves, EndsBy, given_by, kept_by, last_after}
+use Rattle.saber_rows.specs.Laws.{MovesGoOn, ReadersStand}
 use Rattle.saber_rows.specs.Turns.{Steps, LineGives, TurnGives, IfAgain, HasEnough, same}
 use Rattle.saber_rows.proofs.ReadSteps.{given_none, enough_again}
 
@@ -50,7 +51,7 @@ given_append : (xs ys : List ℕ) (o : Option (List ℕ)) → given xs (given ys
 given_append xs ys None = refl
 given_append xs ys (Some zs) = ap Some (sym (append_assoc xs ys zs))
 
-module _ (a b c : Reader) (h1 h2 h3 : Option (List ℕ)) (first : Moves same a b h1 h2) where
+module _ {f : Read → Read} (a b c : Reader) (h1 h2 h3 : Option (List ℕ)) (first : Moves f a b h1 h2) where
   -- what follows the second can follow the first
   followed : (partial : Bool) (taken z : List ℕ) → (b.ended ≡ true → (taken ≡ []) × (c.ended ≡ true)) → CanFollow partial c z → CanFollow partial b (taken ++ z)
   followed partial taken z still follow e = ((follow (still e).1).0, rw ((still e).0) (follow (still e).1).1)
@@ -62,7 +63,7 @@ module _ (a b c : Reader) (h1 h2 h3 : Option (List ℕ)) (first : Moves same a b
       subst EndsEmpty back (first.seen unended e)
   seen_in out next false e unended ended = next.seen e ended
 
-  pub chain : (out : Read → Read) → Moves out b c h2 h3 → Moves out a c h1 h3
+  pub chain : (out : Read → Read) → Moves out b c h2 h3 → Moves (λ read. f (out read)) a c h1 h3
   chain out next = record {
     taken = first.taken ++ next.taken;
     left = first.left ∙ ap (given first.taken) next.left ∙ given_append first.taken next.taken h3;
@@ -70,7 +71,7 @@ module _ (a b c : Reader) (h1 h2 h3 : Option (List ℕ)) (first : Moves same a b
     count = omega (arith, first.count, next.count, length-append first.done next.done);
     lines = λ z follow. ap (λ t. lines_of (a.held ++ t)) (append_assoc first.taken next.taken z) ∙ first.lines (next.taken ++ z) (followed false next.taken z next.still follow)
         ∙ ap (λ ls. first.done ++ ls) (next.lines z follow) ∙ sym (append_assoc first.done next.done (lines_of (c.held ++ z)));
-    rest = λ partial z follow. ap (rest_of partial a) (append_assoc first.taken next.taken z) ∙ first.rest partial (next.taken ++ z) (followed partial next.taken z next.still follow) ∙ next.rest partial z follow;
+    rest = λ partial z follow. ap (rest_of partial a) (append_assoc first.taken next.taken z) ∙ first.rest partial (next.taken ++ z) (followed partial next.taken z next.still follow) ∙ ap f (next.rest partial z follow);
     still = λ e. (rw ((first.still e).0, (next.still (first.still e).1).0) refl, (next.still (first.still e).1).1);
     seen = λ unended ended. seen_in out next b.ended refl unended ended;
   }
@@ -129,3 +130,11 @@ stands r had = record {
   still = λ e. (refl, e);
   seen = λ unended e. cc;
 }
+
+-- ---- the laws of moves
+
+pub moves_go_on : MovesGoOn
+moves_go_on f g a b c h1 h2 h3 first next = chain a b c h1 h2 h3 first g next
+
+pub readers_stand : ReadersStand
+readers_stand r had = stands r had

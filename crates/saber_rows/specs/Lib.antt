@@ -7,3 +7,4 @@ pub mod QuickRows
 pub mod Reader
 pub mod Calls
 pub mod Turns
+pub mod Laws

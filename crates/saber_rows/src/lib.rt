@@ -5,6 +5,7 @@ mod buffer;
 mod ends;
 mod fields;
 mod judge;
+mod laws;
 mod line_feeds;
 mod lines;
 mod numbers;
@@ -13,4 +14,5 @@ mod quick_rows;
 mod tests;
 
 pub use ends::RowEnd;
+pub use laws::{moves_go_on, readers_stand};
 pub use lines::Lines;

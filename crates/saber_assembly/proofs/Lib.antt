@@ -1,0 +1,5 @@
+mod Storing
+mod Cutting
+mod Continuing
+mod Prefixes
+mod Stepping
