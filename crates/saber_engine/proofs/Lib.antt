@@ -1,0 +1,7 @@
+mod Nothing
+mod Readings
+mod Tasking
+mod Counting
+mod Turning
+mod Starting
+mod Ending
