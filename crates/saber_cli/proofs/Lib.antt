@@ -1,10 +1,8 @@
-pub mod CountedLaws
 pub mod TextLemmas
 pub mod FileLemmas
-pub mod CountLemmas
 pub mod AnsweredLemmas
-pub mod PlannedLemmas
 pub mod LeavesLemmas
+pub mod TakenLemmas
 pub mod DueLemmas
 pub mod RunLemmas
 pub mod ShowLemmas

@@ -4,8 +4,10 @@ use Rattle.saber_plan.specs.Rows.{Read}
 use Rattle.saber_words.specs.Commands.{Asked, command_of}
 use Rattle.saber_words.specs.declared.commands.WordsFault.{WordsFault}
 use Rattle.saber_words.specs.declared.commands.WordsFault.TheVariants as fault
+use Rattle.saber_notes.specs.declared.outcome.InputFile.TheVariants.{Left}
 use Rattle.saber_notes.specs.declared.outcome.Outcome.{Outcome}
 use Rattle.saber_notes.specs.declared.outcome.Outcome.TheVariants.{Done, Usage, FileCount, QueryFault, LineRefused, OpenFault, ReadFault, WriteFault, NoMemory}
+use Rattle.saber_cli.specs.Laws.{Laws}
 use Rattle.saber_cli.specs.Due.{Contents, Due, IsDueFor, IsDue, no_command, by_command}
 use Rattle.saber_cli.specs.Causes.{HasCause, Allows, Ends, ShowsText}
 use Rattle.saber_cli.specs.Puts.{PutsOut}
@@ -16,7 +18,7 @@ use Rattle.saber_cli.proofs.DueLemmas.{lacks_allowed, early_puts}
 -- ---- causes
 
 more_ends : (p q : Due → Type 0) (end : Read → Type 0) → ((d : Due) → p d → q d) → Ends p end → Ends q end
-more_ends p q end f e = record { plan = e.plan; read = e.read; is_due = f _ e.is_due; ends = e.ends }
+more_ends p q end f e = record { plan = e.plan; task = e.task; read = e.read; is_due = f _ e.is_due; ends = e.ends }
 
 more_shows : (p q : Due → Type 0) → ((d : Due) → p d → q d) → ShowsText p → ShowsText q
 more_shows p q f s = record { out = s.out; is_due = f _ s.is_due }
@@ -66,11 +68,16 @@ memory_allowed : (ws : List (List ℕ)) (files : Contents) (d : Due) → IsDue w
 memory_allowed ws files d (no_command n u) = subst (λ x. Allows x NoMemory) (sym u) (inr refl)
 memory_allowed ws files d (by_command c k h) = lacks_allowed files c NoMemory d (inr refl) h
 
-memory_puts : (ws : List (List ℕ)) (files : Contents) (d : Due) → IsDue ws files d → PutsOut d NoMemory 0 []
-memory_puts ws files d (no_command n u) = subst (λ x. PutsOut x NoMemory 0 []) (sym u) (refl, refl)
-memory_puts ws files d (by_command c k h) = early_puts files c NoMemory d tt h
+memory_puts : Laws → (ws : List (List ℕ)) (files : Contents) (d : Due) → IsDue ws files d → PutsOut d NoMemory 0 []
+memory_puts ls ws files d (no_command n u) = subst (λ x. PutsOut x NoMemory 0 []) (sym u) (refl, refl)
+memory_puts ls ws files d (by_command c k h) = early_puts ls files c NoMemory d tt h
+
+-- nothing was read for want of words
+pub unread_not_read : (f : WordsFault) → unread f ≡ ReadFault Left → ⊥
+unread_not_read fault.NoMemory e = cc
+unread_not_read fault.Usage e = cc
 
 -- words of which no command was read
-pub unread_answers : (ws : List (List ℕ)) (files : Contents) (f : WordsFault) → (f ≡ fault.Usage → command_of ws ≡ None) → Answers ws files (unread f) 0 []
-unread_answers ws files fault.NoMemory h = record { cause = tt; allows = memory_allowed ws files; puts = memory_puts ws files }
-unread_answers ws files fault.Usage h = usage_answers ws files (h refl)
+pub unread_answers : Laws → (ws : List (List ℕ)) (files : Contents) (f : WordsFault) → (f ≡ fault.Usage → command_of ws ≡ None) → Answers ws files (unread f) 0 []
+unread_answers ls ws files fault.NoMemory h = record { cause = tt; allows = memory_allowed ws files; puts = memory_puts ls ws files }
+unread_answers ls ws files fault.Usage h = usage_answers ws files (h refl)

@@ -12,8 +12,9 @@ use Rattle.saber_cli.specs.Due.{Due, usage, missing, faulty, unlike, shows, runs
 -- a run is due over rows with this end
 pub record Ends (due : Due → Type 0) (end : Read → Type 0) : Type 0 where
   pub plan : Tree
+  pub task : ℕ
   pub read : Read
-  pub is_due : due (runs plan read)
+  pub is_due : due (runs plan task read)
   pub ends : end read
 
 -- the query's text is due
@@ -45,4 +46,4 @@ Allows missing o = IsFileFault o ⊎ (o ≡ NoMemory)
 Allows (faulty byte cause) o = IsQueryFault o ⊎ (IsFileFault o ⊎ (o ≡ NoMemory))
 Allows (unlike streams given) o = (o ≡ FileCount streams given) ⊎ (IsFileFault o ⊎ (o ≡ NoMemory))
 Allows (shows out) o = (o ≡ Done) ⊎ (IsFileFault o ⊎ ((o ≡ WriteFault) ⊎ (o ≡ NoMemory)))
-Allows (runs q read) o = EndAllows read o ⊎ (IsFileFault o ⊎ ((o ≡ WriteFault) ⊎ (o ≡ NoMemory)))
+Allows (runs q n read) o = EndAllows read o ⊎ (IsFileFault o ⊎ ((o ≡ WriteFault) ⊎ (o ≡ NoMemory)))

@@ -1,7 +1,6 @@
 -- What is due for some words and the contents of files, with no fault and memory enough.
 use Rattle.std.specs.Prelude.{◌≡◌, ◌≢◌, ℕ, List, [], ◌∷◌, ◌++◌, length, Option, Some, None, option_map, option_and_then, option_to_list, true, false}
 use Rattle.saber_plan.specs.Rows.{Read}
-use Rattle.saber_plan.specs.Inputs.{input}
 use Rattle.saber_plan.specs.Trees.{Tree}
 use Rattle.saber_io.specs.Outside.{content_in}
 use Rattle.saber_query.specs.declared.fault.Cause.{Cause}
@@ -14,8 +13,8 @@ use Rattle.saber_query.specs.Spelling.{spelled}
 use Rattle.saber_check.specs.Outcome.{IsFaultless}
 use Rattle.saber_check.specs.Texts.{HasPlan, HasFault}
 use Rattle.saber_words.specs.Commands.{Asked, run, check, AskedRun, command_of}
-use Rattle.saber_cli.specs.Counted.{can_run}
-use Rattle.saber_cli.specs.Sources.{sources}
+use Rattle.saber_engine.specs.Sources.{input_of}
+use Rattle.saber_cli.specs.Able.{can_run}
 
 -- each file's name and what it has
 abbrev pub Contents : Type 0
@@ -51,8 +50,8 @@ pub data Due : Type 0 where
   unlike : ℕ → ℕ → Due
   -- a query was checked, and this is its text
   shows : List ℕ → Due
-  -- the plan is run over these rows
-  runs : Tree → Read → Due
+  -- the plan is run over these rows, in tasks of so many
+  runs : Tree → ℕ → Read → Due
 
 -- the run's query has this text, and the text this plan, which can be run
 pub record HasRun (files : Contents) (asked : AskedRun) (q : Tree) : Type 0 where
@@ -92,8 +91,8 @@ IsDueFor files (run r) (unlike streams given) = (q : Tree) × HasRun files r q �
 IsDueFor files (check r) (unlike streams given) = ⊥
 IsDueFor files (run r) (shows out) = ⊥
 IsDueFor files (check r) (shows out) = (text : List ℕ) × (content_in files r.query ≡ Some text) × Shows text out
-IsDueFor files (run r) (runs q read) = (all : List (List ℕ)) × HasRun files r q × IsLike r q × (contents_of files (row_names r) ≡ Some all) × (read ≡ input (sources q all))
-IsDueFor files (check r) (runs q read) = ⊥
+IsDueFor files (run r) (runs q n read) = (all : List (List ℕ)) × HasRun files r q × IsLike r q × (contents_of files (row_names r) ≡ Some all) × (n ≡ r.task) × (read ≡ input_of q r.most all)
+IsDueFor files (check r) (runs q n read) = ⊥
 
 -- what is due for some words
 pub data IsDue (ws : List (List ℕ)) (files : Contents) (d : Due) : Type 0 where

@@ -1,7 +1,5 @@
-pub mod Sources
 pub mod Outcomes
-pub mod Counted
-pub mod Counts
+pub mod Able
 pub mod Assembles
 pub mod Answered
 pub mod Texts
@@ -11,6 +9,8 @@ pub mod Due
 pub mod Causes
 pub mod Puts
 pub mod Leaves
+pub mod Taken
+pub mod Laws
 pub mod Shown
 pub mod Gives
 pub mod Unread

@@ -1,25 +1,22 @@
 -- What a text comes to before a run.
-use Rattle.std.specs.Prelude.{◌≡◌, ◌⊎◌, ◌≤◌, ℕ, List, false}
+use Rattle.std.specs.Prelude.{◌≡◌, ◌⊎◌, ℕ, List, true, false}
+use Rattle.saber_plan.specs.declared.plans.Shape.TheVariants.{Group}
 use Rattle.saber_plan.specs.Trees.{Tree}
+use Rattle.saber_plan.specs.Checked.{IsChecked}
 use Rattle.saber_query.specs.declared.fault.Cause.TheVariants.{Shape}
 use Rattle.saber_query.specs.declared.fault.QueryFault.{QueryFault as Fault}
 use Rattle.saber_query.specs.declared.fault.QueryFault.TheVariants as fault
 use Rattle.saber_check.specs.Texts.{HasPlan, HasFault}
 use Rattle.saber_notes.specs.declared.outcome.Outcome.{Outcome}
 use Rattle.saber_notes.specs.declared.outcome.Outcome.TheVariants.{QueryFault, NoMemory}
-use Rattle.saber_cli.specs.declared.counting.Counting.{Counting}
-use Rattle.saber_cli.specs.Counted.{counting, can_run}
+use Rattle.saber_cli.specs.Able.{can_run}
 
--- the plan of what is counted
-abbrev pub plan_of : Counting → Tree
-plan_of c = counting c.columns c.size c.slide
-
--- the text has this plan, whose columns and window are within the limits
-pub record HasCounting (text : List ℕ) (c : Counting) : Type 0 where
-  pub plan : HasPlan text (plan_of c)
-  pub columns : (1 ≤ c.columns) × (c.columns ≤ 32)
-  pub size : 1 ≤ c.size
-  pub slide : 1 ≤ c.slide
+-- the text has this plan, which can be run: it is checked, and that of a group query
+pub record CanRun (text : List ℕ) (q : Tree) : Type 0 where
+  pub has : HasPlan text q
+  pub able : can_run q ≡ true
+  pub checked : IsChecked q
+  pub group : q.shape ≡ Group
 
 -- the text has a plan that can't be run yet
 pub record CantRun (text : List ℕ) : Type 0 where

@@ -3,7 +3,6 @@ use Rattle.std.specs.Prelude.{◌≡◌, ℕ, List, [], take}
 use Rattle.saber_notes.specs.declared.outcome.Outcome.{Outcome}
 use Rattle.saber_notes.specs.declared.outcome.Outcome.TheVariants.{Done, WriteFault}
 use Rattle.saber_cli.specs.Due.{Due, usage, missing, faulty, unlike, shows, runs}
-use Rattle.saber_cli.specs.Sources.{task_size}
 use Rattle.saber_cli.specs.Assembles.{Assembles}
 
 -- the text of a query goes out whole, a prefix of it where the sink fails, else nothing
@@ -19,4 +18,4 @@ PutsOut missing o tasks out = (tasks ≡ 0) × (out ≡ [])
 PutsOut (faulty byte cause) o tasks out = (tasks ≡ 0) × (out ≡ [])
 PutsOut (unlike streams given) o tasks out = (tasks ≡ 0) × (out ≡ [])
 PutsOut (shows text) o tasks out = (tasks ≡ 0) × PutsText text o out
-PutsOut (runs q read) o tasks out = Assembles q task_size read.rows o tasks out
+PutsOut (runs q n read) o tasks out = Assembles q n read.rows o tasks out

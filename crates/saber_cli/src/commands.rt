@@ -2,38 +2,45 @@
 ghost use Rattle.std.specs.Prelude.{◌≡◌, ◌≢◌, ℕ, List, IfSome};
 ghost use Rattle.saber_io.specs.Outside.{Rose, appended};
 ghost use Rattle.saber_words.specs.declared.commands.Command.{Command};
-ghost use Rattle.saber_words.specs.Commands.{asked};
+ghost use Rattle.saber_words.specs.Commands.{asked, AskedRun, run, IsSized};
 ghost use Rattle.saber_notes.specs.declared.outcome.Outcome.{Outcome};
 ghost use Rattle.saber_cli.specs.Outcomes.{IsFileFault, IsBeforeRun};
 ghost use Rattle.saber_cli.specs.Due.{names_of};
 ghost use Rattle.saber_cli.specs.Gives.{Gives};
 ghost use Rattle.saber_cli.specs.Leaves.{LeavesTold};
+ghost use Rattle.saber_cli.specs.Taken.{TakesTold};
 
 use crate::answer::Ran;
+use crate::laws::laws;
 use crate::left::run_left;
 use crate::plans::planned;
 use crate::queries::query_text;
 use crate::shows::put_text;
-use saber_io::{Files, Sink};
+use crate::sizes::sizes_of;
+use saber_io::{Files, Gate, Sink};
 use saber_notes::Outcome;
 use saber_words::{Check, Run};
 use std::alloc::Global;
 
 /// `run`: reads and checks the query, and answers it over its row file.
-pub(crate) fn run_command<F: Files, K: Sink>(
+pub(crate) fn run_command<F: Files, K: Sink + Send, G: Gate + Sync>(
     alloc: Global,
     command: &Run<'_>,
     files: &mut F,
     sink: K,
+    gate: &G,
 ) -> Ran<K>
+    requires sizes { IsSized (asked (Command.Run command.now)) }
     ensures written { (out : List ℕ) × (K.written result.sink ≡ appended (K.written sink) out)
         × IfSome (F.told files.old) (λ t. Gives t.contents (asked (Command.Run command.now)) result.outcome result.tasks out) }
     ensures early { IsBeforeRun result.outcome → (result.tasks ≡ 0) × (result.sink ≡ sink) }
     ensures kinds { result.outcome ≢ Outcome.Usage }
     ensures leaves { LeavesTold (names_of (asked (Command.Run command.now))) result.outcome (F.told files.old) (F.told files.new) }
+    ensures taken { (r : AskedRun) → asked (Command.Run command.now) ≡ run r → TakesTold r result.outcome result.tasks (F.told files.old) (F.told files.new) }
     ensures cause { IsFileFault result.outcome → Rose (F.faults files.old) (F.faults files.new) }
     ensures write { result.outcome ≡ Outcome.WriteFault → Rose (K.faults sink) (K.faults result.sink) }
 {
+    laws();
     let text = match query_text(alloc, files, command.query) {
         Ok(text) => text,
         Err(outcome) => {
@@ -44,8 +51,8 @@ pub(crate) fn run_command<F: Files, K: Sink>(
             };
         }
     };
-    let query = match planned(alloc, &text) {
-        Ok(query) => query,
+    let plan = match planned(alloc, &text) {
+        Ok(plan) => plan,
         Err(outcome) => {
             return Ran {
                 outcome,
@@ -55,7 +62,10 @@ pub(crate) fn run_command<F: Files, K: Sink>(
         }
     };
     match command.right {
-        None => run_left(alloc, query, files, command.left, sink),
+        None => {
+            let sizes = sizes_of(command);
+            run_left(alloc, &plan, files, command.left, sink, &sizes, gate)
+        }
         Some(_) => Ran {
             outcome: Outcome::FileCount {
                 streams: 1,
@@ -82,6 +92,7 @@ pub(crate) fn check_command<F: Files, K: Sink>(
     ensures cause { IsFileFault result.outcome → Rose (F.faults files.old) (F.faults files.new) }
     ensures write { result.outcome ≡ Outcome.WriteFault → Rose (K.faults sink) (K.faults result.sink) }
 {
+    laws();
     match query_text(alloc, files, command.query) {
         Ok(text) => put_text(alloc, &text, sink),
         Err(outcome) => Ran {

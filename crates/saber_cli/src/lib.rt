@@ -3,13 +3,12 @@
 
 mod answer;
 mod commands;
-mod counting;
-mod counts;
+mod laws;
 mod left;
 mod plans;
 mod queries;
-mod rows;
 mod shows;
+mod sizes;
 mod texts;
 mod top;
 mod words;

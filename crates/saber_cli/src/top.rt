@@ -1,7 +1,7 @@
 // The top call.
 ghost use Rattle.std.specs.Prelude.{◌≡◌, ◌≢◌, ◌≤◌, ℕ, List, IfSome, None, Some, map};
 ghost use Rattle.saber_io.specs.Outside.{Rose, appended, AppendsPrefix};
-ghost use Rattle.saber_words.specs.Commands.{Asked, command_of};
+ghost use Rattle.saber_words.specs.Commands.{Asked, AskedRun, run, command_of};
 ghost use Rattle.saber_notes.specs.Notes.{status_of, note_of};
 ghost use Rattle.saber_notes.specs.declared.outcome.Outcome.{Outcome};
 ghost use Rattle.saber_notes.specs.declared.note.Noted.{Noted};
@@ -9,6 +9,7 @@ ghost use Rattle.saber_cli.specs.Outcomes.{IsFileFault, IsBeforeRun};
 ghost use Rattle.saber_cli.specs.Due.{names_of};
 ghost use Rattle.saber_cli.specs.Gives.{Answers};
 ghost use Rattle.saber_cli.specs.Leaves.{LeavesTold};
+ghost use Rattle.saber_cli.specs.Taken.{TakesTold};
 ghost use Rattle.saber_cli.specs.Unread.{EndsUnread};
 
 use crate::answer::Ran;
@@ -43,7 +44,7 @@ pub fn saber<F: Files, K: Sink + Send, N: Sink, G: Gate + Sync>(
     files: &mut F,
     sink: K,
     notes: &mut N,
-    _gate: &G,
+    gate: &G,
 ) -> Ended<K>
     ensures status { result.status ≡ status_of result.outcome }
 
@@ -65,6 +66,10 @@ pub fn saber<F: Files, K: Sink + Send, N: Sink, G: Gate + Sync>(
     ensures leaves { (c : Asked) → command_of (map (λ word. word.now) words.now) ≡ Some c →
         LeavesTold (names_of c) result.outcome (F.told files.old) (F.told files.new) }
 
+    // A fault of reading leaves at least every whole task assembled of what was taken of the left file.
+    ensures taken { (r : AskedRun) → command_of (map (λ word. word.now) words.now) ≡ Some (run r) →
+        TakesTold r result.outcome result.tasks (F.told files.old) (F.told files.new) }
+
     // The note.
     ensures nothing { result.outcome ≡ Outcome.Done → (result.noted ≡ Noted.Nothing) × (notes.new ≡ notes.old) }
     ensures something { result.outcome ≢ Outcome.Done → result.noted ≢ Noted.Nothing }
@@ -77,7 +82,7 @@ pub fn saber<F: Files, K: Sink + Send, N: Sink, G: Gate + Sync>(
         outcome,
         sink,
         tasks,
-    } = run_words(alloc, words, files, sink);
+    } = run_words(alloc, words, files, sink, gate);
     let noted = write_note(notes, outcome);
     Ended {
         status: outcome.status(),

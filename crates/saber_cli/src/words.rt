@@ -1,17 +1,19 @@
 // The command that the words are, over its files.
 ghost use Rattle.std.specs.Prelude.{◌≡◌, ◌≢◌, ℕ, List, IfSome, None, Some, map};
 ghost use Rattle.saber_io.specs.Outside.{Rose, appended};
-ghost use Rattle.saber_words.specs.Commands.{Asked, command_of};
+ghost use Rattle.saber_words.specs.Commands.{Asked, AskedRun, run, command_of};
 ghost use Rattle.saber_notes.specs.declared.outcome.Outcome.{Outcome};
 ghost use Rattle.saber_cli.specs.Outcomes.{IsFileFault, IsBeforeRun};
 ghost use Rattle.saber_cli.specs.Due.{names_of};
 ghost use Rattle.saber_cli.specs.Gives.{Answers};
 ghost use Rattle.saber_cli.specs.Leaves.{LeavesTold};
+ghost use Rattle.saber_cli.specs.Taken.{TakesTold};
 ghost use Rattle.saber_cli.specs.Unread.{unread, EndsUnread};
 
 use crate::answer::Ran;
 use crate::commands::{check_command, run_command};
-use saber_io::{Files, Sink};
+use crate::laws::laws;
+use saber_io::{Files, Gate, Sink};
 use saber_notes::Outcome;
 use saber_words::{Command, WordsFault, read_words};
 use std::alloc::Global;
@@ -26,11 +28,12 @@ fn unread(fault: WordsFault) -> Outcome
 }
 
 /// Reads the words, and does what they ask for.
-pub(crate) fn run_words<F: Files, K: Sink>(
+pub(crate) fn run_words<F: Files, K: Sink + Send, G: Gate + Sync>(
     alloc: Global,
     words: &[&str],
     files: &mut F,
     sink: K,
+    gate: &G,
 ) -> Ran<K>
     ensures written { (out : List ℕ) × (K.written result.sink ≡ appended (K.written sink) out)
         × IfSome (F.told files.old) (λ t. Answers (map (λ word. word.now) words.now) t.contents result.outcome result.tasks out) }
@@ -38,9 +41,11 @@ pub(crate) fn run_words<F: Files, K: Sink>(
     ensures usage { result.outcome ≡ Outcome.Usage → command_of (map (λ word. word.now) words.now) ≡ None }
     ensures early { IsBeforeRun result.outcome → (result.tasks ≡ 0) × (result.sink ≡ sink) }
     ensures leaves { (c : Asked) → command_of (map (λ word. word.now) words.now) ≡ Some c → LeavesTold (names_of c) result.outcome (F.told files.old) (F.told files.new) }
+    ensures taken { (r : AskedRun) → command_of (map (λ word. word.now) words.now) ≡ Some (run r) → TakesTold r result.outcome result.tasks (F.told files.old) (F.told files.new) }
     ensures cause { IsFileFault result.outcome → Rose (F.faults files.old) (F.faults files.new) }
     ensures write { result.outcome ≡ Outcome.WriteFault → Rose (K.faults sink) (K.faults result.sink) }
 {
+    laws();
     let command = match read_words(alloc, words) {
         Ok(command) => command,
         Err(fault) => {
@@ -52,7 +57,7 @@ pub(crate) fn run_words<F: Files, K: Sink>(
         }
     };
     match &command {
-        Command::Run(run) => run_command(alloc, run, files, sink),
+        Command::Run(run) => run_command(alloc, run, files, sink, gate),
         Command::Check(check) => check_command(alloc, check, files, sink),
     }
 }

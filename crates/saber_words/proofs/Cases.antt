@@ -1,17 +1,17 @@
 -- What the words of the table's forms, and of some others, come to.
-use Rattle.std.proofs.Common.{◌≡◌, refl, codes, List, [], ◌∷◌, Option, Some, None}
+use Rattle.std.proofs.Common.{◌≡◌, ◌^◌, ℕ, refl, codes, List, [], ◌∷◌, Option, Some, None}
 use Rattle.clap.specs.Walk.{Text}
 use Rattle.clap.proofs.OnLiterals.{clap_on_literals}
-use Rattle.saber_words.specs.Commands.{Asked, check, command_of, is_taken, run}
+use Rattle.saber_words.specs.Commands.{Asked, check, command_of, is_taken, plain_run, run}
 
 saber : List Text → Option Asked
 saber words = command_of (codes "saber" ∷ words)
 
-one_file : saber (codes "run" ∷ codes "q" ∷ codes "l" ∷ []) ≡ Some (run (record { query = codes "q"; left = codes "l"; right = None }))
+one_file : saber (codes "run" ∷ codes "q" ∷ codes "l" ∷ []) ≡ Some (plain_run (codes "q") (codes "l") None)
 unfolding saber command_of is_taken clap_on_literals
 one_file = refl
 
-two_files : saber (codes "run" ∷ codes "q" ∷ codes "l" ∷ codes "r" ∷ []) ≡ Some (run (record { query = codes "q"; left = codes "l"; right = Some (codes "r") }))
+two_files : saber (codes "run" ∷ codes "q" ∷ codes "l" ∷ codes "r" ∷ []) ≡ Some (plain_run (codes "q") (codes "l") (Some (codes "r")))
 unfolding saber command_of is_taken clap_on_literals
 two_files = refl
 
@@ -20,7 +20,7 @@ unfolding saber command_of is_taken clap_on_literals
 checked = refl
 
 -- after `--` each word is a value
-after_dashes : saber (codes "run" ∷ codes "--" ∷ codes "q" ∷ codes "l" ∷ []) ≡ Some (run (record { query = codes "q"; left = codes "l"; right = None }))
+after_dashes : saber (codes "run" ∷ codes "--" ∷ codes "q" ∷ codes "l" ∷ []) ≡ Some (plain_run (codes "q") (codes "l") None)
 unfolding saber command_of is_taken clap_on_literals
 after_dashes = refl
 
@@ -29,7 +29,7 @@ unfolding saber command_of is_taken clap_on_literals
 flag_after_dashes = refl
 
 -- `-` alone is a value, and so is the empty word
-dash_alone : saber (codes "run" ∷ codes "-" ∷ codes "" ∷ []) ≡ Some (run (record { query = codes "-"; left = codes ""; right = None }))
+dash_alone : saber (codes "run" ∷ codes "-" ∷ codes "" ∷ []) ≡ Some (plain_run (codes "-") (codes "") None)
 unfolding saber command_of is_taken clap_on_literals
 dash_alone = refl
 
@@ -88,3 +88,97 @@ unknown = refl
 run_after_dashes : saber (codes "--" ∷ codes "run" ∷ codes "q" ∷ codes "l" ∷ []) ≡ None
 unfolding saber command_of is_taken clap_on_literals
 run_after_dashes = refl
+
+-- ---- options
+
+-- a run of `q` over `l`, in tasks of so many rows, over files of at most so many lines
+sized : ℕ → ℕ → Option Asked
+sized task most = Some (run (record { query = codes "q"; left = codes "l"; right = None; task = task; most = most }))
+
+-- a number in its range, in a word of its own or behind `=`, and at any place among the files
+least_task : saber (codes "run" ∷ codes "q" ∷ codes "l" ∷ codes "--task" ∷ codes "1" ∷ []) ≡ sized 1 (2 ^ 40)
+unfolding saber sized command_of is_taken clap_on_literals
+least_task = refl
+
+most_task : saber (codes "run" ∷ codes "q" ∷ codes "l" ∷ codes "--task" ∷ codes "65536" ∷ []) ≡ sized 65536 (2 ^ 40)
+unfolding saber sized command_of is_taken clap_on_literals
+most_task = refl
+
+joined_task : saber (codes "run" ∷ codes "--task=5" ∷ codes "q" ∷ codes "l" ∷ []) ≡ sized 5 (2 ^ 40)
+unfolding saber sized command_of is_taken clap_on_literals
+joined_task = refl
+
+task_between : saber (codes "run" ∷ codes "q" ∷ codes "--task" ∷ codes "+5" ∷ codes "l" ∷ []) ≡ sized 5 (2 ^ 40)
+unfolding saber sized command_of is_taken clap_on_literals
+task_between = refl
+
+-- a value out of range, one that is no number, and none; given twice
+task_of_0 : saber (codes "run" ∷ codes "q" ∷ codes "l" ∷ codes "--task" ∷ codes "0" ∷ []) ≡ None
+unfolding saber sized command_of is_taken clap_on_literals
+task_of_0 = refl
+
+task_past_most : saber (codes "run" ∷ codes "q" ∷ codes "l" ∷ codes "--task" ∷ codes "65537" ∷ []) ≡ None
+unfolding saber sized command_of is_taken clap_on_literals
+task_past_most = refl
+
+task_of_no_number : saber (codes "run" ∷ codes "q" ∷ codes "l" ∷ codes "--task" ∷ codes "x" ∷ []) ≡ None
+unfolding saber sized command_of is_taken clap_on_literals
+task_of_no_number = refl
+
+task_of_nothing : saber (codes "run" ∷ codes "q" ∷ codes "l" ∷ codes "--task" ∷ []) ≡ None
+unfolding saber sized command_of is_taken clap_on_literals
+task_of_nothing = refl
+
+task_below_0 : saber (codes "run" ∷ codes "q" ∷ codes "l" ∷ codes "--task" ∷ codes "-1" ∷ []) ≡ None
+unfolding saber sized command_of is_taken clap_on_literals
+task_below_0 = refl
+
+empty_task : saber (codes "run" ∷ codes "q" ∷ codes "l" ∷ codes "--task=" ∷ []) ≡ None
+unfolding saber sized command_of is_taken clap_on_literals
+empty_task = refl
+
+task_twice : saber (codes "run" ∷ codes "q" ∷ codes "l" ∷ codes "--task" ∷ codes "2" ∷ codes "--task" ∷ codes "2" ∷ []) ≡ None
+unfolding saber sized command_of is_taken clap_on_literals
+task_twice = refl
+
+-- the other option
+least_lines : saber (codes "run" ∷ codes "q" ∷ codes "l" ∷ codes "--max-lines" ∷ codes "1" ∷ []) ≡ sized 1024 1
+unfolding saber sized command_of is_taken clap_on_literals
+least_lines = refl
+
+most_lines : saber (codes "run" ∷ codes "q" ∷ codes "l" ∷ codes "--max-lines" ∷ codes "1099511627776" ∷ []) ≡ sized 1024 (2 ^ 40)
+unfolding saber sized command_of is_taken clap_on_literals
+most_lines = refl
+
+lines_of_0 : saber (codes "run" ∷ codes "q" ∷ codes "l" ∷ codes "--max-lines" ∷ codes "0" ∷ []) ≡ None
+unfolding saber sized command_of is_taken clap_on_literals
+lines_of_0 = refl
+
+lines_past_most : saber (codes "run" ∷ codes "q" ∷ codes "l" ∷ codes "--max-lines" ∷ codes "1099511627777" ∷ []) ≡ None
+unfolding saber sized command_of is_taken clap_on_literals
+lines_past_most = refl
+
+both : saber (codes "run" ∷ codes "--max-lines=2" ∷ codes "q" ∷ codes "l" ∷ codes "--task" ∷ codes "3" ∷ []) ≡ sized 3 2
+unfolding saber sized command_of is_taken clap_on_literals
+both = refl
+
+-- an option of another name, and one where it has no place
+ring : saber (codes "run" ∷ codes "q" ∷ codes "l" ∷ codes "--ring" ∷ codes "0" ∷ []) ≡ None
+unfolding saber sized command_of is_taken clap_on_literals
+ring = refl
+
+short_task : saber (codes "run" ∷ codes "q" ∷ codes "l" ∷ codes "-t" ∷ codes "5" ∷ []) ≡ None
+unfolding saber sized command_of is_taken clap_on_literals
+short_task = refl
+
+prefix_of_task : saber (codes "run" ∷ codes "q" ∷ codes "l" ∷ codes "--tas" ∷ codes "5" ∷ []) ≡ None
+unfolding saber sized command_of is_taken clap_on_literals
+prefix_of_task = refl
+
+check_task : saber (codes "check" ∷ codes "q" ∷ codes "--task" ∷ codes "5" ∷ []) ≡ None
+unfolding saber sized command_of is_taken clap_on_literals
+check_task = refl
+
+task_before_run : saber (codes "--task" ∷ codes "5" ∷ codes "run" ∷ codes "q" ∷ codes "l" ∷ []) ≡ None
+unfolding saber sized command_of is_taken clap_on_literals
+task_before_run = refl

@@ -1,5 +1,7 @@
 mod Cases
 pub mod Apps
+pub mod Numerals
+pub mod Sizes
 pub mod Values
 pub mod Parses
 pub mod FileNames

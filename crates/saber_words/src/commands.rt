@@ -10,6 +10,10 @@ pub struct Run<'a> {
     pub left: &'a str,
     /// The rows of the second stream, where one was named.
     pub right: Option<&'a str>,
+    /// How many rows a task has, 1 to 65,536. Where the words don't say, 1,024.
+    pub task: u32,
+    /// How many lines a file may have, 1 to `2^40`. Where the words don't say, `2^40`.
+    pub max_lines: u64,
 }
 
 /// To check a query, without its files. The text is the name of a file.
@@ -22,7 +26,7 @@ pub struct Check<'a> {
 /// A command of the program.
 #[derive(Clone, Copy, Debug, PartialEq, Eq)]
 pub enum Command<'a> {
-    /// `run QUERY LEFT [RIGHT]`
+    /// `run QUERY LEFT [RIGHT] [--task N] [--max-lines M]`
     Run(Run<'a>),
     /// `check QUERY`
     Check(Check<'a>),

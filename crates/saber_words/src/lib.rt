@@ -3,10 +3,11 @@
 
 mod commands;
 mod laws;
+mod numbers;
 mod reading;
 
 pub use commands::{Check, Command, Run, WordsFault};
-pub use laws::words_of_file_names;
+pub use laws::{sizes_of_words, words_of_file_names};
 pub use reading::read_words;
 
 #[cfg(test)]

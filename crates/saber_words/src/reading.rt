@@ -4,17 +4,21 @@ ghost use Rattle.std.specs.Prelude.{◌↔◌, false};
 ghost use Rattle.clap.specs.Words.{app_of, found_of, rows_of, shape_of, subcommand_rows_of};
 ghost use Rattle.clap.specs.declared.builder.command.Command.TheViews.{out-Command};
 ghost use Rattle.saber_words.specs.Commands.{asked, asked_by, check_by, check_shape, command_of};
-ghost use Rattle.saber_words.specs.Commands.{run_by, run_shape, saber_app};
+ghost use Rattle.saber_words.specs.Commands.{run_by, run_shape, saber_app, IsSized};
 
+use crate::numbers::{line_limit, max_lines, number_arg, task, task_rows};
 use crate::{Check, Command, Run, WordsFault};
 use clap::error::ErrorKind;
 use clap::{Arg, ArgMatches};
 use std::alloc::{AllocError, Global};
 
-/// The command that `words` ask for, of which the first is the name of the program.
+/// The command that `words` ask for, of which the first is the name of the program. The words are a
+/// command exactly where `clap` takes them for the program's table of commands (this project's rule).
+/// Every other refusal than for want of memory is `Usage`.
 pub fn read_words<'a>(alloc: Global, words: &'a [&'a str]) -> Result<Command<'a>, WordsFault>
     ensures taken { IfOk result (λ command.
         command_of (map (λ word. word.now) words.entry.now) ≡ Some (asked command)) }
+    ensures sizes { IfOk result (λ command. IsSized (asked command)) }
     ensures usage { result ≡ Err WordsFault.Usage
         → command_of (map (λ word. word.now) words.entry.now) ≡ None }
 {
@@ -60,7 +64,9 @@ fn run_app<'a>(alloc: Global) -> Result<clap::Command<'a>, AllocError>
     clap::Command::new(alloc, "run")
         .arg(query)?
         .arg(left)?
-        .arg(right)
+        .arg(right)?
+        .arg(number_arg(alloc, task()))?
+        .arg(number_arg(alloc, max_lines()))
 }
 
 fn check_app<'a>(alloc: Global) -> Result<clap::Command<'a>, AllocError>
@@ -89,7 +95,15 @@ fn run<'a>(values: &ArgMatches<'a>) -> Option<Command<'a>>
     let query = values.get_str("query")?;
     let left = values.get_str("left")?;
     let right = values.get_str("right");
-    Some(Command::Run(Run { query, left, right }))
+    let task = task_rows(values)?;
+    let max_lines = line_limit(values)?;
+    Some(Command::Run(Run {
+        query,
+        left,
+        right,
+        task,
+        max_lines,
+    }))
 }
 
 fn check<'a>(values: &ArgMatches<'a>) -> Option<Command<'a>>

@@ -5,7 +5,24 @@ fn run<'a>(
     left: &'a str,
     right: Option<&'a str>,
 ) -> Result<Command<'a>, WordsFault> {
-    Ok(Command::Run(Run { query, left, right }))
+    Ok(Command::Run(Run {
+        query,
+        left,
+        right,
+        task: 1_024,
+        max_lines: 1_099_511_627_776,
+    }))
+}
+
+// A run of `q` over `l`, with these numbers.
+fn sized(task: u32, max_lines: u64) -> Result<Command<'static>, WordsFault> {
+    Ok(Command::Run(Run {
+        query: "q",
+        left: "l",
+        right: None,
+        task,
+        max_lines,
+    }))
 }
 
 fn check(query: &str) -> Result<Command<'_>, WordsFault> {
@@ -52,6 +69,118 @@ fn refuses_other_words(rt: HostRuntime) {
             &["saber", "--", "run", "q", "l"],
             "a command after the dashes",
         ),
+    ];
+    for (words, what) in table {
+        assert!(rt;
+            read_words(rt.alloc(), words) == Err(WordsFault::Usage),
+            "{what}"
+        );
+    }
+}
+
+#[test]
+fn takes_the_options_of_run(rt: HostRuntime) {
+    let most = 1_099_511_627_776;
+    let table = [
+        (
+            ["saber", "run", "q", "l", "--task", "1"].as_slice(),
+            sized(1, most),
+        ),
+        (
+            &["saber", "run", "q", "l", "--task", "65536"],
+            sized(65_536, most),
+        ),
+        (&["saber", "run", "--task=5", "q", "l"], sized(5, most)),
+        (&["saber", "run", "--task", "5", "q", "l"], sized(5, most)),
+        (
+            &["saber", "run", "q", "--task", "+007", "l"],
+            sized(7, most),
+        ),
+        (
+            &["saber", "run", "q", "l", "--max-lines", "2"],
+            sized(1_024, 2),
+        ),
+        (
+            &["saber", "run", "q", "l", "--max-lines", "1099511627776"],
+            sized(1_024, most),
+        ),
+        (
+            &["saber", "run", "--max-lines", "2", "q", "l", "--task=3"],
+            sized(3, 2),
+        ),
+        (
+            &[
+                "saber",
+                "run",
+                "--task",
+                "3",
+                "--max-lines",
+                "2",
+                "--",
+                "q",
+                "l",
+            ],
+            sized(3, 2),
+        ),
+    ];
+    for (words, wanted) in table {
+        assert!(rt; read_words(rt.alloc(), words) == wanted, "{words:?}");
+    }
+}
+
+#[test]
+fn refuses_other_options(rt: HostRuntime) {
+    let table = [
+        (
+            ["saber", "run", "q", "l", "--task", "0"].as_slice(),
+            "a task of no row",
+        ),
+        (
+            &["saber", "run", "q", "l", "--task", "65537"],
+            "a task of too many rows",
+        ),
+        (
+            &["saber", "run", "q", "l", "--task", "18446744073709551617"],
+            "more than 64 bits",
+        ),
+        (&["saber", "run", "q", "l", "--task", "x"], "no number"),
+        (
+            &["saber", "run", "q", "l", "--task", "-1"],
+            "a number below 0",
+        ),
+        (&["saber", "run", "q", "l", "--task="], "an empty number"),
+        (&["saber", "run", "q", "l", "--task"], "no value"),
+        (
+            &["saber", "run", "q", "l", "--task", "2", "--task", "2"],
+            "given twice",
+        ),
+        (&["saber", "run", "q", "l", "--max-lines", "0"], "no line"),
+        (
+            &["saber", "run", "q", "l", "--max-lines", "1099511627777"],
+            "too many lines",
+        ),
+        (
+            &["saber", "run", "q", "l", "--ring", "0"],
+            "an option that is not there",
+        ),
+        (
+            &["saber", "run", "q", "l", "--tas", "5"],
+            "a part of a name",
+        ),
+        (
+            &["saber", "run", "q", "l", "--Task", "5"],
+            "a name in another case",
+        ),
+        (&["saber", "run", "q", "l", "-t", "5"], "a short name"),
+        (
+            &["saber", "--task", "5", "run", "q", "l"],
+            "before the command",
+        ),
+        (
+            &["saber", "check", "q", "--task", "5"],
+            "an option of another command",
+        ),
+        (&["saber", "run", "q", "--task", "5"], "no left file"),
     ];
     for (words, what) in table {
         assert!(rt;

@@ -1,0 +1,8 @@
+-- Which plans can be run so far.
+use Rattle.std.specs.Prelude.{Bool, true, false}
+use Rattle.saber_plan.specs.Trees.{Tree}
+use Rattle.saber_plan.specs.Answers.{by_shape}
+
+-- group queries; selections and joins wait for their operators
+abbrev pub can_run : Tree → Bool
+can_run q = by_shape q.shape false true false

@@ -1,0 +1,25 @@
+// The sizes of a run.
+ghost use Rattle.std.specs.Prelude.{◌≡◌};
+ghost use Rattle.saber_plan.specs.Sizes.{SizesFit};
+ghost use Rattle.saber_words.specs.declared.commands.Command.{Command};
+ghost use Rattle.saber_words.specs.Commands.{asked, IsSized};
+
+use saber_plan::Sizes;
+use saber_words::Run;
+
+/// The sizes that a command asks for. No thread is started, and the ring's size is not looked at, until
+/// there are workers.
+pub(crate) fn sizes_of(run: &Run<'_>) -> Sizes
+    requires { IsSized (asked (Command.Run run.now)) }
+    ensures task { result.task ≡ run.now.task }
+    ensures lines { result.max_lines ≡ run.now.max_lines }
+    ensures threads { result.threads ≡ 0 }
+    ensures fit { SizesFit result }
+{
+    Sizes {
+        task: run.task,
+        ring: 64,
+        threads: 0,
+        max_lines: run.max_lines,
+    }
+}

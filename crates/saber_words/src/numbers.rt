@@ -1,0 +1,92 @@
+//! The options that take a whole number.
+ghost use Rattle.std.specs.Prelude.{◌≡◌, ◌≤◌, false, IfSome};
+ghost use Rattle.clap.specs.Words.{found_of, rows_of, rule_of};
+ghost use Rattle.saber_words.specs.Numbers.{number_by, number_rule, numeric_of, within};
+ghost use Rattle.saber_words.specs.Commands.{max_lines, task};
+
+use clap::builder::ValueParser;
+use clap::{Arg, ArgMatches};
+use std::alloc::Global;
+
+/// An option of one value, a whole number: `--name N`.
+#[derive(Clone, Copy, Debug)]
+pub(crate) struct NumberOption {
+    /// What stands behind `--`, and the option's id.
+    pub(crate) name: &'static str,
+    /// The least number that it takes.
+    pub(crate) least: u64,
+    /// The most that it takes.
+    pub(crate) most: u64,
+    /// The value where the words give none.
+    pub(crate) usual: &'static str,
+}
+
+/// The rows of a task.
+pub(crate) fn task() -> NumberOption
+    ensures { numeric_of result ≡ task }
+{
+    NumberOption {
+        name: "task",
+        least: 1,
+        most: 65_536,
+        usual: "1024",
+    }
+}
+
+/// The lines that a file may have.
+pub(crate) fn max_lines() -> NumberOption
+    ensures { numeric_of result ≡ max_lines }
+{
+    NumberOption {
+        name: "max-lines",
+        least: 1,
+        most: 1_099_511_627_776,
+        usual: "1099511627776",
+    }
+}
+
+/// The option, for `clap`.
+pub(crate) fn number_arg<'a>(alloc: Global, option: NumberOption) -> Arg<'a>
+    ensures rule { rule_of result ≡ number_rule (numeric_of option) }
+    ensures local { result.global ≡ false }
+{
+    Arg::new(alloc, option.name)
+        .long(option.name)
+        .value_parser(ValueParser::unsigned(option.least, option.most))
+        .default_value(option.usual)
+}
+
+/// The rows of a task that were asked for.
+pub(crate) fn task_rows(values: &ArgMatches<'_>) -> Option<u32>
+    ensures { result ≡ number_by task (rows_of (found_of values.now)) }
+{
+    let rows = number(values, task())?;
+    Some(rows as u32)
+}
+
+/// The most lines of a file that were asked for.
+pub(crate) fn line_limit(values: &ArgMatches<'_>) -> Option<u64>
+    ensures { result ≡ number_by max_lines (rows_of (found_of values.now)) }
+{
+    number(values, max_lines())
+}
+
+// The number of the option, of those that it takes.
+fn number(values: &ArgMatches<'_>, option: NumberOption) -> Option<u64>
+    ensures value { result ≡ number_by (numeric_of option) (rows_of (found_of values.now)) }
+    ensures bounds { IfSome result (λ n. (option.least ≤ n) × (n ≤ option.most)) }
+{
+    let number = values.get_one::<u64>(option.name)?;
+    within(number, option)
+}
+
+// The number, where the option takes it.
+fn within(number: u64, option: NumberOption) -> Option<u64>
+    ensures { result ≡ within (numeric_of option) number }
+{
+    if option.least <= number && number <= option.most {
+        Some(number)
+    } else {
+        None
+    }
+}
