@@ -11,9 +11,7 @@ use Rattle.saber_check.specs.declared.fault.Fault.{Fault}
 use Rattle.saber_check.specs.Outcome.{IsFaultless}
 use Rattle.saber_check.specs.Faults.{faults}
 use Rattle.saber_check.specs.Texts.{HasPlan, HasFault, means_none, fails_checks}
-use Rattle.saber_query.proofs.Unique.{one_tree}
 use Rattle.saber_check.proofs.CheckedLaws.{plan_checked}
-use Rattle.saber_check.proofs.TextLaws.{one_plan, fault_or_plan}
 
 -- ---- checked
 
@@ -55,11 +53,3 @@ front_has_fault text byte cause (fails_checks f) = subst (λ t. HasFault t byte 
 
 pub front_has_plan : (text : List ℕ) (tree : Tree) → HasPlan (take 65537 text) tree → HasPlan text tree
 front_has_plan text tree h = subst (λ t. HasPlan t tree) (short_front text h.means.short) h
-
--- ---- the laws of texts, over the query language's own
-
-pub text_has_one_plan : (text : List ℕ) (tree other : Tree) → HasPlan text tree → HasPlan text other → tree ≡ other
-text_has_one_plan = one_plan one_tree
-
-pub text_fault_or_plan : (text : List ℕ) (byte : ℕ) (cause : Cause) (tree : Tree) → HasFault text byte cause → ¬ (HasPlan text tree)
-text_fault_or_plan = fault_or_plan one_tree
