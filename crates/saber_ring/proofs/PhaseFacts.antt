@@ -1,0 +1,167 @@
+-- What a cell's word tells.
+use Rattle.std.proofs.Common.{◌≡◌, ◌≢◌, ℕ, Bool, true, false, zero, suc, ◌+◌, ◌*◌, ◌%◌, ◌<◌, ◌≤◌, ◌⊎◌, inl, inr, sym, refl, ap, ◌∙◌, mod-lt, arith}
+use mathlib.Core.Logic.{dite}
+use native.Mathlib.Decide.{ℕ_discrete}
+use native.Mathlib.Nat.{add-mod_right}
+use Rattle.std.proofs.Math.Nat.{mod-eq_of_lt}
+use Rattle.std.specs.Prelude.{Some, ◌||◌}
+use Rattle.saber_ring.specs.Shows.{RingPhase, idle, filling, ready, held, done, taken, past, number_of, free, won_by}
+use Rattle.saber_ring.specs.declared.view.TurnState.{TurnState}
+
+pub false_true : false ≡ true → ⊥
+false_true e = cc
+
+pub or_says : (x y z : Bool) → (x ≡ true → z ≡ true) → (y ≡ true → z ≡ true) → x || y ≡ true → z ≡ true
+or_says true y z a b e = a refl
+or_says false y z a b e = b e
+
+-- the place of a window that has the cell of t
+pub window_has : (t n g : ℕ) → 0 < n → (u : ℕ) × (g ≤ u) × (u < g + n) × (u % n ≡ t % n)
+window_has t n zero pos = let l = mod-lt t pos in (t % n, omega arith, omega arith, mod-eq_of_lt l)
+window_has t n (suc g) pos = let o = window_has t n g pos in let a = o.1 in let z = o.2 in
+    dite (ℕ_discrete o.0 g) (λ e. (g + n, omega arith, omega arith, add-mod_right g n ∙ ap (λ (k : ℕ). k % n) (sym e) ∙ o.3)) (λ ne. (o.0, omega arith, omega arith, o.3))
+
+pub number_small : (ph : RingPhase) → number_of ph ≤ 7
+number_small idle = omega arith
+number_small filling = omega arith
+number_small ready = omega arith
+number_small (held j) = omega arith
+number_small (done false) = omega arith
+number_small (done true) = omega arith
+number_small (taken false) = omega arith
+number_small (taken true) = omega arith
+number_small past = omega arith
+
+pub number_0 : (ph : RingPhase) → number_of ph ≡ 0 → (ph ≡ idle) ⊎ (ph ≡ past)
+number_0 idle e = inl refl
+number_0 filling e = absurd (omega arith)
+number_0 ready e = absurd (omega arith)
+number_0 (held j) e = absurd (omega arith)
+number_0 (done false) e = absurd (omega arith)
+number_0 (done true) e = absurd (omega arith)
+number_0 (taken false) e = absurd (omega arith)
+number_0 (taken true) e = absurd (omega arith)
+number_0 past e = inr refl
+
+pub number_2 : (ph : RingPhase) → number_of ph ≡ 2 → ph ≡ ready
+number_2 idle e = absurd (omega arith)
+number_2 filling e = absurd (omega arith)
+number_2 ready e = refl
+number_2 (held j) e = absurd (omega arith)
+number_2 (done false) e = absurd (omega arith)
+number_2 (done true) e = absurd (omega arith)
+number_2 (taken false) e = absurd (omega arith)
+number_2 (taken true) e = absurd (omega arith)
+number_2 past e = absurd (omega arith)
+
+pub number_4 : (ph : RingPhase) → number_of ph ≡ 4 → ph ≡ done false
+number_4 idle e = absurd (omega arith)
+number_4 filling e = absurd (omega arith)
+number_4 ready e = absurd (omega arith)
+number_4 (held j) e = absurd (omega arith)
+number_4 (done false) e = refl
+number_4 (done true) e = absurd (omega arith)
+number_4 (taken false) e = absurd (omega arith)
+number_4 (taken true) e = absurd (omega arith)
+number_4 past e = absurd (omega arith)
+
+pub number_6 : (ph : RingPhase) → number_of ph ≡ 6 → ph ≡ done true
+number_6 idle e = absurd (omega arith)
+number_6 filling e = absurd (omega arith)
+number_6 ready e = absurd (omega arith)
+number_6 (held j) e = absurd (omega arith)
+number_6 (done false) e = absurd (omega arith)
+number_6 (done true) e = refl
+number_6 (taken false) e = absurd (omega arith)
+number_6 (taken true) e = absurd (omega arith)
+number_6 past e = absurd (omega arith)
+
+-- a task in the window whose cell's word it is
+pub found : (u t f p : ℕ) → f ≤ 7 → p ≤ 7 → 8 * u + f ≡ 8 * t + p → (u ≡ t) × (f ≡ p)
+found u t f p a b e = (omega arith, omega arith)
+
+pub ready_taken : (m : Bool) → ready ≢ taken m
+ready_taken m e = cc
+
+-- two words of done tasks, and the word of another phase
+pub same_done : (t k : ℕ) (m n : Bool) → 8 * t + number_of (done m) ≡ 8 * k + number_of (done n) → (t ≡ k) × (m ≡ n)
+same_done t k false false e = (omega arith, refl)
+same_done t k false true e = absurd (omega arith)
+same_done t k true false e = absurd (omega arith)
+same_done t k true true e = (omega arith, refl)
+
+pub not_done : (n t k p : ℕ) (m : Bool) → n ≡ 8 * t + p → p < 4 → n ≡ 8 * k + number_of (done m) → ⊥
+not_done n t k p false is small e = omega arith
+not_done n t k p true is small e = omega arith
+
+pub odd_done : (n t k : ℕ) (m : Bool) → n ≡ 2 * t + 1 → n ≡ 8 * k + number_of (done m) → ⊥
+odd_done n t k false is e = omega arith
+odd_done n t k true is e = omega arith
+
+pub number_done : (ph : RingPhase) (m : Bool) → number_of ph ≡ number_of (done m) → ph ≡ done m
+number_done ph false e = number_4 ph e
+number_done ph true e = number_6 ph e
+
+pub done_small : (m : Bool) → number_of (done m) ≤ 7
+done_small false = omega arith
+done_small true = omega arith
+
+pub ready_done : (m : Bool) → ready ≢ done m
+ready_done m e = cc
+
+pub idle_done : (m : Bool) → idle ≢ done m
+idle_done m e = cc
+
+pub filling_done : (m : Bool) → filling ≢ done m
+filling_done m e = cc
+
+pub held_done : (j : ℕ) (m : Bool) → held j ≢ done m
+held_done j m e = cc
+
+pub ready_held : (j : ℕ) → ready ≢ held j
+ready_held j e = cc
+
+pub held_same : (i j : ℕ) → held i ≡ held j → j ≡ i
+held_same i j e = cc
+
+pub idle_taken : (m : Bool) → idle ≢ taken m
+idle_taken m e = cc
+
+pub idle_filling : idle ≢ filling
+idle_filling e = cc
+
+pub idle_held : (j : ℕ) → idle ≢ held j
+idle_held j e = cc
+
+pub filling_held : (j : ℕ) → filling ≢ held j
+filling_held j e = cc
+
+pub some_same : {A : Type 0} (x y : A) → Some x ≡ Some y → x ≡ y
+some_same x y e = cc
+
+pub held_taken : (j : ℕ) (m : Bool) → held j ≢ taken m
+held_taken j m e = cc
+
+pub done_held : (m : Bool) (j : ℕ) → done m ≢ held j
+done_held m j e = cc
+
+pub filling_taken : (m : Bool) → filling ≢ taken m
+filling_taken m e = cc
+
+pub free_won_by : (x : Bool) (j : ℕ) (p : TurnState) → free x ≢ won_by j p
+free_won_by x j p e = cc
+
+pub won_by_same : (i j : ℕ) (p q : TurnState) → won_by i p ≡ won_by j q → (i ≡ j) × (p ≡ q)
+won_by_same i j p q e = (cc, cc)
+
+pub done_taken : (m n : Bool) → done m ≢ taken n
+done_taken m n e = cc
+
+pub taken_held : (m : Bool) (j : ℕ) → taken m ≢ held j
+taken_held m j e = cc
+
+pub taken_same : (m n : Bool) → taken m ≡ taken n → m ≡ n
+taken_same m n e = cc
+
+pub past_held : (j : ℕ) → past ≢ held j
+past_held j e = cc

@@ -1,0 +1,13 @@
+pub mod Shows
+pub mod Plays
+pub mod Seats
+pub mod Calls
+pub mod Releasing
+pub mod Opening
+pub mod Closing
+pub mod Cores
+pub mod Lending
+pub mod Laws
+pub mod Readings
+pub mod Numbers
+pub mod Words

@@ -1,0 +1,59 @@
+-- The slots that a seat has out, and how seats part and meet.
+use Rattle.std.specs.Prelude.{ℕ, Bool, false, max, ◌||◌, ◌+◌, ◌-◌, ◌%◌, List, [], ◌∷◌, ◌++◌, Option, Some, None}
+use Rattle.saber_ring.specs.declared.view.SlotValue.{SlotValue}
+use Rattle.saber_ring.specs.declared.view.SlotValue.TheVariants.{Empty}
+use Rattle.saber_ring.specs.declared.view.TurnState.{TurnState}
+use Rattle.saber_ring.specs.declared.view.TurnState.TheVariants.{Open, TookPiece, TookMark, WonStopped, Leaving}
+use Rattle.saber_ring.specs.declared.view.View.{View}
+use Rattle.saber_ring.specs.declared.view.HeldTask.{HeldTask}
+use Rattle.saber_ring.specs.declared.view.HeldTurn.{HeldTurn}
+use Rattle.saber_ring.specs.declared.view.Lead.{Lead}
+use Rattle.saber_ring.specs.Shows.{no_step}
+
+module _ {R P S : Type 0} where
+  -- of a ring of n cells: the cell's slot of a job
+  abbrev pub job_slots : {T : Type 0} → ℕ → Option (HeldTask T) → List (ℕ × SlotValue R P S)
+  job_slots n None = []
+  job_slots n (Some x) = (x.task % n + 1, Empty) ∷ []
+
+  -- the slot of the stage, and of the cell i while its piece is in hand
+  abbrev pub state_slots : ℕ → TurnState → List (ℕ × SlotValue R P S) → List (ℕ × SlotValue R P S)
+  state_slots i Open cs = (0, Empty) ∷ cs
+  state_slots i TookPiece cs = (i, Empty) ∷ (0, Empty) ∷ cs
+  state_slots i TookMark cs = (0, Empty) ∷ cs
+  state_slots i WonStopped cs = (0, Empty) ∷ cs
+  state_slots i Leaving cs = (0, Empty) ∷ cs
+
+  abbrev pub turn_slots : {T : Type 0} → ℕ → Option (HeldTurn T) → List (ℕ × SlotValue R P S) → List (ℕ × SlotValue R P S)
+  turn_slots n None cs = cs
+  turn_slots n (Some h) cs = state_slots (h.behind % n + 1) h.state cs
+
+  -- each slot is empty, since the value lies in the job or the turn
+  abbrev pub out_of : {T : Type 0} → ℕ → View T → List (ℕ × SlotValue R P S)
+  out_of n v = turn_slots n v.turn (job_slots n v.job)
+
+module _ {T : Type 0} where
+  -- the first seat is within a fill
+  abbrev pub is_filling : Option (Lead T) → Bool
+  is_filling None = false
+  is_filling (Some l) = l.filling
+
+  abbrev pub more_out : Option (Lead T) → Option (Lead T)
+  more_out None = None
+  more_out (Some l) = Some (record l { out = l.out + 1 })
+
+  abbrev pub less_out : Option (Lead T) → Option (Lead T)
+  less_out None = None
+  less_out (Some l) = Some (record l { out = l.out - 1 })
+
+  -- the first seat after a split
+  abbrev pub parting : View T → View T
+  parting v = record v { lead = more_out v.lead }
+
+  -- a new seat has the fixed data, and has done nothing
+  abbrev pub newcomer : Option T → View T
+  newcomer base = record { base = base; lead = None; seen = 0; stopped = false; saw = no_step; before = no_step; missed = no_step; job = None; turn = None; own = [] }
+
+  -- what another seat did goes over, and what it saw in the word of the turn
+  abbrev pub joined : View T → View T → View T
+  joined v w = record v { lead = less_out v.lead; seen = max v.seen w.seen; stopped = v.stopped || w.stopped; own = v.own ++ w.own }

@@ -1,0 +1,38 @@
+//! The ring of slots by which the dispatcher, the workers and whoever assembles hand rows, pieces and the
+//! stage to each other, each by single atomic steps on one word, with no lock and no second try. It is
+//! generic in the work that it carries, and looks into none of it. One rule (`specs/Shows.antt`) says what
+//! its words, its slots and the views of its seats are at every moment, and every step keeps it.
+#![tactic(auto)]
+
+mod answers;
+mod closing;
+mod fixed;
+mod job;
+mod laws;
+mod opening;
+mod phases;
+mod plays;
+mod release;
+mod ring;
+mod seat;
+#[cfg(test)]
+mod tests;
+mod threads;
+mod turn;
+mod view;
+mod words;
+
+pub use answers::{Claim, Fill, Take, Win};
+pub use fixed::FixedData;
+pub use job::Job;
+pub use laws::{
+    a_begin_is_no_event, a_look_is_no_event, a_put_back_is_no_event, claim_is_its_event,
+    deposit_is_its_event, fill_is_its_event, give_is_its_event, release_is_its_event,
+    take_is_its_event, win_is_its_event,
+};
+pub use phases::Phase;
+pub use ring::Ring;
+pub use seat::Seat;
+pub use turn::Turn;
+pub use view::View;
+pub use words::{phase, turn_of};

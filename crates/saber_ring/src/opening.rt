@@ -1,0 +1,55 @@
+//! The words and slots of a ring as it is made.
+ghost use Rattle.std.specs.Prelude.{◌≡◌, ℕ, ◌+◌, ◌-◌, ◌<◌, ◌≤◌, length, MatchResult, IfSome};
+ghost use Rattle.saber_ring.specs.Opening.{IsOpen, first_values};
+
+use crate::view::SlotValue;
+use std::alloc::Global;
+
+// The words of a ring in which novalue was filled.
+pub(crate) fn first_words(alloc: Global, size: u64) -> Option<Vec<u64>>
+    requires { size ≤ 1024 }
+    ensures { IfSome result (λ v. IsOpen size v.items) }
+{
+    let mut words = Vec::from_elem(alloc, 0u64, size as usize + 1).ok()?;
+    for i in 0..size as usize {
+        words[i + 1] = 8 * i as u64;
+    }
+    Some(words)
+}
+
+// The stage, and room for a value of each cell.
+pub(crate) fn first_slots<R, P, S>(
+    alloc: Global,
+    size: u64,
+    stage: S,
+) -> Result<Vec<SlotValue<R, P, S>>, S>
+    requires { size ≤ 1024 }
+    ensures { MatchResult result (λ v. v.items ≡ first_values size stage) (λ s. s ≡ stage) }
+{
+    let Ok(mut slots) = Vec::with_capacity(alloc, size as usize + 1) else {
+        return Err(stage);
+    };
+    slots.push_reserved(SlotValue::Stage(stage));
+    for _ in 0..size as usize {
+        slots.push_reserved(SlotValue::Empty);
+    }
+    Ok(slots)
+}
+
+// Takes the stage out of the slots, and gives their memory back.
+pub(crate) fn stage_back<R, P, S>(mut slots: Vec<SlotValue<R, P, S>>) -> S
+    requires { (size : ℕ) × (stage : S) × (slots.items ≡ first_values size stage) }
+    ensures { slots.items ≡ first_values (length slots.items - 1) result }
+{
+    while let Some(value) = slots.pop() {
+        match value {
+            SlotValue::Stage(stage) => {
+                slots.destroy_empty();
+                return stage;
+            }
+            SlotValue::Empty => {}
+            _ => unreachable!(),
+        }
+    }
+    unreachable!()
+}

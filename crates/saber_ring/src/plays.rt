@@ -1,0 +1,129 @@
+//! The kinds of steps on the table, and what each tells its seat. A step is one atomic operation on one
+//! word; `specs/Plays.antt` has what it says.
+ghost use Rattle.std.specs.Prelude.{true, false, None};
+ghost use Rattle.saber_ring.specs.Seats.{parting, newcomer, joined};
+ghost use Rattle.saber_ring.specs.Plays.{sees_turn, sees_piece, begins, fills, claims, deposits, wins, takes_piece, goes_on, releases, puts_back};
+
+use crate::view::{SlotValue, View};
+use atomic_table::{Join, Play, Split};
+use saber_core::Work;
+use std::marker::PhantomData;
+
+// A load of the word of the turn.
+pub(crate) struct SeeTurn;
+
+impl<R, P, S, T> Play<SlotValue<R, P, S>, View<T>> for SeeTurn {
+    ghost then = { sees_turn };
+}
+
+// The holder of the turn loads the cell of the task after those behind the stage.
+pub(crate) struct SeePiece;
+
+impl<R, P, S, T> Play<SlotValue<R, P, S>, View<T>> for SeePiece {
+    ghost then = { sees_piece };
+}
+
+// From idle to filling.
+pub(crate) struct Begin;
+
+impl<R, P, S, T> Play<SlotValue<R, P, S>, View<T>> for Begin {
+    ghost then = { begins };
+}
+
+// From filling to ready, with the rows.
+pub(crate) struct Filling<W> {
+    work: PhantomData<W>,
+}
+
+impl<W: Work> Play<SlotValue<W::Rows, W::Piece, W::Stage>, View<W::Told>> for Filling<W> {
+    ghost then = { fills W.filled };
+}
+
+// From ready to held.
+pub(crate) struct Claiming<W> {
+    work: PhantomData<W>,
+}
+
+impl<W: Work> Play<SlotValue<W::Rows, W::Piece, W::Stage>, View<W::Told>> for Claiming<W> {
+    ghost then = { claims W.upto W.is_rows };
+}
+
+// From held to done, with the piece.
+pub(crate) struct PutPiece;
+
+impl<R, P, S, T> Play<SlotValue<R, P, S>, View<T>> for PutPiece {
+    ghost then = { deposits false };
+}
+
+// From held to marked.
+pub(crate) struct PutMark;
+
+impl<R, P, S, T> Play<SlotValue<R, P, S>, View<T>> for PutMark {
+    ghost then = { deposits true };
+}
+
+// From a free turn to a held one, with the stage.
+pub(crate) struct Winning<W> {
+    work: PhantomData<W>,
+}
+
+impl<W: Work> Play<SlotValue<W::Rows, W::Piece, W::Stage>, View<W::Told>> for Winning<W> {
+    ghost then = { wins W.upto W.is_stage };
+}
+
+// From done to taken, with the piece.
+pub(crate) struct TakePiece<W> {
+    work: PhantomData<W>,
+}
+
+impl<W: Work> Play<SlotValue<W::Rows, W::Piece, W::Stage>, View<W::Told>> for TakePiece<W> {
+    ghost then = { takes_piece W.upto W.is_piece false };
+}
+
+// From marked to gone.
+pub(crate) struct TakeMark<W> {
+    work: PhantomData<W>,
+}
+
+impl<W: Work> Play<SlotValue<W::Rows, W::Piece, W::Stage>, View<W::Told>> for TakeMark<W> {
+    ghost then = { takes_piece W.upto W.is_piece true };
+}
+
+// From taken to idle for the task that has the cell next.
+pub(crate) struct Giving;
+
+impl<R, P, S, T> Play<SlotValue<R, P, S>, View<T>> for Giving {
+    ghost then = { goes_on };
+}
+
+// From a held turn to a free one, with the stage.
+pub(crate) struct Releasing;
+
+impl<R, P, S, T> Play<SlotValue<R, P, S>, View<T>> for Releasing {
+    ghost then = { releases };
+}
+
+// A load that gives the slot of a taken cell back, before the turn of a stopped stage is released.
+pub(crate) struct PutBack;
+
+impl<R, P, S, T> Play<SlotValue<R, P, S>, View<T>> for PutBack {
+    ghost then = { puts_back };
+}
+
+// The first seat gives a new one out.
+pub(crate) struct Part;
+
+impl<T> Split<View<T>> for Part {
+    ghost left = { parting };
+
+    ghost right = { λ v. newcomer v.base };
+}
+
+// The first seat takes another one in.
+pub(crate) struct Meet;
+
+impl<T> Join<View<T>> for Meet {
+    ghost both = { joined };
+
+    ghost spent = { newcomer None };
+}
