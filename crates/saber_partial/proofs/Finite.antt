@@ -1,10 +1,10 @@
 -- The merge of finite maps, key by key, one entry after another.
-use Rattle.std.proofs.Common.{◌≡◌, List, [], ◌∷◌, ◌++◌, map, Bool, true, false, cond, ◌&&◌, Option, Some, None, refl, sym, ◌∙◌, ap, ap₂, T, length, arith}
+use Rattle.std.proofs.Common.{◌≡◌, List, [], ◌∷◌, ◌++◌, map, Bool, true, false, cond, ◌&&◌, Option, Some, None, refl, sym, ◌∙◌, ap, ap₂, T}
 use Rattle.std.specs.Cmp.{IsTotalOrder}
 use Rattle.std.specs.declared.cmp.Ordering.{Ordering}
 use Rattle.std.specs.declared.cmp.Ordering.TheVariants.{Less, Equal, Greater}
 use Rattle.std.specs.Ordering.{eq_by_cmp, is_eq, is_lt}
-use Rattle.std.specs.FinMap.{FinMap, empty, get, insert, entries, from_entries, find, is_sorted, from_sorted, entries-from_sorted, get-from_sorted, len-entries, len-empty, get-empty, get-entries, get-from_entries, get-insert, get_tied, same_map, IsAntisymmetric}
+use Rattle.std.specs.FinMap.{FinMap, empty, get, insert, entries, from_entries, find, is_sorted, from_sorted, entries-from_sorted, get-from_sorted, get-empty, get-entries, get-from_entries, get-insert, get_tied, same_map, IsAntisymmetric}
 use Rattle.std.specs.FinMap.Entries.{find_tied, below_all}
 use Rattle.saber_plan.specs.Merges.{join, joined, both}
 
@@ -21,21 +21,10 @@ equal_if Less e = cc
 equal_if Equal e = refl
 equal_if Greater e = cc
 
-no_length : {A : Type 0} (es : List A) → length es ≡ 0 → es ≡ []
-no_length [] e = refl
-no_length (x ∷ es) e = absurd (omega arith)
-
-pub entries-empty : {K X : Type 0} (R : K → K → Ordering) → entries (empty {X = X} {R = R}) ≡ []
-entries-empty {X = X} R = no_length _ (sym (len-entries (empty {X = X} {R = R})) ∙ len-empty R X)
-
 module _ {K X : Type 0} {R : K → K → Ordering} (o : IsTotalOrder R) (same : IsAntisymmetric R) where
   -- the map of a list whose keys rise has that list
   pub entries-from_rising : (es : List (K × X)) → T (is_sorted R es) → entries (from_entries {R = R} es) ≡ es
   entries-from_rising es s = ap entries (same_map o same (from_entries es) (from_sorted es) (λ q. get-from_entries o es q ∙ sym (get-from_sorted R es q s))) ∙ entries-from_sorted R es s
-
-  -- a map is what its entries make
-  pub made_of_entries : (m : FinMap R X) → from_entries {R = R} (entries m) ≡ m
-  made_of_entries m = same_map o same _ _ (λ q. get-from_entries o (entries m) q ∙ sym (get-entries m q))
 
 module _ {X : Type 0} (f : X → X → X) where
   pub join-none : (o : Option X) → join f o None ≡ o
@@ -98,3 +87,6 @@ module _ {K X : Type 0} {R : K → K → Ordering} (o : IsTotalOrder R) (same : 
 module _ {K X : Type 0} {R : K → K → Ordering} (o : IsTotalOrder R) (same : IsAntisymmetric R) (f : X → X → X) where
   pub both-empty_right : (a : FinMap R X) → both f a empty ≡ a
   both-empty_right a = same_map o same _ _ (λ k. get-both o f a empty k ∙ ap (join f (get a k)) (get-empty R k) ∙ join-none f (get a k))
+
+  pub both-empty_left : (a : FinMap R X) → both f empty a ≡ a
+  both-empty_left a = same_map o same _ _ (λ k. get-both o f empty a k ∙ ap (λ p. join f p (get a k)) (get-empty R k))

@@ -8,7 +8,7 @@ use Rattle.saber_plan.specs.declared.plans.Item.{Item}
 use Rattle.saber_plan.specs.Trees.{Tree}
 use Rattle.saber_plan.specs.Answers.{key_cmp, key, rows_of_key}
 use Rattle.saber_plan.specs.Parts.{Part, no_part, group_part, Numbers, numbers, join_numbers, merge}
-use Rattle.saber_partial.proofs.Finite.{equal_if, both-empty_right}
+use Rattle.saber_partial.proofs.Finite.{equal_if, both-empty_left, both-empty_right}
 
 pub total : IsTotalOrder key_cmp
 total = lists_total int_cmp_total
@@ -18,6 +18,9 @@ exact = slice_cmp-IsAntisymmetric int_cmp-IsAntisymmetric
 
 pub merge-empty_right : (a : Part) → merge a no_part ≡ a
 merge-empty_right a = both-empty_right total exact join_numbers a
+
+pub merge-empty_left : (a : Part) → merge no_part a ≡ a
+merge-empty_left a = both-empty_left total exact join_numbers a
 
 -- what a key has, from its rows
 abbrev pub numbers_if : List Item → List (List ℤ) → Option Numbers

@@ -5,6 +5,7 @@ pub mod Finite
 pub mod Maps
 pub mod Keyed
 pub mod Merging
+pub mod Stepped
 pub mod Adding
 pub mod Fitting
 pub mod Lined

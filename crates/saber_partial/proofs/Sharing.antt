@@ -5,33 +5,39 @@ use Rattle.std.proofs.lemmas.List.{take_at, drop_at, length-append, length-drop,
 use Rattle.std.specs.Int.{int_min, int_max}
 use Rattle.std.specs.List.{AllByRecursion}
 use Rattle.saber_plan.specs.Parts.{Numbers, zip_by, join_numbers}
+use Rattle.saber_partial.specs.declared.gather.Gather.TheVariants.{Sums}
+use Rattle.saber_partial.specs.Gathering.{HasRoom}
 use Rattle.saber_partial.specs.Kinds.{SumsFit, Fits128, joined_behind, joined_list}
 use Rattle.saber_partial.specs.Tallies.{numbers_in, IsTally, CanJoin}
 use Rattle.saber_partial.proofs.Zips.{zip_long, zip_earlier}
 
-front_long : (f : ℤ → ℤ → ℤ) (n : ℕ) (xs ys : List ℤ) → n ≤ length xs → length xs ≡ length ys → length (zip_by f (take n xs) (take n ys)) ≡ n
-front_long f n xs ys h e = let a = length-take-le n xs h in let b = length-take-le n ys (omega (arith, h, e)) in zip_long f (take n xs) (take n ys) (a ∙ sym b) ∙ a
+front_long : (f : ℤ → ℤ → ℤ) (n : ℕ) (xs ps : List ℤ) → n ≤ length xs → length ps ≡ n → length (zip_by f (take n xs) ps) ≡ n
+front_long f n xs ps h e = let a = length-take-le n xs h in zip_long f (take n xs) ps (a ∙ sym e) ∙ a
 
-drop_long : (n : ℕ) (xs ys : List ℤ) → length xs ≡ length ys → length (drop n xs) ≡ length (drop n ys)
-drop_long n xs ys e = let a = length-drop n xs in let b = length-drop n ys in omega (arith, a, b, e)
-
-behind_long : (l g : ℕ) (xs ys : List ℤ) → l + g ≤ length xs → length xs ≡ length ys → length (joined_behind l g xs ys) ≡ length xs
-behind_long l g xs ys h e =
+behind_long : (l g : ℕ) (xs ps qs : List ℤ) → l + g ≤ length xs → length ps ≡ l → length qs ≡ g → length (joined_behind l g xs ps qs) ≡ length xs
+behind_long l g xs ps qs h d e =
     let low = length-drop l xs in
     let rest = length-drop g (drop l xs) in
-    let a = front_long int_min l xs ys (omega (arith, h)) e in
-    let b = front_long int_max g (drop l xs) (drop l ys) (omega (arith, h, low)) (drop_long l xs ys e) in
-    let one = length-append (zip_by int_min (take l xs) (take l ys)) (zip_by int_max (take g (drop l xs)) (take g (drop l ys)) ++ drop g (drop l xs)) in
-    let two = length-append (zip_by int_max (take g (drop l xs)) (take g (drop l ys))) (drop g (drop l xs)) in
+    let a = front_long int_min l xs ps (omega (arith, h)) d in
+    let b = front_long int_max g (drop l xs) qs (omega (arith, h, low)) e in
+    let one = length-append (zip_by int_min (take l xs) ps) (zip_by int_max (take g (drop l xs)) qs ++ drop g (drop l xs)) in
+    let two = length-append (zip_by int_max (take g (drop l xs)) qs) (drop g (drop l xs)) in
     omega (arith, h, low, rest, a, b, one, two)
 
-pub joined_long : (s l g : ℕ) (xs ys : List ℤ) → s + l + g ≤ length xs → length xs ≡ length ys → length (joined_list s l g xs ys) ≡ length xs
-joined_long s l g xs ys h e =
+pub kinds_long : (s l g : ℕ) (xs os ps qs : List ℤ) → s + l + g ≤ length xs → length os ≡ s → length ps ≡ l → length qs ≡ g → length (joined_list s l g xs os ps qs) ≡ length xs
+kinds_long s l g xs os ps qs h c d e =
     let low = length-drop s xs in
-    let a = front_long ◌+ℤ◌ s xs ys (omega (arith, h)) e in
-    let b = behind_long l g (drop s xs) (drop s ys) (omega (arith, h, low)) (drop_long s xs ys e) in
-    let one = length-append (zip_by ◌+ℤ◌ (take s xs) (take s ys)) (joined_behind l g (drop s xs) (drop s ys)) in
+    let a = front_long ◌+ℤ◌ s xs os (omega (arith, h)) c in
+    let b = behind_long l g (drop s xs) ps qs (omega (arith, h, low)) d e in
+    let one = length-append (zip_by ◌+ℤ◌ (take s xs) os) (joined_behind l g (drop s xs) ps qs) in
     omega (arith, h, low, a, b, one)
+
+pub joined_long : (s l g : ℕ) (xs ys : List ℤ) → s + l + g ≤ length xs → length xs ≡ length ys → length (joined_list s l g xs (take s ys) (take l (drop s ys)) (take g (drop l (drop s ys)))) ≡ length xs
+joined_long s l g xs ys h e =
+    let low = length-drop s ys in
+    let more = length-drop l (drop s ys) in
+    kinds_long s l g xs (take s ys) (take l (drop s ys)) (take g (drop l (drop s ys))) h
+    (length-take-le s ys (omega (arith, h, e))) (length-take-le l (drop s ys) (omega (arith, h, e, low))) (length-take-le g (drop l (drop s ys)) (omega (arith, h, e, low, more)))
 
 -- ---- the numbers of a list
 
@@ -47,32 +53,40 @@ cut_parts n s l g p q r t a b c =
       firsts = (ap (drop g) two ∙ drop_at r t g c) k;
     }
 
-joined_same : (m n s l g : ℕ) (xs ys : List ℤ) → s + l + g ≤ length xs → length xs ≡ length ys → numbers_in (m + n) s l g (joined_list s l g xs ys) ≡ join_numbers (numbers_in m s l g xs) (numbers_in n s l g ys)
-joined_same m n s l g xs ys h e =
-    let low = length-drop s xs in
-    let more = length-drop l (drop s xs) in
-    let far = drop_long s xs ys e in
-    let end = drop_long l (drop s xs) (drop s ys) far in
-    cut_parts (m + n) s l g (zip_by ◌+ℤ◌ (take s xs) (take s ys)) (zip_by int_min (take l (drop s xs)) (take l (drop s ys))) (zip_by int_max (take g (drop l (drop s xs))) (take g (drop l (drop s ys)))) (drop g (drop l (drop s xs)))
-    (front_long ◌+ℤ◌ s xs ys (omega (arith, h)) e)
-    (front_long int_min l (drop s xs) (drop s ys) (omega (arith, h, low)) far)
-    (front_long int_max g (drop l (drop s xs)) (drop l (drop s ys)) (omega (arith, h, low, more)) end)
-    ∙ ap (λ t. record { count = m + n; sums = zip_by ◌+ℤ◌ (take s xs) (take s ys); leasts = zip_by int_min (take l (drop s xs)) (take l (drop s ys)); greatests = zip_by int_max (take g (drop l (drop s xs))) (take g (drop l (drop s ys))); firsts = t })
-    (sym (zip_earlier (drop g (drop l (drop s xs))) (drop g (drop l (drop s ys))) (drop_long g (drop l (drop s xs)) (drop l (drop s ys)) end)))
+-- numbers that can be joined are as many of each kind
+module _ (m s l g : ℕ) (xs : List ℤ) (b : Numbers) (h : s + l + g ≤ length xs) (c : CanJoin (numbers_in m s l g xs) b) where
+  pub own_sums : length b.sums ≡ s
+  own_sums = sym c.sums ∙ length-take-le s xs (omega (arith, h))
+
+  pub own_leasts : length b.leasts ≡ l
+  own_leasts = let low = length-drop s xs in sym c.leasts ∙ length-take-le l (drop s xs) (omega (arith, h, low))
+
+  pub own_greatests : length b.greatests ≡ g
+  own_greatests = let low = length-drop s xs in let more = length-drop l (drop s xs) in sym c.greatests ∙ length-take-le g (drop l (drop s xs)) (omega (arith, h, low, more))
+
+  pub kinds_view : numbers_in (m + b.count) s l g (joined_list s l g xs b.sums b.leasts b.greatests) ≡ join_numbers (numbers_in m s l g xs) b
+  kinds_view =
+      let low = length-drop s xs in
+      let more = length-drop l (drop s xs) in
+      cut_parts (m + b.count) s l g (zip_by ◌+ℤ◌ (take s xs) b.sums) (zip_by int_min (take l (drop s xs)) b.leasts) (zip_by int_max (take g (drop l (drop s xs))) b.greatests) (drop g (drop l (drop s xs)))
+      (front_long ◌+ℤ◌ s xs b.sums (omega (arith, h)) own_sums)
+      (front_long int_min l (drop s xs) b.leasts (omega (arith, h, low)) own_leasts)
+      (front_long int_max g (drop l (drop s xs)) b.greatests (omega (arith, h, low, more)) own_greatests)
+      ∙ ap (λ t. record { count = m + b.count; sums = zip_by ◌+ℤ◌ (take s xs) b.sums; leasts = zip_by int_min (take l (drop s xs)) b.leasts; greatests = zip_by int_max (take g (drop l (drop s xs))) b.greatests; firsts = t })
+      (sym (zip_earlier (drop g (drop l (drop s xs))) b.firsts c.firsts))
 
 -- lists whose numbers can be joined have as many of each kind
 module _ (m s l g : ℕ) (xs : List ℤ) (n s1 l1 g1 : ℕ) (ys : List ℤ) (h : s + l + g ≤ length xs) (k : s1 + l1 + g1 ≤ length ys) (c : CanJoin (numbers_in m s l g xs) (numbers_in n s1 l1 g1 ys)) where
   same_sums : s ≡ s1
-  same_sums = sym (length-take-le s xs (omega (arith, h))) ∙ c.sums ∙ length-take-le s1 ys (omega (arith, k))
+  same_sums = sym (own_sums m s l g xs (numbers_in n s1 l1 g1 ys) h c) ∙ length-take-le s1 ys (omega (arith, k))
 
   same_leasts : l ≡ l1
-  same_leasts = let low = length-drop s xs in let other = length-drop s1 ys in sym (length-take-le l (drop s xs) (omega (arith, h, low))) ∙ c.leasts ∙ length-take-le l1 (drop s1 ys) (omega (arith, k, other))
+  same_leasts = let other = length-drop s1 ys in sym (own_leasts m s l g xs (numbers_in n s1 l1 g1 ys) h c) ∙ length-take-le l1 (drop s1 ys) (omega (arith, k, other))
 
   same_greatests : g ≡ g1
   same_greatests =
-      let low = length-drop s xs in let more = length-drop l (drop s xs) in
       let other = length-drop s1 ys in let others = length-drop l1 (drop s1 ys) in
-      sym (length-take-le g (drop l (drop s xs)) (omega (arith, h, low, more))) ∙ c.greatests ∙ length-take-le g1 (drop l1 (drop s1 ys)) (omega (arith, k, other, others))
+      sym (own_greatests m s l g xs (numbers_in n s1 l1 g1 ys) h c) ∙ length-take-le g1 (drop l1 (drop s1 ys)) (omega (arith, k, other, others))
 
   pub same_long : length xs ≡ length ys
   same_long =
@@ -81,8 +95,10 @@ module _ (m s l g : ℕ) (xs : List ℤ) (n s1 l1 g1 : ℕ) (ys : List ℤ) (h :
       let a = same_sums in let b = same_leasts in let d = same_greatests in let e = c.firsts in
       omega (arith, h, k, low, more, most, other, others, rest, a, b, d, e)
 
-  pub joined_view : numbers_in (m + n) s l g (joined_list s l g xs ys) ≡ join_numbers (numbers_in m s l g xs) (numbers_in n s1 l1 g1 ys)
-  joined_view = joined_same m n s l g xs ys h same_long ∙ (λ j. join_numbers (numbers_in m s l g xs) (numbers_in n (same_sums j) (same_leasts j) (same_greatests j) ys))
+  pub joined_view : numbers_in (m + n) s l g (joined_list s l g xs (take s ys) (take l (drop s ys)) (take g (drop l (drop s ys)))) ≡ join_numbers (numbers_in m s l g xs) (numbers_in n s1 l1 g1 ys)
+  joined_view =
+      (λ j. numbers_in (m + n) s l g (joined_list s l g xs (take (same_sums j) ys) (take (same_leasts j) (drop (same_sums j) ys)) (take (same_greatests j) (drop (same_leasts j) (drop (same_sums j) ys)))))
+      ∙ kinds_view m s l g xs (numbers_in n s1 l1 g1 ys) h c
 
   pub front_same : take s1 ys ≡ take s ys
   front_same = ap (λ i. take i ys) (sym same_sums)
@@ -115,3 +131,10 @@ sums_fit m n [] ys k e a b i l = absurd (omega (arith, l))
 sums_fit m n (x ∷ xs) [] k e a b i l = absurd (omega (arith, e))
 sums_fit m n (x ∷ xs) (y ∷ ys) k e a b zero l = sum_fits m n x y k a.0 b.0
 sums_fit m n (x ∷ xs) (y ∷ ys) k e a b (suc i) l = sums_fit m n xs ys k (omega (arith, e)) a.1 b.1 i (omega (arith, l))
+
+room_for : (n : ℕ) (x : ℤ) → n ≤ 2 ^ 40 → nat_abs x ≤ n * 2 ^ 86 → nat_abs x ≤ 2 ^ 126
+room_for n x k a = omega (arith, k, a)
+
+pub sums_have_room : (n : ℕ) (xs : List ℤ) → n ≤ 2 ^ 40 → AllSmall n xs → AllByRecursion (HasRoom Sums) xs
+sums_have_room n [] k a = tt
+sums_have_room n (x ∷ xs) k a = (room_for n x k a.0, sums_have_room n xs k a.1)

@@ -1,12 +1,14 @@
 -- What items want to know of rows, kind by kind.
-use Rattle.std.specs.Prelude.{◌^◌, ◌≤◌, List, [], map, nat_abs, ℤ, Option, Some, None}
+use Rattle.std.specs.Prelude.{ℕ, ◌^◌, ◌≤◌, List, [], ◌++◌, map, take, drop, nat_abs, ℤ, ◌+ℤ◌, Option, Some, None}
+use Rattle.std.specs.Int.{int_min, int_max}
 use Rattle.saber_plan.specs.declared.plans.Item.{Item}
 use Rattle.saber_plan.specs.declared.plans.Item.TheVariants.{Count, Sum, Min, Max, Value}
 use Rattle.saber_plan.specs.declared.expressions.Product.{Product}
 use Rattle.saber_plan.specs.Values.{value}
 use Rattle.saber_plan.specs.Bounds.{sum_bound}
 use Rattle.saber_plan.specs.Checked.{ExprFits}
-use Rattle.saber_plan.specs.Parts.{summed, least, greatest, plain}
+use Rattle.saber_plan.specs.Answers.{earlier}
+use Rattle.saber_plan.specs.Parts.{summed, least, greatest, plain, zip_by}
 use Rattle.saber_eval.specs.Widths.{widths}
 use Rattle.saber_partial.specs.declared.gather.Gather.{Gather}
 use Rattle.saber_partial.specs.declared.gather.Gather.TheVariants.{Sums, Leasts, Greatests, Firsts}
@@ -49,6 +51,22 @@ values_by zs es = map (λ e. value e zs []) es
 abbrev pub IsSmall : Gather → ℤ → Type 0
 IsSmall Sums z = nat_abs z ≤ 2 ^ 86
 IsSmall _ z = Unit {0}
+
+-- a sum of at most 2^40 rows has room for one row more
+abbrev pub HasRoom : Gather → ℤ → Type 0
+HasRoom Sums z = nat_abs z ≤ 2 ^ 126
+HasRoom _ z = Unit {0}
+
+-- a number with that of a later row
+abbrev pub combine : Gather → ℤ → ℤ → ℤ
+combine Sums = ◌+ℤ◌
+combine Leasts = int_min
+combine Greatests = int_max
+combine Firsts = earlier
+
+-- numbers, of which those from k on are joined with others
+abbrev pub combined_from : Gather → List ℤ → ℕ → List ℤ → List ℤ
+combined_from g xs k ys = take k xs ++ zip_by (combine g) (drop k xs) ys
 
 -- an item can be worked out over a row
 abbrev pub CanCount : List ℤ → Item → Type 0

@@ -11,10 +11,10 @@ Fits128 z = (neg_ℤ (pos (2 ^ 127)) ≤ℤ z) × (z <ℤ pos (2 ^ 127))
 abbrev pub SumsFit : List ℤ → List ℤ → Type 0
 SumsFit xs ys = (k : ℕ) → k < length xs → Fits128 (get_or xs k (pos 0) +ℤ get_or ys k (pos 0))
 
--- least values, then greatest ones, and first values
-abbrev pub joined_behind : ℕ → ℕ → List ℤ → List ℤ → List ℤ
-joined_behind l g xs ys = zip_by int_min (take l xs) (take l ys) ++ (zip_by int_max (take g (drop l xs)) (take g (drop l ys)) ++ drop g (drop l xs))
+-- least values, then greatest ones, each joined with as many of later rows; first values stay
+abbrev pub joined_behind : ℕ → ℕ → List ℤ → List ℤ → List ℤ → List ℤ
+joined_behind l g xs ps qs = zip_by int_min (take l xs) ps ++ (zip_by int_max (take g (drop l xs)) qs ++ drop g (drop l xs))
 
 -- and sums before them
-abbrev pub joined_list : ℕ → ℕ → ℕ → List ℤ → List ℤ → List ℤ
-joined_list s l g xs ys = zip_by ◌+ℤ◌ (take s xs) (take s ys) ++ joined_behind l g (drop s xs) (drop s ys)
+abbrev pub joined_list : ℕ → ℕ → ℕ → List ℤ → List ℤ → List ℤ → List ℤ → List ℤ
+joined_list s l g xs os ps qs = zip_by ◌+ℤ◌ (take s xs) os ++ joined_behind l g (drop s xs) ps qs

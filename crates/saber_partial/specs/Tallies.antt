@@ -1,5 +1,5 @@
 -- What contracts say of tallies and of their maps.
-use Rattle.std.specs.Prelude.{◌≡◌, ℕ, ◌+◌, ◌*◌, ◌^◌, ◌≤◌, List, map, length, take, drop, Vec, nat_abs, ℤ, Some, refl}
+use Rattle.std.specs.Prelude.{◌≡◌, ℕ, ◌+◌, ◌*◌, ◌^◌, ◌≤◌, List, [], ◌∷◌, map, length, take, drop, Vec, nat_abs, ℤ, Some, refl}
 use Rattle.std.specs.List.{AllByRecursion}
 use Rattle.std.specs.Coded.{Coded, code_by, coded×, coded_ℕ, coded_ℤ, coded_list}
 use Rattle.std.specs.FinMap.{get, insert, from_entries, code}
@@ -51,3 +51,13 @@ with_row m k v = insert m k (joined join_numbers (get m k) v)
 -- what stands under a key can take the numbers in
 pub record FitsAt (m : Part) (k : List ℤ) (v : Numbers) : Type 0 where
   pub at : (a : Numbers) → get m k ≡ Some a → CanJoin a v
+
+-- numbers with the first of a list taken in, if there is one
+abbrev pub with_first : Numbers → List Numbers → Numbers
+with_first a [] = a
+with_first a (b ∷ bs) = join_numbers a b
+
+-- they can take it in
+abbrev pub FirstFits : Numbers → List Numbers → Type 0
+FirstFits a [] = Unit {0}
+FirstFits a (b ∷ bs) = CanJoin a b

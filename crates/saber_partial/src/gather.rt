@@ -1,12 +1,11 @@
 // What items want to know of rows, kind by kind.
-ghost use Rattle.std.specs.Prelude.{◌≡◌, ◌+◌, ◌≤◌, ◌++◌, length, option_map, option_to_list};
+ghost use Rattle.std.specs.Prelude.{◌≡◌, ◌++◌, option_map, option_to_list, OnOk};
 ghost use Rattle.std.specs.List.{AllByRecursion};
-ghost use Rattle.saber_plan.specs.Values as v;
-ghost use Rattle.saber_partial.specs.Gathering.{wanted, exprs_of, values_by, CanCount, IsSmall};
+ghost use Rattle.saber_partial.specs.Gathering.{wanted, exprs_of, values_by, combine, CanCount, IsSmall, HasRoom};
 
-use arrayvec::ArrayVec;
 use saber_eval::value;
-use saber_plan::{Expr, Item, Row};
+use saber_plan::{Expr, Item, NoMemory, Row};
+use smallvec::SmallVec;
 
 /// The kinds of numbers, in the order in which they stand in a list.
 #[derive(Clone, Copy)]
@@ -19,7 +18,7 @@ pub(crate) enum Gather {
 
 impl Gather {
     // The expression that an item wants gathered so, if it does.
-    fn wanted(self, item: &Item) -> Option<&Expr>
+    pub(crate) fn wanted(self, item: &Item) -> Option<&Expr>
         ensures { option_map (λ e. e.now) result ≡ wanted self item.now }
     {
         match (self, item) {
@@ -30,33 +29,54 @@ impl Gather {
             _ => None,
         }
     }
+
+    /// A number of a group, with the value over one row more taken in.
+    pub(crate) fn combined(self, x: i128, y: i128) -> i128
+        requires room { HasRoom self x }
+        requires small { IsSmall self y }
+        ensures { result ≡ combine self x y }
+    {
+        match self {
+            Gather::Sums => x + y,
+            Gather::Leasts => { if y < x { y } else { x } }
+            Gather::Greatests => { if x < y { y } else { x } }
+            Gather::Firsts => x,
+        }
+    }
 }
 
-fn push_value(numbers: &mut ArrayVec<i128, 32>, gather: Gather, item: &Item, row: &Row)
-    requires room { length numbers.old.items + length (option_to_list (wanted gather item.now)) ≤ 32 }
-    requires fits { CanCount row.now.values item.now }
-    ensures all { numbers.new.items ≡ numbers.old.items ++ values_by row.now.values (option_to_list (wanted gather item.now)) }
+fn push_value(
+    numbers: &mut SmallVec<i128, 4>,
+    gather: Gather,
+    item: &Item,
+    row: &Row,
+) -> Result<(), NoMemory>
+    requires { CanCount row.now.values item.now }
+    ensures all { OnOk result (numbers.new.items ≡ numbers.old.items ++ values_by row.now.values (option_to_list (wanted gather item.now))) }
     ensures small { AllByRecursion (IsSmall gather) (values_by row.now.values (option_to_list (wanted gather item.now))) }
 {
     match gather.wanted(item) {
-        Some(e) => numbers.push(value(e, row)),
-        None => {}
+        Some(e) => {
+            numbers.push(value(e, row))?;
+            Ok(())
+        }
+        None => Ok(()),
     }
 }
 
 /// The values over a row of the items that want them gathered so, in order.
 pub(crate) fn push_values(
-    numbers: &mut ArrayVec<i128, 32>,
+    numbers: &mut SmallVec<i128, 4>,
     gather: Gather,
     items: &[Item],
     row: &Row,
-)
-    requires room { length numbers.old.items + length (exprs_of gather items.now) ≤ 32 }
-    requires fit { AllByRecursion (CanCount row.now.values) items.now }
-    ensures all { numbers.new.items ≡ numbers.old.items ++ values_by row.now.values (exprs_of gather items.now) }
-    ensures small { AllByRecursion (IsSmall gather) (values_by row.now.values (exprs_of gather items.now)) }
+) -> Result<(), NoMemory>
+    requires { AllByRecursion (CanCount row.now.values) items.now }
+    ensures all { OnOk result (numbers.new.items ≡ numbers.old.items ++ values_by row.now.values (exprs_of gather items.now)) }
+    ensures small { OnOk result (AllByRecursion (IsSmall gather) (values_by row.now.values (exprs_of gather items.now))) }
 {
     for item in items {
-        push_value(numbers, gather, item, row);
+        push_value(numbers, gather, item, row)?;
     }
+    Ok(())
 }

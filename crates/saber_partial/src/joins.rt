@@ -1,8 +1,10 @@
 // Numbers of rows joined with those of later rows, in place.
-ghost use Rattle.std.specs.Prelude.{◌≡◌, ◌+◌, ◌≤◌, ◌+ℤ◌, length, take};
+ghost use Rattle.std.specs.Prelude.{◌≡◌, ◌+◌, ◌≤◌, ◌+ℤ◌, length, take, drop};
 ghost use Rattle.std.specs.Int.{int_min, int_max};
 ghost use Rattle.saber_plan.specs.Parts.{zip_by};
 ghost use Rattle.saber_partial.specs.Kinds.{SumsFit, joined_behind, joined_list};
+
+use smallvec::SmallVec;
 
 /// How many numbers of each kind a list has: sums, then least values, then greatest ones. Those
 /// behind them are the values of first rows.
@@ -49,7 +51,7 @@ fn take_greatest(xs: &mut [i128], ys: &[i128])
 fn join_behind(leasts: usize, greatests: usize, xs: &mut [i128], ys: &[i128])
     requires there { leasts + greatests ≤ length xs.old }
     requires long { length xs.old ≡ length ys.now }
-    ensures { xs.new ≡ joined_behind leasts greatests xs.old ys.now }
+    ensures { xs.new ≡ joined_behind leasts greatests xs.old (take leasts ys.now) (take greatests (drop leasts ys.now)) }
 {
     let (front, rest) = xs.split_at_mut(leasts);
     let (other_front, other_rest) = ys.split_at(leasts);
@@ -63,7 +65,7 @@ fn join_slices(shares: Shares, xs: &mut [i128], ys: &[i128])
     requires there { shares.sums + shares.leasts + shares.greatests ≤ length xs.old }
     requires long { length xs.old ≡ length ys.now }
     requires fits { SumsFit (take shares.sums xs.old) (take shares.sums ys.now) }
-    ensures { xs.new ≡ joined_list shares.sums shares.leasts shares.greatests xs.old ys.now }
+    ensures { xs.new ≡ joined_list shares.sums shares.leasts shares.greatests xs.old (take shares.sums ys.now) (take shares.leasts (drop shares.sums ys.now)) (take shares.greatests (drop shares.leasts (drop shares.sums ys.now))) }
 {
     let (sums, rest) = xs.split_at_mut(shares.sums);
     let (other_sums, other_rest) = ys.split_at(shares.sums);
@@ -73,11 +75,11 @@ fn join_slices(shares: Shares, xs: &mut [i128], ys: &[i128])
 
 /// Joins numbers with those of later rows.
 #[tactic(auto, using(crate::proofs::Sharing::joined_long))]
-pub(crate) fn join_all(shares: Shares, xs: &mut Vec<i128>, ys: &[i128])
+pub(crate) fn join_all(shares: Shares, xs: &mut SmallVec<i128, 4>, ys: &[i128])
     requires there { shares.sums + shares.leasts + shares.greatests ≤ length xs.old.items }
     requires long { length xs.old.items ≡ length ys.now }
     requires fits { SumsFit (take shares.sums xs.old.items) (take shares.sums ys.now) }
-    ensures { xs.new.items ≡ joined_list shares.sums shares.leasts shares.greatests xs.old.items ys.now }
+    ensures { xs.new.items ≡ joined_list shares.sums shares.leasts shares.greatests xs.old.items (take shares.sums ys.now) (take shares.leasts (drop shares.sums ys.now)) (take shares.greatests (drop shares.leasts (drop shares.sums ys.now))) }
 {
     join_slices(shares, xs, ys);
 }

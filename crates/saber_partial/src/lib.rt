@@ -5,9 +5,9 @@
 mod gather;
 mod groups;
 mod joins;
+mod later_row;
 mod laws;
 mod lines;
-mod row_numbers;
 mod rows;
 mod tally;
 mod unprinted;

@@ -11,7 +11,6 @@ ghost use Rattle.saber_partial.specs.Tallies.{CanMerge};
 ghost use Rattle.std.specs.List.{AllByRecursion};
 
 use crate::groups::Partial;
-use crate::row_numbers::RowNumbers;
 use arrayvec::ArrayVec;
 use saber_plan::{NoMemory, Plan, Row};
 use std::alloc::Global;
@@ -42,8 +41,7 @@ impl Partial {
         ensures ok { OnOk result (self.new ≡ merge self.old (group_part (tree_of plan.now) (row.now.values ∷ []))) }
         ensures err { OnErr result (self.new ≡ self.old) }
     {
-        let numbers = RowNumbers::new(plan.items(), row);
         let list = key_of(plan.keys(), row.values.as_slice());
-        self.add(alloc, list.as_slice(), &numbers)
+        self.add(alloc, list.as_slice(), plan.items(), row)
     }
 }

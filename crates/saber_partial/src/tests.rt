@@ -150,3 +150,43 @@ fn halves_make_the_whole(rt: HostRuntime) -> Result<(), Fail> {
     assert!(rt; Partial::empty(alloc).is_empty());
     Ok(())
 }
+
+// Keys 1 and 2, as they are lent: into no groups, into the same keys, and into others.
+#[test]
+fn lent_parts(rt: HostRuntime) -> Result<(), Fail> {
+    let alloc = rt.alloc();
+    let plan = sums(alloc)?;
+    let lent = grouped(alloc, &plan, &[(0, 1, 10), (1, 2, 5)])?;
+    small_parts_merge();
+    let mut copy = lent.copy(alloc)?;
+    copy.merge_from(alloc, &lent)?;
+    let mut other = grouped(alloc, &plan, &[(0, 3, 4), (1, 1, -30)])?;
+    other.merge_from(alloc, &lent)?;
+    let mut none = Partial::empty(alloc);
+    none.merge_from(alloc, &lent)?;
+    let mut out = Vec::new(alloc);
+    lent.lines(&plan, 0, &mut out)?;
+    copy.lines(&plan, 1, &mut out)?;
+    other.lines(&plan, 2, &mut out)?;
+    none.lines(&plan, 3, &mut out)?;
+    assert_eq!(rt;
+        out.as_slice(),
+        b"0,1,10\n0,2,5\n1,1,20\n1,2,10\n2,1,-20\n2,2,5\n2,3,4\n3,1,10\n3,2,5\n".as_slice()
+    );
+    Ok(())
+}
+
+// The same keys in both, by value: the least and greatest of all rows.
+#[test]
+fn same_keys(rt: HostRuntime) -> Result<(), Fail> {
+    let alloc = rt.alloc();
+    let plan = ends(alloc)?;
+    let mut part = grouped(alloc, &plan, &[(0, 1, 10), (1, 1, 20)])?;
+    let later = grouped(alloc, &plan, &[(2, 2, 5), (2, 1, 7), (9, 2, 1)])?;
+    small_parts_merge();
+    part.merge(later)?;
+    let mut out = Vec::new(alloc);
+    part.lines(&plan, 0, &mut out)?;
+    assert_eq!(rt; out.as_slice(), b"0,1,20,5\n".as_slice());
+    Ok(())
+}

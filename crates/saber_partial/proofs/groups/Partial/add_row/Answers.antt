@@ -12,8 +12,8 @@ use Rattle.saber_partial.proofs.Fitting.{items_count, keys_there}
 use Rattle.saber_partial.proofs.Adding.{add_at, add_fits}
 use Rattle.saber_partial.proofs.groups.Partial.add_row.Goals as goal
 
-pub new-numbers-requires-clause-fit : goal.new-numbers-requires-clause-fit
-new-numbers-requires-clause-fit c =
+pub add-requires-clause-fit : goal.add-requires-clause-fit
+add-requires-clause-fit c =
     let q = tree_of c.args.plan.now in
     subst (AllByRecursion (CanCount c.args.row.now.values)) (sym c.items.ensures) (items_count q c.requires.checked c.requires.group c.args.row.now.values c.requires.row.count)
 
@@ -22,13 +22,13 @@ key_of-list-requires-clause-there c =
     let q = tree_of c.args.plan.now in
     subst₂ (λ (zs : List ℤ) (ks : List ℕ). AllByRecursion (λ k. k < length zs) ks) (sym c.as_slice.ensures) (sym c.keys.ensures) (keys_there q c.requires.checked c.args.row.now.values c.requires.row.count)
 
-pub add-requires : goal.add-requires
-add-requires c =
+pub add-requires-clause-room : goal.add-requires-clause-room
+add-requires-clause-room c =
     let q = tree_of c.args.plan.now in
     let zs = c.args.row.now.values in
     let k = c.as_slice-2.result.now in
     let here : k ≡ key q.keys zs = c.as_slice-2.ensures.value ∙ c.key_of-list.ensures ∙ (λ i. key (c.keys.ensures i) (c.as_slice.ensures i)) in
-    let one : c.new-numbers.result ≡ numbers q.items (zs ∷ []) = c.new-numbers.ensures ∙ ap (λ is. numbers is (zs ∷ [])) c.items.ensures in
+    let one : numbers c.items.result.now (zs ∷ []) ≡ numbers q.items (zs ∷ []) = ap (λ is. numbers is (zs ∷ [])) c.items.ensures in
     record { at = λ a g. subst (CanJoin a) (sym one) (add_fits q c.args.self.now zs k a here g c.requires.room) }
 
 pub returns-clause-ok : goal.returns-clause-ok
@@ -38,5 +38,5 @@ returns-clause-ok c =
     let m = c.args.self.now in
     let k = c.as_slice-2.result.now in
     let here : k ≡ key q.keys zs = c.as_slice-2.ensures.value ∙ c.key_of-list.ensures ∙ (λ i. key (c.keys.ensures i) (c.as_slice.ensures i)) in
-    let one : c.new-numbers.result ≡ numbers q.items (zs ∷ []) = c.new-numbers.ensures ∙ ap (λ is. numbers is (zs ∷ [])) c.items.ensures in
-    subst (λ (x : Part). OnOk c.add.result (c.add.new.self ≡ x)) (add_at q m zs k (joined join_numbers (get m k) c.new-numbers.result) here (ap (joined join_numbers (get m k)) one)) c.add.ensures.ok
+    let one : numbers c.items.result.now (zs ∷ []) ≡ numbers q.items (zs ∷ []) = ap (λ is. numbers is (zs ∷ [])) c.items.ensures in
+    subst (λ (x : Part). OnOk c.add.result (c.add.new.self ≡ x)) (add_at q m zs k (joined join_numbers (get m k) (numbers c.items.result.now (zs ∷ []))) here (ap (joined join_numbers (get m k)) one)) c.add.ensures.ok

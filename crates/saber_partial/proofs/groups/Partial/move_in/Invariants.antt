@@ -3,7 +3,7 @@ use Rattle.std.specs.FinMap.{is_sorted}
 use Rattle.saber_plan.specs.Answers.{key_cmp}
 use Rattle.saber_plan.specs.Parts.{merge}
 use Rattle.saber_partial.specs.Tallies.{CanMerge, seen_entries, seen_groups}
-use Rattle.saber_partial.proofs.groups.Partial.merge.Given as goal
+use Rattle.saber_partial.proofs.groups.Partial.move_in.Given as goal
 
 abbrev pub invariant-loop-key : goal.invariant-loop-key
 invariant-loop-key l = record {
