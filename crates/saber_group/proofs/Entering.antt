@@ -25,6 +25,3 @@ no_lines false q i p e = refl
 
 pub none_kept : (es : List (ℕ × Part)) (i : ℕ) (p : Part) → p ≡ no_part → es ≡ es ++ entry i p
 none_kept es i p e = sym (ap (λ l. es ++ l) (entry_none i p e) ∙ append-nil es)
-
-pub one_kept : (es : List (ℕ × Part)) (i : ℕ) (p : Part) → full p ≡ Some p → es ++ (i, p) ∷ [] ≡ es ++ entry i p
-one_kept es i p e = ap (λ o. es ++ option_map_or (λ r. (i, r) ∷ []) o []) (sym e)

@@ -15,15 +15,12 @@ use Rattle.saber_plan.specs.Tasks.{full, numbered, is_complete}
 use Rattle.saber_plan.specs.Needs.{is_closing, is_pending, is_opening, of_kind, part_here, piece_here}
 use Rattle.saber_plan.specs.Shares.{shares_here}
 use Rattle.saber_fragment.specs.Shown.{windows_by}
-use Rattle.saber_laws.specs.Parts.{NoRowsNoPart}
 use Rattle.saber_laws.specs.Windows.{ClosedAreCounted, BegunAreCounted}
 use Rattle.saber_group.specs.declared.batch.Batch.{Batch}
 use Rattle.saber_group.specs.Kinds.{kind_in}
 use Rattle.saber_group.specs.Entries.{entry_if, lines_if}
-use Rattle.saber_group.specs.Batches.{part_of, IsBatch, Done, AllDone, entries_to, lines_to}
-use Rattle.saber_group.proofs.Lasting.{part_none}
+use Rattle.saber_group.specs.Batches.{part_of, IsBatch, Done, entries_to, lines_to}
 use Rattle.saber_group.proofs.Numbering.{flat_map-from, flat_filter, numbered_is}
-use Rattle.saber_group.proofs.Completing.{done_skip}
 
 entry_is : (w : Bool) (i : ℕ) (p : Part) → entry_if w i p ≡ option_map_or (λ r. (i, r) ∷ []) (cond w (full p) None) []
 entry_is true i p = refl
@@ -46,7 +43,7 @@ kind_is closed_are begun_are q fits b given i low high =
     let before : begun f i b.before ≡ nat_lt i b.bounds.begun_before = sym (begun_are f fits i b.before) ∙ ap (nat_lt i) (sym given.begun_before) in
     sym (λ j. cond (not_closed j) None (cond (is_begun j) (Some (cond (closes j) (cond (before j) Closing Complete) (cond (before j) Pending Opening))) None))
 
-module _ (closed_are : ClosedAreCounted) (begun_are : BegunAreCounted) (empty : NoRowsNoPart) (q : Tree) (e : q.shape ≡ Group) (fits : Fits (frame q)) (b : Batch) (given : IsBatch q b) (m : Mark) (back rows : List Row) (starts : b.before ≡ mark_after m back) (same : b.rows.now ≡ rows) where
+module _ (closed_are : ClosedAreCounted) (begun_are : BegunAreCounted) (q : Tree) (e : q.shape ≡ Group) (fits : Fits (frame q)) (b : Batch) (given : IsBatch q b) (m : Mark) (back rows : List Row) (starts : b.before ≡ mark_after m back) (same : b.rows.now ≡ rows) where
   -- a window's part, by the definition
   here : (i : ℕ) → part_of q i b.before b.rows.now ≡ part_here q i m back rows
   unfolding part_here
@@ -77,16 +74,10 @@ module _ (closed_are : ClosedAreCounted) (begun_are : BegunAreCounted) (empty : 
       ∙ flat_filter (λ i. part_lines q i (at i)) (λ i. is_complete (kind_of f i b.before z)) (from c (g - c))
       ∙ ap (λ n. flat_map (λ i. part_lines q i (at i)) (filter (λ i. is_complete (kind_of f i b.before z)) (from n (g - n)))) given.closed_before
 
-  -- the windows that no row has are done too
-  all_begun : (cs ps os : List (ℕ × Part)) (t : List ℕ) → AllDone q b cs ps os t → Done q b (begun_count (frame q) (mark_after b.before b.rows.now)) cs ps os t
-  all_begun cs ps os t all =
-      done_skip q b all.next (begun_count (frame q) (mark_after b.before b.rows.now)) cs ps os t all.done.high (omega arith) (λ i p r. part_none empty q i b.before b.rows.now (all.none.none i p)) all.done
-
-  pub shares_are : (cs ps os : List (ℕ × Part)) (t : List ℕ) → AllDone q b cs ps os t → record { closing = cs; pending = ps; opening = os; lines = t; closed = b.bounds.closed_after } ≡ shares_here q m back rows
+  pub shares_are : (cs ps os : List (ℕ × Part)) (t : List ℕ) → Done q b (begun_count (frame q) (mark_after b.before b.rows.now)) cs ps os t → record { closing = cs; pending = ps; opening = os; lines = t; closed = b.bounds.closed_after } ≡ shares_here q m back rows
   unfolding shares_here piece_here
-  shares_are cs ps os t all =
+  shares_are cs ps os t done =
       let f = frame q in
-      let done = all_begun cs ps os t all in
       let whole = λ (x : Mark) (ys : List Row). flat_map (λ i. part_lines q i (at i)) (filter (λ i. is_complete (kind_of f i x (mark_after x ys))) (from (closed_count f x) (begun_count f (mark_after x ys) - closed_count f x))) in
       λ j. record {
         closing = (done.closing ∙ entries_are is_closing ∙ (λ k. of_kind is_closing f (starts k) (mark_after (starts k) (same k)) at)) j;

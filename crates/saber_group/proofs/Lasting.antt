@@ -1,5 +1,5 @@
 -- Which rows a window has: from the first that it has up to the first behind it.
-use Rattle.std.proofs.Common.{◌≡◌, ℕ, zero, suc, ◌+◌, ◌≤◌, ◌<◌, List, [], ◌∷◌, ◌++◌, filter, length, take, drop, get_or, map, Bool, true, false, cond, ◌&&◌, nat_lt, ℤ, refl, sym, ◌∙◌, ap, subst, append-nil, take-append-drop, length-take, arith}
+use Rattle.std.proofs.Common.{◌≡◌, ℕ, ◌+◌, ◌≤◌, ◌<◌, List, [], ◌∷◌, ◌++◌, filter, length, take, drop, get_or, map, Bool, true, false, cond, ◌&&◌, nat_lt, ℤ, refl, sym, ◌∙◌, ap, subst, append-nil, take-append-drop, le_trans, arith}
 use Rattle.std.proofs.lemmas.List.{drop_more}
 use Rattle.std.proofs.lemmas.List.Elements.{filter-append}
 use Rattle.saber_plan.specs.declared.rows.Row.{Row}
@@ -8,32 +8,24 @@ use Rattle.saber_plan.specs.Trees.{Tree}
 use Rattle.saber_plan.specs.Values.{passes}
 use Rattle.saber_plan.specs.Windows.{Frame, one, Fits, Ordered, Placed, step_mark, mark_after, placed_after, has}
 use Rattle.saber_plan.specs.Answers.{frame, passing}
-use Rattle.saber_plan.specs.Parts.{group_part, no_part, merge}
+use Rattle.saber_plan.specs.Parts.{Part, group_part, no_part, merge}
 use Rattle.saber_plan.specs.Needs.{first_window}
 use Rattle.saber_plan.specs.Given.{RowsFit}
 use Rattle.saber_laws.specs.Parts.{NoRowsNoPart, RowsAddToGroups}
 use Rattle.saber_laws.specs.Plans.{OneWindow}
 use Rattle.saber_window.specs.Laws.{PastHaveNone}
-use Rattle.saber_partial.specs.Tallies.{CanMerge}
-use Rattle.saber_partial.specs.PartLaws.{GroupsCanMerge}
-use Rattle.saber_group.specs.Batches.{flags, part_of}
-use Rattle.saber_group.proofs.Following.{placed-append, placed_more, fits_drop, few_rows}
+use Rattle.saber_partial.specs.PartLaws.{OfRows, GroupsAreOfRows}
+use Rattle.saber_group.specs.Batches.{part_of}
+use Rattle.saber_group.proofs.Following.{placed-append, placed_more, fits_drop}
 
 -- ---- rows cut at a row
 
-pub cut_rows : (f : Frame) (i : ℕ) (m : Mark) (xs : List Row) (k : ℕ) → filter (has f i) (placed_after m xs) ≡ filter (has f i) (placed_after m (take k xs)) ++ filter (has f i) (placed_after (mark_after m (take k xs)) (drop k xs))
+cut_rows : (f : Frame) (i : ℕ) (m : Mark) (xs : List Row) (k : ℕ) → filter (has f i) (placed_after m xs) ≡ filter (has f i) (placed_after m (take k xs)) ++ filter (has f i) (placed_after (mark_after m (take k xs)) (drop k xs))
 cut_rows f i m xs k = ap (λ l. filter (has f i) (placed_after m l)) (sym (take-append-drop k xs)) ∙ ap (filter (has f i)) (placed-append m (take k xs) (drop k xs)) ∙ filter-append (has f i) (placed_after m (take k xs)) (placed_after (mark_after m (take k xs)) (drop k xs))
 
 -- no row from there on
 part_ends : (q : Tree) (i : ℕ) (m : Mark) (xs : List Row) (k : ℕ) → filter (has (frame q) i) (placed_after (mark_after m (take k xs)) (drop k xs)) ≡ [] → part_of q i m (take k xs) ≡ part_of q i m xs
 part_ends q i m xs k e = ap (λ l. group_part q (passing q l)) (sym (append-nil _) ∙ ap (λ l. filter (has (frame q) i) (placed_after m (take k xs)) ++ l) (sym e) ∙ sym (cut_rows (frame q) i m xs k))
-
--- no row up to there
-pub part_begins : (q : Tree) (i : ℕ) (m : Mark) (xs : List Row) (k : ℕ) → filter (has (frame q) i) (placed_after m (take k xs)) ≡ [] → part_of q i (mark_after m (take k xs)) (drop k xs) ≡ part_of q i m xs
-part_begins q i m xs k e = ap (λ l. group_part q (passing q l)) (ap (λ l. l ++ filter (has (frame q) i) (placed_after (mark_after m (take k xs)) (drop k xs))) (sym e) ∙ sym (cut_rows (frame q) i m xs k))
-
-pub part_none : NoRowsNoPart → (q : Tree) (i : ℕ) (m : Mark) (xs : List Row) → filter (has (frame q) i) (placed_after m xs) ≡ [] → part_of q i m xs ≡ no_part
-part_none law q i m xs e = ap (λ l. group_part q (passing q l)) e ∙ (law q).of_groups
 
 pub part_nil : NoRowsNoPart → (q : Tree) (i : ℕ) (m : Mark) → no_part ≡ part_of q i m []
 unfolding placed_after
@@ -49,7 +41,7 @@ past_all law q w fits i m x xs o =
     subst (λ f. nat_lt i (first_window f (record { row = x; before = m })) ≡ true → filter (has f i) (placed_after m (x ∷ xs)) ≡ []) (sym w.has_frame)
     (law w.window.measure w.window.slide w.window.size (window_fits q w fits) i m x xs o)
 
-pub none_after : PastHaveNone → (q : Tree) → OneWindow q → Fits (frame q) → (i : ℕ) (m : Mark) (xs : List Row) (k : ℕ) (x : Row) (n : Mark) → RowsFit q m xs → k < length xs → x ≡ get_or xs k x → n ≡ mark_after m (take k xs) → nat_lt i (first_window (frame q) (record { row = x; before = n })) ≡ true
+none_after : PastHaveNone → (q : Tree) → OneWindow q → Fits (frame q) → (i : ℕ) (m : Mark) (xs : List Row) (k : ℕ) (x : Row) (n : Mark) → RowsFit q m xs → k < length xs → x ≡ get_or xs k x → n ≡ mark_after m (take k xs) → nat_lt i (first_window (frame q) (record { row = x; before = n })) ≡ true
     → filter (has (frame q) i) (placed_after (mark_after m (take k xs)) (drop k xs)) ≡ []
 none_after law q w u i m xs k x n o h e g l =
     let cut : drop k xs ≡ x ∷ drop (k + 1) xs = drop_more xs k x h ∙ ap (λ y. y ∷ drop (k + 1) xs) (sym e) in
@@ -66,6 +58,10 @@ pub row_part : RowsAddToGroups → (q : Tree) (i : ℕ) (m : Mark) (xs : List Ro
 row_part law q i m xs k x n h e g =
     ap (λ l. group_part q (passing q (filter (has (frame q) i) l))) (placed_more m xs k x h e) ∙ law q (placed_after m (take k xs)) i (record { row = x; before = mark_after m (take k xs) })
     ∙ ap (λ (b : Mark). cond (has (frame q) i (record { row = x; before = b }) && passes q.predicate x.values []) (merge (part_of q i m (take k xs)) (group_part q (x.values ∷ []))) (part_of q i m (take k xs))) (sym g)
+
+-- fewer rows are few too
+pub few_more : (q : Tree) (n k : ℕ) (p : Part) → n ≤ k → OfRows q n p → OfRows q k p
+few_more q n k p h few = record { at = λ key a e. (le_trans (few.at key a e).0 h, (few.at key a e).1) }
 
 few_case : {A : Type 0} (x : A) (l us : List A) (b : Bool) → length l ≤ length us → length (cond b (x ∷ l) l) ≤ length us + 1
 few_case x l us true h = omega arith
@@ -84,20 +80,13 @@ unfolding placed_after
 few_placed m [] = refl
 few_placed m (x ∷ xs) = let rest = few_placed (step_mark m x) xs in omega (arith, rest)
 
-pub row_fits : GroupsCanMerge → (q : Tree) → OneWindow q → (i : ℕ) (m : Mark) (xs : List Row) (k : ℕ) (x : Row) → k < length xs → RowsFit q m xs → CanMerge (part_of q i m (take k xs)) (group_part q (x.values ∷ []))
-row_fits law q w i m xs k x h fits =
-    let inside = filter (has (frame q) i) (placed_after m (take k xs)) in
+-- a window's part over some rows is one of at most as many rows
+pub part_few : GroupsAreOfRows → (q : Tree) (i : ℕ) (m : Mark) (xs : List Row) (n : ℕ) → length xs ≤ n → OfRows q n (part_of q i m xs)
+part_few law q i m xs n h =
+    let inside = filter (has (frame q) i) (placed_after m xs) in
     let values = map (λ (y : Placed). y.row.values) inside in
     let low = few-filter (λ (zs : List ℤ). passes q.predicate zs []) values in
     let all = few_values inside in
-    let some = few-filter (has (frame q) i) (placed_after m (take k xs)) in
-    let there = few_placed m (take k xs) in
-    let cut = length-take k xs in
-    let few = few_rows q w m xs fits in
-    law q (passing q inside) (x.values ∷ []) (omega (arith, low, all, some, there, cut, few, h))
-
--- which row passes, as it was asked
-pub flag_at : (q : Tree) (xs : List Row) (k : ℕ) (x : Row) → k < length xs → x ≡ get_or xs k x → get_or (flags q xs) k false ≡ passes q.predicate x.values []
-flag_at q [] k x l e = absurd (omega arith)
-flag_at q (y ∷ xs) zero x l e = sym (ap (λ (z : Row). passes q.predicate z.values []) e)
-flag_at q (y ∷ xs) (suc k) x l e = flag_at q xs k x (omega arith) e
+    let some = few-filter (has (frame q) i) (placed_after m xs) in
+    let there = few_placed m xs in
+    few_more q (length (passing q inside)) n (part_of q i m xs) (omega (arith, low, all, some, there, h)) (law q (passing q inside))

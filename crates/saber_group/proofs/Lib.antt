@@ -2,6 +2,8 @@ pub mod Entering
 pub mod Following
 pub mod Lasting
 pub mod Numbering
+pub mod Opened
 pub mod Completing
+pub mod Running
 pub mod Finishing
 pub mod Tested

@@ -33,11 +33,10 @@ impl Bounds {
     }
 }
 
-/// A task's rows, with the mark before them, and which of them pass WHERE: asked once a row.
+/// A task's rows, with the mark before them.
 #[derive(Clone, Copy)]
 pub(crate) struct Batch<'a> {
     pub(crate) before: Mark,
     pub(crate) rows: &'a [Row],
-    pub(crate) passing: &'a [bool],
     pub(crate) bounds: Bounds,
 }

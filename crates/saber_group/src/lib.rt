@@ -1,14 +1,16 @@
 //! The operator of group queries (SABER 2016: the fragment function of an aggregation by groups).
-//! It goes over a task window by window: each window from the first row on that it has, up to the
-//! first row behind it. So a window without rows in the task costs nothing, and neither does a gap
-//! in time.
+//! It goes over a task once, by runs of rows that lie in the same windows: a run is worked out once
+//! and goes into each window that has it. So a window without a row that passes costs nothing, and
+//! neither does a gap in time.
 #![tactic(auto)]
 
 mod batch;
 mod gathered;
 mod group;
+mod open;
 mod operator;
 mod rows;
+mod runs;
 mod windows;
 
 pub use group::Group;

@@ -2,7 +2,7 @@
 use crate::batch::{Batch, Bounds};
 use crate::group::Group;
 use saber_fragment::{Operator, Piece, TaskRows};
-use saber_laws::{begun_are_counted, closed_are_counted, no_rows_no_part};
+use saber_laws::{begun_are_counted, closed_are_counted};
 use saber_partial::{Partial, parts_can_merge};
 use saber_plan::NoMemory;
 use std::alloc::Global;
@@ -20,15 +20,12 @@ impl Operator for Group<'_> {
         self.has_window();
         closed_are_counted();
         begun_are_counted();
-        no_rows_no_part();
         let rows = task.rows.as_slice();
         let before = self.mark_over(&task.before, task.back.as_slice());
         let after = self.mark_over(&before, rows);
-        let passing = self.passing(alloc, rows)?;
         let batch = Batch {
             before,
             rows,
-            passing: &passing,
             bounds: Bounds {
                 closed_before: self.closed_below(&before),
                 begun_before: self.begun_below(&before),

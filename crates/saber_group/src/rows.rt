@@ -1,22 +1,19 @@
 // The rows of a task, one by one.
-ghost use Rattle.std.specs.Prelude.{◌≡◌, ◌≤◌, ◌^◌, [], IfOk};
-ghost use Rattle.std.specs.List.{AllByRecursion};
+ghost use Rattle.std.specs.Prelude.{◌≡◌, ◌≤◌, ◌^◌, []};
 ghost use Rattle.saber_plan.specs.Values as v;
 ghost use Rattle.saber_plan.specs.Windows as w;
 ghost use Rattle.saber_plan.specs.Trees.{tree_of};
 ghost use Rattle.saber_plan.specs.Given.{IsRowOf, RowsFit};
-ghost use Rattle.saber_group.specs.Batches.{flags};
 
 use crate::group::Group;
 use saber_eval::{holds, one_stream_fits};
 use saber_laws::groups_have_one_window;
-use saber_plan::{Mark, NoMemory, Row};
+use saber_plan::{Mark, Row};
 use saber_window::{stamps_fit, step_mark};
-use std::alloc::Global;
 
 impl Group<'_> {
     /// Whether a row passes WHERE.
-    fn passes(&self, row: &Row) -> bool
+    pub(crate) fn passes(&self, row: &Row) -> bool
         requires { IsRowOf (tree_of self.now) row.now }
         ensures { result ≡ v.passes (tree_of self.now).predicate row.now.values [] }
     {
@@ -26,18 +23,6 @@ impl Group<'_> {
             Some(predicate) => holds(predicate, row),
             None => true,
         }
-    }
-
-    /// Which of some rows pass.
-    pub(crate) fn passing(&self, alloc: Global, rows: &[Row]) -> Result<Vec<bool>, NoMemory>
-        requires { AllByRecursion (IsRowOf (tree_of self.now)) rows.now }
-        ensures { IfOk result (λ passing. passing.items ≡ flags (tree_of self.now) rows.now) }
-    {
-        let mut passing = Vec::with_capacity(alloc, rows.len())?;
-        for row in rows {
-            passing.push(self.passes(row))?;
-        }
-        Ok(passing)
     }
 
     /// The mark after one more row.

@@ -1,8 +1,10 @@
-use Rattle.std.proofs.Common.{◌∙◌, sym, ap, refl, arith}
+use Rattle.std.proofs.Common.{◌≡◌, ℕ, ◌≤◌, ◌<◌, take, sym, subst, refl, le_trans, arith}
+use Rattle.saber_plan.specs.declared.plans.Plan.{Plan}
 use Rattle.saber_plan.specs.Trees.{tree_of}
-use Rattle.saber_plan.specs.Windows.{step_mark}
-use Rattle.saber_group.proofs.Following.{mark_more, left_small, right_small}
-use Rattle.saber_group.proofs.Completing.{none_nil, done_nil, all_rows}
+use Rattle.saber_group.specs.Batches.{part_of, begun_by, Holds, Done}
+use Rattle.saber_group.proofs.Following.{few_rows}
+use Rattle.saber_group.proofs.Opened.{holds_nil, has_room, holds_more}
+use Rattle.saber_group.proofs.Completing.{done_nil, begun_within}
 use Rattle.saber_group.proofs.group.Group.take_rows.Goals as goal
 
 pub loop-from-init : goal.loop-from-init
@@ -11,33 +13,48 @@ loop-from-init c =
     let b = c.args.batch.now in
     let new = c.new-gathered.result in
     record {
+      within = omega arith;
       mark = refl;
-      none = none_nil q b.bounds.closed_before b.before;
-      done = done_nil c.closed_within_begun.ensures c.begun_stay.ensures q c.has_window.ensures.fits b c.requires new.closing new.pending new.opening new.text.items
-          c.new-gathered.ensures.closing c.new-gathered.ensures.pending c.new-gathered.ensures.opening c.new-gathered.ensures.text;
+      holds = holds_nil c.no_rows_no_part.ensures q b.before c.new-open.result.next c.new-open.result.parts.items c.new-open.ensures.parts;
+      done = subst (λ n. Done q b n new.closing new.pending new.opening new.text.items) (sym c.new-open.ensures.next)
+          (done_nil c.closed_within_begun.ensures c.begun_stay.ensures q c.has_window.ensures.fits b c.requires new.closing new.pending new.opening new.text.items
+          c.new-gathered.ensures.closing c.new-gathered.ensures.pending c.new-gathered.ensures.opening c.new-gathered.ensures.text);
     }
 
-pub step-mark-requires-clause-left : goal.step-mark-requires-clause-left
-step-mark-requires-clause-left c = left_small (tree_of c.args.self.now) c.args.batch.now.before c.loop-from.mark c.args.batch.now.rows.now c.loop-from.from c.requires.fits c.loop-from.invariant.mark
-
-pub step-mark-requires-clause-right : goal.step-mark-requires-clause-right
-step-mark-requires-clause-right c = right_small (tree_of c.args.self.now) c.args.batch.now.before c.loop-from.mark c.args.batch.now.rows.now c.loop-from.from c.requires.fits c.loop-from.invariant.mark
+pub take_in-requires-clause-room : goal.take_in-requires-clause-room
+take_in-requires-clause-room c =
+    let q = tree_of c.args.self.now in
+    let b = c.args.batch.now in
+    let r = c.in_ok-run.run' in
+    let opened = c.close_below.new.self in
+    let more = c.in_ok-run.ensures.more in
+    let rows = take c.loop-from.from b.rows.now in
+    let held = subst (λ (p : Plan). Holds (tree_of p) b.before rows c.loop-from.open.next c.loop-from.open.parts.items → Holds (tree_of p) b.before rows opened.next opened.parts.items) c.self.view_is (c.in_ok-close_below.ensures.parts rows) in
+    λ j h. has_room q b.before b.rows.now c.loop-from.from r.end r.first r.past r.part c.in_ok-run.ensures.run opened.next opened.parts.items (held c.loop-from.invariant.holds)
+    c.groups_are_of_rows.ensures c.small_parts_merge.ensures (omega (arith, more)) c.in_ok-run.ensures.within (few_rows q c.has_window.ensures.window b.before b.rows.now c.requires.fits) j
 
 pub loop-from-preserved : goal.loop-from-preserved
 loop-from-preserved c =
+    let q = tree_of c.args.self.now in
     let b = c.args.batch.now in
-    let x = c.index-rows-from.result in
+    let r = c.in_ok-run.run' in
+    let run = c.in_ok-run.ensures.run in
+    let opened = c.close_below.new.self in
+    let new = c.take_in.new.self in
+    let g = c.close_below.new.gathered in
+    let next = c.in_ok-close_below.ensures.next in
+    let old = c.loop-from.open in
+    let before = c.loop-from.gathered in
+    let rows = take c.loop-from.from b.rows.now in
+    let held = subst (λ (p : Plan). Holds (tree_of p) b.before rows old.next old.parts.items → Holds (tree_of p) b.before rows opened.next opened.parts.items) c.self.view_is (c.in_ok-close_below.ensures.parts rows) in
+    let done = subst (λ (p : Plan). Holds (tree_of p) b.before rows old.next old.parts.items → ((i : ℕ) → i < r.first → part_of (tree_of p) i b.before rows ≡ part_of (tree_of p) i b.before b.rows.now) → r.first ≤ begun_by (tree_of p) b.before b.rows.now
+    → Done (tree_of p) b old.next before.closing before.pending before.opening before.text.items → Done (tree_of p) b opened.next g.closing g.pending g.opening g.text.items) c.self.view_is (c.in_ok-close_below.ensures.done rows) in
+    let high : r.first ≤ begun_by q b.before b.rows.now = le_trans run.order (le_trans run.ends (begun_within c.begun_stay.ensures q c.has_window.ensures.fits b.before b.rows.now r.end c.requires.fits)) in
     record {
-      mark = c.step-mark.ensures ∙ ap (λ m. step_mark m x) c.loop-from.invariant.mark ∙ sym (mark_more b.before b.rows.now c.loop-from.from x c.loop-from-test.true c.index-rows-from.is);
-      none = c.in_ok-next.ensures.none;
-      done = c.in_ok-next.ensures.done;
-    }
-
-pub returns : goal.returns
-returns c =
-    let b = c.args.batch.now in
-    record {
-      next = c.loop-from.next;
-      none = all_rows (tree_of c.args.self.now) c.loop-from.next b.before b.rows.now c.loop-from.from (omega arith) c.loop-from.invariant.none;
-      done = c.loop-from.invariant.done;
+      within = c.in_ok-run.ensures.within;
+      mark = c.in_ok-run.ensures.after;
+      holds = holds_more q b.before b.rows.now c.loop-from.from r.end r.first r.past r.part run opened.next opened.parts.items (held c.loop-from.invariant.holds)
+          new.parts.items new.next c.in_ok-take_in.ensures.next (omega (arith, next)) c.in_ok-take_in.ensures.inside c.in_ok-take_in.ensures.few;
+      done = subst (λ n. Done q b n g.closing g.pending g.opening g.text.items) (sym c.in_ok-take_in.ensures.next)
+          (done c.loop-from.invariant.holds run.below high c.loop-from.invariant.done);
     }

@@ -20,18 +20,12 @@ mark_over-after-requires c =
     let t = c.args.task.now in
     task_fits (tree_of c.args.self.now) t.before c.mark_over-before.result t.back t.rows c.as_slice-rows.result.now c.requires (c.mark_over-before.ensures ∙ ap (mark_after t.before) c.as_slice.ensures) c.as_slice-rows.ensures
 
-pub passing-requires : goal.passing-requires
-passing-requires c =
-    let t = c.args.task.now in
-    (task_fits (tree_of c.args.self.now) t.before c.mark_over-before.result t.back t.rows c.as_slice-rows.result.now c.requires (c.mark_over-before.ensures ∙ ap (mark_after t.before) c.as_slice.ensures) c.as_slice-rows.ensures).rows
-
 pub take_rows-requires : goal.take_rows-requires
 take_rows-requires c =
     let t = c.args.task.now in
     let q = tree_of c.args.self.now in
     record {
       fits = task_fits q t.before c.mark_over-before.result t.back t.rows c.as_slice-rows.result.now c.requires (c.mark_over-before.ensures ∙ ap (mark_after t.before) c.as_slice.ensures) c.as_slice-rows.ensures;
-      passing = c.deref.ensures.value ∙ c.in_ok-passing.ensures;
       closed_before = c.closed_below.ensures;
       begun_before = c.begun_below.ensures;
       closed_after = c.closed_below-2.ensures ∙ ap (closed_count (frame q)) c.mark_over-after.ensures;
@@ -43,10 +37,9 @@ returns c =
     let q = tree_of c.args.self.now in
     let g = c.in_ok-gathered.gathered in
     let starts = c.mark_over-before.ensures ∙ ap (mark_after t.before) c.as_slice.ensures in
-    let b : Batch = record { before = c.mark_over-before.result; rows = c.as_slice-rows.result; passing = c.deref.result; bounds = record { closed_before = c.closed_below.result; begun_before = c.begun_below.result; closed_after = c.closed_below-2.result } } in
+    let b : Batch = record { before = c.mark_over-before.result; rows = c.as_slice-rows.result; bounds = record { closed_before = c.closed_below.result; begun_before = c.begun_below.result; closed_after = c.closed_below-2.result } } in
     let given : IsBatch q b = record {
       fits = task_fits q t.before c.mark_over-before.result t.back t.rows c.as_slice-rows.result.now c.requires starts c.as_slice-rows.ensures;
-      passing = c.deref.ensures.value ∙ c.in_ok-passing.ensures;
       closed_before = c.closed_below.ensures;
       begun_before = c.begun_below.ensures;
       closed_after = c.closed_below-2.ensures ∙ ap (closed_count (frame q)) c.mark_over-after.ensures;
@@ -58,4 +51,4 @@ returns c =
       lines = c.into_piece.ensures.text j;
       closed = c.into_piece.ensures.closed j;
     })
-    ∙ shares_are c.closed_are_counted.ensures c.begun_are_counted.ensures c.no_rows_no_part.ensures q c.has_window.ensures.group c.has_window.ensures.fits b given t.before t.back t.rows starts c.as_slice-rows.ensures g.closing g.pending g.opening g.text.items c.in_ok-gathered.ensures
+    ∙ shares_are c.closed_are_counted.ensures c.begun_are_counted.ensures q c.has_window.ensures.group c.has_window.ensures.fits b given t.before t.back t.rows starts c.as_slice-rows.ensures g.closing g.pending g.opening g.text.items c.in_ok-gathered.ensures

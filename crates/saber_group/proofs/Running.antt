@@ -1,0 +1,150 @@
+-- Rows that lie in the same windows, one after another.
+use Rattle.std.proofs.Common.{◌≡◌, ℕ, ◌+◌, ◌-◌, ◌/◌, ◌^◌, ◌≤◌, ◌<◌, List, [], ◌∷◌, length, take, drop, get_or, Bool, true, false, cond, ◌&&◌, nat_lt, nat_le, refl, sym, ◌∙◌, ap, subst, subst₂, le_refl, le_trans, ⊎_elim, arith}
+use Rattle.std.proofs.Math.Nat.{le-div_iff_mul-le}
+use Rattle.std.proofs.lemmas.List.{drop_more, get_or_default, get_or-take, length-take-le, take-take}
+use Rattle.std.proofs.lemmas.Bool.{lt-ltb, le-ltb, le-leb, cases_lt}
+use Rattle.std.proofs.lemmas.Bool.Decides.{nat_tests}
+use Rattle.saber_plan.specs.declared.rows.Row.{Row}
+use Rattle.saber_plan.specs.declared.windows.Mark.{Mark}
+use Rattle.saber_plan.specs.declared.rows.Side.{Side}
+use Rattle.saber_plan.specs.declared.rows.Side.TheVariants.{Left, Right}
+use Rattle.saber_plan.specs.declared.windows.Measure.{Measure}
+use Rattle.saber_plan.specs.declared.windows.Measure.TheVariants.{Rows, Range}
+use Rattle.saber_plan.specs.Trees.{Tree}
+use Rattle.saber_plan.specs.Values.{passes}
+use Rattle.saber_plan.specs.Windows.{one, Fits, Placed, own, time, by_side, count_to, mark_after, has, begun_count}
+use Rattle.saber_plan.specs.Answers.{frame}
+use Rattle.saber_plan.specs.Parts.{Part, group_part, no_part, merge}
+use Rattle.saber_plan.specs.Needs.{first_window, past_window}
+use Rattle.saber_plan.specs.Given.{RowsFit}
+use Rattle.saber_laws.specs.Parts.{RowsAddToGroups, MergeIsAssociative, MergeHasUnit}
+use Rattle.saber_laws.specs.Needs.{RowsSpan}
+use Rattle.saber_laws.specs.Windows.{BegunStay}
+use Rattle.saber_laws.specs.Plans.{OneWindow}
+use Rattle.saber_window.specs.Laws.{PastHaveNone}
+use Rattle.saber_partial.specs.PartLaws.{OfRows, GroupsAreOfRows, SmallPartsMerge}
+use Rattle.saber_group.specs.Batches.{part_of, begun_by, IsRun}
+use Rattle.saber_group.proofs.Following.{fits_front, fits_take, fits_drop}
+use Rattle.saber_group.proofs.Lasting.{row_part, ends_here, few_more}
+use Rattle.saber_group.proofs.Completing.{past_begun, past_high}
+
+-- ---- what the first row of a run tells
+
+pub record Starts (q : Tree) (m : Mark) (rows : List Row) (k first past : ℕ) : Type 0 where
+  pub below : (i : ℕ) → i < first → part_of q i m (take k rows) ≡ part_of q i m rows
+  pub order : first ≤ past
+  pub begins : begun_by q m (take k rows) ≤ past
+  pub ends : (n : ℕ) → k < n → n ≤ length rows → past ≤ begun_by q m (take n rows)
+
+-- a quotient rises with its dividend
+div_rises : (n p r : ℕ) → 1 ≤ n → p ≤ r → p / n ≤ r / n
+div_rises n p r h l = (le-div_iff_mul-le {k = n} {x = p / n} {y = r} h).1 (le_trans ((le-div_iff_mul-le {k = n} {x = p / n} {y = p} h).0 (le_refl (p / n))) l)
+
+count_case : (slide size p : ℕ) (b : Bool) → 1 ≤ slide → cond b ((p - size) / slide + 1) 0 ≤ (p - 0) / slide + 1
+count_case slide size p true h = let rises = div_rises slide (p - size) (p - 0) h (omega arith) in omega (arith, rises)
+count_case slide size p false h = omega arith
+
+count_low : (slide size p : ℕ) → 1 ≤ slide → count_to slide size p ≤ count_to slide 0 p
+count_low slide size p h =
+    let here : nat_le 0 p ≡ true = grind (arith, nat_tests) in
+    subst (λ b. count_to slide size p ≤ cond b ((p - 0) / slide + 1) 0) (sym here) (count_case slide size p (nat_le size p) h)
+
+low_by : (s : Side) (a b : ℕ) → a ≤ b → by_side s a 0 ≤ by_side s b 0
+low_by Left a b h = h
+low_by Right a b h = omega arith
+
+first_low : (measure : Measure) (slide size : ℕ) (x : Placed) → 1 ≤ slide → first_window (one measure slide size) x ≤ past_window (one measure slide size) x
+first_low Rows slide size x h = low_by x.row.side (count_to slide size (own x)) (count_to slide 0 (own x)) (count_low slide size (own x) h)
+first_low Range slide size x h = low_by x.row.side (count_to slide size (time x)) (count_to slide 0 (time x)) (count_low slide size (time x) h)
+
+pub starts_at : PastHaveNone → BegunStay → (q : Tree) → OneWindow q → Fits (frame q) → (m : Mark) (rows : List Row) (k : ℕ) (x : Row) (a : Mark) (first past : ℕ) → RowsFit q m rows → k < length rows → x ≡ get_or rows k x → a ≡ mark_after m (take k rows)
+    → first ≡ first_window (frame q) (record { row = x; before = a }) → past ≡ past_window (frame q) (record { row = x; before = a }) → Starts q m rows k first past
+starts_at none stay q w fits m rows k x a first past given here is mark f l =
+    let at : Placed = record { row = x; before = a } in
+    let cut : drop k rows ≡ x ∷ drop (k + 1) rows = drop_more rows k x here ∙ ap (λ y. y ∷ drop (k + 1) rows) (sym is) in
+    let one_row : RowsFit q a (x ∷ []) = fits_front q a (x ∷ []) (drop (k + 1) rows) (subst₂ (RowsFit q) (sym mark) cut (fits_drop q m rows k given)) in
+    record {
+      below = λ i h. ends_here none q w fits i m rows k x a given here is mark (lt-ltb i (first_window (frame q) at) (subst (λ n. i < n) f h));
+      order = subst₂ (λ n o. n ≤ o) (sym f) (sym l) (subst (λ g. first_window g at ≤ past_window g at) (sym w.has_frame) (first_low w.window.measure w.window.slide w.window.size at w.fits.slide.0));
+      begins = subst₂ (λ n o. n ≤ o) (ap (begun_count (frame q)) mark) (sym (l ∙ past_begun q w a x one_row.rows.0)) (stay (frame q) fits a (x ∷ []) one_row.ordered);
+      ends = λ n h r.
+          let long = length-take-le n rows r in
+          let same : take k (take n rows) ≡ take k rows = take-take k n rows (omega (arith, h)) in
+          subst (λ o. o ≤ begun_by q m (take n rows)) (sym l)
+          (past_high stay q w fits m (take n rows) k x a (fits_take q m rows n given) (omega (arith, long, h)) (is ∙ sym (get_or-take n rows k x h)) (mark ∙ ap (mark_after m) (sym same)));
+    }
+
+-- ---- one row more
+
+-- a part with a row, where it is wanted and passes
+abbrev pub with_row : Tree → Bool → Row → Part → Part
+with_row q wanted x p = cond (wanted && passes q.predicate x.values []) (merge p (group_part q (x.values ∷ []))) p
+
+-- what the rows of a run up to row e come to
+pub record RunTo (q : Tree) (m : Mark) (rows : List Row) (k e first past : ℕ) (p : Part) : Type 0 where
+  pub inside : (i : ℕ) → first ≤ i → i < past → part_of q i m (take e rows) ≡ merge (part_of q i m (take k rows)) p
+  pub behind : (i : ℕ) → first ≤ i → past ≤ i → part_of q i m (take e rows) ≡ part_of q i m (take k rows)
+  pub few : OfRows q (e - k) p
+
+pub run_nil : MergeHasUnit → GroupsAreOfRows → (q : Tree) (m : Mark) (rows : List Row) (k first past : ℕ) (p : Part) → group_part q [] ≡ no_part → p ≡ no_part → RunTo q m rows k k first past p
+run_nil unit of_rows q m rows k first past p none e =
+    let nil : k - k ≡ 0 = omega arith in
+    record {
+      inside = λ i l h. sym (ap (merge (part_of q i m (take k rows))) e ∙ (unit (part_of q i m (take k rows))).1);
+      behind = λ i l h. refl;
+      few = subst (OfRows q (k - k)) (sym e) (subst (λ n. OfRows q n no_part) (sym nil) (subst (OfRows q 0) none (of_rows q [])));
+    }
+
+merge_case : MergeIsAssociative → (a p g : Part) (b : Bool) (r : Part) → r ≡ cond b (merge (merge a p) g) (merge a p) → r ≡ merge a (cond b (merge p g) p)
+merge_case assoc a p g true r e = e ∙ assoc a p g
+merge_case assoc a p g false r e = e
+
+few_case : SmallPartsMerge → GroupsAreOfRows → (q : Tree) (x : Row) (n : ℕ) (p : Part) (b : Bool) → n + 1 ≤ 2 ^ 40 → OfRows q n p → OfRows q (n + 1) (cond b (merge p (group_part q (x.values ∷ []))) p)
+few_case small of_rows q x n p true h few = (small q n 1 p (group_part q (x.values ∷ [])) few (of_rows q (x.values ∷ [])) h).1
+few_case small of_rows q x n p false h few = few_more q n (n + 1) p (omega arith) few
+
+pub run_more : RowsAddToGroups → RowsSpan → MergeIsAssociative → SmallPartsMerge → GroupsAreOfRows → (q : Tree) → Fits (frame q) → (m : Mark) (rows : List Row) (k e first past : ℕ) (p : Part) (x : Row) (a : Mark)
+    → k ≤ e → e < length rows → length rows ≤ 2 ^ 40 → x ≡ get_or rows e x → a ≡ mark_after m (take e rows)
+    → first ≡ first_window (frame q) (record { row = x; before = a }) → past ≡ past_window (frame q) (record { row = x; before = a })
+    → RunTo q m rows k e first past p → RunTo q m rows k (e + 1) first past (with_row q (nat_lt first past) x p)
+run_more add span assoc small of_rows q fits m rows k e first past p x a low here few is mark f l run =
+    let at : Placed = record { row = x; before = a } in
+    let lies = λ (i : ℕ). span (frame q) fits i at ∙ (λ j. nat_le (sym f j) i && nat_lt i (sym l j)) in
+    let step = λ (i : ℕ). row_part add q i m rows e x a here is mark in
+    let next : (e - k) + 1 ≡ e + 1 - k = omega (arith, low) in
+    record {
+      inside = λ i h r.
+          let has_row : has (frame q) i at ≡ true = lies i ∙ (λ j. le-leb first i h j && lt-ltb i past r j) in
+          let wanted : nat_lt first past ≡ true = lt-ltb first past (omega (arith, h, r)) in
+          let b = passes q.predicate x.values [] in
+          let g = group_part q (x.values ∷ []) in
+          merge_case assoc (part_of q i m (take k rows)) p g b (part_of q i m (take (e + 1) rows))
+          (step i ∙ (λ j. cond (has_row j && b) (merge (run.inside i h r j) g) (run.inside i h r j)))
+          ∙ ap (λ w. merge (part_of q i m (take k rows)) (cond (w && b) (merge p g) p)) (sym wanted);
+      behind = λ i h r.
+          let has_none : has (frame q) i at ≡ false = lies i ∙ (λ j. le-leb first i h j && le-ltb i past r j) in
+          step i ∙ ap (λ w. cond (w && passes q.predicate x.values []) (merge (part_of q i m (take e rows)) (group_part q (x.values ∷ []))) (part_of q i m (take e rows))) has_none ∙ run.behind i h r;
+      few = subst (λ n. OfRows q n (with_row q (nat_lt first past) x p)) next (few_case small of_rows q x (e - k) p (nat_lt first past && passes q.predicate x.values []) (omega (arith, low, here, few)) run.few);
+    }
+
+-- ---- the whole run
+
+-- a row of which something else holds than of row k comes later
+pub is_later : (P : Row → Mark → Type 0) (m : Mark) (rows : List Row) (k e : ℕ) (x y : Row) (a z : Mark) → k ≤ e → e < length rows → x ≡ get_or rows k x → y ≡ get_or rows e y → a ≡ mark_after m (take k rows) → z ≡ mark_after m (take e rows) → P x a → (P y z → ⊥) → k < e
+is_later P m rows k e x y a z low here is_x is_y is_a is_z h none =
+    ⊎_elim (λ g. g) (λ g.
+    let same : k ≡ e = omega (arith, low, g) in
+    let row : x ≡ y = is_x ∙ get_or_default rows k x y (omega (arith, low, here)) ∙ ap (λ n. get_or rows n y) same ∙ sym is_y in
+    let mark : a ≡ z = is_a ∙ ap (λ n. mark_after m (take n rows)) same ∙ sym is_z in
+    absurd (none (subst₂ P row mark h))) (cases_lt k e)
+
+pub run_is : (q : Tree) (m : Mark) (rows : List Row) (k e first past : ℕ) (p : Part) → Starts q m rows k first past → k < e → e ≤ length rows → RunTo q m rows k e first past p → IsRun q m rows k e first past p
+run_is q m rows k e first past p starts more within run = record {
+  inside = run.inside;
+  behind = run.behind;
+  below = starts.below;
+  few = run.few;
+  order = starts.order;
+  begins = starts.begins;
+  ends = starts.ends e more within;
+}

@@ -1,0 +1,120 @@
+// Rows that lie in the same windows.
+ghost use Rattle.std.specs.Prelude.{◌≡◌, ◌^◌, ◌≤◌, ◌<◌, ◌&&◌, [], ◌∷◌, length, take, true, if◌then◌else◌, OnOk, IfOk};
+ghost use Rattle.saber_plan.specs.Values as v;
+ghost use Rattle.saber_plan.specs.Windows.{mark_after};
+ghost use Rattle.saber_plan.specs.Parts as p;
+ghost use Rattle.saber_plan.specs.Trees.{tree_of};
+ghost use Rattle.saber_plan.specs.Answers.{frame};
+ghost use Rattle.saber_plan.specs.Needs.{first_window, past_window};
+ghost use Rattle.saber_plan.specs.Given.{IsRowOf};
+ghost use Rattle.saber_partial.specs.Tallies.{CanMerge};
+ghost use Rattle.saber_group.specs.Batches.{IsBatch, IsRun};
+
+use crate::batch::Batch;
+use crate::group::Group;
+use saber_laws::{
+    begun_stay, groups_have_one_window, merge_has_unit, merge_is_associative, no_rows_no_part,
+    rows_add_to_groups, rows_span,
+};
+use saber_partial::{Partial, groups_are_of_rows, small_parts_merge};
+use saber_plan::{Mark, NoMemory, Row};
+use saber_window::past_have_none;
+use std::alloc::Global;
+
+/// Some rows of a task, one after another, that lie in the windows from `first` up to `past` and in no
+/// other, with their part (SABER 2016: a pane). It is worked out once, and goes into each of these
+/// windows. Behind it comes row `end`, with the mark `after` before it.
+#[derive(Drop)]
+pub(crate) struct Run {
+    pub(crate) first: u64,
+    pub(crate) past: u64,
+    pub(crate) part: Partial,
+    pub(crate) end: usize,
+    pub(crate) after: Mark,
+}
+
+impl Group<'_> {
+    // The row lies in the windows from `first` up to `past`, and in no other.
+    fn lies_in(&self, first: u64, past: u64, row: &Row, before: &Mark) -> bool
+        requires left { before.now.left ≤ 2 ^ 40 }
+        requires right { before.now.right ≤ 2 ^ 40 }
+        ensures yes { result ≡ true → (first ≡ first_window (frame (tree_of self.now)) (record { row = row.now; before = before.now })) × (past ≡ past_window (frame (tree_of self.now)) (record { row = row.now; before = before.now })) }
+        ensures no { first ≡ first_window (frame (tree_of self.now)) (record { row = row.now; before = before.now }) → past ≡ past_window (frame (tree_of self.now)) (record { row = row.now; before = before.now }) → result ≡ true }
+    {
+        let windows = self.row_windows(row, before);
+        windows.0 == first && windows.1 == past
+    }
+
+    // Adds a row to a part, if it is wanted and passes WHERE.
+    fn add_row(
+        &self,
+        alloc: Global,
+        is_wanted: bool,
+        row: &Row,
+        part: &mut Partial,
+    ) -> Result<(), NoMemory>
+        requires row { IsRowOf (tree_of self.now) row.now }
+        requires room { CanMerge part.old (p.group_part (tree_of self.now) (row.now.values ∷ [])) }
+        ensures { OnOk result (part.new ≡ (if is_wanted && v.passes (tree_of self.now).predicate row.now.values [] then p.merge part.old (p.group_part (tree_of self.now) (row.now.values ∷ [])) else part.old)) }
+    {
+        groups_have_one_window();
+        if is_wanted && self.passes(row) {
+            part.add_row(alloc, self.plan, row)?;
+        }
+        Ok(())
+    }
+
+    /// The rows from row `from` on that lie in the windows of this one, before which `mark` stands.
+    pub(crate) fn run_from(
+        &self,
+        alloc: Global,
+        batch: &Batch,
+        from: usize,
+        mark: &Mark,
+    ) -> Result<Run, NoMemory>
+        requires batch { IsBatch (tree_of self.now) batch.now }
+        requires there { from < length batch.now.rows.now }
+        requires mark { mark.now ≡ mark_after batch.now.before (take from batch.now.rows.now) }
+        ensures run { IfOk result (λ r. IsRun (tree_of self.now) batch.now.before batch.now.rows.now from r.end r.first r.past r.part) }
+        ensures more { IfOk result (λ r. from < r.end) }
+        ensures within { IfOk result (λ r. r.end ≤ length batch.now.rows.now) }
+        ensures after { IfOk result (λ r. r.after ≡ mark_after batch.now.before (take r.end batch.now.rows.now)) }
+    {
+        self.has_window();
+        begun_stay();
+        groups_are_of_rows();
+        merge_has_unit();
+        merge_is_associative();
+        no_rows_no_part();
+        past_have_none();
+        rows_add_to_groups();
+        rows_span();
+        small_parts_merge();
+        let rows = batch.rows;
+        let (first, past) = self.row_windows(&rows[from], mark);
+        let has_windows = first < past;
+        let mut part = Partial::empty(alloc);
+        let mut after = *mark;
+        for end in from..rows.len() {
+            let row = &rows[end];
+            if !self.lies_in(first, past, row, &after) {
+                return Ok(Run {
+                    first,
+                    past,
+                    part,
+                    end,
+                    after,
+                });
+            }
+            self.add_row(alloc, has_windows, row, &mut part)?;
+            after = self.step(&after, row);
+        }
+        Ok(Run {
+            first,
+            past,
+            part,
+            end: rows.len(),
+            after,
+        })
+    }
+}
