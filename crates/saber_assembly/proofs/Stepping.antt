@@ -69,10 +69,14 @@ module _ (goes : TextGoesOn) (opens : OpenGoesOn) (make : SharesMakePiece) (q : 
   cut_off k p =
       let w = written_by q old.parts (piece_in s) in
       subst (λ j. IsCutOff q n xs j start.written new.written) (sym k) (record {
-        more = take p.0 w;
-        rest = drop p.0 w;
-        out = p.2 ∙ ap (λ o. appended o (take p.0 w)) a.0 ∙ appended_twice start.written (text q (upto n xs old.k)) (take p.0 w);
-        next = step_text ∙ ap (λ l. text q (upto n xs old.k) ++ l) (sym (take-append-drop p.0 w));
+        out = text q (upto n xs old.k) ++ take p.0 w;
+        written_is = p.2 ∙ ap (λ o. appended o (take p.0 w)) a.0 ∙ appended_twice start.written (text q (upto n xs old.k)) (take p.0 w);
+        is_cut = record {
+          more = take p.0 w;
+          rest = drop p.0 w;
+          out_is = refl;
+          next_is = step_text ∙ ap (λ l. text q (upto n xs old.k) ++ l) (sym (take-append-drop p.0 w));
+        };
       })
 
   not_done : new.state ≢ Running → new.k ≡ old.k

@@ -42,12 +42,18 @@ pub record Start : Type 0 where
   pub written : Option (List ℕ)
   pub faults : ℕ
 
--- a prefix of what the next task's rows add to the text
-pub record IsCutOff (q : Tree) (n : ℕ) (xs : List Row) (k : ℕ) (start written : Option (List ℕ)) : Type 0 where
+-- the text of the first k tasks' rows, and then a prefix of what the next task adds
+pub record IsCut (q : Tree) (n : ℕ) (xs : List Row) (k : ℕ) (out : List ℕ) : Type 0 where
   pub more : List ℕ
   pub rest : List ℕ
-  pub out : written ≡ appended start (text q (upto n xs k) ++ more)
-  pub next : text q (upto n xs (k + 1)) ≡ text q (upto n xs k) ++ (more ++ rest)
+  pub out_is : out ≡ text q (upto n xs k) ++ more
+  pub next_is : text q (upto n xs (k + 1)) ≡ text q (upto n xs k) ++ (more ++ rest)
+
+-- that much is written, where the sink tells
+pub record IsCutOff (q : Tree) (n : ℕ) (xs : List Row) (k : ℕ) (start written : Option (List ℕ)) : Type 0 where
+  pub out : List ℕ
+  pub written_is : written ≡ appended start out
+  pub is_cut : IsCut q n xs k out
 
 -- The stage has k tasks of n rows behind it: while it runs, the text of their rows is written and their open parts are kept;
 -- where the sink failed, a prefix of the next task's text is out too, and the count of faults rose; where memory lacked, nothing more is out.

@@ -17,7 +17,7 @@ use Rattle.saber_rows.specs.Reader.{Reader, rest_of, CanFollow, HasEnd, nothing,
 use Rattle.saber_rows.specs.Calls.{Moves}
 use Rattle.saber_assembly.specs.declared.stage.State.{State}
 use Rattle.saber_assembly.specs.declared.stage.State.TheVariants as states
-use Rattle.saber_assembly.specs.Stages.{StageView, Start, After, IsCutOff}
+use Rattle.saber_assembly.specs.Stages.{StageView, Start, After, IsCut}
 use Rattle.saber_engine.specs.declared.fill.Stop.{Stop}
 use Rattle.saber_engine.specs.declared.fill.Stop.TheVariants as stops
 use Rattle.saber_engine.specs.declared.ends.RunEnd.{RunEnd}
@@ -118,8 +118,8 @@ module _ (q : Tree) (n : ℕ) (first last : Reader) (had has : Option (List ℕ)
   lacks_on input o = record { ends = tt; assembles = assembles NoMemory lack_not_write input o (λ w. absurd w) }
 
   -- its sink failed
-  fails_on : s.state ≡ states.SinkFailed → (c : IsCutOff q n e.rows s.k start.written s.written) → (input : Read) → Over input e.rows last → Gives q n input WriteFault s.k (text q (upto n e.rows s.k) ++ c.more)
-  fails_on f c input o = record {
+  fails_on : s.state ≡ states.SinkFailed → (out : List ℕ) → IsCut q n e.rows s.k out → (input : Read) → Over input e.rows last → Gives q n input WriteFault s.k out
+  fails_on f out c input o = record {
     ends = tt;
     assembles = record {
       few = count_most n input e.rows last o some s.k e.few;
@@ -128,8 +128,8 @@ module _ (q : Tree) (n : ℕ) (first last : Reader) (had has : Option (List ℕ)
       cut_off = λ _. record {
         more = c.more;
         rest = c.rest;
-        out_is = ap (λ t. t ++ c.more) (known_text input o);
-        next_is = ap (text q) (upto_known n input e.rows last o (s.k + 1) (e.settled_next f)) ∙ c.next ∙ ap (λ t. t ++ (c.more ++ c.rest)) (known_text input o);
+        out_is = c.out_is ∙ ap (λ t. t ++ c.more) (known_text input o);
+        next_is = ap (text q) (upto_known n input e.rows last o (s.k + 1) (e.settled_next f)) ∙ c.next_is ∙ ap (λ t. t ++ (c.more ++ c.rest)) (known_text input o);
       };
     };
   }
@@ -146,7 +146,8 @@ module _ (q : Tree) (n : ℕ) (first last : Reader) (had has : Option (List ℕ)
   fails_to : s.state ≡ states.SinkFailed → Result_of
   fails_to f =
       let a : After q n e.rows start s states.SinkFailed = subst (After q n e.rows start s) f e.after in
-      (text q (upto n e.rows s.k) ++ a.0.more, a.0.out, λ input o. subst (λ (z : RunEnd). Gives q n input z s.k (text q (upto n e.rows s.k) ++ a.0.more)) (sym (ap (λ z. end_of z stop) f)) (fails_on f a.0 input o))
+      let c = a.0 in
+      (c.out, c.written_is, λ input o. subst (λ (z : RunEnd). Gives q n input z s.k c.out) (sym (ap (λ z. end_of z stop) f)) (fails_on f c.out c.is_cut input o))
 
   lacks_to : s.state ≡ states.NoMemory → Result_of
   lacks_to f =

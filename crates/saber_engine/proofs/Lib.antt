@@ -5,3 +5,4 @@ mod Counting
 mod Turning
 mod Starting
 mod Ending
+mod Tested

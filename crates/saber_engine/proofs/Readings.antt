@@ -35,18 +35,18 @@ pub record NextNone (old new : Reader) (had has : Option (List ℕ)) : Type 0 wh
   pub last : new.place.last ≡ old.place.last
   pub counted : old.place.lines ≤ new.place.lines
 
--- ---- lists with one more
+-- ---- lists with more behind
 
-all_push : {A : Type 0} (P : A → Type 0) (xs : List A) (x : A) → AllByRecursion P xs → P x → AllByRecursion P (xs ++ x ∷ [])
-all_push P [] x h p = (p, tt)
-all_push P (y ∷ ys) x h p = (h.0, all_push P ys x h.1 p)
+pub all_append : {A : Type 0} (P : A → Type 0) (xs ys : List A) → AllByRecursion P xs → AllByRecursion P ys → AllByRecursion P (xs ++ ys)
+all_append P [] ys h k = k
+all_append P (x ∷ xs) ys h k = (h.0, all_append P xs ys h.1 k)
 
-ordered_push : (m : Mark) (xs : List Row) (x : Row) → Ordered m xs → in_order (mark_after m xs).last (stamp x.values) ≡ true → Ordered m (xs ++ x ∷ [])
+pub ordered_push : (m : Mark) (xs : List Row) (x : Row) → Ordered m xs → in_order (mark_after m xs).last (stamp x.values) ≡ true → Ordered m (xs ++ x ∷ [])
 unfolding Ordered
 ordered_push m [] x h e = (e, tt)
 ordered_push m (y ∷ ys) x h e = (h.0, ordered_push (step_mark m y) ys x h.1 e)
 
-mark_push : (m : Mark) (xs : List Row) (x : Row) → mark_after m (xs ++ x ∷ []) ≡ step_mark (mark_after m xs) x
+pub mark_push : (m : Mark) (xs : List Row) (x : Row) → mark_after m (xs ++ x ∷ []) ≡ step_mark (mark_after m xs) x
 mark_push m [] x = refl
 mark_push m (y ∷ ys) x = mark_push (step_mark m y) ys x
 
@@ -63,7 +63,7 @@ pub took_more : MovesGoOn → (m : Mark) (old mid new : Reader) (had there has :
 took_more law m old mid new had there has xs x t n = record {
   moves = subst (λ f. Moves f old new had has) (prepend_push xs x) (law (prepend xs) (before x) old mid new had there has t.moves n.moves);
   rules = n.rules ∙ t.rules;
-  fits = all_push (RowFits old.rules.side old.rules.columns) xs x t.fits (subst (λ r. RowFits r.side r.columns x) t.rules n.fits);
+  fits = all_append (RowFits old.rules.side old.rules.columns) xs (x ∷ []) t.fits (subst (λ r. RowFits r.side r.columns x) t.rules n.fits, tt);
   ordered = ordered_push m xs x t.ordered (ap (λ o. in_order o (stamp x.values)) t.last ∙ not_before mid.place.last x.values n.ordered);
   last = ap (λ (k : Mark). k.last) (mark_push m xs x) ∙ sym (ap (option_map pos) n.last);
   counted = omega (arith, t.counted, n.rises, length-append xs (x ∷ []));

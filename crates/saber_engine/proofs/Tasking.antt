@@ -1,5 +1,5 @@
 -- One task more: its rows behind those of the whole tasks before it.
-use Rattle.std.proofs.Common.{◌≡◌, ℕ, ◌+◌, ◌-◌, ◌*◌, ◌≤◌, ◌^◌, min, List, [], ◌∷◌, ◌++◌, take, drop, length, slice_range, Option, Some, None, Result, Ok, Err, IfOk, IfSome, refl, sym, ◌∙◌, ap, subst, arith, length-append}
+use Rattle.std.proofs.Common.{◌≡◌, ◌≢◌, ℕ, ◌+◌, ◌-◌, ◌*◌, ◌≤◌, ◌^◌, min, List, [], ◌∷◌, ◌++◌, take, drop, length, slice_range, Option, Some, None, Result, Ok, Err, IfOk, IfSome, refl, sym, ◌∙◌, ap, subst, arith, length-append}
 use Rattle.std.proofs.Math.Seq.{take-append_seam, drop-append_seam}
 use Rattle.std.proofs.lemmas.List.{take_all}
 use Rattle.std.specs.Result.{result_ok}
@@ -8,12 +8,14 @@ use Rattle.std.specs.List.{AllByRecursion}
 use Rattle.saber_plan.specs.declared.rows.Row.{Row}
 use Rattle.saber_plan.specs.declared.windows.Mark.{Mark}
 use Rattle.saber_plan.specs.Trees.{Tree}
-use Rattle.saber_plan.specs.Windows.{Ordered, no_rows, step_mark, mark_after, mark_of}
-use Rattle.saber_plan.specs.Answers.{text}
+use Rattle.saber_plan.specs.declared.plans.Shape.TheVariants.{Join}
+use Rattle.saber_plan.specs.Windows.{Fits, Ordered, no_rows, step_mark, mark_after, mark_of}
+use Rattle.saber_plan.specs.Answers.{text, frame}
 use Rattle.saber_plan.specs.Given.{IsRowOf, RowsFit}
-use Rattle.saber_plan.specs.Tasks.{upto, cut, unclosed}
-use Rattle.saber_plan.specs.Shares.{Shares, shares_here, shares_between}
-use Rattle.saber_laws.specs.Shares.{Between, SharesAreLocal}
+use Rattle.saber_plan.specs.Tasks.{Parts, upto, cut, unclosed, piece_between, left_by}
+use Rattle.saber_plan.specs.Shares.{Shares, piece_in, shares_here, shares_between}
+use Rattle.saber_laws.specs.Shares.{Between, SharesAreLocal, SharesMakePiece}
+use Rattle.saber_laws.specs.Pieces.{OpenGoesOn}
 use Rattle.saber_fragment.specs.declared.tasks.TaskRows.{TaskRows}
 use Rattle.saber_assembly.specs.declared.stage.State.TheVariants.{Running}
 use Rattle.saber_assembly.specs.Stages.{StageView, Start, Continues, Tasks, After}
@@ -41,10 +43,6 @@ fits_behind q xs ys f = record {
   left = subst (λ (m : Mark). m.left ≤ 2 ^ 40) (mark_behind no_rows xs ys) f.left;
   right = subst (λ (m : Mark). m.right ≤ 2 ^ 40) (mark_behind no_rows xs ys) f.right;
 }
-
--- an operator can be given the task
-pub task_fits : (q : Tree) (n : ℕ) (xs : List Row) (s : StageView) (t : TaskRows) → IsNext q n xs s t → RowsFit q t.before (t.back ++ t.rows)
-task_fits q n xs s t h = subst (λ m. RowsFit q m (t.back ++ t.rows)) (sym h.before) (subst (λ b. RowsFit q (mark_of xs) (b ++ t.rows)) (sym h.back) (fits_behind q xs t.rows h.fits))
 
 -- ---- positions
 
@@ -77,9 +75,22 @@ upto_behind q n xs ys start s e a =
     let same : upto n xs s.k ≡ upto n (xs ++ ys) s.k = ap (λ k. take k xs) (cut_own n s.k (length xs) e) ∙ take_whole (length xs) xs refl ∙ sym (ap (λ k. take k (xs ++ ys)) (ap (min (s.k * n)) (length-append xs ys) ∙ cut_seam n s.k (length xs) (length ys) e) ∙ take-append_seam xs ys) in
     subst (λ l. (s.written ≡ appended start.written (text q l)) × (s.parts ≡ unclosed q l) × (start.faults ≤ s.faults)) same a
 
--- ---- the next task of a stage
+-- ---- a task that goes on with some rows, however many it has
 
-module _ (q : Tree) (n : ℕ) (xs : List Row) (s : StageView) (t : TaskRows) (h : IsNext q n xs s t) where
+-- its rows follow these, whose open parts are kept
+pub record Follows (q : Tree) (xs : List Row) (parts : Parts) (t : TaskRows) : Type 0 where
+  pub windows : Fits (frame q)
+  pub no_join : q.shape ≢ Join
+  pub before : t.before ≡ mark_of xs
+  pub back : t.back ≡ []
+  pub unclosed_is : parts ≡ unclosed q xs
+  pub fits : RowsFit q no_rows (xs ++ t.rows)
+
+module _ (q : Tree) (xs : List Row) (parts : Parts) (t : TaskRows) (h : Follows q xs parts t) where
+  -- an operator can be given the task
+  pub task_fits : RowsFit q t.before (t.back ++ t.rows)
+  task_fits = subst (λ m. RowsFit q m (t.back ++ t.rows)) (sym h.before) (subst (λ b. RowsFit q (mark_of xs) (b ++ t.rows)) (sym h.back) (fits_behind q xs t.rows h.fits))
+
   between_rows : Between q (xs ++ t.rows) (length xs) (length xs + length t.rows)
   between_rows = record { fits = h.windows; ordered = h.fits.ordered; rises = omega arith; there = omega (arith, length-append xs t.rows) }
 
@@ -89,7 +100,10 @@ module _ (q : Tree) (n : ℕ) (xs : List Row) (s : StageView) (t : TaskRows) (h 
       ∙ sym (λ i. shares_here q (mark_of (take-append_seam xs t.rows i)) [] (slice_behind xs t.rows i))
       ∙ law q (xs ++ t.rows) (length xs) (length xs + length t.rows) between_rows h.no_join
 
-  pub task_continues : (u : Shares) → u ≡ shares_between q (xs ++ t.rows) (length xs) (length xs + length t.rows) → Continues q s.parts u
+  open_before : parts ≡ unclosed q (take (length xs) (xs ++ t.rows))
+  open_before = h.unclosed_is ∙ sym (ap (unclosed q) (take-append_seam xs t.rows))
+
+  pub task_continues : (u : Shares) → u ≡ shares_between q (xs ++ t.rows) (length xs) (length xs + length t.rows) → Continues q parts u
   task_continues u e = record {
     rows = xs ++ t.rows;
     from = length xs;
@@ -98,9 +112,25 @@ module _ (q : Tree) (n : ℕ) (xs : List Row) (s : StageView) (t : TaskRows) (h 
     fits = h.fits;
     rises = omega arith;
     there = omega (arith, length-append xs t.rows);
-    unclosed_is = h.unclosed_is ∙ sym (ap (unclosed q) (take-append_seam xs t.rows));
+    unclosed_is = open_before;
     shares_are = e;
   }
+
+  -- what it leaves open
+  pub task_leaves : SharesMakePiece → OpenGoesOn → (u : Shares) → u ≡ shares_between q (xs ++ t.rows) (length xs) (length xs + length t.rows) → left_by q parts (piece_in u) ≡ unclosed q (xs ++ t.rows)
+  task_leaves make opens u e =
+      let all : List Row = xs ++ t.rows in
+      let past : ℕ = length xs + length t.rows in
+      let piece : piece_in u ≡ piece_between q all (length xs) past = ap piece_in e ∙ make q all (length xs) past between_rows in
+      (λ i. left_by q (open_before i) (piece i))
+      ∙ sym (opens q h.windows all (length xs) past h.fits.ordered (omega arith) (omega (arith, length-append xs t.rows)))
+      ∙ ap (unclosed q) (take_whole past all (length-append xs t.rows))
+
+-- ---- the next task of a stage, where all have n rows
+
+module _ (q : Tree) (n : ℕ) (xs : List Row) (s : StageView) (t : TaskRows) (h : IsNext q n xs s t) where
+  pub next_follows : Follows q xs s.parts t
+  next_follows = record { windows = h.windows; no_join = h.no_join; before = h.before; back = h.back; unclosed_is = h.unclosed_is; fits = h.fits }
 
   pub task_tasks : Tasks q n (xs ++ t.rows)
   task_tasks = record { windows = h.windows; fits = h.fits; size = h.size }

@@ -1,5 +1,5 @@
 -- One turn of a run.
-use Rattle.std.proofs.Common.{◌≡◌, ◌≢◌, ◌⊎◌, inl, inr, ℕ, zero, suc, ◌+◌, ◌*◌, ◌/◌, ◌≤◌, ◌<◌, ◌^◌, List, [], ◌∷◌, ◌++◌, length, true, false, Option, Some, None, Result, Ok, Err, refl, sym, ◌∙◌, ap, subst, arith, append_assoc, length-append, mul-le-mul}
+use Rattle.std.proofs.Common.{◌≡◌, ◌≢◌, ◌⊎◌, inl, inr, ℕ, zero, suc, ◌+◌, ◌*◌, ◌/◌, ◌≤◌, ◌^◌, List, [], ◌∷◌, ◌++◌, length, true, false, Option, Some, None, Result, Ok, Err, refl, sym, ◌∙◌, ap, subst, arith, append_assoc, length-append}
 use Rattle.std.specs.Int.{div_ceil}
 use Rattle.std.specs.List.{AllByRecursion}
 use Rattle.saber_plan.specs.declared.rows.Row.{Row}
@@ -22,14 +22,10 @@ use Rattle.saber_engine.specs.declared.fill.Stop.TheVariants.{AllRead, Failed}
 use Rattle.saber_engine.specs.Reading.{prepend, Took, IsStop, keeps_rows, Fills, Settled}
 use Rattle.saber_engine.specs.Running.{IsNext, Setting, Runs, Ended, Ends, TurnTo, turn_after}
 use Rattle.saber_engine.proofs.Counting.{least, one_more, no_more, not_whole}
-use Rattle.saber_engine.proofs.Readings.{mark_left, mark_right}
+use Rattle.saber_engine.proofs.Readings.{all_append, mark_left, mark_right}
 use Rattle.saber_engine.proofs.Tasking.{mark_behind, upto_behind, upto_all}
 
 -- ---- rows after rows
-
-all_append : {A : Type 0} (P : A → Type 0) (xs ys : List A) → AllByRecursion P xs → AllByRecursion P ys → AllByRecursion P (xs ++ ys)
-all_append P [] ys h k = k
-all_append P (x ∷ xs) ys h k = (h.0, all_append P xs ys h.1 k)
 
 all_weaker : {A : Type 0} (P Q : A → Type 0) → ((x : A) → P x → Q x) → (xs : List A) → AllByRecursion P xs → AllByRecursion Q xs
 all_weaker P Q f [] h = tt
@@ -276,12 +272,6 @@ mark_within q n first mid had there start mark s r =
     let a : mark.left ≤ 0 + length r.rows = subst (λ (m : Mark). m.left ≤ 0 + length r.rows) (sym r.mark_is) (mark_left no_rows r.rows) in
     let b : mark.right ≤ 0 + length r.rows = subst (λ (m : Mark). m.right ≤ 0 + length r.rows) (sym r.mark_is) (mark_right no_rows r.rows) in
     (omega (arith, a, r.took.counted), omega (arith, b, r.took.counted, r.small))
-
--- and few tasks are behind
-pub few_behind : (q : Tree) (n : ℕ) (first mid : Reader) (had there : Option (List ℕ)) (start : Start) (mark : Mark) (s : StageView) → Setting q n mid → Runs q n first mid had there start mark s → s.k < 2 ^ 62
-few_behind q n first mid had there start mark s t r =
-    let h : s.k * 1 ≤ s.k * n = mul-le-mul (omega arith) t.size in
-    omega (arith, h, r.whole, r.took.counted, r.small)
 
 pub some_of_count : (n m : ℕ) → n ≡ m → (n ≡ 0 → ⊥) → 1 ≤ m
 some_of_count zero m e f = absurd (f refl)

@@ -1,11 +1,12 @@
 -- What a run gives over inputs that tell their bytes.
-use Rattle.std.specs.Prelude.{◌≡◌, ◌≢◌, ◌≤◌, ℕ, ◌+◌, ◌/◌, length, List, ◌++◌, Option}
+use Rattle.std.specs.Prelude.{◌≡◌, ◌≢◌, ◌≤◌, ℕ, ◌/◌, length, List, Option}
 use Rattle.saber_plan.specs.declared.rows.Row.{Row}
 use Rattle.saber_plan.specs.Rows.{Read, all_read, bad}
 use Rattle.saber_plan.specs.Inputs.{input}
 use Rattle.saber_plan.specs.Trees.{Tree}
 use Rattle.saber_plan.specs.Answers.{text}
 use Rattle.saber_plan.specs.Tasks.{upto, task_count}
+pub use Rattle.saber_assembly.specs.Stages.{IsCut}
 use Rattle.saber_engine.specs.declared.ends.RunEnd.{RunEnd}
 use Rattle.saber_engine.specs.declared.ends.RunEnd.TheVariants.{AllRead, Bad, WriteFault}
 use Rattle.saber_engine.specs.Sources.{GaveAll, wholes}
@@ -21,13 +22,6 @@ abbrev pub EndsAs : RunEnd → Read → Type 0
 EndsAs AllRead read = read.end ≡ all_read
 EndsAs (Bad side line cause) read = read.end ≡ bad side line cause
 EndsAs _ read = Unit {0}
-
--- the text of the first k tasks' rows, and then a prefix of what the next task adds
-pub record IsCut (q : Tree) (n : ℕ) (xs : List Row) (k : ℕ) (out : List ℕ) : Type 0 where
-  pub more : List ℕ
-  pub rest : List ℕ
-  pub out_is : out ≡ text q (upto n xs k) ++ more
-  pub next_is : text q (upto n xs (k + 1)) ≡ text q (upto n xs k) ++ (more ++ rest)
 
 -- what goes out over rows in tasks of n, of which so many are assembled
 pub record Assembles (q : Tree) (n : ℕ) (xs : List Row) (e : RunEnd) (tasks : ℕ) (out : List ℕ) : Type 0 where
