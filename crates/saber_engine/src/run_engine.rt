@@ -1,5 +1,5 @@
 // The engine: a checked plan over its inputs.
-ghost use Rattle.std.specs.Prelude.{◌≡◌, ◌≢◌, ◌≤◌, ℕ, List, IfSome, length};
+ghost use Rattle.std.specs.Prelude.{◌≡◌, ◌≢◌, ◌≤◌, ℕ, List, [], ◌∷◌, IfSome, length};
 ghost use Rattle.saber_io.specs.Outside.{Rose, appended};
 ghost use Rattle.saber_plan.specs.declared.rows.Side.{Side};
 ghost use Rattle.saber_plan.specs.declared.plans.Shape.TheVariants as shapes;
@@ -15,8 +15,9 @@ use crate::ends::{Inputs, Ran, RunEnd};
 use crate::one_source::run_source;
 use saber_group::Group;
 use saber_io::{Gate, Sink, Source};
-use saber_laws::{checked_fit, groups_have_one_window, no_rows_give_nothing, no_tasks_no_rows};
-use saber_plan::{Plan, Sizes};
+use saber_laws::{checked_fit, groups_have_one_window, selections_have_no_window};
+use saber_plan::{Plan, Shape, Sizes};
+use saber_select::Select;
 use std::alloc::Global;
 
 // How many columns the left stream has.
@@ -26,6 +27,38 @@ fn left_columns(plan: &Plan) -> u32
     match plan.streams() {
         [stream, ..] => stream.columns,
         [] => 0,
+    }
+}
+
+// Runs a checked plan over its only input, by the operator of its shape.
+fn run_one<S: Source, K: Sink>(
+    alloc: Global,
+    plan: &Plan,
+    source: &mut S,
+    sink: K,
+    sizes: &Sizes,
+) -> Ran<K>
+    requires checked { IsChecked (tree_of plan.now) }
+    requires no_join { (tree_of plan.now).shape ≢ shapes.Join }
+    requires sizes { SizesFit sizes.now }
+    ensures gives { (out : List ℕ) × (K.written result.sink ≡ appended (K.written sink) out)
+        × IfSome (S.left source.old) (λ bytes. Gives (tree_of plan.now) sizes.now.task (input_of (tree_of plan.now) sizes.now.max_lines (bytes ∷ [])) result.end result.tasks out) }
+    ensures whole { (side : Side) → result.end ≡ RunEnd.ReadFault side → ReadsWhole (tree_of plan.now) sizes.now.task sizes.now.max_lines result.tasks (S.left source.old ∷ []) (S.left source.new ∷ []) }
+    ensures side { (side : Side) → result.end ≡ RunEnd.ReadFault side → side ≡ Left }
+    ensures read { (side : Side) → result.end ≡ RunEnd.ReadFault side → Rose (S.faults source.old) (S.faults source.new) }
+    ensures write { result.end ≡ RunEnd.WriteFault → Rose (K.faults sink) (K.faults result.sink) }
+    ensures reads { S.faults source.old ≤ S.faults source.new }
+    ensures writes { K.faults sink ≤ K.faults result.sink }
+    ensures narrow { (task need : ℕ) → result.end ≢ RunEnd.TooWide task need }
+{
+    checked_fit();
+    groups_have_one_window();
+    selections_have_no_window();
+    let columns = left_columns(plan);
+    match plan.shape() {
+        Shape::Select => run_source(alloc, &Select::new(plan), columns, source, sink, sizes),
+        Shape::Group => run_source(alloc, &Group::new(plan), columns, source, sink, sizes),
+        Shape::Join => unreachable!(),
     }
 }
 
@@ -42,7 +75,7 @@ pub fn engine<S: Source, K: Sink + Send, G: Gate + Sync>(
     _gate: &G,
 ) -> Ran<K>
     requires checked { IsChecked (tree_of plan.now) }
-    requires group { (tree_of plan.now).shape ≡ shapes.Group }
+    requires no_join { (tree_of plan.now).shape ≢ shapes.Join }
     requires inputs { length (each_input S.left inputs.old) ≡ length (tree_of plan.now).streams }
     requires sizes { SizesFit sizes.now }
     requires threads { sizes.now.threads ≡ 0 }
@@ -61,19 +94,8 @@ pub fn engine<S: Source, K: Sink + Send, G: Gate + Sync>(
     ensures writes { K.faults sink ≤ K.faults result.sink }
     ensures narrow { (task need : ℕ) → result.end ≢ RunEnd.TooWide task need }
 {
-    checked_fit();
-    groups_have_one_window();
-    no_rows_give_nothing();
-    no_tasks_no_rows();
     match inputs {
-        Inputs::One(source) => run_source(
-            alloc,
-            &Group::new(plan),
-            left_columns(plan),
-            source,
-            sink,
-            sizes,
-        ),
+        Inputs::One(source) => run_one(alloc, plan, source, sink, sizes),
         Inputs::Two(..) => Ran {
             end: RunEnd::NoMemory,
             sink,

@@ -1,0 +1,3 @@
+pub mod Lined
+pub mod Shown
+pub mod Tested

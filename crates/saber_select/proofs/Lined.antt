@@ -1,0 +1,45 @@
+-- Lines, number by number, and those of rows, one by one.
+use Rattle.std.proofs.Common.{◌≡◌, List, [], ◌∷◌, ◌++◌, map, filter, flat_map, cond, true, false, ℤ, refl, sym, ◌∙◌, ap, append_assoc, append-nil, ℕ, ◌≤◌, ◌<◌, ◌+◌, length, drop, get_or, arith}
+use Rattle.std.proofs.lemmas.List.{drop_more}
+use Rattle.std.specs.Fmt.{signed_decimal}
+use Rattle.std.specs.List.{join_with_byte}
+use Rattle.saber_plan.specs.declared.rows.Row.{Row}
+use Rattle.saber_plan.specs.declared.plans.Item.{Item}
+use Rattle.saber_plan.specs.Trees.{Tree}
+use Rattle.saber_plan.specs.Values.{passes}
+use Rattle.saber_plan.specs.MapFacts.{entries-empty}
+use Rattle.saber_plan.specs.Answers.{item_value, line, selected, key_cmp, entry_lines}
+use Rattle.saber_plan.specs.Parts.{no_part, part_lines, answers_of}
+use Rattle.saber_select.specs.Printing.{cells, row_text}
+
+line_cells : (z : ℤ) (zs : List ℤ) → join_with_byte 44 (map signed_decimal (z ∷ zs)) ≡ signed_decimal z ++ cells zs
+line_cells z [] = sym (append-nil (signed_decimal z))
+line_cells z (y ∷ ys) = ap (λ l. signed_decimal z ++ 44 ∷ l) (line_cells y ys)
+
+pub line_after : (old : List ℕ) (z : ℤ) (zs : List ℤ) → ((old ++ signed_decimal z) ++ cells zs) ++ 10 ∷ [] ≡ old ++ line (z ∷ zs)
+line_after old z zs =
+    ap (λ l. l ++ 10 ∷ []) (append_assoc old (signed_decimal z) (cells zs) ∙ ap (λ l. old ++ l) (sym (line_cells z zs)))
+    ∙ append_assoc old (join_with_byte 44 (map signed_decimal (z ∷ zs))) (10 ∷ [])
+
+-- the first row's line, and those of the others
+pub selected_next : (q : Tree) (x : Row) (xs : List Row) → selected q (x ∷ xs) ≡ row_text q x.values ++ selected q xs
+selected_next q x xs = elim (passes q.predicate x.values []) as (λ b.
+    flat_map (λ zs. line (map (item_value zs []) q.items)) (cond b (x.values ∷ filter (λ zs. passes q.predicate zs []) (map (λ y. y.values) xs)) (filter (λ zs. passes q.predicate zs []) (map (λ y. y.values) xs)))
+    ≡ cond b (line (map (item_value x.values []) q.items)) [] ++ selected q xs) [ true ↦ refl | false ↦ refl ]
+
+-- the line of a row, item by item
+pub items_line : (old : List ℕ) (zs : List ℤ) (is : List Item) (x : Item) → 1 ≤ length is → x ≡ get_or is 0 x
+    → ((old ++ signed_decimal (item_value zs [] x)) ++ cells (map (item_value zs []) (drop 1 is))) ++ 10 ∷ [] ≡ old ++ line (map (item_value zs []) is)
+items_line old zs [] x h e = absurd (omega arith)
+items_line old zs (i ∷ is) x h e = ap (λ y. ((old ++ signed_decimal (item_value zs [] y)) ++ cells (map (item_value zs []) is)) ++ 10 ∷ []) e ∙ line_after old (item_value zs [] i) (map (item_value zs []) is)
+
+-- one row more of some rows is written
+pub row_written : (q : Tree) (out all more : List ℕ) (rows : List Row) (k : ℕ) (x : Row) → k < length rows → x ≡ get_or rows k x → out ++ selected q (drop k rows) ≡ all → more ≡ out ++ row_text q x.values → more ++ selected q (drop (k + 1) rows) ≡ all
+row_written q out all more rows k x l e h w =
+    let rest = selected q (drop (k + 1) rows) in
+    let cut : drop k rows ≡ x ∷ drop (k + 1) rows = drop_more rows k x l ∙ ap (λ y. y ∷ drop (k + 1) rows) (sym e) in
+    ap (λ t. t ++ rest) w ∙ append_assoc out (row_text q x.values) rest ∙ ap (λ t. out ++ t) (sym (ap (selected q) cut ∙ selected_next q x (drop (k + 1) rows))) ∙ h
+
+-- no part has no line
+pub no_lines : (q : Tree) (i : ℕ) → part_lines q i no_part ≡ []
+no_lines q i = ap (λ es. entry_lines i (map (λ e. (e.0, answers_of q.items e.1)) es)) (entries-empty key_cmp)

@@ -1,0 +1,79 @@
+-- What a selection's plan says of its rows, and what a task of one gives.
+use Rattle.std.proofs.Common.{◌≡◌, ℕ, List, [], ◌∷◌, ◌++◌, ◌-◌, filter, flat_map, Option, Bool, ℤ, refl, sym, ap, subst, subst₂, ◌≤◌, arith}
+use Rattle.std.specs.List.{AllByRecursion}
+use Rattle.saber_plan.specs.declared.rows.Row.{Row}
+use Rattle.saber_plan.specs.declared.rows.Side.{Side}
+use Rattle.saber_plan.specs.declared.rows.Side.TheVariants.{Left, Right}
+use Rattle.saber_plan.specs.declared.windows.Mark.{Mark}
+use Rattle.saber_plan.specs.declared.windows.Kind.{Kind}
+use Rattle.saber_plan.specs.declared.plans.Item.{Item}
+use Rattle.saber_plan.specs.declared.plans.Item.TheVariants.{Count, Sum, Min, Max, Value}
+use Rattle.saber_plan.specs.declared.plans.Shape.TheVariants.{Select}
+use Rattle.saber_plan.specs.Trees.{Tree}
+use Rattle.saber_plan.specs.declared.windows.Stream.{Stream}
+use Rattle.saber_plan.specs.Rows.{RowFits}
+use Rattle.saber_plan.specs.Checked.{ItemFits, columns_on}
+use Rattle.saber_plan.specs.Given.{IsRowOf}
+use Rattle.saber_laws.specs.Plans.{NoWindow}
+use Rattle.saber_plan.specs.Windows.{Frame, unwindowed, mark_after, closed_count, begun_count, kind_of, from}
+use Rattle.saber_plan.specs.Answers.{by_shape, frame, selected}
+use Rattle.saber_plan.specs.Parts.{Part, part_lines}
+use Rattle.saber_plan.specs.Tasks.{is_complete}
+use Rattle.saber_plan.specs.Needs.{of_kind, piece_here, part_here, is_closing, is_pending, is_opening}
+use Rattle.saber_plan.specs.Shares.{shares_here}
+use Rattle.saber_eval.specs.Widths.{widths}
+use Rattle.saber_select.specs.Printing.{CanShow}
+
+-- ---- items
+
+shown_case : (zs : List ℤ) (keys : List ℕ) (i : Item) → ItemFits Select (widths zs []) keys i → CanShow zs i
+shown_case zs keys Count h = h
+shown_case zs keys (Sum e) h = h
+shown_case zs keys (Min e) h = h
+shown_case zs keys (Max e) h = h
+shown_case zs keys (Value e) h = h
+
+all_shown : (zs : List ℤ) (keys : List ℕ) (is : List Item) → AllByRecursion (ItemFits Select (widths zs []) keys) is → AllByRecursion (CanShow zs) is
+all_shown zs keys [] h = tt
+all_shown zs keys (i ∷ is) h = (shown_case zs keys i h.0, all_shown zs keys is h.1)
+
+-- the items of a selection, by what a checked plan says of them
+pub items_shown : (q : Tree) (zs : List ℤ) → q.shape ≡ Select → AllByRecursion (ItemFits q.shape (widths zs []) q.keys) q.items → AllByRecursion (CanShow zs) q.items
+items_shown q zs e h = all_shown zs q.keys q.items (subst (λ s. AllByRecursion (ItemFits s (widths zs []) q.keys) q.items) e h)
+
+-- ---- rows
+
+left_only : (s : Stream) (side : Side) → 1 ≤ columns_on (s ∷ []) side → side ≡ Left
+left_only s Left h = refl
+left_only s Right h = absurd (omega arith)
+
+-- a row of the one stream
+pub row_fits : (q : Tree) (w : NoWindow q) (r : Row) → IsRowOf q r → RowFits Left w.stream.columns r
+row_fits q w r h = subst₂ (λ side ss. RowFits side (columns_on ss side) r) (left_only w.stream r.side (subst (λ ss. 1 ≤ columns_on ss r.side) w.streams h.stream)) w.streams h.fits
+
+pub all_back : {A : Type 0} (P : A → Type 0) (xs ys : List A) → AllByRecursion P (xs ++ ys) → AllByRecursion P ys
+all_back P [] ys h = h
+all_back P (x ∷ xs) ys h = all_back P xs ys h.1
+
+-- ---- what a task gives
+
+none_of_kind : (wanted : Option Kind → Bool) (f : Frame) (a b : Mark) (p : ℕ → Part) → f ≡ unwindowed → [] ≡ of_kind wanted f a b p
+unfolding of_kind from
+none_of_kind wanted f a b p e = subst (λ g. [] ≡ of_kind wanted g a b p) (sym e) refl
+
+-- its text, and no window's part
+pub shares_are : (q : Tree) (m : Mark) (back rows : List Row) → q.shape ≡ Select → frame q ≡ unwindowed → record { closing = []; pending = []; opening = []; lines = selected q rows; closed = 0 } ≡ shares_here q m back rows
+unfolding shares_here piece_here
+shares_are q m back rows e f =
+    let a = mark_after m back in
+    let b = mark_after a rows in
+    let p : ℕ → Part = λ i. part_here q i m back rows in
+    let c = closed_count (frame q) a in
+    let complete : List ℕ = flat_map (λ i. part_lines q i (p i)) (filter (λ i. is_complete (kind_of (frame q) i a b)) (from c (begun_count (frame q) b - c))) in
+    λ j. record {
+      closing = none_of_kind is_closing (frame q) a b p f j;
+      pending = none_of_kind is_pending (frame q) a b p f j;
+      opening = none_of_kind is_opening (frame q) a b p f j;
+      lines = ap (λ s. by_shape s (selected q rows) complete complete) (sym e) j;
+      closed = ap (λ g. closed_count g b) (sym f) j;
+    }

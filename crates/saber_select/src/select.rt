@@ -1,0 +1,110 @@
+// A selection, and the rows of a task.
+ghost use Rattle.std.specs.Prelude.{◌≡◌, ◌++◌, [], OnOk};
+ghost use Rattle.std.specs.List.{AllByRecursion};
+ghost use Rattle.saber_plan.specs.declared.plans.Shape.TheVariants as shapes;
+ghost use Rattle.saber_plan.specs.Trees.{tree_of};
+ghost use Rattle.saber_plan.specs.Values as v;
+ghost use Rattle.saber_plan.specs.Checked.{IsChecked};
+ghost use Rattle.saber_plan.specs.Given.{IsRowOf};
+ghost use Rattle.saber_plan.specs.Answers.{selected};
+ghost use Rattle.saber_laws.specs.Plans.{NoWindow};
+ghost use Rattle.saber_select.specs.Printing.{CanShow, row_text};
+
+use crate::lines::write_line;
+use saber_eval::{holds, one_stream_fits};
+use saber_laws::selections_have_no_window;
+use saber_plan::{NoMemory, Plan, Row};
+use std::marker::Model;
+
+/// The operator of a checked selection over its plan: the rows that pass WHERE (CQL 2006: a
+/// selection), and of each the values of the items. It keeps nothing from task to task (SABER 2016:
+/// a stateless operator), and want of memory for a task's text is its only error. Contracts see it
+/// as the plan.
+#[derive(Drop)]
+pub struct Select<'a> {
+    plan: &'a Plan,
+}
+
+impl<'a> Model for Select<'a> {
+    ghost use Rattle.std.specs.Prelude.{◌≡◌};
+    ghost use Rattle.saber_plan.specs.declared.plans.Shape.TheVariants as shapes;
+    ghost use Rattle.saber_plan.specs.declared.plans.Plan.{Plan};
+    ghost use Rattle.saber_plan.specs.Trees.{tree_of};
+    ghost use Rattle.saber_plan.specs.Checked.{IsChecked};
+    ghost use Rattle.saber_plan.specs.contracts.predicates.Pred as e;
+    ghost use Rattle.std.specs.Coded.{codes};
+
+    ghost Value = { Plan };
+
+    ghost coded = { Prim.hlevel (codes, e.the_row.coded) };
+
+    ghost view = { λ s. s.plan.now };
+
+    ghost invariant = { λ s. IsChecked (tree_of s.plan.now) × ((tree_of s.plan.now).shape ≡ shapes.Select) };
+}
+
+impl<'a> Select<'a> {
+    /// The operator of this plan. Takes no memory.
+    pub fn new(plan: &'a Plan) -> Select<'a>
+        requires checked { IsChecked (tree_of plan.now) }
+        requires select { (tree_of plan.now).shape ≡ shapes.Select }
+        ensures { result ≡ plan.now }
+    {
+        Select { plan }
+    }
+
+    /// It selects rows, and its stream has no window.
+    pub(crate) fn has_no_window(&self)
+        ensures select { (tree_of self.now).shape ≡ shapes.Select }
+        ensures window { NoWindow (tree_of self.now) }
+    {
+        let _plan = &self.plan;
+        selections_have_no_window();
+    }
+
+    // Its items can be worked out over a row of its stream.
+    fn can_show(&self, row: &Row)
+        requires { IsRowOf (tree_of self.now) row.now }
+        ensures { AllByRecursion (CanShow row.now.values) (tree_of self.now).items }
+    {
+        let _plan = &self.plan;
+        selections_have_no_window();
+        one_stream_fits();
+    }
+
+    // Whether a row passes WHERE.
+    fn passes(&self, row: &Row) -> bool
+        requires { IsRowOf (tree_of self.now) row.now }
+        ensures { result ≡ v.passes (tree_of self.now).predicate row.now.values [] }
+    {
+        selections_have_no_window();
+        one_stream_fits();
+        match self.plan.predicate() {
+            Some(predicate) => holds(predicate, row),
+            None => true,
+        }
+    }
+
+    // A row's line, if the row passes.
+    fn write_row(&self, row: &Row, out: &mut Vec<u8>) -> Result<(), NoMemory>
+        requires { IsRowOf (tree_of self.now) row.now }
+        ensures { OnOk result (out.new.items ≡ out.old.items ++ row_text (tree_of self.now) row.now.values) }
+    {
+        self.can_show(row);
+        if !self.passes(row) {
+            return Ok(());
+        }
+        write_line(out, self.plan.items(), row)
+    }
+
+    /// Writes the lines of the rows that pass, in the order of the rows, behind what `out` has.
+    pub(crate) fn write_rows(&self, rows: &[Row], out: &mut Vec<u8>) -> Result<(), NoMemory>
+        requires { AllByRecursion (IsRowOf (tree_of self.now)) rows.now }
+        ensures { OnOk result (out.new.items ≡ out.old.items ++ selected (tree_of self.now) rows.now) }
+    {
+        for row in rows {
+            self.write_row(row, out)?;
+        }
+        Ok(())
+    }
+}

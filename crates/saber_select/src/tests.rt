@@ -1,0 +1,266 @@
+//! Lines of rows, worked out by hand.
+ghost use Rattle.std.specs.Prelude.{◌≡◌, ◌+◌, ◌^◌, ◌<◌, ◌∷◌, pos, ◌++◌, [], map, IfOk, Some, None, true, false};
+ghost use Rattle.saber_plan.specs.declared.rows.Side.TheVariants as s;
+ghost use Rattle.saber_plan.specs.declared.expressions.Factor.TheVariants as f;
+ghost use Rattle.saber_plan.specs.declared.plans.Shape.TheVariants as h;
+ghost use Rattle.saber_plan.specs.Trees as t;
+ghost use Rattle.saber_plan.specs.Trees.{Tree, tree_of};
+ghost use Rattle.saber_plan.specs.Rows.{RowFits, stamp};
+ghost use Rattle.saber_plan.specs.Checked.{IsChecked, columns_on};
+ghost use Rattle.saber_plan.specs.Given.{RowsFit};
+ghost use Rattle.saber_plan.specs.Windows.{in_order};
+
+use super::*;
+use saber_fragment::{Operator, Piece, Rows, TaskRows};
+use saber_plan::{
+    Cmp, Conj, Expr, Factor, Factors, Item, Mark, NoMemory, Plan, Pred, Product, Row, Shape, Side,
+    Stream, Unit, Values,
+};
+use std::alloc::Global;
+use std::test::Fail;
+
+fn column(index: u32) -> Factor
+    ensures { result ≡ f.Column s.Left index }
+{
+    Factor::Column {
+        side: Side::Left,
+        index,
+    }
+}
+
+fn single(alloc: Global, factor: Factor) -> Result<Expr, NoMemory>
+    ensures { IfOk result (λ e. e ≡ record { minus = false; factors = factor ∷ [] } ∷ []) }
+{
+    let product = Product {
+        minus: false,
+        factors: Factors::from_vec(vec![in alloc; factor]?),
+    };
+    Ok(Expr::from_vec(vec![in alloc; product]?))
+}
+
+// v * 2 - 1
+fn twice_less_one(alloc: Global) -> Result<Expr, NoMemory>
+    ensures { IfOk result (λ e. e ≡ record { minus = false; factors = f.Column s.Left 2 ∷ f.Constant (pos 2) ∷ [] } ∷ record { minus = true; factors = f.Constant (pos 1) ∷ [] } ∷ []) }
+{
+    let twice = Product {
+        minus: false,
+        factors: Factors::from_vec(vec![in alloc; column(2), Factor::Constant(2)]?),
+    };
+    let one = Product {
+        minus: true,
+        factors: Factors::from_vec(vec![in alloc; Factor::Constant(1)]?),
+    };
+    Ok(Expr::from_vec(vec![in alloc; twice, one]?))
+}
+
+fn compared(alloc: Global, index: u32, cmp: Cmp, number: i64) -> Result<Unit, NoMemory>
+    ensures { IfOk result (λ u. t.test_of u ≡ t.compare (record { minus = false; factors = f.Column s.Left index ∷ [] } ∷ []) cmp (record { minus = false; factors = f.Constant number ∷ [] } ∷ [])) }
+{
+    let left = single(alloc, column(index))?;
+    let right = single(alloc, Factor::Constant(number))?;
+    Ok(Unit::compare(left, cmp, right))
+}
+
+// Units joined by AND.
+fn all(alloc: Global, units: Vec<Unit>) -> Result<Pred, NoMemory>
+    ensures { IfOk result (λ p. t.tests_of p ≡ t.either (t.joined (map t.test_of units.items)) t.no_other) }
+{
+    Ok(Pred::from_vec(vec![in alloc; Conj::from_vec(units)]?))
+}
+
+// Three columns: a time, a group and a number.
+fn plan(alloc: Global, items: Vec<Item>, predicate: Pred) -> Result<Plan, NoMemory>
+    ensures { IfOk result (λ p. tree_of p ≡ record { shape = h.Select; streams = record { columns = 3; window = None } ∷ []; items = items.items; keys = []; predicate = Some (t.tests_of predicate) }) }
+{
+    let stream = Stream {
+        columns: 3,
+        window: None,
+    };
+    let streams = vec![in alloc; stream]?;
+    let keys = Vec::new(alloc);
+    Ok(Plan::new(Shape::Select, streams, items, keys, Some(predicate)))
+}
+
+// SELECT g, v*2-1 FROM S WHERE v > 5
+fn doubles(alloc: Global) -> Result<Plan, NoMemory>
+    ensures { IfOk result (λ p. IsChecked (tree_of p) × ((tree_of p).shape ≡ h.Select) × (columns_on (tree_of p).streams s.Left ≡ 3)) }
+{
+    let group = Item::Value(single(alloc, column(1))?);
+    let double = Item::Value(twice_less_one(alloc)?);
+    let high = compared(alloc, 2, Cmp::Greater, 5)?;
+    let predicate = all(alloc, vec![in alloc; high]?)?;
+    plan(alloc, vec![in alloc; group, double]?, predicate)
+}
+
+// SELECT v FROM S WHERE g = 1 AND NOT v < 10
+fn tens(alloc: Global) -> Result<Plan, NoMemory>
+    ensures { IfOk result (λ p. IsChecked (tree_of p) × ((tree_of p).shape ≡ h.Select) × (columns_on (tree_of p).streams s.Left ≡ 3)) }
+{
+    let number = Item::Value(single(alloc, column(2))?);
+    let first = compared(alloc, 1, Cmp::Equal, 1)?;
+    let high = Unit::negated(alloc, compared(alloc, 2, Cmp::Less, 10)?)?;
+    let predicate = all(alloc, vec![in alloc; first, high]?)?;
+    plan(alloc, vec![in alloc; number]?, predicate)
+}
+
+fn row(alloc: Global, time: u32, group: i64, number: i64) -> Result<Row, NoMemory>
+    ensures { IfOk result (λ r. RowFits s.Left 3 r × (stamp r.values ≡ time)) }
+{
+    let values = Values::from_slice(alloc, &[i64::from(time), group, number])?;
+    Ok(Row {
+        side: Side::Left,
+        values,
+    })
+}
+
+// A row of this time can come next, and there is room for it.
+fn follows(mark: &Mark, time: u32) -> bool
+    ensures order { result ≡ true → in_order mark.now.last time ≡ true }
+    ensures room { result ≡ true → mark.now.left < 2 ^ 32 }
+{
+    let in_order = match mark.last {
+        Some(last) => last.unsigned_abs() <= u64::from(time),
+        None => true,
+    };
+    in_order && mark.left < 1 << 32
+}
+
+// What stands before the next row, where this one is of the left side.
+fn step(mark: &Mark, time: u32) -> Mark
+    requires { mark.now.left < 2 ^ 32 }
+    ensures { result ≡ record { left = mark.now.left + 1; right = mark.now.right; last = Some (pos time) } }
+{
+    Mark {
+        left: mark.left + 1,
+        right: mark.right,
+        last: Some(i64::from(time)),
+    }
+}
+
+// A task of these rows, after so many others, up to the first that can't come there.
+fn task(
+    alloc: Global,
+    left: u32,
+    last: Option<i64>,
+    table: &[(u32, i64, i64)],
+) -> Result<TaskRows, NoMemory>
+    ensures { IfOk result (λ t. (q : Tree) → columns_on q.streams s.Left ≡ 3 → RowsFit q t.before (t.back ++ t.rows)) }
+{
+    let before = Mark {
+        left: u64::from(left),
+        right: 0,
+        last,
+    };
+    let mut rows = Rows::new(alloc);
+    let mut mark = before;
+    for (time, group, number) in table {
+        if !follows(&mark, *time) {
+            break;
+        }
+        let row = row(alloc, *time, *group, *number)?;
+        mark = step(&mark, *time);
+        rows.push(row)?;
+    }
+    Ok(TaskRows {
+        task: 0,
+        before,
+        back: Rows::new(alloc),
+        rows,
+    })
+}
+
+fn fragment<O: Operator<Part = NoPart>>(
+    alloc: Global,
+    operator: &O,
+    task: &TaskRows,
+) -> Result<Piece<NoPart>, NoMemory>
+    requires { RowsFit (O.plan operator.now) task.now.before (task.now.back ++ task.now.rows) }
+{
+    operator.fragment(alloc, task)
+}
+
+fn select(
+    alloc: Global,
+    plan: &Plan,
+    left: u32,
+    last: Option<i64>,
+    table: &[(u32, i64, i64)],
+) -> Result<Piece<NoPart>, NoMemory>
+    requires checked { IsChecked (tree_of plan.now) }
+    requires select { (tree_of plan.now).shape ≡ h.Select }
+    requires columns { columns_on (tree_of plan.now).streams s.Left ≡ 3 }
+{
+    let task = task(alloc, left, last, table)?;
+    fragment(alloc, &Select::new(plan), &task)
+}
+
+// What is printed for a window, behind `#`: nothing.
+fn no_window(alloc: Global, plan: &Plan) -> Result<Vec<u8>, NoMemory>
+    requires checked { IsChecked (tree_of plan.now) }
+    requires select { (tree_of plan.now).shape ≡ h.Select }
+{
+    let operator = Select::new(plan);
+    let mut part = NoPart;
+    operator.merge(&mut part, NoPart)?;
+    let mut out = vec![in alloc; b'#']?;
+    operator.lines(alloc, 7, &part, &mut out)?;
+    Ok(out)
+}
+
+const ROWS: [(u32, i64, i64); 5] = [(0, 1, 10), (1, 1, 20), (2, 2, 5), (2, 1, 7), (9, 2, 1)];
+
+#[test]
+fn values_of_rows_that_pass(rt: HostRuntime) -> Result<(), Fail> {
+    let alloc = rt.alloc();
+    let plan = doubles(alloc)?;
+    let piece = select(alloc, &plan, 0, None, &ROWS)?;
+    assert_eq!(rt;
+        piece.complete_text.as_slice(),
+        b"1,19\n1,39\n1,13\n".as_slice()
+    );
+    assert_eq!(rt; piece.closed_below, 0);
+    assert!(rt; piece.closing.into_vec().is_empty());
+    assert!(rt; piece.pending.into_vec().is_empty());
+    assert!(rt; piece.opening.into_vec().is_empty());
+    Ok(())
+}
+
+#[test]
+fn rows_by_two_tests(rt: HostRuntime) -> Result<(), Fail> {
+    let alloc = rt.alloc();
+    let plan = tens(alloc)?;
+    let piece = select(alloc, &plan, 0, None, &ROWS)?;
+    assert_eq!(rt; piece.complete_text.as_slice(), b"10\n20\n".as_slice());
+    Ok(())
+}
+
+// Tasks of one selection, the second without a row that passes, the third with great numbers.
+#[test]
+fn tasks_one_by_one(rt: HostRuntime) -> Result<(), Fail> {
+    let alloc = rt.alloc();
+    let plan = doubles(alloc)?;
+    let great = [(9, -4, i64::MAX), (9, i64::MIN, 6)];
+    let table = [
+        (0, None, &ROWS[..2], "1,19\n1,39\n"),
+        (2, Some(1), &ROWS[2..3], ""),
+        (
+            3,
+            Some(2),
+            great.as_slice(),
+            "-4,18446744073709551613\n-9223372036854775808,11\n",
+        ),
+    ];
+    for (left, last, rows, text) in table {
+        let piece = select(alloc, &plan, left, last, rows)?;
+        assert_eq!(rt; piece.complete_text.as_slice(), text.as_bytes());
+    }
+    Ok(())
+}
+
+#[test]
+fn windows_have_no_lines(rt: HostRuntime) -> Result<(), Fail> {
+    let alloc = rt.alloc();
+    let plan = tens(alloc)?;
+    assert_eq!(rt; no_window(alloc, &plan)?.as_slice(), b"#".as_slice());
+    Ok(())
+}
