@@ -1,9 +1,10 @@
 -- What a run gives, from each way in which it ends.
-use Rattle.std.proofs.Common.{◌≡◌, ◌⊎◌, inl, inr, ℕ, List, [], ◌∷◌, length, Option, Some, None, option_map, IfSome, true, refl, sym, ◌∙◌, ap, subst, arith}
+use Rattle.std.proofs.Common.{◌≡◌, ◌≢◌, ◌⊎◌, inl, inr, ℕ, List, [], ◌∷◌, length, Option, Some, None, option_map, IfSome, true, refl, sym, ◌∙◌, ap, subst, arith}
 use Rattle.std.specs.Prelude.{option_and_then, option_to_list}
 use Rattle.saber_plan.specs.Rows.{Read}
 use Rattle.saber_plan.specs.Checked.{IsChecked}
-use Rattle.saber_plan.specs.declared.plans.Shape.TheVariants.{Group}
+use Rattle.saber_plan.specs.declared.plans.Shape.{Shape}
+use Rattle.saber_plan.specs.declared.plans.Shape.TheVariants.{Select, Group, Join}
 use Rattle.saber_plan.specs.Trees.{Tree}
 use Rattle.saber_io.specs.Outside.{Told, content_in}
 use Rattle.saber_query.specs.declared.fault.Cause.{Cause}
@@ -129,13 +130,18 @@ pub record Runs (files : Contents) (r : AskedRun) (p : Tree) : Type 0 where
   pub able : can_run p ≡ true
   pub one : length p.streams ≡ 1
 
-one_stream : Laws → (p : Tree) → IsChecked p → p.shape ≡ Group → length p.streams ≡ 1
-one_stream ls p h k = ap length (ls.one_window p h k).streams
+stream_by : Laws → (p : Tree) → IsChecked p → (s : Shape) → p.shape ≡ s → s ≢ Join → length p.streams ≡ 1
+stream_by ls p h Select k n = ap length (ls.no_window p h k).streams
+stream_by ls p h Group k n = ap length (ls.one_window p h k).streams
+stream_by ls p h Join k n = absurd (n refl)
+
+one_stream : Laws → (p : Tree) → IsChecked p → p.shape ≢ Join → length p.streams ≡ 1
+one_stream ls p h n = stream_by ls p h p.shape refl n
 
 pub runs_of : Laws → (files : Contents) (r : AskedRun) (text : List ℕ) (p : Tree) → BeginsFile files r.query text → CanRun text p → Runs files r p
 runs_of ls files r text p b h =
     let w = begun_plan ls files r.query text p b h.has in
-    record { whole = w.0; there = w.1; has = w.2; able = h.able; one = one_stream ls p h.checked h.group }
+    record { whole = w.0; there = w.1; has = w.2; able = h.able; one = one_stream ls p h.checked h.no_join }
 
 pub run_has : (files : Contents) (r : AskedRun) (p : Tree) → Runs files r p → HasRun files r p
 run_has files r p k = record { text = k.whole; there = k.there; plan = k.has; able = k.able }

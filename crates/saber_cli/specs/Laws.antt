@@ -2,7 +2,7 @@
 use Rattle.std.specs.Prelude.{◌≡◌, ℕ, List, take}
 use Rattle.saber_plan.specs.Trees.{Tree}
 use Rattle.saber_plan.specs.Checked.{IsChecked}
-use Rattle.saber_laws.specs.Plans.{GroupsHaveOneWindow}
+use Rattle.saber_laws.specs.Plans.{SelectionsHaveNoWindow, GroupsHaveOneWindow}
 use Rattle.saber_laws.specs.Pieces.{NoRowsGiveNothing, NoTasksNoRows}
 use Rattle.saber_laws.specs.Windows.{CheckedFit}
 use Rattle.saber_query.specs.declared.fault.Cause.{Cause}
@@ -17,6 +17,7 @@ pub record Laws : Type 0 where
   pub front_fault : (text : List ℕ) (byte : ℕ) (cause : Cause) → HasFault (take 65537 text) byte cause → HasFault text byte cause
   -- of plans and their answers
   pub one_window : GroupsHaveOneWindow
+  pub no_window : SelectionsHaveNoWindow
   pub fits : CheckedFit
   pub nothing : NoRowsGiveNothing
   pub no_rows : NoTasksNoRows

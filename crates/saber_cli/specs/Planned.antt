@@ -1,6 +1,6 @@
 -- What a text comes to before a run.
-use Rattle.std.specs.Prelude.{◌≡◌, ◌⊎◌, ℕ, List, true, false}
-use Rattle.saber_plan.specs.declared.plans.Shape.TheVariants.{Group}
+use Rattle.std.specs.Prelude.{◌≡◌, ◌≢◌, ◌⊎◌, ℕ, List, true, false}
+use Rattle.saber_plan.specs.declared.plans.Shape.TheVariants.{Join}
 use Rattle.saber_plan.specs.Trees.{Tree}
 use Rattle.saber_plan.specs.Checked.{IsChecked}
 use Rattle.saber_query.specs.declared.fault.Cause.TheVariants.{Shape}
@@ -11,12 +11,12 @@ use Rattle.saber_notes.specs.declared.outcome.Outcome.{Outcome}
 use Rattle.saber_notes.specs.declared.outcome.Outcome.TheVariants.{QueryFault, NoMemory}
 use Rattle.saber_cli.specs.Able.{can_run}
 
--- the text has this plan, which can be run: it is checked, and that of a group query
+-- the text has this plan, which can be run: it is checked, and no join
 pub record CanRun (text : List ℕ) (q : Tree) : Type 0 where
   pub has : HasPlan text q
   pub able : can_run q ≡ true
   pub checked : IsChecked q
-  pub group : q.shape ≡ Group
+  pub no_join : q.shape ≢ Join
 
 -- the text has a plan that can't be run yet
 pub record CantRun (text : List ℕ) : Type 0 where

@@ -1,7 +1,7 @@
 // A run over a source that is open.
 ghost use Rattle.std.specs.Prelude.{◌≡◌, ◌≢◌, ◌≤◌, ℕ, List, IfSome};
 ghost use Rattle.saber_io.specs.Outside.{Rose, appended};
-ghost use Rattle.saber_plan.specs.declared.plans.Shape.TheVariants.{Group};
+ghost use Rattle.saber_plan.specs.declared.plans.Shape.TheVariants.{Join};
 ghost use Rattle.saber_plan.specs.Trees.{tree_of};
 ghost use Rattle.saber_plan.specs.Checked.{IsChecked};
 ghost use Rattle.saber_plan.specs.Sizes.{SizesFit};
@@ -41,7 +41,7 @@ fn file_of(side: Side) -> InputFile
     }
 }
 
-// How the call ends behind a run. No task of a group query needs the rows of another one.
+// How the call ends behind a run. No task of a query over one stream needs the rows of another one.
 fn outcome_of(end: RunEnd) -> Outcome
     requires narrow { (task need : ℕ) → end ≢ RunEnd.TooWide task need }
     ensures { Tells end result }
@@ -77,7 +77,7 @@ pub(crate) fn answer<S: Source, K: Sink + Send, G: Gate + Sync>(
     gate: &G,
 ) -> RanOver<S, K>
     requires checked { IsChecked (tree_of plan.now) }
-    requires group { (tree_of plan.now).shape ≡ Group }
+    requires no_join { (tree_of plan.now).shape ≢ Join }
     requires sizes { SizesFit sizes.now }
     requires threads { sizes.now.threads ≡ 0 }
     ensures written { (out : List ℕ) × (K.written result.ran.sink ≡ appended (K.written sink) out)

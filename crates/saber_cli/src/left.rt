@@ -1,7 +1,7 @@
 // A run over the one row file of its query.
-ghost use Rattle.std.specs.Prelude.{◌≡◌, ◌≤◌, ℕ, List, IfSome};
+ghost use Rattle.std.specs.Prelude.{◌≡◌, ◌≢◌, ◌≤◌, ℕ, List, IfSome};
 ghost use Rattle.saber_io.specs.Outside.{Rose, appended, content_in};
-ghost use Rattle.saber_plan.specs.declared.plans.Shape.TheVariants.{Group};
+ghost use Rattle.saber_plan.specs.declared.plans.Shape.TheVariants.{Join};
 ghost use Rattle.saber_plan.specs.Trees.{tree_of};
 ghost use Rattle.saber_plan.specs.Checked.{IsChecked};
 ghost use Rattle.saber_plan.specs.Sizes.{SizesFit};
@@ -30,7 +30,7 @@ pub(crate) fn run_left<F: Files, K: Sink + Send, G: Gate + Sync>(
     gate: &G,
 ) -> Ran<K>
     requires checked { IsChecked (tree_of plan.now) }
-    requires group { (tree_of plan.now).shape ≡ Group }
+    requires no_join { (tree_of plan.now).shape ≢ Join }
     requires sizes { SizesFit sizes.now }
     requires threads { sizes.now.threads ≡ 0 }
     ensures written { (out : List ℕ) × (K.written result.sink ≡ appended (K.written sink) out)

@@ -25,8 +25,8 @@ fn can_run(plan: &Plan) -> bool
     ensures { result ≡ can_run (tree_of plan.now) }
 {
     match plan.shape() {
-        Shape::Group => true,
-        Shape::Select | Shape::Join => false,
+        Shape::Select | Shape::Group => true,
+        Shape::Join => false,
     }
 }
 

@@ -11,6 +11,8 @@ const BY_TIME: &str = "STREAM S(t,g,v); SELECT COUNT(*) FROM S [RANGE 3 SLIDE 2]
 
 const SUMS: &str = "STREAM S(t,g,v); SELECT g, SUM(v) FROM S [ROWS 3 SLIDE 1] GROUP BY g";
 
+const PASSING: &str = "STREAM S(t,g,v); SELECT v FROM S WHERE g = 1 AND NOT v < 10";
+
 const FIVE: &str = "0,1,10\n1,1,20\n2,2,5\n2,1,7\n9,2,1\n";
 
 const RUN: [&str; 4] = ["saber", "run", "q", "l"];
@@ -151,6 +153,24 @@ fn groups(rt: HostRuntime) -> Result<(), Fail> {
     Ok(())
 }
 
+// A line for each row that passes, in any tasks.
+#[test]
+fn selections(rt: HostRuntime) -> Result<(), Fail> {
+    let alloc = rt.alloc();
+    let doubled = "STREAM S(t,g,v); SELECT g, v*2-1 FROM S WHERE v > 5";
+    for (words, query, tasks, out) in [
+        (RUN.as_slice(), doubled, 1u64, "1,19\n1,39\n1,13\n"),
+        (&IN_TASKS_OF_2, doubled, 3, "1,19\n1,39\n1,13\n"),
+        (&RUN, PASSING, 1, "10\n20\n"),
+    ] {
+        let seen = run(alloc, words, query, FIVE)?;
+        assert_eq!(rt; seen.status, 0);
+        assert_eq!(rt; seen.tasks, tasks);
+        assert_eq!(rt; seen.out.as_slice(), out.as_bytes());
+    }
+    Ok(())
+}
+
 // The answer does not depend on the size of the tasks.
 #[test]
 fn sizes_of_tasks(rt: HostRuntime) -> Result<(), Fail> {
@@ -241,7 +261,6 @@ fn refused_lines(rt: HostRuntime) -> Result<(), Fail> {
 #[test]
 fn before_a_run(rt: HostRuntime) -> Result<(), Fail> {
     let alloc = rt.alloc();
-    let selection = "STREAM S(t,g,v); SELECT v FROM S";
     let join =
         "STREAM A(t,x); STREAM B(t,y); SELECT x, y FROM A [RANGE 4 SLIDE 4], B [RANGE 4 SLIDE 4] WHERE x < y";
     let unknown = "STREAM S(t,g,v); SELECT w FROM S";
@@ -255,7 +274,6 @@ fn before_a_run(rt: HostRuntime) -> Result<(), Fail> {
             2,
             "saber: streams 1, files 2\n",
         ),
-        (&RUN, selection, 3, "saber: query byte 0: shape\n"),
         (&RUN, join, 3, "saber: query byte 0: shape\n"),
         (&RUN, unknown, 3, "saber: query byte 24: unknown column\n"),
         (
@@ -394,6 +412,7 @@ fn a_write_fails(rt: HostRuntime) -> Result<(), Fail> {
         (RUN.as_slice(), COUNT, 1u64, 5u64, 0u64, "0,2\n1"),
         (&IN_TASKS_OF_2, COUNT, 2, 1, 1, "0,2\n1"),
         (&IN_TASKS_OF_1, BY_TIME, 1, 0, 4, ""),
+        (&IN_TASKS_OF_1, PASSING, 2, 0, 1, "10\n"),
     ] {
         let left = file(alloc, "l", FIVE)?;
         let sink = MemSink::new(alloc, vec![in alloc; (number, after)]?);

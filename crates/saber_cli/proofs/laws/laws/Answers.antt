@@ -8,6 +8,7 @@ returns c = record {
   front_plan = c.a_front_tells_all.ensures.plan;
   front_fault = c.a_front_tells_all.ensures.fault;
   one_window = c.groups_have_one_window.ensures;
+  no_window = c.selections_have_no_window.ensures;
   fits = c.checked_fit.ensures;
   nothing = c.no_rows_give_nothing.ensures;
   no_rows = c.no_tasks_no_rows.ensures;
