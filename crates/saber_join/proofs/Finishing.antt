@@ -1,0 +1,152 @@
+-- All windows together are what the task gives.
+use Rattle.std.proofs.Common.{◌≡◌, ℕ, ◌+◌, ◌-◌, ◌≤◌, ◌<◌, List, [], ◌∷◌, ◌++◌, filter, flat_map, Bool, true, false, cond, nat_lt, T, Option, Some, None, refl, sym, ◌∙◌, ap, subst, le_trans, nat_cmp, arith}
+use Rattle.std.proofs.lemmas.Bool.{lt-ltb, le-ltb}
+use Rattle.std.proofs.lemmas.List.Concat.{flat_map-append}
+use Rattle.std.specs.Option.{option_map_or}
+use Rattle.std.specs.FinMap.{is_sorted}
+use Rattle.saber_plan.specs.declared.rows.Row.{Row}
+use Rattle.saber_plan.specs.declared.windows.Mark.{Mark}
+use Rattle.saber_plan.specs.declared.windows.Kind.{Kind}
+use Rattle.saber_plan.specs.declared.windows.Kind.TheVariants.{Opening, Closing, Pending, Complete}
+use Rattle.saber_plan.specs.declared.plans.Shape.TheVariants.{Join}
+use Rattle.saber_plan.specs.Trees.{Tree}
+use Rattle.saber_plan.specs.Windows.{Fits, mark_after, has, closed, begun, closed_count, begun_count, kind_of, from}
+use Rattle.saber_plan.specs.Answers.{by_shape, frame, selected}
+use Rattle.saber_plan.specs.Parts.{Part, no_part, part_lines}
+use Rattle.saber_plan.specs.Tasks.{full, is_complete}
+use Rattle.saber_plan.specs.Needs.{is_closing, is_pending, is_opening, of_kind, part_here, piece_here}
+use Rattle.saber_plan.specs.Checked.{IsChecked}
+use Rattle.saber_plan.specs.Given.{RowsFit}
+use Rattle.saber_plan.specs.Shares.{shares_here}
+use Rattle.saber_fragment.specs.Shown.{windows_by}
+use Rattle.saber_laws.specs.Windows.{ClosedAreCounted, BegunAreCounted, BegunStay}
+use Rattle.saber_laws.specs.Needs.{RowsSpan}
+use Rattle.saber_laws.specs.Parts.{NoRowsNoPart}
+use Rattle.saber_laws.specs.Pairs.{PairsAreInOrder}
+use Rattle.saber_laws.specs.Plans.{TwoWindows}
+use Rattle.saber_window.specs.Laws.{ClosedWithinBegun}
+use Rattle.saber_join.specs.declared.gathered.Bounds.{Bounds}
+use Rattle.saber_join.specs.Found.{pair_lines}
+use Rattle.saber_join.specs.Keeping.{Held}
+use Rattle.saber_join.specs.Open.{seen_held, HoldsTask}
+use Rattle.saber_join.specs.Kinds.{kind_in}
+use Rattle.saber_join.specs.Entries.{entry_if, lines_if, entries_by, lines_by, Gave}
+use Rattle.saber_join.proofs.Following.{Ordered-append}
+use Rattle.saber_join.proofs.Task.{part_is}
+use Rattle.saber_join.proofs.Numbering.{flat_map-from, flat_none, flat_filter, from_more, numbered_is}
+use Rattle.saber_join.proofs.Entering.{no_entry, no_lines}
+use Rattle.saber_join.proofs.Spread.{seen, part_in, part_is_in, rise_all, spread}
+use Rattle.saber_join.proofs.Beginning.{none_begun}
+use Rattle.saber_join.proofs.Answering.{lines_of}
+
+entry_is : (w : Bool) (i : ℕ) (p : Part) → entry_if w i p ≡ option_map_or (λ r. (i, r) ∷ []) (cond w (full p) None) []
+entry_is true i p = refl
+entry_is false i p = refl
+
+-- parts that are shown as they are
+pub as_they_are : (es : List (ℕ × Part)) → windows_by (λ p. p) es ≡ es
+as_they_are [] = refl
+as_they_are (e ∷ es) = ap (λ l. e ∷ l) (as_they_are es)
+
+-- what is known of the bounds of a task
+pub record AreBounds (q : Tree) (a z : Mark) (b : Bounds) : Type 0 where
+  pub begun_before : b.begun_before ≡ begun_count (frame q) a
+  pub closed_after : b.closed_after ≡ closed_count (frame q) z
+
+-- a window's kind, by counts and by the definition
+kind_is : ClosedAreCounted → BegunAreCounted → (q : Tree) → Fits (frame q) → (a z : Mark) (b : Bounds) → AreBounds q a z b → (i : ℕ) → closed_count (frame q) a ≤ i → i < begun_count (frame q) z → Some (kind_in b i) ≡ kind_of (frame q) i a z
+kind_is closed_are begun_are q fits a z b given i low high =
+    let f = frame q in
+    let not_closed : closed f i a ≡ false = sym (closed_are f fits i a) ∙ le-ltb i (closed_count f a) low in
+    let is_begun : begun f i z ≡ true = sym (begun_are f fits i z) ∙ lt-ltb i (begun_count f z) high in
+    let closes : closed f i z ≡ nat_lt i b.closed_after = sym (closed_are f fits i z) ∙ ap (nat_lt i) (sym given.closed_after) in
+    let before : begun f i a ≡ nat_lt i b.begun_before = sym (begun_are f fits i a) ∙ ap (nat_lt i) (sym given.begun_before) in
+    sym (λ j. cond (not_closed j) None (cond (is_begun j) (Some (cond (closes j) (cond (before j) Closing Complete) (cond (before j) Pending Opening))) None))
+
+low_case : (b : Bool) (p : Part) → p ≡ no_part → cond b no_part p ≡ no_part
+low_case true p h = refl
+low_case false p h = h
+
+-- what the windows of a tree map give is what windows give by number, from the first that isn't closed up to the last that is begun
+module _ {X : Type 0} (g : ℕ → Part → List X) (none : (i : ℕ) (p : Part) → p ≡ no_part → g i p ≡ []) (at : ℕ → Part) (c n : ℕ) (order : c ≤ n) (ends : (i : ℕ) → n ≤ i → at i ≡ no_part) where
+  abbrev held_at : ℕ → Part
+  held_at i = cond (nat_lt i c) no_part (at i)
+
+  pub by_number : (es : List (ℕ × Held)) → T (is_sorted nat_cmp (seen es)) → ((i : ℕ) → part_in es i ≡ held_at i) → flat_map (λ e. g e.0 e.1.part) es ≡ flat_map (λ i. g i (at i)) (from c (n - c))
+  by_number es s h =
+      let whole : n - 0 ≡ n = omega arith in
+      let to : c - 0 ≡ c = omega arith in
+      spread g none n 0 es held_at (rise_all es s) (λ i l. h i) (λ i l. low_case (nat_lt i c) (at i) (ends i (omega (arith, l))))
+      ∙ ap (λ k. flat_map (λ i. g i (held_at i)) (from 0 k)) (sym whole)
+      ∙ ap (flat_map (λ i. g i (held_at i))) (from_more 0 c n (omega arith) order ∙ ap (λ k. from 0 k ++ from c (n - c)) to)
+      ∙ flat_map-append (λ i. g i (held_at i)) (from 0 c) (from c (n - c))
+      ∙ (λ j. flat_none (λ i. g i (held_at i)) 0 c (λ i l r. none i (held_at i) (ap (λ b. cond b no_part (at i)) (lt-ltb i c (omega (arith, r))))) j ++ flat_map (λ i. g i (held_at i)) (from c (n - c)))
+      ∙ flat_map-from (λ i. g i (held_at i)) (λ i. g i (at i)) c (n - c) (λ i l r. ap (λ b. g i (cond b no_part (at i))) (le-ltb i c l))
+
+-- the laws that a task's end rests on
+pub record Laws : Type 0 where
+  pub closed_are : ClosedAreCounted
+  pub begun_are : BegunAreCounted
+  pub stay : BegunStay
+  pub within : ClosedWithinBegun
+  pub span : RowsSpan
+  pub none : NoRowsNoPart
+  pub order : PairsAreInOrder
+
+module _ (laws : Laws) (q : Tree) (checked : IsChecked q) (e : q.shape ≡ Join) (w : TwoWindows q) (fits : Fits (frame q)) (m : Mark) (back rows : List Row) (h : RowsFit q m (back ++ rows)) (b : Bounds) (given : AreBounds q (mark_after m back) (mark_after (mark_after m back) rows) b)
+    (es : List (ℕ × Held)) (sorted : T (is_sorted nat_cmp (seen es))) (holds : HoldsTask q (closed_count (frame q) (mark_after m back)) m back rows (seen_held es)) where
+  abbrev a : Mark
+  a = mark_after m back
+
+  abbrev z : Mark
+  z = mark_after (mark_after m back) rows
+
+  abbrev c : ℕ
+  c = closed_count (frame q) (mark_after m back)
+
+  abbrev n : ℕ
+  n = begun_count (frame q) (mark_after (mark_after m back) rows)
+
+  abbrev at : ℕ → Part
+  at i = part_here q i m back rows
+
+  within : c ≤ n
+  within = le_trans (laws.within (frame q) fits a) (laws.stay (frame q) fits a rows (Ordered-append m back rows h.ordered).1)
+
+  ends : (i : ℕ) → n ≤ i → at i ≡ no_part
+  ends i l = none_begun laws.span laws.stay laws.none q e w fits m back rows h i l
+
+  kind : (i : ℕ) → c ≤ i → i < c + (n - c) → Some (kind_in b i) ≡ kind_of (frame q) i a z
+  kind i l r = let up = within in kind_is laws.closed_are laws.begun_are q fits a z b given i l (omega (arith, l, r, up))
+
+  entries_are : (wanted : Option Kind → Bool) → entries_by wanted b es ≡ of_kind wanted (frame q) a z at
+  unfolding of_kind
+  entries_are wanted =
+      let given_kind = λ (i : ℕ). cond (wanted (kind_of (frame q) i a z)) (full (at i)) None in
+      by_number (λ i p. entry_if (wanted (Some (kind_in b i))) i p) (λ i p. no_entry (wanted (Some (kind_in b i))) i p) at c n within ends es sorted (λ i. part_is_in es i ∙ holds.at i)
+      ∙ flat_map-from _ (λ i. option_map_or (λ r. (i, r) ∷ []) (given_kind i) []) c (n - c) (λ i l r. (λ j. entry_if (wanted (kind i l r j)) i (at i)) ∙ entry_is (wanted (kind_of (frame q) i a z)) i (at i))
+      ∙ sym (numbered_is given_kind c (n - c))
+
+  here_lines : (i : ℕ) → pair_lines i (at i) ≡ part_lines q i (at i)
+  here_lines i = subst (λ p. pair_lines i p ≡ part_lines q i p) (part_is q m back rows i e) (lines_of laws.order q checked e _ (has (frame q) i) m (back ++ rows) i)
+
+  abbrev complete : ℕ → Bool
+  complete i = is_complete (kind_of (frame q) i a z)
+
+  lines_are : lines_by b es ≡ flat_map (λ i. part_lines q i (at i)) (filter complete (from c (n - c)))
+  lines_are =
+      by_number (λ i p. lines_if (is_complete (Some (kind_in b i))) i p) (λ i p. no_lines (is_complete (Some (kind_in b i))) i p) at c n within ends es sorted (λ i. part_is_in es i ∙ holds.at i)
+      ∙ flat_map-from _ (λ i. cond (complete i) (part_lines q i (at i)) []) c (n - c) (λ i l r j. cond (is_complete (kind i l r j)) (here_lines i j) [])
+      ∙ flat_filter (λ i. part_lines q i (at i)) complete (from c (n - c))
+
+  pub shares_are : (cs ps os : List (ℕ × Part)) (t : List ℕ) → Gave b es cs ps os t → record { closing = cs; pending = ps; opening = os; lines = t; closed = b.closed_after } ≡ shares_here q m back rows
+  unfolding shares_here piece_here
+  shares_are cs ps os t gave =
+      let whole = flat_map (λ i. part_lines q i (at i)) (filter complete (from c (n - c))) in
+      λ j. record {
+        closing = (gave.closing ∙ entries_are is_closing) j;
+        pending = (gave.pending ∙ entries_are is_pending) j;
+        opening = (gave.opening ∙ entries_are is_opening) j;
+        lines = (gave.lines ∙ lines_are ∙ ap (λ s. by_shape s (selected q rows) whole whole) (sym e)) j;
+        closed = given.closed_after j;
+      }

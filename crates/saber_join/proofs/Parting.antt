@@ -1,0 +1,45 @@
+-- Parts over rows that follow one another have no pair in common.
+use Rattle.std.proofs.Common.{◌≡◌, ℕ, ◌<◌, List, take, Bool, true, false, cond, nat_le, Option, Some, None, ℤ, refl, sym, ◌∙◌, ap, subst₂, length-take, arith}
+use Rattle.std.specs.FinMap.{get, find, get-from_entries, get-empty}
+use Rattle.std.specs.FinMap.Entries.{find-where_key}
+use Rattle.saber_plan.specs.declared.rows.Row.{Row}
+use Rattle.saber_plan.specs.declared.plans.Shape.TheVariants.{Join}
+use Rattle.saber_plan.specs.Trees.{Tree}
+use Rattle.saber_plan.specs.Windows.{Placed, place, has, no_rows, placed_after}
+use Rattle.saber_plan.specs.Answers.{key_cmp, pairs, frame}
+use Rattle.saber_plan.specs.Parts.{Part, Numbers, pair_numbers, pair_part, later}
+use Rattle.saber_plan.specs.Given.{AreNeighbors}
+use Rattle.saber_plan.specs.ListFacts.{Each, each-filter}
+use Rattle.saber_laws.specs.Parts.{NoRowsNoPart}
+use Rattle.saber_join.specs.Found.{Apart}
+use Rattle.saber_join.proofs.Keyed.{total, exact, not_both}
+use Rattle.saber_join.proofs.Holding.{placed_below, pair_part-none}
+use Rattle.saber_join.proofs.Answering.{part_of_pairs}
+
+get-pair_part : (q : Tree) (n : ℕ) (xs : List Placed) (k : List ℤ) → get (pair_part q n xs) k ≡ cond (nat_le n (later k)) (find key_cmp k (pairs q (pair_numbers q) xs)) None
+unfolding pair_part
+get-pair_part q n xs k = get-from_entries total _ k ∙ find-where_key key_cmp (λ l. nat_le n (later l)) k (λ l e. ap (λ m. nat_le n (later m)) (sym (exact k l e))) (pairs q (pair_numbers q) xs)
+
+late_key : (b : Bool) (o : Option Numbers) (v : Numbers) → cond b o None ≡ Some v → b ≡ true
+late_key true o v e = refl
+late_key false o v e = absurd (not_both refl e)
+
+always_none : (b : Bool) → cond {A = Option Numbers} b None None ≡ None
+always_none true = refl
+always_none false = refl
+
+apart : NoRowsNoPart → (q : Tree) (x z : ℕ) (us vs : List Placed) → Each (λ r. place r < z) us → Apart (pair_part q x us) (pair_part q z vs)
+apart none q x z us vs h = record {
+  at = λ k v g.
+      let late = late_key (nat_le z (later k)) (find key_cmp k (pairs q (pair_numbers q) vs)) v (sym (get-pair_part q z vs k) ∙ g) in
+      let out : find key_cmp k (pairs q (pair_numbers q) us) ≡ None = sym (get-pair_part q z us k ∙ ap (λ b. cond b (find key_cmp k (pairs q (pair_numbers q) us)) None) late) ∙ ap (λ p. get p k) (pair_part-none none q z us h) ∙ get-empty key_cmp k in
+      get-pair_part q x us k ∙ ap (λ o. cond (nat_le x (later k)) o None) out ∙ always_none (nat_le x (later k));
+}
+
+first_rows : (xs : List Row) (z : ℕ) → Each (λ (r : Placed). place r < z) (placed_after no_rows (take z xs))
+first_rows xs z = let few = length-take z xs in placed_below no_rows (take z xs) z (omega (arith, few))
+
+pub neighbors_apart : NoRowsNoPart → (q : Tree) → q.shape ≡ Join → (a b : Part) → AreNeighbors q a b → Apart a b
+neighbors_apart none q e a b n =
+    subst₂ Apart (sym (n.first ∙ part_of_pairs q e n.window n.rows n.from n.seam)) (sym (n.second ∙ part_of_pairs q e n.window n.rows n.seam n.to))
+    (apart none q n.from n.seam _ _ (each-filter _ (has (frame q) n.window) (placed_after no_rows (take n.seam n.rows)) (first_rows n.rows n.seam)))

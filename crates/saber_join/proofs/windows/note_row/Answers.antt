@@ -1,0 +1,22 @@
+use Rattle.std.proofs.Common.{◌+◌, sym, subst, arith}
+use Rattle.saber_join.specs.Keeping.{Held, noted}
+use Rattle.saber_join.specs.Open.{seen_held, Changed}
+use Rattle.saber_join.proofs.Changing.{none_changed, one_changed, all_changed}
+use Rattle.saber_join.proofs.windows.note_row.Goals as goal
+
+pub loop-window-init : goal.loop-window-init
+loop-window-init c = record { changed = none_changed (λ (h : Held). noted h (record { row = c.args.row.now; before = c.args.before })) c.args.first (seen_held c.args.windows.now.entries); within = omega arith }
+
+pub loop-window-preserved : goal.loop-window-preserved
+loop-window-preserved c =
+    let f = λ (h : Held). noted h (record { row = c.args.row.now; before = c.args.before }) in
+    record {
+      changed = subst (Changed f c.args.first (c.loop-window.window + 1) (seen_held c.args.windows.now.entries)) (sym c.in_ok-note_at.ensures)
+          (one_changed f c.args.first c.loop-window.window (seen_held c.args.windows.now.entries) (seen_held c.loop-window.windows.entries) (omega arith) c.loop-window.invariant.changed);
+      within = omega arith;
+    }
+
+pub returns : goal.returns
+returns c =
+    let f = λ (h : Held). noted h (record { row = c.args.row.now; before = c.args.before }) in
+    all_changed f c.args.first c.loop-window.window c.args.past (seen_held c.args.windows.now.entries) (seen_held c.loop-window.windows.entries) (omega arith) (omega arith) (λ l. omega arith) (λ l. omega arith) c.loop-window.invariant.changed

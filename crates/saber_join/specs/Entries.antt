@@ -1,0 +1,36 @@
+-- What windows give to a task's piece.
+use Rattle.std.specs.Prelude.{◌≡◌, ℕ, List, [], ◌∷◌, flat_map, Option, Some, Bool, if◌then◌else◌}
+use Rattle.std.specs.Option.{option_map_or}
+use Rattle.saber_plan.specs.declared.windows.Kind.{Kind}
+use Rattle.saber_plan.specs.Parts.{Part}
+use Rattle.saber_plan.specs.Tasks.{full, is_complete}
+use Rattle.saber_plan.specs.Needs.{is_closing, is_pending, is_opening}
+use Rattle.saber_join.specs.declared.gathered.Bounds.{Bounds}
+use Rattle.saber_join.specs.Found.{pair_lines}
+use Rattle.saber_join.specs.Keeping.{Held}
+use Rattle.saber_join.specs.Kinds.{kind_in}
+
+-- a window's part, unless that is empty
+abbrev pub entry : ℕ → Part → List (ℕ × Part)
+entry i p = option_map_or (λ r. (i, r) ∷ []) (full p) []
+
+abbrev pub entry_if : Bool → ℕ → Part → List (ℕ × Part)
+entry_if wanted i p = if wanted then entry i p else []
+
+-- its lines
+abbrev pub lines_if : Bool → ℕ → Part → List ℕ
+lines_if wanted i p = if wanted then pair_lines i p else []
+
+-- those of the windows of a kind, window by window
+abbrev pub entries_by : (Option Kind → Bool) → Bounds → List (ℕ × Held) → List (ℕ × Part)
+entries_by wanted b es = flat_map (λ e. entry_if (wanted (Some (kind_in b e.0))) e.0 e.1.part) es
+
+abbrev pub lines_by : Bounds → List (ℕ × Held) → List ℕ
+lines_by b es = flat_map (λ e. lines_if (is_complete (Some (kind_in b e.0))) e.0 e.1.part) es
+
+-- what these windows gave
+pub record Gave (b : Bounds) (es : List (ℕ × Held)) (closings pendings openings : List (ℕ × Part)) (text : List ℕ) : Type 0 where
+  pub closing : closings ≡ entries_by is_closing b es
+  pub pending : pendings ≡ entries_by is_pending b es
+  pub opening : openings ≡ entries_by is_opening b es
+  pub lines : text ≡ lines_by b es

@@ -1,0 +1,7 @@
+pub mod Found
+pub mod Rows
+pub mod Adding
+pub mod Keeping
+pub mod Open
+pub mod Kinds
+pub mod Entries

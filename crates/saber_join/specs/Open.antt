@@ -1,0 +1,41 @@
+-- What a task holds of all windows.
+use Rattle.std.specs.Prelude.{◌≡◌, ℕ, List, map, fold, ◌&&◌, nat_le, nat_lt, if◌then◌else◌, unwrap_or}
+use Rattle.std.specs.Ordering.{nat_cmp}
+use Rattle.std.specs.FinMap.{FinMap, get, from_entries}
+use Rattle.saber_plan.specs.declared.rows.Row.{Row}
+use Rattle.saber_plan.specs.declared.windows.Mark.{Mark}
+use Rattle.saber_plan.specs.Trees.{Tree}
+use Rattle.saber_plan.specs.Parts.{no_part}
+use Rattle.saber_plan.specs.Needs.{part_here}
+use Rattle.saber_plan.specs.Windows.{Frame, Placed, has}
+use Rattle.saber_join.specs.Keeping.{Held, nothing, HeldFits}
+
+abbrev pub Windows : Type 0
+Windows = FinMap nat_cmp Held
+
+abbrev pub seen_held : List (ℕ × Held) → Windows
+seen_held es = from_entries {R = nat_cmp} (map (λ e. (e.0, e.1)) es)
+
+-- what is held of window i
+abbrev pub held_in : Windows → ℕ → Held
+held_in m i = unwrap_or (get m i) nothing
+
+-- the rows of all windows are rows of their sides
+pub record AllFit (q : Tree) (m : Windows) : Type 0 where
+  pub at : (i : ℕ) → HeldFits q (held_in m i)
+
+-- the windows from first up to past have changed so, and no other
+pub record Changed (f : Held → Held) (first past : ℕ) (m n : Windows) : Type 0 where
+  pub at : (i : ℕ) → held_in n i ≡ (if nat_le first i && nat_lt i past then f (held_in m i) else held_in m i)
+
+-- what is held of window i after more rows, of which it takes those that it has
+abbrev pub grown : Frame → (Held → Placed → Held) → ℕ → Held → List Placed → Held
+grown f g i h xs = fold (λ k x. if has f i x then g k x else k) h xs
+
+-- each window from number c on has taken these rows, and no other has changed
+pub record Grown (f : Frame) (g : Held → Placed → Held) (c : ℕ) (xs : List Placed) (m n : Windows) : Type 0 where
+  pub at : (i : ℕ) → held_in n i ≡ (if nat_lt i c then held_in m i else grown f g i (held_in m i) xs)
+
+-- each window from number c on holds its part over a task's rows, and no other holds a pair
+pub record HoldsTask (q : Tree) (c : ℕ) (before : Mark) (back rows : List Row) (m : Windows) : Type 0 where
+  pub at : (i : ℕ) → (held_in m i).part ≡ (if nat_lt i c then no_part else part_here q i before back rows)

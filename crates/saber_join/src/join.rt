@@ -1,0 +1,190 @@
+// A join and its windows.
+ghost use Rattle.std.specs.Prelude.{◌≡◌, ◌++◌, [], ◌∷◌, ◌≤◌, ◌^◌, map, OnOk, IfOk};
+ghost use Rattle.std.specs.List.{AllByRecursion};
+ghost use Rattle.saber_plan.specs.declared.rows.Side.TheVariants as sides;
+ghost use Rattle.saber_plan.specs.declared.plans.Shape.TheVariants as shapes;
+ghost use Rattle.saber_plan.specs.Trees.{tree_of};
+ghost use Rattle.saber_plan.specs.Values as v;
+ghost use Rattle.saber_plan.specs.Checked.{IsChecked};
+ghost use Rattle.saber_plan.specs.Windows as w;
+ghost use Rattle.saber_plan.specs.Answers.{frame, item_value};
+ghost use Rattle.saber_plan.specs.Needs.{first_window, past_window};
+ghost use Rattle.saber_plan.specs.Given.{IsRowOf, RowsFit};
+ghost use Rattle.saber_laws.specs.Plans.{TwoWindows};
+ghost use Rattle.saber_join.specs.Rows.{IsOn, CanShow};
+
+use saber_eval::{holds2, two_streams_fit, value2};
+use saber_laws::{checked_fit, joins_have_two_windows};
+use saber_plan::{Item, Mark, NoMemory, Plan, Row};
+use saber_window::{Windows, stamps_fit, step_mark};
+use std::alloc::Global;
+use std::marker::Model;
+
+/// The operator of a checked join of two streams, over its plan. Contracts see it as the plan.
+#[derive(Drop)]
+pub struct Join<'a> {
+    plan: &'a Plan,
+    windows: Windows,
+}
+
+impl<'a> Model for Join<'a> {
+    ghost use Rattle.std.specs.Prelude.{◌≡◌};
+    ghost use Rattle.saber_plan.specs.declared.plans.Shape.TheVariants as shapes;
+    ghost use Rattle.saber_plan.specs.declared.plans.Plan.{Plan};
+    ghost use Rattle.saber_plan.specs.Trees.{tree_of};
+    ghost use Rattle.saber_plan.specs.Checked.{IsChecked};
+    ghost use Rattle.saber_plan.specs.Answers.{frame};
+    ghost use Rattle.saber_plan.specs.contracts.predicates.Pred as e;
+    ghost use Rattle.std.specs.Coded.{codes};
+
+    ghost Value = { Plan };
+
+    ghost coded = { Prim.hlevel (codes, e.the_row.coded) };
+
+    ghost view = { λ g. g.plan.now };
+
+    ghost invariant = { λ g. IsChecked (tree_of g.plan.now) × ((tree_of g.plan.now).shape ≡ shapes.Join) × (g.windows ≡ frame (tree_of g.plan.now)) };
+}
+
+// The value of an item over a pair. A join's items are expressions alone.
+fn item_value(item: &Item, left: &Row, right: &Row) -> i128
+    requires { CanShow left.now.values right.now.values item.now }
+    ensures { result ≡ item_value left.now.values right.now.values item.now }
+{
+    match item {
+        Item::Value(e) => value2(e, left, right),
+        Item::Count | Item::Sum(_) | Item::Min(_) | Item::Max(_) => unreachable!(),
+    }
+}
+
+// The values of items over a pair.
+fn item_values(
+    alloc: Global,
+    items: &[Item],
+    left: &Row,
+    right: &Row,
+) -> Result<Vec<i128>, NoMemory>
+    requires { AllByRecursion (CanShow left.now.values right.now.values) items.now }
+    ensures { IfOk result (λ vs. vs.items ≡ map (item_value left.now.values right.now.values) items.now) }
+{
+    let mut values = Vec::with_capacity(alloc, items.len())?;
+    for item in items {
+        values.push(item_value(item, left, right))?;
+    }
+    Ok(values)
+}
+
+impl<'a> Join<'a> {
+    /// The operator of this plan. Takes no memory.
+    pub fn new(plan: &'a Plan) -> Join<'a>
+        requires checked { IsChecked (tree_of plan.now) }
+        requires join { (tree_of plan.now).shape ≡ shapes.Join }
+        ensures { result ≡ plan.now }
+    {
+        Join {
+            plan,
+            windows: Windows::of_plan(plan),
+        }
+    }
+
+    /// It joins two streams, and both have windows, which fit.
+    pub(crate) fn has_windows(&self)
+        ensures checked { IsChecked (tree_of self.now) }
+        ensures join { (tree_of self.now).shape ≡ shapes.Join }
+        ensures windows { TwoWindows (tree_of self.now) }
+        ensures fits { w.Fits (frame (tree_of self.now)) }
+    {
+        let _plan = &self.plan;
+        joins_have_two_windows();
+        checked_fit();
+    }
+
+    // Its items can be worked out over a pair of rows of its streams.
+    fn can_show(&self, left: &Row, right: &Row)
+        requires left { IsOn (tree_of self.now) sides.Left left.now }
+        requires right { IsOn (tree_of self.now) sides.Right right.now }
+        ensures { AllByRecursion (CanShow left.now.values right.now.values) (tree_of self.now).items }
+    {
+        self.has_windows();
+        two_streams_fit();
+    }
+
+    /// Whether a pair of rows passes WHERE.
+    pub(crate) fn passes(&self, left: &Row, right: &Row) -> bool
+        requires left { IsOn (tree_of self.now) sides.Left left.now }
+        requires right { IsOn (tree_of self.now) sides.Right right.now }
+        ensures { result ≡ v.passes (tree_of self.now).predicate left.now.values right.now.values }
+    {
+        self.has_windows();
+        two_streams_fit();
+        match self.plan.predicate() {
+            Some(predicate) => holds2(predicate, left, right),
+            None => true,
+        }
+    }
+
+    /// The values of the items over a pair of rows.
+    pub(crate) fn values(
+        &self,
+        alloc: Global,
+        left: &Row,
+        right: &Row,
+    ) -> Result<Vec<i128>, NoMemory>
+        requires left { IsOn (tree_of self.now) sides.Left left.now }
+        requires right { IsOn (tree_of self.now) sides.Right right.now }
+        ensures { IfOk result (λ vs. vs.items ≡ map (item_value left.now.values right.now.values) (tree_of self.now).items) }
+    {
+        self.can_show(left, right);
+        item_values(alloc, self.plan.items(), left, right)
+    }
+
+    /// The row lies in the windows from the one up to the other, and in no other.
+    pub(crate) fn row_windows(&self, row: &Row, before: &Mark) -> (u64, u64)
+        requires left { before.now.left ≤ 2 ^ 40 }
+        requires right { before.now.right ≤ 2 ^ 40 }
+        ensures first { result.0 ≡ first_window (frame (tree_of self.now)) (record { row = row.now; before = before.now }) }
+        ensures past { result.1 ≡ past_window (frame (tree_of self.now)) (record { row = row.now; before = before.now }) }
+    {
+        let _plan = &self.plan;
+        self.windows.row_windows(row, before)
+    }
+
+    /// How many windows are closed by the rows that a mark tells of.
+    pub(crate) fn closed_below(&self, mark: &Mark) -> u64
+        ensures { result ≡ w.closed_count (frame (tree_of self.now)) mark.now }
+    {
+        let _plan = &self.plan;
+        self.windows.closed_below(mark)
+    }
+
+    /// How many windows are begun by them.
+    pub(crate) fn begun_below(&self, mark: &Mark) -> u64
+        ensures { result ≡ w.begun_count (frame (tree_of self.now)) mark.now }
+    {
+        let _plan = &self.plan;
+        self.windows.begun_below(mark)
+    }
+
+    /// The mark after one more row.
+    pub(crate) fn step(&self, before: &Mark, row: &Row) -> Mark
+        requires row { IsRowOf (tree_of self.now) row.now }
+        requires left { before.now.left ≤ 2 ^ 40 }
+        requires right { before.now.right ≤ 2 ^ 40 }
+        ensures { result ≡ w.step_mark before.now row.now }
+    {
+        stamps_fit();
+        step_mark(before, row)
+    }
+
+    /// The mark after some rows.
+    pub(crate) fn mark_over(&self, before: &Mark, rows: &[Row]) -> Mark
+        requires { RowsFit (tree_of self.now) before.now rows.now }
+        ensures { result ≡ w.mark_after before.now rows.now }
+    {
+        let mut mark = *before;
+        for row in rows {
+            mark = self.step(&mark, row);
+        }
+        mark
+    }
+}

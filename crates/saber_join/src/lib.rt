@@ -1,0 +1,22 @@
+//! The operator of joins of two streams (SABER 2016: the fragment function of a windowed join, which
+//! streams both sides through the windows). Window i pairs the rows of window i of the left stream
+//! with those of window i of the right one (CQL 2006), and each pair that passes WHERE is a line. It
+//! goes over the rows that a task looks back on, and then over the task's own, each of which meets the
+//! other side's rows so far of each window that it lies in. So a window without rows costs nothing,
+//! and neither does a gap in time.
+#![tactic(auto)]
+
+mod gathered;
+mod held;
+mod join;
+mod lines;
+mod operator;
+mod pairs;
+mod seen;
+mod windows;
+
+pub use join::Join;
+pub use pairs::Pairs;
+
+#[cfg(test)]
+mod tests;

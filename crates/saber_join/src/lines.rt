@@ -1,0 +1,82 @@
+// The lines of pairs.
+ghost use Rattle.std.specs.Prelude.{◌≡◌, ◌∷◌, ◌++◌, OnOk, OnErr, decimal, pos};
+ghost use Rattle.std.specs.Fmt.{signed_decimal};
+ghost use Rattle.saber_plan.specs.Answers.{line};
+ghost use Rattle.saber_join.specs.Found.{cells, lines_for, values_in, pair_lines, Behind};
+
+use crate::pairs::Pairs;
+use itoa::Buffer;
+use saber_plan::NoMemory;
+
+fn write_window(out: &mut Vec<u8>, window: u64) -> Result<(), NoMemory>
+    ensures ok { OnOk result (out.new.items ≡ out.old.items ++ decimal window) }
+    ensures behind { Behind out.old.items out.new.items }
+{
+    let mut digits = Buffer::new();
+    out.extend_from_slice(digits.format(window).as_bytes())
+}
+
+fn write_number(out: &mut Vec<u8>, number: i128) -> Result<(), NoMemory>
+    ensures ok { OnOk result (out.new.items ≡ out.old.items ++ signed_decimal number) }
+    ensures behind { Behind out.old.items out.new.items }
+{
+    let mut digits = Buffer::new();
+    out.extend_from_slice(digits.format(number).as_bytes())
+}
+
+fn write_cell(out: &mut Vec<u8>, number: i128) -> Result<(), NoMemory>
+    ensures ok { OnOk result (out.new.items ≡ out.old.items ++ 44 ∷ signed_decimal number) }
+    ensures behind { Behind out.old.items out.new.items }
+{
+    out.push(b',')?;
+    write_number(out, number)
+}
+
+fn write_cells(out: &mut Vec<u8>, values: &[i128]) -> Result<(), NoMemory>
+    ensures ok { OnOk result (out.new.items ≡ out.old.items ++ cells values.now) }
+    ensures behind { Behind out.old.items out.new.items }
+{
+    for number in values {
+        write_cell(out, *number)?;
+    }
+    Ok(())
+}
+
+fn write_line(out: &mut Vec<u8>, window: u64, values: &[i128]) -> Result<(), NoMemory>
+    ensures ok { OnOk result (out.new.items ≡ out.old.items ++ line (pos window ∷ values.now)) }
+    ensures behind { Behind out.old.items out.new.items }
+{
+    write_window(out, window)?;
+    write_cells(out, values)?;
+    out.push(b'\n')?;
+    Ok(())
+}
+
+impl Pairs {
+    fn write_lines(&self, window: u64, out: &mut Vec<u8>) -> Result<(), NoMemory>
+        ensures ok { OnOk result (out.new.items ≡ out.old.items ++ lines_for window (values_in self.now)) }
+        ensures behind { Behind out.old.items out.new.items }
+    {
+        for values in self.pairs.values() {
+            write_line(out, window, values.as_slice())?;
+        }
+        Ok(())
+    }
+
+    /// Writes the lines of the pairs behind what `out` has, in the order of the pairs: each the
+    /// window's number and the values of the items in decimal, with commas between, and LF (this
+    /// project's rule). Where memory is wanting, `out` stays as it was.
+    pub(crate) fn lines(&self, window: u64, out: &mut Vec<u8>) -> Result<(), NoMemory>
+        ensures ok { OnOk result (out.new.items ≡ out.old.items ++ pair_lines window self.now) }
+        ensures err { OnErr result (out.new.items ≡ out.old.items) }
+    {
+        let start = out.len();
+        match self.write_lines(window, out) {
+            Ok(()) => Ok(()),
+            Err(want) => {
+                out.truncate(start);
+                Err(want)
+            }
+        }
+    }
+}

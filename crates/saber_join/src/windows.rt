@@ -1,0 +1,183 @@
+// The windows of a task, by number.
+ghost use Rattle.std.specs.Prelude.{◌≡◌, ◌+◌, ◌^◌, ◌<◌, ◌++◌, OnOk, IfOk};
+ghost use Rattle.std.specs.FinMap.{insert};
+ghost use Rattle.saber_plan.specs.Trees.{tree_of};
+ghost use Rattle.saber_plan.specs.Windows.{placed_after, mark_after, closed_count};
+ghost use Rattle.saber_plan.specs.Answers.{frame};
+ghost use Rattle.saber_plan.specs.Given.{IsRowOf, RowsFit};
+ghost use Rattle.saber_join.specs.Keeping.{noted, taken, HeldFits};
+ghost use Rattle.saber_join.specs.Open.{seen_held, held_in, AllFit, Changed, Grown, HoldsTask};
+
+use crate::held::Opened;
+use crate::join::Join;
+use saber_laws::{no_rows_no_part, rows_span, windows_get_pairs};
+use saber_plan::{Mark, NoMemory, Row};
+use std::alloc::Global;
+use std::collections::BTreeMap;
+
+// Keeps a row that is looked back on in one window.
+fn note_at<'a>(
+    alloc: Global,
+    windows: &mut BTreeMap<u64, Opened<'a>>,
+    window: u64,
+    row: &'a Row,
+    before: Mark,
+) -> Result<(), NoMemory>
+    requires { before.left + before.right < 2 ^ 62 }
+    ensures { OnOk result (seen_held windows.new.entries ≡ insert (seen_held windows.old.entries) window (noted (held_in (seen_held windows.old.entries) window) (record { row = row.now; before = before }))) }
+{
+    match windows.get_mut(&window) {
+        Some(held) => {
+            held.note(row, before)?;
+            Ok(())
+        }
+        None => {
+            let mut held = Opened::new(alloc);
+            held.note(row, before)?;
+            windows.insert(window, held)?;
+            Ok(())
+        }
+    }
+}
+
+// Keeps a row that is looked back on in each window from the one up to the other.
+fn note_row<'a>(
+    alloc: Global,
+    windows: &mut BTreeMap<u64, Opened<'a>>,
+    first: u64,
+    past: u64,
+    row: &'a Row,
+    before: Mark,
+) -> Result<(), NoMemory>
+    requires { before.left + before.right < 2 ^ 62 }
+    ensures { OnOk result (Changed (λ h. noted h (record { row = row.now; before = before })) first past (seen_held windows.old.entries) (seen_held windows.new.entries)) }
+{
+    for window in first..past {
+        note_at(alloc, windows, window, row, before)?;
+    }
+    Ok(())
+}
+
+// Takes a row of the task into one window.
+fn take_at<'a>(
+    alloc: Global,
+    join: &Join,
+    windows: &mut BTreeMap<u64, Opened<'a>>,
+    window: u64,
+    row: &'a Row,
+    before: Mark,
+) -> Result<(), NoMemory>
+    requires small { before.left + before.right < 2 ^ 62 }
+    requires row { IsRowOf (tree_of join.now) row.now }
+    requires held { HeldFits (tree_of join.now) (held_in (seen_held windows.old.entries) window) }
+    ensures { OnOk result (seen_held windows.new.entries ≡ insert (seen_held windows.old.entries) window (taken (tree_of join.now) (held_in (seen_held windows.old.entries) window) (record { row = row.now; before = before }))) }
+{
+    match windows.get_mut(&window) {
+        Some(held) => {
+            held.take(alloc, join, row, before)?;
+            Ok(())
+        }
+        None => {
+            let mut held = Opened::new(alloc);
+            held.take(alloc, join, row, before)?;
+            windows.insert(window, held)?;
+            Ok(())
+        }
+    }
+}
+
+// Takes a row of the task into each window from the one up to the other.
+fn take_row<'a>(
+    alloc: Global,
+    join: &Join,
+    windows: &mut BTreeMap<u64, Opened<'a>>,
+    first: u64,
+    past: u64,
+    row: &'a Row,
+    before: Mark,
+) -> Result<(), NoMemory>
+    requires small { before.left + before.right < 2 ^ 62 }
+    requires row { IsRowOf (tree_of join.now) row.now }
+    requires held { AllFit (tree_of join.now) (seen_held windows.old.entries) }
+    ensures { OnOk result (Changed (λ h. taken (tree_of join.now) h (record { row = row.now; before = before })) first past (seen_held windows.old.entries) (seen_held windows.new.entries)) }
+{
+    for window in first..past {
+        take_at(alloc, join, windows, window, row, before)?;
+    }
+    Ok(())
+}
+
+impl Join<'_> {
+    // Keeps rows that are looked back on in each window that has them, from window `closed` on.
+    fn note_rows<'a>(
+        &self,
+        alloc: Global,
+        windows: &mut BTreeMap<u64, Opened<'a>>,
+        closed: u64,
+        before: &Mark,
+        rows: &'a [Row],
+    ) -> Result<(), NoMemory>
+        requires fits { RowsFit (tree_of self.now) before.now rows.now }
+        requires held { AllFit (tree_of self.now) (seen_held windows.old.entries) }
+        ensures grown { OnOk result (Grown (frame (tree_of self.now)) noted closed (placed_after before.now rows.now) (seen_held windows.old.entries) (seen_held windows.new.entries)) }
+        ensures held { OnOk result (AllFit (tree_of self.now) (seen_held windows.new.entries)) }
+    {
+        self.has_windows();
+        rows_span();
+        let mut mark = *before;
+        for row in rows {
+            let (first, past) = self.row_windows(row, &mark);
+            note_row(alloc, windows, first.max(closed), past, row, mark)?;
+            mark = self.step(&mark, row);
+        }
+        Ok(())
+    }
+
+    // Takes the rows of a task into each window that has them, from window `closed` on.
+    fn take_rows<'a>(
+        &self,
+        alloc: Global,
+        windows: &mut BTreeMap<u64, Opened<'a>>,
+        closed: u64,
+        before: &Mark,
+        rows: &'a [Row],
+    ) -> Result<(), NoMemory>
+        requires fits { RowsFit (tree_of self.now) before.now rows.now }
+        requires held { AllFit (tree_of self.now) (seen_held windows.old.entries) }
+        ensures { OnOk result (Grown (frame (tree_of self.now)) (taken (tree_of self.now)) closed (placed_after before.now rows.now) (seen_held windows.old.entries) (seen_held windows.new.entries)) }
+    {
+        self.has_windows();
+        rows_span();
+        let mut mark = *before;
+        for row in rows {
+            let (first, past) = self.row_windows(row, &mark);
+            take_row(alloc, self, windows, first.max(closed), past, row, mark)?;
+            mark = self.step(&mark, row);
+        }
+        Ok(())
+    }
+
+    /// The windows of a task that aren't closed before it, each with its rows and pairs. The mark
+    /// stands before the rows that are looked back on, and `after` behind them.
+    pub(crate) fn windows_of<'a>(
+        &self,
+        alloc: Global,
+        before: &Mark,
+        after: &Mark,
+        back: &'a [Row],
+        rows: &'a [Row],
+    ) -> Result<BTreeMap<u64, Opened<'a>>, NoMemory>
+        requires fits { RowsFit (tree_of self.now) before.now (back.now ++ rows.now) }
+        requires after { after.now ≡ mark_after before.now back.now }
+        ensures { IfOk result (λ windows. HoldsTask (tree_of self.now) (closed_count (frame (tree_of self.now)) after.now) before.now back.now rows.now (seen_held windows.entries)) }
+    {
+        self.has_windows();
+        no_rows_no_part();
+        windows_get_pairs();
+        let mut windows = BTreeMap::new(alloc);
+        let closed = self.closed_below(after);
+        self.note_rows(alloc, &mut windows, closed, before, back)?;
+        self.take_rows(alloc, &mut windows, closed, after, rows)?;
+        Ok(windows)
+    }
+}
