@@ -264,6 +264,26 @@ fn pairs_by_places(rt: HostRuntime) -> Result<(), Fail> {
     Ok(())
 }
 
+// A merge into no pairs gives those that are merged.
+fn merged(alloc: Global, later: Pairs) -> Result<Pairs, NoMemory> {
+    let mut pairs = Pairs::empty(alloc);
+    pairs.merge(later)?;
+    Ok(pairs)
+}
+
+#[test]
+fn later_pairs_go_in(rt: HostRuntime) -> Result<(), Fail> {
+    let alloc = rt.alloc();
+    let mut later = Pairs::empty(alloc);
+    later.put([0, 3], vec![in alloc; 5, 6]?)?;
+    later.put([0, 1], vec![in alloc; 5, 7]?)?;
+    let pairs = merged(alloc, later)?;
+    let mut out = Vec::new(alloc);
+    pairs.lines(0, &mut out)?;
+    assert_eq!(rt; out.as_slice(), b"0,5,7\n0,5,6\n".as_slice());
+    Ok(())
+}
+
 // The rows leave a gap of a thousand million windows.
 #[test]
 fn a_gap_in_time(rt: HostRuntime) -> Result<(), Fail> {
