@@ -1,5 +1,5 @@
 -- Taking in a piece: what is written, and what stays open.
-use Rattle.std.proofs.Common.{◌≡◌, ℕ, zero, suc, ◌+◌, ◌-◌, ◌≤◌, ◌<◌, min, List, [], ◌++◌, map, filter, flat_map, length, take, slice_range, Bool, true, false, cond, not, nat_lt, nat_le, ◌==◌, Option, Some, None, refl, sym, ◌∙◌, ap, ap₂, subst, append-nil, length-take-le, le_refl, le_trans, lt_of_lt_of_le, zero-le, ⊎_elim, ℤ, arith}
+use Rattle.std.proofs.Common.{◌≡◌, ℕ, zero, suc, ◌+◌, ◌-◌, ◌≤◌, ◌<◌, min, List, [], ◌++◌, map, filter, flat_map, length, take, slice_range, Bool, true, false, cond, not, nat_lt, nat_le, ◌==◌, Option, Some, None, refl, sym, ◌∙◌, ap, ap₂, append-nil, le_trans, lt_of_lt_of_le, zero-le, ⊎_elim, ℤ, arith}
 use Rattle.std.specs.Option.{option_map_or}
 use Rattle.std.proofs.lemmas.Bool.{lt-ltb, le-leb, lt-leb, le-ltb, cases_lt, eqb-true, both_ways}
 use Rattle.std.proofs.lemmas.Bool.Decides.{nat_tests}
@@ -16,17 +16,20 @@ use Rattle.saber_plan.specs.declared.plans.Shape.{Shape}
 use Rattle.saber_plan.specs.declared.plans.Shape.TheVariants.{Select, Group, Join}
 use Rattle.saber_plan.specs.Trees.{Tree}
 use Rattle.saber_plan.specs.Values.{passes}
-use Rattle.saber_plan.specs.Windows.{Frame, Fits, no_rows, mark_after, mark_of, begun_count, closed_count, Ordered, kind_of, inside, from}
+use Rattle.saber_plan.specs.Inputs.{Input, arrived}
+use Rattle.saber_plan.specs.Windows.{Frame, Fits, no_rows, mark_at, begun_count, closed_count, Ordered, kind_of, inside, from}
 use Rattle.saber_plan.specs.Answers.{key_cmp, groups, pairs, pair_answers, passing, entry_lines, by_shape, frame, lines, line, item_value, selected, window_text, text}
 use Rattle.saber_plan.specs.Merges.{join}
 use Rattle.saber_plan.specs.Parts.{Part, no_part, part, part_lines, answers_of, Numbers, join_numbers, merge}
-use Rattle.saber_plan.specs.Tasks.{full, numbered, Parts, unclosed, is_part, is_complete, whole_lines, piece_between, taken_in, written_by, left_by}
-use Rattle.saber_plan.specs.MapFacts.{get-both, both_empty_left, both_empty_right, entries-empty}
-use Rattle.saber_laws.proofs.PartLaws.{total, exact, merge-empty_left, merge-empty_right}
-use Rattle.saber_laws.proofs.WindowLaws.{closed_is, begun_is, closed_count_rises, begun_count_rises, closed_within_begun}
-use Rattle.saber_laws.proofs.RowLaws.{mark-append, slice-join, slice-front, Ordered-slice}
+use Rattle.saber_plan.specs.Shares.{full, numbered, is_complete, shares_between}
+use Rattle.saber_plan.specs.Tasks.{Parts, unclosed, piece_between, taken_in, written_by, left_by}
+use Rattle.saber_plan.specs.MapFacts.{get-both, both_empty_left, entries-empty}
+use Rattle.saber_plan.specs.ListFacts.{slice-join, slice-front}
+use Rattle.saber_plan.specs.PartFacts.{total, exact, merge-empty_left, merge-empty_right}
+use Rattle.saber_laws.proofs.DirectLaws.{is_part, parts_between}
+use Rattle.saber_laws.proofs.WindowLaws.{closed_is, begun_is, closed_within_begun}
 use Rattle.saber_laws.proofs.NumberedLaws.{from-append, get_low, get_high, get_in, entries-numbered, flat_map-numbered, flat_map-from, filter_all, filter_none}
-use Rattle.saber_laws.proofs.ShareLaws.{part-join, part-not_begun, part-closed, part-take, lines-upto, lines-stay}
+use Rattle.saber_laws.proofs.EndLaws.{closed_rises, begun_rises, join_at, part_upto, part_not_begun, lines_upto, lines_stay}
 
 -- ---- parts that aren't empty
 
@@ -36,7 +39,7 @@ full-none p e = empty_of_len p (eqb-true (len p) 0 e)
 full-empty : full no_part ≡ None
 full-empty = ap (λ n. cond (n == 0) None (Some no_part)) (len-empty key_cmp Numbers)
 
-full-of_empty : (p : Part) → p ≡ no_part → full p ≡ None
+pub full-of_empty : (p : Part) → p ≡ no_part → full p ≡ None
 full-of_empty p e = ap full e ∙ full-empty
 
 full-some : (p : Part) → (len p == 0) ≡ false → full p ≡ Some p
@@ -88,56 +91,39 @@ open_not_complete ca ga cb gb i h1 h2 h3 = grind (arith, nat_tests)
 part_or_complete : (ca ga cb gb i : ℕ) → ca ≤ i → i < gb → (p : Option Part) → cond (not (is_complete (count_kind ca ga cb gb i))) p None ≡ cond (is_part (count_kind ca ga cb gb i)) p None
 part_or_complete ca ga cb gb i h1 h2 p = grind (arith, nat_tests)
 
--- ---- the marks of a cut
-
-pub mark_on : (xs : List Row) (x y : ℕ) → x ≤ y → mark_of (take y xs) ≡ mark_after (mark_of (take x xs)) (slice_range xs x y)
-mark_on xs x y a = ap mark_of (sym (slice-front xs y) ∙ slice-join xs 0 x y zero-le a ∙ ap (λ l. l ++ slice_range xs x y) (slice-front xs x)) ∙ mark-append no_rows (take x xs) (slice_range xs x y)
-
-pub closed_rises : (f : Frame) → Fits f → (xs : List Row) (x y : ℕ) → Ordered no_rows xs → x ≤ y → closed_count f (mark_of (take x xs)) ≤ closed_count f (mark_of (take y xs))
-closed_rises f w xs x y o a = subst (λ m. closed_count f (mark_of (take x xs)) ≤ closed_count f m) (sym (mark_on xs x y a)) (closed_count_rises f w (mark_of (take x xs)) (slice_range xs x y) (Ordered-slice x y xs o))
-
-pub begun_rises : (f : Frame) → Fits f → (xs : List Row) (x y : ℕ) → Ordered no_rows xs → x ≤ y → begun_count f (mark_of (take x xs)) ≤ begun_count f (mark_of (take y xs))
-begun_rises f w xs x y o a = subst (λ m. begun_count f (mark_of (take x xs)) ≤ begun_count f m) (sym (mark_on xs x y a)) (begun_count_rises f w (mark_of (take x xs)) (slice_range xs x y) (Ordered-slice x y xs o))
-
 -- ---- what a window has in the open parts and in a piece
 
-part-beyond : (q : Tree) → Fits (frame q) → (i : ℕ) (xs : List Row) (y : ℕ) → Ordered no_rows xs → begun_count (frame q) (mark_of (take y xs)) ≤ i → part q i xs 0 y ≡ no_part
-part-beyond q w i xs y o h = part-not_begun q i xs y o (sym (begun_is (frame q) w i (mark_of (take y xs))) ∙ le-ltb i _ h)
+part-beyond : (q : Tree) → Fits (frame q) → (i : ℕ) (r : Input) (y : ℕ) → Ordered no_rows r.rows → begun_count (frame q) (mark_at r y) ≤ i → part q i r.rows 0 y ≡ no_part
+part-beyond q w i r y o h = part_not_begun q i r y o (sym (begun_is (frame q) w i (mark_at r y)) ∙ le-ltb i _ h)
 
-whole_part : (q : Tree) (i : ℕ) (xs : List Row) (y : ℕ) → y ≤ length xs → part q i (take y xs) 0 (length (take y xs)) ≡ part q i xs 0 y
-whole_part q i xs y h = ap (part q i (take y xs) 0) (length-take-le y xs h) ∙ part-take q i xs 0 y y zero-le (le_refl y)
-
-unclosed_at : (q : Tree) → Fits (frame q) → (xs : List Row) (y i : ℕ) → Ordered no_rows xs → y ≤ length xs → closed_count (frame q) (mark_of (take y xs)) ≤ i → get (unclosed q (take y xs)) i ≡ full (part q i xs 0 y)
+unclosed_at : (q : Tree) → Fits (frame q) → (r : Input) (y i : ℕ) → Ordered no_rows r.rows → closed_count (frame q) (mark_at r y) ≤ i → get (unclosed q (arrived r y)) i ≡ full (part q i r.rows 0 y)
 unfolding unclosed
-unclosed_at q w xs y i o h l =
-    let c = closed_count (frame q) (mark_of (take y xs)) in
-    let g = begun_count (frame q) (mark_of (take y xs)) in
-    let f = λ (k : ℕ). full (part q k (take y xs) 0 (length (take y xs))) in
-    ⊎_elim (λ b. get_in i c (g - c) f l (omega (arith, l, b)) ∙ ap full (whole_part q i xs y h))
-    (λ b. get_high i c (g - c) f (omega (arith, l, b, closed_within_begun (frame q) w (mark_of (take y xs)))) ∙ sym (full-of_empty _ (part-beyond q w i xs y o b))) (cases_lt i g)
+unclosed_at q w r y i o l =
+    let c = closed_count (frame q) (mark_at r y) in
+    let g = begun_count (frame q) (mark_at r y) in
+    let f = λ (k : ℕ). full (part q k (take y r.rows) 0 (length (take y r.rows))) in
+    ⊎_elim (λ b. get_in i c (g - c) f l (omega (arith, l, b)) ∙ ap full (part_upto q i r.rows y))
+    (λ b. get_high i c (g - c) f (omega (arith, l, b, closed_within_begun (frame q) w (mark_at r y))) ∙ sym (full-of_empty _ (part-beyond q w i r y o b))) (cases_lt i g)
 
-unclosed_low : (q : Tree) (xs : List Row) (y i : ℕ) → i < closed_count (frame q) (mark_of (take y xs)) → get (unclosed q (take y xs)) i ≡ None
+unclosed_low : (q : Tree) (r : Input) (y i : ℕ) → i < closed_count (frame q) (mark_at r y) → get (unclosed q (arrived r y)) i ≡ None
 unfolding unclosed
-unclosed_low q xs y i l = get_low i _ _ _ l
+unclosed_low q r y i l = get_low i _ _ _ l
 
-abbrev piece_entry : Tree → List Row → ℕ → ℕ → ℕ → Option Part
-piece_entry q xs x y i = cond (is_part (kind_of (frame q) i (mark_of (take x xs)) (mark_of (take y xs)))) (full (part q i xs x y)) None
+abbrev piece_entry : Tree → Input → ℕ → ℕ → ℕ → Option Part
+piece_entry q r x y i = cond (is_part (kind_of (frame q) i (mark_at r x) (mark_at r y))) (full (part q i r.rows x y)) None
 
-piece_in : (q : Tree) (xs : List Row) (x y i : ℕ) → closed_count (frame q) (mark_of (take x xs)) ≤ i → i < begun_count (frame q) (mark_of (take y xs)) → get (piece_between q xs x y).parts i ≡ piece_entry q xs x y i
-unfolding piece_between
-piece_in q xs x y i l b = get_in i _ _ (piece_entry q xs x y) l (omega (arith, l, b))
+piece_in : (q : Tree) (r : Input) (x y i : ℕ) → closed_count (frame q) (mark_at r x) ≤ i → i < begun_count (frame q) (mark_at r y) → get (piece_between q r x y).parts i ≡ piece_entry q r x y i
+piece_in q r x y i l b = ap (λ m. get m i) (parts_between q r x y) ∙ get_in i _ _ (piece_entry q r x y) l (omega (arith, l, b))
 
-piece_low : (q : Tree) (xs : List Row) (x y i : ℕ) → i < closed_count (frame q) (mark_of (take x xs)) → get (piece_between q xs x y).parts i ≡ None
-unfolding piece_between
-piece_low q xs x y i l = get_low i _ _ _ l
+piece_low : (q : Tree) (r : Input) (x y i : ℕ) → i < closed_count (frame q) (mark_at r x) → get (piece_between q r x y).parts i ≡ None
+piece_low q r x y i l = ap (λ m. get m i) (parts_between q r x y) ∙ get_low i _ _ (piece_entry q r x y) l
 
-piece_high : (q : Tree) (xs : List Row) (x y i : ℕ) → closed_count (frame q) (mark_of (take x xs)) ≤ begun_count (frame q) (mark_of (take y xs)) → begun_count (frame q) (mark_of (take y xs)) ≤ i → get (piece_between q xs x y).parts i ≡ None
-unfolding piece_between
-piece_high q xs x y i r l = get_high i _ _ _ (omega (arith, l, r))
+piece_high : (q : Tree) (r : Input) (x y i : ℕ) → closed_count (frame q) (mark_at r x) ≤ begun_count (frame q) (mark_at r y) → begun_count (frame q) (mark_at r y) ≤ i → get (piece_between q r x y).parts i ≡ None
+piece_high q r x y i rises l = ap (λ m. get m i) (parts_between q r x y) ∙ get_high i _ _ (piece_entry q r x y) (omega (arith, l, rises))
 
-piece_closed : (q : Tree) (xs : List Row) (x y : ℕ) → (piece_between q xs x y).closed ≡ closed_count (frame q) (mark_of (take y xs))
-unfolding piece_between
-piece_closed q xs x y = refl
+piece_closed : (q : Tree) (r : Input) (x y : ℕ) → (piece_between q r x y).closed ≡ closed_count (frame q) (mark_at r y)
+unfolding piece_between shares_between
+piece_closed q r x y = refl
 
 nothing_from : {B : Type 0} (f : ℕ → List B) (a n : ℕ) → ((i : ℕ) → f i ≡ []) → flat_map f (from a n) ≡ []
 unfolding from
@@ -148,71 +134,78 @@ no_lines : (q : Tree) → q.shape ≡ Select → (i : ℕ) (xs : List Row) → l
 unfolding lines
 no_lines q e i xs = ap (λ s. entry_lines i (by_shape s [] (groups q (passing q (inside (frame q) i xs 0 (length xs)))) (pairs q (pair_answers q) (inside (frame q) i xs 0 (length xs))))) e
 
+-- the lines of the windows that lie whole between positions x and y
+abbrev whole_lines : Tree → Input → ℕ → ℕ → List ℕ
+whole_lines q r x y =
+    let a = mark_at r x in
+    let b = mark_at r y in
+    flat_map (λ i. lines q i (take y r.rows)) (filter (λ i. is_complete (kind_of (frame q) i a b)) (from (closed_count (frame q) a) (begun_count (frame q) b - closed_count (frame q) a)))
+
 -- a piece of rows x to y of a list, with what it needs
-module _ (q : Tree) (w : Fits (frame q)) (xs : List Row) (x y : ℕ) (o : Ordered no_rows xs) (a : x ≤ y) (h : y ≤ length xs) where
+module _ (q : Tree) (w : Fits (frame q)) (r : Input) (x y : ℕ) (o : Ordered no_rows r.rows) (a : x ≤ y) where
   abbrev ca : ℕ
-  ca = closed_count (frame q) (mark_of (take x xs))
+  ca = closed_count (frame q) (mark_at r x)
 
   abbrev ga : ℕ
-  ga = begun_count (frame q) (mark_of (take x xs))
+  ga = begun_count (frame q) (mark_at r x)
 
   abbrev cb : ℕ
-  cb = closed_count (frame q) (mark_of (take y xs))
+  cb = closed_count (frame q) (mark_at r y)
 
   abbrev gb : ℕ
-  gb = begun_count (frame q) (mark_of (take y xs))
+  gb = begun_count (frame q) (mark_at r y)
 
   ca_cb : ca ≤ cb
-  ca_cb = closed_rises (frame q) w xs x y o a
+  ca_cb = closed_rises (frame q) w r x y o a
 
   ca_ga : ca ≤ ga
-  ca_ga = closed_within_begun (frame q) w (mark_of (take x xs))
+  ca_ga = closed_within_begun (frame q) w (mark_at r x)
 
   cb_gb : cb ≤ gb
-  cb_gb = closed_within_begun (frame q) w (mark_of (take y xs))
+  cb_gb = closed_within_begun (frame q) w (mark_at r y)
 
   ga_gb : ga ≤ gb
-  ga_gb = begun_rises (frame q) w xs x y o a
+  ga_gb = begun_rises (frame q) w r x y o a
 
   -- after the merge each window that isn't closed at x and whose part isn't whole in the piece has its part
-  merged_at : (i : ℕ) → ca ≤ i → (i < gb → is_part (kind_of (frame q) i (mark_of (take x xs)) (mark_of (take y xs))) ≡ true) → get (taken_in q (unclosed q (take x xs)) (piece_between q xs x y)) i ≡ full (part q i xs 0 y)
+  merged_at : (i : ℕ) → ca ≤ i → (i < gb → is_part (kind_of (frame q) i (mark_at r x) (mark_at r y)) ≡ true) → get (taken_in q (unclosed q (arrived r x)) (piece_between q r x y)) i ≡ full (part q i r.rows 0 y)
   merged_at i l part_here =
-      get-both nat_cmp_total merge (unclosed q (take x xs)) (piece_between q xs x y).parts i
-      ∙ ap (λ p. join merge p (get (piece_between q xs x y).parts i)) (unclosed_at q w xs x i o (le_trans a h) l)
+      get-both nat_cmp_total merge (unclosed q (arrived r x)) (piece_between q r x y).parts i
+      ∙ ap (λ p. join merge p (get (piece_between q r x y).parts i)) (unclosed_at q w r x i o l)
       ∙ ⊎_elim
-      (λ b. ap (join merge (full (part q i xs 0 x))) (piece_in q xs x y i l b ∙ ap (λ c. cond c (full (part q i xs x y)) None) (part_here b))
-      ∙ sym (full-merge (part q i xs 0 x) (part q i xs x y)) ∙ ap full (sym (part-join q i xs 0 x y zero-le a (le_trans a h))))
-      (λ b. ap₂ (join merge) (full-of_empty _ (part-beyond q w i xs x o (le_trans ga_gb b))) (piece_high q xs x y i (le_trans ca_cb cb_gb) b)
-      ∙ sym (full-of_empty _ (part-beyond q w i xs y o b)))
+      (λ b. ap (join merge (full (part q i r.rows 0 x))) (piece_in q r x y i l b ∙ ap (λ c. cond c (full (part q i r.rows x y)) None) (part_here b))
+      ∙ sym (full-merge (part q i r.rows 0 x) (part q i r.rows x y)) ∙ ap full (sym (join_at q i r.rows 0 x y zero-le a)))
+      (λ b. ap₂ (join merge) (full-of_empty _ (part-beyond q w i r x o (le_trans ga_gb b))) (piece_high q r x y i (le_trans ca_cb cb_gb) b)
+      ∙ sym (full-of_empty _ (part-beyond q w i r y o b)))
       (cases_lt i gb)
 
-  merged_low : (i : ℕ) → i < ca → get (taken_in q (unclosed q (take x xs)) (piece_between q xs x y)) i ≡ None
-  merged_low i l = get-both nat_cmp_total merge (unclosed q (take x xs)) (piece_between q xs x y).parts i ∙ ap₂ (join merge) (unclosed_low q xs x i l) (piece_low q xs x y i l)
+  merged_low : (i : ℕ) → i < ca → get (taken_in q (unclosed q (arrived r x)) (piece_between q r x y)) i ≡ None
+  merged_low i l = get-both nat_cmp_total merge (unclosed q (arrived r x)) (piece_between q r x y).parts i ∙ ap₂ (join merge) (unclosed_low q r x i l) (piece_low q r x y i l)
 
-  kind_here : (i : ℕ) → kind_of (frame q) i (mark_of (take x xs)) (mark_of (take y xs)) ≡ count_kind ca ga cb gb i
-  kind_here i = kind_is (frame q) w i (mark_of (take x xs)) (mark_of (take y xs))
+  kind_here : (i : ℕ) → kind_of (frame q) i (mark_at r x) (mark_at r y) ≡ count_kind ca ga cb gb i
+  kind_here i = kind_is (frame q) w i (mark_at r x) (mark_at r y)
 
   -- a window that lies whole in the piece has nothing in the merge
-  merged_whole : (i : ℕ) → ga ≤ i → i < cb → get (taken_in q (unclosed q (take x xs)) (piece_between q xs x y)) i ≡ None
+  merged_whole : (i : ℕ) → ga ≤ i → i < cb → get (taken_in q (unclosed q (arrived r x)) (piece_between q r x y)) i ≡ None
   merged_whole i b l =
-      get-both nat_cmp_total merge (unclosed q (take x xs)) (piece_between q xs x y).parts i
-      ∙ ap₂ (join merge) (unclosed_at q w xs x i o (le_trans a h) (le_trans ca_ga b) ∙ full-of_empty _ (part-beyond q w i xs x o b))
-      (piece_in q xs x y i (le_trans ca_ga b) (lt_of_lt_of_le l cb_gb) ∙ ap (λ k. cond (is_part k) (full (part q i xs x y)) None) (kind_here i ∙ complete_here ca ga cb gb i ca_ga b l cb_gb))
+      get-both nat_cmp_total merge (unclosed q (arrived r x)) (piece_between q r x y).parts i
+      ∙ ap₂ (join merge) (unclosed_at q w r x i o (le_trans ca_ga b) ∙ full-of_empty _ (part-beyond q w i r x o b))
+      (piece_in q r x y i (le_trans ca_ga b) (lt_of_lt_of_le l cb_gb) ∙ ap (λ k. cond (is_part k) (full (part q i r.rows x y)) None) (kind_here i ∙ complete_here ca ga cb gb i ca_ga b l cb_gb))
 
   kept_at : (p : ℕ → Bool) (i : ℕ) (m : Parts) → get (retain_keys m p) i ≡ cond (p i) (get m i) None
   kept_at p i m = get-retain_keys m p i (λ k e. ap p (sym (nat_cmp-IsAntisymmetric i k e)))
 
   -- what stays open is what the rows up to y leave open
-  pub open_law : left_by q (unclosed q (take x xs)) (piece_between q xs x y) ≡ unclosed q (take y xs)
+  pub open_law : left_by q (unclosed q (arrived r x)) (piece_between q r x y) ≡ unclosed q (arrived r y)
   unfolding left_by
   open_law = same_map nat_cmp_total nat_cmp-IsAntisymmetric _ _ (λ i.
-      kept_at (λ k. nat_le (piece_between q xs x y).closed k) i (taken_in q (unclosed q (take x xs)) (piece_between q xs x y))
-      ∙ ap (λ c. cond (nat_le c i) (get (taken_in q (unclosed q (take x xs)) (piece_between q xs x y)) i) None) (piece_closed q xs x y)
+      kept_at (λ k. nat_le (piece_between q r x y).closed k) i (taken_in q (unclosed q (arrived r x)) (piece_between q r x y))
+      ∙ ap (λ c. cond (nat_le c i) (get (taken_in q (unclosed q (arrived r x)) (piece_between q r x y)) i) None) (piece_closed q r x y)
       ∙ ⊎_elim
-      (λ l. ap (λ b. cond b (get (taken_in q (unclosed q (take x xs)) (piece_between q xs x y)) i) None) (lt-leb cb i l) ∙ sym (unclosed_low q xs y i l))
-      (λ l. ap (λ b. cond b (get (taken_in q (unclosed q (take x xs)) (piece_between q xs x y)) i) None) (le-leb cb i l)
+      (λ l. ap (λ b. cond b (get (taken_in q (unclosed q (arrived r x)) (piece_between q r x y)) i) None) (lt-leb cb i l) ∙ sym (unclosed_low q r y i l))
+      (λ l. ap (λ b. cond b (get (taken_in q (unclosed q (arrived r x)) (piece_between q r x y)) i) None) (le-leb cb i l)
       ∙ merged_at i (le_trans ca_cb l) (λ b. ap is_part (kind_here i) ∙ open_here ca ga cb gb i ca_cb l b)
-      ∙ sym (unclosed_at q w xs y i o h l))
+      ∙ sym (unclosed_at q w r y i o l))
       (cases_lt i cb))
 
   -- ---- what is written
@@ -224,12 +217,12 @@ module _ (q : Tree) (w : Fits (frame q)) (xs : List Row) (x y : ℕ) (o : Ordere
   ca_mid : ca ≤ mid
   ca_mid = omega (arith, ca_cb, ca_ga)
 
-  closing_parts : retain_keys (taken_in q (unclosed q (take x xs)) (piece_between q xs x y)) (λ i. nat_lt i (piece_between q xs x y).closed) ≡ from_entries (numbered ca (mid - ca) (λ i. full (part q i xs 0 y)))
+  closing_parts : retain_keys (taken_in q (unclosed q (arrived r x)) (piece_between q r x y)) (λ i. nat_lt i (piece_between q r x y).closed) ≡ from_entries (numbered ca (mid - ca) (λ i. full (part q i r.rows 0 y)))
   closing_parts = same_map nat_cmp_total nat_cmp-IsAntisymmetric _ _ (λ i.
-      let merged = get (taken_in q (unclosed q (take x xs)) (piece_between q xs x y)) i in
-      let f = λ (k : ℕ). full (part q k xs 0 y) in
-      kept_at (λ k. nat_lt k (piece_between q xs x y).closed) i (taken_in q (unclosed q (take x xs)) (piece_between q xs x y))
-      ∙ ap (λ c. cond (nat_lt i c) merged None) (piece_closed q xs x y)
+      let merged = get (taken_in q (unclosed q (arrived r x)) (piece_between q r x y)) i in
+      let f = λ (k : ℕ). full (part q k r.rows 0 y) in
+      kept_at (λ k. nat_lt k (piece_between q r x y).closed) i (taken_in q (unclosed q (arrived r x)) (piece_between q r x y))
+      ∙ ap (λ c. cond (nat_lt i c) merged None) (piece_closed q r x y)
       ∙ ⊎_elim
       (λ l. ap (λ b. cond b merged None) (lt-ltb i cb l) ∙ ⊎_elim
       (λ k. merged_low i k ∙ sym (get_low i ca (mid - ca) f k))
@@ -241,20 +234,20 @@ module _ (q : Tree) (w : Fits (frame q)) (xs : List Row) (x y : ℕ) (o : Ordere
       (λ l. ap (λ b. cond b merged None) (le-ltb i cb l) ∙ sym (get_high i ca (mid - ca) f (omega (arith, l, ca_mid))))
       (cases_lt i cb))
 
-  lines_at : (i : ℕ) → option_map_or (λ m. part_lines q i m) (full (part q i xs 0 y)) [] ≡ lines q i (take y xs)
-  lines_at i = full-lines q i (part q i xs 0 y) _ refl ∙ sym (lines-upto q i xs y h)
+  lines_at : (i : ℕ) → option_map_or (λ m. part_lines q i m) (full (part q i r.rows 0 y)) [] ≡ lines q i (take y r.rows)
+  lines_at i = full-lines q i (part q i r.rows 0 y) _ refl ∙ sym (lines_upto q i r.rows y)
 
-  closing_lines : flat_map (λ e. part_lines q e.0 e.1) (entries (retain_keys (taken_in q (unclosed q (take x xs)) (piece_between q xs x y)) (λ i. nat_lt i (piece_between q xs x y).closed))) ≡ flat_map (λ i. lines q i (take y xs)) (from ca (mid - ca))
+  closing_lines : flat_map (λ e. part_lines q e.0 e.1) (entries (retain_keys (taken_in q (unclosed q (arrived r x)) (piece_between q r x y)) (λ i. nat_lt i (piece_between q r x y).closed))) ≡ flat_map (λ i. lines q i (take y r.rows)) (from ca (mid - ca))
   closing_lines =
-      let f = λ (k : ℕ). full (part q k xs 0 y) in
+      let f = λ (k : ℕ). full (part q k r.rows 0 y) in
       ap (λ m. flat_map (λ e. part_lines q e.0 e.1) (entries m)) closing_parts
       ∙ ap (flat_map (λ e. part_lines q e.0 e.1)) (entries-numbered ca (mid - ca) f)
       ∙ flat_map-numbered (λ e. part_lines q e.0 e.1) ca (mid - ca) f
-      ∙ flat_map-from (λ i. option_map_or (λ m. part_lines q i m) (full (part q i xs 0 y)) []) (λ i. lines q i (take y xs)) ca (mid - ca) (λ i l b. lines_at i)
+      ∙ flat_map-from (λ i. option_map_or (λ m. part_lines q i m) (full (part q i r.rows 0 y)) []) (λ i. lines q i (take y r.rows)) ca (mid - ca) (λ i l b. lines_at i)
 
-  complete_numbers : filter (λ i. is_complete (kind_of (frame q) i (mark_of (take x xs)) (mark_of (take y xs)))) (from ca (gb - ca)) ≡ from mid (cb - mid)
+  complete_numbers : filter (λ i. is_complete (kind_of (frame q) i (mark_at r x) (mark_at r y))) (from ca (gb - ca)) ≡ from mid (cb - mid)
   complete_numbers =
-      let p = λ (i : ℕ). is_complete (kind_of (frame q) i (mark_of (take x xs)) (mark_of (take y xs))) in
+      let p = λ (i : ℕ). is_complete (kind_of (frame q) i (mark_at r x) (mark_at r y)) in
       let lengths : gb - ca ≡ (mid - ca) + ((cb - mid) + (gb - cb)) = omega (arith, ca_mid, cb_gb, ca_cb) in
       let there : ca + (mid - ca) ≡ mid = omega (arith, ca_mid) in
       let then : mid + (cb - mid) ≡ cb = omega arith in
@@ -268,9 +261,9 @@ module _ (q : Tree) (w : Fits (frame q)) (xs : List Row) (x y : ℕ) (o : Ordere
       ∙ append-nil _
 
   -- the windows that are closed between x and y: first those that were begun before, then those that lie whole
-  window_lines : window_text q (take y xs) ≡ window_text q (take x xs) ++ (flat_map (λ i. lines q i (take y xs)) (from ca (mid - ca)) ++ whole_lines q xs x y)
+  window_lines : window_text q (arrived r y) ≡ window_text q (arrived r x) ++ (flat_map (λ i. lines q i (take y r.rows)) (from ca (mid - ca)) ++ whole_lines q r x y)
   window_lines =
-      let g = λ (i : ℕ). lines q i (take y xs) in
+      let g = λ (i : ℕ). lines q i (take y r.rows) in
       let lengths : cb ≡ ca + ((mid - ca) + (cb - mid)) = omega (arith, ca_mid, ca_cb) in
       let there : ca + (mid - ca) ≡ mid = omega (arith, ca_mid) in
       let front : 0 + ca ≡ ca = omega arith in
@@ -278,87 +271,27 @@ module _ (q : Tree) (w : Fits (frame q)) (xs : List Row) (x y : ℕ) (o : Ordere
       ap (from 0) lengths ∙ from-append 0 ca ((mid - ca) + (cb - mid)) ∙ ap (λ n. from 0 ca ++ from n ((mid - ca) + (cb - mid))) front
       ∙ ap (λ l. from 0 ca ++ l) (from-append ca (mid - ca) (cb - mid) ∙ ap (λ n. from ca (mid - ca) ++ from n (cb - mid)) there) in
       ap (flat_map g) cut ∙ flat_map-append g (from 0 ca) (from ca (mid - ca) ++ from mid (cb - mid)) ∙ ap (λ l. flat_map g (from 0 ca) ++ l) (flat_map-append g (from ca (mid - ca)) (from mid (cb - mid)))
-      ∙ (λ j. flat_map-from g (λ i. lines q i (take x xs)) 0 ca (λ i l b. lines-stay q i xs x y o a h (sym (closed_is (frame q) w i (mark_of (take x xs))) ∙ lt-ltb i ca (omega (arith, b)))) j
+      ∙ (λ j. flat_map-from g (λ i. lines q i (take x r.rows)) 0 ca (λ i l b. lines_stay q i r x y o a (sym (closed_is (frame q) w i (mark_at r x)) ∙ lt-ltb i ca (omega (arith, b)))) j
       ++ (flat_map g (from ca (mid - ca)) ++ flat_map g (sym complete_numbers j)))
 
-  select_rows : selected q (take y xs) ≡ selected q (take x xs) ++ selected q (slice_range xs x y)
+  select_rows : selected q (take y r.rows) ≡ selected q (take x r.rows) ++ selected q (slice_range r.rows x y)
   select_rows =
+      let xs = r.rows in
       let p = λ (zs : List ℤ). passes q.predicate zs [] in
       let g = λ (zs : List ℤ). line (map (item_value zs []) q.items) in
-      ap (selected q) (sym (slice-front xs y) ∙ slice-join xs 0 x y zero-le a ∙ ap (λ l. l ++ slice_range xs x y) (slice-front xs x))
-      ∙ ap (λ l. flat_map g (filter p l)) (map-append (λ r. r.values) (take x xs) (slice_range xs x y))
-      ∙ ap (flat_map g) (filter-append p (map (λ r. r.values) (take x xs)) (map (λ r. r.values) (slice_range xs x y)))
-      ∙ flat_map-append g (filter p (map (λ r. r.values) (take x xs))) (filter p (map (λ r. r.values) (slice_range xs x y)))
+      ap (selected q) (sym (slice-front xs y) ∙ slice-join xs 0 x y zero-le a ∙ ap (λ l. l ++ slice_range r.rows x y) (slice-front xs x))
+      ∙ ap (λ l. flat_map g (filter p l)) (map-append (λ r. r.values) (take x xs) (slice_range r.rows x y))
+      ∙ ap (flat_map g) (filter-append p (map (λ r. r.values) (take x xs)) (map (λ r. r.values) (slice_range r.rows x y)))
+      ∙ flat_map-append g (filter p (map (λ r. r.values) (take x xs))) (filter p (map (λ r. r.values) (slice_range r.rows x y)))
 
-  text_parts : (s : Shape) → q.shape ≡ s → by_shape s (selected q (take y xs)) (window_text q (take y xs)) (window_text q (take y xs))
-      ≡ by_shape s (selected q (take x xs)) (window_text q (take x xs)) (window_text q (take x xs))
-      ++ (flat_map (λ i. lines q i (take y xs)) (from ca (mid - ca)) ++ by_shape s (selected q (slice_range xs x y)) (whole_lines q xs x y) (whole_lines q xs x y))
-  text_parts Select e = select_rows ∙ ap (λ l. selected q (take x xs) ++ (l ++ selected q (slice_range xs x y))) (sym (nothing_from (λ i. lines q i (take y xs)) ca (mid - ca) (λ i. no_lines q e i (take y xs))))
+  text_parts : (s : Shape) → q.shape ≡ s → by_shape s (selected q (take y r.rows)) (window_text q (arrived r y)) (window_text q (arrived r y))
+      ≡ by_shape s (selected q (take x r.rows)) (window_text q (arrived r x)) (window_text q (arrived r x))
+      ++ (flat_map (λ i. lines q i (take y r.rows)) (from ca (mid - ca)) ++ by_shape s (selected q (slice_range r.rows x y)) (whole_lines q r x y) (whole_lines q r x y))
+  text_parts Select e = select_rows ∙ ap (λ l. selected q (take x r.rows) ++ (l ++ selected q (slice_range r.rows x y))) (sym (nothing_from (λ i. lines q i (take y r.rows)) ca (mid - ca) (λ i. no_lines q e i (take y r.rows))))
   text_parts Group e = window_lines
   text_parts Join e = window_lines
 
   -- the text up to y is that up to x, and then what is written
-  pub text_law : text q (take y xs) ≡ text q (take x xs) ++ written_by q (unclosed q (take x xs)) (piece_between q xs x y)
-  unfolding text written_by piece_between
-  text_law = text_parts q.shape refl ∙ ap (λ l. by_shape q.shape (selected q (take x xs)) (window_text q (take x xs)) (window_text q (take x xs)) ++ (l ++ by_shape q.shape (selected q (slice_range xs x y)) (whole_lines q xs x y) (whole_lines q xs x y))) (sym closing_lines)
-
-  -- ---- what a fragment makes of a map of all parts of its rows
-
-  part_low : (i : ℕ) → i < ca → part q i xs x y ≡ no_part
-  part_low i l = part-closed q i xs x y o a (sym (closed_is (frame q) w i (mark_of (take x xs))) ∙ lt-ltb i ca l)
-
-  part_high : (i : ℕ) → gb ≤ i → part q i xs x y ≡ no_part
-  part_high i l = both_empty_right total join_numbers exact (part q i xs 0 x) (part q i xs x y) (sym (part-join q i xs 0 x y zero-le a (le_trans a h)) ∙ part-beyond q w i xs y o l)
-
-  choose_part : (i : ℕ) → ca ≤ i → i < gb → (b : Option Part) → cond (not (is_complete (kind_of (frame q) i (mark_of (take x xs)) (mark_of (take y xs))))) b None ≡ cond (is_part (kind_of (frame q) i (mark_of (take x xs)) (mark_of (take y xs)))) b None
-  choose_part i l b p = ap (λ k. cond (not (is_complete k)) p None) (kind_here i) ∙ part_or_complete ca ga cb gb i l b p ∙ sym (ap (λ k. cond (is_part k) p None) (kind_here i))
-
-  nothing_there : (b : Bool) (p : Option Part) → p ≡ None → cond b p None ≡ None
-  nothing_there true p e = e
-  nothing_there false p e = refl
-
-  -- of a map of all parts, those that aren't complete are the piece's parts
-  pub parts_law : (m : Parts) → ((i : ℕ) → get m i ≡ full (part q i xs x y)) → retain_keys m (λ i. not (is_complete (kind_of (frame q) i (mark_of (take x xs)) (mark_of (take y xs))))) ≡ (piece_between q xs x y).parts
-  parts_law m all = same_map nat_cmp_total nat_cmp-IsAntisymmetric _ _ (λ i.
-      let b = not (is_complete (kind_of (frame q) i (mark_of (take x xs)) (mark_of (take y xs)))) in
-      kept_at (λ k. not (is_complete (kind_of (frame q) k (mark_of (take x xs)) (mark_of (take y xs))))) i m ∙ ap (λ p. cond b p None) (all i)
-      ∙ ⊎_elim
-      (λ l. nothing_there b _ (full-of_empty _ (part_low i l)) ∙ sym (piece_low q xs x y i l))
-      (λ l. ⊎_elim
-      (λ k. choose_part i l k (full (part q i xs x y)) ∙ sym (piece_in q xs x y i l k))
-      (λ k. nothing_there b _ (full-of_empty _ (part_high i k)) ∙ sym (piece_high q xs x y i (le_trans ca_cb cb_gb) k))
-      (cases_lt i gb))
-      (cases_lt i ca))
-
-  whole_kept : (m : Parts) → ((i : ℕ) → get m i ≡ full (part q i xs x y)) → retain_keys m (λ i. is_complete (kind_of (frame q) i (mark_of (take x xs)) (mark_of (take y xs)))) ≡ from_entries (numbered mid (cb - mid) (λ i. full (part q i xs x y)))
-  whole_kept m all = same_map nat_cmp_total nat_cmp-IsAntisymmetric _ _ (λ i.
-      let f = λ (k : ℕ). full (part q k xs x y) in
-      let b = is_complete (kind_of (frame q) i (mark_of (take x xs)) (mark_of (take y xs))) in
-      kept_at (λ k. is_complete (kind_of (frame q) k (mark_of (take x xs)) (mark_of (take y xs)))) i m ∙ ap (λ p. cond b p None) (all i)
-      ∙ ⊎_elim
-      (λ l. nothing_there b _ (full-of_empty _ (part_low i l)) ∙ sym (get_low i mid (cb - mid) f (omega (arith, l, ca_mid))))
-      (λ l. ⊎_elim
-      (λ k. ⊎_elim
-      (λ j. ap (λ c. cond c (f i) None) (ap is_complete (kind_here i ∙ closing_here ca ga cb gb i l j k cb_gb)) ∙ sym (get_low i mid (cb - mid) f (omega (arith, j, k))))
-      (λ j. ap (λ c. cond c (f i) None) (ap is_complete (kind_here i ∙ complete_here ca ga cb gb i ca_ga j k cb_gb)) ∙ sym (get_in i mid (cb - mid) f (omega (arith, j, k)) (omega (arith, j, k))))
-      (cases_lt i ga))
-      (λ k. ⊎_elim
-      (λ j. ap (λ c. cond c (f i) None) (ap is_complete (kind_here i) ∙ open_not_complete ca ga cb gb i ca_cb k j) ∙ sym (get_high i mid (cb - mid) f (omega (arith, k))))
-      (λ j. nothing_there b _ (full-of_empty _ (part_high i j)) ∙ sym (get_high i mid (cb - mid) f (omega (arith, k))))
-      (cases_lt i gb))
-      (cases_lt i cb))
-      (cases_lt i ca))
-
-  whole_at : (i : ℕ) → ga ≤ i → option_map_or (λ m. part_lines q i m) (full (part q i xs x y)) [] ≡ lines q i (take y xs)
-  whole_at i b = full-lines q i (part q i xs x y) _ refl ∙ sym (lines-upto q i xs y h
-      ∙ ap (λ p. part_lines q i p) (part-join q i xs 0 x y zero-le a (le_trans a h) ∙ ap (λ p. merge p (part q i xs x y)) (part-beyond q w i xs x o b) ∙ merge-empty_left (part q i xs x y)))
-
-  -- and the lines of the complete ones are the piece's
-  pub whole_law : (m : Parts) → ((i : ℕ) → get m i ≡ full (part q i xs x y)) → flat_map (λ e. part_lines q e.0 e.1) (entries (retain_keys m (λ i. is_complete (kind_of (frame q) i (mark_of (take x xs)) (mark_of (take y xs)))))) ≡ whole_lines q xs x y
-  whole_law m all =
-      let f = λ (k : ℕ). full (part q k xs x y) in
-      ap (λ n. flat_map (λ e. part_lines q e.0 e.1) (entries n)) (whole_kept m all)
-      ∙ ap (flat_map (λ e. part_lines q e.0 e.1)) (entries-numbered mid (cb - mid) f)
-      ∙ flat_map-numbered (λ e. part_lines q e.0 e.1) mid (cb - mid) f
-      ∙ flat_map-from (λ i. option_map_or (λ n. part_lines q i n) (full (part q i xs x y)) []) (λ i. lines q i (take y xs)) mid (cb - mid) (λ i l b. whole_at i (omega (arith, l, b)))
-      ∙ sym (ap (flat_map (λ i. lines q i (take y xs))) complete_numbers)
+  pub text_law : text q (arrived r y) ≡ text q (arrived r x) ++ written_by q (unclosed q (arrived r x)) (piece_between q r x y)
+  unfolding text written_by piece_between shares_between
+  text_law = text_parts q.shape refl ∙ ap (λ l. by_shape q.shape (selected q (take x r.rows)) (window_text q (arrived r x)) (window_text q (arrived r x)) ++ (l ++ by_shape q.shape (selected q (slice_range r.rows x y)) (whole_lines q r x y) (whole_lines q r x y))) (sym closing_lines)

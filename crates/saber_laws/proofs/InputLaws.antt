@@ -10,11 +10,13 @@ use Rattle.saber_plan.specs.declared.windows.Mark.{Mark}
 use Rattle.saber_plan.specs.declared.rows.Values.{Values}
 use Rattle.saber_plan.specs.declared.rows.RowCause.TheVariants.{TooManyLines, TooLong, FieldCount, TimeOrder}
 use Rattle.saber_plan.specs.Rows.{End, all_read, cut, bad, Read, before, stamp, Line, Judged, skipped, taken, refused, SideRules, Place, start, after_line, judge, judge_fields, judge_numbers, falls, read_by, without_cr, bad_field, fields_of, wide_field, numbers}
-use Rattle.saber_plan.specs.Windows.{by_side, no_rows, step_mark, mark_after, in_order, Ordered, placed_after, own, from}
+use Rattle.saber_laws.proofs.WindowLaws.{goes_on}
+use Rattle.saber_plan.specs.Windows.{by_side, no_rows, step_mark, mark_after, in_order, can_follow, Ordered, placed_after, own, from}
 use Rattle.saber_plan.specs.Answers.{is_left, is_right}
 use Rattle.saber_plan.specs.Inputs.{holds_up, alone, merged_rows, merged}
 use Rattle.saber_laws.specs.Inputs.{on}
 use Rattle.saber_plan.specs.ListFacts.{Each}
+use Rattle.saber_plan.specs.RowFacts.{Ordered-none}
 
 -- ---- induction along a merge
 
@@ -34,15 +36,15 @@ alone_holds P other xs end h k = elim (holds_up other) as (λ b. P (cond {A = Re
 
 -- ---- timestamps do not fall
 
--- only the last timestamp matters
-ordered_by_last : (m n : Mark) (xs : List Row) → m.last ≡ n.last → Ordered m xs → Ordered n xs
+-- only the last timestamp matters, and whether the input ended
+ordered_by_last : (m n : Mark) (xs : List Row) → m.last ≡ n.last → m.ended ≡ n.ended → Ordered m xs → Ordered n xs
 unfolding Ordered
-ordered_by_last m n [] e o = tt
-ordered_by_last m n (x ∷ xs) e o = (sym (ap (λ l. in_order l (stamp x.values)) e) ∙ o.0, ordered_by_last (step_mark m x) (step_mark n x) xs refl o.1)
+ordered_by_last m n [] e d o = tt
+ordered_by_last m n (x ∷ xs) e d o = (sym (λ i. not (d i) && in_order (e i) (stamp x.values)) ∙ o.0, ordered_by_last (step_mark m x) (step_mark n x) xs refl d o.1)
 
-ordered_none : (m : Mark) → Ordered m []
-unfolding Ordered
-ordered_none m = tt
+-- a row comes behind another that could come there, if its timestamp is no less
+comes_behind : (m : Mark) (x : Row) (t : ℕ) → can_follow m (stamp x.values) ≡ true → nat_le (stamp x.values) t ≡ true → can_follow (step_mark m x) t ≡ true
+comes_behind m x t e h = let on = goes_on m (stamp x.values) e in (λ i. not (on.0 i) && h i)
 
 later_left : (x y : Row) → nat_le (stamp x.values) (stamp y.values) ≡ false → nat_le (stamp y.values) (stamp x.values) ≡ true
 later_left x y e = grind (arith, nat_tests)
@@ -51,14 +53,14 @@ ordered_step : (e d : End) (x : Row) (xs : List Row) (y : Row) (ys : List Row) (
     → ((n : Mark) → Ordered n xs → Ordered n (y ∷ ys) → Ordered n (merged_rows xs e (y ∷ ys) d).rows) → ((n : Mark) → Ordered n (x ∷ xs) → Ordered n ys → Ordered n (merged_rows (x ∷ xs) e ys d).rows)
     → (b : Bool) → nat_le (stamp x.values) (stamp y.values) ≡ b → Ordered m (cond b (before x (merged_rows xs e (y ∷ ys) d)) (before y (merged_rows (x ∷ xs) e ys d))).rows
 unfolding Ordered
-ordered_step e d x xs y ys m o p left right true t = (o.0, left (step_mark m x) o.1 (t, ordered_by_last (step_mark m y) (step_mark (step_mark m x) y) ys refl p.1))
-ordered_step e d x xs y ys m o p left right false t = (p.0, right (step_mark m y) (later_left x y t, ordered_by_last (step_mark m x) (step_mark (step_mark m y) x) xs refl o.1) p.1)
+ordered_step e d x xs y ys m o p left right true t = (o.0, left (step_mark m x) o.1 (comes_behind m x (stamp y.values) o.0 t, ordered_by_last (step_mark m y) (step_mark (step_mark m x) y) ys refl refl p.1))
+ordered_step e d x xs y ys m o p left right false t = (p.0, right (step_mark m y) (comes_behind m y (stamp x.values) p.0 (later_left x y t), ordered_by_last (step_mark m x) (step_mark (step_mark m y) x) xs refl refl o.1) p.1)
 
 ordered_both : (e d : End) (xs ys : List Row) (m : Mark) → Ordered m xs → Ordered m ys → Ordered m (merged_rows xs e ys d).rows
 unfolding merged_rows
 ordered_both e d xs ys = both_sides (λ us vs. (m : Mark) → Ordered m us → Ordered m vs → Ordered m (merged_rows us e vs d).rows)
-    (λ vs m o p. alone_holds (Ordered m) e vs d (ordered_none m) p)
-    (λ u us m o p. alone_holds (Ordered m) d (u ∷ us) e (ordered_none m) o)
+    (λ vs m o p. alone_holds (Ordered m) e vs d (Ordered-none m) p)
+    (λ u us m o p. alone_holds (Ordered m) d (u ∷ us) e (Ordered-none m) o)
     (λ x us y vs left right m o p. ordered_step e d x us y vs m o p left right _ refl) xs ys
 
 -- the timestamps of the merge do not fall, where those of each side do not
@@ -298,7 +300,7 @@ taken_falls_not columns most number last content zs h = (judge_kept columns most
 
 -- a mark with the last timestamp of a place
 abbrev Same_last : Mark → Option ℕ → Type 0
-Same_last m last = m.last ≡ option_map (λ n. pos n) last
+Same_last m last = (m.last ≡ option_map (λ n. pos n) last) × (m.ended ≡ false)
 
 no_fall : (last : Option ℕ) (zs : List ℤ) → falls last zs ≡ false → in_order (option_map (λ n. pos n) last) (stamp zs) ≡ true
 no_fall None zs h = refl
@@ -308,15 +310,15 @@ abbrev Good : Mark → Side → List Row → Type 0
 Good m s xs = Ordered m xs × All_of s xs
 
 good_none : (m : Mark) (s : Side) → Good m s []
-good_none m s = (ordered_none m, tt)
+good_none m s = (Ordered-none m, tt)
 
 after_good : (s : SideRules) (p : Place) (j : Judged) (rest : Place → Read) (m : Mark) → Same_last m p.last → ((zs : List ℤ) → j ≡ taken zs → falls p.last zs ≡ false)
     → ((r : Place) (n : Mark) → Same_last n r.last → Good n s.side (rest r).rows) → Good m s.side (after_line s p j rest).rows
 unfolding Ordered
 after_good s p skipped rest m e f g = g (record { lines = p.lines + 1; last = p.last }) m e
 after_good s p (taken zs) rest m e f g =
-    let more = g (record { lines = p.lines + 1; last = Some (stamp zs) }) (step_mark m (record { side = s.side; values = zs })) refl in
-    ((ap (λ l. in_order l (stamp zs)) e ∙ no_fall p.last zs (f zs refl), more.0), (refl, more.1))
+    let more = g (record { lines = p.lines + 1; last = Some (stamp zs) }) (step_mark m (record { side = s.side; values = zs })) (refl, e.1) in
+    (((λ i. not (e.1 i) && in_order (e.0 i) (stamp zs)) ∙ no_fall p.last zs (f zs refl), more.0), (refl, more.1))
 after_good s p (refused c) rest m e f g = good_none m s.side
 
 read_good : (partial : Bool) (s : SideRules) (ls : List Line) (p : Place) (m : Mark) → Same_last m p.last → Good m s.side (read_by partial s ls p).rows
@@ -332,8 +334,8 @@ read_good partial s (l ∷ ls) p m e =
 
 -- the timestamps of a file's rows do not fall
 pub read_ordered : (partial : Bool) (s : SideRules) (ls : List Line) → Ordered no_rows (read_by partial s ls start).rows
-read_ordered partial s ls = (read_good partial s ls start no_rows refl).0
+read_ordered partial s ls = (read_good partial s ls start no_rows (refl, refl)).0
 
 -- and they are all of its side
 pub read_side : (partial : Bool) (s : SideRules) (ls : List Line) → All_of s.side (read_by partial s ls start).rows
-read_side partial s ls = (read_good partial s ls start no_rows refl).1
+read_side partial s ls = (read_good partial s ls start no_rows (refl, refl)).1

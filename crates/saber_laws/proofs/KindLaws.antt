@@ -6,14 +6,15 @@ use Rattle.std.specs.Ordering.{nat_cmp}
 use Rattle.std.specs.FinMap.{get, from_entries, same_map, nat_cmp-IsAntisymmetric}
 use Rattle.saber_plan.specs.declared.windows.Kind.{Kind}
 use Rattle.saber_plan.specs.declared.windows.Kind.TheVariants.{Opening, Closing, Pending, Complete}
-use Rattle.saber_plan.specs.Windows.{mark_after, closed_count, begun_count, kind_of}
+use Rattle.saber_plan.specs.Windows.{mark_after, ending, closed_count, begun_count, kind_of}
 use Rattle.saber_plan.specs.Answers.{frame}
 use Rattle.saber_plan.specs.Merges.{join, both}
 use Rattle.saber_plan.specs.Parts.{Part, merge}
-use Rattle.saber_plan.specs.Tasks.{full, numbered, is_part}
-use Rattle.saber_plan.specs.Needs.{part_here, piece_here, is_closing, is_pending, is_opening, of_kind, closing_here, pending_here, opening_here}
+use Rattle.saber_plan.specs.Shares.{full, numbered, part_here, is_closing, is_pending, is_opening, of_kind}
+use Rattle.saber_plan.specs.Needs.{closing_here, pending_here, opening_here}
 use Rattle.saber_laws.specs.Needs.{PartsByKind, KindsAreTakenIn}
 use Rattle.saber_plan.specs.MapFacts.{join-none, get-both, both-assoc}
+use Rattle.saber_laws.proofs.DirectLaws.{is_part, parts_here}
 use Rattle.saber_laws.proofs.PartLaws.{merge-assoc}
 use Rattle.saber_laws.proofs.NumberedLaws.{get_low, get_in, get_high}
 
@@ -42,19 +43,20 @@ three_maps a n f g h u same = same_map nat_cmp_total nat_cmp-IsAntisymmetric _ _
     ∙ ap (λ o. join merge o (of h)) (get-both nat_cmp_total merge (from_entries {R = nat_cmp} (numbered a n f)) (from_entries {R = nat_cmp} (numbered a n g)) i)))
 
 pub parts_by_kind : PartsByKind
-unfolding piece_here of_kind
-parts_by_kind q m back rows =
+unfolding of_kind
+parts_by_kind q m back rows ended =
     let f = frame q in
     let a = mark_after m back in
-    let b = mark_after a rows in
+    let b = ending ended (mark_after a rows) in
     let p = λ (i : ℕ). full (part_here q i m back rows) in
-    three_maps (closed_count f a) (begun_count f b - closed_count f a) (λ i. cond (is_closing (kind_of f i a b)) (p i) None) (λ i. cond (is_pending (kind_of f i a b)) (p i) None) (λ i. cond (is_opening (kind_of f i a b)) (p i) None) (λ i. cond (is_part (kind_of f i a b)) (p i) None)
+    parts_here q m back rows ended
+    ∙ three_maps (closed_count f a) (begun_count f b - closed_count f a) (λ i. cond (is_closing (kind_of f i a b)) (p i) None) (λ i. cond (is_pending (kind_of f i a b)) (p i) None) (λ i. cond (is_opening (kind_of f i a b)) (p i) None) (λ i. cond (is_part (kind_of f i a b)) (p i) None)
     (λ i. one_kind (kind_of f i a b) (p i))
 
 pub kinds_taken_in : KindsAreTakenIn
-kinds_taken_in q m back rows store =
-    let c = closing_here q m back rows in
-    let p = pending_here q m back rows in
-    let o = opening_here q m back rows in
+kinds_taken_in q m back rows ended store =
+    let c = closing_here q m back rows ended in
+    let p = pending_here q m back rows ended in
+    let o = opening_here q m back rows ended in
     let assoc = both-assoc nat_cmp_total merge nat_cmp-IsAntisymmetric merge-assoc in
-    ap (both merge store) (parts_by_kind q m back rows) ∙ sym (assoc store (both merge c p) o) ∙ ap (λ s. both merge s o) (sym (assoc store c p))
+    ap (both merge store) (parts_by_kind q m back rows ended) ∙ sym (assoc store (both merge c p) o) ∙ ap (λ s. both merge s o) (sym (assoc store c p))

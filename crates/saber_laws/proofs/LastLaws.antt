@@ -1,23 +1,24 @@
 -- The free pointer from the last windows of blocks.
-use Rattle.std.proofs.Common.{◌≡◌, ℕ, zero, suc, ◌+◌, ◌-◌, ◌*◌, ◌/◌, ◌≤◌, ◌<◌, List, [], ◌∷◌, ◌++◌, filter, length, take, drop, slice_range, Bool, true, false, cond, ◌&&◌, ◌||◌, nat_le, nat_lt, Option, Some, None, refl, sym, ◌∙◌, ap, subst, length-take, le_refl, lt_of_lt_of_le, zero-le, ⊎_elim, arith}
+use Rattle.std.proofs.Common.{◌≡◌, ℕ, zero, suc, ◌+◌, ◌-◌, ◌/◌, ◌≤◌, ◌<◌, List, [], ◌∷◌, ◌++◌, filter, length, take, drop, slice_range, Bool, true, false, cond, ◌&&◌, ◌||◌, nat_le, nat_lt, Option, Some, None, refl, sym, ◌∙◌, ap, subst, length-take, le_refl, lt_of_lt_of_le, zero-le, ⊎_elim, arith}
 use Rattle.std.proofs.lemmas.Bool.{lt-ltb, le-ltb, leb-true, cases_lt, both_ways}
 use Rattle.std.proofs.lemmas.Bool.Decides.{nat_tests}
 use Rattle.saber_plan.specs.declared.rows.Row.{Row}
 use Rattle.saber_plan.specs.declared.windows.Mark.{Mark}
 use Rattle.saber_plan.specs.declared.plans.Shape.TheVariants.{Join}
 use Rattle.saber_plan.specs.Trees.{Tree}
-use Rattle.saber_plan.specs.Windows.{Frame, Fits, no_rows, mark_of, Ordered, Placed, place, placed_after, placed, closed_count, from}
+use Rattle.saber_plan.specs.Inputs.{Input}
+use Rattle.saber_plan.specs.Windows.{Frame, Fits, no_rows, Ordered, Placed, place, placed, closed_count, from}
 use Rattle.saber_plan.specs.Answers.{frame}
-use Rattle.saber_plan.specs.Tasks.{cut}
-use Rattle.saber_plan.specs.Needs.{first_window, past_window, last_window, lies_open, first_place, first_open, free, later_of, last_of, reaches, free_of, block_lasts}
+use Rattle.saber_plan.specs.Tasks.{cut, upto}
+use Rattle.saber_plan.specs.Needs.{first_window, past_window, last_window, lies_open, first_place, first_open, free, later_of, last_of, reaches, free_of, block_lasts, task_mark}
 use Rattle.std.proofs.lemmas.List.Elements.{filter-append}
 use Rattle.saber_laws.proofs.WindowLaws.{closed_is}
-use Rattle.saber_laws.proofs.RowLaws.{slice-placed, slice-join, slice-front, slice-take, take-placed, Ordered-take}
-use Rattle.saber_plan.specs.ListFacts.{Each, each-weaker, dropped}
-use Rattle.saber_laws.proofs.PairLaws.{placed_from, placed_below, placed_rising}
-use Rattle.saber_laws.proofs.TaskLaws.{cut_rises, cut_within}
-use Rattle.saber_laws.proofs.NeedLaws.{has_is, lies_found, lies_at, Begun_by, rows_begun, each-take, each-both, none_early, behind_take}
-use Rattle.saber_laws.proofs.FreeLaws.{div_from, div_below, first_from, first_below, free_by, free_join, free_not_past, cut_keeps}
+use Rattle.saber_laws.proofs.RowLaws.{take-placed, Ordered-take}
+use Rattle.saber_plan.specs.ListFacts.{Each, each-weaker, dropped, slice-join, slice-front, slice-take}
+use Rattle.saber_laws.proofs.PairLaws.{placed_below, placed_rising}
+use Rattle.saber_laws.proofs.TaskCutLaws.{cut_rises, cut_keeps, row_before, row_from}
+use Rattle.saber_laws.proofs.NeedLaws.{has_is, lies_found, lies_at, Begun_by, input_begun, each-take, each-both, none_early}
+use Rattle.saber_laws.proofs.FreeLaws.{div_from, div_below, first_from, first_below, free_by, free_join, free_not_past, slice_from}
 
 same_tests : (a b : Bool) → (a ≡ true → b ≡ true) → (b ≡ true → a ≡ true) → a ≡ b
 same_tests true b f g = sym (f refl)
@@ -98,78 +99,78 @@ each-drop P (suc n) (x ∷ xs) h = each-drop P n xs h.1
 each-slice : (P : Placed → Type 0) (xs : List Placed) (x y n : ℕ) → x ≤ y → y ≤ n → Each P (take n xs) → Each P (slice_range xs x y)
 each-slice P xs x y n a b h = subst (Each P) (slice-take xs x y n a b) (each-take P (y - x) (drop x (take n xs)) (each-drop P x (take n xs) h))
 
-slice_from : (xs : List Row) (x y : ℕ) → x ≤ length xs → Each (λ r. x ≤ place r) (slice_range (placed xs) x y)
-slice_from xs x y h = subst (Each (λ (r : Placed). x ≤ place r)) (sym (slice-placed xs x y)) (subst (λ n. Each (λ (r : Placed). n ≤ place r) (placed_after (mark_of (take x xs)) (slice_range xs x y))) (behind_take xs x h) (placed_from (mark_of (take x xs)) (slice_range xs x y)))
-
 slice_below : (xs : List Row) (x y : ℕ) → x ≤ y → Each (λ r. place r < y) (slice_range (placed xs) x y)
 slice_below xs x y a = each-slice (λ r. place r < y) (placed xs) x y y a (le_refl y) (subst (Each (λ (r : Placed). place r < y)) (sym (take-placed y no_rows xs)) (placed_below no_rows (take y xs) y (omega (arith, length-take y xs))))
 
-block_of : (n : ℕ) (xs : List Row) (u p : ℕ) → 1 ≤ n → cut n xs u ≤ p → p < cut n xs (u + 1) → p / n ≡ u
-block_of n xs u p h a b =
-    let step : (u + 1) * n ≡ u * n + n = grind arith in
-    let low : u ≤ p / n = div_from p n u h (omega (arith, step)) in
-    let high : p / n < u + 1 = div_below p n (u + 1) h (omega arith) in
+slice_within : (xs : List Row) (x y : ℕ) → x ≤ y → Each (λ r. place r < length xs) (slice_range (placed xs) x y)
+slice_within xs x y a = each-slice (λ r. place r < length xs) (placed xs) x y y a (le_refl y) (subst (Each (λ (r : Placed). place r < length xs)) (sym (take-placed y no_rows xs)) (placed_below no_rows (take y xs) (length xs) (omega (arith, length-take y xs))))
+
+block_of : (n : ℕ) (r : Input) (u p : ℕ) → 1 ≤ n → cut n r u ≤ p → p < cut n r (u + 1) → p < length r.rows → p / n ≡ u
+block_of n r u p h a b c =
+    let low : u ≤ p / n = div_from p n u h (row_from n r u p a c) in
+    let high : p / n < u + 1 = div_below p n (u + 1) h (row_before n r (u + 1) p h b c) in
     omega arith
 
 sub_self : (x : ℕ) → x - x ≡ 0
 sub_self x = omega arith
 
 -- the blocks of some rows before task t
-module _ (f : Frame) (w : Fits f) (n : ℕ) (xs : List Row) (t : ℕ) (o : Ordered no_rows xs) (h : 1 ≤ n) where
+module _ (f : Frame) (w : Fits f) (n : ℕ) (r : Input) (t : ℕ) (o : Ordered no_rows r.rows) (h : 1 ≤ n) where
   abbrev mark : Mark
-  mark = mark_of (take (cut n xs t) xs)
+  mark = task_mark n r t
 
   abbrev opened : Placed → Bool
   opened x = lies_open f mark x
 
-  told : (x y : ℕ) → x ≤ y → y ≤ cut n xs t → Told opened f (closed_count f mark) (slice_range (placed xs) x y)
-  told x y a b = each-slice _ (placed xs) x y (cut n xs t) a b (subst (Told opened f (closed_count f mark)) (sym (take-placed (cut n xs t) no_rows xs)) (each-weaker _ _ (λ r k. lies_open_is f w mark r k) _ (rows_begun f no_rows (take (cut n xs t) xs) (Ordered-take no_rows (cut n xs t) xs o))))
+  told : (x y : ℕ) → x ≤ y → y ≤ cut n r t → Told opened f (closed_count f mark) (slice_range (placed r.rows) x y)
+  told x y a b = each-slice _ (placed r.rows) x y (cut n r t) a b (subst (Told opened f (closed_count f mark)) (sym (take-placed (cut n r t) no_rows r.rows)) (each-weaker _ _ (λ z k. lies_open_is f w mark z k) _ (input_begun f (upto n r t) (Ordered-take no_rows (cut n r t) r.rows o))))
 
-  block_case : (u k : ℕ) → (suc u + k ≡ t) → free_by n t (first_place (filter opened (slice_range (placed xs) (cut n xs (u + 1)) (cut n xs t)))) ≡ free_of (u + 1) (block_lasts f n xs (u + 1) k) (closed_count f mark)
-      → (b : Bool) → reaches (last_of f (slice_range (placed xs) (cut n xs u) (cut n xs (u + 1)))) (closed_count f mark) ≡ b
-      → free_by n t (first_place (filter opened (slice_range (placed xs) (cut n xs u) (cut n xs (u + 1)) ++ slice_range (placed xs) (cut n xs (u + 1)) (cut n xs t)))) ≡ cond b u (free_of (u + 1) (block_lasts f n xs (u + 1) k) (closed_count f mark))
+  block_case : (u k : ℕ) → (suc u + k ≡ t) → free_by n t (first_place (filter opened (slice_range (placed r.rows) (cut n r (u + 1)) (cut n r t)))) ≡ free_of (u + 1) (block_lasts f n r (u + 1) k) (closed_count f mark)
+      → (b : Bool) → reaches (last_of f (slice_range (placed r.rows) (cut n r u) (cut n r (u + 1)))) (closed_count f mark) ≡ b
+      → free_by n t (first_place (filter opened (slice_range (placed r.rows) (cut n r u) (cut n r (u + 1)) ++ slice_range (placed r.rows) (cut n r (u + 1)) (cut n r t)))) ≡ cond b u (free_of (u + 1) (block_lasts f n r (u + 1) k) (closed_count f mark))
   block_case u k e rest true g =
-      let block = slice_range (placed xs) (cut n xs u) (cut n xs (u + 1)) in
-      let later = slice_range (placed xs) (cut n xs (u + 1)) (cut n xs t) in
-      let within : cut n xs (u + 1) ≤ cut n xs t = cut_keeps n xs (u + 1) t (omega arith) in
-      let here = block_some opened f (closed_count f mark) block (told (cut n xs u) (cut n xs (u + 1)) (cut_rises n xs u) within) g in
-      let low = first_from opened (cut n xs u) block (slice_from xs (cut n xs u) (cut n xs (u + 1)) (cut_within n xs u)) here.place_of here.is in
-      let high = first_below opened (cut n xs (u + 1)) block (slice_below xs (cut n xs u) (cut n xs (u + 1)) (cut_rises n xs u)) here.place_of here.is in
-      ap (free_by n t) (first_on opened block later here.place_of here.is) ∙ block_of n xs u here.place_of h low high
+      let block = slice_range (placed r.rows) (cut n r u) (cut n r (u + 1)) in
+      let later = slice_range (placed r.rows) (cut n r (u + 1)) (cut n r t) in
+      let within : cut n r (u + 1) ≤ cut n r t = cut_keeps n r (u + 1) t (omega arith) in
+      let here = block_some opened f (closed_count f mark) block (told (cut n r u) (cut n r (u + 1)) (cut_rises n r u) within) g in
+      let low = first_from opened (cut n r u) block (slice_from r (cut n r u) (cut n r (u + 1))) here.place_of here.is in
+      let high = first_below opened (cut n r (u + 1)) block (slice_below r.rows (cut n r u) (cut n r (u + 1)) (cut_rises n r u)) here.place_of here.is in
+      let there = first_below opened (length r.rows) block (slice_within r.rows (cut n r u) (cut n r (u + 1)) (cut_rises n r u)) here.place_of here.is in
+      ap (free_by n t) (first_on opened block later here.place_of here.is) ∙ block_of n r u here.place_of h low high there
   block_case u k e rest false g =
-      let block = slice_range (placed xs) (cut n xs u) (cut n xs (u + 1)) in
-      let later = slice_range (placed xs) (cut n xs (u + 1)) (cut n xs t) in
-      let within : cut n xs (u + 1) ≤ cut n xs t = cut_keeps n xs (u + 1) t (omega arith) in
-      ap (λ l. free_by n t (first_place l)) (filter-append opened block later ∙ ap (λ l. l ++ filter opened later) (block_none opened f (closed_count f mark) block (told (cut n xs u) (cut n xs (u + 1)) (cut_rises n xs u) within) g)) ∙ rest
+      let block = slice_range (placed r.rows) (cut n r u) (cut n r (u + 1)) in
+      let later = slice_range (placed r.rows) (cut n r (u + 1)) (cut n r t) in
+      let within : cut n r (u + 1) ≤ cut n r t = cut_keeps n r (u + 1) t (omega arith) in
+      ap (λ l. free_by n t (first_place l)) (filter-append opened block later ∙ ap (λ l. l ++ filter opened later) (block_none opened f (closed_count f mark) block (told (cut n r u) (cut n r (u + 1)) (cut_rises n r u) within) g)) ∙ rest
 
-  by_blocks : (k u : ℕ) → u + k ≡ t → free_by n t (first_place (filter opened (slice_range (placed xs) (cut n xs u) (cut n xs t)))) ≡ free_of u (block_lasts f n xs u k) (closed_count f mark)
+  by_blocks : (k u : ℕ) → u + k ≡ t → free_by n t (first_place (filter opened (slice_range (placed r.rows) (cut n r u) (cut n r t)))) ≡ free_of u (block_lasts f n r u k) (closed_count f mark)
   unfolding free_of from
   by_blocks zero u e =
       let same : u ≡ t = omega arith in
-      let nothing : cut n xs t - cut n xs u ≡ 0 = ap (λ v. cut n xs v - cut n xs u) (sym same) ∙ sub_self (cut n xs u) in
-      let none : slice_range (placed xs) (cut n xs u) (cut n xs t) ≡ [] = ap (λ d. take d (drop (cut n xs u) (placed xs))) nothing in
+      let nothing : cut n r t - cut n r u ≡ 0 = ap (λ v. cut n r v - cut n r u) (sym same) ∙ sub_self (cut n r u) in
+      let none : slice_range (placed r.rows) (cut n r u) (cut n r t) ≡ [] = ap (λ d. take d (drop (cut n r u) (placed r.rows))) nothing in
       ap (λ l. free_by n t (first_place (filter opened l))) none ∙ sym same
   by_blocks (suc k) u e =
       let next : (u + 1) + k ≡ t = omega arith in
-      let within : cut n xs (u + 1) ≤ cut n xs t = cut_keeps n xs (u + 1) t (omega arith) in
-      ap (λ l. free_by n t (first_place (filter opened l))) (slice-join (placed xs) (cut n xs u) (cut n xs (u + 1)) (cut n xs t) (cut_rises n xs u) within)
+      let within : cut n r (u + 1) ≤ cut n r t = cut_keeps n r (u + 1) t (omega arith) in
+      ap (λ l. free_by n t (first_place (filter opened l))) (slice-join (placed r.rows) (cut n r u) (cut n r (u + 1)) (cut n r t) (cut_rises n r u) within)
       ∙ block_case u k (omega arith) (by_blocks k (u + 1) next) _ refl
 
 -- the free pointer is what the last windows of the blocks from an earlier one on say
-pub free_by_lasts : (q : Tree) → Fits (frame q) → (n : ℕ) (xs : List Row) (t first : ℕ) → Ordered no_rows xs → 1 ≤ n → q.shape ≡ Join → first ≤ free q n xs t → first ≤ t
-    → free q n xs t ≡ free_of first (block_lasts (frame q) n xs first (t - first)) (closed_count (frame q) (mark_of (take (cut n xs t) xs)))
+pub free_by_lasts : (q : Tree) → Fits (frame q) → (n : ℕ) (r : Input) (t first : ℕ) → Ordered no_rows r.rows → 1 ≤ n → q.shape ≡ Join → first ≤ free q n r t → first ≤ t
+    → free q n r t ≡ free_of first (block_lasts (frame q) n r first (t - first)) (closed_count (frame q) (task_mark n r t))
 unfolding first_open
-free_by_lasts q w n xs t first o h e l b =
+free_by_lasts q w n r t first o h e l b =
     let f = frame q in
-    let m = mark_of (take (cut n xs t) xs) in
-    let all : placed (take (cut n xs t) xs) ≡ slice_range (placed xs) 0 (cut n xs first) ++ slice_range (placed xs) (cut n xs first) (cut n xs t) =
-    sym (slice-front (placed xs) (cut n xs t) ∙ take-placed (cut n xs t) no_rows xs) ∙ slice-join (placed xs) 0 (cut n xs first) (cut n xs t) zero-le (cut_keeps n xs first t b) in
-    let whole : slice_range (placed xs) 0 (cut n xs t) ≡ placed (take (cut n xs t) xs) = slice-front (placed xs) (cut n xs t) ∙ take-placed (cut n xs t) no_rows xs in
-    let early = none_early (lies_open f m) (cut n xs (free q n xs t)) (placed (take (cut n xs t) xs)) (placed_rising no_rows (take (cut n xs t) xs)) (free_not_past q n xs t h e) in
-    let front_early : Each (λ (r : Placed). place r < cut n xs (free q n xs t) → lies_open f m r ≡ false) (slice_range (placed xs) 0 (cut n xs first)) =
-    each-slice _ (placed xs) 0 (cut n xs first) (cut n xs t) zero-le (cut_keeps n xs first t b) (subst (Each _) (sym (take-placed (cut n xs t) no_rows xs)) early) in
-    let none : filter (lies_open f m) (slice_range (placed xs) 0 (cut n xs first)) ≡ [] =
-    dropped (lies_open f m) _ (each-weaker _ _ (λ r p. p.0 (lt_of_lt_of_le p.1 (cut_keeps n xs first (free q n xs t) l))) _ (each-both _ _ _ front_early (slice_below xs 0 (cut n xs first) zero-le))) in
-    free_join q n xs t e
-    ∙ ap (λ k. free_by n t (first_place k)) (ap (filter (lies_open f m)) all ∙ filter-append (lies_open f m) (slice_range (placed xs) 0 (cut n xs first)) (slice_range (placed xs) (cut n xs first) (cut n xs t)) ∙ ap (λ k. k ++ filter (lies_open f m) (slice_range (placed xs) (cut n xs first) (cut n xs t))) none)
-    ∙ by_blocks f w n xs t o h (t - first) first (omega arith)
+    let m = task_mark n r t in
+    let all : placed (take (cut n r t) r.rows) ≡ slice_range (placed r.rows) 0 (cut n r first) ++ slice_range (placed r.rows) (cut n r first) (cut n r t) =
+    sym (slice-front (placed r.rows) (cut n r t) ∙ take-placed (cut n r t) no_rows r.rows) ∙ slice-join (placed r.rows) 0 (cut n r first) (cut n r t) zero-le (cut_keeps n r first t b) in
+    let whole : slice_range (placed r.rows) 0 (cut n r t) ≡ placed (take (cut n r t) r.rows) = slice-front (placed r.rows) (cut n r t) ∙ take-placed (cut n r t) no_rows r.rows in
+    let early = none_early (lies_open f m) (cut n r (free q n r t)) (placed (take (cut n r t) r.rows)) (placed_rising no_rows (take (cut n r t) r.rows)) (free_not_past q n r t h e) in
+    let front_early : Each (λ (z : Placed). place z < cut n r (free q n r t) → lies_open f m z ≡ false) (slice_range (placed r.rows) 0 (cut n r first)) =
+    each-slice _ (placed r.rows) 0 (cut n r first) (cut n r t) zero-le (cut_keeps n r first t b) (subst (Each _) (sym (take-placed (cut n r t) no_rows r.rows)) early) in
+    let none : filter (lies_open f m) (slice_range (placed r.rows) 0 (cut n r first)) ≡ [] =
+    dropped (lies_open f m) _ (each-weaker _ _ (λ z p. p.0 (lt_of_lt_of_le p.1 (cut_keeps n r first (free q n r t) l))) _ (each-both _ _ _ front_early (slice_below r.rows 0 (cut n r first) zero-le))) in
+    free_join q n r t e
+    ∙ ap (λ k. free_by n t (first_place k)) (ap (filter (lies_open f m)) all ∙ filter-append (lies_open f m) (slice_range (placed r.rows) 0 (cut n r first)) (slice_range (placed r.rows) (cut n r first) (cut n r t)) ∙ ap (λ k. k ++ filter (lies_open f m) (slice_range (placed r.rows) (cut n r first) (cut n r t))) none)
+    ∙ by_blocks f w n r t o h (t - first) first (omega arith)

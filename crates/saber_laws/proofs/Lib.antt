@@ -1,10 +1,13 @@
 pub mod WindowLaws
 pub mod RowLaws
 pub mod NumberedLaws
+pub mod DirectLaws
 pub mod PartLaws
 pub mod PairLaws
 pub mod ShareLaws
+pub mod EndLaws
 pub mod AssemblyLaws
+pub mod TaskCutLaws
 pub mod TaskLaws
 pub mod FileLaws
 pub mod CheckedLaws
@@ -25,3 +28,6 @@ pub mod NumberedMapLaws
 pub mod SharesLaws
 pub mod LocalLaws
 pub mod OpenLaws
+pub mod FlushLaws
+pub mod FrontLaws
+pub mod WideLaws

@@ -7,16 +7,12 @@ use Rattle.saber_plan.specs.Rows.{End, RowFits, before}
 use Rattle.saber_plan.specs.Windows.{by_side}
 use Rattle.saber_plan.specs.Inputs.{merged_rows}
 use Rattle.saber_laws.specs.Inputs.{FitsItsSide, MergesFit, MergesAreShort, MergesBegin, MergesEnd, MergeTurns, SidesAreCounted}
-use Rattle.saber_plan.specs.ListFacts.{Each}
+use Rattle.saber_plan.specs.ListFacts.{Each, all_weaker}
 use Rattle.saber_laws.proofs.InputLaws.{both_sides, alone_holds, merged_left, merged_right, merged_whole, merged_stops_left, merged_rest_right, merged_stops_right, merged_rest_left, merged_takes, mark_counts, left_positions, right_positions}
 
 each_of : {A : Type 0} (P : A → Type 0) (xs : List A) → AllByRecursion P xs → Each P xs
 each_of P [] h = tt
 each_of P (x ∷ xs) h = (h.0, each_of P xs h.1)
-
-all_weaker : {A : Type 0} (P Q : A → Type 0) → ((x : A) → P x → Q x) → (xs : List A) → AllByRecursion P xs → AllByRecursion Q xs
-all_weaker P Q f [] h = tt
-all_weaker P Q f (x ∷ xs) h = (f x h.0, all_weaker P Q f xs h.1)
 
 -- ---- rows of both, and no more
 

@@ -1,8 +1,7 @@
 -- The rows that a task needs are enough.
-use Rattle.std.proofs.Common.{◌≡◌, ℕ, zero, suc, ◌+◌, ◌-◌, ◌≤◌, ◌<◌, List, [], ◌∷◌, ◌++◌, filter, flat_map, length, take, slice_range, Bool, true, false, cond, ◌&&◌, ◌||◌, nat_le, nat_lt, Option, Some, None, refl, sym, ◌∙◌, ap, subst, append-nil, length-take, length-take-le, take-take, le_refl, le_trans, zero-le, ⊎_elim, arith}
+use Rattle.std.proofs.Common.{◌≡◌, ℕ, zero, suc, ◌+◌, ◌-◌, ◌≤◌, ◌<◌, List, [], ◌∷◌, ◌++◌, filter, flat_map, length, take, slice_range, Bool, true, false, cond, ◌&&◌, ◌||◌, nat_le, nat_lt, Option, Some, None, refl, sym, ◌∙◌, ap, subst, append-nil, length-append, length-take, length-take-le, take-take, le_refl, le_trans, zero-le, ⊎_elim, arith}
 use Rattle.std.specs.List.{list_any}
 use Rattle.std.specs.Option.{option_map_or}
-use Rattle.std.specs.FinMap.{from_entries}
 use Rattle.std.proofs.lemmas.Bool.{lt-ltb, le-ltb, leb-true, ltb-true, cases_lt, both_ways, false_from_ne_true}
 use Rattle.std.proofs.lemmas.Bool.Decides.{nat_tests}
 use Rattle.saber_plan.specs.declared.rows.Side.{Side}
@@ -15,17 +14,20 @@ use Rattle.saber_plan.specs.declared.windows.Measure.TheVariants.{Rows, Range}
 use Rattle.saber_plan.specs.declared.windows.Kind.TheVariants.{Opening, Closing, Pending, Complete}
 use Rattle.saber_plan.specs.Rows.{stamp}
 use Rattle.saber_plan.specs.Trees.{Tree}
-use Rattle.saber_plan.specs.Windows.{Frame, unwindowed, one, two, Fits, by_side, no_rows, step_mark, mark_after, mark_of, Ordered, Placed, place, placed_after, placed, has, begun, closed, begun_count, closed_count, kind_of, inside, from}
+use Rattle.saber_plan.specs.Inputs.{Input, arrived, going_on}
+use Rattle.saber_plan.specs.Windows.{Frame, unwindowed, one, two, Fits, by_side, no_rows, step_mark, mark_after, mark_of, ending, last_mark, mark_at, Ordered, Placed, place, placed_after, placed, has, begun, closed, begun_count, closed_count, kind_of, inside, from}
 use Rattle.saber_plan.specs.Answers.{by_shape, frame, passing, selected, lines}
 use Rattle.saber_plan.specs.Parts.{no_part, part, group_part, pair_part, part_lines}
-use Rattle.saber_plan.specs.Tasks.{full, numbered, is_part, is_complete, piece_between}
-use Rattle.saber_plan.specs.Needs.{first_window, past_window, lies_open, first_place, first_open, part_here, piece_here}
-use Rattle.saber_laws.proofs.WindowLaws.{spans_is, closed_is, begun_is, begins, begun_after}
-use Rattle.saber_laws.proofs.RowLaws.{slice-placed, slice-join, slice-front, take-placed, inside-join, inside-closed, Ordered-take}
-use Rattle.saber_plan.specs.ListFacts.{Each, each-filter, each-weaker, dropped}
+use Rattle.saber_plan.specs.Shares.{is_complete, is_closing, is_pending, is_opening, of_kind, part_here, shares_here, shares_between, piece_in}
+use Rattle.saber_plan.specs.Tasks.{piece_between}
+use Rattle.saber_plan.specs.Needs.{first_window, past_window, lies_open, first_place, first_open, piece_here}
+use Rattle.saber_laws.proofs.WindowLaws.{spans_is, closed_is, begun_is, begins, begun_after, begun_ending}
+use Rattle.saber_laws.proofs.RowLaws.{slice-placed, take-placed, inside-join, inside-closed, Ordered-take}
+use Rattle.saber_plan.specs.ListFacts.{Each, each-filter, each-weaker, dropped, slice-join, slice-front, nothing_behind}
 use Rattle.saber_laws.proofs.PairLaws.{Rising, pair_part-none, placed_below, placed_rising, behind, behind_after}
-use Rattle.saber_laws.proofs.ShareLaws.{inside_below}
-use Rattle.saber_laws.proofs.AssemblyLaws.{mark_on}
+use Rattle.saber_laws.proofs.ShareLaws.{inside_below, shaped}
+use Rattle.saber_laws.proofs.PartLaws.{group_part-empty}
+use Rattle.saber_laws.proofs.EndLaws.{rows_on, mark_on, mark_next, mark_open, open_at, part_behind}
 use Rattle.saber_laws.proofs.TaskLaws.{lines-whole}
 
 -- ---- the windows of a row
@@ -106,6 +108,10 @@ unfolding Ordered placed_after
 rows_begun f m [] o = tt
 rows_begun f m (x ∷ xs) o = (λ i h. begun_after f i (step_mark m x) xs o.1 (begins f i m x.side x.values h), rows_begun f (step_mark m x) xs o.1)
 
+-- and by an input of them
+pub input_begun : (f : Frame) (r : Input) → Ordered no_rows r.rows → Each (Begun_by f (last_mark r)) (placed r.rows)
+input_begun f r o = each-weaker _ _ (λ x b i h. begun_ending f i r.ended (mark_of r.rows) ∙ b i h) _ (rows_begun f no_rows r.rows o)
+
 -- ---- the first of them
 
 -- this position is not past the first open row
@@ -133,15 +139,16 @@ each-both P Q [] h k = tt
 each-both P Q (x ∷ xs) h k = ((h.0, k.0), each-both P Q xs h.1 k.1)
 
 -- rows before the first open one are in no window that is not closed
-pub none_before : (f : Frame) → Fits f → (i : ℕ) (xs : List Row) (s : ℕ) → Ordered no_rows xs → Not_past s (first_open f xs) → closed f i (mark_of xs) ≡ false → filter (has f i) (placed (take s xs)) ≡ []
+pub none_before : (f : Frame) → Fits f → (i : ℕ) (r : Input) (s : ℕ) → Ordered no_rows r.rows → Not_past s (first_open f r) → closed f i (last_mark r) ≡ false → filter (has f i) (placed (take s r.rows)) ≡ []
 unfolding first_open
-none_before f w i xs s o h c =
-    let l = lies_open f (mark_of xs) in
+none_before f w i r s o h c =
+    let xs = r.rows in
+    let l = lies_open f (last_mark r) in
     let early = none_early l s (placed xs) (placed_rising no_rows xs) h in
-    let all : Each (λ (x : Placed). (place x < s → l x ≡ false) × Begun_by f (mark_of xs) x) (placed xs) = each-both _ _ (placed xs) early (rows_begun f no_rows xs o) in
-    let front : Each (λ (x : Placed). (place x < s → l x ≡ false) × Begun_by f (mark_of xs) x) (placed (take s xs)) = subst (Each _) (take-placed s no_rows xs) (each-take _ s (placed xs) all) in
+    let all : Each (λ (x : Placed). (place x < s → l x ≡ false) × Begun_by f (last_mark r) x) (placed xs) = each-both _ _ (placed xs) early (input_begun f r o) in
+    let front : Each (λ (x : Placed). (place x < s → l x ≡ false) × Begun_by f (last_mark r) x) (placed (take s xs)) = subst (Each _) (take-placed s no_rows xs) (each-take _ s (placed xs) all) in
     let low : Each (λ (x : Placed). place x < s) (placed (take s xs)) = placed_below no_rows (take s xs) s (omega (arith, length-take s xs)) in
-    dropped (has f i) (placed (take s xs)) (each-weaker _ _ (λ x p. false_from_ne_true _ (λ e. both_ways _ (p.0.0 p.1) (lies_at f w (mark_of xs) x p.0.1 i c e))) _ (each-both _ _ (placed (take s xs)) front low))
+    dropped (has f i) (placed (take s xs)) (each-weaker _ _ (λ x p. false_from_ne_true _ (λ e. both_ways _ (p.0.0 p.1) (lies_at f w (last_mark r) x p.0.1 i c e))) _ (each-both _ _ (placed (take s xs)) front low))
 
 -- ---- the part over a task's rows, from them and the rows looked back on
 
@@ -167,7 +174,7 @@ kept_lines f g p e (i ∷ is) = kept_case f g p e i is (p i) refl (kept_lines f 
 -- a cut of positions s, x, y of some rows
 module _ (q : Tree) (w : Fits (frame q)) (xs : List Row) (s x y : ℕ) (o : Ordered no_rows xs) (d : s ≤ x) (a : x ≤ y) (h : x ≤ length xs) where
   back_place : (mark_of (take s xs)).left + (mark_of (take s xs)).right + length (slice_range xs s x) ≡ x
-  back_place = sym (behind_after (mark_of (take s xs)) (slice_range xs s x)) ∙ ap behind (sym (mark_on xs s x d)) ∙ behind_take xs x h
+  back_place = sym (behind_after (mark_of (take s xs)) (slice_range xs s x)) ∙ ap behind (sym (rows_on xs s x d)) ∙ behind_take xs x h
 
   back_inside : (i : ℕ) → filter (has (frame q) i) (placed_after (mark_of (take s xs)) (slice_range xs s x ++ slice_range xs x y)) ≡ inside (frame q) i xs s y
   back_inside i = ap (λ l. filter (has (frame q) i) (placed_after (mark_of (take s xs)) l)) (sym (slice-join xs s x y d a)) ∙ ap (filter (has (frame q) i)) (sym (slice-placed xs s y))
@@ -181,23 +188,23 @@ module _ (q : Tree) (w : Fits (frame q)) (xs : List Row) (s x y : ℕ) (o : Orde
       ∙ sym (ap (pair_part q x) (inside-join (frame q) i xs 0 x y zero-le a ∙ ap (λ l. inside (frame q) i xs 0 x ++ l) none ∙ append-nil _) ∙ pair_part-none q x _ (inside_below (frame q) i xs x))
 
   -- those of one that isn't have no row before s
-  open_pairs : (i : ℕ) → Not_past s (first_open (frame q) (take x xs)) → closed (frame q) i (mark_of (take x xs)) ≡ false → pair_part q x (inside (frame q) i xs s y) ≡ pair_part q x (inside (frame q) i xs 0 y)
+  open_pairs : (i : ℕ) → Not_past s (first_open (frame q) (going_on (take x xs))) → closed (frame q) i (mark_of (take x xs)) ≡ false → pair_part q x (inside (frame q) i xs s y) ≡ pair_part q x (inside (frame q) i xs 0 y)
   open_pairs i n c =
-      let none : inside (frame q) i xs 0 s ≡ [] = ap (filter (has (frame q) i)) (slice-front (placed xs) s ∙ take-placed s no_rows xs ∙ ap (λ l. placed l) (sym (take-take s x xs d))) ∙ none_before (frame q) w i (take x xs) s (Ordered-take no_rows x xs o) n c in
+      let none : inside (frame q) i xs 0 s ≡ [] = ap (filter (has (frame q) i)) (slice-front (placed xs) s ∙ take-placed s no_rows xs ∙ ap (λ l. placed l) (sym (take-take s x xs d))) ∙ none_before (frame q) w i (going_on (take x xs)) s (Ordered-take no_rows x xs o) n c in
       sym (ap (pair_part q x) (inside-join (frame q) i xs 0 s y zero-le (le_trans d a) ∙ ap (λ l. l ++ inside (frame q) i xs s y) none))
 
-  pairs_case : (i : ℕ) → Not_past s (first_open (frame q) (take x xs)) → (b : Bool) → closed (frame q) i (mark_of (take x xs)) ≡ b → pair_part q x (inside (frame q) i xs s y) ≡ pair_part q x (inside (frame q) i xs 0 y)
+  pairs_case : (i : ℕ) → Not_past s (first_open (frame q) (going_on (take x xs))) → (b : Bool) → closed (frame q) i (mark_of (take x xs)) ≡ b → pair_part q x (inside (frame q) i xs s y) ≡ pair_part q x (inside (frame q) i xs 0 y)
   pairs_case i n true c = closed_pairs i c
   pairs_case i n false c = open_pairs i n c
 
   group_rows : (i : ℕ) → filter (has (frame q) i) (placed_after (mark_after (mark_of (take s xs)) (slice_range xs s x)) (slice_range xs x y)) ≡ inside (frame q) i xs x y
-  group_rows i = ap (λ m. filter (has (frame q) i) (placed_after m (slice_range xs x y))) (sym (mark_on xs s x d)) ∙ ap (filter (has (frame q) i)) (sym (slice-placed xs x y))
+  group_rows i = ap (λ m. filter (has (frame q) i) (placed_after m (slice_range xs x y))) (sym (rows_on xs s x d)) ∙ ap (filter (has (frame q) i)) (sym (slice-placed xs x y))
 
   -- the part is the same, from rows s to x and x to y alone, where no row before s lies in a window that is open at x
-  pub part_here_is : (q.shape ≡ Join → Not_past s (first_open (frame q) (take x xs))) → (i : ℕ) → part_here q i (mark_of (take s xs)) (slice_range xs s x) (slice_range xs x y) ≡ part q i xs x y
+  rows_here : (q.shape ≡ Join → Not_past s (first_open (frame q) (going_on (take x xs)))) → (i : ℕ) → part_here q i (mark_of (take s xs)) (slice_range xs s x) (slice_range xs x y) ≡ part q i xs x y
   unfolding part_here
-  part_here_is n i =
-      elim (q.shape) as (λ t. (t ≡ Join → Not_past s (first_open (frame q) (take x xs))) → by_shape t no_part
+  rows_here n i =
+      elim (q.shape) as (λ t. (t ≡ Join → Not_past s (first_open (frame q) (going_on (take x xs)))) → by_shape t no_part
       (group_part q (passing q (filter (has (frame q) i) (placed_after (mark_after (mark_of (take s xs)) (slice_range xs s x)) (slice_range xs x y)))))
       (pair_part q ((mark_of (take s xs)).left + (mark_of (take s xs)).right + length (slice_range xs s x)) (filter (has (frame q) i) (placed_after (mark_of (take s xs)) (slice_range xs s x ++ slice_range xs x y))))
       ≡ by_shape t no_part (group_part q (passing q (inside (frame q) i xs x y))) (pair_part q x (inside (frame q) i xs 0 y))) [
@@ -206,34 +213,66 @@ module _ (q : Tree) (w : Fits (frame q)) (xs : List Row) (s x y : ℕ) (o : Orde
         | Join ↦ λ n. ap (λ p. pair_part q p (filter (has (frame q) i) (placed_after (mark_of (take s xs)) (slice_range xs s x ++ slice_range xs x y)))) back_place ∙ ap (pair_part q x) (back_inside i) ∙ pairs_case i (n refl) _ refl
       ] n
 
+-- ---- the same over an input
+
+pub no_rows_here : (q : Tree) (i : ℕ) (m : Mark) (back rows : List Row) → rows ≡ [] → part_here q i m back rows ≡ no_part
+unfolding part_here placed_after
+no_rows_here q i m back rows e =
+    let some = length-append back [] in
+    ap (part_here q i m back) e
+    ∙ shaped q.shape _ _ _ no_part refl (group_part-empty q) (pair_part-none q (m.left + m.right + length back) _ (each-filter _ (has (frame q) i) _ (placed_below m (back ++ []) (m.left + m.right + length back) (omega arith))))
+
+-- positions s, x, y of an input
+module _ (q : Tree) (w : Fits (frame q)) (r : Input) (s x y : ℕ) (o : Ordered no_rows r.rows) (d : s ≤ x) (a : x ≤ y) where
+  abbrev back : List Row
+  back = slice_range r.rows s x
+
+  abbrev rows : List Row
+  rows = slice_range r.rows x y
+
+  among_rows : (q.shape ≡ Join → Not_past s (first_open (frame q) (arrived r x))) → x ≤ length r.rows → (i : ℕ) → part_here q i (mark_at r s) back rows ≡ part q i r.rows x y
+  among_rows n h i =
+      let here : arrived r x ≡ going_on (take x r.rows) = λ j. record { rows = take x r.rows; ended = open_at r x h j } in
+      ap (λ m. part_here q i m back rows) (mark_open r s (open_at r s (le_trans d h)))
+      ∙ rows_here q w r.rows s x y o d a h (λ e. subst (λ u. Not_past s (first_open (frame q) u)) here (n e)) i
+
+  -- the part is the same, from rows s to x and x to y alone, where no row before s lies in a window that is open at x
+  pub part_here_is : (q.shape ≡ Join → Not_past s (first_open (frame q) (arrived r x))) → (i : ℕ) → part_here q i (mark_at r s) back rows ≡ part q i r.rows x y
+  part_here_is n i = ⊎_elim
+      (λ l. no_rows_here q i (mark_at r s) back rows (nothing_behind r.rows x y (omega arith)) ∙ sym (part_behind q i r.rows x y (omega arith)))
+      (λ l. among_rows n l i)
+      (cases_lt (length r.rows) x)
+
   -- ---- the piece
 
   complete_not_begun : (i : ℕ) (m n : Mark) → is_complete (kind_of (frame q) i m n) ≡ true → begun (frame q) i m ≡ false
   complete_not_begun i m n e = kind_case (closed (frame q) i m) (begun (frame q) i n) (closed (frame q) i n) (begun (frame q) i m) e
 
-  -- the piece is the same, from those rows alone
-  pub piece_here_is : (q.shape ≡ Join → Not_past s (first_open (frame q) (take x xs))) → y ≤ length xs → piece_here q (mark_of (take s xs)) (slice_range xs s x) (slice_range xs x y) ≡ piece_between q xs x y
-  unfolding piece_here piece_between
-  piece_here_is n k =
+  -- what is given is the same, from those rows alone
+  pub shares_here_is : (q.shape ≡ Join → Not_past s (first_open (frame q) (arrived r x))) → ((arrived r x).ended ≡ true → (arrived r s).ended ≡ true) → shares_here q (mark_at r s) (slice_range r.rows s x) (slice_range r.rows x y) (arrived r y).ended ≡ shares_between q r x y
+  unfolding shares_here shares_between
+  shares_here_is n k =
       let f = frame q in
-      let ma : mark_after (mark_of (take s xs)) (slice_range xs s x) ≡ mark_of (take x xs) = sym (mark_on xs s x d) in
-      let mb : mark_after (mark_after (mark_of (take s xs)) (slice_range xs s x)) (slice_range xs x y) ≡ mark_of (take y xs) = ap (λ m. mark_after m (slice_range xs x y)) ma ∙ sym (mark_on xs x y a) in
-      let here = λ (i : ℕ). part_here q i (mark_of (take s xs)) (slice_range xs s x) (slice_range xs x y) in
-      let m = mark_of (take x xs) in
-      let u = mark_of (take y xs) in
-      let whole = flat_map (λ i. part_lines q i (here i)) (filter (λ i. is_complete (kind_of f i m u)) (from (closed_count f m) (begun_count f u - closed_count f m))) in
-      let same : whole ≡ flat_map (λ i. lines q i (take y xs)) (filter (λ i. is_complete (kind_of f i m u)) (from (closed_count f m) (begun_count f u - closed_count f m))) =
-      kept_lines (λ i. part_lines q i (here i)) (λ i. lines q i (take y xs)) (λ i. is_complete (kind_of f i m u))
-      (λ i e. ap (part_lines q i) (part_here_is n i) ∙ sym (lines-whole q i xs x y o a k (complete_not_begun i m u e))) _ in
-      (λ j. record {
-        parts = from_entries (numbered (closed_count f (ma j)) (begun_count f (mb j) - closed_count f (ma j)) (λ i. cond (is_part (kind_of f i (ma j) (mb j))) (full (part_here_is n i j)) None));
-        lines = by_shape q.shape (selected q (slice_range xs x y))
-            (flat_map (λ i. part_lines q i (here i)) (filter (λ i. is_complete (kind_of f i (ma j) (mb j))) (from (closed_count f (ma j)) (begun_count f (mb j) - closed_count f (ma j)))))
-            (flat_map (λ i. part_lines q i (here i)) (filter (λ i. is_complete (kind_of f i (ma j) (mb j))) (from (closed_count f (ma j)) (begun_count f (mb j) - closed_count f (ma j)))));
+      let m = mark_at r x in
+      let u = mark_at r y in
+      let ma : mark_after (mark_at r s) back ≡ m = mark_next r s x d k in
+      let mb : ending (arrived r y).ended (mark_after (mark_after (mark_at r s) back) rows) ≡ u = ap (λ b. ending (arrived r y).ended (mark_after b rows)) ma ∙ sym (mark_on r x y a) in
+      let here = λ (i : ℕ). part_here q i (mark_at r s) back rows in
+      let whole_numbers = λ (b c : Mark). filter (λ i. is_complete (kind_of f i b c)) (from (closed_count f b) (begun_count f c - closed_count f b)) in
+      let whole = λ (b c : Mark). flat_map (λ i. part_lines q i (here i)) (whole_numbers b c) in
+      let same : whole m u ≡ flat_map (λ i. lines q i (take y r.rows)) (whole_numbers m u) =
+      kept_lines (λ i. part_lines q i (here i)) (λ i. lines q i (take y r.rows)) (λ i. is_complete (kind_of f i m u))
+      (λ i e. ap (part_lines q i) (part_here_is n i) ∙ sym (lines-whole q i r x y o a (complete_not_begun i m u e))) _ in
+      let all : whole (mark_after (mark_at r s) back) (ending (arrived r y).ended (mark_after (mark_after (mark_at r s) back) rows)) ≡ flat_map (λ i. lines q i (take y r.rows)) (whole_numbers m u) = (λ j. whole (ma j) (mb j)) ∙ same in
+      λ j. record {
+        closing = of_kind is_closing f (ma j) (mb j) (λ i. part_here_is n i j);
+        pending = of_kind is_pending f (ma j) (mb j) (λ i. part_here_is n i j);
+        opening = of_kind is_opening f (ma j) (mb j) (λ i. part_here_is n i j);
+        lines = by_shape q.shape (selected q rows) (all j) (all j);
         closed = closed_count f (mb j);
-      })
-      ∙ (λ j. record {
-        parts = from_entries (numbered (closed_count f m) (begun_count f u - closed_count f m) (λ i. cond (is_part (kind_of f i m u)) (full (part q i xs x y)) None));
-        lines = by_shape q.shape (selected q (slice_range xs x y)) (same j) (same j);
-        closed = closed_count f u;
-      })
+      }
+
+  -- and so is the piece
+  pub piece_here_is : (q.shape ≡ Join → Not_past s (first_open (frame q) (arrived r x))) → ((arrived r x).ended ≡ true → (arrived r s).ended ≡ true) → piece_here q (mark_at r s) (slice_range r.rows s x) (slice_range r.rows x y) (arrived r y).ended ≡ piece_between q r x y
+  unfolding piece_here piece_between
+  piece_here_is n k = ap piece_in (shares_here_is n k)

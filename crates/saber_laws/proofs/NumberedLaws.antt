@@ -41,17 +41,17 @@ module _ {X : Type 0} where
   find_on i a None rest e = refl
   find_on i a (Some x) rest e = ap (λ b. cond b (Some x) (find nat_cmp i rest)) (other_number i a e)
 
-  find_low : (i a n : ℕ) (f : ℕ → Option X) → i < a → find nat_cmp i (numbered a n f) ≡ None
+  pub find_low : (i a n : ℕ) (f : ℕ → Option X) → i < a → find nat_cmp i (numbered a n f) ≡ None
   unfolding from
   find_low i a zero f h = refl
   find_low i a (suc n) f h = find_on i a (f a) (numbered (a + 1) n f) (λ e. omega arith) ∙ find_low i (a + 1) n f (omega arith)
 
-  find_high : (i a n : ℕ) (f : ℕ → Option X) → a + n ≤ i → find nat_cmp i (numbered a n f) ≡ None
+  pub find_high : (i a n : ℕ) (f : ℕ → Option X) → a + n ≤ i → find nat_cmp i (numbered a n f) ≡ None
   unfolding from
   find_high i a zero f h = refl
   find_high i a (suc n) f h = find_on i a (f a) (numbered (a + 1) n f) (λ e. omega arith) ∙ find_high i (a + 1) n f (omega arith)
 
-  find_in : (i a n : ℕ) (f : ℕ → Option X) → a ≤ i → i < a + n → find nat_cmp i (numbered a n f) ≡ f i
+  pub find_in : (i a n : ℕ) (f : ℕ → Option X) → a ≤ i → i < a + n → find nat_cmp i (numbered a n f) ≡ f i
   unfolding from
   find_in i a zero f g h = absurd (omega arith)
   find_in i a (suc n) f g h = ⊎_elim

@@ -1,23 +1,25 @@
 -- An open part is that of its window over the rows so far, and a part of a piece is that over the task's rows.
-use Rattle.std.proofs.Common.{◌≡◌, ℕ, ◌-◌, ◌≤◌, ◌<◌, List, length, take, Bool, true, false, cond, nat_le, ◌==◌, Option, Some, None, refl, sym, ◌∙◌, ap, ap₂, length-take-le, le_refl, le_trans, zero-le, ⊎_elim, arith}
+use Rattle.std.proofs.Common.{◌≡◌, ℕ, ◌-◌, ◌≤◌, ◌<◌, length, take, Bool, true, false, cond, nat_le, ◌==◌, Option, Some, None, refl, sym, ◌∙◌, ap, ap₂, le_trans, zero-le, ⊎_elim, arith}
 use Rattle.std.proofs.lemmas.Bool.{le-ltb, le-leb, lt-leb, cases_lt}
 use Rattle.std.proofs.lemmas.Bool.Decides.{nat_tests}
 use Rattle.std.specs.Cmp.{nat_cmp_total}
 use Rattle.std.specs.FinMap.{len, get, len-empty}
-use Rattle.saber_plan.specs.declared.rows.Row.{Row}
 use Rattle.saber_plan.specs.Trees.{Tree}
-use Rattle.saber_plan.specs.Windows.{Fits, Ordered, no_rows, mark_of, closed_count, begun_count, kind_of}
+use Rattle.saber_plan.specs.Inputs.{Input, arrived}
+use Rattle.saber_plan.specs.Windows.{Fits, Ordered, no_rows, mark_at, closed_count, begun_count, kind_of}
 use Rattle.saber_plan.specs.Answers.{key_cmp, frame}
 use Rattle.saber_plan.specs.Merges.{join}
 use Rattle.saber_plan.specs.Parts.{Part, no_part, part, Numbers, merge}
-use Rattle.saber_plan.specs.Tasks.{full, is_part, unclosed, piece_between}
+use Rattle.saber_plan.specs.Shares.{full}
+use Rattle.saber_plan.specs.Tasks.{unclosed, piece_between}
 use Rattle.saber_plan.specs.MapFacts.{get-both}
 use Rattle.saber_laws.specs.Shares.{Between, OpenPartsAre, PiecePartsAre, TakenPartsAre}
+use Rattle.saber_plan.specs.PartFacts.{merge-empty_left}
 use Rattle.saber_laws.proofs.WindowLaws.{begun_is, closed_within_begun}
 use Rattle.saber_laws.proofs.NumberedLaws.{get_low, get_in, get_high}
-use Rattle.saber_laws.proofs.PartLaws.{merge-empty_left}
-use Rattle.saber_laws.proofs.ShareLaws.{part-join, part-not_begun, part-take}
-use Rattle.saber_laws.proofs.AssemblyLaws.{full-merge, count_kind, kind_is, closed_rises, begun_rises}
+use Rattle.saber_laws.proofs.DirectLaws.{is_part, parts_between}
+use Rattle.saber_laws.proofs.EndLaws.{closed_rises, begun_rises, join_at, part_upto, part_not_begun}
+use Rattle.saber_laws.proofs.AssemblyLaws.{full-merge, count_kind, kind_is}
 
 -- ---- a part that isn't empty is itself
 
@@ -49,44 +51,44 @@ open_has_part ca ga cb gb i r l b = grind (arith, nat_tests)
 
 -- ---- the maps of parts, window by window
 
-abbrev open_before : Tree → List Row → ℕ → ℕ → Bool
-open_before q xs x i = nat_le (closed_count (frame q) (mark_of (take x xs))) i
+abbrev open_before : Tree → Input → ℕ → ℕ → Bool
+open_before q r x i = nat_le (closed_count (frame q) (mark_at r x)) i
 
-part_before : (q : Tree) → Fits (frame q) → (xs : List Row) (x i : ℕ) → Ordered no_rows xs → begun_count (frame q) (mark_of (take x xs)) ≤ i → part q i xs 0 x ≡ no_part
-part_before q w xs x i o h = part-not_begun q i xs x o (sym (begun_is (frame q) w i (mark_of (take x xs))) ∙ le-ltb i _ h)
+part_before : (q : Tree) → Fits (frame q) → (r : Input) (x i : ℕ) → Ordered no_rows r.rows → begun_count (frame q) (mark_at r x) ≤ i → part q i r.rows 0 x ≡ no_part
+part_before q w r x i o h = part_not_begun q i r x o (sym (begun_is (frame q) w i (mark_at r x)) ∙ le-ltb i _ h)
 
-unclosed_at : (q : Tree) → Fits (frame q) → (xs : List Row) (x i : ℕ) → Ordered no_rows xs → x ≤ length xs → get (unclosed q (take x xs)) i ≡ cond (open_before q xs x i) (full (part q i xs 0 x)) None
+unclosed_at : (q : Tree) → Fits (frame q) → (r : Input) (x i : ℕ) → Ordered no_rows r.rows → get (unclosed q (arrived r x)) i ≡ cond (open_before q r x i) (full (part q i r.rows 0 x)) None
 unfolding unclosed
-unclosed_at q w xs x i o h =
-    let c = closed_count (frame q) (mark_of (take x xs)) in
-    let g = begun_count (frame q) (mark_of (take x xs)) in
-    let c_g : c ≤ g = closed_within_begun (frame q) w (mark_of (take x xs)) in
-    let at = λ (k : ℕ). full (part q k (take x xs) 0 (length (take x xs))) in
-    let here : at i ≡ full (part q i xs 0 x) = ap (λ n. full (part q i (take x xs) 0 n)) (length-take-le x xs h) ∙ ap full (part-take q i xs 0 x x zero-le (le_refl x)) in
+unclosed_at q w r x i o =
+    let c = closed_count (frame q) (mark_at r x) in
+    let g = begun_count (frame q) (mark_at r x) in
+    let c_g : c ≤ g = closed_within_begun (frame q) w (mark_at r x) in
+    let at = λ (k : ℕ). full (part q k (take x r.rows) 0 (length (take x r.rows))) in
+    let here : at i ≡ full (part q i r.rows 0 x) = ap full (part_upto q i r.rows x) in
     ⊎_elim
-    (λ l. get_low i c (g - c) at l ∙ sym (ap (λ b. cond b (full (part q i xs 0 x)) None) (lt-leb c i l)))
+    (λ l. get_low i c (g - c) at l ∙ sym (ap (λ b. cond b (full (part q i r.rows 0 x)) None) (lt-leb c i l)))
     (λ l. ⊎_elim
     (λ b. get_in i c (g - c) at l (omega (arith, l, b)) ∙ here)
-    (λ b. get_high i c (g - c) at (omega (arith, b, c_g)) ∙ sym (ap full (part_before q w xs x i o b) ∙ full_nothing))
+    (λ b. get_high i c (g - c) at (omega (arith, b, c_g)) ∙ sym (ap full (part_before q w r x i o b) ∙ full_nothing))
     (cases_lt i g)
-    ∙ sym (ap (λ b. cond b (full (part q i xs 0 x)) None) (le-leb c i l)))
+    ∙ sym (ap (λ b. cond b (full (part q i r.rows 0 x)) None) (le-leb c i l)))
     (cases_lt i c)
 
-abbrev has_part : Tree → List Row → ℕ → ℕ → ℕ → Bool
-has_part q xs x y i = is_part (count_kind (closed_count (frame q) (mark_of (take x xs))) (begun_count (frame q) (mark_of (take x xs))) (closed_count (frame q) (mark_of (take y xs))) (begun_count (frame q) (mark_of (take y xs))) i)
+abbrev has_part : Tree → Input → ℕ → ℕ → ℕ → Bool
+has_part q r x y i = is_part (count_kind (closed_count (frame q) (mark_at r x)) (begun_count (frame q) (mark_at r x)) (closed_count (frame q) (mark_at r y)) (begun_count (frame q) (mark_at r y)) i)
 
-piece_at : (q : Tree) (xs : List Row) (x y : ℕ) → Between q xs x y → (i : ℕ) → get (piece_between q xs x y).parts i ≡ cond (has_part q xs x y i) (full (part q i xs x y)) None
-unfolding piece_between
-piece_at q xs x y t i =
+piece_at : (q : Tree) (r : Input) (x y : ℕ) → Between q r x y → (i : ℕ) → get (piece_between q r x y).parts i ≡ cond (has_part q r x y i) (full (part q i r.rows x y)) None
+piece_at q r x y t i =
     let f = frame q in
-    let a = mark_of (take x xs) in
-    let b = mark_of (take y xs) in
+    let a = mark_at r x in
+    let b = mark_at r y in
     let c = closed_count f a in
     let g = begun_count f b in
-    let c_g : c ≤ g = le_trans (closed_rises f t.fits xs x y t.ordered t.rises) (closed_within_begun f t.fits b) in
-    let at = λ (k : ℕ). cond (is_part (kind_of f k a b)) (full (part q k xs x y)) None in
-    let there = λ (k : Bool). cond k (full (part q i xs x y)) None in
-    ⊎_elim
+    let c_g : c ≤ g = le_trans (closed_rises f t.fits r x y t.ordered t.rises) (closed_within_begun f t.fits b) in
+    let at = λ (k : ℕ). cond (is_part (kind_of f k a b)) (full (part q k r.rows x y)) None in
+    let there = λ (k : Bool). cond k (full (part q i r.rows x y)) None in
+    ap (λ m. get m i) (parts_between q r x y)
+    ∙ ⊎_elim
     (λ l. get_low i c (g - c) at l ∙ sym (ap there (no_part_low c (begun_count f a) (closed_count f b) g i l)))
     (λ l. ⊎_elim
     (λ h. get_in i c (g - c) at l (omega (arith, l, h)) ∙ ap (λ k. there (is_part k)) (kind_is f t.fits i a b))
@@ -95,10 +97,10 @@ piece_at q xs x y t i =
     (cases_lt i c)
 
 pub open_parts : OpenPartsAre
-open_parts q xs x y t i p e = kept_is (open_before q xs x i) (part q i xs 0 x) p (sym (unclosed_at q t.fits xs x i t.ordered (le_trans t.rises t.there)) ∙ e)
+open_parts q r x y t i p e = kept_is (open_before q r x i) (part q i r.rows 0 x) p (sym (unclosed_at q t.fits r x i t.ordered) ∙ e)
 
 pub piece_parts : PiecePartsAre
-piece_parts q xs x y t i p e = kept_is (has_part q xs x y i) (part q i xs x y) p (sym (piece_at q xs x y t i) ∙ e)
+piece_parts q r x y t i p e = kept_is (has_part q r x y i) (part q i r.rows x y) p (sym (piece_at q r x y t i) ∙ e)
 
 -- ---- taking in
 
@@ -120,11 +122,10 @@ taken_case ca ga cb gb i p r s h n e = ⊎_elim
     (cases_lt i ca)
 
 pub taken_parts : TakenPartsAre
-taken_parts q xs x y t i p e =
+taken_parts q r x y t i p e =
     let f = frame q in
-    let a = mark_of (take x xs) in
-    let b = mark_of (take y xs) in
-    let within : x ≤ length xs = le_trans t.rises t.there in
-    taken_case (closed_count f a) (begun_count f a) (closed_count f b) (begun_count f b) i (part q i xs 0 x) (part q i xs x y) p (begun_rises f t.fits xs x y t.ordered t.rises) (part_before q t.fits xs x i t.ordered)
-    (sym (get-both nat_cmp_total merge (unclosed q (take x xs)) (piece_between q xs x y).parts i ∙ ap₂ (join merge) (unclosed_at q t.fits xs x i t.ordered within) (piece_at q xs x y t i)) ∙ e)
-    ∙ sym (part-join q i xs 0 x y zero-le t.rises within)
+    let a = mark_at r x in
+    let b = mark_at r y in
+    taken_case (closed_count f a) (begun_count f a) (closed_count f b) (begun_count f b) i (part q i r.rows 0 x) (part q i r.rows x y) p (begun_rises f t.fits r x y t.ordered t.rises) (part_before q t.fits r x i t.ordered)
+    (sym (get-both nat_cmp_total merge (unclosed q (arrived r x)) (piece_between q r x y).parts i ∙ ap₂ (join merge) (unclosed_at q t.fits r x i t.ordered) (piece_at q r x y t i)) ∙ e)
+    ∙ sym (join_at q i r.rows 0 x y zero-le t.rises)

@@ -20,8 +20,8 @@ use Rattle.saber_plan.specs.Merges.{joined}
 use Rattle.saber_plan.specs.Parts.{Part, Numbers, pair_numbers, pair_part, later, join_numbers, merge}
 use Rattle.saber_plan.specs.Pairing.{row_pairs, with_entries}
 use Rattle.saber_plan.specs.MapFacts.{equal_if, both-empty_right, entries-from_rising, not_below, take_one}
-use Rattle.saber_laws.proofs.PartLaws.{total, exact}
 use Rattle.saber_plan.specs.ListFacts.{Each, each-filter, each-map, each-weaker, each-all, kept, dropped, filter-flat_map, flat_map-same, flat_map-none, T_parts, and_T}
+use Rattle.saber_plan.specs.PartFacts.{total, exact}
 use Rattle.saber_laws.proofs.PairLaws.{Rising, rising-filter, Numbered, with-append, find_early, sorted_with, sorted_all, get-pair_part, pair_part-join, sorted_pairs}
 
 -- ---- late pairs

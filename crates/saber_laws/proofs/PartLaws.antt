@@ -1,16 +1,14 @@
 -- The parts of groups and their merge.
-use Rattle.std.proofs.Common.{◌≡◌, ℕ, ◌+◌, List, [], ◌∷◌, ◌++◌, map, fold, length, true, false, cond, Option, Some, None, ℤ, pos, ◌+ℤ◌, refl, sym, ◌∙◌, ap, append-nil, length-append, arith}
+use Rattle.std.proofs.Common.{◌≡◌, ◌+◌, List, [], ◌∷◌, ◌++◌, map, fold, length, Some, ℤ, pos, ◌+ℤ◌, refl, sym, ◌∙◌, ap, append-nil, length-append, arith}
 use Rattle.std.proofs.Math.IntN.{+ℤ_assoc}
 use Rattle.std.proofs.lemmas.Int.{ints}
 use Rattle.std.proofs.lemmas.List.{map-append}
 use Rattle.std.proofs.lemmas.List.Sums.{fold-append}
 use Rattle.std.proofs.lemmas.List.Elements.{filter-append}
-use Rattle.std.proofs.lemmas.Cmp.{lists_total, int_cmp_total}
 use Rattle.std.specs.Int.{int_min, int_max}
-use Rattle.std.specs.Cmp.{IsTotalOrder}
 use Rattle.std.specs.declared.cmp.Ordering.TheVariants.{Less, Equal, Greater}
 use Rattle.std.specs.Ordering.{eq_by_cmp, match_ordering}
-use Rattle.std.specs.FinMap.{get, entries, from_entries, find, put, entries-insert, get-from_entries, same_map, IsAntisymmetric, slice_cmp-IsAntisymmetric, int_cmp-IsAntisymmetric}
+use Rattle.std.specs.FinMap.{get, entries, from_entries, put, entries-insert, same_map}
 use Rattle.std.specs.FinMap.Entries.{by_order}
 use Rattle.saber_plan.specs.declared.plans.Item.{Item}
 use Rattle.saber_plan.specs.declared.plans.Item.TheVariants.{Count, Sum, Min, Max, Value}
@@ -20,13 +18,8 @@ use Rattle.saber_plan.specs.Values.{value}
 use Rattle.saber_plan.specs.Answers.{key_cmp, with_key, keys_of, key, rows_of_key, answers, item_answer, first_by, earlier, values_of, groups}
 use Rattle.saber_plan.specs.Merges.{join}
 use Rattle.saber_plan.specs.Parts.{Part, no_part, group_part, Numbers, numbers, summed, least, greatest, plain, zip_by, join_numbers, shown, answers_of, answers_in, merge}
-use Rattle.saber_plan.specs.MapFacts.{get-both, both-assoc, both-empty_left, both-empty_right, equal_if, entries-empty}
-
-pub total : IsTotalOrder key_cmp
-total = lists_total int_cmp_total
-
-pub exact : IsAntisymmetric key_cmp
-exact = slice_cmp-IsAntisymmetric int_cmp-IsAntisymmetric
+use Rattle.saber_plan.specs.PartFacts.{total, exact, numbers_if, keyed, get-group_part}
+use Rattle.saber_plan.specs.MapFacts.{get-both, both-assoc, entries-empty}
 
 -- ---- the join of numbers
 
@@ -56,12 +49,6 @@ join_numbers_assoc a b c =
 -- merge is associative, and the empty part is its unit
 pub merge-assoc : (a b c : Part) → merge (merge a b) c ≡ merge a (merge b c)
 merge-assoc a b c = both-assoc total join_numbers exact join_numbers_assoc a b c
-
-pub merge-empty_left : (a : Part) → merge no_part a ≡ a
-merge-empty_left a = both-empty_left total join_numbers exact a
-
-pub merge-empty_right : (a : Part) → merge a no_part ≡ a
-merge-empty_right a = both-empty_right total join_numbers exact a
 
 -- ---- answers over two lists of rows
 
@@ -102,11 +89,6 @@ numbers-append is x xs y ys = λ k. record {
   firsts = by_first earlier (λ a b c. refl) (plain is) x xs y ys k;
 }
 
--- what a key has, from its rows
-abbrev pub numbers_if : List Item → List (List ℤ) → Option Numbers
-numbers_if is [] = None
-numbers_if is (r ∷ rs) = Some (numbers is (r ∷ rs))
-
 numbers_if-append : (is : List Item) (xs ys : List (List ℤ)) → numbers_if is (xs ++ ys) ≡ join join_numbers (numbers_if is xs) (numbers_if is ys)
 numbers_if-append is [] ys = refl
 numbers_if-append is (x ∷ xs) [] = ap (numbers_if is) (append-nil (x ∷ xs))
@@ -122,33 +104,6 @@ answers-shown (Max e ∷ is) rows = ap (λ l. item_answer rows (Max e) ∷ l) (a
 answers-shown (Value e ∷ is) rows = ap (λ l. item_answer rows (Value e) ∷ l) (answers-shown is rows)
 
 -- ---- a key of the group part
-
--- a list of keys, each with what g gives
-abbrev keyed : {X : Type 0} → (List ℤ → X) → List (List ℤ) → List (List ℤ × X)
-keyed g ks = map (λ k. (k, g k)) ks
-
-same_key : (k l : List ℤ) → eq_by_cmp key_cmp k l ≡ true → k ≡ l
-same_key k l e = exact k l (equal_if _ e)
-
-abbrev if_any : {A B : Type 0} → List A → B → Option B
-if_any [] b = None
-if_any (x ∷ xs) b = Some b
-
-find_keyed : {X : Type 0} (ks : List ℕ) (k : List ℤ) (g : List ℤ → X) (rows : List (List ℤ)) → find key_cmp k (keyed g (map (key ks) rows)) ≡ if_any (rows_of_key ks k rows) (g k)
-find_keyed ks k g [] = refl
-find_keyed ks k g (r ∷ rows) =
-    elim (eq_by_cmp key_cmp k (key ks r)) as (λ b. eq_by_cmp key_cmp k (key ks r) ≡ b → cond b (Some (g (key ks r))) (find key_cmp k (keyed g (map (key ks) rows))) ≡ if_any (cond b (r ∷ rows_of_key ks k rows) (rows_of_key ks k rows)) (g k)) [
-      | true ↦ λ e. ap (λ l. Some (g l)) (sym (same_key _ _ e))
-      | false ↦ λ e. find_keyed ks k g rows
-    ] refl
-
-if_any_answers : (is : List Item) (rs : List (List ℤ)) → if_any rs (numbers is rs) ≡ numbers_if is rs
-if_any_answers is [] = refl
-if_any_answers is (r ∷ rs) = refl
-
-pub get-group_part : (q : Tree) (rows : List (List ℤ)) (k : List ℤ) → get (group_part q rows) k ≡ numbers_if q.items (rows_of_key q.keys k rows)
-unfolding group_part
-get-group_part q rows k = get-from_entries total _ k ∙ find_keyed q.keys k (λ l. numbers (q.items) (rows_of_key q.keys l rows)) rows ∙ if_any_answers q.items (rows_of_key q.keys k rows)
 
 -- the part of two lists of rows is the merge of the parts of each
 pub group_part-append : (q : Tree) (xs ys : List (List ℤ)) → group_part q (xs ++ ys) ≡ merge (group_part q xs) (group_part q ys)

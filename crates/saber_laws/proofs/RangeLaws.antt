@@ -1,5 +1,5 @@
 -- The windows of one kind follow one another.
-use Rattle.std.proofs.Common.{◌≡◌, ℕ, ◌+◌, ◌-◌, ◌≤◌, ◌<◌, min, max, List, ◌++◌, filter, Bool, true, false, cond, Option, None, sym, ◌∙◌, ap, append-nil, ⊎_elim, arith}
+use Rattle.std.proofs.Common.{◌≡◌, ℕ, ◌+◌, ◌-◌, ◌≤◌, ◌<◌, min, max, List, ◌++◌, filter, Bool, true, false, cond, Option, None, sym, ◌∙◌, ap, subst, append-nil, le_trans, ⊎_elim, arith}
 use Rattle.std.proofs.lemmas.Bool.{cases_lt}
 use Rattle.std.proofs.lemmas.Bool.Decides.{nat_tests}
 use Rattle.std.proofs.lemmas.List.Elements.{filter-append}
@@ -9,12 +9,12 @@ use Rattle.std.specs.FinMap.{get, from_entries, same_map, nat_cmp-IsAntisymmetri
 use Rattle.saber_plan.specs.declared.rows.Row.{Row}
 use Rattle.saber_plan.specs.declared.windows.Mark.{Mark}
 use Rattle.saber_plan.specs.declared.windows.Kind.{Kind}
-use Rattle.saber_plan.specs.Windows.{Frame, Fits, Ordered, mark_after, closed_count, begun_count, kind_of, from}
+use Rattle.saber_plan.specs.Windows.{Frame, Fits, Ordered, mark_after, ending, closed_count, begun_count, kind_of, from}
 use Rattle.saber_plan.specs.Parts.{Part}
 use Rattle.saber_plan.specs.Tasks.{full, numbered, is_complete}
 use Rattle.saber_plan.specs.Needs.{is_closing, is_pending, is_opening, of_kind, parts_of}
 use Rattle.saber_laws.specs.Kinds.{KindRanges, KindsAreRanges}
-use Rattle.saber_laws.proofs.WindowLaws.{closed_count_rises, begun_count_rises, closed_within_begun}
+use Rattle.saber_laws.proofs.WindowLaws.{closed_count_rises, begun_count_rises, closed_within_begun, closed_count_ending, begun_count_ending}
 use Rattle.saber_laws.proofs.NumberedLaws.{from-append, get_low, get_in, get_high, filter_all, filter_none}
 use Rattle.saber_laws.proofs.AssemblyLaws.{count_kind, kind_is}
 
@@ -134,9 +134,9 @@ module _ (ca ga cb gb : ℕ) (ca_cb : ca ≤ cb) (ga_gb : ga ≤ gb) (ca_ga : ca
     behind = λ i l b. complete_behind i (omega arith);
   }
 
-module _ (f : Frame) (w : Fits f) (m : Mark) (rows : List Row) (o : Ordered m rows) where
+module _ (f : Frame) (w : Fits f) (m : Mark) (rows : List Row) (ended : Bool) (o : Ordered m rows) where
   abbrev ends : Mark
-  ends = mark_after m rows
+  ends = ending ended (mark_after m rows)
 
   counted : (i : ℕ) → kind_of f i m ends ≡ count_kind (closed_count f m) (begun_count f m) (closed_count f ends) (begun_count f ends) i
   counted i = kind_is f w i m ends
@@ -155,8 +155,8 @@ module _ (f : Frame) (w : Fits f) (m : Mark) (rows : List Row) (o : Ordered m ro
       let ga = begun_count f m in
       let cb = closed_count f ends in
       let gb = begun_count f ends in
-      let ca_cb = closed_count_rises f w m rows o in
-      let ga_gb = begun_count_rises f w m rows o in
+      let ca_cb = le_trans (closed_count_rises f w m rows o) (closed_count_ending f w ended (mark_after m rows)) in
+      let ga_gb = subst (λ n. begun_count f m ≤ n) (sym (begun_count_ending f ended (mark_after m rows))) (begun_count_rises f w m rows o) in
       let ca_ga = closed_within_begun f w m in
       let cb_gb = closed_within_begun f w ends in
       record {
@@ -167,4 +167,4 @@ module _ (f : Frame) (w : Fits f) (m : Mark) (rows : List Row) (o : Ordered m ro
       }
 
 pub kinds_ranged : KindsAreRanges
-kinds_ranged f w m rows o = kind_ranges f w m rows o
+kinds_ranged f w m rows ended o = kind_ranges f w m rows ended o

@@ -1,25 +1,12 @@
 -- Rows with what is behind them, cut at positions.
-use Rattle.std.proofs.Common.{◌≡◌, ℕ, zero, suc, ◌+◌, ◌-◌, ◌≤◌, List, [], ◌∷◌, ◌++◌, filter, length, take, drop, slice_range, true, false, refl, sym, ◌∙◌, ap, subst, take-append-drop, take-take, take-add, drop-drop, arith}
-use Rattle.std.proofs.lemmas.List.{drop-take}
-use Rattle.std.proofs.lemmas.List.Sums.{fold-append}
+use Rattle.std.proofs.Common.{◌≡◌, ℕ, zero, suc, ◌-◌, ◌≤◌, List, [], ◌∷◌, ◌++◌, filter, take, drop, slice_range, true, false, refl, sym, ◌∙◌, ap, subst, take-append-drop}
 use Rattle.std.proofs.lemmas.List.Elements.{filter-append}
 use Rattle.saber_plan.specs.declared.rows.Row.{Row}
 use Rattle.saber_plan.specs.declared.windows.Mark.{Mark}
 use Rattle.saber_plan.specs.Windows.{Frame, no_rows, step_mark, mark_after, mark_of, has, begun, closed, Ordered, placed_after, placed, inside}
+use Rattle.saber_plan.specs.ListFacts.{slice-join, slice-take, slice-front}
+use Rattle.saber_plan.specs.RowFacts.{Ordered-append}
 use Rattle.saber_laws.proofs.WindowLaws.{not_begun_has_none, closed_has_none}
-
-pub mark-append : (m : Mark) (xs ys : List Row) → mark_after m (xs ++ ys) ≡ mark_after (mark_after m xs) ys
-mark-append m xs ys = fold-append step_mark m xs ys
-
-pub placed-append : (m : Mark) (xs ys : List Row) → placed_after m (xs ++ ys) ≡ placed_after m xs ++ placed_after (mark_after m xs) ys
-unfolding placed_after
-placed-append m [] ys = refl
-placed-append m (x ∷ xs) ys = ap (λ l. record { row = x; before = m } ∷ l) (placed-append (step_mark m x) xs ys)
-
-pub length-placed : (m : Mark) (xs : List Row) → length (placed_after m xs) ≡ length xs
-unfolding placed_after
-length-placed m [] = refl
-length-placed m (x ∷ xs) = ap suc (length-placed (step_mark m x) xs)
 
 pub take-placed : (n : ℕ) (m : Mark) (xs : List Row) → take n (placed_after m xs) ≡ placed_after m (take n xs)
 unfolding placed_after
@@ -36,25 +23,6 @@ drop-placed (suc n) m (x ∷ xs) = drop-placed n (step_mark m x) xs
 -- the rows of a cut, placed, are the placed rows of the cut
 pub slice-placed : (xs : List Row) (x y : ℕ) → slice_range (placed xs) x y ≡ placed_after (mark_of (take x xs)) (slice_range xs x y)
 slice-placed xs x y = ap (take (y - x)) (drop-placed x no_rows xs) ∙ take-placed (y - x) (mark_of (take x xs)) (drop x xs)
-
-pub slice-join : {A : Type 0} (l : List A) (x y z : ℕ) → x ≤ y → y ≤ z → slice_range l x z ≡ slice_range l x y ++ slice_range l y z
-slice-join l x y z a b =
-    let lengths : z - x ≡ (y - x) + (z - y) = omega arith in
-    let there : x + (y - x) ≡ y = omega arith in
-    ap (λ n. take n (drop x l)) lengths ∙ take-add (y - x) (z - y) (drop x l) ∙ ap (λ t. take (y - x) (drop x l) ++ take (z - y) t) (drop-drop (y - x) x l ∙ ap (λ n. drop n l) there)
-
-pub slice-take : {A : Type 0} (l : List A) (x y n : ℕ) → x ≤ y → y ≤ n → slice_range (take n l) x y ≡ slice_range l x y
-slice-take l x y n a b =
-    let there : n ≡ x + (n - x) = omega arith in
-    ap (λ k. take (y - x) (drop x (take k l))) there ∙ ap (take (y - x)) (drop-take x (n - x) l) ∙ take-take (y - x) (n - x) (drop x l) (omega arith)
-
-pub slice-front : {A : Type 0} (l : List A) (y : ℕ) → slice_range l 0 y ≡ take y l
-slice-front l y = let same : y - 0 ≡ y = omega arith in ap (λ n. take n l) same
-
-pub Ordered-append : (m : Mark) (xs ys : List Row) → Ordered m (xs ++ ys) → Ordered m xs × Ordered (mark_after m xs) ys
-unfolding Ordered
-Ordered-append m [] ys o = (tt, o)
-Ordered-append m (x ∷ xs) ys o = let rest = Ordered-append (step_mark m x) xs ys o.1 in ((o.0, rest.0), rest.1)
 
 Ordered-cut : (m : Mark) (n : ℕ) (xs : List Row) → Ordered m xs → Ordered m (take n xs) × Ordered (mark_after m (take n xs)) (drop n xs)
 Ordered-cut m n xs o = Ordered-append m (take n xs) (drop n xs) (subst (Ordered m) (sym (take-append-drop n xs)) o)

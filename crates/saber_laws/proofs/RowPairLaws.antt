@@ -7,7 +7,7 @@ use Rattle.saber_plan.specs.Answers.{frame}
 use Rattle.saber_plan.specs.Parts.{pair_part}
 use Rattle.saber_laws.specs.Pairs.{after_rows, RowsAddPairs, WindowsGetPairs, PairsAreInOrder}
 use Rattle.saber_plan.specs.ListFacts.{Each, each-filter}
-use Rattle.saber_laws.proofs.RowLaws.{placed-append}
+use Rattle.saber_plan.specs.RowFacts.{placed-append}
 use Rattle.saber_laws.proofs.PairLaws.{rising-filter, placed_below, placed_rising, behind, behind_after}
 use Rattle.saber_laws.proofs.PairingLaws.{pair_part-push, window-push, entries-late_pairs}
 

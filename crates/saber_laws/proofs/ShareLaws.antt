@@ -11,9 +11,10 @@ use Rattle.saber_plan.specs.Windows.{Frame, no_rows, mark_of, has, begun, closed
 use Rattle.saber_plan.specs.Answers.{key_cmp, passing, groups, pairs, pair_answers, entries_in, entry_lines, by_shape, frame, lines}
 use Rattle.saber_plan.specs.Parts.{no_part, part, part_lines, answers_of, answers_in, group_part, pair_part, merge}
 use Rattle.saber_plan.specs.MapFacts.{entries-empty}
-use Rattle.saber_laws.proofs.PartLaws.{merge-empty_left, merge-empty_right, group_part-append, group_part-empty, answers-group_part}
-use Rattle.saber_laws.proofs.RowLaws.{inside-join, inside-take, inside-not_begun, inside-closed, slice-placed, slice-front, take-placed}
-use Rattle.saber_plan.specs.ListFacts.{Each, each-filter, each-weaker}
+use Rattle.saber_plan.specs.PartFacts.{merge-empty_left, merge-empty_right}
+use Rattle.saber_laws.proofs.PartLaws.{group_part-append, group_part-empty, answers-group_part}
+use Rattle.saber_laws.proofs.RowLaws.{inside-join, inside-take, inside-not_begun, inside-closed, slice-placed, take-placed}
+use Rattle.saber_plan.specs.ListFacts.{Each, each-filter, each-weaker, slice-front}
 use Rattle.saber_laws.proofs.PairLaws.{Rising, rising-filter, pair_part-join, pair_part-none, answers-pair_part, placed_from, placed_below, placed_rising, behind_after}
 
 pub passing-append : (q : Tree) (us vs : List Placed) → passing q (us ++ vs) ≡ passing q us ++ passing q vs
@@ -54,7 +55,7 @@ part-join q i xs x y z a b h =
       | Join ↦ join
     ]
 
-shaped : {A : Type 0} (s : Shape) (a b c d : A) → a ≡ d → b ≡ d → c ≡ d → by_shape s a b c ≡ d
+pub shaped : {A : Type 0} (s : Shape) (a b c d : A) → a ≡ d → b ≡ d → c ≡ d → by_shape s a b c ≡ d
 shaped Select a b c d e f g = e
 shaped Group a b c d e f g = f
 shaped Join a b c d e f g = g

@@ -1,23 +1,24 @@
 -- The parts of closing, pending and opening windows, one list after another.
-use Rattle.std.proofs.Common.{◌≡◌, ℕ, zero, suc, ◌+◌, ◌-◌, ◌≤◌, ◌<◌, min, max, List, [], ◌++◌, take, Bool, false, cond, Option, None, option_map, T, refl, sym, ◌∙◌, ap, subst, append-nil, arith}
+use Rattle.std.proofs.Common.{◌≡◌, ℕ, zero, suc, ◌+◌, ◌-◌, ◌≤◌, ◌<◌, min, max, List, [], ◌++◌, Bool, false, cond, Option, None, option_map, T, refl, sym, ◌∙◌, ap, subst, append-nil, arith}
 use Rattle.std.specs.List.{cons_option, filter_map}
 use Rattle.std.proofs.lemmas.Bool.Decides.{nat_tests}
 use Rattle.std.proofs.lemmas.List.Elements.{filter_map-append}
 use Rattle.std.specs.Ordering.{nat_cmp}
 use Rattle.std.specs.FinMap.{from_entries, is_sorted, entries_sorted}
-use Rattle.saber_plan.specs.declared.rows.Row.{Row}
 use Rattle.saber_plan.specs.declared.windows.Kind.{Kind}
 use Rattle.saber_plan.specs.Trees.{Tree}
-use Rattle.saber_plan.specs.Windows.{mark_of, closed_count, begun_count, kind_of, from}
+use Rattle.saber_plan.specs.Inputs.{Input}
+use Rattle.saber_plan.specs.Windows.{mark_at, closed_count, begun_count, kind_of, from}
 use Rattle.saber_plan.specs.Answers.{frame}
 use Rattle.saber_plan.specs.Parts.{Part, part}
-use Rattle.saber_plan.specs.Tasks.{full, numbered, is_part, piece_between}
-use Rattle.saber_plan.specs.Needs.{is_closing, is_pending, is_opening, of_kind}
-use Rattle.saber_plan.specs.Shares.{entries_in, shares_between}
+use Rattle.saber_plan.specs.Shares.{full, numbered, is_closing, is_pending, is_opening, of_kind, entries_in, shares_between}
+use Rattle.saber_plan.specs.Tasks.{piece_between}
 use Rattle.saber_laws.specs.Shares.{Between, SharesMakePiece, SharesRise}
 use Rattle.saber_laws.proofs.WindowLaws.{closed_within_begun}
+use Rattle.saber_laws.proofs.DirectLaws.{is_part}
 use Rattle.saber_laws.proofs.NumberedLaws.{from-append, entries-numbered}
-use Rattle.saber_laws.proofs.AssemblyLaws.{count_kind, kind_is, closed_rises, begun_rises}
+use Rattle.saber_laws.proofs.AssemblyLaws.{count_kind, kind_is}
+use Rattle.saber_laws.proofs.EndLaws.{closed_rises, begun_rises}
 
 -- ---- numbers in a row
 
@@ -25,7 +26,7 @@ module _ {X : Type 0} where
   numbered-append : (a m n : ℕ) (f : ℕ → Option X) → numbered a (m + n) f ≡ numbered a m f ++ numbered (a + m) n f
   numbered-append a m n f = ap (filter_map (λ i. option_map (λ x. (i, x)) (f i))) (from-append a m n) ∙ filter_map-append (λ i. option_map (λ x. (i, x)) (f i)) (from a m) (from (a + m) n)
 
-  numbered-none : (a n : ℕ) (f : ℕ → Option X) → ((i : ℕ) → a ≤ i → i < a + n → f i ≡ None) → numbered a n f ≡ []
+  pub numbered-none : (a n : ℕ) (f : ℕ → Option X) → ((i : ℕ) → a ≤ i → i < a + n → f i ≡ None) → numbered a n f ≡ []
   unfolding from
   numbered-none a zero f h = refl
   numbered-none a (suc n) f h = ap (λ o. cons_option (option_map (λ x. (a, x)) o) (numbered (a + 1) n f)) (h a (omega arith) (omega arith)) ∙ numbered-none (a + 1) n f (λ i l b. h i (omega arith) (omega arith))
@@ -105,39 +106,35 @@ module _ (ca ga cb gb : ℕ) (ca_cb : ca ≤ cb) (ga_gb : ga ≤ gb) (ca_ga : ca
 
 -- ---- the parts of a task
 
-abbrev open_entries : Tree → List Row → ℕ → ℕ → List (ℕ × Part)
-open_entries q xs x y =
-    let a = mark_of (take x xs) in
-    let b = mark_of (take y xs) in
-    numbered (closed_count (frame q) a) (begun_count (frame q) b - closed_count (frame q) a) (λ i. cond (is_part (kind_of (frame q) i a b)) (full (part q i xs x y)) None)
+abbrev open_entries : Tree → Input → ℕ → ℕ → List (ℕ × Part)
+open_entries q r x y =
+    let a = mark_at r x in
+    let b = mark_at r y in
+    numbered (closed_count (frame q) a) (begun_count (frame q) b - closed_count (frame q) a) (λ i. cond (is_part (kind_of (frame q) i a b)) (full (part q i r.rows x y)) None)
 
-entries_are : (q : Tree) (xs : List Row) (x y : ℕ) → Between q xs x y → entries_in (shares_between q xs x y) ≡ open_entries q xs x y
+entries_are : (q : Tree) (r : Input) (x y : ℕ) → Between q r x y → entries_in (shares_between q r x y) ≡ open_entries q r x y
 unfolding shares_between of_kind
-entries_are q xs x y t =
+entries_are q r x y t =
     let f = frame q in
-    let a = mark_of (take x xs) in
-    let b = mark_of (take y xs) in
+    let a = mark_at r x in
+    let b = mark_at r y in
     let n = begun_count f b - closed_count f a in
-    let at = λ (i : ℕ). full (part q i xs x y) in
+    let at = λ (i : ℕ). full (part q i r.rows x y) in
     let counted = λ (i : ℕ). kind_is f t.fits i a b in
     let by = λ (wanted : Option Kind → Bool) (kinds : ℕ → Option Kind). numbered (closed_count f a) n (λ i. cond (wanted (kinds i)) (at i) None) in
     (λ j. by is_closing (λ i. counted i j) ++ (by is_pending (λ i. counted i j) ++ by is_opening (λ i. counted i j)))
-    ∙ three_are (closed_count f a) (begun_count f a) (closed_count f b) (begun_count f b) (closed_rises f t.fits xs x y t.ordered t.rises) (begun_rises f t.fits xs x y t.ordered t.rises) (closed_within_begun f t.fits a) (closed_within_begun f t.fits b) at
+    ∙ three_are (closed_count f a) (begun_count f a) (closed_count f b) (begun_count f b) (closed_rises f t.fits r x y t.ordered t.rises) (begun_rises f t.fits r x y t.ordered t.rises) (closed_within_begun f t.fits a) (closed_within_begun f t.fits b) at
     ∙ sym (λ j. by is_part (λ i. counted i j))
 
 pub make_piece : SharesMakePiece
-unfolding shares_between piece_between
-make_piece q xs x y t = λ j. record {
-  parts = from_entries (entries_are q xs x y t j);
-  lines = (piece_between q xs x y).lines;
-  closed = (piece_between q xs x y).closed;
-}
+unfolding piece_between
+make_piece q r x y t = refl
 
 pub rise : SharesRise
-rise q xs x y t =
-    let a = mark_of (take x xs) in
-    let b = mark_of (take y xs) in
-    let own : open_entries q xs x y ≡ entries_in (shares_between q xs x y) = sym (entries_are q xs x y t) in
+rise q r x y t =
+    let a = mark_at r x in
+    let b = mark_at r y in
+    let own : open_entries q r x y ≡ entries_in (shares_between q r x y) = sym (entries_are q r x y t) in
     subst (λ es. T (is_sorted nat_cmp es))
-    (entries-numbered (closed_count (frame q) a) (begun_count (frame q) b - closed_count (frame q) a) (λ i. cond (is_part (kind_of (frame q) i a b)) (full (part q i xs x y)) None) ∙ own)
-    (entries_sorted (from_entries {R = nat_cmp} (open_entries q xs x y)))
+    (entries-numbered (closed_count (frame q) a) (begun_count (frame q) b - closed_count (frame q) a) (λ i. cond (is_part (kind_of (frame q) i a b)) (full (part q i r.rows x y)) None) ∙ own)
+    (entries_sorted (from_entries {R = nat_cmp} (open_entries q r x y)))

@@ -1,5 +1,5 @@
 -- The laws of assembly, task by task.
-use Rattle.std.proofs.Common.{◌≡◌, ℕ, zero, suc, ◌+◌, ◌-◌, ◌*◌, ◌≤◌, List, [], ◌∷◌, ◌++◌, filter, flat_map, length, take, slice_range, Bool, true, false, cond, ◌&&◌, Option, None, refl, sym, ◌∙◌, ap, append_assoc, append-nil, take-take, le_trans, zero-le, arith}
+use Rattle.std.proofs.Common.{◌≡◌, ℕ, zero, suc, ◌+◌, ◌-◌, ◌≤◌, List, [], ◌∷◌, ◌++◌, filter, flat_map, take, slice_range, Bool, true, false, cond, ◌&&◌, Option, refl, sym, ◌∙◌, ap, append_assoc, append-nil, le_trans, zero-le, arith}
 use Rattle.std.specs.FinMap.{empty, from_entries}
 use Rattle.std.specs.Ordering.{nat_cmp}
 use Rattle.std.proofs.lemmas.List.Elements.{filter-append}
@@ -8,46 +8,44 @@ use Rattle.saber_plan.specs.declared.rows.Row.{Row}
 use Rattle.saber_plan.specs.declared.plans.Shape.TheVariants.{Select, Group, Join}
 use Rattle.saber_plan.specs.declared.windows.Measure.TheVariants.{Rows, Range}
 use Rattle.saber_plan.specs.Trees.{Tree}
-use Rattle.saber_plan.specs.Windows.{Frame, unwindowed, one, two, Fits, no_rows, mark_of, begun, begun_count, closed_count, Ordered, kind_of, from, has, inside, Placed, placed_after}
+use Rattle.saber_plan.specs.Inputs.{Input, arrived, going_on}
+use Rattle.saber_plan.specs.Windows.{Frame, unwindowed, one, two, Fits, no_rows, mark_of, last_mark, mark_at, begun, begun_count, closed_count, Ordered, kind_of, from, has, inside, Placed, placed_after}
 use Rattle.saber_plan.specs.Answers.{frame, lines, text, window_text, by_shape, passing, selected}
 use Rattle.saber_plan.specs.Parts.{Part, no_part, part, part_lines, group_part, pair_part, merge}
-use Rattle.saber_plan.specs.Tasks.{cut, upto, full, numbered, is_part, is_complete, unclosed, take_in, joined_to, stage_at, PiecesMakeText, piece, piece_between, written_by, left_by}
-use Rattle.saber_laws.proofs.PartLaws.{merge-empty_left, group_part-append}
-use Rattle.saber_laws.proofs.RowLaws.{slice-placed, slice-take}
+use Rattle.saber_plan.specs.declared.windows.Kind.{Kind}
+use Rattle.saber_plan.specs.Shares.{full, numbered, is_complete, is_closing, is_pending, is_opening, of_kind, piece_in, shares_between}
+use Rattle.saber_plan.specs.Tasks.{cut, upto, unclosed, take_in, joined_to, stage_at, PiecesMakeText, piece, piece_between, written_by, left_by}
+use Rattle.saber_plan.specs.ListFacts.{slice-take}
+use Rattle.saber_plan.specs.PartFacts.{merge-empty_left}
+use Rattle.saber_laws.proofs.PartLaws.{group_part-append}
+use Rattle.saber_laws.proofs.RowLaws.{slice-placed}
 use Rattle.saber_laws.proofs.WindowLaws.{closed_within_begun}
-use Rattle.saber_laws.proofs.ShareLaws.{passing-append, part-join, part-not_begun, part-take, lines-upto}
+use Rattle.saber_laws.proofs.ShareLaws.{passing-append, part-take}
+use Rattle.saber_laws.proofs.EndLaws.{join_at, part_not_begun, lines_upto, arrived_twice}
+use Rattle.saber_laws.proofs.TaskCutLaws.{cut_rises, no_cut}
 use Rattle.saber_laws.proofs.AssemblyLaws.{text_law, open_law}
 
-pub cut_rises : (n : ℕ) (xs : List Row) (k : ℕ) → cut n xs k ≤ cut n xs (k + 1)
-cut_rises n xs k = let step : (k + 1) * n ≡ k * n + n = grind arith in omega (arith, step)
-
-pub cut_within : (n : ℕ) (xs : List Row) (k : ℕ) → cut n xs k ≤ length xs
-cut_within n xs k = omega arith
-
 -- the assembly law: what a stage with k tasks behind it writes and keeps on piece k
-pub next_text : (q : Tree) → Fits (frame q) → (n : ℕ) (xs : List Row) → Ordered no_rows xs → (k : ℕ) → text q (upto n xs (k + 1)) ≡ text q (upto n xs k) ++ written_by q (unclosed q (upto n xs k)) (piece q n xs k)
-next_text q w n xs o k = text_law q w xs (cut n xs k) (cut n xs (k + 1)) o (cut_rises n xs k) (cut_within n xs (k + 1))
+pub next_text : (q : Tree) → Fits (frame q) → (n : ℕ) (r : Input) → Ordered no_rows r.rows → (k : ℕ) → text q (upto n r (k + 1)) ≡ text q (upto n r k) ++ written_by q (unclosed q (upto n r k)) (piece q n r k)
+next_text q w n r o k = text_law q w r (cut n r k) (cut n r (k + 1)) o (cut_rises n r k)
 
-pub next_open : (q : Tree) → Fits (frame q) → (n : ℕ) (xs : List Row) → Ordered no_rows xs → (k : ℕ) → left_by q (unclosed q (upto n xs k)) (piece q n xs k) ≡ unclosed q (upto n xs (k + 1))
-next_open q w n xs o k = open_law q w xs (cut n xs k) (cut n xs (k + 1)) o (cut_rises n xs k) (cut_within n xs (k + 1))
+pub next_open : (q : Tree) → Fits (frame q) → (n : ℕ) (r : Input) → Ordered no_rows r.rows → (k : ℕ) → left_by q (unclosed q (upto n r k)) (piece q n r k) ≡ unclosed q (upto n r (k + 1))
+next_open q w n r o k = open_law q w r (cut n r k) (cut n r (k + 1)) o (cut_rises n r k)
 
 -- ---- all pieces in order
 
 suc_is : (k : ℕ) → suc k ≡ k + 1
 suc_is k = omega arith
 
-stage_step : (q : Tree) → Fits (frame q) → (n : ℕ) (xs : List Row) → Ordered no_rows xs → (start : List ℕ) (k : ℕ) → take_in q (stage_at q n xs start k) (piece q n xs k) ≡ stage_at q n xs start (k + 1)
-stage_step q w n xs o start k = λ i. record {
-  written = (append_assoc start (text q (upto n xs k)) (written_by q (unclosed q (upto n xs k)) (piece q n xs k)) ∙ ap (λ l. start ++ l) (sym (next_text q w n xs o k))) i;
-  parts = next_open q w n xs o k i;
+stage_step : (q : Tree) → Fits (frame q) → (n : ℕ) (r : Input) → Ordered no_rows r.rows → (start : List ℕ) (k : ℕ) → take_in q (stage_at q n r start k) (piece q n r k) ≡ stage_at q n r start (k + 1)
+stage_step q w n r o start k = λ i. record {
+  written = (append_assoc start (text q (upto n r k)) (written_by q (unclosed q (upto n r k)) (piece q n r k)) ∙ ap (λ l. start ++ l) (sym (next_text q w n r o k))) i;
+  parts = next_open q w n r o k i;
 }
 
-pub joined_is : (q : Tree) → Fits (frame q) → (n : ℕ) (xs : List Row) → Ordered no_rows xs → (start : List ℕ) (k : ℕ) → joined_to q n xs (stage_at q n xs start 0) k ≡ stage_at q n xs start k
-joined_is q w n xs o start zero = refl
-joined_is q w n xs o start (suc k) = ap (λ s. take_in q s (piece q n xs k)) (joined_is q w n xs o start k) ∙ stage_step q w n xs o start k ∙ ap (stage_at q n xs start) (sym (suc_is k))
-
-pub no_cut : (n : ℕ) (xs : List Row) → upto n xs 0 ≡ []
-no_cut n xs = let none : cut n xs 0 ≡ 0 = omega arith in ap (λ c. take c xs) none
+pub joined_is : (q : Tree) → Fits (frame q) → (n : ℕ) (r : Input) → Ordered no_rows r.rows → (start : List ℕ) (k : ℕ) → joined_to q n r (stage_at q n r start 0) k ≡ stage_at q n r start k
+joined_is q w n r o start zero = refl
+joined_is q w n r o start (suc k) = ap (λ s. take_in q s (piece q n r k)) (joined_is q w n r o start k) ∙ stage_step q w n r o start k ∙ ap (stage_at q n r start) (sym (suc_is k))
 
 none_begun : (f : Frame) → begun_count f no_rows ≡ 0
 none_begun unwindowed = refl
@@ -63,40 +61,42 @@ no_windows : (q : Tree) (n : ℕ) → n ≡ 0 → flat_map (λ i. lines q i []) 
 unfolding from
 no_windows q n e = ap (λ k. flat_map (λ i. lines q i []) (from 0 k)) e
 
-pub text-none : (q : Tree) → Fits (frame q) → text q [] ≡ []
+pub text-none : (q : Tree) → Fits (frame q) → text q (going_on []) ≡ []
 unfolding text
-text-none q w = let none = no_windows q _ (none_closed (frame q) w) in elim (q.shape) as (λ s. by_shape s [] (window_text q []) (window_text q []) ≡ []) [ Select ↦ refl | Group ↦ none | Join ↦ none ]
+text-none q w = let none = no_windows q _ (none_closed (frame q) w) in elim (q.shape) as (λ s. by_shape s [] (window_text q (going_on [])) (window_text q (going_on [])) ≡ []) [ Select ↦ refl | Group ↦ none | Join ↦ none ]
 
-no_numbers : {X : Type 0} (a n : ℕ) (f : ℕ → Option X) → n ≡ 0 → from_entries {R = nat_cmp} (numbered a n f) ≡ empty
+pub no_numbers : {X : Type 0} (a n : ℕ) (f : ℕ → Option X) → n ≡ 0 → from_entries {R = nat_cmp} (numbered a n f) ≡ empty
 unfolding from
 no_numbers a n f e = ap (λ k. from_entries {R = nat_cmp} (numbered a k f)) e
 
-pub open-none : (q : Tree) → Fits (frame q) → unclosed q [] ≡ empty
+pub open-none : (q : Tree) → Fits (frame q) → unclosed q (going_on []) ≡ empty
 unfolding unclosed
 open-none q w = no_numbers _ _ (λ i. full (part q i [] 0 0)) (omega (arith, none_begun (frame q)))
 
 -- what the first k pieces make of an empty stage
-pub pieces_make : (q : Tree) → Fits (frame q) → (n : ℕ) (xs : List Row) → Ordered no_rows xs → (start : List ℕ) (k : ℕ) → joined_to q n xs (record { written = start; parts = empty }) k ≡ stage_at q n xs start k
-pieces_make q w n xs o start k = ap (λ s. joined_to q n xs s k) (λ i. record {
-  written = (sym (append-nil start) ∙ ap (λ l. start ++ l) (sym (ap (text q) (no_cut n xs) ∙ text-none q w))) i;
-  parts = sym (ap (unclosed q) (no_cut n xs) ∙ open-none q w) i;
-}) ∙ joined_is q w n xs o start k
+pub pieces_make : (q : Tree) → Fits (frame q) → (n : ℕ) (r : Input) → Ordered no_rows r.rows → (start : List ℕ) (k : ℕ) → joined_to q n r (record { written = start; parts = empty }) k ≡ stage_at q n r start k
+pieces_make q w n r o start k = ap (λ s. joined_to q n r s k) (λ i. record {
+  written = (sym (append-nil start) ∙ ap (λ l. start ++ l) (sym (ap (text q) (no_cut n r) ∙ text-none q w))) i;
+  parts = sym (ap (unclosed q) (no_cut n r) ∙ open-none q w) i;
+}) ∙ joined_is q w n r o start k
 
 -- ---- a piece looks at no later row
 
-pub piece-take : (q : Tree) (xs : List Row) (x y n : ℕ) → x ≤ y → y ≤ n → piece_between q (take n xs) x y ≡ piece_between q xs x y
-unfolding piece_between
-piece-take q xs x y n a b =
+pub piece-take : (q : Tree) (r : Input) (x y n : ℕ) → x ≤ y → y ≤ n → piece_between q (arrived r n) x y ≡ piece_between q r x y
+unfolding piece_between shares_between
+piece-take q r x y n a b =
     let f = frame q in
-    let whole : (take x (take n xs) ≡ take x xs) = take-take x n xs (le_trans a b) in
-    let all : (take y (take n xs) ≡ take y xs) = take-take y n xs b in
-    λ j. record {
-      parts = from_entries (numbered (closed_count f (mark_of (whole j))) (begun_count f (mark_of (all j)) - closed_count f (mark_of (whole j))) (λ i. cond (is_part (kind_of f i (mark_of (whole j)) (mark_of (all j)))) (full (part-take q i xs x y n a b j)) None));
-      lines = by_shape q.shape (selected q (slice-take xs x y n a b j))
-          (flat_map (λ i. lines q i (all j)) (filter (λ i. is_complete (kind_of f i (mark_of (whole j)) (mark_of (all j)))) (from (closed_count f (mark_of (whole j))) (begun_count f (mark_of (all j)) - closed_count f (mark_of (whole j))))))
-          (flat_map (λ i. lines q i (all j)) (filter (λ i. is_complete (kind_of f i (mark_of (whole j)) (mark_of (all j)))) (from (closed_count f (mark_of (whole j))) (begun_count f (mark_of (all j)) - closed_count f (mark_of (whole j))))));
-      closed = closed_count f (mark_of (all j));
-    }
+    let before : arrived (arrived r n) x ≡ arrived r x = arrived_twice r x n (le_trans a b) in
+    let after : arrived (arrived r n) y ≡ arrived r y = arrived_twice r y n b in
+    let of = λ (wanted : Option Kind → Bool) (u v : Input) (at : ℕ → Part). of_kind wanted f (last_mark u) (last_mark v) at in
+    let whole = λ (u v : Input). flat_map (λ i. lines q i v.rows) (filter (λ i. is_complete (kind_of f i (last_mark u) (last_mark v))) (from (closed_count f (last_mark u)) (begun_count f (last_mark v) - closed_count f (last_mark u)))) in
+    λ j. piece_in (record {
+      closing = of is_closing (before j) (after j) (λ i. part-take q i r.rows x y n a b j);
+      pending = of is_pending (before j) (after j) (λ i. part-take q i r.rows x y n a b j);
+      opening = of is_opening (before j) (after j) (λ i. part-take q i r.rows x y n a b j);
+      lines = by_shape q.shape (selected q (slice-take r.rows x y n a b j)) (whole (before j) (after j)) (whole (before j) (after j));
+      closed = closed_count f (last_mark (after j));
+    })
 
 -- ---- what a fragment computes from the task's rows and the mark before them
 
@@ -105,8 +105,8 @@ pub part-local : (q : Tree) (i : ℕ) (xs : List Row) (x y : ℕ) → q.shape �
 part-local q i xs x y e = ap (λ s. by_shape s no_part (group_part q (passing q (inside (frame q) i xs x y))) (pair_part q x (inside (frame q) i xs 0 y))) e ∙ ap (λ l. group_part q (passing q (filter (has (frame q) i) l))) (slice-placed xs x y)
 
 -- a window that wasn't begun has its lines from the piece alone
-pub lines-whole : (q : Tree) (i : ℕ) (xs : List Row) (x y : ℕ) → Ordered no_rows xs → x ≤ y → y ≤ length xs → begun (frame q) i (mark_of (take x xs)) ≡ false → lines q i (take y xs) ≡ part_lines q i (part q i xs x y)
-lines-whole q i xs x y o a h b = lines-upto q i xs y h ∙ ap (λ p. part_lines q i p) (part-join q i xs 0 x y zero-le a (le_trans a h) ∙ ap (λ p. merge p (part q i xs x y)) (part-not_begun q i xs x o b) ∙ merge-empty_left (part q i xs x y))
+pub lines-whole : (q : Tree) (i : ℕ) (r : Input) (x y : ℕ) → Ordered no_rows r.rows → x ≤ y → begun (frame q) i (mark_at r x) ≡ false → lines q i (take y r.rows) ≡ part_lines q i (part q i r.rows x y)
+lines-whole q i r x y o a b = lines_upto q i r.rows y ∙ ap (λ p. part_lines q i p) (join_at q i r.rows 0 x y zero-le a ∙ ap (λ p. merge p (part q i r.rows x y)) (part_not_begun q i r x o b) ∙ merge-empty_left (part q i r.rows x y))
 
 -- ---- one more row of a task
 

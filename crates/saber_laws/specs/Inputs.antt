@@ -45,7 +45,8 @@ FitsItsSide left right r = RowFits r.side (by_side r.side left right) r
 
 -- its rows are rows of both sides, and no more
 abbrev pub MergesFit : Type 0
-MergesFit = (l r : Read) (left right : ℕ) → AllByRecursion (RowFits Left left) l.rows → AllByRecursion (RowFits Right right) r.rows → AllByRecursion (FitsItsSide left right) (merged l r).rows
+MergesFit = (l r : Read) (left right : ℕ) → AllByRecursion (RowFits Left left) l.rows → AllByRecursion (RowFits Right right) r.rows
+    → AllByRecursion (FitsItsSide left right) (merged l r).rows
 
 abbrev pub MergesAreShort : Type 0
 MergesAreShort = (l r : Read) → length (merged l r).rows ≤ length l.rows + length r.rows
@@ -68,13 +69,18 @@ pub record SidesEnd (l r : Read) : Type 0 where
 abbrev pub MergesEnd : Type 0
 MergesEnd = (l r : Read) → AllOn Left l.rows → AllOn Right r.rows → (merged l r).end ≡ all_read → SidesEnd l r
 
--- one row of a merge, by the heads of both sides: the merge stops at a side that holds it up, takes what the other has where one is read to its end, else takes the head of lesser timestamp
+-- the head of lesser timestamp, the left on a tie, and then the merge of what is left
+abbrev pub lesser_first : Row → List Row → End → Row → List Row → End → Read
+lesser_first x xs e y ys d = if nat_le (stamp x.values) (stamp y.values) then before x (merged_rows xs e (y ∷ ys) d) else before y (merged_rows (x ∷ xs) e ys d)
+
+-- One row of a merge, by the heads of both sides: the merge stops at a side that holds it up, takes what the other has
+-- where one is read to its end, else takes the head of lesser timestamp.
 pub record MergeTurns : Type 0 where
   pub left_stops : (e d : End) (ys : List Row) → holds_up e ≡ true → merged_rows [] e ys d ≡ record { rows = []; end = e }
   pub left_ended : (d : End) (ys : List Row) → merged_rows [] all_read ys d ≡ record { rows = ys; end = d }
   pub right_stops : (x : Row) (xs : List Row) (e d : End) → holds_up d ≡ true → merged_rows (x ∷ xs) e [] d ≡ record { rows = []; end = d }
   pub right_ended : (x : Row) (xs : List Row) (e : End) → merged_rows (x ∷ xs) e [] all_read ≡ record { rows = x ∷ xs; end = e }
-  pub takes : (x : Row) (xs : List Row) (e : End) (y : Row) (ys : List Row) (d : End) → merged_rows (x ∷ xs) e (y ∷ ys) d ≡ (if nat_le (stamp x.values) (stamp y.values) then before x (merged_rows xs e (y ∷ ys) d) else before y (merged_rows (x ∷ xs) e ys d))
+  pub takes : (x : Row) (xs : List Row) (e : End) (y : Row) (ys : List Row) (d : End) → merged_rows (x ∷ xs) e (y ∷ ys) d ≡ lesser_first x xs e y ys d
 
 -- ---- counts of each side
 

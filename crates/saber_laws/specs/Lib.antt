@@ -1,10 +1,15 @@
 pub mod Windows
+pub mod Marks
+pub mod Ends
+pub mod Cuts
 pub mod Parts
 pub mod Pieces
 pub mod Shares
 pub mod Needs
 pub mod Plans
 pub mod Inputs
+pub mod Fronts
 pub mod Pairs
 pub mod Kinds
 pub mod Numbers
+pub mod Groups

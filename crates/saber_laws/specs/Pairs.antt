@@ -25,9 +25,11 @@ RowsAddPairs = (q : Tree) (x : ℕ) (chosen : Placed → Bool) (m : Mark) (xs : 
 -- so each window that has the row gets its pairs, and no other
 abbrev pub WindowsGetPairs : Type 0
 WindowsGetPairs = (q : Tree) (x i : ℕ) (m : Mark) (xs : List Row) (r : Row) → x ≤ place (after_rows m xs r)
-    → pair_part q x (filter (has (frame q) i) (placed_after m (xs ++ r ∷ []))) ≡ (if has (frame q) i (after_rows m xs r) then with_row q x (filter (has (frame q) i) (placed_after m xs)) (after_rows m xs r) else pair_part q x (filter (has (frame q) i) (placed_after m xs)))
+    → pair_part q x (filter (has (frame q) i) (placed_after m (xs ++ r ∷ [])))
+    ≡ (let chosen = filter (has (frame q) i) (placed_after m xs) in if has (frame q) i (after_rows m xs r) then with_row q x chosen (after_rows m xs r) else pair_part q x chosen)
 
 -- the entries of a part are its pairs, in order
 abbrev pub PairsAreInOrder : Type 0
 PairsAreInOrder = (q : Tree) (x : ℕ) (chosen : Placed → Bool) (m : Mark) (xs : List Row)
-    → entries (pair_part q x (filter chosen (placed_after m xs))) ≡ filter (λ e. nat_le x (later e.0)) (pairs q (pair_numbers q) (filter chosen (placed_after m xs)))
+    → entries (pair_part q x (filter chosen (placed_after m xs)))
+    ≡ filter (λ e. nat_le x (later e.0)) (pairs q (pair_numbers q) (filter chosen (placed_after m xs)))

@@ -3,7 +3,8 @@ use Rattle.std.specs.Prelude.{◌≡◌, ℕ, ◌≤◌, List, [], ◌∷◌, �
 use Rattle.std.specs.FinMap.{get}
 use Rattle.saber_plan.specs.declared.rows.Row.{Row}
 use Rattle.saber_plan.specs.Trees.{Tree}
-use Rattle.saber_plan.specs.Windows.{Ordered, no_rows, mark_of, closed, begun, Placed, has}
+use Rattle.saber_plan.specs.Inputs.{Input}
+use Rattle.saber_plan.specs.Windows.{Ordered, no_rows, mark_at, closed, begun, Placed, has}
 use Rattle.saber_plan.specs.Answers.{lines, frame, passing}
 use Rattle.saber_plan.specs.Values.{passes}
 use Rattle.saber_plan.specs.Merges.{join, both}
@@ -25,9 +26,10 @@ PartsJoin = (q : Tree) (i : ℕ) (xs : List Row) (x y z : ℕ) → x ≤ y → y
 abbrev pub PartHasLines : Type 0
 PartHasLines = (q : Tree) (i : ℕ) (xs : List Row) → lines q i xs ≡ part_lines q i (part q i xs 0 (length xs))
 
--- no later row changes the lines of a closed window
+-- no later arrival changes the lines of a closed window
 abbrev pub ClosedLinesStay : Type 0
-ClosedLinesStay = (q : Tree) (i : ℕ) (xs : List Row) (x y : ℕ) → Ordered no_rows xs → x ≤ y → y ≤ length xs → closed (frame q) i (mark_of (take x xs)) ≡ true → lines q i (take y xs) ≡ lines q i (take x xs)
+ClosedLinesStay = (q : Tree) (i : ℕ) (r : Input) (x y : ℕ) → Ordered no_rows r.rows → x ≤ y → closed (frame q) i (mark_at r x) ≡ true
+    → lines q i (take y r.rows) ≡ lines q i (take x r.rows)
 
 -- ---- what a key has
 
@@ -54,14 +56,14 @@ abbrev pub NoRowsNoPart : Type 0
 NoRowsNoPart = (q : Tree) → EmptyParts q
 
 -- a window that is closed before some rows, or not begun by them, has no part of them
-pub record OutsideParts (q : Tree) (i : ℕ) (xs : List Row) (x y : ℕ) : Type 0 where
-  pub closed_before : closed (frame q) i (mark_of (take x xs)) ≡ true → part q i xs x y ≡ no_part
-  pub not_begun : begun (frame q) i (mark_of (take y xs)) ≡ false → part q i xs x y ≡ no_part
+pub record OutsideParts (q : Tree) (i : ℕ) (r : Input) (x y : ℕ) : Type 0 where
+  pub closed_before : closed (frame q) i (mark_at r x) ≡ true → part q i r.rows x y ≡ no_part
+  pub not_begun : begun (frame q) i (mark_at r y) ≡ false → part q i r.rows x y ≡ no_part
 
 abbrev pub PartsLieWithin : Type 0
-PartsLieWithin = (q : Tree) (i : ℕ) (xs : List Row) (x y : ℕ) → Ordered no_rows xs → x ≤ y → y ≤ length xs → OutsideParts q i xs x y
+PartsLieWithin = (q : Tree) (i : ℕ) (r : Input) (x y : ℕ) → Ordered no_rows r.rows → x ≤ y → OutsideParts q i r x y
 
 -- a row that passes is merged into each window that has it, and into no other
 abbrev pub RowsAddToGroups : Type 0
 RowsAddToGroups = (q : Tree) (us : List Placed) (i : ℕ) (r : Placed) → group_part q (passing q (filter (has (frame q) i) (us ++ r ∷ [])))
-    ≡ (if has (frame q) i r && passes q.predicate r.row.values [] then merge (group_part q (passing q (filter (has (frame q) i) us))) (group_part q (r.row.values ∷ [])) else group_part q (passing q (filter (has (frame q) i) us)))
+    ≡ (let part = group_part q (passing q (filter (has (frame q) i) us)) in if has (frame q) i r && passes q.predicate r.row.values [] then merge part (group_part q (r.row.values ∷ [])) else part)

@@ -4,8 +4,13 @@
 //! which a task needs are enough for its piece, and what the rows of files and checked plans keep.
 #![tactic(auto)]
 
+mod cuts;
+mod ends;
+mod fronts;
+mod groups;
 mod inputs;
 mod kinds;
+mod marks;
 mod needs;
 mod numbers;
 mod pairs;
@@ -15,15 +20,27 @@ mod plans;
 mod shares;
 mod windows;
 
+pub use cuts::{first_of_first, first_tell_free, rows_have_tasks};
+pub use ends::{
+    cuts_rise, ends_begin_none, ends_close_all, flush_gives_no_part, none_needed_behind,
+    nothing_open_behind, open_inputs_are_rows, open_marks_count_rows, rows_do_not_end,
+    tasks_make_all,
+};
+pub use fronts::{all_are_first, inputs_keep_first, merges_keep_first, whole_lines_are_first};
+pub use groups::groups_join;
 pub use inputs::{
     file_rows_fit, merges_are_ordered, merges_are_short, merges_begin, merges_end, merges_fit,
     merges_turn, sides_are_counted, whole_rows_fit,
 };
 pub use kinds::kinds_are_ranges;
+pub use marks::{
+    begun_rise, closed_rise, ends_are_behind, ends_close_more, marks_are_of_rows, marks_follow,
+    no_rows_behind,
+};
 pub use needs::{
-    kinds_are_taken_in, lasts_tell_free, needs_make_parts, needs_make_pieces, needs_stay,
-    parts_by_kind, rows_make_parts, rows_make_pieces, rows_span, tasks_look_back, tasks_look_on,
-    tasks_stay,
+    first_wide_is, kinds_are_taken_in, lasts_tell_free, needs_make_parts, needs_make_pieces,
+    needs_stay, none_is_wide, parts_by_kind, rows_make_parts, rows_make_pieces, rows_span,
+    tasks_look_back, tasks_look_on, tasks_stay,
 };
 pub use numbers::{numbered_maps_give, numbers_follow, texts_agree};
 pub use pairs::{pairs_are_in_order, rows_add_pairs, windows_get_pairs};

@@ -1,5 +1,5 @@
 // Laws of the rows that a task needs.
-ghost use Rattle.saber_laws.specs.Needs.{RowsSpan, NeedsMakeParts, NeedsMakePieces, RowsMakeParts, RowsMakePieces, PartsByKind, KindsAreTakenIn, TasksLookBack, TasksLookOn, LastsTellFree, NeedsStay, TasksStay};
+ghost use Rattle.saber_laws.specs.Needs.{RowsSpan, NeedsMakeParts, NeedsMakePieces, RowsMakeParts, RowsMakePieces, PartsByKind, KindsAreTakenIn, TasksLookBack, TasksLookOn, LastsTellFree, NeedsStay, TasksStay, FirstWideIs, NoneIsWide};
 
 /// A window has a row exactly where its number is one from the row's first window up to the one
 /// after its last.
@@ -62,4 +62,14 @@ pub fn needs_stay()
 /// So do its rows and its piece.
 pub fn tasks_stay()
     ensures { TasksStay }
+{}
+
+/// Which task needs too many tasks' rows: the first one that does.
+pub fn first_wide_is()
+    ensures { FirstWideIs }
+{}
+
+/// None does, where each task's need is met.
+pub fn none_is_wide()
+    ensures { NoneIsWide }
 {}

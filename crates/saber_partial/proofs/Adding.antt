@@ -9,9 +9,9 @@ use Rattle.saber_plan.specs.Trees.{Tree}
 use Rattle.saber_plan.specs.Answers.{key_cmp, key}
 use Rattle.saber_plan.specs.Merges.{joined}
 use Rattle.saber_plan.specs.Parts.{Part, Numbers, numbers, join_numbers, group_part, merge}
-use Rattle.saber_partial.proofs.Keyed.{total, exact, merge-empty_right}
+use Rattle.saber_plan.specs.PartFacts.{total, exact, merge-empty_right}
+use Rattle.saber_plan.specs.MapFacts.{take_one}
 use Rattle.saber_partial.specs.Tallies.{CanJoin, CanMerge, seen_entries, seen_groups}
-use Rattle.saber_partial.proofs.Finite.{take_one}
 use Rattle.saber_partial.proofs.Merging.{join_here, not_both}
 
 -- the part of one row

@@ -17,9 +17,11 @@ use Rattle.saber_plan.specs.Parts.{Part, no_part, Numbers, numbers, join_numbers
 use Rattle.saber_partial.specs.Tallies.{CanJoin, CanMerge}
 use Rattle.saber_partial.specs.PartLaws.{OfItems, OfRows}
 use Rattle.saber_plan.specs.Merges.{join}
-use Rattle.saber_partial.proofs.Finite.{get-both}
+use Rattle.saber_plan.specs.MapFacts.{get-both}
+use Rattle.saber_plan.specs.PartFacts.{total, get-group_part, numbers_if}
+use Rattle.saber_plan.specs.ListFacts.{few_pass}
+use Rattle.saber_plan.specs.RowFacts.{length-placed}
 use Rattle.saber_partial.proofs.Zips.{zip_long}
-use Rattle.saber_partial.proofs.Keyed.{total, get-group_part, numbers_if}
 use Rattle.saber_partial.proofs.Merging.{not_both}
 
 can_join : (is : List Item) (a b : Numbers) → OfItems is a → OfItems is b → a.count + b.count ≤ 2 ^ 40 → CanJoin a b
@@ -40,18 +42,10 @@ numbers_there : (is : List Item) (us : List (List ℤ)) (a : Numbers) → number
 numbers_there is [] a e = cc
 numbers_there is (zs ∷ us) a e = ap (λ o. unwrap_or o a) e
 
-few_case : {A : Type 0} (x : A) (l us : List A) (b : Bool) → length l ≤ length us → length (cond b (x ∷ l) l) ≤ suc (length us)
-few_case x l us true h = omega (arith, h)
-few_case x l us false h = omega (arith, h)
-
-few-filter : {A : Type 0} (p : A → Bool) (us : List A) → length (filter p us) ≤ length us
-few-filter p [] = omega arith
-few-filter p (x ∷ us) = few_case x (filter p us) us (p x) (few-filter p us)
-
 pub groups_of_rows : (q : Tree) (us : List (List ℤ)) → OfRows q (length us) (group_part q us)
 groups_of_rows q us = record {
   at = λ k a e.
-      let low = few-filter (λ (zs : List ℤ). eq_by_cmp key_cmp k (key q.keys zs)) us in
+      let low = few_pass (λ (zs : List ℤ). eq_by_cmp key_cmp k (key q.keys zs)) us in
       let mine = numbers_there q.items (rows_of_key q.keys k us) a (sym (get-group_part q us k) ∙ e) in
       subst (λ (x : Numbers). (x.count ≤ length us) × OfItems q.items x) mine (low, numbers_fit q.items (rows_of_key q.keys k us));
 }
@@ -103,17 +97,12 @@ groups_merge q us vs n = small_merge q (length us) (length vs) (group_part q us)
 
 -- ---- rows of windows
 
-placed_long : (m : Mark) (xs : List Row) → length (placed_after m xs) ≡ length xs
-unfolding placed_after
-placed_long m [] = refl
-placed_long m (x ∷ xs) = ap suc (placed_long (step_mark m x) xs)
-
 few_passing : (q : Tree) (i : ℕ) (xs : List Row) (x y : ℕ) → length (passing q (inside (frame q) i xs x y)) ≤ length (slice_range (placed xs) x y)
 few_passing q i xs x y =
     let ps = inside (frame q) i xs x y in
-    let a = few-filter (λ (zs : List ℤ). passes q.predicate zs []) (map (λ (p : Placed). p.row.values) ps) in
+    let a = few_pass (λ (zs : List ℤ). passes q.predicate zs []) (map (λ (p : Placed). p.row.values) ps) in
     let b = length-map ps (λ (p : Placed). p.row.values) in
-    let c = few-filter (has (frame q) i) (slice_range (placed xs) x y) in
+    let c = few_pass (has (frame q) i) (slice_range (placed xs) x y) in
     omega (arith, a, b, c)
 
 range_long : (xs : List Row) (x y : ℕ) → length (slice_range (placed xs) x y) ≤ y - x
@@ -137,7 +126,7 @@ few_both xs x y z =
     let b = length-drop y ps in
     let c = length-take (y - x) (drop x ps) in
     let d = length-take (z - y) (drop y ps) in
-    let e = placed_long no_rows xs in
+    let e = length-placed no_rows xs in
     omega (arith, a, b, c, d, e)
 
 -- ---- pairs

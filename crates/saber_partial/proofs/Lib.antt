@@ -1,12 +1,21 @@
 pub mod Zips
 pub mod Sharing
 pub mod Gathered
-pub mod Finite
-pub mod Maps
-pub mod Keyed
 pub mod Merging
 pub mod Stepped
 pub mod Adding
 pub mod Fitting
 pub mod Lined
 pub mod Counted
+mod Divisors
+mod PaneMaps
+mod WorkedPanes
+mod PaneRows
+mod PaneWindows
+mod PanePoints
+mod PaneParts
+mod PaneCuts
+mod PaneFolding
+mod PaneMerging
+mod NumberedRows
+mod PaneRooms

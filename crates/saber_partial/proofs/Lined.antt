@@ -9,8 +9,8 @@ use Rattle.saber_plan.specs.Parts.{Part, Numbers, answers_of, part_lines}
 use Rattle.saber_plan.specs.Trees.{Tree}
 use Rattle.saber_partial.specs.Printing.{cells, lines_for, numbers_of}
 use Rattle.saber_partial.specs.Tallies.{seen_entries, seen_groups}
-use Rattle.saber_partial.proofs.Finite.{entries-from_rising}
-use Rattle.saber_partial.proofs.Keyed.{total, exact}
+use Rattle.saber_plan.specs.MapFacts.{entries-from_rising}
+use Rattle.saber_plan.specs.PartFacts.{total, exact}
 
 line_cells : (z : ℤ) (zs : List ℤ) → join_with_byte 44 (map signed_decimal (z ∷ zs)) ≡ signed_decimal z ++ cells zs
 line_cells z [] = sym (append-nil (signed_decimal z))

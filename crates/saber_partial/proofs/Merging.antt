@@ -6,10 +6,10 @@ use Rattle.std.specs.FinMap.{get, insert, from_entries, find, is_sorted, get-fro
 use Rattle.std.specs.FinMap.Entries.{find_tied}
 use Rattle.saber_plan.specs.Answers.{key_cmp}
 use Rattle.saber_plan.specs.Parts.{Part, Numbers, join_numbers, merge}
-use Rattle.saber_partial.proofs.Keyed.{total, exact}
+use Rattle.saber_plan.specs.PartFacts.{total, exact}
+use Rattle.saber_plan.specs.MapFacts.{equal_if, take_one, first_alone}
 use Rattle.saber_partial.specs.Tallies.{CanJoin, CanMerge}
 use Rattle.saber_plan.specs.Merges.{joined}
-use Rattle.saber_partial.proofs.Finite.{equal_if, take_one, first_alone}
 
 pub not_both : {A : Type 0} {o : Option A} {y : A} → o ≡ None → o ≡ Some y → ⊥
 not_both e h = cc

@@ -13,8 +13,8 @@ use Rattle.saber_plan.specs.Answers.{key_cmp}
 use Rattle.saber_plan.specs.Merges.{join}
 use Rattle.saber_plan.specs.Parts.{Part, Numbers, join_numbers, merge}
 use Rattle.saber_partial.specs.Tallies.{CanJoin, CanMerge, FirstFits, with_first, seen_entries, seen_groups}
-use Rattle.saber_partial.proofs.Keyed.{total, exact}
-use Rattle.saber_partial.proofs.Finite.{equal_if, entries-from_rising, get-both, first_alone, rest_rises}
+use Rattle.saber_plan.specs.PartFacts.{total, exact}
+use Rattle.saber_plan.specs.MapFacts.{equal_if, entries-from_rising, get-both, first_alone, rest_rises}
 use Rattle.saber_partial.proofs.Merging.{not_both}
 
 -- entries, each with the next of some numbers taken in

@@ -1,5 +1,5 @@
 -- Lines of groups, number by number.
-use Rattle.std.specs.Prelude.{◌≡◌, ℕ, List, ◌∷◌, ◌++◌, flat_map, map, ℤ, pos}
+use Rattle.std.specs.Prelude.{ℕ, List, ◌∷◌, flat_map, map, ℤ, pos}
 use Rattle.std.specs.FinMap.{entries}
 use Rattle.std.specs.Fmt.{signed_decimal}
 use Rattle.saber_plan.specs.declared.plans.Item.{Item}
@@ -17,8 +17,3 @@ lines_for i is ns = flat_map (λ n. line (pos i ∷ answers_of is n)) ns
 -- what stands under each key, in the order of keys
 abbrev pub numbers_of : Part → List Numbers
 numbers_of p = map (λ e. e.1) (entries p)
-
--- a text with something behind it, or nothing
-pub record Behind (old new : List ℕ) : Type 0 where
-  pub more : List ℕ
-  pub all : new ≡ old ++ more

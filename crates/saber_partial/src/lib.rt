@@ -2,13 +2,19 @@
 //! values, and the values of first rows.
 #![tactic(auto)]
 
+mod cuts;
 mod gather;
 mod groups;
 mod joins;
 mod later_row;
 mod laws;
 mod lines;
+mod numbered;
+mod pane_laws;
+mod pane_part;
+mod panes;
 mod rows;
+mod steps;
 mod tally;
 mod unprinted;
 
@@ -16,6 +22,12 @@ pub use groups::Partial;
 pub use laws::{
     groups_are_of_rows, groups_can_merge, parts_are_of_rows, parts_can_merge, small_parts_merge,
 };
+pub use pane_laws::{
+    dropped_panes_fit, dropped_panes_stay, panes_are_of_rows, panes_can_join, panes_join,
+    rows_have_room, windows_are_panes, windows_have_room,
+};
+pub use panes::Panes;
+pub use steps::Steps;
 
 #[cfg(test)]
 mod tests;

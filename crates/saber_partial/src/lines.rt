@@ -4,7 +4,8 @@ ghost use Rattle.std.specs.Fmt.{signed_decimal};
 ghost use Rattle.saber_plan.specs.Trees.{tree_of};
 ghost use Rattle.saber_plan.specs.Answers.{line};
 ghost use Rattle.saber_plan.specs.Parts.{answers_of, part_lines};
-ghost use Rattle.saber_partial.specs.Printing.{cells, lines_for, numbers_of, Behind};
+ghost use Rattle.saber_plan.specs.Texts.{Behind};
+ghost use Rattle.saber_partial.specs.Printing.{cells, lines_for, numbers_of};
 
 use crate::groups::Partial;
 use crate::tally::Tally;

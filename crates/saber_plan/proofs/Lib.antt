@@ -3,3 +3,4 @@ mod WorkedFiles
 mod WorkedAnswers
 mod WorkedJoins
 mod WorkedNeeds
+mod WorkedEnds

@@ -6,7 +6,7 @@ use Rattle.saber_plan.specs.declared.rows.Row.{Row}
 use Rattle.saber_plan.specs.declared.rows.RowCause.TheVariants.{FieldCount, BadNumber}
 use Rattle.saber_plan.specs.declared.windows.Measure.TheVariants as measures
 use Rattle.saber_plan.specs.Rows.{Read, rows, whole, cut, bad, all_read, lines_of, fields_of, judge, read_by}
-use Rattle.saber_plan.specs.Inputs.{input, merged_rows}
+use Rattle.saber_plan.specs.Inputs.{input, going_on, merged_rows}
 use Rattle.saber_plan.specs.Values.{value_at, test_holds, all_hold, some_holds}
 use Rattle.saber_plan.specs.Windows.{placed_after, from}
 use Rattle.saber_plan.specs.Answers.{with_key, keys_of, lines, text}
@@ -32,12 +32,12 @@ merged : two_files left_lines right_lines ≡ record { rows = left_row 0 5 ∷ r
 unfolding lines_of fields_of judge read_by merged_rows
 merged = refl
 
-pairs_by_time : text (joining measures.Range 4 4 4) (two_files left_lines right_lines).rows ≡ codes "0,5,7\n0,5,6\n"
+pairs_by_time : text (joining measures.Range 4 4 4) (going_on (two_files left_lines right_lines).rows) ≡ codes "0,5,7\n0,5,6\n"
 unfolding lines_of fields_of judge read_by value_at placed_after from with_key keys_of lines text digits test_holds all_hold some_holds merged_rows
 pairs_by_time = refl
 
 -- window 1 lacks a left row
-pairs_by_rows : text (joining measures.Rows 2 1 2) (two_files left_lines right_lines).rows ≡ codes "0,5,7\n"
+pairs_by_rows : text (joining measures.Rows 2 1 2) (going_on (two_files left_lines right_lines).rows) ≡ codes "0,5,7\n"
 unfolding lines_of fields_of judge read_by value_at placed_after from with_key keys_of lines text digits test_holds all_hold some_holds merged_rows
 pairs_by_rows = refl
 

@@ -5,7 +5,7 @@ use Rattle.saber_plan.specs.declared.rows.Row.{Row}
 use Rattle.saber_plan.specs.declared.windows.Mark.{Mark}
 use Rattle.saber_plan.specs.Trees.{Tree}
 use Rattle.saber_plan.specs.Rows.{rows, lines_of, fields_of, judge, read_by}
-use Rattle.saber_plan.specs.Inputs.{input, merged_rows}
+use Rattle.saber_plan.specs.Inputs.{input, going_on, merged_rows}
 use Rattle.saber_plan.specs.Values.{value_at, test_holds, all_hold, some_holds}
 use Rattle.saber_plan.specs.Windows.{Placed, one, placed_after, placed, from, kind_of, no_rows}
 use Rattle.saber_plan.specs.Answers.{frame, is_left}
@@ -39,35 +39,35 @@ unfolding lines_of fields_of judge read_by merged_rows placed_after
 last_by_rows = refl
 
 -- tasks of one row look back to the first row while window 0 is open, and then to the first row of a later one
-free_by_time : map (free by_time 1 merged) (from 0 7) ≡ 0 ∷ 0 ∷ 0 ∷ 0 ∷ 0 ∷ 4 ∷ 5 ∷ []
+free_by_time : map (free by_time 1 (going_on merged)) (from 0 7) ≡ 0 ∷ 0 ∷ 0 ∷ 0 ∷ 0 ∷ 4 ∷ 5 ∷ []
 unfolding lines_of fields_of judge read_by merged_rows placed_after from first_open
 free_by_time = refl
 
 -- where no window is open there is nothing to look back to
-free_by_rows : map (free by_rows 1 merged) (from 0 7) ≡ 0 ∷ 0 ∷ 0 ∷ 3 ∷ 4 ∷ 4 ∷ 4 ∷ []
+free_by_rows : map (free by_rows 1 (going_on merged)) (from 0 7) ≡ 0 ∷ 0 ∷ 0 ∷ 3 ∷ 4 ∷ 4 ∷ 4 ∷ []
 unfolding lines_of fields_of judge read_by merged_rows placed_after from first_open
 free_by_rows = refl
 
 -- a query over one stream looks back on no row
-free_of_groups : map (free sums_by_group 2 (rows_in five_lines)) (from 0 4) ≡ 0 ∷ 1 ∷ 2 ∷ 3 ∷ []
+free_of_groups : map (free sums_by_group 2 (going_on (rows_in five_lines))) (from 0 4) ≡ 0 ∷ 1 ∷ 2 ∷ 3 ∷ []
 unfolding lines_of fields_of judge read_by from
 free_of_groups = refl
 
 -- a ring of five blocks holds each need, and one of four does not hold that of task 4
-most_needed : need by_time 1 merged 4 ≡ 5
+most_needed : need by_time 1 (going_on merged) 4 ≡ 5
 unfolding lines_of fields_of judge read_by merged_rows placed_after from first_open
 most_needed = refl
 
-five_are_enough : wide by_time 1 merged 5 ≡ None
+five_are_enough : wide by_time 1 (going_on merged) 5 ≡ None
 unfolding lines_of fields_of judge read_by merged_rows placed_after from first_open
 five_are_enough = refl
 
-four_are_not : wide by_time 1 merged 4 ≡ Some 4
+four_are_not : wide by_time 1 (going_on merged) 4 ≡ Some 4
 unfolding lines_of fields_of judge read_by merged_rows placed_after from first_open
 four_are_not = refl
 
 -- blocks of two rows, by their greatest last windows
-lasts_by_rows : block_lasts (frame by_rows) 2 merged 0 3 ≡ Some 0 ∷ Some 0 ∷ Some 1 ∷ []
+lasts_by_rows : block_lasts (frame by_rows) 2 (going_on merged) 0 3 ≡ Some 0 ∷ Some 0 ∷ Some 1 ∷ []
 unfolding lines_of fields_of judge read_by merged_rows placed_after from
 lasts_by_rows = refl
 

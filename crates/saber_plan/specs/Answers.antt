@@ -15,7 +15,8 @@ use Rattle.saber_plan.specs.declared.plans.Item.{Item}
 use Rattle.saber_plan.specs.declared.plans.Item.TheVariants.{Count, Sum, Min, Max, Value}
 use Rattle.saber_plan.specs.Trees.{Tree}
 use Rattle.saber_plan.specs.Values.{value, passes, column_of}
-use Rattle.saber_plan.specs.Windows.{Frame, frame_of, Placed, place, inside, closed_count, mark_of, from, by_side}
+use Rattle.saber_plan.specs.Inputs.{Input}
+use Rattle.saber_plan.specs.Windows.{Frame, frame_of, Placed, place, inside, closed_count, last_mark, from, by_side}
 
 -- numbers with commas between, and LF
 abbrev pub line : List ℤ → List ℕ
@@ -135,9 +136,9 @@ lines q i xs = entry_lines i (entries_in q (inside (frame q) i xs 0 (length xs))
 abbrev pub selected : Tree → List Row → List ℕ
 selected q xs = flat_map (λ zs. line (map (item_value zs []) q.items)) (filter (λ zs. passes q.predicate zs []) (map (λ x. x.values) xs))
 
-abbrev pub window_text : Tree → List Row → List ℕ
-window_text q xs = flat_map (λ i. lines q i xs) (from 0 (closed_count (frame q) (mark_of xs)))
+abbrev pub window_text : Tree → Input → List ℕ
+window_text q r = flat_map (λ i. lines q i r.rows) (from 0 (closed_count (frame q) (last_mark r)))
 
--- all that is printed for some rows
-unfoldable pub text : Tree → List Row → List ℕ
-text q xs = by_shape q.shape (selected q xs) (window_text q xs) (window_text q xs)
+-- all that is printed for an input
+unfoldable pub text : Tree → Input → List ℕ
+text q r = by_shape q.shape (selected q r.rows) (window_text q r) (window_text q r)

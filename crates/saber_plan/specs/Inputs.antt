@@ -1,5 +1,5 @@
 -- The input of a query: the rows of one source, or those of two, merged.
-use Rattle.std.specs.Prelude.{List, [], ◌∷◌, Bool, true, false, if◌then◌else◌, nat_le}
+use Rattle.std.specs.Prelude.{ℕ, suc, List, [], ◌∷◌, length, take, Bool, true, false, ◌&&◌, if◌then◌else◌, nat_le, nat_lt}
 use Rattle.saber_plan.specs.declared.rows.Row.{Row}
 use Rattle.saber_plan.specs.Rows.{End, all_read, cut, bad, Read, before, stamp}
 
@@ -32,3 +32,21 @@ abbrev pub input : List Read → Read
 input [] = record { rows = []; end = all_read }
 input (l ∷ []) = l
 input (l ∷ r ∷ rs) = merged l r
+
+-- ---- the end of the input
+
+-- Rows, and whether the input's end stands behind them: it counts as one arrival more.
+pub record Input : Type 0 where
+  pub rows : List Row
+  pub ended : Bool
+
+abbrev pub arrivals : Input → ℕ
+arrivals r = if r.ended then suc (length r.rows) else length r.rows
+
+-- the first x arrivals
+abbrev pub arrived : Input → ℕ → Input
+arrived r x = record { rows = take x r.rows; ended = r.ended && nat_lt (length r.rows) x }
+
+-- rows behind which more may come
+abbrev pub going_on : List Row → Input
+going_on xs = record { rows = xs; ended = false }

@@ -7,6 +7,7 @@ pub mod Windows
 pub mod Answers
 pub mod Merges
 pub mod Parts
+pub mod Shares
 pub mod Tasks
 pub mod Bounds
 pub mod Checked
@@ -14,8 +15,10 @@ pub mod Needs
 pub mod Pairing
 pub mod Sizes
 pub mod Given
-pub mod Shares
+pub mod Texts
 pub mod ListFacts
+pub mod RowFacts
 pub mod MapFacts
+pub mod PartFacts
 pub mod TreeFacts
 pub mod Codes

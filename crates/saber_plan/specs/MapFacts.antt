@@ -26,10 +26,6 @@ module _ {K X : Type 0} {R : K → K → Ordering} (o : IsTotalOrder R) (same : 
   pub entries-from_rising : (es : List (K × X)) → T (is_sorted R es) → entries (from_entries {R = R} es) ≡ es
   entries-from_rising es s = ap entries (same_map o same (from_entries es) (from_sorted es) (λ q. get-from_entries o es q ∙ sym (get-from_sorted R es q s))) ∙ entries-from_sorted R es s
 
-  -- a map is what its entries make
-  pub made_of_entries : (m : FinMap R X) → from_entries {R = R} (entries m) ≡ m
-  made_of_entries m = same_map o same _ _ (λ q. get-from_entries o (entries m) q ∙ sym (get-entries m q))
-
 module _ {X : Type 0} (f : X → X → X) where
   pub join-none : (o : Option X) → join f o None ≡ o
   join-none None = refl

@@ -1,6 +1,6 @@
 -- Which rows before a task it needs, and what a task makes of its own rows and of those.
 -- The free pointer of a task and its look-back are those of SABER 2016; that they go by whole tasks is this project's own rule.
-use Rattle.std.specs.Prelude.{ℕ, ◌+◌, ◌-◌, ◌/◌, max, List, [], ◌∷◌, ◌++◌, map, filter, flat_map, take, length, slice_range, Bool, true, false, if◌then◌else◌, nat_le, nat_lt, Option, Some, None}
+use Rattle.std.specs.Prelude.{ℕ, ◌+◌, ◌-◌, ◌/◌, max, List, [], ◌∷◌, map, filter, slice_range, Bool, false, if◌then◌else◌, nat_le, nat_lt, Option, Some, None}
 use Rattle.std.specs.List.{list_any}
 use Rattle.std.specs.Option.{option_map_or}
 use Rattle.std.specs.FinMap.{from_entries}
@@ -8,12 +8,15 @@ use Rattle.saber_plan.specs.declared.rows.Row.{Row}
 use Rattle.saber_plan.specs.declared.windows.Mark.{Mark}
 use Rattle.saber_plan.specs.declared.windows.Measure.TheVariants.{Rows, Range}
 use Rattle.saber_plan.specs.declared.windows.Kind.{Kind}
-use Rattle.saber_plan.specs.declared.windows.Kind.TheVariants.{Opening, Closing, Pending, Complete}
 use Rattle.saber_plan.specs.Trees.{Tree}
-use Rattle.saber_plan.specs.Windows.{Frame, unwindowed, one, two, Placed, place, own, time, placed, placed_after, has, mark_after, mark_of, by_side, count_to, closed_count, begun_count, kind_of, from}
-use Rattle.saber_plan.specs.Answers.{by_shape, frame, passing, selected}
-use Rattle.saber_plan.specs.Parts.{Part, no_part, group_part, pair_part, part_lines}
-use Rattle.saber_plan.specs.Tasks.{cut, upto, task_count, full, numbered, Parts, is_part, is_complete, Piece}
+use Rattle.saber_plan.specs.Inputs.{Input}
+use Rattle.saber_plan.specs.Windows.{Frame, unwindowed, one, two, Placed, place, own, time, placed, has, mark_after, ending, last_mark, mark_at, by_side, count_to, closed_count, begun_count, from}
+use Rattle.saber_plan.specs.Answers.{by_shape, frame}
+use Rattle.saber_plan.specs.Parts.{Part}
+use Rattle.saber_plan.specs.Tasks.{cut, upto, task_count}
+use Rattle.saber_plan.specs.Shares.{Parts, Piece, piece_in, shares_here}
+pub use Rattle.saber_plan.specs.Shares.{is_closing, is_pending, is_opening}
+unfoldable pub use Rattle.saber_plan.specs.Shares.{of_kind, part_here}
 
 -- ---- the windows of a row
 
@@ -46,109 +49,75 @@ abbrev pub first_place : List Placed → Option ℕ
 first_place [] = None
 first_place (x ∷ xs) = Some (place x)
 
--- the position of the first row that lies in a window not closed by these rows
-unfoldable pub first_open : Frame → List Row → Option ℕ
-first_open f xs = first_place (filter (lies_open f (mark_of xs)) (placed xs))
+-- the position of the first row that lies in a window not closed by this input
+unfoldable pub first_open : Frame → Input → Option ℕ
+first_open f r = first_place (filter (lies_open f (last_mark r)) (placed r.rows))
 
 -- The task of the first row before task t that lies in a window which the rows before task t do not close; t, if there is none.
 -- A query that joins no streams needs no row before its task's.
-abbrev pub free : Tree → ℕ → List Row → ℕ → ℕ
-free q n xs t = by_shape q.shape t t (option_map_or (λ p. p / n) (first_open (frame q) (take (cut n xs t) xs)) t)
+abbrev pub free : Tree → ℕ → Input → ℕ → ℕ
+free q n r t = by_shape q.shape t t (option_map_or (λ p. p / n) (first_open (frame q) (upto n r t)) t)
 
 -- how many tasks' rows task t needs, with its own
-abbrev pub need : Tree → ℕ → List Row → ℕ → ℕ
-need q n xs t = t - free q n xs t + 1
+abbrev pub need : Tree → ℕ → Input → ℕ → ℕ
+need q n r t = t - free q n r t + 1
 
 abbrev pub first_number : List ℕ → Option ℕ
 first_number [] = None
 first_number (k ∷ ks) = Some k
 
 -- the first task that needs more than this many tasks' rows
-abbrev pub wide : Tree → ℕ → List Row → ℕ → Option ℕ
-wide q n xs most = first_number (filter (λ t. nat_lt most (need q n xs t)) (from 0 (task_count n xs)))
+abbrev pub wide : Tree → ℕ → Input → ℕ → Option ℕ
+wide q n r most = first_number (filter (λ t. nat_lt most (need q n r t)) (from 0 (task_count n r)))
 
--- ---- what a task makes of its rows, and of rows before them
+-- ---- what a task makes of its rows, and of rows before them: Shares has the part of a window
 
--- The part of window i over a task's rows, which follow rows that are looked back on. The mark is that before the latter.
-unfoldable pub part_here : Tree → ℕ → Mark → List Row → List Row → Part
-part_here q i m back rows = by_shape q.shape no_part
-    (group_part q (passing q (filter (has (frame q) i) (placed_after (mark_after m back) rows))))
-    (pair_part q (m.left + m.right + length back) (filter (has (frame q) i) (placed_after m (back ++ rows))))
-
--- the piece, from those rows alone
-unfoldable pub piece_here : Tree → Mark → List Row → List Row → Piece
-piece_here q m back rows =
-    let a = mark_after m back in
-    let b = mark_after a rows in
-    let c = closed_count (frame q) a in
-    let g = begun_count (frame q) b in
-    let complete = flat_map (λ i. part_lines q i (part_here q i m back rows)) (filter (λ i. is_complete (kind_of (frame q) i a b)) (from c (g - c))) in
-    record {
-      parts = from_entries (numbered c (g - c) (λ i. if is_part (kind_of (frame q) i a b) then full (part_here q i m back rows) else None));
-      lines = by_shape q.shape (selected q rows) complete complete;
-      closed = closed_count (frame q) b;
-    }
+-- the piece, from those rows alone, and whether the input ends behind them
+unfoldable pub piece_here : Tree → Mark → List Row → List Row → Bool → Piece
+piece_here q m back rows ended = piece_in (shares_here q m back rows ended)
 
 -- ---- the open parts of that piece, by the kind of their windows
 
-abbrev pub is_closing : Option Kind → Bool
-is_closing None = false
-is_closing (Some Opening) = false
-is_closing (Some Closing) = true
-is_closing (Some Pending) = false
-is_closing (Some Complete) = false
-
-abbrev pub is_pending : Option Kind → Bool
-is_pending None = false
-is_pending (Some Opening) = false
-is_pending (Some Closing) = false
-is_pending (Some Pending) = true
-is_pending (Some Complete) = false
-
-abbrev pub is_opening : Option Kind → Bool
-is_opening None = false
-is_opening (Some Opening) = true
-is_opening (Some Closing) = false
-is_opening (Some Pending) = false
-is_opening (Some Complete) = false
-
--- the parts that aren't empty of the windows of such kinds, rising, where the rows go from mark a up to mark b
-unfoldable pub of_kind : (Option Kind → Bool) → Frame → Mark → Mark → (ℕ → Part) → List (ℕ × Part)
-of_kind wanted f a b part =
-    let c = closed_count f a in
-    let g = begun_count f b in
-    numbered c (g - c) (λ i. if wanted (kind_of f i a b) then full (part i) else None)
-
--- the same as a map
+-- the parts of such windows as a map
 abbrev pub parts_of : (Option Kind → Bool) → Frame → Mark → Mark → (ℕ → Part) → Parts
 parts_of wanted f a b part = from_entries (of_kind wanted f a b part)
 
+-- those of a task's rows, of the windows of a kind
+abbrev kind_here : (Option Kind → Bool) → Tree → Mark → List Row → List Row → Bool → Parts
+kind_here wanted q m back rows ended =
+    let a = mark_after m back in
+    parts_of wanted (frame q) a (ending ended (mark_after a rows)) (λ i. part_here q i m back rows)
+
 -- of windows that the rows close and did not begin, of those that they neither begin nor close, and of those that they begin and do not close
-abbrev pub closing_here : Tree → Mark → List Row → List Row → Parts
-closing_here q m back rows = parts_of is_closing (frame q) (mark_after m back) (mark_after (mark_after m back) rows) (λ i. part_here q i m back rows)
+abbrev pub closing_here : Tree → Mark → List Row → List Row → Bool → Parts
+closing_here q m back rows ended = kind_here is_closing q m back rows ended
 
-abbrev pub pending_here : Tree → Mark → List Row → List Row → Parts
-pending_here q m back rows = parts_of is_pending (frame q) (mark_after m back) (mark_after (mark_after m back) rows) (λ i. part_here q i m back rows)
+abbrev pub pending_here : Tree → Mark → List Row → List Row → Bool → Parts
+pending_here q m back rows ended = kind_here is_pending q m back rows ended
 
-abbrev pub opening_here : Tree → Mark → List Row → List Row → Parts
-opening_here q m back rows = parts_of is_opening (frame q) (mark_after m back) (mark_after (mark_after m back) rows) (λ i. part_here q i m back rows)
+abbrev pub opening_here : Tree → Mark → List Row → List Row → Bool → Parts
+opening_here q m back rows ended = kind_here is_opening q m back rows ended
 
 -- ---- the rows of a task and of its look-back
 
 -- the mark before task t
-abbrev pub task_mark : ℕ → List Row → ℕ → Mark
-task_mark n xs t = mark_of (upto n xs t)
+abbrev pub task_mark : ℕ → Input → ℕ → Mark
+task_mark n r t = last_mark (upto n r t)
 
 -- the rows of the tasks from free(t) up to task t, and those of task t
-abbrev pub back_rows : Tree → ℕ → List Row → ℕ → List Row
-back_rows q n xs t = slice_range xs (cut n xs (free q n xs t)) (cut n xs t)
+abbrev pub back_rows : Tree → ℕ → Input → ℕ → List Row
+back_rows q n r t = slice_range r.rows (cut n r (free q n r t)) (cut n r t)
 
-abbrev pub task_rows : ℕ → List Row → ℕ → List Row
-task_rows n xs t = slice_range xs (cut n xs t) (cut n xs (t + 1))
+abbrev pub task_rows : ℕ → Input → ℕ → List Row
+task_rows n r t = slice_range r.rows (cut n r t) (cut n r (t + 1))
+
+-- whether the input ends behind task t
+abbrev pub task_ends : ℕ → Input → ℕ → Bool
+task_ends n r t = (upto n r (t + 1)).ended
 
 -- the mark before the rows that task t needs
-abbrev pub back_mark : Tree → ℕ → List Row → ℕ → Mark
-back_mark q n xs t = mark_of (take (cut n xs (free q n xs t)) xs)
+abbrev pub back_mark : Tree → ℕ → Input → ℕ → Mark
+back_mark q n r t = mark_at r (cut n r (free q n r t))
 
 -- ---- the free pointer by the last windows of blocks
 
@@ -173,5 +142,5 @@ free_of first [] closed = first
 free_of first (l ∷ ls) closed = if reaches l closed then first else free_of (first + 1) ls closed
 
 -- the greatest last windows of k blocks of n rows
-abbrev pub block_lasts : Frame → ℕ → List Row → ℕ → ℕ → List (Option ℕ)
-block_lasts f n xs first k = map (λ u. last_of f (slice_range (placed xs) (cut n xs u) (cut n xs (u + 1)))) (from first k)
+abbrev pub block_lasts : Frame → ℕ → Input → ℕ → ℕ → List (Option ℕ)
+block_lasts f n r first k = map (λ u. last_of f (slice_range (placed r.rows) (cut n r u) (cut n r (u + 1)))) (from first k)

@@ -84,7 +84,13 @@ zip_by f (x ∷ xs) (y ∷ ys) = f x y ∷ zip_by f xs ys
 
 -- numbers, and those of later rows
 abbrev pub join_numbers : Numbers → Numbers → Numbers
-join_numbers a b = record { count = a.count + b.count; sums = zip_by ◌+ℤ◌ a.sums b.sums; leasts = zip_by int_min a.leasts b.leasts; greatests = zip_by int_max a.greatests b.greatests; firsts = zip_by earlier a.firsts b.firsts }
+join_numbers a b = record {
+  count = a.count + b.count;
+  sums = zip_by ◌+ℤ◌ a.sums b.sums;
+  leasts = zip_by int_min a.leasts b.leasts;
+  greatests = zip_by int_max a.greatests b.greatests;
+  firsts = zip_by earlier a.firsts b.firsts;
+}
 
 abbrev pub first_number : List ℤ → ℤ
 first_number [] = pos 0

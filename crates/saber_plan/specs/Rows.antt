@@ -139,7 +139,9 @@ after_line s p (refused c) rest = record { rows = []; end = bad s.side (p.lines 
 -- The rows of lines up to the first that is refused. Over lines that may go on, a last one that lacks its LF is not known yet.
 unfoldable pub read_by : Bool → SideRules → List Line → Place → Read
 read_by partial s [] p = record { rows = []; end = if partial then cut else all_read }
-read_by partial s (l ∷ ls) p = if partial && not l.whole then record { rows = []; end = cut } else after_line s p (judge s.columns s.most (p.lines + 1) p.last (without_cr l.content)) (read_by partial s ls)
+read_by partial s (l ∷ ls) p =
+    if partial && not l.whole then record { rows = []; end = cut }
+    else after_line s p (judge s.columns s.most (p.lines + 1) p.last (without_cr l.content)) (read_by partial s ls)
 
 -- the rows of a file
 abbrev pub rows : SideRules → List ℕ → Read

@@ -1,5 +1,5 @@
 -- Which rows a window has, and which windows some rows begin and close.
-use Rattle.std.specs.Prelude.{ℕ, suc, ◌+◌, ◌-◌, ◌*◌, ◌/◌, min, max, List, [], ◌∷◌, ◌≡◌, filter, slice_range, Bool, true, false, ◌&&◌, ◌||◌, if◌then◌else◌, nat_lt, nat_le, Option, Some, None, ℤ, pos, nat_abs, fold, zero}
+use Rattle.std.specs.Prelude.{ℕ, suc, not, ◌+◌, ◌-◌, ◌*◌, ◌/◌, min, max, List, [], ◌∷◌, ◌≡◌, filter, slice_range, Bool, true, false, ◌&&◌, ◌||◌, if◌then◌else◌, nat_lt, nat_le, Option, Some, None, ℤ, pos, nat_abs, fold, zero}
 use Rattle.std.specs.Option.{option_map_or}
 use Rattle.saber_plan.specs.declared.rows.Side.{Side}
 use Rattle.saber_plan.specs.declared.rows.Side.TheVariants.{Left, Right}
@@ -11,6 +11,7 @@ use Rattle.saber_plan.specs.declared.windows.Mark.{Mark}
 use Rattle.saber_plan.specs.declared.windows.Kind.{Kind}
 use Rattle.saber_plan.specs.declared.windows.Kind.TheVariants.{Opening, Closing, Pending, Complete}
 use Rattle.saber_plan.specs.Rows.{stamp}
+use Rattle.saber_plan.specs.Inputs.{Input, arrived}
 
 abbrev pub by_side : {X : Type 0} → Side → X → X → X
 by_side Left x y = x
@@ -27,19 +28,40 @@ frame_of [] = unwindowed
 frame_of (s ∷ []) = option_map_or (λ w. one w.measure w.slide w.size) s.window unwindowed
 frame_of (s ∷ t ∷ ts) = option_map_or (λ v. option_map_or (λ w. two v.measure v.slide v.size w.size) t.window unwindowed) s.window unwindowed
 
+abbrev pub has_windows : Frame → Bool
+has_windows unwindowed = false
+has_windows (one measure slide size) = true
+has_windows (two measure slide left right) = true
+
 -- ---- what is behind some rows
 
 abbrev pub no_rows : Mark
-no_rows = record { left = 0; right = 0; last = None }
+no_rows = record { left = 0; right = 0; last = None; ended = false }
 
 abbrev pub step_mark : Mark → Row → Mark
-step_mark m r = record { left = by_side r.side (m.left + 1) m.left; right = by_side r.side m.right (m.right + 1); last = Some (pos (stamp r.values)) }
+step_mark m r = record {
+  left = by_side r.side (m.left + 1) m.left;
+  right = by_side r.side m.right (m.right + 1);
+  last = Some (pos (stamp r.values));
+  ended = m.ended;
+}
 
 abbrev pub mark_after : Mark → List Row → Mark
 mark_after m xs = fold step_mark m xs
 
 abbrev pub mark_of : List Row → Mark
 mark_of xs = mark_after no_rows xs
+
+-- the same, with the input's end here if it comes here
+abbrev pub ending : Bool → Mark → Mark
+ending e m = record { left = m.left; right = m.right; last = m.last; ended = e || m.ended }
+
+-- what is behind an input, and behind its first x arrivals
+abbrev pub last_mark : Input → Mark
+last_mark r = ending r.ended (mark_of r.rows)
+
+abbrev pub mark_at : Input → ℕ → Mark
+mark_at r x = last_mark (arrived r x)
 
 -- the last timestamp is at least t
 abbrev pub reached : Option ℤ → ℕ → Bool
@@ -51,10 +73,14 @@ abbrev pub in_order : Option ℤ → ℕ → Bool
 in_order None t = true
 in_order (Some z) t = nat_le (nat_abs z) t
 
--- rows whose timestamps do not fall, after what is behind
+-- a row with this timestamp can come next: the input did not end, and the row does not come before the last one
+abbrev pub can_follow : Mark → ℕ → Bool
+can_follow m t = not m.ended && in_order m.last t
+
+-- rows that can come after what is behind: their timestamps do not fall, and after the input's end there is none
 unfoldable pub Ordered : Mark → List Row → Type 0
 Ordered m [] = Unit {0}
-Ordered m (x ∷ xs) = (in_order m.last (stamp x.values) ≡ true) × Ordered (step_mark m x) xs
+Ordered m (x ∷ xs) = (can_follow m (stamp x.values) ≡ true) × Ordered (step_mark m x) xs
 
 -- ---- windows
 
@@ -104,13 +130,17 @@ begun (one Range slide size) i m = reached m.last (i * slide)
 begun (two Rows slide left right) i m = nat_lt (i * slide) m.left || nat_lt (i * slide) m.right
 begun (two Range slide left right) i m = reached m.last (i * slide)
 
--- and closed
+-- its rows are past: all of them came, or a row behind them
+abbrev pub past : Frame → ℕ → Mark → Bool
+past unwindowed i m = false
+past (one Rows slide size) i m = nat_le (i * slide + size) m.left
+past (one Range slide size) i m = reached m.last (i * slide + size)
+past (two Rows slide left right) i m = nat_le (i * slide + left) m.left && nat_le (i * slide + right) m.right
+past (two Range slide left right) i m = reached m.last (i * slide + max left right)
+
+-- it is closed: its rows are past, or it was begun when the input ended
 abbrev pub closed : Frame → ℕ → Mark → Bool
-closed unwindowed i m = false
-closed (one Rows slide size) i m = nat_le (i * slide + size) m.left
-closed (one Range slide size) i m = reached m.last (i * slide + size)
-closed (two Rows slide left right) i m = nat_le (i * slide + left) m.left && nat_le (i * slide + right) m.right
-closed (two Range slide left right) i m = reached m.last (i * slide + max left right)
+closed f i m = if m.ended then begun f i m else past f i m
 
 -- how many of first, first + slide, first + 2 * slide .. are at most this far
 abbrev pub count_to : ℕ → ℕ → ℕ → ℕ
@@ -120,13 +150,13 @@ abbrev pub count_reached : ℕ → ℕ → Option ℤ → ℕ
 count_reached slide first None = 0
 count_reached slide first (Some z) = count_to slide first (nat_abs z)
 
--- how many windows are closed: a window is exactly where its number is below
-abbrev pub closed_count : Frame → Mark → ℕ
-closed_count unwindowed m = 0
-closed_count (one Rows slide size) m = count_to slide size m.left
-closed_count (one Range slide size) m = count_reached slide size m.last
-closed_count (two Rows slide left right) m = min (count_to slide left m.left) (count_to slide right m.right)
-closed_count (two Range slide left right) m = count_reached slide (max left right) m.last
+-- how many windows are past
+abbrev pub past_count : Frame → Mark → ℕ
+past_count unwindowed m = 0
+past_count (one Rows slide size) m = count_to slide size m.left
+past_count (one Range slide size) m = count_reached slide size m.last
+past_count (two Rows slide left right) m = min (count_to slide left m.left) (count_to slide right m.right)
+past_count (two Range slide left right) m = count_reached slide (max left right) m.last
 
 -- how many are begun
 abbrev pub begun_count : Frame → Mark → ℕ
@@ -135,6 +165,10 @@ begun_count (one Rows slide size) m = count_to slide 1 m.left
 begun_count (one Range slide size) m = count_reached slide 0 m.last
 begun_count (two Rows slide left right) m = max (count_to slide 1 m.left) (count_to slide 1 m.right)
 begun_count (two Range slide left right) m = count_reached slide 0 m.last
+
+-- how many are closed: a window is exactly where its number is below
+abbrev pub closed_count : Frame → Mark → ℕ
+closed_count f m = if m.ended then begun_count f m else past_count f m
 
 -- the first window that has a point, and how many begin at most there
 abbrev pub first_of : ℕ → ℕ → ℕ → ℕ

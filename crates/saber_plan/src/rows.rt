@@ -79,6 +79,21 @@ pub struct Row {
     pub values: Values,
 }
 
+impl Row {
+    ghost use Rattle.std.specs.Prelude.{◌≡◌, IfOk};
+
+    /// An equal row.
+    pub fn copy(&self, alloc: Global) -> Result<Row, NoMemory>
+        ensures { IfOk result (λ r. r ≡ self.now) }
+    {
+        let values = Values::from_slice(alloc, self.values.as_slice())?;
+        Ok(Row {
+            side: self.side,
+            values,
+        })
+    }
+}
+
 /// Why a line is refused. Fields count from 1. For one line the causes are tried in this order.
 #[derive(Clone, Copy, Debug, PartialEq, Eq)]
 pub enum RowCause {
@@ -114,6 +129,13 @@ mod tests {
         assert_eq!(rt; values.as_slice(), nine.as_slice());
         let copy = Values::from_slice(alloc, &nine)?;
         assert_eq!(rt; copy.as_slice(), nine.as_slice());
+        let row = Row {
+            side: Side::Right,
+            values,
+        };
+        let equal = row.copy(alloc)?;
+        assert_eq!(rt; equal.side, Side::Right);
+        assert_eq!(rt; equal.values.as_slice(), nine.as_slice());
         Ok(())
     }
 }

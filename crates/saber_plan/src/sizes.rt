@@ -12,4 +12,6 @@ pub struct Sizes {
     pub threads: u32,
     /// Lines that a file may have, 1 to 2^40. The next one is refused.
     pub max_lines: u64,
+    /// Whether the end of the input closes every begun window.
+    pub flush: bool,
 }

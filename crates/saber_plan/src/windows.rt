@@ -25,12 +25,14 @@ pub struct Stream {
     pub window: Option<Window>,
 }
 
-/// What is behind some rows: how many came on each side, and the last timestamp.
+/// What is behind some rows: how many came on each side, the last timestamp, and whether the input
+/// ended there, so that no row follows.
 #[derive(Clone, Copy, Debug, PartialEq, Eq)]
 pub struct Mark {
     pub left: u64,
     pub right: u64,
     pub last: Option<i64>,
+    pub ended: bool,
 }
 
 /// What part of a window lies in a task (SABER 2016): its end alone is there, its middle, its

@@ -1,5 +1,5 @@
 -- A window that ends at a row or before it has neither that row nor a later one.
-use Rattle.std.proofs.Common.{◌≡◌, ℕ, List, [], ◌∷◌, filter, true, false, cond, nat_lt, nat_le, Option, Some, None, ℤ, refl, sym, ◌∙◌, ap, arith}
+use Rattle.std.proofs.Common.{◌≡◌, ℕ, List, [], ◌∷◌, filter, Bool, true, false, cond, not, ◌&&◌, nat_lt, nat_le, Option, Some, None, ℤ, refl, sym, ◌∙◌, ap, arith}
 use Rattle.std.proofs.lemmas.Bool.{ltb-true}
 use Rattle.std.proofs.lemmas.Bool.Decides.{nat_tests}
 use Rattle.saber_laws.specs.Windows.{CountsAreExact}
@@ -11,7 +11,7 @@ use Rattle.saber_plan.specs.declared.windows.Mark.{Mark}
 use Rattle.saber_plan.specs.declared.windows.Measure.{Measure}
 use Rattle.saber_plan.specs.declared.windows.Measure.TheVariants.{Rows, Range}
 use Rattle.saber_plan.specs.Rows.{stamp}
-use Rattle.saber_plan.specs.Windows.{Frame, one, Ordered, in_order, reached, step_mark, closed, has, Placed, placed_after}
+use Rattle.saber_plan.specs.Windows.{Frame, one, Ordered, in_order, can_follow, reached, step_mark, past, has, Placed, placed_after}
 use Rattle.saber_plan.specs.Needs.{first_window}
 use Rattle.saber_window.specs.Laws.{PastHaveNone}
 
@@ -25,31 +25,39 @@ reached_on : (o : Option ℤ) (t p : ℕ) → reached o t ≡ true → in_order 
 reached_on None t p h e = cc
 reached_on (Some z) t p h e = grind (arith, nat_tests)
 
--- a window that is closed has not the next row
-has_not : (measure : Measure) (slide size i : ℕ) (m : Mark) (s : Side) (v : Values) → in_order m.last (stamp v) ≡ true → closed (one measure slide size) i m ≡ true → has (one measure slide size) i (at m s v) ≡ false
+in_order_case : (ended ordered : Bool) → (not ended && ordered) ≡ true → ordered ≡ true
+in_order_case true ordered e = cc
+in_order_case false ordered e = e
+
+-- a row that can follow does not come before the last one
+in_order_by : (m : Mark) (t : ℕ) → can_follow m t ≡ true → in_order m.last t ≡ true
+in_order_by m t e = in_order_case m.ended (in_order m.last t) e
+
+-- a window that is past has not the next row
+has_not : (measure : Measure) (slide size i : ℕ) (m : Mark) (s : Side) (v : Values) → in_order m.last (stamp v) ≡ true → past (one measure slide size) i m ≡ true → has (one measure slide size) i (at m s v) ≡ false
 has_not Rows k n i m Left v e h = grind (arith, nat_tests)
 has_not Rows k n i m Right v e h = refl
 has_not Range k n i m Left v e h = let far = reached_on m.last _ _ h e in grind (arith, nat_tests)
 has_not Range k n i m Right v e h = refl
 
--- and stays closed
-closed_on : (measure : Measure) (slide size i : ℕ) (m : Mark) (s : Side) (v : Values) → in_order m.last (stamp v) ≡ true → closed (one measure slide size) i m ≡ true → closed (one measure slide size) i (then m s v) ≡ true
-closed_on Rows k n i m Left v e h = grind (arith, nat_tests)
-closed_on Rows k n i m Right v e h = h
-closed_on Range k n i m s v e h = reached_on m.last _ _ h e
+-- and stays past
+past_on : (measure : Measure) (slide size i : ℕ) (m : Mark) (s : Side) (v : Values) → in_order m.last (stamp v) ≡ true → past (one measure slide size) i m ≡ true → past (one measure slide size) i (then m s v) ≡ true
+past_on Rows k n i m Left v e h = grind (arith, nat_tests)
+past_on Rows k n i m Right v e h = h
+past_on Range k n i m s v e h = reached_on m.last _ _ h e
 
 without : (f : Frame) (i : ℕ) (m : Mark) (x : Row) (xs : List Row) → has f i (record { row = x; before = m }) ≡ false → filter (has f i) (placed_after (step_mark m x) xs) ≡ [] → filter (has f i) (placed_after m (x ∷ xs)) ≡ []
 unfolding placed_after
 without f i m x xs e h = ap (λ b. cond b (record { row = x; before = m } ∷ filter (has f i) (placed_after (step_mark m x) xs)) (filter (has f i) (placed_after (step_mark m x) xs))) e ∙ h
 
-closed_have_none : (measure : Measure) (slide size i : ℕ) (m : Mark) (xs : List Row) → Ordered m xs → closed (one measure slide size) i m ≡ true → filter (has (one measure slide size) i) (placed_after m xs) ≡ []
+past_have_no_row : (measure : Measure) (slide size i : ℕ) (m : Mark) (xs : List Row) → Ordered m xs → past (one measure slide size) i m ≡ true → filter (has (one measure slide size) i) (placed_after m xs) ≡ []
 unfolding Ordered placed_after
-closed_have_none measure k n i m [] o h = refl
-closed_have_none measure k n i m (x ∷ xs) o h =
-    without (one measure k n) i m x xs (has_not measure k n i m x.side x.values o.0 h) (closed_have_none measure k n i (step_mark m x) xs o.1 (closed_on measure k n i m x.side x.values o.0 h))
+past_have_no_row measure k n i m [] o h = refl
+past_have_no_row measure k n i m (x ∷ xs) o h =
+    without (one measure k n) i m x xs (has_not measure k n i m x.side x.values (in_order_by m (stamp x.values) o.0) h) (past_have_no_row measure k n i (step_mark m x) xs o.1 (past_on measure k n i m x.side x.values (in_order_by m (stamp x.values) o.0) h))
 
--- a window that ends at a row or before it is closed by that row
-closes : CountsAreExact → (measure : Measure) (slide size i : ℕ) → nat_le 1 slide ≡ true → (m : Mark) (s : Side) (v : Values) → nat_lt i (first_window (one measure slide size) (at m s v)) ≡ true → closed (one measure slide size) i (then m s v) ≡ true
+-- a window that ends at a row or before it is past behind that row
+closes : CountsAreExact → (measure : Measure) (slide size i : ℕ) → nat_le 1 slide ≡ true → (m : Mark) (s : Side) (v : Values) → nat_lt i (first_window (one measure slide size) (at m s v)) ≡ true → past (one measure slide size) i (then m s v) ≡ true
 closes exact Rows k n i w m Left v h = let e = exact k n m.left i w in grind (arith, nat_tests, e)
 closes exact Rows k n i w m Right v h = absurd (omega (arith, ltb-true i 0 h))
 closes exact Range k n i w m Left v h = sym (exact k n (stamp v) i w) ∙ h
@@ -65,4 +73,4 @@ ended exact Range k n i w m Right v h = refl
 pub past_have_none : CountsAreExact → PastHaveNone
 unfolding Ordered
 past_have_none exact measure k n w i m x xs o h =
-    without (one measure k n) i m x xs (ended exact measure k n i w.0 m x.side x.values h) (closed_have_none measure k n i (step_mark m x) xs o.1 (closes exact measure k n i w.0 m x.side x.values h))
+    without (one measure k n) i m x xs (ended exact measure k n i w.0 m x.side x.values h) (past_have_no_row measure k n i (step_mark m x) xs o.1 (closes exact measure k n i w.0 m x.side x.values h))

@@ -1,9 +1,10 @@
 //! The arithmetic of windows: which windows have a point or a row, and how many windows the rows so
-//! far have begun and closed. Nothing here takes memory or refuses, and no call has a loop. Everything
+//! far have begun and closed. Nothing here takes memory or refuses, and one call alone has a loop (`free_of`, over blocks). Everything
 //! that a query does with windows stands on these calls.
 #![tactic(auto)]
 
 mod counts;
+mod frees;
 mod laws;
 mod plan_windows;
 mod plans;
@@ -11,11 +12,12 @@ mod points;
 mod rows;
 mod windowed;
 
+pub use frees::free_of;
 pub use laws::{closed_within_begun, past_have_none, stamps_fit};
 pub use plan_windows::Windows;
 pub use plans::{begun_below, closed_below, kind_of};
 pub use points::windows_of;
-pub use rows::step_mark;
+pub use rows::{ending, step_mark};
 
 #[cfg(test)]
 mod tests;

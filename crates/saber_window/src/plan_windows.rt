@@ -3,7 +3,7 @@ ghost use Rattle.std.specs.Prelude.{◌≡◌, ℕ, ◌^◌, ◌<◌, ◌≤◌,
 ghost use Rattle.saber_plan.specs.Trees.{tree_of};
 ghost use Rattle.saber_plan.specs.Answers.{frame};
 ghost use Rattle.saber_plan.specs.Checked.{IsChecked};
-ghost use Rattle.saber_plan.specs.Windows.{Fits, begun, begun_count, closed, closed_count, has, kind_of};
+ghost use Rattle.saber_plan.specs.Windows.{Fits, begun, begun_count, closed, closed_count, has, kind_of, past_count};
 ghost use Rattle.saber_plan.specs.Needs.{first_window, last_window, past_window};
 
 use crate::counts::{count_reached, count_to};
@@ -49,14 +49,10 @@ impl Windows {
         }
     }
 
-    /// How many windows are closed by the rows that this mark tells of, as the function of this name.
-    pub fn closed_below(&self, m: &Mark) -> u64
-        ensures count { result ≡ closed_count self.now m.now }
-        ensures closed { (i : ℕ) → nat_lt i result ≡ closed self.now i m.now }
-        ensures begun { result ≤ begun_count self.now m.now }
+    // How many windows have all their rows behind the mark.
+    fn past_below(&self, m: &Mark) -> u64
+        ensures { result ≡ past_count self.now m.now }
     {
-        closed_are_counted();
-        closed_within_begun();
         match self.windowed {
             Windowed::Neither => 0,
             Windowed::One {
@@ -82,6 +78,29 @@ impl Windows {
                 right,
             } => count_reached(slide, left.max(right), m.last),
         }
+    }
+
+    // How many are closed: where the input ended, those that are begun.
+    fn count_closed(&self, m: &Mark) -> u64
+        ensures { result ≡ closed_count self.now m.now }
+    {
+        if m.ended {
+            self.begun_below(m)
+        } else {
+            self.past_below(m)
+        }
+    }
+
+    /// How many windows are closed behind this mark, as the function of this name.
+    pub fn closed_below(&self, m: &Mark) -> u64
+        ensures count { result ≡ closed_count self.now m.now }
+        ensures closed { (i : ℕ) → nat_lt i result ≡ closed self.now i m.now }
+        ensures begun { result ≤ begun_count self.now m.now }
+    {
+        let _windowed = &self.windowed;
+        closed_are_counted();
+        closed_within_begun();
+        self.count_closed(m)
     }
 
     /// How many windows are begun by them, as the function of this name.

@@ -10,7 +10,8 @@ use saber_plan::{Kind, Mark, Plan};
 
 /// How many windows are closed by the rows that this mark tells of: those from 0 on. A window by rows is
 /// closed when all its rows came, one by time when a row came whose time is greater than all of the
-/// window's, and one of a join when it is for both streams (this project's own rule).
+/// window's, and one of a join when it is for both streams. Where the input ended, all begun windows are
+/// closed (this project's own rule).
 pub fn closed_below(p: &Plan, m: &Mark) -> u64
     requires { IsChecked (tree_of p.now) }
     ensures count { result ≡ closed_count (frame (tree_of p.now)) m.now }

@@ -1,7 +1,7 @@
 // Rows: their timestamps, and the mark after one more.
 ghost use Rattle.std.specs.Prelude.{◌≡◌, ◌^◌, ◌<◌, ◌≤◌};
 ghost use Rattle.saber_plan.specs.Rows.{stamp};
-ghost use Rattle.saber_plan.specs.Windows.{by_side, step_mark};
+ghost use Rattle.saber_plan.specs.Windows.{by_side, step_mark, ending};
 ghost use Rattle.saber_window.specs.Points.{point};
 
 use saber_plan::{Mark, Measure, Row, Side};
@@ -56,11 +56,26 @@ pub fn step_mark(m: &Mark, r: &Row) -> Mark
             left: m.left + 1,
             right: m.right,
             last,
+            ended: m.ended,
         },
         Side::Right => Mark {
             left: m.left,
             right: m.right + 1,
             last,
+            ended: m.ended,
         },
+    }
+}
+
+/// The mark with the input's end behind it, if it comes here: there the begun windows are closed.
+#[inline]
+pub fn ending(ended: bool, m: &Mark) -> Mark
+    ensures { result ≡ ending ended m.now }
+{
+    Mark {
+        left: m.left,
+        right: m.right,
+        last: m.last,
+        ended: ended || m.ended,
     }
 }

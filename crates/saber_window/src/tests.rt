@@ -4,11 +4,12 @@ ghost use Rattle.saber_plan.specs.Rows.{stamp};
 ghost use Rattle.saber_plan.specs.Trees.{tree_of};
 ghost use Rattle.saber_plan.specs.Checked.{IsChecked, Pairs, WindowFits};
 
-use crate::{Windows, begun_below, closed_below, kind_of, step_mark, windows_of};
+use crate::{Windows, begun_below, closed_below, ending, free_of, kind_of, step_mark, windows_of};
 use saber_plan::{
     Expr, Item, Kind, Mark, Measure, NoMemory, Plan, Row, Shape, Side, Stream, Values, Window,
 };
 use std::alloc::Global;
+use std::collections::VecDeque;
 use std::test::Fail;
 
 const GREAT: u64 = 1 << 40;
@@ -94,16 +95,19 @@ fn rows_begin_and_close_windows(rt: HostRuntime) -> Result<(), Fail> {
         left: 4,
         right: 0,
         last: Some(2),
+        ended: false,
     };
     let b = Mark {
         left: 5,
         right: 0,
         last: Some(9),
+        ended: false,
     };
     let none = Mark {
         left: 0,
         right: 0,
         last: None,
+        ended: false,
     };
     assert_eq!(rt;
         (closed_below(&plan, &none), begun_below(&plan, &none)),
@@ -128,6 +132,38 @@ fn rows_begin_and_close_windows(rt: HostRuntime) -> Result<(), Fail> {
     Ok(())
 }
 
+// The same windows: five are begun and four closed before the end, and the fifth is closed by it.
+#[test]
+fn the_end_closes_begun_windows(rt: HostRuntime) -> Result<(), Fail> {
+    let plan = group(rt.alloc(), Measure::Range, 3, 2)?;
+    let before = Mark {
+        left: 5,
+        right: 0,
+        last: Some(9),
+        ended: false,
+    };
+    let at_end = ending(true, &before);
+    assert_eq!(rt; ending(false, &before), before);
+    assert_eq!(rt;
+        (closed_below(&plan, &at_end), begun_below(&plan, &at_end)),
+        (5, 5)
+    );
+    let kinds = [None, None, None, None, Some(Kind::Closing), None];
+    for (i, kind) in kinds.iter().enumerate() {
+        assert_eq!(rt;
+            kind_of(&plan, i as u64, &before, &at_end),
+            *kind,
+            "window {i}"
+        );
+        assert_eq!(rt;
+            kind_of(&plan, i as u64, &at_end, &at_end),
+            None,
+            "window {i}"
+        );
+    }
+    Ok(())
+}
+
 #[test]
 fn great_windows_close(rt: HostRuntime) -> Result<(), Fail> {
     let windows = Windows::of_plan(&group(rt.alloc(), Measure::Rows, GREAT, GREAT)?);
@@ -143,6 +179,7 @@ fn great_windows_close(rt: HostRuntime) -> Result<(), Fail> {
             left,
             right: 7,
             last: Some(0),
+            ended: false,
         };
         assert_eq!(rt; windows.closed_below(&mark), closed, "{left} rows");
         assert_eq!(rt; windows.begun_below(&mark), begun, "{left} rows");
@@ -157,6 +194,7 @@ fn both_streams_close_windows(rt: HostRuntime) -> Result<(), Fail> {
         left: 5,
         right: 3,
         last: Some(6),
+        ended: false,
     };
     let measure = Measure::Rows;
     let left = Window {
@@ -203,6 +241,7 @@ fn rows_lie_in_windows(rt: HostRuntime) -> Result<(), Fail> {
         left: 5,
         right: 2,
         last: Some(3),
+        ended: false,
     };
     let left = row(alloc, Side::Left, 4)?;
     let right = row(alloc, Side::Right, 4)?;
@@ -243,7 +282,8 @@ fn rows_lie_in_windows(rt: HostRuntime) -> Result<(), Fail> {
         Mark {
             left: 6,
             right: 2,
-            last: Some(4)
+            last: Some(4),
+            ended: false
         }
     );
     assert_eq!(rt;
@@ -251,8 +291,22 @@ fn rows_lie_in_windows(rt: HostRuntime) -> Result<(), Fail> {
         Mark {
             left: 5,
             right: 3,
-            last: Some(4)
+            last: Some(4),
+            ended: false
         }
     );
+    Ok(())
+}
+
+// Blocks 5, 6 and 7: rows in windows up to 3, in none, and up to 9.
+#[test]
+fn blocks_are_free(rt: HostRuntime) -> Result<(), Fail> {
+    let mut lasts = VecDeque::new(rt.alloc());
+    lasts.push_back(Some(3))?;
+    lasts.push_back(None)?;
+    lasts.push_back(Some(9))?;
+    for (closed, first) in [(0, 5), (3, 5), (4, 7), (9, 7), (10, 8)] {
+        assert_eq!(rt; free_of(5, &lasts, closed), first, "{closed} closed");
+    }
     Ok(())
 }

@@ -5,11 +5,11 @@ use Rattle.std.proofs.lemmas.Map.Iter.{rest_more, rest_all}
 use Rattle.saber_plan.specs.Answers.{key_cmp}
 use Rattle.saber_plan.specs.Merges.{joined}
 use Rattle.saber_plan.specs.Parts.{Part, join_numbers, merge}
-use Rattle.saber_partial.proofs.Keyed.{merge-empty_right}
+use Rattle.saber_plan.specs.PartFacts.{merge-empty_right}
+use Rattle.saber_plan.specs.MapFacts.{rest_rises}
+use Rattle.saber_plan.specs.TreeFacts.{sorted_seen}
 use Rattle.saber_partial.specs.Tallies.{CanMerge, seen_entries, seen_groups, with_row}
-use Rattle.saber_partial.proofs.Maps.{sorted_seen}
 use Rattle.saber_partial.proofs.Merging.{step_rest, step_fits, join_here}
-use Rattle.saber_partial.proofs.Finite.{rest_rises}
 use Rattle.saber_partial.proofs.groups.Partial.copy_in.Goals as goal
 
 pub loop-key-init : goal.loop-key-init

@@ -10,9 +10,9 @@ use Rattle.std.proofs.lemmas.Map.Entries.{length-keys_of}
 use Rattle.saber_plan.specs.Answers.{key_cmp}
 use Rattle.saber_plan.specs.Parts.{Part}
 use Rattle.saber_partial.specs.Tallies.{seen_entries}
-use Rattle.saber_partial.proofs.Maps.{sorted_seen}
-use Rattle.saber_partial.proofs.Finite.{entries-from_rising}
-use Rattle.saber_partial.proofs.Keyed.{total, exact}
+use Rattle.saber_plan.specs.MapFacts.{entries-from_rising}
+use Rattle.saber_plan.specs.PartFacts.{total, exact}
+use Rattle.saber_plan.specs.TreeFacts.{sorted_seen}
 use Rattle.saber_partial.proofs.Stepped.{items_of, seen_keys}
 use Rattle.saber_partial.proofs.groups.Partial.has_same_keys.Goals as goal
 

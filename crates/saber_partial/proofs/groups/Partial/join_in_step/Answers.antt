@@ -1,8 +1,8 @@
 use Rattle.std.proofs.Common.{rules, ◌≡◌, ◌∙◌, ap, ap₂, sym, subst, subst₂}
 use Rattle.saber_plan.specs.Answers.{key_cmp}
 use Rattle.saber_plan.specs.Parts.{merge}
+use Rattle.saber_plan.specs.TreeFacts.{sorted_seen}
 use Rattle.saber_partial.specs.Tallies.{CanMerge, FirstFits, seen_groups}
-use Rattle.saber_partial.proofs.Maps.{sorted_seen}
 use Rattle.saber_partial.proofs.Stepped.{AllFit, stepped, stepped_all, fits_at, groups_stepped, groups_fit, same_seen}
 use Rattle.saber_partial.proofs.groups.Partial.join_in_step.Goals as goal
 

@@ -2,8 +2,8 @@ use Rattle.std.proofs.Common.{◌∙◌, ap}
 use Rattle.std.specs.FinMap.{insert}
 use Rattle.saber_plan.specs.Answers.{key_cmp}
 use Rattle.saber_partial.specs.Tallies.{seen_groups}
-use Rattle.saber_partial.proofs.Keyed.{total, exact}
-use Rattle.saber_partial.proofs.Maps.{inserted}
+use Rattle.saber_plan.specs.PartFacts.{total, exact}
+use Rattle.saber_plan.specs.TreeFacts.{inserted}
 use Rattle.saber_partial.proofs.groups.Partial.put.Goals as goal
 
 pub returns-clause-ok : goal.returns-clause-ok

@@ -6,8 +6,8 @@ use Rattle.saber_plan.specs.Answers.{key_cmp}
 use Rattle.saber_plan.specs.Merges.{joined}
 use Rattle.saber_plan.specs.Parts.{Part, Numbers, join_numbers}
 use Rattle.saber_partial.specs.Tallies.{seen_groups}
-use Rattle.saber_partial.proofs.Keyed.{total, exact}
-use Rattle.saber_partial.proofs.Maps.{written, looked_up}
+use Rattle.saber_plan.specs.PartFacts.{total, exact}
+use Rattle.saber_plan.specs.TreeFacts.{written, looked_up}
 use Rattle.saber_partial.proofs.groups.Partial.take_one.Goals as goal
 
 pub join-requires : goal.join-requires

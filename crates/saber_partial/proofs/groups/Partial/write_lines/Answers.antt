@@ -1,7 +1,7 @@
 use Rattle.std.proofs.Common.{◌++◌, [], sym, ◌∙◌, ap, append-nil}
 use Rattle.saber_plan.specs.Answers.{key_cmp}
+use Rattle.saber_plan.specs.TreeFacts.{sorted_seen}
 use Rattle.saber_partial.specs.Printing.{lines_for, numbers_of}
-use Rattle.saber_partial.proofs.Maps.{sorted_seen}
 use Rattle.saber_partial.proofs.Lined.{numbers_seen}
 use Rattle.saber_partial.proofs.groups.Partial.write_lines.Goals as goal
 

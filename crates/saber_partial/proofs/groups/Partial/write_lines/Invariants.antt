@@ -1,5 +1,6 @@
 use Rattle.std.proofs.Common.{◌≡◌, ◌++◌}
-use Rattle.saber_partial.specs.Printing.{lines_for, numbers_of, Behind}
+use Rattle.saber_plan.specs.Texts.{Behind}
+use Rattle.saber_partial.specs.Printing.{lines_for, numbers_of}
 use Rattle.saber_partial.proofs.groups.Partial.write_lines.Given as goal
 
 abbrev pub invariant-loop-tally : goal.invariant-loop-tally

@@ -1,0 +1,187 @@
+-- An input, whose end counts as one arrival more: marks at its positions, and the parts between them.
+use Rattle.std.proofs.Common.{◌≡◌, ℕ, ◌-◌, ◌≤◌, ◌<◌, List, [], ◌∷◌, ◌++◌, filter, min, length, take, drop, slice_range, Bool, true, false, ◌&&◌, nat_lt, refl, sym, ◌∙◌, ap, subst, length-take, take-take, le_trans, zero-le, ⊎_elim, arith}
+use Rattle.std.proofs.lemmas.List.{take_all, length-drop}
+use Rattle.std.proofs.lemmas.Bool.{ltb-true, both_ways, cases_lt}
+use Rattle.std.proofs.lemmas.Bool.Decides.{nat_tests}
+use Rattle.saber_plan.specs.declared.rows.Row.{Row}
+use Rattle.saber_plan.specs.declared.windows.Mark.{Mark}
+use Rattle.saber_plan.specs.Trees.{Tree}
+use Rattle.saber_plan.specs.Inputs.{Input, arrived}
+use Rattle.saber_plan.specs.Windows.{Frame, Fits, no_rows, step_mark, mark_after, mark_of, ending, mark_at, begun, closed, begun_count, closed_count, has, Ordered, place, placed_after, placed, inside}
+use Rattle.saber_plan.specs.Answers.{by_shape, frame, lines, passing}
+use Rattle.saber_plan.specs.Parts.{no_part, part, part_lines, group_part, pair_part, join_numbers, merge}
+use Rattle.saber_plan.specs.ListFacts.{Each, each-filter, slice-join, slice-front, nothing_behind}
+use Rattle.saber_plan.specs.MapFacts.{both_empty_right}
+use Rattle.saber_plan.specs.PartFacts.{total, exact, merge-empty_right}
+use Rattle.saber_plan.specs.RowFacts.{mark-append, length-placed}
+use Rattle.saber_laws.proofs.WindowLaws.{begun_ending, begun_count_ending, closed_ending, closed_count_ending, closed_count_rises, begun_count_rises, closed_after}
+use Rattle.saber_laws.proofs.RowLaws.{take-placed, slice-placed, Ordered-slice}
+use Rattle.saber_laws.proofs.PartLaws.{group_part-empty}
+use Rattle.saber_laws.proofs.PairLaws.{pair_part-none, placed_below}
+use Rattle.saber_laws.proofs.ShareLaws.{part-join, part-not_begun, part-closed, part-take, lines-part, shaped}
+
+-- ---- the marks of an input
+
+-- rows behind a mark, with the end or without
+pub after_ending : (e : Bool) (m : Mark) (xs : List Row) → mark_after (ending e m) xs ≡ ending e (mark_after m xs)
+after_ending e m [] = refl
+after_ending e m (x ∷ xs) = after_ending e (step_mark m x) xs
+
+ending_again : (d e : Bool) (m : Mark) → (d ≡ true → e ≡ true) → ending e (ending d m) ≡ ending e m
+ending_again d true m h = refl
+ending_again true false m h = absurd (both_ways _ refl (h refl))
+ending_again false false m h = refl
+
+ended_case : (b : Bool) (l x y : ℕ) → x ≤ y → (b && nat_lt l x) ≡ true → (b && nat_lt l y) ≡ true
+ended_case true l x y a h = grind (arith, nat_tests)
+ended_case false l x y a h = h
+
+-- an end that has come is there at each later position
+pub stays_ended : (r : Input) (x y : ℕ) → x ≤ y → (arrived r x).ended ≡ true → (arrived r y).ended ≡ true
+stays_ended r x y a h = ended_case r.ended (length r.rows) x y a h
+
+behind_case : (b : Bool) (l x : ℕ) → (b && nat_lt l x) ≡ true → l < x
+behind_case true l x h = ltb-true l x h
+behind_case false l x h = absurd (both_ways _ refl h)
+
+-- and stands behind all rows
+pub end_behind : (r : Input) (x : ℕ) → (arrived r x).ended ≡ true → length r.rows < x
+end_behind r x h = behind_case r.ended (length r.rows) x h
+
+-- where it has not come, the mark is that of the rows
+pub mark_open : (r : Input) (x : ℕ) → (arrived r x).ended ≡ false → mark_at r x ≡ mark_of (take x r.rows)
+mark_open r x e = ap (λ b. ending b (mark_of (take x r.rows))) e
+
+pub rows_on : (xs : List Row) (x y : ℕ) → x ≤ y → mark_of (take y xs) ≡ mark_after (mark_of (take x xs)) (slice_range xs x y)
+rows_on xs x y a = ap mark_of (sym (slice-front xs y) ∙ slice-join xs 0 x y zero-le a ∙ ap (λ l. l ++ slice_range xs x y) (slice-front xs x)) ∙ mark-append no_rows (take x xs) (slice_range xs x y)
+
+-- the mark at a later position follows from that at an earlier one
+pub mark_on : (r : Input) (x y : ℕ) → x ≤ y → mark_at r y ≡ ending (arrived r y).ended (mark_after (mark_at r x) (slice_range r.rows x y))
+mark_on r x y a =
+    let d = (arrived r x).ended in
+    let e = (arrived r y).ended in
+    let m = mark_of (take x r.rows) in
+    let between = slice_range r.rows x y in
+    ap (ending e) (rows_on r.rows x y a) ∙ sym (ending_again d e (mark_after m between) (stays_ended r x y a)) ∙ sym (ap (ending e) (after_ending d m between))
+
+same_end : (d e : Bool) → (d ≡ true → e ≡ true) → (e ≡ true → d ≡ true) → d ≡ e
+same_end true e f g = sym (f refl)
+same_end false true f g = g refl
+same_end false false f g = refl
+
+-- where the end came before, the rows alone make it
+pub mark_next : (r : Input) (x y : ℕ) → x ≤ y → ((arrived r y).ended ≡ true → (arrived r x).ended ≡ true) → mark_after (mark_at r x) (slice_range r.rows x y) ≡ mark_at r y
+mark_next r x y a k =
+    let between = slice_range r.rows x y in
+    let m = mark_of (take x r.rows) in
+    after_ending (arrived r x).ended m between ∙ ap (λ b. ending b (mark_after m between)) (same_end _ _ (stays_ended r x y a) k) ∙ sym (ap (ending (arrived r y).ended) (rows_on r.rows x y a))
+
+open_case : (b : Bool) (l x : ℕ) → x ≤ l → (b && nat_lt l x) ≡ false
+open_case true l x h = grind (arith, nat_tests)
+open_case false l x h = refl
+
+-- it has not come at a position of a row
+pub open_at : (r : Input) (x : ℕ) → x ≤ length r.rows → (arrived r x).ended ≡ false
+open_at r x h = open_case r.ended (length r.rows) x h
+
+ordered_none : (m : Mark) (xs : List Row) → xs ≡ [] → Ordered m xs
+unfolding Ordered
+ordered_none m xs e = subst (Ordered m) (sym e) tt
+
+-- the rows from there on follow it
+pub ordered_on : (r : Input) (x y : ℕ) → Ordered no_rows r.rows → Ordered (mark_at r x) (slice_range r.rows x y)
+ordered_on r x y o = elim ((arrived r x).ended) as (λ b. (arrived r x).ended ≡ b → Ordered (mark_at r x) (slice_range r.rows x y)) [
+  | true ↦ λ e. ordered_none (mark_at r x) _ (nothing_behind r.rows x y (let far = end_behind r x e in omega arith))
+  | false ↦ λ e. subst (λ m. Ordered m (slice_range r.rows x y)) (sym (mark_open r x e)) (Ordered-slice x y r.rows o)
+] refl
+
+placed_none : (m n : Mark) (xs : List Row) → xs ≡ [] → placed_after m xs ≡ placed_after n xs
+unfolding placed_after
+placed_none m n xs e = ap (placed_after m) e ∙ sym (ap (placed_after n) e)
+
+-- and are placed behind it
+pub placed_on : (r : Input) (x y : ℕ) → slice_range (placed r.rows) x y ≡ placed_after (mark_at r x) (slice_range r.rows x y)
+placed_on r x y = slice-placed r.rows x y ∙ (elim ((arrived r x).ended) as (λ b. (arrived r x).ended ≡ b → placed_after (mark_of (take x r.rows)) (slice_range r.rows x y) ≡ placed_after (mark_at r x) (slice_range r.rows x y)) [
+  | true ↦ λ e. placed_none _ _ _ (nothing_behind r.rows x y (let far = end_behind r x e in omega arith))
+  | false ↦ λ e. ap (λ m. placed_after m (slice_range r.rows x y)) (sym (mark_open r x e))
+] refl)
+
+-- ---- the counts along an input
+
+pub closed_rises : (f : Frame) → Fits f → (r : Input) (x y : ℕ) → Ordered no_rows r.rows → x ≤ y → closed_count f (mark_at r x) ≤ closed_count f (mark_at r y)
+closed_rises f w r x y o a = subst (λ m. closed_count f (mark_at r x) ≤ closed_count f m) (sym (mark_on r x y a))
+    (le_trans (closed_count_rises f w (mark_at r x) (slice_range r.rows x y) (ordered_on r x y o)) (closed_count_ending f w (arrived r y).ended (mark_after (mark_at r x) (slice_range r.rows x y))))
+
+pub begun_rises : (f : Frame) → Fits f → (r : Input) (x y : ℕ) → Ordered no_rows r.rows → x ≤ y → begun_count f (mark_at r x) ≤ begun_count f (mark_at r y)
+begun_rises f w r x y o a = subst (λ m. begun_count f (mark_at r x) ≤ m) (sym (ap (begun_count f) (mark_on r x y a) ∙ begun_count_ending f (arrived r y).ended (mark_after (mark_at r x) (slice_range r.rows x y))))
+    (begun_count_rises f w (mark_at r x) (slice_range r.rows x y) (ordered_on r x y o))
+
+pub closed_on : (f : Frame) → Fits f → (i : ℕ) (r : Input) (x y : ℕ) → Ordered no_rows r.rows → x ≤ y → closed f i (mark_at r x) ≡ true → closed f i (mark_at r y) ≡ true
+closed_on f w i r x y o a h = ap (closed f i) (mark_on r x y a) ∙ closed_ending f w i (arrived r y).ended (mark_after (mark_at r x) (slice_range r.rows x y)) (closed_after f i (mark_at r x) (slice_range r.rows x y) (ordered_on r x y o) h)
+
+-- ---- parts, at whatever positions
+
+left_over : {A : Type 0} (l : List A) (x y : ℕ) → length l ≤ y → length (drop x l) ≤ y - x
+left_over l x y h = let few = length-drop x l in omega arith
+
+slice_whole : {A : Type 0} (l : List A) (x y z : ℕ) → length l ≤ y → length l ≤ z → slice_range l x y ≡ slice_range l x z
+slice_whole l x y z h k = take_all (y - x) (drop x l) (left_over l x y h) ∙ sym (take_all (z - x) (drop x l) (left_over l x z k))
+
+-- past the last row there is no more
+pub part_whole : (q : Tree) (i : ℕ) (xs : List Row) (x y z : ℕ) → length xs ≤ y → length xs ≤ z → part q i xs x y ≡ part q i xs x z
+part_whole q i xs x y z h k =
+    let all : length (placed xs) ≡ length xs = length-placed no_rows xs in
+    let rows = λ (v : ℕ). slice_whole (placed xs) v y z (omega arith) (omega arith) in
+    λ j. by_shape q.shape no_part (group_part q (passing q (filter (has (frame q) i) (rows x j)))) (pair_part q x (filter (has (frame q) i) (rows 0 j)))
+
+inside_before : (f : Frame) (i : ℕ) (xs : List Row) (x y : ℕ) → length xs ≤ x → Each (λ p. place p < x) (inside f i xs 0 y)
+inside_before f i xs x y h = each-filter (λ p. place p < x) (has f i) (slice_range (placed xs) 0 y) (subst (Each (λ p. place p < x)) (sym (slice-front (placed xs) y ∙ take-placed y no_rows xs)) (placed_below no_rows (take y xs) x (let few = length-take y xs in omega arith)))
+
+pub part_behind : (q : Tree) (i : ℕ) (xs : List Row) (x y : ℕ) → length xs ≤ x → part q i xs x y ≡ no_part
+part_behind q i xs x y h =
+    let all : length (placed xs) ≡ length xs = length-placed no_rows xs in
+    let none = ap (filter (has (frame q) i)) (nothing_behind (placed xs) x y (omega arith)) in
+    shaped q.shape _ _ _ no_part refl (ap (λ l. group_part q (passing q l)) none ∙ group_part-empty q) (pair_part-none q x _ (inside_before (frame q) i xs x y h))
+
+-- parts join at each position
+pub join_at : (q : Tree) (i : ℕ) (xs : List Row) (x y z : ℕ) → x ≤ y → y ≤ z → part q i xs x z ≡ merge (part q i xs x y) (part q i xs y z)
+join_at q i xs x y z a b = ⊎_elim
+    (λ l. part_whole q i xs x z y (omega arith) (omega arith) ∙ sym (merge-empty_right (part q i xs x y)) ∙ sym (ap (merge (part q i xs x y)) (part_behind q i xs y z (omega arith))))
+    (λ l. part-join q i xs x y z a b l)
+    (cases_lt (length xs) y)
+
+-- the part of the first y rows is that of all of them
+pub part_upto : (q : Tree) (i : ℕ) (xs : List Row) (y : ℕ) → part q i (take y xs) 0 (length (take y xs)) ≡ part q i xs 0 y
+part_upto q i xs y =
+    let few = length-take y xs in
+    part_whole q i (take y xs) 0 (length (take y xs)) y (omega arith) (omega arith) ∙ part-take q i xs 0 y y zero-le (omega arith)
+
+-- and its lines are the window's
+pub lines_upto : (q : Tree) (i : ℕ) (xs : List Row) (y : ℕ) → lines q i (take y xs) ≡ part_lines q i (part q i xs 0 y)
+lines_upto q i xs y = lines-part q i (take y xs) ∙ ap (part_lines q i) (part_upto q i xs y)
+
+-- a closed window gets nothing more
+pub part_closed : (q : Tree) (i : ℕ) (r : Input) (x y : ℕ) → Ordered no_rows r.rows → x ≤ y → closed (frame q) i (mark_at r x) ≡ true → part q i r.rows x y ≡ no_part
+part_closed q i r x y o a h = elim ((arrived r x).ended) as (λ b. (arrived r x).ended ≡ b → part q i r.rows x y ≡ no_part) [
+  | true ↦ λ e. part_behind q i r.rows x y (let far = end_behind r x e in omega arith)
+  | false ↦ λ e. part-closed q i r.rows x y o a (sym (ap (closed (frame q) i) (mark_open r x e)) ∙ h)
+] refl
+
+pub lines_stay : (q : Tree) (i : ℕ) (r : Input) (x y : ℕ) → Ordered no_rows r.rows → x ≤ y → closed (frame q) i (mark_at r x) ≡ true → lines q i (take y r.rows) ≡ lines q i (take x r.rows)
+lines_stay q i r x y o a h = lines_upto q i r.rows y ∙ ap (part_lines q i) (join_at q i r.rows 0 x y zero-le a ∙ ap (merge (part q i r.rows 0 x)) (part_closed q i r x y o a h) ∙ merge-empty_right (part q i r.rows 0 x)) ∙ sym (lines_upto q i r.rows x)
+
+-- one that isn't begun has nothing yet
+pub part_not_begun : (q : Tree) (i : ℕ) (r : Input) (y : ℕ) → Ordered no_rows r.rows → begun (frame q) i (mark_at r y) ≡ false → part q i r.rows 0 y ≡ no_part
+part_not_begun q i r y o h = part-not_begun q i r.rows y o (sym (begun_ending (frame q) i (arrived r y).ended (mark_of (take y r.rows))) ∙ h)
+
+pub not_begun_part : (q : Tree) (i : ℕ) (r : Input) (x y : ℕ) → Ordered no_rows r.rows → x ≤ y → begun (frame q) i (mark_at r y) ≡ false → part q i r.rows x y ≡ no_part
+not_begun_part q i r x y o a b = both_empty_right total join_numbers exact (part q i r.rows 0 x) (part q i r.rows x y) (sym (join_at q i r.rows 0 x y zero-le a) ∙ part_not_begun q i r y o b)
+
+-- ---- an input cut twice
+
+cut_end : (b : Bool) (l x n : ℕ) → x ≤ n → (b && nat_lt l n) && nat_lt (min n l) x ≡ (b && nat_lt l x)
+cut_end true l x n a = grind (arith, nat_tests)
+cut_end false l x n a = refl
+
+pub arrived_twice : (r : Input) (x n : ℕ) → x ≤ n → arrived (arrived r n) x ≡ arrived r x
+arrived_twice r x n a = λ j. record { rows = take-take x n r.rows a j; ended = (ap (λ l. (arrived r n).ended && nat_lt l x) (length-take n r.rows) ∙ cut_end r.ended (length r.rows) x n a) j }

@@ -1,0 +1,162 @@
+-- What was read so far is the front of all that is read.
+use Rattle.std.proofs.Common.{◌≡◌, ℕ, ◌+◌, List, [], ◌∷◌, ◌++◌, Bool, true, false, cond, not, ◌&&◌, ◌==◌, nat_le, ◌⊎◌, inl, inr, ⊎_elim, refl, sym, ◌∙◌, ap, subst, append-nil}
+use Rattle.saber_plan.specs.declared.rows.Row.{Row}
+use Rattle.saber_plan.specs.Rows.{Line, onto_line, lines_of, End, cut, Read, before, stamp, SideRules, Place, start, Judged, skipped, taken, refused, judge, without_cr, after_line, read_by}
+use Rattle.saber_plan.specs.Inputs.{holds_up, alone, merged_rows}
+use Rattle.saber_laws.specs.Fronts.{IsFirstOf, AllAreFirst, WholeLinesAreFirst, MergesKeepFirst, InputsKeepFirst}
+use Rattle.saber_laws.proofs.InputLaws.{both_sides, Begins}
+
+-- cut short, or all
+abbrev SoFar : Read → Read → Type 0
+SoFar a b = ((a.end ≡ cut) × Begins a.rows b.rows) ⊎ (a ≡ b)
+
+so_far : (a b : Read) → IsFirstOf a b → SoFar a b
+so_far a b f = ⊎_elim (λ e. inl (e, (f.rest, f.first))) (λ e. inr e) f.ends
+
+first_of : (a b : Read) → SoFar a b → IsFirstOf a b
+first_of a b = ⊎_elim
+    (λ c. record { rest = c.1.0; first = c.1.1; ends = inl c.0 })
+    (λ e. record { rest = []; first = append-nil a.rows ∙ ap (λ (r : Read). r.rows) e; ends = inr e })
+
+pub all_first : AllAreFirst
+all_first a = first_of a a (inr refl)
+
+-- where nothing is known yet
+nothing_yet : (b : Read) → SoFar (record { rows = []; end = cut }) b
+nothing_yet b = inl (refl, (b.rows, refl))
+
+so_before : (x : Row) (a b : Read) → SoFar a b → SoFar (before x a) (before x b)
+so_before x a b = ⊎_elim (λ c. inl (c.0, (c.1.0, ap (λ l. x ∷ l) c.1.1))) (λ e. inr (ap (before x) e))
+
+-- ---- lines
+
+-- lines, of which the first that lacks its LF may go on
+abbrev LinesGo : List Line → List Line → Type 0
+LinesGo [] ms = Unit {0}
+LinesGo (l ∷ ls) ms = (l.whole ≡ false) ⊎ ((rest : List Line) × (ms ≡ l ∷ rest) × LinesGo ls rest)
+
+onto_go : (b : ℕ) (ls ms : List Line) → LinesGo ls ms → LinesGo (onto_line b ls) (onto_line b ms)
+onto_go b [] ms h = inl refl
+onto_go b (l ∷ ls) ms h = ⊎_elim (λ e. inl e) (λ g. inr (g.0, ap (onto_line b) g.1, g.2)) h
+
+lines_go : (bytes more : List ℕ) → LinesGo (lines_of bytes) (lines_of (bytes ++ more))
+unfolding lines_of
+lines_go [] more = tt
+lines_go (b ∷ bs) more =
+    let rest = lines_go bs more in
+    elim (b == 10) as (λ c. LinesGo (cond c (record { content = []; whole = true } ∷ lines_of bs) (onto_line b (lines_of bs))) (cond c (record { content = []; whole = true } ∷ lines_of (bs ++ more)) (onto_line b (lines_of (bs ++ more))))) [
+      | true ↦ inr (lines_of (bs ++ more), refl, rest)
+      | false ↦ onto_go b (lines_of bs) (lines_of (bs ++ more)) rest
+    ]
+
+after_go : (s : SideRules) (p : Place) (j : Judged) (f g : Place → Read) → ((z : Place) → SoFar (f z) (g z)) → SoFar (after_line s p j f) (after_line s p j g)
+after_go s p skipped f g h = h _
+after_go s p (taken zs) f g h = so_before _ _ _ (h _)
+after_go s p (refused c) f g h = inr refl
+
+not_whole : (s : SideRules) (l : Line) (ls : List Line) (p : Place) (b : Read) → l.whole ≡ false → SoFar (read_by true s (l ∷ ls) p) b
+unfolding read_by
+not_whole s l ls p b e = subst (λ c. SoFar (cond {A = Read} (true && not c) (record { rows = []; end = cut }) (after_line s p (judge s.columns s.most (p.lines + 1) p.last (without_cr l.content)) (read_by true s ls))) b) (sym e) (nothing_yet b)
+
+is_whole : (partial : Bool) (s : SideRules) (l : Line) (ls : List Line) (p : Place) → l.whole ≡ true → read_by partial s (l ∷ ls) p ≡ after_line s p (judge s.columns s.most (p.lines + 1) p.last (without_cr l.content)) (read_by partial s ls)
+unfolding read_by
+is_whole true s l ls p e = ap (λ c. cond {A = Read} (true && not c) (record { rows = []; end = cut }) (after_line s p (judge s.columns s.most (p.lines + 1) p.last (without_cr l.content)) (read_by true s ls))) e
+is_whole false s l ls p e = refl
+
+both_whole : (partial : Bool) (s : SideRules) (l : Line) (ls rest : List Line) (p : Place) → ((z : Place) → SoFar (read_by true s ls z) (read_by partial s rest z)) → (c : Bool) → l.whole ≡ c → SoFar (read_by true s (l ∷ ls) p) (read_by partial s (l ∷ rest) p)
+both_whole partial s l ls rest p h false e = not_whole s l ls p _ e
+both_whole partial s l ls rest p h true e =
+    let j = judge s.columns s.most (p.lines + 1) p.last (without_cr l.content) in
+    let now : after_line s p j (read_by true s ls) ≡ read_by true s (l ∷ ls) p = sym (is_whole true s l ls p e) in
+    let then : after_line s p j (read_by partial s rest) ≡ read_by partial s (l ∷ rest) p = sym (is_whole partial s l rest p e) in
+    subst (λ a. SoFar a (read_by partial s (l ∷ rest) p)) now (subst (SoFar (after_line s p j (read_by true s ls))) then (after_go s p j (read_by true s ls) (read_by partial s rest) h))
+
+none_read : (s : SideRules) (p : Place) → read_by true s [] p ≡ record { rows = []; end = cut }
+unfolding read_by
+none_read s p = refl
+
+reads_go : (partial : Bool) (s : SideRules) (ls ms : List Line) (p : Place) → LinesGo ls ms → SoFar (read_by true s ls p) (read_by partial s ms p)
+reads_go partial s [] ms p h = subst (λ a. SoFar a (read_by partial s ms p)) (sym (none_read s p)) (nothing_yet _)
+reads_go partial s (l ∷ ls) ms p h = ⊎_elim
+    (λ e. not_whole s l ls p _ e)
+    (λ g. subst (λ m. SoFar (read_by true s (l ∷ ls) p) (read_by partial s m p)) (sym g.1) (both_whole partial s l ls g.0 p (λ z. reads_go partial s ls g.0 z g.2) l.whole refl))
+    h
+
+pub whole_first : WholeLinesAreFirst
+whole_first s bytes more = record {
+  at_end = first_of _ _ (reads_go false s (lines_of bytes) (lines_of (bytes ++ more)) start (lines_go bytes more));
+  going_on = first_of _ _ (reads_go true s (lines_of bytes) (lines_of (bytes ++ more)) start (lines_go bytes more));
+}
+
+-- ---- merges
+
+abbrev read_of : List Row → End → Read
+read_of xs e = record { rows = xs; end = e }
+
+-- the rest of what begins with one row
+pub record Follows (x : Row) (xs : List Row) (e : End) (zs : List Row) (d : End) : Type 0 where
+  pub rest : List Row
+  pub are : zs ≡ x ∷ rest
+  pub so_far : SoFar (read_of xs e) (read_of rest d)
+
+without_first : (x : Row) (xs zs : List Row) (e d : End) → SoFar (read_of (x ∷ xs) e) (read_of zs d) → Follows x xs e zs d
+without_first x xs zs e d = ⊎_elim
+    (λ c. record { rest = xs ++ c.1.0; are = sym c.1.1; so_far = inl (c.0, (c.1.0, refl)) })
+    (λ g. record { rest = xs; are = sym (ap (λ (r : Read). r.rows) g); so_far = inr (ap (λ (r : Read). read_of xs r.end) g) })
+
+abbrev MergeGoes : End → End → End → End → List Row → List Row → Type 0
+MergeGoes e d e' d' xs ys = (us vs : List Row) → SoFar (read_of xs e) (read_of us e') → SoFar (read_of ys d) (read_of vs d') → SoFar (merged_rows xs e ys d) (merged_rows us e' vs d')
+
+alone_cut : (e d : End) (ys : List Row) (b : Read) → e ≡ cut → SoFar (alone e ys d) b
+alone_cut e d ys b h = subst (λ c. SoFar (alone c ys d) b) (sym h) (nothing_yet b)
+
+alone_goes : (e d d' : End) (ys vs : List Row) → SoFar (read_of ys d) (read_of vs d') → SoFar (alone e ys d) (alone e vs d')
+alone_goes e d d' ys vs h = elim (holds_up e) as (λ b. SoFar (cond {A = Read} b (read_of [] e) (read_of ys d)) (cond {A = Read} b (read_of [] e) (read_of vs d'))) [ true ↦ inr refl | false ↦ h ]
+
+no_left : (e d e' d' : End) (ys : List Row) → MergeGoes e d e' d' [] ys
+unfolding merged_rows
+no_left e d e' d' ys us vs h k = ⊎_elim
+    (λ c. alone_cut e d ys _ c.0)
+    (λ g. subst (λ (l : Read). SoFar (alone e ys d) (merged_rows l.rows l.end vs d')) g (alone_goes e d d' ys vs k))
+    h
+
+no_right : (e d e' d' : End) (x : Row) (xs : List Row) → MergeGoes e d e' d' (x ∷ xs) []
+unfolding merged_rows
+no_right e d e' d' x xs us vs h k =
+    let left = without_first x xs us e e' h in
+    ⊎_elim
+    (λ c. alone_cut d e (x ∷ xs) _ c.0)
+    (λ g. subst (λ (r : Read). SoFar (alone d (x ∷ xs) e) (merged_rows us e' r.rows r.end)) g
+    (subst (λ l. SoFar (alone d (x ∷ xs) e) (merged_rows l e' [] d)) (sym left.are)
+    (alone_goes d e e' (x ∷ xs) (x ∷ left.rest) (subst (λ l. SoFar (read_of (x ∷ xs) e) (read_of l e')) left.are h))))
+    k
+
+both_rows : (e d e' d' : End) (x : Row) (xs : List Row) (y : Row) (ys : List Row) → MergeGoes e d e' d' xs (y ∷ ys) → MergeGoes e d e' d' (x ∷ xs) ys → MergeGoes e d e' d' (x ∷ xs) (y ∷ ys)
+unfolding merged_rows
+both_rows e d e' d' x xs y ys left right us vs h k =
+    let f = without_first x xs us e e' h in
+    let g = without_first y ys vs d d' k in
+    let l = left f.rest (y ∷ g.rest) f.so_far (subst (λ z. SoFar (read_of (y ∷ ys) d) (read_of z d')) g.are k) in
+    let r = right (x ∷ f.rest) g.rest (subst (λ z. SoFar (read_of (x ∷ xs) e) (read_of z e')) f.are h) g.so_far in
+    subst (λ z. SoFar (merged_rows (x ∷ xs) e (y ∷ ys) d) (merged_rows z e' vs d')) (sym f.are)
+    (subst (λ z. SoFar (merged_rows (x ∷ xs) e (y ∷ ys) d) (merged_rows (x ∷ f.rest) e' z d')) (sym g.are)
+    (elim (nat_le (stamp x.values) (stamp y.values)) as (λ b. SoFar (cond b (before x (merged_rows xs e (y ∷ ys) d)) (before y (merged_rows (x ∷ xs) e ys d)))
+    (cond b (before x (merged_rows f.rest e' (y ∷ g.rest) d')) (before y (merged_rows (x ∷ f.rest) e' g.rest d')))) [
+      | true ↦ so_before x _ _ l
+      | false ↦ so_before y _ _ r
+    ]))
+
+merge_goes : (e d e' d' : End) (xs ys : List Row) → MergeGoes e d e' d' xs ys
+merge_goes e d e' d' = both_sides (MergeGoes e d e' d') (no_left e d e' d') (no_right e d e' d') (both_rows e d e' d')
+
+pub merges_first : MergesKeepFirst
+merges_first l r l' r' h k = first_of _ _ (merge_goes l.end r.end l'.end r'.end l.rows r.rows l'.rows r'.rows (so_far l l' h) (so_far r r' k))
+
+pub inputs_first : InputsKeepFirst
+inputs_first [] [] h = all_first _
+inputs_first [] (b ∷ bs) h = absurd h
+inputs_first (a ∷ ls) [] h = absurd h
+inputs_first (a ∷ []) (b ∷ []) h = h.0
+inputs_first (a ∷ []) (b ∷ d ∷ bs) h = absurd h.1
+inputs_first (a ∷ c ∷ ls) (b ∷ []) h = absurd h.1
+inputs_first (a ∷ c ∷ ls) (b ∷ d ∷ bs) h = merges_first a c b d h.0 h.1.0

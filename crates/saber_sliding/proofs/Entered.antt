@@ -1,0 +1,132 @@
+-- Entries and what they come to, as one more comes and the first goes.
+use Rattle.std.proofs.Common.{◌≡◌, ℕ, ◌≤◌, [], ◌∷◌, ◌++◌, drop, length, refl, sym, ◌∙◌, ap, subst, subst₂, append-nil, append_assoc, arith}
+use Rattle.saber_plan.specs.Parts.{Part, no_part, merge}
+use Rattle.saber_laws.specs.Parts.{MergesGive, MergeHasUnit, MergeIsAssociative}
+use Rattle.saber_partial.specs.Tallies.{CanMerge}
+use Rattle.saber_sliding.specs.Entries.{Entries, whole, followed, pushed, merged, suffixes, seen, CanFollow, Chained, Sound}
+use Rattle.saber_sliding.proofs.Merging.{can_shift, can_none, none_can}
+
+abbrev last : ℕ → Part → Entries
+last n p = (n, p) ∷ []
+
+pub whole_merged : (es : Entries) → whole (suffixes es) ≡ merged es
+whole_merged [] = refl
+whole_merged (e ∷ es) = refl
+
+-- ---- one more
+
+merged-push : MergeHasUnit → MergeIsAssociative → (n : ℕ) (p : Part) (es : Entries) → merged (es ++ last n p) ≡ merge (merged es) p
+merged-push unit assoc n p [] = (unit p).1 ∙ sym (unit p).0
+merged-push unit assoc n p (e ∷ es) = ap (merge e.1) (merged-push unit assoc n p es) ∙ sym (assoc e.1 (merged es) p)
+
+followed_twice : MergeIsAssociative → (m p : Part) (es : Entries) → followed (merge m p) es ≡ followed p (followed m es)
+followed_twice assoc m p [] = refl
+followed_twice assoc m p (e ∷ es) = λ i. (e.0, sym (assoc e.1 m p) i) ∷ followed_twice assoc m p es i
+
+suffixes-push : MergeHasUnit → MergeIsAssociative → (n : ℕ) (p : Part) (es : Entries) → suffixes (es ++ last n p) ≡ followed p (suffixes es) ++ last n p
+suffixes-push unit assoc n p [] = λ i. (n, (unit p).1 i) ∷ []
+suffixes-push unit assoc n p (e ∷ es) = λ i. (e.0, (ap (merge e.1) (merged-push unit assoc n p es) ∙ sym (assoc e.1 (merged es) p)) i) ∷ suffixes-push unit assoc n p es i
+
+followed-append : (p : Part) (es fs : Entries) → followed p (es ++ fs) ≡ followed p es ++ followed p fs
+followed-append p [] fs = refl
+followed-append p (e ∷ es) fs = ap (λ l. (e.0, merge e.1 p) ∷ l) (followed-append p es fs)
+
+pub seen-push : MergeHasUnit → MergeIsAssociative → (front back : Entries) (b : Part) (n : ℕ) (p : Part) → seen front (back ++ last n p) (merge b p) ≡ pushed (seen front back b) n p
+seen-push unit assoc front back b n p =
+    (λ i. followed_twice assoc b p front i ++ suffixes-push unit assoc n p back i)
+    ∙ sym (append_assoc (followed p (followed b front)) (followed p (suffixes back)) (last n p))
+    ∙ ap (λ l. l ++ last n p) (sym (followed-append p (followed b front) (suffixes back)))
+
+follow_back : (p b : Part) (front es : Entries) → CanFollow p (followed b front ++ es) → CanFollow p es
+follow_back p b [] es h = h
+follow_back p b (e ∷ front) es h = follow_back p b front es h.1
+
+joins-push : MergesGive → (b p : Part) (front es : Entries) → CanFollow b front → CanFollow p (followed b front ++ es) → CanFollow (merge b p) front
+joins-push give b p [] es g h = tt
+joins-push give b p (e ∷ front) es g h = (can_shift give e.1 b p g.0 h.0, joins-push give b p front es g.1 h.1)
+
+chained-push : MergesGive → MergeHasUnit → MergeIsAssociative → (n : ℕ) (p : Part) (es : Entries) → Chained es → CanFollow p (suffixes es) → Chained (es ++ last n p)
+chained-push give unit assoc n p [] g h = (can_none p, tt)
+chained-push give unit assoc n p (e ∷ es) g h =
+    (subst (CanMerge e.1) (sym (merged-push unit assoc n p es)) (can_shift give e.1 (merged es) p g.0 h.0), chained-push give unit assoc n p es g.1 h.1)
+
+pub sound-push : MergesGive → MergeHasUnit → MergeIsAssociative → (front back : Entries) (b : Part) (n : ℕ) (p : Part) → Sound front back b → CanFollow p (seen front back b) → Sound front (back ++ last n p) (merge b p)
+sound-push give unit assoc front back b n p s h = record {
+  merge_is = ap (λ m. merge m p) s.merge_is ∙ sym (merged-push unit assoc n p back);
+  chained = chained-push give unit assoc n p back s.chained (follow_back p b front (suffixes back) h);
+  joins = joins-push give b p front (suffixes back) s.joins h;
+}
+
+first_can : (p : Part) (es : Entries) → CanFollow p (suffixes es) → CanMerge (merged es) p
+first_can p [] h = none_can p
+first_can p (e ∷ es) h = h.0
+
+pub back_can : (front back : Entries) (b p : Part) → Sound front back b → CanFollow p (seen front back b) → CanMerge b p
+back_can front back b p s h = subst (λ m. CanMerge m p) (sym s.merge_is) (first_can p back (follow_back p b front (suffixes back) h))
+
+-- ---- the back becomes the front
+
+followed_none : MergeHasUnit → (es : Entries) → followed no_part es ≡ es
+followed_none unit [] = refl
+followed_none unit (e ∷ es) = λ i. (e.0, (unit e.1).1 i) ∷ followed_none unit es i
+
+pub seen_turned : MergeHasUnit → (es : Entries) → seen es [] no_part ≡ es
+seen_turned unit es = append-nil (followed no_part es) ∙ followed_none unit es
+
+pub sound_turned : (es : Entries) → Sound es [] no_part
+sound_turned es = record { merge_is = refl; chained = tt; joins = any es } where
+  any : (es : Entries) → CanFollow no_part es
+  any [] = tt
+  any (e ∷ es) = (can_none e.1, any es)
+
+-- ---- the first goes
+
+pub sound_rest : (e : ℕ × Part) (front back : Entries) (b : Part) → Sound (e ∷ front) back b → Sound front back b
+sound_rest e front back b s = record { merge_is = s.merge_is; chained = s.chained; joins = s.joins.1 }
+
+-- ---- summing up
+
+-- the last of `back` are in `front`, summed up
+pub record Turned (all back front : Entries) : Type 0 where
+  pub rest : Entries
+  pub all_is : all ≡ back ++ rest
+  pub front_is : front ≡ suffixes rest
+
+pub turned_nil : (all front : Entries) → front ≡ [] → Turned all all front
+turned_nil all front e = record { rest = []; all_is = sym (append-nil all); front_is = e }
+
+pub chained_at : (es : Entries) (e : ℕ × Part) (fs : Entries) → Chained (es ++ e ∷ fs) → CanMerge e.1 (merged fs)
+chained_at [] e fs h = h.0
+chained_at (d ∷ es) e fs h = chained_at es e fs h.1
+
+pub turned_can : (all back front es : Entries) (n : ℕ) (p : Part) → Chained all → Turned all back front → back ≡ es ++ last n p → CanMerge p (whole front)
+turned_can all back front es n p h t e =
+    subst (CanMerge p) (sym (ap whole t.front_is ∙ whole_merged t.rest))
+    (chained_at es (n, p) t.rest (subst Chained (t.all_is ∙ ap (λ l. l ++ t.rest) e ∙ append_assoc es (last n p) t.rest) h))
+
+pub turned_more : (all back front es : Entries) (n : ℕ) (p r : Part) → Turned all back front → back ≡ es ++ last n p → r ≡ merge p (whole front) → Turned all es ((n, r) ∷ front)
+turned_more all back front es n p r t e m = record {
+  rest = (n, p) ∷ t.rest;
+  all_is = t.all_is ∙ ap (λ l. l ++ t.rest) e ∙ append_assoc es (last n p) t.rest;
+  front_is = λ i. (n, (m ∙ ap (merge p) (ap whole t.front_is ∙ whole_merged t.rest)) i) ∷ t.front_is i;
+}
+
+pub turned_all : (all front : Entries) → Turned all [] front → front ≡ suffixes all
+turned_all all front t = t.front_is ∙ ap suffixes (sym t.all_is)
+
+-- ---- a front with nothing in it
+
+pub nothing : (front : Entries) → length front ≤ 0 → front ≡ []
+nothing [] h = refl
+nothing (e ∷ front) h = absurd (omega (arith, h))
+
+pub whole_alone : (front back : Entries) (b : Part) → Sound front back b → length front ≤ 0 → b ≡ whole (seen front back b)
+whole_alone front back b s h = s.merge_is ∙ sym (whole_merged back) ∙ ap (λ f. whole (seen f back b)) (sym (nothing front h))
+
+-- the back has become the front, and its first entry goes
+pub seen_turned_rest : MergeHasUnit → (front back old new : Entries) (b p : Part) → length front ≤ 0 → new ≡ drop 1 (suffixes back) → old ≡ [] → p ≡ no_part → seen new old p ≡ drop 1 (seen front back b)
+seen_turned_rest unit front back old new b p h n o e =
+    (λ i. seen (n i) (o i) (e i)) ∙ seen_turned unit (drop 1 (suffixes back)) ∙ ap (λ f. drop 1 (seen f back b)) (sym (nothing front h))
+
+pub sound_turned_rest : (new old : Entries) (p : Part) → old ≡ [] → p ≡ no_part → Sound new old p
+sound_turned_rest new old p o e = subst₂ (Sound new) (sym o) (sym e) (sound_turned new)

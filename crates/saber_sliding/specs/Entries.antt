@@ -1,0 +1,72 @@
+-- Parts that follow one another, each with the number of the first window that doesn't have it, and what each comes to with those behind it.
+use Rattle.std.specs.Prelude.{◌≡◌, ℕ, List, [], ◌∷◌, ◌++◌, map, if◌then◌else◌, nat_le, nat_lt, Option, Some, None}
+use Rattle.std.specs.List.{AllByRecursion}
+use Rattle.std.specs.Coded.{Coded, coded×, coded_ℕ, coded_list}
+use Rattle.saber_plan.specs.Parts.{Part, no_part, merge}
+use Rattle.saber_partial.specs.Tallies.{CanMerge, coded_part}
+
+-- parts with their numbers
+abbrev pub Entries : Type 0
+Entries = List (ℕ × Part)
+
+abbrev pub coded_entries : Coded Entries
+coded_entries = coded_list (coded× coded_ℕ coded_part)
+
+-- ---- what contracts see: each entry with the merge of its part and all behind it
+
+-- the merge of all of them
+abbrev pub whole : Entries → Part
+whole [] = no_part
+whole (e ∷ es) = e.1
+
+-- a part behind them all
+abbrev pub followed : Part → Entries → Entries
+followed p es = map (λ e. (e.0, merge e.1 p)) es
+
+-- one entry more
+abbrev pub pushed : Entries → ℕ → Part → Entries
+pushed es n p = followed p es ++ (n, p) ∷ []
+
+-- without those at the front that window i doesn't have
+abbrev pub dropped : ℕ → Entries → Entries
+dropped i [] = []
+dropped i (e ∷ es) = if nat_le e.0 i then dropped i es else e ∷ es
+
+-- the number of the first entry
+abbrev pub first_number : Entries → Option ℕ
+first_number [] = None
+first_number (e ∷ es) = Some e.0
+
+-- what window i has: the first entry that it has, and all behind it
+abbrev pub part_at : Entries → ℕ → Part
+part_at [] i = no_part
+part_at (e ∷ es) i = if nat_lt i e.0 then e.1 else part_at es i
+
+-- each can take in a part behind it
+abbrev pub CanFollow : Part → Entries → Type 0
+CanFollow p = AllByRecursion (λ (e : ℕ × Part). CanMerge e.1 p)
+
+-- ---- what is kept: parts by themselves, and how they are seen
+
+abbrev pub merged : Entries → Part
+merged [] = no_part
+merged (e ∷ es) = merge e.1 (merged es)
+
+abbrev pub suffixes : Entries → Entries
+suffixes [] = []
+suffixes (e ∷ es) = (e.0, merge e.1 (merged es)) ∷ suffixes es
+
+-- each can take in those behind it
+abbrev pub Chained : Entries → Type 0
+Chained [] = Unit {0}
+Chained (e ∷ es) = CanMerge e.1 (merged es) × Chained es
+
+-- The entries of `back` have their own parts, whose merge is p. Those of `front`, before them, have the merge from theirs on to the end of `front`.
+pub record Sound (front back : Entries) (p : Part) : Type 0 where
+  pub merge_is : p ≡ merged back
+  pub chained : Chained back
+  pub joins : CanFollow p front
+
+-- both as they are seen
+abbrev pub seen : Entries → Entries → Part → Entries
+seen front back p = followed p front ++ suffixes back

@@ -1,0 +1,208 @@
+// Parts that follow one another, with the merge of all from any one on.
+ghost use Rattle.std.specs.Prelude.{◌≡◌, [], ◌∷◌, ◌++◌, drop, IfOk, OnOk, OnErr};
+ghost use Rattle.saber_plan.specs.Parts.{merge, no_part};
+ghost use Rattle.saber_partial.specs.Tallies.{CanMerge};
+ghost use Rattle.saber_sliding.specs.Entries.{dropped, first_number, pushed, suffixes, whole, CanFollow, Chained};
+
+use saber_laws::{merge_has_unit, merge_is_associative, merges_give};
+use saber_partial::Partial;
+use saber_plan::NoMemory;
+use std::alloc::Global;
+use std::collections::VecDeque;
+use std::marker::Model;
+use std::mem;
+
+/// Parts of rows that follow one another, each with the number of the first window that doesn't have it.
+/// It is a queue of two stacks (SABER 2016 names incremental computation over panes; the two stacks are
+/// those of Tangwongsan et al. 2015): the front one keeps merges of its entries to its end, the back one
+/// its entries' own parts and the merge of all. So a part is merged once where it comes, once where the
+/// back becomes the front, and once for each time that the whole is asked. Contracts see the entries in
+/// order, each with the merge of its part and all behind it.
+#[derive(Drop)]
+pub struct Sliding {
+    front: VecDeque<(u64, Partial)>,
+    back: Vec<(u64, Partial)>,
+    back_part: Partial,
+}
+
+impl Model for Sliding {
+    ghost use Rattle.saber_sliding.specs.Entries.{coded_entries, seen, Entries, Sound};
+
+    ghost Value = { Entries };
+
+    ghost coded = { coded_entries };
+
+    ghost view = { λ s. seen s.front.items s.back.items s.back_part };
+
+    ghost invariant = { λ s. Sound s.front.items s.back.items s.back_part };
+}
+
+// A part, and the merge of all that stand behind it.
+fn merge_behind(
+    alloc: Global,
+    part: &mut Partial,
+    front: &VecDeque<(u64, Partial)>,
+) -> Result<(), NoMemory>
+    requires { CanMerge part.old (whole front.now.items) }
+    ensures { OnOk result (part.new ≡ merge part.old (whole front.now.items)) }
+{
+    merge_has_unit();
+    match front.front() {
+        Some(next) => part.merge_from(alloc, &next.1),
+        None => Ok(()),
+    }
+}
+
+// Turns entries with their own parts into ones with the merge from theirs on, one merge for each.
+fn summed_up(
+    alloc: Global,
+    mut back: Vec<(u64, Partial)>,
+) -> Result<VecDeque<(u64, Partial)>, NoMemory>
+    requires { Chained back.items }
+    ensures { IfOk result (λ front. front.items ≡ suffixes back.items) }
+{
+    let mut front = VecDeque::new(alloc);
+    loop {
+        match back.pop() {
+            Some((number, mut part)) => {
+                merge_behind(alloc, &mut part, &front)?;
+                front.push_front((number, part))?;
+            }
+            None => return Ok(front),
+        }
+    }
+}
+
+// The entries of the back become the front, which had none.
+fn turn(
+    alloc: Global,
+    front: &mut VecDeque<(u64, Partial)>,
+    back: &mut Vec<(u64, Partial)>,
+    back_part: &mut Partial,
+) -> Result<(), NoMemory>
+    requires { Chained back.old.items }
+    ensures front { OnOk result (front.new.items ≡ suffixes back.old.items) }
+    ensures stays { OnErr result (front.new.items ≡ front.old.items) }
+    ensures back { back.new.items ≡ [] }
+    ensures part { back_part.new ≡ no_part }
+{
+    let entries = mem::replace(back, Vec::new(alloc));
+    *back_part = Partial::empty(alloc);
+    *front = summed_up(alloc, entries)?;
+    Ok(())
+}
+
+// Without the first entry.
+fn drop_one(front: &mut VecDeque<(u64, Partial)>)
+    ensures { front.new.items ≡ drop 1 front.old.items }
+{
+    match front.pop_front() {
+        Some(_) => {}
+        None => {}
+    }
+}
+
+// One entry more with its own part, and the merge of all.
+fn put_behind(
+    alloc: Global,
+    back: &mut Vec<(u64, Partial)>,
+    back_part: &mut Partial,
+    number: u64,
+    part: Partial,
+) -> Result<(), NoMemory>
+    requires { CanMerge back_part.old part }
+    ensures back { OnOk result (back.new.items ≡ back.old.items ++ (number, part) ∷ []) }
+    ensures part { OnOk result (back_part.new ≡ merge back_part.old part) }
+{
+    back_part.merge_from(alloc, &part)?;
+    back.push((number, part))?;
+    Ok(())
+}
+
+impl Sliding {
+    /// No part. Takes no memory.
+    pub fn empty(alloc: Global) -> Sliding
+        ensures { result ≡ [] }
+    {
+        Sliding {
+            front: VecDeque::new(alloc),
+            back: Vec::new(alloc),
+            back_part: Partial::empty(alloc),
+        }
+    }
+
+    /// The first entry's number.
+    pub fn first_number(&self) -> Option<u64>
+        ensures { result ≡ first_number self.now }
+    {
+        match self.front.front() {
+            Some(entry) => Some(entry.0),
+            None => match self.back.first() {
+                Some(entry) => Some(entry.0),
+                None => None,
+            },
+        }
+    }
+
+    /// A part of rows behind all others: one merge. After want of memory nothing is kept.
+    pub fn push(&mut self, alloc: Global, number: u64, part: Partial) -> Result<(), NoMemory>
+        requires { CanFollow part self.old }
+        ensures { OnOk result (self.new ≡ pushed self.old number part) }
+    {
+        merge_has_unit();
+        merge_is_associative();
+        merges_give();
+        match put_behind(alloc, &mut self.back, &mut self.back_part, number, part) {
+            Ok(()) => Ok(()),
+            Err(lacks) => {
+                *self = Sliding::empty(alloc);
+                Err(lacks)
+            }
+        }
+    }
+
+    // Without the first entry: a merge for each entry, where the back has to become the front.
+    fn drop_first(&mut self, alloc: Global) -> Result<(), NoMemory>
+        ensures { OnOk result (self.new ≡ drop 1 self.old) }
+    {
+        merge_has_unit();
+        if self.front.is_empty() {
+            turn(alloc, &mut self.front, &mut self.back, &mut self.back_part)?;
+            drop_one(&mut self.front);
+            return Ok(());
+        }
+        drop_one(&mut self.front);
+        Ok(())
+    }
+
+    /// Drops the entries at the front that window i doesn't have. After want of memory it is only safe.
+    pub fn drop_to(&mut self, alloc: Global, i: u64) -> Result<(), NoMemory>
+        ensures { OnOk result (self.new ≡ dropped i self.old) }
+    {
+        loop {
+            match self.first_number() {
+                Some(number) => {
+                    if number > i {
+                        return Ok(());
+                    }
+                    self.drop_first(alloc)?;
+                }
+                None => return Ok(()),
+            }
+        }
+    }
+
+    /// The merge of all parts, in order: a copy and one merge.
+    pub fn whole(&self, alloc: Global) -> Result<Partial, NoMemory>
+        ensures { IfOk result (λ p. p ≡ whole self.now) }
+    {
+        match self.front.front() {
+            Some(first) => {
+                let mut all = first.1.copy(alloc)?;
+                all.merge_from(alloc, &self.back_part)?;
+                Ok(all)
+            }
+            None => self.back_part.copy(alloc),
+        }
+    }
+}
