@@ -62,6 +62,7 @@ pub trait Source {
         ensures within { IfOk result (λ n. n ≤ length buf.old) }
         ensures bytes { IfOk result (λ n. left self.old ≡ given (take n buf.new) (left self.new)) }
         ensures end { result ≡ Ok 0 → EndsEmpty (left self.old) }
+        ensures good { OnOk result (faults self.new ≡ faults self.old) }
         ensures stands { OnErr result (left self.new ≡ left self.old) }
         ensures cause { OnErr result (Rose (faults self.old) (faults self.new)) }
         ensures count { faults self.old ≤ faults self.new };
@@ -78,6 +79,7 @@ pub trait Sink {
     /// Writes the whole piece. After Failed a part of it may be out, after NoMemory nothing of it is.
     fn write_all(&mut self, piece: &[u8]) -> Result<(), WriteFault>
         ensures ok { OnOk result (written self.new ≡ appended (written self.old) piece.now) }
+        ensures good { result ≢ Err WriteFault.Failed → faults self.new ≡ faults self.old }
         ensures failed { result ≡ Err WriteFault.Failed →
             AppendsPrefix (written self.old) (written self.new) piece.now }
         ensures memory { result ≡ Err WriteFault.NoMemory → written self.new ≡ written self.old }
@@ -100,6 +102,7 @@ pub trait Files {
     fn open_file(&mut self, alloc: Global, name: &str) -> Result<Self::Src, OpenFault>
         ensures opens { IfOk result (λ src. Opens (told self.old) name.now (Self.Src.left src)) }
         ensures fresh { IfOk result (λ src. Self.Src.faults src ≡ 0) }
+        ensures good { OnOk result (faults self.new ≡ faults self.old) }
         ensures asked { result ≢ Err OpenFault.NoMemory →
             told self.new ≡ asking (told self.old) name.now }
         ensures memory { result ≡ Err OpenFault.NoMemory →

@@ -1,11 +1,11 @@
 // What no clause says: that calls succeed with ample memory, what worked rows expect, and the real outside.
 use crate::{
-    Failed, FileSource, Files, Gate, HostFiles, MemFile, MemFiles, MemOpened, MemSink, MemSource,
-    OpenFault, OpenGate, Sink, Source, StdSink, WriteFault,
+    Failed, FileSource, Files, Gate, HoldGate, HostFiles, MemFile, MemFiles, MemOpened, MemSink,
+    MemSource, OpenFault, OpenGate, Sink, Source, StdSink, WriteFault,
 };
 use std::alloc::{AllocError, Global};
 use std::io;
-use std::io::Write;
+use std::io::{BufWriter, Read, Write};
 use std::test::Fail;
 
 const BASE: &[u8] = b"0,1,10\n1,1,20\n2,2,5\n2,1,7\n9,2,1\n";
@@ -121,11 +121,13 @@ fn opens_of_the_system(rt: HostRuntime) -> Result<(), Fail> {
     Ok(())
 }
 
-// A writer that takes two bytes at a time until it has so many, and then nothing.
+// A writer that takes two bytes at a time until it has so many, and then nothing. What it took is out once it is flushed.
 #[derive(Drop)]
 struct Narrow {
     bytes: Vec<u8>,
     most: usize,
+    // how many bytes were there at the last flush
+    out: usize,
 }
 
 impl Write for Narrow {
@@ -139,36 +141,64 @@ impl Write for Narrow {
     }
 
     fn flush(&mut self) -> io::Result<()> {
+        self.out = self.bytes.len();
         Ok(())
     }
 }
 
-// A sink over a writer writes the whole piece, and fails where the writer takes nothing.
+// A sink over a writer writes the whole piece, and fails where the writer takes nothing. A piece that is told as good is flushed.
 #[test]
 fn writes_to_a_writer(rt: HostRuntime) -> Result<(), Fail> {
     let alloc = rt.alloc();
-    for (most, second, bytes) in [
-        (99, Ok(()), b"0,2\n1,2\n2,2\n3,2\n".as_slice()),
-        (9, Err(WriteFault::Failed), b"0,2\n1,2\n2".as_slice()),
+    for (most, second, bytes, out) in [
+        (99, Ok(()), b"0,2\n1,2\n2,2\n3,2\n".as_slice(), 16),
+        (9, Err(WriteFault::Failed), b"0,2\n1,2\n2".as_slice(), 4),
     ] {
         let mut narrow = Narrow {
             bytes: Vec::new(alloc),
             most,
+            out: 0,
         };
         let [first, got, third] = write_three(&mut StdSink::new(&mut narrow));
         assert!(rt; first == Ok(()));
         assert!(rt; got == second);
         assert!(rt; third == second);
         assert_eq!(rt; narrow.bytes.as_slice(), bytes);
+        assert_eq!(rt; narrow.out, out);
     }
     let mut out = StdSink::new(rt.stdout());
     assert!(rt; out.write_all(b"") == Ok(()));
     Ok(())
 }
 
+// A piece that is told as good has left the program: the other end of a pipe has it, while the sink is there.
+#[test]
+fn writes_through_a_pipe(rt: HostRuntime) -> Result<(), Fail> {
+    let (mut other_end, pipe) = io::pipe(&rt)?;
+    let mut sink = StdSink::new(BufWriter::new(rt.alloc(), pipe)?);
+    assert!(rt; sink.write_all(b"0,2\n") == Ok(()));
+    let mut buf = [0; 8];
+    let count = other_end.read(&mut buf)?;
+    assert_eq!(rt; count, 4);
+    assert_eq!(rt; &buf[..4], b"0,2\n".as_slice());
+    Ok(())
+}
+
 fn passes<G: Gate + Sync>(gate: &G) {
     gate.pass(0);
     gate.done(0);
+}
+
+// A task is held back until the other one is done, and no longer than it may look.
+#[test]
+fn holds_a_task_back(rt: HostRuntime) {
+    let gate = HoldGate::new(0, 1, 1000);
+    passes(&gate);
+    assert!(rt; gate.late());
+    let gate = HoldGate::new(1, 0, 1000);
+    passes(&gate);
+    gate.pass(1);
+    assert!(rt; !gate.late());
 }
 
 fn may_move<T: Send>(value: T) -> T {

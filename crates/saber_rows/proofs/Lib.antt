@@ -11,3 +11,6 @@ pub mod ReadSteps
 pub mod LastLines
 pub mod Chains
 pub mod Told
+pub mod Fronts
+pub mod MergedTurns
+pub mod MergedLaws

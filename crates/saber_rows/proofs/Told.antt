@@ -9,14 +9,14 @@ use Rattle.saber_rows.specs.Reader.{Reader, rest_of, CanFollow, to_come, rest_ov
 use Rattle.saber_rows.specs.Calls.{Moves, EndsBy, given_by, IsNext, first_of_rows}
 use Rattle.saber_rows.proofs.ReadSteps.{true_not_false}
 
-none_comes : (r : Reader) (z : List ℕ) → r.ended ≡ true → to_come r z ≡ []
+pub none_comes : (r : Reader) (z : List ℕ) → r.ended ≡ true → to_come r z ≡ []
 none_comes r z e = ap (λ b. cond b [] z) e
 
-all_comes : (r : Reader) (z : List ℕ) → r.ended ≡ false → to_come r z ≡ z
+pub all_comes : (r : Reader) (z : List ℕ) → r.ended ≡ false → to_come r z ≡ z
 all_comes r z e = ap (λ b. cond b [] z) e
 
 -- what will come can follow
-can_come : (r : Reader) (z : List ℕ) → CanFollow false r (to_come r z)
+pub can_come : (r : Reader) (z : List ℕ) → CanFollow false r (to_come r z)
 can_come r z e = (refl, none_comes r z e)
 
 module _ (out : Read → Read) (old new : Reader) (had has : Option (List ℕ)) (m : Moves out old new had has) where
@@ -58,7 +58,7 @@ pub is_next : (result : Result (Option Row) RowEnd) (old new : Reader) (had has 
 is_next result old new had has m ends = some_of (IsNext result) (given_by result) (λ z. rest_of false new (to_come new z)) (rest_over old had) has (rest_told (given_by result) old new had has m) (λ z. by_answer result ends z) where
   by_answer : (a : Result (Option Row) RowEnd) → EndsBy a new → (z : List ℕ) → IsNext a (given_by a (rest_of false new (to_come new z)))
   by_answer (Ok (Some row)) h z = refl
-  by_answer (Ok None) h z = ap (λ r. first_of_rows r.rows r.end) (h (to_come new z) (can_come new z))
+  by_answer (Ok None) h z = ap (λ r. first_of_rows r.rows r.end) (h.0 (to_come new z) (can_come new z))
   by_answer (Err (Bad n c)) h z = ap (λ r. first_of_rows r.rows r.end) (h (to_come new z) (can_come new z))
   by_answer (Err ReadFault) h z = tt
   by_answer (Err NoMemory) h z = tt

@@ -46,11 +46,11 @@ pub record IsGiven (row : Row) (old new : Reader) : Type 0 where
   pub last : new.place.last ≡ Some (stamp row.values)
   pub rises : old.place.lines < new.place.lines
 
--- Why a reader answers no row: the rows are at their end, or this line is refused, whatever follows; a read failed, where more was needed;
+-- Why a reader answers no row: the rows are at their end, which it saw, or this line is refused, whatever follows; a read failed, where more was needed;
 -- or there was no memory, which up to eight columns don't want.
 abbrev pub EndsBy : Result (Option Row) RowEnd → Reader → Type 0
 EndsBy (Ok (Some row)) r = Unit {0}
-EndsBy (Ok None) r = HasEnd all_read r
+EndsBy (Ok None) r = HasEnd all_read r × (r.ended ≡ true)
 EndsBy (Err (Bad n c)) r = HasEnd (bad r.rules.side n c) r
 EndsBy (Err ReadFault) r = NeedsMore r
 EndsBy (Err NoMemory) r = 8 < r.rules.columns

@@ -8,3 +8,5 @@ pub mod Reader
 pub mod Calls
 pub mod Turns
 pub mod Laws
+pub mod Heads
+pub mod Merging

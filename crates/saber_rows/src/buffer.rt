@@ -22,7 +22,7 @@ const SIZE: usize = 16384;
 const PIECE: usize = 4096;
 
 impl Buffer {
-    ghost use Rattle.std.specs.Prelude.{◌≡◌, ◌≤◌, ◌+◌, [], length, drop, IfOk, OnErr, Ok};
+    ghost use Rattle.std.specs.Prelude.{◌≡◌, ◌≤◌, ◌+◌, [], length, drop, IfOk, OnOk, OnErr, Ok};
     ghost use Rattle.saber_io.specs.Outside.{Rose, EndsEmpty};
     ghost use Rattle.saber_rows.specs.Buffer.{bytes_of, Gains};
 
@@ -73,6 +73,7 @@ impl Buffer {
         ensures end { result ≡ Ok 0 → EndsEmpty (S.left source.old) }
         ensures stands { OnErr result ((bytes_of self.new ≡ bytes_of self.old) × (S.left source.new ≡ S.left source.old)) }
         ensures cause { OnErr result (Rose (S.faults source.old) (S.faults source.new)) }
+        ensures good { OnOk result (S.faults source.new ≡ S.faults source.old) }
         ensures count { S.faults source.old ≤ S.faults source.new }
     {
         self.make_room();

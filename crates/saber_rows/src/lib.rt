@@ -4,15 +4,22 @@
 mod buffer;
 mod ends;
 mod fields;
+mod heads;
 mod judge;
 mod laws;
 mod line_feeds;
 mod lines;
+#[cfg(test)]
+mod merge_tests;
+mod merges;
 mod numbers;
 mod quick_rows;
 #[cfg(test)]
 mod tests;
 
 pub use ends::RowEnd;
-pub use laws::{moves_go_on, readers_stand};
+pub use laws::{
+    lines_pass, mergers_stand, merges_go_on, merges_tell, moves_go_on, readers_stand, readers_tell,
+};
 pub use lines::Lines;
+pub use merges::Merge;

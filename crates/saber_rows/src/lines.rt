@@ -44,14 +44,14 @@ enum Turn {
 }
 
 impl Lines {
-    ghost use Rattle.std.specs.Prelude.{◌≡◌, ◌≤◌, ◌^◌, ◌<◌, ◌+◌, ℕ, List, Option, if◌then◌else◌, IfOk, IfSome, OnErr, OnSome, Some, None, Ok, Err, option_map, length, true, false};
+    ghost use Rattle.std.specs.Prelude.{◌≡◌, ◌≢◌, ◌≤◌, ◌^◌, ◌<◌, ◌+◌, ℕ, List, Option, if◌then◌else◌, IfOk, IfSome, OnErr, OnSome, Some, None, Ok, Err, option_map, length, true, false};
     ghost use Rattle.saber_io.specs.Outside.{Rose};
     ghost use Rattle.saber_plan.specs.Rows.{SideRules, rows, whole, all_read, bad, before, falls, RowFits};
     ghost use Rattle.saber_rows.specs.Judged.{judged_of, IfCounted};
     ghost use Rattle.saber_rows.specs.LineFeeds.{end_of, HasNoFeed};
     ghost use Rattle.saber_rows.specs.Reader.{reader_of, new_reader, rest_of, rest_over, HasEnd, NeedsMore};
     ghost use Rattle.saber_rows.specs.Calls.{Moves, given_by, kept_by, last_after, IsGiven, EndsBy, IsNext};
-    ghost use Rattle.saber_rows.specs.Turns.{Steps, Fronts, IsLastIf, first_judged, LineGives, TurnGives, PlaceMoves, Stops, work_left, IfAgain, IfFault, HasEnough};
+    ghost use Rattle.saber_rows.specs.Turns.{Steps, Fronts, IsLastIf, first_judged, LineGives, TurnGives, PlaceMoves, Stops, work_left, IfAgain, IfFault, IfNoFault, HasEnough};
 
     /// A reader with nothing read yet. A stream has 1 to 32 columns, and a file 1 to 2^40 lines,
     /// empty ones counted: this project's limits. The memory of its buffer is taken here; a call
@@ -144,6 +144,7 @@ impl Lines {
         ensures rules { (reader_of self.new).rules ≡ (reader_of self.old).rules }
         ensures stop { self.new.stop ≡ self.old.stop }
         ensures cause { IfFault result (Rose (S.faults source.old) (S.faults source.new)) }
+        ensures good { IfNoFault result (S.faults source.new ≡ S.faults source.old) }
         ensures count { S.faults source.old ≤ S.faults source.new }
     {
         match self.held.fill(source) {
@@ -221,6 +222,7 @@ impl Lines {
         ensures rules { (reader_of self.new).rules ≡ (reader_of self.old).rules }
         ensures stop { self.new.stop ≡ self.old.stop }
         ensures cause { IfFault result (Rose (S.faults source.old) (S.faults source.new)) }
+        ensures good { IfNoFault result (S.faults source.new ≡ S.faults source.old) }
         ensures count { S.faults source.old ≤ S.faults source.new }
         ensures reads { HasEnough (reader_of self.old) → source.new ≡ source.old }
         ensures enough { HasEnough (reader_of self.old) → IfAgain result (HasEnough (reader_of self.new)) }
@@ -244,6 +246,7 @@ impl Lines {
         ensures rules { (reader_of self.new).rules ≡ (reader_of self.old).rules }
         ensures answer { (reader_of self.new).answer ≡ kept_by result }
         ensures cause { result ≡ Err RowEnd.ReadFault → Rose (S.faults source.old) (S.faults source.new) }
+        ensures good { result ≢ Err RowEnd.ReadFault → S.faults source.new ≡ S.faults source.old }
         ensures count { S.faults source.old ≤ S.faults source.new }
         ensures reads { HasEnough (reader_of self.old) → source.new ≡ source.old }
     {
@@ -274,11 +277,15 @@ impl Lines {
         // Which answer comes: the first of the rest, but for read faults and want of memory.
         ensures next { (reader_of self.old).answer ≡ None → IfSome (rest_over (reader_of self.old) (S.left source.old)) (IsNext result) }
         ensures none { (reader_of self.old).answer ≡ None → result ≡ Ok None → HasEnd all_read (reader_of self.new) }
+        ensures ended { (reader_of self.old).answer ≡ None → result ≡ Ok None → (reader_of self.new).ended ≡ true }
         ensures refused { (reader_of self.old).answer ≡ None → (line : ℕ) (cause : RowCause) → result ≡ Err (RowEnd.Bad line cause) → HasEnd (bad (reader_of self.old).rules.side line cause) (reader_of self.new) }
         ensures cause { (reader_of self.old).answer ≡ None → result ≡ Err RowEnd.ReadFault → Rose (S.faults source.old) (S.faults source.new) }
         ensures cut { (reader_of self.old).answer ≡ None → result ≡ Err RowEnd.ReadFault → NeedsMore (reader_of self.new) }
         ensures memory { (reader_of self.old).answer ≡ None → result ≡ Err RowEnd.NoMemory → 8 < (reader_of self.old).rules.columns }
         ensures count { S.faults source.old ≤ S.faults source.new }
+
+        // No fault is passed over.
+        ensures good { result ≢ Err RowEnd.ReadFault → S.faults source.new ≡ S.faults source.old }
 
         // A row has the side's columns, each number in its range, and is not before the last one.
         ensures fits { IfOk result (λ o. IfSome o (RowFits (reader_of self.old).rules.side (reader_of self.old).rules.columns)) }

@@ -9,6 +9,7 @@ invariant-loop-row g l = record {
   moves : Moves same (reader_of l.initial.self) (reader_of l.self) (g.S.Source.left l.initial.source) (g.S.Source.left l.source);
   stop : l.self.stop ≡ None;
   faults : g.S.Source.faults l.initial.source ≤ g.S.Source.faults l.source;
+  good : g.S.Source.faults l.source ≡ g.S.Source.faults l.initial.source;
   rules : (reader_of l.self).rules ≡ (reader_of l.initial.self).rules;
   last : (reader_of l.self).place.last ≡ (reader_of l.initial.self).place.last;
   rises : l.initial.self.lines ≤ l.self.lines;

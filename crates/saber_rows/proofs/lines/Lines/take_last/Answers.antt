@@ -8,7 +8,7 @@ use Rattle.saber_rows.proofs.lines.Lines.take_last.Goals as goal
 pub returns-then-n-eq0-clause-gives : goal.returns-then-n-eq0-clause-gives
 returns-then-n-eq0-clause-gives c =
     let e : bytes_of c.args.self.now.held ≡ [] = grind (arith, common_steps) in
-    (refl, empty_done (reader_of c.args.self.now) c.requires.ended e)
+    (refl, (empty_done (reader_of c.args.self.now) c.requires.ended e, c.requires.ended))
 
 pub take_line-requires-clause-line : goal.take_line-requires-clause-line
 take_line-requires-clause-line c =

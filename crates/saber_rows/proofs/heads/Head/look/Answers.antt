@@ -1,0 +1,96 @@
+use Rattle.std.proofs.Common.{◌≡◌, Some, None, Ok, Err, sym, ◌∙◌, ap, subst}
+use Rattle.saber_plan.specs.Rows.{stamp}
+use Rattle.saber_rows.specs.Reader.{reader_of}
+use Rattle.saber_rows.specs.declared.heads.Look.TheVariants.{Found, Ended, Failed}
+use Rattle.saber_rows.specs.Heads.{Called, headed, Looks}
+use Rattle.saber_rows.proofs.Fronts.{if_some, no_some, looks, stays}
+use Rattle.saber_rows.proofs.heads.Head.look.Goals as goal
+
+pub returns-in-Some-clause-looks : goal.returns-in-Some-clause-looks
+returns-in-Some-clause-looks g c side last count p =
+    let same : c.stamp_of.result ≡ stamp c.in-Some.row.values = c.stamp_of.ensures ∙ ap stamp c.as_slice.ensures in
+    subst (λ n. Looks (Found n) side last count (headed c.args.self.now) (headed c.args.self.now) (g.S.Source.left c.args.source.now) (g.S.Source.left c.args.source.now)) (sym same)
+    (stays c.in-Some.row (headed c.args.self.now) side last count (g.S.Source.left c.args.source.now) c.in-Some.is p)
+
+pub returns-in-Ok-Some-clause-looks : goal.returns-in-Ok-Some-clause-looks
+returns-in-Ok-Some-clause-looks g c side last count p =
+    let n = c.next.ensures in
+    let old = reader_of c.args.self.now.lines in
+    let new = reader_of c.next.new.self in
+    let had = g.S.Source.left c.args.source.now in
+    let has = g.S.Source.left c.next.new.source in
+    let none = no_some c.args.self.now.ahead (λ row e. c.in_default.not-Some row e) in
+    let called : Called c.next.result old new had has = record {
+      again = if_some _ _ old.answer n.again (λ a h. (h.0, ap reader_of h.1));
+      moves = n.moves;
+      rules = n.rules;
+      answer = n.answer;
+      none = n.none;
+      ended = n.ended;
+      refused = n.refused;
+      cut = n.cut;
+      memory = n.memory;
+      fits = n.fits;
+      ordered = n.ordered;
+      last = n.last;
+      rises = n.rises;
+      counted = n.counted;
+    } in
+    let row = c.in-Ok-Some.row in
+    let same : c.stamp_of-stamp.result ≡ stamp row.values = c.stamp_of-stamp.ensures ∙ ap stamp c.as_slice-in-Ok-Some.ensures in
+    subst (λ k. Looks (Found k) side last count (headed c.args.self.now) (record { reader = new; ahead = Some row }) had has) (sym same)
+    (looks old new had has side last count c.args.self.now.ahead none p c.next.result (Ok (Some row)) (c.in-Ok-Some.is ∙ ap Ok c.in-Ok-Some.field-0-is) called)
+
+pub returns-in-Ok-None-clause-looks : goal.returns-in-Ok-None-clause-looks
+returns-in-Ok-None-clause-looks g c side last count p =
+    let n = c.next.ensures in
+    let old = reader_of c.args.self.now.lines in
+    let new = reader_of c.next.new.self in
+    let had = g.S.Source.left c.args.source.now in
+    let has = g.S.Source.left c.next.new.source in
+    let none = no_some c.args.self.now.ahead (λ row e. c.in_default.not-Some row e) in
+    let called : Called c.next.result old new had has = record {
+      again = if_some _ _ old.answer n.again (λ a h. (h.0, ap reader_of h.1));
+      moves = n.moves;
+      rules = n.rules;
+      answer = n.answer;
+      none = n.none;
+      ended = n.ended;
+      refused = n.refused;
+      cut = n.cut;
+      memory = n.memory;
+      fits = n.fits;
+      ordered = n.ordered;
+      last = n.last;
+      rises = n.rises;
+      counted = n.counted;
+    } in
+    subst (λ o. Looks Ended side last count (headed c.args.self.now) (record { reader = new; ahead = o }) had has) (sym none)
+    (looks old new had has side last count c.args.self.now.ahead none p c.next.result (Ok None) (c.in-Ok-None.is ∙ ap Ok c.in-Ok-None.field-0-is) called)
+
+pub returns-in-Err-clause-looks : goal.returns-in-Err-clause-looks
+returns-in-Err-clause-looks g c side last count p =
+    let n = c.next.ensures in
+    let old = reader_of c.args.self.now.lines in
+    let new = reader_of c.next.new.self in
+    let had = g.S.Source.left c.args.source.now in
+    let has = g.S.Source.left c.next.new.source in
+    let none = no_some c.args.self.now.ahead (λ row e. c.in_default.not-Some row e) in
+    let called : Called c.next.result old new had has = record {
+      again = if_some _ _ old.answer n.again (λ a h. (h.0, ap reader_of h.1));
+      moves = n.moves;
+      rules = n.rules;
+      answer = n.answer;
+      none = n.none;
+      ended = n.ended;
+      refused = n.refused;
+      cut = n.cut;
+      memory = n.memory;
+      fits = n.fits;
+      ordered = n.ordered;
+      last = n.last;
+      rises = n.rises;
+      counted = n.counted;
+    } in
+    subst (λ o. Looks (Failed c.in-Err.end) side last count (headed c.args.self.now) (record { reader = new; ahead = o }) had has) (sym none)
+    (looks old new had has side last count c.args.self.now.ahead none p c.next.result (Err c.in-Err.end) c.in-Err.is called)

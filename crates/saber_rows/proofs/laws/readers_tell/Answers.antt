@@ -1,0 +1,5 @@
+use Rattle.saber_rows.proofs.Told.{rest_told}
+use Rattle.saber_rows.proofs.laws.readers_tell.Goals as goal
+
+pub returns : goal.returns
+returns c = λ f a b had has m. rest_told f a b had has m

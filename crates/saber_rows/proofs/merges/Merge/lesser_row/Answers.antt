@@ -1,0 +1,60 @@
+use Rattle.std.proofs.Common.{◌≡◌, Ok, nat_le, true, false, sym, subst, arith}
+use Rattle.std.proofs.lemmas.Bool.Decides.{nat_tests}
+use Rattle.saber_plan.specs.declared.rows.Side.TheVariants.{Right}
+use Rattle.saber_rows.specs.declared.heads.Look.TheVariants.{Found, Ended, Failed}
+use Rattle.saber_rows.specs.Heads.{headed, bare, front_of, Looks}
+use Rattle.saber_rows.specs.Merging.{MergeTurn}
+use Rattle.saber_rows.proofs.MergedTurns.{lesser_left, lesser_right, only_left, right_fails_row, on_right, none_some, front_is}
+use Rattle.saber_rows.proofs.merges.Merge.lesser_row.Goals as goal
+
+pub returns-then-stamp-other-clause-turn : goal.returns-then-stamp-other-clause-turn
+returns-then-stamp-other-clause-turn g c m had p f =
+    let left = headed c.args.self.now.left in
+    let a = headed c.args.self.now.right in
+    let b = headed c.look.new.self in
+    let h1 = g.S.Source.left c.args.right.now in
+    let h2 = g.S.Source.left c.look.new.source in
+    let k : Looks (Found c.in-Found.other) Right m.last m.right a b h1 h2 = subst (λ l. Looks l Right m.last m.right a b h1 h2) c.in-Found.is (c.look.ensures.looks Right m.last m.right p.right) in
+    let e : nat_le c.args.stamp c.in-Found.other ≡ true = grind (arith, nat_tests) in
+    let t = lesser_left c.merges_turn.ensures m (record { left = left; right = b }) had h2 (record { left = p.left; right = k.passed; held = λ h e n. none_some (front_of left) (Found c.args.stamp) h (front_is (Found c.args.stamp) left f) }) c.args.stamp c.in-Found.other f k.finds e in
+    on_right m _ (Found c.in-Found.other) a b left _ h1 h2 h2 had had k
+    (subst (λ h. MergeTurn m (Ok c.take.result) (record { left = left; right = b }) (record { left = h; right = b }) had had h2 h2) (sym c.take.ensures.rest)
+    (subst (λ r. MergeTurn m (Ok r) (record { left = left; right = b }) (record { left = bare left.reader; right = b }) had had h2 h2) (sym c.take.ensures.row) t))
+
+pub returns-else-stamp-other-clause-turn : goal.returns-else-stamp-other-clause-turn
+returns-else-stamp-other-clause-turn g c m had p f =
+    let left = headed c.args.self.now.left in
+    let a = headed c.args.self.now.right in
+    let b = headed c.look.new.self in
+    let h1 = g.S.Source.left c.args.right.now in
+    let h2 = g.S.Source.left c.look.new.source in
+    let k : Looks (Found c.in-Found.other) Right m.last m.right a b h1 h2 = subst (λ l. Looks l Right m.last m.right a b h1 h2) c.in-Found.is (c.look.ensures.looks Right m.last m.right p.right) in
+    let e : nat_le c.args.stamp c.in-Found.other ≡ false = grind (arith, nat_tests) in
+    let t = lesser_right c.merges_turn.ensures m (record { left = left; right = b }) had h2 (record { left = p.left; right = k.passed; held = λ h e n. none_some (front_of left) (Found c.args.stamp) h (front_is (Found c.args.stamp) left f) }) c.args.stamp c.in-Found.other f k.finds e in
+    on_right m _ (Found c.in-Found.other) a b left _ h1 h2 h2 had had k
+    (subst (λ h. MergeTurn m (Ok c.take-else-stamp-other.result) (record { left = left; right = b }) (record { left = left; right = h }) had had h2 h2) (sym c.take-else-stamp-other.ensures.rest)
+    (subst (λ r. MergeTurn m (Ok r) (record { left = left; right = b }) (record { left = left; right = bare b.reader }) had had h2 h2) (sym c.take-else-stamp-other.ensures.row) t))
+
+pub returns-in-Ended-clause-turn : goal.returns-in-Ended-clause-turn
+returns-in-Ended-clause-turn g c m had p f =
+    let left = headed c.args.self.now.left in
+    let a = headed c.args.self.now.right in
+    let b = headed c.look.new.self in
+    let h1 = g.S.Source.left c.args.right.now in
+    let h2 = g.S.Source.left c.look.new.source in
+    let k : Looks Ended Right m.last m.right a b h1 h2 = subst (λ l. Looks l Right m.last m.right a b h1 h2) c.in-Ended.is (c.look.ensures.looks Right m.last m.right p.right) in
+    let t = only_left c.merges_turn.ensures m (record { left = left; right = b }) had h2 (record { left = p.left; right = k.passed; held = λ h e n. none_some (front_of left) (Found c.args.stamp) h (front_is (Found c.args.stamp) left f) }) c.args.stamp f k.finds in
+    on_right m _ Ended a b left _ h1 h2 h2 had had k
+    (subst (λ h. MergeTurn m (Ok c.take-in-Ended.result) (record { left = left; right = b }) (record { left = h; right = b }) had had h2 h2) (sym c.take-in-Ended.ensures.rest)
+    (subst (λ r. MergeTurn m (Ok r) (record { left = left; right = b }) (record { left = bare left.reader; right = b }) had had h2 h2) (sym c.take-in-Ended.ensures.row) t))
+
+pub returns-in-Failed-clause-turn : goal.returns-in-Failed-clause-turn
+returns-in-Failed-clause-turn g c m had p f =
+    let left = headed c.args.self.now.left in
+    let a = headed c.args.self.now.right in
+    let b = headed c.look.new.self in
+    let h1 = g.S.Source.left c.args.right.now in
+    let h2 = g.S.Source.left c.look.new.source in
+    let e = c.in-Failed.end in
+    let k : Looks (Failed e) Right m.last m.right a b h1 h2 = subst (λ l. Looks l Right m.last m.right a b h1 h2) c.in-Failed.is (c.look.ensures.looks Right m.last m.right p.right) in
+    on_right m _ (Failed e) a b left _ h1 h2 h2 had had k (right_fails_row c.merges_turn.ensures m (record { left = left; right = b }) had h2 (record { left = p.left; right = k.passed; held = λ h e n. none_some (front_of left) (Found c.args.stamp) h (front_is (Found c.args.stamp) left f) }) c.args.stamp e f k.finds)

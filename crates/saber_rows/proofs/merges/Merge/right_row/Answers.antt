@@ -1,0 +1,41 @@
+use Rattle.std.proofs.Common.{Ok, sym, subst}
+use Rattle.saber_plan.specs.declared.rows.Side.TheVariants.{Right}
+use Rattle.saber_rows.specs.declared.heads.Look.TheVariants.{Found, Ended, Failed}
+use Rattle.saber_rows.specs.Heads.{headed, bare, front_of, Looks}
+use Rattle.saber_rows.specs.Merging.{MergeTurn}
+use Rattle.saber_rows.proofs.MergedTurns.{only_right, both_ended, right_fails_end, on_right, none_some, front_is}
+use Rattle.saber_rows.proofs.merges.Merge.right_row.Goals as goal
+
+pub returns-in-Found-clause-turn : goal.returns-in-Found-clause-turn
+returns-in-Found-clause-turn g c m had p f =
+    let left = headed c.args.self.now.left in
+    let a = headed c.args.self.now.right in
+    let b = headed c.look.new.self in
+    let h1 = g.S.Source.left c.args.right.now in
+    let h2 = g.S.Source.left c.look.new.source in
+    let k : Looks (Found c.in-Found.field-0) Right m.last m.right a b h1 h2 = subst (λ l. Looks l Right m.last m.right a b h1 h2) c.in-Found.is (c.look.ensures.looks Right m.last m.right p.right) in
+    let t = only_right c.merges_turn.ensures m (record { left = left; right = b }) had h2 (record { left = p.left; right = k.passed; held = λ h e n. none_some (front_of left) Ended h (front_is Ended left f) }) c.in-Found.field-0 f k.finds in
+    on_right m _ (Found c.in-Found.field-0) a b left _ h1 h2 h2 had had k
+    (subst (λ h. MergeTurn m (Ok c.take.result) (record { left = left; right = b }) (record { left = left; right = h }) had had h2 h2) (sym c.take.ensures.rest)
+    (subst (λ r. MergeTurn m (Ok r) (record { left = left; right = b }) (record { left = left; right = bare b.reader }) had had h2 h2) (sym c.take.ensures.row) t))
+
+pub returns-in-Ended-clause-turn : goal.returns-in-Ended-clause-turn
+returns-in-Ended-clause-turn g c m had p f =
+    let left = headed c.args.self.now.left in
+    let a = headed c.args.self.now.right in
+    let b = headed c.look.new.self in
+    let h1 = g.S.Source.left c.args.right.now in
+    let h2 = g.S.Source.left c.look.new.source in
+    let k : Looks Ended Right m.last m.right a b h1 h2 = subst (λ l. Looks l Right m.last m.right a b h1 h2) c.in-Ended.is (c.look.ensures.looks Right m.last m.right p.right) in
+    on_right m _ Ended a b left _ h1 h2 h2 had had k (both_ended c.merges_turn.ensures m (record { left = left; right = b }) had h2 (record { left = p.left; right = k.passed; held = λ h e n. none_some (front_of left) Ended h (front_is Ended left f) }) f k.finds)
+
+pub returns-in-Failed-clause-turn : goal.returns-in-Failed-clause-turn
+returns-in-Failed-clause-turn g c m had p f =
+    let left = headed c.args.self.now.left in
+    let a = headed c.args.self.now.right in
+    let b = headed c.look.new.self in
+    let h1 = g.S.Source.left c.args.right.now in
+    let h2 = g.S.Source.left c.look.new.source in
+    let e = c.in-Failed.end in
+    let k : Looks (Failed e) Right m.last m.right a b h1 h2 = subst (λ l. Looks l Right m.last m.right a b h1 h2) c.in-Failed.is (c.look.ensures.looks Right m.last m.right p.right) in
+    on_right m _ (Failed e) a b left _ h1 h2 h2 had had k (right_fails_end c.merges_turn.ensures m (record { left = left; right = b }) had h2 (record { left = p.left; right = k.passed; held = λ h e n. none_some (front_of left) Ended h (front_is Ended left f) }) e f k.finds)
