@@ -2,10 +2,10 @@
 //! windows (SABER 2016: fragments), and the trait that every kind of query implements.
 #![tactic(auto)]
 
+mod blocks;
 mod operator;
 mod pieces;
-mod tasks;
 
+pub use blocks::{Block, Rows};
 pub use operator::Operator;
 pub use pieces::{Parts, Piece, Text};
-pub use tasks::{Rows, TaskRows};

@@ -1,47 +1,95 @@
-// What every kind of query does with tasks and parts.
-ghost use Rattle.std.specs.Prelude.{◌≡◌, ◌++◌, IfOk, OnOk, OnErr};
+// What every kind of query does with tasks and what they give.
+ghost use Rattle.std.specs.Prelude.{◌≡◌, Bool, List, [], ◌++◌, IfOk, OnOk, OnErr};
+ghost use Rattle.std.specs.FinMap.{empty};
+ghost use Rattle.saber_plan.specs.declared.rows.Row.{Row};
+ghost use Rattle.saber_plan.specs.declared.windows.Mark.{Mark};
+ghost use Rattle.saber_plan.specs.Inputs.{Input, going_on};
 ghost use Rattle.saber_plan.specs.Trees.{Tree};
-ghost use Rattle.saber_plan.specs.Parts.{Part, merge, part_lines};
-ghost use Rattle.saber_plan.specs.Given.{RowsFit, IsPartOf, AreNeighbors};
-ghost use Rattle.saber_plan.specs.Shares.{shares_here};
-ghost use Rattle.saber_fragment.specs.Shown.{shares_of};
+ghost use Rattle.saber_plan.specs.Given.{RowsFit};
+ghost use Rattle.saber_plan.specs.Tasks.{Parts, written_by, left_by};
+ghost use Rattle.saber_plan.specs.Shares.{Shares, shares_here, piece_in};
+ghost use Rattle.saber_fragment.specs.Drafts.{Sight, own_sight, fed, CanFeed, IsWhole};
+ghost use Rattle.saber_fragment.specs.Stores.{CanTakeIn, TakesIn};
 
-use crate::{Piece, TaskRows};
+use crate::Block;
 use saber_plan::NoMemory;
 use std::alloc::Global;
 
-/// An operator of one plan: the functions of SABER 2016 that make fragments of a task and put
-/// fragments together.
+/// An operator of one plan (SABER 2016: its fragment function, which makes a piece of a task's rows,
+/// and its assembly function, which takes pieces in, in the order of their tasks). What it keeps in a
+/// draft, a piece or a store is its own matter.
 pub trait Operator {
-    /// What it keeps of the rows of one window.
-    type Part: Drop;
+    /// A task's piece in the making.
+    type Draft: Drop;
+
+    /// What a task gives.
+    type Piece: Drop;
+
+    /// What is kept from task to task.
+    type Store: Drop;
 
     /// The plan that it answers.
     ghost plan: { Self → Tree };
 
-    /// What a part is for the definitions.
-    ghost shown: { Self.Part → Part };
+    /// How much of its task's input a draft has.
+    ghost has_seen: { Self → Self.Draft → Sight → Type 0 };
 
-    /// What a task gives.
-    fn fragment(&self, alloc: Global, task: &TaskRows) -> Result<Piece<Self::Part>, NoMemory>
-        requires { RowsFit (plan self.now) task.now.before (task.now.back ++ task.now.rows) }
-        ensures { IfOk result (λ piece. shares_of shown piece ≡ shares_here (plan self.now) task.now.before task.now.back task.now.rows) };
+    /// What a piece is for the definitions.
+    ghost shares: { Self → Self.Piece → Shares };
 
-    /// Takes in the part of later rows of the same window. After want of memory the part is only
-    /// safe to let go.
-    fn merge(&self, into: &mut Self::Part, from: Self::Part) -> Result<(), NoMemory>
-        requires { AreNeighbors (plan self.now) (shown into.old) (shown from) }
-        ensures { OnOk result (shown into.new ≡ merge (shown into.old) (shown from)) };
+    /// The parts of windows that a store holds.
+    ghost held: { Self.Store → Parts };
 
-    /// Appends the lines of window i, of which this is the whole part.
-    fn lines(
+    /// Those of them that stay, once the closed ones are dropped.
+    ghost staying: { Self.Store → Parts };
+
+    /// What a store knows of the input whose pieces it has taken in, beside the parts of windows.
+    ghost has_taken: { Self → Self.Store → Input → Type 0 };
+
+    /// What a piece knows, beside its shares, of its rows, of the mark before them, and of whether the
+    /// input ends behind them.
+    ghost is_of: { Self → Self.Piece → Mark → List Row → Bool → Type 0 };
+
+    /// Begins a task's piece by the task's own block, of which it copies what it keeps.
+    fn start(&self, alloc: Global, own: &Block) -> Result<Self::Draft, NoMemory>
+        requires { RowsFit (plan self.now) own.now.before own.now.rows }
+        ensures { IfOk result (λ d. has_seen self.now d (own_sight own.now)) };
+
+    /// Takes in one block more of those before the task's own, from `first` on, each once and rising.
+    /// After want of memory the draft is only safe to let go.
+    fn feed(&self, alloc: Global, draft: &mut Self::Draft, block: &Block) -> Result<(), NoMemory>
+        requires { (s : Sight) × (has_seen self.now draft.old s) × CanFeed (plan self.now) s block.now }
+        ensures { OnOk result ((s : Sight) → has_seen self.now draft.old s → CanFeed (plan self.now) s block.now → has_seen self.now draft.new (fed s block.now)) };
+
+    /// The piece, once all blocks before the task's own are in.
+    fn finish(&self, alloc: Global, draft: Self::Draft) -> Result<Self::Piece, NoMemory>
+        requires { (s : Sight) × (has_seen self.now draft s) × IsWhole (plan self.now) s }
+        ensures shares { IfOk result (λ p. (s : Sight) → has_seen self.now draft s → IsWhole (plan self.now) s → shares self.now p ≡ shares_here (plan self.now) s.first s.back s.rows s.ended) }
+        ensures of { IfOk result (λ p. (s : Sight) → has_seen self.now draft s → IsWhole (plan self.now) s → is_of self.now p s.before s.rows s.ended) };
+
+    /// A store with nothing in it. Takes no memory.
+    fn empty_store(&self, alloc: Global) -> Self::Store
+        ensures held { held result ≡ empty }
+        ensures taken { has_taken self.now result (going_on []) };
+
+    /// Takes in the piece of the next task, and appends what it adds to the text: the lines of the
+    /// windows that are closed now, and those of the windows that lie whole in the task. After want of
+    /// memory `out` is as before, and the store is only safe to let go.
+    fn take_in(
         &self,
         alloc: Global,
-        i: u64,
-        part: &Self::Part,
+        store: &mut Self::Store,
+        piece: Self::Piece,
         out: &mut Vec<u8>,
     ) -> Result<(), NoMemory>
-        requires { IsPartOf (plan self.now) (shown part.now) }
-        ensures ok { OnOk result (out.new.items ≡ out.old.items ++ part_lines (plan self.now) i (shown part.now)) }
+        requires { CanTakeIn (plan self.now) (held store.old) (shares self.now piece) (has_taken self.now store.old) (is_of self.now piece) }
+        ensures text { OnOk result (out.new.items ≡ out.old.items ++ written_by (plan self.now) (held store.old) (piece_in (shares self.now piece))) }
+        ensures stays { OnOk result (staying store.new ≡ left_by (plan self.now) (held store.old) (piece_in (shares self.now piece))) }
+        ensures taken { OnOk result (TakesIn (plan self.now) (held store.old) (shares self.now piece) (has_taken self.now store.old) (is_of self.now piece) (has_taken self.now store.new)) }
         ensures err { OnErr result (out.new.items ≡ out.old.items) };
+
+    /// Drops the parts of closed windows. Takes no memory.
+    fn drop_closed(&self, store: &mut Self::Store)
+        ensures held { held store.new ≡ staying store.old }
+        ensures taken { (r : Input) → has_taken self.now store.old r → has_taken self.now store.new r };
 }

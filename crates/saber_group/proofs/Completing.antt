@@ -1,77 +1,25 @@
--- Windows that are done, one after another.
-use Rattle.std.proofs.Common.{◌≡◌, ℕ, ◌+◌, ◌-◌, ◌/◌, ◌≤◌, ◌<◌, List, [], ◌++◌, length, take, drop, get_or, true, cond, nat_le, Some, refl, sym, ◌∙◌, ap, subst, take-append-drop, arith}
+-- The windows of a row: its last is begun by it, and those before its first are closed by it.
+use Rattle.std.proofs.lemmas.Bool.{false≢true}
+use Rattle.std.proofs.Common.{◌≡◌, ℕ, ◌+◌, ◌-◌, ◌/◌, ◌≤◌, ◌<◌, List, length, take, drop, get_or, true, cond, nat_le, Bool, false, refl, sym, le_refl, le_trans, ◌∙◌, ap, subst, take-append-drop, arith}
 use Rattle.std.proofs.lemmas.Bool.Decides.{nat_tests}
+use Rattle.std.proofs.Math.Nat.{le-div_iff_mul-le}
 use Rattle.saber_plan.specs.declared.rows.Side.{Side}
 use Rattle.saber_plan.specs.declared.rows.Side.TheVariants.{Left, Right}
 use Rattle.saber_plan.specs.declared.rows.Row.{Row}
 use Rattle.saber_plan.specs.declared.rows.Values.{Values}
 use Rattle.saber_plan.specs.declared.windows.Mark.{Mark}
-use Rattle.saber_plan.specs.declared.windows.Kind.{Kind}
 use Rattle.saber_plan.specs.declared.windows.Measure.{Measure}
 use Rattle.saber_plan.specs.declared.windows.Measure.TheVariants.{Rows, Range}
+use Rattle.saber_plan.specs.Rows.{stamp}
 use Rattle.saber_plan.specs.Trees.{Tree}
-use Rattle.saber_plan.specs.Windows.{one, Fits, step_mark, mark_after, begun_count, count_to}
+use Rattle.saber_plan.specs.Windows.{one, Fits, step_mark, mark_after, begun_count, closed_count, count_to}
 use Rattle.saber_plan.specs.Answers.{frame}
-use Rattle.saber_plan.specs.Parts.{Part, no_part}
-use Rattle.saber_plan.specs.Tasks.{is_complete}
-use Rattle.saber_plan.specs.Needs.{past_window, is_closing, is_pending, is_opening}
+use Rattle.saber_plan.specs.Needs.{first_window, past_window}
 use Rattle.saber_plan.specs.Given.{IsRowOf, RowsFit}
-use Rattle.saber_laws.specs.Windows.{BegunStay}
+use Rattle.saber_plan.specs.RowFacts.{mark-append, mark_more, fits_drop, row_at, is_left}
+use Rattle.saber_laws.specs.Windows.{BegunStay, ClosedStay}
 use Rattle.saber_laws.specs.Plans.{OneWindow}
-use Rattle.saber_window.specs.Laws.{ClosedWithinBegun}
-use Rattle.saber_group.specs.declared.batch.Batch.{Batch}
-use Rattle.saber_group.specs.Kinds.{kind_in}
-use Rattle.saber_group.specs.Entries.{entry_if, lines_if}
-use Rattle.saber_group.specs.Batches.{part_of, begun_by, IsBatch, Done}
-use Rattle.saber_group.proofs.Entering.{no_entry, no_lines}
-use Rattle.saber_group.proofs.Following.{mark-append, mark_more, fits_drop, row_at, is_left}
-use Rattle.saber_group.proofs.Numbering.{flat_nil, flat_step, flat_skip}
-
--- ---- no window yet
-
-pub done_nil : ClosedWithinBegun → BegunStay → (q : Tree) → Fits (frame q) → (b : Batch) → IsBatch q b → (cs ps os : List (ℕ × Part)) (t : List ℕ) → cs ≡ [] → ps ≡ [] → os ≡ [] → t ≡ [] → Done q b b.bounds.closed_before cs ps os t
-done_nil within stay q fits b given cs ps os t c p o l =
-    let low = within (frame q) fits b.before in
-    let high = stay (frame q) fits b.before b.rows.now given.fits.ordered in
-    let is = given.closed_before in
-    record {
-      low = omega arith;
-      high = omega (arith, low, high, is);
-      closing = c ∙ flat_nil _ _;
-      pending = p ∙ flat_nil _ _;
-      opening = o ∙ flat_nil _ _;
-      lines = l ∙ flat_nil _ _;
-    }
-
--- ---- one window more
-
-pub done_step : (q : Tree) (b : Batch) (n : ℕ) (kind : Kind) (p : Part) (cs ps os cs2 ps2 os2 : List (ℕ × Part)) (t t2 : List ℕ) → kind ≡ kind_in b.bounds n → p ≡ part_of q n b.before b.rows.now → n + 1 ≤ begun_count (frame q) (mark_after b.before b.rows.now)
-    → cs2 ≡ cs ++ entry_if (is_closing (Some kind)) n p → ps2 ≡ ps ++ entry_if (is_pending (Some kind)) n p → os2 ≡ os ++ entry_if (is_opening (Some kind)) n p → t2 ≡ t ++ lines_if (is_complete (Some kind)) q n p
-    → Done q b n cs ps os t → Done q b (n + 1) cs2 ps2 os2 t2
-done_step q b n kind p cs ps os cs2 ps2 os2 t t2 k e high c2 p2 o2 l2 done =
-    let low = done.low in
-    record {
-      low = omega (arith, low);
-      high = high;
-      closing = c2 ∙ flat_step _ b.bounds.closed_before n low cs _ done.closing (λ j. entry_if (is_closing (Some (k j))) n (e j));
-      pending = p2 ∙ flat_step _ b.bounds.closed_before n low ps _ done.pending (λ j. entry_if (is_pending (Some (k j))) n (e j));
-      opening = o2 ∙ flat_step _ b.bounds.closed_before n low os _ done.opening (λ j. entry_if (is_opening (Some (k j))) n (e j));
-      lines = l2 ∙ flat_step _ b.bounds.closed_before n low t _ done.lines (λ j. lines_if (is_complete (Some (k j))) q n (e j));
-    }
-
--- ---- windows without rows
-
-pub done_skip : (q : Tree) (b : Batch) (n k : ℕ) (cs ps os : List (ℕ × Part)) (t : List ℕ) → n ≤ k → k ≤ begun_count (frame q) (mark_after b.before b.rows.now) → ((i : ℕ) → n ≤ i → i < k → part_of q i b.before b.rows.now ≡ no_part) → Done q b n cs ps os t → Done q b k cs ps os t
-done_skip q b n k cs ps os t up high none done =
-    let low = done.low in
-    record {
-      low = omega (arith, low, up);
-      high = high;
-      closing = flat_skip _ b.bounds.closed_before n k low up (λ i p r. no_entry (is_closing (Some (kind_in b.bounds i))) i _ (none i p r)) cs done.closing;
-      pending = flat_skip _ b.bounds.closed_before n k low up (λ i p r. no_entry (is_pending (Some (kind_in b.bounds i))) i _ (none i p r)) ps done.pending;
-      opening = flat_skip _ b.bounds.closed_before n k low up (λ i p r. no_entry (is_opening (Some (kind_in b.bounds i))) i _ (none i p r)) os done.opening;
-      lines = flat_skip _ b.bounds.closed_before n k low up (λ i p r. no_lines (is_complete (Some (kind_in b.bounds i))) q i _ (none i p r)) t done.lines;
-    }
+use Rattle.saber_group.specs.RunParts.{begun_by, closed_by}
 
 -- ---- the windows of one row
 
@@ -89,7 +37,7 @@ begins Range k n m Left v e = refl
 begins measure k n m Right v e = cc
 
 pub past_begun : (q : Tree) → OneWindow q → (m : Mark) (x : Row) → IsRowOf q x → past_window (frame q) (record { row = x; before = m }) ≡ begun_count (frame q) (step_mark m x)
-past_begun q w m x h = subst (λ f. past_window f (record { row = x; before = m }) ≡ begun_count f (step_mark m x)) (sym w.has_frame) (begins w.window.measure w.window.slide w.window.size m x.side x.values (is_left q w x h))
+past_begun q w m x h = subst (λ f. past_window f (record { row = x; before = m }) ≡ begun_count f (step_mark m x)) (sym w.has_frame) (begins w.window.measure w.window.slide w.window.size m x.side x.values (is_left q w.stream w.streams x h))
 
 -- rows begin no more windows than all of them
 pub begun_within : BegunStay → (q : Tree) → Fits (frame q) → (m : Mark) (xs : List Row) (k : ℕ) → RowsFit q m xs → begun_by q m (take k xs) ≤ begun_by q m xs
@@ -104,3 +52,55 @@ past_high stay q w fits m xs k x a h l e g =
     let one = past_begun q w a x (row_at q m xs k x l e h) in
     let next : step_mark a x ≡ mark_after m (take (k + 1) xs) = ap (λ b. step_mark b x) g ∙ sym (mark_more m xs k x l e) in
     subst (λ n. n ≤ begun_by q m xs) (sym (one ∙ ap (begun_count (frame q)) next)) (begun_within stay q fits m xs (k + 1) h)
+
+-- ---- the windows before a row's first are closed by it
+
+-- a quotient rises with its dividend
+pub div_rises : (n p r : ℕ) → 1 ≤ n → p ≤ r → p / n ≤ r / n
+div_rises n p r h l = (le-div_iff_mul-le {k = n} {x = p / n} {y = r} h).1 (le_trans ((le-div_iff_mul-le {k = n} {x = p / n} {y = p} h).0 (le_refl (p / n))) l)
+
+count_case : (slide size p r : ℕ) (b c : Bool) → 1 ≤ slide → p ≤ r → (b ≡ true → c ≡ true) → cond b ((p - size) / slide + 1) 0 ≤ cond c ((r - size) / slide + 1) 0
+count_case slide size p r true true h l k = let rises = div_rises slide (p - size) (r - size) h (omega (arith, l)) in omega (arith, rises)
+count_case slide size p r true false h l k = absurd (false≢true (k refl))
+count_case slide size p r false c h l k = omega arith
+
+both_reach : (size p r : ℕ) → p ≤ r → nat_le size p ≡ true → nat_le size r ≡ true
+both_reach size p r l e = grind (arith, nat_tests)
+
+count_rises : (slide size p r : ℕ) → 1 ≤ slide → p ≤ r → count_to slide size p ≤ count_to slide size r
+count_rises slide size p r h l = count_case slide size p r (nat_le size p) (nat_le size r) h l (both_reach size p r l)
+
+-- whether the input ended or not
+low_if : (b : Bool) (a x y : ℕ) → a ≤ x → a ≤ y → a ≤ cond b x y
+low_if true a x y h l = h
+low_if false a x y h l = l
+
+under_case : (slide size p : ℕ) (b : Bool) → 1 ≤ slide → cond b ((p - size) / slide + 1) 0 ≤ (p - 0) / slide + 1
+under_case slide size p true h = let rises = div_rises slide (p - size) (p - 0) h (omega arith) in omega (arith, rises)
+under_case slide size p false h = omega arith
+
+-- fewer windows end at or before a point than begin there
+pub count_low : (slide size p : ℕ) → 1 ≤ slide → count_to slide size p ≤ count_to slide 0 p
+count_low slide size p h =
+    let here : nat_le 0 p ≡ true = grind (arith, nat_tests) in
+    subst (λ b. count_to slide size p ≤ cond b ((p - 0) / slide + 1) 0) (sym here) (under_case slide size p (nat_le size p) h)
+
+firsts : (measure : Measure) (slide size : ℕ) (m : Mark) (s : Side) (v : Values) → 1 ≤ slide → s ≡ Left → first_window (one measure slide size) (record { row = record { side = s; values = v }; before = m }) ≤ closed_count (one measure slide size) (step_mark m (record { side = s; values = v }))
+firsts Rows k n m Left v h e = low_if m.ended (count_to k n m.left) (count_to k 1 (m.left + 1)) (count_to k n (m.left + 1)) (subst (λ c. count_to k n m.left ≤ c) (count_next k m.left) (count_low k n m.left h)) (count_rises k n m.left (m.left + 1) h (omega arith))
+firsts Range k n m Left v h e = low_if m.ended (count_to k n (stamp v)) (count_to k 0 (stamp v)) (count_to k n (stamp v)) (count_low k n (stamp v) h) (le_refl _)
+firsts measure k n m Right v h e = cc
+
+first_closed : (q : Tree) (w : OneWindow q) → 1 ≤ w.window.slide → (m : Mark) (x : Row) → IsRowOf q x → first_window (frame q) (record { row = x; before = m }) ≤ closed_count (frame q) (step_mark m x)
+first_closed q w low m x h = subst (λ f. first_window f (record { row = x; before = m }) ≤ closed_count f (step_mark m x)) (sym w.has_frame) (firsts w.window.measure w.window.slide w.window.size m x.side x.values low (is_left q w.stream w.streams x h))
+
+pub closed_within : ClosedStay → (q : Tree) → Fits (frame q) → (m : Mark) (xs : List Row) (k : ℕ) → RowsFit q m xs → closed_by q m (take k xs) ≤ closed_by q m xs
+closed_within stay q fits m xs k h =
+    subst (λ (n : Mark). closed_by q m (take k xs) ≤ closed_count (frame q) n) (sym (mark-append m (take k xs) (drop k xs)) ∙ ap (mark_after m) (take-append-drop k xs))
+    (stay (frame q) fits (mark_after m (take k xs)) (drop k xs) (fits_drop q m xs k h).ordered)
+
+pub first_low : ClosedStay → (q : Tree) (w : OneWindow q) → 1 ≤ w.window.slide → Fits (frame q) → (m : Mark) (xs : List Row) (k : ℕ) (x : Row) (a : Mark) → RowsFit q m xs → k < length xs → x ≡ get_or xs k x → a ≡ mark_after m (take k xs)
+    → first_window (frame q) (record { row = x; before = a }) ≤ closed_by q m xs
+first_low stay q w low fits m xs k x a h l e g =
+    let next : step_mark a x ≡ mark_after m (take (k + 1) xs) = ap (λ b. step_mark b x) g ∙ sym (mark_more m xs k x l e) in
+    le_trans (subst (λ (n : Mark). first_window (frame q) (record { row = x; before = a }) ≤ closed_count (frame q) n) next (first_closed q w low a x (row_at q m xs k x l e h)))
+    (closed_within stay q fits m xs (k + 1) h)

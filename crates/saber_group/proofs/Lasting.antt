@@ -1,22 +1,22 @@
 -- Which rows a window has: from the first that it has up to the first behind it.
-use Rattle.std.proofs.Common.{◌≡◌, ℕ, ◌+◌, ◌≤◌, ◌<◌, List, [], ◌∷◌, ◌++◌, filter, length, take, drop, get_or, map, Bool, true, false, cond, ◌&&◌, nat_lt, ℤ, refl, sym, ◌∙◌, ap, subst, append-nil, take-append-drop, le_trans, arith}
+use Rattle.std.proofs.Common.{◌≡◌, ℕ, ◌+◌, ◌≤◌, ◌<◌, List, [], ◌∷◌, ◌++◌, filter, length, take, drop, get_or, true, cond, ◌&&◌, nat_lt, sym, ◌∙◌, ap, subst, append-nil, take-append-drop, le_trans}
 use Rattle.std.proofs.lemmas.List.{drop_more}
 use Rattle.std.proofs.lemmas.List.Elements.{filter-append}
 use Rattle.saber_plan.specs.declared.rows.Row.{Row}
 use Rattle.saber_plan.specs.declared.windows.Mark.{Mark}
 use Rattle.saber_plan.specs.Trees.{Tree}
 use Rattle.saber_plan.specs.Values.{passes}
-use Rattle.saber_plan.specs.Windows.{Frame, one, Fits, Ordered, Placed, step_mark, mark_after, placed_after, has}
+use Rattle.saber_plan.specs.Windows.{Frame, one, Fits, Ordered, mark_after, placed_after, has}
 use Rattle.saber_plan.specs.Answers.{frame, passing}
 use Rattle.saber_plan.specs.Parts.{Part, group_part, no_part, merge}
 use Rattle.saber_plan.specs.Needs.{first_window}
 use Rattle.saber_plan.specs.Given.{RowsFit}
+use Rattle.saber_plan.specs.RowFacts.{placed-append, placed_more, fits_drop}
 use Rattle.saber_laws.specs.Parts.{NoRowsNoPart, RowsAddToGroups}
 use Rattle.saber_laws.specs.Plans.{OneWindow}
 use Rattle.saber_window.specs.Laws.{PastHaveNone}
-use Rattle.saber_partial.specs.PartLaws.{OfRows, GroupsAreOfRows}
-use Rattle.saber_group.specs.Batches.{part_of}
-use Rattle.saber_group.proofs.Following.{placed-append, placed_more, fits_drop}
+use Rattle.saber_partial.specs.PartLaws.{OfRows}
+use Rattle.saber_group.specs.RunParts.{part_of}
 
 -- ---- rows cut at a row
 
@@ -62,31 +62,3 @@ row_part law q i m xs k x n h e g =
 -- fewer rows are few too
 pub few_more : (q : Tree) (n k : ℕ) (p : Part) → n ≤ k → OfRows q n p → OfRows q k p
 few_more q n k p h few = record { at = λ key a e. (le_trans (few.at key a e).0 h, (few.at key a e).1) }
-
-few_case : {A : Type 0} (x : A) (l us : List A) (b : Bool) → length l ≤ length us → length (cond b (x ∷ l) l) ≤ length us + 1
-few_case x l us true h = omega arith
-few_case x l us false h = omega arith
-
-few-filter : {A : Type 0} (p : A → Bool) (us : List A) → length (filter p us) ≤ length us
-few-filter p [] = omega arith
-few-filter p (x ∷ us) = let here = few_case x (filter p us) us (p x) (few-filter p us) in omega (arith, here)
-
-few_values : (l : List Placed) → length (map (λ y. y.row.values) l) ≡ length l
-few_values [] = refl
-few_values (x ∷ l) = let rest = few_values l in omega (arith, rest)
-
-few_placed : (m : Mark) (xs : List Row) → length (placed_after m xs) ≡ length xs
-unfolding placed_after
-few_placed m [] = refl
-few_placed m (x ∷ xs) = let rest = few_placed (step_mark m x) xs in omega (arith, rest)
-
--- a window's part over some rows is one of at most as many rows
-pub part_few : GroupsAreOfRows → (q : Tree) (i : ℕ) (m : Mark) (xs : List Row) (n : ℕ) → length xs ≤ n → OfRows q n (part_of q i m xs)
-part_few law q i m xs n h =
-    let inside = filter (has (frame q) i) (placed_after m xs) in
-    let values = map (λ (y : Placed). y.row.values) inside in
-    let low = few-filter (λ (zs : List ℤ). passes q.predicate zs []) values in
-    let all = few_values inside in
-    let some = few-filter (has (frame q) i) (placed_after m xs) in
-    let there = few_placed m xs in
-    few_more q (length (passing q inside)) n (part_of q i m xs) (omega (arith, low, all, some, there, h)) (law q (passing q inside))

@@ -1,9 +1,8 @@
-pub mod Entering
-pub mod Following
 pub mod Lasting
-pub mod Numbering
 pub mod Opened
 pub mod Completing
 pub mod Running
-pub mod Finishing
+pub mod RunsTaken
+pub mod RunKeeping
+pub mod RunShares
 pub mod Tested

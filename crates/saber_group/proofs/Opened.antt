@@ -1,63 +1,97 @@
--- The parts of open windows, one after another.
-use Rattle.std.proofs.Common.{◌≡◌, ℕ, suc, ◌+◌, ◌-◌, ◌^◌, ◌≤◌, ◌<◌, List, [], ◌∷◌, length, take, drop, get_or, refl, sym, ◌∙◌, ap, subst, le_trans, ⊎_elim, arith}
+-- The runs of open windows.
+use Rattle.std.proofs.Common.{◌≡◌, ℕ, ◌+◌, ◌-◌, ◌^◌, ◌≤◌, List, [], length, take, inl, inr, sym, ◌∙◌, ap, subst, le_trans, ⊎_elim, arith}
+use Rattle.std.specs.List.{AllByRecursion}
 use Rattle.std.proofs.lemmas.Bool.{cases_lt}
-use Rattle.std.proofs.lemmas.List.{get_or_past, length-take-le}
+use Rattle.std.proofs.lemmas.List.{length-take-le}
 use Rattle.saber_plan.specs.declared.rows.Row.{Row}
 use Rattle.saber_plan.specs.declared.windows.Mark.{Mark}
 use Rattle.saber_plan.specs.Trees.{Tree}
 use Rattle.saber_plan.specs.Parts.{Part, no_part, merge}
-use Rattle.saber_laws.specs.Parts.{NoRowsNoPart}
+use Rattle.saber_laws.specs.Parts.{MergeHasUnit, NoRowsNoPart}
 use Rattle.saber_partial.specs.Tallies.{CanMerge}
-use Rattle.saber_partial.specs.PartLaws.{GroupsAreOfRows, SmallPartsMerge}
-use Rattle.saber_group.specs.Batches.{part_of, begun_by, IsRun, Holds}
-use Rattle.saber_group.proofs.Lasting.{part_nil, part_few}
+use Rattle.saber_partial.specs.PartLaws.{OfRows, SmallPartsMerge}
+use Rattle.saber_sliding.specs.Entries.{Entries, whole, pushed, dropped, part_at, CanFollow}
+use Rattle.saber_sliding.specs.EntryFacts.{all_map, all_dropped, all_pushed, part_at-dropped, whole-dropped, part_at-pushed, part_at-behind}
+use Rattle.saber_group.specs.RunParts.{part_of, begun_by, Entered, IsRun, Holds}
+use Rattle.saber_group.proofs.Lasting.{part_nil, few_more}
 
 -- ---- windows that are done
 
--- the first one is taken out
-pub holds_drop : (q : Tree) (m : Mark) (rows : List Row) (n : ℕ) (p : Part) (ps : List Part) → Holds q m rows n (p ∷ ps) → Holds q m rows (n + 1) ps
-holds_drop q m rows n p ps h =
-    let few : suc (length ps) ≤ begun_by q m rows - n = h.few in
-    record {
-      at = λ i l. let e : i - n ≡ suc (i - (n + 1)) = omega (arith, l) in h.at i (omega (arith, l)) ∙ ap (λ k. get_or (p ∷ ps) k no_part) e;
-      few = omega (arith, few);
-    }
+-- the runs of no window from there on are gone
+pub holds_drop : (q : Tree) (m : Mark) (rows : List Row) (n : ℕ) (es : Entries) → Holds q m rows n es → Holds q m rows n (dropped n es)
+holds_drop q m rows n es h = record {
+  at = λ i l. h.at i l ∙ sym (part_at-dropped n i es l);
+  begun = all_dropped (λ (e : ℕ × Part). e.0 ≤ begun_by q m rows) n es h.begun;
+  few = all_dropped (λ (e : ℕ × Part). OfRows q (length rows) e.1) n es h.few;
+}
 
--- where no part is, each window has none
-pub holds_none : (q : Tree) (m : Mark) (rows : List Row) (n k : ℕ) → n ≤ k → Holds q m rows n [] → Holds q m rows k []
-holds_none q m rows n k up h = record { at = λ i l. h.at i (le_trans up l); few = omega arith }
+pub holds_later : (q : Tree) (m : Mark) (rows : List Row) (n k : ℕ) (es : Entries) → n ≤ k → Holds q m rows n es → Holds q m rows k es
+holds_later q m rows n k es up h = record { at = λ i l. h.at i (le_trans up l); begun = h.begun; few = h.few }
 
-pub first_is : (q : Tree) (m : Mark) (rows : List Row) (n : ℕ) (p : Part) (ps : List Part) → Holds q m rows n (p ∷ ps) → p ≡ part_of q n m rows
-first_is q m rows n p ps h = let e : n - n ≡ 0 = omega arith in sym (h.at n (omega arith) ∙ ap (λ k. get_or (p ∷ ps) k no_part) e)
-
-pub nothing : {A : Type 0} (xs ys : List A) → xs ≡ ys → ys ≡ drop 1 xs → xs ≡ []
-nothing [] ys e h = refl
-nothing (x ∷ xs) ys e h = absurd (let more : suc (length xs) ≡ length xs = ap length (e ∙ h) in omega (arith, more))
+pub whole_is : (q : Tree) (m : Mark) (rows : List Row) (n : ℕ) (es : Entries) → Holds q m rows n es → whole (dropped n es) ≡ part_of q n m rows
+whole_is q m rows n es h = whole-dropped n es ∙ sym (h.at n (omega arith))
 
 -- ---- more rows
 
-pub holds_nil : NoRowsNoPart → (q : Tree) (m : Mark) (n : ℕ) (ps : List Part) → ps ≡ [] → Holds q m [] n ps
-holds_nil none q m n ps e = subst (Holds q m [] n) (sym e) (record { at = λ i l. sym (part_nil none q i m); few = omega arith })
+pub holds_nil : NoRowsNoPart → (q : Tree) (m : Mark) (n : ℕ) (es : Entries) → es ≡ [] → Holds q m [] n es
+holds_nil none q m n es e = subst (Holds q m [] n) (sym e) (record { at = λ i l. sym (part_nil none q i m); begun = tt; few = tt })
 
-module _ (q : Tree) (m : Mark) (rows : List Row) (x y first past : ℕ) (p : Part) (run : IsRun q m rows x y first past p) (next : ℕ) (ps : List Part) (held : Holds q m (take x rows) next ps) where
-  -- no more windows are open than the run has from there on
-  few_open : length ps ≤ past - next
-  few_open = let few = held.few in let up = run.begins in omega (arith, few, up)
+module _ (q : Tree) (m : Mark) (rows : List Row) (x y first past : ℕ) (p : Part) (run : IsRun q m rows x y first past p) (next : ℕ) (es : Entries) (held : Holds q m (take x rows) next es) where
+  abbrev IsBegun : ℕ → ℕ × Part → Type 0
+  IsBegun k e = e.0 ≤ begun_by q m (take k rows)
 
-  -- the run can go into each of them
-  pub has_room : GroupsAreOfRows → SmallPartsMerge → x ≤ y → y ≤ length rows → length rows ≤ 2 ^ 40 → (j : ℕ) → CanMerge (get_or ps j no_part) p
-  has_room of_rows small up within few j =
-      let same : next + j - next ≡ j = omega arith in
+  abbrev IsFew : ℕ → ℕ × Part → Type 0
+  IsFew k e = OfRows q (length (take k rows)) e.1
+
+  -- the run can go behind each of them
+  pub has_room : SmallPartsMerge → x ≤ y → y ≤ length rows → length rows ≤ 2 ^ 40 → CanFollow p es
+  has_room small up within few =
       let long = length-take-le x rows (omega (arith, up, within)) in
-      let all : x + (y - x) ≤ 2 ^ 40 = omega (arith, up, within, few) in
-      subst (λ a. CanMerge a p) (held.at (next + j) (omega arith) ∙ ap (λ k. get_or ps k no_part) same)
-      (small q x (y - x) (part_of q (next + j) m (take x rows)) p (part_few of_rows q (next + j) m (take x rows) x (omega (arith, long))) run.few all).0
+      all_map (IsFew x) (λ e. CanMerge e.1 p) es (λ e h. (small q (length (take x rows)) (y - x) e.1 p h run.few (omega (arith, up, within, few, long))).0) held.few
 
-  pub holds_more : (qs : List Part) (new : ℕ) → new ≡ next → first ≤ next → ((j : ℕ) → j < past - next → get_or qs j no_part ≡ merge (get_or ps j no_part) p) → length qs ≤ past - next → Holds q m (take y rows) new qs
-  holds_more qs new same low inside few = subst (λ n. Holds q m (take y rows) n qs) (sym same) (record {
-    at = λ i l. ⊎_elim
-        (λ h. run.inside i (le_trans low l) h ∙ ap (λ a. merge a p) (held.at i l) ∙ sym (inside (i - next) (omega (arith, l, h))))
-        (λ h. run.behind i (le_trans low l) h ∙ held.at i l ∙ get_or_past ps (i - next) no_part (let f = few_open in omega (arith, f, l, h)) ∙ sym (get_or_past qs (i - next) no_part (omega (arith, few, l, h))))
-        (cases_lt i past);
-    few = let up = run.ends in omega (arith, few, up);
-  })
+  ends_low : AllByRecursion (λ (e : ℕ × Part). e.0 ≤ past) es
+  ends_low = all_map (IsBegun x) (λ e. e.0 ≤ past) es (λ e h. le_trans h run.begins) held.begun
+
+  none_behind : (i : ℕ) → past ≤ i → AllByRecursion (λ (e : ℕ × Part). e.0 ≤ i) es
+  none_behind i l = all_map (λ e. e.0 ≤ past) (λ e. e.0 ≤ i) es (λ e h. le_trans h l) ends_low
+
+  begun_more : (e : ℕ × Part) → IsBegun x e → IsBegun y e
+  begun_more e h = le_trans h (le_trans run.begins run.ends)
+
+  few_both : SmallPartsMerge → x ≤ y → y ≤ length rows → length rows ≤ 2 ^ 40 → (e : ℕ × Part) → IsFew x e → IsFew y (e.0, merge e.1 p)
+  few_both small up within few e h =
+      let long = length-take-le x rows (omega (arith, up, within)) in
+      let longer = length-take-le y rows (omega (arith, within)) in
+      let sum : length (take x rows) + (y - x) ≡ length (take y rows) = omega (arith, up, within, long, longer) in
+      subst (λ n. OfRows q n (merge e.1 p)) sum (small q (length (take x rows)) (y - x) e.1 p h run.few (omega (arith, up, within, few, long))).1
+
+  holds_same : MergeHasUnit → first ≤ next → x ≤ y → y ≤ length rows → p ≡ no_part → Holds q m (take y rows) next es
+  holds_same unit low up within none =
+      let long = length-take-le x rows (omega (arith, up, within)) in
+      let longer = length-take-le y rows (omega (arith, within)) in
+      record {
+        at = λ i l. ⊎_elim
+            (λ h. run.inside i (le_trans low l) h ∙ (λ j. merge (held.at i l j) (none j)) ∙ (unit (part_at es i)).1)
+            (λ h. run.behind i (le_trans low l) h ∙ held.at i l)
+            (cases_lt i past);
+        begun = all_map (IsBegun x) (IsBegun y) es begun_more held.begun;
+        few = all_map (IsFew x) (IsFew y) es (λ e h. few_more q (length (take x rows)) (length (take y rows)) e.1 (omega (arith, up, long, longer)) h) held.few;
+      }
+
+  holds_pushed : MergeHasUnit → SmallPartsMerge → first ≤ next → x ≤ y → y ≤ length rows → length rows ≤ 2 ^ 40 → Holds q m (take y rows) next (pushed es past p)
+  holds_pushed unit small low up within few =
+      let long = length-take-le y rows (omega (arith, within)) in
+      let begun = all_pushed (IsBegun x) (IsBegun y) es past p begun_more run.ends held.begun in
+      record {
+        at = λ i l. ⊎_elim
+            (λ h. run.inside i (le_trans low l) h ∙ ap (λ a. merge a p) (held.at i l) ∙ sym (part_at-pushed unit es past p i h))
+            (λ h. run.behind i (le_trans low l) h ∙ held.at i l ∙ part_at-behind es i (none_behind i h)
+            ∙ sym (part_at-behind (pushed es past p) i (all_pushed (λ e. e.0 ≤ past) (λ e. e.0 ≤ i) es past p (λ e g. le_trans g h) h ends_low)))
+            (cases_lt i past);
+        begun = begun;
+        few = all_pushed (IsFew x) (IsFew y) es past p (few_both small up within few) (few_more q (y - x) (length (take y rows)) p (omega (arith, up, long)) run.few) held.few;
+      }
+
+  pub holds_more : MergeHasUnit → SmallPartsMerge → (fs : Entries) (new : ℕ) → new ≡ next → first ≤ next → x ≤ y → y ≤ length rows → length rows ≤ 2 ^ 40 → Entered es past p fs → Holds q m (take y rows) new fs
+  holds_more unit small fs new same low up within few (inl e) = subst (λ n. Holds q m (take y rows) n fs) (sym same) (subst (Holds q m (take y rows) next) (sym e.1) (holds_same unit low up within e.0))
+  holds_more unit small fs new same low up within few (inr e) = subst (λ n. Holds q m (take y rows) n fs) (sym same) (subst (Holds q m (take y rows) next) (sym e) (holds_pushed unit small low up within few))

@@ -1,6 +1,5 @@
 -- Rows that lie in the same windows, one after another.
-use Rattle.std.proofs.Common.{◌≡◌, ℕ, ◌+◌, ◌-◌, ◌/◌, ◌^◌, ◌≤◌, ◌<◌, List, [], ◌∷◌, length, take, drop, get_or, Bool, true, false, cond, ◌&&◌, nat_lt, nat_le, refl, sym, ◌∙◌, ap, subst, subst₂, le_refl, le_trans, ⊎_elim, arith}
-use Rattle.std.proofs.Math.Nat.{le-div_iff_mul-le}
+use Rattle.std.proofs.Common.{◌≡◌, ℕ, ◌+◌, ◌-◌, ◌^◌, ◌≤◌, ◌<◌, List, [], ◌∷◌, length, take, drop, get_or, Bool, true, false, cond, ◌&&◌, nat_lt, nat_le, refl, sym, ◌∙◌, ap, subst, ⊎_elim, arith, subst₂}
 use Rattle.std.proofs.lemmas.List.{drop_more, get_or_default, get_or-take, length-take-le, take-take}
 use Rattle.std.proofs.lemmas.Bool.{lt-ltb, le-ltb, le-leb, cases_lt}
 use Rattle.std.proofs.lemmas.Bool.Decides.{nat_tests}
@@ -17,16 +16,16 @@ use Rattle.saber_plan.specs.Answers.{frame}
 use Rattle.saber_plan.specs.Parts.{Part, group_part, no_part, merge}
 use Rattle.saber_plan.specs.Needs.{first_window, past_window}
 use Rattle.saber_plan.specs.Given.{RowsFit}
+use Rattle.saber_plan.specs.RowFacts.{fits_front, fits_take, fits_drop}
 use Rattle.saber_laws.specs.Parts.{RowsAddToGroups, MergeIsAssociative, MergeHasUnit}
 use Rattle.saber_laws.specs.Needs.{RowsSpan}
-use Rattle.saber_laws.specs.Windows.{BegunStay}
+use Rattle.saber_laws.specs.Windows.{BegunStay, ClosedStay}
 use Rattle.saber_laws.specs.Plans.{OneWindow}
 use Rattle.saber_window.specs.Laws.{PastHaveNone}
 use Rattle.saber_partial.specs.PartLaws.{OfRows, GroupsAreOfRows, SmallPartsMerge}
-use Rattle.saber_group.specs.Batches.{part_of, begun_by, IsRun}
-use Rattle.saber_group.proofs.Following.{fits_front, fits_take, fits_drop}
+use Rattle.saber_group.specs.RunParts.{part_of, begun_by, closed_by, IsRun}
 use Rattle.saber_group.proofs.Lasting.{row_part, ends_here, few_more}
-use Rattle.saber_group.proofs.Completing.{past_begun, past_high}
+use Rattle.saber_group.proofs.Completing.{count_low, past_begun, past_high, first_low}
 
 -- ---- what the first row of a run tells
 
@@ -34,39 +33,32 @@ pub record Starts (q : Tree) (m : Mark) (rows : List Row) (k first past : ℕ) :
   pub below : (i : ℕ) → i < first → part_of q i m (take k rows) ≡ part_of q i m rows
   pub order : first ≤ past
   pub begins : begun_by q m (take k rows) ≤ past
+  pub closes : (n : ℕ) → k < n → n ≤ length rows → first ≤ closed_by q m (take n rows)
   pub ends : (n : ℕ) → k < n → n ≤ length rows → past ≤ begun_by q m (take n rows)
-
--- a quotient rises with its dividend
-div_rises : (n p r : ℕ) → 1 ≤ n → p ≤ r → p / n ≤ r / n
-div_rises n p r h l = (le-div_iff_mul-le {k = n} {x = p / n} {y = r} h).1 (le_trans ((le-div_iff_mul-le {k = n} {x = p / n} {y = p} h).0 (le_refl (p / n))) l)
-
-count_case : (slide size p : ℕ) (b : Bool) → 1 ≤ slide → cond b ((p - size) / slide + 1) 0 ≤ (p - 0) / slide + 1
-count_case slide size p true h = let rises = div_rises slide (p - size) (p - 0) h (omega arith) in omega (arith, rises)
-count_case slide size p false h = omega arith
-
-count_low : (slide size p : ℕ) → 1 ≤ slide → count_to slide size p ≤ count_to slide 0 p
-count_low slide size p h =
-    let here : nat_le 0 p ≡ true = grind (arith, nat_tests) in
-    subst (λ b. count_to slide size p ≤ cond b ((p - 0) / slide + 1) 0) (sym here) (count_case slide size p (nat_le size p) h)
 
 low_by : (s : Side) (a b : ℕ) → a ≤ b → by_side s a 0 ≤ by_side s b 0
 low_by Left a b h = h
 low_by Right a b h = omega arith
 
-first_low : (measure : Measure) (slide size : ℕ) (x : Placed) → 1 ≤ slide → first_window (one measure slide size) x ≤ past_window (one measure slide size) x
-first_low Rows slide size x h = low_by x.row.side (count_to slide size (own x)) (count_to slide 0 (own x)) (count_low slide size (own x) h)
-first_low Range slide size x h = low_by x.row.side (count_to slide size (time x)) (count_to slide 0 (time x)) (count_low slide size (time x) h)
+first_below : (measure : Measure) (slide size : ℕ) (x : Placed) → 1 ≤ slide → first_window (one measure slide size) x ≤ past_window (one measure slide size) x
+first_below Rows slide size x h = low_by x.row.side (count_to slide size (own x)) (count_to slide 0 (own x)) (count_low slide size (own x) h)
+first_below Range slide size x h = low_by x.row.side (count_to slide size (time x)) (count_to slide 0 (time x)) (count_low slide size (time x) h)
 
-pub starts_at : PastHaveNone → BegunStay → (q : Tree) → OneWindow q → Fits (frame q) → (m : Mark) (rows : List Row) (k : ℕ) (x : Row) (a : Mark) (first past : ℕ) → RowsFit q m rows → k < length rows → x ≡ get_or rows k x → a ≡ mark_after m (take k rows)
+pub starts_at : PastHaveNone → BegunStay → ClosedStay → (q : Tree) → OneWindow q → Fits (frame q) → (m : Mark) (rows : List Row) (k : ℕ) (x : Row) (a : Mark) (first past : ℕ) → RowsFit q m rows → k < length rows → x ≡ get_or rows k x → a ≡ mark_after m (take k rows)
     → first ≡ first_window (frame q) (record { row = x; before = a }) → past ≡ past_window (frame q) (record { row = x; before = a }) → Starts q m rows k first past
-starts_at none stay q w fits m rows k x a first past given here is mark f l =
+starts_at none stay lasts q w fits m rows k x a first past given here is mark f l =
     let at : Placed = record { row = x; before = a } in
     let cut : drop k rows ≡ x ∷ drop (k + 1) rows = drop_more rows k x here ∙ ap (λ y. y ∷ drop (k + 1) rows) (sym is) in
     let one_row : RowsFit q a (x ∷ []) = fits_front q a (x ∷ []) (drop (k + 1) rows) (subst₂ (RowsFit q) (sym mark) cut (fits_drop q m rows k given)) in
     record {
       below = λ i h. ends_here none q w fits i m rows k x a given here is mark (lt-ltb i (first_window (frame q) at) (subst (λ n. i < n) f h));
-      order = subst₂ (λ n o. n ≤ o) (sym f) (sym l) (subst (λ g. first_window g at ≤ past_window g at) (sym w.has_frame) (first_low w.window.measure w.window.slide w.window.size at w.fits.slide.0));
+      order = subst₂ (λ n o. n ≤ o) (sym f) (sym l) (subst (λ g. first_window g at ≤ past_window g at) (sym w.has_frame) (first_below w.window.measure w.window.slide w.window.size at w.fits.slide.0));
       begins = subst₂ (λ n o. n ≤ o) (ap (begun_count (frame q)) mark) (sym (l ∙ past_begun q w a x one_row.rows.0)) (stay (frame q) fits a (x ∷ []) one_row.ordered);
+      closes = λ n h r.
+          let long = length-take-le n rows r in
+          let same : take k (take n rows) ≡ take k rows = take-take k n rows (omega (arith, h)) in
+          subst (λ o. o ≤ closed_by q m (take n rows)) (sym f)
+          (first_low lasts q w w.fits.slide.0 fits m (take n rows) k x a (fits_take q m rows n given) (omega (arith, long, h)) (is ∙ sym (get_or-take n rows k x h)) (mark ∙ ap (mark_after m) (sym same)));
       ends = λ n h r.
           let long = length-take-le n rows r in
           let same : take k (take n rows) ≡ take k rows = take-take k n rows (omega (arith, h)) in
@@ -84,6 +76,7 @@ with_row q wanted x p = cond (wanted && passes q.predicate x.values []) (merge p
 pub record RunTo (q : Tree) (m : Mark) (rows : List Row) (k e first past : ℕ) (p : Part) : Type 0 where
   pub inside : (i : ℕ) → first ≤ i → i < past → part_of q i m (take e rows) ≡ merge (part_of q i m (take k rows)) p
   pub behind : (i : ℕ) → first ≤ i → past ≤ i → part_of q i m (take e rows) ≡ part_of q i m (take k rows)
+  pub before : (i : ℕ) → i < first → part_of q i m (take e rows) ≡ part_of q i m (take k rows)
   pub few : OfRows q (e - k) p
 
 pub run_nil : MergeHasUnit → GroupsAreOfRows → (q : Tree) (m : Mark) (rows : List Row) (k first past : ℕ) (p : Part) → group_part q [] ≡ no_part → p ≡ no_part → RunTo q m rows k k first past p
@@ -92,6 +85,7 @@ run_nil unit of_rows q m rows k first past p none e =
     record {
       inside = λ i l h. sym (ap (merge (part_of q i m (take k rows))) e ∙ (unit (part_of q i m (take k rows))).1);
       behind = λ i l h. refl;
+      before = λ i h. refl;
       few = subst (OfRows q (k - k)) (sym e) (subst (λ n. OfRows q n no_part) (sym nil) (subst (OfRows q 0) none (of_rows q [])));
     }
 
@@ -124,6 +118,10 @@ run_more add span assoc small of_rows q fits m rows k e first past p x a low her
       behind = λ i h r.
           let has_none : has (frame q) i at ≡ false = lies i ∙ (λ j. le-leb first i h j && le-ltb i past r j) in
           step i ∙ ap (λ w. cond (w && passes q.predicate x.values []) (merge (part_of q i m (take e rows)) (group_part q (x.values ∷ []))) (part_of q i m (take e rows))) has_none ∙ run.behind i h r;
+      before = λ i h.
+          let past_it : nat_le first i ≡ false = grind (arith, nat_tests) in
+          let has_none : has (frame q) i at ≡ false = lies i ∙ ap (λ t. t && nat_lt i past) past_it in
+          step i ∙ ap (λ w. cond (w && passes q.predicate x.values []) (merge (part_of q i m (take e rows)) (group_part q (x.values ∷ []))) (part_of q i m (take e rows))) has_none ∙ run.before i h;
       few = subst (λ n. OfRows q n (with_row q (nat_lt first past) x p)) next (few_case small of_rows q x (e - k) p (nat_lt first past && passes q.predicate x.values []) (omega (arith, low, here, few)) run.few);
     }
 
@@ -142,9 +140,11 @@ pub run_is : (q : Tree) (m : Mark) (rows : List Row) (k e first past : ℕ) (p :
 run_is q m rows k e first past p starts more within run = record {
   inside = run.inside;
   behind = run.behind;
+  before = run.before;
   below = starts.below;
   few = run.few;
   order = starts.order;
   begins = starts.begins;
+  closes = starts.closes e more within;
   ends = starts.ends e more within;
 }

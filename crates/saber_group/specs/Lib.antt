@@ -1,3 +1,3 @@
-pub mod Kinds
-pub mod Entries
-pub mod Batches
+pub mod RunParts
+pub mod RunPieces
+pub mod RunStores

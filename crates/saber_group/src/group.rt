@@ -1,5 +1,5 @@
 // A group query and its windows.
-ghost use Rattle.std.specs.Prelude.{◌≡◌, ◌≤◌, ◌^◌, nat_lt};
+ghost use Rattle.std.specs.Prelude.{◌≡◌, ◌≤◌, ◌^◌};
 ghost use Rattle.saber_plan.specs.declared.plans.Shape.TheVariants as shapes;
 ghost use Rattle.saber_plan.specs.Trees.{tree_of};
 ghost use Rattle.saber_plan.specs.Checked.{IsChecked};
@@ -61,14 +61,6 @@ impl<'a> Group<'a> {
         let _plan = &self.plan;
         groups_have_one_window();
         checked_fit();
-    }
-
-    /// Window i ends at the row or before it.
-    pub(crate) fn is_past(&self, i: u64, row: &Row, before: &Mark) -> bool
-        ensures { result ≡ nat_lt i (first_window (frame (tree_of self.now)) (record { row = row.now; before = before.now })) }
-    {
-        let _plan = &self.plan;
-        self.windows.is_past(i, row, before)
     }
 
     /// The row lies in the windows from the one up to the other, and in no other.

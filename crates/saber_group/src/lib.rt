@@ -5,13 +5,13 @@
 #![tactic(auto)]
 
 mod batch;
-mod gathered;
 mod group;
 mod open;
 mod operator;
 mod rows;
+mod run_pieces;
+mod run_stores;
 mod runs;
-mod windows;
 
 pub use group::Group;
 

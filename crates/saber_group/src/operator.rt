@@ -1,54 +1,103 @@
-// What a group query does with tasks and parts.
-use crate::batch::{Batch, Bounds};
+// What a group query does with tasks and what they give.
+use crate::batch::Batch;
 use crate::group::Group;
-use saber_fragment::{Operator, Piece, TaskRows};
-use saber_laws::{begun_are_counted, closed_are_counted};
-use saber_partial::{Partial, parts_can_merge};
+use crate::open::Open;
+use crate::run_pieces::RunPiece;
+use crate::run_stores::RunStore;
+use saber_fragment::{Block, Operator};
+use saber_laws::{
+    closed_are_counted, closed_lines_stay, closed_rise, ends_are_behind, ends_close_more,
+    marks_are_of_rows, marks_follow, merge_has_unit, merge_is_associative, no_rows_no_part,
+    open_goes_on, part_has_lines, shares_make_piece, text_goes_on,
+};
 use saber_plan::NoMemory;
 use std::alloc::Global;
 
+// A task's piece is made of its own block alone, so nothing of the block is copied.
 impl Operator for Group<'_> {
-    type Part = Partial;
+    type Draft = RunPiece;
+
+    type Piece = RunPiece;
+
+    type Store = RunStore;
 
     ghost use Rattle.saber_plan.specs.Trees.{tree_of};
+    ghost use Rattle.saber_group.specs.RunPieces.{shares_in, IsOf};
+    ghost use Rattle.saber_group.specs.RunStores.{held_in, TakenIn};
 
     ghost plan = { tree_of };
 
-    ghost shown = { λ part. part };
+    ghost has_seen = { λ group draft s. IsOf (tree_of group) s.before s.rows s.ended draft };
 
-    fn fragment(&self, alloc: Global, task: &TaskRows) -> Result<Piece<Partial>, NoMemory> {
-        self.has_window();
-        closed_are_counted();
-        begun_are_counted();
-        let rows = task.rows.as_slice();
-        let before = self.mark_over(&task.before, task.back.as_slice());
-        let after = self.mark_over(&before, rows);
+    ghost shares = { λ group. shares_in (tree_of group) };
+
+    ghost held = { held_in };
+
+    ghost staying = { held_in };
+
+    ghost has_taken = { λ group store r. TakenIn (tree_of group) r store };
+
+    ghost is_of = { λ group piece m rows ended. IsOf (tree_of group) m rows ended piece };
+
+    fn start(&self, alloc: Global, own: &Block) -> Result<RunPiece, NoMemory> {
         let batch = Batch {
-            before,
-            rows,
-            bounds: Bounds {
-                closed_before: self.closed_below(&before),
-                begun_before: self.begun_below(&before),
-                closed_after: self.closed_below(&after),
-            },
+            before: own.before,
+            rows: own.rows.as_slice(),
+            ended: own.ended,
         };
-        let gathered = self.take_rows(alloc, &batch)?;
-        Ok(gathered.into_piece(batch.bounds.closed_after))
+        self.piece_of(alloc, &batch)
     }
 
-    fn merge(&self, into: &mut Partial, from: Partial) -> Result<(), NoMemory> {
+    fn feed(&self, _alloc: Global, _draft: &mut RunPiece, _block: &Block) -> Result<(), NoMemory> {
+        Ok(())
+    }
+
+    fn finish(&self, _alloc: Global, draft: RunPiece) -> Result<RunPiece, NoMemory> {
         self.has_window();
-        parts_can_merge();
-        into.merge(from)
+        merge_has_unit();
+        merge_is_associative();
+        no_rows_no_part();
+        Ok(draft)
     }
 
-    fn lines(
+    fn empty_store(&self, alloc: Global) -> RunStore {
+        self.has_window();
+        no_rows_no_part();
+        RunStore {
+            windows: Open::new(alloc, 0),
+            begun: 0,
+        }
+    }
+
+    // The lines are put together first, so that `out` is as before after want of memory.
+    fn take_in(
         &self,
-        _alloc: Global,
-        i: u64,
-        part: &Partial,
+        alloc: Global,
+        store: &mut RunStore,
+        piece: RunPiece,
         out: &mut Vec<u8>,
     ) -> Result<(), NoMemory> {
-        part.lines(self.plan, i, out)
+        self.has_window();
+        closed_are_counted();
+        closed_lines_stay();
+        closed_rise();
+        ends_are_behind();
+        ends_close_more();
+        marks_are_of_rows();
+        marks_follow();
+        open_goes_on();
+        part_has_lines();
+        shares_make_piece();
+        text_goes_on();
+        let closed = self.closed_below(&piece.after);
+        let begun = self.begun_below(&piece.after);
+        let mut text = Vec::new(alloc);
+        self.take_runs(alloc, &mut store.windows, piece.runs, closed, &mut text)?;
+        store.begun = begun;
+        out.extend_from_slice(&text)?;
+        Ok(())
     }
+
+    // Taking a piece in has dropped what no open window has.
+    fn drop_closed(&self, _store: &mut RunStore) {}
 }

@@ -3,7 +3,7 @@ ghost use Rattle.std.specs.Prelude.{◌≡◌, ◌≤◌, ◌^◌, []};
 ghost use Rattle.saber_plan.specs.Values as v;
 ghost use Rattle.saber_plan.specs.Windows as w;
 ghost use Rattle.saber_plan.specs.Trees.{tree_of};
-ghost use Rattle.saber_plan.specs.Given.{IsRowOf, RowsFit};
+ghost use Rattle.saber_plan.specs.Given.{IsRowOf};
 
 use crate::group::Group;
 use saber_eval::{holds, one_stream_fits};
@@ -34,17 +34,5 @@ impl Group<'_> {
     {
         stamps_fit();
         step_mark(before, row)
-    }
-
-    /// The mark after some rows.
-    pub(crate) fn mark_over(&self, before: &Mark, rows: &[Row]) -> Mark
-        requires { RowsFit (tree_of self.now) before.now rows.now }
-        ensures { result ≡ w.mark_after before.now rows.now }
-    {
-        let mut mark = *before;
-        for row in rows {
-            mark = self.step(&mark, row);
-        }
-        mark
     }
 }

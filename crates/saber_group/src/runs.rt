@@ -1,20 +1,17 @@
 // Rows that lie in the same windows.
-ghost use Rattle.std.specs.Prelude.{◌≡◌, ◌^◌, ◌≤◌, ◌<◌, ◌&&◌, [], ◌∷◌, length, take, true, if◌then◌else◌, OnOk, IfOk};
-ghost use Rattle.saber_plan.specs.Values as v;
+ghost use Rattle.std.specs.Prelude.{◌≡◌, ◌^◌, ◌≤◌, ◌<◌, [], ◌∷◌, length, take, true, OnOk, IfOk};
 ghost use Rattle.saber_plan.specs.Windows.{mark_after};
 ghost use Rattle.saber_plan.specs.Parts as p;
 ghost use Rattle.saber_plan.specs.Trees.{tree_of};
-ghost use Rattle.saber_plan.specs.Answers.{frame};
-ghost use Rattle.saber_plan.specs.Needs.{first_window, past_window};
-ghost use Rattle.saber_plan.specs.Given.{IsRowOf};
+ghost use Rattle.saber_plan.specs.Given.{IsRowOf, RowsFit};
 ghost use Rattle.saber_partial.specs.Tallies.{CanMerge};
-ghost use Rattle.saber_group.specs.Batches.{IsBatch, IsRun};
+ghost use Rattle.saber_group.specs.RunParts.{IsRun, LiesIn, with_row};
 
 use crate::batch::Batch;
 use crate::group::Group;
 use saber_laws::{
-    begun_stay, groups_have_one_window, merge_has_unit, merge_is_associative, no_rows_no_part,
-    rows_add_to_groups, rows_span,
+    begun_stay, closed_stay, groups_have_one_window, merge_has_unit, merge_is_associative,
+    no_rows_no_part, rows_add_to_groups, rows_span,
 };
 use saber_partial::{Partial, groups_are_of_rows, small_parts_merge};
 use saber_plan::{Mark, NoMemory, Row};
@@ -38,8 +35,8 @@ impl Group<'_> {
     fn lies_in(&self, first: u64, past: u64, row: &Row, before: &Mark) -> bool
         requires left { before.now.left ≤ 2 ^ 40 }
         requires right { before.now.right ≤ 2 ^ 40 }
-        ensures yes { result ≡ true → (first ≡ first_window (frame (tree_of self.now)) (record { row = row.now; before = before.now })) × (past ≡ past_window (frame (tree_of self.now)) (record { row = row.now; before = before.now })) }
-        ensures no { first ≡ first_window (frame (tree_of self.now)) (record { row = row.now; before = before.now }) → past ≡ past_window (frame (tree_of self.now)) (record { row = row.now; before = before.now }) → result ≡ true }
+        ensures yes { result ≡ true → LiesIn (tree_of self.now) first past row.now before.now }
+        ensures no { LiesIn (tree_of self.now) first past row.now before.now → result ≡ true }
     {
         let windows = self.row_windows(row, before);
         windows.0 == first && windows.1 == past
@@ -55,7 +52,7 @@ impl Group<'_> {
     ) -> Result<(), NoMemory>
         requires row { IsRowOf (tree_of self.now) row.now }
         requires room { CanMerge part.old (p.group_part (tree_of self.now) (row.now.values ∷ [])) }
-        ensures { OnOk result (part.new ≡ (if is_wanted && v.passes (tree_of self.now).predicate row.now.values [] then p.merge part.old (p.group_part (tree_of self.now) (row.now.values ∷ [])) else part.old)) }
+        ensures { OnOk result (part.new ≡ with_row (tree_of self.now) is_wanted part.old row.now) }
     {
         groups_have_one_window();
         if is_wanted && self.passes(row) {
@@ -72,7 +69,7 @@ impl Group<'_> {
         from: usize,
         mark: &Mark,
     ) -> Result<Run, NoMemory>
-        requires batch { IsBatch (tree_of self.now) batch.now }
+        requires fits { RowsFit (tree_of self.now) batch.now.before batch.now.rows.now }
         requires there { from < length batch.now.rows.now }
         requires mark { mark.now ≡ mark_after batch.now.before (take from batch.now.rows.now) }
         ensures run { IfOk result (λ r. IsRun (tree_of self.now) batch.now.before batch.now.rows.now from r.end r.first r.past r.part) }
@@ -82,6 +79,7 @@ impl Group<'_> {
     {
         self.has_window();
         begun_stay();
+        closed_stay();
         groups_are_of_rows();
         merge_has_unit();
         merge_is_associative();

@@ -1,25 +1,36 @@
-//! Windows of tasks, worked out by hand.
-ghost use Rattle.std.specs.Prelude.{◌≡◌, ◌^◌, ◌<◌, ◌∷◌, ◌++◌, [], IfOk, Some, None, true, false};
-ghost use Rattle.saber_plan.specs.declared.rows.Side.TheVariants as s;
-ghost use Rattle.saber_plan.specs.declared.expressions.Factor.TheVariants as f;
-ghost use Rattle.saber_plan.specs.declared.plans.Item.TheVariants as i;
-ghost use Rattle.saber_plan.specs.declared.plans.Shape.TheVariants as h;
-ghost use Rattle.saber_plan.specs.Trees.{Tree, tree_of};
-ghost use Rattle.saber_plan.specs.Rows.{RowFits, stamp};
-ghost use Rattle.saber_plan.specs.Checked.{IsChecked, columns_on};
+//! Tasks of group queries, worked out by hand, through the trait that the stage uses.
+ghost use Rattle.std.specs.Prelude.{◌≡◌, ◌≢◌, ◌^◌, ◌<◌, ◌∷◌, ◌++◌, List, [], IfOk, OnOk, Some, None, true, false};
+ghost use Rattle.saber_plan.specs.declared.rows.Row.{Row};
+ghost use Rattle.saber_plan.specs.declared.rows.Side.TheVariants as sides;
+ghost use Rattle.saber_plan.specs.declared.expressions.Factor.TheVariants as factors;
+ghost use Rattle.saber_plan.specs.declared.plans.Shape.TheVariants as shapes;
+ghost use Rattle.saber_plan.specs.Answers.{frame};
+ghost use Rattle.saber_plan.specs.Checked.{IsChecked, WindowFits, columns_on};
 ghost use Rattle.saber_plan.specs.Given.{RowsFit};
-ghost use Rattle.saber_plan.specs.Windows.{in_order};
+ghost use Rattle.saber_plan.specs.Inputs.{going_on};
+ghost use Rattle.saber_plan.specs.Rows.{RowFits, stamp};
+ghost use Rattle.saber_plan.specs.Shares.{shares_here};
+ghost use Rattle.saber_plan.specs.Tasks.{unclosed};
+ghost use Rattle.saber_plan.specs.Trees.{Tree, tree_of};
+ghost use Rattle.saber_plan.specs.Windows.{Fits, can_follow, mark_of, no_rows};
 
 use super::*;
-use saber_fragment::{Operator, Parts, Piece, Rows, TaskRows};
-use saber_partial::Partial;
+use crate::run_pieces::RunPiece;
+use crate::run_stores::RunStore;
+use saber_fragment::{Block, Operator, Rows};
+use saber_laws::{
+    checked_fit, no_rows_give_nothing, open_goes_on, shares_are_local, shares_make_piece,
+};
 use saber_plan::{
-    Expr, Factor, Factors, Item, Mark, Measure, NoMemory, Plan, Product, Row, Shape, Side, Stream,
-    Values, Window,
+    Cmp, Conj, Expr, Factor, Factors, Item, Mark, Measure, NoMemory, Plan, Pred, Product, Row,
+    Shape, Side, Stream, Unit, Values, Window,
 };
 use saber_window::{stamps_fit, step_mark};
 use std::alloc::Global;
+use std::process::Abort;
 use std::test::Fail;
+
+// ---- queries over one stream of three columns: a time, a key and a number
 
 fn single(alloc: Global, factor: Factor) -> Result<Expr, NoMemory>
     ensures { IfOk result (λ e. e ≡ record { minus = false; factors = factor ∷ [] } ∷ []) }
@@ -32,7 +43,7 @@ fn single(alloc: Global, factor: Factor) -> Result<Expr, NoMemory>
 }
 
 fn column(index: u32) -> Factor
-    ensures { result ≡ f.Column s.Left index }
+    ensures { result ≡ factors.Column sides.Left index }
 {
     Factor::Column {
         side: Side::Left,
@@ -40,48 +51,78 @@ fn column(index: u32) -> Factor
     }
 }
 
-// Three columns: a time, a key and a number.
-fn stream(window: Window) -> Stream
-    ensures { result ≡ record { columns = 3; window = Some window } }
+fn stream(measure: Measure, size: u64, slide: u64) -> Stream
+    ensures { result ≡ record { columns = 3; window = Some (record { measure = measure; size = size; slide = slide }) } }
 {
     Stream {
         columns: 3,
-        window: Some(window),
+        window: Some(Window {
+            measure,
+            size,
+            slide,
+        }),
     }
 }
 
-fn window(measure: Measure, slide: u64) -> Window
-    ensures { result ≡ record { measure = measure; size = 3; slide = slide } }
-{
-    Window {
-        measure,
-        size: 3,
-        slide,
-    }
-}
-
-// The key and the sum of the numbers, by the key, of each three rows.
+// SELECT key, SUM(number) .. [ROWS 3 SLIDE 1] GROUP BY key
 fn sums(alloc: Global) -> Result<Plan, NoMemory>
-    ensures { IfOk result (λ p. IsChecked (tree_of p) × ((tree_of p).shape ≡ h.Group) × (columns_on (tree_of p).streams s.Left ≡ 3)) }
+    ensures { IfOk result (λ p. IsChecked (tree_of p) × ((tree_of p).shape ≡ shapes.Group) × (columns_on (tree_of p).streams sides.Left ≡ 3)) }
 {
-    let streams = vec![in alloc; stream(window(Measure::Rows, 1))]?;
+    let streams = vec![in alloc; stream(Measure::Rows, 3, 1)]?;
     let key = Item::Value(single(alloc, column(1))?);
     let sum = Item::Sum(single(alloc, column(2))?);
     let items = vec![in alloc; key, sum]?;
     Ok(Plan::new(Shape::Group, streams, items, vec![in alloc; 1]?, None))
 }
 
-// How many rows of three seconds, every two.
-fn counts(alloc: Global) -> Result<Plan, NoMemory>
-    ensures { IfOk result (λ p. IsChecked (tree_of p) × ((tree_of p).shape ≡ h.Group) × (columns_on (tree_of p).streams s.Left ≡ 3)) }
+// SELECT MIN(number), MAX(number), COUNT(*) .. [RANGE 3 SLIDE 2]
+fn extremes(alloc: Global) -> Result<Plan, NoMemory>
+    ensures { IfOk result (λ p. IsChecked (tree_of p) × ((tree_of p).shape ≡ shapes.Group) × (columns_on (tree_of p).streams sides.Left ≡ 3)) }
 {
-    let streams = vec![in alloc; stream(window(Measure::Range, 2))]?;
+    let streams = vec![in alloc; stream(Measure::Range, 3, 2)]?;
+    let least = Item::Min(single(alloc, column(2))?);
+    let greatest = Item::Max(single(alloc, column(2))?);
+    let items = vec![in alloc; least, greatest, Item::Count]?;
+    Ok(Plan::new(Shape::Group, streams, items, Vec::new(alloc), None))
+}
+
+// SELECT COUNT(*) .. with this window
+fn counts(alloc: Global, measure: Measure, size: u64, slide: u64) -> Result<Plan, NoMemory>
+    requires { WindowFits (record { measure = measure; size = size; slide = slide }) }
+    ensures { IfOk result (λ p. IsChecked (tree_of p) × ((tree_of p).shape ≡ shapes.Group) × (columns_on (tree_of p).streams sides.Left ≡ 3)) }
+{
+    let streams = vec![in alloc; stream(measure, size, slide)]?;
     let items = vec![in alloc; Item::Count]?;
     Ok(Plan::new(Shape::Group, streams, items, Vec::new(alloc), None))
 }
 
+// SELECT COUNT(*) .. [ROWS 2 SLIDE 2] WHERE number > limit
+fn high_counts(alloc: Global, limit: i64) -> Result<Plan, NoMemory>
+    ensures { IfOk result (λ p. IsChecked (tree_of p) × ((tree_of p).shape ≡ shapes.Group) × (columns_on (tree_of p).streams sides.Left ≡ 3)) }
+{
+    let number = single(alloc, column(2))?;
+    let high = Unit::compare(
+        number,
+        Cmp::Greater,
+        single(alloc, Factor::Constant(limit))?,
+    );
+    let units = vec![in alloc; high]?;
+    let predicate = Pred::from_vec(vec![in alloc; Conj::from_vec(units)]?);
+    let streams = vec![in alloc; stream(Measure::Rows, 2, 2)]?;
+    let items = vec![in alloc; Item::Count]?;
+    Ok(Plan::new(
+        Shape::Group,
+        streams,
+        items,
+        Vec::new(alloc),
+        Some(predicate),
+    ))
+}
+
+// ---- rows and blocks
+
 fn row(alloc: Global, time: u32, key: i64, number: i64) -> Result<Row, NoMemory>
-    ensures { IfOk result (λ r. RowFits s.Left 3 r × (stamp r.values ≡ time)) }
+    ensures { IfOk result (λ r. RowFits sides.Left 3 r × (stamp r.values ≡ time)) }
 {
     let values = Values::from_slice(alloc, &[i64::from(time), key, number])?;
     Ok(Row {
@@ -92,177 +133,344 @@ fn row(alloc: Global, time: u32, key: i64, number: i64) -> Result<Row, NoMemory>
 
 // A row of this time can come next, and there is room for it.
 fn follows(mark: &Mark, time: u32) -> bool
-    ensures order { result ≡ true → in_order mark.now.last time ≡ true }
-    ensures room { result ≡ true → mark.now.left < 2 ^ 32 }
+    ensures order { result ≡ true → can_follow mark.now time ≡ true }
+    ensures left { result ≡ true → mark.now.left < 2 ^ 32 }
+    ensures right { result ≡ true → mark.now.right < 2 ^ 32 }
 {
     let in_order = match mark.last {
         Some(last) => last.unsigned_abs() <= u64::from(time),
         None => true,
     };
-    in_order && mark.left < 1 << 32
+    !mark.ended && in_order && mark.left < 1 << 32 && mark.right < 1 << 32
 }
 
-// A task of these rows, after so many others, up to the first that can't come there.
-fn task(
+// A block of these rows, up to the first that can't come there. The mark is stepped over them.
+fn block(
     alloc: Global,
-    left: u32,
-    last: Option<i64>,
+    mark: &mut Mark,
     table: &[(u32, i64, i64)],
-) -> Result<TaskRows, NoMemory>
-    ensures { IfOk result (λ t. (q : Tree) → columns_on q.streams s.Left ≡ 3 → RowsFit q t.before (t.back ++ t.rows)) }
+    ended: bool,
+) -> Result<Block, NoMemory>
+    ensures before { IfOk result (λ b. b.before ≡ mark.old) }
+    ensures ended { IfOk result (λ b. b.ended ≡ ended) }
+    ensures fits { IfOk result (λ b. (q : Tree) (xs : List Row) → columns_on q.streams sides.Left ≡ 3 → RowsFit q no_rows xs → mark.old ≡ mark_of xs → RowsFit q no_rows (xs ++ b.rows)) }
+    ensures mark { IfOk result (λ b. (xs : List Row) → mark.old ≡ mark_of xs → mark.new ≡ mark_of (xs ++ b.rows)) }
 {
-    let before = Mark {
-        left: u64::from(left),
-        right: 0,
-        last,
-    };
+    let before = *mark;
     let mut rows = Rows::new(alloc);
-    let mut mark = before;
     stamps_fit();
     for (time, key, number) in table {
-        if !follows(&mark, *time) {
+        if !follows(mark, *time) {
             break;
         }
         let row = row(alloc, *time, *key, *number)?;
-        mark = step_mark(&mark, &row);
+        *mark = step_mark(mark, &row);
         rows.push(row)?;
     }
-    Ok(TaskRows {
-        task: 0,
+    Ok(Block {
+        number: 0,
+        first: 0,
         before,
-        back: Rows::new(alloc),
         rows,
+        ended,
     })
 }
 
-fn fragment<O: Operator<Part = Partial>>(
+// ---- tasks, one after another
+
+// The piece of one task, which is fed a block without rows.
+fn piece<O: Operator>(alloc: Global, operator: &O, own: &Block) -> Result<O::Piece, NoMemory>
+    requires windows { Fits (frame (O.plan operator.now)) }
+    requires fits { RowsFit (O.plan operator.now) own.now.before own.now.rows }
+    ensures shares { IfOk result (λ p. O.shares operator.now p ≡ shares_here (O.plan operator.now) own.now.before [] own.now.rows own.now.ended) }
+    ensures of { IfOk result (λ p. O.is_of operator.now p own.now.before own.now.rows own.now.ended) }
+{
+    let nothing = Block {
+        number: 0,
+        first: 0,
+        before: own.before,
+        rows: Rows::new(alloc),
+        ended: false,
+    };
+    let mut draft = operator.start(alloc, own)?;
+    operator.feed(alloc, &mut draft, &nothing)?;
+    let piece = operator.finish(alloc, draft)?;
+    Ok(piece)
+}
+
+// The pieces of these tasks.
+fn pieces<O: Operator>(
     alloc: Global,
     operator: &O,
-    task: &TaskRows,
-) -> Result<Piece<Partial>, NoMemory>
-    requires { RowsFit (O.plan operator.now) task.now.before (task.now.back ++ task.now.rows) }
+    tasks: &[&[(u32, i64, i64)]],
+) -> Result<Vec<O::Piece>, NoMemory>
+    requires windows { Fits (frame (O.plan operator.now)) }
+    requires columns { columns_on (O.plan operator.now).streams sides.Left ≡ 3 }
 {
-    operator.fragment(alloc, task)
+    let mut mark = Mark {
+        left: 0,
+        right: 0,
+        last: None,
+        ended: false,
+    };
+    let mut pieces = Vec::new(alloc);
+    for table in tasks {
+        let own = block(alloc, &mut mark, table, false)?;
+        pieces.push(piece(alloc, operator, &own)?)?;
+    }
+    Ok(pieces)
 }
 
-fn gather(
+// Takes in the task of this block.
+fn give<O: Operator>(
+    alloc: Global,
+    operator: &O,
+    own: &Block,
+    store: &mut O::Store,
+    out: &mut Vec<u8>,
+) -> Result<(), NoMemory>
+    requires windows { Fits (frame (O.plan operator.now)) }
+    requires no_join { (O.plan operator.now).shape ≢ shapes.Join }
+    requires next { (xs : List Row) × (own.now.before ≡ mark_of xs) × RowsFit (O.plan operator.now) no_rows (xs ++ own.now.rows) × (O.held store.old ≡ unclosed (O.plan operator.now) (going_on xs)) × O.has_taken operator.now store.old (going_on xs) }
+    ensures held { OnOk result ((xs : List Row) → own.now.before ≡ mark_of xs → RowsFit (O.plan operator.now) no_rows (xs ++ own.now.rows) → O.held store.old ≡ unclosed (O.plan operator.now) (going_on xs) → O.has_taken operator.now store.old (going_on xs)
+        → own.now.ended ≡ false → O.held store.new ≡ unclosed (O.plan operator.now) (going_on (xs ++ own.now.rows))) }
+    ensures taken { OnOk result ((xs : List Row) → own.now.before ≡ mark_of xs → RowsFit (O.plan operator.now) no_rows (xs ++ own.now.rows) → O.held store.old ≡ unclosed (O.plan operator.now) (going_on xs) → O.has_taken operator.now store.old (going_on xs)
+        → own.now.ended ≡ false → O.has_taken operator.now store.new (going_on (xs ++ own.now.rows))) }
+{
+    shares_are_local();
+    shares_make_piece();
+    open_goes_on();
+    let piece = piece(alloc, operator, own)?;
+    operator.take_in(alloc, store, piece, out)?;
+    operator.drop_closed(store);
+    Ok(())
+}
+
+// The text of these tasks and of the flush task, where that is wanted, and the store behind them.
+fn answer<O: Operator>(
+    alloc: Global,
+    operator: &O,
+    tasks: &[&[(u32, i64, i64)]],
+    flush: bool,
+) -> Result<(Vec<u8>, O::Store), NoMemory>
+    requires windows { Fits (frame (O.plan operator.now)) }
+    requires no_join { (O.plan operator.now).shape ≢ shapes.Join }
+    requires columns { columns_on (O.plan operator.now).streams sides.Left ≡ 3 }
+{
+    no_rows_give_nothing();
+    let mut mark = Mark {
+        left: 0,
+        right: 0,
+        last: None,
+        ended: false,
+    };
+    let mut store = operator.empty_store(alloc);
+    let mut out = Vec::new(alloc);
+    for table in tasks {
+        let own = block(alloc, &mut mark, table, false)?;
+        give(alloc, operator, &own, &mut store, &mut out)?;
+    }
+    if flush {
+        let own = block(alloc, &mut mark, &[], true)?;
+        give(alloc, operator, &own, &mut store, &mut out)?;
+    }
+    Ok((out, store))
+}
+
+// The same for a plan.
+fn answer_to(
     alloc: Global,
     plan: &Plan,
-    left: u32,
-    last: Option<i64>,
-    table: &[(u32, i64, i64)],
-) -> Result<Piece<Partial>, NoMemory>
+    tasks: &[&[(u32, i64, i64)]],
+    flush: bool,
+) -> Result<(Vec<u8>, RunStore), NoMemory>
     requires checked { IsChecked (tree_of plan.now) }
-    requires group { (tree_of plan.now).shape ≡ h.Group }
-    requires columns { columns_on (tree_of plan.now).streams s.Left ≡ 3 }
+    requires group { (tree_of plan.now).shape ≡ shapes.Group }
+    requires columns { columns_on (tree_of plan.now).streams sides.Left ≡ 3 }
 {
-    let task = task(alloc, left, last, table)?;
-    fragment(alloc, &Group::new(plan), &task)
+    checked_fit();
+    answer(alloc, &Group::new(plan), tasks, flush)
 }
 
-fn shown(alloc: Global, plan: &Plan, parts: Parts<Partial>) -> Result<Vec<u8>, NoMemory> {
+// The parts that a store holds, as the lines that their windows would print now.
+fn held(alloc: Global, plan: &Plan, store: RunStore) -> Result<Vec<u8>, NoMemory> {
     let mut out = Vec::new(alloc);
-    for (window, part) in parts.into_vec() {
-        part.lines(plan, window, &mut out)?;
+    let mut runs = store.windows.runs;
+    for window in store.windows.next..store.begun {
+        runs.drop_to(alloc, window)?;
+        runs.whole(alloc)?.lines(plan, window, &mut out)?;
+    }
+    Ok(out)
+}
+
+// The runs of the pieces of these tasks, each as the lines that its windows would print of it, with a
+// line between the pieces.
+fn runs(alloc: Global, plan: &Plan, tasks: &[&[(u32, i64, i64)]]) -> Result<Vec<u8>, NoMemory>
+    requires checked { IsChecked (tree_of plan.now) }
+    requires group { (tree_of plan.now).shape ≡ shapes.Group }
+    requires columns { columns_on (tree_of plan.now).streams sides.Left ≡ 3 }
+{
+    checked_fit();
+    let mut out = Vec::new(alloc);
+    for piece in pieces(alloc, &Group::new(plan), tasks)? {
+        for run in &piece.runs {
+            for window in run.first..run.past {
+                run.part.lines(plan, window, &mut out)?;
+            }
+        }
+        out.push(b'\n')?;
     }
     Ok(out)
 }
 
 const ROWS: [(u32, i64, i64); 5] = [(0, 1, 10), (1, 1, 20), (2, 2, 5), (2, 1, 7), (9, 2, 1)];
 
+// The tasks of a query write this text, and leave these parts open.
+fn check(
+    rt: &impl Abort,
+    alloc: Global,
+    plan: &Plan,
+    tasks: &[&[(u32, i64, i64)]],
+    flush: bool,
+    text: &str,
+    open: &str,
+) -> Result<(), NoMemory>
+    requires checked { IsChecked (tree_of plan.now) }
+    requires group { (tree_of plan.now).shape ≡ shapes.Group }
+    requires columns { columns_on (tree_of plan.now).streams sides.Left ≡ 3 }
+{
+    let (out, store) = answer_to(alloc, plan, tasks, flush)?;
+    assert_eq!(rt; out.as_slice(), text.as_bytes());
+    let open_parts = held(alloc, plan, store)?;
+    assert_eq!(rt; open_parts.as_slice(), open.as_bytes());
+    Ok(())
+}
+
+// The text is the same in tasks of one row, of two and of all.
+fn check_cuts(
+    rt: &impl Abort,
+    alloc: Global,
+    plan: &Plan,
+    flush: bool,
+    text: &str,
+    open: &str,
+) -> Result<(), NoMemory>
+    requires checked { IsChecked (tree_of plan.now) }
+    requires group { (tree_of plan.now).shape ≡ shapes.Group }
+    requires columns { columns_on (tree_of plan.now).streams sides.Left ≡ 3 }
+{
+    let ones: &[&[(u32, i64, i64)]] = &[
+        &ROWS[..1],
+        &ROWS[1..2],
+        &ROWS[2..3],
+        &ROWS[3..4],
+        &ROWS[4..],
+    ];
+    check(rt, alloc, plan, ones, flush, text, open)?;
+    let twos: &[&[(u32, i64, i64)]] = &[&ROWS[..2], &ROWS[2..4], &ROWS[4..]];
+    check(rt, alloc, plan, twos, flush, text, open)?;
+    check(rt, alloc, plan, &[&ROWS], flush, text, open)
+}
+
+// The shares of each task, run by run: window 0 has 30 of key 1 from task 0, and 5 of key 2 from task
+// 1, which gives 7 of key 1 and 5 of key 2 to windows 1 and 2.
+#[test]
+fn runs_of_tasks_of_two_rows(rt: HostRuntime) -> Result<(), Fail> {
+    let alloc = rt.alloc();
+    let plan = sums(alloc)?;
+    let shown = runs(alloc, &plan, &[&ROWS[..2], &ROWS[2..4], &ROWS[4..]])?;
+    assert_eq!(&rt;
+        shown.as_slice(),
+        b"0,1,10\n0,1,20\n1,1,20\n\n0,2,5\n1,2,5\n2,2,5\n1,1,7\n2,1,7\n3,1,7\n\n2,2,1\n3,2,1\n4,2,1\n\n".as_slice()
+    );
+    Ok(())
+}
+
+// What each task adds to the text, and what is open behind it.
 #[test]
 fn tasks_of_two_rows(rt: HostRuntime) -> Result<(), Fail> {
     let alloc = rt.alloc();
     let plan = sums(alloc)?;
-    let table = [
-        (0, None, &ROWS[..2], "", "", "0,1,30\n1,1,20\n", 0),
-        (
-            2,
-            Some(1),
-            &ROWS[2..4],
-            "0,2,5\n1,1,7\n1,2,5\n",
-            "",
-            "2,1,7\n2,2,5\n3,1,7\n",
-            2,
-        ),
-        (4, Some(2), &ROWS[4..], "2,2,1\n", "3,2,1\n", "4,2,1\n", 3),
-    ];
-    for (left, last, rows, closing, pending, opening, closed) in table {
-        let piece = gather(alloc, &plan, left, last, rows)?;
-        assert_eq!(rt;
-            shown(alloc, &plan, piece.closing)?.as_slice(),
-            closing.as_bytes()
-        );
-        assert_eq!(rt;
-            shown(alloc, &plan, piece.pending)?.as_slice(),
-            pending.as_bytes()
-        );
-        assert_eq!(rt;
-            shown(alloc, &plan, piece.opening)?.as_slice(),
-            opening.as_bytes()
-        );
-        assert_eq!(rt; piece.complete_text.as_slice(), b"".as_slice());
-        assert_eq!(rt; piece.closed_below, closed);
-    }
+    let first: &[(u32, i64, i64)] = &ROWS[..2];
+    let second: &[(u32, i64, i64)] = &ROWS[2..4];
+    let third: &[(u32, i64, i64)] = &ROWS[4..];
+    check(&rt, alloc, &plan, &[first], false, "", "0,1,30\n1,1,20\n")?;
+    check(
+        &rt,
+        alloc,
+        &plan,
+        &[first, second],
+        false,
+        "0,1,30\n0,2,5\n1,1,27\n1,2,5\n",
+        "2,1,7\n2,2,5\n3,1,7\n",
+    )?;
+    check(
+        &rt,
+        alloc,
+        &plan,
+        &[first, second, third],
+        false,
+        "0,1,30\n0,2,5\n1,1,27\n1,2,5\n2,1,7\n2,2,6\n",
+        "3,1,7\n3,2,1\n4,2,1\n",
+    )?;
     Ok(())
 }
 
+// The flush task has no rows, and closes the windows that are open: all that are begun.
 #[test]
-fn one_task_of_all_rows(rt: HostRuntime) -> Result<(), Fail> {
+fn the_end_closes_what_is_open(rt: HostRuntime) -> Result<(), Fail> {
     let alloc = rt.alloc();
     let plan = sums(alloc)?;
-    let piece = gather(alloc, &plan, 0, None, &ROWS)?;
-    assert_eq!(rt;
-        piece.complete_text.as_slice(),
-        b"0,1,30\n0,2,5\n1,1,27\n1,2,5\n2,1,7\n2,2,6\n".as_slice()
-    );
-    assert_eq!(rt;
-        shown(alloc, &plan, piece.closing)?.as_slice(),
-        b"".as_slice()
-    );
-    assert_eq!(rt;
-        shown(alloc, &plan, piece.pending)?.as_slice(),
-        b"".as_slice()
-    );
-    assert_eq!(rt;
-        shown(alloc, &plan, piece.opening)?.as_slice(),
-        b"3,1,7\n3,2,1\n4,2,1\n".as_slice()
-    );
-    assert_eq!(rt; piece.closed_below, 3);
+    check_cuts(
+        &rt,
+        alloc,
+        &plan,
+        true,
+        "0,1,30\n0,2,5\n1,1,27\n1,2,5\n2,1,7\n2,2,6\n3,1,7\n3,2,1\n4,2,1\n",
+        "",
+    )?;
     Ok(())
 }
 
-// Windows of 0 to 2, 2 to 4, 4 to 6, 6 to 8 and 8 to 10 seconds. The last table has a gap of two
-// thousand million windows.
+// Three seconds every two: a row lies in one window or in two. Windows 2 and 3 close empty.
 #[test]
-fn windows_of_time(rt: HostRuntime) -> Result<(), Fail> {
+fn a_size_that_is_no_multiple_of_the_slide(rt: HostRuntime) -> Result<(), Fail> {
     let alloc = rt.alloc();
-    let plan = counts(alloc)?;
-    let gap = [(0, 5, 5), (4_294_967_294, 5, 5)];
-    let table = [
-        (0, None, &ROWS[..4], "", "0,4\n1,2\n", 0),
-        (4, Some(2), &ROWS[4..], "", "4,1\n", 4),
-        (
-            0,
-            None,
-            gap.as_slice(),
-            "0,1\n",
-            "2147483646,1\n2147483647,1\n",
-            2_147_483_646,
-        ),
-    ];
-    for (left, last, rows, text, opening, closed) in table {
-        let piece = gather(alloc, &plan, left, last, rows)?;
-        assert_eq!(rt; piece.complete_text.as_slice(), text.as_bytes());
-        assert_eq!(rt;
-            shown(alloc, &plan, piece.closing)?.as_slice(),
-            b"".as_slice()
-        );
-        assert_eq!(rt;
-            shown(alloc, &plan, piece.opening)?.as_slice(),
-            opening.as_bytes()
-        );
-        assert_eq!(rt; piece.closed_below, closed);
-    }
+    check_cuts(
+        &rt,
+        alloc,
+        &extremes(alloc)?,
+        false,
+        "0,5,20,4\n1,5,7,2\n",
+        "4,1,1,1\n",
+    )?;
+    Ok(())
+}
+
+// One row of each three: the rows between lie in no window.
+#[test]
+fn gaps_between_windows(rt: HostRuntime) -> Result<(), Fail> {
+    let alloc = rt.alloc();
+    let plan = counts(alloc, Measure::Rows, 1, 3)?;
+    check_cuts(&rt, alloc, &plan, false, "0,1\n1,1\n", "")?;
+    Ok(())
+}
+
+// Four thousand million windows that have no row cost nothing.
+#[test]
+fn a_gap_in_time(rt: HostRuntime) -> Result<(), Fail> {
+    let alloc = rt.alloc();
+    let plan = counts(alloc, Measure::Range, 1, 1)?;
+    let rows: &[(u32, i64, i64)] = &[(0, 1, 1), (4_294_967_295, 1, 1)];
+    check(&rt, alloc, &plan, &[rows], false, "0,1\n", "4294967295,1\n")?;
+    Ok(())
+}
+
+// Rows that fail WHERE count as rows of ROWS windows, and give nothing.
+#[test]
+fn rows_that_fail_are_counted(rt: HostRuntime) -> Result<(), Fail> {
+    let alloc = rt.alloc();
+    check_cuts(&rt, alloc, &high_counts(alloc, 5)?, false, "0,2\n1,1\n", "")?;
+    check_cuts(&rt, alloc, &high_counts(alloc, 100)?, false, "", "")?;
     Ok(())
 }

@@ -15,11 +15,11 @@ use Rattle.saber_plan.specs.Answers.{frame}
 use Rattle.saber_plan.specs.Parts.{no_part, pair_part}
 use Rattle.saber_plan.specs.Needs.{first_window, past_window, part_here}
 use Rattle.saber_plan.specs.Given.{RowsFit}
+use Rattle.saber_plan.specs.RowFacts.{mark-append}
 use Rattle.saber_laws.specs.Parts.{NoRowsNoPart}
 use Rattle.saber_laws.specs.Needs.{RowsSpan}
 use Rattle.saber_laws.specs.Windows.{BegunStay}
 use Rattle.saber_laws.specs.Plans.{TwoWindows}
-use Rattle.saber_join.proofs.Following.{mark-append}
 use Rattle.saber_join.proofs.Task.{part_is}
 
 count_next : (slide p : ℕ) → count_to slide 0 p ≡ count_to slide 1 (p + 1)

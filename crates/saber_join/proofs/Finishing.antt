@@ -7,10 +7,9 @@ use Rattle.std.specs.FinMap.{is_sorted}
 use Rattle.saber_plan.specs.declared.rows.Row.{Row}
 use Rattle.saber_plan.specs.declared.windows.Mark.{Mark}
 use Rattle.saber_plan.specs.declared.windows.Kind.{Kind}
-use Rattle.saber_plan.specs.declared.windows.Kind.TheVariants.{Opening, Closing, Pending, Complete}
 use Rattle.saber_plan.specs.declared.plans.Shape.TheVariants.{Join}
 use Rattle.saber_plan.specs.Trees.{Tree}
-use Rattle.saber_plan.specs.Windows.{Fits, mark_after, has, closed, begun, closed_count, begun_count, kind_of, from}
+use Rattle.saber_plan.specs.Windows.{Fits, mark_after, ending, has, closed_count, begun_count, kind_of, from}
 use Rattle.saber_plan.specs.Answers.{by_shape, frame, selected}
 use Rattle.saber_plan.specs.Parts.{Part, no_part, part_lines}
 use Rattle.saber_plan.specs.Tasks.{full, is_complete}
@@ -18,50 +17,34 @@ use Rattle.saber_plan.specs.Needs.{is_closing, is_pending, is_opening, of_kind, 
 use Rattle.saber_plan.specs.Checked.{IsChecked}
 use Rattle.saber_plan.specs.Given.{RowsFit}
 use Rattle.saber_plan.specs.Shares.{shares_here}
-use Rattle.saber_fragment.specs.Shown.{windows_by}
+use Rattle.saber_plan.specs.RowFacts.{Ordered-append}
 use Rattle.saber_laws.specs.Windows.{ClosedAreCounted, BegunAreCounted, BegunStay}
+use Rattle.saber_laws.specs.Ends.{EndsBeginNone}
 use Rattle.saber_laws.specs.Needs.{RowsSpan}
 use Rattle.saber_laws.specs.Parts.{NoRowsNoPart}
 use Rattle.saber_laws.specs.Pairs.{PairsAreInOrder}
 use Rattle.saber_laws.specs.Plans.{TwoWindows}
 use Rattle.saber_window.specs.Laws.{ClosedWithinBegun}
-use Rattle.saber_join.specs.declared.gathered.Bounds.{Bounds}
+use Rattle.saber_parts.specs.declared.bounds.Bounds.{Bounds}
 use Rattle.saber_join.specs.Found.{pair_lines}
 use Rattle.saber_join.specs.Keeping.{Held}
 use Rattle.saber_join.specs.Open.{seen_held, HoldsTask}
-use Rattle.saber_join.specs.Kinds.{kind_in}
-use Rattle.saber_join.specs.Entries.{entry_if, lines_if, entries_by, lines_by, Gave}
-use Rattle.saber_join.proofs.Following.{Ordered-append}
+use Rattle.saber_parts.specs.Kinds.{kind_in}
+use Rattle.saber_parts.specs.WindowFacts.{entry_is, kind_is}
+use Rattle.saber_parts.specs.Entries.{entry_if}
+use Rattle.saber_join.specs.Entries.{lines_if, entries_by, lines_by, Gave}
 use Rattle.saber_join.proofs.Task.{part_is}
-use Rattle.saber_join.proofs.Numbering.{flat_map-from, flat_none, flat_filter, from_more, numbered_is}
-use Rattle.saber_join.proofs.Entering.{no_entry, no_lines}
+use Rattle.saber_parts.specs.NumberFacts.{flat_map-from, flat_none, flat_filter, from_more, numbered_is}
+use Rattle.saber_parts.specs.WindowFacts.{no_entry}
+use Rattle.saber_join.proofs.Entering.{no_lines}
 use Rattle.saber_join.proofs.Spread.{seen, part_in, part_is_in, rise_all, spread}
 use Rattle.saber_join.proofs.Beginning.{none_begun}
 use Rattle.saber_join.proofs.Answering.{lines_of}
-
-entry_is : (w : Bool) (i : ℕ) (p : Part) → entry_if w i p ≡ option_map_or (λ r. (i, r) ∷ []) (cond w (full p) None) []
-entry_is true i p = refl
-entry_is false i p = refl
-
--- parts that are shown as they are
-pub as_they_are : (es : List (ℕ × Part)) → windows_by (λ p. p) es ≡ es
-as_they_are [] = refl
-as_they_are (e ∷ es) = ap (λ l. e ∷ l) (as_they_are es)
 
 -- what is known of the bounds of a task
 pub record AreBounds (q : Tree) (a z : Mark) (b : Bounds) : Type 0 where
   pub begun_before : b.begun_before ≡ begun_count (frame q) a
   pub closed_after : b.closed_after ≡ closed_count (frame q) z
-
--- a window's kind, by counts and by the definition
-kind_is : ClosedAreCounted → BegunAreCounted → (q : Tree) → Fits (frame q) → (a z : Mark) (b : Bounds) → AreBounds q a z b → (i : ℕ) → closed_count (frame q) a ≤ i → i < begun_count (frame q) z → Some (kind_in b i) ≡ kind_of (frame q) i a z
-kind_is closed_are begun_are q fits a z b given i low high =
-    let f = frame q in
-    let not_closed : closed f i a ≡ false = sym (closed_are f fits i a) ∙ le-ltb i (closed_count f a) low in
-    let is_begun : begun f i z ≡ true = sym (begun_are f fits i z) ∙ lt-ltb i (begun_count f z) high in
-    let closes : closed f i z ≡ nat_lt i b.closed_after = sym (closed_are f fits i z) ∙ ap (nat_lt i) (sym given.closed_after) in
-    let before : begun f i a ≡ nat_lt i b.begun_before = sym (begun_are f fits i a) ∙ ap (nat_lt i) (sym given.begun_before) in
-    sym (λ j. cond (not_closed j) None (cond (is_begun j) (Some (cond (closes j) (cond (before j) Closing Complete) (cond (before j) Pending Opening))) None))
 
 low_case : (b : Bool) (p : Part) → p ≡ no_part → cond b no_part p ≡ no_part
 low_case true p h = refl
@@ -89,35 +72,40 @@ pub record Laws : Type 0 where
   pub begun_are : BegunAreCounted
   pub stay : BegunStay
   pub within : ClosedWithinBegun
+  pub begins : EndsBeginNone
   pub span : RowsSpan
   pub none : NoRowsNoPart
   pub order : PairsAreInOrder
 
-module _ (laws : Laws) (q : Tree) (checked : IsChecked q) (e : q.shape ≡ Join) (w : TwoWindows q) (fits : Fits (frame q)) (m : Mark) (back rows : List Row) (h : RowsFit q m (back ++ rows)) (b : Bounds) (given : AreBounds q (mark_after m back) (mark_after (mark_after m back) rows) b)
+module _ (laws : Laws) (q : Tree) (checked : IsChecked q) (e : q.shape ≡ Join) (w : TwoWindows q) (fits : Fits (frame q)) (m : Mark) (back rows : List Row) (ended : Bool) (h : RowsFit q m (back ++ rows)) (b : Bounds) (given : AreBounds q (mark_after m back) (ending ended (mark_after (mark_after m back) rows)) b)
     (es : List (ℕ × Held)) (sorted : T (is_sorted nat_cmp (seen es))) (holds : HoldsTask q (closed_count (frame q) (mark_after m back)) m back rows (seen_held es)) where
   abbrev a : Mark
   a = mark_after m back
 
   abbrev z : Mark
-  z = mark_after (mark_after m back) rows
+  z = ending ended (mark_after (mark_after m back) rows)
 
   abbrev c : ℕ
   c = closed_count (frame q) (mark_after m back)
 
   abbrev n : ℕ
-  n = begun_count (frame q) (mark_after (mark_after m back) rows)
+  n = begun_count (frame q) (ending ended (mark_after (mark_after m back) rows))
+
+  -- the end begins none of them
+  begins : begun_count (frame q) (mark_after (mark_after m back) rows) ≡ n
+  begins = sym (laws.begins (frame q) ended (mark_after (mark_after m back) rows)).counts
 
   abbrev at : ℕ → Part
   at i = part_here q i m back rows
 
   within : c ≤ n
-  within = le_trans (laws.within (frame q) fits a) (laws.stay (frame q) fits a rows (Ordered-append m back rows h.ordered).1)
+  within = subst (λ k. c ≤ k) begins (le_trans (laws.within (frame q) fits a) (laws.stay (frame q) fits a rows (Ordered-append m back rows h.ordered).1))
 
   ends : (i : ℕ) → n ≤ i → at i ≡ no_part
-  ends i l = none_begun laws.span laws.stay laws.none q e w fits m back rows h i l
+  ends i l = none_begun laws.span laws.stay laws.none q e w fits m back rows h i (subst (λ k. k ≤ i) (sym begins) l)
 
   kind : (i : ℕ) → c ≤ i → i < c + (n - c) → Some (kind_in b i) ≡ kind_of (frame q) i a z
-  kind i l r = let up = within in kind_is laws.closed_are laws.begun_are q fits a z b given i l (omega (arith, l, r, up))
+  kind i l r = let up = within in kind_is laws.closed_are laws.begun_are (frame q) fits a z b given.begun_before given.closed_after i l (omega (arith, l, r, up))
 
   entries_are : (wanted : Option Kind → Bool) → entries_by wanted b es ≡ of_kind wanted (frame q) a z at
   unfolding of_kind
@@ -139,7 +127,7 @@ module _ (laws : Laws) (q : Tree) (checked : IsChecked q) (e : q.shape ≡ Join)
       ∙ flat_map-from _ (λ i. cond (complete i) (part_lines q i (at i)) []) c (n - c) (λ i l r j. cond (is_complete (kind i l r j)) (here_lines i j) [])
       ∙ flat_filter (λ i. part_lines q i (at i)) complete (from c (n - c))
 
-  pub shares_are : (cs ps os : List (ℕ × Part)) (t : List ℕ) → Gave b es cs ps os t → record { closing = cs; pending = ps; opening = os; lines = t; closed = b.closed_after } ≡ shares_here q m back rows
+  pub shares_are : (cs ps os : List (ℕ × Part)) (t : List ℕ) → Gave b es cs ps os t → record { closing = cs; pending = ps; opening = os; lines = t; closed = b.closed_after } ≡ shares_here q m back rows ended
   unfolding shares_here piece_here
   shares_are cs ps os t gave =
       let whole = flat_map (λ i. part_lines q i (at i)) (filter complete (from c (n - c))) in

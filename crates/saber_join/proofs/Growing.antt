@@ -1,5 +1,5 @@
 -- Rows taken into windows, one after another.
-use Rattle.std.proofs.Common.{◌≡◌, ℕ, ◌+◌, ◌<◌, max, List, [], ◌∷◌, ◌++◌, take, length, get_or, Bool, true, false, cond, ◌&&◌, nat_le, nat_lt, refl, sym, ◌∙◌, ap, subst, subst₂, ◌^◌, arith}
+use Rattle.std.proofs.Common.{◌≡◌, ℕ, ◌+◌, ◌<◌, max, List, [], ◌∷◌, ◌++◌, take, length, get_or, Bool, true, false, cond, ◌&&◌, nat_le, nat_lt, refl, sym, ◌∙◌, ap, subst, ◌^◌, arith, subst₂}
 use Rattle.std.proofs.lemmas.Grind.{fold-append}
 use Rattle.std.proofs.lemmas.Bool.Decides.{nat_tests}
 use Rattle.saber_plan.specs.declared.rows.Row.{Row}
@@ -8,10 +8,10 @@ use Rattle.saber_plan.specs.Trees.{Tree}
 use Rattle.saber_plan.specs.Windows.{Frame, Fits, Placed, has, mark_after, placed_after}
 use Rattle.saber_plan.specs.Needs.{first_window, past_window}
 use Rattle.saber_plan.specs.Given.{RowsFit}
+use Rattle.saber_plan.specs.RowFacts.{placed_more, left_small, right_small}
 use Rattle.saber_laws.specs.Needs.{RowsSpan}
 use Rattle.saber_join.specs.Keeping.{Held}
 use Rattle.saber_join.specs.Open.{Windows, held_in, Changed, grown, Grown}
-use Rattle.saber_join.proofs.Following.{placed_more, left_small, right_small}
 
 both_same : {X : Type 0} (b : Bool) (x : X) → x ≡ cond b x x
 both_same true x = refl

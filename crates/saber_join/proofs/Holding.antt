@@ -1,6 +1,5 @@
 -- One more row held of a window.
 use Rattle.std.proofs.Common.{◌≡◌, ℕ, ◌+◌, ◌≤◌, ◌<◌, max, List, [], ◌∷◌, ◌++◌, filter, flat_map, length, Bool, true, false, cond, nat_le, ℤ, refl, sym, ◌∙◌, ap, append-nil, arith}
-use Rattle.std.specs.List.{AllByRecursion}
 use Rattle.std.specs.FinMap.{from_entries}
 use Rattle.std.proofs.lemmas.Bool.{lt-leb}
 use Rattle.std.proofs.lemmas.List.Elements.{filter-append}
@@ -16,13 +15,13 @@ use Rattle.saber_plan.specs.Given.{IsRowOf}
 use Rattle.saber_plan.specs.Answers.{key_cmp, is_left, is_right, pairs_with, pairs, frame}
 use Rattle.saber_plan.specs.Parts.{Part, Numbers, no_part, pair_numbers, pair_part, later}
 use Rattle.saber_plan.specs.Pairing.{row_pairs, with_entries}
-use Rattle.saber_plan.specs.ListFacts.{Each, each-filter, each-map, each-weaker, dropped}
+use Rattle.saber_plan.specs.ListFacts.{Each, each-filter, each-map, each-weaker, dropped, all_append}
+use Rattle.saber_plan.specs.RowFacts.{placed-append, placed-one}
 use Rattle.saber_laws.specs.Pairs.{WindowsGetPairs, after_rows, with_row}
 use Rattle.saber_laws.specs.Parts.{NoRowsNoPart}
 use Rattle.saber_join.specs.Rows.{IsOn, AllOn}
 use Rattle.saber_join.specs.Adding.{with_rights, with_lefts}
 use Rattle.saber_join.specs.Keeping.{Held, noted, taken, held_of, HeldFits}
-use Rattle.saber_join.proofs.Following.{placed-append, placed-one}
 
 abbrev held : List Placed → List Placed → Part → Held
 held ls rs p = record { lefts = ls; rights = rs; part = p }
@@ -52,13 +51,9 @@ take_right q h x e = right_case q h x x.row.side e ∙ take_parts q h x
 
 -- ---- its rows are rows of their sides
 
-all_push : {A : Type 0} (P : A → Type 0) (xs : List A) (x : A) → AllByRecursion P xs → P x → AllByRecursion P (xs ++ x ∷ [])
-all_push P [] x h p = (p, tt)
-all_push P (y ∷ xs) x h p = (h.0, all_push P xs x h.1 p)
-
 side_fits : (q : Tree) (h : Held) (x : Placed) (s : Side) → x.row.side ≡ s → IsRowOf q x.row → HeldFits q h → AllOn q Left (by_side s (h.lefts ++ x ∷ []) h.lefts) × AllOn q Right (by_side s h.rights (h.rights ++ x ∷ []))
-side_fits q h x Left e r f = (all_push (λ (y : Placed). IsOn q Left y.row) h.lefts x f.lefts (record { row = r; side = e }), f.rights)
-side_fits q h x Right e r f = (f.lefts, all_push (λ (y : Placed). IsOn q Right y.row) h.rights x f.rights (record { row = r; side = e }))
+side_fits q h x Left e r f = (all_append (λ (y : Placed). IsOn q Left y.row) h.lefts (x ∷ []) f.lefts (record { row = r; side = e }, tt), f.rights)
+side_fits q h x Right e r f = (f.lefts, all_append (λ (y : Placed). IsOn q Right y.row) h.rights (x ∷ []) f.rights (record { row = r; side = e }, tt))
 
 pub noted_fits : (q : Tree) (h : Held) (x : Placed) → IsRowOf q x.row → HeldFits q h → HeldFits q (noted h x)
 noted_fits q h x r f = let both = side_fits q h x x.row.side refl r f in record { lefts = both.0; rights = both.1 }

@@ -1,24 +1,15 @@
--- The order of keys, and maps of them.
+-- Pairs put into a part that has none of them.
 use Rattle.std.proofs.Common.{◌≡◌, List, ◌∷◌, Bool, true, false, cond, T, ℤ, Option, Some, None, refl, sym, ◌∙◌, ap}
-use Rattle.std.proofs.lemmas.Cmp.{lists_total, int_cmp_total}
-use Rattle.std.specs.Cmp.{IsTotalOrder, tied_itself}
+use Rattle.std.specs.Cmp.{tied_itself}
 use Rattle.std.specs.Ordering.{eq_by_cmp, is_eq}
-use Rattle.std.specs.FinMap.{get, insert, from_entries, find, is_sorted, get-from_entries, get-insert, IsAntisymmetric, slice_cmp-IsAntisymmetric, int_cmp-IsAntisymmetric}
+use Rattle.std.specs.FinMap.{get, insert, from_entries, find, is_sorted, get-from_entries, get-insert}
 use Rattle.std.specs.FinMap.Entries.{find_tied}
 use Rattle.saber_plan.specs.Answers.{key_cmp}
 use Rattle.saber_plan.specs.Merges.{joined}
-use Rattle.saber_plan.specs.MapFacts.{equal_if, take_one, first_alone, both-empty_right}
-use Rattle.saber_plan.specs.Parts.{Part, no_part, Numbers, join_numbers, merge}
+use Rattle.saber_plan.specs.MapFacts.{equal_if, take_one, first_alone}
+use Rattle.saber_plan.specs.PartFacts.{total, exact}
+use Rattle.saber_plan.specs.Parts.{Part, Numbers, join_numbers, merge}
 use Rattle.saber_join.specs.Found.{Apart}
-
-pub total : IsTotalOrder key_cmp
-total = lists_total int_cmp_total
-
-pub exact : IsAntisymmetric key_cmp
-exact = slice_cmp-IsAntisymmetric int_cmp-IsAntisymmetric
-
-pub merge-empty_right : (a : Part) → merge a no_part ≡ a
-merge-empty_right a = both-empty_right total join_numbers exact a
 
 pub not_both : {A : Type 0} {o : Option A} {y : A} → o ≡ None → o ≡ Some y → ⊥
 not_both e h = cc

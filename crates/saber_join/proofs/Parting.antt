@@ -1,5 +1,5 @@
 -- Parts over rows that follow one another have no pair in common.
-use Rattle.std.proofs.Common.{◌≡◌, ℕ, ◌<◌, List, take, Bool, true, false, cond, nat_le, Option, Some, None, ℤ, refl, sym, ◌∙◌, ap, subst₂, length-take, arith}
+use Rattle.std.proofs.Common.{◌≡◌, ℕ, ◌<◌, List, take, Bool, true, false, cond, nat_le, Option, Some, None, ℤ, refl, sym, ◌∙◌, ap, length-take, arith, subst₂}
 use Rattle.std.specs.FinMap.{get, find, get-from_entries, get-empty}
 use Rattle.std.specs.FinMap.Entries.{find-where_key}
 use Rattle.saber_plan.specs.declared.rows.Row.{Row}
@@ -10,9 +10,10 @@ use Rattle.saber_plan.specs.Answers.{key_cmp, pairs, frame}
 use Rattle.saber_plan.specs.Parts.{Part, Numbers, pair_numbers, pair_part, later}
 use Rattle.saber_plan.specs.Given.{AreNeighbors}
 use Rattle.saber_plan.specs.ListFacts.{Each, each-filter}
+use Rattle.saber_plan.specs.PartFacts.{total, exact}
 use Rattle.saber_laws.specs.Parts.{NoRowsNoPart}
 use Rattle.saber_join.specs.Found.{Apart}
-use Rattle.saber_join.proofs.Keyed.{total, exact, not_both}
+use Rattle.saber_join.proofs.Keyed.{not_both}
 use Rattle.saber_join.proofs.Holding.{placed_below, pair_part-none}
 use Rattle.saber_join.proofs.Answering.{part_of_pairs}
 

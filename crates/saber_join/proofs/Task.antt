@@ -8,11 +8,11 @@ use Rattle.saber_plan.specs.Windows.{has, step_mark, mark_after, placed_after}
 use Rattle.saber_plan.specs.Answers.{frame, by_shape, passing}
 use Rattle.saber_plan.specs.Parts.{no_part, pair_part, group_part}
 use Rattle.saber_plan.specs.Needs.{part_here}
+use Rattle.saber_plan.specs.RowFacts.{mark-append}
 use Rattle.saber_laws.specs.Pairs.{WindowsGetPairs, after_rows}
 use Rattle.saber_laws.specs.Parts.{NoRowsNoPart}
 use Rattle.saber_join.specs.Keeping.{Held, nothing, noted, taken, held_of}
 use Rattle.saber_join.specs.Open.{Windows, held_in, grown, Grown, HoldsTask}
-use Rattle.saber_join.proofs.Following.{mark-append}
 use Rattle.saber_join.proofs.Holding.{behind, behind_after, placed_below, held-take, held-stays, held-note}
 
 -- ---- rows before the task's

@@ -1,6 +1,5 @@
 -- Rows of tests, one after another.
-use Rattle.std.proofs.Common.{◌≡◌, ◌+◌, ◌^◌, ◌≤◌, ◌<◌, List, [], ◌∷◌, ◌++◌, true, sym, ◌∙◌, ap, subst, subst₂, le_trans, append_assoc, append-nil, arith}
-use Rattle.std.specs.List.{AllByRecursion}
+use Rattle.std.proofs.Common.{◌≡◌, ◌+◌, ◌^◌, ◌≤◌, ◌<◌, List, [], ◌∷◌, ◌++◌, true, sym, ◌∙◌, ap, subst, le_trans, append_assoc, append-nil, arith, subst₂}
 use Rattle.saber_plan.specs.declared.rows.Side.{Side}
 use Rattle.saber_plan.specs.declared.rows.Side.TheVariants.{Left, Right}
 use Rattle.saber_plan.specs.declared.rows.Row.{Row}
@@ -8,20 +7,17 @@ use Rattle.saber_plan.specs.declared.rows.Values.{Values}
 use Rattle.saber_plan.specs.declared.windows.Mark.{Mark}
 use Rattle.saber_plan.specs.Rows.{stamp, RowFits}
 use Rattle.saber_plan.specs.Trees.{Tree}
-use Rattle.saber_plan.specs.Windows.{step_mark, mark_after, in_order, Ordered}
+use Rattle.saber_plan.specs.Windows.{step_mark, mark_after, can_follow, Ordered}
 use Rattle.saber_plan.specs.Checked.{columns_on}
+use Rattle.saber_fragment.specs.Drafts.{begins}
 use Rattle.saber_plan.specs.Given.{IsRowOf, RowsFit}
-use Rattle.saber_join.proofs.Following.{mark-append}
+use Rattle.saber_plan.specs.RowFacts.{mark-append, Ordered-join}
+use Rattle.saber_plan.specs.ListFacts.{all_append}
 
 -- one row more
-ordered_more : (m : Mark) (xs : List Row) (x : Row) → Ordered m xs → in_order (mark_after m xs).last (stamp x.values) ≡ true → Ordered m (xs ++ x ∷ [])
+one_ordered : (m : Mark) (x : Row) → can_follow m (stamp x.values) ≡ true → Ordered m (x ∷ [])
 unfolding Ordered
-ordered_more m [] x o h = (h, tt)
-ordered_more m (y ∷ xs) x o h = (o.0, ordered_more (step_mark m y) xs x o.1 h)
-
-all_more : {A : Type 0} (P : A → Type 0) (xs : List A) (x : A) → AllByRecursion P xs → P x → AllByRecursion P (xs ++ x ∷ [])
-all_more P [] x h p = (p, tt)
-all_more P (y ∷ xs) x h p = (h.0, all_more P xs x h.1 p)
+one_ordered m x h = (h, tt)
 
 left_next : (m : Mark) (s : Side) (v : Values) → (step_mark m (record { side = s; values = v })).left ≤ m.left + 1
 left_next m Left v = omega arith
@@ -31,14 +27,14 @@ right_next : (m : Mark) (s : Side) (v : Values) → (step_mark m (record { side 
 right_next m Left v = omega arith
 right_next m Right v = omega arith
 
-fits_more : (q : Tree) (m n : Mark) (xs : List Row) (x : Row) → RowsFit q m xs → n ≡ mark_after m xs → IsRowOf q x → in_order n.last (stamp x.values) ≡ true → n.left < 2 ^ 32 → n.right < 2 ^ 32 → RowsFit q m (xs ++ x ∷ [])
+fits_more : (q : Tree) (m n : Mark) (xs : List Row) (x : Row) → RowsFit q m xs → n ≡ mark_after m xs → IsRowOf q x → can_follow n (stamp x.values) ≡ true → n.left < 2 ^ 32 → n.right < 2 ^ 32 → RowsFit q m (xs ++ x ∷ [])
 fits_more q m n xs x h e row o left right =
     let next = ap (λ a. step_mark a x) e ∙ sym (mark-append m xs (x ∷ [])) in
     let low = left_next n x.side x.values in
     let high = right_next n x.side x.values in
     record {
-      rows = all_more (IsRowOf q) xs x h.rows row;
-      ordered = ordered_more m xs x h.ordered (subst (λ (a : Mark). in_order a.last (stamp x.values) ≡ true) e o);
+      rows = all_append (IsRowOf q) xs (x ∷ []) h.rows (row, tt);
+      ordered = Ordered-join m xs (x ∷ []) h.ordered (one_ordered (mark_after m xs) x (subst (λ (a : Mark). can_follow a (stamp x.values) ≡ true) e o));
       left = subst (λ (a : Mark). a.left ≤ 2 ^ 40) next (le_trans low (omega (arith, left)));
       right = subst (λ (a : Mark). a.right ≤ 2 ^ 40) next (le_trans high (omega (arith, right)));
     }
@@ -66,7 +62,12 @@ CanFollow before rows = (q : Tree) (m : Mark) (xs : List Row) → columns_on q.s
 pub follow_none : (before : Mark) (rows : List Row) → rows ≡ [] → CanFollow before rows
 follow_none before rows none q m xs l r e h = subst (RowsFit q m) (sym (ap (λ ys. xs ++ ys) none ∙ append-nil xs)) h
 
-pub follow_more : (before n : Mark) (rows : List Row) (s : Side) (x : Row) → n ≡ mark_after before rows → RowFits s 2 x → in_order n.last (stamp x.values) ≡ true → n.left < 2 ^ 32 → n.right < 2 ^ 32 → CanFollow before rows → CanFollow before (rows ++ x ∷ [])
+pub follow_more : (before n : Mark) (rows : List Row) (s : Side) (x : Row) → n ≡ mark_after before rows → RowFits s 2 x → can_follow n (stamp x.values) ≡ true → n.left < 2 ^ 32 → n.right < 2 ^ 32 → CanFollow before rows → CanFollow before (rows ++ x ∷ [])
 follow_more before n rows s x here fits o left right more q m xs l r e h =
     let there : n ≡ mark_after m (xs ++ rows) = here ∙ ap (λ a. mark_after a rows) e ∙ sym (mark-append m xs rows) in
     subst (RowsFit q m) (append_assoc xs rows (x ∷ [])) (fits_more q m n (xs ++ rows) x (more q m xs l r e h) there (row_of q s x l r fits) o left right)
+
+-- rows that are there begin where they began
+pub begins_there : (rows : List Row) (a b : Mark) → b ≡ mark_after a rows → begins rows a b ≡ a
+begins_there [] a b e = e
+begins_there (x ∷ xs) a b e = λ i. a

@@ -1,23 +1,16 @@
 -- What windows give to a task's piece.
-use Rattle.std.specs.Prelude.{◌≡◌, ℕ, List, [], ◌∷◌, flat_map, Option, Some, Bool, if◌then◌else◌}
-use Rattle.std.specs.Option.{option_map_or}
+use Rattle.std.specs.Prelude.{◌≡◌, ℕ, List, [], flat_map, Option, Some, Bool, if◌then◌else◌}
 use Rattle.saber_plan.specs.declared.windows.Kind.{Kind}
 use Rattle.saber_plan.specs.Parts.{Part}
-use Rattle.saber_plan.specs.Tasks.{full, is_complete}
+use Rattle.saber_plan.specs.Tasks.{is_complete}
 use Rattle.saber_plan.specs.Needs.{is_closing, is_pending, is_opening}
-use Rattle.saber_join.specs.declared.gathered.Bounds.{Bounds}
+use Rattle.saber_parts.specs.declared.bounds.Bounds.{Bounds}
+use Rattle.saber_parts.specs.Kinds.{kind_in}
+use Rattle.saber_parts.specs.Entries.{entry_if}
 use Rattle.saber_join.specs.Found.{pair_lines}
 use Rattle.saber_join.specs.Keeping.{Held}
-use Rattle.saber_join.specs.Kinds.{kind_in}
 
--- a window's part, unless that is empty
-abbrev pub entry : ℕ → Part → List (ℕ × Part)
-entry i p = option_map_or (λ r. (i, r) ∷ []) (full p) []
-
-abbrev pub entry_if : Bool → ℕ → Part → List (ℕ × Part)
-entry_if wanted i p = if wanted then entry i p else []
-
--- its lines
+-- the lines of a window
 abbrev pub lines_if : Bool → ℕ → Part → List ℕ
 lines_if wanted i p = if wanted then pair_lines i p else []
 

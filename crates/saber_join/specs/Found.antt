@@ -1,7 +1,6 @@
 -- The pairs found of a window: entries of a tree map, and the part that they are.
-use Rattle.std.specs.Prelude.{◌≡◌, ℕ, List, [], ◌∷◌, ◌++◌, flat_map, map, Vec, ℤ, pos, Some, None}
+use Rattle.std.specs.Prelude.{◌≡◌, ℕ, List, [], ◌∷◌, flat_map, map, Vec, ℤ, pos, Some, None}
 use Rattle.std.proofs.Common.{Global}
-use Rattle.std.specs.Fmt.{signed_decimal}
 use Rattle.std.specs.FinMap.{get, entries, from_entries}
 use Rattle.saber_plan.specs.Answers.{key_cmp, line}
 use Rattle.saber_plan.specs.Parts.{Part, Numbers}
@@ -21,10 +20,6 @@ seen_pairs es = from_entries {R = key_cmp} (seen_entries es)
 pub record Apart (a b : Part) : Type 0 where
   pub at : (k : List ℤ) (v : Numbers) → get b k ≡ Some v → get a k ≡ None
 
--- numbers with a comma before each
-abbrev pub cells : List ℤ → List ℕ
-cells zs = flat_map (λ z. 44 ∷ signed_decimal z) zs
-
 -- a line for each pair's values
 abbrev pub lines_for : ℕ → List (List ℤ) → List ℕ
 lines_for i vs = flat_map (λ zs. line (pos i ∷ zs)) vs
@@ -35,8 +30,3 @@ values_in p = map (λ e. e.1.firsts) (entries p)
 
 abbrev pub pair_lines : ℕ → Part → List ℕ
 pair_lines i p = lines_for i (values_in p)
-
--- a text with something behind it, or nothing
-pub record Behind (old new : List ℕ) : Type 0 where
-  pub more : List ℕ
-  pub all : new ≡ old ++ more

@@ -3,5 +3,5 @@ pub mod Rows
 pub mod Adding
 pub mod Keeping
 pub mod Open
-pub mod Kinds
 pub mod Entries
+pub mod Sights

@@ -6,6 +6,8 @@
 //! and neither does a gap in time.
 #![tactic(auto)]
 
+mod assembles;
+mod draft;
 mod gathered;
 mod held;
 mod join;
@@ -15,6 +17,7 @@ mod pairs;
 mod seen;
 mod windows;
 
+pub use draft::JoinDraft;
 pub use join::Join;
 pub use pairs::Pairs;
 

@@ -1,36 +1,13 @@
 // The lines of pairs.
-ghost use Rattle.std.specs.Prelude.{◌≡◌, ◌∷◌, ◌++◌, OnOk, OnErr, decimal, pos};
-ghost use Rattle.std.specs.Fmt.{signed_decimal};
+ghost use Rattle.std.specs.Prelude.{◌≡◌, ◌∷◌, ◌++◌, OnOk, OnErr, pos};
 ghost use Rattle.saber_plan.specs.Answers.{line};
-ghost use Rattle.saber_join.specs.Found.{cells, lines_for, values_in, pair_lines, Behind};
+ghost use Rattle.saber_plan.specs.Texts.{Behind};
+ghost use Rattle.saber_cells.specs.Cells.{cells};
+ghost use Rattle.saber_join.specs.Found.{lines_for, values_in, pair_lines};
 
 use crate::pairs::Pairs;
-use itoa::Buffer;
+use saber_cells::{write_cell, write_count};
 use saber_plan::NoMemory;
-
-fn write_window(out: &mut Vec<u8>, window: u64) -> Result<(), NoMemory>
-    ensures ok { OnOk result (out.new.items ≡ out.old.items ++ decimal window) }
-    ensures behind { Behind out.old.items out.new.items }
-{
-    let mut digits = Buffer::new();
-    out.extend_from_slice(digits.format(window).as_bytes())
-}
-
-fn write_number(out: &mut Vec<u8>, number: i128) -> Result<(), NoMemory>
-    ensures ok { OnOk result (out.new.items ≡ out.old.items ++ signed_decimal number) }
-    ensures behind { Behind out.old.items out.new.items }
-{
-    let mut digits = Buffer::new();
-    out.extend_from_slice(digits.format(number).as_bytes())
-}
-
-fn write_cell(out: &mut Vec<u8>, number: i128) -> Result<(), NoMemory>
-    ensures ok { OnOk result (out.new.items ≡ out.old.items ++ 44 ∷ signed_decimal number) }
-    ensures behind { Behind out.old.items out.new.items }
-{
-    out.push(b',')?;
-    write_number(out, number)
-}
 
 fn write_cells(out: &mut Vec<u8>, values: &[i128]) -> Result<(), NoMemory>
     ensures ok { OnOk result (out.new.items ≡ out.old.items ++ cells values.now) }
@@ -46,7 +23,7 @@ fn write_line(out: &mut Vec<u8>, window: u64, values: &[i128]) -> Result<(), NoM
     ensures ok { OnOk result (out.new.items ≡ out.old.items ++ line (pos window ∷ values.now)) }
     ensures behind { Behind out.old.items out.new.items }
 {
-    write_window(out, window)?;
+    write_count(out, window)?;
     write_cells(out, values)?;
     out.push(b'\n')?;
     Ok(())

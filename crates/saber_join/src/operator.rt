@@ -1,64 +1,95 @@
-// What a join does with tasks and parts.
-use crate::gathered::{Bounds, Gathered};
+// What a join does with tasks and what they give.
+use crate::draft::JoinDraft;
+use crate::gathered::gather;
 use crate::join::Join;
 use crate::pairs::Pairs;
-use saber_fragment::{Operator, Piece, TaskRows};
+use saber_fragment::{Block, Operator, Piece};
 use saber_laws::{
-    begun_are_counted, begun_stay, closed_are_counted, no_rows_no_part, pairs_are_in_order,
-    rows_span,
+    begun_are_counted, begun_stay, closed_are_counted, ends_begin_none, no_rows_no_part,
+    pairs_are_in_order, rows_span,
 };
+use saber_parts::{Bounds, PartStore};
 use saber_plan::NoMemory;
-use saber_window::closed_within_begun;
+use saber_window::{closed_within_begun, ending};
 use std::alloc::Global;
 
 impl Operator for Join<'_> {
-    type Part = Pairs;
+    type Draft = JoinDraft;
 
+    type Piece = Piece<Pairs>;
+
+    type Store = PartStore<Pairs>;
+
+    ghost use Rattle.std.specs.Prelude.{◌≡◌};
     ghost use Rattle.saber_plan.specs.Trees.{tree_of};
+    ghost use Rattle.saber_fragment.specs.Shown.{shares_of};
+    ghost use Rattle.saber_parts.specs.Stored.{held_by, staying_by};
+    ghost use Rattle.saber_join.specs.Sights.{sight_of};
 
     ghost plan = { tree_of };
 
-    ghost shown = { λ part. part };
+    ghost has_seen = { λ _ draft s. sight_of draft ≡ s };
 
-    fn fragment(&self, alloc: Global, task: &TaskRows) -> Result<Piece<Pairs>, NoMemory> {
+    ghost shares = { λ _. shares_of (λ part. part) };
+
+    ghost held = { held_by (λ part. part) };
+
+    ghost staying = { staying_by (λ part. part) };
+
+    ghost has_taken = { λ _ _ _. Unit {0} };
+
+    ghost is_of = { λ _ _ _ _ _. Unit {0} };
+
+    fn start(&self, alloc: Global, own: &Block) -> Result<JoinDraft, NoMemory> {
+        JoinDraft::new(alloc, own)
+    }
+
+    fn feed(&self, alloc: Global, draft: &mut JoinDraft, block: &Block) -> Result<(), NoMemory> {
+        draft.feed(alloc, block)
+    }
+
+    fn finish(&self, alloc: Global, draft: JoinDraft) -> Result<Piece<Pairs>, NoMemory> {
         self.has_windows();
         begun_are_counted();
         begun_stay();
         closed_are_counted();
         closed_within_begun();
+        ends_begin_none();
         no_rows_no_part();
         pairs_are_in_order();
         rows_span();
-        let back = task.back.as_slice();
-        let rows = task.rows.as_slice();
-        let before = self.mark_over(&task.before, back);
-        let after = self.mark_over(&before, rows);
+        let back = draft.back.as_slice();
+        let rows = draft.rows.as_slice();
+        let before = draft.before;
+        let last = self.mark_over(&before, rows);
+        let after = ending(draft.ended, &last);
         let bounds = Bounds {
             begun_before: self.begun_below(&before),
             closed_after: self.closed_below(&after),
         };
-        let windows = self.windows_of(alloc, &task.before, &before, back, rows)?;
+        let windows = self.windows_of(alloc, &draft.first, &before, back, rows)?;
         // That its windows rise, which the proof needs, is told by the length.
         let _count = windows.len();
-        let gathered = Gathered::of_windows(alloc, &bounds, windows)?;
+        let gathered = gather(alloc, &bounds, windows)?;
         Ok(gathered.into_piece(bounds.closed_after))
     }
 
-    fn merge(&self, into: &mut Pairs, from: Pairs) -> Result<(), NoMemory> {
-        self.has_windows();
-        no_rows_no_part();
-        into.merge(from)
+    fn empty_store(&self, alloc: Global) -> PartStore<Pairs> {
+        PartStore::new(alloc)
     }
 
-    fn lines(
+    fn take_in(
         &self,
         _alloc: Global,
-        i: u64,
-        part: &Pairs,
+        store: &mut PartStore<Pairs>,
+        piece: Piece<Pairs>,
         out: &mut Vec<u8>,
     ) -> Result<(), NoMemory> {
-        self.has_windows();
-        pairs_are_in_order();
-        part.lines(i, out)
+        store.take_in(self, piece, out)?;
+        Ok(())
+    }
+
+    fn drop_closed(&self, store: &mut PartStore<Pairs>) {
+        store.drop_closed();
     }
 }

@@ -1,5 +1,5 @@
 //! Pairs of windows, worked out by hand.
-ghost use Rattle.std.specs.Prelude.{◌≡◌, ◌^◌, ◌<◌, ◌∷◌, ◌++◌, [], List, map, IfOk, Some, None, true, false};
+ghost use Rattle.std.specs.Prelude.{◌≡◌, ◌^◌, ◌<◌, ◌∷◌, ◌++◌, [], List, map, IfOk, OnOk, Some, None, true, false};
 ghost use Rattle.saber_plan.specs.declared.rows.Side.TheVariants as s;
 ghost use Rattle.saber_plan.specs.declared.rows.Row.{Row};
 ghost use Rattle.saber_plan.specs.declared.windows.Mark.{Mark};
@@ -12,16 +12,25 @@ ghost use Rattle.saber_plan.specs.Trees.{Tree, tree_of};
 ghost use Rattle.saber_plan.specs.Rows.{RowFits, stamp};
 ghost use Rattle.saber_plan.specs.Checked.{IsChecked, columns_on};
 ghost use Rattle.saber_plan.specs.Given.{RowsFit};
-ghost use Rattle.saber_plan.specs.Windows.{in_order, mark_after};
+ghost use Rattle.saber_plan.specs.Inputs.{going_on};
+ghost use Rattle.saber_plan.specs.Answers.{frame};
+ghost use Rattle.saber_plan.specs.Tasks.{unclosed};
+ghost use Rattle.saber_plan.specs.Shares.{shares_here};
+ghost use Rattle.saber_plan.specs.Windows.{Fits, can_follow, mark_after, mark_of, no_rows};
 
 use super::*;
-use saber_fragment::{Operator, Parts, Piece, Rows, TaskRows};
+use saber_fragment::{Block, Operator, Parts, Piece, Rows};
+use saber_laws::{
+    checked_fit, merge_has_unit, no_rows_give_nothing, open_goes_on, part_has_lines, parts_join,
+    parts_lie_within, shares_make_piece,
+};
 use saber_plan::{
     Cmp, Conj, Expr, Factor, Factors, Item, Mark, Measure, NoMemory, Plan, Pred, Product, Row,
     Shape, Side, Stream, Unit, Values, Window,
 };
 use saber_window::{stamps_fit, step_mark};
 use std::alloc::Global;
+use std::process::Abort;
 use std::test::Fail;
 
 // The number of a row: the column behind its time.
@@ -93,6 +102,32 @@ fn by_rows(alloc: Global) -> Result<Plan, NoMemory>
     Ok(Plan::new(Shape::Join, streams, items, Vec::new(alloc), None))
 }
 
+// SELECT x, y FROM A [ROWS 2 SLIDE 2], B [ROWS 1 SLIDE 2]
+fn sizes_by_rows(alloc: Global) -> Result<Plan, NoMemory>
+    ensures { IfOk result (λ p. IsChecked (tree_of p) × ((tree_of p).shape ≡ h.Join) × (columns_on (tree_of p).streams s.Left ≡ 2) × (columns_on (tree_of p).streams s.Right ≡ 2)) }
+{
+    let left = stream(Measure::Rows, 2, 2);
+    let right = stream(Measure::Rows, 1, 2);
+    let x = Item::Value(number(alloc, Side::Left)?);
+    let y = Item::Value(number(alloc, Side::Right)?);
+    let streams = vec![in alloc; left, right]?;
+    let items = vec![in alloc; x, y]?;
+    Ok(Plan::new(Shape::Join, streams, items, Vec::new(alloc), None))
+}
+
+// SELECT x, y FROM A [RANGE 4 SLIDE 4], B [RANGE 2 SLIDE 4]
+fn sizes_by_time(alloc: Global) -> Result<Plan, NoMemory>
+    ensures { IfOk result (λ p. IsChecked (tree_of p) × ((tree_of p).shape ≡ h.Join) × (columns_on (tree_of p).streams s.Left ≡ 2) × (columns_on (tree_of p).streams s.Right ≡ 2)) }
+{
+    let left = stream(Measure::Range, 4, 4);
+    let right = stream(Measure::Range, 2, 4);
+    let x = Item::Value(number(alloc, Side::Left)?);
+    let y = Item::Value(number(alloc, Side::Right)?);
+    let streams = vec![in alloc; left, right]?;
+    let items = vec![in alloc; x, y]?;
+    Ok(Plan::new(Shape::Join, streams, items, Vec::new(alloc), None))
+}
+
 fn row(alloc: Global, side: Side, time: u32, number: i64) -> Result<Row, NoMemory>
     ensures { IfOk result (λ r. RowFits side 2 r × (stamp r.values ≡ time)) }
 {
@@ -102,7 +137,7 @@ fn row(alloc: Global, side: Side, time: u32, number: i64) -> Result<Row, NoMemor
 
 // A row of this time can come next, and there is room for it.
 fn follows(mark: &Mark, time: u32) -> bool
-    ensures order { result ≡ true → in_order mark.now.last time ≡ true }
+    ensures order { result ≡ true → can_follow mark.now time ≡ true }
     ensures left { result ≡ true → mark.now.left < 2 ^ 32 }
     ensures right { result ≡ true → mark.now.right < 2 ^ 32 }
 {
@@ -110,7 +145,7 @@ fn follows(mark: &Mark, time: u32) -> bool
         Some(last) => last.unsigned_abs() <= u64::from(time),
         None => true,
     };
-    in_order && mark.left < 1 << 32 && mark.right < 1 << 32
+    !mark.ended && in_order && mark.left < 1 << 32 && mark.right < 1 << 32
 }
 
 // These rows, up to the first that can't come behind the mark, and the mark behind them.
@@ -136,52 +171,75 @@ fn rows_after(
     Ok((rows, mark))
 }
 
-// A task of rows, and of rows before them.
-fn task(
+// A block of these rows, up to the first that can't come behind the mark, and the mark behind them.
+fn block(
     alloc: Global,
-    back: &[(Side, u32, i64)],
+    number: u64,
+    before: Mark,
     table: &[(Side, u32, i64)],
-) -> Result<TaskRows, NoMemory>
-    ensures { IfOk result (λ t. (q : Tree) → columns_on q.streams s.Left ≡ 2 → columns_on q.streams s.Right ≡ 2 → RowsFit q t.before (t.back ++ t.rows)) }
+    ended: bool,
+) -> Result<(Block, Mark), NoMemory>
+    ensures before { IfOk result (λ b. b.0.before ≡ before) }
+    ensures ended { IfOk result (λ b. b.0.ended ≡ ended) }
+    ensures fit { IfOk result (λ b. (q : Tree) (m : Mark) (xs : List Row) → columns_on q.streams s.Left ≡ 2 → columns_on q.streams s.Right ≡ 2 → before ≡ mark_after m xs → RowsFit q m xs → RowsFit q m (xs ++ b.0.rows)) }
+    ensures mark { IfOk result (λ b. b.1 ≡ mark_after before b.0.rows) }
 {
-    let before = Mark {
-        left: 0,
-        right: 0,
-        last: None,
-    };
-    let (back, between) = rows_after(alloc, &before, back)?;
-    let (rows, _) = rows_after(alloc, &between, table)?;
-    Ok(TaskRows {
-        task: 0,
+    let (rows, after) = rows_after(alloc, &before, table)?;
+    let block = Block {
+        number,
+        first: 0,
         before,
-        back,
         rows,
-    })
+        ended,
+    };
+    Ok((block, after))
 }
 
-fn fragment<O: Operator<Part = Pairs>>(
+// The piece of a task that looks back on two blocks.
+fn piece<O: Operator>(
     alloc: Global,
     operator: &O,
-    task: &TaskRows,
-) -> Result<Piece<Pairs>, NoMemory>
-    requires { RowsFit (O.plan operator.now) task.now.before (task.now.back ++ task.now.rows) }
+    one: &Block,
+    two: &Block,
+    own: &Block,
+) -> Result<O::Piece, NoMemory>
+    requires fits { RowsFit (O.plan operator.now) one.now.before ((one.now.rows ++ two.now.rows) ++ own.now.rows) }
+    requires goes_on { two.now.before ≡ mark_after one.now.before one.now.rows }
+    requires meets { own.now.before ≡ mark_after one.now.before (one.now.rows ++ two.now.rows) }
+    ensures shares { IfOk result (λ p. O.shares operator.now p ≡ shares_here (O.plan operator.now) one.now.before (one.now.rows ++ two.now.rows) own.now.rows own.now.ended) }
+    ensures of { IfOk result (λ p. O.is_of operator.now p own.now.before own.now.rows own.now.ended) }
 {
-    operator.fragment(alloc, task)
+    let mut draft = operator.start(alloc, own)?;
+    operator.feed(alloc, &mut draft, one)?;
+    operator.feed(alloc, &mut draft, two)?;
+    let piece = operator.finish(alloc, draft)?;
+    Ok(piece)
 }
 
+// The piece of a task that looks back on these rows, of which two are in the first block.
 fn pair(
     alloc: Global,
     plan: &Plan,
     back: &[(Side, u32, i64)],
     table: &[(Side, u32, i64)],
+    ended: bool,
 ) -> Result<Piece<Pairs>, NoMemory>
     requires checked { IsChecked (tree_of plan.now) }
     requires join { (tree_of plan.now).shape ≡ h.Join }
     requires left { columns_on (tree_of plan.now).streams s.Left ≡ 2 }
     requires right { columns_on (tree_of plan.now).streams s.Right ≡ 2 }
 {
-    let task = task(alloc, back, table)?;
-    fragment(alloc, &Join::new(plan), &task)
+    let before = Mark {
+        left: 0,
+        right: 0,
+        last: None,
+        ended: false,
+    };
+    let cut = back.len().min(2);
+    let (one, mark) = block(alloc, 0, before, &back[..cut], false)?;
+    let (two, mark) = block(alloc, 1, mark, &back[cut..], false)?;
+    let (own, _) = block(alloc, 2, mark, table, ended)?;
+    piece(alloc, &Join::new(plan), &one, &two, &own)
 }
 
 fn shown(alloc: Global, parts: Parts<Pairs>) -> Result<Vec<u8>, NoMemory> {
@@ -206,7 +264,7 @@ const ROWS: [(Side, u32, i64); 6] = [
 fn one_task_of_all_rows(rt: HostRuntime) -> Result<(), Fail> {
     let alloc = rt.alloc();
     let plan = by_time(alloc)?;
-    let piece = pair(alloc, &plan, &[], &ROWS)?;
+    let piece = pair(alloc, &plan, &[], &ROWS, false)?;
     assert_eq!(rt;
         piece.complete_text.as_slice(),
         b"0,5,7\n0,5,6\n".as_slice()
@@ -229,13 +287,79 @@ fn tasks_of_two_rows(rt: HostRuntime) -> Result<(), Fail> {
         (&ROWS[..4], &ROWS[4..], "", "", "", 2),
     ];
     for (back, rows, closing, pending, opening, closed) in table {
-        let piece = pair(alloc, &plan, back, rows)?;
+        let piece = pair(alloc, &plan, back, rows, false)?;
         assert_eq!(rt; shown(alloc, piece.closing)?.as_slice(), closing.as_bytes());
         assert_eq!(rt; shown(alloc, piece.pending)?.as_slice(), pending.as_bytes());
         assert_eq!(rt; shown(alloc, piece.opening)?.as_slice(), opening.as_bytes());
         assert_eq!(rt; piece.complete_text.as_slice(), b"".as_slice());
         assert_eq!(rt; piece.closed_below, closed);
     }
+    Ok(())
+}
+
+// The flush task behind all rows: no part, no line, and the window that stood open is closed.
+#[test]
+fn a_task_that_ends_the_input(rt: HostRuntime) -> Result<(), Fail> {
+    let alloc = rt.alloc();
+    let plan = by_time(alloc)?;
+    let piece = pair(alloc, &plan, &ROWS, &[], true)?;
+    assert!(rt; piece.closing.into_vec().is_empty());
+    assert!(rt; piece.pending.into_vec().is_empty());
+    assert!(rt; piece.opening.into_vec().is_empty());
+    assert_eq!(rt; piece.complete_text.as_slice(), b"".as_slice());
+    assert_eq!(rt; piece.closed_below, 3);
+    Ok(())
+}
+
+// What a task gives: its parts by kind, the text of whole windows, and how many are closed.
+fn check_piece(
+    rt: &impl Abort,
+    alloc: Global,
+    piece: Piece<Pairs>,
+    parts: (&str, &str, &str),
+    text: &str,
+    closed: u64,
+) -> Result<(), NoMemory> {
+    assert_eq!(rt; shown(alloc, piece.closing)?.as_slice(), parts.0.as_bytes());
+    assert_eq!(rt; shown(alloc, piece.pending)?.as_slice(), parts.1.as_bytes());
+    assert_eq!(rt; shown(alloc, piece.opening)?.as_slice(), parts.2.as_bytes());
+    assert_eq!(rt; piece.complete_text.as_slice(), text.as_bytes());
+    assert_eq!(rt; piece.closed_below, closed);
+    Ok(())
+}
+
+// Two left rows and one right row, every two. Window 0 has left rows 5 and 9 and right row 7, and
+// window 1 left row 1 and right row 0. The second row brings all of the right side, and only the
+// third, the last of the left side, closes window 0.
+#[test]
+fn two_sizes_by_rows(rt: HostRuntime) -> Result<(), Fail> {
+    let alloc = rt.alloc();
+    let plan = sizes_by_rows(alloc)?;
+    let all = pair(alloc, &plan, &[], &ROWS, false)?;
+    check_piece(&rt, alloc, all, ("", "", "1,1,0\n"), "0,5,7\n0,9,7\n", 1)?;
+    let first = pair(alloc, &plan, &[], &ROWS[..2], false)?;
+    check_piece(&rt, alloc, first, ("", "", "0,5,7\n"), "", 0)?;
+    let second = pair(alloc, &plan, &ROWS[..2], &ROWS[2..4], false)?;
+    check_piece(&rt, alloc, second, ("0,9,7\n", "", ""), "", 1)?;
+    let third = pair(alloc, &plan, &ROWS[..4], &ROWS[4..], false)?;
+    check_piece(&rt, alloc, third, ("", "", "1,1,0\n"), "", 1)?;
+    Ok(())
+}
+
+// Four seconds on the left and two on the right, every four: time 3 lies behind window 0's right
+// rows, but only time 4 closes it. Right row 6, of time 3, lies in no window.
+#[test]
+fn two_sizes_by_time(rt: HostRuntime) -> Result<(), Fail> {
+    let alloc = rt.alloc();
+    let plan = sizes_by_time(alloc)?;
+    let all = pair(alloc, &plan, &[], &ROWS, false)?;
+    check_piece(&rt, alloc, all, ("", "", ""), "0,5,7\n0,9,7\n", 2)?;
+    let first = pair(alloc, &plan, &[], &ROWS[..2], false)?;
+    check_piece(&rt, alloc, first, ("", "", "0,5,7\n"), "", 0)?;
+    let second = pair(alloc, &plan, &ROWS[..2], &ROWS[2..4], false)?;
+    check_piece(&rt, alloc, second, ("", "0,9,7\n", ""), "", 0)?;
+    let third = pair(alloc, &plan, &ROWS[..4], &ROWS[4..], false)?;
+    check_piece(&rt, alloc, third, ("", "", ""), "", 2)?;
     Ok(())
 }
 
@@ -251,7 +375,7 @@ fn pairs_by_places(rt: HostRuntime) -> Result<(), Fail> {
         (Side::Right, 0, 7),
         (Side::Right, 0, 8),
     ];
-    let piece = pair(alloc, &plan, &[], &rows)?;
+    let piece = pair(alloc, &plan, &[], &rows, false)?;
     assert_eq!(rt;
         piece.complete_text.as_slice(),
         b"0,1,7\n0,1,8\n0,2,7\n0,2,8\n".as_slice()
@@ -284,6 +408,122 @@ fn later_pairs_go_in(rt: HostRuntime) -> Result<(), Fail> {
     Ok(())
 }
 
+// Takes in the task of this block, which looks back on all rows before it.
+fn give<O: Operator>(
+    alloc: Global,
+    operator: &O,
+    behind: &Block,
+    own: &Block,
+    store: &mut O::Store,
+    out: &mut Vec<u8>,
+) -> Result<(), NoMemory>
+    requires windows { Fits (frame (O.plan operator.now)) }
+    requires join { (O.plan operator.now).shape ≡ h.Join }
+    requires first { behind.now.before ≡ no_rows }
+    requires meets { own.now.before ≡ mark_of behind.now.rows }
+    requires fits { RowsFit (O.plan operator.now) no_rows (behind.now.rows ++ own.now.rows) }
+    requires held { O.held store.old ≡ unclosed (O.plan operator.now) (going_on behind.now.rows) }
+    requires taken { O.has_taken operator.now store.old (going_on behind.now.rows) }
+    ensures held { OnOk result (own.now.ended ≡ false → O.held store.new ≡ unclosed (O.plan operator.now) (going_on (behind.now.rows ++ own.now.rows))) }
+    ensures taken { OnOk result (own.now.ended ≡ false → O.has_taken operator.now store.new (going_on (behind.now.rows ++ own.now.rows))) }
+{
+    merge_has_unit();
+    open_goes_on();
+    part_has_lines();
+    parts_join();
+    parts_lie_within();
+    shares_make_piece();
+    let none = Block {
+        number: 1,
+        first: 0,
+        before: own.before,
+        rows: Rows::new(alloc),
+        ended: false,
+    };
+    let piece = piece(alloc, operator, behind, &none, own)?;
+    operator.take_in(alloc, store, piece, out)?;
+    operator.drop_closed(store);
+    Ok(())
+}
+
+// The text of these tasks and of the flush task.
+fn answer<O: Operator>(
+    alloc: Global,
+    operator: &O,
+    tasks: &[&[(Side, u32, i64)]],
+) -> Result<Vec<u8>, NoMemory>
+    requires windows { Fits (frame (O.plan operator.now)) }
+    requires join { (O.plan operator.now).shape ≡ h.Join }
+    requires left { columns_on (O.plan operator.now).streams s.Left ≡ 2 }
+    requires right { columns_on (O.plan operator.now).streams s.Right ≡ 2 }
+{
+    no_rows_give_nothing();
+    let mut mark = Mark {
+        left: 0,
+        right: 0,
+        last: None,
+        ended: false,
+    };
+    let mut behind = Block {
+        number: 0,
+        first: 0,
+        before: mark,
+        rows: Rows::new(alloc),
+        ended: false,
+    };
+    let mut store = operator.empty_store(alloc);
+    let mut out = Vec::new(alloc);
+    for table in tasks {
+        let (own, after) = block(alloc, 2, mark, table, false)?;
+        give(alloc, operator, &behind, &own, &mut store, &mut out)?;
+        behind.rows.extend_copied(alloc, own.rows.as_slice())?;
+        mark = after;
+    }
+    let (own, _) = block(alloc, 2, mark, &[], true)?;
+    give(alloc, operator, &behind, &own, &mut store, &mut out)?;
+    Ok(out)
+}
+
+// The text of a plan is the same in tasks of one row, of two and of all. A store that kept the parts
+// of closed windows would write them again.
+fn check_cuts(rt: &impl Abort, alloc: Global, plan: &Plan, text: &str) -> Result<(), NoMemory>
+    requires checked { IsChecked (tree_of plan.now) }
+    requires join { (tree_of plan.now).shape ≡ h.Join }
+    requires left { columns_on (tree_of plan.now).streams s.Left ≡ 2 }
+    requires right { columns_on (tree_of plan.now).streams s.Right ≡ 2 }
+{
+    checked_fit();
+    let join = Join::new(plan);
+    let ones: &[&[(Side, u32, i64)]] = &[
+        &ROWS[..1],
+        &ROWS[1..2],
+        &ROWS[2..3],
+        &ROWS[3..4],
+        &ROWS[4..5],
+        &ROWS[5..],
+    ];
+    let twos: &[&[(Side, u32, i64)]] = &[&ROWS[..2], &ROWS[2..4], &ROWS[4..]];
+    assert_eq!(rt; answer(alloc, &join, ones)?.as_slice(), text.as_bytes());
+    assert_eq!(rt; answer(alloc, &join, twos)?.as_slice(), text.as_bytes());
+    assert_eq!(rt; answer(alloc, &join, &[&ROWS])?.as_slice(), text.as_bytes());
+    Ok(())
+}
+
+#[test]
+fn tasks_are_taken_in(rt: HostRuntime) -> Result<(), Fail> {
+    let alloc = rt.alloc();
+    check_cuts(&rt, alloc, &by_time(alloc)?, "0,5,7\n0,5,6\n")?;
+    check_cuts(
+        &rt,
+        alloc,
+        &by_rows(alloc)?,
+        "0,5,7\n0,5,6\n0,9,7\n0,9,6\n1,9,6\n1,9,0\n1,1,6\n1,1,0\n2,1,0\n",
+    )?;
+    check_cuts(&rt, alloc, &sizes_by_rows(alloc)?, "0,5,7\n0,9,7\n1,1,0\n")?;
+    check_cuts(&rt, alloc, &sizes_by_time(alloc)?, "0,5,7\n0,9,7\n")?;
+    Ok(())
+}
+
 // The rows leave a gap of a thousand million windows.
 #[test]
 fn a_gap_in_time(rt: HostRuntime) -> Result<(), Fail> {
@@ -295,7 +535,7 @@ fn a_gap_in_time(rt: HostRuntime) -> Result<(), Fail> {
         (Side::Left, 4_294_967_294, i64::MIN),
         (Side::Right, 4_294_967_294, 0),
     ];
-    let piece = pair(alloc, &plan, &[], &rows)?;
+    let piece = pair(alloc, &plan, &[], &rows, false)?;
     assert_eq!(rt;
         piece.complete_text.as_slice(),
         b"0,-3,9223372036854775807\n".as_slice()

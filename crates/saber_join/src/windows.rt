@@ -1,12 +1,10 @@
 // The windows of a task, by number.
 ghost use Rattle.std.specs.Prelude.{◌≡◌, ◌+◌, ◌^◌, ◌<◌, ◌++◌, OnOk, IfOk};
-ghost use Rattle.std.specs.FinMap.{insert};
 ghost use Rattle.saber_plan.specs.Trees.{tree_of};
-ghost use Rattle.saber_plan.specs.Windows.{placed_after, mark_after, closed_count};
-ghost use Rattle.saber_plan.specs.Answers.{frame};
+ghost use Rattle.saber_plan.specs.Windows.{mark_after};
 ghost use Rattle.saber_plan.specs.Given.{IsRowOf, RowsFit};
-ghost use Rattle.saber_join.specs.Keeping.{noted, taken, HeldFits};
-ghost use Rattle.saber_join.specs.Open.{seen_held, held_in, AllFit, Changed, Grown, HoldsTask};
+ghost use Rattle.saber_join.specs.Keeping.{noting, taking, HeldFits};
+ghost use Rattle.saber_join.specs.Open.{seen_held, held_in, AllFit, Changed, ChangedAt, NotesRows, TakesRows, HoldsOpen};
 
 use crate::held::Opened;
 use crate::join::Join;
@@ -24,7 +22,7 @@ fn note_at<'a>(
     before: Mark,
 ) -> Result<(), NoMemory>
     requires { before.left + before.right < 2 ^ 62 }
-    ensures { OnOk result (seen_held windows.new.entries ≡ insert (seen_held windows.old.entries) window (noted (held_in (seen_held windows.old.entries) window) (record { row = row.now; before = before }))) }
+    ensures { OnOk result (ChangedAt (noting row.now before) window (seen_held windows.old.entries) (seen_held windows.new.entries)) }
 {
     match windows.get_mut(&window) {
         Some(held) => {
@@ -50,7 +48,7 @@ fn note_row<'a>(
     before: Mark,
 ) -> Result<(), NoMemory>
     requires { before.left + before.right < 2 ^ 62 }
-    ensures { OnOk result (Changed (λ h. noted h (record { row = row.now; before = before })) first past (seen_held windows.old.entries) (seen_held windows.new.entries)) }
+    ensures { OnOk result (Changed (noting row.now before) first past (seen_held windows.old.entries) (seen_held windows.new.entries)) }
 {
     for window in first..past {
         note_at(alloc, windows, window, row, before)?;
@@ -70,7 +68,7 @@ fn take_at<'a>(
     requires small { before.left + before.right < 2 ^ 62 }
     requires row { IsRowOf (tree_of join.now) row.now }
     requires held { HeldFits (tree_of join.now) (held_in (seen_held windows.old.entries) window) }
-    ensures { OnOk result (seen_held windows.new.entries ≡ insert (seen_held windows.old.entries) window (taken (tree_of join.now) (held_in (seen_held windows.old.entries) window) (record { row = row.now; before = before }))) }
+    ensures { OnOk result (ChangedAt (taking (tree_of join.now) row.now before) window (seen_held windows.old.entries) (seen_held windows.new.entries)) }
 {
     match windows.get_mut(&window) {
         Some(held) => {
@@ -99,7 +97,7 @@ fn take_row<'a>(
     requires small { before.left + before.right < 2 ^ 62 }
     requires row { IsRowOf (tree_of join.now) row.now }
     requires held { AllFit (tree_of join.now) (seen_held windows.old.entries) }
-    ensures { OnOk result (Changed (λ h. taken (tree_of join.now) h (record { row = row.now; before = before })) first past (seen_held windows.old.entries) (seen_held windows.new.entries)) }
+    ensures { OnOk result (Changed (taking (tree_of join.now) row.now before) first past (seen_held windows.old.entries) (seen_held windows.new.entries)) }
 {
     for window in first..past {
         take_at(alloc, join, windows, window, row, before)?;
@@ -119,7 +117,7 @@ impl Join<'_> {
     ) -> Result<(), NoMemory>
         requires fits { RowsFit (tree_of self.now) before.now rows.now }
         requires held { AllFit (tree_of self.now) (seen_held windows.old.entries) }
-        ensures grown { OnOk result (Grown (frame (tree_of self.now)) noted closed (placed_after before.now rows.now) (seen_held windows.old.entries) (seen_held windows.new.entries)) }
+        ensures grown { OnOk result (NotesRows (tree_of self.now) closed before.now rows.now (seen_held windows.old.entries) (seen_held windows.new.entries)) }
         ensures held { OnOk result (AllFit (tree_of self.now) (seen_held windows.new.entries)) }
     {
         self.has_windows();
@@ -144,7 +142,7 @@ impl Join<'_> {
     ) -> Result<(), NoMemory>
         requires fits { RowsFit (tree_of self.now) before.now rows.now }
         requires held { AllFit (tree_of self.now) (seen_held windows.old.entries) }
-        ensures { OnOk result (Grown (frame (tree_of self.now)) (taken (tree_of self.now)) closed (placed_after before.now rows.now) (seen_held windows.old.entries) (seen_held windows.new.entries)) }
+        ensures { OnOk result (TakesRows (tree_of self.now) closed before.now rows.now (seen_held windows.old.entries) (seen_held windows.new.entries)) }
     {
         self.has_windows();
         rows_span();
@@ -169,7 +167,7 @@ impl Join<'_> {
     ) -> Result<BTreeMap<u64, Opened<'a>>, NoMemory>
         requires fits { RowsFit (tree_of self.now) before.now (back.now ++ rows.now) }
         requires after { after.now ≡ mark_after before.now back.now }
-        ensures { IfOk result (λ windows. HoldsTask (tree_of self.now) (closed_count (frame (tree_of self.now)) after.now) before.now back.now rows.now (seen_held windows.entries)) }
+        ensures { IfOk result (λ windows. HoldsOpen (tree_of self.now) after.now before.now back.now rows.now (seen_held windows.entries)) }
     {
         self.has_windows();
         no_rows_no_part();

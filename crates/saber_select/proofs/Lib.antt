@@ -1,3 +1,4 @@
-pub mod Lined
-pub mod Shown
-pub mod Tested
+mod Lined
+mod Shown
+mod Texts
+mod Tested

@@ -1,25 +1,15 @@
--- Lines, number by number, and those of rows, one by one.
+-- The lines of rows, one by one.
 use Rattle.std.proofs.Common.{◌≡◌, List, [], ◌∷◌, ◌++◌, map, filter, flat_map, cond, true, false, ℤ, refl, sym, ◌∙◌, ap, append_assoc, append-nil, ℕ, ◌≤◌, ◌<◌, ◌+◌, length, drop, get_or, arith}
 use Rattle.std.proofs.lemmas.List.{drop_more}
 use Rattle.std.specs.Fmt.{signed_decimal}
-use Rattle.std.specs.List.{join_with_byte}
 use Rattle.saber_plan.specs.declared.rows.Row.{Row}
 use Rattle.saber_plan.specs.declared.plans.Item.{Item}
 use Rattle.saber_plan.specs.Trees.{Tree}
 use Rattle.saber_plan.specs.Values.{passes}
-use Rattle.saber_plan.specs.MapFacts.{entries-empty}
-use Rattle.saber_plan.specs.Answers.{item_value, line, selected, key_cmp, entry_lines}
-use Rattle.saber_plan.specs.Parts.{no_part, part_lines, answers_of}
-use Rattle.saber_select.specs.Printing.{cells, row_text}
-
-line_cells : (z : ℤ) (zs : List ℤ) → join_with_byte 44 (map signed_decimal (z ∷ zs)) ≡ signed_decimal z ++ cells zs
-line_cells z [] = sym (append-nil (signed_decimal z))
-line_cells z (y ∷ ys) = ap (λ l. signed_decimal z ++ 44 ∷ l) (line_cells y ys)
-
-pub line_after : (old : List ℕ) (z : ℤ) (zs : List ℤ) → ((old ++ signed_decimal z) ++ cells zs) ++ 10 ∷ [] ≡ old ++ line (z ∷ zs)
-line_after old z zs =
-    ap (λ l. l ++ 10 ∷ []) (append_assoc old (signed_decimal z) (cells zs) ∙ ap (λ l. old ++ l) (sym (line_cells z zs)))
-    ∙ append_assoc old (join_with_byte 44 (map signed_decimal (z ∷ zs))) (10 ∷ [])
+use Rattle.saber_plan.specs.Answers.{item_value, line, selected}
+use Rattle.saber_select.specs.Printing.{row_text}
+use Rattle.saber_cells.specs.Cells.{cells}
+use Rattle.saber_cells.specs.CellFacts.{line_after}
 
 -- the first row's line, and those of the others
 pub selected_next : (q : Tree) (x : Row) (xs : List Row) → selected q (x ∷ xs) ≡ row_text q x.values ++ selected q xs
@@ -39,7 +29,3 @@ row_written q out all more rows k x l e h w =
     let rest = selected q (drop (k + 1) rows) in
     let cut : drop k rows ≡ x ∷ drop (k + 1) rows = drop_more rows k x l ∙ ap (λ y. y ∷ drop (k + 1) rows) (sym e) in
     ap (λ t. t ++ rest) w ∙ append_assoc out (row_text q x.values) rest ∙ ap (λ t. out ++ t) (sym (ap (selected q) cut ∙ selected_next q x (drop (k + 1) rows))) ∙ h
-
--- no part has no line
-pub no_lines : (q : Tree) (i : ℕ) → part_lines q i no_part ≡ []
-no_lines q i = ap (λ es. entry_lines i (map (λ e. (e.0, answers_of q.items e.1)) es)) (entries-empty key_cmp)

@@ -1,26 +1,25 @@
 -- What a selection's plan says of its rows, and what a task of one gives.
-use Rattle.std.proofs.Common.{◌≡◌, ℕ, List, [], ◌∷◌, ◌++◌, ◌-◌, filter, flat_map, Option, Bool, ℤ, refl, sym, ap, subst, subst₂, ◌≤◌, arith}
+use Rattle.std.proofs.Common.{◌≡◌, ℕ, List, [], ◌∷◌, ◌-◌, filter, flat_map, Option, Bool, ℤ, true, false, cond, refl, sym, ◌∙◌, ap, subst, arith, subst₂}
 use Rattle.std.specs.List.{AllByRecursion}
 use Rattle.saber_plan.specs.declared.rows.Row.{Row}
-use Rattle.saber_plan.specs.declared.rows.Side.{Side}
-use Rattle.saber_plan.specs.declared.rows.Side.TheVariants.{Left, Right}
+use Rattle.saber_plan.specs.declared.rows.Side.TheVariants.{Left}
 use Rattle.saber_plan.specs.declared.windows.Mark.{Mark}
 use Rattle.saber_plan.specs.declared.windows.Kind.{Kind}
 use Rattle.saber_plan.specs.declared.plans.Item.{Item}
 use Rattle.saber_plan.specs.declared.plans.Item.TheVariants.{Count, Sum, Min, Max, Value}
 use Rattle.saber_plan.specs.declared.plans.Shape.TheVariants.{Select}
 use Rattle.saber_plan.specs.Trees.{Tree}
-use Rattle.saber_plan.specs.declared.windows.Stream.{Stream}
 use Rattle.saber_plan.specs.Rows.{RowFits}
 use Rattle.saber_plan.specs.Checked.{ItemFits, columns_on}
 use Rattle.saber_plan.specs.Given.{IsRowOf}
 use Rattle.saber_laws.specs.Plans.{NoWindow}
-use Rattle.saber_plan.specs.Windows.{Frame, unwindowed, mark_after, closed_count, begun_count, kind_of, from}
+use Rattle.saber_plan.specs.Windows.{Frame, unwindowed, mark_after, ending, closed_count, begun_count, kind_of, from}
 use Rattle.saber_plan.specs.Answers.{by_shape, frame, selected}
 use Rattle.saber_plan.specs.Parts.{Part, part_lines}
-use Rattle.saber_plan.specs.Tasks.{is_complete}
+use Rattle.saber_plan.specs.Tasks.{numbered, is_complete}
 use Rattle.saber_plan.specs.Needs.{of_kind, piece_here, part_here, is_closing, is_pending, is_opening}
 use Rattle.saber_plan.specs.Shares.{shares_here}
+use Rattle.saber_plan.specs.RowFacts.{is_left}
 use Rattle.saber_eval.specs.Widths.{widths}
 use Rattle.saber_select.specs.Printing.{CanShow}
 
@@ -43,30 +42,29 @@ items_shown q zs e h = all_shown zs q.keys q.items (subst (λ s. AllByRecursion 
 
 -- ---- rows
 
-left_only : (s : Stream) (side : Side) → 1 ≤ columns_on (s ∷ []) side → side ≡ Left
-left_only s Left h = refl
-left_only s Right h = absurd (omega arith)
-
 -- a row of the one stream
 pub row_fits : (q : Tree) (w : NoWindow q) (r : Row) → IsRowOf q r → RowFits Left w.stream.columns r
-row_fits q w r h = subst₂ (λ side ss. RowFits side (columns_on ss side) r) (left_only w.stream r.side (subst (λ ss. 1 ≤ columns_on ss r.side) w.streams h.stream)) w.streams h.fits
-
-pub all_back : {A : Type 0} (P : A → Type 0) (xs ys : List A) → AllByRecursion P (xs ++ ys) → AllByRecursion P ys
-all_back P [] ys h = h
-all_back P (x ∷ xs) ys h = all_back P xs ys h.1
+row_fits q w r h = subst₂ (λ side ss. RowFits side (columns_on ss side) r) (is_left q w.stream w.streams r h) w.streams h.fits
 
 -- ---- what a task gives
 
+none_from : (c : ℕ) (f : ℕ → Option Part) → [] ≡ numbered c (0 - c) f
+unfolding from
+none_from c f = let none : 0 - c ≡ 0 = omega arith in sym (ap (λ n. numbered c n f) none)
+
+none_closed : (m : Mark) → 0 ≡ closed_count unwindowed m
+none_closed m = elim (m.ended) as (λ b. 0 ≡ cond b 0 0) [ true ↦ refl | false ↦ refl ]
+
 none_of_kind : (wanted : Option Kind → Bool) (f : Frame) (a b : Mark) (p : ℕ → Part) → f ≡ unwindowed → [] ≡ of_kind wanted f a b p
-unfolding of_kind from
-none_of_kind wanted f a b p e = subst (λ g. [] ≡ of_kind wanted g a b p) (sym e) refl
+unfolding of_kind
+none_of_kind wanted f a b p e = subst (λ g. [] ≡ of_kind wanted g a b p) (sym e) (none_from (closed_count unwindowed a) _)
 
 -- its text, and no window's part
-pub shares_are : (q : Tree) (m : Mark) (back rows : List Row) → q.shape ≡ Select → frame q ≡ unwindowed → record { closing = []; pending = []; opening = []; lines = selected q rows; closed = 0 } ≡ shares_here q m back rows
+pub shares_are : (q : Tree) (m : Mark) (back rows : List Row) (ended : Bool) → q.shape ≡ Select → frame q ≡ unwindowed → record { closing = []; pending = []; opening = []; lines = selected q rows; closed = 0 } ≡ shares_here q m back rows ended
 unfolding shares_here piece_here
-shares_are q m back rows e f =
+shares_are q m back rows ended e f =
     let a = mark_after m back in
-    let b = mark_after a rows in
+    let b = ending ended (mark_after a rows) in
     let p : ℕ → Part = λ i. part_here q i m back rows in
     let c = closed_count (frame q) a in
     let complete : List ℕ = flat_map (λ i. part_lines q i (p i)) (filter (λ i. is_complete (kind_of (frame q) i a b)) (from c (begun_count (frame q) b - c))) in
@@ -75,5 +73,5 @@ shares_are q m back rows e f =
       pending = none_of_kind is_pending (frame q) a b p f j;
       opening = none_of_kind is_opening (frame q) a b p f j;
       lines = ap (λ s. by_shape s (selected q rows) complete complete) (sym e) j;
-      closed = ap (λ g. closed_count g b) (sym f) j;
+      closed = (none_closed b ∙ ap (λ g. closed_count g b) (sym f)) j;
     }

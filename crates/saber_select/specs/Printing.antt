@@ -1,6 +1,5 @@
 -- Lines of rows, number by number.
-use Rattle.std.specs.Prelude.{ℕ, List, [], ◌∷◌, flat_map, map, ℤ, if◌then◌else◌}
-use Rattle.std.specs.Fmt.{signed_decimal}
+use Rattle.std.specs.Prelude.{ℕ, List, [], map, ℤ, if◌then◌else◌}
 use Rattle.saber_plan.specs.declared.plans.Item.{Item}
 use Rattle.saber_plan.specs.declared.plans.Item.TheVariants.{Count, Sum, Min, Max, Value}
 use Rattle.saber_plan.specs.Trees.{Tree}
@@ -16,10 +15,6 @@ CanShow zs (Sum e) = ⊥
 CanShow zs (Min e) = ⊥
 CanShow zs (Max e) = ⊥
 CanShow zs (Value e) = ExprFits (widths zs []) e
-
--- numbers with a comma before each
-abbrev pub cells : List ℤ → List ℕ
-cells zs = flat_map (λ z. 44 ∷ signed_decimal z) zs
 
 -- the line of a row, if the row passes
 abbrev pub row_text : Tree → List ℤ → List ℕ

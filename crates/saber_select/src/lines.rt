@@ -1,11 +1,12 @@
 // The lines of rows.
-ghost use Rattle.std.specs.Prelude.{◌≡◌, ◌≤◌, ◌∷◌, ◌++◌, [], length, map, OnOk};
+ghost use Rattle.std.specs.Prelude.{◌≡◌, ◌≤◌, ◌++◌, [], length, map, OnOk};
 ghost use Rattle.std.specs.Fmt.{signed_decimal};
 ghost use Rattle.std.specs.List.{AllByRecursion};
 ghost use Rattle.saber_plan.specs.Answers.{item_value, line};
-ghost use Rattle.saber_select.specs.Printing.{CanShow, cells};
+ghost use Rattle.saber_cells.specs.Cells.{cells};
+ghost use Rattle.saber_select.specs.Printing.{CanShow};
 
-use itoa::Buffer;
+use saber_cells::{write_cell, write_number};
 use saber_eval::value;
 use saber_plan::{Item, NoMemory, Row};
 
@@ -20,13 +21,6 @@ fn item_value(item: &Item, row: &Row) -> i128
     }
 }
 
-fn write_number(out: &mut Vec<u8>, number: i128) -> Result<(), NoMemory>
-    ensures { OnOk result (out.new.items ≡ out.old.items ++ signed_decimal number) }
-{
-    let mut digits = Buffer::new();
-    out.extend_from_slice(digits.format(number).as_bytes())
-}
-
 fn write_value(out: &mut Vec<u8>, item: &Item, row: &Row) -> Result<(), NoMemory>
     requires { CanShow row.now.values item.now }
     ensures { OnOk result (out.new.items ≡ out.old.items ++ signed_decimal (item_value row.now.values [] item.now)) }
@@ -34,20 +28,12 @@ fn write_value(out: &mut Vec<u8>, item: &Item, row: &Row) -> Result<(), NoMemory
     write_number(out, item_value(item, row))
 }
 
-fn write_cell(out: &mut Vec<u8>, item: &Item, row: &Row) -> Result<(), NoMemory>
-    requires { CanShow row.now.values item.now }
-    ensures { OnOk result (out.new.items ≡ out.old.items ++ 44 ∷ signed_decimal (item_value row.now.values [] item.now)) }
-{
-    out.push(b',')?;
-    write_value(out, item, row)
-}
-
 fn write_cells(out: &mut Vec<u8>, items: &[Item], row: &Row) -> Result<(), NoMemory>
     requires { AllByRecursion (CanShow row.now.values) items.now }
     ensures { OnOk result (out.new.items ≡ out.old.items ++ cells (map (item_value row.now.values []) items.now)) }
 {
     for item in items {
-        write_cell(out, item, row)?;
+        write_cell(out, item_value(item, row))?;
     }
     Ok(())
 }

@@ -1,50 +1,68 @@
-// What a selection does with tasks and parts.
+// What a selection does with tasks and what they give.
 use crate::select::Select;
-use saber_fragment::{Operator, Parts, Piece, TaskRows, Text};
-use saber_laws::merge_has_unit;
+use saber_fragment::{Block, Operator, Text};
 use saber_plan::NoMemory;
 use std::alloc::Global;
 
-/// What a selection keeps of the rows of a window: nothing, since it has no window (SABER 2016: a
+/// What a selection keeps from task to task: nothing, since it has no window (SABER 2016: a
 /// stateless operator's fragments are whole answers).
 #[derive(Clone, Copy, Debug, PartialEq, Eq)]
-pub struct NoPart;
+pub struct NoStore;
 
 impl Operator for Select<'_> {
-    type Part = NoPart;
+    type Draft = Text;
 
+    type Piece = Text;
+
+    type Store = NoStore;
+
+    ghost use Rattle.std.specs.FinMap.{empty};
     ghost use Rattle.saber_plan.specs.Trees.{tree_of};
-    ghost use Rattle.saber_plan.specs.Parts.{no_part};
+    ghost use Rattle.saber_select.specs.Texts.{IsTextOf, text_alone};
 
     ghost plan = { tree_of };
 
-    ghost shown = { λ _. no_part };
+    ghost has_seen = { λ select. IsTextOf (tree_of select) };
 
-    fn fragment(&self, alloc: Global, task: &TaskRows) -> Result<Piece<NoPart>, NoMemory> {
-        self.has_no_window();
+    ghost shares = { λ _. text_alone };
+
+    ghost held = { λ _. empty };
+
+    ghost staying = { λ _. empty };
+
+    ghost has_taken = { λ _ _ _. Unit {0} };
+
+    ghost is_of = { λ _ _ _ _ _. Unit {0} };
+
+    fn start(&self, alloc: Global, own: &Block) -> Result<Text, NoMemory> {
         let mut text = Vec::new(alloc);
-        self.write_rows(task.rows.as_slice(), &mut text)?;
-        Ok(Piece {
-            closing: Parts::new(alloc),
-            complete_text: Text::from_vec(text),
-            pending: Parts::new(alloc),
-            opening: Parts::new(alloc),
-            closed_below: 0,
-        })
+        self.write_rows(own.rows.as_slice(), &mut text)?;
+        Ok(Text::from_vec(text))
     }
 
-    fn merge(&self, _into: &mut NoPart, _from: NoPart) -> Result<(), NoMemory> {
-        merge_has_unit();
+    fn feed(&self, _alloc: Global, _draft: &mut Text, _block: &Block) -> Result<(), NoMemory> {
         Ok(())
     }
 
-    fn lines(
+    fn finish(&self, _alloc: Global, draft: Text) -> Result<Text, NoMemory> {
+        self.has_no_window();
+        Ok(draft)
+    }
+
+    fn empty_store(&self, _alloc: Global) -> NoStore {
+        NoStore
+    }
+
+    fn take_in(
         &self,
         _alloc: Global,
-        _i: u64,
-        _part: &NoPart,
-        _out: &mut Vec<u8>,
+        _store: &mut NoStore,
+        piece: Text,
+        out: &mut Vec<u8>,
     ) -> Result<(), NoMemory> {
+        out.extend_from_slice(piece.as_slice())?;
         Ok(())
     }
+
+    fn drop_closed(&self, _store: &mut NoStore) {}
 }

@@ -8,10 +8,10 @@ ghost use Rattle.saber_plan.specs.Trees.{Tree, tree_of};
 ghost use Rattle.saber_plan.specs.Rows.{RowFits, stamp};
 ghost use Rattle.saber_plan.specs.Checked.{IsChecked, columns_on};
 ghost use Rattle.saber_plan.specs.Given.{RowsFit};
-ghost use Rattle.saber_plan.specs.Windows.{in_order};
+ghost use Rattle.saber_plan.specs.Windows.{can_follow};
 
 use super::*;
-use saber_fragment::{Operator, Piece, Rows, TaskRows};
+use saber_fragment::{Block, Operator, Rows, Text};
 use saber_plan::{
     Cmp, Conj, Expr, Factor, Factors, Item, Mark, NoMemory, Plan, Pred, Product, Row, Shape, Side,
     Stream, Unit, Values,
@@ -115,41 +115,43 @@ fn row(alloc: Global, time: u32, group: i64, number: i64) -> Result<Row, NoMemor
 
 // A row of this time can come next, and there is room for it.
 fn follows(mark: &Mark, time: u32) -> bool
-    ensures order { result ≡ true → in_order mark.now.last time ≡ true }
+    ensures order { result ≡ true → can_follow mark.now time ≡ true }
     ensures room { result ≡ true → mark.now.left < 2 ^ 32 }
 {
     let in_order = match mark.last {
         Some(last) => last.unsigned_abs() <= u64::from(time),
         None => true,
     };
-    in_order && mark.left < 1 << 32
+    !mark.ended && in_order && mark.left < 1 << 32
 }
 
 // What stands before the next row, where this one is of the left side.
 fn step(mark: &Mark, time: u32) -> Mark
     requires { mark.now.left < 2 ^ 32 }
-    ensures { result ≡ record { left = mark.now.left + 1; right = mark.now.right; last = Some (pos time) } }
+    ensures { result ≡ record { left = mark.now.left + 1; right = mark.now.right; last = Some (pos time); ended = mark.now.ended } }
 {
     Mark {
         left: mark.left + 1,
         right: mark.right,
         last: Some(i64::from(time)),
+        ended: mark.ended,
     }
 }
 
-// A task of these rows, after so many others, up to the first that can't come there.
-fn task(
+// A block of these rows, after so many others, up to the first that can't come there.
+fn block(
     alloc: Global,
     left: u32,
     last: Option<i64>,
     table: &[(u32, i64, i64)],
-) -> Result<TaskRows, NoMemory>
-    ensures { IfOk result (λ t. (q : Tree) → columns_on q.streams s.Left ≡ 3 → RowsFit q t.before (t.back ++ t.rows)) }
+) -> Result<Block, NoMemory>
+    ensures { IfOk result (λ b. (q : Tree) → columns_on q.streams s.Left ≡ 3 → RowsFit q b.before b.rows) }
 {
     let before = Mark {
         left: u64::from(left),
         right: 0,
         last,
+        ended: false,
     };
     let mut rows = Rows::new(alloc);
     let mut mark = before;
@@ -161,22 +163,20 @@ fn task(
         mark = step(&mark, *time);
         rows.push(row)?;
     }
-    Ok(TaskRows {
-        task: 0,
+    Ok(Block {
+        number: 0,
+        first: 0,
         before,
-        back: Rows::new(alloc),
         rows,
+        ended: false,
     })
 }
 
-fn fragment<O: Operator<Part = NoPart>>(
-    alloc: Global,
-    operator: &O,
-    task: &TaskRows,
-) -> Result<Piece<NoPart>, NoMemory>
-    requires { RowsFit (O.plan operator.now) task.now.before (task.now.back ++ task.now.rows) }
+fn piece<O: Operator>(alloc: Global, operator: &O, own: &Block) -> Result<O::Piece, NoMemory>
+    requires { RowsFit (O.plan operator.now) own.now.before own.now.rows }
 {
-    operator.fragment(alloc, task)
+    let draft = operator.start(alloc, own)?;
+    operator.finish(alloc, draft)
 }
 
 fn select(
@@ -185,26 +185,13 @@ fn select(
     left: u32,
     last: Option<i64>,
     table: &[(u32, i64, i64)],
-) -> Result<Piece<NoPart>, NoMemory>
+) -> Result<Text, NoMemory>
     requires checked { IsChecked (tree_of plan.now) }
     requires select { (tree_of plan.now).shape ≡ h.Select }
     requires columns { columns_on (tree_of plan.now).streams s.Left ≡ 3 }
 {
-    let task = task(alloc, left, last, table)?;
-    fragment(alloc, &Select::new(plan), &task)
-}
-
-// What is printed for a window, behind `#`: nothing.
-fn no_window(alloc: Global, plan: &Plan) -> Result<Vec<u8>, NoMemory>
-    requires checked { IsChecked (tree_of plan.now) }
-    requires select { (tree_of plan.now).shape ≡ h.Select }
-{
-    let operator = Select::new(plan);
-    let mut part = NoPart;
-    operator.merge(&mut part, NoPart)?;
-    let mut out = vec![in alloc; b'#']?;
-    operator.lines(alloc, 7, &part, &mut out)?;
-    Ok(out)
+    let own = block(alloc, left, last, table)?;
+    piece(alloc, &Select::new(plan), &own)
 }
 
 const ROWS: [(u32, i64, i64); 5] = [(0, 1, 10), (1, 1, 20), (2, 2, 5), (2, 1, 7), (9, 2, 1)];
@@ -213,15 +200,8 @@ const ROWS: [(u32, i64, i64); 5] = [(0, 1, 10), (1, 1, 20), (2, 2, 5), (2, 1, 7)
 fn values_of_rows_that_pass(rt: HostRuntime) -> Result<(), Fail> {
     let alloc = rt.alloc();
     let plan = doubles(alloc)?;
-    let piece = select(alloc, &plan, 0, None, &ROWS)?;
-    assert_eq!(rt;
-        piece.complete_text.as_slice(),
-        b"1,19\n1,39\n1,13\n".as_slice()
-    );
-    assert_eq!(rt; piece.closed_below, 0);
-    assert!(rt; piece.closing.into_vec().is_empty());
-    assert!(rt; piece.pending.into_vec().is_empty());
-    assert!(rt; piece.opening.into_vec().is_empty());
+    let text = select(alloc, &plan, 0, None, &ROWS)?;
+    assert_eq!(rt; text.as_slice(), b"1,19\n1,39\n1,13\n".as_slice());
     Ok(())
 }
 
@@ -229,8 +209,8 @@ fn values_of_rows_that_pass(rt: HostRuntime) -> Result<(), Fail> {
 fn rows_by_two_tests(rt: HostRuntime) -> Result<(), Fail> {
     let alloc = rt.alloc();
     let plan = tens(alloc)?;
-    let piece = select(alloc, &plan, 0, None, &ROWS)?;
-    assert_eq!(rt; piece.complete_text.as_slice(), b"10\n20\n".as_slice());
+    let text = select(alloc, &plan, 0, None, &ROWS)?;
+    assert_eq!(rt; text.as_slice(), b"10\n20\n".as_slice());
     Ok(())
 }
 
@@ -250,17 +230,9 @@ fn tasks_one_by_one(rt: HostRuntime) -> Result<(), Fail> {
             "-4,18446744073709551613\n-9223372036854775808,11\n",
         ),
     ];
-    for (left, last, rows, text) in table {
-        let piece = select(alloc, &plan, left, last, rows)?;
-        assert_eq!(rt; piece.complete_text.as_slice(), text.as_bytes());
+    for (left, last, rows, lines) in table {
+        let text = select(alloc, &plan, left, last, rows)?;
+        assert_eq!(rt; text.as_slice(), lines.as_bytes());
     }
-    Ok(())
-}
-
-#[test]
-fn windows_have_no_lines(rt: HostRuntime) -> Result<(), Fail> {
-    let alloc = rt.alloc();
-    let plan = tens(alloc)?;
-    assert_eq!(rt; no_window(alloc, &plan)?.as_slice(), b"#".as_slice());
     Ok(())
 }

@@ -1,4 +1,4 @@
-use Rattle.saber_join.proofs.Entering.{none_kept}
+use Rattle.saber_parts.specs.WindowFacts.{none_kept}
 use Rattle.saber_join.proofs.gathered.keep.Goals as goal
 
 pub returns-then-is_empty : goal.returns-then-is_empty

@@ -1,5 +1,5 @@
 use Rattle.std.proofs.Common.{◌≡◌, ◌∙◌, [], ◌∷◌, ◌++◌, true, refl, sym, ap, subst}
-use Rattle.saber_plan.specs.Windows.{in_order, mark_after}
+use Rattle.saber_plan.specs.Windows.{can_follow, mark_after}
 use Rattle.saber_join.proofs.Tested.{CanFollow, follow_none, follow_more, mark_next}
 use Rattle.saber_join.proofs.tests.rows_after.Goals as goal
 
@@ -21,5 +21,5 @@ loop-side-preserved c =
     let next : c.push.new.self ≡ xs ++ x ∷ [] = c.in_ok-push.ensures.ok in
     record {
       mark = c.step_mark-mark.ensures ∙ mark_next b n xs x c.loop-side.invariant.mark ∙ sym (ap (mark_after b) next);
-      fits = subst (CanFollow b) (sym next) (follow_more b n xs _ x c.loop-side.invariant.mark fits_row (subst (λ t. in_order n.last t ≡ true) (sym same) (can.order refl)) (can.left refl) (can.right refl) c.loop-side.invariant.fits);
+      fits = subst (CanFollow b) (sym next) (follow_more b n xs _ x c.loop-side.invariant.mark fits_row (subst (λ t. can_follow n t ≡ true) (sym same) (can.order refl)) (can.left refl) (can.right refl) c.loop-side.invariant.fits);
     }

@@ -4,7 +4,7 @@ use Rattle.std.specs.Cmp.{nat_cmp_total}
 use Rattle.std.specs.FinMap.{get, insert, nat_cmp-IsAntisymmetric}
 use Rattle.saber_plan.specs.Windows.{Placed}
 use Rattle.saber_plan.specs.Trees.{tree_of}
-use Rattle.saber_join.proofs.Maps.{written, inserted, looked_up}
+use Rattle.saber_plan.specs.TreeFacts.{written, inserted, looked_up}
 use Rattle.saber_join.specs.Keeping.{Held, HeldFits, nothing, taken}
 use Rattle.saber_join.specs.Open.{seen_held}
 use Rattle.saber_join.proofs.windows.take_at.Goals as goal

@@ -2,18 +2,17 @@ use Rattle.std.proofs.Common.{rules, ◌≡◌, ◌+◌, ◌-◌, ◌∷◌, [],
 use Rattle.std.proofs.lemmas.Bool.{both_ways}
 use Rattle.saber_plan.specs.Trees.{tree_of}
 use Rattle.saber_plan.specs.Windows.{step_mark}
-use Rattle.saber_plan.specs.Answers.{frame}
 use Rattle.saber_plan.specs.Parts.{group_part}
-use Rattle.saber_plan.specs.Needs.{first_window, past_window}
-use Rattle.saber_group.proofs.Following.{mark_more, left_small, right_small, few_rows}
+use Rattle.saber_plan.specs.RowFacts.{mark_more, left_small, right_small, few_rows}
+use Rattle.saber_group.specs.RunParts.{LiesIn}
 use Rattle.saber_group.proofs.Running.{RunTo, starts_at, run_nil, run_more, is_later, run_is}
 use Rattle.saber_group.proofs.group.Group.run_from.Goals as goal
 
 pub row_windows-first-requires-clause-left : goal.row_windows-first-requires-clause-left
-row_windows-first-requires-clause-left c = let b = c.args.batch.now in left_small (tree_of c.args.self.now) b.before c.args.mark.now b.rows.now c.args.from c.requires.batch.fits c.requires.mark
+row_windows-first-requires-clause-left c = let b = c.args.batch.now in left_small (tree_of c.args.self.now) b.before c.args.mark.now b.rows.now c.args.from c.requires.fits c.requires.mark
 
 pub row_windows-first-requires-clause-right : goal.row_windows-first-requires-clause-right
-row_windows-first-requires-clause-right c = let b = c.args.batch.now in right_small (tree_of c.args.self.now) b.before c.args.mark.now b.rows.now c.args.from c.requires.batch.fits c.requires.mark
+row_windows-first-requires-clause-right c = let b = c.args.batch.now in right_small (tree_of c.args.self.now) b.before c.args.mark.now b.rows.now c.args.from c.requires.fits c.requires.mark
 
 pub loop-end-init : goal.loop-end-init
 loop-end-init c =
@@ -26,20 +25,20 @@ loop-end-init c =
     }
 
 pub lies_in-requires-clause-left : goal.lies_in-requires-clause-left
-lies_in-requires-clause-left c = let b = c.args.batch.now in left_small (tree_of c.args.self.now) b.before c.loop-end.after b.rows.now c.loop-end.end c.requires.batch.fits c.loop-end.invariant.mark
+lies_in-requires-clause-left c = let b = c.args.batch.now in left_small (tree_of c.args.self.now) b.before c.loop-end.after b.rows.now c.loop-end.end c.requires.fits c.loop-end.invariant.mark
 
 pub lies_in-requires-clause-right : goal.lies_in-requires-clause-right
-lies_in-requires-clause-right c = let b = c.args.batch.now in right_small (tree_of c.args.self.now) b.before c.loop-end.after b.rows.now c.loop-end.end c.requires.batch.fits c.loop-end.invariant.mark
+lies_in-requires-clause-right c = let b = c.args.batch.now in right_small (tree_of c.args.self.now) b.before c.loop-end.after b.rows.now c.loop-end.end c.requires.fits c.loop-end.invariant.mark
 
 -- the row that lies in other windows comes behind the first
 later : goal.returns-then-not-lies_in-clause-more
 later c =
-    let f = frame (tree_of c.args.self.now) in
+    let q = tree_of c.args.self.now in
     let b = c.args.batch.now in
     let w = c.row_windows-first.result in
-    is_later (λ x a. (w.0 ≡ first_window f (record { row = x; before = a })) × (w.1 ≡ past_window f (record { row = x; before = a }))) b.before b.rows.now c.args.from c.loop-end.end c.index-rows-from.result c.index-rows-end.result c.args.mark.now c.loop-end.after
-    c.loop-end.invariant.low c.loop-end-test.true c.index-rows-from.is c.index-rows-end.is c.requires.mark c.loop-end.invariant.mark (c.row_windows-first.ensures.first, c.row_windows-first.ensures.past)
-    (λ h. both_ways c.lies_in.result c.if-not-lies_in.true (c.lies_in.ensures.no h.0 h.1))
+    is_later (LiesIn q w.0 w.1) b.before b.rows.now c.args.from c.loop-end.end c.index-rows-from.result c.index-rows-end.result c.args.mark.now c.loop-end.after
+    c.loop-end.invariant.low c.loop-end-test.true c.index-rows-from.is c.index-rows-end.is c.requires.mark c.loop-end.invariant.mark (record { begins = c.row_windows-first.ensures.first; ends = c.row_windows-first.ensures.past })
+    (λ h. both_ways c.lies_in.result c.if-not-lies_in.true (c.lies_in.ensures.no h))
 
 pub returns-then-not-lies_in-clause-more : goal.returns-then-not-lies_in-clause-more
 returns-then-not-lies_in-clause-more c = later c
@@ -51,8 +50,8 @@ returns-then-not-lies_in-clause-run c =
     let w = c.row_windows-first.result in
     let below = c.loop-end-test.true in
     run_is q b.before b.rows.now c.args.from c.loop-end.end w.0 w.1 c.loop-end.part
-    (starts_at c.past_have_none.ensures c.begun_stay.ensures q c.has_window.ensures.window c.has_window.ensures.fits b.before b.rows.now c.args.from c.index-rows-from.result c.args.mark.now w.0 w.1
-    c.requires.batch.fits c.requires.there c.index-rows-from.is c.requires.mark c.row_windows-first.ensures.first c.row_windows-first.ensures.past)
+    (starts_at c.past_have_none.ensures c.begun_stay.ensures c.closed_stay.ensures q c.has_window.ensures.window c.has_window.ensures.fits b.before b.rows.now c.args.from c.index-rows-from.result c.args.mark.now w.0 w.1
+    c.requires.fits c.requires.there c.index-rows-from.is c.requires.mark c.row_windows-first.ensures.first c.row_windows-first.ensures.past)
     (later c) (omega (arith, below)) c.loop-end.invariant.run
 
 pub add_row-requires-clause-room : goal.add_row-requires-clause-room
@@ -61,14 +60,14 @@ add_row-requires-clause-room c =
     let b = c.args.batch.now in
     let x = c.index-rows-end.result in
     let below = c.loop-end-test.true in
-    let few = few_rows q c.has_window.ensures.window b.before b.rows.now c.requires.batch.fits in
+    let few = few_rows q c.has_window.ensures.window.stream c.has_window.ensures.window.streams b.before b.rows.now c.requires.fits in
     (c.small_parts_merge.ensures q (c.loop-end.end - c.args.from) 1 c.loop-end.part (group_part q (x.values ∷ [])) c.loop-end.invariant.run.few (c.groups_are_of_rows.ensures q (x.values ∷ [])) (omega (arith, below, few))).0
 
 pub step-after-requires-clause-left : goal.step-after-requires-clause-left
-step-after-requires-clause-left c = let b = c.args.batch.now in left_small (tree_of c.args.self.now) b.before c.loop-end.after b.rows.now c.loop-end.end c.requires.batch.fits c.loop-end.invariant.mark
+step-after-requires-clause-left c = let b = c.args.batch.now in left_small (tree_of c.args.self.now) b.before c.loop-end.after b.rows.now c.loop-end.end c.requires.fits c.loop-end.invariant.mark
 
 pub step-after-requires-clause-right : goal.step-after-requires-clause-right
-step-after-requires-clause-right c = let b = c.args.batch.now in right_small (tree_of c.args.self.now) b.before c.loop-end.after b.rows.now c.loop-end.end c.requires.batch.fits c.loop-end.invariant.mark
+step-after-requires-clause-right c = let b = c.args.batch.now in right_small (tree_of c.args.self.now) b.before c.loop-end.after b.rows.now c.loop-end.end c.requires.fits c.loop-end.invariant.mark
 
 pub loop-end-preserved : goal.loop-end-preserved
 loop-end-preserved c =
@@ -84,7 +83,7 @@ loop-end-preserved c =
       mark = c.step-after.ensures ∙ ap (λ m. step_mark m x) c.loop-end.invariant.mark ∙ sym (mark_more b.before b.rows.now e x c.loop-end-test.true c.index-rows-end.is);
       run = subst (RunTo q b.before b.rows.now c.args.from (e + 1) w.0 w.1) (sym c.in_ok-add_row.ensures)
           (run_more c.rows_add_to_groups.ensures c.rows_span.ensures c.merge_is_associative.ensures c.small_parts_merge.ensures c.groups_are_of_rows.ensures q c.has_window.ensures.fits b.before b.rows.now c.args.from e w.0 w.1 c.loop-end.part x c.loop-end.after
-          low c.loop-end-test.true (few_rows q c.has_window.ensures.window b.before b.rows.now c.requires.batch.fits) c.index-rows-end.is c.loop-end.invariant.mark lies.0 lies.1 c.loop-end.invariant.run);
+          low c.loop-end-test.true (few_rows q c.has_window.ensures.window.stream c.has_window.ensures.window.streams b.before b.rows.now c.requires.fits) c.index-rows-end.is c.loop-end.invariant.mark lies.begins lies.ends c.loop-end.invariant.run);
     }
 
 pub returns-clause-run : goal.returns-clause-run
@@ -96,6 +95,6 @@ returns-clause-run c =
     let there = c.requires.there in
     let all : c.loop-end.end ≡ length b.rows.now = omega arith in
     run_is q b.before b.rows.now c.args.from (length b.rows.now) w.0 w.1 c.loop-end.part
-    (starts_at c.past_have_none.ensures c.begun_stay.ensures q c.has_window.ensures.window c.has_window.ensures.fits b.before b.rows.now c.args.from c.index-rows-from.result c.args.mark.now w.0 w.1
-    c.requires.batch.fits c.requires.there c.index-rows-from.is c.requires.mark c.row_windows-first.ensures.first c.row_windows-first.ensures.past)
+    (starts_at c.past_have_none.ensures c.begun_stay.ensures c.closed_stay.ensures q c.has_window.ensures.window c.has_window.ensures.fits b.before b.rows.now c.args.from c.index-rows-from.result c.args.mark.now w.0 w.1
+    c.requires.fits c.requires.there c.index-rows-from.is c.requires.mark c.row_windows-first.ensures.first c.row_windows-first.ensures.past)
     there (omega arith) (subst (λ n. RunTo q b.before b.rows.now c.args.from n w.0 w.1 c.loop-end.part) all c.loop-end.invariant.run)

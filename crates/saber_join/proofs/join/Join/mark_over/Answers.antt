@@ -1,7 +1,7 @@
 use Rattle.std.proofs.Common.{◌∙◌, sym, ap}
 use Rattle.saber_plan.specs.Windows.{step_mark}
 use Rattle.saber_plan.specs.Trees.{tree_of}
-use Rattle.saber_join.proofs.Following.{mark_more, left_small, right_small}
+use Rattle.saber_plan.specs.RowFacts.{mark_more, left_small, right_small}
 use Rattle.saber_join.proofs.join.Join.mark_over.Goals as goal
 
 pub step-mark-requires-clause-left : goal.step-mark-requires-clause-left

@@ -2,9 +2,9 @@ use Rattle.std.proofs.Common.{◌≡◌, ◌∙◌, sym, ap, refl, max}
 use Rattle.saber_plan.specs.Trees.{tree_of}
 use Rattle.saber_plan.specs.Windows.{Placed, step_mark}
 use Rattle.saber_plan.specs.Answers.{frame}
+use Rattle.saber_plan.specs.RowFacts.{left_small, right_small, mark_more, row_at}
 use Rattle.saber_join.specs.Keeping.{Held, noted}
 use Rattle.saber_join.specs.Open.{seen_held}
-use Rattle.saber_join.proofs.Following.{left_small, right_small, mark_more, row_at}
 use Rattle.saber_join.proofs.Holding.{noted_fits}
 use Rattle.saber_join.proofs.Changing.{changed_fits}
 use Rattle.saber_join.proofs.Growing.{no_rows_grown, small_at, grow_step}

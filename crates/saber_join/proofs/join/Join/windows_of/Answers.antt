@@ -4,9 +4,9 @@ use Rattle.saber_plan.specs.Trees.{tree_of}
 use Rattle.saber_plan.specs.Windows.{placed_after}
 use Rattle.saber_plan.specs.Answers.{frame}
 use Rattle.saber_plan.specs.Given.{RowsFit}
+use Rattle.saber_plan.specs.RowFacts.{fits_front, fits_back}
 use Rattle.saber_join.specs.Keeping.{nothing, taken, HeldFits}
 use Rattle.saber_join.specs.Open.{seen_held, held_in, Grown, HoldsTask}
-use Rattle.saber_join.proofs.Following.{fits_front, fits_back}
 use Rattle.saber_join.proofs.Task.{task_held}
 use Rattle.saber_join.proofs.join.Join.windows_of.Goals as goal
 

@@ -1,5 +1,6 @@
 use Rattle.std.proofs.Common.{◌≡◌, ◌++◌, map}
-use Rattle.saber_join.specs.Found.{lines_for, values_in, Behind}
+use Rattle.saber_plan.specs.Texts.{Behind}
+use Rattle.saber_join.specs.Found.{lines_for, values_in}
 use Rattle.saber_join.proofs.pairs.Pairs.write_lines.Given as goal
 
 abbrev pub invariant-loop-values : goal.invariant-loop-values

@@ -1,0 +1,189 @@
+-- A store of runs, and the open parts and the text that it stands for.
+use Rattle.std.proofs.Common.{◌≡◌, ℕ, ◌+◌, ◌-◌, ◌/◌, ◌≤◌, ◌<◌, List, [], ◌∷◌, ◌++◌, filter, flat_map, length, take, slice_range, Bool, true, false, cond, nat_le, refl, sym, ◌∙◌, ap, subst, arith, subst₂}
+use Rattle.std.specs.Option.{option_map_or}
+use Rattle.std.specs.Ordering.{nat_cmp}
+use Rattle.std.specs.FinMap.{empty, from_entries}
+use Rattle.std.proofs.lemmas.Bool.{lt-ltb, lt-leb}
+use Rattle.std.proofs.lemmas.List.{append_cancel_left, take_all}
+use Rattle.std.proofs.lemmas.List.Concat.{flat_map-append}
+use Rattle.saber_plan.specs.declared.rows.Row.{Row}
+use Rattle.saber_plan.specs.declared.plans.Shape.TheVariants.{Group}
+use Rattle.saber_plan.specs.Trees.{Tree}
+use Rattle.saber_plan.specs.Given.{RowsFit}
+use Rattle.saber_plan.specs.Inputs.{Input, arrived}
+use Rattle.saber_plan.specs.declared.windows.Mark.{Mark}
+use Rattle.saber_plan.specs.declared.windows.Measure.{Measure}
+use Rattle.saber_plan.specs.declared.windows.Measure.TheVariants.{Rows, Range}
+use Rattle.saber_plan.specs.Windows.{Fits, one, no_rows, mark_of, mark_at, last_mark, placed, has, closed_count, begun_count, from}
+use Rattle.saber_plan.specs.Answers.{by_shape, frame, lines, passing, selected, text, window_text}
+use Rattle.saber_plan.specs.Parts.{Part, no_part, part, part_lines, group_part, pair_part}
+use Rattle.saber_plan.specs.Shares.{piece_in}
+use Rattle.saber_plan.specs.Tasks.{full, numbered, unclosed, piece_between, written_by}
+use Rattle.saber_laws.specs.Parts.{PartHasLines, ClosedLinesStay}
+use Rattle.saber_laws.specs.Pieces.{TextGoesOn}
+use Rattle.saber_laws.specs.Marks.{MarksFollow, MarksAreOfRows, EndsAreBehind, ClosedRise, EndsCloseMore}
+use Rattle.saber_laws.specs.Windows.{ClosedAreCounted}
+use Rattle.saber_laws.specs.Plans.{OneWindow}
+use Rattle.saber_laws.specs.Shares.{SharesMakePiece}
+use Rattle.saber_plan.specs.ListFacts.{slice-front, slice-join, nothing_behind}
+use Rattle.saber_plan.specs.RowFacts.{fits_take, length-placed}
+use Rattle.saber_parts.specs.NumberFacts.{flat_map-from, from_more, numbered_is}
+use Rattle.saber_sliding.specs.Entries.{Entries, part_at}
+use Rattle.saber_group.specs.declared.runs.Run.{Run}
+use Rattle.saber_group.specs.declared.run_stores.RunStore.{RunStore}
+use Rattle.saber_group.specs.declared.run_pieces.RunPiece.{RunPiece}
+use Rattle.saber_group.specs.RunParts.{part_of, closed_by, lines_between, Holds}
+use Rattle.saber_group.specs.RunPieces.{RunsFrom, IsOf, shares_in}
+use Rattle.saber_group.specs.RunStores.{held_in, TakenIn, GoesOn, WentOn}
+use Rattle.saber_fragment.specs.Stores.{Follows}
+
+module _ (q : Tree) (e : q.shape ≡ Group) where
+  -- the part of a window over all rows
+  part_whole : (i : ℕ) (xs : List Row) → part q i xs 0 (length xs) ≡ part_of q i no_rows xs
+  part_whole i xs =
+      let long = length-placed no_rows xs in
+      let all : slice_range (placed xs) 0 (length xs) ≡ placed xs = take_all (length xs - 0) (placed xs) (omega (arith, long)) in
+      ap (λ s. by_shape s no_part (group_part q (passing q (filter (has (frame q) i) (slice_range (placed xs) 0 (length xs))))) (pair_part q 0 (filter (has (frame q) i) (slice_range (placed xs) 0 (length xs))))) e
+      ∙ ap (λ l. group_part q (passing q (filter (has (frame q) i) l))) all
+
+  line_is : PartHasLines → (i : ℕ) (xs : List Row) → lines q i xs ≡ part_lines q i (part_of q i no_rows xs)
+  line_is law i xs = law q i xs ∙ ap (part_lines q i) (part_whole i xs)
+
+  text_is : PartHasLines → (r : Input) → text q r ≡ lines_between q no_rows r.rows 0 (closed_count (frame q) (last_mark r))
+  unfolding text
+  text_is law r =
+      let c = closed_count (frame q) (last_mark r) in
+      let all : c ≡ c - 0 = omega arith in
+      ap (λ s. by_shape s (selected q r.rows) (window_text q r) (window_text q r)) e
+      ∙ flat_map-from (λ i. lines q i r.rows) (λ i. part_lines q i (part_of q i no_rows r.rows)) 0 c (λ i p l. line_is law i r.rows)
+      ∙ ap (λ n. flat_map (λ i. part_lines q i (part_of q i no_rows r.rows)) (from 0 n)) all
+
+  -- what windows print that more arrivals close
+  text_more : PartHasLines → ClosedLinesStay → ClosedAreCounted → ClosedRise → Fits (frame q) → (r : Input) (x y : ℕ) → RowsFit q no_rows r.rows → x ≤ y
+      → text q (arrived r y) ≡ text q (arrived r x) ++ lines_between q no_rows (take y r.rows) (closed_count (frame q) (mark_at r x)) (closed_count (frame q) (mark_at r y))
+  text_more law stay counted rise fits r x y given up =
+      let a = closed_count (frame q) (mark_at r x) in
+      let b = closed_count (frame q) (mark_at r y) in
+      let low : a ≤ b = rise (frame q) fits r x y given.ordered up in
+      let g = λ (i : ℕ). part_lines q i (part_of q i no_rows (take y r.rows)) in
+      let none : a - 0 ≡ a = omega arith in
+      text_is law (arrived r y) ∙ ap (flat_map g) (from_more 0 a b (omega arith) low) ∙ flat_map-append g (from 0 (a - 0)) (from a (b - a))
+      ∙ ap (λ l. l ++ lines_between q no_rows (take y r.rows) a b) (
+      flat_map-from g (λ i. part_lines q i (part_of q i no_rows (take x r.rows))) 0 (a - 0) (λ i p l.
+      let below : i < a = omega (arith, l, none) in
+      sym (line_is law i (take y r.rows)) ∙ stay q i r x y given.ordered up (sym (counted (frame q) fits i (mark_at r x)) ∙ lt-ltb i a below) ∙ line_is law i (take x r.rows))
+      ∙ sym (text_is law (arrived r x)))
+
+  pub written_is : PartHasLines → ClosedLinesStay → ClosedAreCounted → ClosedRise → TextGoesOn → Fits (frame q) → (r : Input) (x y : ℕ) → RowsFit q no_rows r.rows → x ≤ y
+      → lines_between q no_rows (take y r.rows) (closed_count (frame q) (mark_at r x)) (closed_count (frame q) (mark_at r y)) ≡ written_by q (unclosed q (arrived r x)) (piece_between q r x y)
+  written_is law stay counted rise goes fits r x y given up =
+      append_cancel_left (text q (arrived r x)) _ _ (sym (text_more law stay counted rise fits r x y given up) ∙ goes q fits r x y given.ordered up)
+
+  -- the store's parts are the open ones
+  pub held_is : (r : Input) (s : RunStore) → TakenIn q r s → held_in s ≡ unclosed q r
+  unfolding unclosed
+  held_is r s t =
+      let at = λ (i : ℕ). full (part_at s.windows.runs i) in
+      let given = λ (i : ℕ). full (part q i r.rows 0 (length r.rows)) in
+      ap (from_entries {R = nat_cmp}) (
+      numbered_is at s.windows.next (s.begun - s.windows.next)
+      ∙ flat_map-from (λ i. option_map_or (λ p. (i, p) ∷ []) (at i) []) (λ i. option_map_or (λ p. (i, p) ∷ []) (given i) []) s.windows.next (s.begun - s.windows.next)
+      (λ i p l. ap (λ a. option_map_or (λ (m : Part). (i, m) ∷ []) (full a) []) (sym (t.holds.at i p) ∙ sym (part_whole i r.rows)))
+      ∙ sym (numbered_is given s.windows.next (s.begun - s.windows.next))
+      ∙ (λ j. numbered (t.next_is j) (t.begun_is j - t.next_is j) given))
+
+-- the laws of marks along an input and of its end
+pub record MarkLaws : Type 0 where
+  pub follow : MarksFollow
+  pub of_rows : MarksAreOfRows
+  pub behind : EndsAreBehind
+  pub rise : ClosedRise
+  pub close_more : EndsCloseMore
+
+-- where there are no rows there are no runs, whatever is before them
+no_runs : (q : Tree) (m n : Mark) (rows : List Row) (rs : List Run) → length rows ≡ 0 → RunsFrom q m rows 0 rs → RunsFrom q n rows 0 rs
+no_runs q m n rows [] e h = h
+no_runs q m n rows (r ∷ rs) e h = absurd (let some = h.1.0 in let within = h.1.1.0 in omega (arith, some, within, e))
+
+module _ (q : Tree) (r : Input) (x y : ℕ) (s : RunStore) (p : RunPiece) (f : Follows q (held_in s) (shares_in q p) (λ u. TakenIn q u s) (λ m rows ended. IsOf q m rows ended p) r x y) where
+  abbrev pub old_rows : List Row
+  old_rows = take x r.rows
+
+  abbrev pub new_rows : List Row
+  new_rows = slice_range r.rows x y
+
+  all_rows : old_rows ++ new_rows ≡ take y r.rows
+  all_rows = sym (sym (slice-front r.rows y) ∙ slice-join r.rows 0 x y (omega arith) f.rises ∙ ap (λ l. l ++ slice_range r.rows x y) (slice-front r.rows x))
+
+  fits_all : RowsFit q no_rows (old_rows ++ new_rows)
+  fits_all = subst (RowsFit q no_rows) (sym all_rows) (fits_take q no_rows r.rows y f.fits)
+
+  -- the shares are the piece of those arrivals
+  pub piece_is : SharesMakePiece → piece_in (shares_in q p) ≡ piece_between q r x y
+  piece_is law = ap piece_in f.shares_are ∙ law q r x y (record { fits = f.windows; ordered = f.fits.ordered; rises = f.rises })
+
+  module _ (laws : MarkLaws) where
+    -- behind the piece comes what is behind all arrivals up to its end
+    mark_end : p.after ≡ mark_at r y
+    mark_end = f.of_is.after_is ∙ sym (laws.follow r x y f.rises)
+
+    -- behind the end there is no run, and before it the mark is that of the rows
+    runs_open : RunsFrom q (mark_of old_rows) new_rows 0 p.runs.items
+    runs_open = elim ((arrived r x).ended) as (λ b. (arrived r x).ended ≡ b → RunsFrom q (mark_of old_rows) new_rows 0 p.runs.items) [
+      | true ↦ λ e. no_runs q (mark_at r x) (mark_of old_rows) new_rows p.runs.items (ap length (nothing_behind r.rows x y (let far = laws.behind r x e in omega (arith, far)))) f.of_is.runs_are
+      | false ↦ λ e. subst (λ m. RunsFrom q m new_rows 0 p.runs.items) (laws.of_rows r x e) f.of_is.runs_are
+    ] refl
+
+    module _ (closed : ℕ) (closed_is : closed ≡ closed_count (frame q) p.after) where
+      closed_end : closed ≡ closed_count (frame q) (mark_at r y)
+      closed_end = closed_is ∙ ap (closed_count (frame q)) mark_end
+
+      -- the end closes windows too
+      reaches_all : closed_by q no_rows (old_rows ++ new_rows) ≤ closed
+      reaches_all =
+          subst (λ n. closed_by q no_rows (old_rows ++ new_rows) ≤ n) (sym closed_end)
+          (subst (λ l. closed_by q no_rows l ≤ closed_count (frame q) (mark_at r y)) (sym all_rows) (laws.close_more (frame q) f.windows (arrived r y).ended (mark_of (take y r.rows))))
+
+      pub goes_on : GoesOn q old_rows new_rows s.windows.next s.windows.runs p.runs.items closed
+      goes_on = record {
+        holds = f.taken_is.holds;
+        low = subst₂ (λ n o. n ≤ o) (sym f.taken_is.next_is) (sym closed_end) (laws.rise (frame q) f.windows r x y f.fits.ordered f.rises);
+        runs_are = runs_open;
+        fits = fits_all;
+        reaches = reaches_all;
+      }
+
+      pub taken_after : (new : RunStore) (before after : List ℕ) → new.begun ≡ begun_count (frame q) p.after → WentOn q old_rows new_rows s.windows.next new.windows.runs closed new.windows.next before after → TakenIn q (arrived r y) new
+      taken_after new before after begun w = record {
+        holds = subst₂ (λ l n. Holds q no_rows l n new.windows.runs) all_rows (sym w.done_is) w.holds;
+        next_is = w.done_is ∙ closed_end;
+        begun_is = begun ∙ ap (begun_count (frame q)) mark_end;
+      }
+
+      pub text_after : (new : Entries) (done : ℕ) (before after : List ℕ) → before ≡ [] → WentOn q old_rows new_rows s.windows.next new closed done before after
+          → after ≡ lines_between q no_rows (take y r.rows) (closed_count (frame q) (mark_at r x)) (closed_count (frame q) (mark_at r y))
+      text_after new done before after none w = w.text ∙ ap (λ b. b ++ lines_between q no_rows (old_rows ++ new_rows) s.windows.next closed) none ∙ (λ j. lines_between q no_rows (all_rows j) (f.taken_is.next_is j) (closed_end j))
+
+-- ---- no rows
+
+no_count : (b : Bool) (n : ℕ) → b ≡ false → 0 ≡ cond b n 0
+no_count true n e = cc
+no_count false n e = refl
+
+no_closed : (measure : Measure) (slide size : ℕ) → 1 ≤ size → 0 ≡ closed_count (one measure slide size) no_rows
+no_closed Rows slide size h = no_count (nat_le size 0) ((0 - size) / slide + 1) (lt-leb size 0 h)
+no_closed Range slide size h = refl
+
+no_begun : (measure : Measure) (slide size : ℕ) → 0 ≡ begun_count (one measure slide size) no_rows
+no_begun Rows slide size = refl
+no_begun Range slide size = refl
+
+pub none_closed : (q : Tree) → OneWindow q → 0 ≡ closed_count (frame q) no_rows
+none_closed q w = subst (λ f. 0 ≡ closed_count f no_rows) (sym w.has_frame) (no_closed w.window.measure w.window.slide w.window.size w.fits.size.0)
+
+pub none_begun : (q : Tree) → OneWindow q → 0 ≡ begun_count (frame q) no_rows
+none_begun q w = subst (λ f. 0 ≡ begun_count f no_rows) (sym w.has_frame) (no_begun w.window.measure w.window.slide w.window.size)
+
+pub nothing_held : (s : RunStore) → s.windows.next ≡ 0 → s.begun ≡ 0 → held_in s ≡ empty
+unfolding from
+nothing_held s n b = (λ j. from_entries {R = nat_cmp} (numbered (n j) (b j - n j) (λ i. full (part_at s.windows.runs i))))

@@ -1,5 +1,0 @@
-use Rattle.saber_group.proofs.Entering.{none_kept}
-use Rattle.saber_group.proofs.gathered.keep.Goals as goal
-
-pub returns-then-is_empty : goal.returns-then-is_empty
-returns-then-is_empty c = none_kept c.args.parts.now c.args.window c.args.part (c.is_empty.ensures.none c.if-is_empty.true)

@@ -1,6 +1,0 @@
-use Rattle.std.proofs.Common.{◌≡◌, take}
-use Rattle.saber_plan.specs.Windows.{mark_after}
-use Rattle.saber_group.proofs.group.Group.mark_over.Given as goal
-
-abbrev pub invariant-loop-row : goal.invariant-loop-row
-invariant-loop-row l = l.mark ≡ mark_after l.fn.before (take l.row-index l.rows)

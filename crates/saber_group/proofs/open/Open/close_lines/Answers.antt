@@ -1,0 +1,56 @@
+use Rattle.std.proofs.Common.{◌≡◌, ◌+◌, List, [], sym, ◌∙◌, ap, subst, arith}
+use Rattle.saber_plan.specs.declared.rows.Row.{Row}
+use Rattle.saber_plan.specs.declared.windows.Mark.{Mark}
+use Rattle.saber_plan.specs.Trees.{tree_of}
+use Rattle.saber_sliding.specs.Entries.{whole, part_at}
+use Rattle.saber_sliding.specs.EntryFacts.{nothing_first}
+use Rattle.saber_group.specs.RunParts.{Holds}
+use Rattle.saber_group.proofs.Opened.{holds_drop, holds_later, whole_is}
+use Rattle.saber_group.proofs.RunsTaken.{text_nil, text_step, text_skip}
+use Rattle.saber_group.proofs.open.Open.close_lines.Goals as goal
+
+pub loop-self-init : goal.loop-self-init
+loop-self-init c = record {
+  up = omega arith;
+  high = omega arith;
+  runs = λ m rows h. h;
+  text = λ m rows all h settled. text_nil (tree_of c.args.plan.now) m all c.args.self.now.next c.args.out.now.items;
+}
+
+pub loop-self-preserved-in-Some : goal.loop-self-preserved-in-Some
+loop-self-preserved-in-Some c =
+    let q = tree_of c.args.plan.now in
+    let n = c.loop-self.self.next in
+    let runs = c.loop-self.self.runs in
+    let rest = c.drop_to.new.self in
+    let dropped_is = c.in_ok-drop_to.ensures in
+    let begun = c.loop-self.invariant.up in
+    let most = c.loop-self.invariant.high in
+    let below = c.loop-self-test.true in
+    record {
+      up = omega (arith, begun);
+      high = omega (arith, most, below);
+      runs = λ m rows h. holds_later q m rows n (n + 1) rest (omega arith) (subst (Holds q m rows n) (sym dropped_is) (holds_drop q m rows n runs (c.loop-self.invariant.runs m rows h)));
+      text = λ m rows all h settled. text_step q m all c.args.self.now.next n begun c.in_ok-part-in-Some.part c.args.out.now.items c.loop-self.out.items c.lines.new.out.items
+          (c.in_ok-part-in-Some.ensures ∙ ap whole dropped_is ∙ whole_is q m rows n runs (c.loop-self.invariant.runs m rows h) ∙ settled n below)
+          c.in_ok-lines-in-Some.ensures.ok (c.loop-self.invariant.text m rows all h settled);
+    }
+
+pub loop-self-preserved : goal.loop-self-preserved
+loop-self-preserved c =
+    let q = tree_of c.args.plan.now in
+    let n = c.loop-self.self.next in
+    let runs = c.loop-self.self.runs in
+    let low = c.args.low in
+    let rest = c.drop_to.new.self in
+    let begun = c.loop-self.invariant.up in
+    let below = c.loop-self-test.true in
+    let none : rest ≡ [] = nothing_first rest (sym c.in-None.ensures) in
+    let held = λ (m : Mark) (rows : List Row) (h : Holds q m rows c.args.self.now.next c.args.self.now.runs). subst (Holds q m rows n) (sym c.in_ok-drop_to.ensures) (holds_drop q m rows n runs (c.loop-self.invariant.runs m rows h)) in
+    record {
+      up = omega (arith, begun, below);
+      high = omega arith;
+      runs = λ m rows h. holds_later q m rows n low rest (omega (arith, below)) (held m rows h);
+      text = λ m rows all h settled. text_skip q m all c.args.self.now.next n low begun (omega (arith, below)) (λ i p r. sym (settled i r) ∙ (held m rows h).at i p ∙ ap (λ es. part_at es i) none)
+          c.args.out.now.items c.loop-self.out.items (c.loop-self.invariant.text m rows all h settled);
+    }

@@ -1,0 +1,44 @@
+// What a task gives: its runs.
+ghost use Rattle.std.specs.Prelude.{IfOk};
+ghost use Rattle.saber_plan.specs.Trees.{tree_of};
+ghost use Rattle.saber_plan.specs.Given.{RowsFit};
+ghost use Rattle.saber_group.specs.RunPieces.{IsOf};
+
+use crate::batch::Batch;
+use crate::group::Group;
+use crate::runs::Run;
+use saber_plan::{Mark, NoMemory};
+use saber_window::ending;
+use std::alloc::Global;
+
+/// The runs of a task's rows, in order, with the mark before them and the one behind them, which has
+/// the input's end if that comes there.
+#[derive(Drop)]
+pub struct RunPiece {
+    pub(crate) runs: Vec<Run>,
+    pub(crate) before: Mark,
+    pub(crate) after: Mark,
+}
+
+impl Group<'_> {
+    /// The piece of a task. Each row is looked at once.
+    pub(crate) fn piece_of(&self, alloc: Global, batch: &Batch) -> Result<RunPiece, NoMemory>
+        requires { RowsFit (tree_of self.now) batch.now.before batch.now.rows.now }
+        ensures { IfOk result (λ p. IsOf (tree_of self.now) batch.now.before batch.now.rows.now batch.now.ended p) }
+    {
+        let mut runs = Vec::new(alloc);
+        let mut mark = batch.before;
+        let mut from = 0;
+        while from < batch.rows.len() {
+            let run = self.run_from(alloc, batch, from, &mark)?;
+            mark = run.after;
+            from = run.end;
+            runs.push(run)?;
+        }
+        Ok(RunPiece {
+            runs,
+            before: batch.before,
+            after: ending(batch.ended, &mark),
+        })
+    }
+}

@@ -1,0 +1,52 @@
+use Rattle.std.proofs.Common.{◌++◌, Some, sym, ◌∙◌, ap, append-nil}
+use Rattle.std.proofs.lemmas.Map.Iter.{rest_more, rest_all}
+use Rattle.saber_plan.specs.Tasks.{is_complete}
+use Rattle.saber_plan.specs.Needs.{is_closing, is_pending, is_opening}
+use Rattle.saber_parts.specs.Entries.{entry_if}
+use Rattle.saber_join.specs.Entries.{lines_if, entries_by, lines_by}
+use Rattle.saber_join.proofs.Entering.{gave_more}
+use Rattle.saber_join.proofs.gathered.gather.Goals as goal
+
+pub loop-window-init : goal.loop-window-init
+loop-window-init c =
+    let all = c.into_iter-window-iterator.ensures.into_iter_gives.0 in
+    let b = c.args.bounds.now in
+    record {
+      can = tt;
+      finite = tt;
+      closing = (λ j. c.new-gathered.ensures.closing j ++ entries_by is_closing b (all j));
+      pending = (λ j. c.new-gathered.ensures.pending j ++ entries_by is_pending b (all j));
+      opening = (λ j. c.new-gathered.ensures.opening j ++ entries_by is_opening b (all j));
+      lines = (λ j. c.new-gathered.ensures.text j ++ lines_by b (all j));
+    }
+
+pub loop-window-preserved : goal.loop-window-preserved
+loop-window-preserved c =
+    let b = c.args.bounds.now in
+    let left = rest_more (λ x. x) c.loop-window.window-iterator c.next.new.self c.next.result (c.in-Some.window, c.in-Some.held) c.in-Some.is c.next.ensures.steps in
+    let old = c.loop-window.gathered in
+    let new = c.place.new.gathered in
+    let i = c.in-Some.window in
+    let next = c.next.new.self in
+    let kind = c.kind.ensures in
+    let part = c.into_pairs.ensures in
+    record {
+      can = tt;
+      finite = tt;
+      closing = gave_more old.closing new.closing _ (entries_by is_closing b next) _ (c.in_ok-place.ensures.closing ∙ (λ j. old.closing ++ entry_if (is_closing (Some (kind j))) i (part j))) (ap (λ es. old.closing ++ entries_by is_closing b es) (sym left) ∙ c.loop-window.invariant.closing);
+      pending = gave_more old.pending new.pending _ (entries_by is_pending b next) _ (c.in_ok-place.ensures.pending ∙ (λ j. old.pending ++ entry_if (is_pending (Some (kind j))) i (part j))) (ap (λ es. old.pending ++ entries_by is_pending b es) (sym left) ∙ c.loop-window.invariant.pending);
+      opening = gave_more old.opening new.opening _ (entries_by is_opening b next) _ (c.in_ok-place.ensures.opening ∙ (λ j. old.opening ++ entry_if (is_opening (Some (kind j))) i (part j))) (ap (λ es. old.opening ++ entries_by is_opening b es) (sym left) ∙ c.loop-window.invariant.opening);
+      lines = gave_more old.text.items new.text.items _ (lines_by b next) _ (c.in_ok-place.ensures.text ∙ (λ j. old.text.items ++ lines_if (is_complete (Some (kind j))) i (part j))) (ap (λ es. old.text.items ++ lines_by b es) (sym left) ∙ c.loop-window.invariant.lines);
+    }
+
+pub returns : goal.returns
+returns c =
+    let none = rest_all (λ x. x) c.loop-window.window-iterator c.next.new.self c.next.result c.in-None.is c.next.ensures.steps in
+    let b = c.args.bounds.now in
+    let g = c.loop-window.gathered in
+    record {
+      closing = sym (append-nil g.closing) ∙ ap (λ es. g.closing ++ entries_by is_closing b es) (sym none) ∙ c.loop-window.invariant.closing;
+      pending = sym (append-nil g.pending) ∙ ap (λ es. g.pending ++ entries_by is_pending b es) (sym none) ∙ c.loop-window.invariant.pending;
+      opening = sym (append-nil g.opening) ∙ ap (λ es. g.opening ++ entries_by is_opening b es) (sym none) ∙ c.loop-window.invariant.opening;
+      lines = sym (append-nil g.text.items) ∙ ap (λ es. g.text.items ++ lines_by b es) (sym none) ∙ c.loop-window.invariant.lines;
+    }

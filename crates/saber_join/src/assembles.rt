@@ -1,0 +1,28 @@
+// How the pairs of a join's windows are put together.
+use crate::join::Join;
+use crate::pairs::Pairs;
+use saber_laws::{no_rows_no_part, pairs_are_in_order};
+use saber_parts::Assembles;
+use saber_plan::NoMemory;
+
+impl Assembles for Join<'_> {
+    type Part = Pairs;
+
+    ghost use Rattle.saber_plan.specs.Trees.{tree_of};
+
+    ghost plan = { tree_of };
+
+    ghost shown = { λ part. part };
+
+    fn merge(&self, into: &mut Pairs, from: Pairs) -> Result<(), NoMemory> {
+        self.has_windows();
+        no_rows_no_part();
+        into.merge(from)
+    }
+
+    fn lines(&self, i: u64, part: &Pairs, out: &mut Vec<u8>) -> Result<(), NoMemory> {
+        self.has_windows();
+        pairs_are_in_order();
+        part.lines(i, out)
+    }
+}

@@ -1,0 +1,4 @@
+mod Continuing
+mod Cutting
+mod Dropping
+mod Storing

@@ -1,0 +1,93 @@
+-- Facts on an input with the rows of one task more. Any proof may cite them.
+use Rattle.std.proofs.Common.{◌≡◌, ◌≢◌, ℕ, ◌+◌, ◌-◌, ◌≤◌, List, [], ◌++◌, length, take, slice_range, Bool, true, false, cond, ◌&&◌, nat_lt, refl, sym, ◌∙◌, ap, subst, length-append, arith}
+use Rattle.std.proofs.Math.Seq.{take-append_seam, drop-append_seam}
+use Rattle.std.proofs.lemmas.List.{take_all}
+use Rattle.std.proofs.lemmas.Bool.{lt-ltb, le-ltb}
+use Rattle.saber_plan.specs.declared.rows.Row.{Row}
+use Rattle.saber_plan.specs.declared.windows.Mark.{Mark}
+use Rattle.saber_plan.specs.declared.plans.Shape.TheVariants.{Join}
+use Rattle.saber_plan.specs.Inputs.{Input, arrived, going_on}
+use Rattle.saber_plan.specs.Trees.{Tree}
+use Rattle.saber_plan.specs.Answers.{frame}
+use Rattle.saber_plan.specs.Windows.{Fits, no_rows, mark_of, mark_at, last_mark}
+use Rattle.saber_plan.specs.Given.{RowsFit}
+use Rattle.saber_plan.specs.Tasks.{Parts, unclosed, left_by}
+use Rattle.saber_plan.specs.Shares.{Shares, shares_here, shares_between, piece_in}
+use Rattle.saber_laws.specs.Pieces.{OpenGoesOn}
+use Rattle.saber_laws.specs.Shares.{SharesAreLocal, SharesMakePiece}
+use Rattle.saber_fragment.specs.Stores.{Follows}
+
+-- the input with the task, and where the task ends in it
+abbrev pub with_task : List Row → List Row → Bool → Input
+with_task xs ys ended = record { rows = xs ++ ys; ended = ended }
+
+abbrev pub end_of : List Row → List Row → Bool → ℕ
+end_of xs ys ended = length xs + length ys + cond ended 1 0
+
+not_yet : (b : Bool) (n x : ℕ) → x ≤ n → b && nat_lt n x ≡ false
+not_yet true n x h = le-ltb n x h
+not_yet false n x h = refl
+
+comes : (b : Bool) (n x : ℕ) → n + cond b 1 0 ≡ x → b && nat_lt n x ≡ b
+comes true n x e = lt-ltb n x (omega (arith, e))
+comes false n x e = refl
+
+far : (b : Bool) (n m k : ℕ) → n ≡ m + k → n ≤ m + k + cond b 1 0
+far true n m k e = omega (arith, e)
+far false n m k e = omega (arith, e)
+
+enough : (b : Bool) (m k : ℕ) → k ≤ m + k + cond b 1 0 - m
+enough true m k = omega arith
+enough false m k = omega arith
+
+reaches : (b : Bool) (m k : ℕ) → m ≤ m + k + cond b 1 0
+reaches true m k = omega arith
+reaches false m k = omega arith
+
+module _ (xs ys : List Row) (ended : Bool) where
+  long : length (xs ++ ys) ≡ length xs + length ys
+  long = length-append xs ys
+
+  pub at_first : arrived (with_task xs ys ended) (length xs) ≡ going_on xs
+  at_first = λ j. record { rows = take-append_seam xs ys j; ended = not_yet ended (length (xs ++ ys)) (length xs) (let l = long in omega (arith, l)) j }
+
+  pub at_last : arrived (with_task xs ys ended) (end_of xs ys ended) ≡ with_task xs ys ended
+  at_last = λ j. record { rows = take_all (end_of xs ys ended) (xs ++ ys) (far ended (length (xs ++ ys)) (length xs) (length ys) long) j; ended = comes ended (length (xs ++ ys)) (end_of xs ys ended) (ap (λ n. n + cond ended 1 0) long) j }
+
+  pub own_rows : slice_range (xs ++ ys) (length xs) (end_of xs ys ended) ≡ ys
+  own_rows = ap (take (end_of xs ys ended - length xs)) (drop-append_seam xs ys) ∙ take_all (end_of xs ys ended - length xs) ys (enough ended (length xs) (length ys))
+
+  -- what the task gives, by its own rows alone
+  pub local_shares : SharesAreLocal → (q : Tree) → Fits (frame q) → q.shape ≢ Join → (m : Mark) → m ≡ mark_of xs → RowsFit q no_rows (xs ++ ys)
+      → shares_here q m [] ys ended ≡ shares_between q (with_task xs ys ended) (length xs) (end_of xs ys ended)
+  local_shares local q w no_join m before fits =
+      let r = with_task xs ys ended in
+      let mark : m ≡ mark_at r (length xs) = before ∙ ap last_mark (sym at_first) in
+      let ends : ended ≡ (arrived r (end_of xs ys ended)).ended = ap (λ u. u.ended) (sym at_last) in
+      (λ j. shares_here q (mark j) [] (sym own_rows j) (ends j)) ∙ local q r (length xs) (end_of xs ys ended) (record { fits = w; ordered = fits.ordered; rises = reaches ended (length xs) (length ys) }) no_join
+
+  -- a store that has taken in the rows before the task can take the task in
+  pub task_follows : (q : Tree) → Fits (frame q) → (m : Mark) → m ≡ mark_of xs → RowsFit q no_rows (xs ++ ys) → (parts : Parts) (s : Shares) (taken : Input → Type 0) (of : Mark → List Row → Bool → Type 0)
+      → parts ≡ unclosed q (going_on xs) → taken (going_on xs) → s ≡ shares_between q (with_task xs ys ended) (length xs) (end_of xs ys ended) → of m ys ended
+      → Follows q parts s taken of (with_task xs ys ended) (length xs) (end_of xs ys ended)
+  task_follows q w m before fits parts s taken of held is_taken shares is_of =
+      let r = with_task xs ys ended in
+      let mark : m ≡ mark_at r (length xs) = before ∙ ap last_mark (sym at_first) in
+      let ends : ended ≡ (arrived r (end_of xs ys ended)).ended = ap (λ u. u.ended) (sym at_last) in
+      record {
+        windows = w;
+        fits = fits;
+        rises = reaches ended (length xs) (length ys);
+        unclosed_is = held ∙ ap (unclosed q) (sym at_first);
+        shares_are = shares;
+        taken_is = subst taken (sym at_first) is_taken;
+        of_is = subst (λ (a : Mark). of a (slice_range (xs ++ ys) (length xs) (end_of xs ys ended)) (arrived r (end_of xs ys ended)).ended) mark (subst (λ l. of m l (arrived r (end_of xs ys ended)).ended) (sym own_rows) (subst (λ b. of m ys b) ends is_of));
+      }
+
+  -- and then it holds what they leave open together
+  pub task_leaves : SharesMakePiece → OpenGoesOn → (q : Tree) (parts : Parts) (s : Shares) (taken : Input → Type 0) (of : Mark → List Row → Bool → Type 0) → Follows q parts s taken of (with_task xs ys ended) (length xs) (end_of xs ys ended) → left_by q parts (piece_in s) ≡ unclosed q (with_task xs ys ended)
+  task_leaves make goes q parts s taken of f =
+      let r = with_task xs ys ended in
+      (λ j. left_by q (f.unclosed_is j) ((ap piece_in f.shares_are ∙ make q r (length xs) (end_of xs ys ended) (record { fits = f.windows; ordered = f.fits.ordered; rises = f.rises })) j))
+      ∙ sym (goes q f.windows r (length xs) (end_of xs ys ended) f.fits.ordered f.rises)
+      ∙ ap (unclosed q) at_last

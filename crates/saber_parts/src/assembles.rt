@@ -1,0 +1,31 @@
+// What an operator does with the parts of its windows.
+ghost use Rattle.std.specs.Prelude.{◌≡◌, ◌++◌, OnOk, OnErr};
+ghost use Rattle.saber_plan.specs.Trees.{Tree};
+ghost use Rattle.saber_plan.specs.Parts.{Part, merge, part_lines};
+ghost use Rattle.saber_plan.specs.Given.{IsPartOf, AreNeighbors};
+
+use saber_plan::NoMemory;
+
+/// How the parts of windows are put together (SABER 2016: the assembly function of an operator).
+pub trait Assembles {
+    /// What is kept of the rows of one window.
+    type Part: Drop;
+
+    /// The plan that is answered.
+    ghost plan: { Self → Tree };
+
+    /// What a part is for the definitions.
+    ghost shown: { Self.Part → Part };
+
+    /// Takes in the part of later rows of the same window. After want of memory the part is only
+    /// safe to let go.
+    fn merge(&self, into: &mut Self::Part, from: Self::Part) -> Result<(), NoMemory>
+        requires { AreNeighbors (plan self.now) (shown into.old) (shown from) }
+        ensures { OnOk result (shown into.new ≡ merge (shown into.old) (shown from)) };
+
+    /// Appends the lines of window i, of which this is the whole part.
+    fn lines(&self, i: u64, part: &Self::Part, out: &mut Vec<u8>) -> Result<(), NoMemory>
+        requires { IsPartOf (plan self.now) (shown part.now) }
+        ensures ok { OnOk result (out.new.items ≡ out.old.items ++ part_lines (plan self.now) i (shown part.now)) }
+        ensures err { OnErr result (out.new.items ≡ out.old.items) };
+}
