@@ -1,5 +1,3 @@
-mod Storing
-mod Cutting
-mod Continuing
+mod Beginning
 mod Prefixes
 mod Stepping

@@ -1,2 +1,3 @@
-pub mod Stored
 pub mod Stages
+pub mod Works
+pub mod WorkLaws

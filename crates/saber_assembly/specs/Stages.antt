@@ -1,13 +1,17 @@
 -- The result stage as contracts see it, and where it stands after some tasks.
-use Rattle.std.specs.Prelude.{◌≡◌, ◌≤◌, ℕ, ◌+◌, List, ◌++◌, take, length, Option}
+use Rattle.std.specs.Prelude.{◌≡◌, ◌≤◌, ℕ, ◌+◌, Bool, List, ◌++◌, Option}
 use Rattle.saber_io.specs.Outside.{Rose, appended}
 use Rattle.saber_plan.specs.declared.rows.Row.{Row}
+use Rattle.saber_plan.specs.declared.windows.Mark.{Mark}
+use Rattle.saber_plan.specs.Inputs.{Input}
 use Rattle.saber_plan.specs.Trees.{Tree}
 use Rattle.saber_plan.specs.Answers.{text, frame}
 use Rattle.saber_plan.specs.Given.{RowsFit}
-use Rattle.saber_plan.specs.Windows.{Fits, no_rows}
-use Rattle.saber_plan.specs.Tasks.{Parts, upto, unclosed}
+use Rattle.saber_plan.specs.Windows.{Fits, no_rows, mark_at}
+use Rattle.saber_plan.specs.Tasks.{Parts, cut, upto, unclosed}
+use Rattle.saber_plan.specs.Needs.{task_rows}
 use Rattle.saber_plan.specs.Shares.{Shares, shares_between}
+use Rattle.saber_assembly.specs.declared.stage.Stage.{Stage}
 use Rattle.saber_assembly.specs.declared.stage.State.{State}
 use Rattle.saber_assembly.specs.declared.stage.State.TheVariants.{Running, SinkFailed, NoMemory}
 
@@ -19,22 +23,14 @@ pub record StageView : Type 0 where
   pub k : ℕ
   pub state : State
 
--- rows before position x are behind the stage, and these are the shares of those from x up to y
-pub record Continues (q : Tree) (parts : Parts) (s : Shares) : Type 0 where
-  pub rows : List Row
-  pub from : ℕ
-  pub to : ℕ
-  pub windows : Fits (frame q)
-  pub fits : RowsFit q no_rows rows
-  pub rises : from ≤ to
-  pub there : to ≤ length rows
-  pub unclosed_is : parts ≡ unclosed q (take from rows)
-  pub shares_are : s ≡ shares_between q rows from to
+-- a stage, seen so, by what its operator holds in a store, and by what its sink has written and its faults
+abbrev pub seen : {S K : Type 0} → (S → Parts) → (K → Option (List ℕ)) → (K → ℕ) → Stage S K → StageView
+seen held written faults s = record { written = written s.sink; faults = faults s.sink; parts = held s.store; k = s.k; state = s.state }
 
--- rows that the plan can be given, cut into tasks of n rows
-pub record Tasks (q : Tree) (n : ℕ) (xs : List Row) : Type 0 where
+-- an input that the plan can be given, cut into tasks of n rows
+pub record Tasks (q : Tree) (n : ℕ) (r : Input) : Type 0 where
   pub windows : Fits (frame q)
-  pub fits : RowsFit q no_rows xs
+  pub fits : RowsFit q no_rows r.rows
   pub size : 1 ≤ n
 
 -- what the sink had written when the stage was made, and its count of faults then
@@ -42,22 +38,32 @@ pub record Start : Type 0 where
   pub written : Option (List ℕ)
   pub faults : ℕ
 
--- the text of the first k tasks' rows, and then a prefix of what the next task adds
-pub record IsCut (q : Tree) (n : ℕ) (xs : List Row) (k : ℕ) (out : List ℕ) : Type 0 where
+-- the text of the first k tasks, and then a prefix of what the next task adds
+pub record IsCut (q : Tree) (n : ℕ) (r : Input) (k : ℕ) (out : List ℕ) : Type 0 where
   pub more : List ℕ
   pub rest : List ℕ
-  pub out_is : out ≡ text q (upto n xs k) ++ more
-  pub next_is : text q (upto n xs (k + 1)) ≡ text q (upto n xs k) ++ (more ++ rest)
+  pub out_is : out ≡ text q (upto n r k) ++ more
+  pub next_is : text q (upto n r (k + 1)) ≡ text q (upto n r k) ++ (more ++ rest)
 
 -- that much is written, where the sink tells
-pub record IsCutOff (q : Tree) (n : ℕ) (xs : List Row) (k : ℕ) (start written : Option (List ℕ)) : Type 0 where
+pub record IsCutOff (q : Tree) (n : ℕ) (r : Input) (k : ℕ) (start written : Option (List ℕ)) : Type 0 where
   pub out : List ℕ
   pub written_is : written ≡ appended start out
-  pub is_cut : IsCut q n xs k out
+  pub is_cut : IsCut q n r k out
 
 -- The stage has k tasks of n rows behind it: while it runs, the text of their rows is written and their open parts are kept;
--- where the sink failed, a prefix of the next task's text is out too, and the count of faults rose; where memory lacked, nothing more is out.
-abbrev pub After : Tree → ℕ → List Row → Start → StageView → State → Type 0
-After q n xs start s Running = (s.written ≡ appended start.written (text q (upto n xs s.k))) × (s.parts ≡ unclosed q (upto n xs s.k)) × (start.faults ≤ s.faults)
-After q n xs start s SinkFailed = IsCutOff q n xs s.k start.written s.written × Rose start.faults s.faults
-After q n xs start s NoMemory = s.written ≡ appended start.written (text q (upto n xs s.k))
+-- where the sink failed, a prefix of the next task's text is out too, and the count of faults rose, which it else did not; where memory lacked, nothing more is out.
+abbrev pub After : Tree → ℕ → Input → Start → StageView → State → Type 0
+After q n r start s Running = (s.written ≡ appended start.written (text q (upto n r s.k))) × (s.parts ≡ unclosed q (upto n r s.k)) × (s.faults ≡ start.faults)
+After q n r start s SinkFailed = IsCutOff q n r s.k start.written s.written × Rose start.faults s.faults × (start.faults ≤ s.faults)
+After q n r start s NoMemory = (s.written ≡ appended start.written (text q (upto n r s.k))) × (s.faults ≡ start.faults)
+
+-- What the stage keeps of a run: where it stands, and while it goes on what its store knows of the input of the tasks behind it.
+pub record Keeps (q : Tree) (n : ℕ) (r : Input) (start : Start) (taken : Input → Type 0) (s : StageView) : Type 0 where
+  pub after : After q n r start s s.state
+  pub taken_is : s.state ≡ Running → taken (upto n r s.k)
+
+-- a piece of task k, by its shares and by what it knows of its rows
+pub record IsPieceAt (q : Tree) (n : ℕ) (r : Input) (k : ℕ) (s : Shares) (of : Mark → List Row → Bool → Type 0) : Type 0 where
+  pub shares_are : s ≡ shares_between q r (cut n r k) (cut n r (k + 1))
+  pub of_is : of (mark_at r (cut n r k)) (task_rows n r k) (upto n r (k + 1)).ended

@@ -1,15 +1,15 @@
 // The result stage.
-ghost use Rattle.std.specs.Prelude.{◌≡◌, ◌≤◌, OnOk, Err};
+ghost use Rattle.std.specs.Prelude.{◌≡◌, ◌≢◌, ◌≤◌, OnOk, Err};
 ghost use Rattle.saber_io.specs.Outside.{Rose, appended, AppendsPrefix};
 ghost use Rattle.saber_io.specs.declared.outside.WriteFault.{WriteFault};
 
-use crate::store::settle;
-use saber_fragment::{Operator, Piece};
+use saber_fragment::Operator;
 use saber_io::{Sink, WriteFault};
-use saber_laws::{open_goes_on, shares_make_piece, text_goes_on};
+use saber_laws::{
+    cuts_rise, no_rows_give_nothing, no_tasks_no_rows, open_goes_on, shares_make_piece,
+    text_goes_on,
+};
 use std::alloc::Global;
-use std::collections::BTreeMap;
-use std::marker::Model;
 
 /// Whether a stage goes on, or why it stopped.
 #[derive(Clone, Copy, Debug, PartialEq, Eq)]
@@ -29,26 +29,13 @@ pub enum Absorbed {
     Stopped,
 }
 
-/// The result stage: the sink, the parts of open windows, and how many tasks are behind it. Contracts
-/// see it as a `StageView`.
-pub struct Stage<O: Operator, K: Sink> {
+/// The result stage: the sink, the operator's store, and how many tasks are behind it. `seen` is its view.
+/// Clauses name the store too, since an operator may know more of it than the parts of windows.
+pub struct Stage<S, K> {
     sink: K,
-    parts: BTreeMap<u64, O::Part>,
+    store: S,
     k: u64,
     state: State,
-}
-
-impl<O: Operator, K: Sink> Model for Stage<O, K> {
-    ghost use Rattle.saber_assembly.specs.Stages.{StageView};
-    ghost use Rattle.saber_assembly.specs.Stored.{parts_by};
-    ghost use Rattle.std.specs.Coded.{codes};
-    ghost use Rattle.saber_plan.specs.Codes.{coded_parts};
-
-    ghost Value = { StageView };
-
-    ghost coded = { Prim.hlevel (codes, coded_parts) };
-
-    ghost view = { λ s. record { written = K.written s.sink; faults = K.faults s.sink; parts = parts_by O.shown s.parts.entries; k = s.k; state = s.state } };
 }
 
 // Writes a text in one write, and none where it is empty.
@@ -57,6 +44,7 @@ fn write_text<K: Sink>(sink: &mut K, text: &[u8]) -> Result<(), WriteFault>
     ensures failed { result ≡ Err WriteFault.Failed → AppendsPrefix (K.written sink.old) (K.written sink.new) text.now }
     ensures memory { result ≡ Err WriteFault.NoMemory → K.written sink.new ≡ K.written sink.old }
     ensures cause { result ≡ Err WriteFault.Failed → Rose (K.faults sink.old) (K.faults sink.new) }
+    ensures good { result ≢ Err WriteFault.Failed → K.faults sink.new ≡ K.faults sink.old }
     ensures count { K.faults sink.old ≤ K.faults sink.new }
 {
     if text.is_empty() {
@@ -65,27 +53,33 @@ fn write_text<K: Sink>(sink: &mut K, text: &[u8]) -> Result<(), WriteFault>
     sink.write_all(text)
 }
 
-impl<O: Operator, K: Sink> Stage<O, K> {
-    ghost use Rattle.std.specs.Prelude.{◌≡◌, ◌≢◌, ◌≤◌, ◌<◌, ◌^◌, ℕ, ◌+◌, List, IfSome, IfNone};
+impl<S: Drop, K: Sink> Stage<S, K> {
+    ghost use Rattle.std.specs.Prelude.{◌≡◌, ◌≢◌, ◌≤◌, ◌<◌, ◌^◌, ℕ, ◌+◌, [], IfSome, IfNone};
     ghost use Rattle.std.specs.FinMap.{empty};
     ghost use Rattle.saber_io.specs.Outside.{Rose, appended, AppendsPrefix};
-    ghost use Rattle.saber_plan.specs.declared.rows.Row.{Row};
-    ghost use Rattle.saber_plan.specs.Windows.{no_rows};
-    ghost use Rattle.saber_plan.specs.Given.{RowsFit};
-    ghost use Rattle.saber_plan.specs.Tasks.{cut, task_count, written_by, left_by};
-    ghost use Rattle.saber_plan.specs.Shares.{piece_in, shares_between};
-    ghost use Rattle.saber_fragment.specs.Shown.{shares_of};
-    ghost use Rattle.saber_assembly.specs.Stages.{Start, Continues, Tasks, After};
+    ghost use Rattle.saber_plan.specs.Inputs.{Input, going_on};
+    ghost use Rattle.saber_plan.specs.Tasks.{written_by, left_by};
+    ghost use Rattle.saber_plan.specs.Shares.{piece_in};
+    ghost use Rattle.saber_fragment.specs.Stores.{CanTakeIn, TakesIn};
+    ghost use Rattle.saber_assembly.specs.Stages.{seen, Start, Tasks, Keeps, IsPieceAt};
     ghost use Rattle.saber_assembly.specs.declared.stage.State.{State};
     ghost use Rattle.saber_assembly.specs.declared.stage.Absorbed.{Absorbed};
 
-    /// A stage with no task behind it. Takes no memory.
-    pub fn new(alloc: Global, sink: K) -> Stage<O, K>
-        ensures { result ≡ record { written = K.written sink; faults = K.faults sink; parts = empty; k = 0; state = State.Running } }
+    /// A stage with no task behind it: of each run it keeps what stands before the first task. Takes no memory.
+    pub fn new<O: Operator<Store = S>>(alloc: Global, operator: &O, sink: K) -> Stage<S, K>
+        ensures sink { result.sink ≡ sink }
+        ensures parts { O.held result.store ≡ empty }
+        ensures none { result.k ≡ 0 }
+        ensures runs { result.state ≡ State.Running }
+        ensures taken { O.has_taken operator.now result.store (going_on []) }
+        ensures keeps { (n : ℕ) (r : Input) → Tasks (O.plan operator.now) n r
+            → Keeps (O.plan operator.now) n r (record { written = K.written sink; faults = K.faults sink }) (O.has_taken operator.now result.store) (seen O.held K.written K.faults result) }
     {
+        no_rows_give_nothing();
+        no_tasks_no_rows();
         Stage {
             sink,
-            parts: BTreeMap::new(alloc),
+            store: operator.empty_store(alloc),
             k: 0,
             state: State::Running,
         }
@@ -93,12 +87,11 @@ impl<O: Operator, K: Sink> Stage<O, K> {
 
     /// The sink, with what was written to it.
     pub fn into_sink(self) -> K
-        ensures written { K.written result ≡ self.written }
-        ensures faults { K.faults result ≡ self.faults }
+        ensures { result ≡ self.sink }
     {
         let Stage {
             sink,
-            parts: _parts,
+            store: _store,
             k: _k,
             state: _state,
         } = self;
@@ -120,29 +113,37 @@ impl<O: Operator, K: Sink> Stage<O, K> {
     }
 
     // Takes in the piece of the next task.
-    fn absorb_piece(&mut self, alloc: Global, operator: &O, piece: Piece<O::Part>) -> Absorbed
+    fn absorb_piece<O: Operator<Store = S>>(
+        &mut self,
+        alloc: Global,
+        operator: &O,
+        piece: O::Piece,
+    ) -> Absorbed
         requires running { self.old.state ≡ State.Running }
         requires few { self.old.k < 2 ^ 62 }
-        requires next { Continues (O.plan operator.now) self.old.parts (shares_of O.shown piece) }
-        ensures written { result ≡ Absorbed.Done → self.new.written ≡ appended self.old.written (written_by (O.plan operator.now) self.old.parts (piece_in (shares_of O.shown piece))) }
-        ensures left { result ≡ Absorbed.Done → self.new.parts ≡ left_by (O.plan operator.now) self.old.parts (piece_in (shares_of O.shown piece)) }
+        requires next { CanTakeIn (O.plan operator.now) (O.held self.old.store) (O.shares operator.now piece) (O.has_taken operator.now self.old.store) (O.is_of operator.now piece) }
+        ensures written { result ≡ Absorbed.Done → K.written self.new.sink ≡ appended (K.written self.old.sink) (written_by (O.plan operator.now) (O.held self.old.store) (piece_in (O.shares operator.now piece))) }
+        ensures left { result ≡ Absorbed.Done → O.held self.new.store ≡ left_by (O.plan operator.now) (O.held self.old.store) (piece_in (O.shares operator.now piece)) }
         ensures rises { result ≡ Absorbed.Done → self.new.k ≡ self.old.k + 1 }
         ensures runs { result ≡ Absorbed.Done → self.new.state ≡ State.Running }
+        ensures taken { result ≡ Absorbed.Done → TakesIn (O.plan operator.now) (O.held self.old.store) (O.shares operator.now piece) (O.has_taken operator.now self.old.store) (O.is_of operator.now piece) (O.has_taken operator.now self.new.store) }
         ensures stopped { result ≡ Absorbed.Stopped → self.new.state ≢ State.Running }
         ensures stays { result ≡ Absorbed.Stopped → self.new.k ≡ self.old.k }
-        ensures failed { self.new.state ≡ State.SinkFailed → AppendsPrefix self.old.written self.new.written (written_by (O.plan operator.now) self.old.parts (piece_in (shares_of O.shown piece))) }
-        ensures cause { self.new.state ≡ State.SinkFailed → Rose self.old.faults self.new.faults }
-        ensures memory { self.new.state ≡ State.NoMemory → self.new.written ≡ self.old.written }
-        ensures count { self.old.faults ≤ self.new.faults }
+        ensures failed { self.new.state ≡ State.SinkFailed → AppendsPrefix (K.written self.old.sink) (K.written self.new.sink) (written_by (O.plan operator.now) (O.held self.old.store) (piece_in (O.shares operator.now piece))) }
+        ensures cause { self.new.state ≡ State.SinkFailed → Rose (K.faults self.old.sink) (K.faults self.new.sink) }
+        ensures good { self.new.state ≢ State.SinkFailed → K.faults self.new.sink ≡ K.faults self.old.sink }
+        ensures memory { self.new.state ≡ State.NoMemory → K.written self.new.sink ≡ K.written self.old.sink }
+        ensures count { K.faults self.old.sink ≤ K.faults self.new.sink }
     {
-        match settle(alloc, operator, &mut self.parts, piece) {
+        let mut text = Vec::new(alloc);
+        match operator.take_in(alloc, &mut self.store, piece, &mut text) {
             Err(_) => {
                 self.state = State::NoMemory;
                 Absorbed::Stopped
             }
-            Ok((rest, text)) => match write_text(&mut self.sink, &text) {
+            Ok(()) => match write_text(&mut self.sink, &text) {
                 Ok(()) => {
-                    self.parts = rest;
+                    operator.drop_closed(&mut self.store);
                     self.k += 1;
                     Absorbed::Done
                 }
@@ -160,31 +161,42 @@ impl<O: Operator, K: Sink> Stage<O, K> {
 
     /// Takes in the piece of the next task, or the mark that memory lacked for it. Merge, text, one
     /// write, then the closed parts go and the count rises; so want of memory leaves what was written.
-    pub fn absorb(&mut self, alloc: Global, operator: &O, piece: Option<Piece<O::Part>>) -> Absorbed
+    pub fn absorb<O: Operator<Store = S>>(
+        &mut self,
+        alloc: Global,
+        operator: &O,
+        piece: Option<O::Piece>,
+    ) -> Absorbed
         requires running { self.old.state ≡ State.Running }
         requires few { self.old.k < 2 ^ 62 }
-        requires next { IfSome piece (λ p. Continues (O.plan operator.now) self.old.parts (shares_of O.shown p)) }
+        requires next { IfSome piece (λ p. CanTakeIn (O.plan operator.now) (O.held self.old.store) (O.shares operator.now p) (O.has_taken operator.now self.old.store) (O.is_of operator.now p)) }
 
         // The step of the definitions.
-        ensures written { result ≡ Absorbed.Done → IfSome piece (λ p. self.new.written ≡ appended self.old.written (written_by (O.plan operator.now) self.old.parts (piece_in (shares_of O.shown p)))) }
-        ensures left { result ≡ Absorbed.Done → IfSome piece (λ p. self.new.parts ≡ left_by (O.plan operator.now) self.old.parts (piece_in (shares_of O.shown p))) }
+        ensures written { result ≡ Absorbed.Done → IfSome piece (λ p. K.written self.new.sink ≡ appended (K.written self.old.sink) (written_by (O.plan operator.now) (O.held self.old.store) (piece_in (O.shares operator.now p)))) }
+        ensures left { result ≡ Absorbed.Done → IfSome piece (λ p. O.held self.new.store ≡ left_by (O.plan operator.now) (O.held self.old.store) (piece_in (O.shares operator.now p))) }
         ensures rises { result ≡ Absorbed.Done → self.new.k ≡ self.old.k + 1 }
         ensures runs { result ≡ Absorbed.Done → self.new.state ≡ State.Running }
+
+        // And the store has taken in all up to the piece's end.
+        ensures taken { result ≡ Absorbed.Done → IfSome piece (λ p. TakesIn (O.plan operator.now) (O.held self.old.store) (O.shares operator.now p) (O.has_taken operator.now self.old.store) (O.is_of operator.now p) (O.has_taken operator.now self.new.store)) }
 
         // What a stop leaves, and why it comes.
         ensures stopped { result ≡ Absorbed.Stopped → self.new.state ≢ State.Running }
         ensures stays { result ≡ Absorbed.Stopped → self.new.k ≡ self.old.k }
         ensures none { IfNone piece ((result ≡ Absorbed.Stopped) × (self.new.state ≡ State.NoMemory)) }
-        ensures failed { self.new.state ≡ State.SinkFailed → IfSome piece (λ p. AppendsPrefix self.old.written self.new.written (written_by (O.plan operator.now) self.old.parts (piece_in (shares_of O.shown p)))) }
-        ensures cause { self.new.state ≡ State.SinkFailed → Rose self.old.faults self.new.faults }
-        ensures memory { self.new.state ≡ State.NoMemory → self.new.written ≡ self.old.written }
-        ensures count { self.old.faults ≤ self.new.faults }
+        ensures failed { self.new.state ≡ State.SinkFailed → IfSome piece (λ p. AppendsPrefix (K.written self.old.sink) (K.written self.new.sink) (written_by (O.plan operator.now) (O.held self.old.store) (piece_in (O.shares operator.now p)))) }
+        ensures cause { self.new.state ≡ State.SinkFailed → Rose (K.faults self.old.sink) (K.faults self.new.sink) }
+        ensures good { self.new.state ≢ State.SinkFailed → K.faults self.new.sink ≡ K.faults self.old.sink }
+        ensures memory { self.new.state ≡ State.NoMemory → K.written self.new.sink ≡ K.written self.old.sink }
+        ensures count { K.faults self.old.sink ≤ K.faults self.new.sink }
 
         // So a stage after k tasks, given the piece of task k, is one after k + 1, or stopped at k.
-        ensures after { (n : ℕ) (xs : List Row) (start : Start) → Tasks (O.plan operator.now) n xs → After (O.plan operator.now) n xs start self.old State.Running
-            → IfSome piece (λ p. shares_of O.shown p ≡ shares_between (O.plan operator.now) xs (cut n xs self.old.k) (cut n xs (self.old.k + 1)))
-            → After (O.plan operator.now) n xs start self.new self.new.state }
+        ensures keeps { (n : ℕ) (r : Input) (start : Start) → Tasks (O.plan operator.now) n r
+            → Keeps (O.plan operator.now) n r start (O.has_taken operator.now self.old.store) (seen O.held K.written K.faults self.old)
+            → IfSome piece (λ p. IsPieceAt (O.plan operator.now) n r self.old.k (O.shares operator.now p) (O.is_of operator.now p))
+            → Keeps (O.plan operator.now) n r start (O.has_taken operator.now self.new.store) (seen O.held K.written K.faults self.new) }
     {
+        cuts_rise();
         text_goes_on();
         open_goes_on();
         shares_make_piece();
