@@ -1,0 +1,70 @@
+-- Counts of faults, call after call.
+use Rattle.std.proofs.Common.{◌≡◌, ◌∙◌, ℕ, List, [], ◌∷◌, Bool, true, false, cond, sym, ap, arith}
+use Rattle.std.specs.Prelude.{Option, Some, None, Result, Ok, Err}
+use Rattle.saber_dispatch.specs.declared.ends.End.{End}
+use Rattle.saber_dispatch.specs.declared.ends.End.TheVariants.{AllRead, Bad, ReadFault, TooWide, NoMemory}
+use Rattle.saber_dispatch.specs.Cutting.{stops, ended_by, told_end, is_due}
+use Rattle.saber_plan.specs.declared.rows.Side.{Side}
+use Rattle.saber_plan.specs.declared.rows.Side.TheVariants.{Left, Right}
+use Rattle.saber_dispatch.specs.Sources.{RoseAt, NoneFell}
+
+pub none_same : (a : List ℕ) → NoneFell a a
+none_same [] = tt
+none_same (x ∷ a) = (omega arith, none_same a)
+
+pub none_on : (a b c : List ℕ) → NoneFell a b → NoneFell b c → NoneFell a c
+none_on [] [] c h k = k
+none_on [] (y ∷ b) c h k = absurd h
+none_on (x ∷ a) [] c h k = absurd h
+none_on (x ∷ a) (y ∷ b) [] h k = absurd k
+none_on (x ∷ a) (y ∷ b) (z ∷ c) h k = (omega (arith, h.0, k.0), none_on a b c h.1 k.1)
+
+rose_left : (a b c : List ℕ) → NoneFell a b → RoseAt Left b c → RoseAt Left a c
+rose_left [] [] c h k = absurd k
+rose_left [] (y ∷ b) c h k = absurd h
+rose_left (x ∷ a) [] c h k = absurd h
+rose_left (x ∷ a) (y ∷ b) [] h k = absurd k
+rose_left (x ∷ a) (y ∷ b) (z ∷ c) h k = omega (arith, h.0, k)
+
+rose_right : (a b c : List ℕ) → NoneFell a b → RoseAt Right b c → RoseAt Right a c
+rose_right [] [] c h k = absurd k
+rose_right [] (y ∷ b) c h k = absurd h
+rose_right (x ∷ a) [] c h k = absurd h
+rose_right (x ∷ []) (y ∷ []) c h k = absurd k
+rose_right (x ∷ []) (y ∷ w ∷ b) c h k = absurd h.1
+rose_right (x ∷ v ∷ a) (y ∷ []) c h k = absurd h.1
+rose_right (x ∷ v ∷ a) (y ∷ w ∷ b) [] h k = absurd k
+rose_right (x ∷ v ∷ a) (y ∷ w ∷ b) (z ∷ []) h k = absurd k
+rose_right (x ∷ v ∷ a) (y ∷ w ∷ b) (z ∷ u ∷ c) h k = omega (arith, h.1.0, k)
+
+pub rose_on : (side : Side) (a b c : List ℕ) → NoneFell a b → RoseAt side b c → RoseAt side a c
+rose_on Left a b c h k = rose_left a b c h k
+rose_on Right a b c h k = rose_right a b c h k
+
+-- a read fault is the end that comes in place of a block
+pub fault_stops : (filled : Result (Unit {0}) End) (count : ℕ) (end : End) (side : Side) → filled ≡ Err (ReadFault side) → stops filled count ≡ Some end → end ≡ ReadFault side
+fault_stops filled count end side f e = let same : Some (ReadFault side) ≡ Some end = sym (ap (λ r. stops r count) f) ∙ e in cc
+
+pub fault_goes_on : (filled : Result (Unit {0}) End) (count : ℕ) (side : Side) → filled ≡ Err (ReadFault side) → stops filled count ≡ None → ⊥
+fault_goes_on filled count side f e = let same : Some (ReadFault side) ≡ None = sym (ap (λ r. stops r count) f) ∙ e in cc
+
+pub fault_ended : (filled : Result (Unit {0}) End) (side : Side) → ended_by filled ≡ Some (ReadFault side) → filled ≡ Err (ReadFault side)
+fault_ended (Ok u) side e = absurd (none_some e) where
+  none_some : ◌≡◌ {A = Option End} None (Some (ReadFault side)) → ⊥
+  none_some i = cc
+fault_ended (Err end) side e = let same : end ≡ ReadFault side = cc in ap (λ x. Err x) same
+
+pub all_not_fault : (side : Side) → ◌≡◌ {A = Option End} (Some AllRead) (Some (ReadFault side)) → ⊥
+all_not_fault side e = cc
+
+-- a fault is told at once
+pub fault_told : (flush : Bool) (count : ℕ) (ended : Option End) (side : Side) → told_end flush count ended ≡ Some (ReadFault side) → ended ≡ Some (ReadFault side)
+fault_told flush count None side e = e
+fault_told flush count (Some AllRead) side e = absurd (by_case (is_due flush count AllRead) e) where
+  by_case : (b : Bool) → cond {A = Option End} b None (Some AllRead) ≡ Some (ReadFault side) → ⊥
+  by_case true i = cc
+  by_case false i = cc
+fault_told flush count (Some (Bad s l c)) side e = e
+fault_told flush count (Some (ReadFault s)) side e = e
+fault_told flush count (Some (TooWide t n)) side e = e
+fault_told flush count (Some NoMemory) side e = e

@@ -1,0 +1,13 @@
+pub mod ReadSteps
+pub mod Fillings
+pub mod Faults
+pub mod LastBlocks
+pub mod NextTasks
+pub mod BlockLists
+pub mod BlockCuts
+pub mod BlockReads
+pub mod EndBlocks
+pub mod Beginning
+pub mod TaskBlocks
+pub mod Supplies
+pub mod Leavings

@@ -1,0 +1,68 @@
+use Rattle.std.proofs.Common.{◌≡◌, ◌≤◌, ◌+◌, ◌-◌, ◌++◌, length, false, Some, refl, sym, ◌∙◌, ap, subst, arith}
+use Rattle.saber_plan.specs.Given.{RowsFit}
+use Rattle.saber_plan.specs.Inputs.{going_on}
+use Rattle.saber_dispatch.specs.declared.ends.End.TheVariants.{TooWide, NoMemory}
+use Rattle.saber_dispatch.specs.declared.cutter.Cut.TheVariants.{Ended}
+use Rattle.saber_dispatch.specs.Cutting.{CutTo, LooksBack}
+use Rattle.saber_dispatch.proofs.Fillings.{pushed_ok}
+use Rattle.saber_dispatch.proofs.BlockCuts.{behind, own_fit, dropped_cuts, is_too_wide, is_near, is_next, given_cuts}
+use Rattle.saber_dispatch.proofs.NextTasks.{wide_end, near_end}
+use Rattle.saber_fragment.specs.declared.blocks.Block.{Block}
+use Rattle.saber_dispatch.proofs.cutter.Cutter.put_block.Goals as goal
+
+pub look_back-first-requires : goal.look_back-first-requires
+look_back-first-requires c =
+    let (q, s, had, has, xs, f) = c.requires in
+    (q, s.task, xs, behind q s had has c.args.self.now xs c.args.before c.args.rows f, f.back)
+
+pub returns-in-Some : goal.returns-in-Some
+returns-in-Some c = record {
+  cuts = λ q s had has xs f.
+      let a = c.args.self.now in
+      let first = c.look_back-first.result in
+      let needs = a.number - first + 1 in
+      let is = c.look_back-first.ensures.first q s.task xs (behind q s had has a xs c.args.before c.args.rows f) f.back in
+      let l = c.look_back-first.new.lasts in
+      let wide = wide_end a.number first a.room c.in-Some.end (sym c.too_wide.ensures ∙ c.in-Some.is) in
+      subst (λ e. CutTo (Ended e) q s had has (record a { lasts = l; ended = Some e }) (going_on xs)) (sym wide.0)
+      (refl, (dropped_cuts q s had has a xs c.args.before c.args.rows f l (TooWide a.number needs) (is_too_wide q s had has a xs c.args.before c.args.rows f l (TooWide a.number needs) first needs is refl wide.1)));
+  same = λ b e. cc;
+  read = λ side e.
+      let a = c.args.self.now in
+      let wide = (wide_end a.number c.look_back-first.result a.room c.in-Some.end (sym c.too_wide.ensures ∙ c.in-Some.is)).0 in
+      cc;
+}
+
+pub note-requires : goal.note-requires
+note-requires c =
+    let (q, s, had, has, xs, f) = c.requires in
+    let a = c.args.self.now in
+    let b = behind q s had has a xs c.args.before c.args.rows f in
+    let few : length c.as_slice.result.now ≤ 65536 = omega (arith, f.few, f.sizes.task, ap length c.as_slice.ensures) in
+    (q, s.task, xs, a.number, b, c.look_back-first.ensures.back q s.task xs b f.back, subst (RowsFit q c.args.before) (sym c.as_slice.ensures) (own_fit q s had has a xs c.args.before c.args.rows f), few)
+
+pub returns-then-is_err : goal.returns-then-is_err
+returns-then-is_err c = record {
+  cuts = λ q s had has xs f. (refl, dropped_cuts q s had has c.args.self.now xs c.args.before c.args.rows f c.note.new.lasts NoMemory tt);
+  same = λ b e. cc;
+  read = λ side e. cc;
+}
+
+pub returns : goal.returns
+returns c = record {
+  cuts = λ q s had has xs f.
+      let a = c.args.self.now in
+      let b = behind q s had has a xs c.args.before c.args.rows f in
+      let is = c.look_back-first.ensures.first q s.task xs b f.back in
+      let looked = c.look_back-first.ensures.back q s.task xs b f.back in
+      let own : c.as_slice.result.now ≡ c.args.rows = c.as_slice.ensures in
+      let fit = subst (RowsFit q c.args.before) (sym own) (own_fit q s had has a xs c.args.before c.args.rows f) in
+      let few : length c.as_slice.result.now ≤ s.task = omega (arith, f.few, ap length own) in
+      let noted = pushed_ok c.note.result c.is_err.result _ c.if-is_err.false c.is_err.ensures.value c.note.ensures in
+      let back = subst (λ l. LooksBack q s.task (xs ++ l) (a.number + 1) c.note.new.lasts) own (noted q s.task xs a.number b f.whole looked fit few) in
+      let near = is_near q s had has a xs c.args.before c.args.rows f c.look_back-first.result is (near_end a.number c.look_back-first.result a.room (sym c.too_wide.ensures ∙ c.in_default.is)) in
+      let block : Block = record { number = a.number; first = c.look_back-first.result; before = c.args.before; rows = c.args.rows; ended = false } in
+      (is_next q s had has a xs c.args.before c.args.rows f block refl refl refl refl is (near_end a.number c.look_back-first.result a.room (sym c.too_wide.ensures ∙ c.in_default.is)), given_cuts q s had has a xs c.args.before c.args.rows f c.needs_stay.ensures c.note.new.lasts back near);
+  same = λ b e. refl;
+  read = λ side e. cc;
+}

@@ -1,0 +1,9 @@
+use Rattle.std.proofs.Common.{sym, subst}
+use Rattle.saber_dispatch.specs.Readings.{reading_of, FaultsAreReal}
+use Rattle.saber_dispatch.specs.Sources.{each_input}
+use Rattle.saber_dispatch.proofs.reader.Reader.next.Goals as goal
+
+pub returns-in-One-clause-cause : goal.returns-in-One-clause-cause
+returns-in-One-clause-cause g c =
+    let k = each_input g.S.Source.faults in
+    subst (λ r. FaultsAreReal c.next_of_one.result (reading_of r) (k c.args.inputs.now) (k c.next_of_one.new.inputs)) (sym c.in-One.is) c.next_of_one.ensures.cause

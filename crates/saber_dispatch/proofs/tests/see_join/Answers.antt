@@ -1,0 +1,14 @@
+use Rattle.std.proofs.Common.{List, Option, Some, ℕ, [], ◌∷◌, sym, subst}
+use Rattle.saber_plan.specs.Inputs.{going_on}
+use Rattle.saber_plan.specs.Trees.{tree_of}
+use Rattle.saber_dispatch.specs.Readings.{Suits}
+use Rattle.saber_dispatch.specs.Cutting.{fresh, fresh_on}
+use Rattle.saber_dispatch.proofs.tests.see_join.Goals as goal
+
+pub see_all-requires : goal.see_all-requires
+see_all-requires c =
+    let q = tree_of c.in_ok-plan.plan in
+    let s = c.args.sizes.now in
+    let had : List (Option (List ℕ)) = Some c.in_ok-source.field-0.left ∷ Some c.in_ok-source-2.field-0.left ∷ [] in
+    let suits : Suits (fresh q s.max_lines) had = subst (λ streams. Suits (fresh_on q s.max_lines streams) had) (sym (c.in_ok-plan.ensures.two).2) tt in
+    (q, s, had, going_on [], c.in_ok-cutter.ensures.cuts had suits)

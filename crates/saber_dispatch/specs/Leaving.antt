@@ -1,0 +1,36 @@
+-- What was taken of inputs of which a read failed.
+use Rattle.std.specs.Prelude.{◌≡◌, ◌≤◌, ℕ, ◌*◌, ◌/◌, length, List, [], ◌∷◌, Some}
+use Rattle.saber_io.specs.Outside.{given}
+use Rattle.saber_plan.specs.declared.rows.Side.{Side}
+use Rattle.saber_plan.specs.declared.rows.Side.TheVariants.{Left, Right}
+use Rattle.saber_plan.specs.declared.sizes.Sizes.{Sizes}
+use Rattle.saber_plan.specs.Rows.{Read, whole}
+use Rattle.saber_plan.specs.Inputs.{Input, input, going_on}
+use Rattle.saber_plan.specs.Tasks.{upto, task_count}
+use Rattle.saber_plan.specs.Trees.{Tree}
+use Rattle.saber_dispatch.specs.Sources.{Lefts}
+use Rattle.saber_dispatch.specs.declared.ends.End.TheVariants.{ReadFault}
+use Rattle.saber_dispatch.specs.declared.cutter.Cutter.{Cutter}
+use Rattle.saber_dispatch.specs.Cutting.{Cuts, end_of, rules_on}
+
+-- these bytes were taken of each, in order
+abbrev pub GaveAll : Lefts → List (List ℕ) → Lefts → Type 0
+GaveAll [] [] [] = Unit {0}
+GaveAll (had ∷ hads) (taken ∷ more) (has ∷ hass) = (had ≡ given taken has) × GaveAll hads more hass
+GaveAll _ _ _ = ⊥
+
+-- the rows of the whole lines of these bytes, where more may follow
+abbrev pub wholes : Tree → ℕ → List (List ℕ) → List Read
+wholes q most [] = []
+wholes q most (l ∷ []) = whole (rules_on q most Left) l ∷ []
+wholes q most (l ∷ r ∷ more) = whole (rules_on q most Left) l ∷ whole (rules_on q most Right) r ∷ []
+
+-- at least every whole task of the whole lines that were taken of each input is in a block
+pub record ReadsWhole (q : Tree) (s : Sizes) (had has : Lefts) (r : Input) : Type 0 where
+  pub taken : List (List ℕ)
+  pub left : GaveAll had taken has
+  pub count : length (input (wholes q s.max_lines taken)).rows / s.task ≤ task_count s.task r
+  pub tasks : (k : ℕ) → k * s.task ≤ length (input (wholes q s.max_lines taken)).rows → upto s.task r k ≡ upto s.task (going_on (input (wholes q s.max_lines taken)).rows) k
+
+abbrev pub FaultsLeaveWholeTasks : Type 0
+FaultsLeaveWholeTasks = (q : Tree) (s : Sizes) (had has : Lefts) (c : Cutter) (r : Input) (side : Side) → Cuts q s had has c r → end_of c ≡ Some (ReadFault side) → ReadsWhole q s had has r

@@ -1,0 +1,320 @@
+// Blocks, one after another.
+ghost use Rattle.std.specs.Prelude.{◌≡◌, ◌≢◌, ◌≤◌, ◌^◌, IfSome, ℕ, ◌+◌, ◌*◌, ◌++◌, length, List, Option, Some, None, true, false, OnOk, IfOk, []};
+ghost use Rattle.saber_plan.specs.declared.rows.Row.{Row};
+ghost use Rattle.saber_plan.specs.declared.sizes.Sizes.{Sizes};
+ghost use Rattle.saber_plan.specs.Trees.{Tree};
+ghost use Rattle.saber_plan.specs.Given.{RowsFit};
+ghost use Rattle.saber_plan.specs.Inputs.{Input, going_on};
+ghost use Rattle.saber_plan.specs.Needs.{free};
+ghost use Rattle.saber_plan.specs.declared.rows.Side.{Side};
+ghost use Rattle.saber_dispatch.specs.declared.ends.End.{End};
+ghost use Rattle.saber_fragment.specs.declared.blocks.Block.{Block};
+ghost use Rattle.saber_dispatch.specs.declared.cutter.Cut.{Cut};
+ghost use Rattle.saber_dispatch.specs.Sources.{Lefts, each_input, RoseAt, NoneFell};
+ghost use Rattle.saber_dispatch.specs.Filling.{keeps};
+ghost use Rattle.saber_dispatch.specs.Cutting.{Behind, LooksBack, NotesOn, Filled, Cuts, CutTo, CutsOn, CutsNothing, too_wide, ended_by, stops, is_due, end_of};
+ghost use Rattle.saber_plan.specs.Trees.{tree_of};
+ghost use Rattle.saber_plan.specs.Checked.{IsChecked};
+ghost use Rattle.saber_plan.specs.Sizes.{SizesFit};
+
+use crate::ends::End;
+use crate::fill::fill;
+use crate::inputs::Inputs;
+use crate::lasts::Lasts;
+use crate::opening::{end_counts, lasts_for, reader_for};
+use crate::reader::Reader;
+use saber_fragment::{Block, Rows};
+use saber_io::Source;
+use saber_laws::{checked_fit, lasts_tell_free, needs_stay, tasks_look_back, tasks_look_on};
+use saber_plan::{Mark, NoMemory, Plan, Row, Sizes};
+use saber_rows::{mergers_stand, merges_go_on, moves_go_on, readers_stand};
+use saber_window::stamps_fit;
+use std::alloc::Global;
+
+/// Cuts the rows of a query's inputs into blocks, and keeps what tells how far back each task looks.
+/// It holds no rows. Contracts see it by `Cuts`: which tasks its blocks were. It is called with the same
+/// inputs each time.
+#[derive(Drop)]
+pub struct Cutter {
+    alloc: Global,
+    reader: Reader,
+    // of a query that joins two streams
+    lasts: Option<Lasts>,
+    // rows of a block
+    size: usize,
+    // how many blocks a task may need
+    room: u64,
+    // whether a block for the input's end follows, once all rows are in blocks
+    flush: bool,
+    mark: Mark,
+    // the next block's
+    number: u64,
+    // why no more rows come
+    ended: Option<End>,
+}
+
+/// What a call of a cutter comes to.
+#[derive(Drop)]
+pub enum Cut {
+    /// The next task's block.
+    Block(Block),
+    /// No more blocks come.
+    Ended(End),
+}
+
+// The first block that the next task looks back on.
+fn look_back(lasts: &mut Option<Lasts>, number: u64, before: &Mark) -> u64
+    requires { (q : Tree) × (n : ℕ) × (xs : List Row) × Behind q n xs number before.now × LooksBack q n xs number lasts.old }
+    ensures first { (q : Tree) (n : ℕ) (xs : List Row) → Behind q n xs number before.now → LooksBack q n xs number lasts.old → result ≡ free q n (going_on xs) number }
+    ensures back { (q : Tree) (n : ℕ) (xs : List Row) → Behind q n xs number before.now → LooksBack q n xs number lasts.old → LooksBack q n xs number lasts.new }
+    ensures within { result ≤ number }
+    ensures few { number ≤ 2 ^ 41 }
+{
+    lasts_tell_free();
+    tasks_look_back();
+    match lasts {
+        None => number,
+        Some(lasts) => lasts.look_back(before),
+    }
+}
+
+// Notes the rows of a block.
+fn note(lasts: &mut Option<Lasts>, before: &Mark, rows: &[Row]) -> Result<(), NoMemory>
+    requires { (q : Tree) × (n : ℕ) × (xs : List Row) × (t : ℕ) × Behind q n xs t before.now × LooksBack q n xs t lasts.old × RowsFit q before.now rows.now × (length rows.now ≤ 2 ^ 16) }
+    ensures { OnOk result (NotesOn before.now rows.now lasts.old lasts.new) }
+{
+    tasks_look_on();
+    needs_stay();
+    stamps_fit();
+    match lasts {
+        None => Ok(()),
+        Some(lasts) => lasts.note(before, rows),
+    }
+}
+
+// The end in place of a task that needs the blocks from this one on, where there is no room for so many.
+fn too_wide(task: u64, first: u64, room: u64) -> Option<End>
+    requires within { first ≤ task }
+    requires few { task ≤ 2 ^ 41 }
+    ensures { result ≡ too_wide task first room }
+{
+    let need = task - first + 1;
+    if need > room {
+        Some(End::TooWide { task, need })
+    } else {
+        None
+    }
+}
+
+// Why no block follows the one that was filled so.
+fn ended_by(filled: Result<(), End>) -> Option<End>
+    ensures { result ≡ ended_by filled }
+{
+    match filled {
+        Ok(()) => None,
+        Err(end) => Some(end),
+    }
+}
+
+// Whether the rows before an end are a block.
+fn keeps(end: End) -> bool
+    ensures { result ≡ keeps end }
+{
+    match end {
+        End::AllRead => true,
+        End::Bad { .. } => true,
+        End::ReadFault { .. } => false,
+        End::TooWide { .. } => false,
+        End::NoMemory => false,
+    }
+}
+
+// The end that comes in place of a block of so many rows, which was filled so.
+fn stops(filled: Result<(), End>, count: usize) -> Option<End>
+    ensures { result ≡ stops filled count }
+{
+    match filled {
+        Ok(()) => None,
+        Err(end) => {
+            if keeps(end) && count != 0 {
+                None
+            } else {
+                Some(end)
+            }
+        }
+    }
+}
+
+// Whether the block of the input's end is still to come behind so many blocks, where no more rows come.
+fn is_due(flush: bool, count: u64, end: End) -> bool
+    ensures { result ≡ is_due flush count end }
+{
+    match end {
+        End::AllRead => flush && count != 0,
+        End::Bad { .. } => false,
+        End::ReadFault { .. } => false,
+        End::TooWide { .. } => false,
+        End::NoMemory => false,
+    }
+}
+
+impl Cutter {
+    /// A cutter of a checked plan's inputs, which has read nothing. A block has `sizes.task` rows, and no
+    /// task may need more than `sizes.ring` blocks, its own counted. With `sizes.flush` the end of the input
+    /// is a block too, where the query has windows. The memory of the readers' buffers is taken here.
+    pub fn new(alloc: Global, plan: &Plan, sizes: &Sizes) -> Result<Cutter, NoMemory>
+        requires checked { IsChecked (tree_of plan.now) }
+        requires sizes { SizesFit sizes.now }
+        ensures cuts { IfOk result (CutsNothing (tree_of plan.now) sizes.now) }
+        ensures goes { IfOk result (λ c. end_of c ≡ None) }
+    {
+        checked_fit();
+        readers_stand();
+        mergers_stand();
+        let reader = reader_for(alloc, plan, sizes.max_lines)?;
+        Ok(Cutter {
+            alloc,
+            reader,
+            lasts: lasts_for(alloc, plan),
+            size: sizes.task as usize,
+            room: u64::from(sizes.ring),
+            flush: end_counts(plan, sizes),
+            mark: Mark {
+                left: 0,
+                right: 0,
+                last: None,
+                ended: false,
+            },
+            number: 0,
+            ended: None,
+        })
+    }
+
+    // The block of these rows, which were read.
+    fn put_block(&mut self, before: Mark, rows: Rows) -> Cut
+        requires { (q : Tree) × (s : Sizes) × (had : Lefts) × (has : Lefts) × (xs : List Row) × Filled q s had has self.old xs before rows }
+        ensures cuts { (q : Tree) (s : Sizes) (had has : Lefts) (xs : List Row) → Filled q s had has self.old xs before rows → CutTo result q s had has self.new (going_on xs) }
+        ensures same { (b : Block) → result ≡ Cut.Block b → self.new.ended ≡ self.old.ended }
+        ensures read { (side : Side) → result ≢ Cut.Ended (End.ReadFault side) }
+    {
+        needs_stay();
+        let first = look_back(&mut self.lasts, self.number, &before);
+        if let Some(end) = too_wide(self.number, first, self.room) {
+            self.ended = Some(end);
+            return Cut::Ended(end);
+        }
+        if note(&mut self.lasts, &before, rows.as_slice()).is_err() {
+            self.ended = Some(End::NoMemory);
+            return Cut::Ended(End::NoMemory);
+        }
+        let number = self.number;
+        self.number += 1;
+        Cut::Block(Block {
+            number,
+            first,
+            before,
+            rows,
+            ended: false,
+        })
+    }
+
+    // The block of the input's end, behind all rows.
+    fn put_end(&mut self) -> Cut
+        requires ended { self.old.ended ≡ Some End.AllRead }
+        requires due { is_due self.old.flush self.old.number End.AllRead ≡ true }
+        requires cuts { (q : Tree) × (s : Sizes) × (had : Lefts) × (has : Lefts) × (r : Input) × Cuts q s had has self.old r }
+        ensures cuts { (q : Tree) (s : Sizes) (had has : Lefts) (r : Input) → Cuts q s had has self.old r → CutTo result q s had has self.new r }
+        ensures all { (b : Block) → result ≡ Cut.Block b → self.new.ended ≡ Some End.AllRead }
+        ensures read { (side : Side) → result ≢ Cut.Ended (End.ReadFault side) }
+    {
+        needs_stay();
+        let first = look_back(&mut self.lasts, self.number, &self.mark);
+        if let Some(end) = too_wide(self.number, first, self.room) {
+            self.ended = Some(end);
+            return Cut::Ended(end);
+        }
+        let number = self.number;
+        self.number = number + 1;
+        self.flush = false;
+        Cut::Block(Block {
+            number,
+            first,
+            before: self.mark,
+            rows: Rows::new(self.alloc),
+            ended: true,
+        })
+    }
+
+    // What comes where no more rows do: the block of the input's end, if it is due, else why.
+    fn stop_at(&mut self, end: End) -> Cut
+        requires ended { self.old.ended ≡ Some end }
+        requires cuts { (q : Tree) × (s : Sizes) × (had : Lefts) × (has : Lefts) × (r : Input) × Cuts q s had has self.old r }
+        ensures cuts { (q : Tree) (s : Sizes) (had has : Lefts) (r : Input) → Cuts q s had has self.old r → CutTo result q s had has self.new r }
+        ensures all { (b : Block) → result ≡ Cut.Block b → self.new.ended ≡ Some End.AllRead }
+        ensures read { (side : Side) → result ≡ Cut.Ended (End.ReadFault side) → end ≡ End.ReadFault side }
+        ensures again { is_due self.old.flush self.old.number end ≡ false → (result ≡ Cut.Ended end) × (self.new ≡ self.old) }
+    {
+        if is_due(self.flush, self.number, end) {
+            self.put_end()
+        } else {
+            Cut::Ended(end)
+        }
+    }
+
+    // Reads the rows of the next block.
+    fn read_block<S: Source>(&mut self, inputs: &mut Inputs<S>) -> Cut
+        requires goes { self.old.ended ≡ None }
+        requires cuts { (q : Tree) × (s : Sizes) × (had : Lefts) × (r : Input) × Cuts q s had (each_input S.left inputs.old) self.old r }
+        ensures cuts { CutsOn result (each_input S.left inputs.old) (each_input S.left inputs.new) self.old self.new }
+        ensures cause { (side : Side) → result ≡ Cut.Ended (End.ReadFault side) → RoseAt side (each_input S.faults inputs.old) (each_input S.faults inputs.new) }
+        ensures sound { (b : Block) → result ≡ Cut.Block b → (side : Side) → self.new.ended ≢ Some (End.ReadFault side) }
+        ensures good { ((side : Side) → result ≢ Cut.Ended (End.ReadFault side)) → each_input S.faults inputs.new ≡ each_input S.faults inputs.old }
+        ensures count { NoneFell (each_input S.faults inputs.old) (each_input S.faults inputs.new) }
+    {
+        moves_go_on();
+        merges_go_on();
+        let Ok(mut rows) = Rows::with_capacity(self.alloc, self.size) else {
+            self.ended = Some(End::NoMemory);
+            return Cut::Ended(End::NoMemory);
+        };
+        let before = self.mark;
+        let filled = fill(
+            &mut self.reader,
+            inputs,
+            &mut self.mark,
+            &mut rows,
+            self.size,
+        );
+        self.ended = ended_by(filled);
+        match stops(filled, rows.len()) {
+            Some(end) => self.stop_at(end),
+            None => self.put_block(before, rows),
+        }
+    }
+
+    /// The next block: the rows of the next task, which are as many as the size says, or the last ones
+    /// before the end or a refused line; and, where that was asked for, a last one without rows for the end
+    /// of an input that had some. Rows that came before a failed read or want of memory are in no block. A
+    /// task that needs the rows of more tasks than there is room for is told in place of its block. After an
+    /// end each later call gives the same answer and reads nothing.
+    pub fn next_block<S: Source>(&mut self, inputs: &mut Inputs<S>) -> Cut
+        requires cuts { (q : Tree) × (s : Sizes) × (had : Lefts) × (r : Input) × Cuts q s had (each_input S.left inputs.old) self.old r }
+
+        // Whatever was cut before, the block is the next task's, or the end has its cause.
+        ensures cuts { CutsOn result (each_input S.left inputs.old) (each_input S.left inputs.new) self.old self.new }
+
+        // An end is given again.
+        ensures again { IfSome (end_of self.old) (λ end. (result ≡ Cut.Ended end) × (self.new ≡ self.old) × (inputs.new ≡ inputs.old)) }
+
+        // A fault of reading comes first only in a call in which that side's count rose, and with no block; else all counts stay, and none falls.
+        ensures cause { end_of self.old ≡ None → (side : Side) → result ≡ Cut.Ended (End.ReadFault side) → RoseAt side (each_input S.faults inputs.old) (each_input S.faults inputs.new) }
+        ensures sound { (b : Block) → result ≡ Cut.Block b → (side : Side) → end_of self.new ≢ Some (End.ReadFault side) }
+        ensures good { ((side : Side) → result ≢ Cut.Ended (End.ReadFault side)) → each_input S.faults inputs.new ≡ each_input S.faults inputs.old }
+        ensures count { NoneFell (each_input S.faults inputs.old) (each_input S.faults inputs.new) }
+    {
+        match self.ended {
+            Some(end) => self.stop_at(end),
+            None => self.read_block(inputs),
+        }
+    }
+}

@@ -1,0 +1,53 @@
+// The rows of one block.
+ghost use Rattle.std.specs.Prelude.{Err, ◌≡◌, ◌≢◌};
+ghost use Rattle.saber_plan.specs.declared.rows.Side.{Side};
+ghost use Rattle.saber_plan.specs.declared.windows.Mark.{Mark};
+ghost use Rattle.saber_plan.specs.Trees.{Tree};
+ghost use Rattle.saber_dispatch.specs.declared.ends.End.{End};
+ghost use Rattle.saber_dispatch.specs.Readings.{reading_of, Suits, Reads, IsOpen};
+ghost use Rattle.saber_dispatch.specs.Sources.{each_input, RoseAt, NoneFell};
+ghost use Rattle.saber_dispatch.specs.Filling.{FillsOn};
+
+use crate::ends::End;
+use crate::inputs::Inputs;
+use crate::reader::Reader;
+use saber_fragment::Rows;
+use saber_io::Source;
+use saber_plan::Mark;
+use saber_rows::{mergers_stand, merges_go_on, moves_go_on, readers_stand};
+use saber_window::{stamps_fit, step_mark};
+
+/// Appends the next rows, until there are so many more, and steps the mark over them.
+pub(crate) fn fill<S: Source>(
+    reader: &mut Reader,
+    inputs: &mut Inputs<S>,
+    mark: &mut Mark,
+    rows: &mut Rows,
+    size: usize,
+) -> Result<(), End>
+    requires suits { Suits (reading_of reader.old) (each_input S.left inputs.old) }
+    requires opened { IsOpen (reading_of reader.old) }
+    requires reads { (q : Tree) × Reads q mark.old (reading_of reader.old) }
+    ensures fills { FillsOn result size mark.old mark.new (reading_of reader.old) (reading_of reader.new) (each_input S.left inputs.old) (each_input S.left inputs.new) rows.old rows.new }
+    ensures cause { (side : Side) → result ≡ Err (End.ReadFault side) → RoseAt side (each_input S.faults inputs.old) (each_input S.faults inputs.new) }
+    ensures good { ((side : Side) → result ≢ Err (End.ReadFault side)) → each_input S.faults inputs.new ≡ each_input S.faults inputs.old }
+    ensures count { NoneFell (each_input S.faults inputs.old) (each_input S.faults inputs.new) }
+{
+    moves_go_on();
+    merges_go_on();
+    readers_stand();
+    mergers_stand();
+    stamps_fit();
+    for _ in 0..size {
+        match reader.next(inputs) {
+            Ok(row) => {
+                *mark = step_mark(mark, &row);
+                if rows.push(row).is_err() {
+                    return Err(End::NoMemory);
+                }
+            }
+            Err(end) => return Err(end),
+        }
+    }
+    Ok(())
+}

@@ -1,0 +1,89 @@
+// The rows of one input, or those of two, merged.
+ghost use Rattle.std.specs.Prelude.{◌≡◌, ◌≢◌, Err};
+ghost use Rattle.saber_plan.specs.declared.rows.Side.{Side};
+ghost use Rattle.saber_rows.specs.declared.ends.RowEnd.{RowEnd};
+ghost use Rattle.saber_dispatch.specs.declared.ends.End.{End};
+ghost use Rattle.saber_rows.specs.Reader.{reader_of};
+ghost use Rattle.saber_rows.specs.Merging.{merger_of};
+ghost use Rattle.saber_dispatch.specs.Readings.{Reading, one, two, reading_of, answer_one, answer_two, Suits, Steps, FaultsAreReal};
+ghost use Rattle.saber_dispatch.specs.Sources.{each_input, NoneFell};
+
+use crate::ends::{End, end_at};
+use crate::inputs::Inputs;
+use saber_io::Source;
+use saber_plan::{Row, Side};
+use saber_rows::{Lines, Merge, RowEnd, lines_pass};
+
+/// The reader of a query's inputs. Contracts see it as a `Reading`, by `reading_of`.
+#[derive(Drop)]
+pub(crate) enum Reader {
+    One(Lines),
+    Two(Merge),
+}
+
+// What the only reader's answer says.
+fn answer_one(answer: Result<Option<Row>, RowEnd>) -> Result<Row, End>
+    ensures { result ≡ answer_one answer }
+{
+    match answer {
+        Ok(Some(row)) => Ok(row),
+        Ok(None) => Err(End::AllRead),
+        Err(end) => Err(end_at(Side::Left, end)),
+    }
+}
+
+// What a merge's answer says.
+fn answer_two(answer: Result<Option<Row>, (Side, RowEnd)>) -> Result<Row, End>
+    ensures { result ≡ answer_two answer }
+{
+    match answer {
+        Ok(Some(row)) => Ok(row),
+        Ok(None) => Err(End::AllRead),
+        Err((side, end)) => Err(end_at(side, end)),
+    }
+}
+
+// The next row of one input.
+fn next_of_one<S: Source>(lines: &mut Lines, inputs: &mut Inputs<S>) -> Result<Row, End>
+    requires { Suits (one (reader_of lines.old)) (each_input S.left inputs.old) }
+    ensures step { Steps result (one (reader_of lines.old)) (one (reader_of lines.new)) (each_input S.left inputs.old) (each_input S.left inputs.new) }
+    ensures cause { FaultsAreReal result (one (reader_of lines.old)) (each_input S.faults inputs.old) (each_input S.faults inputs.new) }
+    ensures good { ((side : Side) → result ≢ Err (End.ReadFault side)) → each_input S.faults inputs.new ≡ each_input S.faults inputs.old }
+    ensures count { NoneFell (each_input S.faults inputs.old) (each_input S.faults inputs.new) }
+{
+    lines_pass();
+    match inputs {
+        Inputs::One(source) => answer_one(lines.next(source)),
+        Inputs::Two(..) => unreachable!(),
+    }
+}
+
+// The next row of two.
+fn next_of_two<S: Source>(merge: &mut Merge, inputs: &mut Inputs<S>) -> Result<Row, End>
+    requires { Suits (two (merger_of merge.old)) (each_input S.left inputs.old) }
+    ensures step { Steps result (two (merger_of merge.old)) (two (merger_of merge.new)) (each_input S.left inputs.old) (each_input S.left inputs.new) }
+    ensures cause { FaultsAreReal result (two (merger_of merge.old)) (each_input S.faults inputs.old) (each_input S.faults inputs.new) }
+    ensures good { ((side : Side) → result ≢ Err (End.ReadFault side)) → each_input S.faults inputs.new ≡ each_input S.faults inputs.old }
+    ensures count { NoneFell (each_input S.faults inputs.old) (each_input S.faults inputs.new) }
+{
+    match inputs {
+        Inputs::One(..) => unreachable!(),
+        Inputs::Two(left, right) => answer_two(merge.next(left, right)),
+    }
+}
+
+impl Reader {
+    /// The next row, or why none comes. It is called with the same inputs each time.
+    pub(crate) fn next<S: Source>(&mut self, inputs: &mut Inputs<S>) -> Result<Row, End>
+        requires { Suits (reading_of self.old) (each_input S.left inputs.old) }
+        ensures step { Steps result (reading_of self.old) (reading_of self.new) (each_input S.left inputs.old) (each_input S.left inputs.new) }
+        ensures cause { FaultsAreReal result (reading_of self.old) (each_input S.faults inputs.old) (each_input S.faults inputs.new) }
+        ensures good { ((side : Side) → result ≢ Err (End.ReadFault side)) → each_input S.faults inputs.new ≡ each_input S.faults inputs.old }
+        ensures count { NoneFell (each_input S.faults inputs.old) (each_input S.faults inputs.new) }
+    {
+        match self {
+            Reader::One(lines) => next_of_one(lines, inputs),
+            Reader::Two(merge) => next_of_two(merge, inputs),
+        }
+    }
+}
