@@ -11,6 +11,6 @@ mod tests;
 mod work;
 
 pub use events::{Event, TaskPhase};
-pub use machine::{Core, NoMemory};
+pub use machine::Core;
 pub use runs::{laws_of_runs, run};
 pub use work::Work;

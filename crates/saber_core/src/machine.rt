@@ -4,12 +4,9 @@ ghost use Rattle.saber_core.specs.Machine.{fresh, given, has_taken, is_holder, n
 ghost use Rattle.saber_core.specs.Sound.{IsSound};
 
 use crate::events::{Event, TaskPhase};
-use std::alloc::Global;
+use std::alloc::{AllocError as NoMemory, Global};
 use std::collections::VecDeque;
 use std::marker::Model;
-
-/// Want of memory, the only error of this crate.
-pub type NoMemory = std::alloc::AllocError;
 
 // Tasks have numbers below this.
 const TASK_LIMIT: u64 = 1 << 42;

@@ -6,8 +6,8 @@ ghost use Rattle.saber_core.specs.Sound.{IsSound};
 ghost use Rattle.saber_core.specs.Runs.{state_after, IsOrderly, StopsForGood};
 
 use crate::events::Event;
-use crate::machine::{Core, NoMemory};
-use std::alloc::Global;
+use crate::machine::Core;
+use std::alloc::{AllocError as NoMemory, Global};
 
 /// Lets all events happen to a new core, one after another.
 pub fn run(alloc: Global, size: u32, seats: u32, events: &[Event]) -> Result<Core, NoMemory>

@@ -33,6 +33,10 @@ pub trait Work {
     // may stand for any piece.
     ghost is_piece: { Self.Told → ℕ → Self.Piece → Type 0 };
 
+    // The first task whose rows this one needs, by the data of the tasks before it. It needs those of
+    // all tasks from that one on to its own.
+    ghost first: { Self.Told → ℕ → ℕ };
+
     // The stage has assembled the pieces of so many tasks, and is stopped or goes on. The data
     // are those of these tasks, and of the one where it stopped.
     ghost is_stage: { Self.Told → ℕ → Bool → Self.Stage → Type 0 };
@@ -48,4 +52,11 @@ pub trait Work {
     // The data of all tasks are the data. So the task that was filled last is the last one that
     // they know.
     ghost whole: { (told : Self.Told) (d : ℕ) → is_told told d → upto told d ≡ told };
+
+    // No task needs rows of a later one first.
+    ghost early: { (told : Self.Told) (d t : ℕ) → is_told told d → t ≤ d → first (upto told t) t ≤ t };
+
+    // The first task that is needed never falls. So rows that the tasks from some one on don't need
+    // stay unneeded.
+    ghost rises: { (told : Self.Told) (d j k : ℕ) → is_told told d → j ≤ k → k ≤ d → first (upto told j) j ≤ first (upto told k) k };
 }

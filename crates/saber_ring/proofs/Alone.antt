@@ -9,15 +9,15 @@ use Rattle.saber_ring.specs.declared.view.Entry.{Entry}
 use Rattle.saber_ring.specs.declared.view.Entry.TheVariants.{Claim}
 use Rattle.saber_ring.specs.declared.view.View.{View}
 use Rattle.saber_ring.specs.declared.view.Lead.{Lead}
-use Rattle.saber_ring.specs.Shows.{RingPhase, idle, filling, ready, held, done, taken, past, number_of, RingState, Fits, HasLead, HasBase, IsLive, live, total, ShowsAs, times, due, claims_of}
+use Rattle.saber_ring.specs.Shows.{RingPhase, idle, ready, held, done, taken, past, number_of, RingState, Fits, HasLead, HasBase, IsLive, live, total, ShowsAs, times, due, claims_of}
 use Rattle.saber_ring.proofs.Puts.{sole}
 
-module _ {T R P S : Type 0} (is_told : T → ℕ → Type 0) (upto : T → ℕ → T) (is_rows : T → ℕ → R → Type 0) (is_piece : T → ℕ → P → Type 0) (is_stage : T → ℕ → Bool → S → Type 0) (size : ℕ) where
+module _ {T R P S : Type 0} (is_told : T → ℕ → Type 0) (upto : T → ℕ → T) (needs : T → ℕ → ℕ) (is_rows : T → ℕ → R → Type 0) (is_piece : T → ℕ → P → Type 0) (is_stage : T → ℕ → Bool → S → Type 0) (size : ℕ) where
   abbrev St : Type 0
   St = State (SlotValue R P S) (View T)
 
   abbrev As : St → RingState T → Type 0
-  As s b = ShowsAs is_told upto is_rows is_piece is_stage size s b
+  As s b = ShowsAs is_told upto needs is_rows is_piece is_stage size s b
 
   -- the first seat, alone
   abbrev pub Alone : St → RingState T → ℕ → View T → Lead T → Type 0
@@ -42,7 +42,6 @@ module _ {T R P S : Type 0} (is_told : T → ℕ → Type 0) (upto : T → ℕ �
 
   not_claimed : (b : RingState T) (n t : ℕ) (ph : RingPhase) → claims_of ph ≡ 0 → t < b.filled → Fits size b n t ph → ph ≡ ready
   not_claimed b n t idle c lt f = absurd (omega (arith, f))
-  not_claimed b n t filling c lt f = let e = f.0 in absurd (omega arith)
   not_claimed b n t ready c lt f = refl
   not_claimed b n t (held j) c lt f = absurd (omega arith)
   not_claimed b n t (done m) c lt f = absurd (omega arith)

@@ -8,24 +8,25 @@ use Rattle.saber_core.specs.Machine as core
 use Rattle.saber_core.specs.declared.events.Event.TheVariants as event
 use Rattle.saber_core.specs.Machine.{given_of, given, phase_at, is_ready, is_held_by, is_done, is_taken_piece, is_marked, is_holder, has_taken, seat_of, is_seated, is_allowed, outcome, next}
 use Rattle.saber_ring.specs.declared.view.TurnState.{TurnState}
-use Rattle.saber_ring.specs.Shows.{RingPhase, ready, held, done, taken, past, number_of, turn_word, extra, Fits, HasJob, HasTurn, HasLead, lead_phase, RingTurn, free, won_by, RingState}
+use Rattle.saber_ring.specs.Shows.{RingPhase, ready, held, done, taken, past, number_of, turn_word, extra, Fits, HasJob, HasTurn, RingTurn, free, won_by, RingState}
 use Rattle.saber_ring.specs.Cores.{core_phase, phases_from, is_taking, holder_of, core_of}
 use mathlib.Core.Option.{none, some}
 use mathlib.Core.Option as maybe
 use lib.ListN.{get_elem?}
 use Rattle.atomic_table.specs.Table.{State}
 use Rattle.atomic_table.proofs.Lists.{set_else}
+use Rattle.saber_ring.specs.declared.view.FillState.TheVariants.{Waiting}
 use Rattle.saber_ring.specs.declared.view.View.{View}
 use Rattle.saber_ring.specs.declared.view.SlotValue.{SlotValue}
 use Rattle.saber_ring.specs.declared.view.SlotValue.TheVariants.{Empty}
 use Rattle.saber_ring.specs.Shows.{TurnFits, AtHome, ShowsAs}
-use Rattle.saber_ring.specs.Plays.{with_job, with_turn, turn_behind, state_shown, is_stopped, taken_state, with_take}
+use Rattle.saber_ring.specs.Plays.{led, more_filled, with_job, with_turn, turn_behind, state_shown, is_stopped, taken_state, with_take}
 use Rattle.saber_ring.specs.Laws.{after_take, ClaimIsItsEvent, DepositIsItsEvent, WinIsItsEvent, ReleaseIsItsEvent, TakeIsItsEvent, GiveIsItsEvent, FillIsItsEvent}
-use Rattle.saber_ring.proofs.Moves.{claimed_at, deposited_at, filled_at}
+use Rattle.saber_ring.proofs.Moves.{Early, claimed_at, deposited_at, stored_facts, filled_at}
 use Rattle.saber_ring.proofs.Turns.{won_state, even_free, behind_of, state_is, small_assembled, won_at, open_by}
 use Rattle.saber_ring.proofs.Takes.{taken_at}
 use Rattle.saber_ring.proofs.Gives.{given_at}
-use Rattle.saber_ring.proofs.Releases.{released_at}
+use Rattle.saber_ring.proofs.Releases.{Rises, released_at}
 use Rattle.saber_ring.specs.declared.view.TurnState.TheVariants.{Open, TookPiece}
 use Rattle.saber_ring.proofs.PhaseFacts.{false_true, number_done}
 use Rattle.saber_ring.proofs.Puts.{put, put_here, put_else, at_length}
@@ -136,7 +137,7 @@ module _ {T : Type 0} (size n : ℕ) (b : RingState T) where
 
   -- a give is the event Give
   pub core_give : (id : ℕ) → id < n → b.given < b.filled → b.turn ≡ won_by id TookPiece → b.phase b.given ≡ taken false
-      → core_of size n (record { assembled = b.assembled; given = b.given + 1; filled = b.filled; turn = won_by id Open; lead = b.lead; out = b.out; told = b.told; phase = put b.phase b.given past }) ≡ next (core_of size n b) (event.Give id)
+      → core_of size n (record { assembled = b.assembled; given = b.given + 1; filled = b.filled; turn = won_by id Open; lead = b.lead; out = b.out; told = b.told; fill = b.fill; phase = put b.phase b.given past; block = b.block }) ≡ next (core_of size n b) (event.Give id)
   core_give id seat lt is phase =
       let tied : Tied b.turn = subst Tied (sym is) tt in let first = first_phase tied lt ∙ ap (λ (z : RingPhase). Some (core_phase z)) phase in
       let took : has_taken (core_of size n b).turn ≡ true = ap (λ (z : RingTurn). has_taken (holder_of b.given z)) is in
@@ -148,7 +149,7 @@ module _ {T : Type 0} (size n : ℕ) (b : RingState T) where
 
   -- filled is the event Fill
   pub core_fill : (told' : T) → Tied b.turn → b.given ≤ b.filled → b.filled < b.given + size → b.filled < 2 ^ 42
-      → core_of size n (record { assembled = b.assembled; given = b.given; filled = b.filled + 1; turn = b.turn; lead = b.lead; out = b.out; told = told'; phase = put b.phase b.filled ready }) ≡ next (core_of size n b) event.Fill
+      → core_of size n (record { assembled = b.assembled; given = b.given; filled = b.filled + 1; turn = b.turn; lead = b.lead; out = b.out; told = told'; fill = Waiting; phase = put b.phase b.filled ready; block = b.block }) ≡ next (core_of size n b) event.Fill
   core_fill told' tied le room end =
       let f : ℕ = b.filled - b.given in
       let near : nat_lt b.filled (given (core_of size n b) + size) ≡ true = (let a : nat_lt b.filled (b.given + size) ≡ true = grind (arith, nat_tests) in ap (λ (z : ℕ). nat_lt b.filled (z + size)) (given_core tied) ∙ a) in
@@ -163,50 +164,50 @@ tied_by : {T : Type 0} (size n : ℕ) (b : RingState T) (m : ℕ) (x : RingTurn)
 tied_by size n b m (free y) r = r.0
 tied_by size n b m (won_by j p) r = tt
 
-pub claim_law : {T R P S : Type 0} (is_told : T → ℕ → Type 0) (upto : T → ℕ → T) (is_rows : T → ℕ → R → Type 0) (is_piece : T → ℕ → P → Type 0) (is_stage : T → ℕ → Bool → S → Type 0) → ClaimIsItsEvent {R = R} {P = P} {S = S} is_told upto is_rows is_piece is_stage
-claim_law is_told upto is_rows is_piece is_stage size id t s b v sh at no_job alive word =
-    let i : ℕ = t % size + 1 in let c = claimed_at is_told upto is_rows is_piece is_stage size s b sh id t i (8 * t + 3) (v, []) at refl refl word no_job alive in
+pub claim_law : {T R P S : Type 0} (is_told : T → ℕ → Type 0) (upto : T → ℕ → T) (needs : T → ℕ → ℕ) (is_rows : T → ℕ → R → Type 0) (is_piece : T → ℕ → P → Type 0) (is_stage : T → ℕ → Bool → S → Type 0) → ClaimIsItsEvent {R = R} {P = P} {S = S} is_told upto needs is_rows is_piece is_stage
+claim_law is_told upto needs is_rows is_piece is_stage size id t s b v sh at no_job alive word =
+    let i : ℕ = t % size + 1 in let c = claimed_at is_told upto needs is_rows is_piece is_stage size s b sh id t i (8 * t + 3) (v, []) at refl refl word no_job alive in
     let n : ℕ = length s.views in (
       record b { phase = put b.phase t (held id) },
-      subst (λ (w : ℕ). ShowsAs is_told upto is_rows is_piece is_stage size (record { words = set s.words i (8 * t + 3); homes = set s.homes i none; views = set s.views id (with_job v i w (record { task = t; told = upto b.told (t + 1) })) }) (record b { phase = put b.phase t (held id) })) word c.4,
-      core_claim size n b id t (at_length s.views id v at) (tied_by size n b n b.turn sh.shape.turn_fits) c.5 c.2 c.6,
+      subst (λ (w : ℕ). ShowsAs is_told upto needs is_rows is_piece is_stage size (record { words = set s.words i (8 * t + 3); homes = set s.homes i none; views = set s.views id (with_job v i w (record { task = t; told = upto b.told (t + 1) })) }) (record b { phase = put b.phase t (held id) })) word c.2,
+      core_claim size n b id t (at_length s.views id v at) (tied_by size n b n b.turn sh.shape.turn_fits) c.3 c.0 c.4,
     )
 
-module _ {T R P S : Type 0} (is_told : T → ℕ → Type 0) (upto : T → ℕ → T) (is_rows : T → ℕ → R → Type 0) (is_piece : T → ℕ → P → Type 0) (is_stage : T → ℕ → Bool → S → Type 0) where
-  pub deposit_law : DepositIsItsEvent {R = R} {P = P} {S = S} is_told upto is_rows is_piece is_stage
-  deposit_law size id m y s b v x sh at is_job alive home =
+module _ {T R P S : Type 0} (is_told : T → ℕ → Type 0) (upto : T → ℕ → T) (needs : T → ℕ → ℕ) (is_rows : T → ℕ → R → Type 0) (is_piece : T → ℕ → P → Type 0) (is_stage : T → ℕ → Bool → S → Type 0) where
+  pub deposit_law : DepositIsItsEvent {R = R} {P = P} {S = S} is_told upto needs is_rows is_piece is_stage
+  deposit_law size id m y s b v x sh at is_job no_block alive home =
       let k = sh.shape in let n : ℕ = length s.views in let job = subst (HasJob upto b id) is_job (k.each_seat id v at).job in let room = subst (Fits size b n x.task) job.0 (k.each_task x.task) in (
         record b { phase = put b.phase x.task (done m) },
-        deposited_at is_told upto is_rows is_piece is_stage size s b sh id x.task (x.task % size + 1) (8 * x.task + number_of (done m)) (v, []) x m y at is_job refl refl refl alive home,
+        deposited_at is_told upto needs is_rows is_piece is_stage size s b sh id x.task (x.task % size + 1) (8 * x.task + number_of (done m)) (v, []) x m y at is_job no_block refl refl refl alive home,
         core_deposit size n b id x.task m (at_length s.views id v at) (tied_by size n b n b.turn k.turn_fits) room.0 room.1 job.0,
       )
 
-  pub win_law : WinIsItsEvent {R = R} {P = P} {S = S} is_told upto is_rows is_piece is_stage
+  pub win_law : WinIsItsEvent {R = R} {P = P} {S = S} is_told upto needs is_rows is_piece is_stage
   win_law size id n s b v sh at alive is even =
-      let le = small_assembled is_told upto is_rows is_piece is_stage size s b sh in let word : turn_word b.assembled b.turn ≡ n = sym sh.shape.turn_is ∙ is in let f = even_free b.assembled b.turn n word even in let y = f.0 in
+      let le = small_assembled is_told upto needs is_rows is_piece is_stage size s b sh in let word : turn_word b.assembled b.turn ≡ n = sym sh.shape.turn_is ∙ is in let f = even_free b.assembled b.turn n word even in let y = f.0 in
       let k : turn_behind n ≡ b.assembled = ap turn_behind (sym word) ∙ behind_of b.assembled b.turn le in let state : state_shown n ≡ won_state y = ap state_shown (sym word ∙ ap (turn_word b.assembled) f.1) ∙ state_is b.assembled y le in
-      let c = won_at is_told upto is_rows is_piece is_stage size s b sh id (n + 1) (v, []) y at f.1 (ap (λ (z : ℕ). z + 1) (sym is)) alive in let told : T = upto b.told (b.given + extra y) in (
+      let c = won_at is_told upto needs is_rows is_piece is_stage size s b sh id (n + 1) (v, []) y at f.1 (ap (λ (z : ℕ). z + 1) (sym is)) alive in let told : T = upto b.told (b.given + extra y) in (
         record b { turn = won_by id (won_state y) },
         told,
-        subst (λ (z : ℕ × ℕ × TurnState). ShowsAs is_told upto is_rows is_piece is_stage size (record { words = set s.words 0 (n + 1); homes = set s.homes 0 none; views = set s.views id (with_turn v z.0 (record { behind = z.1; state = z.2; told = told })) }) (record b { turn = won_by id (won_state y) }))
+        subst (λ (z : ℕ × ℕ × TurnState). ShowsAs is_told upto needs is_rows is_piece is_stage size (record { words = set s.words 0 (n + 1); homes = set s.homes 0 none; views = set s.views id (with_turn v z.0 (record { behind = z.1; state = z.2; told = told })) }) (record b { turn = won_by id (won_state y) }))
             (λ i. (is i, sym k i, sym state i)) c.4,
         core_win size (length s.views) b id y (at_length s.views id v at) c.3 f.1,
       )
 
-  pub release_law : ReleaseIsItsEvent {R = R} {P = P} {S = S} is_told upto is_rows is_piece is_stage
-  release_law size id s b v h st sh at is_turn not_whole stage alive =
+  pub release_law : ((size : ℕ) → Rises {R = R} {P = P} {S = S} is_told upto needs is_rows is_piece is_stage size) → ReleaseIsItsEvent {R = R} {P = P} {S = S} is_told upto needs is_rows is_piece is_stage
+  release_law rises size id s b v h st sh at is_turn not_whole stage alive =
       let has = subst (HasTurn upto b id) is_turn (sh.shape.each_seat id v at).turn in (
         record b { assembled = b.given; turn = free (is_stopped h.state) },
-        released_at is_told upto is_rows is_piece is_stage size s b sh id (turn_word h.behind (free (is_stopped h.state))) (v, []) h st at is_turn not_whole refl stage alive,
+        released_at is_told upto needs is_rows is_piece is_stage size (rises size) s b sh id (turn_word h.behind (free (is_stopped h.state))) (v, []) h st at is_turn not_whole refl stage alive,
         core_release size (length s.views) b id h.state (is_stopped h.state) (at_length s.views id v at) has.0,
       )
 
-  pub give_law : GiveIsItsEvent {R = R} {P = P} {S = S} is_told upto is_rows is_piece is_stage
+  pub give_law : GiveIsItsEvent {R = R} {P = P} {S = S} is_told upto needs is_rows is_piece is_stage
   give_law size id s b v h sh at is_turn whole alive =
       let k = sh.shape in let n : ℕ = length s.views in let has = subst (HasTurn upto b id) is_turn (k.each_seat id v at).turn in let turn_now = has.0 ∙ ap (won_by id) whole in
       let r = subst (TurnFits b n) turn_now k.turn_fits in let room = subst (Fits size b n b.given) r.1 (k.each_task b.given) in (
-        record { assembled = b.assembled; given = b.given + 1; filled = b.filled; turn = won_by id Open; lead = b.lead; out = b.out; told = b.told; phase = put b.phase b.given past },
-        given_at is_told upto is_rows is_piece is_stage size s b sh id (h.behind % size + 1) (8 * (h.behind + size)) (v, []) h at is_turn whole (ap (λ (z : ℕ). z % size + 1) has.1) (ap (λ (z : ℕ). 8 * (z + size)) has.1) alive,
+        record { assembled = b.assembled; given = b.given + 1; filled = b.filled; turn = won_by id Open; lead = b.lead; out = b.out; told = b.told; fill = b.fill; phase = put b.phase b.given past; block = b.block },
+        given_at is_told upto needs is_rows is_piece is_stage size s b sh id (h.behind % size + 1) (8 * (h.behind + size)) (v, []) h at is_turn whole (ap (λ (z : ℕ). z % size + 1) has.1) (ap (λ (z : ℕ). 8 * (z + size)) has.1) alive,
         core_give size n b id (at_length s.views id v at) room.1 turn_now r.1,
       )
 
@@ -219,32 +220,35 @@ module _ {T R P S : Type 0} (is_told : T → ℕ → Type 0) (upto : T → ℕ �
   after_take_else true homes i j ne = refl
 
   -- the mark has an empty slot
-  marked_slot : (size : ℕ) (s : State (SlotValue R P S) (View T)) (b : RingState T) → ShowsAs is_told upto is_rows is_piece is_stage size s b → (m : Bool) → b.phase b.given ≡ done m → m ≡ true → (i : ℕ) → i ≡ b.given % size + 1 → get_elem? (after_take m s.homes i) i ≡ some (some Empty)
+  marked_slot : (size : ℕ) (s : State (SlotValue R P S) (View T)) (b : RingState T) → ShowsAs is_told upto needs is_rows is_piece is_stage size s b → (m : Bool) → b.phase b.given ≡ done m → m ≡ true → (i : ℕ) → i ≡ b.given % size + 1 → get_elem? (after_take m s.homes i) i ≡ some (some Empty)
   marked_slot size s b sh false phase q i cell = absurd (false_true q)
   marked_slot size s b sh true phase q i cell =
       let pos = sh.shape.some_cell in
       ap (get_elem? s.homes) cell ∙ subst (AtHome upto is_rows is_piece is_stage b.told (get_elem? s.homes (b.given % size + 1)) b.given) phase (sh.home.each_cell b.given (le_refl b.given) (omega arith))
 
-  pub take_law : TakeIsItsEvent {R = R} {P = P} {S = S} is_told upto is_rows is_piece is_stage
+  pub take_law : TakeIsItsEvent {R = R} {P = P} {S = S} is_told upto needs is_rows is_piece is_stage
   take_law size id m s b v h sh at is_turn alive word =
       let k = sh.shape in let n : ℕ = length s.views in let has = subst (HasTurn upto b id) is_turn (k.each_seat id v at).turn in let same : h.behind ≡ b.given = has.1 in let pos = k.some_cell in
       let i : ℕ = h.behind % size + 1 in let cell : i ≡ b.given % size + 1 = ap (λ (z : ℕ). z % size + 1) same in
       let shown = k.each_word h.behind (omega arith) (omega arith) in let equal : number_of (b.phase h.behind) ≡ number_of (done m) = omega arith in let phase : b.phase b.given ≡ done m = ap b.phase (sym same) ∙ number_done (b.phase h.behind) m equal in
-      let opened = open_by is_told upto is_rows is_piece is_stage size b n id m phase h.state (subst (TurnFits b n) has.0 k.turn_fits) in let room = subst (Fits size b n b.given) phase (k.each_task b.given) in
+      let opened = open_by is_told upto needs is_rows is_piece is_stage size b n id m phase h.state (subst (TurnFits b n) has.0 k.turn_fits) in let room = subst (Fits size b n b.given) phase (k.each_task b.given) in
       let ring : RingState T = record b { phase = put b.phase b.given (taken m); turn = won_by id (taken_state m) } in (
         ring,
-        subst (λ (z : ℕ × ℕ). ShowsAs is_told upto is_rows is_piece is_stage size (record { words = set s.words i (8 * h.behind + number_of (taken m)); homes = after_take m s.homes i; views = set s.views id (with_take v i z.0 (record { behind = h.behind; state = taken_state m; told = upto b.told (z.1 + 1) })) }) ring) (λ j. (word j, sym same j))
-            (taken_at is_told upto is_rows is_piece is_stage size s b sh id i (8 * h.behind + number_of (taken m)) (v, []) h m (after_take m s.homes i) at is_turn opened cell phase (ap (λ (z : ℕ). 8 * z + number_of (taken m)) same) (after_take_wide m s.homes i) (after_take_else m s.homes i) (λ q. marked_slot size s b sh m phase q i cell) alive),
+        subst (λ (z : ℕ × ℕ). ShowsAs is_told upto needs is_rows is_piece is_stage size (record { words = set s.words i (8 * h.behind + number_of (taken m)); homes = after_take m s.homes i; views = set s.views id (with_take v i z.0 (record { behind = h.behind; state = taken_state m; told = upto b.told (z.1 + 1) })) }) ring) (λ j. (word j, sym same j))
+            (taken_at is_told upto needs is_rows is_piece is_stage size s b sh id i (8 * h.behind + number_of (taken m)) (v, []) h m (after_take m s.homes i) at is_turn opened cell phase (ap (λ (z : ℕ). 8 * z + number_of (taken m)) same) (after_take_wide m s.homes i) (after_take_else m s.homes i) (λ q. marked_slot size s b sh m phase q i cell) alive),
         core_take size n b id m (at_length s.views id v at) room.1 (has.0 ∙ ap (won_by id) opened) phase,
       )
 
-  module _ (filled : T → R → T) (keep : (told : T) (d k : ℕ) (rows : R) → is_told told d → is_told (filled told rows) (d + 1) → is_rows (filled told rows) d rows → k ≤ d → upto (filled told rows) k ≡ upto told k) (whole : (told : T) (d : ℕ) → is_told told d → upto told d ≡ told) where
-    pub fill_law : FillIsItsEvent {P = P} {S = S} is_told upto is_rows is_piece is_stage filled
-    fill_law size id s b v l r sh at is_lead filling rows told end alive =
-        let k = sh.shape in let n : ℕ = length s.views in let lead = subst (HasLead upto b id) is_lead (k.each_seat id v at).lead in let same : l.filled ≡ b.filled = lead.2 in
-        let phase : b.phase b.filled ≡ lead_phase true = lead.4 ∙ ap lead_phase filling in let room = subst (Fits size b n b.filled) phase (k.each_task b.filled) in
-        let c = core_fill size n b (filled l.told r) (tied_by size n b n b.turn k.turn_fits) k.given_filled room.1 (omega arith) in (
-          record { assembled = b.assembled; given = b.given; filled = b.filled + 1; turn = b.turn; lead = b.lead; out = b.out; told = filled l.told r; phase = put b.phase l.filled ready },
-          filled_at is_told upto is_rows is_piece is_stage size filled keep whole s b sh id l.filled (l.filled % size + 1) (8 * l.filled + 2) (v, []) l r at is_lead filling refl refl refl rows told end alive,
-          subst (λ (z : ℕ). core_of size n (record { assembled = b.assembled; given = b.given; filled = b.filled + 1; turn = b.turn; lead = b.lead; out = b.out; told = filled l.told r; phase = put b.phase z ready }) ≡ next (core_of size n b) event.Fill) (sym same) c,
-        )
+  pub fill_law : ((size : ℕ) → Early {R = R} {P = P} {S = S} is_told upto needs is_rows is_piece is_stage size) → FillIsItsEvent {R = R} {P = P} {S = S} is_told upto needs is_rows is_piece is_stage
+  fill_law early size id s b v l told' sh at is_lead stored end alive =
+      let k = sh.shape in let n : ℕ = length s.views in let f = stored_facts is_told upto needs is_rows is_piece is_stage size (early size) s b sh id v l told' at is_lead stored in let same : l.filled ≡ b.filled = f.0 in let t : ℕ = l.filled in let i : ℕ = t % size + 1 in
+      let c = filled_at is_told upto needs is_rows is_piece is_stage size (early size) s b sh id t i (8 * t + 2) (v, []) l told' at is_lead stored refl refl refl end alive in
+      let ring : RingState T = record { assembled = b.assembled; given = b.given; filled = b.filled + 1; turn = b.turn; lead = b.lead; out = b.out; told = told'; fill = Waiting; phase = put b.phase t ready; block = b.block } in (
+        c.0,
+        (
+          ring,
+          subst (λ (w : ℕ). ShowsAs is_told upto needs is_rows is_piece is_stage size (record { words = set s.words i (8 * t + 2); homes = s.homes; views = set s.views id (led v i w (more_filled l told')) }) ring) c.0 c.1,
+          subst (λ (z : ℕ). core_of size n (record { assembled = b.assembled; given = b.given; filled = b.filled + 1; turn = b.turn; lead = b.lead; out = b.out; told = told'; fill = Waiting; phase = put b.phase z ready; block = b.block }) ≡ next (core_of size n b) event.Fill) (sym same)
+              (core_fill size n b told' (tied_by size n b n b.turn k.turn_fits) k.given_filled f.3 (omega arith)),
+        ),
+      )

@@ -16,7 +16,7 @@ use Rattle.saber_ring.specs.declared.view.View.{View}
 use Rattle.saber_ring.specs.declared.view.Lead.{Lead}
 use Rattle.saber_ring.specs.declared.view.HeldTask.{HeldTask}
 use Rattle.saber_ring.specs.declared.view.HeldTurn.{HeldTurn}
-use Rattle.saber_ring.specs.Shows.{RingPhase, idle, filling, ready, held, done, taken, past, number_of, RingTurn, free, won_by, turn_word, halted, RingState, Fits, TurnFits, extra, knows_next, HasJob, HasTurn, HasFound, HasLead, HasBase, IsLive, live, total, Knows, Shape, AtHome, StageHome, EmptyBut, Home}
+use Rattle.saber_ring.specs.Shows.{RingPhase, idle, ready, held, done, taken, past, number_of, RingTurn, free, won_by, turn_word, halted, read_by, RingState, Fits, TurnFits, extra, knows_next, HasJob, HasBlock, HasTurn, HasFound, HasLead, HasBase, IsLive, live, total, Knows, Shape, AtHome, StageHome, EmptyBut, Home}
 use Rattle.saber_ring.proofs.Puts.{total_set}
 
 -- two places in one window have two cells
@@ -26,7 +26,7 @@ two_cells u t g n a b c d ne e = dite (dec_le u t) (λ le. ne (one_turn u t n le
 abbrev pub EachWord : ℕ → List ℕ → ℕ → (ℕ → RingPhase) → Type 0
 EachWord size words g phase = (t : ℕ) → g ≤ t → t < g + size → slice_index words (t % size + 1) ≡ 8 * t + number_of (phase t)
 
-pub words_move : (size : ℕ) (words : List ℕ) (i x t g g' : ℕ) (phase phase' : ℕ → RingPhase) → i ≡ t % size + 1 → 0 < size → length words ≡ size + 1 → x ≡ 8 * t + number_of (phase' t) → g' ≤ t → t < g' + size
+pub words_move : (size : ℕ) (words : List ℕ) (i x t g g' : ℕ) (phase phase' : ℕ → RingPhase) → i ≡ t % size + 1 → 0 < size → length words ≡ 2 * size + 1 → x ≡ 8 * t + number_of (phase' t) → g' ≤ t → t < g' + size
     → ((u : ℕ) → u ≢ t → g' ≤ u → u < g' + size → (g ≤ u) × (u < g + size) × (phase' u ≡ phase u)) → EachWord size words g phase → EachWord size (set words i x) g' phase'
 words_move size words i x t g g' phase phase' at pos wide is lo hi same old u a b = dite (ℕ_discrete u t)
     (λ e. subst (λ (k : ℕ). slice_index (set words i x) (k % size + 1) ≡ 8 * k + number_of (phase' k)) (sym e)
@@ -35,14 +35,13 @@ words_move size words i x t g g' phase phase' at pos wide is lo hi same old u a 
 
 module _ {T : Type 0} (size : ℕ) (b b' : RingState T) (n n' u : ℕ) where
   pub fits_stay : (ph : RingPhase) → n ≤ n' → (b.given ≤ u → u < b.filled → b'.given ≤ u) → (u < b.filled → u < b'.filled) → (b.filled ≤ u → b'.filled ≤ u) → (u < b.given → u < b'.given)
-      → (ph ≡ filling → Fits size b' n' u filling) → ((m : Bool) → ph ≡ taken m → Fits size b' n' u (taken m)) → Fits size b n u ph → Fits size b' n' u ph
-  fits_stay idle more a c d e f h k = d k
-  fits_stay filling more a c d e f h k = f refl
-  fits_stay ready more a c d e f h k = (a k.0 k.1, c k.1)
-  fits_stay (held j) more a c d e f h k = let l = k.2 in (a k.0 k.1, c k.1, omega arith)
-  fits_stay (done m) more a c d e f h k = (a k.0 k.1, c k.1)
-  fits_stay (taken m) more a c d e f h k = h m refl
-  fits_stay past more a c d e f h k = e k
+      → ((m : Bool) → ph ≡ taken m → Fits size b' n' u (taken m)) → Fits size b n u ph → Fits size b' n' u ph
+  fits_stay idle more a c d e h k = d k
+  fits_stay ready more a c d e h k = (a k.0 k.1, c k.1)
+  fits_stay (held j) more a c d e h k = let l = k.2 in (a k.0 k.1, c k.1, omega arith)
+  fits_stay (done m) more a c d e h k = (a k.0 k.1, c k.1)
+  fits_stay (taken m) more a c d e h k = h m refl
+  fits_stay past more a c d e h k = e k
 
 module _ {T : Type 0} (upto : T → ℕ → T) (b b' : RingState T) (j : ℕ) where
   abbrev pub ToldOn : Type 0
@@ -57,6 +56,13 @@ module _ {T : Type 0} (upto : T → ℕ → T) (b b' : RingState T) (j : ℕ) wh
   pub job_stays : (x : Option (HeldTask T)) → ToldOn → JobOn → HasJob upto b j x → HasJob upto b' j x
   job_stays None told on h = λ u e. h u ((on u).0 e)
   job_stays (Some x) told on h = let o = (on x.task).1 h.0 in (o.0, h.1 ∙ sym (told (x.task + 1) (let l = o.1 in omega arith)), λ u e. h.2 u ((on u).0 e))
+
+  abbrev pub BlockOn : Type 0
+  BlockOn = (u : ℕ) → (b'.block u ≡ read_by j → b.block u ≡ read_by j) × (b.block u ≡ read_by j → b'.block u ≡ read_by j)
+
+  pub block_stays : (x : Option ℕ) → BlockOn → HasBlock upto b j x → HasBlock upto b' j x
+  block_stays None on h = λ u e. h u ((on u).0 e)
+  block_stays (Some x) on h = ((on x).1 h.0, λ u e. h.1 u ((on u).0 e))
 
   pub turn_stays : (x : Option (HeldTurn T)) → ToldOn → TurnOn → HasTurn upto b j x → HasTurn upto b' j x
   turn_stays None told on h = λ p e. h p ((on p).0 e)
@@ -75,10 +81,11 @@ module _ {T : Type 0} (upto : T → ℕ → T) (b b' : RingState T) (j : ℕ) wh
       go (Some x) e h = h ∙ sym (told 0 (omega arith))
 
   -- what another seat knows stays so
-  pub knows_stay : (v : View T) → ToldOn → JobOn → TurnOn → b'.lead ≡ b.lead → (j ≡ b.lead → (b'.told ≡ b.told) × (b'.filled ≡ b.filled) × (b'.out ≡ b.out) × (b'.phase b'.filled ≡ b.phase b.filled)) → b.assembled ≤ b'.assembled → (halted b.turn ≡ true → halted b'.turn ≡ true) → Knows upto b j v → Knows upto b' j v
-  knows_stay v told job turn lead is_lead later halts k = record {
+  pub knows_stay : (v : View T) → BlockOn → ToldOn → JobOn → TurnOn → b'.lead ≡ b.lead → (j ≡ b.lead → (b'.told ≡ b.told) × (b'.filled ≡ b.filled) × (b'.out ≡ b.out) × (b'.fill ≡ b.fill)) → b.assembled ≤ b'.assembled → (halted b.turn ≡ true → halted b'.turn ≡ true) → Knows upto b j v → Knows upto b' j v
+  knows_stay v blocks told job turn lead is_lead later halts k = record {
     job = job_stays v.job told job k.job;
     turn = turn_stays v.turn told turn k.turn;
+    block = block_stays v.block blocks k.block;
     lead = lead_stays v.lead k.lead;
     found = found_stays v.turn v.saw.word turn k.turn k.found;
     seen = (le_trans k.seen.0 later, λ e. halts (k.seen.1 e));
@@ -91,17 +98,17 @@ module _ {T : Type 0} (upto : T → ℕ → T) (b b' : RingState T) (j : ℕ) wh
 
       lead_stays : (x : Option (Lead T)) → HasLead upto b j x → HasLead upto b' j x
       lead_stays None h = λ e. h (e ∙ lead)
-      lead_stays (Some x) h = let o = is_lead h.0 in (h.0 ∙ sym lead, h.1 ∙ sym o.0, h.2 ∙ sym o.1, h.3 ∙ sym o.2, o.3 ∙ h.4)
+      lead_stays (Some x) h = let o = is_lead h.0 in (h.0 ∙ sym lead, h.1 ∙ sym o.0, h.2 ∙ sym o.1, h.3 ∙ sym o.2, h.4 ∙ sym o.3)
 
-module _ {T R P S : Type 0} (is_told : T → ℕ → Type 0) (upto : T → ℕ → T) (is_rows : T → ℕ → R → Type 0) (is_piece : T → ℕ → P → Type 0) (is_stage : T → ℕ → Bool → S → Type 0) (size : ℕ) where
+module _ {T R P S : Type 0} (is_told : T → ℕ → Type 0) (upto : T → ℕ → T) (needs : T → ℕ → ℕ) (is_rows : T → ℕ → R → Type 0) (is_piece : T → ℕ → P → Type 0) (is_stage : T → ℕ → Bool → S → Type 0) (size : ℕ) where
   abbrev pub St : Type 0
   St = State (SlotValue R P S) (View T)
 
   abbrev pub ShapeOf : St → RingState T → Type 0
-  ShapeOf s b = Shape is_told upto is_rows is_piece is_stage size s b
+  ShapeOf s b = Shape is_told upto needs is_rows is_piece is_stage size s b
 
   abbrev pub HomeOf : St → RingState T → Type 0
-  HomeOf s b = Home is_told upto is_rows is_piece is_stage size s b
+  HomeOf s b = Home is_told upto needs is_rows is_piece is_stage size s b
 
   abbrev pub Ordered : RingState T → Type 0
   Ordered b = (b.assembled ≤ b.given) × (b.given ≤ b.filled) × (b.filled ≤ b.given + size) × (b.filled ≤ 2 ^ 42) × is_told b.told b.filled
@@ -149,7 +156,7 @@ module _ {T R P S : Type 0} (is_told : T → ℕ → Type 0) (upto : T → ℕ �
       → Ordered b' → b'.lead ≡ b.lead → ((u : ℕ) → Fits size b' (length s.views) u (b'.phase u)) → x ≡ turn_word b'.assembled b'.turn → TurnFits b' (length s.views) b'.turn
       → Knows upto b' id w → ((j : ℕ) (v : View T) → j ≢ id → Knows upto b j v → Knows upto b' j v) → ShapeOf record { words = set s.words 0 x; homes = homes'; views = set s.views id w } b'
   turn_step s b b' homes' id x v₀ w sh is_v base out wide given phase order lead tasks word turn_fits mine others =
-      let long : length (set s.views id w) ≡ length s.views = length-set s.views id w in let ws : length s.words ≡ size + 1 = sh.words_wide in
+      let long : length (set s.views id w) ≡ length s.views = length-set s.views id w in let ws : length s.words ≡ 2 * size + 1 = sh.words_wide in
       record {
         some_cell = sh.some_cell;
         few_cells = sh.few_cells;
@@ -176,7 +183,7 @@ module _ {T R P S : Type 0} (is_told : T → ℕ → Type 0) (upto : T → ℕ �
   AtHomeOf told place t ph = AtHome upto is_rows is_piece is_stage told place t ph
 
   abbrev pub EmptyOf : St → RingState T → RingTurn → Type 0
-  EmptyOf s b x = EmptyBut is_told upto is_rows is_piece is_stage size s b x
+  EmptyOf s b x = EmptyBut is_told upto needs is_rows is_piece is_stage size s b x
 
   abbrev pub TakenCell : St → RingState T → Type 0
   TakenCell s b = (m : Bool) → b.phase b.given ≡ taken m → EmptyOf s b b.turn
@@ -199,8 +206,7 @@ module _ {T R P S : Type 0} (is_told : T → ℕ → Type 0) (upto : T → ℕ �
   -- what lies in a cell that a step does not touch
   pub lies_still : (b b' : RingState T) (n u : ℕ) (p p' : Place) → p' ≡ p → ((k : ℕ) → k ≤ b.filled → upto b'.told k ≡ upto b.told k) → (ph : RingPhase) → Fits size b n u ph → AtHomeOf b.told p u ph → AtHomeOf b'.told p' u ph
   lies_still b b' n u p p' e told idle f h = e ∙ h
-  lies_still b b' n u p p' e told filling f h = tt
-  lies_still b b' n u p p' e told ready f h = (h.0, e ∙ h.1, subst (λ (z : T). is_rows z u h.0) (sym (told (u + 1) (let l = f.1 in omega arith))) h.2)
+  lies_still b b' n u p p' e told ready f h = e ∙ h
   lies_still b b' n u p p' e told (held j) f h = tt
   lies_still b b' n u p p' e told (done false) f h = (h.0, e ∙ h.1, subst (λ (z : T). is_piece z u h.0) (sym (told (u + 1) (let l = f.1 in omega arith))) h.2)
   lies_still b b' n u p p' e told (done true) f h = e ∙ h
@@ -210,7 +216,7 @@ module _ {T R P S : Type 0} (is_told : T → ℕ → Type 0) (upto : T → ℕ �
   -- a step that touches the slot of the cell of t alone
   pub home_step : (s s' : St) (b b' : RingState T) (t : ℕ) → ShapeOf s b → HomeOf s b → ((j : ℕ) → j ≢ t % size + 1 → get_elem? s'.homes j ≡ get_elem? s.homes j) → b'.given ≤ t → t < b'.given + size
       → ((u : ℕ) → u ≢ t → b'.given ≤ u → u < b'.given + size → (b.given ≤ u) × (u < b.given + size) × (b'.phase u ≡ b.phase u)) → ((k : ℕ) → k ≤ b.filled → upto b'.told k ≡ upto b.told k)
-      → AtHomeOf b'.told (get_elem? s'.homes (t % size + 1)) t (b'.phase t) → StageHome is_told upto is_rows is_piece is_stage size s' b' b'.turn → TakenCell s' b' → HomeOf s' b'
+      → AtHomeOf b'.told (get_elem? s'.homes (t % size + 1)) t (b'.phase t) → StageHome is_told upto needs is_rows is_piece is_stage size s' b' b'.turn → TakenCell s' b' → HomeOf s' b'
   home_step s s' b b' t sh ho else lo hi window told mine stage taken_cell = record {
     taken_cell = taken_cell;
     each_cell = λ u a z. dite (ℕ_discrete u t) (λ e. subst (λ (k : ℕ). AtHomeOf b'.told (get_elem? s'.homes (k % size + 1)) k (b'.phase k)) (sym e) mine)
@@ -220,23 +226,23 @@ module _ {T R P S : Type 0} (is_told : T → ℕ → Type 0) (upto : T → ℕ �
   }
 
   -- a step that touches the slot of the stage alone, or none
-  pub home_turn : (s s' : St) (b b' : RingState T) → ShapeOf s b → HomeOf s b → ((j : ℕ) → get_elem? s'.homes (j + 1) ≡ get_elem? s.homes (j + 1)) → b'.given ≡ b.given → b'.phase ≡ b.phase → b'.told ≡ b.told
-      → StageHome is_told upto is_rows is_piece is_stage size s' b' b'.turn → TakenCell s' b' → HomeOf s' b'
+  pub home_turn : (s s' : St) (b b' : RingState T) → ShapeOf s b → HomeOf s b → ((j : ℕ) → j < size → get_elem? s'.homes (j + 1) ≡ get_elem? s.homes (j + 1)) → b'.given ≡ b.given → b'.phase ≡ b.phase → b'.told ≡ b.told
+      → StageHome is_told upto needs is_rows is_piece is_stage size s' b' b'.turn → TakenCell s' b' → HomeOf s' b'
   home_turn s s' b b' sh ho same given phase told stage taken_cell = record {
     taken_cell = taken_cell;
     each_cell = λ u a z. subst (AtHomeOf b'.told (get_elem? s'.homes (u % size + 1)) u) (λ i. sym phase i u)
-        (lies_still b b' (length s.views) u (get_elem? s.homes (u % size + 1)) (get_elem? s'.homes (u % size + 1)) (same (u % size)) (λ k _. ap (λ (z : T). upto z k) told) (b.phase u) (sh.each_task u)
+        (lies_still b b' (length s.views) u (get_elem? s.homes (u % size + 1)) (get_elem? s'.homes (u % size + 1)) (same (u % size) (mod-lt u sh.some_cell)) (λ k _. ap (λ (z : T). upto z k) told) (b.phase u) (sh.each_task u)
         (ho.each_cell u (let g : b.given ≤ u = omega arith in g) (let g : u < b.given + size = omega arith in g)));
     stage = stage;
   }
 
   pub stage_stays : (s s' : St) (b b' : RingState T) → b'.given ≡ b.given → b'.told ≡ b.told → b'.filled ≡ b.filled → get_elem? s'.homes 0 ≡ get_elem? s.homes 0 → (x : RingTurn)
-      → StageHome is_told upto is_rows is_piece is_stage size s b x → StageHome is_told upto is_rows is_piece is_stage size s' b' x
+      → StageHome is_told upto needs is_rows is_piece is_stage size s b x → StageHome is_told upto needs is_rows is_piece is_stage size s' b' x
   stage_stays s s' b b' given told fill same (free y) h = (h.0, same ∙ h.1, subst (λ (z : T × ℕ). is_stage (upto z.0 (z.1 + extra y)) z.1 y h.0) (λ i. (sym told i, sym given i)) h.2)
   stage_stays s s' b b' given told fill same (won_by j p) h = tt
 
   pub stage_told : (s s' : St) (b b' : RingState T) → b'.given ≡ b.given → ((k : ℕ) → k ≤ b.filled → upto b'.told k ≡ upto b.told k) → b.given ≤ b.filled → get_elem? s'.homes 0 ≡ get_elem? s.homes 0 → (n : ℕ) (x : RingTurn) → b.turn ≡ x → TurnFits b n x
-      → ((u : ℕ) → Fits size b n u (b.phase u)) → StageHome is_told upto is_rows is_piece is_stage size s b x → StageHome is_told upto is_rows is_piece is_stage size s' b' x
+      → ((u : ℕ) → Fits size b n u (b.phase u)) → StageHome is_told upto needs is_rows is_piece is_stage size s b x → StageHome is_told upto needs is_rows is_piece is_stage size s' b' x
   stage_told s s' b b' given told le same n (free false) is r tasks h = (h.0, same ∙ h.1, subst (λ (z : T × ℕ). is_stage z.0 z.1 false h.0) (λ i. ((sym (told (b.given + 0) (omega arith)) ∙ ap (λ (k : ℕ). upto b'.told (k + 0)) (sym given)) i, sym given i)) h.2)
   stage_told s s' b b' given told le same n (free true) is r tasks h =
       let k = r.1 refl in let f = subst (Fits size b n b.given) k.1 (tasks b.given) in let l = f.1 in

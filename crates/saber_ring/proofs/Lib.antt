@@ -1,6 +1,7 @@
 pub mod Puts
 pub mod PhaseFacts
 pub mod Frames
+pub mod BlockFrames
 pub mod Counts
 pub mod Alone
 pub mod Moves
@@ -11,8 +12,11 @@ pub mod Turns
 pub mod Takes
 pub mod Gives
 pub mod Releases
+pub mod Fills
+pub mod Readers
 pub mod Lasts
 pub mod Cores
 pub mod Carries
 pub mod Calls
+pub mod Adding
 pub mod NoEvents

@@ -1,5 +1,5 @@
 -- Each kind of step keeps the rule.
-use Rattle.std.proofs.Common.{◌^◌, ◌≡◌, ◌≢◌, ℕ, Bool, true, false, eqb, zero, suc, ◌-◌, ◌+◌, ◌*◌, ◌%◌, ◌<◌, ◌≤◌, ⊎_elim, List, [], ◌∷◌, length, get_or, set, sym, refl, ap, ◌∙◌, subst, mod-lt, le_refl, arith, length-set}
+use Rattle.std.proofs.Common.{◌^◌, ◌≡◌, ◌≢◌, ℕ, Bool, true, false, eqb, zero, suc, ◌-◌, ◌+◌, ◌*◌, ◌%◌, ◌<◌, ◌≤◌, List, [], ◌∷◌, length, get_or, set, sym, refl, ap, ◌∙◌, subst, mod-lt, le_refl, arith, length-set, get_or-set_other}
 use lib.Seq.{set-get_or}
 use Rattle.std.proofs.Math.Path.{transport}
 use Rattle.std.proofs.Math.Nat.{mod-eq_of_lt}
@@ -13,7 +13,7 @@ use Rattle.std.specs.Prelude.{Option, Some, None, slice_index}
 use Rattle.atomic_table.specs.Table.{State, Me, Act, keeps, takes, gives, step, rest, put_back, stepped, carried_after, Valid, Allows}
 use Rattle.atomic_table.proofs.Lists.{one_turn, exchanged, set_here, set_else}
 use Rattle.saber_ring.specs.declared.view.SlotValue.{SlotValue}
-use Rattle.saber_ring.specs.declared.view.SlotValue.TheVariants.{Empty, Rows}
+use Rattle.saber_ring.specs.declared.view.SlotValue.TheVariants.{Empty}
 use Rattle.saber_ring.specs.declared.view.TurnState.{TurnState}
 use Rattle.saber_ring.specs.declared.view.TurnState.TheVariants.{Open, TookPiece, TookMark, WonStopped, Leaving}
 use Rattle.saber_ring.specs.declared.view.Entry.TheVariants.{Claim, Deposit}
@@ -21,16 +21,18 @@ use Rattle.saber_ring.specs.declared.view.View.{View}
 use Rattle.saber_ring.specs.declared.view.Lead.{Lead}
 use Rattle.saber_ring.specs.declared.view.HeldTask.{HeldTask}
 use Rattle.saber_ring.specs.declared.view.HeldTurn.{HeldTurn}
-use Rattle.saber_ring.specs.Shows.{RingPhase, idle, filling, ready, held, done, taken, past, number_of, RingTurn, free, won_by, turn_word, RingState, Fits, TurnFits, lead_phase, knows_next, HasJob, HasTurn, HasLead, HasBase, IsLive, live, Sees, HasFound, Knows, AtHome, Counts, ShowsAs, Shows, times, claims_of, deposits_of, takes_of, gives_of}
-use Rattle.saber_ring.specs.Plays.{looked, led, begun, more_filled, missing, with_job, without_job, claims, begins, fills, deposits}
+use Rattle.saber_ring.specs.Shows.{RingPhase, idle, ready, held, done, taken, past, number_of, RingTurn, free, won_by, turn_word, RingState, Fits, TurnFits, knows_next, begun_of, RingBlock, blank, coming, kept, read_by, told_with, first_of_task, BlockFits, FillFits, BlockHome, oldest, HasJob, HasBlock, HasTurn, HasLead, HasBase, IsLive, live, Sees, HasFound, Knows, AtHome, Counts, ShowsAs, Shows, times, claims_of, deposits_of, takes_of, gives_of}
+use Rattle.saber_ring.specs.Plays.{looked, led, more_filled, missing, with_job, without_job, claims, fills, sees_cell, deposits}
 use Rattle.saber_ring.proofs.Alone.{shows_ready, own_all}
 use Rattle.saber_ring.proofs.Puts.{put, at_put, put_here, put_else, at_length}
-use Rattle.saber_ring.proofs.PhaseFacts.{same_done, not_done, odd_done, number_done, done_small, ready_done, idle_done, filling_done, held_done, window_has, number_small, number_0, number_2, found, ready_taken, ready_held, held_same, idle_taken, idle_held, filling_held, some_same, held_taken, done_held, done_taken, filling_taken}
-use Rattle.saber_ring.proofs.Carries.{rows_same}
+use Rattle.saber_ring.proofs.PhaseFacts.{same_done, not_done, odd_done, number_done, done_small, ready_done, idle_done, held_done, window_has, number_small, number_2, found, ready_taken, ready_held, held_same, idle_taken, idle_held, some_same, held_taken, done_held, done_taken}
+use Rattle.saber_ring.proofs.BlockFrames.{BlocksOf, FitsAt, blocks_low, cell_low}
+use Rattle.saber_ring.specs.declared.view.FillState.{FillState}
+use Rattle.saber_ring.specs.declared.view.FillState.TheVariants.{Waiting, Begun, Stored}
 use Rattle.saber_ring.proofs.Frames.{two_cells, TakenCell, empty_stays, fits_stay, knows_stay, cell_step, home_step, stage_stays, stage_told, ordered, seats_stay, alive_set, live_base, job_stays, turn_stays, TurnOn}
 use Rattle.saber_ring.proofs.Counts.{counts_same, counts_more, due_same, due_claim, due_deposit}
 
-module _ {T R P S : Type 0} (is_told : T → ℕ → Type 0) (upto : T → ℕ → T) (is_rows : T → ℕ → R → Type 0) (is_piece : T → ℕ → P → Type 0) (is_stage : T → ℕ → Bool → S → Type 0) (size : ℕ) where
+module _ {T R P S : Type 0} (is_told : T → ℕ → Type 0) (upto : T → ℕ → T) (needs : T → ℕ → ℕ) (is_rows : T → ℕ → R → Type 0) (is_piece : T → ℕ → P → Type 0) (is_stage : T → ℕ → Bool → S → Type 0) (size : ℕ) where
   abbrev pub St : Type 0
   St = State (SlotValue R P S) (View T)
 
@@ -38,10 +40,14 @@ module _ {T R P S : Type 0} (is_told : T → ℕ → Type 0) (upto : T → ℕ �
   M = Me (SlotValue R P S) (View T)
 
   abbrev pub Rule : St → Type 0
-  Rule = Shows is_told upto is_rows is_piece is_stage size
+  Rule = Shows is_told upto needs is_rows is_piece is_stage size
 
   abbrev pub As : St → RingState T → Type 0
-  As s b = ShowsAs is_told upto is_rows is_piece is_stage size s b
+  As s b = ShowsAs is_told upto needs is_rows is_piece is_stage size s b
+
+  -- a task needs no block of a later one
+  abbrev pub Early : Type 0
+  Early = (told : T) (d t : ℕ) → is_told told d → t ≤ d → needs (upto told t) t ≤ t
 
   abbrev pub Goes : St → ℕ → ℕ → M → (ℕ → M → Type 0) → ℕ → Type 0
   Goes s k id me then x = (w : View T) × (a : Act (SlotValue R P S)) × Valid s.homes me.1 a × Rule (stepped s k x id me.1 w a) × then (get_or s.words k 0) (w, carried_after me.1 a)
@@ -65,8 +71,8 @@ module _ {T R P S : Type 0} (is_told : T → ℕ → Type 0) (upto : T → ℕ �
   beyond_words (w ∷ ws) (suc i) le = beyond_words ws i (omega arith)
 
   -- what a holder finds in a word, it finds in the ring
-  pub word_found : (s : St) (b : RingState T) → As s b → (i id : ℕ) (v : View T) → get_elem? s.views id ≡ some v → HasFound upto b id v.turn (get_or s.words i 0)
-  word_found s b sh i id v at = go v.turn (sh.shape.each_seat id v at).turn
+  pub word_found : (s : St) (b : RingState T) → As s b → (i id : ℕ) (v : View T) → i ≤ size → get_elem? s.views id ≡ some v → HasFound upto b id v.turn (get_or s.words i 0)
+  word_found s b sh i id v low at = go v.turn (sh.shape.each_seat id v at).turn
     where
       n : ℕ
       n = get_or s.words i 0
@@ -88,10 +94,11 @@ module _ {T R P S : Type 0} (is_told : T → ℕ → Type 0) (upto : T → ℕ �
           (λ ne. dite (dec_le (length s.words) i) (λ far. absurd (not_done n 0 h.behind 0 m (beyond_words s.words i far) (omega arith) e)) (λ near. cell_found h m (omega arith) (omega arith) e))
 
   -- a seat that only looks knows as much
-  pub knows_looked : (b : RingState T) (j : ℕ) (v w : View T) → w.job ≡ v.job → w.turn ≡ v.turn → w.lead ≡ v.lead → w.base ≡ v.base → w.own ≡ v.own → Sees b w.seen w.stopped → HasFound upto b j w.turn w.saw.word → Knows upto b j v → Knows upto b j w
-  knows_looked b j v w job turn lead base own seen finds k = record {
+  pub knows_looked : (b : RingState T) (j : ℕ) (v w : View T) → w.job ≡ v.job → w.block ≡ v.block → w.turn ≡ v.turn → w.lead ≡ v.lead → w.base ≡ v.base → w.own ≡ v.own → Sees b w.seen w.stopped → HasFound upto b j w.turn w.saw.word → Knows upto b j v → Knows upto b j w
+  knows_looked b j v w job block turn lead base own seen finds k = record {
     job = subst (HasJob upto b j) (sym job) k.job;
     turn = subst (HasTurn upto b j) (sym turn) k.turn;
+    block = subst (HasBlock upto b j) (sym block) k.block;
     lead = subst (HasLead upto b j) (sym lead) k.lead;
     seen = seen;
     found = finds;
@@ -99,10 +106,9 @@ module _ {T R P S : Type 0} (is_told : T → ℕ → Type 0) (upto : T → ℕ �
   }
 
   -- a step that changes no word and no slot leaves the state of the ring
-  pub looked_as : (s : St) (b : RingState T) (i id : ℕ) (v w : View T) → As s b → get_elem? s.views id ≡ some v → w.job ≡ v.job → w.turn ≡ v.turn → w.lead ≡ v.lead → w.base ≡ v.base → w.own ≡ v.own → w.saw.word ≡ get_or s.words i 0 → Sees b w.seen w.stopped
+  pub looked_by : (s : St) (b : RingState T) (id : ℕ) (v w : View T) → As s b → get_elem? s.views id ≡ some v → w.job ≡ v.job → w.block ≡ v.block → w.turn ≡ v.turn → w.lead ≡ v.lead → w.base ≡ v.base → w.own ≡ v.own → HasFound upto b id w.turn w.saw.word → Sees b w.seen w.stopped
       → As record { words = s.words; homes = s.homes; views = set s.views id w } b
-  looked_as s b i id v w sh at job turn lead base own word seen =
-      let finds = subst (λ (z : Option (HeldTurn T) × ℕ). HasFound upto b id z.0 z.1) (λ q. (sym turn q, sym word q)) (word_found s b sh i id v at) in
+  looked_by s b id v w sh at job block turn lead base own finds seen =
       let long : length (set s.views id w) ≡ length s.views = length-set s.views id w in let k = sh.shape in
       record {
         shape = record {
@@ -116,21 +122,28 @@ module _ {T R P S : Type 0} (is_told : T → ℕ → Type 0) (upto : T → ℕ �
           filled_end = k.filled_end;
           told = k.told;
           led = subst (λ (n : ℕ). b.lead < n) (sym long) k.led;
-          alive = alive_set is_told upto is_rows is_piece is_stage size s.views id v w at base ∙ k.alive;
+          alive = alive_set is_told upto needs is_rows is_piece is_stage size s.views id v w at base ∙ k.alive;
           each_task = λ u. subst (λ (n : ℕ). Fits size b n u (b.phase u)) (sym long) (k.each_task u);
           each_word = k.each_word;
           turn_is = k.turn_is;
           turn_fits = subst (λ (n : ℕ). TurnFits b n b.turn) (sym long) k.turn_fits;
-          each_seat = seats_stay is_told upto is_rows is_piece is_stage size b b s.views id w (knows_looked b id v w job turn lead base own seen finds (k.each_seat id v at)) (λ j u _ h. h) k.each_seat;
+          each_seat = seats_stay is_told upto needs is_rows is_piece is_stage size b b s.views id w (knows_looked b id v w job block turn lead base own seen finds (k.each_seat id v at)) (λ j u _ h. h) k.each_seat;
         };
         home = record { taken_cell = sh.home.taken_cell; each_cell = sh.home.each_cell; stage = sh.home.stage };
+        blocks = record { room = sh.blocks.room; each_block = sh.blocks.each_block; in_hand = sh.blocks.in_hand; each_block_word = sh.blocks.each_block_word; each_block_home = sh.blocks.each_block_home };
         count = counts_same b b s.views id v w at own (λ e. refl) sh.count;
       }
 
-  pub looks : (s : St) (b : RingState T) (i id : ℕ) (cs : List (ℕ × SlotValue R P S)) (v w : View T) → As s b → get_elem? s.views id ≡ some v → w.job ≡ v.job → w.turn ≡ v.turn → w.lead ≡ v.lead → w.base ≡ v.base → w.own ≡ v.own → w.saw.word ≡ get_or s.words i 0 → Sees b w.seen w.stopped
+  -- a look at the word of a cell or of the turn
+  pub looked_as : (s : St) (b : RingState T) (i id : ℕ) (v w : View T) → As s b → i ≤ size → get_elem? s.views id ≡ some v → w.job ≡ v.job → w.block ≡ v.block → w.turn ≡ v.turn → w.lead ≡ v.lead → w.base ≡ v.base → w.own ≡ v.own → w.saw.word ≡ get_or s.words i 0 → Sees b w.seen w.stopped
+      → As record { words = s.words; homes = s.homes; views = set s.views id w } b
+  looked_as s b i id v w sh low at job block turn lead base own word seen =
+      looked_by s b id v w sh at job block turn lead base own (subst (λ (z : Option (HeldTurn T) × ℕ). HasFound upto b id z.0 z.1) (λ q. (sym turn q, sym word q)) (word_found s b sh i id v low at)) seen
+
+  pub looks : (s : St) (b : RingState T) (i id : ℕ) (cs : List (ℕ × SlotValue R P S)) (v w : View T) → As s b → i ≤ size → get_elem? s.views id ≡ some v → w.job ≡ v.job → w.block ≡ v.block → w.turn ≡ v.turn → w.lead ≡ v.lead → w.base ≡ v.base → w.own ≡ v.own → w.saw.word ≡ get_or s.words i 0 → Sees b w.seen w.stopped
       → Rule (stepped s i (get_or s.words i 0) id cs w keeps)
-  looks s b i id cs v w sh at job turn lead base own word seen =
-      subst (λ (ws : List ℕ). Rule record { words = ws; homes = s.homes; views = set s.views id w }) (sym (set-get_or s.words i 0)) (b, looked_as s b i id v w sh at job turn lead base own word seen)
+  looks s b i id cs v w sh low at job block turn lead base own word seen =
+      subst (λ (ws : List ℕ). Rule record { words = ws; homes = s.homes; views = set s.views id w }) (sym (set-get_or s.words i 0)) (b, looked_as s b i id v w sh low at job block turn lead base own word seen)
 
   pub rests_put : (b : RingState T) (n t : ℕ) (ph : RingPhase) → ((m : Bool) → b.phase t ≢ taken m) → (x : RingTurn) → TurnFits b n x → TurnFits (record b { phase = put b.phase t ph }) n x
   rests_put b n t ph not x r = go x r
@@ -172,38 +185,39 @@ module _ {T R P S : Type 0} (is_told : T → ℕ → Type 0) (upto : T → ℕ �
 
   -- the slot of a taken cell, where the task of another cell moves to ph
   taken_after : (s : St) (b : RingState T) → As s b → (s' : St) (t : ℕ) (ph : RingPhase) → b.given ≤ t → t < b.given + size → ((m : Bool) → ph ≢ taken m) → ((j : ℕ) → j ≢ t % size + 1 → get_elem? s'.homes j ≡ get_elem? s.homes j)
-      → TakenCell is_told upto is_rows is_piece is_stage size s' (record b { phase = put b.phase t ph })
+      → TakenCell is_told upto needs is_rows is_piece is_stage size s' (record b { phase = put b.phase t ph })
   taken_after s b sh s' t ph lo hi fresh else m e = dite (ℕ_discrete b.given t)
       (λ same. absurd (fresh m (sym (ap (put b.phase t ph) same ∙ put_here b.phase t ph) ∙ e)))
       (λ ne. let pos = sh.shape.some_cell in let apart : b.given % size ≢ t % size = two_cells b.given t b.given size (le_refl b.given) (omega arith) lo hi ne in
-      empty_stays is_told upto is_rows is_piece is_stage size s s' b (record b { phase = put b.phase t ph }) refl (else (b.given % size + 1) (λ q. apart (omega arith))) b.turn (sh.home.taken_cell m (sym (put_else b.phase t ph b.given ne) ∙ e)))
+      empty_stays is_told upto needs is_rows is_piece is_stage size s s' b (record b { phase = put b.phase t ph }) refl (else (b.given % size + 1) (λ q. apart (omega arith))) b.turn (sh.home.taken_cell m (sym (put_else b.phase t ph b.given ne) ∙ e)))
 
   -- a step that moves the cell of t to ph, and nothing else of the ring
   pub cell_turns : (s : St) (b : RingState T) (sh : As s b) (homes' : List (maybe.Option (SlotValue R P S))) (id t i x : ℕ) (v₀ w : View T) (ph : RingPhase) → get_elem? s.views id ≡ some v₀ → w.base ≡ v₀.base → i ≡ t % size + 1 → x ≡ 8 * t + number_of ph → b.given ≤ t → t < b.given + size
-      → ((m : Bool) → b.phase t ≢ taken m) → ((m : Bool) → b.phase t ≢ done m) → ((m : Bool) → ph ≢ taken m) → Fits size b (length s.views) t ph → ((j : ℕ) → j ≢ id → (b.phase t ≢ held j) × (ph ≢ held j)) → (b.lead ≢ id → b.filled ≢ t)
+      → ((m : Bool) → b.phase t ≢ taken m) → ((m : Bool) → b.phase t ≢ done m) → ((m : Bool) → ph ≢ taken m) → Fits size b (length s.views) t ph → ((j : ℕ) → j ≢ id → (b.phase t ≢ held j) × (ph ≢ held j)) → ((u j : ℕ) → b.block u ≡ read_by j → b.phase t ≢ held j)
       → Knows upto (record b { phase = put b.phase t ph }) id w
       → length homes' ≡ length s.homes → ((j : ℕ) → j ≢ i → get_elem? homes' j ≡ get_elem? s.homes j) → AtHome upto is_rows is_piece is_stage b.told (get_elem? homes' i) t ph
       → Counts (record b { phase = put b.phase t ph }) (set s.views id w) → As record { words = set s.words i x; homes = homes'; views = set s.views id w } (record b { phase = put b.phase t ph })
-  cell_turns s b sh homes' id t i x v₀ w ph is_v base cell is lo hi not never fresh fit others lead mine wide else home count =
+  cell_turns s b sh homes' id t i x v₀ w ph is_v base cell is lo hi not never fresh fit others readers mine wide else home count =
       let b' : RingState T = record b { phase = put b.phase t ph } in let s' : St = record { words = set s.words i x; homes = homes'; views = set s.views id w } in let k = sh.shape in
       let here : b'.phase t ≡ ph = put_here b.phase t ph in
       let window : (u : ℕ) → u ≢ t → b'.given ≤ u → u < b'.given + size → (b.given ≤ u) × (u < b.given + size) × (b'.phase u ≡ b.phase u) = λ u ne a z. (a, z, put_else b.phase t ph u ne) in
       let apart : 0 ≢ i = λ e. omega arith in
       record {
-        shape = cell_step is_told upto is_rows is_piece is_stage size s b b' homes' id t i x v₀ w k is_v base refl cell (is ∙ ap (λ (z : RingPhase). 8 * t + number_of z) (sym here)) wide lo hi window
-            (ordered is_told upto is_rows is_piece is_stage size s b k) refl (λ u. at_put b.phase t ph (λ v y. Fits size b (length s.views) v y) u (λ _. fit) (λ _. k.each_task u)) refl (rests_put b (length s.views) t ph not b.turn k.turn_fits) mine
-            (λ j v ne kn. let o = others j ne in knows_stay upto b b' j v (λ _ _. refl)
-            (job_put b s sh t ph j o.0 o.1) (λ p. ((λ e. e), λ e. (e, refl, state_room b s sh b.turn refl j p e, λ m was. put_else b.phase t ph b.given (λ same. never m (ap b.phase (sym same) ∙ was)) ∙ was))) refl (λ is_lead. (refl, refl, refl, put_else b.phase t ph b.filled (lead (λ same. ne (is_lead ∙ same))))) (le_refl b.assembled) (λ e. e) kn);
-        home = home_step is_told upto is_rows is_piece is_stage size s s' b b' t k sh.home (λ j ne. else j (λ e. ne (e ∙ cell))) lo hi window (λ _ _. refl)
+        shape = cell_step is_told upto needs is_rows is_piece is_stage size s b b' homes' id t i x v₀ w k is_v base refl cell (is ∙ ap (λ (z : RingPhase). 8 * t + number_of z) (sym here)) wide lo hi window
+            (ordered is_told upto needs is_rows is_piece is_stage size s b k) refl (λ u. at_put b.phase t ph (λ v y. Fits size b (length s.views) v y) u (λ _. fit) (λ _. k.each_task u)) refl (rests_put b (length s.views) t ph not b.turn k.turn_fits) mine
+            (λ j v ne kn. let o = others j ne in knows_stay upto b b' j v (λ _. ((λ e. e), λ e. e)) (λ _ _. refl)
+            (job_put b s sh t ph j o.0 o.1) (λ p. ((λ e. e), λ e. (e, refl, state_room b s sh b.turn refl j p e, λ m was. put_else b.phase t ph b.given (λ same. never m (ap b.phase (sym same) ∙ was)) ∙ was))) refl (λ _. (refl, refl, refl, refl)) (le_refl b.assembled) (λ e. e) kn);
+        home = home_step is_told upto needs is_rows is_piece is_stage size s s' b b' t k sh.home (λ j ne. else j (λ e. ne (e ∙ cell))) lo hi window (λ _ _. refl)
             (subst (λ (y : ℕ × RingPhase). AtHome upto is_rows is_piece is_stage b.told (get_elem? homes' y.0) t y.1) (λ n. (cell n, sym here n)) home)
-            (stage_stays is_told upto is_rows is_piece is_stage size s s' b b' refl refl refl (else 0 apart) b.turn sh.home.stage)
+            (stage_stays is_told upto needs is_rows is_piece is_stage size s s' b b' refl refl refl (else 0 apart) b.turn sh.home.stage)
             (taken_after s b sh s' t ph lo hi fresh (λ j ne. else j (λ e. ne (e ∙ cell))));
+        blocks = blocks_low is_told upto needs is_rows is_piece is_stage size s b b.assembled b.given b.out b.turn b'.phase i x homes' (set s.views id w) sh.blocks sh.blocks.room
+            (λ u j v reads e. put_else b.phase t ph v (λ same. readers u j reads (ap b.phase (sym same) ∙ e)) ∙ e) (cell_low i t size cell k.some_cell) else;
         count = count;
       }
 
   late_filled : (b : RingState T) (n u : ℕ) (ph : RingPhase) → 2 < number_of ph → Fits size b n u ph → u < b.filled
   late_filled b n u idle l f = absurd (omega arith)
-  late_filled b n u filling l f = absurd (omega arith)
   late_filled b n u ready l f = f.1
   late_filled b n u (held j) l f = f.1
   late_filled b n u (done m) l f = f.1
@@ -212,7 +226,7 @@ module _ {T R P S : Type 0} (is_told : T → ℕ → Type 0) (upto : T → ℕ �
 
   pub lead_put : (b : RingState T) (j t : ℕ) (ph : RingPhase) → b.filled ≢ t → (x : Option (Lead T)) → HasLead upto b j x → HasLead upto (record b { phase = put b.phase t ph }) j x
   lead_put b j t ph ne None h = h
-  lead_put b j t ph ne (Some l) h = (h.0, h.1, h.2, h.3, put_else b.phase t ph b.filled ne ∙ h.4)
+  lead_put b j t ph ne (Some l) h = (h.0, h.1, h.2, h.3, h.4)
 
   -- a word past READY(t) shows that t was filled
   word_past : (s : St) (b : RingState T) (sh : As s b) (i t : ℕ) → i ≡ t % size + 1 → 8 * t + 2 < slice_index s.words i → t < b.filled
@@ -224,7 +238,7 @@ module _ {T R P S : Type 0} (is_told : T → ℕ → Type 0) (upto : T → ℕ �
 
   -- claim
   pub claimed_at : (s : St) (b : RingState T) (sh : As s b) (id t i x : ℕ) (me : M) → get_elem? s.views id ≡ some me.0 → i ≡ t % size + 1 → x ≡ 8 * t + 3 → slice_index s.words i ≡ 8 * t + 2 → me.0.job ≡ None → IsLive me.0
-      → (r : R) × is_rows (upto b.told (t + 1)) t r × (t < b.filled) × (get_elem? s.homes i ≡ some (some (Rows r)))
+      → (t < b.filled) × (get_elem? s.homes i ≡ some (some Empty))
       × As (record { words = set s.words i x; homes = set s.homes i none; views = set s.views id (with_job me.0 i (slice_index s.words i) (record { task = t; told = upto b.told (t + 1) })) }) (record b { phase = put b.phase t (held id) })
       × (b.given ≤ t) × (b.phase t ≡ ready)
   claimed_at s b sh id t i x me at cell is was idle_seat alive =
@@ -235,15 +249,14 @@ module _ {T R P S : Type 0} (is_told : T → ℕ → Type 0) (upto : T → ℕ �
       let mine = k.each_seat id me.0 at in let no_job : HasJob upto b id None = subst (HasJob upto b id) idle_seat mine.job in
       let not_taken : (m : Bool) → b.phase t ≢ taken m = λ m e. ready_taken m (sym phase ∙ e) in let never : (m : Bool) → b.phase t ≢ done m = λ m e. ready_done m (sym phase ∙ e) in
       let below : b.filled ≢ t = λ e. (let l = room.1 in omega arith) in (
-        h.0,
-        h.2,
         room.1,
-        ap (get_elem? s.homes) cell ∙ h.1,
+        ap (get_elem? s.homes) cell ∙ h,
         cell_turns s b sh (set s.homes i none) id t i x me.0 w (held id) at refl cell is c.0 c.1 not_taken never (held_taken id) (room.0, room.1, at_length s.views id me.0 at)
-            (λ j ne. ((λ e. ready_held j (sym phase ∙ e)), λ e. ne (held_same id j e))) (λ _. below)
+            (λ j ne. ((λ e. ready_held j (sym phase ∙ e)), λ e. ne (held_same id j e))) (λ u j _ e. ready_held j (sym phase ∙ e))
             record {
               job = (put_here b.phase t (held id), refl, λ u. at_put b.phase t (held id) (λ y z. z ≡ held id → y ≡ t) u (λ e _. refl) (λ _ e. absurd (no_job u e)));
               turn = mine.turn;
+              block = mine.block;
               lead = lead_put b id t (held id) below me.0.lead mine.lead;
               seen = mine.seen;
               found = no_find (record b { phase = put b.phase t (held id) }) id me.0.turn (slice_index s.words i) t 2 was (omega arith);
@@ -263,34 +276,33 @@ module _ {T R P S : Type 0} (is_told : T → ℕ → Type 0) (upto : T → ℕ �
       go None e h = absurd (omega arith)
       go (Some x) e h = ap (λ (z : T). Some z) (h ∙ sym (again b.told b.filled j 0 sh.shape.told (omega arith) le))
 
-  pub claims_cell : ((told : T) (d j k : ℕ) → is_told told d → k ≤ j → j ≤ d → upto (upto told j) k ≡ upto told k) → (slots id : ℕ) (me : M) (i t old new : ℕ) → i ≡ t % size + 1 → old ≡ 8 * t + 2 → new ≡ 8 * t + 3 → me.0.job ≡ None → IsLive me.0 → Allows Rule slots id me i (λ n. either (eqb n old) new n) (claims upto is_rows (step slots i old new none) me)
-  claims_cell again slots id me i t old new cell first second idle_seat alive s r wide at _ = let n : ℕ = get_or s.words i 0 in let then = claims upto is_rows (step slots i old new none) me in
+  pub claims_cell : Early → ((told : T) (d j k : ℕ) → is_told told d → k ≤ j → j ≤ d → upto (upto told j) k ≡ upto told k) → (slots id : ℕ) (me : M) (i t old new : ℕ) → i ≡ t % size + 1 → old ≡ 8 * t + 2 → new ≡ 8 * t + 3 → me.0.job ≡ None → IsLive me.0 → Allows Rule slots id me i (λ n. either (eqb n old) new n) (claims upto needs (step slots i old new none) me)
+  claims_cell early again slots id me i t old new cell first second idle_seat alive s r wide at _ = let n : ℕ = get_or s.words i 0 in let then = claims upto needs (step slots i old new none) me in
       exchanged n old new (Goes s i id me then)
-      (λ hit. let c = claimed_at s r.0 r.1 id t i new me at cell second (hit ∙ first) idle_seat alive in let last = r.1.shape.filled_end in let below = c.2 in (
+      (λ hit. let c = claimed_at s r.0 r.1 id t i new me at cell second (hit ∙ first) idle_seat alive in let last = r.1.shape.filled_end in let below = c.0 in (
         with_job me.0 i n (record { task = t; told = upto r.0.told (t + 1) }),
-        takes i (Rows c.0),
-        c.3,
-        (record r.0 { phase = put r.0.phase t (held id) }, c.4),
-        (λ u is. let same : u ≡ t = omega arith in ((λ _. (upto r.0.told (t + 1), c.0, subst (λ (z : ℕ). is_rows (upto r.0.told (t + 1)) z c.0) (sym same) c.1, (omega arith), λ k. (with_job me.0 i n (record { task = sym same k; told = upto r.0.told (t + 1) }), (i, Rows c.0) ∷ me.1), base_is again s r.0 r.1 id me.0 at alive (t + 1) (omega arith), λ l lead out. (let q = (subst (HasLead upto r.0 id) lead (r.1.shape.each_seat id me.0 at).lead).2 in omega arith, ap (λ (z : ℕ). times (Claim z) me.0.own) same ∙ own_all is_told upto is_rows is_piece is_stage size s r.0 id me.0 l r.1 (at, lead, out, alive) (Claim t) ∙ ap claims_of c.6))), λ miss. absurd (miss hit))),
+        takes i Empty,
+        c.1,
+        (record r.0 { phase = put r.0.phase t (held id) }, c.2),
+        (λ u is. let same : u ≡ t = omega arith in ((λ _. (upto r.0.told (t + 1), (omega arith), λ k. (with_job me.0 i n (record { task = sym same k; told = upto r.0.told (t + 1) }), (i, Empty) ∷ me.1), base_is again s r.0 r.1 id me.0 at alive (t + 1) (omega arith), λ l lead out. (let q = (subst (HasLead upto r.0 id) lead (r.1.shape.each_seat id me.0 at).lead).2 in omega arith, ap (λ (z : ℕ). times (Claim z) me.0.own) same ∙ own_all is_told upto needs is_rows is_piece is_stage size s r.0 id me.0 l r.1 (at, lead, out, alive) (Claim t) ∙ ap claims_of c.4), ap (λ (z : ℕ). upto (upto r.0.told (t + 1)) (z + 1)) same ∙ again r.0.told r.0.filled (t + 1) (t + 1) r.1.shape.told (le_refl (t + 1)) (omega arith), subst (λ (z : ℕ). needs (upto (upto r.0.told (t + 1)) z) z ≤ z) (sym same) (subst (λ (z : T). needs z t ≤ t) (sym (again r.0.told r.0.filled (t + 1) t r.1.shape.told (omega arith) (omega arith))) (early r.0.told r.0.filled t r.1.shape.told (omega arith))))), λ miss. absurd (miss hit))),
       ))
       (λ miss. (
         missing me.0 i n,
         keeps,
         tt,
-        looks s r.0 i id me.1 me.0 (missing me.0 i n) r.1 at refl refl refl refl refl refl (r.1.shape.each_seat id me.0 at).seen,
+        looks s r.0 i id me.1 me.0 (missing me.0 i n) r.1 (cell_low i t size cell r.1.shape.some_cell) at refl refl refl refl refl refl refl (r.1.shape.each_seat id me.0 at).seen,
         λ u is. (
           (λ hit. absurd (miss hit)),
           λ _. (
             refl,
             (λ more. let same : u ≡ t = omega arith in let past = word_past s r.0 r.1 i t cell (omega arith) in let last = r.1.shape.filled_end in omega arith),
-            (λ l lead alone lt none_yet. let same : u ≡ t = omega arith in miss (ap (λ (z : ℕ). get_or s.words z 0) cell ∙ shows_ready is_told upto is_rows is_piece is_stage size s r.0 id me.0 l r.1 (at, lead, alone, alive) t (omega arith) (ap (λ (z : ℕ). times (Claim z) me.0.own) (sym same) ∙ none_yet) ∙ sym first)),
+            (λ l lead alone lt none_yet. let same : u ≡ t = omega arith in miss (ap (λ (z : ℕ). get_or s.words z 0) cell ∙ shows_ready is_told upto needs is_rows is_piece is_stage size s r.0 id me.0 l r.1 (at, lead, alone, alive) t (omega arith) (ap (λ (z : ℕ). times (Claim z) me.0.own) (sym same) ∙ none_yet) ∙ sym first)),
           ),
         ),
       ))
 
   after_filled : (b : RingState T) (n u : ℕ) (ph : RingPhase) → b.filled < u → b.given ≤ b.filled → Fits size b n u ph → ph ≡ idle
   after_filled b n u idle l g f = refl
-  after_filled b n u filling l g f = let e = f.0 in absurd (omega arith)
   after_filled b n u ready l g f = let e = f.1 in absurd (omega arith)
   after_filled b n u (held j) l g f = let e = f.1 in absurd (omega arith)
   after_filled b n u (done m) l g f = let e = f.1 in absurd (omega arith)
@@ -300,42 +312,10 @@ module _ {T R P S : Type 0} (is_told : T → ℕ → Type 0) (upto : T → ℕ �
   not_past : (b : RingState T) (n t : ℕ) (ph : RingPhase) → ph ≡ past → Fits size b n t ph → b.given ≤ t → ⊥
   not_past b n t ph e f le = let l = subst (Fits size b n t) e f in omega arith
 
-  -- start filling
-  pub begun_at : (s : St) (b : RingState T) (sh : As s b) (id t i x : ℕ) (me : M) (l : Lead T) → get_elem? s.views id ≡ some me.0 → i ≡ t % size + 1 → x ≡ 8 * t + 1 → slice_index s.words i ≡ 8 * t + 0 → me.0.lead ≡ Some l → l.filled ≡ t → IsLive me.0
-      → (get_elem? s.homes i ≡ some (some Empty)) × As record { words = set s.words i x; homes = set s.homes i none; views = set s.views id (led me.0 i (slice_index s.words i) (begun l)) } (record b { phase = put b.phase t filling })
-  begun_at s b sh id t i x me l at cell is was is_lead next alive =
-      let c = at_cell s b sh i t 0 cell (omega arith) was in let k = sh.shape in
-      let phase : b.phase t ≡ idle = ⊎_elim (λ (e : b.phase t ≡ idle). e) (λ (e : b.phase t ≡ past). absurd (not_past b (length s.views) t (b.phase t) e (k.each_task t) c.0)) (number_0 (b.phase t) c.2) in
-      let h = subst (AtHome upto is_rows is_piece is_stage b.told (get_elem? s.homes (t % size + 1)) t) phase (sh.home.each_cell t c.0 c.1) in
-      let w : View T = led me.0 i (slice_index s.words i) (begun l) in let b' : RingState T = record b { phase = put b.phase t filling } in
-      let mine = k.each_seat id me.0 at in let lead = subst (HasLead upto b id) is_lead mine.lead in let d : t ≡ b.filled = sym next ∙ lead.2 in
-      let not_held : (j : ℕ) → b.phase t ≢ held j = λ j e. idle_held j (sym phase ∙ e) in (
-        ap (get_elem? s.homes) cell ∙ h,
-        cell_turns s b sh (set s.homes i none) id t i x me.0 w filling at refl cell is c.0 c.1 (λ m e. idle_taken m (sym phase ∙ e)) (λ m e. idle_done m (sym phase ∙ e)) filling_taken (d, c.1)
-            (λ j ne. (not_held j, filling_held j)) (λ ne. absurd (ne (sym lead.0)))
-            record {
-              job = job_stays upto b b' id me.0.job (λ _ _. refl) (job_put b s sh t filling id (not_held id) (filling_held id)) mine.job;
-              turn = mine.turn;
-              lead = (lead.0, lead.1, lead.2, lead.3, ap (put b.phase t filling) (sym d) ∙ put_here b.phase t filling);
-              seen = mine.seen;
-              found = no_find b' id me.0.turn (slice_index s.words i) t 0 was (omega arith);
-              base = live_base upto b b' id me.0 w (λ _ _. refl) alive refl mine.base;
-            }
-            (length-set s.homes i none) (λ j ne. set_else s.homes i j none ne) tt
-            (counts_same b b' s.views id me.0 w at refl (due_same b t filling (put b.phase t filling) refl (ap claims_of phase) (λ m. ap (deposits_of m) phase) (ap takes_of phase) (ap gives_of phase)) sh.count),
-      )
-
-  pub begins_cell : (slots id : ℕ) (me : M) (i t old new : ℕ) (l : Lead T) → i ≡ t % size + 1 → old ≡ 8 * t → new ≡ 8 * t + 1 → me.0.lead ≡ Some l → l.filled ≡ t → IsLive me.0 → Allows Rule slots id me i (λ n. either (eqb n old) new n) (begins (step slots i old new none) me)
-  begins_cell slots id me i t old new l cell first second is_lead next alive s r wide at _ = let n : ℕ = get_or s.words i 0 in let then = begins (step slots i old new none) me in
-      exchanged n old new (Goes s i id me then)
-      (λ hit. let c = begun_at s r.0 r.1 id t i new me l at cell second (omega arith) is_lead next alive in (
-        led me.0 i n (begun l),
-        takes i Empty,
-        c.0,
-        (record r.0 { phase = put r.0.phase t filling }, c.1),
-        (λ l' is. ((λ _. let e : l ≡ l' = some_same l l' (sym is_lead ∙ is) in λ k. (led me.0 i n (begun (e k)), (i, Empty) ∷ me.1)), λ miss. absurd (miss hit))),
-      ))
-      (λ miss. (looked me.0 i n, keeps, tt, looks s r.0 i id me.1 me.0 (looked me.0 i n) r.1 at refl refl refl refl refl refl (r.1.shape.each_seat id me.0 at).seen, λ l' is. ((λ hit. absurd (miss hit)), λ _. refl)))
+  -- the first seat looks at a cell
+  pub looks_at_cell : (slots id : ℕ) (me : M) (i t : ℕ) → i ≡ t % size + 1 → Allows Rule slots id me i (λ n. n) (sees_cell (step slots i 0 0 none) me)
+  looks_at_cell slots id me i t cell s r wide at _ = let n : ℕ = get_or s.words i 0 in
+      (looked me.0 i n, keeps, tt, looks s r.0 i id me.1 me.0 (looked me.0 i n) r.1 (cell_low i t size cell r.1.shape.some_cell) at refl refl refl refl refl refl refl (r.1.shape.each_seat id me.0 at).seen, refl)
 
   -- the task is done now
   done_found : (b : RingState T) (id : ℕ) (x : Option (HeldTurn T)) (t n : ℕ) (m : Bool) → n ≡ 8 * t + number_of (done m) → HasFound upto (record b { phase = put b.phase t (done m) }) id x n
@@ -343,19 +323,20 @@ module _ {T R P S : Type 0} (is_told : T → ℕ → Type 0) (upto : T → ℕ �
   done_found b id (Some h) t n m is = λ opened k e. let q = same_done t h.behind m k (sym is ∙ e) in subst (λ (z : ℕ × Bool). put b.phase t (done m) z.0 ≡ done z.1) (λ i. (q.0 i, q.1 i)) (put_here b.phase t (done m))
 
   -- deposit, with what lies in the slot then
-  pub deposited_at : (s : St) (b : RingState T) (sh : As s b) (id t i new : ℕ) (me : M) (x : HeldTask T) (m : Bool) (y : SlotValue R P S) → get_elem? s.views id ≡ some me.0 → me.0.job ≡ Some x → t ≡ x.task → i ≡ t % size + 1 → new ≡ 8 * t + number_of (done m) → IsLive me.0
+  pub deposited_at : (s : St) (b : RingState T) (sh : As s b) (id t i new : ℕ) (me : M) (x : HeldTask T) (m : Bool) (y : SlotValue R P S) → get_elem? s.views id ≡ some me.0 → me.0.job ≡ Some x → me.0.block ≡ None → t ≡ x.task → i ≡ t % size + 1 → new ≡ 8 * t + number_of (done m) → IsLive me.0
       → ((told : T) → upto told (t + 1) ≡ x.told → AtHome upto is_rows is_piece is_stage told (some (some y)) t (done m))
       → As record { words = set s.words i new; homes = set s.homes i (some y); views = set s.views id (without_job me.0 i new t m) } (record b { phase = put b.phase t (done m) })
-  deposited_at s b sh id t i new me x m y at is_job is_t cell is alive home =
+  deposited_at s b sh id t i new me x m y at is_job no_block is_t cell is alive home =
       let k = sh.shape in let mine = k.each_seat id me.0 at in let job = subst (HasJob upto b id) is_job mine.job in
       let phase : b.phase t ≡ held id = ap b.phase is_t ∙ job.0 in let room = subst (Fits size b (length s.views) t) phase (k.each_task t) in let last = k.filled_room in let hi : t < b.given + size = (let l = room.1 in omega arith) in
       let w : View T = without_job me.0 i new t m in let b' : RingState T = record b { phase = put b.phase t (done m) } in
       let near : i < length s.homes = (let r = mod-lt t k.some_cell in let q = k.homes_wide in omega arith) in
       cell_turns s b sh (set s.homes i (some y)) id t i new me.0 w (done m) at refl cell is room.0 hi (λ n e. held_taken id n (sym phase ∙ e)) (λ n e. held_done id n (sym phase ∙ e)) (done_taken m) (room.0, room.1)
-      (λ j ne. ((λ e. ne (held_same id j (sym phase ∙ e))), done_held m j)) (λ _ e. (let l = room.1 in omega arith))
+      (λ j ne. ((λ e. ne (held_same id j (sym phase ∙ e))), done_held m j)) (λ u j reads e. subst (HasBlock upto b id) no_block mine.block u (reads ∙ ap read_by (held_same id j (sym phase ∙ e))))
       record {
         job = λ u. at_put b.phase t (done m) (λ z ph. ph ≢ held id) u (λ _. done_held m id) (λ ne e. ne (job.2 u e ∙ sym is_t));
         turn = mine.turn;
+        block = mine.block;
         lead = lead_put b id t (done m) (λ e. (let l = room.1 in omega arith)) me.0.lead mine.lead;
         seen = mine.seen;
         found = done_found b id me.0.turn t new m is;
@@ -365,67 +346,117 @@ module _ {T R P S : Type 0} (is_told : T → ℕ → Type 0) (upto : T → ℕ �
       (subst (λ (z : maybe.Option (maybe.Option (SlotValue R P S))). AtHome upto is_rows is_piece is_stage b.told z t (done m)) (sym (set_here s.homes i (some y) near)) (home b.told (ap (λ (z : ℕ). upto b.told (z + 1)) is_t ∙ sym job.1)))
       (counts_more b b' s.views id me.0 w (Deposit t m) at refl (due_deposit b t (done m) m (ap claims_of phase) (λ n. ap (deposits_of n) phase) (λ n. refl) (ap takes_of phase) (ap gives_of phase)) sh.count)
 
-  pub deposits_cell : (slots id : ℕ) (me : M) (i new : ℕ) (x : HeldTask T) (m : Bool) (y : SlotValue R P S) → i ≡ x.task % size + 1 → new ≡ 8 * x.task + number_of (done m) → me.0.job ≡ Some x → me.1 ≡ (i, y) ∷ rest me.1 → IsLive me.0
+  pub deposits_cell : (slots id : ℕ) (me : M) (i new : ℕ) (x : HeldTask T) (m : Bool) (y : SlotValue R P S) → i ≡ x.task % size + 1 → new ≡ 8 * x.task + number_of (done m) → me.0.job ≡ Some x → me.0.block ≡ None → me.1 ≡ (i, y) ∷ rest me.1 → IsLive me.0
       → ((told : T) → upto told (x.task + 1) ≡ x.told → AtHome upto is_rows is_piece is_stage told (some (some y)) x.task (done m)) → Allows Rule slots id me i (λ n. new) (λ _. deposits m (step slots i new 0 none) me new)
-  deposits_cell slots id me i new x m y cell is is_job has alive home s r wide at _ = (
+  deposits_cell slots id me i new x m y cell is is_job no_block has alive home s r wide at _ = (
     without_job me.0 i new x.task m,
     gives,
     tt,
     subst (λ (cs : List (ℕ × SlotValue R P S)). Rule record { words = set s.words i new; homes = put_back s.homes cs; views = set s.views id (without_job me.0 i new x.task m) }) (sym has)
-        (record r.0 { phase = put r.0.phase x.task (done m) }, deposited_at s r.0 r.1 id x.task i new me x m y at is_job refl cell is alive home),
+        (record r.0 { phase = put r.0.phase x.task (done m) }, deposited_at s r.0 r.1 id x.task i new me x m y at is_job no_block refl cell is alive home),
     λ x' is'. let e : x ≡ x' = some_same x x' (sym is_job ∙ is') in λ k. (without_job me.0 i new (e k).task m, rest me.1),
   )
 
-  module _ (filled : T → R → T) (keep : (told : T) (d k : ℕ) (rows : R) → is_told told d → is_told (filled told rows) (d + 1) → is_rows (filled told rows) d rows → k ≤ d → upto (filled told rows) k ≡ upto told k) (whole : (told : T) (d : ℕ) → is_told told d → upto told d ≡ told) where
-    -- filled
-    pub filled_at : (s : St) (b : RingState T) (sh : As s b) (id t i new : ℕ) (me : M) (l : Lead T) (r : R) → get_elem? s.views id ≡ some me.0 → me.0.lead ≡ Some l → l.filling ≡ true → t ≡ l.filled → i ≡ t % size + 1 → new ≡ 8 * t + 2
-        → is_rows (filled l.told r) t r → is_told (filled l.told r) (t + 1) → t < 2 ^ 42 → IsLive me.0
-        → As record { words = set s.words i new; homes = set s.homes i (some (Rows r)); views = set s.views id (led me.0 i new (more_filled l (filled l.told r))) } (record { assembled = b.assembled; given = b.given; filled = b.filled + 1; turn = b.turn; lead = b.lead; out = b.out; told = filled l.told r; phase = put b.phase t ready })
-    filled_at s b sh id t i new me l r at is_lead is_filling is_t cell is rows told end alive =
-        let k = sh.shape in let mine = k.each_seat id me.0 at in let lead = subst (HasLead upto b id) is_lead mine.lead in let d : t ≡ b.filled = is_t ∙ lead.2 in
-        let phase : b.phase t ≡ filling = ap b.phase d ∙ lead.4 ∙ ap lead_phase is_filling in let room = subst (Fits size b (length s.views) t) phase (k.each_task t) in
-        let told' : T = filled l.told r in let w : View T = led me.0 i new (more_filled l told') in
-        let b' : RingState T = record { assembled = b.assembled; given = b.given; filled = b.filled + 1; turn = b.turn; lead = b.lead; out = b.out; told = told'; phase = put b.phase t ready } in
-        let was_told : is_told l.told b.filled = subst (λ (z : T). is_told z b.filled) (sym lead.1) k.told in
-        let now_told : is_told told' (b.filled + 1) = subst (λ (z : ℕ). is_told told' (z + 1)) d told in
-        let same : (n : ℕ) → n ≤ b.filled → upto told' n ≡ upto b.told n = λ n le. keep l.told b.filled n r was_told now_told (subst (λ (z : ℕ). is_rows told' z r) d rows) le ∙ ap (λ (z : T). upto z n) lead.1 in
-        let given_le : b.given ≤ t = (let g = k.given_filled in omega arith) in
-        let near : i < length s.homes = (let q = mod-lt t k.some_cell in let z = k.homes_wide in omega arith) in
-        let s' : St = record { words = set s.words i new; homes = set s.homes i (some (Rows r)); views = set s.views id w } in
-        let window : (u : ℕ) → u ≢ t → b'.given ≤ u → u < b'.given + size → (b.given ≤ u) × (u < b.given + size) × (b'.phase u ≡ b.phase u) = λ u ne a z. (a, z, put_else b.phase t ready u ne) in
-        let not_held : (j : ℕ) → b.phase t ≢ held j = λ j e. filling_held j (sym phase ∙ e) in let here : put b.phase t ready t ≡ ready = put_here b.phase t ready in
-        let turn_on : (j : ℕ) → TurnOn upto b b' j = λ j p. ((λ e. e), λ e. (e, refl, state_room b s sh b.turn refl j p e, λ m was. put_else b.phase t ready b.given (λ same. filling_done m (sym phase ∙ ap b.phase (sym same) ∙ was)) ∙ was)) in
+  idle_next : (b : RingState T) (n u : ℕ) (ph : RingPhase) → u ≡ b.filled → b.given ≤ b.filled → Fits size b n u ph → ph ≡ idle
+  idle_next b n u idle e g f = refl
+  idle_next b n u ready e g f = let l = f.1 in absurd (omega arith)
+  idle_next b n u (held j) e g f = let l = f.1 in absurd (omega arith)
+  idle_next b n u (done m) e g f = let l = f.1 in absurd (omega arith)
+  idle_next b n u (taken m) e g f = let l = f.1 in absurd (omega arith)
+  idle_next b n u past e g f = absurd (omega (arith, f))
+
+  -- the facts of the first seat whose next block is at home
+  pub stored_facts : Early → (s : St) (b : RingState T) (sh : As s b) (id : ℕ) (v : View T) (l : Lead T) (told' : T) → get_elem? s.views id ≡ some v → v.lead ≡ Some l → l.fill ≡ Stored told'
+      → (l.filled ≡ b.filled) × (b.fill ≡ Stored told') × (b.phase b.filled ≡ idle) × (b.filled < b.given + size) × (b.block b.filled ≡ kept) × is_told told' (b.filled + 1) × ((k : ℕ) → k ≤ b.filled → upto told' k ≡ upto b.told k)
+  stored_facts early s b sh id v l told' at is_lead is_stored =
+      let k = sh.shape in let lead = subst (HasLead upto b id) is_lead (k.each_seat id v at).lead in let fill : b.fill ≡ Stored told' = sym lead.4 ∙ is_stored in
+      let hand = subst (λ (f : FillState T). FillFits is_told upto b.filled b.told b.block f) fill sh.blocks.in_hand in let room = subst (λ (f : FillState T). begun_of f b.filled ≤ first_of_task upto needs b.told b.assembled + size) fill sh.blocks.room in
+      let low = early b.told b.filled b.assembled k.told (let a = k.assembled_given in let z = k.given_filled in omega arith) in let g = k.assembled_given in
+      (lead.2, fill, idle_next b (length s.views) b.filled (b.phase b.filled) refl k.given_filled (k.each_task b.filled), omega arith, hand.0, hand.1, hand.2)
+
+  -- the blocks once the next task is filled
+  blocks_filled : (s s' : St) (b : RingState T) (t : ℕ) (told' : T) → As s b → b.fill ≡ Stored told' → t ≡ b.filled → b.phase t ≡ idle → ((n : ℕ) → n ≤ b.filled → upto told' n ≡ upto b.told n) → b.assembled ≤ b.filled → ((i : ℕ) → size < i → slice_index s'.words i ≡ slice_index s.words i) → s'.homes ≡ s.homes
+      → BlocksOf is_told upto needs is_rows is_piece is_stage size s' (record { assembled = b.assembled; given = b.given; filled = b.filled + 1; turn = b.turn; lead = b.lead; out = b.out; told = told'; fill = Waiting; phase = put b.phase t ready; block = b.block })
+  blocks_filled s s' b t told' sh fill d phase same le words homes = let old = sh.blocks in
+      let begun : begun_of b.fill b.filled ≡ b.filled + 1 = ap (λ (f : FillState T). begun_of f b.filled) fill in
+      let low : oldest size b ≡ b.filled + 1 - size = ap (λ (z : ℕ). z - size) begun in
+      record {
+        room = (let r = old.room in let e = ap (λ (z : T). needs z b.assembled) (same b.assembled le) in omega arith);
+        each_block = λ u. fits u (b.block u) (old.each_block u);
+        in_hand = tt;
+        each_block_word = λ u lo hi. words (u % size + 1 + size) (omega arith) ∙ old.each_block_word u (omega arith) (omega arith);
+        each_block_home = λ u lo hi. subst (λ (z : T × List (maybe.Option (SlotValue R P S))). BlockHome upto is_rows z.0 (get_elem? z.1 (u % size + 1 + size)) u (b.block u)) (λ i. (ap (λ (f : FillState T). told_with f b.told) fill i, sym homes i)) (old.each_block_home u (omega arith) (omega arith));
+      }
+    where
+      fits : (u : ℕ) (x : RingBlock) → FitsAt is_told upto needs is_rows is_piece is_stage size b b.fill b.phase u x → BlockFits upto needs (b.filled + 1) told' Waiting (put b.phase t ready) u x
+      fits u blank f = let e = ap (λ (z : FillState T). begun_of z b.filled) fill in omega (arith, f)
+      fits u coming f = absurd (begun_stored (sym f.1 ∙ fill))
+        where
+          begun_stored : Begun ≡ Stored told' → ⊥
+          begun_stored e = cc
+      fits u kept f = let e = ap (λ (z : FillState T). begun_of z b.filled) fill in omega (arith, f)
+      fits u (read_by j) f =
+          let v : ℕ = f.1 in let below : v < b.filled = held_below b s sh v j f.2 in
+          (omega (arith, f), v, put_else b.phase t ready v (λ q. idle_held j (sym phase ∙ ap b.phase (sym q) ∙ f.2)) ∙ f.2, subst (λ (z : T). needs z v ≤ u) (sym (same v (omega arith))) f.3, f.4)
+
+  -- filled: the cell of the next task is ready, and its block stays at home
+  pub filled_at : Early → (s : St) (b : RingState T) (sh : As s b) (id t i new : ℕ) (me : M) (l : Lead T) (told' : T) → get_elem? s.views id ≡ some me.0 → me.0.lead ≡ Some l → l.fill ≡ Stored told' → t ≡ l.filled → i ≡ t % size + 1 → new ≡ 8 * t + 2
+      → t < 2 ^ 42 → IsLive me.0
+      → (get_or s.words i 0 ≡ 8 * t)
+      × As record { words = set s.words i new; homes = s.homes; views = set s.views id (led me.0 i (get_or s.words i 0) (more_filled l told')) } (record { assembled = b.assembled; given = b.given; filled = b.filled + 1; turn = b.turn; lead = b.lead; out = b.out; told = told'; fill = Waiting; phase = put b.phase t ready; block = b.block })
+  filled_at early s b sh id t i new me l told' at is_lead is_stored is_t cell is end alive =
+      let k = sh.shape in let mine = k.each_seat id me.0 at in let f = stored_facts early s b sh id me.0 l told' at is_lead is_stored in let lead = subst (HasLead upto b id) is_lead mine.lead in let d : t ≡ b.filled = is_t ∙ lead.2 in
+      let fill : b.fill ≡ Stored told' = f.1 in let now_told : is_told told' (b.filled + 1) = f.5 in let same : (n : ℕ) → n ≤ b.filled → upto told' n ≡ upto b.told n = f.6 in
+      let phase : b.phase t ≡ idle = ap b.phase d ∙ f.2 in let hi : t < b.given + size = (let q = f.3 in omega arith) in let n : ℕ = get_or s.words i 0 in
+      let w : View T = led me.0 i n (more_filled l told') in
+      let b' : RingState T = record { assembled = b.assembled; given = b.given; filled = b.filled + 1; turn = b.turn; lead = b.lead; out = b.out; told = told'; fill = Waiting; phase = put b.phase t ready; block = b.block } in
+      let given_le : b.given ≤ t = (let g = k.given_filled in omega arith) in
+      let word : n ≡ 8 * t = ap (λ (z : ℕ). get_or s.words z 0) cell ∙ k.each_word t given_le hi ∙ ap (λ (z : RingPhase). 8 * t + number_of z) phase ∙ (omega arith) in
+      let s' : St = record { words = set s.words i new; homes = s.homes; views = set s.views id w } in
+      let window : (u : ℕ) → u ≢ t → b'.given ≤ u → u < b'.given + size → (b.given ≤ u) × (u < b.given + size) × (b'.phase u ≡ b.phase u) = λ u ne a z. (a, z, put_else b.phase t ready u ne) in
+      let not_held : (j : ℕ) → b.phase t ≢ held j = λ j e. idle_held j (sym phase ∙ e) in let here : put b.phase t ready t ≡ ready = put_here b.phase t ready in
+      let turn_on : (j : ℕ) → TurnOn upto b b' j = λ j p. ((λ e. e), λ e. (e, refl, state_room b s sh b.turn refl j p e, λ m was. put_else b.phase t ready b.given (λ q. idle_done m (sym phase ∙ ap b.phase (sym q) ∙ was)) ∙ was)) in
+      let low = cell_low i t size cell k.some_cell in let empty = subst (AtHome upto is_rows is_piece is_stage b.told (get_elem? s.homes (t % size + 1)) t) phase (sh.home.each_cell t given_le hi) in (
+        word,
         record {
-          shape = cell_step is_told upto is_rows is_piece is_stage size s b b' (set s.homes i (some (Rows r))) id t i new me.0 w k at refl refl cell (is ∙ ap (λ (z : RingPhase). 8 * t + number_of z) (sym here)) (length-set s.homes i (some (Rows r))) given_le room.1 window
-              (k.assembled_given, (let g = k.given_filled in omega arith), (let g = room.1 in omega arith), (let g = end in omega arith), now_told) refl
+          shape = cell_step is_told upto needs is_rows is_piece is_stage size s b b' s.homes id t i new me.0 w k at refl refl cell (is ∙ ap (λ (z : RingPhase). 8 * t + number_of z) (sym here)) refl given_le hi window
+              (k.assembled_given, (let g = k.given_filled in omega arith), (let g = hi in omega arith), (let g = end in omega arith), now_told) refl
               (λ u. at_put b.phase t ready (λ v y. Fits size b' (length s.views) v y) u (λ _. (given_le, (let g = d in omega arith)))
               (λ ne. fits_stay size b b' (length s.views) (length s.views) u (b.phase u) (le_refl (length s.views)) (λ a _. a) (λ a. (omega arith)) (λ a. (omega arith)) (λ a. a)
-              (λ e. absurd (ne ((subst (Fits size b (length s.views) u) e (k.each_task u)).0 ∙ sym d))) (λ m e. let f = subst (Fits size b (length s.views) u) e (k.each_task u) in (f.0, (let g = f.1 in omega arith), f.2)) (k.each_task u)))
-              refl (rests_put b (length s.views) t ready (λ m e. filling_taken m (sym phase ∙ e)) b.turn k.turn_fits)
+              (λ m e. let q = subst (Fits size b (length s.views) u) e (k.each_task u) in (q.0, (let g = q.1 in omega arith), q.2)) (k.each_task u)))
+              refl (rests_put b (length s.views) t ready (λ m e. idle_taken m (sym phase ∙ e)) b.turn k.turn_fits)
               record {
                 job = job_stays upto b b' id me.0.job same (job_put b s sh t ready id (not_held id) (ready_held id)) mine.job;
                 turn = turn_stays upto b b' id me.0.turn same (turn_on id) mine.turn;
-                lead = (lead.0, refl, ap (λ (z : ℕ). z + 1) lead.2, lead.3, put_else b.phase t ready (b.filled + 1) (λ e. (omega arith)) ∙ after_filled b (length s.views) (b.filled + 1) (b.phase (b.filled + 1)) (omega arith) k.given_filled (k.each_task (b.filled + 1)));
+                block = mine.block;
+                lead = (lead.0, refl, ap (λ (z : ℕ). z + 1) lead.2, lead.3, refl);
                 seen = mine.seen;
-                found = no_find b' id me.0.turn new t 2 is (omega arith);
+                found = no_find b' id me.0.turn n t 0 (word ∙ (omega arith)) (omega arith);
                 base = live_base upto b b' id me.0 w same alive refl mine.base;
               }
-              (λ j v ne kn. knows_stay upto b b' j v same (job_put b s sh t ready j (not_held j) (ready_held j)) (turn_on j) refl (λ e. absurd (ne (e ∙ sym lead.0))) (le_refl b.assembled) (λ e. e) kn);
-          home = home_step is_told upto is_rows is_piece is_stage size s s' b b' t k sh.home (λ j ne. set_else s.homes i j (some (Rows r)) (λ e. ne (e ∙ cell))) given_le room.1 window same
-              (subst (λ (y : RingPhase). AtHome upto is_rows is_piece is_stage told' (get_elem? s'.homes (t % size + 1)) t y) (sym here)
-              (r, ap (get_elem? s'.homes) (sym cell) ∙ set_here s.homes i (some (Rows r)) near, subst (λ (z : T). is_rows z t r) (sym (whole told' (t + 1) told)) rows))
-              (stage_told is_told upto is_rows is_piece is_stage size s s' b b' refl same k.given_filled (set_else s.homes i 0 (some (Rows r)) (λ e. (omega arith))) (length s.views) b.turn refl k.turn_fits k.each_task sh.home.stage)
-              (taken_after s b sh s' t ready given_le room.1 ready_taken (λ j ne. set_else s.homes i j (some (Rows r)) (λ e. ne (e ∙ cell))));
+              (λ j v ne kn. knows_stay upto b b' j v (λ _. ((λ e. e), λ e. e)) same (job_put b s sh t ready j (not_held j) (ready_held j)) (turn_on j) refl (λ e. absurd (ne (e ∙ sym lead.0))) (le_refl b.assembled) (λ e. e) kn);
+          home = home_step is_told upto needs is_rows is_piece is_stage size s s' b b' t k sh.home (λ j ne. refl) given_le hi window same
+              (subst (λ (y : RingPhase). AtHome upto is_rows is_piece is_stage told' (get_elem? s.homes (t % size + 1)) t y) (sym here) empty)
+              (stage_told is_told upto needs is_rows is_piece is_stage size s s' b b' refl same k.given_filled refl (length s.views) b.turn refl k.turn_fits k.each_task sh.home.stage)
+              (taken_after s b sh s' t ready given_le hi ready_taken (λ j ne. refl));
+          blocks = blocks_filled s s' b t told' sh fill d phase same (let a = k.assembled_given in let z = k.given_filled in omega arith) (λ j lt. get_or-set_other s.words i j new 0 (λ e. omega arith)) refl;
           count = counts_same b b' s.views id me.0 w at refl (due_same b t ready (put b.phase t ready) refl (ap claims_of phase) (λ m. ap (deposits_of m) phase) (ap takes_of phase) (ap gives_of phase)) sh.count;
-        }
+        },
+      )
 
-    pub fills_cell : (slots id : ℕ) (me : M) (i new : ℕ) (l : Lead T) (r : R) → i ≡ l.filled % size + 1 → new ≡ 8 * l.filled + 2 → me.0.lead ≡ Some l → l.filling ≡ true → me.1 ≡ (i, Rows r) ∷ rest me.1
-        → is_rows (filled l.told r) l.filled r → is_told (filled l.told r) (l.filled + 1) → l.filled < 2 ^ 42 → IsLive me.0 → Allows Rule slots id me i (λ n. new) (λ _. fills filled (step slots i new 0 none) me new)
-    fills_cell slots id me i new l r cell is is_lead is_filling has rows told end alive s b wide at _ = (
-      led me.0 i new (more_filled l (filled l.told r)),
-      gives,
-      tt,
-      subst (λ (cs : List (ℕ × SlotValue R P S)). Rule record { words = set s.words i new; homes = put_back s.homes cs; views = set s.views id (led me.0 i new (more_filled l (filled l.told r))) }) (sym has)
-          ((record { assembled = b.0.assembled; given = b.0.given; filled = b.0.filled + 1; turn = b.0.turn; lead = b.0.lead; out = b.0.out; told = filled l.told r; phase = put b.0.phase l.filled ready }), filled_at s b.0 b.1 id l.filled i new me l r at is_lead is_filling refl cell is rows told end alive),
-      λ l' r' is' has'. let e : l ≡ l' = some_same l l' (sym is_lead ∙ is') in let f : r ≡ r' = rows_same i i r r' (rest me.1) (rest me.1) (sym has ∙ has') in λ k. (led me.0 i new (more_filled (e k) (filled (e k).told (f k))), rest me.1),
-    )
+  pub fills_cell : Early → (slots id : ℕ) (me : M) (i old new : ℕ) (l : Lead T) (told' : T) → i ≡ l.filled % size + 1 → old ≡ 8 * l.filled → new ≡ 8 * l.filled + 2 → me.0.lead ≡ Some l → l.fill ≡ Stored told' → l.filled < 2 ^ 42 → IsLive me.0
+      → Allows Rule slots id me i (λ n. either (eqb n old) new n) (fills (step slots i old new none) me)
+  fills_cell early slots id me i old new l told' cell first second is_lead is_stored end alive s r wide at _ =
+      let n : ℕ = get_or s.words i 0 in let b = r.0 in let then = fills (step slots i old new none) me in let c = filled_at early s b r.1 id l.filled i new me l told' at is_lead is_stored refl cell second end alive in
+      exchanged n old new (Goes s i id me then)
+      (λ hit. (
+        led me.0 i n (more_filled l told'),
+        keeps,
+        tt,
+        ((record { assembled = b.assembled; given = b.given; filled = b.filled + 1; turn = b.turn; lead = b.lead; out = b.out; told = told'; fill = Waiting; phase = put b.phase l.filled ready; block = b.block }), c.1),
+        λ l' told'' is' stored'. let e : l ≡ l' = some_same l l' (sym is_lead ∙ is') in let f : told' ≡ told'' = stored_same told' told'' (sym is_stored ∙ ap (λ (z : Lead T). z.fill) e ∙ stored') in (hit, λ k. (led me.0 i n (more_filled (e k) (f k)), me.1)),
+      ))
+      (λ miss. absurd (miss (c.0 ∙ sym first)))
+    where
+      stored_same : (x y : T) → Stored x ≡ Stored y → x ≡ y
+      stored_same x y e = cc

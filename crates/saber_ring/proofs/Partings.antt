@@ -13,21 +13,22 @@ use Rattle.saber_ring.specs.declared.view.Lead.{Lead}
 use Rattle.saber_ring.proofs.PhaseFacts.{false_true, or_says}
 use Rattle.saber_ring.specs.Shows.{taken, RingTurn, free, won_by, halted, RingState, Fits, TurnFits, HasJob, HasTurn, HasLead, IsLive, live, total, Knows, Counts, ShowsAs, Shows, times, same}
 use Rattle.saber_ring.proofs.Puts.{at_length, at_end, total_at, total_set, total_append}
+use Rattle.saber_ring.proofs.BlockFrames.{blocks_stay, no_reader}
 use Rattle.saber_ring.proofs.Moves.{held_below, state_room}
 use Rattle.saber_ring.specs.Seats.{more_out, less_out, parting, newcomer, joined}
 use Rattle.std.proofs.Math.Nat.{max-le}
 use Rattle.saber_ring.proofs.Frames.{empty_stays, fits_stay, knows_stay, stage_stays, live_base}
 use Rattle.saber_ring.proofs.Counts.{one, due_kept}
 
-module _ {T R P S : Type 0} (is_told : T → ℕ → Type 0) (upto : T → ℕ → T) (is_rows : T → ℕ → R → Type 0) (is_piece : T → ℕ → P → Type 0) (is_stage : T → ℕ → Bool → S → Type 0) (size : ℕ) where
+module _ {T R P S : Type 0} (is_told : T → ℕ → Type 0) (upto : T → ℕ → T) (needs : T → ℕ → ℕ) (is_rows : T → ℕ → R → Type 0) (is_piece : T → ℕ → P → Type 0) (is_stage : T → ℕ → Bool → S → Type 0) (size : ℕ) where
   abbrev St : Type 0
   St = State (SlotValue R P S) (View T)
 
   abbrev Rule : St → Type 0
-  Rule = Shows is_told upto is_rows is_piece is_stage size
+  Rule = Shows is_told upto needs is_rows is_piece is_stage size
 
   abbrev As : St → RingState T → Type 0
-  As s b = ShowsAs is_told upto is_rows is_piece is_stage size s b
+  As s b = ShowsAs is_told upto needs is_rows is_piece is_stage size s b
 
   abbrev alive_of : View T → ℕ
   alive_of v = live v.base
@@ -71,14 +72,15 @@ module _ {T R P S : Type 0} (is_told : T → ℕ → Type 0) (upto : T → ℕ �
         told = k.told;
         led = (let l = k.led in omega arith);
         alive = alive;
-        each_task = λ u. fits_stay size b b' (length s.views) (length views') u (b.phase u) more (λ a _. a) (λ a. a) (λ a. a) (λ a. a) (λ e. subst (Fits size b (length s.views) u) e (k.each_task u))
+        each_task = λ u. fits_stay size b b' (length s.views) (length views') u (b.phase u) more (λ a _. a) (λ a. a) (λ a. a) (λ a. a)
             (λ m e. subst (Fits size b (length s.views) u) e (k.each_task u)) (k.each_task u);
         each_word = k.each_word;
         turn_is = k.turn_is;
         turn_fits = rests_more b b' (length s.views) (length views') more refl refl refl b.turn k.turn_fits;
         each_seat = seats;
       };
-      home = record { taken_cell = λ m e. empty_stays is_told upto is_rows is_piece is_stage size s (record { words = s.words; homes = s.homes; views = views' }) b b' refl refl b.turn (sh.home.taken_cell m e); each_cell = sh.home.each_cell; stage = stage_stays is_told upto is_rows is_piece is_stage size s (record { words = s.words; homes = s.homes; views = views' }) b b' refl refl refl refl b.turn sh.home.stage };
+      home = record { taken_cell = λ m e. empty_stays is_told upto needs is_rows is_piece is_stage size s (record { words = s.words; homes = s.homes; views = views' }) b b' refl refl b.turn (sh.home.taken_cell m e); each_cell = sh.home.each_cell; stage = stage_stays is_told upto needs is_rows is_piece is_stage size s (record { words = s.words; homes = s.homes; views = views' }) b b' refl refl refl refl b.turn sh.home.stage };
+      blocks = blocks_stay is_told upto needs is_rows is_piece is_stage size s (record { words = s.words; homes = s.homes; views = views' }) b b.assembled b.given out' b.turn b.phase sh.blocks sh.blocks.room (λ _ _ _ _ e. e) (λ _ _. refl) (λ _ _. refl);
       count = count;
     },
   )
@@ -86,8 +88,8 @@ module _ {T R P S : Type 0} (is_told : T → ℕ → Type 0) (upto : T → ℕ �
   -- nothing but the number of seats changes for another seat
   knows_out : (s : St) (b : RingState T) (out' j : ℕ) (v : View T) → As s b → j ≢ b.lead → Knows upto b j v → Knows upto (record b { out = out' }) j v
   knows_out s b out' j v sh ne k = let b' : RingState T = record b { out = out' } in
-      knows_stay upto b b' j v (λ _ _. refl) (λ u. ((λ e. e), λ e. (e, held_below is_told upto is_rows is_piece is_stage size b s sh u j e)))
-      (λ p. ((λ e. e), λ e. (e, refl, state_room is_told upto is_rows is_piece is_stage size b s sh b.turn refl j p e, λ m was. was))) refl (λ e. absurd (ne e)) (le_refl b.assembled) (λ e. e) k
+      knows_stay upto b b' j v (λ _. ((λ e. e), λ e. e)) (λ _ _. refl) (λ u. ((λ e. e), λ e. (e, held_below is_told upto needs is_rows is_piece is_stage size b s sh u j e)))
+      (λ p. ((λ e. e), λ e. (e, refl, state_room is_told upto needs is_rows is_piece is_stage size b s sh b.turn refl j p e, λ m was. was))) refl (λ e. absurd (ne e)) (le_refl b.assembled) (λ e. e) k
 
   pub splits : (id : ℕ) (v : View T) (l : Lead T) → v.lead ≡ Some l → IsLive v → Splits Rule id v (parting v) (newcomer v.base)
   splits id v l is_lead alive s r at =
@@ -100,6 +102,7 @@ module _ {T R P S : Type 0} (is_told : T → ℕ → Type 0) (upto : T → ℕ �
       ⊎_elim (λ (y : (j ≡ id) × (w ≡ u)). subst (λ (z : ℕ × View T). Knows upto b' z.0 z.1) (λ i. (sym y.0 i, y.1 i)) record {
         job = mine.job;
         turn = mine.turn;
+        block = mine.block;
         lead = subst (λ (o : Option (Lead T)). HasLead upto b' id (more_out o)) (sym is_lead) (lead.0, lead.1, lead.2, ap (λ (z : ℕ). z + 1) lead.3, lead.4);
         seen = mine.seen;
         found = mine.found;
@@ -109,6 +112,7 @@ module _ {T R P S : Type 0} (is_told : T → ℕ → Type 0) (upto : T → ℕ �
       (λ (x : (j ≡ length set_views) × (new ≡ u)). subst (λ (z : ℕ × View T). Knows upto b' z.0 z.1) (λ i. (sym (x.0 ∙ long) i, x.1 i)) record {
         job = λ t held_n. (let f = subst (Fits size b n t) held_n (k.each_task t) in let z = f.2 in omega arith);
         turn = λ p e. (let z = holder_below b n n p (subst (TurnFits b n) e k.turn_fits) in omega arith);
+        block = no_reader is_told upto needs is_rows is_piece is_stage size s b sh.blocks n (λ t held_n. (let f = subst (Fits size b n t) held_n (k.each_task t) in let z = f.2 in omega arith));
         lead = (λ e. (let z = k.led in omega arith));
         seen = (omega arith, λ e. absurd (false_true e));
         found = tt;
@@ -133,6 +137,7 @@ module _ {T R P S : Type 0} (is_told : T → ℕ → Type 0) (upto : T → ℕ �
       (λ j u e. ⊎_elim (λ (x : (j ≡ other) × (spent ≡ u)). subst (λ (z : ℕ × View T). Knows upto b' z.0 z.1) (λ i. (sym x.0 i, x.1 i)) record {
         job = no_job';
         turn = no_turn';
+        block = no_reader is_told upto needs is_rows is_piece is_stage size s b sh.blocks other no_job';
         lead = (λ same. apart (same ∙ sym lead.0));
         seen = (omega arith, λ e. absurd (false_true e));
         found = tt;
@@ -141,6 +146,7 @@ module _ {T R P S : Type 0} (is_told : T → ℕ → Type 0) (upto : T → ℕ �
       (λ (x : (j ≢ other) × (get_elem? views₁ j ≡ some u)). ⊎_elim (λ (y : (j ≡ id) × (both ≡ u)). subst (λ (z : ℕ × View T). Knows upto b' z.0 z.1) (λ i. (sym y.0 i, y.1 i)) record {
         job = mine.job;
         turn = mine.turn;
+        block = mine.block;
         lead = subst (λ (o : Option (Lead T)). HasLead upto b' id (less_out o)) (sym is_lead) (lead.0, lead.1, lead.2, ap (λ (z : ℕ). z - 1) lead.3, lead.4);
         seen = (max-le mine.seen.0 theirs.seen.0, or_says v.stopped w.stopped (halted b.turn) mine.seen.1 theirs.seen.1);
         found = mine.found;

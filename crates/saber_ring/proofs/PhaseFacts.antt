@@ -5,8 +5,10 @@ use native.Mathlib.Decide.{ℕ_discrete}
 use native.Mathlib.Nat.{add-mod_right}
 use Rattle.std.proofs.Math.Nat.{mod-eq_of_lt}
 use Rattle.std.specs.Prelude.{Some, ◌||◌}
-use Rattle.saber_ring.specs.Shows.{RingPhase, idle, filling, ready, held, done, taken, past, number_of, free, won_by}
+use Rattle.saber_ring.specs.Shows.{RingPhase, idle, ready, held, done, taken, past, number_of, free, won_by, RingBlock, blank, coming, kept, read_by, block_number}
 use Rattle.saber_ring.specs.declared.view.TurnState.{TurnState}
+use Rattle.saber_ring.specs.declared.view.FillState.{FillState}
+use Rattle.saber_ring.specs.declared.view.FillState.TheVariants.{Waiting, Begun}
 
 pub false_true : false ≡ true → ⊥
 false_true e = cc
@@ -23,7 +25,6 @@ window_has t n (suc g) pos = let o = window_has t n g pos in let a = o.1 in let 
 
 pub number_small : (ph : RingPhase) → number_of ph ≤ 7
 number_small idle = omega arith
-number_small filling = omega arith
 number_small ready = omega arith
 number_small (held j) = omega arith
 number_small (done false) = omega arith
@@ -34,7 +35,6 @@ number_small past = omega arith
 
 pub number_0 : (ph : RingPhase) → number_of ph ≡ 0 → (ph ≡ idle) ⊎ (ph ≡ past)
 number_0 idle e = inl refl
-number_0 filling e = absurd (omega arith)
 number_0 ready e = absurd (omega arith)
 number_0 (held j) e = absurd (omega arith)
 number_0 (done false) e = absurd (omega arith)
@@ -45,7 +45,6 @@ number_0 past e = inr refl
 
 pub number_2 : (ph : RingPhase) → number_of ph ≡ 2 → ph ≡ ready
 number_2 idle e = absurd (omega arith)
-number_2 filling e = absurd (omega arith)
 number_2 ready e = refl
 number_2 (held j) e = absurd (omega arith)
 number_2 (done false) e = absurd (omega arith)
@@ -56,7 +55,6 @@ number_2 past e = absurd (omega arith)
 
 pub number_4 : (ph : RingPhase) → number_of ph ≡ 4 → ph ≡ done false
 number_4 idle e = absurd (omega arith)
-number_4 filling e = absurd (omega arith)
 number_4 ready e = absurd (omega arith)
 number_4 (held j) e = absurd (omega arith)
 number_4 (done false) e = refl
@@ -67,7 +65,6 @@ number_4 past e = absurd (omega arith)
 
 pub number_6 : (ph : RingPhase) → number_of ph ≡ 6 → ph ≡ done true
 number_6 idle e = absurd (omega arith)
-number_6 filling e = absurd (omega arith)
 number_6 ready e = absurd (omega arith)
 number_6 (held j) e = absurd (omega arith)
 number_6 (done false) e = absurd (omega arith)
@@ -112,9 +109,6 @@ ready_done m e = cc
 pub idle_done : (m : Bool) → idle ≢ done m
 idle_done m e = cc
 
-pub filling_done : (m : Bool) → filling ≢ done m
-filling_done m e = cc
-
 pub held_done : (j : ℕ) (m : Bool) → held j ≢ done m
 held_done j m e = cc
 
@@ -127,14 +121,8 @@ held_same i j e = cc
 pub idle_taken : (m : Bool) → idle ≢ taken m
 idle_taken m e = cc
 
-pub idle_filling : idle ≢ filling
-idle_filling e = cc
-
 pub idle_held : (j : ℕ) → idle ≢ held j
 idle_held j e = cc
-
-pub filling_held : (j : ℕ) → filling ≢ held j
-filling_held j e = cc
 
 pub some_same : {A : Type 0} (x y : A) → Some x ≡ Some y → x ≡ y
 some_same x y e = cc
@@ -144,9 +132,6 @@ held_taken j m e = cc
 
 pub done_held : (m : Bool) (j : ℕ) → done m ≢ held j
 done_held m j e = cc
-
-pub filling_taken : (m : Bool) → filling ≢ taken m
-filling_taken m e = cc
 
 pub free_won_by : (x : Bool) (j : ℕ) (p : TurnState) → free x ≢ won_by j p
 free_won_by x j p e = cc
@@ -165,3 +150,24 @@ taken_same m n e = cc
 
 pub past_held : (j : ℕ) → past ≢ held j
 past_held j e = cc
+
+pub blank_read : (j : ℕ) → blank ≢ read_by j
+blank_read j e = cc
+
+pub coming_read : (j : ℕ) → coming ≢ read_by j
+coming_read j e = cc
+
+pub kept_read : (j : ℕ) → kept ≢ read_by j
+kept_read j e = cc
+
+pub read_same : (i j : ℕ) → read_by i ≡ read_by j → j ≡ i
+read_same i j e = cc
+
+pub block_2 : (x : RingBlock) → block_number x ≡ 2 → x ≡ kept
+block_2 blank e = absurd (omega arith)
+block_2 coming e = absurd (omega arith)
+block_2 kept e = refl
+block_2 (read_by j) e = absurd (omega arith)
+
+pub waiting_begun : {T : Type 0} → ◌≡◌ {A = FillState T} Waiting Begun → ⊥
+waiting_begun e = cc

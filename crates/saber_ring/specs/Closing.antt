@@ -18,7 +18,9 @@ IsLast (Some l) = l.out ≡ 0
 
 -- each task below k was claimed, deposited with a piece, taken and given once
 abbrev pub EachOnce : ℕ → List Entry → Type 0
-EachOnce k own = (t : ℕ) → t < k → (times (Claim t) own ≡ 1) × (times (Deposit t false) own ≡ 1) × (times (Take t) own ≡ 1) × (times (Give t) own ≡ 1) × (times (Deposit t true) own ≡ 0)
+EachOnce k own =
+    (t : ℕ) → t < k → (times (Claim t) own ≡ 1) × (times (Deposit t false) own ≡ 1) × (times (Take t) own ≡ 1)
+    × (times (Give t) own ≡ 1) × (times (Deposit t true) own ≡ 0)
 
 module _ {R P S : Type 0} where
   -- any value but a stage
@@ -38,4 +40,6 @@ module _ {T S : Type 0} (upto : T → ℕ → T) (is_stage : T → ℕ → Bool 
   -- the stage has k tasks behind it, no fewer than the seat saw, and is stopped if the seat saw it so
   abbrev pub Finishes : Option (Lead T) → Type 0
   Finishes None = ⊥
-  Finishes (Some l) = (k : ℕ) × (x : Bool) × is_stage (upto l.told (k + extra x)) k x stage × EachOnce k v.own × (k + extra x ≤ l.filled) × Leaves v.own k x × (v.seen ≤ k) × (v.stopped ≡ true → x ≡ true)
+  Finishes (Some l) =
+      (k : ℕ) × (x : Bool) × is_stage (upto l.told (k + extra x)) k x stage × EachOnce k v.own × (k + extra x ≤ l.filled)
+      × Leaves v.own k x × (v.seen ≤ k) × (v.stopped ≡ true → x ≡ true)

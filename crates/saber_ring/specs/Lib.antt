@@ -11,3 +11,6 @@ pub mod Laws
 pub mod Readings
 pub mod Numbers
 pub mod Words
+pub mod Filling
+pub mod Freeing
+pub mod Sums

@@ -2,6 +2,8 @@
 use Rattle.std.specs.Prelude.{ℕ}
 use Rattle.saber_ring.specs.declared.phases.Phase.{Phase}
 use Rattle.saber_ring.specs.declared.phases.Phase.TheVariants.{Idle, Filling, Ready, Held, Done, Taken, Marked, Gone}
+use Rattle.saber_ring.specs.declared.phases.BlockPhase.{BlockPhase}
+use Rattle.saber_ring.specs.declared.phases.BlockPhase.TheVariants as block
 
 -- the word of a cell is eight times the number of its task, and this
 abbrev pub phase_number : Phase → ℕ
@@ -13,3 +15,10 @@ phase_number Done = 4
 phase_number Taken = 5
 phase_number Marked = 6
 phase_number Gone = 7
+
+-- the word of a block is four times its number, and this
+abbrev pub block_phase_number : BlockPhase → ℕ
+block_phase_number block.Empty = 0
+block_phase_number block.Filling = 1
+block_phase_number block.Home = 2
+block_phase_number block.Reading = 3

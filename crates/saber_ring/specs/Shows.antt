@@ -1,7 +1,9 @@
 -- The rule of the ring: what its words, its slots and the views of its seats are at every moment. It is this
--- project's own, after the slots of SABER 2016's result stage. It has three parts: shape (words and views), home (values in
--- slots) and count (what the seats did). Word 0 is that of the turn, and the cell of task t is word t % size + 1.
-use Rattle.std.specs.Prelude.{◌^◌, ◌≡◌, ◌≢◌, ℕ, Bool, true, false, ◌+◌, ◌*◌, ◌%◌, ◌<◌, ◌≤◌, ◌==◌, ◌&&◌, if◌then◌else◌, List, [], ◌∷◌, length, slice_index, Option, Some, None}
+-- project's own, after the slots of SABER 2016's result stage and its circular input buffers. It has four parts: shape (words
+-- of the turn and the cells, and views), home (pieces and the stage in slots), blocks (the words and slots of blocks, and who
+-- has them) and count (what the seats did). Word 0 is that of the turn, the cell of task t is word t % size + 1, and block t,
+-- the rows of task t, has word t % size + 1 + size.
+use Rattle.std.specs.Prelude.{◌^◌, ◌≡◌, ◌≢◌, ℕ, Bool, true, false, ◌+◌, ◌-◌, ◌*◌, ◌%◌, ◌<◌, ◌≤◌, ◌==◌, ◌&&◌, if◌then◌else◌, List, [], ◌∷◌, length, slice_index, Option, Some, None}
 use mathlib.Core.Option.{some}
 use mathlib.Core.Option as maybe
 use lib.ListN.{get_elem?}
@@ -10,6 +12,8 @@ use Rattle.saber_ring.specs.declared.view.SlotValue.{SlotValue}
 use Rattle.saber_ring.specs.declared.view.SlotValue.TheVariants.{Empty, Rows, Piece, Stage}
 use Rattle.saber_ring.specs.declared.view.TurnState.{TurnState}
 use Rattle.saber_ring.specs.declared.view.TurnState.TheVariants.{Open, TookPiece, TookMark, WonStopped, Leaving}
+use Rattle.saber_ring.specs.declared.view.FillState.{FillState}
+use Rattle.saber_ring.specs.declared.view.FillState.TheVariants.{Waiting, Begun, Stored}
 use Rattle.saber_ring.specs.declared.view.Entry.{Entry}
 use Rattle.saber_ring.specs.declared.view.Entry.TheVariants.{Claim, Deposit, Take, Give}
 use Rattle.saber_ring.specs.declared.view.View.{View}
@@ -22,16 +26,23 @@ use Rattle.saber_ring.specs.declared.view.OwnStep.{OwnStep}
 abbrev pub no_step : OwnStep
 no_step = record { place = 0; word = 0; number = 0 }
 
--- where a task is: not yet filled, being filled, filled and unclaimed, with the seat at a place among the views, handed in (true: the
+-- where a task is: not yet filled, filled and unclaimed, with the seat at a place among the views, handed in (true: the
 -- mark), taken by the turn (true: the mark), given back
 pub data RingPhase : Type 0 where
   idle : RingPhase
-  filling : RingPhase
   ready : RingPhase
   held : ℕ → RingPhase
   done : Bool → RingPhase
   taken : Bool → RingPhase
   past : RingPhase
+
+-- where a block is: never filled, with the first seat that puts its rows in, at home, with the seat at a place among the views
+-- that reads it
+pub data RingBlock : Type 0 where
+  blank : RingBlock
+  coming : RingBlock
+  kept : RingBlock
+  read_by : ℕ → RingBlock
 
 -- the numbers f of the elements, added up
 abbrev pub total : {A : Type 0} → (A → ℕ) → List A → ℕ
@@ -46,7 +57,6 @@ live (Some x) = 1
 -- the last part of the word of a cell; the number of its task, times eight, is the first
 abbrev pub number_of : RingPhase → ℕ
 number_of idle = 0
-number_of filling = 1
 number_of ready = 2
 number_of (held j) = 3
 number_of (done false) = 4
@@ -54,6 +64,13 @@ number_of (done true) = 6
 number_of (taken false) = 5
 number_of (taken true) = 7
 number_of past = 0
+
+-- the last part of the word of a block; the number of the block, times four, is the first
+abbrev pub block_number : RingBlock → ℕ
+block_number blank = 0
+block_number coming = 1
+block_number kept = 2
+block_number (read_by j) = 3
 
 -- the turn: free, with a stopped stage at home or not, or held by the seat at a place among the views
 pub data RingTurn : Type 0 where
@@ -83,7 +100,8 @@ halted (won_by j WonStopped) = true
 halted (won_by j _) = false
 
 -- what the words show, in plain terms. assembled: the tasks behind the stage when the turn was last free; given: the tasks given back;
--- filled: the tasks filled; lead: the place of the first seat; out: the number of other live seats; told: the data of the filled tasks
+-- filled: the tasks filled; lead: the place of the first seat; out: the number of other live seats; told: the data of the filled tasks;
+-- fill: how far the fill of the next task is; phase, block: where each task and each block is
 pub record RingState (T : Type 0) : Type 0 where
   pub assembled : ℕ
   pub given : ℕ
@@ -92,13 +110,14 @@ pub record RingState (T : Type 0) : Type 0 where
   pub lead : ℕ
   pub out : ℕ
   pub told : T
+  pub fill : FillState T
   pub phase : ℕ → RingPhase
+  pub block : ℕ → RingBlock
 
 module _ {T : Type 0} (room : ℕ) (b : RingState T) (seats : ℕ) (t : ℕ) where
   -- which tasks can be where
   abbrev pub Fits : RingPhase → Type 0
   Fits idle = b.filled ≤ t
-  Fits filling = (t ≡ b.filled) × (t < b.given + room)
   Fits ready = (b.given ≤ t) × (t < b.filled)
   Fits (held j) = (b.given ≤ t) × (t < b.filled) × (j < seats)
   Fits (done m) = (b.given ≤ t) × (t < b.filled)
@@ -119,10 +138,21 @@ module _ {T : Type 0} (b : RingState T) (seats : ℕ) where
   TurnFits (won_by j WonStopped) = (j < seats) × IsTaken
   TurnFits (won_by j Leaving) = (j < seats) × (b.phase b.given ≡ taken false)
 
--- the phase of the next task, as the first seat knows whether it is filling
-abbrev pub lead_phase : Bool → RingPhase
-lead_phase false = idle
-lead_phase true = filling
+-- how many blocks were begun, of d filled tasks
+abbrev pub begun_of : {T : Type 0} → FillState T → ℕ → ℕ
+begun_of Waiting d = d
+begun_of Begun d = d + 1
+begun_of (Stored told) d = d + 1
+
+-- the data of the blocks at home, of those of the filled tasks
+abbrev pub told_with : {T : Type 0} → FillState T → T → T
+told_with Waiting told = told
+told_with Begun told = told
+told_with (Stored next) told = next
+
+-- the first block that a task needs
+abbrev pub first_of_task : {T : Type 0} → (T → ℕ → T) → (T → ℕ → ℕ) → T → ℕ → ℕ
+first_of_task upto first told t = first (upto told t) t
 
 -- how many tasks beyond those behind the stage the data of the turn tell of
 abbrev pub knows_next : TurnState → ℕ
@@ -157,10 +187,15 @@ module _ {T : Type 0} (upto : T → ℕ → T) (b : RingState T) (j : ℕ) where
   HasFound None n = Unit {0}
   HasFound (Some h) n = h.state ≡ Open → (m : Bool) → n ≡ 8 * h.behind + number_of (done m) → b.phase h.behind ≡ done m
 
-  -- the first seat knows all tasks and the number of other seats, and is at the next cell exactly while it fills
+  -- the block in a seat's view is the one that it reads, and it reads no other
+  abbrev pub HasBlock : Option ℕ → Type 0
+  HasBlock None = (u : ℕ) → b.block u ≢ read_by j
+  HasBlock (Some x) = (b.block x ≡ read_by j) × ((u : ℕ) → b.block u ≡ read_by j → u ≡ x)
+
+  -- the first seat knows all tasks, the number of other seats, and how far its fill is
   abbrev pub HasLead : Option (Lead T) → Type 0
   HasLead None = j ≢ b.lead
-  HasLead (Some l) = (j ≡ b.lead) × (l.told ≡ b.told) × (l.filled ≡ b.filled) × (l.out ≡ b.out) × (b.phase b.filled ≡ lead_phase l.filling)
+  HasLead (Some l) = (j ≡ b.lead) × (l.told ≡ b.told) × (l.filled ≡ b.filled) × (l.out ≡ b.out) × (l.fill ≡ b.fill)
 
   -- a seat that was taken in has nothing
   abbrev pub HasBase : Option T → Option (HeldTask T) → Option (HeldTurn T) → List Entry → Type 0
@@ -171,27 +206,28 @@ module _ {T : Type 0} (upto : T → ℕ → T) (b : RingState T) (j : ℕ) where
   pub record Knows (v : View T) : Type 0 where
     pub job : HasJob v.job
     pub turn : HasTurn v.turn
+    pub block : HasBlock v.block
     pub lead : HasLead v.lead
     pub seen : Sees b v.seen v.stopped
     pub found : HasFound v.turn v.saw.word
     pub base : HasBase v.base v.job v.turn v.own
 
 module _ {T R P S : Type 0} (upto : T → ℕ → T) (is_rows : T → ℕ → R → Type 0) (is_piece : T → ℕ → P → Type 0) (is_stage : T → ℕ → Bool → S → Type 0) (told : T) (place : maybe.Option (maybe.Option (SlotValue R P S))) (t : ℕ) where
-  -- what lies in the slot of a task's cell: the rows of a ready task, the piece of a done one, nothing for an idle one and for the mark
+  -- what lies in the slot of a task's cell: the piece of a done one, and nothing for an idle or ready one and for the mark
   abbrev pub AtHome : RingPhase → Type 0
   AtHome idle = place ≡ some (some Empty)
-  AtHome ready = (r : R) × (place ≡ some (some (Rows r))) × is_rows (upto told (t + 1)) t r
+  AtHome ready = place ≡ some (some Empty)
   AtHome (done false) = (p : P) × (place ≡ some (some (Piece p))) × is_piece (upto told (t + 1)) t p
   AtHome (done true) = place ≡ some (some Empty)
   AtHome _ = Unit {0}
 
-module _ {T R P S : Type 0} (is_told : T → ℕ → Type 0) (upto : T → ℕ → T) (is_rows : T → ℕ → R → Type 0) (is_piece : T → ℕ → P → Type 0) (is_stage : T → ℕ → Bool → S → Type 0) (size : ℕ) (s : State (SlotValue R P S) (View T)) (b : RingState T) where
+module _ {T R P S : Type 0} (is_told : T → ℕ → Type 0) (upto : T → ℕ → T) (first : T → ℕ → ℕ) (is_rows : T → ℕ → R → Type 0) (is_piece : T → ℕ → P → Type 0) (is_stage : T → ℕ → Bool → S → Type 0) (size : ℕ) (s : State (SlotValue R P S) (View T)) (b : RingState T) where
   -- the words, and what the seats know
   pub record Shape : Type 0 where
     pub some_cell : 0 < size
     pub few_cells : size ≤ 1024
-    pub words_wide : length s.words ≡ size + 1
-    pub homes_wide : length s.homes ≡ size + 1
+    pub words_wide : length s.words ≡ 2 * size + 1
+    pub homes_wide : length s.homes ≡ 2 * size + 1
     pub assembled_given : b.assembled ≤ b.given
     pub given_filled : b.given ≤ b.filled
     pub filled_room : b.filled ≤ b.given + size
@@ -221,6 +257,42 @@ module _ {T R P S : Type 0} (is_told : T → ℕ → Type 0) (upto : T → ℕ �
     pub each_cell : (t : ℕ) → b.given ≤ t → t < b.given + size → AtHome upto is_rows is_piece is_stage b.told (get_elem? s.homes (t % size + 1)) t (b.phase t)
     pub stage : StageHome b.turn
 
+module _ {T : Type 0} (upto : T → ℕ → T) (first : T → ℕ → ℕ) (filled : ℕ) (told : T) (fill : FillState T) (phase : ℕ → RingPhase) (u : ℕ) where
+  -- which blocks can be where; a reader's job needs its block
+  abbrev pub BlockFits : RingBlock → Type 0
+  BlockFits blank = begun_of fill filled ≤ u
+  BlockFits coming = (u ≡ filled) × (fill ≡ Begun)
+  BlockFits kept = u < begun_of fill filled
+  BlockFits (read_by j) = (u < filled) × (t : ℕ) × (phase t ≡ held j) × (first_of_task upto first told t ≤ u) × (u ≤ t)
+
+module _ {T : Type 0} (is_told : T → ℕ → Type 0) (upto : T → ℕ → T) (filled : ℕ) (told : T) (block : ℕ → RingBlock) where
+  -- where the block of the next task is, and its data once it is at home
+  abbrev pub FillFits : FillState T → Type 0
+  FillFits Waiting = Unit {0}
+  FillFits Begun = block filled ≡ coming
+  FillFits (Stored next) = (block filled ≡ kept) × is_told next (filled + 1) × ((k : ℕ) → k ≤ filled → upto next k ≡ upto told k)
+
+module _ {T R P S : Type 0} (upto : T → ℕ → T) (is_rows : T → ℕ → R → Type 0) (told : T) (place : maybe.Option (maybe.Option (SlotValue R P S))) (u : ℕ) where
+  -- what lies in the slot of a block: its own rows while it is at home, and nothing before the first fill
+  abbrev pub BlockHome : RingBlock → Type 0
+  BlockHome blank = place ≡ some (some Empty)
+  BlockHome kept = (r : R) × (place ≡ some (some (Rows r))) × is_rows (upto told (u + 1)) u r
+  BlockHome _ = Unit {0}
+
+-- the first of the blocks whose words and slots stand in the table
+abbrev pub oldest : {T : Type 0} → ℕ → RingState T → ℕ
+oldest size b = begun_of b.fill b.filled - size
+
+module _ {T R P S : Type 0} (is_told : T → ℕ → Type 0) (upto : T → ℕ → T) (first : T → ℕ → ℕ) (is_rows : T → ℕ → R → Type 0) (size : ℕ) (s : State (SlotValue R P S) (View T)) (b : RingState T) where
+  -- the blocks: each from the first that the tasks not yet assembled need to the last one begun stands in the table, with
+  -- its own rows at home or with one reader
+  pub record Blocks : Type 0 where
+    pub room : begun_of b.fill b.filled ≤ first_of_task upto first b.told b.assembled + size
+    pub each_block : (u : ℕ) → BlockFits upto first b.filled b.told b.fill b.phase u (b.block u)
+    pub in_hand : FillFits is_told upto b.filled b.told b.block b.fill
+    pub each_block_word : (u : ℕ) → oldest size b ≤ u → u < oldest size b + size → slice_index s.words (u % size + 1 + size) ≡ 4 * u + block_number (b.block u)
+    pub each_block_home : (u : ℕ) → oldest size b ≤ u → u < oldest size b + size → BlockHome upto is_rows (told_with b.fill b.told) (get_elem? s.homes (u % size + 1 + size)) u (b.block u)
+
 abbrev pub same_mark : Bool → Bool → Bool
 same_mark true true = true
 same_mark false false = true
@@ -241,7 +313,6 @@ times e xs = total (λ x. if same e x then 1 else 0) xs
 -- how many claims, deposits (with this mark), takes and gives a task has had, by where it is
 abbrev pub claims_of : RingPhase → ℕ
 claims_of idle = 0
-claims_of filling = 0
 claims_of ready = 0
 claims_of _ = 1
 
@@ -278,18 +349,19 @@ module _ {T : Type 0} where
 
   -- the view of the first seat of a new ring
   abbrev pub start : T → View T
-  start told = record { base = Some told; lead = Some (record { told = told; filled = 0; out = 0; filling = false }); seen = 0; stopped = false; saw = no_step; before = no_step; missed = no_step; job = None; turn = None; own = [] }
+  start told = record { base = Some told; lead = Some (record { told = told; filled = 0; out = 0; fill = Waiting }); seen = 0; stopped = false; saw = no_step; before = no_step; missed = no_step; job = None; block = None; turn = None; own = [] }
 
 -- the same, of the view of the token that carries the data
 abbrev pub first_view : {T : Type 0} → Option T → View T
-first_view None = record { base = None; lead = None; seen = 0; stopped = false; saw = no_step; before = no_step; missed = no_step; job = None; turn = None; own = [] }
+first_view None = record { base = None; lead = None; seen = 0; stopped = false; saw = no_step; before = no_step; missed = no_step; job = None; block = None; turn = None; own = [] }
 first_view (Some x) = start x
 
-module _ {T R P S : Type 0} (is_told : T → ℕ → Type 0) (upto : T → ℕ → T) (is_rows : T → ℕ → R → Type 0) (is_piece : T → ℕ → P → Type 0) (is_stage : T → ℕ → Bool → S → Type 0) where
+module _ {T R P S : Type 0} (is_told : T → ℕ → Type 0) (upto : T → ℕ → T) (first : T → ℕ → ℕ) (is_rows : T → ℕ → R → Type 0) (is_piece : T → ℕ → P → Type 0) (is_stage : T → ℕ → Bool → S → Type 0) where
   -- the table shows this state of the ring
   pub record ShowsAs (size : ℕ) (s : State (SlotValue R P S) (View T)) (b : RingState T) : Type 0 where
-    pub shape : Shape is_told upto is_rows is_piece is_stage size s b
-    pub home : Home is_told upto is_rows is_piece is_stage size s b
+    pub shape : Shape is_told upto first is_rows is_piece is_stage size s b
+    pub home : Home is_told upto first is_rows is_piece is_stage size s b
+    pub blocks : Blocks is_told upto first is_rows size s b
     pub count : Counts b s.views
 
   -- the rule

@@ -3,12 +3,26 @@ use crate::job::Job;
 use crate::turn::Turn;
 use saber_core::Work;
 
+/// Which word hinders a fill.
+#[derive(Clone, Copy, Debug, PartialEq, Eq)]
+pub enum Place {
+    /// The cell of the task.
+    Cell,
+    /// The word of the turn.
+    Turn,
+}
+
 /// What `Seat::fill` answers.
 pub enum Fill<W: Work> {
     /// The rows are at home, and the task is filled.
     Put,
-    /// The task's cell isn't idle for it; the rows come back.
-    Full { word: u64, rows: W::Rows },
+    /// The task's cell isn't idle for it, or its block is needed by a task that isn't assembled; the
+    /// rows come back.
+    Full {
+        place: Place,
+        word: u64,
+        rows: W::Rows,
+    },
 }
 
 /// What `Seat::claim` answers.
@@ -16,6 +30,14 @@ pub enum Claim<W: Work> {
     Got(Job<W>),
     /// The task isn't ready.
     Not { word: u64 },
+}
+
+/// What `Seat::read` answers.
+pub enum Read<W: Work> {
+    /// The rows of the block, until they are put back.
+    Got(W::Rows),
+    /// Another seat reads the block.
+    Held { word: u64 },
 }
 
 /// What `Seat::win` answers.

@@ -7,7 +7,7 @@ use crate::view::SlotValue;
 use atomic_table::Closed;
 use std::alloc::Global;
 
-// Lets go of what lies in a cell: rows that nobody claimed, a piece that nobody took, or novalue.
+// Lets go of what lies in a slot: rows, a piece that nobody took, or novalue.
 fn discard<R: Drop, P: Drop, S>(value: SlotValue<R, P, S>)
     requires { NoStage value }
 {
@@ -19,7 +19,7 @@ fn discard<R: Drop, P: Drop, S>(value: SlotValue<R, P, S>)
     }
 }
 
-// Empties the slots of all cells, and gives the memory back.
+// Empties the slots of all cells and blocks, and gives the memory back.
 pub(crate) fn sweep<R: Drop, P: Drop, S>(mut closed: Closed<SlotValue<R, P, S>, Global>)
     requires cells { NoStages (slots_items closed.slots) (slots_len closed.slots) }
     requires rest { IsEmptied 1 (slots_filled closed.slots) (slots_len closed.slots) }

@@ -1,14 +1,19 @@
 //! The fixed data of a ring, which a type parameter names.
-ghost use Rattle.std.specs.Prelude.{◌≡◌, None, Some, IfOk};
+ghost use Rattle.std.specs.Prelude.{◌≡◌, Option, None, IfOk};
 
 use atomic_table::{Play, Seat, Table, TableRule};
 use std::alloc::{AllocError, Global};
-use std::marker::PhantomData;
+use std::marker::{Brand, PhantomData};
 
 /// The fixed data of a ring: what its work says of no task at all. The caller of `Ring::new` picks
 /// them, for the contracts alone.
 pub trait FixedData<T> {
-    ghost told: { T };
+    ghost told: { Option T };
+}
+
+/// A caller passes `Brand`, and its proof file says what it names.
+impl<T> FixedData<T> for Brand {
+    ghost told = { None };
 }
 
 pub(crate) struct NoRule;
@@ -24,13 +29,13 @@ pub(crate) struct Say<J> {
 }
 
 impl<T, J: FixedData<T>> Play<u8, Option<T>> for Say<J> {
-    ghost then = { λ s m n m'. m'.0 ≡ Some J.told };
+    ghost then = { λ s m n m'. m'.0 ≡ J.told };
 }
 
 // A token whose view is what J names. A table is told its data when it is made, and this is how a
 // name becomes something that it can be told.
 pub(crate) fn token<T, J: FixedData<T>>(alloc: Global) -> Result<Seat<u8, Option<T>>, AllocError>
-    ensures { IfOk result (λ s. s.me.0 ≡ Some J.told) }
+    ensures { IfOk result (λ s. s.me.0 ≡ J.told) }
 {
     let (table, mut seat) = Table::<u8, Option<T>, (), NoRule, Global>::of_words(alloc, &[0], &())?;
     table.shared.load::<Say<J>>(&mut seat, 0);

@@ -2,11 +2,13 @@
 ghost use Rattle.std.specs.Prelude.{◌^◌, ◌≡◌, ◌<◌};
 
 use saber_core::Work;
+use std::marker::PhantomData;
 
-/// A claimed task and its rows. It ends by `Seat::deposit` alone, so that none is lost silently.
+/// A claimed task. Its rows, and those that it looks back on, are read from the ring. It ends by
+/// `Seat::deposit` alone, so that none is lost silently.
 pub struct Job<W: Work> {
     pub(crate) task: u64,
-    pub(crate) rows: W::Rows,
+    pub(crate) work: PhantomData<W>,
     pub ghost small: { task < 2 ^ 42 },
 }
 
@@ -17,12 +19,5 @@ impl<W: Work> Job<W> {
         ensures small { result < 2 ^ 42 }
     {
         self.task
-    }
-
-    /// The rows of the task.
-    pub fn rows(&self) -> &W::Rows
-        ensures { result.now ≡ self.now.rows }
-    {
-        &self.rows
     }
 }

@@ -1,6 +1,6 @@
 //! The words and slots of a ring as it is made.
 ghost use Rattle.std.specs.Prelude.{◌≡◌, ℕ, ◌+◌, ◌-◌, ◌<◌, ◌≤◌, length, MatchResult, IfSome};
-ghost use Rattle.saber_ring.specs.Opening.{IsOpen, first_values};
+ghost use Rattle.saber_ring.specs.Opening.{IsOpen, first_values, with_empties};
 
 use crate::view::SlotValue;
 use std::alloc::Global;
@@ -10,14 +10,16 @@ pub(crate) fn first_words(alloc: Global, size: u64) -> Option<Vec<u64>>
     requires { size ≤ 1024 }
     ensures { IfSome result (λ v. IsOpen size v.items) }
 {
-    let mut words = Vec::from_elem(alloc, 0u64, size as usize + 1).ok()?;
-    for i in 0..size as usize {
+    let cells = size as usize;
+    let mut words = Vec::from_elem(alloc, 0u64, 2 * cells + 1).ok()?;
+    for i in 0..cells {
         words[i + 1] = 8 * i as u64;
+        words[i + 1 + cells] = 4 * i as u64;
     }
     Some(words)
 }
 
-// The stage, and room for a value of each cell.
+// The stage, and room for a value of each cell and each block.
 pub(crate) fn first_slots<R, P, S>(
     alloc: Global,
     size: u64,
@@ -26,11 +28,12 @@ pub(crate) fn first_slots<R, P, S>(
     requires { size ≤ 1024 }
     ensures { MatchResult result (λ v. v.items ≡ first_values size stage) (λ s. s ≡ stage) }
 {
-    let Ok(mut slots) = Vec::with_capacity(alloc, size as usize + 1) else {
+    let values = 2 * size as usize;
+    let Ok(mut slots) = Vec::with_capacity(alloc, values + 1) else {
         return Err(stage);
     };
     slots.push_reserved(SlotValue::Stage(stage));
-    for _ in 0..size as usize {
+    for _ in 0..values {
         slots.push_reserved(SlotValue::Empty);
     }
     Ok(slots)
@@ -38,8 +41,8 @@ pub(crate) fn first_slots<R, P, S>(
 
 // Takes the stage out of the slots, and gives their memory back.
 pub(crate) fn stage_back<R, P, S>(mut slots: Vec<SlotValue<R, P, S>>) -> S
-    requires { (size : ℕ) × (stage : S) × (slots.items ≡ first_values size stage) }
-    ensures { slots.items ≡ first_values (length slots.items - 1) result }
+    requires { (n : ℕ) × (stage : S) × (slots.items ≡ with_empties n stage) }
+    ensures { slots.items ≡ with_empties (length slots.items - 1) result }
 {
     while let Some(value) = slots.pop() {
         match value {

@@ -6,11 +6,11 @@ ghost use Rattle.std.specs.Prelude.{◌≡◌};
 pub enum Phase {
     /// Free for the task.
     Idle,
-    /// The first seat is putting the rows in.
+    /// No word shows it.
     Filling,
-    /// The rows are at home, and nobody has the task.
+    /// The task is filled, and nobody has it.
     Ready,
-    /// A seat has the task and its rows.
+    /// A seat has the task.
     Held,
     /// The piece is at home.
     Done,
@@ -20,4 +20,17 @@ pub enum Phase {
     Marked,
     /// As taken, with the mark.
     Gone,
+}
+
+/// Where the word of a block says that its rows are.
+#[derive(Clone, Copy, Debug, PartialEq, Eq)]
+pub enum BlockPhase {
+    /// Never filled.
+    Empty,
+    /// The first seat is putting the rows in.
+    Filling,
+    /// The rows are at home.
+    Home,
+    /// A seat reads them.
+    Reading,
 }

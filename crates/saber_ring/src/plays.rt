@@ -2,7 +2,7 @@
 //! word; `specs/Plays.antt` has what it says.
 ghost use Rattle.std.specs.Prelude.{true, false, None};
 ghost use Rattle.saber_ring.specs.Seats.{parting, newcomer, joined};
-ghost use Rattle.saber_ring.specs.Plays.{sees_turn, sees_piece, begins, fills, claims, deposits, wins, takes_piece, goes_on, releases, puts_back};
+ghost use Rattle.saber_ring.specs.Plays.{sees_turn, sees_piece, sees_cell, sees_room, begins, stores, fills, sees_block, reads, returns_block, claims, deposits, wins, takes_piece, goes_on, releases, puts_back};
 
 use crate::view::{SlotValue, View};
 use atomic_table::{Join, Play, Split};
@@ -23,20 +23,68 @@ impl<R, P, S, T> Play<SlotValue<R, P, S>, View<T>> for SeePiece {
     ghost then = { sees_piece };
 }
 
-// From idle to filling.
+// The first seat loads the cell of the next task.
+pub(crate) struct SeeCell;
+
+impl<R, P, S, T> Play<SlotValue<R, P, S>, View<T>> for SeeCell {
+    ghost then = { sees_cell };
+}
+
+// The first seat loads the word of the turn, for room.
+pub(crate) struct SeeRoom<W> {
+    work: PhantomData<W>,
+}
+
+impl<W: Work> Play<SlotValue<W::Rows, W::Piece, W::Stage>, View<W::Told>> for SeeRoom<W> {
+    ghost then = { sees_room W.upto W.first };
+}
+
+// A block from home, or never filled, to being filled with the rows of a later task.
 pub(crate) struct Begin;
 
 impl<R, P, S, T> Play<SlotValue<R, P, S>, View<T>> for Begin {
     ghost then = { begins };
 }
 
-// From filling to ready, with the rows.
-pub(crate) struct Filling<W> {
+// A block from being filled to home, with the rows.
+pub(crate) struct Storing<W> {
     work: PhantomData<W>,
 }
 
-impl<W: Work> Play<SlotValue<W::Rows, W::Piece, W::Stage>, View<W::Told>> for Filling<W> {
-    ghost then = { fills W.filled };
+impl<W: Work> Play<SlotValue<W::Rows, W::Piece, W::Stage>, View<W::Told>> for Storing<W> {
+    ghost then = { stores W.filled };
+}
+
+// From idle to ready, once the block is at home.
+pub(crate) struct Filling;
+
+impl<R, P, S, T> Play<SlotValue<R, P, S>, View<T>> for Filling {
+    ghost then = { fills };
+}
+
+// A load of the word of a block.
+pub(crate) struct SeeBlock<W> {
+    work: PhantomData<W>,
+}
+
+impl<W: Work> Play<SlotValue<W::Rows, W::Piece, W::Stage>, View<W::Told>> for SeeBlock<W> {
+    ghost then = { sees_block W.upto W.first };
+}
+
+// A block from home to reading, with the rows.
+pub(crate) struct Reading<W> {
+    work: PhantomData<W>,
+}
+
+impl<W: Work> Play<SlotValue<W::Rows, W::Piece, W::Stage>, View<W::Told>> for Reading<W> {
+    ghost then = { reads W.upto W.is_rows };
+}
+
+// A block from reading to home, with the rows.
+pub(crate) struct Returning;
+
+impl<R, P, S, T> Play<SlotValue<R, P, S>, View<T>> for Returning {
+    ghost then = { returns_block };
 }
 
 // From ready to held.
@@ -45,7 +93,7 @@ pub(crate) struct Claiming<W> {
 }
 
 impl<W: Work> Play<SlotValue<W::Rows, W::Piece, W::Stage>, View<W::Told>> for Claiming<W> {
-    ghost then = { claims W.upto W.is_rows };
+    ghost then = { claims W.upto W.first };
 }
 
 // From held to done, with the piece.

@@ -10,13 +10,13 @@ ghost use Rattle.saber_ring.specs.Releasing.{SetsDown};
 use crate::plays::Releasing;
 use crate::ring::Ring;
 use crate::view::{SlotValue, TurnState, View};
-use atomic_table::Seat as Place;
+use atomic_table::Seat as TableSeat;
 use saber_core::Work;
 
 // Puts the stage into its slot and gives the turn up.
 pub(crate) fn set_down<W: Work>(
     ring: &Ring<W>,
-    place: &mut Place<SlotValue<W::Rows, W::Piece, W::Stage>, View<W::Told>>,
+    place: &mut TableSeat<SlotValue<W::Rows, W::Piece, W::Stage>, View<W::Told>>,
     stage: W::Stage,
     k: u64,
     state: TurnState,

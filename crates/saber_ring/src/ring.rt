@@ -1,6 +1,7 @@
 //! The ring, from its making to its end.
-ghost use Rattle.std.specs.Prelude.{◌≡◌, ◌+◌, ◌<◌, ◌≤◌, false, None, IfErr, IfOk};
-ghost use Rattle.saber_ring.specs.Shows.{start};
+ghost use Rattle.std.specs.Prelude.{◌≡◌, ◌+◌, ◌*◌, ◌<◌, ◌≤◌, false, None, IfErr, IfOk};
+ghost use Rattle.saber_ring.specs.Opening.{Begins};
+ghost use Rattle.saber_ring.specs.Shows.{first_view};
 
 use crate::closing::sweep;
 use crate::fixed::{FixedData, token};
@@ -8,12 +9,12 @@ use crate::opening::{first_slots, first_words, stage_back};
 use crate::seat::Seat;
 use crate::view::{RingKey, RingRule, SlotValue, View};
 use atomic_table::{Refused, Table};
-use saber_core::{NoMemory, Work};
-use std::alloc::{AllocError, Global};
+use saber_core::Work;
+use std::alloc::{AllocError as NoMemory, Global};
 use std::snapshot::Snapshot;
 
 /// The ring of slots by which threads hand rows, pieces and the stage to each other, each by single
-/// atomic steps. Word 0 is the word of the turn, and the word after it is the first cell. It is
+/// atomic steps. Word 0 is the word of the turn; the words of the cells come next, then those of the blocks. It is
 /// shared by reference; who steps does so with a [`Seat`] of this ring.
 pub struct Ring<W: Work> {
     pub(crate) table: Table<
@@ -25,7 +26,7 @@ pub struct Ring<W: Work> {
     >,
     // The number of cells.
     pub(crate) size: u64,
-    pub ghost sized: { (table.shared.table_id.words ≡ size + 1) × (table.shared.table_id.slots ≡ size + 1) × (table.shared.key.size ≡ size) × (0 < size) × (size ≤ 1024) },
+    pub ghost sized: { (table.shared.table_id.words ≡ 2 * size + 1) × (table.shared.table_id.slots ≡ 2 * size + 1) × (table.shared.key.size ≡ size) × (0 < size) × (size ≤ 1024) },
 }
 
 impl<W: Work> Ring<W> {
@@ -40,30 +41,36 @@ impl<W: Work> Ring<W> {
         stage: W::Stage,
     ) -> Result<(Ring<W>, Seat<W>), (NoMemory, W::Stage)>
         requires size { (0 < size) × (size ≤ 1024) }
-        requires told { W.is_told J.told 0 }
-        requires stage { W.is_stage J.told 0 false stage }
+        requires begins { Begins W.is_told W.is_stage stage J.told }
         ensures own { IfOk result (λ r. r.1.place.table_id ≡ r.0.table.shared.table_id) }
-        ensures view { IfOk result (λ r. r.1.place.me.0 ≡ start J.told) }
+        ensures view { IfOk result (λ r. r.1.place.me.0 ≡ first_view J.told) }
         ensures cells { IfOk result (λ r. r.0.size ≡ size) }
         ensures refused { IfErr result (λ e. e.1 ≡ stage) }
     {
         let size = size as u64;
         let Ok(token) = token::<W::Told, J>(alloc) else {
-            return Err((AllocError, stage));
+            return Err((NoMemory, stage));
         };
         let told = Snapshot::of(&token);
         let Some(words) = first_words(alloc, size) else {
-            return Err((AllocError, stage));
+            return Err((NoMemory, stage));
         };
         let slots = match first_slots(alloc, size, stage) {
             Ok(slots) => slots,
-            Err(stage) => return Err((AllocError, stage)),
+            Err(stage) => return Err((NoMemory, stage)),
         };
         let key = RingKey { size, told };
         match Table::new(alloc, words.as_slice(), slots, &key) {
-            Ok((table, place)) => Ok((Ring { table, size }, Seat { place })),
-            Err(Refused { slots }) => Err((AllocError, stage_back(slots))),
+            Ok((table, place)) => Ok((Ring { table, size }, Seat { place, block: None })),
+            Err(Refused { slots }) => Err((NoMemory, stage_back(slots))),
         }
+    }
+
+    /// The number of cells, and of blocks.
+    pub fn cells(&self) -> u64
+        ensures { result ≡ self.now.size }
+    {
+        self.size
     }
 
     /// Ends the ring with its last seat, which is the first one once it has taken in all others, and
@@ -79,7 +86,7 @@ impl<W: Work> Ring<W> {
         ensures { Finishes W.upto W.is_stage seat.place.me.0 result seat.place.me.0.lead }
     {
         let Ring { table, size: _ } = self;
-        let Seat { place } = seat;
+        let Seat { place, block: _ } = seat;
         let mut closed = table.close_with(place);
         let home = closed.take(0);
         let SlotValue::Stage(stage) = home else {

@@ -1,26 +1,27 @@
 //! Seats, and the calls that step with them.
 ghost use Rattle.std.specs.Prelude.{◌^◌, ◌≡◌, ◌≢◌, ◌||◌, ℕ, true, false, ◌+◌, ◌-◌, ◌*◌, ◌<◌, ◌≤◌, None, Some, IfSome, IsSome};
-ghost use Rattle.saber_ring.specs.Seats.{is_filling, out_of, parting, newcomer, joined};
+ghost use Rattle.saber_ring.specs.Seats.{is_lent, cells_of, is_filling, out_of, parting, newcomer, joined};
 ghost use Rattle.saber_ring.specs.declared.view.TurnState.TheVariants.{Open, TookPiece};
 ghost use Rattle.saber_ring.specs.Shows.{live};
 
-use crate::answers::{Claim, Fill, Take, Win};
+use crate::answers::{Claim, Fill, Place, Read, Take, Win};
+use crate::blocks::put_block;
+use crate::frees::Frees;
 use crate::job::Job;
 use crate::plays::{
-    Begin, Claiming, Filling, Giving, Meet, Part, PutBack, PutMark, PutPiece, SeePiece, SeeTurn,
-    TakeMark, TakePiece, Winning,
+    Claiming, Filling, Giving, Meet, Part, PutBack, PutMark, PutPiece, Reading, Returning,
+    SeeBlock, SeeCell, SeePiece, SeeRoom, SeeTurn, TakeMark, TakePiece, Winning,
 };
 use crate::release::{STOP, set_down, state_at};
 use crate::ring::Ring;
 use crate::turn::Turn;
 use crate::view::{SlotValue, TurnState, View};
-use atomic_table::Seat as Place;
+use atomic_table::Seat as TableSeat;
 use saber_core::Work;
+use std::marker::PhantomData;
 
 // The phases that a call writes or waits for. The word of a cell is eight times the task, plus the phase;
 // idle is 0.
-
-const FILLING: u64 = 1;
 
 const READY: u64 = 2;
 
@@ -34,44 +35,74 @@ const MARKED: u64 = 6;
 
 const GONE: u64 = 7;
 
+// The same of the word of a block, which is four times the block, plus the phase.
+
+pub(crate) const COMING: u64 = 1;
+
+pub(crate) const HOME: u64 = 2;
+
+const READING: u64 = 3;
+
 /// A thread's place at a ring: what it steps with, and what it knows and has done. No call waits or makes
 /// a second try; a refusal changes nothing but what the seat saw, and gives back what was handed in.
 /// A seat that is let go is missed at the end, where the first one has to take in all others, and harms
 /// nothing else.
 #[derive(Drop)]
 pub struct Seat<W: Work> {
-    pub(crate) place: Place<SlotValue<W::Rows, W::Piece, W::Stage>, View<W::Told>>,
+    pub(crate) place: TableSeat<SlotValue<W::Rows, W::Piece, W::Stage>, View<W::Told>>,
+    // The block that it reads.
+    pub(crate) block: Option<u64>,
     pub ghost alive: { live place.me.0.base ≡ 1 },
     pub ghost calm: { is_filling place.me.0.lead ≡ false },
-    pub ghost carried: { place.me.1 ≡ out_of (place.table_id.slots - 1) place.me.0 },
+    pub ghost reads: { place.me.0.block ≡ block },
+    pub ghost lent: { is_lent place.me.0.block place.me.0.job ≡ true },
+    pub ghost carried: { place.me.1 ≡ out_of (cells_of place.table_id.slots) place.me.0 },
 }
 
 impl<W: Work> Seat<W> {
     ghost use Rattle.saber_ring.specs.Plays.{is_stopped};
-    ghost use Rattle.saber_ring.specs.Calls.{Claims, FillsNext, Fills, Has, Deposits, Wins, HasTurn, IsTaken, Takes, StageAfter, Gives, StageAt, Releases};
+    ghost use Rattle.saber_ring.specs.Calls.{Claims, FillsNext, Covers, Fills, NeedsBlock, Reads, HasJobOf, HasRowsOut, PutsBack, MayDeposit, Deposits, Wins, HoldsTurn, IsGot, Takes, StageAfter, Gives, StageAt, Releases};
 
-    /// The first seat puts the rows of the next task in, without the turn. Full exactly where the task's
-    /// cell isn't idle for it: then the rows come back.
-    pub fn fill(&mut self, ring: &Ring<W>, t: u64, rows: W::Rows) -> Fill<W>
+    /// The first seat puts the rows of the next task into its block, without the turn, and makes the task
+    /// ready. Full exactly where the task's cell isn't idle for it, or, by the loaded word of the turn, a
+    /// task that isn't assembled may need the rows that lie there: then the rows come back.
+    pub fn fill(&mut self, ring: &Ring<W>, t: u64, block: W::Rows, frees: &Frees) -> Fill<W>
+    where
+        W::Rows: Drop,
         requires own { self.old.place.table_id ≡ ring.now.table.shared.table_id }
         requires idle { self.old.place.me.0.turn ≡ None }
-        requires next { FillsNext W.is_told W.filled W.is_rows t rows self.old.place.me.0.lead }
+        requires next { FillsNext W.is_told W.filled W.is_rows t block self.old.place.me.0.lead }
         requires below { t < 2 ^ 42 }
+        requires frees { Covers W.upto W.first t frees.now self.old.place.me.0.seen self.old.place.me.0.lead }
         ensures same { self.new.place.table_id ≡ self.old.place.table_id }
-        ensures told { Fills W.filled ring.now.size t rows self.old.place.me.0 self.new.place.me.0 result }
+        ensures told { Fills W.upto W.first W.filled ring.now.size t block self.old.place.me.0 self.new.place.me.0 result }
     {
         let words = &ring.table.shared;
         let i = (t % ring.size) as usize + 1;
         let idle = 8 * t;
-        let found = words.compare_exchange::<Begin>(&mut self.place, i, idle, 8 * t + FILLING);
+        let found = words.load::<SeeCell>(&mut self.place, i);
         if found != idle {
-            return Fill::Full { word: found, rows };
+            let place = Place::Cell;
+            return Fill::Full {
+                place,
+                word: found,
+                rows: block,
+            };
         }
-        let left = words.exchange(&mut self.place, i, SlotValue::Rows(rows));
-        let SlotValue::Empty = left else {
-            unreachable!()
-        };
-        words.store::<Filling<W>>(&mut self.place, i, 8 * t + READY);
+        let turn = words.load::<SeeRoom<W>>(&mut self.place, 0);
+        if frees.first(turn % STOP / 2) + ring.size <= t {
+            let place = Place::Turn;
+            return Fill::Full {
+                place,
+                word: turn,
+                rows: block,
+            };
+        }
+        put_block(ring, &mut self.place, t, block);
+        let found = words.compare_exchange::<Filling>(&mut self.place, i, idle, 8 * t + READY);
+        if found != idle {
+            unreachable!();
+        }
         Fill::Put
     }
 
@@ -83,7 +114,7 @@ impl<W: Work> Seat<W> {
         requires idle { (self.old.place.me.0.job ≡ None) × (self.old.place.me.0.turn ≡ None) }
         requires below { t ≤ 2 ^ 42 }
         ensures same { self.new.place.table_id ≡ self.old.place.table_id }
-        ensures told { Claims W.upto W.is_rows ring.now.size t self.old.place.me.0 self.new.place.me.0 result }
+        ensures told { Claims W.upto W.first ring.now.size t self.old.place.me.0 self.new.place.me.0 result }
     {
         let words = &ring.table.shared;
         let i = (t % ring.size) as usize + 1;
@@ -92,25 +123,68 @@ impl<W: Work> Seat<W> {
         if found != ready {
             return Claim::Not { word: found };
         }
-        let home = words.exchange(&mut self.place, i, SlotValue::Empty);
-        let SlotValue::Rows(rows) = home else {
-            unreachable!()
-        };
-        Claim::Got(Job { task: t, rows })
+        let work = PhantomData;
+        Claim::Got(Job { task: t, work })
     }
 
-    /// A seat without the turn hands in the piece of its job's task, or none: the mark of want of memory.
-    pub fn deposit(&mut self, ring: &Ring<W>, job: Job<W>, piece: Option<W::Piece>)
-    where
-        W::Rows: Drop,
+    /// A seat without the turn, and with no block out, takes a block that its job's task needs, for reading.
+    /// Held exactly where another seat reads it; never for the first seat while no other is out.
+    pub fn read(&mut self, ring: &Ring<W>, job: &Job<W>, u: u64) -> Read<W>
+        requires own { self.old.place.table_id ≡ ring.now.table.shared.table_id }
+        requires idle { (self.old.place.me.0.block ≡ None) × (self.old.place.me.0.turn ≡ None) }
+        requires needs { NeedsBlock W.upto W.first job.now.task u self.old.place.me.0.job }
+        ensures same { self.new.place.table_id ≡ self.old.place.table_id }
+        ensures told { Reads W.upto W.is_rows ring.now.size u self.old.place.me.0 self.new.place.me.0 result }
+    {
+        let words = &ring.table.shared;
+        let i = (u % ring.size + 1 + ring.size) as usize;
+        let home = 4 * u + HOME;
+        let seen = words.load::<SeeBlock<W>>(&mut self.place, i);
+        if seen != home {
+            return Read::Held { word: seen };
+        }
+        let found = words.compare_exchange::<Reading<W>>(&mut self.place, i, home, 4 * u + READING);
+        if found != home {
+            return Read::Held { word: found };
+        }
+        self.block = Some(u);
+        let value = words.exchange(&mut self.place, i, SlotValue::Empty);
+        let SlotValue::Rows(rows) = value else {
+            unreachable!()
+        };
+        Read::Got(rows)
+    }
+
+    /// A seat without the turn puts the block that it reads back, with the same rows.
+    pub fn put_back(&mut self, ring: &Ring<W>, job: &Job<W>, block: W::Rows)
         requires own { self.old.place.table_id ≡ ring.now.table.shared.table_id }
         requires idle { self.old.place.me.0.turn ≡ None }
-        requires has { Has W.is_piece job.task piece self.old.place.me.0.job }
+        requires has { HasJobOf job.now.task self.old.place.me.0.job }
+        requires rows { HasRowsOut W.upto W.is_rows block self.old.place.me.0.job self.old.place.me.0.block }
+        ensures same { self.new.place.table_id ≡ self.old.place.table_id }
+        ensures told { PutsBack ring.now.size self.old.place.me.0 self.new.place.me.0 self.old.place.me.0.block }
+    {
+        let Some(u) = self.block else { unreachable!() };
+        let words = &ring.table.shared;
+        let i = (u % ring.size + 1 + ring.size) as usize;
+        let left = words.exchange(&mut self.place, i, SlotValue::Rows(block));
+        let SlotValue::Empty = left else {
+            unreachable!()
+        };
+        words.store::<Returning>(&mut self.place, i, 4 * u + HOME);
+        self.block = None;
+    }
+
+    /// A seat without the turn, and with no block out, hands in the piece of its job's task, or none: the
+    /// mark of want of memory.
+    pub fn deposit(&mut self, ring: &Ring<W>, job: Job<W>, piece: Option<W::Piece>)
+        requires own { self.old.place.table_id ≡ ring.now.table.shared.table_id }
+        requires idle { (self.old.place.me.0.block ≡ None) × (self.old.place.me.0.turn ≡ None) }
+        requires has { MayDeposit W.is_piece job.task piece self.old.place.me.0.job }
         ensures same { self.new.place.table_id ≡ self.old.place.table_id }
         ensures told { Deposits ring.now.size job.task self.old.place.me.0 self.new.place.me.0 piece }
     {
-        let Job { task: t, rows } = job;
-        drop(rows);
+        let Job { task: t, work: _ } = job;
         let words = &ring.table.shared;
         let i = (t % ring.size) as usize + 1;
         match piece {
@@ -159,10 +233,10 @@ impl<W: Work> Seat<W> {
     /// What its load found done, no other seat can take.
     pub fn take(&mut self, ring: &Ring<W>, turn: &mut Turn<W>) -> Take<W>
         requires own { self.old.place.table_id ≡ ring.now.table.shared.table_id }
-        requires turn { HasTurn turn.old.behind turn.old.state self.old.place.me.0.turn }
+        requires turn { HoldsTurn turn.old.behind turn.old.state self.old.place.me.0.turn }
         ensures same { self.new.place.table_id ≡ self.old.place.table_id }
-        ensures turn { (turn.new.behind ≡ turn.old.behind) × (turn.new.stage ≡ turn.old.stage) × HasTurn turn.new.behind turn.new.state self.new.place.me.0.turn }
-        ensures open { IsTaken result → turn.old.state ≡ Open }
+        ensures turn { (turn.new.behind ≡ turn.old.behind) × (turn.new.stage ≡ turn.old.stage) × HoldsTurn turn.new.behind turn.new.state self.new.place.me.0.turn }
+        ensures open { IsGot result → turn.old.state ≡ Open }
         ensures told { Takes W.upto W.is_piece ring.now.size turn.old.behind turn.old.state self.old.place.me.0 self.new.place.me.0 result }
     {
         let words = &ring.table.shared;
@@ -198,7 +272,7 @@ impl<W: Work> Seat<W> {
     /// for the task that has it next. That one may be filled before the turn is released.
     pub fn give(&mut self, ring: &Ring<W>, turn: &mut Turn<W>)
         requires own { self.old.place.table_id ≡ ring.now.table.shared.table_id }
-        requires turn { HasTurn turn.old.behind turn.old.state self.old.place.me.0.turn × (turn.old.state ≡ TookPiece) }
+        requires turn { HoldsTurn turn.old.behind turn.old.state self.old.place.me.0.turn × (turn.old.state ≡ TookPiece) }
         requires stage { StageAfter W.is_stage (turn.old.behind + 1) turn.old.stage self.old.place.me.0.turn }
         ensures same { self.new.place.table_id ≡ self.old.place.table_id }
         ensures turn { (turn.new.behind ≡ turn.old.behind + 1) × (turn.new.stage ≡ turn.old.stage) × (turn.new.state ≡ Open) }
@@ -216,7 +290,7 @@ impl<W: Work> Seat<W> {
     /// and the turn wasn't won stopped; else it is stopped, and stays so. A stopped task's cell stays taken.
     pub fn release(&mut self, ring: &Ring<W>, turn: Turn<W>)
         requires own { self.old.place.table_id ≡ ring.now.table.shared.table_id }
-        requires turn { HasTurn turn.behind turn.state self.old.place.me.0.turn }
+        requires turn { HoldsTurn turn.behind turn.state self.old.place.me.0.turn }
         requires stage { StageAt W.is_stage turn.behind turn.state turn.stage self.old.place.me.0.turn }
         ensures same { self.new.place.table_id ≡ self.old.place.table_id }
         ensures told { Releases ring.now.size turn.behind self.old.place.me.0 self.new.place.me.0 turn.state }
@@ -248,6 +322,7 @@ impl<W: Work> Seat<W> {
     {
         Seat {
             place: ring.table.shared.split_seat::<Part>(&mut self.place),
+            block: None,
         }
     }
 
@@ -259,7 +334,7 @@ impl<W: Work> Seat<W> {
         ensures same { self.new.place.table_id ≡ self.old.place.table_id }
         ensures told { self.new.place.me.0 ≡ joined self.old.place.me.0 other.place.me.0 }
     {
-        let Seat { place } = other;
+        let Seat { place, block: _ } = other;
         ring.table.shared.join_seat::<Meet>(&mut self.place, place);
     }
 }

@@ -1,10 +1,20 @@
 //! Seats of small rings, stepped by hand.
-ghost use Rattle.std.specs.Prelude.{◌≡◌, ◌+◌, ◌%◌, ◌^◌, [], ◌∷◌, ◌++◌, length, take};
-ghost use Rattle.saber_ring.specs.Numbers.{again, keeps, whole};
+ghost use Rattle.std.specs.Prelude.{◌≡◌, ℕ, Bool, true, false, ◌+◌, ◌-◌, ◌%◌, ◌^◌, ◌≤◌, None, Some, IfOk, List, [], ◌∷◌, ◌++◌, length, take};
+ghost use Rattle.saber_core.specs.Works.{IsPieceOrMark};
+ghost use Rattle.saber_ring.specs.Calls.{HasJobOf, HoldsTurn, StageAt};
+ghost use Rattle.saber_ring.specs.Closing.{IsLast};
+ghost use Rattle.saber_ring.specs.Plays.{without_job};
+ghost use Rattle.saber_ring.specs.Sums.{AreNumbers, IsNumber, IsSum, IsTotal, GoesOnBy, AreFirsts, IsNextTask, FillsSo, HasPut, Keeps, HasWorked, WasRead, EndsInSum};
+ghost use Rattle.saber_ring.specs.Numbers.{again, keeps, whole, early, rises};
 
-use crate::{Claim, Fill, FixedData, Phase, Ring, Take, Turn, Win, phase, turn_of};
+use crate::{
+    BlockPhase, Claim, Fill, FixedData, Frees, Job, Phase, Place, Read, Ring, Seat, Take, Turn,
+    Win, block, phase, turn_of,
+};
 use saber_core::Work;
-use std::collections::LinkedList;
+use std::alloc::AllocError;
+use std::collections::{LinkedList, VecDeque};
+use std::process::Abort;
 use std::test::Fail;
 
 // What a call answers, or a panic.
@@ -12,16 +22,40 @@ macro_rules! put {
     ($rt:ident, $answer:expr) => {
         match $answer {
             Fill::Put => {}
-            Fill::Full { word: _, rows: _ } => panic!($rt; "full"),
+            Fill::Full {
+                place: _,
+                word: _,
+                rows: _,
+            } => panic!($rt; "full"),
         }
     };
 }
 
 macro_rules! full {
-    ($rt:ident, $answer:expr, $word:expr, $rows:expr) => {
+    ($rt:ident, $answer:expr, $place:expr, $word:expr, $rows:expr) => {
         match $answer {
-            Fill::Full { word, rows } => assert_eq!($rt; (word, rows), ($word, $rows)),
+            Fill::Full { place, word, rows } => {
+                assert_eq!($rt; (place, word, rows), ($place, $word, $rows))
+            }
             Fill::Put => panic!($rt; "put"),
+        }
+    };
+}
+
+macro_rules! rows {
+    ($rt:ident, $answer:expr) => {
+        match $answer {
+            Read::Got(rows) => rows,
+            Read::Held { word: _ } => panic!($rt; "read by another"),
+        }
+    };
+}
+
+macro_rules! read_by_another {
+    ($rt:ident, $answer:expr, $word:expr) => {
+        match $answer {
+            Read::Held { word } => assert_eq!($rt; word, $word),
+            Read::Got(_rows) => panic!($rt; "at home"),
         }
     };
 }
@@ -80,7 +114,8 @@ macro_rules! not_yet {
     };
 }
 
-// The rows of a task are a number, its piece is a number too, and the stage adds the pieces up.
+// The rows of a task are a number. A task adds up its own and that of the task before it, and the stage
+// what the tasks add. What is too great stops the stage.
 struct Adding;
 
 impl Work for Adding {
@@ -92,162 +127,350 @@ impl Work for Adding {
 
     type Told = LinkedList<u64>;
 
-    ghost is_told = { λ told d. length told ≡ d };
+    ghost is_told = { AreNumbers };
 
     ghost filled = { λ told rows. told ++ rows ∷ [] };
 
     ghost upto = { λ told k. take k told };
 
-    ghost is_rows = { λ told t rows. Unit {0} };
+    ghost is_rows = { IsNumber };
 
-    ghost is_piece = { λ told t piece. Unit {0} };
+    ghost is_piece = { IsSum };
 
-    ghost is_stage = { λ told k stopped stage. Unit {0} };
+    ghost first = { λ told t. t - 1 };
 
-    ghost keeps = { keeps };
+    ghost is_stage = { IsTotal };
+
+    ghost keeps = { λ told d k rows was now is le. keeps told d k rows was now tt le };
 
     ghost again = { again };
 
     ghost whole = { whole };
+
+    ghost early = { early };
+
+    ghost rises = { rises };
 }
 
 struct Nothing;
 
 impl FixedData<LinkedList<u64>> for Nothing {
-    ghost told = { [] };
+    ghost told = { Some [] };
 }
 
-fn absorb(turn: &mut Turn<Adding>, piece: u64)
-    ensures stage { turn.new.stage ≡ (turn.old.stage + piece) % 2 ^ 64 }
-    ensures rest { (turn.new.behind ≡ turn.old.behind) × (turn.new.state ≡ turn.old.state) }
+// The first tasks that tasks 0, 1 and 2 need.
+fn firsts(rt: &HostRuntime) -> Result<Frees, AllocError>
+    ensures { IfOk result AreFirsts }
 {
-    let stage = turn.stage();
-    *stage = stage.wrapping_add(piece);
+    let mut list = VecDeque::with_capacity(rt.alloc(), 3)?;
+    list.push_back(0)?;
+    list.push_back(0)?;
+    list.push_back(1)?;
+    Ok(Frees { base: 0, list })
+}
+
+// Fills one of the first three tasks.
+fn fill(
+    seat: &mut Seat<Adding>,
+    ring: &Ring<Adding>,
+    t: u64,
+    rows: u64,
+    frees: &Frees,
+) -> Fill<Adding>
+    requires own { seat.old.place.table_id ≡ ring.now.table.shared.table_id }
+    requires idle { seat.old.place.me.0.turn ≡ None }
+    requires next { IsNextTask t seat.old.place.me.0.lead }
+    requires few { t ≤ 2 }
+    requires frees { AreFirsts frees.now }
+    ensures same { seat.new.place.table_id ≡ seat.old.place.table_id }
+    ensures told { FillsSo ring.now.size t rows seat.old.place.me.0 seat.new.place.me.0 result }
+{
+    seat.fill(ring, t, rows, frees)
+}
+
+// Hands in what a task adds, by the two numbers that were read for it, or the mark where that is too great.
+fn hand_in(seat: &mut Seat<Adding>, ring: &Ring<Adding>, job: Job<Adding>, own: u64, back: u64)
+    requires own { seat.old.place.table_id ≡ ring.now.table.shared.table_id }
+    requires idle { (seat.old.place.me.0.block ≡ None) × (seat.old.place.me.0.turn ≡ None) }
+    requires has { HasJobOf job.task seat.old.place.me.0.job }
+    requires mine { WasRead own job.task seat.old.place.me.0.job }
+    requires before { WasRead back (job.task - 1) seat.old.place.me.0.job }
+    ensures same { seat.new.place.table_id ≡ seat.old.place.table_id }
+    ensures told { (mark : Bool) × (w : ℕ) × (seat.new.place.me.0 ≡ without_job seat.old.place.me.0 (job.task % ring.now.size + 1) w job.task mark) }
+{
+    seat.deposit(ring, job, own.checked_add(back));
+}
+
+// Takes a piece up into the stage, if it goes on and the sum fits.
+fn absorb(stage: &mut u64, piece: Option<u64>, goes: bool) -> bool
+    ensures none { piece ≡ None → result ≡ false }
+    ensures stage { (told : List ℕ) (k : ℕ) → IsTotal (take k told) k false stage.old → IsPieceOrMark IsSum told k piece → GoesOnBy told k stage.new result }
+{
+    match piece {
+        None => false,
+        Some(piece) => add(stage, piece, goes),
+    }
+}
+
+// Adds a number, if it fits and is to be added.
+fn add(stage: &mut u64, piece: u64, goes: bool) -> bool
+    ensures added { result ≡ true → stage.new ≡ stage.old + piece }
+    ensures same { result ≡ false → stage.new ≡ stage.old }
+{
+    let Some(sum) = stage.checked_add(piece) else {
+        return false;
+    };
+    if goes {
+        *stage = sum;
+    }
+    goes
+}
+
+// Takes the next piece and absorbs it. True where the stage went on.
+fn take_next(
+    seat: &mut Seat<Adding>,
+    ring: &Ring<Adding>,
+    turn: &mut Turn<Adding>,
+    goes: bool,
+) -> bool
+    requires own { seat.old.place.table_id ≡ ring.now.table.shared.table_id }
+    requires turn { HoldsTurn turn.old.behind turn.old.state seat.old.place.me.0.turn }
+    requires stage { StageAt IsTotal turn.old.behind turn.old.state turn.old.stage seat.old.place.me.0.turn }
+    ensures same { seat.new.place.table_id ≡ seat.old.place.table_id }
+    ensures kept { (seat.new.place.me.0.lead ≡ seat.old.place.me.0.lead) × (seat.new.place.me.0.job ≡ seat.old.place.me.0.job) × (seat.new.place.me.0.block ≡ seat.old.place.me.0.block) }
+    ensures turn { HoldsTurn turn.new.behind turn.new.state seat.new.place.me.0.turn }
+    ensures stage { StageAt IsTotal turn.new.behind turn.new.state turn.new.stage seat.new.place.me.0.turn }
+{
+    match seat.take(ring, turn) {
+        Take::NotYet { word: _ } => false,
+        Take::Got(piece) => {
+            let done = absorb(turn.stage(), piece, goes);
+            if done {
+                seat.give(ring, turn);
+            }
+            done
+        }
+    }
+}
+
+// Ends the ring: the stage has the sum of what the first tasks add.
+fn end(ring: Ring<Adding>, seat: Seat<Adding>) -> u64
+    requires own { seat.place.table_id ≡ ring.table.shared.table_id }
+    requires last { IsLast seat.place.me.0.lead }
+    requires idle { (seat.place.me.0.job ≡ None) × (seat.place.me.0.turn ≡ None) }
+    ensures { EndsInSum result seat.place.me.0.seen seat.place.me.0.lead }
+{
+    ring.finish(seat)
+}
+
+// Fills a task for which there has to be room.
+fn put(
+    rt: &impl Abort,
+    seat: &mut Seat<Adding>,
+    ring: &Ring<Adding>,
+    t: u64,
+    rows: u64,
+    frees: &Frees,
+)
+    requires own { seat.old.place.table_id ≡ ring.now.table.shared.table_id }
+    requires idle { seat.old.place.me.0.turn ≡ None }
+    requires next { IsNextTask t seat.old.place.me.0.lead }
+    requires few { t ≤ 2 }
+    requires frees { AreFirsts frees.now }
+    ensures same { seat.new.place.table_id ≡ seat.old.place.table_id }
+    ensures told { HasPut rows seat.old.place.me.0 seat.new.place.me.0 }
+{
+    put!(rt, fill(seat, ring, t, rows, frees));
+}
+
+// A fill that this word has to hinder.
+fn is_full(
+    rt: &impl Abort,
+    seat: &mut Seat<Adding>,
+    ring: &Ring<Adding>,
+    t: u64,
+    frees: &Frees,
+    at: Place,
+    found: u64,
+)
+    requires own { seat.old.place.table_id ≡ ring.now.table.shared.table_id }
+    requires idle { seat.old.place.me.0.turn ≡ None }
+    requires next { IsNextTask t seat.old.place.me.0.lead }
+    requires few { t ≤ 2 }
+    requires frees { AreFirsts frees.now }
+    ensures same { seat.new.place.table_id ≡ seat.old.place.table_id }
+    ensures kept { Keeps seat.old.place.me.0 seat.new.place.me.0 }
+{
+    full!(rt, fill(seat, ring, t, 50, frees), at, found, 50);
+}
+
+// A claim that this word has to refuse.
+fn is_not_ready(rt: &impl Abort, seat: &mut Seat<Adding>, ring: &Ring<Adding>, t: u64, found: u64)
+    requires own { seat.old.place.table_id ≡ ring.now.table.shared.table_id }
+    requires idle { (seat.old.place.me.0.job ≡ None) × (seat.old.place.me.0.turn ≡ None) }
+    requires few { t ≤ 2 }
+    ensures same { seat.new.place.table_id ≡ seat.old.place.table_id }
+    ensures kept { Keeps seat.old.place.me.0 seat.new.place.me.0 }
+{
+    not!(rt, seat.claim(ring, t), found);
+}
+
+// A turn that another seat has to have.
+fn is_held(rt: &impl Abort, seat: &mut Seat<Adding>, ring: &Ring<Adding>, found: u64)
+    requires own { seat.old.place.table_id ≡ ring.now.table.shared.table_id }
+    requires idle { seat.old.place.me.0.turn ≡ None }
+    ensures same { seat.new.place.table_id ≡ seat.old.place.table_id }
+    ensures kept { Keeps seat.old.place.me.0 seat.new.place.me.0 }
+{
+    held!(rt, seat.win(ring), found);
+}
+
+// Reads what a task needs, and hands in what it adds.
+fn work(rt: &impl Abort, seat: &mut Seat<Adding>, ring: &Ring<Adding>, job: Job<Adding>)
+    requires own { seat.old.place.table_id ≡ ring.now.table.shared.table_id }
+    requires idle { (seat.old.place.me.0.block ≡ None) × (seat.old.place.me.0.turn ≡ None) }
+    requires has { HasJobOf job.task seat.old.place.me.0.job }
+    ensures same { seat.new.place.table_id ≡ seat.old.place.table_id }
+    ensures kept { HasWorked seat.old.place.me.0 seat.new.place.me.0 }
+{
+    let t = job.task();
+    let own = rows!(rt, seat.read(ring, &job, t));
+    seat.put_back(ring, &job, own);
+    let back = rows!(rt, seat.read(ring, &job, t.saturating_sub(1)));
+    seat.put_back(ring, &job, back);
+    hand_in(seat, ring, job, own, back);
+}
+
+// Wins the turn, takes the next piece, and releases the turn. True where the stage went on.
+fn advance(rt: &impl Abort, seat: &mut Seat<Adding>, ring: &Ring<Adding>, goes: bool) -> bool
+    requires own { seat.old.place.table_id ≡ ring.now.table.shared.table_id }
+    requires idle { seat.old.place.me.0.turn ≡ None }
+    ensures same { seat.new.place.table_id ≡ seat.old.place.table_id }
+    ensures kept { Keeps seat.old.place.me.0 seat.new.place.me.0 }
+{
+    let mut turn = turn!(rt, seat.win(ring));
+    let done = take_next(seat, ring, &mut turn, goes);
+    seat.release(ring, turn);
+    done
 }
 
 #[test]
 fn one_cell_goes_round(rt: HostRuntime) -> Result<(), Fail> {
-    let made = Ring::<Adding>::new::<Nothing>(rt.alloc(), 1, 100);
+    let frees = firsts(&rt)?;
+    let made = Ring::<Adding>::new::<Nothing>(rt.alloc(), 1, 0);
     let Ok((ring, mut s)) = made else {
         panic!(rt; "no memory")
     };
     let mut u = s.split(&ring);
-    put!(rt, s.fill(&ring, 0, 7));
-    full!(rt, s.fill(&ring, 1, 8), 2, 8);
+    put(&rt, &mut s, &ring, 0, 7, &frees);
+    is_full(&rt, &mut s, &ring, 1, &frees, Place::Cell, 2);
     let job = job!(rt, s.claim(&ring, 0));
-    assert_eq!(rt; (job.task(), *job.rows()), (0, 7));
-    not!(rt, u.claim(&ring, 0), 3);
+    assert_eq!(rt; job.task(), 0);
+    is_not_ready(&rt, &mut u, &ring, 0, 3);
     let mut turn = turn!(rt, u.win(&ring));
-    held!(rt, s.win(&ring), 1);
+    is_held(&rt, &mut s, &ring, 1);
     not_yet!(rt, u.take(&ring, &mut turn), 3);
     u.release(&ring, turn);
-    s.deposit(&ring, job, Some(9));
-    let mut turn = turn!(rt, s.win(&ring));
-    assert_eq!(rt; piece!(rt, s.take(&ring, &mut turn)), Some(9));
-    assert!(rt; turn.is_stopped());
-    absorb(&mut turn, 9);
-    s.give(&ring, &mut turn);
-    assert_eq!(rt; turn.behind(), 1);
-    s.release(&ring, turn);
-    not!(rt, s.claim(&ring, 0), 8);
+    work(&rt, &mut s, &ring, job);
+    assert!(rt; advance(&rt, &mut s, &ring, true));
+    is_not_ready(&rt, &mut s, &ring, 0, 8);
     let turn = turn!(rt, u.win(&ring));
-    held!(rt, s.win(&ring), 3);
+    assert_eq!(rt; (turn.behind(), turn.is_stopped()), (1, false));
+    is_held(&rt, &mut s, &ring, 3);
     u.release(&ring, turn);
+    // Task 1 needs the rows of task 0, which lie where its own have to.
+    is_full(&rt, &mut s, &ring, 1, &frees, Place::Turn, 2);
     s.join(&ring, u);
-    assert_eq!(rt; ring.finish(s), 109);
+    assert_eq!(rt; end(ring, s), 14);
     Ok(())
 }
 
 #[test]
-fn a_stop_stays(rt: HostRuntime) -> Result<(), Fail> {
-    let made = Ring::<Adding>::new::<Nothing>(rt.alloc(), 1, 100);
+fn a_mark_stops_for_good(rt: HostRuntime) -> Result<(), Fail> {
+    let frees = firsts(&rt)?;
+    let made = Ring::<Adding>::new::<Nothing>(rt.alloc(), 1, 0);
     let Ok((ring, mut s)) = made else {
         panic!(rt; "no memory")
     };
-    put!(rt, s.fill(&ring, 0, 7));
+    put(&rt, &mut s, &ring, 0, 7, &frees);
     let job = job!(rt, s.claim(&ring, 0));
     s.deposit(&ring, job, None);
     let mut turn = turn!(rt, s.win(&ring));
-    assert_eq!(rt; piece!(rt, s.take(&ring, &mut turn)), None);
+    assert!(rt; !take_next(&mut s, &ring, &mut turn, true));
+    assert!(rt; turn.is_stopped());
     s.release(&ring, turn);
-    not!(rt, s.claim(&ring, 0), 7);
-    full!(rt, s.fill(&ring, 1, 8), 7, 8);
+    is_not_ready(&rt, &mut s, &ring, 0, 7);
+    is_full(&rt, &mut s, &ring, 1, &frees, Place::Cell, 7);
     let mut turn = turn!(rt, s.win(&ring));
     assert!(rt; turn.is_stopped());
     not_yet!(rt, s.take(&ring, &mut turn), 7);
     s.release(&ring, turn);
-    assert_eq!(rt; ring.finish(s), 100);
+    assert_eq!(rt; end(ring, s), 0);
     Ok(())
 }
 
 #[test]
-fn a_stop_after_a_piece_leaves_its_cell_taken(rt: HostRuntime) -> Result<(), Fail> {
-    let made = Ring::<Adding>::new::<Nothing>(rt.alloc(), 2, 100);
-    let Ok((ring, mut s)) = made else {
-        panic!(rt; "no memory")
-    };
-    put!(rt, s.fill(&ring, 0, 7));
-    put!(rt, s.fill(&ring, 1, 8));
-    let job = job!(rt, s.claim(&ring, 0));
-    s.deposit(&ring, job, Some(7));
-    let mut turn = turn!(rt, s.win(&ring));
-    assert_eq!(rt; piece!(rt, s.take(&ring, &mut turn)), Some(7));
-    s.release(&ring, turn);
-    full!(rt, s.fill(&ring, 2, 9), 5, 9);
-    assert_eq!(rt; ring.finish(s), 100);
-    Ok(())
-}
-
-#[test]
-fn two_seats_take_turns_and_the_last_finishes_alone(rt: HostRuntime) -> Result<(), Fail> {
+fn three_seats_add_up_and_stop(rt: HostRuntime) -> Result<(), Fail> {
+    let frees = firsts(&rt)?;
     let made = Ring::<Adding>::new::<Nothing>(rt.alloc(), 2, 0);
     let Ok((ring, mut s)) = made else {
         panic!(rt; "no memory")
     };
     let mut u = s.split(&ring);
-    put!(rt, s.fill(&ring, 0, 30));
-    put!(rt, s.fill(&ring, 1, 40));
-    full!(rt, s.fill(&ring, 2, 50), 2, 50);
-    let first = job!(rt, u.claim(&ring, 0));
-    let second = job!(rt, s.claim(&ring, 1));
-    let rows = *second.rows();
-    s.deposit(&ring, second, Some(rows));
-    let mut turn = turn!(rt, s.win(&ring));
-    not_yet!(rt, s.take(&ring, &mut turn), 3);
-    s.release(&ring, turn);
-    let rows = *first.rows();
-    u.deposit(&ring, first, Some(rows));
-    let mut turn = turn!(rt, u.win(&ring));
-    let taken = piece!(rt, u.take(&ring, &mut turn));
-    let Some(piece) = taken else {
-        panic!(rt; "the mark")
-    };
-    absorb(&mut turn, piece);
-    u.give(&ring, &mut turn);
-    // The cell that was given back is filled before the turn is released.
-    put!(rt, s.fill(&ring, 2, 50));
-    let taken = piece!(rt, u.take(&ring, &mut turn));
-    let Some(piece) = taken else {
-        panic!(rt; "the mark")
-    };
-    absorb(&mut turn, piece);
-    u.give(&ring, &mut turn);
-    not_yet!(rt, u.take(&ring, &mut turn), 18);
-    u.release(&ring, turn);
+    let mut w = s.split(&ring);
+    put(&rt, &mut s, &ring, 0, 30, &frees);
+    put(&rt, &mut s, &ring, 1, 40, &frees);
+    is_full(&rt, &mut s, &ring, 2, &frees, Place::Cell, 2);
+    let first = job!(rt, w.claim(&ring, 0));
+    let second = job!(rt, u.claim(&ring, 1));
+    let own = rows!(rt, w.read(&ring, &first, 0));
+    read_by_another!(rt, u.read(&ring, &second, 0), 3);
+    w.put_back(&ring, &first, own);
+    work(&rt, &mut w, &ring, first);
+    // The stage takes task 0 while its block is out with the reader of task 1.
+    let back = rows!(rt, u.read(&ring, &second, 0));
+    let mut turn = turn!(rt, w.win(&ring));
+    is_held(&rt, &mut s, &ring, 1);
+    assert!(rt; take_next(&mut w, &ring, &mut turn, true));
+    // The cell is idle for task 2, and the word of the turn shows no task assembled yet.
+    is_full(&rt, &mut s, &ring, 2, &frees, Place::Turn, 1);
+    w.release(&ring, turn);
+    // Task 1 isn't assembled, and needs block 0, which lies where block 2 has to.
+    is_full(&rt, &mut s, &ring, 2, &frees, Place::Turn, 2);
+    u.put_back(&ring, &second, back);
+    work(&rt, &mut u, &ring, second);
+    assert!(rt; advance(&rt, &mut u, &ring, true));
+    put(&rt, &mut s, &ring, 2, 50, &frees);
     s.join(&ring, u);
-    let third = job!(rt, s.claim(&ring, 2));
-    let rows = *third.rows();
-    s.deposit(&ring, third, Some(rows));
-    let mut turn = turn!(rt, s.win(&ring));
-    assert_eq!(rt; turn.behind(), 2);
-    let taken = piece!(rt, s.take(&ring, &mut turn));
-    let Some(piece) = taken else {
-        panic!(rt; "the mark")
+    s.join(&ring, w);
+    // The last seat does what is left, and stops the stage there.
+    let last = job!(rt, s.claim(&ring, 2));
+    work(&rt, &mut s, &ring, last);
+    assert!(rt; !advance(&rt, &mut s, &ring, false));
+    assert_eq!(rt; end(ring, s), 130);
+    Ok(())
+}
+
+#[test]
+fn a_stop_comes_with_a_reader_out(rt: HostRuntime) -> Result<(), Fail> {
+    let frees = firsts(&rt)?;
+    let made = Ring::<Adding>::new::<Nothing>(rt.alloc(), 2, 0);
+    let Ok((ring, mut s)) = made else {
+        panic!(rt; "no memory")
     };
-    absorb(&mut turn, piece);
-    s.give(&ring, &mut turn);
-    s.release(&ring, turn);
-    assert_eq!(rt; ring.finish(s), 120);
+    let mut u = s.split(&ring);
+    put(&rt, &mut s, &ring, 0, 30, &frees);
+    put(&rt, &mut s, &ring, 1, 40, &frees);
+    let first = job!(rt, s.claim(&ring, 0));
+    let second = job!(rt, u.claim(&ring, 1));
+    let back = rows!(rt, u.read(&ring, &second, 0));
+    s.deposit(&ring, first, None);
+    assert!(rt; !advance(&rt, &mut s, &ring, true));
+    u.put_back(&ring, &second, back);
+    work(&rt, &mut u, &ring, second);
+    is_full(&rt, &mut s, &ring, 2, &frees, Place::Cell, 7);
+    s.join(&ring, u);
+    assert_eq!(rt; end(ring, s), 0);
     Ok(())
 }
 
@@ -265,6 +488,15 @@ fn words_are_read(rt: HostRuntime) -> Result<(), Fail> {
     ];
     for (word, at, task) in cells {
         assert_eq!(rt; phase(word), (at, task));
+    }
+    let blocks = [
+        (4, BlockPhase::Empty, 1),
+        (9, BlockPhase::Filling, 2),
+        (10, BlockPhase::Home, 2),
+        (3, BlockPhase::Reading, 0),
+    ];
+    for (word, at, number) in blocks {
+        assert_eq!(rt; block(word), (at, number));
     }
     let turns = [
         (0, 0, false),

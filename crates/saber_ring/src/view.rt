@@ -6,8 +6,8 @@ use std::collections::LinkedList;
 use std::marker::PhantomData;
 use std::snapshot::Snapshot;
 
-/// What a slot holds while it is at home. The first slot is for the stage. A cell has one slot for the
-/// rows and the piece of its task, since there are never both.
+/// What a slot holds while it is at home. The first slot is for the stage. A cell has a slot for the piece
+/// of its task, and a block one for its rows.
 pub enum SlotValue<R, P, S> {
     Empty,
     Rows(R),
@@ -46,6 +46,16 @@ pub struct HeldTask<T> {
     pub told: T,
 }
 
+/// How far the first seat is with the block of the next task.
+pub enum FillState<T> {
+    /// It has none: so at the start and the end of each call.
+    Waiting,
+    /// It has the block, and puts the rows in.
+    Begun,
+    /// The block is at home with the rows: the data of all tasks with this one.
+    Stored(T),
+}
+
 /// What the first seat knows beside. Only the first seat fills, splits and joins.
 pub struct Lead<T> {
     /// The data of all tasks that are filled.
@@ -54,8 +64,8 @@ pub struct Lead<T> {
     pub filled: u64,
     /// The number of other seats that are out.
     pub out: u64,
-    /// The rows of the next task are being put in: only within a fill.
-    pub filling: bool,
+    /// The block that is being filled: only within a fill.
+    pub fill: FillState<T>,
 }
 
 /// One of a seat's own steps: on which word, what it found there (a store: what it stored), and its
@@ -89,9 +99,11 @@ pub struct View<T> {
     pub saw: OwnStep,
     /// The own step before that.
     pub before: OwnStep,
-    /// The last own step of a claim that was refused.
+    /// The last own step of a claim or a read that was refused.
     pub missed: OwnStep,
     pub job: Option<HeldTask<T>>,
+    /// The block that it has out for reading, by its number.
+    pub block: Option<u64>,
     pub turn: Option<HeldTurn<T>>,
     /// All that this seat, and the seats that it took in, did.
     pub own: LinkedList<Entry>,
@@ -113,7 +125,7 @@ impl<W: Work> TableRule<SlotValue<W::Rows, W::Piece, W::Stage>, View<W::Told>, R
     for RingRule<W> {
     ghost use Rattle.saber_ring.specs.Shows.{Shows, first_view};
 
-    ghost holds = { λ key. Shows W.is_told W.upto W.is_rows W.is_piece W.is_stage key.size };
+    ghost holds = { λ key. Shows W.is_told W.upto W.first W.is_rows W.is_piece W.is_stage key.size };
 
     ghost first = { λ key. first_view key.told.value.me.0 };
 }

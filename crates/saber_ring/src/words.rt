@@ -1,9 +1,9 @@
 //! How the words of a ring are read. A word comes with a refusal, or from another thread.
 ghost use Rattle.std.specs.Prelude.{◌≡◌, ◌+◌, ◌*◌, ◌%◌, ◌==◌};
 ghost use Rattle.saber_ring.specs.Plays.{turn_behind};
-ghost use Rattle.saber_ring.specs.Readings.{phase_number};
+ghost use Rattle.saber_ring.specs.Readings.{block_phase_number, phase_number};
 
-use crate::phases::Phase;
+use crate::phases::{BlockPhase, Phase};
 
 /// The phase that the word of a cell shows, and the number of the task that the cell is for.
 pub fn phase(word: u64) -> (Phase, u64)
@@ -20,6 +20,19 @@ pub fn phase(word: u64) -> (Phase, u64)
         _ => Phase::Gone,
     };
     (phase, word / 8)
+}
+
+/// The phase that the word of a block shows, and the number of the block.
+pub fn block(word: u64) -> (BlockPhase, u64)
+    ensures { word ≡ 4 * result.1 + block_phase_number result.0 }
+{
+    let phase = match word % 4 {
+        0 => BlockPhase::Empty,
+        1 => BlockPhase::Filling,
+        2 => BlockPhase::Home,
+        _ => BlockPhase::Reading,
+    };
+    (phase, word / 4)
 }
 
 /// How many tasks the word of the turn shows as assembled, and whether the turn is held.

@@ -2,4 +2,4 @@ use Rattle.saber_ring.proofs.NoEvents.{look_law}
 use Rattle.saber_ring.proofs.laws.a_look_is_no_event.Goals as goal
 
 pub returns : goal.returns
-returns g c = look_law g.W.Work.is_told g.W.Work.upto g.W.Work.is_rows g.W.Work.is_piece g.W.Work.is_stage
+returns g c = look_law g.W.Work.is_told g.W.Work.upto g.W.Work.first g.W.Work.is_rows g.W.Work.is_piece g.W.Work.is_stage

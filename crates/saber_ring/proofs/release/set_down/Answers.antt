@@ -13,7 +13,7 @@ store-requires g c = let z = c.args.ring.now.sized in let v = c.args.place.now.m
     let h = set_turn g.W.Work.is_stage c.args.k c.args.state c.args.stage v.0.turn c.requires.turn in (
       search rules,
       omega arith,
-      releases_turn g.W.Work.is_told g.W.Work.upto g.W.Work.is_rows g.W.Work.is_piece g.W.Work.is_stage _ _ _ _ _ h.0 c.args.stage (c.free_word-word.ensures ∙ h.2) (ap (λ m. m.0.turn) x.3 ∙ h.1) (λ e. c.requires.emptied (sym h.3 ∙ e)) h.4
+      releases_turn g.W.Work.is_told g.W.Work.upto g.W.Work.first g.W.Work.is_rows g.W.Work.is_piece g.W.Work.is_stage _ g.W.Work.rises _ _ _ _ h.0 c.args.stage (c.free_word-word.ensures ∙ h.2) (ap (λ m. m.0.turn) x.3 ∙ h.1) (λ e. c.requires.emptied (sym h.3 ∙ e)) h.4
           (first_now v _ _ _ (Stage c.args.stage) _ x.3) (ap (λ m. live m.0.base) x.3 ∙ c.requires.alive),
     )
 

@@ -12,14 +12,14 @@ pub load-seen-requires : goal.load-seen-requires
 load-seen-requires g c = let z = c.args.ring.now.sized in let h = its_turn c.args.turn.now.behind c.args.turn.now.state c.args.self.now.place.me.0.turn c.requires.turn in (
   search rules,
   first_of (search rules, omega arith),
-  looks_for_piece g.W.Work.is_told g.W.Work.upto g.W.Work.is_rows g.W.Work.is_piece g.W.Work.is_stage _ _ _ _ _ h.0 (λ i. sym h.2 i % sym z.2 i + 1) h.1,
+  looks_for_piece g.W.Work.is_told g.W.Work.upto g.W.Work.first g.W.Work.is_rows g.W.Work.is_piece g.W.Work.is_stage _ _ _ _ _ h.0 (λ i. sym h.2 i % sym z.2 i + 1) h.1,
 )
 
 pub compare_exchange-found-requires : goal.compare_exchange-found-requires
 compare_exchange-found-requires g c = let z = c.args.ring.now.sized in let v = c.args.self.now.place.me in let k : ℕ = c.args.turn.now.behind in let h = its_turn k c.args.turn.now.state v.0.turn c.requires.turn in let e = c.load-seen.ensures in (
   search rules,
   first_of (search rules, omega arith),
-  takes_done g.W.Work.is_told g.W.Work.upto g.W.Work.is_rows g.W.Work.is_piece g.W.Work.is_stage _ g.W.Work.again _ _ _ _ _ _ h.0 (λ i. sym h.2 i % sym z.2 i + 1) (c.if-seen-k.true ∙ ap (λ (y : ℕ). 8 * y + 4) (sym h.2)) (let q = h.2 in omega arith) (ap (λ m. m.0.turn) e.2.0 ∙ h.1)
+  takes_done g.W.Work.is_told g.W.Work.upto g.W.Work.first g.W.Work.is_rows g.W.Work.is_piece g.W.Work.is_stage _ g.W.Work.again _ _ _ _ _ _ h.0 (λ i. sym h.2 i % sym z.2 i + 1) (c.if-seen-k.true ∙ ap (λ (y : ℕ). 8 * y + 4) (sym h.2)) (let q = h.2 in omega arith) (ap (λ m. m.0.turn) e.2.0 ∙ h.1)
       (ap (λ m. live m.0.base) e.2.0 ∙ c.args.self.now.alive),
 )
 
@@ -32,7 +32,7 @@ pub compare_exchange-found-requires-then-seen-k-2 : goal.compare_exchange-found-
 compare_exchange-found-requires-then-seen-k-2 g c = let z = c.args.ring.now.sized in let v = c.args.self.now.place.me in let k : ℕ = c.args.turn.now.behind in let h = its_turn k c.args.turn.now.state v.0.turn c.requires.turn in let e = c.load-seen.ensures in (
   search rules,
   first_of (search rules, omega arith),
-  takes_mark g.W.Work.is_told g.W.Work.upto g.W.Work.is_rows g.W.Work.is_piece g.W.Work.is_stage _ g.W.Work.again _ _ _ _ _ _ h.0 (λ i. sym h.2 i % sym z.2 i + 1) (c.if-seen-k-2.true ∙ ap (λ (y : ℕ). 8 * y + 6) (sym h.2)) (let q = h.2 in omega arith) (ap (λ m. m.0.turn) e.2.0 ∙ h.1)
+  takes_mark g.W.Work.is_told g.W.Work.upto g.W.Work.first g.W.Work.is_rows g.W.Work.is_piece g.W.Work.is_stage _ g.W.Work.again _ _ _ _ _ _ h.0 (λ i. sym h.2 i % sym z.2 i + 1) (c.if-seen-k-2.true ∙ ap (λ (y : ℕ). 8 * y + 6) (sym h.2)) (let q = h.2 in omega arith) (ap (λ m. m.0.turn) e.2.0 ∙ h.1)
       (ap (λ m. live m.0.base) e.2.0 ∙ c.args.self.now.alive),
 )
 

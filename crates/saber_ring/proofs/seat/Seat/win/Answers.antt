@@ -12,14 +12,14 @@ pub load-seen-requires : goal.load-seen-requires
 load-seen-requires g c = let z = c.args.ring.now.sized in (
   search rules,
   omega arith,
-  sees_the_turn g.W.Work.is_told g.W.Work.upto g.W.Work.is_rows g.W.Work.is_piece g.W.Work.is_stage _ _ _ _,
+  sees_the_turn g.W.Work.is_told g.W.Work.upto g.W.Work.first g.W.Work.is_rows g.W.Work.is_piece g.W.Work.is_stage _ _ _ _,
 )
 
 pub compare_exchange-found-requires : goal.compare_exchange-found-requires
 compare_exchange-found-requires g c = let z = c.args.ring.now.sized in let e = c.load-seen.ensures in (
   search rules,
   omega arith,
-  wins_turn g.W.Work.is_told g.W.Work.upto g.W.Work.is_rows g.W.Work.is_piece g.W.Work.is_stage _ g.W.Work.again _ _ _ _ _ c.if-seen-ne0.false refl (ap (λ m. live m.0.base) e.2.0 ∙ c.args.self.now.alive),
+  wins_turn g.W.Work.is_told g.W.Work.upto g.W.Work.first g.W.Work.is_rows g.W.Work.is_piece g.W.Work.is_stage _ g.W.Work.again _ _ _ _ _ c.if-seen-ne0.false refl (ap (λ m. live m.0.base) e.2.0 ∙ c.args.self.now.alive),
 )
 
 pub exchange-home-requires : goal.exchange-home-requires
