@@ -1,0 +1,5 @@
+pub mod Supplies
+pub mod Feeds
+pub mod Spares
+pub mod Runs
+pub mod Notes

@@ -1,0 +1,207 @@
+//! Threads round the first seat.
+ghost use Rattle.std.specs.Prelude.{◌≡◌, ◌^◌, ◌≤◌, true, None, Option, IsSome};
+ghost use Rattle.atomic_table.specs.Seated.{TableId};
+ghost use Rattle.std.specs.Thread.{IsSync};
+ghost use Rattle.saber_ring.specs.Words.{view, table, table_of};
+ghost use Rattle.saber_ring.specs.Seats.{parting};
+ghost use Rattle.saber_workers.specs.Seats.{IsFree, OfBase};
+ghost use Rattle.saber_crew.specs.Spares.{CanHelp, IsSpare, Rejoins};
+ghost use Rattle.saber_crew.specs.Feeds.{BeginsFeed, FedTo};
+
+use crate::feed::{Fed, Over, feed};
+use crate::supply::Supply;
+use saber_core::Work;
+use saber_io::Gate;
+use saber_ring::{Ring, Seat};
+use saber_workers::{Hand, Labor, finish_hand, work_lent};
+use std::alloc::Global;
+use std::sync::Wait;
+use std::sync::atomic::{AtomicBool, Ordering};
+use std::thread::{Threads, join_mut};
+
+// The caller's own part: fills the ring, sets `stop`, and hands in what it still has in hand.
+fn lead<W: Work, L: Labor<W>, G: Gate, P: Supply<W>, R: Wait>(
+    rt: &R,
+    alloc: Global,
+    seat: &mut Seat<W>,
+    ring: &Ring<W>,
+    op: &L,
+    gate: &G,
+    stop: &AtomicBool,
+    supply: &mut P,
+    from: &mut P::From,
+) -> Fed
+where
+    W::Rows: Drop,
+    requires own { table seat.old ≡ table_of ring.now }
+    requires free { IsFree (view seat.old) }
+    requires none { (view seat.old).job ≡ None }
+    requires suits { OfBase (L.suits op.now) (view seat.old).base }
+    requires begins { BeginsFeed W.is_told W.upto (P.has_given supply.old from.old) (view seat.old).lead }
+    ensures same { table seat.new ≡ table seat.old }
+    ensures base { (view seat.new).base ≡ (view seat.old).base }
+    ensures free { IsFree (view seat.new) }
+    ensures none { (view seat.new).job ≡ None }
+    ensures fed { FedTo W.is_told W.upto (P.has_given supply.new from.new) (P.is_over supply.new) result (view seat.old).lead (view seat.new).lead }
+    ensures few { result.tasks ≤ 2 ^ 42 }
+    ensures stops { result.over ≡ Over.Stopped → (view seat.new).stopped ≡ true }
+{
+    let mut hand = Hand::new(0);
+    let fed = feed(
+        rt, alloc, seat, ring, op, gate, stop, supply, from, &mut hand,
+    );
+    stop.store(true, Ordering::SeqCst);
+    finish_hand(rt, alloc, seat, ring, op, gate, hand);
+    fed
+}
+
+/// A seat as a thread has it: of a ring, over fixed data, without job, turn and block. One join of two that
+/// lends two seats of one type is not understood by the borrow checker, so it is lent as what this says.
+pub(crate) trait Spare<W: Work>: Send {
+    // Of this ring, with such fixed data.
+    ghost is_spare: { Self → TableId → Option W.Told → Type 0 };
+
+    /// A new one, beside the first seat.
+    fn part(seat: &mut Seat<W>, ring: &Ring<W>) -> Self
+        requires own { table seat.old ≡ table_of ring.now }
+        requires lead { IsSome (view seat.old).lead }
+        ensures same { table seat.new ≡ table seat.old }
+        ensures told { view seat.new ≡ parting (view seat.old) }
+        ensures spare { is_spare result (table_of ring.now) (view seat.old).base };
+
+    /// Turns of work until `stop` is set.
+    fn help<L: Labor<W>, G: Gate, R: Wait>(
+        &mut self,
+        rt: &R,
+        alloc: Global,
+        ring: &Ring<W>,
+        op: &L,
+        gate: &G,
+        stop: &AtomicBool,
+    )
+        requires { CanHelp (is_spare self.old (table_of ring.now)) (L.suits op.now) }
+        ensures { (base : Option W.Told) → is_spare self.old (table_of ring.now) base → is_spare self.new (table_of ring.now) base };
+
+    /// The first seat takes it in.
+    fn rejoin(self, seat: &mut Seat<W>, ring: &Ring<W>)
+        requires own { table seat.old ≡ table_of ring.now }
+        requires lead { IsSome (view seat.old).lead }
+        requires spare { (base : Option W.Told) × is_spare self (table_of ring.now) base }
+        ensures same { table seat.new ≡ table seat.old }
+        ensures told { Rejoins (view seat.old) (view seat.new) };
+}
+
+impl<W: Work + Send + Sync> Spare<W> for Seat<W>
+where
+    W::Rows: Send,
+    W::Piece: Send,
+    W::Stage: Send,
+{
+    ghost is_spare = { λ s t base. IsSpare (table s) (view s) t base };
+
+    fn part(seat: &mut Seat<W>, ring: &Ring<W>) -> Seat<W>
+        requires own { table seat.old ≡ table_of ring.now }
+        requires lead { IsSome (view seat.old).lead }
+        ensures same { table seat.new ≡ table seat.old }
+        ensures told { view seat.new ≡ parting (view seat.old) }
+        ensures spare { IsSpare (table result) (view result) (table_of ring.now) (view seat.old).base }
+    {
+        seat.split(ring)
+    }
+
+    fn help<L: Labor<W>, G: Gate, R: Wait>(
+        &mut self,
+        rt: &R,
+        alloc: Global,
+        ring: &Ring<W>,
+        op: &L,
+        gate: &G,
+        stop: &AtomicBool,
+    )
+        requires { CanHelp (IsSpare (table self.old) (view self.old) (table_of ring.now)) (L.suits op.now) }
+        ensures { (base : Option W.Told) → IsSpare (table self.old) (view self.old) (table_of ring.now) base → IsSpare (table self.new) (view self.new) (table_of ring.now) base }
+    {
+        work_lent(rt, alloc, ring, self, op, gate, stop);
+    }
+
+    fn rejoin(self, seat: &mut Seat<W>, ring: &Ring<W>)
+        requires own { table seat.old ≡ table_of ring.now }
+        requires lead { IsSome (view seat.old).lead }
+        requires spare { (base : Option W.Told) × IsSpare (table self) (view self) (table_of ring.now) base }
+        ensures same { table seat.new ≡ table seat.old }
+        ensures told { Rejoins (view seat.old) (view seat.new) }
+    {
+        seat.join(ring, self);
+    }
+}
+
+/// Starts so many threads, fills the ring, sets `stop`, and takes the threads' seats in. Where a thread
+/// can't be made, its part comes last, and ends at once.
+pub(crate) fn crew<
+    W: Work + Send + Sync,
+    L: Labor<W> + Sync,
+    G: Gate + Sync,
+    P: Supply<W>,
+    T: Spare<W>,
+    R: Threads + Wait + Sync,
+>(
+    rt: &R,
+    threads: u32,
+    alloc: &Global,
+    seat: &mut Seat<W>,
+    ring: &Ring<W>,
+    op: &L,
+    gate: &G,
+    stop: &AtomicBool,
+    supply: &mut P,
+    from: &mut P::From,
+) -> Fed
+where
+    W::Rows: Drop + Send,
+    W::Piece: Send,
+    W::Stage: Send,
+    L::Draft: Send,
+    requires own { table seat.old ≡ table_of ring.now }
+    requires free { IsFree (view seat.old) }
+    requires none { (view seat.old).job ≡ None }
+    requires suits { OfBase (L.suits op.now) (view seat.old).base }
+    requires begins { BeginsFeed W.is_told W.upto (P.has_given supply.old from.old) (view seat.old).lead }
+    ensures same { table seat.new ≡ table seat.old }
+    ensures base { (view seat.new).base ≡ (view seat.old).base }
+    ensures free { IsFree (view seat.new) }
+    ensures none { (view seat.new).job ≡ None }
+    ensures fed { FedTo W.is_told W.upto (P.has_given supply.new from.new) (P.is_over supply.new) result (view seat.old).lead (view seat.new).lead }
+    ensures few { result.tasks ≤ 2 ^ 42 }
+    ensures stops { result.over ≡ Over.Stopped → (view seat.new).stopped ≡ true }
+{
+    if threads == 0 {
+        return lead(rt, *alloc, seat, ring, op, gate, stop, supply, from);
+    }
+    let less = threads - 1;
+    let mut theirs = T::part(seat, ring);
+    let (_, fed) = join_mut(
+        rt,
+        &mut || -> ()
+            requires sync { IsSync R.row }
+            requires spare { CanHelp (T.is_spare theirs (table_of ring.now)) (L.suits op.now) }
+            ensures spare { (base : Option W.Told) → T.is_spare theirs.entry (table_of ring.entry.now) base → T.is_spare theirs.exit (table_of ring.entry.now) base }
+        { theirs.help(rt, *alloc, ring, op, gate, stop) },
+        &mut || -> Fed
+            requires sync { IsSync R.row }
+            requires own { table seat.now ≡ table_of ring.now }
+            requires free { IsFree (view seat.now) }
+            requires none { (view seat.now).job ≡ None }
+            requires suits { OfBase (L.suits op.now) (view seat.now).base }
+            requires begins { BeginsFeed W.is_told W.upto (P.has_given supply.now from.now) (view seat.now).lead }
+            ensures same { table seat.exit.now ≡ table seat.entry.now }
+            ensures base { (view seat.exit.now).base ≡ (view seat.entry.now).base }
+            ensures free { IsFree (view seat.exit.now) }
+            ensures none { (view seat.exit.now).job ≡ None }
+            ensures fed { FedTo W.is_told W.upto (P.has_given supply.exit.now from.exit.now) (P.is_over supply.exit.now) result (view seat.entry.now).lead (view seat.exit.now).lead }
+            ensures few { result.tasks ≤ 2 ^ 42 }
+            ensures stops { result.over ≡ Over.Stopped → (view seat.exit.now).stopped ≡ true }
+        { crew::<W, L, G, P, T, R>(rt, less, alloc, seat, ring, op, gate, stop, supply, from) },
+    );
+    theirs.rejoin(seat, ring);
+    fed
+}

@@ -1,0 +1,175 @@
+//! The first seat fills the ring.
+ghost use Rattle.std.specs.Prelude.{◌≡◌, ◌≢◌, ◌^◌, ◌<◌, ◌≤◌, ℕ, ◌+◌, true, false, None, length, IfSome};
+ghost use Rattle.saber_ring.specs.Calls.{FillsNext, Covers};
+ghost use Rattle.saber_ring.specs.Words.{view, table, table_of};
+ghost use Rattle.saber_workers.specs.Seats.{IsFree, OfBase};
+ghost use Rattle.saber_workers.specs.Hands.{IsInHand};
+ghost use Rattle.saber_crew.specs.Feeds.{Puts, BeginsFeed, FedTo};
+
+use crate::supply::Supply;
+use saber_core::Work;
+use saber_io::Gate;
+use saber_ring::{Fill, Frees, Ring, Seat};
+use saber_workers::{Hand, Labor, turn_of_work};
+use std::alloc::Global;
+use std::collections::VecDeque;
+use std::sync::Wait;
+use std::sync::atomic::{AtomicBool, Ordering};
+use std::thread::yield_now;
+
+/// Why no more tasks were filled.
+#[derive(Clone, Copy, Debug, PartialEq, Eq)]
+pub enum Over {
+    /// None was left, or none could be given.
+    AllGiven,
+    /// The stage is stopped.
+    Stopped,
+    /// Memory lacked.
+    NoMemory,
+}
+
+/// How many tasks were filled, and why no more.
+#[derive(Clone, Copy, Debug, PartialEq, Eq)]
+pub struct Fed {
+    pub tasks: u64,
+    pub over: Over,
+}
+
+// Fills task t if the ring has room and no stop is set; else the rows come back.
+fn offer<W: Work>(
+    seat: &mut Seat<W>,
+    ring: &Ring<W>,
+    stop: &AtomicBool,
+    t: u64,
+    rows: W::Rows,
+    frees: &Frees,
+) -> Option<W::Rows>
+where
+    W::Rows: Drop,
+    requires own { table seat.old ≡ table_of ring.now }
+    requires free { IsFree (view seat.old) }
+    requires next { FillsNext W.is_told W.filled W.is_rows t rows (view seat.old).lead }
+    requires below { t < 2 ^ 42 }
+    requires frees { Covers W.upto W.first t frees.now (view seat.old).seen (view seat.old).lead }
+    ensures same { table seat.new ≡ table seat.old }
+    ensures base { (view seat.new).base ≡ (view seat.old).base }
+    ensures free { IsFree (view seat.new) }
+    ensures job { (view seat.new).job ≡ (view seat.old).job }
+    ensures put { result ≡ None → Puts W.filled rows true (view seat.old).lead (view seat.new).lead }
+    ensures back { IfSome result (λ back. (back ≡ rows) × ((view seat.new).lead ≡ (view seat.old).lead)) }
+{
+    if stop.load(Ordering::SeqCst) {
+        return Some(rows);
+    }
+    match seat.fill(ring, t, rows, frees) {
+        Fill::Put => None,
+        Fill::Full {
+            place: _,
+            word: _,
+            rows,
+        } => Some(rows),
+    }
+}
+
+// Fills task t, with turns of work while the ring is full. False where the stage is stopped.
+fn put<W: Work, L: Labor<W>, G: Gate, R: Wait>(
+    rt: &R,
+    alloc: Global,
+    seat: &mut Seat<W>,
+    ring: &Ring<W>,
+    op: &L,
+    gate: &G,
+    stop: &AtomicBool,
+    t: u64,
+    rows: W::Rows,
+    frees: &Frees,
+    hand: &mut Hand<W, L::Draft>,
+) -> bool
+where
+    W::Rows: Drop,
+    requires own { table seat.old ≡ table_of ring.now }
+    requires free { IsFree (view seat.old) }
+    requires hand { IsInHand W.upto W.first (L.suits op.now) (L.has_blocks op.now) hand.old.held (view seat.old).job }
+    requires suits { OfBase (L.suits op.now) (view seat.old).base }
+    requires next { FillsNext W.is_told W.filled W.is_rows t rows (view seat.old).lead }
+    requires below { (t < 2 ^ 42) × (hand.old.cursor ≤ 2 ^ 42) }
+    requires frees { (seen : ℕ) → Covers W.upto W.first t frees.now seen (view seat.old).lead }
+    ensures same { table seat.new ≡ table seat.old }
+    ensures base { (view seat.new).base ≡ (view seat.old).base }
+    ensures free { IsFree (view seat.new) }
+    ensures hand { IsInHand W.upto W.first (L.suits op.now) (L.has_blocks op.now) hand.new.held (view seat.new).job }
+    ensures below { hand.new.cursor ≤ 2 ^ 42 }
+    ensures put { Puts W.filled rows result (view seat.old).lead (view seat.new).lead }
+    ensures stops { result ≡ false → (view seat.new).stopped ≡ true }
+{
+    let mut rows = rows;
+    for _ in rt.forever() {
+        match offer(seat, ring, stop, t, rows, frees) {
+            None => return true,
+            Some(back) => {
+                rows = back;
+                let turned = turn_of_work(alloc, seat, ring, op, gate, hand);
+                if turned.stopped {
+                    stop.store(true, Ordering::SeqCst);
+                    return false;
+                }
+                if !turned.claimed {
+                    yield_now();
+                }
+            }
+        }
+    }
+    unreachable!()
+}
+
+/// Fills all tasks of the supply, until the stage is stopped or memory is wanting.
+pub(crate) fn feed<W: Work, L: Labor<W>, G: Gate, P: Supply<W>, R: Wait>(
+    rt: &R,
+    alloc: Global,
+    seat: &mut Seat<W>,
+    ring: &Ring<W>,
+    op: &L,
+    gate: &G,
+    stop: &AtomicBool,
+    supply: &mut P,
+    from: &mut P::From,
+    hand: &mut Hand<W, L::Draft>,
+) -> Fed
+where
+    W::Rows: Drop,
+    requires own { table seat.old ≡ table_of ring.now }
+    requires free { IsFree (view seat.old) }
+    requires hand { IsInHand W.upto W.first (L.suits op.now) (L.has_blocks op.now) hand.old.held (view seat.old).job }
+    requires suits { OfBase (L.suits op.now) (view seat.old).base }
+    requires below { hand.old.cursor ≤ 2 ^ 42 }
+    requires begins { BeginsFeed W.is_told W.upto (P.has_given supply.old from.old) (view seat.old).lead }
+    ensures same { table seat.new ≡ table seat.old }
+    ensures base { (view seat.new).base ≡ (view seat.old).base }
+    ensures free { IsFree (view seat.new) }
+    ensures hand { IsInHand W.upto W.first (L.suits op.now) (L.has_blocks op.now) hand.new.held (view seat.new).job }
+    ensures fed { FedTo W.is_told W.upto (P.has_given supply.new from.new) (P.is_over supply.new) result (view seat.old).lead (view seat.new).lead }
+    ensures few { result.tasks ≤ 2 ^ 42 }
+    ensures stops { result.over ≡ Over.Stopped → (view seat.new).stopped ≡ true }
+{
+    let mut tasks = 0;
+    let mut frees = Frees {
+        base: 0,
+        list: VecDeque::new(alloc),
+    };
+    while let Some(own) = supply.next(from) {
+        let first = op.first(&own);
+        if frees.list.push_back(first).is_err() {
+            let over = Over::NoMemory;
+            return Fed { tasks, over };
+        }
+        if !put(
+            rt, alloc, seat, ring, op, gate, stop, tasks, own, &frees, hand,
+        ) {
+            let over = Over::Stopped;
+            return Fed { tasks, over };
+        }
+        tasks += 1;
+    }
+    let over = Over::AllGiven;
+    Fed { tasks, over }
+}

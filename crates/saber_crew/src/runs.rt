@@ -1,0 +1,66 @@
+//! A whole run.
+ghost use Rattle.std.specs.Prelude.{◌≡◌, ◌<◌, ◌≤◌, IfErr, IfOk, IfSome};
+ghost use Rattle.saber_crew.specs.Runs.{BeginsRun, RunsTo};
+
+use crate::crew::crew;
+use crate::feed::Fed;
+use crate::supply::Supply;
+use saber_core::Work;
+use saber_io::Gate;
+use saber_plan::Sizes;
+use saber_ring::{FixedData, Ring, Seat};
+use saber_workers::{Labor, work_alone};
+use std::alloc::Global;
+use std::sync::Wait;
+use std::sync::atomic::AtomicBool;
+use std::thread::Threads;
+
+/// Does the tasks of this supply by so many threads beside the caller's, and gives the stage back. Where
+/// memory lacks for the ring, all is as it was.
+pub fn run<
+    W: Work + Send + Sync,
+    L: Labor<W> + Sync,
+    G: Gate + Sync,
+    P: Supply<W>,
+    J: FixedData<W::Told>,
+    R: Threads + Wait + Sync,
+>(
+    rt: &R,
+    alloc: Global,
+    op: &L,
+    gate: &G,
+    supply: &mut P,
+    from: &mut P::From,
+    stage: W::Stage,
+    sizes: &Sizes,
+) -> Result<(W::Stage, Fed), W::Stage>
+where
+    W::Rows: Drop + Send,
+    W::Piece: Drop + Send,
+    W::Stage: Send,
+    L::Draft: Send,
+    requires begins { BeginsRun W.is_told W.is_stage (L.suits op.now) (P.has_given supply.old from.old) stage J.told }
+    requires size { (0 < sizes.now.ring) × (sizes.now.ring ≤ 1024) }
+    ensures ended { IfOk result (λ r. IfSome J.told (λ told. RunsTo W.is_told W.upto W.is_stage (P.has_given supply.new from.new) (P.is_over supply.new) told r.0 r.1)) }
+    ensures refused { IfErr result (λ back. (back ≡ stage) × (supply.new ≡ supply.old) × (from.new ≡ from.old)) }
+{
+    let (ring, mut seat) = match Ring::<W>::new::<J>(alloc, sizes.ring, stage) {
+        Ok(made) => made,
+        Err((_, stage)) => return Err(stage),
+    };
+    let stop = AtomicBool::new(false);
+    let fed = crew::<W, L, G, P, Seat<W>, R>(
+        rt,
+        sizes.threads,
+        &alloc,
+        &mut seat,
+        &ring,
+        op,
+        gate,
+        &stop,
+        supply,
+        from,
+    );
+    work_alone(alloc, &mut seat, &ring, op, gate, fed.tasks);
+    Ok((ring.finish(seat), fed))
+}

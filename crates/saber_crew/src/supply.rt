@@ -1,0 +1,23 @@
+//! Where the tasks of a work come from.
+ghost use Rattle.std.specs.Prelude.{◌≡◌, ◌+◌, ◌<◌, ◌^◌, ◌≤◌, ℕ, None};
+ghost use Rattle.saber_crew.specs.Supplies.{Gives};
+
+use saber_core::Work;
+
+/// Where the rows of a work's tasks come from, in the order of the tasks.
+pub trait Supply<W: Work> {
+    /// What they are made from, lent for each call.
+    type From;
+
+    // So many tasks were given, with these data.
+    ghost has_given: { Self → Self.From → W.Told → ℕ → Type 0 };
+
+    // None is left, or none can be given any more.
+    ghost is_over: { Self → Type 0 };
+
+    /// The rows of the next task. None where none is left, or none can be given, for whatever reason.
+    fn next(&mut self, from: &mut Self::From) -> Option<W::Rows>
+        requires { (told : W.Told) × (d : ℕ) × has_given self.old from.old told d }
+        ensures gives { (told : W.Told) (d : ℕ) → has_given self.old from.old told d → Gives W.is_told W.filled W.is_rows (has_given self.new from.new) told d result }
+        ensures over { result ≡ None → is_over self.new };
+}

@@ -1,0 +1,6 @@
+pub mod Grows
+pub mod Lasts
+pub mod Misses
+pub mod Feedings
+pub mod Absorbings
+pub mod Drives

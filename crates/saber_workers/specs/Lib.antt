@@ -1,0 +1,6 @@
+pub mod Labors
+pub mod Seats
+pub mod Grows
+pub mod Hands
+pub mod Lasts
+pub mod Queries

@@ -1,0 +1,55 @@
+-- What is asked of a seat, and what a turn of work does to it.
+use Rattle.std.specs.Prelude.{◌≡◌, ◌≢◌, ◌<◌, ◌≤◌, ℕ, ◌+◌, ◌*◌, ◌%◌, ◌⊎◌, Bool, true, false, if◌then◌else◌, nat_lt, Option, Some, None}
+use Rattle.saber_ring.specs.declared.view.View.{View}
+use Rattle.saber_ring.specs.Shows.{turn_word, free}
+use Rattle.saber_ring.specs.Calls.{NotLast}
+
+-- no turn, and no block out for reading
+abbrev pub IsFree : {T : Type 0} → View T → Type 0
+IsFree v = (v.turn ≡ None) × (v.block ≡ None)
+
+-- the fixed data are such
+abbrev pub OfBase : {T : Type 0} → (T → Type 0) → Option T → Type 0
+OfBase P None = ⊥
+OfBase P (Some x) = P x
+
+-- what the first seat knows, and the fixed data, stay
+abbrev pub SameSeat : {T : Type 0} → View T → View T → Type 0
+SameSeat v w = (w.lead ≡ v.lead) × (w.base ≡ v.base)
+
+-- and all that it knows of tasks, with what it did
+abbrev pub SameTasks : {T : Type 0} → View T → View T → Type 0
+SameTasks v w = SameSeat v w × (w.job ≡ v.job) × (w.own ≡ v.own) × (w.stopped ≡ v.stopped)
+
+-- its job and block, what it saw of a stop, and its last step that was refused stay
+abbrev pub SameWork : {T : Type 0} → View T → View T → Type 0
+SameWork v w = (w.job ≡ v.job) × (w.block ≡ v.block) × (w.stopped ≡ v.stopped) × (w.missed ≡ v.missed)
+
+-- the next task to ask for, where this word was seen in place of the ready one
+abbrev pub next_cursor : ℕ → ℕ → ℕ
+next_cursor t word = if nat_lt (8 * t + 2) word then t + 1 else t
+
+-- some steps more, or none, and what was seen behind the stage stays behind it
+abbrev pub StepsOn : {T : Type 0} → View T → View T → Type 0
+StepsOn v w = (v.saw.number ≤ w.saw.number) × (v.seen ≤ w.seen)
+
+module _ {T : Type 0} (size : ℕ) (v w : View T) where
+  -- the claim of task t was refused by the seat's next step, which is the last that was refused
+  abbrev pub IsRefused : ℕ → Type 0
+  IsRefused t = (w.missed.place ≡ t % size + 1) × (w.missed.word ≢ 8 * t + 2) × (w.missed.number ≡ v.saw.number + 1)
+
+  -- the read of a block was refused by a step since, which is the last that was refused: another seat reads it; else none was refused
+  abbrev pub IsHeldUp : Option ℕ → Type 0
+  IsHeldUp None = w.missed ≡ v.missed
+  IsHeldUp (Some u) = (w.missed.place ≡ u % size + 1 + size) × (w.missed.word ≡ 4 * u + 3) × (v.saw.number < w.missed.number)
+
+-- the seat's last step found the task after k not done
+abbrev pub FoundNone : {T : Type 0} → ℕ → ℕ → View T → Type 0
+FoundNone size k v = (v.saw.place ≡ k % size + 1) × (v.saw.word ≢ 8 * k + 4) × (v.saw.word ≢ 8 * k + 6)
+
+module _ {T : Type 0} (size : ℕ) (v : View T) where
+  -- The last step was on the word of the turn: it stored a stopped stage; else another seat has the turn, or it stored one that runs,
+  -- after the step before found the next task not done.
+  abbrev pub EndsTurn : Bool → Type 0
+  EndsTurn true = (v.saw.place ≡ 0) × ((k : ℕ) × (v.saw.word ≡ turn_word k (free true)))
+  EndsTurn false = (v.saw.place ≡ 0) × (NotLast v.lead ⊎ ((k : ℕ) × (v.saw.word ≡ turn_word k (free false)) × (v.before.place ≡ k % size + 1) × (v.before.word ≢ 8 * k + 4) × (v.before.word ≢ 8 * k + 6)))

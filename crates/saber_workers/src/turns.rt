@@ -1,0 +1,184 @@
+//! One turn of work.
+ghost use Rattle.std.specs.Prelude.{◌≡◌, ◌≢◌, ◌^◌, ◌≤◌, ℕ, ◌+◌, true, false, None, Some, IfSome};
+ghost use Rattle.saber_ring.specs.Calls.{NotLast};
+ghost use Rattle.saber_ring.specs.Words.{view, table, table_of, cells};
+ghost use Rattle.saber_workers.specs.Seats.{IsFree, OfBase, SameSeat, StepsOn, next_cursor, IsRefused, IsHeldUp, EndsTurn};
+ghost use Rattle.saber_workers.specs.Grows.{Grows};
+ghost use Rattle.saber_workers.specs.Hands.{HoldsJob, IsInHand, is_empty};
+ghost use Rattle.saber_workers.specs.Lasts.{IsClaimed, LeavesNone};
+
+use crate::blocks::{Gone, read_on};
+use crate::drive::drive;
+use crate::hand::{Hand, InHand};
+use crate::labor::Labor;
+use saber_core::Work;
+use saber_io::Gate;
+use saber_ring::{Claim, Ring, Seat};
+use std::alloc::Global;
+use std::mem;
+
+// Claims the cursor's task, if it is there.
+fn claim_next<W: Work, L: Labor<W>, G: Gate>(
+    seat: &mut Seat<W>,
+    ring: &Ring<W>,
+    op: &L,
+    gate: &G,
+    cursor: &mut u64,
+) -> InHand<W, L::Draft>
+    requires own { table seat.old ≡ table_of ring.now }
+    requires free { IsFree (view seat.old) }
+    requires none { (view seat.old).job ≡ None }
+    requires suits { OfBase (L.suits op.now) (view seat.old).base }
+    requires below { cursor.old ≤ 2 ^ 42 }
+    ensures same { table seat.new ≡ table seat.old }
+    ensures kept { SameSeat (view seat.old) (view seat.new) }
+    ensures free { IsFree (view seat.new) }
+    ensures hand { IsInHand W.upto W.first (L.suits op.now) (L.has_blocks op.now) result (view seat.new).job }
+    ensures below { cursor.new ≤ 2 ^ 42 }
+    ensures grows { Grows (view seat.old) (view seat.new) false }
+    ensures steps { StepsOn (view seat.old) (view seat.new) }
+    ensures saw { (view seat.new).stopped ≡ (view seat.old).stopped }
+    ensures last { IsClaimed cursor.old (view seat.old).lead (view seat.new).own }
+    ensures got { is_empty result ≡ false → cursor.new ≡ cursor.old + 1 }
+    ensures stays { is_empty result ≡ false → (view seat.new).missed ≡ (view seat.old).missed }
+    ensures not { is_empty result ≡ true → IsRefused (cells ring.now) (view seat.old) (view seat.new) cursor.old }
+    ensures next { is_empty result ≡ true → cursor.new ≡ next_cursor cursor.old (view seat.new).missed.word }
+{
+    match seat.claim(ring, *cursor) {
+        Claim::Got(job) => {
+            gate.pass(job.task());
+            *cursor += 1;
+            InHand::Claimed(job)
+        }
+        Claim::Not { word } => {
+            if 8 * *cursor + 2 < word {
+                *cursor += 1;
+            }
+            InHand::Empty
+        }
+    }
+}
+
+/// What a turn of work did: whether it claimed a task, the block that it waits for since another seat
+/// reads it, and whether it found or left the stage stopped.
+#[derive(Clone, Copy)]
+pub struct Turned {
+    pub claimed: bool,
+    pub held: Option<u64>,
+    pub stopped: bool,
+}
+
+// What a turn did with its job.
+pub(crate) struct Worked<W: Work, D> {
+    pub(crate) held: InHand<W, D>,
+    pub(crate) claimed: bool,
+    pub(crate) waits: Option<u64>,
+}
+
+// A job, where none was in hand, and then its blocks.
+pub(crate) fn work_on<W: Work, L: Labor<W>, G: Gate>(
+    alloc: Global,
+    seat: &mut Seat<W>,
+    ring: &Ring<W>,
+    op: &L,
+    gate: &G,
+    cursor: &mut u64,
+    held: InHand<W, L::Draft>,
+) -> Worked<W, L::Draft>
+    requires own { table seat.old ≡ table_of ring.now }
+    requires free { IsFree (view seat.old) }
+    requires hand { IsInHand W.upto W.first (L.suits op.now) (L.has_blocks op.now) held (view seat.old).job }
+    requires suits { OfBase (L.suits op.now) (view seat.old).base }
+    requires below { cursor.old ≤ 2 ^ 42 }
+    ensures same { table seat.new ≡ table seat.old }
+    ensures kept { SameSeat (view seat.old) (view seat.new) }
+    ensures free { IsFree (view seat.new) }
+    ensures hand { IsInHand W.upto W.first (L.suits op.now) (L.has_blocks op.now) result.held (view seat.new).job }
+    ensures below { cursor.new ≤ 2 ^ 42 }
+    ensures grows { Grows (view seat.old) (view seat.new) false }
+    ensures steps { StepsOn (view seat.old) (view seat.new) }
+    ensures saw { (view seat.new).stopped ≡ (view seat.old).stopped }
+    ensures busy { is_empty held ≡ false → (result.claimed ≡ false) × (cursor.new ≡ cursor.old) × IsHeldUp (cells ring.now) (view seat.old) (view seat.new) result.waits }
+    ensures got { is_empty held ≡ true → result.claimed ≡ true → (cursor.new ≡ cursor.old + 1) × IsHeldUp (cells ring.now) (view seat.old) (view seat.new) result.waits }
+    ensures not { is_empty held ≡ true → result.claimed ≡ false → IsRefused (cells ring.now) (view seat.old) (view seat.new) cursor.old × (cursor.new ≡ next_cursor cursor.old (view seat.new).missed.word) × (result.waits ≡ None) }
+    ensures last { is_empty held ≡ true → IsClaimed cursor.old (view seat.old).lead (view seat.new).own }
+    ensures done { result.waits ≡ None → ((view seat.new).job ≡ None) × (is_empty result.held ≡ true) }
+    ensures others { IfSome result.waits (λ u. NotLast (view seat.old).lead) }
+{
+    match held {
+        InHand::Empty => {
+            let held = claim_next(seat, ring, op, gate, cursor);
+            let claimed = held.is_some();
+            let Gone { held, waits } = read_on(alloc, seat, ring, op, gate, held);
+            Worked {
+                held,
+                claimed,
+                waits,
+            }
+        }
+        held => {
+            let Gone { held, waits } = read_on(alloc, seat, ring, op, gate, held);
+            Worked {
+                held,
+                claimed: false,
+                waits,
+            }
+        }
+    }
+}
+
+/// One turn: claims a task where no job is in hand, reads what the job needs, as far as no other seat
+/// reads it, hands the piece in once all is there, and makes one try to drive the stage.
+pub fn turn_of_work<W: Work, L: Labor<W>, G: Gate>(
+    alloc: Global,
+    seat: &mut Seat<W>,
+    ring: &Ring<W>,
+    op: &L,
+    gate: &G,
+    hand: &mut Hand<W, L::Draft>,
+) -> Turned
+    requires own { table seat.old ≡ table_of ring.now }
+    requires free { IsFree (view seat.old) }
+    requires hand { IsInHand W.upto W.first (L.suits op.now) (L.has_blocks op.now) hand.old.held (view seat.old).job }
+    requires suits { OfBase (L.suits op.now) (view seat.old).base }
+    requires below { hand.old.cursor ≤ 2 ^ 42 }
+    ensures same { table seat.new ≡ table seat.old }
+    ensures kept { SameSeat (view seat.old) (view seat.new) }
+
+    // The seat comes back without the turn, and with the hand's job alone.
+    ensures free { IsFree (view seat.new) }
+    ensures hand { IsInHand W.upto W.first (L.suits op.now) (L.has_blocks op.now) hand.new.held (view seat.new).job }
+    ensures below { hand.new.cursor ≤ 2 ^ 42 }
+    ensures grows { Grows (view seat.old) (view seat.new) result.stopped }
+
+    // Why no task was claimed, or its job waits: by the last step that was refused.
+    ensures busy { is_empty hand.old.held ≡ false → (result.claimed ≡ false) × (hand.new.cursor ≡ hand.old.cursor) × IsHeldUp (cells ring.now) (view seat.old) (view seat.new) result.held }
+    ensures got { is_empty hand.old.held ≡ true → result.claimed ≡ true → (hand.new.cursor ≡ hand.old.cursor + 1) × IsHeldUp (cells ring.now) (view seat.old) (view seat.new) result.held }
+    ensures not { is_empty hand.old.held ≡ true → result.claimed ≡ false → IsRefused (cells ring.now) (view seat.old) (view seat.new) hand.old.cursor × (hand.new.cursor ≡ next_cursor hand.old.cursor (view seat.new).missed.word) × (result.held ≡ None) }
+    ensures last { is_empty hand.old.held ≡ true → IsClaimed hand.old.cursor (view seat.old).lead (view seat.new).own }
+    ensures done { result.held ≡ None → ((view seat.new).job ≡ None) × (is_empty hand.new.held ≡ true) }
+    ensures others { IfSome result.held (λ u. NotLast (view seat.old).lead) }
+
+    // Whether the stage is stopped: by the last steps. A stop that was seen stays seen.
+    ensures ends { EndsTurn (cells ring.now) (view seat.new) result.stopped }
+    ensures stops { result.stopped ≡ true → (view seat.new).stopped ≡ true }
+    ensures stays { (view seat.old).stopped ≡ true → (view seat.new).stopped ≡ true }
+    ensures steps { StepsOn (view seat.old) (view seat.new) }
+{
+    let held = mem::replace(&mut hand.held, InHand::Empty);
+    let mut cursor = hand.cursor;
+    let Worked {
+        held,
+        claimed,
+        waits,
+    } = work_on(alloc, seat, ring, op, gate, &mut cursor, held);
+    let stopped = drive(alloc, seat, ring, op);
+    hand.cursor = cursor;
+    let left = mem::replace(&mut hand.held, held);
+    let InHand::Empty = left else { unreachable!() };
+    Turned {
+        claimed,
+        held: waits,
+        stopped,
+    }
+}
