@@ -1,8 +1,5 @@
-mod Nothing
-mod Readings
-mod Tasking
-mod Counting
-mod Turning
+mod Counts
+mod Supplied
+mod Assembled
+mod Results
 mod Starting
-mod Ending
-mod Tested

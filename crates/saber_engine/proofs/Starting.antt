@@ -1,38 +1,72 @@
--- A run before its first task.
-use Rattle.std.proofs.Common.{◌≡◌, ℕ, ◌*◌, List, [], Option, None, option_map, pos, refl, sym, ◌∙◌, ap, subst, arith}
-use Rattle.std.specs.FinMap.{empty}
-use Rattle.saber_io.specs.Outside.{appended}
+-- A run before its first block.
+use Rattle.std.proofs.Common.{◌≡◌, ℕ, true, false, ◌≤◌, List, [], refl, sym, ◌∙◌, subst, arith}
+use Rattle.std.specs.Prelude.{Option, Some, None}
+use Rattle.std.specs.Int.{div_ceil}
+use Rattle.saber_plan.specs.declared.sizes.Sizes.{Sizes}
+use Rattle.saber_plan.specs.Inputs.{Input, going_on}
 use Rattle.saber_plan.specs.Trees.{Tree}
-use Rattle.saber_plan.specs.Answers.{text}
-use Rattle.saber_plan.specs.Windows.{no_rows}
-use Rattle.saber_plan.specs.Tasks.{upto, unclosed}
-use Rattle.saber_laws.specs.Pieces.{NoRowsGiveNothing, NoTasksNoRows}
-use Rattle.saber_rows.specs.Reader.{Reader}
-use Rattle.saber_rows.specs.Laws.{ReadersStand}
+use Rattle.saber_plan.specs.Answers.{frame}
+use Rattle.saber_plan.specs.Windows.{Fits, no_rows, Ordered}
+use Rattle.saber_plan.specs.Given.{RowsFit}
+use Rattle.saber_plan.specs.Tasks.{Parts}
+use Rattle.saber_laws.specs.Pieces.{NoTasksNoRows}
+use Rattle.saber_assembly.specs.declared.stage.Stage.{Stage}
 use Rattle.saber_assembly.specs.declared.stage.State.TheVariants.{Running}
-use Rattle.saber_assembly.specs.Stages.{StageView}
-use Rattle.saber_engine.specs.Running.{Setting, Runs}
-use Rattle.saber_engine.proofs.Nothing.{appended_none}
-use Rattle.saber_engine.proofs.Readings.{took_nothing}
+use Rattle.saber_assembly.specs.declared.work.Told.{Told}
+use Rattle.saber_assembly.specs.Stages.{seen, Tasks, Keeps}
+use Rattle.saber_assembly.specs.Works.{IsTold, IsStageOf}
+use Rattle.saber_workers.specs.Queries.{Suits}
+use Rattle.saber_crew.specs.Runs.{BeginsRun}
+use Rattle.saber_dispatch.specs.declared.ends.End.TheVariants.{ReadFault}
+use Rattle.saber_dispatch.specs.declared.cutter.Cutter.{Cutter}
+use Rattle.saber_dispatch.specs.Sources.{Lefts}
+use Rattle.saber_dispatch.specs.Readings as readings
+use Rattle.saber_dispatch.specs.Cutting.{Cuts, CutsNothing, fresh, end_of}
+use Rattle.saber_engine.specs.Supplying.{HasGiven, first_told}
+use Rattle.saber_engine.proofs.Counts.{none_same, tasks_have_rows}
 
-zero_times : (k n : ℕ) → k ≡ 0 → 0 ≡ k * n
-zero_times k n e = subst (λ j. 0 ≡ j * n) (sym e) (omega arith)
+none_some : {A : Type 0} (x : A) → ◌≡◌ {A = Option A} None (Some x) → ⊥
+none_some x e = cc
 
-pub starts_off : ReadersStand → NoRowsGiveNothing → NoTasksNoRows → (q : Tree) (n : ℕ) (r : Reader) (had : Option (List ℕ)) (s : StageView) → Setting q n r → r.answer ≡ None → r.place.lines ≡ 0 → r.place.last ≡ None → s.state ≡ Running → s.k ≡ 0 → s.parts ≡ empty
-    → Runs q n r r had had (record { written = s.written; faults = s.faults }) no_rows s
-starts_off stand nothing none q n r had s t fresh lines last running k parts =
-    let no_text : upto n [] s.k ≡ [] = ap (upto n []) k ∙ none n [] in
+not_both : false ≡ true → ⊥
+not_both e = cc
+
+fits_none : (q : Tree) → RowsFit q no_rows []
+unfolding Ordered
+fits_none q = record { rows = tt; ordered = tt; left = omega arith; right = omega arith }
+
+-- no block was given
+pub given_none : {O : Type 0} (plan : O → Tree) (op : O) (s : Sizes) (had : Lefts) (before : List ℕ) (w : Option (List ℕ)) (f : ℕ) (c : Cutter) → CutsNothing (plan op) s c → end_of c ≡ None → readings.Suits (fresh (plan op) s.max_lines) had → HasGiven plan s had had before before c None (first_told op s.task w f) 0
+given_none plan op s had before w f c nothing open_still suits =
+    let cuts : Cuts (plan op) s had had c (going_on []) = nothing had suits in
+    let few : div_ceil 0 s.task ≤ 0 = tasks_have_rows s.task 0 cuts.sizes.task.0 in
     record {
-      rows = [];
-      took = took_nothing stand no_rows r had (sym (ap (option_map pos) last));
-      mark_is = refl;
-      whole = zero_times s.k n k;
-      after = (
-        appended_none s.written ∙ sym (ap (appended s.written) (ap (text q) no_text ∙ (nothing q t.windows).0)),
-        parts ∙ sym (ap (unclosed q) no_text ∙ (nothing q t.windows).1),
-        omega arith,
-      );
-      running = running;
-      fresh = fresh;
-      small = omega (arith, lines);
+      cuts = cuts;
+      size = refl;
+      count = let n = cuts.count in omega (arith, few, n);
+      ended = λ e i. absurd (none_some e i);
+      sound = λ _ side i. none_some (ReadFault side) (sym open_still ∙ i);
+      counted = record { fell = none_same before; good = λ _. refl; cause = λ side i. absurd (none_some (ReadFault side) i) };
     }
+
+module _ {O S K : Type 0} (plan : O → Tree) (held : S → Parts) (taken : O → S → Input → Type 0) (wrote : K → Option (List ℕ)) (failed : K → ℕ) (op : O) (n : ℕ) (stage : Stage S K) where
+  abbrev told : Told O
+  told = first_told op n (wrote stage.sink) (failed stage.sink)
+
+  -- a run begins with a new stage
+  pub begins : NoTasksNoRows → Fits (frame (plan op)) → 1 ≤ n → (sink : K) → stage.sink ≡ sink → stage.k ≡ 0 → stage.state ≡ Running
+      → ((m : ℕ) (r : Input) → Tasks (plan op) m r → Keeps (plan op) m r (record { written = wrote sink; faults = failed sink }) (taken op stage.store) (seen held wrote failed stage))
+      → (given : Told O → ℕ → Type 0) → given told 0
+      → BeginsRun (IsTold plan) (IsStageOf plan (seen held wrote failed) taken) (Suits op) given stage (Some told)
+  begins none fits some sink sink_is no_task running keeps given is =
+      let t : Tasks (plan op) n (going_on []) = record { windows = fits; fits = fits_none (plan op); size = some } in (
+        record { tasks = t; whole = none n (going_on []) },
+        record {
+          behind = no_task;
+          keeps = subst (λ k. Keeps (plan op) n (going_on []) (record { written = wrote k; faults = failed k }) (taken op stage.store) (seen held wrote failed stage)) (sym sink_is) (keeps n (going_on []) t);
+          runs = λ _. running;
+          stops = λ e. absurd (not_both e);
+        },
+        refl,
+        is,
+      )

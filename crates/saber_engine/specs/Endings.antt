@@ -1,24 +1,31 @@
--- How a run ends, by its stage and its reader.
+-- How a run ends, by its stage and its blocks.
 use Rattle.std.specs.Prelude.{Option, Some, None}
-use Rattle.saber_plan.specs.declared.rows.Side.TheVariants.{Left}
-use Rattle.saber_rows.specs.declared.ends.RowEnd.TheVariants as rows
 use Rattle.saber_assembly.specs.declared.stage.State.{State}
 use Rattle.saber_assembly.specs.declared.stage.State.TheVariants as states
-use Rattle.saber_engine.specs.declared.fill.Stop.{Stop}
-use Rattle.saber_engine.specs.declared.fill.Stop.TheVariants as stops
+use Rattle.saber_crew.specs.declared.feed.Over.{Over}
+use Rattle.saber_crew.specs.declared.feed.Over.TheVariants as over_by
+use Rattle.saber_dispatch.specs.declared.ends.End.{End}
+use Rattle.saber_dispatch.specs.declared.ends.End.TheVariants as cuts
 use Rattle.saber_engine.specs.declared.ends.RunEnd.{RunEnd}
-use Rattle.saber_engine.specs.declared.ends.RunEnd.TheVariants.{AllRead, Bad, ReadFault, WriteFault, NoMemory}
+use Rattle.saber_engine.specs.declared.ends.RunEnd.TheVariants.{AllRead, Bad, ReadFault, TooWide, WriteFault, NoMemory}
 
--- the reader's, where the stage goes on
-abbrev pub read_end : Option Stop → RunEnd
-read_end None = NoMemory
-read_end (Some stops.AllRead) = AllRead
-read_end (Some (stops.Failed (rows.Bad line cause))) = Bad Left line cause
-read_end (Some (stops.Failed rows.ReadFault)) = ReadFault Left
-read_end (Some (stops.Failed rows.NoMemory)) = NoMemory
+-- the end of the blocks, where the stage goes on and all that were given are filled
+abbrev pub given_end : Option End → RunEnd
+given_end None = NoMemory
+given_end (Some cuts.AllRead) = AllRead
+given_end (Some (cuts.Bad side line cause)) = Bad side line cause
+given_end (Some (cuts.ReadFault side)) = ReadFault side
+given_end (Some (cuts.TooWide task need)) = TooWide task need
+given_end (Some cuts.NoMemory) = NoMemory
+
+-- where the stage goes on, by why no more blocks were filled
+abbrev pub filled_end : Over → Option End → RunEnd
+filled_end over_by.AllGiven end = given_end end
+filled_end over_by.Stopped end = NoMemory
+filled_end over_by.NoMemory end = NoMemory
 
 -- the stage's comes first
-abbrev pub end_of : State → Option Stop → RunEnd
-end_of states.Running stop = read_end stop
-end_of states.SinkFailed stop = WriteFault
-end_of states.NoMemory stop = NoMemory
+abbrev pub end_of : State → Over → Option End → RunEnd
+end_of states.Running over end = filled_end over end
+end_of states.SinkFailed over end = WriteFault
+end_of states.NoMemory over end = NoMemory

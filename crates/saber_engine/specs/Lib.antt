@@ -1,5 +1,4 @@
 pub mod Sources
 pub mod Gives
-pub mod Reading
-pub mod Running
 pub mod Endings
+pub mod Supplying

@@ -1,12 +1,12 @@
-// What a run reads from, and how it ends.
-use saber_plan::{RowCause, Side};
+// How a run ends.
+ghost use Rattle.std.specs.Prelude.{◌≡◌};
+ghost use Rattle.saber_engine.specs.Endings.{given_end, end_of};
 
-/// The sources of a query's row files, as many as its streams.
-#[derive(Drop)]
-pub enum Inputs<S> {
-    One(S),
-    Two(S, S),
-}
+use saber_assembly::{Stage, State};
+use saber_crew::Over;
+use saber_dispatch::End;
+use saber_io::Sink;
+use saber_plan::{RowCause, Side};
 
 /// How a run ended.
 #[derive(Clone, Copy, Debug, PartialEq, Eq)]
@@ -40,4 +40,47 @@ pub struct Ran<K> {
     pub end: RunEnd,
     pub sink: K,
     pub tasks: u64,
+}
+
+// How a run ends whose blocks ended so.
+fn given_end(end: Option<End>) -> RunEnd
+    ensures { result ≡ given_end end }
+{
+    match end {
+        None => RunEnd::NoMemory,
+        Some(end) => match end {
+            End::AllRead => RunEnd::AllRead,
+            End::Bad { side, line, cause } => RunEnd::Bad { side, line, cause },
+            End::ReadFault { side } => RunEnd::ReadFault { side },
+            End::TooWide { task, need } => RunEnd::TooWide { task, need },
+            End::NoMemory => RunEnd::NoMemory,
+        },
+    }
+}
+
+// How a run ends: as its stage stopped, else as its blocks ended.
+fn end_of(state: State, over: Over, end: Option<End>) -> RunEnd
+    ensures { result ≡ end_of state over end }
+{
+    match state {
+        State::SinkFailed => RunEnd::WriteFault,
+        State::NoMemory => RunEnd::NoMemory,
+        State::Running => match over {
+            Over::AllGiven => given_end(end),
+            Over::Stopped => RunEnd::NoMemory,
+            Over::NoMemory => RunEnd::NoMemory,
+        },
+    }
+}
+
+/// A run that is over, by its stage, by why no more tasks were filled, and by how the blocks ended.
+pub(crate) fn ended<S: Drop, K: Sink>(stage: Stage<S, K>, over: Over, end: Option<End>) -> Ran<K>
+    ensures end { result.end ≡ end_of stage.state over end }
+    ensures tasks { result.tasks ≡ stage.k }
+    ensures sink { result.sink ≡ stage.sink }
+{
+    let end = end_of(stage.state(), over, end);
+    let tasks = stage.k();
+    let sink = stage.into_sink();
+    Ran { end, sink, tasks }
 }

@@ -1,16 +1,15 @@
-//! A run of a query over its inputs: cuts the rows into tasks, makes the piece of each, and assembles
-//! the pieces in order.
+//! A run of a query over its inputs: cuts the rows into tasks, has the pieces made by threads, and
+//! assembles them in order.
 #![tactic(auto)]
 
+mod blocks;
 mod ends;
-mod fill;
-mod one_source;
+mod plans;
 mod run_engine;
-mod tasks;
-mod turns;
 
-pub use ends::{Inputs, Ran, RunEnd};
+pub use ends::{Ran, RunEnd};
 pub use run_engine::engine;
+pub use saber_dispatch::Inputs;
 
 #[cfg(test)]
 mod tests;

@@ -1,105 +1,80 @@
 // The engine: a checked plan over its inputs.
-ghost use Rattle.std.specs.Prelude.{◌≡◌, ◌≢◌, ◌≤◌, ℕ, List, [], ◌∷◌, IfSome, length};
+ghost use Rattle.std.specs.Prelude.{◌≡◌, ◌≢◌, ◌≤◌, ℕ, List, IfSome, length};
 ghost use Rattle.saber_io.specs.Outside.{Rose, appended};
 ghost use Rattle.saber_plan.specs.declared.rows.Side.{Side};
-ghost use Rattle.saber_plan.specs.declared.plans.Shape.TheVariants as shapes;
 ghost use Rattle.saber_plan.specs.Trees.{tree_of};
-ghost use Rattle.saber_plan.specs.declared.rows.Side.TheVariants.{Left};
-ghost use Rattle.saber_plan.specs.Checked.{IsChecked, columns_on};
+ghost use Rattle.saber_plan.specs.Checked.{IsChecked};
 ghost use Rattle.saber_plan.specs.Sizes.{SizesFit};
 ghost use Rattle.saber_engine.specs.declared.ends.RunEnd.{RunEnd};
-ghost use Rattle.saber_engine.specs.Sources.{each_input, told_by, input_of, RoseAt, NoneFell};
-ghost use Rattle.saber_engine.specs.Gives.{Gives, ReadsWhole};
+ghost use Rattle.saber_engine.specs.Sources.{each_input, told_by, input_of, RoseAt, NoneFell, GaveAll};
+ghost use Rattle.saber_engine.specs.Gives.{Gives, IsClean, ReadsWhole};
 
-use crate::ends::{Inputs, Ran, RunEnd};
-use crate::one_source::run_source;
+use crate::ends::{Ran, RunEnd};
+use crate::plans::run_plan;
+use saber_dispatch::Inputs;
 use saber_group::Group;
 use saber_io::{Gate, Sink, Source};
-use saber_laws::{checked_fit, groups_have_one_window, selections_have_no_window};
+use saber_join::Join;
 use saber_plan::{Plan, Shape, Sizes};
 use saber_select::Select;
 use std::alloc::Global;
+use std::marker::Brand;
+use std::sync::Wait;
+use std::thread::Threads;
 
-// How many columns the left stream has.
-fn left_columns(plan: &Plan) -> u32
-    ensures { result ≡ columns_on (tree_of plan.now).streams Left }
-{
-    match plan.streams() {
-        [stream, ..] => stream.columns,
-        [] => 0,
-    }
-}
-
-// Runs a checked plan over its only input, by the operator of its shape.
-fn run_one<S: Source, K: Sink>(
-    alloc: Global,
-    plan: &Plan,
-    source: &mut S,
-    sink: K,
-    sizes: &Sizes,
-) -> Ran<K>
-    requires checked { IsChecked (tree_of plan.now) }
-    requires no_join { (tree_of plan.now).shape ≢ shapes.Join }
-    requires sizes { SizesFit sizes.now }
-    ensures gives { (out : List ℕ) × (K.written result.sink ≡ appended (K.written sink) out)
-        × IfSome (S.left source.old) (λ bytes. Gives (tree_of plan.now) sizes.now.task (input_of (tree_of plan.now) sizes.now.max_lines (bytes ∷ [])) result.end result.tasks out) }
-    ensures whole { (side : Side) → result.end ≡ RunEnd.ReadFault side → ReadsWhole (tree_of plan.now) sizes.now.task sizes.now.max_lines result.tasks (S.left source.old ∷ []) (S.left source.new ∷ []) }
-    ensures side { (side : Side) → result.end ≡ RunEnd.ReadFault side → side ≡ Left }
-    ensures read { (side : Side) → result.end ≡ RunEnd.ReadFault side → Rose (S.faults source.old) (S.faults source.new) }
-    ensures write { result.end ≡ RunEnd.WriteFault → Rose (K.faults sink) (K.faults result.sink) }
-    ensures reads { S.faults source.old ≤ S.faults source.new }
-    ensures writes { K.faults sink ≤ K.faults result.sink }
-    ensures narrow { (task need : ℕ) → result.end ≢ RunEnd.TooWide task need }
-{
-    checked_fit();
-    groups_have_one_window();
-    selections_have_no_window();
-    let columns = left_columns(plan);
-    match plan.shape() {
-        Shape::Select => run_source(alloc, &Select::new(plan), columns, source, sink, sizes),
-        Shape::Group => run_source(alloc, &Group::new(plan), columns, source, sink, sizes),
-        Shape::Join => unreachable!(),
-    }
-}
-
-/// Runs a checked plan over its inputs: cuts the rows into tasks of `sizes.task` rows, makes the piece
-/// of each, and assembles the pieces in order; the text of each task goes out in one write. It holds the
-/// open parts and one task, however long the input is. Until there are workers the caller does all tasks,
-/// so no thread is asked for, and the gate and the ring's size are not looked at.
-pub fn engine<S: Source, K: Sink + Send, G: Gate + Sync>(
+/// Runs a checked plan over its inputs: cuts the rows into tasks of `sizes.task` rows, has the piece of
+/// each made by this thread and `sizes.threads` others round a ring of `sizes.ring` cells, and assembles
+/// the pieces in order; the text of each task goes out in one write.
+pub fn engine<S: Source, K: Sink + Send, G: Gate + Sync, R: Threads + Wait + Sync>(
+    rt: &R,
     alloc: Global,
     plan: &Plan,
     inputs: &mut Inputs<S>,
     sink: K,
     sizes: &Sizes,
-    _gate: &G,
+    gate: &G,
 ) -> Ran<K>
     requires checked { IsChecked (tree_of plan.now) }
-    requires no_join { (tree_of plan.now).shape ≢ shapes.Join }
     requires inputs { length (each_input S.left inputs.old) ≡ length (tree_of plan.now).streams }
     requires sizes { SizesFit sizes.now }
-    requires threads { sizes.now.threads ≡ 0 }
 
-    // What goes out is the text of the first tasks' rows; with all read, or a line refused, of all tasks.
+    // What goes out is the text of the first tasks' rows; with all read, or a line refused, of all tasks, and of those before one
+    // that is too wide for the ring.
     ensures gives { (out : List ℕ) × (K.written result.sink ≡ appended (K.written sink) out)
-        × IfSome (told_by S.left inputs.old) (λ files. Gives (tree_of plan.now) sizes.now.task (input_of (tree_of plan.now) sizes.now.max_lines files) result.end result.tasks out) }
+        × IfSome (told_by S.left inputs.old) (λ files. Gives (tree_of plan.now) sizes.now.task sizes.now.ring sizes.now.flush (input_of (tree_of plan.now) sizes.now.max_lines files) result.end result.tasks out) }
 
     // A fault of reading leaves at least every whole task assembled of what was taken.
     ensures whole { (side : Side) → result.end ≡ RunEnd.ReadFault side → ReadsWhole (tree_of plan.now) sizes.now.task sizes.now.max_lines result.tasks (each_input S.left inputs.old) (each_input S.left inputs.new) }
 
-    // Faults are real, and no count falls.
+    // What inputs have left are ends of what they had.
+    ensures takes { (taken : List (List ℕ)) × GaveAll (each_input S.left inputs.old) taken (each_input S.left inputs.new) }
+
+    // Faults are real, none is passed over, and no count falls.
     ensures read { (side : Side) → result.end ≡ RunEnd.ReadFault side → RoseAt side (each_input S.faults inputs.old) (each_input S.faults inputs.new) }
     ensures write { result.end ≡ RunEnd.WriteFault → Rose (K.faults sink) (K.faults result.sink) }
+    ensures read_good { IsClean result.end → each_input S.faults inputs.new ≡ each_input S.faults inputs.old }
+    ensures write_good { result.end ≢ RunEnd.WriteFault → K.faults result.sink ≡ K.faults sink }
     ensures reads { NoneFell (each_input S.faults inputs.old) (each_input S.faults inputs.new) }
     ensures writes { K.faults sink ≤ K.faults result.sink }
-    ensures narrow { (task need : ℕ) → result.end ≢ RunEnd.TooWide task need }
 {
-    match inputs {
-        Inputs::One(source) => run_one(alloc, plan, source, sink, sizes),
-        Inputs::Two(..) => Ran {
-            end: RunEnd::NoMemory,
-            sink,
-            tasks: 0,
-        },
+    match plan.shape() {
+        Shape::Select => {
+            let operator = Select::new(plan);
+            run_plan::<S, Select<'_>, K, G, Brand, R>(
+                rt, alloc, &operator, plan, inputs, sink, sizes, gate,
+            )
+        }
+        Shape::Group => {
+            let operator = Group::new(plan);
+            run_plan::<S, Group<'_>, K, G, Brand, R>(
+                rt, alloc, &operator, plan, inputs, sink, sizes, gate,
+            )
+        }
+        Shape::Join => {
+            let operator = Join::new(plan);
+            run_plan::<S, Join<'_>, K, G, Brand, R>(
+                rt, alloc, &operator, plan, inputs, sink, sizes, gate,
+            )
+        }
     }
 }

@@ -1,0 +1,142 @@
+use Rattle.std.proofs.Common.{◌≡◌, ℕ, List, sym, ◌∙◌, ap, subst}
+use Rattle.std.proofs.Math.Path.{transport}
+use Rattle.std.specs.Prelude.{None, IsSome}
+use Rattle.saber_crew.specs.Runs.{RunsTo}
+use Rattle.saber_crew.specs.declared.feed.Over.TheVariants as over_by
+use Rattle.saber_assembly.specs.Stages.{seen}
+use Rattle.saber_assembly.specs.Works.{IsTold, first_tasks, IsStageOf}
+use Rattle.saber_engine.specs.declared.ends.RunEnd.TheVariants.{NoMemory}
+use Rattle.saber_engine.specs.Endings.{end_of}
+use Rattle.saber_plan.specs.Trees.{Tree, tree_of}
+use Rattle.saber_plan.specs.Answers.{frame}
+use Rattle.saber_plan.specs.Windows.{Fits}
+use Rattle.saber_dispatch.specs.Sources.{each_input}
+use Rattle.saber_dispatch.specs.Readings.{Suits}
+use Rattle.saber_dispatch.specs.Cutting.{CutsNothing, fresh}
+use Rattle.saber_dispatch.specs.Leaving.{GaveAll}
+use Rattle.saber_engine.specs.Supplying.{HasGiven, first_told}
+use Rattle.saber_engine.proofs.Starting.{given_none, begins}
+use Rattle.saber_engine.proofs.Results.{Done, done, done_nothing, suits, if_told, took, took_none}
+use Rattle.saber_engine.proofs.plans.run_plan.Goals as goal
+
+pub run-ran-requires-clause-begins : goal.run-ran-requires-clause-begins
+run-ran-requires-clause-begins g c spans live =
+    let plan = g.O.Operator.plan in
+    let op = c.args.operator.now in
+    let s = c.args.sizes.now in
+    let q : Tree = tree_of c.args.plan.now in
+    let wrote = g.K.Sink.written in
+    let failed = g.K.Sink.faults in
+    let left = each_input g.S.Source.left c.args.inputs.now in
+    let faults = each_input g.S.Source.faults c.args.inputs.now in
+    let cutter = c.in-Ok.cutter in
+    let e = c.new-stage.ensures in
+    let stage = c.new-stage.result in
+    let b = c.requires.begins in
+    let nothing : CutsNothing (plan op) s cutter = subst (λ z. CutsNothing z s cutter) (sym c.requires.plan) c.in-Ok.ensures.cuts in
+    let many : Suits (fresh (plan op) s.max_lines) left = subst (λ z. Suits (fresh z s.max_lines) left) (sym c.requires.plan) (suits q s.max_lines g.S.Source.left c.args.inputs.now c.requires.inputs) in
+    let fits : Fits (frame (plan op)) = subst (λ z. Fits (frame z)) (sym c.requires.plan) (c.checked_fit.ensures q c.requires.checked) in
+    let is : HasGiven plan s left left faults faults cutter None (first_told op s.task (wrote stage.sink) (failed stage.sink)) 0 = given_none plan op s left faults (wrote stage.sink) (failed stage.sink) cutter nothing c.in-Ok.ensures.goes many in
+    begins plan g.O.Operator.held g.O.Operator.has_taken wrote failed op s.task stage c.no_tasks_no_rows.ensures fits c.requires.sizes.task.0 c.args.sink e.sink e.none e.runs e.keeps (HasGiven plan g.J.Begins.sizes g.J.Begins.lefts left g.J.Begins.faults faults cutter None)
+    (transport (λ i. HasGiven plan (sym b.0 i) (sym b.1 i) left (sym b.2 i) faults cutter None (first_told op s.task (wrote stage.sink) (failed stage.sink)) 0) is)
+
+pub returns-in-Ok-ran : goal.returns-in-Ok-ran
+returns-in-Ok-ran g c =
+    let plan = g.O.Operator.plan in
+    let op = c.args.operator.now in
+    let s = c.args.sizes.now in
+    let q : Tree = tree_of c.args.plan.now in
+    let wrote = g.K.Sink.written in
+    let failed = g.K.Sink.faults in
+    let had = each_input g.S.Source.left c.args.inputs.now in
+    let has = each_input g.S.Source.left c.run-ran.new.from in
+    let before = each_input g.S.Source.faults c.args.inputs.now in
+    let now = each_input g.S.Source.faults c.run-ran.new.from in
+    let w = wrote c.args.sink in
+    let f = failed c.args.sink in
+    let cutter = c.run-ran.new.supply.cutter in
+    let end = c.run-ran.new.supply.end in
+    let stage = c.in-Ok-ran.stage in
+    let fed = c.in-Ok-ran.fed in
+    let e = c.new-stage.ensures in
+    let b = c.requires.begins in
+    let x = c.ended-in-Ok-ran.ensures in
+    let r : RunsTo (IsTold plan) first_tasks (IsStageOf plan (seen g.O.Operator.held wrote failed) g.O.Operator.has_taken) (HasGiven plan s had has before now cutter end) (IsSome end) (first_told op s.task w f) stage fed =
+    transport (λ i. RunsTo (IsTold plan) first_tasks (IsStageOf plan (seen g.O.Operator.held wrote failed) g.O.Operator.has_taken) (HasGiven plan (b.0 i) (b.1 i) has (b.2 i) now cutter end) (IsSome end) (first_told op s.task (wrote (e.sink i)) (failed (e.sink i))) stage fed) c.in-Ok-ran.ensures.ended in
+    let over = done c.first_of_first.ensures c.blocks_are_tasks.ensures c.faults_leave_whole_tasks.ensures plan g.O.Operator.held g.O.Operator.has_taken wrote failed op s w f had has before now cutter end stage fed r in
+    let d : Done q s had has before now w f c.ended-in-Ok-ran.result.end c.ended-in-Ok-ran.result.tasks (wrote c.ended-in-Ok-ran.result.sink) (failed c.ended-in-Ok-ran.result.sink) =
+    transport (λ i. Done (c.requires.plan i) s had has before now w f (sym x.end i) (sym x.tasks i) (wrote (sym x.sink i)) (failed (sym x.sink i))) over in
+    record {
+      gives = (d.out, d.written_is, if_told _ g.S.Source.left c.args.inputs.now (λ files h. d.gives files (suits q s.max_lines g.S.Source.left c.args.inputs.now c.requires.inputs) h));
+      whole = d.whole;
+      takes = took _ g.S.Source.left c.args.inputs.now c.run-ran.new.from _ _ r.is_given.cuts.took.moves;
+      read = d.read;
+      write = d.write;
+      read_good = d.read_good;
+      write_good = d.write_good;
+      reads = d.reads;
+      writes = d.writes;
+    }
+
+pub returns-in_default : goal.returns-in_default
+returns-in_default g c =
+    let s = c.args.sizes.now in
+    let q : Tree = tree_of c.args.plan.now in
+    let wrote = g.K.Sink.written in
+    let failed = g.K.Sink.faults in
+    let had = each_input g.S.Source.left c.args.inputs.now in
+    let before = each_input g.S.Source.faults c.args.inputs.now in
+    let w = wrote c.args.sink in
+    let f = failed c.args.sink in
+    let e = c.new-stage.ensures in
+    let x = c.ended.ensures in
+    let ends : c.ended.result.end ≡ NoMemory = x.end ∙ ap (λ z. end_of z over_by.NoMemory None) e.runs in
+    let counts : c.ended.result.tasks ≡ 0 = x.tasks ∙ e.none in
+    let sink : c.ended.result.sink ≡ c.args.sink = x.sink ∙ e.sink in
+    let nothing = done_nothing c.no_rows_give_nothing.ensures c.no_tasks_no_rows.ensures q (c.checked_fit.ensures q c.requires.checked) s had before w f in
+    let d : Done q s had had before before w f c.ended.result.end c.ended.result.tasks (wrote c.ended.result.sink) (failed c.ended.result.sink) =
+    transport (λ i. Done q s had had before before w f (sym ends i) (sym counts i) (wrote (sym sink i)) (failed (sym sink i))) nothing in
+    record {
+      gives = (d.out, d.written_is, if_told _ g.S.Source.left c.args.inputs.now (λ files h. d.gives files (suits q s.max_lines g.S.Source.left c.args.inputs.now c.requires.inputs) h));
+      whole = d.whole;
+      takes = took_none g.S.Source.left c.args.inputs.now;
+      read = d.read;
+      write = d.write;
+      read_good = d.read_good;
+      write_good = d.write_good;
+      reads = d.reads;
+      writes = d.writes;
+    }
+
+pub returns : goal.returns
+returns g c =
+    let s = c.args.sizes.now in
+    let q : Tree = tree_of c.args.plan.now in
+    let wrote = g.K.Sink.written in
+    let failed = g.K.Sink.faults in
+    let left = each_input g.S.Source.left in
+    let faults = each_input g.S.Source.faults in
+    let had = left c.args.inputs.now in
+    let before = faults c.args.inputs.now in
+    let w = wrote c.args.sink in
+    let f = failed c.args.sink in
+    let e = c.new-stage.ensures in
+    let same = c.in-Err.ensures.refused in
+    let x = c.ended-in-Err.ensures in
+    let ends : c.ended-in-Err.result.end ≡ NoMemory = x.end ∙ ap (λ z. end_of z.state over_by.NoMemory None) same.0 ∙ ap (λ z. end_of z over_by.NoMemory None) e.runs in
+    let counts : c.ended-in-Err.result.tasks ≡ 0 = x.tasks ∙ ap (λ z. z.k) same.0 ∙ e.none in
+    let sink : c.ended-in-Err.result.sink ≡ c.args.sink = x.sink ∙ ap (λ z. z.sink) same.0 ∙ e.sink in
+    let nothing = done_nothing c.no_rows_give_nothing.ensures c.no_tasks_no_rows.ensures q (c.checked_fit.ensures q c.requires.checked) s had before w f in
+    let d : Done q s had (left c.run-ran.new.from) before (faults c.run-ran.new.from) w f c.ended-in-Err.result.end c.ended-in-Err.result.tasks (wrote c.ended-in-Err.result.sink) (failed c.ended-in-Err.result.sink) =
+    transport (λ i. Done q s had (left (sym same.2 i)) before (faults (sym same.2 i)) w f (sym ends i) (sym counts i) (wrote (sym sink i)) (failed (sym sink i))) nothing in
+    record {
+      gives = (d.out, d.written_is, if_told _ g.S.Source.left c.args.inputs.now (λ files h. d.gives files (suits q s.max_lines g.S.Source.left c.args.inputs.now c.requires.inputs) h));
+      whole = d.whole;
+      takes = subst (λ i. (taken : List (List ℕ)) × GaveAll had taken (left i)) (sym same.2) (took_none g.S.Source.left c.args.inputs.now);
+      read = d.read;
+      write = d.write;
+      read_good = d.read_good;
+      write_good = d.write_good;
+      reads = d.reads;
+      writes = d.writes;
+    }

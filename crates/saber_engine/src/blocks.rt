@@ -1,0 +1,70 @@
+// The blocks of a query's inputs, as the tasks of a run.
+ghost use Rattle.std.specs.Prelude.{◌≡◌, ℕ, List, [], None, IsSome, false};
+ghost use Rattle.saber_plan.specs.declared.sizes.Sizes.{Sizes};
+ghost use Rattle.saber_assembly.specs.declared.work.Told.{Told};
+ghost use Rattle.saber_assembly.specs.Works.{IsTold, with_block, IsBlockOf};
+ghost use Rattle.saber_dispatch.specs.Sources.{Lefts, each_input};
+ghost use Rattle.saber_crew.specs.Supplies.{Gives};
+ghost use Rattle.saber_engine.specs.Supplying.{HasGiven};
+
+use saber_assembly::SaberWork;
+use saber_crew::Supply;
+use saber_dispatch::{Cut, Cutter, End, Inputs, blocks_are_supplied};
+use saber_fragment::{Block, Operator};
+use saber_io::{Sink, Source};
+use std::marker::{Brand, PhantomData};
+
+/// What there was when a run began. The caller picks it, for the contracts alone.
+pub(crate) trait Begins {
+    // the sizes of the run
+    ghost sizes: { Sizes };
+
+    // what each input had left
+    ghost lefts: { Lefts };
+
+    // the inputs' counts of faults
+    ghost faults: { List ℕ };
+}
+
+impl Begins for Brand {
+    ghost sizes = { record { task = 1; ring = 1; threads = 0; max_lines = 1; flush = false } };
+
+    ghost lefts = { [] };
+
+    ghost faults = { [] };
+}
+
+/// The blocks of a run that began so, and how they ended, once they did.
+pub(crate) struct Blocks<S, J> {
+    pub(crate) cutter: Cutter,
+    pub(crate) end: Option<End>,
+    pub(crate) source: PhantomData<S>,
+    pub(crate) begun: PhantomData<J>,
+}
+
+impl<S: Source, J: Begins, O: Operator, K: Sink> Supply<SaberWork<O, K>> for Blocks<S, J> {
+    type From = Inputs<S>;
+
+    ghost has_given = { λ blocks from told d. HasGiven O.plan J.sizes J.lefts (each_input S.left from) J.faults (each_input S.faults from) blocks.cutter blocks.end told d };
+
+    ghost is_over = { λ blocks. IsSome blocks.end };
+
+    fn next(&mut self, from: &mut Inputs<S>) -> Option<Block>
+        requires { (told : Told O) × (d : ℕ) × HasGiven O.plan J.sizes J.lefts (each_input S.left from.old) J.faults (each_input S.faults from.old) self.old.cutter self.old.end told d }
+        ensures gives { (told : Told O) (d : ℕ) → HasGiven O.plan J.sizes J.lefts (each_input S.left from.old) J.faults (each_input S.faults from.old) self.old.cutter self.old.end told d
+            → Gives (IsTold O.plan) with_block (IsBlockOf O.plan) (HasGiven O.plan J.sizes J.lefts (each_input S.left from.new) J.faults (each_input S.faults from.new) self.new.cutter self.new.end) told d result }
+        ensures over { result ≡ None → IsSome self.new.end }
+    {
+        blocks_are_supplied::<O>();
+        match self.end {
+            Some(_) => None,
+            None => match self.cutter.next_block(from) {
+                Cut::Block(block) => Some(block),
+                Cut::Ended(end) => {
+                    self.end = Some(end);
+                    None
+                }
+            },
+        }
+    }
+}

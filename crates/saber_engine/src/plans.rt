@@ -1,0 +1,100 @@
+// A run of one operator.
+ghost use Rattle.std.specs.Prelude.{◌≡◌, ◌≢◌, ◌≤◌, ℕ, List, IfSome, length};
+ghost use Rattle.saber_io.specs.Outside.{Rose, appended};
+ghost use Rattle.saber_plan.specs.declared.rows.Side.{Side};
+ghost use Rattle.saber_plan.specs.Trees.{tree_of};
+ghost use Rattle.saber_plan.specs.Checked.{IsChecked};
+ghost use Rattle.saber_plan.specs.Sizes.{SizesFit};
+ghost use Rattle.saber_engine.specs.declared.ends.RunEnd.{RunEnd};
+ghost use Rattle.saber_engine.specs.Sources.{each_input, told_by, input_of, RoseAt, NoneFell, GaveAll};
+ghost use Rattle.saber_engine.specs.Gives.{Gives, IsClean, ReadsWhole};
+
+use crate::blocks::{Begins, Blocks};
+use crate::ends::{Ran, RunEnd, ended};
+use saber_assembly::{SaberWork, Stage};
+use saber_crew::{Over, run};
+use saber_dispatch::{Cutter, Inputs, blocks_are_tasks, faults_leave_whole_tasks};
+use saber_fragment::Operator;
+use saber_io::{Gate, Sink, Source};
+use saber_laws::{checked_fit, first_of_first, no_rows_give_nothing, no_tasks_no_rows};
+use saber_plan::{Plan, Sizes};
+use std::alloc::Global;
+use std::marker::{Brand, PhantomData};
+use std::sync::Wait;
+use std::thread::Threads;
+
+/// Runs the operator of a checked plan over the plan's inputs. `J` names what there was when it began.
+pub(crate) fn run_plan<
+    S: Source,
+    O: Operator + Send + Sync,
+    K: Sink + Send,
+    G: Gate + Sync,
+    J: Begins,
+    R: Threads + Wait + Sync,
+>(
+    rt: &R,
+    alloc: Global,
+    operator: &O,
+    plan: &Plan,
+    inputs: &mut Inputs<S>,
+    sink: K,
+    sizes: &Sizes,
+    gate: &G,
+) -> Ran<K>
+where
+    O::Draft: Send,
+    O::Piece: Send,
+    O::Store: Send,
+    requires plan { O.plan operator.now ≡ tree_of plan.now }
+    requires checked { IsChecked (tree_of plan.now) }
+    requires inputs { length (each_input S.left inputs.old) ≡ length (tree_of plan.now).streams }
+    requires sizes { SizesFit sizes.now }
+    requires begins { (J.sizes ≡ sizes.now) × (J.lefts ≡ each_input S.left inputs.old) × (J.faults ≡ each_input S.faults inputs.old) }
+    ensures gives { (out : List ℕ) × (K.written result.sink ≡ appended (K.written sink) out)
+        × IfSome (told_by S.left inputs.old) (λ files. Gives (tree_of plan.now) sizes.now.task sizes.now.ring sizes.now.flush (input_of (tree_of plan.now) sizes.now.max_lines files) result.end result.tasks out) }
+    ensures whole { (side : Side) → result.end ≡ RunEnd.ReadFault side → ReadsWhole (tree_of plan.now) sizes.now.task sizes.now.max_lines result.tasks (each_input S.left inputs.old) (each_input S.left inputs.new) }
+    ensures takes { (taken : List (List ℕ)) × GaveAll (each_input S.left inputs.old) taken (each_input S.left inputs.new) }
+    ensures read { (side : Side) → result.end ≡ RunEnd.ReadFault side → RoseAt side (each_input S.faults inputs.old) (each_input S.faults inputs.new) }
+    ensures write { result.end ≡ RunEnd.WriteFault → Rose (K.faults sink) (K.faults result.sink) }
+    ensures read_good { IsClean result.end → each_input S.faults inputs.new ≡ each_input S.faults inputs.old }
+    ensures write_good { result.end ≢ RunEnd.WriteFault → K.faults result.sink ≡ K.faults sink }
+    ensures reads { NoneFell (each_input S.faults inputs.old) (each_input S.faults inputs.new) }
+    ensures writes { K.faults sink ≤ K.faults result.sink }
+{
+    checked_fit();
+    no_rows_give_nothing();
+    no_tasks_no_rows();
+    first_of_first();
+    blocks_are_tasks();
+    faults_leave_whole_tasks();
+    let stage = Stage::new(alloc, operator, sink);
+    let Ok(cutter) = Cutter::new(alloc, plan, sizes) else {
+        return ended(stage, Over::NoMemory, None);
+    };
+    let mut blocks = Blocks::<S, J> {
+        cutter,
+        end: None,
+        source: PhantomData,
+        begun: PhantomData,
+    };
+    let ran = run::<SaberWork<O, K>, O, G, Blocks<S, J>, Brand, R>(
+        rt,
+        alloc,
+        operator,
+        gate,
+        &mut blocks,
+        inputs,
+        stage,
+        sizes,
+    );
+    let Blocks {
+        cutter: _cutter,
+        end,
+        source: _source,
+        begun: _begun,
+    } = blocks;
+    match ran {
+        Ok((stage, fed)) => ended(stage, fed.over, end),
+        Err(stage) => ended(stage, Over::NoMemory, None),
+    }
+}
