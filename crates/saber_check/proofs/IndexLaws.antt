@@ -214,7 +214,7 @@ key : (q : Query) (g : Keys) (k i : ℕ) (c : Column) → Before (i + column_wid
 unfolding key_faults
 key q g k i c =
     let n = i + column_width c in
-    append (append (at_row n i (k == 8) cause.TooMany (omega arith)) (at_row n i (among_columns c (take k (keys g))) cause.DuplicateName (omega arith))) (column q i c)
+    append (append (at_row n i (k == 8) cause.TooMany (omega arith)) (at_row n i (among_columns q c (take k (keys g))) cause.DuplicateName (omega arith))) (column q i c)
 
 group : (q : Query) (i : ℕ) (o : Option Keys) → Before (i + group_width o) (option_map_or (group_faults q i) o [])
 unfolding group_faults

@@ -25,9 +25,9 @@ use Rattle.saber_query.specs.declared.tree.Keys.{Keys}
 use Rattle.saber_query.specs.Trees.{Query}
 use Rattle.saber_check.specs.Least.{each}
 use Rattle.saber_check.specs.Widths.{factor_width, prod_width, column_width, item_width}
-use Rattle.saber_check.specs.Names.{same, decls, declares}
+use Rattle.saber_check.specs.Names.{is_of_first, is_of_second, same, decls, declares}
 use Rattle.saber_check.specs.Bounds.{factors, prods, products, product_faults, sum_faults}
-use Rattle.saber_check.specs.Faults.{own_name, same_stream, same_column, among_columns, column_faults, factor_faults, prod_faults, expr_faults, is_aggregate, any_aggregate, is_join, is_group, is_key, is_column_key, is_sum_wide, content_faults, item_faults, items, key_faults, group_faults, group_part_faults, keys}
+use Rattle.saber_check.specs.Faults.{own_name, same_second, same_words, same_column, among_columns, column_faults, factor_faults, prod_faults, expr_faults, is_aggregate, any_aggregate, is_join, is_group, is_key, is_column_key, is_sum_wide, content_faults, item_faults, items, key_faults, group_faults, group_part_faults, keys}
 use Rattle.saber_check.specs.Plans.{is_left, place, plan_place, plan_side, plan_factor, plan_term, plan_expr, plan_item, plan_stream, plan_shape, plan_keys, streams}
 use Rattle.saber_check.proofs.NoFaults.{before, row_and, rows_and, first_part, other_parts, few, is_true, neither, not_both, same_names}
 use Rattle.saber_check.proofs.ColumnLaws.{AreDeclared, Found, found, left_there, column_there}
@@ -97,7 +97,7 @@ keys_there : (q : Query) (g : Keys) (k i : ℕ) (cs : List Column) → q.second 
 unfolding key_faults
 keys_there q g k i [] n d e = tt
 keys_there q g k i (c ∷ cs) n d e =
-    let h = rows_and (k == 8) (among_columns c (take k (keys g))) i i cause.TooMany cause.DuplicateName (column_faults q i c) (first_part column_width (key_faults q g) k i c cs e) in
+    let h = rows_and (k == 8) (among_columns q c (take k (keys g))) i i cause.TooMany cause.DuplicateName (column_faults q i c) (first_part column_width (key_faults q g) k i c cs e) in
     let l = left_alone q c n (found q i c d h.2) in
     (subst (λ m. m < sides q Left) (sym (place_alone q c n)) (left_there q (own_name c) l.1), keys_there q g (k + 1) (i + column_width c + 1) cs n d (other_parts column_width (key_faults q g) k i c cs e))
 
@@ -144,17 +144,37 @@ empty (x ∷ xs) e = absurd (omega (arith, zero_length (length (x ∷ xs)) e))
 behind_one : (x n : ℕ) (xs : List ℕ) → Contains xs n → Contains (x ∷ xs) n
 behind_one x n xs (k, h, e) = (suc k, omega arith, e)
 
+-- two names are of one stream
+abbrev is_of_one : Query → Column → Column → Bool
+is_of_one q c d = (is_of_first q c && is_of_first q d) || (is_of_second q c && is_of_second q d)
+
+-- two names of the same words are the same name
+words_alike : (c d : Column) → same_words c d ≡ true → own_name c ≡ own_name d
+words_alike c d e = let h = both (same c.first d.first) (same_second c.second d.second) e in by c.second d.second (same_names c.first d.first h.0) h.1
+  where
+    by : (m n : Option (List ℕ)) → c.first ≡ d.first → same_second m n ≡ true → option_map_or (λ n. n) m c.first ≡ option_map_or (λ n. n) n d.first
+    by None None f s = f
+    by None (Some n) f s = cc
+    by (Some m) None f s = cc
+    by (Some m) (Some n) f s = same_names m n s
+
+-- and so are two names of one column
+same_own : (q : Query) (c d : Column) → same_column q c d ≡ true → own_name c ≡ own_name d
+same_own q c d e = elim (either (same_words c d) (same (own_name c) (own_name d) && is_of_one q c d) e) [
+  | inl h ↦ words_alike c d h
+  | inr h ↦ same_names (own_name c) (own_name d) (both (same (own_name c) (own_name d)) (is_of_one q c d) h).0
+]
+
 -- a column of GROUP BY has its place among the keys
-among_places : (q : Query) (c : Column) (cs : List Column) → q.second ≡ None → among_columns c cs ≡ true → Contains (map (plan_place q) cs) (plan_place q c)
+among_places : (q : Query) (c : Column) (cs : List Column) → q.second ≡ None → among_columns q c cs ≡ true → Contains (map (plan_place q) cs) (plan_place q c)
 among_places q c [] n e = cc
-among_places q c (d ∷ ds) n e = elim (either (same_column d c) (among_columns c ds) e) [
+among_places q c (d ∷ ds) n e = elim (either (same_column q d c) (among_columns q c ds) e) [
   | inl h ↦
-      let s : own_name d ≡ own_name c = same_names (own_name d) (own_name c) (both (same (own_name d) (own_name c)) (same_stream d c) h).0 in
-      (0, omega arith, place_alone q d n ∙ ap (place (decls q) q.from.name) s ∙ sym (place_alone q c n))
+      (0, omega arith, place_alone q d n ∙ ap (place (decls q) q.from.name) (same_own q d c h) ∙ sym (place_alone q c n))
   | inr h ↦ behind_one (plan_place q d) (plan_place q c) (map (plan_place q) ds) (among_places q c ds n h)
 ]
 
-key_of : (q : Query) (c : Column) (o : Option Keys) → q.second ≡ None → option_map_or (λ (g : Keys). among_columns c (keys g)) o false ≡ true → Contains (option_map_or (λ (g : Keys). map (plan_place q) (keys g)) o []) (plan_place q c)
+key_of : (q : Query) (c : Column) (o : Option Keys) → q.second ≡ None → option_map_or (λ (g : Keys). among_columns q c (keys g)) o false ≡ true → Contains (option_map_or (λ (g : Keys). map (plan_place q) (keys g)) o []) (plan_place q c)
 key_of q c None n e = cc
 key_of q c (Some g) n e = among_places q c (keys g) n e
 

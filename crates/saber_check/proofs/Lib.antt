@@ -14,4 +14,6 @@ pub mod ConditionLaws
 pub mod CheckedLaws
 pub mod SettledLaws
 pub mod TextLaws
+pub mod FaultLaws
 pub mod FrontLaws
+mod PlanOrFault

@@ -43,7 +43,7 @@ column_name d k i n = append (at_row i i (k == 32) cause.TooMany (omega arith)) 
 
 pub group_key : (q : Query) (g : Keys) (k i : ℕ) (c : Column) → From i (key_faults q g k i c)
 unfolding key_faults
-group_key q g k i c = append (append (at_row i i (k == 8) cause.TooMany (omega arith)) (at_row i i (among_columns c (take k (keys g))) cause.DuplicateName (omega arith))) (column q i c)
+group_key q g k i c = append (append (at_row i i (k == 8) cause.TooMany (omega arith)) (at_row i i (among_columns q c (take k (keys g))) cause.DuplicateName (omega arith))) (column q i c)
 
 less : (f g : Fault) → f.index < g.index → key f ≤ key g
 unfolding key

@@ -9,7 +9,7 @@ use Rattle.saber_query.specs.declared.fault.Cause.TheVariants.{TooLong, BadByte,
 use Rattle.saber_query.specs.Trees.{Query, query_of, depth}
 use Rattle.saber_query.specs.Words.{words, Begins, Unfit, IsDeep}
 use Rattle.saber_query.specs.Real.{AllReal}
-use Rattle.saber_query.specs.Parsed.{Parsed, IsParsed}
+use Rattle.saber_query.specs.Parsed.{Parsed}
 use Rattle.saber_query.specs.Lexing.{lexed}
 use Rattle.saber_query.specs.Reading.{token_of}
 use Rattle.saber_query.specs.Means.{MeansTree, TextFault}
@@ -22,10 +22,10 @@ abbrev pub HaveOneTree : Type 0
 HaveOneTree = (q r : Query) → words q ≡ words r → q ≡ r
 
 -- a text has one list of tokens
-same_tokens : (text : List ℕ) (a b : List Placed) → lexed text ≡ Ok a → lexed text ≡ Ok b → a ≡ b
+pub same_tokens : (text : List ℕ) (a b : List Placed) → lexed text ≡ Ok a → lexed text ≡ Ok b → a ≡ b
 same_tokens text a b e h = cc
 
-same_query : HaveOneTree → (text : List ℕ) (p r : Parsed) → MeansTree text p → MeansTree text r → query_of p.select ≡ query_of r.select
+pub same_query : HaveOneTree → (text : List ℕ) (p r : Parsed) → MeansTree text p → MeansTree text r → query_of p.select ≡ query_of r.select
 same_query one text p r m n = one (query_of p.select) (query_of r.select) (m.words ∙ ap (map token_of) (same_tokens text m.placed n.placed m.lexed n.lexed) ∙ sym n.words)
 
 real_behind : (xs ys : List Token) → AllReal (xs ++ ys) → AllReal ys
@@ -50,12 +50,12 @@ shallow : (q : Query) (before rest : List Token) → AllReal (words q) → words
 shallow q before [] a e h d = d
 shallow q before (t ∷ rest) a e h d = d.none (begins 64 q before t rest a e h)
 
-means_or_not : (c : Cause) (b : ℕ) (text : List ℕ) (p : Parsed) → IsParsed p.select p.starts → MeansTree text p → TextFault c b text → ⊥
+pub means_or_not : (c : Cause) (b : ℕ) (text : List ℕ) (p : Parsed) → AllReal (words (query_of p.select)) → MeansTree text p → TextFault c b text → ⊥
 means_or_not TooLong b text p i m f = omega (arith, f.0, m.short)
 means_or_not BadByte b text p i m f = cc
 means_or_not NumberRange b text p i m f = cc
-means_or_not Syntax b text p i m f = fits (query_of p.select) (map token_of f.before) (map token_of f.rest) i.real (split_words text p f.before f.rest m f.lexed) f.there.none
-means_or_not Depth b text p i m f = shallow (query_of p.select) (map token_of f.before) (map token_of f.rest) i.real (split_words text p f.before f.rest m f.lexed) m.shallow f.there
+means_or_not Syntax b text p i m f = fits (query_of p.select) (map token_of f.before) (map token_of f.rest) i (split_words text p f.before f.rest m f.lexed) f.there.none
+means_or_not Depth b text p i m f = shallow (query_of p.select) (map token_of f.before) (map token_of f.rest) i (split_words text p f.before f.rest m f.lexed) m.shallow f.there
 means_or_not DuplicateName b text p i m f = f
 means_or_not UnknownStream b text p i m f = f
 means_or_not UnknownColumn b text p i m f = f
@@ -69,7 +69,7 @@ means_or_not ExprTooWide b text p i m f = f
 means_or_not SumTooWide b text p i m f = f
 
 pub fault_or_plan : HaveOneTree → (text : List ℕ) (byte : ℕ) (cause : Cause) (tree : Tree) → HasFault text byte cause → ¬ (HasPlan text tree)
-fault_or_plan one text byte cause tree (means_none f) p = means_or_not cause byte text p.query p.parsed p.means f
+fault_or_plan one text byte cause tree (means_none f) p = means_or_not cause byte text p.query p.parsed.real p.means f
 fault_or_plan one text byte cause tree (fails_checks f) p =
     let P : Query → Type 0 = λ q. IsFaultless q in
     subst P (same_query one text p.query f.query p.means f.means) p.faultless f.fails.index cause f.fails.first.there

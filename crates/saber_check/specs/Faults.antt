@@ -1,7 +1,7 @@
 -- What is wrong with a query whose words are right: each fault with the index of the word where it stands (this project's
 -- rules on queries). Each table below is a list of rows; a row is a test, a place and a cause. In each, i is the index of
 -- the part's first word, and k counts the parts of its kind before it.
-use Rattle.std.specs.Prelude.{ℕ, ◌+◌, ◌^◌, ◌==◌, List, [], ◌∷◌, ◌++◌, length, take, Bool, true, false, not, ◌&&◌, ◌||◌, nat_lt, Option, is_some}
+use Rattle.std.specs.Prelude.{ℕ, ◌+◌, ◌^◌, ◌==◌, List, [], ◌∷◌, ◌++◌, length, take, Bool, true, false, not, ◌&&◌, ◌||◌, nat_lt, Option, Some, None, is_some}
 use Rattle.std.specs.Option.{option_map_or}
 use Rattle.saber_plan.specs.Overlap.{overlap}
 use Rattle.saber_query.specs.declared.tree.Column.{Column}
@@ -21,7 +21,7 @@ use Rattle.saber_check.specs.declared.fault.Fault.{Fault}
 use Rattle.saber_query.specs.declared.fault.Cause.TheVariants as cause
 use Rattle.saber_query.specs.Trees.{Test, negated, enclosed, compare, Ands, no_more, and_also, Ors, no_other, or_else, Tests, Both, Query}
 use Rattle.saber_check.specs.Widths.{column_width, factor_width, prod_width, expr_width, item_width, source_width, second_source_width, second_width, test_width, ands_width, where_width, decl_width, name_width, group_width, span}
-use Rattle.saber_check.specs.Names.{decls, names, among, names_stream, is_declared, is_unknown_stream, is_unknown_column, is_ambiguous, same}
+use Rattle.saber_check.specs.Names.{decls, names, among, names_stream, is_declared, is_unknown_stream, is_unknown_column, is_ambiguous, is_of_first, is_of_second, same}
 use Rattle.saber_check.specs.Bounds.{product_faults, sum_faults, factors, products, expr_bound}
 use Rattle.saber_check.specs.Least.{row, each}
 
@@ -82,18 +82,25 @@ is_selection q = not (is_join q) && not (is_group q)
 abbrev pub own_name : Column → List ℕ
 own_name c = option_map_or (λ n. n) c.second c.first
 
--- the streams of two columns, where both are named
-abbrev pub same_stream : Column → Column → Bool
-same_stream c d = option_map_or (λ m. option_map_or (λ n. same c.first d.first) d.second true) c.second true
+-- neither has a second name, or both have the same
+abbrev pub same_second : Option (List ℕ) → Option (List ℕ) → Bool
+same_second None None = true
+same_second None (Some n) = false
+same_second (Some m) None = false
+same_second (Some m) (Some n) = same m n
 
--- the same column, qualified or not
-abbrev pub same_column : Column → Column → Bool
-same_column c d = same (own_name c) (own_name d) && same_stream c d
+-- two names of the same words, whatever they name
+abbrev pub same_words : Column → Column → Bool
+same_words c d = same c.first d.first && same_second c.second d.second
+
+-- two names of the same words, or of one column of a stream of FROM, qualified or not: a name that is no column's is the same as itself alone
+abbrev pub same_column : Query → Column → Column → Bool
+same_column q c d = same_words c d || (same (own_name c) (own_name d) && ((is_of_first q c && is_of_first q d) || (is_of_second q c && is_of_second q d)))
 
 -- whether the column is one of these
-abbrev pub among_columns : Column → List Column → Bool
-among_columns c [] = false
-among_columns c (d ∷ ds) = same_column d c || among_columns c ds
+abbrev pub among_columns : Query → Column → List Column → Bool
+among_columns q c [] = false
+among_columns q c (d ∷ ds) = same_column q d c || among_columns q c ds
 
 -- all columns of GROUP BY in order
 abbrev pub keys : Keys → List Column
@@ -101,7 +108,7 @@ keys k = k.first ∷ k.more
 
 -- a column that GROUP BY names
 abbrev pub is_column_key : Query → Factor → Bool
-is_column_key q (f.Column c) = option_map_or (λ k. among_columns c (keys k)) q.group false
+is_column_key q (f.Column c) = option_map_or (λ k. among_columns q c (keys k)) q.group false
 is_column_key q (f.Number n) = false
 is_column_key q (f.Negative n) = false
 
@@ -202,7 +209,7 @@ tests_faults q i t = test_faults q i t.first ++ ands_faults q (i + test_width t.
 
 -- at most 8 columns in GROUP BY, each once
 unfoldable pub key_faults : Query → Keys → ℕ → ℕ → Column → List Fault
-key_faults q g k i c = row (k == 8) i cause.TooMany ++ row (among_columns c (take k (keys g))) i cause.DuplicateName ++ column_faults q i c
+key_faults q g k i c = row (k == 8) i cause.TooMany ++ row (among_columns q c (take k (keys g))) i cause.DuplicateName ++ column_faults q i c
 
 -- i is the index of the word GROUP, which no join has
 unfoldable pub group_faults : Query → ℕ → Keys → List Fault

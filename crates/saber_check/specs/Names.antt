@@ -55,6 +55,18 @@ in_first q n = has q q.from.name n
 abbrev pub in_second : Query → List ℕ → Bool
 in_second q n = option_map_or (λ f. has q f.name n) q.second false
 
+-- whether the second stream of FROM has this name
+abbrev pub is_second : Query → List ℕ → Bool
+is_second q s = option_map_or (λ f. same f.name s) q.second false
+
+-- the name is that of a column of the first stream of FROM: a qualified name says that stream, an unqualified one is a column of no other
+abbrev pub is_of_first : Query → Column → Bool
+is_of_first q c = option_map_or (λ n. same q.from.name c.first && in_first q n) c.second (in_first q c.first && not (in_second q c.first))
+
+-- the name is that of a column of the second
+abbrev pub is_of_second : Query → Column → Bool
+is_of_second q c = option_map_or (λ n. is_second q c.first && in_second q n) c.second (in_second q c.first && not (in_first q c.first))
+
 -- the first part of a qualified name isn't a stream of FROM
 abbrev pub is_unknown_stream : Query → Column → Bool
 is_unknown_stream q c = option_map_or (λ n. not (is_from q c.first)) c.second false

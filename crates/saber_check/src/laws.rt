@@ -1,9 +1,17 @@
 // Laws of texts: functions that do nothing, whose contracts are the laws.
-ghost use Rattle.std.specs.Prelude.{◌≡◌, ℕ, List, take};
+ghost use Rattle.std.specs.Prelude.{◌≡◌, ◌⊎◌, ℕ, List, take};
 ghost use Rattle.saber_plan.specs.Checked.{IsChecked};
 ghost use Rattle.saber_plan.specs.Trees.{Tree};
 ghost use Rattle.saber_query.specs.declared.fault.Cause.{Cause};
 ghost use Rattle.saber_check.specs.Texts.{HasPlan, HasFault};
+
+/// Each text has a plan or a first fault. It has no two of these, as the laws below say.
+pub fn a_text_has_a_plan_or_a_fault()
+    ensures { (text : List ℕ) → ((tree : Tree) × HasPlan text tree)
+        ⊎ ((byte : ℕ) × (cause : Cause) × HasFault text byte cause) }
+{
+    saber_query::a_text_means_a_query_or_has_a_fault();
+}
 
 /// A text that has a fault has no plan.
 pub fn a_fault_excludes_a_plan()
@@ -11,6 +19,15 @@ pub fn a_fault_excludes_a_plan()
         HasFault text byte cause → ¬ (HasPlan text tree) }
 {
     saber_query::words_have_one_tree();
+}
+
+/// A text has at most one first fault.
+pub fn a_text_has_one_fault()
+    ensures { (text : List ℕ) (byte other : ℕ) (cause another : Cause) →
+        HasFault text byte cause → HasFault text other another → (byte ≡ other) × (cause ≡ another) }
+{
+    saber_query::words_have_one_tree();
+    saber_query::tokens_are_real();
 }
 
 /// A text has at most one plan.

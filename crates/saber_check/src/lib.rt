@@ -21,7 +21,8 @@ mod whole;
 
 pub use fault::Fault;
 pub use laws::{
-    a_fault_excludes_a_plan, a_front_tells_all, a_plan_is_checked, a_text_has_one_plan,
+    a_fault_excludes_a_plan, a_front_tells_all, a_plan_is_checked, a_text_has_a_plan_or_a_fault,
+    a_text_has_one_fault, a_text_has_one_plan,
 };
 pub use query::check;
 pub use text::plan_of;

@@ -1,7 +1,7 @@
 // Which names stand for what.
 ghost use Rattle.std.specs.Prelude.{◌≡◌, ◌||◌};
 ghost use Rattle.saber_query.specs.Trees.{query_of};
-ghost use Rattle.saber_check.specs.Names.{same, among, decls, declares, names_stream, is_declared, has, lacks, is_from, in_first, in_second, is_unknown_stream, is_unknown_column, is_ambiguous};
+ghost use Rattle.saber_check.specs.Names.{same, among, decls, declares, names_stream, is_declared, has, lacks, is_from, in_first, in_second, is_second, is_of_first, is_of_second, is_unknown_stream, is_unknown_column, is_ambiguous};
 
 use saber_query::{Column, Decl, Name, Select};
 
@@ -78,16 +78,19 @@ fn lacks(query: &Select, stream: &Name, name: &Name) -> bool
     }
 }
 
-fn is_from(query: &Select, stream: &Name) -> bool
-    ensures { result ≡ is_from (query_of query.now) stream.now }
+fn is_second(query: &Select, stream: &Name) -> bool
+    ensures { result ≡ is_second (query_of query.now) stream.now }
 {
-    if query.from.name.is(stream) {
-        return true;
-    }
     match &query.second {
         Some(source) => source.name.is(stream),
         None => false,
     }
+}
+
+fn is_from(query: &Select, stream: &Name) -> bool
+    ensures { result ≡ is_from (query_of query.now) stream.now }
+{
+    query.from.name.is(stream) || is_second(query, stream)
 }
 
 pub(crate) fn in_first(query: &Select, name: &Name) -> bool
@@ -102,6 +105,26 @@ fn in_second(query: &Select, name: &Name) -> bool
     match &query.second {
         Some(source) => has(query, &source.name, name),
         None => false,
+    }
+}
+
+/// Whether the name is that of a column of the first stream of FROM.
+pub(crate) fn is_of_first(query: &Select, column: &Column) -> bool
+    ensures { result ≡ is_of_first (query_of query.now) column.now }
+{
+    match &column.second {
+        Some(name) => query.from.name.is(&column.first) && in_first(query, name),
+        None => in_first(query, &column.first) && !in_second(query, &column.first),
+    }
+}
+
+/// Whether the name is that of a column of the second stream of FROM.
+pub(crate) fn is_of_second(query: &Select, column: &Column) -> bool
+    ensures { result ≡ is_of_second (query_of query.now) column.now }
+{
+    match &column.second {
+        Some(name) => is_second(query, &column.first) && in_second(query, name),
+        None => in_second(query, &column.first) && !in_first(query, &column.first),
     }
 }
 

@@ -39,15 +39,16 @@ fn is_declared_before(query: &Select, before: usize, name: &Name) -> bool
 }
 
 // Whether one of so many first columns of GROUP BY is this one.
-fn is_key_before(group: &Keys, before: usize, column: &Column) -> bool
+fn is_key_before(query: &Select, group: &Keys, before: usize, column: &Column) -> bool
     requires { before ≤ length group.now.more + 1 }
-    ensures { result ≡ among_columns column.now (take before (keys group.now)) }
+    ensures { result
+        ≡ among_columns (query_of query.now) column.now (take before (keys group.now)) }
 {
     if before == 0 {
         return false;
     }
-    same_column(&group.first, column)
-        || is_among_columns(column, &group.more.as_slice()[..before - 1])
+    same_column(query, &group.first, column)
+        || is_among_columns(query, column, &group.more.as_slice()[..before - 1])
 }
 
 impl Walk {
@@ -277,7 +278,7 @@ impl Walk {
             (key_faults (query_of query.now) group.now before self.old.index column.now) }
     {
         let start = self.index;
-        let named = is_key_before(group, before, column);
+        let named = is_key_before(query, group, before, column);
         self.report(before == 8, start, Cause::TooMany);
         self.report(named, start, Cause::DuplicateName);
         self.column(query, column);

@@ -2,8 +2,10 @@
 ghost use Rattle.std.specs.Prelude.{◌≡◌, ◌≤◌, ◌^◌, ◌&&◌, ◌||◌, not, is_some, false};
 ghost use Rattle.std.specs.Option.{option_map_or};
 ghost use Rattle.saber_query.specs.Trees.{query_of};
-ghost use Rattle.saber_check.specs.Faults.{any_aggregate, is_aggregate, is_join, is_group, is_selection, same_measure, is_apart, is_out, is_overlapping, own_name, same_stream, same_column, among_columns, is_column_key, is_key, keys};
+ghost use Rattle.saber_check.specs.Names.{is_of_first, is_of_second};
+ghost use Rattle.saber_check.specs.Faults.{any_aggregate, is_aggregate, is_join, is_group, is_selection, same_measure, is_apart, is_out, is_overlapping, own_name, same_second, same_words, same_column, among_columns, is_column_key, is_key, keys};
 
+use crate::names::{is_of_first, is_of_second};
 use saber_plan::overlap;
 use saber_query::{Column, Expr, Factor, Item, Measure, Name, Select, Window};
 
@@ -103,27 +105,48 @@ pub(crate) fn own_name(column: &Column) -> &Name
     }
 }
 
-fn same_stream(column: &Column, other: &Column) -> bool
-    ensures { result ≡ same_stream column.now other.now }
+fn is_of_one(query: &Select, column: &Column, other: &Column) -> bool
+    ensures { result
+        ≡ ((is_of_first (query_of query.now) column.now && is_of_first (query_of query.now) other.now)
+        || (is_of_second (query_of query.now) column.now && is_of_second (query_of query.now) other.now)) }
 {
-    if column.second.is_some() && other.second.is_some() {
-        return column.first.is(&other.first);
+    is_of_first(query, column) && is_of_first(query, other)
+        || is_of_second(query, column) && is_of_second(query, other)
+}
+
+// Neither has a second name, or both have the same.
+fn same_second(column: &Column, other: &Column) -> bool
+    ensures { result ≡ same_second column.now.second other.now.second }
+{
+    match &column.second {
+        Some(name) => match &other.second {
+            Some(same) => name.is(same),
+            None => false,
+        },
+        None => other.second.is_none(),
     }
-    true
 }
 
-/// The same column, qualified or not.
-pub(crate) fn same_column(column: &Column, other: &Column) -> bool
-    ensures { result ≡ same_column column.now other.now }
+// Two names of the same words, whatever they name.
+fn same_words(column: &Column, other: &Column) -> bool
+    ensures { result ≡ same_words column.now other.now }
 {
-    own_name(column).is(own_name(other)) && same_stream(column, other)
+    column.first.is(&other.first) && same_second(column, other)
 }
 
-pub(crate) fn is_among_columns(column: &Column, columns: &[Column]) -> bool
-    ensures { result ≡ among_columns column.now columns.now }
+/// Two names of the same words, or of one column of a stream of FROM, qualified or not.
+pub(crate) fn same_column(query: &Select, column: &Column, other: &Column) -> bool
+    ensures { result ≡ same_column (query_of query.now) column.now other.now }
+{
+    same_words(column, other)
+        || own_name(column).is(own_name(other)) && is_of_one(query, column, other)
+}
+
+pub(crate) fn is_among_columns(query: &Select, column: &Column, columns: &[Column]) -> bool
+    ensures { result ≡ among_columns (query_of query.now) column.now columns.now }
 {
     for other in columns {
-        if same_column(other, column) {
+        if same_column(query, other, column) {
             return true;
         }
     }
@@ -131,12 +154,14 @@ pub(crate) fn is_among_columns(column: &Column, columns: &[Column]) -> bool
 }
 
 fn is_grouped(query: &Select, column: &Column) -> bool
-    ensures { result ≡ option_map_or (λ k. among_columns column.now (keys k)) query.now.group
+    ensures { result
+        ≡ option_map_or (λ k. among_columns (query_of query.now) column.now (keys k)) query.now.group
         false }
 {
     match &query.group {
         Some(keys) => {
-            same_column(&keys.first, column) || is_among_columns(column, keys.more.as_slice())
+            same_column(query, &keys.first, column)
+                || is_among_columns(query, column, keys.more.as_slice())
         }
         None => false,
     }

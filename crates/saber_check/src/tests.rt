@@ -148,6 +148,90 @@ fn names(rt: HostRuntime) -> Result<(), Fail> {
     Ok(())
 }
 
+// The same column: both names are of one column of a stream of FROM, qualified or not, or of the same words.
+#[test]
+fn grouping(rt: HostRuntime) -> Result<(), Fail> {
+    let alloc = rt.alloc();
+    for (text, byte, cause) in [
+        (
+            "SELECT MAX(3), g FROM S [ROWS 8 SLIDE 2] GROUP BY T.g",
+            32u64,
+            Cause::NotGrouped,
+        ),
+        (
+            "SELECT MAX(3), S.g FROM S [ROWS 8 SLIDE 2] GROUP BY T.g",
+            32,
+            Cause::NotGrouped,
+        ),
+        (
+            "SELECT MAX(3), g FROM S [ROWS 8 SLIDE 2] GROUP BY S.v",
+            32,
+            Cause::NotGrouped,
+        ),
+        (
+            "SELECT MAX(3), T.g FROM S [ROWS 8 SLIDE 2] GROUP BY g",
+            32,
+            Cause::UnknownStream,
+        ),
+        (
+            "SELECT MAX(3), T.g FROM S [ROWS 8 SLIDE 2] GROUP BY T.g",
+            32,
+            Cause::UnknownStream,
+        ),
+        (
+            "SELECT MAX(3), w FROM S [ROWS 8 SLIDE 2] GROUP BY w",
+            32,
+            Cause::UnknownColumn,
+        ),
+        (
+            "SELECT MAX(3), S.w FROM S [ROWS 8 SLIDE 2] GROUP BY S.w",
+            34,
+            Cause::UnknownColumn,
+        ),
+        (
+            "SELECT MAX(3), T.g FROM T [ROWS 8 SLIDE 2] GROUP BY T.g",
+            41,
+            Cause::UnknownStream,
+        ),
+        (
+            "SELECT MAX(3), S FROM S [ROWS 8 SLIDE 2] GROUP BY S",
+            32,
+            Cause::UnknownColumn,
+        ),
+        (
+            "SELECT MAX(3), g FROM S [ROWS 8 SLIDE 2] GROUP BY g, T.g",
+            70,
+            Cause::UnknownStream,
+        ),
+        (
+            "SELECT MAX(3), g FROM S [ROWS 8 SLIDE 2] GROUP BY S.g, g",
+            72,
+            Cause::DuplicateName,
+        ),
+        (
+            "SELECT MAX(3), g FROM S [ROWS 8 SLIDE 2] GROUP BY g, S.g",
+            70,
+            Cause::DuplicateName,
+        ),
+        (
+            "SELECT MAX(3), g FROM S [ROWS 8 SLIDE 2] GROUP BY g, S.w",
+            72,
+            Cause::UnknownColumn,
+        ),
+    ] {
+        assert_fault(&rt, alloc, &behind_s(alloc, text)?, byte, cause);
+    }
+    let spaced = b"STREAM S ( g ) ; SELECT MAX ( 3 ) , g FROM S [ RANGE 8 SLIDE 2 ] GROUP BY v.g";
+    assert_fault(&rt, alloc, spaced, 36, Cause::NotGrouped);
+    for text in [
+        "STREAM S(S); SELECT S, S.S, MAX(S) FROM S [ROWS 1 SLIDE 1] GROUP BY S",
+        "STREAM S(S); SELECT S, S.S, MAX(S) FROM S [ROWS 1 SLIDE 1] GROUP BY S.S",
+    ] {
+        assert!(rt; plan_of(alloc, text.as_bytes()).is_ok());
+    }
+    Ok(())
+}
+
 #[test]
 fn limits(rt: HostRuntime) -> Result<(), Fail> {
     let alloc = rt.alloc();

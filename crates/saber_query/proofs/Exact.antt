@@ -324,7 +324,7 @@ pub record Found (deep : Bool) (xs : List Symbol) (ts rest : List Token) : Type 
   pub path : Path xs taken ys
   pub at : AtEnd deep ys rest
 
-abbrev Walk : List Symbol → List Token → Fate → Type 0
+abbrev pub Walk : List Symbol → List Token → Fate → Type 0
 Walk xs ts fits = Means xs ts
 Walk xs ts (stops rest) = Found false xs ts rest
 Walk xs ts (deepens rest) = Found true xs ts rest

@@ -9,3 +9,6 @@ pub mod TextLemmas
 pub mod Checks
 pub mod LexBack
 pub mod Unique
+mod Made
+mod Told
+mod LongestLemmas

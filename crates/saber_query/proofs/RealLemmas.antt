@@ -15,7 +15,7 @@ use Rattle.saber_query.specs.Reading.{token_of}
 use Rattle.saber_query.specs.Real.{all_name_bytes, is_name_text, IsReal, AllReal}
 use Rattle.saber_query.specs.Lexing.{is_letter, is_name_byte, is_space, single, double, angle, placed, Step, goes, fails, after, if_single, begin, number_more, if_double, step, ended, onto, follow, lex_from, lexed}
 
-by_test : (c : Bool) (P : Step → Type 0) (x y : Step) → (c ≡ true → P x) → (c ≡ false → P y) → P (cond c x y)
+pub by_test : (c : Bool) (P : Step → Type 0) (x y : Step) → (c ≡ true → P x) → (c ≡ false → P y) → P (cond c x y)
 by_test true P x y f g = f refl
 by_test false P x y f g = g refl
 

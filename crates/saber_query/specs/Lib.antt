@@ -10,3 +10,4 @@ pub mod Parts
 pub mod Reading
 pub mod Means
 pub mod Spelling
+pub mod Longest

@@ -17,7 +17,10 @@ mod token;
 mod tree;
 
 pub use fault::{Cause, QueryFault};
-pub use laws::{spelled_tokens_are_read_back, words_have_one_tree};
+pub use laws::{
+    a_text_means_a_query_or_has_a_fault, spelled_tokens_are_read_back, tokens_are_of_longest_match,
+    tokens_are_real, words_have_one_tree,
+};
 pub use query::Query;
 pub use text::parse;
 pub use token::{Keyword, Name, Placed, Sign, Token};

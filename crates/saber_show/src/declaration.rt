@@ -3,9 +3,9 @@ ghost use Rattle.std.specs.Prelude.{◌≡◌, ◌++◌, OnOk};
 ghost use Rattle.saber_query.specs.Spelling.{spaced};
 ghost use Rattle.saber_query.specs.Words as w;
 
-use crate::NoMemory;
 use crate::spell::{mark, name, word};
 use saber_query::{Decl, Keyword, Name, Sign};
+use std::alloc::AllocError as NoMemory;
 
 #[tactic(auto, using(crate::proofs::SpellLemmas::joining))]
 fn names(out: &mut Vec<u8>, others: &[Name]) -> Result<(), NoMemory>

@@ -4,10 +4,9 @@ ghost use Rattle.saber_query.specs.declared.token.Token.TheVariants.{Mark};
 ghost use Rattle.saber_query.specs.Spelling.{spaced};
 ghost use Rattle.saber_query.specs.Words as w;
 
-use crate::NoMemory;
 use crate::spell::{mark, name, number};
 use saber_query::{Adding, Column, Expr, Factor, Prod, Sign, Term};
-use std::alloc::Global;
+use std::alloc::{AllocError as NoMemory, Global};
 
 #[tactic(auto, using(crate::proofs::SpellLemmas::joining))]
 pub(crate) fn column(out: &mut Vec<u8>, column: &Column) -> Result<(), NoMemory>

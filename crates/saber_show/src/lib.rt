@@ -10,8 +10,5 @@ mod spell;
 
 pub use query::show;
 
-/// Memory ran out.
-pub type NoMemory = std::alloc::AllocError;
-
 #[cfg(test)]
 mod tests;

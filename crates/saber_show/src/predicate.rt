@@ -5,11 +5,10 @@ ghost use Rattle.saber_query.specs.Spelling.{spaced};
 ghost use Rattle.saber_query.specs.Words as w;
 ghost use Rattle.saber_query.specs.Trees.{test_of, both_of, tests_of};
 
-use crate::NoMemory;
 use crate::expression::expr;
 use crate::spell::{mark, word};
 use saber_query::{Cmp, Conj, Expr, Keyword, Pred, Sign, Unit};
-use std::alloc::Global;
+use std::alloc::{AllocError as NoMemory, Global};
 
 #[tactic(auto, using(crate::proofs::SpellLemmas::joining))]
 fn cmp(out: &mut Vec<u8>, cmp: Cmp) -> Result<(), NoMemory>

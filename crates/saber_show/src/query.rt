@@ -5,13 +5,12 @@ ghost use Rattle.saber_show.specs.Rest.{rest_words};
 ghost use Rattle.saber_query.specs.Words as w;
 ghost use Rattle.saber_query.specs.Trees.{query_of, tests_of};
 
-use crate::NoMemory;
 use crate::declaration::{declared, decls};
 use crate::predicate::condition;
 use crate::select::{group, item, items, second, source};
 use crate::spell::{mark, word};
 use saber_query::{Keyword, Query, Select, Sign, spelled_tokens_are_read_back};
-use std::alloc::Global;
+use std::alloc::{AllocError as NoMemory, Global};
 
 #[tactic(auto, using(crate::proofs::SpellLemmas::joining))]
 fn outputs(alloc: Global, out: &mut Vec<u8>, select: &Select) -> Result<(), NoMemory>

@@ -4,11 +4,10 @@ ghost use Rattle.saber_query.specs.Spelling.{spaced};
 ghost use Rattle.saber_query.specs.declared.tree.Item.TheVariants.{Count};
 ghost use Rattle.saber_query.specs.Words as w;
 
-use crate::NoMemory;
 use crate::expression::{column, expr};
 use crate::spell::{mark, name, number, word};
 use saber_query::{Column, Expr, Item, Keys, Keyword, Measure, Sign, Source, Window};
-use std::alloc::Global;
+use std::alloc::{AllocError as NoMemory, Global};
 
 #[tactic(auto, using(crate::proofs::SpellLemmas::joining))]
 fn argument(alloc: Global, out: &mut Vec<u8>, argument: &Expr) -> Result<(), NoMemory>

@@ -4,9 +4,8 @@ ghost use Rattle.saber_query.specs.declared.token.Token.TheVariants.{Word, Mark,
 ghost use Rattle.saber_query.specs.Spelling.{spaced};
 ghost use Rattle.saber_query.specs.Words as w;
 
-use crate::NoMemory;
 use saber_query::{Keyword, Name, Sign};
-use std::alloc::Global;
+use std::alloc::{AllocError as NoMemory, Global};
 
 fn add(out: &mut Vec<u8>, bytes: &[u8]) -> Result<(), NoMemory>
     ensures { OnOk result (out.new.items ≡ out.old.items ++ 32 ∷ bytes.now) }

@@ -1,0 +1,492 @@
+-- The tokens that the machine reads are those of longest match, and there are no others.
+use Rattle.std.proofs.Common.{◌≡◌, ℕ, ◌+◌, ◌-◌, ◌*◌, ◌^◌, ◌<◌, ◌≤◌, List, [], ◌∷◌, ◌++◌, length, length-append, Option, Some, None, Bool, true, false, cond, ◌&&◌, Ok, Err, refl, sym, ◌∙◌, ap, subst, arith, append_assoc, ◌⊎◌, inl, inr, ◌↔◌, if◌then◌else◌}
+use Rattle.std.proofs.lemmas.Bool.Decides.{nat_tests}
+use Rattle.std.specs.Prelude.{nat_le, ◌==◌}
+use Rattle.std.specs.Char.{is_ascii_digit, digit_value}
+use Rattle.std.specs.Str.Parse.{digits_value, digits_value_after}
+use Rattle.saber_query.specs.declared.token.Sign.{Sign}
+use Rattle.saber_query.specs.declared.token.Sign.TheVariants as s
+use Rattle.saber_query.specs.declared.token.Token.TheVariants.{Mark, Number}
+use Rattle.saber_query.specs.declared.token.Placed.{Placed}
+use Rattle.saber_query.specs.declared.lexer.Pending.{Pending}
+use Rattle.saber_query.specs.declared.lexer.Pending.TheVariants as p
+use Rattle.saber_query.specs.declared.fault.Cause.TheVariants.{BadByte, NumberRange}
+use Rattle.saber_query.specs.declared.fault.QueryFault.TheVariants.{At}
+use Rattle.saber_query.specs.Tokens.{sign_text}
+use Rattle.saber_query.specs.Real.{is_name_text, all_name_bytes}
+use Rattle.saber_query.specs.Lexing.{is_letter, is_name_byte, is_space, single, double, angle, placed, Step, goes, fails, after, if_single, begin, number_more, if_double, step, ended, onto, follow, lex_from, lexed}
+use Rattle.saber_query.specs.Longest.{Answer, all_digits, is_number_text, Lexeme, a_name, a_number, a_sign, token_in, IsWithin, IsLongest, BeginsNone, Matches, at_end, passed, taken, too_great, bad}
+use Rattle.saber_query.proofs.RealLemmas.{by_test}
+
+-- ---- first bytes
+
+abbrev head : List ℕ → ℕ
+head [] = 0
+head (b ∷ bs) = b
+
+both : (x y : Bool) → x && y ≡ true → (x ≡ true) × (y ≡ true)
+both true y h = (refl, h)
+both false y h = cc
+
+letter_no_digit : (b : ℕ) → is_letter b ≡ true → is_ascii_digit b ≡ false
+letter_no_digit b h = grind (arith, nat_tests)
+
+space_no_letter : (b : ℕ) → is_space b ≡ true → is_letter b ≡ false
+space_no_letter b h = grind (arith, nat_tests)
+
+space_no_digit : (b : ℕ) → is_space b ≡ true → is_ascii_digit b ≡ false
+space_no_digit b h = grind (arith, nat_tests)
+
+abbrev Sign_head : ℕ → Type 0
+Sign_head b = (is_letter b ≡ false) × (is_ascii_digit b ≡ false) × (is_space b ≡ false)
+
+sign_head : (sign : Sign) → Sign_head (head (sign_text sign))
+sign_head s.Open = (refl, refl, refl)
+sign_head _ = (refl, refl, refl)
+
+headed : (sign : Sign) (b : ℕ) (bs : List ℕ) → b ∷ bs ≡ sign_text sign → Sign_head b
+headed sign b bs e = subst Sign_head (sym (ap head e)) (sign_head sign)
+
+no_empty : ¬ (Lexeme [])
+no_empty (a_name h) = cc
+no_empty (a_number h) = cc
+no_empty (a_sign sign e) = none sign e where
+  none : (sign : Sign) → [] ≡ sign_text sign → ⊥
+  none s.Open e = cc
+  none _ e = cc
+
+true_false : {P : Type 0} (b : Bool) → b ≡ true → b ≡ false → P
+true_false b h g = cc
+
+no_space : (b : ℕ) (bs : List ℕ) → is_space b ≡ true → ¬ (Lexeme (b ∷ bs))
+no_space b bs h (a_name g) = true_false (is_letter b) (both (is_letter b) (all_name_bytes bs) g).0 (space_no_letter b h)
+no_space b bs h (a_number g) = true_false (is_ascii_digit b) (both (is_ascii_digit b) (all_digits bs) g).0 (space_no_digit b h)
+no_space b bs h (a_sign sign e) = true_false (is_space b) h (headed sign b bs e).2
+
+-- ---- longest fronts
+
+longest_end : (bs : List ℕ) → IsLongest bs []
+longest_end bs [] left e l = refl
+longest_end bs (b ∷ more) left e l = cc
+
+longest_before : (bs : List ℕ) (b : ℕ) (rest : List ℕ) → ((more : List ℕ) → ¬ (Lexeme (bs ++ b ∷ more))) → IsLongest bs (b ∷ rest)
+longest_before bs b rest h [] left e l = refl
+longest_before bs b rest h (c ∷ more) left e l =
+    let same : c ≡ b = ap head (sym e) in
+    let P : ℕ → Type 0 = λ x. Lexeme (bs ++ x ∷ more) in
+    absurd (h more (subst P same l))
+
+names_stop : (bs : List ℕ) (b : ℕ) (more : List ℕ) → is_name_byte b ≡ false → all_name_bytes (bs ++ b ∷ more) ≡ false
+names_stop [] b more h = ap (λ x. x && all_name_bytes more) h
+names_stop (c ∷ bs) b more h = ap (λ x. is_name_byte c && x) (names_stop bs b more h) ∙ none (is_name_byte c) where
+  none : (x : Bool) → x && false ≡ false
+  none true = refl
+  none false = refl
+
+digits_stop : (bs : List ℕ) (b : ℕ) (more : List ℕ) → is_ascii_digit b ≡ false → all_digits (bs ++ b ∷ more) ≡ false
+digits_stop [] b more h = ap (λ x. x && all_digits more) h
+digits_stop (c ∷ bs) b more h = ap (λ x. is_ascii_digit c && x) (digits_stop bs b more h) ∙ none (is_ascii_digit c) where
+  none : (x : Bool) → x && false ≡ false
+  none true = refl
+  none false = refl
+
+name_stops : (bs : List ℕ) (b : ℕ) → is_name_text bs ≡ true → is_name_byte b ≡ false → (more : List ℕ) → ¬ (Lexeme (bs ++ b ∷ more))
+name_stops [] b h g more l = cc
+name_stops (c ∷ cs) b h g more (a_name k) = true_false (all_name_bytes (cs ++ b ∷ more)) (both (is_letter c) (all_name_bytes (cs ++ b ∷ more)) k).1 (names_stop cs b more g)
+name_stops (c ∷ cs) b h g more (a_number k) = true_false (is_ascii_digit c) (both (is_ascii_digit c) (all_digits (cs ++ b ∷ more)) k).0 (letter_no_digit c (both (is_letter c) (all_name_bytes cs) h).0)
+name_stops (c ∷ cs) b h g more (a_sign sign e) = true_false (is_letter c) (both (is_letter c) (all_name_bytes cs) h).0 (headed sign c (cs ++ b ∷ more) e).0
+
+number_stops : (bs : List ℕ) (b : ℕ) → is_number_text bs ≡ true → is_ascii_digit b ≡ false → (more : List ℕ) → ¬ (Lexeme (bs ++ b ∷ more))
+number_stops [] b h g more l = cc
+number_stops (c ∷ cs) b h g more (a_name k) = true_false (is_ascii_digit c) (both (is_ascii_digit c) (all_digits cs) h).0 (letter_no_digit c (both (is_letter c) (all_name_bytes (cs ++ b ∷ more)) k).0)
+number_stops (c ∷ cs) b h g more (a_number k) = true_false (all_digits (cs ++ b ∷ more)) (both (is_ascii_digit c) (all_digits (cs ++ b ∷ more)) k).1 (digits_stop cs b more g)
+number_stops (c ∷ cs) b h g more (a_sign sign e) = true_false (is_ascii_digit c) (both (is_ascii_digit c) (all_digits cs) h).0 (headed sign c (cs ++ b ∷ more) e).1
+
+-- ---- signs
+
+some_of : (b n : ℕ) (sign : Sign) → n ∷ [] ≡ sign_text sign → (b == n) ≡ true → (t : Sign) → Some sign ≡ Some t → b ∷ [] ≡ sign_text t
+some_of b n sign e h t g = let same : b ≡ n = grind (arith, nat_tests) in let k : sign ≡ t = cc in ap (λ x. x ∷ []) same ∙ e ∙ ap sign_text k
+
+by_sign : (c : Bool) (P : Option Sign → Type 0) (x y : Option Sign) → (c ≡ true → P x) → (c ≡ false → P y) → P (cond c x y)
+by_sign true P x y f g = f refl
+by_sign false P x y f g = g refl
+
+single_text : (b : ℕ) (t : Sign) → single b ≡ Some t → b ∷ [] ≡ sign_text t
+single_text b =
+    let P : Option Sign → Type 0 = λ o. (t : Sign) → o ≡ Some t → b ∷ [] ≡ sign_text t in
+    by_sign (b == 40) P _ _ (some_of b 40 s.Open refl)
+    (λ _. by_sign (b == 41) P _ _ (some_of b 41 s.Close refl)
+    (λ _. by_sign (b == 91) P _ _ (some_of b 91 s.OpenBracket refl)
+    (λ _. by_sign (b == 93) P _ _ (some_of b 93 s.CloseBracket refl)
+    (λ _. by_sign (b == 44) P _ _ (some_of b 44 s.Comma refl)
+    (λ _. by_sign (b == 59) P _ _ (some_of b 59 s.Semicolon refl)
+    (λ _. by_sign (b == 46) P _ _ (some_of b 46 s.Dot refl)
+    (λ _. by_sign (b == 42) P _ _ (some_of b 42 s.Star refl)
+    (λ _. by_sign (b == 43) P _ _ (some_of b 43 s.Plus refl)
+    (λ _. by_sign (b == 45) P _ _ (some_of b 45 s.Minus refl)
+    (λ _. by_sign (b == 61) P _ _ (some_of b 61 s.Equal refl) (λ _ t e. cc)))))))))))
+
+-- a sign of two bytes begins with none of one byte
+long_sign : (t : Sign) (c x : ℕ) (more : List ℕ) → c ∷ x ∷ more ≡ sign_text t → single c ≡ None
+long_sign s.Unequal c x more e = ap single (ap head e)
+long_sign s.AtMost c x more e = ap single (ap head e)
+long_sign s.AtLeast c x more e = ap single (ap head e)
+long_sign _ c x more e = cc
+
+single_stops : (c : ℕ) (t : Sign) → single c ≡ Some t → (x : ℕ) (more : List ℕ) → ¬ (Lexeme (c ∷ x ∷ more))
+single_stops c t h x more (a_name k) = true_false (is_letter c) (both (is_letter c) (all_name_bytes (x ∷ more)) k).0 (headed t c [] (single_text c t h)).0
+single_stops c t h x more (a_number k) = true_false (is_ascii_digit c) (both (is_ascii_digit c) (all_digits (x ∷ more)) k).0 (headed t c [] (single_text c t h)).1
+single_stops c t h x more (a_sign u e) = let n : single c ≡ None = long_sign u c x more e in cc
+
+longest_single : (c : ℕ) (t : Sign) → single c ≡ Some t → (rest : List ℕ) → IsLongest (c ∷ []) rest
+longest_single c t h [] = longest_end (c ∷ [])
+longest_single c t h (x ∷ rest) = longest_before (c ∷ []) x rest (λ more. single_stops c t h x more)
+
+no_sign : (t : Sign) (b : ℕ) → b ≡ head (sign_text t) → single b ≡ None → (b == 60) ≡ false → (b == 62) ≡ false → ⊥
+no_sign s.Less b e h f g = let k : (b == 60) ≡ true = ap (λ x. x == 60) e in cc
+no_sign s.AtMost b e h f g = let k : (b == 60) ≡ true = ap (λ x. x == 60) e in cc
+no_sign s.Unequal b e h f g = let k : (b == 60) ≡ true = ap (λ x. x == 60) e in cc
+no_sign s.Greater b e h f g = let k : (b == 62) ≡ true = ap (λ x. x == 62) e in cc
+no_sign s.AtLeast b e h f g = let k : (b == 62) ≡ true = ap (λ x. x == 62) e in cc
+no_sign t b e h f g = let k : single b ≡ single (head (sign_text t)) = ap single e in cc
+
+begins_none : (b : ℕ) (rest : List ℕ) → is_letter b ≡ false → is_ascii_digit b ≡ false → single b ≡ None → (b == 60) ≡ false → (b == 62) ≡ false → BeginsNone (b ∷ rest)
+begins_none b rest h d n f g [] left e l = no_empty l
+begins_none b rest h d n f g (c ∷ cs) left e l = by (subst (λ (x : ℕ). Lexeme (x ∷ cs)) (ap head (sym e)) l) where
+  by : ¬ (Lexeme (b ∷ cs))
+  by (a_name k) = true_false (is_letter b) (both (is_letter b) (all_name_bytes cs) k).0 h
+  by (a_number k) = true_false (is_ascii_digit b) (both (is_ascii_digit b) (all_digits cs) k).0 d
+  by (a_sign t k) = no_sign t b (ap head k) n f g
+
+abbrev angle_byte : Bool → ℕ
+angle_byte false = 60
+angle_byte true = 62
+
+double_text : (greater : Bool) (b : ℕ) (t : Sign) → double greater b ≡ Some t → angle_byte greater ∷ b ∷ [] ≡ sign_text t
+double_text false b =
+    let P : Option Sign → Type 0 = λ o. (t : Sign) → o ≡ Some t → 60 ∷ b ∷ [] ≡ sign_text t in
+    by_sign (b == 61) P _ _ (λ e t h. let same : b ≡ 61 = grind (arith, nat_tests) in let k : s.AtMost ≡ t = cc in ap (λ x. 60 ∷ x ∷ []) same ∙ ap sign_text k)
+    (λ _. by_sign (b == 62) P _ _ (λ e t h. let same : b ≡ 62 = grind (arith, nat_tests) in let k : s.Unequal ≡ t = cc in ap (λ x. 60 ∷ x ∷ []) same ∙ ap sign_text k) (λ _ t h. cc))
+double_text true b =
+    let P : Option Sign → Type 0 = λ o. (t : Sign) → o ≡ Some t → 62 ∷ b ∷ [] ≡ sign_text t in
+    by_sign (b == 61) P _ _ (λ e t h. let same : b ≡ 61 = grind (arith, nat_tests) in let k : s.AtLeast ≡ t = cc in ap (λ x. 62 ∷ x ∷ []) same ∙ ap sign_text k) (λ _ t h. cc)
+
+angle_text : (greater : Bool) → angle_byte greater ∷ [] ≡ sign_text (angle greater)
+angle_text false = refl
+angle_text true = refl
+
+angle_head : (greater : Bool) → Sign_head (angle_byte greater)
+angle_head false = (refl, refl, refl)
+angle_head true = (refl, refl, refl)
+
+no_three : (t : Sign) (a b c : ℕ) (more : List ℕ) → a ∷ b ∷ c ∷ more ≡ sign_text t → ⊥
+no_three s.Open a b c more e = cc
+no_three _ a b c more e = cc
+
+double_stops : (greater : Bool) (b x : ℕ) (more : List ℕ) → ¬ (Lexeme (angle_byte greater ∷ b ∷ x ∷ more))
+double_stops greater b x more (a_name k) = true_false (is_letter (angle_byte greater)) (both (is_letter (angle_byte greater)) (all_name_bytes (b ∷ x ∷ more)) k).0 (angle_head greater).0
+double_stops greater b x more (a_number k) = true_false (is_ascii_digit (angle_byte greater)) (both (is_ascii_digit (angle_byte greater)) (all_digits (b ∷ x ∷ more)) k).0 (angle_head greater).1
+double_stops greater b x more (a_sign t e) = no_three t (angle_byte greater) b x more e
+
+longest_double : (greater : Bool) (b : ℕ) (rest : List ℕ) → IsLongest (angle_byte greater ∷ b ∷ []) rest
+longest_double greater b [] = longest_end (angle_byte greater ∷ b ∷ [])
+longest_double greater b (x ∷ rest) = longest_before (angle_byte greater ∷ b ∷ []) x rest (λ more. double_stops greater b x more)
+
+differ : {P : Type 0} (a b : ℕ) → a ≡ b → ¬ (a ≡ b) → P
+differ a b e n = absurd (n e)
+
+doubled : (greater : Bool) (t : Sign) (b : ℕ) (more : List ℕ) → angle_byte greater ∷ b ∷ more ≡ sign_text t → double greater b ≡ Some t
+doubled false s.AtMost b more e = ap (double false) (let k : b ≡ 61 = cc in k)
+doubled false s.Unequal b more e = ap (double false) (let k : b ≡ 62 = cc in k)
+doubled true s.AtLeast b more e = ap (double true) (let k : b ≡ 61 = cc in k)
+doubled false s.AtLeast b more e = differ 60 62 (ap head e) (omega arith)
+doubled true s.AtMost b more e = differ 62 60 (ap head e) (omega arith)
+doubled true s.Unequal b more e = differ 62 60 (ap head e) (omega arith)
+doubled false _ b more e = cc
+doubled true _ b more e = cc
+
+angle_stops : (greater : Bool) (b : ℕ) → double greater b ≡ None → (more : List ℕ) → ¬ (Lexeme (angle_byte greater ∷ b ∷ more))
+angle_stops greater b h more (a_name k) = true_false (is_letter (angle_byte greater)) (both (is_letter (angle_byte greater)) (all_name_bytes (b ∷ more)) k).0 (angle_head greater).0
+angle_stops greater b h more (a_number k) = true_false (is_ascii_digit (angle_byte greater)) (both (is_ascii_digit (angle_byte greater)) (all_digits (b ∷ more)) k).0 (angle_head greater).1
+angle_stops greater b h more (a_sign t e) = let k : double greater b ≡ Some t = doubled greater t b more e in cc
+
+-- ---- what the machine reads
+
+onto_nil : (r : Answer) → onto [] r ≡ r
+onto_nil (Ok ts) = refl
+onto_nil (Err f) = refl
+
+onto_onto : (t : Placed) (ts : List Placed) (r : Answer) → onto (t ∷ ts) r ≡ onto (t ∷ []) (onto ts r)
+onto_onto t ts (Ok us) = refl
+onto_onto t ts (Err f) = refl
+
+follow_after : (t : Placed) (x : Step) (rest : Pending → Answer) → follow (after t x) rest ≡ onto (t ∷ []) (follow x rest)
+follow_after t (goes ts q) rest = onto_onto t ts (rest q)
+follow_after t (fails f) rest = refl
+
+-- a token is taken, and the rest is read from behind it
+take : (start at : ℕ) (bs rest : List ℕ) (l : Lexeme bs) (r : Answer) → IsLongest bs rest → IsWithin bs l → start + length bs ≡ at → Matches at rest r → Matches start (bs ++ rest) (onto (placed start (token_in bs l) ∷ []) r)
+take start at bs rest l r longest within e m = taken start bs rest l r longest within (subst (λ n. Matches n rest r) (sym e) m)
+
+value_one : (b : ℕ) → is_ascii_digit b ≡ true → digits_value 10 (b ∷ []) ≡ b - 48
+value_one b h = grind (arith, nat_tests)
+
+value_more : (n : ℕ) (ds : List ℕ) (b : ℕ) → is_ascii_digit b ≡ true → digits_value_after 10 n (ds ++ b ∷ []) ≡ 10 * digits_value_after 10 n ds + (b - 48)
+value_more n [] b h = grind (arith, nat_tests)
+value_more n (d ∷ ds) b h = value_more (n * 10 + digit_value d) ds b h
+
+digits_more : (ds : List ℕ) (b : ℕ) → is_ascii_digit b ≡ true → all_digits ds ≡ true → all_digits (ds ++ b ∷ []) ≡ true
+digits_more [] b h g = ap (λ x. x && true) h
+digits_more (d ∷ ds) b h g = let k = both (is_ascii_digit d) (all_digits ds) g in ap (λ x. x && all_digits (ds ++ b ∷ [])) k.0 ∙ digits_more ds b h k.1
+
+number_text_more : (ds : List ℕ) (b : ℕ) → is_ascii_digit b ≡ true → is_number_text ds ≡ true → is_number_text (ds ++ b ∷ []) ≡ true
+number_text_more [] b h g = cc
+number_text_more (d ∷ ds) b h g = let k = both (is_ascii_digit d) (all_digits ds) g in ap (λ x. x && all_digits (ds ++ b ∷ [])) k.0 ∙ digits_more ds b h k.1
+
+names_more : (ds : List ℕ) (b : ℕ) → is_name_byte b ≡ true → all_name_bytes ds ≡ true → all_name_bytes (ds ++ b ∷ []) ≡ true
+names_more [] b h g = ap (λ x. x && true) h
+names_more (d ∷ ds) b h g = let k = both (is_name_byte d) (all_name_bytes ds) g in ap (λ x. x && all_name_bytes (ds ++ b ∷ [])) k.0 ∙ names_more ds b h k.1
+
+name_text_more : (ds : List ℕ) (b : ℕ) → is_name_byte b ≡ true → is_name_text ds ≡ true → is_name_text (ds ++ b ∷ []) ≡ true
+name_text_more [] b h g = cc
+name_text_more (d ∷ ds) b h g = let k = both (is_letter d) (all_name_bytes ds) g in ap (λ x. x && all_name_bytes (ds ++ b ∷ [])) k.0 ∙ names_more ds b h k.1
+
+-- a number that is too great already
+great : (text : List ℕ) (start : ℕ) (ds : List ℕ) → is_number_text ds ≡ true → 2 ^ 63 < digits_value 10 ds → Matches start (ds ++ text) (Err (At start NumberRange))
+great [] start ds h g = too_great start ds [] h (longest_end ds) g
+great (b ∷ bs) start ds h g = by (great bs start (ds ++ b ∷ [])) (is_ascii_digit b) refl where
+  by : (is_number_text (ds ++ b ∷ []) ≡ true → 2 ^ 63 < digits_value 10 (ds ++ b ∷ []) → Matches start ((ds ++ b ∷ []) ++ bs) (Err (At start NumberRange))) → (c : Bool) → is_ascii_digit b ≡ c → Matches start (ds ++ b ∷ bs) (Err (At start NumberRange))
+  by next true e =
+      let P : List ℕ → Type 0 = λ xs. Matches start xs (Err (At start NumberRange)) in
+      subst P (append_assoc ds (b ∷ []) bs) (next (number_text_more ds b e h) (omega (arith, value_more 0 ds b e)))
+  by next false e = too_great start ds (b ∷ bs) h (longest_before ds b bs (number_stops ds b h e)) g
+
+-- what is pending, and then this text, is read by longest match
+record From (text : List ℕ) : Type 0 where
+  fresh : (at : ℕ) → Matches at text (lex_from at p.Nothing text)
+  name : (at start : ℕ) (bs : List ℕ) → is_name_text bs ≡ true → start + length bs ≡ at → Matches start (bs ++ text) (lex_from at (p.Name start bs) text)
+  number : (at start n : ℕ) (ds : List ℕ) → is_number_text ds ≡ true → start + length ds ≡ at → digits_value 10 ds ≡ n → n ≤ 2 ^ 63 → Matches start (ds ++ text) (lex_from at (p.Number start n) text)
+  angled : (at start : ℕ) (greater : Bool) → start + 1 ≡ at → Matches start (angle_byte greater ∷ text) (lex_from at (p.Angle start greater) text)
+
+from_end : From []
+unfolding lex_from ended
+from_end = record {
+  fresh = λ at. at_end at;
+  name = λ at start bs h e. take start at bs [] (a_name h) (Ok []) (longest_end bs) tt e (at_end at);
+  number = λ at start n ds h e v small. subst (λ m. Matches start (ds ++ []) (Ok (placed start (Number m) ∷ []))) v (take start at ds [] (a_number h) (Ok []) (longest_end ds) (omega arith) e (at_end at));
+  angled = λ at start greater e. take start at (angle_byte greater ∷ []) [] (a_sign (angle greater) (angle_text greater)) (Ok []) (longest_end (angle_byte greater ∷ [])) tt e (at_end at);
+}
+
+begun : (at b : ℕ) (rest : List ℕ) → From rest → Matches at (b ∷ rest) (follow (begin at b) (λ q. lex_from (at + 1) q rest))
+unfolding begin
+begun at b rest f =
+    let P : Step → Type 0 = λ x. Matches at (b ∷ rest) (follow x (λ q. lex_from (at + 1) q rest)) in
+    by_test (is_letter b) P _ _ (λ e. alone (lex_from (at + 1) (p.Name at (b ∷ [])) rest) (f.name (at + 1) at (b ∷ []) (ap (λ c. c && true) e) (omega arith)))
+    (λ l. by_test (is_ascii_digit b) P _ _ (λ e. alone (lex_from (at + 1) (p.Number at (b - 48)) rest) (f.number (at + 1) at (b - 48) (b ∷ []) (ap (λ c. c && true) e) (omega arith) (value_one b e) (small b e)))
+    (λ d. by_test (b == 60) P _ _ (λ e. let same : b ≡ 60 = grind (arith, nat_tests) in subst (λ c. Matches at (c ∷ rest) (onto [] (lex_from (at + 1) (p.Angle at false) rest))) (sym same) (subst (Matches at (60 ∷ rest)) (sym (onto_nil (lex_from (at + 1) (p.Angle at false) rest))) (f.angled (at + 1) at false refl)))
+    (λ n. by_test (b == 62) P _ _ (λ e. let same : b ≡ 62 = grind (arith, nat_tests) in subst (λ c. Matches at (c ∷ rest) (onto [] (lex_from (at + 1) (p.Angle at true) rest))) (sym same) (subst (Matches at (62 ∷ rest)) (sym (onto_nil (lex_from (at + 1) (p.Angle at true) rest))) (f.angled (at + 1) at true refl)))
+    (λ g. by_test (is_space b) P _ _ (λ e. alone (lex_from (at + 1) p.Nothing rest) (passed at b rest (lex_from (at + 1) p.Nothing rest) e (f.fresh (at + 1))))
+    (λ o. signed l d n g o (single b) refl)))))
+  where
+    alone : (r : Answer) → Matches at (b ∷ rest) r → Matches at (b ∷ rest) (onto [] r)
+    alone r m = subst (Matches at (b ∷ rest)) (sym (onto_nil r)) m
+
+    small : (c : ℕ) → is_ascii_digit c ≡ true → c - 48 ≤ 2 ^ 63
+    small c h = grind (arith, nat_tests)
+
+    signed : is_letter b ≡ false → is_ascii_digit b ≡ false → (b == 60) ≡ false → (b == 62) ≡ false → is_space b ≡ false → (o : Option Sign) → single b ≡ o → Matches at (b ∷ rest) (follow (if_single at o) (λ q. lex_from (at + 1) q rest))
+    signed l d n g o (Some t) e = take at (at + 1) (b ∷ []) rest (a_sign t (single_text b t e)) (lex_from (at + 1) p.Nothing rest) (longest_single b t e rest) tt (omega arith) (f.fresh (at + 1))
+    signed l d n g o None e = bad at b rest o (begins_none b rest l d e n g)
+
+from_more : (b : ℕ) (rest : List ℕ) → From rest → From (b ∷ rest)
+unfolding lex_from step number_more
+from_more b rest f = record {
+  fresh = λ at. begun at b rest f;
+  name = λ at start bs h e.
+      let P : Step → Type 0 = λ x. Matches start (bs ++ b ∷ rest) (follow x (λ q. lex_from (at + 1) q rest)) in
+      by_test (is_name_byte b) P _ _
+      (λ k. let Q : List ℕ → Type 0 = λ xs. Matches start xs (onto [] (lex_from (at + 1) (p.Name start (bs ++ b ∷ [])) rest)) in
+      subst Q (append_assoc bs (b ∷ []) rest) (subst (Matches start ((bs ++ b ∷ []) ++ rest)) (sym (onto_nil (lex_from (at + 1) (p.Name start (bs ++ b ∷ [])) rest))) (f.name (at + 1) start (bs ++ b ∷ []) (name_text_more bs b k h) (longer start at bs b e))))
+      (λ k. behind start at bs b (a_name h) (longest_before bs b rest (name_stops bs b h k)) tt e);
+  number = λ at start n ds h e v small.
+      let P : Step → Type 0 = λ x. Matches start (ds ++ b ∷ rest) (follow x (λ q. lex_from (at + 1) q rest)) in
+      by_test (is_ascii_digit b) P _ _
+      (λ k.
+      let more = value_more 0 ds b k in
+      by_test (nat_le (10 * n + (b - 48)) (2 ^ 63)) P _ _
+      (λ w. let low : 10 * n + (b - 48) ≤ 2 ^ 63 = grind (arith, nat_tests) in
+      let Q : List ℕ → Type 0 = λ xs. Matches start xs (onto [] (lex_from (at + 1) (p.Number start (10 * n + (b - 48))) rest)) in
+      subst Q (append_assoc ds (b ∷ []) rest) (subst (Matches start ((ds ++ b ∷ []) ++ rest)) (sym (onto_nil (lex_from (at + 1) (p.Number start (10 * n + (b - 48))) rest))) (f.number (at + 1) start (10 * n + (b - 48)) (ds ++ b ∷ []) (number_text_more ds b k h) (longer start at ds b e) (omega (arith, more, v)) low)))
+      (λ w. let high : 2 ^ 63 < 10 * n + (b - 48) = grind (arith, nat_tests) in
+      let Q : List ℕ → Type 0 = λ xs. Matches start xs (Err (At start NumberRange)) in
+      subst Q (append_assoc ds (b ∷ []) rest) (great rest start (ds ++ b ∷ []) (number_text_more ds b k h) (omega (arith, more, v)))))
+      (λ k. let Q : ℕ → Type 0 = λ m. Matches start (ds ++ b ∷ rest) (follow (after (placed start (Number m)) (begin at b)) (λ q. lex_from (at + 1) q rest)) in
+      subst Q v (behind start at ds b (a_number h) (longest_before ds b rest (number_stops ds b h k)) (omega arith) e));
+  angled = λ at start greater e. sign_more at start greater e (double greater b) refl;
+}
+  where
+    longer : (start at : ℕ) (bs : List ℕ) (c : ℕ) → start + length bs ≡ at → start + length (bs ++ c ∷ []) ≡ at + 1
+    longer start at bs c e = omega (arith, length-append bs (c ∷ []))
+
+    -- the token is taken before this byte
+    behind : (start at : ℕ) (bs : List ℕ) (c : ℕ) (l : Lexeme bs) → IsLongest bs (b ∷ rest) → IsWithin bs l → start + length bs ≡ at → Matches start (bs ++ b ∷ rest) (follow (after (placed start (token_in bs l)) (begin at b)) (λ q. lex_from (at + 1) q rest))
+    behind start at bs c l longest within e =
+        let k = begin at b in
+        subst (Matches start (bs ++ b ∷ rest)) (sym (follow_after (placed start (token_in bs l)) k (λ q. lex_from (at + 1) q rest)))
+        (take start at bs (b ∷ rest) l (follow k (λ q. lex_from (at + 1) q rest)) longest within e (begun at b rest f))
+
+    sign_more : (at start : ℕ) (greater : Bool) → start + 1 ≡ at → (o : Option Sign) → double greater b ≡ o → Matches start (angle_byte greater ∷ b ∷ rest) (follow (if_double at start greater b o) (λ q. lex_from (at + 1) q rest))
+    sign_more at start greater e (Some t) k = take start (at + 1) (angle_byte greater ∷ b ∷ []) rest (a_sign t (double_text greater b t k)) (lex_from (at + 1) p.Nothing rest) (longest_double greater b rest) tt (omega arith) (f.fresh (at + 1))
+    sign_more at start greater e None k = behind start at (angle_byte greater ∷ []) b (a_sign (angle greater) (angle_text greater)) (longest_before (angle_byte greater ∷ []) b rest (angle_stops greater b k)) tt e
+
+from : (text : List ℕ) → From text
+from [] = from_end
+from (b ∷ rest) = from_more b rest (from rest)
+
+pub read : (text : List ℕ) → Matches 0 text (lexed text)
+read text = (from text).fresh 0
+
+-- ---- there is one way
+
+-- two ways to part a list: one front begins the other
+abbrev Parts : List ℕ → List ℕ → List ℕ → List ℕ → Type 0
+Parts xs ys us vs = ((more : List ℕ) × (us ≡ xs ++ more) × (ys ≡ more ++ vs)) ⊎ ((more : List ℕ) × (xs ≡ us ++ more) × (vs ≡ more ++ ys))
+
+parts : (xs ys us vs : List ℕ) → xs ++ ys ≡ us ++ vs → Parts xs ys us vs
+parts [] ys us vs e = inl (us, refl, e)
+parts (x ∷ xs) ys [] vs e = inr (x ∷ xs, refl, sym e)
+parts (x ∷ xs) ys (u ∷ us) vs e = elim (parts xs ys us vs cc) [
+  | inl h ↦ inl (h.0, (let k : x ≡ u = ap head e in ap (λ z. z ∷ us) (sym k) ∙ ap (λ z. x ∷ z) h.1), h.2)
+  | inr h ↦ inr (h.0, (let k : x ≡ u = ap head e in ap (λ z. z ∷ xs) k ∙ ap (λ z. u ∷ z) h.1), h.2)
+]
+
+append_nil : (xs : List ℕ) → xs ++ [] ≡ xs
+append_nil [] = refl
+append_nil (x ∷ xs) = ap (λ z. x ∷ z) (append_nil xs)
+
+-- the longest front is one
+one_front : (xs ys us vs : List ℕ) → Lexeme xs → Lexeme us → IsLongest xs ys → IsLongest us vs → xs ++ ys ≡ us ++ vs → (xs ≡ us) × (ys ≡ vs)
+one_front xs ys us vs l l' h h' e = elim (parts xs ys us vs e) [
+  | inl k ↦ let none : k.0 ≡ [] = h k.0 vs k.2 (subst Lexeme k.1 l') in (sym (k.1 ∙ ap (λ z. xs ++ z) none ∙ append_nil xs), k.2 ∙ ap (λ z. z ++ vs) none)
+  | inr k ↦ let none : k.0 ≡ [] = h' k.0 ys k.2 (subst Lexeme k.1 l) in (k.1 ∙ ap (λ z. us ++ z) none ∙ append_nil us, sym (k.2 ∙ ap (λ z. z ++ ys) none))
+]
+
+name_no_number : {P : Type 0} (bs : List ℕ) → is_name_text bs ≡ true → is_number_text bs ≡ true → P
+name_no_number [] h g = cc
+name_no_number (b ∷ bs) h g = true_false (is_ascii_digit b) (both (is_ascii_digit b) (all_digits bs) g).0 (letter_no_digit b (both (is_letter b) (all_name_bytes bs) h).0)
+
+name_no_sign : {P : Type 0} (bs : List ℕ) (t : Sign) → is_name_text bs ≡ true → bs ≡ sign_text t → P
+name_no_sign [] t h e = cc
+name_no_sign (b ∷ bs) t h e = true_false (is_letter b) (both (is_letter b) (all_name_bytes bs) h).0 (headed t b bs e).0
+
+number_no_sign : {P : Type 0} (bs : List ℕ) (t : Sign) → is_number_text bs ≡ true → bs ≡ sign_text t → P
+number_no_sign [] t h e = cc
+number_no_sign (b ∷ bs) t h e = true_false (is_ascii_digit b) (both (is_ascii_digit b) (all_digits bs) h).0 (headed t b bs e).1
+
+-- signs are told apart by their texts
+abbrev sign_of : List ℕ → Option Sign
+sign_of [] = None
+sign_of (b ∷ []) = if b == 60 then Some s.Less else (if b == 62 then Some s.Greater else single b)
+sign_of (b ∷ c ∷ bs) = double (b == 62) c
+
+sign_back : (t : Sign) → sign_of (sign_text t) ≡ Some t
+sign_back s.Open = refl
+sign_back _ = refl
+
+one_token : (bs : List ℕ) (l l' : Lexeme bs) → token_in bs l ≡ token_in bs l'
+one_token bs (a_name h) (a_name g) = refl
+one_token bs (a_name h) (a_number g) = name_no_number bs h g
+one_token bs (a_name h) (a_sign t g) = name_no_sign bs t h g
+one_token bs (a_number h) (a_name g) = name_no_number bs g h
+one_token bs (a_number h) (a_number g) = refl
+one_token bs (a_number h) (a_sign t g) = number_no_sign bs t h g
+one_token bs (a_sign t h) (a_name g) = name_no_sign bs t g h
+one_token bs (a_sign t h) (a_number g) = number_no_sign bs t g h
+one_token bs (a_sign t h) (a_sign u g) = let k : Some t ≡ Some u = sym (sign_back t) ∙ ap sign_of (sym h ∙ g) ∙ sign_back u in let e : t ≡ u = cc in ap (λ z. Mark z) e
+
+not_within : {P : Type 0} (bs : List ℕ) (l : Lexeme bs) → IsWithin bs l → is_number_text bs ≡ true → 2 ^ 63 < digits_value 10 bs → P
+not_within bs (a_name h) w g k = name_no_number bs h g
+not_within bs (a_number h) w g k = absurd (omega arith)
+not_within bs (a_sign t h) w g k = number_no_sign bs t g h
+
+-- how a text was read, with its parts as equations
+data Way (at : ℕ) (text : List ℕ) (r : Answer) : Type 0 where
+  to_end : text ≡ [] → r ≡ Ok [] → Way at text r
+  by_space : (b : ℕ) (rest : List ℕ) → text ≡ b ∷ rest → is_space b ≡ true → Matches (at + 1) rest r → Way at text r
+  by_token : (bs rest : List ℕ) (l : Lexeme bs) (later : Answer) → text ≡ bs ++ rest → r ≡ onto (placed at (token_in bs l) ∷ []) later → IsLongest bs rest → IsWithin bs l → Matches (at + length bs) rest later → Way at text r
+  by_great : (bs rest : List ℕ) → text ≡ bs ++ rest → r ≡ Err (At at NumberRange) → is_number_text bs ≡ true → IsLongest bs rest → 2 ^ 63 < digits_value 10 bs → Way at text r
+  by_bad : (b : ℕ) (rest : List ℕ) → text ≡ b ∷ rest → r ≡ Err (At at BadByte) → is_space b ≡ false → BeginsNone (b ∷ rest) → Way at text r
+
+way : (at : ℕ) (text : List ℕ) (r : Answer) → Matches at text r → Way at text r
+way n text r (at_end at) = to_end refl refl
+way n text x (passed at b rest r h m) = by_space b rest refl h m
+way n text r (taken at bs rest l later longest within m) = by_token bs rest l later refl refl longest within m
+way n text r (too_great at bs rest h longest g) = by_great bs rest refl refl h longest g
+way n text r (bad at b rest h g) = by_bad b rest refl refl h g
+
+no_front : {P : Type 0} (bs rest : List ℕ) → Lexeme bs → [] ≡ bs ++ rest → P
+no_front [] rest l e = absurd (no_empty l)
+no_front (b ∷ bs) rest l e = cc
+
+no_space_front : {P : Type 0} (b : ℕ) (text bs rest : List ℕ) → is_space b ≡ true → Lexeme bs → b ∷ text ≡ bs ++ rest → P
+no_space_front b text [] rest h l e = absurd (no_empty l)
+no_space_front b text (c ∷ bs) rest h l e = absurd (no_space b bs h (subst (λ (x : ℕ). Lexeme (x ∷ bs)) (ap head (sym e)) l))
+
+tail : List ℕ → List ℕ
+tail [] = []
+tail (b ∷ bs) = bs
+
+end_same : (at : ℕ) (r : Answer) → Way at [] r → Ok [] ≡ r
+end_same at r (to_end e e') = sym e'
+end_same at r (by_space b rest e h m) = cc
+end_same at r (by_token bs rest l later e e' h w m) = no_front bs rest l e
+end_same at r (by_great bs rest e e' n h g) = no_front bs rest (a_number n) e
+end_same at r (by_bad b rest e e' h g) = cc
+
+space_same : (at b : ℕ) (text : List ℕ) (r r' : Answer) → is_space b ≡ true → ((x : Answer) → Matches (at + 1) text x → r ≡ x) → Way at (b ∷ text) r' → r ≡ r'
+space_same at b text r r' s next (to_end e e') = cc
+space_same at b text r r' s next (by_space c rest e h m) = let same : rest ≡ text = cc in next r' (subst (λ z. Matches (at + 1) z r') same m)
+space_same at b text r r' s next (by_token bs rest l later e e' h w m) = no_space_front b text bs rest s l e
+space_same at b text r r' s next (by_great bs rest e e' n h g) = no_space_front b text bs rest s (a_number n) e
+space_same at b text r r' s next (by_bad c rest e e' h g) = let same : b ≡ c = ap head e in true_false (is_space b) s (ap is_space same ∙ h)
+
+token_same : (at : ℕ) (us vs : List ℕ) (l : Lexeme us) (r r' : Answer) → IsLongest us vs → IsWithin us l → ((x : Answer) → Matches (at + length us) vs x → r ≡ x) → Way at (us ++ vs) r' → onto (placed at (token_in us l) ∷ []) r ≡ r'
+token_same at us vs l r r' longest within next (to_end e e') = no_front us vs l (sym e)
+token_same at us vs l r r' longest within next (by_space c rest e h m) = no_space_front c rest us vs h l (sym e)
+token_same at us vs l r r' longest within next (by_token bs rest k later e e' h w m) =
+    let (front, behind) = one_front us vs bs rest l k longest h e in
+    let P : List ℕ → Type 0 = λ xs. Matches (at + length xs) rest later in
+    let m' : Matches (at + length us) vs later = subst (λ z. Matches (at + length us) z later) (sym behind) (subst P (sym front) m) in
+    let Q : List ℕ → Type 0 = λ xs. (j : Lexeme xs) → token_in us l ≡ token_in xs j in
+    let same : token_in us l ≡ token_in bs k = subst Q front (one_token us l) k in
+    ap (λ z. onto (placed at z ∷ []) r) same ∙ ap (onto (placed at (token_in bs k) ∷ [])) (next later m') ∙ sym e'
+token_same at us vs l r r' longest within next (by_great bs rest e e' n h g) =
+    let (front, behind) = one_front us vs bs rest l (a_number n) longest h e in
+    not_within us l within (subst (λ z. is_number_text z ≡ true) (sym front) n) (subst (λ z. 2 ^ 63 < digits_value 10 z) (sym front) g)
+token_same at us vs l r r' longest within next (by_bad c rest e e' h g) = absurd (g us vs (sym e) l)
+
+great_same : (at : ℕ) (us vs : List ℕ) (r' : Answer) → is_number_text us ≡ true → IsLongest us vs → 2 ^ 63 < digits_value 10 us → Way at (us ++ vs) r' → Err (At at NumberRange) ≡ r'
+great_same at us vs r' n longest g (to_end e e') = no_front us vs (a_number n) (sym e)
+great_same at us vs r' n longest g (by_space c rest e h m) = no_space_front c rest us vs h (a_number n) (sym e)
+great_same at us vs r' n longest g (by_token bs rest k later e e' h w m) =
+    let (front, behind) = one_front us vs bs rest (a_number n) k longest h e in
+    not_within bs k w (subst (λ z. is_number_text z ≡ true) front n) (subst (λ z. 2 ^ 63 < digits_value 10 z) front g)
+great_same at us vs r' n longest g (by_great bs rest e e' n' h g') = sym e'
+great_same at us vs r' n longest g (by_bad c rest e e' h k) = absurd (k us vs (sym e) (a_number n))
+
+bad_same : (at b : ℕ) (text : List ℕ) (r' : Answer) → is_space b ≡ false → BeginsNone (b ∷ text) → Way at (b ∷ text) r' → Err (At at BadByte) ≡ r'
+bad_same at b text r' s none (to_end e e') = cc
+bad_same at b text r' s none (by_space c rest e h m) = let same : b ≡ c = ap head e in true_false (is_space b) (ap is_space same ∙ h) s
+bad_same at b text r' s none (by_token bs rest k later e e' h w m) = absurd (none bs rest e k)
+bad_same at b text r' s none (by_great bs rest e e' n h g) = absurd (none bs rest e (a_number n))
+bad_same at b text r' s none (by_bad c rest e e' h g) = sym e'
+
+one_way : (at : ℕ) (text : List ℕ) (r : Answer) → Matches at text r → (r' : Answer) → Matches at text r' → r ≡ r'
+one_way n text r (at_end at) r' m = end_same at r' (way at [] r' m)
+one_way n text x (passed at b rest r h m) r' m' = space_same at b rest r r' h (one_way (at + 1) rest r m) (way at (b ∷ rest) r' m')
+one_way n text r (taken at bs rest l later longest within m) r' m' = token_same at bs rest l later r' longest within (one_way (at + length bs) rest later m) (way at (bs ++ rest) r' m')
+one_way n text r (too_great at bs rest h longest g) r' m' = great_same at bs rest r' h longest g (way at (bs ++ rest) r' m')
+one_way n text r (bad at b rest h g) r' m' = bad_same at b rest r' h g (way at (b ∷ rest) r' m')
+
+pub reads_longest : (text : List ℕ) (r : Answer) → (lexed text ≡ r) ↔ Matches 0 text r
+reads_longest text r = (λ e. subst (Matches 0 text) e (read text), λ m. one_way 0 text (lexed text) (read text) r m)
