@@ -1,69 +1,88 @@
--- A run over the bytes of one source.
-use Rattle.std.proofs.Common.{◌≡◌, ◌≤◌, ℕ, ◌/◌, List, [], ◌∷◌, length, Option, Some, None, option_map, IfSome, refl, sym, ◌∙◌, ap, subst, arith, append-nil}
+-- A run over the bytes of open sources, from that of the engine.
+use Rattle.std.proofs.Common.{Bool, ◌≡◌, ℕ, List, [], Option, Some, None, IfSome, refl, sym, ap, subst, append-nil}
+use Rattle.saber_plan.specs.declared.rows.Side.{Side}
 use Rattle.saber_plan.specs.declared.rows.Side.TheVariants as sides
 use Rattle.saber_plan.specs.Rows.{Read}
-use Rattle.saber_plan.specs.Inputs.{input}
 use Rattle.saber_plan.specs.Trees.{Tree}
+use Rattle.saber_plan.specs.Tasks.{run_input}
 use Rattle.saber_plan.specs.Checked.{IsChecked}
 use Rattle.saber_io.specs.Outside.{appended}
-use Rattle.saber_engine.specs.declared.ends.Inputs.{Inputs}
-use Rattle.saber_engine.specs.declared.ends.Inputs.TheVariants.{One, Two}
 use Rattle.saber_engine.specs.declared.ends.RunEnd.{RunEnd}
 use Rattle.saber_engine.specs.declared.ends.RunEnd.TheVariants as ends
-use Rattle.saber_engine.specs.Sources.{input_of, each_input, wholes, GaveAll, NoneFell, RoseAt}
+use Rattle.saber_engine.specs.Sources.{input_of}
 use Rattle.saber_engine.specs.Gives as engine
-use Rattle.saber_engine.specs.Gives.{ReadsWhole}
+use Rattle.saber_engine.specs.Gives.{Assembles, Reach, reach_of}
 use Rattle.saber_notes.specs.declared.outcome.InputFile.TheVariants.{Query, Left, Right}
 use Rattle.saber_notes.specs.declared.outcome.Outcome.{Outcome}
-use Rattle.saber_notes.specs.declared.outcome.Outcome.TheVariants.{Done, Usage, FileCount, QueryFault, LineRefused, OpenFault, ReadFault, WriteFault, NoMemory}
+use Rattle.saber_notes.specs.declared.outcome.Outcome.TheVariants.{Done, Usage, FileCount, QueryFault, LineRefused, OpenFault, ReadFault, TooWide, WriteFault, NoMemory}
 use Rattle.saber_cli.specs.Laws.{Laws}
 use Rattle.saber_cli.specs.Uses.{IsOpened}
-use Rattle.saber_cli.specs.Outcomes.{IsWhole, IsNoEnd, IsOfRun, IsBeforeRun}
-use Rattle.saber_cli.specs.Answered.{Answered, AnsweredIn, EndsAs, left_input, Tells, IsOne, Takes}
-use Rattle.saber_cli.proofs.DueLemmas.{no_task_text}
+use Rattle.saber_cli.specs.Outcomes.{IsClean, IsNoEnd, IsEarly, IsOfRun, IsUnopened, IsBeforeRun}
+use Rattle.saber_cli.specs.Endings.{end_of, ended_as, file_on, EndsSo}
+use Rattle.saber_cli.specs.Answered.{Answered, AnsweredIn}
+use Rattle.saber_cli.proofs.DueLemmas.{nothing_assembled}
 
--- ---- no task yet
+-- ---- files that were not opened
 
-none_ends : (o : Outcome) (read : Read) → IsNoEnd o → EndsAs o read
-none_ends Done read h = absurd h
-none_ends Usage read h = absurd h
-none_ends (FileCount s g) read h = absurd h
-none_ends (QueryFault b c) read h = absurd h
-none_ends (LineRefused s n c) read h = absurd h
-none_ends (OpenFault f) read h = tt
-none_ends (ReadFault f) read h = tt
-none_ends WriteFault read h = absurd h
-none_ends NoMemory read h = tt
+unopened_no_end : (o : Outcome) → IsUnopened o → IsNoEnd o
+unopened_no_end Done h = absurd h
+unopened_no_end Usage h = absurd h
+unopened_no_end (FileCount s g) h = absurd h
+unopened_no_end (QueryFault b c) h = absurd h
+unopened_no_end (LineRefused s n c) h = absurd h
+unopened_no_end (OpenFault f) h = tt
+unopened_no_end (ReadFault f) h = absurd h
+unopened_no_end (TooWide t n r) h = absurd h
+unopened_no_end WriteFault h = absurd h
+unopened_no_end NoMemory h = tt
 
-not_whole : (o : Outcome) → IsNoEnd o → IsWhole o → ⊥
-not_whole Done h w = h
-not_whole Usage h w = h
-not_whole (FileCount s g) h w = h
-not_whole (QueryFault b c) h w = h
-not_whole (LineRefused s n c) h w = h
-not_whole (OpenFault f) h w = w
-not_whole (ReadFault f) h w = w
-not_whole WriteFault h w = h
-not_whole NoMemory h w = w
+no_end_early : (o : Outcome) → IsNoEnd o → IsEarly o
+no_end_early Done h = absurd h
+no_end_early Usage h = absurd h
+no_end_early (FileCount s g) h = absurd h
+no_end_early (QueryFault b c) h = absurd h
+no_end_early (LineRefused s n c) h = absurd h
+no_end_early (OpenFault f) h = tt
+no_end_early (ReadFault f) h = tt
+no_end_early (TooWide t n r) h = absurd h
+no_end_early WriteFault h = absurd h
+no_end_early NoMemory h = tt
 
--- nothing is assembled, and nothing is out
-nothing_answered : Laws → (q : Tree) (n most : ℕ) (bytes : List ℕ) (o : Outcome) → IsChecked q → IsNoEnd o → Answered q n most bytes o 0 []
-nothing_answered ls q n most bytes o k h = record {
-  ends = none_ends o (left_input q most bytes) h;
-  puts = record {
-    few = omega arith;
-    whole = λ w. absurd (not_whole o h w);
-    answers = λ w. sym (no_task_text ls q n (left_input q most bytes).rows k);
-    cut = λ e. absurd (subst IsNoEnd e h);
-  };
+none_ends : (q : Tree) (n ring : ℕ) (flush : Bool) (read : Read) (o : Outcome) → IsNoEnd o → EndsSo q n ring flush read o
+none_ends q n ring flush read Done h = absurd h
+none_ends q n ring flush read Usage h = absurd h
+none_ends q n ring flush read (FileCount s g) h = absurd h
+none_ends q n ring flush read (QueryFault b c) h = absurd h
+none_ends q n ring flush read (LineRefused s l c) h = absurd h
+none_ends q n ring flush read (OpenFault f) h = (tt, tt)
+none_ends q n ring flush read (ReadFault f) h = (tt, tt)
+none_ends q n ring flush read (TooWide t l r) h = absurd h
+none_ends q n ring flush read WriteFault h = absurd h
+none_ends q n ring flush read NoMemory h = (tt, tt)
+
+-- files that gave nothing, whether they are there or not
+pub no_answer : Laws → (q : Tree) (n ring most : ℕ) (flush : Bool) (content : Option (List (List ℕ))) (o : Outcome) → IsChecked q → IsUnopened o → AnsweredIn q n ring most flush content o 0 []
+no_answer ls q n ring most flush None o k h = (unopened_no_end o h, refl, refl)
+no_answer ls q n ring most flush (Some all) o k h = record {
+  ends = none_ends q n ring flush (input_of q most all) o (unopened_no_end o h);
+  puts = nothing_assembled ls q n (run_input q flush (input_of q most all)) o k (no_end_early o (unopened_no_end o h));
 }
 
--- a file that gave nothing, whether it is there or not
-pub no_answer : Laws → (q : Tree) (n most : ℕ) (content : Option (List ℕ)) (o : Outcome) → IsChecked q → IsNoEnd o → AnsweredIn q n most content o 0 []
-no_answer ls q n most None o k h = (h, refl, refl)
-no_answer ls q n most (Some bytes) o k h = nothing_answered ls q n most bytes o k h
+pub unopened_of_run : (o : Outcome) → IsUnopened o → IsOfRun o
+unopened_of_run Done h = absurd h
+unopened_of_run Usage h = absurd h
+unopened_of_run (FileCount s g) h = absurd h
+unopened_of_run (QueryFault b c) h = absurd h
+unopened_of_run (LineRefused s n c) h = absurd h
+unopened_of_run (OpenFault Query) h = absurd h
+unopened_of_run (OpenFault Left) h = tt
+unopened_of_run (OpenFault Right) h = tt
+unopened_of_run (ReadFault f) h = absurd h
+unopened_of_run (TooWide t n r) h = absurd h
+unopened_of_run WriteFault h = absurd h
+unopened_of_run NoMemory h = tt
 
--- ---- over a source that may tell its bytes
+-- ---- over sources that may tell their bytes
 
 pub appended_none : (o : Option (List ℕ)) → o ≡ appended o []
 appended_none None = refl
@@ -75,115 +94,92 @@ for_any P (Some x) h = h x
 
 -- ---- the ends of the engine as outcomes
 
-ends_by : (e : RunEnd) (o : Outcome) (read : Read) → Tells e o → engine.EndsAs e read → EndsAs o read
-ends_by ends.AllRead o read t h = subst (λ p. EndsAs p read) (sym t) h
-ends_by (ends.Bad side line cause) o read t h = subst (λ p. EndsAs p read) (sym t) h
-ends_by (ends.ReadFault side) o read t h = subst (λ p. EndsAs p read) (sym t) tt
-ends_by (ends.TooWide task need) o read t h = absurd t
-ends_by ends.WriteFault o read t h = subst (λ p. EndsAs p read) (sym t) tt
-ends_by ends.NoMemory o read t h = subst (λ p. EndsAs p read) (sym t) tt
+ends_by : (q : Tree) (n ring : ℕ) (flush : Bool) (read : Read) (e : RunEnd) → engine.EndsAs q n ring (run_input q flush read) e read → EndsSo q n ring flush read (ended_as ring e)
+ends_by q n ring flush read ends.AllRead h = (h, tt)
+ends_by q n ring flush read (ends.Bad side line cause) h = (h, tt)
+ends_by q n ring flush read (ends.ReadFault side) h = (tt, tt)
+ends_by q n ring flush read (ends.TooWide task need) h = (h, refl)
+ends_by q n ring flush read ends.WriteFault h = (tt, tt)
+ends_by q n ring flush read ends.NoMemory h = (tt, tt)
 
-whole_by : (e : RunEnd) (o : Outcome) → Tells e o → IsWhole o → engine.IsWhole e
-whole_by ends.AllRead o t w = tt
-whole_by (ends.Bad side line cause) o t w = tt
-whole_by (ends.ReadFault side) o t w = absurd (subst IsWhole t w)
-whole_by (ends.TooWide task need) o t w = absurd t
-whole_by ends.WriteFault o t w = absurd (subst IsWhole t w)
-whole_by ends.NoMemory o t w = absurd (subst IsWhole t w)
-
-pub write_by : (e : RunEnd) (o : Outcome) → Tells e o → o ≡ WriteFault → e ≡ ends.WriteFault
-write_by ends.AllRead o t k = let clash : Done ≡ WriteFault = sym t ∙ k in cc
-write_by (ends.Bad side line cause) o t k = let clash : LineRefused side line cause ≡ WriteFault = sym t ∙ k in cc
-write_by (ends.ReadFault sides.Left) o t k = let clash : ReadFault Left ≡ WriteFault = sym t ∙ k in cc
-write_by (ends.ReadFault sides.Right) o t k = let clash : ReadFault Right ≡ WriteFault = sym t ∙ k in cc
-write_by (ends.TooWide task need) o t k = absurd t
-write_by ends.WriteFault o t k = refl
-write_by ends.NoMemory o t k = let clash : NoMemory ≡ WriteFault = sym t ∙ k in cc
-
-write_back : (e : RunEnd) (o : Outcome) → Tells e o → e ≡ ends.WriteFault → o ≡ WriteFault
-write_back e o t k = subst (λ f. Tells f o) k t
+reach_by : (ring : ℕ) (e : RunEnd) → reach_of (end_of (ended_as ring e)) ≡ reach_of e
+reach_by ring ends.AllRead = refl
+reach_by ring (ends.Bad side line cause) = refl
+reach_by ring (ends.ReadFault side) = refl
+reach_by ring (ends.TooWide task need) = refl
+reach_by ring ends.WriteFault = refl
+reach_by ring ends.NoMemory = refl
 
 -- what went out, by the outcome
-pub run_answered : (q : Tree) (n most : ℕ) (bytes : List ℕ) (e : RunEnd) (o : Outcome) (tasks : ℕ) (out : List ℕ) → Tells e o → engine.Gives q n (left_input q most bytes) e tasks out → Answered q n most bytes o tasks out
-run_answered q n most bytes e o tasks out t g = record {
-  ends = ends_by e o (left_input q most bytes) t g.ends;
-  puts = record {
-    few = g.assembles.few;
-    whole = λ w. g.assembles.whole_is (whole_by e o t w);
-    answers = λ w. g.assembles.answers (λ k. w (write_back e o t k));
-    cut = λ k. g.assembles.cut_off (write_by e o t k);
-  };
-}
+run_answered : (q : Tree) (n ring : ℕ) (flush : Bool) (read : Read) (e : RunEnd) (o : Outcome) (tasks : ℕ) (out : List ℕ) → o ≡ ended_as ring e → engine.Gives q n ring flush read e tasks out → Answered q n ring flush read o tasks out
+run_answered q n ring flush read e o tasks out t g = subst (λ p. Answered q n ring flush read p tasks out) (sym t) (record {
+  ends = ends_by q n ring flush read e g.ends;
+  puts = subst (λ (x : Reach). Assembles q n (run_input q flush read) x tasks out) (sym (reach_by ring e)) g.assembles;
+})
 
--- the same where the one source tells its bytes
-pub told_answered : (q : Tree) (n most : ℕ) (left : Option (List ℕ)) (e : RunEnd) (o : Outcome) (tasks : ℕ) (out : List ℕ) → Tells e o
-    → IfSome (option_map (λ bytes. bytes ∷ []) left) (λ files. engine.Gives q n (input_of q most files) e tasks out) → IfSome left (λ bytes. Answered q n most bytes o tasks out)
-told_answered q n most None e o tasks out t g = tt
-told_answered q n most (Some bytes) e o tasks out t g = run_answered q n most bytes e o tasks out t g
+-- the same where the sources tell their bytes
+pub told_answered : (q : Tree) (n ring most : ℕ) (flush : Bool) (left : Option (List (List ℕ))) (e : RunEnd) (o : Outcome) (tasks : ℕ) (out : List ℕ) → o ≡ ended_as ring e
+    → IfSome left (λ all. engine.Gives q n ring flush (input_of q most all) e tasks out) → IfSome left (λ all. Answered q n ring flush (input_of q most all) o tasks out)
+told_answered q n ring most flush None e o tasks out t g = tt
+told_answered q n ring most flush (Some all) e o tasks out t g = run_answered q n ring flush (input_of q most all) e o tasks out t g
 
--- ---- the one input
+-- a fault of writing is its own
+pub write_by : (ring : ℕ) (e : RunEnd) → ended_as ring e ≡ WriteFault → e ≡ ends.WriteFault
+write_by ring ends.AllRead k = cc
+write_by ring (ends.Bad side line cause) k = cc
+write_by ring (ends.ReadFault side) k = cc
+write_by ring (ends.TooWide task need) k = cc
+write_by ring ends.WriteFault k = refl
+write_by ring ends.NoMemory k = cc
 
--- it stays the one
-pub still_one : {S : Type 0} (faults : S → ℕ) (s : S) (after : Inputs S) → NoneFell (each_input faults (One s)) (each_input faults after) → IsOne after
-still_one faults s (One t) h = tt
-still_one faults s (Two t u) h = absurd h.1
+-- and one of reading
+pub read_by : (ring : ℕ) (e : RunEnd) (side : Side) → ended_as ring e ≡ ReadFault (file_on side) → e ≡ ends.ReadFault side
+read_by ring ends.AllRead side k = cc
+read_by ring (ends.Bad s line cause) side k = cc
+read_by ring (ends.ReadFault sides.Left) sides.Left k = refl
+read_by ring (ends.ReadFault sides.Left) sides.Right k = let clash : ReadFault Left ≡ ReadFault Right = k in cc
+read_by ring (ends.ReadFault sides.Right) sides.Left k = let clash : ReadFault Right ≡ ReadFault Left = k in cc
+read_by ring (ends.ReadFault sides.Right) sides.Right k = refl
+read_by ring (ends.TooWide task need) side k = cc
+read_by ring ends.WriteFault side k = cc
+read_by ring ends.NoMemory side k = cc
 
--- a fault of reading is its own
-pub read_by : (e : RunEnd) (o : Outcome) → Tells e o → o ≡ ReadFault Left → e ≡ ends.ReadFault sides.Left
-read_by ends.AllRead o t k = let clash : Done ≡ ReadFault Left = sym t ∙ k in cc
-read_by (ends.Bad side line cause) o t k = let clash : LineRefused side line cause ≡ ReadFault Left = sym t ∙ k in cc
-read_by (ends.ReadFault sides.Left) o t k = refl
-read_by (ends.ReadFault sides.Right) o t k = let clash : ReadFault Right ≡ ReadFault Left = sym t ∙ k in cc
-read_by (ends.TooWide task need) o t k = absurd t
-read_by ends.WriteFault o t k = let clash : WriteFault ≡ ReadFault Left = sym t ∙ k in cc
-read_by ends.NoMemory o t k = let clash : NoMemory ≡ ReadFault Left = sym t ∙ k in cc
+pub clean_by : (ring : ℕ) (e : RunEnd) → IsClean (ended_as ring e) → engine.IsClean e
+clean_by ring ends.AllRead w = tt
+clean_by ring (ends.Bad side line cause) w = tt
+clean_by ring (ends.ReadFault side) w = absurd w
+clean_by ring (ends.TooWide task need) w = tt
+clean_by ring ends.WriteFault w = absurd w
+clean_by ring ends.NoMemory w = absurd w
 
-pub run_kinds : (e : RunEnd) (o : Outcome) → Tells e o → (e ≡ ends.ReadFault sides.Right → ⊥) → IsOfRun o
-run_kinds ends.AllRead o t n = subst IsOfRun (sym t) tt
-run_kinds (ends.Bad side line cause) o t n = subst IsOfRun (sym t) tt
-run_kinds (ends.ReadFault sides.Left) o t n = subst IsOfRun (sym t) tt
-run_kinds (ends.ReadFault sides.Right) o t n = absurd (n refl)
-run_kinds (ends.TooWide task need) o t n = absurd t
-run_kinds ends.WriteFault o t n = subst IsOfRun (sym t) tt
-run_kinds ends.NoMemory o t n = subst IsOfRun (sym t) tt
+pub run_kinds : (ring : ℕ) (e : RunEnd) → IsOfRun (ended_as ring e)
+run_kinds ring ends.AllRead = tt
+run_kinds ring (ends.Bad side line cause) = tt
+run_kinds ring (ends.ReadFault sides.Left) = tt
+run_kinds ring (ends.ReadFault sides.Right) = tt
+run_kinds ring (ends.TooWide task need) = tt
+run_kinds ring ends.WriteFault = tt
+run_kinds ring ends.NoMemory = tt
 
--- the one input is the left one
-pub not_right : {S : Type 0} (faults : S → ℕ) (s t : S) → RoseAt sides.Right (each_input faults (One s)) (each_input faults (One t)) → ⊥
-not_right faults s t h = h
-
--- ---- what was taken of it
-
-taken_one : (q : Tree) (n most tasks : ℕ) (had has : Option (List ℕ)) (taken : List (List ℕ)) → GaveAll (had ∷ []) taken (has ∷ []) → length (input (wholes q most taken)).rows / n ≤ tasks → Takes q n most tasks had has
-taken_one q n most tasks had has [] g h = absurd g
-taken_one q n most tasks had has (t ∷ []) g h = record { taken = t; left = g.0; tasks_are = h }
-taken_one q n most tasks had has (t ∷ u ∷ more) g h = absurd g.1
-
-pub run_takes : (q : Tree) (n most tasks : ℕ) (had has : Option (List ℕ)) → ReadsWhole q n most tasks (had ∷ []) (has ∷ []) → Takes q n most tasks had has
-run_takes q n most tasks had has w = taken_one q n most tasks had has w.taken w.left w.tasks_are
-
--- ---- how a run over an open source ends
-
-pub run_opened : (o : Outcome) → IsOfRun o → IsOpened o
-run_opened Done h = tt
-run_opened Usage h = tt
-run_opened (FileCount s g) h = tt
-run_opened (QueryFault b c) h = tt
-run_opened (LineRefused s n c) h = tt
-run_opened (OpenFault f) h = absurd h
-run_opened (ReadFault f) h = tt
-run_opened WriteFault h = tt
-run_opened NoMemory h = tt
+pub run_opened : (ring : ℕ) (e : RunEnd) → IsOpened (ended_as ring e)
+run_opened ring ends.AllRead = tt
+run_opened ring (ends.Bad side line cause) = tt
+run_opened ring (ends.ReadFault side) = tt
+run_opened ring (ends.TooWide task need) = tt
+run_opened ring ends.WriteFault = tt
+run_opened ring ends.NoMemory = tt
 
 -- not before the run
-pub run_not_before : (o : Outcome) → IsOfRun o → IsBeforeRun o → ⊥
-run_not_before Done h b = b
-run_not_before Usage h b = h
-run_not_before (FileCount s g) h b = h
-run_not_before (QueryFault q c) h b = h
-run_not_before (LineRefused s n c) h b = b
-run_not_before (OpenFault f) h b = h
-run_not_before (ReadFault Query) h b = h
-run_not_before (ReadFault Left) h b = b
-run_not_before (ReadFault Right) h b = b
-run_not_before WriteFault h b = b
-run_not_before NoMemory h b = b
+pub run_not_before : (o : Outcome) → IsOfRun o → IsOpened o → IsBeforeRun o → ⊥
+run_not_before Done h p b = b
+run_not_before Usage h p b = h
+run_not_before (FileCount s g) h p b = h
+run_not_before (QueryFault q c) h p b = h
+run_not_before (LineRefused s n c) h p b = b
+run_not_before (OpenFault f) h p b = p
+run_not_before (ReadFault Query) h p b = h
+run_not_before (ReadFault Left) h p b = b
+run_not_before (ReadFault Right) h p b = b
+run_not_before (TooWide t n r) h p b = b
+run_not_before WriteFault h p b = b
+run_not_before NoMemory h p b = b

@@ -1,8 +1,8 @@
 -- What is due for a command, from what was read of its query.
-use Rattle.std.proofs.Common.{◌≡◌, ◌⊎◌, inl, inr, ℕ, List, [], Some, None, true, false, refl, sym, ◌∙◌, ap, subst, arith}
-use Rattle.saber_plan.specs.declared.rows.Row.{Row}
+use Rattle.saber_plan.specs.Inputs.{Input}
+use Rattle.std.proofs.Common.{◌≡◌, ◌⊎◌, inl, inr, ℕ, List, [], Some, None, refl, sym, ◌∙◌, ap, subst, arith}
 use Rattle.saber_plan.specs.Trees.{Tree}
-use Rattle.saber_plan.specs.Tasks.{upto}
+use Rattle.saber_plan.specs.Tasks.{upto, run_input}
 use Rattle.saber_plan.specs.Answers.{text}
 use Rattle.saber_plan.specs.Checked.{IsChecked}
 use Rattle.saber_io.specs.Outside.{content_in}
@@ -10,13 +10,12 @@ use Rattle.saber_query.specs.declared.fault.Cause.{Cause}
 use Rattle.saber_check.specs.Texts.{HasPlan, HasFault}
 use Rattle.saber_words.specs.Commands.{Asked, run, check, AskedRun}
 use Rattle.saber_notes.specs.declared.outcome.Outcome.{Outcome}
-use Rattle.saber_notes.specs.declared.outcome.Outcome.TheVariants.{Done, Usage, FileCount, QueryFault, LineRefused, OpenFault, ReadFault, WriteFault, NoMemory}
+use Rattle.saber_notes.specs.declared.outcome.Outcome.TheVariants.{Done, Usage, FileCount, QueryFault, LineRefused, OpenFault, ReadFault, TooWide, WriteFault, NoMemory}
 use Rattle.saber_cli.specs.Laws.{Laws}
-use Rattle.saber_cli.specs.Outcomes.{IsEarly, IsWhole, IsFileFault}
-use Rattle.saber_cli.specs.Able.{can_run}
+use Rattle.saber_cli.specs.Outcomes.{IsEarly, IsFileFault, IsQueryUnread}
 use Rattle.saber_cli.specs.Texts.{BeginsFile}
-use Rattle.saber_cli.specs.Assembles.{Assembles}
-use Rattle.saber_cli.specs.Planned.{CantRun}
+use Rattle.saber_engine.specs.Gives.{Assembles, Reach, all_tasks, before_task, first_tasks, cut_off, reach_of}
+use Rattle.saber_cli.specs.Endings.{end_of}
 use Rattle.saber_cli.specs.Due.{Contents, Due, usage, missing, faulty, unlike, shows, runs, IsDueFor, HasRun}
 use Rattle.saber_cli.specs.Causes.{Allows}
 use Rattle.saber_cli.specs.Puts.{PutsOut, no_text}
@@ -24,27 +23,41 @@ use Rattle.saber_cli.specs.Puts.{PutsOut, no_text}
 -- ---- nothing went out
 
 -- no task has a text
-pub no_task_text : Laws → (q : Tree) (n : ℕ) (xs : List Row) → IsChecked q → text q (upto n xs 0) ≡ []
-no_task_text ls q n xs h = ap (text q) (ls.no_rows n xs) ∙ (ls.nothing q (ls.fits q h)).0
+pub no_task_text : Laws → (q : Tree) (n : ℕ) (u : Input) → IsChecked q → text q (upto n u 0) ≡ []
+no_task_text ls q n u h = ap (text q) (ls.no_rows n u) ∙ (ls.nothing q (ls.fits q h)).0
 
-early_whole : (o : Outcome) → IsEarly o → IsWhole o → ⊥
-early_whole Done h w = h
-early_whole Usage h w = h
-early_whole (FileCount s g) h w = w
-early_whole (QueryFault b c) h w = w
-early_whole (LineRefused s n c) h w = h
-early_whole (OpenFault f) h w = w
-early_whole (ReadFault f) h w = w
-early_whole WriteFault h w = h
-early_whole NoMemory h w = w
+early_reach : (o : Outcome) → IsEarly o → reach_of (end_of o) ≡ first_tasks
+early_reach Done h = absurd h
+early_reach Usage h = absurd h
+early_reach (FileCount s g) h = refl
+early_reach (QueryFault b c) h = refl
+early_reach (LineRefused s n c) h = absurd h
+early_reach (OpenFault f) h = refl
+early_reach (ReadFault f) h = refl
+early_reach (TooWide t n r) h = absurd h
+early_reach WriteFault h = absurd h
+early_reach NoMemory h = refl
 
-nothing_assembled : Laws → (q : Tree) (n : ℕ) (xs : List Row) (o : Outcome) → IsChecked q → IsEarly o → Assembles q n xs o 0 []
-nothing_assembled ls q n xs o k h = record {
+none_assembled : Laws → (q : Tree) (n : ℕ) (u : Input) → IsChecked q → Assembles q n u first_tasks 0 []
+none_assembled ls q n u k = record {
   few = omega arith;
-  whole = λ w. absurd (early_whole o h w);
-  answers = λ w. sym (no_task_text ls q n xs k);
-  cut = λ e. absurd (subst IsEarly e h);
+  all = λ e. absurd (not_all e);
+  before = λ t e. absurd (not_before t e);
+  answers = λ w. sym (no_task_text ls q n u k);
+  cut = λ e. absurd (not_cut e);
 }
+  where
+    not_all : first_tasks ≡ all_tasks → ⊥
+    not_all e = cc
+
+    not_before : (t : ℕ) → first_tasks ≡ before_task t → ⊥
+    not_before t e = cc
+
+    not_cut : first_tasks ≡ cut_off → ⊥
+    not_cut e = cc
+
+pub nothing_assembled : Laws → (q : Tree) (n : ℕ) (u : Input) (o : Outcome) → IsChecked q → IsEarly o → Assembles q n u (reach_of (end_of o)) 0 []
+nothing_assembled ls q n u o k h = subst (λ (x : Reach). Assembles q n u x 0 []) (sym (early_reach o h)) (none_assembled ls q n u k)
 
 run_checked : Laws → (files : Contents) (r : AskedRun) (q : Tree) → HasRun files r q → IsChecked q
 run_checked ls files r q h = ls.plan_checked h.text q h.plan
@@ -56,20 +69,33 @@ early_puts ls files c o missing h d = (refl, refl)
 early_puts ls files c o (faulty b k) h d = (refl, refl)
 early_puts ls files c o (unlike s g) h d = (refl, refl)
 early_puts ls files c o (shows out) h d = (refl, no_text (λ e. subst IsEarly e h) refl)
-early_puts ls files (run r) o (runs q n read) h d = nothing_assembled ls q n read.rows o (run_checked ls files r q d.1) h
-early_puts ls files (check r) o (runs q n read) h d = absurd d
+early_puts ls files (run r) o (runs q n ring flush read) h d = nothing_assembled ls q n (run_input q flush read) o (run_checked ls files r q d.1) h
+early_puts ls files (check r) o (runs q n ring flush read) h d = absurd d
 
--- ---- a fault of a file, and want of memory
+-- ---- a fault of the query's file, and want of memory
 
-pub lacks_allowed : (files : Contents) (c : Asked) (o : Outcome) (d : Due) → IsFileFault o ⊎ (o ≡ NoMemory) → IsDueFor files c d → Allows d o
+unread_fault : (o : Outcome) → IsQueryUnread o → IsFileFault o
+unread_fault Done h = h
+unread_fault Usage h = h
+unread_fault (FileCount s g) h = h
+unread_fault (QueryFault b c) h = h
+unread_fault (LineRefused s n c) h = h
+unread_fault (OpenFault f) h = tt
+unread_fault (ReadFault f) h = tt
+unread_fault (TooWide t n r) h = h
+unread_fault WriteFault h = h
+unread_fault NoMemory h = h
+
+pub lacks_allowed : (files : Contents) (c : Asked) (o : Outcome) (d : Due) → IsQueryUnread o ⊎ (o ≡ NoMemory) → IsDueFor files c d → Allows d o
 lacks_allowed files c o usage h d = absurd d
-lacks_allowed files c o missing h d = h
+lacks_allowed files c o missing (inl f) d = inl (unread_fault o f)
+lacks_allowed files c o missing (inr m) d = inr m
 lacks_allowed files c o (faulty b k) h d = inr h
 lacks_allowed files c o (unlike s g) h d = inr h
-lacks_allowed files c o (shows out) (inl f) d = inr (inl f)
+lacks_allowed files c o (shows out) (inl f) d = inr (inl (unread_fault o f))
 lacks_allowed files c o (shows out) (inr m) d = inr (inr (inr m))
-lacks_allowed files c o (runs q n read) (inl f) d = inr (inl f)
-lacks_allowed files c o (runs q n read) (inr m) d = inr (inr (inr m))
+lacks_allowed files c o (runs q n ring flush read) (inl f) d = inr (inl (unread_fault o f))
+lacks_allowed files c o (runs q n ring flush read) (inr m) d = inr (inr (inr m))
 
 -- ---- one text, one plan
 
@@ -79,18 +105,14 @@ run_plan ls files r q p whole h e k =
     let same : h.text ≡ whole = let f : Some h.text ≡ Some whole = sym h.there ∙ e in cc in
     ls.one_plan whole q p (subst (λ t. HasPlan t q) same h.plan) k
 
--- a text with a fault, or with a plan that can't be run, is no text of a run
+-- a text with a fault is no text of a run
 pub run_or_fault : Laws → (files : Contents) (r : AskedRun) (q : Tree) (whole : List ℕ) (byte : ℕ) (cause : Cause) → HasRun files r q → content_in files r.query ≡ Some whole → HasFault whole byte cause → ⊥
 run_or_fault ls files r q whole byte cause h e f =
     let same : h.text ≡ whole = let g : Some h.text ≡ Some whole = sym h.there ∙ e in cc in
     ls.fault_or_plan whole byte cause q f (subst (λ t. HasPlan t q) same h.plan)
 
-pub run_or_unable : Laws → (files : Contents) (r : AskedRun) (q : Tree) (whole : List ℕ) → HasRun files r q → content_in files r.query ≡ Some whole → CantRun whole → ⊥
-run_or_unable ls files r q whole h e n =
-    let same : q ≡ n.plan = run_plan ls files r q n.plan whole h e n.has in
-    let able : can_run n.plan ≡ true = ap can_run (sym same) ∙ h.able in
-    let unable : can_run n.plan ≡ false = n.not_able in
-    cc
+pub same_refusal : (b d : ℕ) (c e : Cause) → (b ≡ d) × (c ≡ e) → QueryFault b c ≡ QueryFault d e
+same_refusal b d c e h = λ i. QueryFault (h.0 i) (h.1 i)
 
 -- a query file that is there is not missing
 pub there_not_missing : (files : Contents) (name whole : List ℕ) → content_in files name ≡ Some whole → content_in files name ≡ None → ⊥

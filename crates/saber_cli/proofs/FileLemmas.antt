@@ -1,23 +1,29 @@
 -- One file that is opened, read and given back.
-use Rattle.std.proofs.Common.{Result, Ok, Err, IfOk, IfErr, refl, ◌≡◌, ℕ, ◌<◌, ◌≤◌, List, take, Option, Some, None, IfSome, ◌∙◌, ap, subst, arith}
+use Rattle.std.proofs.Common.{Result, Ok, Err, IfOk, IfErr, OnOk, refl, sym, ◌≡◌, ℕ, ◌<◌, ◌≤◌, List, take, Option, Some, None, IfSome, ◌∙◌, ap, subst, arith}
 use Rattle.std.proofs.lemmas.Bool.Decides.{nat_tests}
-use Rattle.saber_io.specs.Outside.{Told, asking, closing, raised, Rose, Opens}
+use Rattle.saber_io.specs.Outside.{Told, asking, closing, raised, given, Rose, Opens}
 use Rattle.saber_notes.specs.declared.outcome.InputFile.{InputFile}
 use Rattle.saber_notes.specs.declared.outcome.InputFile.TheVariants.{Query, Left, Right}
 use Rattle.saber_notes.specs.declared.outcome.Outcome.{Outcome}
-use Rattle.saber_notes.specs.declared.outcome.Outcome.TheVariants.{Done, Usage, FileCount, QueryFault, LineRefused, OpenFault, ReadFault, WriteFault, NoMemory}
-use Rattle.saber_cli.specs.Outcomes.{IsFileFault}
+use Rattle.saber_notes.specs.declared.outcome.Outcome.TheVariants.{Done, Usage, FileCount, QueryFault, LineRefused, OpenFault, ReadFault, TooWide, WriteFault, NoMemory}
+use Rattle.saber_cli.specs.Outcomes.{IsClean, IsFileFault}
 use Rattle.saber_cli.specs.Texts.{BeginsFile, read_limit}
-use Rattle.saber_cli.specs.Uses.{Uses, used, IsOpened, IsOfText, IsOfQuery, outcome_of, KeepsFaults}
+use Rattle.saber_cli.specs.Uses.{Uses, used, IsOf, IsOpened, IsOfText, IsOfQuery, outcome_of, KeepsFaults}
 
 -- what was read of a source that was opened is the beginning of its file
 pub opened_front : (told : Option Told) (name : List ℕ) (left : Option (List ℕ)) (text : List ℕ) → Opens told name left → IfSome left (λ whole. text ≡ take read_limit whole) → IfSome told (λ t. BeginsFile t.contents name text)
 opened_front None name left text o h = tt
 opened_front (Some t) name left text o h = record { whole = o.0; there = o.1; front = subst (λ l. IfSome l (λ whole. text ≡ take read_limit whole)) o.2 h }
 
+-- a source that was opened is of its file
+pub opened_of : (told : Option Told) (name : List ℕ) (had has : Option (List ℕ)) (faults : ℕ) → Opens told name had → (taken : List ℕ) × (had ≡ given taken has) → IfSome told (λ t. IsOf t.contents name (has, faults))
+opened_of None name had has faults o k = tt
+opened_of (Some t) name had None faults o k = let clash : Some o.0 ≡ None = sym o.2 ∙ k.1 in cc
+opened_of (Some t) name had (Some rest) faults o k = record { taken = k.0; rest = rest; there = o.1 ∙ sym o.2 ∙ k.1; left = refl }
+
 -- a file that was opened, and whose source was given back
-pub used_by : (file : InputFile) (name : List ℕ) (o : Outcome) (old mid new : Option Told) (left : Option (List ℕ)) (faults : ℕ) → (o ≡ ReadFault file → 0 < faults) → IsOpened o → mid ≡ asking old name → new ≡ closing mid left faults → Uses file name o old new
-used_by file name o old mid new left faults read opened asked closed = used left faults read opened (closed ∙ ap (λ t. closing t left faults) asked)
+pub used_by : (file : InputFile) (name : List ℕ) (o : Outcome) (old mid new : Option Told) (left : Option (List ℕ)) (faults : ℕ) → (o ≡ ReadFault file → 0 < faults) → (IsClean o → faults ≡ 0) → IfSome old (λ t. IsOf t.contents name (left, faults)) → IsOpened o → mid ≡ asking old name → new ≡ closing mid left faults → Uses file name o old new
+used_by file name o old mid new left faults read clean is_of opened asked closed = used left faults read clean is_of opened (closed ∙ ap (λ t. closing t left faults) asked)
 
 -- what was read of a source, or why there is nothing
 read_opened : (o : Outcome) → IsOfText o → IsOpened o
@@ -28,8 +34,21 @@ read_opened (QueryFault b c) h = absurd h
 read_opened (LineRefused s n c) h = absurd h
 read_opened (OpenFault f) h = absurd h
 read_opened (ReadFault f) h = tt
+read_opened (TooWide t n r) h = absurd h
 read_opened WriteFault h = absurd h
 read_opened NoMemory h = tt
+
+text_not_clean : (o : Outcome) → IsOfText o → IsClean o → ⊥
+text_not_clean Done h c = h
+text_not_clean Usage h c = h
+text_not_clean (FileCount s g) h c = h
+text_not_clean (QueryFault b k) h c = h
+text_not_clean (LineRefused s n k) h c = h
+text_not_clean (OpenFault f) h c = h
+text_not_clean (ReadFault f) h c = c
+text_not_clean (TooWide t n r) h c = h
+text_not_clean WriteFault h c = h
+text_not_clean NoMemory h c = c
 
 -- of a result
 pub map_err : {X P Q : Type 0} (r : Result X Outcome) (p : Outcome) → (P → Q) → IfErr r (λ o. o ≡ p → P) → IfErr r (λ o. o ≡ p → Q)
@@ -41,10 +60,19 @@ pub text_front : {X : Type 0} (bytes : X → List ℕ) (r : Result X Outcome) (t
 text_front bytes (Ok x) told name left o h = opened_front told name left (bytes x) o h
 text_front bytes (Err e) told name left o h = tt
 
-pub text_used : {X : Type 0} (name : List ℕ) (r : Result X Outcome) (old mid new : Option Told) (left : Option (List ℕ)) (faults : ℕ) → IfErr r IsOfText → IfErr r (λ o. o ≡ ReadFault Query → 0 < faults)
+pub text_used : {X : Type 0} (name : List ℕ) (r : Result X Outcome) (old mid new : Option Told) (left : Option (List ℕ)) (faults : ℕ) → IfErr r IsOfText → IfErr r (λ o. o ≡ ReadFault Query → 0 < faults) → OnOk r (faults ≡ 0) → IfSome old (λ t. IsOf t.contents name (left, faults))
     → mid ≡ asking old name → new ≡ closing mid left faults → Uses Query name (outcome_of r) old new
-text_used name (Ok x) old mid new left faults h k asked closed = used_by Query name Done old mid new left faults (λ e. cc) tt asked closed
-text_used name (Err o) old mid new left faults h k asked closed = used_by Query name o old mid new left faults k (read_opened o h) asked closed
+text_used name (Ok x) old mid new left faults h k z i asked closed = used_by Query name Done old mid new left faults (λ e. cc) (λ c. z) i tt asked closed
+text_used name (Err o) old mid new left faults h k z i asked closed = used_by Query name o old mid new left faults k (λ c. absurd (text_not_clean o h c)) i (read_opened o h) asked closed
+
+pub on_ok : {X P Q : Type 0} (r : Result X Outcome) → (P → Q) → OnOk r P → OnOk r Q
+on_ok (Ok x) f h = f h
+on_ok (Err o) f h = tt
+
+-- no fault of a text, so none of its files
+pub text_good : {X : Type 0} (r : Result X Outcome) (a b c f : ℕ) → IfErr r IsOfText → OnOk r (f ≡ 0) → b ≡ a → c ≡ raised b f → IsClean (outcome_of r) → c ≡ a
+text_good (Ok x) a b c f h z e k n = k ∙ ap (raised b) z ∙ e
+text_good (Err o) a b c f h z e k n = absurd (text_not_clean o h n)
 
 -- a text's read fault is a fault of the files
 text_cause : (o : Outcome) → IsOfText o → IsFileFault o → o ≡ ReadFault Query
@@ -57,6 +85,7 @@ text_cause (OpenFault file) h f = absurd h
 text_cause (ReadFault Query) h f = refl
 text_cause (ReadFault Left) h f = absurd h
 text_cause (ReadFault Right) h f = absurd h
+text_cause (TooWide t n r) h f = absurd f
 text_cause WriteFault h f = absurd f
 text_cause NoMemory h f = absurd f
 
@@ -75,6 +104,7 @@ text_of_query (Err (OpenFault file)) h = absurd h
 text_of_query (Err (ReadFault Query)) h = tt
 text_of_query (Err (ReadFault Left)) h = absurd h
 text_of_query (Err (ReadFault Right)) h = absurd h
+text_of_query (Err (TooWide t n r)) h = absurd h
 text_of_query (Err WriteFault) h = absurd h
 text_of_query (Err NoMemory) h = tt
 

@@ -1,114 +1,137 @@
 -- What a command leaves of its files, from what it did with each.
-use Rattle.std.proofs.Common.{◌≡◌, ◌<◌, ℕ, List, [], ◌∷◌, ◌++◌, length, Option, Some, None, refl, sym, ◌∙◌, ap, subst, arith, append-nil, append_assoc}
-use Rattle.saber_io.specs.Outside.{Told, Closed, asking, closing}
+use Rattle.std.proofs.Common.{◌≡◌, ◌<◌, ℕ, suc, List, [], ◌∷◌, ◌++◌, length, take, Option, Some, None, IfSome, refl, sym, ◌∙◌, ap, subst, arith, append-nil, append_assoc}
+use Rattle.saber_io.specs.Outside.{Told, asking, closing}
+use Rattle.saber_words.specs.Commands.{run, AskedRun}
 use Rattle.saber_notes.specs.declared.outcome.InputFile.TheVariants.{Query, Left, Right}
 use Rattle.saber_notes.specs.declared.outcome.Outcome.{Outcome}
-use Rattle.saber_notes.specs.declared.outcome.Outcome.TheVariants.{Done, Usage, FileCount, QueryFault, LineRefused, OpenFault, ReadFault, WriteFault, NoMemory}
-use Rattle.saber_cli.specs.Outcomes.{IsOfLeft}
-use Rattle.saber_cli.specs.Uses.{Uses, unasked, unopened, used, IsOpened, IsOfQuery}
-use Rattle.saber_cli.specs.Leaves.{Leaves, LeavesTold, Matches}
+use Rattle.saber_notes.specs.declared.outcome.Outcome.TheVariants.{Done, Usage, FileCount, QueryFault, LineRefused, OpenFault, ReadFault, TooWide, WriteFault, NoMemory}
+use Rattle.saber_cli.specs.Due.{AsksRows, row_names}
+use Rattle.saber_cli.specs.Outcomes.{IsOfShow}
+use Rattle.saber_cli.specs.Uses.{Uses, unasked, unopened, used, IsOf, IsOpened, IsOfQuery}
+use Rattle.saber_cli.specs.Leaves.{AreOf, Leaves, LeavesTold, Matches}
+use Rattle.saber_cli.specs.RowFiles.{UsesRows, using}
 
 -- ---- told or not
 
-told_by : (names : List (List ℕ)) (o : Outcome) (old new : Option Told) → ((t : Told) → old ≡ Some t → (u : Told) × (new ≡ Some u) × Leaves names o t u) → LeavesTold names o old new
-told_by names o None new h = tt
-told_by names o (Some t) new h = h t refl
+-- files with these names, of which more than the first are due where G holds
+abbrev pub LeavesBy : List (List ℕ) → (Told → Type 0) → Outcome → Option Told → Option Told → Type 0
+LeavesBy names G o old new = IfSome old (λ t. (u : Told) × (new ≡ Some u) × Leaves names (G t) o t u)
+
+told_by : (names : List (List ℕ)) (G : Told → Type 0) (o : Outcome) (old new : Option Told) → ((t : Told) → old ≡ Some t → (u : Told) × (new ≡ Some u) × Leaves names (G t) o t u) → LeavesBy names G o old new
+told_by names G o None new h = tt
+told_by names G o (Some t) new h = h t refl
 
 -- what files tell when a source of theirs was given back
 abbrev back : Told → List ℕ → Option (List ℕ) → ℕ → Told
 back t name left faults = record { contents = t.contents; asked = t.asked ++ name ∷ []; closed = t.closed ++ (left, faults) ∷ [] }
 
--- ---- no command
+-- a source is of its file, where files tell
+abbrev IsOfTold : Option Told → List ℕ → Option (List ℕ) → ℕ → Type 0
+IsOfTold old name left faults = IfSome old (λ t. IsOf t.contents name (left, faults))
 
-pub none_left : (names : List (List ℕ)) (o : Outcome) (old : Option Told) → Matches o 0 [] → LeavesTold names o old old
-none_left names o old m = told_by names o old old (λ t e. (t, e, record { contents = refl; count = 0; few = omega arith; asked = sym (append-nil t.asked); given_back = []; closed = sym (append-nil t.closed); matches = m }))
+is_of : (old : Option Told) (t : Told) (name : List ℕ) (left : Option (List ℕ)) (faults : ℕ) → old ≡ Some t → IsOfTold old name left faults → IsOf t.contents name (left, faults)
+is_of old t name left faults e h = subst (λ o. IsOfTold o name left faults) e h
+
+-- ---- no file
+
+pub none_left : (names : List (List ℕ)) (G : Told → Type 0) (o : Outcome) (old : Option Told) → Matches (length names) o 0 [] → LeavesBy names G o old old
+none_left names G o old m = told_by names G o old old (λ t e. (t, e, record { contents = refl; count = 0; few = omega arith; rows = λ k. absurd (omega (arith, k)); asked = sym (append-nil t.asked); given_back = []; closed = sym (append-nil t.closed); are_of = tt; matches = m }))
 
 -- ---- the query's file alone
 
--- outcomes that come after every file that was asked for is given back
-abbrev pub IsAfter : Outcome → Type 0
-IsAfter (OpenFault file) = ⊥
-IsAfter (ReadFault file) = ⊥
-IsAfter _ = Unit {0}
+one_back : (name : List ℕ) (rest : List (List ℕ)) (G : Type 0) (o : Outcome) (t : Told) (left : Option (List ℕ)) (faults : ℕ) → IsOf t.contents name (left, faults) → Matches (length (name ∷ rest)) o 1 ((left, faults) ∷ []) → Leaves (name ∷ rest) G o t (back t name left faults)
+one_back name rest G o t left faults h m = record { contents = refl; count = 1; few = omega arith; rows = λ k. absurd (omega (arith, k)); asked = refl; given_back = (left, faults) ∷ []; closed = refl; are_of = (h, tt); matches = m }
 
-matches_after : (o : Outcome) (n : ℕ) (given_back : List Closed) → IsAfter o → length given_back ≡ n → Matches o n given_back
-matches_after Done n g h e = e
-matches_after Usage n g h e = e
-matches_after (FileCount s c) n g h e = e
-matches_after (QueryFault b c) n g h e = e
-matches_after (LineRefused s l c) n g h e = e
-matches_after (OpenFault f) n g h e = absurd h
-matches_after (ReadFault f) n g h e = absurd h
-matches_after WriteFault n g h e = e
-matches_after NoMemory n g h e = e
+one_open : (name : List ℕ) (rest : List (List ℕ)) (G : Type 0) (t : Told) → Leaves (name ∷ rest) G (OpenFault Query) t (record { contents = t.contents; asked = t.asked ++ name ∷ []; closed = t.closed })
+one_open name rest G t = record { contents = refl; count = 1; few = omega arith; rows = λ k. absurd (omega (arith, k)); asked = refl; given_back = []; closed = sym (append-nil t.closed); are_of = tt; matches = (refl, refl, tt) }
 
-one_back : (name : List ℕ) (rest : List (List ℕ)) (o : Outcome) (t : Told) (left : Option (List ℕ)) (faults : ℕ) → Matches o 1 ((left, faults) ∷ []) → Leaves (name ∷ rest) o t (back t name left faults)
-one_back name rest o t left faults m = record { contents = refl; count = 1; few = omega arith; asked = refl; given_back = (left, faults) ∷ []; closed = refl; matches = m }
-
-one_open : (name : List ℕ) (rest : List (List ℕ)) (t : Told) → Leaves (name ∷ rest) (OpenFault Query) t (record { contents = t.contents; asked = t.asked ++ name ∷ []; closed = t.closed })
-one_open name rest t = record { contents = refl; count = 1; few = omega arith; asked = refl; given_back = []; closed = sym (append-nil t.closed); matches = (refl, refl) }
-
-query_matches : (o : Outcome) (left : Option (List ℕ)) (faults : ℕ) → IsOfQuery o → IsOpened o → (o ≡ ReadFault Query → 0 < faults) → Matches o 1 ((left, faults) ∷ [])
-query_matches Done left faults h p f = absurd h
-query_matches Usage left faults h p f = absurd h
-query_matches (FileCount s c) left faults h p f = absurd h
-query_matches (QueryFault b c) left faults h p f = absurd h
-query_matches (LineRefused s l c) left faults h p f = absurd h
-query_matches (OpenFault file) left faults h p f = absurd p
-query_matches (ReadFault Query) left faults h p f = (refl, record { source = (left, faults); there = refl; faults = f refl })
-query_matches (ReadFault Left) left faults h p f = absurd h
-query_matches (ReadFault Right) left faults h p f = absurd h
-query_matches WriteFault left faults h p f = absurd h
-query_matches NoMemory left faults h p f = refl
+query_matches : (all : ℕ) (o : Outcome) (left : Option (List ℕ)) (faults : ℕ) → IsOfQuery o → IsOpened o → (o ≡ ReadFault Query → 0 < faults) → Matches all o 1 ((left, faults) ∷ [])
+query_matches all Done left faults h p f = absurd h
+query_matches all Usage left faults h p f = absurd h
+query_matches all (FileCount s c) left faults h p f = absurd h
+query_matches all (QueryFault b c) left faults h p f = absurd h
+query_matches all (LineRefused s l c) left faults h p f = absurd h
+query_matches all (OpenFault file) left faults h p f = absurd p
+query_matches all (ReadFault Query) left faults h p f = (refl, refl, record { source = (left, faults); there = refl; faults = f refl; before = λ k. absurd (omega (arith, k)) })
+query_matches all (ReadFault Left) left faults h p f = absurd h
+query_matches all (ReadFault Right) left faults h p f = absurd h
+query_matches all (TooWide t n r) left faults h p f = absurd h
+query_matches all WriteFault left faults h p f = absurd h
+query_matches all NoMemory left faults h p f = refl
 
 -- a query file that gave no text
-pub query_leaves : (name : List ℕ) (rest : List (List ℕ)) (o : Outcome) (old new : Option Told) → IsOfQuery o → Uses Query name o old new → LeavesTold (name ∷ rest) o old new
-query_leaves name rest o old new h (unasked e s) = subst (λ n. LeavesTold (name ∷ rest) o old n) (sym s) (none_left (name ∷ rest) o old (subst (λ p. Matches p 0 []) (sym e) refl))
-query_leaves name rest o old new h (unopened e s) = told_by (name ∷ rest) o old new (λ t k. (_, s ∙ ap (λ p. asking p name) k, subst (λ p. Leaves (name ∷ rest) p t (record { contents = t.contents; asked = t.asked ++ name ∷ []; closed = t.closed })) (sym e) (one_open name rest t)))
-query_leaves name rest o old new h (used left faults f p s) = told_by (name ∷ rest) o old new (λ t k. (_, s ∙ ap (λ q. closing (asking q name) left faults) k, one_back name rest o t left faults (query_matches o left faults h p f)))
+pub query_leaves : (name : List ℕ) (rest : List (List ℕ)) (G : Told → Type 0) (o : Outcome) (old new : Option Told) → IsOfQuery o → Uses Query name o old new → LeavesBy (name ∷ rest) G o old new
+query_leaves name rest G o old new h (unasked e s) = subst (λ n. LeavesBy (name ∷ rest) G o old n) (sym s) (none_left (name ∷ rest) G o old (subst (λ p. Matches (length (name ∷ rest)) p 0 []) (sym e) refl))
+query_leaves name rest G o old new h (unopened e s) = told_by (name ∷ rest) G o old new (λ t k. (_, s ∙ ap (λ p. asking p name) k, subst (λ p. Leaves (name ∷ rest) (G t) p t (record { contents = t.contents; asked = t.asked ++ name ∷ []; closed = t.closed })) (sym e) (one_open name rest (G t) t)))
+query_leaves name rest G o old new h (used left faults f c i p s) = told_by (name ∷ rest) G o old new (λ t k. (_, s ∙ ap (λ q. closing (asking q name) left faults) k, one_back name rest (G t) o t left faults (is_of old t name left faults k i) (query_matches (length (name ∷ rest)) o left faults h p f)))
 
 -- a query file that was read, where nothing else is asked for
-pub after_query : (name : List ℕ) (rest : List (List ℕ)) (o : Outcome) (old new : Option Told) → IsAfter o → Uses Query name Done old new → LeavesTold (name ∷ rest) o old new
-after_query name rest o old new h (unasked e s) = cc
-after_query name rest o old new h (unopened e s) = cc
-after_query name rest o old new h (used left faults f p s) = told_by (name ∷ rest) o old new (λ t k. (_, s ∙ ap (λ q. closing (asking q name) left faults) k, one_back name rest o t left faults (matches_after o 1 ((left, faults) ∷ []) h refl)))
+after_query : (name : List ℕ) (rest : List (List ℕ)) (G : Told → Type 0) (o : Outcome) (old new : Option Told) → ((left : Option (List ℕ)) (faults : ℕ) → faults ≡ 0 → Matches (length (name ∷ rest)) o 1 ((left, faults) ∷ []))
+    → Uses Query name Done old new → LeavesBy (name ∷ rest) G o old new
+after_query name rest G o old new m (unasked e s) = cc
+after_query name rest G o old new m (unopened e s) = cc
+after_query name rest G o old new m (used left faults f c i p s) = told_by (name ∷ rest) G o old new (λ t k. (_, s ∙ ap (λ q. closing (asking q name) left faults) k, one_back name rest (G t) o t left faults (is_of old t name left faults k i) (m left faults (c tt))))
 
--- ---- the query's file and then the left one
+-- outcomes of a run that end it behind its query's file
+abbrev pub IsRefused : Outcome → Type 0
+IsRefused (FileCount streams given) = Unit {0}
+IsRefused (QueryFault byte cause) = Unit {0}
+IsRefused NoMemory = Unit {0}
+IsRefused _ = ⊥
 
-two_back : (query name : List ℕ) (rest : List (List ℕ)) (o : Outcome) (t : Told) (ql left : Option (List ℕ)) (qf faults : ℕ) → Matches o 2 ((ql, qf) ∷ (left, faults) ∷ []) → Leaves (query ∷ name ∷ rest) o t (back (back t query ql qf) name left faults)
-two_back query name rest o t ql left qf faults m = record {
-  contents = refl;
-  count = 2;
-  few = omega arith;
-  asked = append_assoc t.asked (query ∷ []) (name ∷ []);
-  given_back = (ql, qf) ∷ (left, faults) ∷ [];
-  closed = append_assoc t.closed ((ql, qf) ∷ []) ((left, faults) ∷ []);
-  matches = m;
-}
+refused_matches : (all : ℕ) (o : Outcome) → IsRefused o → (left : Option (List ℕ)) (faults : ℕ) → faults ≡ 0 → Matches all o 1 ((left, faults) ∷ [])
+refused_matches all Done h left faults z = absurd h
+refused_matches all Usage h left faults z = absurd h
+refused_matches all (FileCount s c) h left faults z = record { asked_for = refl; all = refl; good = (z, tt) }
+refused_matches all (QueryFault b c) h left faults z = record { asked_for = refl; all = refl; good = (z, tt) }
+refused_matches all (LineRefused s l c) h left faults z = absurd h
+refused_matches all (OpenFault file) h left faults z = absurd h
+refused_matches all (ReadFault file) h left faults z = absurd h
+refused_matches all (TooWide t n r) h left faults z = absurd h
+refused_matches all WriteFault h left faults z = absurd h
+refused_matches all NoMemory h left faults z = refl
 
-two_open : (query name : List ℕ) (rest : List (List ℕ)) (t : Told) (ql : Option (List ℕ)) (qf : ℕ) → Leaves (query ∷ name ∷ rest) (OpenFault Left) t (record { contents = t.contents; asked = (t.asked ++ query ∷ []) ++ name ∷ []; closed = t.closed ++ (ql, qf) ∷ [] })
-two_open query name rest t ql qf = record { contents = refl; count = 2; few = omega arith; asked = append_assoc t.asked (query ∷ []) (name ∷ []); given_back = (ql, qf) ∷ []; closed = refl; matches = (refl, refl) }
+pub refused_leaves : (name : List ℕ) (rest : List (List ℕ)) (G : Told → Type 0) (o : Outcome) (old new : Option Told) → IsRefused o → Uses Query name Done old new → LeavesBy (name ∷ rest) G o old new
+refused_leaves name rest G o old new h u = after_query name rest G o old new (refused_matches (length (name ∷ rest)) o h) u
 
-left_matches : (o : Outcome) (ql left : Option (List ℕ)) (qf faults : ℕ) → IsOfLeft o → IsOpened o → (o ≡ ReadFault Left → 0 < faults) → Matches o 2 ((ql, qf) ∷ (left, faults) ∷ [])
-left_matches Done ql left qf faults h p f = refl
-left_matches Usage ql left qf faults h p f = absurd h
-left_matches (FileCount s c) ql left qf faults h p f = absurd h
-left_matches (QueryFault b c) ql left qf faults h p f = absurd h
-left_matches (LineRefused s l c) ql left qf faults h p f = refl
-left_matches (OpenFault file) ql left qf faults h p f = absurd p
-left_matches (ReadFault Query) ql left qf faults h p f = absurd h
-left_matches (ReadFault Left) ql left qf faults h p f = (refl, record { source = (left, faults); there = refl; faults = f refl })
-left_matches (ReadFault Right) ql left qf faults h p f = absurd h
-left_matches WriteFault ql left qf faults h p f = refl
-left_matches NoMemory ql left qf faults h p f = refl
+show_matches : (o : Outcome) → IsOfShow o → (left : Option (List ℕ)) (faults : ℕ) → faults ≡ 0 → Matches 1 o 1 ((left, faults) ∷ [])
+show_matches Done h left faults z = record { asked_for = refl; all = refl; good = (z, tt) }
+show_matches Usage h left faults z = absurd h
+show_matches (FileCount s c) h left faults z = absurd h
+show_matches (QueryFault b c) h left faults z = record { asked_for = refl; all = refl; good = (z, tt) }
+show_matches (LineRefused s l c) h left faults z = absurd h
+show_matches (OpenFault file) h left faults z = absurd h
+show_matches (ReadFault file) h left faults z = absurd h
+show_matches (TooWide t n r) h left faults z = absurd h
+show_matches WriteFault h left faults z = (refl, refl)
+show_matches NoMemory h left faults z = refl
 
-behind_query : (query name : List ℕ) (rest : List (List ℕ)) (o : Outcome) (old mid new : Option Told) (ql : Option (List ℕ)) (qf : ℕ) → IsOfLeft o → mid ≡ closing (asking old query) ql qf → Uses Left name o mid new → LeavesTold (query ∷ name ∷ rest) o old new
-behind_query query name rest o old mid new ql qf h m (unasked e s) = told_by (query ∷ name ∷ rest) o old new (λ t k. (_, s ∙ m ∙ ap (λ q. closing (asking q query) ql qf) k, one_back query (name ∷ rest) o t ql qf (subst (λ p. Matches p 1 ((ql, qf) ∷ [])) (sym e) refl)))
-behind_query query name rest o old mid new ql qf h m (unopened e s) = told_by (query ∷ name ∷ rest) o old new (λ t k. (_, s ∙ ap (λ p. asking p name) (m ∙ ap (λ q. closing (asking q query) ql qf) k), subst (λ p. Leaves (query ∷ name ∷ rest) p t (record { contents = t.contents; asked = (t.asked ++ query ∷ []) ++ name ∷ []; closed = t.closed ++ (ql, qf) ∷ [] })) (sym e) (two_open query name rest t ql qf)))
-behind_query query name rest o old mid new ql qf h m (used left faults f p s) = told_by (query ∷ name ∷ rest) o old new (λ t k. (_, s ∙ ap (λ r. closing (asking r name) left faults) (m ∙ ap (λ q. closing (asking q query) ql qf) k), two_back query name rest o t ql left qf faults (left_matches o ql left qf faults h p f)))
+pub show_leaves : (name : List ℕ) (G : Told → Type 0) (o : Outcome) (old new : Option Told) → IsOfShow o → Uses Query name Done old new → LeavesBy (name ∷ []) G o old new
+show_leaves name G o old new h u = after_query name [] G o old new (show_matches o h) u
 
--- a run over the left file, behind a query that was read
-pub left_leaves : (query name : List ℕ) (rest : List (List ℕ)) (o : Outcome) (old mid new : Option Told) → IsOfLeft o → Uses Query query Done old mid → Uses Left name o mid new → LeavesTold (query ∷ name ∷ rest) o old new
-left_leaves query name rest o old mid new h (unasked e s) u = cc
-left_leaves query name rest o old mid new h (unopened e s) u = cc
-left_leaves query name rest o old mid new h (used ql qf f p s) u = behind_query query name rest o old mid new ql qf h s u
+-- ---- the query's file and then the row files
+
+-- a query's source that had no faults, and was given back before a row file was asked for
+behind_query : (query : List ℕ) (names : List (List ℕ)) (G : Told → Type 0) (o : Outcome) (old mid new : Option Told) (left : Option (List ℕ)) (faults : ℕ) → faults ≡ 0 → IsOfTold old query left faults → IfSome old G → mid ≡ closing (asking old query) left faults → UsesRows names o mid new
+    → LeavesBy (query ∷ names) G o old new
+behind_query query names G o old mid new left faults z i g s u = told_by (query ∷ names) G o old new (λ t k. let m = s ∙ ap (λ x. closing (asking x query) left faults) k in (
+  _,
+  u.told ∙ ap (λ x. using x (take u.count names) u.given_back) m,
+  record {
+    contents = refl;
+    count = suc u.count;
+    few = omega (arith, u.few);
+    rows = λ n. subst (λ x. IfSome x G) k g;
+    asked = append_assoc t.asked (query ∷ []) (take u.count names);
+    given_back = (left, faults) ∷ u.given_back;
+    closed = append_assoc t.closed ((left, faults) ∷ []) u.given_back;
+    are_of = (is_of old t query left faults k i, subst (λ x. IfSome x (λ v. AreOf v.contents u.given_back names)) m u.are_of);
+    matches = u.matches (left, faults) z;
+  },
+))
+
+-- row files that were asked for behind a query that was read
+pub rows_leaves : (r : AskedRun) (o : Outcome) (old mid new : Option Told) → IfSome old (λ t. AsksRows t.contents (run r)) → Uses Query r.query Done old mid → UsesRows (row_names r) o mid new → LeavesTold (run r) o old new
+rows_leaves r o old mid new g (unasked e s) u = cc
+rows_leaves r o old mid new g (unopened e s) u = cc
+rows_leaves r o old mid new g (used left faults f c i p s) u = behind_query r.query (row_names r) (λ t. AsksRows t.contents (run r)) o old mid new left faults (c tt) i g s u

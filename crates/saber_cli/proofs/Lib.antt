@@ -1,9 +1,11 @@
 pub mod TextLemmas
 pub mod FileLemmas
 pub mod AnsweredLemmas
+pub mod RowLemmas
 pub mod LeavesLemmas
 pub mod TakenLemmas
 pub mod DueLemmas
 pub mod RunLemmas
 pub mod ShowLemmas
 pub mod WordLemmas
+pub mod WorkedEnds

@@ -19,18 +19,17 @@ use Rattle.saber_check.specs.Outcome.{IsFaultOf}
 use Rattle.saber_check.specs.Texts.{HasPlan, HasFault, fails_checks, IsFaultIn}
 use Rattle.saber_words.specs.Commands.{run, check, AskedCheck}
 use Rattle.saber_notes.specs.declared.outcome.Outcome.{Outcome}
-use Rattle.saber_notes.specs.declared.outcome.Outcome.TheVariants.{Done, Usage, FileCount, QueryFault, LineRefused, OpenFault, ReadFault, WriteFault, NoMemory}
+use Rattle.saber_notes.specs.declared.outcome.Outcome.TheVariants.{Done, Usage, FileCount, QueryFault, LineRefused, OpenFault, ReadFault, TooWide, WriteFault, NoMemory}
 use Rattle.saber_cli.specs.Laws.{Laws}
 use Rattle.saber_cli.specs.Outcomes.{IsBeforeRun, IsFileFault, IsQueryFault, IsOfShow}
 use Rattle.saber_cli.specs.Texts.{BeginsFile}
 use Rattle.saber_cli.specs.Planned.{IsTextFault}
-use Rattle.saber_cli.specs.Due.{Contents, Due, usage, missing, faulty, unlike, shows, runs, IsDueFor, IsFaulty, by_text, by_shape, IsMissing, no_query, no_rows, Shows}
+use Rattle.saber_cli.specs.Due.{Contents, Due, usage, missing, faulty, unlike, shows, runs, IsDueFor, IsMissing, no_query, no_rows, Shows}
 use Rattle.saber_cli.specs.Causes.{HasCause, Allows}
 use Rattle.saber_cli.specs.Puts.{PutsOut, PutsText, whole_text, part}
 use Rattle.saber_cli.specs.Gives.{Gives}
 use Rattle.saber_cli.specs.Shown.{Showed, all_shown, cut_short, not_shown}
-use Rattle.saber_cli.proofs.LeavesLemmas.{IsAfter}
-use Rattle.saber_cli.proofs.DueLemmas.{there_not_missing, begun_fault, early_puts}
+use Rattle.saber_cli.proofs.DueLemmas.{there_not_missing, same_refusal, begun_fault, early_puts}
 use Rattle.saber_cli.proofs.RunLemmas.{gives_no_text}
 
 -- ---- a query that fails its checks
@@ -78,15 +77,11 @@ not_missing : (files : Contents) (c : AskedCheck) (whole : List ℕ) → content
 not_missing files c whole e (no_query m) = there_not_missing files c.query whole e m
 not_missing files c whole e (no_rows asked q s h l m) = let s' : check c ≡ run asked = s in cc
 
-faulty_text : (c : AskedCheck) (text : List ℕ) (byte : ℕ) (cause : Cause) → IsFaulty (check c) text byte cause → HasFault text byte cause
-faulty_text c text byte cause (by_text f) = f
-faulty_text c text byte cause (by_shape asked q s p n b k) = let s' : check c ≡ run asked = s in cc
-
 -- a fault that is due is that of the query's text
 due_fault : (files : Contents) (c : AskedCheck) (whole : List ℕ) (byte : ℕ) (cause : Cause) → content_in files c.query ≡ Some whole → IsDueFor files (check c) (faulty byte cause) → HasFault whole byte cause
 due_fault files c whole byte cause e d =
     let same : d.0 ≡ whole = let f : Some d.0 ≡ Some whole = sym d.1 ∙ e in cc in
-    faulty_text c whole byte cause (subst (λ t. IsFaulty (check c) t byte cause) same d.2)
+    subst (λ t. HasFault t byte cause) same d.2
 
 -- a text that is due is that of the query's text
 due_shows : (files : Contents) (c : AskedCheck) (whole out : List ℕ) → content_in files c.query ≡ Some whole → IsDueFor files (check c) (shows out) → Shows whole out
@@ -107,7 +102,7 @@ shown_allowed ls files c whole shown o (faulty b x) e s k d = absurd (shows_or_f
 shown_allowed ls files c whole shown o (unlike x g) e s k d = absurd d
 shown_allowed ls files c whole shown o (shows t) e s (inl k) d = inl k
 shown_allowed ls files c whole shown o (shows t) e s (inr k) d = inr (inr (inl k))
-shown_allowed ls files c whole shown o (runs q n read) e s k d = absurd d
+shown_allowed ls files c whole shown o (runs q n ring flush read) e s k d = absurd d
 
 shown_puts : Laws → (files : Contents) (c : AskedCheck) (whole shown : List ℕ) (o : Outcome) (out : List ℕ) (d : Due) → content_in files c.query ≡ Some whole → Shows whole shown → PutsText shown o out → IsDueFor files (check c) d → PutsOut d o 0 out
 shown_puts ls files c whole shown o out usage e s p d = absurd d
@@ -115,7 +110,7 @@ shown_puts ls files c whole shown o out missing e s p d = absurd (not_missing fi
 shown_puts ls files c whole shown o out (faulty b x) e s p d = absurd (shows_or_fault ls whole shown b x s (due_fault files c whole b x e d))
 shown_puts ls files c whole shown o out (unlike x g) e s p d = absurd d
 shown_puts ls files c whole shown o out (shows t) e s p d = (refl, subst (λ x. PutsText x o out) (one_text whole shown t s (due_shows files c whole t e d)) p)
-shown_puts ls files c whole shown o out (runs q n read) e s p d = absurd d
+shown_puts ls files c whole shown o out (runs q n ring flush read) e s p d = absurd d
 
 gives_shown : Laws → (files : Contents) (c : AskedCheck) (whole shown : List ℕ) (o : Outcome) (out : List ℕ) → content_in files c.query ≡ Some whole → Shows whole shown → (o ≡ Done) ⊎ (o ≡ WriteFault) → PutsText shown o out → Gives files (check c) o 0 out
 gives_shown ls files c whole shown o out e s k p = record {
@@ -129,14 +124,14 @@ gives_shown ls files c whole shown o out e s k p = record {
 refused_allowed : Laws → (files : Contents) (c : AskedCheck) (whole : List ℕ) (byte : ℕ) (cause : Cause) (d : Due) → content_in files c.query ≡ Some whole → HasFault whole byte cause → IsDueFor files (check c) d → Allows d (QueryFault byte cause)
 refused_allowed ls files c whole byte cause usage e f d = absurd d
 refused_allowed ls files c whole byte cause missing e f d = absurd (not_missing files c whole e d)
-refused_allowed ls files c whole byte cause (faulty b x) e f d = inl tt
+refused_allowed ls files c whole byte cause (faulty b x) e f d = inl (same_refusal byte b cause x (ls.one_fault whole byte b cause x f (due_fault files c whole b x e d)))
 refused_allowed ls files c whole byte cause (unlike x g) e f d = absurd d
 refused_allowed ls files c whole byte cause (shows t) e f d = absurd (shows_or_fault ls whole t byte cause (due_shows files c whole t e d) f)
-refused_allowed ls files c whole byte cause (runs q n read) e f d = absurd d
+refused_allowed ls files c whole byte cause (runs q n ring flush read) e f d = absurd d
 
 gives_refused : Laws → (files : Contents) (c : AskedCheck) (whole : List ℕ) (byte : ℕ) (cause : Cause) → content_in files c.query ≡ Some whole → HasFault whole byte cause → Gives files (check c) (QueryFault byte cause) 0 []
 gives_refused ls files c whole byte cause e f = record {
-  cause = (whole, e, by_text f);
+  cause = (whole, e, f);
   allows = λ d x. refused_allowed ls files c whole byte cause d e f x;
   puts = λ d x. early_puts ls files (check c) (QueryFault byte cause) d tt x;
 }
@@ -148,6 +143,7 @@ gives_not_shown ls files c text (FileCount s g) b h = absurd h
 gives_not_shown ls files c text (LineRefused s n k) b h = absurd h
 gives_not_shown ls files c text (OpenFault f) b h = absurd h
 gives_not_shown ls files c text (ReadFault f) b h = absurd h
+gives_not_shown ls files c text (TooWide t n k) b h = absurd h
 gives_not_shown ls files c text WriteFault b h = absurd h
 gives_not_shown ls files c text NoMemory b h = gives_no_text ls files (check c) NoMemory tt
 gives_not_shown ls files c text (QueryFault byte cause) b h = let w = begun_fault ls files c.query text byte cause b h in gives_refused ls files c w.0 byte cause w.1 w.2
@@ -160,18 +156,6 @@ gives_show ls files c text o out b (all_shown e s) = let w = begun_shows ls file
 gives_show ls files c text o out b (cut_short shown n e s k) = let w = begun_shows ls files c.query text shown b s in gives_shown ls files c w.0 shown o out w.1 w.2 (inr e) (part n e k)
 gives_show ls files c text o out b (not_shown h k) = subst (Gives files (check c) o 0) (sym k) (gives_not_shown ls files c text o b h)
 
--- the file was given back before the text was checked
-pub show_after : (o : Outcome) → IsOfShow o → IsAfter o
-show_after Done h = tt
-show_after Usage h = absurd h
-show_after (FileCount s g) h = absurd h
-show_after (QueryFault b c) h = tt
-show_after (LineRefused s n c) h = absurd h
-show_after (OpenFault f) h = absurd h
-show_after (ReadFault f) h = absurd h
-show_after WriteFault h = tt
-show_after NoMemory h = tt
-
 -- where nothing was run, the text was refused
 pub show_early : (o : Outcome) → IsOfShow o → IsBeforeRun o → IsQueryFault o
 show_early Done h b = b
@@ -181,6 +165,7 @@ show_early (QueryFault b c) h k = tt
 show_early (LineRefused s n c) h b = b
 show_early (OpenFault f) h b = h
 show_early (ReadFault f) h b = absurd h
+show_early (TooWide t n r) h b = b
 show_early WriteFault h b = b
 show_early NoMemory h b = b
 
@@ -193,5 +178,6 @@ show_reads (QueryFault b c) h f = f
 show_reads (LineRefused s n c) h f = f
 show_reads (OpenFault file) h f = h
 show_reads (ReadFault file) h f = h
+show_reads (TooWide t n r) h f = f
 show_reads WriteFault h f = f
 show_reads NoMemory h f = f

@@ -1,8 +1,13 @@
 -- The beginning of a file, from what was read of it and what its source has left.
-use Rattle.std.proofs.Common.{◌≡◌, ℕ, ◌≤◌, List, [], ◌++◌, length, take, Option, Some, None, IfSome, sym, ◌∙◌, ap, subst, arith}
+use Rattle.std.proofs.Common.{◌≡◌, ℕ, ◌≤◌, List, [], ◌++◌, length, take, Option, Some, None, IfSome, refl, sym, ◌∙◌, ap, subst, arith, append_assoc}
 use Rattle.std.proofs.lemmas.List.{take_all, take-append-le, append-nil}
 use Rattle.saber_io.specs.Outside.{given}
 use Rattle.saber_cli.specs.Texts.{read_limit}
+
+-- bytes that were taken, and then others
+pub given_more : (a b : List ℕ) (rest : Option (List ℕ)) → given a (given b rest) ≡ given (a ++ b) rest
+given_more a b None = refl
+given_more a b (Some r) = ap Some (sym (append_assoc a b r))
 
 abbrev IsFront : List ℕ → Option (List ℕ) → Type 0
 IsFront text left = IfSome left (λ whole. text ≡ take read_limit whole)

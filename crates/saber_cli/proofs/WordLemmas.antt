@@ -1,12 +1,11 @@
 -- From what is due for a command to what is due for the words.
 use Rattle.std.proofs.Common.{◌≡◌, inl, inr, ℕ, List, [], Some, None, refl, sym, ◌∙◌, subst}
-use Rattle.saber_plan.specs.Rows.{Read}
 use Rattle.saber_words.specs.Commands.{Asked, command_of}
 use Rattle.saber_words.specs.declared.commands.WordsFault.{WordsFault}
 use Rattle.saber_words.specs.declared.commands.WordsFault.TheVariants as fault
-use Rattle.saber_notes.specs.declared.outcome.InputFile.TheVariants.{Left}
+use Rattle.saber_notes.specs.declared.outcome.InputFile.{InputFile}
 use Rattle.saber_notes.specs.declared.outcome.Outcome.{Outcome}
-use Rattle.saber_notes.specs.declared.outcome.Outcome.TheVariants.{Done, Usage, FileCount, QueryFault, LineRefused, OpenFault, ReadFault, WriteFault, NoMemory}
+use Rattle.saber_notes.specs.declared.outcome.Outcome.TheVariants.{Done, Usage, FileCount, QueryFault, LineRefused, OpenFault, ReadFault, TooWide, WriteFault, NoMemory}
 use Rattle.saber_cli.specs.Laws.{Laws}
 use Rattle.saber_cli.specs.Due.{Contents, Due, IsDueFor, IsDue, no_command, by_command}
 use Rattle.saber_cli.specs.Causes.{HasCause, Allows, Ends, ShowsText}
@@ -17,8 +16,8 @@ use Rattle.saber_cli.proofs.DueLemmas.{lacks_allowed, early_puts}
 
 -- ---- causes
 
-more_ends : (p q : Due → Type 0) (end : Read → Type 0) → ((d : Due) → p d → q d) → Ends p end → Ends q end
-more_ends p q end f e = record { plan = e.plan; task = e.task; read = e.read; is_due = f _ e.is_due; ends = e.ends }
+more_ends : (p q : Due → Type 0) (o : Outcome) → ((d : Due) → p d → q d) → Ends p o → Ends q o
+more_ends p q o f e = record { plan = e.plan; task = e.task; ring = e.ring; flush = e.flush; read = e.read; is_due = f _ e.is_due; ends = e.ends }
 
 more_shows : (p q : Due → Type 0) → ((d : Due) → p d → q d) → ShowsText p → ShowsText q
 more_shows p q f s = record { out = s.out; is_due = f _ s.is_due }
@@ -33,6 +32,7 @@ more_cause p q (QueryFault b c) f h = f _ h
 more_cause p q (LineRefused s n c) f h = more_ends p q _ f h
 more_cause p q (OpenFault file) f h = tt
 more_cause p q (ReadFault file) f h = tt
+more_cause p q (TooWide t n r) f h = more_ends p q _ f h
 more_cause p q WriteFault f (inl e) = inl (more_ends p q _ f e)
 more_cause p q WriteFault f (inr s) = inr (more_shows p q f s)
 more_cause p q NoMemory f h = tt
@@ -73,9 +73,9 @@ memory_puts ls ws files d (no_command n u) = subst (λ x. PutsOut x NoMemory 0 [
 memory_puts ls ws files d (by_command c k h) = early_puts ls files c NoMemory d tt h
 
 -- nothing was read for want of words
-pub unread_not_read : (f : WordsFault) → unread f ≡ ReadFault Left → ⊥
-unread_not_read fault.NoMemory e = cc
-unread_not_read fault.Usage e = cc
+pub unread_not_read : (f : WordsFault) (file : InputFile) → unread f ≡ ReadFault file → ⊥
+unread_not_read fault.NoMemory file e = cc
+unread_not_read fault.Usage file e = cc
 
 -- words of which no command was read
 pub unread_answers : Laws → (ws : List (List ℕ)) (files : Contents) (f : WordsFault) → (f ≡ fault.Usage → command_of ws ≡ None) → Answers ws files (unread f) 0 []

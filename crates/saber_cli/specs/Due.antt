@@ -1,10 +1,9 @@
 -- What is due for some words and the contents of files, with no fault and memory enough.
-use Rattle.std.specs.Prelude.{◌≡◌, ◌≢◌, ℕ, List, [], ◌∷◌, ◌++◌, length, Option, Some, None, option_map, option_and_then, option_to_list, true, false}
+use Rattle.std.specs.Prelude.{Bool, ◌≡◌, ◌≢◌, ℕ, List, [], ◌∷◌, ◌++◌, length, Option, Some, None, option_map, option_and_then, option_to_list}
 use Rattle.saber_plan.specs.Rows.{Read}
 use Rattle.saber_plan.specs.Trees.{Tree}
 use Rattle.saber_io.specs.Outside.{content_in}
 use Rattle.saber_query.specs.declared.fault.Cause.{Cause}
-use Rattle.saber_query.specs.declared.fault.Cause.TheVariants.{Shape}
 use Rattle.saber_query.specs.Parsed.{Parsed, IsParsed}
 use Rattle.saber_query.specs.Trees.{query_of}
 use Rattle.saber_query.specs.Words.{words}
@@ -14,7 +13,6 @@ use Rattle.saber_check.specs.Outcome.{IsFaultless}
 use Rattle.saber_check.specs.Texts.{HasPlan, HasFault}
 use Rattle.saber_words.specs.Commands.{Asked, run, check, AskedRun, command_of}
 use Rattle.saber_engine.specs.Sources.{input_of}
-use Rattle.saber_cli.specs.Able.{can_run}
 
 -- each file's name and what it has
 abbrev pub Contents : Type 0
@@ -25,7 +23,7 @@ abbrev pub query_name : Asked → List ℕ
 query_name (run r) = r.query
 query_name (check c) = c.query
 
--- the row files of a run, in the order in which they are opened
+-- the names of the row files of a run, in the order in which they are opened
 abbrev pub row_names : AskedRun → List (List ℕ)
 row_names r = r.left ∷ option_to_list r.right
 
@@ -44,30 +42,29 @@ pub data Due : Type 0 where
   usage : Due
   -- a file that is opened isn't there
   missing : Due
-  -- the query's text has this fault, or its plan can't be run
+  -- the query's text has this fault
   faulty : ℕ → Cause → Due
   -- the query names so many streams, and the command so many row files
   unlike : ℕ → ℕ → Due
   -- a query was checked, and this is its text
   shows : List ℕ → Due
-  -- the plan is run over these rows, in tasks of so many
-  runs : Tree → ℕ → Read → Due
+  -- the plan is run over these rows, in tasks of so many, on a ring of so many cells, and whether their end closes the windows that are begun
+  runs : Tree → ℕ → ℕ → Bool → Read → Due
 
--- the run's query has this text, and the text this plan, which can be run
+-- the run's query has this text, and the text this plan
 pub record HasRun (files : Contents) (asked : AskedRun) (q : Tree) : Type 0 where
   pub text : List ℕ
   pub there : content_in files asked.query ≡ Some text
   pub plan : HasPlan text q
-  pub able : can_run q ≡ true
 
 -- each stream of FROM has its row file
 abbrev pub IsLike : AskedRun → Tree → Type 0
 IsLike asked q = length q.streams ≡ length (row_names asked)
 
--- the text has the fault; or the command is a run, and the text's plan can't be run yet, which is a fault of shape at byte 0
-pub data IsFaulty (command : Asked) (text : List ℕ) (byte : ℕ) (cause : Cause) : Type 0 where
-  by_text : HasFault text byte cause → IsFaulty command text byte cause
-  by_shape : (asked : AskedRun) (q : Tree) → command ≡ run asked → HasPlan text q → can_run q ≡ false → byte ≡ 0 → cause ≡ Shape → IsFaulty command text byte cause
+-- the row files are asked for: those of a run whose query has a plan, with a file for each of its streams
+abbrev pub AsksRows : Contents → Asked → Type 0
+AsksRows files (run r) = (q : Tree) × HasRun files r q × IsLike r q
+AsksRows files (check c) = ⊥
 
 -- a file isn't there: the query's, or one of the row files of a run
 pub data IsMissing (files : Contents) (command : Asked) : Type 0 where
@@ -82,17 +79,23 @@ pub record Shows (text out : List ℕ) : Type 0 where
   pub faultless : IsFaultless (query_of query.select)
   pub out_is : out ≡ spelled (words (query_of query.select)) ++ 10 ∷ []
 
+-- the words ask for tasks of so many rows, such a ring, and whether the end closes windows
+pub record AsksFor (asked : AskedRun) (n ring : ℕ) (flush : Bool) : Type 0 where
+  pub task : n ≡ asked.task
+  pub cells : ring ≡ asked.ring
+  pub closes : flush ≡ asked.flush
+
 -- what is due for a command
 abbrev pub IsDueFor : Contents → Asked → Due → Type 0
 IsDueFor files c usage = ⊥
 IsDueFor files c missing = IsMissing files c
-IsDueFor files c (faulty byte cause) = (text : List ℕ) × (content_in files (query_name c) ≡ Some text) × IsFaulty c text byte cause
+IsDueFor files c (faulty byte cause) = (text : List ℕ) × (content_in files (query_name c) ≡ Some text) × HasFault text byte cause
 IsDueFor files (run r) (unlike streams given) = (q : Tree) × HasRun files r q × (length q.streams ≡ streams) × (length (row_names r) ≡ given) × (streams ≢ given)
 IsDueFor files (check r) (unlike streams given) = ⊥
 IsDueFor files (run r) (shows out) = ⊥
 IsDueFor files (check r) (shows out) = (text : List ℕ) × (content_in files r.query ≡ Some text) × Shows text out
-IsDueFor files (run r) (runs q n read) = (all : List (List ℕ)) × HasRun files r q × IsLike r q × (contents_of files (row_names r) ≡ Some all) × (n ≡ r.task) × (read ≡ input_of q r.most all)
-IsDueFor files (check r) (runs q n read) = ⊥
+IsDueFor files (run r) (runs q n ring flush read) = (all : List (List ℕ)) × HasRun files r q × IsLike r q × (contents_of files (row_names r) ≡ Some all) × AsksFor r n ring flush × (read ≡ input_of q r.most all)
+IsDueFor files (check r) (runs q n ring flush read) = ⊥
 
 -- what is due for some words
 pub data IsDue (ws : List (List ℕ)) (files : Contents) (d : Due) : Type 0 where

@@ -1,6 +1,5 @@
 pub mod Outcomes
-pub mod Able
-pub mod Assembles
+pub mod Endings
 pub mod Answered
 pub mod Texts
 pub mod Uses
@@ -9,6 +8,7 @@ pub mod Due
 pub mod Causes
 pub mod Puts
 pub mod Leaves
+pub mod RowFiles
 pub mod Taken
 pub mod Laws
 pub mod Shown

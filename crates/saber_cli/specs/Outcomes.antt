@@ -1,13 +1,29 @@
 -- Kinds of outcomes.
-use Rattle.saber_notes.specs.declared.outcome.InputFile.TheVariants.{Query, Left}
+use Rattle.saber_notes.specs.declared.outcome.InputFile.TheVariants.{Query, Left, Right}
 use Rattle.saber_notes.specs.declared.outcome.Outcome.{Outcome}
-use Rattle.saber_notes.specs.declared.outcome.Outcome.TheVariants.{Done, Usage, FileCount, QueryFault, LineRefused, OpenFault, ReadFault, WriteFault, NoMemory}
+use Rattle.saber_notes.specs.declared.outcome.Outcome.TheVariants.{Done, Usage, FileCount, QueryFault, LineRefused, OpenFault, ReadFault, TooWide, WriteFault, NoMemory}
 
 -- a file was not opened or not read
 abbrev pub IsFileFault : Outcome → Type 0
 IsFileFault (OpenFault file) = Unit {0}
 IsFileFault (ReadFault file) = Unit {0}
 IsFileFault _ = ⊥
+
+-- the query file was not opened or not read
+abbrev pub IsQueryUnread : Outcome → Type 0
+IsQueryUnread (OpenFault Query) = Unit {0}
+IsQueryUnread (ReadFault Query) = Unit {0}
+IsQueryUnread _ = ⊥
+
+-- an answer of the words, the query, the rows and the ring alone: nothing failed, and memory was enough
+abbrev pub IsClean : Outcome → Type 0
+IsClean Done = Unit {0}
+IsClean Usage = Unit {0}
+IsClean (FileCount streams given) = Unit {0}
+IsClean (QueryFault byte cause) = Unit {0}
+IsClean (LineRefused side line cause) = Unit {0}
+IsClean (TooWide task need ring) = Unit {0}
+IsClean _ = ⊥
 
 abbrev pub IsQueryFault : Outcome → Type 0
 IsQueryFault (QueryFault byte cause) = Unit {0}
@@ -22,25 +38,25 @@ IsBeforeRun (OpenFault file) = Unit {0}
 IsBeforeRun (ReadFault Query) = Unit {0}
 IsBeforeRun _ = ⊥
 
--- all tasks are done: those of the whole input, or of the rows before a line that is refused
-abbrev pub IsWhole : Outcome → Type 0
-IsWhole Done = Unit {0}
-IsWhole (LineRefused side line cause) = Unit {0}
-IsWhole _ = ⊥
+-- a row file was not opened
+abbrev pub IsUnopened : Outcome → Type 0
+IsUnopened (OpenFault Left) = Unit {0}
+IsUnopened (OpenFault Right) = Unit {0}
+IsUnopened NoMemory = Unit {0}
+IsUnopened _ = ⊥
 
--- how a run over a source that is open can end
+-- how a run over its row files can end
 abbrev pub IsOfRun : Outcome → Type 0
 IsOfRun Done = Unit {0}
 IsOfRun (LineRefused side line cause) = Unit {0}
+IsOfRun (OpenFault Left) = Unit {0}
+IsOfRun (OpenFault Right) = Unit {0}
 IsOfRun (ReadFault Left) = Unit {0}
+IsOfRun (ReadFault Right) = Unit {0}
+IsOfRun (TooWide task need ring) = Unit {0}
 IsOfRun WriteFault = Unit {0}
 IsOfRun NoMemory = Unit {0}
 IsOfRun _ = ⊥
-
--- how a run over its one row file can end
-abbrev pub IsOfLeft : Outcome → Type 0
-IsOfLeft (OpenFault Left) = Unit {0}
-IsOfLeft o = IsOfRun o
 
 -- before there is any text, and with no end of the rows
 abbrev pub IsNoEnd : Outcome → Type 0

@@ -1,32 +1,36 @@
--- What a run that could not read its left file to the end has assembled of it.
-use Rattle.std.specs.Prelude.{◌≡◌, ℕ, List, ◌++◌, Option, Some, IfSome, slice_get}
-use Rattle.saber_io.specs.Outside.{Told, Closed, asking, closing, content_in}
+-- What a run that could not read its row files to the end has assembled of them.
+use Rattle.std.specs.Prelude.{◌≡◌, ℕ, List, ◌∷◌, ◌++◌, map, Option, Some, IfSome}
+use Rattle.saber_io.specs.Outside.{Told, Closed, content_in}
+use Rattle.saber_plan.specs.declared.rows.Side.{Side}
 use Rattle.saber_plan.specs.Trees.{Tree}
+use Rattle.saber_engine.specs.Gives.{ReadsWhole}
 use Rattle.saber_words.specs.Commands.{AskedRun}
-use Rattle.saber_notes.specs.declared.outcome.InputFile.TheVariants.{Left}
 use Rattle.saber_notes.specs.declared.outcome.Outcome.{Outcome}
 use Rattle.saber_notes.specs.declared.outcome.Outcome.TheVariants.{ReadFault}
-use Rattle.saber_cli.specs.Answered.{Takes}
-use Rattle.saber_cli.specs.Due.{HasRun}
-use Rattle.saber_cli.specs.Leaves.{place_of}
+use Rattle.saber_cli.specs.Endings.{file_on}
+use Rattle.saber_cli.specs.Due.{Contents, HasRun, row_names}
+use Rattle.saber_cli.specs.RowFiles.{using}
 
--- the file was opened and given back, with what it had left
-pub record TakesLeft (q : Tree) (n most : ℕ) (name : List ℕ) (tasks : ℕ) (old new : Option Told) : Type 0 where
-  pub left : Option (List ℕ)
-  pub faults : ℕ
-  pub closed : new ≡ closing (asking old name) left faults
-  pub takes : IfSome old (λ t. Takes q n most tasks (content_in t.contents name) left)
+-- of the files with these names, and the sources that were given back of them: at least every whole task of the whole lines that were taken
+-- is assembled
+abbrev pub TakesOf : Tree → ℕ → ℕ → ℕ → Contents → List (List ℕ) → List Closed → Type 0
+TakesOf q n most tasks contents names given_back = ReadsWhole q n most tasks (map (content_in contents) names) (map (λ source. source.0) given_back)
 
--- the left file's source was given back second, and at least every whole task of the whole lines of what was taken of it is assembled
+-- the files were opened and given back, and so much is assembled of them
+pub record TakesRows (q : Tree) (n most tasks : ℕ) (names : List (List ℕ)) (old new : Option Told) : Type 0 where
+  pub given_back : List Closed
+  pub told : new ≡ using old names given_back
+  pub takes : IfSome old (λ t. TakesOf q n most tasks t.contents names given_back)
+
+-- the row files' sources were given back behind the query's, and so much is assembled of them
 pub record TakesWhole (r : AskedRun) (tasks : ℕ) (old new : Told) : Type 0 where
   pub plan : Tree
   pub has_run : HasRun old.contents r plan
+  pub query : Closed
   pub given_back : List Closed
-  pub closed : new.closed ≡ old.closed ++ given_back
-  pub source : Closed
-  pub there : slice_get given_back (place_of Left) ≡ Some source
-  pub takes : Takes plan r.task r.most tasks (content_in old.contents r.left) source.0
+  pub closed : new.closed ≡ old.closed ++ query ∷ given_back
+  pub takes : TakesOf plan r.task r.most tasks old.contents (row_names r) given_back
 
--- the same where files tell, of a call that ends so
+-- the same where files tell, of a call that ends by a fault of reading a row file
 abbrev pub TakesTold : AskedRun → Outcome → ℕ → Option Told → Option Told → Type 0
-TakesTold r o tasks old new = o ≡ ReadFault Left → IfSome old (λ t. (u : Told) × (new ≡ Some u) × TakesWhole r tasks t u)
+TakesTold r o tasks old new = (side : Side) → o ≡ ReadFault (file_on side) → IfSome old (λ t. (u : Told) × (new ≡ Some u) × TakesWhole r tasks t u)

@@ -1,34 +1,31 @@
-// A run over a source that is open.
-ghost use Rattle.std.specs.Prelude.{◌≡◌, ◌≢◌, ◌≤◌, ℕ, List, IfSome};
+// A run over sources that are open.
+ghost use Rattle.std.specs.Prelude.{◌≡◌, ◌≢◌, ℕ, List, IfSome, length};
 ghost use Rattle.saber_io.specs.Outside.{Rose, appended};
-ghost use Rattle.saber_plan.specs.declared.plans.Shape.TheVariants.{Join};
+ghost use Rattle.saber_plan.specs.declared.rows.Side.{Side};
 ghost use Rattle.saber_plan.specs.Trees.{tree_of};
 ghost use Rattle.saber_plan.specs.Checked.{IsChecked};
 ghost use Rattle.saber_plan.specs.Sizes.{SizesFit};
-ghost use Rattle.saber_engine.specs.declared.ends.Inputs.{Inputs};
-ghost use Rattle.saber_engine.specs.declared.ends.RunEnd.{RunEnd};
-ghost use Rattle.saber_notes.specs.declared.outcome.InputFile.{InputFile};
+ghost use Rattle.saber_engine.specs.Sources.{each_input, told_by, input_of, RoseAt, NoneFell, GaveAll};
+ghost use Rattle.saber_engine.specs.Gives.{ReadsWhole};
 ghost use Rattle.saber_notes.specs.declared.outcome.Outcome.{Outcome};
-ghost use Rattle.saber_cli.specs.Outcomes.{IsOfRun};
-ghost use Rattle.saber_cli.specs.Answered.{Answered, Takes, Tells, IsOne, file_on};
+ghost use Rattle.saber_cli.specs.Outcomes.{IsClean, IsOfRun};
+ghost use Rattle.saber_cli.specs.Uses.{IsOpened};
+ghost use Rattle.saber_cli.specs.Endings.{ended_as, file_on};
+ghost use Rattle.saber_cli.specs.Answered.{Answered};
 
 use saber_engine::{Inputs, Ran as Engine, RunEnd, engine};
 use saber_io::{Gate, Sink, Source};
 use saber_notes::{InputFile, Outcome};
 use saber_plan::{Plan, Side, Sizes};
 use std::alloc::Global;
+use std::sync::Wait;
+use std::thread::Threads;
 
 /// How a run ended, with its sink and the number of tasks that are assembled.
 pub(crate) struct Ran<K> {
     pub(crate) outcome: Outcome,
     pub(crate) sink: K,
     pub(crate) tasks: u64,
-}
-
-/// The same, with the source that was read.
-pub(crate) struct RanOver<S, K> {
-    pub(crate) ran: Ran<K>,
-    pub(crate) source: S,
 }
 
 // The row file of a side.
@@ -41,61 +38,53 @@ fn file_of(side: Side) -> InputFile
     }
 }
 
-// How the call ends behind a run. No task of a query over one stream needs the rows of another one.
-fn outcome_of(end: RunEnd) -> Outcome
-    requires narrow { (task need : ℕ) → end ≢ RunEnd.TooWide task need }
-    ensures { Tells end result }
+// How the call ends behind a run on a ring of so many cells.
+fn outcome_of(end: RunEnd, ring: u32) -> Outcome
+    ensures { result ≡ ended_as ring end }
 {
     match end {
         RunEnd::AllRead => Outcome::Done,
         RunEnd::Bad { side, line, cause } => Outcome::LineRefused { side, line, cause },
         RunEnd::ReadFault { side } => Outcome::ReadFault(file_of(side)),
-        RunEnd::TooWide { .. } => unreachable!(),
+        RunEnd::TooWide { task, need } => Outcome::TooWide {
+            task,
+            need,
+            ring: ring as u64,
+        },
         RunEnd::WriteFault => Outcome::WriteFault,
         RunEnd::NoMemory => Outcome::NoMemory,
     }
 }
 
-// The only input.
-fn only<S>(inputs: Inputs<S>) -> S
-    requires { IsOne inputs }
-    ensures { inputs ≡ Inputs.One result }
-{
-    match inputs {
-        Inputs::One(source) => source,
-        Inputs::Two(_, _) => unreachable!(),
-    }
-}
-
-/// Runs the plan over the source.
-pub(crate) fn answer<S: Source, K: Sink + Send, G: Gate + Sync>(
+/// Runs the plan over the sources, as many as its streams.
+pub(crate) fn answer<S: Source, K: Sink + Send, G: Gate + Sync, R: Threads + Wait + Sync>(
+    rt: &R,
     alloc: Global,
     plan: &Plan,
-    source: S,
+    inputs: &mut Inputs<S>,
     sink: K,
     sizes: &Sizes,
     gate: &G,
-) -> RanOver<S, K>
+) -> Ran<K>
     requires checked { IsChecked (tree_of plan.now) }
-    requires no_join { (tree_of plan.now).shape ≢ Join }
+    requires inputs { length (each_input S.left inputs.old) ≡ length (tree_of plan.now).streams }
     requires sizes { SizesFit sizes.now }
-    requires threads { sizes.now.threads ≡ 0 }
-    ensures written { (out : List ℕ) × (K.written result.ran.sink ≡ appended (K.written sink) out)
-        × IfSome (S.left source) (λ bytes. Answered (tree_of plan.now) sizes.now.task sizes.now.max_lines bytes result.ran.outcome result.ran.tasks out) }
-    ensures kinds { IsOfRun result.ran.outcome }
-    ensures taken { result.ran.outcome ≡ Outcome.ReadFault InputFile.Left → Takes (tree_of plan.now) sizes.now.task sizes.now.max_lines result.ran.tasks (S.left source) (S.left result.source) }
-    ensures read { result.ran.outcome ≡ Outcome.ReadFault InputFile.Left → Rose (S.faults source) (S.faults result.source) }
-    ensures reads { S.faults source ≤ S.faults result.source }
-    ensures write { result.ran.outcome ≡ Outcome.WriteFault → Rose (K.faults sink) (K.faults result.ran.sink) }
+    ensures written { (out : List ℕ) × (K.written result.sink ≡ appended (K.written sink) out)
+        × IfSome (told_by S.left inputs.old) (λ all. Answered (tree_of plan.now) sizes.now.task sizes.now.ring sizes.now.flush (input_of (tree_of plan.now) sizes.now.max_lines all) result.outcome result.tasks out) }
+    ensures kinds { IsOfRun result.outcome }
+    ensures opened { IsOpened result.outcome }
+    ensures taken { (side : Side) → result.outcome ≡ Outcome.ReadFault (file_on side) → ReadsWhole (tree_of plan.now) sizes.now.task sizes.now.max_lines result.tasks (each_input S.left inputs.old) (each_input S.left inputs.new) }
+    ensures takes { (taken : List (List ℕ)) × GaveAll (each_input S.left inputs.old) taken (each_input S.left inputs.new) }
+    ensures read { (side : Side) → result.outcome ≡ Outcome.ReadFault (file_on side) → RoseAt side (each_input S.faults inputs.old) (each_input S.faults inputs.new) }
+    ensures reads { NoneFell (each_input S.faults inputs.old) (each_input S.faults inputs.new) }
+    ensures read_good { IsClean result.outcome → each_input S.faults inputs.new ≡ each_input S.faults inputs.old }
+    ensures write { result.outcome ≡ Outcome.WriteFault → Rose (K.faults sink) (K.faults result.sink) }
+    ensures write_good { result.outcome ≢ Outcome.WriteFault → K.faults result.sink ≡ K.faults sink }
 {
-    let mut inputs = Inputs::One(source);
-    let Engine { end, sink, tasks } = engine(alloc, plan, &mut inputs, sink, sizes, gate);
-    RanOver {
-        ran: Ran {
-            outcome: outcome_of(end),
-            sink,
-            tasks,
-        },
-        source: only(inputs),
+    let Engine { end, sink, tasks } = engine(rt, alloc, plan, inputs, sink, sizes, gate);
+    Ran {
+        outcome: outcome_of(end, sizes.ring),
+        sink,
+        tasks,
     }
 }

@@ -1,29 +1,42 @@
 // Each command over its files.
-ghost use Rattle.std.specs.Prelude.{◌≡◌, ◌≢◌, ℕ, List, IfSome};
+ghost use Rattle.std.specs.Prelude.{◌≡◌, ◌≢◌, ℕ, List, IfSome, length};
 ghost use Rattle.saber_io.specs.Outside.{Rose, appended};
 ghost use Rattle.saber_words.specs.declared.commands.Command.{Command};
-ghost use Rattle.saber_words.specs.Commands.{asked, AskedRun, run, IsSized};
+ghost use Rattle.saber_words.specs.Commands.{asked, asked_run, AskedRun, run, IsSized};
 ghost use Rattle.saber_notes.specs.declared.outcome.Outcome.{Outcome};
-ghost use Rattle.saber_cli.specs.Outcomes.{IsFileFault, IsBeforeRun};
-ghost use Rattle.saber_cli.specs.Due.{names_of};
+ghost use Rattle.saber_cli.specs.Outcomes.{IsClean, IsFileFault, IsBeforeRun};
+ghost use Rattle.saber_cli.specs.Due.{row_names};
 ghost use Rattle.saber_cli.specs.Gives.{Gives};
 ghost use Rattle.saber_cli.specs.Leaves.{LeavesTold};
 ghost use Rattle.saber_cli.specs.Taken.{TakesTold};
 
 use crate::answer::Ran;
 use crate::laws::laws;
-use crate::left::run_left;
 use crate::plans::planned;
 use crate::queries::query_text;
+use crate::runs::run_rows;
 use crate::shows::put_text;
 use crate::sizes::sizes_of;
 use saber_io::{Files, Gate, Sink};
 use saber_notes::Outcome;
 use saber_words::{Check, Run};
 use std::alloc::Global;
+use std::sync::Wait;
+use std::thread::Threads;
 
-/// `run`: reads and checks the query, and answers it over its row file.
-pub(crate) fn run_command<F: Files, K: Sink + Send, G: Gate + Sync>(
+// How many row files a command names.
+fn file_count(command: &Run<'_>) -> u64
+    ensures { result ≡ length (row_names (asked_run command.now)) }
+{
+    match command.right {
+        None => 1,
+        Some(_) => 2,
+    }
+}
+
+/// `run`: reads and checks the query, and answers it over its row files.
+pub(crate) fn run_command<F: Files, K: Sink + Send, G: Gate + Sync, R: Threads + Wait + Sync>(
+    rt: &R,
     alloc: Global,
     command: &Run<'_>,
     files: &mut F,
@@ -35,10 +48,12 @@ pub(crate) fn run_command<F: Files, K: Sink + Send, G: Gate + Sync>(
         × IfSome (F.told files.old) (λ t. Gives t.contents (asked (Command.Run command.now)) result.outcome result.tasks out) }
     ensures early { IsBeforeRun result.outcome → (result.tasks ≡ 0) × (result.sink ≡ sink) }
     ensures kinds { result.outcome ≢ Outcome.Usage }
-    ensures leaves { LeavesTold (names_of (asked (Command.Run command.now))) result.outcome (F.told files.old) (F.told files.new) }
+    ensures leaves { LeavesTold (asked (Command.Run command.now)) result.outcome (F.told files.old) (F.told files.new) }
     ensures taken { (r : AskedRun) → asked (Command.Run command.now) ≡ run r → TakesTold r result.outcome result.tasks (F.told files.old) (F.told files.new) }
     ensures cause { IsFileFault result.outcome → Rose (F.faults files.old) (F.faults files.new) }
+    ensures read_good { IsClean result.outcome → F.faults files.new ≡ F.faults files.old }
     ensures write { result.outcome ≡ Outcome.WriteFault → Rose (K.faults sink) (K.faults result.sink) }
+    ensures write_good { result.outcome ≢ Outcome.WriteFault → K.faults result.sink ≡ K.faults sink }
 {
     laws();
     let text = match query_text(alloc, files, command.query) {
@@ -61,20 +76,20 @@ pub(crate) fn run_command<F: Files, K: Sink + Send, G: Gate + Sync>(
             };
         }
     };
-    match command.right {
-        None => {
-            let sizes = sizes_of(command);
-            run_left(alloc, &plan, files, command.left, sink, &sizes, gate)
-        }
-        Some(_) => Ran {
+    let streams = plan.streams().len() as u64;
+    let given = file_count(command);
+    if streams != given {
+        return Ran {
             outcome: Outcome::FileCount {
-                streams: 1,
-                files: 2,
+                streams,
+                files: given,
             },
             sink,
             tasks: 0,
-        },
+        };
     }
+    let sizes = sizes_of(command);
+    run_rows(rt, alloc, &plan, files, command, sink, &sizes, gate)
 }
 
 /// `check`: reads and checks the query, and writes its text.
@@ -88,9 +103,11 @@ pub(crate) fn check_command<F: Files, K: Sink>(
         × IfSome (F.told files.old) (λ t. Gives t.contents (asked (Command.Check command.now)) result.outcome result.tasks out) }
     ensures early { IsBeforeRun result.outcome → (result.tasks ≡ 0) × (result.sink ≡ sink) }
     ensures kinds { result.outcome ≢ Outcome.Usage }
-    ensures leaves { LeavesTold (names_of (asked (Command.Check command.now))) result.outcome (F.told files.old) (F.told files.new) }
+    ensures leaves { LeavesTold (asked (Command.Check command.now)) result.outcome (F.told files.old) (F.told files.new) }
     ensures cause { IsFileFault result.outcome → Rose (F.faults files.old) (F.faults files.new) }
+    ensures read_good { IsClean result.outcome → F.faults files.new ≡ F.faults files.old }
     ensures write { result.outcome ≡ Outcome.WriteFault → Rose (K.faults sink) (K.faults result.sink) }
+    ensures write_good { result.outcome ≢ Outcome.WriteFault → K.faults result.sink ≡ K.faults sink }
 {
     laws();
     match query_text(alloc, files, command.query) {

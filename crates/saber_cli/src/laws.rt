@@ -2,23 +2,20 @@
 ghost use Rattle.saber_cli.specs.Laws.{Laws};
 
 use saber_check::{
-    a_fault_excludes_a_plan, a_front_tells_all, a_plan_is_checked, a_text_has_one_plan,
+    a_fault_excludes_a_plan, a_front_tells_all, a_plan_is_checked, a_text_has_one_fault,
+    a_text_has_one_plan,
 };
-use saber_laws::{
-    checked_fit, groups_have_one_window, no_rows_give_nothing, no_tasks_no_rows,
-    selections_have_no_window,
-};
+use saber_laws::{checked_fit, no_rows_give_nothing, no_tasks_no_rows};
 
 /// Does nothing; its clause is what the laws say.
 pub(crate) fn laws()
     ensures { Laws }
 {
     a_fault_excludes_a_plan();
+    a_text_has_one_fault();
     a_text_has_one_plan();
     a_plan_is_checked();
     a_front_tells_all();
-    groups_have_one_window();
-    selections_have_no_window();
     checked_fit();
     no_rows_give_nothing();
     no_tasks_no_rows();

@@ -4,9 +4,10 @@
 mod answer;
 mod commands;
 mod laws;
-mod left;
 mod plans;
 mod queries;
+mod row_files;
+mod runs;
 mod shows;
 mod sizes;
 mod texts;
@@ -14,7 +15,8 @@ mod top;
 mod words;
 
 pub use saber_notes::{InputFile, Noted, Outcome};
-pub use top::{Ended, saber};
+pub use saber_words::WordsFault;
+pub use top::{Ended, Refused, refuse_words, saber};
 
 #[cfg(test)]
 mod tests;

@@ -1,8 +1,8 @@
 // The text of a command's query file.
-ghost use Rattle.std.specs.Prelude.{IfOk, IfErr, IfSome};
+ghost use Rattle.std.specs.Prelude.{◌≡◌, IfOk, IfErr, IfSome};
 ghost use Rattle.saber_io.specs.Outside.{Rose};
 ghost use Rattle.saber_notes.specs.declared.outcome.InputFile.{InputFile};
-ghost use Rattle.saber_cli.specs.Outcomes.{IsFileFault};
+ghost use Rattle.saber_cli.specs.Outcomes.{IsClean, IsFileFault};
 ghost use Rattle.saber_cli.specs.Texts.{BeginsFile};
 ghost use Rattle.saber_cli.specs.Uses.{Uses, KeepsFaults, outcome_of, IsOfQuery};
 
@@ -21,6 +21,7 @@ pub(crate) fn query_text<F: Files>(
     ensures uses { Uses InputFile.Query name.now (outcome_of result) (F.told files.old) (F.told files.new) }
     ensures kinds { IfErr result IsOfQuery }
     ensures cause { IfErr result (λ o. IsFileFault o → Rose (F.faults files.old) (F.faults files.new)) }
+    ensures read_good { IsClean (outcome_of result) → F.faults files.new ≡ F.faults files.old }
     ensures count { KeepsFaults (F.faults files.old) (F.faults files.new) }
 {
     let mut source = match files.open_file(alloc, name) {

@@ -1,5 +1,5 @@
 // The command `check`: a query's own text.
-ghost use Rattle.std.specs.Prelude.{◌≡◌, ℕ, List, [], ◌∷◌, ◌++◌, IfOk, IfErr};
+ghost use Rattle.std.specs.Prelude.{◌≡◌, ◌≢◌, ℕ, List, [], ◌∷◌, ◌++◌, IfOk, IfErr};
 ghost use Rattle.saber_io.specs.Outside.{Rose, appended};
 ghost use Rattle.saber_query.specs.Trees.{query_of};
 ghost use Rattle.saber_query.specs.Words.{words};
@@ -18,8 +18,9 @@ use crate::plans::refused;
 use saber_check::check;
 use saber_io::{Sink, WriteFault};
 use saber_notes::Outcome;
+use saber_plan::NoMemory;
 use saber_query::{Query, QueryFault, parse};
-use saber_show::{NoMemory, show};
+use saber_show::show;
 use std::alloc::Global;
 
 // The query that a text means, which passes its checks, or the text's first fault.
@@ -64,6 +65,7 @@ pub(crate) fn put_text<K: Sink>(alloc: Global, text: &[u8], mut sink: K) -> Ran<
     ensures early { IsQueryFault result.outcome → result.sink ≡ sink }
     ensures kinds { IsOfShow result.outcome }
     ensures write { result.outcome ≡ Outcome.WriteFault → Rose (K.faults sink) (K.faults result.sink) }
+    ensures write_good { result.outcome ≢ Outcome.WriteFault → K.faults result.sink ≡ K.faults sink }
 {
     let out = match shown(alloc, text) {
         Ok(out) => out,

@@ -7,19 +7,20 @@ ghost use Rattle.saber_words.specs.Commands.{asked, IsSized};
 use saber_plan::Sizes;
 use saber_words::Run;
 
-/// The sizes that a command asks for. No thread is started, and the ring's size is not looked at, until
-/// there are workers.
+/// The sizes that a command asks for.
 pub(crate) fn sizes_of(run: &Run<'_>) -> Sizes
     requires { IsSized (asked (Command.Run run.now)) }
     ensures task { result.task ≡ run.now.task }
+    ensures ring { result.ring ≡ run.now.ring }
     ensures lines { result.max_lines ≡ run.now.max_lines }
-    ensures threads { result.threads ≡ 0 }
+    ensures flush { result.flush ≡ run.now.flush }
     ensures fit { SizesFit result }
 {
     Sizes {
         task: run.task,
-        ring: 64,
-        threads: 0,
+        ring: run.ring,
+        threads: run.threads,
         max_lines: run.max_lines,
+        flush: run.flush,
     }
 }

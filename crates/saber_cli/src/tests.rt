@@ -1,9 +1,11 @@
 // The top call over files in memory, with ample memory. What is wanted of each row is worked out by
 // hand from the rules.
-use crate::{Ended, saber};
-use saber_io::{MemFile, MemFiles, MemSink, OpenGate};
+use crate::{Ended, WordsFault, refuse_words, saber};
+use saber_io::{Gate, HoldGate, MemFile, MemFiles, MemSink, OpenGate};
 use std::alloc::Global;
+use std::sync::Wait;
 use std::test::Fail;
+use std::thread::Threads;
 
 const COUNT: &str = "STREAM S(t,g,v); SELECT COUNT(*) FROM S [ROWS 2 SLIDE 2]";
 
@@ -14,6 +16,18 @@ const SUMS: &str = "STREAM S(t,g,v); SELECT g, SUM(v) FROM S [ROWS 3 SLIDE 1] GR
 const PASSING: &str = "STREAM S(t,g,v); SELECT v FROM S WHERE g = 1 AND NOT v < 10";
 
 const FIVE: &str = "0,1,10\n1,1,20\n2,2,5\n2,1,7\n9,2,1\n";
+
+const PAIRS: &str =
+    "STREAM A(t,x); STREAM B(t,y); SELECT x, y FROM A [RANGE 4 SLIDE 4], B [RANGE 4 SLIDE 4] WHERE x < y";
+
+const LEFT: &str = "0,5\n1,9\n4,1\n";
+
+const RIGHT: &str = "0,7\n3,6\n8,0\n";
+
+const JOIN: [&str; 5] = ["saber", "run", "q", "l", "r"];
+
+// The caller alone, and with others.
+const THREADS: [&str; 2] = ["0", "2"];
 
 const RUN: [&str; 4] = ["saber", "run", "q", "l"];
 
@@ -41,8 +55,36 @@ fn file(alloc: Global, name: &str, text: &str) -> Result<MemFile, Fail> {
     })
 }
 
-fn call(alloc: Global, words: &[&str], listed: Vec<MemFile>, sink: MemSink) -> Result<Seen, Fail> {
-    let mut files = MemFiles::new(alloc, listed, Vec::new(alloc));
+fn call<R: Threads + Wait + Sync>(
+    rt: &R,
+    alloc: Global,
+    words: &[&str],
+    listed: Vec<MemFile>,
+    sink: MemSink,
+) -> Result<Seen, Fail> {
+    let files = MemFiles::new(alloc, listed, Vec::new(alloc));
+    call_with(rt, alloc, words, files, sink, &OpenGate)
+}
+
+// A call over these files, into a sink that takes all.
+fn call_over<R: Threads + Wait + Sync>(
+    rt: &R,
+    alloc: Global,
+    words: &[&str],
+    files: MemFiles,
+) -> Result<Seen, Fail> {
+    let sink = MemSink::new(alloc, Vec::new(alloc));
+    call_with(rt, alloc, words, files, sink, &OpenGate)
+}
+
+fn call_with<G: Gate + Sync, R: Threads + Wait + Sync>(
+    rt: &R,
+    alloc: Global,
+    words: &[&str],
+    mut files: MemFiles,
+    sink: MemSink,
+    gate: &G,
+) -> Result<Seen, Fail> {
     let mut notes = MemSink::new(alloc, Vec::new(alloc));
     let Ended {
         status,
@@ -50,13 +92,20 @@ fn call(alloc: Global, words: &[&str], listed: Vec<MemFile>, sink: MemSink) -> R
         tasks,
         noted: _,
         outcome: _,
-    } = saber(alloc, words, &mut files, sink, &mut notes, &OpenGate);
+    } = saber(rt, alloc, words, &mut files, sink, &mut notes, gate);
     Ok(Seen {
         status,
         tasks,
         out: sink.bytes().to_vec(alloc)?,
         note: notes.bytes().to_vec(alloc)?,
     })
+}
+
+// The words of a run, with more behind them.
+fn and<'a>(alloc: Global, words: &[&'a str], more: &[&'a str]) -> Result<Vec<&'a str>, Fail> {
+    let mut all = words.to_vec(alloc)?;
+    all.extend_from_slice(more)?;
+    Ok(all)
 }
 
 // A query file and a row file.
@@ -67,15 +116,59 @@ fn two(alloc: Global, query: &str, rows: MemFile) -> Result<Vec<MemFile>, Fail> 
     Ok(listed)
 }
 
-// A run of a query over rows that can be read, into a sink that takes all.
-fn run(alloc: Global, words: &[&str], query: &str, rows: &str) -> Result<Seen, Fail> {
+// A query file and two row files.
+fn three(alloc: Global, query: &str, left: MemFile, right: MemFile) -> Result<Vec<MemFile>, Fail> {
+    let mut listed = two(alloc, query, left)?;
+    listed.push(right)?;
+    Ok(listed)
+}
+
+// A run of a query over rows that can be read, by so many threads, into a sink that takes all.
+fn run<R: Threads + Wait + Sync>(
+    rt: &R,
+    alloc: Global,
+    words: &[&str],
+    threads: &str,
+    query: &str,
+    rows: &str,
+) -> Result<Seen, Fail> {
+    let words = and(alloc, words, &["--threads", threads])?;
     let left = file(alloc, "l", rows)?;
     let listed = two(alloc, query, left)?;
-    call(alloc, words, listed, MemSink::new(alloc, Vec::new(alloc)))
+    call(
+        rt,
+        alloc,
+        &words,
+        listed,
+        MemSink::new(alloc, Vec::new(alloc)),
+    )
+}
+
+// The same over two files of rows.
+fn join<R: Threads + Wait + Sync>(
+    rt: &R,
+    alloc: Global,
+    words: &[&str],
+    threads: &str,
+    query: &str,
+    left: &str,
+    right: &str,
+) -> Result<Seen, Fail> {
+    let words = and(alloc, words, &["--threads", threads])?;
+    let left = file(alloc, "l", left)?;
+    let right = file(alloc, "r", right)?;
+    let listed = three(alloc, query, left, right)?;
+    call(
+        rt,
+        alloc,
+        &words,
+        listed,
+        MemSink::new(alloc, Vec::new(alloc)),
+    )
 }
 
 // A check of the text of a query, into a sink that takes all.
-fn check(alloc: Global, bytes: Vec<u8>) -> Result<Seen, Fail> {
+fn check<R: Threads + Wait + Sync>(rt: &R, alloc: Global, bytes: Vec<u8>) -> Result<Seen, Fail> {
     let mut listed = Vec::new(alloc);
     listed.push(MemFile {
         name: String::from_str(alloc, "q")?,
@@ -84,7 +177,13 @@ fn check(alloc: Global, bytes: Vec<u8>) -> Result<Seen, Fail> {
         fails: Vec::new(alloc),
     })?;
     let words = ["saber", "check", "q"];
-    call(alloc, &words, listed, MemSink::new(alloc, Vec::new(alloc)))
+    call(
+        rt,
+        alloc,
+        &words,
+        listed,
+        MemSink::new(alloc, Vec::new(alloc)),
+    )
 }
 
 #[test]
@@ -101,11 +200,13 @@ fn windows_by_rows(rt: HostRuntime) -> Result<(), Fail> {
         (&RUN, COUNT, other_ends, 1, "0,2\n1,2\n"),
         (&RUN, COUNT, "", 0, ""),
     ] {
-        let seen = run(alloc, words, query, rows)?;
-        assert_eq!(rt; seen.status, 0);
-        assert_eq!(rt; seen.tasks, tasks);
-        assert_eq!(rt; seen.out.as_slice(), out.as_bytes());
-        assert_eq!(rt; seen.note.as_slice(), [].as_slice());
+        for threads in THREADS {
+            let seen = run(&rt, alloc, words, threads, query, rows)?;
+            assert_eq!(rt; seen.status, 0);
+            assert_eq!(rt; seen.tasks, tasks);
+            assert_eq!(rt; seen.out.as_slice(), out.as_bytes());
+            assert_eq!(rt; seen.note.as_slice(), [].as_slice());
+        }
     }
     Ok(())
 }
@@ -120,10 +221,12 @@ fn windows_by_time(rt: HostRuntime) -> Result<(), Fail> {
         (&IN_TASKS_OF_2, BY_TIME, FIVE, 3, "0,4\n1,2\n"),
         (&RUN, each_moment, long_gap, 1, "0,1\n"),
     ] {
-        let seen = run(alloc, words, query, rows)?;
-        assert_eq!(rt; seen.status, 0);
-        assert_eq!(rt; seen.tasks, tasks);
-        assert_eq!(rt; seen.out.as_slice(), out.as_bytes());
+        for threads in THREADS {
+            let seen = run(&rt, alloc, words, threads, query, rows)?;
+            assert_eq!(rt; seen.status, 0);
+            assert_eq!(rt; seen.tasks, tasks);
+            assert_eq!(rt; seen.out.as_slice(), out.as_bytes());
+        }
     }
     Ok(())
 }
@@ -144,11 +247,13 @@ fn groups(rt: HostRuntime) -> Result<(), Fail> {
         (sum, least, "0,-18446744073709551616\n"),
         (ends, FIVE, "0,5,20,4\n1,5,7,2\n"),
     ] {
-        let seen = run(alloc, &RUN, query, rows)?;
-        assert_eq!(rt; seen.status, 0);
-        assert_eq!(rt; seen.tasks, 1);
-        assert_eq!(rt; seen.out.as_slice(), out.as_bytes());
-        assert_eq!(rt; seen.note.as_slice(), [].as_slice());
+        for threads in THREADS {
+            let seen = run(&rt, alloc, &RUN, threads, query, rows)?;
+            assert_eq!(rt; seen.status, 0);
+            assert_eq!(rt; seen.tasks, 1);
+            assert_eq!(rt; seen.out.as_slice(), out.as_bytes());
+            assert_eq!(rt; seen.note.as_slice(), [].as_slice());
+        }
     }
     Ok(())
 }
@@ -163,25 +268,43 @@ fn selections(rt: HostRuntime) -> Result<(), Fail> {
         (&IN_TASKS_OF_2, doubled, 3, "1,19\n1,39\n1,13\n"),
         (&RUN, PASSING, 1, "10\n20\n"),
     ] {
-        let seen = run(alloc, words, query, FIVE)?;
-        assert_eq!(rt; seen.status, 0);
-        assert_eq!(rt; seen.tasks, tasks);
-        assert_eq!(rt; seen.out.as_slice(), out.as_bytes());
+        for threads in THREADS {
+            let seen = run(&rt, alloc, words, threads, query, FIVE)?;
+            assert_eq!(rt; seen.status, 0);
+            assert_eq!(rt; seen.tasks, tasks);
+            assert_eq!(rt; seen.out.as_slice(), out.as_bytes());
+        }
     }
     Ok(())
 }
 
-// The answer does not depend on the size of the tasks.
+// The end of the input closes the windows that are begun, where the words ask for it, all was read, and
+// a row came. Of a selection it is no task.
 #[test]
-fn sizes_of_tasks(rt: HostRuntime) -> Result<(), Fail> {
+fn ends_of_inputs(rt: HostRuntime) -> Result<(), Fail> {
     let alloc = rt.alloc();
-    let by_group = "0,1,30\n0,2,5\n1,1,27\n1,2,5\n2,1,7\n2,2,6\n";
-    for (task, tasks) in [("1", 5u64), ("2", 3), ("5", 1), ("65536", 1)] {
-        let words = ["saber", "run", "q", "l", "--task", task];
-        let seen = run(alloc, &words, SUMS, FIVE)?;
-        assert_eq!(rt; seen.status, 0);
-        assert_eq!(rt; seen.tasks, tasks);
-        assert_eq!(rt; seen.out.as_slice(), by_group.as_bytes());
+    let doubled = "STREAM S(t,g,v); SELECT g, v*2-1 FROM S WHERE v > 5";
+    let refused = "0,1,10\n1,1,20\n0,1,1\n";
+    let by_group = "0,1,30\n0,2,5\n1,1,27\n1,2,5\n2,1,7\n2,2,6\n3,1,7\n3,2,1\n4,2,1\n";
+    let all = (6u64, 4u64, 2u64, 2u64);
+    let chosen = (5u64, 3u64, 1u64, 1u64);
+    let two_rows = (2u64, 1u64, 1u64, 1u64);
+    let none = (0u64, 0u64, 0u64, 0u64);
+    for (query, rows, status, (in_1, in_2, in_5, in_all), out) in [
+        (COUNT, FIVE, 0u8, all, "0,2\n1,2\n2,1\n"),
+        (SUMS, FIVE, 0, all, by_group),
+        (BY_TIME, FIVE, 0, all, "0,4\n1,2\n4,1\n"),
+        (COUNT, "", 0, none, ""),
+        (doubled, FIVE, 0, chosen, "1,19\n1,39\n1,13\n"),
+        (COUNT, refused, 4, two_rows, "0,2\n"),
+    ] {
+        for (task, tasks) in [("1", in_1), ("2", in_2), ("5", in_5), ("65536", in_all)] {
+            let words = ["saber", "run", "q", "l", "--final", "--task", task];
+            let seen = run(&rt, alloc, &words, "2", query, rows)?;
+            assert_eq!(rt; seen.status, status);
+            assert_eq!(rt; seen.tasks, tasks);
+            assert_eq!(rt; seen.out.as_slice(), out.as_bytes());
+        }
     }
     Ok(())
 }
@@ -212,9 +335,31 @@ fn examples(rt: HostRuntime) -> Result<(), Fail> {
         ),
         (slow, requests, "0,1\n2,1\n"),
     ] {
-        let seen = run(alloc, &RUN, query, rows)?;
+        for threads in THREADS {
+            let seen = run(&rt, alloc, &RUN, threads, query, rows)?;
+            assert_eq!(rt; seen.status, 0);
+            assert_eq!(rt; seen.out.as_slice(), out.as_bytes());
+        }
+    }
+    Ok(())
+}
+
+// The audit of bills and payments among them.
+#[test]
+fn example_of_a_join(rt: HostRuntime) -> Result<(), Fail> {
+    let alloc = rt.alloc();
+    let differ =
+        "STREAM Bill(day, bill, cents);\nSTREAM Payment(day, bill, paid);\nSELECT Bill.bill, cents, paid FROM Bill [RANGE 30 SLIDE 30], Payment [RANGE 30 SLIDE 30]\nWHERE Bill.bill = Payment.bill AND cents <> paid;\n";
+    let bills = "0,101,2500\n3,102,4000\n9,103,1250\n21,104,9900\n31,105,700\n62,106,4100\n";
+    let payments = "5,101,2500\n12,103,1200\n15,102,4000\n28,104,9000\n33,105,700\n64,106,4100\n";
+    let words = ["saber", "run", "q", "l", "r"];
+    for threads in THREADS {
+        let seen = join(&rt, alloc, &words, threads, differ, bills, payments)?;
         assert_eq!(rt; seen.status, 0);
-        assert_eq!(rt; seen.out.as_slice(), out.as_bytes());
+        assert_eq!(rt;
+            seen.out.as_slice(),
+            b"0,103,1250,1200\n0,104,9900,9000\n".as_slice()
+        );
     }
     Ok(())
 }
@@ -250,10 +395,12 @@ fn refused_lines(rt: HostRuntime) -> Result<(), Fail> {
             "saber: left line 3: too many lines\n",
         ),
     ] {
-        let seen = run(alloc, words, COUNT, rows)?;
-        assert_eq!(rt; seen.status, 4);
-        assert_eq!(rt; seen.out.as_slice(), out.as_bytes());
-        assert_eq!(rt; seen.note.as_slice(), note.as_bytes());
+        for threads in THREADS {
+            let seen = run(&rt, alloc, words, threads, COUNT, rows)?;
+            assert_eq!(rt; seen.status, 4);
+            assert_eq!(rt; seen.out.as_slice(), out.as_bytes());
+            assert_eq!(rt; seen.note.as_slice(), note.as_bytes());
+        }
     }
     Ok(())
 }
@@ -261,8 +408,6 @@ fn refused_lines(rt: HostRuntime) -> Result<(), Fail> {
 #[test]
 fn before_a_run(rt: HostRuntime) -> Result<(), Fail> {
     let alloc = rt.alloc();
-    let join =
-        "STREAM A(t,x); STREAM B(t,y); SELECT x, y FROM A [RANGE 4 SLIDE 4], B [RANGE 4 SLIDE 4] WHERE x < y";
     let unknown = "STREAM S(t,g,v); SELECT w FROM S";
     for (words, query, status, note) in [
         (["saber", "run", "q"].as_slice(), COUNT, 2u8, USAGE),
@@ -274,8 +419,26 @@ fn before_a_run(rt: HostRuntime) -> Result<(), Fail> {
             2,
             "saber: streams 1, files 2\n",
         ),
-        (&RUN, join, 3, "saber: query byte 0: shape\n"),
+        (&RUN, PAIRS, 2, "saber: streams 2, files 1\n"),
         (&RUN, unknown, 3, "saber: query byte 24: unknown column\n"),
+        (
+            &["saber", "run", "q", "none"],
+            unknown,
+            3,
+            "saber: query byte 24: unknown column\n",
+        ),
+        (
+            &["saber", "run", "q", "none", "neither"],
+            COUNT,
+            2,
+            "saber: streams 1, files 2\n",
+        ),
+        (
+            &["saber", "run", "q", "none", "neither"],
+            unknown,
+            3,
+            "saber: query byte 24: unknown column\n",
+        ),
         (
             &["saber", "run", "q", "none"],
             COUNT,
@@ -289,11 +452,13 @@ fn before_a_run(rt: HostRuntime) -> Result<(), Fail> {
             "saber: query: open fault\n",
         ),
     ] {
-        let seen = run(alloc, words, query, FIVE)?;
-        assert_eq!(rt; seen.status, status);
-        assert_eq!(rt; seen.tasks, 0);
-        assert_eq!(rt; seen.out.as_slice(), [].as_slice());
-        assert_eq!(rt; seen.note.as_slice(), note.as_bytes());
+        for threads in THREADS {
+            let seen = run(&rt, alloc, words, threads, query, FIVE)?;
+            assert_eq!(rt; seen.status, status);
+            assert_eq!(rt; seen.tasks, 0);
+            assert_eq!(rt; seen.out.as_slice(), [].as_slice());
+            assert_eq!(rt; seen.note.as_slice(), note.as_bytes());
+        }
     }
     Ok(())
 }
@@ -315,7 +480,7 @@ fn shown_queries(rt: HostRuntime) -> Result<(), Fail> {
             "STREAM S ( t , g , v ) ; SELECT - 9223372036854775808 FROM S\n",
         ),
     ] {
-        let seen = check(alloc, query.as_bytes().to_vec(alloc)?)?;
+        let seen = check(&rt, alloc, query.as_bytes().to_vec(alloc)?)?;
         assert_eq!(rt; seen.status, 0);
         assert_eq!(rt; seen.tasks, 0);
         assert_eq!(rt; seen.out.as_slice(), out.as_bytes());
@@ -365,7 +530,7 @@ fn refused_queries(rt: HostRuntime) -> Result<(), Fail> {
             "saber: query byte 37: ambiguous\n",
         ),
     ] {
-        let seen = check(alloc, query.as_bytes().to_vec(alloc)?)?;
+        let seen = check(&rt, alloc, query.as_bytes().to_vec(alloc)?)?;
         assert_eq!(rt; seen.status, 3);
         assert_eq!(rt; seen.out.as_slice(), [].as_slice());
         assert_eq!(rt; seen.note.as_slice(), note.as_bytes());
@@ -380,7 +545,7 @@ fn long_queries(rt: HostRuntime) -> Result<(), Fail> {
         (65_537usize, "saber: query byte 65536: too long\n"),
         (65_536, "saber: query byte 65536: syntax\n"),
     ] {
-        let seen = check(alloc, vec![in alloc; b' '; spaces]?)?;
+        let seen = check(&rt, alloc, vec![in alloc; b' '; spaces]?)?;
         assert_eq!(rt; seen.status, 3);
         assert_eq!(rt; seen.note.as_slice(), note.as_bytes());
     }
@@ -397,7 +562,7 @@ fn deep_queries(rt: HostRuntime) -> Result<(), Fail> {
             text.extend_from_slice(b"NOT ")?;
         }
         text.extend_from_slice(b"v > 1")?;
-        let seen = check(alloc, text)?;
+        let seen = check(&rt, alloc, text)?;
         assert_eq!(rt; seen.status, status);
         assert_eq!(rt; seen.note.as_slice(), note.as_bytes());
     }
@@ -414,35 +579,353 @@ fn a_write_fails(rt: HostRuntime) -> Result<(), Fail> {
         (&IN_TASKS_OF_1, BY_TIME, 1, 0, 4, ""),
         (&IN_TASKS_OF_1, PASSING, 2, 0, 1, "10\n"),
     ] {
-        let left = file(alloc, "l", FIVE)?;
-        let sink = MemSink::new(alloc, vec![in alloc; (number, after)]?);
-        let seen = call(alloc, words, two(alloc, query, left)?, sink)?;
-        assert_eq!(rt; seen.status, 6);
-        assert_eq!(rt; seen.tasks, tasks);
-        assert_eq!(rt; seen.out.as_slice(), out.as_bytes());
-        assert_eq!(rt; seen.note.as_slice(), b"saber: write fault\n".as_slice());
+        for threads in THREADS {
+            let left = file(alloc, "l", FIVE)?;
+            let sink = MemSink::new(alloc, vec![in alloc; (number, after)]?);
+            let words = and(alloc, words, &["--threads", threads])?;
+            let seen = call(&rt, alloc, &words, two(alloc, query, left)?, sink)?;
+            assert_eq!(rt; seen.status, 6);
+            assert_eq!(rt; seen.tasks, tasks);
+            assert_eq!(rt; seen.out.as_slice(), out.as_bytes());
+            assert_eq!(rt; seen.note.as_slice(), b"saber: write fault\n".as_slice());
+        }
     }
     Ok(())
 }
 
-// The fourth read fails. Three lines are whole then, and the third stands in a task that is not full.
+// A file of which one read fails.
+fn unread(alloc: Global, name: &str, text: &str, cuts: &[u64], read: u64) -> Result<MemFile, Fail> {
+    Ok(MemFile {
+        name: String::from_str(alloc, name)?,
+        bytes: text.as_bytes().to_vec(alloc)?,
+        cuts: cuts.to_vec(alloc)?,
+        fails: vec![in alloc; read]?,
+    })
+}
+
+// A read of the row file fails. At the fourth one three lines are whole, and the third stands in a task that is not full.
 #[test]
 fn a_read_fails(rt: HostRuntime) -> Result<(), Fail> {
     let alloc = rt.alloc();
-    let left = MemFile {
-        name: String::from_str(alloc, "l")?,
-        bytes: FIVE.as_bytes().to_vec(alloc)?,
-        cuts: vec![in alloc; 7, 7, 6]?,
-        fails: vec![in alloc; 4]?,
-    };
+    for (read, tasks, out) in [(1u64, 0u64, ""), (4, 1, "0,2\n")] {
+        for threads in THREADS {
+            let left = unread(alloc, "l", FIVE, &[7, 7, 6], read)?;
+            let sink = MemSink::new(alloc, Vec::new(alloc));
+            let words = and(alloc, &IN_TASKS_OF_2, &["--threads", threads])?;
+            let seen = call(&rt, alloc, &words, two(alloc, COUNT, left)?, sink)?;
+            assert_eq!(rt; seen.status, 5);
+            assert_eq!(rt; seen.tasks, tasks);
+            assert_eq!(rt; seen.out.as_slice(), out.as_bytes());
+            assert_eq!(rt;
+                seen.note.as_slice(),
+                b"saber: left: read fault\n".as_slice()
+            );
+        }
+    }
+    Ok(())
+}
+
+// A read of the query's file fails, or its open, and no row file is looked at.
+#[test]
+fn a_query_is_not_read(rt: HostRuntime) -> Result<(), Fail> {
+    let alloc = rt.alloc();
+    for (read, open, note) in [
+        (1u64, 9u64, "saber: query: read fault\n"),
+        (2, 9, "saber: query: read fault\n"),
+        (9, 1, "saber: query: open fault\n"),
+    ] {
+        let mut listed = Vec::new(alloc);
+        listed.push(unread(alloc, "q", COUNT, &[20, 20], read)?)?;
+        let opens = vec![in alloc; open]?;
+        let seen = call_over(&rt, alloc, &RUN, MemFiles::new(alloc, listed, opens))?;
+        assert_eq!(rt; seen.status, 5);
+        assert_eq!(rt; seen.tasks, 0);
+        assert_eq!(rt; seen.out.as_slice(), [].as_slice());
+        assert_eq!(rt; seen.note.as_slice(), note.as_bytes());
+    }
+    Ok(())
+}
+
+// Words that the system can't hand over.
+#[test]
+fn no_words(rt: HostRuntime) -> Result<(), Fail> {
+    let alloc = rt.alloc();
+    for (fault, status, note) in [
+        (WordsFault::Usage, 2u8, USAGE),
+        (WordsFault::NoMemory, 8, "saber: out of memory\n"),
+    ] {
+        let mut notes = MemSink::new(alloc, Vec::new(alloc));
+        let refused = refuse_words(fault, &mut notes);
+        assert_eq!(rt; refused.status, status);
+        assert_eq!(rt; notes.bytes(), note.as_bytes());
+    }
+    Ok(())
+}
+
+// ---- joins
+
+// The pairs of windows of one number, in tasks of any size.
+#[test]
+fn joins(rt: HostRuntime) -> Result<(), Fail> {
+    let alloc = rt.alloc();
+    let all_pairs =
+        "STREAM A(t,x); STREAM B(t,y); SELECT x, y FROM A [RANGE 4 SLIDE 4], B [RANGE 4 SLIDE 4]";
+    let by_rows =
+        "STREAM A(t,x); STREAM B(t,y); SELECT x, y FROM A [ROWS 2 SLIDE 2], B [ROWS 1 SLIDE 2] WHERE x < y";
+    let two_sizes =
+        "STREAM A(t,x); STREAM B(t,y); SELECT x, y FROM A [RANGE 1 SLIDE 4], B [RANGE 4 SLIDE 4]";
+    let overlaps =
+        "STREAM A(t,x); STREAM B(t,y); SELECT x, y FROM A [RANGE 8 SLIDE 4], B [RANGE 8 SLIDE 4] WHERE x < y";
+    let six = (6u64, 3u64, 2u64, 1u64);
+    let five = (5u64, 3u64, 1u64, 1u64);
+    let few = (3u64, 2u64, 1u64, 1u64);
+    let none = (0u64, 0u64, 0u64, 0u64);
+    for (query, left, right, (in_1, in_2, in_5, in_all), out) in [
+        (PAIRS, LEFT, RIGHT, six, "0,5,7\n0,5,6\n"),
+        (all_pairs, LEFT, RIGHT, six, "0,5,7\n0,5,6\n0,9,7\n0,9,6\n"),
+        (by_rows, LEFT, RIGHT, six, "0,5,7\n"),
+        (two_sizes, LEFT, RIGHT, six, "0,5,7\n0,5,6\n"),
+        (overlaps, LEFT, RIGHT, six, "0,5,7\n0,5,6\n0,1,7\n0,1,6\n"),
+        (
+            PAIRS,
+            "0,1\n0,2\n5,0\n",
+            "0,3\n0,4\n",
+            five,
+            "0,1,3\n0,1,4\n0,2,3\n0,2,4\n",
+        ),
+        (PAIRS, "", "", none, ""),
+        (PAIRS, "", RIGHT, few, ""),
+        (PAIRS, LEFT, "", few, ""),
+    ] {
+        for (task, tasks) in [("1", in_1), ("2", in_2), ("5", in_5), ("65536", in_all)] {
+            for threads in THREADS {
+                let words = and(alloc, &JOIN, &["--task", task])?;
+                let seen = join(&rt, alloc, &words, threads, query, left, right)?;
+                assert_eq!(rt; seen.status, 0);
+                assert_eq!(rt; seen.tasks, tasks);
+                assert_eq!(rt; seen.out.as_slice(), out.as_bytes());
+                assert_eq!(rt; seen.note.as_slice(), [].as_slice());
+            }
+        }
+    }
+    Ok(())
+}
+
+// The end of the input closes the windows that are begun. Here none of them has a pair.
+#[test]
+fn ends_of_joins(rt: HostRuntime) -> Result<(), Fail> {
+    let alloc = rt.alloc();
+    for (task, ring, tasks) in [
+        ("1", "5", 7u64),
+        ("1", "64", 7),
+        ("2", "64", 4),
+        ("5", "64", 3),
+        ("65536", "64", 2),
+    ] {
+        for threads in THREADS {
+            let words = and(alloc, &JOIN, &["--final", "--task", task, "--ring", ring])?;
+            let seen = join(&rt, alloc, &words, threads, PAIRS, LEFT, RIGHT)?;
+            assert_eq!(rt; seen.status, 0);
+            assert_eq!(rt; seen.tasks, tasks);
+            assert_eq!(rt; seen.out.as_slice(), b"0,5,7\n0,5,6\n".as_slice());
+        }
+    }
+    Ok(())
+}
+
+// A task that needs the rows of more tasks than the ring has cells.
+#[test]
+fn too_wide(rt: HostRuntime) -> Result<(), Fail> {
+    let alloc = rt.alloc();
+    for (ring, status, tasks, out, note) in [
+        ("5", 0u8, 6u64, "0,5,7\n0,5,6\n", ""),
+        ("4", 7, 4, "", "saber: task 4 needs 5 blocks, ring has 4\n"),
+        ("1", 7, 1, "", "saber: task 1 needs 2 blocks, ring has 1\n"),
+    ] {
+        for threads in THREADS {
+            let words = and(alloc, &JOIN, &["--task", "1", "--ring", ring])?;
+            let seen = join(&rt, alloc, &words, threads, PAIRS, LEFT, RIGHT)?;
+            assert_eq!(rt; seen.status, status);
+            assert_eq!(rt; seen.tasks, tasks);
+            assert_eq!(rt; seen.out.as_slice(), out.as_bytes());
+            assert_eq!(rt; seen.note.as_slice(), note.as_bytes());
+        }
+    }
+    Ok(())
+}
+
+// A line of either file that is refused: the rows before it are answered, in their merged order.
+#[test]
+fn refused_lines_of_joins(rt: HostRuntime) -> Result<(), Fail> {
+    let alloc = rt.alloc();
+    for (left, right, (in_1, in_2, in_5, in_all), out, note) in [
+        (
+            "0,5\n9,9\n4,1\n",
+            RIGHT,
+            (5u64, 3u64, 1u64, 1u64),
+            "0,5,7\n0,5,6\n",
+            "saber: left line 3: time order\n",
+        ),
+        (
+            "0,5\n1\n",
+            RIGHT,
+            (1, 1, 1, 1),
+            "",
+            "saber: left line 2: field count\n",
+        ),
+        (
+            LEFT,
+            "0,7\n3,x\n",
+            (2, 1, 1, 1),
+            "",
+            "saber: right line 2: bad number in field 2\n",
+        ),
+    ] {
+        for (task, tasks) in [("1", in_1), ("2", in_2), ("5", in_5), ("65536", in_all)] {
+            for threads in THREADS {
+                let words = and(alloc, &JOIN, &["--task", task])?;
+                let seen = join(&rt, alloc, &words, threads, PAIRS, left, right)?;
+                assert_eq!(rt; seen.status, 4);
+                assert_eq!(rt; seen.tasks, tasks);
+                assert_eq!(rt; seen.out.as_slice(), out.as_bytes());
+                assert_eq!(rt; seen.note.as_slice(), note.as_bytes());
+            }
+        }
+    }
+    Ok(())
+}
+
+// A read of a row file fails: the right one's first, or the second, when three of its lines are known; or the left one's.
+#[test]
+fn a_read_of_a_join_fails(rt: HostRuntime) -> Result<(), Fail> {
+    let alloc = rt.alloc();
+    let four = "0,7\n3,6\n8,0\n9,1\n";
+    let fault = "saber: right: read fault\n";
+    for (task, of_left, of_right, tasks, out, note) in [
+        ("2", 9u64, 1u64, 0u64, "", fault),
+        ("2", 9, 2, 3, "0,5,7\n0,5,6\n", fault),
+        ("4", 9, 2, 1, "", fault),
+        ("2", 1, 9, 0, "", "saber: left: read fault\n"),
+    ] {
+        for threads in THREADS {
+            let words = and(alloc, &JOIN, &["--task", task, "--threads", threads])?;
+            let left = unread(alloc, "l", LEFT, &[], of_left)?;
+            let right = unread(alloc, "r", four, &[12], of_right)?;
+            let sink = MemSink::new(alloc, Vec::new(alloc));
+            let seen = call(&rt, alloc, &words, three(alloc, PAIRS, left, right)?, sink)?;
+            assert_eq!(rt; seen.status, 5);
+            assert_eq!(rt; seen.tasks, tasks);
+            assert_eq!(rt; seen.out.as_slice(), out.as_bytes());
+            assert_eq!(rt; seen.note.as_slice(), note.as_bytes());
+        }
+    }
+    Ok(())
+}
+
+// A row file of a join isn't there, or its open fails.
+#[test]
+fn a_file_of_a_join_is_not_opened(rt: HostRuntime) -> Result<(), Fail> {
+    let alloc = rt.alloc();
+    for (words, open, note) in [
+        (
+            ["saber", "run", "q", "l", "none"],
+            9u64,
+            "saber: right: open fault\n",
+        ),
+        (
+            ["saber", "run", "q", "none", "r"],
+            9,
+            "saber: left: open fault\n",
+        ),
+        (JOIN, 2, "saber: left: open fault\n"),
+        (JOIN, 3, "saber: right: open fault\n"),
+    ] {
+        let left = file(alloc, "l", LEFT)?;
+        let right = file(alloc, "r", RIGHT)?;
+        let opens = vec![in alloc; open]?;
+        let files = MemFiles::new(alloc, three(alloc, PAIRS, left, right)?, opens);
+        let seen = call_over(&rt, alloc, &words, files)?;
+        assert_eq!(rt; seen.status, 5);
+        assert_eq!(rt; seen.tasks, 0);
+        assert_eq!(rt; seen.out.as_slice(), [].as_slice());
+        assert_eq!(rt; seen.note.as_slice(), note.as_bytes());
+    }
+    Ok(())
+}
+
+// The write of the fifth task's text fails.
+#[test]
+fn a_write_of_a_join_fails(rt: HostRuntime) -> Result<(), Fail> {
+    let alloc = rt.alloc();
+    for threads in THREADS {
+        let words = and(alloc, &JOIN, &["--task", "1", "--threads", threads])?;
+        let left = file(alloc, "l", LEFT)?;
+        let right = file(alloc, "r", RIGHT)?;
+        let sink = MemSink::new(alloc, vec![in alloc; (1, 5)]?);
+        let seen = call(&rt, alloc, &words, three(alloc, PAIRS, left, right)?, sink)?;
+        assert_eq!(rt; seen.status, 6);
+        assert_eq!(rt; seen.tasks, 4);
+        assert_eq!(rt; seen.out.as_slice(), b"0,5,7".as_slice());
+    }
+    Ok(())
+}
+
+// ---- rings and threads
+
+// The answer does not depend on the size of the tasks, the ring, and the number of threads.
+#[test]
+fn any_sizes(rt: HostRuntime) -> Result<(), Fail> {
+    let alloc = rt.alloc();
+    let by_group = "0,1,30\n0,2,5\n1,1,27\n1,2,5\n2,1,7\n2,2,6\n";
+    for (task, tasks) in [("1", 5u64), ("2", 3), ("5", 1), ("65536", 1)] {
+        for ring in ["1", "2", "1024"] {
+            for threads in ["0", "1", "8"] {
+                let words = and(alloc, &RUN, &["--task", task, "--ring", ring])?;
+                let seen = run(&rt, alloc, &words, threads, SUMS, FIVE)?;
+                assert_eq!(rt; seen.status, 0);
+                assert_eq!(rt; seen.tasks, tasks);
+                assert_eq!(rt; seen.out.as_slice(), by_group.as_bytes());
+            }
+        }
+    }
+    Ok(())
+}
+
+// A run of counts in tasks of two rows on a ring of two, with a gate.
+fn held<R: Threads + Wait + Sync>(
+    rt: &R,
+    alloc: Global,
+    threads: &str,
+    gate: &HoldGate,
+) -> Result<Seen, Fail> {
+    let words = and(
+        alloc,
+        &IN_TASKS_OF_2,
+        &["--ring", "2", "--threads", threads],
+    )?;
+    let left = file(alloc, "l", FIVE)?;
+    let files = MemFiles::new(alloc, two(alloc, COUNT, left)?, Vec::new(alloc));
     let sink = MemSink::new(alloc, Vec::new(alloc));
-    let seen = call(alloc, &IN_TASKS_OF_2, two(alloc, COUNT, left)?, sink)?;
-    assert_eq!(rt; seen.status, 5);
-    assert_eq!(rt; seen.tasks, 1);
-    assert_eq!(rt; seen.out.as_slice(), b"0,2\n".as_slice());
-    assert_eq!(rt;
-        seen.note.as_slice(),
-        b"saber: left: read fault\n".as_slice()
-    );
+    call_with(rt, alloc, &words, files, sink, gate)
+}
+
+// Two tasks are under way at once: each of the first two waits at the gate for the other to be done. The caller alone would wait in
+// vain for the second one, and not for the first.
+#[test]
+fn tasks_at_once(rt: HostRuntime) -> Result<(), Fail> {
+    let alloc = rt.alloc();
+    for (threads, first, second, limit, late) in [
+        ("2", 0u64, 1u64, 100_000_000u64, false),
+        ("2", 1, 0, 100_000_000, false),
+        ("0", 0, 1, 1_000, true),
+        ("0", 1, 0, 1_000, false),
+    ] {
+        let gate = HoldGate::new(first, second, limit);
+        let seen = held(&rt, alloc, threads, &gate)?;
+        assert_eq!(rt; seen.status, 0);
+        assert_eq!(rt; seen.tasks, 3);
+        assert_eq!(rt; seen.out.as_slice(), b"0,2\n1,2\n".as_slice());
+        assert_eq!(rt; gate.late(), late);
+    }
     Ok(())
 }

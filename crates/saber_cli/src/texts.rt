@@ -1,5 +1,5 @@
 // The text of a query file, from its source.
-ghost use Rattle.std.specs.Prelude.{◌≡◌, ◌≤◌, ◌<◌, ◌+◌, [], IfOk, IfErr, IfSome, Ok, take, length};
+ghost use Rattle.std.specs.Prelude.{◌≡◌, ◌≤◌, ◌<◌, ◌+◌, ℕ, List, [], IfOk, IfErr, IfSome, OnOk, Ok, take, length};
 ghost use Rattle.saber_io.specs.Outside.{Rose, given};
 ghost use Rattle.saber_notes.specs.declared.outcome.InputFile.{InputFile};
 ghost use Rattle.saber_notes.specs.declared.outcome.Outcome.{Outcome};
@@ -24,6 +24,8 @@ fn read_piece<S: Source>(text: &mut Vec<u8>, source: &mut S) -> Result<usize, Ou
     ensures end { result ≡ Ok 0 → IfSome (S.left source.new) (λ rest. rest ≡ []) }
     ensures kinds { IfErr result IsOfText }
     ensures cause { IfErr result (λ o. o ≡ Outcome.ReadFault InputFile.Query → Rose (S.faults source.old) (S.faults source.new)) }
+    ensures good { OnOk result (S.faults source.new ≡ S.faults source.old) }
+    ensures takes { (taken : List ℕ) × (S.left source.old ≡ given taken (S.left source.new)) }
     ensures count { S.faults source.old ≤ S.faults source.new }
 {
     let mut piece = [0u8; PIECE];
@@ -42,6 +44,8 @@ pub(crate) fn read_text<S: Source>(alloc: Global, source: &mut S) -> Result<Vec<
     ensures front { IfOk result (λ text. IfSome (S.left source.old) (λ whole. text.items ≡ take read_limit whole)) }
     ensures kinds { IfErr result IsOfText }
     ensures cause { IfErr result (λ o. o ≡ Outcome.ReadFault InputFile.Query → Rose (S.faults source.old) (S.faults source.new)) }
+    ensures good { OnOk result (S.faults source.new ≡ S.faults source.old) }
+    ensures takes { (taken : List ℕ) × (S.left source.old ≡ given taken (S.left source.new)) }
     ensures count { S.faults source.old ≤ S.faults source.new }
 {
     let mut text = Vec::new(alloc);

@@ -5,18 +5,20 @@ ghost use Rattle.saber_words.specs.Commands.{Asked, AskedRun, run, command_of};
 ghost use Rattle.saber_notes.specs.Notes.{status_of, note_of};
 ghost use Rattle.saber_notes.specs.declared.outcome.Outcome.{Outcome};
 ghost use Rattle.saber_notes.specs.declared.note.Noted.{Noted};
-ghost use Rattle.saber_cli.specs.Outcomes.{IsFileFault, IsBeforeRun};
-ghost use Rattle.saber_cli.specs.Due.{names_of};
+ghost use Rattle.saber_cli.specs.Outcomes.{IsClean, IsFileFault, IsBeforeRun};
 ghost use Rattle.saber_cli.specs.Gives.{Answers};
 ghost use Rattle.saber_cli.specs.Leaves.{LeavesTold};
 ghost use Rattle.saber_cli.specs.Taken.{TakesTold};
-ghost use Rattle.saber_cli.specs.Unread.{EndsUnread};
+ghost use Rattle.saber_cli.specs.Unread.{unread, EndsUnread};
 
 use crate::answer::Ran;
-use crate::words::run_words;
+use crate::words::{run_words, unread};
 use saber_io::{Files, Gate, Sink};
 use saber_notes::{Noted, Outcome, write_note};
+use saber_words::WordsFault;
 use std::alloc::Global;
+use std::sync::Wait;
+use std::thread::Threads;
 
 /// How a call ended.
 #[derive(Drop)]
@@ -34,11 +36,13 @@ pub struct Ended<K> {
 }
 
 /// Does what the words ask for, over these files: the answer goes to the sink, and a note on every
-/// end but the good one to the notes. The first word is the program's name.
+/// end but the good one to the notes. The first word is the program's name. The runtime starts the
+/// threads that the words ask for, and the call waits for them.
 ///
 /// What is said of contents holds where the files, the sink and the notes tell theirs, as those in
 /// memory do.
-pub fn saber<F: Files, K: Sink + Send, N: Sink, G: Gate + Sync>(
+pub fn saber<F: Files, K: Sink + Send, N: Sink, G: Gate + Sync, R: Threads + Wait + Sync>(
+    rt: &R,
     alloc: Global,
     words: &[&str],
     files: &mut F,
@@ -58,15 +62,18 @@ pub fn saber<F: Files, K: Sink + Send, N: Sink, G: Gate + Sync>(
         EndsUnread result.outcome result.tasks files.old files.new sink result.sink }
     ensures usage { result.outcome ≡ Outcome.Usage → command_of (map (λ word. word.now) words.now) ≡ None }
 
-    // A fault of the outside is real.
+    // A fault of the outside is real, and none is passed over: an answer of the words, the query, the rows and the ring alone comes
+    // only where no count of faults rose, and the sink's rose exactly where a fault of writing is told.
     ensures files { IsFileFault result.outcome → Rose (F.faults files.old) (F.faults files.new) }
+    ensures files_good { IsClean result.outcome → F.faults files.new ≡ F.faults files.old }
     ensures sink { result.outcome ≡ Outcome.WriteFault → Rose (K.faults sink) (K.faults result.sink) }
+    ensures sink_good { result.outcome ≢ Outcome.WriteFault → K.faults result.sink ≡ K.faults sink }
 
-    // Which files were asked for and given back.
+    // Which files were asked for and given back: the row files only behind a query that has no fault and as many streams.
     ensures leaves { (c : Asked) → command_of (map (λ word. word.now) words.now) ≡ Some c →
-        LeavesTold (names_of c) result.outcome (F.told files.old) (F.told files.new) }
+        LeavesTold c result.outcome (F.told files.old) (F.told files.new) }
 
-    // A fault of reading leaves at least every whole task assembled of what was taken of the left file.
+    // A fault of reading leaves at least every whole task assembled of what was taken of the row files.
     ensures taken { (r : AskedRun) → command_of (map (λ word. word.now) words.now) ≡ Some (run r) →
         TakesTold r result.outcome result.tasks (F.told files.old) (F.told files.new) }
 
@@ -77,12 +84,13 @@ pub fn saber<F: Files, K: Sink + Send, N: Sink, G: Gate + Sync>(
     ensures failed { result.noted ≡ Noted.Failed → AppendsPrefix (N.written notes.old) (N.written notes.new) (note_of result.outcome) }
     ensures memory { result.noted ≡ Noted.NoMemory → N.written notes.new ≡ N.written notes.old }
     ensures note { result.noted ≡ Noted.Failed → Rose (N.faults notes.old) (N.faults notes.new) }
+    ensures note_good { result.noted ≢ Noted.Failed → N.faults notes.new ≡ N.faults notes.old }
 {
     let Ran {
         outcome,
         sink,
         tasks,
-    } = run_words(alloc, words, files, sink, gate);
+    } = run_words(rt, alloc, words, files, sink, gate);
     let noted = write_note(notes, outcome);
     Ended {
         status: outcome.status(),
@@ -90,5 +98,33 @@ pub fn saber<F: Files, K: Sink + Send, N: Sink, G: Gate + Sync>(
         tasks,
         noted,
         outcome,
+    }
+}
+
+/// How a call ended whose words were not handed over.
+#[derive(Drop)]
+pub struct Refused {
+    /// The status that the process ends with.
+    pub status: u8,
+    /// What became of the note.
+    pub noted: Noted,
+}
+
+/// Ends a call whose words the system can't hand over: memory lacks for them, or one of them is no text,
+/// and so no word of a command. Nothing is opened, and nothing goes out but the note.
+pub fn refuse_words<N: Sink>(fault: WordsFault, notes: &mut N) -> Refused
+    ensures status { result.status ≡ status_of (unread fault) }
+    ensures something { result.noted ≢ Noted.Nothing }
+    ensures whole { result.noted ≡ Noted.Whole → N.written notes.new ≡ appended (N.written notes.old) (note_of (unread fault)) }
+    ensures failed { result.noted ≡ Noted.Failed → AppendsPrefix (N.written notes.old) (N.written notes.new) (note_of (unread fault)) }
+    ensures memory { result.noted ≡ Noted.NoMemory → N.written notes.new ≡ N.written notes.old }
+    ensures note { result.noted ≡ Noted.Failed → Rose (N.faults notes.old) (N.faults notes.new) }
+    ensures note_good { result.noted ≢ Noted.Failed → N.faults notes.new ≡ N.faults notes.old }
+{
+    let outcome = unread(fault);
+    let noted = write_note(notes, outcome);
+    Refused {
+        status: outcome.status(),
+        noted,
     }
 }

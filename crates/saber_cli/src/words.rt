@@ -3,8 +3,7 @@ ghost use Rattle.std.specs.Prelude.{◌≡◌, ◌≢◌, ℕ, List, IfSome, Non
 ghost use Rattle.saber_io.specs.Outside.{Rose, appended};
 ghost use Rattle.saber_words.specs.Commands.{Asked, AskedRun, run, command_of};
 ghost use Rattle.saber_notes.specs.declared.outcome.Outcome.{Outcome};
-ghost use Rattle.saber_cli.specs.Outcomes.{IsFileFault, IsBeforeRun};
-ghost use Rattle.saber_cli.specs.Due.{names_of};
+ghost use Rattle.saber_cli.specs.Outcomes.{IsClean, IsFileFault, IsBeforeRun};
 ghost use Rattle.saber_cli.specs.Gives.{Answers};
 ghost use Rattle.saber_cli.specs.Leaves.{LeavesTold};
 ghost use Rattle.saber_cli.specs.Taken.{TakesTold};
@@ -17,8 +16,11 @@ use saber_io::{Files, Gate, Sink};
 use saber_notes::Outcome;
 use saber_words::{Command, WordsFault, read_words};
 use std::alloc::Global;
+use std::sync::Wait;
+use std::thread::Threads;
 
-fn unread(fault: WordsFault) -> Outcome
+// How a call ends whose words were not read.
+pub(crate) fn unread(fault: WordsFault) -> Outcome
     ensures { result ≡ unread fault }
 {
     match fault {
@@ -28,7 +30,8 @@ fn unread(fault: WordsFault) -> Outcome
 }
 
 /// Reads the words, and does what they ask for.
-pub(crate) fn run_words<F: Files, K: Sink + Send, G: Gate + Sync>(
+pub(crate) fn run_words<F: Files, K: Sink + Send, G: Gate + Sync, R: Threads + Wait + Sync>(
+    rt: &R,
     alloc: Global,
     words: &[&str],
     files: &mut F,
@@ -40,10 +43,12 @@ pub(crate) fn run_words<F: Files, K: Sink + Send, G: Gate + Sync>(
     ensures unread { command_of (map (λ word. word.now) words.now) ≡ None → EndsUnread result.outcome result.tasks files.old files.new sink result.sink }
     ensures usage { result.outcome ≡ Outcome.Usage → command_of (map (λ word. word.now) words.now) ≡ None }
     ensures early { IsBeforeRun result.outcome → (result.tasks ≡ 0) × (result.sink ≡ sink) }
-    ensures leaves { (c : Asked) → command_of (map (λ word. word.now) words.now) ≡ Some c → LeavesTold (names_of c) result.outcome (F.told files.old) (F.told files.new) }
+    ensures leaves { (c : Asked) → command_of (map (λ word. word.now) words.now) ≡ Some c → LeavesTold c result.outcome (F.told files.old) (F.told files.new) }
     ensures taken { (r : AskedRun) → command_of (map (λ word. word.now) words.now) ≡ Some (run r) → TakesTold r result.outcome result.tasks (F.told files.old) (F.told files.new) }
     ensures cause { IsFileFault result.outcome → Rose (F.faults files.old) (F.faults files.new) }
+    ensures read_good { IsClean result.outcome → F.faults files.new ≡ F.faults files.old }
     ensures write { result.outcome ≡ Outcome.WriteFault → Rose (K.faults sink) (K.faults result.sink) }
+    ensures write_good { result.outcome ≢ Outcome.WriteFault → K.faults result.sink ≡ K.faults sink }
 {
     laws();
     let command = match read_words(alloc, words) {
@@ -57,7 +62,7 @@ pub(crate) fn run_words<F: Files, K: Sink + Send, G: Gate + Sync>(
         }
     };
     match &command {
-        Command::Run(run) => run_command(alloc, run, files, sink, gate),
+        Command::Run(run) => run_command(rt, alloc, run, files, sink, gate),
         Command::Check(check) => check_command(alloc, check, files, sink),
     }
 }

@@ -9,7 +9,7 @@ use Rattle.saber_query.specs.declared.fault.Cause.TheVariants as query
 use Rattle.saber_notes.specs.declared.outcome.InputFile.{InputFile}
 use Rattle.saber_notes.specs.declared.outcome.InputFile.TheVariants as files
 use Rattle.saber_notes.specs.declared.outcome.Outcome.{Outcome}
-use Rattle.saber_notes.specs.declared.outcome.Outcome.TheVariants.{Done, Usage, FileCount, QueryFault, LineRefused, OpenFault, ReadFault, WriteFault, NoMemory}
+use Rattle.saber_notes.specs.declared.outcome.Outcome.TheVariants.{Done, Usage, FileCount, QueryFault, LineRefused, OpenFault, ReadFault, WriteFault, TooWide, NoMemory}
 
 -- the status that the process ends with
 abbrev pub status_of : Outcome → ℕ
@@ -21,6 +21,7 @@ status_of (LineRefused side line cause) = 4
 status_of (OpenFault file) = 5
 status_of (ReadFault file) = 5
 status_of WriteFault = 6
+status_of (TooWide task need ring) = 7
 status_of NoMemory = 8
 
 -- why a query is refused
@@ -70,6 +71,7 @@ note_text (LineRefused side line cause) = side_text side ++ codes " line " ++ de
 note_text (OpenFault file) = file_text file ++ codes ": open fault"
 note_text (ReadFault file) = file_text file ++ codes ": read fault"
 note_text WriteFault = codes "write fault"
+note_text (TooWide task need ring) = (codes "task " ++ decimal task) ++ (codes " needs " ++ decimal need) ++ (codes " blocks, ring has " ++ decimal ring)
 note_text NoMemory = codes "out of memory"
 
 -- the whole line

@@ -1,5 +1,5 @@
 // Notes: one line for each end but the good one.
-ghost use Rattle.std.specs.Prelude.{◌≡◌, ◌≢◌, ◌≤◌, ◌+◌, ◌++◌, length, Err};
+ghost use Rattle.std.specs.Prelude.{◌≡◌, ◌≢◌, ◌≤◌, ◌+◌, ◌++◌, length, decimal, Err};
 ghost use Rattle.saber_notes.specs.Notes.{query_text, line_text, side_text, file_text, note_text, note_of};
 ghost use Rattle.saber_notes.specs.Lines.{bytes_of};
 ghost use Rattle.saber_notes.specs.declared.note.Noted.{Noted};
@@ -134,6 +134,27 @@ fn add_line_refused(line: &mut Line, side: Side, number: u64, cause: RowCause)
     add_line_cause(line, cause);
 }
 
+// A number behind a text.
+fn add_count(line: &mut Line, text: &str, number: u64)
+    requires room { length (bytes_of line.old) ≤ 80 }
+    requires text { length text.now ≤ 18 }
+    ensures bytes { bytes_of line.new ≡ bytes_of line.old ++ (text.now ++ decimal number) }
+    ensures short { length (bytes_of line.new) ≤ length (bytes_of line.old) + length text.now + 20 }
+{
+    line.add(text);
+    line.add_number(number);
+}
+
+fn add_too_wide(line: &mut Line, task: u64, need: u64, ring: u64)
+    requires { length (bytes_of line.old) ≤ 8 }
+    ensures bytes { bytes_of line.new ≡ bytes_of line.old ++ note_text (Outcome.TooWide task need ring) }
+    ensures short { length (bytes_of line.new) ≤ 100 }
+{
+    add_count(line, "task ", task);
+    add_count(line, " needs ", need);
+    add_count(line, " blocks, ring has ", ring);
+}
+
 fn add_outcome(line: &mut Line, outcome: Outcome)
     requires { length (bytes_of line.old) ≤ 8 }
     ensures bytes { bytes_of line.new ≡ bytes_of line.old ++ note_text outcome }
@@ -154,6 +175,7 @@ fn add_outcome(line: &mut Line, outcome: Outcome)
         Outcome::OpenFault(file) => add_file_fault(line, file, ": open fault"),
         Outcome::ReadFault(file) => add_file_fault(line, file, ": read fault"),
         Outcome::WriteFault => line.add("write fault"),
+        Outcome::TooWide { task, need, ring } => add_too_wide(line, task, need, ring),
         Outcome::NoMemory => line.add("out of memory"),
     }
 }
@@ -176,6 +198,7 @@ pub fn write_note<N: Sink>(notes: &mut N, outcome: Outcome) -> Noted
     ensures failed { result ≡ Noted.Failed → AppendsPrefix (N.written notes.old) (N.written notes.new) (note_of outcome) }
     ensures memory { result ≡ Noted.NoMemory → N.written notes.new ≡ N.written notes.old }
     ensures cause { result ≡ Noted.Failed → Rose (N.faults notes.old) (N.faults notes.new) }
+    ensures good { result ≢ Noted.Failed → N.faults notes.new ≡ N.faults notes.old }
     ensures count { N.faults notes.old ≤ N.faults notes.new }
 {
     if outcome == Outcome::Done {

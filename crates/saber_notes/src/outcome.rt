@@ -42,6 +42,12 @@ pub enum Outcome {
     ReadFault(InputFile),
     /// The answer can't be written.
     WriteFault,
+    /// A task of a join needs the rows of more tasks than the ring has room for, its own counted.
+    TooWide {
+        task: u64,
+        need: u64,
+        ring: u64,
+    },
     /// Want of memory.
     NoMemory,
 }
@@ -62,6 +68,7 @@ impl Outcome {
             Outcome::OpenFault(_) => 5,
             Outcome::ReadFault(_) => 5,
             Outcome::WriteFault => 6,
+            Outcome::TooWide { .. } => 7,
             Outcome::NoMemory => 8,
         }
     }

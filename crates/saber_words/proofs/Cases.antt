@@ -1,5 +1,5 @@
 -- What the words of the table's forms, and of some others, come to.
-use Rattle.std.proofs.Common.{◌≡◌, ◌^◌, ℕ, refl, codes, List, [], ◌∷◌, Option, Some, None}
+use Rattle.std.proofs.Common.{◌≡◌, ◌^◌, ℕ, refl, codes, true, false, List, [], ◌∷◌, Option, Some, None}
 use Rattle.clap.specs.Walk.{Text}
 use Rattle.clap.proofs.OnLiterals.{clap_on_literals}
 use Rattle.saber_words.specs.Commands.{Asked, check, command_of, is_taken, plain_run, run}
@@ -93,7 +93,7 @@ run_after_dashes = refl
 
 -- a run of `q` over `l`, in tasks of so many rows, over files of at most so many lines
 sized : ℕ → ℕ → Option Asked
-sized task most = Some (run (record { query = codes "q"; left = codes "l"; right = None; task = task; most = most }))
+sized task most = Some (run (record { query = codes "q"; left = codes "l"; right = None; task = task; ring = 64; threads = 2; most = most; flush = false }))
 
 -- a number in its range, in a word of its own or behind `=`, and at any place among the files
 least_task : saber (codes "run" ∷ codes "q" ∷ codes "l" ∷ codes "--task" ∷ codes "1" ∷ []) ≡ sized 1 (2 ^ 40)
@@ -162,10 +162,31 @@ both : saber (codes "run" ∷ codes "--max-lines=2" ∷ codes "q" ∷ codes "l" 
 unfolding saber sized command_of is_taken clap_on_literals
 both = refl
 
--- an option of another name, and one where it has no place
-ring : saber (codes "run" ∷ codes "q" ∷ codes "l" ∷ codes "--ring" ∷ codes "0" ∷ []) ≡ None
-unfolding saber sized command_of is_taken clap_on_literals
-ring = refl
+-- the ring and the threads
+placed : ℕ → ℕ → Option Asked
+placed ring threads = Some (run (record { query = codes "q"; left = codes "l"; right = None; task = 1024; ring = ring; threads = threads; most = 2 ^ 40; flush = false }))
+
+least_ring : saber (codes "run" ∷ codes "q" ∷ codes "l" ∷ codes "--ring" ∷ codes "1" ∷ codes "--threads" ∷ codes "0" ∷ []) ≡ placed 1 0
+unfolding saber placed command_of is_taken clap_on_literals
+least_ring = refl
+
+most_ring : saber (codes "run" ∷ codes "--threads=64" ∷ codes "q" ∷ codes "l" ∷ codes "--ring" ∷ codes "1024" ∷ []) ≡ placed 1024 64
+unfolding saber placed command_of is_taken clap_on_literals
+most_ring = refl
+
+ring_of_0 : saber (codes "run" ∷ codes "q" ∷ codes "l" ∷ codes "--ring" ∷ codes "0" ∷ []) ≡ None
+unfolding saber command_of is_taken clap_on_literals
+ring_of_0 = refl
+
+ring_past_most : saber (codes "run" ∷ codes "q" ∷ codes "l" ∷ codes "--ring" ∷ codes "1025" ∷ []) ≡ None
+unfolding saber command_of is_taken clap_on_literals
+ring_past_most = refl
+
+threads_past_most : saber (codes "run" ∷ codes "q" ∷ codes "l" ∷ codes "--threads" ∷ codes "65" ∷ []) ≡ None
+unfolding saber command_of is_taken clap_on_literals
+threads_past_most = refl
+
+-- an option where it has no place, by a short name, and by a part of its name
 
 short_task : saber (codes "run" ∷ codes "q" ∷ codes "l" ∷ codes "-t" ∷ codes "5" ∷ []) ≡ None
 unfolding saber sized command_of is_taken clap_on_literals
@@ -182,3 +203,30 @@ check_task = refl
 task_before_run : saber (codes "--task" ∷ codes "5" ∷ codes "run" ∷ codes "q" ∷ codes "l" ∷ []) ≡ None
 unfolding saber sized command_of is_taken clap_on_literals
 task_before_run = refl
+
+-- ---- the flag
+
+-- a run of `q` over `l` whose input's end closes windows
+ending : Option Asked
+ending = Some (run (record { query = codes "q"; left = codes "l"; right = None; task = 1024; ring = 64; threads = 2; most = 2 ^ 40; flush = true }))
+
+final_behind : saber (codes "run" ∷ codes "q" ∷ codes "l" ∷ codes "--final" ∷ []) ≡ ending
+unfolding saber ending command_of is_taken clap_on_literals
+final_behind = refl
+
+final_before : saber (codes "run" ∷ codes "--final" ∷ codes "q" ∷ codes "l" ∷ []) ≡ ending
+unfolding saber ending command_of is_taken clap_on_literals
+final_before = refl
+
+-- with a value, given twice, and of another command
+final_of_true : saber (codes "run" ∷ codes "q" ∷ codes "l" ∷ codes "--final=true" ∷ []) ≡ None
+unfolding saber command_of is_taken clap_on_literals
+final_of_true = refl
+
+final_twice : saber (codes "run" ∷ codes "q" ∷ codes "l" ∷ codes "--final" ∷ codes "--final" ∷ []) ≡ None
+unfolding saber command_of is_taken clap_on_literals
+final_twice = refl
+
+check_final : saber (codes "check" ∷ codes "q" ∷ codes "--final" ∷ []) ≡ None
+unfolding saber command_of is_taken clap_on_literals
+check_final = refl

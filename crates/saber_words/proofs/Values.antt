@@ -5,7 +5,7 @@ use Rattle.clap.specs.Words.{first_value, rows_of}
 use Rattle.clap.specs.declared.parser.matches.Found.{Found}
 use Rattle.clap.proofs.WalkLemmas.{first_value-rows}
 
-abbrev now_of : Option (Bor Text) → Option Text
+abbrev pub now_of : Option (Bor Text) → Option Text
 now_of = option_map (λ s. s.now)
 
 -- what a getter read of an id is the first value of its row

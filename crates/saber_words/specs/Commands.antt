@@ -3,23 +3,28 @@ use Rattle.std.specs.Prelude.{◌==◌, ◌≤◌, ◌^◌, ℕ, not, List, [], 
 use Rattle.std.specs.Str.{bytes_eq}
 use Rattle.clap.specs.Walk.{Row, Rule, Text, first_of}
 use Rattle.saber_words.specs.Numbers.{Numeric, number_by, number_rule}
+use Rattle.saber_words.specs.Flags.{flag_by, flag_rule}
 use Rattle.clap.specs.Kinds.{Kinds}
 use Rattle.clap.specs.Simple.{App, Shape, new_rule, new_shape, subcommand_of}
 use Rattle.clap.specs.Faults.{fault_of}
 use Rattle.saber_words.specs.declared.commands.Run.{Run}
 use Rattle.saber_words.specs.declared.commands.Command.{Command}
 use Rattle.saber_words.specs.declared.commands.Command.TheVariants as command
+use Rattle.saber_words.specs.declared.numbers.RunSizes.{RunSizes}
 
 -- ---- what may be asked for
 
--- a run of a query over its files, each by its name: in tasks of so many rows, over files of at most
--- so many lines
+-- a run of a query over its files, each by its name: in tasks of so many rows, on a ring of so many cells, by so many threads
+-- beside the caller's, over files of at most so many lines, and whether the end of the input closes the windows that are begun
 pub record AskedRun : Type 0 where
   pub query : Text
   pub left : Text
   pub right : Option Text
   pub task : ℕ
+  pub ring : ℕ
+  pub threads : ℕ
   pub most : ℕ
+  pub flush : Bool
 
 -- a check of a query, by the name of its file
 pub record AskedCheck : Type 0 where
@@ -32,7 +37,7 @@ pub data Asked : Type 0 where
 
 -- what a command asks for
 abbrev pub asked_run : Run → AskedRun
-asked_run r = record { query = r.query.now; left = r.left.now; right = option_map (λ name. name.now) r.right; task = r.task; most = r.max_lines }
+asked_run r = record { query = r.query.now; left = r.left.now; right = option_map (λ name. name.now) r.right; task = r.task; ring = r.ring; threads = r.threads; most = r.max_lines; flush = r.flush }
 
 abbrev pub asked : Command → Asked
 asked (command.Run r) = run (asked_run r)
@@ -52,14 +57,22 @@ optional = new_rule
 abbrev pub task : Numeric
 task = record { name = codes "task"; least = 1; most = 65536; usual = codes "1024" }
 
+-- `--ring B`: the cells of the ring
+abbrev pub ring : Numeric
+ring = record { name = codes "ring"; least = 1; most = 1024; usual = codes "64" }
+
+-- `--threads T`: the threads beside the caller's
+abbrev pub threads : Numeric
+threads = record { name = codes "threads"; least = 0; most = 64; usual = codes "2" }
+
 -- `--max-lines M`: the lines that a file may have
 abbrev pub max_lines : Numeric
 max_lines = record { name = codes "max-lines"; least = 1; most = 2 ^ 40; usual = codes "1099511627776" }
 
--- run QUERY LEFT [RIGHT] [--task N] [--max-lines M]
+-- run QUERY LEFT [RIGHT] [--task N] [--ring B] [--threads T] [--max-lines M] [--final]
 abbrev pub run_shape : Shape
 run_shape = record (new_shape (codes "run")) {
-  rules = required (codes "query") ∷ required (codes "left") ∷ optional (codes "right") ∷ number_rule task ∷ number_rule max_lines ∷ [];
+  rules = required (codes "query") ∷ required (codes "left") ∷ optional (codes "right") ∷ number_rule task ∷ number_rule ring ∷ number_rule threads ∷ number_rule max_lines ∷ flag_rule (codes "final") ∷ [];
 }
 
 -- check QUERY
@@ -81,10 +94,13 @@ saber_app = record { top = saber_shape; subs = run_shape ∷ check_shape ∷ [] 
 
 -- ---- the sizes of a run
 
--- 1 to 65,536 rows of a task, and 1 to 2^40 lines of a file
+-- 1 to 65,536 rows of a task, 1 to 1,024 cells of the ring, at most 64 threads, and 1 to 2^40 lines of a file
 pub record HasSizes (r : AskedRun) : Type 0 where
   pub some_rows : 1 ≤ r.task
   pub few_rows : r.task ≤ 65536
+  pub some_cells : 1 ≤ r.ring
+  pub few_cells : r.ring ≤ 1024
+  pub few_threads : r.threads ≤ 64
   pub some_lines : 1 ≤ r.most
   pub few_lines : r.most ≤ 2 ^ 40
 
@@ -95,13 +111,32 @@ IsSized (check c) = ⊤
 
 -- ---- the words
 
--- what `run` asks for, by the values of its positionals and the numbers of its options
-abbrev pub run_with : Option Text → Option Text → Option Text → Option ℕ → Option ℕ → Option Asked
-run_with (Some query) (Some left) right (Some task) (Some most) = Some (run (record { query = query; left = left; right = right; task = task; most = most }))
-run_with _ _ right _ _ = None
+-- the numbers of a run's options
+pub record Numbers : Type 0 where
+  pub task : ℕ
+  pub ring : ℕ
+  pub threads : ℕ
+  pub most : ℕ
+
+-- those that the code has
+abbrev pub numbers_of : RunSizes → Numbers
+numbers_of s = record { task = s.task; ring = s.ring; threads = s.threads; most = s.max_lines }
+
+-- if all were found
+abbrev pub numbers_with : Option ℕ → Option ℕ → Option ℕ → Option ℕ → Option Numbers
+numbers_with (Some task) (Some ring) (Some threads) (Some most) = Some (record { task = task; ring = ring; threads = threads; most = most })
+numbers_with _ _ _ _ = None
+
+abbrev pub numbers_by : List Row → Option Numbers
+numbers_by rows = numbers_with (number_by task rows) (number_by ring rows) (number_by threads rows) (number_by max_lines rows)
+
+-- what `run` asks for, by the values of its positionals, the numbers of its options, and whether `--final` was given
+abbrev pub run_with : Option Text → Option Text → Option Text → Option Numbers → Bool → Option Asked
+run_with (Some query) (Some left) right (Some n) flush = Some (run (record { query = query; left = left; right = right; task = n.task; ring = n.ring; threads = n.threads; most = n.most; flush = flush }))
+run_with _ _ right _ flush = None
 
 abbrev pub run_by : List Row → Option Asked
-run_by rows = run_with (first_of (codes "query") rows) (first_of (codes "left") rows) (first_of (codes "right") rows) (number_by task rows) (number_by max_lines rows)
+run_by rows = run_with (first_of (codes "query") rows) (first_of (codes "left") rows) (first_of (codes "right") rows) (numbers_by rows) (flag_by (codes "final") rows)
 
 -- what `check` asks for
 abbrev pub check_by : List Row → Option Asked
@@ -137,9 +172,10 @@ is_flag _ = false
 abbrev pub is_file_name : Text → Bool
 is_file_name word = not (is_flag word)
 
--- a run over these files whose words give no option: 1,024 rows a task, and all lines that a file may have
+-- a run over these files whose words give no option: 1,024 rows a task, a ring of 64 cells, two threads, all lines that a file
+-- may have, and the end of the input closes nothing
 abbrev pub plain_run : Text → Text → Option Text → Asked
-plain_run query left right = run (record { query = query; left = left; right = right; task = 1024; most = 2 ^ 40 })
+plain_run query left right = run (record { query = query; left = left; right = right; task = 1024; ring = 64; threads = 2; most = 2 ^ 40; flush = false })
 
 -- `run` wants the query's file, a left file and maybe a right one
 abbrev pub run_of : List Text → Option Asked

@@ -12,8 +12,14 @@ pub struct Run<'a> {
     pub right: Option<&'a str>,
     /// How many rows a task has, 1 to 65,536. Where the words don't say, 1,024.
     pub task: u32,
+    /// How many cells the ring has, 1 to 1,024. Where the words don't say, 64.
+    pub ring: u32,
+    /// How many threads work beside the caller's, 0 to 64. Where the words don't say, 2.
+    pub threads: u32,
     /// How many lines a file may have, 1 to `2^40`. Where the words don't say, `2^40`.
     pub max_lines: u64,
+    /// Whether the end of the input closes the windows that are begun.
+    pub flush: bool,
 }
 
 /// To check a query, without its files. The text is the name of a file.
@@ -26,7 +32,7 @@ pub struct Check<'a> {
 /// A command of the program.
 #[derive(Clone, Copy, Debug, PartialEq, Eq)]
 pub enum Command<'a> {
-    /// `run QUERY LEFT [RIGHT] [--task N] [--max-lines M]`
+    /// `run QUERY LEFT [RIGHT] [--task N] [--ring B] [--threads T] [--max-lines M] [--final]`
     Run(Run<'a>),
     /// `check QUERY`
     Check(Check<'a>),

@@ -5,7 +5,8 @@ ghost use Rattle.saber_words.specs.Commands.{check_of, command_of, is_file_name,
 
 /// A law with no code: what words of file names come to. The first word is the name of the program
 /// and may be any, and a word of more than one byte that begins with `-` is no file name. Such words
-/// give no option, so a run has tasks of 1,024 rows, and files of at most `2^40` lines.
+/// give no option, so a run has tasks of 1,024 rows, files of at most `2^40` lines, and an end of the
+/// input that closes no window.
 pub fn words_of_file_names()
     ensures empty { command_of [] ≡ None }
     ensures alone { (program : List ℕ) → command_of (program ∷ []) ≡ None }

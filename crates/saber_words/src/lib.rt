@@ -2,6 +2,7 @@
 #![tactic(auto)]
 
 mod commands;
+mod flags;
 mod laws;
 mod numbers;
 mod reading;

@@ -1,8 +1,8 @@
 //! The options that take a whole number.
-ghost use Rattle.std.specs.Prelude.{◌≡◌, ◌≤◌, false, IfSome};
+ghost use Rattle.std.specs.Prelude.{◌≡◌, ◌≤◌, false, IfSome, option_map};
 ghost use Rattle.clap.specs.Words.{found_of, rows_of, rule_of};
 ghost use Rattle.saber_words.specs.Numbers.{number_by, number_rule, numeric_of, within};
-ghost use Rattle.saber_words.specs.Commands.{max_lines, task};
+ghost use Rattle.saber_words.specs.Commands.{max_lines, numbers_by, numbers_of, ring, task, threads};
 
 use clap::builder::ValueParser;
 use clap::{Arg, ArgMatches};
@@ -33,6 +33,30 @@ pub(crate) fn task() -> NumberOption
     }
 }
 
+/// The cells of the ring.
+pub(crate) fn ring() -> NumberOption
+    ensures { numeric_of result ≡ ring }
+{
+    NumberOption {
+        name: "ring",
+        least: 1,
+        most: 1024,
+        usual: "64",
+    }
+}
+
+/// The threads beside the caller's.
+pub(crate) fn threads() -> NumberOption
+    ensures { numeric_of result ≡ threads }
+{
+    NumberOption {
+        name: "threads",
+        least: 0,
+        most: 64,
+        usual: "2",
+    }
+}
+
 /// The lines that a file may have.
 pub(crate) fn max_lines() -> NumberOption
     ensures { numeric_of result ≡ max_lines }
@@ -56,19 +80,29 @@ pub(crate) fn number_arg<'a>(alloc: Global, option: NumberOption) -> Arg<'a>
         .default_value(option.usual)
 }
 
-/// The rows of a task that were asked for.
-pub(crate) fn task_rows(values: &ArgMatches<'_>) -> Option<u32>
-    ensures { result ≡ number_by task (rows_of (found_of values.now)) }
-{
-    let rows = number(values, task())?;
-    Some(rows as u32)
+/// The numbers of a run's options.
+#[derive(Clone, Copy, Debug)]
+pub(crate) struct RunSizes {
+    pub(crate) task: u32,
+    pub(crate) ring: u32,
+    pub(crate) threads: u32,
+    pub(crate) max_lines: u64,
 }
 
-/// The most lines of a file that were asked for.
-pub(crate) fn line_limit(values: &ArgMatches<'_>) -> Option<u64>
-    ensures { result ≡ number_by max_lines (rows_of (found_of values.now)) }
+/// Those that were asked for.
+pub(crate) fn sizes(values: &ArgMatches<'_>) -> Option<RunSizes>
+    ensures { option_map numbers_of result ≡ numbers_by (rows_of (found_of values.now)) }
 {
-    number(values, max_lines())
+    let rows = number(values, task())?;
+    let cells = number(values, ring())?;
+    let count = number(values, threads())?;
+    let lines = number(values, max_lines())?;
+    Some(RunSizes {
+        task: rows as u32,
+        ring: cells as u32,
+        threads: count as u32,
+        max_lines: lines,
+    })
 }
 
 // The number of the option, of those that it takes.

@@ -6,7 +6,8 @@ ghost use Rattle.clap.specs.declared.builder.command.Command.TheViews.{out-Comma
 ghost use Rattle.saber_words.specs.Commands.{asked, asked_by, check_by, check_shape, command_of};
 ghost use Rattle.saber_words.specs.Commands.{run_by, run_shape, saber_app, IsSized};
 
-use crate::numbers::{line_limit, max_lines, number_arg, task, task_rows};
+use crate::flags::{flag_arg, is_given};
+use crate::numbers::{max_lines, number_arg, ring, sizes, task, threads};
 use crate::{Check, Command, Run, WordsFault};
 use clap::error::ErrorKind;
 use clap::{Arg, ArgMatches};
@@ -66,7 +67,10 @@ fn run_app<'a>(alloc: Global) -> Result<clap::Command<'a>, AllocError>
         .arg(left)?
         .arg(right)?
         .arg(number_arg(alloc, task()))?
-        .arg(number_arg(alloc, max_lines()))
+        .arg(number_arg(alloc, ring()))?
+        .arg(number_arg(alloc, threads()))?
+        .arg(number_arg(alloc, max_lines()))?
+        .arg(flag_arg(alloc, "final"))
 }
 
 fn check_app<'a>(alloc: Global) -> Result<clap::Command<'a>, AllocError>
@@ -95,14 +99,17 @@ fn run<'a>(values: &ArgMatches<'a>) -> Option<Command<'a>>
     let query = values.get_str("query")?;
     let left = values.get_str("left")?;
     let right = values.get_str("right");
-    let task = task_rows(values)?;
-    let max_lines = line_limit(values)?;
+    let sizes = sizes(values)?;
+    let flush = is_given(values, "final");
     Some(Command::Run(Run {
         query,
         left,
         right,
-        task,
-        max_lines,
+        task: sizes.task,
+        ring: sizes.ring,
+        threads: sizes.threads,
+        max_lines: sizes.max_lines,
+        flush,
     }))
 }
 

@@ -10,7 +10,10 @@ fn run<'a>(
         left,
         right,
         task: 1_024,
+        ring: 64,
+        threads: 2,
         max_lines: 1_099_511_627_776,
+        flush: false,
     }))
 }
 
@@ -21,7 +24,24 @@ fn sized(task: u32, max_lines: u64) -> Result<Command<'static>, WordsFault> {
         left: "l",
         right: None,
         task,
+        ring: 64,
+        threads: 2,
         max_lines,
+        flush: false,
+    }))
+}
+
+// A run of `q` over `l`, on such a ring, by so many threads.
+fn placed(ring: u32, threads: u32) -> Result<Command<'static>, WordsFault> {
+    Ok(Command::Run(Run {
+        query: "q",
+        left: "l",
+        right: None,
+        task: 1_024,
+        ring,
+        threads,
+        max_lines: 1_099_511_627_776,
+        flush: false,
     }))
 }
 
@@ -109,6 +129,14 @@ fn takes_the_options_of_run(rt: HostRuntime) {
             sized(3, 2),
         ),
         (
+            &["saber", "run", "q", "l", "--ring", "1", "--threads", "0"],
+            placed(1, 0),
+        ),
+        (
+            &["saber", "run", "--threads=64", "q", "l", "--ring=1024"],
+            placed(1024, 64),
+        ),
+        (
             &[
                 "saber",
                 "run",
@@ -125,6 +153,31 @@ fn takes_the_options_of_run(rt: HostRuntime) {
     ];
     for (words, wanted) in table {
         assert!(rt; read_words(rt.alloc(), words) == wanted, "{words:?}");
+    }
+}
+
+#[test]
+fn takes_the_flag_of_run(rt: HostRuntime) {
+    let run = Run {
+        query: "q",
+        left: "l",
+        right: None,
+        task: 1_024,
+        ring: 64,
+        threads: 2,
+        max_lines: 1_099_511_627_776,
+        flush: true,
+    };
+    let table = [
+        ["saber", "run", "--final", "q", "l"].as_slice(),
+        &["saber", "run", "q", "l", "--final"],
+        &["saber", "run", "q", "--final", "--task", "1024", "l"],
+    ];
+    for words in table {
+        assert!(rt;
+            read_words(rt.alloc(), words) == Ok(Command::Run(run)),
+            "{words:?}"
+        );
     }
 }
 
@@ -161,6 +214,18 @@ fn refuses_other_options(rt: HostRuntime) {
         ),
         (
             &["saber", "run", "q", "l", "--ring", "0"],
+            "a ring of no cell",
+        ),
+        (
+            &["saber", "run", "q", "l", "--ring", "1025"],
+            "a ring of too many cells",
+        ),
+        (
+            &["saber", "run", "q", "l", "--threads", "65"],
+            "too many threads",
+        ),
+        (
+            &["saber", "run", "q", "l", "--slack", "1"],
             "an option that is not there",
         ),
         (
@@ -181,6 +246,19 @@ fn refuses_other_options(rt: HostRuntime) {
             "an option of another command",
         ),
         (&["saber", "run", "q", "--task", "5"], "no left file"),
+        (
+            &["saber", "run", "q", "l", "--final=true"],
+            "a value of the flag",
+        ),
+        (
+            &["saber", "run", "q", "l", "--final", "--final"],
+            "the flag, given twice",
+        ),
+        (&["saber", "run", "q", "l", "-f"], "its short name"),
+        (
+            &["saber", "check", "q", "--final"],
+            "the flag of another command",
+        ),
     ];
     for (words, what) in table {
         assert!(rt;

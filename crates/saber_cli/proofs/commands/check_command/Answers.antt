@@ -7,9 +7,9 @@ use Rattle.saber_cli.specs.Texts.{BeginsFile}
 use Rattle.saber_cli.specs.Shown.{Showed}
 use Rattle.saber_cli.specs.Gives.{Gives}
 use Rattle.saber_cli.proofs.AnsweredLemmas.{appended_none, for_any}
-use Rattle.saber_cli.proofs.LeavesLemmas.{query_leaves, after_query}
+use Rattle.saber_cli.proofs.LeavesLemmas.{query_leaves, show_leaves}
 use Rattle.saber_cli.proofs.RunLemmas.{gives_no_text, some_map}
-use Rattle.saber_cli.proofs.ShowLemmas.{gives_show, show_after, show_early, show_reads}
+use Rattle.saber_cli.proofs.ShowLemmas.{gives_show, show_early, show_reads}
 use Rattle.saber_cli.proofs.commands.check_command.Goals as goal
 
 pub returns-in-Ok-clause-written : goal.returns-in-Ok-clause-written
@@ -31,7 +31,7 @@ pub returns-in-Ok-clause-kinds : goal.returns-in-Ok-clause-kinds
 returns-in-Ok-clause-kinds g c e = subst IsOfShow e c.put_text.ensures.kinds
 
 pub returns-in-Ok-clause-leaves : goal.returns-in-Ok-clause-leaves
-returns-in-Ok-clause-leaves g c = after_query _ _ c.put_text.result.outcome _ _ (show_after c.put_text.result.outcome c.put_text.ensures.kinds) c.in-Ok.ensures.uses
+returns-in-Ok-clause-leaves g c = show_leaves _ (λ t. ⊥) c.put_text.result.outcome _ _ c.put_text.ensures.kinds c.in-Ok.ensures.uses
 
 pub returns-in-Ok-clause-cause : goal.returns-in-Ok-clause-cause
 returns-in-Ok-clause-cause g c f = absurd (show_reads c.put_text.result.outcome c.put_text.ensures.kinds f)
@@ -41,4 +41,4 @@ returns-in-Err-clause-written g c =
     ([], appended_none _, for_any (λ (t : Told). Gives t.contents (asked (Check c.args.command.now)) c.in-Err.outcome 0 []) _ (λ t. gives_no_text c.laws.ensures t.contents (asked (Check c.args.command.now)) c.in-Err.outcome c.in-Err.ensures.kinds))
 
 pub returns-in-Err-clause-leaves : goal.returns-in-Err-clause-leaves
-returns-in-Err-clause-leaves g c = query_leaves _ _ c.in-Err.outcome _ _ c.in-Err.ensures.kinds c.in-Err.ensures.uses
+returns-in-Err-clause-leaves g c = query_leaves _ [] (λ t. ⊥) c.in-Err.outcome _ _ c.in-Err.ensures.kinds c.in-Err.ensures.uses

@@ -8,6 +8,7 @@ invariant-loop-text g l =
     record {
       read : left l.initial.source ≡ given l.text.items (left l.source);
       short : length l.text.items ≤ 65537;
+      good : g.S.Source.faults l.source ≡ g.S.Source.faults l.initial.source;
       count : g.S.Source.faults l.initial.source ≤ g.S.Source.faults l.source;
     }
 

@@ -41,7 +41,7 @@ returns-in-Check-clause-written g c =
     )
 
 pub returns-in-Err-clause-taken : goal.returns-in-Err-clause-taken
-returns-in-Err-clause-taken g c r e k = absurd (unread_not_read c.in-Err.fault (sym c.unread.ensures ∙ k))
+returns-in-Err-clause-taken g c r e side k = absurd (unread_not_read c.in-Err.fault _ (sym c.unread.ensures ∙ k))
 
 pub returns-in-Run-clause-taken : goal.returns-in-Run-clause-taken
 returns-in-Run-clause-taken g c r e =

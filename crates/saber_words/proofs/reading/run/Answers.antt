@@ -14,21 +14,15 @@ returns-in_err-left c =
     let left = first_of-rows (found_of c.args.values.now) (codes "left") c.get_str-2.result c.get_str-2.ensures in
     rw (query, c.in_ok-query.was, left, c.in_err-left.was, c.from_residual-in_err-left.ensures)
 
-pub returns-in_err-task : goal.returns-in_err-task
-returns-in_err-task c =
+pub returns-in_err-sizes : goal.returns-in_err-sizes
+returns-in_err-sizes c =
     let query = first_of-rows (found_of c.args.values.now) (codes "query") c.get_str.result c.get_str.ensures in
     let left = first_of-rows (found_of c.args.values.now) (codes "left") c.get_str-2.result c.get_str-2.ensures in
-    rw (query, c.in_ok-query.was, left, c.in_ok-left.was, ← c.task_rows.ensures, c.in_err-task.was, c.from_residual-in_err-task.ensures)
-
-pub returns-in_err-max_lines : goal.returns-in_err-max_lines
-returns-in_err-max_lines c =
-    let query = first_of-rows (found_of c.args.values.now) (codes "query") c.get_str.result c.get_str.ensures in
-    let left = first_of-rows (found_of c.args.values.now) (codes "left") c.get_str-2.result c.get_str-2.ensures in
-    rw (query, c.in_ok-query.was, left, c.in_ok-left.was, ← c.task_rows.ensures, c.in_ok-task.was, ← c.line_limit.ensures, c.in_err-max_lines.was, c.from_residual-in_err-max_lines.ensures)
+    rw (query, c.in_ok-query.was, left, c.in_ok-left.was, ← c.sizes.ensures, c.in_err-sizes.was, c.from_residual-in_err-sizes.ensures)
 
 pub returns : goal.returns
 returns c =
     let query = first_of-rows (found_of c.args.values.now) (codes "query") c.get_str.result c.get_str.ensures in
     let left = first_of-rows (found_of c.args.values.now) (codes "left") c.get_str-2.result c.get_str-2.ensures in
     let right = first_of-rows (found_of c.args.values.now) (codes "right") c.get_str-right.result c.get_str-right.ensures in
-    rw (query, c.in_ok-query.was, left, c.in_ok-left.was, right, ← c.task_rows.ensures, c.in_ok-task.was, ← c.line_limit.ensures, c.in_ok-max_lines.was)
+    rw (query, c.in_ok-query.was, left, c.in_ok-left.was, right, ← c.sizes.ensures, c.in_ok-sizes.was, ← c.is_given-flush.ensures)

@@ -1,0 +1,67 @@
+// A run over the row files of its query.
+ghost use Rattle.std.specs.Prelude.{◌≡◌, ◌≢◌, ℕ, List, IfSome, length};
+ghost use Rattle.saber_io.specs.Outside.{Rose, appended};
+ghost use Rattle.saber_plan.specs.declared.rows.Side.{Side};
+ghost use Rattle.saber_plan.specs.Trees.{tree_of};
+ghost use Rattle.saber_plan.specs.Checked.{IsChecked};
+ghost use Rattle.saber_plan.specs.Sizes.{SizesFit};
+ghost use Rattle.saber_words.specs.Commands.{asked_run};
+ghost use Rattle.saber_notes.specs.declared.outcome.Outcome.{Outcome};
+ghost use Rattle.saber_cli.specs.Due.{contents_of, row_names};
+ghost use Rattle.saber_cli.specs.Outcomes.{IsClean, IsFileFault, IsBeforeRun, IsOfRun};
+ghost use Rattle.saber_cli.specs.Endings.{file_on};
+ghost use Rattle.saber_cli.specs.Answered.{AnsweredIn};
+ghost use Rattle.saber_cli.specs.RowFiles.{UsesRows};
+ghost use Rattle.saber_cli.specs.Taken.{TakesRows};
+ghost use Rattle.saber_cli.specs.Uses.{KeepsFaults};
+
+use crate::answer::{Ran, answer};
+use crate::laws::laws;
+use crate::row_files::{close_rows, open_rows};
+use saber_io::{Files, Gate, Sink};
+use saber_plan::{Plan, Sizes};
+use saber_words::Run;
+use std::alloc::Global;
+use std::sync::Wait;
+use std::thread::Threads;
+
+/// Opens the row files, as many as the plan has streams, answers the query over them, and gives them back.
+pub(crate) fn run_rows<F: Files, K: Sink + Send, G: Gate + Sync, R: Threads + Wait + Sync>(
+    rt: &R,
+    alloc: Global,
+    plan: &Plan,
+    files: &mut F,
+    command: &Run<'_>,
+    sink: K,
+    sizes: &Sizes,
+    gate: &G,
+) -> Ran<K>
+    requires checked { IsChecked (tree_of plan.now) }
+    requires like { length (tree_of plan.now).streams ≡ length (row_names (asked_run command.now)) }
+    requires sizes { SizesFit sizes.now }
+    ensures written { (out : List ℕ) × (K.written result.sink ≡ appended (K.written sink) out)
+        × IfSome (F.told files.old) (λ t. AnsweredIn (tree_of plan.now) sizes.now.task sizes.now.ring sizes.now.max_lines sizes.now.flush (contents_of t.contents (row_names (asked_run command.now))) result.outcome result.tasks out) }
+    ensures early { IsBeforeRun result.outcome → (result.tasks ≡ 0) × (result.sink ≡ sink) }
+    ensures kinds { IsOfRun result.outcome }
+    ensures uses { UsesRows (row_names (asked_run command.now)) result.outcome (F.told files.old) (F.told files.new) }
+    ensures taken { (side : Side) → result.outcome ≡ Outcome.ReadFault (file_on side) → TakesRows (tree_of plan.now) sizes.now.task sizes.now.max_lines result.tasks (row_names (asked_run command.now)) (F.told files.old) (F.told files.new) }
+    ensures cause { IsFileFault result.outcome → Rose (F.faults files.old) (F.faults files.new) }
+    ensures count { KeepsFaults (F.faults files.old) (F.faults files.new) }
+    ensures read_good { IsClean result.outcome → F.faults files.new ≡ F.faults files.old }
+    ensures write { result.outcome ≡ Outcome.WriteFault → Rose (K.faults sink) (K.faults result.sink) }
+    ensures write_good { result.outcome ≢ Outcome.WriteFault → K.faults result.sink ≡ K.faults sink }
+{
+    laws();
+    match open_rows(alloc, files, command) {
+        Ok(mut inputs) => {
+            let ran = answer(rt, alloc, plan, &mut inputs, sink, sizes, gate);
+            close_rows(files, inputs);
+            ran
+        }
+        Err(outcome) => Ran {
+            outcome,
+            sink,
+            tasks: 0,
+        },
+    }
+}
