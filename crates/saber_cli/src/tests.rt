@@ -1,5 +1,7 @@
 // The top call over files in memory, with ample memory. What is wanted of each row is worked out by
 // hand from the rules.
+ghost use Rattle.std.specs.Prelude.{◌≤◌, All};
+
 use crate::{Ended, WordsFault, refuse_words, saber};
 use saber_io::{Gate, HoldGate, MemFile, MemFiles, MemSink, OpenGate};
 use std::alloc::Global;
@@ -594,7 +596,9 @@ fn a_write_fails(rt: HostRuntime) -> Result<(), Fail> {
 }
 
 // A file of which one read fails.
-fn unread(alloc: Global, name: &str, text: &str, cuts: &[u64], read: u64) -> Result<MemFile, Fail> {
+fn unread(alloc: Global, name: &str, text: &str, cuts: &[u64], read: u64) -> Result<MemFile, Fail>
+    requires { All (λ cut. 1 ≤ cut) cuts.now }
+{
     Ok(MemFile {
         name: String::from_str(alloc, name)?,
         bytes: text.as_bytes().to_vec(alloc)?,
