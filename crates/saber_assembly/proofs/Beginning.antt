@@ -1,7 +1,7 @@
 -- A stage before its first task.
 use Rattle.std.proofs.Common.{◌≡◌, ℕ, List, [], Option, Some, None, refl, sym, ◌∙◌, ap, subst, append-nil}
 use Rattle.std.specs.FinMap.{empty}
-use Rattle.saber_io.specs.Outside.{appended}
+use Rattle.saber_io.specs.Outside.{appended, appended-none}
 use Rattle.saber_plan.specs.Inputs.{Input, going_on}
 use Rattle.saber_plan.specs.Trees.{Tree}
 use Rattle.saber_plan.specs.Answers.{text}
@@ -10,16 +10,12 @@ use Rattle.saber_laws.specs.Pieces.{NoRowsGiveNothing, NoTasksNoRows}
 use Rattle.saber_assembly.specs.Stages.{StageView, Start, Tasks, After, Keeps}
 use Rattle.saber_assembly.specs.declared.stage.State.TheVariants.{Running}
 
-appended_none : (o : Option (List ℕ)) → o ≡ appended o []
-appended_none None = refl
-appended_none (Some w) = ap Some (sym (append-nil w))
-
 pub begins : NoRowsGiveNothing → NoTasksNoRows → (q : Tree) (n : ℕ) (r : Input) (start : Start) (taken : Input → Type 0) (s : StageView) → Tasks q n r → s.written ≡ start.written → s.faults ≡ start.faults → s.parts ≡ empty → s.k ≡ 0 → s.state ≡ Running → taken (going_on []) → Keeps q n r start taken s
 begins gives none q n r start taken s t written faults parts k run had =
     let no_rows : upto n r s.k ≡ going_on [] = ap (upto n r) k ∙ none n r in
     let nothing = gives q t.windows in
     let a : After q n r start s Running = (
-      written ∙ appended_none start.written ∙ ap (appended start.written) (sym (ap (text q) no_rows ∙ nothing.0)),
+      written ∙ appended-none start.written ∙ ap (appended start.written) (sym (ap (text q) no_rows ∙ nothing.0)),
       parts ∙ sym (ap (unclosed q) no_rows ∙ nothing.1),
       faults,
     ) in

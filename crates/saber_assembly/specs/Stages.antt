@@ -1,6 +1,6 @@
 -- The result stage as contracts see it, and where it stands after some tasks.
 use Rattle.std.specs.Prelude.{◌≡◌, ◌≤◌, ℕ, ◌+◌, Bool, List, ◌++◌, Option}
-use Rattle.saber_io.specs.Outside.{Rose, appended}
+use Rattle.saber_io.specs.Outside.{Rose, appended, AppendsPrefix}
 use Rattle.saber_plan.specs.declared.rows.Row.{Row}
 use Rattle.saber_plan.specs.declared.windows.Mark.{Mark}
 use Rattle.saber_plan.specs.Inputs.{Input}
@@ -8,9 +8,9 @@ use Rattle.saber_plan.specs.Trees.{Tree}
 use Rattle.saber_plan.specs.Answers.{text, frame}
 use Rattle.saber_plan.specs.Given.{RowsFit}
 use Rattle.saber_plan.specs.Windows.{Fits, no_rows, mark_at}
-use Rattle.saber_plan.specs.Tasks.{Parts, cut, upto, unclosed}
+use Rattle.saber_plan.specs.Tasks.{Parts, cut, upto, unclosed, written_by, left_by}
 use Rattle.saber_plan.specs.Needs.{task_rows}
-use Rattle.saber_plan.specs.Shares.{Shares, shares_between}
+use Rattle.saber_plan.specs.Shares.{Shares, shares_between, piece_in}
 use Rattle.saber_assembly.specs.declared.stage.Stage.{Stage}
 use Rattle.saber_assembly.specs.declared.stage.State.{State}
 use Rattle.saber_assembly.specs.declared.stage.State.TheVariants.{Running, SinkFailed, NoMemory}
@@ -67,3 +67,16 @@ pub record Keeps (q : Tree) (n : ℕ) (r : Input) (start : Start) (taken : Input
 pub record IsPieceAt (q : Tree) (n : ℕ) (r : Input) (k : ℕ) (s : Shares) (of : Mark → List Row → Bool → Type 0) : Type 0 where
   pub shares_are : s ≡ shares_between q r (cut n r k) (cut n r (k + 1))
   pub of_is : of (mark_at r (cut n r k)) (task_rows n r k) (upto n r (k + 1)).ended
+
+module _ (q : Tree) (held : Parts) (s : Shares) where
+  -- over these open parts, what a piece of such shares adds to the text went out
+  abbrev pub Writes : Option (List ℕ) → Option (List ℕ) → Type 0
+  Writes old new = new ≡ appended old (written_by q held (piece_in s))
+
+  -- a prefix of it did
+  abbrev pub WritesFront : Option (List ℕ) → Option (List ℕ) → Type 0
+  WritesFront old new = AppendsPrefix old new (written_by q held (piece_in s))
+
+  -- the parts are those that the piece leaves open
+  abbrev pub Leaves : Parts → Type 0
+  Leaves new = new ≡ left_by q held (piece_in s)

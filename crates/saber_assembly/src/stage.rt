@@ -56,12 +56,10 @@ fn write_text<K: Sink>(sink: &mut K, text: &[u8]) -> Result<(), WriteFault>
 impl<S: Drop, K: Sink> Stage<S, K> {
     ghost use Rattle.std.specs.Prelude.{◌≡◌, ◌≢◌, ◌≤◌, ◌<◌, ◌^◌, ℕ, ◌+◌, [], IfSome, IfNone};
     ghost use Rattle.std.specs.FinMap.{empty};
-    ghost use Rattle.saber_io.specs.Outside.{Rose, appended, AppendsPrefix};
+    ghost use Rattle.saber_io.specs.Outside.{Rose};
     ghost use Rattle.saber_plan.specs.Inputs.{Input, going_on};
-    ghost use Rattle.saber_plan.specs.Tasks.{written_by, left_by};
-    ghost use Rattle.saber_plan.specs.Shares.{piece_in};
     ghost use Rattle.saber_fragment.specs.Stores.{CanTakeIn, TakesIn};
-    ghost use Rattle.saber_assembly.specs.Stages.{seen, Start, Tasks, Keeps, IsPieceAt};
+    ghost use Rattle.saber_assembly.specs.Stages.{seen, Start, Tasks, Keeps, IsPieceAt, Writes, WritesFront, Leaves};
     ghost use Rattle.saber_assembly.specs.declared.stage.State.{State};
     ghost use Rattle.saber_assembly.specs.declared.stage.Absorbed.{Absorbed};
 
@@ -121,15 +119,19 @@ impl<S: Drop, K: Sink> Stage<S, K> {
     ) -> Absorbed
         requires running { self.old.state ≡ State.Running }
         requires few { self.old.k < 2 ^ 62 }
-        requires next { CanTakeIn (O.plan operator.now) (O.held self.old.store) (O.shares operator.now piece) (O.has_taken operator.now self.old.store) (O.is_of operator.now piece) }
-        ensures written { result ≡ Absorbed.Done → K.written self.new.sink ≡ appended (K.written self.old.sink) (written_by (O.plan operator.now) (O.held self.old.store) (piece_in (O.shares operator.now piece))) }
-        ensures left { result ≡ Absorbed.Done → O.held self.new.store ≡ left_by (O.plan operator.now) (O.held self.old.store) (piece_in (O.shares operator.now piece)) }
+        requires next { CanTakeIn (O.plan operator.now) (O.held self.old.store) (O.shares operator.now piece)
+            (O.has_taken operator.now self.old.store) (O.is_of operator.now piece) }
+        ensures written { result ≡ Absorbed.Done → Writes (O.plan operator.now) (O.held self.old.store) (O.shares operator.now piece)
+            (K.written self.old.sink) (K.written self.new.sink) }
+        ensures left { result ≡ Absorbed.Done → Leaves (O.plan operator.now) (O.held self.old.store) (O.shares operator.now piece) (O.held self.new.store) }
         ensures rises { result ≡ Absorbed.Done → self.new.k ≡ self.old.k + 1 }
         ensures runs { result ≡ Absorbed.Done → self.new.state ≡ State.Running }
-        ensures taken { result ≡ Absorbed.Done → TakesIn (O.plan operator.now) (O.held self.old.store) (O.shares operator.now piece) (O.has_taken operator.now self.old.store) (O.is_of operator.now piece) (O.has_taken operator.now self.new.store) }
+        ensures taken { result ≡ Absorbed.Done → TakesIn (O.plan operator.now) (O.held self.old.store) (O.shares operator.now piece)
+            (O.has_taken operator.now self.old.store) (O.is_of operator.now piece) (O.has_taken operator.now self.new.store) }
         ensures stopped { result ≡ Absorbed.Stopped → self.new.state ≢ State.Running }
         ensures stays { result ≡ Absorbed.Stopped → self.new.k ≡ self.old.k }
-        ensures failed { self.new.state ≡ State.SinkFailed → AppendsPrefix (K.written self.old.sink) (K.written self.new.sink) (written_by (O.plan operator.now) (O.held self.old.store) (piece_in (O.shares operator.now piece))) }
+        ensures failed { self.new.state ≡ State.SinkFailed → WritesFront (O.plan operator.now) (O.held self.old.store) (O.shares operator.now piece)
+            (K.written self.old.sink) (K.written self.new.sink) }
         ensures cause { self.new.state ≡ State.SinkFailed → Rose (K.faults self.old.sink) (K.faults self.new.sink) }
         ensures good { self.new.state ≢ State.SinkFailed → K.faults self.new.sink ≡ K.faults self.old.sink }
         ensures memory { self.new.state ≡ State.NoMemory → K.written self.new.sink ≡ K.written self.old.sink }
@@ -169,22 +171,26 @@ impl<S: Drop, K: Sink> Stage<S, K> {
     ) -> Absorbed
         requires running { self.old.state ≡ State.Running }
         requires few { self.old.k < 2 ^ 62 }
-        requires next { IfSome piece (λ p. CanTakeIn (O.plan operator.now) (O.held self.old.store) (O.shares operator.now p) (O.has_taken operator.now self.old.store) (O.is_of operator.now p)) }
+        requires next { IfSome piece (λ p. CanTakeIn (O.plan operator.now) (O.held self.old.store) (O.shares operator.now p)
+            (O.has_taken operator.now self.old.store) (O.is_of operator.now p)) }
 
         // The step of the definitions.
-        ensures written { result ≡ Absorbed.Done → IfSome piece (λ p. K.written self.new.sink ≡ appended (K.written self.old.sink) (written_by (O.plan operator.now) (O.held self.old.store) (piece_in (O.shares operator.now p)))) }
-        ensures left { result ≡ Absorbed.Done → IfSome piece (λ p. O.held self.new.store ≡ left_by (O.plan operator.now) (O.held self.old.store) (piece_in (O.shares operator.now p))) }
+        ensures written { result ≡ Absorbed.Done → IfSome piece (λ p. Writes (O.plan operator.now) (O.held self.old.store) (O.shares operator.now p)
+            (K.written self.old.sink) (K.written self.new.sink)) }
+        ensures left { result ≡ Absorbed.Done → IfSome piece (λ p. Leaves (O.plan operator.now) (O.held self.old.store) (O.shares operator.now p) (O.held self.new.store)) }
         ensures rises { result ≡ Absorbed.Done → self.new.k ≡ self.old.k + 1 }
         ensures runs { result ≡ Absorbed.Done → self.new.state ≡ State.Running }
 
         // And the store has taken in all up to the piece's end.
-        ensures taken { result ≡ Absorbed.Done → IfSome piece (λ p. TakesIn (O.plan operator.now) (O.held self.old.store) (O.shares operator.now p) (O.has_taken operator.now self.old.store) (O.is_of operator.now p) (O.has_taken operator.now self.new.store)) }
+        ensures taken { result ≡ Absorbed.Done → IfSome piece (λ p. TakesIn (O.plan operator.now) (O.held self.old.store) (O.shares operator.now p)
+            (O.has_taken operator.now self.old.store) (O.is_of operator.now p) (O.has_taken operator.now self.new.store)) }
 
         // What a stop leaves, and why it comes.
         ensures stopped { result ≡ Absorbed.Stopped → self.new.state ≢ State.Running }
         ensures stays { result ≡ Absorbed.Stopped → self.new.k ≡ self.old.k }
         ensures none { IfNone piece ((result ≡ Absorbed.Stopped) × (self.new.state ≡ State.NoMemory)) }
-        ensures failed { self.new.state ≡ State.SinkFailed → IfSome piece (λ p. AppendsPrefix (K.written self.old.sink) (K.written self.new.sink) (written_by (O.plan operator.now) (O.held self.old.store) (piece_in (O.shares operator.now p)))) }
+        ensures failed { self.new.state ≡ State.SinkFailed → IfSome piece (λ p. WritesFront (O.plan operator.now) (O.held self.old.store) (O.shares operator.now p)
+            (K.written self.old.sink) (K.written self.new.sink)) }
         ensures cause { self.new.state ≡ State.SinkFailed → Rose (K.faults self.old.sink) (K.faults self.new.sink) }
         ensures good { self.new.state ≢ State.SinkFailed → K.faults self.new.sink ≡ K.faults self.old.sink }
         ensures memory { self.new.state ≡ State.NoMemory → K.written self.new.sink ≡ K.written self.old.sink }

@@ -22,7 +22,7 @@ use Rattle.saber_check.specs.Least.{row, each}
 use Rattle.saber_check.specs.Widths.{name_width, second_width, column_width, factor_width, prod_width, term_width, expr_width, item_width, window_width, source_width, second_source_width, test_width, ands_width, ors_width, where_width, decl_width, group_width, span}
 use Rattle.saber_check.specs.Names.{names, decls, same, among, names_stream, is_declared, is_unknown_stream, is_unknown_column, is_ambiguous}
 use Rattle.saber_check.specs.Bounds.{within, factor_bound, product_bound, product_faults, sum_faults, too_wide, factors, prods, products}
-use Rattle.saber_check.specs.Faults.{column_faults, factor_faults, prod_faults, expr_faults, content_faults, item_faults, column_name_faults, decl_faults, window_faults, source_faults, second_faults, is_sum_wide, is_group, is_key, is_join, is_aggregate, is_out, is_overlapping, among_columns, is_apart, is_selection, test_faults, ands_faults, ors_faults, tests_faults, key_faults, group_faults, keys, items, select_at, from_at, second_at, where_at, group_at, faults, width}
+use Rattle.saber_check.specs.Faults.{column_faults, factor_faults, prod_faults, expr_faults, content_faults, item_faults, column_name_faults, decl_faults, window_faults, source_faults, second_faults, is_sum_wide, is_group, is_key, is_join, is_aggregate, is_out, most_windows, is_overlapping, among_columns, is_apart, is_selection, test_faults, ands_faults, ors_faults, tests_faults, key_faults, group_faults, keys, items, select_at, from_at, second_at, where_at, group_at, faults, width}
 use Rattle.saber_check.proofs.FirstLaws.{every}
 
 -- the faults stand before this word
@@ -154,17 +154,17 @@ decl q k i d =
 
 -- ---- streams
 
-window : (i : ℕ) (w : Window) → Before (i + 6) (window_faults i w)
+window : (most i : ℕ) (w : Window) → Before (i + 6) (window_faults most i w)
 unfolding window_faults
-window i w = append (append (at_row (i + 6) (i + 2) (is_out w.size) cause.WindowRange (omega arith)) (at_row (i + 6) (i + 4) (is_out w.slide) cause.WindowRange (omega arith))) (at_row (i + 6) (i + 2) (is_overlapping w) cause.Overlap (omega arith))
+window most i w = append (append (at_row (i + 6) (i + 2) (is_out w.size) cause.WindowRange (omega arith)) (at_row (i + 6) (i + 4) (is_out w.slide) cause.WindowRange (omega arith))) (at_row (i + 6) (i + 2) (is_overlapping most w) cause.Overlap (omega arith))
 
-windowed : (q : Query) (i : ℕ) (s : List ℕ) (o : Option Window) → Before (i + (1 + window_width o)) (row (not (is_declared q s)) i cause.UnknownStream ++ row (is_selection q && is_some o) (i + 1) cause.Shape ++ row (not (is_selection q) && not (is_some o)) i cause.Shape ++ option_map_or (window_faults (i + 1)) o [])
+windowed : (q : Query) (i : ℕ) (s : List ℕ) (o : Option Window) → Before (i + (1 + window_width o)) (row (not (is_declared q s)) i cause.UnknownStream ++ row (is_selection q && is_some o) (i + 1) cause.Shape ++ row (not (is_selection q) && not (is_some o)) i cause.Shape ++ option_map_or (window_faults (most_windows q) (i + 1)) o [])
 windowed q i s None =
     let n = i + 1 in
     append (append (append (at_row n i (not (is_declared q s)) cause.UnknownStream (omega arith)) (no_row n (i + 1) (is_selection q) cause.Shape)) (at_row n i (not (is_selection q) && true) cause.Shape (omega arith))) (nothing n)
 windowed q i s (Some w) =
     let n = i + 7 in
-    append (append (append (at_row n i (not (is_declared q s)) cause.UnknownStream (omega arith)) (at_row n (i + 1) (is_selection q && is_some (Some w)) cause.Shape (omega arith))) (at_row n i (not (is_selection q) && not (is_some (Some w))) cause.Shape (omega arith))) (more n (window (i + 1) w) (omega arith))
+    append (append (append (at_row n i (not (is_declared q s)) cause.UnknownStream (omega arith)) (at_row n (i + 1) (is_selection q && is_some (Some w)) cause.Shape (omega arith))) (at_row n i (not (is_selection q) && not (is_some (Some w))) cause.Shape (omega arith))) (more n (window (most_windows q) (i + 1) w) (omega arith))
 
 source : (q : Query) (i : ℕ) (s : Source) → Before (i + source_width s) (source_faults q i s)
 unfolding source_faults

@@ -1,12 +1,12 @@
 -- The streams of a query without a fault have windows and columns that fit.
-use Rattle.std.proofs.Common.{◌≡◌, ℕ, ◌+◌, ◌^◌, ◌≤◌, List, [], ◌∷◌, length, map, take, Bool, true, false, ◌&&◌, ◌||◌, not, ◌==◌, Option, Some, None, option_map, option_to_list, is_some, nat_lt, if◌then◌else◌, refl, sym, ap, ◌∙◌, subst, arith}
+use Rattle.std.proofs.Common.{◌≡◌, ℕ, ◌+◌, ◌^◌, ◌≤◌, le_trans, List, [], ◌∷◌, length, map, take, Bool, true, false, ◌&&◌, ◌||◌, not, ◌==◌, Option, Some, None, option_map, option_to_list, is_some, nat_lt, if◌then◌else◌, refl, sym, ap, ◌∙◌, subst, arith}
 use Rattle.std.specs.Option.{option_map_or}
 use Rattle.std.proofs.lemmas.Bool.Decides.{nat_tests}
 use Rattle.saber_plan.specs.declared.windows.Window.{Window as Plan_window}
 use Rattle.saber_plan.specs.declared.windows.Stream.{Stream}
 use Rattle.saber_plan.specs.declared.plans.Shape.TheVariants as shape
 use Rattle.saber_plan.specs.Overlap.{overlap}
-use Rattle.saber_plan.specs.Checked.{WindowFits, Pairs, StreamsFit, ColumnsFit}
+use Rattle.saber_plan.specs.Checked.{most_overlap, most_overlap_joined, WindowFits, Pairs, StreamsFit, ColumnsFit}
 use Rattle.saber_query.specs.declared.fault.Cause.TheVariants as cause
 use Rattle.saber_query.specs.declared.tree.Measure.{Measure}
 use Rattle.saber_query.specs.declared.tree.Measure.TheVariants.{Rows, Range}
@@ -17,7 +17,7 @@ use Rattle.saber_query.specs.Trees.{Query}
 use Rattle.saber_check.specs.Least.{row, each}
 use Rattle.saber_check.specs.Widths.{decl_width, name_width}
 use Rattle.saber_check.specs.Names.{same, names, decls, names_stream, is_declared}
-use Rattle.saber_check.specs.Faults.{is_out, is_overlapping, window_faults, source_faults, second_faults, second_part_faults, same_measure, is_apart, is_group, is_selection, column_name_faults, decl_faults}
+use Rattle.saber_check.specs.Faults.{is_out, most_windows, is_overlapping, is_join, window_faults, source_faults, second_faults, second_part_faults, same_measure, is_apart, is_group, is_selection, column_name_faults, decl_faults}
 use Rattle.saber_check.specs.Plans.{columns, plan_measure, plan_window, plan_stream, plan_shape, streams}
 use Rattle.saber_check.proofs.NoFaults.{passes, rows_and, three_rows_and, first_part, other_parts, few, is_true, neither, not_both}
 
@@ -31,31 +31,41 @@ in_range n e =
     at_least : (m n : ℕ) → nat_lt m n ≡ false → n ≤ m
     at_least m n e = grind (arith, nat_tests)
 
-few_windows : (w : Window) → is_out w.size ≡ false → is_out w.slide ≡ false → is_overlapping w ≡ false → overlap w.size w.slide ≤ 1024
-few_windows w a b e =
-    let h : nat_lt 1024 (overlap w.size w.slide) ≡ false = not_both (not (is_out w.size) && not (is_out w.slide)) (nat_lt 1024 (overlap w.size w.slide)) e (ap (λ (x : Bool). not x && not (is_out w.slide)) a ∙ ap not b) in
+few_windows : (most : ℕ) (w : Window) → is_out w.size ≡ false → is_out w.slide ≡ false → is_overlapping most w ≡ false → overlap w.size w.slide ≤ most
+few_windows most w a b e =
+    let h : nat_lt most (overlap w.size w.slide) ≡ false = not_both (not (is_out w.size) && not (is_out w.slide)) (nat_lt most (overlap w.size w.slide)) e (ap (λ (x : Bool). not x && not (is_out w.slide)) a ∙ ap not b) in
     at_most (overlap w.size w.slide) h
   where
-    at_most : (n : ℕ) → nat_lt 1024 n ≡ false → n ≤ 1024
+    at_most : (n : ℕ) → nat_lt most n ≡ false → n ≤ most
     at_most n e = grind (arith, nat_tests)
 
-window_fits : (i : ℕ) (w : Window) → window_faults i w ≡ [] → WindowFits (plan_window w)
+-- a window that fits, with so many windows at a point at most
+record FitsIn (most : ℕ) (w : Window) : Type 0 where
+  pub fits : WindowFits (plan_window w)
+  pub few : overlap w.size w.slide ≤ most
+
+most_case : (b : Bool) → (if b then most_overlap_joined else most_overlap) ≤ most_overlap
+most_case true = omega arith
+most_case false = omega arith
+
+window_fits : (most i : ℕ) (w : Window) → most ≤ most_overlap → window_faults most i w ≡ [] → FitsIn most w
 unfolding window_faults
-window_fits i w e =
-    let h = rows_and (is_out w.size) (is_out w.slide) (i + 2) (i + 4) cause.WindowRange cause.WindowRange (row (is_overlapping w) (i + 2) cause.Overlap) e in
-    record { size = in_range w.size h.0; slide = in_range w.slide h.1; few = few_windows w h.0 h.1 (passes (is_overlapping w) (i + 2) cause.Overlap h.2) }
+window_fits most i w low e =
+    let h = rows_and (is_out w.size) (is_out w.slide) (i + 2) (i + 4) cause.WindowRange cause.WindowRange (row (is_overlapping most w) (i + 2) cause.Overlap) e in
+    let few = few_windows most w h.0 h.1 (passes (is_overlapping most w) (i + 2) cause.Overlap h.2) in
+    record { fits = record { size = in_range w.size h.0; slide = in_range w.slide h.1; few = le_trans few low }; few = few }
 
 -- the rows of a stream of FROM
 pub record SourcePasses (q : Query) (i : ℕ) (s : Source) : Type 0 where
   pub declared : is_declared q s.name ≡ true
   pub bare : (is_selection q && is_some s.window) ≡ false
   pub windowed : (not (is_selection q) && not (is_some s.window)) ≡ false
-  pub fits : option_map_or (window_faults (i + 1)) s.window [] ≡ []
+  pub fits : option_map_or (window_faults (most_windows q) (i + 1)) s.window [] ≡ []
 
 pub source_passes : (q : Query) (i : ℕ) (s : Source) → source_faults q i s ≡ [] → SourcePasses q i s
 unfolding source_faults
 source_passes q i s e =
-    let h = three_rows_and (not (is_declared q s.name)) (is_selection q && is_some s.window) (not (is_selection q) && not (is_some s.window)) i (i + 1) i cause.UnknownStream cause.Shape cause.Shape (option_map_or (window_faults (i + 1)) s.window []) e in
+    let h = three_rows_and (not (is_declared q s.name)) (is_selection q && is_some s.window) (not (is_selection q) && not (is_some s.window)) i (i + 1) i cause.UnknownStream cause.Shape cause.Shape (option_map_or (window_faults (most_windows q) (i + 1)) s.window []) e in
     record { declared = is_true (is_declared q s.name) h.0; bare = h.1; windowed = h.2; fits = h.3 }
 
 pub second_passes : (q : Query) (i : ℕ) (s : Source) → second_faults q i s ≡ [] → (is_apart q.from.window s.window ≡ false) × (source_faults q i s ≡ [])
@@ -64,15 +74,15 @@ second_passes q i s e =
     let h = rows_and (same q.from.name s.name) (is_apart q.from.window s.window) i (i + 1) cause.DuplicateName cause.Shape (source_faults q i s) e in
     (h.1, h.2)
 
-window_there : (i : ℕ) (o : Option Window) → is_some o ≡ true → option_map_or (window_faults (i + 1)) o [] ≡ [] → (w : Window) × (o ≡ Some w) × WindowFits (plan_window w)
-window_there i None t f = cc
-window_there i (Some w) t f = (w, refl, window_fits (i + 1) w f)
+window_there : (most i : ℕ) (o : Option Window) → most ≤ most_overlap → is_some o ≡ true → option_map_or (window_faults most (i + 1)) o [] ≡ [] → (w : Window) × (o ≡ Some w) × FitsIn most w
+window_there most i None low t f = cc
+window_there most i (Some w) low t f = (w, refl, window_fits most (i + 1) w low f)
 
 -- a stream that must have a window has one that fits
-windowed : (q : Query) (i : ℕ) (s : Source) → is_selection q ≡ false → source_faults q i s ≡ [] → (w : Window) × (s.window ≡ Some w) × WindowFits (plan_window w)
+windowed : (q : Query) (i : ℕ) (s : Source) → is_selection q ≡ false → source_faults q i s ≡ [] → (w : Window) × (s.window ≡ Some w) × FitsIn (most_windows q) w
 windowed q i s n e =
     let h = source_passes q i s e in
-    window_there i s.window (is_true (is_some s.window) (not_both (not (is_selection q)) (not (is_some s.window)) h.windowed (ap not n))) h.fits
+    window_there (most_windows q) i s.window (most_case (is_join q)) (is_true (is_some s.window) (not_both (not (is_selection q)) (not (is_some s.window)) h.windowed (ap not n))) h.fits
 
 none_there : (o : Option Window) → is_some o ≡ false → o ≡ None
 none_there None e = refl
@@ -92,10 +102,10 @@ alike true true e = (refl, refl)
 alike true false e = cc
 alike false b e = cc
 
-pairs : (v w : Window) → is_apart (Some v) (Some w) ≡ false → Pairs (plan_window v) (plan_window w)
-pairs v w e =
+pairs : (v w : Window) → overlap v.size v.slide ≤ most_overlap_joined → overlap w.size w.slide ≤ most_overlap_joined → is_apart (Some v) (Some w) ≡ false → Pairs (plan_window v) (plan_window w)
+pairs v w few more e =
     let h = alike (same_measure v.measure w.measure) (v.slide == w.slide) e in
-    record { measure = same_measures v.measure w.measure h.0; slide = equal v.slide w.slide h.1 }
+    record { measure = same_measures v.measure w.measure h.0; slide = equal v.slide w.slide h.1; few_left = few; few_right = more }
   where
     equal : (m n : ℕ) → (m == n) ≡ true → m ≡ n
     equal m n e = grind (arith, nat_tests)
@@ -113,7 +123,9 @@ joins q i j s e f g =
     let a = windowed q i q.from n f in
     let b = windowed q j s n h.1 in
     let p : is_apart (Some a.0) (Some b.0) ≡ false = subst (λ (o : Option Window). is_apart o (Some b.0) ≡ false) a.1 (subst (λ (o : Option Window). is_apart q.from.window o ≡ false) b.1 h.0) in
-    (plan_window a.0, plan_window b.0, ap (option_map plan_window) a.1, ap (option_map plan_window) b.1, a.2, b.2, pairs a.0 b.0 p)
+    let joined : most_windows q ≡ most_overlap_joined = ap (λ (o : Option Source). if is_some o then most_overlap_joined else most_overlap) e in
+    let few : (w : Window) → FitsIn (most_windows q) w → overlap w.size w.slide ≤ most_overlap_joined = λ w f. subst (λ n. overlap w.size w.slide ≤ n) joined f.few in
+    (plan_window a.0, plan_window b.0, ap (option_map plan_window) a.1, ap (option_map plan_window) b.1, a.2.fits, b.2.fits, pairs a.0 b.0 (few a.0 a.2) (few b.0 b.2) p)
 
 one_fits : (g : Bool) (s : Stream) → (g ≡ true → (w : Plan_window) × (s.window ≡ Some w) × WindowFits w) → (g ≡ false → s.window ≡ None) → StreamsFit (if g then shape.Group else shape.Select) (s ∷ [])
 one_fits true s a b = a refl
@@ -123,7 +135,7 @@ alone : (q : Query) (i : ℕ) → q.second ≡ None → source_faults q i q.from
 alone q i e f =
     let n : is_selection q ≡ not (is_group q) = ap (λ (o : Option Source). not (is_some o) && not (is_group q)) e in
     one_fits (is_group q) (plan_stream q q.from)
-    (λ g. let a = windowed q i q.from (n ∙ ap not g) f in (plan_window a.0, ap (option_map plan_window) a.1, a.2))
+    (λ g. let a = windowed q i q.from (n ∙ ap not g) f in (plan_window a.0, ap (option_map plan_window) a.1, a.2.fits))
     (λ g. ap (option_map plan_window) (bare q i q.from (n ∙ ap not g) f))
 
 pub streams_fit : (q : Query) (i j : ℕ) → source_faults q i q.from ≡ [] → second_part_faults q j ≡ [] → StreamsFit (plan_shape q) (map (plan_stream q) (streams q))

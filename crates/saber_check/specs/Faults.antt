@@ -1,8 +1,9 @@
 -- What is wrong with a query whose words are right: each fault with the index of the word where it stands (this project's
 -- rules on queries). Each table below is a list of rows; a row is a test, a place and a cause. In each, i is the index of
 -- the part's first word, and k counts the parts of its kind before it.
-use Rattle.std.specs.Prelude.{ℕ, ◌+◌, ◌^◌, ◌==◌, List, [], ◌∷◌, ◌++◌, length, take, Bool, true, false, not, ◌&&◌, ◌||◌, nat_lt, Option, Some, None, is_some}
+use Rattle.std.specs.Prelude.{if◌then◌else◌, ℕ, ◌+◌, ◌^◌, ◌==◌, List, [], ◌∷◌, ◌++◌, length, take, Bool, true, false, not, ◌&&◌, ◌||◌, nat_lt, Option, Some, None, is_some}
 use Rattle.std.specs.Option.{option_map_or}
+use Rattle.saber_plan.specs.Checked.{most_overlap, most_overlap_joined}
 use Rattle.saber_plan.specs.Overlap.{overlap}
 use Rattle.saber_query.specs.declared.tree.Column.{Column}
 use Rattle.saber_query.specs.declared.tree.Factor.{Factor}
@@ -151,13 +152,17 @@ decl_faults q k i d =
 abbrev pub is_out : ℕ → Bool
 is_out n = nat_lt n 1 || nat_lt 1099511627776 n
 
--- no point may lie in more than 1,024 windows
-abbrev pub is_overlapping : Window → Bool
-is_overlapping w = not (is_out w.size) && not (is_out w.slide) && nat_lt 1024 (overlap w.size w.slide)
+-- in how many windows a point may lie: fewer in a join, where a row goes with others in each of its windows
+abbrev pub most_windows : Query → ℕ
+most_windows q = if is_join q then most_overlap_joined else most_overlap
+
+-- a point lies in too many windows
+abbrev pub is_overlapping : ℕ → Window → Bool
+is_overlapping most w = not (is_out w.size) && not (is_out w.slide) && nat_lt most (overlap w.size w.slide)
 
 -- i is the index of its bracket
-unfoldable pub window_faults : ℕ → Window → List Fault
-window_faults i w = row (is_out w.size) (i + 2) cause.WindowRange ++ row (is_out w.slide) (i + 4) cause.WindowRange ++ row (is_overlapping w) (i + 2) cause.Overlap
+unfoldable pub window_faults : ℕ → ℕ → Window → List Fault
+window_faults most i w = row (is_out w.size) (i + 2) cause.WindowRange ++ row (is_out w.slide) (i + 4) cause.WindowRange ++ row (is_overlapping most w) (i + 2) cause.Overlap
 
 -- a stream of FROM: declared, without a window in a selection, with one in every other query
 unfoldable pub source_faults : Query → ℕ → Source → List Fault
@@ -165,7 +170,7 @@ source_faults q i s =
     row (not (is_declared q s.name)) i cause.UnknownStream
     ++ row (is_selection q && is_some s.window) (i + 1) cause.Shape
     ++ row (not (is_selection q) && not (is_some s.window)) i cause.Shape
-    ++ option_map_or (window_faults (i + 1)) s.window []
+    ++ option_map_or (window_faults (most_windows q) (i + 1)) s.window []
 
 -- both count rows, or both timestamps
 abbrev pub same_measure : Measure → Measure → Bool

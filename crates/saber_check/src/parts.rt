@@ -11,7 +11,7 @@ use crate::bounds::{column_words, is_sum_wide};
 use crate::names::{is_among, is_declared, is_named};
 use crate::shape::{
     is_aggregate, is_among_columns, is_apart, is_group, is_join, is_key, is_out, is_overlapping,
-    is_selection, same_column,
+    is_selection, most_windows, same_column,
 };
 use crate::walk::Walk;
 use saber_query::{Cause, Column, Decl, Expr, Item, Keys, Name, Select, Source, Window};
@@ -114,14 +114,14 @@ impl Walk {
     }
 
     #[tactic(auto, using(crate::proofs::Lemmas::walking), unfolding(crate::specs::Faults::window_faults))]
-    fn window(&mut self, window: Window)
+    fn window(&mut self, most: u64, window: Window)
         requires { Room self.old 6 }
-        ensures { Visits self.old self.new 6 (window_faults self.old.index window) }
+        ensures { Visits self.old self.new 6 (window_faults most self.old.index window) }
     {
         let start = self.index;
         self.report(is_out(window.size), start + 2, Cause::WindowRange);
         self.report(is_out(window.slide), start + 4, Cause::WindowRange);
-        self.report(is_overlapping(window), start + 2, Cause::Overlap);
+        self.report(is_overlapping(most, window), start + 2, Cause::Overlap);
         self.skip(6);
     }
 
@@ -143,7 +143,7 @@ impl Walk {
         self.report(bare, start, Cause::Shape);
         self.skip(1);
         if let Some(window) = source.window {
-            self.window(window);
+            self.window(most_windows(query), window);
         }
     }
 

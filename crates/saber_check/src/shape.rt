@@ -3,7 +3,7 @@ ghost use Rattle.std.specs.Prelude.{◌≡◌, ◌≤◌, ◌^◌, ◌&&◌, ◌
 ghost use Rattle.std.specs.Option.{option_map_or};
 ghost use Rattle.saber_query.specs.Trees.{query_of};
 ghost use Rattle.saber_check.specs.Names.{is_of_first, is_of_second};
-ghost use Rattle.saber_check.specs.Faults.{any_aggregate, is_aggregate, is_join, is_group, is_selection, same_measure, is_apart, is_out, is_overlapping, own_name, same_second, same_words, same_column, among_columns, is_column_key, is_key, keys};
+ghost use Rattle.saber_check.specs.Faults.{any_aggregate, is_aggregate, is_join, is_group, is_selection, same_measure, is_apart, is_out, most_windows, is_overlapping, own_name, same_second, same_words, same_column, among_columns, is_column_key, is_key, keys};
 
 use crate::names::{is_of_first, is_of_second};
 use saber_plan::overlap;
@@ -86,14 +86,21 @@ pub(crate) fn is_out(number: u64) -> bool
     number < 1 || 1_099_511_627_776 < number
 }
 
+/// In how many windows a point may lie: this project's limit, and that for each stream of a join.
+pub(crate) fn most_windows(query: &Select) -> u64
+    ensures { result ≡ most_windows (query_of query.now) }
+{
+    if is_join(query) { 1024 } else { 65_536 }
+}
+
 /// A point lies in too many windows.
-pub(crate) fn is_overlapping(window: Window) -> bool
-    ensures { result ≡ is_overlapping window }
+pub(crate) fn is_overlapping(most: u64, window: Window) -> bool
+    ensures { result ≡ is_overlapping most window }
 {
     if is_out(window.size) || is_out(window.slide) {
         return false;
     }
-    1024 < overlap(window.size, window.slide)
+    most < overlap(window.size, window.slide)
 }
 
 pub(crate) fn own_name(column: &Column) -> &Name

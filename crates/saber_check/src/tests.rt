@@ -33,7 +33,8 @@ fn passes(rt: HostRuntime) -> Result<(), Fail> {
         "SELECT v*v FROM S;",
         "SELECT -9223372036854775808 FROM S",
         "SELECT S.v*2-1 FROM S WHERE NOT (S.g = 1 OR v <> -1) AND t >= 0",
-        "SELECT COUNT(*) FROM S [RANGE 1024 SLIDE 1]",
+        "SELECT COUNT(*) FROM S [RANGE 1025 SLIDE 1]",
+        "SELECT COUNT(*) FROM S [RANGE 65536 SLIDE 1]",
         "SELECT COUNT(*) FROM S [ROWS 1099511627776 SLIDE 1099511627776]",
         "SELECT SUM(8388608*v), MIN(v), MAX(v) FROM S [ROWS 2 SLIDE 2]",
         "SELECT COUNT(*), g FROM S [RANGE 2 SLIDE 1] GROUP BY S.g",
@@ -271,7 +272,7 @@ fn windows(rt: HostRuntime) -> Result<(), Fail> {
     let alloc = rt.alloc();
     for (text, byte, cause) in [
         (
-            "SELECT COUNT(*) FROM S [RANGE 1025 SLIDE 1]",
+            "SELECT COUNT(*) FROM S [RANGE 65537 SLIDE 1]",
             47u64,
             Cause::Overlap,
         ),

@@ -1,12 +1,12 @@
 -- A run over the bytes of open sources, from that of the engine.
-use Rattle.std.proofs.Common.{Bool, ◌≡◌, ℕ, List, [], Option, Some, None, IfSome, refl, sym, ap, subst, append-nil}
+use Rattle.std.proofs.Common.{Bool, ◌≡◌, ℕ, List, [], Option, Some, None, IfSome, refl, sym, subst}
 use Rattle.saber_plan.specs.declared.rows.Side.{Side}
 use Rattle.saber_plan.specs.declared.rows.Side.TheVariants as sides
 use Rattle.saber_plan.specs.Rows.{Read}
 use Rattle.saber_plan.specs.Trees.{Tree}
 use Rattle.saber_plan.specs.Tasks.{run_input}
 use Rattle.saber_plan.specs.Checked.{IsChecked}
-use Rattle.saber_io.specs.Outside.{appended}
+use Rattle.saber_plan.specs.Sizes.{FileLimits}
 use Rattle.saber_engine.specs.declared.ends.RunEnd.{RunEnd}
 use Rattle.saber_engine.specs.declared.ends.RunEnd.TheVariants as ends
 use Rattle.saber_engine.specs.Sources.{input_of}
@@ -61,11 +61,11 @@ none_ends q n ring flush read WriteFault h = absurd h
 none_ends q n ring flush read NoMemory h = (tt, tt)
 
 -- files that gave nothing, whether they are there or not
-pub no_answer : Laws → (q : Tree) (n ring most : ℕ) (flush : Bool) (content : Option (List (List ℕ))) (o : Outcome) → IsChecked q → IsUnopened o → AnsweredIn q n ring most flush content o 0 []
-no_answer ls q n ring most flush None o k h = (unopened_no_end o h, refl, refl)
-no_answer ls q n ring most flush (Some all) o k h = record {
-  ends = none_ends q n ring flush (input_of q most all) o (unopened_no_end o h);
-  puts = nothing_assembled ls q n (run_input q flush (input_of q most all)) o k (no_end_early o (unopened_no_end o h));
+pub no_answer : Laws → (q : Tree) (n ring : ℕ) (limits : FileLimits) (flush : Bool) (content : Option (List (List ℕ))) (o : Outcome) → IsChecked q → IsUnopened o → AnsweredIn q n ring limits flush content o 0 []
+no_answer ls q n ring limits flush None o k h = (unopened_no_end o h, refl, refl)
+no_answer ls q n ring limits flush (Some all) o k h = record {
+  ends = none_ends q n ring flush (input_of q limits all) o (unopened_no_end o h);
+  puts = nothing_assembled ls q n (run_input q flush (input_of q limits all)) o k (no_end_early o (unopened_no_end o h));
 }
 
 pub unopened_of_run : (o : Outcome) → IsUnopened o → IsOfRun o
@@ -83,10 +83,6 @@ unopened_of_run WriteFault h = absurd h
 unopened_of_run NoMemory h = tt
 
 -- ---- over sources that may tell their bytes
-
-pub appended_none : (o : Option (List ℕ)) → o ≡ appended o []
-appended_none None = refl
-appended_none (Some w) = ap Some (sym (append-nil w))
 
 pub for_any : {X : Type 0} (P : X → Type 0) (o : Option X) → ((x : X) → P x) → IfSome o P
 for_any P None h = tt
@@ -118,10 +114,10 @@ run_answered q n ring flush read e o tasks out t g = subst (λ p. Answered q n r
 })
 
 -- the same where the sources tell their bytes
-pub told_answered : (q : Tree) (n ring most : ℕ) (flush : Bool) (left : Option (List (List ℕ))) (e : RunEnd) (o : Outcome) (tasks : ℕ) (out : List ℕ) → o ≡ ended_as ring e
-    → IfSome left (λ all. engine.Gives q n ring flush (input_of q most all) e tasks out) → IfSome left (λ all. Answered q n ring flush (input_of q most all) o tasks out)
-told_answered q n ring most flush None e o tasks out t g = tt
-told_answered q n ring most flush (Some all) e o tasks out t g = run_answered q n ring flush (input_of q most all) e o tasks out t g
+pub told_answered : (q : Tree) (n ring : ℕ) (limits : FileLimits) (flush : Bool) (left : Option (List (List ℕ))) (e : RunEnd) (o : Outcome) (tasks : ℕ) (out : List ℕ) → o ≡ ended_as ring e
+    → IfSome left (λ all. engine.Gives q n ring flush (input_of q limits all) e tasks out) → IfSome left (λ all. Answered q n ring flush (input_of q limits all) o tasks out)
+told_answered q n ring limits flush None e o tasks out t g = tt
+told_answered q n ring limits flush (Some all) e o tasks out t g = run_answered q n ring flush (input_of q limits all) e o tasks out t g
 
 -- a fault of writing is its own
 pub write_by : (ring : ℕ) (e : RunEnd) → ended_as ring e ≡ WriteFault → e ≡ ends.WriteFault

@@ -1,6 +1,6 @@
 -- What is due for a command, from what was read of its query.
 use Rattle.saber_plan.specs.Inputs.{Input}
-use Rattle.std.proofs.Common.{◌≡◌, ◌⊎◌, inl, inr, ℕ, List, [], Some, None, refl, sym, ◌∙◌, ap, subst, arith}
+use Rattle.std.proofs.Common.{◌≡◌, ◌⊎◌, ⊎_elim, inl, inr, ℕ, List, [], Some, None, refl, sym, ◌∙◌, ap, subst, arith}
 use Rattle.saber_plan.specs.Trees.{Tree}
 use Rattle.saber_plan.specs.Tasks.{upto, run_input}
 use Rattle.saber_plan.specs.Answers.{text}
@@ -8,7 +8,7 @@ use Rattle.saber_plan.specs.Checked.{IsChecked}
 use Rattle.saber_io.specs.Outside.{content_in}
 use Rattle.saber_query.specs.declared.fault.Cause.{Cause}
 use Rattle.saber_check.specs.Texts.{HasPlan, HasFault}
-use Rattle.saber_words.specs.Commands.{Asked, run, check, AskedRun}
+use Rattle.saber_words.specs.Commands.{Asked, run, check, demo, AskedRun}
 use Rattle.saber_notes.specs.declared.outcome.Outcome.{Outcome}
 use Rattle.saber_notes.specs.declared.outcome.Outcome.TheVariants.{Done, Usage, FileCount, QueryFault, LineRefused, OpenFault, ReadFault, TooWide, WriteFault, NoMemory}
 use Rattle.saber_cli.specs.Laws.{Laws}
@@ -16,7 +16,7 @@ use Rattle.saber_cli.specs.Outcomes.{IsEarly, IsFileFault, IsQueryUnread}
 use Rattle.saber_cli.specs.Texts.{BeginsFile}
 use Rattle.saber_engine.specs.Gives.{Assembles, Reach, all_tasks, before_task, first_tasks, cut_off, reach_of}
 use Rattle.saber_cli.specs.Endings.{end_of}
-use Rattle.saber_cli.specs.Due.{Contents, Due, usage, missing, faulty, unlike, shows, runs, IsDueFor, HasRun}
+use Rattle.saber_cli.specs.Due.{Contents, Due, usage, missing, faulty, unlike, shows, tells, runs, IsDueFor, HasRun}
 use Rattle.saber_cli.specs.Causes.{Allows}
 use Rattle.saber_cli.specs.Puts.{PutsOut, no_text}
 
@@ -66,11 +66,16 @@ run_checked ls files r q h = ls.plan_checked h.text q h.plan
 pub early_puts : Laws → (files : Contents) (c : Asked) (o : Outcome) (d : Due) → IsEarly o → IsDueFor files c d → PutsOut d o 0 []
 early_puts ls files c o usage h d = (refl, refl)
 early_puts ls files c o missing h d = (refl, refl)
+early_puts ls files c o (tells text count) h d = (
+  record { few = omega arith; all = λ e. absurd (⊎_elim (λ a. subst IsEarly a h) (λ a. subst IsEarly a h) e) },
+  no_text (λ e. subst IsEarly e h) refl,
+)
 early_puts ls files c o (faulty b k) h d = (refl, refl)
 early_puts ls files c o (unlike s g) h d = (refl, refl)
 early_puts ls files c o (shows out) h d = (refl, no_text (λ e. subst IsEarly e h) refl)
 early_puts ls files (run r) o (runs q n ring flush read) h d = nothing_assembled ls q n (run_input q flush read) o (run_checked ls files r q d.1) h
 early_puts ls files (check r) o (runs q n ring flush read) h d = absurd d
+early_puts ls files (demo x) o (runs q n ring flush read) h d = absurd d
 
 -- ---- a fault of the query's file, and want of memory
 
@@ -86,16 +91,35 @@ unread_fault (TooWide t n r) h = h
 unread_fault WriteFault h = h
 unread_fault NoMemory h = h
 
-pub lacks_allowed : (files : Contents) (c : Asked) (o : Outcome) (d : Due) → IsQueryUnread o ⊎ (o ≡ NoMemory) → IsDueFor files c d → Allows d o
-lacks_allowed files c o usage h d = absurd d
-lacks_allowed files c o missing (inl f) d = inl (unread_fault o f)
-lacks_allowed files c o missing (inr m) d = inr m
-lacks_allowed files c o (faulty b k) h d = inr h
-lacks_allowed files c o (unlike s g) h d = inr h
-lacks_allowed files c o (shows out) (inl f) d = inr (inl (unread_fault o f))
-lacks_allowed files c o (shows out) (inr m) d = inr (inr (inr m))
-lacks_allowed files c o (runs q n ring flush read) (inl f) d = inr (inl (unread_fault o f))
-lacks_allowed files c o (runs q n ring flush read) (inr m) d = inr (inr (inr m))
+-- it has a query file
+abbrev pub HasQuery : Asked → Type 0
+HasQuery (run r) = Unit {0}
+HasQuery (check c) = Unit {0}
+HasQuery (demo x) = ⊥
+
+pub lacks_allowed : (files : Contents) (c : Asked) (o : Outcome) (d : Due) → HasQuery c → IsQueryUnread o ⊎ (o ≡ NoMemory) → IsDueFor files c d → Allows d o
+lacks_allowed files c o usage a h d = absurd d
+lacks_allowed files c o missing a (inl f) d = inl (unread_fault o f)
+lacks_allowed files c o missing a (inr m) d = inr m
+lacks_allowed files c o (faulty b k) a h d = inr h
+lacks_allowed files c o (unlike s g) a h d = inr h
+lacks_allowed files c o (shows out) a (inl f) d = inr (inl (unread_fault o f))
+lacks_allowed files c o (shows out) a (inr m) d = inr (inr (inr m))
+lacks_allowed files (run r) o (tells out count) a h d = absurd d
+lacks_allowed files (check r) o (tells out count) a h d = absurd d
+lacks_allowed files (demo x) o (tells out count) a h d = absurd a
+lacks_allowed files c o (runs q n ring flush read) a (inl f) d = inr (inl (unread_fault o f))
+lacks_allowed files c o (runs q n ring flush read) a (inr m) d = inr (inr (inr m))
+
+-- want of memory is allowed wherever something is due for a command
+pub memory_allowed_for : (files : Contents) (c : Asked) (d : Due) → IsDueFor files c d → Allows d NoMemory
+memory_allowed_for files c usage d = absurd d
+memory_allowed_for files c missing d = inr refl
+memory_allowed_for files c (faulty b k) d = inr (inr refl)
+memory_allowed_for files c (unlike s g) d = inr (inr refl)
+memory_allowed_for files c (shows out) d = inr (inr (inr refl))
+memory_allowed_for files c (tells out count) d = inr (inr refl)
+memory_allowed_for files c (runs q n ring flush read) d = inr (inr (inr refl))
 
 -- ---- one text, one plan
 

@@ -9,3 +9,5 @@ pub mod RunLemmas
 pub mod ShowLemmas
 pub mod WordLemmas
 pub mod WorkedEnds
+pub mod DemoLemmas
+pub mod WorkedDemo

@@ -7,6 +7,7 @@ use Rattle.saber_io.specs.Outside.{Told, Closed, Opens, OpensIn, Rose, asking, c
 use Rattle.saber_plan.specs.declared.rows.Side.{Side}
 use Rattle.saber_plan.specs.declared.rows.Side.TheVariants as sides
 use Rattle.saber_plan.specs.Trees.{Tree}
+use Rattle.saber_plan.specs.Sizes.{FileLimits}
 use Rattle.saber_dispatch.specs.declared.inputs.Inputs.{Inputs}
 use Rattle.saber_dispatch.specs.declared.inputs.Inputs.TheVariants.{One, Two}
 use Rattle.saber_engine.specs.Sources.{each_input, told_by, RoseAt, GaveAll, input_of}
@@ -202,10 +203,10 @@ opened_same contents [] (h ∷ hs) o = absurd o
 opened_same contents (n ∷ ns) [] o = absurd o
 opened_same contents (n ∷ ns) (h ∷ hs) o = λ i. (o.0.2 ∙ sym o.0.1) i ∷ opened_same contents ns hs o.1 i
 
-takes_told : (q : Tree) (n most tasks : ℕ) (names : List (List ℕ)) (hads : List (Option (List ℕ))) (back : List Closed) (told : Option Told) → IfSome told (λ t. OpensAll t.contents names hads) → ReadsWhole q n most tasks hads (map (λ s. s.0) back)
-    → IfSome told (λ t. TakesOf q n most tasks t.contents names back)
-takes_told q n most tasks names hads back None o w = tt
-takes_told q n most tasks names hads back (Some t) o w = subst (λ x. ReadsWhole q n most tasks x (map (λ s. s.0) back)) (opened_same t.contents names hads o) w
+takes_told : (q : Tree) (n : ℕ) (limits : FileLimits) (tasks : ℕ) (names : List (List ℕ)) (hads : List (Option (List ℕ))) (back : List Closed) (told : Option Told) → IfSome told (λ t. OpensAll t.contents names hads) → ReadsWhole q n limits tasks hads (map (λ s. s.0) back)
+    → IfSome told (λ t. TakesOf q n limits tasks t.contents names back)
+takes_told q n limits tasks names hads back None o w = tt
+takes_told q n limits tasks names hads back (Some t) o w = subst (λ x. ReadsWhole q n limits tasks x (map (λ s. s.0) back)) (opened_same t.contents names hads o) w
 
 -- ---- a run over open sources, of inputs as they were and as they are
 
@@ -228,12 +229,12 @@ module _ {S : Type 0} (left : S → Option (List ℕ)) (faults : S → ℕ) wher
 
   -- ---- what was taken
 
-  pub run_takes : (q : Tree) (n most tasks : ℕ) (names : List (List ℕ)) (i j : Inputs S) (a b c : Option Told) → IfSome a (λ t. OpensAll t.contents names (each_input left i)) → b ≡ using a names [] → c ≡ using b [] (backs left faults j)
-      → ReadsWhole q n most tasks (each_input left i) (each_input left j) → TakesRows q n most tasks names a c
-  run_takes q n most tasks names i j a b c opens asked closed w = record {
+  pub run_takes : (q : Tree) (n : ℕ) (limits : FileLimits) (tasks : ℕ) (names : List (List ℕ)) (i j : Inputs S) (a b c : Option Told) → IfSome a (λ t. OpensAll t.contents names (each_input left i)) → b ≡ using a names [] → c ≡ using b [] (backs left faults j)
+      → ReadsWhole q n limits tasks (each_input left i) (each_input left j) → TakesRows q n limits tasks names a c
+  run_takes q n limits tasks names i j a b c opens asked closed w = record {
     given_back = backs left faults j;
     told = both_used a b c names (backs left faults j) asked closed;
-    takes = takes_told q n most tasks names (each_input left i) (backs left faults j) a opens (subst (ReadsWhole q n most tasks (each_input left i)) (sym (lefts_of left faults j)) w);
+    takes = takes_told q n limits tasks names (each_input left i) (backs left faults j) a opens (subst (ReadsWhole q n limits tasks (each_input left i)) (sym (lefts_of left faults j)) w);
   }
 
   -- ---- what was answered
@@ -252,12 +253,12 @@ module _ {S : Type 0} (left : S → Option (List ℕ)) (faults : S → ℕ) wher
   )
   all_told contents (n ∷ m ∷ l ∷ ns) (Two s t) o = absurd o.1.1
 
-  pub run_answers : (q : Tree) (n ring most : ℕ) (flush : Bool) (names : List (List ℕ)) (o : Outcome) (tasks : ℕ) (out : List ℕ) (i : Inputs S) (told : Option Told) → IfSome told (λ t. OpensAll t.contents names (each_input left i))
-      → IfSome (told_by left i) (λ all. Answered q n ring flush (input_of q most all) o tasks out) → IfSome told (λ t. AnsweredIn q n ring most flush (contents_of t.contents names) o tasks out)
-  run_answers q n ring most flush names o tasks out i None opens h = tt
-  run_answers q n ring most flush names o tasks out i (Some t) opens h =
+  pub run_answers : (q : Tree) (n ring : ℕ) (limits : FileLimits) (flush : Bool) (names : List (List ℕ)) (o : Outcome) (tasks : ℕ) (out : List ℕ) (i : Inputs S) (told : Option Told) → IfSome told (λ t. OpensAll t.contents names (each_input left i))
+      → IfSome (told_by left i) (λ all. Answered q n ring flush (input_of q limits all) o tasks out) → IfSome told (λ t. AnsweredIn q n ring limits flush (contents_of t.contents names) o tasks out)
+  run_answers q n ring limits flush names o tasks out i None opens h = tt
+  run_answers q n ring limits flush names o tasks out i (Some t) opens h =
       let a = all_told t.contents names i opens in
-      subst (λ x. AnsweredIn q n ring most flush x o tasks out) (sym a.1) (subst (λ x. IfSome x (λ all. Answered q n ring flush (input_of q most all) o tasks out)) a.2 h)
+      subst (λ x. AnsweredIn q n ring limits flush x o tasks out) (sym a.1) (subst (λ x. IfSome x (λ all. Answered q n ring flush (input_of q limits all) o tasks out)) a.2 h)
 
   -- ---- counts of files
 

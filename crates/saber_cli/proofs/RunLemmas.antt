@@ -3,6 +3,7 @@ use Rattle.std.proofs.Common.{Bool, ◌≡◌, ◌⊎◌, inl, inr, ℕ, List, [
 use Rattle.saber_plan.specs.Rows.{Read}
 use Rattle.saber_plan.specs.Trees.{Tree}
 use Rattle.saber_io.specs.Outside.{Told, content_in}
+use Rattle.saber_plan.specs.Sizes.{FileLimits}
 use Rattle.saber_query.specs.declared.fault.Cause.{Cause}
 use Rattle.saber_check.specs.Texts.{HasPlan, HasFault}
 use Rattle.saber_words.specs.Commands.{Asked, run, AskedRun}
@@ -17,18 +18,18 @@ use Rattle.saber_cli.specs.Texts.{BeginsFile}
 use Rattle.saber_cli.specs.Endings.{EndsSo}
 use Rattle.saber_cli.specs.Answered.{Answered, AnsweredIn}
 use Rattle.saber_cli.specs.Planned.{IsTextFault}
-use Rattle.saber_cli.specs.Due.{Contents, Due, usage, missing, faulty, unlike, shows, runs, IsDueFor, AsksRows, HasRun, IsLike, no_query, no_rows, row_names, contents_of}
+use Rattle.saber_cli.specs.Due.{Contents, Due, usage, missing, faulty, unlike, shows, tells, runs, IsDueFor, AsksRows, HasRun, IsLike, no_query, no_rows, row_names, contents_of, asked_limits}
 use Rattle.saber_cli.specs.Causes.{HasCause, Allows, Ends}
 use Rattle.saber_cli.specs.Puts.{PutsOut}
 use Rattle.saber_cli.specs.Gives.{Gives}
 use Rattle.saber_cli.proofs.LeavesLemmas.{IsRefused}
-use Rattle.saber_cli.proofs.DueLemmas.{early_puts, lacks_allowed, run_plan, run_or_fault, same_refusal, there_not_missing, begun_plan, begun_fault}
+use Rattle.saber_cli.proofs.DueLemmas.{HasQuery, early_puts, lacks_allowed, run_plan, run_or_fault, same_refusal, there_not_missing, begun_plan, begun_fault}
 
 -- ---- sizes
 
 -- a fact of four sizes, of equal ones
-pub sized : (P : ℕ → ℕ → ℕ → Bool → Type 0) (n ring m task cells most : ℕ) (b flush : Bool) → n ≡ task → ring ≡ cells → m ≡ most → b ≡ flush → P n ring m b → P task cells most flush
-sized P n ring m task cells most b flush e f g h k = subst (P task cells most) h (subst (λ x. P task cells x b) g (subst (λ x. P task x m b) f (subst (λ x. P x ring m b) e k)))
+pub sized : (P : ℕ → ℕ → FileLimits → Bool → Type 0) (n ring task cells : ℕ) (m limits : FileLimits) (b flush : Bool) → n ≡ task → ring ≡ cells → m ≡ limits → b ≡ flush → P n ring m b → P task cells limits flush
+sized P n ring task cells m limits b flush e f g h k = subst (P task cells limits) h (subst (λ x. P task cells x b) g (subst (λ x. P task x m b) f (subst (λ x. P x ring m b) e k)))
 
 -- ---- no text of a query
 
@@ -81,10 +82,10 @@ no_end_cause due WriteFault h = absurd h
 no_end_cause due NoMemory h = tt
 
 -- a query file that could not be read, or memory that lacked
-pub gives_no_text : Laws → (files : Contents) (c : Asked) (o : Outcome) → IsOfQuery o → Gives files c o 0 []
-gives_no_text ls files c o h = record {
+pub gives_no_text : Laws → (files : Contents) (c : Asked) → HasQuery c → (o : Outcome) → IsOfQuery o → Gives files c o 0 []
+gives_no_text ls files c a o h = record {
   cause = no_end_cause (IsDueFor files c) o (query_no_end o h);
-  allows = λ d k. lacks_allowed files c o d (query_lacks o h) k;
+  allows = λ d k. lacks_allowed files c o d a (query_lacks o h) k;
   puts = λ d k. early_puts ls files c o d (no_end_early o (query_no_end o h)) k;
 }
 
@@ -95,6 +96,7 @@ refused_allowed : Laws → (files : Contents) (r : AskedRun) (whole : List ℕ) 
 refused_allowed ls files r whole byte cause usage e f d = absurd d
 refused_allowed ls files r whole byte cause missing e f (no_query m) = absurd (there_not_missing files r.query whole e m)
 refused_allowed ls files r whole byte cause missing e f (no_rows asked q s h l m) = let same : run r ≡ run asked = s in let same_run : r ≡ asked = cc in absurd (run_or_fault ls files r q whole byte cause (subst (λ a. HasRun files a q) (sym same_run) h) e f)
+refused_allowed ls files r whole byte cause (tells t n) e f d = absurd d
 refused_allowed ls files r whole byte cause (faulty b k) e f d =
     let same : d.0 ≡ whole = let g : Some d.0 ≡ Some whole = sym d.1 ∙ e in cc in
     inl (same_refusal byte b cause k (ls.one_fault whole byte b cause k f (subst (λ t. HasFault t b k) same d.2)))
@@ -119,7 +121,7 @@ gives_text_fault ls files r text (OpenFault f) b h = absurd h
 gives_text_fault ls files r text (ReadFault f) b h = absurd h
 gives_text_fault ls files r text (TooWide t n k) b h = absurd h
 gives_text_fault ls files r text WriteFault b h = absurd h
-gives_text_fault ls files r text NoMemory b h = gives_no_text ls files (run r) NoMemory tt
+gives_text_fault ls files r text NoMemory b h = gives_no_text ls files (run r) tt NoMemory tt
 gives_text_fault ls files r text (QueryFault byte cause) b h = let w = begun_fault ls files r.query text byte cause b h in gives_refusal ls files r w.0 byte cause w.1 w.2
 
 -- a text that is refused ends the run behind its file
@@ -160,6 +162,7 @@ unlike_allowed ls files r p missing u n (no_rows asked q s h l m) =
     let s' : run r ≡ run asked = s in
     let same : r ≡ asked = cc in
     absurd (n (like_again ls files r p q u (subst (λ a. HasRun files a q) (sym same) h) (subst (λ a. IsLike a q) (sym same) l)))
+unlike_allowed ls files r p (tells t k) u n d = absurd d
 unlike_allowed ls files r p (faulty b k) u n d = absurd (not_faulty ls files r p b k u d)
 unlike_allowed ls files r p (unlike s g) u n d =
     let streams : s ≡ length p.streams = sym d.2 ∙ ap (λ (t : Tree). length t.streams) (run_is ls files r p d.0 u d.1) in
@@ -191,16 +194,16 @@ record Over (files : Contents) (r : AskedRun) (p : Tree) (all : List (List ℕ))
   there : contents_of files (row_names r) ≡ Some all
 
 -- what is due of it
-over_due : (files : Contents) (r : AskedRun) (p : Tree) (all : List (List ℕ)) → Over files r p all → IsDueFor files (run r) (runs p r.task r.ring r.flush (input_of p r.most all))
+over_due : (files : Contents) (r : AskedRun) (p : Tree) (all : List (List ℕ)) → Over files r p all → IsDueFor files (run r) (runs p r.task r.ring r.flush (input_of p (asked_limits r) all))
 over_due files r p all u = (all, u.has, u.like, u.there, record { task = refl; cells = refl; closes = refl }, refl)
 
 -- and nothing else is
-due_is : Laws → (files : Contents) (r : AskedRun) (p : Tree) (all : List (List ℕ)) (q : Tree) (n ring : ℕ) (flush : Bool) (read : Read) → Over files r p all → IsDueFor files (run r) (runs q n ring flush read) → runs p r.task r.ring r.flush (input_of p r.most all) ≡ runs q n ring flush read
+due_is : Laws → (files : Contents) (r : AskedRun) (p : Tree) (all : List (List ℕ)) (q : Tree) (n ring : ℕ) (flush : Bool) (read : Read) → Over files r p all → IsDueFor files (run r) (runs q n ring flush read) → runs p r.task r.ring r.flush (input_of p (asked_limits r) all) ≡ runs q n ring flush read
 due_is ls files r p all q n ring flush read u d =
     let same : q ≡ p = run_is ls files r p q u.has d.1 in
     let f : Some d.0 ≡ Some all = sym d.3 ∙ u.there in
     let same_all : d.0 ≡ all = cc in
-    let rows : read ≡ input_of p r.most all = d.5 ∙ (λ i. input_of (same i) r.most (same_all i)) in
+    let rows : read ≡ input_of p (asked_limits r) all = d.5 ∙ (λ i. input_of (same i) (asked_limits r) (same_all i)) in
     sym (λ i. runs (same i) (d.4.task i) (d.4.cells i) (d.4.closes i) (rows i))
 
 -- no file is missing
@@ -214,8 +217,8 @@ over_there files r p all u (no_rows asked q s h l m) =
     cc
 
 -- its cause
-over_ends : (files : Contents) (r : AskedRun) (p : Tree) (all : List (List ℕ)) (o : Outcome) → Over files r p all → EndsSo p r.task r.ring r.flush (input_of p r.most all) o → Ends (IsDueFor files (run r)) o
-over_ends files r p all o u f = record { plan = p; task = r.task; ring = r.ring; flush = r.flush; read = input_of p r.most all; is_due = over_due files r p all u; ends = f }
+over_ends : (files : Contents) (r : AskedRun) (p : Tree) (all : List (List ℕ)) (o : Outcome) → Over files r p all → EndsSo p r.task r.ring r.flush (input_of p (asked_limits r) all) o → Ends (IsDueFor files (run r)) o
+over_ends files r p all o u f = record { plan = p; task = r.task; ring = r.ring; flush = r.flush; read = input_of p (asked_limits r) all; is_due = over_due files r p all u; ends = f }
 
 run_cause : (due : Due → Type 0) (o : Outcome) → IsOfRun o → Ends due o → HasCause due o
 run_cause due Done k f = inl f
@@ -241,23 +244,25 @@ run_allows (TooWide t l r) q n ring flush read k f = inl (tt, f)
 run_allows WriteFault q n ring flush read k f = inr (inr (inl refl))
 run_allows NoMemory q n ring flush read k f = inr (inr (inr refl))
 
-over_allowed : Laws → (files : Contents) (r : AskedRun) (p : Tree) (all : List (List ℕ)) (o : Outcome) (d : Due) → Over files r p all → IsOfRun o → EndsSo p r.task r.ring r.flush (input_of p r.most all) o → IsDueFor files (run r) d → Allows d o
+over_allowed : Laws → (files : Contents) (r : AskedRun) (p : Tree) (all : List (List ℕ)) (o : Outcome) (d : Due) → Over files r p all → IsOfRun o → EndsSo p r.task r.ring r.flush (input_of p (asked_limits r) all) o → IsDueFor files (run r) d → Allows d o
 over_allowed ls files r p all o usage u k f d = absurd d
 over_allowed ls files r p all o missing u k f d = absurd (over_there files r p all u d)
+over_allowed ls files r p all o (tells t n) u k f d = absurd d
 over_allowed ls files r p all o (faulty b x) u k f d = absurd (not_faulty ls files r p b x u.has d)
 over_allowed ls files r p all o (unlike s g) u k f d = absurd (alike ls files r p s g u.has u.like d)
 over_allowed ls files r p all o (shows out) u k f d = absurd d
-over_allowed ls files r p all o (runs q n ring flush read) u k f d = subst (λ x. Allows x o) (due_is ls files r p all q n ring flush read u d) (run_allows o p r.task r.ring r.flush (input_of p r.most all) k f)
+over_allowed ls files r p all o (runs q n ring flush read) u k f d = subst (λ x. Allows x o) (due_is ls files r p all q n ring flush read u d) (run_allows o p r.task r.ring r.flush (input_of p (asked_limits r) all) k f)
 
-over_puts : Laws → (files : Contents) (r : AskedRun) (p : Tree) (all : List (List ℕ)) (o : Outcome) (tasks : ℕ) (out : List ℕ) (d : Due) → Over files r p all → PutsOut (runs p r.task r.ring r.flush (input_of p r.most all)) o tasks out → IsDueFor files (run r) d → PutsOut d o tasks out
+over_puts : Laws → (files : Contents) (r : AskedRun) (p : Tree) (all : List (List ℕ)) (o : Outcome) (tasks : ℕ) (out : List ℕ) (d : Due) → Over files r p all → PutsOut (runs p r.task r.ring r.flush (input_of p (asked_limits r) all)) o tasks out → IsDueFor files (run r) d → PutsOut d o tasks out
 over_puts ls files r p all o tasks out usage u a d = absurd d
 over_puts ls files r p all o tasks out missing u a d = absurd (over_there files r p all u d)
+over_puts ls files r p all o tasks out (tells t n) u a d = absurd d
 over_puts ls files r p all o tasks out (faulty b x) u a d = absurd (not_faulty ls files r p b x u.has d)
 over_puts ls files r p all o tasks out (unlike s g) u a d = absurd (alike ls files r p s g u.has u.like d)
 over_puts ls files r p all o tasks out (shows t) u a d = absurd d
 over_puts ls files r p all o tasks out (runs q n ring flush read) u a d = subst (λ x. PutsOut x o tasks out) (due_is ls files r p all q n ring flush read u d) a
 
-over_gives : Laws → (files : Contents) (r : AskedRun) (p : Tree) (all : List (List ℕ)) (o : Outcome) (tasks : ℕ) (out : List ℕ) → Over files r p all → IsOfRun o → Answered p r.task r.ring r.flush (input_of p r.most all) o tasks out → Gives files (run r) o tasks out
+over_gives : Laws → (files : Contents) (r : AskedRun) (p : Tree) (all : List (List ℕ)) (o : Outcome) (tasks : ℕ) (out : List ℕ) → Over files r p all → IsOfRun o → Answered p r.task r.ring r.flush (input_of p (asked_limits r) all) o tasks out → Gives files (run r) o tasks out
 over_gives ls files r p all o tasks out u k a = record {
   cause = run_cause (IsDueFor files (run r)) o k (over_ends files r p all o u a.ends);
   allows = λ d x. over_allowed ls files r p all o d u k a.ends x;
@@ -281,6 +286,7 @@ no_end_lacks NoMemory h = inr refl
 gone_allowed : Laws → (files : Contents) (r : AskedRun) (p : Tree) (o : Outcome) (d : Due) → HasRun files r p → IsLike r p → contents_of files (row_names r) ≡ None → IsNoEnd o → IsDueFor files (run r) d → Allows d o
 gone_allowed ls files r p o usage u l e h d = absurd d
 gone_allowed ls files r p o missing u l e h d = no_end_lacks o h
+gone_allowed ls files r p o (tells t n) u l e h d = absurd d
 gone_allowed ls files r p o (faulty b k) u l e h d = absurd (not_faulty ls files r p b k u d)
 gone_allowed ls files r p o (unlike s g) u l e h d = absurd (alike ls files r p s g u l d)
 gone_allowed ls files r p o (shows out) u l e h d = absurd d
@@ -294,12 +300,12 @@ gone_gives ls files r p o tasks out u l e h t n = subst (λ x. Gives files (run 
 }))
 
 answered_gives : Laws → (files : Contents) (r : AskedRun) (p : Tree) (content : Option (List (List ℕ))) (o : Outcome) (tasks : ℕ) (out : List ℕ) → HasRun files r p → IsLike r p → contents_of files (row_names r) ≡ content → IsOfRun o
-    → AnsweredIn p r.task r.ring r.most r.flush content o tasks out → Gives files (run r) o tasks out
+    → AnsweredIn p r.task r.ring (asked_limits r) r.flush content o tasks out → Gives files (run r) o tasks out
 answered_gives ls files r p None o tasks out u l e k a = gone_gives ls files r p o tasks out u l e a.0 a.1 a.2
 answered_gives ls files r p (Some all) o tasks out u l e k a = over_gives ls files r p all o tasks out (record { has = u; like = l; there = e }) k a
 
 -- a run over its row files, behind a query with as many streams
-pub gives_answer : Laws → (files : Contents) (r : AskedRun) (p : Tree) (o : Outcome) (tasks : ℕ) (out : List ℕ) → HasRun files r p → IsLike r p → IsOfRun o → AnsweredIn p r.task r.ring r.most r.flush (contents_of files (row_names r)) o tasks out → Gives files (run r) o tasks out
+pub gives_answer : Laws → (files : Contents) (r : AskedRun) (p : Tree) (o : Outcome) (tasks : ℕ) (out : List ℕ) → HasRun files r p → IsLike r p → IsOfRun o → AnsweredIn p r.task r.ring (asked_limits r) r.flush (contents_of files (row_names r)) o tasks out → Gives files (run r) o tasks out
 gives_answer ls files r p o tasks out u l k a = answered_gives ls files r p (contents_of files (row_names r)) o tasks out u l refl k a
 
 -- ---- where files tell

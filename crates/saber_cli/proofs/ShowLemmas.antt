@@ -24,9 +24,9 @@ use Rattle.saber_cli.specs.Laws.{Laws}
 use Rattle.saber_cli.specs.Outcomes.{IsBeforeRun, IsFileFault, IsQueryFault, IsOfShow}
 use Rattle.saber_cli.specs.Texts.{BeginsFile}
 use Rattle.saber_cli.specs.Planned.{IsTextFault}
-use Rattle.saber_cli.specs.Due.{Contents, Due, usage, missing, faulty, unlike, shows, runs, IsDueFor, IsMissing, no_query, no_rows, Shows}
+use Rattle.saber_cli.specs.Due.{Contents, Due, usage, missing, faulty, unlike, shows, tells, runs, IsDueFor, IsMissing, no_query, no_rows, Shows}
 use Rattle.saber_cli.specs.Causes.{HasCause, Allows}
-use Rattle.saber_cli.specs.Puts.{PutsOut, PutsText, whole_text, part}
+use Rattle.saber_cli.specs.Puts.{PutsOut, IsOfPut, PutsText, whole_text, part, no_text}
 use Rattle.saber_cli.specs.Gives.{Gives}
 use Rattle.saber_cli.specs.Shown.{Showed, all_shown, cut_short, not_shown}
 use Rattle.saber_cli.proofs.DueLemmas.{there_not_missing, same_refusal, begun_fault, early_puts}
@@ -73,7 +73,7 @@ one_text text out other s t = s.out_is ∙ ap (λ (ws : List Token). spelled ws 
 
 -- ---- what is due for a check
 
-not_missing : (files : Contents) (c : AskedCheck) (whole : List ℕ) → content_in files c.query ≡ Some whole → IsMissing files (check c) → ⊥
+not_missing : (files : Contents) (c : AskedCheck) (whole : List ℕ) → content_in files c.query ≡ Some whole → IsMissing files c.query (check c) → ⊥
 not_missing files c whole e (no_query m) = there_not_missing files c.query whole e m
 not_missing files c whole e (no_rows asked q s h l m) = let s' : check c ≡ run asked = s in cc
 
@@ -92,12 +92,13 @@ due_shows files c whole out e d =
 -- ---- a text that is shown
 
 shown_cause : (due : Due → Type 0) (o : Outcome) (shown : List ℕ) → due (shows shown) → (o ≡ Done) ⊎ (o ≡ WriteFault) → HasCause due o
-shown_cause due o shown s (inl e) = subst (HasCause due) (sym e) (inr (record { out = shown; is_due = s }))
-shown_cause due o shown s (inr e) = subst (HasCause due) (sym e) (inr (record { out = shown; is_due = s }))
+shown_cause due o shown s (inl e) = subst (HasCause due) (sym e) (inr (inl (record { out = shown; is_due = s })))
+shown_cause due o shown s (inr e) = subst (HasCause due) (sym e) (inr (inl (record { out = shown; is_due = s })))
 
 shown_allowed : Laws → (files : Contents) (c : AskedCheck) (whole shown : List ℕ) (o : Outcome) (d : Due) → content_in files c.query ≡ Some whole → Shows whole shown → (o ≡ Done) ⊎ (o ≡ WriteFault) → IsDueFor files (check c) d → Allows d o
 shown_allowed ls files c whole shown o usage e s k d = absurd d
 shown_allowed ls files c whole shown o missing e s k d = absurd (not_missing files c whole e d)
+shown_allowed ls files c whole shown o (tells t n) e s k d = absurd d
 shown_allowed ls files c whole shown o (faulty b x) e s k d = absurd (shows_or_fault ls whole shown b x s (due_fault files c whole b x e d))
 shown_allowed ls files c whole shown o (unlike x g) e s k d = absurd d
 shown_allowed ls files c whole shown o (shows t) e s (inl k) d = inl k
@@ -107,6 +108,7 @@ shown_allowed ls files c whole shown o (runs q n ring flush read) e s k d = absu
 shown_puts : Laws → (files : Contents) (c : AskedCheck) (whole shown : List ℕ) (o : Outcome) (out : List ℕ) (d : Due) → content_in files c.query ≡ Some whole → Shows whole shown → PutsText shown o out → IsDueFor files (check c) d → PutsOut d o 0 out
 shown_puts ls files c whole shown o out usage e s p d = absurd d
 shown_puts ls files c whole shown o out missing e s p d = absurd (not_missing files c whole e d)
+shown_puts ls files c whole shown o out (tells t n) e s p d = absurd d
 shown_puts ls files c whole shown o out (faulty b x) e s p d = absurd (shows_or_fault ls whole shown b x s (due_fault files c whole b x e d))
 shown_puts ls files c whole shown o out (unlike x g) e s p d = absurd d
 shown_puts ls files c whole shown o out (shows t) e s p d = (refl, subst (λ x. PutsText x o out) (one_text whole shown t s (due_shows files c whole t e d)) p)
@@ -124,6 +126,7 @@ gives_shown ls files c whole shown o out e s k p = record {
 refused_allowed : Laws → (files : Contents) (c : AskedCheck) (whole : List ℕ) (byte : ℕ) (cause : Cause) (d : Due) → content_in files c.query ≡ Some whole → HasFault whole byte cause → IsDueFor files (check c) d → Allows d (QueryFault byte cause)
 refused_allowed ls files c whole byte cause usage e f d = absurd d
 refused_allowed ls files c whole byte cause missing e f d = absurd (not_missing files c whole e d)
+refused_allowed ls files c whole byte cause (tells t n) e f d = absurd d
 refused_allowed ls files c whole byte cause (faulty b x) e f d = inl (same_refusal byte b cause x (ls.one_fault whole byte b cause x f (due_fault files c whole b x e d)))
 refused_allowed ls files c whole byte cause (unlike x g) e f d = absurd d
 refused_allowed ls files c whole byte cause (shows t) e f d = absurd (shows_or_fault ls whole t byte cause (due_shows files c whole t e d) f)
@@ -145,10 +148,37 @@ gives_not_shown ls files c text (OpenFault f) b h = absurd h
 gives_not_shown ls files c text (ReadFault f) b h = absurd h
 gives_not_shown ls files c text (TooWide t n k) b h = absurd h
 gives_not_shown ls files c text WriteFault b h = absurd h
-gives_not_shown ls files c text NoMemory b h = gives_no_text ls files (check c) NoMemory tt
+gives_not_shown ls files c text NoMemory b h = gives_no_text ls files (check c) tt NoMemory tt
 gives_not_shown ls files c text (QueryFault byte cause) b h = let w = begun_fault ls files c.query text byte cause b h in gives_refused ls files c w.0 byte cause w.1 w.2
 
 -- ---- a check
+
+-- the text that shows, or a prefix of it, goes out
+pub put_showed : (text shown : List ℕ) (o : Outcome) (out : List ℕ) → Shows text shown → IsOfPut o → PutsText shown o out → Showed text o out
+put_showed text shown o out s k (whole_text e w) = all_shown e (subst (Shows text) (sym w) s)
+put_showed text shown o out s k (part n e w) = cut_short shown n e s w
+put_showed text shown Done out s k (no_text n w) = absurd (n refl)
+put_showed text shown WriteFault out s k (no_text n w) = cut_short shown 0 refl s w
+put_showed text shown NoMemory out s k (no_text n w) = not_shown tt w
+put_showed text shown Usage out s k (no_text n w) = absurd k
+put_showed text shown (FileCount a b) out s k (no_text n w) = absurd k
+put_showed text shown (QueryFault a b) out s k (no_text n w) = absurd k
+put_showed text shown (LineRefused a b d) out s k (no_text n w) = absurd k
+put_showed text shown (OpenFault f) out s k (no_text n w) = absurd k
+put_showed text shown (ReadFault f) out s k (no_text n w) = absurd k
+put_showed text shown (TooWide a b d) out s k (no_text n w) = absurd k
+
+pub put_kinds : (o : Outcome) → IsOfPut o → IsOfShow o
+put_kinds Done k = tt
+put_kinds WriteFault k = tt
+put_kinds NoMemory k = tt
+put_kinds Usage k = absurd k
+put_kinds (FileCount a b) k = absurd k
+put_kinds (QueryFault a b) k = absurd k
+put_kinds (LineRefused a b d) k = absurd k
+put_kinds (OpenFault f) k = absurd k
+put_kinds (ReadFault f) k = absurd k
+put_kinds (TooWide a b d) k = absurd k
 
 -- a check gives what became of its query's text
 pub gives_show : Laws → (files : Contents) (c : AskedCheck) (text : List ℕ) (o : Outcome) (out : List ℕ) → BeginsFile files c.query text → Showed text o out → Gives files (check c) o 0 out

@@ -8,11 +8,11 @@ use Rattle.saber_notes.specs.declared.outcome.Outcome.{Outcome}
 use Rattle.saber_notes.specs.declared.outcome.Outcome.TheVariants.{Done, Usage, FileCount, QueryFault, LineRefused, OpenFault, ReadFault, TooWide, WriteFault, NoMemory}
 use Rattle.saber_cli.specs.Laws.{Laws}
 use Rattle.saber_cli.specs.Due.{Contents, Due, IsDueFor, IsDue, no_command, by_command}
-use Rattle.saber_cli.specs.Causes.{HasCause, Allows, Ends, ShowsText}
+use Rattle.saber_cli.specs.Causes.{HasCause, Allows, Ends, ShowsText, TellsSummary}
 use Rattle.saber_cli.specs.Puts.{PutsOut}
 use Rattle.saber_cli.specs.Gives.{Gives, Answers}
 use Rattle.saber_cli.specs.Unread.{unread}
-use Rattle.saber_cli.proofs.DueLemmas.{lacks_allowed, early_puts}
+use Rattle.saber_cli.proofs.DueLemmas.{memory_allowed_for, early_puts}
 
 -- ---- causes
 
@@ -22,10 +22,14 @@ more_ends p q o f e = record { plan = e.plan; task = e.task; ring = e.ring; flus
 more_shows : (p q : Due → Type 0) → ((d : Due) → p d → q d) → ShowsText p → ShowsText q
 more_shows p q f s = record { out = s.out; is_due = f _ s.is_due }
 
+more_tells : (p q : Due → Type 0) → ((d : Due) → p d → q d) → TellsSummary p → TellsSummary q
+more_tells p q f s = record { out = s.out; count = s.count; is_due = f _ s.is_due }
+
 -- what is due more widely is a cause too
 more_cause : (p q : Due → Type 0) (o : Outcome) → ((d : Due) → p d → q d) → HasCause p o → HasCause q o
 more_cause p q Done f (inl e) = inl (more_ends p q _ f e)
-more_cause p q Done f (inr s) = inr (more_shows p q f s)
+more_cause p q Done f (inr (inl s)) = inr (inl (more_shows p q f s))
+more_cause p q Done f (inr (inr s)) = inr (inr (more_tells p q f s))
 more_cause p q Usage f h = f _ h
 more_cause p q (FileCount s g) f h = f _ h
 more_cause p q (QueryFault b c) f h = f _ h
@@ -34,7 +38,8 @@ more_cause p q (OpenFault file) f h = tt
 more_cause p q (ReadFault file) f h = tt
 more_cause p q (TooWide t n r) f h = more_ends p q _ f h
 more_cause p q WriteFault f (inl e) = inl (more_ends p q _ f e)
-more_cause p q WriteFault f (inr s) = inr (more_shows p q f s)
+more_cause p q WriteFault f (inr (inl s)) = inr (inl (more_shows p q f s))
+more_cause p q WriteFault f (inr (inr s)) = inr (inr (more_tells p q f s))
 more_cause p q NoMemory f h = tt
 
 -- ---- words that are a command
@@ -66,7 +71,7 @@ usage_answers ws files e = record { cause = no_command e refl; allows = λ d h. 
 
 memory_allowed : (ws : List (List ℕ)) (files : Contents) (d : Due) → IsDue ws files d → Allows d NoMemory
 memory_allowed ws files d (no_command n u) = subst (λ x. Allows x NoMemory) (sym u) (inr refl)
-memory_allowed ws files d (by_command c k h) = lacks_allowed files c NoMemory d (inr refl) h
+memory_allowed ws files d (by_command c k h) = memory_allowed_for files c d h
 
 memory_puts : Laws → (ws : List (List ℕ)) (files : Contents) (d : Due) → IsDue ws files d → PutsOut d NoMemory 0 []
 memory_puts ls ws files d (no_command n u) = subst (λ x. PutsOut x NoMemory 0 []) (sym u) (refl, refl)

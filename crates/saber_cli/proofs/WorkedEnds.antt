@@ -1,5 +1,5 @@
 -- What the statements on ends of runs say, and what they refuse.
-use Rattle.std.proofs.Common.{Bool, ◌≡◌, ◌⊎◌, inl, inr, ℕ, List, Some, None, refl, sym, ◌∙◌}
+use Rattle.std.proofs.Common.{Bool, ◌≡◌, inl, inr, ℕ, List, Some, None, refl, sym, ◌∙◌}
 use Rattle.saber_plan.specs.Rows.{Read}
 use Rattle.saber_plan.specs.Trees.{Tree}
 use Rattle.saber_plan.specs.Needs.{need as blocks_needed, wide}

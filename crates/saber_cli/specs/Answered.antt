@@ -3,6 +3,7 @@ use Rattle.std.specs.Prelude.{Bool, ◌≡◌, ℕ, List, [], Option, Some, None
 use Rattle.saber_plan.specs.Rows.{Read}
 use Rattle.saber_plan.specs.Trees.{Tree}
 use Rattle.saber_plan.specs.Tasks.{run_input}
+use Rattle.saber_plan.specs.Sizes.{FileLimits}
 use Rattle.saber_engine.specs.Gives.{Assembles, reach_of}
 use Rattle.saber_engine.specs.Sources.{input_of}
 use Rattle.saber_notes.specs.declared.outcome.Outcome.{Outcome}
@@ -14,7 +15,7 @@ pub record Answered (q : Tree) (n ring : ℕ) (flush : Bool) (read : Read) (o : 
   pub ends : EndsSo q n ring flush read o
   pub puts : Assembles q n (run_input q flush read) (reach_of (end_of o)) tasks out
 
--- Over files with these bytes, which may have so many lines; or one of them isn't there.
-abbrev pub AnsweredIn : Tree → ℕ → ℕ → ℕ → Bool → Option (List (List ℕ)) → Outcome → ℕ → List ℕ → Type 0
-AnsweredIn q n ring most flush None o tasks out = IsNoEnd o × (tasks ≡ 0) × (out ≡ [])
-AnsweredIn q n ring most flush (Some all) o tasks out = Answered q n ring flush (input_of q most all) o tasks out
+-- Over files with these bytes, within these limits; or one of them isn't there.
+abbrev pub AnsweredIn : Tree → ℕ → ℕ → FileLimits → Bool → Option (List (List ℕ)) → Outcome → ℕ → List ℕ → Type 0
+AnsweredIn q n ring limits flush None o tasks out = IsNoEnd o × (tasks ≡ 0) × (out ≡ [])
+AnsweredIn q n ring limits flush (Some all) o tasks out = Answered q n ring flush (input_of q limits all) o tasks out

@@ -7,7 +7,7 @@ use Rattle.saber_notes.specs.declared.outcome.Outcome.{Outcome}
 use Rattle.saber_notes.specs.declared.outcome.Outcome.TheVariants.{Done, Usage, FileCount, QueryFault, LineRefused, OpenFault, ReadFault, TooWide, WriteFault, NoMemory}
 use Rattle.saber_cli.specs.Outcomes.{IsFileFault, IsQueryUnread}
 use Rattle.saber_cli.specs.Endings.{end_of, EndsSo}
-use Rattle.saber_cli.specs.Due.{Due, usage, missing, faulty, unlike, shows, runs}
+use Rattle.saber_cli.specs.Due.{Due, usage, missing, faulty, unlike, shows, tells, runs}
 
 -- a run is due whose end the outcome tells
 pub record Ends (due : Due → Type 0) (o : Outcome) : Type 0 where
@@ -24,9 +24,15 @@ pub record ShowsText (due : Due → Type 0) : Type 0 where
   pub out : List ℕ
   pub is_due : due (shows out)
 
+-- the summary of a run over generated rows is due
+pub record TellsSummary (due : Due → Type 0) : Type 0 where
+  pub out : List ℕ
+  pub count : ℕ
+  pub is_due : due (tells out count)
+
 -- Each outcome has its cause in what is due. A fault of a file or of the sink has its own in a count of faults, and want of memory has none.
 abbrev pub HasCause : (Due → Type 0) → Outcome → Type 0
-HasCause due Done = Ends due Done ⊎ ShowsText due
+HasCause due Done = Ends due Done ⊎ (ShowsText due ⊎ TellsSummary due)
 HasCause due Usage = due usage
 HasCause due (FileCount streams given) = due (unlike streams given)
 HasCause due (QueryFault byte cause) = due (faulty byte cause)
@@ -34,15 +40,16 @@ HasCause due (LineRefused side line cause) = Ends due (LineRefused side line cau
 HasCause due (OpenFault file) = Unit {0}
 HasCause due (ReadFault file) = Unit {0}
 HasCause due (TooWide task need ring) = Ends due (TooWide task need ring)
-HasCause due WriteFault = Ends due WriteFault ⊎ ShowsText due
+HasCause due WriteFault = Ends due WriteFault ⊎ (ShowsText due ⊎ TellsSummary due)
 HasCause due NoMemory = Unit {0}
 
 -- The outcomes that a due allows. Where the query has a fault, or its streams and the files differ in number, the query's file alone can have one. A run ends as its rows
--- and its ring do, but for a fault and want of memory. Faults of files and of the sink come only where a count of faults rose.
+-- and its ring do, but for a fault and want of memory. Generated rows have no file. Faults of files and of the sink come only where a count of faults rose.
 abbrev pub Allows : Due → Outcome → Type 0
 Allows usage o = (o ≡ Usage) ⊎ (o ≡ NoMemory)
 Allows missing o = IsFileFault o ⊎ (o ≡ NoMemory)
 Allows (faulty byte cause) o = (o ≡ QueryFault byte cause) ⊎ (IsQueryUnread o ⊎ (o ≡ NoMemory))
+Allows (tells out count) o = (o ≡ Done) ⊎ ((o ≡ WriteFault) ⊎ (o ≡ NoMemory))
 Allows (unlike streams given) o = (o ≡ FileCount streams given) ⊎ (IsQueryUnread o ⊎ (o ≡ NoMemory))
 Allows (shows out) o = (o ≡ Done) ⊎ (IsFileFault o ⊎ ((o ≡ WriteFault) ⊎ (o ≡ NoMemory)))
 Allows (runs q n ring flush read) o = (IsClean (end_of o) × EndsSo q n ring flush read o) ⊎ (IsFileFault o ⊎ ((o ≡ WriteFault) ⊎ (o ≡ NoMemory)))

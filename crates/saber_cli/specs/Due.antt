@@ -2,6 +2,7 @@
 use Rattle.std.specs.Prelude.{Bool, ◌≡◌, ◌≢◌, ℕ, List, [], ◌∷◌, ◌++◌, length, Option, Some, None, option_map, option_and_then, option_to_list}
 use Rattle.saber_plan.specs.Rows.{Read}
 use Rattle.saber_plan.specs.Trees.{Tree}
+use Rattle.saber_plan.specs.Sizes.{FileLimits}
 use Rattle.saber_io.specs.Outside.{content_in}
 use Rattle.saber_query.specs.declared.fault.Cause.{Cause}
 use Rattle.saber_query.specs.Parsed.{Parsed, IsParsed}
@@ -11,26 +12,27 @@ use Rattle.saber_query.specs.Means.{MeansTree}
 use Rattle.saber_query.specs.Spelling.{spelled}
 use Rattle.saber_check.specs.Outcome.{IsFaultless}
 use Rattle.saber_check.specs.Texts.{HasPlan, HasFault}
-use Rattle.saber_words.specs.Commands.{Asked, run, check, AskedRun, command_of}
+use Rattle.saber_words.specs.Commands.{Asked, run, check, demo, AskedRun, command_of}
 use Rattle.saber_engine.specs.Sources.{input_of}
+use Rattle.saber_cli.specs.Demo.{summary_of_run, tasks_of_run}
 
 -- each file's name and what it has
 abbrev pub Contents : Type 0
 Contents = List (List ℕ × List ℕ)
 
--- the query file of a command
-abbrev pub query_name : Asked → List ℕ
-query_name (run r) = r.query
-query_name (check c) = c.query
-
 -- the names of the row files of a run, in the order in which they are opened
 abbrev pub row_names : AskedRun → List (List ℕ)
 row_names r = r.left ∷ option_to_list r.right
+
+-- what it asks of the lines of each of them
+abbrev pub asked_limits : AskedRun → FileLimits
+asked_limits r = record { most = r.most; slack = r.slack }
 
 -- all files of a command, in that order
 abbrev pub names_of : Asked → List (List ℕ)
 names_of (run r) = r.query ∷ row_names r
 names_of (check c) = c.query ∷ []
+names_of (demo d) = []
 
 -- what the files with these names have, if each is there
 abbrev pub contents_of : Contents → List (List ℕ) → Option (List (List ℕ))
@@ -48,6 +50,8 @@ pub data Due : Type 0 where
   unlike : ℕ → ℕ → Due
   -- a query was checked, and this is its text
   shows : List ℕ → Due
+  -- a run over generated rows is summed up: this is its summary, and it has so many tasks
+  tells : List ℕ → ℕ → Due
   -- the plan is run over these rows, in tasks of so many, on a ring of so many cells, and whether their end closes the windows that are begun
   runs : Tree → ℕ → ℕ → Bool → Read → Due
 
@@ -65,11 +69,16 @@ IsLike asked q = length q.streams ≡ length (row_names asked)
 abbrev pub AsksRows : Contents → Asked → Type 0
 AsksRows files (run r) = (q : Tree) × HasRun files r q × IsLike r q
 AsksRows files (check c) = ⊥
+AsksRows files (demo d) = ⊥
 
--- a file isn't there: the query's, or one of the row files of a run
-pub data IsMissing (files : Contents) (command : Asked) : Type 0 where
-  no_query : content_in files (query_name command) ≡ None → IsMissing files command
-  no_rows : (asked : AskedRun) (q : Tree) → command ≡ run asked → HasRun files asked q → IsLike asked q → contents_of files (row_names asked) ≡ None → IsMissing files command
+-- a file of a command isn't there: the query's, or one of the row files of a run
+pub data IsMissing (files : Contents) (query : List ℕ) (command : Asked) : Type 0 where
+  no_query : content_in files query ≡ None → IsMissing files query command
+  no_rows : (asked : AskedRun) (q : Tree) → command ≡ run asked → HasRun files asked q → IsLike asked q → contents_of files (row_names asked) ≡ None → IsMissing files query command
+
+-- the file with this name has a query with this fault
+abbrev pub IsFaulty : Contents → List ℕ → ℕ → Cause → Type 0
+IsFaulty files query byte cause = (text : List ℕ) × (content_in files query ≡ Some text) × HasFault text byte cause
 
 -- the text means a query that passes its checks, and this is the query's own text, with a line feed
 pub record Shows (text out : List ℕ) : Type 0 where
@@ -88,14 +97,24 @@ pub record AsksFor (asked : AskedRun) (n ring : ℕ) (flush : Bool) : Type 0 whe
 -- what is due for a command
 abbrev pub IsDueFor : Contents → Asked → Due → Type 0
 IsDueFor files c usage = ⊥
-IsDueFor files c missing = IsMissing files c
-IsDueFor files c (faulty byte cause) = (text : List ℕ) × (content_in files (query_name c) ≡ Some text) × HasFault text byte cause
+IsDueFor files (run r) missing = IsMissing files r.query (run r)
+IsDueFor files (check c) missing = IsMissing files c.query (check c)
+IsDueFor files (demo d) missing = ⊥
+IsDueFor files (run r) (faulty byte cause) = IsFaulty files r.query byte cause
+IsDueFor files (check c) (faulty byte cause) = IsFaulty files c.query byte cause
+IsDueFor files (demo d) (faulty byte cause) = ⊥
 IsDueFor files (run r) (unlike streams given) = (q : Tree) × HasRun files r q × (length q.streams ≡ streams) × (length (row_names r) ≡ given) × (streams ≢ given)
 IsDueFor files (check r) (unlike streams given) = ⊥
+IsDueFor files (demo d) (unlike streams given) = ⊥
 IsDueFor files (run r) (shows out) = ⊥
 IsDueFor files (check r) (shows out) = (text : List ℕ) × (content_in files r.query ≡ Some text) × Shows text out
-IsDueFor files (run r) (runs q n ring flush read) = (all : List (List ℕ)) × HasRun files r q × IsLike r q × (contents_of files (row_names r) ≡ Some all) × AsksFor r n ring flush × (read ≡ input_of q r.most all)
+IsDueFor files (demo d) (shows out) = ⊥
+IsDueFor files (run r) (tells out count) = ⊥
+IsDueFor files (check r) (tells out count) = ⊥
+IsDueFor files (demo d) (tells out count) = (out ≡ summary_of_run d.seed d.rows) × (count ≡ tasks_of_run d)
+IsDueFor files (run r) (runs q n ring flush read) = (all : List (List ℕ)) × HasRun files r q × IsLike r q × (contents_of files (row_names r) ≡ Some all) × AsksFor r n ring flush × (read ≡ input_of q (asked_limits r) all)
 IsDueFor files (check r) (runs q n ring flush read) = ⊥
+IsDueFor files (demo d) (runs q n ring flush read) = ⊥
 
 -- what is due for some words
 pub data IsDue (ws : List (List ℕ)) (files : Contents) (d : Due) : Type 0 where

@@ -14,3 +14,5 @@ pub mod Laws
 pub mod Shown
 pub mod Gives
 pub mod Unread
+pub mod Demo
+pub mod Tells

@@ -1,8 +1,8 @@
 -- What goes out.
-use Rattle.std.specs.Prelude.{◌≡◌, ℕ, List, [], take}
+use Rattle.std.specs.Prelude.{◌≡◌, ◌≤◌, ◌⊎◌, ℕ, List, [], take}
 use Rattle.saber_notes.specs.declared.outcome.Outcome.{Outcome}
-use Rattle.saber_notes.specs.declared.outcome.Outcome.TheVariants.{Done, WriteFault}
-use Rattle.saber_cli.specs.Due.{Due, usage, missing, faulty, unlike, shows, runs}
+use Rattle.saber_notes.specs.declared.outcome.Outcome.TheVariants.{Done, WriteFault, NoMemory}
+use Rattle.saber_cli.specs.Due.{Due, usage, missing, faulty, unlike, shows, tells, runs}
 use Rattle.saber_cli.specs.Endings.{end_of}
 use Rattle.saber_engine.specs.Gives.{Assembles, reach_of}
 use Rattle.saber_plan.specs.Tasks.{run_input}
@@ -13,11 +13,24 @@ pub data PutsText (text : List ℕ) (o : Outcome) (out : List ℕ) : Type 0 wher
   part : (n : ℕ) → o ≡ WriteFault → out ≡ take n text → PutsText text o out
   no_text : (o ≡ Done → ⊥) → out ≡ [] → PutsText text o out
 
+-- how the writing of a text ends
+abbrev pub IsOfPut : Outcome → Type 0
+IsOfPut Done = Unit {0}
+IsOfPut WriteFault = Unit {0}
+IsOfPut NoMemory = Unit {0}
+IsOfPut _ = ⊥
+
+-- how many of the tasks of a run over generated rows are assembled: all, but for want of memory
+pub record HasTasks (count tasks : ℕ) (o : Outcome) : Type 0 where
+  pub few : tasks ≤ count
+  pub all : (o ≡ Done) ⊎ (o ≡ WriteFault) → tasks ≡ count
+
 -- what goes out where this is due, and how many tasks are assembled: no tasks but in a run
 abbrev pub PutsOut : Due → Outcome → ℕ → List ℕ → Type 0
 PutsOut usage o tasks out = (tasks ≡ 0) × (out ≡ [])
 PutsOut missing o tasks out = (tasks ≡ 0) × (out ≡ [])
 PutsOut (faulty byte cause) o tasks out = (tasks ≡ 0) × (out ≡ [])
+PutsOut (tells text count) o tasks out = HasTasks count tasks o × PutsText text o out
 PutsOut (unlike streams given) o tasks out = (tasks ≡ 0) × (out ≡ [])
 PutsOut (shows text) o tasks out = (tasks ≡ 0) × PutsText text o out
 PutsOut (runs q n ring flush read) o tasks out = Assembles q n (run_input q flush read) (reach_of (end_of o)) tasks out

@@ -3,8 +3,10 @@
 
 mod answer;
 mod commands;
+mod demo;
 mod laws;
 mod plans;
+mod puts;
 mod queries;
 mod row_files;
 mod runs;
@@ -18,5 +20,13 @@ pub use saber_notes::{InputFile, Noted, Outcome};
 pub use saber_words::WordsFault;
 pub use top::{Ended, Refused, refuse_words, saber};
 
+#[cfg(test)]
+mod demo_tests;
+#[cfg(test)]
+mod fault_tests;
+#[cfg(test)]
+mod late_tests;
+#[cfg(test)]
+mod malice_tests;
 #[cfg(test)]
 mod tests;

@@ -15,8 +15,9 @@ ghost use Rattle.saber_cli.specs.Shown.{Showed};
 
 use crate::answer::Ran;
 use crate::plans::refused;
+use crate::puts::put;
 use saber_check::check;
-use saber_io::{Sink, WriteFault};
+use saber_io::Sink;
 use saber_notes::Outcome;
 use saber_plan::NoMemory;
 use saber_query::{Query, QueryFault, parse};
@@ -59,7 +60,7 @@ fn shown(alloc: Global, text: &[u8]) -> Result<Vec<u8>, Outcome>
 }
 
 /// Checks the text of a query and writes the query's own text, in one write.
-pub(crate) fn put_text<K: Sink>(alloc: Global, text: &[u8], mut sink: K) -> Ran<K>
+pub(crate) fn put_text<K: Sink>(alloc: Global, text: &[u8], sink: K) -> Ran<K>
     ensures written { (out : List ℕ) × (K.written result.sink ≡ appended (K.written sink) out) × Showed text.now result.outcome out }
     ensures tasks { result.tasks ≡ 0 }
     ensures early { IsQueryFault result.outcome → result.sink ≡ sink }
@@ -77,21 +78,5 @@ pub(crate) fn put_text<K: Sink>(alloc: Global, text: &[u8], mut sink: K) -> Ran<
             };
         }
     };
-    match sink.write_all(&out) {
-        Ok(()) => Ran {
-            outcome: Outcome::Done,
-            sink,
-            tasks: 0,
-        },
-        Err(WriteFault::Failed) => Ran {
-            outcome: Outcome::WriteFault,
-            sink,
-            tasks: 0,
-        },
-        Err(WriteFault::NoMemory) => Ran {
-            outcome: Outcome::NoMemory,
-            sink,
-            tasks: 0,
-        },
-    }
+    put(&out, sink, 0)
 }

@@ -1,8 +1,9 @@
 // The sizes of a run.
 ghost use Rattle.std.specs.Prelude.{◌≡◌};
-ghost use Rattle.saber_plan.specs.Sizes.{SizesFit};
+ghost use Rattle.saber_plan.specs.Sizes.{SizesFit, limits_of};
 ghost use Rattle.saber_words.specs.declared.commands.Command.{Command};
-ghost use Rattle.saber_words.specs.Commands.{asked, IsSized};
+ghost use Rattle.saber_words.specs.Commands.{asked, asked_run, IsSized};
+ghost use Rattle.saber_cli.specs.Due.{asked_limits};
 
 use saber_plan::Sizes;
 use saber_words::Run;
@@ -12,7 +13,7 @@ pub(crate) fn sizes_of(run: &Run<'_>) -> Sizes
     requires { IsSized (asked (Command.Run run.now)) }
     ensures task { result.task ≡ run.now.task }
     ensures ring { result.ring ≡ run.now.ring }
-    ensures lines { result.max_lines ≡ run.now.max_lines }
+    ensures limits { limits_of result ≡ asked_limits (asked_run run.now) }
     ensures flush { result.flush ≡ run.now.flush }
     ensures fit { SizesFit result }
 {
@@ -21,6 +22,7 @@ pub(crate) fn sizes_of(run: &Run<'_>) -> Sizes
         ring: run.ring,
         threads: run.threads,
         max_lines: run.max_lines,
+        slack: run.slack,
         flush: run.flush,
     }
 }

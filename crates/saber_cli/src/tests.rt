@@ -9,46 +9,48 @@ use std::sync::Wait;
 use std::test::Fail;
 use std::thread::Threads;
 
-const COUNT: &str = "STREAM S(t,g,v); SELECT COUNT(*) FROM S [ROWS 2 SLIDE 2]";
+pub(crate) const COUNT: &str = "STREAM S(t,g,v); SELECT COUNT(*) FROM S [ROWS 2 SLIDE 2]";
 
-const BY_TIME: &str = "STREAM S(t,g,v); SELECT COUNT(*) FROM S [RANGE 3 SLIDE 2]";
+pub(crate) const BY_TIME: &str = "STREAM S(t,g,v); SELECT COUNT(*) FROM S [RANGE 3 SLIDE 2]";
 
-const SUMS: &str = "STREAM S(t,g,v); SELECT g, SUM(v) FROM S [ROWS 3 SLIDE 1] GROUP BY g";
+pub(crate) const SUMS: &str =
+    "STREAM S(t,g,v); SELECT g, SUM(v) FROM S [ROWS 3 SLIDE 1] GROUP BY g";
 
 const PASSING: &str = "STREAM S(t,g,v); SELECT v FROM S WHERE g = 1 AND NOT v < 10";
 
-const FIVE: &str = "0,1,10\n1,1,20\n2,2,5\n2,1,7\n9,2,1\n";
+pub(crate) const FIVE: &str = "0,1,10\n1,1,20\n2,2,5\n2,1,7\n9,2,1\n";
 
-const PAIRS: &str =
+pub(crate) const PAIRS: &str =
     "STREAM A(t,x); STREAM B(t,y); SELECT x, y FROM A [RANGE 4 SLIDE 4], B [RANGE 4 SLIDE 4] WHERE x < y";
 
-const LEFT: &str = "0,5\n1,9\n4,1\n";
+pub(crate) const LEFT: &str = "0,5\n1,9\n4,1\n";
 
-const RIGHT: &str = "0,7\n3,6\n8,0\n";
+pub(crate) const RIGHT: &str = "0,7\n3,6\n8,0\n";
 
-const JOIN: [&str; 5] = ["saber", "run", "q", "l", "r"];
+pub(crate) const JOIN: [&str; 5] = ["saber", "run", "q", "l", "r"];
 
 // The caller alone, and with others.
-const THREADS: [&str; 2] = ["0", "2"];
+pub(crate) const THREADS: [&str; 2] = ["0", "2"];
 
-const RUN: [&str; 4] = ["saber", "run", "q", "l"];
+pub(crate) const RUN: [&str; 4] = ["saber", "run", "q", "l"];
 
-const IN_TASKS_OF_1: [&str; 6] = ["saber", "run", "q", "l", "--task", "1"];
+pub(crate) const IN_TASKS_OF_1: [&str; 6] = ["saber", "run", "q", "l", "--task", "1"];
 
-const IN_TASKS_OF_2: [&str; 6] = ["saber", "run", "q", "l", "--task", "2"];
+pub(crate) const IN_TASKS_OF_2: [&str; 6] = ["saber", "run", "q", "l", "--task", "2"];
 
-const USAGE: &str = "saber: usage: saber run QUERY LEFT [RIGHT] | check QUERY | demo SEED ROWS\n";
+pub(crate) const USAGE: &str =
+    "saber: usage: saber run QUERY LEFT [RIGHT] | check QUERY | demo SEED ROWS\n";
 
 // What is seen of a call.
 #[derive(Drop)]
-struct Seen {
-    status: u8,
-    tasks: u64,
-    out: Vec<u8>,
-    note: Vec<u8>,
+pub(crate) struct Seen {
+    pub(crate) status: u8,
+    pub(crate) tasks: u64,
+    pub(crate) out: Vec<u8>,
+    pub(crate) note: Vec<u8>,
 }
 
-fn file(alloc: Global, name: &str, text: &str) -> Result<MemFile, Fail> {
+pub(crate) fn file(alloc: Global, name: &str, text: &str) -> Result<MemFile, Fail> {
     Ok(MemFile {
         name: String::from_str(alloc, name)?,
         bytes: text.as_bytes().to_vec(alloc)?,
@@ -57,7 +59,7 @@ fn file(alloc: Global, name: &str, text: &str) -> Result<MemFile, Fail> {
     })
 }
 
-fn call<R: Threads + Wait + Sync>(
+pub(crate) fn call<R: Threads + Wait + Sync>(
     rt: &R,
     alloc: Global,
     words: &[&str],
@@ -79,7 +81,7 @@ fn call_over<R: Threads + Wait + Sync>(
     call_with(rt, alloc, words, files, sink, &OpenGate)
 }
 
-fn call_with<G: Gate + Sync, R: Threads + Wait + Sync>(
+pub(crate) fn call_with<G: Gate + Sync, R: Threads + Wait + Sync>(
     rt: &R,
     alloc: Global,
     words: &[&str],
@@ -104,14 +106,18 @@ fn call_with<G: Gate + Sync, R: Threads + Wait + Sync>(
 }
 
 // The words of a run, with more behind them.
-fn and<'a>(alloc: Global, words: &[&'a str], more: &[&'a str]) -> Result<Vec<&'a str>, Fail> {
+pub(crate) fn and<'a>(
+    alloc: Global,
+    words: &[&'a str],
+    more: &[&'a str],
+) -> Result<Vec<&'a str>, Fail> {
     let mut all = words.to_vec(alloc)?;
     all.extend_from_slice(more)?;
     Ok(all)
 }
 
 // A query file and a row file.
-fn two(alloc: Global, query: &str, rows: MemFile) -> Result<Vec<MemFile>, Fail> {
+pub(crate) fn two(alloc: Global, query: &str, rows: MemFile) -> Result<Vec<MemFile>, Fail> {
     let mut listed = Vec::new(alloc);
     listed.push(file(alloc, "q", query)?)?;
     listed.push(rows)?;
@@ -119,14 +125,19 @@ fn two(alloc: Global, query: &str, rows: MemFile) -> Result<Vec<MemFile>, Fail> 
 }
 
 // A query file and two row files.
-fn three(alloc: Global, query: &str, left: MemFile, right: MemFile) -> Result<Vec<MemFile>, Fail> {
+pub(crate) fn three(
+    alloc: Global,
+    query: &str,
+    left: MemFile,
+    right: MemFile,
+) -> Result<Vec<MemFile>, Fail> {
     let mut listed = two(alloc, query, left)?;
     listed.push(right)?;
     Ok(listed)
 }
 
 // A run of a query over rows that can be read, by so many threads, into a sink that takes all.
-fn run<R: Threads + Wait + Sync>(
+pub(crate) fn run<R: Threads + Wait + Sync>(
     rt: &R,
     alloc: Global,
     words: &[&str],
@@ -147,7 +158,7 @@ fn run<R: Threads + Wait + Sync>(
 }
 
 // The same over two files of rows.
-fn join<R: Threads + Wait + Sync>(
+pub(crate) fn join<R: Threads + Wait + Sync>(
     rt: &R,
     alloc: Global,
     words: &[&str],
@@ -170,7 +181,11 @@ fn join<R: Threads + Wait + Sync>(
 }
 
 // A check of the text of a query, into a sink that takes all.
-fn check<R: Threads + Wait + Sync>(rt: &R, alloc: Global, bytes: Vec<u8>) -> Result<Seen, Fail> {
+pub(crate) fn check<R: Threads + Wait + Sync>(
+    rt: &R,
+    alloc: Global,
+    bytes: Vec<u8>,
+) -> Result<Seen, Fail> {
     let mut listed = Vec::new(alloc);
     listed.push(MemFile {
         name: String::from_str(alloc, "q")?,
@@ -508,7 +523,7 @@ fn refused_queries(rt: HostRuntime) -> Result<(), Fail> {
             "saber: query byte 41: bad byte\n",
         ),
         (
-            "STREAM S(t,g,v); SELECT COUNT(*) FROM S [RANGE 1025 SLIDE 1]",
+            "STREAM S(t,g,v); SELECT COUNT(*) FROM S [RANGE 65537 SLIDE 1]",
             "saber: query byte 47: overlap\n",
         ),
         (
@@ -596,7 +611,13 @@ fn a_write_fails(rt: HostRuntime) -> Result<(), Fail> {
 }
 
 // A file of which one read fails.
-fn unread(alloc: Global, name: &str, text: &str, cuts: &[u64], read: u64) -> Result<MemFile, Fail>
+pub(crate) fn unread(
+    alloc: Global,
+    name: &str,
+    text: &str,
+    cuts: &[u64],
+    read: u64,
+) -> Result<MemFile, Fail>
     requires { All (λ cut. 1 ≤ cut) cuts.now }
 {
     Ok(MemFile {
@@ -605,49 +626,6 @@ fn unread(alloc: Global, name: &str, text: &str, cuts: &[u64], read: u64) -> Res
         cuts: cuts.to_vec(alloc)?,
         fails: vec![in alloc; read]?,
     })
-}
-
-// A read of the row file fails. At the fourth one three lines are whole, and the third stands in a task that is not full.
-#[test]
-fn a_read_fails(rt: HostRuntime) -> Result<(), Fail> {
-    let alloc = rt.alloc();
-    for (read, tasks, out) in [(1u64, 0u64, ""), (4, 1, "0,2\n")] {
-        for threads in THREADS {
-            let left = unread(alloc, "l", FIVE, &[7, 7, 6], read)?;
-            let sink = MemSink::new(alloc, Vec::new(alloc));
-            let words = and(alloc, &IN_TASKS_OF_2, &["--threads", threads])?;
-            let seen = call(&rt, alloc, &words, two(alloc, COUNT, left)?, sink)?;
-            assert_eq!(rt; seen.status, 5);
-            assert_eq!(rt; seen.tasks, tasks);
-            assert_eq!(rt; seen.out.as_slice(), out.as_bytes());
-            assert_eq!(rt;
-                seen.note.as_slice(),
-                b"saber: left: read fault\n".as_slice()
-            );
-        }
-    }
-    Ok(())
-}
-
-// A read of the query's file fails, or its open, and no row file is looked at.
-#[test]
-fn a_query_is_not_read(rt: HostRuntime) -> Result<(), Fail> {
-    let alloc = rt.alloc();
-    for (read, open, note) in [
-        (1u64, 9u64, "saber: query: read fault\n"),
-        (2, 9, "saber: query: read fault\n"),
-        (9, 1, "saber: query: open fault\n"),
-    ] {
-        let mut listed = Vec::new(alloc);
-        listed.push(unread(alloc, "q", COUNT, &[20, 20], read)?)?;
-        let opens = vec![in alloc; open]?;
-        let seen = call_over(&rt, alloc, &RUN, MemFiles::new(alloc, listed, opens))?;
-        assert_eq!(rt; seen.status, 5);
-        assert_eq!(rt; seen.tasks, 0);
-        assert_eq!(rt; seen.out.as_slice(), [].as_slice());
-        assert_eq!(rt; seen.note.as_slice(), note.as_bytes());
-    }
-    Ok(())
 }
 
 // Words that the system can't hand over.

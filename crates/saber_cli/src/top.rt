@@ -1,7 +1,8 @@
 // The top call.
 ghost use Rattle.std.specs.Prelude.{◌≡◌, ◌≢◌, ◌≤◌, ℕ, List, IfSome, None, Some, map};
 ghost use Rattle.saber_io.specs.Outside.{Rose, appended, AppendsPrefix};
-ghost use Rattle.saber_words.specs.Commands.{Asked, AskedRun, run, command_of};
+ghost use Rattle.saber_words.specs.Commands.{Asked, AskedRun, run, demo, command_of};
+ghost use Rattle.saber_words.specs.Demo.{AskedDemo};
 ghost use Rattle.saber_notes.specs.Notes.{status_of, note_of};
 ghost use Rattle.saber_notes.specs.declared.outcome.Outcome.{Outcome};
 ghost use Rattle.saber_notes.specs.declared.note.Noted.{Noted};
@@ -9,6 +10,7 @@ ghost use Rattle.saber_cli.specs.Outcomes.{IsClean, IsFileFault, IsBeforeRun};
 ghost use Rattle.saber_cli.specs.Gives.{Answers};
 ghost use Rattle.saber_cli.specs.Leaves.{LeavesTold};
 ghost use Rattle.saber_cli.specs.Taken.{TakesTold};
+ghost use Rattle.saber_cli.specs.Tells.{TellsRun};
 ghost use Rattle.saber_cli.specs.Unread.{unread, EndsUnread};
 
 use crate::answer::Ran;
@@ -56,6 +58,10 @@ pub fn saber<F: Files, K: Sink + Send, N: Sink, G: Gate + Sync, R: Threads + Wai
     ensures answers { (out : List ℕ) × (K.written result.sink ≡ appended (K.written sink) out)
         × IfSome (F.told files.old) (λ t. Answers (map (λ word. word.now) words.now) t.contents result.outcome result.tasks out) }
     ensures before { IsBeforeRun result.outcome → (result.tasks ≡ 0) × (result.sink ≡ sink) }
+
+    // A run over generated rows tells its summary, whatever files there are: of the seed and the number of rows alone.
+    ensures told { (d : AskedDemo) → command_of (map (λ word. word.now) words.now) ≡ Some (demo d) →
+        TellsRun d result.outcome result.tasks (K.written sink) (K.written result.sink) }
 
     // Words that are no command, whether the files tell or not.
     ensures unread { command_of (map (λ word. word.now) words.now) ≡ None →

@@ -1,16 +1,19 @@
 // The command that the words are, over its files.
 ghost use Rattle.std.specs.Prelude.{◌≡◌, ◌≢◌, ℕ, List, IfSome, None, Some, map};
 ghost use Rattle.saber_io.specs.Outside.{Rose, appended};
-ghost use Rattle.saber_words.specs.Commands.{Asked, AskedRun, run, command_of};
+ghost use Rattle.saber_words.specs.Commands.{Asked, AskedRun, run, demo, command_of};
+ghost use Rattle.saber_words.specs.Demo.{AskedDemo};
 ghost use Rattle.saber_notes.specs.declared.outcome.Outcome.{Outcome};
 ghost use Rattle.saber_cli.specs.Outcomes.{IsClean, IsFileFault, IsBeforeRun};
 ghost use Rattle.saber_cli.specs.Gives.{Answers};
 ghost use Rattle.saber_cli.specs.Leaves.{LeavesTold};
 ghost use Rattle.saber_cli.specs.Taken.{TakesTold};
+ghost use Rattle.saber_cli.specs.Tells.{TellsRun};
 ghost use Rattle.saber_cli.specs.Unread.{unread, EndsUnread};
 
 use crate::answer::Ran;
 use crate::commands::{check_command, run_command};
+use crate::demo::demo_command;
 use crate::laws::laws;
 use saber_io::{Files, Gate, Sink};
 use saber_notes::Outcome;
@@ -40,6 +43,7 @@ pub(crate) fn run_words<F: Files, K: Sink + Send, G: Gate + Sync, R: Threads + W
 ) -> Ran<K>
     ensures written { (out : List ℕ) × (K.written result.sink ≡ appended (K.written sink) out)
         × IfSome (F.told files.old) (λ t. Answers (map (λ word. word.now) words.now) t.contents result.outcome result.tasks out) }
+    ensures told { (d : AskedDemo) → command_of (map (λ word. word.now) words.now) ≡ Some (demo d) → TellsRun d result.outcome result.tasks (K.written sink) (K.written result.sink) }
     ensures unread { command_of (map (λ word. word.now) words.now) ≡ None → EndsUnread result.outcome result.tasks files.old files.new sink result.sink }
     ensures usage { result.outcome ≡ Outcome.Usage → command_of (map (λ word. word.now) words.now) ≡ None }
     ensures early { IsBeforeRun result.outcome → (result.tasks ≡ 0) × (result.sink ≡ sink) }
@@ -64,5 +68,6 @@ pub(crate) fn run_words<F: Files, K: Sink + Send, G: Gate + Sync, R: Threads + W
     match &command {
         Command::Run(run) => run_command(rt, alloc, run, files, sink, gate),
         Command::Check(check) => check_command(alloc, check, files, sink),
+        Command::Demo(demo) => demo_command(rt, alloc, demo, sink, gate),
     }
 }

@@ -2,14 +2,15 @@
 use Rattle.std.proofs.Common.{◌≡◌, true, ℕ, ◌+◌, ◌-◌, ◌≤◌, ◌<◌, List, [], ◌∷◌, ◌++◌, length, refl, sym, ◌∙◌, ap, subst, length-append, arith}
 use mathlib.Core.Logic.{dite}
 use native.Mathlib.Decide.{ℕ_discrete}
-use Rattle.std.specs.Prelude.{Option, Some, None, slice_index, Result, Ok, Err, is_ok, is_err, Bool, false, if◌then◌else◌}
-use Rattle.std.proofs.lemmas.List.{get_or_append_left}
+use Rattle.std.specs.Prelude.{Option, Some, None, slice_index}
+use Rattle.std.proofs.lemmas.List.{get_or_append_left, get_or-drop, length-drop}
 use Rattle.std.proofs.Math.Seq.{get_or-append_seam}
 use Rattle.saber_ring.specs.declared.view.Lead.{Lead}
 use Rattle.saber_ring.specs.declared.frees.Frees.{Frees}
 use Rattle.saber_ring.specs.Calls.{Covers, FillsNext}
 use Rattle.saber_ring.specs.Shows.{first_of_task}
 use Rattle.saber_ring.specs.Plays.{more_filled}
+use Rattle.saber_ring.specs.Freeing.{IsSlid}
 use Rattle.saber_crew.specs.declared.feed.Fed.{Fed}
 use Rattle.saber_crew.specs.declared.feed.Over.{Over}
 use Rattle.saber_crew.specs.declared.feed.Over.TheVariants.{AllGiven}
@@ -88,20 +89,23 @@ module _ {T R : Type 0} (is_told : T → ℕ → Type 0) (filled : T → R → T
           )
 
       module _ (first : T → ℕ → ℕ) (y : ℕ) (says : (told : T) (t : ℕ) → is_rows told t r → y ≡ first_of_task upto first told t) where
-        -- The next task's first block stands behind the others. So the list covers what its fill asks of it.
-        pub frees_cover : (o o' : Option (Lead T)) (old new : Frees) → FedAll is_told upto given d o o' → AreFrees upto first d old o' → new.base ≡ old.base → new.list.items ≡ old.list.items ++ y ∷ [] → AreFrees upto first (d + 1) new o'
-        frees_cover None o' old new e a base items = absurd e
-        frees_cover (Some l) None old new e a base items = absurd e
-        frees_cover (Some l) (Some m) old new e a base items =
+        -- The next task's first block stands behind the others, of which the first ones may go. So the list covers what its fill asks of it.
+        pub frees_cover : (o o' : Option (Lead T)) (cut : ℕ) (old new : Frees) → FedAll is_told upto given d o o' → AreFrees upto first d old o' → cut ≤ d → IsSlid y cut old new → AreFrees upto first (d + 1) new o'
+        frees_cover None o' cut old new e a low slid = absurd e
+        frees_cover (Some l) None cut old new e a low slid = absurd e
+        frees_cover (Some l) (Some m) cut old new e a low slid =
             let g = gives m.told d e.4 in
             let last : y ≡ first_of_task upto first m.told d = says (filled m.told r) d g.0 ∙ ap (λ z. first z d) (keeps m.told d d r e.2 g.1 g.0 (omega arith)) in
-            let long = length-append old.list.items (y ∷ []) in let size = a.1 in let both = ap length items in (
-              base ∙ a.0,
+            let long = length-append old.list.items (y ∷ []) in let size = a.0 in let base = slid.0 in
+            let short : length new.list.items ≡ length (old.list.items ++ y ∷ []) - (cut - old.base) = ap length slid.1 ∙ length-drop (cut - old.base) (old.list.items ++ y ∷ []) in
+            let at : (k : ℕ) → new.base ≤ k → slice_index new.list.items (k - new.base) ≡ slice_index (old.list.items ++ y ∷ []) (k - old.base) =
+            λ k from. ap (λ z. slice_index z (k - new.base)) slid.1 ∙ get_or-drop (cut - old.base) (old.list.items ++ y ∷ []) (k - new.base) 0
+            ∙ ap (slice_index (old.list.items ++ y ∷ [])) (omega (arith, from, base)) in (
               omega arith,
-              λ k lt. dite (ℕ_discrete k d)
-                  (λ same. subst (λ z. slice_index new.list.items z ≡ first_of_task upto first m.told z) (sym same)
-                  (ap (λ z. slice_index z d) items ∙ subst (λ z. slice_index (old.list.items ++ y ∷ []) z ≡ y) size (get_or-append_seam old.list.items y [] 0) ∙ last))
-                  (λ ne. ap (λ z. slice_index z k) items ∙ get_or_append_left old.list.items (y ∷ []) 0 k (omega arith) ∙ a.2 k (omega arith)),
+              λ k from lt. at k from ∙ dite (ℕ_discrete k d)
+                  (λ same. let there : k - old.base ≡ length old.list.items = omega arith in
+                  ap (slice_index (old.list.items ++ y ∷ [])) there ∙ get_or-append_seam old.list.items y [] 0 ∙ last ∙ ap (first_of_task upto first m.told) (sym same))
+                  (λ ne. get_or_append_left old.list.items (y ∷ []) 0 (k - old.base) (omega arith) ∙ a.1 k (omega arith) (omega arith)),
             )
 
         -- and it stays so once the task is filled
@@ -112,20 +116,19 @@ module _ {T R : Type 0} (is_told : T → ℕ → Type 0) (filled : T → R → T
             let g = gives m.told d e.4 in
             let same : p.0 ≡ m = (let x = p.1 in cc) in
             subst (AreFrees upto first (d + 1) frees) (sym (p.2 ∙ ap (λ (z : Lead T). Some (more_filled z (filled z.told r))) same))
-            (a.0, a.1, λ k lt. a.2 k lt ∙ ap (λ z. first z k) (sym (keeps m.told d k r e.2 g.1 g.0 (omega arith))))
+            (a.0, λ k low lt. a.1 k low lt ∙ ap (λ z. first z k) (sym (keeps m.told d k r e.2 g.1 g.0 (omega arith))))
 
 module _ {T : Type 0} (is_told : T → ℕ → Type 0) (upto : T → ℕ → T) (first : T → ℕ → ℕ) where
   pub frees_none : (given : T → ℕ → Type 0) (frees : Frees) (o : Option (Lead T)) → BeginsFeed is_told upto given o → frees.base ≡ 0 → frees.list.items ≡ [] → AreFrees upto first 0 frees o
   frees_none given frees None f base none = absurd f
-  frees_none given frees (Some l) f base none = (base, ap length none, λ k lt. absurd (let no = lt in omega arith))
+  frees_none given frees (Some l) f base none = (let long = ap length none in omega arith, λ k low lt. absurd (let no = lt in omega arith))
 
-  pub covers : (d : ℕ) (frees : Frees) (o : Option (Lead T)) → AreFrees upto first (d + 1) frees o → (seen : ℕ) → Covers upto first d frees seen o
-  covers d frees None a seen = absurd a
-  covers d frees (Some l) a seen = let b = a.0 in let size = a.1 in (omega arith, omega arith, λ k low high. ap (slice_index frees.list.items) (no_base k frees.base b) ∙ a.2 k (omega arith))
-    where
-      no_base : (k base : ℕ) → base ≡ 0 → k - base ≡ k
-      no_base k base e = omega arith
+  -- the list covers what the fill asks of it, where nothing that it let go is seen as not assembled
+  pub covers : (d : ℕ) (frees : Frees) (o : Option (Lead T)) → AreFrees upto first (d + 1) frees o → (seen : ℕ) → frees.base ≤ seen → Covers upto first d frees seen o
+  covers d frees None a seen low = absurd a
+  covers d frees (Some l) a seen low = (low, (let size = a.0 in omega arith), λ k from high. a.1 k from (omega arith))
 
-pub pushed : {X E : Type 0} (answer : Result Unit E) (failed : Bool) (old new : List X) (x : X) → new ≡ (if is_ok answer then old ++ x ∷ [] else old) → failed ≡ is_err answer → failed ≡ false → new ≡ old ++ x ∷ []
-pushed (Ok u) failed old new x items says fine = items
-pushed (Err e) failed old new x items says fine = absurd (let a = sym says ∙ fine in cc)
+  -- and goes on to do so as more is seen
+  pub covers_on : (d : ℕ) (frees : Frees) (o : Option (Lead T)) (seen more : ℕ) → seen ≤ more → Covers upto first d frees seen o → Covers upto first d frees more o
+  covers_on d frees None seen more up c = absurd c
+  covers_on d frees (Some l) seen more up c = ((let low = c.0 in omega arith), c.1, c.2)

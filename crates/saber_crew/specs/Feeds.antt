@@ -1,5 +1,5 @@
 -- What the first seat has filled.
-use Rattle.std.specs.Prelude.{◌≡◌, ◌<◌, ◌≤◌, ℕ, ◌+◌, Bool, true, false, length, slice_index, Option, Some, None}
+use Rattle.std.specs.Prelude.{◌≡◌, ◌<◌, ◌≤◌, ℕ, ◌+◌, ◌-◌, Bool, true, false, length, slice_index, Option, Some, None}
 use Rattle.saber_ring.specs.declared.view.Lead.{Lead}
 use Rattle.saber_ring.specs.declared.frees.Frees.{Frees}
 use Rattle.saber_ring.specs.Plays.{more_filled}
@@ -43,7 +43,8 @@ module _ {T : Type 0} (is_told : T → ℕ → Type 0) (upto : T → ℕ → T) 
     FedTo fed _ _ = ⊥
 
 module _ {T : Type 0} (upto : T → ℕ → T) (first : T → ℕ → ℕ) where
-  -- the list tells the first block that each of the first n tasks needs
+  -- the list tells the first block that each task needs, from its first one to the n-th
   abbrev pub AreFrees : ℕ → Frees → Option (Lead T) → Type 0
   AreFrees n frees None = ⊥
-  AreFrees n frees (Some l) = (frees.base ≡ 0) × (length frees.list.items ≡ n) × ((k : ℕ) → k < n → slice_index frees.list.items k ≡ first_of_task upto first l.told k)
+  AreFrees n frees (Some l) =
+      (frees.base + length frees.list.items ≡ n) × ((k : ℕ) → frees.base ≤ k → k < n → slice_index frees.list.items (k - frees.base) ≡ first_of_task upto first l.told k)

@@ -30,6 +30,7 @@ fn lead<W: Work, L: Labor<W>, G: Gate, P: Supply<W>, R: Wait>(
     stop: &AtomicBool,
     supply: &mut P,
     from: &mut P::From,
+    is_alone: bool,
 ) -> Fed
 where
     W::Rows: Drop,
@@ -48,7 +49,7 @@ where
 {
     let mut hand = Hand::new(0);
     let fed = feed(
-        rt, alloc, seat, ring, op, gate, stop, supply, from, &mut hand,
+        rt, alloc, seat, ring, op, gate, stop, supply, from, &mut hand, is_alone,
     );
     stop.store(true, Ordering::SeqCst);
     finish_hand(rt, alloc, seat, ring, op, gate, hand);
@@ -155,6 +156,7 @@ pub(crate) fn crew<
     stop: &AtomicBool,
     supply: &mut P,
     from: &mut P::From,
+    is_alone: bool,
 ) -> Fed
 where
     W::Rows: Drop + Send,
@@ -175,7 +177,9 @@ where
     ensures stops { result.over ≡ Over.Stopped → (view seat.new).stopped ≡ true }
 {
     if threads == 0 {
-        return lead(rt, *alloc, seat, ring, op, gate, stop, supply, from);
+        return lead(
+            rt, *alloc, seat, ring, op, gate, stop, supply, from, is_alone,
+        );
     }
     let less = threads - 1;
     let mut theirs = T::part(seat, ring);
@@ -200,7 +204,11 @@ where
             ensures fed { FedTo W.is_told W.upto (P.has_given supply.exit.now from.exit.now) (P.is_over supply.exit.now) result (view seat.entry.now).lead (view seat.exit.now).lead }
             ensures few { result.tasks ≤ 2 ^ 42 }
             ensures stops { result.over ≡ Over.Stopped → (view seat.exit.now).stopped ≡ true }
-        { crew::<W, L, G, P, T, R>(rt, less, alloc, seat, ring, op, gate, stop, supply, from) },
+        {
+            crew::<W, L, G, P, T, R>(
+                rt, less, alloc, seat, ring, op, gate, stop, supply, from, is_alone,
+            )
+        },
     );
     theirs.rejoin(seat, ring);
     fed

@@ -1,8 +1,8 @@
 //! The first seat fills the ring.
 ghost use Rattle.std.specs.Prelude.{◌≡◌, ◌≢◌, ◌^◌, ◌<◌, ◌≤◌, ℕ, ◌+◌, true, false, None, length, IfSome};
 ghost use Rattle.saber_ring.specs.Calls.{FillsNext, Covers};
-ghost use Rattle.saber_ring.specs.Words.{view, table, table_of};
-ghost use Rattle.saber_workers.specs.Seats.{IsFree, OfBase};
+ghost use Rattle.saber_ring.specs.Words.{view, table, table_of, cells};
+ghost use Rattle.saber_workers.specs.Seats.{IsFree, OfBase, SameSeat};
 ghost use Rattle.saber_workers.specs.Hands.{IsInHand};
 ghost use Rattle.saber_crew.specs.Feeds.{Puts, BeginsFeed, FedTo};
 
@@ -10,12 +10,11 @@ use crate::supply::Supply;
 use saber_core::Work;
 use saber_io::Gate;
 use saber_ring::{Fill, Frees, Ring, Seat};
-use saber_workers::{Hand, Labor, turn_of_work};
+use saber_workers::{Hand, Labor, Pause, turn_of_work};
 use std::alloc::Global;
 use std::collections::VecDeque;
 use std::sync::Wait;
 use std::sync::atomic::{AtomicBool, Ordering};
-use std::thread::yield_now;
 
 /// Why no more tasks were filled.
 #[derive(Clone, Copy, Debug, PartialEq, Eq)]
@@ -55,7 +54,9 @@ where
     ensures base { (view seat.new).base ≡ (view seat.old).base }
     ensures free { IsFree (view seat.new) }
     ensures job { (view seat.new).job ≡ (view seat.old).job }
+    ensures seen { (view seat.old).seen ≤ (view seat.new).seen }
     ensures put { result ≡ None → Puts W.filled rows true (view seat.old).lead (view seat.new).lead }
+    ensures room { result ≡ None → t < (view seat.new).seen + cells ring.now }
     ensures back { IfSome result (λ back. (back ≡ rows) × ((view seat.new).lead ≡ (view seat.old).lead)) }
 {
     if stop.load(Ordering::SeqCst) {
@@ -93,16 +94,19 @@ where
     requires suits { OfBase (L.suits op.now) (view seat.old).base }
     requires next { FillsNext W.is_told W.filled W.is_rows t rows (view seat.old).lead }
     requires below { (t < 2 ^ 42) × (hand.old.cursor ≤ 2 ^ 42) }
-    requires frees { (seen : ℕ) → Covers W.upto W.first t frees.now seen (view seat.old).lead }
+    requires frees { Covers W.upto W.first t frees.now (view seat.old).seen (view seat.old).lead }
     ensures same { table seat.new ≡ table seat.old }
     ensures base { (view seat.new).base ≡ (view seat.old).base }
     ensures free { IsFree (view seat.new) }
     ensures hand { IsInHand W.upto W.first (L.suits op.now) (L.has_blocks op.now) hand.new.held (view seat.new).job }
     ensures below { hand.new.cursor ≤ 2 ^ 42 }
     ensures put { Puts W.filled rows result (view seat.old).lead (view seat.new).lead }
+    ensures seen { (view seat.old).seen ≤ (view seat.new).seen }
+    ensures room { result ≡ true → t < (view seat.new).seen + cells ring.now }
     ensures stops { result ≡ false → (view seat.new).stopped ≡ true }
 {
     let mut rows = rows;
+    let mut idle = Pause::new();
     for _ in rt.forever() {
         match offer(seat, ring, stop, t, rows, frees) {
             None => return true,
@@ -113,8 +117,10 @@ where
                     stop.store(true, Ordering::SeqCst);
                     return false;
                 }
-                if !turned.claimed {
-                    yield_now();
+                if turned.claimed {
+                    idle.reset();
+                } else {
+                    idle.wait(rt);
                 }
             }
         }
@@ -122,7 +128,81 @@ where
     unreachable!()
 }
 
-/// Fills all tasks of the supply, until the stage is stopped or memory is wanting.
+// A turn of work at once where no other thread works, so that rows are worked on while they are at hand.
+fn work_along<W: Work, L: Labor<W>, G: Gate>(
+    alloc: Global,
+    seat: &mut Seat<W>,
+    ring: &Ring<W>,
+    op: &L,
+    gate: &G,
+    stop: &AtomicBool,
+    hand: &mut Hand<W, L::Draft>,
+    is_alone: bool,
+)
+    requires own { table seat.old ≡ table_of ring.now }
+    requires free { IsFree (view seat.old) }
+    requires hand { IsInHand W.upto W.first (L.suits op.now) (L.has_blocks op.now) hand.old.held (view seat.old).job }
+    requires suits { OfBase (L.suits op.now) (view seat.old).base }
+    requires below { hand.old.cursor ≤ 2 ^ 42 }
+    ensures same { table seat.new ≡ table seat.old }
+    ensures kept { SameSeat (view seat.old) (view seat.new) }
+    ensures free { IsFree (view seat.new) }
+    ensures hand { IsInHand W.upto W.first (L.suits op.now) (L.has_blocks op.now) hand.new.held (view seat.new).job }
+    ensures below { hand.new.cursor ≤ 2 ^ 42 }
+    ensures seen { (view seat.old).seen ≤ (view seat.new).seen }
+{
+    if !is_alone {
+        return;
+    }
+    let turned = turn_of_work(alloc, seat, ring, op, gate, hand);
+    if turned.stopped {
+        stop.store(true, Ordering::SeqCst);
+    }
+}
+
+// Fills task t, and works along. False where the stage is stopped.
+fn fill_next<W: Work, L: Labor<W>, G: Gate, R: Wait>(
+    rt: &R,
+    alloc: Global,
+    seat: &mut Seat<W>,
+    ring: &Ring<W>,
+    op: &L,
+    gate: &G,
+    stop: &AtomicBool,
+    t: u64,
+    rows: W::Rows,
+    frees: &Frees,
+    hand: &mut Hand<W, L::Draft>,
+    is_alone: bool,
+) -> bool
+where
+    W::Rows: Drop,
+    requires own { table seat.old ≡ table_of ring.now }
+    requires free { IsFree (view seat.old) }
+    requires hand { IsInHand W.upto W.first (L.suits op.now) (L.has_blocks op.now) hand.old.held (view seat.old).job }
+    requires suits { OfBase (L.suits op.now) (view seat.old).base }
+    requires next { FillsNext W.is_told W.filled W.is_rows t rows (view seat.old).lead }
+    requires below { (t < 2 ^ 42) × (hand.old.cursor ≤ 2 ^ 42) }
+    requires frees { Covers W.upto W.first t frees.now (view seat.old).seen (view seat.old).lead }
+    ensures same { table seat.new ≡ table seat.old }
+    ensures base { (view seat.new).base ≡ (view seat.old).base }
+    ensures free { IsFree (view seat.new) }
+    ensures hand { IsInHand W.upto W.first (L.suits op.now) (L.has_blocks op.now) hand.new.held (view seat.new).job }
+    ensures below { hand.new.cursor ≤ 2 ^ 42 }
+    ensures put { Puts W.filled rows result (view seat.old).lead (view seat.new).lead }
+    ensures seen { (view seat.old).seen ≤ (view seat.new).seen }
+    ensures room { result ≡ true → t < (view seat.new).seen + cells ring.now }
+    ensures stops { result ≡ false → (view seat.new).stopped ≡ true }
+{
+    if !put(rt, alloc, seat, ring, op, gate, stop, t, rows, frees, hand) {
+        return false;
+    }
+    work_along(alloc, seat, ring, op, gate, stop, hand, is_alone);
+    true
+}
+
+/// Fills all tasks of the supply, until the stage is stopped or memory is wanting. Where no other thread
+/// works, each is worked on as soon as it is filled.
 pub(crate) fn feed<W: Work, L: Labor<W>, G: Gate, P: Supply<W>, R: Wait>(
     rt: &R,
     alloc: Global,
@@ -134,6 +214,7 @@ pub(crate) fn feed<W: Work, L: Labor<W>, G: Gate, P: Supply<W>, R: Wait>(
     supply: &mut P,
     from: &mut P::From,
     hand: &mut Hand<W, L::Draft>,
+    is_alone: bool,
 ) -> Fed
 where
     W::Rows: Drop,
@@ -151,19 +232,21 @@ where
     ensures few { result.tasks ≤ 2 ^ 42 }
     ensures stops { result.over ≡ Over.Stopped → (view seat.new).stopped ≡ true }
 {
-    let mut tasks = 0;
+    let mut tasks: u64 = 0;
     let mut frees = Frees {
         base: 0,
         list: VecDeque::new(alloc),
     };
     while let Some(own) = supply.next(from) {
         let first = op.first(&own);
-        if frees.list.push_back(first).is_err() {
+        // The task before was filled, so what is assembled is less than a ring behind it.
+        let from = tasks.saturating_sub(ring.cells());
+        let Ok(()) = frees.push(first, from) else {
             let over = Over::NoMemory;
             return Fed { tasks, over };
-        }
-        if !put(
-            rt, alloc, seat, ring, op, gate, stop, tasks, own, &frees, hand,
+        };
+        if !fill_next(
+            rt, alloc, seat, ring, op, gate, stop, tasks, own, &frees, hand, is_alone,
         ) {
             let over = Over::Stopped;
             return Fed { tasks, over };

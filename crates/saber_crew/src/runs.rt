@@ -60,6 +60,7 @@ where
         &stop,
         supply,
         from,
+        sizes.threads == 0,
     );
     work_alone(alloc, &mut seat, &ring, op, gate, fed.tasks);
     Ok((ring.finish(seat), fed))

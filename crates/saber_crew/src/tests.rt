@@ -1,6 +1,5 @@
 //! Runs with threads over a small work, whose rows are numbers.
 ghost use Rattle.std.specs.Prelude.{◌≡◌, ◌≤◌, ◌+◌, ◌-◌, ◌^◌, ℕ, Some, None, true, false, IfSome, [], ◌∷◌, ◌++◌, length, take, List};
-ghost use Rattle.saber_core.specs.Works.{IsPieceOrMark};
 ghost use Rattle.saber_workers.specs.Labors.{Absorbs};
 ghost use Rattle.saber_crew.specs.Supplies.{Gives};
 ghost use Rattle.saber_crew.specs.Notes.{any_piece, any_stage, any_told, have_length, are_rows, next_of, Counts};
@@ -94,7 +93,7 @@ impl Labor<Noting> for Adding {
 
     fn absorb(&self, _alloc: Global, stage: &mut Vec<u64>, piece: Option<u64>) -> bool
         ensures none { piece ≡ None → result ≡ false }
-        ensures stage { (told : List ℕ) (k : ℕ) → any_told (take 0 told) → any_stage (take k told) k false stage.old → IsPieceOrMark any_piece told k piece → Absorbs any_stage told k stage.new result }
+        ensures stage { Absorbs (λ (told : List ℕ) (k : ℕ). take k told) any_piece any_stage any_told stage.old piece stage.new result }
     {
         let Some(piece) = piece else {
             return false;
@@ -159,6 +158,7 @@ fn run_tasks<R: Threads + Wait + Sync>(
         ring,
         threads,
         max_lines: 1,
+        slack: 0,
         flush: false,
     };
     let op = Adding { room };

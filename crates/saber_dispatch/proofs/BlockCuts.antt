@@ -3,6 +3,7 @@ use Rattle.std.proofs.Common.{inl, inr, ◌≡◌, ◌≤◌, ◌<◌, ◌^◌, 
 use Rattle.std.proofs.lemmas.Bool.{cases_lt}
 use Rattle.std.specs.Int.{div_ceil}
 use Rattle.std.specs.List.{AllByRecursion}
+use Rattle.saber_plan.specs.Sizes.{limits_of}
 use Rattle.saber_plan.specs.declared.rows.Row.{Row}
 use Rattle.saber_plan.specs.declared.rows.Side.{Side}
 use Rattle.saber_plan.specs.declared.rows.Side.TheVariants.{Left, Right}
@@ -25,7 +26,8 @@ use Rattle.saber_dispatch.specs.Readings.{reading_of}
 use Rattle.saber_dispatch.specs.Filling.{Took}
 use Rattle.saber_dispatch.specs.Cutting.{AreWhole, LooksBack, Behind, IsTooWide, CutState, Cuts, Adds, IsNextBlock, FilledState, Filled, fresh}
 use Rattle.saber_dispatch.proofs.Fillings.{small as small_marks, mark_append}
-use Rattle.saber_dispatch.proofs.NextTasks.{whole_tasks, one_task_more, upto_seam, need_stays}
+use Rattle.saber_dispatch.proofs.NextTasks.{upto_seam, need_stays}
+use Rattle.saber_plan.specs.CountFacts.{whole_tasks, one_task_more}
 
 pub on_ok : {X E : Type 0} (r : Result X E) (P Q : Type 0) → OnOk r P → (P → Q) → OnOk r Q
 on_ok (Ok x) P Q h f = f h
@@ -187,7 +189,7 @@ module _ (q : Tree) (s : Sizes) (had has : List (Option (List ℕ))) (c : Cutter
       sizes = f.sizes;
       made = record { size = f.made.size; room = f.made.room };
       dropped = [];
-      took = subst (λ l. Took q no_rows (fresh q s.max_lines) (reading_of c.reader) had has l) (sym (append-nil (xs ++ rows))) f.took;
+      took = subst (λ l. Took q no_rows (fresh q (limits_of s)) (reading_of c.reader) had has l) (sym (append-nil (xs ++ rows))) f.took;
       count = one_task_more s.task c.number (length xs) (length rows) some_size f.whole f.some f.few ∙ ap (λ k. div_ceil k s.task) (sym length_all);
       near = near_by;
       whole = whole_by c.ended f.state;

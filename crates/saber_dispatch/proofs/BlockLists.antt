@@ -5,10 +5,8 @@ use Rattle.std.proofs.lemmas.Grind.{div_ceil_times}
 use Rattle.std.proofs.lemmas.List.{take_all, take-append-le, drop-append-le, map-append, drop-map, length-drop}
 use Rattle.std.proofs.Math.Seq.{take-append_seam, drop-append_seam}
 use Rattle.saber_plan.specs.declared.rows.Row.{Row}
-use Rattle.saber_plan.specs.declared.rows.Side.{Side}
-use Rattle.saber_plan.specs.declared.rows.Side.TheVariants.{Left, Right}
 use Rattle.saber_plan.specs.declared.windows.Mark.{Mark}
-use Rattle.saber_plan.specs.Windows.{Frame, by_side, Ordered, no_rows, step_mark, mark_after, mark_of, placed, placed_after, closed_count, from}
+use Rattle.saber_plan.specs.Windows.{Frame, Ordered, no_rows, step_mark, mark_after, mark_of, placed, placed_after, closed_count, from}
 use Rattle.saber_plan.specs.Inputs.{going_on}
 use Rattle.saber_plan.specs.Answers.{frame}
 use Rattle.saber_plan.specs.Trees.{Tree}
@@ -19,7 +17,7 @@ use Rattle.saber_laws.specs.Needs.{LastsTellFree, TasksLookBack, TasksLookOn, Ne
 use Rattle.saber_dispatch.specs.declared.lasts.Lasts.{Lasts}
 use Rattle.saber_dispatch.specs.Cutting.{KeepsLasts, Behind}
 use Rattle.saber_dispatch.proofs.Fillings.{ordered_append}
-use Rattle.saber_dispatch.proofs.NextTasks.{tasks_have_rows}
+use Rattle.saber_plan.specs.CountFacts.{tasks_have_rows, mark_count}
 
 -- ---- numbers in a row
 
@@ -65,13 +63,6 @@ slice_back : {A : Type 0} (xs ys : List A) (x y : ℕ) → x ≡ length xs → y
 slice_back xs ys x y a b = ap (λ n. take (y - n) (drop n (xs ++ ys))) a ∙ ap (take (y - length xs)) (drop-append_seam xs ys) ∙ take_all (y - length xs) ys (omega (arith, b))
 
 -- ---- rows behind whole tasks
-
-mark_count : (m : Mark) (xs : List Row) → (mark_after m xs).left + (mark_after m xs).right ≡ m.left + m.right + length xs
-mark_count m [] = omega arith
-mark_count m (x ∷ xs) = mark_count (step_mark m x) xs ∙ by_case x.side where
-  by_case : (s : Side) → by_side s (m.left + 1) m.left + by_side s m.right (m.right + 1) + length xs ≡ m.left + m.right + length (x ∷ xs)
-  by_case Left = omega arith
-  by_case Right = omega arith
 
 module _ (q : Tree) (n : ℕ) (xs : List Row) (t : ℕ) (before : Mark) (b : Behind q n xs t before) where
   -- the tasks have room for all rows, and no task is empty

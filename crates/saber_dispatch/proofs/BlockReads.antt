@@ -1,6 +1,7 @@
 -- A block that is read: it is kept, or an end comes in its place.
 use Rattle.std.proofs.Common.{inl, ◌≡◌, ◌≤◌, ◌<◌, ℕ, suc, zero, ◌==◌, length, List, [], ◌∷◌, ◌++◌, Option, Some, None, Result, Ok, Err, Bool, true, false, cond, not, ◌&&◌, refl, sym, ◌∙◌, ap, subst, arith, append-nil}
 use Rattle.std.proofs.lemmas.Bool.Decides.{nat_tests}
+use Rattle.saber_plan.specs.Sizes.{limits_of}
 use Rattle.saber_plan.specs.declared.rows.Row.{Row}
 use Rattle.saber_plan.specs.declared.windows.Mark.{Mark}
 use Rattle.saber_plan.specs.Windows.{no_rows, mark_after, mark_of}
@@ -69,11 +70,11 @@ module _ (law : MovesGoOn) (laws : MergesGoOn) (q : Tree) (s : Sizes) (had has n
   pub is_rows : r ≡ going_on r.rows
   is_rows = goes_on r goes.unended
 
-  before_took : Took q no_rows (fresh q s.max_lines) (reading_of c.reader) had has r.rows
-  before_took = subst (Took q no_rows (fresh q s.max_lines) (reading_of c.reader) had has) (ap (λ l. r.rows ++ l) goes.none_dropped ∙ append-nil r.rows) k.took
+  before_took : Took q no_rows (fresh q (limits_of s)) (reading_of c.reader) had has r.rows
+  before_took = subst (Took q no_rows (fresh q (limits_of s)) (reading_of c.reader) had has) (ap (λ l. r.rows ++ l) goes.none_dropped ∙ append-nil r.rows) k.took
 
-  all_took : Took q no_rows (fresh q s.max_lines) (reading_of new) had now (r.rows ++ f.rows)
-  all_took = took_on law laws q no_rows (fresh q s.max_lines) (reading_of c.reader) (reading_of new) had has now r.rows f.rows before_took (subst (λ m. Took q m (reading_of c.reader) (reading_of new) has now f.rows) goes.mark f.took)
+  all_took : Took q no_rows (fresh q (limits_of s)) (reading_of new) had now (r.rows ++ f.rows)
+  all_took = took_on law laws q no_rows (fresh q (limits_of s)) (reading_of c.reader) (reading_of new) had has now r.rows f.rows before_took (subst (λ m. Took q m (reading_of c.reader) (reading_of new) has now f.rows) goes.mark f.took)
 
   kept_rows : keeps_rows filled ≡ true → f.rows ≡ rows
   kept_rows e = sym (f.kept e ∙ ap (λ l. l ++ f.rows) empty)
@@ -89,7 +90,7 @@ module _ (law : MovesGoOn) (laws : MergesGoOn) (q : Tree) (s : Sizes) (had has n
     windows = k.windows;
     sizes = k.sizes;
     made = record { size = k.made.size; room = k.made.room };
-    took = subst (λ l. Took q no_rows (fresh q s.max_lines) (reading_of new) had now (r.rows ++ l)) e all_took;
+    took = subst (λ l. Took q no_rows (fresh q (limits_of s)) (reading_of new) had now (r.rows ++ l)) e all_took;
     some = some;
     few = subst (λ n. length rows ≤ n) k.made.size (subst (λ l. length l ≤ c.size) e f.few);
     whole = goes.whole;

@@ -3,6 +3,7 @@ use Rattle.std.proofs.Common.{inr, ◌≡◌, ◌≤◌, ◌<◌, ◌^◌, ℕ, 
 use Rattle.std.proofs.lemmas.Bool.{cases_lt}
 use Rattle.std.proofs.lemmas.List.{take_all}
 use Rattle.std.proofs.lemmas.Grind.{div_ceil_times}
+use Rattle.saber_plan.specs.Sizes.{limits_of}
 use Rattle.saber_plan.specs.declared.windows.Mark.{Mark}
 use Rattle.saber_plan.specs.declared.sizes.Sizes.{Sizes}
 use Rattle.saber_plan.specs.Rows.{all_read}
@@ -21,7 +22,8 @@ use Rattle.saber_dispatch.specs.Readings.{reading_of}
 use Rattle.saber_dispatch.specs.Filling.{Took}
 use Rattle.saber_dispatch.specs.Cutting.{LooksBack, Behind, AtEnd, EndComes, CutState, Flushes, Cuts, Adds, IsNextBlock, is_due, end_counts, and_block, fresh}
 use Rattle.saber_dispatch.proofs.Fillings.{small as small_marks}
-use Rattle.saber_dispatch.proofs.NextTasks.{goes_on, tasks_have_rows, upto_rows, need_stays}
+use Rattle.saber_dispatch.proofs.NextTasks.{goes_on, upto_rows, need_stays}
+use Rattle.saber_plan.specs.CountFacts.{tasks_have_rows}
 
 both_on : (b : Bool) (n : ℕ) → (b && not (n == 0)) ≡ true → (b ≡ true) × (1 ≤ n)
 both_on true zero h = absurd (let e : false ≡ true = h in cc)
@@ -61,8 +63,8 @@ module _ (q : Tree) (s : Sizes) (had has : List (Option (List ℕ))) (c : Cutter
   had_rows : 1 ≤ length r.rows
   had_rows = omega (arith, on.1, count_rows, tasks_have_rows s.task (length r.rows) some_size)
 
-  took_all : Took q no_rows (fresh q s.max_lines) (reading_of c.reader) had has r.rows
-  took_all = subst (Took q no_rows (fresh q s.max_lines) (reading_of c.reader) had has) (ap (λ l. r.rows ++ l) at_end.none_dropped ∙ append-nil r.rows) k.took
+  took_all : Took q no_rows (fresh q (limits_of s)) (reading_of c.reader) had has r.rows
+  took_all = subst (Took q no_rows (fresh q (limits_of s)) (reading_of c.reader) had has) (ap (λ l. r.rows ++ l) at_end.none_dropped ∙ append-nil r.rows) k.took
 
   marks_small : ((mark_of r.rows).left ≤ 2 ^ 40) × ((mark_of r.rows).right ≤ 2 ^ 40)
   marks_small = small_marks q (mark_of r.rows) (reading_of c.reader) took_all.reads

@@ -2,6 +2,7 @@
 use Rattle.std.proofs.Common.{◌≡◌, ◌≤◌, ◌<◌, ℕ, ◌+◌, ◌*◌, ◌/◌, min, length, List, [], ◌∷◌, ◌++◌, take, true, false, Option, refl, sym, ◌∙◌, ap, subst, arith, append-nil, length-append}
 use Rattle.std.proofs.Math.Nat.{lt_of_mul-lt-mul_right, mul-le-mul_right}
 use Rattle.std.proofs.lemmas.List.{take-append-le}
+use Rattle.saber_plan.specs.Sizes.{FileLimits, limits_of}
 use Rattle.saber_plan.specs.declared.rows.Row.{Row}
 use Rattle.saber_plan.specs.declared.rows.Side.{Side}
 use Rattle.saber_plan.specs.declared.rows.Side.TheVariants.{Left, Right}
@@ -30,11 +31,11 @@ abbrev Lefts : Type 0
 Lefts = List (Option (List ℕ))
 
 -- the rows of the whole lines that were taken are the first of these
-record WasTaken (q : Tree) (most : ℕ) (had has : Lefts) (ys : List Row) : Type 0 where
+record WasTaken (q : Tree) (limits : FileLimits) (had has : Lefts) (ys : List Row) : Type 0 where
   taken : List (List ℕ)
   left : GaveAll had taken has
   more : List Row
-  front : (input (wholes q most taken)).rows ++ more ≡ ys
+  front : (input (wholes q limits taken)).rows ++ more ≡ ys
 
 unended_can : (r : readers.Reader) → r.ended ≡ false → CanFollow true r []
 unended_can r h e = absurd (no (sym h ∙ e)) where
@@ -49,9 +50,9 @@ rows_of a b ys e h = ap (λ (r : Read). r.rows) (e ∙ ap (prepend ys) h) ∙ ap
 
 -- ---- of one input
 
-one_taken : (q : Tree) (most : ℕ) (ys : List Row) (new : readers.Reader) (had has : Option (List ℕ)) → NeedsMore new → Moves (prepend ys) (new_reader (rules_on q most Left)) new had has → WasTaken q most (had ∷ []) (has ∷ []) ys
-one_taken q most ys new had has n m =
-    let rules = rules_on q most Left in
+one_taken : (q : Tree) (limits : FileLimits) (ys : List Row) (new : readers.Reader) (had has : Option (List ℕ)) → NeedsMore new → Moves (prepend ys) (new_reader (rules_on q limits Left)) new had has → WasTaken q limits (had ∷ []) (has ∷ []) ys
+one_taken q limits ys new had has n m =
+    let rules = rules_on q limits Left in
     let all : (whole rules (m.taken ++ [])).rows ≡ ys = rows_of (whole rules (m.taken ++ [])) (readers.rest_of true new []) ys (m.rest true [] (unended_can new n.unended)) n.none in
     record {
       taken = m.taken ∷ [];
@@ -63,31 +64,31 @@ one_taken q most ys new had has n m =
 -- ---- of two
 
 module _ (all_first : AllAreFirst) (lines_first : WholeLinesAreFirst) (merges_keep : MergesKeepFirst) where
-  two_taken : (q : Tree) (most : ℕ) (ys : List Row) (side : Side) (new : Merger) (had has had_right has_right : Option (List ℕ)) → MergeNeeds side new
-      → MergeMoves (prepend ys) (new_merger (new_reader (rules_on q most Left)) (new_reader (rules_on q most Right))) new had has had_right has_right → WasTaken q most (had ∷ had_right ∷ []) (has ∷ has_right ∷ []) ys
-  two_taken q most ys Left new had has had_right has_right n m =
-      let l = whole (rules_on q most Left) in
+  two_taken : (q : Tree) (limits : FileLimits) (ys : List Row) (side : Side) (new : Merger) (had has had_right has_right : Option (List ℕ)) → MergeNeeds side new
+      → MergeMoves (prepend ys) (new_merger (new_reader (rules_on q limits Left)) (new_reader (rules_on q limits Right))) new had has had_right has_right → WasTaken q limits (had ∷ had_right ∷ []) (has ∷ has_right ∷ []) ys
+  two_taken q limits ys Left new had has had_right has_right n m =
+      let l = whole (rules_on q limits Left) in
       let z = m.left.taken in
       let w = m.right.taken in
-      let all = rows_of (merged (l (z ++ [])) (rows (rules_on q most Right) (w ++ []))) _ ys (m.rest true false [] [] (unended_can new.left.reader n.0.unended) (none_can new.right.reader)) (n.1 [] (none_can new.right.reader)) in
-      let f : IsFirstOf (merged (l z) (whole (rules_on q most Right) w)) (merged (l z) (rows (rules_on q most Right) (w ++ []))) = merges_keep _ _ _ _ (all_first (l z)) (lines_first (rules_on q most Right) w []).at_end in
+      let all = rows_of (merged (l (z ++ [])) (rows (rules_on q limits Right) (w ++ []))) _ ys (m.rest true false [] [] (unended_can new.left.reader n.0.unended) (none_can new.right.reader)) (n.1 [] (none_can new.right.reader)) in
+      let f : IsFirstOf (merged (l z) (whole (rules_on q limits Right) w)) (merged (l z) (rows (rules_on q limits Right) (w ++ []))) = merges_keep _ _ _ _ (all_first (l z)) (lines_first (rules_on q limits Right) w []).at_end in
       record {
         taken = z ∷ w ∷ [];
         left = (m.left.left, (m.right.left, tt));
         more = f.rest;
-        front = f.first ∙ ap (λ u. (merged (l u) (rows (rules_on q most Right) (w ++ []))).rows) (sym (append-nil z)) ∙ all;
+        front = f.first ∙ ap (λ u. (merged (l u) (rows (rules_on q limits Right) (w ++ []))).rows) (sym (append-nil z)) ∙ all;
       }
-  two_taken q most ys Right new had has had_right has_right n m =
-      let r = whole (rules_on q most Right) in
+  two_taken q limits ys Right new had has had_right has_right n m =
+      let r = whole (rules_on q limits Right) in
       let z = m.left.taken in
       let w = m.right.taken in
-      let all = rows_of (merged (rows (rules_on q most Left) (z ++ [])) (r (w ++ []))) _ ys (m.rest false true [] [] (none_can new.left.reader) (unended_can new.right.reader n.0.unended)) (n.1 [] (none_can new.left.reader)) in
-      let f : IsFirstOf (merged (whole (rules_on q most Left) z) (r w)) (merged (rows (rules_on q most Left) (z ++ [])) (r w)) = merges_keep _ _ _ _ (lines_first (rules_on q most Left) z []).at_end (all_first (r w)) in
+      let all = rows_of (merged (rows (rules_on q limits Left) (z ++ [])) (r (w ++ []))) _ ys (m.rest false true [] [] (none_can new.left.reader) (unended_can new.right.reader n.0.unended)) (n.1 [] (none_can new.left.reader)) in
+      let f : IsFirstOf (merged (whole (rules_on q limits Left) z) (r w)) (merged (rows (rules_on q limits Left) (z ++ [])) (r w)) = merges_keep _ _ _ _ (lines_first (rules_on q limits Left) z []).at_end (all_first (r w)) in
       record {
         taken = z ∷ w ∷ [];
         left = (m.left.left, (m.right.left, tt));
         more = f.rest;
-        front = f.first ∙ ap (λ u. (merged (rows (rules_on q most Left) (z ++ [])) (r u)).rows) (sym (append-nil w)) ∙ all;
+        front = f.first ∙ ap (λ u. (merged (rows (rules_on q limits Left) (z ++ [])) (r u)).rows) (sym (append-nil w)) ∙ all;
       }
 
   -- ---- of either
@@ -100,28 +101,28 @@ module _ (all_first : AllAreFirst) (lines_first : WholeLinesAreFirst) (merges_ke
   two_needs m Left n = n
   two_needs m Right n = n
 
-  as_one : (q : Tree) (most : ℕ) (ys : List Row) (side : Side) (b : Reading) (had has : Lefts) → ReadNeeds side b → ReadMoves (prepend ys) (one (new_reader (rules_on q most Left))) b had has → WasTaken q most had has ys
-  as_one q most ys side b had has n m =
-      let k = one_moved (prepend ys) (new_reader (rules_on q most Left)) b had has m in
+  as_one : (q : Tree) (limits : FileLimits) (ys : List Row) (side : Side) (b : Reading) (had has : Lefts) → ReadNeeds side b → ReadMoves (prepend ys) (one (new_reader (rules_on q limits Left))) b had has → WasTaken q limits had has ys
+  as_one q limits ys side b had has n m =
+      let k = one_moved (prepend ys) (new_reader (rules_on q limits Left)) b had has m in
       let needs : NeedsMore k.new = right_needs k.new side (subst (ReadNeeds side) k.new_is n) in
-      subst (λ x. WasTaken q most x has ys) (sym k.had_is) (subst (λ x. WasTaken q most (k.left ∷ []) x ys) (sym k.has_is) (one_taken q most ys k.new k.left k.behind needs k.moves))
+      subst (λ x. WasTaken q limits x has ys) (sym k.had_is) (subst (λ x. WasTaken q limits (k.left ∷ []) x ys) (sym k.has_is) (one_taken q limits ys k.new k.left k.behind needs k.moves))
 
-  taken_on : (q : Tree) (most : ℕ) (ys : List Row) (side : Side) (streams : List Stream) (b : Reading) (had has : Lefts) → ReadNeeds side b → ReadMoves (prepend ys) (fresh_on q most streams) b had has → WasTaken q most had has ys
-  taken_on q most ys side [] b had has n m = as_one q most ys side b had has n m
-  taken_on q most ys side (s ∷ []) b had has n m = as_one q most ys side b had has n m
-  taken_on q most ys side (s ∷ t ∷ more) b had has n m =
-      let k = two_moved (prepend ys) (new_merger (new_reader (rules_on q most Left)) (new_reader (rules_on q most Right))) b had has m in
+  taken_on : (q : Tree) (limits : FileLimits) (ys : List Row) (side : Side) (streams : List Stream) (b : Reading) (had has : Lefts) → ReadNeeds side b → ReadMoves (prepend ys) (fresh_on q limits streams) b had has → WasTaken q limits had has ys
+  taken_on q limits ys side [] b had has n m = as_one q limits ys side b had has n m
+  taken_on q limits ys side (s ∷ []) b had has n m = as_one q limits ys side b had has n m
+  taken_on q limits ys side (s ∷ t ∷ more) b had has n m =
+      let k = two_moved (prepend ys) (new_merger (new_reader (rules_on q limits Left)) (new_reader (rules_on q limits Right))) b had has m in
       let needs : MergeNeeds side k.new = two_needs k.new side (subst (ReadNeeds side) k.new_is n) in
-      subst (λ x. WasTaken q most x has ys) (sym k.had_is) (subst (λ x. WasTaken q most (k.left ∷ k.right ∷ []) x ys) (sym k.has_is) (two_taken q most ys side k.new k.left k.behind k.right k.behind_right needs k.moves))
+      subst (λ x. WasTaken q limits x has ys) (sym k.had_is) (subst (λ x. WasTaken q limits (k.left ∷ k.right ∷ []) x ys) (sym k.has_is) (two_taken q limits ys side k.new k.left k.behind k.right k.behind_right needs k.moves))
 
   -- ---- and so of the blocks
 
   module _ (q : Tree) (s : Sizes) (had has : Lefts) (c : Cutter) (r : Input) (side : Side) (k : Cuts q s had has c r) (off : CutOff s c r k.dropped side) where
-    was : WasTaken q s.max_lines had has (r.rows ++ k.dropped)
-    was = taken_on q s.max_lines (r.rows ++ k.dropped) side q.streams (reading_of c.reader) had has off.needs k.took.moves
+    was : WasTaken q (limits_of s) had has (r.rows ++ k.dropped)
+    was = taken_on q (limits_of s) (r.rows ++ k.dropped) side q.streams (reading_of c.reader) had has off.needs k.took.moves
 
     abbrev lines : List Row
-    lines = (input (wholes q s.max_lines was.taken)).rows
+    lines = (input (wholes q (limits_of s) was.taken)).rows
 
     longest : length lines < (c.number + 1) * s.task
     longest =

@@ -4,9 +4,8 @@ use Rattle.std.proofs.lemmas.Bool.Decides.{nat_tests}
 use Rattle.std.proofs.lemmas.Bool.{cases_lt}
 use Rattle.std.proofs.lemmas.Grind.{div_ceil_times}
 use Rattle.std.proofs.lemmas.List.{take_all}
-use Rattle.std.proofs.Math.Nat.{lt_of_mul-lt-mul_right, le-mul_of_pos_right}
+use Rattle.std.proofs.Math.Nat.{lt_of_mul-lt-mul_right}
 use Rattle.std.proofs.Math.Seq.{take-append_seam}
-use Rattle.std.specs.Int.{div_ceil}
 use Rattle.saber_plan.specs.declared.rows.Row.{Row}
 use Rattle.saber_plan.specs.Inputs.{Input, arrived, going_on}
 use Rattle.saber_plan.specs.Trees.{Tree}
@@ -17,39 +16,6 @@ use Rattle.saber_laws.specs.Needs.{NeedsStay}
 use Rattle.saber_dispatch.specs.declared.ends.End.{End}
 use Rattle.saber_dispatch.specs.declared.ends.End.TheVariants.{TooWide}
 use Rattle.saber_dispatch.specs.Cutting.{too_wide}
-
--- ---- counts of tasks
-
--- so many whole tasks
-pub whole_tasks : (n k a : ℕ) → 1 ≤ n → a ≡ k * n → k ≡ div_ceil a n
-whole_tasks n k a some whole =
-    let h = div_ceil_times a n some in
-    let low : k < div_ceil a n + 1 = lt_of_mul-lt-mul_right n (omega (arith, h.0, whole, some)) in
-    let high : div_ceil a n < k + 1 = lt_of_mul-lt-mul_right n (omega (arith, h.1, whole)) in
-    omega (arith, low, high)
-
--- and one more, which may be short
-pub one_task_more : (n k a b : ℕ) → 1 ≤ n → a ≡ k * n → 1 ≤ b → b ≤ n → k + 1 ≡ div_ceil (a + b) n
-one_task_more n k a b some whole u f =
-    let h = div_ceil_times (a + b) n some in
-    let low : k < div_ceil (a + b) n = lt_of_mul-lt-mul_right n (omega (arith, h.0, whole, u)) in
-    let high : div_ceil (a + b) n < k + 2 = lt_of_mul-lt-mul_right n (omega (arith, h.1, whole, f)) in
-    omega (arith, low, high)
-
--- no task is empty
-pub tasks_have_rows : (n a : ℕ) → 1 ≤ n → div_ceil a n ≤ a
-tasks_have_rows n a some =
-    let h = div_ceil_times a n some in
-    let l : a ≤ a * n = le-mul_of_pos_right a some in
-    let one : (a + 1) * n ≡ a * n + n = grind arith in
-    let low : div_ceil a n < a + 1 = lt_of_mul-lt-mul_right n (omega (arith, h.1, l, one)) in
-    omega (arith, low)
-
--- more rows than whole tasks have are in later tasks
-pub later_task : (n k a : ℕ) → 1 ≤ n → k * n < a → k < div_ceil a n
-later_task n k a some more =
-    let h = div_ceil_times a n some in
-    lt_of_mul-lt-mul_right n (omega (arith, h.0, more))
 
 -- ---- parts of an input
 

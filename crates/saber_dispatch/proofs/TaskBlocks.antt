@@ -4,6 +4,7 @@ use Rattle.std.proofs.lemmas.List.{take_all}
 use Rattle.std.proofs.lemmas.Bool.Decides.{nat_tests}
 use Rattle.std.proofs.lemmas.Bool.{cases_lt}
 use Rattle.std.proofs.lemmas.Grind.{div_ceil_times}
+use Rattle.saber_plan.specs.Sizes.{FileLimits, limits_of}
 use Rattle.saber_plan.specs.declared.rows.Row.{Row}
 use Rattle.saber_plan.specs.declared.windows.Stream.{Stream}
 use Rattle.saber_plan.specs.declared.sizes.Sizes.{Sizes}
@@ -27,7 +28,8 @@ use Rattle.saber_dispatch.specs.Readings.{Reading, one, two, reading_of, Suits, 
 use Rattle.saber_dispatch.specs.Filling.{prepend}
 use Rattle.saber_dispatch.specs.Cutting.{Cuts, CutState, AreWhole, AtEnd, AtBad, EndComes, EndGiven, Flushes, IsThere, IsTooWide, end_counts, is_due, told_end, end_of, fresh, fresh_on}
 use Rattle.saber_dispatch.specs.Telling.{input_of, IsFirstWide, EndsNear, AreNear, BlocksAreNear, HasAll, EndsAs, AreTasks, BlocksAreTasks}
-use Rattle.saber_dispatch.proofs.NextTasks.{goes_on, later_task, upto_rows, upto_end, upto_seam, none_wide, first_wide, need_stays}
+use Rattle.saber_plan.specs.CountFacts.{later_task}
+use Rattle.saber_dispatch.proofs.NextTasks.{goes_on, upto_rows, upto_end, upto_seam, none_wide, first_wide, need_stays}
 
 abbrev Lefts : Type 0
 Lefts = List (Option (List ℕ))
@@ -43,17 +45,17 @@ tells law laws f (one a) (one b) (x ∷ []) (y ∷ []) m = law f a b x y m
 tells law laws f (two a) (two b) (x ∷ z ∷ []) (y ∷ w ∷ []) m = laws f a b x y z w m
 tells law laws f a b had has m = absurd m
 
-fresh_over : (q : Tree) (most : ℕ) (streams : List Stream) (files : List (List ℕ)) → Suits (fresh_on q most streams) (map Some files) → reading_over (fresh_on q most streams) (map Some files) ≡ Some (input_of q most files)
-fresh_over q most [] (f ∷ []) s = refl
-fresh_over q most (x ∷ []) (f ∷ []) s = refl
-fresh_over q most (x ∷ y ∷ ss) (f ∷ g ∷ []) s = refl
-fresh_over q most [] [] s = absurd s
-fresh_over q most [] (f ∷ g ∷ fs) s = absurd s
-fresh_over q most (x ∷ []) [] s = absurd s
-fresh_over q most (x ∷ []) (f ∷ g ∷ fs) s = absurd s
-fresh_over q most (x ∷ y ∷ ss) [] s = absurd s
-fresh_over q most (x ∷ y ∷ ss) (f ∷ []) s = absurd s
-fresh_over q most (x ∷ y ∷ ss) (f ∷ g ∷ h ∷ fs) s = absurd s
+fresh_over : (q : Tree) (limits : FileLimits) (streams : List Stream) (files : List (List ℕ)) → Suits (fresh_on q limits streams) (map Some files) → reading_over (fresh_on q limits streams) (map Some files) ≡ Some (input_of q limits files)
+fresh_over q limits [] (f ∷ []) s = refl
+fresh_over q limits (x ∷ []) (f ∷ []) s = refl
+fresh_over q limits (x ∷ y ∷ ss) (f ∷ g ∷ []) s = refl
+fresh_over q limits [] [] s = absurd s
+fresh_over q limits [] (f ∷ g ∷ fs) s = absurd s
+fresh_over q limits (x ∷ []) [] s = absurd s
+fresh_over q limits (x ∷ []) (f ∷ g ∷ fs) s = absurd s
+fresh_over q limits (x ∷ y ∷ ss) [] s = absurd s
+fresh_over q limits (x ∷ y ∷ ss) (f ∷ []) s = absurd s
+fresh_over q limits (x ∷ y ∷ ss) (f ∷ g ∷ h ∷ fs) s = absurd s
 
 record Rest (o : Option Read) (all : Read) (ys : List Row) : Type 0 where
   rest : Read
@@ -218,15 +220,15 @@ near_law law q s had has c r k = are_near q s had has c r k law
 
 -- ---- over inputs that tell
 
-module _ (law : ReadersTell) (laws : MergesTell) (stay : NeedsStay) (q : Tree) (s : Sizes) (files : List (List ℕ)) (has : Lefts) (c : Cutter) (r : Input) (u : Suits (fresh q s.max_lines) (map Some files)) (k : Cuts q s (map Some files) has c r) where
+module _ (law : ReadersTell) (laws : MergesTell) (stay : NeedsStay) (q : Tree) (s : Sizes) (files : List (List ℕ)) (has : Lefts) (c : Cutter) (r : Input) (u : Suits (fresh q (limits_of s)) (map Some files)) (k : Cuts q s (map Some files) has c r) where
   abbrev all : Read
-  all = input_of q s.max_lines files
+  all = input_of q (limits_of s) files
 
   abbrev run : Input
   run = run_input q s.flush all
 
   left_over : Rest (reading_over (reading_of c.reader) has) all (r.rows ++ k.dropped)
-  left_over = rest_of_all _ all (r.rows ++ k.dropped) (sym (fresh_over q s.max_lines q.streams files u) ∙ tells law laws (prepend (r.rows ++ k.dropped)) (fresh q s.max_lines) (reading_of c.reader) (map Some files) has k.took.moves)
+  left_over = rest_of_all _ all (r.rows ++ k.dropped) (sym (fresh_over q (limits_of s) q.streams files u) ∙ tells law laws (prepend (r.rows ++ k.dropped)) (fresh q (limits_of s)) (reading_of c.reader) (map Some files) has k.took.moves)
 
   all_rows : all.rows ≡ r.rows ++ (k.dropped ++ left_over.rest.rows)
   all_rows = ap (λ (i : Read). i.rows) left_over.front ∙ append_assoc r.rows k.dropped left_over.rest.rows

@@ -9,7 +9,7 @@ use Rattle.saber_plan.specs.declared.plans.Shape.TheVariants.{Join}
 use Rattle.saber_plan.specs.Rows.{SideRules, all_read, bad}
 use Rattle.saber_plan.specs.Rows as rows
 use Rattle.saber_plan.specs.declared.sizes.Sizes.{Sizes}
-use Rattle.saber_plan.specs.Sizes.{SizesFit}
+use Rattle.saber_plan.specs.Sizes.{SizesFit, limits_of, FileLimits}
 use Rattle.saber_plan.specs.Windows.{Fits, Ordered, has_windows, no_rows, mark_of}
 use Rattle.saber_plan.specs.Inputs.{Input, going_on}
 use Rattle.saber_plan.specs.Answers.{frame}
@@ -32,17 +32,17 @@ use Rattle.saber_dispatch.specs.Readings.{Reading, one, two, reading_of, Suits, 
 use Rattle.saber_dispatch.specs.Filling.{Took, keeps}
 
 -- the rules for the lines of a side
-abbrev pub rules_on : Tree → ℕ → Side → SideRules
-rules_on q most side = rules_for side (columns_on q.streams side) most
+abbrev pub rules_on : Tree → FileLimits → Side → SideRules
+rules_on q limits side = rules_for side (columns_on q.streams side) limits
 
 -- the reader of a query's inputs before its first row
-abbrev pub fresh_on : Tree → ℕ → List Stream → Reading
-fresh_on q most [] = one (new_reader (rules_on q most Left))
-fresh_on q most (s ∷ []) = one (new_reader (rules_on q most Left))
-fresh_on q most (s ∷ t ∷ more) = two (new_merger (new_reader (rules_on q most Left)) (new_reader (rules_on q most Right)))
+abbrev pub fresh_on : Tree → FileLimits → List Stream → Reading
+fresh_on q limits [] = one (new_reader (rules_on q limits Left))
+fresh_on q limits (s ∷ []) = one (new_reader (rules_on q limits Left))
+fresh_on q limits (s ∷ t ∷ more) = two (new_merger (new_reader (rules_on q limits Left)) (new_reader (rules_on q limits Right)))
 
-abbrev pub fresh : Tree → ℕ → Reading
-fresh q most = fresh_on q most q.streams
+abbrev pub fresh : Tree → FileLimits → Reading
+fresh q limits = fresh_on q limits q.streams
 
 -- ---- how far back tasks look
 
@@ -167,7 +167,7 @@ pub record Cuts (q : Tree) (s : Sizes) (had has : Lefts) (c : Cutter) (r : Input
   pub sizes : SizesFit s
   pub made : MadeFor s c
   pub dropped : List Row
-  pub took : Took q no_rows (fresh q s.max_lines) (reading_of c.reader) had has (r.rows ++ dropped)
+  pub took : Took q no_rows (fresh q (limits_of s)) (reading_of c.reader) had has (r.rows ++ dropped)
   pub count : c.number ≡ task_count s.task r
   pub near : (u : ℕ) → u < c.number → need q s.task r u ≤ s.ring
   pub whole : AreWhole s c r dropped
@@ -235,7 +235,7 @@ CutsOn cut left has old new = (q : Tree) (s : Sizes) (had : Lefts) (r : Input) �
 
 -- nothing was given, and nothing read
 abbrev pub CutsNothing : Tree → Sizes → Cutter → Type 0
-CutsNothing q s c = (had : Lefts) → Suits (fresh q s.max_lines) had → Cuts q s had had c (going_on [])
+CutsNothing q s c = (had : Lefts) → Suits (fresh q (limits_of s)) had → Cuts q s had had c (going_on [])
 
 -- the end in place of a task that needs the blocks from this one on, where there is no room for so many
 abbrev pub too_wide : ℕ → ℕ → ℕ → Option End
@@ -265,7 +265,7 @@ pub record Filled (q : Tree) (s : Sizes) (had has : Lefts) (c : Cutter) (xs : Li
   pub windows : Fits (frame q)
   pub sizes : SizesFit s
   pub made : MadeFor s c
-  pub took : Took q no_rows (fresh q s.max_lines) (reading_of c.reader) had has (xs ++ rows)
+  pub took : Took q no_rows (fresh q (limits_of s)) (reading_of c.reader) had has (xs ++ rows)
   pub some : 1 ≤ length rows
   pub few : length rows ≤ s.task
   pub whole : length xs ≡ c.number * s.task

@@ -1,6 +1,7 @@
 -- What was taken of inputs of which a read failed.
 use Rattle.std.specs.Prelude.{◌≡◌, ◌≤◌, ℕ, ◌*◌, ◌/◌, length, List, [], ◌∷◌, Some}
 use Rattle.saber_io.specs.Outside.{given}
+use Rattle.saber_plan.specs.Sizes.{limits_of, FileLimits}
 use Rattle.saber_plan.specs.declared.rows.Side.{Side}
 use Rattle.saber_plan.specs.declared.rows.Side.TheVariants.{Left, Right}
 use Rattle.saber_plan.specs.declared.sizes.Sizes.{Sizes}
@@ -20,17 +21,17 @@ GaveAll (had ∷ hads) (taken ∷ more) (has ∷ hass) = (had ≡ given taken ha
 GaveAll _ _ _ = ⊥
 
 -- the rows of the whole lines of these bytes, where more may follow
-abbrev pub wholes : Tree → ℕ → List (List ℕ) → List Read
-wholes q most [] = []
-wholes q most (l ∷ []) = whole (rules_on q most Left) l ∷ []
-wholes q most (l ∷ r ∷ more) = whole (rules_on q most Left) l ∷ whole (rules_on q most Right) r ∷ []
+abbrev pub wholes : Tree → FileLimits → List (List ℕ) → List Read
+wholes q limits [] = []
+wholes q limits (l ∷ []) = whole (rules_on q limits Left) l ∷ []
+wholes q limits (l ∷ r ∷ more) = whole (rules_on q limits Left) l ∷ whole (rules_on q limits Right) r ∷ []
 
 -- at least every whole task of the whole lines that were taken of each input is in a block
 pub record ReadsWhole (q : Tree) (s : Sizes) (had has : Lefts) (r : Input) : Type 0 where
   pub taken : List (List ℕ)
   pub left : GaveAll had taken has
-  pub count : length (input (wholes q s.max_lines taken)).rows / s.task ≤ task_count s.task r
-  pub tasks : (k : ℕ) → k * s.task ≤ length (input (wholes q s.max_lines taken)).rows → upto s.task r k ≡ upto s.task (going_on (input (wholes q s.max_lines taken)).rows) k
+  pub count : length (input (wholes q (limits_of s) taken)).rows / s.task ≤ task_count s.task r
+  pub tasks : (k : ℕ) → k * s.task ≤ length (input (wholes q (limits_of s) taken)).rows → upto s.task r k ≡ upto s.task (going_on (input (wholes q (limits_of s) taken)).rows) k
 
 abbrev pub FaultsLeaveWholeTasks : Type 0
 FaultsLeaveWholeTasks = (q : Tree) (s : Sizes) (had has : Lefts) (c : Cutter) (r : Input) (side : Side) → Cuts q s had has c r → end_of c ≡ Some (ReadFault side) → ReadsWhole q s had has r

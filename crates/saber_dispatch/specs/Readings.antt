@@ -4,7 +4,8 @@ use Rattle.saber_plan.specs.declared.rows.Row.{Row}
 use Rattle.saber_plan.specs.declared.rows.Side.{Side}
 use Rattle.saber_plan.specs.declared.rows.Side.TheVariants.{Left, Right}
 use Rattle.saber_plan.specs.declared.windows.Mark.{Mark}
-use Rattle.saber_plan.specs.Rows.{Read, SideRules, before, stamp, all_read, bad}
+use Rattle.saber_plan.specs.Rows.{Read, SideRules, most_held, before, stamp, all_read, bad}
+use Rattle.saber_plan.specs.Sizes.{FileLimits}
 use Rattle.saber_plan.specs.Rows as rows
 use Rattle.saber_plan.specs.Windows.{can_follow, step_mark}
 use Rattle.saber_plan.specs.Trees.{Tree}
@@ -136,6 +137,6 @@ Steps answer old new had has = (q : Tree) (m : Mark) → Reads q m old → Stepp
 abbrev pub FaultsAreReal : Result Row End → Reading → List ℕ → List ℕ → Type 0
 FaultsAreReal answer old before after = (q : Tree) (m : Mark) (side : Side) → Reads q m old → IsOpen old → answer ≡ Err (ReadFault side) → RoseAt side before after
 
--- the rules of a side of so many columns
-abbrev pub rules_for : Side → ℕ → ℕ → SideRules
-rules_for side columns most = record { side = side; columns = columns; most = most }
+-- the rules of a side of so many columns: the limits of files hold for each side by itself
+abbrev pub rules_for : Side → ℕ → FileLimits → SideRules
+rules_for side columns limits = record { side = side; columns = columns; most = limits.most; slack = limits.slack; room = most_held }

@@ -1,5 +1,6 @@
 -- Blocks over inputs that tell their bytes, and which task is too wide.
 use Rattle.std.specs.Prelude.{◌≡◌, ℕ, List, [], ◌∷◌, map, Option, Some, None}
+use Rattle.saber_plan.specs.Sizes.{limits_of, FileLimits}
 use Rattle.saber_plan.specs.declared.rows.Side.TheVariants.{Left, Right}
 use Rattle.saber_plan.specs.declared.sizes.Sizes.{Sizes}
 use Rattle.saber_plan.specs.Rows.{Read, rows, all_read, bad}
@@ -38,14 +39,14 @@ BlocksAreNear = (q : Tree) (s : Sizes) (had has : Lefts) (c : Cutter) (r : Input
 -- ---- inputs that tell
 
 -- the rows of a query's row files: the first is the left stream of FROM, the second the right one
-abbrev pub sources : Tree → ℕ → List (List ℕ) → List Read
-sources q most [] = []
-sources q most (l ∷ []) = rows (rules_on q most Left) l ∷ []
-sources q most (l ∷ r ∷ more) = rows (rules_on q most Left) l ∷ rows (rules_on q most Right) r ∷ []
+abbrev pub sources : Tree → FileLimits → List (List ℕ) → List Read
+sources q limits [] = []
+sources q limits (l ∷ []) = rows (rules_on q limits Left) l ∷ []
+sources q limits (l ∷ r ∷ more) = rows (rules_on q limits Left) l ∷ rows (rules_on q limits Right) r ∷ []
 
 -- the rows of the query, from the bytes of its files
-abbrev pub input_of : Tree → ℕ → List (List ℕ) → Read
-input_of q most files = input (sources q most files)
+abbrev pub input_of : Tree → FileLimits → List (List ℕ) → Read
+input_of q limits files = input (sources q limits files)
 
 -- all of it was given, and it ends so
 pub record HasAll (q : Tree) (s : Sizes) (r : Input) (all : Read) : Type 0 where
@@ -67,4 +68,4 @@ pub record AreTasks (q : Tree) (s : Sizes) (c : Cutter) (r : Input) (all : Read)
   pub ends : EndsAs q s (end_of c) r all
 
 abbrev pub BlocksAreTasks : Type 0
-BlocksAreTasks = (q : Tree) (s : Sizes) (files : List (List ℕ)) (has : Lefts) (c : Cutter) (r : Input) → Suits (fresh q s.max_lines) (map Some files) → Cuts q s (map Some files) has c r → AreTasks q s c r (input_of q s.max_lines files)
+BlocksAreTasks = (q : Tree) (s : Sizes) (files : List (List ℕ)) (has : Lefts) (c : Cutter) (r : Input) → Suits (fresh q (limits_of s)) (map Some files) → Cuts q s (map Some files) has c r → AreTasks q s c r (input_of q (limits_of s) files)

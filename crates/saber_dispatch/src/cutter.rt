@@ -171,7 +171,7 @@ impl Cutter {
         checked_fit();
         readers_stand();
         mergers_stand();
-        let reader = reader_for(alloc, plan, sizes.max_lines)?;
+        let reader = reader_for(alloc, plan, sizes)?;
         Ok(Cutter {
             alloc,
             reader,

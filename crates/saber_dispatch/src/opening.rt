@@ -1,8 +1,9 @@
 // What a cutter begins with.
-ghost use Rattle.std.specs.Prelude.{◌≡◌, ◌≤◌, ◌^◌, ℕ, [], IfOk};
+ghost use Rattle.std.specs.Prelude.{◌≡◌, ◌≤◌, ℕ, [], IfOk};
 ghost use Rattle.saber_plan.specs.declared.rows.Side.TheVariants as sides;
 ghost use Rattle.saber_plan.specs.Trees.{tree_of};
 ghost use Rattle.saber_plan.specs.Checked.{IsChecked};
+ghost use Rattle.saber_plan.specs.Sizes.{SizesFit, limits_of};
 ghost use Rattle.saber_rows.specs.Reader.{new_reader};
 ghost use Rattle.saber_rows.specs.Merging.{new_merger};
 ghost use Rattle.saber_dispatch.specs.Readings.{one, two, reading_of, rules_for};
@@ -18,43 +19,40 @@ use std::alloc::Global;
 use std::collections::VecDeque;
 
 // A reader of one input.
-fn one_reader(alloc: Global, columns: u32, max_lines: u64) -> Result<Reader, NoMemory>
+fn one_reader(alloc: Global, columns: u32, sizes: &Sizes) -> Result<Reader, NoMemory>
     requires some_columns { 1 ≤ columns }
     requires most_columns { columns ≤ 32 }
-    requires some_lines { 1 ≤ max_lines }
-    requires most_lines { max_lines ≤ 2 ^ 40 }
-    ensures { IfOk result (λ r. reading_of r ≡ one (new_reader (rules_for sides.Left columns max_lines))) }
+    requires sizes { SizesFit sizes.now }
+    ensures { IfOk result (λ r. reading_of r ≡ one (new_reader (rules_for sides.Left columns (limits_of sizes.now)))) }
 {
-    let lines = Lines::new(alloc, Side::Left, columns, max_lines)?;
+    let lines = Lines::new(alloc, Side::Left, columns, sizes.max_lines, sizes.slack)?;
     Ok(Reader::One(lines))
 }
 
 // The merge of two.
-fn two_readers(alloc: Global, left: u32, right: u32, max_lines: u64) -> Result<Reader, NoMemory>
+fn two_readers(alloc: Global, left: u32, right: u32, sizes: &Sizes) -> Result<Reader, NoMemory>
     requires some_left { 1 ≤ left }
     requires most_left { left ≤ 32 }
     requires some_right { 1 ≤ right }
     requires most_right { right ≤ 32 }
-    requires some_lines { 1 ≤ max_lines }
-    requires most_lines { max_lines ≤ 2 ^ 40 }
-    ensures { IfOk result (λ r. reading_of r ≡ two (new_merger (new_reader (rules_for sides.Left left max_lines)) (new_reader (rules_for sides.Right right max_lines)))) }
+    requires sizes { SizesFit sizes.now }
+    ensures { IfOk result (λ r. reading_of r ≡ two (new_merger (new_reader (rules_for sides.Left left (limits_of sizes.now))) (new_reader (rules_for sides.Right right (limits_of sizes.now))))) }
 {
-    let left = Lines::new(alloc, Side::Left, left, max_lines)?;
-    let right = Lines::new(alloc, Side::Right, right, max_lines)?;
+    let left = Lines::new(alloc, Side::Left, left, sizes.max_lines, sizes.slack)?;
+    let right = Lines::new(alloc, Side::Right, right, sizes.max_lines, sizes.slack)?;
     Ok(Reader::Two(Merge::new(left, right)))
 }
 
 /// The reader of a plan's inputs.
-pub(crate) fn reader_for(alloc: Global, plan: &Plan, max_lines: u64) -> Result<Reader, NoMemory>
+pub(crate) fn reader_for(alloc: Global, plan: &Plan, sizes: &Sizes) -> Result<Reader, NoMemory>
     requires checked { IsChecked (tree_of plan.now) }
-    requires some_lines { 1 ≤ max_lines }
-    requires most_lines { max_lines ≤ 2 ^ 40 }
-    ensures { IfOk result (λ r. reading_of r ≡ fresh (tree_of plan.now) max_lines) }
+    requires sizes { SizesFit sizes.now }
+    ensures { IfOk result (λ r. reading_of r ≡ fresh (tree_of plan.now) (limits_of sizes.now)) }
 {
     match plan.streams() {
         [] => unreachable!(),
-        [stream] => one_reader(alloc, stream.columns, max_lines),
-        [left, right, ..] => two_readers(alloc, left.columns, right.columns, max_lines),
+        [stream] => one_reader(alloc, stream.columns, sizes),
+        [left, right, ..] => two_readers(alloc, left.columns, right.columns, sizes),
     }
 }
 

@@ -129,6 +129,7 @@ fn sizes(task: u32, ring: u32, flush: bool) -> Sizes
         ring,
         threads: 0,
         max_lines: 100,
+        slack: 0,
         flush,
     }
 }

@@ -1,7 +1,8 @@
 -- What a run gives, and of what it took.
-use Rattle.std.proofs.Common.{◌≡◌, ◌≢◌, ℕ, ◌+◌, ◌≤◌, List, [], ◌∷◌, ◌++◌, length, map, refl, sym, ◌∙◌, ap, subst, append-nil, arith}
+use Rattle.std.proofs.Common.{◌≡◌, ◌≢◌, ℕ, ◌+◌, ◌≤◌, List, [], ◌∷◌, ◌++◌, length, map, refl, sym, ◌∙◌, ap, subst, arith}
 use Rattle.std.specs.Prelude.{Option, Some, None, IfSome, IsSome, option_map, option_and_then}
-use Rattle.saber_io.specs.Outside.{Rose, appended, given}
+use Rattle.saber_io.specs.Outside.{Rose, appended, given, appended-none}
+use Rattle.saber_plan.specs.Sizes.{FileLimits, limits_of}
 use Rattle.saber_plan.specs.declared.rows.Side.{Side}
 use Rattle.saber_plan.specs.declared.sizes.Sizes.{Sizes}
 use Rattle.saber_plan.specs.declared.windows.Stream.{Stream}
@@ -128,8 +129,8 @@ clean_end states.NoMemory over end h side e = h
 pub record Done (q : Tree) (s : Sizes) (had has : Lefts) (before now : List ℕ) (w : Option (List ℕ)) (f : ℕ) (end : RunEnd) (tasks : ℕ) (written : Option (List ℕ)) (faults : ℕ) : Type 0 where
   pub out : List ℕ
   pub written_is : written ≡ appended w out
-  pub gives : (files : List (List ℕ)) → Suits (fresh q s.max_lines) had → had ≡ map Some files → Gives q s.task s.ring s.flush (input_of q s.max_lines files) end tasks out
-  pub whole : (side : Side) → end ≡ ReadFault side → ReadsWhole q s.task s.max_lines tasks had has
+  pub gives : (files : List (List ℕ)) → Suits (fresh q (limits_of s)) had → had ≡ map Some files → Gives q s.task s.ring s.flush (input_of q (limits_of s) files) end tasks out
+  pub whole : (side : Side) → end ≡ ReadFault side → ReadsWhole q s.task (limits_of s) tasks had has
   pub read : (side : Side) → end ≡ ReadFault side → RoseAt side before now
   pub write : end ≡ WriteFault → Rose f faults
   pub read_good : IsClean end → now ≡ before
@@ -247,10 +248,10 @@ module _ (first : FirstOfFirst) (are : telling.BlocksAreTasks) (leave : FaultsLe
   came states.SinkFailed h over g o e = let a = (stands_so states.SinkFailed h).0 in (a.out, a.written_is, λ rows t. fails rows t h a.out a.is_cut)
   came states.NoMemory h over g o e = (so_far, (stands_so states.NoMemory h).0, λ rows t. lacks rows t)
 
-  told_so : (files : List (List ℕ)) → Suits (fresh q s.max_lines) had → had ≡ map Some files → telling.AreTasks q s c all (input_of q s.max_lines files)
-  told_so files suits e = are q s files has c all (subst (Suits (fresh q s.max_lines)) e suits) (subst (λ l. Cuts q s l has c all) e cuts)
+  told_so : (files : List (List ℕ)) → Suits (fresh q (limits_of s)) had → had ≡ map Some files → telling.AreTasks q s c all (input_of q (limits_of s) files)
+  told_so files suits e = are q s files has c all (subst (Suits (fresh q (limits_of s))) e suits) (subst (λ l. Cuts q s l has c all) e cuts)
 
-  leaves : (side : Side) → end_of stage.state fed.over end ≡ ReadFault side → ReadsWhole q s.task s.max_lines stage.k had has
+  leaves : (side : Side) → end_of stage.state fed.over end ≡ ReadFault side → ReadsWhole q s.task (limits_of s) stage.k had has
   leaves side e =
       let b = by_fault stage.state fed.over end side e in
       let x = leave q s had has c all side cuts (r.is_given.ended (cut.ReadFault side) b.ended) in
@@ -273,7 +274,7 @@ module _ (first : FirstOfFirst) (are : telling.BlocksAreTasks) (leave : FaultsLe
       record {
         out = x.0;
         written_is = x.1;
-        gives = λ files suits e. x.2 (input_of q s.max_lines files) (told_so files suits e);
+        gives = λ files suits e. x.2 (input_of q (limits_of s) files) (told_so files suits e);
         whole = leaves;
         read = λ side e. r.is_given.counted.cause side (by_fault stage.state fed.over end side e).ended;
         write = λ e. (stands_so states.SinkFailed (by_write stage.state fed.over end e)).1;
@@ -285,24 +286,20 @@ module _ (first : FirstOfFirst) (are : telling.BlocksAreTasks) (leave : FaultsLe
 
 -- ---- a run that had no memory to begin
 
-appended_none : (o : Option (List ℕ)) → o ≡ appended o []
-appended_none None = refl
-appended_none (Some w) = ap Some (sym (append-nil w))
-
 no_fault : (side : Side) → NoMemory ≡ ReadFault side → ⊥
 no_fault side e = cc
 
 pub done_nothing : NoRowsGiveNothing → NoTasksNoRows → (q : Tree) → Fits (frame q) → (s : Sizes) (had : Lefts) (before : List ℕ) (w : Option (List ℕ)) (f : ℕ) → Done q s had had before before w f NoMemory 0 w f
 done_nothing nothing none q fits s had before w f = record {
   out = [];
-  written_is = appended_none w;
+  written_is = appended-none w;
   gives = λ files suits e. record {
     ends = tt;
     assembles = record {
       few = omega arith;
       all = λ i. absurd (some_not_all i);
       before = λ u i. absurd (some_not_before u i);
-      answers = λ _. sym (ap (text q) (none s.task (run_input q s.flush (input_of q s.max_lines files))) ∙ (nothing q fits).0);
+      answers = λ _. sym (ap (text q) (none s.task (run_input q s.flush (input_of q (limits_of s) files))) ∙ (nothing q fits).0);
       cut = λ i. absurd (some_not_cut i);
     };
   };
@@ -318,16 +315,16 @@ done_nothing nothing none q fits s had before w f = record {
 -- ---- inputs
 
 -- there are as many as the query has streams
-suits_on : {X : Type 0} (q : Tree) (most : ℕ) (left : X → Option (List ℕ)) (inputs : Inputs X) (streams : List Stream) → length (each_input left inputs) ≡ length streams → Suits (fresh_on q most streams) (each_input left inputs)
-suits_on q most left (One a) [] e = absurd (omega (arith, e))
-suits_on q most left (One a) (s ∷ []) e = tt
-suits_on q most left (One a) (s ∷ t ∷ more) e = absurd (omega (arith, e))
-suits_on q most left (Two a b) [] e = absurd (omega (arith, e))
-suits_on q most left (Two a b) (s ∷ []) e = absurd (omega (arith, e))
-suits_on q most left (Two a b) (s ∷ t ∷ more) e = tt
+suits_on : {X : Type 0} (q : Tree) (limits : FileLimits) (left : X → Option (List ℕ)) (inputs : Inputs X) (streams : List Stream) → length (each_input left inputs) ≡ length streams → Suits (fresh_on q limits streams) (each_input left inputs)
+suits_on q limits left (One a) [] e = absurd (omega (arith, e))
+suits_on q limits left (One a) (s ∷ []) e = tt
+suits_on q limits left (One a) (s ∷ t ∷ more) e = absurd (omega (arith, e))
+suits_on q limits left (Two a b) [] e = absurd (omega (arith, e))
+suits_on q limits left (Two a b) (s ∷ []) e = absurd (omega (arith, e))
+suits_on q limits left (Two a b) (s ∷ t ∷ more) e = tt
 
-pub suits : {X : Type 0} (q : Tree) (most : ℕ) (left : X → Option (List ℕ)) (inputs : Inputs X) → length (each_input left inputs) ≡ length q.streams → Suits (fresh q most) (each_input left inputs)
-suits q most left inputs e = suits_on q most left inputs q.streams e
+pub suits : {X : Type 0} (q : Tree) (limits : FileLimits) (left : X → Option (List ℕ)) (inputs : Inputs X) → length (each_input left inputs) ≡ length q.streams → Suits (fresh q limits) (each_input left inputs)
+suits q limits left inputs e = suits_on q limits left inputs q.streams e
 
 -- where all tell what they have left
 pub if_told : {X : Type 0} (P : List (List ℕ) → Type 0) (left : X → Option (List ℕ)) (inputs : Inputs X) → ((files : List (List ℕ)) → each_input left inputs ≡ map Some files → P files) → IfSome (told_by left inputs) P

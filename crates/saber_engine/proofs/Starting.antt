@@ -2,6 +2,7 @@
 use Rattle.std.proofs.Common.{◌≡◌, ℕ, true, false, ◌≤◌, List, [], refl, sym, ◌∙◌, subst, arith}
 use Rattle.std.specs.Prelude.{Option, Some, None}
 use Rattle.std.specs.Int.{div_ceil}
+use Rattle.saber_plan.specs.Sizes.{limits_of}
 use Rattle.saber_plan.specs.declared.sizes.Sizes.{Sizes}
 use Rattle.saber_plan.specs.Inputs.{Input, going_on}
 use Rattle.saber_plan.specs.Trees.{Tree}
@@ -23,7 +24,8 @@ use Rattle.saber_dispatch.specs.Sources.{Lefts}
 use Rattle.saber_dispatch.specs.Readings as readings
 use Rattle.saber_dispatch.specs.Cutting.{Cuts, CutsNothing, fresh, end_of}
 use Rattle.saber_engine.specs.Supplying.{HasGiven, first_told}
-use Rattle.saber_engine.proofs.Counts.{none_same, tasks_have_rows}
+use Rattle.saber_engine.proofs.Counts.{none_same}
+use Rattle.saber_plan.specs.CountFacts.{tasks_have_rows}
 
 none_some : {A : Type 0} (x : A) → ◌≡◌ {A = Option A} None (Some x) → ⊥
 none_some x e = cc
@@ -36,7 +38,7 @@ unfolding Ordered
 fits_none q = record { rows = tt; ordered = tt; left = omega arith; right = omega arith }
 
 -- no block was given
-pub given_none : {O : Type 0} (plan : O → Tree) (op : O) (s : Sizes) (had : Lefts) (before : List ℕ) (w : Option (List ℕ)) (f : ℕ) (c : Cutter) → CutsNothing (plan op) s c → end_of c ≡ None → readings.Suits (fresh (plan op) s.max_lines) had → HasGiven plan s had had before before c None (first_told op s.task w f) 0
+pub given_none : {O : Type 0} (plan : O → Tree) (op : O) (s : Sizes) (had : Lefts) (before : List ℕ) (w : Option (List ℕ)) (f : ℕ) (c : Cutter) → CutsNothing (plan op) s c → end_of c ≡ None → readings.Suits (fresh (plan op) (limits_of s)) had → HasGiven plan s had had before before c None (first_told op s.task w f) 0
 given_none plan op s had before w f c nothing open_still suits =
     let cuts : Cuts (plan op) s had had c (going_on []) = nothing had suits in
     let few : div_ceil 0 s.task ≤ 0 = tasks_have_rows s.task 0 cuts.sizes.task.0 in

@@ -1,5 +1,6 @@
 -- What a run gives over inputs that tell their bytes.
 use Rattle.std.specs.Prelude.{Bool, ◌≡◌, ◌≢◌, ◌≤◌, ℕ, ◌/◌, length, List, Option, Some, None}
+use Rattle.saber_plan.specs.Sizes.{FileLimits}
 use Rattle.saber_plan.specs.Inputs.{Input, input}
 use Rattle.saber_plan.specs.Rows.{Read, all_read, bad}
 use Rattle.saber_plan.specs.Trees.{Tree}
@@ -59,7 +60,7 @@ pub record Gives (q : Tree) (n ring : ℕ) (flush : Bool) (read : Read) (e : Run
   pub assembles : Assembles q n (run_input q flush read) (reach_of e) tasks out
 
 -- at least every whole task of the whole lines that were taken is assembled
-pub record ReadsWhole (q : Tree) (n most tasks : ℕ) (had has : List (Option (List ℕ))) : Type 0 where
+pub record ReadsWhole (q : Tree) (n : ℕ) (limits : FileLimits) (tasks : ℕ) (had has : List (Option (List ℕ))) : Type 0 where
   pub taken : List (List ℕ)
   pub left : GaveAll had taken has
-  pub tasks_are : length (input (wholes q most taken)).rows / n ≤ tasks
+  pub tasks_are : length (input (wholes q limits taken)).rows / n ≤ tasks

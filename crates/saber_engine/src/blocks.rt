@@ -27,7 +27,7 @@ pub(crate) trait Begins {
 }
 
 impl Begins for Brand {
-    ghost sizes = { record { task = 1; ring = 1; threads = 0; max_lines = 1; flush = false } };
+    ghost sizes = { record { task = 1; ring = 1; threads = 0; max_lines = 1; slack = 0; flush = false } };
 
     ghost lefts = { [] };
 

@@ -4,7 +4,7 @@ ghost use Rattle.saber_io.specs.Outside.{Rose, appended};
 ghost use Rattle.saber_plan.specs.declared.rows.Side.{Side};
 ghost use Rattle.saber_plan.specs.Trees.{tree_of};
 ghost use Rattle.saber_plan.specs.Checked.{IsChecked};
-ghost use Rattle.saber_plan.specs.Sizes.{SizesFit};
+ghost use Rattle.saber_plan.specs.Sizes.{SizesFit, limits_of};
 ghost use Rattle.saber_engine.specs.declared.ends.RunEnd.{RunEnd};
 ghost use Rattle.saber_engine.specs.Sources.{each_input, told_by, input_of, RoseAt, NoneFell, GaveAll};
 ghost use Rattle.saber_engine.specs.Gives.{Gives, IsClean, ReadsWhole};
@@ -51,8 +51,8 @@ where
     requires sizes { SizesFit sizes.now }
     requires begins { (J.sizes ≡ sizes.now) × (J.lefts ≡ each_input S.left inputs.old) × (J.faults ≡ each_input S.faults inputs.old) }
     ensures gives { (out : List ℕ) × (K.written result.sink ≡ appended (K.written sink) out)
-        × IfSome (told_by S.left inputs.old) (λ files. Gives (tree_of plan.now) sizes.now.task sizes.now.ring sizes.now.flush (input_of (tree_of plan.now) sizes.now.max_lines files) result.end result.tasks out) }
-    ensures whole { (side : Side) → result.end ≡ RunEnd.ReadFault side → ReadsWhole (tree_of plan.now) sizes.now.task sizes.now.max_lines result.tasks (each_input S.left inputs.old) (each_input S.left inputs.new) }
+        × IfSome (told_by S.left inputs.old) (λ files. Gives (tree_of plan.now) sizes.now.task sizes.now.ring sizes.now.flush (input_of (tree_of plan.now) (limits_of sizes.now) files) result.end result.tasks out) }
+    ensures whole { (side : Side) → result.end ≡ RunEnd.ReadFault side → ReadsWhole (tree_of plan.now) sizes.now.task (limits_of sizes.now) result.tasks (each_input S.left inputs.old) (each_input S.left inputs.new) }
     ensures takes { (taken : List (List ℕ)) × GaveAll (each_input S.left inputs.old) taken (each_input S.left inputs.new) }
     ensures read { (side : Side) → result.end ≡ RunEnd.ReadFault side → RoseAt side (each_input S.faults inputs.old) (each_input S.faults inputs.new) }
     ensures write { result.end ≡ RunEnd.WriteFault → Rose (K.faults sink) (K.faults result.sink) }

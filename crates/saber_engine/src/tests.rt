@@ -65,13 +65,14 @@ fn pairs(alloc: Global) -> Result<Plan, NoMemory>
 }
 
 fn sizes(task: u32, ring: u32, threads: u32, flush: bool) -> Sizes
-    ensures { result ≡ record { task = task; ring = ring; threads = threads; max_lines = 2 ^ 40; flush = flush } }
+    ensures { result ≡ record { task = task; ring = ring; threads = threads; max_lines = 2 ^ 40; slack = 0; flush = flush } }
 {
     Sizes {
         task,
         ring,
         threads,
         max_lines: 1 << 40,
+        slack: 0,
         flush,
     }
 }
@@ -96,6 +97,7 @@ fn run_one<R: Threads + Wait + Sync>(
     requires ring { (1 ≤ sizes.now.ring) × (sizes.now.ring ≤ 2 ^ 10) }
     requires threads { sizes.now.threads ≤ 64 }
     requires lines { sizes.now.max_lines ≡ 2 ^ 40 }
+    requires slack { sizes.now.slack ≡ 0 }
 {
     let mut inputs = Inputs::One(source);
     let sink = MemSink::new(alloc, writes);
@@ -112,6 +114,7 @@ fn run_two<R: Threads + Wait + Sync>(
     requires ring { (1 ≤ sizes.now.ring) × (sizes.now.ring ≤ 2 ^ 10) }
     requires threads { sizes.now.threads ≤ 64 }
     requires lines { sizes.now.max_lines ≡ 2 ^ 40 }
+    requires slack { sizes.now.slack ≡ 0 }
 {
     let plan = pairs(alloc)?;
     let mut inputs = Inputs::Two(source(alloc, LEFT)?, source(alloc, RIGHT)?);

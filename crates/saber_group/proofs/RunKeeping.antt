@@ -27,7 +27,7 @@ use Rattle.saber_laws.specs.Plans.{OneWindow}
 use Rattle.saber_laws.specs.Shares.{SharesMakePiece}
 use Rattle.saber_plan.specs.ListFacts.{slice-front, slice-join, nothing_behind}
 use Rattle.saber_plan.specs.RowFacts.{fits_take, length-placed}
-use Rattle.saber_parts.specs.NumberFacts.{flat_map-from, from_more, numbered_is}
+use Rattle.saber_plan.specs.NumberFacts.{flat_map-from, from_more, numbered_is}
 use Rattle.saber_sliding.specs.Entries.{Entries, part_at}
 use Rattle.saber_group.specs.declared.runs.Run.{Run}
 use Rattle.saber_group.specs.declared.run_stores.RunStore.{RunStore}

@@ -16,7 +16,7 @@ use Rattle.saber_plan.specs.Answers.{frame, passing, key_cmp, entry_lines}
 use Rattle.saber_plan.specs.MapFacts.{entries-empty}
 use Rattle.saber_plan.specs.Parts.{Part, no_part, group_part, merge, part_lines, answers_of}
 use Rattle.saber_plan.specs.RowFacts.{mark-append, placed-append, few_rows}
-use Rattle.saber_parts.specs.NumberFacts.{flat_nil, flat_step, flat_skip, from_more}
+use Rattle.saber_plan.specs.NumberFacts.{flat_nil, flat_step, flat_skip, from_more}
 use Rattle.saber_laws.specs.Groups.{GroupsJoin}
 use Rattle.saber_laws.specs.Parts.{MergeHasUnit, MergeIsAssociative}
 use Rattle.saber_laws.specs.Windows.{ClosedStay}

@@ -1,5 +1,6 @@
 -- What calls on sources, sinks and files do (this project's rule).
-use Rattle.std.specs.Prelude.{◌≡◌, ◌≤◌, ℕ, ◌+◌, ◌-◌, ◌^◌, min, List, [], ◌∷◌, ◌++◌, length, take, Option, Some, option_map, IfSome, if◌then◌else◌, ◌==◌}
+use Rattle.std.specs.Prelude.{◌≡◌, ◌≤◌, ℕ, ◌+◌, ◌-◌, ◌^◌, min, List, [], ◌∷◌, ◌++◌, length, take, Option, Some, None, option_map, IfSome, if◌then◌else◌, ◌==◌}
+use Rattle.std.proofs.Common.{refl, sym, ap, append-nil}
 use Rattle.std.specs.List.{find}
 use Rattle.std.specs.Str.{bytes_eq}
 
@@ -22,6 +23,11 @@ EndsEmpty left = IfSome left (λ bytes. bytes ≡ [])
 -- what was written, and then the piece
 abbrev pub appended : Option (List ℕ) → List ℕ → Option (List ℕ)
 appended written piece = option_map (λ w. w ++ piece) written
+
+-- no bytes change nothing (any proof may cite it)
+pub appended-none : (o : Option (List ℕ)) → o ≡ appended o []
+appended-none None = refl
+appended-none (Some w) = ap Some (sym (append-nil w))
 
 -- a prefix of the piece has gone out
 abbrev pub AppendsPrefix : Option (List ℕ) → Option (List ℕ) → List ℕ → Type 0

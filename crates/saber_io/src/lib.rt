@@ -10,7 +10,7 @@ mod outside;
 mod tests;
 
 pub use files::{MemFile, MemFiles, MemOpened};
-pub use gate::{Gate, HoldGate, OpenGate};
+pub use gate::{Gate, HoldGate, OpenGate, OrderGate};
 pub use host::{FileSource, HostFiles, StdSink};
 pub use memory::{MemSink, MemSource};
 pub use outside::{Failed, Files, OpenFault, Sink, Source, WriteFault};

@@ -1,7 +1,7 @@
 // What no clause says: that calls succeed with ample memory, what worked rows expect, and the real outside.
 use crate::{
     Failed, FileSource, Files, Gate, HoldGate, HostFiles, MemFile, MemFiles, MemOpened, MemSink,
-    MemSource, OpenFault, OpenGate, Sink, Source, StdSink, WriteFault,
+    MemSource, OpenFault, OpenGate, OrderGate, Sink, Source, StdSink, WriteFault,
 };
 use std::alloc::{AllocError, Global};
 use std::io;
@@ -199,6 +199,22 @@ fn holds_a_task_back(rt: HostRuntime) {
     passes(&gate);
     gate.pass(1);
     assert!(rt; !gate.late());
+}
+
+// Tasks pass in the order's order alone, and others at once.
+#[test]
+fn lets_tasks_by_in_order(rt: HostRuntime) -> Result<(), Fail> {
+    let alloc = rt.alloc();
+    let gate = OrderGate::new(vec![in alloc; 2, 0, 1]?, 1000);
+    passes(&OpenGate);
+    gate.pass(2);
+    gate.pass(7);
+    gate.done(2);
+    gate.pass(0);
+    assert!(rt; !gate.late());
+    gate.pass(1);
+    assert!(rt; gate.late());
+    Ok(())
 }
 
 fn may_move<T: Send>(value: T) -> T {

@@ -1,5 +1,5 @@
 -- What a join's task gives that looks back on all rows before it.
-use Rattle.std.proofs.Common.{◌≡◌, ℕ, ◌+◌, ◌-◌, ◌≤◌, List, [], ◌++◌, flat_map, filter, length, take, slice_range, Bool, true, false, cond, Option, None, Some, refl, sym, ◌∙◌, ap, length-append, arith}
+use Rattle.std.proofs.Common.{◌≡◌, ℕ, ◌+◌, ◌-◌, ◌≤◌, List, [], ◌++◌, flat_map, filter, length, take, slice_range, Bool, true, false, cond, None, Some, refl, sym, ◌∙◌, ap, length-append, arith}
 use Rattle.std.proofs.lemmas.List.{take_all}
 use Rattle.saber_plan.specs.declared.rows.Row.{Row}
 use Rattle.saber_plan.specs.declared.windows.Mark.{Mark}
@@ -7,16 +7,16 @@ use Rattle.saber_plan.specs.declared.windows.Kind.TheVariants.{Opening, Closing,
 use Rattle.saber_plan.specs.declared.plans.Shape.TheVariants.{Join}
 use Rattle.saber_plan.specs.Trees.{Tree}
 use Rattle.saber_plan.specs.Inputs.{Input}
-use Rattle.saber_plan.specs.Windows.{no_rows, mark_after, mark_of, mark_at, last_mark, ending, placed_after, has, begun, closed_count, begun_count, kind_of, from, Ordered}
+use Rattle.saber_plan.specs.Windows.{no_rows, mark_after, mark_at, last_mark, ending, placed_after, has, begun, closed_count, begun_count, kind_of, from, Ordered}
 use Rattle.saber_plan.specs.Answers.{by_shape, frame, lines, selected}
-use Rattle.saber_plan.specs.Parts.{part, no_part, merge, pair_part, part_lines}
+use Rattle.saber_plan.specs.Parts.{part, merge, pair_part, part_lines}
 use Rattle.saber_plan.specs.Tasks.{is_complete}
 use Rattle.saber_plan.specs.Needs.{of_kind, part_here, is_closing, is_pending, is_opening}
 use Rattle.saber_plan.specs.Shares.{shares_here, shares_between}
 use Rattle.saber_plan.specs.RowFacts.{mark-append}
 use Rattle.saber_laws.specs.Parts.{PartHasLines, PartsJoin, PartsLieWithin, MergeHasUnit}
-use Rattle.saber_parts.specs.NumberFacts.{flat_filter}
-use Rattle.saber_parts.specs.TaskFacts.{with_task, end_of, at_first, at_last, own_rows}
+use Rattle.saber_plan.specs.NumberFacts.{flat_filter}
+use Rattle.saber_feeds.specs.TaskFacts.{with_task, end_of, at_first, at_last, own_rows}
 use Rattle.saber_join.proofs.Answering.{part_of_pairs}
 use Rattle.saber_join.proofs.Task.{part_is}
 

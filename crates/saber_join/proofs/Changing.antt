@@ -55,3 +55,7 @@ pub changed_fits : (q : Tree) (f : Held → Held) (first past : ℕ) (m n : Wind
 changed_fits q f first past m n keep c fit = record {
   at = λ i. subst (HeldFits q) (sym (c.at i)) (fits_case q (nat_le first i && nat_lt i past) (f (held_in m i)) (held_in m i) (keep (held_in m i) (fit.at i)) (fit.at i));
 }
+
+-- an empty range changes none
+pub range_empty : (f : Held → Held) (first past : ℕ) (m : Windows) → past ≤ first → Changed f first past m m
+range_empty f first past m l = record { at = λ i. let none : (nat_le first i && nat_lt i past) ≡ false = grind (arith, nat_tests) in sym (ap (λ b. cond b (f (held_in m i)) (held_in m i)) none) }

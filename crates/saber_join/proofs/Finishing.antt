@@ -34,7 +34,7 @@ use Rattle.saber_parts.specs.WindowFacts.{entry_is, kind_is}
 use Rattle.saber_parts.specs.Entries.{entry_if}
 use Rattle.saber_join.specs.Entries.{lines_if, entries_by, lines_by, Gave}
 use Rattle.saber_join.proofs.Task.{part_is}
-use Rattle.saber_parts.specs.NumberFacts.{flat_map-from, flat_none, flat_filter, from_more, numbered_is}
+use Rattle.saber_plan.specs.NumberFacts.{flat_map-from, flat_none, flat_filter, from_more, numbered_is}
 use Rattle.saber_parts.specs.WindowFacts.{no_entry}
 use Rattle.saber_join.proofs.Entering.{no_lines}
 use Rattle.saber_join.proofs.Spread.{seen, part_in, part_is_in, rise_all, spread}

@@ -15,3 +15,5 @@ pub mod Beginning
 pub mod Finishing
 pub mod AllBehind
 pub mod Tested
+mod Tying
+mod Partners

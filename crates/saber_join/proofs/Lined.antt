@@ -2,7 +2,7 @@
 use Rattle.std.proofs.Common.{◌≡◌, List, [], ◌∷◌, map, T, ℤ, refl, ◌∙◌, ap, Vec, Global}
 use Rattle.std.specs.FinMap.{is_sorted}
 use Rattle.saber_plan.specs.MapFacts.{entries-from_rising}
-use Rattle.saber_plan.specs.Answers.{key_cmp, line}
+use Rattle.saber_plan.specs.Answers.{key_cmp}
 use Rattle.saber_plan.specs.PartFacts.{total, exact}
 use Rattle.saber_join.specs.Found.{values_in, seen_entries, seen_pairs}
 

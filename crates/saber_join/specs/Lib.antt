@@ -1,5 +1,7 @@
 pub mod Found
 pub mod Rows
+pub mod Shelves
+pub mod Ties
 pub mod Adding
 pub mod Keeping
 pub mod Open

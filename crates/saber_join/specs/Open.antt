@@ -1,5 +1,5 @@
 -- What a task holds of all windows.
-use Rattle.std.specs.Prelude.{◌≡◌, ℕ, List, map, fold, ◌&&◌, nat_le, nat_lt, if◌then◌else◌, unwrap_or}
+use Rattle.std.specs.Prelude.{◌≡◌, ℕ, List, map, fold, ◌&&◌, nat_le, nat_lt, if◌then◌else◌, Option, unwrap_or}
 use Rattle.std.specs.Ordering.{nat_cmp}
 use Rattle.std.specs.FinMap.{FinMap, get, insert, from_entries}
 use Rattle.saber_plan.specs.declared.rows.Row.{Row}
@@ -9,7 +9,8 @@ use Rattle.saber_plan.specs.Answers.{frame}
 use Rattle.saber_plan.specs.Parts.{no_part}
 use Rattle.saber_plan.specs.Needs.{part_here}
 use Rattle.saber_plan.specs.Windows.{Frame, Placed, has, placed_after, closed_count}
-use Rattle.saber_join.specs.Keeping.{Held, nothing, noted, taken, HeldFits}
+use Rattle.saber_join.specs.Ties.{Ends}
+use Rattle.saber_join.specs.Keeping.{Held, nothing, noted_by, taken_by, HeldFits}
 
 abbrev pub Windows : Type 0
 Windows = FinMap nat_cmp Held
@@ -42,12 +43,12 @@ pub record Grown (f : Frame) (g : Held → Placed → Held) (c : ℕ) (xs : List
   pub at : (i : ℕ) → held_in n i ≡ (if nat_lt i c then held_in m i else grown f g i (held_in m i) xs)
 
 -- these rows, which come behind a mark, are noted in each window from number c on that has them
-abbrev pub NotesRows : Tree → ℕ → Mark → List Row → Windows → Windows → Type 0
-NotesRows q c before rows = Grown (frame q) noted c (placed_after before rows)
+abbrev pub NotesRows : Tree → Option Ends → ℕ → Mark → List Row → Windows → Windows → Type 0
+NotesRows q t c before rows = Grown (frame q) (noted_by t) c (placed_after before rows)
 
 -- or taken in, with their pairs
-abbrev pub TakesRows : Tree → ℕ → Mark → List Row → Windows → Windows → Type 0
-TakesRows q c before rows = Grown (frame q) (taken q) c (placed_after before rows)
+abbrev pub TakesRows : Tree → Option Ends → ℕ → Mark → List Row → Windows → Windows → Type 0
+TakesRows q t c before rows = Grown (frame q) (taken_by q t) c (placed_after before rows)
 
 -- each window from number c on holds its part over a task's rows, and no other holds a pair
 pub record HoldsTask (q : Tree) (c : ℕ) (before : Mark) (back rows : List Row) (m : Windows) : Type 0 where

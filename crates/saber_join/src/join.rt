@@ -12,10 +12,12 @@ ghost use Rattle.saber_plan.specs.Needs.{first_window, past_window};
 ghost use Rattle.saber_plan.specs.Given.{IsRowOf, RowsFit};
 ghost use Rattle.saber_laws.specs.Plans.{TwoWindows};
 ghost use Rattle.saber_join.specs.Rows.{IsOn, CanShow};
+ghost use Rattle.saber_join.specs.Ties.{CanTie, narrow, key_in};
 
+use crate::ties::{Tie, tie_in};
 use saber_eval::{holds2, two_streams_fit, value2};
 use saber_laws::{checked_fit, joins_have_two_windows};
-use saber_plan::{Item, Mark, NoMemory, Plan, Row};
+use saber_plan::{Item, Mark, NoMemory, Plan, Row, Side};
 use saber_window::{Windows, stamps_fit, step_mark};
 use std::alloc::Global;
 use std::marker::Model;
@@ -74,6 +76,16 @@ fn item_values(
     Ok(values)
 }
 
+// A number by which equal values are found, in half the bits: 0 for those that don't fit.
+fn narrow(value: i128) -> i64
+    ensures { result ≡ narrow value }
+{
+    if value < i128::from(i64::MIN) || value > i128::from(i64::MAX) {
+        return 0;
+    }
+    value as i64
+}
+
 impl<'a> Join<'a> {
     /// The operator of this plan. Takes no memory.
     pub fn new(plan: &'a Plan) -> Join<'a>
@@ -120,6 +132,32 @@ impl<'a> Join<'a> {
         match self.plan.predicate() {
             Some(predicate) => holds2(predicate, left, right),
             None => true,
+        }
+    }
+
+    /// What WHERE ties of a pair's rows, if it ties anything.
+    pub(crate) fn tie(&self) -> Option<Tie<'_>>
+        ensures { CanTie (tree_of self.now).predicate result }
+    {
+        match self.plan.predicate() {
+            Some(predicate) => tie_in(predicate),
+            None => None,
+        }
+    }
+
+    /// The key of a row: rows of two sides with different keys make no pair that passes.
+    pub(crate) fn key(&self, tie: &Option<Tie>, row: &Row) -> i64
+        requires tie { CanTie (tree_of self.now).predicate tie.now }
+        requires row { IsRowOf (tree_of self.now) row.now }
+        ensures { result ≡ key_in tie.now row.now }
+    {
+        self.has_windows();
+        match tie {
+            Some(tie) => match row.side {
+                Side::Left => narrow(value2(tie.left, row, row)),
+                Side::Right => narrow(value2(tie.right, row, row)),
+            },
+            None => 0,
         }
     }
 

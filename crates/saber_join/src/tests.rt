@@ -33,6 +33,8 @@ use std::alloc::Global;
 use std::process::Abort;
 use std::test::Fail;
 
+mod ties;
+
 // The number of a row: the column behind its time.
 fn number(alloc: Global, side: Side) -> Result<Expr, NoMemory>
     ensures { IfOk result (λ e. e ≡ record { minus = false; factors = f.Column side 1 ∷ [] } ∷ []) }

@@ -3,11 +3,13 @@ ghost use Rattle.std.specs.Prelude.{◌≡◌, ◌+◌, ◌^◌, ◌<◌, ◌++�
 ghost use Rattle.saber_plan.specs.Trees.{tree_of};
 ghost use Rattle.saber_plan.specs.Windows.{mark_after};
 ghost use Rattle.saber_plan.specs.Given.{IsRowOf, RowsFit};
+ghost use Rattle.saber_join.specs.Ties.{CanTie, key_in};
 ghost use Rattle.saber_join.specs.Keeping.{noting, taking, HeldFits};
 ghost use Rattle.saber_join.specs.Open.{seen_held, held_in, AllFit, Changed, ChangedAt, NotesRows, TakesRows, HoldsOpen};
 
 use crate::held::Opened;
 use crate::join::Join;
+use crate::ties::Tie;
 use saber_laws::{no_rows_no_part, rows_span, windows_get_pairs};
 use saber_plan::{Mark, NoMemory, Row};
 use std::alloc::Global;
@@ -18,20 +20,21 @@ fn note_at<'a>(
     alloc: Global,
     windows: &mut BTreeMap<u64, Opened<'a>>,
     window: u64,
+    key: i64,
     row: &'a Row,
     before: Mark,
 ) -> Result<(), NoMemory>
     requires { before.left + before.right < 2 ^ 62 }
-    ensures { OnOk result (ChangedAt (noting row.now before) window (seen_held windows.old.entries) (seen_held windows.new.entries)) }
+    ensures { OnOk result (ChangedAt (noting key row.now before) window (seen_held windows.old.entries) (seen_held windows.new.entries)) }
 {
     match windows.get_mut(&window) {
         Some(held) => {
-            held.note(row, before)?;
+            held.note(alloc, key, row, before)?;
             Ok(())
         }
         None => {
             let mut held = Opened::new(alloc);
-            held.note(row, before)?;
+            held.note(alloc, key, row, before)?;
             windows.insert(window, held)?;
             Ok(())
         }
@@ -41,17 +44,25 @@ fn note_at<'a>(
 // Keeps a row that is looked back on in each window from the one up to the other.
 fn note_row<'a>(
     alloc: Global,
+    join: &Join,
     windows: &mut BTreeMap<u64, Opened<'a>>,
+    tie: &Option<Tie>,
     first: u64,
     past: u64,
     row: &'a Row,
     before: Mark,
 ) -> Result<(), NoMemory>
-    requires { before.left + before.right < 2 ^ 62 }
-    ensures { OnOk result (Changed (noting row.now before) first past (seen_held windows.old.entries) (seen_held windows.new.entries)) }
+    requires small { before.left + before.right < 2 ^ 62 }
+    requires row { IsRowOf (tree_of join.now) row.now }
+    requires tie { CanTie (tree_of join.now).predicate tie.now }
+    ensures { OnOk result (Changed (noting (key_in tie.now row.now) row.now before) first past (seen_held windows.old.entries) (seen_held windows.new.entries)) }
 {
+    if past <= first {
+        return Ok(());
+    }
+    let key = join.key(tie, row);
     for window in first..past {
-        note_at(alloc, windows, window, row, before)?;
+        note_at(alloc, windows, window, key, row, before)?;
     }
     Ok(())
 }
@@ -62,22 +73,23 @@ fn take_at<'a>(
     join: &Join,
     windows: &mut BTreeMap<u64, Opened<'a>>,
     window: u64,
+    key: i64,
     row: &'a Row,
     before: Mark,
 ) -> Result<(), NoMemory>
     requires small { before.left + before.right < 2 ^ 62 }
     requires row { IsRowOf (tree_of join.now) row.now }
     requires held { HeldFits (tree_of join.now) (held_in (seen_held windows.old.entries) window) }
-    ensures { OnOk result (ChangedAt (taking (tree_of join.now) row.now before) window (seen_held windows.old.entries) (seen_held windows.new.entries)) }
+    ensures { OnOk result (ChangedAt (taking (tree_of join.now) key row.now before) window (seen_held windows.old.entries) (seen_held windows.new.entries)) }
 {
     match windows.get_mut(&window) {
         Some(held) => {
-            held.take(alloc, join, row, before)?;
+            held.take(alloc, join, key, row, before)?;
             Ok(())
         }
         None => {
             let mut held = Opened::new(alloc);
-            held.take(alloc, join, row, before)?;
+            held.take(alloc, join, key, row, before)?;
             windows.insert(window, held)?;
             Ok(())
         }
@@ -89,6 +101,7 @@ fn take_row<'a>(
     alloc: Global,
     join: &Join,
     windows: &mut BTreeMap<u64, Opened<'a>>,
+    tie: &Option<Tie>,
     first: u64,
     past: u64,
     row: &'a Row,
@@ -96,11 +109,16 @@ fn take_row<'a>(
 ) -> Result<(), NoMemory>
     requires small { before.left + before.right < 2 ^ 62 }
     requires row { IsRowOf (tree_of join.now) row.now }
+    requires tie { CanTie (tree_of join.now).predicate tie.now }
     requires held { AllFit (tree_of join.now) (seen_held windows.old.entries) }
-    ensures { OnOk result (Changed (taking (tree_of join.now) row.now before) first past (seen_held windows.old.entries) (seen_held windows.new.entries)) }
+    ensures { OnOk result (Changed (taking (tree_of join.now) (key_in tie.now row.now) row.now before) first past (seen_held windows.old.entries) (seen_held windows.new.entries)) }
 {
+    if past <= first {
+        return Ok(());
+    }
+    let key = join.key(tie, row);
     for window in first..past {
-        take_at(alloc, join, windows, window, row, before)?;
+        take_at(alloc, join, windows, window, key, row, before)?;
     }
     Ok(())
 }
@@ -111,13 +129,15 @@ impl Join<'_> {
         &self,
         alloc: Global,
         windows: &mut BTreeMap<u64, Opened<'a>>,
+        tie: &Option<Tie>,
         closed: u64,
         before: &Mark,
         rows: &'a [Row],
     ) -> Result<(), NoMemory>
+        requires tie { CanTie (tree_of self.now).predicate tie.now }
         requires fits { RowsFit (tree_of self.now) before.now rows.now }
         requires held { AllFit (tree_of self.now) (seen_held windows.old.entries) }
-        ensures grown { OnOk result (NotesRows (tree_of self.now) closed before.now rows.now (seen_held windows.old.entries) (seen_held windows.new.entries)) }
+        ensures grown { OnOk result (NotesRows (tree_of self.now) tie.now closed before.now rows.now (seen_held windows.old.entries) (seen_held windows.new.entries)) }
         ensures held { OnOk result (AllFit (tree_of self.now) (seen_held windows.new.entries)) }
     {
         self.has_windows();
@@ -125,7 +145,8 @@ impl Join<'_> {
         let mut mark = *before;
         for row in rows {
             let (first, past) = self.row_windows(row, &mark);
-            note_row(alloc, windows, first.max(closed), past, row, mark)?;
+            let low = first.max(closed);
+            note_row(alloc, self, windows, tie, low, past, row, mark)?;
             mark = self.step(&mark, row);
         }
         Ok(())
@@ -136,20 +157,23 @@ impl Join<'_> {
         &self,
         alloc: Global,
         windows: &mut BTreeMap<u64, Opened<'a>>,
+        tie: &Option<Tie>,
         closed: u64,
         before: &Mark,
         rows: &'a [Row],
     ) -> Result<(), NoMemory>
+        requires tie { CanTie (tree_of self.now).predicate tie.now }
         requires fits { RowsFit (tree_of self.now) before.now rows.now }
         requires held { AllFit (tree_of self.now) (seen_held windows.old.entries) }
-        ensures { OnOk result (TakesRows (tree_of self.now) closed before.now rows.now (seen_held windows.old.entries) (seen_held windows.new.entries)) }
+        ensures { OnOk result (TakesRows (tree_of self.now) tie.now closed before.now rows.now (seen_held windows.old.entries) (seen_held windows.new.entries)) }
     {
         self.has_windows();
         rows_span();
         let mut mark = *before;
         for row in rows {
             let (first, past) = self.row_windows(row, &mark);
-            take_row(alloc, self, windows, first.max(closed), past, row, mark)?;
+            let low = first.max(closed);
+            take_row(alloc, self, windows, tie, low, past, row, mark)?;
             mark = self.step(&mark, row);
         }
         Ok(())
@@ -174,8 +198,9 @@ impl Join<'_> {
         windows_get_pairs();
         let mut windows = BTreeMap::new(alloc);
         let closed = self.closed_below(after);
-        self.note_rows(alloc, &mut windows, closed, before, back)?;
-        self.take_rows(alloc, &mut windows, closed, after, rows)?;
+        let tie = self.tie();
+        self.note_rows(alloc, &mut windows, &tie, closed, before, back)?;
+        self.take_rows(alloc, &mut windows, &tie, closed, after, rows)?;
         Ok(windows)
     }
 }

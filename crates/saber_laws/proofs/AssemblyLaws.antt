@@ -28,7 +28,8 @@ use Rattle.saber_plan.specs.ListFacts.{slice-join, slice-front}
 use Rattle.saber_plan.specs.PartFacts.{total, exact, merge-empty_left, merge-empty_right}
 use Rattle.saber_laws.proofs.DirectLaws.{is_part, parts_between}
 use Rattle.saber_laws.proofs.WindowLaws.{closed_is, begun_is, closed_within_begun}
-use Rattle.saber_laws.proofs.NumberedLaws.{from-append, get_low, get_high, get_in, entries-numbered, flat_map-numbered, flat_map-from, filter_all, filter_none}
+use Rattle.saber_plan.specs.NumberFacts.{from-append}
+use Rattle.saber_laws.proofs.NumberedLaws.{get_low, get_high, get_in, entries-numbered, flat_map-numbered, flat_map-from, filter_all, filter_none}
 use Rattle.saber_laws.proofs.EndLaws.{closed_rises, begun_rises, join_at, part_upto, part_not_begun, lines_upto, lines_stay}
 
 -- ---- parts that aren't empty

@@ -1,9 +1,13 @@
 -- What was read so far is the front of all that is read.
-use Rattle.std.proofs.Common.{◌≡◌, ℕ, ◌+◌, List, [], ◌∷◌, ◌++◌, Bool, true, false, cond, not, ◌&&◌, ◌==◌, nat_le, ◌⊎◌, inl, inr, ⊎_elim, refl, sym, ◌∙◌, ap, subst, append-nil}
+use Rattle.std.proofs.Common.{◌≡◌, ℕ, ◌+◌, ◌<◌, ◌≤◌, List, [], ◌∷◌, ◌++◌, length, Bool, true, false, cond, not, ◌&&◌, ◌==◌, nat_lt, nat_le, ◌⊎◌, inl, inr, ⊎_elim, refl, sym, ◌∙◌, ap, subst, append-nil, arith}
 use Rattle.saber_plan.specs.declared.rows.Row.{Row}
-use Rattle.saber_plan.specs.Rows.{Line, onto_line, lines_of, End, cut, Read, before, stamp, SideRules, Place, start, Judged, skipped, taken, refused, judge, without_cr, after_line, read_by}
+use Rattle.saber_plan.specs.declared.rows.RowCause.TheVariants.{TooManyLines, TooLong}
+use Rattle.saber_plan.specs.Rows.{Line, onto_line, lines_of, End, cut, bad, Read, before, stamp, SideRules, Place, start, Judged, skipped, taken, refused, judge_at, timed, accept, without_cr, is_known, no_more, after_line, read_by}
+use Rattle.saber_plan.specs.LineFacts.{length-without_cr, judged_long, long_known, long_open}
 use Rattle.saber_plan.specs.Inputs.{holds_up, alone, merged_rows}
 use Rattle.saber_laws.specs.Fronts.{IsFirstOf, AllAreFirst, WholeLinesAreFirst, MergesKeepFirst, InputsKeepFirst}
+use Rattle.saber_laws.proofs.FileLaws.{From}
+use Rattle.saber_laws.proofs.DueLaws.{accepted_from, due_first}
 use Rattle.saber_laws.proofs.InputLaws.{both_sides, Begins}
 
 -- cut short, or all
@@ -30,14 +34,29 @@ so_before x a b = ⊎_elim (λ c. inl (c.0, (c.1.0, ap (λ l. x ∷ l) c.1.1))) 
 
 -- ---- lines
 
+-- a line that lacks its LF, and lines of which the first begins with it
+record GoesOn (l : Line) (ms : List Line) : Type 0 where
+  first : Line
+  rest : List Line
+  are : ms ≡ first ∷ rest
+  part : l.whole ≡ false
+  longer : length l.content ≤ length first.content
+
 -- lines, of which the first that lacks its LF may go on
 abbrev LinesGo : List Line → List Line → Type 0
 LinesGo [] ms = Unit {0}
-LinesGo (l ∷ ls) ms = (l.whole ≡ false) ⊎ ((rest : List Line) × (ms ≡ l ∷ rest) × LinesGo ls rest)
+LinesGo (l ∷ ls) ms = GoesOn l ms ⊎ ((rest : List Line) × (ms ≡ l ∷ rest) × LinesGo ls rest)
+
+one_goes : (b : ℕ) (ms : List Line) → GoesOn (record { content = b ∷ []; whole = false }) (onto_line b ms)
+one_goes b [] = record { first = record { content = b ∷ []; whole = false }; rest = []; are = refl; part = refl; longer = omega arith }
+one_goes b (m ∷ ms) = record { first = record { content = b ∷ m.content; whole = m.whole }; rest = ms; are = refl; part = refl; longer = omega arith }
 
 onto_go : (b : ℕ) (ls ms : List Line) → LinesGo ls ms → LinesGo (onto_line b ls) (onto_line b ms)
-onto_go b [] ms h = inl refl
-onto_go b (l ∷ ls) ms h = ⊎_elim (λ e. inl e) (λ g. inr (g.0, ap (onto_line b) g.1, g.2)) h
+onto_go b [] ms h = inl (one_goes b ms)
+onto_go b (l ∷ ls) ms h = ⊎_elim
+    (λ g. inl (record { first = record { content = b ∷ g.first.content; whole = g.first.whole }; rest = g.rest; are = ap (onto_line b) g.are; part = g.part; longer = omega (arith, g.longer) }))
+    (λ g. inr (g.0, ap (onto_line b) g.1, g.2))
+    h
 
 lines_go : (bytes more : List ℕ) → LinesGo (lines_of bytes) (lines_of (bytes ++ more))
 unfolding lines_of
@@ -49,43 +68,67 @@ lines_go (b ∷ bs) more =
       | false ↦ onto_go b (lines_of bs) (lines_of (bs ++ more)) rest
     ]
 
-after_go : (s : SideRules) (p : Place) (j : Judged) (f g : Place → Read) → ((z : Place) → SoFar (f z) (g z)) → SoFar (after_line s p j f) (after_line s p j g)
-after_go s p skipped f g h = h _
-after_go s p (taken zs) f g h = so_before _ _ _ (h _)
-after_go s p (refused c) f g h = inr refl
+module _ (partial : Bool) (s : SideRules) where
+  abbrev Goes : (Place → Read) → (Place → Read) → Type 0
+  Goes f g = (q : Place) → From 0 q.accepted → SoFar (f q) (g q)
 
-not_whole : (s : SideRules) (l : Line) (ls : List Line) (p : Place) (b : Read) → l.whole ≡ false → SoFar (read_by true s (l ∷ ls) p) b
-unfolding read_by
-not_whole s l ls p b e = subst (λ c. SoFar (cond {A = Read} (true && not c) (record { rows = []; end = cut }) (after_line s p (judge s.columns s.most (p.lines + 1) p.last (without_cr l.content)) (read_by true s ls))) b) (sym e) (nothing_yet b)
+  after_go : (p : Place) (j : Judged) (f g : Place → Read) → Goes f g → From 0 p.accepted → SoFar (after_line s p j f) (after_line s p j g)
+  after_go p skipped f g h k = h (record { lines = p.lines + 1; high = p.high; accepted = p.accepted }) k
+  after_go p (taken zs) f g h k = h (accept s p zs) (accepted_from s p zs k)
+  after_go p (refused c) f g h k = inr refl
 
-is_whole : (partial : Bool) (s : SideRules) (l : Line) (ls : List Line) (p : Place) → l.whole ≡ true → read_by partial s (l ∷ ls) p ≡ after_line s p (judge s.columns s.most (p.lines + 1) p.last (without_cr l.content)) (read_by partial s ls)
-unfolding read_by
-is_whole true s l ls p e = ap (λ c. cond {A = Read} (true && not c) (record { rows = []; end = cut }) (after_line s p (judge s.columns s.most (p.lines + 1) p.last (without_cr l.content)) (read_by true s ls))) e
-is_whole false s l ls p e = refl
+  -- where the lines are cut the due rows were given, which are the first
+  cut_here : (ls ms : List Line) (p : Place) → read_by true s ls p ≡ no_more true s p → From 0 p.accepted → SoFar (read_by true s ls p) (read_by partial s ms p)
+  cut_here ls ms p e k = subst (λ a. SoFar a (read_by partial s ms p)) (sym e) (inl (refl, due_first s partial ms p k))
 
-both_whole : (partial : Bool) (s : SideRules) (l : Line) (ls rest : List Line) (p : Place) → ((z : Place) → SoFar (read_by true s ls z) (read_by partial s rest z)) → (c : Bool) → l.whole ≡ c → SoFar (read_by true s (l ∷ ls) p) (read_by partial s (l ∷ rest) p)
-both_whole partial s l ls rest p h false e = not_whole s l ls p _ e
-both_whole partial s l ls rest p h true e =
-    let j = judge s.columns s.most (p.lines + 1) p.last (without_cr l.content) in
-    let now : after_line s p j (read_by true s ls) ≡ read_by true s (l ∷ ls) p = sym (is_whole true s l ls p e) in
-    let then : after_line s p j (read_by partial s rest) ≡ read_by partial s (l ∷ rest) p = sym (is_whole partial s l rest p e) in
-    subst (λ a. SoFar a (read_by partial s (l ∷ rest) p)) now (subst (SoFar (after_line s p j (read_by true s ls))) then (after_go s p j (read_by true s ls) (read_by partial s rest) h))
+  unknown : (l : Line) (ls : List Line) (p : Place) → is_known l ≡ false → read_by true s (l ∷ ls) p ≡ no_more true s p
+  unfolding read_by
+  unknown l ls p e = ap (λ c. cond {A = Read} (not c) (no_more true s p) (after_line s p (judge_at s p (without_cr l.content)) (read_by true s ls))) e
 
-none_read : (s : SideRules) (p : Place) → read_by true s [] p ≡ record { rows = []; end = cut }
-unfolding read_by
-none_read s p = refl
+  known : (partly : Bool) (l : Line) (ls : List Line) (p : Place) → (partly && not (is_known l)) ≡ false → read_by partly s (l ∷ ls) p ≡ after_line s p (judge_at s p (without_cr l.content)) (read_by partly s ls)
+  unfolding read_by
+  known partly l ls p e = ap (λ c. cond {A = Read} c (no_more partly s p) (after_line s p (judge_at s p (without_cr l.content)) (read_by partly s ls))) e
 
-reads_go : (partial : Bool) (s : SideRules) (ls ms : List Line) (p : Place) → LinesGo ls ms → SoFar (read_by true s ls p) (read_by partial s ms p)
-reads_go partial s [] ms p h = subst (λ a. SoFar a (read_by partial s ms p)) (sym (none_read s p)) (nothing_yet _)
-reads_go partial s (l ∷ ls) ms p h = ⊎_elim
-    (λ e. not_whole s l ls p _ e)
-    (λ g. subst (λ m. SoFar (read_by true s (l ∷ ls) p) (read_by partial s m p)) (sym g.1) (both_whole partial s l ls g.0 p (λ z. reads_go partial s ls g.0 z g.2) l.whole refl))
-    h
+  known_alike : (partly : Bool) (l : Line) → is_known l ≡ true → (partly && not (is_known l)) ≡ false
+  known_alike partly l e = ap (λ b. partly && not b) e ∙ by_bool partly where
+    by_bool : (b : Bool) → (b && false) ≡ false
+    by_bool true = refl
+    by_bool false = refl
+
+  same_line : (l : Line) (ls ms : List Line) (p : Place) → Goes (read_by true s ls) (read_by partial s ms) → From 0 p.accepted → (c : Bool) → is_known l ≡ c → SoFar (read_by true s (l ∷ ls) p) (read_by partial s (l ∷ ms) p)
+  same_line l ls ms p h k false e = cut_here (l ∷ ls) (l ∷ ms) p (unknown l ls p e) k
+  same_line l ls ms p h k true e =
+      let now = known true l ls p (known_alike true l e) in
+      let then = known partial l ms p (known_alike partial l e) in
+      subst (λ a. SoFar a (read_by partial s (l ∷ ms) p)) (sym now) (subst (SoFar (after_line s p (judge_at s p (without_cr l.content)) (read_by true s ls))) (sym then) (after_go p (judge_at s p (without_cr l.content)) (read_by true s ls) (read_by partial s ms) h k))
+
+  -- of a line that is too long nothing changes with what follows
+  long_read : (partly : Bool) (l : Line) (ls : List Line) (p : Place) → 4097 < length l.content → read_by partly s (l ∷ ls) p ≡ record { rows = p.accepted; end = bad s.side (p.lines + 1) (cond (nat_lt s.most (p.lines + 1)) TooManyLines TooLong) }
+  long_read partly l ls p h =
+      known partly l ls p (long_known partly l h)
+      ∙ ap (λ j. after_line s p (timed s p j) (read_by partly s ls)) (judged_long s.columns s.most (p.lines + 1) (without_cr l.content) (omega (arith, length-without_cr l.content, h)))
+
+  open_line : (l : Line) (ls ms : List Line) (p : Place) → GoesOn l ms → From 0 p.accepted → (c : Bool) → is_known l ≡ c → SoFar (read_by true s (l ∷ ls) p) (read_by partial s ms p)
+  open_line l ls ms p g k false e = cut_here (l ∷ ls) ms p (unknown l ls p e) k
+  open_line l ls ms p g k true e =
+      let long = long_open l g.part e in
+      inr (long_read true l ls p long ∙ sym (ap (λ m. read_by partial s m p) g.are ∙ long_read partial g.first g.rest p (omega (arith, long, g.longer))))
+
+  none_read : (p : Place) → read_by true s [] p ≡ no_more true s p
+  unfolding read_by
+  none_read p = refl
+
+  reads_go : (ls ms : List Line) (p : Place) → LinesGo ls ms → From 0 p.accepted → SoFar (read_by true s ls p) (read_by partial s ms p)
+  reads_go [] ms p h k = cut_here [] ms p (none_read p) k
+  reads_go (l ∷ ls) ms p h k = ⊎_elim
+      (λ g. open_line l ls ms p g k (is_known l) refl)
+      (λ g. subst (λ m. SoFar (read_by true s (l ∷ ls) p) (read_by partial s m p)) (sym g.1) (same_line l ls g.0 p (λ q f. reads_go ls g.0 q g.2 f) k (is_known l) refl))
+      h
 
 pub whole_first : WholeLinesAreFirst
 whole_first s bytes more = record {
-  at_end = first_of _ _ (reads_go false s (lines_of bytes) (lines_of (bytes ++ more)) start (lines_go bytes more));
-  going_on = first_of _ _ (reads_go true s (lines_of bytes) (lines_of (bytes ++ more)) start (lines_go bytes more));
+  at_end = first_of _ _ (reads_go false s (lines_of bytes) (lines_of (bytes ++ more)) start (lines_go bytes more) tt);
+  going_on = first_of _ _ (reads_go true s (lines_of bytes) (lines_of (bytes ++ more)) start (lines_go bytes more) tt);
 }
 
 -- ---- merges

@@ -1,17 +1,15 @@
 -- The merged input of two sides.
-use Rattle.std.proofs.Common.{◌≡◌, ℕ, ◌+◌, List, [], ◌∷◌, ◌++◌, map, filter, length, Bool, true, false, cond, not, ◌&&◌, nat_le, nat_lt, Option, Some, None, option_map, ℤ, pos, refl, sym, ◌∙◌, ap, append-nil, arith}
-use Rattle.std.proofs.lemmas.List.{length-map}
-use Rattle.std.proofs.lemmas.Bool.{both_ways, eqb-true}
+use Rattle.std.proofs.Common.{◌≡◌, ℕ, ◌+◌, List, [], ◌∷◌, ◌++◌, map, filter, length, Bool, true, false, cond, not, ◌&&◌, nat_le, refl, sym, ◌∙◌, ap, append-nil, arith}
+use Rattle.std.proofs.lemmas.Bool.{both_ways}
 use Rattle.std.proofs.lemmas.Bool.Decides.{nat_tests}
 use Rattle.saber_plan.specs.declared.rows.Side.{Side}
 use Rattle.saber_plan.specs.declared.rows.Side.TheVariants.{Left, Right}
 use Rattle.saber_plan.specs.declared.rows.Row.{Row}
 use Rattle.saber_plan.specs.declared.windows.Mark.{Mark}
 use Rattle.saber_plan.specs.declared.rows.Values.{Values}
-use Rattle.saber_plan.specs.declared.rows.RowCause.TheVariants.{TooManyLines, TooLong, FieldCount, TimeOrder}
-use Rattle.saber_plan.specs.Rows.{End, all_read, cut, bad, Read, before, stamp, Line, Judged, skipped, taken, refused, SideRules, Place, start, after_line, judge, judge_fields, judge_numbers, falls, read_by, without_cr, bad_field, fields_of, wide_field, numbers}
+use Rattle.saber_plan.specs.Rows.{End, all_read, cut, bad, Read, before, stamp}
 use Rattle.saber_laws.proofs.WindowLaws.{goes_on}
-use Rattle.saber_plan.specs.Windows.{by_side, no_rows, step_mark, mark_after, in_order, can_follow, Ordered, placed_after, own, from}
+use Rattle.saber_plan.specs.Windows.{by_side, step_mark, mark_after, in_order, can_follow, Ordered, placed_after, own, from}
 use Rattle.saber_plan.specs.Answers.{is_left, is_right}
 use Rattle.saber_plan.specs.Inputs.{holds_up, alone, merged_rows, merged}
 use Rattle.saber_laws.specs.Inputs.{on}
@@ -254,88 +252,3 @@ row_counted m Right v xs h k = (h, k ∙ omega arith)
 pub mark_counts : (m : Mark) (xs : List Row) → ((mark_after m xs).left ≡ m.left + length (filter (on Left) xs)) × ((mark_after m xs).right ≡ m.right + length (filter (on Right) xs))
 mark_counts m [] = (omega arith, omega arith)
 mark_counts m (x ∷ xs) = let rest = mark_counts (step_mark m x) xs in row_counted m x.side x.values xs rest.0 rest.1
-
--- ---- the rows of a file
-
-judged_case : (a b c d : Bool) (j : Judged) (zs : List ℤ) → cond a (refused TooManyLines) (cond b skipped (cond c (refused TooLong) (cond d j (refused FieldCount)))) ≡ taken zs → (a ≡ false) × (d ≡ true) × (j ≡ taken zs)
-judged_case true b c d j zs e = cc
-judged_case false true c d j zs e = cc
-judged_case false false true d j zs e = cc
-judged_case false false false true j zs e = (refl, refl, e)
-judged_case false false false false j zs e = cc
-
-numbers_case : (last : Option ℕ) (ys zs : List ℤ) (b : Bool) → falls last ys ≡ b → cond b (refused TimeOrder) (taken ys) ≡ taken zs → (ys ≡ zs) × (falls last zs ≡ false)
-numbers_case last ys zs true e h = cc
-numbers_case last ys zs false e h = let same : ys ≡ zs = cc in (same, ap (falls last) (sym same) ∙ e)
-
-numbers_taken : (last : Option ℕ) (ys zs : List ℤ) (o : Option ℕ) → wide_field 1 ys ≡ o → judge_numbers last ys o ≡ taken zs → (wide_field 1 ys ≡ None) × (ys ≡ zs) × (falls last zs ≡ false)
-numbers_taken last ys zs (Some k) e h = cc
-numbers_taken last ys zs None e h = let n = numbers_case last ys zs _ refl h in (e, n.0, n.1)
-
-fields_taken : (last : Option ℕ) (fs : List (List ℕ)) (zs : List ℤ) (o : Option ℕ) → judge_fields last fs o ≡ taken zs → (wide_field 1 (numbers fs) ≡ None) × (numbers fs ≡ zs) × (falls last zs ≡ false)
-fields_taken last fs zs (Some k) h = cc
-fields_taken last fs zs None h = numbers_taken last (numbers fs) zs _ refl h
-
--- what a line keeps that is a row
-pub record Kept (columns most number : ℕ) (last : Option ℕ) (zs : List ℤ) : Type 0 where
-  pub low : nat_lt most number ≡ false
-  pub count : length zs ≡ columns
-  pub range : wide_field 1 zs ≡ None
-  pub order : falls last zs ≡ false
-
-pub judge_kept : (columns most number : ℕ) (last : Option ℕ) (content : List ℕ) (zs : List ℤ) → judge columns most number last content ≡ taken zs → Kept columns most number last zs
-unfolding judge
-judge_kept columns most number last content zs h =
-    let c = judged_case _ _ _ _ _ zs h in
-    let f = fields_taken last (fields_of content) zs (bad_field 1 (fields_of content)) c.2 in
-    record {
-      low = c.0;
-      count = ap length (sym f.1) ∙ length-map (fields_of content) _ ∙ eqb-true (length (fields_of content)) columns c.1;
-      range = ap (wide_field 1) (sym f.1) ∙ f.0;
-      order = f.2;
-    }
-
-taken_falls_not : (columns most number : ℕ) (last : Option ℕ) (content : List ℕ) (zs : List ℤ) → judge columns most number last content ≡ taken zs → falls last zs ≡ false
-taken_falls_not columns most number last content zs h = (judge_kept columns most number last content zs h).order
-
--- a mark with the last timestamp of a place
-abbrev Same_last : Mark → Option ℕ → Type 0
-Same_last m last = (m.last ≡ option_map (λ n. pos n) last) × (m.ended ≡ false)
-
-no_fall : (last : Option ℕ) (zs : List ℤ) → falls last zs ≡ false → in_order (option_map (λ n. pos n) last) (stamp zs) ≡ true
-no_fall None zs h = refl
-no_fall (Some n) zs h = grind (arith, nat_tests)
-
-abbrev Good : Mark → Side → List Row → Type 0
-Good m s xs = Ordered m xs × All_of s xs
-
-good_none : (m : Mark) (s : Side) → Good m s []
-good_none m s = (Ordered-none m, tt)
-
-after_good : (s : SideRules) (p : Place) (j : Judged) (rest : Place → Read) (m : Mark) → Same_last m p.last → ((zs : List ℤ) → j ≡ taken zs → falls p.last zs ≡ false)
-    → ((r : Place) (n : Mark) → Same_last n r.last → Good n s.side (rest r).rows) → Good m s.side (after_line s p j rest).rows
-unfolding Ordered
-after_good s p skipped rest m e f g = g (record { lines = p.lines + 1; last = p.last }) m e
-after_good s p (taken zs) rest m e f g =
-    let more = g (record { lines = p.lines + 1; last = Some (stamp zs) }) (step_mark m (record { side = s.side; values = zs })) (refl, e.1) in
-    (((λ i. not (e.1 i) && in_order (e.0 i) (stamp zs)) ∙ no_fall p.last zs (f zs refl), more.0), (refl, more.1))
-after_good s p (refused c) rest m e f g = good_none m s.side
-
-read_good : (partial : Bool) (s : SideRules) (ls : List Line) (p : Place) (m : Mark) → Same_last m p.last → Good m s.side (read_by partial s ls p).rows
-unfolding read_by
-read_good true s [] p m e = good_none m s.side
-read_good false s [] p m e = good_none m s.side
-read_good partial s (l ∷ ls) p m e =
-    let j = judge s.columns s.most (p.lines + 1) p.last (without_cr l.content) in
-    elim (partial && not l.whole) as (λ b. Good m s.side (cond {A = Read} b (record { rows = []; end = cut }) (after_line s p j (read_by partial s ls))).rows) [
-      | true ↦ good_none m s.side
-      | false ↦ after_good s p j (read_by partial s ls) m e (λ zs h. taken_falls_not s.columns s.most (p.lines + 1) p.last (without_cr l.content) zs h) (λ r n h. read_good partial s ls r n h)
-    ]
-
--- the timestamps of a file's rows do not fall
-pub read_ordered : (partial : Bool) (s : SideRules) (ls : List Line) → Ordered no_rows (read_by partial s ls start).rows
-read_ordered partial s ls = (read_good partial s ls start no_rows (refl, refl)).0
-
--- and they are all of its side
-pub read_side : (partial : Bool) (s : SideRules) (ls : List Line) → All_of s.side (read_by partial s ls start).rows
-read_side partial s ls = (read_good partial s ls start no_rows (refl, refl)).1

@@ -10,6 +10,7 @@ pub mod AssemblyLaws
 pub mod TaskCutLaws
 pub mod TaskLaws
 pub mod FileLaws
+pub mod SortedLaws
 pub mod CheckedLaws
 pub mod NeedLaws
 pub mod FreeLaws
@@ -29,5 +30,6 @@ pub mod SharesLaws
 pub mod LocalLaws
 pub mod OpenLaws
 pub mod FlushLaws
+pub mod DueLaws
 pub mod FrontLaws
 pub mod WideLaws

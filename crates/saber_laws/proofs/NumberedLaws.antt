@@ -14,11 +14,6 @@ use Rattle.saber_plan.specs.Tasks.{numbered}
 use Rattle.saber_plan.specs.ListFacts.{and_T}
 use Rattle.saber_plan.specs.MapFacts.{entries-from_rising}
 
-pub from-append : (a m n : ℕ) → from a (m + n) ≡ from a m ++ from (a + m) n
-unfolding from
-from-append a zero n = let p : zero + n ≡ n = omega arith in let r : a ≡ a + zero = omega arith in ap (from a) p ∙ ap (λ b. from b n) r
-from-append a (suc m) n = let p : suc m + n ≡ suc (m + n) = omega arith in let r : (a + 1) + m ≡ a + suc m = omega arith in ap (from a) p ∙ ap (λ l. a ∷ l) (from-append (a + 1) m n) ∙ ap (λ b. (a ∷ from (a + 1) m) ++ from b n) r
-
 pub same_number : (i a : ℕ) → i ≡ a → eq_by_cmp nat_cmp i a ≡ true
 same_number i a e = grind (arith, nat_tests)
 

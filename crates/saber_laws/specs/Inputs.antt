@@ -1,11 +1,12 @@
 -- Laws of the rows of a file, and of the merged rows of two.
-use Rattle.std.specs.Prelude.{◌≡◌, ℕ, ◌+◌, ◌≤◌, List, [], ◌∷◌, ◌++◌, map, filter, length, Bool, true, false, if◌then◌else◌, nat_le}
+use Rattle.std.specs.Prelude.{◌≡◌, ℕ, ◌+◌, ◌≤◌, List, [], ◌∷◌, ◌++◌, map, filter, length, Bool, true, false, not, ◌&&◌, Option, Some, None, if◌then◌else◌, nat_le, ◌==◌}
 use Rattle.std.specs.List.{AllByRecursion}
 use Rattle.saber_plan.specs.declared.rows.Side.{Side}
 use Rattle.saber_plan.specs.declared.rows.Side.TheVariants.{Left, Right}
 use Rattle.saber_plan.specs.declared.rows.Row.{Row}
 use Rattle.saber_plan.specs.declared.windows.Mark.{Mark}
-use Rattle.saber_plan.specs.Rows.{SideRules, RowFits, End, all_read, Read, before, stamp, rows, whole}
+use Rattle.saber_plan.specs.Rows.{Place, start, accept, judge_at, SideRules, RowFits, Line, lines_of, without_cr, is_known, Judged, skipped, taken, refused, judge, falls, End, all_read, cut, bad, Read, before, stamp, rows, whole}
+use Rattle.saber_plan.specs.declared.rows.RowCause.TheVariants.{TimeOrder}
 use Rattle.saber_plan.specs.Windows.{by_side, no_rows, mark_after, Ordered, placed_after, own, from}
 use Rattle.saber_plan.specs.Answers.{is_left, is_right}
 use Rattle.saber_plan.specs.Inputs.{holds_up, merged_rows, merged}
@@ -24,6 +25,46 @@ FileRowsFit = (s : SideRules) (bytes : List ℕ) → FileRows s (rows s bytes).r
 -- and so are those of the whole lines of one that goes on
 abbrev pub WholeRowsFit : Type 0
 WholeRowsFit = (s : SideRules) (bytes : List ℕ) → FileRows s (whole s bytes).rows
+
+-- what a line adds to the accepted rows
+abbrev pub accepted_by : SideRules → Place → Judged → (Place → List Row) → List Row
+accepted_by s p skipped rest = rest (record { lines = p.lines + 1; high = p.high; accepted = p.accepted })
+accepted_by s p (taken zs) rest = record { side = s.side; values = zs } ∷ rest (accept s p zs)
+accepted_by s p (refused c) rest = []
+
+-- the accepted rows of lines, in the order of the lines
+unfoldable pub accepted_in : SideRules → List Line → Place → List Row
+accepted_in s [] p = []
+accepted_in s (l ∷ ls) p = accepted_by s p (judge_at s p (without_cr l.content)) (accepted_in s ls)
+
+abbrev pub has_stamp : ℕ → Row → Bool
+has_stamp t r = stamp r.values == t
+
+-- the rows of a file are its accepted rows, sorted: those of each timestamp are the same, in the same order
+abbrev pub FilesAreSorted : Type 0
+FilesAreSorted = (s : SideRules) (bytes : List ℕ) (t : ℕ) → filter (has_stamp t) (rows s bytes).rows ≡ filter (has_stamp t) (accepted_in s (lines_of bytes) start)
+
+-- what follows a line without slack: each row is given as its line is read, and a timestamp must not fall
+abbrev pub after_plain : SideRules → ℕ → Option ℕ → Judged → (ℕ → Option ℕ → Read) → Read
+after_plain s n last skipped rest = rest (n + 1) last
+after_plain s n last (taken zs) rest = if falls last zs then record { rows = []; end = bad s.side (n + 1) TimeOrder } else before (record { side = s.side; values = zs }) (rest (n + 1) (Some (stamp zs)))
+after_plain s n last (refused c) rest = record { rows = []; end = bad s.side (n + 1) c }
+
+abbrev pub plain_end : Bool → Read
+plain_end partial = record { rows = []; end = if partial then cut else all_read }
+
+-- the rows of lines that come in order of time
+unfoldable pub plain_by : Bool → SideRules → List Line → ℕ → Option ℕ → Read
+plain_by partial s [] n last = plain_end partial
+plain_by partial s (l ∷ ls) n last = if partial && not (is_known l) then plain_end partial else after_plain s n last (judge s.columns s.most (n + 1) (without_cr l.content)) (plain_by partial s ls)
+
+-- without slack the rows of a file are those of its lines in their order
+abbrev pub PlainFiles : Type 0
+PlainFiles = (s : SideRules) (bytes : List ℕ) → s.slack ≡ 0 → rows s bytes ≡ plain_by false s (lines_of bytes) 0 None
+
+-- and so are those of its whole lines
+abbrev pub PlainWholes : Type 0
+PlainWholes = (s : SideRules) (bytes : List ℕ) → s.slack ≡ 0 → whole s bytes ≡ plain_by true s (lines_of bytes) 0 None
 
 -- ---- the merge of two
 

@@ -1,5 +1,5 @@
 // Laws of the rows of a file, and of the merged rows of two.
-ghost use Rattle.saber_laws.specs.Inputs.{FileRowsFit, WholeRowsFit, MergesAreOrdered, MergesFit, MergesAreShort, MergesBegin, MergesEnd, MergeTurns, SidesAreCounted};
+ghost use Rattle.saber_laws.specs.Inputs.{FileRowsFit, WholeRowsFit, FilesAreSorted, PlainFiles, PlainWholes, MergesAreOrdered, MergesFit, MergesAreShort, MergesBegin, MergesEnd, MergeTurns, SidesAreCounted};
 
 /// The rows of a file fit its side, come in order of time, and are no more than its lines may be.
 pub fn file_rows_fit()
@@ -9,6 +9,21 @@ pub fn file_rows_fit()
 /// So are those of the whole lines of a file that goes on.
 pub fn whole_rows_fit()
     ensures { WholeRowsFit }
+{}
+
+/// The rows of a file are its accepted rows, sorted by timestamp; those of one timestamp keep their order.
+pub fn files_are_sorted()
+    ensures { FilesAreSorted }
+{}
+
+/// Without slack the rows of a file come in the order of its lines.
+pub fn files_are_plain()
+    ensures { PlainFiles }
+{}
+
+/// So do those of the whole lines of a file that goes on.
+pub fn wholes_are_plain()
+    ensures { PlainWholes }
 {}
 
 /// Timestamps of merged rows do not fall.

@@ -29,8 +29,9 @@ pub use ends::{
 pub use fronts::{all_are_first, inputs_keep_first, merges_keep_first, whole_lines_are_first};
 pub use groups::groups_join;
 pub use inputs::{
-    file_rows_fit, merges_are_ordered, merges_are_short, merges_begin, merges_end, merges_fit,
-    merges_turn, sides_are_counted, whole_rows_fit,
+    file_rows_fit, files_are_plain, files_are_sorted, merges_are_ordered, merges_are_short,
+    merges_begin, merges_end, merges_fit, merges_turn, sides_are_counted, whole_rows_fit,
+    wholes_are_plain,
 };
 pub use kinds::kinds_are_ranges;
 pub use marks::{

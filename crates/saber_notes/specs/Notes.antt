@@ -51,6 +51,7 @@ line_text rows.FieldCount = codes "field count"
 line_text (rows.BadNumber field) = codes "bad number in field " ++ decimal field
 line_text (rows.Range field) = codes "range in field " ++ decimal field
 line_text rows.TimeOrder = codes "time order"
+line_text rows.TooManyHeld = codes "too many held"
 
 abbrev pub side_text : Side → List ℕ
 side_text sides.Left = codes "left"

@@ -87,6 +87,7 @@ fn add_line_cause(line: &mut Line, cause: RowCause)
             line.add_number(u64::from(field));
         }
         RowCause::TimeOrder => line.add("time order"),
+        RowCause::TooManyHeld => line.add("too many held"),
     }
 }
 

@@ -1,5 +1,5 @@
 -- One row added to a part.
-use Rattle.std.proofs.Common.{◌≡◌, List, [], ◌∷◌, Bool, true, false, cond, ℤ, Some, None, refl, sym, ◌∙◌, ap, subst, Vec, Global, ◌==◌, length}
+use Rattle.std.proofs.Common.{◌≡◌, List, [], ◌∷◌, Bool, true, false, cond, ℤ, Some, None, refl, sym, ◌∙◌, ap, subst, ◌==◌, length}
 use Rattle.std.specs.Cmp.{tied_itself}
 use Rattle.std.specs.Ordering.{is_eq}
 use Rattle.std.specs.FinMap.{get, insert, from_entries, find, len, empty_of_len, get-from_entries, get-empty}
@@ -11,7 +11,8 @@ use Rattle.saber_plan.specs.Merges.{joined}
 use Rattle.saber_plan.specs.Parts.{Part, Numbers, numbers, join_numbers, group_part, merge}
 use Rattle.saber_plan.specs.PartFacts.{total, exact, merge-empty_right}
 use Rattle.saber_plan.specs.MapFacts.{take_one}
-use Rattle.saber_partial.specs.Tallies.{CanJoin, CanMerge, seen_entries, seen_groups}
+use Rattle.saber_partial.specs.Tallies.{CanJoin, CanMerge}
+use Rattle.saber_partial.specs.Sorted.{part_of}
 use Rattle.saber_partial.proofs.Merging.{join_here, not_both}
 
 -- the part of one row
@@ -30,14 +31,14 @@ add_at q m zs k n h e = ap (insert m k) e ∙ ap (λ l. insert m l (joined join_
 pub add_fits : (q : Tree) (m : Part) (zs : List ℤ) (k : List ℤ) (a : Numbers) → k ≡ key q.keys zs → get m k ≡ Some a → CanMerge m (group_part q (zs ∷ [])) → CanJoin a (numbers q.items (zs ∷ []))
 add_fits q m zs k a h g c = join_here m (key q.keys zs) a (numbers q.items (zs ∷ [])) [] (subst (CanMerge m) (one_part q zs) c) (ap (get m) (sym h) ∙ g)
 
-some_found : (x : Vec ℤ Global × Numbers) (es : List (Vec ℤ Global × Numbers)) → get (seen_groups (x ∷ es)) x.0.items ≡ Some x.1
-some_found x es = get-from_entries total (seen_entries (x ∷ es)) x.0.items ∙ ap (λ b. cond (is_eq b) (Some x.1) (find key_cmp x.0.items (seen_entries es))) (tied_itself total x.0.items)
+some_found : (x : List ℤ × Numbers) (es : List (List ℤ × Numbers)) → get (part_of (x ∷ es)) x.0 ≡ Some x.1
+some_found x es = get-from_entries total (x ∷ es) x.0 ∙ ap (λ r. cond (is_eq r) (Some x.1) (find key_cmp x.0 es)) (tied_itself total x.0)
 
-some_case : (es : List (Vec ℤ Global × Numbers)) (b : Bool) → (len (seen_groups es) == 0) ≡ b → (length es ≡ 0 → ⊥) → cond b None (Some (seen_groups es)) ≡ Some (seen_groups es)
+some_case : (es : List (List ℤ × Numbers)) (b : Bool) → (len (part_of es) == 0) ≡ b → (length es ≡ 0 → ⊥) → cond b None (Some (part_of es)) ≡ Some (part_of es)
 some_case es false e h = refl
 some_case [] true e h = absurd (h refl)
-some_case (x ∷ es) true e h = absurd (not_both (ap (λ m. get m x.0.items) (empty_of_len (seen_groups (x ∷ es)) (eqb-true (len (seen_groups (x ∷ es))) 0 e)) ∙ get-empty key_cmp x.0.items) (some_found x es))
+some_case (x ∷ es) true e h = absurd (not_both (ap (λ m. get m x.0) (empty_of_len (part_of (x ∷ es)) (eqb-true (len (part_of (x ∷ es))) 0 e)) ∙ get-empty key_cmp x.0) (some_found x es))
 
--- a map with an entry is no empty part
-pub some_groups : (es : List (Vec ℤ Global × Numbers)) → (length es ≡ 0 → ⊥) → full (seen_groups es) ≡ Some (seen_groups es)
+-- a list with an entry is no empty part
+pub some_groups : (es : List (List ℤ × Numbers)) → (length es ≡ 0 → ⊥) → full (part_of es) ≡ Some (part_of es)
 some_groups es h = some_case es _ refl h

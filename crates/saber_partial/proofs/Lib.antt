@@ -2,7 +2,8 @@ pub mod Zips
 pub mod Sharing
 pub mod Gathered
 pub mod Merging
-pub mod Stepped
+pub mod Rising
+pub mod Weaving
 pub mod Adding
 pub mod Fitting
 pub mod Lined

@@ -1,14 +1,14 @@
 -- Lines, number by number, and those of a part, group by group.
-use Rattle.std.proofs.Common.{◌≡◌, ℕ, List, [], ◌∷◌, ◌++◌, map, T, ℤ, pos, refl, sym, ◌∙◌, ap, append_assoc, append-nil, Vec, Global}
+use Rattle.std.proofs.Common.{◌≡◌, ℕ, List, [], ◌∷◌, ◌++◌, map, ℤ, pos, refl, sym, ◌∙◌, ap, append_assoc, append-nil}
 use Rattle.std.specs.Fmt.{signed_decimal}
 use Rattle.std.specs.List.{join_with_byte}
-use Rattle.std.specs.FinMap.{entries, is_sorted}
+use Rattle.std.specs.FinMap.{entries}
 use Rattle.saber_plan.specs.declared.plans.Item.{Item}
-use Rattle.saber_plan.specs.Answers.{key_cmp, line, entry_lines}
+use Rattle.saber_plan.specs.Answers.{line, entry_lines}
 use Rattle.saber_plan.specs.Parts.{Part, Numbers, answers_of, part_lines}
 use Rattle.saber_plan.specs.Trees.{Tree}
 use Rattle.saber_partial.specs.Printing.{cells, lines_for, numbers_of}
-use Rattle.saber_partial.specs.Tallies.{seen_entries, seen_groups}
+use Rattle.saber_partial.specs.Sorted.{part_of, Rises}
 use Rattle.saber_plan.specs.MapFacts.{entries-from_rising}
 use Rattle.saber_plan.specs.PartFacts.{total, exact}
 
@@ -29,10 +29,6 @@ entry_each i is (e ∷ es) = ap (λ l. line (pos i ∷ answers_of is e.1) ++ l) 
 pub part_each : (q : Tree) (i : ℕ) (p : Part) → lines_for i q.items (numbers_of p) ≡ part_lines q i p
 part_each q i p = sym (entry_each i q.items (entries p))
 
-seconds : (es : List (Vec ℤ Global × Numbers)) → map (λ e. e.1) (seen_entries es) ≡ map (λ e. e.1) es
-seconds [] = refl
-seconds (e ∷ es) = ap (λ l. e.1 ∷ l) (seconds es)
-
--- what stands under the keys of a tree map
-pub numbers_seen : (es : List (Vec ℤ Global × Numbers)) → T (is_sorted key_cmp (seen_entries es)) → numbers_of (seen_groups es) ≡ map (λ e. e.1) es
-numbers_seen es s = ap (map (λ e. e.1)) (entries-from_rising total exact (seen_entries es) s) ∙ seconds es
+-- what stands under the keys of a list
+pub numbers_there : (es : List (List ℤ × Numbers)) → Rises es → numbers_of (part_of es) ≡ map (λ e. e.1) es
+numbers_there es s = ap (map (λ e. e.1)) (entries-from_rising total exact es s)

@@ -1,4 +1,5 @@
 pub mod Tallies
+pub mod Sorted
 pub mod Kinds
 pub mod Gathering
 pub mod Printing

@@ -1,16 +1,17 @@
 -- What contracts say of tallies and of their maps.
-use Rattle.std.specs.Prelude.{◌≡◌, ℕ, ◌+◌, ◌*◌, ◌^◌, ◌≤◌, List, [], ◌∷◌, map, length, take, drop, Vec, nat_abs, ℤ, Some, refl}
+use Rattle.std.specs.Prelude.{◌≡◌, ℕ, ◌+◌, ◌*◌, ◌^◌, ◌≤◌, List, [], ◌∷◌, length, take, drop, nat_abs, ℤ, Some, refl}
 use Rattle.std.specs.List.{AllByRecursion}
 use Rattle.std.specs.Coded.{Coded, code_by, coded×, coded_ℕ, coded_ℤ, coded_list}
-use Rattle.std.specs.FinMap.{get, insert, from_entries, code}
-use Rattle.std.proofs.Common.{Global}
-use Rattle.saber_plan.specs.Answers.{key_cmp}
+use Rattle.std.specs.FinMap.{get, insert, code}
 use Rattle.saber_plan.specs.Parts.{Part, Numbers, join_numbers}
 use Rattle.saber_plan.specs.Merges.{joined}
 
 abbrev pub coded_numbers : Coded Numbers
 coded_numbers = code_by (ℕ × (List ℤ × (List ℤ × (List ℤ × List ℤ)))) (coded× coded_ℕ (coded× (coded_list coded_ℤ) (coded× (coded_list coded_ℤ) (coded× (coded_list coded_ℤ) (coded_list coded_ℤ)))))
     (λ a. (a.count, (a.sums, (a.leasts, (a.greatests, a.firsts))))) (λ p. record { count = p.0; sums = p.1.0; leasts = p.1.1.0; greatests = p.1.1.1.0; firsts = p.1.1.1.1 }) (λ _. refl)
+
+abbrev pub coded_entry : Coded (List ℤ × Numbers)
+coded_entry = coded× (coded_list coded_ℤ) coded_numbers
 
 abbrev pub coded_part : Coded Part
 coded_part = code (coded_list coded_ℤ) coded_numbers
@@ -37,13 +38,6 @@ pub record CanJoin (a b : Numbers) : Type 0 where
 pub record CanMerge (m n : Part) : Type 0 where
   pub at : (k : List ℤ) (a b : Numbers) → get m k ≡ Some a → get n k ≡ Some b → CanJoin a b
 
--- what entries of a tree map are
-abbrev pub seen_entries : List (Vec ℤ Global × Numbers) → List (List ℤ × Numbers)
-seen_entries es = map (λ e. (e.0.items, e.1)) es
-
-abbrev pub seen_groups : List (Vec ℤ Global × Numbers) → Part
-seen_groups es = from_entries {R = key_cmp} (seen_entries es)
-
 -- a part with the numbers of one row under its key
 abbrev pub with_row : Part → List ℤ → Numbers → Part
 with_row m k v = insert m k (joined join_numbers (get m k) v)
@@ -51,13 +45,3 @@ with_row m k v = insert m k (joined join_numbers (get m k) v)
 -- what stands under a key can take the numbers in
 pub record FitsAt (m : Part) (k : List ℤ) (v : Numbers) : Type 0 where
   pub at : (a : Numbers) → get m k ≡ Some a → CanJoin a v
-
--- numbers with the first of a list taken in, if there is one
-abbrev pub with_first : Numbers → List Numbers → Numbers
-with_first a [] = a
-with_first a (b ∷ bs) = join_numbers a b
-
--- they can take it in
-abbrev pub FirstFits : Numbers → List Numbers → Type 0
-FirstFits a [] = Unit {0}
-FirstFits a (b ∷ bs) = CanJoin a b

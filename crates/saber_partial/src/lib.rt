@@ -1,18 +1,21 @@
-//! Partial answers of groups: an ordered map from key lists to counts, sums, least and greatest
+//! Partial answers of groups: a list by key, from key lists to counts, sums, least and greatest
 //! values, and the values of first rows.
 #![tactic(auto)]
 
 mod cuts;
 mod gather;
+mod group;
 mod groups;
 mod joins;
 mod later_row;
 mod laws;
 mod lines;
+mod merges;
 mod numbered;
 mod pane_laws;
 mod pane_part;
 mod panes;
+mod places;
 mod rows;
 mod steps;
 mod tally;

@@ -1,12 +1,13 @@
 // The lines of groups.
-ghost use Rattle.std.specs.Prelude.{◌≡◌, ◌∷◌, ◌++◌, OnOk, OnErr, decimal, pos};
+ghost use Rattle.std.specs.Prelude.{◌≡◌, ◌∷◌, ◌++◌, OnOk, OnErr, map, decimal, pos};
 ghost use Rattle.std.specs.Fmt.{signed_decimal};
 ghost use Rattle.saber_plan.specs.Trees.{tree_of};
 ghost use Rattle.saber_plan.specs.Answers.{line};
 ghost use Rattle.saber_plan.specs.Parts.{answers_of, part_lines};
 ghost use Rattle.saber_plan.specs.Texts.{Behind};
-ghost use Rattle.saber_partial.specs.Printing.{cells, lines_for, numbers_of};
+ghost use Rattle.saber_partial.specs.Printing.{cells, lines_for};
 
+use crate::group::Group;
 use crate::groups::Partial;
 use crate::tally::Tally;
 use itoa::Buffer;
@@ -58,17 +59,22 @@ fn write_line(out: &mut Vec<u8>, window: u64, items: &[Item], tally: &Tally) -> 
     Ok(())
 }
 
-impl Partial {
-    fn write_lines(&self, items: &[Item], window: u64, out: &mut Vec<u8>) -> Result<(), NoMemory>
-        ensures ok { OnOk result (out.new.items ≡ out.old.items ++ lines_for window items.now (numbers_of self.now)) }
-        ensures behind { Behind out.old.items out.new.items }
-    {
-        for tally in self.groups.values() {
-            write_line(out, window, items, tally)?;
-        }
-        Ok(())
+fn write_groups(
+    out: &mut Vec<u8>,
+    window: u64,
+    items: &[Item],
+    groups: &[Group],
+) -> Result<(), NoMemory>
+    ensures ok { OnOk result (out.new.items ≡ out.old.items ++ lines_for window items.now (map (λ g. g.1) groups.now)) }
+    ensures behind { Behind out.old.items out.new.items }
+{
+    for group in groups {
+        write_line(out, window, items, group.tally())?;
     }
+    Ok(())
+}
 
+impl Partial {
     /// Writes the lines of the groups behind what `out` has: in the order of keys, each the window's
     /// number and the answers to the plan's items in decimal, with commas between, and LF (this
     /// project's rule). Where memory is wanting, `out` stays as it was.
@@ -77,7 +83,7 @@ impl Partial {
         ensures err { OnErr result (out.new.items ≡ out.old.items) }
     {
         let start = out.len();
-        match self.write_lines(plan.items(), window, out) {
+        match write_groups(out, window, plan.items(), &self.groups) {
             Ok(()) => Ok(()),
             Err(want) => {
                 out.truncate(start);

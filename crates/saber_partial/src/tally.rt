@@ -42,7 +42,7 @@ impl Clone for Tally {
     ghost is_clone = { λ t u. u ≡ t };
 
     fn clone(&self) -> Result<Tally, NoMemory> {
-        let numbers = self.numbers.clone()?;
+        let numbers = SmallVec::from_slice(*self.numbers.allocator(), self.numbers.as_slice())?;
         Ok(Tally {
             count: self.count,
             shares: self.shares,

@@ -98,6 +98,17 @@ fn grouped(alloc: Global, plan: &Plan, rows: &[(u32, i64, i64)]) -> Result<Parti
 
 const ROWS: [(u32, i64, i64); 5] = [(0, 1, 10), (1, 1, 20), (2, 2, 5), (2, 1, 7), (9, 2, 1)];
 
+const MANY: [(u32, i64, i64); 8] = [
+    (0, 80, 8),
+    (0, 10, 1),
+    (1, 70, 7),
+    (1, 20, 2),
+    (2, 60, 6),
+    (2, 30, 3),
+    (3, 50, 5),
+    (3, 40, 4),
+];
+
 #[test]
 fn sums_by_key(rt: HostRuntime) -> Result<(), Fail> {
     let alloc = rt.alloc();
@@ -172,6 +183,28 @@ fn lent_parts(rt: HostRuntime) -> Result<(), Fail> {
     assert_eq!(rt;
         out.as_slice(),
         b"0,1,10\n0,2,5\n1,1,20\n1,2,10\n2,1,-20\n2,2,5\n2,3,4\n3,1,10\n3,2,5\n".as_slice()
+    );
+    Ok(())
+}
+
+// One group, of a key that is there, of one behind all others and of one before them, into eight.
+#[test]
+fn one_into_many(rt: HostRuntime) -> Result<(), Fail> {
+    let alloc = rt.alloc();
+    let plan = sums(alloc)?;
+    let mut part = grouped(alloc, &plan, &MANY)?;
+    let there = grouped(alloc, &plan, &[(8, 40, 100)])?;
+    let above = grouped(alloc, &plan, &[(8, 90, 9)])?;
+    let below = grouped(alloc, &plan, &[(8, -5, 1)])?;
+    small_parts_merge();
+    part.merge(there)?;
+    part.merge(above)?;
+    part.merge(below)?;
+    let mut out = Vec::new(alloc);
+    part.lines(&plan, 3, &mut out)?;
+    assert_eq!(rt;
+        out.as_slice(),
+        b"3,-5,1\n3,10,1\n3,20,2\n3,30,3\n3,40,104\n3,50,5\n3,60,6\n3,70,7\n3,80,8\n3,90,9\n".as_slice()
     );
     Ok(())
 }

@@ -11,17 +11,17 @@ use Rattle.saber_plan.specs.declared.windows.Measure.{Measure}
 use Rattle.saber_plan.specs.declared.windows.Measure.TheVariants as measures
 use Rattle.saber_plan.specs.declared.predicates.Cmp.TheVariants.{Greater, Less}
 use Rattle.saber_plan.specs.Trees.{Tree, Tests, either, both, no_more, no_other, compare}
-use Rattle.saber_plan.specs.Rows.{SideRules, rows}
+use Rattle.saber_plan.specs.Rows.{SideRules, most_held, rows}
 
 -- five rows of three columns t, g, v
 abbrev pub five_lines : List ℕ
 five_lines = codes "0,1,10\n1,1,20\n2,2,5\n2,1,7\n9,2,1\n"
 
 abbrev pub left_of : ℕ → SideRules
-left_of columns = record { side = Left; columns = columns; most = 2 ^ 40 }
+left_of columns = record { side = Left; columns = columns; most = 2 ^ 40; slack = 0; room = most_held }
 
 abbrev pub right_of : ℕ → SideRules
-right_of columns = record { side = Right; columns = columns; most = 2 ^ 40 }
+right_of columns = record { side = Right; columns = columns; most = 2 ^ 40; slack = 0; room = most_held }
 
 abbrev pub rows_in : List ℕ → List Row
 rows_in bytes = (rows (left_of 3) bytes).rows

@@ -18,16 +18,25 @@ use Rattle.saber_plan.specs.Bounds.{SumFits, sum_bound}
 
 -- ---- streams and windows
 
--- sizes and slides are 1 to 2^40, and no point lies in more than 1,024 windows
+-- in how many windows of a stream a point may lie: this project's limit, and that for each stream of a join
+abbrev pub most_overlap : ℕ
+most_overlap = 65536
+
+abbrev pub most_overlap_joined : ℕ
+most_overlap_joined = 1024
+
+-- sizes and slides are 1 to 2^40, and no point lies in more than 65,536 windows
 pub record WindowFits (w : Window) : Type 0 where
   pub size : (1 ≤ w.size) × (w.size ≤ 2 ^ 40)
   pub slide : (1 ≤ w.slide) × (w.slide ≤ 2 ^ 40)
-  pub few : overlap w.size w.slide ≤ 1024
+  pub few : overlap w.size w.slide ≤ most_overlap
 
--- two windows of one measure and slide
+-- two windows of one measure and slide; a row of a join goes with others in each of its windows, so it may lie in fewer
 pub record Pairs (v w : Window) : Type 0 where
   pub measure : v.measure ≡ w.measure
   pub slide : v.slide ≡ w.slide
+  pub few_left : overlap v.size v.slide ≤ most_overlap_joined
+  pub few_right : overlap w.size w.slide ≤ most_overlap_joined
 
 -- a selection has one stream without a window, a group query one with a window, a join two with windows that pair
 abbrev pub StreamsFit : Shape → List Stream → Type 0

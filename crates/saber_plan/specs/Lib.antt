@@ -17,8 +17,11 @@ pub mod Sizes
 pub mod Given
 pub mod Texts
 pub mod ListFacts
+pub mod LineFacts
 pub mod RowFacts
 pub mod MapFacts
 pub mod PartFacts
 pub mod TreeFacts
 pub mod Codes
+pub mod NumberFacts
+pub mod CountFacts

@@ -1,12 +1,12 @@
 -- The lines of a file, and the rows that they are.
-use Rattle.std.specs.Prelude.{◌≡◌, ℕ, ◌+◌, ◌-◌, ◌^◌, List, [], ◌∷◌, length, drop, take, slice_index, map, is_some, unwrap_or, nat_abs, Bool, true, false, not, ◌&&◌, if◌then◌else◌, Option, Some, None, nat_lt, ◌==◌, ℤ, pos, neg_ℤ, int_lt, int_le}
+use Rattle.std.specs.Prelude.{◌≡◌, ℕ, ◌+◌, ◌-◌, ◌^◌, List, [], ◌∷◌, length, drop, take, slice_index, map, is_some, unwrap_or, nat_abs, Bool, true, false, not, ◌&&◌, ◌||◌, if◌then◌else◌, Option, Some, None, nat_lt, nat_le, max, filter, ◌==◌, ℤ, pos, neg_ℤ, int_lt, int_le}
 use Rattle.std.specs.List.{list_all}
 use Rattle.std.specs.Char.{is_ascii_digit}
 use Rattle.std.specs.Str.Parse.{digits_value, starts_with_minus}
 use Rattle.saber_plan.specs.declared.rows.Side.{Side}
 use Rattle.saber_plan.specs.declared.rows.Row.{Row}
 use Rattle.saber_plan.specs.declared.rows.RowCause.{RowCause}
-use Rattle.saber_plan.specs.declared.rows.RowCause.TheVariants.{TooManyLines, TooLong, FieldCount, BadNumber, Range, TimeOrder}
+use Rattle.saber_plan.specs.declared.rows.RowCause.TheVariants.{TooManyLines, TooLong, FieldCount, BadNumber, Range, TimeOrder, TooManyHeld}
 
 -- what stands before a line feed or the end, and whether the line feed is there
 pub record Line : Type 0 where
@@ -81,25 +81,26 @@ pub record RowFits (side : Side) (columns : ℕ) (r : Row) : Type 0 where
   pub count : length r.values ≡ columns
   pub range : wide_field 1 r.values ≡ None
 
+-- before the last row
 abbrev pub falls : Option ℕ → List ℤ → Bool
 falls None zs = false
 falls (Some last) zs = nat_lt (stamp zs) last
 
-abbrev pub judge_numbers : Option ℕ → List ℤ → Option ℕ → Judged
-judge_numbers last zs (Some k) = refused (Range k)
-judge_numbers last zs None = if falls last zs then refused TimeOrder else taken zs
+abbrev pub judge_numbers : List ℤ → Option ℕ → Judged
+judge_numbers zs (Some k) = refused (Range k)
+judge_numbers zs None = taken zs
 
-abbrev pub judge_fields : Option ℕ → List (List ℕ) → Option ℕ → Judged
-judge_fields last fs (Some k) = refused (BadNumber k)
-judge_fields last fs None = judge_numbers last (numbers fs) (wide_field 1 (numbers fs))
+abbrev pub judge_fields : List (List ℕ) → Option ℕ → Judged
+judge_fields fs (Some k) = refused (BadNumber k)
+judge_fields fs None = judge_numbers (numbers fs) (wide_field 1 (numbers fs))
 
--- the content of a line with this number, after a row with this timestamp; the causes are tried in this order
-unfoldable pub judge : ℕ → ℕ → ℕ → Option ℕ → List ℕ → Judged
-judge columns most number last content =
+-- the content of a line with this number, but for its timestamp; the causes are tried in this order
+unfoldable pub judge : ℕ → ℕ → ℕ → List ℕ → Judged
+judge columns most number content =
     if nat_lt most number then refused TooManyLines
     else (if length content == 0 then skipped
     else (if nat_lt 4096 (length content) then refused TooLong
-    else (if length (fields_of content) == columns then judge_fields last (fields_of content) (bad_field 1 (fields_of content))
+    else (if length (fields_of content) == columns then judge_fields (fields_of content) (bad_field 1 (fields_of content))
     else refused FieldCount)))
 
 -- where rows end
@@ -116,32 +117,91 @@ pub record Read : Type 0 where
 abbrev pub before : Row → Read → Read
 before r read = record { rows = r ∷ read.rows; end = read.end }
 
--- what is fixed of one side: which it is, how many columns it has, and how many lines it may have
+-- what is fixed of one side: which it is, how many columns it has, how many lines it may have, by how much a timestamp may be below the greatest one before it, and how many rows may wait for others
 pub record SideRules : Type 0 where
   pub side : Side
   pub columns : ℕ
   pub most : ℕ
+  pub slack : ℕ
+  pub room : ℕ
 
--- how many lines are behind, and the last timestamp
+-- how many rows of a file may wait: this project's limit
+abbrev pub most_held : ℕ
+most_held = 1048576
+
+-- How many lines are behind, the greatest timestamp of the accepted rows, and those of these rows that are still to be given:
+-- in order of time, and with one timestamp in order of their lines.
 pub record Place : Type 0 where
   pub lines : ℕ
-  pub last : Option ℕ
+  pub high : Option ℕ
+  pub accepted : List Row
 
 abbrev pub start : Place
-start = record { lines = 0; last = None }
+start = record { lines = 0; high = None; accepted = [] }
 
--- what follows a line, from what the lines after it give
+-- the greatest timestamp, with one more
+abbrev pub raised : Option ℕ → ℕ → ℕ
+raised None t = t
+raised (Some high) t = max high t
+
+-- below the greatest timestamp by more than the slack
+abbrev pub late : ℕ → Option ℕ → List ℤ → Bool
+late slack None zs = false
+late slack (Some high) zs = nat_lt (stamp zs + slack) high
+
+-- a row that no row of a later line precedes: any earlier one would be late
+abbrev pub is_due : ℕ → Option ℕ → Row → Bool
+is_due slack None r = false
+is_due slack (Some high) r = nat_le (stamp r.values + slack) high
+
+-- a row among rows in order of time, behind those that are not later
+abbrev pub in_time : Row → List Row → List Row
+in_time r [] = r ∷ []
+in_time r (x ∷ xs) = if nat_lt (stamp r.values) (stamp x.values) then r ∷ x ∷ xs else x ∷ in_time r xs
+
+-- one row more
+abbrev pub accept : SideRules → Place → List ℤ → Place
+accept s p zs = record { lines = p.lines + 1; high = Some (raised p.high (stamp zs)); accepted = in_time (record { side = s.side; values = zs }) p.accepted }
+
+abbrev pub due : SideRules → Place → List Row
+due s p = filter (is_due s.slack p.high) p.accepted
+
+-- those that are not due
+abbrev pub waiting : SideRules → Place → List Row
+waiting s p = filter (λ r. not (is_due s.slack p.high r)) p.accepted
+
+-- with one row more, more rows would wait than there is room for
+abbrev pub crowds : SideRules → Place → List ℤ → Bool
+crowds s p zs = nat_lt s.room (length (waiting s (accept s p zs)))
+
+-- a judged line at its place: a row must not be late, and there must be room for it
+abbrev pub timed : SideRules → Place → Judged → Judged
+timed s p skipped = skipped
+timed s p (taken zs) = if late s.slack p.high zs then refused TimeOrder else (if crowds s p zs then refused TooManyHeld else taken zs)
+timed s p (refused c) = refused c
+
+-- the next line, with this content
+abbrev pub judge_at : SideRules → Place → List ℕ → Judged
+judge_at s p content = timed s p (judge s.columns s.most (p.lines + 1) content)
+
+-- what follows a line, from what the lines after it give; before a line that is refused stand all accepted rows
 abbrev pub after_line : SideRules → Place → Judged → (Place → Read) → Read
-after_line s p skipped rest = rest (record { lines = p.lines + 1; last = p.last })
-after_line s p (taken zs) rest = before (record { side = s.side; values = zs }) (rest (record { lines = p.lines + 1; last = Some (stamp zs) }))
-after_line s p (refused c) rest = record { rows = []; end = bad s.side (p.lines + 1) c }
+after_line s p skipped rest = rest (record { lines = p.lines + 1; high = p.high; accepted = p.accepted })
+after_line s p (taken zs) rest = rest (accept s p zs)
+after_line s p (refused c) rest = record { rows = p.accepted; end = bad s.side (p.lines + 1) c }
 
--- The rows of lines up to the first that is refused. Over lines that may go on, a last one that lacks its LF is not known yet.
+-- a line whose judgement no byte behind it can change: its line feed is there, or it is too long with any end
+abbrev pub is_known : Line → Bool
+is_known l = l.whole || nat_lt 4097 (length l.content)
+
+-- where no line is known: of those that may go on, only the rows that are due
+abbrev pub no_more : Bool → SideRules → Place → Read
+no_more partial s p = if partial then record { rows = due s p; end = cut } else record { rows = p.accepted; end = all_read }
+
+-- The rows of lines up to the first that is refused, in order of time.
 unfoldable pub read_by : Bool → SideRules → List Line → Place → Read
-read_by partial s [] p = record { rows = []; end = if partial then cut else all_read }
-read_by partial s (l ∷ ls) p =
-    if partial && not l.whole then record { rows = []; end = cut }
-    else after_line s p (judge s.columns s.most (p.lines + 1) p.last (without_cr l.content)) (read_by partial s ls)
+read_by partial s [] p = no_more partial s p
+read_by partial s (l ∷ ls) p = if partial && not (is_known l) then no_more partial s p else after_line s p (judge_at s p (without_cr l.content)) (read_by partial s ls)
 
 -- the rows of a file
 abbrev pub rows : SideRules → List ℕ → Read

@@ -108,8 +108,10 @@ pub enum RowCause {
     /// The first field from the left that is out of its range: 0 to 2^62 for the timestamp, 64 bits
     /// for the others.
     Range { field: u32 },
-    /// The timestamp is below that of the row before.
+    /// The timestamp is below the greatest one before it by more than the slack.
     TimeOrder,
+    /// With this row more than 1,048,576 rows would wait for others.
+    TooManyHeld,
 }
 
 #[cfg(test)]

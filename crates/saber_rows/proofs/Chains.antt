@@ -1,7 +1,7 @@
 -- Turns of a reader, one after another.
-use Rattle.std.proofs.Common.{◌≡◌, ℕ, List, [], ◌++◌, Bool, true, false, Option, Some, None, Result, IfOk, IfSome, refl, sym, ◌∙◌, ap, subst, append_assoc, arith, length-append}
+use Rattle.std.proofs.Common.{◌≡◌, ℕ, List, [], ◌++◌, Bool, true, false, Option, Some, None, MatchOption, Result, IfOk, IfSome, refl, sym, ◌∙◌, ap, subst, append_assoc, arith, length-append}
 use Rattle.saber_io.specs.Outside.{given, EndsEmpty}
-use Rattle.saber_plan.specs.Rows.{Read, before, lines_of}
+use Rattle.saber_plan.specs.Rows.{Read, End, before, due, lines_of}
 use Rattle.saber_plan.specs.declared.rows.Row.{Row}
 use Rattle.saber_rows.specs.declared.lines.Turn.{Turn}
 use Rattle.saber_rows.specs.declared.lines.Turn.TheVariants as turns
@@ -12,7 +12,7 @@ use Rattle.saber_rows.specs.declared.ends.Stop.TheVariants.{AllRead, Failed}
 use Rattle.saber_rows.specs.Reader.{Reader, rest_of, CanFollow, answer_of}
 use Rattle.saber_rows.specs.Calls.{Moves, EndsBy, given_by, kept_by, last_after}
 use Rattle.saber_rows.specs.Laws.{MovesGoOn, ReadersStand}
-use Rattle.saber_rows.specs.Turns.{Steps, LineGives, TurnGives, IfAgain, HasEnough, same}
+use Rattle.saber_rows.specs.Turns.{Steps, LineGives, TurnGives, IfAgain, HasEnough, NoneReady, same}
 use Rattle.saber_rows.proofs.ReadSteps.{given_none, enough_again}
 
 -- ---- a turn without the source
@@ -80,7 +80,7 @@ module _ {f : Read → Read} (a b c : Reader) (h1 h2 h3 : Option (List ℕ)) (fi
 
 -- a reader that keeps an answer
 abbrev pub keeping : Reader → Result (Option Row) RowEnd → Reader
-keeping r answer = record { rules = r.rules; place = r.place; held = r.held; ended = r.ended; answer = Some answer }
+keeping r answer = record { rules = r.rules; place = r.place; last = r.last; held = r.held; ended = r.ended; over = r.over; answer = Some answer }
 
 kept_same : (a b : Reader) (answer : Result (Option Row) RowEnd) (h1 h2 : Option (List ℕ)) → Moves same a b h1 h2 → Moves same a (keeping b answer) h1 h2
 kept_same a b answer h1 h2 m = record { taken = m.taken; left = m.left; done = m.done; count = m.count; lines = m.lines; rest = m.rest; still = m.still; seen = m.seen }
@@ -138,3 +138,12 @@ moves_go_on f g a b c h1 h2 h3 first next = chain a b c h1 h2 h3 first g next
 
 pub readers_stand : ReadersStand
 readers_stand r had = stands r had
+
+-- ---- a reader that can give no row
+
+none_by : (o : Option End) (P : Type 0) (Q : End → Type 0) → MatchOption o P Q → o ≡ None → P
+none_by None P Q h e = h
+none_by (Some end) P Q h e = cc
+
+pub not_ready : (r : Reader) → NoneReady r → r.over ≡ None → due r.rules r.place ≡ []
+not_ready r h e = none_by r.over (due r.rules r.place ≡ []) (λ end. r.place.accepted ≡ []) h e

@@ -1,5 +1,5 @@
 -- A look at what stands in front of a side.
-use Rattle.std.proofs.Common.{◌≡◌, ◌<◌, ℕ, List, [], true, Option, Some, None, Result, Ok, Err, IfSome, ℤ, refl, sym, ◌∙◌, ap, subst, arith}
+use Rattle.std.proofs.Common.{◌≡◌, ℕ, List, [], true, Option, Some, None, Result, Ok, Err, IfSome, ℤ, refl, sym, ◌∙◌, ap, subst, arith}
 use Rattle.saber_plan.specs.declared.rows.Row.{Row}
 use Rattle.saber_plan.specs.declared.rows.Side.{Side}
 use Rattle.saber_plan.specs.Rows.{Read, before, stamp, bad, RowFits, SideRules}
@@ -8,7 +8,7 @@ use Rattle.saber_rows.specs.declared.ends.RowEnd.{RowEnd}
 use Rattle.saber_rows.specs.declared.ends.RowEnd.TheVariants.{ReadFault, NoMemory, Bad}
 use Rattle.saber_rows.specs.declared.heads.Look.TheVariants.{Found}
 use Rattle.saber_rows.specs.Reader.{Reader, HasEnd}
-use Rattle.saber_rows.specs.Calls.{Moves, EndsBy, kept_by, last_after}
+use Rattle.saber_rows.specs.Calls.{Moves, EndsBy, WantsMemory, kept_by, last_after}
 use Rattle.saber_rows.specs.Heads.{Headed, bare, look_of, Takes, EndedBy, SidePassed, ComesAfter, Looks, Called}
 use Rattle.saber_rows.proofs.ReadSteps.{given_none}
 
@@ -38,7 +38,7 @@ by_cause result old new had has c f (Ok (Some row)) e = tt
 by_cause result old new had has c f (Ok None) e = (c.none f e, c.ended f e)
 by_cause result old new had has c f (Err (Bad n k)) e = subst (λ (s : SideRules). HasEnd (bad s.side n k) new) (sym c.rules) (c.refused f n k e)
 by_cause result old new had has c f (Err ReadFault) e = c.cut f e
-by_cause result old new had has c f (Err NoMemory) e = subst (λ (s : SideRules). 8 < s.columns) (sym c.rules) (c.memory f e)
+by_cause result old new had has c f (Err NoMemory) e = subst WantsMemory (sym c.rules) (c.memory f e)
 
 ended_sure : (a : Answer) (new : Reader) → EndsBy a new → IfSome (kept_by a) (λ x. EndedBy x new)
 ended_sure (Ok (Some row)) new h = tt
@@ -106,7 +106,7 @@ module _ (old new : Reader) (had has : Option (List ℕ)) (side : Side) (last : 
   }
 
   -- none comes
-  later_comes : (a : Answer) → Called a old new had has → last_after old.place.last a ≡ old.place.last → kept_by a ≡ Some a → ComesAfter last None new
+  later_comes : (a : Answer) → Called a old new had has → last_after old.last a ≡ old.last → kept_by a ≡ Some a → ComesAfter last None new
   later_comes a c e k f zs h = by_answer old.answer refl where
     by_answer : (o : Option Answer) → old.answer ≡ o → in_order last (stamp zs) ≡ true
     by_answer None g = absurd (no_answer new.answer a f (c.answer g ∙ k))
@@ -114,13 +114,13 @@ module _ (old new : Reader) (had has : Option (List ℕ)) (side : Side) (last : 
         let q = subst (λ o. IfSome o (λ x. (a ≡ x) × (new ≡ old))) g c.again in
         absurd (no_answer old.answer b (ap (λ (r : Reader). r.answer) (sym q.1) ∙ f) g)
 
-  passed_none : (a : Answer) → Called a old new had has → last_after old.place.last a ≡ old.place.last → kept_by a ≡ Some a → SidePassed side last count (bare new)
+  passed_none : (a : Answer) → Called a old new had has → last_after old.last a ≡ old.last → kept_by a ≡ Some a → SidePassed side last count (bare new)
   passed_none a c e k = record {
     is_side = ap (λ (s : SideRules). s.side) c.rules ∙ p.is_side;
     front = tt;
     sure = sure_after a old new had has c p.sure;
     order = later_comes a c e k;
-    counted = omega (arith, p.counted, c.moves.count);
+    counted = omega (arith, p.counted, c.stays);
     few = c.counted;
   }
 

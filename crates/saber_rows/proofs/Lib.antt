@@ -5,9 +5,13 @@ pub mod BufferLemmas
 pub mod QuickNumbers
 pub mod QuickFields
 pub mod QuickLines
+pub mod HeldRows
+pub mod Ahead
+pub mod Ranks
 pub mod LineSteps
 pub mod TakenRows
 pub mod ReadSteps
+pub mod SoundRows
 pub mod LastLines
 pub mod Chains
 pub mod Told

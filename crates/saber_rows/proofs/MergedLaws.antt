@@ -8,7 +8,7 @@ use Rattle.saber_rows.specs.Merging.{Merger, merger_rest, merger_over, MergeMove
 use Rattle.saber_rows.specs.Laws.{LinesPass, MergesGoOn, MergersStand, MergesTell}
 use Rattle.saber_rows.proofs.Told.{none_comes, all_comes, can_come}
 use Rattle.saber_rows.proofs.Fronts.{stand, looked}
-use Rattle.saber_rows.proofs.MergedTurns.{takes_on, followed, is_ahead, in_turn, gone}
+use Rattle.saber_rows.proofs.MergedTurns.{takes_on, followed, is_ahead, in_turn, goes}
 
 pub go_on : MergesGoOn
 go_on f g a b c h1 h2 h3 k1 k2 k3 first next =
@@ -60,6 +60,6 @@ pub pass : LinesPass
 pass (Ok (Some row)) old new had has c side last count p =
     let l = looked old new had has side last count p (Ok (Some row)) c in
     let h : Headed = record { reader = new; ahead = Some row } in
-    record { fits = (is_ahead side last count h l.passed row refl).fits; ordered = in_turn side last count h l.passed row refl; passed = gone side last count h l.passed row refl }
+    record { fits = (is_ahead side last count h l.passed row refl).fits; ordered = in_turn side last count h l.passed row refl; passed = goes side last count h l.passed row refl }
 pass (Ok None) old new had has c side last count p = let l = looked old new had has side last count p (Ok None) c in (l.passed, l.finds.2)
 pass (Err e) old new had has c side last count p = let l = looked old new had has side last count p (Err e) c in (l.passed, l.finds.2)

@@ -14,7 +14,7 @@ use Rattle.saber_rows.specs.declared.ends.RowEnd.{RowEnd}
 use Rattle.saber_rows.specs.declared.ends.RowEnd.TheVariants.{ReadFault, NoMemory, Bad}
 use Rattle.saber_rows.specs.declared.heads.Look.{Look}
 use Rattle.saber_rows.specs.declared.heads.Look.TheVariants.{Found, Ended, Failed}
-use Rattle.saber_rows.specs.Reader.{Reader, rest_of, CanFollow, nothing}
+use Rattle.saber_rows.specs.Reader.{Reader, rest_of, gone, CanFollow, nothing}
 use Rattle.saber_rows.specs.Heads.{Headed, bare, look_of, led_by, side_rest, front_of, Finds, Takes, IsAhead, SidePassed, ComesAfter, Looks}
 use Rattle.saber_rows.specs.Merging.{Merger, merger_rest, MergeAnswer, settled, merge_answer, MergeMoves, StopsBy, Passed, MergeTurn}
 use Rattle.saber_rows.proofs.ReadSteps.{given_none, true_not_false}
@@ -100,10 +100,10 @@ module _ (s : Side) (last : Option ℤ) (count : ℕ) (h : Headed) (p : SidePass
       subst (λ n. nat_le n (stamp zs) ≡ true) same (grind (arith, nat_tests))
 
   -- its row goes
-  pub gone : SidePassed s (Some (pos (stamp x.values))) (count + 1) (bare h.reader)
-  gone =
-      let c : count + 1 ≤ h.reader.place.lines = subst (λ o. count + cond (is_some o) 1 0 ≤ h.reader.place.lines) e p.counted in
-      record { is_side = p.is_side; front = tt; sure = p.sure; order = λ f zs k. after_it h.reader.place.last zs is_ahead.last k; counted = omega (arith, c); few = p.few }
+  pub goes : SidePassed s (Some (pos (stamp x.values))) (count + 1) (bare h.reader)
+  goes =
+      let c : count + 1 ≤ gone h.reader = subst (λ o. count + cond (is_some o) 1 0 ≤ gone h.reader) e p.counted in
+      record { is_side = p.is_side; front = tt; sure = p.sure; order = λ f zs k. after_it h.reader.last zs is_ahead.last k; counted = omega (arith, c); few = p.few }
 
   -- the other side's row goes, and this one's is not before it
   pub stays_row : (n : ℕ) → nat_le n (stamp x.values) ≡ true → SidePassed s (Some (pos n)) count h
@@ -223,7 +223,7 @@ module _ (law : MergeTurns) (m : Mark) (old : Merger) (had hadr : Option (List �
           fits = fits_side x old.left Left old.left.reader.rules.columns old.right.reader.rules.columns ahead p.left.is_side refl;
           ordered = in_turn Left m.last m.left old.left p.left x e;
           passed = record {
-            left = subst (λ n. SidePassed Left (Some (pos (stamp x.values))) n (bare old.left.reader)) (sym (count_left m x own)) (gone Left m.last m.left old.left p.left x e);
+            left = subst (λ n. SidePassed Left (Some (pos (stamp x.values))) n (bare old.left.reader)) (sym (count_left m x own)) (goes Left m.last m.left old.left p.left x e);
             right = subst (λ n. SidePassed Right (Some (pos (stamp x.values))) n old.right) (sym (count_right_same m x own)) other;
             held = λ f. unfailed;
           };
@@ -246,7 +246,7 @@ module _ (law : MergeTurns) (m : Mark) (old : Merger) (had hadr : Option (List �
           ordered = in_turn Right m.last m.right old.right p.right x e;
           passed = record {
             left = subst (λ n. SidePassed Left (Some (pos (stamp x.values))) n old.left) (sym (count_left_same m x own)) other;
-            right = subst (λ n. SidePassed Right (Some (pos (stamp x.values))) n (bare old.right.reader)) (sym (count_right m x own)) (gone Right m.last m.right old.right p.right x e);
+            right = subst (λ n. SidePassed Right (Some (pos (stamp x.values))) n (bare old.right.reader)) (sym (count_right m x own)) (goes Right m.last m.right old.right p.right x e);
             held = λ f k g. none_some (front_of (bare old.right.reader)) (Failed k) (front_gone old.right x ahead) g;
           };
         };

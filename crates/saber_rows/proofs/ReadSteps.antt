@@ -1,13 +1,14 @@
 -- A reader reads, or doesn't.
-use Rattle.std.proofs.Common.{◌≡◌, ℕ, List, [], ◌∷◌, ◌++◌, length, Bool, true, false, Option, Some, None, refl, sym, ◌∙◌, ap, append_assoc, arith}
+use Rattle.std.proofs.Common.{◌≡◌, ℕ, List, [], ◌∷◌, ◌++◌, ◌≤◌, length, Bool, true, false, not, cond, Option, Some, None, refl, sym, ◌∙◌, ap, append_assoc, arith}
 use Rattle.std.proofs.lemmas.List.{append-nil}
 use Rattle.saber_io.specs.Outside.{given, EndsEmpty}
-use Rattle.saber_plan.specs.Rows.{SideRules, Place, lines_of, onto_line, read_by, cut}
+use Rattle.saber_plan.specs.Rows.{SideRules, Place, lines_of, onto_line, read_by, cut, due, no_more, after_line, judge_at, without_cr}
 use Rattle.saber_rows.specs.Buffer.{Gains}
 use Rattle.saber_rows.specs.LineFeeds.{onto_lines, HasNoFeed}
-use Rattle.saber_rows.specs.Reader.{Reader, nothing, NeedsMore}
+use Rattle.saber_rows.specs.Reader.{Reader, rest_by, rest_of, NeedsMore}
 use Rattle.saber_rows.specs.Calls.{Moves}
 use Rattle.saber_rows.specs.Turns.{Steps, same, HasEnough}
+use Rattle.saber_rows.proofs.HeldRows.{is_not_above}
 
 -- a source gave nothing
 pub given_none : (o : Option (List ℕ)) → o ≡ given [] o
@@ -22,19 +23,29 @@ pub onto_none : (b : ℕ) (bs : List ℕ) → onto_lines (b ∷ bs) [] ≡ recor
 onto_none b [] = refl
 onto_none b (c ∷ cs) = ap (onto_line b) (onto_none c cs)
 
-unfinished : (held : List ℕ) (s : SideRules) (p : Place) → read_by true s (onto_lines held []) p ≡ nothing cut
+-- where the last line is not known only rows that are due come
+unfinished : (held : List ℕ) (s : SideRules) (p : Place) → length held ≤ 4097 → read_by true s (onto_lines held []) p ≡ record { rows = due s p; end = cut }
 unfolding read_by
-unfinished [] s p = refl
-unfinished (b ∷ bs) s p = ap (λ ls. read_by true s ls p) (onto_none b bs)
+unfinished [] s p few = refl
+unfinished (b ∷ bs) s p few =
+    ap (λ ls. read_by true s ls p) (onto_none b bs)
+    ∙ ap (λ c. cond (not c) (no_more true s p) (after_line s p (judge_at s p (without_cr (b ∷ bs))) (read_by true s []))) (is_not_above 4097 (length (b ∷ bs)) few)
 
--- a reader that holds no line feed needs more
-pub needs_more : (r : Reader) → r.ended ≡ false → HasNoFeed r.held → NeedsMore r
+-- what a reader has left that knows no end
+pub rest_unknown : (r : Reader) → r.over ≡ None → (partial : Bool) (z : List ℕ) → rest_of partial r z ≡ read_by partial r.rules (lines_of (r.held ++ z)) r.place
+rest_unknown r over partial z = ap (λ o. rest_by o r.place.accepted (read_by partial r.rules (lines_of (r.held ++ z)) r.place)) over
+
+-- a reader that holds no line feed and no row that is due needs more
+pub needs_more : (r : Reader) → r.ended ≡ false → r.over ≡ None → due r.rules r.place ≡ [] → length r.held ≤ 4097 → HasNoFeed r.held → NeedsMore r
 unfolding lines_of
-needs_more r unended feed = record { unended = unended; none = ap (λ ls. read_by true r.rules ls r.place) (feed []) ∙ unfinished r.held r.rules r.place }
+needs_more r unended over none few feed = record {
+  unended = unended;
+  none = rest_unknown r over true [] ∙ ap (λ ls. read_by true r.rules ls r.place) (feed []) ∙ unfinished r.held r.rules r.place few ∙ ap (λ xs. record { rows = xs; end = cut }) none;
+}
 
--- so a reader that has enough holds one
-pub not_enough : {P : Type 0} (r : Reader) → r.ended ≡ false → HasNoFeed r.held → HasEnough r → P
-not_enough r unended feed h = absurd (h (needs_more r unended feed))
+-- so one that has enough holds either
+pub not_enough : {P : Type 0} (r : Reader) → r.ended ≡ false → r.over ≡ None → due r.rules r.place ≡ [] → length r.held ≤ 4097 → HasNoFeed r.held → HasEnough r → P
+not_enough r unended over none few feed h = absurd (h (needs_more r unended over none few feed))
 
 -- a reader that has enough has it still, after a line that is skipped
 pub enough_again : (old new : Reader) → Steps same old new → HasEnough old → HasEnough new
@@ -42,7 +53,7 @@ enough_again old new g h n = h (record { unended = sym g.ended ∙ n.unended; no
 
 -- the same reader with other bytes, that saw the end or did not
 abbrev pub with_held : Reader → List ℕ → Bool → Reader
-with_held r held ended = record { rules = r.rules; place = r.place; held = held; ended = ended; answer = r.answer }
+with_held r held ended = record { rules = r.rules; place = r.place; last = r.last; held = held; ended = ended; over = r.over; answer = r.answer }
 
 -- bytes came behind those that are held
 pub came : (r : Reader) (held : List ℕ) (had has : Option (List ℕ)) (n : ℕ) → r.ended ≡ false → Gains n r.held held had has → Moves same r (with_held r held r.ended) had has
@@ -52,7 +63,7 @@ came r held had has n unended g = record {
   done = [];
   count = omega arith;
   lines = λ z follow. ap lines_of (behind z);
-  rest = λ partial z follow. ap (λ bytes. read_by partial r.rules (lines_of bytes) r.place) (behind z);
+  rest = λ partial z follow. ap (λ bytes. rest_by r.over r.place.accepted (read_by partial r.rules (lines_of bytes) r.place)) (behind z);
   still = λ ended. true_not_false r.ended unended ended;
   seen = λ _ ended. true_not_false r.ended unended ended;
 } where
@@ -76,7 +87,7 @@ saw_end r held had has n zero unended g empty = record {
   done = [];
   count = omega arith;
   lines = λ z follow. ap (λ h. lines_of (h ++ z)) (sym kept);
-  rest = λ partial z follow. ap (λ h. read_by partial r.rules (lines_of (h ++ z)) r.place) (sym kept);
+  rest = λ partial z follow. ap (λ h. rest_by r.over r.place.accepted (read_by partial r.rules (lines_of (h ++ z)) r.place)) (sym kept);
   still = λ ended. true_not_false r.ended unended ended;
   seen = λ _ _. empty_left had has left empty;
 } where

@@ -1,11 +1,11 @@
 -- What a call of a reader does, by its answer.
-use Rattle.std.specs.Prelude.{◌≡◌, ◌<◌, ℕ, ◌+◌, length, List, [], ◌∷◌, ◌++◌, Bool, true, false, Option, Some, None, Result, Ok, Err}
+use Rattle.std.specs.Prelude.{◌≡◌, ◌<◌, ◌⊎◌, ℕ, ◌+◌, length, List, [], ◌∷◌, ◌++◌, Bool, true, false, Option, Some, None, Result, Ok, Err}
 use Rattle.saber_plan.specs.declared.rows.Row.{Row}
-use Rattle.saber_plan.specs.Rows.{Line, Read, End, all_read, cut, bad, lines_of, before, stamp, falls, RowFits}
+use Rattle.saber_plan.specs.Rows.{SideRules, Line, Read, End, all_read, cut, bad, lines_of, before, stamp, falls, RowFits}
 use Rattle.saber_io.specs.Outside.{given, EndsEmpty}
 use Rattle.saber_rows.specs.declared.ends.RowEnd.{RowEnd}
 use Rattle.saber_rows.specs.declared.ends.RowEnd.TheVariants.{ReadFault, NoMemory, Bad}
-use Rattle.saber_rows.specs.Reader.{Reader, rest_of, CanFollow, HasEnd, NeedsMore}
+use Rattle.saber_rows.specs.Reader.{Reader, gone, rest_of, CanFollow, HasEnd, NeedsMore}
 
 -- an answer's row and then these
 abbrev pub given_by : Result (Option Row) RowEnd → Read → Read
@@ -39,21 +39,25 @@ pub record Moves (out : Read → Read) (old new : Reader) (had has : Option (Lis
   pub still : old.ended ≡ true → (taken ≡ []) × (new.ended ≡ true)
   pub seen : old.ended ≡ false → new.ended ≡ true → EndsEmpty has
 
--- a row of the reader's side, not before the last one; the reader then has its timestamp, and a line more behind it
+-- a row of the reader's side, not before the last one; the reader then has its timestamp, and a line more that gives no row any more
 pub record IsGiven (row : Row) (old new : Reader) : Type 0 where
   pub fits : RowFits old.rules.side old.rules.columns row
-  pub ordered : falls old.place.last row.values ≡ false
-  pub last : new.place.last ≡ Some (stamp row.values)
-  pub rises : old.place.lines < new.place.lines
+  pub ordered : falls old.last row.values ≡ false
+  pub last : new.last ≡ Some (stamp row.values)
+  pub rises : gone old < gone new
+
+-- rows of more than eight columns, or rows that are held, take memory
+abbrev pub WantsMemory : SideRules → Type 0
+WantsMemory s = (8 < s.columns) ⊎ (0 < s.slack)
 
 -- Why a reader answers no row: the rows are at their end, which it saw, or this line is refused, whatever follows; a read failed, where more was needed;
--- or there was no memory, which up to eight columns don't want.
+-- or there was no memory, which up to eight columns without slack don't want.
 abbrev pub EndsBy : Result (Option Row) RowEnd → Reader → Type 0
 EndsBy (Ok (Some row)) r = Unit {0}
 EndsBy (Ok None) r = HasEnd all_read r × (r.ended ≡ true)
 EndsBy (Err (Bad n c)) r = HasEnd (bad r.rules.side n c) r
 EndsBy (Err ReadFault) r = NeedsMore r
-EndsBy (Err NoMemory) r = 8 < r.rules.columns
+EndsBy (Err NoMemory) r = WantsMemory r.rules
 
 -- what comes first of some rows and their end
 abbrev pub first_of_rows : List Row → End → Result (Option Row) RowEnd

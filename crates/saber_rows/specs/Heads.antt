@@ -10,8 +10,8 @@ use Rattle.saber_rows.specs.declared.ends.RowEnd.{RowEnd}
 use Rattle.saber_rows.specs.declared.heads.Head.{Head}
 use Rattle.saber_rows.specs.declared.heads.Look.{Look}
 use Rattle.saber_rows.specs.declared.heads.Look.TheVariants.{Found, Ended, Failed}
-use Rattle.saber_rows.specs.Reader.{Reader, reader_of, rest_of, CanFollow, HasEnd, NeedsMore}
-use Rattle.saber_rows.specs.Calls.{Moves, EndsBy, given_by, kept_by, last_after}
+use Rattle.saber_rows.specs.Reader.{Reader, reader_of, rest_of, gone, CanFollow, HasEnd, NeedsMore}
+use Rattle.saber_rows.specs.Calls.{Moves, EndsBy, WantsMemory, given_by, kept_by, last_after}
 use Rattle.saber_rows.specs.declared.ends.RowEnd.TheVariants.{ReadFault, NoMemory, Bad}
 
 -- a reader, and the row that it gave last, where that isn't passed on yet
@@ -71,7 +71,7 @@ pub record Takes (old new : Reader) (had has : Option (List ℕ)) : Type 0 where
 -- a row that a reader gave last, and that did not end it
 pub record IsAhead (row : Row) (r : Reader) : Type 0 where
   pub fits : RowFits r.rules.side r.rules.columns row
-  pub last : r.place.last ≡ Some (stamp row.values)
+  pub last : r.last ≡ Some (stamp row.values)
   pub fresh : r.answer ≡ None
 
 -- an answer that ended the reader, with its cause
@@ -83,7 +83,7 @@ EndedBy (Err e) r = EndsBy (Err e) r
 -- the rows that a side gives from now on are not before this timestamp
 abbrev pub ComesAfter : Option ℤ → Option Row → Reader → Type 0
 ComesAfter last (Some row) r = in_order last (stamp row.values) ≡ true
-ComesAfter last None r = r.answer ≡ None → (zs : List ℤ) → falls r.place.last zs ≡ false → in_order last (stamp zs) ≡ true
+ComesAfter last None r = r.answer ≡ None → (zs : List ℤ) → falls r.last zs ≡ false → in_order last (stamp zs) ≡ true
 
 -- So many rows of a side were passed on, and this was the last timestamp of both sides. What the side gives from now on follows them, and
 -- an answer that ended its reader has its cause.
@@ -92,8 +92,8 @@ pub record SidePassed (side : Side) (last : Option ℤ) (count : ℕ) (h : Heade
   pub front : IfSome h.ahead (λ row. IsAhead row h.reader)
   pub sure : IfSome h.reader.answer (λ answer. EndedBy answer h.reader)
   pub order : ComesAfter last h.ahead h.reader
-  pub counted : count + (if is_some h.ahead then 1 else 0) ≤ h.reader.place.lines
-  pub few : h.reader.place.lines ≤ h.reader.rules.most
+  pub counted : count + (if is_some h.ahead then 1 else 0) ≤ gone h.reader
+  pub few : gone h.reader ≤ h.reader.rules.most
 
 -- what a look does: the side has still to give what it had
 pub record Looks (look : Look) (side : Side) (last : Option ℤ) (count : ℕ) (old new : Headed) (had has : Option (List ℕ)) : Type 0 where
@@ -114,12 +114,13 @@ pub record Called (result : Result (Option Row) RowEnd) (old new : Reader) (had 
   pub ended : old.answer ≡ None → result ≡ Ok None → new.ended ≡ true
   pub refused : old.answer ≡ None → (line : ℕ) (cause : RowCause) → result ≡ Err (Bad line cause) → HasEnd (bad old.rules.side line cause) new
   pub cut : old.answer ≡ None → result ≡ Err ReadFault → NeedsMore new
-  pub memory : old.answer ≡ None → result ≡ Err NoMemory → 8 < old.rules.columns
+  pub memory : old.answer ≡ None → result ≡ Err NoMemory → WantsMemory old.rules
   pub fits : IfOk result (λ o. IfSome o (RowFits old.rules.side old.rules.columns))
-  pub ordered : IfOk result (λ o. IfSome o (λ row. falls old.place.last row.values ≡ false))
-  pub last : new.place.last ≡ last_after old.place.last result
-  pub rises : IfOk result (λ o. IfSome o (λ row. old.place.lines < new.place.lines))
-  pub counted : new.place.lines ≤ new.rules.most
+  pub ordered : IfOk result (λ o. IfSome o (λ row. falls old.last row.values ≡ false))
+  pub last : new.last ≡ last_after old.last result
+  pub rises : IfOk result (λ o. IfSome o (λ row. gone old < gone new))
+  pub stays : gone old ≤ gone new
+  pub counted : gone new ≤ new.rules.most
 
 -- a row of a side that was passed on at once: it fits the reader's side, and is not before the last one
 pub record LineRow (side : Side) (last : Option ℤ) (count : ℕ) (row : Row) (r : Reader) : Type 0 where

@@ -3,6 +3,9 @@ pub mod Fields
 pub mod Judged
 pub mod LineFeeds
 pub mod Buffer
+pub mod Held
+pub mod Waiting
+pub mod Sound
 pub mod QuickRows
 pub mod Reader
 pub mod Calls

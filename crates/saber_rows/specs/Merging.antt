@@ -1,5 +1,5 @@
 -- Two readers whose rows are merged, as contracts see them.
-use Rattle.std.specs.Prelude.{◌≡◌, ◌≢◌, ◌<◌, ℕ, List, [], ◌++◌, Bool, true, false, Option, Some, None, option_map, option_and_then, Result, Ok, Err}
+use Rattle.std.specs.Prelude.{◌≡◌, ◌≢◌, ℕ, List, [], ◌++◌, Bool, true, false, Option, Some, None, option_map, option_and_then, Result, Ok, Err}
 use Rattle.saber_plan.specs.declared.rows.Row.{Row}
 use Rattle.saber_plan.specs.declared.rows.Side.{Side}
 use Rattle.saber_plan.specs.declared.rows.Side.TheVariants.{Left, Right}
@@ -13,6 +13,7 @@ use Rattle.saber_rows.specs.declared.heads.Look.{Look}
 use Rattle.saber_rows.specs.declared.heads.Look.TheVariants.{Found, Ended, Failed}
 use Rattle.saber_rows.specs.declared.merges.Merge.{Merge}
 use Rattle.saber_rows.specs.Reader.{Reader, CanFollow, to_come, nothing, NeedsMore}
+use Rattle.saber_rows.specs.Calls.{WantsMemory}
 use Rattle.saber_rows.specs.Heads.{Headed, headed, bare, side_rest, front_of, Takes, SidePassed}
 
 -- both sides, each with the row in front of it
@@ -88,11 +89,11 @@ MergeNeeds Left m = NeedsMore m.left.reader × ((w : List ℕ) → CanFollow fal
 MergeNeeds Right m = NeedsMore m.right.reader × ((z : List ℕ) → CanFollow false m.left.reader z → merger_rest false true m z [] ≡ nothing cut)
 
 -- Why a merge answers no row: both sides are at their end; a side's next line is refused, also where the other side has an earlier row;
--- a read of a side failed, where more was needed of it; or there was no memory, which up to eight columns don't want.
+-- a read of a side failed, where more was needed of it; or there was no memory, which up to eight columns without slack don't want.
 abbrev pub StopsBy : Side → RowEnd → Merger → Type 0
 StopsBy s (Bad n c) m = MergeHasEnd (bad s n c) m
 StopsBy s ReadFault m = MergeNeeds s m
-StopsBy s NoMemory m = 8 < (by_side s m.left m.right).reader.rules.columns
+StopsBy s NoMemory m = WantsMemory (by_side s m.left m.right).reader.rules
 
 abbrev pub MergeEndsBy : MergeAnswer → Merger → Type 0
 MergeEndsBy (Ok (Some row)) m = Unit {0}

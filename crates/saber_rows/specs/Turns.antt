@@ -1,12 +1,13 @@
 -- What one turn of a reader does: a line, or a read.
-use Rattle.std.specs.Prelude.{◌≡◌, ◌≤◌, ℕ, ◌+◌, ◌-◌, ◌*◌, length, if◌then◌else◌, List, [], ◌∷◌, ◌++◌, take, drop, Bool, true, false, Option, None, Ok, Err}
-use Rattle.saber_plan.specs.Rows.{Line, Read, lines_of, before, Judged, judge, without_cr}
+use Rattle.std.specs.Prelude.{◌≡◌, ◌≤◌, ℕ, ◌+◌, ◌-◌, ◌*◌, length, if◌then◌else◌, List, [], ◌∷◌, ◌++◌, take, drop, Bool, true, false, Option, Some, None, MatchOption, is_some, Ok, Err}
+use Rattle.saber_plan.specs.declared.rows.Row.{Row}
+use Rattle.saber_plan.specs.Rows.{Line, Read, lines_of, before, SideRules, Place, End, Judged, judge_at, is_due, due, without_cr}
 use Rattle.saber_rows.specs.declared.ends.RowEnd.TheVariants.{ReadFault, NoMemory, Bad}
 use Rattle.saber_rows.specs.declared.ends.Stop.{Stop}
 use Rattle.saber_rows.specs.declared.ends.Stop.TheVariants.{AllRead, Failed}
 use Rattle.saber_rows.specs.declared.lines.Turn.{Turn}
 use Rattle.saber_rows.specs.declared.lines.Turn.TheVariants as turns
-use Rattle.saber_rows.specs.Reader.{Reader, rest_of, CanFollow, NeedsMore, answer_of}
+use Rattle.saber_rows.specs.Reader.{Reader, gone, rest_of, CanFollow, NeedsMore, answer_of}
 use Rattle.saber_rows.specs.Calls.{Moves, IsGiven, EndsBy}
 
 -- the rows as they are
@@ -15,7 +16,7 @@ same read = read
 
 -- what the first line of a reader is, where it has n bytes
 abbrev pub first_judged : Reader → ℕ → Judged
-first_judged r n = judge r.rules.columns r.rules.most (r.place.lines + 1) r.place.last (without_cr (take n r.held))
+first_judged r n = judge_at r.rules r.place (without_cr (take n r.held))
 
 -- whatever follows (nothing does, where the line is not whole), the first n bytes are a line, and the rest begins at with_end
 abbrev pub Fronts : Bool → List ℕ → ℕ → ℕ → Type 0
@@ -32,6 +33,20 @@ pub record Steps (out : Read → Read) (old new : Reader) : Type 0 where
   pub count : new.place.lines ≡ old.place.lines + length done
   pub lines : (z : List ℕ) → CanFollow false new z → lines_of (old.held ++ z) ≡ done ++ lines_of (new.held ++ z)
   pub rest : (partial : Bool) (z : List ℕ) → CanFollow partial new z → rest_of partial old z ≡ out (rest_of partial new z)
+
+-- there is a first row, and it is due, or it is known which end stands behind all
+abbrev pub IsFirstReady : Option End → SideRules → Place → List Row → Type 0
+IsFirstReady over s p [] = ⊥
+IsFirstReady None s p (x ∷ xs) = is_due s.slack p.high x ≡ true
+IsFirstReady (Some end) s p (x ∷ xs) = Unit {0}
+
+-- no row that the reader holds can be given
+abbrev pub NoneReady : Reader → Type 0
+NoneReady r = MatchOption r.over (due r.rules r.place ≡ []) (λ end. r.place.accepted ≡ [])
+
+-- the first row that it holds can
+abbrev pub IsReady : Reader → Type 0
+IsReady r = IsFirstReady r.over r.rules r.place r.place.accepted
 
 -- the reader has nothing but this end left; no read failed
 abbrev pub Stops : Stop → Reader → Type 0
@@ -55,12 +70,12 @@ TurnGives (turns.Stop s) old new had has = (new ≡ old) × (has ≡ had) × End
 -- what a turn does to the place of a reader
 abbrev pub PlaceMoves : Turn → Reader → Reader → Type 0
 PlaceMoves (turns.Row row) old new = IsGiven row old new
-PlaceMoves turns.Again old new = (new.place.last ≡ old.place.last) × (old.place.lines ≤ new.place.lines)
+PlaceMoves turns.Again old new = (new.last ≡ old.last) × (gone old ≤ gone new)
 PlaceMoves (turns.Stop s) old new = Unit {0}
 
--- what is left to do: lines, room for bytes, and the end of the source
+-- what is left to do: lines, room for bytes, the end of the source, and the end of its rows
 abbrev pub work_left : Reader → ℕ
-work_left r = (r.rules.most - r.place.lines) * 16384 + (8193 - length r.held) + (if r.ended then 0 else 1)
+work_left r = (r.rules.most - r.place.lines) * 16384 + (8193 - length r.held) + (if r.ended then 0 else 1) + (if is_some r.over then 0 else 1)
 
 -- a fact of a turn that takes a line or reads, and gives no row
 abbrev pub IfAgain : Turn → Type 0 → Type 0

@@ -12,6 +12,28 @@ pub enum RowEnd {
     Bad { line: u64, cause: RowCause },
 }
 
+/// The end that is known to stand behind the rows that a reader holds.
+#[derive(Clone, Copy)]
+pub(crate) enum Behind {
+    AllRead,
+    Refused { line: u64, cause: RowCause },
+}
+
+impl Behind {
+    ghost use Rattle.std.specs.Prelude.{◌≡◌};
+    ghost use Rattle.saber_rows.specs.Reader.{stop_behind};
+
+    /// How a reader stops there.
+    pub(crate) fn stop(self) -> Stop
+        ensures { result ≡ stop_behind self }
+    {
+        match self {
+            Behind::AllRead => Stop::AllRead,
+            Behind::Refused { line, cause } => Stop::Failed(RowEnd::Bad { line, cause }),
+        }
+    }
+}
+
 /// What a reader that has stopped answers.
 #[derive(Clone, Copy)]
 pub(crate) enum Stop {

@@ -1,7 +1,7 @@
 // One line by itself.
 ghost use Rattle.std.specs.Prelude.{◌≡◌, ◌≤◌, ◌<◌, IfOk, OnErr, length};
-ghost use Rattle.saber_plan.specs.Rows.{without_cr, stamp, falls, judge, judge_numbers, judge_fields, bad_field, fields_of, wide_field, numbers};
-ghost use Rattle.saber_rows.specs.Judged.{judged_of, IfCounted};
+ghost use Rattle.saber_plan.specs.Rows.{without_cr, stamp, raised, late, judge, judge_numbers, judge_fields, bad_field, fields_of, wide_field, numbers};
+ghost use Rattle.saber_rows.specs.Judged.{judged_of, IfCounted, is_ready_at};
 
 use crate::fields::{count_fields, first_bad, values_of};
 use saber_plan::{NoMemory, RowCause, Values};
@@ -39,27 +39,47 @@ pub(crate) fn stamp_of(values: &[i64]) -> u64
     }
 }
 
-/// Whether the timestamp falls.
+/// The greatest timestamp, with one more.
 #[inline]
-pub(crate) fn does_fall(last: Option<u64>, values: &[i64]) -> bool
-    ensures { result ≡ falls last values.now }
+pub(crate) fn raise(high: Option<u64>, stamp: u64) -> u64
+    ensures { result ≡ raised high stamp }
 {
-    match last {
+    match high {
+        None => stamp,
+        Some(high) => high.max(stamp),
+    }
+}
+
+/// Whether a row is below the greatest timestamp by more than the slack.
+#[inline]
+pub(crate) fn is_late(slack: u64, high: Option<u64>, values: &[i64]) -> bool
+    ensures { result ≡ late slack high values.now }
+{
+    match high {
         None => false,
-        Some(last) => stamp_of(values) < last,
+        Some(high) => {
+            let stamp = stamp_of(values);
+            stamp < high && slack < high - stamp
+        }
+    }
+}
+
+/// Whether a row with this timestamp can be given.
+#[inline]
+pub(crate) fn is_ready(slack: u64, high: Option<u64>, stamp: u64) -> bool
+    ensures { result ≡ is_ready_at slack high stamp }
+{
+    match high {
+        None => false,
+        Some(high) => stamp <= high && slack <= high - stamp,
     }
 }
 
 // A line of as many fields as there are columns.
-fn judge_content(
-    alloc: Global,
-    columns: u32,
-    last: Option<u64>,
-    content: &[u8],
-) -> Result<Judged, NoMemory>
+fn judge_content(alloc: Global, columns: u32, content: &[u8]) -> Result<Judged, NoMemory>
     requires few { columns ≤ 32 }
     requires count { length (fields_of content.now) ≡ columns }
-    ensures judged { IfOk result (λ j. judged_of j ≡ judge_fields last (fields_of content.now) (bad_field 1 (fields_of content.now))) }
+    ensures judged { IfOk result (λ j. judged_of j ≡ judge_fields (fields_of content.now) (bad_field 1 (fields_of content.now))) }
     ensures memory { OnErr result (8 < columns) }
 {
     if let Some(field) = first_bad(content) {
@@ -67,27 +87,21 @@ fn judge_content(
     }
     match values_of(alloc, content)? {
         Err(field) => Ok(Judged::Refused(RowCause::Range { field })),
-        Ok(values) => {
-            if does_fall(last, values.as_slice()) {
-                return Ok(Judged::Refused(RowCause::TimeOrder));
-            }
-            Ok(Judged::Taken(values))
-        }
+        Ok(values) => Ok(Judged::Taken(values)),
     }
 }
 
-/// A line with this content and number, after a row with this timestamp.
+/// A line with this content and number, but for its timestamp.
 #[tactic(auto, unfolding(saber_plan::specs::Rows::judge))]
 pub(crate) fn judge_line(
     alloc: Global,
     columns: u32,
     most: u64,
     number: u64,
-    last: Option<u64>,
     content: &[u8],
 ) -> Result<Judged, NoMemory>
     requires { columns ≤ 32 }
-    ensures judged { IfOk result (λ j. judged_of j ≡ judge columns most number last content.now) }
+    ensures judged { IfOk result (λ j. judged_of j ≡ judge columns most number content.now) }
     ensures counted { IfOk result (λ j. IfCounted j (number ≤ most)) }
     ensures memory { OnErr result (8 < columns) }
 {
@@ -103,5 +117,5 @@ pub(crate) fn judge_line(
     if count_fields(content) != columns as usize {
         return Ok(Judged::Refused(RowCause::FieldCount));
     }
-    judge_content(alloc, columns, last, content)
+    judge_content(alloc, columns, content)
 }

@@ -16,6 +16,7 @@ mod numbers;
 mod quick_rows;
 #[cfg(test)]
 mod tests;
+mod waiting;
 
 pub use ends::RowEnd;
 pub use laws::{

@@ -1,17 +1,25 @@
 // Rows from a source.
 ghost use Rattle.std.specs.Prelude.{◌≤◌, ◌^◌, length};
+ghost use Rattle.std.proofs.Props.{props};
+ghost use Rattle.saber_plan.specs.Rows.{most_held};
 ghost use Rattle.saber_rows.specs.Buffer.{bytes_of};
+ghost use Rattle.saber_rows.specs.Waiting.{rows_in, AllBefore};
+ghost use Rattle.saber_rows.specs.Sound.{Sound, WasSeen, held_props};
 
 use crate::buffer::Buffer;
-use crate::ends::{RowEnd, Stop};
-use crate::judge::{Judged, LONGEST, content_of, does_fall, judge_line, stamp_of};
+use crate::ends::{Behind, RowEnd, Stop};
+use crate::judge::{Judged, LONGEST, content_of, is_late, is_ready, judge_line, raise, stamp_of};
 use crate::line_feeds::{line_end, line_feed_in};
 use crate::quick_rows::row_in;
+use crate::waiting::Waiting;
 use saber_io::Source;
-use saber_plan::{NoMemory, Row, RowCause, Side};
+use saber_plan::{NoMemory, Row, RowCause, Side, Values};
 use std::alloc::Global;
 
-/// The rows of one side, from the bytes of a source. Contracts see a reader as a `Reader`, by
+// The most rows that may wait for others: this project's limit.
+const MOST_HELD: usize = 1048576;
+
+/// The rows of one side in order of time, from the bytes of a source. Contracts see a reader as a `Reader`, by
 /// `reader_of`. It is called with the same source each time: once it saw the end of a source it
 /// asks none again.
 #[derive(Drop)]
@@ -20,19 +28,29 @@ pub struct Lines {
     side: Side,
     columns: u32,
     max_lines: u64,
+    slack: u64,
     // how many lines are behind
     lines: u64,
-    // the timestamp of the last row
+    // the greatest timestamp of the rows behind
+    high: Option<u64>,
+    // the rows behind that were not given
+    waiting: Waiting,
+    // the timestamp of the last row that was given
     last: Option<u64>,
     held: Buffer,
     // whether the source said that it ended
     ended: bool,
+    // the end behind the rows that wait, once it is known
+    over: Option<Behind>,
     stop: Option<Stop>,
     ghost some: { 1 ≤ columns },
     ghost few: { columns ≤ 32 },
     ghost bounded: { max_lines ≤ 2 ^ 40 },
     ghost counted: { lines ≤ max_lines },
+    ghost seen: { WasSeen over ended },
     ghost roomy: { length (bytes_of held) ≤ 8193 },
+    ghost numbered: { AllBefore lines waiting } by { Prim.hlevel props },
+    ghost sound: { Sound (record { side = side; columns = columns; most = max_lines; slack = slack; room = most_held }) (record { lines = lines; high = high; accepted = rows_in waiting }) last over } by { Prim.hlevel held_props },
 }
 
 // What one turn of the reader came to.
@@ -44,27 +62,34 @@ enum Turn {
 }
 
 impl Lines {
-    ghost use Rattle.std.specs.Prelude.{◌≡◌, ◌≢◌, ◌≤◌, ◌^◌, ◌<◌, ◌+◌, ℕ, List, Option, if◌then◌else◌, IfOk, IfSome, OnErr, OnSome, Some, None, Ok, Err, option_map, length, true, false};
+    ghost use Rattle.std.specs.Prelude.{◌≡◌, ◌≢◌, ◌≤◌, ◌^◌, ◌<◌, ◌+◌, [], ℕ, ℤ, List, Option, if◌then◌else◌, IfOk, IfSome, OnErr, OnSome, Some, None, Ok, Err, option_map, length, true, false};
     ghost use Rattle.saber_io.specs.Outside.{Rose};
-    ghost use Rattle.saber_plan.specs.Rows.{SideRules, rows, whole, all_read, bad, before, falls, RowFits};
+    ghost use Rattle.saber_plan.specs.Rows.{SideRules, rows, whole, all_read, bad, before, falls, RowFits, stamp as stamp_in, taken, refused, judge, crowds, timed, due};
     ghost use Rattle.saber_rows.specs.Judged.{judged_of, IfCounted};
     ghost use Rattle.saber_rows.specs.LineFeeds.{end_of, HasNoFeed};
-    ghost use Rattle.saber_rows.specs.Reader.{reader_of, new_reader, rest_of, rest_over, HasEnd, NeedsMore};
-    ghost use Rattle.saber_rows.specs.Calls.{Moves, given_by, kept_by, last_after, IsGiven, EndsBy, IsNext};
-    ghost use Rattle.saber_rows.specs.Turns.{Steps, Fronts, IsLastIf, first_judged, LineGives, TurnGives, PlaceMoves, Stops, work_left, IfAgain, IfFault, IfNoFault, HasEnough};
+    ghost use Rattle.saber_rows.specs.Reader.{reader_of, new_reader, rest_of, rest_over, gone, HasEnd, NeedsMore};
+    ghost use Rattle.saber_rows.specs.Calls.{Moves, given_by, kept_by, last_after, IsGiven, EndsBy, IsNext, WantsMemory};
+    ghost use Rattle.saber_rows.specs.Turns.{Steps, Fronts, IsLastIf, first_judged, LineGives, TurnGives, PlaceMoves, Stops, work_left, IfAgain, IfFault, IfNoFault, HasEnough, NoneReady, IsReady};
 
     /// A reader with nothing read yet. A stream has 1 to 32 columns, and a file 1 to 2^40 lines,
     /// empty ones counted: this project's limits. The memory of its buffer is taken here; a call
-    /// of `next` takes none but for the numbers of a row with more than eight columns.
-    pub fn new(alloc: Global, side: Side, columns: u32, max_lines: u64) -> Result<Lines, NoMemory>
+    /// of `next` takes none but for the numbers of a row with more than eight columns, and for rows
+    /// that wait, where timestamps may fall by up to the slack.
+    pub fn new(
+        alloc: Global,
+        side: Side,
+        columns: u32,
+        max_lines: u64,
+        slack: u64,
+    ) -> Result<Lines, NoMemory>
         requires some_columns { 1 ≤ columns }
         requires most_columns { columns ≤ 32 }
         requires some_lines { 1 ≤ max_lines }
         requires most_lines { max_lines ≤ 2 ^ 40 }
-        ensures fresh { IfOk result (λ lines. reader_of lines ≡ new_reader (record { side = side; columns = columns; most = max_lines })) }
-        ensures rest { IfOk result (λ lines. (left : Option (List ℕ)) → rest_over (reader_of lines) left ≡ option_map (rows (record { side = side; columns = columns; most = max_lines })) left) }
-        ensures rows { IfOk result (λ lines. (bytes : List ℕ) → rest_of false (reader_of lines) bytes ≡ rows (record { side = side; columns = columns; most = max_lines }) bytes) }
-        ensures whole { IfOk result (λ lines. (bytes : List ℕ) → rest_of true (reader_of lines) bytes ≡ whole (record { side = side; columns = columns; most = max_lines }) bytes) }
+        ensures fresh { IfOk result (λ lines. reader_of lines ≡ new_reader (record { side = side; columns = columns; most = max_lines; slack = slack; room = most_held })) }
+        ensures rest { IfOk result (λ lines. (left : Option (List ℕ)) → rest_over (reader_of lines) left ≡ option_map (rows (record { side = side; columns = columns; most = max_lines; slack = slack; room = most_held })) left) }
+        ensures rows { IfOk result (λ lines. (bytes : List ℕ) → rest_of false (reader_of lines) bytes ≡ rows (record { side = side; columns = columns; most = max_lines; slack = slack; room = most_held }) bytes) }
+        ensures whole { IfOk result (λ lines. (bytes : List ℕ) → rest_of true (reader_of lines) bytes ≡ whole (record { side = side; columns = columns; most = max_lines; slack = slack; room = most_held }) bytes) }
     {
         let held = Buffer::new(alloc)?;
         Ok(Lines {
@@ -72,30 +97,64 @@ impl Lines {
             side,
             columns,
             max_lines,
+            slack,
             lines: 0,
+            high: None,
+            waiting: Waiting::new(alloc),
             last: None,
             held,
             ended: false,
+            over: None,
             stop: None,
         })
     }
 
+    // Whether more rows would wait with one with this timestamp.
+    fn is_crowded(&self, stamp: u64) -> bool
+        requires none { due (reader_of self.now).rules (reader_of self.now).place ≡ [] }
+        ensures { (values : List ℤ) → stamp ≡ stamp_in values → result ≡ crowds (reader_of self.now).rules (reader_of self.now).place values }
+    {
+        if self.waiting.len() < MOST_HELD {
+            return false;
+        }
+        let least = self.waiting.least(stamp);
+        !is_ready(self.slack, Some(raise(self.high, stamp)), least)
+    }
+
     // What the first line is, where it has n bytes.
     fn judge_first(&self, n: usize) -> Result<Judged, NoMemory>
-        requires { n ≤ length (bytes_of self.now.held) }
+        requires none { due (reader_of self.now).rules (reader_of self.now).place ≡ [] }
+        requires within { n ≤ length (bytes_of self.now.held) }
         ensures judged { IfOk result (λ j. judged_of j ≡ first_judged (reader_of self.now) n) }
         ensures counted { IfOk result (λ j. IfCounted j (self.now.lines + 1 ≤ self.now.max_lines)) }
         ensures memory { OnErr result (8 < self.now.columns) }
     {
         let content = content_of(&self.held.bytes()[..n]);
-        judge_line(
+        let judged = judge_line(
             self.alloc,
             self.columns,
             self.max_lines,
             self.lines + 1,
-            self.last,
             content,
-        )
+        )?;
+        match judged {
+            Judged::Taken(values) => Ok(self.time(values)),
+            judged => Ok(judged),
+        }
+    }
+
+    // What a row is at its place.
+    fn time(&self, values: Values) -> Judged
+        requires none { due (reader_of self.now).rules (reader_of self.now).place ≡ [] }
+        ensures judged { judged_of result ≡ timed (reader_of self.now).rules (reader_of self.now).place (taken values) }
+    {
+        if is_late(self.slack, self.high, values.as_slice()) {
+            return Judged::Refused(RowCause::TimeOrder);
+        }
+        if self.is_crowded(stamp_of(values.as_slice())) {
+            return Judged::Refused(RowCause::TooManyHeld);
+        }
+        Judged::Taken(values)
     }
 
     // Takes a line of n bytes, with the line feed that ends it if it is whole.
@@ -103,6 +162,8 @@ impl Lines {
         requires within { end_of n whole ≤ length (bytes_of self.old.held) }
         requires line { Fronts whole (bytes_of self.old.held) n (end_of n whole) }
         requires last { IsLastIf whole (reader_of self.old) }
+        requires over { self.old.over ≡ None }
+        requires none { due (reader_of self.old).rules (reader_of self.old).place ≡ [] }
         ensures gives { LineGives result (reader_of self.old) (reader_of self.new) }
         ensures falls { IfAgain result (work_left (reader_of self.new) < work_left (reader_of self.old)) }
         ensures place { PlaceMoves result (reader_of self.old) (reader_of self.new) }
@@ -111,30 +172,80 @@ impl Lines {
     {
         match self.judge_first(n) {
             Err(_) => Turn::Stop(Stop::Failed(RowEnd::NoMemory)),
-            Ok(Judged::Refused(cause)) => Turn::Stop(Stop::Failed(RowEnd::Bad {
-                line: self.lines + 1,
-                cause,
-            })),
+            Ok(Judged::Refused(cause)) => {
+                let line = self.lines + 1;
+                self.over = Some(Behind::Refused { line, cause });
+                Turn::Again
+            }
             Ok(Judged::Skipped) => {
                 self.held.consume(line_end(n, whole));
                 self.lines += 1;
                 Turn::Again
             }
-            Ok(Judged::Taken(values)) => {
-                let stamp = stamp_of(values.as_slice());
-                self.held.consume(line_end(n, whole));
-                self.lines += 1;
-                self.last = Some(stamp);
-                Turn::Row(Row {
-                    side: self.side,
-                    values,
-                })
-            }
+            Ok(Judged::Taken(values)) if self.slack == 0 => self.take_at_once(n, whole, values),
+            Ok(Judged::Taken(values)) => self.take_held(n, whole, values),
         }
     }
 
-    // Reads some more. No line feed is held.
+    // Takes a row that can be given at once.
+    fn take_at_once(&mut self, n: usize, whole: bool, values: Values) -> Turn
+        requires within { end_of n whole ≤ length (bytes_of self.old.held) }
+        requires line { Fronts whole (bytes_of self.old.held) n (end_of n whole) }
+        requires last { IsLastIf whole (reader_of self.old) }
+        requires over { self.old.over ≡ None }
+        requires counted { self.old.lines + 1 ≤ self.old.max_lines }
+        requires judged { taken values ≡ first_judged (reader_of self.old) n }
+        requires slack { self.old.slack ≡ 0 }
+        ensures gives { LineGives result (reader_of self.old) (reader_of self.new) }
+        ensures row { ¬ (result ≡ Turn.Again) }
+        ensures place { PlaceMoves result (reader_of self.old) (reader_of self.new) }
+        ensures rules { (reader_of self.new).rules ≡ (reader_of self.old).rules }
+        ensures stop { self.new.stop ≡ self.old.stop }
+    {
+        let stamp = stamp_of(values.as_slice());
+        self.held.consume(line_end(n, whole));
+        self.lines += 1;
+        self.high = Some(raise(self.high, stamp));
+        self.last = Some(stamp);
+        Turn::Row(Row {
+            side: self.side,
+            values,
+        })
+    }
+
+    // Takes a row that may have to wait.
+    fn take_held(&mut self, n: usize, whole: bool, values: Values) -> Turn
+        requires within { end_of n whole ≤ length (bytes_of self.old.held) }
+        requires line { Fronts whole (bytes_of self.old.held) n (end_of n whole) }
+        requires last { IsLastIf whole (reader_of self.old) }
+        requires over { self.old.over ≡ None }
+        requires counted { self.old.lines + 1 ≤ self.old.max_lines }
+        requires judged { taken values ≡ first_judged (reader_of self.old) n }
+        requires slack { 0 < self.old.slack }
+        ensures gives { LineGives result (reader_of self.old) (reader_of self.new) }
+        ensures falls { IfAgain result (work_left (reader_of self.new) < work_left (reader_of self.old)) }
+        ensures place { PlaceMoves result (reader_of self.old) (reader_of self.new) }
+        ensures rules { (reader_of self.new).rules ≡ (reader_of self.old).rules }
+        ensures stop { self.new.stop ≡ self.old.stop }
+    {
+        let stamp = stamp_of(values.as_slice());
+        let row = Row {
+            side: self.side,
+            values,
+        };
+        if self.waiting.insert(self.lines, row).is_err() {
+            return Turn::Stop(Stop::Failed(RowEnd::NoMemory));
+        }
+        self.held.consume(line_end(n, whole));
+        self.lines += 1;
+        self.high = Some(raise(self.high, stamp));
+        Turn::Again
+    }
+
+    // Reads some more. No line feed is held, and no row can be given.
     fn fill<S: Source>(&mut self, source: &mut S) -> Turn
+        requires over { self.old.over ≡ None }
+        requires none { due (reader_of self.old).rules (reader_of self.old).place ≡ [] }
         requires unended { self.old.ended ≡ false }
         requires room { length (bytes_of self.old.held) ≤ 4097 }
         requires feed { HasNoFeed (bytes_of self.old.held) }
@@ -158,22 +269,36 @@ impl Lines {
     }
 
     // The cause of a line that is too long to be held.
-    fn refuse_long(&self) -> Stop
-        requires long { 4097 < length (bytes_of self.now.held) }
-        requires feed { HasNoFeed (bytes_of self.now.held) }
-        ensures { Stops result (reader_of self.now) }
+    fn long_cause(&self) -> RowCause
+        ensures { (content : List ℕ) → 4096 < length content → judge self.now.columns self.now.max_lines (self.now.lines + 1) content ≡ refused result }
+    {
+        if self.lines >= self.max_lines {
+            return RowCause::TooManyLines;
+        }
+        RowCause::TooLong
+    }
+
+    // Refuses a line that is too long to be held.
+    fn refuse_long(&mut self) -> Turn
+        requires over { self.old.over ≡ None }
+        requires long { 4097 < length (bytes_of self.old.held) }
+        requires feed { HasNoFeed (bytes_of self.old.held) }
+        ensures gives { LineGives result (reader_of self.old) (reader_of self.new) }
+        ensures falls { IfAgain result (work_left (reader_of self.new) < work_left (reader_of self.old)) }
+        ensures place { PlaceMoves result (reader_of self.old) (reader_of self.new) }
+        ensures rules { (reader_of self.new).rules ≡ (reader_of self.old).rules }
+        ensures stop { self.new.stop ≡ self.old.stop }
     {
         let line = self.lines + 1;
-        if line > self.max_lines {
-            let cause = RowCause::TooManyLines;
-            return Stop::Failed(RowEnd::Bad { line, cause });
-        }
-        let cause = RowCause::TooLong;
-        Stop::Failed(RowEnd::Bad { line, cause })
+        let cause = self.long_cause();
+        self.over = Some(Behind::Refused { line, cause });
+        Turn::Again
     }
 
     // Takes what stands behind the last line feed.
     fn take_last(&mut self) -> Turn
+        requires over { self.old.over ≡ None }
+        requires none { due (reader_of self.old).rules (reader_of self.old).place ≡ [] }
         requires ended { self.old.ended ≡ true }
         requires feed { HasNoFeed (bytes_of self.old.held) }
         ensures gives { LineGives result (reader_of self.old) (reader_of self.new) }
@@ -184,12 +309,40 @@ impl Lines {
     {
         let n = self.held.bytes().len();
         if n == 0 {
-            return Turn::Stop(Stop::AllRead);
+            self.over = Some(Behind::AllRead);
+            return Turn::Again;
         }
         self.take_line(n, false)
     }
 
-    // The row at the front, if it is a row at the first look. The source is not asked.
+    // Whether the first row that waits can be given.
+    fn has_ready(&self) -> bool
+        ensures yes { result ≡ true → IsReady (reader_of self.now) }
+        ensures no { result ≡ false → NoneReady (reader_of self.now) }
+    {
+        match self.waiting.first() {
+            None => false,
+            Some(stamp) => self.over.is_some() || is_ready(self.slack, self.high, stamp),
+        }
+    }
+
+    // The first row that waits, if it can be given.
+    fn give(&mut self) -> Option<Row>
+        ensures none { result ≡ None → (self.new ≡ self.old) × NoneReady (reader_of self.old) }
+        ensures some { IfSome result (λ row. Steps (before row) (reader_of self.old) (reader_of self.new)) }
+        ensures given { IfSome result (λ row. IsGiven row (reader_of self.old) (reader_of self.new)) }
+        ensures rules { (reader_of self.new).rules ≡ (reader_of self.old).rules }
+        ensures stop { self.new.stop ≡ self.old.stop }
+    {
+        if !self.has_ready() {
+            return None;
+        }
+        let row = self.waiting.pop()?;
+        self.last = Some(stamp_of(row.values.as_slice()));
+        Some(row)
+    }
+
+    // The row at the front, if it is a row at the first look, and there is no slack. The source is not asked.
     #[inline]
     fn quick_row(&mut self) -> Option<Row>
         ensures none { result ≡ None → self.new ≡ self.old }
@@ -198,14 +351,16 @@ impl Lines {
         ensures rules { (reader_of self.new).rules ≡ (reader_of self.old).rules }
         ensures stop { self.new.stop ≡ self.old.stop }
     {
-        if self.lines >= self.max_lines {
+        if self.slack > 0 || self.over.is_some() || self.lines >= self.max_lines {
             return None;
         }
         let (values, n) = row_in(self.alloc, self.columns, self.held.bytes())?;
-        if does_fall(self.last, values.as_slice()) {
+        if is_late(self.slack, self.high, values.as_slice()) {
             return None;
         }
-        self.last = Some(stamp_of(values.as_slice()));
+        let stamp = stamp_of(values.as_slice());
+        self.high = Some(raise(self.high, stamp));
+        self.last = Some(stamp);
         self.held.consume(n + 1);
         self.lines += 1;
         Some(Row {
@@ -227,10 +382,16 @@ impl Lines {
         ensures reads { HasEnough (reader_of self.old) → source.new ≡ source.old }
         ensures enough { HasEnough (reader_of self.old) → IfAgain result (HasEnough (reader_of self.new)) }
     {
+        if let Some(row) = self.give() {
+            return Turn::Row(row);
+        }
+        if let Some(over) = self.over {
+            return Turn::Stop(over.stop());
+        }
         match line_feed_in(self.held.bytes()) {
             Some(n) => self.take_line(n, true),
             None if self.ended => self.take_last(),
-            None if self.held.bytes().len() > LONGEST + 1 => Turn::Stop(self.refuse_long()),
+            None if self.held.bytes().len() > LONGEST + 1 => self.refuse_long(),
             None => self.fill(source),
         }
     }
@@ -242,7 +403,8 @@ impl Lines {
         ensures moves { Moves (given_by result) (reader_of self.old) (reader_of self.new) (S.left source.old) (S.left source.new) }
         ensures given { IfOk result (λ o. IfSome o (λ row. IsGiven row (reader_of self.old) (reader_of self.new))) }
         ensures ends { EndsBy result (reader_of self.new) }
-        ensures last { (reader_of self.new).place.last ≡ last_after (reader_of self.old).place.last result }
+        ensures stays { gone (reader_of self.old) ≤ gone (reader_of self.new) }
+        ensures last { (reader_of self.new).last ≡ last_after (reader_of self.old).last result }
         ensures rules { (reader_of self.new).rules ≡ (reader_of self.old).rules }
         ensures answer { (reader_of self.new).answer ≡ kept_by result }
         ensures cause { result ≡ Err RowEnd.ReadFault → Rose (S.faults source.old) (S.faults source.new) }
@@ -281,7 +443,7 @@ impl Lines {
         ensures refused { (reader_of self.old).answer ≡ None → (line : ℕ) (cause : RowCause) → result ≡ Err (RowEnd.Bad line cause) → HasEnd (bad (reader_of self.old).rules.side line cause) (reader_of self.new) }
         ensures cause { (reader_of self.old).answer ≡ None → result ≡ Err RowEnd.ReadFault → Rose (S.faults source.old) (S.faults source.new) }
         ensures cut { (reader_of self.old).answer ≡ None → result ≡ Err RowEnd.ReadFault → NeedsMore (reader_of self.new) }
-        ensures memory { (reader_of self.old).answer ≡ None → result ≡ Err RowEnd.NoMemory → 8 < (reader_of self.old).rules.columns }
+        ensures memory { (reader_of self.old).answer ≡ None → result ≡ Err RowEnd.NoMemory → WantsMemory (reader_of self.old).rules }
         ensures count { S.faults source.old ≤ S.faults source.new }
 
         // No fault is passed over.
@@ -289,14 +451,15 @@ impl Lines {
 
         // A row has the side's columns, each number in its range, and is not before the last one.
         ensures fits { IfOk result (λ o. IfSome o (RowFits (reader_of self.old).rules.side (reader_of self.old).rules.columns)) }
-        ensures ordered { IfOk result (λ o. IfSome o (λ row. falls (reader_of self.old).place.last row.values ≡ false)) }
-        ensures last { (reader_of self.new).place.last ≡ last_after (reader_of self.old).place.last result }
+        ensures ordered { IfOk result (λ o. IfSome o (λ row. falls (reader_of self.old).last row.values ≡ false)) }
+        ensures last { (reader_of self.new).last ≡ last_after (reader_of self.old).last result }
 
         // So a side has at most as many rows as its limit of lines.
-        ensures rises { IfOk result (λ o. IfSome o (λ row. (reader_of self.old).place.lines < (reader_of self.new).place.lines)) }
-        ensures counted { (reader_of self.new).place.lines ≤ (reader_of self.new).rules.most }
+        ensures rises { IfOk result (λ o. IfSome o (λ row. gone (reader_of self.old) < gone (reader_of self.new))) }
+        ensures stays { gone (reader_of self.old) ≤ gone (reader_of self.new) }
+        ensures counted { gone (reader_of self.new) ≤ (reader_of self.new).rules.most }
 
-        // It reads only where it holds no line that decides the answer.
+        // It reads only where it can give no row, and holds no line that decides the answer.
         ensures reads { ¬ NeedsMore (reader_of self.old) → source.new ≡ source.old }
     {
         if let Some(stop) = self.stop {

@@ -55,8 +55,8 @@ fn see_all<S: Source>(
 }
 
 fn merge(alloc: Global) -> Result<Merge, Fail> {
-    let left = Lines::new(alloc, Side::Left, 2, 100)?;
-    let right = Lines::new(alloc, Side::Right, 2, 100)?;
+    let left = Lines::new(alloc, Side::Left, 2, 100, 0)?;
+    let right = Lines::new(alloc, Side::Right, 2, 100, 0)?;
     Ok(Merge::new(left, right))
 }
 

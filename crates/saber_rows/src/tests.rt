@@ -71,7 +71,7 @@ fn see_cut(alloc: Global, text: &[u8], cut: u64, columns: u32, max_lines: u64) -
 {
     let cuts = vec![in alloc; cut; 64]?;
     let mut source = MemSource::new(text.to_vec(alloc)?, cuts, Vec::new(alloc));
-    let mut lines = Lines::new(alloc, Side::Left, columns, max_lines)?;
+    let mut lines = Lines::new(alloc, Side::Left, columns, max_lines, 0)?;
     see_all(alloc, &mut lines, &mut source)
 }
 
@@ -200,7 +200,7 @@ fn a_read_fails(rt: HostRuntime) -> Result<(), Fail> {
         reads: 0,
         least: usize::MAX,
     };
-    let mut lines = Lines::new(alloc, Side::Left, 3, 100)?;
+    let mut lines = Lines::new(alloc, Side::Left, 3, 100, 0)?;
     let seen = see_all(alloc, &mut lines, &mut source)?;
     assert!(rt; seen.is(&BASE_VALUES[..6], Some(RowEnd::ReadFault)));
     assert!(rt; see_all(alloc, &mut lines, &mut source)?.is(&[], Some(RowEnd::ReadFault)));
@@ -218,12 +218,12 @@ fn an_end_is_kept(rt: HostRuntime) -> Result<(), Fail> {
         reads: 0,
         least: usize::MAX,
     };
-    let mut two = Lines::new(alloc, Side::Left, 3, 2)?;
+    let mut two = Lines::new(alloc, Side::Left, 3, 2, 0)?;
     let end = bad(3, RowCause::TooManyLines);
     assert!(rt; see_all(alloc, &mut two, &mut source)?.is(&BASE_VALUES[..6], end));
     assert!(rt; see_all(alloc, &mut two, &mut source)?.is(&[], end));
     assert_eq!(rt; source.reads, 1);
-    let mut none = Lines::new(alloc, Side::Right, 3, 2)?;
+    let mut none = Lines::new(alloc, Side::Right, 3, 2, 0)?;
     assert!(rt; see_all(alloc, &mut none, &mut source)?.is(&[], None));
     assert!(rt; see_all(alloc, &mut none, &mut source)?.is(&[], None));
     assert_eq!(rt; source.reads, 2);
@@ -243,10 +243,76 @@ fn each_read_is_offered_a_piece(rt: HostRuntime) -> Result<(), Fail> {
         reads: 0,
         least: usize::MAX,
     };
-    let mut lines = Lines::new(alloc, Side::Left, 2, 9000)?;
+    let mut lines = Lines::new(alloc, Side::Left, 2, 9000, 0)?;
     let seen = see_all(alloc, &mut lines, &mut source)?;
     assert_eq!(rt; seen.values.len(), 10000);
     assert!(rt; seen.end.is_none());
     assert_eq!(rt; source.least, 4096);
+    Ok(())
+}
+
+// Five rows, of which the third comes late by one.
+const LATE: &[u8] = b"0,1,10\n2,2,5\n1,1,20\n2,1,7\n9,2,1\n";
+
+// What a reader with slack sees of a text of three columns, in reads of so many bytes.
+fn see_late(alloc: Global, text: &[u8], cut: u64, slack: u64) -> Result<Seen, Fail>
+    requires cut { 1 ≤ cut }
+{
+    let cuts = vec![in alloc; cut; 64]?;
+    let mut source = MemSource::new(text.to_vec(alloc)?, cuts, Vec::new(alloc));
+    let mut lines = Lines::new(alloc, Side::Left, 3, 1 << 40, slack)?;
+    see_all(alloc, &mut lines, &mut source)
+}
+
+// Rows that come late by no more than the slack stand in order of time; with one timestamp in order of their lines.
+#[test]
+fn late_rows_for_every_cutting(rt: HostRuntime) -> Result<(), Fail> {
+    let alloc = rt.alloc();
+    for cut in 1..40 {
+        assert!(rt; see_late(alloc, LATE, cut, 1)?.is(BASE_VALUES, None));
+        let end = bad(3, RowCause::TimeOrder);
+        assert!(rt; see_late(alloc, LATE, cut, 0)?.is(&[0, 1, 10, 2, 2, 5], end));
+        let seen = see_late(alloc, b"0,1,10\n2,2,5\n0,1,1", cut, 1)?;
+        assert!(rt; seen.is(&[0, 1, 10, 2, 2, 5], end));
+        let seen = see_late(alloc, b"1,1,1\n0,1,2\n1,1,3\n0,1,4\n", cut, 1)?;
+        assert!(rt; seen.is(&[0, 1, 2, 0, 1, 4, 1, 1, 1, 1, 1, 3], None));
+    }
+    Ok(())
+}
+
+// Rows of one timestamp wait for the end.
+#[test]
+fn many_wait(rt: HostRuntime) -> Result<(), Fail> {
+    let alloc = rt.alloc();
+    let mut text = Vec::new(alloc);
+    let mut values = Vec::new(alloc);
+    for _ in 0..50 {
+        for digit in b"0123456789" {
+            text.extend_from_slice(b"0,1,")?;
+            text.push(*digit)?;
+            text.push(b'\n')?;
+            values.extend_from_slice(&[0, 1, i64::from(*digit) - 48])?;
+        }
+    }
+    assert!(rt; see_late(alloc, &text, 4096, 1)?.is(&values, None));
+    Ok(())
+}
+
+// The third read fails where one row waits: it is not given any more.
+#[test]
+fn a_read_fails_where_rows_wait(rt: HostRuntime) -> Result<(), Fail> {
+    let alloc = rt.alloc();
+    let cuts = vec![in alloc; 9, 7]?;
+    let inner = MemSource::new(BASE.to_vec(alloc)?, cuts, vec![in alloc; 3]?);
+    let mut source = Looking {
+        inner,
+        reads: 0,
+        least: usize::MAX,
+    };
+    let mut lines = Lines::new(alloc, Side::Left, 3, 100, 1)?;
+    let seen = see_all(alloc, &mut lines, &mut source)?;
+    assert!(rt; seen.is(&BASE_VALUES[..3], Some(RowEnd::ReadFault)));
+    assert!(rt; see_all(alloc, &mut lines, &mut source)?.is(&[], Some(RowEnd::ReadFault)));
+    assert_eq!(rt; source.reads, 3);
     Ok(())
 }

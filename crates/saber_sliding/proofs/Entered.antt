@@ -1,9 +1,11 @@
 -- Entries and what they come to, as one more comes and the first goes.
-use Rattle.std.proofs.Common.{◌≡◌, ℕ, ◌≤◌, [], ◌∷◌, ◌++◌, drop, length, refl, sym, ◌∙◌, ap, subst, subst₂, append-nil, append_assoc, arith}
+use Rattle.std.proofs.Common.{◌≡◌, ℕ, zero, suc, ◌≤◌, ◌<◌, true, false, cond, nat_le, [], ◌∷◌, ◌++◌, drop, length, refl, sym, ◌∙◌, ap, subst, subst₂, append-nil, append_assoc, arith}
+use Rattle.std.proofs.lemmas.List.{length-map}
 use Rattle.saber_plan.specs.Parts.{Part, no_part, merge}
 use Rattle.saber_laws.specs.Parts.{MergesGive, MergeHasUnit, MergeIsAssociative}
 use Rattle.saber_partial.specs.Tallies.{CanMerge}
-use Rattle.saber_sliding.specs.Entries.{Entries, whole, followed, pushed, merged, suffixes, seen, CanFollow, Chained, Sound}
+use Rattle.saber_sliding.specs.Entries.{Entries, whole, followed, pushed, dropped, merged, suffixes, seen, CanFollow, Chained, Sound}
+use Rattle.saber_sliding.specs.EntryFacts.{all_dropped}
 use Rattle.saber_sliding.proofs.Merging.{can_shift, can_none, none_can}
 
 abbrev last : ℕ → Part → Entries
@@ -79,11 +81,6 @@ sound_turned es = record { merge_is = refl; chained = tt; joins = any es } where
   any [] = tt
   any (e ∷ es) = (can_none e.1, any es)
 
--- ---- the first goes
-
-pub sound_rest : (e : ℕ × Part) (front back : Entries) (b : Part) → Sound (e ∷ front) back b → Sound front back b
-sound_rest e front back b s = record { merge_is = s.merge_is; chained = s.chained; joins = s.joins.1 }
-
 -- ---- summing up
 
 -- the last of `back` are in `front`, summed up
@@ -123,10 +120,48 @@ nothing (e ∷ front) h = absurd (omega (arith, h))
 pub whole_alone : (front back : Entries) (b : Part) → Sound front back b → length front ≤ 0 → b ≡ whole (seen front back b)
 whole_alone front back b s h = s.merge_is ∙ sym (whole_merged back) ∙ ap (λ f. whole (seen f back b)) (sym (nothing front h))
 
--- the back has become the front, and its first entry goes
-pub seen_turned_rest : MergeHasUnit → (front back old new : Entries) (b p : Part) → length front ≤ 0 → new ≡ drop 1 (suffixes back) → old ≡ [] → p ≡ no_part → seen new old p ≡ drop 1 (seen front back b)
-seen_turned_rest unit front back old new b p h n o e =
-    (λ i. seen (n i) (o i) (e i)) ∙ seen_turned unit (drop 1 (suffixes back)) ∙ ap (λ f. drop 1 (seen f back b)) (sym (nothing front h))
+-- ---- those at the front go
 
-pub sound_turned_rest : (new old : Entries) (p : Part) → old ≡ [] → p ≡ no_part → Sound new old p
-sound_turned_rest new old p o e = subst₂ (Sound new) (sym o) (sym e) (sound_turned new)
+pub chained_drop : (n : ℕ) (es : Entries) → Chained es → Chained (drop n es)
+chained_drop zero es h = h
+chained_drop (suc n) [] h = tt
+chained_drop (suc n) (e ∷ es) h = chained_drop n es h.1
+
+dropped_followed : (i : ℕ) (p : Part) (es : Entries) → dropped i (followed p es) ≡ followed p (dropped i es)
+dropped_followed i p [] = refl
+dropped_followed i p (e ∷ es) = elim (nat_le e.0 i) as (λ b. cond b (dropped i (followed p es)) (followed p (e ∷ es)) ≡ followed p (cond b (dropped i es) (e ∷ es))) [ true ↦ dropped_followed i p es | false ↦ refl ]
+
+dropped_suffixes : (i : ℕ) (es : Entries) → dropped i (suffixes es) ≡ suffixes (dropped i es)
+dropped_suffixes i [] = refl
+dropped_suffixes i (e ∷ es) = elim (nat_le e.0 i) as (λ b. cond b (dropped i (suffixes es)) (suffixes (e ∷ es)) ≡ suffixes (cond b (dropped i es) (e ∷ es))) [ true ↦ dropped_suffixes i es | false ↦ refl ]
+
+some_left : (i : ℕ) (es fs : Entries) → 0 < length (dropped i es) → dropped i (es ++ fs) ≡ dropped i es ++ fs
+some_left i [] fs h = absurd (omega (arith, h))
+some_left i (e ∷ es) fs h =
+    elim (nat_le e.0 i) as (λ b. 0 < length (cond b (dropped i es) (e ∷ es)) → cond b (dropped i (es ++ fs)) (e ∷ es ++ fs) ≡ cond b (dropped i es) (e ∷ es) ++ fs) [ true ↦ λ l. some_left i es fs l | false ↦ λ l. refl ] h
+
+none_left : (i : ℕ) (es fs : Entries) → dropped i es ≡ [] → dropped i (es ++ fs) ≡ dropped i fs
+none_left i [] fs h = refl
+none_left i (e ∷ es) fs h =
+    elim (nat_le e.0 i) as (λ b. cond b (dropped i es) (e ∷ es) ≡ [] → cond b (dropped i (es ++ fs)) (e ∷ es ++ fs) ≡ dropped i fs) [ true ↦ λ l. none_left i es fs l | false ↦ λ l. cc ] h
+
+pub sound_dropped : (i : ℕ) (front back : Entries) (p : Part) → Sound front back p → Sound (dropped i front) back p
+sound_dropped i front back p s = record { merge_is = s.merge_is; chained = s.chained; joins = all_dropped (λ (e : ℕ × Part). CanMerge e.1 p) i front s.joins }
+
+-- some of the front stay
+pub seen_some : (i : ℕ) (front back : Entries) (p : Part) → 0 < length (dropped i front) → seen (dropped i front) back p ≡ dropped i (seen front back p)
+seen_some i front back p h =
+    let long : length (followed p (dropped i front)) ≡ length (dropped i front) = length-map (dropped i front) (λ (e : ℕ × Part). (e.0, merge e.1 p)) in
+    ap (λ l. l ++ suffixes back) (sym (dropped_followed i p front))
+    ∙ sym (some_left i (followed p front) (suffixes back) (subst (λ l. 0 < length l) (sym (dropped_followed i p front)) (omega (arith, h, long))))
+
+-- none does
+pub seen_none : (i : ℕ) (front back : Entries) (p : Part) → dropped i front ≡ [] → suffixes (dropped i back) ≡ dropped i (seen front back p)
+seen_none i front back p h = sym (dropped_suffixes i back) ∙ sym (none_left i (followed p front) (suffixes back) (dropped_followed i p front ∙ ap (followed p) h))
+
+-- the back is the front now
+pub seen_turned_all : MergeHasUnit → (new old es : Entries) (p : Part) → new ≡ es → old ≡ [] → p ≡ no_part → seen new old p ≡ es
+seen_turned_all unit new old es p n o e = (λ i. seen (n i) (o i) (e i)) ∙ seen_turned unit es
+
+pub sound_turned_all : (new old : Entries) (p : Part) → old ≡ [] → p ≡ no_part → Sound new old p
+sound_turned_all new old p o e = subst₂ (Sound new) (sym o) (sym e) (sound_turned new)

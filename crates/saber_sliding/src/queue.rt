@@ -1,5 +1,5 @@
 // Parts that follow one another, with the merge of all from any one on.
-ghost use Rattle.std.specs.Prelude.{◌≡◌, [], ◌∷◌, ◌++◌, drop, IfOk, OnOk, OnErr};
+ghost use Rattle.std.specs.Prelude.{◌≡◌, ◌≤◌, [], ◌∷◌, ◌++◌, drop, length, IfOk, OnOk, OnErr};
 ghost use Rattle.saber_plan.specs.Parts.{merge, no_part};
 ghost use Rattle.saber_partial.specs.Tallies.{CanMerge};
 ghost use Rattle.saber_sliding.specs.Entries.{dropped, first_number, pushed, suffixes, whole, CanFollow, Chained};
@@ -73,22 +73,25 @@ fn summed_up(
     }
 }
 
-// The entries of the back become the front, which had none.
+// The entries of the back but for the first `gone` become the front, which had none.
 fn turn(
     alloc: Global,
+    gone: usize,
     front: &mut VecDeque<(u64, Partial)>,
     back: &mut Vec<(u64, Partial)>,
     back_part: &mut Partial,
 ) -> Result<(), NoMemory>
-    requires { Chained back.old.items }
-    ensures front { OnOk result (front.new.items ≡ suffixes back.old.items) }
+    requires chained { Chained back.old.items }
+    requires there { gone ≤ length back.old.items }
+    ensures front { OnOk result (front.new.items ≡ suffixes (drop gone back.old.items)) }
     ensures stays { OnErr result (front.new.items ≡ front.old.items) }
     ensures back { back.new.items ≡ [] }
     ensures part { back_part.new ≡ no_part }
 {
-    let entries = mem::replace(back, Vec::new(alloc));
+    let mut entries = mem::replace(back, Vec::new(alloc));
     *back_part = Partial::empty(alloc);
-    *front = summed_up(alloc, entries)?;
+    let kept = entries.split_off(gone)?;
+    *front = summed_up(alloc, kept)?;
     Ok(())
 }
 
@@ -100,6 +103,36 @@ fn drop_one(front: &mut VecDeque<(u64, Partial)>)
         Some(_) => {}
         None => {}
     }
+}
+
+// Without the entries at the front that window i doesn't have.
+fn drop_front(front: &mut VecDeque<(u64, Partial)>, i: u64)
+    ensures { front.new.items ≡ dropped i front.old.items }
+{
+    loop {
+        match front.front() {
+            Some(entry) => {
+                if entry.0 > i {
+                    return;
+                }
+                drop_one(front);
+            }
+            None => return,
+        }
+    }
+}
+
+// How many entries, from the first on, window i doesn't have.
+fn count_gone(back: &[(u64, Partial)], i: u64) -> usize
+    ensures gone { drop result back.now ≡ dropped i back.now }
+    ensures within { result ≤ length back.now }
+{
+    for gone in 0..back.len() {
+        if back[gone].0 > i {
+            return gone;
+        }
+    }
+    back.len()
 }
 
 // One entry more with its own part, and the merge of all.
@@ -161,47 +194,35 @@ impl Sliding {
         }
     }
 
-    // Without the first entry: a merge for each entry, where the back has to become the front.
-    fn drop_first(&mut self, alloc: Global) -> Result<(), NoMemory>
-        ensures { OnOk result (self.new ≡ drop 1 self.old) }
-    {
-        merge_has_unit();
-        if self.front.is_empty() {
-            turn(alloc, &mut self.front, &mut self.back, &mut self.back_part)?;
-            drop_one(&mut self.front);
-            return Ok(());
-        }
-        drop_one(&mut self.front);
-        Ok(())
-    }
-
-    /// Drops the entries at the front that window i doesn't have. After want of memory it is only safe.
+    /// Drops the entries at the front that window i doesn't have: a merge for each entry that is left,
+    /// where the back has to become the front. After want of memory it is only safe.
     pub fn drop_to(&mut self, alloc: Global, i: u64) -> Result<(), NoMemory>
         ensures { OnOk result (self.new ≡ dropped i self.old) }
     {
-        loop {
-            match self.first_number() {
-                Some(number) => {
-                    if number > i {
-                        return Ok(());
-                    }
-                    self.drop_first(alloc)?;
-                }
-                None => return Ok(()),
-            }
+        merge_has_unit();
+        drop_front(&mut self.front, i);
+        if !self.front.is_empty() {
+            return Ok(());
         }
+        let gone = count_gone(&self.back, i);
+        if gone == 0 {
+            return Ok(());
+        }
+        turn(
+            alloc,
+            gone,
+            &mut self.front,
+            &mut self.back,
+            &mut self.back_part,
+        )
     }
 
-    /// The merge of all parts, in order: a copy and one merge.
+    /// The merge of all parts, in order: one merge at most.
     pub fn whole(&self, alloc: Global) -> Result<Partial, NoMemory>
         ensures { IfOk result (λ p. p ≡ whole self.now) }
     {
         match self.front.front() {
-            Some(first) => {
-                let mut all = first.1.copy(alloc)?;
-                all.merge_from(alloc, &self.back_part)?;
-                Ok(all)
-            }
+            Some(first) => first.1.merged(alloc, &self.back_part),
             None => self.back_part.copy(alloc),
         }
     }

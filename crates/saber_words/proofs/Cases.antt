@@ -2,7 +2,7 @@
 use Rattle.std.proofs.Common.{◌≡◌, ◌^◌, ℕ, refl, codes, true, false, List, [], ◌∷◌, Option, Some, None}
 use Rattle.clap.specs.Walk.{Text}
 use Rattle.clap.proofs.OnLiterals.{clap_on_literals}
-use Rattle.saber_words.specs.Commands.{Asked, check, command_of, is_taken, plain_run, run}
+use Rattle.saber_words.specs.Commands.{Asked, check, command_of, demo, plain_demo, is_taken, plain_run, run}
 
 saber : List Text → Option Asked
 saber words = command_of (codes "saber" ∷ words)
@@ -32,6 +32,27 @@ flag_after_dashes = refl
 dash_alone : saber (codes "run" ∷ codes "-" ∷ codes "" ∷ []) ≡ Some (plain_run (codes "-") (codes "") None)
 unfolding saber command_of is_taken clap_on_literals
 dash_alone = refl
+
+-- two numbers in their ranges, with `+` and leading zeros too
+generated : saber (codes "demo" ∷ codes "1" ∷ codes "9" ∷ []) ≡ Some (plain_demo 1 9)
+unfolding saber command_of is_taken clap_on_literals
+generated = refl
+
+greatest_numbers : saber (codes "demo" ∷ codes "2147483647" ∷ codes "1048576" ∷ []) ≡ Some (plain_demo 2147483647 1048576)
+unfolding saber command_of is_taken clap_on_literals
+greatest_numbers = refl
+
+seed_too_great : saber (codes "demo" ∷ codes "2147483648" ∷ codes "0" ∷ []) ≡ None
+unfolding saber command_of is_taken clap_on_literals
+seed_too_great = refl
+
+too_many_rows : saber (codes "demo" ∷ codes "0" ∷ codes "1048577" ∷ []) ≡ None
+unfolding saber command_of is_taken clap_on_literals
+too_many_rows = refl
+
+sizes_of_demo : saber (codes "demo" ∷ codes "1" ∷ codes "--task" ∷ codes "3" ∷ codes "9" ∷ codes "--ring=1" ∷ codes "--threads" ∷ codes "0" ∷ []) ≡ Some (demo (record { seed = 1; rows = 9; task = 3; ring = 1; threads = 0 }))
+unfolding saber command_of is_taken clap_on_literals
+sizes_of_demo = refl
 
 -- no word at all, and the name of the program alone
 no_words : command_of [] ≡ None
@@ -93,7 +114,7 @@ run_after_dashes = refl
 
 -- a run of `q` over `l`, in tasks of so many rows, over files of at most so many lines
 sized : ℕ → ℕ → Option Asked
-sized task most = Some (run (record { query = codes "q"; left = codes "l"; right = None; task = task; ring = 64; threads = 2; most = most; flush = false }))
+sized task most = Some (run (record { query = codes "q"; left = codes "l"; right = None; task = task; ring = 64; threads = 2; most = most; slack = 0; flush = false }))
 
 -- a number in its range, in a word of its own or behind `=`, and at any place among the files
 least_task : saber (codes "run" ∷ codes "q" ∷ codes "l" ∷ codes "--task" ∷ codes "1" ∷ []) ≡ sized 1 (2 ^ 40)
@@ -164,7 +185,7 @@ both = refl
 
 -- the ring and the threads
 placed : ℕ → ℕ → Option Asked
-placed ring threads = Some (run (record { query = codes "q"; left = codes "l"; right = None; task = 1024; ring = ring; threads = threads; most = 2 ^ 40; flush = false }))
+placed ring threads = Some (run (record { query = codes "q"; left = codes "l"; right = None; task = 1024; ring = ring; threads = threads; most = 2 ^ 40; slack = 0; flush = false }))
 
 least_ring : saber (codes "run" ∷ codes "q" ∷ codes "l" ∷ codes "--ring" ∷ codes "1" ∷ codes "--threads" ∷ codes "0" ∷ []) ≡ placed 1 0
 unfolding saber placed command_of is_taken clap_on_literals
@@ -185,6 +206,26 @@ ring_past_most = refl
 threads_past_most : saber (codes "run" ∷ codes "q" ∷ codes "l" ∷ codes "--threads" ∷ codes "65" ∷ []) ≡ None
 unfolding saber command_of is_taken clap_on_literals
 threads_past_most = refl
+
+-- the slack
+slacked : ℕ → Option Asked
+slacked slack = Some (run (record { query = codes "q"; left = codes "l"; right = None; task = 1024; ring = 64; threads = 2; most = 2 ^ 40; slack = slack; flush = false }))
+
+least_slack : saber (codes "run" ∷ codes "q" ∷ codes "l" ∷ codes "--slack" ∷ codes "0" ∷ []) ≡ slacked 0
+unfolding saber slacked command_of is_taken clap_on_literals
+least_slack = refl
+
+most_slack : saber (codes "run" ∷ codes "--slack=1099511627776" ∷ codes "q" ∷ codes "l" ∷ []) ≡ slacked (2 ^ 40)
+unfolding saber slacked command_of is_taken clap_on_literals
+most_slack = refl
+
+slack_past_most : saber (codes "run" ∷ codes "q" ∷ codes "l" ∷ codes "--slack" ∷ codes "1099511627777" ∷ []) ≡ None
+unfolding saber command_of is_taken clap_on_literals
+slack_past_most = refl
+
+check_slack : saber (codes "check" ∷ codes "q" ∷ codes "--slack" ∷ codes "1" ∷ []) ≡ None
+unfolding saber command_of is_taken clap_on_literals
+check_slack = refl
 
 -- an option where it has no place, by a short name, and by a part of its name
 
@@ -208,7 +249,7 @@ task_before_run = refl
 
 -- a run of `q` over `l` whose input's end closes windows
 ending : Option Asked
-ending = Some (run (record { query = codes "q"; left = codes "l"; right = None; task = 1024; ring = 64; threads = 2; most = 2 ^ 40; flush = true }))
+ending = Some (run (record { query = codes "q"; left = codes "l"; right = None; task = 1024; ring = 64; threads = 2; most = 2 ^ 40; slack = 0; flush = true }))
 
 final_behind : saber (codes "run" ∷ codes "q" ∷ codes "l" ∷ codes "--final" ∷ []) ≡ ending
 unfolding saber ending command_of is_taken clap_on_literals

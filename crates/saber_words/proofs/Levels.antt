@@ -37,15 +37,15 @@ unfolding command_of is_taken
 by_walk program words = refl
 
 -- what a subcommand is, by the faults and the end of its walk
-abbrev leaf_answer : Shape → (List Row → Option Asked) → Kinds → Held → Option Asked
+abbrev pub leaf_answer : Shape → (List Row → Option Asked) → Kinds → Held → Option Asked
 leaf_answer s by faults end = taken_if (or_else faults (end_fault s end false [])) (by (finished s.rules end))
 
-or_else_none : (kinds : Kinds) → or_else kinds [] ≡ kinds
+pub or_else_none : (kinds : Kinds) → or_else kinds [] ≡ kinds
 or_else_none [] = refl
 or_else_none (kind ∷ kinds) = refl
 
 -- past the subcommand's name the words are left to it
-stopped_fault : (s : Shape) (w : Walk) (name : Text) (seen words : List Text) → walk_fault s names (record w { stopped = Some (name, seen) }) words ≡ []
+pub stopped_fault : (s : Shape) (w : Walk) (name : Text) (seen words : List Text) → walk_fault s names (record w { stopped = Some (name, seen) }) words ≡ []
 unfolding walk_fault walked
 stopped_fault s w name seen [] = refl
 stopped_fault s w name seen (x ∷ xs) = stopped_fault s w name (seen ++ x ∷ []) xs

@@ -7,3 +7,4 @@ pub mod Parses
 pub mod FileNames
 pub mod Levels
 pub mod OtherWords
+pub mod DemoWords

@@ -2,8 +2,9 @@
 use Rattle.std.specs.Prelude.{◌==◌, ◌≤◌, ◌^◌, ℕ, not, List, [], ◌∷◌, Bool, true, false, Option, Some, None, if◌then◌else◌, codes, option_map, option_and_then, ⊤}
 use Rattle.std.specs.Str.{bytes_eq}
 use Rattle.clap.specs.Walk.{Row, Rule, Text, first_of}
-use Rattle.saber_words.specs.Numbers.{Numeric, number_by, number_rule}
+use Rattle.saber_words.specs.Numbers.{Numeric, number_by, number_in, number_rule}
 use Rattle.saber_words.specs.Flags.{flag_by, flag_rule}
+use Rattle.saber_words.specs.Demo.{AskedDemo, HasDemoSizes, asked_demo, demo_with, positional_rule, rows, seed}
 use Rattle.clap.specs.Kinds.{Kinds}
 use Rattle.clap.specs.Simple.{App, Shape, new_rule, new_shape, subcommand_of}
 use Rattle.clap.specs.Faults.{fault_of}
@@ -15,7 +16,8 @@ use Rattle.saber_words.specs.declared.numbers.RunSizes.{RunSizes}
 -- ---- what may be asked for
 
 -- a run of a query over its files, each by its name: in tasks of so many rows, on a ring of so many cells, by so many threads
--- beside the caller's, over files of at most so many lines, and whether the end of the input closes the windows that are begun
+-- beside the caller's, over files of at most so many lines, whose timestamps fall by at most so much, and whether the end of the input closes the windows that
+-- are begun
 pub record AskedRun : Type 0 where
   pub query : Text
   pub left : Text
@@ -24,6 +26,7 @@ pub record AskedRun : Type 0 where
   pub ring : ℕ
   pub threads : ℕ
   pub most : ℕ
+  pub slack : ℕ
   pub flush : Bool
 
 -- a check of a query, by the name of its file
@@ -34,14 +37,16 @@ pub record AskedCheck : Type 0 where
 pub data Asked : Type 0 where
   run : AskedRun → Asked
   check : AskedCheck → Asked
+  demo : AskedDemo → Asked
 
 -- what a command asks for
 abbrev pub asked_run : Run → AskedRun
-asked_run r = record { query = r.query.now; left = r.left.now; right = option_map (λ name. name.now) r.right; task = r.task; ring = r.ring; threads = r.threads; most = r.max_lines; flush = r.flush }
+asked_run r = record { query = r.query.now; left = r.left.now; right = option_map (λ name. name.now) r.right; task = r.task; ring = r.ring; threads = r.threads; most = r.max_lines; slack = r.slack; flush = r.flush }
 
 abbrev pub asked : Command → Asked
 asked (command.Run r) = run (asked_run r)
 asked (command.Check c) = check (record { query = c.query.now })
+asked (command.Demo d) = demo (asked_demo d)
 
 -- ---- the table of commands (this project's rule)
 
@@ -69,15 +74,23 @@ threads = record { name = codes "threads"; least = 0; most = 64; usual = codes "
 abbrev pub max_lines : Numeric
 max_lines = record { name = codes "max-lines"; least = 1; most = 2 ^ 40; usual = codes "1099511627776" }
 
--- run QUERY LEFT [RIGHT] [--task N] [--ring B] [--threads T] [--max-lines M] [--final]
+-- `--slack S`: by how much a timestamp of a file may fall
+abbrev pub slack : Numeric
+slack = record { name = codes "slack"; least = 0; most = 2 ^ 40; usual = codes "0" }
+
+-- run QUERY LEFT [RIGHT] [--task N] [--ring B] [--threads T] [--max-lines M] [--slack S] [--final]
 abbrev pub run_shape : Shape
 run_shape = record (new_shape (codes "run")) {
-  rules = required (codes "query") ∷ required (codes "left") ∷ optional (codes "right") ∷ number_rule task ∷ number_rule ring ∷ number_rule threads ∷ number_rule max_lines ∷ flag_rule (codes "final") ∷ [];
+  rules = required (codes "query") ∷ required (codes "left") ∷ optional (codes "right") ∷ number_rule task ∷ number_rule ring ∷ number_rule threads ∷ number_rule max_lines ∷ number_rule slack ∷ flag_rule (codes "final") ∷ [];
 }
 
 -- check QUERY
 abbrev pub check_shape : Shape
 check_shape = record (new_shape (codes "check")) { rules = required (codes "query") ∷ [] }
+
+-- demo SEED ROWS [--task N] [--ring B] [--threads T]
+abbrev pub demo_shape : Shape
+demo_shape = record (new_shape (codes "demo")) { rules = positional_rule seed ∷ positional_rule rows ∷ number_rule task ∷ number_rule ring ∷ number_rule threads ∷ [] }
 
 -- the program: it wants one of its subcommands, and has no flag or subcommand for help or version
 abbrev pub saber_shape : Shape
@@ -90,11 +103,11 @@ saber_shape = record (new_shape (codes "saber")) {
 }
 
 abbrev pub saber_app : App
-saber_app = record { top = saber_shape; subs = run_shape ∷ check_shape ∷ [] }
+saber_app = record { top = saber_shape; subs = run_shape ∷ check_shape ∷ demo_shape ∷ [] }
 
 -- ---- the sizes of a run
 
--- 1 to 65,536 rows of a task, 1 to 1,024 cells of the ring, at most 64 threads, and 1 to 2^40 lines of a file
+-- 1 to 65,536 rows of a task, 1 to 1,024 cells of the ring, at most 64 threads, 1 to 2^40 lines of a file, and timestamps that fall by at most 2^40
 pub record HasSizes (r : AskedRun) : Type 0 where
   pub some_rows : 1 ≤ r.task
   pub few_rows : r.task ≤ 65536
@@ -103,11 +116,13 @@ pub record HasSizes (r : AskedRun) : Type 0 where
   pub few_threads : r.threads ≤ 64
   pub some_lines : 1 ≤ r.most
   pub few_lines : r.most ≤ 2 ^ 40
+  pub small_slack : r.slack ≤ 2 ^ 40
 
 -- the same of a command, where it is a run
 abbrev pub IsSized : Asked → Type 0
 IsSized (run r) = HasSizes r
 IsSized (check c) = ⊤
+IsSized (demo d) = HasDemoSizes d
 
 -- ---- the words
 
@@ -117,22 +132,23 @@ pub record Numbers : Type 0 where
   pub ring : ℕ
   pub threads : ℕ
   pub most : ℕ
+  pub slack : ℕ
 
 -- those that the code has
 abbrev pub numbers_of : RunSizes → Numbers
-numbers_of s = record { task = s.task; ring = s.ring; threads = s.threads; most = s.max_lines }
+numbers_of s = record { task = s.task; ring = s.ring; threads = s.threads; most = s.max_lines; slack = s.slack }
 
 -- if all were found
-abbrev pub numbers_with : Option ℕ → Option ℕ → Option ℕ → Option ℕ → Option Numbers
-numbers_with (Some task) (Some ring) (Some threads) (Some most) = Some (record { task = task; ring = ring; threads = threads; most = most })
-numbers_with _ _ _ _ = None
+abbrev pub numbers_with : Option ℕ → Option ℕ → Option ℕ → Option ℕ → Option ℕ → Option Numbers
+numbers_with (Some task) (Some ring) (Some threads) (Some most) (Some slack) = Some (record { task = task; ring = ring; threads = threads; most = most; slack = slack })
+numbers_with _ _ _ _ _ = None
 
 abbrev pub numbers_by : List Row → Option Numbers
-numbers_by rows = numbers_with (number_by task rows) (number_by ring rows) (number_by threads rows) (number_by max_lines rows)
+numbers_by rows = numbers_with (number_by task rows) (number_by ring rows) (number_by threads rows) (number_by max_lines rows) (number_by slack rows)
 
 -- what `run` asks for, by the values of its positionals, the numbers of its options, and whether `--final` was given
 abbrev pub run_with : Option Text → Option Text → Option Text → Option Numbers → Bool → Option Asked
-run_with (Some query) (Some left) right (Some n) flush = Some (run (record { query = query; left = left; right = right; task = n.task; ring = n.ring; threads = n.threads; most = n.most; flush = flush }))
+run_with (Some query) (Some left) right (Some n) flush = Some (run (record { query = query; left = left; right = right; task = n.task; ring = n.ring; threads = n.threads; most = n.most; slack = n.slack; flush = flush }))
 run_with _ _ right _ flush = None
 
 abbrev pub run_by : List Row → Option Asked
@@ -142,10 +158,15 @@ run_by rows = run_with (first_of (codes "query") rows) (first_of (codes "left") 
 abbrev pub check_by : List Row → Option Asked
 check_by rows = option_map (λ query. check (record { query = query })) (first_of (codes "query") rows)
 
+-- what `demo` asks for
+abbrev pub demo_by : List Row → Option Asked
+demo_by found = option_map demo (demo_with (number_by seed found) (number_by rows found) (number_by task found) (number_by ring found) (number_by threads found))
+
 -- what a subcommand asks for, by its name and the values of its arguments
 abbrev pub asked_by : Text × List Row → Option Asked
 asked_by s = if bytes_eq s.0 (codes "run") then run_by s.1
-    else (if bytes_eq s.0 (codes "check") then check_by s.1 else None)
+    else (if bytes_eq s.0 (codes "check") then check_by s.1
+    else (if bytes_eq s.0 (codes "demo") then demo_by s.1 else None))
 
 -- no fault is among these kinds
 abbrev pub is_faultless : Kinds → Bool
@@ -173,9 +194,9 @@ abbrev pub is_file_name : Text → Bool
 is_file_name word = not (is_flag word)
 
 -- a run over these files whose words give no option: 1,024 rows a task, a ring of 64 cells, two threads, all lines that a file
--- may have, and the end of the input closes nothing
+-- may have, timestamps that don't fall, and the end of the input closes nothing
 abbrev pub plain_run : Text → Text → Option Text → Asked
-plain_run query left right = run (record { query = query; left = left; right = right; task = 1024; ring = 64; threads = 2; most = 2 ^ 40; flush = false })
+plain_run query left right = run (record { query = query; left = left; right = right; task = 1024; ring = 64; threads = 2; most = 2 ^ 40; slack = 0; flush = false })
 
 -- `run` wants the query's file, a left file and maybe a right one
 abbrev pub run_of : List Text → Option Asked
@@ -187,3 +208,16 @@ run_of _ = None
 abbrev pub check_of : List Text → Option Asked
 check_of (query ∷ []) = Some (check (record { query = query }))
 check_of _ = None
+
+-- a run over generated rows whose words give no option
+abbrev pub plain_demo : ℕ → ℕ → Asked
+plain_demo seed rows = demo (record { seed = seed; rows = rows; task = 1024; ring = 64; threads = 2 })
+
+-- `demo` wants a seed and a number of rows, each a whole number in its range
+abbrev pub plain_with : Option ℕ → Option ℕ → Option Asked
+plain_with (Some seed) (Some rows) = Some (plain_demo seed rows)
+plain_with _ _ = None
+
+abbrev pub demo_of : List Text → Option Asked
+demo_of (first ∷ second ∷ []) = plain_with (number_in seed first) (number_in rows second)
+demo_of _ = None

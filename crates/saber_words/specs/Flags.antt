@@ -1,5 +1,5 @@
 -- Options that take no value.
-use Rattle.std.specs.Prelude.{Bool, false, Option, Some, None, List, codes}
+use Rattle.std.specs.Prelude.{Bool, false, Some, List, codes}
 use Rattle.std.specs.Str.{bytes_eq}
 use Rattle.std.specs.Option.{option_map_or}
 use Rattle.clap.specs.Walk.{Row, Rule, Text, first_of}

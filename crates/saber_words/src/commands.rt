@@ -18,6 +18,8 @@ pub struct Run<'a> {
     pub threads: u32,
     /// How many lines a file may have, 1 to `2^40`. Where the words don't say, `2^40`.
     pub max_lines: u64,
+    /// By how much a timestamp of a file may be below one before it, 0 to `2^40`. Where the words don't say, 0.
+    pub slack: u64,
     /// Whether the end of the input closes the windows that are begun.
     pub flush: bool,
 }
@@ -29,13 +31,30 @@ pub struct Check<'a> {
     pub query: &'a str,
 }
 
+/// To run the demo's query over generated rows.
+#[derive(Clone, Copy, Debug, PartialEq, Eq)]
+pub struct Demo {
+    /// What the generator begins with, 0 to 2,147,483,647.
+    pub seed: u32,
+    /// How many rows there are, 0 to 1,048,576.
+    pub rows: u32,
+    /// How many rows a task has, as of a run.
+    pub task: u32,
+    /// How many cells the ring has, as of a run.
+    pub ring: u32,
+    /// How many threads work beside the caller's, as of a run.
+    pub threads: u32,
+}
+
 /// A command of the program.
 #[derive(Clone, Copy, Debug, PartialEq, Eq)]
 pub enum Command<'a> {
-    /// `run QUERY LEFT [RIGHT] [--task N] [--ring B] [--threads T] [--max-lines M] [--final]`
+    /// `run QUERY LEFT [RIGHT] [--task N] [--ring B] [--threads T] [--max-lines M] [--slack S] [--final]`
     Run(Run<'a>),
     /// `check QUERY`
     Check(Check<'a>),
+    /// `demo SEED ROWS [--task N] [--ring B] [--threads T]`
+    Demo(Demo),
 }
 
 /// Why no command was read.

@@ -1,12 +1,14 @@
 //! Which words are a command, in plain words.
 ghost use Rattle.std.specs.Prelude.{◌≡◌, ◌≢◌, ◌∷◌, [], None, Some, codes, List, ℕ, true};
 ghost use Rattle.std.specs.List.{list_all};
-ghost use Rattle.saber_words.specs.Commands.{check_of, command_of, is_file_name, run_of, run, AskedRun, HasSizes};
+ghost use Rattle.saber_words.specs.Commands.{check_of, command_of, demo_of, is_file_name, run_of, demo, run, AskedRun, HasSizes};
+ghost use Rattle.saber_words.specs.Demo.{AskedDemo, HasDemoSizes};
 
 /// A law with no code: what words of file names come to. The first word is the name of the program
 /// and may be any, and a word of more than one byte that begins with `-` is no file name. Such words
-/// give no option, so a run has tasks of 1,024 rows, files of at most `2^40` lines, and an end of the
-/// input that closes no window.
+/// give no option, so a run has tasks of 1,024 rows, files of at most `2^40` lines, whose timestamps
+/// don't fall, and an end of the input that closes no window; `demo` asks for no files, and its words are
+/// two numbers.
 pub fn words_of_file_names()
     ensures empty { command_of [] ≡ None }
     ensures alone { (program : List ℕ) → command_of (program ∷ []) ≡ None }
@@ -14,13 +16,17 @@ pub fn words_of_file_names()
         → command_of (program ∷ codes "run" ∷ files) ≡ run_of files }
     ensures check { (program : List ℕ) (files : List (List ℕ)) → list_all is_file_name files ≡ true
         → command_of (program ∷ codes "check" ∷ files) ≡ check_of files }
+    ensures demo { (program : List ℕ) (words : List (List ℕ)) → list_all is_file_name words ≡ true
+        → command_of (program ∷ codes "demo" ∷ words) ≡ demo_of words }
     ensures other { (program name : List ℕ) (rest : List (List ℕ))
-        → name ≢ codes "run" → name ≢ codes "check"
+        → name ≢ codes "run" → name ≢ codes "check" → name ≢ codes "demo"
         → command_of (program ∷ name ∷ rest) ≡ None }
 {}
 
 /// A law with no code: whatever the words, the run that they ask for has 1 to 65,536 rows a task, and
-/// files of 1 to `2^40` lines at most (this project's limits).
+/// files of 1 to `2^40` lines at most, whose timestamps fall by at most `2^40`; and a run over generated rows
+/// at most `2^20` of them (this project's limits).
 pub fn sizes_of_words()
-    ensures { (words : List (List ℕ)) (r : AskedRun) → command_of words ≡ Some (run r) → HasSizes r }
+    ensures run { (words : List (List ℕ)) (r : AskedRun) → command_of words ≡ Some (run r) → HasSizes r }
+    ensures demo { (words : List (List ℕ)) (d : AskedDemo) → command_of words ≡ Some (demo d) → HasDemoSizes d }
 {}

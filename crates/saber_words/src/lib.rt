@@ -2,12 +2,13 @@
 #![tactic(auto)]
 
 mod commands;
+mod demo;
 mod flags;
 mod laws;
 mod numbers;
 mod reading;
 
-pub use commands::{Check, Command, Run, WordsFault};
+pub use commands::{Check, Command, Demo, Run, WordsFault};
 pub use laws::{sizes_of_words, words_of_file_names};
 pub use reading::read_words;
 

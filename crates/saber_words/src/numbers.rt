@@ -2,7 +2,7 @@
 ghost use Rattle.std.specs.Prelude.{◌≡◌, ◌≤◌, false, IfSome, option_map};
 ghost use Rattle.clap.specs.Words.{found_of, rows_of, rule_of};
 ghost use Rattle.saber_words.specs.Numbers.{number_by, number_rule, numeric_of, within};
-ghost use Rattle.saber_words.specs.Commands.{max_lines, numbers_by, numbers_of, ring, task, threads};
+ghost use Rattle.saber_words.specs.Commands.{max_lines, numbers_by, numbers_of, ring, slack, task, threads};
 
 use clap::builder::ValueParser;
 use clap::{Arg, ArgMatches};
@@ -69,6 +69,18 @@ pub(crate) fn max_lines() -> NumberOption
     }
 }
 
+/// By how much a timestamp of a file may fall.
+pub(crate) fn slack() -> NumberOption
+    ensures { numeric_of result ≡ slack }
+{
+    NumberOption {
+        name: "slack",
+        least: 0,
+        most: 1_099_511_627_776,
+        usual: "0",
+    }
+}
+
 /// The option, for `clap`.
 pub(crate) fn number_arg<'a>(alloc: Global, option: NumberOption) -> Arg<'a>
     ensures rule { rule_of result ≡ number_rule (numeric_of option) }
@@ -87,6 +99,7 @@ pub(crate) struct RunSizes {
     pub(crate) ring: u32,
     pub(crate) threads: u32,
     pub(crate) max_lines: u64,
+    pub(crate) slack: u64,
 }
 
 /// Those that were asked for.
@@ -97,16 +110,18 @@ pub(crate) fn sizes(values: &ArgMatches<'_>) -> Option<RunSizes>
     let cells = number(values, ring())?;
     let count = number(values, threads())?;
     let lines = number(values, max_lines())?;
+    let slack = number(values, slack())?;
     Some(RunSizes {
         task: rows as u32,
         ring: cells as u32,
         threads: count as u32,
         max_lines: lines,
+        slack,
     })
 }
 
-// The number of the option, of those that it takes.
-fn number(values: &ArgMatches<'_>, option: NumberOption) -> Option<u64>
+/// The number of the option, of those that it takes.
+pub(crate) fn number(values: &ArgMatches<'_>, option: NumberOption) -> Option<u64>
     ensures value { result ≡ number_by (numeric_of option) (rows_of (found_of values.now)) }
     ensures bounds { IfSome result (λ n. (option.least ≤ n) × (n ≤ option.most)) }
 {

@@ -6,8 +6,9 @@ ghost use Rattle.clap.specs.declared.builder.command.Command.TheViews.{out-Comma
 ghost use Rattle.saber_words.specs.Commands.{asked, asked_by, check_by, check_shape, command_of};
 ghost use Rattle.saber_words.specs.Commands.{run_by, run_shape, saber_app, IsSized};
 
+use crate::demo::{demo, demo_app};
 use crate::flags::{flag_arg, is_given};
-use crate::numbers::{max_lines, number_arg, ring, sizes, task, threads};
+use crate::numbers::{max_lines, number_arg, ring, sizes, slack, task, threads};
 use crate::{Check, Command, Run, WordsFault};
 use clap::error::ErrorKind;
 use clap::{Arg, ArgMatches};
@@ -46,13 +47,15 @@ fn saber<'a>(alloc: Global) -> Result<clap::Command<'a>, AllocError>
 {
     let run = run_app(alloc)?;
     let check = check_app(alloc)?;
+    let demo = demo_app(alloc)?;
     clap::Command::new(alloc, "saber")
         .disable_help_flag(true)
         .disable_help_subcommand(true)
         .disable_version_flag(true)
         .subcommand_required(true)
         .subcommand(run)?
-        .subcommand(check)
+        .subcommand(check)?
+        .subcommand(demo)
 }
 
 fn run_app<'a>(alloc: Global) -> Result<clap::Command<'a>, AllocError>
@@ -70,6 +73,7 @@ fn run_app<'a>(alloc: Global) -> Result<clap::Command<'a>, AllocError>
         .arg(number_arg(alloc, ring()))?
         .arg(number_arg(alloc, threads()))?
         .arg(number_arg(alloc, max_lines()))?
+        .arg(number_arg(alloc, slack()))?
         .arg(flag_arg(alloc, "final"))
 }
 
@@ -89,6 +93,7 @@ fn command<'a>(matches: &ArgMatches<'a>) -> Option<Command<'a>>
     match name {
         "run" => run(values),
         "check" => check(values),
+        "demo" => demo(values),
         _ => None,
     }
 }
@@ -109,6 +114,7 @@ fn run<'a>(values: &ArgMatches<'a>) -> Option<Command<'a>>
         ring: sizes.ring,
         threads: sizes.threads,
         max_lines: sizes.max_lines,
+        slack: sizes.slack,
         flush,
     }))
 }

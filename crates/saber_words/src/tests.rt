@@ -1,4 +1,4 @@
-use crate::{Check, Command, Run, WordsFault, read_words};
+use crate::{Check, Command, Demo, Run, WordsFault, read_words};
 
 fn run<'a>(
     query: &'a str,
@@ -13,6 +13,7 @@ fn run<'a>(
         ring: 64,
         threads: 2,
         max_lines: 1_099_511_627_776,
+        slack: 0,
         flush: false,
     }))
 }
@@ -27,6 +28,7 @@ fn sized(task: u32, max_lines: u64) -> Result<Command<'static>, WordsFault> {
         ring: 64,
         threads: 2,
         max_lines,
+        slack: 0,
         flush: false,
     }))
 }
@@ -41,6 +43,22 @@ fn placed(ring: u32, threads: u32) -> Result<Command<'static>, WordsFault> {
         ring,
         threads,
         max_lines: 1_099_511_627_776,
+        slack: 0,
+        flush: false,
+    }))
+}
+
+// A run of `q` over `l`, with this slack.
+fn slacked(slack: u64) -> Result<Command<'static>, WordsFault> {
+    Ok(Command::Run(Run {
+        query: "q",
+        left: "l",
+        right: None,
+        task: 1_024,
+        ring: 64,
+        threads: 2,
+        max_lines: 1_099_511_627_776,
+        slack,
         flush: false,
     }))
 }
@@ -136,6 +154,11 @@ fn takes_the_options_of_run(rt: HostRuntime) {
             &["saber", "run", "--threads=64", "q", "l", "--ring=1024"],
             placed(1024, 64),
         ),
+        (&["saber", "run", "q", "l", "--slack", "7"], slacked(7)),
+        (
+            &["saber", "run", "q", "l", "--slack=1099511627776"],
+            slacked(most),
+        ),
         (
             &[
                 "saber",
@@ -166,6 +189,7 @@ fn takes_the_flag_of_run(rt: HostRuntime) {
         ring: 64,
         threads: 2,
         max_lines: 1_099_511_627_776,
+        slack: 0,
         flush: true,
     };
     let table = [
@@ -177,6 +201,82 @@ fn takes_the_flag_of_run(rt: HostRuntime) {
         assert!(rt;
             read_words(rt.alloc(), words) == Ok(Command::Run(run)),
             "{words:?}"
+        );
+    }
+}
+
+fn demo(seed: u32, rows: u32, task: u32, ring: u32, threads: u32) -> Command<'static> {
+    Command::Demo(Demo {
+        seed,
+        rows,
+        task,
+        ring,
+        threads,
+    })
+}
+
+#[test]
+fn takes_the_words_of_demo(rt: HostRuntime) {
+    let table = [
+        (
+            ["saber", "demo", "1", "9"].as_slice(),
+            demo(1, 9, 1_024, 64, 2),
+        ),
+        (
+            &["saber", "demo", "2147483647", "1048576"],
+            demo(2_147_483_647, 1_048_576, 1_024, 64, 2),
+        ),
+        (&["saber", "demo", "0", "+00"], demo(0, 0, 1_024, 64, 2)),
+        (
+            &[
+                "saber",
+                "demo",
+                "1",
+                "9",
+                "--task",
+                "3",
+                "--ring",
+                "1",
+                "--threads",
+                "0",
+            ],
+            demo(1, 9, 3, 1, 0),
+        ),
+        (
+            &["saber", "demo", "--threads=8", "1", "--", "9"],
+            demo(1, 9, 1_024, 64, 8),
+        ),
+    ];
+    for (words, wanted) in table {
+        assert!(rt; read_words(rt.alloc(), words) == Ok(wanted), "{words:?}");
+    }
+}
+
+#[test]
+fn refuses_other_words_of_demo(rt: HostRuntime) {
+    let table = [
+        (["saber", "demo"].as_slice(), "no seed"),
+        (&["saber", "demo", "1"], "no number of rows"),
+        (&["saber", "demo", "1", "9", "9"], "a third number"),
+        (&["saber", "demo", "2147483648", "9"], "a seed too great"),
+        (&["saber", "demo", "1", "1048577"], "too many rows"),
+        (&["saber", "demo", "-1", "9"], "a seed below 0"),
+        (&["saber", "demo", "1", "x"], "no number"),
+        (&["saber", "demo", "", "9"], "an empty number"),
+        (&["saber", "demo", "1", "9", "--final"], "a flag of run"),
+        (
+            &["saber", "demo", "1", "9", "--max-lines", "9"],
+            "an option of run",
+        ),
+        (
+            &["saber", "demo", "1", "9", "--task", "0"],
+            "a task of no row",
+        ),
+    ];
+    for (words, what) in table {
+        assert!(rt;
+            read_words(rt.alloc(), words) == Err(WordsFault::Usage),
+            "{what}"
         );
     }
 }
@@ -225,7 +325,11 @@ fn refuses_other_options(rt: HostRuntime) {
             "too many threads",
         ),
         (
-            &["saber", "run", "q", "l", "--slack", "1"],
+            &["saber", "run", "q", "l", "--slack", "1099511627777"],
+            "too much slack",
+        ),
+        (
+            &["saber", "run", "q", "l", "--lag", "1"],
             "an option that is not there",
         ),
         (

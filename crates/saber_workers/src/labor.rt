@@ -1,8 +1,7 @@
 //! What is done with a task, and with a piece.
-ghost use Rattle.std.specs.Prelude.{◌≡◌, ◌≤◌, ℕ, ◌+◌, true, false, None, IfSome};
-ghost use Rattle.saber_core.specs.Works.{IsPieceOrMark};
+ghost use Rattle.std.specs.Prelude.{◌≡◌, ℕ, false, None};
 ghost use Rattle.saber_ring.specs.Shows.{first_of_task};
-ghost use Rattle.saber_workers.specs.Labors.{IsOwn, CanFeed, CanFinish, IsNext, Absorbs};
+ghost use Rattle.saber_workers.specs.Labors.{IsOwn, Begins, CanFeed, Feeds, CanFinish, Finishes, IsNext, Absorbs};
 
 use saber_core::Work;
 use std::alloc::Global;
@@ -26,22 +25,22 @@ pub trait Labor<W: Work> {
     /// Begins a task's piece with the task's own block. None for want of memory.
     fn start(&self, alloc: Global, own: &W::Rows) -> Option<Self::Draft>
         requires { IsOwn W.upto W.is_rows (suits self.now) own.now }
-        ensures { (told : W.Told) (t : ℕ) → suits self.now (W.upto told 0) → W.is_rows told t own.now → IfSome result (λ d. has_blocks self.now told t (first_of_task W.upto W.first told t) d) };
+        ensures { Begins W.upto W.first W.is_rows (suits self.now) (has_blocks self.now) own.now result };
 
     /// Takes in the next of the blocks before the task's own. False for want of memory.
     fn feed(&self, alloc: Global, draft: &mut Self::Draft, block: &W::Rows) -> bool
         requires { CanFeed W.upto W.first W.is_rows (suits self.now) (has_blocks self.now) draft.old block.now }
-        ensures { (told : W.Told) (t u : ℕ) → suits self.now (W.upto told 0) → first_of_task W.upto W.first told t ≤ u → u + 1 ≤ t → has_blocks self.now told t u draft.old → W.is_rows (W.upto told (u + 1)) u block.now → result ≡ true → has_blocks self.now told t (u + 1) draft.new };
+        ensures { Feeds W.upto W.first W.is_rows (suits self.now) (has_blocks self.now) draft.old block.now result draft.new };
 
     /// The piece, once all blocks are in. None for want of memory.
     fn finish(&self, alloc: Global, draft: Self::Draft) -> Option<W::Piece>
         requires { CanFinish W.upto (suits self.now) (has_blocks self.now) draft }
-        ensures { (told : W.Told) (t : ℕ) → suits self.now (W.upto told 0) → has_blocks self.now told t t draft → IfSome result (λ p. W.is_piece told t p) };
+        ensures { Finishes W.upto (suits self.now) (has_blocks self.now) W.is_piece draft result };
 
     /// Takes a piece, or the mark of want of memory, into the stage. True where the stage goes on, with
     /// one task more behind it.
     fn absorb(&self, alloc: Global, stage: &mut W::Stage, piece: Option<W::Piece>) -> bool
         requires { IsNext W.upto W.is_piece W.is_stage (suits self.now) stage.old piece }
         ensures none { piece ≡ None → result ≡ false }
-        ensures stage { (told : W.Told) (k : ℕ) → suits self.now (W.upto told 0) → W.is_stage (W.upto told k) k false stage.old → IsPieceOrMark W.is_piece told k piece → Absorbs W.is_stage told k stage.new result };
+        ensures stage { Absorbs W.upto W.is_piece W.is_stage (suits self.now) stage.old piece stage.new result };
 }

@@ -100,7 +100,8 @@ pub(crate) fn work_on<W: Work, L: Labor<W>, G: Gate>(
     ensures saw { (view seat.new).stopped ≡ (view seat.old).stopped }
     ensures busy { is_empty held ≡ false → (result.claimed ≡ false) × (cursor.new ≡ cursor.old) × IsHeldUp (cells ring.now) (view seat.old) (view seat.new) result.waits }
     ensures got { is_empty held ≡ true → result.claimed ≡ true → (cursor.new ≡ cursor.old + 1) × IsHeldUp (cells ring.now) (view seat.old) (view seat.new) result.waits }
-    ensures not { is_empty held ≡ true → result.claimed ≡ false → IsRefused (cells ring.now) (view seat.old) (view seat.new) cursor.old × (cursor.new ≡ next_cursor cursor.old (view seat.new).missed.word) × (result.waits ≡ None) }
+    ensures not { is_empty held ≡ true → result.claimed ≡ false
+        → IsRefused (cells ring.now) (view seat.old) (view seat.new) cursor.old × (cursor.new ≡ next_cursor cursor.old (view seat.new).missed.word) × (result.waits ≡ None) }
     ensures last { is_empty held ≡ true → IsClaimed cursor.old (view seat.old).lead (view seat.new).own }
     ensures done { result.waits ≡ None → ((view seat.new).job ≡ None) × (is_empty result.held ≡ true) }
     ensures others { IfSome result.waits (λ u. NotLast (view seat.old).lead) }
@@ -154,7 +155,8 @@ pub fn turn_of_work<W: Work, L: Labor<W>, G: Gate>(
     // Why no task was claimed, or its job waits: by the last step that was refused.
     ensures busy { is_empty hand.old.held ≡ false → (result.claimed ≡ false) × (hand.new.cursor ≡ hand.old.cursor) × IsHeldUp (cells ring.now) (view seat.old) (view seat.new) result.held }
     ensures got { is_empty hand.old.held ≡ true → result.claimed ≡ true → (hand.new.cursor ≡ hand.old.cursor + 1) × IsHeldUp (cells ring.now) (view seat.old) (view seat.new) result.held }
-    ensures not { is_empty hand.old.held ≡ true → result.claimed ≡ false → IsRefused (cells ring.now) (view seat.old) (view seat.new) hand.old.cursor × (hand.new.cursor ≡ next_cursor hand.old.cursor (view seat.new).missed.word) × (result.held ≡ None) }
+    ensures not { is_empty hand.old.held ≡ true → result.claimed ≡ false
+        → IsRefused (cells ring.now) (view seat.old) (view seat.new) hand.old.cursor × (hand.new.cursor ≡ next_cursor hand.old.cursor (view seat.new).missed.word) × (result.held ≡ None) }
     ensures last { is_empty hand.old.held ≡ true → IsClaimed hand.old.cursor (view seat.old).lead (view seat.new).own }
     ensures done { result.held ≡ None → ((view seat.new).job ≡ None) × (is_empty hand.new.held ≡ true) }
     ensures others { IfSome result.held (λ u. NotLast (view seat.old).lead) }

@@ -8,6 +8,7 @@ ghost use Rattle.saber_workers.specs.Hands.{IsInHand, is_empty};
 use crate::blocks::read_in;
 use crate::hand::{Hand, InHand};
 use crate::labor::Labor;
+use crate::pause::Pause;
 use crate::turns::{Turned, turn_of_work};
 use saber_core::Work;
 use saber_io::Gate;
@@ -15,12 +16,14 @@ use saber_ring::{Ring, Seat};
 use std::alloc::Global;
 use std::sync::Wait;
 use std::sync::atomic::{AtomicBool, Ordering};
-use std::thread::yield_now;
 
-// Lets others run where nothing was there to do.
-fn pause(turned: &Turned) {
-    if !turned.claimed || turned.held.is_some() {
-        yield_now();
+// Waits where the turn found nothing to do: no task to claim, none that it could pass over, or a block
+// that another seat reads.
+fn pause<R: Wait>(rt: &R, idle: &mut Pause, turned: &Turned, has_moved: bool) {
+    if turned.claimed && turned.held.is_none() || has_moved {
+        idle.reset();
+    } else {
+        idle.wait(rt);
     }
 }
 
@@ -46,16 +49,18 @@ fn work_until<W: Work, L: Labor<W>, G: Gate, R: Wait>(
     ensures hand { IsInHand W.upto W.first (L.suits op.now) (L.has_blocks op.now) hand.new.held (view seat.new).job }
     ensures grows { (stopped : Bool) × Grows (view seat.old) (view seat.new) stopped }
 {
+    let mut idle = Pause::new();
     for _ in rt.forever() {
         if stop.load(Ordering::SeqCst) {
             return;
         }
+        let cursor = hand.cursor;
         let turned = turn_of_work(alloc, seat, ring, op, gate, hand);
         if turned.stopped {
             stop.store(true, Ordering::SeqCst);
             return;
         }
-        pause(&turned);
+        pause(rt, &mut idle, &turned, cursor < hand.cursor);
     }
     unreachable!()
 }
@@ -105,11 +110,12 @@ fn read_all<W: Work, L: Labor<W>, G: Gate, R: Wait>(
     ensures grows { Grows (view seat.old) (view seat.new) false }
     ensures saw { (view seat.new).stopped ≡ (view seat.old).stopped }
 {
+    let mut idle = Pause::new();
     for _ in rt.forever() {
         if read_in(alloc, seat, ring, op, gate, hand).is_none() {
             return;
         }
-        yield_now();
+        idle.wait(rt);
     }
     unreachable!()
 }

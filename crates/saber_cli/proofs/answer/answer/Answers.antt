@@ -1,5 +1,6 @@
 use Rattle.std.proofs.Common.{◌∙◌, sym, ap, subst}
 use Rattle.saber_plan.specs.Trees.{tree_of}
+use Rattle.saber_plan.specs.Sizes.{limits_of}
 use Rattle.saber_cli.specs.Outcomes.{IsClean, IsOfRun}
 use Rattle.saber_cli.specs.Uses.{IsOpened}
 use Rattle.saber_cli.specs.Endings.{ended_as}
@@ -10,7 +11,7 @@ pub returns-clause-written : goal.returns-clause-written
 returns-clause-written g c =
     let w = c.engine-end.ensures.gives in
     let s = c.args.sizes.now in
-    (w.0, w.1, told_answered (tree_of c.args.plan.now) s.task s.ring s.max_lines s.flush _ c.engine-end.result.end c.outcome_of.result c.engine-end.result.tasks w.0 c.outcome_of.ensures w.2)
+    (w.0, w.1, told_answered (tree_of c.args.plan.now) s.task s.ring (limits_of s) s.flush _ c.engine-end.result.end c.outcome_of.result c.engine-end.result.tasks w.0 c.outcome_of.ensures w.2)
 
 pub returns-clause-kinds : goal.returns-clause-kinds
 returns-clause-kinds g c = subst IsOfRun (sym c.outcome_of.ensures) (run_kinds c.args.sizes.now.ring c.engine-end.result.end)

@@ -1,12 +1,12 @@
 use Rattle.std.proofs.Common.{[], sym, subst}
-use Rattle.saber_io.specs.Outside.{Told}
+use Rattle.saber_io.specs.Outside.{Told, appended-none}
 use Rattle.saber_words.specs.declared.commands.Command.TheVariants.{Check}
 use Rattle.saber_words.specs.Commands.{AskedCheck, check, asked}
 use Rattle.saber_cli.specs.Outcomes.{IsOfShow}
 use Rattle.saber_cli.specs.Texts.{BeginsFile}
 use Rattle.saber_cli.specs.Shown.{Showed}
 use Rattle.saber_cli.specs.Gives.{Gives}
-use Rattle.saber_cli.proofs.AnsweredLemmas.{appended_none, for_any}
+use Rattle.saber_cli.proofs.AnsweredLemmas.{for_any}
 use Rattle.saber_cli.proofs.LeavesLemmas.{query_leaves, show_leaves}
 use Rattle.saber_cli.proofs.RunLemmas.{gives_no_text, some_map}
 use Rattle.saber_cli.proofs.ShowLemmas.{gives_show, show_early, show_reads}
@@ -38,7 +38,7 @@ returns-in-Ok-clause-cause g c f = absurd (show_reads c.put_text.result.outcome 
 
 pub returns-in-Err-clause-written : goal.returns-in-Err-clause-written
 returns-in-Err-clause-written g c =
-    ([], appended_none _, for_any (λ (t : Told). Gives t.contents (asked (Check c.args.command.now)) c.in-Err.outcome 0 []) _ (λ t. gives_no_text c.laws.ensures t.contents (asked (Check c.args.command.now)) c.in-Err.outcome c.in-Err.ensures.kinds))
+    ([], appended-none _, for_any (λ (t : Told). Gives t.contents (asked (Check c.args.command.now)) c.in-Err.outcome 0 []) _ (λ t. gives_no_text c.laws.ensures t.contents (asked (Check c.args.command.now)) tt c.in-Err.outcome c.in-Err.ensures.kinds))
 
 pub returns-in-Err-clause-leaves : goal.returns-in-Err-clause-leaves
 returns-in-Err-clause-leaves g c = query_leaves _ [] (λ t. ⊥) c.in-Err.outcome _ _ c.in-Err.ensures.kinds c.in-Err.ensures.uses

@@ -1,5 +1,5 @@
 use Rattle.std.proofs.Common.{◌≡◌, [], Some, IfSome, length, ◌∙◌, ap, sym, subst}
-use Rattle.saber_io.specs.Outside.{Told}
+use Rattle.saber_io.specs.Outside.{Told, appended-none}
 use Rattle.saber_check.specs.Texts.{HasPlan}
 use Rattle.saber_words.specs.declared.commands.Command.TheVariants.{Run}
 use Rattle.saber_words.specs.Commands.{AskedRun, run, asked, asked_run}
@@ -9,9 +9,9 @@ use Rattle.saber_cli.specs.Answered.{AnsweredIn}
 use Rattle.saber_plan.specs.Trees.{Tree, tree_of}
 use Rattle.saber_cli.specs.Planned.{IsTextFault}
 use Rattle.saber_cli.specs.Gives.{Gives}
-use Rattle.saber_cli.specs.Due.{AsksRows, HasRun, IsLike, contents_of, row_names}
+use Rattle.saber_cli.specs.Due.{AsksRows, HasRun, IsLike, contents_of, row_names, asked_limits}
 use Rattle.saber_cli.specs.Taken.{TakesRows, TakesWhole}
-use Rattle.saber_cli.proofs.AnsweredLemmas.{appended_none, for_any}
+use Rattle.saber_cli.proofs.AnsweredLemmas.{for_any}
 use Rattle.saber_cli.proofs.LeavesLemmas.{query_leaves, refused_leaves, rows_leaves}
 use Rattle.saber_cli.proofs.TakenLemmas.{takes_whole}
 use Rattle.saber_cli.proofs.RunLemmas.{gives_no_text, gives_text_fault, gives_unlike, gives_answer, run_of, asks_rows, sized, some_map, some_both, used_contents, text_fault_after}
@@ -19,7 +19,7 @@ use Rattle.saber_cli.proofs.commands.run_command.Goals as goal
 
 pub returns-in-Err-clause-written : goal.returns-in-Err-clause-written
 returns-in-Err-clause-written g c =
-    ([], appended_none _, for_any (λ (t : Told). Gives t.contents (asked (Run c.args.command.now)) c.in-Err.outcome 0 []) _ (λ t. gives_no_text c.laws.ensures t.contents (asked (Run c.args.command.now)) c.in-Err.outcome c.in-Err.ensures.kinds))
+    ([], appended-none _, for_any (λ (t : Told). Gives t.contents (asked (Run c.args.command.now)) c.in-Err.outcome 0 []) _ (λ t. gives_no_text c.laws.ensures t.contents (asked (Run c.args.command.now)) tt c.in-Err.outcome c.in-Err.ensures.kinds))
 
 pub returns-in-Err-clause-leaves : goal.returns-in-Err-clause-leaves
 returns-in-Err-clause-leaves g c = query_leaves _ _ (λ t. AsksRows t.contents (run (asked_run c.args.command.now))) c.in-Err.outcome _ _ c.in-Err.ensures.kinds c.in-Err.ensures.uses
@@ -28,7 +28,7 @@ pub returns-in-Err-planned-clause-written : goal.returns-in-Err-planned-clause-w
 returns-in-Err-planned-clause-written g c =
     let r : AskedRun = asked_run c.args.command.now in
     let err : IsTextFault c.in-Ok.text.items c.in-Err-planned.outcome = subst (λ t. IsTextFault t c.in-Err-planned.outcome) c.deref.ensures.value c.in-Err-planned.ensures.fault in
-    ([], appended_none _, some_map (λ (t : Told). BeginsFile t.contents r.query c.in-Ok.text.items) (λ t. Gives t.contents (run r) c.in-Err-planned.outcome 0 []) _ (λ t b. gives_text_fault c.laws.ensures t.contents r c.in-Ok.text.items c.in-Err-planned.outcome b err) c.in-Ok.ensures.front)
+    ([], appended-none _, some_map (λ (t : Told). BeginsFile t.contents r.query c.in-Ok.text.items) (λ t. Gives t.contents (run r) c.in-Err-planned.outcome 0 []) _ (λ t b. gives_text_fault c.laws.ensures t.contents r c.in-Ok.text.items c.in-Err-planned.outcome b err) c.in-Ok.ensures.front)
 
 pub returns-in-Err-planned-clause-leaves : goal.returns-in-Err-planned-clause-leaves
 returns-in-Err-planned-clause-leaves g c = refused_leaves _ _ (λ t. AsksRows t.contents (run (asked_run c.args.command.now))) c.in-Err-planned.outcome _ _ (text_fault_after _ c.in-Err-planned.outcome c.in-Err-planned.ensures.fault) c.in-Ok.ensures.uses
@@ -42,7 +42,7 @@ returns-then-streams-given-clause-written g c =
     let given : c.file_count-given.result ≡ length (row_names r) = c.file_count-given.ensures in
     let unlike : IsLike r q → ⊥ = λ l. c.if-streams-given.true (streams ∙ l ∙ sym given) in (
       [],
-      appended_none _,
+      appended-none _,
       some_map (λ (t : Told). BeginsFile t.contents r.query c.in-Ok.text.items) (λ t. Gives t.contents (run r) (FileCount (length c.streams.result.now) c.file_count-given.result) 0 []) _
           (λ t b. subst (λ o. Gives t.contents (run r) o 0 []) (λ i. FileCount (sym streams i) (sym given i)) (gives_unlike c.laws.ensures t.contents r q (run_of c.laws.ensures t.contents r c.in-Ok.text.items q b ok) unlike)) c.in-Ok.ensures.front,
     )
@@ -59,10 +59,10 @@ returns-clause-written g c =
     let like : IsLike r q = sym (ap length c.streams.ensures) ∙ c.if-streams-given.false ∙ c.file_count-given.ensures in (
       w.0,
       w.1,
-      some_both (λ (t : Told). BeginsFile t.contents r.query c.in-Ok.text.items) (λ t. AnsweredIn q r.task r.ring r.most r.flush (contents_of t.contents (row_names r)) o tasks w.0) (λ t. Gives t.contents (run r) o tasks w.0) _
+      some_both (λ (t : Told). BeginsFile t.contents r.query c.in-Ok.text.items) (λ t. AnsweredIn q r.task r.ring (asked_limits r) r.flush (contents_of t.contents (row_names r)) o tasks w.0) (λ t. Gives t.contents (run r) o tasks w.0) _
           (λ t b a. gives_answer c.laws.ensures t.contents r q o tasks w.0 (run_of c.laws.ensures t.contents r c.in-Ok.text.items q b ok) like c.run_rows.ensures.kinds a) c.in-Ok.ensures.front
-          (used_contents (λ f. AnsweredIn q r.task r.ring r.most r.flush (contents_of f (row_names r)) o tasks w.0) _ _ _ c.in-Ok.ensures.uses
-          (sized (λ n ring m b. IfSome (g.F.Files.told c.query_text.new.files) (λ (t : Told). AnsweredIn q n ring m b (contents_of t.contents (row_names r)) o tasks w.0)) _ _ _ r.task r.ring r.most _ r.flush z.task z.ring z.lines z.flush w.2)),
+          (used_contents (λ f. AnsweredIn q r.task r.ring (asked_limits r) r.flush (contents_of f (row_names r)) o tasks w.0) _ _ _ c.in-Ok.ensures.uses
+          (sized (λ n ring m b. IfSome (g.F.Files.told c.query_text.new.files) (λ (t : Told). AnsweredIn q n ring m b (contents_of t.contents (row_names r)) o tasks w.0)) _ _ r.task r.ring _ (asked_limits r) _ r.flush z.task z.ring z.limits z.flush w.2)),
     )
 
 pub returns-clause-leaves : goal.returns-clause-leaves
@@ -85,6 +85,6 @@ returns-clause-taken g c asked_for e side k =
     let z = c.sizes_of-sizes.ensures in
     let ok : HasPlan c.in-Ok.text.items q = subst (λ t. HasPlan t q) c.deref.ensures.value c.in-Ok-planned.ensures.plan in
     let has = some_map (λ (t : Told). BeginsFile t.contents r.query c.in-Ok.text.items) (λ t. HasRun t.contents r q) (told c.args.files.now) (λ t b. run_of c.laws.ensures t.contents r c.in-Ok.text.items q b ok) c.in-Ok.ensures.front in
-    let rows = sized (λ n ring m b. TakesRows q n m tasks (row_names r) (told c.query_text.new.files) (told c.run_rows.new.files)) _ _ _ r.task r.ring r.most _ r.flush z.task z.ring z.lines z.flush (c.run_rows.ensures.taken side k) in
+    let rows = sized (λ n ring m b. TakesRows q n m tasks (row_names r) (told c.query_text.new.files) (told c.run_rows.new.files)) _ _ r.task r.ring _ (asked_limits r) _ r.flush z.task z.ring z.limits z.flush (c.run_rows.ensures.taken side k) in
     subst (λ a. IfSome (told c.args.files.now) (λ (t : Told). (u : Told) × (told c.run_rows.new.files ≡ Some u) × TakesWhole a tasks t u)) same
     (takes_whole r q tasks (told c.args.files.now) (told c.query_text.new.files) (told c.run_rows.new.files) has c.in-Ok.ensures.uses rows)

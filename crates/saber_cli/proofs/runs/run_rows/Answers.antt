@@ -1,10 +1,11 @@
 use Rattle.std.proofs.Common.{[]}
-use Rattle.saber_io.specs.Outside.{Told}
+use Rattle.saber_io.specs.Outside.{Told, appended-none}
 use Rattle.saber_plan.specs.Trees.{tree_of}
+use Rattle.saber_plan.specs.Sizes.{limits_of}
 use Rattle.saber_words.specs.Commands.{asked_run}
 use Rattle.saber_cli.specs.Due.{contents_of, row_names}
 use Rattle.saber_cli.specs.Answered.{AnsweredIn}
-use Rattle.saber_cli.proofs.AnsweredLemmas.{appended_none, for_any, no_answer}
+use Rattle.saber_cli.proofs.AnsweredLemmas.{for_any, no_answer}
 use Rattle.saber_cli.proofs.RowLemmas.{run_uses, run_takes, run_answers, run_cause}
 use Rattle.saber_cli.proofs.runs.run_rows.Goals as goal
 
@@ -13,7 +14,7 @@ returns-in-Ok-clause-written g c =
     let q = tree_of c.args.plan.now in
     let s = c.args.sizes.now in
     let w = c.answer-ran.ensures.written in
-    (w.0, w.1, run_answers g.F.Src.Source.left g.F.Src.Source.faults q s.task s.ring s.max_lines s.flush (row_names (asked_run c.args.command.now)) c.answer-ran.result.outcome c.answer-ran.result.tasks w.0 _ _ c.in-Ok.ensures.opens w.2)
+    (w.0, w.1, run_answers g.F.Src.Source.left g.F.Src.Source.faults q s.task s.ring (limits_of s) s.flush (row_names (asked_run c.args.command.now)) c.answer-ran.result.outcome c.answer-ran.result.tasks w.0 _ _ c.in-Ok.ensures.opens w.2)
 
 pub returns-in-Ok-clause-uses : goal.returns-in-Ok-clause-uses
 returns-in-Ok-clause-uses g c =
@@ -22,7 +23,7 @@ returns-in-Ok-clause-uses g c =
 
 pub returns-in-Ok-clause-taken : goal.returns-in-Ok-clause-taken
 returns-in-Ok-clause-taken g c side e =
-    run_takes g.F.Src.Source.left g.F.Src.Source.faults (tree_of c.args.plan.now) c.args.sizes.now.task c.args.sizes.now.max_lines c.answer-ran.result.tasks (row_names (asked_run c.args.command.now)) _ _ _ _ _ c.in-Ok.ensures.opens c.in-Ok.ensures.asked
+    run_takes g.F.Src.Source.left g.F.Src.Source.faults (tree_of c.args.plan.now) c.args.sizes.now.task (limits_of c.args.sizes.now) c.answer-ran.result.tasks (row_names (asked_run c.args.command.now)) _ _ _ _ _ c.in-Ok.ensures.opens c.in-Ok.ensures.asked
     c.close_rows.ensures.closed (c.answer-ran.ensures.taken side e)
 
 pub returns-in-Ok-clause-cause : goal.returns-in-Ok-clause-cause
@@ -33,4 +34,4 @@ pub returns-in-Err-clause-written : goal.returns-in-Err-clause-written
 returns-in-Err-clause-written g c =
     let q = tree_of c.args.plan.now in
     let s = c.args.sizes.now in
-    ([], appended_none _, for_any (λ (t : Told). AnsweredIn q s.task s.ring s.max_lines s.flush (contents_of t.contents (row_names (asked_run c.args.command.now))) c.in-Err.outcome 0 []) _ (λ t. no_answer c.laws.ensures q s.task s.ring s.max_lines s.flush _ c.in-Err.outcome c.requires.checked c.in-Err.ensures.kinds))
+    ([], appended-none _, for_any (λ (t : Told). AnsweredIn q s.task s.ring (limits_of s) s.flush (contents_of t.contents (row_names (asked_run c.args.command.now))) c.in-Err.outcome 0 []) _ (λ t. no_answer c.laws.ensures q s.task s.ring (limits_of s) s.flush _ c.in-Err.outcome c.requires.checked c.in-Err.ensures.kinds))

@@ -1,8 +1,10 @@
-use Rattle.std.proofs.Common.{take, refl, ap}
-use Rattle.saber_cli.specs.Shown.{cut_short}
+use Rattle.std.proofs.Common.{subst}
+use Rattle.saber_cli.specs.Puts.{PutsText}
+use Rattle.saber_cli.proofs.ShowLemmas.{put_kinds, put_showed}
 use Rattle.saber_cli.proofs.shows.put_text.Goals as goal
 
-pub returns-in-Err-Failed-clause-written : goal.returns-in-Err-Failed-clause-written
-returns-in-Err-Failed-clause-written g c =
-    let p = c.write_all.ensures.failed (cc) in
-    (take p.0 c.deref.result.now, p.2, cut_short c.in-Ok.out.items p.0 refl c.in-Ok.ensures.ok (ap (take p.0) c.deref.ensures.value))
+pub returns-clause-written : goal.returns-clause-written
+returns-clause-written g c =
+    let o = c.put.result.outcome in
+    let w = c.put.ensures.written in
+    (w.0, w.1, put_showed c.args.text.now c.in-Ok.out.items o w.0 c.in-Ok.ensures.ok c.put.ensures.kinds (subst (λ t. PutsText t o w.0) c.deref.ensures.value w.2))

@@ -27,6 +27,7 @@ returns-clause-step g c q m r =
       ordered = n.ordered;
       last = n.last;
       rises = n.rises;
+      stays = n.stays;
       counted = n.counted;
     } in
     let step = stepped_one c.lines_pass.ensures q m old new (left c.in-One.source) (left c.next.new.source) r c.next.result called in

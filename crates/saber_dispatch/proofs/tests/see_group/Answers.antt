@@ -1,4 +1,5 @@
 use Rattle.std.proofs.Common.{List, Option, Some, ℕ, [], ◌∷◌, sym, subst}
+use Rattle.saber_plan.specs.Sizes.{limits_of}
 use Rattle.saber_plan.specs.Inputs.{going_on}
 use Rattle.saber_plan.specs.Trees.{tree_of}
 use Rattle.saber_dispatch.specs.Readings.{Suits}
@@ -10,5 +11,5 @@ see_all-requires c =
     let q = tree_of c.in_ok-plan.plan in
     let s = c.args.sizes.now in
     let had : List (Option (List ℕ)) = Some c.args.text.left ∷ [] in
-    let suits : Suits (fresh q s.max_lines) had = subst (λ streams. Suits (fresh_on q s.max_lines streams) had) (sym (c.in_ok-plan.ensures.one).1) tt in
+    let suits : Suits (fresh q (limits_of s)) had = subst (λ streams. Suits (fresh_on q (limits_of s) streams) had) (sym (c.in_ok-plan.ensures.one).1) tt in
     (q, s, had, going_on [], c.in_ok-cutter.ensures.cuts had suits)

@@ -7,6 +7,7 @@ use Rattle.saber_assembly.specs.Stages.{seen}
 use Rattle.saber_assembly.specs.Works.{IsTold, first_tasks, IsStageOf}
 use Rattle.saber_engine.specs.declared.ends.RunEnd.TheVariants.{NoMemory}
 use Rattle.saber_engine.specs.Endings.{end_of}
+use Rattle.saber_plan.specs.Sizes.{limits_of}
 use Rattle.saber_plan.specs.Trees.{Tree, tree_of}
 use Rattle.saber_plan.specs.Answers.{frame}
 use Rattle.saber_plan.specs.Windows.{Fits}
@@ -34,7 +35,7 @@ run-ran-requires-clause-begins g c spans live =
     let stage = c.new-stage.result in
     let b = c.requires.begins in
     let nothing : CutsNothing (plan op) s cutter = subst (λ z. CutsNothing z s cutter) (sym c.requires.plan) c.in-Ok.ensures.cuts in
-    let many : Suits (fresh (plan op) s.max_lines) left = subst (λ z. Suits (fresh z s.max_lines) left) (sym c.requires.plan) (suits q s.max_lines g.S.Source.left c.args.inputs.now c.requires.inputs) in
+    let many : Suits (fresh (plan op) (limits_of s)) left = subst (λ z. Suits (fresh z (limits_of s)) left) (sym c.requires.plan) (suits q (limits_of s) g.S.Source.left c.args.inputs.now c.requires.inputs) in
     let fits : Fits (frame (plan op)) = subst (λ z. Fits (frame z)) (sym c.requires.plan) (c.checked_fit.ensures q c.requires.checked) in
     let is : HasGiven plan s left left faults faults cutter None (first_told op s.task (wrote stage.sink) (failed stage.sink)) 0 = given_none plan op s left faults (wrote stage.sink) (failed stage.sink) cutter nothing c.in-Ok.ensures.goes many in
     begins plan g.O.Operator.held g.O.Operator.has_taken wrote failed op s.task stage c.no_tasks_no_rows.ensures fits c.requires.sizes.task.0 c.args.sink e.sink e.none e.runs e.keeps (HasGiven plan g.J.Begins.sizes g.J.Begins.lefts left g.J.Begins.faults faults cutter None)
@@ -67,7 +68,7 @@ returns-in-Ok-ran g c =
     let d : Done q s had has before now w f c.ended-in-Ok-ran.result.end c.ended-in-Ok-ran.result.tasks (wrote c.ended-in-Ok-ran.result.sink) (failed c.ended-in-Ok-ran.result.sink) =
     transport (λ i. Done (c.requires.plan i) s had has before now w f (sym x.end i) (sym x.tasks i) (wrote (sym x.sink i)) (failed (sym x.sink i))) over in
     record {
-      gives = (d.out, d.written_is, if_told _ g.S.Source.left c.args.inputs.now (λ files h. d.gives files (suits q s.max_lines g.S.Source.left c.args.inputs.now c.requires.inputs) h));
+      gives = (d.out, d.written_is, if_told _ g.S.Source.left c.args.inputs.now (λ files h. d.gives files (suits q (limits_of s) g.S.Source.left c.args.inputs.now c.requires.inputs) h));
       whole = d.whole;
       takes = took _ g.S.Source.left c.args.inputs.now c.run-ran.new.from _ _ r.is_given.cuts.took.moves;
       read = d.read;
@@ -97,7 +98,7 @@ returns-in_default g c =
     let d : Done q s had had before before w f c.ended.result.end c.ended.result.tasks (wrote c.ended.result.sink) (failed c.ended.result.sink) =
     transport (λ i. Done q s had had before before w f (sym ends i) (sym counts i) (wrote (sym sink i)) (failed (sym sink i))) nothing in
     record {
-      gives = (d.out, d.written_is, if_told _ g.S.Source.left c.args.inputs.now (λ files h. d.gives files (suits q s.max_lines g.S.Source.left c.args.inputs.now c.requires.inputs) h));
+      gives = (d.out, d.written_is, if_told _ g.S.Source.left c.args.inputs.now (λ files h. d.gives files (suits q (limits_of s) g.S.Source.left c.args.inputs.now c.requires.inputs) h));
       whole = d.whole;
       takes = took_none g.S.Source.left c.args.inputs.now;
       read = d.read;
@@ -130,7 +131,7 @@ returns g c =
     let d : Done q s had (left c.run-ran.new.from) before (faults c.run-ran.new.from) w f c.ended-in-Err.result.end c.ended-in-Err.result.tasks (wrote c.ended-in-Err.result.sink) (failed c.ended-in-Err.result.sink) =
     transport (λ i. Done q s had (left (sym same.2 i)) before (faults (sym same.2 i)) w f (sym ends i) (sym counts i) (wrote (sym sink i)) (failed (sym sink i))) nothing in
     record {
-      gives = (d.out, d.written_is, if_told _ g.S.Source.left c.args.inputs.now (λ files h. d.gives files (suits q s.max_lines g.S.Source.left c.args.inputs.now c.requires.inputs) h));
+      gives = (d.out, d.written_is, if_told _ g.S.Source.left c.args.inputs.now (λ files h. d.gives files (suits q (limits_of s) g.S.Source.left c.args.inputs.now c.requires.inputs) h));
       whole = d.whole;
       takes = subst (λ i. (taken : List (List ℕ)) × GaveAll had taken (left i)) (sym same.2) (took_none g.S.Source.left c.args.inputs.now);
       read = d.read;

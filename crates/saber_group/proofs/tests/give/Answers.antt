@@ -4,7 +4,7 @@ use Rattle.saber_plan.specs.Given.{RowsFit}
 use Rattle.saber_plan.specs.Windows.{no_rows}
 use Rattle.saber_plan.specs.Tasks.{unclosed}
 use Rattle.saber_plan.specs.RowFacts.{fits_back}
-use Rattle.saber_parts.specs.TaskFacts.{with_task, end_of, at_last, local_shares, task_follows, task_leaves}
+use Rattle.saber_feeds.specs.TaskFacts.{with_task, end_of, at_last, local_shares, task_follows, task_leaves}
 use Rattle.saber_group.proofs.tests.give.Goals as goal
 
 pub piece-requires-clause-fits : goal.piece-requires-clause-fits

@@ -11,7 +11,7 @@ use Rattle.saber_plan.specs.Tasks.{Parts, unclosed}
 use Rattle.saber_plan.specs.Shares.{Shares, shares_here}
 use Rattle.saber_fragment.specs.declared.blocks.Block.{Block}
 use Rattle.saber_fragment.specs.Stores.{Follows}
-use Rattle.saber_parts.specs.TaskFacts.{with_task, end_of, at_last, task_follows, task_leaves}
+use Rattle.saber_feeds.specs.TaskFacts.{with_task, end_of, at_last, task_follows, task_leaves}
 use Rattle.saber_join.proofs.AllBehind.{PartLaws, joined_shares}
 use Rattle.saber_join.proofs.tests.give.Goals as goal
 

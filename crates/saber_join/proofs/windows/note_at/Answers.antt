@@ -1,4 +1,6 @@
-use Rattle.std.proofs.Common.{◌≡◌, ◌∙◌, sym, ap, Some, None, option_map, unwrap_or, nat_cmp}
+use Rattle.std.proofs.Common.{◌≡◌, ◌∙◌, sym, ap, Some, None, option_map, unwrap_or, nat_cmp, to_z-of_z}
+use mir.Val.{SFits, to_z, of_z}
+use mir.Syntax.{w64}
 use Rattle.std.specs.Option.{option_copied_mut}
 use Rattle.std.specs.Cmp.{nat_cmp_total}
 use Rattle.std.specs.FinMap.{get, insert, nat_cmp-IsAntisymmetric}
@@ -13,19 +15,25 @@ returns-in_ok-note-in-Some c =
     let x : Placed = record { row = c.args.row.now; before = c.args.before } in
     let es = c.args.windows.now.entries in
     let k = c.args.window in
+    let z = c.args.key in
+    let fits : SFits w64 z = c.ranges.key in
+    let same : to_z w64 (of_z w64 z) ≡ z = to_z-of_z fits in
     let n = c.note.new.self in
     let found = sym c.get_mut.ensures.value ∙ ap option_copied_mut c.in-Some.is in
     let here : get (seen_held es) k ≡ Some c.in-Some.held.now = sym (looked_up nat_cmp (λ k. k) (λ x. x) nat_cmp_total nat_cmp-IsAntisymmetric k es) ∙ ap (option_map (λ (h : Held). h)) found in
     ap seen_held (c.get_mut.follows.holds n).0 ∙ written nat_cmp (λ k. k) (λ x. x) nat_cmp_total nat_cmp-IsAntisymmetric k n c.in-Some.held.now es found
-    ∙ ap (insert (seen_held es) k) (c.in_ok-note-in-Some.ensures ∙ sym (ap (λ o. noted (unwrap_or o nothing) x) here))
+    ∙ ap (insert (seen_held es) k) (c.in_ok-note-in-Some.ensures ∙ (λ i. noted (same i) (unwrap_or (sym here i) nothing) x))
 
 pub returns-in_ok-insert-in-None : goal.returns-in_ok-insert-in-None
 returns-in_ok-insert-in-None c =
     let x : Placed = record { row = c.args.row.now; before = c.args.before } in
     let es = c.args.windows.now.entries in
     let k = c.args.window in
+    let z = c.args.key in
+    let fits : SFits w64 z = c.ranges.key in
+    let same : to_z w64 (of_z w64 z) ≡ z = to_z-of_z fits in
     let n = c.note-in-None.new.self in
     let found = sym c.get_mut.ensures.value ∙ ap option_copied_mut c.in-None.is in
     let here : get (seen_held es) k ≡ None = sym (looked_up nat_cmp (λ k. k) (λ x. x) nat_cmp_total nat_cmp-IsAntisymmetric k es) ∙ ap (option_map (λ (h : Held). h)) found in
     ap seen_held c.in_ok-insert-in-None.ensures.entries ∙ inserted nat_cmp (λ k. k) (λ x. x) nat_cmp_total nat_cmp-IsAntisymmetric k n c.get_mut.follows.lender-at-none.entries ∙ ap (λ l. insert (seen_held l) k n) (λ i. (c.get_mut.follows.holds-at-none i).entries)
-    ∙ ap (insert (seen_held es) k) (c.in_ok-note-in-None.ensures ∙ ap (λ h. noted h x) c.new-held.ensures ∙ sym (ap (λ o. noted (unwrap_or o nothing) x) here))
+    ∙ ap (insert (seen_held es) k) (c.in_ok-note-in-None.ensures ∙ ap (λ h. noted (to_z w64 (of_z w64 z)) h x) c.new-held.ensures ∙ (λ i. noted (same i) (unwrap_or (sym here i) nothing) x))

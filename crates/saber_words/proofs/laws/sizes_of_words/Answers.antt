@@ -1,6 +1,9 @@
-use Rattle.saber_words.specs.Commands.{run}
+use Rattle.saber_words.specs.Commands.{demo, run}
 use Rattle.saber_words.proofs.Sizes.{command_of-sized}
 use Rattle.saber_words.proofs.laws.sizes_of_words.Goals as goal
 
-pub returns : goal.returns
-returns c = λ words r is. command_of-sized words (run r) is
+pub returns-clause-run : goal.returns-clause-run
+returns-clause-run c = λ words r is. command_of-sized words (run r) is
+
+pub returns-clause-demo : goal.returns-clause-demo
+returns-clause-demo c = λ words d is. command_of-sized words (demo d) is

@@ -2,6 +2,7 @@ use Rattle.std.proofs.Common.{refl}
 use Rattle.clap.proofs.OnLiterals.{clap_on_literals}
 use Rattle.saber_words.specs.Commands.{command_of, is_taken}
 use Rattle.saber_words.proofs.Levels.{command_of-check, command_of-run}
+use Rattle.saber_words.proofs.DemoWords.{command_of-demo}
 use Rattle.saber_words.proofs.OtherWords.{command_of-other}
 use Rattle.saber_words.proofs.laws.words_of_file_names.Goals as goal
 
@@ -18,6 +19,9 @@ returns-clause-run c = command_of-run
 
 pub returns-clause-check : goal.returns-clause-check
 returns-clause-check c = command_of-check
+
+pub returns-clause-demo : goal.returns-clause-demo
+returns-clause-demo c = command_of-demo
 
 pub returns-clause-other : goal.returns-clause-other
 returns-clause-other c = command_of-other

@@ -3,7 +3,7 @@ use Rattle.std.proofs.lemmas.Result.{IfOk-weaker}
 use Rattle.clap.specs.Walk.{Rule, rule_of}
 use Rattle.clap.specs.Simple.{App}
 use Rattle.clap.specs.declared.builder.arg.Arg.{Arg}
-use Rattle.saber_words.specs.Commands.{max_lines, optional, required, ring, task, threads}
+use Rattle.saber_words.specs.Commands.{max_lines, optional, required, ring, slack, task, threads}
 use Rattle.saber_words.specs.Numbers.{number_rule}
 use Rattle.saber_words.specs.Flags.{flag_rule}
 use Rattle.saber_words.proofs.Apps.{local_with_arg}
@@ -18,6 +18,7 @@ returns c =
     let cells : rule_of c.number_arg-2.result ≡ number_rule ring = c.number_arg-2.ensures.rule ∙ ap number_rule c.ring.ensures in
     let count : rule_of c.number_arg-3.result ≡ number_rule threads = c.number_arg-3.ensures.rule ∙ ap number_rule c.threads.ensures in
     let lines : rule_of c.number_arg-4.result ≡ number_rule max_lines = c.number_arg-4.ensures.rule ∙ ap number_rule c.max_lines.ensures in
+    let falls : rule_of c.number_arg-5.result ≡ number_rule slack = c.number_arg-5.ensures.rule ∙ ap number_rule c.slack.ensures in
     let one = local_with_arg c.new-3.result c.in_ok-arg.field-0 c.required-query.result _ _ c.in_ok-arg.ensures (c.new-3.ensures.app, c.new-3.ensures.local) (ap (λ (a : Arg). a.global) c.required-query.ensures ∙ c.new.ensures.optional.1) query in
     let two = local_with_arg c.in_ok-arg.field-0 c.in_ok-arg-2.field-0 c.required-left.result _ _ c.in_ok-arg-2.ensures one (ap (λ (a : Arg). a.global) c.required-left.ensures ∙ c.new-2.ensures.optional.1) left in
     let three = local_with_arg c.in_ok-arg-2.field-0 c.in_ok-arg-3.field-0 c.new-right.result _ _ c.in_ok-arg-3.ensures two c.new-right.ensures.optional.1 right in
@@ -26,6 +27,7 @@ returns c =
     let five = local_with_arg c.in_ok-arg-4.field-0 c.in_ok-arg-5.field-0 c.number_arg-2.result _ _ c.in_ok-arg-5.ensures four c.number_arg-2.ensures.local cells in
     let six = local_with_arg c.in_ok-arg-5.field-0 c.in_ok-arg-6.field-0 c.number_arg-3.result _ _ c.in_ok-arg-6.ensures five c.number_arg-3.ensures.local count in
     let seven = local_with_arg c.in_ok-arg-6.field-0 c.in_ok-arg-7.field-0 c.number_arg-4.result _ _ c.in_ok-arg-7.ensures six c.number_arg-4.ensures.local lines in
-    IfOk-weaker c.arg-8.result _ _ (λ app added.
-    let whole = local_with_arg c.in_ok-arg-7.field-0 app c.flag_arg.result _ _ added seven c.flag_arg.ensures.local final in
-    (ap (λ (a : App). a.top) whole.0, whole.1)) c.arg-8.ensures
+    let eight = local_with_arg c.in_ok-arg-7.field-0 c.in_ok-arg-8.field-0 c.number_arg-5.result _ _ c.in_ok-arg-8.ensures seven c.number_arg-5.ensures.local falls in
+    IfOk-weaker c.arg-9.result _ _ (λ app added.
+    let whole = local_with_arg c.in_ok-arg-8.field-0 app c.flag_arg.result _ _ added eight c.flag_arg.ensures.local final in
+    (ap (λ (a : App). a.top) whole.0, whole.1)) c.arg-9.ensures

@@ -1,43 +1,38 @@
-use Rattle.std.proofs.Common.{◌∙◌, ap, sym, subst, ◌++◌, [], ◌∷◌}
+use Rattle.std.proofs.Common.{◌≡◌, ◌∙◌, ap, to_z-of_z}
+use mir.Val.{SFits, to_z, of_z}
+use mir.Syntax.{w64}
 use Rattle.saber_plan.specs.Trees.{tree_of}
-use Rattle.saber_plan.specs.declared.rows.Side.TheVariants as sides
 use Rattle.saber_plan.specs.Windows.{Placed}
-use Rattle.saber_join.specs.Rows.{IsOn, AllOn}
+use Rattle.saber_join.specs.Shelves.{rows_at, put}
 use Rattle.saber_join.specs.Adding.{with_rights, with_lefts}
 use Rattle.saber_join.specs.Keeping.{Held, taken}
 use Rattle.saber_join.proofs.Holding.{take_left, take_right}
 use Rattle.saber_join.proofs.held.Opened.take.Goals as goal
 
-pub add_rights-requires-clause-left : goal.add_rights-requires-clause-left
-add_rights-requires-clause-left c = subst (λ (x : Placed). IsOn (tree_of c.args.join.now) sides.Left x.row) (sym c.new-seen.ensures) (record { row = c.requires.row; side = c.in-Left.is })
-
-pub add_rights-requires-clause-rights : goal.add_rights-requires-clause-rights
-add_rights-requires-clause-rights c = subst (AllOn (tree_of c.args.join.now) sides.Right) (sym (c.deref.ensures.value ∙ ap (λ (h : Held). h.rights) c.self.view_is)) c.requires.held.rights
-
-pub add_lefts-requires-clause-right : goal.add_lefts-requires-clause-right
-add_lefts-requires-clause-right c = subst (λ (x : Placed). IsOn (tree_of c.args.join.now) sides.Right x.row) (sym c.new-seen.ensures) (record { row = c.requires.row; side = c.in-Right.is })
-
-pub add_lefts-requires-clause-lefts : goal.add_lefts-requires-clause-lefts
-add_lefts-requires-clause-lefts c = subst (AllOn (tree_of c.args.join.now) sides.Left) (sym (c.deref-in-Right.ensures.value ∙ ap (λ (h : Held). h.lefts) c.self.view_is)) c.requires.held.lefts
-
-pub returns-in_ok-push-in-Left : goal.returns-in_ok-push-in-Left
-returns-in_ok-push-in-Left c =
+pub returns-in_ok-put-in-Left : goal.returns-in_ok-put-in-Left
+returns-in_ok-put-in-Left c =
     let q = tree_of c.args.join.now in
+    let k = c.args.key in
     let x : Placed = record { row = c.args.row.now; before = c.args.before } in
-    let h : Held = record { lefts = c.self.inside.lefts.items; rights = c.self.inside.rights.items; part = c.self.inside.pairs } in
+    let h : Held = record { lefts = c.self.inside.lefts; rights = c.self.inside.rights; part = c.self.inside.pairs } in
+    let fits : SFits w64 k = c.ranges.key in
+    let same : to_z w64 (of_z w64 k) ≡ k = to_z-of_z fits in
     (λ i. record {
-      lefts = (c.in_ok-push-in-Left.ensures.items ∙ ap (λ y. h.lefts ++ y ∷ []) c.new-seen.ensures) i;
+      lefts = (c.in_ok-put-in-Left.ensures ∙ (λ j. put h.lefts (same j) x)) i;
       rights = h.rights;
-      part = (c.in_ok-add_rights-in-Left.ensures ∙ (λ j. with_rights q h.part (c.new-seen.ensures j) (c.deref.ensures.value j))) i;
-    }) ∙ take_left q h x c.in-Left.is ∙ ap (λ k. taken q k x) c.self.view_is
+      part = (c.in_ok-meet_rights-in-Left.ensures ∙ (λ j. with_rights q h.part (c.new-seen.ensures j) (rows_at h.rights (same j)))) i;
+    }) ∙ take_left q k h x c.in-Left.is ∙ ap (λ h. taken q k h x) c.self.view_is
 
-pub returns-in_ok-push-in-Right : goal.returns-in_ok-push-in-Right
-returns-in_ok-push-in-Right c =
+pub returns-in_ok-put-in-Right : goal.returns-in_ok-put-in-Right
+returns-in_ok-put-in-Right c =
     let q = tree_of c.args.join.now in
+    let k = c.args.key in
     let x : Placed = record { row = c.args.row.now; before = c.args.before } in
-    let h : Held = record { lefts = c.self.inside.lefts.items; rights = c.self.inside.rights.items; part = c.self.inside.pairs } in
+    let h : Held = record { lefts = c.self.inside.lefts; rights = c.self.inside.rights; part = c.self.inside.pairs } in
+    let fits : SFits w64 k = c.ranges.key in
+    let same : to_z w64 (of_z w64 k) ≡ k = to_z-of_z fits in
     (λ i. record {
       lefts = h.lefts;
-      rights = (c.in_ok-push-in-Right.ensures.items ∙ ap (λ y. h.rights ++ y ∷ []) c.new-seen.ensures) i;
-      part = (c.in_ok-add_lefts-in-Right.ensures ∙ (λ j. with_lefts q h.part (c.new-seen.ensures j) (c.deref-in-Right.ensures.value j))) i;
-    }) ∙ take_right q h x c.in-Right.is ∙ ap (λ k. taken q k x) c.self.view_is
+      rights = (c.in_ok-put-in-Right.ensures ∙ (λ j. put h.rights (same j) x)) i;
+      part = (c.in_ok-meet_lefts-in-Right.ensures ∙ (λ j. with_lefts q h.part (c.new-seen.ensures j) (rows_at h.lefts (same j)))) i;
+    }) ∙ take_right q k h x c.in-Right.is ∙ ap (λ h. taken q k h x) c.self.view_is

@@ -3,8 +3,9 @@ use Rattle.saber_plan.specs.Trees.{tree_of}
 use Rattle.saber_plan.specs.Windows.{Placed, step_mark}
 use Rattle.saber_plan.specs.Answers.{frame}
 use Rattle.saber_plan.specs.RowFacts.{left_small, right_small, mark_more, row_at}
-use Rattle.saber_join.specs.Keeping.{Held, taken}
+use Rattle.saber_join.specs.Keeping.{Held, taken, taken_by}
 use Rattle.saber_join.specs.Open.{seen_held}
+use Rattle.saber_join.specs.Ties.{key_in}
 use Rattle.saber_join.proofs.Holding.{taken_fits}
 use Rattle.saber_join.proofs.Changing.{changed_fits}
 use Rattle.saber_join.proofs.Growing.{no_rows_grown, small_at, grow_step}
@@ -13,7 +14,7 @@ use Rattle.saber_join.proofs.join.Join.take_rows.Goals as goal
 pub loop-row-init : goal.loop-row-init
 loop-row-init c =
     let q = tree_of c.args.self.now in
-    record { mark = refl; grown = no_rows_grown (frame q) (taken q) c.args.closed c.args.before.now (seen_held c.args.windows.now.entries); held = c.requires.held }
+    record { mark = refl; grown = no_rows_grown (frame q) (taken_by q c.args.tie.now) c.args.closed c.args.before.now (seen_held c.args.windows.now.entries); held = c.requires.held }
 
 pub row_windows-first-requires-clause-left : goal.row_windows-first-requires-clause-left
 row_windows-first-requires-clause-left c = left_small (tree_of c.args.self.now) c.args.before.now c.loop-row.mark c.args.rows.now c.loop-row.row-index c.requires.fits c.loop-row.invariant.mark
@@ -36,11 +37,12 @@ loop-row-preserved c =
     let k = c.loop-row.row-index in
     let r = c.row-item.result in
     let x : Placed = record { row = r; before = c.loop-row.mark } in
-    let low : c.max.result ≡ max c.row_windows-first.result.0 c.args.closed = c.max.ensures in
+    let low : c.max-low.result ≡ max c.row_windows-first.result.0 c.args.closed = c.max-low.ensures in
+    let z = key_in c.args.tie.now r in
     let row = row_at q c.args.before.now c.args.rows.now k r c.loop-row-test.true c.row-item.is c.requires.fits in
     record {
       mark = c.step-mark.ensures ∙ ap (λ m. step_mark m r) c.loop-row.invariant.mark ∙ sym (mark_more c.args.before.now c.args.rows.now k r c.loop-row-test.true c.row-item.is);
-      grown = grow_step c.rows_span.ensures (frame q) c.has_windows.ensures.fits (taken q) c.args.closed c.args.before.now c.args.rows.now k r c.loop-row.mark c.row_windows-first.result.0 c.row_windows-first.result.1 c.max.result (seen_held c.args.windows.now.entries) (seen_held c.loop-row.windows.entries) (seen_held c.take_row.new.windows.entries)
+      grown = grow_step c.rows_span.ensures (frame q) c.has_windows.ensures.fits (taken_by q c.args.tie.now) c.args.closed c.args.before.now c.args.rows.now k r c.loop-row.mark c.row_windows-first.result.0 c.row_windows-first.result.1 c.max-low.result (seen_held c.args.windows.now.entries) (seen_held c.loop-row.windows.entries) (seen_held c.take_row.new.windows.entries)
           c.loop-row-test.true c.row-item.is c.loop-row.invariant.mark c.row_windows-first.ensures.first c.row_windows-first.ensures.past low c.loop-row.invariant.grown c.in_ok-take_row.ensures;
-      held = changed_fits q (λ (h : Held). taken q h x) c.max.result c.row_windows-first.result.1 (seen_held c.loop-row.windows.entries) (seen_held c.take_row.new.windows.entries) (λ (h : Held) k. taken_fits q h x row k) c.in_ok-take_row.ensures c.loop-row.invariant.held;
+      held = changed_fits q (λ (h : Held). taken q z h x) c.max-low.result c.row_windows-first.result.1 (seen_held c.loop-row.windows.entries) (seen_held c.take_row.new.windows.entries) (λ (h : Held) k. taken_fits q z h x row k) c.in_ok-take_row.ensures c.loop-row.invariant.held;
     }

@@ -4,4 +4,4 @@ use Rattle.saber_plan.specs.PartFacts.{merge-empty_left}
 use Rattle.saber_partial.proofs.groups.Partial.merge.Goals as goal
 
 pub returns-then-is_empty : goal.returns-then-is_empty
-returns-then-is_empty c = sym (merge-empty_left c.args.other) ∙ ap (λ (m : Part). merge m c.args.other) (sym (c.is_empty.ensures.none c.if-is_empty.true))
+returns-then-is_empty c = c.other.view_is ∙ sym (merge-empty_left c.args.other) ∙ ap (λ (m : Part). merge m c.args.other) (sym (c.is_empty.ensures.none c.if-is_empty.true))

@@ -34,6 +34,7 @@ returns-in-Ok-Some-clause-looks g c side last count p =
       ordered = n.ordered;
       last = n.last;
       rises = n.rises;
+      stays = n.stays;
       counted = n.counted;
     } in
     let row = c.in-Ok-Some.row in
@@ -63,6 +64,7 @@ returns-in-Ok-None-clause-looks g c side last count p =
       ordered = n.ordered;
       last = n.last;
       rises = n.rises;
+      stays = n.stays;
       counted = n.counted;
     } in
     subst (λ o. Looks Ended side last count (headed c.args.self.now) (record { reader = new; ahead = o }) had has) (sym none)
@@ -90,6 +92,7 @@ returns-in-Err-clause-looks g c side last count p =
       ordered = n.ordered;
       last = n.last;
       rises = n.rises;
+      stays = n.stays;
       counted = n.counted;
     } in
     subst (λ o. Looks (Failed c.in-Err.end) side last count (headed c.args.self.now) (record { reader = new; ahead = o }) had has) (sym none)

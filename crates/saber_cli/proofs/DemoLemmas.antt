@@ -1,0 +1,225 @@
+-- A run over generated rows, from that of the engine.
+use Rattle.std.proofs.Common.{Bool, ⊎_elim, ◌++◌, ◌≡◌, ◌≤◌, ◌<◌, ◌+◌, ◌-◌, ◌*◌, ◌^◌, min, ◌⊎◌, inl, inr, ℕ, List, [], ◌∷◌, length, take, Option, Some, None, false, refl, sym, ◌∙◌, ap, subst, arith}
+use Rattle.std.proofs.Math.Path.{transport}
+use Rattle.std.proofs.lemmas.List.{take_all}
+use Rattle.saber_io.specs.Outside.{Told, appended, appended-none}
+use Rattle.saber_plan.specs.declared.rows.Side.{Side}
+use Rattle.saber_plan.specs.declared.rows.Side.TheVariants as sides
+use Rattle.saber_plan.specs.declared.rows.Row.{Row}
+use Rattle.saber_plan.specs.Rows.{Read, all_read, bad, End}
+use Rattle.saber_plan.specs.Inputs.{Input, going_on}
+use Rattle.saber_plan.specs.Answers.{text}
+use Rattle.saber_plan.specs.Tasks.{upto, task_count, row_tasks, run_input}
+use Rattle.saber_plan.specs.Needs.{wide, need}
+use Rattle.saber_plan.specs.Trees.{Tree}
+use Rattle.saber_plan.specs.Sizes.{FileLimits}
+use Rattle.saber_laws.specs.Cuts.{RowsHaveTasks}
+use Rattle.saber_laws.specs.Needs.{NoneIsWide}
+use Rattle.saber_words.specs.Demo.{AskedDemo}
+use Rattle.saber_words.specs.Commands.{Asked, demo, command_of}
+use Rattle.saber_words.specs.declared.commands.WordsFault.{WordsFault}
+use Rattle.saber_words.specs.declared.commands.WordsFault.TheVariants as fault
+use Rattle.saber_demo.specs.Rows.{demo_rows, generated}
+use Rattle.saber_demo.specs.Query.{demo_tree}
+use Rattle.saber_demo.specs.Summary.{summary}
+use Rattle.saber_demo.specs.Laws.{GeneratedIsRead}
+use Rattle.saber_dispatch.specs.declared.inputs.Inputs.{Inputs}
+use Rattle.saber_dispatch.specs.declared.inputs.Inputs.TheVariants.{One, Two}
+use Rattle.saber_engine.specs.declared.ends.RunEnd.{RunEnd}
+use Rattle.saber_engine.specs.declared.ends.RunEnd.TheVariants as ends
+use Rattle.saber_engine.specs.Sources.{each_input, input_of, RoseAt}
+use Rattle.saber_engine.specs.Gives as engine
+use Rattle.saber_engine.specs.Gives.{Assembles, reach_of}
+use Rattle.saber_notes.specs.declared.outcome.Outcome.{Outcome}
+use Rattle.saber_notes.specs.declared.outcome.Outcome.TheVariants.{Done, Usage, FileCount, QueryFault, LineRefused, OpenFault, ReadFault, TooWide, WriteFault, NoMemory}
+use Rattle.saber_cli.specs.Due.{Contents, Due, usage, missing, faulty, unlike, shows, tells, runs, IsDueFor}
+use Rattle.saber_cli.specs.Causes.{HasCause, Allows}
+use Rattle.saber_cli.specs.Puts.{HasTasks, IsOfPut, PutsOut, PutsText, no_text}
+use Rattle.saber_cli.specs.Gives.{Gives}
+use Rattle.saber_cli.specs.Leaves.{LeavesTold, Matches}
+use Rattle.saber_cli.specs.Unread.{unread}
+use Rattle.saber_cli.specs.Demo.{generated_input, summary_of_run, tasks_of_run}
+use Rattle.saber_cli.specs.Tells.{IsAnswer, IsWholeOrLacks, TellsRun}
+use Rattle.saber_cli.proofs.LeavesLemmas.{none_left}
+
+-- ---- the input and its tasks
+
+-- what is asked of its lines
+abbrev pub demo_limits : FileLimits
+demo_limits = record { most = 2 ^ 40; slack = 0 }
+
+-- the generated file is read whole
+pub read_of : GeneratedIsRead → (seed n : ℕ) → n ≤ 2 ^ 20 → input_of demo_tree demo_limits (generated seed n ∷ []) ≡ record { rows = demo_rows seed n; end = all_read }
+read_of law seed n few = law seed n (2 ^ 40) few (omega arith)
+
+-- no task of it looks back
+none_wide : NoneIsWide → (n ring : ℕ) (r : Input) → 1 ≤ ring → wide demo_tree n r ring ≡ None
+none_wide law n ring r some = law demo_tree n r ring (λ k h. omega arith)
+
+-- all tasks have all rows
+all_rows : RowsHaveTasks → (n : ℕ) (xs : List Row) → 1 ≤ n → upto n (going_on xs) (task_count n (going_on xs)) ≡ going_on xs
+all_rows law n xs some =
+    let room : length xs ≤ row_tasks n (going_on xs) * n = law n (going_on xs) some in
+    let whole : length xs ≤ min (row_tasks n (going_on xs) * n) (length xs) = omega arith in
+    ap going_on (take_all (min (row_tasks n (going_on xs) * n) (length xs)) xs whole)
+
+-- ---- how the run ends
+
+-- no source that never fails has failed
+never_rose : {S : Type 0} (side : Side) (old new : Inputs S) → RoseAt side (each_input (λ (s : S). 0) old) (each_input (λ (s : S). 0) new) → ⊥
+never_rose sides.Left (One s) (One t) h = omega arith
+never_rose sides.Left (One s) (Two t u) h = omega arith
+never_rose sides.Left (Two s r) (One t) h = omega arith
+never_rose sides.Left (Two s r) (Two t u) h = omega arith
+never_rose sides.Right (One s) (One t) h = h
+never_rose sides.Right (One s) (Two t u) h = h
+never_rose sides.Right (Two s r) (One t) h = h
+never_rose sides.Right (Two s r) (Two t u) h = omega arith
+
+-- with all read, or for want of memory
+pub end_is : {S : Type 0} (n ring : ℕ) (read : Read) (e : RunEnd) (old new : Inputs S) → NoneIsWide → 1 ≤ ring → read.end ≡ all_read → engine.EndsAs demo_tree n ring (run_input demo_tree false read) e read
+    → ((side : Side) → e ≡ ends.ReadFault side → RoseAt side (each_input (λ (s : S). 0) old) (each_input (λ (s : S). 0) new)) → (e ≡ ends.WriteFault → ⊥) → IsWholeOrLacks e
+end_is n ring read ends.AllRead old new law some all h f w = tt
+end_is n ring read (ends.Bad side line cause) old new law some all h f w = let clash : all_read ≡ bad side line cause = sym all ∙ h.0 in cc
+end_is n ring read (ends.ReadFault side) old new law some all h f w = never_rose side old new (f side refl)
+end_is n ring read (ends.TooWide task needs) old new law some all h f w = let clash : None ≡ Some task = sym (none_wide law n ring (run_input demo_tree false read) some) ∙ h.0 in cc
+end_is n ring read ends.WriteFault old new law some all h f w = w refl
+end_is n ring read ends.NoMemory old new law some all h f w = tt
+
+-- ---- the run of the engine
+
+-- what the generated file is read as
+abbrev pub demo_read : AskedDemo → Read
+demo_read d = record { rows = demo_rows d.seed d.rows; end = all_read }
+
+-- the engine is given the query's plan, the sizes that were asked for, and the generated file
+pub record IsRunOf (d : AskedDemo) (q : Tree) (n : ℕ) (limits : FileLimits) (flush : Bool) (file : List ℕ) : Type 0 where
+  pub plan : q ≡ demo_tree
+  pub task : n ≡ d.task
+  pub lines : limits ≡ demo_limits
+  pub goes_on : flush ≡ false
+  pub rows : file ≡ generated d.seed d.rows
+
+-- what it gives then
+pub run_gives : GeneratedIsRead → (d : AskedDemo) (q : Tree) (n ring : ℕ) (limits : FileLimits) (flush : Bool) (file : List ℕ) (e : RunEnd) (tasks : ℕ) (out : List ℕ) → d.rows ≤ 2 ^ 20 → IsRunOf d q n limits flush file
+    → engine.Gives q n ring flush (input_of q limits (file ∷ [])) e tasks out → engine.Gives demo_tree d.task ring false (demo_read d) e tasks out
+run_gives law d q n ring limits flush file e tasks out few r h =
+    let read : input_of q limits (file ∷ []) ≡ demo_read d = (λ i. input_of (r.plan i) (r.lines i) (r.rows i ∷ [])) ∙ read_of law d.seed d.rows few in
+    transport (λ i. engine.Gives (r.plan i) (r.task i) ring (r.goes_on i) (read i) e tasks out) h
+
+-- where all is read, the text of all tasks is the answer
+pub whole_answer : RowsHaveTasks → (d : AskedDemo) (ring tasks : ℕ) (e : RunEnd) (out : List ℕ) → 1 ≤ d.task → e ≡ ends.AllRead → engine.Gives demo_tree d.task ring false (demo_read d) e tasks out → IsAnswer d out tasks
+whole_answer law d ring tasks e out some is h =
+    let a : Assembles demo_tree d.task (generated_input d.seed d.rows) (reach_of ends.AllRead) tasks out = subst (λ (x : RunEnd). Assembles demo_tree d.task (generated_input d.seed d.rows) (reach_of x) tasks out) is h.assembles in
+    let all : tasks ≡ tasks_of_run d = a.all refl in
+    let rows : upto d.task (generated_input d.seed d.rows) tasks ≡ generated_input d.seed d.rows =
+    ap (upto d.task (generated_input d.seed d.rows)) all ∙ all_rows law d.task (demo_rows d.seed d.rows) some in
+    record { text_is = a.answers (λ e. cc) ∙ ap (text demo_tree) rows; tasks_are = all }
+
+-- what a sink has that had nothing
+pub written_is : (before after out : List ℕ) → before ≡ [] → Some after ≡ appended (Some before) out → after ≡ out
+written_is before after out none is = let same : after ≡ before ++ out = cc in same ∙ ap (λ l. l ++ out) none
+
+-- ---- what goes out
+
+-- the summary of an answer, whose writing came to this
+pub answer_told : (d : AskedDemo) (o : Outcome) (answer : List ℕ) (tasks told : ℕ) (old new : Option (List ℕ)) (text out : List ℕ) → IsAnswer d answer tasks → text ≡ summary d.rows answer → told ≡ tasks → new ≡ appended old out → PutsText text o out → IsOfPut o
+    → TellsRun d o told old new
+answer_told d o answer tasks told old new text out a is same w p k = record {
+  out = out;
+  written = w;
+  puts = subst (λ t. PutsText t o out) (is ∙ ap (summary d.rows) a.text_is) p;
+  tasks_are = record { few = omega (arith, same, a.tasks_are); all = λ e. same ∙ a.tasks_are };
+  kinds = k;
+}
+
+-- nothing goes out for want of memory
+pub memory_told : (d : AskedDemo) (tasks : ℕ) (old : Option (List ℕ)) → tasks ≤ tasks_of_run d → TellsRun d NoMemory tasks old old
+memory_told d tasks old few = record {
+  out = [];
+  written = appended-none old;
+  puts = no_text (λ e. cc) refl;
+  tasks_are = record { few = few; all = λ e. absurd (⊎_elim not_done not_failed e) };
+  kinds = tt;
+}
+  where
+    not_done : NoMemory ≡ Done → ⊥
+    not_done e = cc
+
+    not_failed : NoMemory ≡ WriteFault → ⊥
+    not_failed e = cc
+
+-- words that were not read
+pub unread_told : (ws : List (List ℕ)) (d : AskedDemo) (f : WordsFault) (old : Option (List ℕ)) → (f ≡ fault.Usage → command_of ws ≡ None) → command_of ws ≡ Some (demo d) → TellsRun d (unread f) 0 old old
+unread_told ws d fault.NoMemory old h is = memory_told d 0 old (omega arith)
+unread_told ws d fault.Usage old h is = let clash : Some (demo d) ≡ None = sym is ∙ h refl in cc
+
+-- ---- the files
+
+tell_matches : (o : Outcome) → IsOfPut o → Matches 0 o 0 []
+tell_matches Done k = record { asked_for = refl; all = refl; good = tt }
+tell_matches Usage k = absurd k
+tell_matches (FileCount s g) k = absurd k
+tell_matches (QueryFault b c) k = absurd k
+tell_matches (LineRefused s n c) k = absurd k
+tell_matches (OpenFault f) k = absurd k
+tell_matches (ReadFault f) k = absurd k
+tell_matches (TooWide t n r) k = absurd k
+tell_matches WriteFault k = (refl, refl)
+tell_matches NoMemory k = refl
+
+-- none is asked for
+pub tell_leaves : (c : Asked) (d : AskedDemo) (o : Outcome) (old : Option Told) → c ≡ demo d → IsOfPut o → LeavesTold c o old old
+tell_leaves c d o old is k = subst (λ (a : Asked). LeavesTold a o old old) (sym is) (none_left [] (λ t. ⊥) o old (tell_matches o k))
+
+-- ---- what is due
+
+tell_cause : (due : Due → Type 0) (text : List ℕ) (count : ℕ) (o : Outcome) → IsOfPut o → due (tells text count) → HasCause due o
+tell_cause due text count Done k t = inr (inr (record { out = text; count = count; is_due = t }))
+tell_cause due text count Usage k t = absurd k
+tell_cause due text count (FileCount s g) k t = absurd k
+tell_cause due text count (QueryFault b c) k t = absurd k
+tell_cause due text count (LineRefused s n c) k t = absurd k
+tell_cause due text count (OpenFault f) k t = absurd k
+tell_cause due text count (ReadFault f) k t = absurd k
+tell_cause due text count (TooWide t' n r) k t = absurd k
+tell_cause due text count WriteFault k t = inr (inr (record { out = text; count = count; is_due = t }))
+tell_cause due text count NoMemory k t = tt
+
+tell_allows : (text : List ℕ) (count : ℕ) (o : Outcome) → IsOfPut o → Allows (tells text count) o
+tell_allows text count Done k = inl refl
+tell_allows text count Usage k = absurd k
+tell_allows text count (FileCount s g) k = absurd k
+tell_allows text count (QueryFault b c) k = absurd k
+tell_allows text count (LineRefused s n c) k = absurd k
+tell_allows text count (OpenFault f) k = absurd k
+tell_allows text count (ReadFault f) k = absurd k
+tell_allows text count (TooWide t n r) k = absurd k
+tell_allows text count WriteFault k = inr (inl refl)
+tell_allows text count NoMemory k = inr (inr refl)
+
+demo_allowed : (files : Contents) (d : AskedDemo) (o : Outcome) (due : Due) → IsOfPut o → IsDueFor files (demo d) due → Allows due o
+demo_allowed files d o usage k h = absurd h
+demo_allowed files d o missing k h = absurd h
+demo_allowed files d o (faulty b x) k h = absurd h
+demo_allowed files d o (unlike s g) k h = absurd h
+demo_allowed files d o (shows out) k h = absurd h
+demo_allowed files d o (tells text count) k h = tell_allows text count o k
+demo_allowed files d o (runs q n ring flush read) k h = absurd h
+
+demo_puts : (files : Contents) (d : AskedDemo) (o : Outcome) (tasks : ℕ) (out : List ℕ) (due : Due) → PutsText (summary_of_run d.seed d.rows) o out → HasTasks (tasks_of_run d) tasks o → IsDueFor files (demo d) due → PutsOut due o tasks out
+demo_puts files d o tasks out usage p t h = absurd h
+demo_puts files d o tasks out missing p t h = absurd h
+demo_puts files d o tasks out (faulty b x) p t h = absurd h
+demo_puts files d o tasks out (unlike s g) p t h = absurd h
+demo_puts files d o tasks out (shows text) p t h = absurd h
+demo_puts files d o tasks out (tells text count) p t h = (subst (λ c. HasTasks c tasks o) (sym h.1) t, subst (λ x. PutsText x o out) (sym h.0) p)
+demo_puts files d o tasks out (runs q n ring flush read) p t h = absurd h
+
+-- whatever the files, the summary is due
+pub gives_told : (files : Contents) (d : AskedDemo) (o : Outcome) (tasks : ℕ) (out : List ℕ) → IsOfPut o → PutsText (summary_of_run d.seed d.rows) o out → HasTasks (tasks_of_run d) tasks o → Gives files (demo d) o tasks out
+gives_told files d o tasks out k p t = record {
+  cause = tell_cause (IsDueFor files (demo d)) (summary_of_run d.seed d.rows) (tasks_of_run d) o k (refl, refl);
+  allows = λ due h. demo_allowed files d o due k h;
+  puts = λ due h. demo_puts files d o tasks out due p t h;
+}

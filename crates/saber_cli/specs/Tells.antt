@@ -1,0 +1,30 @@
+-- What `demo` comes to, whatever files there are.
+use Rattle.std.specs.Prelude.{◌≡◌, ℕ, List, Option}
+use Rattle.saber_io.specs.Outside.{appended}
+use Rattle.saber_plan.specs.Answers.{text}
+use Rattle.saber_words.specs.Demo.{AskedDemo}
+use Rattle.saber_demo.specs.Query.{demo_tree}
+use Rattle.saber_engine.specs.declared.ends.RunEnd.{RunEnd}
+use Rattle.saber_engine.specs.declared.ends.RunEnd.TheVariants as ends
+use Rattle.saber_notes.specs.declared.outcome.Outcome.{Outcome}
+use Rattle.saber_cli.specs.Demo.{generated_input, summary_of_run, tasks_of_run}
+use Rattle.saber_cli.specs.Puts.{HasTasks, IsOfPut, PutsText}
+
+-- how a run over generated rows can end: all is answered, or memory lacks
+abbrev pub IsWholeOrLacks : RunEnd → Type 0
+IsWholeOrLacks ends.AllRead = Unit {0}
+IsWholeOrLacks ends.NoMemory = Unit {0}
+IsWholeOrLacks _ = ⊥
+
+-- this is the answer over the generated rows, of so many tasks
+pub record IsAnswer (d : AskedDemo) (out : List ℕ) (tasks : ℕ) : Type 0 where
+  pub text_is : out ≡ text demo_tree (generated_input d.seed d.rows)
+  pub tasks_are : tasks ≡ tasks_of_run d
+
+-- The summary of the run goes out whole, a prefix of it where the sink fails, else nothing.
+pub record TellsRun (d : AskedDemo) (o : Outcome) (tasks : ℕ) (old new : Option (List ℕ)) : Type 0 where
+  pub out : List ℕ
+  pub written : new ≡ appended old out
+  pub puts : PutsText (summary_of_run d.seed d.rows) o out
+  pub tasks_are : HasTasks (tasks_of_run d) tasks o
+  pub kinds : IsOfPut o

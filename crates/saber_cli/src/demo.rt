@@ -1,0 +1,129 @@
+// The command `demo`: a run over generated rows, and the summary of its answer.
+ghost use Rattle.std.specs.Prelude.{◌≡◌, ◌≢◌, ◌≤◌, ◌^◌, ◌↔◌, false, IfOk, IfErr, IsTrue};
+ghost use Rattle.saber_io.specs.Outside.{Rose};
+ghost use Rattle.saber_plan.specs.Sizes.{SizesFit};
+ghost use Rattle.saber_words.specs.declared.commands.Command.{Command};
+ghost use Rattle.saber_words.specs.Commands.{asked, IsSized};
+ghost use Rattle.saber_words.specs.Demo.{asked_demo};
+ghost use Rattle.saber_engine.specs.declared.ends.RunEnd.{RunEnd};
+ghost use Rattle.saber_notes.specs.declared.outcome.Outcome.{Outcome};
+ghost use Rattle.saber_cli.specs.Demo.{tasks_of_run};
+ghost use Rattle.saber_cli.specs.Tells.{IsAnswer, IsWholeOrLacks, TellsRun};
+
+use crate::answer::Ran;
+use crate::puts::put;
+use saber_demo::{Generated, TextSink, demo_is_checked, demo_plan, generated_is_read, summary};
+use saber_engine::{Inputs, Ran as Engine, RunEnd, engine};
+use saber_io::{Gate, Sink};
+use saber_laws::{none_is_wide, rows_have_tasks};
+use saber_notes::Outcome;
+use saber_plan::Sizes;
+use saber_words::Demo;
+use std::alloc::Global;
+use std::sync::Wait;
+use std::thread::Threads;
+
+// The query's answer, and how many tasks it took.
+#[derive(Drop)]
+struct Answer {
+    text: TextSink,
+    tasks: u64,
+}
+
+// The sizes that a command asks for. There are fewer rows than a file may have lines.
+fn demo_sizes(command: &Demo) -> Sizes
+    requires { IsSized (asked (Command.Demo command.now)) }
+    ensures task { result.task ≡ command.now.task }
+    ensures lines { result.max_lines ≡ 2 ^ 40 }
+    ensures slack { result.slack ≡ 0 }
+    ensures flush { result.flush ≡ false }
+    ensures fit { SizesFit result }
+{
+    Sizes {
+        task: command.task,
+        ring: command.ring,
+        threads: command.threads,
+        max_lines: 1_099_511_627_776,
+        slack: 0,
+        flush: false,
+    }
+}
+
+// Whether the run came to its end. Of generated rows none is refused, none can't be read, and no task is too wide; and no write into
+// memory fails.
+fn is_whole(end: RunEnd) -> bool
+    requires { IsWholeOrLacks end }
+    ensures { IsTrue result ↔ (end ≡ RunEnd.AllRead) }
+{
+    match end {
+        RunEnd::AllRead => true,
+        RunEnd::NoMemory => false,
+        RunEnd::Bad { .. } => unreachable!(),
+        RunEnd::ReadFault { .. } => unreachable!(),
+        RunEnd::TooWide { .. } => unreachable!(),
+        RunEnd::WriteFault => unreachable!(),
+    }
+}
+
+// Runs the query over the generated rows. Where memory lacks it tells how many tasks are assembled.
+fn run_generated<G: Gate + Sync, R: Threads + Wait + Sync>(
+    rt: &R,
+    alloc: Global,
+    command: &Demo,
+    gate: &G,
+) -> Result<Answer, u64>
+    requires { IsSized (asked (Command.Demo command.now)) }
+    ensures answer { IfOk result (λ answer. IsAnswer (asked_demo command.now) answer.text answer.tasks) }
+    ensures few { IfErr result (λ tasks. tasks ≤ tasks_of_run (asked_demo command.now)) }
+{
+    demo_is_checked();
+    generated_is_read();
+    none_is_wide();
+    rows_have_tasks();
+    let Ok(plan) = demo_plan(alloc) else {
+        return Err(0);
+    };
+    let rows = Generated::new(u64::from(command.seed), u64::from(command.rows));
+    let mut inputs = Inputs::One(rows);
+    let text = TextSink::new(alloc);
+    let sizes = demo_sizes(command);
+    let Engine { end, sink, tasks } = engine(rt, alloc, &plan, &mut inputs, text, &sizes, gate);
+    if is_whole(end) {
+        Ok(Answer { text: sink, tasks })
+    } else {
+        Err(tasks)
+    }
+}
+
+/// `demo`: answers the demo's query over generated rows, and writes the summary of the answer.
+pub(crate) fn demo_command<K: Sink, G: Gate + Sync, R: Threads + Wait + Sync>(
+    rt: &R,
+    alloc: Global,
+    command: &Demo,
+    sink: K,
+    gate: &G,
+) -> Ran<K>
+    requires { IsSized (asked (Command.Demo command.now)) }
+    ensures told { TellsRun (asked_demo command.now) result.outcome result.tasks (K.written sink) (K.written result.sink) }
+    ensures write { result.outcome ≡ Outcome.WriteFault → Rose (K.faults sink) (K.faults result.sink) }
+    ensures write_good { result.outcome ≢ Outcome.WriteFault → K.faults result.sink ≡ K.faults sink }
+{
+    let answer = match run_generated(rt, alloc, command, gate) {
+        Ok(answer) => answer,
+        Err(tasks) => {
+            return Ran {
+                outcome: Outcome::NoMemory,
+                sink,
+                tasks,
+            };
+        }
+    };
+    match summary(alloc, u64::from(command.rows), answer.text.text()) {
+        Ok(out) => put(&out, sink, answer.tasks),
+        Err(_) => Ran {
+            outcome: Outcome::NoMemory,
+            sink,
+            tasks: answer.tasks,
+        },
+    }
+}

@@ -1,0 +1,36 @@
+// A text that goes out.
+ghost use Rattle.std.specs.Prelude.{◌≡◌, ◌≢◌, ℕ, List};
+ghost use Rattle.saber_io.specs.Outside.{Rose, appended};
+ghost use Rattle.saber_notes.specs.declared.outcome.Outcome.{Outcome};
+ghost use Rattle.saber_cli.specs.Puts.{IsOfPut, PutsText};
+
+use crate::answer::Ran;
+use saber_io::{Sink, WriteFault};
+use saber_notes::Outcome;
+
+/// Writes a text, in one write, behind which so many tasks are assembled.
+pub(crate) fn put<K: Sink>(text: &[u8], mut sink: K, tasks: u64) -> Ran<K>
+    ensures written { (out : List ℕ) × (K.written result.sink ≡ appended (K.written sink) out) × PutsText text.now result.outcome out }
+    ensures kinds { IsOfPut result.outcome }
+    ensures tasks { result.tasks ≡ tasks }
+    ensures write { result.outcome ≡ Outcome.WriteFault → Rose (K.faults sink) (K.faults result.sink) }
+    ensures write_good { result.outcome ≢ Outcome.WriteFault → K.faults result.sink ≡ K.faults sink }
+{
+    match sink.write_all(text) {
+        Ok(()) => Ran {
+            outcome: Outcome::Done,
+            sink,
+            tasks,
+        },
+        Err(WriteFault::Failed) => Ran {
+            outcome: Outcome::WriteFault,
+            sink,
+            tasks,
+        },
+        Err(WriteFault::NoMemory) => Ran {
+            outcome: Outcome::NoMemory,
+            sink,
+            tasks,
+        },
+    }
+}

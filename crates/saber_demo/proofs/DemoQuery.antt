@@ -1,0 +1,71 @@
+-- The text of the demo's query has the plan that is built.
+use Rattle.std.proofs.Common.{◌≡◌, ℕ, List, [], ◌∷◌, map, Some, None, false, codes, refl, subst, arith, rules, Result, Ok, Err}
+use Rattle.std.specs.Prelude.{Contains}
+use Rattle.saber_query.specs.declared.token.Placed.{Placed}
+use Rattle.saber_query.specs.declared.fault.QueryFault.{QueryFault}
+use Rattle.saber_query.specs.declared.tree.Select.{Select}
+use Rattle.saber_query.specs.declared.tree.Expr.{Expr}
+use Rattle.saber_query.specs.declared.tree.Item.TheVariants.{Value, Count, Sum}
+use Rattle.saber_query.specs.declared.tree.Factor.TheVariants.{Column}
+use Rattle.saber_query.specs.declared.tree.Measure.TheVariants.{Range}
+use Rattle.saber_query.specs.Tokens.{keyword_among}
+use Rattle.saber_query.specs.Lexing.{lexed, begin, number_more, step, ended, lex_from}
+use Rattle.saber_query.specs.Trees.{query_of}
+use Rattle.saber_query.specs.Means.{MeansTree, byte_of}
+use Rattle.saber_query.specs.Parsed.{Parsed, IsParsed}
+use Rattle.saber_check.specs.declared.fault.Fault.{Fault}
+use Rattle.saber_check.specs.Least.{each}
+use Rattle.saber_check.specs.Faults.{faults, column_faults, factor_faults, prod_faults, expr_faults, item_faults, column_name_faults, decl_faults, window_faults, source_faults, second_faults, key_faults, group_faults}
+use Rattle.saber_check.specs.Bounds.{running_product, product_faults, sum_faults, running_sum}
+use Rattle.saber_check.specs.Texts.{HasPlan}
+use Rattle.saber_demo.specs.Query.{demo_query, demo_tree}
+
+-- a column by itself
+abbrev named : List ℕ → Expr
+named n = record { first = record { first = Column (record { first = n; second = None }); more = [] }; more = [] }
+
+-- the query as a tree of the grammar
+abbrev demo_select : Select
+demo_select = record {
+  decl = record { name = codes "D"; first = codes "t"; more = codes "g" ∷ codes "v" ∷ [] };
+  decls = [];
+  item = Value (named (codes "g"));
+  items = Count ∷ Sum (named (codes "v")) ∷ [];
+  from = record { name = codes "D"; window = Some (record { measure = Range; size = 8; slide = 4 }) };
+  second = None;
+  predicate = None;
+  group = Some (record { first = record { first = codes "g"; second = None }; more = [] });
+  closed = false;
+}
+
+abbrev those : Result (List Placed) QueryFault → List Placed
+those (Ok ps) = ps
+those (Err f) = []
+
+-- the tokens of its text
+abbrev tokens : List Placed
+tokens = those (lexed demo_query)
+
+abbrev demo_parsed : Parsed
+demo_parsed = record { select = demo_select; starts = map byte_of tokens }
+
+means : MeansTree demo_query demo_parsed
+unfolding begin number_more step ended lex_from keyword_among
+means = record { short = omega arith; placed = tokens; lexed = refl; words = refl; starts = refl; shallow = omega arith }
+
+parsed : IsParsed demo_select (map byte_of tokens)
+unfolding begin number_more step ended lex_from keyword_among
+parsed = record { each_word = refl; short = omega arith; real = search rules; shallow = omega arith }
+
+no_faults : faults (query_of demo_select) ≡ []
+unfolding faults column_faults factor_faults prod_faults expr_faults item_faults column_name_faults decl_faults window_faults source_faults second_faults key_faults group_faults running_product product_faults sum_faults running_sum each
+no_faults = refl
+
+pub has_plan : HasPlan demo_query demo_tree
+has_plan = record {
+  query = demo_parsed;
+  parsed = parsed;
+  means = means;
+  faultless = λ i c h. let f = subst (λ (fs : List Fault). Contains fs (record { index = i; cause = c })) no_faults h in omega (arith, f.1);
+  same = refl;
+}

@@ -1,0 +1,6 @@
+pub mod Generator
+pub mod Rows
+pub mod Feeds
+pub mod Summary
+pub mod Query
+pub mod Laws

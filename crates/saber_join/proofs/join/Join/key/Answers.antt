@@ -1,0 +1,17 @@
+use Rattle.std.proofs.Common.{subst, sym}
+use Rattle.saber_plan.specs.Trees.{tree_of}
+use Rattle.saber_plan.specs.Checked.{ExprFits}
+use Rattle.saber_eval.specs.Widths.{widths}
+use Rattle.saber_join.specs.Ties.{Ends}
+use Rattle.saber_join.proofs.Tying.{left_key_fits, right_key_fits}
+use Rattle.saber_join.proofs.join.Join.key.Goals as goal
+
+pub value2-requires : goal.value2-requires
+value2-requires c =
+    let r = c.args.row.now in
+    subst (λ (t : Ends). ExprFits (widths r.values r.values) t.left) (sym c.tie.view_is) (left_key_fits (tree_of c.args.self.now) c.has_windows.ensures.checked.predicate c.args.tie.now c.in-Some.tie c.requires.tie c.in-Some.is r c.requires.row c.in-Left.is)
+
+pub value2-requires-in-Right : goal.value2-requires-in-Right
+value2-requires-in-Right c =
+    let r = c.args.row.now in
+    subst (λ (t : Ends). ExprFits (widths r.values r.values) t.right) (sym c.tie.view_is) (right_key_fits (tree_of c.args.self.now) c.has_windows.ensures.checked.predicate c.args.tie.now c.in-Some.tie c.requires.tie c.in-Some.is r c.requires.row c.in-Right.is)

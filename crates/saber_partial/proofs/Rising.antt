@@ -1,0 +1,168 @@
+-- Entries in one list, by key, as a finite map: look-ups, writes and inserts.
+use Rattle.std.proofs.Common.{◌≡◌, ℕ, zero, suc, ◌<◌, ◌≤◌, T, List, [], ◌∷◌, ◌++◌, length, get_or, take, drop, ℤ, Bool, true, false, cond, Option, Some, None, refl, sym, ◌∙◌, ap, ap₂, subst, ⊎_elim, inl, inr, ◌⊎◌, arith}
+use Rattle.std.proofs.Math.ListN.{set}
+use Rattle.std.specs.declared.cmp.Ordering.{Ordering}
+use Rattle.std.specs.declared.cmp.Ordering.TheVariants.{Less, Equal, Greater}
+use Rattle.std.specs.Cmp.{tied_itself, alike_right}
+use Rattle.std.specs.Ordering.{eq_by_cmp, is_eq, is_lt, ordering_index, ordering_reverse}
+use Rattle.std.specs.List.{insert}
+use Rattle.std.specs.List.Sorted.{IsNonDecreasingBy}
+use Rattle.std.specs.Map.{keys_of}
+use Rattle.std.specs.FinMap.{get, find, put, is_sorted, get-from_entries, get-insert, same_map}
+use Rattle.std.specs.FinMap as finite
+use Rattle.std.specs.FinMap.Entries.{below_all, by_order, find-put, find_tied, is_sorted-put}
+use Rattle.saber_plan.specs.Answers.{key_cmp}
+use Rattle.saber_plan.specs.Parts.{Part, Numbers, join_numbers}
+use Rattle.saber_plan.specs.Merges.{joined}
+use Rattle.saber_plan.specs.ListFacts.{T_parts}
+use Rattle.saber_plan.specs.MapFacts.{equal_if, first_alone, rest_rises}
+use Rattle.saber_plan.specs.PartFacts.{total, exact}
+use Rattle.saber_partial.specs.Tallies.{CanMerge, with_row}
+use Rattle.saber_partial.specs.Sorted.{part_of, Rises, IsAt, IsGap, CanJoinAll}
+use Rattle.saber_partial.proofs.Merging.{not_both}
+
+-- ---- order
+
+pub less : (o : Ordering) → T (is_lt o) → o ≡ Less
+less Less p = refl
+less Equal p = absurd p
+less Greater p = absurd p
+
+pub turned : (x y : List ℤ) → key_cmp x y ≡ Less → key_cmp y x ≡ Greater
+turned x y e = total.antisymm y x ∙ ap ordering_reverse e
+
+pub turned_back : (x y : List ℤ) → key_cmp x y ≡ Greater → key_cmp y x ≡ Less
+turned_back x y e = total.antisymm y x ∙ ap ordering_reverse e
+
+pub below_at : (k : List ℤ) (es : List (List ℤ × Numbers)) (i : ℕ) (d : List ℤ × Numbers) → T (below_all key_cmp k es) → i < length es → key_cmp k (get_or es i d).0 ≡ Less
+below_at k [] i d h l = absurd (omega (arith, l))
+below_at k (e ∷ es) zero d h l = less _ (T_parts _ _ h).0
+below_at k (e ∷ es) (suc i) d h l = below_at k es i d (T_parts _ _ h).1 (omega (arith, l))
+
+pub apart : (es : List (List ℤ × Numbers)) (i j : ℕ) (d : List ℤ × Numbers) → Rises es → i < j → j < length es → key_cmp (get_or es i d).0 (get_or es j d).0 ≡ Less
+apart [] i j d s h l = absurd (omega (arith, l))
+apart (e ∷ es) i zero d s h l = absurd (omega (arith, h))
+apart (e ∷ es) zero (suc j) d s h l = below_at e.0 es j d (T_parts _ _ s).0 (omega (arith, l))
+apart (e ∷ es) (suc i) (suc j) d s h l = apart es i j d (rest_rises key_cmp e es s) (omega (arith, h)) (omega (arith, l))
+
+index_most : (o : Ordering) → ordering_index o ≤ 2
+index_most Less = omega arith
+index_most Equal = omega arith
+index_most Greater = omega arith
+
+index_case : (a b k : List ℤ) (r : Ordering) → key_cmp a b ≡ Less → key_cmp b k ≡ r → ordering_index (key_cmp a k) ≤ ordering_index r
+index_case a b k Less e f = let w : ordering_index (key_cmp a k) ≡ 0 = ap ordering_index (total.trans a b k e f) in omega (arith, w)
+index_case a b k Equal e f = let w : ordering_index (key_cmp a k) ≡ 0 = ap ordering_index (sym (alike_right total b k a f) ∙ e) in omega (arith, w)
+index_case a b k Greater e f = index_most (key_cmp a k)
+
+rising_case : (es : List (List ℤ × Numbers)) (k : List ℤ) (i j : ℕ) (d : List ℤ × Numbers) → Rises es → (i ≡ j) ⊎ (i < j) → j < length es → ordering_index (key_cmp (get_or es i d).0 k) ≤ ordering_index (key_cmp (get_or es j d).0 k)
+rising_case es k i j d s (inl e) h = let w = ap (λ n. ordering_index (key_cmp (get_or es n d).0 k)) e in omega (arith, w)
+rising_case es k i j d s (inr l) h = index_case (get_or es i d).0 (get_or es j d).0 k _ (apart es i j d s l h) refl
+
+equal_or_less : (i j : ℕ) → i ≤ j → (i ≡ j) ⊎ (i < j)
+equal_or_less zero zero h = inl refl
+equal_or_less zero (suc j) h = inr (omega arith)
+equal_or_less (suc i) zero h = absurd (omega (arith, h))
+equal_or_less (suc i) (suc j) h = ⊎_elim (λ e. inl (ap suc e)) (λ l. inr (omega (arith, l))) (equal_or_less i j (omega (arith, h)))
+
+-- compared with a key, entries come less, equal and greater
+pub rising_by : (es : List (List ℤ × Numbers)) (k : List ℤ) → Rises es → IsNonDecreasingBy (λ e. ordering_index (key_cmp e.0 k)) es
+rising_by es k s = λ i j d h l. rising_case es k i j d s (equal_or_less i j h) l
+
+-- ---- look-ups
+
+rest_case : (b : Bool) (x : Numbers) (o : Option Numbers) (a : Numbers) → (b ≡ true → o ≡ None) → o ≡ Some a → cond b (Some x) o ≡ Some a
+rest_case true x o a n e = absurd (not_both (n refl) e)
+rest_case false x o a n e = e
+
+found_behind : (q : List ℤ) (e : List ℤ × Numbers) (es : List (List ℤ × Numbers)) (a : Numbers) → Rises (e ∷ es) → find key_cmp q es ≡ Some a → find key_cmp q (e ∷ es) ≡ Some a
+found_behind q e es a s h = rest_case (eq_by_cmp key_cmp q e.0) e.1 (find key_cmp q es) a (λ t. sym (find_tied key_cmp total q e.0 (equal_if _ t) es) ∙ first_alone key_cmp e es s) h
+
+-- each entry is found by its key
+pub find_there : (es : List (List ℤ × Numbers)) (i : ℕ) (d : List ℤ × Numbers) → Rises es → i < length es → find key_cmp (get_or es i d).0 es ≡ Some (get_or es i d).1
+find_there [] i d s h = absurd (omega (arith, h))
+find_there (e ∷ es) zero d s h = ap (λ r. cond (is_eq r) (Some e.1) (find key_cmp e.0 es)) (tied_itself total e.0)
+find_there (e ∷ es) (suc i) d s h = found_behind (get_or es i d).0 e es (get_or es i d).1 s (find_there es i d (rest_rises key_cmp e es s) (omega (arith, h)))
+
+pub get_there : (es : List (List ℤ × Numbers)) (k : List ℤ) (i : ℕ) (d : List ℤ × Numbers) → Rises es → i < length es → (get_or es i d).0 ≡ k → get (part_of es) k ≡ Some (get_or es i d).1
+get_there es k i d s h e = get-from_entries total es k ∙ ap (λ l. find key_cmp l es) (sym e) ∙ find_there es i d s h
+
+behind_gap : (x : List ℤ × Numbers) (es : List (List ℤ × Numbers)) (k : List ℤ) (i : ℕ) → IsGap (x ∷ es) k (suc i) → IsGap es k i
+behind_gap x es k i g = let w = g.within in record { within = omega (arith, w); below = λ j d l. g.below (suc j) d (omega (arith, l)); above = λ j d a b. g.above (suc j) d (omega (arith, a)) (omega (arith, b)) }
+
+before_gap : (x : List ℤ × Numbers) (es : List (List ℤ × Numbers)) (k : List ℤ) → IsGap (x ∷ es) k 0 → IsGap es k 0
+before_gap x es k g = record { within = omega arith; below = λ j d l. absurd (omega (arith, l)); above = λ j d a b. g.above (suc j) d (omega arith) (omega (arith, b)) }
+
+pub find_gap : (es : List (List ℤ × Numbers)) (k : List ℤ) (i : ℕ) → IsGap es k i → find key_cmp k es ≡ None
+find_gap [] k i g = refl
+find_gap (x ∷ es) k zero g = ap (λ r. cond (is_eq r) (Some x.1) (find key_cmp k es)) (turned_back x.0 k (g.above 0 x (omega arith) (omega arith))) ∙ find_gap es k zero (before_gap x es k g)
+find_gap (x ∷ es) k (suc i) g = ap (λ r. cond (is_eq r) (Some x.1) (find key_cmp k es)) (turned x.0 k (g.below 0 x (omega arith))) ∙ find_gap es k i (behind_gap x es k i g)
+
+pub get_gap : (es : List (List ℤ × Numbers)) (k : List ℤ) (i : ℕ) → IsGap es k i → get (part_of es) k ≡ None
+get_gap es k i g = get-from_entries total es k ∙ find_gap es k i g
+
+-- ---- writes
+
+pub set_put : (es : List (List ℤ × Numbers)) (k : List ℤ) (i : ℕ) (n : Numbers) (d : List ℤ × Numbers) → Rises es → i < length es → (get_or es i d).0 ≡ k → set es i (k, n) ≡ put key_cmp k n es
+set_put [] k i n d s h e = absurd (omega (arith, h))
+set_put (x ∷ es) k zero n d s h e =
+    ap (λ l. (l, n) ∷ es) (sym e)
+    ∙ ap (λ r. by_order r ((k, n) ∷ x ∷ es) ((x.0, n) ∷ es) (x ∷ put key_cmp k n es)) (sym (tied_itself total x.0) ∙ ap (λ l. key_cmp l x.0) e)
+set_put (x ∷ es) k (suc i) n d s h e =
+    ap (λ l. x ∷ l) (set_put es k i n d (rest_rises key_cmp x es s) (omega (arith, h)) e)
+    ∙ ap (λ r. by_order r ((k, n) ∷ x ∷ es) ((x.0, n) ∷ es) (x ∷ put key_cmp k n es)) (sym (turned x.0 k (ap (key_cmp x.0) (sym e) ∙ below_at x.0 es i d (T_parts _ _ s).0 (omega (arith, h)))))
+
+pub insert_put : (es : List (List ℤ × Numbers)) (k : List ℤ) (i : ℕ) (n : Numbers) → IsGap es k i → insert es i (k, n) ≡ put key_cmp k n es
+insert_put [] k zero n g = refl
+insert_put [] k (suc i) n g = let w = g.within in absurd (omega (arith, w))
+insert_put (x ∷ es) k zero n g = ap (λ r. by_order r ((k, n) ∷ x ∷ es) ((x.0, n) ∷ es) (x ∷ put key_cmp k n es)) (sym (turned_back x.0 k (g.above 0 x (omega arith) (omega arith))))
+insert_put (x ∷ es) k (suc i) n g = ap (λ l. x ∷ l) (insert_put es k i n (behind_gap x es k i g)) ∙ ap (λ r. by_order r ((k, n) ∷ x ∷ es) ((x.0, n) ∷ es) (x ∷ put key_cmp k n es)) (sym (turned x.0 k (g.below 0 x (omega arith))))
+
+pub put_part : (k : List ℤ) (n : Numbers) (es : List (List ℤ × Numbers)) → part_of (put key_cmp k n es) ≡ finite.insert (part_of es) k n
+put_part k n es = same_map total exact _ _ (λ q. get-from_entries total (put key_cmp k n es) q ∙ find-put key_cmp total q k n es
+    ∙ sym (get-insert total (part_of es) k n q ∙ ap (cond (eq_by_cmp key_cmp q k) (Some n)) (get-from_entries total es q)))
+
+pub put_rises : (k : List ℤ) (n : Numbers) (es : List (List ℤ × Numbers)) → Rises es → Rises (put key_cmp k n es)
+put_rises k n es s = is_sorted-put key_cmp total k n es s
+
+-- ---- two lists
+
+pub can_all : (es fs : List (List ℤ × Numbers)) → Rises es → Rises fs → CanMerge (part_of es) (part_of fs) → CanJoinAll es fs
+can_all es fs s t can = record { at = λ i j d e h l same. can.at (get_or es i d).0 _ _ (get_there es (get_or es i d).0 i d s h refl) (get_there fs (get_or es i d).0 j e t l (sym same)) }
+
+-- keys that are the same are so at each place
+pub same_at : (es fs : List (List ℤ × Numbers)) (i : ℕ) (d e : List ℤ × Numbers) → keys_of es ≡ keys_of fs → i < length es → (i < length fs) × ((get_or es i d).0 ≡ (get_or fs i e).0)
+same_at [] fs i d e h l = absurd (omega (arith, l))
+same_at (x ∷ es) [] i d e h l = cc
+same_at (x ∷ es) (y ∷ fs) zero d e h l = (omega arith, cc)
+same_at (x ∷ es) (y ∷ fs) (suc i) d e h l =
+    let rest : keys_of es ≡ keys_of fs = cc in
+    let w = same_at es fs i d e rest (omega (arith, l)) in
+    let low = w.0 in (omega (arith, low), w.1)
+
+-- ---- a key's entry, read and written
+
+pub read_at : (es : List (List ℤ × Numbers)) (k : List ℤ) (i : ℕ) (x : List ℤ × Numbers) → Rises es → IsAt es k i → x ≡ get_or es i x → get (part_of es) k ≡ Some x.1
+read_at es k i x s h e = get_there es k i x s h.within (h.at x) ∙ ap (λ (y : List ℤ × Numbers). Some y.1) (sym e)
+
+-- joined with more
+module _ (es : List (List ℤ × Numbers)) (k : List ℤ) (i : ℕ) (x n : List ℤ × Numbers) (v : Numbers) (s : Rises es) (h : IsAt es k i) (e : x ≡ get_or es i x) (f : n ≡ (x.0, join_numbers x.1 v)) where
+  wrote : set es i n ≡ put key_cmp k (join_numbers x.1 v) es
+  wrote = ap (set es i) (f ∙ ap (λ l. (l, join_numbers x.1 v)) (ap (λ (y : List ℤ × Numbers). y.0) e ∙ h.at x)) ∙ set_put es k i (join_numbers x.1 v) x s h.within (h.at x)
+
+  pub wrote_rises : Rises (set es i n)
+  wrote_rises = subst Rises (sym wrote) (put_rises k (join_numbers x.1 v) es s)
+
+  pub wrote_part : part_of (set es i n) ≡ with_row (part_of es) k v
+  wrote_part = ap part_of wrote ∙ put_part k (join_numbers x.1 v) es ∙ ap (λ o. finite.insert (part_of es) k (joined join_numbers o v)) (sym (read_at es k i x s h e))
+
+-- a new entry
+module _ (es : List (List ℤ × Numbers)) (k : List ℤ) (i : ℕ) (n : List ℤ × Numbers) (v : Numbers) (s : Rises es) (h : IsGap es k i) (f : n ≡ (k, v)) where
+  filled : insert es i n ≡ put key_cmp k v es
+  filled = ap (insert es i) f ∙ insert_put es k i v h
+
+  pub filled_rises : Rises (insert es i n)
+  filled_rises = subst Rises (sym filled) (put_rises k v es s)
+
+  pub filled_part : part_of (insert es i n) ≡ with_row (part_of es) k v
+  filled_part = ap part_of filled ∙ put_part k v es ∙ ap (λ o. finite.insert (part_of es) k (joined join_numbers o v)) (sym (get_gap es k i h))

@@ -1,0 +1,10 @@
+use Rattle.std.proofs.Common.{◌≡◌, ◌++◌, map, drop}
+use Rattle.saber_plan.specs.Texts.{Behind}
+use Rattle.saber_partial.specs.Printing.{lines_for}
+use Rattle.saber_partial.proofs.lines.write_groups.Given as goal
+
+abbrev pub invariant-loop-group : goal.invariant-loop-group
+invariant-loop-group l = record {
+  all : l.out.items ++ lines_for l.window l.items (map (λ e. e.1) (drop l.group-index l.groups)) ≡ l.fn.out.items ++ lines_for l.window l.items (map (λ e. e.1) l.groups);
+  behind : Behind l.fn.out.items l.out.items;
+}
