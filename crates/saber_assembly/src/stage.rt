@@ -4,7 +4,7 @@ ghost use Rattle.saber_io.specs.Outside.{Rose, appended, AppendsPrefix};
 ghost use Rattle.saber_io.specs.declared.outside.WriteFault.{WriteFault};
 
 use saber_fragment::Operator;
-use saber_io::{Sink, WriteFault};
+use saber_io::{Pour, Sink, WriteFault};
 use saber_laws::{
     cuts_rise, no_rows_give_nothing, no_tasks_no_rows, open_goes_on, shares_make_piece,
     text_goes_on,
@@ -213,5 +213,21 @@ impl<S: Drop, K: Sink> Stage<S, K> {
                 Absorbed::Stopped
             }
         }
+    }
+}
+
+impl<S: Drop, K: Pour> Stage<S, K> {
+    ghost use Rattle.std.specs.Prelude.{◌≡◌};
+    ghost use Rattle.saber_plan.specs.Tasks.{Parts};
+    ghost use Rattle.saber_assembly.specs.Stages.{seen};
+
+    /// Has its sink let go of what that holds back. Nothing that is seen of the stage changes.
+    pub fn pour(&mut self)
+        ensures store { self.new.store ≡ self.old.store }
+        ensures tasks { self.new.k ≡ self.old.k }
+        ensures state { self.new.state ≡ self.old.state }
+        ensures seen { (held : S → Parts) → seen held K.written K.faults self.new ≡ seen held K.written K.faults self.old }
+    {
+        self.sink.pour();
     }
 }

@@ -113,7 +113,10 @@ outcome s Fill = record s { filled = s.filled + 1; phases = s.phases ++ Ready âˆ
 outcome s (Claim seat task) = with_phase s task (Held seat)
 outcome s (Deposit seat task mark) = with_phase s task (Done mark)
 outcome s (Win seat) = record s { turn = Some (record { seat = seat; given = s.assembled; taken = false }) }
-outcome s (Take seat) = record s { turn = Some (record { seat = seat; given = given s; taken = true }); phases = slice_set s.phases 0 (Taken (is_marked (phase_at s (given s)))) }
+outcome s (Take seat) = record s {
+  turn = Some (record { seat = seat; given = given s; taken = true });
+  phases = slice_set s.phases 0 (Taken (is_marked (phase_at s (given s))));
+}
 outcome s (Give seat) = record s { turn = Some (record { seat = seat; given = given s + 1; taken = false }); phases = drop 1 s.phases }
 outcome s (Release seat) = record s { assembled = given s; turn = None }
 

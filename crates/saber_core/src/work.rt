@@ -43,7 +43,9 @@ pub trait Work {
 
     // A fill leaves the data of all earlier tasks. So a job or a turn that was handed out before
     // it still holds what its data say.
-    ghost keeps: { (told : Self.Told) (d k : ℕ) (rows : Self.Rows) → is_told told d → is_told (filled told rows) (d + 1) → is_rows (filled told rows) d rows → k ≤ d → upto (filled told rows) k ≡ upto told k };
+    ghost keeps: { (told : Self.Told) (d k : ℕ) (rows : Self.Rows)
+        → is_told told d → is_told (filled told rows) (d + 1) → is_rows (filled told rows) d rows → k ≤ d
+        → upto (filled told rows) k ≡ upto told k };
 
     // The first tasks of the first tasks are those of all. So what a seat knows of its task agrees
     // with what the ring knows of more tasks.

@@ -14,7 +14,7 @@ use Rattle.saber_ring.specs.Freeing.{IsSlid}
 use Rattle.saber_crew.specs.declared.feed.Fed.{Fed}
 use Rattle.saber_crew.specs.declared.feed.Over.{Over}
 use Rattle.saber_crew.specs.declared.feed.Over.TheVariants.{AllGiven}
-use Rattle.saber_crew.specs.Supplies.{Gives}
+use Rattle.saber_crew.specs.Supplies.{GivesRows}
 use Rattle.saber_crew.specs.Feeds.{Puts, BeginsFeed, FedAll, AreFirst, FedTo, AreFrees}
 
 module _ {T R : Type 0} (is_told : T → ℕ → Type 0) (filled : T → R → T) (upto : T → ℕ → T) (is_rows : T → ℕ → R → Type 0)
@@ -24,28 +24,34 @@ module _ {T R : Type 0} (is_told : T → ℕ → Type 0) (filled : T → R → T
   fed_none given None f = absurd f
   fed_none given (Some l) f = (f.0, refl, f.1, refl, f.2)
 
+  -- so many were given
+  pub given_so_far : (given : T → ℕ → Type 0) (d : ℕ) (o o' : Option (Lead T)) → FedAll is_told upto given d o o' → (told : T) × (n : ℕ) × given told n
+  given_so_far given d None o' e = absurd e
+  given_so_far given d (Some l) None e = absurd e
+  given_so_far given d (Some l) (Some m) e = (m.told, d, e.4)
+
   module _ (given given' : T → ℕ → Type 0) (d : ℕ) where
-    -- none was given
-    pub fed_all : (ended : Type 0) (fed : Fed) (o o' : Option (Lead T)) → FedAll is_told upto given d o o' → ((told : T) (n : ℕ) → given told n → Gives is_told filled is_rows given' told n None) → ended → fed.tasks ≡ d → FedTo is_told upto given' ended fed o o'
-    fed_all ended fed None o' e gives over is = absurd e
-    fed_all ended fed (Some l) None e gives over is = absurd e
-    fed_all ended fed (Some l) (Some m) e gives over is = (
+    -- none is given any more
+    pub fed_ended : (ended : Type 0) (fed : Fed) (o o' : Option (Lead T)) → FedAll is_told upto given d o o' → ((told : T) (n : ℕ) → given told n → given' told n) → (fed.over ≡ AllGiven → ended) → fed.tasks ≡ d → FedTo is_told upto given' ended fed o o'
+    fed_ended ended fed None o' e stay over is = absurd e
+    fed_ended ended fed (Some l) None e stay over is = absurd e
+    fed_ended ended fed (Some l) (Some m) e stay over is = (
       e.0 ∙ sym is,
       e.1,
       subst (is_told m.told) (sym is) e.2,
       record {
         told = m.told;
         count = d;
-        is_given = gives m.told d e.4;
+        is_given = stay m.told d e.4;
         known = e.2;
         base_is = e.3;
         data_is = sym (whole m.told d e.2) ∙ ap (upto m.told) (sym is);
         few = omega arith;
-        all = λ at. (is, over);
+        all = λ at. (is, over at);
       },
     )
 
-    module _ (r : R) (gives : (told : T) (n : ℕ) → given told n → Gives is_told filled is_rows given' told n (Some r)) where
+    module _ (r : R) (gives : (told : T) (n : ℕ) → given told n → GivesRows is_told filled is_rows given' told n r) where
       -- what was given is filled next
       pub fills_next : (o o' : Option (Lead T)) → FedAll is_told upto given d o o' → FillsNext is_told filled is_rows d r o' × (d < 4398046511104)
       fills_next None o' e = absurd e

@@ -1,16 +1,18 @@
 //! The first seat fills the ring.
-ghost use Rattle.std.specs.Prelude.{◌≡◌, ◌≢◌, ◌^◌, ◌<◌, ◌≤◌, ℕ, ◌+◌, true, false, None, length, IfSome};
+ghost use Rattle.std.specs.Prelude.{◌≡◌, ◌≢◌, ◌^◌, ◌<◌, ◌≤◌, ℕ, ◌+◌, true, false, None, length, IfSome, Err};
 ghost use Rattle.saber_ring.specs.Calls.{FillsNext, Covers};
 ghost use Rattle.saber_ring.specs.Words.{view, table, table_of, cells};
 ghost use Rattle.saber_workers.specs.Seats.{IsFree, OfBase, SameSeat};
 ghost use Rattle.saber_workers.specs.Hands.{IsInHand};
+ghost use Rattle.saber_crew.specs.Supplies.{GivesAtLast};
 ghost use Rattle.saber_crew.specs.Feeds.{Puts, BeginsFeed, FedTo};
 
-use crate::supply::Supply;
+use crate::supply::{Supplied, Supply};
 use saber_core::Work;
 use saber_io::Gate;
+use saber_pause::Pause;
 use saber_ring::{Fill, Frees, Ring, Seat};
-use saber_workers::{Hand, Labor, Pause, turn_of_work};
+use saber_workers::{Hand, Labor, turn_of_work};
 use std::alloc::Global;
 use std::collections::VecDeque;
 use std::sync::Wait;
@@ -72,6 +74,127 @@ where
     }
 }
 
+// A turn of work, and a pause where it found nothing to do. False where the stage is stopped.
+fn turn<W: Work, L: Labor<W>, G: Gate, R: Wait>(
+    rt: &R,
+    alloc: Global,
+    seat: &mut Seat<W>,
+    ring: &Ring<W>,
+    op: &L,
+    gate: &G,
+    stop: &AtomicBool,
+    hand: &mut Hand<W, L::Draft>,
+    idle: &mut Pause,
+) -> bool
+    requires own { table seat.old ≡ table_of ring.now }
+    requires free { IsFree (view seat.old) }
+    requires hand { IsInHand W.upto W.first (L.suits op.now) (L.has_blocks op.now) hand.old.held (view seat.old).job }
+    requires suits { OfBase (L.suits op.now) (view seat.old).base }
+    requires below { hand.old.cursor ≤ 2 ^ 42 }
+    ensures same { table seat.new ≡ table seat.old }
+    ensures kept { SameSeat (view seat.old) (view seat.new) }
+    ensures free { IsFree (view seat.new) }
+    ensures hand { IsInHand W.upto W.first (L.suits op.now) (L.has_blocks op.now) hand.new.held (view seat.new).job }
+    ensures below { hand.new.cursor ≤ 2 ^ 42 }
+    ensures seen { (view seat.old).seen ≤ (view seat.new).seen }
+    ensures stops { result ≡ false → (view seat.new).stopped ≡ true }
+{
+    let turned = turn_of_work(alloc, seat, ring, op, gate, hand);
+    if turned.stopped {
+        stop.store(true, Ordering::SeqCst);
+        return false;
+    }
+    if turned.claimed {
+        idle.reset();
+    } else {
+        idle.wait(rt);
+    }
+    true
+}
+
+// Turns of work where the supply has nothing yet: one, and more where another thread saw the stage stopped,
+// until this one sees it too. False where the stage is stopped.
+fn work_while_dry<W: Work, L: Labor<W>, G: Gate, R: Wait>(
+    rt: &R,
+    alloc: Global,
+    seat: &mut Seat<W>,
+    ring: &Ring<W>,
+    op: &L,
+    gate: &G,
+    stop: &AtomicBool,
+    hand: &mut Hand<W, L::Draft>,
+    idle: &mut Pause,
+) -> bool
+    requires own { table seat.old ≡ table_of ring.now }
+    requires free { IsFree (view seat.old) }
+    requires hand { IsInHand W.upto W.first (L.suits op.now) (L.has_blocks op.now) hand.old.held (view seat.old).job }
+    requires suits { OfBase (L.suits op.now) (view seat.old).base }
+    requires below { hand.old.cursor ≤ 2 ^ 42 }
+    ensures same { table seat.new ≡ table seat.old }
+    ensures kept { SameSeat (view seat.old) (view seat.new) }
+    ensures free { IsFree (view seat.new) }
+    ensures hand { IsInHand W.upto W.first (L.suits op.now) (L.has_blocks op.now) hand.new.held (view seat.new).job }
+    ensures below { hand.new.cursor ≤ 2 ^ 42 }
+    ensures seen { (view seat.old).seen ≤ (view seat.new).seen }
+    ensures stops { result ≡ false → (view seat.new).stopped ≡ true }
+{
+    for _ in rt.forever() {
+        if !turn(rt, alloc, seat, ring, op, gate, stop, hand, idle) {
+            return false;
+        }
+        if !stop.load(Ordering::SeqCst) {
+            return true;
+        }
+    }
+    unreachable!()
+}
+
+// The rows of the next task, with turns of work while the supply has none yet. An error says why none
+// come any more: the supply is over, or the stage is stopped.
+fn next_rows<W: Work, L: Labor<W>, G: Gate, P: Supply<W>, R: Wait>(
+    rt: &R,
+    alloc: Global,
+    seat: &mut Seat<W>,
+    ring: &Ring<W>,
+    op: &L,
+    gate: &G,
+    stop: &AtomicBool,
+    supply: &mut P,
+    from: &mut P::From,
+    hand: &mut Hand<W, L::Draft>,
+) -> Result<W::Rows, Over>
+    requires own { table seat.old ≡ table_of ring.now }
+    requires free { IsFree (view seat.old) }
+    requires hand { IsInHand W.upto W.first (L.suits op.now) (L.has_blocks op.now) hand.old.held (view seat.old).job }
+    requires suits { OfBase (L.suits op.now) (view seat.old).base }
+    requires below { hand.old.cursor ≤ 2 ^ 42 }
+    requires given { (told : W.Told) × (d : ℕ) × P.has_given supply.old from.old told d }
+    ensures same { table seat.new ≡ table seat.old }
+    ensures kept { SameSeat (view seat.old) (view seat.new) }
+    ensures free { IsFree (view seat.new) }
+    ensures hand { IsInHand W.upto W.first (L.suits op.now) (L.has_blocks op.now) hand.new.held (view seat.new).job }
+    ensures below { hand.new.cursor ≤ 2 ^ 42 }
+    ensures seen { (view seat.old).seen ≤ (view seat.new).seen }
+    ensures gives { (told : W.Told) (d : ℕ) → P.has_given supply.old from.old told d
+        → GivesAtLast W.is_told W.filled W.is_rows (P.has_given supply.new from.new) told d result }
+    ensures over { result ≡ Err Over.AllGiven → P.is_over supply.new }
+    ensures stops { result ≡ Err Over.Stopped → (view seat.new).stopped ≡ true }
+{
+    let mut idle = Pause::new();
+    for _ in rt.forever() {
+        match supply.next(from) {
+            Supplied::Rows(own) => return Ok(own),
+            Supplied::Over => return Err(Over::AllGiven),
+            Supplied::Dry => {
+                if !work_while_dry(rt, alloc, seat, ring, op, gate, stop, hand, &mut idle) {
+                    return Err(Over::Stopped);
+                }
+            }
+        }
+    }
+    unreachable!()
+}
+
 // Fills task t, with turns of work while the ring is full. False where the stage is stopped.
 fn put<W: Work, L: Labor<W>, G: Gate, R: Wait>(
     rt: &R,
@@ -112,15 +235,8 @@ where
             None => return true,
             Some(back) => {
                 rows = back;
-                let turned = turn_of_work(alloc, seat, ring, op, gate, hand);
-                if turned.stopped {
-                    stop.store(true, Ordering::SeqCst);
+                if !turn(rt, alloc, seat, ring, op, gate, stop, hand, &mut idle) {
                     return false;
-                }
-                if turned.claimed {
-                    idle.reset();
-                } else {
-                    idle.wait(rt);
                 }
             }
         }
@@ -237,7 +353,11 @@ where
         base: 0,
         list: VecDeque::new(alloc),
     };
-    while let Some(own) = supply.next(from) {
+    loop {
+        let own = match next_rows(rt, alloc, seat, ring, op, gate, stop, supply, from, hand) {
+            Ok(own) => own,
+            Err(over) => return Fed { tasks, over },
+        };
         let first = op.first(&own);
         // The task before was filled, so what is assembled is less than a ring behind it.
         let from = tasks.saturating_sub(ring.cells());
@@ -253,6 +373,4 @@ where
         }
         tasks += 1;
     }
-    let over = Over::AllGiven;
-    Fed { tasks, over }
 }

@@ -11,4 +11,4 @@ mod tests;
 
 pub use feed::{Fed, Over};
 pub use runs::run;
-pub use supply::Supply;
+pub use supply::{Supplied, Supply};

@@ -1,8 +1,19 @@
 //! Where the tasks of a work come from.
-ghost use Rattle.std.specs.Prelude.{◌≡◌, ◌+◌, ◌<◌, ◌^◌, ◌≤◌, ℕ, None};
+ghost use Rattle.std.specs.Prelude.{◌≡◌, ◌+◌, ◌<◌, ◌^◌, ◌≤◌, ℕ};
 ghost use Rattle.saber_crew.specs.Supplies.{Gives};
 
 use saber_core::Work;
+
+/// What a supply has for the next task.
+#[derive(Drop)]
+pub enum Supplied<R> {
+    /// Its rows.
+    Rows(R),
+    /// None yet. The tasks that were given stay, and more may come.
+    Dry,
+    /// None is left, or none can be given any more, for whatever reason.
+    Over,
+}
 
 /// Where the rows of a work's tasks come from, in the order of the tasks.
 pub trait Supply<W: Work> {
@@ -15,9 +26,9 @@ pub trait Supply<W: Work> {
     // None is left, or none can be given any more.
     ghost is_over: { Self → Type 0 };
 
-    /// The rows of the next task. None where none is left, or none can be given, for whatever reason.
-    fn next(&mut self, from: &mut Self::From) -> Option<W::Rows>
+    /// The rows of the next task, if they are there.
+    fn next(&mut self, from: &mut Self::From) -> Supplied<W::Rows>
         requires { (told : W.Told) × (d : ℕ) × has_given self.old from.old told d }
         ensures gives { (told : W.Told) (d : ℕ) → has_given self.old from.old told d → Gives W.is_told W.filled W.is_rows (has_given self.new from.new) told d result }
-        ensures over { result ≡ None → is_over self.new };
+        ensures over { result ≡ Supplied.Over → is_over self.new };
 }

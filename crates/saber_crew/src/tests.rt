@@ -5,7 +5,7 @@ ghost use Rattle.saber_crew.specs.Supplies.{Gives};
 ghost use Rattle.saber_crew.specs.Notes.{any_piece, any_stage, any_told, have_length, are_rows, next_of, Counts};
 ghost use Rattle.saber_ring.specs.Numbers.{again, keeps, whole, early, rises};
 
-use crate::{Over, Supply, run};
+use crate::{Over, Supplied, Supply, run};
 use saber_core::Work;
 use saber_io::OpenGate;
 use saber_plan::Sizes;
@@ -105,11 +105,13 @@ impl Labor<Noting> for Adding {
     }
 }
 
-// The rows of so many tasks.
+// The rows of so many tasks. One that waits is dry every second time.
 #[derive(Drop)]
 struct Numbers {
     next: u64,
     count: u64,
+    waits: bool,
+    is_dry: bool,
 }
 
 impl Supply<Noting> for Numbers {
@@ -119,17 +121,21 @@ impl Supply<Noting> for Numbers {
 
     ghost is_over = { λ s. s.count ≤ s.next };
 
-    fn next(&mut self, _from: &mut ()) -> Option<u64>
+    fn next(&mut self, _from: &mut ()) -> Supplied<u64>
         requires { (told : List ℕ) × (d : ℕ) × Counts self.old.next self.old.count told d }
         ensures gives { (told : List ℕ) (d : ℕ) → Counts self.old.next self.old.count told d → Gives have_length next_of are_rows (Counts self.new.next self.new.count) told d result }
-        ensures over { result ≡ None → self.new.count ≤ self.new.next }
+        ensures over { result ≡ Supplied.Over → self.new.count ≤ self.new.next }
     {
+        self.is_dry = self.waits && !self.is_dry;
+        if self.is_dry {
+            return Supplied::Dry;
+        }
         if self.next >= self.count {
-            return None;
+            return Supplied::Over;
         }
         let rows = self.next;
         self.next += 1;
-        Some(rows)
+        Supplied::Rows(rows)
     }
 }
 
@@ -148,11 +154,17 @@ fn run_tasks<R: Threads + Wait + Sync>(
     count: u64,
     ring: u32,
     threads: u32,
+    waits: bool,
 ) -> Result<Noted, AllocError>
     requires ring { (2 ≤ ring) × (ring ≤ 1024) }
     requires few { count ≤ 2 ^ 42 }
 {
-    let mut supply = Numbers { next: 0, count };
+    let mut supply = Numbers {
+        next: 0,
+        count,
+        waits,
+        is_dry: false,
+    };
     let sizes = Sizes {
         task: 1,
         ring,
@@ -189,7 +201,7 @@ fn pieces_come_in_the_order_of_tasks(rt: HostRuntime) -> Result<(), Fail> {
     for count in 0..7u64 {
         for ring in 2..5u32 {
             for threads in 0..5u32 {
-                let noted = run_tasks(&rt, rt.alloc(), 100, count, ring, threads)?;
+                let noted = run_tasks(&rt, rt.alloc(), 100, count, ring, threads, false)?;
                 assert_eq!(rt; noted.pieces.as_slice(), &all[..count as usize]);
                 assert_eq!(rt; (noted.tasks, noted.over), (count, Over::AllGiven));
             }
@@ -201,7 +213,21 @@ fn pieces_come_in_the_order_of_tasks(rt: HostRuntime) -> Result<(), Fail> {
 #[test]
 fn a_stage_that_stops_ends_the_run(rt: HostRuntime) -> Result<(), Fail> {
     for threads in 0..5u32 {
-        let noted = run_tasks(&rt, rt.alloc(), 2, 6, 2, threads)?;
+        let noted = run_tasks(&rt, rt.alloc(), 2, 6, 2, threads, false)?;
+        assert_eq!(rt; noted.pieces.as_slice(), [0, 1000].as_slice());
+        assert_eq!(rt; noted.over, Over::Stopped);
+    }
+    Ok(())
+}
+
+#[test]
+fn a_supply_that_is_dry_now_and_then_gives_all(rt: HostRuntime) -> Result<(), Fail> {
+    let all = [0, 1000, 2001, 3002, 4003, 5004];
+    for threads in 0..3u32 {
+        let noted = run_tasks(&rt, rt.alloc(), 100, 6, 2, threads, true)?;
+        assert_eq!(rt; noted.pieces.as_slice(), all.as_slice());
+        assert_eq!(rt; (noted.tasks, noted.over), (6, Over::AllGiven));
+        let noted = run_tasks(&rt, rt.alloc(), 2, 6, 2, threads, true)?;
         assert_eq!(rt; noted.pieces.as_slice(), [0, 1000].as_slice());
         assert_eq!(rt; noted.over, Over::Stopped);
     }

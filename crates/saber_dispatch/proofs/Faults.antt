@@ -48,6 +48,13 @@ fault_stops filled count end side f e = let same : Some (ReadFault side) ≡ Som
 pub fault_goes_on : (filled : Result (Unit {0}) End) (count : ℕ) (side : Side) → filled ≡ Err (ReadFault side) → stops filled count ≡ None → ⊥
 fault_goes_on filled count side f e = let same : Some (ReadFault side) ≡ None = sym (ap (λ r. stops r count) f) ∙ e in cc
 
+-- and so is want of memory
+pub lack_stops : (filled : Result (Unit {0}) End) (count : ℕ) (end : End) → filled ≡ Err NoMemory → stops filled count ≡ Some end → end ≡ NoMemory
+lack_stops filled count end f e = let same : Some NoMemory ≡ Some end = sym (ap (λ r. stops r count) f) ∙ e in cc
+
+pub lack_goes_on : (filled : Result (Unit {0}) End) (count : ℕ) → filled ≡ Err NoMemory → stops filled count ≡ None → ⊥
+lack_goes_on filled count f e = let same : Some NoMemory ≡ None = sym (ap (λ r. stops r count) f) ∙ e in cc
+
 pub fault_ended : (filled : Result (Unit {0}) End) (side : Side) → ended_by filled ≡ Some (ReadFault side) → filled ≡ Err (ReadFault side)
 fault_ended (Ok u) side e = absurd (none_some e) where
   none_some : ◌≡◌ {A = Option End} None (Some (ReadFault side)) → ⊥
@@ -56,6 +63,19 @@ fault_ended (Err end) side e = let same : end ≡ ReadFault side = cc in ap (λ 
 
 pub all_not_fault : (side : Side) → ◌≡◌ {A = Option End} (Some AllRead) (Some (ReadFault side)) → ⊥
 all_not_fault side e = cc
+
+-- nor is a task that is too wide, or want of memory, that all is read, or a fault
+pub wide_not_all : (task needs : ℕ) (end : End) → end ≡ TooWide task needs → ◌≡◌ {A = Option End} (Some end) (Some AllRead) → ⊥
+wide_not_all task needs end w e = cc
+
+pub wide_not_fault : (task needs : ℕ) (end : End) (side : Side) → end ≡ TooWide task needs → ◌≡◌ {A = Option End} (Some end) (Some (ReadFault side)) → ⊥
+wide_not_fault task needs end side w e = cc
+
+pub lack_not_all : ◌≡◌ {A = Option End} (Some NoMemory) (Some AllRead) → ⊥
+lack_not_all e = cc
+
+pub lack_not_fault : (side : Side) → ◌≡◌ {A = Option End} (Some NoMemory) (Some (ReadFault side)) → ⊥
+lack_not_fault side e = cc
 
 -- a fault is told at once
 pub fault_told : (flush : Bool) (count : ℕ) (ended : Option End) (side : Side) → told_end flush count ended ≡ Some (ReadFault side) → ended ≡ Some (ReadFault side)

@@ -5,3 +5,8 @@ pub mod Cutting
 pub mod Telling
 pub mod Supplying
 pub mod Leaving
+pub mod Closing
+pub mod FedReadings
+pub mod FedFilling
+pub mod Feeding
+pub mod FeedLaws

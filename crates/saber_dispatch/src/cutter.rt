@@ -12,10 +12,12 @@ ghost use Rattle.saber_fragment.specs.declared.blocks.Block.{Block};
 ghost use Rattle.saber_dispatch.specs.declared.cutter.Cut.{Cut};
 ghost use Rattle.saber_dispatch.specs.Sources.{Lefts, each_input, RoseAt, NoneFell};
 ghost use Rattle.saber_dispatch.specs.Filling.{keeps};
-ghost use Rattle.saber_dispatch.specs.Cutting.{Behind, LooksBack, NotesOn, Filled, Cuts, CutTo, CutsOn, CutsNothing, too_wide, ended_by, stops, is_due, end_of};
+ghost use Rattle.saber_dispatch.specs.Cutting.{Behind, LooksBack, NotesOn, Filled, Cuts, CutTo, CutsOn, CutsNothing, fresh, too_wide, ended_by, stops, is_due, end_of};
+ghost use Rattle.saber_dispatch.specs.Readings.{reading_of};
+ghost use Rattle.saber_dispatch.specs.Closing.{EndStays};
 ghost use Rattle.saber_plan.specs.Trees.{tree_of};
 ghost use Rattle.saber_plan.specs.Checked.{IsChecked};
-ghost use Rattle.saber_plan.specs.Sizes.{SizesFit};
+ghost use Rattle.saber_plan.specs.Sizes.{SizesFit, limits_of};
 
 use crate::ends::End;
 use crate::fill::fill;
@@ -36,21 +38,21 @@ use std::alloc::Global;
 /// inputs each time.
 #[derive(Drop)]
 pub struct Cutter {
-    alloc: Global,
-    reader: Reader,
+    pub(crate) alloc: Global,
+    pub(crate) reader: Reader,
     // of a query that joins two streams
     lasts: Option<Lasts>,
     // rows of a block
-    size: usize,
+    pub(crate) size: usize,
     // how many blocks a task may need
     room: u64,
     // whether a block for the input's end follows, once all rows are in blocks
     flush: bool,
-    mark: Mark,
+    pub(crate) mark: Mark,
     // the next block's
     number: u64,
     // why no more rows come
-    ended: Option<End>,
+    pub(crate) ended: Option<End>,
 }
 
 /// What a call of a cutter comes to.
@@ -107,7 +109,7 @@ fn too_wide(task: u64, first: u64, room: u64) -> Option<End>
 }
 
 // Why no block follows the one that was filled so.
-fn ended_by(filled: Result<(), End>) -> Option<End>
+pub(crate) fn ended_by(filled: Result<(), End>) -> Option<End>
     ensures { result ≡ ended_by filled }
 {
     match filled {
@@ -130,7 +132,7 @@ fn keeps(end: End) -> bool
 }
 
 // The end that comes in place of a block of so many rows, which was filled so.
-fn stops(filled: Result<(), End>, count: usize) -> Option<End>
+pub(crate) fn stops(filled: Result<(), End>, count: usize) -> Option<End>
     ensures { result ≡ stops filled count }
 {
     match filled {
@@ -167,6 +169,8 @@ impl Cutter {
         requires sizes { SizesFit sizes.now }
         ensures cuts { IfOk result (CutsNothing (tree_of plan.now) sizes.now) }
         ensures goes { IfOk result (λ c. end_of c ≡ None) }
+        ensures fresh { IfOk result (λ c. reading_of c.reader ≡ fresh (tree_of plan.now) (limits_of sizes.now)) }
+        ensures unended { IfOk result (λ c. c.ended ≡ None) }
     {
         checked_fit();
         readers_stand();
@@ -191,10 +195,11 @@ impl Cutter {
     }
 
     // The block of these rows, which were read.
-    fn put_block(&mut self, before: Mark, rows: Rows) -> Cut
+    pub(crate) fn put_block(&mut self, before: Mark, rows: Rows) -> Cut
         requires { (q : Tree) × (s : Sizes) × (had : Lefts) × (has : Lefts) × (xs : List Row) × Filled q s had has self.old xs before rows }
         ensures cuts { (q : Tree) (s : Sizes) (had has : Lefts) (xs : List Row) → Filled q s had has self.old xs before rows → CutTo result q s had has self.new (going_on xs) }
         ensures same { (b : Block) → result ≡ Cut.Block b → self.new.ended ≡ self.old.ended }
+        ensures stays { EndStays self.old self.new }
         ensures read { (side : Side) → result ≢ Cut.Ended (End.ReadFault side) }
     {
         needs_stay();
@@ -225,6 +230,7 @@ impl Cutter {
         requires cuts { (q : Tree) × (s : Sizes) × (had : Lefts) × (has : Lefts) × (r : Input) × Cuts q s had has self.old r }
         ensures cuts { (q : Tree) (s : Sizes) (had has : Lefts) (r : Input) → Cuts q s had has self.old r → CutTo result q s had has self.new r }
         ensures all { (b : Block) → result ≡ Cut.Block b → self.new.ended ≡ Some End.AllRead }
+        ensures stays { EndStays self.old self.new }
         ensures read { (side : Side) → result ≢ Cut.Ended (End.ReadFault side) }
     {
         needs_stay();
@@ -246,11 +252,12 @@ impl Cutter {
     }
 
     // What comes where no more rows do: the block of the input's end, if it is due, else why.
-    fn stop_at(&mut self, end: End) -> Cut
+    pub(crate) fn stop_at(&mut self, end: End) -> Cut
         requires ended { self.old.ended ≡ Some end }
         requires cuts { (q : Tree) × (s : Sizes) × (had : Lefts) × (has : Lefts) × (r : Input) × Cuts q s had has self.old r }
         ensures cuts { (q : Tree) (s : Sizes) (had has : Lefts) (r : Input) → Cuts q s had has self.old r → CutTo result q s had has self.new r }
         ensures all { (b : Block) → result ≡ Cut.Block b → self.new.ended ≡ Some End.AllRead }
+        ensures stays { EndStays self.old self.new }
         ensures read { (side : Side) → result ≡ Cut.Ended (End.ReadFault side) → end ≡ End.ReadFault side }
         ensures again { is_due self.old.flush self.old.number end ≡ false → (result ≡ Cut.Ended end) × (self.new ≡ self.old) }
     {

@@ -18,7 +18,7 @@ use saber_plan::{
 use std::alloc::Global;
 use std::test::Fail;
 
-const LEFT: &[u8] = b"0,5\n1,9\n4,1\n";
+pub(crate) const LEFT: &[u8] = b"0,5\n1,9\n4,1\n";
 
 const RIGHT: &[u8] = b"0,7\n3,6\n8,0\n";
 
@@ -50,7 +50,7 @@ fn join(alloc: Global) -> Result<Plan, NoMemory>
 }
 
 // Counts the rows of each window of one stream.
-fn group(alloc: Global) -> Result<Plan, NoMemory>
+pub(crate) fn group(alloc: Global) -> Result<Plan, NoMemory>
     ensures checked { IfOk result (λ p. IsChecked (tree_of p)) }
     ensures one { IfOk result (λ p. (a : Stream) × ((tree_of p).streams ≡ a ∷ [])) }
 {
@@ -59,7 +59,7 @@ fn group(alloc: Global) -> Result<Plan, NoMemory>
     Ok(Plan::new(Shape::Group, streams, items, Vec::new(alloc), None))
 }
 
-fn time_of(row: &Row) -> i64 {
+pub(crate) fn time_of(row: &Row) -> i64 {
     row.values.as_slice().first().copied().unwrap_or(-1)
 }
 
@@ -117,7 +117,7 @@ fn see_all<S: Source>(
     Ok(seen)
 }
 
-fn sizes(task: u32, ring: u32, flush: bool) -> Sizes
+pub(crate) fn sizes(task: u32, ring: u32, flush: bool) -> Sizes
     requires some_task { 1 ≤ task }
     requires few_task { task ≤ 2 ^ 16 }
     requires some_ring { 1 ≤ ring }

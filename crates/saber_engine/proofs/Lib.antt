@@ -1,5 +1,10 @@
 mod Counts
 mod Supplied
 mod Assembled
+mod Reaches
+mod Comings
 mod Results
 mod Starting
+mod FedSupplied
+mod FedResults
+mod Shapes

@@ -15,7 +15,7 @@ use Rattle.saber_dispatch.specs.declared.cutter.Cut.TheVariants as cuts
 use Rattle.saber_dispatch.specs.Sources.{Lefts, RoseAt, NoneFell}
 use Rattle.saber_dispatch.specs.Cutting.{CutTo, CutsOn, end_of}
 use Rattle.saber_dispatch.specs.Supplying.{BlocksAreSupplied}
-use Rattle.saber_crew.specs.Supplies.{Gives}
+use Rattle.saber_crew.specs.Supplies.{GivesRows}
 use Rattle.saber_engine.specs.Supplying.{HasGiven}
 use Rattle.saber_engine.proofs.Counts.{none_same, few_blocks, next_count}
 
@@ -48,7 +48,7 @@ module _ {O : Type 0} (plan : O → Tree) (s : Sizes) (had left has : Lefts) (be
   same_before = h.counted.good (λ side e. none_some (ReadFault side) (sym open_still ∙ e))
 
   -- the next task's block came
-  pub block_given : BlocksAreSupplied plan → (b : Block) → cut ≡ cuts.Block b → Gives (IsTold plan) with_block (IsBlockOf plan) (HasGiven plan s had has before now new end) told d (Some b)
+  pub block_given : BlocksAreSupplied plan → (b : Block) → cut ≡ cuts.Block b → GivesRows (IsTold plan) with_block (IsBlockOf plan) (HasGiven plan s had has before now new end) told d b
   block_given law b e =
       let q : Tree = plan told.operator in
       let to : CutTo (cuts.Block b) q s had has new (input_of told) = subst (λ z. CutTo z q s had has new (input_of told)) e (called.on q s had (input_of told) h.cuts) in

@@ -2,3 +2,5 @@ pub mod Sources
 pub mod Gives
 pub mod Endings
 pub mod Supplying
+pub mod FedRuns
+pub mod FedSupplying

@@ -1,5 +1,5 @@
 // The blocks of a query's inputs, as the tasks of a run.
-ghost use Rattle.std.specs.Prelude.{◌≡◌, ℕ, List, [], None, IsSome, false};
+ghost use Rattle.std.specs.Prelude.{◌≡◌, ℕ, List, [], IsSome, false};
 ghost use Rattle.saber_plan.specs.declared.sizes.Sizes.{Sizes};
 ghost use Rattle.saber_assembly.specs.declared.work.Told.{Told};
 ghost use Rattle.saber_assembly.specs.Works.{IsTold, with_block, IsBlockOf};
@@ -8,7 +8,7 @@ ghost use Rattle.saber_crew.specs.Supplies.{Gives};
 ghost use Rattle.saber_engine.specs.Supplying.{HasGiven};
 
 use saber_assembly::SaberWork;
-use saber_crew::Supply;
+use saber_crew::{Supplied, Supply};
 use saber_dispatch::{Cut, Cutter, End, Inputs, blocks_are_supplied};
 use saber_fragment::{Block, Operator};
 use saber_io::{Sink, Source};
@@ -49,20 +49,20 @@ impl<S: Source, J: Begins, O: Operator, K: Sink> Supply<SaberWork<O, K>> for Blo
 
     ghost is_over = { λ blocks. IsSome blocks.end };
 
-    fn next(&mut self, from: &mut Inputs<S>) -> Option<Block>
+    fn next(&mut self, from: &mut Inputs<S>) -> Supplied<Block>
         requires { (told : Told O) × (d : ℕ) × HasGiven O.plan J.sizes J.lefts (each_input S.left from.old) J.faults (each_input S.faults from.old) self.old.cutter self.old.end told d }
         ensures gives { (told : Told O) (d : ℕ) → HasGiven O.plan J.sizes J.lefts (each_input S.left from.old) J.faults (each_input S.faults from.old) self.old.cutter self.old.end told d
             → Gives (IsTold O.plan) with_block (IsBlockOf O.plan) (HasGiven O.plan J.sizes J.lefts (each_input S.left from.new) J.faults (each_input S.faults from.new) self.new.cutter self.new.end) told d result }
-        ensures over { result ≡ None → IsSome self.new.end }
+        ensures over { result ≡ Supplied.Over → IsSome self.new.end }
     {
         blocks_are_supplied::<O>();
         match self.end {
-            Some(_) => None,
+            Some(_) => Supplied::Over,
             None => match self.cutter.next_block(from) {
-                Cut::Block(block) => Some(block),
+                Cut::Block(block) => Supplied::Rows(block),
                 Cut::Ended(end) => {
                     self.end = Some(end);
-                    None
+                    Supplied::Over
                 }
             },
         }

@@ -4,11 +4,15 @@
 
 mod blocks;
 mod ends;
+mod fed_blocks;
+mod fed_engine;
+mod fed_plans;
 mod plans;
 mod run_engine;
 
 pub use ends::{Ran, RunEnd};
-pub use run_engine::engine;
+pub use fed_engine::engine_fed;
+pub use run_engine::{engine, engine_pouring};
 pub use saber_dispatch::Inputs;
 
 #[cfg(test)]

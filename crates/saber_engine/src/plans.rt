@@ -15,7 +15,7 @@ use saber_assembly::{SaberWork, Stage};
 use saber_crew::{Over, run};
 use saber_dispatch::{Cutter, Inputs, blocks_are_tasks, faults_leave_whole_tasks};
 use saber_fragment::Operator;
-use saber_io::{Gate, Sink, Source};
+use saber_io::{Gate, Pour, Source};
 use saber_laws::{checked_fit, first_of_first, no_rows_give_nothing, no_tasks_no_rows};
 use saber_plan::{Plan, Sizes};
 use std::alloc::Global;
@@ -27,7 +27,7 @@ use std::thread::Threads;
 pub(crate) fn run_plan<
     S: Source,
     O: Operator + Send + Sync,
-    K: Sink + Send,
+    K: Pour + Send,
     G: Gate + Sync,
     J: Begins,
     R: Threads + Wait + Sync,

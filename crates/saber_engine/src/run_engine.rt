@@ -13,7 +13,7 @@ use crate::ends::{Ran, RunEnd};
 use crate::plans::run_plan;
 use saber_dispatch::Inputs;
 use saber_group::Group;
-use saber_io::{Gate, Sink, Source};
+use saber_io::{Gate, Plain, Pour, Sink, Source};
 use saber_join::Join;
 use saber_plan::{Plan, Shape, Sizes};
 use saber_select::Select;
@@ -24,8 +24,9 @@ use std::thread::Threads;
 
 /// Runs a checked plan over its inputs: cuts the rows into tasks of `sizes.task` rows, has the piece of
 /// each made by this thread and `sizes.threads` others round a ring of `sizes.ring` cells, and assembles
-/// the pieces in order; the text of each task goes out in one write.
-pub fn engine<S: Source, K: Sink + Send, G: Gate + Sync, R: Threads + Wait + Sync>(
+/// the pieces in order; the text of each task goes out in one write. The sink may hold back what was
+/// written: it is told to let that go as each task is assembled.
+pub fn engine_pouring<S: Source, K: Pour + Send, G: Gate + Sync, R: Threads + Wait + Sync>(
     rt: &R,
     alloc: Global,
     plan: &Plan,
@@ -77,4 +78,46 @@ pub fn engine<S: Source, K: Sink + Send, G: Gate + Sync, R: Threads + Wait + Syn
             )
         }
     }
+}
+
+/// The same into a sink that holds nothing back.
+pub fn engine<S: Source, K: Sink + Send, G: Gate + Sync, R: Threads + Wait + Sync>(
+    rt: &R,
+    alloc: Global,
+    plan: &Plan,
+    inputs: &mut Inputs<S>,
+    sink: K,
+    sizes: &Sizes,
+    gate: &G,
+) -> Ran<K>
+    requires checked { IsChecked (tree_of plan.now) }
+    requires inputs { length (each_input S.left inputs.old) ≡ length (tree_of plan.now).streams }
+    requires sizes { SizesFit sizes.now }
+
+    // What goes out is the text of the first tasks' rows; with all read, or a line refused, of all tasks, and of those before one
+    // that is too wide for the ring.
+    ensures gives { (out : List ℕ) × (K.written result.sink ≡ appended (K.written sink) out)
+        × IfSome (told_by S.left inputs.old) (λ files. Gives (tree_of plan.now) sizes.now.task sizes.now.ring sizes.now.flush (input_of (tree_of plan.now) (limits_of sizes.now) files) result.end result.tasks out) }
+
+    // A fault of reading leaves at least every whole task assembled of what was taken.
+    ensures whole { (side : Side) → result.end ≡ RunEnd.ReadFault side → ReadsWhole (tree_of plan.now) sizes.now.task (limits_of sizes.now) result.tasks (each_input S.left inputs.old) (each_input S.left inputs.new) }
+
+    // What inputs have left are ends of what they had.
+    ensures takes { (taken : List (List ℕ)) × GaveAll (each_input S.left inputs.old) taken (each_input S.left inputs.new) }
+
+    // Faults are real, none is passed over, and no count falls.
+    ensures read { (side : Side) → result.end ≡ RunEnd.ReadFault side → RoseAt side (each_input S.faults inputs.old) (each_input S.faults inputs.new) }
+    ensures write { result.end ≡ RunEnd.WriteFault → Rose (K.faults sink) (K.faults result.sink) }
+    ensures read_good { IsClean result.end → each_input S.faults inputs.new ≡ each_input S.faults inputs.old }
+    ensures write_good { result.end ≢ RunEnd.WriteFault → K.faults result.sink ≡ K.faults sink }
+    ensures reads { NoneFell (each_input S.faults inputs.old) (each_input S.faults inputs.new) }
+    ensures writes { K.faults sink ≤ K.faults result.sink }
+{
+    let ran = engine_pouring(rt, alloc, plan, inputs, Plain { sink }, sizes, gate);
+    let Ran {
+        end,
+        sink: Plain { sink },
+        tasks,
+    } = ran;
+    Ran { end, sink, tasks }
 }

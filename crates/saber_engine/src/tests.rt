@@ -5,7 +5,7 @@ ghost use Rattle.saber_plan.specs.Trees.{tree_of};
 ghost use Rattle.saber_plan.specs.Checked.{IsChecked, WindowFits};
 
 use super::*;
-use saber_io::{MemSink, MemSource, OpenGate};
+use saber_io::{EndMark, MemFeed, MemSink, MemSource, OpenGate};
 use saber_plan::{
     Expr, Item, Measure, NoMemory, Plan, RowCause, Shape, Side, Sizes, Stream, Window,
 };
@@ -120,6 +120,30 @@ fn run_two<R: Threads + Wait + Sync>(
     let mut inputs = Inputs::Two(source(alloc, LEFT)?, source(alloc, RIGHT)?);
     let sink = MemSink::new(alloc, Vec::new(alloc));
     Ok(engine(rt, alloc, &plan, &mut inputs, sink, sizes, &OpenGate))
+}
+
+// A run over a feed that takes so many bytes at a time at most, and finds nothing every second time.
+fn run_feed<R: Threads + Wait + Sync>(
+    rt: &R,
+    alloc: Global,
+    plan: &Plan,
+    text: &str,
+    step: usize,
+    end: EndMark,
+    sizes: &Sizes,
+) -> Result<Ran<MemSink>, NoMemory>
+    requires checked { IsChecked (tree_of plan.now) }
+    requires one { length (tree_of plan.now).streams ≡ 1 }
+    requires task { (1 ≤ sizes.now.task) × (sizes.now.task ≤ 2 ^ 16) }
+    requires ring { (1 ≤ sizes.now.ring) × (sizes.now.ring ≤ 2 ^ 10) }
+    requires threads { sizes.now.threads ≤ 64 }
+    requires lines { sizes.now.max_lines ≡ 2 ^ 40 }
+    requires slack { sizes.now.slack ≡ 0 }
+{
+    let bytes = text.as_bytes().to_vec(alloc)?;
+    let mut feed = MemFeed::new(bytes, step, end);
+    let sink = MemSink::new(alloc, Vec::new(alloc));
+    Ok(engine_fed(rt, alloc, plan, &mut feed, sink, sizes, &OpenGate))
 }
 
 #[test]
@@ -238,6 +262,57 @@ fn joins_of_two_files(rt: HostRuntime) -> Result<(), Fail> {
         let ran = run_two(&rt, alloc, &sizes(6, 1, threads, false))?;
         assert_eq!(rt; (ran.end, ran.tasks), (RunEnd::AllRead, 1));
         assert_eq!(rt; ran.sink.bytes(), b"0,0\n0,0\n0,0\n0,0\n".as_slice());
+    }
+    Ok(())
+}
+
+// The same rows as of a file, however few bytes come at a time.
+#[test]
+fn a_feed_gives_what_a_file_gives(rt: HostRuntime) -> Result<(), Fail> {
+    let alloc = rt.alloc();
+    let rows = counts(alloc, ROWS)?;
+    let range = counts(alloc, RANGE)?;
+    for twice in 0..2u32 {
+        for step in 1..9usize {
+            let by = sizes(2, 2, 2 * twice, false);
+            let ran = run_feed(&rt, alloc, &rows, FIVE, step, EndMark::End, &by)?;
+            assert_eq!(rt; (ran.end, ran.tasks), (RunEnd::AllRead, 3));
+            assert_eq!(rt; ran.sink.bytes(), b"0,2\n1,2\n".as_slice());
+            let ran = run_feed(&rt, alloc, &range, FIVE, step, EndMark::End, &by)?;
+            assert_eq!(rt; (ran.end, ran.tasks), (RunEnd::AllRead, 3));
+            assert_eq!(rt; ran.sink.bytes(), b"0,4\n1,2\n".as_slice());
+            let by = sizes(2, 3, 2 * twice, true);
+            let ran = run_feed(&rt, alloc, &rows, FIVE, step, EndMark::End, &by)?;
+            assert_eq!(rt; (ran.end, ran.tasks), (RunEnd::AllRead, 4));
+            assert_eq!(rt; ran.sink.bytes(), b"0,2\n1,2\n2,1\n".as_slice());
+        }
+    }
+    Ok(())
+}
+
+// The third line stands in a task that isn't whole, and the fourth has no end.
+#[test]
+fn a_feed_that_is_cut_off_leaves_whole_tasks(rt: HostRuntime) -> Result<(), Fail> {
+    let alloc = rt.alloc();
+    let rows = counts(alloc, ROWS)?;
+    for twice in 0..2u32 {
+        for step in 1..9usize {
+            let by = sizes(2, 2, 2 * twice, true);
+            let text = "0,1,10\n1,1,20\n2,2,5\n2,1";
+            let ran = run_feed(&rt, alloc, &rows, text, step, EndMark::Cut, &by)?;
+            let end = RunEnd::ReadFault { side: Side::Left };
+            assert_eq!(rt; (ran.end, ran.tasks), (end, 1));
+            assert_eq!(rt; ran.sink.bytes(), b"0,2\n".as_slice());
+            let text = "0,1,10\n1,1,20\n0,1,1\n2,2,5\n";
+            let ran = run_feed(&rt, alloc, &rows, text, step, EndMark::Cut, &by)?;
+            let end = RunEnd::Bad {
+                side: Side::Left,
+                line: 3,
+                cause: RowCause::TimeOrder,
+            };
+            assert_eq!(rt; (ran.end, ran.tasks), (end, 1));
+            assert_eq!(rt; ran.sink.bytes(), b"0,2\n".as_slice());
+        }
     }
     Ok(())
 }

@@ -34,7 +34,8 @@ pub record IsFed (q : Tree) (n : ℕ) (r : Input) (t : ℕ) : Type 0 where
   pub can : (u : ℕ) (b : Block) → free q n r t ≤ u → u + 1 ≤ t → IsBlock q n r u b → CanFeed q (sight_to q n r t u) b
   pub goes_on : (u : ℕ) (b : Block) → free q n r t ≤ u → u + 1 ≤ t → IsBlock q n r u b → fed (sight_to q n r t u) b ≡ sight_to q n r t (u + 1)
   pub ends : IsWhole q (sight_to q n r t t)
-  pub gives : shares_here q (sight_to q n r t t).first (sight_to q n r t t).back (task_rows n r t) (task_ends n r t) ≡ shares_between q r (cut n r t) (cut n r (t + 1))
+  pub gives : shares_here q (sight_to q n r t t).first (sight_to q n r t t).back (task_rows n r t) (task_ends n r t)
+      ≡ shares_between q r (cut n r t) (cut n r (t + 1))
 
 abbrev pub BlocksFeedTasks : Type 0
 BlocksFeedTasks = (q : Tree) (n : ℕ) (r : Input) (t : ℕ) → 1 ≤ n → Fits (frame q) → RowsFit q no_rows r.rows → IsFed q n r t

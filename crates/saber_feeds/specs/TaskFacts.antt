@@ -52,10 +52,15 @@ module _ (xs ys : List Row) (ended : Bool) where
   at_first = λ j. record { rows = take-append_seam xs ys j; ended = not_yet ended (length (xs ++ ys)) (length xs) (let l = long in omega (arith, l)) j }
 
   pub at_last : arrived (with_task xs ys ended) (end_of xs ys ended) ≡ with_task xs ys ended
-  at_last = λ j. record { rows = take_all (end_of xs ys ended) (xs ++ ys) (far ended (length (xs ++ ys)) (length xs) (length ys) long) j; ended = comes ended (length (xs ++ ys)) (end_of xs ys ended) (ap (λ n. n + cond ended 1 0) long) j }
+  at_last = λ j. record {
+    rows = take_all (end_of xs ys ended) (xs ++ ys) (far ended (length (xs ++ ys)) (length xs) (length ys) long) j;
+    ended = comes ended (length (xs ++ ys)) (end_of xs ys ended) (ap (λ n. n + cond ended 1 0) long) j;
+  }
 
   pub own_rows : slice_range (xs ++ ys) (length xs) (end_of xs ys ended) ≡ ys
-  own_rows = ap (take (end_of xs ys ended - length xs)) (drop-append_seam xs ys) ∙ take_all (end_of xs ys ended - length xs) ys (enough ended (length xs) (length ys))
+  own_rows =
+      ap (take (end_of xs ys ended - length xs)) (drop-append_seam xs ys)
+      ∙ take_all (end_of xs ys ended - length xs) ys (enough ended (length xs) (length ys))
 
   -- what the task gives, by its own rows alone
   pub local_shares : SharesAreLocal → (q : Tree) → Fits (frame q) → q.shape ≢ Join → (m : Mark) → m ≡ mark_of xs → RowsFit q no_rows (xs ++ ys)
@@ -64,10 +69,13 @@ module _ (xs ys : List Row) (ended : Bool) where
       let r = with_task xs ys ended in
       let mark : m ≡ mark_at r (length xs) = before ∙ ap last_mark (sym at_first) in
       let ends : ended ≡ (arrived r (end_of xs ys ended)).ended = ap (λ u. u.ended) (sym at_last) in
-      (λ j. shares_here q (mark j) [] (sym own_rows j) (ends j)) ∙ local q r (length xs) (end_of xs ys ended) (record { fits = w; ordered = fits.ordered; rises = reaches ended (length xs) (length ys) }) no_join
+      (λ j. shares_here q (mark j) [] (sym own_rows j) (ends j))
+      ∙ local q r (length xs) (end_of xs ys ended)
+      (record { fits = w; ordered = fits.ordered; rises = reaches ended (length xs) (length ys) }) no_join
 
   -- a store that has taken in the rows before the task can take the task in
-  pub task_follows : (q : Tree) → Fits (frame q) → (m : Mark) → m ≡ mark_of xs → RowsFit q no_rows (xs ++ ys) → (parts : Parts) (s : Shares) (taken : Input → Type 0) (of : Mark → List Row → Bool → Type 0)
+  pub task_follows : (q : Tree) → Fits (frame q) → (m : Mark) → m ≡ mark_of xs → RowsFit q no_rows (xs ++ ys)
+      → (parts : Parts) (s : Shares) (taken : Input → Type 0) (of : Mark → List Row → Bool → Type 0)
       → parts ≡ unclosed q (going_on xs) → taken (going_on xs) → s ≡ shares_between q (with_task xs ys ended) (length xs) (end_of xs ys ended) → of m ys ended
       → Follows q parts s taken of (with_task xs ys ended) (length xs) (end_of xs ys ended)
   task_follows q w m before fits parts s taken of held is_taken shares is_of =
@@ -81,13 +89,18 @@ module _ (xs ys : List Row) (ended : Bool) where
         unclosed_is = held ∙ ap (unclosed q) (sym at_first);
         shares_are = shares;
         taken_is = subst taken (sym at_first) is_taken;
-        of_is = subst (λ (a : Mark). of a (slice_range (xs ++ ys) (length xs) (end_of xs ys ended)) (arrived r (end_of xs ys ended)).ended) mark (subst (λ l. of m l (arrived r (end_of xs ys ended)).ended) (sym own_rows) (subst (λ b. of m ys b) ends is_of));
+        of_is = subst (λ (a : Mark). of a (slice_range (xs ++ ys) (length xs) (end_of xs ys ended)) (arrived r (end_of xs ys ended)).ended) mark
+            (subst (λ l. of m l (arrived r (end_of xs ys ended)).ended) (sym own_rows) (subst (λ b. of m ys b) ends is_of));
       }
 
   -- and then it holds what they leave open together
-  pub task_leaves : SharesMakePiece → OpenGoesOn → (q : Tree) (parts : Parts) (s : Shares) (taken : Input → Type 0) (of : Mark → List Row → Bool → Type 0) → Follows q parts s taken of (with_task xs ys ended) (length xs) (end_of xs ys ended) → left_by q parts (piece_in s) ≡ unclosed q (with_task xs ys ended)
+  pub task_leaves : SharesMakePiece → OpenGoesOn
+      → (q : Tree) (parts : Parts) (s : Shares) (taken : Input → Type 0) (of : Mark → List Row → Bool → Type 0)
+      → Follows q parts s taken of (with_task xs ys ended) (length xs) (end_of xs ys ended)
+      → left_by q parts (piece_in s) ≡ unclosed q (with_task xs ys ended)
   task_leaves make goes q parts s taken of f =
       let r = with_task xs ys ended in
-      (λ j. left_by q (f.unclosed_is j) ((ap piece_in f.shares_are ∙ make q r (length xs) (end_of xs ys ended) (record { fits = f.windows; ordered = f.fits.ordered; rises = f.rises })) j))
+      (λ j. left_by q (f.unclosed_is j)
+      ((ap piece_in f.shares_are ∙ make q r (length xs) (end_of xs ys ended) (record { fits = f.windows; ordered = f.fits.ordered; rises = f.rises })) j))
       ∙ sym (goes q f.windows r (length xs) (end_of xs ys ended) f.fits.ordered f.rises)
       ∙ ap (unclosed q) at_last

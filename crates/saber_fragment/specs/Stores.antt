@@ -21,8 +21,10 @@ pub record Continues (q : Tree) (parts : Parts) (s : Shares) : Type 0 where
   pub unclosed_is : parts ≡ unclosed q (arrived input from)
   pub shares_are : s ≡ shares_between q input from to
 
--- The store has taken in the arrivals before a position, and the piece is of those from it up to another: by the parts and the shares, and by what both know beside these.
-pub record Follows (q : Tree) (parts : Parts) (s : Shares) (taken : Input → Type 0) (of : Mark → List Row → Bool → Type 0) (r : Input) (from to : ℕ) : Type 0 where
+-- The store has taken in the arrivals before a position, and the piece is of those from it up to another: by the parts and the shares,
+-- and by what both know beside these.
+pub record Follows (q : Tree) (parts : Parts) (s : Shares) (taken : Input → Type 0) (of : Mark → List Row → Bool → Type 0)
+    (r : Input) (from to : ℕ) : Type 0 where
   pub windows : Fits (frame q)
   pub fits : RowsFit q no_rows r.rows
   pub rises : from ≤ to

@@ -1,7 +1,5 @@
 // The rows of a task, as they are handed on.
-ghost use Rattle.std.specs.Prelude.{◌≡◌, IfOk};
-
-use saber_plan::{Mark, NoMemory, Row, Values};
+use saber_plan::{Mark, NoMemory, Row};
 use std::alloc::Global;
 use std::marker::Model;
 
@@ -18,17 +16,6 @@ impl Model for Rows {
     ghost Value = { List Row };
 
     ghost view = { λ v. v.items.items };
-}
-
-// An equal row.
-fn copied(alloc: Global, row: &Row) -> Result<Row, NoMemory>
-    ensures { IfOk result (λ r. r ≡ row.now) }
-{
-    let values = Values::from_slice(alloc, row.values.as_slice())?;
-    Ok(Row {
-        side: row.side,
-        values,
-    })
 }
 
 impl Rows {
@@ -67,7 +54,7 @@ impl Rows {
     {
         self.items.reserve(rows.len())?;
         for row in rows {
-            self.push(copied(alloc, row)?)?;
+            self.push(row.copy(alloc)?)?;
         }
         Ok(())
     }

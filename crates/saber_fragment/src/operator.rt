@@ -59,13 +59,16 @@ pub trait Operator {
     /// After want of memory the draft is only safe to let go.
     fn feed(&self, alloc: Global, draft: &mut Self::Draft, block: &Block) -> Result<(), NoMemory>
         requires { (s : Sight) × (has_seen self.now draft.old s) × CanFeed (plan self.now) s block.now }
-        ensures { OnOk result ((s : Sight) → has_seen self.now draft.old s → CanFeed (plan self.now) s block.now → has_seen self.now draft.new (fed s block.now)) };
+        ensures { OnOk result ((s : Sight) → has_seen self.now draft.old s → CanFeed (plan self.now) s block.now
+            → has_seen self.now draft.new (fed s block.now)) };
 
     /// The piece, once all blocks before the task's own are in.
     fn finish(&self, alloc: Global, draft: Self::Draft) -> Result<Self::Piece, NoMemory>
         requires { (s : Sight) × (has_seen self.now draft s) × IsWhole (plan self.now) s }
-        ensures shares { IfOk result (λ p. (s : Sight) → has_seen self.now draft s → IsWhole (plan self.now) s → shares self.now p ≡ shares_here (plan self.now) s.first s.back s.rows s.ended) }
-        ensures of { IfOk result (λ p. (s : Sight) → has_seen self.now draft s → IsWhole (plan self.now) s → is_of self.now p s.before s.rows s.ended) };
+        ensures shares { IfOk result (λ p. (s : Sight) → has_seen self.now draft s → IsWhole (plan self.now) s
+            → shares self.now p ≡ shares_here (plan self.now) s.first s.back s.rows s.ended) }
+        ensures of { IfOk result (λ p. (s : Sight) → has_seen self.now draft s → IsWhole (plan self.now) s
+            → is_of self.now p s.before s.rows s.ended) };
 
     /// A store with nothing in it. Takes no memory.
     fn empty_store(&self, alloc: Global) -> Self::Store
@@ -82,10 +85,12 @@ pub trait Operator {
         piece: Self::Piece,
         out: &mut Vec<u8>,
     ) -> Result<(), NoMemory>
-        requires { CanTakeIn (plan self.now) (held store.old) (shares self.now piece) (has_taken self.now store.old) (is_of self.now piece) }
+        requires { CanTakeIn (plan self.now) (held store.old) (shares self.now piece)
+            (has_taken self.now store.old) (is_of self.now piece) }
         ensures text { OnOk result (out.new.items ≡ out.old.items ++ written_by (plan self.now) (held store.old) (piece_in (shares self.now piece))) }
         ensures stays { OnOk result (staying store.new ≡ left_by (plan self.now) (held store.old) (piece_in (shares self.now piece))) }
-        ensures taken { OnOk result (TakesIn (plan self.now) (held store.old) (shares self.now piece) (has_taken self.now store.old) (is_of self.now piece) (has_taken self.now store.new)) }
+        ensures taken { OnOk result (TakesIn (plan self.now) (held store.old) (shares self.now piece)
+            (has_taken self.now store.old) (is_of self.now piece) (has_taken self.now store.new)) }
         ensures err { OnErr result (out.new.items ≡ out.old.items) };
 
     /// Drops the parts of closed windows. Takes no memory.

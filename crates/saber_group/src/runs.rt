@@ -5,7 +5,7 @@ ghost use Rattle.saber_plan.specs.Parts as p;
 ghost use Rattle.saber_plan.specs.Trees.{tree_of};
 ghost use Rattle.saber_plan.specs.Given.{IsRowOf, RowsFit};
 ghost use Rattle.saber_partial.specs.Tallies.{CanMerge};
-ghost use Rattle.saber_group.specs.RunParts.{IsRun, LiesIn, with_row};
+ghost use Rattle.saber_group.specs.RunParts.{IsRun, LiesIn, AllLieIn, with_row};
 
 use crate::batch::Batch;
 use crate::group::Group;
@@ -15,7 +15,7 @@ use saber_laws::{
 };
 use saber_partial::{Partial, groups_are_of_rows, small_parts_merge};
 use saber_plan::{Mark, NoMemory, Row};
-use saber_window::past_have_none;
+use saber_window::{Span, past_have_none};
 use std::alloc::Global;
 
 /// Some rows of a task, one after another, that lie in the windows from `first` up to `past` and in no
@@ -31,13 +31,18 @@ pub(crate) struct Run {
 }
 
 impl Group<'_> {
-    // The row lies in the windows from `first` up to `past`, and in no other.
-    fn lies_in(&self, first: u64, past: u64, row: &Row, before: &Mark) -> bool
+    // The row lies in the windows from `first` up to `past`, and in no other. Rows in the span all do, and need no
+    // division to tell it.
+    fn lies_in(&self, first: u64, past: u64, span: Span, row: &Row, before: &Mark) -> bool
         requires left { before.now.left ≤ 2 ^ 40 }
         requires right { before.now.right ≤ 2 ^ 40 }
+        requires span { AllLieIn (tree_of self.now) first past span }
         ensures yes { result ≡ true → LiesIn (tree_of self.now) first past row.now before.now }
         ensures no { LiesIn (tree_of self.now) first past row.now before.now → result ≡ true }
     {
+        if self.is_alike(span, row, before) {
+            return true;
+        }
         let windows = self.row_windows(row, before);
         windows.0 == first && windows.1 == past
     }
@@ -89,13 +94,15 @@ impl Group<'_> {
         rows_span();
         small_parts_merge();
         let rows = batch.rows;
-        let (first, past) = self.row_windows(&rows[from], mark);
+        let row = &rows[from];
+        let (first, past) = self.row_windows(row, mark);
+        let span = self.alike(row, mark);
         let has_windows = first < past;
         let mut part = Partial::empty(alloc);
         let mut after = *mark;
         for end in from..rows.len() {
             let row = &rows[end];
-            if !self.lies_in(first, past, row, &after) {
+            if !self.lies_in(first, past, span, row, &after) {
                 return Ok(Run {
                     first,
                     past,

@@ -1,3 +1,4 @@
 pub mod Seams
 pub mod Finds
 pub mod Contents
+pub mod Coming

@@ -121,7 +121,7 @@ fn cut_to(cuts: &[u64], number: u64, size: usize) -> usize
 
 // Copies so many bytes from a place on into the front of the buffer.
 #[tactic(auto, using(crate::proofs::Seams::part_and_rest))]
-fn give(bytes: &[u8], at: usize, size: usize, buf: &mut [u8])
+pub(crate) fn give(bytes: &[u8], at: usize, size: usize, buf: &mut [u8])
     requires fits { size ≤ length buf.old }
     requires there { at + size ≤ length bytes.now }
     ensures given { drop at bytes.now ≡ take size buf.new ++ drop (at + size) bytes.now }

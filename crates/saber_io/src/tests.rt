@@ -1,7 +1,8 @@
 // What no clause says: that calls succeed with ample memory, what worked rows expect, and the real outside.
 use crate::{
-    Failed, FileSource, Files, Gate, HoldGate, HostFiles, MemFile, MemFiles, MemOpened, MemSink,
-    MemSource, OpenFault, OpenGate, OrderGate, Sink, Source, StdSink, WriteFault,
+    EndMark, Failed, Fed, Feed, FileSource, Files, Gate, HoldGate, HostFiles, MemFeed, MemFile,
+    MemFiles, MemOpened, MemSink, MemSource, OpenFault, OpenGate, OrderGate, Plain, Pour, Sink,
+    Source, StdSink, WriteFault,
 };
 use std::alloc::{AllocError, Global};
 use std::io;
@@ -41,6 +42,55 @@ fn reads_in_cuts(rt: HostRuntime) -> Result<(), Fail> {
     assert!(rt; given[2] == Ok(b"2,2,5\n".to_vec(alloc)?));
     assert!(rt; given[3] == Err(Failed));
     assert!(rt; given[4] == Ok(b"2,1,7\n9,2,1\n".to_vec(alloc)?));
+    Ok(())
+}
+
+// What a feed gives into a buffer of two bytes, through the bound.
+fn fed<F: Feed>(feed: &mut F) -> (Result<Fed, Failed>, [u8; 2]) {
+    let mut buf = [0; 2];
+    let given = feed.feed(&mut buf);
+    (given, buf)
+}
+
+// Five bytes, three a refill: every second refill finds nothing, and the mark comes behind all bytes.
+#[test]
+fn bytes_come_by_and_by(rt: HostRuntime) -> Result<(), Fail> {
+    let alloc = rt.alloc();
+    let mut feed = MemFeed::new(b"0,1\n2".to_vec(alloc)?, 3, EndMark::Cut);
+    assert!(rt; fed(&mut feed).0 == Ok(Fed::NotYet));
+    assert!(rt; !feed.refill());
+    assert!(rt; fed(&mut feed).0 == Ok(Fed::NotYet));
+    assert!(rt; feed.refill());
+    assert!(rt; fed(&mut feed) == (Ok(Fed::Bytes(2)), *b"0,"));
+    assert!(rt; fed(&mut feed) == (Ok(Fed::Bytes(1)), *b"1\0"));
+    assert!(rt; fed(&mut feed).0 == Ok(Fed::NotYet));
+    assert!(rt; !feed.refill());
+    assert!(rt; feed.refill());
+    assert!(rt; fed(&mut feed) == (Ok(Fed::Bytes(2)), *b"\n2"));
+    assert!(rt; !feed.refill());
+    assert!(rt; feed.refill());
+    assert!(rt; fed(&mut feed).0 == Err(Failed));
+    assert!(rt; !feed.refill());
+    assert!(rt; fed(&mut feed).0 == Err(Failed));
+    Ok(())
+}
+
+// Through the bound of sinks that may hold back.
+fn write_and_pour<K: Pour>(sink: &mut K, piece: &[u8]) -> Result<(), WriteFault> {
+    sink.write_all(piece)?;
+    sink.pour();
+    Ok(())
+}
+
+#[test]
+fn plain_sinks_hold_nothing_back(rt: HostRuntime) -> Result<(), Fail> {
+    let alloc = rt.alloc();
+    let mut plain = Plain {
+        sink: MemSink::new(alloc, Vec::new(alloc)),
+    };
+    assert!(rt; write_and_pour(&mut plain, b"0,2\n") == Ok(()));
+    assert!(rt; write_and_pour(&mut plain, b"1,2\n") == Ok(()));
+    assert!(rt; plain.sink.bytes() == b"0,2\n1,2\n".as_slice());
     Ok(())
 }
 

@@ -41,7 +41,10 @@ from_fields f = record {
   before = record { left = f.1.1.0; right = f.1.1.1.0; last = f.1.1.1.1.0; ended = f.1.1.1.1.1 };
 }
 
+abbrev from_to : (x : Placed) → from_fields (to_fields x) ≡ x
+from_to x = λ i. record { row = record { side = side_back x.row.side i; values = x.row.values }; before = x.before }
+
 abbrev pub coded_shelf : Coded Shelf
 coded_shelf =
     let fields = coded× coded_bool (coded× (coded_list coded_ℤ) (coded× coded_ℕ (coded× coded_ℕ (coded× (coded_option coded_ℤ) coded_bool)))) in
-    code coded_ℤ (coded_list (code_by Fields fields to_fields from_fields (λ x i. record { row = record { side = side_back x.row.side i; values = x.row.values }; before = x.before })))
+    code coded_ℤ (coded_list (code_by Fields fields to_fields from_fields from_to))

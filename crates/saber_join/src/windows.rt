@@ -55,7 +55,8 @@ fn note_row<'a>(
     requires small { before.left + before.right < 2 ^ 62 }
     requires row { IsRowOf (tree_of join.now) row.now }
     requires tie { CanTie (tree_of join.now).predicate tie.now }
-    ensures { OnOk result (Changed (noting (key_in tie.now row.now) row.now before) first past (seen_held windows.old.entries) (seen_held windows.new.entries)) }
+    ensures { OnOk result (Changed (noting (key_in tie.now row.now) row.now before) first past
+        (seen_held windows.old.entries) (seen_held windows.new.entries)) }
 {
     if past <= first {
         return Ok(());
@@ -111,7 +112,8 @@ fn take_row<'a>(
     requires row { IsRowOf (tree_of join.now) row.now }
     requires tie { CanTie (tree_of join.now).predicate tie.now }
     requires held { AllFit (tree_of join.now) (seen_held windows.old.entries) }
-    ensures { OnOk result (Changed (taking (tree_of join.now) (key_in tie.now row.now) row.now before) first past (seen_held windows.old.entries) (seen_held windows.new.entries)) }
+    ensures { OnOk result (Changed (taking (tree_of join.now) (key_in tie.now row.now) row.now before) first past
+        (seen_held windows.old.entries) (seen_held windows.new.entries)) }
 {
     if past <= first {
         return Ok(());
@@ -137,7 +139,8 @@ impl Join<'_> {
         requires tie { CanTie (tree_of self.now).predicate tie.now }
         requires fits { RowsFit (tree_of self.now) before.now rows.now }
         requires held { AllFit (tree_of self.now) (seen_held windows.old.entries) }
-        ensures grown { OnOk result (NotesRows (tree_of self.now) tie.now closed before.now rows.now (seen_held windows.old.entries) (seen_held windows.new.entries)) }
+        ensures grown { OnOk result (NotesRows (tree_of self.now) tie.now closed before.now rows.now
+            (seen_held windows.old.entries) (seen_held windows.new.entries)) }
         ensures held { OnOk result (AllFit (tree_of self.now) (seen_held windows.new.entries)) }
     {
         self.has_windows();
@@ -165,7 +168,8 @@ impl Join<'_> {
         requires tie { CanTie (tree_of self.now).predicate tie.now }
         requires fits { RowsFit (tree_of self.now) before.now rows.now }
         requires held { AllFit (tree_of self.now) (seen_held windows.old.entries) }
-        ensures { OnOk result (TakesRows (tree_of self.now) tie.now closed before.now rows.now (seen_held windows.old.entries) (seen_held windows.new.entries)) }
+        ensures { OnOk result (TakesRows (tree_of self.now) tie.now closed before.now rows.now
+            (seen_held windows.old.entries) (seen_held windows.new.entries)) }
     {
         self.has_windows();
         rows_span();

@@ -17,4 +17,5 @@ joined_by q n r s tasks = fold (λ a t. take_in q a (piece q n r t)) s tasks
 -- those of the tasks given, in the order of the gives, make the text and the open parts of as many tasks
 abbrev pub GivesMakeText : Type 0
 GivesMakeText = (q : Tree) → Fits (frame q) → (n : ℕ) (r : Input) → Ordered no_rows r.rows → (start : List ℕ) (size seats : ℕ) (events : List Event)
-    → joined_by q n r (record { written = start; parts = empty }) (gives (fresh size seats) events) ≡ stage_at q n r start (given (state_after (fresh size seats) events))
+    → joined_by q n r (record { written = start; parts = empty }) (gives (fresh size seats) events)
+    ≡ stage_at q n r start (given (state_after (fresh size seats) events))

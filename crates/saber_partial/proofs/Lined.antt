@@ -1,25 +1,14 @@
--- Lines, number by number, and those of a part, group by group.
-use Rattle.std.proofs.Common.{◌≡◌, ℕ, List, [], ◌∷◌, ◌++◌, map, ℤ, pos, refl, sym, ◌∙◌, ap, append_assoc, append-nil}
-use Rattle.std.specs.Fmt.{signed_decimal}
-use Rattle.std.specs.List.{join_with_byte}
+-- The lines of a part, group by group.
+use Rattle.std.proofs.Common.{◌≡◌, ℕ, List, [], ◌∷◌, ◌++◌, map, ℤ, pos, refl, sym, ap}
 use Rattle.std.specs.FinMap.{entries}
 use Rattle.saber_plan.specs.declared.plans.Item.{Item}
 use Rattle.saber_plan.specs.Answers.{line, entry_lines}
 use Rattle.saber_plan.specs.Parts.{Part, Numbers, answers_of, part_lines}
 use Rattle.saber_plan.specs.Trees.{Tree}
-use Rattle.saber_partial.specs.Printing.{cells, lines_for, numbers_of}
+use Rattle.saber_partial.specs.Printing.{lines_for, numbers_of}
 use Rattle.saber_partial.specs.Sorted.{part_of, Rises}
 use Rattle.saber_plan.specs.MapFacts.{entries-from_rising}
 use Rattle.saber_plan.specs.PartFacts.{total, exact}
-
-line_cells : (z : ℤ) (zs : List ℤ) → join_with_byte 44 (map signed_decimal (z ∷ zs)) ≡ signed_decimal z ++ cells zs
-line_cells z [] = sym (append-nil (signed_decimal z))
-line_cells z (y ∷ ys) = ap (λ l. signed_decimal z ++ 44 ∷ l) (line_cells y ys)
-
-pub line_after : (old : List ℕ) (z : ℤ) (zs : List ℤ) → ((old ++ signed_decimal z) ++ cells zs) ++ 10 ∷ [] ≡ old ++ line (z ∷ zs)
-line_after old z zs =
-    ap (λ l. l ++ 10 ∷ []) (append_assoc old (signed_decimal z) (cells zs) ∙ ap (λ l. old ++ l) (sym (line_cells z zs)))
-    ∙ append_assoc old (join_with_byte 44 (map signed_decimal (z ∷ zs))) (10 ∷ [])
 
 entry_each : (i : ℕ) (is : List Item) (es : List (List ℤ × Numbers)) → entry_lines i (map (λ e. (e.0, answers_of is e.1)) es) ≡ lines_for i is (map (λ e. e.1) es)
 entry_each i is [] = refl

@@ -18,3 +18,7 @@ joined_behind l g xs ps qs = zip_by int_min (take l xs) ps ++ (zip_by int_max (t
 -- and sums before them
 abbrev pub joined_list : ℕ → ℕ → ℕ → List ℤ → List ℤ → List ℤ → List ℤ → List ℤ
 joined_list s l g xs os ps qs = zip_by ◌+ℤ◌ (take s xs) os ++ joined_behind l g (drop s xs) ps qs
+
+-- with those of another list, by kind
+abbrev pub joined_with : ℕ → ℕ → ℕ → List ℤ → List ℤ → List ℤ
+joined_with s l g xs ys = joined_list s l g xs (take s ys) (take l (drop s ys)) (take g (drop l (drop s ys)))

@@ -19,7 +19,9 @@ PanesJoin = (q : Tree) (m : Mark) (xs ys : List Row) → panes_here q m (xs ++ y
 
 -- the merge of a window's panes is its part
 abbrev pub WindowsArePanes : Type 0
-WindowsArePanes = (q : Tree) → q.shape ≡ Group → OneWindow q → (i : ℕ) (xs : List Row) → Ordered no_rows xs → window_part (frame q) i (panes_here q no_rows xs) ≡ part q i xs 0 (length xs)
+WindowsArePanes =
+    (q : Tree) → q.shape ≡ Group → OneWindow q → (i : ℕ) (xs : List Row) → Ordered no_rows xs
+    → window_part (frame q) i (panes_here q no_rows xs) ≡ part q i xs 0 (length xs)
 
 -- each pane of rows is of the rows in it
 abbrev pub PanesAreOfRows : Type 0
@@ -27,7 +29,9 @@ PanesAreOfRows = (q : Tree) (us : List Placed) → PanesOf q (λ j. length (in_p
 
 -- panes of rows can take in the rows behind them, where there are at most 2^40 together
 abbrev pub RowsHaveRoom : Type 0
-RowsHaveRoom = (q : Tree) (m : Mark) (xs ys : List Row) → length xs + length ys ≤ 2 ^ 40 → RowsRoom q (panes_here q m xs) (counted q (placed_after (mark_after m xs) ys))
+RowsHaveRoom =
+    (q : Tree) (m : Mark) (xs ys : List Row) → length xs + length ys ≤ 2 ^ 40
+    → RowsRoom q (panes_here q m xs) (counted q (placed_after (mark_after m xs) ys))
 
 -- and the panes of these
 abbrev pub PanesCanJoin : Type 0

@@ -1,4 +1,5 @@
--- Panes: the points of a window's stream, cut at the greatest common divisor of its size and slide (Li et al. 2005, as in SABER 2016). So a window is some panes in a row.
+-- Panes: the points of a window's stream, cut at the greatest common divisor of its size and slide (Li et al. 2005, as in SABER 2016).
+-- So a window is some panes in a row.
 use Rattle.std.specs.Prelude.{◌≡◌, ℕ, zero, suc, ◌+◌, ◌*◌, ◌/◌, ◌%◌, ◌^◌, ◌≤◌, List, [], ◌∷◌, map, filter, fold, length, Bool, ◌&&◌, ◌==◌, nat_lt, nat_le, if◌then◌else◌, sum_by, Option, Some, None, ℤ}
 use Rattle.std.specs.FinMap.{get, insert, from_entries, retain_keys}
 use Rattle.std.specs.Ordering.{nat_cmp}

@@ -1,14 +1,9 @@
 -- Lines of groups, number by number.
-use Rattle.std.specs.Prelude.{ℕ, List, ◌∷◌, flat_map, map, ℤ, pos}
+use Rattle.std.specs.Prelude.{ℕ, List, ◌∷◌, flat_map, map, pos}
 use Rattle.std.specs.FinMap.{entries}
-use Rattle.std.specs.Fmt.{signed_decimal}
 use Rattle.saber_plan.specs.declared.plans.Item.{Item}
 use Rattle.saber_plan.specs.Answers.{line}
 use Rattle.saber_plan.specs.Parts.{Part, Numbers, answers_of}
-
--- numbers with a comma before each
-abbrev pub cells : List ℤ → List ℕ
-cells zs = flat_map (λ z. 44 ∷ signed_decimal z) zs
 
 -- a line for each group's numbers
 abbrev pub lines_for : ℕ → List Item → List Numbers → List ℕ

@@ -28,7 +28,8 @@ pub record IsGap (es : List (List ℤ × Numbers)) (k : List ℤ) (i : ℕ) : Ty
 
 -- what both have of a key can be joined
 pub record CanJoinAll (es fs : List (List ℤ × Numbers)) : Type 0 where
-  pub at : (i j : ℕ) (d e : List ℤ × Numbers) → i < length es → j < length fs → (get_or es i d).0 ≡ (get_or fs j e).0 → CanJoin (get_or es i d).1 (get_or fs j e).1
+  pub at : (i j : ℕ) (d e : List ℤ × Numbers) → i < length es → j < length fs
+      → (get_or es i d).0 ≡ (get_or fs j e).0 → CanJoin (get_or es i d).1 (get_or fs j e).1
 
 -- entries of the same keys, joined one by one
 abbrev pub joined_each : List (List ℤ × Numbers) → List (List ℤ × Numbers) → List (List ℤ × Numbers)

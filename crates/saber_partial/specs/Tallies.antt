@@ -18,7 +18,13 @@ coded_part = code (coded_list coded_ℤ) coded_numbers
 
 -- The numbers of a list, where s sums stand first, then l least values, g greatest ones, and first values.
 abbrev pub numbers_in : ℕ → ℕ → ℕ → ℕ → List ℤ → Numbers
-numbers_in n s l g xs = record { count = n; sums = take s xs; leasts = take l (drop s xs); greatests = take g (drop l (drop s xs)); firsts = drop g (drop l (drop s xs)) }
+numbers_in n s l g xs = record {
+  count = n;
+  sums = take s xs;
+  leasts = take l (drop s xs);
+  greatests = take g (drop l (drop s xs));
+  firsts = drop g (drop l (drop s xs));
+}
 
 -- At least one row and at most 2^40, each of which added at most 2^86 to each sum (this project's rule).
 pub record IsTally (a : Numbers) : Type 0 where

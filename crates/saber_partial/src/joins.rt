@@ -2,7 +2,7 @@
 ghost use Rattle.std.specs.Prelude.{◌≡◌, ◌+◌, ◌≤◌, ◌+ℤ◌, length, take, drop};
 ghost use Rattle.std.specs.Int.{int_min, int_max};
 ghost use Rattle.saber_plan.specs.Parts.{zip_by};
-ghost use Rattle.saber_partial.specs.Kinds.{SumsFit, joined_behind, joined_list};
+ghost use Rattle.saber_partial.specs.Kinds.{SumsFit, joined_behind, joined_with};
 
 use smallvec::SmallVec;
 
@@ -65,7 +65,7 @@ fn join_slices(shares: Shares, xs: &mut [i128], ys: &[i128])
     requires there { shares.sums + shares.leasts + shares.greatests ≤ length xs.old }
     requires long { length xs.old ≡ length ys.now }
     requires fits { SumsFit (take shares.sums xs.old) (take shares.sums ys.now) }
-    ensures { xs.new ≡ joined_list shares.sums shares.leasts shares.greatests xs.old (take shares.sums ys.now) (take shares.leasts (drop shares.sums ys.now)) (take shares.greatests (drop shares.leasts (drop shares.sums ys.now))) }
+    ensures { xs.new ≡ joined_with shares.sums shares.leasts shares.greatests xs.old ys.now }
 {
     let (sums, rest) = xs.split_at_mut(shares.sums);
     let (other_sums, other_rest) = ys.split_at(shares.sums);
@@ -79,7 +79,7 @@ pub(crate) fn join_all(shares: Shares, xs: &mut SmallVec<i128, 4>, ys: &[i128])
     requires there { shares.sums + shares.leasts + shares.greatests ≤ length xs.old.items }
     requires long { length xs.old.items ≡ length ys.now }
     requires fits { SumsFit (take shares.sums xs.old.items) (take shares.sums ys.now) }
-    ensures { xs.new.items ≡ joined_list shares.sums shares.leasts shares.greatests xs.old.items (take shares.sums ys.now) (take shares.leasts (drop shares.sums ys.now)) (take shares.greatests (drop shares.leasts (drop shares.sums ys.now))) }
+    ensures { xs.new.items ≡ joined_with shares.sums shares.leasts shares.greatests xs.old.items ys.now }
 {
     join_slices(shares, xs, ys);
 }

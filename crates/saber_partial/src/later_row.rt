@@ -19,7 +19,8 @@ fn add_value(xs: &mut [i128], k: usize, gather: Gather, item: &Item, row: &Row) 
     requires fits { CanCount row.now.values item.now }
     requires room { AllByRecursion (HasRoom gather) (drop k xs.old) }
     ensures next { result ≡ k + length (option_to_list (wanted gather item.now)) }
-    ensures all { (ys : List ℤ) → combined_from gather xs.new result ys ≡ combined_from gather xs.old k (values_by row.now.values (option_to_list (wanted gather item.now)) ++ ys) }
+    ensures all { (ys : List ℤ) → combined_from gather xs.new result ys
+        ≡ combined_from gather xs.old k (values_by row.now.values (option_to_list (wanted gather item.now)) ++ ys) }
     ensures room { AllByRecursion (HasRoom gather) (drop result xs.new) }
     ensures small { AllByRecursion (IsSmall gather) (values_by row.now.values (option_to_list (wanted gather item.now))) }
 {
@@ -67,7 +68,8 @@ fn add_kinds(shares: Shares, xs: &mut [i128], items: &[Item], row: &Row)
     requires greatests { shares.greatests ≡ length (greatest items.now) }
     requires fit { AllByRecursion (CanCount row.now.values) items.now }
     requires room { AllByRecursion (HasRoom Sums) (take shares.sums xs.old) }
-    ensures all { xs.new ≡ joined_list shares.sums shares.leasts shares.greatests xs.old (values_by row.now.values (summed items.now)) (values_by row.now.values (least items.now)) (values_by row.now.values (greatest items.now)) }
+    ensures all { xs.new ≡ joined_list shares.sums shares.leasts shares.greatests xs.old (values_by row.now.values (summed items.now))
+        (values_by row.now.values (least items.now)) (values_by row.now.values (greatest items.now)) }
     ensures small { AllByRecursion (IsSmall Sums) (values_by row.now.values (summed items.now)) }
 {
     let (sums, rest) = xs.split_at_mut(shares.sums);
@@ -84,7 +86,8 @@ pub(crate) fn add_all_values(shares: Shares, xs: &mut SmallVec<i128, 4>, items: 
     requires greatests { shares.greatests ≡ length (greatest items.now) }
     requires fit { AllByRecursion (CanCount row.now.values) items.now }
     requires room { AllByRecursion (HasRoom Sums) (take shares.sums xs.old.items) }
-    ensures all { xs.new.items ≡ joined_list shares.sums shares.leasts shares.greatests xs.old.items (values_by row.now.values (summed items.now)) (values_by row.now.values (least items.now)) (values_by row.now.values (greatest items.now)) }
+    ensures all { xs.new.items ≡ joined_list shares.sums shares.leasts shares.greatests xs.old.items (values_by row.now.values (summed items.now))
+        (values_by row.now.values (least items.now)) (values_by row.now.values (greatest items.now)) }
     ensures small { AllByRecursion (IsSmall Sums) (values_by row.now.values (summed items.now)) }
 {
     add_kinds(shares, xs, items, row);

@@ -1,41 +1,17 @@
 // The lines of groups.
-ghost use Rattle.std.specs.Prelude.{◌≡◌, ◌∷◌, ◌++◌, OnOk, OnErr, map, decimal, pos};
-ghost use Rattle.std.specs.Fmt.{signed_decimal};
+ghost use Rattle.std.specs.Prelude.{◌≡◌, ◌∷◌, ◌++◌, OnOk, OnErr, map, pos};
 ghost use Rattle.saber_plan.specs.Trees.{tree_of};
 ghost use Rattle.saber_plan.specs.Answers.{line};
 ghost use Rattle.saber_plan.specs.Parts.{answers_of, part_lines};
 ghost use Rattle.saber_plan.specs.Texts.{Behind};
-ghost use Rattle.saber_partial.specs.Printing.{cells, lines_for};
+ghost use Rattle.saber_cells.specs.Cells.{cells};
+ghost use Rattle.saber_partial.specs.Printing.{lines_for};
 
 use crate::group::Group;
 use crate::groups::Partial;
 use crate::tally::Tally;
-use itoa::Buffer;
+use saber_cells::{write_cell, write_count};
 use saber_plan::{Item, NoMemory, Plan};
-
-fn write_window(out: &mut Vec<u8>, window: u64) -> Result<(), NoMemory>
-    ensures ok { OnOk result (out.new.items ≡ out.old.items ++ decimal window) }
-    ensures behind { Behind out.old.items out.new.items }
-{
-    let mut digits = Buffer::new();
-    out.extend_from_slice(digits.format(window).as_bytes())
-}
-
-fn write_number(out: &mut Vec<u8>, number: i128) -> Result<(), NoMemory>
-    ensures ok { OnOk result (out.new.items ≡ out.old.items ++ signed_decimal number) }
-    ensures behind { Behind out.old.items out.new.items }
-{
-    let mut digits = Buffer::new();
-    out.extend_from_slice(digits.format(number).as_bytes())
-}
-
-fn write_cell(out: &mut Vec<u8>, number: i128) -> Result<(), NoMemory>
-    ensures ok { OnOk result (out.new.items ≡ out.old.items ++ 44 ∷ signed_decimal number) }
-    ensures behind { Behind out.old.items out.new.items }
-{
-    out.push(b',')?;
-    write_number(out, number)
-}
 
 fn write_cells(out: &mut Vec<u8>, items: &[Item], tally: &Tally) -> Result<(), NoMemory>
     ensures ok { OnOk result (out.new.items ≡ out.old.items ++ cells (answers_of items.now tally.now)) }
@@ -53,7 +29,7 @@ fn write_line(out: &mut Vec<u8>, window: u64, items: &[Item], tally: &Tally) -> 
     ensures ok { OnOk result (out.new.items ≡ out.old.items ++ line (pos window ∷ answers_of items.now tally.now)) }
     ensures behind { Behind out.old.items out.new.items }
 {
-    write_window(out, window)?;
+    write_count(out, window)?;
     write_cells(out, items, tally)?;
     out.push(b'\n')?;
     Ok(())

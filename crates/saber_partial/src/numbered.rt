@@ -12,7 +12,8 @@ pub(crate) fn gather_rows(gather: Gather, numbers: &mut [i128], groups: &[u32], 
     requires there { (r : ℕ) → r < length groups.now → get_or groups.now r 0 < length numbers.old }
     requires room { (g : ℕ) → g < length numbers.old → HasRoomFor gather (length groups.now) (get_or numbers.old g (pos 0)) }
     ensures long { length numbers.new ≡ length numbers.old }
-    ensures each { (g : ℕ) → g < length numbers.old → get_or numbers.new g (pos 0) ≡ fold (combine gather) (get_or numbers.old g (pos 0)) (values_at g groups.now values.now) }
+    ensures each { (g : ℕ) → g < length numbers.old → get_or numbers.new g (pos 0)
+        ≡ fold (combine gather) (get_or numbers.old g (pos 0)) (values_at g groups.now values.now) }
 {
     for r in 0..groups.len() {
         let g = groups[r] as usize;

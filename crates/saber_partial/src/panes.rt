@@ -97,7 +97,9 @@ impl Panes {
         requires row { IsRowOf (tree_of plan.now) row.now }
         requires left { before.now.left ≤ 2 ^ 40 }
         requires right { before.now.right ≤ 2 ^ 40 }
-        requires room { is_counted (tree_of plan.now) (record { row = row.now; before = before.now }) ≡ true → CanMerge (or_none (joined_at self.old (pane_of (frame (tree_of plan.now)) (record { row = row.now; before = before.now })))) (group_part (tree_of plan.now) (row.now.values ∷ [])) }
+        requires room { is_counted (tree_of plan.now) (record { row = row.now; before = before.now }) ≡ true
+            → CanMerge (or_none (joined_at self.old (pane_of (frame (tree_of plan.now)) (record { row = row.now; before = before.now }))))
+            (group_part (tree_of plan.now) (row.now.values ∷ [])) }
         ensures ok { OnOk result (self.new ≡ with_row_in (tree_of plan.now) self.old (record { row = row.now; before = before.now })) }
         ensures steps { steps.new ≤ steps.old + length (counted (tree_of plan.now) (record { row = row.now; before = before.now } ∷ [])) }
     {

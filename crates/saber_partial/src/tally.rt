@@ -34,7 +34,8 @@ impl Model for Tally {
 
     ghost view = { λ t. numbers_in t.count t.shares.sums t.shares.leasts t.shares.greatests t.numbers.items };
 
-    ghost invariant = { λ t. (t.shares.sums + t.shares.leasts + t.shares.greatests ≤ long t.numbers.items) × IsTally (numbers_in t.count t.shares.sums t.shares.leasts t.shares.greatests t.numbers.items) };
+    ghost invariant = { λ t. (t.shares.sums + t.shares.leasts + t.shares.greatests ≤ long t.numbers.items)
+        × IsTally (numbers_in t.count t.shares.sums t.shares.leasts t.shares.greatests t.numbers.items) };
 }
 
 // A copy with memory of its own. A tree of groups is copied by it.

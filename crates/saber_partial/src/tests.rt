@@ -35,7 +35,13 @@ fn column(alloc: Global, index: u32) -> Result<Expr, NoMemory>
 
 // Three columns: a time, a key and a number.
 fn plan(alloc: Global, items: Vec<Item>, keys: Vec<u32>) -> Result<Plan, NoMemory>
-    ensures { IfOk result (λ p. tree_of p ≡ record { shape = h.Group; streams = record { columns = 3; window = Some (record { measure = m.Rows; size = 3; slide = 3 }) } ∷ []; items = items.items; keys = keys.items; predicate = None }) }
+    ensures { IfOk result (λ p. tree_of p ≡ record {
+      shape = h.Group;
+      streams = record { columns = 3; window = Some (record { measure = m.Rows; size = 3; slide = 3 }) } ∷ [];
+      items = items.items;
+      keys = keys.items;
+      predicate = None;
+    }) }
 {
     let window = Window {
         measure: Measure::Rows,

@@ -6,4 +6,6 @@ use Rattle.saber_parts.specs.declared.bounds.Bounds.{Bounds}
 
 -- a window that isn't closed before the task, and is begun after it
 abbrev pub kind_in : Bounds → ℕ → Kind
-kind_in b i = if nat_lt i b.closed_after then (if nat_lt i b.begun_before then Closing else Complete) else (if nat_lt i b.begun_before then Pending else Opening)
+kind_in b i =
+    if nat_lt i b.closed_after then (if nat_lt i b.begun_before then Closing else Complete)
+    else (if nat_lt i b.begun_before then Pending else Opening)

@@ -39,7 +39,9 @@ as_they_are [] = refl
 as_they_are (e ∷ es) = ap (λ l. e ∷ l) (as_they_are es)
 
 -- a window's kind, by counts and by the definition, where the rows go from mark a up to mark z
-pub kind_is : ClosedAreCounted → BegunAreCounted → (f : Frame) → Fits f → (a z : Mark) (b : Bounds) → b.begun_before ≡ begun_count f a → b.closed_after ≡ closed_count f z → (i : ℕ) → closed_count f a ≤ i → i < begun_count f z → Some (kind_in b i) ≡ kind_of f i a z
+pub kind_is : ClosedAreCounted → BegunAreCounted → (f : Frame) → Fits f → (a z : Mark) (b : Bounds)
+    → b.begun_before ≡ begun_count f a → b.closed_after ≡ closed_count f z
+    → (i : ℕ) → closed_count f a ≤ i → i < begun_count f z → Some (kind_in b i) ≡ kind_of f i a z
 kind_is closed_are begun_are f fits a z b begun_before closed_after i low high =
     let not_closed : closed f i a ≡ false = sym (closed_are f fits i a) ∙ le-ltb i (closed_count f a) low in
     let is_begun : begun f i z ≡ true = sym (begun_are f fits i z) ∙ lt-ltb i (begun_count f z) high in

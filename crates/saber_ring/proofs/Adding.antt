@@ -1,23 +1,21 @@
 -- Adding up the numbers of tasks.
-use Rattle.std.proofs.Common.{◌≡◌, ℕ, Bool, true, false, ◌+◌, ◌-◌, ◌≤◌, ◌<◌, zero, suc, List, [], ◌∷◌, ◌++◌, take, length, sym, refl, ap, ap₂, ◌∙◌, subst, length-append, arith}
+use Rattle.std.proofs.Common.{◌≡◌, ℕ, Bool, true, false, ◌+◌, ◌-◌, ◌≤◌, zero, suc, List, [], ◌∷◌, ◌++◌, take, sym, refl, ap, ap₂, ◌∙◌, subst, length-append, arith}
 use Rattle.std.specs.Prelude.{Option, Some, None, slice_index}
 use Rattle.std.proofs.lemmas.List.{get_or-take}
 use Rattle.std.proofs.Math.Seq.{get_or-append_seam}
-use Rattle.saber_core.specs.Works.{IsPieceOrMark}
-use Rattle.saber_ring.specs.declared.view.HeldTask.{HeldTask}
 use Rattle.saber_ring.specs.declared.view.Lead.{Lead}
 use Rattle.saber_ring.specs.declared.view.View.{View}
 use Rattle.saber_ring.specs.Shows.{extra}
-use Rattle.saber_ring.specs.Calls.{FillsNext, HasJobOf, MayDeposit}
+use Rattle.saber_ring.specs.Calls.{FillsNext}
 use Rattle.saber_ring.specs.Closing.{Finishes}
-use Rattle.saber_ring.specs.Sums.{AreNumbers, IsNumber, adds, IsSum, sum_to, IsTotal, GoesOnBy, IsNextTask, WasRead, EndsInSum}
+use Rattle.saber_ring.specs.Sums.{AreNumbers, IsNumber, IsSum, sum_to, IsTotal, GoesOnBy, IsNextTask, EndsInSum}
 
 -- the first tasks add the same by the data of more
 pub sum_upto : (told : List ℕ) (n k : ℕ) → k ≤ n → sum_to (take n told) k ≡ sum_to told k
 sum_upto told n zero le = refl
 sum_upto told n (suc k) le =
     ap₂ ◌+◌ (sum_upto told n k (omega arith))
-    (ap₂ ◌+◌ (get_or-take n told k 0 (omega arith)) (get_or-take n told (k - 1) 0 (omega arith)))
+    (ap₂ ◌+◌ (ap₂ ◌+◌ (get_or-take n told k 0 (omega arith)) (get_or-take n told (k - 1) 0 (omega arith))) (get_or-take n told (k - 2) 0 (omega arith)))
 
 -- a piece that fits is taken up
 pub goes_on : (told : List ℕ) (k old new piece : ℕ) → IsTotal (take k told) k false old → IsSum told k piece → new ≡ old + piece → GoesOnBy told k new true
@@ -37,16 +35,6 @@ next_number t rows None h = absurd h
 next_number t rows (Some l) h =
     let long = length-append l.told (rows ∷ []) in let size = h.1 in
     (h.0, sym (subst (λ z. slice_index (l.told ++ rows ∷ []) z ≡ rows) size (get_or-append_seam l.told rows [] 0)), omega arith)
-
-pub hands_in : (t own back : ℕ) (piece : Option ℕ) (o : Option (HeldTask (List ℕ))) → HasJobOf t o → WasRead own t o → WasRead back (t - 1) o
-    → ((p : ℕ) → piece ≡ Some p → p ≡ own + back) → MayDeposit IsSum t piece o
-hands_in t own back piece None has mine before adds_up = absurd has
-hands_in t own back piece (Some x) has mine before adds_up = (has, go piece adds_up)
-  where
-    go : (y : Option ℕ) → ((p : ℕ) → y ≡ Some p → p ≡ own + back) → IsPieceOrMark IsSum x.told t y
-    go None adds_up = tt
-    go (Some p) adds_up =
-        adds_up p refl ∙ ap₂ ◌+◌ (mine ∙ get_or-take (t + 1) x.told t 0 (omega arith)) (before ∙ get_or-take (t - 1 + 1) x.told (t - 1) 0 (omega arith))
 
 pub ends_in_sum : (v : View (List ℕ)) (stage : ℕ) (o : Option (Lead (List ℕ))) → Finishes (λ (told : List ℕ) k. take k told) IsTotal v stage o → EndsInSum stage v.seen o
 ends_in_sum v stage None f = absurd f

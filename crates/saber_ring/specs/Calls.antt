@@ -45,10 +45,18 @@ module _ {T : Type 0} (upto : T → ℕ → T) (first : T → ℕ → ℕ) (t : 
       (frees.base ≤ seen) × (t < frees.base + length frees.list.items)
       × ((k : ℕ) → frees.base ≤ k → k ≤ t → slice_index frees.list.items (k - frees.base) ≡ first_of_task upto first l.told k)
 
--- the seat after a task was filled: it saw the cell idle and the word of the turn, had the block, put the rows in, and made the task ready
+-- the seat after it saw the cell idle, and then the word of the turn
+abbrev pub after_looks : {T : Type 0} → ℕ → ℕ → ℕ → View T → View T
+after_looks size t word v = looked_turn (looked v (t % size + 1) (8 * t)) word
+
+-- and then had the block, and put the rows in
+abbrev pub after_store : {T : Type 0} → ℕ → ℕ → ℕ → Lead T → T → View T → View T
+after_store size t word l told v =
+    led (led (after_looks size t word v) (t % size + 1 + size) (word_before size t) (begun l)) (t % size + 1 + size) (4 * t + 2) (stored l told)
+
+-- and then made the task ready
 abbrev pub after_fill : {T : Type 0} → ℕ → ℕ → ℕ → Lead T → T → View T → View T
-after_fill size t word l told v =
-    led (led (led (looked_turn (looked v (t % size + 1) (8 * t)) word) (t % size + 1 + size) (word_before size t) (begun l)) (t % size + 1 + size) (4 * t + 2) (stored l told)) (t % size + 1) (8 * t) (more_filled l told)
+after_fill size t word l told v = led (after_store size t word l told v) (t % size + 1) (8 * t) (more_filled l told)
 
 module _ {T : Type 0} (upto : T → ℕ → T) (first : T → ℕ → ℕ) (size t word : ℕ) (l : Lead T) where
   -- the tasks that the word shows behind the stage leave none needed that lies at the place of block t, or they may
@@ -72,7 +80,7 @@ module _ {W R P S T : Type 0} (upto : T → ℕ → T) (first : T → ℕ → �
   Fills (fill.Full place.Cell word back) = (back ≡ rows) × (word ≢ 8 * t) × (v' ≡ looked v (t % size + 1) word)
   Fills (fill.Full place.Turn word back) =
       (l : Lead T) × (v.lead ≡ Some l) × (back ≡ rows) × (v.seen ≤ turn_behind word) × HasNoRoom upto first size t word l
-      × (v' ≡ looked_turn (looked v (t % size + 1) (8 * t)) word) × LeavesNeed upto first size t word l
+      × (v' ≡ after_looks size t word v) × LeavesNeed upto first size t word l
 
 module _ {T : Type 0} (upto : T → ℕ → T) (first : T → ℕ → ℕ) (t u : ℕ) where
   -- the seat has this task, which needs this block
@@ -98,7 +106,8 @@ NotLast lead = (l : Lead _) → lead ≡ Some l → l.out ≢ 0
 module _ {W R P S T : Type 0} (upto : T → ℕ → T) (is_rows : T → ℕ → R → Type 0) (size u : ℕ) (v v' : View T) where
   -- the seat has the block and its rows by a load and an exchange, or the word of the last step shows it with another reader
   abbrev pub Reads : Read W R P S T → Type 0
-  Reads (read.Got rows) = AreRowsOf upto is_rows rows v.job u × (v' ≡ reading (looked v (u % size + 1 + size) (4 * u + 2)) (u % size + 1 + size) (4 * u + 2) u)
+  Reads (read.Got rows) =
+      AreRowsOf upto is_rows rows v.job u × (v' ≡ reading (looked v (u % size + 1 + size) (4 * u + 2)) (u % size + 1 + size) (4 * u + 2) u)
   Reads (read.Held word) =
       (word ≡ 4 * u + 3) × NotLast v.lead
       × ((v' ≡ missing v (u % size + 1 + size) word) ⊎ (v' ≡ missing (looked v (u % size + 1 + size) (4 * u + 2)) (u % size + 1 + size) word))

@@ -35,4 +35,11 @@ holder_of g (won_by j p) = Some (record { seat = j; given = g; taken = is_taking
 
 -- the core of a ring with so many cells and seats
 abbrev pub core_of : {T : Type 0} → ℕ → ℕ → RingState T → State
-core_of size seats b = record { size = size; seats = seats; assembled = b.assembled; filled = b.filled; turn = holder_of b.given b.turn; phases = phases_from b.phase b.given (b.filled - b.given) }
+core_of size seats b = record {
+  size = size;
+  seats = seats;
+  assembled = b.assembled;
+  filled = b.filled;
+  turn = holder_of b.given b.turn;
+  phases = phases_from b.phase b.given (b.filled - b.given);
+}

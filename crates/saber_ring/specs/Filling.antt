@@ -8,7 +8,8 @@ use Rattle.saber_ring.specs.declared.view.View.{View}
 use Rattle.saber_ring.specs.Shows.{first_of_task}
 use Rattle.saber_ring.specs.Plays.{led, begun, stored, word_before}
 
-module _ {T R : Type 0} (is_told : T → ℕ → Type 0) (upto : T → ℕ → T) (first : T → ℕ → ℕ) (filled : T → R → T) (is_rows : T → ℕ → R → Type 0) (size t : ℕ) (rows : R) (seen : ℕ) where
+module _ {T R : Type 0} (is_told : T → ℕ → Type 0) (upto : T → ℕ → T) (first : T → ℕ → ℕ) (filled : T → R → T)
+    (is_rows : T → ℕ → R → Type 0) (size t : ℕ) (rows : R) (seen : ℕ) where
   -- these are the rows of the next task, and no task that isn't behind those seen needs what lies at the place of its block
   abbrev pub MayFill : Option (Lead T) → Type 0
   MayFill None = ⊥

@@ -192,22 +192,35 @@ module _ {T R P S : Type 0} where
 
   -- the task is filled
   abbrev pub fills : Step (SlotValue R P S) → SeatNow T R P S → ℕ → SeatNow T R P S → Type 0
-  fills st m n m' = (l : Lead T) (told : T) → m.0.lead ≡ Some l → l.fill ≡ Stored told → (n ≡ st.first) × (m' ≡ (led m.0 st.word n (more_filled l told), m.1))
+  fills st m n m' = (l : Lead T) (told : T) → m.0.lead ≡ Some l → l.fill ≡ Stored told
+      → (n ≡ st.first) × (m' ≡ (led m.0 st.word n (more_filled l told), m.1))
 
-  -- a task is claimed, and its cell's slot, which is empty, goes with the seat
+  -- the seat has the task, with the data of the tasks up to it, and its cell's slot, which is empty
+  abbrev pub GotTask : (T → ℕ → T) → (T → ℕ → ℕ) → ℕ → ℕ → SeatNow T R P S → ℕ → SeatNow T R P S → Type 0
+  GotTask upto first t i m n m' =
+      (told : T) × (t < 2 ^ 42) × (m' ≡ (with_job m.0 i n (record { task = t; told = told }), (i, Empty) ∷ m.1))
+      × (m.0.base ≡ Some (upto told 0)) × IsNew t m.0 × (upto told (t + 1) ≡ told) × (first_of_task upto first told t ≤ t)
+
+  -- a task is claimed, or its word wasn't the ready one
   abbrev pub claims : (T → ℕ → T) → (T → ℕ → ℕ) → Step (SlotValue R P S) → SeatNow T R P S → ℕ → SeatNow T R P S → Type 0
   claims upto first st m n m' = (t : ℕ) → st.first ≡ 8 * t + 2
-      → (n ≡ st.first → (told : T) × (t < 2 ^ 42) × (m' ≡ (with_job m.0 st.word n (record { task = t; told = told }), (st.word, Empty) ∷ m.1)) × (m.0.base ≡ Some (upto told 0)) × IsNew t m.0 × (upto told (t + 1) ≡ told) × (first_of_task upto first told t ≤ t))
+      → (n ≡ st.first → GotTask upto first t st.word m n m')
       × (n ≢ st.first → (m' ≡ (missing m.0 st.word n, m.1)) × (st.first < n → t < 2 ^ 42) × Refuses t m.0)
 
   abbrev pub deposits : Bool → Step (SlotValue R P S) → SeatNow T R P S → ℕ → SeatNow T R P S → Type 0
   deposits mark st m n m' = (x : HeldTask T) → m.0.job ≡ Some x → m' ≡ (without_job m.0 st.word n x.task mark, rest m.1)
 
+  -- the seat has the turn, and the stage that stands behind the tasks that the word shows, stopped or not as it shows
+  abbrev pub GotTurn : (T → ℕ → T) → (T → ℕ → Bool → S → Type 0) → SeatNow T R P S → ℕ → SeatNow T R P S → Type 0
+  GotTurn upto is_stage m n m' =
+      (told : T) × (x : S) × is_stage told (turn_behind n) (is_stopped (state_shown n)) x
+      × (m.0.seen ≤ turn_behind n) × (turn_behind n ≤ 2 ^ 42)
+      × (m' ≡ (with_turn m.0 n (record { behind = turn_behind n; state = state_shown n; told = told }), (0, Stage x) ∷ m.1))
+      × WinsLeft m.0 (turn_behind n) (is_stopped (state_shown n)) × (m.0.base ≡ Some (upto told 0))
+
   abbrev pub wins : (T → ℕ → T) → (T → ℕ → Bool → S → Type 0) → Step (SlotValue R P S) → SeatNow T R P S → ℕ → SeatNow T R P S → Type 0
   wins upto is_stage st m n m' =
-      (n ≡ st.first → (told : T) × (x : S) × is_stage told (turn_behind n) (is_stopped (state_shown n)) x × (m.0.seen ≤ turn_behind n) × (turn_behind n ≤ 2 ^ 42)
-      × (m' ≡ (with_turn m.0 n (record { behind = turn_behind n; state = state_shown n; told = told }), (0, Stage x) ∷ m.1))
-      × WinsLeft m.0 (turn_behind n) (is_stopped (state_shown n)) × (m.0.base ≡ Some (upto told 0)))
+      (n ≡ st.first → GotTurn upto is_stage m n m')
       × (n ≢ st.first → (m' ≡ (looked_turn m.0 n, m.1)) × (m.0.seen ≤ turn_behind n) × SeesFree m.0 n)
 
   -- the holder of the turn looks for the next piece
@@ -221,9 +234,14 @@ module _ {T R P S : Type 0} where
       × (m' ≡ (with_take m.0 i n (record { behind = h.behind; state = TookPiece; told = told }), (i, Piece p) ∷ m.1))
   Took is_piece true h told i m n m' = m' ≡ (with_take m.0 i n (record { behind = h.behind; state = TookMark; told = told }), m.1)
 
+  -- the data of the turn go on by the task that is taken
+  abbrev pub TookNext : (T → ℕ → T) → (T → ℕ → P → Type 0) → Bool → HeldTurn T → ℕ → SeatNow T R P S → ℕ → SeatNow T R P S → Type 0
+  TookNext upto is_piece mark h i m n m' =
+      (told : T) × (h.told ≡ upto told h.behind) × (m.0.base ≡ Some (upto told 0)) × Took is_piece mark h told i m n m'
+
   abbrev pub takes_piece : (T → ℕ → T) → (T → ℕ → P → Type 0) → Bool → Step (SlotValue R P S) → SeatNow T R P S → ℕ → SeatNow T R P S → Type 0
   takes_piece upto is_piece mark st m n m' = (h : HeldTurn T) → m.0.turn ≡ Some h
-      → (n ≡ st.first → (h.behind < 2 ^ 42) × (h.state ≡ Open) × IsDeposited h.behind mark m.0 × ((told : T) × (h.told ≡ upto told h.behind) × (m.0.base ≡ Some (upto told 0)) × Took is_piece mark h told st.word m n m'))
+      → (n ≡ st.first → (h.behind < 2 ^ 42) × (h.state ≡ Open) × IsDeposited h.behind mark m.0 × TookNext upto is_piece mark h st.word m n m')
       × (n ≢ st.first → (m' ≡ (looked m.0 st.word n, m.1)) × (h.state ≡ Open → m.0.saw.word ≢ st.first))
 
   abbrev pub goes_on : Step (SlotValue R P S) → SeatNow T R P S → ℕ → SeatNow T R P S → Type 0
@@ -241,7 +259,8 @@ module _ {T R P S : Type 0} where
   sees_block upto first st m n m' =
       (x : HeldTask T) (u : ℕ) → m.0.job ≡ Some x → first_of_task upto first x.told x.task ≤ u → u ≤ x.task
       → st.word ≡ u % cells_of st.slots + 1 + cells_of st.slots
-      → (n ≡ 4 * u + 2 → m' ≡ (looked m.0 st.word n, m.1)) × (n ≢ 4 * u + 2 → (n ≡ 4 * u + 3) × (m' ≡ (missing m.0 st.word n, m.1)) × IsOthers m.0)
+      → (n ≡ 4 * u + 2 → m' ≡ (looked m.0 st.word n, m.1))
+      × (n ≢ 4 * u + 2 → (n ≡ 4 * u + 3) × (m' ≡ (missing m.0 st.word n, m.1)) × IsOthers m.0)
 
   -- it has the block, with its rows, or another seat was faster
   abbrev pub reads : (T → ℕ → T) → (T → ℕ → R → Type 0) → Step (SlotValue R P S) → SeatNow T R P S → ℕ → SeatNow T R P S → Type 0

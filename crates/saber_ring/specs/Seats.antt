@@ -10,7 +10,7 @@ use Rattle.saber_ring.specs.declared.view.View.{View}
 use Rattle.saber_ring.specs.declared.view.HeldTask.{HeldTask}
 use Rattle.saber_ring.specs.declared.view.HeldTurn.{HeldTurn}
 use Rattle.saber_ring.specs.declared.view.Lead.{Lead}
-use Rattle.saber_ring.specs.Shows.{no_step}
+use Rattle.saber_ring.specs.Shows.{new_view}
 
 -- the number of cells of a ring with n slots: one for the stage, and two for each
 abbrev pub cells_of : ℕ → ℕ
@@ -72,7 +72,7 @@ module _ {T : Type 0} where
 
   -- a new seat has the fixed data, and has done nothing
   abbrev pub newcomer : Option T → View T
-  newcomer base = record { base = base; lead = None; seen = 0; stopped = false; saw = no_step; before = no_step; missed = no_step; job = None; block = None; turn = None; own = [] }
+  newcomer base = new_view base None
 
   -- what another seat did goes over, and what it saw in the word of the turn
   abbrev pub joined : View T → View T → View T

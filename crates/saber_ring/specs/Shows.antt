@@ -212,7 +212,8 @@ module _ {T : Type 0} (upto : T → ℕ → T) (b : RingState T) (j : ℕ) where
     pub found : HasFound v.turn v.saw.word
     pub base : HasBase v.base v.job v.turn v.own
 
-module _ {T R P S : Type 0} (upto : T → ℕ → T) (is_rows : T → ℕ → R → Type 0) (is_piece : T → ℕ → P → Type 0) (is_stage : T → ℕ → Bool → S → Type 0) (told : T) (place : maybe.Option (maybe.Option (SlotValue R P S))) (t : ℕ) where
+module _ {T R P S : Type 0} (upto : T → ℕ → T) (is_rows : T → ℕ → R → Type 0) (is_piece : T → ℕ → P → Type 0)
+    (is_stage : T → ℕ → Bool → S → Type 0) (told : T) (place : maybe.Option (maybe.Option (SlotValue R P S))) (t : ℕ) where
   -- what lies in the slot of a task's cell: the piece of a done one, and nothing for an idle or ready one and for the mark
   abbrev pub AtHome : RingPhase → Type 0
   AtHome idle = place ≡ some (some Empty)
@@ -221,7 +222,9 @@ module _ {T R P S : Type 0} (upto : T → ℕ → T) (is_rows : T → ℕ → R 
   AtHome (done true) = place ≡ some (some Empty)
   AtHome _ = Unit {0}
 
-module _ {T R P S : Type 0} (is_told : T → ℕ → Type 0) (upto : T → ℕ → T) (first : T → ℕ → ℕ) (is_rows : T → ℕ → R → Type 0) (is_piece : T → ℕ → P → Type 0) (is_stage : T → ℕ → Bool → S → Type 0) (size : ℕ) (s : State (SlotValue R P S) (View T)) (b : RingState T) where
+module _ {T R P S : Type 0} (is_told : T → ℕ → Type 0) (upto : T → ℕ → T) (first : T → ℕ → ℕ) (is_rows : T → ℕ → R → Type 0)
+    (is_piece : T → ℕ → P → Type 0) (is_stage : T → ℕ → Bool → S → Type 0) (size : ℕ) (s : State (SlotValue R P S) (View T))
+    (b : RingState T) where
   -- the words, and what the seats know
   pub record Shape : Type 0 where
     pub some_cell : 0 < size
@@ -254,7 +257,8 @@ module _ {T R P S : Type 0} (is_told : T → ℕ → Type 0) (upto : T → ℕ �
   -- the values in the slots
   pub record Home : Type 0 where
     pub taken_cell : (m : Bool) → b.phase b.given ≡ taken m → EmptyBut b.turn
-    pub each_cell : (t : ℕ) → b.given ≤ t → t < b.given + size → AtHome upto is_rows is_piece is_stage b.told (get_elem? s.homes (t % size + 1)) t (b.phase t)
+    pub each_cell : (t : ℕ) → b.given ≤ t → t < b.given + size
+        → AtHome upto is_rows is_piece is_stage b.told (get_elem? s.homes (t % size + 1)) t (b.phase t)
     pub stage : StageHome b.turn
 
 module _ {T : Type 0} (upto : T → ℕ → T) (first : T → ℕ → ℕ) (filled : ℕ) (told : T) (fill : FillState T) (phase : ℕ → RingPhase) (u : ℕ) where
@@ -283,15 +287,18 @@ module _ {T R P S : Type 0} (upto : T → ℕ → T) (is_rows : T → ℕ → R 
 abbrev pub oldest : {T : Type 0} → ℕ → RingState T → ℕ
 oldest size b = begun_of b.fill b.filled - size
 
-module _ {T R P S : Type 0} (is_told : T → ℕ → Type 0) (upto : T → ℕ → T) (first : T → ℕ → ℕ) (is_rows : T → ℕ → R → Type 0) (size : ℕ) (s : State (SlotValue R P S) (View T)) (b : RingState T) where
+module _ {T R P S : Type 0} (is_told : T → ℕ → Type 0) (upto : T → ℕ → T) (first : T → ℕ → ℕ) (is_rows : T → ℕ → R → Type 0) (size : ℕ)
+    (s : State (SlotValue R P S) (View T)) (b : RingState T) where
   -- the blocks: each from the first that the tasks not yet assembled need to the last one begun stands in the table, with
   -- its own rows at home or with one reader
   pub record Blocks : Type 0 where
     pub room : begun_of b.fill b.filled ≤ first_of_task upto first b.told b.assembled + size
     pub each_block : (u : ℕ) → BlockFits upto first b.filled b.told b.fill b.phase u (b.block u)
     pub in_hand : FillFits is_told upto b.filled b.told b.block b.fill
-    pub each_block_word : (u : ℕ) → oldest size b ≤ u → u < oldest size b + size → slice_index s.words (u % size + 1 + size) ≡ 4 * u + block_number (b.block u)
-    pub each_block_home : (u : ℕ) → oldest size b ≤ u → u < oldest size b + size → BlockHome upto is_rows (told_with b.fill b.told) (get_elem? s.homes (u % size + 1 + size)) u (b.block u)
+    pub each_block_word : (u : ℕ) → oldest size b ≤ u → u < oldest size b + size
+        → slice_index s.words (u % size + 1 + size) ≡ 4 * u + block_number (b.block u)
+    pub each_block_home : (u : ℕ) → oldest size b ≤ u → u < oldest size b + size
+        → BlockHome upto is_rows (told_with b.fill b.told) (get_elem? s.homes (u % size + 1 + size)) u (b.block u)
 
 abbrev pub same_mark : Bool → Bool → Bool
 same_mark true true = true
@@ -347,16 +354,33 @@ module _ {T : Type 0} where
   abbrev pub IsLive : View T → Type 0
   IsLive v = live v.base ≡ 1
 
+  -- of a seat that has done nothing and saw nothing
+  abbrev pub new_view : Option T → Option (Lead T) → View T
+  new_view base lead = record {
+    base = base;
+    lead = lead;
+    seen = 0;
+    stopped = false;
+    saw = no_step;
+    before = no_step;
+    missed = no_step;
+    job = None;
+    block = None;
+    turn = None;
+    own = [];
+  }
+
   -- the view of the first seat of a new ring
   abbrev pub start : T → View T
-  start told = record { base = Some told; lead = Some (record { told = told; filled = 0; out = 0; fill = Waiting }); seen = 0; stopped = false; saw = no_step; before = no_step; missed = no_step; job = None; block = None; turn = None; own = [] }
+  start told = new_view (Some told) (Some (record { told = told; filled = 0; out = 0; fill = Waiting }))
 
 -- the same, of the view of the token that carries the data
 abbrev pub first_view : {T : Type 0} → Option T → View T
-first_view None = record { base = None; lead = None; seen = 0; stopped = false; saw = no_step; before = no_step; missed = no_step; job = None; block = None; turn = None; own = [] }
+first_view None = new_view None None
 first_view (Some x) = start x
 
-module _ {T R P S : Type 0} (is_told : T → ℕ → Type 0) (upto : T → ℕ → T) (first : T → ℕ → ℕ) (is_rows : T → ℕ → R → Type 0) (is_piece : T → ℕ → P → Type 0) (is_stage : T → ℕ → Bool → S → Type 0) where
+module _ {T R P S : Type 0} (is_told : T → ℕ → Type 0) (upto : T → ℕ → T) (first : T → ℕ → ℕ) (is_rows : T → ℕ → R → Type 0)
+    (is_piece : T → ℕ → P → Type 0) (is_stage : T → ℕ → Bool → S → Type 0) where
   -- the table shows this state of the ring
   pub record ShowsAs (size : ℕ) (s : State (SlotValue R P S) (View T)) (b : RingState T) : Type 0 where
     pub shape : Shape is_told upto first is_rows is_piece is_stage size s b

@@ -2,7 +2,7 @@
 ghost use Rattle.std.specs.Prelude.{◌≡◌, Option, None, IfOk};
 
 use atomic_table::{Play, Seat, Table, TableRule};
-use std::alloc::{AllocError, Global};
+use std::alloc::{AllocError as NoMemory, Global};
 use std::marker::{Brand, PhantomData};
 
 /// The fixed data of a ring: what its work says of no task at all. The caller of `Ring::new` picks
@@ -34,7 +34,7 @@ impl<T, J: FixedData<T>> Play<u8, Option<T>> for Say<J> {
 
 // A token whose view is what J names. A table is told its data when it is made, and this is how a
 // name becomes something that it can be told.
-pub(crate) fn token<T, J: FixedData<T>>(alloc: Global) -> Result<Seat<u8, Option<T>>, AllocError>
+pub(crate) fn token<T, J: FixedData<T>>(alloc: Global) -> Result<Seat<u8, Option<T>>, NoMemory>
     ensures { IfOk result (λ s. s.me.0 ≡ J.told) }
 {
     let (table, mut seat) = Table::<u8, Option<T>, (), NoRule, Global>::of_words(alloc, &[0], &())?;

@@ -2,7 +2,7 @@
 ghost use Rattle.std.specs.Prelude.{◌≡◌, ℕ, ◌+◌, ◌-◌, ◌*◌, ◌/◌, ◌%◌, ◌^◌, ◌<◌, ◌≤◌, drop, length, slice_index, OnOk, OnErr};
 ghost use Rattle.saber_ring.specs.Freeing.{IsSlid, IsSameList};
 
-use std::alloc::AllocError;
+use std::alloc::AllocError as NoMemory;
 use std::collections::VecDeque;
 
 /// For the tasks from one on, in a row, the first block that each needs: its number is that of the first
@@ -25,13 +25,13 @@ impl Frees {
 
     /// Tells the first block of one task more, and lets go of the tasks below `from`. So the list stays as
     /// short as the ring where `from` follows the fills. For want of memory it is as it was.
-    pub fn push(&mut self, next: u64, from: u64) -> Result<(), AllocError>
+    pub fn push(&mut self, next: u64, from: u64) -> Result<(), NoMemory>
         requires { from ≤ self.old.base + length self.old.list.items }
         ensures slid { OnOk result (IsSlid next from self.old self.new) }
         ensures same { OnErr result (IsSameList self.old self.new) }
     {
         if self.list.push_back(next).is_err() {
-            return Err(AllocError);
+            return Err(NoMemory);
         }
         self.cut(from);
         Ok(())

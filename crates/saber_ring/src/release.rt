@@ -1,11 +1,11 @@
 //! What is done with the stage and the turn's word, on plain seats.
-ghost use Rattle.std.specs.Prelude.{◌^◌, ◌≡◌, ◌≢◌, ◌≤◌, ℕ, ◌∷◌, Some};
+ghost use Rattle.std.specs.Prelude.{◌^◌, ◌≡◌, ◌≢◌, ◌≤◌, ℕ, ◌∷◌};
 ghost use Rattle.atomic_table.specs.Table.{rest};
 ghost use Rattle.saber_ring.specs.declared.view.SlotValue.TheVariants.{Empty};
 ghost use Rattle.saber_ring.specs.declared.view.TurnState.TheVariants.{TookPiece};
-ghost use Rattle.saber_ring.specs.Plays.{state_shown, is_stopped, without_turn};
+ghost use Rattle.saber_ring.specs.Plays.{state_shown, is_stopped};
 ghost use Rattle.saber_ring.specs.Shows.{free, live, turn_word};
-ghost use Rattle.saber_ring.specs.Releasing.{SetsDown};
+ghost use Rattle.saber_ring.specs.Releasing.{SetsDown, IsSetDown};
 
 use crate::plays::Releasing;
 use crate::ring::Ring;
@@ -29,7 +29,7 @@ pub(crate) fn set_down<W: Work>(
     requires small { k ≤ 2 ^ 42 }
     ensures same { place.new.table_id ≡ place.old.table_id }
     ensures seen { place.old.me.0.seen ≤ k }
-    ensures told { (h : _) × (place.old.me.0.turn ≡ Some h) × (place.new.me ≡ (without_turn place.old.me.0 (turn_word k (free (is_stopped state))) h, rest place.old.me.1)) }
+    ensures told { IsSetDown k state place.old.me place.new.me }
 {
     let words = &ring.table.shared;
     let word = free_word(k, state);

@@ -26,7 +26,8 @@ pub struct Ring<W: Work> {
     >,
     // The number of cells.
     pub(crate) size: u64,
-    pub ghost sized: { (table.shared.table_id.words ≡ 2 * size + 1) × (table.shared.table_id.slots ≡ 2 * size + 1) × (table.shared.key.size ≡ size) × (0 < size) × (size ≤ 1024) },
+    pub ghost sized: { (table.shared.table_id.words ≡ 2 * size + 1) × (table.shared.table_id.slots ≡ 2 * size + 1)
+        × (table.shared.key.size ≡ size) × (0 < size) × (size ≤ 1024) },
 }
 
 impl<W: Work> Ring<W> {

@@ -235,7 +235,8 @@ impl<W: Work> Seat<W> {
         requires own { self.old.place.table_id ≡ ring.now.table.shared.table_id }
         requires turn { HoldsTurn turn.old.behind turn.old.state self.old.place.me.0.turn }
         ensures same { self.new.place.table_id ≡ self.old.place.table_id }
-        ensures turn { (turn.new.behind ≡ turn.old.behind) × (turn.new.stage ≡ turn.old.stage) × HoldsTurn turn.new.behind turn.new.state self.new.place.me.0.turn }
+        ensures turn { (turn.new.behind ≡ turn.old.behind) × (turn.new.stage ≡ turn.old.stage)
+            × HoldsTurn turn.new.behind turn.new.state self.new.place.me.0.turn }
         ensures open { IsGot result → turn.old.state ≡ Open }
         ensures told { Takes W.upto W.is_piece ring.now.size turn.old.behind turn.old.state self.old.place.me.0 self.new.place.me.0 result }
     {

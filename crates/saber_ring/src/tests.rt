@@ -1,10 +1,10 @@
 //! Seats of small rings, stepped by hand.
-ghost use Rattle.std.specs.Prelude.{◌≡◌, ℕ, Bool, true, false, ◌+◌, ◌-◌, ◌%◌, ◌^◌, ◌≤◌, None, Some, IfOk, List, [], ◌∷◌, ◌++◌, length, take};
+ghost use Rattle.std.specs.Prelude.{◌≡◌, ℕ, true, false, ◌+◌, ◌-◌, ◌≤◌, None, Some, IfOk, IfSome, List, [], ◌∷◌, ◌++◌, take};
 ghost use Rattle.saber_core.specs.Works.{IsPieceOrMark};
 ghost use Rattle.saber_ring.specs.Calls.{HasJobOf, HoldsTurn, StageAt};
 ghost use Rattle.saber_ring.specs.Closing.{IsLast};
-ghost use Rattle.saber_ring.specs.Plays.{without_job};
-ghost use Rattle.saber_ring.specs.Sums.{AreNumbers, IsNumber, IsSum, IsTotal, GoesOnBy, AreFirsts, IsNextTask, FillsSo, HasPut, Keeps, HasWorked, WasRead, EndsInSum};
+ghost use Rattle.saber_ring.specs.Sums.{AreNumbers, IsNumber, IsSum, IsTotal, GoesOnBy, AreFirsts, IsNextTask, FillsSo, HasPut};
+ghost use Rattle.saber_ring.specs.Sums.{KeepsTask, Keeps, HandsIn, HasWorked, Needs, WasRead, EndsInSum};
 ghost use Rattle.saber_ring.specs.Numbers.{again, keeps, whole, early, rises};
 
 use crate::{
@@ -12,7 +12,7 @@ use crate::{
     Win, block, phase, turn_of,
 };
 use saber_core::Work;
-use std::alloc::AllocError;
+use std::alloc::AllocError as NoMemory;
 use std::collections::{LinkedList, VecDeque};
 use std::process::Abort;
 use std::test::Fail;
@@ -114,7 +114,9 @@ macro_rules! not_yet {
     };
 }
 
-// The rows of a task are a number. A task adds up its own and that of the task before it, and the stage
+mod rounds;
+
+// The rows of a task are a number. A task adds up its own and those of the two tasks before it, and the stage
 // what the tasks add. What is too great stops the stage.
 struct Adding;
 
@@ -137,7 +139,7 @@ impl Work for Adding {
 
     ghost is_piece = { IsSum };
 
-    ghost first = { λ told t. t - 1 };
+    ghost first = { λ told t. t - 2 };
 
     ghost is_stage = { IsTotal };
 
@@ -158,18 +160,19 @@ impl FixedData<LinkedList<u64>> for Nothing {
     ghost told = { Some [] };
 }
 
-// The first tasks that tasks 0, 1 and 2 need.
-fn firsts(rt: &HostRuntime) -> Result<Frees, AllocError>
+// The first tasks that tasks 0 to 3 need.
+fn firsts(rt: &HostRuntime) -> Result<Frees, NoMemory>
     ensures { IfOk result AreFirsts }
 {
-    let mut list = VecDeque::with_capacity(rt.alloc(), 3)?;
+    let mut list = VecDeque::with_capacity(rt.alloc(), 4)?;
+    list.push_back(0)?;
     list.push_back(0)?;
     list.push_back(0)?;
     list.push_back(1)?;
     Ok(Frees { base: 0, list })
 }
 
-// Fills one of the first three tasks.
+// Fills one of the first four tasks.
 fn fill(
     seat: &mut Seat<Adding>,
     ring: &Ring<Adding>,
@@ -180,7 +183,7 @@ fn fill(
     requires own { seat.old.place.table_id ≡ ring.now.table.shared.table_id }
     requires idle { seat.old.place.me.0.turn ≡ None }
     requires next { IsNextTask t seat.old.place.me.0.lead }
-    requires few { t ≤ 2 }
+    requires few { t ≤ 3 }
     requires frees { AreFirsts frees.now }
     ensures same { seat.new.place.table_id ≡ seat.old.place.table_id }
     ensures told { FillsSo ring.now.size t rows seat.old.place.me.0 seat.new.place.me.0 result }
@@ -188,17 +191,33 @@ fn fill(
     seat.fill(ring, t, rows, frees)
 }
 
-// Hands in what a task adds, by the two numbers that were read for it, or the mark where that is too great.
-fn hand_in(seat: &mut Seat<Adding>, ring: &Ring<Adding>, job: Job<Adding>, own: u64, back: u64)
+// Three numbers added up, if the sum fits.
+fn sum_of(own: u64, back: u64, older: u64) -> Option<u64>
+    ensures { IfSome result (λ sum. sum ≡ own + back + older) }
+{
+    let sum = own.checked_add(back)?;
+    sum.checked_add(older)
+}
+
+// Hands in what a task adds, by the three numbers that were read for it, or the mark where that is too great.
+fn hand_in(
+    seat: &mut Seat<Adding>,
+    ring: &Ring<Adding>,
+    job: Job<Adding>,
+    own: u64,
+    back: u64,
+    older: u64,
+)
     requires own { seat.old.place.table_id ≡ ring.now.table.shared.table_id }
     requires idle { (seat.old.place.me.0.block ≡ None) × (seat.old.place.me.0.turn ≡ None) }
     requires has { HasJobOf job.task seat.old.place.me.0.job }
     requires mine { WasRead own job.task seat.old.place.me.0.job }
     requires before { WasRead back (job.task - 1) seat.old.place.me.0.job }
+    requires earlier { WasRead older (job.task - 2) seat.old.place.me.0.job }
     ensures same { seat.new.place.table_id ≡ seat.old.place.table_id }
-    ensures told { (mark : Bool) × (w : ℕ) × (seat.new.place.me.0 ≡ without_job seat.old.place.me.0 (job.task % ring.now.size + 1) w job.task mark) }
+    ensures told { HandsIn ring.now.size job.task seat.old.place.me.0 seat.new.place.me.0 }
 {
-    seat.deposit(ring, job, own.checked_add(back));
+    seat.deposit(ring, job, sum_of(own, back, older));
 }
 
 // Takes a piece up into the stage, if it goes on and the sum fits.
@@ -237,7 +256,7 @@ fn take_next(
     requires turn { HoldsTurn turn.old.behind turn.old.state seat.old.place.me.0.turn }
     requires stage { StageAt IsTotal turn.old.behind turn.old.state turn.old.stage seat.old.place.me.0.turn }
     ensures same { seat.new.place.table_id ≡ seat.old.place.table_id }
-    ensures kept { (seat.new.place.me.0.lead ≡ seat.old.place.me.0.lead) × (seat.new.place.me.0.job ≡ seat.old.place.me.0.job) × (seat.new.place.me.0.block ≡ seat.old.place.me.0.block) }
+    ensures kept { KeepsTask seat.old.place.me.0 seat.new.place.me.0 }
     ensures turn { HoldsTurn turn.new.behind turn.new.state seat.new.place.me.0.turn }
     ensures stage { StageAt IsTotal turn.new.behind turn.new.state turn.new.stage seat.new.place.me.0.turn }
 {
@@ -275,7 +294,7 @@ fn put(
     requires own { seat.old.place.table_id ≡ ring.now.table.shared.table_id }
     requires idle { seat.old.place.me.0.turn ≡ None }
     requires next { IsNextTask t seat.old.place.me.0.lead }
-    requires few { t ≤ 2 }
+    requires few { t ≤ 3 }
     requires frees { AreFirsts frees.now }
     ensures same { seat.new.place.table_id ≡ seat.old.place.table_id }
     ensures told { HasPut rows seat.old.place.me.0 seat.new.place.me.0 }
@@ -296,7 +315,7 @@ fn is_full(
     requires own { seat.old.place.table_id ≡ ring.now.table.shared.table_id }
     requires idle { seat.old.place.me.0.turn ≡ None }
     requires next { IsNextTask t seat.old.place.me.0.lead }
-    requires few { t ≤ 2 }
+    requires few { t ≤ 3 }
     requires frees { AreFirsts frees.now }
     ensures same { seat.new.place.table_id ≡ seat.old.place.table_id }
     ensures kept { Keeps seat.old.place.me.0 seat.new.place.me.0 }
@@ -308,7 +327,7 @@ fn is_full(
 fn is_not_ready(rt: &impl Abort, seat: &mut Seat<Adding>, ring: &Ring<Adding>, t: u64, found: u64)
     requires own { seat.old.place.table_id ≡ ring.now.table.shared.table_id }
     requires idle { (seat.old.place.me.0.job ≡ None) × (seat.old.place.me.0.turn ≡ None) }
-    requires few { t ≤ 2 }
+    requires few { t ≤ 3 }
     ensures same { seat.new.place.table_id ≡ seat.old.place.table_id }
     ensures kept { Keeps seat.old.place.me.0 seat.new.place.me.0 }
 {
@@ -325,6 +344,26 @@ fn is_held(rt: &impl Abort, seat: &mut Seat<Adding>, ring: &Ring<Adding>, found:
     held!(rt, seat.win(ring), found);
 }
 
+// Reads a block that the job needs, and puts it back.
+fn look(
+    rt: &impl Abort,
+    seat: &mut Seat<Adding>,
+    ring: &Ring<Adding>,
+    job: &Job<Adding>,
+    u: u64,
+) -> u64
+    requires own { seat.old.place.table_id ≡ ring.now.table.shared.table_id }
+    requires idle { (seat.old.place.me.0.block ≡ None) × (seat.old.place.me.0.turn ≡ None) }
+    requires needs { Needs job.now.task u seat.old.place.me.0.job }
+    ensures same { seat.new.place.table_id ≡ seat.old.place.table_id }
+    ensures kept { Keeps seat.old.place.me.0 seat.new.place.me.0 }
+    ensures rows { WasRead result u seat.old.place.me.0.job }
+{
+    let rows = rows!(rt, seat.read(ring, job, u));
+    seat.put_back(ring, job, rows);
+    rows
+}
+
 // Reads what a task needs, and hands in what it adds.
 fn work(rt: &impl Abort, seat: &mut Seat<Adding>, ring: &Ring<Adding>, job: Job<Adding>)
     requires own { seat.old.place.table_id ≡ ring.now.table.shared.table_id }
@@ -334,11 +373,10 @@ fn work(rt: &impl Abort, seat: &mut Seat<Adding>, ring: &Ring<Adding>, job: Job<
     ensures kept { HasWorked seat.old.place.me.0 seat.new.place.me.0 }
 {
     let t = job.task();
-    let own = rows!(rt, seat.read(ring, &job, t));
-    seat.put_back(ring, &job, own);
-    let back = rows!(rt, seat.read(ring, &job, t.saturating_sub(1)));
-    seat.put_back(ring, &job, back);
-    hand_in(seat, ring, job, own, back);
+    let own = look(rt, seat, ring, &job, t);
+    let back = look(rt, seat, ring, &job, t.saturating_sub(1));
+    let older = look(rt, seat, ring, &job, t.saturating_sub(2));
+    hand_in(seat, ring, job, own, back, older);
 }
 
 // Wins the turn, takes the next piece, and releases the turn. True where the stage went on.
@@ -352,126 +390,6 @@ fn advance(rt: &impl Abort, seat: &mut Seat<Adding>, ring: &Ring<Adding>, goes: 
     let done = take_next(seat, ring, &mut turn, goes);
     seat.release(ring, turn);
     done
-}
-
-#[test]
-fn one_cell_goes_round(rt: HostRuntime) -> Result<(), Fail> {
-    let frees = firsts(&rt)?;
-    let made = Ring::<Adding>::new::<Nothing>(rt.alloc(), 1, 0);
-    let Ok((ring, mut s)) = made else {
-        panic!(rt; "no memory")
-    };
-    let mut u = s.split(&ring);
-    put(&rt, &mut s, &ring, 0, 7, &frees);
-    is_full(&rt, &mut s, &ring, 1, &frees, Place::Cell, 2);
-    let job = job!(rt, s.claim(&ring, 0));
-    assert_eq!(rt; job.task(), 0);
-    is_not_ready(&rt, &mut u, &ring, 0, 3);
-    let mut turn = turn!(rt, u.win(&ring));
-    is_held(&rt, &mut s, &ring, 1);
-    not_yet!(rt, u.take(&ring, &mut turn), 3);
-    u.release(&ring, turn);
-    work(&rt, &mut s, &ring, job);
-    assert!(rt; advance(&rt, &mut s, &ring, true));
-    is_not_ready(&rt, &mut s, &ring, 0, 8);
-    let turn = turn!(rt, u.win(&ring));
-    assert_eq!(rt; (turn.behind(), turn.is_stopped()), (1, false));
-    is_held(&rt, &mut s, &ring, 3);
-    u.release(&ring, turn);
-    // Task 1 needs the rows of task 0, which lie where its own have to.
-    is_full(&rt, &mut s, &ring, 1, &frees, Place::Turn, 2);
-    s.join(&ring, u);
-    assert_eq!(rt; end(ring, s), 14);
-    Ok(())
-}
-
-#[test]
-fn a_mark_stops_for_good(rt: HostRuntime) -> Result<(), Fail> {
-    let frees = firsts(&rt)?;
-    let made = Ring::<Adding>::new::<Nothing>(rt.alloc(), 1, 0);
-    let Ok((ring, mut s)) = made else {
-        panic!(rt; "no memory")
-    };
-    put(&rt, &mut s, &ring, 0, 7, &frees);
-    let job = job!(rt, s.claim(&ring, 0));
-    s.deposit(&ring, job, None);
-    let mut turn = turn!(rt, s.win(&ring));
-    assert!(rt; !take_next(&mut s, &ring, &mut turn, true));
-    assert!(rt; turn.is_stopped());
-    s.release(&ring, turn);
-    is_not_ready(&rt, &mut s, &ring, 0, 7);
-    is_full(&rt, &mut s, &ring, 1, &frees, Place::Cell, 7);
-    let mut turn = turn!(rt, s.win(&ring));
-    assert!(rt; turn.is_stopped());
-    not_yet!(rt, s.take(&ring, &mut turn), 7);
-    s.release(&ring, turn);
-    assert_eq!(rt; end(ring, s), 0);
-    Ok(())
-}
-
-#[test]
-fn three_seats_add_up_and_stop(rt: HostRuntime) -> Result<(), Fail> {
-    let frees = firsts(&rt)?;
-    let made = Ring::<Adding>::new::<Nothing>(rt.alloc(), 2, 0);
-    let Ok((ring, mut s)) = made else {
-        panic!(rt; "no memory")
-    };
-    let mut u = s.split(&ring);
-    let mut w = s.split(&ring);
-    put(&rt, &mut s, &ring, 0, 30, &frees);
-    put(&rt, &mut s, &ring, 1, 40, &frees);
-    is_full(&rt, &mut s, &ring, 2, &frees, Place::Cell, 2);
-    let first = job!(rt, w.claim(&ring, 0));
-    let second = job!(rt, u.claim(&ring, 1));
-    let own = rows!(rt, w.read(&ring, &first, 0));
-    read_by_another!(rt, u.read(&ring, &second, 0), 3);
-    w.put_back(&ring, &first, own);
-    work(&rt, &mut w, &ring, first);
-    // The stage takes task 0 while its block is out with the reader of task 1.
-    let back = rows!(rt, u.read(&ring, &second, 0));
-    let mut turn = turn!(rt, w.win(&ring));
-    is_held(&rt, &mut s, &ring, 1);
-    assert!(rt; take_next(&mut w, &ring, &mut turn, true));
-    // The cell is idle for task 2, and the word of the turn shows no task assembled yet.
-    is_full(&rt, &mut s, &ring, 2, &frees, Place::Turn, 1);
-    w.release(&ring, turn);
-    // Task 1 isn't assembled, and needs block 0, which lies where block 2 has to.
-    is_full(&rt, &mut s, &ring, 2, &frees, Place::Turn, 2);
-    u.put_back(&ring, &second, back);
-    work(&rt, &mut u, &ring, second);
-    assert!(rt; advance(&rt, &mut u, &ring, true));
-    put(&rt, &mut s, &ring, 2, 50, &frees);
-    s.join(&ring, u);
-    s.join(&ring, w);
-    // The last seat does what is left, and stops the stage there.
-    let last = job!(rt, s.claim(&ring, 2));
-    work(&rt, &mut s, &ring, last);
-    assert!(rt; !advance(&rt, &mut s, &ring, false));
-    assert_eq!(rt; end(ring, s), 130);
-    Ok(())
-}
-
-#[test]
-fn a_stop_comes_with_a_reader_out(rt: HostRuntime) -> Result<(), Fail> {
-    let frees = firsts(&rt)?;
-    let made = Ring::<Adding>::new::<Nothing>(rt.alloc(), 2, 0);
-    let Ok((ring, mut s)) = made else {
-        panic!(rt; "no memory")
-    };
-    let mut u = s.split(&ring);
-    put(&rt, &mut s, &ring, 0, 30, &frees);
-    put(&rt, &mut s, &ring, 1, 40, &frees);
-    let first = job!(rt, s.claim(&ring, 0));
-    let second = job!(rt, u.claim(&ring, 1));
-    let back = rows!(rt, u.read(&ring, &second, 0));
-    s.deposit(&ring, first, None);
-    assert!(rt; !advance(&rt, &mut s, &ring, true));
-    u.put_back(&ring, &second, back);
-    work(&rt, &mut u, &ring, second);
-    is_full(&rt, &mut s, &ring, 2, &frees, Place::Cell, 7);
-    s.join(&ring, u);
-    assert_eq!(rt; end(ring, s), 0);
-    Ok(())
 }
 
 #[test]

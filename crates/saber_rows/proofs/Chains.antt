@@ -37,7 +37,7 @@ line_turn turns.Again old new had g = moved same old new had g
 line_turn (turns.Stop AllRead) old new had g = (g.0, refl, g.1)
 line_turn (turns.Stop (Failed ReadFault)) old new had g = absurd g.1
 line_turn (turns.Stop (Failed NoMemory)) old new had g = (g.0, refl, g.1)
-line_turn (turns.Stop (Failed (Bad n c))) old new had g = (g.0, refl, g.1)
+line_turn (turns.Stop (Failed (Bad n c))) old new had g = absurd g.1
 
 -- what has enough before it has enough after it
 pub enough_line : (t : Turn) (old new : Reader) → LineGives t old new → HasEnough old → IfAgain t (HasEnough new)

@@ -11,7 +11,9 @@ use Rattle.saber_rows.specs.Merging.{Merger, MergeMoves, merger_over}
 
 -- what two calls do, one after the other, is what one does that gives what both give
 abbrev pub MovesGoOn : Type 0
-MovesGoOn = (f g : Read → Read) (a b c : Reader) (had mid has : Option (List ℕ)) → Moves f a b had mid → Moves g b c mid has → Moves (λ rest. f (g rest)) a c had has
+MovesGoOn =
+    (f g : Read → Read) (a b c : Reader) (had mid has : Option (List ℕ)) → Moves f a b had mid → Moves g b c mid has
+    → Moves (λ rest. f (g rest)) a c had has
 
 -- a reader that isn't called stands
 abbrev pub ReadersStand : Type 0
@@ -23,13 +25,18 @@ ReadersTell = (f : Read → Read) (a b : Reader) (had has : Option (List ℕ)) �
 
 -- a reader that is called goes on from the rows that it gave, or ends with its cause
 abbrev pub LinesPass : Type 0
-LinesPass = (result : Result (Option Row) RowEnd) (old new : Reader) (had has : Option (List ℕ)) → Called result old new had has → (side : Side) (last : Option ℤ) (count : ℕ) → SidePassed side last count (bare old) → LinePassed side last count result new
+LinesPass =
+    (result : Result (Option Row) RowEnd) (old new : Reader) (had has : Option (List ℕ)) → Called result old new had has
+    → (side : Side) (last : Option ℤ) (count : ℕ) → SidePassed side last count (bare old) → LinePassed side last count result new
 
 -- ---- of a merge
 
 -- the same of two calls of a merge
 abbrev pub MergesGoOn : Type 0
-MergesGoOn = (f g : Read → Read) (a b c : Merger) (had mid has had_right mid_right has_right : Option (List ℕ)) → MergeMoves f a b had mid had_right mid_right → MergeMoves g b c mid has mid_right has_right → MergeMoves (λ rest. f (g rest)) a c had has had_right has_right
+MergesGoOn =
+    (f g : Read → Read) (a b c : Merger) (had mid has had_right mid_right has_right : Option (List ℕ))
+    → MergeMoves f a b had mid had_right mid_right → MergeMoves g b c mid has mid_right has_right
+    → MergeMoves (λ rest. f (g rest)) a c had has had_right has_right
 
 -- of none
 abbrev pub MergersStand : Type 0
@@ -37,4 +44,6 @@ MergersStand = (m : Merger) (had had_right : Option (List ℕ)) → MergeMoves (
 
 -- and over sources that tell
 abbrev pub MergesTell : Type 0
-MergesTell = (f : Read → Read) (a b : Merger) (had has had_right has_right : Option (List ℕ)) → MergeMoves f a b had has had_right has_right → merger_over a had had_right ≡ option_map f (merger_over b has has_right)
+MergesTell =
+    (f : Read → Read) (a b : Merger) (had has had_right has_right : Option (List ℕ)) → MergeMoves f a b had has had_right has_right
+    → merger_over a had had_right ≡ option_map f (merger_over b has has_right)

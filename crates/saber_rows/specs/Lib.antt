@@ -13,3 +13,6 @@ pub mod Turns
 pub mod Laws
 pub mod Heads
 pub mod Merging
+pub mod FedSizes
+pub mod FedTurns
+pub mod FedSteps

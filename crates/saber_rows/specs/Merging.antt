@@ -5,7 +5,8 @@ use Rattle.saber_plan.specs.declared.rows.Side.{Side}
 use Rattle.saber_plan.specs.declared.rows.Side.TheVariants.{Left, Right}
 use Rattle.saber_plan.specs.declared.windows.Mark.{Mark}
 use Rattle.saber_plan.specs.Rows.{Read, End, all_read, cut, bad, before, stamp, RowFits}
-use Rattle.saber_plan.specs.Windows.{by_side, in_order, step_mark}
+use Rattle.saber_io.specs.Outside.{Rose}
+use Rattle.saber_plan.specs.Windows.{no_rows, by_side, in_order, step_mark}
 use Rattle.saber_plan.specs.Inputs.{merged}
 use Rattle.saber_rows.specs.declared.ends.RowEnd.{RowEnd}
 use Rattle.saber_rows.specs.declared.ends.RowEnd.TheVariants.{ReadFault, NoMemory, Bad}
@@ -14,7 +15,7 @@ use Rattle.saber_rows.specs.declared.heads.Look.TheVariants.{Found, Ended, Faile
 use Rattle.saber_rows.specs.declared.merges.Merge.{Merge}
 use Rattle.saber_rows.specs.Reader.{Reader, CanFollow, to_come, nothing, NeedsMore}
 use Rattle.saber_rows.specs.Calls.{WantsMemory}
-use Rattle.saber_rows.specs.Heads.{Headed, headed, bare, side_rest, front_of, Takes, SidePassed}
+use Rattle.saber_rows.specs.Heads.{Headed, headed, bare, side_rest, front_of, Finds, Takes, SidePassed}
 
 -- both sides, each with the row in front of it
 pub record Merger : Type 0 where
@@ -77,7 +78,8 @@ merge_answer m = settled (front_of m.left) (front_of m.right)
 pub record MergeMoves (out : Read → Read) (old new : Merger) (had has had_right has_right : Option (List ℕ)) : Type 0 where
   pub left : Takes old.left.reader new.left.reader had has
   pub right : Takes old.right.reader new.right.reader had_right has_right
-  pub rest : (p q : Bool) (z w : List ℕ) → CanFollow p new.left.reader z → CanFollow q new.right.reader w → merger_rest p q old (left.taken ++ z) (right.taken ++ w) ≡ out (merger_rest p q new z w)
+  pub rest : (p q : Bool) (z w : List ℕ) → CanFollow p new.left.reader z → CanFollow q new.right.reader w
+      → merger_rest p q old (left.taken ++ z) (right.taken ++ w) ≡ out (merger_rest p q new z w)
 
 -- whatever follows, no row is left, and this end is next
 abbrev pub MergeHasEnd : End → Merger → Type 0
@@ -125,3 +127,28 @@ pub record MergeTurn (m : Mark) (answer : MergeAnswer) (old new : Merger) (had h
   pub ends : MergeEndsBy answer new
   pub passed : PassedOn m answer new
   pub kept : merge_answer new ≡ merge_kept answer
+
+-- ---- clauses of calls
+
+-- a merge of readers of the two sides that gave nothing yet
+abbrev pub StartsPassed : Reader → Reader → Merger → Type 0
+StartsPassed l r m = l.rules.side ≡ Left → r.rules.side ≡ Right → l.answer ≡ None → r.answer ≡ None → Passed no_rows m
+
+-- a turn, after any rows that were passed on
+abbrev pub MergeTurns : MergeAnswer → Merger → Merger → (had has had_right has_right : Option (List ℕ)) → Type 0
+MergeTurns answer old new had has had_right has_right =
+    (m : Mark) → Passed m old → MergeTurn m answer old new had has had_right has_right
+
+-- the same once this stands in front of the left side, whose source isn't asked
+abbrev pub RightTurns : Look → MergeAnswer → Merger → Merger → (had_right has_right : Option (List ℕ)) → Type 0
+RightTurns look answer old new had_right has_right =
+    (m : Mark) (had : Option (List ℕ)) → Passed m old → Finds look old.left → MergeTurn m answer old new had had had_right has_right
+
+-- a fault of reading this side comes first only where its count rose
+abbrev pub FaultRose : Side → Merger → MergeAnswer → ℕ → ℕ → Type 0
+FaultRose side old answer faults faults' = merge_answer old ≡ None → answer ≡ Err (side, ReadFault) → Rose faults faults'
+
+-- the same of the right side, once it is asked
+abbrev pub RightFaultRose : Merger → MergeAnswer → ℕ → ℕ → Type 0
+RightFaultRose old answer faults faults' =
+    ((e : RowEnd) → front_of old.right ≢ Some (Failed e)) → answer ≡ Err (Right, ReadFault) → Rose faults faults'

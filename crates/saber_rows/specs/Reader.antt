@@ -14,9 +14,9 @@ use Rattle.saber_rows.specs.Waiting.{rows_in}
 use Rattle.saber_rows.specs.Buffer.{bytes_of}
 use Rattle.saber_rows.specs.declared.lines.Lines.{Lines}
 
--- What is fixed of the reader's side; how many lines are behind it, the greatest timestamp, and the rows that it holds; the timestamp of the last row that it gave;
--- the bytes that it took from its source and has not used; whether it saw the end of its source; the end, once it is known to stand behind the rows that are held;
--- and, once an answer has ended it, that answer, which each later call gives again.
+-- What is fixed of the reader's side; how many lines are behind it, the greatest timestamp, and the rows that it holds; the timestamp of
+-- the last row that it gave; the bytes that it took from its source and has not used; whether it saw the end of its source; the end, once
+-- it is known to stand behind the rows that are held; and, once an answer has ended it, that answer, which each later call gives again.
 pub record Reader : Type 0 where
   pub rules : SideRules
   pub place : Place

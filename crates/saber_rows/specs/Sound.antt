@@ -26,8 +26,8 @@ WasSeen over ended = over ≡ Some AllRead → ended ≡ true
 abbrev pub WasDue : ℕ → Option ℕ → Option ℕ → Type 0
 WasDue slack high last = IfSome last (λ t. is_ready_at slack high t ≡ true)
 
--- They are rows of the side, in order of time, none before the last one given; there is room for those that are not due, and each has a line; without slack there are none.
--- As long as lines may follow, the row given last was due.
+-- They are rows of the side, in order of time, none before the last one given; there is room for those that are not due, and each has a
+-- line; without slack there are none. As long as lines may follow, the row given last was due.
 pub record Sound (s : SideRules) (p : Place) (last : Option ℕ) (over : Option Behind) : Type 0 where
   pub fit : AllByRecursion (RowFits s.side s.columns) p.accepted
   pub in_time : InTime last p.accepted

@@ -20,7 +20,9 @@ first_judged r n = judge_at r.rules r.place (without_cr (take n r.held))
 
 -- whatever follows (nothing does, where the line is not whole), the first n bytes are a line, and the rest begins at with_end
 abbrev pub Fronts : Bool → List ℕ → ℕ → ℕ → Type 0
-Fronts whole held n with_end = (z : List ℕ) → (whole ≡ false → z ≡ []) → lines_of (held ++ z) ≡ record { content = take n held; whole = whole } ∷ lines_of (drop with_end held ++ z)
+Fronts whole held n with_end =
+    (z : List ℕ) → (whole ≡ false → z ≡ [])
+    → lines_of (held ++ z) ≡ record { content = take n held; whole = whole } ∷ lines_of (drop with_end held ++ z)
 
 -- a line that is not whole is the last
 abbrev pub IsLastIf : Bool → Reader → Type 0
@@ -48,11 +50,11 @@ NoneReady r = MatchOption r.over (due r.rules r.place ≡ []) (λ end. r.place.a
 abbrev pub IsReady : Reader → Type 0
 IsReady r = IsFirstReady r.over r.rules r.place r.place.accepted
 
--- the reader has nothing but this end left; no read failed
+-- the reader has nothing but this end left; no read failed, and a line that is refused stops it only once that is known
 abbrev pub Stops : Stop → Reader → Type 0
 Stops (Failed ReadFault) r = ⊥
 Stops (Failed NoMemory) r = EndsBy (Err NoMemory) r
-Stops (Failed (Bad n c)) r = EndsBy (Err (Bad n c)) r
+Stops (Failed (Bad n c)) r = ⊥
 Stops AllRead r = EndsBy (Ok None) r
 
 -- what a turn without the source comes to

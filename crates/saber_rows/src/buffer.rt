@@ -7,9 +7,9 @@ use std::alloc::{AllocError, Global};
 /// Bytes in a buffer that is never larger than it was made.
 #[derive(Drop)]
 pub(crate) struct Buffer {
-    buf: Vec<u8>,
-    at: usize,
-    end: usize,
+    pub(crate) buf: Vec<u8>,
+    pub(crate) at: usize,
+    pub(crate) end: usize,
     ghost sized: { vec_len buf ≡ 16384 },
     ghost ordered: { at ≤ end },
     ghost inside: { end ≤ 16384 },
@@ -19,7 +19,7 @@ pub(crate) struct Buffer {
 const SIZE: usize = 16384;
 
 // What each read is offered.
-const PIECE: usize = 4096;
+pub(crate) const PIECE: usize = 4096;
 
 impl Buffer {
     ghost use Rattle.std.specs.Prelude.{◌≡◌, ◌≤◌, ◌+◌, [], length, drop, IfOk, OnOk, OnErr, Ok};
@@ -53,7 +53,7 @@ impl Buffer {
     }
 
     // Moves the bytes to the front of the buffer, if a piece does not fit behind them.
-    fn make_room(&mut self)
+    pub(crate) fn make_room(&mut self)
         requires { length (bytes_of self.old) ≤ 4097 }
         ensures same { bytes_of self.new ≡ bytes_of self.old }
         ensures room { self.new.end + 4096 ≤ 16384 }

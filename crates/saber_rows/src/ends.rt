@@ -1,4 +1,7 @@
 // How a reader ends.
+ghost use Rattle.std.specs.Prelude.{◌≡◌, Some};
+ghost use Rattle.saber_rows.specs.FedTurns.{answer_in};
+
 use saber_plan::{Row, RowCause};
 
 /// Why a reader gives no more rows, where that isn't the end of its source.
@@ -10,6 +13,25 @@ pub enum RowEnd {
     NoMemory,
     /// A line is refused. Lines count from 1, empty ones too.
     Bad { line: u64, cause: RowCause },
+}
+
+/// What a reader over a feed gives: a row, the end of the rows, or that nothing is there as yet.
+#[derive(Drop)]
+pub enum FedRow {
+    Row(Row),
+    End,
+    NotYet,
+}
+
+// What the answer of a reader over a source is over a feed.
+pub(crate) fn fed_row(answer: Result<Option<Row>, RowEnd>) -> Result<FedRow, RowEnd>
+    ensures { answer_in result ≡ Some answer }
+{
+    match answer {
+        Ok(Some(row)) => Ok(FedRow::Row(row)),
+        Ok(None) => Ok(FedRow::End),
+        Err(end) => Err(end),
+    }
 }
 
 /// The end that is known to stand behind the rows that a reader holds.

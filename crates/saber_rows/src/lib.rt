@@ -1,8 +1,12 @@
-//! The rows of a file, from the bytes of a source, for every cutting of its reads.
+//! The rows of a file, from the bytes of a source or of a feed, for every cutting of its reads.
 #![tactic(auto)]
 
 mod buffer;
 mod ends;
+mod fed_buffer;
+mod fed_lines;
+#[cfg(test)]
+mod fed_tests;
 mod fields;
 mod heads;
 mod judge;
@@ -18,7 +22,7 @@ mod quick_rows;
 mod tests;
 mod waiting;
 
-pub use ends::RowEnd;
+pub use ends::{FedRow, RowEnd};
 pub use laws::{
     lines_pass, mergers_stand, merges_go_on, merges_tell, moves_go_on, readers_stand, readers_tell,
 };

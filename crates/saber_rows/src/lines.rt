@@ -37,12 +37,12 @@ pub struct Lines {
     waiting: Waiting,
     // the timestamp of the last row that was given
     last: Option<u64>,
-    held: Buffer,
+    pub(crate) held: Buffer,
     // whether the source said that it ended
-    ended: bool,
+    pub(crate) ended: bool,
     // the end behind the rows that wait, once it is known
-    over: Option<Behind>,
-    stop: Option<Stop>,
+    pub(crate) over: Option<Behind>,
+    pub(crate) stop: Option<Stop>,
     ghost some: { 1 ≤ columns },
     ghost few: { columns ≤ 32 },
     ghost bounded: { max_lines ≤ 2 ^ 40 },
@@ -55,7 +55,7 @@ pub struct Lines {
 
 // What one turn of the reader came to.
 #[derive(Drop)]
-enum Turn {
+pub(crate) enum Turn {
     Row(Row),
     Again,
     Stop(Stop),
@@ -158,7 +158,7 @@ impl Lines {
     }
 
     // Takes a line of n bytes, with the line feed that ends it if it is whole.
-    fn take_line(&mut self, n: usize, whole: bool) -> Turn
+    pub(crate) fn take_line(&mut self, n: usize, whole: bool) -> Turn
         requires within { end_of n whole ≤ length (bytes_of self.old.held) }
         requires line { Fronts whole (bytes_of self.old.held) n (end_of n whole) }
         requires last { IsLastIf whole (reader_of self.old) }
@@ -279,7 +279,7 @@ impl Lines {
     }
 
     // Refuses a line that is too long to be held.
-    fn refuse_long(&mut self) -> Turn
+    pub(crate) fn refuse_long(&mut self) -> Turn
         requires over { self.old.over ≡ None }
         requires long { 4097 < length (bytes_of self.old.held) }
         requires feed { HasNoFeed (bytes_of self.old.held) }
@@ -296,7 +296,7 @@ impl Lines {
     }
 
     // Takes what stands behind the last line feed.
-    fn take_last(&mut self) -> Turn
+    pub(crate) fn take_last(&mut self) -> Turn
         requires over { self.old.over ≡ None }
         requires none { due (reader_of self.old).rules (reader_of self.old).place ≡ [] }
         requires ended { self.old.ended ≡ true }
@@ -327,7 +327,7 @@ impl Lines {
     }
 
     // The first row that waits, if it can be given.
-    fn give(&mut self) -> Option<Row>
+    pub(crate) fn give(&mut self) -> Option<Row>
         ensures none { result ≡ None → (self.new ≡ self.old) × NoneReady (reader_of self.old) }
         ensures some { IfSome result (λ row. Steps (before row) (reader_of self.old) (reader_of self.new)) }
         ensures given { IfSome result (λ row. IsGiven row (reader_of self.old) (reader_of self.new)) }
@@ -344,7 +344,7 @@ impl Lines {
 
     // The row at the front, if it is a row at the first look, and there is no slack. The source is not asked.
     #[inline]
-    fn quick_row(&mut self) -> Option<Row>
+    pub(crate) fn quick_row(&mut self) -> Option<Row>
         ensures none { result ≡ None → self.new ≡ self.old }
         ensures some { IfSome result (λ row. Steps (before row) (reader_of self.old) (reader_of self.new)) }
         ensures given { IfSome result (λ row. IsGiven row (reader_of self.old) (reader_of self.new)) }

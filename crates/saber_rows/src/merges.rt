@@ -15,21 +15,20 @@ pub struct Merge {
 }
 
 impl Merge {
-    ghost use Rattle.std.specs.Prelude.{◌≡◌, ◌≢◌, ◌≤◌, ℕ, List, Option, None, Some, Err, IfSome};
-    ghost use Rattle.saber_io.specs.Outside.{Rose};
+    ghost use Rattle.std.specs.Prelude.{◌≡◌, ◌≢◌, ◌≤◌, Some, Err, IfSome};
     ghost use Rattle.saber_plan.specs.declared.rows.Side.TheVariants as sides;
     ghost use Rattle.saber_plan.specs.declared.windows.Mark.{Mark};
-    ghost use Rattle.saber_plan.specs.Windows.{no_rows};
     ghost use Rattle.saber_rows.specs.declared.ends.RowEnd.{RowEnd};
     ghost use Rattle.saber_rows.specs.declared.heads.Look.{Look};
     ghost use Rattle.saber_rows.specs.Reader.{reader_of, NeedsMore};
-    ghost use Rattle.saber_rows.specs.Heads.{headed, Finds, front_of};
-    ghost use Rattle.saber_rows.specs.Merging.{merger_of, new_merger, settled, merge_answer, Passed, MergeTurn};
+    ghost use Rattle.saber_rows.specs.Heads.{headed, front_of};
+    ghost use Rattle.saber_rows.specs.Merging.{merger_of, new_merger, settled, merge_answer, Passed, StartsPassed, MergeTurns, RightTurns};
+    ghost use Rattle.saber_rows.specs.Merging.{FaultRose, RightFaultRose};
 
     /// The merge of a reader of the left side and one of the right. Takes no memory.
     pub fn new(left: Lines, right: Lines) -> Merge
         ensures is { merger_of result ≡ new_merger (reader_of left) (reader_of right) }
-        ensures passed { (reader_of left).rules.side ≡ sides.Left → (reader_of right).rules.side ≡ sides.Right → (reader_of left).answer ≡ None → (reader_of right).answer ≡ None → Passed no_rows (merger_of result) }
+        ensures passed { StartsPassed (reader_of left) (reader_of right) (merger_of result) }
     {
         Merge {
             left: Head::new(left),
@@ -39,10 +38,11 @@ impl Merge {
 
     // The next row, where the left side is read to its end: the right side's.
     fn right_row<S: Source>(&mut self, right: &mut S) -> Result<Option<Row>, (Side, RowEnd)>
-        ensures turn { (m : Mark) (had : Option (List ℕ)) → Passed m (merger_of self.old) → Finds Look.Ended (merger_of self.old).left → MergeTurn m result (merger_of self.old) (merger_of self.new) had had (S.left right.old) (S.left right.new) }
-        ensures again { IfSome (settled (Some Look.Ended) (front_of (merger_of self.old).right)) (λ answer. (result ≡ answer) × (self.new ≡ self.old) × (right.new ≡ right.old)) }
+        ensures turn { RightTurns Look.Ended result (merger_of self.old) (merger_of self.new) (S.left right.old) (S.left right.new) }
+        ensures again { IfSome (settled (Some Look.Ended) (front_of (merger_of self.old).right))
+            (λ answer. (result ≡ answer) × (self.new ≡ self.old) × (right.new ≡ right.old)) }
         ensures left { (e : RowEnd) → result ≢ Err (sides.Left, e) }
-        ensures cause { ((e : RowEnd) → front_of (merger_of self.old).right ≢ Some (Look.Failed e)) → result ≡ Err (sides.Right, RowEnd.ReadFault) → Rose (S.faults right.old) (S.faults right.new) }
+        ensures cause { RightFaultRose (merger_of self.old) result (S.faults right.old) (S.faults right.new) }
         ensures good { result ≢ Err (sides.Right, RowEnd.ReadFault) → S.faults right.new ≡ S.faults right.old }
         ensures left_rules { (merger_of self.new).left.reader.rules ≡ (merger_of self.old).left.reader.rules }
         ensures right_rules { (merger_of self.new).right.reader.rules ≡ (merger_of self.old).right.reader.rules }
@@ -63,10 +63,11 @@ impl Merge {
         stamp: u64,
         right: &mut S,
     ) -> Result<Option<Row>, (Side, RowEnd)>
-        ensures turn { (m : Mark) (had : Option (List ℕ)) → Passed m (merger_of self.old) → Finds (Look.Found stamp) (merger_of self.old).left → MergeTurn m result (merger_of self.old) (merger_of self.new) had had (S.left right.old) (S.left right.new) }
-        ensures again { IfSome (settled (Some (Look.Found stamp)) (front_of (merger_of self.old).right)) (λ answer. (result ≡ answer) × (self.new ≡ self.old) × (right.new ≡ right.old)) }
+        ensures turn { RightTurns (Look.Found stamp) result (merger_of self.old) (merger_of self.new) (S.left right.old) (S.left right.new) }
+        ensures again { IfSome (settled (Some (Look.Found stamp)) (front_of (merger_of self.old).right))
+            (λ answer. (result ≡ answer) × (self.new ≡ self.old) × (right.new ≡ right.old)) }
         ensures left { (e : RowEnd) → result ≢ Err (sides.Left, e) }
-        ensures cause { ((e : RowEnd) → front_of (merger_of self.old).right ≢ Some (Look.Failed e)) → result ≡ Err (sides.Right, RowEnd.ReadFault) → Rose (S.faults right.old) (S.faults right.new) }
+        ensures cause { RightFaultRose (merger_of self.old) result (S.faults right.old) (S.faults right.new) }
         ensures good { result ≢ Err (sides.Right, RowEnd.ReadFault) → S.faults right.new ≡ S.faults right.old }
         ensures left_rules { (merger_of self.new).left.reader.rules ≡ (merger_of self.old).left.reader.rules }
         ensures right_rules { (merger_of self.new).right.reader.rules ≡ (merger_of self.old).right.reader.rules }
@@ -97,14 +98,16 @@ impl Merge {
         right: &mut S,
     ) -> Result<Option<Row>, (Side, RowEnd)>
         // What the call takes of the sources and of the rows that are left, whatever bytes follow, and why a row doesn't come.
-        ensures turn { (m : Mark) → Passed m (merger_of self.old) → MergeTurn m result (merger_of self.old) (merger_of self.new) (S.left left.old) (S.left left.new) (S.left right.old) (S.left right.new) }
+        ensures turn { MergeTurns result (merger_of self.old) (merger_of self.new) (S.left left.old) (S.left left.new) (S.left right.old) (S.left right.new) }
 
         // An answer that ends the merge is given again.
-        ensures again { IfSome (merge_answer (merger_of self.old)) (λ answer. (result ≡ answer) × (self.new ≡ self.old) × (left.new ≡ left.old) × (right.new ≡ right.old)) }
+        ensures again { IfSome (merge_answer (merger_of self.old))
+            (λ answer. (result ≡ answer) × (self.new ≡ self.old) × (left.new ≡ left.old) × (right.new ≡ right.old)) }
 
         // A fault of reading comes first only in a call in which that side's count rose; else that count stays, and none falls.
-        ensures left_cause { merge_answer (merger_of self.old) ≡ None → result ≡ Err (sides.Left, RowEnd.ReadFault) → Rose (S.faults left.old) (S.faults left.new) }
-        ensures right_cause { (m : Mark) → Passed m (merger_of self.old) → merge_answer (merger_of self.old) ≡ None → result ≡ Err (sides.Right, RowEnd.ReadFault) → Rose (S.faults right.old) (S.faults right.new) }
+        ensures left_cause { FaultRose sides.Left (merger_of self.old) result (S.faults left.old) (S.faults left.new) }
+        ensures right_cause { (m : Mark) → Passed m (merger_of self.old)
+            → FaultRose sides.Right (merger_of self.old) result (S.faults right.old) (S.faults right.new) }
         ensures left_good { result ≢ Err (sides.Left, RowEnd.ReadFault) → S.faults left.new ≡ S.faults left.old }
         ensures right_good { result ≢ Err (sides.Right, RowEnd.ReadFault) → S.faults right.new ≡ S.faults right.old }
         ensures left_count { S.faults left.old ≤ S.faults left.new }

@@ -13,7 +13,8 @@ pub all_map : (P Q : ℕ × Part → Type 0) (es : Entries) → ((e : ℕ × Par
 all_map P Q [] f h = tt
 all_map P Q (e ∷ es) f h = (f e h.0, all_map P Q es f h.1)
 
-dropped_case : (P : ℕ × Part → Type 0) (i : ℕ) (b : Bool) (e : ℕ × Part) (es : Entries) → AllByRecursion P (dropped i es) → AllByRecursion P (e ∷ es) → AllByRecursion P (cond b (dropped i es) (e ∷ es))
+dropped_case : (P : ℕ × Part → Type 0) (i : ℕ) (b : Bool) (e : ℕ × Part) (es : Entries) → AllByRecursion P (dropped i es)
+    → AllByRecursion P (e ∷ es) → AllByRecursion P (cond b (dropped i es) (e ∷ es))
 dropped_case P i true e es rest h = rest
 dropped_case P i false e es rest h = h
 
@@ -21,14 +22,16 @@ pub all_dropped : (P : ℕ × Part → Type 0) (i : ℕ) (es : Entries) → AllB
 all_dropped P i [] h = tt
 all_dropped P i (e ∷ es) h = dropped_case P i (nat_le e.0 i) e es (all_dropped P i es h.1) h
 
-pub all_pushed : (P Q : ℕ × Part → Type 0) (es : Entries) (n : ℕ) (p : Part) → ((e : ℕ × Part) → P e → Q (e.0, merge e.1 p)) → Q (n, p) → AllByRecursion P es → AllByRecursion Q (pushed es n p)
+pub all_pushed : (P Q : ℕ × Part → Type 0) (es : Entries) (n : ℕ) (p : Part) → ((e : ℕ × Part) → P e → Q (e.0, merge e.1 p))
+    → Q (n, p) → AllByRecursion P es → AllByRecursion Q (pushed es n p)
 all_pushed P Q [] n p f g h = (g, tt)
 all_pushed P Q (e ∷ es) n p f g h = (f e h.0, all_pushed P Q es n p f g h.1)
 
 -- ---- what windows have
 
 -- the first entries are of no window from i on
-at_dropped : (i j n : ℕ) (p : Part) (es : Entries) (b : Bool) → nat_le n i ≡ b → i ≤ j → part_at (dropped i es) j ≡ part_at es j → part_at (cond b (dropped i es) ((n, p) ∷ es)) j ≡ cond (nat_lt j n) p (part_at es j)
+at_dropped : (i j n : ℕ) (p : Part) (es : Entries) (b : Bool) → nat_le n i ≡ b → i ≤ j → part_at (dropped i es) j ≡ part_at es j
+    → part_at (cond b (dropped i es) ((n, p) ∷ es)) j ≡ cond (nat_lt j n) p (part_at es j)
 at_dropped i j n p es true e h rest =
     let past : nat_lt j n ≡ false = grind (arith, nat_tests) in
     rest ∙ ap (λ b. cond b p (part_at es j)) (sym past)
@@ -38,7 +41,8 @@ pub part_at-dropped : (i j : ℕ) (es : Entries) → i ≤ j → part_at (droppe
 part_at-dropped i j [] h = refl
 part_at-dropped i j (e ∷ es) h = at_dropped i j e.0 e.1 es (nat_le e.0 i) refl h (part_at-dropped i j es h)
 
-whole_case : (i n : ℕ) (p : Part) (es : Entries) (b : Bool) → nat_le n i ≡ b → whole (dropped i es) ≡ part_at es i → whole (cond b (dropped i es) ((n, p) ∷ es)) ≡ cond (nat_lt i n) p (part_at es i)
+whole_case : (i n : ℕ) (p : Part) (es : Entries) (b : Bool) → nat_le n i ≡ b → whole (dropped i es) ≡ part_at es i
+    → whole (cond b (dropped i es) ((n, p) ∷ es)) ≡ cond (nat_lt i n) p (part_at es i)
 whole_case i n p es true e rest =
     let past : nat_lt i n ≡ false = grind (arith, nat_tests) in
     rest ∙ ap (λ b. cond b p (part_at es i)) (sym past)

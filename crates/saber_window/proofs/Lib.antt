@@ -1,3 +1,4 @@
 mod Lemmas
 mod PastLaws
+mod Alike
 mod FreeSteps

@@ -1,3 +1,4 @@
 pub mod Frames
 pub mod Points
 pub mod Laws
+pub mod Spans

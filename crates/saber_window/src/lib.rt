@@ -10,6 +10,7 @@ mod plan_windows;
 mod plans;
 mod points;
 mod rows;
+mod spans;
 mod windowed;
 
 pub use frees::free_of;
@@ -18,6 +19,7 @@ pub use plan_windows::Windows;
 pub use plans::{begun_below, closed_below, kind_of};
 pub use points::windows_of;
 pub use rows::{ending, step_mark};
+pub use spans::Span;
 
 #[cfg(test)]
 mod tests;

@@ -5,11 +5,13 @@ ghost use Rattle.saber_plan.specs.Answers.{frame};
 ghost use Rattle.saber_plan.specs.Checked.{IsChecked};
 ghost use Rattle.saber_plan.specs.Windows.{Fits, begun, begun_count, closed, closed_count, has, kind_of, past_count};
 ghost use Rattle.saber_plan.specs.Needs.{first_window, last_window, past_window};
+ghost use Rattle.saber_window.specs.Spans.{covers, AllAlike};
 
 use crate::counts::{count_reached, count_to};
 use crate::laws::closed_within_begun;
 use crate::points::{ends_by, spans};
 use crate::rows::point;
+use crate::spans::{Span, alike_to};
 use crate::windowed::{Windowed, windowed_of};
 use saber_laws::{begun_are_counted, checked_fit, closed_are_counted};
 use saber_plan::{Kind, Mark, Measure, Plan, Row, Side};
@@ -247,6 +249,48 @@ impl Windows {
         ensures past { result.1 ≡ past_window self.now (record { row = r.now; before = before.now }) }
     {
         (self.first_window(r, before), self.past_window(r, before))
+    }
+
+    /// Points near a row of the only stream that lie in the same windows: a row in this span (`is_alike`) needs no
+    /// division to tell its windows.
+    #[inline]
+    pub fn alike(&self, r: &Row, before: &Mark) -> Span
+        ensures { AllAlike self.now (record { row = r.now; before = before.now }) result }
+    {
+        match self.windowed {
+            Windowed::One {
+                measure,
+                slide,
+                size,
+            } => match r.side {
+                Side::Left => {
+                    let point = point(measure, r, before);
+                    alike_to(slide, size, point).and(alike_to(slide, 0, point))
+                }
+                Side::Right => Span::empty(),
+            },
+            Windowed::Neither => Span::empty(),
+            Windowed::Both { .. } => Span::empty(),
+        }
+    }
+
+    /// The row is one of the only stream, and lies in the span.
+    #[inline]
+    pub fn is_alike(&self, span: Span, r: &Row, before: &Mark) -> bool
+        ensures { result ≡ covers self.now span (record { row = r.now; before = before.now }) }
+    {
+        match self.windowed {
+            Windowed::One {
+                measure,
+                slide: _,
+                size: _,
+            } => match r.side {
+                Side::Left => span.has(point(measure, r, before)),
+                Side::Right => false,
+            },
+            Windowed::Neither => false,
+            Windowed::Both { .. } => false,
+        }
     }
 
     /// The last window that has the row, if any has it.

@@ -274,6 +274,7 @@ fn rows_lie_in_windows(rt: HostRuntime) -> Result<(), Fail> {
         slide: 1,
     };
     let joined = Windows::of_plan(&join(alloc, narrow, wide)?);
+    assert!(rt; !joined.is_alike(joined.alike(&left, &before), &left, &before));
     assert_eq!(rt; joined.row_windows(&left, &before), (5, 6));
     assert_eq!(rt; joined.row_windows(&right, &before), (1, 3));
     assert_eq!(rt; joined.last_window(&right, &before), Some(2));
@@ -295,6 +296,41 @@ fn rows_lie_in_windows(rt: HostRuntime) -> Result<(), Fail> {
             ended: false
         }
     );
+    Ok(())
+}
+
+// By time a row of time 4 shares its windows (of 2 to 4, and of 4 to 6) with no other time; by rows, the second of a window of four
+// shares it with the other three.
+#[test]
+fn rows_lie_alike(rt: HostRuntime) -> Result<(), Fail> {
+    let alloc = rt.alloc();
+    let mut before = Mark {
+        left: 5,
+        right: 0,
+        last: Some(4),
+        ended: false,
+    };
+    let four = row(alloc, Side::Left, 4)?;
+    let times = Windows::of_plan(&group(alloc, Measure::Range, 3, 2)?);
+    let span = times.alike(&four, &before);
+    for (time, is_alike) in [(3, false), (4, true), (5, false)] {
+        let other = row(alloc, Side::Left, time)?;
+        assert_eq!(rt;
+            times.is_alike(span, &other, &before),
+            is_alike,
+            "time {time}"
+        );
+    }
+    let places = Windows::of_plan(&group(alloc, Measure::Rows, 4, 4)?);
+    let span = places.alike(&four, &before);
+    for (left, is_alike) in [(3, false), (4, true), (5, true), (7, true), (8, false)] {
+        before.left = left;
+        assert_eq!(rt;
+            places.is_alike(span, &four, &before),
+            is_alike,
+            "place {left}"
+        );
+    }
     Ok(())
 }
 

@@ -3,4 +3,5 @@ pub mod Lasts
 pub mod Misses
 pub mod Feedings
 pub mod Absorbings
+pub mod Pourings
 pub mod Drives

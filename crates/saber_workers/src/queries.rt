@@ -11,10 +11,29 @@ use crate::labor::Labor;
 use saber_assembly::{Absorbed, SaberWork, Stage};
 use saber_feeds::blocks_feed_tasks;
 use saber_fragment::{Block, Operator};
-use saber_io::Sink;
+use saber_io::{Pour, Sink};
 use std::alloc::Global;
 
-impl<O: Operator, K: Sink> Labor<SaberWork<O, K>> for O {
+// Takes a piece, or the mark, into the stage.
+fn take_in<O: Operator, K: Sink>(
+    op: &O,
+    alloc: Global,
+    stage: &mut Stage<O::Store, K>,
+    piece: Option<O::Piece>,
+) -> bool
+    requires { IsNext first_tasks (IsPieceOf O.plan O.shares O.is_of) (IsStageOf O.plan (seen O.held K.written K.faults) O.has_taken)
+        (Suits op.now) stage.old piece }
+    ensures none { piece ≡ None → result ≡ false }
+    ensures stage { Absorbs first_tasks (IsPieceOf O.plan O.shares O.is_of) (IsStageOf O.plan (seen O.held K.written K.faults) O.has_taken)
+        (Suits op.now) stage.old piece stage.new result }
+{
+    match stage.absorb(alloc, op, piece) {
+        Absorbed::Done => true,
+        Absorbed::Stopped => false,
+    }
+}
+
+impl<O: Operator, K: Pour> Labor<SaberWork<O, K>> for O {
     type Draft = O::Draft;
 
     ghost suits = { Suits };
@@ -67,9 +86,8 @@ impl<O: Operator, K: Sink> Labor<SaberWork<O, K>> for O {
         ensures stage { Absorbs first_tasks (IsPieceOf O.plan O.shares O.is_of) (IsStageOf O.plan (seen O.held K.written K.faults) O.has_taken)
             (Suits self.now) stage.old piece stage.new result }
     {
-        match stage.absorb(alloc, self, piece) {
-            Absorbed::Done => true,
-            Absorbed::Stopped => false,
-        }
+        let goes = take_in::<O, K>(self, alloc, stage, piece);
+        stage.pour();
+        goes
     }
 }

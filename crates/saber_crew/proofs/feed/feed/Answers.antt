@@ -1,12 +1,11 @@
-use Rattle.std.proofs.Common.{ℕ, ◌∙◌, ◌≡◌, refl, sym, subst, arith}
-use Rattle.std.specs.Prelude.{None}
+use Rattle.std.proofs.Common.{ℕ, ◌∙◌, ◌≡◌, refl, sym, subst, ap, arith}
+use Rattle.std.specs.Prelude.{Err}
 use Rattle.saber_ring.specs.declared.frees.Frees.{Frees}
 use Rattle.saber_ring.specs.Words.{view}
 use Rattle.saber_crew.specs.declared.feed.Over.TheVariants.{AllGiven, Stopped, NoMemory}
-use Rattle.saber_crew.specs.Supplies.{Gives}
 use Rattle.saber_crew.specs.declared.feed.Fed.{Fed}
-use Rattle.saber_crew.specs.Feeds.{Puts, FedTo}
-use Rattle.saber_crew.proofs.Filling.{fed_all, fed_dropped, fed_more, frees_cover, frees_more, covers, fills_next}
+use Rattle.saber_crew.specs.Feeds.{Puts, FedAll, FedTo, AreFrees}
+use Rattle.saber_crew.proofs.Filling.{given_so_far, fed_ended, fed_dropped, fed_more, frees_cover, frees_more, covers, fills_next}
 use Rattle.saber_crew.proofs.feed.feed.Goals as goal
 
 no_memory : NoMemory ≡ AllGiven → ⊥
@@ -15,47 +14,64 @@ no_memory e = cc
 no_stop : Stopped ≡ AllGiven → ⊥
 no_stop e = cc
 
-pub returns-in_default-push-clause-fed : goal.returns-in_default-push-clause-fed
-returns-in_default-push-clause-fed g c =
-    let w = g.W.Work in let i = c.loop-own.invariant in let given = g.P.Supply.has_given in
-    fed_dropped w.is_told w.filled w.upto w.is_rows w.keeps w.whole (given c.loop-own.supply c.loop-own.from) (given c.next.new.self c.next.new.from) c.loop-own.tasks c.in-Some.own c.in-Some.ensures.gives (g.P.Supply.is_over c.next.new.self) (record { tasks = c.loop-own.tasks; over = NoMemory }) (view c.args.seat.now).lead (view c.loop-own.seat).lead i.5 refl no_memory
+pub next_rows-requires-clause-given : goal.next_rows-requires-clause-given
+next_rows-requires-clause-given g c =
+    let w = g.W.Work in
+    given_so_far w.is_told w.filled w.upto w.is_rows w.keeps w.whole (g.P.Supply.has_given c.loop-own.supply c.loop-own.from) c.loop-own.tasks (view c.args.seat.now).lead (view c.loop-own.seat).lead c.loop-own.invariant.5
+
+pub returns-in-Err-clause-fed : goal.returns-in-Err-clause-fed
+returns-in-Err-clause-fed g c =
+    let w = g.W.Work in let given = g.P.Supply.has_given in let e = c.next_rows.ensures in let lead = (view c.args.seat.now).lead in
+    let before = given c.loop-own.supply c.loop-own.from in let after = given c.next_rows.new.supply c.next_rows.new.from in let at = (view c.next_rows.new.seat).lead in
+    let all : FedAll w.is_told w.upto before c.loop-own.tasks lead at = subst (FedAll w.is_told w.upto before c.loop-own.tasks lead) (sym e.kept.0) c.loop-own.invariant.5 in
+    fed_ended w.is_told w.filled w.upto w.is_rows w.keeps w.whole before after c.loop-own.tasks (g.P.Supply.is_over c.next_rows.new.supply) (record { tasks = c.loop-own.tasks; over = c.in-Err.over }) lead at all
+    c.in-Err.ensures.gives (λ is. e.over (c.in-Err.is ∙ ap Err is)) refl
+
+pub returns-in_default-clause-fed : goal.returns-in_default-clause-fed
+returns-in_default-clause-fed g c =
+    let w = g.W.Work in let given = g.P.Supply.has_given in let e = c.next_rows.ensures in let lead = (view c.args.seat.now).lead in
+    let before = given c.loop-own.supply c.loop-own.from in let after = given c.next_rows.new.supply c.next_rows.new.from in let at = (view c.next_rows.new.seat).lead in
+    let all : FedAll w.is_told w.upto before c.loop-own.tasks lead at = subst (FedAll w.is_told w.upto before c.loop-own.tasks lead) (sym e.kept.0) c.loop-own.invariant.5 in
+    fed_dropped w.is_told w.filled w.upto w.is_rows w.keeps w.whole before after c.loop-own.tasks c.in-Ok.own c.in-Ok.ensures.gives (g.P.Supply.is_over c.next_rows.new.supply) (record { tasks = c.loop-own.tasks; over = NoMemory }) lead at all refl no_memory
 
 pub fill_next-requires-clause-frees : goal.fill_next-requires-clause-frees
 fill_next-requires-clause-frees g c =
-    let w = g.W.Work in let i = c.loop-own.invariant in let given = g.P.Supply.has_given in
-    let before = given c.loop-own.supply c.loop-own.from in let after = given c.next.new.self c.next.new.from in let room = c.in-Ok.ensures.slid.0 in
-    covers w.is_told w.upto w.first c.loop-own.tasks c.push.new.self (view c.loop-own.seat).lead
-    (frees_cover w.is_told w.filled w.upto w.is_rows w.keeps w.whole before after c.loop-own.tasks c.in-Some.own c.in-Some.ensures.gives w.first c.first-first.result c.first-first.ensures (view c.args.seat.now).lead (view c.loop-own.seat).lead c.saturating_sub-from.result c.loop-own.frees c.push.new.self i.5 i.7 (omega (arith, c.saturating_sub-from.ensures)) c.in-Ok.ensures.slid)
-    (view c.loop-own.seat).seen (omega (arith, room, c.saturating_sub-from.ensures, c.cells.ensures, i.8, i.9))
+    let w = g.W.Work in let i = c.loop-own.invariant in let given = g.P.Supply.has_given in let e = c.next_rows.ensures in let lead = (view c.args.seat.now).lead in
+    let before = given c.loop-own.supply c.loop-own.from in let after = given c.next_rows.new.supply c.next_rows.new.from in let at = (view c.next_rows.new.seat).lead in
+    let all : FedAll w.is_told w.upto before c.loop-own.tasks lead at = subst (FedAll w.is_told w.upto before c.loop-own.tasks lead) (sym e.kept.0) i.5 in
+    let list : AreFrees w.upto w.first c.loop-own.tasks c.loop-own.frees at = subst (AreFrees w.upto w.first c.loop-own.tasks c.loop-own.frees) (sym e.kept.0) i.7 in
+    let room = c.in-Ok-push.ensures.slid.0 in let up = e.seen in
+    covers w.is_told w.upto w.first c.loop-own.tasks c.push.new.self at
+    (frees_cover w.is_told w.filled w.upto w.is_rows w.keeps w.whole before after c.loop-own.tasks c.in-Ok.own c.in-Ok.ensures.gives w.first c.first-first.result c.first-first.ensures lead at c.saturating_sub-from.result c.loop-own.frees c.push.new.self all list (omega (arith, c.saturating_sub-from.ensures)) c.in-Ok-push.ensures.slid)
+    (view c.next_rows.new.seat).seen (omega (arith, room, up, c.saturating_sub-from.ensures, c.cells.ensures, i.8, i.9))
 
 pub returns-then-not-fill_next-clause-fed : goal.returns-then-not-fill_next-clause-fed
 returns-then-not-fill_next-clause-fed g c =
-    let w = g.W.Work in let i = c.loop-own.invariant in let given = g.P.Supply.has_given in let lead = (view c.args.seat.now).lead in
-    let p = subst (λ b. Puts w.filled c.in-Some.own b (view c.loop-own.seat).lead (view c.fill_next.new.seat).lead) c.if-not-fill_next.true c.fill_next.ensures.put in
-    let over = g.P.Supply.is_over c.next.new.self in let fed : Fed = record { tasks = c.loop-own.tasks; over = Stopped } in
-    subst (λ o. FedTo w.is_told w.upto (given c.next.new.self c.next.new.from) over fed lead o) (sym p) (fed_dropped w.is_told w.filled w.upto w.is_rows w.keeps w.whole (given c.loop-own.supply c.loop-own.from) (given c.next.new.self c.next.new.from) c.loop-own.tasks c.in-Some.own c.in-Some.ensures.gives over fed lead (view c.loop-own.seat).lead i.5 refl no_stop)
+    let w = g.W.Work in let given = g.P.Supply.has_given in let e = c.next_rows.ensures in let lead = (view c.args.seat.now).lead in
+    let before = given c.loop-own.supply c.loop-own.from in let after = given c.next_rows.new.supply c.next_rows.new.from in let at = (view c.next_rows.new.seat).lead in
+    let all : FedAll w.is_told w.upto before c.loop-own.tasks lead at = subst (FedAll w.is_told w.upto before c.loop-own.tasks lead) (sym e.kept.0) c.loop-own.invariant.5 in
+    let p = subst (λ b. Puts w.filled c.in-Ok.own b at (view c.fill_next.new.seat).lead) c.if-not-fill_next.true c.fill_next.ensures.put in
+    let over = g.P.Supply.is_over c.next_rows.new.supply in let fed : Fed = record { tasks = c.loop-own.tasks; over = Stopped } in
+    subst (λ o. FedTo w.is_told w.upto after over fed lead o) (sym p) (fed_dropped w.is_told w.filled w.upto w.is_rows w.keeps w.whole before after c.loop-own.tasks c.in-Ok.own c.in-Ok.ensures.gives over fed lead at all refl no_stop)
 
 pub loop-own-preserved : goal.loop-own-preserved
 loop-own-preserved g c =
-    let w = g.W.Work in let i = c.loop-own.invariant in let e = c.fill_next.ensures in let given = g.P.Supply.has_given in let lead = (view c.args.seat.now).lead in
-    let at = (view c.loop-own.seat).lead in let before = given c.loop-own.supply c.loop-own.from in let after = given c.next.new.self c.next.new.from in
-    let p = subst (λ b. Puts w.filled c.in-Some.own b at (view c.fill_next.new.seat).lead) c.if-not-fill_next.false e.put in
-    let few = (fills_next w.is_told w.filled w.upto w.is_rows w.keeps w.whole before after c.loop-own.tasks c.in-Some.own c.in-Some.ensures.gives lead at i.5).1 in
-    let cover = frees_cover w.is_told w.filled w.upto w.is_rows w.keeps w.whole before after c.loop-own.tasks c.in-Some.own c.in-Some.ensures.gives w.first c.first-first.result c.first-first.ensures lead at c.saturating_sub-from.result c.loop-own.frees c.push.new.self i.5 i.7 (omega (arith, c.saturating_sub-from.ensures)) c.in-Ok.ensures.slid in
-    let slid = c.in-Ok.ensures.slid.0 in let from = c.saturating_sub-from.ensures in let cells = c.cells.ensures in let up = e.seen in let room = e.room c.if-not-fill_next.false in (
-      e.same ∙ i.0,
-      e.free,
-      e.base ∙ i.2,
-      e.hand,
-      e.below,
-      fed_more w.is_told w.filled w.upto w.is_rows w.keeps w.whole before after c.loop-own.tasks c.in-Some.own c.in-Some.ensures.gives lead at (view c.fill_next.new.seat).lead i.5 p,
+    let w = g.W.Work in let i = c.loop-own.invariant in let f = c.fill_next.ensures in let given = g.P.Supply.has_given in let e = c.next_rows.ensures in let lead = (view c.args.seat.now).lead in
+    let before = given c.loop-own.supply c.loop-own.from in let after = given c.next_rows.new.supply c.next_rows.new.from in let at = (view c.next_rows.new.seat).lead in
+    let all : FedAll w.is_told w.upto before c.loop-own.tasks lead at = subst (FedAll w.is_told w.upto before c.loop-own.tasks lead) (sym e.kept.0) i.5 in
+    let list : AreFrees w.upto w.first c.loop-own.tasks c.loop-own.frees at = subst (AreFrees w.upto w.first c.loop-own.tasks c.loop-own.frees) (sym e.kept.0) i.7 in
+    let p = subst (λ b. Puts w.filled c.in-Ok.own b at (view c.fill_next.new.seat).lead) c.if-not-fill_next.false f.put in
+    let few = (fills_next w.is_told w.filled w.upto w.is_rows w.keeps w.whole before after c.loop-own.tasks c.in-Ok.own c.in-Ok.ensures.gives lead at all).1 in
+    let cover = frees_cover w.is_told w.filled w.upto w.is_rows w.keeps w.whole before after c.loop-own.tasks c.in-Ok.own c.in-Ok.ensures.gives w.first c.first-first.result c.first-first.ensures lead at c.saturating_sub-from.result c.loop-own.frees c.push.new.self all list (omega (arith, c.saturating_sub-from.ensures)) c.in-Ok-push.ensures.slid in
+    let slid = c.in-Ok-push.ensures.slid.0 in let from = c.saturating_sub-from.ensures in let cells = c.cells.ensures in let more = e.seen in let up = f.seen in let room = f.room c.if-not-fill_next.false in (
+      f.same ∙ e.same ∙ i.0,
+      f.free,
+      f.base ∙ e.kept.1 ∙ i.2,
+      f.hand,
+      f.below,
+      fed_more w.is_told w.filled w.upto w.is_rows w.keeps w.whole before after c.loop-own.tasks c.in-Ok.own c.in-Ok.ensures.gives lead at (view c.fill_next.new.seat).lead all p,
       omega arith,
-      frees_more w.is_told w.filled w.upto w.is_rows w.keeps w.whole before after c.loop-own.tasks c.in-Some.own c.in-Some.ensures.gives w.first c.first-first.result c.first-first.ensures lead at (view c.fill_next.new.seat).lead c.push.new.self i.5 p cover,
-      omega (arith, slid, from, cells, up, i.8, i.9),
+      frees_more w.is_told w.filled w.upto w.is_rows w.keeps w.whole before after c.loop-own.tasks c.in-Ok.own c.in-Ok.ensures.gives w.first c.first-first.result c.first-first.ensures lead at (view c.fill_next.new.seat).lead c.push.new.self all p cover,
+      omega (arith, slid, from, cells, more, up, i.8, i.9),
       omega (arith, room, cells),
     )
-
-pub returns-clause-fed : goal.returns-clause-fed
-returns-clause-fed g c =
-    let w = g.W.Work in let i = c.loop-own.invariant in let given = g.P.Supply.has_given in
-    fed_all w.is_told w.filled w.upto w.is_rows w.keeps w.whole (given c.loop-own.supply c.loop-own.from) (given c.next.new.self c.next.new.from) c.loop-own.tasks (g.P.Supply.is_over c.next.new.self) (record { tasks = c.loop-own.tasks; over = AllGiven }) (view c.args.seat.now).lead (view c.loop-own.seat).lead i.5 (λ told n has. subst (Gives w.is_told w.filled w.is_rows (given c.next.new.self c.next.new.from) told n) c.in_default.is (c.next.ensures.gives told n has)) (c.next.ensures.over c.in_default.is) refl

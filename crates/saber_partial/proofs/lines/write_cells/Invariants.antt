@@ -1,7 +1,7 @@
 use Rattle.std.proofs.Common.{◌≡◌, ◌++◌, drop}
 use Rattle.saber_plan.specs.Parts.{answers_of}
 use Rattle.saber_plan.specs.Texts.{Behind}
-use Rattle.saber_partial.specs.Printing.{cells}
+use Rattle.saber_cells.specs.Cells.{cells}
 use Rattle.saber_partial.proofs.lines.write_cells.Given as goal
 
 abbrev pub invariant-loop-item : goal.invariant-loop-item

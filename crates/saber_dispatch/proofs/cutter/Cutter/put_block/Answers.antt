@@ -7,6 +7,7 @@ use Rattle.saber_dispatch.specs.Cutting.{CutTo, LooksBack}
 use Rattle.saber_dispatch.proofs.Fillings.{pushed_ok}
 use Rattle.saber_dispatch.proofs.BlockCuts.{behind, own_fit, dropped_cuts, is_too_wide, is_near, is_next, given_cuts}
 use Rattle.saber_dispatch.proofs.NextTasks.{wide_end, near_end}
+use Rattle.saber_dispatch.proofs.Faults.{wide_not_all, wide_not_fault, lack_not_all, lack_not_fault}
 use Rattle.saber_fragment.specs.declared.blocks.Block.{Block}
 use Rattle.saber_dispatch.proofs.cutter.Cutter.put_block.Goals as goal
 
@@ -27,6 +28,10 @@ returns-in-Some c = record {
       subst (λ e. CutTo (Ended e) q s had has (record a { lasts = l; ended = Some e }) (going_on xs)) (sym wide.0)
       (refl, (dropped_cuts q s had has a xs c.args.before c.args.rows f l (TooWide a.number needs) (is_too_wide q s had has a xs c.args.before c.args.rows f l (TooWide a.number needs) first needs is refl wide.1)));
   same = λ b e. cc;
+  stays =
+      let a = c.args.self.now in
+      let wide = (wide_end a.number c.look_back-first.result a.room c.in-Some.end (sym c.too_wide.ensures ∙ c.in-Some.is)).0 in
+      record { reader = refl; all = λ e. absurd (wide_not_all a.number _ c.in-Some.end wide e); fault = λ side e. absurd (wide_not_fault a.number _ c.in-Some.end side wide e) };
   read = λ side e.
       let a = c.args.self.now in
       let wide = (wide_end a.number c.look_back-first.result a.room c.in-Some.end (sym c.too_wide.ensures ∙ c.in-Some.is)).0 in
@@ -45,6 +50,7 @@ pub returns-then-is_err : goal.returns-then-is_err
 returns-then-is_err c = record {
   cuts = λ q s had has xs f. (refl, dropped_cuts q s had has c.args.self.now xs c.args.before c.args.rows f c.note.new.lasts NoMemory tt);
   same = λ b e. cc;
+  stays = record { reader = refl; all = λ e. absurd (lack_not_all e); fault = λ side e. absurd (lack_not_fault side e) };
   read = λ side e. cc;
 }
 
@@ -64,5 +70,6 @@ returns c = record {
       let block : Block = record { number = a.number; first = c.look_back-first.result; before = c.args.before; rows = c.args.rows; ended = false } in
       (is_next q s had has a xs c.args.before c.args.rows f block refl refl refl refl is (near_end a.number c.look_back-first.result a.room (sym c.too_wide.ensures ∙ c.in_default.is)), given_cuts q s had has a xs c.args.before c.args.rows f c.needs_stay.ensures c.note.new.lasts back near);
   same = λ b e. refl;
+  stays = record { reader = refl; all = λ e. e; fault = λ side e. e };
   read = λ side e. cc;
 }

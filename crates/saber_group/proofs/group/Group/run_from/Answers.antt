@@ -30,6 +30,12 @@ lies_in-requires-clause-left c = let b = c.args.batch.now in left_small (tree_of
 pub lies_in-requires-clause-right : goal.lies_in-requires-clause-right
 lies_in-requires-clause-right c = let b = c.args.batch.now in right_small (tree_of c.args.self.now) b.before c.loop-end.after b.rows.now c.loop-end.end c.requires.fits c.loop-end.invariant.mark
 
+-- rows alike lie in the windows of the first one
+pub lies_in-requires-clause-span : goal.lies_in-requires-clause-span
+lies_in-requires-clause-span c = λ x t.
+    let alike = c.alike-span.ensures x t in
+    record { begins = c.row_windows-first.ensures.first ∙ sym alike.first; ends = c.row_windows-first.ensures.past ∙ sym alike.past }
+
 -- the row that lies in other windows comes behind the first
 later : goal.returns-then-not-lies_in-clause-more
 later c =

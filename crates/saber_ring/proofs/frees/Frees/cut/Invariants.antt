@@ -1,4 +1,4 @@
-use Rattle.std.proofs.Common.{◌≡◌, ℕ, ◌+◌, ◌-◌, ◌≤◌, drop}
+use Rattle.std.proofs.Common.{◌≡◌, ◌+◌, ◌-◌, ◌≤◌, drop}
 use Rattle.saber_ring.proofs.frees.Frees.cut.Given as goal
 
 abbrev pub invariant-loop-self : goal.invariant-loop-self

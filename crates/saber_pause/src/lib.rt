@@ -1,4 +1,7 @@
 //! How a thread waits that finds nothing to do.
+#![tactic(auto)]
+
+ghost use Rattle.std.specs.Prelude.{◌≤◌};
 
 use std::sync::Wait;
 use std::sync::atomic::AtomicU64;
@@ -13,18 +16,24 @@ const FIRST_SLEEP: u32 = 8_000;
 
 const DOUBLINGS: u32 = 6;
 
-/// How often in a row a thread found nothing to do. It lets others run at first, and then sleeps, longer
-/// each time: so a thread without work leaves its processor to others, and one whose work comes soon is
-/// awake. Nobody wakes it: no sleep is longer than half a millisecond.
+/// How often in a row a thread found nothing to do. It lets others run at first, and then sleeps, longer each time: so a thread without work leaves its
+/// processor to others, and one whose work comes soon is awake. Nobody wakes it: no sleep is longer than half a millisecond.
 #[derive(Drop)]
 pub struct Pause {
-    idle: u32,
+    // It isn't counted further than to the longest sleep.
+    pub(crate) idle: u32,
     // A sleep is one on this word, which never changes.
     word: AtomicU64,
+    pub ghost counted: { idle ≤ 70 },
 }
 
 impl Pause {
-    pub fn new() -> Self {
+    ghost use Rattle.std.specs.Prelude.{◌≡◌, ◌+◌, min};
+    ghost use Rattle.saber_pause.specs.Pauses.{idle_times};
+
+    pub fn new() -> Self
+        ensures { idle_times result ≡ 0 }
+    {
         Pause {
             idle: 0,
             word: AtomicU64::new(0),
@@ -32,18 +41,22 @@ impl Pause {
     }
 
     /// There was something to do.
-    pub fn reset(&mut self) {
+    pub fn reset(&mut self)
+        ensures { idle_times self.new ≡ 0 }
+    {
         self.idle = 0;
     }
 
     /// There was nothing to do.
-    pub fn wait<R: Wait>(&mut self, rt: &R) {
+    pub fn wait<R: Wait>(&mut self, rt: &R)
+        ensures { idle_times self.new ≡ min (idle_times self.old + 1) 70 }
+    {
         if self.idle < YIELDS {
             self.idle += 1;
             yield_now();
             return;
         }
-        let doublings = (self.idle - YIELDS).min(DOUBLINGS);
+        let doublings = self.idle - YIELDS;
         if doublings < DOUBLINGS {
             self.idle += 1;
         }

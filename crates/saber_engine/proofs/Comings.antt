@@ -1,0 +1,197 @@
+-- What comes of a run, whatever gave its tasks.
+use Rattle.std.proofs.Common.{◌≡◌, ◌≢◌, ℕ, ◌+◌, ◌≤◌, List, [], ◌++◌, refl, sym, ◌∙◌, ap, subst, arith}
+use Rattle.std.specs.Prelude.{Option, Some, None}
+use Rattle.saber_io.specs.Outside.{Rose, appended}
+use Rattle.saber_plan.specs.declared.rows.Side.{Side}
+use Rattle.saber_plan.specs.declared.sizes.Sizes.{Sizes}
+use Rattle.saber_plan.specs.Inputs.{Input}
+use Rattle.saber_plan.specs.Rows.{Read}
+use Rattle.saber_plan.specs.Trees.{Tree}
+use Rattle.saber_plan.specs.Tasks.{Parts, upto, task_count, run_input}
+use Rattle.saber_plan.specs.Answers.{text, frame}
+use Rattle.saber_plan.specs.Windows.{Fits}
+use Rattle.saber_laws.specs.Cuts.{FirstOfFirst}
+use Rattle.saber_laws.specs.Pieces.{NoRowsGiveNothing, NoTasksNoRows}
+use Rattle.saber_assembly.specs.declared.stage.Stage.{Stage}
+use Rattle.saber_assembly.specs.declared.stage.State.{State}
+use Rattle.saber_assembly.specs.declared.stage.State.TheVariants as states
+use Rattle.saber_assembly.specs.declared.work.Told.{Told}
+use Rattle.saber_assembly.specs.Stages.{seen, Start, After, IsCut}
+use Rattle.saber_assembly.specs.Works.{IsTold, input_of as told_input, first_tasks, IsStageOf}
+use Rattle.saber_crew.specs.declared.feed.Fed.{Fed}
+use Rattle.saber_crew.specs.declared.feed.Over.{Over}
+use Rattle.saber_crew.specs.declared.feed.Over.TheVariants as over_by
+use Rattle.saber_crew.specs.Runs.{RunsTo}
+use Rattle.saber_dispatch.specs.declared.ends.End.{End}
+use Rattle.saber_dispatch.specs.declared.ends.End.TheVariants as cut
+use Rattle.saber_dispatch.specs.declared.cutter.Cutter.{Cutter}
+use Rattle.saber_dispatch.specs.Cutting.{end_of as cutter_end}
+use Rattle.saber_dispatch.specs.Telling as telling
+use Rattle.saber_engine.specs.declared.ends.RunEnd.{RunEnd}
+use Rattle.saber_engine.specs.declared.ends.RunEnd.TheVariants.{ReadFault, WriteFault, NoMemory}
+use Rattle.saber_engine.specs.Gives.{Gives, Assembles, Reach, all_tasks, before_task, first_tasks as some_tasks, cut_off}
+use Rattle.saber_engine.specs.Endings.{given_end, end_of}
+use Rattle.saber_engine.specs.Supplying.{first_told}
+use Rattle.saber_engine.proofs.Counts.{first_few}
+use Rattle.saber_engine.proofs.Assembled.{op_is, after, few, few_next, all_behind}
+use Rattle.saber_engine.proofs.Reaches.{some_not_all, some_not_before, some_not_cut, all_not_before, all_not_cut, before_not_all, before_not_cut, same_task, cut_not_all, cut_not_before, by_fault, by_write}
+
+-- so many tasks were given, those of this input, and the cutter tells their end, once they ended
+pub record GivenBy (s : Sizes) (c : Cutter) (end : Option End) (all : Input) (d : ℕ) : Type 0 where
+  pub size : 1 ≤ s.task
+  pub count : d ≡ task_count s.task all
+  pub ended : (e : End) → end ≡ Some e → cutter_end c ≡ Some e
+
+-- What a run comes to of which the blocks have this input: what went out, over rows of which they are the first tasks, and what the sink tells.
+-- Where they ended by a fault of reading, all of them are behind.
+pub record Came (q : Tree) (s : Sizes) (c : Cutter) (end : Option End) (all : Input) (state : State) (over : Over) (tasks : ℕ) (w written : Option (List ℕ)) (f faults : ℕ) : Type 0 where
+  pub out : List ℕ
+  pub written_is : written ≡ appended w out
+  pub gives : (rows : Read) → telling.AreTasks q s c all rows → Gives q s.task s.ring s.flush rows (end_of state over end) tasks out
+  pub all_behind : (side : Side) → end_of state over end ≡ ReadFault side → tasks ≡ task_count s.task all
+  pub write : end_of state over end ≡ WriteFault → Rose f faults
+  pub write_good : end_of state over end ≢ WriteFault → faults ≡ f
+  pub writes : f ≤ faults
+
+module _ (first : FirstOfFirst) {O S K : Type 0} (plan : O → Tree) (held : S → Parts) (taken : O → S → Input → Type 0) (wrote : K → Option (List ℕ)) (failed : K → ℕ)
+    (op : O) (s : Sizes) (w : Option (List ℕ)) (f : ℕ) (IsGiven : Told O → ℕ → Type 0) (IsOver : Type 0) (c : Cutter) (end : Option End) (stage : Stage S K) (fed : Fed)
+    (r : RunsTo (IsTold plan) first_tasks (IsStageOf plan (seen held wrote failed) taken) IsGiven IsOver (first_told op s.task w f) stage fed)
+    (given : GivenBy s c end (told_input r.told) r.count) where
+  abbrev q : Tree
+  q = plan op
+
+  abbrev all : Input
+  all = told_input r.told
+
+  abbrev start : Start
+  start = record { written = w; faults = f }
+
+  count : r.count ≡ task_count s.task all
+  count = given.count
+
+  behind : stage.k ≤ r.count
+  behind = few first plan held taken wrote failed op s.task w f IsGiven IsOver stage fed r
+
+  behind_next : stage.state ≡ states.SinkFailed → stage.k + 1 ≤ r.count
+  behind_next = few_next first plan held taken wrote failed op s.task w f IsGiven IsOver stage fed r
+
+  stands : After q s.task all start (seen held wrote failed stage) stage.state
+  stands = after first plan held taken wrote failed op s.task w f IsGiven IsOver stage fed r
+
+  stands_so : (state : State) → stage.state ≡ state → After q s.task all start (seen held wrote failed stage) state
+  stands_so state e = subst (After q s.task all start (seen held wrote failed stage)) e stands
+
+  whole_behind : stage.state ≡ states.Running → fed.over ≡ over_by.AllGiven → stage.k ≡ task_count s.task all
+  whole_behind h e = (all_behind first plan held taken wrote failed op s.task w f IsGiven IsOver stage fed r h e).0 ∙ count
+
+  abbrev so_far : List ℕ
+  so_far = text q (upto s.task all stage.k)
+
+  -- ---- over rows of which the blocks are the first tasks
+  module _ (rows : Read) (t : telling.AreTasks q s c all rows) where
+    abbrev whole_input : Input
+    whole_input = run_input q s.flush rows
+
+    known : (j : ℕ) → j ≤ r.count → upto s.task all j ≡ upto s.task whole_input j
+    known j le = ap (λ i. upto s.task i j) t.tasks ∙ first s.task whole_input (task_count s.task all) j (subst (λ k. j ≤ k) count le)
+
+    most : r.count ≤ task_count s.task whole_input
+    most =
+        let l : task_count s.task (upto s.task whole_input (task_count s.task all)) ≤ task_count s.task whole_input = first_few s.task whole_input (task_count s.task all) given.size in
+        let same : task_count s.task all ≡ task_count s.task (upto s.task whole_input (task_count s.task all)) = ap (task_count s.task) t.tasks in
+        omega (arith, l, same, count)
+
+    plain : (reach : Reach) → (reach ≡ all_tasks → stage.k ≡ task_count s.task whole_input) → ((u : ℕ) → reach ≡ before_task u → stage.k ≡ u) → (reach ≡ cut_off → ⊥) → Assembles q s.task whole_input reach stage.k so_far
+    plain reach whole at u = record {
+      few = omega (arith, behind, most);
+      all = whole;
+      before = at;
+      answers = λ _. ap (text q) (known stage.k behind);
+      cut = λ e. absurd (u e);
+    }
+
+    some : Assembles q s.task whole_input some_tasks stage.k so_far
+    some = plain some_tasks (λ e. absurd (some_not_all e)) (λ u e. absurd (some_not_before u e)) some_not_cut
+
+    lacks : Gives q s.task s.ring s.flush rows NoMemory stage.k so_far
+    lacks = record { ends = tt; assembles = some }
+
+    fails : stage.state ≡ states.SinkFailed → (out : List ℕ) → IsCut q s.task all stage.k out → Gives q s.task s.ring s.flush rows WriteFault stage.k out
+    fails h out is = record {
+      ends = tt;
+      assembles = record {
+        few = omega (arith, behind, most);
+        all = λ e. absurd (cut_not_all e);
+        before = λ u e. absurd (cut_not_before u e);
+        answers = λ u. absurd (u refl);
+        cut = λ _. record {
+          more = is.more;
+          rest = is.rest;
+          out_is = is.out_is ∙ ap (λ z. text q z ++ is.more) (known stage.k behind);
+          next_is = sym (ap (text q) (known (stage.k + 1) (behind_next h))) ∙ is.next_is ∙ ap (λ z. text q z ++ (is.more ++ is.rest)) (known stage.k behind);
+        };
+      };
+    }
+
+    -- all that was given is behind
+    gave : stage.k ≡ task_count s.task all → (e : End) → cutter_end c ≡ Some e → Gives q s.task s.ring s.flush rows (given_end (Some e)) stage.k so_far
+    gave k cut.AllRead e =
+        let x : telling.EndsAs q s (Some cut.AllRead) all rows = subst (λ o. telling.EndsAs q s o all rows) e t.ends in
+        record { ends = (x.1, x.0.near); assembles = plain all_tasks (λ _. k ∙ ap (task_count s.task) x.0.whole) (λ u i. absurd (all_not_before u i)) all_not_cut }
+    gave k (cut.Bad side line cause) e =
+        let x : telling.EndsAs q s (Some (cut.Bad side line cause)) all rows = subst (λ o. telling.EndsAs q s o all rows) e t.ends in
+        record { ends = (x.1, x.0.near); assembles = plain all_tasks (λ _. k ∙ ap (task_count s.task) x.0.whole) (λ u i. absurd (all_not_before u i)) all_not_cut }
+    gave k (cut.ReadFault side) e = record { ends = tt; assembles = some }
+    gave k (cut.TooWide task needs) e =
+        let x : telling.EndsAs q s (Some (cut.TooWide task needs)) all rows = subst (λ o. telling.EndsAs q s o all rows) e t.ends in
+        record { ends = (x.first, x.needs_is); assembles = plain (before_task task) (λ i. absurd (before_not_all task i)) (λ u i. k ∙ sym x.next ∙ same_task task u i) (before_not_cut task) }
+    gave k cut.NoMemory e = lacks
+
+  abbrev Result_of : RunEnd → Type 0
+  Result_of e = (out : List ℕ) × (wrote stage.sink ≡ appended w out) × ((rows : Read) → telling.AreTasks q s c all rows → Gives q s.task s.ring s.flush rows e stage.k out)
+
+  came : (state : State) → stage.state ≡ state → (over : Over) → fed.over ≡ over → (o : Option End) → end ≡ o → Result_of (end_of state over o)
+  came states.Running h over_by.AllGiven g None e = (so_far, (stands_so states.Running h).0, λ rows t. lacks rows t)
+  came states.Running h over_by.AllGiven g (Some x) e = (so_far, (stands_so states.Running h).0, λ rows t. gave rows t (whole_behind h g) x (given.ended x e))
+  came states.Running h over_by.Stopped g o e = (so_far, (stands_so states.Running h).0, λ rows t. lacks rows t)
+  came states.Running h over_by.NoMemory g o e = (so_far, (stands_so states.Running h).0, λ rows t. lacks rows t)
+  came states.SinkFailed h over g o e = let a = (stands_so states.SinkFailed h).0 in (a.out, a.written_is, λ rows t. fails rows t h a.out a.is_cut)
+  came states.NoMemory h over g o e = (so_far, (stands_so states.NoMemory h).0, λ rows t. lacks rows t)
+
+  sink_good : (state : State) → stage.state ≡ state → end_of state fed.over end ≢ WriteFault → failed stage.sink ≡ f
+  sink_good states.Running h u = (stands_so states.Running h).2
+  sink_good states.SinkFailed h u = absurd (u refl)
+  sink_good states.NoMemory h u = (stands_so states.NoMemory h).1
+
+  sink_rises : (state : State) → stage.state ≡ state → f ≤ failed stage.sink
+  sink_rises states.Running h = let a = (stands_so states.Running h).2 in omega (arith, a)
+  sink_rises states.SinkFailed h = (stands_so states.SinkFailed h).2
+  sink_rises states.NoMemory h = let a = (stands_so states.NoMemory h).1 in omega (arith, a)
+
+  -- what it comes to
+  pub came_to : Came q s c end all stage.state fed.over stage.k w (wrote stage.sink) f (failed stage.sink)
+  came_to =
+      let x = came stage.state refl fed.over refl end refl in
+      record {
+        out = x.0;
+        written_is = x.1;
+        gives = x.2;
+        all_behind = λ side e. let b = by_fault stage.state fed.over end side e in whole_behind b.runs b.given;
+        write = λ e. (stands_so states.SinkFailed (by_write stage.state fed.over end e)).1;
+        write_good = sink_good stage.state refl;
+        writes = sink_rises stage.state refl;
+      }
+
+-- ---- a run that had no memory to begin
+
+pub gives_nothing : NoRowsGiveNothing → NoTasksNoRows → (q : Tree) → Fits (frame q) → (s : Sizes) (rows : Read) → Gives q s.task s.ring s.flush rows NoMemory 0 []
+gives_nothing nothing none q fits s rows = record {
+  ends = tt;
+  assembles = record {
+    few = omega arith;
+    all = λ i. absurd (some_not_all i);
+    before = λ u i. absurd (some_not_before u i);
+    answers = λ _. sym (ap (text q) (none s.task (run_input q s.flush rows)) ∙ (nothing q fits).0);
+    cut = λ i. absurd (some_not_cut i);
+  };
+}

@@ -1,0 +1,22 @@
+use Rattle.std.proofs.Common.{◌≡◌, ◌∙◌, sym, refl, false}
+use Rattle.std.specs.Prelude.{Option, Some, None, is_some}
+use Rattle.saber_engine.proofs.fed_blocks.FedBlocksSupplySaberWork.next.Goals as goal
+
+is_none : {A : Type 0} (o : Option A) → is_some o ≡ false → o ≡ None
+is_none None e = refl
+is_none (Some x) e = absurd (let h = e in cc)
+
+pub loop-init : goal.loop-init
+loop-init g c = (is_none c.args.self.now.end (sym c.is_some.ensures ∙ c.if-is_some.false), λ told d h. h)
+
+pub try_next-requires-clause-given : goal.try_next-requires-clause-given
+try_next-requires-clause-given g c = let r = c.requires in (r.0, r.1, c.loop.invariant.1 r.0 r.1 r.2)
+
+pub loop-preserved : goal.loop-preserved
+loop-preserved g c = (c.try_next.ensures.goes c.in_default.is, λ told d h. c.in_default.ensures.gives told d (c.loop.invariant.1 told d h))
+
+pub returns-in-Some-clause-gives : goal.returns-in-Some-clause-gives
+returns-in-Some-clause-gives g c told d h = c.in-Some.ensures.gives told d (c.loop.invariant.1 told d h)
+
+pub returns-clause-gives : goal.returns-clause-gives
+returns-clause-gives g c told d h = c.loop.invariant.1 told d h

@@ -1,0 +1,49 @@
+-- What was given of a feed's rows, block after block.
+use Rattle.std.specs.Prelude.{◌≡◌, ◌≢◌, ◌≤◌, ℕ, List, Option, Some, None}
+use Rattle.saber_io.specs.Outside.{Rose}
+use Rattle.saber_io.specs.declared.feeds.EndMark.{EndMark}
+use Rattle.saber_plan.specs.declared.rows.Side.{Side}
+use Rattle.saber_plan.specs.declared.sizes.Sizes.{Sizes}
+use Rattle.saber_plan.specs.Trees.{Tree}
+use Rattle.saber_plan.specs.Tasks.{task_count}
+use Rattle.saber_assembly.specs.declared.work.Told.{Told}
+use Rattle.saber_assembly.specs.Works.{input_of}
+use Rattle.saber_dispatch.specs.declared.ends.End.{End}
+use Rattle.saber_dispatch.specs.declared.ends.End.TheVariants.{ReadFault}
+use Rattle.saber_dispatch.specs.declared.fed_cutter.FedCutter.{FedCutter}
+use Rattle.saber_dispatch.specs.Feeding.{CutsFed, fed_end_of}
+use Rattle.saber_crew.specs.declared.supply.Supplied.{Supplied}
+use Rattle.saber_crew.specs.Supplies.{Gives}
+
+-- what a feed tells: what was taken of it, what of this still waits, the mark that was taken, and its count of faults
+pub record FeedView : Type 0 where
+  pub taken : List ℕ
+  pub waiting : List ℕ
+  pub mark : Option EndMark
+  pub faults : ℕ
+
+-- a feed, seen so
+abbrev pub feed_seen : {F : Type 0} → (F → List ℕ) → (F → List ℕ) → (F → Option EndMark) → (F → ℕ) → F → FeedView
+feed_seen taken waiting mark faults f = record { taken = taken f; waiting = waiting f; mark = mark f; faults = faults f }
+
+-- the count of faults since the run began, by how the blocks ended: where the feed was cut off it rose, and else it is as it was
+pub record IsCounted (end : Option End) (before now : ℕ) : Type 0 where
+  pub rises : before ≤ now
+  pub good : ((side : Side) → end ≢ Some (ReadFault side)) → now ≡ before
+  pub cause : (side : Side) → end ≡ Some (ReadFault side) → Rose before now
+
+-- Of a feed with such a count when the run began, so many blocks were given, and the data have their rows. Once the blocks ended, the cutter
+-- tells their end, and until then the feed was not found cut off.
+pub record HasFed {O : Type 0} (plan : O → Tree) (s : Sizes) (before : ℕ) (v : FeedView) (c : FedCutter) (end : Option End) (told : Told O) (d : ℕ) : Type 0 where
+  pub cuts : CutsFed (plan told.operator) s v.taken v.waiting v.mark c (input_of told)
+  pub size : told.size ≡ s.task
+  pub count : d ≡ task_count s.task (input_of told)
+  pub ended : (e : End) → end ≡ Some e → fed_end_of c ≡ Some e
+  pub sound : end ≡ None → (side : Side) → fed_end_of c ≢ Some (ReadFault side)
+  pub counted : IsCounted end before v.faults
+
+module _ {T R : Type 0} (is_told : T → ℕ → Type 0) (filled : T → R → T) (is_rows : T → ℕ → R → Type 0) (given : T → ℕ → Type 0) (told : T) (d : ℕ) where
+  -- an answer of a supply; or none as yet, and the tasks that were given stay
+  abbrev pub Tries : Option (Supplied R) → Type 0
+  Tries None = given told d
+  Tries (Some supplied) = Gives is_told filled is_rows given told d supplied

@@ -1,0 +1,96 @@
+// The blocks of a feed, as the tasks of a run.
+ghost use Rattle.std.specs.Prelude.{◌≡◌, ℕ, Some, None, IsSome, false};
+ghost use Rattle.saber_plan.specs.declared.sizes.Sizes.{Sizes};
+ghost use Rattle.saber_assembly.specs.declared.work.Told.{Told};
+ghost use Rattle.saber_assembly.specs.Works.{IsTold, with_block, IsBlockOf};
+ghost use Rattle.saber_crew.specs.Supplies.{Gives};
+ghost use Rattle.saber_engine.specs.FedSupplying.{feed_seen, HasFed, Tries};
+
+use saber_assembly::SaberWork;
+use saber_crew::{Supplied, Supply};
+use saber_dispatch::{End, FedCutter, Step, blocks_are_supplied, refills_keep};
+use saber_fragment::{Block, Operator};
+use saber_io::{Feed, Sink};
+use std::marker::{Brand, PhantomData};
+
+// So often in a row a feed is refilled for one block, as long as something comes.
+const REFILLS: u32 = 64;
+
+/// What there was when a run over a feed began. The caller picks it, for the contracts alone.
+pub(crate) trait BeginsFed {
+    // the sizes of the run
+    ghost sizes: { Sizes };
+
+    // the feed's count of faults
+    ghost faults: { ℕ };
+}
+
+impl BeginsFed for Brand {
+    ghost sizes = { record { task = 1; ring = 1; threads = 0; max_lines = 1; slack = 0; flush = false } };
+
+    ghost faults = { 0 };
+}
+
+/// The blocks of a run over a feed that began so, and how they ended, once they did.
+pub(crate) struct FedBlocks<F, J> {
+    pub(crate) cutter: FedCutter,
+    pub(crate) end: Option<End>,
+    pub(crate) feed: PhantomData<F>,
+    pub(crate) begun: PhantomData<J>,
+}
+
+// The next block, if it is there; else the feed is refilled. None where that brought something, so that the
+// block may be there now.
+fn try_next<F: Feed, J: BeginsFed, O: Operator>(
+    blocks: &mut FedBlocks<F, J>,
+    feed: &mut F,
+) -> Option<Supplied<Block>>
+    requires given { (told : Told O) × (d : ℕ) × HasFed O.plan J.sizes J.faults (feed_seen F.taken F.waiting F.mark F.faults feed.old) blocks.old.cutter blocks.old.end told d }
+    requires goes { blocks.old.end ≡ None }
+    ensures gives { (told : Told O) (d : ℕ) → HasFed O.plan J.sizes J.faults (feed_seen F.taken F.waiting F.mark F.faults feed.old) blocks.old.cutter blocks.old.end told d
+        → Tries (IsTold O.plan) with_block (IsBlockOf O.plan) (HasFed O.plan J.sizes J.faults (feed_seen F.taken F.waiting F.mark F.faults feed.new) blocks.new.cutter blocks.new.end) told d result }
+    ensures over { result ≡ Some Supplied.Over → IsSome blocks.new.end }
+    ensures goes { result ≡ None → blocks.new.end ≡ None }
+{
+    blocks_are_supplied::<O>();
+    refills_keep();
+    match blocks.cutter.step(feed) {
+        Step::Block(block) => Some(Supplied::Rows(block)),
+        Step::Ended(end) => {
+            blocks.end = Some(end);
+            Some(Supplied::Over)
+        }
+        Step::Dry => {
+            if feed.refill() {
+                None
+            } else {
+                Some(Supplied::Dry)
+            }
+        }
+    }
+}
+
+impl<F: Feed, J: BeginsFed, O: Operator, K: Sink> Supply<SaberWork<O, K>> for FedBlocks<F, J> {
+    type From = F;
+
+    ghost has_given = { λ blocks from told d. HasFed O.plan J.sizes J.faults (feed_seen F.taken F.waiting F.mark F.faults from) blocks.cutter blocks.end told d };
+
+    ghost is_over = { λ blocks. IsSome blocks.end };
+
+    fn next(&mut self, from: &mut F) -> Supplied<Block>
+        requires { (told : Told O) × (d : ℕ) × HasFed O.plan J.sizes J.faults (feed_seen F.taken F.waiting F.mark F.faults from.old) self.old.cutter self.old.end told d }
+        ensures gives { (told : Told O) (d : ℕ) → HasFed O.plan J.sizes J.faults (feed_seen F.taken F.waiting F.mark F.faults from.old) self.old.cutter self.old.end told d
+            → Gives (IsTold O.plan) with_block (IsBlockOf O.plan) (HasFed O.plan J.sizes J.faults (feed_seen F.taken F.waiting F.mark F.faults from.new) self.new.cutter self.new.end) told d result }
+        ensures over { result ≡ Supplied.Over → IsSome self.new.end }
+    {
+        if self.end.is_some() {
+            return Supplied::Over;
+        }
+        for _ in 0..REFILLS {
+            if let Some(supplied) = try_next::<F, J, O>(self, from) {
+                return supplied;
+            }
+        }
+        Supplied::Dry
+    }
+}

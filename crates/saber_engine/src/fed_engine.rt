@@ -1,0 +1,113 @@
+// The engine over a feed: a checked plan of one stream.
+ghost use Rattle.std.specs.Prelude.{◌≡◌, ◌≢◌, ◌≤◌, ℕ, List, ◌∷◌, [], Some, length};
+ghost use Rattle.saber_io.specs.Outside.{Rose, appended};
+ghost use Rattle.saber_io.specs.declared.feeds.EndMark.{EndMark};
+ghost use Rattle.saber_plan.specs.declared.rows.Side.{Side};
+ghost use Rattle.saber_plan.specs.Trees.{tree_of};
+ghost use Rattle.saber_plan.specs.Checked.{IsChecked};
+ghost use Rattle.saber_plan.specs.Sizes.{SizesFit, limits_of};
+ghost use Rattle.saber_engine.specs.declared.ends.RunEnd.{RunEnd};
+ghost use Rattle.saber_engine.specs.Sources.{input_of};
+ghost use Rattle.saber_engine.specs.Gives.{Gives, IsClean};
+ghost use Rattle.saber_engine.specs.FedRuns.{GoesOn, TakesWhole};
+
+use crate::ends::{Ran, RunEnd};
+use crate::fed_plans::run_fed;
+use saber_group::Group;
+use saber_io::{EndMark, Feed, Gate, Plain, Pour, Sink};
+use saber_plan::{Plan, Shape, Sizes};
+use saber_select::Select;
+use std::alloc::Global;
+use std::marker::Brand;
+use std::sync::Wait;
+use std::thread::Threads;
+
+// The operator of the plan's shape.
+fn run_shape<F: Feed, K: Pour + Send, G: Gate + Sync, R: Threads + Wait + Sync>(
+    rt: &R,
+    alloc: Global,
+    plan: &Plan,
+    feed: &mut F,
+    sink: K,
+    sizes: &Sizes,
+    gate: &G,
+) -> Ran<K>
+    requires checked { IsChecked (tree_of plan.now) }
+    requires one { length (tree_of plan.now).streams ≡ 1 }
+    requires sizes { SizesFit sizes.now }
+    requires fresh { F.waiting feed.old ≡ F.taken feed.old }
+    ensures gives { (out : List ℕ) × (K.written result.sink ≡ appended (K.written sink) out)
+        × ((all : List ℕ) → GoesOn (F.taken feed.new) (F.mark feed.new) all
+        → Gives (tree_of plan.now) sizes.now.task sizes.now.ring sizes.now.flush (input_of (tree_of plan.now) (limits_of sizes.now) (all ∷ [])) result.end result.tasks out) }
+    ensures whole { (side : Side) → result.end ≡ RunEnd.ReadFault side → TakesWhole (tree_of plan.now) sizes.now.task (limits_of sizes.now) result.tasks (F.taken feed.new) }
+    ensures all { result.end ≡ RunEnd.AllRead → F.mark feed.new ≡ Some EndMark.End }
+    ensures cut { (side : Side) → result.end ≡ RunEnd.ReadFault side → F.mark feed.new ≡ Some EndMark.Cut }
+    ensures read { (side : Side) → result.end ≡ RunEnd.ReadFault side → Rose (F.faults feed.old) (F.faults feed.new) }
+    ensures write { result.end ≡ RunEnd.WriteFault → Rose (K.faults sink) (K.faults result.sink) }
+    ensures read_good { IsClean result.end → F.faults feed.new ≡ F.faults feed.old }
+    ensures write_good { result.end ≢ RunEnd.WriteFault → K.faults result.sink ≡ K.faults sink }
+    ensures reads { F.faults feed.old ≤ F.faults feed.new }
+    ensures writes { K.faults sink ≤ K.faults result.sink }
+{
+    match plan.shape() {
+        Shape::Select => {
+            let operator = Select::new(plan);
+            run_fed::<F, Select<'_>, K, G, Brand, R>(
+                rt, alloc, &operator, plan, feed, sink, sizes, gate,
+            )
+        }
+        Shape::Group => {
+            let operator = Group::new(plan);
+            run_fed::<F, Group<'_>, K, G, Brand, R>(
+                rt, alloc, &operator, plan, feed, sink, sizes, gate,
+            )
+        }
+        Shape::Join => unreachable!(),
+    }
+}
+
+/// Runs a checked plan of one stream over a feed, of which nothing was given yet. Where the feed has
+/// nothing as yet, this thread works with the others, and pauses where there is no work.
+pub fn engine_fed<F: Feed, K: Sink + Send, G: Gate + Sync, R: Threads + Wait + Sync>(
+    rt: &R,
+    alloc: Global,
+    plan: &Plan,
+    feed: &mut F,
+    sink: K,
+    sizes: &Sizes,
+    gate: &G,
+) -> Ran<K>
+    requires checked { IsChecked (tree_of plan.now) }
+    requires one { length (tree_of plan.now).streams ≡ 1 }
+    requires sizes { SizesFit sizes.now }
+    requires fresh { F.waiting feed.old ≡ F.taken feed.old }
+
+    // Over each file that goes on from what was taken of the feed, and is this where the feed ended: what goes out is the text of the
+    // first tasks' rows; with all read, or a line refused, of all tasks, and of those before one that is too wide for the ring.
+    ensures gives { (out : List ℕ) × (K.written result.sink ≡ appended (K.written sink) out)
+        × ((all : List ℕ) → GoesOn (F.taken feed.new) (F.mark feed.new) all
+        → Gives (tree_of plan.now) sizes.now.task sizes.now.ring sizes.now.flush (input_of (tree_of plan.now) (limits_of sizes.now) (all ∷ [])) result.end result.tasks out) }
+
+    // A feed that is cut off leaves at least every whole task assembled of what was taken.
+    ensures whole { (side : Side) → result.end ≡ RunEnd.ReadFault side → TakesWhole (tree_of plan.now) sizes.now.task (limits_of sizes.now) result.tasks (F.taken feed.new) }
+
+    // All is read only where the feed has ended, and it can't be read only where it was cut off.
+    ensures all { result.end ≡ RunEnd.AllRead → F.mark feed.new ≡ Some EndMark.End }
+    ensures cut { (side : Side) → result.end ≡ RunEnd.ReadFault side → F.mark feed.new ≡ Some EndMark.Cut }
+
+    // Faults are real, none is passed over, and no count falls.
+    ensures read { (side : Side) → result.end ≡ RunEnd.ReadFault side → Rose (F.faults feed.old) (F.faults feed.new) }
+    ensures write { result.end ≡ RunEnd.WriteFault → Rose (K.faults sink) (K.faults result.sink) }
+    ensures read_good { IsClean result.end → F.faults feed.new ≡ F.faults feed.old }
+    ensures write_good { result.end ≢ RunEnd.WriteFault → K.faults result.sink ≡ K.faults sink }
+    ensures reads { F.faults feed.old ≤ F.faults feed.new }
+    ensures writes { K.faults sink ≤ K.faults result.sink }
+{
+    let ran = run_shape(rt, alloc, plan, feed, Plain { sink }, sizes, gate);
+    let Ran {
+        end,
+        sink: Plain { sink },
+        tasks,
+    } = ran;
+    Ran { end, sink, tasks }
+}

@@ -1,0 +1,105 @@
+// A run of one operator over a feed.
+ghost use Rattle.std.specs.Prelude.{◌≡◌, ◌≢◌, ◌≤◌, ℕ, List, ◌∷◌, [], Some, length};
+ghost use Rattle.saber_io.specs.Outside.{Rose, appended};
+ghost use Rattle.saber_io.specs.declared.feeds.EndMark.{EndMark};
+ghost use Rattle.saber_plan.specs.declared.rows.Side.{Side};
+ghost use Rattle.saber_plan.specs.Trees.{tree_of};
+ghost use Rattle.saber_plan.specs.Checked.{IsChecked};
+ghost use Rattle.saber_plan.specs.Sizes.{SizesFit, limits_of};
+ghost use Rattle.saber_engine.specs.declared.ends.RunEnd.{RunEnd};
+ghost use Rattle.saber_engine.specs.Sources.{input_of};
+ghost use Rattle.saber_engine.specs.Gives.{Gives, IsClean};
+ghost use Rattle.saber_engine.specs.FedRuns.{GoesOn, TakesWhole};
+
+use crate::ends::{Ran, RunEnd, ended};
+use crate::fed_blocks::{BeginsFed, FedBlocks};
+use saber_assembly::{SaberWork, Stage};
+use saber_crew::{Over, run};
+use saber_dispatch::{FedCutter, cuts_leave_whole_tasks, fed_blocks_are_tasks};
+use saber_fragment::Operator;
+use saber_io::{EndMark, Feed, Gate, Pour};
+use saber_laws::{checked_fit, first_of_first, no_rows_give_nothing, no_tasks_no_rows};
+use saber_plan::{Plan, Sizes};
+use std::alloc::Global;
+use std::marker::{Brand, PhantomData};
+use std::sync::Wait;
+use std::thread::Threads;
+
+/// Runs the operator of a checked plan of one stream over a feed. `J` names what there was when it began.
+pub(crate) fn run_fed<
+    F: Feed,
+    O: Operator + Send + Sync,
+    K: Pour + Send,
+    G: Gate + Sync,
+    J: BeginsFed,
+    R: Threads + Wait + Sync,
+>(
+    rt: &R,
+    alloc: Global,
+    operator: &O,
+    plan: &Plan,
+    feed: &mut F,
+    sink: K,
+    sizes: &Sizes,
+    gate: &G,
+) -> Ran<K>
+where
+    O::Draft: Send,
+    O::Piece: Send,
+    O::Store: Send,
+    requires plan { O.plan operator.now ≡ tree_of plan.now }
+    requires checked { IsChecked (tree_of plan.now) }
+    requires one { length (tree_of plan.now).streams ≡ 1 }
+    requires sizes { SizesFit sizes.now }
+    requires fresh { F.waiting feed.old ≡ F.taken feed.old }
+    requires begins { (J.sizes ≡ sizes.now) × (J.faults ≡ F.faults feed.old) }
+    ensures gives { (out : List ℕ) × (K.written result.sink ≡ appended (K.written sink) out)
+        × ((all : List ℕ) → GoesOn (F.taken feed.new) (F.mark feed.new) all
+        → Gives (tree_of plan.now) sizes.now.task sizes.now.ring sizes.now.flush (input_of (tree_of plan.now) (limits_of sizes.now) (all ∷ [])) result.end result.tasks out) }
+    ensures whole { (side : Side) → result.end ≡ RunEnd.ReadFault side → TakesWhole (tree_of plan.now) sizes.now.task (limits_of sizes.now) result.tasks (F.taken feed.new) }
+    ensures all { result.end ≡ RunEnd.AllRead → F.mark feed.new ≡ Some EndMark.End }
+    ensures cut { (side : Side) → result.end ≡ RunEnd.ReadFault side → F.mark feed.new ≡ Some EndMark.Cut }
+    ensures read { (side : Side) → result.end ≡ RunEnd.ReadFault side → Rose (F.faults feed.old) (F.faults feed.new) }
+    ensures write { result.end ≡ RunEnd.WriteFault → Rose (K.faults sink) (K.faults result.sink) }
+    ensures read_good { IsClean result.end → F.faults feed.new ≡ F.faults feed.old }
+    ensures write_good { result.end ≢ RunEnd.WriteFault → K.faults result.sink ≡ K.faults sink }
+    ensures reads { F.faults feed.old ≤ F.faults feed.new }
+    ensures writes { K.faults sink ≤ K.faults result.sink }
+{
+    checked_fit();
+    no_rows_give_nothing();
+    no_tasks_no_rows();
+    first_of_first();
+    fed_blocks_are_tasks();
+    cuts_leave_whole_tasks();
+    let stage = Stage::new(alloc, operator, sink);
+    let Ok(cutter) = FedCutter::new(alloc, plan, sizes) else {
+        return ended(stage, Over::NoMemory, None);
+    };
+    let mut blocks = FedBlocks::<F, J> {
+        cutter,
+        end: None,
+        feed: PhantomData,
+        begun: PhantomData,
+    };
+    let ran = run::<SaberWork<O, K>, O, G, FedBlocks<F, J>, Brand, R>(
+        rt,
+        alloc,
+        operator,
+        gate,
+        &mut blocks,
+        feed,
+        stage,
+        sizes,
+    );
+    let FedBlocks {
+        cutter: _cutter,
+        end,
+        feed: _feed,
+        begun: _begun,
+    } = blocks;
+    match ran {
+        Ok((stage, fed)) => ended(stage, fed.over, end),
+        Err(stage) => ended(stage, Over::NoMemory, None),
+    }
+}

@@ -1,0 +1,4 @@
+pub mod Marks
+pub mod Moves
+pub mod Relays
+pub mod Sendings

@@ -1,0 +1,9 @@
+pub mod Order
+pub mod Outboxes
+pub mod Sinks
+pub mod Receipts
+pub mod Lefts
+pub mod Backlogs
+pub mod PipeFeeds
+pub mod Pipes
+pub mod Relays

@@ -1,0 +1,45 @@
+-- The end of a pipe that is read from, as its callers see it (this project's rule).
+use Rattle.std.specs.Prelude.{◌≡◌, ◌≢◌, ℕ, Bool, true, false, ◌⊎◌, List, [], ◌∷◌, ◌++◌, Option, None, drop}
+use Rattle.crossbeam_queue.specs.Passes.{view}
+use Rattle.saber_io.specs.declared.feeds.EndMark.{EndMark}
+use Rattle.saber_pipe.specs.declared.items.Item.{Item}
+use Rattle.saber_pipe.specs.declared.feed.PipeFeed.{PipeFeed}
+use Rattle.saber_pipe.specs.Order.{bytes_of, mark_of}
+
+module _ {R P : Type 0} {p : _} where
+  -- the items that it has taken
+  abbrev pub got : PipeFeed R P p → List Item
+  got f = (view f.end).got
+
+  -- the bytes that it has taken
+  abbrev pub taken : PipeFeed R P p → List ℕ
+  taken f = bytes_of (got f)
+
+  -- those of them that it has not given yet
+  abbrev pub waiting : PipeFeed R P p → List ℕ
+  waiting f = drop f.at f.piece.items
+
+  -- the mark that it has taken, if it has
+  abbrev pub mark : PipeFeed R P p → Option EndMark
+  mark f = mark_of (got f)
+
+  -- how often it has told of a cut
+  abbrev pub faults_of : PipeFeed R P p → ℕ
+  faults_of f = f.faults
+
+  -- one item is taken
+  pub record Taking (old new : PipeFeed R P p) : Type 0 where
+    pub item : Item
+    pub before : waiting old ≡ []
+    pub unmarked : mark old ≡ None
+    pub got_is : got new ≡ got old ++ item ∷ []
+    pub waiting_is : waiting new ≡ bytes_of (item ∷ [])
+
+  -- nothing is taken
+  abbrev pub Keeping : PipeFeed R P p → PipeFeed R P p → Type 0
+  Keeping old new = (got new ≡ got old) × (waiting new ≡ waiting old)
+
+  -- where bytes wait none are taken; else one item is taken, or there was none
+  abbrev pub TakesOne : PipeFeed R P p → PipeFeed R P p → Bool → Type 0
+  TakesOne old new true = (Keeping old new × (waiting old ≢ [])) ⊎ Taking old new
+  TakesOne old new false = Keeping old new × (waiting old ≡ [])

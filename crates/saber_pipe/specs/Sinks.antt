@@ -1,0 +1,27 @@
+-- The end of a pipe that is written to, as its callers see it (this project's rule).
+use Rattle.std.specs.Prelude.{ℕ, List, ◌++◌}
+use Rattle.saber_pipe.specs.declared.items.Item.{Item}
+use Rattle.saber_pipe.specs.declared.sink.PipeSink.{PipeSink}
+use Rattle.saber_pipe.specs.Order.{bytes_of}
+use Rattle.saber_pipe.specs.Outboxes.{sent_of, kept_of, WasFull}
+
+module _ {R P : Type 0} {p : _} where
+  -- what the sink has sent
+  abbrev pub sent : PipeSink R P p → List Item
+  sent s = sent_of s.outbox
+
+  -- what the sink keeps until there is room
+  abbrev pub kept : PipeSink R P p → List Item
+  kept s = kept_of s.outbox
+
+  -- what was written to the sink
+  abbrev pub written : PipeSink R P p → List ℕ
+  written s = bytes_of (sent s ++ kept s)
+
+  -- a sink of a pipe never fails
+  abbrev pub faults_of : PipeSink R P p → ℕ
+  faults_of s = 0
+
+  -- at one moment of the call the pipe was full, of the last items that were sent
+  abbrev pub HasBeenFull : PipeSink R P p → Type 0
+  HasBeenFull s = WasFull s.outbox

@@ -1,0 +1,186 @@
+// Rows from a feed.
+use crate::ends::{FedRow, RowEnd, Stop, fed_row};
+use crate::judge::LONGEST;
+use crate::line_feeds::line_feed_in;
+use crate::lines::{Lines, Turn};
+use saber_io::{Fed, Feed};
+use saber_plan::Row;
+
+impl Lines {
+    ghost use Rattle.std.specs.Prelude.{◌≡◌, ◌≢◌, ◌≤◌, ◌<◌, List, [], Option, IfOk, IfSome, IfNone, Some, None, Ok, Err, option_map, length, true, false, ℕ};
+    ghost use Rattle.saber_io.specs.declared.feeds.EndMark.{EndMark};
+    ghost use Rattle.saber_io.specs.Outside.{Rose};
+    ghost use Rattle.saber_io.specs.Feeds.{IsCut};
+    ghost use Rattle.saber_plan.specs.declared.rows.RowCause.{RowCause};
+    ghost use Rattle.saber_plan.specs.Rows.{all_read, bad, falls, RowFits, due};
+    ghost use Rattle.saber_rows.specs.Buffer.{bytes_of};
+    ghost use Rattle.saber_rows.specs.LineFeeds.{HasNoFeed};
+    ghost use Rattle.saber_rows.specs.Reader.{reader_of, rest_of, rest_over, gone, HasEnd, NeedsMore};
+    ghost use Rattle.saber_rows.specs.Calls.{Moves, given_by, kept_by, last_after, IsGiven, EndsBy, IsNext, WantsMemory};
+    ghost use Rattle.saber_rows.specs.Turns.{TurnGives, PlaceMoves, work_left, IfAgain, IfFault, IfNoFault, HasEnough};
+    ghost use Rattle.saber_rows.specs.declared.ends.RowEnd.{RowEnd};
+    ghost use Rattle.saber_rows.specs.FedTurns.{answer_in, given_in, kept_in, last_in, IsDry, HasNothing, Waits, IsKnown};
+    ghost use Rattle.saber_rows.specs.FedSteps.{StopsKnown, StaysDry};
+
+    // Takes some more of a feed, if something is there. No line feed is held, and no row can be given.
+    fn fill_fed<F: Feed>(&mut self, feed: &mut F) -> Option<Turn>
+        requires over { self.old.over ≡ None }
+        requires none { due (reader_of self.old).rules (reader_of self.old).place ≡ [] }
+        requires unended { self.old.ended ≡ false }
+        requires room { length (bytes_of self.old.held) ≤ 4097 }
+        requires no_feed { HasNoFeed (bytes_of self.old.held) }
+        ensures gives { IfSome result (λ t. TurnGives t (reader_of self.old) (reader_of self.new) (Some (F.waiting feed.old)) (Some (F.waiting feed.new))) }
+        ensures dry { IfNone result (StaysDry (reader_of self.old) (reader_of self.new) (F.waiting feed.old) (F.waiting feed.new) (F.mark feed.old)) }
+        ensures falls { IfSome result (λ t. IfAgain t (work_left (reader_of self.new) < work_left (reader_of self.old))) }
+        ensures place { IfSome result (λ t. PlaceMoves t (reader_of self.old) (reader_of self.new)) }
+        ensures rules { (reader_of self.new).rules ≡ (reader_of self.old).rules }
+        ensures stop { self.new.stop ≡ self.old.stop }
+        ensures known { IfSome result (λ t. StopsKnown t (reader_of self.new)) }
+        ensures marked { (reader_of self.new).ended ≡ true → F.mark feed.old ≡ Some EndMark.End }
+        ensures cut { IfSome result (λ t. IfFault t (IsCut (F.waiting feed.old) (F.waiting feed.new) (F.mark feed.old))) }
+        ensures cause { IfSome result (λ t. IfFault t (Rose (F.faults feed.old) (F.faults feed.new))) }
+        ensures good { IfSome result (λ t. IfNoFault t (F.faults feed.new ≡ F.faults feed.old)) }
+        ensures calm { IfNone result (F.faults feed.new ≡ F.faults feed.old) }
+        ensures count { F.faults feed.old ≤ F.faults feed.new }
+        ensures stands { (F.taken feed.new ≡ F.taken feed.old) × (F.mark feed.new ≡ F.mark feed.old) }
+    {
+        let fed = match self.held.fill_fed(feed) {
+            Ok(fed) => fed,
+            Err(_) => return Some(Turn::Stop(Stop::Failed(RowEnd::ReadFault))),
+        };
+        match fed {
+            Fed::Bytes(_) => Some(Turn::Again),
+            Fed::End => {
+                self.ended = true;
+                Some(Turn::Again)
+            }
+            Fed::NotYet => None,
+        }
+    }
+
+    // One step: a line, or bytes of the feed. None where nothing is there as yet.
+    fn turn_fed<F: Feed>(&mut self, feed: &mut F) -> Option<Turn>
+        ensures gives { IfSome result (λ t. TurnGives t (reader_of self.old) (reader_of self.new) (Some (F.waiting feed.old)) (Some (F.waiting feed.new))) }
+        ensures dry { IfNone result (StaysDry (reader_of self.old) (reader_of self.new) (F.waiting feed.old) (F.waiting feed.new) (F.mark feed.old)) }
+        ensures falls { IfSome result (λ t. IfAgain t (work_left (reader_of self.new) < work_left (reader_of self.old))) }
+        ensures place { IfSome result (λ t. PlaceMoves t (reader_of self.old) (reader_of self.new)) }
+        ensures rules { (reader_of self.new).rules ≡ (reader_of self.old).rules }
+        ensures stop { self.new.stop ≡ self.old.stop }
+        ensures known { IfSome result (λ t. StopsKnown t (reader_of self.new)) }
+        ensures marked { (reader_of self.old).ended ≡ false → (reader_of self.new).ended ≡ true → F.mark feed.old ≡ Some EndMark.End }
+        ensures cut { IfSome result (λ t. IfFault t (IsCut (F.waiting feed.old) (F.waiting feed.new) (F.mark feed.old))) }
+        ensures cause { IfSome result (λ t. IfFault t (Rose (F.faults feed.old) (F.faults feed.new))) }
+        ensures good { IfSome result (λ t. IfNoFault t (F.faults feed.new ≡ F.faults feed.old)) }
+        ensures calm { IfNone result (F.faults feed.new ≡ F.faults feed.old) }
+        ensures count { F.faults feed.old ≤ F.faults feed.new }
+        ensures stands { (F.taken feed.new ≡ F.taken feed.old) × (F.mark feed.new ≡ F.mark feed.old) }
+        ensures reads { HasEnough (reader_of self.old) → feed.new ≡ feed.old }
+        ensures enough { HasEnough (reader_of self.old) → IfSome result (λ t. IfAgain t (HasEnough (reader_of self.new))) }
+    {
+        if let Some(row) = self.give() {
+            return Some(Turn::Row(row));
+        }
+        if let Some(over) = self.over {
+            return Some(Turn::Stop(over.stop()));
+        }
+        match line_feed_in(self.held.bytes()) {
+            Some(n) => Some(self.take_line(n, true)),
+            None if self.ended => Some(self.take_last()),
+            None if self.held.bytes().len() > LONGEST + 1 => Some(self.refuse_long()),
+            None => self.fill_fed(feed),
+        }
+    }
+
+    // The next answer of a reader that has not stopped, by as many turns as it takes. None where nothing is there as yet.
+    #[inline(never)]
+    fn advance_fed<F: Feed>(&mut self, feed: &mut F) -> Option<Result<Option<Row>, RowEnd>>
+        requires { self.old.stop ≡ None }
+        ensures moves { Moves (given_in result) (reader_of self.old) (reader_of self.new) (Some (F.waiting feed.old)) (Some (F.waiting feed.new)) }
+        ensures given { IfSome result (λ a. IfOk a (λ o. IfSome o (λ row. IsGiven row (reader_of self.old) (reader_of self.new)))) }
+        ensures ends { IfSome result (λ a. EndsBy a (reader_of self.new)) }
+        ensures known { IfSome result (λ a. IsKnown a (reader_of self.new)) }
+        ensures dry { IfNone result (IsDry (reader_of self.new) (F.waiting feed.new) (F.mark feed.old)) }
+        ensures stays { gone (reader_of self.old) ≤ gone (reader_of self.new) }
+        ensures last { (reader_of self.new).last ≡ last_in (reader_of self.old).last result }
+        ensures rules { (reader_of self.new).rules ≡ (reader_of self.old).rules }
+        ensures answer { (reader_of self.new).answer ≡ kept_in result }
+        ensures marked { (reader_of self.old).ended ≡ false → (reader_of self.new).ended ≡ true → F.mark feed.old ≡ Some EndMark.End }
+        ensures cut { result ≡ Some (Err RowEnd.ReadFault) → (F.waiting feed.new ≡ []) × (F.mark feed.old ≡ Some EndMark.Cut) }
+        ensures cause { result ≡ Some (Err RowEnd.ReadFault) → Rose (F.faults feed.old) (F.faults feed.new) }
+        ensures good { result ≢ Some (Err RowEnd.ReadFault) → F.faults feed.new ≡ F.faults feed.old }
+        ensures count { F.faults feed.old ≤ F.faults feed.new }
+        ensures stands { (F.taken feed.new ≡ F.taken feed.old) × (F.mark feed.new ≡ F.mark feed.old) }
+        ensures reads { HasEnough (reader_of self.old) → feed.new ≡ feed.old }
+    {
+        loop {
+            let Some(turn) = self.turn_fed(feed) else {
+                return None;
+            };
+            match turn {
+                Turn::Row(row) => return Some(Ok(Some(row))),
+                Turn::Again => {}
+                Turn::Stop(why) => {
+                    self.stop = Some(why);
+                    return Some(why.answer());
+                }
+            }
+        }
+    }
+
+    /// The next row of a feed, as `next` gives it. Where no row can be given and nothing is there as yet it says so, and a later
+    /// call goes on. It is called with the same feed each time; once it saw its end it asks it no more.
+    pub fn next_fed<F: Feed>(&mut self, feed: &mut F) -> Result<FedRow, RowEnd>
+        // An answer that ends the reader is kept, and given again.
+        ensures again { IfSome (reader_of self.old).answer (λ answer. (answer_in result ≡ Some answer) × (self.new ≡ self.old) × (feed.new ≡ feed.old)) }
+        ensures answer { (reader_of self.old).answer ≡ None → (reader_of self.new).answer ≡ kept_in (answer_in result) }
+
+        // What the call takes of what waits, and of the rows that are left, whatever bytes follow; and if none do.
+        ensures moves { Moves (given_in (answer_in result)) (reader_of self.old) (reader_of self.new) (Some (F.waiting feed.old)) (Some (F.waiting feed.new)) }
+        ensures rest { rest_over (reader_of self.old) (Some (F.waiting feed.old))
+            ≡ option_map (given_in (answer_in result)) (rest_over (reader_of self.new) (Some (F.waiting feed.new))) }
+        ensures rules { (reader_of self.new).rules ≡ (reader_of self.old).rules }
+        ensures stands { (F.taken feed.new ≡ F.taken feed.old) × (F.mark feed.new ≡ F.mark feed.old) }
+
+        // Nothing is there as yet exactly where what waits decides no answer, but for want of memory.
+        ensures dry { answer_in result ≡ None → IsDry (reader_of self.new) (F.waiting feed.new) (F.mark feed.old) }
+        ensures waits { (reader_of self.old).answer ≡ None → HasNothing (reader_of self.old) (F.waiting feed.old) (F.mark feed.old) → Waits (answer_in result) }
+
+        // Which other answer comes: the first of the rest, but for a feed that was cut and want of memory.
+        ensures next { (reader_of self.old).answer ≡ None
+            → IfSome (answer_in result) (λ a. IfSome (rest_over (reader_of self.old) (Some (F.waiting feed.old))) (IsNext a)) }
+        ensures none { (reader_of self.old).answer ≡ None → answer_in result ≡ Some (Ok None) → HasEnd all_read (reader_of self.new) }
+        ensures ended { (reader_of self.old).answer ≡ None → answer_in result ≡ Some (Ok None) → (reader_of self.new).ended ≡ true }
+        ensures marked { (reader_of self.old).ended ≡ false → (reader_of self.new).ended ≡ true → F.mark feed.old ≡ Some EndMark.End }
+        ensures refused { (reader_of self.old).answer ≡ None
+            → (line : ℕ) (cause : RowCause) → result ≡ Err (RowEnd.Bad line cause) → HasEnd (bad (reader_of self.old).rules.side line cause) (reader_of self.new) }
+        ensures known { (reader_of self.old).answer ≡ None → IfSome (answer_in result) (λ a. IsKnown a (reader_of self.new)) }
+        ensures cut { (reader_of self.old).answer ≡ None → result ≡ Err RowEnd.ReadFault
+            → (F.waiting feed.new ≡ []) × (F.mark feed.old ≡ Some EndMark.Cut) × NeedsMore (reader_of self.new) }
+        ensures cause { (reader_of self.old).answer ≡ None → result ≡ Err RowEnd.ReadFault → Rose (F.faults feed.old) (F.faults feed.new) }
+        ensures memory { (reader_of self.old).answer ≡ None → result ≡ Err RowEnd.NoMemory → WantsMemory (reader_of self.old).rules }
+        ensures count { F.faults feed.old ≤ F.faults feed.new }
+
+        // No fault is passed over.
+        ensures good { result ≢ Err RowEnd.ReadFault → F.faults feed.new ≡ F.faults feed.old }
+
+        // A row is as `next` gives it.
+        ensures given { IfSome (answer_in result) (λ a. IfOk a (λ o. IfSome o (λ row. IsGiven row (reader_of self.old) (reader_of self.new)))) }
+        ensures last { (reader_of self.new).last ≡ last_in (reader_of self.old).last (answer_in result) }
+        ensures stays { gone (reader_of self.old) ≤ gone (reader_of self.new) }
+        ensures counted { gone (reader_of self.new) ≤ (reader_of self.new).rules.most }
+
+        // It asks only where it can give no row, and holds no line that decides the answer.
+        ensures reads { ¬ NeedsMore (reader_of self.old) → feed.new ≡ feed.old }
+    {
+        if let Some(stop) = self.stop {
+            return fed_row(stop.answer());
+        }
+        if let Some(row) = self.quick_row() {
+            return fed_row(Ok(Some(row)));
+        }
+        match self.advance_fed(feed) {
+            None => Ok(FedRow::NotYet),
+            Some(answer) => fed_row(answer),
+        }
+    }
+}
