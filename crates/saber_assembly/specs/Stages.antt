@@ -1,5 +1,5 @@
 -- The result stage as contracts see it, and where it stands after some tasks.
-use Rattle.std.specs.Prelude.{◌≡◌, ◌≤◌, ℕ, ◌+◌, Bool, List, ◌++◌, Option}
+use Rattle.std.specs.Prelude.{◌≡◌, ◌≤◌, ℕ, ◌+◌, Bool, List, ◌++◌, Option, IfSome}
 use Rattle.saber_io.specs.Outside.{Rose, appended, AppendsPrefix}
 use Rattle.saber_plan.specs.declared.rows.Row.{Row}
 use Rattle.saber_plan.specs.declared.windows.Mark.{Mark}
@@ -11,6 +11,7 @@ use Rattle.saber_plan.specs.Windows.{Fits, no_rows, mark_at}
 use Rattle.saber_plan.specs.Tasks.{Parts, cut, upto, unclosed, written_by, left_by}
 use Rattle.saber_plan.specs.Needs.{task_rows}
 use Rattle.saber_plan.specs.Shares.{Shares, shares_between, piece_in}
+use Rattle.saber_fragment.specs.Stores.{CanTakeIn, TakesIn}
 use Rattle.saber_assembly.specs.declared.stage.Stage.{Stage}
 use Rattle.saber_assembly.specs.declared.stage.State.{State}
 use Rattle.saber_assembly.specs.declared.stage.State.TheVariants.{Running, SinkFailed, NoMemory}
@@ -80,3 +81,43 @@ module _ (q : Tree) (held : Parts) (s : Shares) where
   -- the parts are those that the piece leaves open
   abbrev pub Leaves : Parts → Type 0
   Leaves new = new ≡ left_by q held (piece_in s)
+
+-- ---- a step of the stage, from s to t, by what its operator tells of stores and pieces
+
+module _ {O S P : Type 0} (plan : O → Tree) (held : S → Parts) (shares : O → P → Shares) where
+  module _ {K : Type 0} (op : O) where
+    -- the text that the piece adds went out
+    abbrev pub AddsText : (K → Option (List ℕ)) → Stage S K → Stage S K → P → Type 0
+    AddsText written s t p = Writes (plan op) (held s.store) (shares op p) (written s.sink) (written t.sink)
+
+    -- a prefix of it did
+    abbrev pub AddsFront : (K → Option (List ℕ)) → Stage S K → Stage S K → P → Type 0
+    AddsFront written s t p = WritesFront (plan op) (held s.store) (shares op p) (written s.sink) (written t.sink)
+
+    -- the parts that the piece leaves open are kept
+    abbrev pub LeavesOpen : Stage S K → Stage S K → P → Type 0
+    LeavesOpen s t p = Leaves (plan op) (held s.store) (shares op p) (held t.store)
+
+  module _ {K : Type 0} (taken : O → S → Input → Type 0) (is_of : O → P → Mark → List Row → Bool → Type 0) (op : O) where
+    -- the piece follows what the store has taken in
+    abbrev pub CanAbsorb : Stage S K → P → Type 0
+    CanAbsorb s p = CanTakeIn (plan op) (held s.store) (shares op p) (taken op s.store) (is_of op p)
+
+    -- all up to the end of the piece is taken in then
+    abbrev pub TakesPiece : Stage S K → Stage S K → P → Type 0
+    TakesPiece s t p = TakesIn (plan op) (held s.store) (shares op p) (taken op s.store) (is_of op p) (taken op t.store)
+
+module _ {O S K : Type 0} (plan : O → Tree) (held : S → Parts) (taken : O → S → Input → Type 0) (written : K → Option (List ℕ)) (faults : K → ℕ) (op : O) where
+  -- what a stage keeps of a run
+  abbrev pub KeepsRun : ℕ → Input → Start → Stage S K → Type 0
+  KeepsRun n r start s = Keeps (plan op) n r start (taken op s.store) (seen held written faults s)
+
+  -- of each run over the sink it keeps what stands before the first task
+  abbrev pub BeginsRuns : K → Stage S K → Type 0
+  BeginsRuns sink s = (n : ℕ) (r : Input) → Tasks (plan op) n r → KeepsRun n r (record { written = written sink; faults = faults sink }) s
+
+  -- given the piece of the next task, it keeps what it should of each run of which it did
+  abbrev pub KeepsRuns : {P : Type 0} → (O → P → Shares) → (O → P → Mark → List Row → Bool → Type 0) → Stage S K → Option P → Stage S K → Type 0
+  KeepsRuns shares is_of s piece t =
+      (n : ℕ) (r : Input) (start : Start) → Tasks (plan op) n r → KeepsRun n r start s
+      → IfSome piece (λ p. IsPieceAt (plan op) n r s.k (shares op p) (is_of op p)) → KeepsRun n r start t

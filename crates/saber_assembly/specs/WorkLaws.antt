@@ -40,7 +40,8 @@ back_up j k le = omega (arith, le)
 -- ---- an input of which all comes in the first d tasks, and one task more
 
 -- where the end is behind task d, that is not so here: the task begins at a row, or behind the last
-not_past : (b : Bool) (c l d x : ℕ) → (b && nat_lt l (cond (b && nat_lt c d) (suc l) (min x l))) ≡ false → cond (b && nat_lt c d) (suc l) (min x l) ≤ l
+not_past : (b : Bool) (c l d x : ℕ) → (b && nat_lt l (cond (b && nat_lt c d) (suc l) (min x l))) ≡ false
+    → cond (b && nat_lt c d) (suc l) (min x l) ≤ l
 not_past true c l d x e = ⊎_elim (λ k. grind (arith, nat_tests, e)) (λ k. grind (arith, nat_tests, e)) (cases_lt c d)
 not_past false c l d x e = omega arith
 
@@ -57,13 +58,17 @@ ends_within : (c l d x : ℕ) → (true && nat_lt l (cond (true && nat_lt c d) (
 ends_within c l d x e = ⊎_elim (λ k. k) (λ k. absurd (let f : false ≡ true = grind (arith, nat_tests, e, k) in let g = f in cc)) (cases_lt c d)
 
 -- and then no task more begins behind that begin
-no_more : (b : Bool) (c c2 l l2 d n : ℕ) → b ≡ true → c < d → l ≤ c * n → 1 ≤ n → cond (b && nat_lt c2 d) (suc l2) (min (d * n) l2) ≡ l → (l2 ≡ l → c2 ≡ c) → l ≤ l2 → ⊥
+no_more : (b : Bool) (c c2 l l2 d n : ℕ) → b ≡ true → c < d → l ≤ c * n → 1 ≤ n
+    → cond (b && nat_lt c2 d) (suc l2) (min (d * n) l2) ≡ l → (l2 ≡ l → c2 ≡ c) → l ≤ l2 → ⊥
 no_more true c c2 l l2 d n t less rows size at same le =
     let more : (c + 1) * n ≤ d * n = mul-le-mul (omega (arith, less)) (le_refl n) in
     let one : (c + 1) * n ≡ n + c * n = grind arith in
     ⊎_elim
     (λ k. let far : suc l2 ≡ l = grind (arith, nat_tests, at, k) in omega (arith, far, le))
-    (λ k. let near : min (d * n) l2 ≡ l = grind (arith, nat_tests, at, k) in let both : l2 ≡ l = omega (arith, near, more, one, rows, size) in let alike = same both in omega (arith, alike, k, less))
+    (λ k.
+    let near : min (d * n) l2 ≡ l = grind (arith, nat_tests, at, k) in
+    let both : l2 ≡ l = omega (arith, near, more, one, rows, size) in
+    let alike = same both in omega (arith, alike, k, less))
     (cases_lt c2 d)
 no_more false c c2 l l2 d n t less rows size at same le = absurd (let h = t in cc)
 
@@ -76,27 +81,39 @@ is_false true f = absurd (f refl)
 is_false false f = refl
 
 module _ (n : ℕ) (size : 1 ≤ n) (r r' : Input) (bs : List Row) (e : Bool) (d : ℕ)
-    (was : upto n r d ≡ r) (rows_are : r'.rows ≡ r.rows ++ bs) (ends : r'.ended ≡ (r.ended || e)) (now : upto n r' (d + 1) ≡ r') (block : bs ≡ task_rows n r' d) (opens : (upto n r' d).ended ≡ false) where
+    (was : upto n r d ≡ r) (rows_are : r'.rows ≡ r.rows ++ bs) (ends : r'.ended ≡ (r.ended || e)) (now : upto n r' (d + 1) ≡ r')
+    (block : bs ≡ task_rows n r' d) (opens : (upto n r' d).ended ≡ false) where
   all_is : length r'.rows ≡ length r.rows + length bs
   all_is = ap length rows_are ∙ length-append r.rows bs
 
   cut_is : cut n r' d ≡ length r.rows
-  cut_is = behind_cut (length r.rows) (length bs) (length r'.rows) (cut n r' d) (cut n r' (d + 1)) all_is (ap length block ∙ slice_size (cut n r' d) (cut n r' (d + 1)) r'.rows) (all_come r'.rows (cut n r' (d + 1)) (ap (λ (z : Input). z.rows) now)) (not_past r'.ended (row_tasks n r') (length r'.rows) d (d * n) opens)
+  cut_is =
+      behind_cut (length r.rows) (length bs) (length r'.rows) (cut n r' d) (cut n r' (d + 1)) all_is
+      (ap length block ∙ slice_size (cut n r' d) (cut n r' (d + 1)) r'.rows)
+      (all_come r'.rows (cut n r' (d + 1)) (ap (λ (z : Input). z.rows) now))
+      (not_past r'.ended (row_tasks n r') (length r'.rows) d (d * n) opens)
 
   not_ended : r.ended ≡ true → ⊥
   not_ended t =
-      let within : row_tasks n r < d = ends_within (row_tasks n r) (length r.rows) d (d * n) (subst (λ z. (z && nat_lt (length r.rows) (cond (z && nat_lt (row_tasks n r) d) (suc (length r.rows)) (min (d * n) (length r.rows)))) ≡ z) t (ap (λ (z : Input). z.ended) was)) in
-      no_more r'.ended (row_tasks n r) (row_tasks n r') (length r.rows) (length r'.rows) d n (ends ∙ or_true r.ended e t) within (rows_fit (length r.rows) n size) size cut_is (λ same. ap (λ l. div_ceil l n) same) (let l = all_is in omega (arith, l))
+      let within : row_tasks n r < d =
+      ends_within (row_tasks n r) (length r.rows) d (d * n)
+      (subst (λ z. (z && nat_lt (length r.rows) (cond (z && nat_lt (row_tasks n r) d) (suc (length r.rows)) (min (d * n) (length r.rows)))) ≡ z) t
+      (ap (λ (z : Input). z.ended) was)) in
+      no_more r'.ended (row_tasks n r) (row_tasks n r') (length r.rows) (length r'.rows) d n (ends ∙ or_true r.ended e t) within
+      (rows_fit (length r.rows) n size) size cut_is (λ same. ap (λ l. div_ceil l n) same) (let l = all_is in omega (arith, l))
 
   -- what was there is what comes in the first d tasks of it
   pub came_before : upto n r' d ≡ r
   came_before = λ i. record {
-    rows = (ap (λ c. take c r'.rows) cut_is ∙ ap (take (length r.rows)) rows_are ∙ take-append-le (length r.rows) r.rows bs (le_refl (length r.rows)) ∙ take_all (length r.rows) r.rows (le_refl (length r.rows))) i;
+    rows =
+        (ap (λ c. take c r'.rows) cut_is ∙ ap (take (length r.rows)) rows_are ∙ take-append-le (length r.rows) r.rows bs (le_refl (length r.rows))
+        ∙ take_all (length r.rows) r.rows (le_refl (length r.rows))) i;
     ended = (opens ∙ sym (is_false r.ended not_ended)) i;
   }
 
 -- the piece of task k follows what a stage after k tasks has taken in
-pub follows : (q : Tree) (n : ℕ) (r : Input) (start : Start) (s : StageView) (taken : Input → Type 0) (shares : Shares) (of : Mark → List Row → Bool → Type 0) → Tasks q n r → cut n r s.k ≤ cut n r (s.k + 1) → Keeps q n r start taken s → s.state ≡ Running → IsPieceAt q n r s.k shares of
+pub follows : (q : Tree) (n : ℕ) (r : Input) (start : Start) (s : StageView) (taken : Input → Type 0) (shares : Shares) (of : Mark → List Row → Bool → Type 0)
+    → Tasks q n r → cut n r s.k ≤ cut n r (s.k + 1) → Keeps q n r start taken s → s.state ≡ Running → IsPieceAt q n r s.k shares of
     → Follows q s.parts shares taken of r (cut n r s.k) (cut n r (s.k + 1))
 follows q n r start s taken shares of t up kept run p =
     let a : After q n r start s Running = subst (After q n r start s) run kept.after in
@@ -111,10 +128,13 @@ follows q n r start s taken shares of t up kept run p =
     }
 
 module _ {O : Type 0} (plan : O → Tree) where
-  pub block_keeps : (told : Told O) (d k : ℕ) (b : Block) → IsTold plan told d → IsTold plan (with_block told b) (d + 1) → IsBlockOf plan (with_block told b) d b → k ≤ d → first_tasks (with_block told b) k ≡ first_tasks told k
+  pub block_keeps : (told : Told O) (d k : ℕ) (b : Block) → IsTold plan told d → IsTold plan (with_block told b) (d + 1)
+      → IsBlockOf plan (with_block told b) d b → k ≤ d → first_tasks (with_block told b) k ≡ first_tasks told k
   block_keeps told d k b was now is le =
       let n : ℕ = told.size in let r : Input = input_of told in let r' : Input = input_of (with_block told b) in
-      ap (with_input told) (sym (upto-upto n r' d k le) ∙ ap (λ z. upto n z k) (came_before n now.tasks.size r r' b.rows b.ended d was.whole refl refl now.whole is.block.rows is.opens))
+      ap (with_input told)
+      (sym (upto-upto n r' d k le)
+      ∙ ap (λ z. upto n z k) (came_before n now.tasks.size r r' b.rows b.ended d was.whole refl refl now.whole is.block.rows is.opens))
 
   pub tasks_again : (told : Told O) (d j k : ℕ) → IsTold plan told d → k ≤ j → j ≤ d → first_tasks (first_tasks told j) k ≡ first_tasks told k
   tasks_again told d j k was le within = ap (with_input told) (upto-upto told.size (input_of told) j k le)
@@ -131,19 +151,23 @@ module _ {O : Type 0} (plan : O → Tree) where
   steps_up told d j zero was = subst (λ k. first_needed plan told j ≤ first_needed plan told k) (none_on j) (le_refl _)
   steps_up told d j (suc m) was =
       le_trans (steps_up told d j m was)
-      (subst (λ k. first_needed plan told (m + j) ≤ first_needed plan told k) (next_is m j) (free_rises (plan told.operator) was.tasks.windows told.size (input_of told) (m + j) was.tasks.fits.ordered was.tasks.size))
+      (subst (λ k. first_needed plan told (m + j) ≤ first_needed plan told k) (next_is m j)
+      (free_rises (plan told.operator) was.tasks.windows told.size (input_of told) (m + j) was.tasks.fits.ordered was.tasks.size))
 
-  pub needed_rises : (told : Told O) (d j k : ℕ) → IsTold plan told d → j ≤ k → k ≤ d → first_needed plan (first_tasks told j) j ≤ first_needed plan (first_tasks told k) k
+  pub needed_rises : (told : Told O) (d j k : ℕ) → IsTold plan told d → j ≤ k → k ≤ d
+      → first_needed plan (first_tasks told j) j ≤ first_needed plan (first_tasks told k) k
   needed_rises told d j k was le within =
       let q = plan told.operator in let n = told.size in let r = input_of told in
       let up : free q n r j ≤ free q n r k = subst (λ c. free q n r j ≤ free q n r c) (back_up j k le) (steps_up told d j (k - j) was) in
-      subst (λ c. c ≤ free q n (upto n r k) k) (sym (free-upto q n r j j (le_refl j))) (subst (λ c. free q n r j ≤ c) (sym (free-upto q n r k k (le_refl k))) up)
+      subst (λ c. c ≤ free q n (upto n r k) k) (sym (free-upto q n r j j (le_refl j)))
+      (subst (λ c. free q n r j ≤ c) (sym (free-upto q n r k k (le_refl k))) up)
 
   -- ---- the stage
 
   module _ {S K : Type 0} (held : S → Parts) (taken : O → S → Input → Type 0) (written : K → Option (List ℕ)) (faults : K → ℕ) where
     -- what a stage that runs after k tasks keeps, it keeps by the rows of later tasks too
-    pub keeps_on : (told : Told O) (k : ℕ) (s : Stage S K) → IsStageOf plan (seen held written faults) taken (first_tasks told k) k false s → Keeps (plan told.operator) told.size (input_of told) (start_of told) (taken told.operator s.store) (seen held written faults s)
+    pub keeps_on : (told : Told O) (k : ℕ) (s : Stage S K) → IsStageOf plan (seen held written faults) taken (first_tasks told k) k false s
+        → Keeps (plan told.operator) told.size (input_of told) (start_of told) (taken told.operator s.store) (seen held written faults s)
     keeps_on told k s is =
         let q = plan told.operator in let n = told.size in let r = input_of told in let v = seen held written faults s in
         let a : After q n (upto n r k) (start_of told) v Running = subst (After q n (upto n r k) (start_of told) v) (is.runs refl) is.keeps.after in
@@ -155,9 +179,16 @@ module _ {O : Type 0} (plan : O → Tree) where
         }
 
     -- its store can take in the next task's piece
-    pub takes_next : {P : Type 0} (shares : O → P → Shares) (is_of : O → P → Mark → List Row → Bool → Type 0) (told : Told O) (k : ℕ) (s : Stage S K) (p : P) → IsStageOf plan (seen held written faults) taken (first_tasks told k) k false s → IsPieceOf plan shares is_of told k p
+    pub takes_next : {P : Type 0} (shares : O → P → Shares) (is_of : O → P → Mark → List Row → Bool → Type 0) (told : Told O) (k : ℕ) (s : Stage S K) (p : P)
+        → IsStageOf plan (seen held written faults) taken (first_tasks told k) k false s → IsPieceOf plan shares is_of told k p
         → CanTakeIn (plan told.operator) (held s.store) (shares told.operator p) (taken told.operator s.store) (is_of told.operator p)
     takes_next shares is_of told k s p is of =
         let q = plan told.operator in let n = told.size in let r = input_of told in
-        let piece : IsPieceAt q n r s.k (shares told.operator p) (is_of told.operator p) = subst (λ j. IsPieceAt q n r j (shares told.operator p) (is_of told.operator p)) (sym is.behind) of.piece in
-        (r, cut n r s.k, cut n r (s.k + 1), follows q n r (start_of told) (seen held written faults s) (taken told.operator s.store) (shares told.operator p) (is_of told.operator p) of.tasks (cut_rises n r s.k) (keeps_on told k s is) (is.runs refl) piece)
+        let piece : IsPieceAt q n r s.k (shares told.operator p) (is_of told.operator p) =
+        subst (λ j. IsPieceAt q n r j (shares told.operator p) (is_of told.operator p)) (sym is.behind) of.piece in (
+          r,
+          cut n r s.k,
+          cut n r (s.k + 1),
+          follows q n r (start_of told) (seen held written faults s) (taken told.operator s.store) (shares told.operator p) (is_of told.operator p) of.tasks
+              (cut_rises n r s.k) (keeps_on told k s is) (is.runs refl) piece,
+        )

@@ -63,7 +63,8 @@ module _ {O : Type 0} (plan : O → Tree) where
     pub piece : IsPieceAt (plan told.operator) told.size (input_of told) t (shares told.operator p) (is_of told.operator p)
 
   -- the stage has k tasks behind it, and is stopped or runs
-  pub record IsStageOf {S K : Type 0} (view : Stage S K → StageView) (taken : O → S → Input → Type 0) (told : Told O) (k : ℕ) (stopped : Bool) (s : Stage S K) : Type 0 where
+  pub record IsStageOf {S K : Type 0} (view : Stage S K → StageView) (taken : O → S → Input → Type 0) (told : Told O) (k : ℕ) (stopped : Bool)
+      (s : Stage S K) : Type 0 where
     pub behind : s.k ≡ k
     pub keeps : Keeps (plan told.operator) told.size (input_of told) (start_of told) (taken told.operator s.store) (view s)
     pub runs : stopped ≡ false → s.state ≡ Running

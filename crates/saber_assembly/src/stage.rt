@@ -54,12 +54,11 @@ fn write_text<K: Sink>(sink: &mut K, text: &[u8]) -> Result<(), WriteFault>
 }
 
 impl<S: Drop, K: Sink> Stage<S, K> {
-    ghost use Rattle.std.specs.Prelude.{◌≡◌, ◌≢◌, ◌≤◌, ◌<◌, ◌^◌, ℕ, ◌+◌, [], IfSome, IfNone};
+    ghost use Rattle.std.specs.Prelude.{◌≡◌, ◌≢◌, ◌≤◌, ◌<◌, ◌^◌, ◌+◌, [], IfSome, IfNone};
     ghost use Rattle.std.specs.FinMap.{empty};
     ghost use Rattle.saber_io.specs.Outside.{Rose};
-    ghost use Rattle.saber_plan.specs.Inputs.{Input, going_on};
-    ghost use Rattle.saber_fragment.specs.Stores.{CanTakeIn, TakesIn};
-    ghost use Rattle.saber_assembly.specs.Stages.{seen, Start, Tasks, Keeps, IsPieceAt, Writes, WritesFront, Leaves};
+    ghost use Rattle.saber_plan.specs.Inputs.{going_on};
+    ghost use Rattle.saber_assembly.specs.Stages.{CanAbsorb, AddsText, AddsFront, LeavesOpen, TakesPiece, BeginsRuns, KeepsRuns};
     ghost use Rattle.saber_assembly.specs.declared.stage.State.{State};
     ghost use Rattle.saber_assembly.specs.declared.stage.Absorbed.{Absorbed};
 
@@ -70,8 +69,7 @@ impl<S: Drop, K: Sink> Stage<S, K> {
         ensures none { result.k ≡ 0 }
         ensures runs { result.state ≡ State.Running }
         ensures taken { O.has_taken operator.now result.store (going_on []) }
-        ensures keeps { (n : ℕ) (r : Input) → Tasks (O.plan operator.now) n r
-            → Keeps (O.plan operator.now) n r (record { written = K.written sink; faults = K.faults sink }) (O.has_taken operator.now result.store) (seen O.held K.written K.faults result) }
+        ensures keeps { BeginsRuns O.plan O.held O.has_taken K.written K.faults operator.now sink result }
     {
         no_rows_give_nothing();
         no_tasks_no_rows();
@@ -119,19 +117,15 @@ impl<S: Drop, K: Sink> Stage<S, K> {
     ) -> Absorbed
         requires running { self.old.state ≡ State.Running }
         requires few { self.old.k < 2 ^ 62 }
-        requires next { CanTakeIn (O.plan operator.now) (O.held self.old.store) (O.shares operator.now piece)
-            (O.has_taken operator.now self.old.store) (O.is_of operator.now piece) }
-        ensures written { result ≡ Absorbed.Done → Writes (O.plan operator.now) (O.held self.old.store) (O.shares operator.now piece)
-            (K.written self.old.sink) (K.written self.new.sink) }
-        ensures left { result ≡ Absorbed.Done → Leaves (O.plan operator.now) (O.held self.old.store) (O.shares operator.now piece) (O.held self.new.store) }
+        requires next { CanAbsorb O.plan O.held O.shares O.has_taken O.is_of operator.now self.old piece }
+        ensures written { result ≡ Absorbed.Done → AddsText O.plan O.held O.shares operator.now K.written self.old self.new piece }
+        ensures left { result ≡ Absorbed.Done → LeavesOpen O.plan O.held O.shares operator.now self.old self.new piece }
         ensures rises { result ≡ Absorbed.Done → self.new.k ≡ self.old.k + 1 }
         ensures runs { result ≡ Absorbed.Done → self.new.state ≡ State.Running }
-        ensures taken { result ≡ Absorbed.Done → TakesIn (O.plan operator.now) (O.held self.old.store) (O.shares operator.now piece)
-            (O.has_taken operator.now self.old.store) (O.is_of operator.now piece) (O.has_taken operator.now self.new.store) }
+        ensures taken { result ≡ Absorbed.Done → TakesPiece O.plan O.held O.shares O.has_taken O.is_of operator.now self.old self.new piece }
         ensures stopped { result ≡ Absorbed.Stopped → self.new.state ≢ State.Running }
         ensures stays { result ≡ Absorbed.Stopped → self.new.k ≡ self.old.k }
-        ensures failed { self.new.state ≡ State.SinkFailed → WritesFront (O.plan operator.now) (O.held self.old.store) (O.shares operator.now piece)
-            (K.written self.old.sink) (K.written self.new.sink) }
+        ensures failed { self.new.state ≡ State.SinkFailed → AddsFront O.plan O.held O.shares operator.now K.written self.old self.new piece }
         ensures cause { self.new.state ≡ State.SinkFailed → Rose (K.faults self.old.sink) (K.faults self.new.sink) }
         ensures good { self.new.state ≢ State.SinkFailed → K.faults self.new.sink ≡ K.faults self.old.sink }
         ensures memory { self.new.state ≡ State.NoMemory → K.written self.new.sink ≡ K.written self.old.sink }
@@ -171,36 +165,29 @@ impl<S: Drop, K: Sink> Stage<S, K> {
     ) -> Absorbed
         requires running { self.old.state ≡ State.Running }
         requires few { self.old.k < 2 ^ 62 }
-        requires next { IfSome piece (λ p. CanTakeIn (O.plan operator.now) (O.held self.old.store) (O.shares operator.now p)
-            (O.has_taken operator.now self.old.store) (O.is_of operator.now p)) }
+        requires next { IfSome piece (λ p. CanAbsorb O.plan O.held O.shares O.has_taken O.is_of operator.now self.old p) }
 
         // The step of the definitions.
-        ensures written { result ≡ Absorbed.Done → IfSome piece (λ p. Writes (O.plan operator.now) (O.held self.old.store) (O.shares operator.now p)
-            (K.written self.old.sink) (K.written self.new.sink)) }
-        ensures left { result ≡ Absorbed.Done → IfSome piece (λ p. Leaves (O.plan operator.now) (O.held self.old.store) (O.shares operator.now p) (O.held self.new.store)) }
+        ensures written { result ≡ Absorbed.Done → IfSome piece (λ p. AddsText O.plan O.held O.shares operator.now K.written self.old self.new p) }
+        ensures left { result ≡ Absorbed.Done → IfSome piece (λ p. LeavesOpen O.plan O.held O.shares operator.now self.old self.new p) }
         ensures rises { result ≡ Absorbed.Done → self.new.k ≡ self.old.k + 1 }
         ensures runs { result ≡ Absorbed.Done → self.new.state ≡ State.Running }
 
         // And the store has taken in all up to the piece's end.
-        ensures taken { result ≡ Absorbed.Done → IfSome piece (λ p. TakesIn (O.plan operator.now) (O.held self.old.store) (O.shares operator.now p)
-            (O.has_taken operator.now self.old.store) (O.is_of operator.now p) (O.has_taken operator.now self.new.store)) }
+        ensures taken { result ≡ Absorbed.Done → IfSome piece (λ p. TakesPiece O.plan O.held O.shares O.has_taken O.is_of operator.now self.old self.new p) }
 
         // What a stop leaves, and why it comes.
         ensures stopped { result ≡ Absorbed.Stopped → self.new.state ≢ State.Running }
         ensures stays { result ≡ Absorbed.Stopped → self.new.k ≡ self.old.k }
         ensures none { IfNone piece ((result ≡ Absorbed.Stopped) × (self.new.state ≡ State.NoMemory)) }
-        ensures failed { self.new.state ≡ State.SinkFailed → IfSome piece (λ p. WritesFront (O.plan operator.now) (O.held self.old.store) (O.shares operator.now p)
-            (K.written self.old.sink) (K.written self.new.sink)) }
+        ensures failed { self.new.state ≡ State.SinkFailed → IfSome piece (λ p. AddsFront O.plan O.held O.shares operator.now K.written self.old self.new p) }
         ensures cause { self.new.state ≡ State.SinkFailed → Rose (K.faults self.old.sink) (K.faults self.new.sink) }
         ensures good { self.new.state ≢ State.SinkFailed → K.faults self.new.sink ≡ K.faults self.old.sink }
         ensures memory { self.new.state ≡ State.NoMemory → K.written self.new.sink ≡ K.written self.old.sink }
         ensures count { K.faults self.old.sink ≤ K.faults self.new.sink }
 
         // So a stage after k tasks, given the piece of task k, is one after k + 1, or stopped at k.
-        ensures keeps { (n : ℕ) (r : Input) (start : Start) → Tasks (O.plan operator.now) n r
-            → Keeps (O.plan operator.now) n r start (O.has_taken operator.now self.old.store) (seen O.held K.written K.faults self.old)
-            → IfSome piece (λ p. IsPieceAt (O.plan operator.now) n r self.old.k (O.shares operator.now p) (O.is_of operator.now p))
-            → Keeps (O.plan operator.now) n r start (O.has_taken operator.now self.new.store) (seen O.held K.written K.faults self.new) }
+        ensures keeps { KeepsRuns O.plan O.held O.has_taken K.written K.faults operator.now O.shares O.is_of self.old piece self.new }
     {
         cuts_rise();
         text_goes_on();

@@ -25,9 +25,9 @@ use Rattle.saber_query.specs.declared.tree.Keys.{Keys}
 use Rattle.saber_query.specs.Trees.{Query}
 use Rattle.saber_check.specs.Least.{each}
 use Rattle.saber_check.specs.Widths.{factor_width, prod_width, column_width, item_width}
-use Rattle.saber_check.specs.Names.{is_of_first, is_of_second, same, decls, declares}
+use Rattle.saber_check.specs.Names.{same, decls, declares}
 use Rattle.saber_check.specs.Bounds.{factors, prods, products, product_faults, sum_faults}
-use Rattle.saber_check.specs.Faults.{own_name, same_second, same_words, same_column, among_columns, column_faults, factor_faults, prod_faults, expr_faults, is_aggregate, any_aggregate, is_join, is_group, is_key, is_column_key, is_sum_wide, content_faults, item_faults, items, key_faults, group_faults, group_part_faults, keys}
+use Rattle.saber_check.specs.Faults.{own_name, same_second, same_words, is_of_one, same_column, among_columns, column_faults, factor_faults, prod_faults, expr_faults, is_aggregate, any_aggregate, is_join, is_group, is_key, is_column_key, is_sum_wide, content_faults, item_faults, items, key_faults, group_faults, group_part_faults, keys}
 use Rattle.saber_check.specs.Plans.{is_left, place, plan_place, plan_side, plan_factor, plan_term, plan_expr, plan_item, plan_stream, plan_shape, plan_keys, streams}
 use Rattle.saber_check.proofs.NoFaults.{before, row_and, rows_and, first_part, other_parts, few, is_true, neither, not_both, same_names}
 use Rattle.saber_check.proofs.ColumnLaws.{AreDeclared, Found, found, left_there, column_there}
@@ -143,10 +143,6 @@ empty (x ∷ xs) e = absurd (omega (arith, zero_length (length (x ∷ xs)) e))
 
 behind_one : (x n : ℕ) (xs : List ℕ) → Contains xs n → Contains (x ∷ xs) n
 behind_one x n xs (k, h, e) = (suc k, omega arith, e)
-
--- two names are of one stream
-abbrev is_of_one : Query → Column → Column → Bool
-is_of_one q c d = (is_of_first q c && is_of_first q d) || (is_of_second q c && is_of_second q d)
 
 -- two names of the same words are the same name
 words_alike : (c d : Column) → same_words c d ≡ true → own_name c ≡ own_name d

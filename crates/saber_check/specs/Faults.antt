@@ -30,7 +30,10 @@ use Rattle.saber_check.specs.Least.{row, each}
 
 -- a column: its stream is none of FROM, its name is none of that stream's columns, or of both streams'
 unfoldable pub column_faults : Query → ℕ → Column → List Fault
-column_faults q i c = row (is_unknown_stream q c) i cause.UnknownStream ++ row (is_unknown_column q c) (i + second_width c.second) cause.UnknownColumn ++ row (is_ambiguous q c) i cause.Ambiguous
+column_faults q i c =
+    row (is_unknown_stream q c) i cause.UnknownStream
+    ++ row (is_unknown_column q c) (i + second_width c.second) cause.UnknownColumn
+    ++ row (is_ambiguous q c) i cause.Ambiguous
 
 -- the number that only its own minus makes small enough
 unfoldable pub factor_faults : Query → ℕ → Factor → List Fault
@@ -94,9 +97,13 @@ same_second (Some m) (Some n) = same m n
 abbrev pub same_words : Column → Column → Bool
 same_words c d = same c.first d.first && same_second c.second d.second
 
+-- two names of one stream of FROM
+abbrev pub is_of_one : Query → Column → Column → Bool
+is_of_one q c d = (is_of_first q c && is_of_first q d) || (is_of_second q c && is_of_second q d)
+
 -- two names of the same words, or of one column of a stream of FROM, qualified or not: a name that is no column's is the same as itself alone
 abbrev pub same_column : Query → Column → Column → Bool
-same_column q c d = same_words c d || (same (own_name c) (own_name d) && ((is_of_first q c && is_of_first q d) || (is_of_second q c && is_of_second q d)))
+same_column q c d = same_words c d || (same (own_name c) (own_name d) && is_of_one q c d)
 
 -- whether the column is one of these
 abbrev pub among_columns : Query → Column → List Column → Bool
@@ -133,6 +140,10 @@ content_faults q i (Value e) = row (is_group q && not (is_key q e)) i cause.NotG
 unfoldable pub item_faults : Query → ℕ → ℕ → Item → List Fault
 item_faults q k i x = row (k == 32) i cause.TooMany ++ row (is_join q && is_aggregate x) i cause.Shape ++ content_faults q i x
 
+-- those of all items, the first at i
+abbrev pub items_faults : Query → ℕ → List Fault
+items_faults q i = each item_width (item_faults q) 0 i (items q)
+
 -- ---- declarations
 
 -- i is the index of the name
@@ -145,6 +156,10 @@ decl_faults q k i d =
     row (k == 8) i cause.TooMany
     ++ row (names_stream (take k (decls q)) d.name) (i + 1) cause.DuplicateName
     ++ each name_width (column_name_faults d) 0 (i + 3) (names d)
+
+-- those of all declarations, the first at i
+abbrev pub decls_faults : Query → ℕ → List Fault
+decls_faults q i = each decl_width (decl_faults q) 0 i (decls q)
 
 -- ---- windows
 
@@ -162,7 +177,10 @@ is_overlapping most w = not (is_out w.size) && not (is_out w.slide) && nat_lt mo
 
 -- i is the index of its bracket
 unfoldable pub window_faults : ℕ → ℕ → Window → List Fault
-window_faults most i w = row (is_out w.size) (i + 2) cause.WindowRange ++ row (is_out w.slide) (i + 4) cause.WindowRange ++ row (is_overlapping most w) (i + 2) cause.Overlap
+window_faults most i w =
+    row (is_out w.size) (i + 2) cause.WindowRange
+    ++ row (is_out w.slide) (i + 4) cause.WindowRange
+    ++ row (is_overlapping most w) (i + 2) cause.Overlap
 
 -- a stream of FROM: declared, without a window in a selection, with one in every other query
 unfoldable pub source_faults : Query → ℕ → Source → List Fault
@@ -189,11 +207,15 @@ second_faults q i s = row (same q.from.name s.name) i cause.DuplicateName ++ row
 
 -- ---- predicates: the faults of their expressions
 
+-- the two sides of a comparison, with its sign between them
+abbrev pub sides_faults : Query → ℕ → Expr → Expr → List Fault
+sides_faults q i x y = expr_faults q i x ++ expr_faults q (i + expr_width x + 1) y
+
 unfoldable mutual
   pub test_faults : Query → ℕ → Test → List Fault
   test_faults q i (negated t) = test_faults q (i + 1) t
   test_faults q i (enclosed t a o) = test_faults q (i + 1) t ++ ands_faults q (i + 1 + test_width t) a ++ ors_faults q (i + 1 + test_width t + ands_width a) o
-  test_faults q i (compare x c y) = expr_faults q i x ++ expr_faults q (i + expr_width x + 1) y
+  test_faults q i (compare x c y) = sides_faults q i x y
 
   pub ands_faults : Query → ℕ → Ands → List Fault
   ands_faults q i no_more = []
@@ -216,9 +238,13 @@ tests_faults q i t = test_faults q i t.first ++ ands_faults q (i + test_width t.
 unfoldable pub key_faults : Query → Keys → ℕ → ℕ → Column → List Fault
 key_faults q g k i c = row (k == 8) i cause.TooMany ++ row (among_columns q c (take k (keys g))) i cause.DuplicateName ++ column_faults q i c
 
+-- those of all its columns, the first at i
+abbrev pub keys_faults : Query → Keys → ℕ → List Fault
+keys_faults q g i = each column_width (key_faults q g) 0 i (keys g)
+
 -- i is the index of the word GROUP, which no join has
 unfoldable pub group_faults : Query → ℕ → Keys → List Fault
-group_faults q i g = row (is_join q) i cause.Shape ++ each column_width (key_faults q g) 0 (i + 2) (keys g)
+group_faults q i g = row (is_join q) i cause.Shape ++ keys_faults q g (i + 2)
 
 -- where SELECT, FROM, what is behind the first stream, WHERE and GROUP stand
 abbrev pub select_at : Query → ℕ
@@ -249,8 +275,8 @@ group_part_faults q i = option_map_or (group_faults q i) q.group []
 -- all that is wrong with the query
 unfoldable pub faults : Query → List Fault
 faults q =
-    each decl_width (decl_faults q) 0 0 (decls q)
-    ++ each item_width (item_faults q) 0 (select_at q + 1) (items q)
+    decls_faults q 0
+    ++ items_faults q (select_at q + 1)
     ++ source_faults q (from_at q + 1) q.from
     ++ second_part_faults q (second_at q)
     ++ where_faults q (where_at q)

@@ -54,7 +54,8 @@ abbrev pub at : Option ℕ → Cause → List Fault
 at None c = []
 at (Some i) c = record { index = i; cause = c } ∷ []
 
--- The faults of parts that stand one after the other, the first at i, with a word between each two. A part's faults may depend on how many are before it, k for the first.
+-- The faults of parts that stand one after the other, the first at i, with a word between each two. A part's faults may depend on how
+-- many are before it, k for the first.
 unfoldable pub each : {X : Type 0} → (X → ℕ) → (ℕ → ℕ → X → List Fault) → ℕ → ℕ → List X → List Fault
 each width faults k i [] = []
 each width faults k i (x ∷ xs) = faults k i x ++ each width faults (k + 1) (i + width x + 1) xs

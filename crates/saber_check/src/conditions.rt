@@ -1,9 +1,9 @@
 // A walk over a predicate.
-ghost use Rattle.std.specs.Prelude.{◌≡◌, ◌+◌, ◌≤◌, ◌^◌, ◌++◌};
+ghost use Rattle.std.specs.Prelude.{◌≡◌, ◌+◌, ◌≤◌, ◌^◌};
 ghost use Rattle.saber_check.specs.Least.{Visits, Room};
 ghost use Rattle.saber_query.specs.Trees.{test_of, both_of, tests_of, query_of};
 ghost use Rattle.saber_check.specs.Widths.{test_width, both_width, tests_width, expr_width};
-ghost use Rattle.saber_check.specs.Faults.{test_faults, both_faults, tests_faults, expr_faults};
+ghost use Rattle.saber_check.specs.Faults.{test_faults, both_faults, tests_faults, sides_faults};
 
 use crate::walk::Walk;
 use saber_query::{Conj, Expr, Pred, Select, Unit};
@@ -14,8 +14,7 @@ impl Walk {
     fn compared(&mut self, query: &Select, left: &Expr, right: &Expr)
         requires { Room self.old (expr_width left.now + 1 + expr_width right.now) }
         ensures { Visits self.old self.new (expr_width left.now + 1 + expr_width right.now)
-            (expr_faults (query_of query.now) self.old.index left.now ++ expr_faults
-            (query_of query.now) (self.old.index + expr_width left.now + 1) right.now) }
+            (sides_faults (query_of query.now) self.old.index left.now right.now) }
     {
         self.expr(query, left);
         self.skip(1);

@@ -5,7 +5,7 @@ ghost use Rattle.saber_query.specs.Trees.{query_of};
 ghost use Rattle.saber_check.specs.Least.{row, each, Visits, Room};
 ghost use Rattle.saber_check.specs.Names.{names, names_stream, decls, among};
 ghost use Rattle.saber_check.specs.Widths.{name_width, column_width, expr_width, item_width, source_width, decl_width, span};
-ghost use Rattle.saber_check.specs.Faults.{expr_faults, content_faults, item_faults, window_faults, source_faults, second_faults, key_faults, group_faults, column_name_faults, decl_faults, is_group, is_key, items, keys, among_columns};
+ghost use Rattle.saber_check.specs.Faults.{expr_faults, content_faults, item_faults, window_faults, source_faults, second_faults, key_faults, group_faults, column_name_faults, decl_faults, items_faults, decls_faults, keys_faults, is_group, is_key, keys, among_columns};
 
 use crate::bounds::{column_words, is_sum_wide};
 use crate::names::{is_among, is_declared, is_named};
@@ -171,8 +171,7 @@ impl Walk {
         requires { Room self.old (item_width query.now.item + span item_width query.now.items) }
         ensures { Visits self.old self.new
             (item_width query.now.item + span item_width query.now.items)
-            (each item_width (item_faults (query_of query.now)) 0 self.old.index
-            (items (query_of query.now))) }
+            (items_faults (query_of query.now) self.old.index) }
     {
         let grouped = is_group(query);
         self.item(query, grouped, 0, &query.item);
@@ -246,8 +245,7 @@ impl Walk {
         requires { Room self.old (decl_width query.now.decl + span decl_width query.now.decls) }
         ensures { Visits self.old self.new
             (decl_width query.now.decl + span decl_width query.now.decls)
-            (each decl_width (decl_faults (query_of query.now)) 0 self.old.index
-            (decls (query_of query.now))) }
+            (decls_faults (query_of query.now) self.old.index) }
     {
         self.decl(query, 0, &query.decl);
         let others = query.decls.as_slice();
@@ -288,8 +286,7 @@ impl Walk {
         requires { Room self.old (column_width group.now.first + span column_width group.now.more) }
         ensures { Visits self.old self.new
             (column_width group.now.first + span column_width group.now.more)
-            (each column_width (key_faults (query_of query.now) group.now) 0 self.old.index
-            (keys group.now)) }
+            (keys_faults (query_of query.now) group.now self.old.index) }
     {
         self.key(query, group, 0, &group.first);
         let others = group.more.as_slice();

@@ -2,8 +2,7 @@
 ghost use Rattle.std.specs.Prelude.{◌≡◌, ◌≤◌, ◌^◌, ◌&&◌, ◌||◌, not, is_some, false};
 ghost use Rattle.std.specs.Option.{option_map_or};
 ghost use Rattle.saber_query.specs.Trees.{query_of};
-ghost use Rattle.saber_check.specs.Names.{is_of_first, is_of_second};
-ghost use Rattle.saber_check.specs.Faults.{any_aggregate, is_aggregate, is_join, is_group, is_selection, same_measure, is_apart, is_out, most_windows, is_overlapping, own_name, same_second, same_words, same_column, among_columns, is_column_key, is_key, keys};
+ghost use Rattle.saber_check.specs.Faults.{any_aggregate, is_aggregate, is_join, is_group, is_selection, same_measure, is_apart, is_out, most_windows, is_overlapping, own_name, is_of_one, same_second, same_words, same_column, among_columns, is_column_key, is_key, keys};
 
 use crate::names::{is_of_first, is_of_second};
 use saber_plan::overlap;
@@ -113,9 +112,7 @@ pub(crate) fn own_name(column: &Column) -> &Name
 }
 
 fn is_of_one(query: &Select, column: &Column, other: &Column) -> bool
-    ensures { result
-        ≡ ((is_of_first (query_of query.now) column.now && is_of_first (query_of query.now) other.now)
-        || (is_of_second (query_of query.now) column.now && is_of_second (query_of query.now) other.now)) }
+    ensures { result ≡ is_of_one (query_of query.now) column.now other.now }
 {
     is_of_first(query, column) && is_of_first(query, other)
         || is_of_second(query, column) && is_of_second(query, other)

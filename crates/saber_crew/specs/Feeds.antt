@@ -47,4 +47,5 @@ module _ {T : Type 0} (upto : T → ℕ → T) (first : T → ℕ → ℕ) where
   abbrev pub AreFrees : ℕ → Frees → Option (Lead T) → Type 0
   AreFrees n frees None = ⊥
   AreFrees n frees (Some l) =
-      (frees.base + length frees.list.items ≡ n) × ((k : ℕ) → frees.base ≤ k → k < n → slice_index frees.list.items (k - frees.base) ≡ first_of_task upto first l.told k)
+      (frees.base + length frees.list.items ≡ n)
+      × ((k : ℕ) → frees.base ≤ k → k < n → slice_index frees.list.items (k - frees.base) ≡ first_of_task upto first l.told k)

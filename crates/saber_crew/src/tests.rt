@@ -17,7 +17,7 @@ use std::sync::Wait;
 use std::test::Fail;
 use std::thread::Threads;
 
-// The rows of a task are its number, and it needs those of the task before it. Its piece is a number, and
+// The rows of a task are its number, and it needs those of the two tasks before it. Its piece is a number, and
 // the stage notes the pieces in their order.
 struct Noting;
 
@@ -40,7 +40,7 @@ impl Work for Noting {
 
     ghost is_piece = { any_piece };
 
-    ghost first = { λ told t. t - 1 };
+    ghost first = { λ told t. t - 2 };
 
     ghost is_stage = { any_stage };
 
@@ -61,7 +61,7 @@ impl FixedData<LinkedList<u64>> for Nothing {
     ghost told = { Some [] };
 }
 
-// A thousand times a task's own number, and the number before it. There is room for so many pieces.
+// A thousand times a task's own number, and the two numbers before it. There is room for so many pieces.
 #[derive(Drop)]
 struct Adding {
     room: usize,
@@ -75,7 +75,7 @@ impl Labor<Noting> for Adding {
     ghost has_blocks = { λ op told t u draft. Unit {0} };
 
     fn first(&self, own: &u64) -> u64 {
-        own.saturating_sub(1)
+        own.saturating_sub(2)
     }
 
     fn start(&self, _alloc: Global, own: &u64) -> Option<u64> {
@@ -156,7 +156,7 @@ fn run_tasks<R: Threads + Wait + Sync>(
     threads: u32,
     waits: bool,
 ) -> Result<Noted, AllocError>
-    requires ring { (2 ≤ ring) × (ring ≤ 1024) }
+    requires ring { (3 ≤ ring) × (ring ≤ 1024) }
     requires few { count ≤ 2 ^ 42 }
 {
     let mut supply = Numbers {
@@ -197,9 +197,9 @@ fn run_tasks<R: Threads + Wait + Sync>(
 
 #[test]
 fn pieces_come_in_the_order_of_tasks(rt: HostRuntime) -> Result<(), Fail> {
-    let all = [0, 1000, 2001, 3002, 4003, 5004];
+    let all = [0, 1000, 2001, 3003, 4005, 5007];
     for count in 0..7u64 {
-        for ring in 2..5u32 {
+        for ring in 3..6u32 {
             for threads in 0..5u32 {
                 let noted = run_tasks(&rt, rt.alloc(), 100, count, ring, threads, false)?;
                 assert_eq!(rt; noted.pieces.as_slice(), &all[..count as usize]);
@@ -213,7 +213,7 @@ fn pieces_come_in_the_order_of_tasks(rt: HostRuntime) -> Result<(), Fail> {
 #[test]
 fn a_stage_that_stops_ends_the_run(rt: HostRuntime) -> Result<(), Fail> {
     for threads in 0..5u32 {
-        let noted = run_tasks(&rt, rt.alloc(), 2, 6, 2, threads, false)?;
+        let noted = run_tasks(&rt, rt.alloc(), 2, 6, 3, threads, false)?;
         assert_eq!(rt; noted.pieces.as_slice(), [0, 1000].as_slice());
         assert_eq!(rt; noted.over, Over::Stopped);
     }
@@ -222,12 +222,12 @@ fn a_stage_that_stops_ends_the_run(rt: HostRuntime) -> Result<(), Fail> {
 
 #[test]
 fn a_supply_that_is_dry_now_and_then_gives_all(rt: HostRuntime) -> Result<(), Fail> {
-    let all = [0, 1000, 2001, 3002, 4003, 5004];
+    let all = [0, 1000, 2001, 3003, 4005, 5007];
     for threads in 0..3u32 {
-        let noted = run_tasks(&rt, rt.alloc(), 100, 6, 2, threads, true)?;
+        let noted = run_tasks(&rt, rt.alloc(), 100, 6, 3, threads, true)?;
         assert_eq!(rt; noted.pieces.as_slice(), all.as_slice());
         assert_eq!(rt; (noted.tasks, noted.over), (6, Over::AllGiven));
-        let noted = run_tasks(&rt, rt.alloc(), 2, 6, 2, threads, true)?;
+        let noted = run_tasks(&rt, rt.alloc(), 2, 6, 3, threads, true)?;
         assert_eq!(rt; noted.pieces.as_slice(), [0, 1000].as_slice());
         assert_eq!(rt; noted.over, Over::Stopped);
     }

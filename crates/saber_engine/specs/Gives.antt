@@ -1,6 +1,9 @@
 -- What a run gives over inputs that tell their bytes.
-use Rattle.std.specs.Prelude.{Bool, ◌≡◌, ◌≢◌, ◌≤◌, ℕ, ◌/◌, length, List, Option, Some, None}
-use Rattle.saber_plan.specs.Sizes.{FileLimits}
+use Rattle.std.specs.Prelude.{Bool, ◌≡◌, ◌≢◌, ◌≤◌, ℕ, ◌/◌, length, List, Option, Some, None, IfSome}
+use Rattle.saber_io.specs.Outside.{appended}
+use Rattle.saber_plan.specs.declared.rows.Side.{Side}
+use Rattle.saber_plan.specs.declared.sizes.Sizes.{Sizes}
+use Rattle.saber_plan.specs.Sizes.{FileLimits, limits_of}
 use Rattle.saber_plan.specs.Inputs.{Input, input}
 use Rattle.saber_plan.specs.Rows.{Read, all_read, bad}
 use Rattle.saber_plan.specs.Trees.{Tree}
@@ -10,7 +13,7 @@ use Rattle.saber_plan.specs.Needs.{need as blocks_needed, wide}
 pub use Rattle.saber_assembly.specs.Stages.{IsCut}
 use Rattle.saber_engine.specs.declared.ends.RunEnd.{RunEnd}
 use Rattle.saber_engine.specs.declared.ends.RunEnd.TheVariants.{AllRead, Bad, ReadFault, TooWide, WriteFault, NoMemory}
-use Rattle.saber_engine.specs.Sources.{GaveAll, wholes}
+use Rattle.saber_engine.specs.Sources.{GaveAll, wholes, input_of}
 
 -- an answer of the rows and the ring alone: no fault came, and memory was enough
 abbrev pub IsClean : RunEnd → Type 0
@@ -64,3 +67,15 @@ pub record ReadsWhole (q : Tree) (n : ℕ) (limits : FileLimits) (tasks : ℕ) (
   pub taken : List (List ℕ)
   pub left : GaveAll had taken has
   pub tasks_are : length (input (wholes q limits taken)).rows / n ≤ tasks
+
+-- what a run of these sizes gives over files with these bytes
+abbrev pub GivesOver : Tree → Sizes → List (List ℕ) → RunEnd → ℕ → List ℕ → Type 0
+GivesOver q s files e tasks out = Gives q s.task s.ring s.flush (input_of q (limits_of s) files) e tasks out
+
+-- something goes out, and over files that tell their bytes it is this
+abbrev pub GivesTold : Tree → Sizes → Option (List (List ℕ)) → Option (List ℕ) → Option (List ℕ) → RunEnd → ℕ → Type 0
+GivesTold q s told had has e tasks = (out : List ℕ) × (has ≡ appended had out) × IfSome told (λ files. GivesOver q s files e tasks out)
+
+-- a fault of reading leaves at least every whole task assembled
+abbrev pub LeavesWhole : Tree → Sizes → List (Option (List ℕ)) → List (Option (List ℕ)) → RunEnd → ℕ → Type 0
+LeavesWhole q s had has e tasks = (side : Side) → e ≡ ReadFault side → ReadsWhole q s.task (limits_of s) tasks had has

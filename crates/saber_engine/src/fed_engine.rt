@@ -1,15 +1,14 @@
 // The engine over a feed: a checked plan of one stream.
-ghost use Rattle.std.specs.Prelude.{◌≡◌, ◌≢◌, ◌≤◌, ℕ, List, ◌∷◌, [], Some, length};
-ghost use Rattle.saber_io.specs.Outside.{Rose, appended};
+ghost use Rattle.std.specs.Prelude.{◌≡◌, ◌≢◌, ◌≤◌, Some, length};
+ghost use Rattle.saber_io.specs.Outside.{Rose};
 ghost use Rattle.saber_io.specs.declared.feeds.EndMark.{EndMark};
 ghost use Rattle.saber_plan.specs.declared.rows.Side.{Side};
 ghost use Rattle.saber_plan.specs.Trees.{tree_of};
 ghost use Rattle.saber_plan.specs.Checked.{IsChecked};
-ghost use Rattle.saber_plan.specs.Sizes.{SizesFit, limits_of};
+ghost use Rattle.saber_plan.specs.Sizes.{SizesFit};
 ghost use Rattle.saber_engine.specs.declared.ends.RunEnd.{RunEnd};
-ghost use Rattle.saber_engine.specs.Sources.{input_of};
-ghost use Rattle.saber_engine.specs.Gives.{Gives, IsClean};
-ghost use Rattle.saber_engine.specs.FedRuns.{GoesOn, TakesWhole};
+ghost use Rattle.saber_engine.specs.Gives.{IsClean};
+ghost use Rattle.saber_engine.specs.FedRuns.{GivesFed, CutLeavesWhole};
 
 use crate::ends::{Ran, RunEnd};
 use crate::fed_plans::run_fed;
@@ -36,10 +35,8 @@ fn run_shape<F: Feed, K: Pour + Send, G: Gate + Sync, R: Threads + Wait + Sync>(
     requires one { length (tree_of plan.now).streams ≡ 1 }
     requires sizes { SizesFit sizes.now }
     requires fresh { F.waiting feed.old ≡ F.taken feed.old }
-    ensures gives { (out : List ℕ) × (K.written result.sink ≡ appended (K.written sink) out)
-        × ((all : List ℕ) → GoesOn (F.taken feed.new) (F.mark feed.new) all
-        → Gives (tree_of plan.now) sizes.now.task sizes.now.ring sizes.now.flush (input_of (tree_of plan.now) (limits_of sizes.now) (all ∷ [])) result.end result.tasks out) }
-    ensures whole { (side : Side) → result.end ≡ RunEnd.ReadFault side → TakesWhole (tree_of plan.now) sizes.now.task (limits_of sizes.now) result.tasks (F.taken feed.new) }
+    ensures gives { GivesFed (tree_of plan.now) sizes.now (F.taken feed.new) (F.mark feed.new) (K.written sink) (K.written result.sink) result.end result.tasks }
+    ensures whole { CutLeavesWhole (tree_of plan.now) sizes.now (F.taken feed.new) result.end result.tasks }
     ensures all { result.end ≡ RunEnd.AllRead → F.mark feed.new ≡ Some EndMark.End }
     ensures cut { (side : Side) → result.end ≡ RunEnd.ReadFault side → F.mark feed.new ≡ Some EndMark.Cut }
     ensures read { (side : Side) → result.end ≡ RunEnd.ReadFault side → Rose (F.faults feed.old) (F.faults feed.new) }
@@ -84,12 +81,10 @@ pub fn engine_fed<F: Feed, K: Sink + Send, G: Gate + Sync, R: Threads + Wait + S
 
     // Over each file that goes on from what was taken of the feed, and is this where the feed ended: what goes out is the text of the
     // first tasks' rows; with all read, or a line refused, of all tasks, and of those before one that is too wide for the ring.
-    ensures gives { (out : List ℕ) × (K.written result.sink ≡ appended (K.written sink) out)
-        × ((all : List ℕ) → GoesOn (F.taken feed.new) (F.mark feed.new) all
-        → Gives (tree_of plan.now) sizes.now.task sizes.now.ring sizes.now.flush (input_of (tree_of plan.now) (limits_of sizes.now) (all ∷ [])) result.end result.tasks out) }
+    ensures gives { GivesFed (tree_of plan.now) sizes.now (F.taken feed.new) (F.mark feed.new) (K.written sink) (K.written result.sink) result.end result.tasks }
 
     // A feed that is cut off leaves at least every whole task assembled of what was taken.
-    ensures whole { (side : Side) → result.end ≡ RunEnd.ReadFault side → TakesWhole (tree_of plan.now) sizes.now.task (limits_of sizes.now) result.tasks (F.taken feed.new) }
+    ensures whole { CutLeavesWhole (tree_of plan.now) sizes.now (F.taken feed.new) result.end result.tasks }
 
     // All is read only where the feed has ended, and it can't be read only where it was cut off.
     ensures all { result.end ≡ RunEnd.AllRead → F.mark feed.new ≡ Some EndMark.End }

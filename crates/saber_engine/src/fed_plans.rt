@@ -1,16 +1,16 @@
 // A run of one operator over a feed.
-ghost use Rattle.std.specs.Prelude.{◌≡◌, ◌≢◌, ◌≤◌, ℕ, List, ◌∷◌, [], Some, length};
-ghost use Rattle.saber_io.specs.Outside.{Rose, appended};
+ghost use Rattle.std.specs.Prelude.{◌≡◌, ◌≢◌, ◌≤◌, Some, length};
+ghost use Rattle.saber_io.specs.Outside.{Rose};
 ghost use Rattle.saber_io.specs.declared.feeds.EndMark.{EndMark};
 ghost use Rattle.saber_plan.specs.declared.rows.Side.{Side};
 ghost use Rattle.saber_plan.specs.Trees.{tree_of};
 ghost use Rattle.saber_plan.specs.Checked.{IsChecked};
-ghost use Rattle.saber_plan.specs.Sizes.{SizesFit, limits_of};
+ghost use Rattle.saber_plan.specs.Sizes.{SizesFit};
 ghost use Rattle.saber_engine.specs.declared.ends.RunEnd.{RunEnd};
-ghost use Rattle.saber_engine.specs.Sources.{input_of};
-ghost use Rattle.saber_engine.specs.Gives.{Gives, IsClean};
-ghost use Rattle.saber_engine.specs.FedRuns.{GoesOn, TakesWhole};
+ghost use Rattle.saber_engine.specs.Gives.{IsClean};
+ghost use Rattle.saber_engine.specs.FedRuns.{GivesFed, CutLeavesWhole};
 
+use crate::cells::cells;
 use crate::ends::{Ran, RunEnd, ended};
 use crate::fed_blocks::{BeginsFed, FedBlocks};
 use saber_assembly::{SaberWork, Stage};
@@ -53,10 +53,8 @@ where
     requires sizes { SizesFit sizes.now }
     requires fresh { F.waiting feed.old ≡ F.taken feed.old }
     requires begins { (J.sizes ≡ sizes.now) × (J.faults ≡ F.faults feed.old) }
-    ensures gives { (out : List ℕ) × (K.written result.sink ≡ appended (K.written sink) out)
-        × ((all : List ℕ) → GoesOn (F.taken feed.new) (F.mark feed.new) all
-        → Gives (tree_of plan.now) sizes.now.task sizes.now.ring sizes.now.flush (input_of (tree_of plan.now) (limits_of sizes.now) (all ∷ [])) result.end result.tasks out) }
-    ensures whole { (side : Side) → result.end ≡ RunEnd.ReadFault side → TakesWhole (tree_of plan.now) sizes.now.task (limits_of sizes.now) result.tasks (F.taken feed.new) }
+    ensures gives { GivesFed (tree_of plan.now) sizes.now (F.taken feed.new) (F.mark feed.new) (K.written sink) (K.written result.sink) result.end result.tasks }
+    ensures whole { CutLeavesWhole (tree_of plan.now) sizes.now (F.taken feed.new) result.end result.tasks }
     ensures all { result.end ≡ RunEnd.AllRead → F.mark feed.new ≡ Some EndMark.End }
     ensures cut { (side : Side) → result.end ≡ RunEnd.ReadFault side → F.mark feed.new ≡ Some EndMark.Cut }
     ensures read { (side : Side) → result.end ≡ RunEnd.ReadFault side → Rose (F.faults feed.old) (F.faults feed.new) }
@@ -90,7 +88,14 @@ where
         &mut blocks,
         feed,
         stage,
-        sizes,
+        &Sizes {
+            task: sizes.task,
+            ring: cells(plan, sizes),
+            threads: sizes.threads,
+            max_lines: sizes.max_lines,
+            slack: sizes.slack,
+            flush: sizes.flush,
+        },
     );
     let FedBlocks {
         cutter: _cutter,

@@ -3,6 +3,7 @@
 #![tactic(auto)]
 
 mod blocks;
+mod cells;
 mod ends;
 mod fed_blocks;
 mod fed_engine;

@@ -1,15 +1,16 @@
 // A run of one operator.
-ghost use Rattle.std.specs.Prelude.{◌≡◌, ◌≢◌, ◌≤◌, ℕ, List, IfSome, length};
-ghost use Rattle.saber_io.specs.Outside.{Rose, appended};
+ghost use Rattle.std.specs.Prelude.{◌≡◌, ◌≢◌, ◌≤◌, ℕ, List, length};
+ghost use Rattle.saber_io.specs.Outside.{Rose};
 ghost use Rattle.saber_plan.specs.declared.rows.Side.{Side};
 ghost use Rattle.saber_plan.specs.Trees.{tree_of};
 ghost use Rattle.saber_plan.specs.Checked.{IsChecked};
-ghost use Rattle.saber_plan.specs.Sizes.{SizesFit, limits_of};
+ghost use Rattle.saber_plan.specs.Sizes.{SizesFit};
 ghost use Rattle.saber_engine.specs.declared.ends.RunEnd.{RunEnd};
-ghost use Rattle.saber_engine.specs.Sources.{each_input, told_by, input_of, RoseAt, NoneFell, GaveAll};
-ghost use Rattle.saber_engine.specs.Gives.{Gives, IsClean, ReadsWhole};
+ghost use Rattle.saber_engine.specs.Sources.{each_input, told_by, RoseAt, NoneFell, GaveAll};
+ghost use Rattle.saber_engine.specs.Gives.{GivesTold, IsClean, LeavesWhole};
 
 use crate::blocks::{Begins, Blocks};
+use crate::cells::cells;
 use crate::ends::{Ran, RunEnd, ended};
 use saber_assembly::{SaberWork, Stage};
 use saber_crew::{Over, run};
@@ -50,9 +51,8 @@ where
     requires inputs { length (each_input S.left inputs.old) ≡ length (tree_of plan.now).streams }
     requires sizes { SizesFit sizes.now }
     requires begins { (J.sizes ≡ sizes.now) × (J.lefts ≡ each_input S.left inputs.old) × (J.faults ≡ each_input S.faults inputs.old) }
-    ensures gives { (out : List ℕ) × (K.written result.sink ≡ appended (K.written sink) out)
-        × IfSome (told_by S.left inputs.old) (λ files. Gives (tree_of plan.now) sizes.now.task sizes.now.ring sizes.now.flush (input_of (tree_of plan.now) (limits_of sizes.now) files) result.end result.tasks out) }
-    ensures whole { (side : Side) → result.end ≡ RunEnd.ReadFault side → ReadsWhole (tree_of plan.now) sizes.now.task (limits_of sizes.now) result.tasks (each_input S.left inputs.old) (each_input S.left inputs.new) }
+    ensures gives { GivesTold (tree_of plan.now) sizes.now (told_by S.left inputs.old) (K.written sink) (K.written result.sink) result.end result.tasks }
+    ensures whole { LeavesWhole (tree_of plan.now) sizes.now (each_input S.left inputs.old) (each_input S.left inputs.new) result.end result.tasks }
     ensures takes { (taken : List (List ℕ)) × GaveAll (each_input S.left inputs.old) taken (each_input S.left inputs.new) }
     ensures read { (side : Side) → result.end ≡ RunEnd.ReadFault side → RoseAt side (each_input S.faults inputs.old) (each_input S.faults inputs.new) }
     ensures write { result.end ≡ RunEnd.WriteFault → Rose (K.faults sink) (K.faults result.sink) }
@@ -85,7 +85,14 @@ where
         &mut blocks,
         inputs,
         stage,
-        sizes,
+        &Sizes {
+            task: sizes.task,
+            ring: cells(plan, sizes),
+            threads: sizes.threads,
+            max_lines: sizes.max_lines,
+            slack: sizes.slack,
+            flush: sizes.flush,
+        },
     );
     let Blocks {
         cutter: _cutter,

@@ -1,13 +1,13 @@
 // The engine: a checked plan over its inputs.
-ghost use Rattle.std.specs.Prelude.{◌≡◌, ◌≢◌, ◌≤◌, ℕ, List, IfSome, length};
-ghost use Rattle.saber_io.specs.Outside.{Rose, appended};
+ghost use Rattle.std.specs.Prelude.{◌≡◌, ◌≢◌, ◌≤◌, ℕ, List, length};
+ghost use Rattle.saber_io.specs.Outside.{Rose};
 ghost use Rattle.saber_plan.specs.declared.rows.Side.{Side};
 ghost use Rattle.saber_plan.specs.Trees.{tree_of};
 ghost use Rattle.saber_plan.specs.Checked.{IsChecked};
-ghost use Rattle.saber_plan.specs.Sizes.{SizesFit, limits_of};
+ghost use Rattle.saber_plan.specs.Sizes.{SizesFit};
 ghost use Rattle.saber_engine.specs.declared.ends.RunEnd.{RunEnd};
-ghost use Rattle.saber_engine.specs.Sources.{each_input, told_by, input_of, RoseAt, NoneFell, GaveAll};
-ghost use Rattle.saber_engine.specs.Gives.{Gives, IsClean, ReadsWhole};
+ghost use Rattle.saber_engine.specs.Sources.{each_input, told_by, RoseAt, NoneFell, GaveAll};
+ghost use Rattle.saber_engine.specs.Gives.{GivesTold, IsClean, LeavesWhole};
 
 use crate::ends::{Ran, RunEnd};
 use crate::plans::run_plan;
@@ -41,11 +41,10 @@ pub fn engine_pouring<S: Source, K: Pour + Send, G: Gate + Sync, R: Threads + Wa
 
     // What goes out is the text of the first tasks' rows; with all read, or a line refused, of all tasks, and of those before one
     // that is too wide for the ring.
-    ensures gives { (out : List ℕ) × (K.written result.sink ≡ appended (K.written sink) out)
-        × IfSome (told_by S.left inputs.old) (λ files. Gives (tree_of plan.now) sizes.now.task sizes.now.ring sizes.now.flush (input_of (tree_of plan.now) (limits_of sizes.now) files) result.end result.tasks out) }
+    ensures gives { GivesTold (tree_of plan.now) sizes.now (told_by S.left inputs.old) (K.written sink) (K.written result.sink) result.end result.tasks }
 
     // A fault of reading leaves at least every whole task assembled of what was taken.
-    ensures whole { (side : Side) → result.end ≡ RunEnd.ReadFault side → ReadsWhole (tree_of plan.now) sizes.now.task (limits_of sizes.now) result.tasks (each_input S.left inputs.old) (each_input S.left inputs.new) }
+    ensures whole { LeavesWhole (tree_of plan.now) sizes.now (each_input S.left inputs.old) (each_input S.left inputs.new) result.end result.tasks }
 
     // What inputs have left are ends of what they had.
     ensures takes { (taken : List (List ℕ)) × GaveAll (each_input S.left inputs.old) taken (each_input S.left inputs.new) }
@@ -96,11 +95,10 @@ pub fn engine<S: Source, K: Sink + Send, G: Gate + Sync, R: Threads + Wait + Syn
 
     // What goes out is the text of the first tasks' rows; with all read, or a line refused, of all tasks, and of those before one
     // that is too wide for the ring.
-    ensures gives { (out : List ℕ) × (K.written result.sink ≡ appended (K.written sink) out)
-        × IfSome (told_by S.left inputs.old) (λ files. Gives (tree_of plan.now) sizes.now.task sizes.now.ring sizes.now.flush (input_of (tree_of plan.now) (limits_of sizes.now) files) result.end result.tasks out) }
+    ensures gives { GivesTold (tree_of plan.now) sizes.now (told_by S.left inputs.old) (K.written sink) (K.written result.sink) result.end result.tasks }
 
     // A fault of reading leaves at least every whole task assembled of what was taken.
-    ensures whole { (side : Side) → result.end ≡ RunEnd.ReadFault side → ReadsWhole (tree_of plan.now) sizes.now.task (limits_of sizes.now) result.tasks (each_input S.left inputs.old) (each_input S.left inputs.new) }
+    ensures whole { LeavesWhole (tree_of plan.now) sizes.now (each_input S.left inputs.old) (each_input S.left inputs.new) result.end result.tasks }
 
     // What inputs have left are ends of what they had.
     ensures takes { (taken : List (List ℕ)) × GaveAll (each_input S.left inputs.old) taken (each_input S.left inputs.new) }

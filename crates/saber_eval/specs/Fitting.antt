@@ -23,4 +23,5 @@ OneStreamFits = (q : Tree) (s : Stream) (r : Row) → IsChecked q → q.streams 
 
 -- one of two streams fits each pair of their rows
 abbrev pub TwoStreamsFit : Type 0
-TwoStreamsFit = (q : Tree) (s t : Stream) (left right : Row) → IsChecked q → q.streams ≡ s ∷ t ∷ [] → RowFits Left s.columns left → RowFits Right t.columns right → PlanFits q (widths left.values right.values)
+TwoStreamsFit = (q : Tree) (s t : Stream) (left right : Row) → IsChecked q → q.streams ≡ s ∷ t ∷ []
+    → RowFits Left s.columns left → RowFits Right t.columns right → PlanFits q (widths left.values right.values)

@@ -1,18 +1,16 @@
 //! Tasks of group queries, worked out by hand, through the trait that the stage uses.
-ghost use Rattle.std.specs.Prelude.{◌≡◌, ◌≢◌, ◌^◌, ◌<◌, ◌∷◌, ◌++◌, List, [], IfOk, OnOk, Some, None, true, false};
+ghost use Rattle.std.specs.Prelude.{◌≡◌, ◌≢◌, ◌++◌, List, [], IfOk, OnOk, Some, None, true, false};
 ghost use Rattle.saber_plan.specs.declared.rows.Row.{Row};
 ghost use Rattle.saber_plan.specs.declared.rows.Side.TheVariants as sides;
-ghost use Rattle.saber_plan.specs.declared.expressions.Factor.TheVariants as factors;
 ghost use Rattle.saber_plan.specs.declared.plans.Shape.TheVariants as shapes;
 ghost use Rattle.saber_plan.specs.Answers.{frame};
 ghost use Rattle.saber_plan.specs.Checked.{IsChecked, WindowFits, columns_on};
 ghost use Rattle.saber_plan.specs.Given.{RowsFit};
 ghost use Rattle.saber_plan.specs.Inputs.{going_on};
-ghost use Rattle.saber_plan.specs.Rows.{RowFits, stamp};
 ghost use Rattle.saber_plan.specs.Shares.{shares_here};
 ghost use Rattle.saber_plan.specs.Tasks.{unclosed};
-ghost use Rattle.saber_plan.specs.Trees.{Tree, tree_of};
-ghost use Rattle.saber_plan.specs.Windows.{Fits, can_follow, mark_of, no_rows};
+ghost use Rattle.saber_plan.specs.Trees.{tree_of};
+ghost use Rattle.saber_plan.specs.Windows.{Fits, mark_of, no_rows};
 
 use super::*;
 use crate::run_pieces::RunPiece;
@@ -21,56 +19,21 @@ use saber_fragment::{Block, Operator, Rows};
 use saber_laws::{
     checked_fit, no_rows_give_nothing, open_goes_on, shares_are_local, shares_make_piece,
 };
-use saber_plan::{
-    Cmp, Conj, Expr, Factor, Factors, Item, Mark, Measure, NoMemory, Plan, Pred, Product, Row,
-    Shape, Side, Stream, Unit, Values, Window,
-};
-use saber_window::{stamps_fit, step_mark};
+use saber_plan::{Cmp, Factor, Item, Mark, Measure, NoMemory, Plan, Shape, Side, Unit};
+use saber_samples::{all, column, keyed_block, single, windowed};
 use std::alloc::Global;
 use std::process::Abort;
 use std::test::Fail;
 
 // ---- queries over one stream of three columns: a time, a key and a number
 
-fn single(alloc: Global, factor: Factor) -> Result<Expr, NoMemory>
-    ensures { IfOk result (λ e. e ≡ record { minus = false; factors = factor ∷ [] } ∷ []) }
-{
-    let product = Product {
-        minus: false,
-        factors: Factors::from_vec(vec![in alloc; factor]?),
-    };
-    Ok(Expr::from_vec(vec![in alloc; product]?))
-}
-
-fn column(index: u32) -> Factor
-    ensures { result ≡ factors.Column sides.Left index }
-{
-    Factor::Column {
-        side: Side::Left,
-        index,
-    }
-}
-
-fn stream(measure: Measure, size: u64, slide: u64) -> Stream
-    ensures { result ≡ record { columns = 3; window = Some (record { measure = measure; size = size; slide = slide }) } }
-{
-    Stream {
-        columns: 3,
-        window: Some(Window {
-            measure,
-            size,
-            slide,
-        }),
-    }
-}
-
 // SELECT key, SUM(number) .. [ROWS 3 SLIDE 1] GROUP BY key
 fn sums(alloc: Global) -> Result<Plan, NoMemory>
     ensures { IfOk result (λ p. IsChecked (tree_of p) × ((tree_of p).shape ≡ shapes.Group) × (columns_on (tree_of p).streams sides.Left ≡ 3)) }
 {
-    let streams = vec![in alloc; stream(Measure::Rows, 3, 1)]?;
-    let key = Item::Value(single(alloc, column(1))?);
-    let sum = Item::Sum(single(alloc, column(2))?);
+    let streams = vec![in alloc; windowed(3, Measure::Rows, 3, 1)]?;
+    let key = Item::Value(column(alloc, Side::Left, 1)?);
+    let sum = Item::Sum(column(alloc, Side::Left, 2)?);
     let items = vec![in alloc; key, sum]?;
     Ok(Plan::new(Shape::Group, streams, items, vec![in alloc; 1]?, None))
 }
@@ -79,9 +42,9 @@ fn sums(alloc: Global) -> Result<Plan, NoMemory>
 fn extremes(alloc: Global) -> Result<Plan, NoMemory>
     ensures { IfOk result (λ p. IsChecked (tree_of p) × ((tree_of p).shape ≡ shapes.Group) × (columns_on (tree_of p).streams sides.Left ≡ 3)) }
 {
-    let streams = vec![in alloc; stream(Measure::Range, 3, 2)]?;
-    let least = Item::Min(single(alloc, column(2))?);
-    let greatest = Item::Max(single(alloc, column(2))?);
+    let streams = vec![in alloc; windowed(3, Measure::Range, 3, 2)]?;
+    let least = Item::Min(column(alloc, Side::Left, 2)?);
+    let greatest = Item::Max(column(alloc, Side::Left, 2)?);
     let items = vec![in alloc; least, greatest, Item::Count]?;
     Ok(Plan::new(Shape::Group, streams, items, Vec::new(alloc), None))
 }
@@ -91,7 +54,7 @@ fn counts(alloc: Global, measure: Measure, size: u64, slide: u64) -> Result<Plan
     requires { WindowFits (record { measure = measure; size = size; slide = slide }) }
     ensures { IfOk result (λ p. IsChecked (tree_of p) × ((tree_of p).shape ≡ shapes.Group) × (columns_on (tree_of p).streams sides.Left ≡ 3)) }
 {
-    let streams = vec![in alloc; stream(measure, size, slide)]?;
+    let streams = vec![in alloc; windowed(3, measure, size, slide)]?;
     let items = vec![in alloc; Item::Count]?;
     Ok(Plan::new(Shape::Group, streams, items, Vec::new(alloc), None))
 }
@@ -100,15 +63,14 @@ fn counts(alloc: Global, measure: Measure, size: u64, slide: u64) -> Result<Plan
 fn high_counts(alloc: Global, limit: i64) -> Result<Plan, NoMemory>
     ensures { IfOk result (λ p. IsChecked (tree_of p) × ((tree_of p).shape ≡ shapes.Group) × (columns_on (tree_of p).streams sides.Left ≡ 3)) }
 {
-    let number = single(alloc, column(2))?;
+    let number = column(alloc, Side::Left, 2)?;
     let high = Unit::compare(
         number,
         Cmp::Greater,
         single(alloc, Factor::Constant(limit))?,
     );
-    let units = vec![in alloc; high]?;
-    let predicate = Pred::from_vec(vec![in alloc; Conj::from_vec(units)]?);
-    let streams = vec![in alloc; stream(Measure::Rows, 2, 2)]?;
+    let predicate = all(alloc, vec![in alloc; high]?)?;
+    let streams = vec![in alloc; windowed(3, Measure::Rows, 2, 2)]?;
     let items = vec![in alloc; Item::Count]?;
     Ok(Plan::new(
         Shape::Group,
@@ -117,63 +79,6 @@ fn high_counts(alloc: Global, limit: i64) -> Result<Plan, NoMemory>
         Vec::new(alloc),
         Some(predicate),
     ))
-}
-
-// ---- rows and blocks
-
-fn row(alloc: Global, time: u32, key: i64, number: i64) -> Result<Row, NoMemory>
-    ensures { IfOk result (λ r. RowFits sides.Left 3 r × (stamp r.values ≡ time)) }
-{
-    let values = Values::from_slice(alloc, &[i64::from(time), key, number])?;
-    Ok(Row {
-        side: Side::Left,
-        values,
-    })
-}
-
-// A row of this time can come next, and there is room for it.
-fn follows(mark: &Mark, time: u32) -> bool
-    ensures order { result ≡ true → can_follow mark.now time ≡ true }
-    ensures left { result ≡ true → mark.now.left < 2 ^ 32 }
-    ensures right { result ≡ true → mark.now.right < 2 ^ 32 }
-{
-    let in_order = match mark.last {
-        Some(last) => last.unsigned_abs() <= u64::from(time),
-        None => true,
-    };
-    !mark.ended && in_order && mark.left < 1 << 32 && mark.right < 1 << 32
-}
-
-// A block of these rows, up to the first that can't come there. The mark is stepped over them.
-fn block(
-    alloc: Global,
-    mark: &mut Mark,
-    table: &[(u32, i64, i64)],
-    ended: bool,
-) -> Result<Block, NoMemory>
-    ensures before { IfOk result (λ b. b.before ≡ mark.old) }
-    ensures ended { IfOk result (λ b. b.ended ≡ ended) }
-    ensures fits { IfOk result (λ b. (q : Tree) (xs : List Row) → columns_on q.streams sides.Left ≡ 3 → RowsFit q no_rows xs → mark.old ≡ mark_of xs → RowsFit q no_rows (xs ++ b.rows)) }
-    ensures mark { IfOk result (λ b. (xs : List Row) → mark.old ≡ mark_of xs → mark.new ≡ mark_of (xs ++ b.rows)) }
-{
-    let before = *mark;
-    let mut rows = Rows::new(alloc);
-    stamps_fit();
-    for (time, key, number) in table {
-        if !follows(mark, *time) {
-            break;
-        }
-        let row = row(alloc, *time, *key, *number)?;
-        *mark = step_mark(mark, &row);
-        rows.push(row)?;
-    }
-    Ok(Block {
-        number: 0,
-        first: 0,
-        before,
-        rows,
-        ended,
-    })
 }
 
 // ---- tasks, one after another
@@ -215,8 +120,9 @@ fn pieces<O: Operator>(
     };
     let mut pieces = Vec::new(alloc);
     for table in tasks {
-        let own = block(alloc, &mut mark, table, false)?;
+        let (own, after) = keyed_block(alloc, 0, mark, table, false)?;
         pieces.push(piece(alloc, operator, &own)?)?;
+        mark = after;
     }
     Ok(pieces)
 }
@@ -267,11 +173,12 @@ fn answer<O: Operator>(
     let mut store = operator.empty_store(alloc);
     let mut out = Vec::new(alloc);
     for table in tasks {
-        let own = block(alloc, &mut mark, table, false)?;
+        let (own, after) = keyed_block(alloc, 0, mark, table, false)?;
         give(alloc, operator, &own, &mut store, &mut out)?;
+        mark = after;
     }
     if flush {
-        let own = block(alloc, &mut mark, &[], true)?;
+        let (own, _) = keyed_block(alloc, 0, mark, &[], true)?;
         give(alloc, operator, &own, &mut store, &mut out)?;
     }
     Ok((out, store))

@@ -1,5 +1,5 @@
 -- Sources, sinks and files in memory, as their callers see them. Reads, writes and opens are numbered from 1 (this project's rule).
-use Rattle.std.specs.Prelude.{ℕ, ◌-◌, min, List, length, map, Option, Some, option_map, unwrap_or, slice_get, ◌==◌}
+use Rattle.std.specs.Prelude.{◌≡◌, ℕ, ◌-◌, min, List, [], ◌∷◌, ◌++◌, length, map, take, Option, Some, IsSomeAnd, option_map, unwrap_or, slice_get, ◌==◌}
 use Rattle.std.specs.List.{find}
 use Rattle.std.specs.Str.{bytes_eq}
 use Rattle.saber_io.specs.Outside.{counted, Closed, Told}
@@ -31,6 +31,14 @@ pub record SinkState : Type 0 where
 abbrev pub let_out : List (ℕ × ℕ) → ℕ → Option ℕ
 let_out fails number = option_map (λ f. f.1) (find (λ f. f.0 == number) fails)
 
+-- a sink whose next write failed: the write is counted, and of this piece only what its fault lets out is written
+abbrev pub CutsShort : SinkState → SinkState → List ℕ → Type 0
+CutsShort old new piece = IsSomeAnd (let_out old.fails (counted old.writes)) (λ out. new ≡ record old {
+  written = old.written ++ take out piece;
+  writes = counted old.writes;
+  faults = counted old.faults;
+})
+
 -- a file: its name and bytes, and the cuts and fails of the source that it gives
 pub record FileState : Type 0 where
   pub name : List ℕ
@@ -50,6 +58,14 @@ pub record FilesState : Type 0 where
 -- the first file of this name
 abbrev pub file_named : List FileState → List ℕ → Option FileState
 file_named files name = find (λ f. bytes_eq f.name name) files
+
+-- files whose next open failed: the open is counted, and this name was asked for
+abbrev pub failed_open : FilesState → List ℕ → FilesState
+failed_open files name = record files {
+  opens = counted files.opens;
+  faults = counted files.faults;
+  asked = files.asked ++ name ∷ [];
+}
 
 -- a file's source before its first read
 abbrev pub opened : FileState → SourceState

@@ -2,7 +2,7 @@
 ghost use Rattle.std.specs.Prelude.{◌≡◌, ◌≤◌, ◌+◌, ◌++◌, ◌∷◌, ◌<◌, ◌↔◌, ◌⊎◌, [], All, Some, None, Contains, IsErr, IfOk, IfSome, IfNone, OnOk, OnErr, OnSome, drop, take, length, find, map, option_copied, option_map, string_bytes};
 ghost use Rattle.std.specs.Str.{bytes_eq};
 ghost use Rattle.saber_io.specs.Outside.{counted, raised, OpensIn};
-ghost use Rattle.saber_io.specs.Memory.{read_size, file_named, opened};
+ghost use Rattle.saber_io.specs.Memory.{read_size, file_named, opened, failed_open};
 
 use crate::memory::is_listed;
 use crate::{Failed, Files, MemSource, OpenFault, Source};
@@ -218,11 +218,7 @@ impl Files for MemFiles {
           opens = counted self.old.opens;
           asked = self.old.asked ++ name.now ∷ [];
         }) }
-        ensures failed { result ≡ Err OpenFault.Failed → self.new ≡ record self.old {
-          opens = counted self.old.opens;
-          faults = counted self.old.faults;
-          asked = self.old.asked ++ name.now ∷ [];
-        } }
+        ensures failed { result ≡ Err OpenFault.Failed → self.new ≡ failed_open self.old name.now }
         ensures memory { result ≡ Err OpenFault.NoMemory → self.new ≡ self.old }
         ensures opens { IfOk result (λ src.
             OpensIn (told_of self.old).contents name.now (Some src.left)) }

@@ -1,7 +1,7 @@
 // Sources and sinks in memory, which fail where they are told to.
 ghost use Rattle.std.specs.Prelude.{◌≡◌, ◌≤◌, ◌+◌, ◌++◌, ◌<◌, ◌↔◌, [], All, Contains, IsTrue, IsErr, IsNone, IsSomeAnd, IfOk, OnOk, OnErr, drop, take, length};
 ghost use Rattle.saber_io.specs.Outside.{counted};
-ghost use Rattle.saber_io.specs.Memory.{within_cut, read_size, let_out};
+ghost use Rattle.saber_io.specs.Memory.{within_cut, read_size, let_out, CutsShort};
 
 use crate::{Failed, Sink, Source, WriteFault};
 use std::alloc::Global;
@@ -186,13 +186,7 @@ impl Sink for MemSink {
           written = self.old.written ++ piece.now;
           writes = counted self.old.writes;
         }) }
-        ensures failed { result ≡ Err WriteFault.Failed →
-            IsSomeAnd (let_out self.old.fails (counted self.old.writes)) (λ out.
-            self.new ≡ record self.old {
-              written = self.old.written ++ take out piece.now;
-              writes = counted self.old.writes;
-              faults = counted self.old.faults;
-            }) }
+        ensures failed { result ≡ Err WriteFault.Failed → CutsShort self.old self.new piece.now }
         ensures memory { result ≡ Err WriteFault.NoMemory → self.new ≡ self.old }
         ensures count { self.old.faults ≤ self.new.faults }
     {

@@ -1,22 +1,18 @@
 //! Pairs of windows, worked out by hand.
-ghost use Rattle.std.specs.Prelude.{◌≡◌, ◌^◌, ◌<◌, ◌∷◌, ◌++◌, [], List, map, IfOk, OnOk, Some, None, true, false};
+ghost use Rattle.std.specs.Prelude.{◌≡◌, ◌∷◌, ◌++◌, [], IfOk, OnOk, Some, None, true, false};
 ghost use Rattle.saber_plan.specs.declared.rows.Side.TheVariants as s;
-ghost use Rattle.saber_plan.specs.declared.rows.Row.{Row};
-ghost use Rattle.saber_plan.specs.declared.windows.Mark.{Mark};
 ghost use Rattle.saber_plan.specs.declared.predicates.Cmp.TheVariants as c;
 ghost use Rattle.saber_plan.specs.declared.expressions.Factor.TheVariants as f;
-ghost use Rattle.saber_plan.specs.declared.plans.Item.TheVariants as i;
 ghost use Rattle.saber_plan.specs.declared.plans.Shape.TheVariants as h;
 ghost use Rattle.saber_plan.specs.Trees as t;
-ghost use Rattle.saber_plan.specs.Trees.{Tree, tree_of};
-ghost use Rattle.saber_plan.specs.Rows.{RowFits, stamp};
+ghost use Rattle.saber_plan.specs.Trees.{tree_of};
 ghost use Rattle.saber_plan.specs.Checked.{IsChecked, columns_on};
 ghost use Rattle.saber_plan.specs.Given.{RowsFit};
 ghost use Rattle.saber_plan.specs.Inputs.{going_on};
 ghost use Rattle.saber_plan.specs.Answers.{frame};
 ghost use Rattle.saber_plan.specs.Tasks.{unclosed};
 ghost use Rattle.saber_plan.specs.Shares.{shares_here};
-ghost use Rattle.saber_plan.specs.Windows.{Fits, can_follow, mark_after, mark_of, no_rows};
+ghost use Rattle.saber_plan.specs.Windows.{Fits, mark_after, mark_of, no_rows};
 
 use super::*;
 use saber_fragment::{Block, Operator, Parts, Piece, Rows};
@@ -24,61 +20,36 @@ use saber_laws::{
     checked_fit, merge_has_unit, no_rows_give_nothing, open_goes_on, part_has_lines, parts_join,
     parts_lie_within, shares_make_piece,
 };
-use saber_plan::{
-    Cmp, Conj, Expr, Factor, Factors, Item, Mark, Measure, NoMemory, Plan, Pred, Product, Row,
-    Shape, Side, Stream, Unit, Values, Window,
-};
-use saber_window::{stamps_fit, step_mark};
+use saber_plan::{Cmp, Item, Mark, Measure, NoMemory, Plan, Pred, Shape, Side, Unit};
+use saber_samples::{all, column, sided_block, windowed};
 use std::alloc::Global;
 use std::process::Abort;
 use std::test::Fail;
 
 mod ties;
 
-// The number of a row: the column behind its time.
-fn number(alloc: Global, side: Side) -> Result<Expr, NoMemory>
-    ensures { IfOk result (λ e. e ≡ record { minus = false; factors = f.Column side 1 ∷ [] } ∷ []) }
-{
-    let factor = Factor::Column { side, index: 1 };
-    let product = Product {
-        minus: false,
-        factors: Factors::from_vec(vec![in alloc; factor]?),
-    };
-    Ok(Expr::from_vec(vec![in alloc; product]?))
-}
-
-// Two columns: a time and a number.
-fn stream(measure: Measure, size: u64, slide: u64) -> Stream
-    ensures { result ≡ record { columns = 2; window = Some (record { measure = measure; size = size; slide = slide }) } }
-{
-    Stream {
-        columns: 2,
-        window: Some(Window {
-            measure,
-            size,
-            slide,
-        }),
-    }
-}
+// Rows have two columns: a time and a number, x or y.
 
 // x < y
 fn rising(alloc: Global) -> Result<Pred, NoMemory>
     ensures { IfOk result (λ p. t.tests_of p ≡ t.either (t.both (t.compare (record { minus = false; factors = f.Column s.Left 1 ∷ [] } ∷ []) c.Less (record { minus = false; factors = f.Column s.Right 1 ∷ [] } ∷ [])) t.no_more) t.no_other) }
 {
-    let left = number(alloc, Side::Left)?;
-    let right = number(alloc, Side::Right)?;
-    let units = vec![in alloc; Unit::compare(left, Cmp::Less, right)]?;
-    Ok(Pred::from_vec(vec![in alloc; Conj::from_vec(units)]?))
+    let left = column(alloc, Side::Left, 1)?;
+    let right = column(alloc, Side::Right, 1)?;
+    all(
+        alloc,
+        vec![in alloc; Unit::compare(left, Cmp::Less, right)]?,
+    )
 }
 
 // SELECT x, y FROM A [RANGE 4 SLIDE 4], B [RANGE 4 SLIDE 4] WHERE x < y
 fn by_time(alloc: Global) -> Result<Plan, NoMemory>
     ensures { IfOk result (λ p. IsChecked (tree_of p) × ((tree_of p).shape ≡ h.Join) × (columns_on (tree_of p).streams s.Left ≡ 2) × (columns_on (tree_of p).streams s.Right ≡ 2)) }
 {
-    let left = stream(Measure::Range, 4, 4);
-    let right = stream(Measure::Range, 4, 4);
-    let x = Item::Value(number(alloc, Side::Left)?);
-    let y = Item::Value(number(alloc, Side::Right)?);
+    let left = windowed(2, Measure::Range, 4, 4);
+    let right = windowed(2, Measure::Range, 4, 4);
+    let x = Item::Value(column(alloc, Side::Left, 1)?);
+    let y = Item::Value(column(alloc, Side::Right, 1)?);
     let predicate = rising(alloc)?;
     let streams = vec![in alloc; left, right]?;
     let items = vec![in alloc; x, y]?;
@@ -95,10 +66,10 @@ fn by_time(alloc: Global) -> Result<Plan, NoMemory>
 fn by_rows(alloc: Global) -> Result<Plan, NoMemory>
     ensures { IfOk result (λ p. IsChecked (tree_of p) × ((tree_of p).shape ≡ h.Join) × (columns_on (tree_of p).streams s.Left ≡ 2) × (columns_on (tree_of p).streams s.Right ≡ 2)) }
 {
-    let left = stream(Measure::Rows, 2, 1);
-    let right = stream(Measure::Rows, 2, 1);
-    let x = Item::Value(number(alloc, Side::Left)?);
-    let y = Item::Value(number(alloc, Side::Right)?);
+    let left = windowed(2, Measure::Rows, 2, 1);
+    let right = windowed(2, Measure::Rows, 2, 1);
+    let x = Item::Value(column(alloc, Side::Left, 1)?);
+    let y = Item::Value(column(alloc, Side::Right, 1)?);
     let streams = vec![in alloc; left, right]?;
     let items = vec![in alloc; x, y]?;
     Ok(Plan::new(Shape::Join, streams, items, Vec::new(alloc), None))
@@ -108,10 +79,10 @@ fn by_rows(alloc: Global) -> Result<Plan, NoMemory>
 fn sizes_by_rows(alloc: Global) -> Result<Plan, NoMemory>
     ensures { IfOk result (λ p. IsChecked (tree_of p) × ((tree_of p).shape ≡ h.Join) × (columns_on (tree_of p).streams s.Left ≡ 2) × (columns_on (tree_of p).streams s.Right ≡ 2)) }
 {
-    let left = stream(Measure::Rows, 2, 2);
-    let right = stream(Measure::Rows, 1, 2);
-    let x = Item::Value(number(alloc, Side::Left)?);
-    let y = Item::Value(number(alloc, Side::Right)?);
+    let left = windowed(2, Measure::Rows, 2, 2);
+    let right = windowed(2, Measure::Rows, 1, 2);
+    let x = Item::Value(column(alloc, Side::Left, 1)?);
+    let y = Item::Value(column(alloc, Side::Right, 1)?);
     let streams = vec![in alloc; left, right]?;
     let items = vec![in alloc; x, y]?;
     Ok(Plan::new(Shape::Join, streams, items, Vec::new(alloc), None))
@@ -121,80 +92,13 @@ fn sizes_by_rows(alloc: Global) -> Result<Plan, NoMemory>
 fn sizes_by_time(alloc: Global) -> Result<Plan, NoMemory>
     ensures { IfOk result (λ p. IsChecked (tree_of p) × ((tree_of p).shape ≡ h.Join) × (columns_on (tree_of p).streams s.Left ≡ 2) × (columns_on (tree_of p).streams s.Right ≡ 2)) }
 {
-    let left = stream(Measure::Range, 4, 4);
-    let right = stream(Measure::Range, 2, 4);
-    let x = Item::Value(number(alloc, Side::Left)?);
-    let y = Item::Value(number(alloc, Side::Right)?);
+    let left = windowed(2, Measure::Range, 4, 4);
+    let right = windowed(2, Measure::Range, 2, 4);
+    let x = Item::Value(column(alloc, Side::Left, 1)?);
+    let y = Item::Value(column(alloc, Side::Right, 1)?);
     let streams = vec![in alloc; left, right]?;
     let items = vec![in alloc; x, y]?;
     Ok(Plan::new(Shape::Join, streams, items, Vec::new(alloc), None))
-}
-
-fn row(alloc: Global, side: Side, time: u32, number: i64) -> Result<Row, NoMemory>
-    ensures { IfOk result (λ r. RowFits side 2 r × (stamp r.values ≡ time)) }
-{
-    let values = Values::from_slice(alloc, &[i64::from(time), number])?;
-    Ok(Row { side, values })
-}
-
-// A row of this time can come next, and there is room for it.
-fn follows(mark: &Mark, time: u32) -> bool
-    ensures order { result ≡ true → can_follow mark.now time ≡ true }
-    ensures left { result ≡ true → mark.now.left < 2 ^ 32 }
-    ensures right { result ≡ true → mark.now.right < 2 ^ 32 }
-{
-    let in_order = match mark.last {
-        Some(last) => last.unsigned_abs() <= u64::from(time),
-        None => true,
-    };
-    !mark.ended && in_order && mark.left < 1 << 32 && mark.right < 1 << 32
-}
-
-// These rows, up to the first that can't come behind the mark, and the mark behind them.
-fn rows_after(
-    alloc: Global,
-    before: &Mark,
-    table: &[(Side, u32, i64)],
-) -> Result<(Rows, Mark), NoMemory>
-    ensures fit { IfOk result (λ r. (q : Tree) (m : Mark) (xs : List Row) → columns_on q.streams s.Left ≡ 2 → columns_on q.streams s.Right ≡ 2 → before.now ≡ mark_after m xs → RowsFit q m xs → RowsFit q m (xs ++ r.0)) }
-    ensures mark { IfOk result (λ r. r.1 ≡ mark_after before.now r.0) }
-{
-    let mut rows = Rows::new(alloc);
-    let mut mark = *before;
-    stamps_fit();
-    for (side, time, number) in table {
-        if !follows(&mark, *time) {
-            break;
-        }
-        let row = row(alloc, *side, *time, *number)?;
-        mark = step_mark(&mark, &row);
-        rows.push(row)?;
-    }
-    Ok((rows, mark))
-}
-
-// A block of these rows, up to the first that can't come behind the mark, and the mark behind them.
-fn block(
-    alloc: Global,
-    number: u64,
-    before: Mark,
-    table: &[(Side, u32, i64)],
-    ended: bool,
-) -> Result<(Block, Mark), NoMemory>
-    ensures before { IfOk result (λ b. b.0.before ≡ before) }
-    ensures ended { IfOk result (λ b. b.0.ended ≡ ended) }
-    ensures fit { IfOk result (λ b. (q : Tree) (m : Mark) (xs : List Row) → columns_on q.streams s.Left ≡ 2 → columns_on q.streams s.Right ≡ 2 → before ≡ mark_after m xs → RowsFit q m xs → RowsFit q m (xs ++ b.0.rows)) }
-    ensures mark { IfOk result (λ b. b.1 ≡ mark_after before b.0.rows) }
-{
-    let (rows, after) = rows_after(alloc, &before, table)?;
-    let block = Block {
-        number,
-        first: 0,
-        before,
-        rows,
-        ended,
-    };
-    Ok((block, after))
 }
 
 // The piece of a task that looks back on two blocks.
@@ -238,9 +142,9 @@ fn pair(
         ended: false,
     };
     let cut = back.len().min(2);
-    let (one, mark) = block(alloc, 0, before, &back[..cut], false)?;
-    let (two, mark) = block(alloc, 1, mark, &back[cut..], false)?;
-    let (own, _) = block(alloc, 2, mark, table, ended)?;
+    let (one, mark) = sided_block(alloc, 0, before, &back[..cut], false)?;
+    let (two, mark) = sided_block(alloc, 1, mark, &back[cut..], false)?;
+    let (own, _) = sided_block(alloc, 2, mark, table, ended)?;
     piece(alloc, &Join::new(plan), &one, &two, &own)
 }
 
@@ -476,12 +380,12 @@ fn answer<O: Operator>(
     let mut store = operator.empty_store(alloc);
     let mut out = Vec::new(alloc);
     for table in tasks {
-        let (own, after) = block(alloc, 2, mark, table, false)?;
+        let (own, after) = sided_block(alloc, 2, mark, table, false)?;
         give(alloc, operator, &behind, &own, &mut store, &mut out)?;
         behind.rows.extend_copied(alloc, own.rows.as_slice())?;
         mark = after;
     }
-    let (own, _) = block(alloc, 2, mark, &[], true)?;
+    let (own, _) = sided_block(alloc, 2, mark, &[], true)?;
     give(alloc, operator, &behind, &own, &mut store, &mut out)?;
     Ok(out)
 }

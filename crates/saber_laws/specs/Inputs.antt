@@ -47,7 +47,9 @@ FilesAreSorted = (s : SideRules) (bytes : List ℕ) (t : ℕ) → filter (has_st
 -- what follows a line without slack: each row is given as its line is read, and a timestamp must not fall
 abbrev pub after_plain : SideRules → ℕ → Option ℕ → Judged → (ℕ → Option ℕ → Read) → Read
 after_plain s n last skipped rest = rest (n + 1) last
-after_plain s n last (taken zs) rest = if falls last zs then record { rows = []; end = bad s.side (n + 1) TimeOrder } else before (record { side = s.side; values = zs }) (rest (n + 1) (Some (stamp zs)))
+after_plain s n last (taken zs) rest =
+    if falls last zs then record { rows = []; end = bad s.side (n + 1) TimeOrder }
+    else before (record { side = s.side; values = zs }) (rest (n + 1) (Some (stamp zs)))
 after_plain s n last (refused c) rest = record { rows = []; end = bad s.side (n + 1) c }
 
 abbrev pub plain_end : Bool → Read
@@ -56,7 +58,9 @@ plain_end partial = record { rows = []; end = if partial then cut else all_read 
 -- the rows of lines that come in order of time
 unfoldable pub plain_by : Bool → SideRules → List Line → ℕ → Option ℕ → Read
 plain_by partial s [] n last = plain_end partial
-plain_by partial s (l ∷ ls) n last = if partial && not (is_known l) then plain_end partial else after_plain s n last (judge s.columns s.most (n + 1) (without_cr l.content)) (plain_by partial s ls)
+plain_by partial s (l ∷ ls) n last =
+    if partial && not (is_known l) then plain_end partial
+    else after_plain s n last (judge s.columns s.most (n + 1) (without_cr l.content)) (plain_by partial s ls)
 
 -- without slack the rows of a file are those of its lines in their order
 abbrev pub PlainFiles : Type 0

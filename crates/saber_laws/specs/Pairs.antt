@@ -26,7 +26,8 @@ RowsAddPairs = (q : Tree) (x : ℕ) (chosen : Placed → Bool) (m : Mark) (xs : 
 abbrev pub WindowsGetPairs : Type 0
 WindowsGetPairs = (q : Tree) (x i : ℕ) (m : Mark) (xs : List Row) (r : Row) → x ≤ place (after_rows m xs r)
     → pair_part q x (filter (has (frame q) i) (placed_after m (xs ++ r ∷ [])))
-    ≡ (let chosen = filter (has (frame q) i) (placed_after m xs) in if has (frame q) i (after_rows m xs r) then with_row q x chosen (after_rows m xs r) else pair_part q x chosen)
+    ≡ (let chosen = filter (has (frame q) i) (placed_after m xs) in
+    if has (frame q) i (after_rows m xs r) then with_row q x chosen (after_rows m xs r) else pair_part q x chosen)
 
 -- the entries of a part are its pairs, in order
 abbrev pub PairsAreInOrder : Type 0

@@ -65,5 +65,7 @@ PartsLieWithin = (q : Tree) (i : ℕ) (r : Input) (x y : ℕ) → Ordered no_row
 
 -- a row that passes is merged into each window that has it, and into no other
 abbrev pub RowsAddToGroups : Type 0
-RowsAddToGroups = (q : Tree) (us : List Placed) (i : ℕ) (r : Placed) → group_part q (passing q (filter (has (frame q) i) (us ++ r ∷ [])))
-    ≡ (let part = group_part q (passing q (filter (has (frame q) i) us)) in if has (frame q) i r && passes q.predicate r.row.values [] then merge part (group_part q (r.row.values ∷ [])) else part)
+RowsAddToGroups = (q : Tree) (us : List Placed) (i : ℕ) (r : Placed)
+    → group_part q (passing q (filter (has (frame q) i) (us ++ r ∷ [])))
+    ≡ (let part = group_part q (passing q (filter (has (frame q) i) us)) in
+    if has (frame q) i r && passes q.predicate r.row.values [] then merge part (group_part q (r.row.values ∷ [])) else part)

@@ -10,6 +10,7 @@ use Rattle.saber_plan.specs.Checked.{ExprFits}
 use Rattle.saber_plan.specs.Answers.{earlier}
 use Rattle.saber_plan.specs.Parts.{summed, least, greatest, plain, zip_by}
 use Rattle.saber_eval.specs.Widths.{widths}
+use Rattle.saber_partial.specs.Kinds.{joined_list}
 use Rattle.saber_partial.specs.declared.gather.Gather.{Gather}
 use Rattle.saber_partial.specs.declared.gather.Gather.TheVariants.{Sums, Leasts, Greatests, Firsts}
 
@@ -46,6 +47,10 @@ exprs_of Firsts is = plain is
 -- their values over a row
 abbrev pub values_by : List ℤ → List (List Product) → List ℤ
 values_by zs es = map (λ e. value e zs []) es
+
+-- numbers by kind, s sums and l least values and g greatest ones, with what the items come to over a row more
+abbrev pub with_values : ℕ → ℕ → ℕ → List ℤ → List ℤ → List Item → List ℤ
+with_values s l g xs zs is = joined_list s l g xs (values_by zs (summed is)) (values_by zs (least is)) (values_by zs (greatest is))
 
 -- a sum grows by at most 2^86 a row
 abbrev pub IsSmall : Gather → ℤ → Type 0

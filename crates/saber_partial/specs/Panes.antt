@@ -1,6 +1,6 @@
 -- Panes: the points of a window's stream, cut at the greatest common divisor of its size and slide (Li et al. 2005, as in SABER 2016).
 -- So a window is some panes in a row.
-use Rattle.std.specs.Prelude.{◌≡◌, ℕ, zero, suc, ◌+◌, ◌*◌, ◌/◌, ◌%◌, ◌^◌, ◌≤◌, List, [], ◌∷◌, map, filter, fold, length, Bool, ◌&&◌, ◌==◌, nat_lt, nat_le, if◌then◌else◌, sum_by, Option, Some, None, ℤ}
+use Rattle.std.specs.Prelude.{◌≡◌, ℕ, zero, suc, ◌+◌, ◌*◌, ◌/◌, ◌%◌, ◌^◌, ◌≤◌, List, [], ◌∷◌, map, filter, fold, length, Bool, true, ◌&&◌, ◌==◌, nat_lt, nat_le, if◌then◌else◌, sum_by, Option, Some, None, ℤ}
 use Rattle.std.specs.FinMap.{get, insert, from_entries, retain_keys}
 use Rattle.std.specs.Ordering.{nat_cmp}
 use Rattle.saber_plan.specs.declared.rows.Row.{Row}
@@ -122,6 +122,10 @@ pub record PanesOf (q : Tree) (c : ℕ → ℕ) (m : Parts) : Type 0 where
 -- what both have of a pane can be merged
 pub record CanTakeIn (m n : Parts) : Type 0 where
   pub at : (j : ℕ) (a b : Part) → get m j ≡ Some a → get n j ≡ Some b → CanMerge a b
+
+-- the row's pane can take it in, if it is counted
+abbrev pub HasRowRoom : Tree → Parts → Placed → Type 0
+HasRowRoom q m x = is_counted q x ≡ true → CanMerge (or_none (joined_at m (pane_of (frame q) x))) (group_part q (x.row.values ∷ []))
 
 -- such panes can take in rows, so that each has at most 2^40
 pub record RowsRoom (q : Tree) (m : Parts) (us : List Placed) : Type 0 where

@@ -6,9 +6,22 @@ use Rattle.std.specs.FinMap.{get, insert, code}
 use Rattle.saber_plan.specs.Parts.{Part, Numbers, join_numbers}
 use Rattle.saber_plan.specs.Merges.{joined}
 
+-- sums, least values, greatest ones and first ones, as nested pairs
+abbrev pub FourLists : Type 0
+FourLists = List ℤ × (List ℤ × (List ℤ × List ℤ))
+
+abbrev pub coded_four : Coded FourLists
+coded_four = coded× (coded_list coded_ℤ) (coded× (coded_list coded_ℤ) (coded× (coded_list coded_ℤ) (coded_list coded_ℤ)))
+
+-- a tally as its count and those
+abbrev pub to_pairs : Numbers → ℕ × FourLists
+to_pairs a = (a.count, (a.sums, (a.leasts, (a.greatests, a.firsts))))
+
+abbrev pub of_pairs : ℕ × FourLists → Numbers
+of_pairs p = record { count = p.0; sums = p.1.0; leasts = p.1.1.0; greatests = p.1.1.1.0; firsts = p.1.1.1.1 }
+
 abbrev pub coded_numbers : Coded Numbers
-coded_numbers = code_by (ℕ × (List ℤ × (List ℤ × (List ℤ × List ℤ)))) (coded× coded_ℕ (coded× (coded_list coded_ℤ) (coded× (coded_list coded_ℤ) (coded× (coded_list coded_ℤ) (coded_list coded_ℤ)))))
-    (λ a. (a.count, (a.sums, (a.leasts, (a.greatests, a.firsts))))) (λ p. record { count = p.0; sums = p.1.0; leasts = p.1.1.0; greatests = p.1.1.1.0; firsts = p.1.1.1.1 }) (λ _. refl)
+coded_numbers = code_by (ℕ × FourLists) (coded× coded_ℕ coded_four) to_pairs of_pairs (λ _. refl)
 
 abbrev pub coded_entry : Coded (List ℤ × Numbers)
 coded_entry = coded× (coded_list coded_ℤ) coded_numbers

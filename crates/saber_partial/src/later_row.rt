@@ -3,8 +3,8 @@ ghost use Rattle.std.specs.Prelude.{◌≡◌, ◌+◌, ◌≤◌, List, ◌++�
 ghost use Rattle.std.specs.List.{AllByRecursion};
 ghost use Rattle.saber_plan.specs.Parts.{zip_by, summed, least, greatest};
 ghost use Rattle.saber_partial.specs.declared.gather.Gather.TheVariants.{Sums};
-ghost use Rattle.saber_partial.specs.Kinds.{joined_behind, joined_list};
-ghost use Rattle.saber_partial.specs.Gathering.{wanted, exprs_of, values_by, combine, combined_from, CanCount, IsSmall, HasRoom};
+ghost use Rattle.saber_partial.specs.Kinds.{joined_behind};
+ghost use Rattle.saber_partial.specs.Gathering.{wanted, exprs_of, values_by, combine, combined_from, CanCount, IsSmall, HasRoom, with_values};
 
 use crate::gather::Gather;
 use crate::joins::Shares;
@@ -68,8 +68,7 @@ fn add_kinds(shares: Shares, xs: &mut [i128], items: &[Item], row: &Row)
     requires greatests { shares.greatests ≡ length (greatest items.now) }
     requires fit { AllByRecursion (CanCount row.now.values) items.now }
     requires room { AllByRecursion (HasRoom Sums) (take shares.sums xs.old) }
-    ensures all { xs.new ≡ joined_list shares.sums shares.leasts shares.greatests xs.old (values_by row.now.values (summed items.now))
-        (values_by row.now.values (least items.now)) (values_by row.now.values (greatest items.now)) }
+    ensures all { xs.new ≡ with_values shares.sums shares.leasts shares.greatests xs.old row.now.values items.now }
     ensures small { AllByRecursion (IsSmall Sums) (values_by row.now.values (summed items.now)) }
 {
     let (sums, rest) = xs.split_at_mut(shares.sums);
@@ -86,8 +85,7 @@ pub(crate) fn add_all_values(shares: Shares, xs: &mut SmallVec<i128, 4>, items: 
     requires greatests { shares.greatests ≡ length (greatest items.now) }
     requires fit { AllByRecursion (CanCount row.now.values) items.now }
     requires room { AllByRecursion (HasRoom Sums) (take shares.sums xs.old.items) }
-    ensures all { xs.new.items ≡ joined_list shares.sums shares.leasts shares.greatests xs.old.items (values_by row.now.values (summed items.now))
-        (values_by row.now.values (least items.now)) (values_by row.now.values (greatest items.now)) }
+    ensures all { xs.new.items ≡ with_values shares.sums shares.leasts shares.greatests xs.old.items row.now.values items.now }
     ensures small { AllByRecursion (IsSmall Sums) (values_by row.now.values (summed items.now)) }
 {
     add_kinds(shares, xs, items, row);

@@ -11,7 +11,7 @@ ghost use Rattle.saber_plan.specs.Merges.{both};
 ghost use Rattle.saber_plan.specs.Parts.{group_part, merge};
 ghost use Rattle.saber_plan.specs.Values as v;
 ghost use Rattle.saber_partial.specs.Tallies.{CanMerge};
-ghost use Rattle.saber_partial.specs.Panes.{counted, first_pane, is_counted, joined_at, or_none, pane_count, pane_of, panes_here, window_part, with_part, with_row_in, CanTakeIn, RowsRoom, WindowRoom};
+ghost use Rattle.saber_partial.specs.Panes.{counted, first_pane, is_counted, joined_at, or_none, pane_count, pane_of, panes_here, window_part, with_part, with_row_in, CanTakeIn, HasRowRoom, RowsRoom, WindowRoom};
 
 use crate::cuts::Cuts;
 use crate::groups::Partial;
@@ -97,9 +97,7 @@ impl Panes {
         requires row { IsRowOf (tree_of plan.now) row.now }
         requires left { before.now.left ≤ 2 ^ 40 }
         requires right { before.now.right ≤ 2 ^ 40 }
-        requires room { is_counted (tree_of plan.now) (record { row = row.now; before = before.now }) ≡ true
-            → CanMerge (or_none (joined_at self.old (pane_of (frame (tree_of plan.now)) (record { row = row.now; before = before.now }))))
-            (group_part (tree_of plan.now) (row.now.values ∷ [])) }
+        requires room { HasRowRoom (tree_of plan.now) self.old (record { row = row.now; before = before.now }) }
         ensures ok { OnOk result (self.new ≡ with_row_in (tree_of plan.now) self.old (record { row = row.now; before = before.now })) }
         ensures steps { steps.new ≤ steps.old + length (counted (tree_of plan.now) (record { row = row.now; before = before.now } ∷ [])) }
     {

@@ -37,7 +37,8 @@ long_known partial l h = ap (λ b. partial && not (l.whole || b)) (is_long (leng
   by_bools true false = refl
   by_bools false w = refl
 
-pub judged_long : (columns most number : ℕ) (content : List ℕ) → 4096 < length content → judge columns most number content ≡ refused (cond (nat_lt most number) TooManyLines TooLong)
+pub judged_long : (columns most number : ℕ) (content : List ℕ) → 4096 < length content
+    → judge columns most number content ≡ refused (cond (nat_lt most number) TooManyLines TooLong)
 judged_long columns most number content h = by_limit (nat_lt most number) refl where
   by_limit : (b : Bool) → nat_lt most number ≡ b → judge columns most number content ≡ refused (cond b TooManyLines TooLong)
   by_limit true e = judge_many columns most number content (above most number e)

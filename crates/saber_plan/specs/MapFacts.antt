@@ -24,7 +24,9 @@ entries-empty {X = X} R = no_length _ (sym (len-entries (empty {X = X} {R = R}))
 module _ {K X : Type 0} {R : K → K → Ordering} (o : IsTotalOrder R) (same : IsAntisymmetric R) where
   -- the map of a list whose keys rise has that list
   pub entries-from_rising : (es : List (K × X)) → T (is_sorted R es) → entries (from_entries {R = R} es) ≡ es
-  entries-from_rising es s = ap entries (same_map o same (from_entries es) (from_sorted es) (λ q. get-from_entries o es q ∙ sym (get-from_sorted R es q s))) ∙ entries-from_sorted R es s
+  entries-from_rising es s =
+      ap entries (same_map o same (from_entries es) (from_sorted es) (λ q. get-from_entries o es q ∙ sym (get-from_sorted R es q s)))
+      ∙ entries-from_sorted R es s
 
 module _ {X : Type 0} (f : X → X → X) where
   pub join-none : (o : Option X) → join f o None ≡ o
@@ -60,7 +62,9 @@ module _ {K X : Type 0} {R : K → K → Ordering} (o : IsTotalOrder R) (f : X �
 
   module _ (same : IsAntisymmetric R) where
     pub both-assoc : ((x y z : X) → f (f x y) z ≡ f x (f y z)) → (a b c : FinMap R X) → both f (both f a b) c ≡ both f a (both f b c)
-    both-assoc assoc a b c = same_map o same _ _ (λ k. get-both _ c k ∙ ap (λ p. join f p (get c k)) (get-both a b k) ∙ join-assoc f assoc (get a k) (get b k) (get c k)
+    both-assoc assoc a b c = same_map o same _ _ (λ k. get-both _ c k
+        ∙ ap (λ p. join f p (get c k)) (get-both a b k)
+        ∙ join-assoc f assoc (get a k) (get b k) (get c k)
         ∙ ap (join f (get a k)) (sym (get-both b c k)) ∙ sym (get-both a _ k))
 
     pub both-empty_left : (a : FinMap R X) → both f empty a ≡ a
@@ -76,7 +80,8 @@ module _ {K X : Type 0} {R : K → K → Ordering} (o : IsTotalOrder R) (f : X �
 
     -- a merge that is empty had nothing on its left
     pub both_empty_left : (a b : FinMap R X) → both f a b ≡ empty → a ≡ empty
-    both_empty_left a b e = same_map o same _ _ (λ k. none_before (get a k) (get b k) (sym (get-both a b k) ∙ ap (λ m. get m k) e ∙ get-empty R k) ∙ sym (get-empty R k))
+    both_empty_left a b e = same_map o same _ _ (λ k.
+        none_before (get a k) (get b k) (sym (get-both a b k) ∙ ap (λ m. get m k) e ∙ get-empty R k) ∙ sym (get-empty R k))
 
     none_after : (p q : Option X) → join f p q ≡ None → q ≡ None
     none_after None q e = e
@@ -85,7 +90,8 @@ module _ {K X : Type 0} {R : K → K → Ordering} (o : IsTotalOrder R) (f : X �
 
     -- nor on its right
     pub both_empty_right : (a b : FinMap R X) → both f a b ≡ empty → b ≡ empty
-    both_empty_right a b e = same_map o same _ _ (λ k. none_after (get a k) (get b k) (sym (get-both a b k) ∙ ap (λ m. get m k) e ∙ get-empty R k) ∙ sym (get-empty R k))
+    both_empty_right a b e = same_map o same _ _ (λ k.
+        none_after (get a k) (get b k) (sym (get-both a b k) ∙ ap (λ m. get m k) e ∙ get-empty R k) ∙ sym (get-empty R k))
 
 -- ---- one entry after another
 
@@ -108,11 +114,13 @@ module _ {K X : Type 0} (R : K → K → Ordering) where
 module _ {K X : Type 0} {R : K → K → Ordering} (o : IsTotalOrder R) (same : IsAntisymmetric R) (f : X → X → X) where
   take_case : (m : FinMap R X) (k q : K) (v : X) (b : Bool) (rest : Option X) → (b ≡ true → get m q ≡ get m k) → (b ≡ true → rest ≡ None)
       → join f (cond b (Some (joined f (get m k) v)) (get m q)) rest ≡ join f (get m q) (cond b (Some v) rest)
-  take_case m k q v true rest tied none = ap (join f (Some (joined f (get m k) v))) (none refl) ∙ ap (λ p. Some (joined f p v)) (sym (tied refl)) ∙ sym (join-some f (get m q) v)
+  take_case m k q v true rest tied none =
+      ap (join f (Some (joined f (get m k) v))) (none refl) ∙ ap (λ p. Some (joined f p v)) (sym (tied refl)) ∙ sym (join-some f (get m q) v)
   take_case m k q v false rest tied none = refl
 
   -- a first entry, whose key doesn't come again, is taken in before the rest
-  pub take_one : (m : FinMap R X) (k : K) (v : X) (es : List (K × X)) → find R k es ≡ None → both f (insert m k (joined f (get m k) v)) (from_entries es) ≡ both f m (from_entries ((k, v) ∷ es))
+  pub take_one : (m : FinMap R X) (k : K) (v : X) (es : List (K × X)) → find R k es ≡ None
+      → both f (insert m k (joined f (get m k) v)) (from_entries es) ≡ both f m (from_entries ((k, v) ∷ es))
   take_one m k v es none = same_map o same _ _ (λ q.
       get-both o f (insert m k (joined f (get m k) v)) (from_entries es) q
       ∙ ap₂ (join f) (get-insert o m k (joined f (get m k) v) q) (get-from_entries o es q)

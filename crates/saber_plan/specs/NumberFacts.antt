@@ -9,7 +9,10 @@ use Rattle.saber_plan.specs.Tasks.{numbered}
 pub from-append : (a m n : ℕ) → from a (m + n) ≡ from a m ++ from (a + m) n
 unfolding from
 from-append a zero n = let p : zero + n ≡ n = omega arith in let r : a ≡ a + zero = omega arith in ap (from a) p ∙ ap (λ b. from b n) r
-from-append a (suc m) n = let p : suc m + n ≡ suc (m + n) = omega arith in let r : (a + 1) + m ≡ a + suc m = omega arith in ap (from a) p ∙ ap (λ l. a ∷ l) (from-append (a + 1) m n) ∙ ap (λ b. (a ∷ from (a + 1) m) ++ from b n) r
+from-append a (suc m) n =
+    let p : suc m + n ≡ suc (m + n) = omega arith in
+    let r : (a + 1) + m ≡ a + suc m = omega arith in
+    ap (from a) p ∙ ap (λ l. a ∷ l) (from-append (a + 1) m n) ∙ ap (λ b. (a ∷ from (a + 1) m) ++ from b n) r
 
 from_none : (a : ℕ) → from a (a - a) ≡ []
 unfolding from
@@ -51,19 +54,29 @@ module _ {X : Type 0} where
       ∙ sym (flat_map-append g (from a (n - a)) (n ∷ [])) ∙ sym (ap (flat_map g) (from_step a n h))
 
   -- numbers that give nothing may be left out
-  pub flat_skip : (g : ℕ → List X) (a n k : ℕ) → a ≤ n → n ≤ k → ((i : ℕ) → n ≤ i → i < k → g i ≡ []) → (l : List X) → l ≡ flat_map g (from a (n - a)) → l ≡ flat_map g (from a (k - a))
+  pub flat_skip : (g : ℕ → List X) (a n k : ℕ) → a ≤ n → n ≤ k → ((i : ℕ) → n ≤ i → i < k → g i ≡ [])
+      → (l : List X) → l ≡ flat_map g (from a (n - a)) → l ≡ flat_map g (from a (k - a))
   flat_skip g a n k h r none l e =
-      e ∙ sym (ap (flat_map g) (from_more a n k h r) ∙ flat_map-append g (from a (n - a)) (from n (k - n)) ∙ ap (λ m. flat_map g (from a (n - a)) ++ m) (flat_none g n (k - n) (λ i p s. none i p (omega (arith, s, r, p)))) ∙ append-nil _)
+      e ∙ sym (ap (flat_map g) (from_more a n k h r)
+      ∙ flat_map-append g (from a (n - a)) (from n (k - n))
+      ∙ ap (λ m. flat_map g (from a (n - a)) ++ m) (flat_none g n (k - n) (λ i p s. none i p (omega (arith, s, r, p))))
+      ∙ append-nil _)
 
   pub flat_filter : (g : ℕ → List X) (p : ℕ → Bool) (is : List ℕ) → flat_map (λ i. cond (p i) (g i) []) is ≡ flat_map g (filter p is)
   flat_filter g p [] = refl
-  flat_filter g p (i ∷ is) = elim (p i) as (λ t. cond t (g i) [] ++ flat_map (λ i. cond (p i) (g i) []) is ≡ flat_map g (cond t (i ∷ filter p is) (filter p is))) [ true ↦ ap (λ l. g i ++ l) (flat_filter g p is) | false ↦ flat_filter g p is ]
+  flat_filter g p (i ∷ is) =
+      elim (p i) as (λ t. cond t (g i) [] ++ flat_map (λ i. cond (p i) (g i) []) is ≡ flat_map g (cond t (i ∷ filter p is) (filter p is))) [
+        | true ↦ ap (λ l. g i ++ l) (flat_filter g p is)
+        | false ↦ flat_filter g p is
+      ]
 
   abbrev pub pair : ℕ → X → ℕ × X
   pair i x = (i, x)
 
-  entry_case : (f : ℕ → Option X) (i : ℕ) (is : List ℕ) (o : Option X) → filter_map (λ i. option_map (pair i) (f i)) is ≡ flat_map (λ i. option_map_or (λ x. pair i x ∷ []) (f i) []) is
-      → cons_option (option_map (pair i) o) (filter_map (λ i. option_map (pair i) (f i)) is) ≡ option_map_or (λ x. pair i x ∷ []) o [] ++ flat_map (λ i. option_map_or (λ x. pair i x ∷ []) (f i) []) is
+  entry_case : (f : ℕ → Option X) (i : ℕ) (is : List ℕ) (o : Option X)
+      → filter_map (λ i. option_map (pair i) (f i)) is ≡ flat_map (λ i. option_map_or (λ x. pair i x ∷ []) (f i) []) is
+      → cons_option (option_map (pair i) o) (filter_map (λ i. option_map (pair i) (f i)) is)
+      ≡ option_map_or (λ x. pair i x ∷ []) o [] ++ flat_map (λ i. option_map_or (λ x. pair i x ∷ []) (f i) []) is
   entry_case f i is None e = e
   entry_case f i is (Some x) e = ap (λ l. pair i x ∷ l) e
 

@@ -44,10 +44,13 @@ abbrev pub if_any : {A B : Type 0} → List A → B → Option B
 if_any [] b = None
 if_any (x ∷ xs) b = Some b
 
-find_keyed : {X : Type 0} (ks : List ℕ) (k : List ℤ) (g : List ℤ → X) (rows : List (List ℤ)) → find key_cmp k (keyed g (map (key ks) rows)) ≡ if_any (rows_of_key ks k rows) (g k)
+find_keyed : {X : Type 0} (ks : List ℕ) (k : List ℤ) (g : List ℤ → X) (rows : List (List ℤ))
+    → find key_cmp k (keyed g (map (key ks) rows)) ≡ if_any (rows_of_key ks k rows) (g k)
 find_keyed ks k g [] = refl
 find_keyed ks k g (r ∷ rows) =
-    elim (eq_by_cmp key_cmp k (key ks r)) as (λ b. eq_by_cmp key_cmp k (key ks r) ≡ b → cond b (Some (g (key ks r))) (find key_cmp k (keyed g (map (key ks) rows))) ≡ if_any (cond b (r ∷ rows_of_key ks k rows) (rows_of_key ks k rows)) (g k)) [
+    elim (eq_by_cmp key_cmp k (key ks r)) as (λ b. eq_by_cmp key_cmp k (key ks r) ≡ b
+    → cond b (Some (g (key ks r))) (find key_cmp k (keyed g (map (key ks) rows)))
+    ≡ if_any (cond b (r ∷ rows_of_key ks k rows) (rows_of_key ks k rows)) (g k)) [
       | true ↦ λ e. ap (λ l. Some (g l)) (sym (same_key _ _ e))
       | false ↦ λ e. find_keyed ks k g rows
     ] refl
@@ -58,4 +61,7 @@ if_any_answers is (r ∷ rs) = refl
 
 pub get-group_part : (q : Tree) (rows : List (List ℤ)) (k : List ℤ) → get (group_part q rows) k ≡ numbers_if q.items (rows_of_key q.keys k rows)
 unfolding group_part
-get-group_part q rows k = get-from_entries total _ k ∙ find_keyed q.keys k (λ l. numbers (q.items) (rows_of_key q.keys l rows)) rows ∙ if_any_answers q.items (rows_of_key q.keys k rows)
+get-group_part q rows k =
+    get-from_entries total _ k
+    ∙ find_keyed q.keys k (λ l. numbers (q.items) (rows_of_key q.keys l rows)) rows
+    ∙ if_any_answers q.items (rows_of_key q.keys k rows)

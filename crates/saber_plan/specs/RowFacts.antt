@@ -35,12 +35,21 @@ length-placed m [] = refl
 length-placed m (x ∷ xs) = ap suc (length-placed (step_mark m x) xs)
 
 -- one row more
-pub placed_more : (m : Mark) (xs : List Row) (k : ℕ) (x : Row) → k < length xs → x ≡ get_or xs k x → placed_after m (take (k + 1) xs) ≡ placed_after m (take k xs) ++ record { row = x; before = mark_after m (take k xs) } ∷ []
+pub placed_more : (m : Mark) (xs : List Row) (k : ℕ) (x : Row) → k < length xs → x ≡ get_or xs k x
+    → placed_after m (take (k + 1) xs)
+    ≡ placed_after m (take k xs) ++ record { row = x; before = mark_after m (take k xs) } ∷ []
 placed_more m xs k x h e =
-    ap (placed_after m) (take_more xs k x h) ∙ placed-append m (take k xs) (get_or xs k x ∷ []) ∙ ap (λ y. placed_after m (take k xs) ++ placed_after (mark_after m (take k xs)) (y ∷ [])) (sym e) ∙ ap (λ l. placed_after m (take k xs) ++ l) (placed-one (mark_after m (take k xs)) x)
+    ap (placed_after m) (take_more xs k x h)
+    ∙ placed-append m (take k xs) (get_or xs k x ∷ [])
+    ∙ ap (λ y. placed_after m (take k xs) ++ placed_after (mark_after m (take k xs)) (y ∷ [])) (sym e)
+    ∙ ap (λ l. placed_after m (take k xs) ++ l) (placed-one (mark_after m (take k xs)) x)
 
-pub mark_more : (m : Mark) (xs : List Row) (k : ℕ) (x : Row) → k < length xs → x ≡ get_or xs k x → mark_after m (take (k + 1) xs) ≡ step_mark (mark_after m (take k xs)) x
-mark_more m xs k x h e = ap (mark_after m) (take_more xs k x h) ∙ mark-append m (take k xs) (get_or xs k x ∷ []) ∙ ap (step_mark (mark_after m (take k xs))) (sym e)
+pub mark_more : (m : Mark) (xs : List Row) (k : ℕ) (x : Row) → k < length xs → x ≡ get_or xs k x
+    → mark_after m (take (k + 1) xs) ≡ step_mark (mark_after m (take k xs)) x
+mark_more m xs k x h e =
+    ap (mark_after m) (take_more xs k x h)
+    ∙ mark-append m (take k xs) (get_or xs k x ∷ [])
+    ∙ ap (step_mark (mark_after m (take k xs))) (sym e)
 
 -- ---- rows that fit
 
@@ -130,7 +139,10 @@ step_one m Right v e = cc
 
 left_count : (q : Tree) (s : Stream) → q.streams ≡ s ∷ [] → (m : Mark) (xs : List Row) → AllByRecursion (IsRowOf q) xs → (mark_after m xs).left ≡ m.left + length xs
 left_count q s e m [] h = omega arith
-left_count q s e m (x ∷ xs) h = let rest = left_count q s e (step_mark m x) xs h.1 in let one = step_one m x.side x.values (is_left q s e x h.0) in omega (arith, rest, one)
+left_count q s e m (x ∷ xs) h =
+    let rest = left_count q s e (step_mark m x) xs h.1 in
+    let one = step_one m x.side x.values (is_left q s e x h.0) in
+    omega (arith, rest, one)
 
 pub few_rows : (q : Tree) (s : Stream) → q.streams ≡ s ∷ [] → (m : Mark) (xs : List Row) → RowsFit q m xs → length xs ≤ 2 ^ 40
 few_rows q s e m xs h = let count = left_count q s e m xs h.rows in let few = h.left in omega (arith, count, few)

@@ -117,7 +117,8 @@ pub record Read : Type 0 where
 abbrev pub before : Row → Read → Read
 before r read = record { rows = r ∷ read.rows; end = read.end }
 
--- what is fixed of one side: which it is, how many columns it has, how many lines it may have, by how much a timestamp may be below the greatest one before it, and how many rows may wait for others
+-- what is fixed of one side: which it is, how many columns it has, how many lines it may have, by how much
+-- a timestamp may be below the greatest one before it, and how many rows may wait for others
 pub record SideRules : Type 0 where
   pub side : Side
   pub columns : ℕ
@@ -201,7 +202,9 @@ no_more partial s p = if partial then record { rows = due s p; end = cut } else 
 -- The rows of lines up to the first that is refused, in order of time.
 unfoldable pub read_by : Bool → SideRules → List Line → Place → Read
 read_by partial s [] p = no_more partial s p
-read_by partial s (l ∷ ls) p = if partial && not (is_known l) then no_more partial s p else after_line s p (judge_at s p (without_cr l.content)) (read_by partial s ls)
+read_by partial s (l ∷ ls) p =
+    if partial && not (is_known l) then no_more partial s p
+    else after_line s p (judge_at s p (without_cr l.content)) (read_by partial s ls)
 
 -- the rows of a file
 abbrev pub rows : SideRules → List ℕ → Read

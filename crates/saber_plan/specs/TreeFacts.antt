@@ -31,7 +31,12 @@ module _ {K V L X : Type 0} (R : L → L → Ordering) (key : K → L) (value : 
 
   find-seen : (k : L) (es : List (K × V)) → option_map value (lookup (is_at (λ a. R k (key a))) es) ≡ find R k (seen es)
   find-seen k [] = refl
-  find-seen k (e ∷ es) = elim (is_eq (R k (key e.0))) as (λ b. option_map value (cond b (Some e.1) (lookup (is_at (λ a. R k (key a))) es)) ≡ cond b (Some (value e.1)) (find R k (seen es))) [ true ↦ refl | false ↦ find-seen k es ]
+  find-seen k (e ∷ es) =
+      elim (is_eq (R k (key e.0))) as (λ b. option_map value (cond b (Some e.1) (lookup (is_at (λ a. R k (key a))) es))
+      ≡ cond b (Some (value e.1)) (find R k (seen es))) [
+        | true ↦ refl
+        | false ↦ find-seen k es
+      ]
 
   sorted_below : (k : K) (es : List (K × V)) → AllByRecursion (λ y. R (key k) (key y) ≡ Less) (keys_of es) → T (below_all R (key k) (seen es))
   sorted_below k [] h = tt
@@ -64,18 +69,23 @@ module _ {K V L X : Type 0} (R : L → L → Ordering) (key : K → L) (value : 
     find-set q k w v [] h = cc
     find-set q k w v (e ∷ es) h =
         elim (eq_by_cmp R k (key e.0)) as (λ t. eq_by_cmp R k (key e.0) ≡ t → cond t (Some e.1) (lookup (is_at (λ a. R k (key a))) es) ≡ Some v
-        → find R q (seen (cond t ((e.0, w) ∷ es) (e ∷ set_value (is_at (λ a. R k (key a))) es w))) ≡ cond (eq_by_cmp R q k) (Some (value w)) (cond (eq_by_cmp R q (key e.0)) (Some (value e.1)) (find R q (seen es)))) [
-          | true ↦ λ t g. shadow (eq_by_cmp R q (key e.0)) (Some (value w)) (Some (value e.1)) (find R q (seen es)) ∙ ap (λ b. cond b (Some (value w)) (cond (eq_by_cmp R q (key e.0)) (Some (value e.1)) (find R q (seen es)))) (same_test q k (key e.0) t)
-          | false ↦ λ t g. ap (cond (eq_by_cmp R q (key e.0)) (Some (value e.1))) (find-set q k w v es g) ∙ there_case (eq_by_cmp R q (key e.0)) (eq_by_cmp R q k) (Some (value w)) (Some (value e.1)) (find R q (seen es)) (both_tie q k (key e.0) t)
+        → find R q (seen (cond t ((e.0, w) ∷ es) (e ∷ set_value (is_at (λ a. R k (key a))) es w)))
+        ≡ cond (eq_by_cmp R q k) (Some (value w)) (cond (eq_by_cmp R q (key e.0)) (Some (value e.1)) (find R q (seen es)))) [
+          | true ↦ λ t g. shadow (eq_by_cmp R q (key e.0)) (Some (value w)) (Some (value e.1)) (find R q (seen es))
+              ∙ ap (λ b. cond b (Some (value w)) (cond (eq_by_cmp R q (key e.0)) (Some (value e.1)) (find R q (seen es)))) (same_test q k (key e.0) t)
+          | false ↦ λ t g. ap (cond (eq_by_cmp R q (key e.0)) (Some (value e.1))) (find-set q k w v es g)
+              ∙ there_case (eq_by_cmp R q (key e.0)) (eq_by_cmp R q k) (Some (value w)) (Some (value e.1)) (find R q (seen es)) (both_tie q k (key e.0) t)
         ] refl h
 
     -- after a write through `get_mut`
-    pub written : (k : L) (w v : V) (es : List (K × V)) → lookup (is_at (λ a. R k (key a))) es ≡ Some v → from_entries {R = R} (seen (set_value (is_at (λ a. R k (key a))) es w)) ≡ insert (from_entries (seen es)) k (value w)
+    pub written : (k : L) (w v : V) (es : List (K × V)) → lookup (is_at (λ a. R k (key a))) es ≡ Some v
+        → from_entries {R = R} (seen (set_value (is_at (λ a. R k (key a))) es w)) ≡ insert (from_entries (seen es)) k (value w)
     written k w v es h = same_map o same _ _ (λ q. get-from_entries o _ q ∙ find-set q k w v es h
         ∙ sym (get-insert o (from_entries (seen es)) k (value w) q ∙ ap (cond (eq_by_cmp R q k) (Some (value w))) (get-from_entries o (seen es) q)))
 
     -- after `insert`
-    pub inserted : (k : K) (v : V) (es : List (K × V)) → from_entries {R = R} (seen (insert_entry (λ a b. R (key a) (key b)) es k v)) ≡ insert (from_entries (seen es)) (key k) (value v)
+    pub inserted : (k : K) (v : V) (es : List (K × V))
+        → from_entries {R = R} (seen (insert_entry (λ a b. R (key a) (key b)) es k v)) ≡ insert (from_entries (seen es)) (key k) (value v)
     inserted k v es = same_map o same _ _ (λ q.
         get-from_entries o (seen (insert_entry (λ a b. R (key a) (key b)) es k v)) q ∙ ap (find R q) (put-seen k v es) ∙ find-put R o q (key k) (value v) (seen es)
         ∙ sym (get-insert o (from_entries (seen es)) (key k) (value v) q ∙ ap (cond (eq_by_cmp R q (key k)) (Some (value v))) (get-from_entries o (seen es) q)))

@@ -113,7 +113,8 @@ unfoldable pub lex_from : ℕ → Pending → List ℕ → Result (List Placed) 
 lex_from at q [] = Ok (ended q)
 lex_from at q (b ∷ bs) = follow (step at q b) (λ r. lex_from (at + 1) r bs)
 
--- The tokens of a text, or the first that is bad. The longest match wins: a name takes all letters, digits and _ that come, a number all digits, < and > the = or > that makes a sign of two; so what is pending ends only where the next byte can't go on with it.
+-- The tokens of a text, or the first that is bad. The longest match wins: a name takes all letters, digits and _ that come, a number
+-- all digits, < and > the = or > that makes a sign of two; so what is pending ends only where the next byte can't go on with it.
 abbrev pub lexed : List ℕ → Result (List Placed) QueryFault
 lexed text = lex_from 0 p.Nothing text
 

@@ -49,9 +49,19 @@ abbrev pub TookAdding : Option Adding → List Token → List Token → Type 0
 TookAdding (Some a) old new = old ≡ Mark (adding_sign a) ∷ new
 TookAdding None old new = (new ≡ old) × ¬ (StartsWith (Mark s.Plus) old) × ¬ (StartsWith (Mark s.Minus) old)
 
+-- the tokens don't begin with a sign that compares
+abbrev pub StartsWithNoCmp : List Token → Type 0
+StartsWithNoCmp ts =
+    ¬ (StartsWith (Mark s.Equal) ts)
+    × ¬ (StartsWith (Mark s.Unequal) ts)
+    × ¬ (StartsWith (Mark s.Less) ts)
+    × ¬ (StartsWith (Mark s.AtMost) ts)
+    × ¬ (StartsWith (Mark s.Greater) ts)
+    × ¬ (StartsWith (Mark s.AtLeast) ts)
+
 abbrev pub TookCmp : Option Cmp → List Token → List Token → Type 0
 TookCmp (Some c) old new = old ≡ Mark (cmp_sign c) ∷ new
-TookCmp None old new = (new ≡ old) × ¬ (StartsWith (Mark s.Equal) old) × ¬ (StartsWith (Mark s.Unequal) old) × ¬ (StartsWith (Mark s.Less) old) × ¬ (StartsWith (Mark s.AtMost) old) × ¬ (StartsWith (Mark s.Greater) old) × ¬ (StartsWith (Mark s.AtLeast) old)
+TookCmp None old new = (new ≡ old) × StartsWithNoCmp old
 
 abbrev pub Expected : {T : Type 0} → Token → Result T Stop → List Token → List Token → Type 0
 Expected w (Ok u) old new = old ≡ w ∷ new

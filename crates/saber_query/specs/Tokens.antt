@@ -51,7 +51,10 @@ sign_text s.Greater = 62 ∷ []
 sign_text s.AtLeast = 62 ∷ 61 ∷ []
 
 abbrev pub keywords : List Keyword
-keywords = k.Stream ∷ k.Select ∷ k.From ∷ k.Where ∷ k.Group ∷ k.By ∷ k.And ∷ k.Or ∷ k.Not ∷ k.Rows ∷ k.Range ∷ k.Slide ∷ k.Count ∷ k.Sum ∷ k.Min ∷ k.Max ∷ k.Partition ∷ k.Rstream ∷ k.Istream ∷ k.Dstream ∷ []
+keywords =
+    k.Stream ∷ k.Select ∷ k.From ∷ k.Where ∷ k.Group ∷ k.By ∷ k.And ∷ k.Or ∷ k.Not
+    ∷ k.Rows ∷ k.Range ∷ k.Slide ∷ k.Count ∷ k.Sum ∷ k.Min ∷ k.Max
+    ∷ k.Partition ∷ k.Rstream ∷ k.Istream ∷ k.Dstream ∷ []
 
 -- the first of the keywords that the bytes are in any case
 unfoldable pub keyword_among : List ℕ → List Keyword → Option Keyword

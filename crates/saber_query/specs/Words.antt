@@ -1,5 +1,5 @@
 -- The words of trees.
-use Rattle.std.specs.Prelude.{◌≡◌, ◌⊎◌, ℕ, suc, ◌≤◌, List, [], ◌∷◌, ◌++◌, Option, Some, None, Bool, true, false, map, Vec}
+use Rattle.std.specs.Prelude.{◌≡◌, ◌⊎◌, ℕ, suc, ◌≤◌, List, [], ◌∷◌, ◌++◌, Option, Some, None, Bool, true, false, map, option_map, Vec}
 use Rattle.std.specs.declared.alloc.Global.{Global}
 use Rattle.saber_query.specs.declared.tree.Unit.{Unit as Unit_tree}
 use Rattle.saber_query.specs.declared.tree.Conj.{Conj}
@@ -24,10 +24,11 @@ use Rattle.saber_query.specs.declared.tree.Window.{Window}
 use Rattle.saber_query.specs.declared.tree.Source.{Source}
 use Rattle.saber_query.specs.declared.tree.Decl.{Decl}
 use Rattle.saber_query.specs.declared.tree.Keys.{Keys}
+use Rattle.saber_query.specs.declared.select.Ends.{Ends}
 use Rattle.saber_query.specs.declared.tree.Cmp.{Cmp}
 use Rattle.saber_query.specs.declared.tree.Cmp.TheVariants as c
 use Rattle.saber_query.specs.Real.{AllReal}
-use Rattle.saber_query.specs.Trees.{Test, negated, enclosed, compare, Ands, no_more, and_also, Ors, no_other, or_else, Tests, Both, Query, depth, test_of, both_of, ands_of, ors_of}
+use Rattle.saber_query.specs.Trees.{Test, negated, enclosed, compare, Ands, no_more, and_also, Ors, no_other, or_else, Tests, Both, Query, depth, test_of, both_of, ands_of, ors_of, tests_of}
 
 -- parts that each have this word before
 abbrev pub after_each : {X : Type 0} → Token → (X → List Token) → List X → List Token
@@ -169,9 +170,15 @@ streams_words f o = Word k.From ∷ (source_words f ++ second_source_words o)
 abbrev pub ends_words : Option Tests → Option Keys → Bool → List Token
 ends_words p g b = where_words p ++ (group_words g ++ last_words b)
 
+-- the same of what was taken there
+abbrev pub words_of_ends : Ends → List Token
+words_of_ends e = ends_words (option_map tests_of e.predicate) e.group e.closed
+
 abbrev pub words : Query → List Token
 words q =
-    decl_words q.decl ++ (decls_words q.decls ++ Word k.Select ∷ (item_words q.item ++ (items_words q.items ++ Word k.From ∷ (source_words q.from ++ (second_source_words q.second
+    decl_words q.decl ++ (decls_words q.decls
+    ++ Word k.Select ∷ (item_words q.item ++ (items_words q.items
+    ++ Word k.From ∷ (source_words q.from ++ (second_source_words q.second
     ++ (where_words q.predicate ++ (group_words q.group ++ last_words q.closed)))))))
 
 -- ---- what contracts cite
@@ -189,7 +196,8 @@ abbrev pub Unfit : List Token → List Token → Type 0
 Unfit before [] = (q : Query) → ¬ (words q ≡ before)
 Unfit before (t ∷ ts) = (e : ℕ) → ¬ (Begins e (before ++ t ∷ []))
 
--- The rest begins with the first token that doesn't fit (or is empty, where a token lacks): those before begin the words of a tree of at most depth d, and with it they begin those of no tree.
+-- The rest begins with the first token that doesn't fit (or is empty, where a token lacks): those before begin the words of a tree of
+-- at most depth d, and with it they begin those of no tree.
 pub record IsSyntax (d : ℕ) (before rest : List Token) : Type 0 where
   pub begins : Begins d before
   pub none : Unfit before rest
@@ -198,7 +206,8 @@ pub record IsSyntax (d : ℕ) (before rest : List Token) : Type 0 where
 abbrev pub Opens : Token → Type 0
 Opens t = (t ≡ Word k.Not) ⊎ (t ≡ Mark s.Open)
 
--- The token is the first that goes too deep: it is NOT or an opening parenthesis, and with it those before begin the words of a tree, but of none of at most depth d.
+-- The token is the first that goes too deep: it is NOT or an opening parenthesis, and with it those before begin the words of a tree,
+-- but of none of at most depth d.
 pub record GoesTooDeep (d : ℕ) (before : List Token) (token : Token) : Type 0 where
   pub opens : Opens token
   pub begins : Begins d before

@@ -7,9 +7,8 @@ ghost use Rattle.saber_query.specs.declared.token.Keyword.TheVariants.{From};
 ghost use Rattle.saber_query.specs.declared.tree.Expr.{Expr};
 ghost use Rattle.saber_query.specs.declared.select.Outputs.{Outputs};
 ghost use Rattle.saber_query.specs.declared.select.Streams.{Streams};
-ghost use Rattle.saber_query.specs.declared.select.Ends.{Ends};
 ghost use Rattle.saber_query.specs.Machine as m;
-ghost use Rattle.saber_query.specs.Words.{argument_words, item_words, items_words, where_words, last_words, words, outputs_words, streams_words, ends_words};
+ghost use Rattle.saber_query.specs.Words.{argument_words, item_words, items_words, where_words, last_words, words, outputs_words, streams_words, words_of_ends};
 ghost use Rattle.saber_query.specs.Trees.{tests_of, where_depth, depth, query_of};
 ghost use Rattle.saber_query.specs.Reading.{coming, Parses, QueryGives};
 
@@ -137,9 +136,8 @@ struct Ends {
 }
 
 fn take_ends(alloc: Global, tokens: &mut Tokens, left: u32) -> Result<Ends, Stop>
-    ensures parses { Parses (m.a_where left ∷ m.a_group ∷ m.a_semicolon ∷ [])
-        (λ (e : Ends). ends_words (option_map tests_of e.predicate) e.group e.closed) result
-        (coming tokens.old) (coming tokens.new) }
+    ensures parses { Parses (m.a_where left ∷ m.a_group ∷ m.a_semicolon ∷ []) words_of_ends
+        result (coming tokens.old) (coming tokens.new) }
     ensures depth { IfOk result (λ e. where_depth (option_map tests_of e.predicate) ≤ left) }
 {
     let predicate = condition(alloc, tokens, left)?;

@@ -35,6 +35,10 @@ last_in last (Some answer) = last_after last answer
 abbrev pub IsDry : Reader → List ℕ → Option EndMark → Type 0
 IsDry r waiting mark = NeedsMore r × (waiting ≡ []) × (mark ≡ None)
 
+-- nothing waits, the mark says that the feed was cut, and the reader needs more
+abbrev pub IsCutOff : Reader → List ℕ → Option EndMark → Type 0
+IsCutOff r waiting mark = (waiting ≡ []) × (mark ≡ Some EndMark.Cut) × NeedsMore r
+
 -- with all that waits no row can be given and no line is refused, the reader did not see the end, and no mark was taken
 pub record HasNothing (r : Reader) (waiting : List ℕ) (mark : Option EndMark) : Type 0 where
   pub unended : r.ended ≡ false

@@ -3,16 +3,15 @@ use Rattle.std.specs.Prelude.{◌≡◌, ◌≤◌, ◌<◌, ℕ, ◌+◌, lengt
 use Rattle.saber_io.specs.Outside.{given, EndsEmpty}
 use Rattle.saber_plan.specs.declared.rows.Row.{Row}
 use Rattle.saber_plan.specs.declared.rows.Side.{Side}
-use Rattle.saber_plan.specs.declared.rows.RowCause.{RowCause}
-use Rattle.saber_plan.specs.Rows.{Line, Read, lines_of, before, stamp, falls, RowFits, all_read, bad}
+use Rattle.saber_plan.specs.Rows.{Line, Read, lines_of, before, stamp, falls, RowFits, all_read}
 use Rattle.saber_plan.specs.Windows.{in_order}
 use Rattle.saber_rows.specs.declared.ends.RowEnd.{RowEnd}
 use Rattle.saber_rows.specs.declared.heads.Head.{Head}
 use Rattle.saber_rows.specs.declared.heads.Look.{Look}
 use Rattle.saber_rows.specs.declared.heads.Look.TheVariants.{Found, Ended, Failed}
-use Rattle.saber_rows.specs.Reader.{Reader, reader_of, rest_of, gone, CanFollow, HasEnd, NeedsMore}
+use Rattle.saber_rows.specs.Reader.{Reader, reader_of, rest_of, gone, CanFollow, HasEnd, EndsRefused, NeedsMore}
 use Rattle.saber_rows.specs.Calls.{Moves, EndsBy, WantsMemory, given_by, kept_by, last_after}
-use Rattle.saber_rows.specs.declared.ends.RowEnd.TheVariants.{ReadFault, NoMemory, Bad}
+use Rattle.saber_rows.specs.declared.ends.RowEnd.TheVariants.{ReadFault, NoMemory}
 
 -- a reader, and the row that it gave last, where that isn't passed on yet
 pub record Headed : Type 0 where
@@ -102,6 +101,11 @@ pub record Looks (look : Look) (side : Side) (last : Option ℤ) (count : ℕ) (
   pub finds : Finds look new
   pub passed : SidePassed side last count new
 
+-- a look does so whatever was passed on before it
+abbrev pub LooksAfterAny : Look → Headed → Headed → Option (List ℕ) → Option (List ℕ) → Type 0
+LooksAfterAny look old new had has =
+    (side : Side) (last : Option ℤ) (count : ℕ) → SidePassed side last count old → Looks look side last count old new had has
+
 -- ---- a reader alone
 
 -- what the clauses of a call of a reader say
@@ -112,7 +116,7 @@ pub record Called (result : Result (Option Row) RowEnd) (old new : Reader) (had 
   pub answer : old.answer ≡ None → new.answer ≡ kept_by result
   pub none : old.answer ≡ None → result ≡ Ok None → HasEnd all_read new
   pub ended : old.answer ≡ None → result ≡ Ok None → new.ended ≡ true
-  pub refused : old.answer ≡ None → (line : ℕ) (cause : RowCause) → result ≡ Err (Bad line cause) → HasEnd (bad old.rules.side line cause) new
+  pub refused : old.answer ≡ None → EndsRefused result old.rules.side new
   pub cut : old.answer ≡ None → result ≡ Err ReadFault → NeedsMore new
   pub memory : old.answer ≡ None → result ≡ Err NoMemory → WantsMemory old.rules
   pub fits : IfOk result (λ o. IfSome o (RowFits old.rules.side old.rules.columns))

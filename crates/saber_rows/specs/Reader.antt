@@ -2,6 +2,7 @@
 use Rattle.std.specs.Prelude.{◌≡◌, ℕ, ◌-◌, length, List, [], ◌++◌, if◌then◌else◌, Bool, true, false, Option, Some, None, Result, Ok, Err, option_map}
 use Rattle.saber_plan.specs.declared.rows.Row.{Row}
 use Rattle.saber_plan.specs.declared.rows.Side.{Side}
+use Rattle.saber_plan.specs.declared.rows.RowCause.{RowCause}
 use Rattle.saber_plan.specs.Rows.{SideRules, most_held, Place, Read, End, all_read, cut, bad, start, lines_of, read_by}
 use Rattle.saber_rows.specs.declared.ends.RowEnd.{RowEnd}
 use Rattle.saber_rows.specs.declared.ends.Stop.{Stop}
@@ -86,6 +87,10 @@ nothing end = record { rows = []; end = end }
 -- whatever follows, the reader has no row left, and this end is next
 abbrev pub HasEnd : End → Reader → Type 0
 HasEnd end r = (z : List ℕ) → CanFollow false r z → rest_of false r z ≡ nothing end
+
+-- after an answer that refuses a line, that end is all that the reader has left
+abbrev pub EndsRefused : {A : Type 0} → Result A RowEnd → Side → Reader → Type 0
+EndsRefused result side r = (line : ℕ) (cause : RowCause) → result ≡ Err (Bad line cause) → HasEnd (bad side line cause) r
 
 -- how many lines are behind that give no row any more
 abbrev pub gone : Reader → ℕ

@@ -4,12 +4,17 @@ use Rattle.std.proofs.Props.{props}
 use mathlib.Core.HLevel.{×_prop, Unit-prop}
 use mathlib.Core.Bool.{Bool-set}
 use Rattle.saber_plan.specs.declared.rows.Row.{Row}
+use Rattle.saber_plan.specs.declared.rows.Side.{Side}
 use Rattle.std.specs.List.{AllByRecursion}
-use Rattle.saber_plan.specs.Rows.{stamp, SideRules, Place, RowFits, waiting}
+use Rattle.saber_plan.specs.Rows.{stamp, most_held, SideRules, Place, RowFits, waiting}
 use Rattle.saber_rows.specs.Judged.{is_ready_at}
 use Rattle.saber_rows.specs.Held.{InTime}
 use Rattle.saber_rows.specs.declared.ends.Behind.{Behind}
 use Rattle.saber_rows.specs.declared.ends.Behind.TheVariants.{AllRead}
+
+-- the rules of a side with these sizes: only what may wait is the same for all
+abbrev pub side_rules : Side → ℕ → ℕ → ℕ → SideRules
+side_rules side columns most slack = record { side = side; columns = columns; most = most; slack = slack; room = most_held }
 
 -- no timestamp falls in one way at most
 pub InTime-prop : (last : Option ℕ) (xs : List Row) → IsProp (InTime last xs)

@@ -11,15 +11,14 @@ impl Lines {
     ghost use Rattle.saber_io.specs.declared.feeds.EndMark.{EndMark};
     ghost use Rattle.saber_io.specs.Outside.{Rose};
     ghost use Rattle.saber_io.specs.Feeds.{IsCut};
-    ghost use Rattle.saber_plan.specs.declared.rows.RowCause.{RowCause};
-    ghost use Rattle.saber_plan.specs.Rows.{all_read, bad, falls, RowFits, due};
+    ghost use Rattle.saber_plan.specs.Rows.{all_read, falls, RowFits, due};
     ghost use Rattle.saber_rows.specs.Buffer.{bytes_of};
     ghost use Rattle.saber_rows.specs.LineFeeds.{HasNoFeed};
-    ghost use Rattle.saber_rows.specs.Reader.{reader_of, rest_of, rest_over, gone, HasEnd, NeedsMore};
+    ghost use Rattle.saber_rows.specs.Reader.{reader_of, rest_of, rest_over, gone, HasEnd, EndsRefused, NeedsMore};
     ghost use Rattle.saber_rows.specs.Calls.{Moves, given_by, kept_by, last_after, IsGiven, EndsBy, IsNext, WantsMemory};
     ghost use Rattle.saber_rows.specs.Turns.{TurnGives, PlaceMoves, work_left, IfAgain, IfFault, IfNoFault, HasEnough};
     ghost use Rattle.saber_rows.specs.declared.ends.RowEnd.{RowEnd};
-    ghost use Rattle.saber_rows.specs.FedTurns.{answer_in, given_in, kept_in, last_in, IsDry, HasNothing, Waits, IsKnown};
+    ghost use Rattle.saber_rows.specs.FedTurns.{answer_in, given_in, kept_in, last_in, IsDry, IsCutOff, HasNothing, Waits, IsKnown};
     ghost use Rattle.saber_rows.specs.FedSteps.{StopsKnown, StaysDry};
 
     // Takes some more of a feed, if something is there. No line feed is held, and no row can be given.
@@ -151,11 +150,10 @@ impl Lines {
         ensures none { (reader_of self.old).answer ≡ None → answer_in result ≡ Some (Ok None) → HasEnd all_read (reader_of self.new) }
         ensures ended { (reader_of self.old).answer ≡ None → answer_in result ≡ Some (Ok None) → (reader_of self.new).ended ≡ true }
         ensures marked { (reader_of self.old).ended ≡ false → (reader_of self.new).ended ≡ true → F.mark feed.old ≡ Some EndMark.End }
-        ensures refused { (reader_of self.old).answer ≡ None
-            → (line : ℕ) (cause : RowCause) → result ≡ Err (RowEnd.Bad line cause) → HasEnd (bad (reader_of self.old).rules.side line cause) (reader_of self.new) }
+        ensures refused { (reader_of self.old).answer ≡ None → EndsRefused result (reader_of self.old).rules.side (reader_of self.new) }
         ensures known { (reader_of self.old).answer ≡ None → IfSome (answer_in result) (λ a. IsKnown a (reader_of self.new)) }
         ensures cut { (reader_of self.old).answer ≡ None → result ≡ Err RowEnd.ReadFault
-            → (F.waiting feed.new ≡ []) × (F.mark feed.old ≡ Some EndMark.Cut) × NeedsMore (reader_of self.new) }
+            → IsCutOff (reader_of self.new) (F.waiting feed.new) (F.mark feed.old) }
         ensures cause { (reader_of self.old).answer ≡ None → result ≡ Err RowEnd.ReadFault → Rose (F.faults feed.old) (F.faults feed.new) }
         ensures memory { (reader_of self.old).answer ≡ None → result ≡ Err RowEnd.NoMemory → WantsMemory (reader_of self.old).rules }
         ensures count { F.faults feed.old ≤ F.faults feed.new }

@@ -30,7 +30,7 @@ impl Head {
     ghost use Rattle.saber_rows.specs.declared.heads.Look.{Look};
     ghost use Rattle.saber_rows.specs.declared.ends.RowEnd.{RowEnd};
     ghost use Rattle.saber_rows.specs.Reader.{reader_of, NeedsMore};
-    ghost use Rattle.saber_rows.specs.Heads.{headed, bare, SidePassed, Looks, front_of};
+    ghost use Rattle.saber_rows.specs.Heads.{headed, bare, LooksAfterAny, front_of};
 
     /// A reader with no row in front of it.
     pub(crate) fn new(lines: Lines) -> Head
@@ -42,7 +42,7 @@ impl Head {
     /// Has the next row in front, and tells its timestamp, or why there is none. It reads only where no
     /// row is in front.
     pub(crate) fn look<S: Source>(&mut self, source: &mut S) -> Look
-        ensures looks { (side : Side) (last : Option ℤ) (count : ℕ) → SidePassed side last count (headed self.old) → Looks result side last count (headed self.old) (headed self.new) (S.left source.old) (S.left source.new) }
+        ensures looks { LooksAfterAny result (headed self.old) (headed self.new) (S.left source.old) (S.left source.new) }
         ensures again { IfSome (front_of (headed self.old)) (λ look. (result ≡ look) × (self.new ≡ self.old) × (source.new ≡ source.old)) }
         ensures rules { (headed self.new).reader.rules ≡ (headed self.old).reader.rules }
         ensures cause { front_of (headed self.old) ≡ None → result ≡ Look.Failed RowEnd.ReadFault → Rose (S.faults source.old) (S.faults source.new) }

@@ -4,7 +4,7 @@ ghost use Rattle.std.proofs.Props.{props};
 ghost use Rattle.saber_plan.specs.Rows.{most_held};
 ghost use Rattle.saber_rows.specs.Buffer.{bytes_of};
 ghost use Rattle.saber_rows.specs.Waiting.{rows_in, AllBefore};
-ghost use Rattle.saber_rows.specs.Sound.{Sound, WasSeen, held_props};
+ghost use Rattle.saber_rows.specs.Sound.{side_rules, Sound, WasSeen, held_props};
 
 use crate::buffer::Buffer;
 use crate::ends::{Behind, RowEnd, Stop};
@@ -64,10 +64,10 @@ pub(crate) enum Turn {
 impl Lines {
     ghost use Rattle.std.specs.Prelude.{◌≡◌, ◌≢◌, ◌≤◌, ◌^◌, ◌<◌, ◌+◌, [], ℕ, ℤ, List, Option, if◌then◌else◌, IfOk, IfSome, OnErr, OnSome, Some, None, Ok, Err, option_map, length, true, false};
     ghost use Rattle.saber_io.specs.Outside.{Rose};
-    ghost use Rattle.saber_plan.specs.Rows.{SideRules, rows, whole, all_read, bad, before, falls, RowFits, stamp as stamp_in, taken, refused, judge, crowds, timed, due};
+    ghost use Rattle.saber_plan.specs.Rows.{SideRules, rows, whole, all_read, before, falls, RowFits, stamp as stamp_in, taken, refused, judge, crowds, timed, due};
     ghost use Rattle.saber_rows.specs.Judged.{judged_of, IfCounted};
     ghost use Rattle.saber_rows.specs.LineFeeds.{end_of, HasNoFeed};
-    ghost use Rattle.saber_rows.specs.Reader.{reader_of, new_reader, rest_of, rest_over, gone, HasEnd, NeedsMore};
+    ghost use Rattle.saber_rows.specs.Reader.{reader_of, new_reader, rest_of, rest_over, gone, HasEnd, EndsRefused, NeedsMore};
     ghost use Rattle.saber_rows.specs.Calls.{Moves, given_by, kept_by, last_after, IsGiven, EndsBy, IsNext, WantsMemory};
     ghost use Rattle.saber_rows.specs.Turns.{Steps, Fronts, IsLastIf, first_judged, LineGives, TurnGives, PlaceMoves, Stops, work_left, IfAgain, IfFault, IfNoFault, HasEnough, NoneReady, IsReady};
 
@@ -86,10 +86,10 @@ impl Lines {
         requires most_columns { columns ≤ 32 }
         requires some_lines { 1 ≤ max_lines }
         requires most_lines { max_lines ≤ 2 ^ 40 }
-        ensures fresh { IfOk result (λ lines. reader_of lines ≡ new_reader (record { side = side; columns = columns; most = max_lines; slack = slack; room = most_held })) }
-        ensures rest { IfOk result (λ lines. (left : Option (List ℕ)) → rest_over (reader_of lines) left ≡ option_map (rows (record { side = side; columns = columns; most = max_lines; slack = slack; room = most_held })) left) }
-        ensures rows { IfOk result (λ lines. (bytes : List ℕ) → rest_of false (reader_of lines) bytes ≡ rows (record { side = side; columns = columns; most = max_lines; slack = slack; room = most_held }) bytes) }
-        ensures whole { IfOk result (λ lines. (bytes : List ℕ) → rest_of true (reader_of lines) bytes ≡ whole (record { side = side; columns = columns; most = max_lines; slack = slack; room = most_held }) bytes) }
+        ensures fresh { IfOk result (λ lines. reader_of lines ≡ new_reader (side_rules side columns max_lines slack)) }
+        ensures rest { IfOk result (λ lines. (left : Option (List ℕ)) → rest_over (reader_of lines) left ≡ option_map (rows (side_rules side columns max_lines slack)) left) }
+        ensures rows { IfOk result (λ lines. (bytes : List ℕ) → rest_of false (reader_of lines) bytes ≡ rows (side_rules side columns max_lines slack) bytes) }
+        ensures whole { IfOk result (λ lines. (bytes : List ℕ) → rest_of true (reader_of lines) bytes ≡ whole (side_rules side columns max_lines slack) bytes) }
     {
         let held = Buffer::new(alloc)?;
         Ok(Lines {
@@ -440,7 +440,7 @@ impl Lines {
         ensures next { (reader_of self.old).answer ≡ None → IfSome (rest_over (reader_of self.old) (S.left source.old)) (IsNext result) }
         ensures none { (reader_of self.old).answer ≡ None → result ≡ Ok None → HasEnd all_read (reader_of self.new) }
         ensures ended { (reader_of self.old).answer ≡ None → result ≡ Ok None → (reader_of self.new).ended ≡ true }
-        ensures refused { (reader_of self.old).answer ≡ None → (line : ℕ) (cause : RowCause) → result ≡ Err (RowEnd.Bad line cause) → HasEnd (bad (reader_of self.old).rules.side line cause) (reader_of self.new) }
+        ensures refused { (reader_of self.old).answer ≡ None → EndsRefused result (reader_of self.old).rules.side (reader_of self.new) }
         ensures cause { (reader_of self.old).answer ≡ None → result ≡ Err RowEnd.ReadFault → Rose (S.faults source.old) (S.faults source.new) }
         ensures cut { (reader_of self.old).answer ≡ None → result ≡ Err RowEnd.ReadFault → NeedsMore (reader_of self.new) }
         ensures memory { (reader_of self.old).answer ≡ None → result ≡ Err RowEnd.NoMemory → WantsMemory (reader_of self.old).rules }

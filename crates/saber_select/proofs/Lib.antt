@@ -1,4 +1,3 @@
 mod Lined
 mod Shown
 mod Texts
-mod Tested

@@ -1,71 +1,39 @@
 //! Lines of rows, worked out by hand.
-ghost use Rattle.std.specs.Prelude.{◌≡◌, ◌+◌, ◌^◌, ◌<◌, ◌∷◌, pos, ◌++◌, [], map, IfOk, Some, None, true, false};
+ghost use Rattle.std.specs.Prelude.{◌≡◌, ◌∷◌, pos, [], IfOk, Some, None, true, false};
 ghost use Rattle.saber_plan.specs.declared.rows.Side.TheVariants as s;
 ghost use Rattle.saber_plan.specs.declared.expressions.Factor.TheVariants as f;
 ghost use Rattle.saber_plan.specs.declared.plans.Shape.TheVariants as h;
 ghost use Rattle.saber_plan.specs.Trees as t;
-ghost use Rattle.saber_plan.specs.Trees.{Tree, tree_of};
-ghost use Rattle.saber_plan.specs.Rows.{RowFits, stamp};
+ghost use Rattle.saber_plan.specs.Trees.{tree_of};
 ghost use Rattle.saber_plan.specs.Checked.{IsChecked, columns_on};
 ghost use Rattle.saber_plan.specs.Given.{RowsFit};
-ghost use Rattle.saber_plan.specs.Windows.{can_follow};
 
 use super::*;
-use saber_fragment::{Block, Operator, Rows, Text};
-use saber_plan::{
-    Cmp, Conj, Expr, Factor, Factors, Item, Mark, NoMemory, Plan, Pred, Product, Row, Shape, Side,
-    Stream, Unit, Values,
-};
+use saber_fragment::{Block, Operator, Text};
+use saber_plan::{Cmp, Expr, Factor, Item, Mark, NoMemory, Plan, Pred, Shape, Side, Stream, Unit};
+use saber_samples::{all, column, keyed_block, product, single};
 use std::alloc::Global;
 use std::test::Fail;
-
-fn column(index: u32) -> Factor
-    ensures { result ≡ f.Column s.Left index }
-{
-    Factor::Column {
-        side: Side::Left,
-        index,
-    }
-}
-
-fn single(alloc: Global, factor: Factor) -> Result<Expr, NoMemory>
-    ensures { IfOk result (λ e. e ≡ record { minus = false; factors = factor ∷ [] } ∷ []) }
-{
-    let product = Product {
-        minus: false,
-        factors: Factors::from_vec(vec![in alloc; factor]?),
-    };
-    Ok(Expr::from_vec(vec![in alloc; product]?))
-}
 
 // v * 2 - 1
 fn twice_less_one(alloc: Global) -> Result<Expr, NoMemory>
     ensures { IfOk result (λ e. e ≡ record { minus = false; factors = f.Column s.Left 2 ∷ f.Constant (pos 2) ∷ [] } ∷ record { minus = true; factors = f.Constant (pos 1) ∷ [] } ∷ []) }
 {
-    let twice = Product {
-        minus: false,
-        factors: Factors::from_vec(vec![in alloc; column(2), Factor::Constant(2)]?),
+    let number = Factor::Column {
+        side: Side::Left,
+        index: 2,
     };
-    let one = Product {
-        minus: true,
-        factors: Factors::from_vec(vec![in alloc; Factor::Constant(1)]?),
-    };
+    let twice = product(false, vec![in alloc; number, Factor::Constant(2)]?);
+    let one = product(true, vec![in alloc; Factor::Constant(1)]?);
     Ok(Expr::from_vec(vec![in alloc; twice, one]?))
 }
 
 fn compared(alloc: Global, index: u32, cmp: Cmp, number: i64) -> Result<Unit, NoMemory>
     ensures { IfOk result (λ u. t.test_of u ≡ t.compare (record { minus = false; factors = f.Column s.Left index ∷ [] } ∷ []) cmp (record { minus = false; factors = f.Constant number ∷ [] } ∷ [])) }
 {
-    let left = single(alloc, column(index))?;
+    let left = column(alloc, Side::Left, index)?;
     let right = single(alloc, Factor::Constant(number))?;
     Ok(Unit::compare(left, cmp, right))
-}
-
-// Units joined by AND.
-fn all(alloc: Global, units: Vec<Unit>) -> Result<Pred, NoMemory>
-    ensures { IfOk result (λ p. t.tests_of p ≡ t.either (t.joined (map t.test_of units.items)) t.no_other) }
-{
-    Ok(Pred::from_vec(vec![in alloc; Conj::from_vec(units)]?))
 }
 
 // Three columns: a time, a group and a number.
@@ -85,7 +53,7 @@ fn plan(alloc: Global, items: Vec<Item>, predicate: Pred) -> Result<Plan, NoMemo
 fn doubles(alloc: Global) -> Result<Plan, NoMemory>
     ensures { IfOk result (λ p. IsChecked (tree_of p) × ((tree_of p).shape ≡ h.Select) × (columns_on (tree_of p).streams s.Left ≡ 3)) }
 {
-    let group = Item::Value(single(alloc, column(1))?);
+    let group = Item::Value(column(alloc, Side::Left, 1)?);
     let double = Item::Value(twice_less_one(alloc)?);
     let high = compared(alloc, 2, Cmp::Greater, 5)?;
     let predicate = all(alloc, vec![in alloc; high]?)?;
@@ -96,80 +64,11 @@ fn doubles(alloc: Global) -> Result<Plan, NoMemory>
 fn tens(alloc: Global) -> Result<Plan, NoMemory>
     ensures { IfOk result (λ p. IsChecked (tree_of p) × ((tree_of p).shape ≡ h.Select) × (columns_on (tree_of p).streams s.Left ≡ 3)) }
 {
-    let number = Item::Value(single(alloc, column(2))?);
+    let number = Item::Value(column(alloc, Side::Left, 2)?);
     let first = compared(alloc, 1, Cmp::Equal, 1)?;
     let high = Unit::negated(alloc, compared(alloc, 2, Cmp::Less, 10)?)?;
     let predicate = all(alloc, vec![in alloc; first, high]?)?;
     plan(alloc, vec![in alloc; number]?, predicate)
-}
-
-fn row(alloc: Global, time: u32, group: i64, number: i64) -> Result<Row, NoMemory>
-    ensures { IfOk result (λ r. RowFits s.Left 3 r × (stamp r.values ≡ time)) }
-{
-    let values = Values::from_slice(alloc, &[i64::from(time), group, number])?;
-    Ok(Row {
-        side: Side::Left,
-        values,
-    })
-}
-
-// A row of this time can come next, and there is room for it.
-fn follows(mark: &Mark, time: u32) -> bool
-    ensures order { result ≡ true → can_follow mark.now time ≡ true }
-    ensures room { result ≡ true → mark.now.left < 2 ^ 32 }
-{
-    let in_order = match mark.last {
-        Some(last) => last.unsigned_abs() <= u64::from(time),
-        None => true,
-    };
-    !mark.ended && in_order && mark.left < 1 << 32
-}
-
-// What stands before the next row, where this one is of the left side.
-fn step(mark: &Mark, time: u32) -> Mark
-    requires { mark.now.left < 2 ^ 32 }
-    ensures { result ≡ record { left = mark.now.left + 1; right = mark.now.right; last = Some (pos time); ended = mark.now.ended } }
-{
-    Mark {
-        left: mark.left + 1,
-        right: mark.right,
-        last: Some(i64::from(time)),
-        ended: mark.ended,
-    }
-}
-
-// A block of these rows, after so many others, up to the first that can't come there.
-fn block(
-    alloc: Global,
-    left: u32,
-    last: Option<i64>,
-    table: &[(u32, i64, i64)],
-) -> Result<Block, NoMemory>
-    ensures { IfOk result (λ b. (q : Tree) → columns_on q.streams s.Left ≡ 3 → RowsFit q b.before b.rows) }
-{
-    let before = Mark {
-        left: u64::from(left),
-        right: 0,
-        last,
-        ended: false,
-    };
-    let mut rows = Rows::new(alloc);
-    let mut mark = before;
-    for (time, group, number) in table {
-        if !follows(&mark, *time) {
-            break;
-        }
-        let row = row(alloc, *time, *group, *number)?;
-        mark = step(&mark, *time);
-        rows.push(row)?;
-    }
-    Ok(Block {
-        number: 0,
-        first: 0,
-        before,
-        rows,
-        ended: false,
-    })
 }
 
 fn piece<O: Operator>(alloc: Global, operator: &O, own: &Block) -> Result<O::Piece, NoMemory>
@@ -190,7 +89,13 @@ fn select(
     requires select { (tree_of plan.now).shape ≡ h.Select }
     requires columns { columns_on (tree_of plan.now).streams s.Left ≡ 3 }
 {
-    let own = block(alloc, left, last, table)?;
+    let before = Mark {
+        left: u64::from(left),
+        right: 0,
+        last,
+        ended: false,
+    };
+    let (own, _) = keyed_block(alloc, 0, before, table, false)?;
     piece(alloc, &Select::new(plan), &own)
 }
 

@@ -7,4 +7,6 @@ use Rattle.saber_query.specs.Words.{declared_words, decls_words, outputs_words, 
 
 -- from behind the first STREAM on
 abbrev pub rest_words : Select → List Token
-rest_words q = declared_words q.decl ++ (decls_words q.decls ++ (outputs_words q.item q.items ++ (streams_words q.from q.second ++ ends_words (option_map tests_of q.predicate) q.group q.closed)))
+rest_words q =
+    declared_words q.decl ++ (decls_words q.decls ++ (outputs_words q.item q.items
+    ++ (streams_words q.from q.second ++ ends_words (option_map tests_of q.predicate) q.group q.closed)))

@@ -15,7 +15,8 @@ ClosedWithinBegun = (f : Frame) → Fits f → (m : Mark) → closed_count f m �
 -- a window of one stream that ends at a row or before it has neither that row nor a later one
 abbrev pub PastHaveNone : Type 0
 PastHaveNone = (measure : Measure) (slide size : ℕ) → Fits (one measure slide size) → (i : ℕ) (m : Mark) (x : Row) (xs : List Row) → Ordered m (x ∷ xs)
-    → nat_lt i (first_window (one measure slide size) (record { row = x; before = m })) ≡ true → filter (has (one measure slide size) i) (placed_after m (x ∷ xs)) ≡ []
+    → nat_lt i (first_window (one measure slide size) (record { row = x; before = m })) ≡ true
+    → filter (has (one measure slide size) i) (placed_after m (x ∷ xs)) ≡ []
 
 -- the timestamp of a row of a file is at most 2^62
 abbrev pub StampsFit : Type 0

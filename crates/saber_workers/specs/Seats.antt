@@ -43,13 +43,28 @@ module _ {T : Type 0} (size : ℕ) (v w : View T) where
   IsHeldUp None = w.missed ≡ v.missed
   IsHeldUp (Some u) = (w.missed.place ≡ u % size + 1 + size) × (w.missed.word ≡ 4 * u + 3) × (v.saw.number < w.missed.number)
 
+  -- it works on a job that it had: none is claimed, and the cursor c stays
+  abbrev pub HasNoNew : ℕ → ℕ → Bool → Option ℕ → Type 0
+  HasNoNew c c' claimed waits = (claimed ≡ false) × (c' ≡ c) × IsHeldUp waits
+
+  -- it works on the task of the cursor, which goes on by one
+  abbrev pub HasNext : ℕ → ℕ → Option ℕ → Type 0
+  HasNext c c' waits = (c' ≡ c + 1) × IsHeldUp waits
+
+  -- it works on nothing: the cursor's claim was refused, and the cursor goes on by what was seen
+  abbrev pub HasNothing : ℕ → ℕ → Option ℕ → Type 0
+  HasNothing c c' waits = IsRefused c × (c' ≡ next_cursor c w.missed.word) × (waits ≡ None)
+
 -- the seat's last step found the task after k not done
 abbrev pub FoundNone : {T : Type 0} → ℕ → ℕ → View T → Type 0
 FoundNone size k v = (v.saw.place ≡ k % size + 1) × (v.saw.word ≢ 8 * k + 4) × (v.saw.word ≢ 8 * k + 6)
 
 module _ {T : Type 0} (size : ℕ) (v : View T) where
-  -- The last step was on the word of the turn: it stored a stopped stage; else another seat has the turn, or it stored one that runs,
-  -- after the step before found the next task not done.
+  -- it stored a stage that runs, after the step before found the next task not done
+  abbrev pub StoresRunning : Type 0
+  StoresRunning = (k : ℕ) × (v.saw.word ≡ turn_word k (free false)) × (v.before.place ≡ k % size + 1) × (v.before.word ≢ 8 * k + 4) × (v.before.word ≢ 8 * k + 6)
+
+  -- the last step was on the word of the turn: it stored a stopped stage, or one that runs; or another seat has the turn
   abbrev pub EndsTurn : Bool → Type 0
   EndsTurn true = (v.saw.place ≡ 0) × ((k : ℕ) × (v.saw.word ≡ turn_word k (free true)))
-  EndsTurn false = (v.saw.place ≡ 0) × (NotLast v.lead ⊎ ((k : ℕ) × (v.saw.word ≡ turn_word k (free false)) × (v.before.place ≡ k % size + 1) × (v.before.word ≢ 8 * k + 4) × (v.before.word ≢ 8 * k + 6)))
+  EndsTurn false = (v.saw.place ≡ 0) × (NotLast v.lead ⊎ StoresRunning)

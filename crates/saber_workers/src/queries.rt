@@ -2,10 +2,9 @@
 ghost use Rattle.std.specs.Prelude.{◌≡◌, ℕ, false, None};
 ghost use Rattle.saber_ring.specs.Shows.{first_of_task};
 ghost use Rattle.saber_assembly.specs.declared.work.Told.{Told};
-ghost use Rattle.saber_assembly.specs.Stages.{seen};
-ghost use Rattle.saber_assembly.specs.Works.{first_tasks, first_needed, IsBlockOf, IsPieceOf, IsStageOf};
-ghost use Rattle.saber_workers.specs.Labors.{IsOwn, Begins, CanFeed, Feeds, CanFinish, Finishes, IsNext, Absorbs};
-ghost use Rattle.saber_workers.specs.Queries.{Suits, HasBlocks};
+ghost use Rattle.saber_assembly.specs.Works.{first_tasks, first_needed, IsBlockOf, IsPieceOf};
+ghost use Rattle.saber_workers.specs.Labors.{IsOwn, Begins, CanFeed, Feeds, CanFinish, Finishes};
+ghost use Rattle.saber_workers.specs.Queries.{Suits, HasBlocks, IsNextPiece, AbsorbsPiece};
 
 use crate::labor::Labor;
 use saber_assembly::{Absorbed, SaberWork, Stage};
@@ -21,11 +20,9 @@ fn take_in<O: Operator, K: Sink>(
     stage: &mut Stage<O::Store, K>,
     piece: Option<O::Piece>,
 ) -> bool
-    requires { IsNext first_tasks (IsPieceOf O.plan O.shares O.is_of) (IsStageOf O.plan (seen O.held K.written K.faults) O.has_taken)
-        (Suits op.now) stage.old piece }
+    requires { IsNextPiece O.plan O.shares O.is_of O.held O.has_taken K.written K.faults op.now stage.old piece }
     ensures none { piece ≡ None → result ≡ false }
-    ensures stage { Absorbs first_tasks (IsPieceOf O.plan O.shares O.is_of) (IsStageOf O.plan (seen O.held K.written K.faults) O.has_taken)
-        (Suits op.now) stage.old piece stage.new result }
+    ensures stage { AbsorbsPiece O.plan O.shares O.is_of O.held O.has_taken K.written K.faults op.now stage.old piece stage.new result }
 {
     match stage.absorb(alloc, op, piece) {
         Absorbed::Done => true,
@@ -80,11 +77,9 @@ impl<O: Operator, K: Pour> Labor<SaberWork<O, K>> for O {
     }
 
     fn absorb(&self, alloc: Global, stage: &mut Stage<O::Store, K>, piece: Option<O::Piece>) -> bool
-        requires { IsNext first_tasks (IsPieceOf O.plan O.shares O.is_of) (IsStageOf O.plan (seen O.held K.written K.faults) O.has_taken)
-            (Suits self.now) stage.old piece }
+        requires { IsNextPiece O.plan O.shares O.is_of O.held O.has_taken K.written K.faults self.now stage.old piece }
         ensures none { piece ≡ None → result ≡ false }
-        ensures stage { Absorbs first_tasks (IsPieceOf O.plan O.shares O.is_of) (IsStageOf O.plan (seen O.held K.written K.faults) O.has_taken)
-            (Suits self.now) stage.old piece stage.new result }
+        ensures stage { AbsorbsPiece O.plan O.shares O.is_of O.held O.has_taken K.written K.faults self.now stage.old piece stage.new result }
     {
         let goes = take_in::<O, K>(self, alloc, stage, piece);
         stage.pour();

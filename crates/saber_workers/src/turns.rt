@@ -2,7 +2,7 @@
 ghost use Rattle.std.specs.Prelude.{◌≡◌, ◌≢◌, ◌^◌, ◌≤◌, ℕ, ◌+◌, true, false, None, Some, IfSome};
 ghost use Rattle.saber_ring.specs.Calls.{NotLast};
 ghost use Rattle.saber_ring.specs.Words.{view, table, table_of, cells};
-ghost use Rattle.saber_workers.specs.Seats.{IsFree, OfBase, SameSeat, StepsOn, next_cursor, IsRefused, IsHeldUp, EndsTurn};
+ghost use Rattle.saber_workers.specs.Seats.{IsFree, OfBase, SameSeat, StepsOn, next_cursor, IsRefused, HasNoNew, HasNext, HasNothing, EndsTurn};
 ghost use Rattle.saber_workers.specs.Grows.{Grows};
 ghost use Rattle.saber_workers.specs.Hands.{HoldsJob, IsInHand, is_empty};
 ghost use Rattle.saber_workers.specs.Lasts.{IsClaimed, LeavesNone};
@@ -98,10 +98,9 @@ pub(crate) fn work_on<W: Work, L: Labor<W>, G: Gate>(
     ensures grows { Grows (view seat.old) (view seat.new) false }
     ensures steps { StepsOn (view seat.old) (view seat.new) }
     ensures saw { (view seat.new).stopped ≡ (view seat.old).stopped }
-    ensures busy { is_empty held ≡ false → (result.claimed ≡ false) × (cursor.new ≡ cursor.old) × IsHeldUp (cells ring.now) (view seat.old) (view seat.new) result.waits }
-    ensures got { is_empty held ≡ true → result.claimed ≡ true → (cursor.new ≡ cursor.old + 1) × IsHeldUp (cells ring.now) (view seat.old) (view seat.new) result.waits }
-    ensures not { is_empty held ≡ true → result.claimed ≡ false
-        → IsRefused (cells ring.now) (view seat.old) (view seat.new) cursor.old × (cursor.new ≡ next_cursor cursor.old (view seat.new).missed.word) × (result.waits ≡ None) }
+    ensures busy { is_empty held ≡ false → HasNoNew (cells ring.now) (view seat.old) (view seat.new) cursor.old cursor.new result.claimed result.waits }
+    ensures got { is_empty held ≡ true → result.claimed ≡ true → HasNext (cells ring.now) (view seat.old) (view seat.new) cursor.old cursor.new result.waits }
+    ensures not { is_empty held ≡ true → result.claimed ≡ false → HasNothing (cells ring.now) (view seat.old) (view seat.new) cursor.old cursor.new result.waits }
     ensures last { is_empty held ≡ true → IsClaimed cursor.old (view seat.old).lead (view seat.new).own }
     ensures done { result.waits ≡ None → ((view seat.new).job ≡ None) × (is_empty result.held ≡ true) }
     ensures others { IfSome result.waits (λ u. NotLast (view seat.old).lead) }
@@ -153,10 +152,9 @@ pub fn turn_of_work<W: Work, L: Labor<W>, G: Gate>(
     ensures grows { Grows (view seat.old) (view seat.new) result.stopped }
 
     // Why no task was claimed, or its job waits: by the last step that was refused.
-    ensures busy { is_empty hand.old.held ≡ false → (result.claimed ≡ false) × (hand.new.cursor ≡ hand.old.cursor) × IsHeldUp (cells ring.now) (view seat.old) (view seat.new) result.held }
-    ensures got { is_empty hand.old.held ≡ true → result.claimed ≡ true → (hand.new.cursor ≡ hand.old.cursor + 1) × IsHeldUp (cells ring.now) (view seat.old) (view seat.new) result.held }
-    ensures not { is_empty hand.old.held ≡ true → result.claimed ≡ false
-        → IsRefused (cells ring.now) (view seat.old) (view seat.new) hand.old.cursor × (hand.new.cursor ≡ next_cursor hand.old.cursor (view seat.new).missed.word) × (result.held ≡ None) }
+    ensures busy { is_empty hand.old.held ≡ false → HasNoNew (cells ring.now) (view seat.old) (view seat.new) hand.old.cursor hand.new.cursor result.claimed result.held }
+    ensures got { is_empty hand.old.held ≡ true → result.claimed ≡ true → HasNext (cells ring.now) (view seat.old) (view seat.new) hand.old.cursor hand.new.cursor result.held }
+    ensures not { is_empty hand.old.held ≡ true → result.claimed ≡ false → HasNothing (cells ring.now) (view seat.old) (view seat.new) hand.old.cursor hand.new.cursor result.held }
     ensures last { is_empty hand.old.held ≡ true → IsClaimed hand.old.cursor (view seat.old).lead (view seat.new).own }
     ensures done { result.held ≡ None → ((view seat.new).job ≡ None) × (is_empty hand.new.held ≡ true) }
     ensures others { IfSome result.held (λ u. NotLast (view seat.old).lead) }

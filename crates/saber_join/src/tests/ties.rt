@@ -1,4 +1,5 @@
 // Joins whose partners are found by key, and joins whose WHERE ties nothing, worked out by hand.
+// Column 0 of a row is its time, and column 1 its number.
 ghost use Rattle.std.specs.Prelude.{◌≡◌, ◌≤◌, ◌∷◌, [], ℕ, IfOk, false, pos};
 ghost use Rattle.saber_plan.specs.declared.rows.Side.{Side};
 ghost use Rattle.saber_plan.specs.declared.rows.Side.TheVariants as s;
@@ -7,43 +8,22 @@ ghost use Rattle.saber_plan.specs.declared.plans.Shape.TheVariants as h;
 ghost use Rattle.saber_plan.specs.Trees.{tree_of, test_of, tests_of};
 ghost use Rattle.saber_plan.specs.Checked.{IsChecked, columns_on, ExprFits, TestFits, SomeFit};
 
-use super::{answer, number, stream};
+use super::answer;
 use crate::Join;
 use saber_laws::checked_fit;
-use saber_plan::{
-    Cmp, Conj, Expr, Factor, Factors, Item, Measure, NoMemory, Plan, Pred, Product, Shape, Side,
-    Unit,
-};
+use saber_plan::{Cmp, Conj, Expr, Factor, Item, Measure, NoMemory, Plan, Pred, Shape, Side, Unit};
+use saber_samples::{column, product, windowed};
 use std::alloc::Global;
 use std::process::Abort;
 use std::test::Fail;
-
-// A column of a row: its time, or its number.
-fn time(alloc: Global, side: Side) -> Result<Expr, NoMemory>
-    ensures { IfOk result (λ e. e ≡ record { minus = false; factors = f.Column side 0 ∷ [] } ∷ []) }
-{
-    let factor = Factor::Column { side, index: 0 };
-    let factors = Factors::from_vec(vec![in alloc; factor]?);
-    let product = Product {
-        minus: false,
-        factors,
-    };
-    Ok(Expr::from_vec(vec![in alloc; product]?))
-}
 
 // The number of a row, and one more.
 fn next(alloc: Global, side: Side) -> Result<Expr, NoMemory>
     ensures { IfOk result (λ e. e ≡ record { minus = false; factors = f.Column side 1 ∷ [] } ∷ record { minus = false; factors = f.Constant (pos 1) ∷ [] } ∷ []) }
 {
     let factor = Factor::Column { side, index: 1 };
-    let first = Product {
-        minus: false,
-        factors: Factors::from_vec(vec![in alloc; factor]?),
-    };
-    let second = Product {
-        minus: false,
-        factors: Factors::from_vec(vec![in alloc; Factor::Constant(1)]?),
-    };
+    let first = product(false, vec![in alloc; factor]?);
+    let second = product(false, vec![in alloc; Factor::Constant(1)]?);
     Ok(Expr::from_vec(vec![in alloc; first, second]?))
 }
 
@@ -52,10 +32,7 @@ fn times(alloc: Global, side: Side, by: Factor) -> Result<Expr, NoMemory>
     ensures { IfOk result (λ e. e ≡ record { minus = false; factors = f.Column side 1 ∷ by ∷ [] } ∷ []) }
 {
     let factor = Factor::Column { side, index: 1 };
-    let product = Product {
-        minus: false,
-        factors: Factors::from_vec(vec![in alloc; factor, by]?),
-    };
+    let product = product(false, vec![in alloc; factor, by]?);
     Ok(Expr::from_vec(vec![in alloc; product]?))
 }
 
@@ -116,10 +93,10 @@ fn plan(alloc: Global, size: u64, predicate: Pred) -> Result<Plan, NoMemory>
     ensures left { IfOk result (λ p. columns_on (tree_of p).streams s.Left ≡ 2) }
     ensures right { IfOk result (λ p. columns_on (tree_of p).streams s.Right ≡ 2) }
 {
-    let left = stream(Measure::Range, 4, 4);
-    let right = stream(Measure::Range, size, 4);
-    let first = Item::Value(time(alloc, Side::Left)?);
-    let second = Item::Value(time(alloc, Side::Right)?);
+    let left = windowed(2, Measure::Range, 4, 4);
+    let right = windowed(2, Measure::Range, size, 4);
+    let first = Item::Value(column(alloc, Side::Left, 0)?);
+    let second = Item::Value(column(alloc, Side::Right, 0)?);
     let streams = vec![in alloc; left, right]?;
     let items = vec![in alloc; first, second]?;
     Ok(Plan::new(
@@ -188,12 +165,12 @@ fn equal_numbers(rt: HostRuntime) -> Result<(), Fail> {
     let alloc = rt.alloc();
     let (l, r) = (Side::Left, Side::Right);
     // x = y, and y = x
-    let same = unit(number(alloc, l)?, Cmp::Equal, number(alloc, r)?);
+    let same = unit(column(alloc, l, 1)?, Cmp::Equal, column(alloc, r, 1)?);
     check(&rt, alloc, 4, only(alloc, same)?, PAIRS)?;
-    let same = unit(number(alloc, r)?, Cmp::Equal, number(alloc, l)?);
+    let same = unit(column(alloc, r, 1)?, Cmp::Equal, column(alloc, l, 1)?);
     check(&rt, alloc, 4, only(alloc, same)?, PAIRS)?;
     // The right window is two seconds long, so it has times 0 and 1, and 4 and 5.
-    let same = unit(number(alloc, l)?, Cmp::Equal, number(alloc, r)?);
+    let same = unit(column(alloc, l, 1)?, Cmp::Equal, column(alloc, r, 1)?);
     check(&rt, alloc, 2, only(alloc, same)?, "0,0,0\n0,1,0\n")?;
     Ok(())
 }
@@ -203,7 +180,7 @@ fn equal_expressions(rt: HostRuntime) -> Result<(), Fail> {
     let alloc = rt.alloc();
     let (l, r) = (Side::Left, Side::Right);
     // x = y + 1: 6 with 5, and 7 with 6
-    let same = unit(number(alloc, l)?, Cmp::Equal, next(alloc, r)?);
+    let same = unit(column(alloc, l, 1)?, Cmp::Equal, next(alloc, r)?);
     check(&rt, alloc, 4, only(alloc, same)?, "0,3,0\n0,3,2\n1,4,5\n")?;
     // x * x = y * 5: 25 twice, and neither 36 nor 49
     let square = times(alloc, l, Factor::Column { side: l, index: 1 })?;
@@ -224,15 +201,15 @@ fn equal_and_more(rt: HostRuntime) -> Result<(), Fail> {
     let (l, r) = (Side::Left, Side::Right);
     // x = y AND A.t < B.t, and the other way round
     let text = "0,0,2\n0,1,2\n1,4,6\n";
-    let same = unit(number(alloc, l)?, Cmp::Equal, number(alloc, r)?);
-    let later = unit(time(alloc, l)?, Cmp::Less, time(alloc, r)?);
+    let same = unit(column(alloc, l, 1)?, Cmp::Equal, column(alloc, r, 1)?);
+    let later = unit(column(alloc, l, 0)?, Cmp::Less, column(alloc, r, 0)?);
     check(&rt, alloc, 4, both(alloc, same, later)?, text)?;
-    let same = unit(number(alloc, l)?, Cmp::Equal, number(alloc, r)?);
-    let later = unit(time(alloc, l)?, Cmp::Less, time(alloc, r)?);
+    let same = unit(column(alloc, l, 1)?, Cmp::Equal, column(alloc, r, 1)?);
+    let later = unit(column(alloc, l, 0)?, Cmp::Less, column(alloc, r, 0)?);
     check(&rt, alloc, 4, both(alloc, later, same)?, text)?;
     // x = y AND NOT A.t < B.t
-    let same = unit(number(alloc, l)?, Cmp::Equal, number(alloc, r)?);
-    let later = unit(time(alloc, l)?, Cmp::Less, time(alloc, r)?);
+    let same = unit(column(alloc, l, 1)?, Cmp::Equal, column(alloc, r, 1)?);
+    let later = unit(column(alloc, l, 0)?, Cmp::Less, column(alloc, r, 0)?);
     let all = both(alloc, same, not(alloc, later)?)?;
     check(&rt, alloc, 4, all, "0,0,0\n0,1,0\n")?;
     Ok(())
@@ -244,12 +221,12 @@ fn no_tie(rt: HostRuntime) -> Result<(), Fail> {
     let alloc = rt.alloc();
     let (l, r) = (Side::Left, Side::Right);
     // x = y OR x < y
-    let same = unit(number(alloc, l)?, Cmp::Equal, number(alloc, r)?);
-    let less = unit(number(alloc, l)?, Cmp::Less, number(alloc, r)?);
+    let same = unit(column(alloc, l, 1)?, Cmp::Equal, column(alloc, r, 1)?);
+    let less = unit(column(alloc, l, 1)?, Cmp::Less, column(alloc, r, 1)?);
     let text = "0,0,0\n0,0,1\n0,0,2\n0,1,0\n0,1,1\n0,1,2\n0,3,1\n1,4,6\n";
     check(&rt, alloc, 4, either(alloc, same, less)?, text)?;
     // NOT x = y
-    let same = unit(number(alloc, l)?, Cmp::Equal, number(alloc, r)?);
+    let same = unit(column(alloc, l, 1)?, Cmp::Equal, column(alloc, r, 1)?);
     let text = "0,0,1\n0,1,1\n0,3,0\n0,3,1\n0,3,2\n1,4,5\n";
     check(&rt, alloc, 4, only(alloc, not(alloc, same)?)?, text)?;
     Ok(())

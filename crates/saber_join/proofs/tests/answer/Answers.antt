@@ -1,10 +1,9 @@
 use Rattle.std.proofs.Common.{◌++◌, sym, ◌∙◌, ap, subst, arith}
 use Rattle.saber_plan.specs.Inputs.{going_on}
-use Rattle.saber_plan.specs.Windows.{no_rows, mark_after, mark_of}
+use Rattle.saber_plan.specs.Windows.{no_rows, mark_of}
 use Rattle.saber_plan.specs.Given.{RowsFit}
 use Rattle.saber_plan.specs.Tasks.{unclosed}
-use Rattle.saber_plan.specs.RowFacts.{mark-append}
-use Rattle.saber_join.proofs.Tested.{fits_nil}
+use Rattle.saber_samples.specs.Filling.{fits_nil}
 use Rattle.saber_join.proofs.tests.answer.Goals as goal
 
 pub loop-table-init : goal.loop-table-init
@@ -22,7 +21,7 @@ loop-table-init g c =
 pub give-requires-clause-fits : goal.give-requires-clause-fits
 give-requires-clause-fits g c =
     let i = c.loop-table.invariant in
-    c.in_ok-own.ensures.fit (g.O.Operator.plan c.args.operator.now) no_rows c.loop-table.behind.rows c.requires.left c.requires.right i.mark i.fits
+    c.in_ok-own.ensures.fit (g.O.Operator.plan c.args.operator.now) no_rows c.loop-table.behind.rows (c.requires.left, c.requires.right) i.mark i.fits
 
 pub loop-table-preserved : goal.loop-table-preserved
 loop-table-preserved g c =
@@ -34,8 +33,8 @@ loop-table-preserved g c =
     let more = c.in_ok-extend_copied.ensures ∙ ap (λ l. old ++ l) c.as_slice.ensures in
     record {
       first = i.first;
-      mark = c.in_ok-own.ensures.mark ∙ ap (λ m. mark_after m own) i.mark ∙ sym (mark-append no_rows old own) ∙ ap mark_of (sym more);
-      fits = subst (RowsFit q no_rows) (sym more) (c.in_ok-own.ensures.fit q no_rows old c.requires.left c.requires.right i.mark i.fits);
+      mark = c.in_ok-own.ensures.mark no_rows old i.mark ∙ ap mark_of (sym more);
+      fits = subst (RowsFit q no_rows) (sym more) (c.in_ok-own.ensures.fit q no_rows old (c.requires.left, c.requires.right) i.mark i.fits);
       held = c.in_ok-give.ensures.held c.in_ok-own.ensures.ended ∙ ap (λ l. unclosed q (going_on l)) (sym more);
       taken = subst (λ l. g.O.Operator.has_taken op c.give.new.store (going_on l)) (sym more) (c.in_ok-give.ensures.taken c.in_ok-own.ensures.ended);
     }
@@ -43,4 +42,4 @@ loop-table-preserved g c =
 pub give-requires-2-clause-fits : goal.give-requires-2-clause-fits
 give-requires-2-clause-fits g c =
     let i = c.loop-table.invariant in
-    c.in_ok-own-2.ensures.fit (g.O.Operator.plan c.args.operator.now) no_rows c.loop-table.behind.rows c.requires.left c.requires.right i.mark i.fits
+    c.in_ok-own-2.ensures.fit (g.O.Operator.plan c.args.operator.now) no_rows c.loop-table.behind.rows (c.requires.left, c.requires.right) i.mark i.fits

@@ -7,4 +7,4 @@ pub returns-in-Some : goal.returns-in-Some
 returns-in-Some c = read_one comparison _ _ _ (cmp_takes _) c.in-Some.ensures.took
 
 pub returns-in-None : goal.returns-in-None
-returns-in-None c = let t = c.in-None.ensures.took in refuse comparison _ _ refl (no_cmp _ t.1 t.2 t.3 t.4 t.5 t.6) t.0
+returns-in-None c = let t = c.in-None.ensures.took in let n = t.1 in refuse comparison _ _ refl (no_cmp _ n.0 n.1 n.2 n.3 n.4 n.5) t.0
