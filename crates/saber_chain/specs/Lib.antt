@@ -1,0 +1,5 @@
+pub mod Texts
+pub mod Marks
+pub mod Firsts
+pub mod Seconds
+pub mod Chains

@@ -1,0 +1,13 @@
+// How a chain ends.
+use saber_engine::{Inputs, RunEnd};
+
+/// A chain that ended: how each of its queries ended, and how many tasks of each are assembled; with the inputs and the sink.
+#[derive(Drop)]
+pub struct Chained<S, K> {
+    pub first: RunEnd,
+    pub second: RunEnd,
+    pub inputs: Inputs<S>,
+    pub sink: K,
+    pub first_tasks: u64,
+    pub tasks: u64,
+}
