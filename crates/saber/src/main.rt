@@ -47,7 +47,10 @@ fn run<F: Files, K: Sink + Send + Drop, N: Sink, R: Threads + Wait + Sync>(
     files: &mut F,
     sink: K,
     notes: &mut N,
-) -> u8 {
+) -> u8
+where
+    F::Src: Send + Drop,
+{
     match lent(alloc, texts) {
         Ok(words) => {
             let Ended { status, .. } = saber(rt, alloc, &words, files, sink, notes, &OpenGate);

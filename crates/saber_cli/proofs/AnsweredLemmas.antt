@@ -12,9 +12,9 @@ use Rattle.saber_engine.specs.declared.ends.RunEnd.TheVariants as ends
 use Rattle.saber_engine.specs.Sources.{input_of}
 use Rattle.saber_engine.specs.Gives as engine
 use Rattle.saber_engine.specs.Gives.{Assembles, Reach, reach_of}
-use Rattle.saber_notes.specs.declared.outcome.InputFile.TheVariants.{Query, Left, Right}
+use Rattle.saber_notes.specs.declared.outcome.InputFile.TheVariants.{Query, Left, Right, SecondQuery}
 use Rattle.saber_notes.specs.declared.outcome.Outcome.{Outcome}
-use Rattle.saber_notes.specs.declared.outcome.Outcome.TheVariants.{Done, Usage, FileCount, QueryFault, LineRefused, OpenFault, ReadFault, TooWide, WriteFault, NoMemory}
+use Rattle.saber_notes.specs.declared.outcome.Outcome.TheVariants.{Done, Usage, FileCount, QueryFault, SecondQueryFault, Unchainable, LineRefused, ChainLineRefused, OpenFault, ReadFault, TooWide, WriteFault, NoMemory}
 use Rattle.saber_cli.specs.Laws.{Laws}
 use Rattle.saber_cli.specs.Uses.{IsOpened}
 use Rattle.saber_cli.specs.Outcomes.{IsClean, IsNoEnd, IsEarly, IsOfRun, IsUnopened, IsBeforeRun}
@@ -27,6 +27,9 @@ use Rattle.saber_cli.proofs.DueLemmas.{nothing_assembled}
 unopened_no_end : (o : Outcome) → IsUnopened o → IsNoEnd o
 unopened_no_end Done h = absurd h
 unopened_no_end Usage h = absurd h
+unopened_no_end (SecondQueryFault place why) h = absurd h
+unopened_no_end (Unchainable which) h = absurd h
+unopened_no_end (ChainLineRefused place why) h = absurd h
 unopened_no_end (FileCount s g) h = absurd h
 unopened_no_end (QueryFault b c) h = absurd h
 unopened_no_end (LineRefused s n c) h = absurd h
@@ -39,6 +42,9 @@ unopened_no_end NoMemory h = tt
 no_end_early : (o : Outcome) → IsNoEnd o → IsEarly o
 no_end_early Done h = absurd h
 no_end_early Usage h = absurd h
+no_end_early (SecondQueryFault place why) h = absurd h
+no_end_early (Unchainable which) h = absurd h
+no_end_early (ChainLineRefused place why) h = absurd h
 no_end_early (FileCount s g) h = absurd h
 no_end_early (QueryFault b c) h = absurd h
 no_end_early (LineRefused s n c) h = absurd h
@@ -51,6 +57,9 @@ no_end_early NoMemory h = tt
 none_ends : (q : Tree) (n ring : ℕ) (flush : Bool) (read : Read) (o : Outcome) → IsNoEnd o → EndsSo q n ring flush read o
 none_ends q n ring flush read Done h = absurd h
 none_ends q n ring flush read Usage h = absurd h
+none_ends q n ring flush read (SecondQueryFault place why) h = absurd h
+none_ends q n ring flush read (Unchainable which) h = absurd h
+none_ends q n ring flush read (ChainLineRefused place why) h = absurd h
 none_ends q n ring flush read (FileCount s g) h = absurd h
 none_ends q n ring flush read (QueryFault b c) h = absurd h
 none_ends q n ring flush read (LineRefused s l c) h = absurd h
@@ -71,10 +80,14 @@ no_answer ls q n ring limits flush (Some all) o k h = record {
 pub unopened_of_run : (o : Outcome) → IsUnopened o → IsOfRun o
 unopened_of_run Done h = absurd h
 unopened_of_run Usage h = absurd h
+unopened_of_run (SecondQueryFault place why) h = absurd h
+unopened_of_run (Unchainable which) h = absurd h
+unopened_of_run (ChainLineRefused place why) h = absurd h
 unopened_of_run (FileCount s g) h = absurd h
 unopened_of_run (QueryFault b c) h = absurd h
 unopened_of_run (LineRefused s n c) h = absurd h
 unopened_of_run (OpenFault Query) h = absurd h
+unopened_of_run (OpenFault SecondQuery) h = absurd h
 unopened_of_run (OpenFault Left) h = tt
 unopened_of_run (OpenFault Right) h = tt
 unopened_of_run (ReadFault f) h = absurd h
@@ -169,11 +182,15 @@ run_opened ring ends.NoMemory = tt
 pub run_not_before : (o : Outcome) → IsOfRun o → IsOpened o → IsBeforeRun o → ⊥
 run_not_before Done h p b = b
 run_not_before Usage h p b = h
+run_not_before (SecondQueryFault place why) h p b = h
+run_not_before (Unchainable which) h p b = h
+run_not_before (ChainLineRefused place why) h p b = h
 run_not_before (FileCount s g) h p b = h
 run_not_before (QueryFault q c) h p b = h
 run_not_before (LineRefused s n c) h p b = b
 run_not_before (OpenFault f) h p b = p
 run_not_before (ReadFault Query) h p b = h
+run_not_before (ReadFault SecondQuery) h p b = h
 run_not_before (ReadFault Left) h p b = b
 run_not_before (ReadFault Right) h p b = b
 run_not_before (TooWide t n r) h p b = b

@@ -1,16 +1,16 @@
 -- A run over generated rows, from that of the engine.
-use Rattle.std.proofs.Common.{Bool, ⊎_elim, ◌++◌, ◌≡◌, ◌≤◌, ◌<◌, ◌+◌, ◌-◌, ◌*◌, ◌^◌, min, ◌⊎◌, inl, inr, ℕ, List, [], ◌∷◌, length, take, Option, Some, None, false, refl, sym, ◌∙◌, ap, subst, arith}
+use Rattle.std.proofs.Common.{Bool, ⊎_elim, ◌++◌, ◌≡◌, ◌≤◌, ◌*◌, ◌^◌, min, inl, inr, ℕ, List, [], ◌∷◌, length, Option, Some, None, false, refl, sym, ◌∙◌, ap, subst, arith}
 use Rattle.std.proofs.Math.Path.{transport}
 use Rattle.std.proofs.lemmas.List.{take_all}
 use Rattle.saber_io.specs.Outside.{Told, appended, appended-none}
 use Rattle.saber_plan.specs.declared.rows.Side.{Side}
 use Rattle.saber_plan.specs.declared.rows.Side.TheVariants as sides
 use Rattle.saber_plan.specs.declared.rows.Row.{Row}
-use Rattle.saber_plan.specs.Rows.{Read, all_read, bad, End}
+use Rattle.saber_plan.specs.Rows.{Read, all_read, bad}
 use Rattle.saber_plan.specs.Inputs.{Input, going_on}
 use Rattle.saber_plan.specs.Answers.{text}
 use Rattle.saber_plan.specs.Tasks.{upto, task_count, row_tasks, run_input}
-use Rattle.saber_plan.specs.Needs.{wide, need}
+use Rattle.saber_plan.specs.Needs.{wide}
 use Rattle.saber_plan.specs.Trees.{Tree}
 use Rattle.saber_plan.specs.Sizes.{FileLimits}
 use Rattle.saber_laws.specs.Cuts.{RowsHaveTasks}
@@ -31,7 +31,7 @@ use Rattle.saber_engine.specs.Sources.{each_input, input_of, RoseAt}
 use Rattle.saber_engine.specs.Gives as engine
 use Rattle.saber_engine.specs.Gives.{Assembles, reach_of}
 use Rattle.saber_notes.specs.declared.outcome.Outcome.{Outcome}
-use Rattle.saber_notes.specs.declared.outcome.Outcome.TheVariants.{Done, Usage, FileCount, QueryFault, LineRefused, OpenFault, ReadFault, TooWide, WriteFault, NoMemory}
+use Rattle.saber_notes.specs.declared.outcome.Outcome.TheVariants.{Done, Usage, FileCount, QueryFault, SecondQueryFault, Unchainable, LineRefused, ChainLineRefused, OpenFault, ReadFault, TooWide, WriteFault, NoMemory}
 use Rattle.saber_cli.specs.Due.{Contents, Due, usage, missing, faulty, unlike, shows, tells, runs, IsDueFor}
 use Rattle.saber_cli.specs.Causes.{HasCause, Allows}
 use Rattle.saber_cli.specs.Puts.{HasTasks, IsOfPut, PutsOut, PutsText, no_text}
@@ -159,6 +159,9 @@ unread_told ws d fault.Usage old h is = let clash : Some (demo d) ≡ None = sym
 tell_matches : (o : Outcome) → IsOfPut o → Matches 0 o 0 []
 tell_matches Done k = record { asked_for = refl; all = refl; good = tt }
 tell_matches Usage k = absurd k
+tell_matches (SecondQueryFault place why) k = absurd k
+tell_matches (Unchainable which) k = absurd k
+tell_matches (ChainLineRefused place why) k = absurd k
 tell_matches (FileCount s g) k = absurd k
 tell_matches (QueryFault b c) k = absurd k
 tell_matches (LineRefused s n c) k = absurd k
@@ -177,6 +180,9 @@ tell_leaves c d o old is k = subst (λ (a : Asked). LeavesTold a o old old) (sym
 tell_cause : (due : Due → Type 0) (text : List ℕ) (count : ℕ) (o : Outcome) → IsOfPut o → due (tells text count) → HasCause due o
 tell_cause due text count Done k t = inr (inr (record { out = text; count = count; is_due = t }))
 tell_cause due text count Usage k t = absurd k
+tell_cause due text count (SecondQueryFault place why) k t = absurd k
+tell_cause due text count (Unchainable which) k t = absurd k
+tell_cause due text count (ChainLineRefused place why) k t = absurd k
 tell_cause due text count (FileCount s g) k t = absurd k
 tell_cause due text count (QueryFault b c) k t = absurd k
 tell_cause due text count (LineRefused s n c) k t = absurd k
@@ -189,6 +195,9 @@ tell_cause due text count NoMemory k t = tt
 tell_allows : (text : List ℕ) (count : ℕ) (o : Outcome) → IsOfPut o → Allows (tells text count) o
 tell_allows text count Done k = inl refl
 tell_allows text count Usage k = absurd k
+tell_allows text count (SecondQueryFault place why) k = absurd k
+tell_allows text count (Unchainable which) k = absurd k
+tell_allows text count (ChainLineRefused place why) k = absurd k
 tell_allows text count (FileCount s g) k = absurd k
 tell_allows text count (QueryFault b c) k = absurd k
 tell_allows text count (LineRefused s n c) k = absurd k

@@ -8,9 +8,9 @@ use Rattle.saber_plan.specs.Checked.{IsChecked}
 use Rattle.saber_io.specs.Outside.{content_in}
 use Rattle.saber_query.specs.declared.fault.Cause.{Cause}
 use Rattle.saber_check.specs.Texts.{HasPlan, HasFault}
-use Rattle.saber_words.specs.Commands.{Asked, run, check, demo, AskedRun}
+use Rattle.saber_words.specs.Commands.{Asked, run, check, demo, chain, AskedRun}
 use Rattle.saber_notes.specs.declared.outcome.Outcome.{Outcome}
-use Rattle.saber_notes.specs.declared.outcome.Outcome.TheVariants.{Done, Usage, FileCount, QueryFault, LineRefused, OpenFault, ReadFault, TooWide, WriteFault, NoMemory}
+use Rattle.saber_notes.specs.declared.outcome.Outcome.TheVariants.{Done, Usage, FileCount, QueryFault, SecondQueryFault, Unchainable, LineRefused, ChainLineRefused, OpenFault, ReadFault, TooWide, WriteFault, NoMemory}
 use Rattle.saber_cli.specs.Laws.{Laws}
 use Rattle.saber_cli.specs.Outcomes.{IsEarly, IsFileFault, IsQueryUnread}
 use Rattle.saber_cli.specs.Texts.{BeginsFile}
@@ -29,6 +29,9 @@ no_task_text ls q n u h = ap (text q) (ls.no_rows n u) ∙ (ls.nothing q (ls.fit
 early_reach : (o : Outcome) → IsEarly o → reach_of (end_of o) ≡ first_tasks
 early_reach Done h = absurd h
 early_reach Usage h = absurd h
+early_reach (SecondQueryFault place why) h = absurd h
+early_reach (Unchainable which) h = absurd h
+early_reach (ChainLineRefused place why) h = absurd h
 early_reach (FileCount s g) h = refl
 early_reach (QueryFault b c) h = refl
 early_reach (LineRefused s n c) h = absurd h
@@ -76,12 +79,16 @@ early_puts ls files c o (shows out) h d = (refl, no_text (λ e. subst IsEarly e 
 early_puts ls files (run r) o (runs q n ring flush read) h d = nothing_assembled ls q n (run_input q flush read) o (run_checked ls files r q d.1) h
 early_puts ls files (check r) o (runs q n ring flush read) h d = absurd d
 early_puts ls files (demo x) o (runs q n ring flush read) h d = absurd d
+early_puts ls files (chain x) o (runs q n ring flush read) h d = absurd d
 
 -- ---- a fault of the query's file, and want of memory
 
 unread_fault : (o : Outcome) → IsQueryUnread o → IsFileFault o
 unread_fault Done h = h
 unread_fault Usage h = h
+unread_fault (SecondQueryFault place why) h = h
+unread_fault (Unchainable which) h = h
+unread_fault (ChainLineRefused place why) h = h
 unread_fault (FileCount s g) h = h
 unread_fault (QueryFault b c) h = h
 unread_fault (LineRefused s n c) h = h
@@ -91,11 +98,12 @@ unread_fault (TooWide t n r) h = h
 unread_fault WriteFault h = h
 unread_fault NoMemory h = h
 
--- it has a query file
+-- it has a query file, and is no chain
 abbrev pub HasQuery : Asked → Type 0
 HasQuery (run r) = Unit {0}
 HasQuery (check c) = Unit {0}
 HasQuery (demo x) = ⊥
+HasQuery (chain x) = ⊥
 
 pub lacks_allowed : (files : Contents) (c : Asked) (o : Outcome) (d : Due) → HasQuery c → IsQueryUnread o ⊎ (o ≡ NoMemory) → IsDueFor files c d → Allows d o
 lacks_allowed files c o usage a h d = absurd d
@@ -108,6 +116,7 @@ lacks_allowed files c o (shows out) a (inr m) d = inr (inr (inr m))
 lacks_allowed files (run r) o (tells out count) a h d = absurd d
 lacks_allowed files (check r) o (tells out count) a h d = absurd d
 lacks_allowed files (demo x) o (tells out count) a h d = absurd a
+lacks_allowed files (chain x) o (tells out count) a h d = absurd a
 lacks_allowed files c o (runs q n ring flush read) a (inl f) d = inr (inl (unread_fault o f))
 lacks_allowed files c o (runs q n ring flush read) a (inr m) d = inr (inr (inr m))
 

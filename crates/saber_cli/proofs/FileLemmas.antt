@@ -3,9 +3,9 @@ use Rattle.std.proofs.Common.{Result, Ok, Err, IfOk, IfErr, OnOk, refl, sym, ◌
 use Rattle.std.proofs.lemmas.Bool.Decides.{nat_tests}
 use Rattle.saber_io.specs.Outside.{Told, asking, closing, raised, given, Rose, Opens}
 use Rattle.saber_notes.specs.declared.outcome.InputFile.{InputFile}
-use Rattle.saber_notes.specs.declared.outcome.InputFile.TheVariants.{Query, Left, Right}
+use Rattle.saber_notes.specs.declared.outcome.InputFile.TheVariants.{Query, Left, Right, SecondQuery}
 use Rattle.saber_notes.specs.declared.outcome.Outcome.{Outcome}
-use Rattle.saber_notes.specs.declared.outcome.Outcome.TheVariants.{Done, Usage, FileCount, QueryFault, LineRefused, OpenFault, ReadFault, TooWide, WriteFault, NoMemory}
+use Rattle.saber_notes.specs.declared.outcome.Outcome.TheVariants.{Done, Usage, FileCount, QueryFault, SecondQueryFault, Unchainable, LineRefused, ChainLineRefused, OpenFault, ReadFault, TooWide, WriteFault, NoMemory}
 use Rattle.saber_cli.specs.Outcomes.{IsClean, IsFileFault}
 use Rattle.saber_cli.specs.Texts.{BeginsFile, read_limit}
 use Rattle.saber_cli.specs.Uses.{Uses, used, IsOf, IsOpened, IsOfText, IsOfQuery, outcome_of, KeepsFaults}
@@ -29,6 +29,9 @@ used_by file name o old mid new left faults read clean is_of opened asked closed
 read_opened : (o : Outcome) → IsOfText o → IsOpened o
 read_opened Done h = absurd h
 read_opened Usage h = absurd h
+read_opened (SecondQueryFault place why) h = absurd h
+read_opened (Unchainable which) h = absurd h
+read_opened (ChainLineRefused place why) h = absurd h
 read_opened (FileCount s g) h = absurd h
 read_opened (QueryFault b c) h = absurd h
 read_opened (LineRefused s n c) h = absurd h
@@ -41,6 +44,9 @@ read_opened NoMemory h = tt
 text_not_clean : (o : Outcome) → IsOfText o → IsClean o → ⊥
 text_not_clean Done h c = h
 text_not_clean Usage h c = h
+text_not_clean (SecondQueryFault place why) h c = h
+text_not_clean (Unchainable which) h c = h
+text_not_clean (ChainLineRefused place why) h c = h
 text_not_clean (FileCount s g) h c = h
 text_not_clean (QueryFault b k) h c = h
 text_not_clean (LineRefused s n k) h c = h
@@ -78,12 +84,16 @@ text_good (Err o) a b c f h z e k n = absurd (text_not_clean o h n)
 text_cause : (o : Outcome) → IsOfText o → IsFileFault o → o ≡ ReadFault Query
 text_cause Done h f = absurd f
 text_cause Usage h f = absurd f
+text_cause (SecondQueryFault place why) h f = absurd f
+text_cause (Unchainable which) h f = absurd f
+text_cause (ChainLineRefused place why) h f = absurd f
 text_cause (FileCount s g) h f = absurd f
 text_cause (QueryFault b c) h f = absurd f
 text_cause (LineRefused s n c) h f = absurd f
 text_cause (OpenFault file) h f = absurd h
 text_cause (ReadFault Query) h f = refl
 text_cause (ReadFault Left) h f = absurd h
+text_cause (ReadFault SecondQuery) h f = absurd h
 text_cause (ReadFault Right) h f = absurd h
 text_cause (TooWide t n r) h f = absurd f
 text_cause WriteFault h f = absurd f
@@ -97,12 +107,16 @@ pub text_of_query : {X : Type 0} (r : Result X Outcome) → IfErr r IsOfText →
 text_of_query (Ok x) h = tt
 text_of_query (Err Done) h = absurd h
 text_of_query (Err Usage) h = absurd h
+text_of_query (Err (SecondQueryFault place why)) h = absurd h
+text_of_query (Err (Unchainable which)) h = absurd h
+text_of_query (Err (ChainLineRefused place why)) h = absurd h
 text_of_query (Err (FileCount s g)) h = absurd h
 text_of_query (Err (QueryFault b c)) h = absurd h
 text_of_query (Err (LineRefused s n c)) h = absurd h
 text_of_query (Err (OpenFault file)) h = absurd h
 text_of_query (Err (ReadFault Query)) h = tt
 text_of_query (Err (ReadFault Left)) h = absurd h
+text_of_query (Err (ReadFault SecondQuery)) h = absurd h
 text_of_query (Err (ReadFault Right)) h = absurd h
 text_of_query (Err (TooWide t n r)) h = absurd h
 text_of_query (Err WriteFault) h = absurd h

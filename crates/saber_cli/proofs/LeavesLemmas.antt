@@ -2,9 +2,9 @@
 use Rattle.std.proofs.Common.{◌≡◌, ◌<◌, ℕ, suc, List, [], ◌∷◌, ◌++◌, length, take, Option, Some, None, IfSome, refl, sym, ◌∙◌, ap, subst, arith, append-nil, append_assoc}
 use Rattle.saber_io.specs.Outside.{Told, asking, closing}
 use Rattle.saber_words.specs.Commands.{run, AskedRun}
-use Rattle.saber_notes.specs.declared.outcome.InputFile.TheVariants.{Query, Left, Right}
+use Rattle.saber_notes.specs.declared.outcome.InputFile.TheVariants.{Query, Left, Right, SecondQuery}
 use Rattle.saber_notes.specs.declared.outcome.Outcome.{Outcome}
-use Rattle.saber_notes.specs.declared.outcome.Outcome.TheVariants.{Done, Usage, FileCount, QueryFault, LineRefused, OpenFault, ReadFault, TooWide, WriteFault, NoMemory}
+use Rattle.saber_notes.specs.declared.outcome.Outcome.TheVariants.{Done, Usage, FileCount, QueryFault, SecondQueryFault, Unchainable, LineRefused, ChainLineRefused, OpenFault, ReadFault, TooWide, WriteFault, NoMemory}
 use Rattle.saber_cli.specs.Due.{AsksRows, row_names}
 use Rattle.saber_cli.specs.Outcomes.{IsOfShow}
 use Rattle.saber_cli.specs.Uses.{Uses, unasked, unopened, used, IsOf, IsOpened, IsOfQuery}
@@ -48,12 +48,16 @@ one_open name rest G t = record { contents = refl; count = 1; few = omega arith;
 query_matches : (all : ℕ) (o : Outcome) (left : Option (List ℕ)) (faults : ℕ) → IsOfQuery o → IsOpened o → (o ≡ ReadFault Query → 0 < faults) → Matches all o 1 ((left, faults) ∷ [])
 query_matches all Done left faults h p f = absurd h
 query_matches all Usage left faults h p f = absurd h
+query_matches all (SecondQueryFault place why) left faults h p f = absurd h
+query_matches all (Unchainable which) left faults h p f = absurd h
+query_matches all (ChainLineRefused place why) left faults h p f = absurd h
 query_matches all (FileCount s c) left faults h p f = absurd h
 query_matches all (QueryFault b c) left faults h p f = absurd h
 query_matches all (LineRefused s l c) left faults h p f = absurd h
 query_matches all (OpenFault file) left faults h p f = absurd p
 query_matches all (ReadFault Query) left faults h p f = (refl, refl, record { source = (left, faults); there = refl; faults = f refl; before = λ k. absurd (omega (arith, k)) })
 query_matches all (ReadFault Left) left faults h p f = absurd h
+query_matches all (ReadFault SecondQuery) left faults h p f = absurd h
 query_matches all (ReadFault Right) left faults h p f = absurd h
 query_matches all (TooWide t n r) left faults h p f = absurd h
 query_matches all WriteFault left faults h p f = absurd h
@@ -82,6 +86,9 @@ IsRefused _ = ⊥
 refused_matches : (all : ℕ) (o : Outcome) → IsRefused o → (left : Option (List ℕ)) (faults : ℕ) → faults ≡ 0 → Matches all o 1 ((left, faults) ∷ [])
 refused_matches all Done h left faults z = absurd h
 refused_matches all Usage h left faults z = absurd h
+refused_matches all (SecondQueryFault place why) h left faults z = absurd h
+refused_matches all (Unchainable which) h left faults z = absurd h
+refused_matches all (ChainLineRefused place why) h left faults z = absurd h
 refused_matches all (FileCount s c) h left faults z = record { asked_for = refl; all = refl; good = (z, tt) }
 refused_matches all (QueryFault b c) h left faults z = record { asked_for = refl; all = refl; good = (z, tt) }
 refused_matches all (LineRefused s l c) h left faults z = absurd h
@@ -97,6 +104,9 @@ refused_leaves name rest G o old new h u = after_query name rest G o old new (re
 show_matches : (o : Outcome) → IsOfShow o → (left : Option (List ℕ)) (faults : ℕ) → faults ≡ 0 → Matches 1 o 1 ((left, faults) ∷ [])
 show_matches Done h left faults z = record { asked_for = refl; all = refl; good = (z, tt) }
 show_matches Usage h left faults z = absurd h
+show_matches (SecondQueryFault place why) h left faults z = absurd h
+show_matches (Unchainable which) h left faults z = absurd h
+show_matches (ChainLineRefused place why) h left faults z = absurd h
 show_matches (FileCount s c) h left faults z = absurd h
 show_matches (QueryFault b c) h left faults z = record { asked_for = refl; all = refl; good = (z, tt) }
 show_matches (LineRefused s l c) h left faults z = absurd h

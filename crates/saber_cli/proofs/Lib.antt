@@ -11,3 +11,7 @@ pub mod WordLemmas
 pub mod WorkedEnds
 pub mod DemoLemmas
 pub mod WorkedDemo
+pub mod PlanLemmas
+pub mod ChainLeaveLemmas
+pub mod ChainRunLemmas
+pub mod WorkedChain

@@ -13,9 +13,9 @@ use Rattle.saber_dispatch.specs.declared.inputs.Inputs.TheVariants.{One, Two}
 use Rattle.saber_engine.specs.Sources.{each_input, told_by, RoseAt, GaveAll, input_of}
 use Rattle.saber_engine.specs.Gives.{ReadsWhole}
 use Rattle.saber_words.specs.Commands.{AskedRun}
-use Rattle.saber_notes.specs.declared.outcome.InputFile.TheVariants.{Query, Left, Right}
+use Rattle.saber_notes.specs.declared.outcome.InputFile.TheVariants.{Query, Left, Right, SecondQuery}
 use Rattle.saber_notes.specs.declared.outcome.Outcome.{Outcome}
-use Rattle.saber_notes.specs.declared.outcome.Outcome.TheVariants.{Done, Usage, FileCount, QueryFault, LineRefused, OpenFault, ReadFault, TooWide, WriteFault, NoMemory}
+use Rattle.saber_notes.specs.declared.outcome.Outcome.TheVariants.{Done, Usage, FileCount, QueryFault, SecondQueryFault, Unchainable, LineRefused, ChainLineRefused, OpenFault, ReadFault, TooWide, WriteFault, NoMemory}
 use Rattle.saber_cli.specs.Outcomes.{IsClean, IsFileFault, IsOfRun}
 use Rattle.saber_cli.specs.Endings.{file_on}
 use Rattle.saber_cli.specs.Answered.{Answered, AnsweredIn}
@@ -69,16 +69,16 @@ right_unopened r name o a b c d left faults e opens fresh asked not closed = sub
 abbrev pub backs : {S : Type 0} → (S → Option (List ℕ)) → (S → ℕ) → Inputs S → List Closed
 backs left faults i = each_input (source_back left faults) i
 
-lefts_of : {S : Type 0} (left : S → Option (List ℕ)) (faults : S → ℕ) (i : Inputs S) → map (λ s. s.0) (backs left faults i) ≡ each_input left i
+pub lefts_of : {S : Type 0} (left : S → Option (List ℕ)) (faults : S → ℕ) (i : Inputs S) → map (λ s. s.0) (backs left faults i) ≡ each_input left i
 lefts_of left faults (One s) = refl
 lefts_of left faults (Two s t) = refl
 
-faults_of : {S : Type 0} (left : S → Option (List ℕ)) (faults : S → ℕ) (i : Inputs S) → map (λ s. s.1) (backs left faults i) ≡ each_input faults i
+pub faults_of : {S : Type 0} (left : S → Option (List ℕ)) (faults : S → ℕ) (i : Inputs S) → map (λ s. s.1) (backs left faults i) ≡ each_input faults i
 faults_of left faults (One s) = refl
 faults_of left faults (Two s t) = refl
 
 -- as many as there were
-gave_length : (hads hass : List (Option (List ℕ))) (taken : List (List ℕ)) → GaveAll hads taken hass → length hads ≡ length hass
+pub gave_length : (hads hass : List (Option (List ℕ))) (taken : List (List ℕ)) → GaveAll hads taken hass → length hads ≡ length hass
 gave_length [] [] [] g = refl
 gave_length [] [] (t ∷ ts) g = absurd g
 gave_length [] (h ∷ hs) [] g = absurd g
@@ -88,7 +88,7 @@ gave_length (h ∷ hs) [] (t ∷ ts) g = absurd g
 gave_length (h ∷ hs) (k ∷ ks) [] g = absurd g
 gave_length (h ∷ hs) (k ∷ ks) (t ∷ ts) g = omega (arith, gave_length hs ks ts g.1)
 
-back_length : {S : Type 0} (left : S → Option (List ℕ)) (faults : S → ℕ) (i : Inputs S) → length (backs left faults i) ≡ length (each_input left i)
+pub back_length : {S : Type 0} (left : S → Option (List ℕ)) (faults : S → ℕ) (i : Inputs S) → length (backs left faults i) ≡ length (each_input left i)
 back_length left faults (One s) = refl
 back_length left faults (Two s t) = refl
 
@@ -108,7 +108,7 @@ all_of contents (n ∷ ns) (h ∷ hs) (t ∷ ts) (s ∷ ss) o g = (read_of conte
 
 -- ---- counts of faults of what is given back
 
-no_faults_same : (xs ys : List Closed) → map (λ s. s.1) ys ≡ map (λ s. s.1) xs → HadNoFaults xs → HadNoFaults ys
+pub no_faults_same : (xs ys : List Closed) → map (λ s. s.1) ys ≡ map (λ s. s.1) xs → HadNoFaults xs → HadNoFaults ys
 no_faults_same xs [] e h = tt
 no_faults_same [] (y ∷ ys) e h = cc
 no_faults_same (x ∷ xs) (y ∷ ys) e h = let one : y.1 ≡ x.1 = cc in let more : map (λ s. s.1) ys ≡ map (λ s. s.1) xs = cc in (one ∙ h.0, no_faults_same xs ys more h.1)
@@ -154,12 +154,12 @@ rose_behind c f ys h =
     let small : counted c ≤ 2 ^ 64 - 1 = omega arith in
     subst (λ x. Rose c (raised_by x ys)) (sym up) (stays (counted c) ys small)
 
-rose_left : (xs ys : List Closed) (c : ℕ) → HadNoFaults xs → RoseAt sides.Left (map (λ s. s.1) xs) (map (λ s. s.1) ys) → Rose c (raised_by c ys)
+pub rose_left : (xs ys : List Closed) (c : ℕ) → HadNoFaults xs → RoseAt sides.Left (map (λ s. s.1) xs) (map (λ s. s.1) ys) → Rose c (raised_by c ys)
 rose_left [] ys c h r = absurd r
 rose_left (x ∷ xs) [] c h r = absurd r
 rose_left (x ∷ xs) (y ∷ ys) c h r = rose_behind c y.1 ys (rose_some x.1 y.1 h.0 r)
 
-rose_right : (xs ys : List Closed) (c : ℕ) → HadNoFaults xs → RoseAt sides.Right (map (λ s. s.1) xs) (map (λ s. s.1) ys) → Rose c (raised_by c ys)
+pub rose_right : (xs ys : List Closed) (c : ℕ) → HadNoFaults xs → RoseAt sides.Right (map (λ s. s.1) xs) (map (λ s. s.1) ys) → Rose c (raised_by c ys)
 rose_right [] ys c h r = absurd r
 rose_right (x ∷ []) ys c h r = absurd r
 rose_right (x ∷ v ∷ xs) [] c h r = absurd r
@@ -173,11 +173,15 @@ run_matches : (n : ℕ) (o : Outcome) (xs ys : List Closed) (query : Closed) →
     → ((side : Side) → o ≡ ReadFault (file_on side) → RoseAt side (map (λ s. s.1) xs) (map (λ s. s.1) ys)) → query.1 ≡ 0 → Matches (suc n) o (suc n) (query ∷ ys)
 run_matches n Done xs ys query h p len z c r q = record { asked_for = refl; all = omega (arith, len); good = (q, no_faults_same xs ys (c tt) z) }
 run_matches n Usage xs ys query h p len z c r q = absurd h
+run_matches n (SecondQueryFault place why) xs ys query h p len z c r q = absurd h
+run_matches n (Unchainable which) xs ys query h p len z c r q = absurd h
+run_matches n (ChainLineRefused place why) xs ys query h p len z c r q = absurd h
 run_matches n (FileCount s g) xs ys query h p len z c r q = absurd h
 run_matches n (QueryFault b k) xs ys query h p len z c r q = absurd h
 run_matches n (LineRefused s l k) xs ys query h p len z c r q = record { asked_for = refl; all = omega (arith, len); good = (q, no_faults_same xs ys (c tt) z) }
 run_matches n (OpenFault f) xs ys query h p len z c r q = absurd p
 run_matches n (ReadFault Query) xs ys query h p len z c r q = absurd h
+run_matches n (ReadFault SecondQuery) xs ys query h p len z c r q = absurd h
 run_matches n (ReadFault Left) xs ys query h p len z c r q = (refl, omega (arith, len), faulty_left xs ys query q z (r sides.Left refl))
 run_matches n (ReadFault Right) xs ys query h p len z c r q = (refl, omega (arith, len), faulty_right xs ys query q z (r sides.Right refl))
 run_matches n (TooWide t l k) xs ys query h p len z c r q = record { asked_for = refl; all = omega (arith, len); good = (q, no_faults_same xs ys (c tt) z) }
@@ -187,11 +191,11 @@ run_matches n NoMemory xs ys query h p len z c r q = omega (arith, len)
 -- ---- what files tell
 
 -- all names were asked for, and then all sources given back
-both_used : (a b c : Option Told) (names : List (List ℕ)) (back : List Closed) → b ≡ using a names [] → c ≡ using b [] back → c ≡ using a names back
+pub both_used : (a b c : Option Told) (names : List (List ℕ)) (back : List Closed) → b ≡ using a names [] → c ≡ using b [] back → c ≡ using a names back
 both_used None b c names back e f = f ∙ ap (λ x. using x [] back) e
 both_used (Some t) b c names back e f = f ∙ ap (λ x. using x [] back) e ∙ (λ i. Some (record { contents = t.contents; asked = append-nil (t.asked ++ names) i; closed = append-nil t.closed i ++ back }))
 
-of_told : (told : Option Told) (names : List (List ℕ)) (hads : List (Option (List ℕ))) (taken : List (List ℕ)) (back : List Closed) → IfSome told (λ t. OpensAll t.contents names hads) → GaveAll hads taken (map (λ s. s.0) back)
+pub of_told : (told : Option Told) (names : List (List ℕ)) (hads : List (Option (List ℕ))) (taken : List (List ℕ)) (back : List Closed) → IfSome told (λ t. OpensAll t.contents names hads) → GaveAll hads taken (map (λ s. s.0) back)
     → IfSome told (λ t. AreOf t.contents back names)
 of_told None names hads taken back o g = tt
 of_told (Some t) names hads taken back o g = all_of t.contents names hads taken back o g
@@ -240,7 +244,7 @@ module _ {S : Type 0} (left : S → Option (List ℕ)) (faults : S → ℕ) wher
   -- ---- what was answered
 
   -- what sources tell that were opened is what their files have
-  all_told : (contents : Contents) (names : List (List ℕ)) (i : Inputs S) → OpensAll contents names (each_input left i) → (all : List (List ℕ)) × (contents_of contents names ≡ Some all) × (told_by left i ≡ Some all)
+  pub all_told : (contents : Contents) (names : List (List ℕ)) (i : Inputs S) → OpensAll contents names (each_input left i) → (all : List (List ℕ)) × (contents_of contents names ≡ Some all) × (told_by left i ≡ Some all)
   all_told contents [] (One s) o = absurd o
   all_told contents (n ∷ []) (One s) o = (o.0.0 ∷ [], ap (option_and_then (λ bytes. Some (bytes ∷ []))) o.0.1, ap (option_map (λ b. b ∷ [])) o.0.2)
   all_told contents (n ∷ m ∷ ns) (One s) o = absurd o.1
@@ -266,11 +270,15 @@ module _ {S : Type 0} (left : S → Option (List ℕ)) (faults : S → ℕ) wher
       → ((side : Side) → o ≡ ReadFault (file_on side) → RoseAt side (each_input faults i) (each_input faults j)) → IsFileFault o → Rose a c
   run_cause Done i j a b c z e f h p r k = absurd k
   run_cause Usage i j a b c z e f h p r k = absurd k
+  run_cause (SecondQueryFault place why) i j a b c z e f h p r k = absurd k
+  run_cause (Unchainable which) i j a b c z e f h p r k = absurd k
+  run_cause (ChainLineRefused place why) i j a b c z e f h p r k = absurd k
   run_cause (FileCount s g) i j a b c z e f h p r k = absurd k
   run_cause (QueryFault q w) i j a b c z e f h p r k = absurd k
   run_cause (LineRefused s l w) i j a b c z e f h p r k = absurd k
   run_cause (OpenFault file) i j a b c z e f h p r k = absurd p
   run_cause (ReadFault Query) i j a b c z e f h p r k = absurd h
+  run_cause (ReadFault SecondQuery) i j a b c z e f h p r k = absurd h
   run_cause (ReadFault Left) i j a b c z e f h p r k = subst (λ x. Rose x c) e (subst (Rose b) (sym f) (rose_left (backs left faults i) (backs left faults j) b z
       (subst (λ x. RoseAt sides.Left x (map (λ s. s.1) (backs left faults j))) (sym (faults_of left faults i)) (subst (RoseAt sides.Left (each_input faults i)) (sym (faults_of left faults j)) (r sides.Left refl)))))
   run_cause (ReadFault Right) i j a b c z e f h p r k = subst (λ x. Rose x c) e (subst (Rose b) (sym f) (rose_right (backs left faults i) (backs left faults j) b z

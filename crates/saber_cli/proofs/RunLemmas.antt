@@ -9,7 +9,7 @@ use Rattle.saber_check.specs.Texts.{HasPlan, HasFault}
 use Rattle.saber_words.specs.Commands.{Asked, run, AskedRun}
 use Rattle.saber_notes.specs.declared.outcome.InputFile.TheVariants.{Query}
 use Rattle.saber_notes.specs.declared.outcome.Outcome.{Outcome}
-use Rattle.saber_notes.specs.declared.outcome.Outcome.TheVariants.{Done, Usage, FileCount, QueryFault, LineRefused, OpenFault, ReadFault, TooWide, WriteFault, NoMemory}
+use Rattle.saber_notes.specs.declared.outcome.Outcome.TheVariants.{Done, Usage, FileCount, QueryFault, SecondQueryFault, Unchainable, LineRefused, ChainLineRefused, OpenFault, ReadFault, TooWide, WriteFault, NoMemory}
 use Rattle.saber_engine.specs.Sources.{input_of}
 use Rattle.saber_cli.specs.Laws.{Laws}
 use Rattle.saber_cli.specs.Outcomes.{IsEarly, IsFileFault, IsQueryUnread, IsOfRun, IsNoEnd}
@@ -36,6 +36,9 @@ sized P n ring task cells m limits b flush e f g h k = subst (P task cells limit
 query_lacks : (o : Outcome) → IsOfQuery o → IsQueryUnread o ⊎ (o ≡ NoMemory)
 query_lacks Done h = absurd h
 query_lacks Usage h = absurd h
+query_lacks (SecondQueryFault place why) h = absurd h
+query_lacks (Unchainable which) h = absurd h
+query_lacks (ChainLineRefused place why) h = absurd h
 query_lacks (FileCount s g) h = absurd h
 query_lacks (QueryFault b c) h = absurd h
 query_lacks (LineRefused s n c) h = absurd h
@@ -48,6 +51,9 @@ query_lacks NoMemory h = inr refl
 query_no_end : (o : Outcome) → IsOfQuery o → IsNoEnd o
 query_no_end Done h = absurd h
 query_no_end Usage h = absurd h
+query_no_end (SecondQueryFault place why) h = absurd h
+query_no_end (Unchainable which) h = absurd h
+query_no_end (ChainLineRefused place why) h = absurd h
 query_no_end (FileCount s g) h = absurd h
 query_no_end (QueryFault b c) h = absurd h
 query_no_end (LineRefused s n c) h = absurd h
@@ -60,6 +66,9 @@ query_no_end NoMemory h = tt
 no_end_early : (o : Outcome) → IsNoEnd o → IsEarly o
 no_end_early Done h = absurd h
 no_end_early Usage h = absurd h
+no_end_early (SecondQueryFault place why) h = absurd h
+no_end_early (Unchainable which) h = absurd h
+no_end_early (ChainLineRefused place why) h = absurd h
 no_end_early (FileCount s g) h = absurd h
 no_end_early (QueryFault b c) h = absurd h
 no_end_early (LineRefused s n c) h = absurd h
@@ -72,6 +81,9 @@ no_end_early NoMemory h = tt
 no_end_cause : (due : Due → Type 0) (o : Outcome) → IsNoEnd o → HasCause due o
 no_end_cause due Done h = absurd h
 no_end_cause due Usage h = absurd h
+no_end_cause due (SecondQueryFault place why) h = absurd h
+no_end_cause due (Unchainable which) h = absurd h
+no_end_cause due (ChainLineRefused place why) h = absurd h
 no_end_cause due (FileCount s g) h = absurd h
 no_end_cause due (QueryFault b c) h = absurd h
 no_end_cause due (LineRefused s n c) h = absurd h
@@ -115,6 +127,9 @@ gives_refusal ls files r whole byte cause e f = record {
 pub gives_text_fault : Laws → (files : Contents) (r : AskedRun) (text : List ℕ) (o : Outcome) → BeginsFile files r.query text → IsTextFault text o → Gives files (run r) o 0 []
 gives_text_fault ls files r text Done b h = absurd h
 gives_text_fault ls files r text Usage b h = absurd h
+gives_text_fault ls files r text (SecondQueryFault place why) b h = absurd h
+gives_text_fault ls files r text (Unchainable which) b h = absurd h
+gives_text_fault ls files r text (ChainLineRefused place why) b h = absurd h
 gives_text_fault ls files r text (FileCount s g) b h = absurd h
 gives_text_fault ls files r text (LineRefused s n c) b h = absurd h
 gives_text_fault ls files r text (OpenFault f) b h = absurd h
@@ -128,6 +143,9 @@ gives_text_fault ls files r text (QueryFault byte cause) b h = let w = begun_fau
 pub text_fault_after : (text : List ℕ) (o : Outcome) → IsTextFault text o → IsRefused o
 text_fault_after text Done h = absurd h
 text_fault_after text Usage h = absurd h
+text_fault_after text (SecondQueryFault place why) h = absurd h
+text_fault_after text (Unchainable which) h = absurd h
+text_fault_after text (ChainLineRefused place why) h = absurd h
 text_fault_after text (FileCount s g) h = absurd h
 text_fault_after text (QueryFault b c) h = tt
 text_fault_after text (LineRefused s n c) h = absurd h
@@ -223,6 +241,9 @@ over_ends files r p all o u f = record { plan = p; task = r.task; ring = r.ring;
 run_cause : (due : Due → Type 0) (o : Outcome) → IsOfRun o → Ends due o → HasCause due o
 run_cause due Done k f = inl f
 run_cause due Usage k f = absurd k
+run_cause due (SecondQueryFault place why) k f = absurd k
+run_cause due (Unchainable which) k f = absurd k
+run_cause due (ChainLineRefused place why) k f = absurd k
 run_cause due (FileCount s g) k f = absurd k
 run_cause due (QueryFault b x) k f = absurd k
 run_cause due (LineRefused s n x) k f = f
@@ -235,6 +256,9 @@ run_cause due NoMemory k f = tt
 run_allows : (o : Outcome) (q : Tree) (n ring : ℕ) (flush : Bool) (read : Read) → IsOfRun o → EndsSo q n ring flush read o → Allows (runs q n ring flush read) o
 run_allows Done q n ring flush read k f = inl (tt, f)
 run_allows Usage q n ring flush read k f = absurd k
+run_allows (SecondQueryFault place why) q n ring flush read k f = absurd k
+run_allows (Unchainable which) q n ring flush read k f = absurd k
+run_allows (ChainLineRefused place why) q n ring flush read k f = absurd k
 run_allows (FileCount s g) q n ring flush read k f = absurd k
 run_allows (QueryFault b x) q n ring flush read k f = absurd k
 run_allows (LineRefused s l x) q n ring flush read k f = inl (tt, f)
@@ -274,6 +298,9 @@ over_gives ls files r p all o tasks out u k a = record {
 no_end_lacks : (o : Outcome) → IsNoEnd o → IsFileFault o ⊎ (o ≡ NoMemory)
 no_end_lacks Done h = absurd h
 no_end_lacks Usage h = absurd h
+no_end_lacks (SecondQueryFault place why) h = absurd h
+no_end_lacks (Unchainable which) h = absurd h
+no_end_lacks (ChainLineRefused place why) h = absurd h
 no_end_lacks (FileCount s g) h = absurd h
 no_end_lacks (QueryFault b c) h = absurd h
 no_end_lacks (LineRefused s n c) h = absurd h

@@ -19,7 +19,7 @@ use Rattle.saber_check.specs.Outcome.{IsFaultOf}
 use Rattle.saber_check.specs.Texts.{HasPlan, HasFault, fails_checks, IsFaultIn}
 use Rattle.saber_words.specs.Commands.{run, check, AskedCheck}
 use Rattle.saber_notes.specs.declared.outcome.Outcome.{Outcome}
-use Rattle.saber_notes.specs.declared.outcome.Outcome.TheVariants.{Done, Usage, FileCount, QueryFault, LineRefused, OpenFault, ReadFault, TooWide, WriteFault, NoMemory}
+use Rattle.saber_notes.specs.declared.outcome.Outcome.TheVariants.{Done, Usage, FileCount, QueryFault, SecondQueryFault, Unchainable, LineRefused, ChainLineRefused, OpenFault, ReadFault, TooWide, WriteFault, NoMemory}
 use Rattle.saber_cli.specs.Laws.{Laws}
 use Rattle.saber_cli.specs.Outcomes.{IsBeforeRun, IsFileFault, IsQueryFault, IsOfShow}
 use Rattle.saber_cli.specs.Texts.{BeginsFile}
@@ -142,6 +142,9 @@ gives_refused ls files c whole byte cause e f = record {
 gives_not_shown : Laws → (files : Contents) (c : AskedCheck) (text : List ℕ) (o : Outcome) → BeginsFile files c.query text → IsTextFault text o → Gives files (check c) o 0 []
 gives_not_shown ls files c text Done b h = absurd h
 gives_not_shown ls files c text Usage b h = absurd h
+gives_not_shown ls files c text (SecondQueryFault place why) b h = absurd h
+gives_not_shown ls files c text (Unchainable which) b h = absurd h
+gives_not_shown ls files c text (ChainLineRefused place why) b h = absurd h
 gives_not_shown ls files c text (FileCount s g) b h = absurd h
 gives_not_shown ls files c text (LineRefused s n k) b h = absurd h
 gives_not_shown ls files c text (OpenFault f) b h = absurd h
@@ -161,6 +164,9 @@ put_showed text shown Done out s k (no_text n w) = absurd (n refl)
 put_showed text shown WriteFault out s k (no_text n w) = cut_short shown 0 refl s w
 put_showed text shown NoMemory out s k (no_text n w) = not_shown tt w
 put_showed text shown Usage out s k (no_text n w) = absurd k
+put_showed text shown (SecondQueryFault place why) out s k (no_text n w) = absurd k
+put_showed text shown (Unchainable which) out s k (no_text n w) = absurd k
+put_showed text shown (ChainLineRefused place why) out s k (no_text n w) = absurd k
 put_showed text shown (FileCount a b) out s k (no_text n w) = absurd k
 put_showed text shown (QueryFault a b) out s k (no_text n w) = absurd k
 put_showed text shown (LineRefused a b d) out s k (no_text n w) = absurd k
@@ -173,6 +179,9 @@ put_kinds Done k = tt
 put_kinds WriteFault k = tt
 put_kinds NoMemory k = tt
 put_kinds Usage k = absurd k
+put_kinds (SecondQueryFault place why) k = absurd k
+put_kinds (Unchainable which) k = absurd k
+put_kinds (ChainLineRefused place why) k = absurd k
 put_kinds (FileCount a b) k = absurd k
 put_kinds (QueryFault a b) k = absurd k
 put_kinds (LineRefused a b d) k = absurd k
@@ -190,6 +199,9 @@ gives_show ls files c text o out b (not_shown h k) = subst (Gives files (check c
 pub show_early : (o : Outcome) → IsOfShow o → IsBeforeRun o → IsQueryFault o
 show_early Done h b = b
 show_early Usage h b = h
+show_early (SecondQueryFault place why) h b = h
+show_early (Unchainable which) h b = h
+show_early (ChainLineRefused place why) h b = h
 show_early (FileCount s g) h b = h
 show_early (QueryFault b c) h k = tt
 show_early (LineRefused s n c) h b = b
@@ -203,6 +215,9 @@ show_early NoMemory h b = b
 pub show_reads : (o : Outcome) → IsOfShow o → IsFileFault o → ⊥
 show_reads Done h f = f
 show_reads Usage h f = f
+show_reads (SecondQueryFault place why) h f = f
+show_reads (Unchainable which) h f = f
+show_reads (ChainLineRefused place why) h f = f
 show_reads (FileCount s g) h f = f
 show_reads (QueryFault b c) h f = f
 show_reads (LineRefused s n c) h f = f

@@ -1,18 +1,21 @@
 -- From what is due for a command to what is due for the words.
-use Rattle.std.proofs.Common.{◌≡◌, inl, inr, ℕ, List, [], Some, None, refl, sym, ◌∙◌, subst}
+use Rattle.std.proofs.Common.{◌≡◌, inl, inr, ℕ, List, [], Option, Some, None, refl, sym, ◌∙◌, subst}
 use Rattle.saber_words.specs.Commands.{Asked, command_of}
 use Rattle.saber_words.specs.declared.commands.WordsFault.{WordsFault}
 use Rattle.saber_words.specs.declared.commands.WordsFault.TheVariants as fault
 use Rattle.saber_notes.specs.declared.outcome.InputFile.{InputFile}
 use Rattle.saber_notes.specs.declared.outcome.Outcome.{Outcome}
-use Rattle.saber_notes.specs.declared.outcome.Outcome.TheVariants.{Done, Usage, FileCount, QueryFault, LineRefused, OpenFault, ReadFault, TooWide, WriteFault, NoMemory}
+use Rattle.saber_notes.specs.declared.outcome.Outcome.TheVariants.{Done, Usage, FileCount, QueryFault, SecondQueryFault, Unchainable, LineRefused, ChainLineRefused, OpenFault, ReadFault, TooWide, WriteFault, NoMemory}
 use Rattle.saber_cli.specs.Laws.{Laws}
-use Rattle.saber_cli.specs.Due.{Contents, Due, IsDueFor, IsDue, no_command, by_command}
+use Rattle.saber_io.specs.Outside.{Told}
+use Rattle.saber_cli.specs.Due.{Contents, Due, IsDueFor, IsDue, no_command, by_command, names_of, AsksRows}
+use Rattle.saber_cli.specs.Leaves.{LeavesTold}
 use Rattle.saber_cli.specs.Causes.{HasCause, Allows, Ends, ShowsText, TellsSummary}
 use Rattle.saber_cli.specs.Puts.{PutsOut}
 use Rattle.saber_cli.specs.Gives.{Gives, Answers}
 use Rattle.saber_cli.specs.Unread.{unread}
 use Rattle.saber_cli.proofs.DueLemmas.{memory_allowed_for, early_puts}
+use Rattle.saber_cli.proofs.LeavesLemmas.{none_left}
 
 -- ---- causes
 
@@ -31,6 +34,9 @@ more_cause p q Done f (inl e) = inl (more_ends p q _ f e)
 more_cause p q Done f (inr (inl s)) = inr (inl (more_shows p q f s))
 more_cause p q Done f (inr (inr s)) = inr (inr (more_tells p q f s))
 more_cause p q Usage f h = f _ h
+more_cause p q (SecondQueryFault place why) f h = absurd h
+more_cause p q (Unchainable which) f h = absurd h
+more_cause p q (ChainLineRefused place why) f h = absurd h
 more_cause p q (FileCount s g) f h = f _ h
 more_cause p q (QueryFault b c) f h = f _ h
 more_cause p q (LineRefused s n c) f h = more_ends p q _ f h
@@ -86,3 +92,8 @@ unread_not_read fault.Usage file e = cc
 pub unread_answers : Laws → (ws : List (List ℕ)) (files : Contents) (f : WordsFault) → (f ≡ fault.Usage → command_of ws ≡ None) → Answers ws files (unread f) 0 []
 unread_answers ls ws files fault.NoMemory h = record { cause = tt; allows = memory_allowed ws files; puts = memory_puts ls ws files }
 unread_answers ls ws files fault.Usage h = usage_answers ws files (h refl)
+
+-- none of their files is asked for
+pub unread_leave : (ws : List (List ℕ)) (c : Asked) (f : WordsFault) (told : Option Told) → (f ≡ fault.Usage → command_of ws ≡ None) → command_of ws ≡ Some c → LeavesTold c (unread f) told told
+unread_leave ws c fault.NoMemory told h is = none_left (names_of c) (λ t. AsksRows t.contents c) NoMemory told refl
+unread_leave ws c fault.Usage told h is = let clash : Some c ≡ None = sym is ∙ h refl in cc

@@ -8,7 +8,7 @@ use Rattle.saber_plan.specs.Answers.{with_key, keys_of, lines, text}
 use Rattle.saber_demo.specs.Generator.{state}
 use Rattle.saber_demo.specs.Summary.{summary}
 use Rattle.saber_notes.specs.declared.outcome.InputFile.{InputFile}
-use Rattle.saber_notes.specs.declared.outcome.Outcome.TheVariants.{Done, OpenFault, ReadFault, WriteFault, NoMemory}
+use Rattle.saber_notes.specs.declared.outcome.Outcome.TheVariants.{Done, OpenFault, ReadFault}
 use Rattle.saber_cli.specs.Due.{tells}
 use Rattle.saber_cli.specs.Causes.{Allows}
 use Rattle.saber_cli.specs.Puts.{PutsOut, whole_text, part, no_text}

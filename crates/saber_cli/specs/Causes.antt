@@ -4,7 +4,7 @@ use Rattle.saber_plan.specs.Rows.{Read}
 use Rattle.saber_plan.specs.Trees.{Tree}
 use Rattle.saber_engine.specs.Gives.{IsClean}
 use Rattle.saber_notes.specs.declared.outcome.Outcome.{Outcome}
-use Rattle.saber_notes.specs.declared.outcome.Outcome.TheVariants.{Done, Usage, FileCount, QueryFault, LineRefused, OpenFault, ReadFault, TooWide, WriteFault, NoMemory}
+use Rattle.saber_notes.specs.declared.outcome.Outcome.TheVariants.{Done, Usage, FileCount, QueryFault, SecondQueryFault, Unchainable, LineRefused, ChainLineRefused, OpenFault, ReadFault, TooWide, WriteFault, NoMemory}
 use Rattle.saber_cli.specs.Outcomes.{IsFileFault, IsQueryUnread}
 use Rattle.saber_cli.specs.Endings.{end_of, EndsSo}
 use Rattle.saber_cli.specs.Due.{Due, usage, missing, faulty, unlike, shows, tells, runs}
@@ -31,12 +31,16 @@ pub record TellsSummary (due : Due → Type 0) : Type 0 where
   pub is_due : due (tells out count)
 
 -- Each outcome has its cause in what is due. A fault of a file or of the sink has its own in a count of faults, and want of memory has none.
+-- What a second query comes to has none here: it is of a chain.
 abbrev pub HasCause : (Due → Type 0) → Outcome → Type 0
 HasCause due Done = Ends due Done ⊎ (ShowsText due ⊎ TellsSummary due)
 HasCause due Usage = due usage
 HasCause due (FileCount streams given) = due (unlike streams given)
 HasCause due (QueryFault byte cause) = due (faulty byte cause)
+HasCause due (SecondQueryFault byte cause) = ⊥
+HasCause due (Unchainable file) = ⊥
 HasCause due (LineRefused side line cause) = Ends due (LineRefused side line cause)
+HasCause due (ChainLineRefused line cause) = ⊥
 HasCause due (OpenFault file) = Unit {0}
 HasCause due (ReadFault file) = Unit {0}
 HasCause due (TooWide task need ring) = Ends due (TooWide task need ring)

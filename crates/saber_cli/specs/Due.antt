@@ -1,5 +1,5 @@
 -- What is due for some words and the contents of files, with no fault and memory enough.
-use Rattle.std.specs.Prelude.{Bool, ◌≡◌, ◌≢◌, ℕ, List, [], ◌∷◌, ◌++◌, length, Option, Some, None, option_map, option_and_then, option_to_list}
+use Rattle.std.specs.Prelude.{Bool, ◌≡◌, ◌≢◌, ℕ, List, [], ◌∷◌, ◌++◌, length, Option, Some, None, option_map, option_and_then, option_to_list, false}
 use Rattle.saber_plan.specs.Rows.{Read}
 use Rattle.saber_plan.specs.Trees.{Tree}
 use Rattle.saber_plan.specs.Sizes.{FileLimits}
@@ -12,7 +12,8 @@ use Rattle.saber_query.specs.Means.{MeansTree}
 use Rattle.saber_query.specs.Spelling.{spelled}
 use Rattle.saber_check.specs.Outcome.{IsFaultless}
 use Rattle.saber_check.specs.Texts.{HasPlan, HasFault}
-use Rattle.saber_words.specs.Commands.{Asked, run, check, demo, AskedRun, command_of}
+use Rattle.saber_words.specs.Chain.{AskedChain}
+use Rattle.saber_words.specs.Commands.{Asked, run, check, demo, chain, AskedRun, command_of}
 use Rattle.saber_engine.specs.Sources.{input_of}
 use Rattle.saber_cli.specs.Demo.{summary_of_run, tasks_of_run}
 
@@ -28,11 +29,16 @@ row_names r = r.left ∷ option_to_list r.right
 abbrev pub asked_limits : AskedRun → FileLimits
 asked_limits r = record { most = r.most; slack = r.slack }
 
+-- the run of the first query of a chain, over its row files
+abbrev pub first_run : AskedChain → AskedRun
+first_run a = record { query = a.first; left = a.left; right = a.right; task = a.task; ring = a.ring; threads = a.threads; most = a.most; slack = a.slack; flush = false }
+
 -- all files of a command, in that order
 abbrev pub names_of : Asked → List (List ℕ)
 names_of (run r) = r.query ∷ row_names r
 names_of (check c) = c.query ∷ []
 names_of (demo d) = []
+names_of (chain a) = a.first ∷ a.second ∷ row_names (first_run a)
 
 -- what the files with these names have, if each is there
 abbrev pub contents_of : Contents → List (List ℕ) → Option (List (List ℕ))
@@ -65,11 +71,12 @@ pub record HasRun (files : Contents) (asked : AskedRun) (q : Tree) : Type 0 wher
 abbrev pub IsLike : AskedRun → Tree → Type 0
 IsLike asked q = length q.streams ≡ length (row_names asked)
 
--- the row files are asked for: those of a run whose query has a plan, with a file for each of its streams
+-- the row files are asked for: those of a run whose query has a plan, with a file for each of its streams. Of a chain see ChainLeaves.
 abbrev pub AsksRows : Contents → Asked → Type 0
 AsksRows files (run r) = (q : Tree) × HasRun files r q × IsLike r q
 AsksRows files (check c) = ⊥
 AsksRows files (demo d) = ⊥
+AsksRows files (chain a) = ⊥
 
 -- a file of a command isn't there: the query's, or one of the row files of a run
 pub data IsMissing (files : Contents) (query : List ℕ) (command : Asked) : Type 0 where
@@ -94,27 +101,44 @@ pub record AsksFor (asked : AskedRun) (n ring : ℕ) (flush : Bool) : Type 0 whe
   pub cells : ring ≡ asked.ring
   pub closes : flush ≡ asked.flush
 
--- what is due for a command
+-- What is due for a command that is no chain; of a chain see Chained.
 abbrev pub IsDueFor : Contents → Asked → Due → Type 0
 IsDueFor files c usage = ⊥
 IsDueFor files (run r) missing = IsMissing files r.query (run r)
 IsDueFor files (check c) missing = IsMissing files c.query (check c)
 IsDueFor files (demo d) missing = ⊥
+IsDueFor files (chain a) missing = ⊥
 IsDueFor files (run r) (faulty byte cause) = IsFaulty files r.query byte cause
 IsDueFor files (check c) (faulty byte cause) = IsFaulty files c.query byte cause
 IsDueFor files (demo d) (faulty byte cause) = ⊥
+IsDueFor files (chain a) (faulty byte cause) = ⊥
 IsDueFor files (run r) (unlike streams given) = (q : Tree) × HasRun files r q × (length q.streams ≡ streams) × (length (row_names r) ≡ given) × (streams ≢ given)
 IsDueFor files (check r) (unlike streams given) = ⊥
 IsDueFor files (demo d) (unlike streams given) = ⊥
+IsDueFor files (chain a) (unlike streams given) = ⊥
 IsDueFor files (run r) (shows out) = ⊥
 IsDueFor files (check r) (shows out) = (text : List ℕ) × (content_in files r.query ≡ Some text) × Shows text out
 IsDueFor files (demo d) (shows out) = ⊥
+IsDueFor files (chain a) (shows out) = ⊥
 IsDueFor files (run r) (tells out count) = ⊥
 IsDueFor files (check r) (tells out count) = ⊥
 IsDueFor files (demo d) (tells out count) = (out ≡ summary_of_run d.seed d.rows) × (count ≡ tasks_of_run d)
+IsDueFor files (chain a) (tells out count) = ⊥
 IsDueFor files (run r) (runs q n ring flush read) = (all : List (List ℕ)) × HasRun files r q × IsLike r q × (contents_of files (row_names r) ≡ Some all) × AsksFor r n ring flush × (read ≡ input_of q (asked_limits r) all)
 IsDueFor files (check r) (runs q n ring flush read) = ⊥
 IsDueFor files (demo d) (runs q n ring flush read) = ⊥
+IsDueFor files (chain a) (runs q n ring flush read) = ⊥
+
+-- the command is no chain
+abbrev pub IsPlain : Asked → Type 0
+IsPlain (run r) = Unit {0}
+IsPlain (check c) = Unit {0}
+IsPlain (demo d) = Unit {0}
+IsPlain (chain a) = ⊥
+
+-- the words are no chain
+abbrev pub AreNoChain : List (List ℕ) → Type 0
+AreNoChain ws = (a : AskedChain) → command_of ws ≢ Some (chain a)
 
 -- what is due for some words
 pub data IsDue (ws : List (List ℕ)) (files : Contents) (d : Due) : Type 0 where

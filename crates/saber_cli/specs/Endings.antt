@@ -2,6 +2,7 @@
 use Rattle.std.specs.Prelude.{Bool, ◌≡◌, ℕ}
 use Rattle.saber_plan.specs.declared.rows.Side.{Side}
 use Rattle.saber_plan.specs.declared.rows.Side.TheVariants as sides
+use Rattle.saber_plan.specs.declared.rows.RowCause.{RowCause}
 use Rattle.saber_plan.specs.Rows.{Read}
 use Rattle.saber_plan.specs.Trees.{Tree}
 use Rattle.saber_plan.specs.Tasks.{run_input}
@@ -11,7 +12,7 @@ use Rattle.saber_engine.specs.Gives.{EndsAs}
 use Rattle.saber_notes.specs.declared.outcome.InputFile.{InputFile}
 use Rattle.saber_notes.specs.declared.outcome.InputFile.TheVariants.{Left, Right}
 use Rattle.saber_notes.specs.declared.outcome.Outcome.{Outcome}
-use Rattle.saber_notes.specs.declared.outcome.Outcome.TheVariants.{Done, LineRefused, ReadFault, TooWide, WriteFault, NoMemory}
+use Rattle.saber_notes.specs.declared.outcome.Outcome.TheVariants.{Done, LineRefused, ChainLineRefused, ReadFault, TooWide, WriteFault, NoMemory}
 
 -- the row file of a side
 abbrev pub file_on : Side → InputFile
@@ -26,6 +27,22 @@ ended_as ring (ends.ReadFault side) = ReadFault (file_on side)
 ended_as ring (ends.TooWide task need) = TooWide task need ring
 ended_as ring ends.WriteFault = WriteFault
 ended_as ring ends.NoMemory = NoMemory
+
+-- the outcome of a chain whose second query refuses this line of the first one's text: that, where the text is whole, and else the first one's end
+abbrev pub refused_as : ℕ → ℕ → RowCause → RunEnd → Outcome
+refused_as ring line cause ends.AllRead = ChainLineRefused line cause
+refused_as ring line cause (ends.Bad side number why) = ChainLineRefused line cause
+refused_as ring line cause first = ended_as ring first
+
+-- The outcome of a chain whose queries, each on a ring of so many cells, ended so. A fault of writing and want of memory of the second one come before
+-- what the first one came to; then the line that it refuses, of a text that is whole; and else the chain ends as the first one does.
+abbrev pub chained_as : ℕ → RunEnd → RunEnd → Outcome
+chained_as ring first ends.WriteFault = WriteFault
+chained_as ring first ends.NoMemory = NoMemory
+chained_as ring first (ends.Bad side line cause) = refused_as ring line cause first
+chained_as ring first ends.AllRead = ended_as ring first
+chained_as ring first (ends.ReadFault side) = ended_as ring first
+chained_as ring first (ends.TooWide task need) = ended_as ring first
 
 -- The end of a run that an outcome tells. One that tells nothing of the rows and the tasks is like want of memory in this.
 abbrev pub end_of : Outcome → RunEnd

@@ -3,17 +3,18 @@ use Rattle.std.specs.Prelude.{◌≡◌, ◌<◌, ◌≤◌, ℕ, ◌+◌, List,
 use Rattle.saber_io.specs.Outside.{Told, Closed}
 use Rattle.saber_words.specs.Commands.{Asked}
 use Rattle.saber_notes.specs.declared.outcome.InputFile.{InputFile}
-use Rattle.saber_notes.specs.declared.outcome.InputFile.TheVariants.{Query, Left, Right}
+use Rattle.saber_notes.specs.declared.outcome.InputFile.TheVariants.{Query, Left, Right, SecondQuery}
 use Rattle.saber_notes.specs.declared.outcome.Outcome.{Outcome}
-use Rattle.saber_notes.specs.declared.outcome.Outcome.TheVariants.{Done, Usage, FileCount, QueryFault, LineRefused, OpenFault, ReadFault, TooWide, WriteFault, NoMemory}
+use Rattle.saber_notes.specs.declared.outcome.Outcome.TheVariants.{Done, Usage, FileCount, QueryFault, SecondQueryFault, Unchainable, LineRefused, ChainLineRefused, OpenFault, ReadFault, TooWide, WriteFault, NoMemory}
 use Rattle.saber_cli.specs.Due.{Contents, names_of, AsksRows}
 use Rattle.saber_cli.specs.Uses.{IsOf}
 
--- the place of a file among those of its command, in the order in which they are opened
+-- The place of a file among those of its command, in the order in which they are opened; no command but a chain has a second query.
 abbrev pub place_of : InputFile → ℕ
 place_of Query = 0
 place_of Left = 1
 place_of Right = 2
+place_of SecondQuery = 1
 
 -- no source that was given back had faults
 abbrev pub HadNoFaults : List Closed → Type 0
@@ -43,6 +44,11 @@ Matches all (TooWide task need ring) asked given_back = AreGivenBack all asked g
 Matches all Usage asked given_back = AreGivenBack 0 asked given_back
 Matches all (QueryFault byte cause) asked given_back = AreGivenBack 1 asked given_back
 Matches all (FileCount streams given) asked given_back = AreGivenBack 1 asked given_back
+Matches all (SecondQueryFault byte cause) asked given_back = ⊥
+Matches all (Unchainable file) asked given_back = ⊥
+Matches all (ChainLineRefused line cause) asked given_back = ⊥
+Matches all (OpenFault SecondQuery) asked given_back = ⊥
+Matches all (ReadFault SecondQuery) asked given_back = ⊥
 Matches all (OpenFault file) asked given_back = (asked ≡ place_of file + 1) × (length given_back ≡ place_of file) × HadNoFaults given_back
 Matches all (ReadFault Query) asked given_back = (asked ≡ 1) × (length given_back ≡ asked) × HadFaults given_back 0
 Matches all (ReadFault file) asked given_back = (asked ≡ all) × (length given_back ≡ asked) × HadFaults given_back (place_of file)

@@ -16,3 +16,6 @@ pub mod Gives
 pub mod Unread
 pub mod Demo
 pub mod Tells
+pub mod Chained
+pub mod ChainLeaves
+pub mod Chaining

@@ -1,7 +1,7 @@
 -- Kinds of outcomes.
-use Rattle.saber_notes.specs.declared.outcome.InputFile.TheVariants.{Query, Left, Right}
+use Rattle.saber_notes.specs.declared.outcome.InputFile.TheVariants.{Query, Left, Right, SecondQuery}
 use Rattle.saber_notes.specs.declared.outcome.Outcome.{Outcome}
-use Rattle.saber_notes.specs.declared.outcome.Outcome.TheVariants.{Done, Usage, FileCount, QueryFault, LineRefused, OpenFault, ReadFault, TooWide, WriteFault, NoMemory}
+use Rattle.saber_notes.specs.declared.outcome.Outcome.TheVariants.{Done, Usage, FileCount, QueryFault, SecondQueryFault, Unchainable, LineRefused, ChainLineRefused, OpenFault, ReadFault, TooWide, WriteFault, NoMemory}
 
 -- a file was not opened or not read
 abbrev pub IsFileFault : Outcome → Type 0
@@ -15,13 +15,16 @@ IsQueryUnread (OpenFault Query) = Unit {0}
 IsQueryUnread (ReadFault Query) = Unit {0}
 IsQueryUnread _ = ⊥
 
--- an answer of the words, the query, the rows and the ring alone: nothing failed, and memory was enough
+-- an answer of the words, the queries, the rows and the ring alone: nothing failed, and memory was enough
 abbrev pub IsClean : Outcome → Type 0
 IsClean Done = Unit {0}
 IsClean Usage = Unit {0}
 IsClean (FileCount streams given) = Unit {0}
 IsClean (QueryFault byte cause) = Unit {0}
+IsClean (SecondQueryFault byte cause) = Unit {0}
+IsClean (Unchainable file) = Unit {0}
 IsClean (LineRefused side line cause) = Unit {0}
+IsClean (ChainLineRefused line cause) = Unit {0}
 IsClean (TooWide task need ring) = Unit {0}
 IsClean _ = ⊥
 
@@ -34,8 +37,11 @@ abbrev pub IsBeforeRun : Outcome → Type 0
 IsBeforeRun Usage = Unit {0}
 IsBeforeRun (FileCount streams given) = Unit {0}
 IsBeforeRun (QueryFault byte cause) = Unit {0}
+IsBeforeRun (SecondQueryFault byte cause) = Unit {0}
+IsBeforeRun (Unchainable file) = Unit {0}
 IsBeforeRun (OpenFault file) = Unit {0}
 IsBeforeRun (ReadFault Query) = Unit {0}
+IsBeforeRun (ReadFault SecondQuery) = Unit {0}
 IsBeforeRun _ = ⊥
 
 -- a row file was not opened
@@ -57,6 +63,41 @@ IsOfRun (TooWide task need ring) = Unit {0}
 IsOfRun WriteFault = Unit {0}
 IsOfRun NoMemory = Unit {0}
 IsOfRun _ = ⊥
+
+-- of a second query, so of a chain alone
+abbrev pub IsOfSecond : Outcome → Type 0
+IsOfSecond (SecondQueryFault byte cause) = Unit {0}
+IsOfSecond (Unchainable file) = Unit {0}
+IsOfSecond (ChainLineRefused line cause) = Unit {0}
+IsOfSecond (OpenFault SecondQuery) = Unit {0}
+IsOfSecond (ReadFault SecondQuery) = Unit {0}
+IsOfSecond _ = ⊥
+
+-- how a chain over its row files can end
+abbrev pub IsOfChain : Outcome → Type 0
+IsOfChain (ChainLineRefused line cause) = Unit {0}
+IsOfChain o = IsOfRun o
+
+-- why there is no plan of a query
+abbrev pub IsOfPlan : Outcome → Type 0
+IsOfPlan (QueryFault byte cause) = Unit {0}
+IsOfPlan (OpenFault Query) = Unit {0}
+IsOfPlan (ReadFault Query) = Unit {0}
+IsOfPlan NoMemory = Unit {0}
+IsOfPlan _ = ⊥
+
+-- why there are no two plans that chain
+abbrev pub IsOfPlans : Outcome → Type 0
+IsOfPlans (QueryFault byte cause) = Unit {0}
+IsOfPlans (SecondQueryFault byte cause) = Unit {0}
+IsOfPlans (Unchainable file) = Unit {0}
+IsOfPlans (FileCount streams given) = Unit {0}
+IsOfPlans (OpenFault Query) = Unit {0}
+IsOfPlans (OpenFault SecondQuery) = Unit {0}
+IsOfPlans (ReadFault Query) = Unit {0}
+IsOfPlans (ReadFault SecondQuery) = Unit {0}
+IsOfPlans NoMemory = Unit {0}
+IsOfPlans _ = ⊥
 
 -- before there is any text, and with no end of the rows
 abbrev pub IsNoEnd : Outcome → Type 0

@@ -4,7 +4,7 @@ ghost use Rattle.saber_io.specs.Outside.{Rose, appended};
 ghost use Rattle.saber_words.specs.declared.commands.Command.{Command};
 ghost use Rattle.saber_words.specs.Commands.{asked, asked_run, AskedRun, run, IsSized};
 ghost use Rattle.saber_notes.specs.declared.outcome.Outcome.{Outcome};
-ghost use Rattle.saber_cli.specs.Outcomes.{IsClean, IsFileFault, IsBeforeRun};
+ghost use Rattle.saber_cli.specs.Outcomes.{IsClean, IsFileFault, IsBeforeRun, IsOfSecond};
 ghost use Rattle.saber_cli.specs.Due.{row_names};
 ghost use Rattle.saber_cli.specs.Gives.{Gives};
 ghost use Rattle.saber_cli.specs.Leaves.{LeavesTold};
@@ -48,6 +48,7 @@ pub(crate) fn run_command<F: Files, K: Sink + Send, G: Gate + Sync, R: Threads +
         × IfSome (F.told files.old) (λ t. Gives t.contents (asked (Command.Run command.now)) result.outcome result.tasks out) }
     ensures early { IsBeforeRun result.outcome → (result.tasks ≡ 0) × (result.sink ≡ sink) }
     ensures kinds { result.outcome ≢ Outcome.Usage }
+    ensures alone { IsOfSecond result.outcome → ⊥ }
     ensures leaves { LeavesTold (asked (Command.Run command.now)) result.outcome (F.told files.old) (F.told files.new) }
     ensures taken { (r : AskedRun) → asked (Command.Run command.now) ≡ run r → TakesTold r result.outcome result.tasks (F.told files.old) (F.told files.new) }
     ensures cause { IsFileFault result.outcome → Rose (F.faults files.old) (F.faults files.new) }
@@ -103,6 +104,7 @@ pub(crate) fn check_command<F: Files, K: Sink>(
         × IfSome (F.told files.old) (λ t. Gives t.contents (asked (Command.Check command.now)) result.outcome result.tasks out) }
     ensures early { IsBeforeRun result.outcome → (result.tasks ≡ 0) × (result.sink ≡ sink) }
     ensures kinds { result.outcome ≢ Outcome.Usage }
+    ensures alone { IsOfSecond result.outcome → ⊥ }
     ensures leaves { LeavesTold (asked (Command.Check command.now)) result.outcome (F.told files.old) (F.told files.new) }
     ensures cause { IsFileFault result.outcome → Rose (F.faults files.old) (F.faults files.new) }
     ensures read_good { IsClean result.outcome → F.faults files.new ≡ F.faults files.old }

@@ -2,12 +2,15 @@
 #![tactic(auto)]
 
 mod answer;
+mod chain_answer;
+mod chains;
 mod commands;
 mod demo;
 mod laws;
 mod plans;
 mod puts;
 mod queries;
+mod query_plans;
 mod row_files;
 mod runs;
 mod shows;
@@ -20,6 +23,8 @@ pub use saber_notes::{InputFile, Noted, Outcome};
 pub use saber_words::WordsFault;
 pub use top::{Ended, Refused, refuse_words, saber};
 
+#[cfg(test)]
+mod chain_tests;
 #[cfg(test)]
 mod demo_tests;
 #[cfg(test)]

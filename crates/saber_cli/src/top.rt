@@ -1,13 +1,17 @@
 // The top call.
 ghost use Rattle.std.specs.Prelude.{◌≡◌, ◌≢◌, ◌≤◌, ℕ, List, IfSome, None, Some, map};
 ghost use Rattle.saber_io.specs.Outside.{Rose, appended, AppendsPrefix};
-ghost use Rattle.saber_words.specs.Commands.{Asked, AskedRun, run, demo, command_of};
+ghost use Rattle.saber_words.specs.Commands.{Asked, AskedRun, run, demo, chain, command_of};
+ghost use Rattle.saber_words.specs.Chain.{AskedChain};
 ghost use Rattle.saber_words.specs.Demo.{AskedDemo};
 ghost use Rattle.saber_notes.specs.Notes.{status_of, note_of};
 ghost use Rattle.saber_notes.specs.declared.outcome.Outcome.{Outcome};
 ghost use Rattle.saber_notes.specs.declared.note.Noted.{Noted};
-ghost use Rattle.saber_cli.specs.Outcomes.{IsClean, IsFileFault, IsBeforeRun};
+ghost use Rattle.saber_cli.specs.Outcomes.{IsClean, IsFileFault, IsBeforeRun, IsOfSecond};
+ghost use Rattle.saber_cli.specs.Due.{IsPlain, AreNoChain};
 ghost use Rattle.saber_cli.specs.Gives.{Answers};
+ghost use Rattle.saber_cli.specs.Chained.{AnswersChain};
+ghost use Rattle.saber_cli.specs.ChainLeaves.{LeavesChain};
 ghost use Rattle.saber_cli.specs.Leaves.{LeavesTold};
 ghost use Rattle.saber_cli.specs.Taken.{TakesTold};
 ghost use Rattle.saber_cli.specs.Tells.{TellsRun};
@@ -43,7 +47,7 @@ pub struct Ended<K> {
 ///
 /// What is said of contents holds where the files, the sink and the notes tell theirs, as those in
 /// memory do.
-pub fn saber<F: Files, K: Sink + Send, N: Sink, G: Gate + Sync, R: Threads + Wait + Sync>(
+pub fn saber<F: Files, K: Sink + Send + Drop, N: Sink, G: Gate + Sync, R: Threads + Wait + Sync>(
     rt: &R,
     alloc: Global,
     words: &[&str],
@@ -52,16 +56,23 @@ pub fn saber<F: Files, K: Sink + Send, N: Sink, G: Gate + Sync, R: Threads + Wai
     notes: &mut N,
     gate: &G,
 ) -> Ended<K>
+where
+    F::Src: Send + Drop,
     ensures status { result.status ≡ status_of result.outcome }
 
-    // What goes out is the text of the first tasks' rows, the outcome has its cause, and is one that what is due allows.
+    // What goes out is the text of the first tasks' rows, the outcome has its cause, and is one that what is due allows. Of a chain see `chained`.
     ensures answers { (out : List ℕ) × (K.written result.sink ≡ appended (K.written sink) out)
-        × IfSome (F.told files.old) (λ t. Answers (map (λ word. word.now) words.now) t.contents result.outcome result.tasks out) }
+        × (AreNoChain (map (λ word. word.now) words.now) → IfSome (F.told files.old) (λ t. Answers (map (λ word. word.now) words.now) t.contents result.outcome result.tasks out)) }
     ensures before { IsBeforeRun result.outcome → (result.tasks ≡ 0) × (result.sink ≡ sink) }
 
     // A run over generated rows tells its summary, whatever files there are: of the seed and the number of rows alone.
     ensures told { (d : AskedDemo) → command_of (map (λ word. word.now) words.now) ≡ Some (demo d) →
         TellsRun d result.outcome result.tasks (K.written sink) (K.written result.sink) }
+
+    // A chain answers the second query over the lines of the first, and its outcome has its cause: in the texts, in how they fit, or in both runs.
+    ensures chained { (a : AskedChain) → command_of (map (λ word. word.now) words.now) ≡ Some (chain a) →
+        AnswersChain a result.outcome result.tasks (F.told files.old) (K.written sink) (K.written result.sink) }
+    ensures second { IsOfSecond result.outcome → (a : AskedChain) × (command_of (map (λ word. word.now) words.now) ≡ Some (chain a)) }
 
     // Words that are no command, whether the files tell or not.
     ensures unread { command_of (map (λ word. word.now) words.now) ≡ None →
@@ -76,8 +87,12 @@ pub fn saber<F: Files, K: Sink + Send, N: Sink, G: Gate + Sync, R: Threads + Wai
     ensures sink_good { result.outcome ≢ Outcome.WriteFault → K.faults result.sink ≡ K.faults sink }
 
     // Which files were asked for and given back: the row files only behind a query that has no fault and as many streams.
-    ensures leaves { (c : Asked) → command_of (map (λ word. word.now) words.now) ≡ Some c →
+    ensures leaves { (c : Asked) → command_of (map (λ word. word.now) words.now) ≡ Some c → IsPlain c →
         LeavesTold c result.outcome (F.told files.old) (F.told files.new) }
+
+    // Of a chain too: the second query's only behind a first one that has no fault, the row files only behind two that chain.
+    ensures leaves_chain { (a : AskedChain) → command_of (map (λ word. word.now) words.now) ≡ Some (chain a) →
+        LeavesChain a result.outcome (F.told files.old) (F.told files.new) }
 
     // A fault of reading leaves at least every whole task assembled of what was taken of the row files.
     ensures taken { (r : AskedRun) → command_of (map (λ word. word.now) words.now) ≡ Some (run r) →

@@ -9,7 +9,7 @@ use Rattle.saber_query.specs.declared.fault.Cause.TheVariants as query
 use Rattle.saber_notes.specs.declared.outcome.InputFile.{InputFile}
 use Rattle.saber_notes.specs.declared.outcome.InputFile.TheVariants as files
 use Rattle.saber_notes.specs.declared.outcome.Outcome.{Outcome}
-use Rattle.saber_notes.specs.declared.outcome.Outcome.TheVariants.{Done, Usage, FileCount, QueryFault, LineRefused, OpenFault, ReadFault, WriteFault, TooWide, NoMemory}
+use Rattle.saber_notes.specs.declared.outcome.Outcome.TheVariants.{Done, Usage, FileCount, QueryFault, SecondQueryFault, Unchainable, LineRefused, ChainLineRefused, OpenFault, ReadFault, WriteFault, TooWide, NoMemory}
 
 -- the status that the process ends with
 abbrev pub status_of : Outcome → ℕ
@@ -17,7 +17,10 @@ status_of Done = 0
 status_of Usage = 2
 status_of (FileCount streams given) = 2
 status_of (QueryFault byte cause) = 3
+status_of (SecondQueryFault byte cause) = 3
+status_of (Unchainable file) = 3
 status_of (LineRefused side line cause) = 4
+status_of (ChainLineRefused line cause) = 4
 status_of (OpenFault file) = 5
 status_of (ReadFault file) = 5
 status_of WriteFault = 6
@@ -61,6 +64,7 @@ abbrev pub file_text : InputFile → List ℕ
 file_text files.Query = codes "query"
 file_text files.Left = codes "left"
 file_text files.Right = codes "right"
+file_text files.SecondQuery = codes "second query"
 
 -- what a note says; a call that is done has none
 abbrev pub note_text : Outcome → List ℕ
@@ -68,7 +72,10 @@ note_text Done = []
 note_text Usage = codes "usage: saber run QUERY LEFT [RIGHT] | check QUERY | demo SEED ROWS"
 note_text (FileCount streams given) = codes "streams " ++ decimal streams ++ codes ", files " ++ decimal given
 note_text (QueryFault byte cause) = codes "query byte " ++ decimal byte ++ codes ": " ++ query_text cause
+note_text (SecondQueryFault byte cause) = codes "second query byte " ++ decimal byte ++ codes ": " ++ query_text cause
+note_text (Unchainable file) = file_text file ++ codes " byte 0: shape"
 note_text (LineRefused side line cause) = side_text side ++ codes " line " ++ decimal line ++ codes ": " ++ line_text cause
+note_text (ChainLineRefused line cause) = codes "chain line " ++ decimal line ++ codes ": " ++ line_text cause
 note_text (OpenFault file) = file_text file ++ codes ": open fault"
 note_text (ReadFault file) = file_text file ++ codes ": read fault"
 note_text WriteFault = codes "write fault"

@@ -60,12 +60,13 @@ fn side_text(side: Side) -> &'static str
 
 fn file_text(file: InputFile) -> &'static str
     ensures text { result.now ≡ file_text file }
-    ensures short { length result.now ≤ 5 }
+    ensures short { length result.now ≤ 12 }
 {
     match file {
         InputFile::Query => "query",
         InputFile::Left => "left",
         InputFile::Right => "right",
+        InputFile::SecondQuery => "second query",
     }
 }
 
@@ -95,7 +96,7 @@ fn add_file_fault(line: &mut Line, file: InputFile, fault: &str)
     requires room { length (bytes_of line.old) ≤ 64 }
     requires fault { length fault.now ≤ 16 }
     ensures bytes { bytes_of line.new ≡ bytes_of line.old ++ (file_text file ++ fault.now) }
-    ensures short { length (bytes_of line.new) ≤ length (bytes_of line.old) + 21 }
+    ensures short { length (bytes_of line.new) ≤ length (bytes_of line.old) + 28 }
 {
     line.add(file_text(file));
     line.add(fault);
@@ -121,6 +122,28 @@ fn add_query_fault(line: &mut Line, byte: u64, cause: Cause)
     line.add_number(byte);
     line.add(": ");
     line.add(query_text(cause));
+}
+
+fn add_second_fault(line: &mut Line, byte: u64, cause: Cause)
+    requires { length (bytes_of line.old) ≤ 8 }
+    ensures bytes { bytes_of line.new ≡ bytes_of line.old ++ note_text (Outcome.SecondQueryFault byte cause) }
+    ensures short { length (bytes_of line.new) ≤ 100 }
+{
+    line.add("second query byte ");
+    line.add_number(byte);
+    line.add(": ");
+    line.add(query_text(cause));
+}
+
+fn add_chain_refused(line: &mut Line, number: u64, cause: RowCause)
+    requires { length (bytes_of line.old) ≤ 8 }
+    ensures bytes { bytes_of line.new ≡ bytes_of line.old ++ note_text (Outcome.ChainLineRefused number cause) }
+    ensures short { length (bytes_of line.new) ≤ 100 }
+{
+    line.add("chain line ");
+    line.add_number(number);
+    line.add(": ");
+    add_line_cause(line, cause);
 }
 
 fn add_line_refused(line: &mut Line, side: Side, number: u64, cause: RowCause)
@@ -168,11 +191,17 @@ fn add_outcome(line: &mut Line, outcome: Outcome)
         }
         Outcome::FileCount { streams, files } => add_file_count(line, streams, files),
         Outcome::QueryFault { byte, cause } => add_query_fault(line, byte, cause),
+        Outcome::SecondQueryFault { byte, cause } => add_second_fault(line, byte, cause),
+        Outcome::Unchainable(file) => add_file_fault(line, file, " byte 0: shape"),
         Outcome::LineRefused {
             side,
             line: number,
             cause,
         } => add_line_refused(line, side, number, cause),
+        Outcome::ChainLineRefused {
+            line: number,
+            cause,
+        } => add_chain_refused(line, number, cause),
         Outcome::OpenFault(file) => add_file_fault(line, file, ": open fault"),
         Outcome::ReadFault(file) => add_file_fault(line, file, ": read fault"),
         Outcome::WriteFault => line.add("write fault"),

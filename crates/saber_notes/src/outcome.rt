@@ -11,6 +11,8 @@ pub enum InputFile {
     Query,
     Left,
     Right,
+    /// The query over the answer of another.
+    SecondQuery,
 }
 
 /// How a call of the program ends.
@@ -30,9 +32,22 @@ pub enum Outcome {
         byte: u64,
         cause: Cause,
     },
+    /// The text of the second query of a chain has this fault, in the same way.
+    SecondQueryFault {
+        byte: u64,
+        cause: Cause,
+    },
+    /// The query of a chain that this file has is none for its place: the first one is a selection, whose lines have no number of a
+    /// window, or the second one is a join.
+    Unchainable(InputFile),
     /// A line of a row file is refused; lines count from 1.
     LineRefused {
         side: Side,
+        line: u64,
+        cause: RowCause,
+    },
+    /// The second query of a chain refuses a line of the first one's answer; lines count from 1.
+    ChainLineRefused {
         line: u64,
         cause: RowCause,
     },
@@ -64,7 +79,10 @@ impl Outcome {
             Outcome::Usage => 2,
             Outcome::FileCount { .. } => 2,
             Outcome::QueryFault { .. } => 3,
+            Outcome::SecondQueryFault { .. } => 3,
+            Outcome::Unchainable(_) => 3,
             Outcome::LineRefused { .. } => 4,
+            Outcome::ChainLineRefused { .. } => 4,
             Outcome::OpenFault(_) => 5,
             Outcome::ReadFault(_) => 5,
             Outcome::WriteFault => 6,

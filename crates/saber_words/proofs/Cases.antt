@@ -2,7 +2,7 @@
 use Rattle.std.proofs.Common.{◌≡◌, ◌^◌, ℕ, refl, codes, true, false, List, [], ◌∷◌, Option, Some, None}
 use Rattle.clap.specs.Walk.{Text}
 use Rattle.clap.proofs.OnLiterals.{clap_on_literals}
-use Rattle.saber_words.specs.Commands.{Asked, check, command_of, demo, plain_demo, is_taken, plain_run, run}
+use Rattle.saber_words.specs.Commands.{Asked, chain, check, command_of, demo, plain_chain, plain_demo, is_taken, plain_run, run}
 
 saber : List Text → Option Asked
 saber words = command_of (codes "saber" ∷ words)
@@ -271,3 +271,92 @@ final_twice = refl
 check_final : saber (codes "check" ∷ codes "q" ∷ codes "--final" ∷ []) ≡ None
 unfolding saber command_of is_taken clap_on_literals
 check_final = refl
+
+-- ---- `chain`
+
+chain_of_one_file : saber (codes "chain" ∷ codes "a" ∷ codes "b" ∷ codes "l" ∷ []) ≡ Some (plain_chain (codes "a") (codes "b") (codes "l") None)
+unfolding saber command_of is_taken clap_on_literals
+chain_of_one_file = refl
+
+chain_of_two_files : saber (codes "chain" ∷ codes "a" ∷ codes "b" ∷ codes "l" ∷ codes "r" ∷ []) ≡ Some (plain_chain (codes "a") (codes "b") (codes "l") (Some (codes "r")))
+unfolding saber command_of is_taken clap_on_literals
+chain_of_two_files = refl
+
+chain_after_dashes : saber (codes "chain" ∷ codes "a" ∷ codes "--" ∷ codes "-b" ∷ codes "l" ∷ []) ≡ Some (plain_chain (codes "a") (codes "-b") (codes "l") None)
+unfolding saber command_of is_taken clap_on_literals
+chain_after_dashes = refl
+
+-- too few files, and too many
+chain_of_nothing : saber (codes "chain" ∷ []) ≡ None
+unfolding saber command_of is_taken clap_on_literals
+chain_of_nothing = refl
+
+chain_of_one_query : saber (codes "chain" ∷ codes "a" ∷ []) ≡ None
+unfolding saber command_of is_taken clap_on_literals
+chain_of_one_query = refl
+
+chain_without_left : saber (codes "chain" ∷ codes "a" ∷ codes "b" ∷ []) ≡ None
+unfolding saber command_of is_taken clap_on_literals
+chain_without_left = refl
+
+chain_of_three_files : saber (codes "chain" ∷ codes "a" ∷ codes "b" ∷ codes "l" ∷ codes "r" ∷ codes "x" ∷ []) ≡ None
+unfolding saber command_of is_taken clap_on_literals
+chain_of_three_files = refl
+
+-- each of its options with the least that it takes and the most
+chained : ℕ → ℕ → ℕ → ℕ → ℕ → Option Asked
+chained task ring threads most slack = Some (chain (record { first = codes "a"; second = codes "b"; left = codes "l"; right = None; task = task; ring = ring; threads = threads; most = most; slack = slack }))
+
+least_of_chain : saber (codes "chain" ∷ codes "a" ∷ codes "b" ∷ codes "l" ∷ codes "--task" ∷ codes "1" ∷ codes "--ring=1" ∷ codes "--threads" ∷ codes "0" ∷ codes "--max-lines" ∷ codes "1" ∷ codes "--slack" ∷ codes "0" ∷ []) ≡ chained 1 1 0 1 0
+unfolding saber chained command_of is_taken clap_on_literals
+least_of_chain = refl
+
+most_of_chain : saber (codes "chain" ∷ codes "--task=65536" ∷ codes "a" ∷ codes "--ring" ∷ codes "1024" ∷ codes "b" ∷ codes "--threads=64" ∷ codes "l" ∷ codes "--max-lines" ∷ codes "1099511627776" ∷ codes "--slack=1099511627776" ∷ []) ≡ chained 65536 1024 64 (2 ^ 40) (2 ^ 40)
+unfolding saber chained command_of is_taken clap_on_literals
+most_of_chain = refl
+
+-- and past them
+task_of_chain_of_0 : saber (codes "chain" ∷ codes "a" ∷ codes "b" ∷ codes "l" ∷ codes "--task" ∷ codes "0" ∷ []) ≡ None
+unfolding saber command_of is_taken clap_on_literals
+task_of_chain_of_0 = refl
+
+task_of_chain_past_most : saber (codes "chain" ∷ codes "a" ∷ codes "b" ∷ codes "l" ∷ codes "--task" ∷ codes "65537" ∷ []) ≡ None
+unfolding saber command_of is_taken clap_on_literals
+task_of_chain_past_most = refl
+
+ring_of_chain_of_0 : saber (codes "chain" ∷ codes "a" ∷ codes "b" ∷ codes "l" ∷ codes "--ring" ∷ codes "0" ∷ []) ≡ None
+unfolding saber command_of is_taken clap_on_literals
+ring_of_chain_of_0 = refl
+
+ring_of_chain_past_most : saber (codes "chain" ∷ codes "a" ∷ codes "b" ∷ codes "l" ∷ codes "--ring" ∷ codes "1025" ∷ []) ≡ None
+unfolding saber command_of is_taken clap_on_literals
+ring_of_chain_past_most = refl
+
+threads_of_chain_past_most : saber (codes "chain" ∷ codes "a" ∷ codes "b" ∷ codes "l" ∷ codes "--threads" ∷ codes "65" ∷ []) ≡ None
+unfolding saber command_of is_taken clap_on_literals
+threads_of_chain_past_most = refl
+
+lines_of_chain_of_0 : saber (codes "chain" ∷ codes "a" ∷ codes "b" ∷ codes "l" ∷ codes "--max-lines" ∷ codes "0" ∷ []) ≡ None
+unfolding saber command_of is_taken clap_on_literals
+lines_of_chain_of_0 = refl
+
+lines_of_chain_past_most : saber (codes "chain" ∷ codes "a" ∷ codes "b" ∷ codes "l" ∷ codes "--max-lines" ∷ codes "1099511627777" ∷ []) ≡ None
+unfolding saber command_of is_taken clap_on_literals
+lines_of_chain_past_most = refl
+
+slack_of_chain_past_most : saber (codes "chain" ∷ codes "a" ∷ codes "b" ∷ codes "l" ∷ codes "--slack" ∷ codes "1099511627777" ∷ []) ≡ None
+unfolding saber command_of is_taken clap_on_literals
+slack_of_chain_past_most = refl
+
+-- the flag of `run` is not its own, and no query is one of its options
+chain_final : saber (codes "chain" ∷ codes "a" ∷ codes "b" ∷ codes "l" ∷ codes "--final" ∷ []) ≡ None
+unfolding saber command_of is_taken clap_on_literals
+chain_final = refl
+
+final_of_chain_before : saber (codes "chain" ∷ codes "--final" ∷ codes "a" ∷ codes "b" ∷ codes "l" ∷ []) ≡ None
+unfolding saber command_of is_taken clap_on_literals
+final_of_chain_before = refl
+
+chain_first_as_option : saber (codes "chain" ∷ codes "--first" ∷ codes "a" ∷ codes "b" ∷ codes "l" ∷ []) ≡ None
+unfolding saber command_of is_taken clap_on_literals
+chain_first_as_option = refl

@@ -8,3 +8,4 @@ pub mod FileNames
 pub mod Levels
 pub mod OtherWords
 pub mod DemoWords
+pub mod ChainWords

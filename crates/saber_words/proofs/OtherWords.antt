@@ -1,4 +1,4 @@
--- A first word that is neither `run` nor `check` nor `demo`.
+-- A first word that is neither `run` nor `check` nor `demo` nor `chain`.
 use Rattle.std.proofs.Common.{◌≡◌, ◌∙◌, ◌||◌, ℕ, refl, sym, ap, ap₂, Bool, true, false, cond, codes, length, List, [], ◌∷◌, Option, Some, None, option_map}
 use Rattle.std.specs.Option.{option_map_or}
 use Rattle.std.specs.Str.{bytes_eq, chars}
@@ -26,13 +26,15 @@ other_name known word other = go (bytes_eq known word) (bytes_eq-Decides known w
     go true same = absurd (other (sym (same refl)))
     go false same = refl
 
-none_met : (word : Text) → (word ≡ codes "run" → ⊥) → (word ≡ codes "check" → ⊥) → (word ≡ codes "demo" → ⊥) → subcommand_met names idle word ≡ None
-none_met word run check demo =
-    ap₂ (λ (a b : Bool). met a b (bytes_eq (codes "demo") word)) (other_name (codes "run") word run) (other_name (codes "check") word check)
-    ∙ ap (λ (c : Bool). met false false c) (other_name (codes "demo") word demo)
+none_met : (word : Text) → (word ≡ codes "run" → ⊥) → (word ≡ codes "check" → ⊥) → (word ≡ codes "demo" → ⊥) → (word ≡ codes "chain" → ⊥) → subcommand_met names idle word ≡ None
+none_met word run check demo chain =
+    ap₂ (λ (a b : Bool). met a b (bytes_eq (codes "demo") word) (bytes_eq (codes "chain") word)) (other_name (codes "run") word run) (other_name (codes "check") word check)
+    ∙ ap₂ (λ (c d : Bool). met false false c d) (other_name (codes "demo") word demo) (other_name (codes "chain") word chain)
   where
-    met : Bool → Bool → Bool → Option Text
-    met a b c = option_map (λ (s : Text × List Text). s.0) (cond (a || false) (Some (codes "run", [])) (cond (b || false) (Some (codes "check", [])) (cond (c || false) (Some (codes "demo", [])) None)))
+    met : Bool → Bool → Bool → Bool → Option Text
+    met a b c d =
+        option_map (λ (s : Text × List Text). s.0)
+        (cond (a || false) (Some (codes "run", [])) (cond (b || false) (Some (codes "check", [])) (cond (c || false) (Some (codes "demo", [])) (cond (d || false) (Some (codes "chain", [])) None))))
 
 -- ---- the fault of the first word, step by step; no positional of the program takes a value
 
@@ -79,11 +81,11 @@ long_fails word None = short_fails word (short_of word)
 long_fails word (Some p) = refl
 
 -- the first turn has a fault, but for `--`
-first_fails : (word : Text) → (word ≡ codes "run" → ⊥) → (word ≡ codes "check" → ⊥) → (word ≡ codes "demo" → ⊥) → bytes_eq word (45 ∷ 45 ∷ []) ≡ false
+first_fails : (word : Text) → (word ≡ codes "run" → ⊥) → (word ≡ codes "check" → ⊥) → (word ≡ codes "demo" → ⊥) → (word ≡ codes "chain" → ⊥) → bytes_eq word (45 ∷ 45 ∷ []) ≡ false
     → is_faultless (turn_fault top names (at nothing_held 1) word) ≡ false
 unfolding by_name by_dashes by_long
-first_fails word run check demo dashes =
-    ap (λ (met : Option Text). is_faultless (by_name word met)) (none_met word run check demo)
+first_fails word run check demo chain dashes =
+    ap (λ (met : Option Text). is_faultless (by_name word met)) (none_met word run check demo chain)
     ∙ ap (λ (b : Bool). is_faultless (by_dashes word b)) dashes
     ∙ long_fails word (long_of word)
 
@@ -97,10 +99,10 @@ dashes_fail program word rest is = ap (λ (w : Text). command_of (program ∷ w 
     go (x ∷ more) = refl
 
 -- words whose first asks for no subcommand are no command
-pub command_of-other : (program word : Text) (rest : List Text) → (word ≡ codes "run" → ⊥) → (word ≡ codes "check" → ⊥) → (word ≡ codes "demo" → ⊥) → command_of (program ∷ word ∷ rest) ≡ None
+pub command_of-other : (program word : Text) (rest : List Text) → (word ≡ codes "run" → ⊥) → (word ≡ codes "check" → ⊥) → (word ≡ codes "demo" → ⊥) → (word ≡ codes "chain" → ⊥) → command_of (program ∷ word ∷ rest) ≡ None
 unfolding walk_fault
-command_of-other program word rest run check demo = go (bytes_eq word (45 ∷ 45 ∷ [])) refl
+command_of-other program word rest run check demo chain = go (bytes_eq word (45 ∷ 45 ∷ [])) refl
   where
     go : (b : Bool) → bytes_eq word (45 ∷ 45 ∷ []) ≡ b → command_of (program ∷ word ∷ rest) ≡ None
     go true is = dashes_fail program word rest ((bytes_eq-Decides word (45 ∷ 45 ∷ [])).0 is)
-    go false is = by_walk program (word ∷ rest) ∙ refused_at_once (turn_fault top names (at nothing_held 1) word) _ _ _ (first_fails word run check demo is)
+    go false is = by_walk program (word ∷ rest) ∙ refused_at_once (turn_fault top names (at nothing_held 1) word) _ _ _ (first_fails word run check demo chain is)

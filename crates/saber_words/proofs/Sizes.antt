@@ -4,7 +4,7 @@ use Rattle.std.specs.Str.{bytes_eq}
 use Rattle.std.specs.Prelude.{option_and_then}
 use Rattle.clap.specs.Walk.{Row, Text, first_of}
 use Rattle.clap.specs.Simple.{subcommand_of}
-use Rattle.saber_words.specs.Commands.{Asked, IsSized, Numbers, asked_by, check, check_by, command_of, demo, demo_by, is_taken, max_lines, numbers_by, numbers_with, ring, run, run_by, run_with, saber_app, slack, task, threads}
+use Rattle.saber_words.specs.Commands.{Asked, IsSized, Numbers, asked_by, chain, chain_by, chain_with, check, check_by, command_of, demo, demo_by, is_taken, max_lines, numbers_by, numbers_with, ring, run, run_by, run_with, saber_app, slack, task, threads}
 use Rattle.saber_words.specs.Demo.{demo_with, rows, seed}
 use Rattle.saber_words.specs.Numbers.{Numeric, number_by}
 use Rattle.saber_words.specs.Flags.{flag_by}
@@ -43,6 +43,17 @@ run_sized (Some query) (Some left) right (Some n) flush c few is =
     let f = few n refl in
     subst IsSized same (record { some_rows = f.0; few_rows = f.1; some_cells = f.2; few_cells = f.3; few_threads = f.4; some_lines = f.5; few_lines = f.6; small_slack = f.7 })
 
+chain_sized : (first second left right : Option Text) (numbers : Option Numbers) (c : Asked) → ((n : Numbers) → numbers ≡ Some n → (1 ≤ n.task) × (n.task ≤ 65536) × (1 ≤ n.ring) × (n.ring ≤ 1024) × (n.threads ≤ 64) × (1 ≤ n.most) × (n.most ≤ 2 ^ 40) × (n.slack ≤ 2 ^ 40))
+    → chain_with first second left right numbers ≡ Some c → IsSized c
+chain_sized None second left right numbers c few is = cc
+chain_sized (Some first) None left right numbers c few is = cc
+chain_sized (Some first) (Some second) None right numbers c few is = cc
+chain_sized (Some first) (Some second) (Some left) right None c few is = cc
+chain_sized (Some first) (Some second) (Some left) right (Some n) c few is =
+    let same : chain (record { first = first; second = second; left = left; right = right; task = n.task; ring = n.ring; threads = n.threads; most = n.most; slack = n.slack }) ≡ c = cc in
+    let f = few n refl in
+    subst IsSized same (record { some_rows = f.0; few_rows = f.1; some_cells = f.2; few_cells = f.3; few_threads = f.4; some_lines = f.5; few_lines = f.6; small_slack = f.7 })
+
 check_sized : (query : Option Text) (c : Asked) → option_map (λ q. check (record { query = q })) query ≡ Some c → IsSized c
 check_sized None c is = cc
 check_sized (Some query) c is =
@@ -70,12 +81,15 @@ bounds_of o found = number_bounds o found
 numbers_bounded : (found : List Row) (n : Numbers) → numbers_by found ≡ Some n → (1 ≤ n.task) × (n.task ≤ 65536) × (1 ≤ n.ring) × (n.ring ≤ 1024) × (n.threads ≤ 64) × (1 ≤ n.most) × (n.most ≤ 2 ^ 40) × (n.slack ≤ 2 ^ 40)
 numbers_bounded found n = numbers_sized (number_by task found) (number_by ring found) (number_by threads found) (number_by max_lines found) (number_by slack found) n (bounds_of task found) (bounds_of ring found) (bounds_of threads found) (bounds_of max_lines found) (bounds_of slack found)
 
-asked_sized : (found : List Row) (is_run is_check is_demo : Bool) (c : Asked) → cond is_run (run_by found) (cond is_check (check_by found) (cond is_demo (demo_by found) None)) ≡ Some c → IsSized c
-asked_sized found true k d c is = run_sized (first_of (codes "query") found) (first_of (codes "left") found) (first_of (codes "right") found) (numbers_by found) (flag_by (codes "final") found) c (numbers_bounded found) is
-asked_sized found false true d c is = check_sized (first_of (codes "query") found) c is
-asked_sized found false false true c is =
+asked_sized : (found : List Row) (is_run is_check is_demo is_chain : Bool) (c : Asked)
+    → cond is_run (run_by found) (cond is_check (check_by found) (cond is_demo (demo_by found) (cond is_chain (chain_by found) None))) ≡ Some c → IsSized c
+asked_sized found true k d h c is = run_sized (first_of (codes "query") found) (first_of (codes "left") found) (first_of (codes "right") found) (numbers_by found) (flag_by (codes "final") found) c (numbers_bounded found) is
+asked_sized found false true d h c is = check_sized (first_of (codes "query") found) c is
+asked_sized found false false true h c is =
     demo_sized (number_by seed found) (number_by rows found) (number_by task found) (number_by ring found) (number_by threads found) c (bounds_of seed found) (bounds_of rows found) (bounds_of task found) (bounds_of ring found) (bounds_of threads found) is
-asked_sized found false false false c is = cc
+asked_sized found false false false true c is =
+    chain_sized (first_of (codes "first") found) (first_of (codes "second") found) (first_of (codes "left") found) (first_of (codes "right") found) (numbers_by found) c (numbers_bounded found) is
+asked_sized found false false false false c is = cc
 
 -- what words ask for has its sizes within their bounds
 pub command_of-sized : (words : List Text) (c : Asked) → command_of words ≡ Some c → IsSized c
@@ -85,4 +99,4 @@ command_of-sized words c is = go (is_taken words) (subcommand_of saber_app words
     go : (b : Bool) (sub : Option (Text × List Row)) → cond b (option_and_then asked_by sub) None ≡ Some c → IsSized c
     go false sub same = cc
     go true None same = cc
-    go true (Some s) same = asked_sized s.1 (bytes_eq s.0 (codes "run")) (bytes_eq s.0 (codes "check")) (bytes_eq s.0 (codes "demo")) c same
+    go true (Some s) same = asked_sized s.1 (bytes_eq s.0 (codes "run")) (bytes_eq s.0 (codes "check")) (bytes_eq s.0 (codes "demo")) (bytes_eq s.0 (codes "chain")) c same

@@ -5,6 +5,7 @@ use Rattle.clap.specs.Walk.{Row, Rule, Text, first_of}
 use Rattle.saber_words.specs.Numbers.{Numeric, number_by, number_in, number_rule}
 use Rattle.saber_words.specs.Flags.{flag_by, flag_rule}
 use Rattle.saber_words.specs.Demo.{AskedDemo, HasDemoSizes, asked_demo, demo_with, positional_rule, rows, seed}
+use Rattle.saber_words.specs.Chain.{AskedChain, HasChainSizes, asked_chain}
 use Rattle.clap.specs.Kinds.{Kinds}
 use Rattle.clap.specs.Simple.{App, Shape, new_rule, new_shape, subcommand_of}
 use Rattle.clap.specs.Faults.{fault_of}
@@ -38,6 +39,7 @@ pub data Asked : Type 0 where
   run : AskedRun → Asked
   check : AskedCheck → Asked
   demo : AskedDemo → Asked
+  chain : AskedChain → Asked
 
 -- what a command asks for
 abbrev pub asked_run : Run → AskedRun
@@ -47,6 +49,7 @@ abbrev pub asked : Command → Asked
 asked (command.Run r) = run (asked_run r)
 asked (command.Check c) = check (record { query = c.query.now })
 asked (command.Demo d) = demo (asked_demo d)
+asked (command.Chain a) = chain (asked_chain a)
 
 -- ---- the table of commands (this project's rule)
 
@@ -92,6 +95,12 @@ check_shape = record (new_shape (codes "check")) { rules = required (codes "quer
 abbrev pub demo_shape : Shape
 demo_shape = record (new_shape (codes "demo")) { rules = positional_rule seed ∷ positional_rule rows ∷ number_rule task ∷ number_rule ring ∷ number_rule threads ∷ [] }
 
+-- chain QUERY1 QUERY2 LEFT [RIGHT] [--task N] [--ring B] [--threads T] [--max-lines M] [--slack S]
+abbrev pub chain_shape : Shape
+chain_shape = record (new_shape (codes "chain")) {
+  rules = required (codes "first") ∷ required (codes "second") ∷ required (codes "left") ∷ optional (codes "right") ∷ number_rule task ∷ number_rule ring ∷ number_rule threads ∷ number_rule max_lines ∷ number_rule slack ∷ [];
+}
+
 -- the program: it wants one of its subcommands, and has no flag or subcommand for help or version
 abbrev pub saber_shape : Shape
 saber_shape = record (new_shape (codes "saber")) {
@@ -103,7 +112,7 @@ saber_shape = record (new_shape (codes "saber")) {
 }
 
 abbrev pub saber_app : App
-saber_app = record { top = saber_shape; subs = run_shape ∷ check_shape ∷ demo_shape ∷ [] }
+saber_app = record { top = saber_shape; subs = run_shape ∷ check_shape ∷ demo_shape ∷ chain_shape ∷ [] }
 
 -- ---- the sizes of a run
 
@@ -123,6 +132,7 @@ abbrev pub IsSized : Asked → Type 0
 IsSized (run r) = HasSizes r
 IsSized (check c) = ⊤
 IsSized (demo d) = HasDemoSizes d
+IsSized (chain a) = HasChainSizes a
 
 -- ---- the words
 
@@ -162,11 +172,20 @@ check_by rows = option_map (λ query. check (record { query = query })) (first_o
 abbrev pub demo_by : List Row → Option Asked
 demo_by found = option_map demo (demo_with (number_by seed found) (number_by rows found) (number_by task found) (number_by ring found) (number_by threads found))
 
+-- what `chain` asks for, by the values of its positionals and the numbers of its options
+abbrev pub chain_with : Option Text → Option Text → Option Text → Option Text → Option Numbers → Option Asked
+chain_with (Some first) (Some second) (Some left) right (Some n) = Some (chain (record { first = first; second = second; left = left; right = right; task = n.task; ring = n.ring; threads = n.threads; most = n.most; slack = n.slack }))
+chain_with _ _ _ right _ = None
+
+abbrev pub chain_by : List Row → Option Asked
+chain_by rows = chain_with (first_of (codes "first") rows) (first_of (codes "second") rows) (first_of (codes "left") rows) (first_of (codes "right") rows) (numbers_by rows)
+
 -- what a subcommand asks for, by its name and the values of its arguments
 abbrev pub asked_by : Text × List Row → Option Asked
 asked_by s = if bytes_eq s.0 (codes "run") then run_by s.1
     else (if bytes_eq s.0 (codes "check") then check_by s.1
-    else (if bytes_eq s.0 (codes "demo") then demo_by s.1 else None))
+    else (if bytes_eq s.0 (codes "demo") then demo_by s.1
+    else (if bytes_eq s.0 (codes "chain") then chain_by s.1 else None)))
 
 -- no fault is among these kinds
 abbrev pub is_faultless : Kinds → Bool
@@ -221,3 +240,13 @@ plain_with _ _ = None
 abbrev pub demo_of : List Text → Option Asked
 demo_of (first ∷ second ∷ []) = plain_with (number_in seed first) (number_in rows second)
 demo_of _ = None
+
+-- a chain over these files whose words give no option
+abbrev pub plain_chain : Text → Text → Text → Option Text → Asked
+plain_chain first second left right = chain (record { first = first; second = second; left = left; right = right; task = 1024; ring = 64; threads = 2; most = 2 ^ 40; slack = 0 })
+
+-- `chain` wants the files of two queries, a left file and maybe a right one
+abbrev pub chain_of : List Text → Option Asked
+chain_of (first ∷ second ∷ left ∷ []) = Some (plain_chain first second left None)
+chain_of (first ∷ second ∷ left ∷ right ∷ []) = Some (plain_chain first second left (Some right))
+chain_of _ = None

@@ -2,3 +2,4 @@ pub mod Commands
 pub mod Numbers
 pub mod Flags
 pub mod Demo
+pub mod Chain

@@ -46,6 +46,30 @@ pub struct Demo {
     pub threads: u32,
 }
 
+/// To answer a query over its files, and a second one whose rows are the lines of the first one's answer: the
+/// number of a window is the time of such a row. Each text is the name of a file.
+#[derive(Clone, Copy, Debug, PartialEq, Eq)]
+pub struct Chain<'a> {
+    /// The text of the first query.
+    pub first: &'a str,
+    /// The text of the second one.
+    pub second: &'a str,
+    /// The rows of the first stream of the first query's FROM.
+    pub left: &'a str,
+    /// The rows of its second stream, where one was named.
+    pub right: Option<&'a str>,
+    /// How many rows a task of each query has, as of a run.
+    pub task: u32,
+    /// How many cells the ring of each has, as of a run.
+    pub ring: u32,
+    /// How many threads work for each, as of a run.
+    pub threads: u32,
+    /// How many lines a file may have, as of a run.
+    pub max_lines: u64,
+    /// By how much a timestamp of a file may be below one before it, as of a run.
+    pub slack: u64,
+}
+
 /// A command of the program.
 #[derive(Clone, Copy, Debug, PartialEq, Eq)]
 pub enum Command<'a> {
@@ -55,6 +79,8 @@ pub enum Command<'a> {
     Check(Check<'a>),
     /// `demo SEED ROWS [--task N] [--ring B] [--threads T]`
     Demo(Demo),
+    /// `chain QUERY1 QUERY2 LEFT [RIGHT] [--task N] [--ring B] [--threads T] [--max-lines M] [--slack S]`
+    Chain(Chain<'a>),
 }
 
 /// Why no command was read.

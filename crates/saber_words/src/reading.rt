@@ -6,6 +6,7 @@ ghost use Rattle.clap.specs.declared.builder.command.Command.TheViews.{out-Comma
 ghost use Rattle.saber_words.specs.Commands.{asked, asked_by, check_by, check_shape, command_of};
 ghost use Rattle.saber_words.specs.Commands.{run_by, run_shape, saber_app, IsSized};
 
+use crate::chain::{chain, chain_app};
 use crate::demo::{demo, demo_app};
 use crate::flags::{flag_arg, is_given};
 use crate::numbers::{max_lines, number_arg, ring, sizes, slack, task, threads};
@@ -48,6 +49,7 @@ fn saber<'a>(alloc: Global) -> Result<clap::Command<'a>, AllocError>
     let run = run_app(alloc)?;
     let check = check_app(alloc)?;
     let demo = demo_app(alloc)?;
+    let chain = chain_app(alloc)?;
     clap::Command::new(alloc, "saber")
         .disable_help_flag(true)
         .disable_help_subcommand(true)
@@ -55,7 +57,8 @@ fn saber<'a>(alloc: Global) -> Result<clap::Command<'a>, AllocError>
         .subcommand_required(true)
         .subcommand(run)?
         .subcommand(check)?
-        .subcommand(demo)
+        .subcommand(demo)?
+        .subcommand(chain)
 }
 
 fn run_app<'a>(alloc: Global) -> Result<clap::Command<'a>, AllocError>
@@ -94,6 +97,7 @@ fn command<'a>(matches: &ArgMatches<'a>) -> Option<Command<'a>>
         "run" => run(values),
         "check" => check(values),
         "demo" => demo(values),
+        "chain" => chain(values),
         _ => None,
     }
 }

@@ -1,4 +1,4 @@
-use crate::{Check, Command, Demo, Run, WordsFault, read_words};
+use crate::{Chain, Check, Command, Demo, Run, WordsFault, read_words};
 
 fn run<'a>(
     query: &'a str,
@@ -362,6 +362,216 @@ fn refuses_other_options(rt: HostRuntime) {
         (
             &["saber", "check", "q", "--final"],
             "the flag of another command",
+        ),
+    ];
+    for (words, what) in table {
+        assert!(rt;
+            read_words(rt.alloc(), words) == Err(WordsFault::Usage),
+            "{what}"
+        );
+    }
+}
+
+// A chain of `a` and `b` over `l`, whose words give no option.
+fn chain<'a>() -> Chain<'a> {
+    Chain {
+        first: "a",
+        second: "b",
+        left: "l",
+        right: None,
+        task: 1_024,
+        ring: 64,
+        threads: 2,
+        max_lines: 1_099_511_627_776,
+        slack: 0,
+    }
+}
+
+#[test]
+fn takes_the_words_of_chain(rt: HostRuntime) {
+    let table = [
+        (["saber", "chain", "a", "b", "l"].as_slice(), chain()),
+        (
+            &["saber", "chain", "a", "b", "l", "r"],
+            Chain {
+                right: Some("r"),
+                ..chain()
+            },
+        ),
+        (
+            &["", "chain", "run", "chain", "check", "demo"],
+            Chain {
+                first: "run",
+                second: "chain",
+                left: "check",
+                right: Some("demo"),
+                ..chain()
+            },
+        ),
+        (
+            &["saber", "chain", "a", "--", "b", "-l", "--final"],
+            Chain {
+                left: "-l",
+                right: Some("--final"),
+                ..chain()
+            },
+        ),
+        (
+            &["saber", "chain", "a", "a", "", "-"],
+            Chain {
+                second: "a",
+                left: "",
+                right: Some("-"),
+                ..chain()
+            },
+        ),
+    ];
+    for (words, wanted) in table {
+        assert!(rt;
+            read_words(rt.alloc(), words) == Ok(Command::Chain(wanted)),
+            "{words:?}"
+        );
+    }
+}
+
+#[test]
+fn takes_the_options_of_chain(rt: HostRuntime) {
+    let table = [
+        (
+            [
+                "saber", "chain", "a", "b", "l", "--task", "1", "--ring", "1",
+            ]
+            .as_slice(),
+            Chain {
+                task: 1,
+                ring: 1,
+                ..chain()
+            },
+        ),
+        (
+            &[
+                "saber",
+                "chain",
+                "--threads=0",
+                "a",
+                "b",
+                "--slack",
+                "7",
+                "l",
+            ],
+            Chain {
+                threads: 0,
+                slack: 7,
+                ..chain()
+            },
+        ),
+        (
+            &["saber", "chain", "a", "b", "l", "r", "--max-lines", "3"],
+            Chain {
+                right: Some("r"),
+                max_lines: 3,
+                ..chain()
+            },
+        ),
+        (
+            &[
+                "saber",
+                "chain",
+                "a",
+                "--task=65536",
+                "--ring=1024",
+                "b",
+                "--threads",
+                "64",
+                "l",
+                "--max-lines",
+                "1099511627776",
+                "--slack=1099511627776",
+            ],
+            Chain {
+                task: 65_536,
+                ring: 1_024,
+                threads: 64,
+                slack: 1_099_511_627_776,
+                ..chain()
+            },
+        ),
+    ];
+    for (words, wanted) in table {
+        assert!(rt;
+            read_words(rt.alloc(), words) == Ok(Command::Chain(wanted)),
+            "{words:?}"
+        );
+    }
+}
+
+#[test]
+fn refuses_other_words_of_chain(rt: HostRuntime) {
+    let table = [
+        (["saber", "chain"].as_slice(), "no query"),
+        (&["saber", "chain", "a"], "no second query"),
+        (&["saber", "chain", "a", "b"], "no left file"),
+        (
+            &["saber", "chain", "a", "b", "l", "r", "x"],
+            "a file too many",
+        ),
+        (&["saber", "Chain", "a", "b", "l"], "another case"),
+        (&["saber", "chained", "a", "b", "l"], "a longer word"),
+        (
+            &["saber", "chain", "a", "b", "l", "--final"],
+            "the flag of run",
+        ),
+        (
+            &["saber", "chain", "--final", "a", "b", "l"],
+            "the flag of run, before the files",
+        ),
+        (
+            &["saber", "chain", "a", "b", "l", "--task", "0"],
+            "a task of no row",
+        ),
+        (
+            &["saber", "chain", "a", "b", "l", "--task", "65537"],
+            "a task of too many rows",
+        ),
+        (
+            &["saber", "chain", "a", "b", "l", "--ring", "0"],
+            "a ring of no cell",
+        ),
+        (
+            &["saber", "chain", "a", "b", "l", "--ring", "1025"],
+            "a ring of too many cells",
+        ),
+        (
+            &["saber", "chain", "a", "b", "l", "--threads", "65"],
+            "too many threads",
+        ),
+        (
+            &["saber", "chain", "a", "b", "l", "--max-lines", "0"],
+            "no line",
+        ),
+        (
+            &[
+                "saber",
+                "chain",
+                "a",
+                "b",
+                "l",
+                "--max-lines",
+                "1099511627777",
+            ],
+            "too many lines",
+        ),
+        (
+            &["saber", "chain", "a", "b", "l", "--slack", "1099511627777"],
+            "too much slack",
+        ),
+        (
+            &["saber", "chain", "a", "b", "l", "--slack", "1", "--slack=1"],
+            "given twice",
+        ),
+        (
+            &["saber", "--slack", "1", "chain", "a", "b", "l"],
+            "before the command",
         ),
     ];
     for (words, what) in table {

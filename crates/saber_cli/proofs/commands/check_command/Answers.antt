@@ -10,6 +10,7 @@ use Rattle.saber_cli.proofs.AnsweredLemmas.{for_any}
 use Rattle.saber_cli.proofs.LeavesLemmas.{query_leaves, show_leaves}
 use Rattle.saber_cli.proofs.RunLemmas.{gives_no_text, some_map}
 use Rattle.saber_cli.proofs.ShowLemmas.{gives_show, show_early, show_reads}
+use Rattle.saber_cli.proofs.PlanLemmas.{query_alone, show_alone}
 use Rattle.saber_cli.proofs.commands.check_command.Goals as goal
 
 pub returns-in-Ok-clause-written : goal.returns-in-Ok-clause-written
@@ -42,3 +43,9 @@ returns-in-Err-clause-written g c =
 
 pub returns-in-Err-clause-leaves : goal.returns-in-Err-clause-leaves
 returns-in-Err-clause-leaves g c = query_leaves _ [] (λ t. ⊥) c.in-Err.outcome _ _ c.in-Err.ensures.kinds c.in-Err.ensures.uses
+
+pub returns-in-Ok-clause-alone : goal.returns-in-Ok-clause-alone
+returns-in-Ok-clause-alone g c k = show_alone c.put_text.result.outcome c.put_text.ensures.kinds k
+
+pub returns-in-Err-clause-alone : goal.returns-in-Err-clause-alone
+returns-in-Err-clause-alone g c k = query_alone c.in-Err.outcome c.in-Err.ensures.kinds k

@@ -15,6 +15,7 @@ use Rattle.saber_cli.proofs.AnsweredLemmas.{for_any}
 use Rattle.saber_cli.proofs.LeavesLemmas.{query_leaves, refused_leaves, rows_leaves}
 use Rattle.saber_cli.proofs.TakenLemmas.{takes_whole}
 use Rattle.saber_cli.proofs.RunLemmas.{gives_no_text, gives_text_fault, gives_unlike, gives_answer, run_of, asks_rows, sized, some_map, some_both, used_contents, text_fault_after}
+use Rattle.saber_cli.proofs.PlanLemmas.{query_alone, run_alone, text_alone}
 use Rattle.saber_cli.proofs.commands.run_command.Goals as goal
 
 pub returns-in-Err-clause-written : goal.returns-in-Err-clause-written
@@ -88,3 +89,12 @@ returns-clause-taken g c asked_for e side k =
     let rows = sized (λ n ring m b. TakesRows q n m tasks (row_names r) (told c.query_text.new.files) (told c.run_rows.new.files)) _ _ r.task r.ring _ (asked_limits r) _ r.flush z.task z.ring z.limits z.flush (c.run_rows.ensures.taken side k) in
     subst (λ a. IfSome (told c.args.files.now) (λ (t : Told). (u : Told) × (told c.run_rows.new.files ≡ Some u) × TakesWhole a tasks t u)) same
     (takes_whole r q tasks (told c.args.files.now) (told c.query_text.new.files) (told c.run_rows.new.files) has c.in-Ok.ensures.uses rows)
+
+pub returns-in-Err-clause-alone : goal.returns-in-Err-clause-alone
+returns-in-Err-clause-alone g c k = query_alone c.in-Err.outcome c.in-Err.ensures.kinds k
+
+pub returns-in-Err-planned-clause-alone : goal.returns-in-Err-planned-clause-alone
+returns-in-Err-planned-clause-alone g c k = text_alone _ c.in-Err-planned.outcome c.in-Err-planned.ensures.fault k
+
+pub returns-clause-alone : goal.returns-clause-alone
+returns-clause-alone g c k = run_alone c.run_rows.result.outcome c.run_rows.ensures.kinds k

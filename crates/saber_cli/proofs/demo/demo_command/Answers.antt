@@ -1,4 +1,4 @@
-use Rattle.std.proofs.Common.{◌≡◌, sym, ◌∙◌, ap, subst}
+use Rattle.std.proofs.Common.{◌≡◌, ◌∙◌, subst}
 use Rattle.saber_words.specs.Demo.{asked_demo}
 use Rattle.saber_demo.specs.Summary.{summary}
 use Rattle.saber_cli.specs.Puts.{PutsText}

@@ -1,6 +1,6 @@
 use Rattle.std.proofs.Common.{subst}
 use Rattle.saber_cli.specs.Puts.{PutsText}
-use Rattle.saber_cli.proofs.ShowLemmas.{put_kinds, put_showed}
+use Rattle.saber_cli.proofs.ShowLemmas.{put_showed}
 use Rattle.saber_cli.proofs.shows.put_text.Goals as goal
 
 pub returns-clause-written : goal.returns-clause-written

@@ -2,13 +2,21 @@ use Rattle.std.proofs.Common.{◌≡◌, ℕ, List, [], Some, Err, map, Bor, sym
 use Rattle.saber_io.specs.Outside.{Told, appended-none}
 use Rattle.saber_words.specs.declared.commands.Command.{Command}
 use Rattle.saber_words.specs.declared.commands.Command.TheVariants.{Run, Check}
-use Rattle.saber_words.specs.Commands.{run, demo, asked, command_of}
+use Rattle.saber_words.specs.Commands.{run, demo, chain, asked, command_of}
+use Rattle.saber_words.specs.Chain.{asked_chain}
 use Rattle.saber_words.specs.Demo.{asked_demo}
 use Rattle.saber_cli.specs.Gives.{Gives, Answers}
 use Rattle.saber_cli.specs.Tells.{TellsRun}
+use Rattle.saber_cli.specs.Outcomes.{IsOfSecond}
+use Rattle.saber_cli.specs.Due.{IsPlain}
+use Rattle.saber_cli.specs.Chained.{AnswersChain}
+use Rattle.saber_cli.specs.Leaves.{LeavesTold}
+use Rattle.saber_cli.specs.ChainLeaves.{LeavesChain}
+use Rattle.saber_cli.proofs.PlanLemmas.{put_alone}
+use Rattle.saber_cli.proofs.ChainRunLemmas.{unread_alone, unread_chained, unread_leaves}
 use Rattle.saber_cli.proofs.AnsweredLemmas.{for_any}
 use Rattle.saber_cli.proofs.RunLemmas.{some_map}
-use Rattle.saber_cli.proofs.WordLemmas.{answers_of, unread_answers, unread_not_read}
+use Rattle.saber_cli.proofs.WordLemmas.{answers_of, unread_answers, unread_leave, unread_not_read}
 use Rattle.saber_cli.proofs.DemoLemmas.{gives_told, tell_leaves, unread_told}
 use Rattle.saber_cli.proofs.words.run_words.Goals as goal
 
@@ -17,7 +25,7 @@ returns-in-Err-clause-written g c =
     let ws : List (List ℕ) = map (λ (word : Bor (List ℕ)). word.now) c.args.words.now in (
       [],
       appended-none _,
-      for_any (λ (t : Told). Answers ws t.contents c.unread.result 0 []) _
+      λ n. for_any (λ (t : Told). Answers ws t.contents c.unread.result 0 []) _
           (λ t. subst (λ o. Answers ws t.contents o 0 []) (sym c.unread.ensures) (unread_answers c.laws.ensures ws t.contents c.in-Err.fault (λ e. c.in-Err.ensures.usage (ap Err e)))),
     )
 
@@ -28,7 +36,7 @@ returns-in-Run-clause-written g c =
     let is : command_of ws ≡ Some (asked (Run c.in-Run.run')) = c.in-Ok.ensures.taken ∙ ap (λ (k : Command). Some (asked k)) c.in-Run.is in (
       w.0,
       w.1,
-      some_map (λ (t : Told). Gives t.contents (asked (Run c.in-Run.run')) c.run_command.result.outcome c.run_command.result.tasks w.0) (λ t. Answers ws t.contents c.run_command.result.outcome c.run_command.result.tasks w.0) _
+      λ n. some_map (λ (t : Told). Gives t.contents (asked (Run c.in-Run.run')) c.run_command.result.outcome c.run_command.result.tasks w.0) (λ t. Answers ws t.contents c.run_command.result.outcome c.run_command.result.tasks w.0) _
           (λ t k. answers_of ws t.contents (asked (Run c.in-Run.run')) c.run_command.result.outcome c.run_command.result.tasks w.0 is k) w.2,
     )
 
@@ -39,7 +47,7 @@ returns-in-Check-clause-written g c =
     let is : command_of ws ≡ Some (asked (Check c.in-Check.check)) = c.in-Ok.ensures.taken ∙ ap (λ (k : Command). Some (asked k)) c.in-Check.is in (
       w.0,
       w.1,
-      some_map (λ (t : Told). Gives t.contents (asked (Check c.in-Check.check)) c.check_command.result.outcome c.check_command.result.tasks w.0) (λ t. Answers ws t.contents c.check_command.result.outcome c.check_command.result.tasks w.0) _
+      λ n. some_map (λ (t : Told). Gives t.contents (asked (Check c.in-Check.check)) c.check_command.result.outcome c.check_command.result.tasks w.0) (λ t. Answers ws t.contents c.check_command.result.outcome c.check_command.result.tasks w.0) _
           (λ t k. answers_of ws t.contents (asked (Check c.in-Check.check)) c.check_command.result.outcome c.check_command.result.tasks w.0 is k) w.2,
     )
 
@@ -76,13 +84,84 @@ returns-in-Demo-clause-written g c =
     let tasks = c.demo_command.result.tasks in
     let t = c.demo_command.ensures.told in
     let is : command_of ws ≡ Some (demo d) = c.in-Ok.ensures.taken ∙ ap (λ (k : Command). Some (asked k)) c.in-Demo.is in
-    (t.out, t.written, for_any (λ (x : Told). Answers ws x.contents o tasks t.out) _ (λ x. answers_of ws x.contents (demo d) o tasks t.out is (gives_told x.contents d o tasks t.out t.kinds t.puts t.tasks_are)))
+    (t.out, t.written, λ n. for_any (λ (x : Told). Answers ws x.contents o tasks t.out) _ (λ x. answers_of ws x.contents (demo d) o tasks t.out is (gives_told x.contents d o tasks t.out t.kinds t.puts t.tasks_are)))
 
 pub returns-in-Demo-clause-leaves : goal.returns-in-Demo-clause-leaves
-returns-in-Demo-clause-leaves g c a e =
+returns-in-Demo-clause-leaves g c a e n =
     let ws : List (List ℕ) = map (λ (word : Bor (List ℕ)). word.now) c.args.words.now in
     let d = asked_demo c.in-Demo.demo in
     let is : command_of ws ≡ Some (demo d) = c.in-Ok.ensures.taken ∙ ap (λ (k : Command). Some (asked k)) c.in-Demo.is in
     let both : Some a ≡ Some (demo d) = sym e ∙ is in
     let same : a ≡ demo d = cc in
     tell_leaves a d c.demo_command.result.outcome _ same c.demo_command.ensures.told.kinds
+
+-- ---- a chain
+
+pub returns-in-Err-clause-chained : goal.returns-in-Err-clause-chained
+returns-in-Err-clause-chained g c a is =
+    let ws : List (List ℕ) = map (λ (word : Bor (List ℕ)). word.now) c.args.words.now in
+    let w = g.K.Sink.written c.args.sink in
+    let told = g.F.Files.told c.args.files.now in
+    subst (λ o. AnswersChain a o 0 told w w) (sym c.unread.ensures) (unread_chained ws a c.in-Err.fault told w (λ e. c.in-Err.ensures.usage (ap Err e)) is)
+
+pub returns-in-Err-clause-leaves : goal.returns-in-Err-clause-leaves
+returns-in-Err-clause-leaves g c a is n =
+    let ws : List (List ℕ) = map (λ (word : Bor (List ℕ)). word.now) c.args.words.now in
+    let told = g.F.Files.told c.args.files.now in
+    subst (λ o. LeavesTold a o told told) (sym c.unread.ensures) (unread_leave ws a c.in-Err.fault told (λ e. c.in-Err.ensures.usage (ap Err e)) is)
+
+pub returns-in-Err-clause-leaves_chain : goal.returns-in-Err-clause-leaves_chain
+returns-in-Err-clause-leaves_chain g c a is =
+    let ws : List (List ℕ) = map (λ (word : Bor (List ℕ)). word.now) c.args.words.now in
+    let told = g.F.Files.told c.args.files.now in
+    subst (λ o. LeavesChain a o told told) (sym c.unread.ensures) (unread_leaves ws a c.in-Err.fault told (λ e. c.in-Err.ensures.usage (ap Err e)) is)
+
+pub returns-in-Err-clause-second : goal.returns-in-Err-clause-second
+returns-in-Err-clause-second g c k = absurd (unread_alone c.in-Err.fault (subst IsOfSecond c.unread.ensures k))
+
+pub returns-in-Run-clause-second : goal.returns-in-Run-clause-second
+returns-in-Run-clause-second g c k = absurd (c.run_command.ensures.alone k)
+
+pub returns-in-Check-clause-second : goal.returns-in-Check-clause-second
+returns-in-Check-clause-second g c k = absurd (c.check_command.ensures.alone k)
+
+pub returns-in-Demo-clause-second : goal.returns-in-Demo-clause-second
+returns-in-Demo-clause-second g c k = absurd (put_alone c.demo_command.result.outcome c.demo_command.ensures.told.kinds k)
+
+pub returns-in-Chain-clause-second : goal.returns-in-Chain-clause-second
+returns-in-Chain-clause-second g c k = (asked_chain c.in-Chain.chain, c.in-Ok.ensures.taken ∙ ap (λ (x : Command). Some (asked x)) c.in-Chain.is)
+
+pub returns-in-Chain-clause-written : goal.returns-in-Chain-clause-written
+returns-in-Chain-clause-written g c =
+    let ws : List (List ℕ) = map (λ (word : Bor (List ℕ)). word.now) c.args.words.now in
+    let a = asked_chain c.in-Chain.chain in
+    let is : command_of ws ≡ Some (chain a) = c.in-Ok.ensures.taken ∙ ap (λ (x : Command). Some (asked x)) c.in-Chain.is in
+    let w = c.chain_command.ensures.written in
+    (w.0, w.1, λ n. absurd (n a is))
+
+pub returns-in-Chain-clause-chained : goal.returns-in-Chain-clause-chained
+returns-in-Chain-clause-chained g c a e =
+    let ws : List (List ℕ) = map (λ (word : Bor (List ℕ)). word.now) c.args.words.now in
+    let b = asked_chain c.in-Chain.chain in
+    let is : command_of ws ≡ Some (chain b) = c.in-Ok.ensures.taken ∙ ap (λ (x : Command). Some (asked x)) c.in-Chain.is in
+    let both : Some (chain b) ≡ Some (chain a) = sym is ∙ e in
+    let same : b ≡ a = cc in
+    subst (λ x. AnswersChain x c.chain_command.result.outcome c.chain_command.result.tasks (g.F.Files.told c.args.files.now) (g.K.Sink.written c.args.sink) (g.K.Sink.written c.chain_command.result.sink)) same c.chain_command.ensures.chained
+
+pub returns-in-Chain-clause-leaves_chain : goal.returns-in-Chain-clause-leaves_chain
+returns-in-Chain-clause-leaves_chain g c a e =
+    let ws : List (List ℕ) = map (λ (word : Bor (List ℕ)). word.now) c.args.words.now in
+    let b = asked_chain c.in-Chain.chain in
+    let is : command_of ws ≡ Some (chain b) = c.in-Ok.ensures.taken ∙ ap (λ (x : Command). Some (asked x)) c.in-Chain.is in
+    let both : Some (chain b) ≡ Some (chain a) = sym is ∙ e in
+    let same : b ≡ a = cc in
+    subst (λ x. LeavesChain x c.chain_command.result.outcome (g.F.Files.told c.args.files.now) (g.F.Files.told c.chain_command.new.files)) same c.chain_command.ensures.leaves
+
+pub returns-in-Chain-clause-leaves : goal.returns-in-Chain-clause-leaves
+returns-in-Chain-clause-leaves g c a e n =
+    let ws : List (List ℕ) = map (λ (word : Bor (List ℕ)). word.now) c.args.words.now in
+    let b = asked_chain c.in-Chain.chain in
+    let is : command_of ws ≡ Some (chain b) = c.in-Ok.ensures.taken ∙ ap (λ (x : Command). Some (asked x)) c.in-Chain.is in
+    let both : Some a ≡ Some (chain b) = sym e ∙ is in
+    let same : a ≡ chain b = cc in
+    absurd (subst IsPlain same n)

@@ -3,6 +3,7 @@ use Rattle.clap.proofs.OnLiterals.{clap_on_literals}
 use Rattle.saber_words.specs.Commands.{command_of, is_taken}
 use Rattle.saber_words.proofs.Levels.{command_of-check, command_of-run}
 use Rattle.saber_words.proofs.DemoWords.{command_of-demo}
+use Rattle.saber_words.proofs.ChainWords.{command_of-chain}
 use Rattle.saber_words.proofs.OtherWords.{command_of-other}
 use Rattle.saber_words.proofs.laws.words_of_file_names.Goals as goal
 
@@ -22,6 +23,9 @@ returns-clause-check c = command_of-check
 
 pub returns-clause-demo : goal.returns-clause-demo
 returns-clause-demo c = command_of-demo
+
+pub returns-clause-chain : goal.returns-clause-chain
+returns-clause-chain c = command_of-chain
 
 pub returns-clause-other : goal.returns-clause-other
 returns-clause-other c = command_of-other

@@ -1,0 +1,362 @@
+-- A chain over row files that are opened, run and given back.
+use Rattle.std.proofs.Common.{◌≡◌, ◌≢◌, ℕ, suc, List, [], ◌∷◌, length, map, Option, Some, None, IfSome, refl, sym, ◌∙◌, ap, subst, arith}
+use Rattle.std.proofs.lemmas.List.{take_all}
+use Rattle.saber_io.specs.Outside.{Told, Closed, Rose, appended}
+use Rattle.saber_io.specs.declared.feeds.EndMark.TheVariants as marks
+use Rattle.saber_plan.specs.declared.rows.Side.{Side}
+use Rattle.saber_plan.specs.declared.rows.Side.TheVariants as sides
+use Rattle.saber_plan.specs.declared.rows.RowCause.{RowCause}
+use Rattle.saber_plan.specs.declared.sizes.Sizes.{Sizes}
+use Rattle.saber_plan.specs.Sizes.{limits_of}
+use Rattle.saber_plan.specs.Inputs.{going_on}
+use Rattle.saber_plan.specs.Trees.{Tree}
+use Rattle.saber_words.specs.Chain.{AskedChain}
+use Rattle.saber_words.specs.Commands.{chain, command_of}
+use Rattle.saber_words.specs.declared.commands.WordsFault.{WordsFault}
+use Rattle.saber_words.specs.declared.commands.WordsFault.TheVariants as fault
+use Rattle.saber_dispatch.specs.declared.inputs.Inputs.{Inputs}
+use Rattle.saber_engine.specs.declared.ends.RunEnd.{RunEnd}
+use Rattle.saber_engine.specs.declared.ends.RunEnd.TheVariants as ends
+use Rattle.saber_engine.specs.Sources.{each_input, told_by, RoseAt, GaveAll, input_of}
+use Rattle.saber_engine.specs.Gives as engine
+use Rattle.saber_chain.specs.Texts.{text_of_both}
+use Rattle.saber_chain.specs.Marks.{IsWhole, IsShort}
+use Rattle.saber_chain.specs.declared.chained.Chained.{Chained}
+use Rattle.saber_chain.specs.Chains.{Chains}
+use Rattle.saber_notes.specs.declared.outcome.InputFile.TheVariants.{Query, Left, Right, SecondQuery}
+use Rattle.saber_notes.specs.declared.outcome.Outcome.{Outcome}
+use Rattle.saber_notes.specs.declared.outcome.Outcome.TheVariants.{Done, Usage, FileCount, QueryFault, SecondQueryFault, Unchainable, LineRefused, ChainLineRefused, OpenFault, ReadFault, TooWide, WriteFault, NoMemory}
+use Rattle.saber_cli.specs.Outcomes.{IsBeforeRun, IsClean, IsFileFault, IsOfChain, IsOfRun, IsOfSecond, IsUnopened}
+use Rattle.saber_cli.specs.Uses.{IsOpened}
+use Rattle.saber_cli.specs.Unread.{unread}
+use Rattle.saber_cli.specs.Due.{Contents, IsLike, contents_of, first_run, row_names}
+use Rattle.saber_cli.specs.Endings.{chained_as, ended_as, file_on, refused_as}
+use Rattle.saber_cli.specs.Leaves.{HadNoFaults}
+use Rattle.saber_cli.specs.RowFiles.{OpensAll, raised_by, using}
+use Rattle.saber_cli.specs.Chained.{AnswersChain, AsksChainRows, ChainsOver, HasPlans, HasReason, IsAnswered, IsChainable, RunsChain, chain_sizes, not_run, both_run}
+use Rattle.saber_cli.specs.ChainLeaves.{HadFaultsAt, LeavesChain, MatchesChain}
+use Rattle.saber_cli.specs.Chaining.{BothRead, ChainedIn, UsesChainRows, all_run, none_run}
+use Rattle.saber_cli.proofs.FileLemmas.{rose_some}
+use Rattle.saber_cli.proofs.AnsweredLemmas.{clean_by, read_by, write_by}
+use Rattle.saber_cli.proofs.RowLemmas.{all_told, back_length, backs, both_used, faults_of, gave_length, lefts_of, no_faults_same, of_told, run_cause}
+use Rattle.saber_cli.proofs.RunLemmas.{some_map}
+use Rattle.saber_cli.proofs.ChainLeaveLemmas.{none_asked}
+
+-- ---- the ends of both as one outcome
+
+refused_write : (ring line : ℕ) (cause : RowCause) (e : RunEnd) → refused_as ring line cause e ≡ WriteFault → e ≡ ends.WriteFault
+refused_write ring line cause ends.AllRead k = cc
+refused_write ring line cause (ends.Bad side n why) k = cc
+refused_write ring line cause (ends.ReadFault side) k = cc
+refused_write ring line cause (ends.TooWide task need) k = cc
+refused_write ring line cause ends.WriteFault k = refl
+refused_write ring line cause ends.NoMemory k = cc
+
+-- a fault of writing is the second one's
+pub chained_write : (ring : ℕ) (first second : RunEnd) → first ≢ ends.WriteFault → chained_as ring first second ≡ WriteFault → second ≡ ends.WriteFault
+chained_write ring first ends.AllRead n k = absurd (n (write_by ring first k))
+chained_write ring first (ends.Bad side line cause) n k = absurd (n (refused_write ring line cause first k))
+chained_write ring first (ends.ReadFault side) n k = absurd (n (write_by ring first k))
+chained_write ring first (ends.TooWide task need) n k = absurd (n (write_by ring first k))
+chained_write ring first ends.WriteFault n k = refl
+chained_write ring first ends.NoMemory n k = cc
+
+refused_read : (ring line : ℕ) (cause : RowCause) (e : RunEnd) (side : Side) → refused_as ring line cause e ≡ ReadFault (file_on side) → e ≡ ends.ReadFault side
+refused_read ring line cause ends.AllRead side k = cc
+refused_read ring line cause (ends.Bad s n why) side k = cc
+refused_read ring line cause (ends.ReadFault s) side k = read_by ring (ends.ReadFault s) side k
+refused_read ring line cause (ends.TooWide task need) side k = cc
+refused_read ring line cause ends.WriteFault side k = cc
+refused_read ring line cause ends.NoMemory side k = cc
+
+-- and one of reading the first one's
+pub chained_read : (ring : ℕ) (first second : RunEnd) (side : Side) → chained_as ring first second ≡ ReadFault (file_on side) → first ≡ ends.ReadFault side
+chained_read ring first ends.AllRead side k = read_by ring first side k
+chained_read ring first (ends.Bad s line cause) side k = refused_read ring line cause first side k
+chained_read ring first (ends.ReadFault s) side k = read_by ring first side k
+chained_read ring first (ends.TooWide task need) side k = read_by ring first side k
+chained_read ring first ends.WriteFault side k = cc
+chained_read ring first ends.NoMemory side k = cc
+
+refused_clean : (ring line : ℕ) (cause : RowCause) (e : RunEnd) → IsClean (refused_as ring line cause e) → engine.IsClean e
+refused_clean ring line cause ends.AllRead w = tt
+refused_clean ring line cause (ends.Bad side n why) w = tt
+refused_clean ring line cause (ends.ReadFault side) w = absurd w
+refused_clean ring line cause (ends.TooWide task need) w = tt
+refused_clean ring line cause ends.WriteFault w = absurd w
+refused_clean ring line cause ends.NoMemory w = absurd w
+
+pub chained_clean : (ring : ℕ) (first second : RunEnd) → IsClean (chained_as ring first second) → engine.IsClean first
+chained_clean ring first ends.AllRead w = clean_by ring first w
+chained_clean ring first (ends.Bad s line cause) w = refused_clean ring line cause first w
+chained_clean ring first (ends.ReadFault s) w = clean_by ring first w
+chained_clean ring first (ends.TooWide task need) w = clean_by ring first w
+chained_clean ring first ends.WriteFault w = absurd w
+chained_clean ring first ends.NoMemory w = absurd w
+
+ended_kinds : (ring : ℕ) (e : RunEnd) → IsOfChain (ended_as ring e)
+ended_kinds ring ends.AllRead = tt
+ended_kinds ring (ends.Bad side line cause) = tt
+ended_kinds ring (ends.ReadFault sides.Left) = tt
+ended_kinds ring (ends.ReadFault sides.Right) = tt
+ended_kinds ring (ends.TooWide task need) = tt
+ended_kinds ring ends.WriteFault = tt
+ended_kinds ring ends.NoMemory = tt
+
+refused_kinds : (ring line : ℕ) (cause : RowCause) (e : RunEnd) → IsOfChain (refused_as ring line cause e)
+refused_kinds ring line cause ends.AllRead = tt
+refused_kinds ring line cause (ends.Bad side n why) = tt
+refused_kinds ring line cause (ends.ReadFault sides.Left) = tt
+refused_kinds ring line cause (ends.ReadFault sides.Right) = tt
+refused_kinds ring line cause (ends.TooWide task need) = tt
+refused_kinds ring line cause ends.WriteFault = tt
+refused_kinds ring line cause ends.NoMemory = tt
+
+pub chained_kinds : (ring : ℕ) (first second : RunEnd) → IsOfChain (chained_as ring first second)
+chained_kinds ring first ends.AllRead = ended_kinds ring first
+chained_kinds ring first (ends.Bad s line cause) = refused_kinds ring line cause first
+chained_kinds ring first (ends.ReadFault s) = ended_kinds ring first
+chained_kinds ring first (ends.TooWide task need) = ended_kinds ring first
+chained_kinds ring first ends.WriteFault = tt
+chained_kinds ring first ends.NoMemory = tt
+
+ended_opened : (ring : ℕ) (e : RunEnd) → IsOpened (ended_as ring e)
+ended_opened ring ends.AllRead = tt
+ended_opened ring (ends.Bad side line cause) = tt
+ended_opened ring (ends.ReadFault side) = tt
+ended_opened ring (ends.TooWide task need) = tt
+ended_opened ring ends.WriteFault = tt
+ended_opened ring ends.NoMemory = tt
+
+refused_opened : (ring line : ℕ) (cause : RowCause) (e : RunEnd) → IsOpened (refused_as ring line cause e)
+refused_opened ring line cause ends.AllRead = tt
+refused_opened ring line cause (ends.Bad side n why) = tt
+refused_opened ring line cause (ends.ReadFault side) = tt
+refused_opened ring line cause (ends.TooWide task need) = tt
+refused_opened ring line cause ends.WriteFault = tt
+refused_opened ring line cause ends.NoMemory = tt
+
+pub chained_opened : (ring : ℕ) (first second : RunEnd) → IsOpened (chained_as ring first second)
+chained_opened ring first ends.AllRead = ended_opened ring first
+chained_opened ring first (ends.Bad s line cause) = refused_opened ring line cause first
+chained_opened ring first (ends.ReadFault s) = ended_opened ring first
+chained_opened ring first (ends.TooWide task need) = ended_opened ring first
+chained_opened ring first ends.WriteFault = tt
+chained_opened ring first ends.NoMemory = tt
+
+-- ---- where all goes out, both texts are whole
+
+ended_whole : (ring : ℕ) (e : RunEnd) → IsAnswered (ended_as ring e) → IsWhole e
+ended_whole ring ends.AllRead h = tt
+ended_whole ring (ends.Bad side line cause) h = tt
+ended_whole ring (ends.ReadFault side) h = absurd h
+ended_whole ring (ends.TooWide task need) h = absurd h
+ended_whole ring ends.WriteFault h = absurd h
+ended_whole ring ends.NoMemory h = absurd h
+
+refused_whole : (ring line : ℕ) (cause : RowCause) (e : RunEnd) → IsAnswered (refused_as ring line cause e) → IsWhole e
+refused_whole ring line cause ends.AllRead h = tt
+refused_whole ring line cause (ends.Bad side n why) h = tt
+refused_whole ring line cause (ends.ReadFault side) h = absurd h
+refused_whole ring line cause (ends.TooWide task need) h = absurd h
+refused_whole ring line cause ends.WriteFault h = absurd h
+refused_whole ring line cause ends.NoMemory h = absurd h
+
+whole_or_short : (e : RunEnd) → IsWhole e → IsShort e → ⊥
+whole_or_short ends.AllRead h k = let clash : marks.End ≡ marks.Cut = k in cc
+whole_or_short (ends.Bad side line cause) h k = let clash : marks.End ≡ marks.Cut = k in cc
+whole_or_short (ends.ReadFault side) h k = h
+whole_or_short (ends.TooWide task need) h k = h
+whole_or_short ends.WriteFault h k = h
+whole_or_short ends.NoMemory h k = h
+
+chained_whole : (ring : ℕ) (first second : RunEnd) → ((side : Side) → second ≡ ends.ReadFault side → IsShort first) → ((task need : ℕ) → second ≢ ends.TooWide task need) → IsAnswered (chained_as ring first second) → IsWhole first × IsWhole second
+chained_whole ring first ends.AllRead cut narrow h = (ended_whole ring first h, tt)
+chained_whole ring first (ends.Bad s line cause) cut narrow h = (refused_whole ring line cause first h, tt)
+chained_whole ring first (ends.ReadFault s) cut narrow h = absurd (whole_or_short first (ended_whole ring first h) (cut s refl))
+chained_whole ring first (ends.TooWide task need) cut narrow h = absurd (narrow task need refl)
+chained_whole ring first ends.WriteFault cut narrow h = absurd h
+chained_whole ring first ends.NoMemory cut narrow h = absurd h
+
+-- both runs of a chain, by how each ended
+pub runs_chain : {S K : Type 0} (p q : Tree) (s : Sizes) (files : Option (List (List ℕ))) (had has : Option (List ℕ)) (o : Outcome) (e : Chained S K) → o ≡ chained_as s.ring e.first e.second → Chains p q s files had has e
+    → e.first ≢ ends.WriteFault → (e.second ≡ ends.AllRead → IsWhole e.first) → ((side : Side) → e.second ≡ ends.ReadFault side → IsShort e.first) → ((task need : ℕ) → e.second ≢ ends.TooWide task need) → RunsChain p q s files had has o e.tasks
+runs_chain p q s files had has o e is g never all cut narrow = record {
+  first = e.first;
+  second = e.second;
+  first_tasks = e.first_tasks;
+  outcome = is;
+  between = g.between;
+  out = g.out;
+  written = g.written;
+  gives_first = g.gives_first;
+  gives_second = g.gives_second;
+  whole_tasks = g.whole_tasks;
+  never = never;
+  all = all;
+  cut = cut;
+  narrow = narrow;
+  whole = λ h. let w = chained_whole s.ring e.first e.second cut narrow (subst IsAnswered is h) in
+      some_map (λ (fs : List (List ℕ)). g.out ≡ text_of_both p q (going_on (input_of p (limits_of s) fs).rows)) (λ fs. has ≡ appended had (text_of_both p q (going_on (input_of p (limits_of s) fs).rows))) files (λ fs k. g.written ∙ ap (appended had) k) (g.whole_text w.0 w.1);
+}
+
+-- ---- kinds of outcomes
+
+pub unopened_of_chain : (o : Outcome) → IsUnopened o → IsOfChain o
+unopened_of_chain Done h = absurd h
+unopened_of_chain Usage h = absurd h
+unopened_of_chain (FileCount streams given) h = absurd h
+unopened_of_chain (QueryFault place why) h = absurd h
+unopened_of_chain (SecondQueryFault place why) h = absurd h
+unopened_of_chain (Unchainable which) h = absurd h
+unopened_of_chain (LineRefused side line why) h = absurd h
+unopened_of_chain (ChainLineRefused line why) h = absurd h
+unopened_of_chain (OpenFault Query) h = absurd h
+unopened_of_chain (OpenFault Left) h = tt
+unopened_of_chain (OpenFault Right) h = tt
+unopened_of_chain (OpenFault SecondQuery) h = absurd h
+unopened_of_chain (ReadFault file) h = absurd h
+unopened_of_chain (TooWide task need cells) h = absurd h
+unopened_of_chain WriteFault h = absurd h
+unopened_of_chain NoMemory h = tt
+
+chain_or_run : (o : Outcome) → IsOfChain o → IsFileFault o → IsOfRun o
+chain_or_run Done h k = absurd k
+chain_or_run Usage h k = absurd k
+chain_or_run (FileCount streams given) h k = absurd k
+chain_or_run (QueryFault place why) h k = absurd k
+chain_or_run (SecondQueryFault place why) h k = absurd k
+chain_or_run (Unchainable which) h k = absurd k
+chain_or_run (LineRefused side line why) h k = absurd k
+chain_or_run (ChainLineRefused line why) h k = absurd k
+chain_or_run (OpenFault file) h k = h
+chain_or_run (ReadFault file) h k = h
+chain_or_run (TooWide task need cells) h k = absurd k
+chain_or_run WriteFault h k = absurd k
+chain_or_run NoMemory h k = absurd k
+
+pub chain_not_before : (o : Outcome) → IsOfChain o → IsOpened o → IsBeforeRun o → ⊥
+chain_not_before Done h p b = b
+chain_not_before Usage h p b = h
+chain_not_before (FileCount streams given) h p b = h
+chain_not_before (QueryFault place why) h p b = h
+chain_not_before (SecondQueryFault place why) h p b = h
+chain_not_before (Unchainable which) h p b = h
+chain_not_before (LineRefused side line why) h p b = b
+chain_not_before (ChainLineRefused line why) h p b = b
+chain_not_before (OpenFault file) h p b = p
+chain_not_before (ReadFault Query) h p b = h
+chain_not_before (ReadFault Left) h p b = b
+chain_not_before (ReadFault Right) h p b = b
+chain_not_before (ReadFault SecondQuery) h p b = h
+chain_not_before (TooWide task need cells) h p b = b
+chain_not_before WriteFault h p b = b
+chain_not_before NoMemory h p b = b
+
+-- ---- the row files
+
+at_left : (xs ys : List Closed) (one two : Closed) → one.1 ≡ 0 → two.1 ≡ 0 → HadNoFaults xs → RoseAt sides.Left (map (λ s. s.1) xs) (map (λ s. s.1) ys) → HadFaultsAt (one ∷ two ∷ ys) 2
+at_left [] ys one two z w h r = absurd r
+at_left (x ∷ xs) [] one two z w h r = absurd r
+at_left (x ∷ xs) (y ∷ ys) one two z w h r = record { source = y; there = refl; faults = rose_some x.1 y.1 h.0 r; before = (z, (w, tt)) }
+
+at_right : (xs ys : List Closed) (one two : Closed) → one.1 ≡ 0 → two.1 ≡ 0 → HadNoFaults xs → RoseAt sides.Right (map (λ s. s.1) xs) (map (λ s. s.1) ys) → HadFaultsAt (one ∷ two ∷ ys) 3
+at_right [] ys one two z w h r = absurd r
+at_right (x ∷ []) ys one two z w h r = absurd r
+at_right (x ∷ v ∷ xs) [] one two z w h r = absurd r
+at_right (x ∷ v ∷ xs) (y ∷ []) one two z w h r = absurd r
+at_right (x ∷ v ∷ xs) (y ∷ u ∷ ys) one two z w h r = record { source = u; there = refl; faults = rose_some v.1 u.1 h.1.0 r; before = (z, (w, tt)) }
+
+run_matches : (n : ℕ) (o : Outcome) (xs ys : List Closed) (one two : Closed) → IsOfChain o → IsOpened o → length ys ≡ n → HadNoFaults xs → (IsClean o → map (λ s. s.1) ys ≡ map (λ s. s.1) xs)
+    → ((side : Side) → o ≡ ReadFault (file_on side) → RoseAt side (map (λ s. s.1) xs) (map (λ s. s.1) ys)) → one.1 ≡ 0 → two.1 ≡ 0 → MatchesChain (suc (suc n)) o (suc (suc n)) (one ∷ two ∷ ys)
+run_matches n Done xs ys one two h p len y c r z w = record { asked_for = refl; all = omega (arith, len); good = (z, (w, no_faults_same xs ys (c tt) y)) }
+run_matches n Usage xs ys one two h p len y c r z w = absurd h
+run_matches n (FileCount streams given) xs ys one two h p len y c r z w = absurd h
+run_matches n (QueryFault place why) xs ys one two h p len y c r z w = absurd h
+run_matches n (SecondQueryFault place why) xs ys one two h p len y c r z w = absurd h
+run_matches n (Unchainable which) xs ys one two h p len y c r z w = absurd h
+run_matches n (LineRefused side line why) xs ys one two h p len y c r z w = record { asked_for = refl; all = omega (arith, len); good = (z, (w, no_faults_same xs ys (c tt) y)) }
+run_matches n (ChainLineRefused line why) xs ys one two h p len y c r z w = record { asked_for = refl; all = omega (arith, len); good = (z, (w, no_faults_same xs ys (c tt) y)) }
+run_matches n (OpenFault file) xs ys one two h p len y c r z w = absurd p
+run_matches n (ReadFault Query) xs ys one two h p len y c r z w = absurd h
+run_matches n (ReadFault Left) xs ys one two h p len y c r z w = (refl, omega (arith, len), at_left xs ys one two z w y (r sides.Left refl))
+run_matches n (ReadFault Right) xs ys one two h p len y c r z w = (refl, omega (arith, len), at_right xs ys one two z w y (r sides.Right refl))
+run_matches n (ReadFault SecondQuery) xs ys one two h p len y c r z w = absurd h
+run_matches n (TooWide task need cells) xs ys one two h p len y c r z w = record { asked_for = refl; all = omega (arith, len); good = (z, (w, no_faults_same xs ys (c tt) y)) }
+run_matches n WriteFault xs ys one two h p len y c r z w = (refl, omega (arith, len))
+run_matches n NoMemory xs ys one two h p len y c r z w = omega (arith, len)
+
+module _ {S : Type 0} (left : S → Option (List ℕ)) (faults : S → ℕ) where
+  pub chain_uses : (names : List (List ℕ)) (o : Outcome) (i j : Inputs S) (a b c : Option Told) → length (each_input left i) ≡ length names → IfSome a (λ t. OpensAll t.contents names (each_input left i)) → HadNoFaults (backs left faults i)
+      → b ≡ using a names [] → c ≡ using b [] (backs left faults j) → IsOfChain o → IsOpened o → (taken : List (List ℕ)) × GaveAll (each_input left i) taken (each_input left j)
+      → (IsClean o → each_input faults j ≡ each_input faults i) → ((side : Side) → o ≡ ReadFault (file_on side) → RoseAt side (each_input faults i) (each_input faults j)) → UsesChainRows names o a c
+  chain_uses names o i j a b c number opens fresh asked closed kinds opened takes good read =
+      let len : length (backs left faults j) ≡ length names = back_length left faults j ∙ sym (gave_length (each_input left i) (each_input left j) takes.0 takes.1) ∙ number in
+      let gave : GaveAll (each_input left i) takes.0 (map (λ s. s.0) (backs left faults j)) = subst (GaveAll (each_input left i) takes.0) (sym (lefts_of left faults j)) takes.1 in
+      record {
+        count = length names;
+        few = omega arith;
+        given_back = backs left faults j;
+        told = both_used a b c names (backs left faults j) asked closed ∙ ap (λ x. using a x (backs left faults j)) (sym (take_all (length names) names (omega arith)));
+        are_of = of_told a names (each_input left i) takes.0 (backs left faults j) opens gave;
+        matches = λ one two z w. run_matches (length names) o (backs left faults i) (backs left faults j) one two kinds opened len fresh (λ k. faults_of left faults j ∙ good k ∙ sym (faults_of left faults i))
+            (λ side e. subst (λ x. RoseAt side x (map (λ s. s.1) (backs left faults j))) (sym (faults_of left faults i)) (subst (RoseAt side (each_input faults i)) (sym (faults_of left faults j)) (read side e))) z w;
+      }
+
+  pub chain_cause : (o : Outcome) (i j : Inputs S) (a b c : ℕ) → HadNoFaults (backs left faults i) → b ≡ a → c ≡ raised_by b (backs left faults j) → IsOfChain o → IsOpened o
+      → ((side : Side) → o ≡ ReadFault (file_on side) → RoseAt side (each_input faults i) (each_input faults j)) → IsFileFault o → Rose a c
+  chain_cause o i j a b c fresh e f h p r k = run_cause left faults o i j a b c fresh e f (chain_or_run o h k) p r k
+
+  -- what both runs come to over open sources is what they come to over their files
+  pub chain_runs : (p q : Tree) (s : Sizes) (names : List (List ℕ)) (had has : Option (List ℕ)) (o : Outcome) (tasks : ℕ) (i : Inputs S) (told : Option Told) → IfSome told (λ t. OpensAll t.contents names (each_input left i))
+      → RunsChain p q s (told_by left i) had has o tasks → IfSome told (λ t. ChainedIn p q s (contents_of t.contents names) had has o tasks)
+  chain_runs p q s names had has o tasks i None opens h = tt
+  chain_runs p q s names had has o tasks i (Some t) opens h =
+      let a = all_told left faults t.contents names i opens in
+      all_run a.0 a.1 (subst (λ x. RunsChain p q s x had has o tasks) a.2 h)
+
+-- ---- the whole
+
+-- row files that weren't opened
+unopened_reason : (files : Contents) (a : AskedChain) (o : Outcome) → AsksChainRows files a → IsUnopened o → HasReason files a o
+unopened_reason files a Done r h = absurd h
+unopened_reason files a Usage r h = absurd h
+unopened_reason files a (FileCount streams given) r h = absurd h
+unopened_reason files a (QueryFault place why) r h = absurd h
+unopened_reason files a (SecondQueryFault place why) r h = absurd h
+unopened_reason files a (Unchainable which) r h = absurd h
+unopened_reason files a (LineRefused side line why) r h = absurd h
+unopened_reason files a (ChainLineRefused line why) r h = absurd h
+unopened_reason files a (OpenFault Query) r h = absurd h
+unopened_reason files a (OpenFault Left) r h = r
+unopened_reason files a (OpenFault Right) r h = r
+unopened_reason files a (OpenFault SecondQuery) r h = absurd h
+unopened_reason files a (ReadFault file) r h = absurd h
+unopened_reason files a (TooWide task need cells) r h = absurd h
+unopened_reason files a WriteFault r h = absurd h
+unopened_reason files a NoMemory r h = tt
+
+-- the run over the row files, behind two plans that chain
+pub chain_over : (files : Contents) (a : AskedChain) (p q : Tree) (o : Outcome) (tasks : ℕ) (had has : Option (List ℕ)) → HasPlans files a p q → IsChainable p q → IsLike (first_run a) p → ChainedIn p q (chain_sizes a) (contents_of files (row_names (first_run a))) had has o tasks → ChainsOver files a o tasks had has
+chain_over files a p q o tasks had has u k l (none_run h t n) = not_run (unopened_reason files a o (record { first = p; second = q; plans = u; chains = k; like = l }) h) t n
+chain_over files a p q o tasks had has u k l (all_run all e r) = both_run (record { first = p; second = q; plans = u; chains = k; like = l }) all e r
+
+-- two queries' files that were read leave the contents
+pub read_contents : (P : Contents → Type 0) (first second : List ℕ) (old new : Option Told) → BothRead first second old new → IfSome new (λ u. P u.contents) → IfSome old (λ t. P t.contents)
+read_contents P first second None new b h = tt
+read_contents P first second (Some t) new b h = subst (λ m. IfSome m (λ u. P u.contents)) b.told h
+
+-- ---- words that were not read
+
+pub unread_chained : (ws : List (List ℕ)) (a : AskedChain) (f : WordsFault) (told : Option Told) (w : Option (List ℕ)) → (f ≡ fault.Usage → command_of ws ≡ None) → command_of ws ≡ Some (chain a) → AnswersChain a (unread f) 0 told w w
+unread_chained ws a fault.NoMemory None w h is = tt
+unread_chained ws a fault.NoMemory (Some t) w h is = not_run tt refl refl
+unread_chained ws a fault.Usage told w h is = let clash : Some (chain a) ≡ None = sym is ∙ h refl in cc
+
+pub unread_leaves : (ws : List (List ℕ)) (a : AskedChain) (f : WordsFault) (told : Option Told) → (f ≡ fault.Usage → command_of ws ≡ None) → command_of ws ≡ Some (chain a) → LeavesChain a (unread f) told told
+unread_leaves ws a fault.NoMemory told h is = none_asked a NoMemory told refl
+unread_leaves ws a fault.Usage told h is = let clash : Some (chain a) ≡ None = sym is ∙ h refl in cc
+
+pub unread_alone : (f : WordsFault) → IsOfSecond (unread f) → ⊥
+unread_alone fault.NoMemory k = k
+unread_alone fault.Usage k = k

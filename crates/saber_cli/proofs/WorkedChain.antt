@@ -1,0 +1,67 @@
+-- What the statements on a chain say, and what they refuse.
+use Rattle.std.proofs.Common.{◌≡◌, ◌⊎◌, inl, inr, ℕ, List, Option, Some, refl, sym, ◌∙◌, subst}
+use Rattle.saber_io.specs.Outside.{appended}
+use Rattle.saber_plan.specs.Inputs.{going_on}
+use Rattle.saber_plan.specs.Sizes.{limits_of}
+use Rattle.saber_plan.specs.Trees.{Tree}
+use Rattle.saber_words.specs.Chain.{AskedChain}
+use Rattle.saber_query.specs.declared.fault.Cause.{Cause}
+use Rattle.saber_check.specs.Texts.{HasPlan, HasFault}
+use Rattle.saber_engine.specs.Sources.{input_of}
+use Rattle.saber_chain.specs.Texts.{text_of_both}
+use Rattle.saber_notes.specs.declared.outcome.InputFile.TheVariants.{Query, Left, Right, SecondQuery}
+use Rattle.saber_notes.specs.declared.outcome.Outcome.{Outcome}
+use Rattle.saber_notes.specs.declared.outcome.Outcome.TheVariants.{Done, Usage, FileCount, QueryFault, SecondQueryFault, Unchainable, LineRefused, ChainLineRefused, OpenFault, ReadFault, TooWide, WriteFault, NoMemory}
+use Rattle.saber_cli.specs.Laws.{Laws}
+use Rattle.saber_cli.specs.Outcomes.{IsQueryUnread}
+use Rattle.saber_cli.specs.Due.{Contents, IsFaulty, contents_of, first_run, row_names}
+use Rattle.saber_cli.specs.Chained.{AsksChainRows, ChainsOver, HasReason, IsPlanned, chain_sizes, not_run, both_run}
+use Rattle.saber_cli.proofs.DueLemmas.{same_refusal}
+
+-- a file has one text
+planned_or_fault : Laws → (files : Contents) (name : List ℕ) (q : Tree) (byte : ℕ) (cause : Cause) → IsPlanned files name q → IsFaulty files name byte cause → ⊥
+planned_or_fault ls files name q byte cause p f =
+    let both : Some p.text ≡ Some f.0 = sym p.there ∙ f.1 in
+    let same : p.text ≡ f.0 = cc in
+    ls.fault_or_plan f.0 byte cause q f.2 (subst (λ t. HasPlan t q) same p.plan)
+
+fault_is : Laws → (files : Contents) (name : List ℕ) (byte other : ℕ) (cause another : Cause) → IsFaulty files name byte cause → IsFaulty files name other another → QueryFault byte cause ≡ QueryFault other another
+fault_is ls files name byte other cause another f h =
+    let both : Some f.0 ≡ Some h.0 = sym f.1 ∙ h.1 in
+    let same : f.0 ≡ h.0 = cc in
+    same_refusal byte other cause another (ls.one_fault h.0 byte other cause another (subst (λ t. HasFault t byte cause) same f.2) h.2)
+
+-- a first query with a fault is told, and nothing behind it is asked for
+told_fault : Laws → (files : Contents) (a : AskedChain) (o : Outcome) (byte : ℕ) (cause : Cause) → IsFaulty files a.first byte cause → HasReason files a o → (o ≡ QueryFault byte cause) ⊎ (IsQueryUnread o ⊎ (o ≡ NoMemory))
+told_fault ls files a Done byte cause f h = absurd h
+told_fault ls files a Usage byte cause f h = absurd h
+told_fault ls files a (FileCount streams given) byte cause f h = absurd (planned_or_fault ls files a.first h.first byte cause h.plans.first f)
+told_fault ls files a (QueryFault place why) byte cause f h = inl (fault_is ls files a.first place byte why cause h f)
+told_fault ls files a (SecondQueryFault place why) byte cause f h = absurd (planned_or_fault ls files a.first h.0 byte cause h.1 f)
+told_fault ls files a (Unchainable Query) byte cause f h = absurd (planned_or_fault ls files a.first h.0 byte cause h.2.first f)
+told_fault ls files a (Unchainable Left) byte cause f h = absurd h
+told_fault ls files a (Unchainable Right) byte cause f h = absurd h
+told_fault ls files a (Unchainable SecondQuery) byte cause f h = absurd (planned_or_fault ls files a.first h.0 byte cause h.2.first f)
+told_fault ls files a (LineRefused side line why) byte cause f h = absurd h
+told_fault ls files a (ChainLineRefused line why) byte cause f h = absurd h
+told_fault ls files a (OpenFault Query) byte cause f h = inr (inl tt)
+told_fault ls files a (OpenFault Left) byte cause f h = absurd (planned_or_fault ls files a.first h.first byte cause h.plans.first f)
+told_fault ls files a (OpenFault Right) byte cause f h = absurd (planned_or_fault ls files a.first h.first byte cause h.plans.first f)
+told_fault ls files a (OpenFault SecondQuery) byte cause f h = absurd (planned_or_fault ls files a.first h.0 byte cause h.1 f)
+told_fault ls files a (ReadFault Query) byte cause f h = inr (inl tt)
+told_fault ls files a (ReadFault Left) byte cause f h = absurd h
+told_fault ls files a (ReadFault Right) byte cause f h = absurd h
+told_fault ls files a (ReadFault SecondQuery) byte cause f h = absurd (planned_or_fault ls files a.first h.0 byte cause h.1 f)
+told_fault ls files a (TooWide task need cells) byte cause f h = absurd h
+told_fault ls files a WriteFault byte cause f h = absurd h
+told_fault ls files a NoMemory byte cause f h = inr (inr refl)
+
+first_fault_told : Laws → (files : Contents) (a : AskedChain) (o : Outcome) (tasks : ℕ) (had has : Option (List ℕ)) (byte : ℕ) (cause : Cause) → IsFaulty files a.first byte cause → ChainsOver files a o tasks had has → (o ≡ QueryFault byte cause) ⊎ (IsQueryUnread o ⊎ (o ≡ NoMemory))
+first_fault_told ls files a o tasks had has byte cause f (not_run h t n) = told_fault ls files a o byte cause f h
+first_fault_told ls files a o tasks had has byte cause f (both_run r all e k) = absurd (planned_or_fault ls files a.first r.first byte cause r.plans.first f)
+
+-- what is told as done was run, and the text of both went out
+done_is_text : (files : Contents) (a : AskedChain) (tasks : ℕ) (had has : Option (List ℕ)) → ChainsOver files a Done tasks had has
+    → (r : AsksChainRows files a) × (all : List (List ℕ)) × (contents_of files (row_names (first_run a)) ≡ Some all) × (has ≡ appended had (text_of_both r.first r.second (going_on (input_of r.first (limits_of (chain_sizes a)) all).rows)))
+done_is_text files a tasks had has (not_run h t n) = absurd h
+done_is_text files a tasks had has (both_run r all e k) = (r, all, e, k.whole tt)

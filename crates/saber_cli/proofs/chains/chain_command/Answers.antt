@@ -1,0 +1,65 @@
+use Rattle.std.proofs.Common.{◌≡◌, [], IfSome, ◌∙◌, refl, subst}
+use Rattle.saber_io.specs.Outside.{Told, appended-none}
+use Rattle.saber_plan.specs.Trees.{Tree, tree_of}
+use Rattle.saber_words.specs.Commands.{AskedRun, asked_run}
+use Rattle.saber_words.specs.Chain.{AskedChain, asked_chain}
+use Rattle.saber_cli.specs.Outcomes.{IsOfChain, IsOfPlans}
+use Rattle.saber_cli.specs.Due.{contents_of, first_run, row_names}
+use Rattle.saber_cli.specs.Chained.{AsksChainRows, ChainsOver, HasPlans, HasReason, chain_sizes, not_run}
+use Rattle.saber_cli.specs.Chaining.{ChainedIn, UsesChainRows}
+use Rattle.saber_cli.proofs.FileLemmas.{keeps_rose}
+use Rattle.saber_cli.proofs.RunLemmas.{some_both, some_map}
+use Rattle.saber_cli.proofs.ChainLeaveLemmas.{chain_rows_leave}
+use Rattle.saber_cli.proofs.ChainRunLemmas.{chain_over, read_contents}
+use Rattle.saber_cli.proofs.chains.chain_command.Goals as goal
+
+pub returns-in-Err-clause-written : goal.returns-in-Err-clause-written
+returns-in-Err-clause-written g c = ([], appended-none _)
+
+pub returns-in-Err-clause-chained : goal.returns-in-Err-clause-chained
+returns-in-Err-clause-chained g c =
+    let a : AskedChain = asked_chain c.args.command.now in
+    let o = c.in-Err.outcome in
+    let w = g.K.Sink.written c.args.sink in
+    some_map (λ (t : Told). HasReason t.contents a o) (λ t. ChainsOver t.contents a o 0 w w) _ (λ t h. not_run h refl refl) c.in-Err.ensures.reason
+
+pub returns-in-Err-clause-kinds : goal.returns-in-Err-clause-kinds
+returns-in-Err-clause-kinds g c e = subst IsOfPlans e c.in-Err.ensures.kinds
+
+pub returns-clause-chained : goal.returns-clause-chained
+returns-clause-chained g c =
+    let a : AskedChain = asked_chain c.args.command.now in
+    let p : Tree = tree_of c.in-Ok.plans.first in
+    let q : Tree = tree_of c.in-Ok.plans.second in
+    let o = c.chain_rows.result.outcome in
+    let tasks = c.chain_rows.result.tasks in
+    let told = g.F.Files.told in
+    let w = g.K.Sink.written c.args.sink in
+    let v = g.K.Sink.written c.chain_rows.result.sink in
+    let rows : asked_run c.first_run-rows.result ≡ first_run a = c.first_run-rows.ensures in
+    let sizes : c.chain_sizes-sizes.result ≡ chain_sizes a = c.chain_sizes-sizes.ensures.sizes in
+    let over_rows = subst (λ (r : AskedRun). IfSome (told c.chain_plans.new.files) (λ (t : Told). ChainedIn p q c.chain_sizes-sizes.result (contents_of t.contents (row_names r)) w v o tasks)) rows c.chain_rows.ensures.runs in
+    let over_sizes = subst (λ s. IfSome (told c.chain_plans.new.files) (λ (t : Told). ChainedIn p q s (contents_of t.contents (row_names (first_run a))) w v o tasks)) sizes over_rows in
+    let runs = read_contents (λ files. ChainedIn p q (chain_sizes a) (contents_of files (row_names (first_run a))) w v o tasks) a.first a.second _ _ c.in-Ok.ensures.read over_sizes in
+    some_both (λ (t : Told). HasPlans t.contents a p q) (λ t. ChainedIn p q (chain_sizes a) (contents_of t.contents (row_names (first_run a))) w v o tasks) (λ t. ChainsOver t.contents a o tasks w v) _
+    (λ t u k. chain_over t.contents a p q o tasks w v u c.in-Ok.ensures.chains c.in-Ok.ensures.like k) c.in-Ok.ensures.plans runs
+
+pub returns-clause-kinds : goal.returns-clause-kinds
+returns-clause-kinds g c e = subst IsOfChain e c.chain_rows.ensures.kinds
+
+pub returns-clause-leaves : goal.returns-clause-leaves
+returns-clause-leaves g c =
+    let a : AskedChain = asked_chain c.args.command.now in
+    let p : Tree = tree_of c.in-Ok.plans.first in
+    let q : Tree = tree_of c.in-Ok.plans.second in
+    let o = c.chain_rows.result.outcome in
+    let told = g.F.Files.told in
+    let rows : asked_run c.first_run-rows.result ≡ first_run a = c.first_run-rows.ensures in
+    let due = some_map (λ (t : Told). HasPlans t.contents a p q) (λ t. AsksChainRows t.contents a) (told c.args.files.now) (λ t u. record { first = p; second = q; plans = u; chains = c.in-Ok.ensures.chains; like = c.in-Ok.ensures.like }) c.in-Ok.ensures.plans in
+    chain_rows_leave a o _ _ _ due c.in-Ok.ensures.read (subst (λ (r : AskedRun). UsesChainRows (row_names r) o (told c.chain_plans.new.files) (told c.chain_rows.new.files)) rows c.chain_rows.ensures.uses)
+
+pub returns-clause-cause : goal.returns-clause-cause
+returns-clause-cause g c k = keeps_rose _ _ _ c.in-Ok.ensures.count (c.chain_rows.ensures.cause k)
+
+pub returns-clause-read_good : goal.returns-clause-read_good
+returns-clause-read_good g c k = c.chain_rows.ensures.read_good k ∙ c.in-Ok.ensures.read_good tt

@@ -1,0 +1,124 @@
+-- What a chain comes to: two queries, of which the second one's rows are the lines of the first.
+use Rattle.std.specs.Prelude.{◌≡◌, ◌≢◌, ℕ, List, length, Option, Some, IfSome, false}
+use Rattle.saber_io.specs.Outside.{Told, appended, content_in}
+use Rattle.saber_plan.specs.declared.rows.Side.{Side}
+use Rattle.saber_plan.specs.declared.plans.Shape.TheVariants.{Select, Join}
+use Rattle.saber_plan.specs.declared.sizes.Sizes.{Sizes}
+use Rattle.saber_plan.specs.Sizes.{limits_of}
+use Rattle.saber_plan.specs.Inputs.{going_on}
+use Rattle.saber_plan.specs.Trees.{Tree}
+use Rattle.saber_check.specs.Texts.{HasPlan}
+use Rattle.saber_words.specs.Chain.{AskedChain}
+use Rattle.saber_engine.specs.declared.ends.RunEnd.{RunEnd}
+use Rattle.saber_engine.specs.declared.ends.RunEnd.TheVariants as ends
+use Rattle.saber_engine.specs.Sources.{input_of}
+use Rattle.saber_engine.specs.Gives.{Gives}
+use Rattle.saber_engine.specs.FedRuns.{TakesWhole}
+use Rattle.saber_chain.specs.Texts.{between_limits, rows_between, text_of_both}
+use Rattle.saber_chain.specs.Marks.{IsWhole, IsShort}
+use Rattle.saber_notes.specs.declared.outcome.InputFile.TheVariants.{Query, Left, Right, SecondQuery}
+use Rattle.saber_notes.specs.declared.outcome.Outcome.{Outcome}
+use Rattle.saber_notes.specs.declared.outcome.Outcome.TheVariants.{Done, FileCount, QueryFault, SecondQueryFault, Unchainable, LineRefused, ChainLineRefused, OpenFault, ReadFault, NoMemory}
+use Rattle.saber_cli.specs.Due.{Contents, IsFaulty, IsLike, contents_of, first_run, row_names}
+use Rattle.saber_cli.specs.Endings.{chained_as}
+
+-- ---- the queries
+
+-- the file with this name has a query with this plan
+pub record IsPlanned (files : Contents) (name : List ℕ) (q : Tree) : Type 0 where
+  pub text : List ℕ
+  pub there : content_in files name ≡ Some text
+  pub plan : HasPlan text q
+
+-- the files of both queries have these plans
+pub record HasPlans (files : Contents) (a : AskedChain) (p q : Tree) : Type 0 where
+  pub first : IsPlanned files a.first p
+  pub second : IsPlanned files a.second q
+
+-- The first one's lines begin with the number of their window, so it is no selection; and they are one stream, so the second one is no join.
+pub record IsChainable (p q : Tree) : Type 0 where
+  pub has_windows : p.shape ≢ Select
+  pub has_one_stream : q.shape ≢ Join
+
+-- the row files are asked for: both queries have plans that chain, and each stream of the first one has its file
+pub record AsksChainRows (files : Contents) (a : AskedChain) : Type 0 where
+  pub first : Tree
+  pub second : Tree
+  pub plans : HasPlans files a first second
+  pub chains : IsChainable first second
+  pub like : IsLike (first_run a) first
+
+-- both queries have plans that chain, but the first one has so many streams, and the command so many row files
+pub record CountsDiffer (files : Contents) (a : AskedChain) (streams given : ℕ) : Type 0 where
+  pub first : Tree
+  pub second : Tree
+  pub plans : HasPlans files a first second
+  pub chains : IsChainable first second
+  pub streams_are : length first.streams ≡ streams
+  pub files_are : length (row_names (first_run a)) ≡ given
+  pub differ : streams ≢ given
+
+-- ---- before a run
+
+-- Why nothing was run: the first of what is at fault, in this order. The text of the first query; that of the second one; the first one's shape;
+-- the second one's; the number of row files. A file that can't be opened or read has its cause in a count of faults, and is asked for where all
+-- before it was good. Want of memory has no cause.
+abbrev pub HasReason : Contents → AskedChain → Outcome → Type 0
+HasReason files a (QueryFault byte cause) = IsFaulty files a.first byte cause
+HasReason files a (SecondQueryFault byte cause) = (p : Tree) × IsPlanned files a.first p × IsFaulty files a.second byte cause
+HasReason files a (Unchainable Query) = (p : Tree) × (q : Tree) × HasPlans files a p q × (p.shape ≡ Select)
+HasReason files a (Unchainable SecondQuery) = (p : Tree) × (q : Tree) × HasPlans files a p q × (p.shape ≢ Select) × (q.shape ≡ Join)
+HasReason files a (FileCount streams given) = CountsDiffer files a streams given
+HasReason files a (OpenFault Query) = Unit {0}
+HasReason files a (ReadFault Query) = Unit {0}
+HasReason files a (OpenFault SecondQuery) = (p : Tree) × IsPlanned files a.first p
+HasReason files a (ReadFault SecondQuery) = (p : Tree) × IsPlanned files a.first p
+HasReason files a (OpenFault Left) = AsksChainRows files a
+HasReason files a (OpenFault Right) = AsksChainRows files a
+HasReason files a NoMemory = Unit {0}
+HasReason files a _ = ⊥
+
+-- ---- a run
+
+-- all of the second query's text over the first one's goes out
+abbrev pub IsAnswered : Outcome → Type 0
+IsAnswered Done = Unit {0}
+IsAnswered (LineRefused side line cause) = Unit {0}
+IsAnswered (ChainLineRefused line cause) = Unit {0}
+IsAnswered _ = ⊥
+
+-- Both plans were run, the first one over row files with these bytes, if they tell, and the second one over what the first one gave; and the outcome
+-- tells how each ended. The first one writes where no write fails. The second one reads to the end only where the first one's text is whole, and is
+-- cut off only where it isn't; none of its tasks is too wide.
+pub record RunsChain (p q : Tree) (s : Sizes) (files : Option (List (List ℕ))) (had has : Option (List ℕ)) (o : Outcome) (tasks : ℕ) : Type 0 where
+  pub first : RunEnd
+  pub second : RunEnd
+  pub first_tasks : ℕ
+  pub outcome : o ≡ chained_as s.ring first second
+  pub between : List ℕ
+  pub out : List ℕ
+  pub written : has ≡ appended had out
+  pub gives_first : IfSome files (λ fs. Gives p s.task s.ring false (input_of p (limits_of s) fs) first first_tasks between)
+  pub gives_second : Gives q s.task s.ring false (rows_between q between) second tasks out
+  pub whole_tasks : (side : Side) → second ≡ ends.ReadFault side → TakesWhole q s.task between_limits tasks between
+  pub never : first ≢ ends.WriteFault
+  pub all : second ≡ ends.AllRead → IsWhole first
+  pub cut : (side : Side) → second ≡ ends.ReadFault side → IsShort first
+  pub narrow : (task need : ℕ) → second ≢ ends.TooWide task need
+  pub whole : IsAnswered o → IfSome files (λ fs. has ≡ appended had (text_of_both p q (going_on (input_of p (limits_of s) fs).rows)))
+
+-- the sizes that are asked for
+abbrev pub chain_sizes : AskedChain → Sizes
+chain_sizes a = record { task = a.task; ring = a.ring; threads = a.threads; max_lines = a.most; slack = a.slack; flush = false }
+
+-- ---- the whole
+
+-- What a chain comes to over files that tell their contents: nothing was run, for a reason; or both queries were, over all row files.
+pub data ChainsOver (files : Contents) (a : AskedChain) (o : Outcome) (tasks : ℕ) (had has : Option (List ℕ)) : Type 0 where
+  not_run : HasReason files a o → tasks ≡ 0 → has ≡ had → ChainsOver files a o tasks had has
+  both_run : (r : AsksChainRows files a) (all : List (List ℕ)) → contents_of files (row_names (first_run a)) ≡ Some all
+      → RunsChain r.first r.second (chain_sizes a) (Some all) had has o tasks → ChainsOver files a o tasks had has
+
+-- the same where files tell
+abbrev pub AnswersChain : AskedChain → Outcome → ℕ → Option Told → Option (List ℕ) → Option (List ℕ) → Type 0
+AnswersChain a o tasks told had has = IfSome told (λ t. ChainsOver t.contents a o tasks had has)

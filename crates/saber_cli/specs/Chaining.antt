@@ -1,0 +1,69 @@
+-- What the parts of a chain come to: a query's plan, both plans, and the run over the row files.
+use Rattle.std.specs.Prelude.{◌≡◌, ◌≢◌, ◌≤◌, ℕ, suc, List, [], ◌∷◌, length, take, Option, Some, IfSome}
+use Rattle.saber_io.specs.Outside.{Told, Closed}
+use Rattle.saber_plan.specs.declared.plans.Shape.TheVariants.{Select, Join}
+use Rattle.saber_plan.specs.declared.sizes.Sizes.{Sizes}
+use Rattle.saber_plan.specs.Trees.{Tree}
+use Rattle.saber_notes.specs.declared.outcome.InputFile.TheVariants.{Query, SecondQuery}
+use Rattle.saber_notes.specs.declared.outcome.Outcome.{Outcome}
+use Rattle.saber_notes.specs.declared.outcome.Outcome.TheVariants.{QueryFault, SecondQueryFault, Unchainable, FileCount, OpenFault, ReadFault, NoMemory}
+use Rattle.saber_cli.specs.Outcomes.{IsUnopened}
+use Rattle.saber_cli.specs.Due.{Contents, IsFaulty}
+use Rattle.saber_cli.specs.Leaves.{AreOf}
+use Rattle.saber_cli.specs.RowFiles.{using}
+use Rattle.saber_cli.specs.Uses.{IsOf}
+use Rattle.saber_cli.specs.Chained.{IsChainable, RunsChain}
+use Rattle.saber_cli.specs.ChainLeaves.{MatchesChain}
+
+-- ---- a query
+
+-- why the file with this name gave no plan
+abbrev pub LacksPlan : Contents → List ℕ → Outcome → Type 0
+LacksPlan files name (QueryFault byte cause) = IsFaulty files name byte cause
+LacksPlan files name (OpenFault Query) = Unit {0}
+LacksPlan files name (ReadFault Query) = Unit {0}
+LacksPlan files name NoMemory = Unit {0}
+LacksPlan files name _ = ⊥
+
+-- the same of a second query, as it is told
+abbrev pub as_second : Outcome → Outcome
+as_second (QueryFault byte cause) = SecondQueryFault byte cause
+as_second (OpenFault file) = OpenFault SecondQuery
+as_second (ReadFault file) = ReadFault SecondQuery
+as_second o = o
+
+-- why two plans make no chain over so many row files
+abbrev pub IsMisfit : Tree → Tree → ℕ → Outcome → Type 0
+IsMisfit p q files (Unchainable Query) = p.shape ≡ Select
+IsMisfit p q files (Unchainable SecondQuery) = (p.shape ≢ Select) × (q.shape ≡ Join)
+IsMisfit p q files (FileCount streams given) = IsChainable p q × (length p.streams ≡ streams) × (files ≡ given) × (streams ≢ given)
+IsMisfit p q files _ = ⊥
+
+-- ---- both queries' files
+
+-- they were opened, read and given back, and nothing failed
+pub record BothRead (first second : List ℕ) (old new : Option Told) : Type 0 where
+  pub one : Closed
+  pub two : Closed
+  pub one_good : one.1 ≡ 0
+  pub two_good : two.1 ≡ 0
+  pub told : new ≡ using old (first ∷ second ∷ []) (one ∷ two ∷ [])
+  pub one_of : IfSome old (λ t. IsOf t.contents first one)
+  pub two_of : IfSome old (λ t. IsOf t.contents second two)
+
+-- ---- the row files
+
+-- The first of the row files with these names were asked for, and those that were opened were given back in this order. Behind two queries' sources
+-- without faults, this is what a chain leaves of its files.
+pub record UsesChainRows (names : List (List ℕ)) (o : Outcome) (old new : Option Told) : Type 0 where
+  pub count : ℕ
+  pub few : count ≤ length names
+  pub given_back : List Closed
+  pub told : new ≡ using old (take count names) given_back
+  pub are_of : IfSome old (λ t. AreOf t.contents given_back names)
+  pub matches : (one two : Closed) → one.1 ≡ 0 → two.1 ≡ 0 → MatchesChain (suc (suc (length names))) o (suc (suc count)) (one ∷ two ∷ given_back)
+
+-- Over row files with these bytes; or one of them was not opened.
+pub data ChainedIn (p q : Tree) (s : Sizes) (content : Option (List (List ℕ))) (had has : Option (List ℕ)) (o : Outcome) (tasks : ℕ) : Type 0 where
+  none_run : IsUnopened o → tasks ≡ 0 → has ≡ had → ChainedIn p q s content had has o tasks
+  all_run : (all : List (List ℕ)) → content ≡ Some all → RunsChain p q s (Some all) had has o tasks → ChainedIn p q s content had has o tasks

@@ -1,0 +1,102 @@
+// A chain over sources that are open.
+ghost use Rattle.std.specs.Prelude.{◌≡◌, ◌≢◌, ℕ, List, length, false};
+ghost use Rattle.saber_io.specs.Outside.{Rose};
+ghost use Rattle.saber_plan.specs.declared.rows.Side.{Side};
+ghost use Rattle.saber_plan.specs.Trees.{tree_of};
+ghost use Rattle.saber_plan.specs.Checked.{IsChecked};
+ghost use Rattle.saber_plan.specs.Sizes.{SizesFit};
+ghost use Rattle.saber_engine.specs.Sources.{each_input, told_by, RoseAt, GaveAll};
+ghost use Rattle.saber_notes.specs.declared.outcome.Outcome.{Outcome};
+ghost use Rattle.saber_cli.specs.Outcomes.{IsClean, IsOfChain};
+ghost use Rattle.saber_cli.specs.Uses.{IsOpened};
+ghost use Rattle.saber_cli.specs.Endings.{chained_as, file_on, refused_as};
+ghost use Rattle.saber_cli.specs.Chained.{RunsChain};
+
+use crate::answer::outcome_of;
+use saber_chain::{Chained, Inputs, RunEnd, chain};
+use saber_io::{Gate, Sink, Source};
+use saber_notes::Outcome;
+use saber_plan::{Plan, RowCause, Sizes};
+use std::alloc::Global;
+use std::sync::Wait;
+use std::thread::Threads;
+
+/// How a chain ended, with its sources, its sink and the number of tasks of the second query that are assembled.
+pub(crate) struct RanBoth<S, K> {
+    pub(crate) outcome: Outcome,
+    pub(crate) inputs: Inputs<S>,
+    pub(crate) sink: K,
+    pub(crate) tasks: u64,
+}
+
+// How the call ends where the second query refuses a line of the first one's answer.
+fn refused_as(first: RunEnd, line: u64, cause: RowCause, ring: u32) -> Outcome
+    ensures { result ≡ refused_as ring line cause first }
+{
+    match first {
+        RunEnd::AllRead => Outcome::ChainLineRefused { line, cause },
+        RunEnd::Bad { .. } => Outcome::ChainLineRefused { line, cause },
+        _ => outcome_of(first, ring),
+    }
+}
+
+// How the call ends behind both runs, each on a ring of so many cells.
+fn chained_as(first: RunEnd, second: RunEnd, ring: u32) -> Outcome
+    ensures { result ≡ chained_as ring first second }
+{
+    match second {
+        RunEnd::WriteFault => Outcome::WriteFault,
+        RunEnd::NoMemory => Outcome::NoMemory,
+        RunEnd::Bad { line, cause, .. } => refused_as(first, line, cause, ring),
+        RunEnd::AllRead => outcome_of(first, ring),
+        RunEnd::ReadFault { .. } => outcome_of(first, ring),
+        RunEnd::TooWide { .. } => outcome_of(first, ring),
+    }
+}
+
+/// Runs both plans, the first one over the sources, as many as its streams.
+pub(crate) fn answer_chain<
+    S: Source + Send + Drop,
+    K: Sink + Send + Drop,
+    G: Gate + Sync,
+    R: Threads + Wait + Sync,
+>(
+    rt: &R,
+    alloc: Global,
+    first: &Plan,
+    second: &Plan,
+    inputs: Inputs<S>,
+    sink: K,
+    sizes: &Sizes,
+    gate: &G,
+) -> RanBoth<S, K>
+    requires first { IsChecked (tree_of first.now) }
+    requires inputs { length (each_input S.left inputs) ≡ length (tree_of first.now).streams }
+    requires second { IsChecked (tree_of second.now) }
+    requires one { length (tree_of second.now).streams ≡ 1 }
+    requires sizes { SizesFit sizes.now }
+    requires open_end { sizes.now.flush ≡ false }
+    ensures runs { RunsChain (tree_of first.now) (tree_of second.now) sizes.now (told_by S.left inputs) (K.written sink) (K.written result.sink) result.outcome result.tasks }
+    ensures kinds { IsOfChain result.outcome }
+    ensures opened { IsOpened result.outcome }
+    ensures takes { (taken : List (List ℕ)) × GaveAll (each_input S.left inputs) taken (each_input S.left result.inputs) }
+    ensures read { (side : Side) → result.outcome ≡ Outcome.ReadFault (file_on side) → RoseAt side (each_input S.faults inputs) (each_input S.faults result.inputs) }
+    ensures read_good { IsClean result.outcome → each_input S.faults result.inputs ≡ each_input S.faults inputs }
+    ensures write { result.outcome ≡ Outcome.WriteFault → Rose (K.faults sink) (K.faults result.sink) }
+    ensures write_good { result.outcome ≢ Outcome.WriteFault → K.faults result.sink ≡ K.faults sink }
+{
+    let Chained {
+        first: first_end,
+        second: second_end,
+        inputs,
+        sink,
+        first_tasks: _,
+        tasks,
+    } = chain(rt, alloc, first, second, inputs, sink, sizes, gate);
+    RanBoth {
+        outcome: chained_as(first_end, second_end, sizes.ring),
+        inputs,
+        sink,
+        tasks,
+    }
+}

@@ -1,0 +1,125 @@
+// The plans of a chain's two queries.
+ghost use Rattle.std.specs.Prelude.{◌≡◌, ◌≢◌, ℕ, List, IfOk, IfErr, IfSome, None, length};
+ghost use Rattle.saber_io.specs.Outside.{Rose};
+ghost use Rattle.saber_plan.specs.Trees.{tree_of};
+ghost use Rattle.saber_plan.specs.Checked.{IsChecked};
+ghost use Rattle.saber_words.specs.Chain.{asked_chain};
+ghost use Rattle.saber_notes.specs.declared.outcome.InputFile.{InputFile};
+ghost use Rattle.saber_cli.specs.Outcomes.{IsClean, IsFileFault, IsOfPlan, IsOfPlans};
+ghost use Rattle.saber_cli.specs.Due.{IsLike, first_run, row_names};
+ghost use Rattle.saber_cli.specs.Uses.{Uses, KeepsFaults, outcome_of};
+ghost use Rattle.saber_cli.specs.Chained.{HasPlans, HasReason, IsChainable, IsPlanned};
+ghost use Rattle.saber_cli.specs.ChainLeaves.{LeavesChain};
+ghost use Rattle.saber_cli.specs.Chaining.{BothRead, IsMisfit, LacksPlan, as_second};
+
+use crate::laws::laws;
+use crate::plans::planned;
+use crate::queries::query_text;
+use saber_io::Files;
+use saber_notes::{InputFile, Outcome};
+use saber_plan::{Plan, Shape};
+use saber_words::Chain;
+use std::alloc::Global;
+
+// The plan of the query that a file has.
+fn query_plan<F: Files>(alloc: Global, files: &mut F, name: &str) -> Result<Plan, Outcome>
+    ensures plan { IfOk result (λ plan. IfSome (F.told files.old) (λ t. IsPlanned t.contents name.now (tree_of plan))) }
+    ensures checked { IfOk result (λ plan. IsChecked (tree_of plan)) }
+    ensures lacks { IfErr result (λ o. IfSome (F.told files.old) (λ t. LacksPlan t.contents name.now o)) }
+    ensures kinds { IfErr result IsOfPlan }
+    ensures uses { Uses InputFile.Query name.now (outcome_of result) (F.told files.old) (F.told files.new) }
+    ensures cause { IfErr result (λ o. IsFileFault o → Rose (F.faults files.old) (F.faults files.new)) }
+    ensures read_good { IsClean (outcome_of result) → F.faults files.new ≡ F.faults files.old }
+    ensures count { KeepsFaults (F.faults files.old) (F.faults files.new) }
+{
+    laws();
+    let text = match query_text(alloc, files, name) {
+        Ok(text) => text,
+        Err(outcome) => return Err(outcome),
+    };
+    match planned(alloc, &text) {
+        Ok(plan) => Ok(plan),
+        Err(outcome) => Err(outcome),
+    }
+}
+
+// What a second query came to, as it is told.
+fn as_second(outcome: Outcome) -> Outcome
+    ensures { result ≡ as_second outcome }
+{
+    match outcome {
+        Outcome::QueryFault { byte, cause } => Outcome::SecondQueryFault { byte, cause },
+        Outcome::OpenFault(_) => Outcome::OpenFault(InputFile::SecondQuery),
+        Outcome::ReadFault(_) => Outcome::ReadFault(InputFile::SecondQuery),
+        _ => outcome,
+    }
+}
+
+// Why two plans make no chain over so many row files.
+fn misfit(first: &Plan, second: &Plan, files: u64) -> Option<Outcome>
+    ensures some { IfSome result (IsMisfit (tree_of first.now) (tree_of second.now) files) }
+    ensures chains { result ≡ None → IsChainable (tree_of first.now) (tree_of second.now) }
+    ensures like { result ≡ None → length (tree_of first.now).streams ≡ files }
+{
+    if first.shape() == Shape::Select {
+        return Some(Outcome::Unchainable(InputFile::Query));
+    }
+    if second.shape() == Shape::Join {
+        return Some(Outcome::Unchainable(InputFile::SecondQuery));
+    }
+    let streams = first.streams().len() as u64;
+    if streams != files {
+        return Some(Outcome::FileCount { streams, files });
+    }
+    None
+}
+
+// How many row files a chain names.
+fn file_count(command: &Chain<'_>) -> u64
+    ensures { result ≡ length (row_names (first_run (asked_chain command.now))) }
+{
+    match command.right {
+        None => 1,
+        Some(_) => 2,
+    }
+}
+
+/// The plans of a chain's queries.
+#[derive(Drop)]
+pub(crate) struct Plans {
+    pub(crate) first: Plan,
+    pub(crate) second: Plan,
+}
+
+/// Reads and checks the first query and then the second one, and whether they chain over the row files that are named.
+pub(crate) fn chain_plans<F: Files>(
+    alloc: Global,
+    files: &mut F,
+    command: &Chain<'_>,
+) -> Result<Plans, Outcome>
+    ensures plans { IfOk result (λ plans. IfSome (F.told files.old) (λ t. HasPlans t.contents (asked_chain command.now) (tree_of plans.first) (tree_of plans.second))) }
+    ensures first { IfOk result (λ plans. IsChecked (tree_of plans.first)) }
+    ensures second { IfOk result (λ plans. IsChecked (tree_of plans.second)) }
+    ensures chains { IfOk result (λ plans. IsChainable (tree_of plans.first) (tree_of plans.second)) }
+    ensures like { IfOk result (λ plans. IsLike (first_run (asked_chain command.now)) (tree_of plans.first)) }
+    ensures reason { IfErr result (λ o. IfSome (F.told files.old) (λ t. HasReason t.contents (asked_chain command.now) o)) }
+    ensures kinds { IfErr result IsOfPlans }
+    ensures read { IfOk result (λ plans. BothRead (asked_chain command.now).first (asked_chain command.now).second (F.told files.old) (F.told files.new)) }
+    ensures leaves { IfErr result (λ o. LeavesChain (asked_chain command.now) o (F.told files.old) (F.told files.new)) }
+    ensures cause { IfErr result (λ o. IsFileFault o → Rose (F.faults files.old) (F.faults files.new)) }
+    ensures read_good { IsClean (outcome_of result) → F.faults files.new ≡ F.faults files.old }
+    ensures count { KeepsFaults (F.faults files.old) (F.faults files.new) }
+{
+    let first = match query_plan(alloc, files, command.first) {
+        Ok(plan) => plan,
+        Err(outcome) => return Err(outcome),
+    };
+    let second = match query_plan(alloc, files, command.second) {
+        Ok(plan) => plan,
+        Err(outcome) => return Err(as_second(outcome)),
+    };
+    match misfit(&first, &second, file_count(command)) {
+        None => Ok(Plans { first, second }),
+        Some(outcome) => Err(outcome),
+    }
+}

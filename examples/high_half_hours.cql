@@ -1,0 +1,2 @@
+STREAM HalfHour(number, meter, watts);
+SELECT number, meter, watts FROM HalfHour WHERE watts > 2000;
