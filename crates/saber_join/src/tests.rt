@@ -1,8 +1,7 @@
 //! Pairs of windows, worked out by hand.
-ghost use Rattle.std.specs.Prelude.{◌≡◌, ◌∷◌, ◌++◌, [], IfOk, OnOk, Some, None, true, false};
+ghost use Rattle.std.specs.Prelude.{◌≡◌, ◌++◌, [], IfOk, OnOk, Some, None, true, false};
 ghost use Rattle.saber_plan.specs.declared.rows.Side.TheVariants as s;
 ghost use Rattle.saber_plan.specs.declared.predicates.Cmp.TheVariants as c;
-ghost use Rattle.saber_plan.specs.declared.expressions.Factor.TheVariants as f;
 ghost use Rattle.saber_plan.specs.declared.plans.Shape.TheVariants as h;
 ghost use Rattle.saber_plan.specs.Trees as t;
 ghost use Rattle.saber_plan.specs.Trees.{tree_of};
@@ -10,9 +9,10 @@ ghost use Rattle.saber_plan.specs.Checked.{IsChecked, columns_on};
 ghost use Rattle.saber_plan.specs.Given.{RowsFit};
 ghost use Rattle.saber_plan.specs.Inputs.{going_on};
 ghost use Rattle.saber_plan.specs.Answers.{frame};
-ghost use Rattle.saber_plan.specs.Tasks.{unclosed};
 ghost use Rattle.saber_plan.specs.Shares.{shares_here};
-ghost use Rattle.saber_plan.specs.Windows.{Fits, mark_after, mark_of, no_rows};
+ghost use Rattle.saber_plan.specs.Windows.{Fits, mark_after, no_rows};
+ghost use Rattle.saber_samples.specs.Asking.{IsJoinOf, one_column, only};
+ghost use Rattle.saber_samples.specs.Standing.{ComesBehind, Keeps};
 
 use super::*;
 use saber_fragment::{Block, Operator, Parts, Piece, Rows};
@@ -32,7 +32,7 @@ mod ties;
 
 // x < y
 fn rising(alloc: Global) -> Result<Pred, NoMemory>
-    ensures { IfOk result (λ p. t.tests_of p ≡ t.either (t.both (t.compare (record { minus = false; factors = f.Column s.Left 1 ∷ [] } ∷ []) c.Less (record { minus = false; factors = f.Column s.Right 1 ∷ [] } ∷ [])) t.no_more) t.no_other) }
+    ensures { IfOk result (λ p. t.tests_of p ≡ only (t.compare (one_column s.Left 1) c.Less (one_column s.Right 1))) }
 {
     let left = column(alloc, Side::Left, 1)?;
     let right = column(alloc, Side::Right, 1)?;
@@ -44,7 +44,7 @@ fn rising(alloc: Global) -> Result<Pred, NoMemory>
 
 // SELECT x, y FROM A [RANGE 4 SLIDE 4], B [RANGE 4 SLIDE 4] WHERE x < y
 fn by_time(alloc: Global) -> Result<Plan, NoMemory>
-    ensures { IfOk result (λ p. IsChecked (tree_of p) × ((tree_of p).shape ≡ h.Join) × (columns_on (tree_of p).streams s.Left ≡ 2) × (columns_on (tree_of p).streams s.Right ≡ 2)) }
+    ensures { IfOk result (IsJoinOf 2) }
 {
     let left = windowed(2, Measure::Range, 4, 4);
     let right = windowed(2, Measure::Range, 4, 4);
@@ -64,7 +64,7 @@ fn by_time(alloc: Global) -> Result<Plan, NoMemory>
 
 // SELECT x, y FROM A [ROWS 2 SLIDE 1], B [ROWS 2 SLIDE 1]
 fn by_rows(alloc: Global) -> Result<Plan, NoMemory>
-    ensures { IfOk result (λ p. IsChecked (tree_of p) × ((tree_of p).shape ≡ h.Join) × (columns_on (tree_of p).streams s.Left ≡ 2) × (columns_on (tree_of p).streams s.Right ≡ 2)) }
+    ensures { IfOk result (IsJoinOf 2) }
 {
     let left = windowed(2, Measure::Rows, 2, 1);
     let right = windowed(2, Measure::Rows, 2, 1);
@@ -77,7 +77,7 @@ fn by_rows(alloc: Global) -> Result<Plan, NoMemory>
 
 // SELECT x, y FROM A [ROWS 2 SLIDE 2], B [ROWS 1 SLIDE 2]
 fn sizes_by_rows(alloc: Global) -> Result<Plan, NoMemory>
-    ensures { IfOk result (λ p. IsChecked (tree_of p) × ((tree_of p).shape ≡ h.Join) × (columns_on (tree_of p).streams s.Left ≡ 2) × (columns_on (tree_of p).streams s.Right ≡ 2)) }
+    ensures { IfOk result (IsJoinOf 2) }
 {
     let left = windowed(2, Measure::Rows, 2, 2);
     let right = windowed(2, Measure::Rows, 1, 2);
@@ -90,7 +90,7 @@ fn sizes_by_rows(alloc: Global) -> Result<Plan, NoMemory>
 
 // SELECT x, y FROM A [RANGE 4 SLIDE 4], B [RANGE 2 SLIDE 4]
 fn sizes_by_time(alloc: Global) -> Result<Plan, NoMemory>
-    ensures { IfOk result (λ p. IsChecked (tree_of p) × ((tree_of p).shape ≡ h.Join) × (columns_on (tree_of p).streams s.Left ≡ 2) × (columns_on (tree_of p).streams s.Right ≡ 2)) }
+    ensures { IfOk result (IsJoinOf 2) }
 {
     let left = windowed(2, Measure::Range, 4, 4);
     let right = windowed(2, Measure::Range, 2, 4);
@@ -112,7 +112,8 @@ fn piece<O: Operator>(
     requires fits { RowsFit (O.plan operator.now) one.now.before ((one.now.rows ++ two.now.rows) ++ own.now.rows) }
     requires goes_on { two.now.before ≡ mark_after one.now.before one.now.rows }
     requires meets { own.now.before ≡ mark_after one.now.before (one.now.rows ++ two.now.rows) }
-    ensures shares { IfOk result (λ p. O.shares operator.now p ≡ shares_here (O.plan operator.now) one.now.before (one.now.rows ++ two.now.rows) own.now.rows own.now.ended) }
+    ensures shares { IfOk result (λ p. O.shares operator.now p
+        ≡ shares_here (O.plan operator.now) one.now.before (one.now.rows ++ two.now.rows) own.now.rows own.now.ended) }
     ensures of { IfOk result (λ p. O.is_of operator.now p own.now.before own.now.rows own.now.ended) }
 {
     let mut draft = operator.start(alloc, own)?;
@@ -326,12 +327,10 @@ fn give<O: Operator>(
     requires windows { Fits (frame (O.plan operator.now)) }
     requires join { (O.plan operator.now).shape ≡ h.Join }
     requires first { behind.now.before ≡ no_rows }
-    requires meets { own.now.before ≡ mark_of behind.now.rows }
-    requires fits { RowsFit (O.plan operator.now) no_rows (behind.now.rows ++ own.now.rows) }
-    requires held { O.held store.old ≡ unclosed (O.plan operator.now) (going_on behind.now.rows) }
-    requires taken { O.has_taken operator.now store.old (going_on behind.now.rows) }
-    ensures held { OnOk result (own.now.ended ≡ false → O.held store.new ≡ unclosed (O.plan operator.now) (going_on (behind.now.rows ++ own.now.rows))) }
-    ensures taken { OnOk result (own.now.ended ≡ false → O.has_taken operator.now store.new (going_on (behind.now.rows ++ own.now.rows))) }
+    requires next { ComesBehind (O.plan operator.now) own.now behind.now.rows }
+    requires kept { Keeps (O.plan operator.now) (O.held store.old) (O.has_taken operator.now store.old) (going_on behind.now.rows) }
+    ensures { OnOk result (own.now.ended ≡ false
+        → Keeps (O.plan operator.now) (O.held store.new) (O.has_taken operator.now store.new) (going_on (behind.now.rows ++ own.now.rows))) }
 {
     merge_has_unit();
     open_goes_on();

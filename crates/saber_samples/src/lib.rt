@@ -1,5 +1,5 @@
-//! What the tests of operators are made of: expressions and predicates, streams with a window, and
-//! blocks of rows that can come behind a mark. Only tests call it.
+//! What tests of the crates above are made of: expressions and predicates, streams with a window, plans, the
+//! sizes of a run, and blocks of rows that can come behind a mark. Only tests call it.
 #![tactic(auto)]
 
 mod blocks;
@@ -7,5 +7,5 @@ mod plans;
 mod rows;
 
 pub use blocks::{keyed_block, sided_block};
-pub use plans::{all, column, product, single, windowed};
+pub use plans::{all, column, counts, pairs, product, single, sizes, window, windowed};
 pub use rows::{keyed_row, sided_row};

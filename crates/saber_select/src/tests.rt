@@ -7,6 +7,7 @@ ghost use Rattle.saber_plan.specs.Trees as t;
 ghost use Rattle.saber_plan.specs.Trees.{tree_of};
 ghost use Rattle.saber_plan.specs.Checked.{IsChecked, columns_on};
 ghost use Rattle.saber_plan.specs.Given.{RowsFit};
+ghost use Rattle.saber_samples.specs.Asking.{IsOfOne, one_column, one_number, plus, less, without_window};
 
 use super::*;
 use saber_fragment::{Block, Operator, Text};
@@ -17,7 +18,7 @@ use std::test::Fail;
 
 // v * 2 - 1
 fn twice_less_one(alloc: Global) -> Result<Expr, NoMemory>
-    ensures { IfOk result (λ e. e ≡ record { minus = false; factors = f.Column s.Left 2 ∷ f.Constant (pos 2) ∷ [] } ∷ record { minus = true; factors = f.Constant (pos 1) ∷ [] } ∷ []) }
+    ensures { IfOk result (λ e. e ≡ plus (f.Column s.Left 2 ∷ f.Constant (pos 2) ∷ []) ∷ less (f.Constant (pos 1) ∷ []) ∷ []) }
 {
     let number = Factor::Column {
         side: Side::Left,
@@ -29,7 +30,7 @@ fn twice_less_one(alloc: Global) -> Result<Expr, NoMemory>
 }
 
 fn compared(alloc: Global, index: u32, cmp: Cmp, number: i64) -> Result<Unit, NoMemory>
-    ensures { IfOk result (λ u. t.test_of u ≡ t.compare (record { minus = false; factors = f.Column s.Left index ∷ [] } ∷ []) cmp (record { minus = false; factors = f.Constant number ∷ [] } ∷ [])) }
+    ensures { IfOk result (λ u. t.test_of u ≡ t.compare (one_column s.Left index) cmp (one_number number)) }
 {
     let left = column(alloc, Side::Left, index)?;
     let right = single(alloc, Factor::Constant(number))?;
@@ -38,7 +39,8 @@ fn compared(alloc: Global, index: u32, cmp: Cmp, number: i64) -> Result<Unit, No
 
 // Three columns: a time, a group and a number.
 fn plan(alloc: Global, items: Vec<Item>, predicate: Pred) -> Result<Plan, NoMemory>
-    ensures { IfOk result (λ p. tree_of p ≡ record { shape = h.Select; streams = record { columns = 3; window = None } ∷ []; items = items.items; keys = []; predicate = Some (t.tests_of predicate) }) }
+    ensures { IfOk result (λ p. tree_of p
+        ≡ record { shape = h.Select; streams = without_window 3 ∷ []; items = items.items; keys = []; predicate = Some (t.tests_of predicate) }) }
 {
     let stream = Stream {
         columns: 3,
@@ -51,7 +53,7 @@ fn plan(alloc: Global, items: Vec<Item>, predicate: Pred) -> Result<Plan, NoMemo
 
 // SELECT g, v*2-1 FROM S WHERE v > 5
 fn doubles(alloc: Global) -> Result<Plan, NoMemory>
-    ensures { IfOk result (λ p. IsChecked (tree_of p) × ((tree_of p).shape ≡ h.Select) × (columns_on (tree_of p).streams s.Left ≡ 3)) }
+    ensures { IfOk result (IsOfOne h.Select 3) }
 {
     let group = Item::Value(column(alloc, Side::Left, 1)?);
     let double = Item::Value(twice_less_one(alloc)?);
@@ -62,7 +64,7 @@ fn doubles(alloc: Global) -> Result<Plan, NoMemory>
 
 // SELECT v FROM S WHERE g = 1 AND NOT v < 10
 fn tens(alloc: Global) -> Result<Plan, NoMemory>
-    ensures { IfOk result (λ p. IsChecked (tree_of p) × ((tree_of p).shape ≡ h.Select) × (columns_on (tree_of p).streams s.Left ≡ 3)) }
+    ensures { IfOk result (IsOfOne h.Select 3) }
 {
     let number = Item::Value(column(alloc, Side::Left, 2)?);
     let first = compared(alloc, 1, Cmp::Equal, 1)?;

@@ -4,6 +4,7 @@ use Rattle.saber_plan.specs.Windows.{no_rows, mark_of}
 use Rattle.saber_plan.specs.Given.{RowsFit}
 use Rattle.saber_plan.specs.Tasks.{unclosed}
 use Rattle.saber_samples.specs.Filling.{fits_nil}
+use Rattle.saber_samples.specs.Standing.{Keeps}
 use Rattle.saber_join.proofs.tests.answer.Goals as goal
 
 pub loop-table-init : goal.loop-table-init
@@ -14,14 +15,19 @@ loop-table-init g c =
       first = λ j. no_rows;
       mark = sym (ap mark_of none);
       fits = subst (RowsFit q no_rows) (sym none) (fits_nil q no_rows (omega arith) (omega arith));
-      held = c.empty_store-store.ensures.held ∙ sym (c.no_rows_give_nothing.ensures q c.requires.windows).1 ∙ ap (λ l. unclosed q (going_on l)) (sym none);
-      taken = subst (λ l. g.O.Operator.has_taken c.args.operator.now c.empty_store-store.result (going_on l)) (sym none) c.empty_store-store.ensures.taken;
+      kept = record {
+        held = c.empty_store-store.ensures.held ∙ sym (c.no_rows_give_nothing.ensures q c.requires.windows).1 ∙ ap (λ l. unclosed q (going_on l)) (sym none);
+        taken = subst (λ l. g.O.Operator.has_taken c.args.operator.now c.empty_store-store.result (going_on l)) (sym none) c.empty_store-store.ensures.taken;
+      };
     }
 
-pub give-requires-clause-fits : goal.give-requires-clause-fits
-give-requires-clause-fits g c =
+pub give-requires-clause-next : goal.give-requires-clause-next
+give-requires-clause-next g c =
     let i = c.loop-table.invariant in
-    c.in_ok-own.ensures.fit (g.O.Operator.plan c.args.operator.now) no_rows c.loop-table.behind.rows (c.requires.left, c.requires.right) i.mark i.fits
+    record {
+      before = c.in_ok-own.ensures.before ∙ i.mark;
+      fits = c.in_ok-own.ensures.fit (g.O.Operator.plan c.args.operator.now) no_rows c.loop-table.behind.rows (c.requires.left, c.requires.right) i.mark i.fits;
+    }
 
 pub loop-table-preserved : goal.loop-table-preserved
 loop-table-preserved g c =
@@ -35,11 +41,13 @@ loop-table-preserved g c =
       first = i.first;
       mark = c.in_ok-own.ensures.mark no_rows old i.mark ∙ ap mark_of (sym more);
       fits = subst (RowsFit q no_rows) (sym more) (c.in_ok-own.ensures.fit q no_rows old (c.requires.left, c.requires.right) i.mark i.fits);
-      held = c.in_ok-give.ensures.held c.in_ok-own.ensures.ended ∙ ap (λ l. unclosed q (going_on l)) (sym more);
-      taken = subst (λ l. g.O.Operator.has_taken op c.give.new.store (going_on l)) (sym more) (c.in_ok-give.ensures.taken c.in_ok-own.ensures.ended);
+      kept = subst (λ l. Keeps q (g.O.Operator.held c.give.new.store) (g.O.Operator.has_taken op c.give.new.store) (going_on l)) (sym more) (c.in_ok-give.ensures c.in_ok-own.ensures.ended);
     }
 
-pub give-requires-2-clause-fits : goal.give-requires-2-clause-fits
-give-requires-2-clause-fits g c =
+pub give-requires-2-clause-next : goal.give-requires-2-clause-next
+give-requires-2-clause-next g c =
     let i = c.loop-table.invariant in
-    c.in_ok-own-2.ensures.fit (g.O.Operator.plan c.args.operator.now) no_rows c.loop-table.behind.rows (c.requires.left, c.requires.right) i.mark i.fits
+    record {
+      before = c.in_ok-own-2.ensures.before ∙ i.mark;
+      fits = c.in_ok-own-2.ensures.fit (g.O.Operator.plan c.args.operator.now) no_rows c.loop-table.behind.rows (c.requires.left, c.requires.right) i.mark i.fits;
+    }

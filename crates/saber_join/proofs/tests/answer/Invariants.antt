@@ -2,7 +2,7 @@ use Rattle.std.proofs.Common.{◌≡◌}
 use Rattle.saber_plan.specs.Inputs.{going_on}
 use Rattle.saber_plan.specs.Windows.{no_rows, mark_of}
 use Rattle.saber_plan.specs.Given.{RowsFit}
-use Rattle.saber_plan.specs.Tasks.{unclosed}
+use Rattle.saber_samples.specs.Standing.{Keeps}
 use Rattle.saber_join.proofs.tests.answer.Given as goal
 
 abbrev pub invariant-loop-table : goal.invariant-loop-table
@@ -12,6 +12,5 @@ invariant-loop-table g l =
       first : l.behind.before ≡ no_rows;
       mark : l.mark ≡ mark_of l.behind.rows;
       fits : RowsFit q no_rows l.behind.rows;
-      held : g.O.Operator.held l.store ≡ unclosed q (going_on l.behind.rows);
-      taken : g.O.Operator.has_taken l.fn.operator l.store (going_on l.behind.rows);
+      kept : Keeps q (g.O.Operator.held l.store) (g.O.Operator.has_taken l.fn.operator l.store) (going_on l.behind.rows);
     }
