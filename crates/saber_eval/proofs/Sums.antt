@@ -1,9 +1,11 @@
 -- Sums, one product after another.
-use Rattle.std.proofs.Common.{◌≡◌, ℕ, suc, ◌+◌, ◌^◌, ◌<◌, ◌≤◌, List, ◌∷◌, length, drop, get_or, fold, ℤ, pos, ◌+ℤ◌, nat_abs, refl, ◌∙◌, ap, subst, sym, arith, add-one, drop-cons}
+use Rattle.std.proofs.Common.{◌≡◌, ℕ, suc, ◌+◌, ◌^◌, ◌<◌, ◌≤◌, List, [], ◌∷◌, length, drop, get_or, fold, ℤ, pos, Bool, ◌+ℤ◌, ◌*ℤ◌, nat_abs, refl, ◌∙◌, ap, subst, sym, arith, add-one, drop-cons}
+use Rattle.std.proofs.Math.IntN.{+ℤ_idl, suc_ℤ-*ℤ, zero-*ℤ}
 use Rattle.std.specs.List.{AllByRecursion}
 use Rattle.saber_plan.specs.declared.rows.Side.{Side}
+use Rattle.saber_plan.specs.declared.expressions.Factor.{Factor}
 use Rattle.saber_plan.specs.declared.expressions.Product.{Product}
-use Rattle.saber_plan.specs.Values.{product_value, value_at}
+use Rattle.saber_plan.specs.Values.{factor_value, signed, product_value, value_at}
 use Rattle.saber_plan.specs.Bounds.{bound_after, ProductFits, SumFits, sum_bound}
 use Rattle.saber_plan.specs.Checked.{HasColumn, ExprFits}
 
@@ -52,3 +54,21 @@ module _ (at : Side → ℕ → ℤ) (columns : Side → ℕ) (all : List Produc
 
   pub summed_more : (i : ℕ) (z v w : ℤ) (p : Product) → i < length all → p ≡ get_or all i p → v ≡ product_value at p → w ≡ z +ℤ v → nat_abs w ≤ nat_abs z + nat_abs v → nat_abs v ≤ bound_after 1 p.factors → Summed at columns all z (drop i all) → Summed at columns all w (drop (i + 1) all)
   summed_more i z v w p h e ev ew bw bv k = rw add-one (summed_cons z v w p (drop (suc i) all) ev ew bw bv (subst (λ l. Summed at columns all z (l ∷ drop (suc i) all)) (sym e) (subst (Summed at columns all z) (drop-cons all i p h) k)))
+
+-- ---- one factor alone
+
+once : (z : ℤ) → pos 1 *ℤ z ≡ z
+once z = suc_ℤ-*ℤ (pos 0) z ∙ ap (λ y. y +ℤ z) (zero-*ℤ z) ∙ +ℤ_idl z
+
+-- the value of a product of one factor
+factor_alone : (at : Side → ℕ → ℤ) (minus : Bool) (fs : List Factor) (g : Factor) → length fs ≡ 1 → signed minus (factor_value at (get_or fs 0 g)) ≡ signed minus (fold (λ z f. z *ℤ factor_value at f) (pos 1) fs)
+factor_alone at minus [] g one = absurd (omega arith)
+factor_alone at minus (f ∷ []) g one = ap (signed minus) (sym (once (factor_value at f)))
+factor_alone at minus (f ∷ f' ∷ fs) g one = absurd (omega arith)
+
+-- and of one such product
+pub value_alone : (at : Side → ℕ → ℤ) (ps : List Product) (d e : Product) (g : Factor) → length ps ≡ 1 → length (get_or ps 0 d).factors ≡ 1 → signed (get_or ps 0 e).minus (factor_value at (get_or (get_or ps 0 d).factors 0 g)) ≡ value_at at ps
+unfolding value_at
+value_alone at [] d e g one alone = absurd (omega arith)
+value_alone at (p ∷ []) d e g one alone = factor_alone at p.minus p.factors g alone ∙ sym (+ℤ_idl (product_value at p))
+value_alone at (p ∷ q ∷ ps) d e g one alone = absurd (omega arith)

@@ -1,6 +1,6 @@
 // The values of expressions, over the numbers of a left and a right row. One row has no numbers on
 // the right.
-ghost use Rattle.std.specs.Prelude.{◌≡◌, ◌≤◌, ◌+◌, ◌^◌, ◌*◌, nat_abs, fold, ◌*ℤ◌, ◌+ℤ◌, pos};
+ghost use Rattle.std.specs.Prelude.{◌≡◌, ◌≤◌, ◌+◌, ◌^◌, ◌*◌, nat_abs, IfSome, fold, ◌*ℤ◌, ◌+ℤ◌, pos};
 ghost use Rattle.std.specs.List.{AllByRecursion};
 ghost use Rattle.saber_plan.specs.Values.{column_of, factor_value, signed, product_value, value_at};
 ghost use Rattle.saber_plan.specs.Bounds.{factor_bound, bound_after, ProductFits, sum_bound};
@@ -72,6 +72,25 @@ fn term(p: &Product, left: &[i64], right: &[i64]) -> i128
     with_sign(p.minus, product(p.factors.as_slice(), left, right))
 }
 
+// The value of one column or constant alone, as most expressions are.
+#[inline]
+fn single(products: &[Product], left: &[i64], right: &[i64]) -> Option<i128>
+    requires { ExprFits (widths left.now right.now) products.now }
+    ensures value { IfSome result (λ z. z ≡ value_at (column_of left.now right.now) products.now) }
+    ensures bound { IfSome result (λ z. nat_abs z ≤ sum_bound 0 products.now) }
+    ensures small { IfSome result (λ z. nat_abs z ≤ 2 ^ 126) }
+{
+    if products.len() != 1 {
+        return None;
+    }
+    let factors = products[0].factors.as_slice();
+    if factors.len() != 1 {
+        return None;
+    }
+    let number = factor(&factors[0], left, right);
+    Some(with_sign(products[0].minus, i128::from(number)))
+}
+
 // The value of an expression, from its products.
 pub(crate) fn sum(products: &[Product], left: &[i64], right: &[i64]) -> i128
     requires { ExprFits (widths left.now right.now) products.now }
@@ -79,6 +98,9 @@ pub(crate) fn sum(products: &[Product], left: &[i64], right: &[i64]) -> i128
     ensures bound { nat_abs result ≤ sum_bound 0 products.now }
     ensures small { nat_abs result ≤ 2 ^ 126 }
 {
+    if let Some(number) = single(products, left, right) {
+        return number;
+    }
     let mut so_far = 0i128;
     for p in products {
         so_far = plus(so_far, term(p, left, right));

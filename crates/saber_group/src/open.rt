@@ -62,8 +62,7 @@ impl Open {
             self.runs.drop_to(alloc, self.next)?;
             match self.runs.first_number() {
                 Some(_) => {
-                    let part = self.runs.whole(alloc)?;
-                    part.lines(plan, self.next, out)?;
+                    self.runs.lines(plan, self.next, out)?;
                     self.next += 1;
                 }
                 None => {

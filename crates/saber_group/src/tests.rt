@@ -4,13 +4,14 @@ ghost use Rattle.saber_plan.specs.declared.rows.Row.{Row};
 ghost use Rattle.saber_plan.specs.declared.rows.Side.TheVariants as sides;
 ghost use Rattle.saber_plan.specs.declared.plans.Shape.TheVariants as shapes;
 ghost use Rattle.saber_plan.specs.Answers.{frame};
-ghost use Rattle.saber_plan.specs.Checked.{IsChecked, WindowFits, columns_on};
+ghost use Rattle.saber_plan.specs.Checked.{IsChecked, columns_on};
 ghost use Rattle.saber_plan.specs.Given.{RowsFit};
 ghost use Rattle.saber_plan.specs.Inputs.{going_on};
 ghost use Rattle.saber_plan.specs.Shares.{shares_here};
-ghost use Rattle.saber_plan.specs.Tasks.{unclosed};
 ghost use Rattle.saber_plan.specs.Trees.{tree_of};
-ghost use Rattle.saber_plan.specs.Windows.{Fits, mark_of, no_rows};
+ghost use Rattle.saber_plan.specs.Windows.{Fits};
+ghost use Rattle.saber_samples.specs.Asking.{IsOfOne};
+ghost use Rattle.saber_samples.specs.Standing.{ComesBehind, Keeps};
 
 use super::*;
 use crate::run_pieces::RunPiece;
@@ -20,7 +21,7 @@ use saber_laws::{
     checked_fit, no_rows_give_nothing, open_goes_on, shares_are_local, shares_make_piece,
 };
 use saber_plan::{Cmp, Factor, Item, Mark, Measure, NoMemory, Plan, Shape, Side, Unit};
-use saber_samples::{all, column, keyed_block, single, windowed};
+use saber_samples::{all, column, counts, keyed_block, single, window, windowed};
 use std::alloc::Global;
 use std::process::Abort;
 use std::test::Fail;
@@ -29,7 +30,7 @@ use std::test::Fail;
 
 // SELECT key, SUM(number) .. [ROWS 3 SLIDE 1] GROUP BY key
 fn sums(alloc: Global) -> Result<Plan, NoMemory>
-    ensures { IfOk result (λ p. IsChecked (tree_of p) × ((tree_of p).shape ≡ shapes.Group) × (columns_on (tree_of p).streams sides.Left ≡ 3)) }
+    ensures { IfOk result (IsOfOne shapes.Group 3) }
 {
     let streams = vec![in alloc; windowed(3, Measure::Rows, 3, 1)]?;
     let key = Item::Value(column(alloc, Side::Left, 1)?);
@@ -40,7 +41,7 @@ fn sums(alloc: Global) -> Result<Plan, NoMemory>
 
 // SELECT MIN(number), MAX(number), COUNT(*) .. [RANGE 3 SLIDE 2]
 fn extremes(alloc: Global) -> Result<Plan, NoMemory>
-    ensures { IfOk result (λ p. IsChecked (tree_of p) × ((tree_of p).shape ≡ shapes.Group) × (columns_on (tree_of p).streams sides.Left ≡ 3)) }
+    ensures { IfOk result (IsOfOne shapes.Group 3) }
 {
     let streams = vec![in alloc; windowed(3, Measure::Range, 3, 2)]?;
     let least = Item::Min(column(alloc, Side::Left, 2)?);
@@ -49,19 +50,9 @@ fn extremes(alloc: Global) -> Result<Plan, NoMemory>
     Ok(Plan::new(Shape::Group, streams, items, Vec::new(alloc), None))
 }
 
-// SELECT COUNT(*) .. with this window
-fn counts(alloc: Global, measure: Measure, size: u64, slide: u64) -> Result<Plan, NoMemory>
-    requires { WindowFits (record { measure = measure; size = size; slide = slide }) }
-    ensures { IfOk result (λ p. IsChecked (tree_of p) × ((tree_of p).shape ≡ shapes.Group) × (columns_on (tree_of p).streams sides.Left ≡ 3)) }
-{
-    let streams = vec![in alloc; windowed(3, measure, size, slide)]?;
-    let items = vec![in alloc; Item::Count]?;
-    Ok(Plan::new(Shape::Group, streams, items, Vec::new(alloc), None))
-}
-
 // SELECT COUNT(*) .. [ROWS 2 SLIDE 2] WHERE number > limit
 fn high_counts(alloc: Global, limit: i64) -> Result<Plan, NoMemory>
-    ensures { IfOk result (λ p. IsChecked (tree_of p) × ((tree_of p).shape ≡ shapes.Group) × (columns_on (tree_of p).streams sides.Left ≡ 3)) }
+    ensures { IfOk result (IsOfOne shapes.Group 3) }
 {
     let number = column(alloc, Side::Left, 2)?;
     let high = Unit::compare(
@@ -137,11 +128,12 @@ fn give<O: Operator>(
 ) -> Result<(), NoMemory>
     requires windows { Fits (frame (O.plan operator.now)) }
     requires no_join { (O.plan operator.now).shape ≢ shapes.Join }
-    requires next { (xs : List Row) × (own.now.before ≡ mark_of xs) × RowsFit (O.plan operator.now) no_rows (xs ++ own.now.rows) × (O.held store.old ≡ unclosed (O.plan operator.now) (going_on xs)) × O.has_taken operator.now store.old (going_on xs) }
-    ensures held { OnOk result ((xs : List Row) → own.now.before ≡ mark_of xs → RowsFit (O.plan operator.now) no_rows (xs ++ own.now.rows) → O.held store.old ≡ unclosed (O.plan operator.now) (going_on xs) → O.has_taken operator.now store.old (going_on xs)
-        → own.now.ended ≡ false → O.held store.new ≡ unclosed (O.plan operator.now) (going_on (xs ++ own.now.rows))) }
-    ensures taken { OnOk result ((xs : List Row) → own.now.before ≡ mark_of xs → RowsFit (O.plan operator.now) no_rows (xs ++ own.now.rows) → O.held store.old ≡ unclosed (O.plan operator.now) (going_on xs) → O.has_taken operator.now store.old (going_on xs)
-        → own.now.ended ≡ false → O.has_taken operator.now store.new (going_on (xs ++ own.now.rows))) }
+    requires next { (xs : List Row) × ComesBehind (O.plan operator.now) own.now xs
+        × Keeps (O.plan operator.now) (O.held store.old) (O.has_taken operator.now store.old) (going_on xs) }
+    ensures { OnOk result ((xs : List Row) → ComesBehind (O.plan operator.now) own.now xs
+        → Keeps (O.plan operator.now) (O.held store.old) (O.has_taken operator.now store.old) (going_on xs)
+        → own.now.ended ≡ false
+        → Keeps (O.plan operator.now) (O.held store.new) (O.has_taken operator.now store.new) (going_on (xs ++ own.now.rows))) }
 {
     shares_are_local();
     shares_make_piece();
@@ -205,7 +197,7 @@ fn held(alloc: Global, plan: &Plan, store: RunStore) -> Result<Vec<u8>, NoMemory
     let mut runs = store.windows.runs;
     for window in store.windows.next..store.begun {
         runs.drop_to(alloc, window)?;
-        runs.whole(alloc)?.lines(plan, window, &mut out)?;
+        runs.lines(plan, window, &mut out)?;
     }
     Ok(out)
 }
@@ -358,7 +350,7 @@ fn a_size_that_is_no_multiple_of_the_slide(rt: HostRuntime) -> Result<(), Fail> 
 #[test]
 fn gaps_between_windows(rt: HostRuntime) -> Result<(), Fail> {
     let alloc = rt.alloc();
-    let plan = counts(alloc, Measure::Rows, 1, 3)?;
+    let plan = counts(alloc, 3, window(Measure::Rows, 1, 3))?;
     check_cuts(&rt, alloc, &plan, false, "0,1\n1,1\n", "")?;
     Ok(())
 }
@@ -367,7 +359,7 @@ fn gaps_between_windows(rt: HostRuntime) -> Result<(), Fail> {
 #[test]
 fn a_gap_in_time(rt: HostRuntime) -> Result<(), Fail> {
     let alloc = rt.alloc();
-    let plan = counts(alloc, Measure::Range, 1, 1)?;
+    let plan = counts(alloc, 3, window(Measure::Range, 1, 1))?;
     let rows: &[(u32, i64, i64)] = &[(0, 1, 1), (4_294_967_295, 1, 1)];
     check(&rt, alloc, &plan, &[rows], false, "0,1\n", "4294967295,1\n")?;
     Ok(())

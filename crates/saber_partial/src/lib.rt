@@ -6,6 +6,7 @@ mod cuts;
 mod gather;
 mod group;
 mod groups;
+mod joined_lines;
 mod joins;
 mod later_row;
 mod laws;

@@ -25,7 +25,13 @@ fn write_cells(out: &mut Vec<u8>, items: &[Item], tally: &Tally) -> Result<(), N
     Ok(())
 }
 
-fn write_line(out: &mut Vec<u8>, window: u64, items: &[Item], tally: &Tally) -> Result<(), NoMemory>
+/// The line of a group: the window's number, a cell for each item, and LF.
+pub(crate) fn write_line(
+    out: &mut Vec<u8>,
+    window: u64,
+    items: &[Item],
+    tally: &Tally,
+) -> Result<(), NoMemory>
     ensures ok { OnOk result (out.new.items ≡ out.old.items ++ line (pos window ∷ answers_of items.now tally.now)) }
     ensures behind { Behind out.old.items out.new.items }
 {
@@ -35,7 +41,8 @@ fn write_line(out: &mut Vec<u8>, window: u64, items: &[Item], tally: &Tally) -> 
     Ok(())
 }
 
-fn write_groups(
+/// The lines of groups, one after another.
+pub(crate) fn write_groups(
     out: &mut Vec<u8>,
     window: u64,
     items: &[Item],

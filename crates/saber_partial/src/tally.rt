@@ -108,7 +108,8 @@ impl Tally {
 
     /// Its numbers, to be printed one after another.
     pub(crate) fn unprinted(&self) -> Unprinted<'_>
-        ensures { result ≡ self.now }
+        ensures all { result ≡ self.now }
+        ensures within { IsTally self.now }
     {
         let (sums, behind) = self.numbers.split_at(self.shares.sums);
         let (leasts, behind) = behind.split_at(self.shares.leasts);

@@ -65,6 +65,18 @@ fn sums(alloc: Global) -> Result<Plan, NoMemory>
     plan(alloc, vec![in alloc; key, sum]?, vec![in alloc; 1]?)
 }
 
+// The key, and the sum, the least and the greatest number and the count, by the key.
+fn all_kinds(alloc: Global) -> Result<Plan, NoMemory>
+    ensures { IfOk result (λ p. IsChecked (tree_of p) × ((tree_of p).shape ≡ h.Group) × (columns_on (tree_of p).streams s.Left ≡ 3)) }
+{
+    let key = Item::Value(column(alloc, 1)?);
+    let sum = Item::Sum(column(alloc, 2)?);
+    let least = Item::Min(column(alloc, 2)?);
+    let greatest = Item::Max(column(alloc, 2)?);
+    let items = vec![in alloc; key, sum, least, greatest, Item::Count]?;
+    plan(alloc, items, vec![in alloc; 1]?)
+}
+
 // The least and greatest number and the count, of all rows.
 fn ends(alloc: Global) -> Result<Plan, NoMemory>
     ensures { IfOk result (λ p. IsChecked (tree_of p) × ((tree_of p).shape ≡ h.Group) × (columns_on (tree_of p).streams s.Left ≡ 3)) }
@@ -227,5 +239,29 @@ fn same_keys(rt: HostRuntime) -> Result<(), Fail> {
     let mut out = Vec::new(alloc);
     part.lines(&plan, 0, &mut out)?;
     assert_eq!(rt; out.as_slice(), b"0,1,20,5\n".as_slice());
+    Ok(())
+}
+
+// Keys that both have, that the first alone has, and that the second alone has, also behind all others.
+#[test]
+fn lines_of_two(rt: HostRuntime) -> Result<(), Fail> {
+    let alloc = rt.alloc();
+    let plan = all_kinds(alloc)?;
+    let part = grouped(
+        alloc,
+        &plan,
+        &[(0, 1, 10), (1, 3, 20), (2, 1, -7), (3, 4, 5)],
+    )?;
+    let later = grouped(alloc, &plan, &[(4, 1, 8), (5, 2, 1), (6, 4, -2), (7, 5, 9)])?;
+    small_parts_merge();
+    let mut out = vec![in alloc; b'#']?;
+    part.lines_with(&later, &plan, 6, &mut out)?;
+    assert_eq!(rt;
+        out.as_slice(),
+        b"#6,1,11,-7,10,3\n6,2,1,1,1,1\n6,3,20,20,20,1\n6,4,3,-2,5,2\n6,5,9,9,9,1\n".as_slice()
+    );
+    let mut turned = vec![in alloc; b'#']?;
+    later.lines_with(&part, &plan, 6, &mut turned)?;
+    assert_eq!(rt; turned.as_slice(), out.as_slice());
     Ok(())
 }

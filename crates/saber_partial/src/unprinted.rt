@@ -1,7 +1,9 @@
 // The numbers of a group, in the order of the items.
 ghost use Rattle.std.specs.Prelude.{◌≡◌, List, ◌∷◌, drop};
 ghost use Rattle.saber_plan.specs.declared.plans.Item.{Item};
-ghost use Rattle.saber_plan.specs.Parts.{first_number, answers_of};
+ghost use Rattle.saber_plan.specs.Parts.{first_number, answers_of, join_numbers};
+ghost use Rattle.saber_partial.specs.Kinds.{SumsFit};
+ghost use Rattle.saber_partial.specs.Tallies.{CanJoin};
 
 use saber_plan::Item;
 use std::marker::Model;
@@ -79,6 +81,48 @@ impl<'a> Unprinted<'a> {
             Item::Value(_) => {
                 let (number, behind) = first(self.firsts);
                 self.firsts = behind;
+                number
+            }
+        }
+    }
+
+    /// The number of the next item, of the rows of both.
+    pub(crate) fn next_of_both(&mut self, other: &mut Unprinted<'_>, item: &Item) -> i128
+        requires can { CanJoin self.old other.old }
+        requires fit { SumsFit self.old.sums other.old.sums }
+        ensures number { (is : List Item) → answers_of (item.now ∷ is) (join_numbers self.old other.old)
+            ≡ result ∷ answers_of is (join_numbers self.new other.new) }
+        ensures can { CanJoin self.new other.new }
+        ensures fit { SumsFit self.new.sums other.new.sums }
+    {
+        match item {
+            Item::Count => i128::from(self.count + other.count),
+            Item::Sum(_) => {
+                let (mine, behind) = first(self.sums);
+                self.sums = behind;
+                let (theirs, behind) = first(other.sums);
+                other.sums = behind;
+                mine + theirs
+            }
+            Item::Min(_) => {
+                let (mine, behind) = first(self.leasts);
+                self.leasts = behind;
+                let (theirs, behind) = first(other.leasts);
+                other.leasts = behind;
+                mine.min(theirs)
+            }
+            Item::Max(_) => {
+                let (mine, behind) = first(self.greatests);
+                self.greatests = behind;
+                let (theirs, behind) = first(other.greatests);
+                other.greatests = behind;
+                mine.max(theirs)
+            }
+            Item::Value(_) => {
+                let (number, behind) = first(self.firsts);
+                self.firsts = behind;
+                let (_, behind) = first(other.firsts);
+                other.firsts = behind;
                 number
             }
         }

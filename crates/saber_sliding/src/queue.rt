@@ -1,12 +1,13 @@
 // Parts that follow one another, with the merge of all from any one on.
 ghost use Rattle.std.specs.Prelude.{◌≡◌, ◌≤◌, [], ◌∷◌, ◌++◌, drop, length, IfOk, OnOk, OnErr};
-ghost use Rattle.saber_plan.specs.Parts.{merge, no_part};
+ghost use Rattle.saber_plan.specs.Parts.{merge, no_part, part_lines};
+ghost use Rattle.saber_plan.specs.Trees.{tree_of};
 ghost use Rattle.saber_partial.specs.Tallies.{CanMerge};
 ghost use Rattle.saber_sliding.specs.Entries.{dropped, first_number, pushed, suffixes, whole, CanFollow, Chained};
 
 use saber_laws::{merge_has_unit, merge_is_associative, merges_give};
 use saber_partial::Partial;
-use saber_plan::NoMemory;
+use saber_plan::{NoMemory, Plan};
 use std::alloc::Global;
 use std::collections::VecDeque;
 use std::marker::Model;
@@ -217,13 +218,15 @@ impl Sliding {
         )
     }
 
-    /// The merge of all parts, in order: one merge at most.
-    pub fn whole(&self, alloc: Global) -> Result<Partial, NoMemory>
-        ensures { IfOk result (λ p. p ≡ whole self.now) }
+    /// Writes the lines of the merge of all parts behind what `out` has, in a walk over two lists of groups at
+    /// most. Where memory is wanting, `out` stays as it was.
+    pub fn lines(&self, plan: &Plan, window: u64, out: &mut Vec<u8>) -> Result<(), NoMemory>
+        ensures ok { OnOk result (out.new.items ≡ out.old.items ++ part_lines (tree_of plan.now) window (whole self.now)) }
+        ensures err { OnErr result (out.new.items ≡ out.old.items) }
     {
         match self.front.front() {
-            Some(first) => first.1.merged(alloc, &self.back_part),
-            None => self.back_part.copy(alloc),
+            Some(first) => first.1.lines_with(&self.back_part, plan, window, out),
+            None => self.back_part.lines(plan, window, out),
         }
     }
 }

@@ -18,26 +18,32 @@ pub give-requires-clause-next : goal.give-requires-clause-next
 give-requires-clause-next g c =
     let q = g.O.Operator.plan c.args.operator.now in
     let own = c.in_ok-own.ensures in
-    let kept = c.loop-table.invariant in
-    (kept.rows, own.before ∙ kept.mark_is, own.fit q no_rows kept.rows c.requires.columns kept.mark_is kept.fits, kept.parts_are, kept.taken_is)
+    let kept = c.loop-table.invariant in (
+      kept.rows,
+      record { before = own.before ∙ kept.mark_is; fits = own.fit q no_rows kept.rows c.requires.columns kept.mark_is kept.fits },
+      record { held = kept.parts_are; taken = kept.taken_is },
+    )
 
 pub give-requires-then-flush-clause-next : goal.give-requires-then-flush-clause-next
 give-requires-then-flush-clause-next g c =
     let q = g.O.Operator.plan c.args.operator.now in
     let own = c.in_ok-own-2.ensures in
-    let kept = c.loop-table.invariant in
-    (kept.rows, own.before ∙ kept.mark_is, own.fit q no_rows kept.rows c.requires.columns kept.mark_is kept.fits, kept.parts_are, kept.taken_is)
+    let kept = c.loop-table.invariant in (
+      kept.rows,
+      record { before = own.before ∙ kept.mark_is; fits = own.fit q no_rows kept.rows c.requires.columns kept.mark_is kept.fits },
+      record { held = kept.parts_are; taken = kept.taken_is },
+    )
 
 pub loop-table-preserved : goal.loop-table-preserved
 loop-table-preserved g c =
     let q = g.O.Operator.plan c.args.operator.now in
     let own = c.in_ok-own.ensures in
     let kept = c.loop-table.invariant in
-    let before = own.before ∙ kept.mark_is in
-    let fits = own.fit q no_rows kept.rows c.requires.columns kept.mark_is kept.fits in record {
+    let fits = own.fit q no_rows kept.rows c.requires.columns kept.mark_is kept.fits in
+    let after = c.in_ok-give.ensures kept.rows (record { before = own.before ∙ kept.mark_is; fits = fits }) (record { held = kept.parts_are; taken = kept.taken_is }) own.ended in record {
       rows = kept.rows ++ c.in_ok-own.own.rows;
       fits = fits;
       mark_is = own.mark no_rows kept.rows kept.mark_is;
-      parts_are = c.in_ok-give.ensures.held kept.rows before fits kept.parts_are kept.taken_is own.ended;
-      taken_is = c.in_ok-give.ensures.taken kept.rows before fits kept.parts_are kept.taken_is own.ended;
+      parts_are = after.held;
+      taken_is = after.taken;
     }

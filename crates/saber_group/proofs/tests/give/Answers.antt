@@ -11,39 +11,25 @@ pub piece-requires-clause-fits : goal.piece-requires-clause-fits
 piece-requires-clause-fits g c =
     let q = g.O.Operator.plan c.args.operator.now in
     let t = c.args.own.now in
-    let n = c.requires.next in
-    subst (λ (m : Mark). RowsFit q m t.rows) (sym n.1) (fits_back q no_rows n.0 t.rows n.2)
+    let (xs, behind, kept) = c.requires.next in
+    subst (λ (m : Mark). RowsFit q m t.rows) (sym behind.before) (fits_back q no_rows xs t.rows behind.fits)
 
 pub take_in-requires : goal.take_in-requires
 take_in-requires g c =
     let q = g.O.Operator.plan c.args.operator.now in
     let t = c.args.own.now in
-    let n = c.requires.next in
-    let xs = n.0 in
+    let (xs, behind, kept) = c.requires.next in
     let p = c.in_ok-piece.piece in (
       with_task xs t.rows t.ended,
       length xs,
       end_of xs t.rows t.ended,
-      task_follows xs t.rows t.ended q c.requires.windows t.before n.1 n.2 (g.O.Operator.held c.args.store.now) (g.O.Operator.shares c.args.operator.now p)
-          (g.O.Operator.has_taken c.args.operator.now c.args.store.now) (g.O.Operator.is_of c.args.operator.now p) n.3 n.4 (c.in_ok-piece.ensures.shares ∙ local_shares xs t.rows t.ended c.shares_are_local.ensures q c.requires.windows c.requires.no_join t.before n.1 n.2) c.in_ok-piece.ensures.of,
+      task_follows xs t.rows t.ended q c.requires.windows t.before behind.before behind.fits (g.O.Operator.held c.args.store.now) (g.O.Operator.shares c.args.operator.now p)
+          (g.O.Operator.has_taken c.args.operator.now c.args.store.now) (g.O.Operator.is_of c.args.operator.now p) kept.held kept.taken
+          (c.in_ok-piece.ensures.shares ∙ local_shares xs t.rows t.ended c.shares_are_local.ensures q c.requires.windows c.requires.no_join t.before behind.before behind.fits) c.in_ok-piece.ensures.of,
     )
 
-pub returns-clause-held : goal.returns-clause-held
-returns-clause-held g c xs before fits held taken goes =
-    let q = g.O.Operator.plan c.args.operator.now in
-    let t = c.args.own.now in
-    let p = c.in_ok-piece.piece in
-    let parts = g.O.Operator.held c.args.store.now in
-    let s = g.O.Operator.shares c.args.operator.now p in
-    let has = g.O.Operator.has_taken c.args.operator.now c.args.store.now in
-    let of = g.O.Operator.is_of c.args.operator.now p in
-    c.drop_closed.ensures.held ∙ c.in_ok-take_in.ensures.stays
-    ∙ task_leaves xs t.rows t.ended c.shares_make_piece.ensures c.open_goes_on.ensures q parts s has of
-    (task_follows xs t.rows t.ended q c.requires.windows t.before before fits parts s has of held taken (c.in_ok-piece.ensures.shares ∙ local_shares xs t.rows t.ended c.shares_are_local.ensures q c.requires.windows c.requires.no_join t.before before fits) c.in_ok-piece.ensures.of)
-    ∙ ap (λ b. unclosed q (with_task xs t.rows b)) goes
-
-pub returns-clause-taken : goal.returns-clause-taken
-returns-clause-taken g c xs before fits held taken goes =
+pub returns : goal.returns
+returns g c xs behind kept goes =
     let q = g.O.Operator.plan c.args.operator.now in
     let t = c.args.own.now in
     let p = c.in_ok-piece.piece in
@@ -52,6 +38,12 @@ returns-clause-taken g c xs before fits held taken goes =
     let has = g.O.Operator.has_taken c.args.operator.now c.args.store.now in
     let of = g.O.Operator.is_of c.args.operator.now p in
     let now = g.O.Operator.has_taken c.args.operator.now c.drop_closed.new.store in
-    subst now (at_last xs t.rows t.ended ∙ ap (with_task xs t.rows) goes)
-    (c.drop_closed.ensures.taken _ (c.in_ok-take_in.ensures.taken (with_task xs t.rows t.ended) (length xs) (end_of xs t.rows t.ended)
-    (task_follows xs t.rows t.ended q c.requires.windows t.before before fits parts s has of held taken (c.in_ok-piece.ensures.shares ∙ local_shares xs t.rows t.ended c.shares_are_local.ensures q c.requires.windows c.requires.no_join t.before before fits) c.in_ok-piece.ensures.of)))
+    let follows = task_follows xs t.rows t.ended q c.requires.windows t.before behind.before behind.fits parts s has of kept.held kept.taken
+    (c.in_ok-piece.ensures.shares ∙ local_shares xs t.rows t.ended c.shares_are_local.ensures q c.requires.windows c.requires.no_join t.before behind.before behind.fits) c.in_ok-piece.ensures.of in
+    record {
+      held = c.drop_closed.ensures.held ∙ c.in_ok-take_in.ensures.stays
+          ∙ task_leaves xs t.rows t.ended c.shares_make_piece.ensures c.open_goes_on.ensures q parts s has of follows
+          ∙ ap (λ b. unclosed q (with_task xs t.rows b)) goes;
+      taken = subst now (at_last xs t.rows t.ended ∙ ap (with_task xs t.rows) goes)
+          (c.drop_closed.ensures.taken _ (c.in_ok-take_in.ensures.taken (with_task xs t.rows t.ended) (length xs) (end_of xs t.rows t.ended) follows));
+    }

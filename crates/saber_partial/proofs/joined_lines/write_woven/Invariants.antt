@@ -1,0 +1,16 @@
+use Rattle.std.proofs.Common.{◌≡◌, ◌++◌, ◌≤◌, ◌+◌, ◌-◌, length, drop, map}
+use Rattle.saber_plan.specs.Texts.{Behind}
+use Rattle.saber_partial.specs.Printing.{lines_for}
+use Rattle.saber_partial.specs.Sorted.{weave}
+use Rattle.saber_partial.proofs.joined_lines.write_woven.Given as goal
+
+abbrev pub invariant-loop-i : goal.invariant-loop-i
+invariant-loop-i l = record {
+  mine : l.i ≤ length l.groups;
+  theirs : l.j ≤ length l.others;
+  all : l.out.items ++ lines_for l.window l.items (map (λ e. e.1) (weave (drop l.i l.groups) (drop l.j l.others))) ≡ l.fn.out.items ++ lines_for l.window l.items (map (λ e. e.1) (weave l.groups l.others));
+  behind : Behind l.fn.out.items l.out.items;
+}
+
+abbrev pub decreases-loop-i : goal.decreases-loop-i
+decreases-loop-i l = (length l.groups - l.i) + (length l.others - l.j)
