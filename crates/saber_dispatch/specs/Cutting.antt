@@ -18,17 +18,15 @@ use Rattle.saber_plan.specs.Checked.{columns_on}
 use Rattle.saber_plan.specs.Given.{RowsFit}
 use Rattle.saber_plan.specs.Tasks.{task_count}
 use Rattle.saber_plan.specs.Needs.{free, need, block_lasts}
-use Rattle.saber_rows.specs.Reader.{new_reader}
-use Rattle.saber_rows.specs.Merging.{new_merger}
 use Rattle.saber_fragment.specs.declared.blocks.Block.{Block}
-use Rattle.saber_dispatch.specs.Sources.{Lefts}
+use Rattle.saber_dispatch.specs.Sources.{Lefts, RoseAt}
 use Rattle.saber_dispatch.specs.declared.ends.End.{End}
 use Rattle.saber_dispatch.specs.declared.ends.End.TheVariants.{AllRead, Bad, ReadFault, TooWide, NoMemory}
 use Rattle.saber_dispatch.specs.declared.lasts.Lasts.{Lasts}
 use Rattle.saber_dispatch.specs.declared.cutter.Cutter.{Cutter}
 use Rattle.saber_dispatch.specs.declared.cutter.Cut.{Cut}
 use Rattle.saber_dispatch.specs.declared.cutter.Cut.TheVariants as cuts
-use Rattle.saber_dispatch.specs.Readings.{Reading, one, two, reading_of, Suits, ReadHasEnd, ReadNeeds, IsOpen, rules_for}
+use Rattle.saber_dispatch.specs.Readings.{Reading, reading_of, one_new, two_new, Suits, ReadHasEnd, ReadNeeds, IsOpen, rules_for}
 use Rattle.saber_dispatch.specs.Filling.{Took, keeps}
 
 -- the rules for the lines of a side
@@ -37,9 +35,9 @@ rules_on q limits side = rules_for side (columns_on q.streams side) limits
 
 -- the reader of a query's inputs before its first row
 abbrev pub fresh_on : Tree → FileLimits → List Stream → Reading
-fresh_on q limits [] = one (new_reader (rules_on q limits Left))
-fresh_on q limits (s ∷ []) = one (new_reader (rules_on q limits Left))
-fresh_on q limits (s ∷ t ∷ more) = two (new_merger (new_reader (rules_on q limits Left)) (new_reader (rules_on q limits Right)))
+fresh_on q limits [] = one_new (columns_on q.streams Left) limits
+fresh_on q limits (s ∷ []) = one_new (columns_on q.streams Left) limits
+fresh_on q limits (s ∷ t ∷ more) = two_new (columns_on q.streams Left) (columns_on q.streams Right) limits
 
 abbrev pub fresh : Tree → FileLimits → Reading
 fresh q limits = fresh_on q limits q.streams
@@ -73,9 +71,15 @@ pub record Behind (q : Tree) (n : ℕ) (xs : List Row) (t : ℕ) (before : Mark)
   pub left : before.left ≤ 2 ^ 40
   pub right : before.right ≤ 2 ^ 40
 
+-- these rows may be a block's behind some tasks, and what is kept is that of the tasks
+abbrev pub MayNote : Mark → List Row → Option Lasts → Type 0
+MayNote before rows old = (q : Tree) × (n : ℕ) × (xs : List Row) × (t : ℕ) ×
+    Behind q n xs t before × LooksBack q n xs t old × RowsFit q before rows × (length rows ≤ 2 ^ 16)
+
 -- whatever whole tasks stand before these rows, what is kept is so behind them
 abbrev pub NotesOn : Mark → List Row → Option Lasts → Option Lasts → Type 0
-NotesOn before rows old new = (q : Tree) (n : ℕ) (xs : List Row) (t : ℕ) → Behind q n xs t before → length xs ≡ t * n → LooksBack q n xs t old → RowsFit q before rows → length rows ≤ n → LooksBack q n (xs ++ rows) (t + 1) new
+NotesOn before rows old new = (q : Tree) (n : ℕ) (xs : List Row) (t : ℕ) →
+    Behind q n xs t before → length xs ≡ t * n → LooksBack q n xs t old → RowsFit q before rows → length rows ≤ n → LooksBack q n (xs ++ rows) (t + 1) new
 
 -- ---- the cutter
 
@@ -233,6 +237,10 @@ CutTo (cuts.Ended e) q s had has new r = (end_of new ≡ Some e) × Cuts q s had
 abbrev pub CutsOn : Cut → Lefts → Lefts → Cutter → Cutter → Type 0
 CutsOn cut left has old new = (q : Tree) (s : Sizes) (had : Lefts) (r : Input) → Cuts q s had left old r → CutTo cut q s had has new r
 
+-- a side is told as failed only where its count of faults rose
+abbrev pub ReadFaultsRose : Cut → List ℕ → List ℕ → Type 0
+ReadFaultsRose cut old new = (side : Side) → cut ≡ cuts.Ended (ReadFault side) → RoseAt side old new
+
 -- nothing was given, and nothing read
 abbrev pub CutsNothing : Tree → Sizes → Cutter → Type 0
 CutsNothing q s c = (had : Lefts) → Suits (fresh q (limits_of s)) had → Cuts q s had had c (going_on [])
@@ -275,3 +283,8 @@ pub record Filled (q : Tree) (s : Sizes) (had has : Lefts) (c : Cutter) (xs : Li
   pub mark : c.mark ≡ mark_of (xs ++ rows)
   pub back : LooksBack q s.task xs c.number c.lasts
   pub state : FilledState s c rows c.ended
+
+-- whatever was given before, these rows were read behind it, and this is what comes of their block
+abbrev pub PutsOn : Cut → Mark → List Row → Cutter → Cutter → Type 0
+PutsOn cut before rows old new = (q : Tree) (s : Sizes) (had has : Lefts) (xs : List Row) →
+    Filled q s had has old xs before rows → CutTo cut q s had has new (going_on xs)

@@ -51,7 +51,8 @@ pub record CutsFed (q : Tree) (s : Sizes) (taken waiting : List ℕ) (mark : Opt
 
 -- whatever was given, a block is begun
 abbrev pub BeginsOn : FedCutter → Begun → Type 0
-BeginsOn c b = (q : Tree) (s : Sizes) (taken waiting : List ℕ) (r : Input) → Gave q s taken waiting c.cutter r c.begun → Begins q s taken waiting c.cutter r b.before b.rows
+BeginsOn c b = (q : Tree) (s : Sizes) (taken waiting : List ℕ) (r : Input) →
+    Gave q s taken waiting c.cutter r c.begun → Begins q s taken waiting c.cutter r b.before b.rows
 
 -- why no more blocks come
 abbrev pub fed_end_of : FedCutter → Option End

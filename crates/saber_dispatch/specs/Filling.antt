@@ -44,7 +44,8 @@ pub record Filling (n : ℕ) (q : Tree) (m after : Mark) (old new : Reading) (ha
   pub count : length rows ≡ n
 
 -- rows were read until there were so many more, or no more came
-pub record Fills (result : Result (Unit {0}) End) (q : Tree) (size : ℕ) (m after : Mark) (old new : Reading) (had has : Lefts) (before behind : List Row) : Type 0 where
+pub record Fills (result : Result (Unit {0}) End) (q : Tree) (size : ℕ) (m after : Mark) (old new : Reading) (had has : Lefts)
+    (before behind : List Row) : Type 0 where
   pub rows : List Row
   pub took : Took q m old new had has rows
   pub mark : after ≡ mark_after m rows
@@ -54,6 +55,17 @@ pub record Fills (result : Result (Unit {0}) End) (q : Tree) (size : ℕ) (m aft
   pub short : (e : End) → result ≡ Err e → e ≢ NoMemory → length rows < size
   pub ends : (e : End) → result ≡ Err e → ReadEnds e new
 
+-- where a block that is filled stands: the mark behind its rows, the reader, what the inputs have left, and its rows
+pub record FillState : Type 0 where
+  pub mark : Mark
+  pub reading : Reading
+  pub lefts : Lefts
+  pub rows : List Row
+
+abbrev pub fill_state : Mark → Reading → Lefts → List Row → FillState
+fill_state mark reading lefts rows = record { mark = mark; reading = reading; lefts = lefts; rows = rows }
+
 -- whatever rows the reader gave before
-abbrev pub FillsOn : Result (Unit {0}) End → ℕ → Mark → Mark → Reading → Reading → Lefts → Lefts → List Row → List Row → Type 0
-FillsOn result size m after old new had has before behind = (q : Tree) → Reads q m old → Fills result q size m after old new had has before behind
+abbrev pub FillsOn : Result (Unit {0}) End → ℕ → FillState → FillState → Type 0
+FillsOn result size old new = (q : Tree) → Reads q old.mark old.reading →
+    Fills result q size old.mark new.mark old.reading new.reading old.lefts new.lefts old.rows new.rows

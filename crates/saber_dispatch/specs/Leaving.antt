@@ -2,6 +2,7 @@
 use Rattle.std.specs.Prelude.{◌≡◌, ◌≤◌, ℕ, ◌*◌, ◌/◌, length, List, [], ◌∷◌, Some}
 use Rattle.saber_io.specs.Outside.{given}
 use Rattle.saber_plan.specs.Sizes.{limits_of, FileLimits}
+use Rattle.saber_plan.specs.declared.rows.Row.{Row}
 use Rattle.saber_plan.specs.declared.rows.Side.{Side}
 use Rattle.saber_plan.specs.declared.rows.Side.TheVariants.{Left, Right}
 use Rattle.saber_plan.specs.declared.sizes.Sizes.{Sizes}
@@ -26,12 +27,17 @@ wholes q limits [] = []
 wholes q limits (l ∷ []) = whole (rules_on q limits Left) l ∷ []
 wholes q limits (l ∷ r ∷ more) = whole (rules_on q limits Left) l ∷ whole (rules_on q limits Right) r ∷ []
 
+-- those of all inputs, in one
+abbrev pub whole_rows : Tree → Sizes → List (List ℕ) → List Row
+whole_rows q s taken = (input (wholes q (limits_of s) taken)).rows
+
 -- at least every whole task of the whole lines that were taken of each input is in a block
 pub record ReadsWhole (q : Tree) (s : Sizes) (had has : Lefts) (r : Input) : Type 0 where
   pub taken : List (List ℕ)
   pub left : GaveAll had taken has
-  pub count : length (input (wholes q (limits_of s) taken)).rows / s.task ≤ task_count s.task r
-  pub tasks : (k : ℕ) → k * s.task ≤ length (input (wholes q (limits_of s) taken)).rows → upto s.task r k ≡ upto s.task (going_on (input (wholes q (limits_of s) taken)).rows) k
+  pub count : length (whole_rows q s taken) / s.task ≤ task_count s.task r
+  pub tasks : (k : ℕ) → k * s.task ≤ length (whole_rows q s taken) → upto s.task r k ≡ upto s.task (going_on (whole_rows q s taken)) k
 
 abbrev pub FaultsLeaveWholeTasks : Type 0
-FaultsLeaveWholeTasks = (q : Tree) (s : Sizes) (had has : Lefts) (c : Cutter) (r : Input) (side : Side) → Cuts q s had has c r → end_of c ≡ Some (ReadFault side) → ReadsWhole q s had has r
+FaultsLeaveWholeTasks = (q : Tree) (s : Sizes) (had has : Lefts) (c : Cutter) (r : Input) (side : Side) →
+    Cuts q s had has c r → end_of c ≡ Some (ReadFault side) → ReadsWhole q s had has r

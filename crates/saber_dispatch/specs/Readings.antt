@@ -14,10 +14,10 @@ use Rattle.saber_plan.specs.Given.{IsRowOf}
 use Rattle.saber_rows.specs.declared.ends.RowEnd.{RowEnd}
 use Rattle.saber_rows.specs.declared.ends.RowEnd.TheVariants as ends
 use Rattle.saber_rows.specs.Reader as readers
-use Rattle.saber_rows.specs.Reader.{reader_of, HasEnd, NeedsMore}
+use Rattle.saber_rows.specs.Reader.{reader_of, new_reader, HasEnd, NeedsMore}
 use Rattle.saber_rows.specs.Calls.{Moves}
 use Rattle.saber_rows.specs.Heads.{bare, SidePassed}
-use Rattle.saber_rows.specs.Merging.{Merger, merger_of, MergeAnswer, MergeMoves, MergeHasEnd, MergeNeeds, Passed, merge_answer}
+use Rattle.saber_rows.specs.Merging.{Merger, merger_of, new_merger, MergeAnswer, MergeMoves, MergeHasEnd, MergeNeeds, Passed, merge_answer}
 use Rattle.saber_dispatch.specs.Sources.{Lefts, RoseAt}
 use Rattle.saber_dispatch.specs.declared.ends.End.{End}
 use Rattle.saber_dispatch.specs.declared.ends.End.TheVariants.{AllRead, Bad, ReadFault, TooWide, NoMemory}
@@ -140,3 +140,11 @@ FaultsAreReal answer old before after = (q : Tree) (m : Mark) (side : Side) → 
 -- the rules of a side of so many columns: the limits of files hold for each side by itself
 abbrev pub rules_for : Side → ℕ → FileLimits → SideRules
 rules_for side columns limits = record { side = side; columns = columns; most = limits.most; slack = limits.slack; room = most_held }
+
+-- a reader of so many columns before its first row
+abbrev pub one_new : ℕ → FileLimits → Reading
+one_new columns limits = one (new_reader (rules_for Left columns limits))
+
+-- a merge of sides with so many columns before its first row
+abbrev pub two_new : ℕ → ℕ → FileLimits → Reading
+two_new left right limits = two (new_merger (new_reader (rules_for Left left limits)) (new_reader (rules_for Right right limits)))

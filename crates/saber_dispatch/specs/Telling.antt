@@ -68,4 +68,5 @@ pub record AreTasks (q : Tree) (s : Sizes) (c : Cutter) (r : Input) (all : Read)
   pub ends : EndsAs q s (end_of c) r all
 
 abbrev pub BlocksAreTasks : Type 0
-BlocksAreTasks = (q : Tree) (s : Sizes) (files : List (List ℕ)) (has : Lefts) (c : Cutter) (r : Input) → Suits (fresh q (limits_of s)) (map Some files) → Cuts q s (map Some files) has c r → AreTasks q s c r (input_of q (limits_of s) files)
+BlocksAreTasks = (q : Tree) (s : Sizes) (files : List (List ℕ)) (has : Lefts) (c : Cutter) (r : Input) →
+    Suits (fresh q (limits_of s)) (map Some files) → Cuts q s (map Some files) has c r → AreTasks q s c r (input_of q (limits_of s) files)

@@ -1,18 +1,17 @@
 // Blocks, one after another.
-ghost use Rattle.std.specs.Prelude.{◌≡◌, ◌≢◌, ◌≤◌, ◌^◌, IfSome, ℕ, ◌+◌, ◌*◌, ◌++◌, length, List, Option, Some, None, true, false, OnOk, IfOk, []};
+ghost use Rattle.std.specs.Prelude.{◌≡◌, ◌≢◌, ◌≤◌, ◌^◌, IfSome, ℕ, ◌+◌, ◌*◌, ◌++◌, List, Option, Some, None, true, false, OnOk, IfOk, []};
 ghost use Rattle.saber_plan.specs.declared.rows.Row.{Row};
 ghost use Rattle.saber_plan.specs.declared.sizes.Sizes.{Sizes};
 ghost use Rattle.saber_plan.specs.Trees.{Tree};
-ghost use Rattle.saber_plan.specs.Given.{RowsFit};
 ghost use Rattle.saber_plan.specs.Inputs.{Input, going_on};
 ghost use Rattle.saber_plan.specs.Needs.{free};
 ghost use Rattle.saber_plan.specs.declared.rows.Side.{Side};
 ghost use Rattle.saber_dispatch.specs.declared.ends.End.{End};
 ghost use Rattle.saber_fragment.specs.declared.blocks.Block.{Block};
 ghost use Rattle.saber_dispatch.specs.declared.cutter.Cut.{Cut};
-ghost use Rattle.saber_dispatch.specs.Sources.{Lefts, each_input, RoseAt, NoneFell};
+ghost use Rattle.saber_dispatch.specs.Sources.{Lefts, each_input, NoneFell};
 ghost use Rattle.saber_dispatch.specs.Filling.{keeps};
-ghost use Rattle.saber_dispatch.specs.Cutting.{Behind, LooksBack, NotesOn, Filled, Cuts, CutTo, CutsOn, CutsNothing, fresh, too_wide, ended_by, stops, is_due, end_of};
+ghost use Rattle.saber_dispatch.specs.Cutting.{Behind, LooksBack, MayNote, NotesOn, Filled, PutsOn, Cuts, CutTo, CutsOn, ReadFaultsRose, CutsNothing, fresh, too_wide, ended_by, stops, is_due, end_of};
 ghost use Rattle.saber_dispatch.specs.Readings.{reading_of};
 ghost use Rattle.saber_dispatch.specs.Closing.{EndStays};
 ghost use Rattle.saber_plan.specs.Trees.{tree_of};
@@ -82,7 +81,7 @@ fn look_back(lasts: &mut Option<Lasts>, number: u64, before: &Mark) -> u64
 
 // Notes the rows of a block.
 fn note(lasts: &mut Option<Lasts>, before: &Mark, rows: &[Row]) -> Result<(), NoMemory>
-    requires { (q : Tree) × (n : ℕ) × (xs : List Row) × (t : ℕ) × Behind q n xs t before.now × LooksBack q n xs t lasts.old × RowsFit q before.now rows.now × (length rows.now ≤ 2 ^ 16) }
+    requires { MayNote before.now rows.now lasts.old }
     ensures { OnOk result (NotesOn before.now rows.now lasts.old lasts.new) }
 {
     tasks_look_on();
@@ -197,7 +196,7 @@ impl Cutter {
     // The block of these rows, which were read.
     pub(crate) fn put_block(&mut self, before: Mark, rows: Rows) -> Cut
         requires { (q : Tree) × (s : Sizes) × (had : Lefts) × (has : Lefts) × (xs : List Row) × Filled q s had has self.old xs before rows }
-        ensures cuts { (q : Tree) (s : Sizes) (had has : Lefts) (xs : List Row) → Filled q s had has self.old xs before rows → CutTo result q s had has self.new (going_on xs) }
+        ensures cuts { PutsOn result before rows self.old self.new }
         ensures same { (b : Block) → result ≡ Cut.Block b → self.new.ended ≡ self.old.ended }
         ensures stays { EndStays self.old self.new }
         ensures read { (side : Side) → result ≢ Cut.Ended (End.ReadFault side) }
@@ -273,7 +272,7 @@ impl Cutter {
         requires goes { self.old.ended ≡ None }
         requires cuts { (q : Tree) × (s : Sizes) × (had : Lefts) × (r : Input) × Cuts q s had (each_input S.left inputs.old) self.old r }
         ensures cuts { CutsOn result (each_input S.left inputs.old) (each_input S.left inputs.new) self.old self.new }
-        ensures cause { (side : Side) → result ≡ Cut.Ended (End.ReadFault side) → RoseAt side (each_input S.faults inputs.old) (each_input S.faults inputs.new) }
+        ensures cause { ReadFaultsRose result (each_input S.faults inputs.old) (each_input S.faults inputs.new) }
         ensures sound { (b : Block) → result ≡ Cut.Block b → (side : Side) → self.new.ended ≢ Some (End.ReadFault side) }
         ensures good { ((side : Side) → result ≢ Cut.Ended (End.ReadFault side)) → each_input S.faults inputs.new ≡ each_input S.faults inputs.old }
         ensures count { NoneFell (each_input S.faults inputs.old) (each_input S.faults inputs.new) }
@@ -314,7 +313,7 @@ impl Cutter {
         ensures again { IfSome (end_of self.old) (λ end. (result ≡ Cut.Ended end) × (self.new ≡ self.old) × (inputs.new ≡ inputs.old)) }
 
         // A fault of reading comes first only in a call in which that side's count rose, and with no block; else all counts stay, and none falls.
-        ensures cause { end_of self.old ≡ None → (side : Side) → result ≡ Cut.Ended (End.ReadFault side) → RoseAt side (each_input S.faults inputs.old) (each_input S.faults inputs.new) }
+        ensures cause { end_of self.old ≡ None → ReadFaultsRose result (each_input S.faults inputs.old) (each_input S.faults inputs.new) }
         ensures sound { (b : Block) → result ≡ Cut.Block b → (side : Side) → end_of self.new ≢ Some (End.ReadFault side) }
         ensures good { ((side : Side) → result ≢ Cut.Ended (End.ReadFault side)) → each_input S.faults inputs.new ≡ each_input S.faults inputs.old }
         ensures count { NoneFell (each_input S.faults inputs.old) (each_input S.faults inputs.new) }

@@ -6,7 +6,7 @@ ghost use Rattle.saber_plan.specs.Trees.{Tree};
 ghost use Rattle.saber_dispatch.specs.declared.ends.End.{End};
 ghost use Rattle.saber_dispatch.specs.Readings.{reading_of, Suits, Reads, IsOpen};
 ghost use Rattle.saber_dispatch.specs.Sources.{each_input, RoseAt, NoneFell};
-ghost use Rattle.saber_dispatch.specs.Filling.{FillsOn};
+ghost use Rattle.saber_dispatch.specs.Filling.{fill_state, FillsOn};
 
 use crate::ends::End;
 use crate::inputs::Inputs;
@@ -28,7 +28,9 @@ pub(crate) fn fill<S: Source>(
     requires suits { Suits (reading_of reader.old) (each_input S.left inputs.old) }
     requires opened { IsOpen (reading_of reader.old) }
     requires reads { (q : Tree) × Reads q mark.old (reading_of reader.old) }
-    ensures fills { FillsOn result size mark.old mark.new (reading_of reader.old) (reading_of reader.new) (each_input S.left inputs.old) (each_input S.left inputs.new) rows.old rows.new }
+    ensures fills { FillsOn result size
+        (fill_state mark.old (reading_of reader.old) (each_input S.left inputs.old) rows.old)
+        (fill_state mark.new (reading_of reader.new) (each_input S.left inputs.new) rows.new) }
     ensures cause { (side : Side) → result ≡ Err (End.ReadFault side) → RoseAt side (each_input S.faults inputs.old) (each_input S.faults inputs.new) }
     ensures good { ((side : Side) → result ≢ Err (End.ReadFault side)) → each_input S.faults inputs.new ≡ each_input S.faults inputs.old }
     ensures count { NoneFell (each_input S.faults inputs.old) (each_input S.faults inputs.new) }

@@ -1,12 +1,9 @@
 // What a cutter begins with.
 ghost use Rattle.std.specs.Prelude.{◌≡◌, ◌≤◌, ℕ, [], IfOk};
-ghost use Rattle.saber_plan.specs.declared.rows.Side.TheVariants as sides;
 ghost use Rattle.saber_plan.specs.Trees.{tree_of};
 ghost use Rattle.saber_plan.specs.Checked.{IsChecked};
 ghost use Rattle.saber_plan.specs.Sizes.{SizesFit, limits_of};
-ghost use Rattle.saber_rows.specs.Reader.{new_reader};
-ghost use Rattle.saber_rows.specs.Merging.{new_merger};
-ghost use Rattle.saber_dispatch.specs.Readings.{one, two, reading_of, rules_for};
+ghost use Rattle.saber_dispatch.specs.Readings.{reading_of, one_new, two_new};
 ghost use Rattle.saber_dispatch.specs.Cutting.{LooksBack, end_counts, fresh};
 
 use crate::lasts::Lasts;
@@ -23,7 +20,7 @@ fn one_reader(alloc: Global, columns: u32, sizes: &Sizes) -> Result<Reader, NoMe
     requires some_columns { 1 ≤ columns }
     requires most_columns { columns ≤ 32 }
     requires sizes { SizesFit sizes.now }
-    ensures { IfOk result (λ r. reading_of r ≡ one (new_reader (rules_for sides.Left columns (limits_of sizes.now)))) }
+    ensures { IfOk result (λ r. reading_of r ≡ one_new columns (limits_of sizes.now)) }
 {
     let lines = Lines::new(alloc, Side::Left, columns, sizes.max_lines, sizes.slack)?;
     Ok(Reader::One(lines))
@@ -36,7 +33,7 @@ fn two_readers(alloc: Global, left: u32, right: u32, sizes: &Sizes) -> Result<Re
     requires some_right { 1 ≤ right }
     requires most_right { right ≤ 32 }
     requires sizes { SizesFit sizes.now }
-    ensures { IfOk result (λ r. reading_of r ≡ two (new_merger (new_reader (rules_for sides.Left left (limits_of sizes.now))) (new_reader (rules_for sides.Right right (limits_of sizes.now))))) }
+    ensures { IfOk result (λ r. reading_of r ≡ two_new left right (limits_of sizes.now)) }
 {
     let left = Lines::new(alloc, Side::Left, left, sizes.max_lines, sizes.slack)?;
     let right = Lines::new(alloc, Side::Right, right, sizes.max_lines, sizes.slack)?;

@@ -17,7 +17,17 @@ pub record AskedChain : Type 0 where
   pub slack : ℕ
 
 abbrev pub asked_chain : Chain → AskedChain
-asked_chain a = record { first = a.first.now; second = a.second.now; left = a.left.now; right = option_map (λ name. name.now) a.right; task = a.task; ring = a.ring; threads = a.threads; most = a.max_lines; slack = a.slack }
+asked_chain a = record {
+  first = a.first.now;
+  second = a.second.now;
+  left = a.left.now;
+  right = option_map (λ name. name.now) a.right;
+  task = a.task;
+  ring = a.ring;
+  threads = a.threads;
+  most = a.max_lines;
+  slack = a.slack;
+}
 
 -- 1 to 65,536 rows of a task, 1 to 1,024 cells of the ring, at most 64 threads, 1 to 2^40 lines of a file, and timestamps that fall by at most 2^40
 pub record HasChainSizes (a : AskedChain) : Type 0 where

@@ -43,7 +43,17 @@ pub data Asked : Type 0 where
 
 -- what a command asks for
 abbrev pub asked_run : Run → AskedRun
-asked_run r = record { query = r.query.now; left = r.left.now; right = option_map (λ name. name.now) r.right; task = r.task; ring = r.ring; threads = r.threads; most = r.max_lines; slack = r.slack; flush = r.flush }
+asked_run r = record {
+  query = r.query.now;
+  left = r.left.now;
+  right = option_map (λ name. name.now) r.right;
+  task = r.task;
+  ring = r.ring;
+  threads = r.threads;
+  most = r.max_lines;
+  slack = r.slack;
+  flush = r.flush;
+}
 
 abbrev pub asked : Command → Asked
 asked (command.Run r) = run (asked_run r)
@@ -84,7 +94,9 @@ slack = record { name = codes "slack"; least = 0; most = 2 ^ 40; usual = codes "
 -- run QUERY LEFT [RIGHT] [--task N] [--ring B] [--threads T] [--max-lines M] [--slack S] [--final]
 abbrev pub run_shape : Shape
 run_shape = record (new_shape (codes "run")) {
-  rules = required (codes "query") ∷ required (codes "left") ∷ optional (codes "right") ∷ number_rule task ∷ number_rule ring ∷ number_rule threads ∷ number_rule max_lines ∷ number_rule slack ∷ flag_rule (codes "final") ∷ [];
+  rules = required (codes "query") ∷ required (codes "left") ∷ optional (codes "right")
+      ∷ number_rule task ∷ number_rule ring ∷ number_rule threads ∷ number_rule max_lines ∷ number_rule slack
+      ∷ flag_rule (codes "final") ∷ [];
 }
 
 -- check QUERY
@@ -93,12 +105,15 @@ check_shape = record (new_shape (codes "check")) { rules = required (codes "quer
 
 -- demo SEED ROWS [--task N] [--ring B] [--threads T]
 abbrev pub demo_shape : Shape
-demo_shape = record (new_shape (codes "demo")) { rules = positional_rule seed ∷ positional_rule rows ∷ number_rule task ∷ number_rule ring ∷ number_rule threads ∷ [] }
+demo_shape = record (new_shape (codes "demo")) {
+  rules = positional_rule seed ∷ positional_rule rows ∷ number_rule task ∷ number_rule ring ∷ number_rule threads ∷ [];
+}
 
 -- chain QUERY1 QUERY2 LEFT [RIGHT] [--task N] [--ring B] [--threads T] [--max-lines M] [--slack S]
 abbrev pub chain_shape : Shape
 chain_shape = record (new_shape (codes "chain")) {
-  rules = required (codes "first") ∷ required (codes "second") ∷ required (codes "left") ∷ optional (codes "right") ∷ number_rule task ∷ number_rule ring ∷ number_rule threads ∷ number_rule max_lines ∷ number_rule slack ∷ [];
+  rules = required (codes "first") ∷ required (codes "second") ∷ required (codes "left") ∷ optional (codes "right")
+      ∷ number_rule task ∷ number_rule ring ∷ number_rule threads ∷ number_rule max_lines ∷ number_rule slack ∷ [];
 }
 
 -- the program: it wants one of its subcommands, and has no flag or subcommand for help or version
@@ -150,19 +165,36 @@ numbers_of s = record { task = s.task; ring = s.ring; threads = s.threads; most 
 
 -- if all were found
 abbrev pub numbers_with : Option ℕ → Option ℕ → Option ℕ → Option ℕ → Option ℕ → Option Numbers
-numbers_with (Some task) (Some ring) (Some threads) (Some most) (Some slack) = Some (record { task = task; ring = ring; threads = threads; most = most; slack = slack })
+numbers_with (Some task) (Some ring) (Some threads) (Some most) (Some slack) =
+    Some (record { task = task; ring = ring; threads = threads; most = most; slack = slack })
 numbers_with _ _ _ _ _ = None
 
 abbrev pub numbers_by : List Row → Option Numbers
 numbers_by rows = numbers_with (number_by task rows) (number_by ring rows) (number_by threads rows) (number_by max_lines rows) (number_by slack rows)
 
+-- a run over these files, with these numbers
+abbrev pub run_over : Text → Text → Option Text → Numbers → Bool → Asked
+run_over query left right n flush = run (record {
+  query = query;
+  left = left;
+  right = right;
+  task = n.task;
+  ring = n.ring;
+  threads = n.threads;
+  most = n.most;
+  slack = n.slack;
+  flush = flush;
+})
+
 -- what `run` asks for, by the values of its positionals, the numbers of its options, and whether `--final` was given
 abbrev pub run_with : Option Text → Option Text → Option Text → Option Numbers → Bool → Option Asked
-run_with (Some query) (Some left) right (Some n) flush = Some (run (record { query = query; left = left; right = right; task = n.task; ring = n.ring; threads = n.threads; most = n.most; slack = n.slack; flush = flush }))
+run_with (Some query) (Some left) right (Some n) flush = Some (run_over query left right n flush)
 run_with _ _ right _ flush = None
 
 abbrev pub run_by : List Row → Option Asked
-run_by rows = run_with (first_of (codes "query") rows) (first_of (codes "left") rows) (first_of (codes "right") rows) (numbers_by rows) (flag_by (codes "final") rows)
+run_by rows = run_with
+    (first_of (codes "query") rows) (first_of (codes "left") rows) (first_of (codes "right") rows)
+    (numbers_by rows) (flag_by (codes "final") rows)
 
 -- what `check` asks for
 abbrev pub check_by : List Row → Option Asked
@@ -172,13 +204,29 @@ check_by rows = option_map (λ query. check (record { query = query })) (first_o
 abbrev pub demo_by : List Row → Option Asked
 demo_by found = option_map demo (demo_with (number_by seed found) (number_by rows found) (number_by task found) (number_by ring found) (number_by threads found))
 
+-- a chain over these files, with these numbers
+abbrev pub chain_over : Text → Text → Text → Option Text → Numbers → Asked
+chain_over first second left right n = chain (record {
+  first = first;
+  second = second;
+  left = left;
+  right = right;
+  task = n.task;
+  ring = n.ring;
+  threads = n.threads;
+  most = n.most;
+  slack = n.slack;
+})
+
 -- what `chain` asks for, by the values of its positionals and the numbers of its options
 abbrev pub chain_with : Option Text → Option Text → Option Text → Option Text → Option Numbers → Option Asked
-chain_with (Some first) (Some second) (Some left) right (Some n) = Some (chain (record { first = first; second = second; left = left; right = right; task = n.task; ring = n.ring; threads = n.threads; most = n.most; slack = n.slack }))
+chain_with (Some first) (Some second) (Some left) right (Some n) = Some (chain_over first second left right n)
 chain_with _ _ _ right _ = None
 
 abbrev pub chain_by : List Row → Option Asked
-chain_by rows = chain_with (first_of (codes "first") rows) (first_of (codes "second") rows) (first_of (codes "left") rows) (first_of (codes "right") rows) (numbers_by rows)
+chain_by rows = chain_with
+    (first_of (codes "first") rows) (first_of (codes "second") rows) (first_of (codes "left") rows) (first_of (codes "right") rows)
+    (numbers_by rows)
 
 -- what a subcommand asks for, by its name and the values of its arguments
 abbrev pub asked_by : Text × List Row → Option Asked
@@ -212,10 +260,14 @@ is_flag _ = false
 abbrev pub is_file_name : Text → Bool
 is_file_name word = not (is_flag word)
 
--- a run over these files whose words give no option: 1,024 rows a task, a ring of 64 cells, two threads, all lines that a file
--- may have, timestamps that don't fall, and the end of the input closes nothing
+-- the numbers where the words give no option: 1,024 rows a task, a ring of 64 cells, two threads, all lines that a file may have, and timestamps that
+-- don't fall
+abbrev pub usual_numbers : Numbers
+usual_numbers = record { task = 1024; ring = 64; threads = 2; most = 2 ^ 40; slack = 0 }
+
+-- a run over these files whose words give no option: the end of the input closes nothing
 abbrev pub plain_run : Text → Text → Option Text → Asked
-plain_run query left right = run (record { query = query; left = left; right = right; task = 1024; ring = 64; threads = 2; most = 2 ^ 40; slack = 0; flush = false })
+plain_run query left right = run_over query left right usual_numbers false
 
 -- `run` wants the query's file, a left file and maybe a right one
 abbrev pub run_of : List Text → Option Asked
@@ -243,7 +295,7 @@ demo_of _ = None
 
 -- a chain over these files whose words give no option
 abbrev pub plain_chain : Text → Text → Text → Option Text → Asked
-plain_chain first second left right = chain (record { first = first; second = second; left = left; right = right; task = 1024; ring = 64; threads = 2; most = 2 ^ 40; slack = 0 })
+plain_chain first second left right = chain_over first second left right usual_numbers
 
 -- `chain` wants the files of two queries, a left file and maybe a right one
 abbrev pub chain_of : List Text → Option Asked
