@@ -33,7 +33,7 @@ use Rattle.saber_engine.specs.Gives.{Gives, Assembles, Reach, all_tasks, before_
 use Rattle.saber_engine.specs.Endings.{given_end, end_of}
 use Rattle.saber_engine.specs.Supplying.{first_told}
 use Rattle.saber_engine.proofs.Counts.{first_few}
-use Rattle.saber_engine.proofs.Assembled.{op_is, after, few, few_next, all_behind}
+use Rattle.saber_engine.proofs.Assembled.{after, few, few_next, all_behind}
 use Rattle.saber_engine.proofs.Reaches.{some_not_all, some_not_before, some_not_cut, all_not_before, all_not_cut, before_not_all, before_not_cut, same_task, cut_not_all, cut_not_before, by_fault, by_write}
 
 -- so many tasks were given, those of this input, and the cutter tells their end, once they ended

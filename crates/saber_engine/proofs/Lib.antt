@@ -8,3 +8,4 @@ mod Starting
 mod FedSupplied
 mod FedResults
 mod Shapes
+mod Stops

@@ -1,5 +1,5 @@
 -- What a run gives, and of what it took.
-use Rattle.std.proofs.Common.{◌≡◌, ◌≢◌, ℕ, ◌+◌, ◌≤◌, List, [], ◌∷◌, ◌++◌, length, map, refl, sym, ◌∙◌, ap, subst, arith}
+use Rattle.std.proofs.Common.{◌≡◌, ◌≢◌, ℕ, ◌≤◌, List, [], ◌∷◌, length, map, refl, ◌∙◌, ap, subst, arith}
 use Rattle.std.specs.Prelude.{Option, Some, None, IfSome, IsSome, option_map, option_and_then}
 use Rattle.saber_io.specs.Outside.{Rose, appended, given, appended-none}
 use Rattle.saber_plan.specs.Sizes.{FileLimits, limits_of}
@@ -9,20 +9,15 @@ use Rattle.saber_plan.specs.declared.windows.Stream.{Stream}
 use Rattle.saber_plan.specs.Inputs.{Input}
 use Rattle.saber_plan.specs.Rows.{Read}
 use Rattle.saber_plan.specs.Trees.{Tree}
-use Rattle.saber_plan.specs.Answers.{text, frame}
+use Rattle.saber_plan.specs.Answers.{frame}
 use Rattle.saber_plan.specs.Windows.{Fits}
-use Rattle.saber_plan.specs.Tasks.{Parts, upto, task_count, run_input}
+use Rattle.saber_plan.specs.Tasks.{Parts}
 use Rattle.saber_laws.specs.Cuts.{FirstOfFirst}
 use Rattle.saber_laws.specs.Pieces.{NoRowsGiveNothing, NoTasksNoRows}
 use Rattle.saber_assembly.specs.declared.stage.Stage.{Stage}
-use Rattle.saber_assembly.specs.declared.stage.State.{State}
-use Rattle.saber_assembly.specs.declared.stage.State.TheVariants as states
-use Rattle.saber_assembly.specs.declared.work.Told.{Told}
-use Rattle.saber_assembly.specs.Stages.{seen, Start, After, IsCut}
+use Rattle.saber_assembly.specs.Stages.{seen}
 use Rattle.saber_assembly.specs.Works.{IsTold, input_of as told_input, first_tasks, IsStageOf}
 use Rattle.saber_crew.specs.declared.feed.Fed.{Fed}
-use Rattle.saber_crew.specs.declared.feed.Over.{Over}
-use Rattle.saber_crew.specs.declared.feed.Over.TheVariants as over_by
 use Rattle.saber_crew.specs.Runs.{RunsTo}
 use Rattle.saber_dispatch.specs.declared.ends.End.{End}
 use Rattle.saber_dispatch.specs.declared.ends.End.TheVariants as cut
@@ -31,14 +26,14 @@ use Rattle.saber_dispatch.specs.declared.inputs.Inputs.TheVariants.{One, Two}
 use Rattle.saber_dispatch.specs.declared.cutter.Cutter.{Cutter}
 use Rattle.saber_dispatch.specs.Sources.{Lefts, RoseAt, NoneFell, each_input}
 use Rattle.saber_dispatch.specs.Readings.{Reading, one, two, Suits, ReadMoves}
-use Rattle.saber_dispatch.specs.Cutting.{Cuts, end_of as cutter_end, fresh, fresh_on}
+use Rattle.saber_dispatch.specs.Cutting.{Cuts, fresh, fresh_on}
 use Rattle.saber_dispatch.specs.Telling as telling
 use Rattle.saber_dispatch.specs.Leaving.{GaveAll, FaultsLeaveWholeTasks}
 use Rattle.saber_engine.specs.declared.ends.RunEnd.{RunEnd}
 use Rattle.saber_engine.specs.declared.ends.RunEnd.TheVariants.{ReadFault, WriteFault, NoMemory}
 use Rattle.saber_engine.specs.Sources.{told_by, input_of}
-use Rattle.saber_engine.specs.Gives.{Gives, Assembles, Reach, all_tasks, before_task, first_tasks as some_tasks, cut_off, IsClean, ReadsWhole}
-use Rattle.saber_engine.specs.Endings.{given_end, end_of}
+use Rattle.saber_engine.specs.Gives.{Gives, IsClean, ReadsWhole}
+use Rattle.saber_engine.specs.Endings.{end_of}
 use Rattle.saber_engine.specs.Supplying.{HasGiven, first_told}
 use Rattle.saber_engine.proofs.Counts.{none_same}
 use Rattle.saber_engine.proofs.Assembled.{op_is}

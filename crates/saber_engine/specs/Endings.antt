@@ -1,5 +1,5 @@
 -- How a run ends, by its stage and its blocks.
-use Rattle.std.specs.Prelude.{Option, Some, None}
+use Rattle.std.specs.Prelude.{◌≡◌, Bool, true, false, Option, Some, None}
 use Rattle.saber_assembly.specs.declared.stage.State.{State}
 use Rattle.saber_assembly.specs.declared.stage.State.TheVariants as states
 use Rattle.saber_crew.specs.declared.feed.Over.{Over}
@@ -29,3 +29,15 @@ abbrev pub end_of : State → Over → Option End → RunEnd
 end_of states.Running over end = filled_end over end
 end_of states.SinkFailed over end = WriteFault
 end_of states.NoMemory over end = NoMemory
+
+-- the stage was stopped, by a write that failed or for want of memory
+abbrev pub is_stopped : State → Bool
+is_stopped states.Running = false
+is_stopped states.SinkFailed = true
+is_stopped states.NoMemory = true
+
+-- Whether the stage was stopped, by how the run ended: a write that failed stopped it, want of memory may have, and at any other end it went on.
+abbrev pub MayStop : RunEnd → Bool → Type 0
+MayStop WriteFault stopped = stopped ≡ true
+MayStop NoMemory stopped = Unit {0}
+MayStop _ stopped = stopped ≡ false

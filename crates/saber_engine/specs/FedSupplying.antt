@@ -6,8 +6,9 @@ use Rattle.saber_plan.specs.declared.rows.Side.{Side}
 use Rattle.saber_plan.specs.declared.sizes.Sizes.{Sizes}
 use Rattle.saber_plan.specs.Trees.{Tree}
 use Rattle.saber_plan.specs.Tasks.{task_count}
+use Rattle.saber_fragment.specs.declared.blocks.Block.{Block}
 use Rattle.saber_assembly.specs.declared.work.Told.{Told}
-use Rattle.saber_assembly.specs.Works.{input_of}
+use Rattle.saber_assembly.specs.Works.{IsTold, IsBlockOf, input_of, with_block}
 use Rattle.saber_dispatch.specs.declared.ends.End.{End}
 use Rattle.saber_dispatch.specs.declared.ends.End.TheVariants.{ReadFault}
 use Rattle.saber_dispatch.specs.declared.fed_cutter.FedCutter.{FedCutter}
@@ -47,3 +48,31 @@ module _ {T R : Type 0} (is_told : T → ℕ → Type 0) (filled : T → R → T
   abbrev pub Tries : Option (Supplied R) → Type 0
   Tries None = given told d
   Tries (Some supplied) = Gives is_told filled is_rows given told d supplied
+
+-- where the blocks of a feed stand: the feed, the cutter, and how the blocks ended, once they did
+pub record FedStanding : Type 0 where
+  pub view : FeedView
+  pub cutter : FedCutter
+  pub end : Option End
+
+abbrev pub fed_standing : FeedView → FedCutter → Option End → FedStanding
+fed_standing view cutter end = record { view = view; cutter = cutter; end = end }
+
+module _ {O : Type 0} (plan : O → Tree) (s : Sizes) (faults : ℕ) where
+  -- of a feed with such a count, so many blocks were given
+  abbrev pub FedAt : FedStanding → Told O → ℕ → Type 0
+  FedAt now told d = HasFed plan s faults now.view now.cutter now.end told d
+
+  -- some blocks were given
+  abbrev pub FedSome : FedStanding → Type 0
+  FedSome now = (told : Told O) × (d : ℕ) × FedAt now told d
+
+  -- whatever blocks were given, this is the next one, or none, and then those stay
+  abbrev pub FeedsNext : FedStanding → FedStanding → Supplied Block → Type 0
+  FeedsNext old new supplied = (told : Told O) (d : ℕ) → FedAt old told d →
+      Gives (IsTold plan) with_block (IsBlockOf plan) (FedAt new) told d supplied
+
+  -- the same of a call that may have no answer as yet
+  abbrev pub TriesNext : FedStanding → FedStanding → Option (Supplied Block) → Type 0
+  TriesNext old new supplied = (told : Told O) (d : ℕ) → FedAt old told d →
+      Tries (IsTold plan) with_block (IsBlockOf plan) (FedAt new) told d supplied

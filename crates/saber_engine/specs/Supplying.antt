@@ -3,13 +3,17 @@ use Rattle.std.specs.Prelude.{◌≡◌, ◌≢◌, ℕ, List, [], Option, Some,
 use Rattle.saber_plan.specs.declared.rows.Side.{Side}
 use Rattle.saber_plan.specs.declared.sizes.Sizes.{Sizes}
 use Rattle.saber_plan.specs.Trees.{Tree}
+use Rattle.saber_fragment.specs.declared.blocks.Block.{Block}
 use Rattle.saber_assembly.specs.declared.work.Told.{Told}
-use Rattle.saber_assembly.specs.Works.{input_of}
+use Rattle.saber_assembly.specs.Works.{IsTold, IsBlockOf, input_of, with_block}
 use Rattle.saber_dispatch.specs.declared.ends.End.{End}
 use Rattle.saber_dispatch.specs.declared.ends.End.TheVariants.{ReadFault}
 use Rattle.saber_dispatch.specs.declared.cutter.Cutter.{Cutter}
-use Rattle.saber_dispatch.specs.Sources.{Lefts, RoseAt, NoneFell}
+use Rattle.saber_dispatch.specs.declared.inputs.Inputs.{Inputs}
+use Rattle.saber_dispatch.specs.Sources.{Lefts, RoseAt, NoneFell, each_input}
 use Rattle.saber_dispatch.specs.Cutting.{Cuts, end_of}
+use Rattle.saber_crew.specs.declared.supply.Supplied.{Supplied}
+use Rattle.saber_crew.specs.Supplies.{Gives}
 
 -- the counts of faults since the run began, by how the blocks ended: where a side can't be read its count rose, and else all are as they were
 pub record AreCounted (end : Option End) (before now : List ℕ) : Type 0 where
@@ -19,7 +23,8 @@ pub record AreCounted (end : Option End) (before now : List ℕ) : Type 0 where
 
 -- Of inputs that had so much left and such counts, so many blocks were given, and the data have their rows. Once the blocks ended, the
 -- cutter tells their end, and until then no read had failed.
-pub record HasGiven {O : Type 0} (plan : O → Tree) (s : Sizes) (had has : Lefts) (before now : List ℕ) (c : Cutter) (end : Option End) (told : Told O) (d : ℕ) : Type 0 where
+pub record HasGiven {O : Type 0} (plan : O → Tree) (s : Sizes) (had has : Lefts) (before now : List ℕ) (c : Cutter) (end : Option End)
+    (told : Told O) (d : ℕ) : Type 0 where
   pub cuts : Cuts (plan told.operator) s had has c (input_of told)
   pub size : told.size ≡ s.task
   pub count : d ≡ c.number
@@ -30,3 +35,27 @@ pub record HasGiven {O : Type 0} (plan : O → Tree) (s : Sizes) (had has : Left
 -- the data before a block is filled
 abbrev pub first_told : {O : Type 0} → O → ℕ → Option (List ℕ) → ℕ → Told O
 first_told operator size written faults = record { operator = operator; size = size; written = written; faults = faults; rows = []; ended = false }
+
+-- where the blocks of inputs stand: what each input has left, and its count of faults; the cutter; and how the blocks ended, once they did
+pub record Standing : Type 0 where
+  pub lefts : Lefts
+  pub faults : List ℕ
+  pub cutter : Cutter
+  pub end : Option End
+
+abbrev pub standing : {S : Type 0} → (S → Option (List ℕ)) → (S → ℕ) → Inputs S → Cutter → Option End → Standing
+standing left faults inputs cutter end = record { lefts = each_input left inputs; faults = each_input faults inputs; cutter = cutter; end = end }
+
+module _ {O : Type 0} (plan : O → Tree) (s : Sizes) (lefts : Lefts) (faults : List ℕ) where
+  -- of inputs that had so much left and such counts, so many blocks were given
+  abbrev pub GivenAt : Standing → Told O → ℕ → Type 0
+  GivenAt now told d = HasGiven plan s lefts now.lefts faults now.faults now.cutter now.end told d
+
+  -- some blocks were given
+  abbrev pub GivenSome : Standing → Type 0
+  GivenSome now = (told : Told O) × (d : ℕ) × GivenAt now told d
+
+  -- whatever blocks were given, this is the next one, or none, and then those stay
+  abbrev pub GivesNext : Standing → Standing → Supplied Block → Type 0
+  GivesNext old new supplied = (told : Told O) (d : ℕ) → GivenAt old told d →
+      Gives (IsTold plan) with_block (IsBlockOf plan) (GivenAt new) told d supplied

@@ -1,11 +1,8 @@
 // The blocks of a query's inputs, as the tasks of a run.
-ghost use Rattle.std.specs.Prelude.{◌≡◌, ℕ, List, [], IsSome, false};
+ghost use Rattle.std.specs.Prelude.{◌≡◌, ◌≢◌, ℕ, List, [], IsSome, false};
 ghost use Rattle.saber_plan.specs.declared.sizes.Sizes.{Sizes};
-ghost use Rattle.saber_assembly.specs.declared.work.Told.{Told};
-ghost use Rattle.saber_assembly.specs.Works.{IsTold, with_block, IsBlockOf};
-ghost use Rattle.saber_dispatch.specs.Sources.{Lefts, each_input};
-ghost use Rattle.saber_crew.specs.Supplies.{Gives};
-ghost use Rattle.saber_engine.specs.Supplying.{HasGiven};
+ghost use Rattle.saber_dispatch.specs.Sources.{Lefts};
+ghost use Rattle.saber_engine.specs.Supplying.{standing, GivenAt, GivenSome, GivesNext};
 
 use saber_assembly::SaberWork;
 use saber_crew::{Supplied, Supply};
@@ -45,15 +42,19 @@ pub(crate) struct Blocks<S, J> {
 impl<S: Source, J: Begins, O: Operator, K: Sink> Supply<SaberWork<O, K>> for Blocks<S, J> {
     type From = Inputs<S>;
 
-    ghost has_given = { λ blocks from told d. HasGiven O.plan J.sizes J.lefts (each_input S.left from) J.faults (each_input S.faults from) blocks.cutter blocks.end told d };
+    ghost has_given = { λ blocks from told d. GivenAt O.plan J.sizes J.lefts J.faults (standing S.left S.faults from blocks.cutter blocks.end) told d };
 
     ghost is_over = { λ blocks. IsSome blocks.end };
 
     fn next(&mut self, from: &mut Inputs<S>) -> Supplied<Block>
-        requires { (told : Told O) × (d : ℕ) × HasGiven O.plan J.sizes J.lefts (each_input S.left from.old) J.faults (each_input S.faults from.old) self.old.cutter self.old.end told d }
-        ensures gives { (told : Told O) (d : ℕ) → HasGiven O.plan J.sizes J.lefts (each_input S.left from.old) J.faults (each_input S.faults from.old) self.old.cutter self.old.end told d
-            → Gives (IsTold O.plan) with_block (IsBlockOf O.plan) (HasGiven O.plan J.sizes J.lefts (each_input S.left from.new) J.faults (each_input S.faults from.new) self.new.cutter self.new.end) told d result }
+        requires { GivenSome O.plan J.sizes J.lefts J.faults (standing S.left S.faults from.old self.old.cutter self.old.end) }
+        ensures gives { GivesNext O.plan J.sizes J.lefts J.faults
+            (standing S.left S.faults from.old self.old.cutter self.old.end)
+            (standing S.left S.faults from.new self.new.cutter self.new.end) result }
         ensures over { result ≡ Supplied.Over → IsSome self.new.end }
+
+        // Files have each block at once, or none any more.
+        ensures never { result ≢ Supplied.Dry }
     {
         blocks_are_supplied::<O>();
         match self.end {

@@ -4,17 +4,19 @@ ghost use Rattle.saber_plan.specs.Sizes.{SizesFit};
 
 use saber_plan::{Plan, Sizes};
 
-// So few tasks' rows stay near a processor.
+// So few tasks' rows stay near a processor: of the caller's thread alone, and so many more for each other thread.
 const NEAR: u32 = 4;
 
-// As many as are asked for. Where the caller's thread works alone over one stream it does each task before it fills the next, and no task needs the rows of
-// another: a few cells then do as well, and their rows stay in the processor's nearer memory.
+const NEAR_A_THREAD: u32 = 2;
+
+// As many as are asked for. Over one stream no task needs the rows of another, so a few cells for each thread do as well: there is always a task to do, and
+// the rows of those that wait stay in the processors' nearer memory.
 pub(crate) fn cells(plan: &Plan, sizes: &Sizes) -> u32
     requires { SizesFit sizes.now }
     ensures { (1 ≤ result) × (result ≤ 2 ^ 10) }
 {
-    if sizes.threads == 0 && plan.streams().len() == 1 {
-        sizes.ring.min(NEAR)
+    if plan.streams().len() == 1 {
+        sizes.ring.min(NEAR + NEAR_A_THREAD * sizes.threads)
     } else {
         sizes.ring
     }

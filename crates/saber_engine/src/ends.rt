@@ -1,6 +1,6 @@
 // How a run ends.
 ghost use Rattle.std.specs.Prelude.{◌≡◌};
-ghost use Rattle.saber_engine.specs.Endings.{given_end, end_of};
+ghost use Rattle.saber_engine.specs.Endings.{given_end, end_of, is_stopped, MayStop};
 
 use saber_assembly::{Stage, State};
 use saber_crew::Over;
@@ -40,6 +40,8 @@ pub struct Ran<K> {
     pub end: RunEnd,
     pub sink: K,
     pub tasks: u64,
+    /// Whether the stage stopped, by a write that failed or for want of memory: then this end came before that of the blocks.
+    pub stopped: bool,
 }
 
 // How a run ends whose blocks ended so.
@@ -73,14 +75,34 @@ fn end_of(state: State, over: Over, end: Option<End>) -> RunEnd
     }
 }
 
+// Whether a stage in this state was stopped.
+fn is_stopped(state: State) -> bool
+    ensures { result ≡ is_stopped state }
+{
+    match state {
+        State::Running => false,
+        State::SinkFailed => true,
+        State::NoMemory => true,
+    }
+}
+
 /// A run that is over, by its stage, by why no more tasks were filled, and by how the blocks ended.
 pub(crate) fn ended<S: Drop, K: Sink>(stage: Stage<S, K>, over: Over, end: Option<End>) -> Ran<K>
     ensures end { result.end ≡ end_of stage.state over end }
     ensures tasks { result.tasks ≡ stage.k }
     ensures sink { result.sink ≡ stage.sink }
+    ensures stopped { result.stopped ≡ is_stopped stage.state }
+    ensures may { MayStop result.end result.stopped }
 {
-    let end = end_of(stage.state(), over, end);
+    let state = stage.state();
+    let end = end_of(state, over, end);
+    let stopped = is_stopped(state);
     let tasks = stage.k();
     let sink = stage.into_sink();
-    Ran { end, sink, tasks }
+    Ran {
+        end,
+        sink,
+        tasks,
+        stopped,
+    }
 }

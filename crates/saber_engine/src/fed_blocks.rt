@@ -1,10 +1,7 @@
 // The blocks of a feed, as the tasks of a run.
 ghost use Rattle.std.specs.Prelude.{◌≡◌, ℕ, Some, None, IsSome, false};
 ghost use Rattle.saber_plan.specs.declared.sizes.Sizes.{Sizes};
-ghost use Rattle.saber_assembly.specs.declared.work.Told.{Told};
-ghost use Rattle.saber_assembly.specs.Works.{IsTold, with_block, IsBlockOf};
-ghost use Rattle.saber_crew.specs.Supplies.{Gives};
-ghost use Rattle.saber_engine.specs.FedSupplying.{feed_seen, HasFed, Tries};
+ghost use Rattle.saber_engine.specs.FedSupplying.{feed_seen, fed_standing, FedAt, FedSome, FeedsNext, TriesNext};
 
 use saber_assembly::SaberWork;
 use saber_crew::{Supplied, Supply};
@@ -45,10 +42,11 @@ fn try_next<F: Feed, J: BeginsFed, O: Operator>(
     blocks: &mut FedBlocks<F, J>,
     feed: &mut F,
 ) -> Option<Supplied<Block>>
-    requires given { (told : Told O) × (d : ℕ) × HasFed O.plan J.sizes J.faults (feed_seen F.taken F.waiting F.mark F.faults feed.old) blocks.old.cutter blocks.old.end told d }
+    requires given { FedSome O.plan J.sizes J.faults (fed_standing (feed_seen F.taken F.waiting F.mark F.faults feed.old) blocks.old.cutter blocks.old.end) }
     requires goes { blocks.old.end ≡ None }
-    ensures gives { (told : Told O) (d : ℕ) → HasFed O.plan J.sizes J.faults (feed_seen F.taken F.waiting F.mark F.faults feed.old) blocks.old.cutter blocks.old.end told d
-        → Tries (IsTold O.plan) with_block (IsBlockOf O.plan) (HasFed O.plan J.sizes J.faults (feed_seen F.taken F.waiting F.mark F.faults feed.new) blocks.new.cutter blocks.new.end) told d result }
+    ensures gives { TriesNext O.plan J.sizes J.faults
+        (fed_standing (feed_seen F.taken F.waiting F.mark F.faults feed.old) blocks.old.cutter blocks.old.end)
+        (fed_standing (feed_seen F.taken F.waiting F.mark F.faults feed.new) blocks.new.cutter blocks.new.end) result }
     ensures over { result ≡ Some Supplied.Over → IsSome blocks.new.end }
     ensures goes { result ≡ None → blocks.new.end ≡ None }
 {
@@ -73,14 +71,16 @@ fn try_next<F: Feed, J: BeginsFed, O: Operator>(
 impl<F: Feed, J: BeginsFed, O: Operator, K: Sink> Supply<SaberWork<O, K>> for FedBlocks<F, J> {
     type From = F;
 
-    ghost has_given = { λ blocks from told d. HasFed O.plan J.sizes J.faults (feed_seen F.taken F.waiting F.mark F.faults from) blocks.cutter blocks.end told d };
+    ghost has_given = { λ blocks from told d.
+        FedAt O.plan J.sizes J.faults (fed_standing (feed_seen F.taken F.waiting F.mark F.faults from) blocks.cutter blocks.end) told d };
 
     ghost is_over = { λ blocks. IsSome blocks.end };
 
     fn next(&mut self, from: &mut F) -> Supplied<Block>
-        requires { (told : Told O) × (d : ℕ) × HasFed O.plan J.sizes J.faults (feed_seen F.taken F.waiting F.mark F.faults from.old) self.old.cutter self.old.end told d }
-        ensures gives { (told : Told O) (d : ℕ) → HasFed O.plan J.sizes J.faults (feed_seen F.taken F.waiting F.mark F.faults from.old) self.old.cutter self.old.end told d
-            → Gives (IsTold O.plan) with_block (IsBlockOf O.plan) (HasFed O.plan J.sizes J.faults (feed_seen F.taken F.waiting F.mark F.faults from.new) self.new.cutter self.new.end) told d result }
+        requires { FedSome O.plan J.sizes J.faults (fed_standing (feed_seen F.taken F.waiting F.mark F.faults from.old) self.old.cutter self.old.end) }
+        ensures gives { FeedsNext O.plan J.sizes J.faults
+            (fed_standing (feed_seen F.taken F.waiting F.mark F.faults from.old) self.old.cutter self.old.end)
+            (fed_standing (feed_seen F.taken F.waiting F.mark F.faults from.new) self.new.cutter self.new.end) result }
         ensures over { result ≡ Supplied.Over → IsSome self.new.end }
     {
         if self.end.is_some() {

@@ -9,6 +9,7 @@ ghost use Rattle.saber_plan.specs.Sizes.{SizesFit};
 ghost use Rattle.saber_engine.specs.declared.ends.RunEnd.{RunEnd};
 ghost use Rattle.saber_engine.specs.Gives.{IsClean};
 ghost use Rattle.saber_engine.specs.FedRuns.{GivesFed, CutLeavesWhole};
+ghost use Rattle.saber_engine.specs.Endings.{MayStop};
 
 use crate::ends::{Ran, RunEnd};
 use crate::fed_plans::run_fed;
@@ -45,6 +46,7 @@ fn run_shape<F: Feed, K: Pour + Send, G: Gate + Sync, R: Threads + Wait + Sync>(
     ensures write_good { result.end ≢ RunEnd.WriteFault → K.faults result.sink ≡ K.faults sink }
     ensures reads { F.faults feed.old ≤ F.faults feed.new }
     ensures writes { K.faults sink ≤ K.faults result.sink }
+    ensures stopped { MayStop result.end result.stopped }
 {
     match plan.shape() {
         Shape::Select => {
@@ -97,12 +99,21 @@ pub fn engine_fed<F: Feed, K: Sink + Send, G: Gate + Sync, R: Threads + Wait + S
     ensures write_good { result.end ≢ RunEnd.WriteFault → K.faults result.sink ≡ K.faults sink }
     ensures reads { F.faults feed.old ≤ F.faults feed.new }
     ensures writes { K.faults sink ≤ K.faults result.sink }
+
+    // The stage was stopped where a write failed, maybe where memory lacked, and at no other end.
+    ensures stopped { MayStop result.end result.stopped }
 {
     let ran = run_shape(rt, alloc, plan, feed, Plain { sink }, sizes, gate);
     let Ran {
         end,
         sink: Plain { sink },
         tasks,
+        stopped,
     } = ran;
-    Ran { end, sink, tasks }
+    Ran {
+        end,
+        sink,
+        tasks,
+        stopped,
+    }
 }

@@ -9,6 +9,7 @@ ghost use Rattle.saber_plan.specs.Sizes.{SizesFit};
 ghost use Rattle.saber_engine.specs.declared.ends.RunEnd.{RunEnd};
 ghost use Rattle.saber_engine.specs.Gives.{IsClean};
 ghost use Rattle.saber_engine.specs.FedRuns.{GivesFed, CutLeavesWhole};
+ghost use Rattle.saber_engine.specs.Endings.{MayStop};
 
 use crate::cells::cells;
 use crate::ends::{Ran, RunEnd, ended};
@@ -63,6 +64,7 @@ where
     ensures write_good { result.end ≢ RunEnd.WriteFault → K.faults result.sink ≡ K.faults sink }
     ensures reads { F.faults feed.old ≤ F.faults feed.new }
     ensures writes { K.faults sink ≤ K.faults result.sink }
+    ensures stopped { MayStop result.end result.stopped }
 {
     checked_fit();
     no_rows_give_nothing();

@@ -8,6 +8,7 @@ ghost use Rattle.saber_plan.specs.Sizes.{SizesFit};
 ghost use Rattle.saber_engine.specs.declared.ends.RunEnd.{RunEnd};
 ghost use Rattle.saber_engine.specs.Sources.{each_input, told_by, RoseAt, NoneFell, GaveAll};
 ghost use Rattle.saber_engine.specs.Gives.{GivesTold, IsClean, LeavesWhole};
+ghost use Rattle.saber_engine.specs.Endings.{MayStop};
 
 use crate::blocks::{Begins, Blocks};
 use crate::cells::cells;
@@ -60,6 +61,7 @@ where
     ensures write_good { result.end ≢ RunEnd.WriteFault → K.faults result.sink ≡ K.faults sink }
     ensures reads { NoneFell (each_input S.faults inputs.old) (each_input S.faults inputs.new) }
     ensures writes { K.faults sink ≤ K.faults result.sink }
+    ensures stopped { MayStop result.end result.stopped }
 {
     checked_fit();
     no_rows_give_nothing();

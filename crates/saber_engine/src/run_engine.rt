@@ -8,6 +8,7 @@ ghost use Rattle.saber_plan.specs.Sizes.{SizesFit};
 ghost use Rattle.saber_engine.specs.declared.ends.RunEnd.{RunEnd};
 ghost use Rattle.saber_engine.specs.Sources.{each_input, told_by, RoseAt, NoneFell, GaveAll};
 ghost use Rattle.saber_engine.specs.Gives.{GivesTold, IsClean, LeavesWhole};
+ghost use Rattle.saber_engine.specs.Endings.{MayStop};
 
 use crate::ends::{Ran, RunEnd};
 use crate::plans::run_plan;
@@ -56,6 +57,9 @@ pub fn engine_pouring<S: Source, K: Pour + Send, G: Gate + Sync, R: Threads + Wa
     ensures write_good { result.end ≢ RunEnd.WriteFault → K.faults result.sink ≡ K.faults sink }
     ensures reads { NoneFell (each_input S.faults inputs.old) (each_input S.faults inputs.new) }
     ensures writes { K.faults sink ≤ K.faults result.sink }
+
+    // The stage was stopped where a write failed, maybe where memory lacked, and at no other end.
+    ensures stopped { MayStop result.end result.stopped }
 {
     match plan.shape() {
         Shape::Select => {
@@ -110,12 +114,21 @@ pub fn engine<S: Source, K: Sink + Send, G: Gate + Sync, R: Threads + Wait + Syn
     ensures write_good { result.end ≢ RunEnd.WriteFault → K.faults result.sink ≡ K.faults sink }
     ensures reads { NoneFell (each_input S.faults inputs.old) (each_input S.faults inputs.new) }
     ensures writes { K.faults sink ≤ K.faults result.sink }
+
+    // The stage was stopped where a write failed, maybe where memory lacked, and at no other end.
+    ensures stopped { MayStop result.end result.stopped }
 {
     let ran = engine_pouring(rt, alloc, plan, inputs, Plain { sink }, sizes, gate);
     let Ran {
         end,
         sink: Plain { sink },
         tasks,
+        stopped,
     } = ran;
-    Ran { end, sink, tasks }
+    Ran {
+        end,
+        sink,
+        tasks,
+        stopped,
+    }
 }

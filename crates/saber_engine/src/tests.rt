@@ -228,6 +228,7 @@ fn a_failed_read_leaves_whole_tasks(rt: HostRuntime) -> Result<(), Fail> {
         let ran = run_one(&rt, alloc, &rows, cut, Vec::new(alloc), &by);
         let end = RunEnd::ReadFault { side: Side::Left };
         assert_eq!(rt; (ran.end, ran.tasks), (end, 1));
+        assert!(rt; !ran.stopped);
         assert_eq!(rt; ran.sink.bytes(), b"0,2\n".as_slice());
     }
     Ok(())
@@ -242,6 +243,7 @@ fn a_failed_write_leaves_a_prefix(rt: HostRuntime) -> Result<(), Fail> {
         let by = sizes(2, 2, threads, false);
         let ran = run_one(&rt, alloc, &rows, source(alloc, FIVE)?, second, &by);
         assert_eq!(rt; (ran.end, ran.tasks), (RunEnd::WriteFault, 1));
+        assert!(rt; ran.stopped);
         assert_eq!(rt; ran.sink.bytes(), b"0,2\n1".as_slice());
     }
     Ok(())

@@ -1,4 +1,3 @@
-use Rattle.std.proofs.Common.{◌≡◌}
 use Rattle.saber_assembly.specs.Works.{input_of}
 use Rattle.saber_engine.specs.FedSupplying.{FeedView, feed_seen}
 use Rattle.saber_engine.proofs.Supplied.{if_some}

@@ -1,4 +1,4 @@
-use Rattle.std.proofs.Common.{◌≡◌, ℕ, List, sym, ◌∙◌, ap, subst}
+use Rattle.std.proofs.Common.{◌≡◌, ℕ, sym, ◌∙◌, ap, subst}
 use Rattle.std.proofs.Math.Path.{transport}
 use Rattle.std.specs.Prelude.{None, IsSome}
 use Rattle.saber_crew.specs.Runs.{RunsTo}
@@ -72,6 +72,7 @@ returns-in-Ok-ran g c =
       write_good = d.write_good;
       reads = d.reads;
       writes = d.writes;
+      stopped = c.ended-in-Ok-ran.ensures.may;
     }
 
 pub returns-in_default : goal.returns-in_default
@@ -103,6 +104,7 @@ returns-in_default g c =
       write_good = d.write_good;
       reads = d.reads;
       writes = d.writes;
+      stopped = c.ended.ensures.may;
     }
 
 pub returns : goal.returns
@@ -136,4 +138,5 @@ returns g c =
       write_good = d.write_good;
       reads = d.reads;
       writes = d.writes;
+      stopped = c.ended-in-Err.ensures.may;
     }

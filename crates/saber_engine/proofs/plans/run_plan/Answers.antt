@@ -77,6 +77,7 @@ returns-in-Ok-ran g c =
       write_good = d.write_good;
       reads = d.reads;
       writes = d.writes;
+      stopped = c.ended-in-Ok-ran.ensures.may;
     }
 
 pub returns-in_default : goal.returns-in_default
@@ -107,6 +108,7 @@ returns-in_default g c =
       write_good = d.write_good;
       reads = d.reads;
       writes = d.writes;
+      stopped = c.ended.ensures.may;
     }
 
 pub returns : goal.returns
@@ -140,4 +142,5 @@ returns g c =
       write_good = d.write_good;
       reads = d.reads;
       writes = d.writes;
+      stopped = c.ended-in-Err.ensures.may;
     }
