@@ -2,7 +2,7 @@
 use Rattle.std.proofs.Common.{◌≡◌, ◌≢◌, ◌≤◌, ℕ, ◌+◌, ◌-◌, List, [], ◌∷◌, length, refl, sym, ◌∙◌, ap, subst, arith}
 use Rattle.std.proofs.Math.Path.{transport}
 use Rattle.std.specs.Option.{option_map_or}
-use Rattle.std.specs.Prelude.{Option, Some, None, IfSome, ◌/◌, false}
+use Rattle.std.specs.Prelude.{Bool, Option, Some, None, IfSome, ◌/◌, false}
 use Rattle.saber_io.specs.Outside.{Rose, appended, appended-none}
 use Rattle.saber_io.specs.declared.feeds.EndMark.{EndMark}
 use Rattle.saber_io.specs.declared.feeds.EndMark.TheVariants as marks
@@ -29,6 +29,7 @@ use Rattle.saber_io.specs.Outside.{given}
 use Rattle.saber_engine.specs.declared.ends.RunEnd.{RunEnd}
 use Rattle.saber_engine.specs.declared.ends.RunEnd.TheVariants.{AllRead, Bad, ReadFault, TooWide, WriteFault, NoMemory}
 use Rattle.saber_engine.specs.Sources.{input_of, each_input, told_by, GaveAll}
+use Rattle.saber_engine.specs.Endings.{MayStop}
 use Rattle.saber_engine.specs.Gives.{Gives, reach_of, all_tasks, cut_off}
 use Rattle.saber_chain.specs.Texts.{rows_between, text_of_both}
 use Rattle.saber_chain.specs.Marks.{mark_after, IsWhole}
@@ -61,10 +62,10 @@ none_wide law q checked one n ring r some = law q n r ring (λ k below. let own 
 pub all_rows : TasksMakeAll → (q : Tree) (n ring : ℕ) (read : Read) (end : RunEnd) (tasks : ℕ) (out : List ℕ) → 1 ≤ n → IsWhole end → Gives q n ring false read end tasks out → out ≡ text q (going_on read.rows)
 all_rows law q n ring read AllRead tasks out some whole gives = let a = gives.assembles in a.answers (λ e. cc) ∙ ap (λ k. text q (upto n (going_on read.rows) k)) (a.all refl) ∙ ap (text q) (law n (going_on read.rows) some)
 all_rows law q n ring read (Bad side line cause) tasks out some whole gives = let a = gives.assembles in a.answers (λ e. cc) ∙ ap (λ k. text q (upto n (going_on read.rows) k)) (a.all refl) ∙ ap (text q) (law n (going_on read.rows) some)
-all_rows law q n ring read (ReadFault side) tasks out some whole gives = absurd whole
-all_rows law q n ring read (TooWide task wants) tasks out some whole gives = absurd whole
-all_rows law q n ring read WriteFault tasks out some whole gives = absurd whole
-all_rows law q n ring read NoMemory tasks out some whole gives = absurd whole
+all_rows law q n ring read (ReadFault side) tasks out some whole gives = absurd (let h = whole in cc)
+all_rows law q n ring read (TooWide task wants) tasks out some whole gives = absurd (let h = whole in cc)
+all_rows law q n ring read WriteFault tasks out some whole gives = absurd (let h = whole in cc)
+all_rows law q n ring read NoMemory tasks out some whole gives = absurd (let h = whole in cc)
 
 -- and so do two of them, one over the text of the other
 pub both_texts : TasksMakeAll → (first second : Tree) (n ring : ℕ) (read : Read) (end end' : RunEnd) (tasks tasks' : ℕ) (between out : List ℕ) → 1 ≤ n
@@ -73,15 +74,6 @@ pub both_texts : TasksMakeAll → (first second : Tree) (n ring : ℕ) (read : R
 both_texts law first second n ring read end end' tasks tasks' between out some whole whole' g g' =
     all_rows law second n ring (rows_between second between) end' tasks' out some whole' g'
     ∙ ap (λ b. text second (going_on (rows_between second b).rows)) (all_rows law first n ring read end tasks between some whole g)
-
--- the mark tells whether a text is whole
-pub whole_by_mark : (end : RunEnd) → mark_after end ≡ marks.End → IsWhole end
-whole_by_mark AllRead e = tt
-whole_by_mark (Bad side line cause) e = tt
-whole_by_mark (ReadFault side) e = cc
-whole_by_mark (TooWide task wants) e = cc
-whole_by_mark WriteFault e = cc
-whole_by_mark NoMemory e = cc
 
 -- ---- a chain
 
@@ -98,9 +90,10 @@ module _ {S K : Type 0} (left : S → Option (List ℕ)) (faults : S → ℕ) (w
   pub both_runs : (first second : Tree) (s : Sizes) (had has : Inputs S) (sink sink' : K) (c : Chained S K) (end end' : RunEnd) (tasks tasks' : ℕ) (out taken : List ℕ) (sent mark : Option EndMark)
       → RanFirst left faults first s had has end tasks out sent → RunsSecond second s taken mark (written sink) (written sink') end' tasks'
       → (end' ≡ WriteFault → Rose (sink_faults sink) (sink_faults sink')) → (end' ≢ WriteFault → sink_faults sink' ≡ sink_faults sink) → sink_faults sink ≤ sink_faults sink'
+      → {stopped : Bool} → MayStop end' stopped → c.second_stopped ≡ stopped
       → (c.first ≡ end) × (c.second ≡ end') → (c.first_tasks ≡ tasks) × (c.tasks ≡ tasks') → (c.inputs ≡ has) × (c.sink ≡ sink')
       → Settled out (Some (mark_after c.first)) taken mark → RunsBoth left faults written sink_faults first second s had sink c
-  both_runs first second s had has sink sink' c end end' tasks tasks' out taken sent mark ran runs write good rises ends counts backs done =
+  both_runs first second s had has sink sink' c end end' tasks tasks' out taken sent mark ran runs write good rises may same ends counts backs done =
       let f : RunsFirst left faults first s had c.inputs c.first c.first_tasks out = transport (λ i. RunsFirst left faults first s had (sym backs.0 i) (sym ends.0 i) (sym counts.0 i) out) ran.runs in
       let r : RunsSecond second s taken mark (written sink) (written c.sink) c.second c.tasks = transport (λ i. RunsSecond second s taken mark (written sink) (written (sym backs.1 i)) (sym ends.1 i) (sym counts.1 i)) runs in
       record {
@@ -110,6 +103,7 @@ module _ {S K : Type 0} (left : S → Option (List ℕ)) (faults : S → ℕ) (w
         write = λ e. subst (λ z. Rose (sink_faults sink) (sink_faults z)) (sym backs.1) (write (sym ends.1 ∙ e));
         write_good = λ n. ap sink_faults backs.1 ∙ good (λ e. n (ends.1 ∙ e));
         writes = subst (λ z. sink_faults sink ≤ sink_faults z) (sym backs.1) rises;
+        stopped = transport (λ i. MayStop (sym ends.1 i) (sym same i)) may;
       }
 
   -- what both runs give is what a chain gives
@@ -152,7 +146,7 @@ nothing_given nothing none q fits n ring read = record {
 -- no memory for the pipe
 pub no_pipe : NoRowsGiveNothing → NoTasksNoRows → (first second : Tree) → Fits (frame first) → Fits (frame second) → (s : Sizes) (files : Option (List (List ℕ))) (had : Option (List ℕ))
     → {S K : Type 0} (inputs : Inputs S) (sink : K)
-    → Chains first second s files had had (record { first = NoMemory; second = NoMemory; inputs = inputs; sink = sink; first_tasks = 0; tasks = 0 })
+    → Chains first second s files had had (record { first = NoMemory; second = NoMemory; second_stopped = false; inputs = inputs; sink = sink; first_tasks = 0; tasks = 0 })
 no_pipe nothing none first second fits fits' s files had inputs sink = record {
   between = [];
   out = [];
@@ -160,7 +154,7 @@ no_pipe nothing none first second fits fits' s files had inputs sink = record {
   gives_first = if_all files (λ fs. nothing_given nothing none first fits s.task s.ring (input_of first (limits_of s) fs));
   gives_second = nothing_given nothing none second fits' s.task s.ring (rows_between second []);
   whole_tasks = λ side e. cc;
-  whole_text = λ w. absurd w;
+  whole_text = λ w. absurd (let h : marks.Cut ≡ marks.End = w in cc);
 }
 
 given_none : (o : Option (List ℕ)) → o ≡ given [] o

@@ -11,6 +11,7 @@ use Rattle.saber_engine.specs.declared.ends.RunEnd.{RunEnd}
 use Rattle.saber_engine.specs.declared.ends.RunEnd.TheVariants.{ReadFault, WriteFault}
 use Rattle.saber_engine.specs.Sources.{input_of}
 use Rattle.saber_engine.specs.Gives.{Gives}
+use Rattle.saber_engine.specs.Endings.{MayStop}
 use Rattle.saber_engine.specs.FedRuns.{TakesWhole}
 use Rattle.saber_chain.specs.declared.chained.Chained.{Chained}
 use Rattle.saber_chain.specs.Texts.{between_limits, rows_between, text_of_both}
@@ -38,3 +39,4 @@ module _ {S K : Type 0} (left : S → Option (List ℕ)) (faults : S → ℕ) (w
     pub write : c.second ≡ WriteFault → Rose (sink_faults sink) (sink_faults c.sink)
     pub write_good : c.second ≢ WriteFault → sink_faults c.sink ≡ sink_faults sink
     pub writes : sink_faults sink ≤ sink_faults c.sink
+    pub stopped : MayStop c.second c.second_stopped

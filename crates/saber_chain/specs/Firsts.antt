@@ -9,6 +9,7 @@ use Rattle.saber_engine.specs.declared.ends.RunEnd.{RunEnd}
 use Rattle.saber_engine.specs.declared.ends.RunEnd.TheVariants.{ReadFault, WriteFault}
 use Rattle.saber_engine.specs.Sources.{each_input, told_by, RoseAt, NoneFell, GaveAll}
 use Rattle.saber_engine.specs.Gives.{GivesOver, IsClean, LeavesWhole}
+use Rattle.saber_chain.specs.declared.settle.FirstEnd.{FirstEnd}
 use Rattle.saber_chain.specs.Marks.{mark_after}
 
 module _ {S : Type 0} (left : S → Option (List ℕ)) (faults : S → ℕ) where
@@ -26,3 +27,7 @@ module _ {S : Type 0} (left : S → Option (List ℕ)) (faults : S → ℕ) wher
   pub record RanFirst (q : Tree) (s : Sizes) (had has : Inputs S) (end : RunEnd) (tasks : ℕ) (out : List ℕ) (sent : Option EndMark) : Type 0 where
     pub runs : RunsFirst q s had has end tasks out
     pub mark : sent ≡ Some (mark_after end)
+
+  -- the same by the struct that tells how it ended
+  abbrev pub RanFirstTo : Tree → Sizes → Inputs S → FirstEnd S → List ℕ → Option EndMark → Type 0
+  RanFirstTo q s had ran out sent = RanFirst q s had ran.inputs ran.end ran.tasks out sent

@@ -13,9 +13,7 @@ mark_after _ = marks.Cut
 
 -- the text is whole
 abbrev pub IsWhole : RunEnd → Type 0
-IsWhole AllRead = Unit {0}
-IsWhole (Bad side line cause) = Unit {0}
-IsWhole _ = ⊥
+IsWhole end = mark_after end ≡ marks.End
 
 -- the text is cut off
 abbrev pub IsShort : RunEnd → Type 0

@@ -6,6 +6,7 @@ use Rattle.saber_io.specs.declared.feeds.EndMark.TheVariants as marks
 use Rattle.saber_plan.specs.declared.rows.Side.{Side}
 use Rattle.saber_plan.specs.declared.sizes.Sizes.{Sizes}
 use Rattle.saber_plan.specs.Trees.{Tree}
+use Rattle.saber_engine.specs.declared.ends.Ran.{Ran}
 use Rattle.saber_engine.specs.declared.ends.RunEnd.{RunEnd}
 use Rattle.saber_engine.specs.declared.ends.RunEnd.TheVariants.{AllRead, ReadFault}
 use Rattle.saber_engine.specs.Gives.{Gives}
@@ -24,6 +25,10 @@ pub record RunsSecond (q : Tree) (s : Sizes) (taken : List ℕ) (mark : Option E
   pub whole : (side : Side) → end ≡ ReadFault side → TakesWhole q s.task between_limits tasks taken
   pub all_read : end ≡ AllRead → mark ≡ Some marks.End
   pub cut : (side : Side) → end ≡ ReadFault side → mark ≡ Some marks.Cut
+
+-- the same by the struct that tells how it ended, of what its sink had written and has
+abbrev pub RunsSecondTo : {K : Type 0} → (K → Option (List ℕ)) → Tree → Sizes → List ℕ → Option EndMark → K → Ran K → Type 0
+RunsSecondTo written q s taken mark sink ran = RunsSecond q s taken mark (written sink) (written ran.sink) ran.end ran.tasks
 
 -- over all of the first one's text, which ends so
 pub record ReadsBetween (q : Tree) (s : Sizes) (between : List ℕ) (mark : EndMark) (had has : Option (List ℕ)) (end : RunEnd) (tasks : ℕ) : Type 0 where

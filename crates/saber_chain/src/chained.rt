@@ -6,6 +6,8 @@ use saber_engine::{Inputs, RunEnd};
 pub struct Chained<S, K> {
     pub first: RunEnd,
     pub second: RunEnd,
+    /// Whether the second query's stage stopped, by a write that failed or for want of memory: then its end came before that of its rows.
+    pub second_stopped: bool,
     pub inputs: Inputs<S>,
     pub sink: K,
     pub first_tasks: u64,

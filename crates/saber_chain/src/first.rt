@@ -7,7 +7,7 @@ ghost use Rattle.saber_plan.specs.Checked.{IsChecked};
 ghost use Rattle.saber_plan.specs.Sizes.{SizesFit};
 ghost use Rattle.saber_engine.specs.Sources.{each_input};
 ghost use Rattle.saber_chain.specs.Marks.{mark_after};
-ghost use Rattle.saber_chain.specs.Firsts.{RanFirst};
+ghost use Rattle.saber_chain.specs.Firsts.{RanFirstTo};
 
 use crate::gate::FirstGate;
 use crate::settle::FirstEnd;
@@ -62,7 +62,8 @@ pub(crate) fn run_first<
     requires inputs { length (each_input S.left job.inputs) ≡ length (tree_of job.plan.now).streams }
     requires sizes { SizesFit job.sizes.now }
     requires fresh { written job.sink ≡ [] }
-    ensures { RanFirst S.left S.faults (tree_of job.entry.plan.now) job.entry.sizes.now job.entry.inputs result.ended.inputs result.ended.end result.ended.tasks (written_by result.receipt) (mark_by result.receipt) }
+    ensures { RanFirstTo S.left S.faults (tree_of job.entry.plan.now) job.entry.sizes.now job.entry.inputs
+        result.ended (written_by result.receipt) (mark_by result.receipt) }
 {
     let FirstJob {
         rt,
@@ -74,7 +75,12 @@ pub(crate) fn run_first<
         gate,
     } = job;
     let ran = engine_pouring(rt, alloc, plan, &mut inputs, sink, sizes, &gate);
-    let Ran { end, sink, tasks } = ran;
+    let Ran {
+        end,
+        sink,
+        tasks,
+        ..
+    } = ran;
     let (receipt, backlog) = sink.finish(mark_after(end));
     FirstRan {
         ended: FirstEnd { inputs, end, tasks },
@@ -92,5 +98,5 @@ pub(crate) struct FirstPromise<S> {
 }
 
 impl<'a, S: Source, P: PipeName> Promise<FirstRan<'a, S, P>> for FirstPromise<S> {
-    ghost kept_by = { λ p r. RanFirst S.left S.faults (tree_of p.plan.value) p.sizes.value p.inputs.value r.ended.inputs r.ended.end r.ended.tasks (written_by r.receipt) (mark_by r.receipt) };
+    ghost kept_by = { λ p r. RanFirstTo S.left S.faults (tree_of p.plan.value) p.sizes.value p.inputs.value r.ended (written_by r.receipt) (mark_by r.receipt) };
 }

@@ -12,8 +12,9 @@ ghost use Rattle.saber_plan.specs.Sizes.{SizesFit};
 ghost use Rattle.saber_engine.specs.declared.ends.RunEnd.{RunEnd};
 ghost use Rattle.saber_engine.specs.Sources.{each_input, told_by, RoseAt, NoneFell, GaveAll};
 ghost use Rattle.saber_engine.specs.Gives.{IsClean, LeavesWhole};
+ghost use Rattle.saber_engine.specs.Endings.{MayStop};
 ghost use Rattle.saber_chain.specs.Marks.{IsWhole, IsShort};
-ghost use Rattle.saber_chain.specs.Firsts.{RanFirst};
+ghost use Rattle.saber_chain.specs.Firsts.{RanFirstTo};
 ghost use Rattle.saber_chain.specs.Chains.{Chains, RunsBoth};
 
 use crate::Chained;
@@ -101,7 +102,8 @@ fn run_both<
                     requires inputs { length (each_input S.left job.inputs) ≡ length (tree_of job.plan.now).streams }
                     requires sizes { SizesFit job.sizes.now }
                     requires fresh { written job.sink ≡ [] }
-                    ensures { RanFirst S.left S.faults (tree_of job.entry.plan.now) job.entry.sizes.now job.entry.inputs result.ended.inputs result.ended.end result.ended.tasks (written_by result.receipt) (mark_by result.receipt) }
+                    ensures { RanFirstTo S.left S.faults (tree_of job.entry.plan.now) job.entry.sizes.now job.entry.inputs
+                        result.ended (written_by result.receipt) (mark_by result.receipt) }
                 { run_first(job) },
             );
             match first {
@@ -166,6 +168,9 @@ pub fn chain<
     ensures cut { (side : Side) → result.second ≡ RunEnd.ReadFault side → IsShort result.first }
     ensures narrow { (task need : ℕ) → result.second ≢ RunEnd.TooWide task need }
 
+    // The second query's stage was stopped where a write failed, maybe where memory lacked, and at no other end.
+    ensures stopped { MayStop result.second result.second_stopped }
+
     // A fault of writing is real, none is passed over, and the count doesn't fall.
     ensures write { result.second ≡ RunEnd.WriteFault → Rose (K.faults sink) (K.faults result.sink) }
     ensures write_good { result.second ≢ RunEnd.WriteFault → K.faults result.sink ≡ K.faults sink }
@@ -186,6 +191,7 @@ pub fn chain<
         Err(_) => Chained {
             first: RunEnd::NoMemory,
             second: RunEnd::NoMemory,
+            second_stopped: false,
             inputs,
             sink,
             first_tasks: 0,

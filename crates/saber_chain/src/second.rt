@@ -7,7 +7,8 @@ ghost use Rattle.saber_plan.specs.Trees.{tree_of};
 ghost use Rattle.saber_plan.specs.Checked.{IsChecked};
 ghost use Rattle.saber_plan.specs.Sizes.{SizesFit};
 ghost use Rattle.saber_engine.specs.declared.ends.RunEnd.{RunEnd};
-ghost use Rattle.saber_chain.specs.Seconds.{second_sizes, RunsSecond};
+ghost use Rattle.saber_engine.specs.Endings.{MayStop};
+ghost use Rattle.saber_chain.specs.Seconds.{second_sizes, RunsSecondTo};
 
 use saber_engine::{Ran, engine_fed};
 use saber_io::{Gate, Sink};
@@ -57,10 +58,11 @@ pub(crate) fn run_second<'a, K: Sink + Send, G: Gate + Sync, P: PipeName, R: Thr
     requires one { length (tree_of plan.now).streams ≡ 1 }
     requires sizes { SizesFit sizes.now }
     requires fresh { waiting feed ≡ taken feed }
-    ensures runs { RunsSecond (tree_of plan.now) sizes.now (taken_by result.relay) (mark_in result.relay) (K.written sink) (K.written result.ran.sink) result.ran.end result.ran.tasks }
+    ensures runs { RunsSecondTo K.written (tree_of plan.now) sizes.now (taken_by result.relay) (mark_in result.relay) sink result.ran }
     ensures write { result.ran.end ≡ RunEnd.WriteFault → Rose (K.faults sink) (K.faults result.ran.sink) }
     ensures write_good { result.ran.end ≢ RunEnd.WriteFault → K.faults result.ran.sink ≡ K.faults sink }
     ensures writes { K.faults sink ≤ K.faults result.ran.sink }
+    ensures stopped { MayStop result.ran.end result.ran.stopped }
 {
     let mut relay = Relay::new(feed, backlog);
     let ran = engine_fed(

@@ -288,6 +288,7 @@ fn a_failed_read_cuts_off(rt: HostRuntime) -> Result<(), Fail> {
         );
         let end = RunEnd::ReadFault { side: Side::Left };
         assert_eq!(rt; (ended.first, ended.second), (end, end));
+        assert!(rt; !ended.second_stopped);
         assert_eq!(rt; (ended.first_tasks, ended.tasks), (2, 1));
         assert_eq!(rt; ended.sink.bytes(), b"30\n".as_slice());
     }
@@ -313,6 +314,7 @@ fn a_failed_write_ends_the_second(rt: HostRuntime) -> Result<(), Fail> {
             (ended.first, ended.second),
             (RunEnd::AllRead, RunEnd::WriteFault)
         );
+        assert!(rt; ended.second_stopped);
         assert_eq!(rt; (ended.first_tasks, ended.tasks), (400, 1));
         assert_eq!(rt; ended.sink.bytes(), b"20\n2".as_slice());
     }

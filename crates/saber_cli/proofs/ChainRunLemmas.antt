@@ -1,11 +1,11 @@
 -- A chain over row files that are opened, run and given back.
 use Rattle.std.proofs.Common.{◌≡◌, ◌≢◌, ℕ, suc, List, [], ◌∷◌, length, map, Option, Some, None, IfSome, refl, sym, ◌∙◌, ap, subst, arith}
 use Rattle.std.proofs.lemmas.List.{take_all}
+use Rattle.std.specs.Prelude.{Bool, true, false}
 use Rattle.saber_io.specs.Outside.{Told, Closed, Rose, appended}
 use Rattle.saber_io.specs.declared.feeds.EndMark.TheVariants as marks
 use Rattle.saber_plan.specs.declared.rows.Side.{Side}
 use Rattle.saber_plan.specs.declared.rows.Side.TheVariants as sides
-use Rattle.saber_plan.specs.declared.rows.RowCause.{RowCause}
 use Rattle.saber_plan.specs.declared.sizes.Sizes.{Sizes}
 use Rattle.saber_plan.specs.Sizes.{limits_of}
 use Rattle.saber_plan.specs.Inputs.{going_on}
@@ -18,6 +18,7 @@ use Rattle.saber_dispatch.specs.declared.inputs.Inputs.{Inputs}
 use Rattle.saber_engine.specs.declared.ends.RunEnd.{RunEnd}
 use Rattle.saber_engine.specs.declared.ends.RunEnd.TheVariants as ends
 use Rattle.saber_engine.specs.Sources.{each_input, told_by, RoseAt, GaveAll, input_of}
+use Rattle.saber_engine.specs.Endings.{MayStop}
 use Rattle.saber_engine.specs.Gives as engine
 use Rattle.saber_chain.specs.Texts.{text_of_both}
 use Rattle.saber_chain.specs.Marks.{IsWhole, IsShort}
@@ -30,7 +31,7 @@ use Rattle.saber_cli.specs.Outcomes.{IsBeforeRun, IsClean, IsFileFault, IsOfChai
 use Rattle.saber_cli.specs.Uses.{IsOpened}
 use Rattle.saber_cli.specs.Unread.{unread}
 use Rattle.saber_cli.specs.Due.{Contents, IsLike, contents_of, first_run, row_names}
-use Rattle.saber_cli.specs.Endings.{chained_as, ended_as, file_on, refused_as}
+use Rattle.saber_cli.specs.Endings.{chained_as, ended_as, file_on, unless_cut}
 use Rattle.saber_cli.specs.Leaves.{HadNoFaults}
 use Rattle.saber_cli.specs.RowFiles.{OpensAll, raised_by, using}
 use Rattle.saber_cli.specs.Chained.{AnswersChain, AsksChainRows, ChainsOver, HasPlans, HasReason, IsAnswered, IsChainable, RunsChain, chain_sizes, not_run, both_run}
@@ -44,55 +45,59 @@ use Rattle.saber_cli.proofs.ChainLeaveLemmas.{none_asked}
 
 -- ---- the ends of both as one outcome
 
-refused_write : (ring line : ℕ) (cause : RowCause) (e : RunEnd) → refused_as ring line cause e ≡ WriteFault → e ≡ ends.WriteFault
-refused_write ring line cause ends.AllRead k = cc
-refused_write ring line cause (ends.Bad side n why) k = cc
-refused_write ring line cause (ends.ReadFault side) k = cc
-refused_write ring line cause (ends.TooWide task need) k = cc
-refused_write ring line cause ends.WriteFault k = refl
-refused_write ring line cause ends.NoMemory k = cc
+-- of a first query that ended so, an outcome that is no fault of writing
+cut_write : (ring : ℕ) (o : Outcome) (e : RunEnd) → o ≢ WriteFault → unless_cut ring e o ≡ WriteFault → e ≡ ends.WriteFault
+cut_write ring o ends.AllRead n k = absurd (n k)
+cut_write ring o (ends.Bad side line cause) n k = absurd (n k)
+cut_write ring o (ends.ReadFault side) n k = cc
+cut_write ring o (ends.TooWide task need) n k = cc
+cut_write ring o ends.WriteFault n k = refl
+cut_write ring o ends.NoMemory n k = cc
 
 -- a fault of writing is the second one's
-pub chained_write : (ring : ℕ) (first second : RunEnd) → first ≢ ends.WriteFault → chained_as ring first second ≡ WriteFault → second ≡ ends.WriteFault
-chained_write ring first ends.AllRead n k = absurd (n (write_by ring first k))
-chained_write ring first (ends.Bad side line cause) n k = absurd (n (refused_write ring line cause first k))
-chained_write ring first (ends.ReadFault side) n k = absurd (n (write_by ring first k))
-chained_write ring first (ends.TooWide task need) n k = absurd (n (write_by ring first k))
-chained_write ring first ends.WriteFault n k = refl
-chained_write ring first ends.NoMemory n k = cc
+pub chained_write : (ring : ℕ) (first second : RunEnd) (stopped : Bool) → first ≢ ends.WriteFault → chained_as ring first second stopped ≡ WriteFault → second ≡ ends.WriteFault
+chained_write ring first ends.AllRead stopped n k = absurd (n (write_by ring first k))
+chained_write ring first (ends.Bad side line cause) stopped n k = absurd (n (cut_write ring (ChainLineRefused line cause) first (λ e. cc) k))
+chained_write ring first (ends.ReadFault side) stopped n k = absurd (n (write_by ring first k))
+chained_write ring first (ends.TooWide task need) stopped n k = absurd (n (write_by ring first k))
+chained_write ring first ends.WriteFault stopped n k = refl
+chained_write ring first ends.NoMemory true n k = cc
+chained_write ring first ends.NoMemory false n k = absurd (n (cut_write ring NoMemory first (λ e. cc) k))
 
-refused_read : (ring line : ℕ) (cause : RowCause) (e : RunEnd) (side : Side) → refused_as ring line cause e ≡ ReadFault (file_on side) → e ≡ ends.ReadFault side
-refused_read ring line cause ends.AllRead side k = cc
-refused_read ring line cause (ends.Bad s n why) side k = cc
-refused_read ring line cause (ends.ReadFault s) side k = read_by ring (ends.ReadFault s) side k
-refused_read ring line cause (ends.TooWide task need) side k = cc
-refused_read ring line cause ends.WriteFault side k = cc
-refused_read ring line cause ends.NoMemory side k = cc
+cut_read : (ring : ℕ) (o : Outcome) (e : RunEnd) (side : Side) → o ≢ ReadFault (file_on side) → unless_cut ring e o ≡ ReadFault (file_on side) → e ≡ ends.ReadFault side
+cut_read ring o ends.AllRead side n k = absurd (n k)
+cut_read ring o (ends.Bad s line cause) side n k = absurd (n k)
+cut_read ring o (ends.ReadFault s) side n k = read_by ring (ends.ReadFault s) side k
+cut_read ring o (ends.TooWide task need) side n k = cc
+cut_read ring o ends.WriteFault side n k = cc
+cut_read ring o ends.NoMemory side n k = cc
 
 -- and one of reading the first one's
-pub chained_read : (ring : ℕ) (first second : RunEnd) (side : Side) → chained_as ring first second ≡ ReadFault (file_on side) → first ≡ ends.ReadFault side
-chained_read ring first ends.AllRead side k = read_by ring first side k
-chained_read ring first (ends.Bad s line cause) side k = refused_read ring line cause first side k
-chained_read ring first (ends.ReadFault s) side k = read_by ring first side k
-chained_read ring first (ends.TooWide task need) side k = read_by ring first side k
-chained_read ring first ends.WriteFault side k = cc
-chained_read ring first ends.NoMemory side k = cc
+pub chained_read : (ring : ℕ) (first second : RunEnd) (stopped : Bool) (side : Side) → chained_as ring first second stopped ≡ ReadFault (file_on side) → first ≡ ends.ReadFault side
+chained_read ring first ends.AllRead stopped side k = read_by ring first side k
+chained_read ring first (ends.Bad s line cause) stopped side k = cut_read ring (ChainLineRefused line cause) first side (λ e. cc) k
+chained_read ring first (ends.ReadFault s) stopped side k = read_by ring first side k
+chained_read ring first (ends.TooWide task need) stopped side k = read_by ring first side k
+chained_read ring first ends.WriteFault stopped side k = cc
+chained_read ring first ends.NoMemory true side k = cc
+chained_read ring first ends.NoMemory false side k = cut_read ring NoMemory first side (λ e. cc) k
 
-refused_clean : (ring line : ℕ) (cause : RowCause) (e : RunEnd) → IsClean (refused_as ring line cause e) → engine.IsClean e
-refused_clean ring line cause ends.AllRead w = tt
-refused_clean ring line cause (ends.Bad side n why) w = tt
-refused_clean ring line cause (ends.ReadFault side) w = absurd w
-refused_clean ring line cause (ends.TooWide task need) w = tt
-refused_clean ring line cause ends.WriteFault w = absurd w
-refused_clean ring line cause ends.NoMemory w = absurd w
+cut_clean : (ring : ℕ) (o : Outcome) (e : RunEnd) → IsClean (unless_cut ring e o) → engine.IsClean e
+cut_clean ring o ends.AllRead w = tt
+cut_clean ring o (ends.Bad side line cause) w = tt
+cut_clean ring o (ends.ReadFault side) w = absurd w
+cut_clean ring o (ends.TooWide task need) w = tt
+cut_clean ring o ends.WriteFault w = absurd w
+cut_clean ring o ends.NoMemory w = absurd w
 
-pub chained_clean : (ring : ℕ) (first second : RunEnd) → IsClean (chained_as ring first second) → engine.IsClean first
-chained_clean ring first ends.AllRead w = clean_by ring first w
-chained_clean ring first (ends.Bad s line cause) w = refused_clean ring line cause first w
-chained_clean ring first (ends.ReadFault s) w = clean_by ring first w
-chained_clean ring first (ends.TooWide task need) w = clean_by ring first w
-chained_clean ring first ends.WriteFault w = absurd w
-chained_clean ring first ends.NoMemory w = absurd w
+pub chained_clean : (ring : ℕ) (first second : RunEnd) (stopped : Bool) → IsClean (chained_as ring first second stopped) → engine.IsClean first
+chained_clean ring first ends.AllRead stopped w = clean_by ring first w
+chained_clean ring first (ends.Bad s line cause) stopped w = cut_clean ring (ChainLineRefused line cause) first w
+chained_clean ring first (ends.ReadFault s) stopped w = clean_by ring first w
+chained_clean ring first (ends.TooWide task need) stopped w = clean_by ring first w
+chained_clean ring first ends.WriteFault stopped w = absurd w
+chained_clean ring first ends.NoMemory true w = absurd w
+chained_clean ring first ends.NoMemory false w = cut_clean ring NoMemory first w
 
 ended_kinds : (ring : ℕ) (e : RunEnd) → IsOfChain (ended_as ring e)
 ended_kinds ring ends.AllRead = tt
@@ -103,22 +108,22 @@ ended_kinds ring (ends.TooWide task need) = tt
 ended_kinds ring ends.WriteFault = tt
 ended_kinds ring ends.NoMemory = tt
 
-refused_kinds : (ring line : ℕ) (cause : RowCause) (e : RunEnd) → IsOfChain (refused_as ring line cause e)
-refused_kinds ring line cause ends.AllRead = tt
-refused_kinds ring line cause (ends.Bad side n why) = tt
-refused_kinds ring line cause (ends.ReadFault sides.Left) = tt
-refused_kinds ring line cause (ends.ReadFault sides.Right) = tt
-refused_kinds ring line cause (ends.TooWide task need) = tt
-refused_kinds ring line cause ends.WriteFault = tt
-refused_kinds ring line cause ends.NoMemory = tt
+cut_kinds : (ring : ℕ) (o : Outcome) (e : RunEnd) → IsOfChain o → IsOfChain (unless_cut ring e o)
+cut_kinds ring o ends.AllRead h = h
+cut_kinds ring o (ends.Bad side line cause) h = h
+cut_kinds ring o (ends.ReadFault side) h = ended_kinds ring (ends.ReadFault side)
+cut_kinds ring o (ends.TooWide task need) h = tt
+cut_kinds ring o ends.WriteFault h = tt
+cut_kinds ring o ends.NoMemory h = tt
 
-pub chained_kinds : (ring : ℕ) (first second : RunEnd) → IsOfChain (chained_as ring first second)
-chained_kinds ring first ends.AllRead = ended_kinds ring first
-chained_kinds ring first (ends.Bad s line cause) = refused_kinds ring line cause first
-chained_kinds ring first (ends.ReadFault s) = ended_kinds ring first
-chained_kinds ring first (ends.TooWide task need) = ended_kinds ring first
-chained_kinds ring first ends.WriteFault = tt
-chained_kinds ring first ends.NoMemory = tt
+pub chained_kinds : (ring : ℕ) (first second : RunEnd) (stopped : Bool) → IsOfChain (chained_as ring first second stopped)
+chained_kinds ring first ends.AllRead stopped = ended_kinds ring first
+chained_kinds ring first (ends.Bad s line cause) stopped = cut_kinds ring (ChainLineRefused line cause) first tt
+chained_kinds ring first (ends.ReadFault s) stopped = ended_kinds ring first
+chained_kinds ring first (ends.TooWide task need) stopped = ended_kinds ring first
+chained_kinds ring first ends.WriteFault stopped = tt
+chained_kinds ring first ends.NoMemory true = tt
+chained_kinds ring first ends.NoMemory false = cut_kinds ring NoMemory first tt
 
 ended_opened : (ring : ℕ) (e : RunEnd) → IsOpened (ended_as ring e)
 ended_opened ring ends.AllRead = tt
@@ -128,62 +133,70 @@ ended_opened ring (ends.TooWide task need) = tt
 ended_opened ring ends.WriteFault = tt
 ended_opened ring ends.NoMemory = tt
 
-refused_opened : (ring line : ℕ) (cause : RowCause) (e : RunEnd) → IsOpened (refused_as ring line cause e)
-refused_opened ring line cause ends.AllRead = tt
-refused_opened ring line cause (ends.Bad side n why) = tt
-refused_opened ring line cause (ends.ReadFault side) = tt
-refused_opened ring line cause (ends.TooWide task need) = tt
-refused_opened ring line cause ends.WriteFault = tt
-refused_opened ring line cause ends.NoMemory = tt
+cut_opened : (ring : ℕ) (o : Outcome) (e : RunEnd) → IsOpened o → IsOpened (unless_cut ring e o)
+cut_opened ring o ends.AllRead h = h
+cut_opened ring o (ends.Bad side line cause) h = h
+cut_opened ring o (ends.ReadFault side) h = tt
+cut_opened ring o (ends.TooWide task need) h = tt
+cut_opened ring o ends.WriteFault h = tt
+cut_opened ring o ends.NoMemory h = tt
 
-pub chained_opened : (ring : ℕ) (first second : RunEnd) → IsOpened (chained_as ring first second)
-chained_opened ring first ends.AllRead = ended_opened ring first
-chained_opened ring first (ends.Bad s line cause) = refused_opened ring line cause first
-chained_opened ring first (ends.ReadFault s) = ended_opened ring first
-chained_opened ring first (ends.TooWide task need) = ended_opened ring first
-chained_opened ring first ends.WriteFault = tt
-chained_opened ring first ends.NoMemory = tt
+pub chained_opened : (ring : ℕ) (first second : RunEnd) (stopped : Bool) → IsOpened (chained_as ring first second stopped)
+chained_opened ring first ends.AllRead stopped = ended_opened ring first
+chained_opened ring first (ends.Bad s line cause) stopped = cut_opened ring (ChainLineRefused line cause) first tt
+chained_opened ring first (ends.ReadFault s) stopped = ended_opened ring first
+chained_opened ring first (ends.TooWide task need) stopped = ended_opened ring first
+chained_opened ring first ends.WriteFault stopped = tt
+chained_opened ring first ends.NoMemory true = tt
+chained_opened ring first ends.NoMemory false = cut_opened ring NoMemory first tt
 
 -- ---- where all goes out, both texts are whole
 
 ended_whole : (ring : ℕ) (e : RunEnd) → IsAnswered (ended_as ring e) → IsWhole e
-ended_whole ring ends.AllRead h = tt
-ended_whole ring (ends.Bad side line cause) h = tt
+ended_whole ring ends.AllRead h = refl
+ended_whole ring (ends.Bad side line cause) h = refl
 ended_whole ring (ends.ReadFault side) h = absurd h
 ended_whole ring (ends.TooWide task need) h = absurd h
 ended_whole ring ends.WriteFault h = absurd h
 ended_whole ring ends.NoMemory h = absurd h
 
-refused_whole : (ring line : ℕ) (cause : RowCause) (e : RunEnd) → IsAnswered (refused_as ring line cause e) → IsWhole e
-refused_whole ring line cause ends.AllRead h = tt
-refused_whole ring line cause (ends.Bad side n why) h = tt
-refused_whole ring line cause (ends.ReadFault side) h = absurd h
-refused_whole ring line cause (ends.TooWide task need) h = absurd h
-refused_whole ring line cause ends.WriteFault h = absurd h
-refused_whole ring line cause ends.NoMemory h = absurd h
+cut_whole : (ring : ℕ) (o : Outcome) (e : RunEnd) → IsAnswered (unless_cut ring e o) → IsWhole e
+cut_whole ring o ends.AllRead h = refl
+cut_whole ring o (ends.Bad side line cause) h = refl
+cut_whole ring o (ends.ReadFault side) h = absurd h
+cut_whole ring o (ends.TooWide task need) h = absurd h
+cut_whole ring o ends.WriteFault h = absurd h
+cut_whole ring o ends.NoMemory h = absurd h
+
+-- behind want of memory nothing is answered to the end
+lack_unanswered : (ring : ℕ) (e : RunEnd) → IsAnswered (unless_cut ring e NoMemory) → ⊥
+lack_unanswered ring ends.AllRead h = h
+lack_unanswered ring (ends.Bad side line cause) h = h
+lack_unanswered ring (ends.ReadFault side) h = h
+lack_unanswered ring (ends.TooWide task need) h = h
+lack_unanswered ring ends.WriteFault h = h
+lack_unanswered ring ends.NoMemory h = h
 
 whole_or_short : (e : RunEnd) → IsWhole e → IsShort e → ⊥
-whole_or_short ends.AllRead h k = let clash : marks.End ≡ marks.Cut = k in cc
-whole_or_short (ends.Bad side line cause) h k = let clash : marks.End ≡ marks.Cut = k in cc
-whole_or_short (ends.ReadFault side) h k = h
-whole_or_short (ends.TooWide task need) h k = h
-whole_or_short ends.WriteFault h k = h
-whole_or_short ends.NoMemory h k = h
+whole_or_short e h k = let clash : marks.End ≡ marks.Cut = sym h ∙ k in cc
 
-chained_whole : (ring : ℕ) (first second : RunEnd) → ((side : Side) → second ≡ ends.ReadFault side → IsShort first) → ((task need : ℕ) → second ≢ ends.TooWide task need) → IsAnswered (chained_as ring first second) → IsWhole first × IsWhole second
-chained_whole ring first ends.AllRead cut narrow h = (ended_whole ring first h, tt)
-chained_whole ring first (ends.Bad s line cause) cut narrow h = (refused_whole ring line cause first h, tt)
-chained_whole ring first (ends.ReadFault s) cut narrow h = absurd (whole_or_short first (ended_whole ring first h) (cut s refl))
-chained_whole ring first (ends.TooWide task need) cut narrow h = absurd (narrow task need refl)
-chained_whole ring first ends.WriteFault cut narrow h = absurd h
-chained_whole ring first ends.NoMemory cut narrow h = absurd h
+chained_whole : (ring : ℕ) (first second : RunEnd) (stopped : Bool) → ((side : Side) → second ≡ ends.ReadFault side → IsShort first) → ((task need : ℕ) → second ≢ ends.TooWide task need) → IsAnswered (chained_as ring first second stopped) → IsWhole first × IsWhole second
+chained_whole ring first ends.AllRead stopped cut narrow h = (ended_whole ring first h, refl)
+chained_whole ring first (ends.Bad s line cause) stopped cut narrow h = (cut_whole ring (ChainLineRefused line cause) first h, refl)
+chained_whole ring first (ends.ReadFault s) stopped cut narrow h = absurd (whole_or_short first (ended_whole ring first h) (cut s refl))
+chained_whole ring first (ends.TooWide task need) stopped cut narrow h = absurd (narrow task need refl)
+chained_whole ring first ends.WriteFault stopped cut narrow h = absurd h
+chained_whole ring first ends.NoMemory true cut narrow h = absurd h
+chained_whole ring first ends.NoMemory false cut narrow h = absurd (lack_unanswered ring first h)
 
 -- both runs of a chain, by how each ended
-pub runs_chain : {S K : Type 0} (p q : Tree) (s : Sizes) (files : Option (List (List ℕ))) (had has : Option (List ℕ)) (o : Outcome) (e : Chained S K) → o ≡ chained_as s.ring e.first e.second → Chains p q s files had has e
+pub runs_chain : {S K : Type 0} (p q : Tree) (s : Sizes) (files : Option (List (List ℕ))) (had has : Option (List ℕ)) (o : Outcome) (e : Chained S K) → o ≡ chained_as s.ring e.first e.second e.second_stopped → MayStop e.second e.second_stopped → Chains p q s files had has e
     → e.first ≢ ends.WriteFault → (e.second ≡ ends.AllRead → IsWhole e.first) → ((side : Side) → e.second ≡ ends.ReadFault side → IsShort e.first) → ((task need : ℕ) → e.second ≢ ends.TooWide task need) → RunsChain p q s files had has o e.tasks
-runs_chain p q s files had has o e is g never all cut narrow = record {
+runs_chain p q s files had has o e is stops g never all cut narrow = record {
   first = e.first;
   second = e.second;
+  stopped = e.second_stopped;
+  stops = stops;
   first_tasks = e.first_tasks;
   outcome = is;
   between = g.between;
@@ -196,7 +209,7 @@ runs_chain p q s files had has o e is g never all cut narrow = record {
   all = all;
   cut = cut;
   narrow = narrow;
-  whole = λ h. let w = chained_whole s.ring e.first e.second cut narrow (subst IsAnswered is h) in
+  whole = λ h. let w = chained_whole s.ring e.first e.second e.second_stopped cut narrow (subst IsAnswered is h) in
       some_map (λ (fs : List (List ℕ)). g.out ≡ text_of_both p q (going_on (input_of p (limits_of s) fs).rows)) (λ fs. has ≡ appended had (text_of_both p q (going_on (input_of p (limits_of s) fs).rows))) files (λ fs k. g.written ∙ ap (appended had) k) (g.whole_text w.0 w.1);
 }
 

@@ -1,5 +1,5 @@
 -- What the statements on a chain say, and what they refuse.
-use Rattle.std.proofs.Common.{◌≡◌, ◌⊎◌, inl, inr, ℕ, List, Option, Some, refl, sym, ◌∙◌, subst}
+use Rattle.std.proofs.Common.{◌≡◌, ◌⊎◌, inl, inr, ℕ, List, Option, Some, true, false, refl, sym, ◌∙◌, subst}
 use Rattle.saber_io.specs.Outside.{appended}
 use Rattle.saber_plan.specs.Inputs.{going_on}
 use Rattle.saber_plan.specs.Sizes.{limits_of}
@@ -7,6 +7,10 @@ use Rattle.saber_plan.specs.Trees.{Tree}
 use Rattle.saber_words.specs.Chain.{AskedChain}
 use Rattle.saber_query.specs.declared.fault.Cause.{Cause}
 use Rattle.saber_check.specs.Texts.{HasPlan, HasFault}
+use Rattle.saber_plan.specs.declared.rows.RowCause.{RowCause}
+use Rattle.saber_plan.specs.declared.rows.Side.{Side}
+use Rattle.saber_engine.specs.declared.ends.RunEnd.{RunEnd}
+use Rattle.saber_engine.specs.declared.ends.RunEnd.TheVariants as ends
 use Rattle.saber_engine.specs.Sources.{input_of}
 use Rattle.saber_chain.specs.Texts.{text_of_both}
 use Rattle.saber_notes.specs.declared.outcome.InputFile.TheVariants.{Query, Left, Right, SecondQuery}
@@ -14,6 +18,7 @@ use Rattle.saber_notes.specs.declared.outcome.Outcome.{Outcome}
 use Rattle.saber_notes.specs.declared.outcome.Outcome.TheVariants.{Done, Usage, FileCount, QueryFault, SecondQueryFault, Unchainable, LineRefused, ChainLineRefused, OpenFault, ReadFault, TooWide, WriteFault, NoMemory}
 use Rattle.saber_cli.specs.Laws.{Laws}
 use Rattle.saber_cli.specs.Outcomes.{IsQueryUnread}
+use Rattle.saber_cli.specs.Endings.{chained_as, file_on}
 use Rattle.saber_cli.specs.Due.{Contents, IsFaulty, contents_of, first_run, row_names}
 use Rattle.saber_cli.specs.Chained.{AsksChainRows, ChainsOver, HasReason, IsPlanned, chain_sizes, not_run, both_run}
 use Rattle.saber_cli.proofs.DueLemmas.{same_refusal}
@@ -65,3 +70,17 @@ done_is_text : (files : Contents) (a : AskedChain) (tasks : ℕ) (had has : Opti
     → (r : AsksChainRows files a) × (all : List (List ℕ)) × (contents_of files (row_names (first_run a)) ≡ Some all) × (has ≡ appended had (text_of_both r.first r.second (going_on (input_of r.first (limits_of (chain_sizes a)) all).rows)))
 done_is_text files a tasks had has (not_run h t n) = absurd h
 done_is_text files a tasks had has (both_run r all e k) = (r, all, e, k.whole tt)
+
+-- where the second query's stage was stopped for want of memory, that is told whatever the first one came to; where its rows ended so, behind what cut the first
+-- one off, and before a line that the first one refuses
+stopped_is_first : (ring : ℕ) (first : RunEnd) → chained_as ring first ends.NoMemory true ≡ NoMemory
+stopped_is_first ring first = refl
+
+read_fault_is_first : (ring : ℕ) (side : Side) → chained_as ring (ends.ReadFault side) ends.NoMemory false ≡ ReadFault (file_on side)
+read_fault_is_first ring side = refl
+
+wide_is_first : (ring task need : ℕ) → chained_as ring (ends.TooWide task need) ends.NoMemory false ≡ TooWide task need ring
+wide_is_first ring task need = refl
+
+line_is_last : (ring line : ℕ) (side : Side) (cause : RowCause) → chained_as ring (ends.Bad side line cause) ends.NoMemory false ≡ NoMemory
+line_is_last ring line side cause = refl

@@ -1,5 +1,5 @@
 -- What a chain comes to: two queries, of which the second one's rows are the lines of the first.
-use Rattle.std.specs.Prelude.{◌≡◌, ◌≢◌, ℕ, List, length, Option, Some, IfSome, false}
+use Rattle.std.specs.Prelude.{Bool, ◌≡◌, ◌≢◌, ℕ, List, length, Option, Some, IfSome, false}
 use Rattle.saber_io.specs.Outside.{Told, appended, content_in}
 use Rattle.saber_plan.specs.declared.rows.Side.{Side}
 use Rattle.saber_plan.specs.declared.plans.Shape.TheVariants.{Select, Join}
@@ -12,6 +12,7 @@ use Rattle.saber_words.specs.Chain.{AskedChain}
 use Rattle.saber_engine.specs.declared.ends.RunEnd.{RunEnd}
 use Rattle.saber_engine.specs.declared.ends.RunEnd.TheVariants as ends
 use Rattle.saber_engine.specs.Sources.{input_of}
+use Rattle.saber_engine.specs.Endings.{MayStop}
 use Rattle.saber_engine.specs.Gives.{Gives}
 use Rattle.saber_engine.specs.FedRuns.{TakesWhole}
 use Rattle.saber_chain.specs.Texts.{between_limits, rows_between, text_of_both}
@@ -88,13 +89,15 @@ IsAnswered (ChainLineRefused line cause) = Unit {0}
 IsAnswered _ = ⊥
 
 -- Both plans were run, the first one over row files with these bytes, if they tell, and the second one over what the first one gave; and the outcome
--- tells how each ended. The first one writes where no write fails. The second one reads to the end only where the first one's text is whole, and is
+-- tells how each ended, and for want of memory of the second one whether its stage was stopped by that, or its rows ended so. The first one writes where no write fails. The second one reads to the end only where the first one's text is whole, and is
 -- cut off only where it isn't; none of its tasks is too wide.
 pub record RunsChain (p q : Tree) (s : Sizes) (files : Option (List (List ℕ))) (had has : Option (List ℕ)) (o : Outcome) (tasks : ℕ) : Type 0 where
   pub first : RunEnd
   pub second : RunEnd
+  pub stopped : Bool
+  pub stops : MayStop second stopped
   pub first_tasks : ℕ
-  pub outcome : o ≡ chained_as s.ring first second
+  pub outcome : o ≡ chained_as s.ring first second stopped
   pub between : List ℕ
   pub out : List ℕ
   pub written : has ≡ appended had out

@@ -8,7 +8,7 @@ use Rattle.saber_notes.specs.declared.outcome.InputFile.TheVariants.{Query, Seco
 use Rattle.saber_notes.specs.declared.outcome.Outcome.{Outcome}
 use Rattle.saber_notes.specs.declared.outcome.Outcome.TheVariants.{QueryFault, SecondQueryFault, Unchainable, FileCount, OpenFault, ReadFault, NoMemory}
 use Rattle.saber_cli.specs.Outcomes.{IsUnopened}
-use Rattle.saber_cli.specs.Due.{Contents, IsFaulty}
+use Rattle.saber_cli.specs.Due.{Contents, IsFaulty, contents_of}
 use Rattle.saber_cli.specs.Leaves.{AreOf}
 use Rattle.saber_cli.specs.RowFiles.{using}
 use Rattle.saber_cli.specs.Uses.{IsOf}
@@ -67,3 +67,7 @@ pub record UsesChainRows (names : List (List ℕ)) (o : Outcome) (old new : Opti
 pub data ChainedIn (p q : Tree) (s : Sizes) (content : Option (List (List ℕ))) (had has : Option (List ℕ)) (o : Outcome) (tasks : ℕ) : Type 0 where
   none_run : IsUnopened o → tasks ≡ 0 → has ≡ had → ChainedIn p q s content had has o tasks
   all_run : (all : List (List ℕ)) → content ≡ Some all → RunsChain p q s (Some all) had has o tasks → ChainedIn p q s content had has o tasks
+
+-- over the row files with these names, where files tell
+abbrev pub ChainedTold : Tree → Tree → Sizes → List (List ℕ) → Option Told → Option (List ℕ) → Option (List ℕ) → Outcome → ℕ → Type 0
+ChainedTold p q s names told had has o tasks = IfSome told (λ t. ChainedIn p q s (contents_of t.contents names) had has o tasks)

@@ -13,6 +13,7 @@ use Rattle.saber_query.specs.Spelling.{spelled}
 use Rattle.saber_check.specs.Outcome.{IsFaultless}
 use Rattle.saber_check.specs.Texts.{HasPlan, HasFault}
 use Rattle.saber_words.specs.Chain.{AskedChain}
+use Rattle.saber_words.specs.Demo.{AskedDemo}
 use Rattle.saber_words.specs.Commands.{Asked, run, check, demo, chain, AskedRun, command_of}
 use Rattle.saber_engine.specs.Sources.{input_of}
 use Rattle.saber_cli.specs.Demo.{summary_of_run, tasks_of_run}
@@ -31,7 +32,17 @@ asked_limits r = record { most = r.most; slack = r.slack }
 
 -- the run of the first query of a chain, over its row files
 abbrev pub first_run : AskedChain → AskedRun
-first_run a = record { query = a.first; left = a.left; right = a.right; task = a.task; ring = a.ring; threads = a.threads; most = a.most; slack = a.slack; flush = false }
+first_run a = record {
+  query = a.first;
+  left = a.left;
+  right = a.right;
+  task = a.task;
+  ring = a.ring;
+  threads = a.threads;
+  most = a.most;
+  slack = a.slack;
+  flush = false;
+}
 
 -- all files of a command, in that order
 abbrev pub names_of : Asked → List (List ℕ)
@@ -81,7 +92,8 @@ AsksRows files (chain a) = ⊥
 -- a file of a command isn't there: the query's, or one of the row files of a run
 pub data IsMissing (files : Contents) (query : List ℕ) (command : Asked) : Type 0 where
   no_query : content_in files query ≡ None → IsMissing files query command
-  no_rows : (asked : AskedRun) (q : Tree) → command ≡ run asked → HasRun files asked q → IsLike asked q → contents_of files (row_names asked) ≡ None → IsMissing files query command
+  no_rows : (asked : AskedRun) (q : Tree) → command ≡ run asked → HasRun files asked q → IsLike asked q →
+      contents_of files (row_names asked) ≡ None → IsMissing files query command
 
 -- the file with this name has a query with this fault
 abbrev pub IsFaulty : Contents → List ℕ → ℕ → Cause → Type 0
@@ -124,7 +136,8 @@ IsDueFor files (run r) (tells out count) = ⊥
 IsDueFor files (check r) (tells out count) = ⊥
 IsDueFor files (demo d) (tells out count) = (out ≡ summary_of_run d.seed d.rows) × (count ≡ tasks_of_run d)
 IsDueFor files (chain a) (tells out count) = ⊥
-IsDueFor files (run r) (runs q n ring flush read) = (all : List (List ℕ)) × HasRun files r q × IsLike r q × (contents_of files (row_names r) ≡ Some all) × AsksFor r n ring flush × (read ≡ input_of q (asked_limits r) all)
+IsDueFor files (run r) (runs q n ring flush read) = (all : List (List ℕ)) × HasRun files r q × IsLike r q ×
+    (contents_of files (row_names r) ≡ Some all) × AsksFor r n ring flush × (read ≡ input_of q (asked_limits r) all)
 IsDueFor files (check r) (runs q n ring flush read) = ⊥
 IsDueFor files (demo d) (runs q n ring flush read) = ⊥
 IsDueFor files (chain a) (runs q n ring flush read) = ⊥
@@ -144,3 +157,21 @@ AreNoChain ws = (a : AskedChain) → command_of ws ≢ Some (chain a)
 pub data IsDue (ws : List (List ℕ)) (files : Contents) (d : Due) : Type 0 where
   no_command : command_of ws ≡ None → d ≡ usage → IsDue ws files d
   by_command : (c : Asked) → command_of ws ≡ Some c → IsDueFor files c d → IsDue ws files d
+
+-- ---- facts of the command that some words are
+
+-- if they are a run
+abbrev pub IfRun : List (List ℕ) → (AskedRun → Type 0) → Type 0
+IfRun ws P = (r : AskedRun) → command_of ws ≡ Some (run r) → P r
+
+-- if they are a run over generated rows
+abbrev pub IfDemo : List (List ℕ) → (AskedDemo → Type 0) → Type 0
+IfDemo ws P = (d : AskedDemo) → command_of ws ≡ Some (demo d) → P d
+
+-- if they are a chain
+abbrev pub IfChain : List (List ℕ) → (AskedChain → Type 0) → Type 0
+IfChain ws P = (a : AskedChain) → command_of ws ≡ Some (chain a) → P a
+
+-- if they are a command that is no chain
+abbrev pub IfPlain : List (List ℕ) → (Asked → Type 0) → Type 0
+IfPlain ws P = (c : Asked) → command_of ws ≡ Some c → IsPlain c → P c

@@ -1,8 +1,7 @@
 -- How runs end, as the engine and as the command tell it.
-use Rattle.std.specs.Prelude.{Bool, ◌≡◌, ℕ}
+use Rattle.std.specs.Prelude.{Bool, true, false, ◌≡◌, ℕ}
 use Rattle.saber_plan.specs.declared.rows.Side.{Side}
 use Rattle.saber_plan.specs.declared.rows.Side.TheVariants as sides
-use Rattle.saber_plan.specs.declared.rows.RowCause.{RowCause}
 use Rattle.saber_plan.specs.Rows.{Read}
 use Rattle.saber_plan.specs.Trees.{Tree}
 use Rattle.saber_plan.specs.Tasks.{run_input}
@@ -28,21 +27,24 @@ ended_as ring (ends.TooWide task need) = TooWide task need ring
 ended_as ring ends.WriteFault = WriteFault
 ended_as ring ends.NoMemory = NoMemory
 
--- the outcome of a chain whose second query refuses this line of the first one's text: that, where the text is whole, and else the first one's end
-abbrev pub refused_as : ℕ → ℕ → RowCause → RunEnd → Outcome
-refused_as ring line cause ends.AllRead = ChainLineRefused line cause
-refused_as ring line cause (ends.Bad side number why) = ChainLineRefused line cause
-refused_as ring line cause first = ended_as ring first
+-- behind a first query that ended so: this outcome, where its text is whole, and else its own
+abbrev pub unless_cut : ℕ → RunEnd → Outcome → Outcome
+unless_cut ring ends.AllRead o = o
+unless_cut ring (ends.Bad side line cause) o = o
+unless_cut ring first o = ended_as ring first
 
--- The outcome of a chain whose queries, each on a ring of so many cells, ended so. A fault of writing and want of memory of the second one come before
--- what the first one came to; then the line that it refuses, of a text that is whole; and else the chain ends as the first one does.
-abbrev pub chained_as : ℕ → RunEnd → RunEnd → Outcome
-chained_as ring first ends.WriteFault = WriteFault
-chained_as ring first ends.NoMemory = NoMemory
-chained_as ring first (ends.Bad side line cause) = refused_as ring line cause first
-chained_as ring first ends.AllRead = ended_as ring first
-chained_as ring first (ends.ReadFault side) = ended_as ring first
-chained_as ring first (ends.TooWide task need) = ended_as ring first
+-- The outcome of a chain whose queries, each on a ring of so many cells, ended so, the second one with its stage stopped or not. A stage that was stopped, by
+-- a write that failed or for want of memory, comes before all else. Then comes what cut the first one's text off: a fault of reading, a task that is too wide,
+-- want of memory (it has no fault of writing; that would be told here too). Then, of a text that is whole: any other want of memory of the second one; the line
+-- that it refuses; and else the end of the first one, a line refused or all done.
+abbrev pub chained_as : ℕ → RunEnd → RunEnd → Bool → Outcome
+chained_as ring first ends.WriteFault stopped = WriteFault
+chained_as ring first ends.NoMemory true = NoMemory
+chained_as ring first ends.NoMemory false = unless_cut ring first NoMemory
+chained_as ring first (ends.Bad side line cause) stopped = unless_cut ring first (ChainLineRefused line cause)
+chained_as ring first ends.AllRead stopped = ended_as ring first
+chained_as ring first (ends.ReadFault side) stopped = ended_as ring first
+chained_as ring first (ends.TooWide task need) stopped = ended_as ring first
 
 -- The end of a run that an outcome tells. One that tells nothing of the rows and the tasks is like want of memory in this.
 abbrev pub end_of : Outcome → RunEnd

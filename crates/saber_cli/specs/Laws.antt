@@ -10,7 +10,8 @@ use Rattle.saber_check.specs.Texts.{HasPlan, HasFault}
 pub record Laws : Type 0 where
   -- of texts
   pub fault_or_plan : (text : List ℕ) (byte : ℕ) (cause : Cause) (tree : Tree) → HasFault text byte cause → ¬ (HasPlan text tree)
-  pub one_fault : (text : List ℕ) (byte other : ℕ) (cause another : Cause) → HasFault text byte cause → HasFault text other another → (byte ≡ other) × (cause ≡ another)
+  pub one_fault : (text : List ℕ) (byte other : ℕ) (cause another : Cause) →
+      HasFault text byte cause → HasFault text other another → (byte ≡ other) × (cause ≡ another)
   pub one_plan : (text : List ℕ) (tree other : Tree) → HasPlan text tree → HasPlan text other → tree ≡ other
   pub plan_checked : (text : List ℕ) (tree : Tree) → HasPlan text tree → IsChecked tree
   pub front_plan : (text : List ℕ) (tree : Tree) → HasPlan (take 65537 text) tree → HasPlan text tree

@@ -3,7 +3,8 @@ use Rattle.std.specs.Prelude.{◌≡◌, ℕ, List, ◌∷◌, ◌++◌, map, Op
 use Rattle.saber_io.specs.Outside.{Told, Closed, content_in}
 use Rattle.saber_plan.specs.declared.rows.Side.{Side}
 use Rattle.saber_plan.specs.Trees.{Tree}
-use Rattle.saber_plan.specs.Sizes.{FileLimits}
+use Rattle.saber_plan.specs.declared.sizes.Sizes.{Sizes}
+use Rattle.saber_plan.specs.Sizes.{FileLimits, limits_of}
 use Rattle.saber_engine.specs.Gives.{ReadsWhole}
 use Rattle.saber_words.specs.Commands.{AskedRun}
 use Rattle.saber_notes.specs.declared.outcome.Outcome.{Outcome}
@@ -22,6 +23,14 @@ pub record TakesRows (q : Tree) (n : ℕ) (limits : FileLimits) (tasks : ℕ) (n
   pub given_back : List Closed
   pub told : new ≡ using old names given_back
   pub takes : IfSome old (λ t. TakesOf q n limits tasks t.contents names given_back)
+
+-- a fault of reading leaves at least every whole task assembled of what was taken
+abbrev pub CutLeavesWhole : Tree → Sizes → Outcome → ℕ → List (Option (List ℕ)) → List (Option (List ℕ)) → Type 0
+CutLeavesWhole q s o tasks had has = (side : Side) → o ≡ ReadFault (file_on side) → ReadsWhole q s.task (limits_of s) tasks had has
+
+-- the same over the row files with these names
+abbrev pub CutTakesRows : Tree → Sizes → Outcome → ℕ → List (List ℕ) → Option Told → Option Told → Type 0
+CutTakesRows q s o tasks names old new = (side : Side) → o ≡ ReadFault (file_on side) → TakesRows q s.task (limits_of s) tasks names old new
 
 -- the row files' sources were given back behind the query's, and so much is assembled of them
 pub record TakesWhole (r : AskedRun) (tasks : ℕ) (old new : Told) : Type 0 where

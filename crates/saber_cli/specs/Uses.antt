@@ -24,7 +24,8 @@ pub record IsOf (contents : List (List ℕ × List ℕ)) (name : List ℕ) (sour
 pub data Uses (file : InputFile) (name : List ℕ) (o : Outcome) (old new : Option Told) : Type 0 where
   unasked : o ≡ NoMemory → new ≡ old → Uses file name o old new
   unopened : o ≡ OpenFault file → new ≡ asking old name → Uses file name o old new
-  used : (left : Option (List ℕ)) (faults : ℕ) → (o ≡ ReadFault file → 0 < faults) → (IsClean o → faults ≡ 0) → IfSome old (λ t. IsOf t.contents name (left, faults)) → IsOpened o → new ≡ closing (asking old name) left faults → Uses file name o old new
+  used : (left : Option (List ℕ)) (faults : ℕ) → (o ≡ ReadFault file → 0 < faults) → (IsClean o → faults ≡ 0) →
+      IfSome old (λ t. IsOf t.contents name (left, faults)) → IsOpened o → new ≡ closing (asking old name) left faults → Uses file name o old new
 
 -- no fault is lost: a count that rose afterwards rose before too
 abbrev pub KeepsFaults : ℕ → ℕ → Type 0

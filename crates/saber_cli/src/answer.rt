@@ -4,14 +4,14 @@ ghost use Rattle.saber_io.specs.Outside.{Rose, appended};
 ghost use Rattle.saber_plan.specs.declared.rows.Side.{Side};
 ghost use Rattle.saber_plan.specs.Trees.{tree_of};
 ghost use Rattle.saber_plan.specs.Checked.{IsChecked};
-ghost use Rattle.saber_plan.specs.Sizes.{SizesFit, limits_of};
-ghost use Rattle.saber_engine.specs.Sources.{each_input, told_by, input_of, RoseAt, NoneFell, GaveAll};
-ghost use Rattle.saber_engine.specs.Gives.{ReadsWhole};
+ghost use Rattle.saber_plan.specs.Sizes.{SizesFit};
+ghost use Rattle.saber_engine.specs.Sources.{each_input, told_by, RoseAt, NoneFell, GaveAll};
 ghost use Rattle.saber_notes.specs.declared.outcome.Outcome.{Outcome};
 ghost use Rattle.saber_cli.specs.Outcomes.{IsClean, IsOfRun};
 ghost use Rattle.saber_cli.specs.Uses.{IsOpened};
 ghost use Rattle.saber_cli.specs.Endings.{ended_as, file_on};
-ghost use Rattle.saber_cli.specs.Answered.{Answered};
+ghost use Rattle.saber_cli.specs.Answered.{AnsweredOver};
+ghost use Rattle.saber_cli.specs.Taken.{CutLeavesWhole};
 
 use saber_engine::{Inputs, Ran as Engine, RunEnd, engine};
 use saber_io::{Gate, Sink, Source};
@@ -70,10 +70,10 @@ pub(crate) fn answer<S: Source, K: Sink + Send, G: Gate + Sync, R: Threads + Wai
     requires inputs { length (each_input S.left inputs.old) ≡ length (tree_of plan.now).streams }
     requires sizes { SizesFit sizes.now }
     ensures written { (out : List ℕ) × (K.written result.sink ≡ appended (K.written sink) out)
-        × IfSome (told_by S.left inputs.old) (λ all. Answered (tree_of plan.now) sizes.now.task sizes.now.ring sizes.now.flush (input_of (tree_of plan.now) (limits_of sizes.now) all) result.outcome result.tasks out) }
+        × IfSome (told_by S.left inputs.old) (λ all. AnsweredOver (tree_of plan.now) sizes.now all result.outcome result.tasks out) }
     ensures kinds { IsOfRun result.outcome }
     ensures opened { IsOpened result.outcome }
-    ensures taken { (side : Side) → result.outcome ≡ Outcome.ReadFault (file_on side) → ReadsWhole (tree_of plan.now) sizes.now.task (limits_of sizes.now) result.tasks (each_input S.left inputs.old) (each_input S.left inputs.new) }
+    ensures taken { CutLeavesWhole (tree_of plan.now) sizes.now result.outcome result.tasks (each_input S.left inputs.old) (each_input S.left inputs.new) }
     ensures takes { (taken : List (List ℕ)) × GaveAll (each_input S.left inputs.old) taken (each_input S.left inputs.new) }
     ensures read { (side : Side) → result.outcome ≡ Outcome.ReadFault (file_on side) → RoseAt side (each_input S.faults inputs.old) (each_input S.faults inputs.new) }
     ensures reads { NoneFell (each_input S.faults inputs.old) (each_input S.faults inputs.new) }
@@ -81,7 +81,12 @@ pub(crate) fn answer<S: Source, K: Sink + Send, G: Gate + Sync, R: Threads + Wai
     ensures write { result.outcome ≡ Outcome.WriteFault → Rose (K.faults sink) (K.faults result.sink) }
     ensures write_good { result.outcome ≢ Outcome.WriteFault → K.faults result.sink ≡ K.faults sink }
 {
-    let Engine { end, sink, tasks } = engine(rt, alloc, plan, inputs, sink, sizes, gate);
+    let Engine {
+        end,
+        sink,
+        tasks,
+        ..
+    } = engine(rt, alloc, plan, inputs, sink, sizes, gate);
     Ran {
         outcome: outcome_of(end, sizes.ring),
         sink,

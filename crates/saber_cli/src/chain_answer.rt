@@ -5,18 +5,19 @@ ghost use Rattle.saber_plan.specs.declared.rows.Side.{Side};
 ghost use Rattle.saber_plan.specs.Trees.{tree_of};
 ghost use Rattle.saber_plan.specs.Checked.{IsChecked};
 ghost use Rattle.saber_plan.specs.Sizes.{SizesFit};
+ghost use Rattle.saber_engine.specs.declared.ends.RunEnd.{RunEnd};
 ghost use Rattle.saber_engine.specs.Sources.{each_input, told_by, RoseAt, GaveAll};
 ghost use Rattle.saber_notes.specs.declared.outcome.Outcome.{Outcome};
 ghost use Rattle.saber_cli.specs.Outcomes.{IsClean, IsOfChain};
 ghost use Rattle.saber_cli.specs.Uses.{IsOpened};
-ghost use Rattle.saber_cli.specs.Endings.{chained_as, file_on, refused_as};
+ghost use Rattle.saber_cli.specs.Endings.{chained_as, file_on, unless_cut};
 ghost use Rattle.saber_cli.specs.Chained.{RunsChain};
 
 use crate::answer::outcome_of;
 use saber_chain::{Chained, Inputs, RunEnd, chain};
 use saber_io::{Gate, Sink, Source};
 use saber_notes::Outcome;
-use saber_plan::{Plan, RowCause, Sizes};
+use saber_plan::{Plan, Sizes};
 use std::alloc::Global;
 use std::sync::Wait;
 use std::thread::Threads;
@@ -29,25 +30,38 @@ pub(crate) struct RanBoth<S, K> {
     pub(crate) tasks: u64,
 }
 
-// How the call ends where the second query refuses a line of the first one's answer.
-fn refused_as(first: RunEnd, line: u64, cause: RowCause, ring: u32) -> Outcome
-    ensures { result ≡ refused_as ring line cause first }
+// How the call ends behind a first query that ended so: with this outcome, where its text is whole, and else as the query did.
+fn unless_cut(first: RunEnd, outcome: Outcome, ring: u32) -> Outcome
+    ensures { result ≡ unless_cut ring first outcome }
 {
     match first {
-        RunEnd::AllRead => Outcome::ChainLineRefused { line, cause },
-        RunEnd::Bad { .. } => Outcome::ChainLineRefused { line, cause },
+        RunEnd::AllRead => outcome,
+        RunEnd::Bad { .. } => outcome,
         _ => outcome_of(first, ring),
     }
 }
 
-// How the call ends behind both runs, each on a ring of so many cells.
-fn chained_as(first: RunEnd, second: RunEnd, ring: u32) -> Outcome
-    ensures { result ≡ chained_as ring first second }
+// How the call ends where memory lacked for the second query, whose stage was stopped by that, or its rows ended so.
+fn lacked_as(first: RunEnd, stopped: bool, ring: u32) -> Outcome
+    ensures { result ≡ chained_as ring first RunEnd.NoMemory stopped }
+{
+    if stopped {
+        Outcome::NoMemory
+    } else {
+        unless_cut(first, Outcome::NoMemory, ring)
+    }
+}
+
+// How the call ends behind both runs, each on a ring of so many cells, the second one with its stage stopped or not.
+fn chained_as(first: RunEnd, second: RunEnd, stopped: bool, ring: u32) -> Outcome
+    ensures { result ≡ chained_as ring first second stopped }
 {
     match second {
         RunEnd::WriteFault => Outcome::WriteFault,
-        RunEnd::NoMemory => Outcome::NoMemory,
-        RunEnd::Bad { line, cause, .. } => refused_as(first, line, cause, ring),
+        RunEnd::NoMemory => lacked_as(first, stopped, ring),
+        RunEnd::Bad { line, cause, .. } => {
+            unless_cut(first, Outcome::ChainLineRefused { line, cause }, ring)
+        }
         RunEnd::AllRead => outcome_of(first, ring),
         RunEnd::ReadFault { .. } => outcome_of(first, ring),
         RunEnd::TooWide { .. } => outcome_of(first, ring),
@@ -76,7 +90,8 @@ pub(crate) fn answer_chain<
     requires one { length (tree_of second.now).streams ≡ 1 }
     requires sizes { SizesFit sizes.now }
     requires open_end { sizes.now.flush ≡ false }
-    ensures runs { RunsChain (tree_of first.now) (tree_of second.now) sizes.now (told_by S.left inputs) (K.written sink) (K.written result.sink) result.outcome result.tasks }
+    ensures runs { RunsChain (tree_of first.now) (tree_of second.now) sizes.now (told_by S.left inputs)
+        (K.written sink) (K.written result.sink) result.outcome result.tasks }
     ensures kinds { IsOfChain result.outcome }
     ensures opened { IsOpened result.outcome }
     ensures takes { (taken : List (List ℕ)) × GaveAll (each_input S.left inputs) taken (each_input S.left result.inputs) }
@@ -88,13 +103,14 @@ pub(crate) fn answer_chain<
     let Chained {
         first: first_end,
         second: second_end,
+        second_stopped,
         inputs,
         sink,
         first_tasks: _,
         tasks,
     } = chain(rt, alloc, first, second, inputs, sink, sizes, gate);
     RanBoth {
-        outcome: chained_as(first_end, second_end, sizes.ring),
+        outcome: chained_as(first_end, second_end, second_stopped, sizes.ring),
         inputs,
         sink,
         tasks,

@@ -1,5 +1,5 @@
 // The command `chain`: two queries over row files.
-ghost use Rattle.std.specs.Prelude.{◌≡◌, ◌≢◌, ℕ, List, IfSome, length, false};
+ghost use Rattle.std.specs.Prelude.{◌≡◌, ◌≢◌, ℕ, List, length, false};
 ghost use Rattle.saber_io.specs.Outside.{Rose, appended};
 ghost use Rattle.saber_plan.specs.Trees.{tree_of};
 ghost use Rattle.saber_plan.specs.Checked.{IsChecked};
@@ -9,11 +9,11 @@ ghost use Rattle.saber_words.specs.Commands.{asked, asked_run, IsSized};
 ghost use Rattle.saber_words.specs.Chain.{asked_chain};
 ghost use Rattle.saber_notes.specs.declared.outcome.Outcome.{Outcome};
 ghost use Rattle.saber_cli.specs.Outcomes.{IsClean, IsFileFault, IsBeforeRun, IsOfChain};
-ghost use Rattle.saber_cli.specs.Due.{contents_of, first_run, row_names};
+ghost use Rattle.saber_cli.specs.Due.{first_run, row_names};
 ghost use Rattle.saber_cli.specs.Uses.{KeepsFaults};
 ghost use Rattle.saber_cli.specs.Chained.{AnswersChain, chain_sizes};
 ghost use Rattle.saber_cli.specs.ChainLeaves.{LeavesChain};
-ghost use Rattle.saber_cli.specs.Chaining.{ChainedIn, UsesChainRows};
+ghost use Rattle.saber_cli.specs.Chaining.{ChainedTold, UsesChainRows};
 
 use crate::answer::Ran;
 use crate::chain_answer::{RanBoth, answer_chain};
@@ -80,7 +80,8 @@ where
     requires sizes { SizesFit sizes.now }
     requires open_end { sizes.now.flush ≡ false }
     ensures written { (out : List ℕ) × (K.written result.sink ≡ appended (K.written sink) out) }
-    ensures runs { IfSome (F.told files.old) (λ t. ChainedIn (tree_of first.now) (tree_of second.now) sizes.now (contents_of t.contents (row_names (asked_run command.now))) (K.written sink) (K.written result.sink) result.outcome result.tasks) }
+    ensures runs { ChainedTold (tree_of first.now) (tree_of second.now) sizes.now (row_names (asked_run command.now)) (F.told files.old)
+        (K.written sink) (K.written result.sink) result.outcome result.tasks }
     ensures early { IsBeforeRun result.outcome → (result.tasks ≡ 0) × (result.sink ≡ sink) }
     ensures kinds { IsOfChain result.outcome }
     ensures uses { UsesChainRows (row_names (asked_run command.now)) result.outcome (F.told files.old) (F.told files.new) }

@@ -87,7 +87,12 @@ fn run_generated<G: Gate + Sync, R: Threads + Wait + Sync>(
     let mut inputs = Inputs::One(rows);
     let text = TextSink::new(alloc);
     let sizes = demo_sizes(command);
-    let Engine { end, sink, tasks } = engine(rt, alloc, &plan, &mut inputs, text, &sizes, gate);
+    let Engine {
+        end,
+        sink,
+        tasks,
+        ..
+    } = engine(rt, alloc, &plan, &mut inputs, text, &sizes, gate);
     if is_whole(end) {
         Ok(Answer { text: sink, tasks })
     } else {

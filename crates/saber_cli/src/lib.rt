@@ -30,8 +30,14 @@ mod demo_tests;
 #[cfg(test)]
 mod fault_tests;
 #[cfg(test)]
+mod join_tests;
+#[cfg(test)]
 mod late_tests;
 #[cfg(test)]
 mod malice_tests;
 #[cfg(test)]
+mod query_tests;
+#[cfg(test)]
 mod tests;
+#[cfg(test)]
+mod thread_tests;

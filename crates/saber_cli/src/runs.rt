@@ -1,18 +1,16 @@
 // A run over the row files of its query.
-ghost use Rattle.std.specs.Prelude.{◌≡◌, ◌≢◌, ℕ, List, IfSome, length};
+ghost use Rattle.std.specs.Prelude.{◌≡◌, ◌≢◌, ℕ, List, length};
 ghost use Rattle.saber_io.specs.Outside.{Rose, appended};
-ghost use Rattle.saber_plan.specs.declared.rows.Side.{Side};
 ghost use Rattle.saber_plan.specs.Trees.{tree_of};
 ghost use Rattle.saber_plan.specs.Checked.{IsChecked};
-ghost use Rattle.saber_plan.specs.Sizes.{SizesFit, limits_of};
+ghost use Rattle.saber_plan.specs.Sizes.{SizesFit};
 ghost use Rattle.saber_words.specs.Commands.{asked_run};
 ghost use Rattle.saber_notes.specs.declared.outcome.Outcome.{Outcome};
-ghost use Rattle.saber_cli.specs.Due.{contents_of, row_names};
+ghost use Rattle.saber_cli.specs.Due.{row_names};
 ghost use Rattle.saber_cli.specs.Outcomes.{IsClean, IsFileFault, IsBeforeRun, IsOfRun};
-ghost use Rattle.saber_cli.specs.Endings.{file_on};
-ghost use Rattle.saber_cli.specs.Answered.{AnsweredIn};
+ghost use Rattle.saber_cli.specs.Answered.{AnsweredTold};
 ghost use Rattle.saber_cli.specs.RowFiles.{UsesRows};
-ghost use Rattle.saber_cli.specs.Taken.{TakesRows};
+ghost use Rattle.saber_cli.specs.Taken.{CutTakesRows};
 ghost use Rattle.saber_cli.specs.Uses.{KeepsFaults};
 
 use crate::answer::{Ran, answer};
@@ -40,11 +38,11 @@ pub(crate) fn run_rows<F: Files, K: Sink + Send, G: Gate + Sync, R: Threads + Wa
     requires like { length (tree_of plan.now).streams ≡ length (row_names (asked_run command.now)) }
     requires sizes { SizesFit sizes.now }
     ensures written { (out : List ℕ) × (K.written result.sink ≡ appended (K.written sink) out)
-        × IfSome (F.told files.old) (λ t. AnsweredIn (tree_of plan.now) sizes.now.task sizes.now.ring (limits_of sizes.now) sizes.now.flush (contents_of t.contents (row_names (asked_run command.now))) result.outcome result.tasks out) }
+        × AnsweredTold (tree_of plan.now) sizes.now (row_names (asked_run command.now)) (F.told files.old) result.outcome result.tasks out }
     ensures early { IsBeforeRun result.outcome → (result.tasks ≡ 0) × (result.sink ≡ sink) }
     ensures kinds { IsOfRun result.outcome }
     ensures uses { UsesRows (row_names (asked_run command.now)) result.outcome (F.told files.old) (F.told files.new) }
-    ensures taken { (side : Side) → result.outcome ≡ Outcome.ReadFault (file_on side) → TakesRows (tree_of plan.now) sizes.now.task (limits_of sizes.now) result.tasks (row_names (asked_run command.now)) (F.told files.old) (F.told files.new) }
+    ensures taken { CutTakesRows (tree_of plan.now) sizes.now result.outcome result.tasks (row_names (asked_run command.now)) (F.told files.old) (F.told files.new) }
     ensures cause { IsFileFault result.outcome → Rose (F.faults files.old) (F.faults files.new) }
     ensures count { KeepsFaults (F.faults files.old) (F.faults files.new) }
     ensures read_good { IsClean result.outcome → F.faults files.new ≡ F.faults files.old }

@@ -1,14 +1,13 @@
 // The top call.
 ghost use Rattle.std.specs.Prelude.{◌≡◌, ◌≢◌, ◌≤◌, ℕ, List, IfSome, None, Some, map};
 ghost use Rattle.saber_io.specs.Outside.{Rose, appended, AppendsPrefix};
-ghost use Rattle.saber_words.specs.Commands.{Asked, AskedRun, run, demo, chain, command_of};
+ghost use Rattle.saber_words.specs.Commands.{chain, command_of};
 ghost use Rattle.saber_words.specs.Chain.{AskedChain};
-ghost use Rattle.saber_words.specs.Demo.{AskedDemo};
 ghost use Rattle.saber_notes.specs.Notes.{status_of, note_of};
 ghost use Rattle.saber_notes.specs.declared.outcome.Outcome.{Outcome};
 ghost use Rattle.saber_notes.specs.declared.note.Noted.{Noted};
 ghost use Rattle.saber_cli.specs.Outcomes.{IsClean, IsFileFault, IsBeforeRun, IsOfSecond};
-ghost use Rattle.saber_cli.specs.Due.{IsPlain, AreNoChain};
+ghost use Rattle.saber_cli.specs.Due.{AreNoChain, IfRun, IfDemo, IfChain, IfPlain};
 ghost use Rattle.saber_cli.specs.Gives.{Answers};
 ghost use Rattle.saber_cli.specs.Chained.{AnswersChain};
 ghost use Rattle.saber_cli.specs.ChainLeaves.{LeavesChain};
@@ -66,12 +65,11 @@ where
     ensures before { IsBeforeRun result.outcome → (result.tasks ≡ 0) × (result.sink ≡ sink) }
 
     // A run over generated rows tells its summary, whatever files there are: of the seed and the number of rows alone.
-    ensures told { (d : AskedDemo) → command_of (map (λ word. word.now) words.now) ≡ Some (demo d) →
-        TellsRun d result.outcome result.tasks (K.written sink) (K.written result.sink) }
+    ensures told { IfDemo (map (λ word. word.now) words.now) (λ d. TellsRun d result.outcome result.tasks (K.written sink) (K.written result.sink)) }
 
     // A chain answers the second query over the lines of the first, and its outcome has its cause: in the texts, in how they fit, or in both runs.
-    ensures chained { (a : AskedChain) → command_of (map (λ word. word.now) words.now) ≡ Some (chain a) →
-        AnswersChain a result.outcome result.tasks (F.told files.old) (K.written sink) (K.written result.sink) }
+    ensures chained { IfChain (map (λ word. word.now) words.now)
+        (λ a. AnswersChain a result.outcome result.tasks (F.told files.old) (K.written sink) (K.written result.sink)) }
     ensures second { IsOfSecond result.outcome → (a : AskedChain) × (command_of (map (λ word. word.now) words.now) ≡ Some (chain a)) }
 
     // Words that are no command, whether the files tell or not.
@@ -87,16 +85,13 @@ where
     ensures sink_good { result.outcome ≢ Outcome.WriteFault → K.faults result.sink ≡ K.faults sink }
 
     // Which files were asked for and given back: the row files only behind a query that has no fault and as many streams.
-    ensures leaves { (c : Asked) → command_of (map (λ word. word.now) words.now) ≡ Some c → IsPlain c →
-        LeavesTold c result.outcome (F.told files.old) (F.told files.new) }
+    ensures leaves { IfPlain (map (λ word. word.now) words.now) (λ c. LeavesTold c result.outcome (F.told files.old) (F.told files.new)) }
 
     // Of a chain too: the second query's only behind a first one that has no fault, the row files only behind two that chain.
-    ensures leaves_chain { (a : AskedChain) → command_of (map (λ word. word.now) words.now) ≡ Some (chain a) →
-        LeavesChain a result.outcome (F.told files.old) (F.told files.new) }
+    ensures leaves_chain { IfChain (map (λ word. word.now) words.now) (λ a. LeavesChain a result.outcome (F.told files.old) (F.told files.new)) }
 
     // A fault of reading leaves at least every whole task assembled of what was taken of the row files.
-    ensures taken { (r : AskedRun) → command_of (map (λ word. word.now) words.now) ≡ Some (run r) →
-        TakesTold r result.outcome result.tasks (F.told files.old) (F.told files.new) }
+    ensures taken { IfRun (map (λ word. word.now) words.now) (λ r. TakesTold r result.outcome result.tasks (F.told files.old) (F.told files.new)) }
 
     // The note.
     ensures nothing { result.outcome ≡ Outcome.Done → (result.noted ≡ Noted.Nothing) × (notes.new ≡ notes.old) }

@@ -1,12 +1,11 @@
 // The command that the words are, over its files.
 ghost use Rattle.std.specs.Prelude.{◌≡◌, ◌≢◌, ℕ, List, IfSome, None, Some, map};
 ghost use Rattle.saber_io.specs.Outside.{Rose, appended};
-ghost use Rattle.saber_words.specs.Commands.{Asked, AskedRun, run, demo, chain, command_of};
+ghost use Rattle.saber_words.specs.Commands.{chain, command_of};
 ghost use Rattle.saber_words.specs.Chain.{AskedChain};
-ghost use Rattle.saber_words.specs.Demo.{AskedDemo};
 ghost use Rattle.saber_notes.specs.declared.outcome.Outcome.{Outcome};
 ghost use Rattle.saber_cli.specs.Outcomes.{IsClean, IsFileFault, IsBeforeRun, IsOfSecond};
-ghost use Rattle.saber_cli.specs.Due.{IsPlain, AreNoChain};
+ghost use Rattle.saber_cli.specs.Due.{AreNoChain, IfRun, IfDemo, IfChain, IfPlain};
 ghost use Rattle.saber_cli.specs.Gives.{Answers};
 ghost use Rattle.saber_cli.specs.Chained.{AnswersChain};
 ghost use Rattle.saber_cli.specs.ChainLeaves.{LeavesChain};
@@ -50,15 +49,16 @@ where
     F::Src: Send + Drop,
     ensures written { (out : List ℕ) × (K.written result.sink ≡ appended (K.written sink) out)
         × (AreNoChain (map (λ word. word.now) words.now) → IfSome (F.told files.old) (λ t. Answers (map (λ word. word.now) words.now) t.contents result.outcome result.tasks out)) }
-    ensures chained { (a : AskedChain) → command_of (map (λ word. word.now) words.now) ≡ Some (chain a) → AnswersChain a result.outcome result.tasks (F.told files.old) (K.written sink) (K.written result.sink) }
+    ensures chained { IfChain (map (λ word. word.now) words.now)
+        (λ a. AnswersChain a result.outcome result.tasks (F.told files.old) (K.written sink) (K.written result.sink)) }
     ensures second { IsOfSecond result.outcome → (a : AskedChain) × (command_of (map (λ word. word.now) words.now) ≡ Some (chain a)) }
-    ensures told { (d : AskedDemo) → command_of (map (λ word. word.now) words.now) ≡ Some (demo d) → TellsRun d result.outcome result.tasks (K.written sink) (K.written result.sink) }
+    ensures told { IfDemo (map (λ word. word.now) words.now) (λ d. TellsRun d result.outcome result.tasks (K.written sink) (K.written result.sink)) }
     ensures unread { command_of (map (λ word. word.now) words.now) ≡ None → EndsUnread result.outcome result.tasks files.old files.new sink result.sink }
     ensures usage { result.outcome ≡ Outcome.Usage → command_of (map (λ word. word.now) words.now) ≡ None }
     ensures early { IsBeforeRun result.outcome → (result.tasks ≡ 0) × (result.sink ≡ sink) }
-    ensures leaves { (c : Asked) → command_of (map (λ word. word.now) words.now) ≡ Some c → IsPlain c → LeavesTold c result.outcome (F.told files.old) (F.told files.new) }
-    ensures leaves_chain { (a : AskedChain) → command_of (map (λ word. word.now) words.now) ≡ Some (chain a) → LeavesChain a result.outcome (F.told files.old) (F.told files.new) }
-    ensures taken { (r : AskedRun) → command_of (map (λ word. word.now) words.now) ≡ Some (run r) → TakesTold r result.outcome result.tasks (F.told files.old) (F.told files.new) }
+    ensures leaves { IfPlain (map (λ word. word.now) words.now) (λ c. LeavesTold c result.outcome (F.told files.old) (F.told files.new)) }
+    ensures leaves_chain { IfChain (map (λ word. word.now) words.now) (λ a. LeavesChain a result.outcome (F.told files.old) (F.told files.new)) }
+    ensures taken { IfRun (map (λ word. word.now) words.now) (λ r. TakesTold r result.outcome result.tasks (F.told files.old) (F.told files.new)) }
     ensures cause { IsFileFault result.outcome → Rose (F.faults files.old) (F.faults files.new) }
     ensures read_good { IsClean result.outcome → F.faults files.new ≡ F.faults files.old }
     ensures write { result.outcome ≡ Outcome.WriteFault → Rose (K.faults sink) (K.faults result.sink) }

@@ -7,22 +7,22 @@ use Rattle.saber_cli.proofs.ChainRunLemmas.{chained_clean, chained_kinds, chaine
 use Rattle.saber_cli.proofs.chain_answer.answer_chain.Goals as goal
 
 pub returns-clause-runs : goal.returns-clause-runs
-returns-clause-runs g c = runs_chain (tree_of c.args.first.now) (tree_of c.args.second.now) c.args.sizes.now _ _ _ c.chained_as.result c.chain-first_end.result c.chained_as.ensures c.chain-first_end.ensures.gives c.chain-first_end.ensures.never c.chain-first_end.ensures.all c.chain-first_end.ensures.cut c.chain-first_end.ensures.narrow
+returns-clause-runs g c = runs_chain (tree_of c.args.first.now) (tree_of c.args.second.now) c.args.sizes.now _ _ _ c.chained_as.result c.chain-first_end.result c.chained_as.ensures c.chain-first_end.ensures.stopped c.chain-first_end.ensures.gives c.chain-first_end.ensures.never c.chain-first_end.ensures.all c.chain-first_end.ensures.cut c.chain-first_end.ensures.narrow
 
 pub returns-clause-kinds : goal.returns-clause-kinds
-returns-clause-kinds g c = subst IsOfChain (sym c.chained_as.ensures) (chained_kinds c.args.sizes.now.ring c.chain-first_end.result.first c.chain-first_end.result.second)
+returns-clause-kinds g c = subst IsOfChain (sym c.chained_as.ensures) (chained_kinds c.args.sizes.now.ring c.chain-first_end.result.first c.chain-first_end.result.second c.chain-first_end.result.second_stopped)
 
 pub returns-clause-opened : goal.returns-clause-opened
-returns-clause-opened g c = subst IsOpened (sym c.chained_as.ensures) (chained_opened c.args.sizes.now.ring c.chain-first_end.result.first c.chain-first_end.result.second)
+returns-clause-opened g c = subst IsOpened (sym c.chained_as.ensures) (chained_opened c.args.sizes.now.ring c.chain-first_end.result.first c.chain-first_end.result.second c.chain-first_end.result.second_stopped)
 
 pub returns-clause-read : goal.returns-clause-read
-returns-clause-read g c side e = c.chain-first_end.ensures.read side (chained_read c.args.sizes.now.ring c.chain-first_end.result.first c.chain-first_end.result.second side (sym c.chained_as.ensures ∙ e))
+returns-clause-read g c side e = c.chain-first_end.ensures.read side (chained_read c.args.sizes.now.ring c.chain-first_end.result.first c.chain-first_end.result.second c.chain-first_end.result.second_stopped side (sym c.chained_as.ensures ∙ e))
 
 pub returns-clause-read_good : goal.returns-clause-read_good
-returns-clause-read_good g c k = c.chain-first_end.ensures.read_good (chained_clean c.args.sizes.now.ring c.chain-first_end.result.first c.chain-first_end.result.second (subst IsClean c.chained_as.ensures k))
+returns-clause-read_good g c k = c.chain-first_end.ensures.read_good (chained_clean c.args.sizes.now.ring c.chain-first_end.result.first c.chain-first_end.result.second c.chain-first_end.result.second_stopped (subst IsClean c.chained_as.ensures k))
 
 pub returns-clause-write : goal.returns-clause-write
-returns-clause-write g c e = c.chain-first_end.ensures.write (chained_write c.args.sizes.now.ring c.chain-first_end.result.first c.chain-first_end.result.second c.chain-first_end.ensures.never (sym c.chained_as.ensures ∙ e))
+returns-clause-write g c e = c.chain-first_end.ensures.write (chained_write c.args.sizes.now.ring c.chain-first_end.result.first c.chain-first_end.result.second c.chain-first_end.result.second_stopped c.chain-first_end.ensures.never (sym c.chained_as.ensures ∙ e))
 
 pub returns-clause-write_good : goal.returns-clause-write_good
-returns-clause-write_good g c w = c.chain-first_end.ensures.write_good (λ e. w (c.chained_as.ensures ∙ ap (chained_as c.args.sizes.now.ring c.chain-first_end.result.first) e))
+returns-clause-write_good g c w = c.chain-first_end.ensures.write_good (λ e. w (c.chained_as.ensures ∙ ap (λ z. chained_as c.args.sizes.now.ring c.chain-first_end.result.first z c.chain-first_end.result.second_stopped) e))

@@ -24,7 +24,7 @@ returns-in-Ok g c =
     let x = c.settle.ensures in
     both_runs left faults g.K.Sink.written g.K.Sink.faults (tree_of job.plan.now) (tree_of c.captures.second.now) c.captures.sizes.now job.inputs ran.ended.inputs c.captures.sink second.ran.sink c.settle.result
     ran.ended.end second.ran.end ran.ended.tasks second.ran.tasks (written_by ran.receipt) (taken_by second.relay) (mark_by ran.receipt) (mark_in second.relay)
-    first e.runs e.write e.write_good e.writes x.ends x.tasks x.given_back x.settled
+    first e.runs e.write e.write_good e.writes e.stopped x.stopped x.ends x.tasks x.given_back x.settled
 
 pub returns-in-Err : goal.returns-in-Err
 returns-in-Err g c =
@@ -40,4 +40,4 @@ returns-in-Err g c =
     let x = c.settle-in-Err.ensures in
     both_runs left faults g.K.Sink.written g.K.Sink.faults (tree_of job.plan.now) (tree_of c.captures.second.now) c.captures.sizes.now job.inputs ran.ended.inputs c.captures.sink second.ran.sink c.settle-in-Err.result
     ran.ended.end second.ran.end ran.ended.tasks second.ran.tasks (written_by ran.receipt) (taken_by second.relay) (mark_by ran.receipt) (mark_in second.relay)
-    first e.runs e.write e.write_good e.writes x.ends x.tasks x.given_back x.settled
+    first e.runs e.write e.write_good e.writes e.stopped x.stopped x.ends x.tasks x.given_back x.settled
