@@ -61,4 +61,4 @@ row_part law q i m xs k x n h e g =
 
 -- fewer rows are few too
 pub few_more : (q : Tree) (n k : ℕ) (p : Part) → n ≤ k → OfRows q n p → OfRows q k p
-few_more q n k p h few = record { at = λ key a e. (le_trans (few.at key a e).0 h, (few.at key a e).1) }
+few_more q n k p h few = record { at = λ key a e. (le_trans (few.at key a e).0 h, (few.at key a e).1); keys = few.keys }

@@ -1,5 +1,5 @@
 -- One row added to a part.
-use Rattle.std.proofs.Common.{◌≡◌, List, [], ◌∷◌, Bool, true, false, cond, ℤ, Some, None, refl, sym, ◌∙◌, ap, subst, ◌==◌, length}
+use Rattle.std.proofs.Common.{◌≡◌, List, [], ◌∷◌, Bool, true, false, cond, ℤ, Some, None, refl, sym, ◌∙◌, ap, ◌==◌, length}
 use Rattle.std.specs.Cmp.{tied_itself}
 use Rattle.std.specs.Ordering.{is_eq}
 use Rattle.std.specs.FinMap.{get, insert, from_entries, find, len, empty_of_len, get-from_entries, get-empty}
@@ -11,9 +11,9 @@ use Rattle.saber_plan.specs.Merges.{joined}
 use Rattle.saber_plan.specs.Parts.{Part, Numbers, numbers, join_numbers, group_part, merge}
 use Rattle.saber_plan.specs.PartFacts.{total, exact, merge-empty_right}
 use Rattle.saber_plan.specs.MapFacts.{take_one}
-use Rattle.saber_partial.specs.Tallies.{CanJoin, CanMerge}
+use Rattle.saber_partial.specs.Tallies.{CanMerge, FitsAt}
 use Rattle.saber_partial.specs.Sorted.{part_of}
-use Rattle.saber_partial.proofs.Merging.{join_here, not_both}
+use Rattle.saber_partial.proofs.Merging.{not_both}
 
 -- the part of one row
 pub one_part : (q : Tree) (zs : List ℤ) → group_part q (zs ∷ []) ≡ from_entries {R = key_cmp} ((key q.keys zs, numbers q.items (zs ∷ [])) ∷ [])
@@ -27,12 +27,14 @@ merge_one m k v = sym (merge-empty_right (insert m k (joined join_numbers (get m
 pub add_at : (q : Tree) (m : Part) (zs : List ℤ) (k : List ℤ) (n : Numbers) → k ≡ key q.keys zs → n ≡ joined join_numbers (get m k) (numbers q.items (zs ∷ [])) → insert m k n ≡ merge m (group_part q (zs ∷ []))
 add_at q m zs k n h e = ap (insert m k) e ∙ ap (λ l. insert m l (joined join_numbers (get m l) (numbers q.items (zs ∷ [])))) h ∙ merge_one m (key q.keys zs) (numbers q.items (zs ∷ [])) ∙ ap (merge m) (sym (one_part q zs))
 
--- the numbers there can be joined with those of the row
-pub add_fits : (q : Tree) (m : Part) (zs : List ℤ) (k : List ℤ) (a : Numbers) → k ≡ key q.keys zs → get m k ≡ Some a → CanMerge m (group_part q (zs ∷ [])) → CanJoin a (numbers q.items (zs ∷ []))
-add_fits q m zs k a h g c = join_here m (key q.keys zs) a (numbers q.items (zs ∷ [])) [] (subst (CanMerge m) (one_part q zs) c) (ap (get m) (sym h) ∙ g)
-
 some_found : (x : List ℤ × Numbers) (es : List (List ℤ × Numbers)) → get (part_of (x ∷ es)) x.0 ≡ Some x.1
 some_found x es = get-from_entries total (x ∷ es) x.0 ∙ ap (λ r. cond (is_eq r) (Some x.1) (find key_cmp x.0 es)) (tied_itself total x.0)
+
+-- what is there can take in the numbers of the row, which are like them
+pub add_fits : (q : Tree) (m : Part) (zs : List ℤ) (k : List ℤ) → k ≡ key q.keys zs → CanMerge m (group_part q (zs ∷ [])) → FitsAt m k (numbers q.items (zs ∷ []))
+add_fits q m zs k h c =
+    let one = ap (λ p. get p k) (one_part q zs ∙ ap (λ l. part_of ((l, numbers q.items (zs ∷ [])) ∷ [])) (sym h)) ∙ some_found (k, numbers q.items (zs ∷ [])) [] in
+    record { at = λ a g. c.at k a (numbers q.items (zs ∷ [])) g one; alike = λ j a g. c.alike j k a (numbers q.items (zs ∷ [])) g one }
 
 some_case : (es : List (List ℤ × Numbers)) (b : Bool) → (len (part_of es) == 0) ≡ b → (length es ≡ 0 → ⊥) → cond b None (Some (part_of es)) ≡ Some (part_of es)
 some_case es false e h = refl

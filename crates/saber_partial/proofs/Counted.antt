@@ -1,24 +1,23 @@
 -- Parts of one query can be merged.
-use Rattle.std.proofs.Common.{◌≡◌, ℕ, suc, ◌+◌, ◌-◌, ◌^◌, ◌≤◌, List, [], ◌∷◌, ◌++◌, map, filter, flat_map, length, drop, Bool, true, false, cond, Option, Some, None, ℤ, unwrap_or, refl, sym, ◌∙◌, ap, subst, slice_range, arith}
+use Rattle.std.proofs.Common.{◌≡◌, ℕ, ◌+◌, ◌-◌, ◌^◌, ◌≤◌, List, [], ◌∷◌, ◌++◌, map, filter, flat_map, length, drop, Bool, true, false, cond, Option, Some, None, ℤ, unwrap_or, refl, sym, ◌∙◌, ap, subst, slice_range, arith}
 use Rattle.std.proofs.lemmas.List.{length-take, length-drop, length-map}
 use Rattle.std.specs.List.{AllByRecursion}
 use Rattle.std.specs.Ordering.{eq_by_cmp}
 use Rattle.std.specs.FinMap.{get, find, get-from_entries, get-empty}
 use Rattle.saber_plan.specs.declared.rows.Row.{Row}
-use Rattle.saber_plan.specs.declared.windows.Mark.{Mark}
 use Rattle.saber_plan.specs.declared.plans.Item.{Item}
 use Rattle.saber_plan.specs.declared.plans.Shape.{Shape}
 use Rattle.saber_plan.specs.declared.plans.Shape.TheVariants.{Select, Group, Join}
 use Rattle.saber_plan.specs.Trees.{Tree}
 use Rattle.saber_plan.specs.Values.{passes}
-use Rattle.saber_plan.specs.Windows.{Placed, placed, placed_after, no_rows, step_mark, inside, has}
+use Rattle.saber_plan.specs.Windows.{Placed, placed, no_rows, inside, has}
 use Rattle.saber_plan.specs.Answers.{frame, passing, pairs_with, pair_key, is_left, is_right, by_shape, key_cmp, key, rows_of_key}
 use Rattle.saber_plan.specs.Parts.{Part, no_part, Numbers, numbers, join_numbers, merge, group_part, pair_part, pair_numbers, summed, least, greatest, plain, part}
-use Rattle.saber_partial.specs.Tallies.{CanJoin, CanMerge}
+use Rattle.saber_partial.specs.Tallies.{Alike, CanJoin, CanMerge}
 use Rattle.saber_partial.specs.PartLaws.{OfItems, OfRows}
 use Rattle.saber_plan.specs.Merges.{join}
-use Rattle.saber_plan.specs.MapFacts.{get-both}
-use Rattle.saber_plan.specs.PartFacts.{total, get-group_part, numbers_if}
+use Rattle.saber_plan.specs.MapFacts.{equal_if, get-both}
+use Rattle.saber_plan.specs.PartFacts.{exact, total, get-group_part, numbers_if}
 use Rattle.saber_plan.specs.ListFacts.{few_pass}
 use Rattle.saber_plan.specs.RowFacts.{length-placed}
 use Rattle.saber_partial.proofs.Zips.{zip_long}
@@ -27,6 +26,15 @@ use Rattle.saber_partial.proofs.Merging.{not_both}
 can_join : (is : List Item) (a b : Numbers) → OfItems is a → OfItems is b → a.count + b.count ≤ 2 ^ 40 → CanJoin a b
 can_join is a b g h n = record {
   counts = n;
+  sums = g.sums ∙ sym h.sums;
+  leasts = g.leasts ∙ sym h.leasts;
+  greatests = g.greatests ∙ sym h.greatests;
+  firsts = g.firsts ∙ sym h.firsts;
+}
+
+are_alike : (is : List Item) (j k : List ℤ) (a b : Numbers) → length j ≡ length k → OfItems is a → OfItems is b → Alike j k a b
+are_alike is j k a b n g h = record {
+  keys = n;
   sums = g.sums ∙ sym h.sums;
   leasts = g.leasts ∙ sym h.leasts;
   greatests = g.greatests ∙ sym h.greatests;
@@ -42,16 +50,27 @@ numbers_there : (is : List Item) (us : List (List ℤ)) (a : Numbers) → number
 numbers_there is [] a e = cc
 numbers_there is (zs ∷ us) a e = ap (λ o. unwrap_or o a) e
 
+-- where a key has numbers, it is that of a row
+key_case : (ks : List ℕ) (is : List Item) (k zs : List ℤ) (rows : List (List ℤ)) (a : Numbers) (b : Bool) → eq_by_cmp key_cmp k (key ks zs) ≡ b → (numbers_if is rows ≡ Some a → length k ≡ length ks)
+    → numbers_if is (cond b (zs ∷ rows) rows) ≡ Some a → length k ≡ length ks
+key_case ks is k zs rows a true t h e = ap length (exact k (key ks zs) (equal_if _ t)) ∙ length-map ks _
+key_case ks is k zs rows a false t h e = h e
+
+key_long : (ks : List ℕ) (is : List Item) (k : List ℤ) (us : List (List ℤ)) (a : Numbers) → numbers_if is (rows_of_key ks k us) ≡ Some a → length k ≡ length ks
+key_long ks is k [] a e = cc
+key_long ks is k (zs ∷ us) a e = key_case ks is k zs (rows_of_key ks k us) a (eq_by_cmp key_cmp k (key ks zs)) refl (key_long ks is k us a) e
+
 pub groups_of_rows : (q : Tree) (us : List (List ℤ)) → OfRows q (length us) (group_part q us)
 groups_of_rows q us = record {
   at = λ k a e.
       let low = few_pass (λ (zs : List ℤ). eq_by_cmp key_cmp k (key q.keys zs)) us in
       let mine = numbers_there q.items (rows_of_key q.keys k us) a (sym (get-group_part q us k) ∙ e) in
       subst (λ (x : Numbers). (x.count ≤ length us) × OfItems q.items x) mine (low, numbers_fit q.items (rows_of_key q.keys k us));
+  keys = λ k a e. key_long q.keys q.items k us a (sym (get-group_part q us k) ∙ e);
 }
 
 pub none_of_rows : (q : Tree) → OfRows q 0 no_part
-none_of_rows q = record { at = λ k a e. absurd (not_both (get-empty key_cmp k) e) }
+none_of_rows q = record { at = λ k a e. absurd (not_both (get-empty key_cmp k) e); keys = λ k a e. absurd (not_both (get-empty key_cmp k) e) }
 
 -- ---- merges
 
@@ -63,6 +82,7 @@ small_merge q m n a b g h l = record {
       let low = one.0 in
       let high = two.0 in
       can_join q.items x y one.1 two.1 (omega (arith, l, low, high));
+  alike = λ j k x y e f. are_alike q.items j k x y (g.keys j x e ∙ sym (h.keys k y f)) (g.at j x e).1 (h.at k y f).1;
 }
 
 joined_fit : (is : List Item) (x y : Numbers) → OfItems is x → OfItems is y → OfItems is (join_numbers x y)
@@ -89,8 +109,16 @@ join_case q m n (Some x) (Some y) z g h e =
     let high = two.0 in
     subst (IsOf q (m + n)) (some_of (join_numbers x y) z e) (omega (arith, low, high), joined_fit q.items x y one.1 two.1)
 
+-- what a merge has under a key, one of the two has
+of_either : (A : Type 0) (o p : Option Numbers) (z : Numbers) → ((x : Numbers) → o ≡ Some x → A) → ((y : Numbers) → p ≡ Some y → A) → join join_numbers o p ≡ Some z → A
+of_either A None p z g h e = h z e
+of_either A (Some x) p z g h e = g x refl
+
 pub small_stay : (q : Tree) (m n : ℕ) (a b : Part) → OfRows q m a → OfRows q n b → OfRows q (m + n) (merge a b)
-small_stay q m n a b g h = record { at = λ k z e. join_case q m n (get a k) (get b k) z (g.at k) (h.at k) (sym (get-both total join_numbers a b k) ∙ e) }
+small_stay q m n a b g h = record {
+  at = λ k z e. join_case q m n (get a k) (get b k) z (g.at k) (h.at k) (sym (get-both total join_numbers a b k) ∙ e);
+  keys = λ k z e. of_either (length k ≡ length q.keys) (get a k) (get b k) z (g.keys k) (h.keys k) (sym (get-both total join_numbers a b k) ∙ e);
+}
 
 pub groups_merge : (q : Tree) (us vs : List (List ℤ)) → length us + length vs ≤ 2 ^ 40 → CanMerge (group_part q us) (group_part q vs)
 groups_merge q us vs n = small_merge q (length us) (length vs) (group_part q us) (group_part q vs) (groups_of_rows q us) (groups_of_rows q vs) n
@@ -109,7 +137,7 @@ range_long : (xs : List Row) (x y : ℕ) → length (slice_range (placed xs) x y
 range_long xs x y = let a = length-take (y - x) (drop x (placed xs)) in omega (arith, a)
 
 pub more_rows : (q : Tree) (m n : ℕ) (a : Part) → m ≤ n → OfRows q m a → OfRows q n a
-more_rows q m n a l g = record { at = λ k x e. let w = g.at k x e in let low = w.0 in (omega (arith, l, low), w.1) }
+more_rows q m n a l g = record { at = λ k x e. let w = g.at k x e in let low = w.0 in (omega (arith, l, low), w.1); keys = g.keys }
 
 pub parts_of_rows : (q : Tree) (i : ℕ) (xs : List Row) (x y : ℕ) → q.shape ≡ Group → OfRows q (y - x) (part q i xs x y)
 parts_of_rows q i xs x y g =
@@ -134,18 +162,20 @@ few_both xs x y z =
 pair_fits : (q : Tree) (x y : Placed) → OfItems q.items (pair_numbers q x y)
 pair_fits q x y = record { sums = length-map (summed q.items) _; leasts = length-map (least q.items) _; greatests = length-map (greatest q.items) _; firsts = length-map (plain q.items) _ }
 
--- numbers of one pair
-abbrev IsPair : Tree → Numbers → Type 0
-IsPair q a = (a.count ≡ 1) × OfItems q.items a
+-- a key of two numbers, and those of one pair
+record IsPair (q : Tree) (e : List ℤ × Numbers) : Type 0 where
+  keys : length e.0 ≡ 2
+  one : e.1.count ≡ 1
+  items : OfItems q.items e.1
 
 abbrev ArePairs : Tree → List (List ℤ × Numbers) → Type 0
-ArePairs q es = AllByRecursion (λ e. IsPair q e.1) es
+ArePairs q es = AllByRecursion (IsPair q) es
 
 pairs_append : (q : Tree) (es fs : List (List ℤ × Numbers)) → ArePairs q es → ArePairs q fs → ArePairs q (es ++ fs)
 pairs_append q [] fs g h = h
 pairs_append q (e ∷ es) fs g h = (g.0, pairs_append q es fs g.1 h)
 
-kept_case : (q : Tree) (e : List ℤ × Numbers) (l : List (List ℤ × Numbers)) (b : Bool) → IsPair q e.1 → ArePairs q l → ArePairs q (cond b (e ∷ l) l)
+kept_case : (q : Tree) (e : List ℤ × Numbers) (l : List (List ℤ × Numbers)) (b : Bool) → IsPair q e → ArePairs q l → ArePairs q (cond b (e ∷ l) l)
 kept_case q e l true g h = (g, h)
 kept_case q e l false g h = h
 
@@ -155,21 +185,24 @@ pairs_filter q p (e ∷ es) h = kept_case q e (filter p es) (p e) h.0 (pairs_fil
 
 pairs_map : (q : Tree) (x : Placed) (ys : List Placed) → ArePairs q (map (λ y. (pair_key x y, pair_numbers q x y)) ys)
 pairs_map q x [] = tt
-pairs_map q x (y ∷ ys) = ((refl, pair_fits q x y), pairs_map q x ys)
+pairs_map q x (y ∷ ys) = (record { keys = refl; one = refl; items = pair_fits q x y }, pairs_map q x ys)
 
 pairs_all : (q : Tree) (xs ys : List Placed) → ArePairs q (flat_map (λ x. pairs_with q (pair_numbers q) x ys) xs)
 pairs_all q [] ys = tt
 pairs_all q (x ∷ xs) ys = pairs_append q (pairs_with q (pair_numbers q) x ys) (flat_map (λ x. pairs_with q (pair_numbers q) x ys) xs) (pairs_map q x (filter (λ y. passes q.predicate x.row.values y.row.values) ys)) (pairs_all q xs ys)
 
-found_case : (q : Tree) (v a : Numbers) (o : Option Numbers) (b : Bool) → IsPair q v → (o ≡ Some a → IsPair q a) → cond b (Some v) o ≡ Some a → IsPair q a
-found_case q v a o true g h e = subst (IsPair q) (ap (λ o. unwrap_or o a) e) g
-found_case q v a o false g h e = h e
+found_case : (q : Tree) (k : List ℤ) (x : List ℤ × Numbers) (a : Numbers) (o : Option Numbers) (b : Bool) → eq_by_cmp key_cmp k x.0 ≡ b → IsPair q x → (o ≡ Some a → IsPair q (k, a)) → cond b (Some x.1) o ≡ Some a → IsPair q (k, a)
+found_case q k x a o true t g h e =
+    let key_is = exact k x.0 (equal_if _ t) in
+    let numbers_are = ap (λ o. unwrap_or o a) e in
+    subst (IsPair q) (λ i. (sym key_is i, numbers_are i)) g
+found_case q k x a o false t g h e = h e
 
-found_pair : (q : Tree) (k : List ℤ) (a : Numbers) (es : List (List ℤ × Numbers)) → ArePairs q es → find key_cmp k es ≡ Some a → IsPair q a
+found_pair : (q : Tree) (k : List ℤ) (a : Numbers) (es : List (List ℤ × Numbers)) → ArePairs q es → find key_cmp k es ≡ Some a → IsPair q (k, a)
 found_pair q k a [] h e = cc
-found_pair q k a (x ∷ es) h e = found_case q x.1 a (find key_cmp k es) (eq_by_cmp key_cmp k x.0) h.0 (found_pair q k a es h.1) e
+found_pair q k a (x ∷ es) h e = found_case q k x a (find key_cmp k es) (eq_by_cmp key_cmp k x.0) refl h.0 (found_pair q k a es h.1) e
 
-pair_there : (q : Tree) (x : ℕ) (xs : List Placed) (k : List ℤ) (a : Numbers) → get (pair_part q x xs) k ≡ Some a → IsPair q a
+pair_there : (q : Tree) (x : ℕ) (xs : List Placed) (k : List ℤ) (a : Numbers) → get (pair_part q x xs) k ≡ Some a → IsPair q (k, a)
 unfolding pair_part
 pair_there q x xs k a e = found_pair q k a _ (pairs_filter q _ _ (pairs_all q (filter is_left xs) (filter is_right xs))) (sym (get-from_entries total _ k) ∙ e)
 
@@ -181,13 +214,17 @@ pairs_merge q x y xs ys = record {
   at = λ k a b e f.
       let g = pair_there q x xs k a e in
       let h = pair_there q y ys k b f in
-      can_join q.items a b g.1 h.1 (one_each a.count b.count g.0 h.0);
+      can_join q.items a b g.items h.items (one_each a.count b.count g.one h.one);
+  alike = λ j k a b e f.
+      let g = pair_there q x xs j a e in
+      let h = pair_there q y ys k b f in
+      are_alike q.items j k a b (g.keys ∙ sym h.keys) g.items h.items;
 }
 
 -- ---- parts
 
 shape_case : (s : Shape) (g h g1 h1 : Part) → CanMerge g g1 → CanMerge h h1 → CanMerge (by_shape s no_part g h) (by_shape s no_part g1 h1)
-shape_case Select g h g1 h1 a b = record { at = λ k x y e f. absurd (not_both (get-empty key_cmp k) e) }
+shape_case Select g h g1 h1 a b = record { at = λ k x y e f. absurd (not_both (get-empty key_cmp k) e); alike = λ j k x y e f. absurd (not_both (get-empty key_cmp j) e) }
 shape_case Group g h g1 h1 a b = a
 shape_case Join g h g1 h1 a b = b
 

@@ -1,5 +1,5 @@
 -- A row of a checked group query's stream can be counted.
-use Rattle.std.proofs.Common.{◌≡◌, ℕ, ◌<◌, List, [], ◌∷◌, length, ℤ, refl, sym, subst}
+use Rattle.std.proofs.Common.{◌≡◌, ℕ, List, [], ◌∷◌, length, ℤ, refl, sym, subst}
 use Rattle.std.specs.List.{AllByRecursion}
 use Rattle.saber_plan.specs.declared.rows.Side.{Side}
 use Rattle.saber_plan.specs.declared.rows.Side.TheVariants.{Left, Right}
@@ -31,6 +31,3 @@ pub items_count : (q : Tree) → IsChecked q → q.shape ≡ Group → (zs : Lis
 items_count q k g zs h =
     let wide : columns_on q.streams ≡ widths zs [] = λ i side. width_of q.streams (subst (λ s. StreamsFit s q.streams) g k.streams) zs h side i in
     can_count zs q.keys q.items (subst (λ w. AllByRecursion (ItemFits Group w q.keys) q.items) wide (subst (λ s. AllByRecursion (ItemFits s (columns_on q.streams) q.keys) q.items) g k.items))
-
-pub keys_there : (q : Tree) → IsChecked q → (zs : List ℤ) → length zs ≡ columns_on q.streams Left → AllByRecursion (λ k. k < length zs) q.keys
-keys_there q k zs h = subst (λ n. AllByRecursion (λ k. k < n) q.keys) (sym h) k.keys

@@ -1,6 +1,9 @@
+mod FlatRows
+mod Layouts
 pub mod Zips
 pub mod Sharing
 pub mod Gathered
+pub mod RowNumbers
 pub mod Merging
 pub mod Rising
 pub mod Weaving

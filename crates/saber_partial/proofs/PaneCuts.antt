@@ -1,5 +1,5 @@
 -- How a checked group query is cut.
-use Rattle.std.proofs.Common.{◌≡◌, ℕ, ◌+◌, ◌*◌, ◌/◌, ◌≤◌, ◌<◌, ◌^◌, sym, ◌∙◌, ap, ap₂, subst, arith, Fits, w64}
+use Rattle.std.proofs.Common.{◌≡◌, ℕ, ◌*◌, ◌/◌, ◌<◌, sym, ◌∙◌, ap, subst, arith}
 use Rattle.std.proofs.Math.Nat.{div-mul_cancel, mul-div_cancel}
 use Rattle.saber_plan.specs.declared.windows.Window.{Window}
 use Rattle.saber_plan.specs.Trees.{Tree}

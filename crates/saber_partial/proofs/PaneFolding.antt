@@ -1,16 +1,16 @@
 -- One row after another, added to panes.
-use Rattle.std.proofs.Common.{◌≡◌, ℕ, suc, ◌+◌, ◌≤◌, ◌<◌, ◌^◌, List, [], ◌∷◌, ◌++◌, map, filter, length, take, drop, get_or, Bool, true, false, cond, ◌==◌, Option, Some, None, refl, sym, ◌∙◌, ap, ap₂, subst, nat_cmp, take-append-drop, length-append, le_trans, arith}
+use Rattle.std.proofs.Common.{◌≡◌, ℕ, ◌+◌, ◌≤◌, ◌<◌, List, [], ◌∷◌, ◌++◌, length, take, drop, get_or, Bool, true, false, cond, ◌==◌, Option, Some, None, refl, sym, ◌∙◌, ap, subst, nat_cmp, take-append-drop, length-append, arith}
 use Rattle.std.proofs.lemmas.Bool.Decides.{nat_tests}
 use Rattle.std.proofs.lemmas.List.{length-map, take_all}
 use Rattle.std.proofs.lemmas.List.Elements.{filter-append}
 use Rattle.std.specs.Cmp.{nat_cmp_total}
-use Rattle.std.specs.FinMap.{empty, get, insert, from_entries, nat_cmp-IsAntisymmetric}
+use Rattle.std.specs.FinMap.{empty, get, from_entries, nat_cmp-IsAntisymmetric}
 use Rattle.saber_plan.specs.declared.rows.Row.{Row}
 use Rattle.saber_plan.specs.declared.windows.Mark.{Mark}
 use Rattle.saber_plan.specs.Trees.{Tree}
 use Rattle.saber_plan.specs.Windows.{Placed, placed_after, mark_after}
 use Rattle.saber_plan.specs.Answers.{frame}
-use Rattle.saber_plan.specs.Merges.{join, joined, both}
+use Rattle.saber_plan.specs.Merges.{join, both}
 use Rattle.saber_plan.specs.Parts.{Part, no_part, group_part, merge}
 use Rattle.saber_plan.specs.Tasks.{Parts}
 use Rattle.saber_plan.specs.MapFacts.{get-both, both-assoc, both-empty_right, take_one}
@@ -18,7 +18,7 @@ use Rattle.saber_laws.specs.Groups.{GroupsJoin}
 use Rattle.saber_laws.specs.Parts.{MergeIsAssociative}
 use Rattle.saber_partial.specs.Tallies.{CanMerge}
 use Rattle.saber_partial.specs.PartLaws.{OfRows}
-use Rattle.saber_partial.specs.Panes.{panes_in, panes_here, pane_of, pane_part, in_pane, is_counted, counted, or_none, with_part, with_row_in, PanesOf, RowsRoom}
+use Rattle.saber_partial.specs.Panes.{panes_in, pane_of, in_pane, is_counted, counted, or_none, with_part, with_row_in, PanesOf, RowsRoom}
 use Rattle.saber_partial.proofs.Counted.{groups_of_rows, none_of_rows, more_rows, small_merge, small_stay}
 use Rattle.saber_plan.specs.RowFacts.{placed_more}
 use Rattle.saber_plan.specs.PartFacts.{if_any}

@@ -18,7 +18,7 @@ use Rattle.saber_plan.specs.Tasks.{Parts}
 use Rattle.saber_plan.specs.MapFacts.{equal_if, take_one, first_alone, rest_rises}
 use Rattle.saber_plan.specs.TreeFacts.{written, inserted, looked_up}
 use Rattle.saber_partial.specs.Tallies.{CanMerge}
-use Rattle.saber_partial.specs.Panes.{seen_panes, with_part, or_none, CanTakeIn}
+use Rattle.saber_partial.specs.Panes.{seen_panes, CanTakeIn}
 
 abbrev itself : {A : Type 0} → A → A
 itself x = x

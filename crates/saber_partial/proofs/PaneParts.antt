@@ -1,26 +1,24 @@
 -- The merge of a window's panes is its part.
-use Rattle.std.proofs.Common.{◌≡◌, ℕ, suc, ◌+◌, ◌-◌, ◌*◌, ◌/◌, ◌≤◌, ◌<◌, List, [], ◌∷◌, map, filter, length, take, slice_range, Bool, true, false, cond, ◌&&◌, nat_le, nat_lt, refl, sym, ◌∙◌, ap, ap₂, subst, ℤ, arith}
+use Rattle.std.proofs.Common.{◌≡◌, ℕ, ◌-◌, ◌*◌, ◌/◌, ◌≤◌, List, [], filter, length, slice_range, Bool, true, false, ◌&&◌, nat_le, nat_lt, refl, sym, ◌∙◌, ap, ap₂, subst, arith}
 use Rattle.std.proofs.lemmas.Bool.Decides.{nat_tests}
 use Rattle.std.proofs.lemmas.List.{take_all}
 use Rattle.saber_plan.specs.declared.rows.Row.{Row}
-use Rattle.saber_plan.specs.declared.rows.Side.{Side}
 use Rattle.saber_plan.specs.declared.rows.Side.TheVariants.{Left, Right}
-use Rattle.saber_plan.specs.declared.windows.Mark.{Mark}
 use Rattle.saber_plan.specs.declared.windows.Measure.{Measure}
 use Rattle.saber_plan.specs.declared.windows.Measure.TheVariants.{Rows, Range}
 use Rattle.saber_plan.specs.declared.plans.Shape.TheVariants.{Group}
 use Rattle.saber_plan.specs.Trees.{Tree}
 use Rattle.saber_plan.specs.Values.{passes}
-use Rattle.saber_plan.specs.Windows.{Frame, one, Fits, Placed, time, own, placed, placed_after, step_mark, no_rows, from, has, spans, by_side, count_to, Ordered, inside}
+use Rattle.saber_plan.specs.Windows.{one, Fits, Placed, time, own, placed, no_rows, has, spans, by_side, count_to, Ordered, inside}
 use Rattle.saber_plan.specs.Needs.{first_window, past_window}
 use Rattle.saber_plan.specs.Answers.{frame, passing, by_shape}
-use Rattle.saber_plan.specs.Parts.{Part, no_part, group_part, pair_part, merge, part}
+use Rattle.saber_plan.specs.Parts.{no_part, group_part, pair_part, part}
 use Rattle.saber_plan.specs.RowFacts.{length-placed}
 use Rattle.saber_laws.specs.Groups.{GroupsJoin}
 use Rattle.saber_laws.specs.Parts.{MergeHasUnit, MergeIsAssociative}
 use Rattle.saber_laws.specs.Needs.{RowsSpan}
 use Rattle.saber_laws.specs.Plans.{OneWindow}
-use Rattle.saber_partial.specs.Panes.{divisor, panes_in, panes_here, pane_of, point_by, first_pane, pane_count, is_counted, counted, window_part}
+use Rattle.saber_partial.specs.Panes.{divisor, panes_here, pane_of, point_by, first_pane, pane_count, is_counted, counted, window_part}
 use Rattle.saber_partial.proofs.Divisors.{is_divisor, divisor_some}
 use Rattle.saber_partial.proofs.PaneRows.{values_in}
 use Rattle.saber_partial.proofs.PaneWindows.{Rises, rises-filter, within, window_rows}

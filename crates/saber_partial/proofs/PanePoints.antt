@@ -1,8 +1,7 @@
 -- Points of rows, cut into panes: they don't fall, and the panes of a window are those of its points.
-use Rattle.std.proofs.Common.{◌≡◌, ℕ, zero, suc, ◌+◌, ◌*◌, ◌/◌, ◌≤◌, ◌<◌, List, [], ◌∷◌, map, filter, Bool, true, false, cond, not, ◌&&◌, nat_le, nat_lt, Some, refl, sym, ◌∙◌, ap, ap₂, subst, pos, arith}
+use Rattle.std.proofs.Common.{◌≡◌, ℕ, suc, ◌+◌, ◌*◌, ◌/◌, ◌≤◌, ◌<◌, List, [], ◌∷◌, map, filter, Bool, true, false, cond, not, ◌&&◌, nat_le, nat_lt, Some, refl, sym, ◌∙◌, ap, ap₂, subst, pos, arith}
 use Rattle.std.specs.Int.{◌∣◌}
 use Rattle.std.proofs.lemmas.Bool.{both_ways, leb-true, leb-false, le-leb, lt-leb}
-use Rattle.std.proofs.lemmas.Bool.Decides.{nat_tests}
 use Rattle.std.proofs.lemmas.Nat.{le-div}
 use Rattle.std.proofs.Math.Nat.{div-mul-le_self, div-lt_iff_lt-mul, le-div_iff_mul-le, div-mul_cancel, dvd-mul_left_of_dvd}
 use Rattle.saber_plan.specs.declared.rows.Row.{Row}
@@ -11,7 +10,7 @@ use Rattle.saber_plan.specs.declared.windows.Mark.{Mark}
 use Rattle.saber_plan.specs.declared.windows.Measure.{Measure}
 use Rattle.saber_plan.specs.declared.windows.Measure.TheVariants.{Rows, Range}
 use Rattle.saber_plan.specs.Rows.{stamp}
-use Rattle.saber_plan.specs.Windows.{Placed, time, placed_after, step_mark, by_side, spans, Ordered, in_order, can_follow}
+use Rattle.saber_plan.specs.Windows.{time, placed_after, step_mark, by_side, spans, Ordered, in_order, can_follow}
 use Rattle.saber_plan.specs.ListFacts.{Each, each-weaker}
 use Rattle.saber_partial.specs.Panes.{point_by}
 use Rattle.saber_partial.proofs.PaneWindows.{Rises, within}

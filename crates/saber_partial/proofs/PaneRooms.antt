@@ -1,9 +1,8 @@
 -- That callers meet what panes ask.
-use Rattle.std.proofs.Common.{◌≡◌, ℕ, zero, suc, ◌+◌, ◌≤◌, ◌<◌, ◌^◌, List, [], ◌∷◌, map, filter, fold, length, Bool, true, false, cond, ◌&&◌, ◌||◌, ◌==◌, nat_le, nat_lt, Option, Some, None, refl, sym, ◌∙◌, ap, ap₂, subst, nat_cmp, arith}
+use Rattle.std.proofs.Common.{◌≡◌, ℕ, zero, suc, ◌+◌, ◌≤◌, ◌^◌, List, [], ◌∷◌, filter, fold, length, Bool, true, false, cond, ◌||◌, ◌==◌, nat_le, Option, Some, None, refl, sym, ◌∙◌, ap, arith}
 use Rattle.std.specs.List.{sum_by}
 use Rattle.std.proofs.lemmas.Bool.{both_ways}
 use Rattle.std.proofs.lemmas.Bool.Decides.{nat_tests}
-use Rattle.std.proofs.lemmas.List.Sums.{sum_by-append}
 use Rattle.std.specs.FinMap.{get, retain_keys, get-retain_keys, nat_cmp-IsAntisymmetric}
 use Rattle.saber_plan.specs.declared.rows.Row.{Row}
 use Rattle.saber_plan.specs.declared.windows.Mark.{Mark}
@@ -14,8 +13,7 @@ use Rattle.saber_plan.specs.Parts.{Part, no_part, merge}
 use Rattle.saber_plan.specs.Tasks.{Parts}
 use Rattle.saber_plan.specs.ListFacts.{few_pass}
 use Rattle.saber_plan.specs.RowFacts.{length-placed}
-use Rattle.saber_partial.specs.PartLaws.{OfRows}
-use Rattle.saber_partial.specs.Panes.{panes_in, panes_here, pane_of, in_pane, is_counted, counted, or_none, merged, first_pane, pane_count, window_part, PanesOf, CanTakeIn, RowsRoom, WindowRoom}
+use Rattle.saber_partial.specs.Panes.{panes_here, pane_of, in_pane, is_counted, counted, or_none, first_pane, pane_count, window_part, PanesOf, CanTakeIn, RowsRoom, WindowRoom}
 use Rattle.saber_partial.proofs.Counted.{none_of_rows, small_merge}
 use Rattle.saber_partial.proofs.PaneWindows.{within}
 use Rattle.saber_partial.proofs.PaneMerging.{from-none, from-first, sum_first}

@@ -1,21 +1,19 @@
 -- What the panes of rows have, and that later rows are taken in.
-use Rattle.std.proofs.Common.{◌≡◌, ℕ, List, [], ◌∷◌, ◌++◌, map, filter, length, Bool, true, false, cond, ◌==◌, Option, Some, None, refl, sym, ◌∙◌, ap, ap₂, subst, nat_cmp, append-nil, ℤ, arith}
+use Rattle.std.proofs.Common.{◌≡◌, ℕ, List, [], ◌∷◌, ◌++◌, map, Bool, true, false, cond, ◌==◌, Option, Some, refl, sym, ◌∙◌, ap, ap₂, nat_cmp, append-nil, ℤ, arith}
 use Rattle.std.proofs.lemmas.Bool.Decides.{nat_tests}
 use Rattle.std.proofs.lemmas.Bool.{eqb-true}
 use Rattle.std.proofs.lemmas.List.{map-append}
 use Rattle.std.proofs.lemmas.List.Elements.{filter-append}
-use Rattle.std.proofs.lemmas.List.Sums.{fold-append}
 use Rattle.std.specs.Cmp.{nat_cmp_total}
 use Rattle.std.specs.Ordering.{eq_by_cmp}
-use Rattle.std.specs.FinMap.{get, from_entries, find, get-from_entries, same_map, nat_cmp-IsAntisymmetric}
+use Rattle.std.specs.FinMap.{get, find, get-from_entries, same_map, nat_cmp-IsAntisymmetric}
 use Rattle.saber_plan.specs.declared.rows.Row.{Row}
 use Rattle.saber_plan.specs.declared.windows.Mark.{Mark}
 use Rattle.saber_plan.specs.Trees.{Tree}
-use Rattle.saber_plan.specs.Windows.{Placed, placed_after, mark_after, step_mark}
+use Rattle.saber_plan.specs.Windows.{Placed, placed_after, mark_after}
 use Rattle.saber_plan.specs.Answers.{frame}
 use Rattle.saber_plan.specs.Merges.{join, both}
 use Rattle.saber_plan.specs.Parts.{Part, no_part, group_part, merge}
-use Rattle.saber_plan.specs.Tasks.{Parts}
 use Rattle.saber_plan.specs.MapFacts.{get-both}
 use Rattle.saber_plan.specs.RowFacts.{placed-append}
 use Rattle.saber_plan.specs.PartFacts.{if_any}

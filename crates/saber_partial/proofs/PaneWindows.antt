@@ -1,27 +1,18 @@
 -- A window is its panes, merged in order.
-use Rattle.std.proofs.Common.{◌≡◌, ℕ, zero, suc, ◌+◌, ◌*◌, ◌/◌, ◌-◌, ◌≤◌, ◌<◌, List, [], ◌∷◌, ◌++◌, map, filter, fold, length, take, drop, slice_range, Bool, true, false, cond, ◌&&◌, ◌||◌, ◌==◌, nat_le, nat_lt, Option, Some, None, refl, sym, ◌∙◌, ap, ap₂, subst, ℤ, pos, nat_abs, arith}
+use Rattle.std.proofs.Common.{◌≡◌, ℕ, zero, suc, ◌+◌, ◌≤◌, ◌<◌, List, [], ◌∷◌, ◌++◌, filter, fold, Bool, true, false, cond, ◌&&◌, ◌||◌, ◌==◌, nat_le, nat_lt, refl, sym, ◌∙◌, ap, ap₂, arith}
 use Rattle.std.proofs.lemmas.Bool.{both_ways}
 use Rattle.std.proofs.lemmas.Bool.Decides.{nat_tests}
 use Rattle.std.proofs.lemmas.List.{map-append}
-use Rattle.std.proofs.Math.Seq.{take-length}
 use Rattle.std.specs.FinMap.{get}
-use Rattle.saber_plan.specs.declared.rows.Row.{Row}
-use Rattle.saber_plan.specs.declared.rows.Side.{Side}
-use Rattle.saber_plan.specs.declared.rows.Side.TheVariants.{Left, Right}
-use Rattle.saber_plan.specs.declared.windows.Mark.{Mark}
-use Rattle.saber_plan.specs.declared.windows.Measure.{Measure}
-use Rattle.saber_plan.specs.declared.windows.Measure.TheVariants.{Rows, Range}
 use Rattle.saber_plan.specs.Trees.{Tree}
-use Rattle.saber_plan.specs.Rows.{stamp}
-use Rattle.saber_plan.specs.Windows.{Frame, one, Placed, time, placed, placed_after, mark_after, step_mark, no_rows, from, has, spans, by_side, Ordered, in_order, inside}
-use Rattle.saber_plan.specs.Answers.{frame, passing}
+use Rattle.saber_plan.specs.Windows.{Placed, from}
+use Rattle.saber_plan.specs.Answers.{frame}
 use Rattle.saber_plan.specs.ListFacts.{Each, each-filter, each-weaker, dropped}
-use Rattle.saber_plan.specs.Merges.{join, both}
 use Rattle.saber_plan.specs.Parts.{Part, no_part, group_part, merge}
 use Rattle.saber_plan.specs.Tasks.{Parts}
 use Rattle.saber_laws.specs.Groups.{GroupsJoin}
 use Rattle.saber_laws.specs.Parts.{MergeHasUnit, MergeIsAssociative}
-use Rattle.saber_partial.specs.Panes.{panes_in, pane_of, pane_part, in_pane, or_none, merged}
+use Rattle.saber_partial.specs.Panes.{panes_in, pane_of, in_pane, or_none, merged}
 use Rattle.saber_partial.proofs.PaneRows.{pane_or_none, values_in}
 
 -- ---- panes in a row

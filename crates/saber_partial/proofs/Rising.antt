@@ -1,24 +1,26 @@
 -- Entries in one list, by key, as a finite map: look-ups, writes and inserts.
-use Rattle.std.proofs.Common.{◌≡◌, ℕ, zero, suc, ◌<◌, ◌≤◌, T, List, [], ◌∷◌, ◌++◌, length, get_or, take, drop, ℤ, Bool, true, false, cond, Option, Some, None, refl, sym, ◌∙◌, ap, ap₂, subst, ⊎_elim, inl, inr, ◌⊎◌, arith}
+use Rattle.std.proofs.Common.{◌≡◌, ℕ, zero, suc, ◌+◌, ◌<◌, ◌≤◌, T, List, [], ◌∷◌, length, get_or, drop, ℤ, Bool, true, false, cond, Option, Some, None, refl, sym, ◌∙◌, ap, ap₂, subst, ⊎_elim, arith}
 use Rattle.std.proofs.Math.ListN.{set}
+use Rattle.std.proofs.Math.Nat.{eq-or-lt_of_le}
 use Rattle.std.specs.declared.cmp.Ordering.{Ordering}
 use Rattle.std.specs.declared.cmp.Ordering.TheVariants.{Less, Equal, Greater}
-use Rattle.std.specs.Cmp.{tied_itself, alike_right}
-use Rattle.std.specs.Ordering.{eq_by_cmp, is_eq, is_lt, ordering_index, ordering_reverse}
+use Rattle.std.specs.Cmp.{tied_itself}
+use Rattle.std.specs.Ordering.{eq_by_cmp, is_eq, is_lt, ordering_reverse}
 use Rattle.std.specs.List.{insert}
-use Rattle.std.specs.List.Sorted.{IsNonDecreasingBy}
 use Rattle.std.specs.Map.{keys_of}
-use Rattle.std.specs.FinMap.{get, find, put, is_sorted, get-from_entries, get-insert, same_map}
+use Rattle.std.specs.FinMap.{get, find, put, get-from_entries, get-insert, same_map}
 use Rattle.std.specs.FinMap as finite
 use Rattle.std.specs.FinMap.Entries.{below_all, by_order, find-put, find_tied, is_sorted-put}
 use Rattle.saber_plan.specs.Answers.{key_cmp}
-use Rattle.saber_plan.specs.Parts.{Part, Numbers, join_numbers}
+use Rattle.saber_plan.specs.Parts.{Numbers, join_numbers}
 use Rattle.saber_plan.specs.Merges.{joined}
 use Rattle.saber_plan.specs.ListFacts.{T_parts}
 use Rattle.saber_plan.specs.MapFacts.{equal_if, first_alone, rest_rises}
 use Rattle.saber_plan.specs.PartFacts.{total, exact}
-use Rattle.saber_partial.specs.Tallies.{CanMerge, with_row}
-use Rattle.saber_partial.specs.Sorted.{part_of, Rises, IsAt, IsGap, CanJoinAll}
+use Rattle.saber_partial.specs.declared.layout.Layout.{Layout}
+use Rattle.saber_partial.specs.Flat.{entry_in}
+use Rattle.saber_partial.specs.Tallies.{with_row}
+use Rattle.saber_partial.specs.Sorted.{part_of, Rises, IsAt, IsGap, JoinsFit, CanJoinAll}
 use Rattle.saber_partial.proofs.Merging.{not_both}
 
 -- ---- order
@@ -45,29 +47,20 @@ apart (e ∷ es) i zero d s h l = absurd (omega (arith, h))
 apart (e ∷ es) zero (suc j) d s h l = below_at e.0 es j d (T_parts _ _ s).0 (omega (arith, l))
 apart (e ∷ es) (suc i) (suc j) d s h l = apart es i j d (rest_rises key_cmp e es s) (omega (arith, h)) (omega (arith, l))
 
-index_most : (o : Ordering) → ordering_index o ≤ 2
-index_most Less = omega arith
-index_most Equal = omega arith
-index_most Greater = omega arith
+-- keys before one that is less are less, and those behind a greater one are greater
+pub less_before : (es : List (List ℤ × Numbers)) (k : List ℤ) (i j : ℕ) (d : List ℤ × Numbers) → Rises es → i ≤ j → j < length es
+    → key_cmp (get_or es j d).0 k ≡ Less → key_cmp (get_or es i d).0 k ≡ Less
+less_before es k i j d s h l e =
+    ⊎_elim (λ (w : i ≡ j). ap (λ n. key_cmp (get_or es n d).0 k) w ∙ e)
+    (λ (w : i < j). total.trans (get_or es i d).0 (get_or es j d).0 k (apart es i j d s w l) e)
+    (eq-or-lt_of_le h)
 
-index_case : (a b k : List ℤ) (r : Ordering) → key_cmp a b ≡ Less → key_cmp b k ≡ r → ordering_index (key_cmp a k) ≤ ordering_index r
-index_case a b k Less e f = let w : ordering_index (key_cmp a k) ≡ 0 = ap ordering_index (total.trans a b k e f) in omega (arith, w)
-index_case a b k Equal e f = let w : ordering_index (key_cmp a k) ≡ 0 = ap ordering_index (sym (alike_right total b k a f) ∙ e) in omega (arith, w)
-index_case a b k Greater e f = index_most (key_cmp a k)
-
-rising_case : (es : List (List ℤ × Numbers)) (k : List ℤ) (i j : ℕ) (d : List ℤ × Numbers) → Rises es → (i ≡ j) ⊎ (i < j) → j < length es → ordering_index (key_cmp (get_or es i d).0 k) ≤ ordering_index (key_cmp (get_or es j d).0 k)
-rising_case es k i j d s (inl e) h = let w = ap (λ n. ordering_index (key_cmp (get_or es n d).0 k)) e in omega (arith, w)
-rising_case es k i j d s (inr l) h = index_case (get_or es i d).0 (get_or es j d).0 k _ (apart es i j d s l h) refl
-
-equal_or_less : (i j : ℕ) → i ≤ j → (i ≡ j) ⊎ (i < j)
-equal_or_less zero zero h = inl refl
-equal_or_less zero (suc j) h = inr (omega arith)
-equal_or_less (suc i) zero h = absurd (omega (arith, h))
-equal_or_less (suc i) (suc j) h = ⊎_elim (λ e. inl (ap suc e)) (λ l. inr (omega (arith, l))) (equal_or_less i j (omega (arith, h)))
-
--- compared with a key, entries come less, equal and greater
-pub rising_by : (es : List (List ℤ × Numbers)) (k : List ℤ) → Rises es → IsNonDecreasingBy (λ e. ordering_index (key_cmp e.0 k)) es
-rising_by es k s = λ i j d h l. rising_case es k i j d s (equal_or_less i j h) l
+pub greater_behind : (es : List (List ℤ × Numbers)) (k : List ℤ) (i j : ℕ) (d : List ℤ × Numbers) → Rises es → i ≤ j → j < length es
+    → key_cmp (get_or es i d).0 k ≡ Greater → key_cmp (get_or es j d).0 k ≡ Greater
+greater_behind es k i j d s h l e =
+    ⊎_elim (λ (w : i ≡ j). ap (λ n. key_cmp (get_or es n d).0 k) (sym w) ∙ e)
+    (λ (w : i < j). turned k (get_or es j d).0 (total.trans k (get_or es i d).0 (get_or es j d).0 (turned_back (get_or es i d).0 k e) (apart es i j d s w l)))
+    (eq-or-lt_of_le h)
 
 -- ---- look-ups
 
@@ -127,7 +120,7 @@ put_rises k n es s = is_sorted-put key_cmp total k n es s
 
 -- ---- two lists
 
-pub can_all : (es fs : List (List ℤ × Numbers)) → Rises es → Rises fs → CanMerge (part_of es) (part_of fs) → CanJoinAll es fs
+pub can_all : (es fs : List (List ℤ × Numbers)) → Rises es → Rises fs → JoinsFit (part_of es) (part_of fs) → CanJoinAll es fs
 can_all es fs s t can = record { at = λ i j d e h l same. can.at (get_or es i d).0 _ _ (get_there es (get_or es i d).0 i d s h refl) (get_there fs (get_or es i d).0 j e t l (sym same)) }
 
 -- keys that are the same are so at each place
@@ -140,29 +133,47 @@ same_at (x ∷ es) (y ∷ fs) (suc i) d e h l =
     let w = same_at es fs i d e rest (omega (arith, l)) in
     let low = w.0 in (omega (arith, low), w.1)
 
+-- keys are the same if they are at a place and behind it
+pub keys_more : (es fs : List (List ℤ × Numbers)) (i : ℕ) → i < length es → i < length fs
+    → ((d : List ℤ × Numbers) → (get_or es i d).0 ≡ (get_or fs i d).0)
+    → keys_of (drop (i + 1) es) ≡ keys_of (drop (i + 1) fs) → keys_of (drop i es) ≡ keys_of (drop i fs)
+keys_more [] fs i l m h r = absurd (omega (arith, l))
+keys_more (e ∷ es) [] i l m h r = absurd (omega (arith, m))
+keys_more (e ∷ es) (f ∷ fs) zero l m h r = ap₂ (λ (k : List ℤ) (ks : List (List ℤ)). k ∷ ks) (h e) r
+keys_more (e ∷ es) (f ∷ fs) (suc i) l m h r =
+    let next : suc i + 1 ≡ suc (i + 1) = omega arith in
+    keys_more es fs i (omega (arith, l)) (omega (arith, m)) h (subst (λ n. keys_of (drop n (e ∷ es)) ≡ keys_of (drop n (f ∷ fs))) next r)
+
 -- ---- a key's entry, read and written
 
-pub read_at : (es : List (List ℤ × Numbers)) (k : List ℤ) (i : ℕ) (x : List ℤ × Numbers) → Rises es → IsAt es k i → x ≡ get_or es i x → get (part_of es) k ≡ Some x.1
-read_at es k i x s h e = get_there es k i x s h.within (h.at x) ∙ ap (λ (y : List ℤ × Numbers). Some y.1) (sym e)
+-- a row read by a layout that is the same
+pub read_alike : (l m : Layout) (xs : List ℤ) (e : List ℤ × Numbers) → l ≡ m → entry_in m xs ≡ e → entry_in l xs ≡ e
+read_alike l m xs e h f = ap (λ (n : Layout). entry_in n xs) h ∙ f
+
+pub read_at : (es : List (List ℤ × Numbers)) (k : List ℤ) (i : ℕ) (d : List ℤ × Numbers) → Rises es → IsAt es k i → get (part_of es) k ≡ Some (get_or es i d).1
+read_at es k i d s h = get_there es k i d s h.within (h.at d)
 
 -- joined with more
-module _ (es : List (List ℤ × Numbers)) (k : List ℤ) (i : ℕ) (x n : List ℤ × Numbers) (v : Numbers) (s : Rises es) (h : IsAt es k i) (e : x ≡ get_or es i x) (f : n ≡ (x.0, join_numbers x.1 v)) where
-  wrote : set es i n ≡ put key_cmp k (join_numbers x.1 v) es
-  wrote = ap (set es i) (f ∙ ap (λ l. (l, join_numbers x.1 v)) (ap (λ (y : List ℤ × Numbers). y.0) e ∙ h.at x)) ∙ set_put es k i (join_numbers x.1 v) x s h.within (h.at x)
+module _ (es gs : List (List ℤ × Numbers)) (k : List ℤ) (i : ℕ) (d : List ℤ × Numbers) (v : Numbers) (s : Rises es) (h : IsAt es k i)
+    (new : gs ≡ set es i ((get_or es i d).0, join_numbers (get_or es i d).1 v)) where
+  wrote : gs ≡ put key_cmp k (join_numbers (get_or es i d).1 v) es
+  wrote = new ∙ ap (λ (l : List ℤ). set es i (l, join_numbers (get_or es i d).1 v)) (h.at d)
+      ∙ set_put es k i (join_numbers (get_or es i d).1 v) d s h.within (h.at d)
 
-  pub wrote_rises : Rises (set es i n)
-  wrote_rises = subst Rises (sym wrote) (put_rises k (join_numbers x.1 v) es s)
+  pub wrote_rises : Rises gs
+  wrote_rises = subst Rises (sym wrote) (put_rises k (join_numbers (get_or es i d).1 v) es s)
 
-  pub wrote_part : part_of (set es i n) ≡ with_row (part_of es) k v
-  wrote_part = ap part_of wrote ∙ put_part k (join_numbers x.1 v) es ∙ ap (λ o. finite.insert (part_of es) k (joined join_numbers o v)) (sym (read_at es k i x s h e))
+  pub wrote_part : part_of gs ≡ with_row (part_of es) k v
+  wrote_part = ap part_of wrote ∙ put_part k (join_numbers (get_or es i d).1 v) es
+      ∙ ap (λ o. finite.insert (part_of es) k (joined join_numbers o v)) (sym (read_at es k i d s h))
 
 -- a new entry
-module _ (es : List (List ℤ × Numbers)) (k : List ℤ) (i : ℕ) (n : List ℤ × Numbers) (v : Numbers) (s : Rises es) (h : IsGap es k i) (f : n ≡ (k, v)) where
-  filled : insert es i n ≡ put key_cmp k v es
-  filled = ap (insert es i) f ∙ insert_put es k i v h
+module _ (es gs : List (List ℤ × Numbers)) (k : List ℤ) (i : ℕ) (v : Numbers) (s : Rises es) (h : IsGap es k i) (new : gs ≡ insert es i (k, v)) where
+  filled : gs ≡ put key_cmp k v es
+  filled = new ∙ insert_put es k i v h
 
-  pub filled_rises : Rises (insert es i n)
+  pub filled_rises : Rises gs
   filled_rises = subst Rises (sym filled) (put_rises k v es s)
 
-  pub filled_part : part_of (insert es i n) ≡ with_row (part_of es) k v
+  pub filled_part : part_of gs ≡ with_row (part_of es) k v
   filled_part = ap part_of filled ∙ put_part k v es ∙ ap (λ o. finite.insert (part_of es) k (joined join_numbers o v)) (sym (get_gap es k i h))

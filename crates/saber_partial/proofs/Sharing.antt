@@ -1,5 +1,5 @@
 -- Numbers by kind in one list, joined with those of later rows.
-use Rattle.std.proofs.Common.{◌≡◌, ℕ, zero, suc, ◌+◌, ◌*◌, ◌^◌, ◌≤◌, List, [], ◌∷◌, ◌++◌, length, take, drop, ℤ, ◌+ℤ◌, nat_abs, sym, ◌∙◌, ap, arith}
+use Rattle.std.proofs.Common.{◌≡◌, ℕ, ◌+◌, ◌*◌, ◌^◌, ◌≤◌, List, [], ◌∷◌, ◌++◌, length, take, drop, ℤ, ◌+ℤ◌, nat_abs, sym, ◌∙◌, ap, arith}
 use Rattle.std.proofs.lemmas.Int.{ints}
 use Rattle.std.proofs.lemmas.List.{take_at, drop_at, length-append, length-drop, length-take-le}
 use Rattle.std.specs.Int.{int_min, int_max}
@@ -7,7 +7,7 @@ use Rattle.std.specs.List.{AllByRecursion}
 use Rattle.saber_plan.specs.Parts.{Numbers, zip_by, join_numbers}
 use Rattle.saber_partial.specs.declared.gather.Gather.TheVariants.{Sums}
 use Rattle.saber_partial.specs.Gathering.{HasRoom}
-use Rattle.saber_partial.specs.Kinds.{SumsFit, Fits128, joined_behind, joined_list}
+use Rattle.saber_partial.specs.Kinds.{joined_behind, joined_list}
 use Rattle.saber_partial.specs.Tallies.{numbers_in, IsTally, CanJoin}
 use Rattle.saber_partial.proofs.Zips.{zip_long, zip_earlier}
 
@@ -31,13 +31,6 @@ kinds_long s l g xs os ps qs h c d e =
     let b = behind_long l g (drop s xs) ps qs (omega (arith, h, low)) d e in
     let one = length-append (zip_by ◌+ℤ◌ (take s xs) os) (joined_behind l g (drop s xs) ps qs) in
     omega (arith, h, low, a, b, one)
-
-pub joined_long : (s l g : ℕ) (xs ys : List ℤ) → s + l + g ≤ length xs → length xs ≡ length ys → length (joined_list s l g xs (take s ys) (take l (drop s ys)) (take g (drop l (drop s ys)))) ≡ length xs
-joined_long s l g xs ys h e =
-    let low = length-drop s ys in
-    let more = length-drop l (drop s ys) in
-    kinds_long s l g xs (take s ys) (take l (drop s ys)) (take g (drop l (drop s ys))) h
-    (length-take-le s ys (omega (arith, h, e))) (length-take-le l (drop s ys) (omega (arith, h, e, low))) (length-take-le g (drop l (drop s ys)) (omega (arith, h, e, low, more)))
 
 -- ---- the numbers of a list
 
@@ -75,34 +68,6 @@ module _ (m s l g : ℕ) (xs : List ℤ) (b : Numbers) (h : s + l + g ≤ length
       ∙ ap (λ t. record { count = m + b.count; sums = zip_by ◌+ℤ◌ (take s xs) b.sums; leasts = zip_by int_min (take l (drop s xs)) b.leasts; greatests = zip_by int_max (take g (drop l (drop s xs))) b.greatests; firsts = t })
       (sym (zip_earlier (drop g (drop l (drop s xs))) b.firsts c.firsts))
 
--- lists whose numbers can be joined have as many of each kind
-module _ (m s l g : ℕ) (xs : List ℤ) (n s1 l1 g1 : ℕ) (ys : List ℤ) (h : s + l + g ≤ length xs) (k : s1 + l1 + g1 ≤ length ys) (c : CanJoin (numbers_in m s l g xs) (numbers_in n s1 l1 g1 ys)) where
-  same_sums : s ≡ s1
-  same_sums = sym (own_sums m s l g xs (numbers_in n s1 l1 g1 ys) h c) ∙ length-take-le s1 ys (omega (arith, k))
-
-  same_leasts : l ≡ l1
-  same_leasts = let other = length-drop s1 ys in sym (own_leasts m s l g xs (numbers_in n s1 l1 g1 ys) h c) ∙ length-take-le l1 (drop s1 ys) (omega (arith, k, other))
-
-  same_greatests : g ≡ g1
-  same_greatests =
-      let other = length-drop s1 ys in let others = length-drop l1 (drop s1 ys) in
-      sym (own_greatests m s l g xs (numbers_in n s1 l1 g1 ys) h c) ∙ length-take-le g1 (drop l1 (drop s1 ys)) (omega (arith, k, other, others))
-
-  pub same_long : length xs ≡ length ys
-  same_long =
-      let low = length-drop s xs in let more = length-drop l (drop s xs) in let most = length-drop g (drop l (drop s xs)) in
-      let other = length-drop s1 ys in let others = length-drop l1 (drop s1 ys) in let rest = length-drop g1 (drop l1 (drop s1 ys)) in
-      let a = same_sums in let b = same_leasts in let d = same_greatests in let e = c.firsts in
-      omega (arith, h, k, low, more, most, other, others, rest, a, b, d, e)
-
-  pub joined_view : numbers_in (m + n) s l g (joined_list s l g xs (take s ys) (take l (drop s ys)) (take g (drop l (drop s ys)))) ≡ join_numbers (numbers_in m s l g xs) (numbers_in n s1 l1 g1 ys)
-  joined_view =
-      (λ j. numbers_in (m + n) s l g (joined_list s l g xs (take (same_sums j) ys) (take (same_leasts j) (drop (same_sums j) ys)) (take (same_greatests j) (drop (same_leasts j) (drop (same_sums j) ys)))))
-      ∙ kinds_view m s l g xs (numbers_in n s1 l1 g1 ys) h c
-
-  pub front_same : take s1 ys ≡ take s ys
-  front_same = ap (λ i. take i ys) (sym same_sums)
-
 -- ---- sums stay small
 
 abbrev AllSmall : ℕ → List ℤ → Type 0
@@ -122,15 +87,6 @@ join_is_tally a b g h c = let some = g.some in let few = c.counts in record {
   few = few;
   small = zip_small a.count b.count a.sums b.sums g.small h.small;
 }
-
-sum_fits : (m n : ℕ) (x y : ℤ) → m + n ≤ 2 ^ 40 → nat_abs x ≤ m * 2 ^ 86 → nat_abs y ≤ n * 2 ^ 86 → Fits128 (x +ℤ y)
-sum_fits m n x y k a b = (omega (arith, ints, k, a, b), omega (arith, ints, k, a, b))
-
-pub sums_fit : (m n : ℕ) (xs ys : List ℤ) → m + n ≤ 2 ^ 40 → length xs ≡ length ys → AllSmall m xs → AllSmall n ys → SumsFit xs ys
-sums_fit m n [] ys k e a b i l = absurd (omega (arith, l))
-sums_fit m n (x ∷ xs) [] k e a b i l = absurd (omega (arith, e))
-sums_fit m n (x ∷ xs) (y ∷ ys) k e a b zero l = sum_fits m n x y k a.0 b.0
-sums_fit m n (x ∷ xs) (y ∷ ys) k e a b (suc i) l = sums_fit m n xs ys k (omega (arith, e)) a.1 b.1 i (omega (arith, l))
 
 room_for : (n : ℕ) (x : ℤ) → n ≤ 2 ^ 40 → nat_abs x ≤ n * 2 ^ 86 → nat_abs x ≤ 2 ^ 126
 room_for n x k a = omega (arith, k, a)

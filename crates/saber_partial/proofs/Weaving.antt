@@ -1,20 +1,21 @@
 -- The entries of two lists by key, as the merge of two parts.
 use Rattle.std.proofs.Common.{◌≡◌, ℕ, ◌+◌, ◌<◌, T, List, [], ◌∷◌, ◌++◌, length, get_or, take, drop, append_assoc, append-nil, ◌⊎◌, inl, inr, ℤ, Bool, true, false, cond, Option, Some, None, refl, sym, ◌∙◌, ap, ap₂, subst, arith}
-use Rattle.std.proofs.lemmas.List.{drop_more, drop-set-lt, take_more_set}
+use Rattle.std.proofs.lemmas.List.{drop_more, drop-set-lt, get_or_push, length-set, take_more_set}
+use Rattle.std.proofs.Math.Seq.{set-append_seam}
 use Rattle.std.proofs.Math.ListN.{set}
 use Rattle.std.specs.declared.cmp.Ordering.{Ordering}
 use Rattle.std.specs.declared.cmp.Ordering.TheVariants.{Less, Equal, Greater}
-use Rattle.std.specs.Ordering.{eq_by_cmp, is_eq, is_lt}
+use Rattle.std.specs.Ordering.{eq_by_cmp, is_lt}
 use Rattle.std.specs.Map.{keys_of}
-use Rattle.std.specs.FinMap.{find, is_sorted, get-from_entries, same_map}
+use Rattle.std.specs.FinMap.{find, get-from_entries, same_map}
 use Rattle.std.specs.FinMap.Entries.{below_all, by_order, find_tied}
 use Rattle.saber_plan.specs.Answers.{key_cmp}
 use Rattle.saber_plan.specs.Merges.{join}
-use Rattle.saber_plan.specs.Parts.{Part, Numbers, join_numbers, merge}
+use Rattle.saber_plan.specs.Parts.{Numbers, join_numbers, merge}
 use Rattle.saber_plan.specs.ListFacts.{T_parts, and_T}
 use Rattle.saber_plan.specs.MapFacts.{equal_if, get-both, not_below, rest_rises, join-none}
 use Rattle.saber_plan.specs.PartFacts.{total, exact}
-use Rattle.saber_partial.specs.Sorted.{part_of, Rises, joined_each, weave, weave_in}
+use Rattle.saber_partial.specs.Sorted.{part_of, Rises, joined_each, weave}
 use Rattle.saber_partial.proofs.Rising.{less, turned_back}
 
 less_T : (o : Ordering) → o ≡ Less → T (is_lt o)
@@ -157,20 +158,53 @@ left_same gs es i d h l low =
     (cc, cc)
 
 -- one more entry joined
-module _ (gs es fs : List (List ℤ × Numbers)) (i : ℕ) (x y v : List ℤ × Numbers) (low : i < length es) (more : i < length fs) (long : length gs ≡ length es) (left : drop i gs ≡ drop i es) (is : x ≡ get_or gs i x)
-    (other : y ≡ get_or fs i y) (new : v ≡ (x.0, join_numbers x.1 y.1)) where
-  pub joined_left : drop (i + 1) (set gs i v) ≡ drop (i + 1) es
-  joined_left = drop-set-lt (i + 1) gs i v (omega arith) ∙ (left_same gs es i x left long low).1
+module _ (gs hs es fs : List (List ℤ × Numbers)) (i : ℕ) (d : List ℤ × Numbers) (low : i < length es) (more : i < length fs)
+    (long : length gs ≡ length es) (left : drop i gs ≡ drop i es)
+    (new : hs ≡ set gs i ((get_or gs i d).0, join_numbers (get_or gs i d).1 (get_or fs i d).1)) where
+  pub joined_long : length hs ≡ length es
+  joined_long = ap length new ∙ length-set gs i _ ∙ long
 
-  pub joined_done : take (i + 1) (set gs i v) ++ joined_each (drop (i + 1) es) (drop (i + 1) fs) ≡ take i gs ++ joined_each (drop i es) (drop i fs)
+  pub joined_left : drop (i + 1) hs ≡ drop (i + 1) es
+  joined_left = ap (drop (i + 1)) new ∙ drop-set-lt (i + 1) gs i _ (omega arith) ∙ (left_same gs es i d left long low).1
+
+  pub joined_done : take (i + 1) hs ++ joined_each (drop (i + 1) es) (drop (i + 1) fs) ≡ take i gs ++ joined_each (drop i es) (drop i fs)
   joined_done =
-      let mine : drop i es ≡ x ∷ drop (i + 1) es = drop_more es i x low ∙ ap (λ l. l ∷ drop (i + 1) es) (sym (is ∙ (left_same gs es i x left long low).0)) in
-      let theirs : drop i fs ≡ y ∷ drop (i + 1) fs = drop_more fs i y more ∙ ap (λ l. l ∷ drop (i + 1) fs) (sym other) in
+      let v : List ℤ × Numbers = ((get_or gs i d).0, join_numbers (get_or gs i d).1 (get_or fs i d).1) in
+      let mine : drop i es ≡ get_or gs i d ∷ drop (i + 1) es =
+      drop_more es i d low ∙ ap (λ e. e ∷ drop (i + 1) es) (sym (left_same gs es i d left long low).0) in
       let rest = joined_each (drop (i + 1) es) (drop (i + 1) fs) in
-      ap (λ l. l ++ rest) (take_more_set gs i v (omega (arith, low, long)))
+      ap (λ l. take (i + 1) l ++ rest) new
+      ∙ ap (λ l. l ++ rest) (take_more_set gs i v (omega (arith, low, long)))
       ∙ append_assoc (take i gs) (v ∷ []) rest
-      ∙ ap (λ w. take i gs ++ w ∷ rest) new
-      ∙ sym (ap₂ (λ l m. take i gs ++ joined_each l m) mine theirs)
+      ∙ sym (ap₂ (λ l m. take i gs ++ joined_each l m) mine (drop_more fs i d more))
+
+-- the next entry of two lists, by the order of their first ones
+module _ (out es fs : List (List ℤ × Numbers)) (i j : ℕ) (d : List ℤ × Numbers) (low : i < length es) (more : j < length fs) where
+  step : (x : List ℤ × Numbers) (rest : List (List ℤ × Numbers)) → weave (get_or es i d ∷ drop (i + 1) es) (get_or fs j d ∷ drop (j + 1) fs) ≡ x ∷ rest
+      → (out ++ x ∷ []) ++ rest ≡ out ++ weave (drop i es) (drop j fs)
+  step x rest h = append_assoc out (x ∷ []) rest ∙ ap (λ l. out ++ l) (sym (ap₂ weave (drop_more es i d low) (drop_more fs j d more) ∙ h))
+
+  pub woven_less : key_cmp (get_or es i d).0 (get_or fs j d).0 ≡ Less
+      → (out ++ get_or es i d ∷ []) ++ weave (drop (i + 1) es) (drop j fs) ≡ out ++ weave (drop i es) (drop j fs)
+  woven_less h = step (get_or es i d) (weave (drop (i + 1) es) (drop j fs))
+      (weave_less _ _ _ _ h ∙ ap (λ l. get_or es i d ∷ weave (drop (i + 1) es) l) (sym (drop_more fs j d more)))
+
+  pub woven_equal : key_cmp (get_or es i d).0 (get_or fs j d).0 ≡ Equal
+      → (out ++ ((get_or es i d).0, join_numbers (get_or es i d).1 (get_or fs j d).1) ∷ []) ++ weave (drop (i + 1) es) (drop (j + 1) fs) ≡ out ++ weave (drop i es) (drop j fs)
+  woven_equal h = step _ (weave (drop (i + 1) es) (drop (j + 1) fs)) (weave_equal _ _ _ _ h)
+
+  pub woven_greater : key_cmp (get_or es i d).0 (get_or fs j d).0 ≡ Greater
+      → (out ++ get_or fs j d ∷ []) ++ weave (drop i es) (drop (j + 1) fs) ≡ out ++ weave (drop i es) (drop j fs)
+  woven_greater h = step (get_or fs j d) (weave (drop i es) (drop (j + 1) fs))
+      (weave_greater _ _ _ _ h ∙ ap (λ l. get_or fs j d ∷ weave l (drop (j + 1) fs)) (sym (drop_more es i d low)))
+
+-- the last entry joined with more
+pub joined_last : (out : List (List ℤ × Numbers)) (e d : List ℤ × Numbers) (v : Numbers) (n : ℕ) → n ≡ length out
+    → set (out ++ e ∷ []) n ((get_or (out ++ e ∷ []) n d).0, join_numbers (get_or (out ++ e ∷ []) n d).1 v) ≡ out ++ (e.0, join_numbers e.1 v) ∷ []
+joined_last out e d v n h =
+    ap (λ (x : List ℤ × Numbers). set (out ++ e ∷ []) n (x.0, join_numbers x.1 v)) (get_or_push out e d n (sym h))
+    ∙ ap (λ m. set (out ++ e ∷ []) m (e.0, join_numbers e.1 v)) h
+    ∙ set-append_seam out e [] (e.0, join_numbers e.1 v)
 
 pub woven_end : (out xs ys : List (List ℤ × Numbers)) → (xs ≡ []) ⊎ (ys ≡ []) → (out ++ xs) ++ ys ≡ out ++ weave xs ys
 woven_end out xs ys (inl e) = append_assoc out xs ys ∙ ap (λ l. out ++ (l ++ ys)) e ∙ ap (λ l. out ++ weave l ys) (sym e)

@@ -10,9 +10,9 @@ use Rattle.saber_plan.specs.declared.expressions.Product.{Product}
 use Rattle.saber_plan.specs.declared.windows.Measure.{Measure}
 use Rattle.saber_plan.specs.declared.windows.Measure.TheVariants.{Rows, Range}
 use Rattle.saber_plan.specs.Trees.{Tree}
-use Rattle.saber_plan.specs.Windows.{Placed, no_rows, placed_after, from}
+use Rattle.saber_plan.specs.Windows.{no_rows, placed_after, from}
 use Rattle.saber_plan.specs.Answers.{frame}
-use Rattle.saber_partial.specs.Panes.{divisor, pane_of, first_pane, pane_count, counted}
+use Rattle.saber_partial.specs.Panes.{pane_of, first_pane, pane_count, counted}
 
 abbrev five : List Row
 five = record { side = Left; values = pos 0 ∷ pos 1 ∷ pos 10 ∷ [] } ∷ record { side = Left; values = pos 1 ∷ pos 1 ∷ pos 20 ∷ [] } ∷ record { side = Left; values = pos 2 ∷ pos 2 ∷ pos 5 ∷ [] }

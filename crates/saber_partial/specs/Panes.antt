@@ -1,7 +1,7 @@
 -- Panes: the points of a window's stream, cut at the greatest common divisor of its size and slide (Li et al. 2005, as in SABER 2016).
 -- So a window is some panes in a row.
-use Rattle.std.specs.Prelude.{◌≡◌, ℕ, zero, suc, ◌+◌, ◌*◌, ◌/◌, ◌%◌, ◌^◌, ◌≤◌, List, [], ◌∷◌, map, filter, fold, length, Bool, true, ◌&&◌, ◌==◌, nat_lt, nat_le, if◌then◌else◌, sum_by, Option, Some, None, ℤ}
-use Rattle.std.specs.FinMap.{get, insert, from_entries, retain_keys}
+use Rattle.std.specs.Prelude.{◌≡◌, ℕ, zero, suc, ◌+◌, ◌*◌, ◌/◌, ◌%◌, ◌^◌, ◌≤◌, List, [], ◌∷◌, map, filter, fold, length, Bool, true, ◌&&◌, ◌==◌, nat_lt, if◌then◌else◌, sum_by, Option, Some, None}
+use Rattle.std.specs.FinMap.{get, insert, from_entries}
 use Rattle.std.specs.Ordering.{nat_cmp}
 use Rattle.saber_plan.specs.declared.rows.Row.{Row}
 use Rattle.saber_plan.specs.declared.windows.Mark.{Mark}
@@ -15,7 +15,7 @@ use Rattle.saber_plan.specs.Values.{passes}
 use Rattle.saber_plan.specs.Windows.{Frame, unwindowed, one, two, Placed, time, placed_after, from}
 use Rattle.saber_plan.specs.Needs.{first_window, past_window}
 use Rattle.saber_plan.specs.Answers.{frame}
-use Rattle.saber_plan.specs.Merges.{joined, both}
+use Rattle.saber_plan.specs.Merges.{joined}
 use Rattle.saber_plan.specs.Parts.{Part, no_part, group_part, merge}
 use Rattle.saber_plan.specs.Tasks.{Parts}
 use Rattle.saber_partial.specs.Tallies.{CanMerge}

@@ -15,9 +15,10 @@ pub record OfItems (is : List Item) (a : Numbers) : Type 0 where
   pub greatests : length a.greatests ≡ length (greatest is)
   pub firsts : length a.firsts ≡ length (plain is)
 
--- a part of a query over at most n rows: the numbers that its items ask, of at most n rows a key
+-- a part of a query over at most n rows: keys of its columns, and the numbers that its items ask, of at most n rows a key
 pub record OfRows (q : Tree) (n : ℕ) (m : Part) : Type 0 where
   pub at : (k : List ℤ) (a : Numbers) → get m k ≡ Some a → (a.count ≤ n) × OfItems q.items a
+  pub keys : (k : List ℤ) (a : Numbers) → get m k ≡ Some a → length k ≡ length q.keys
 
 -- so are the groups of n rows
 abbrev pub GroupsAreOfRows : Type 0

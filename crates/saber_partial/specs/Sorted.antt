@@ -1,7 +1,7 @@
 -- Entries in one list, by key.
-use Rattle.std.specs.Prelude.{◌≡◌, ℕ, ◌<◌, ◌≤◌, T, List, [], ◌∷◌, length, get_or, ℤ}
+use Rattle.std.specs.Prelude.{◌≡◌, ℕ, ◌<◌, ◌≤◌, T, List, [], ◌∷◌, length, get_or, ℤ, Some}
 use Rattle.std.specs.declared.cmp.Ordering.TheVariants.{Less, Greater}
-use Rattle.std.specs.FinMap.{from_entries, is_sorted}
+use Rattle.std.specs.FinMap.{from_entries, get, is_sorted}
 use Rattle.std.specs.FinMap.Entries.{by_order}
 use Rattle.saber_plan.specs.Answers.{key_cmp}
 use Rattle.saber_plan.specs.Parts.{Part, Numbers, join_numbers}
@@ -26,7 +26,15 @@ pub record IsGap (es : List (List ℤ × Numbers)) (k : List ℤ) (i : ℕ) : Ty
   pub below : (j : ℕ) (d : List ℤ × Numbers) → j < i → key_cmp (get_or es j d).0 k ≡ Less
   pub above : (j : ℕ) (d : List ℤ × Numbers) → i ≤ j → j < length es → key_cmp (get_or es j d).0 k ≡ Greater
 
--- what both have of a key can be joined
+-- what a part has of a key can be joined with the numbers
+abbrev pub JoinsAt : Part → List ℤ → Numbers → Type 0
+JoinsAt m k v = (a : Numbers) → get m k ≡ Some a → CanJoin a v
+
+-- what both parts have of a key can be joined
+pub record JoinsFit (m n : Part) : Type 0 where
+  pub at : (k : List ℤ) (a b : Numbers) → get m k ≡ Some a → get n k ≡ Some b → CanJoin a b
+
+-- what both lists have of a key can be joined
 pub record CanJoinAll (es fs : List (List ℤ × Numbers)) : Type 0 where
   pub at : (i j : ℕ) (d e : List ℤ × Numbers) → i < length es → j < length fs
       → (get_or es i d).0 ≡ (get_or fs j e).0 → CanJoin (get_or es i d).1 (get_or fs j e).1

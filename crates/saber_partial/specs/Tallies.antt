@@ -1,5 +1,5 @@
 -- What contracts say of tallies and of their maps.
-use Rattle.std.specs.Prelude.{◌≡◌, ℕ, ◌+◌, ◌*◌, ◌^◌, ◌≤◌, List, [], ◌∷◌, length, take, drop, nat_abs, ℤ, Some, refl}
+use Rattle.std.specs.Prelude.{◌≡◌, ℕ, ◌+◌, ◌*◌, ◌^◌, ◌≤◌, List, length, take, drop, nat_abs, ℤ, Some, refl}
 use Rattle.std.specs.List.{AllByRecursion}
 use Rattle.std.specs.Coded.{Coded, code_by, coded×, coded_ℕ, coded_ℤ, coded_list}
 use Rattle.std.specs.FinMap.{get, insert, code}
@@ -53,14 +53,24 @@ pub record CanJoin (a b : Numbers) : Type 0 where
   pub greatests : length a.greatests ≡ length b.greatests
   pub firsts : length a.firsts ≡ length b.firsts
 
+-- Keys of as many columns, and as many numbers of each kind.
+pub record Alike (j k : List ℤ) (a b : Numbers) : Type 0 where
+  pub keys : length j ≡ length k
+  pub sums : length a.sums ≡ length b.sums
+  pub leasts : length a.leasts ≡ length b.leasts
+  pub greatests : length a.greatests ≡ length b.greatests
+  pub firsts : length a.firsts ≡ length b.firsts
+
 -- Parts of one plan, of at most 2^40 rows together under each key.
 pub record CanMerge (m n : Part) : Type 0 where
   pub at : (k : List ℤ) (a b : Numbers) → get m k ≡ Some a → get n k ≡ Some b → CanJoin a b
+  pub alike : (j k : List ℤ) (a b : Numbers) → get m j ≡ Some a → get n k ≡ Some b → Alike j k a b
 
 -- a part with the numbers of one row under its key
 abbrev pub with_row : Part → List ℤ → Numbers → Part
 with_row m k v = insert m k (joined join_numbers (get m k) v)
 
--- what stands under a key can take the numbers in
+-- what stands under a key can take the numbers in, and all numbers there are like them
 pub record FitsAt (m : Part) (k : List ℤ) (v : Numbers) : Type 0 where
   pub at : (a : Numbers) → get m k ≡ Some a → CanJoin a v
+  pub alike : (j : List ℤ) (a : Numbers) → get m j ≡ Some a → Alike j k a v

@@ -3,9 +3,7 @@ ghost use Rattle.std.specs.Prelude.{◌≡◌, ◌++◌, option_map, option_to_l
 ghost use Rattle.std.specs.List.{AllByRecursion};
 ghost use Rattle.saber_partial.specs.Gathering.{wanted, exprs_of, values_by, combine, CanCount, IsSmall, HasRoom};
 
-use saber_eval::value;
-use saber_plan::{Expr, Item, NoMemory, Row};
-use smallvec::SmallVec;
+use saber_plan::{Expr, Item};
 
 /// The kinds of numbers, in the order in which they stand in a list.
 #[derive(Clone, Copy)]
@@ -17,7 +15,8 @@ pub(crate) enum Gather {
 }
 
 impl Gather {
-    // The expression that an item wants gathered so, if it does.
+    /// The expression that an item wants gathered so, if it does.
+    #[inline]
     pub(crate) fn wanted(self, item: &Item) -> Option<&Expr>
         ensures { option_map (λ e. e.now) result ≡ wanted self item.now }
     {
@@ -43,40 +42,4 @@ impl Gather {
             Gather::Firsts => x,
         }
     }
-}
-
-fn push_value(
-    numbers: &mut SmallVec<i128, 4>,
-    gather: Gather,
-    item: &Item,
-    row: &Row,
-) -> Result<(), NoMemory>
-    requires { CanCount row.now.values item.now }
-    ensures all { OnOk result (numbers.new.items ≡ numbers.old.items ++ values_by row.now.values (option_to_list (wanted gather item.now))) }
-    ensures small { AllByRecursion (IsSmall gather) (values_by row.now.values (option_to_list (wanted gather item.now))) }
-{
-    match gather.wanted(item) {
-        Some(e) => {
-            numbers.push(value(e, row))?;
-            Ok(())
-        }
-        None => Ok(()),
-    }
-}
-
-/// The values over a row of the items that want them gathered so, in order.
-pub(crate) fn push_values(
-    numbers: &mut SmallVec<i128, 4>,
-    gather: Gather,
-    items: &[Item],
-    row: &Row,
-) -> Result<(), NoMemory>
-    requires { AllByRecursion (CanCount row.now.values) items.now }
-    ensures all { OnOk result (numbers.new.items ≡ numbers.old.items ++ values_by row.now.values (exprs_of gather items.now)) }
-    ensures small { OnOk result (AllByRecursion (IsSmall gather) (values_by row.now.values (exprs_of gather items.now))) }
-{
-    for item in items {
-        push_value(numbers, gather, item, row)?;
-    }
-    Ok(())
 }

@@ -1,14 +1,15 @@
 // Groups of rows: from key lists to what is known of their rows.
-ghost use Rattle.std.specs.Prelude.{◌≡◌, [], ◌∷◌, true, false, Some, IfOk, OnOk, OnErr};
+ghost use Rattle.std.specs.Prelude.{◌≡◌, [], ◌∷◌, true, false, Some, IfOk, OnOk, OnErr, length, ◌≤◌};
 ghost use Rattle.std.specs.List.{AllByRecursion};
 ghost use Rattle.saber_plan.specs.Parts.{no_part, numbers, merge};
 ghost use Rattle.saber_plan.specs.Tasks.{full};
 ghost use Rattle.saber_partial.specs.Gathering.{CanCount};
 ghost use Rattle.saber_partial.specs.Tallies.{CanMerge, FitsAt, with_row};
 
-use crate::group::Group;
+use crate::layout::Layout;
 use crate::merges::{merged, take_in};
 use crate::places::place;
+use crate::table::Table;
 use saber_plan::{Item, NoMemory, Row};
 use std::alloc::Global;
 use std::marker::Model;
@@ -17,11 +18,11 @@ use std::marker::Model;
 /// for a window that does not lie whole in it). From key lists, in their order, to how many rows
 /// have the key, and to the sums, least and greatest values and first row's values that the items
 /// ask. A group has 1 to 2^40 rows, each of which adds at most 2^86 to a sum, so that 128 bits hold
-/// each sum (this project's rule). The groups lie in one list, by key, so that parts of the same keys
-/// merge in one walk over both. Contracts see it as a part, a finite map.
+/// each sum (this project's rule). The groups lie in one list of numbers, by key, so that parts of the
+/// same keys merge in one walk over both. Contracts see it as a part, a finite map.
 #[derive(Drop)]
 pub struct Partial {
-    pub(crate) groups: Vec<Group>,
+    pub(crate) groups: Table,
 }
 
 impl Model for Partial {
@@ -33,19 +34,9 @@ impl Model for Partial {
 
     ghost coded = { coded_part };
 
-    ghost view = { λ p. part_of p.groups.items };
+    ghost view = { λ p. part_of p.groups.entries };
 
-    ghost invariant = { λ p. Rises p.groups.items };
-}
-
-// Room for just one group where there is none, since where windows move by one row each row is a part.
-fn room_for_first(groups: &mut Vec<Group>) -> Result<(), NoMemory>
-    ensures { groups.new.items ≡ groups.old.items }
-{
-    if groups.is_empty() {
-        groups.try_reserve_exact(1)?;
-    }
-    Ok(())
+    ghost invariant = { λ p. Rises p.groups.entries };
 }
 
 impl Partial {
@@ -54,7 +45,7 @@ impl Partial {
         ensures { result ≡ no_part }
     {
         Partial {
-            groups: Vec::new(alloc),
+            groups: Table::new(alloc, Layout::of_none()),
         }
     }
 
@@ -63,33 +54,55 @@ impl Partial {
         ensures none { result ≡ true → self.now ≡ no_part }
         ensures some { result ≡ false → full self.now ≡ Some self.now }
     {
-        self.groups.is_empty()
+        self.groups.len() == 0
+    }
+
+    // Puts in the group of a first row.
+    fn add_first(
+        &mut self,
+        alloc: Global,
+        key: &[i128],
+        items: &[Item],
+        row: &Row,
+    ) -> Result<(), NoMemory>
+        requires keys { length key.now ≤ 8 }
+        requires items { length items.now ≤ 32 }
+        requires fit { AllByRecursion (CanCount row.now.values) items.now }
+        requires none { self.old ≡ no_part }
+        ensures ok { OnOk result (self.new ≡ with_row self.old key.now (numbers items.now (row.now.values ∷ []))) }
+        ensures err { OnErr result (self.new ≡ self.old) }
+    {
+        let mut groups = Table::new(alloc, Layout::of_items(key.len(), items));
+        groups.insert_first(0, key, items, row)?;
+        self.groups = groups;
+        Ok(())
     }
 
     /// Adds what is known of one row to the group of its key.
     pub(crate) fn add(
         &mut self,
         alloc: Global,
-        key: &[i64],
+        key: &[i128],
         items: &[Item],
         row: &Row,
     ) -> Result<(), NoMemory>
+        requires keys { length key.now ≤ 8 }
+        requires items { length items.now ≤ 32 }
         requires fit { AllByRecursion (CanCount row.now.values) items.now }
         requires room { FitsAt self.old key.now (numbers items.now (row.now.values ∷ [])) }
         ensures ok { OnOk result (self.new ≡ with_row self.old key.now (numbers items.now (row.now.values ∷ []))) }
         ensures err { OnErr result (self.new ≡ self.old) }
     {
+        if self.is_empty() {
+            return self.add_first(alloc, key, items, row);
+        }
+        self.groups.has_one_layout();
         match place(&self.groups, key) {
             Ok(i) => {
-                self.groups[i].add_row(items, row);
+                self.groups.add_row(i, items, row);
                 Ok(())
             }
-            Err(i) => {
-                let group = Group::of_row(alloc, key, items, row)?;
-                room_for_first(&mut self.groups)?;
-                self.groups.insert(i, group)?;
-                Ok(())
-            }
+            Err(i) => self.groups.insert_first(i, key, items, row),
         }
     }
 
@@ -99,7 +112,7 @@ impl Partial {
     pub fn copy(&self, _alloc: Global) -> Result<Partial, NoMemory>
         ensures { IfOk result (λ p. p ≡ self.now) }
     {
-        let groups = self.groups.clone()?;
+        let groups = self.groups.copy()?;
         Ok(Partial { groups })
     }
 
@@ -115,15 +128,21 @@ impl Partial {
             *self = other;
             return Ok(());
         }
-        let alloc = *self.groups.allocator();
+        let alloc = self.groups.allocator();
         self.take_all(alloc, &other)
     }
 
-    // Takes in what is known of later rows.
+    // Takes in what is known of later rows where there is a group.
     fn take_all(&mut self, alloc: Global, other: &Partial) -> Result<(), NoMemory>
-        requires { CanMerge self.old other.now }
+        requires some { full self.old ≡ Some self.old }
+        requires can { CanMerge self.old other.now }
         ensures { OnOk result (self.new ≡ merge self.old other.now) }
     {
+        if other.is_empty() {
+            return Ok(());
+        }
+        self.groups.has_one_layout();
+        other.groups.has_one_layout();
         take_in(alloc, &mut self.groups, &other.groups)
     }
 
@@ -146,6 +165,14 @@ impl Partial {
         requires { CanMerge self.now other.now }
         ensures { IfOk result (λ p. p ≡ merge self.now other.now) }
     {
+        if self.is_empty() {
+            return other.copy(alloc);
+        }
+        if other.is_empty() {
+            return self.copy(alloc);
+        }
+        self.groups.has_one_layout();
+        other.groups.has_one_layout();
         let groups = merged(alloc, &self.groups, &other.groups)?;
         Ok(Partial { groups })
     }

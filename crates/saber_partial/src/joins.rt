@@ -4,16 +4,7 @@ ghost use Rattle.std.specs.Int.{int_min, int_max};
 ghost use Rattle.saber_plan.specs.Parts.{zip_by};
 ghost use Rattle.saber_partial.specs.Kinds.{SumsFit, joined_behind, joined_with};
 
-use smallvec::SmallVec;
-
-/// How many numbers of each kind a list has: sums, then least values, then greatest ones. Those
-/// behind them are the values of first rows.
-#[derive(Clone, Copy)]
-pub(crate) struct Shares {
-    pub(crate) sums: usize,
-    pub(crate) leasts: usize,
-    pub(crate) greatests: usize,
-}
+use crate::layout::Layout;
 
 fn add_all(xs: &mut [i128], ys: &[i128])
     requires long { length xs.old ≡ length ys.now }
@@ -61,25 +52,16 @@ fn join_behind(leasts: usize, greatests: usize, xs: &mut [i128], ys: &[i128])
     take_greatest(middle, other_middle);
 }
 
-fn join_slices(shares: Shares, xs: &mut [i128], ys: &[i128])
-    requires there { shares.sums + shares.leasts + shares.greatests ≤ length xs.old }
+/// Joins numbers by kind with those of later rows.
+#[inline]
+pub(crate) fn join_slices(layout: &Layout, xs: &mut [i128], ys: &[i128])
+    requires there { layout.now.sums + layout.now.leasts + layout.now.greatests ≤ length xs.old }
     requires long { length xs.old ≡ length ys.now }
-    requires fits { SumsFit (take shares.sums xs.old) (take shares.sums ys.now) }
-    ensures { xs.new ≡ joined_with shares.sums shares.leasts shares.greatests xs.old ys.now }
+    requires fits { SumsFit (take layout.now.sums xs.old) (take layout.now.sums ys.now) }
+    ensures { xs.new ≡ joined_with layout.now.sums layout.now.leasts layout.now.greatests xs.old ys.now }
 {
-    let (sums, rest) = xs.split_at_mut(shares.sums);
-    let (other_sums, other_rest) = ys.split_at(shares.sums);
+    let (sums, rest) = xs.split_at_mut(layout.sums);
+    let (other_sums, other_rest) = ys.split_at(layout.sums);
     add_all(sums, other_sums);
-    join_behind(shares.leasts, shares.greatests, rest, other_rest);
-}
-
-/// Joins numbers with those of later rows.
-#[tactic(auto, using(crate::proofs::Sharing::joined_long))]
-pub(crate) fn join_all(shares: Shares, xs: &mut SmallVec<i128, 4>, ys: &[i128])
-    requires there { shares.sums + shares.leasts + shares.greatests ≤ length xs.old.items }
-    requires long { length xs.old.items ≡ length ys.now }
-    requires fits { SumsFit (take shares.sums xs.old.items) (take shares.sums ys.now) }
-    ensures { xs.new.items ≡ joined_with shares.sums shares.leasts shares.greatests xs.old.items ys.now }
-{
-    join_slices(shares, xs, ys);
+    join_behind(layout.leasts, layout.greatests, rest, other_rest);
 }

@@ -1,19 +1,19 @@
 // Numbers of rows with those of one row more taken in, in place.
-ghost use Rattle.std.specs.Prelude.{◌≡◌, ◌+◌, ◌≤◌, List, ◌++◌, length, take, drop, option_to_list, ℤ};
+ghost use Rattle.std.specs.Prelude.{◌≡◌, ◌+◌, ◌≤◌, List, ◌++◌, ◌+ℤ◌, length, take, drop, option_to_list, ℤ};
+ghost use Rattle.std.specs.Int.{int_min, int_max};
 ghost use Rattle.std.specs.List.{AllByRecursion};
 ghost use Rattle.saber_plan.specs.Parts.{zip_by, summed, least, greatest};
 ghost use Rattle.saber_partial.specs.declared.gather.Gather.TheVariants.{Sums};
-ghost use Rattle.saber_partial.specs.Kinds.{joined_behind};
 ghost use Rattle.saber_partial.specs.Gathering.{wanted, exprs_of, values_by, combine, combined_from, CanCount, IsSmall, HasRoom, with_values};
 
 use crate::gather::Gather;
-use crate::joins::Shares;
+use crate::layout::Layout;
 use saber_eval::value;
 use saber_plan::{Item, Row};
-use smallvec::SmallVec;
 
 // Takes an item's value into the number at k, if the item wants one, and tells where the next one
 // stands.
+#[inline]
 fn add_value(xs: &mut [i128], k: usize, gather: Gather, item: &Item, row: &Row) -> usize
     requires there { k + length (option_to_list (wanted gather item.now)) ≤ length xs.old }
     requires fits { CanCount row.now.values item.now }
@@ -33,60 +33,48 @@ fn add_value(xs: &mut [i128], k: usize, gather: Gather, item: &Item, row: &Row) 
     }
 }
 
-// Takes in the values of the items that want them gathered so, in order.
-fn add_values(xs: &mut [i128], gather: Gather, items: &[Item], row: &Row)
-    requires long { length xs.old ≡ length (exprs_of gather items.now) }
+// Takes in the values of the items in one walk over them.
+fn add_each(
+    sums: &mut [i128],
+    leasts: &mut [i128],
+    greatests: &mut [i128],
+    items: &[Item],
+    row: &Row,
+)
+    requires sums { length sums.old ≡ length (summed items.now) }
+    requires leasts { length leasts.old ≡ length (least items.now) }
+    requires greatests { length greatests.old ≡ length (greatest items.now) }
     requires fit { AllByRecursion (CanCount row.now.values) items.now }
-    requires room { AllByRecursion (HasRoom gather) xs.old }
-    ensures all { xs.new ≡ zip_by (combine gather) xs.old (values_by row.now.values (exprs_of gather items.now)) }
-    ensures small { AllByRecursion (IsSmall gather) (values_by row.now.values (exprs_of gather items.now)) }
+    requires room { AllByRecursion (HasRoom Sums) sums.old }
+    ensures sums { sums.new ≡ zip_by ◌+ℤ◌ sums.old (values_by row.now.values (summed items.now)) }
+    ensures leasts { leasts.new ≡ zip_by int_min leasts.old (values_by row.now.values (least items.now)) }
+    ensures greatests { greatests.new ≡ zip_by int_max greatests.old (values_by row.now.values (greatest items.now)) }
+    ensures small { AllByRecursion (IsSmall Sums) (values_by row.now.values (summed items.now)) }
 {
-    let mut k = 0;
+    let mut sum = 0;
+    let mut least = 0;
+    let mut greatest = 0;
     for item in items {
-        k = add_value(xs, k, gather, item, row);
+        sum = add_value(sums, sum, Gather::Sums, item, row);
+        least = add_value(leasts, least, Gather::Leasts, item, row);
+        greatest = add_value(greatests, greatest, Gather::Greatests, item, row);
     }
 }
 
-// Least values, then greatest ones; first values stay.
-fn add_behind(leasts: usize, greatests: usize, xs: &mut [i128], items: &[Item], row: &Row)
-    requires there { leasts + greatests ≤ length xs.old }
-    requires leasts { leasts ≡ length (least items.now) }
-    requires greatests { greatests ≡ length (greatest items.now) }
+/// Takes the values over one row more into numbers by kind; those of first rows stay.
+#[inline]
+pub(crate) fn add_kinds(layout: &Layout, xs: &mut [i128], items: &[Item], row: &Row)
+    requires there { layout.now.sums + layout.now.leasts + layout.now.greatests ≤ length xs.old }
+    requires sums { layout.now.sums ≡ length (summed items.now) }
+    requires leasts { layout.now.leasts ≡ length (least items.now) }
+    requires greatests { layout.now.greatests ≡ length (greatest items.now) }
     requires fit { AllByRecursion (CanCount row.now.values) items.now }
-    ensures { xs.new ≡ joined_behind leasts greatests xs.old (values_by row.now.values (least items.now)) (values_by row.now.values (greatest items.now)) }
-{
-    let (front, rest) = xs.split_at_mut(leasts);
-    add_values(front, Gather::Leasts, items, row);
-    let (middle, _) = rest.split_at_mut(greatests);
-    add_values(middle, Gather::Greatests, items, row);
-}
-
-fn add_kinds(shares: Shares, xs: &mut [i128], items: &[Item], row: &Row)
-    requires there { shares.sums + shares.leasts + shares.greatests ≤ length xs.old }
-    requires sums { shares.sums ≡ length (summed items.now) }
-    requires leasts { shares.leasts ≡ length (least items.now) }
-    requires greatests { shares.greatests ≡ length (greatest items.now) }
-    requires fit { AllByRecursion (CanCount row.now.values) items.now }
-    requires room { AllByRecursion (HasRoom Sums) (take shares.sums xs.old) }
-    ensures all { xs.new ≡ with_values shares.sums shares.leasts shares.greatests xs.old row.now.values items.now }
+    requires room { AllByRecursion (HasRoom Sums) (take layout.now.sums xs.old) }
+    ensures all { xs.new ≡ with_values layout.now.sums layout.now.leasts layout.now.greatests xs.old row.now.values items.now }
     ensures small { AllByRecursion (IsSmall Sums) (values_by row.now.values (summed items.now)) }
 {
-    let (sums, rest) = xs.split_at_mut(shares.sums);
-    add_values(sums, Gather::Sums, items, row);
-    add_behind(shares.leasts, shares.greatests, rest, items, row);
-}
-
-/// Takes the values over one row more into numbers by kind.
-#[tactic(auto, using(crate::proofs::Sharing::kinds_long))]
-pub(crate) fn add_all_values(shares: Shares, xs: &mut SmallVec<i128, 4>, items: &[Item], row: &Row)
-    requires there { shares.sums + shares.leasts + shares.greatests ≤ length xs.old.items }
-    requires sums { shares.sums ≡ length (summed items.now) }
-    requires leasts { shares.leasts ≡ length (least items.now) }
-    requires greatests { shares.greatests ≡ length (greatest items.now) }
-    requires fit { AllByRecursion (CanCount row.now.values) items.now }
-    requires room { AllByRecursion (HasRoom Sums) (take shares.sums xs.old.items) }
-    ensures all { xs.new.items ≡ with_values shares.sums shares.leasts shares.greatests xs.old.items row.now.values items.now }
-    ensures small { AllByRecursion (IsSmall Sums) (values_by row.now.values (summed items.now)) }
-{
-    add_kinds(shares, xs, items, row);
+    let (sums, rest) = xs.split_at_mut(layout.sums);
+    let (leasts, rest) = rest.split_at_mut(layout.leasts);
+    let (greatests, _) = rest.split_at_mut(layout.greatests);
+    add_each(sums, leasts, greatests, items, row);
 }

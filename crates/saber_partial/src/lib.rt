@@ -3,13 +3,14 @@
 #![tactic(auto)]
 
 mod cuts;
+mod first_row;
 mod gather;
-mod group;
 mod groups;
 mod joined_lines;
 mod joins;
 mod later_row;
 mod laws;
+mod layout;
 mod lines;
 mod merges;
 mod numbered;
@@ -19,6 +20,7 @@ mod panes;
 mod places;
 mod rows;
 mod steps;
+mod table;
 mod tally;
 mod unprinted;
 

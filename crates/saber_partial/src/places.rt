@@ -4,12 +4,12 @@ ghost use Rattle.std.specs.Map.{keys_of};
 ghost use Rattle.saber_plan.specs.Answers.{key_cmp};
 ghost use Rattle.saber_partial.specs.Sorted.{IsAt, IsGap, Rises};
 
-use crate::group::Group;
+use crate::table::Table;
 use std::cmp::Ordering;
 
 /// The order of keys: number by number, and the shorter one first.
 #[inline]
-pub(crate) fn key_order(key: &[i64], other: &[i64]) -> Ordering
+pub(crate) fn key_order(key: &[i128], other: &[i128]) -> Ordering
     ensures { result ≡ key_cmp key.now other.now }
 {
     for i in 0..key.len() {
@@ -28,28 +28,34 @@ pub(crate) fn key_order(key: &[i64], other: &[i64]) -> Ordering
     }
 }
 
-/// Where a key stands; else where it belongs.
-pub(crate) fn place(groups: &[Group], key: &[i64]) -> Result<usize, usize>
-    requires { Rises groups.now }
-    ensures there { IfOk result (IsAt groups.now key.now) }
-    ensures missing { IfErr result (IsGap groups.now key.now) }
+/// Where a key stands; else where it belongs. Halves what is left with each look.
+pub(crate) fn place(groups: &Table, key: &[i128]) -> Result<usize, usize>
+    requires { Rises groups.now.entries }
+    ensures there { IfOk result (IsAt groups.now.entries key.now) }
+    ensures missing { IfErr result (IsGap groups.now.entries key.now) }
 {
-    groups.binary_search_by(
-        |group|
-            ensures { result ≡ key_cmp group.now.0 key.entry.now }
-        { key_order(group.key(), key) },
-    )
+    let mut low = 0;
+    let mut high = groups.len();
+    while low < high {
+        let middle = low + (high - low) / 2;
+        match key_order(groups.key(middle), key) {
+            Ordering::Less => low = middle + 1,
+            Ordering::Equal => return Ok(middle),
+            Ordering::Greater => high = middle,
+        }
+    }
+    Err(low)
 }
 
 /// Whether both have groups of the same keys, as windows mostly have.
-pub(crate) fn have_same_keys(groups: &[Group], others: &[Group]) -> bool
-    ensures { result ≡ true → keys_of groups.now ≡ keys_of others.now }
+pub(crate) fn have_same_keys(groups: &Table, others: &Table) -> bool
+    ensures { result ≡ true → keys_of groups.now.entries ≡ keys_of others.now.entries }
 {
     if groups.len() != others.len() {
         return false;
     }
     for i in 0..groups.len() {
-        if groups[i].key() != others[i].key() {
+        if groups.key(i) != others.key(i) {
             return false;
         }
     }

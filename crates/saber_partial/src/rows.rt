@@ -1,5 +1,5 @@
 // Rows of a stream, counted into groups.
-ghost use Rattle.std.specs.Prelude.{◌≡◌, ◌<◌, ◌≤◌, [], ◌∷◌, length, OnOk, OnErr};
+ghost use Rattle.std.specs.Prelude.{◌≡◌, ◌<◌, ◌+◌, ◌≤◌, [], ◌∷◌, ◌++◌, length, OnOk, OnErr};
 ghost use Rattle.saber_plan.specs.declared.rows.Side.TheVariants.{Left};
 ghost use Rattle.saber_plan.specs.declared.plans.Shape.TheVariants.{Group};
 ghost use Rattle.saber_plan.specs.Trees.{tree_of};
@@ -16,16 +16,15 @@ use saber_plan::{NoMemory, Plan, Row};
 use std::alloc::Global;
 
 // The key list of a row, of at most eight columns.
-fn key_of(columns: &[u32], numbers: &[i64]) -> ArrayVec<i64, 8>
-    requires few { length columns.now ≤ 8 }
+#[inline]
+fn push_key(list: &mut ArrayVec<i128, 8>, columns: &[u32], numbers: &[i64])
+    requires few { length list.old.items + length columns.now ≤ 8 }
     requires there { AllByRecursion (λ k. k < length numbers.now) columns.now }
-    ensures { result.items ≡ key columns.now numbers.now }
+    ensures { list.new.items ≡ list.old.items ++ key columns.now numbers.now }
 {
-    let mut list = ArrayVec::new();
     for column in columns {
-        list.push(numbers[*column as usize]);
+        list.push(i128::from(numbers[*column as usize]));
     }
-    list
 }
 
 impl Partial {
@@ -41,7 +40,8 @@ impl Partial {
         ensures ok { OnOk result (self.new ≡ merge self.old (group_part (tree_of plan.now) (row.now.values ∷ []))) }
         ensures err { OnErr result (self.new ≡ self.old) }
     {
-        let list = key_of(plan.keys(), row.values.as_slice());
+        let mut list = ArrayVec::new();
+        push_key(&mut list, plan.keys(), row.values.as_slice());
         self.add(alloc, list.as_slice(), plan.items(), row)
     }
 }

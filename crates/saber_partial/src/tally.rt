@@ -1,119 +1,59 @@
-// What is known of the rows with one key.
-ghost use Rattle.std.specs.Prelude.{◌≡◌, ◌+◌, ◌≤◌, [], ◌∷◌, length, IfOk};
+// What is known of the rows with one key, as a row of numbers.
+ghost use Rattle.std.specs.Prelude.{◌≡◌, ◌+◌, ◌≤◌, [], ◌∷◌, length};
 ghost use Rattle.std.specs.List.{AllByRecursion};
 ghost use Rattle.saber_plan.specs.Parts.{numbers, join_numbers};
 ghost use Rattle.saber_partial.specs.Gathering.{CanCount};
-ghost use Rattle.saber_partial.specs.Tallies.{numbers_in, IsTally, CanJoin};
+ghost use Rattle.saber_partial.specs.Tallies.{CanJoin};
+ghost use Rattle.saber_partial.specs.Flat.{entry_in, IsLayout, IsRow, Suits};
 
-use crate::gather::{Gather, push_values};
-use crate::joins::{Shares, join_all};
-use crate::later_row::add_all_values;
-use crate::unprinted::Unprinted;
-use saber_plan::{Item, NoMemory, Row};
-use smallvec::SmallVec;
-use std::alloc::Global;
-use std::marker::Model;
+use crate::first_row::write_kinds;
+use crate::joins::join_slices;
+use crate::later_row::add_kinds;
+use crate::layout::Layout;
+use saber_plan::{Item, Row};
 
-/// A count of rows, and a number for each item that wants one, all in one list by kind. Up to four
-/// numbers lie in the value itself, so that mostly a group takes no memory for them.
-#[derive(Drop)]
-pub(crate) struct Tally {
-    count: u64,
-    shares: Shares,
-    numbers: SmallVec<i128, 4>,
+/// Takes what is known of later rows with the key into a row of numbers.
+#[inline]
+pub(crate) fn join_row(layout: &Layout, xs: &mut [i128], ys: &[i128])
+    requires layout { IsLayout layout.now }
+    requires mine { IsRow layout.now xs.old }
+    requires theirs { IsRow layout.now ys.now }
+    requires can { CanJoin (entry_in layout.now xs.old).1 (entry_in layout.now ys.now).1 }
+    ensures row { IsRow layout.now xs.new }
+    ensures joined { entry_in layout.now xs.new ≡ ((entry_in layout.now xs.old).0, join_numbers (entry_in layout.now xs.old).1 (entry_in layout.now ys.now).1) }
+{
+    let keys = layout.keys;
+    xs[keys] += ys[keys];
+    join_slices(layout, &mut xs[keys + 1..], &ys[keys + 1..]);
 }
 
-impl Model for Tally {
-    ghost use Rattle.std.specs.Prelude.{◌+◌, ◌≤◌, length as long};
-    ghost use Rattle.saber_plan.specs.Parts.{Numbers};
-    ghost use Rattle.saber_partial.specs.Tallies.{coded_numbers, numbers_in, IsTally};
-
-    ghost Value = { Numbers };
-
-    ghost coded = { coded_numbers };
-
-    ghost view = { λ t. numbers_in t.count t.shares.sums t.shares.leasts t.shares.greatests t.numbers.items };
-
-    ghost invariant = { λ t. (t.shares.sums + t.shares.leasts + t.shares.greatests ≤ long t.numbers.items)
-        × IsTally (numbers_in t.count t.shares.sums t.shares.leasts t.shares.greatests t.numbers.items) };
+/// Counts one row more with the key.
+#[inline]
+pub(crate) fn add_row(layout: &Layout, xs: &mut [i128], items: &[Item], row: &Row)
+    requires layout { IsLayout layout.now }
+    requires mine { IsRow layout.now xs.old }
+    requires fit { AllByRecursion (CanCount row.now.values) items.now }
+    requires can { CanJoin (entry_in layout.now xs.old).1 (numbers items.now (row.now.values ∷ [])) }
+    ensures row { IsRow layout.now xs.new }
+    ensures joined { entry_in layout.now xs.new
+        ≡ ((entry_in layout.now xs.old).0, join_numbers (entry_in layout.now xs.old).1 (numbers items.now (row.now.values ∷ []))) }
+{
+    let keys = layout.keys;
+    xs[keys] += 1;
+    add_kinds(layout, &mut xs[keys + 1..], items, row);
 }
 
-// A copy with memory of its own. A tree of groups is copied by it.
-impl Clone for Tally {
-    ghost is_clone = { λ t u. u ≡ t };
-
-    fn clone(&self) -> Result<Tally, NoMemory> {
-        let numbers = SmallVec::from_slice(*self.numbers.allocator(), self.numbers.as_slice())?;
-        Ok(Tally {
-            count: self.count,
-            shares: self.shares,
-            numbers,
-        })
-    }
-}
-
-impl Tally {
-    /// Takes in the numbers of later rows, in a list by kind.
-    pub(crate) fn take_in(&mut self, count: u64, shares: Shares, numbers: &[i128])
-        requires there { shares.sums + shares.leasts + shares.greatests ≤ length numbers.now }
-        requires within { IsTally (numbers_in count shares.sums shares.leasts shares.greatests numbers.now) }
-        requires can { CanJoin self.old (numbers_in count shares.sums shares.leasts shares.greatests numbers.now) }
-        ensures { self.new ≡ join_numbers self.old (numbers_in count shares.sums shares.leasts shares.greatests numbers.now) }
-    {
-        self.count += count;
-        join_all(self.shares, &mut self.numbers, numbers);
-    }
-
-    /// Takes in what is known of later rows.
-    pub(crate) fn join(&mut self, other: &Tally)
-        requires { CanJoin self.old other.now }
-        ensures { self.new ≡ join_numbers self.old other.now }
-    {
-        self.take_in(other.count, other.shares, &other.numbers);
-    }
-
-    /// What is known of a first row.
-    pub(crate) fn of_row(alloc: Global, items: &[Item], row: &Row) -> Result<Tally, NoMemory>
-        requires { AllByRecursion (CanCount row.now.values) items.now }
-        ensures { IfOk result (λ t. t ≡ numbers items.now (row.now.values ∷ [])) }
-    {
-        let mut list = SmallVec::new(alloc);
-        push_values(&mut list, Gather::Sums, items, row)?;
-        let sums = list.len();
-        push_values(&mut list, Gather::Leasts, items, row)?;
-        let leasts = list.len() - sums;
-        push_values(&mut list, Gather::Greatests, items, row)?;
-        let greatests = list.len() - sums - leasts;
-        push_values(&mut list, Gather::Firsts, items, row)?;
-        Ok(Tally {
-            count: 1,
-            shares: Shares {
-                sums,
-                leasts,
-                greatests,
-            },
-            numbers: list,
-        })
-    }
-
-    /// Counts one row more.
-    pub(crate) fn add_row(&mut self, items: &[Item], row: &Row)
-        requires fit { AllByRecursion (CanCount row.now.values) items.now }
-        requires can { CanJoin self.old (numbers items.now (row.now.values ∷ [])) }
-        ensures { self.new ≡ join_numbers self.old (numbers items.now (row.now.values ∷ [])) }
-    {
-        self.count += 1;
-        add_all_values(self.shares, &mut self.numbers, items, row);
-    }
-
-    /// Its numbers, to be printed one after another.
-    pub(crate) fn unprinted(&self) -> Unprinted<'_>
-        ensures all { result ≡ self.now }
-        ensures within { IsTally self.now }
-    {
-        let (sums, behind) = self.numbers.split_at(self.shares.sums);
-        let (leasts, behind) = behind.split_at(self.shares.leasts);
-        let (greatests, firsts) = behind.split_at(self.shares.greatests);
-        Unprinted::new(self.count, sums, leasts, greatests, firsts)
-    }
+/// Writes what is known of a first row over a row of numbers.
+#[inline]
+pub(crate) fn write_first(layout: &Layout, xs: &mut [i128], key: &[i128], items: &[Item], row: &Row)
+    requires suits { Suits layout.now (length key.now) items.now }
+    requires long { length xs.old ≡ layout.now.width }
+    requires fit { AllByRecursion (CanCount row.now.values) items.now }
+    ensures row { IsRow layout.now xs.new }
+    ensures first { entry_in layout.now xs.new ≡ (key.now, numbers items.now (row.now.values ∷ [])) }
+{
+    let (front, behind) = xs.split_at_mut(layout.keys);
+    front.copy_from_slice(key);
+    behind[0] = 1;
+    write_kinds(layout, &mut behind[1..], items, row);
 }

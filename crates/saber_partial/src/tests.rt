@@ -65,6 +65,16 @@ fn sums(alloc: Global) -> Result<Plan, NoMemory>
     plan(alloc, vec![in alloc; key, sum]?, vec![in alloc; 1]?)
 }
 
+// Both columns and the count, by both.
+fn pairs(alloc: Global) -> Result<Plan, NoMemory>
+    ensures { IfOk result (λ p. IsChecked (tree_of p) × ((tree_of p).shape ≡ h.Group) × (columns_on (tree_of p).streams s.Left ≡ 3)) }
+{
+    let first = Item::Value(column(alloc, 1)?);
+    let second = Item::Value(column(alloc, 2)?);
+    let items = vec![in alloc; first, second, Item::Count]?;
+    plan(alloc, items, vec![in alloc; 1, 2]?)
+}
+
 // The key, and the sum, the least and the greatest number and the count, by the key.
 fn all_kinds(alloc: Global) -> Result<Plan, NoMemory>
     ensures { IfOk result (λ p. IsChecked (tree_of p) × ((tree_of p).shape ≡ h.Group) × (columns_on (tree_of p).streams s.Left ≡ 3)) }
@@ -263,5 +273,44 @@ fn lines_of_two(rt: HostRuntime) -> Result<(), Fail> {
     let mut turned = vec![in alloc; b'#']?;
     later.lines_with(&part, &plan, 6, &mut turned)?;
     assert_eq!(rt; turned.as_slice(), out.as_slice());
+    Ok(())
+}
+
+// Keys of two columns, the first group by the second column.
+#[test]
+fn keys_of_two_columns(rt: HostRuntime) -> Result<(), Fail> {
+    let alloc = rt.alloc();
+    let plan = pairs(alloc)?;
+    let mut part = grouped(alloc, &plan, &[(0, 2, 7), (1, 1, 9), (2, 2, -3), (3, 1, 9)])?;
+    let later = grouped(alloc, &plan, &[(4, 1, -9), (5, 2, 7)])?;
+    small_parts_merge();
+    part.merge(later)?;
+    let mut out = Vec::new(alloc);
+    part.lines(&plan, 4, &mut out)?;
+    assert_eq!(rt;
+        out.as_slice(),
+        b"4,1,-9,1\n4,1,9,2\n4,2,-3,1\n4,2,7,2\n".as_slice()
+    );
+    Ok(())
+}
+
+// No groups with some, on either side.
+#[test]
+fn no_groups(rt: HostRuntime) -> Result<(), Fail> {
+    let alloc = rt.alloc();
+    let plan = sums(alloc)?;
+    let none = grouped(alloc, &plan, &[])?;
+    let some = grouped(alloc, &plan, &[(0, 1, 10)])?;
+    small_parts_merge();
+    let mut out = Vec::new(alloc);
+    none.merged(alloc, &some)?.lines(&plan, 0, &mut out)?;
+    some.merged(alloc, &none)?.lines(&plan, 1, &mut out)?;
+    none.lines_with(&some, &plan, 2, &mut out)?;
+    some.lines_with(&none, &plan, 3, &mut out)?;
+    none.lines_with(&none, &plan, 4, &mut out)?;
+    assert_eq!(rt;
+        out.as_slice(),
+        b"0,1,10\n1,1,10\n2,1,10\n3,1,10\n".as_slice()
+    );
     Ok(())
 }

@@ -3,15 +3,17 @@ ghost use Rattle.std.specs.Prelude.{◌≡◌, List, ◌∷◌, drop};
 ghost use Rattle.saber_plan.specs.declared.plans.Item.{Item};
 ghost use Rattle.saber_plan.specs.Parts.{first_number, answers_of, join_numbers};
 ghost use Rattle.saber_partial.specs.Kinds.{SumsFit};
-ghost use Rattle.saber_partial.specs.Tallies.{CanJoin};
+ghost use Rattle.saber_partial.specs.Flat.{entry_in, IsLayout, IsRow};
+ghost use Rattle.saber_partial.specs.Tallies.{CanJoin, IsTally};
 
+use crate::layout::Layout;
 use saber_plan::Item;
 use std::marker::Model;
 
 /// What is still to be printed of a group's numbers, kind by kind.
 #[derive(Drop)]
 pub(crate) struct Unprinted<'a> {
-    count: u64,
+    count: i128,
     sums: &'a [i128],
     leasts: &'a [i128],
     greatests: &'a [i128],
@@ -19,11 +21,14 @@ pub(crate) struct Unprinted<'a> {
 }
 
 impl<'a> Model for Unprinted<'a> {
+    ghost use Rattle.std.specs.Prelude.{◌≡◌, nat_abs, pos};
     ghost use Rattle.saber_plan.specs.Parts.{Numbers};
 
     ghost Value = { Numbers };
 
-    ghost view = { λ u. record { count = u.count; sums = u.sums.now; leasts = u.leasts.now; greatests = u.greatests.now; firsts = u.firsts.now } };
+    ghost view = { λ u. record { count = nat_abs u.count; sums = u.sums.now; leasts = u.leasts.now; greatests = u.greatests.now; firsts = u.firsts.now } };
+
+    ghost invariant = { λ u. pos (nat_abs u.count) ≡ u.count };
 }
 
 // The first number, or 0, and those behind it.
@@ -38,18 +43,19 @@ fn first(numbers: &[i128]) -> (i128, &[i128])
 }
 
 impl<'a> Unprinted<'a> {
-    /// All of a group's numbers.
-    pub(crate) fn new(
-        count: u64,
-        sums: &'a [i128],
-        leasts: &'a [i128],
-        greatests: &'a [i128],
-        firsts: &'a [i128],
-    ) -> Unprinted<'a>
-        ensures { result ≡ record { count = count; sums = sums.now; leasts = leasts.now; greatests = greatests.now; firsts = firsts.now } }
+    /// All numbers of a group's row.
+    pub(crate) fn of_row(layout: &Layout, row: &'a [i128]) -> Unprinted<'a>
+        requires layout { IsLayout layout.now }
+        requires row { IsRow layout.now row.now }
+        ensures all { result ≡ (entry_in layout.now row.now).1 }
+        ensures within { IsTally (entry_in layout.now row.now).1 }
     {
+        let (_, behind) = row.split_at(layout.keys + 1);
+        let (sums, behind) = behind.split_at(layout.sums);
+        let (leasts, behind) = behind.split_at(layout.leasts);
+        let (greatests, firsts) = behind.split_at(layout.greatests);
         Unprinted {
-            count,
+            count: row[layout.keys],
             sums,
             leasts,
             greatests,
@@ -62,7 +68,7 @@ impl<'a> Unprinted<'a> {
         ensures { (is : List Item) → answers_of (item.now ∷ is) self.old ≡ result ∷ answers_of is self.new }
     {
         match item {
-            Item::Count => i128::from(self.count),
+            Item::Count => self.count,
             Item::Sum(_) => {
                 let (number, behind) = first(self.sums);
                 self.sums = behind;
@@ -96,7 +102,7 @@ impl<'a> Unprinted<'a> {
         ensures fit { SumsFit self.new.sums other.new.sums }
     {
         match item {
-            Item::Count => i128::from(self.count + other.count),
+            Item::Count => self.count + other.count,
             Item::Sum(_) => {
                 let (mine, behind) = first(self.sums);
                 self.sums = behind;

@@ -8,7 +8,8 @@ use Rattle.saber_partial.proofs.joined_lines.write_both_cells.Given as goal
 
 abbrev pub invariant-loop-item : goal.invariant-loop-item
 invariant-loop-item l = record {
-  all : l.out.items ++ cells (answers_of (drop l.item-index l.items) (join_numbers l.unprinted l.others)) ≡ l.fn.out.items ++ cells (answers_of l.items (join_numbers l.tally l.later));
+  all : l.out.items ++ cells (answers_of (drop l.item-index l.items) (join_numbers l.unprinted l.others))
+      ≡ l.fn.out.items ++ cells (answers_of l.items (join_numbers l.initial.unprinted l.initial.others));
   behind : Behind l.fn.out.items l.out.items;
   can : CanJoin l.unprinted l.others;
   fit : SumsFit l.unprinted.sums l.others.sums;

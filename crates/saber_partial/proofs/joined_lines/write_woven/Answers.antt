@@ -1,35 +1,126 @@
-use Rattle.std.proofs.Common.{◌≡◌, ◌<◌, ◌⊎◌, inl, inr, List, ℕ, ℤ, [], ◌++◌, ◌-◌, sym, ap, ap₂, ◌∙◌, subst, subst₂, drop, length, length-drop, arith}
+use Rattle.std.proofs.Common.{◌≡◌, ◌<◌, ◌⊎◌, inl, inr, List, ℕ, ℤ, [], ◌++◌, sym, ap, ap₂, ◌∙◌, subst, subst₂, drop, length, get_or, arith}
 use Rattle.std.specs.Result.{OnOk}
-use Rattle.std.proofs.lemmas.List.{drop_all, take_all, get_or_default}
-use Rattle.saber_plan.specs.Parts.{Numbers}
+use Rattle.std.proofs.lemmas.List.{drop_all, drop_more}
+use Rattle.saber_plan.specs.Answers.{key_cmp}
+use Rattle.saber_plan.specs.Parts.{Numbers, join_numbers}
 use Rattle.saber_plan.specs.PartFacts.{exact}
+use Rattle.saber_partial.specs.Flat.{entry_in}
 use Rattle.saber_partial.specs.Tallies.{CanJoin}
-use Rattle.saber_partial.proofs.Lined.{lines_under, walked_lines}
-use Rattle.saber_partial.proofs.joined_lines.write_woven.Goals.{then-loop-i-test+else-j-others, else-loop-i-test}
+use Rattle.saber_partial.proofs.Lined.{behind_both, lines_under, next_less, next_equal, next_greater, walked_lines, written_one}
+use Rattle.saber_partial.proofs.joined_lines.write_woven.Goals.{then-loop-i-test+else-j-len, else-loop-i-test}
 use Rattle.saber_partial.proofs.joined_lines.write_woven.Goals as goal
 
-pub write_both-requires : goal.write_both-requires
-write_both-requires c =
+pub loop-i-preserved-in-Less : goal.loop-i-preserved-in-Less
+loop-i-preserved-in-Less c =
+    let es = c.args.groups.now.entries in
+    let fs = c.args.others.now.entries in
     let i = c.loop-i.i in
     let j = c.loop-i.j in
-    let mine = c.tally-in-Equal.ensures ∙ ap (λ (e : List ℤ × Numbers). e.1) c.index-groups-i-in-Equal.is in
-    let theirs = c.tally-in-Equal-2.ensures ∙ ap (λ (e : List ℤ × Numbers). e.1) c.index-others-j-in-Equal.is in
-    let there : i < length c.args.groups.now = c.loop-i-test.true in
-    let here : j < length c.args.others.now = c.if-j-others.true in
-    let one = c.key.ensures ∙ ap (λ (e : List ℤ × Numbers). e.0) (c.index-groups-i.is ∙ get_or_default c.args.groups.now i _ c.index-groups-i-in-Equal.result there) in
-    let two = c.key-in-loop-i.ensures ∙ ap (λ (e : List ℤ × Numbers). e.0) (c.index-others-j.is ∙ get_or_default c.args.others.now j _ c.index-others-j-in-Equal.result here) in
-    let same = sym one ∙ exact _ _ (sym c.key_order.ensures ∙ c.in-Equal.is) ∙ two in
-    subst₂ CanJoin (sym mine) (sym theirs) (c.requires.at i j c.index-groups-i-in-Equal.result c.index-others-j-in-Equal.result there here same)
+    let d = entry_in c.layout-layout.result.now c.row.result.now in
+    let is = ap (λ l. entry_in l c.row.result.now) c.layout-layout.ensures.layout ∙ c.row.ensures.entry d in
+    let long = c.len.ensures in
+    let test = c.loop-i-test.true in
+    let other = c.len-in-loop-i.ensures in
+    let second = c.if-j-len.true in
+    let low : i < length es = omega (arith, long, test) in
+    let high : j < length fs = omega (arith, other, second) in
+    let order = ap₂ key_cmp (sym (c.key.ensures d)) (sym (c.key-in-loop-i.ensures d)) ∙ sym c.key_order.ensures ∙ c.in-Less.is in
+    let next = next_less es fs i j (get_or es i d) (get_or fs j d) (drop_more es i d low) (drop_more fs j d high) order in
+    let written = written_one c.args.window c.args.items.now c.loop-i.out.items in
+    record {
+      mine = omega (arith, low);
+      theirs = c.loop-i.invariant.theirs;
+      all = written c.write_line.new.out.items d.1 (get_or es i d) _ _ (ap (λ (e : List ℤ × Numbers). e.1) is) next c.in_ok-write_line-in-Less.ensures.ok
+          ∙ c.loop-i.invariant.all;
+      behind = behind_both _ _ _ c.loop-i.invariant.behind c.write_line.ensures.behind;
+    }
+
+pub write_both-requires-clause-can : goal.write_both-requires-clause-can
+write_both-requires-clause-can c =
+    let es = c.args.groups.now.entries in
+    let fs = c.args.others.now.entries in
+    let i = c.loop-i.i in
+    let j = c.loop-i.j in
+    let d = entry_in c.layout-layout.result.now c.row-in-Equal.result.now in
+    let mine = ap (λ l. entry_in l c.row-in-Equal.result.now) c.layout-layout.ensures.layout ∙ c.row-in-Equal.ensures.entry d in
+    let theirs = ap (λ l. entry_in l c.row-in-Equal-2.result.now) (c.layout-layout.ensures.layout ∙ c.requires.alike) ∙ c.row-in-Equal-2.ensures.entry d in
+    let long = c.len.ensures in
+    let test = c.loop-i-test.true in
+    let other = c.len-in-loop-i.ensures in
+    let second = c.if-j-len.true in
+    let order = ap₂ key_cmp (sym (c.key.ensures d)) (sym (c.key-in-loop-i.ensures d)) ∙ sym c.key_order.ensures ∙ c.in-Equal.is in
+    let same = exact _ _ order in
+    subst₂ (λ (a b : List ℤ × Numbers). CanJoin a.1 b.1) (sym mine) (sym theirs)
+    (c.requires.can.at i j d d (omega (arith, long, test)) (omega (arith, other, second)) same)
+
+pub loop-i-preserved-in-Equal : goal.loop-i-preserved-in-Equal
+loop-i-preserved-in-Equal c =
+    let es = c.args.groups.now.entries in
+    let fs = c.args.others.now.entries in
+    let i = c.loop-i.i in
+    let j = c.loop-i.j in
+    let d = entry_in c.layout-layout.result.now c.row-in-Equal.result.now in
+    let e = entry_in c.layout-layout.result.now c.row-in-Equal-2.result.now in
+    let mine = ap (λ l. entry_in l c.row-in-Equal.result.now) c.layout-layout.ensures.layout ∙ c.row-in-Equal.ensures.entry d in
+    let theirs = ap (λ l. entry_in l c.row-in-Equal-2.result.now) (c.layout-layout.ensures.layout ∙ c.requires.alike) ∙ c.row-in-Equal-2.ensures.entry d in
+    let long = c.len.ensures in
+    let test = c.loop-i-test.true in
+    let other = c.len-in-loop-i.ensures in
+    let second = c.if-j-len.true in
+    let low : i < length es = omega (arith, long, test) in
+    let high : j < length fs = omega (arith, other, second) in
+    let x = get_or es i d in
+    let y = get_or fs j d in
+    let order = ap₂ key_cmp (sym (c.key.ensures d)) (sym (c.key-in-loop-i.ensures d)) ∙ sym c.key_order.ensures ∙ c.in-Equal.is in
+    let both = ap₂ (λ (a b : List ℤ × Numbers). join_numbers a.1 b.1) mine theirs in
+    let next = next_equal es fs i j x y (drop_more es i d low) (drop_more fs j d high) order in
+    let written = written_one c.args.window c.args.items.now c.loop-i.out.items in
+    record {
+      mine = omega (arith, low);
+      theirs = omega (arith, high);
+      all = written c.write_both.new.out.items (join_numbers d.1 e.1) (x.0, join_numbers x.1 y.1) _ _ both next c.in_ok-write_both-in-Equal.ensures.ok
+          ∙ c.loop-i.invariant.all;
+      behind = behind_both _ _ _ c.loop-i.invariant.behind c.write_both.ensures.behind;
+    }
+
+pub loop-i-preserved : goal.loop-i-preserved
+loop-i-preserved c =
+    let es = c.args.groups.now.entries in
+    let fs = c.args.others.now.entries in
+    let i = c.loop-i.i in
+    let j = c.loop-i.j in
+    let d = entry_in c.layout-layout.result.now c.row-in-Greater.result.now in
+    let is = ap (λ l. entry_in l c.row-in-Greater.result.now) (c.layout-layout.ensures.layout ∙ c.requires.alike) ∙ c.row-in-Greater.ensures.entry d in
+    let long = c.len.ensures in
+    let test = c.loop-i-test.true in
+    let other = c.len-in-loop-i.ensures in
+    let second = c.if-j-len.true in
+    let low : i < length es = omega (arith, long, test) in
+    let high : j < length fs = omega (arith, other, second) in
+    let order = ap₂ key_cmp (sym (c.key.ensures d)) (sym (c.key-in-loop-i.ensures d)) ∙ sym c.key_order.ensures ∙ c.in-Greater.is in
+    let next = next_greater es fs i j (get_or es i d) (get_or fs j d) (drop_more es i d low) (drop_more fs j d high) order in
+    let written = written_one c.args.window c.args.items.now c.loop-i.out.items in
+    record {
+      mine = c.loop-i.invariant.mine;
+      theirs = omega (arith, high);
+      all = written c.write_line-in-Greater.new.out.items d.1 (get_or fs j d) _ _ (ap (λ (e : List ℤ × Numbers). e.1) is) next c.in_ok-write_line-in-Greater.ensures.ok
+          ∙ c.loop-i.invariant.all;
+      behind = behind_both _ _ _ c.loop-i.invariant.behind c.write_line-in-Greater.ensures.behind;
+    }
 
 pub returns-clause-ok : goal.returns-clause-ok
 returns-clause-ok c =
-    let xs = drop c.loop-i.i c.args.groups.now in
-    let ys = drop c.loop-i.j c.args.others.now in
+    let es = c.args.groups.now.entries in
+    let fs = c.args.others.now.entries in
     let out = c.loop-i.out.items in
     let lines = lines_under c.args.window c.args.items.now in
-    let all = take_all (length c.args.groups.now - c.loop-i.i) xs (simp length-drop (omega arith)) in
-    let other = take_all (length c.args.others.now - c.loop-i.j) ys (simp length-drop (omega arith)) in
-    let done : (xs ≡ []) ⊎ (ys ≡ []) = elim c.loop-i-test.branch [ then-loop-i-test+else-j-others w ↦ inr (drop_all c.loop-i.j c.args.others.now w.if-j-others.false) | else-loop-i-test w ↦ inl (drop_all c.loop-i.i c.args.groups.now w.loop-i-test.false) ] in
+    let xs = drop c.loop-i.i es in
+    let ys = drop c.loop-i.j fs in
+    let long = c.len.ensures in
+    let done : (xs ≡ []) ⊎ (ys ≡ []) = elim c.loop-i-test.branch [
+      | then-loop-i-test+else-j-len w ↦ (let other = w.len-in-loop-i.ensures in let second = w.if-j-len.false in inr (drop_all c.loop-i.j fs (omega (arith, other, second))))
+      | else-loop-i-test w ↦ (let test = w.loop-i-test.false in inl (drop_all c.loop-i.i es (omega (arith, long, test))))
+    ] in
     subst (λ (l : List ℕ). OnOk c.write_groups-2.result (c.write_groups-2.new.out.items ≡ l))
-    (ap₂ (λ k l. k ++ lines l) (c.in_ok-write_groups.ensures.ok ∙ ap (λ l. out ++ lines l) all) other ∙ walked_lines c.args.window c.args.items.now out xs ys done ∙ c.loop-i.invariant.all)
+    (ap (λ l. l ++ lines ys) c.in_ok-write_groups.ensures.ok ∙ walked_lines c.args.window c.args.items.now out xs ys done ∙ c.loop-i.invariant.all)
     c.write_groups-2.ensures.ok

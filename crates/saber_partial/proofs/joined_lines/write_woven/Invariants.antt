@@ -6,11 +6,12 @@ use Rattle.saber_partial.proofs.joined_lines.write_woven.Given as goal
 
 abbrev pub invariant-loop-i : goal.invariant-loop-i
 invariant-loop-i l = record {
-  mine : l.i ≤ length l.groups;
-  theirs : l.j ≤ length l.others;
-  all : l.out.items ++ lines_for l.window l.items (map (λ e. e.1) (weave (drop l.i l.groups) (drop l.j l.others))) ≡ l.fn.out.items ++ lines_for l.window l.items (map (λ e. e.1) (weave l.groups l.others));
+  mine : l.i ≤ length l.groups.entries;
+  theirs : l.j ≤ length l.others.entries;
+  all : l.out.items ++ lines_for l.window l.items (map (λ e. e.1) (weave (drop l.i l.groups.entries) (drop l.j l.others.entries)))
+      ≡ l.fn.out.items ++ lines_for l.window l.items (map (λ e. e.1) (weave l.groups.entries l.others.entries));
   behind : Behind l.fn.out.items l.out.items;
 }
 
 abbrev pub decreases-loop-i : goal.decreases-loop-i
-decreases-loop-i l = (length l.groups - l.i) + (length l.others - l.j)
+decreases-loop-i l = (length l.groups.entries - l.i) + (length l.others.entries - l.j)

@@ -3,8 +3,9 @@ use Rattle.saber_plan.specs.Texts.{Behind}
 use Rattle.saber_partial.specs.Printing.{lines_for}
 use Rattle.saber_partial.proofs.lines.write_groups.Given as goal
 
-abbrev pub invariant-loop-group : goal.invariant-loop-group
-invariant-loop-group l = record {
-  all : l.out.items ++ lines_for l.window l.items (map (λ e. e.1) (drop l.group-index l.groups)) ≡ l.fn.out.items ++ lines_for l.window l.items (map (λ e. e.1) l.groups);
+abbrev pub invariant-loop-i : goal.invariant-loop-i
+invariant-loop-i l = record {
+  all : l.out.items ++ lines_for l.window l.items (map (λ e. e.1) (drop l.i l.groups.entries))
+      ≡ l.fn.out.items ++ lines_for l.window l.items (map (λ e. e.1) (drop l.from l.groups.entries));
   behind : Behind l.fn.out.items l.out.items;
 }

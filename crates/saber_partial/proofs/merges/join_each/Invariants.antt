@@ -4,7 +4,8 @@ use Rattle.saber_partial.proofs.merges.join_each.Given as goal
 
 abbrev pub invariant-loop-i : goal.invariant-loop-i
 invariant-loop-i l = record {
-  long : length l.groups.items ≡ length l.fn.groups.items;
-  left : drop l.i l.groups.items ≡ drop l.i l.fn.groups.items;
-  done : take l.i l.groups.items ++ joined_each (drop l.i l.fn.groups.items) (drop l.i l.others) ≡ joined_each l.fn.groups.items l.others;
+  layout : l.groups.layout ≡ l.fn.groups.layout;
+  long : length l.groups.entries ≡ length l.fn.groups.entries;
+  left : drop l.i l.groups.entries ≡ drop l.i l.fn.groups.entries;
+  done : take l.i l.groups.entries ++ joined_each (drop l.i l.fn.groups.entries) (drop l.i l.others.entries) ≡ joined_each l.fn.groups.entries l.others.entries;
 }

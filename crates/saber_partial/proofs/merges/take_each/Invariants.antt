@@ -1,13 +1,13 @@
 use Rattle.std.proofs.Common.{◌≡◌, drop}
 use Rattle.saber_plan.specs.Parts.{merge}
-use Rattle.saber_partial.specs.Tallies.{CanMerge}
-use Rattle.saber_partial.specs.Sorted.{part_of, Rises}
+use Rattle.saber_partial.specs.Sorted.{part_of, JoinsFit, Rises}
 use Rattle.saber_partial.proofs.merges.take_each.Given as goal
 
-abbrev pub invariant-loop-group : goal.invariant-loop-group
-invariant-loop-group l = record {
-  mine : Rises l.groups.items;
-  theirs : Rises (drop l.group-index l.others);
-  can : CanMerge (part_of l.groups.items) (part_of (drop l.group-index l.others));
-  all : merge (part_of l.groups.items) (part_of (drop l.group-index l.others)) ≡ merge (part_of l.fn.groups.items) (part_of l.others);
+abbrev pub invariant-loop-j : goal.invariant-loop-j
+invariant-loop-j l = record {
+  layout : l.groups.layout ≡ l.fn.groups.layout;
+  mine : Rises l.groups.entries;
+  theirs : Rises (drop l.j l.others.entries);
+  can : JoinsFit (part_of l.groups.entries) (part_of (drop l.j l.others.entries));
+  all : merge (part_of l.groups.entries) (part_of (drop l.j l.others.entries)) ≡ merge (part_of l.fn.groups.entries) (part_of l.others.entries);
 }

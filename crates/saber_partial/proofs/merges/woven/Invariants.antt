@@ -4,10 +4,11 @@ use Rattle.saber_partial.proofs.merges.woven.Given as goal
 
 abbrev pub invariant-loop-i : goal.invariant-loop-i
 invariant-loop-i l = record {
-  mine : l.i ≤ length l.groups;
-  theirs : l.j ≤ length l.others;
-  all : l.out.items ++ weave (drop l.i l.groups) (drop l.j l.others) ≡ weave l.groups l.others;
+  mine : l.i ≤ length l.groups.entries;
+  theirs : l.j ≤ length l.others.entries;
+  layout : l.out.layout ≡ l.groups.layout;
+  all : l.out.entries ++ weave (drop l.i l.groups.entries) (drop l.j l.others.entries) ≡ weave l.groups.entries l.others.entries;
 }
 
 abbrev pub decreases-loop-i : goal.decreases-loop-i
-decreases-loop-i l = (length l.groups - l.i) + (length l.others - l.j)
+decreases-loop-i l = (length l.groups.entries - l.i) + (length l.others.entries - l.j)

@@ -1,4 +1,4 @@
-use Rattle.std.proofs.Common.{rules, ◌≡◌, ℕ, ◌<◌, length, get_or, set, pos, sym, ◌∙◌, ap, ap₂, subst, to_z, of_z, SFits}
+use Rattle.std.proofs.Common.{rules, ◌≡◌, ◌<◌, length, get_or, pos, ◌∙◌, ap, ap₂, to_z, of_z, SFits}
 use Rattle.std.specs.Int.{w64, w128}
 use Rattle.std.proofs.Math.Facts.{to_z-of_z}
 use Rattle.saber_partial.specs.Gathering.{combine, IsSmall}

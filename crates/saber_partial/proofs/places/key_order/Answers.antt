@@ -1,4 +1,4 @@
-use Rattle.std.proofs.Common.{◌≡◌, ◌<◌, ◌≤◌, ℕ, suc, List, [], ◌∷◌, length, drop, ℤ, sym, ◌∙◌, ap, refl, arith}
+use Rattle.std.proofs.Common.{◌≡◌, ◌<◌, List, [], ◌∷◌, length, drop, ℤ, sym, ◌∙◌, ap, refl, arith}
 use Rattle.std.proofs.lemmas.List.{drop_all, length-drop}
 use Rattle.std.specs.declared.cmp.Ordering.TheVariants.{Less, Greater}
 use Rattle.saber_plan.specs.Answers.{key_cmp}

@@ -1,26 +1,46 @@
-use Rattle.std.proofs.Common.{◌≡◌, ◌≤◌, ◌<◌, ℕ, List, ℤ, length, Result, Ok, Err, rules, arith}
-use Rattle.std.proofs.lemmas.Fn.{always_returns_same}
-use Rattle.std.specs.Result.{IfOk, IfErr}
-use Rattle.std.specs.List.Sorted.{IsBinarySearchResult, IsSearchInRange}
+use Rattle.std.proofs.Common.{◌+◌, ◌-◌, ◌/◌, ◌<◌, List, ℤ, length, sym, ap, ◌∙◌, arith}
 use Rattle.saber_plan.specs.Answers.{key_cmp}
 use Rattle.saber_plan.specs.Parts.{Numbers}
 use Rattle.saber_plan.specs.PartFacts.{exact}
-use Rattle.saber_partial.specs.Sorted.{Rises, IsAt, IsGap}
-use Rattle.saber_partial.proofs.Rising.{rising_by}
+use Rattle.saber_partial.proofs.Rising.{less_before, greater_behind}
 use Rattle.saber_partial.proofs.places.place.Goals as goal
 
-there : (es : List (List ℤ × Numbers)) (k : List ℤ) (r : Result ℕ ℕ) → IsSearchInRange r (length es) → IsBinarySearchResult (λ e. key_cmp e.0 k) es r → IfOk r (IsAt es k)
-there es k (Ok i) b p = record { within = b; at = λ d. exact _ _ (p d) }
-there es k (Err i) b p = tt
+pub loop-low-preserved-in-Less : goal.loop-low-preserved-in-Less
+loop-low-preserved-in-Less c =
+    let es = c.args.groups.now.entries in
+    let k = c.args.key.now in
+    let middle = c.loop-low.low + (c.loop-low.high - c.loop-low.low) / 2 in
+    let test = c.loop-low-test.true in
+    let within = c.loop-low.invariant.within in
+    let here : middle < length es = omega (arith, test, within) in
+    let order = λ (d : List ℤ × Numbers). sym (ap (λ l. key_cmp l k) (c.key.ensures d)) ∙ sym c.key_order.ensures ∙ c.in-Less.is in
+    record {
+      order = omega (arith, test);
+      within = within;
+      below = λ j d h. less_before es k j middle d c.requires (omega (arith, h)) here (order d);
+      above = c.loop-low.invariant.above;
+    }
 
-missing : (es : List (List ℤ × Numbers)) (k : List ℤ) (r : Result ℕ ℕ) → Rises es → IsSearchInRange r (length es) → IsBinarySearchResult (λ e. key_cmp e.0 k) es r → IfErr r (IsGap es k)
-missing es k (Ok i) s b p = tt
-missing es k (Err i) s b p =
-    let w = p (rising_by es k s) in
-    record { within = b; below = λ j d h. w.0 j d (omega arith) h; above = λ j d a h. w.1 j d a h }
+pub returns-in-Equal-clause-there : goal.returns-in-Equal-clause-there
+returns-in-Equal-clause-there c =
+    let test = c.loop-low-test.true in
+    let within = c.loop-low.invariant.within in
+    record {
+      within = omega (arith, test, within);
+      at = λ d. sym (c.key.ensures d) ∙ exact _ _ (sym c.key_order.ensures ∙ c.in-Equal.is);
+    }
 
-pub returns-clause-there : goal.returns-clause-there
-returns-clause-there c = there _ c.args.key.now _ c.binary_search_by.ensures.bound (c.binary_search_by.ensures.position (λ e. key_cmp e.0 c.args.key.now) (always_returns_same _ _ _ (λ a r f k. (search rules, search rules))))
-
-pub returns-clause-missing : goal.returns-clause-missing
-returns-clause-missing c = missing _ c.args.key.now _ c.requires c.binary_search_by.ensures.bound (c.binary_search_by.ensures.position (λ e. key_cmp e.0 c.args.key.now) (always_returns_same _ _ _ (λ a r f k. (search rules, search rules))))
+pub loop-low-preserved : goal.loop-low-preserved
+loop-low-preserved c =
+    let es = c.args.groups.now.entries in
+    let k = c.args.key.now in
+    let middle = c.loop-low.low + (c.loop-low.high - c.loop-low.low) / 2 in
+    let test = c.loop-low-test.true in
+    let within = c.loop-low.invariant.within in
+    let order = λ (d : List ℤ × Numbers). sym (ap (λ l. key_cmp l k) (c.key.ensures d)) ∙ sym c.key_order.ensures ∙ c.in-Greater.is in
+    record {
+      order = omega (arith, test);
+      within = omega (arith, test, within);
+      below = c.loop-low.invariant.below;
+      above = λ j d h l. greater_behind es k middle j d c.requires h l (order d);
+    }

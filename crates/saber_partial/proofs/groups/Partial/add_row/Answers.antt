@@ -1,4 +1,4 @@
-use Rattle.std.proofs.Common.{◌≡◌, ◌<◌, [], ◌∷◌, length, ℕ, ℤ, List, sym, ◌∙◌, ap, subst, subst₂}
+use Rattle.std.proofs.Common.{◌≡◌, [], ◌∷◌, ◌++◌, sym, ◌∙◌, ap, subst}
 use Rattle.std.specs.Result.{OnOk}
 use Rattle.std.specs.List.{AllByRecursion}
 use Rattle.std.specs.FinMap.{get}
@@ -7,8 +7,8 @@ use Rattle.saber_plan.specs.Answers.{key}
 use Rattle.saber_plan.specs.Merges.{joined}
 use Rattle.saber_plan.specs.Parts.{Part, numbers, join_numbers}
 use Rattle.saber_partial.specs.Gathering.{CanCount}
-use Rattle.saber_partial.specs.Tallies.{CanJoin}
-use Rattle.saber_partial.proofs.Fitting.{items_count, keys_there}
+use Rattle.saber_partial.specs.Tallies.{FitsAt}
+use Rattle.saber_partial.proofs.Fitting.{items_count}
 use Rattle.saber_partial.proofs.Adding.{add_at, add_fits}
 use Rattle.saber_partial.proofs.groups.Partial.add_row.Goals as goal
 
@@ -17,19 +17,14 @@ add-requires-clause-fit c =
     let q = tree_of c.args.plan.now in
     subst (AllByRecursion (CanCount c.args.row.now.values)) (sym c.items.ensures) (items_count q c.requires.checked c.requires.group c.args.row.now.values c.requires.row.count)
 
-pub key_of-list-requires-clause-there : goal.key_of-list-requires-clause-there
-key_of-list-requires-clause-there c =
-    let q = tree_of c.args.plan.now in
-    subst₂ (λ (zs : List ℤ) (ks : List ℕ). AllByRecursion (λ k. k < length zs) ks) (sym c.as_slice.ensures) (sym c.keys.ensures) (keys_there q c.requires.checked c.args.row.now.values c.requires.row.count)
-
 pub add-requires-clause-room : goal.add-requires-clause-room
 add-requires-clause-room c =
     let q = tree_of c.args.plan.now in
     let zs = c.args.row.now.values in
     let k = c.as_slice-2.result.now in
-    let here : k ≡ key q.keys zs = c.as_slice-2.ensures.value ∙ c.key_of-list.ensures ∙ (λ i. key (c.keys.ensures i) (c.as_slice.ensures i)) in
+    let here : k ≡ key q.keys zs = c.as_slice-2.ensures.value ∙ c.push_key.ensures ∙ (λ i. c.new-list.ensures i ++ key (c.keys.ensures i) (c.as_slice.ensures i)) in
     let one : numbers c.items.result.now (zs ∷ []) ≡ numbers q.items (zs ∷ []) = ap (λ is. numbers is (zs ∷ [])) c.items.ensures in
-    record { at = λ a g. subst (CanJoin a) (sym one) (add_fits q c.args.self.now zs k a here g c.requires.room) }
+    subst (FitsAt c.args.self.now k) (sym one) (add_fits q c.args.self.now zs k here c.requires.room)
 
 pub returns-clause-ok : goal.returns-clause-ok
 returns-clause-ok c =
@@ -37,6 +32,6 @@ returns-clause-ok c =
     let zs = c.args.row.now.values in
     let m = c.args.self.now in
     let k = c.as_slice-2.result.now in
-    let here : k ≡ key q.keys zs = c.as_slice-2.ensures.value ∙ c.key_of-list.ensures ∙ (λ i. key (c.keys.ensures i) (c.as_slice.ensures i)) in
+    let here : k ≡ key q.keys zs = c.as_slice-2.ensures.value ∙ c.push_key.ensures ∙ (λ i. c.new-list.ensures i ++ key (c.keys.ensures i) (c.as_slice.ensures i)) in
     let one : numbers c.items.result.now (zs ∷ []) ≡ numbers q.items (zs ∷ []) = ap (λ is. numbers is (zs ∷ [])) c.items.ensures in
     subst (λ (x : Part). OnOk c.add.result (c.add.new.self ≡ x)) (add_at q m zs k (joined join_numbers (get m k) (numbers c.items.result.now (zs ∷ []))) here (ap (joined join_numbers (get m k)) one)) c.add.ensures.ok

@@ -1,4 +1,4 @@
-use Rattle.std.proofs.Common.{◌≡◌, ◌∙◌, ap, subst, Some, ◌==◌, arith}
+use Rattle.std.proofs.Common.{◌≡◌, ◌∙◌, ap, subst, Some, ◌==◌}
 use Rattle.std.proofs.lemmas.Bool.{both_ways}
 use Rattle.saber_plan.specs.Parts.{Part}
 use Rattle.saber_plan.specs.Tasks.{full}
@@ -6,7 +6,4 @@ use Rattle.saber_partial.proofs.Adding.{some_groups}
 use Rattle.saber_partial.proofs.groups.Partial.is_empty.Goals as goal
 
 pub returns-clause-some : goal.returns-clause-some
-returns-clause-some c = λ e. subst (λ (p : Part). full p ≡ Some p) c.self.view_is (some_groups c.self.inside.groups.items (λ n.
-    let long = c.self.inside.groups.ok.0 in
-    let none : c.self.inside.groups.len ≡ 0 = omega (arith, long, n) in
-    both_ways _ e (c.is_empty.ensures ∙ ap (λ k. k == 0) none)))
+returns-clause-some c = λ e. subst (λ (p : Part). full p ≡ Some p) c.self.view_is (some_groups c.self.inside.groups.entries (λ n. both_ways _ e (ap (λ k. k == 0) (c.len.ensures ∙ n))))

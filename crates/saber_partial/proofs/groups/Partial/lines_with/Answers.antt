@@ -1,28 +1,53 @@
-use Rattle.std.proofs.Common.{◌++◌, ◌∙◌, ap, ap₂, sym, subst₂, map, List, ℤ}
+use Rattle.std.proofs.Common.{◌≡◌, ◌++◌, ◌∙◌, ap, ap₂, sym, subst, subst₂, List, Some}
+use Rattle.std.specs.Result.{OnOk}
 use Rattle.saber_plan.specs.declared.plans.Item.{Item}
 use Rattle.saber_plan.specs.Trees.{tree_of}
-use Rattle.saber_plan.specs.Parts.{Numbers, merge}
+use Rattle.saber_plan.specs.Parts.{Part, Numbers, merge, part_lines}
+use Rattle.saber_plan.specs.PartFacts.{merge-empty_left, merge-empty_right}
+use Rattle.saber_plan.specs.Tasks.{full}
 use Rattle.saber_partial.specs.Printing.{lines_for, numbers_of}
-use Rattle.saber_partial.specs.Sorted.{weave, CanJoinAll}
+use Rattle.saber_partial.specs.Sorted.{weave}
 use Rattle.saber_partial.specs.Tallies.{CanMerge}
+use Rattle.saber_partial.proofs.Layouts.{one_layout, entry_in_full}
 use Rattle.saber_partial.proofs.Lined.{part_each, numbers_there}
 use Rattle.saber_partial.proofs.Rising.{can_all}
 use Rattle.saber_partial.proofs.Weaving.{weave_rises, weave_merge}
 use Rattle.saber_partial.proofs.groups.Partial.lines_with.Goals as goal
 
-pub write_woven-requires : goal.write_woven-requires
-write_woven-requires c =
-    let es = c.self.inside.groups.items in
-    let fs = c.later.inside.groups.items in
+pub returns-then-is_empty-clause-ok : goal.returns-then-is_empty-clause-ok
+returns-then-is_empty-clause-ok c =
+    let mine = c.args.self.now in
+    let same = sym (ap (merge mine) (c.is_empty.ensures.none c.if-is_empty.true) ∙ merge-empty_right mine) in
+    subst (λ (p : Part). OnOk c.lines.result (c.lines.new.out.items ≡ c.args.out.now.items ++ part_lines (tree_of c.args.plan.now) c.args.window p)) same
+    c.lines.ensures.ok
+
+pub returns-then-is_empty-2-clause-ok : goal.returns-then-is_empty-2-clause-ok
+returns-then-is_empty-2-clause-ok c =
+    let theirs = c.args.later.now in
+    let same = sym (ap (λ (p : Part). merge p theirs) (c.is_empty-2.ensures.none c.if-is_empty-2.true) ∙ merge-empty_left theirs) in
+    subst (λ (p : Part). OnOk c.lines-then-is_empty-2.result (c.lines-then-is_empty-2.new.out.items ≡ c.args.out.now.items ++ part_lines (tree_of c.args.plan.now) c.args.window p)) same
+    c.lines-then-is_empty-2.ensures.ok
+
+pub write_woven-requires-clause-alike : goal.write_woven-requires-clause-alike
+write_woven-requires-clause-alike c =
+    let es = c.self.inside.groups.entries in
+    let fs = c.later.inside.groups.entries in
     let both = subst₂ CanMerge (sym c.self.view_is) (sym c.later.view_is) c.requires in
-    subst₂ CanJoinAll (sym c.deref.ensures.value) (sym c.deref-2.ensures.value) (can_all es fs c.self.invariant c.later.invariant both)
+    let mine = entry_in_full es (subst (λ (p : Part). full p ≡ Some p) (sym c.self.view_is) (c.is_empty-2.ensures.some c.if-is_empty-2.false)) in
+    let theirs = entry_in_full fs (subst (λ (p : Part). full p ≡ Some p) (sym c.later.view_is) (c.is_empty.ensures.some c.if-is_empty.false)) in
+    one_layout c.self.inside.groups.layout c.later.inside.groups.layout es fs c.has_one_layout.ensures c.has_one_layout-2.ensures c.self.invariant c.later.invariant both mine theirs
+
+pub write_woven-requires-clause-can : goal.write_woven-requires-clause-can
+write_woven-requires-clause-can c =
+    let both = subst₂ CanMerge (sym c.self.view_is) (sym c.later.view_is) c.requires in
+    can_all c.self.inside.groups.entries c.later.inside.groups.entries c.self.invariant c.later.invariant (record { at = both.at })
 
 pub returns-in-Ok-clause-ok : goal.returns-in-Ok-clause-ok
 returns-in-Ok-clause-ok c =
-    let es = c.self.inside.groups.items in
-    let fs = c.later.inside.groups.items in
+    let es = c.self.inside.groups.entries in
+    let fs = c.later.inside.groups.entries in
     let out = c.args.out.now.items in
-    let all = ap₂ weave c.deref.ensures.value c.deref-2.ensures.value in
     let part = weave_merge es fs c.self.invariant c.later.invariant ∙ ap₂ merge c.self.view_is c.later.view_is in
-    let ns = ap (map (λ (e : List ℤ × Numbers). e.1)) all ∙ sym (numbers_there (weave es fs) (weave_rises es fs c.self.invariant c.later.invariant)) ∙ ap numbers_of part in
-    c.in-Ok.ensures.ok ∙ ap₂ (λ (is : List Item) (l : List Numbers). out ++ lines_for c.args.window is l) c.items.ensures ns ∙ ap (λ l. out ++ l) (part_each (tree_of c.args.plan.now) c.args.window (merge c.args.self.now c.args.later.now))
+    let ns = sym (numbers_there (weave es fs) (weave_rises es fs c.self.invariant c.later.invariant)) ∙ ap numbers_of part in
+    c.in-Ok.ensures.ok ∙ ap₂ (λ (is : List Item) (l : List Numbers). out ++ lines_for c.args.window is l) c.items.ensures ns
+    ∙ ap (λ l. out ++ l) (part_each (tree_of c.args.plan.now) c.args.window (merge c.args.self.now c.args.later.now))

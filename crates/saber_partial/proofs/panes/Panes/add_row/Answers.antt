@@ -1,13 +1,12 @@
-use Rattle.std.proofs.Common.{◌≡◌, [], ◌∷◌, sym, ◌∙◌, ap, ap₂, subst, Some, None, Ok}
-use Rattle.std.specs.Result.{OnOk}
+use Rattle.std.proofs.Common.{◌≡◌, [], ◌∷◌, sym, ◌∙◌, ap, subst, Some, None}
 use Rattle.std.proofs.lemmas.Result.{on_ok_weaker}
 use Rattle.std.specs.Option.{option_copied_mut}
 use Rattle.std.specs.FinMap.{get, insert}
 use Rattle.saber_plan.specs.Trees.{tree_of}
 use Rattle.saber_plan.specs.Merges.{joined}
-use Rattle.saber_plan.specs.Parts.{Part, no_part, group_part, merge}
+use Rattle.saber_plan.specs.Parts.{Part, group_part, merge}
 use Rattle.saber_partial.specs.Tallies.{CanMerge}
-use Rattle.saber_partial.specs.Panes.{seen_panes, or_none, with_part}
+use Rattle.saber_partial.specs.Panes.{seen_panes, or_none}
 use Rattle.saber_plan.specs.PartFacts.{merge-empty_left}
 use Rattle.saber_partial.proofs.PaneMaps.{pane_at, pane_written, pane_inserted}
 use Rattle.saber_partial.proofs.panes.Panes.add_row.Goals as goal

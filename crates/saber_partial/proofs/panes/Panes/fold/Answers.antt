@@ -1,8 +1,8 @@
-use Rattle.std.proofs.Common.{◌≡◌, ◌+◌, ◌≤◌, length, sym, ◌∙◌, ap, ap₂, subst, refl, true, [], ◌∷◌, arith}
+use Rattle.std.proofs.Common.{◌≡◌, ◌+◌, length, sym, ◌∙◌, ap, ap₂, subst, refl, true, [], ◌∷◌, arith}
 use Rattle.std.specs.FinMap.{get}
 use Rattle.saber_plan.specs.Tasks.{Parts}
 use Rattle.saber_plan.specs.Trees.{tree_of}
-use Rattle.saber_plan.specs.Windows.{step_mark, mark_after, placed_after}
+use Rattle.saber_plan.specs.Windows.{step_mark}
 use Rattle.saber_plan.specs.Answers.{frame}
 use Rattle.saber_plan.specs.Merges.{both}
 use Rattle.saber_plan.specs.Parts.{group_part, merge}

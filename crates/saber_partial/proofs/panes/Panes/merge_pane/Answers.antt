@@ -1,8 +1,8 @@
-use Rattle.std.proofs.Common.{◌≡◌, sym, ◌∙◌, ap, subst, Some, None}
+use Rattle.std.proofs.Common.{sym, ◌∙◌, ap, subst, Some, None}
 use Rattle.std.specs.Option.{option_copied}
 use Rattle.std.proofs.lemmas.Result.{on_ok_weaker}
 use Rattle.std.specs.FinMap.{get}
-use Rattle.saber_plan.specs.Parts.{Part, merge}
+use Rattle.saber_plan.specs.Parts.{merge}
 use Rattle.saber_partial.specs.Tallies.{CanMerge}
 use Rattle.saber_partial.specs.Panes.{or_none}
 use Rattle.saber_partial.proofs.PaneMaps.{pane_at}

@@ -1,4 +1,4 @@
-use Rattle.std.proofs.Common.{◌≡◌, ℕ, ◌≤◌, ◌<◌, None, sym, ◌∙◌, ap, subst}
+use Rattle.std.proofs.Common.{◌≡◌, ℕ, ◌≤◌, ◌<◌, None, subst}
 use Rattle.std.specs.FinMap.{get}
 use Rattle.saber_plan.specs.Tasks.{Parts}
 use Rattle.saber_partial.proofs.PaneMaps.{first_there, none_there}

@@ -4,7 +4,7 @@ use Rattle.std.specs.Cmp.{nat_cmp_total}
 use Rattle.std.specs.FinMap.{get, insert, is_sorted, nat_cmp-IsAntisymmetric}
 use Rattle.std.proofs.lemmas.Map.Iter.{rest_more, rest_all}
 use Rattle.saber_plan.specs.Merges.{joined, both}
-use Rattle.saber_plan.specs.Parts.{Part, merge}
+use Rattle.saber_plan.specs.Parts.{merge}
 use Rattle.saber_plan.specs.MapFacts.{both-empty_right}
 use Rattle.saber_plan.specs.TreeFacts.{sorted_seen}
 use Rattle.saber_partial.specs.Panes.{seen_panes, CanTakeIn}

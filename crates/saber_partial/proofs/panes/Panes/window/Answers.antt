@@ -1,4 +1,4 @@
-use Rattle.std.proofs.Common.{◌≡◌, ℕ, ◌+◌, ◌-◌, ◌≤◌, ◌<◌, None, sym, ◌∙◌, ap, subst, arith}
+use Rattle.std.proofs.Common.{◌≡◌, ◌+◌, ◌-◌, ◌<◌, sym, ◌∙◌, ap, subst, arith}
 use Rattle.std.specs.FinMap.{get}
 use Rattle.saber_plan.specs.Trees.{tree_of}
 use Rattle.saber_plan.specs.Windows.{from}

@@ -1,0 +1,243 @@
+// Groups of one layout, in one list of numbers.
+ghost use Rattle.std.specs.Prelude.{◌≡◌, [], ◌∷◌, ◌++◌, ◌+◌, ◌<◌, ◌≤◌, List, ℤ, length, get_or, take, drop, IfOk, OnOk, OnErr};
+ghost use Rattle.std.specs.List.{insert, AllByRecursion};
+ghost use Rattle.std.proofs.Math.ListN.{set};
+ghost use Rattle.saber_plan.specs.Parts.{Numbers, numbers, join_numbers};
+ghost use Rattle.saber_partial.specs.Gathering.{CanCount};
+ghost use Rattle.saber_partial.specs.Tallies.{CanJoin};
+ghost use Rattle.saber_partial.specs.Flat.{entry_in, HaveLayout, IsLayout, IsRow, Suits};
+
+use crate::layout::Layout;
+use crate::tally::{add_row, join_row, write_first};
+use saber_plan::{Item, NoMemory, Row};
+use std::alloc::Global;
+use std::marker::Model;
+
+/// Groups, each a row of numbers, one behind another in one list, so that a copy of many groups is one
+/// copy of memory, and a group takes no memory of its own. Contracts see the layout and an entry a row.
+#[derive(Drop)]
+pub(crate) struct Table {
+    layout: Layout,
+    len: usize,
+    numbers: Vec<i128>,
+}
+
+impl Model for Table {
+    ghost use Rattle.saber_partial.specs.Flat as flat;
+    ghost use Rattle.saber_partial.specs.Flat.{entries_in, AreRows};
+
+    ghost Value = { flat.Table };
+
+    ghost view = { λ t. record { layout = t.layout; entries = entries_in t.layout t.len t.numbers.items } };
+
+    ghost invariant = { λ t. AreRows t.layout t.len t.numbers.items };
+}
+
+// Room for some numbers before another, or behind all. What stands there then is to be written over.
+#[inline]
+fn make_room(numbers: &mut Vec<i128>, start: usize, width: usize) -> Result<(), NoMemory>
+    requires start { start ≤ length numbers.old.items }
+    requires width { width ≤ 64 }
+    ensures long { OnOk result (length numbers.new.items ≡ length numbers.old.items + width) }
+    ensures front { OnOk result (take start numbers.new.items ≡ take start numbers.old.items) }
+    ensures behind { OnOk result (drop (start + width) numbers.new.items ≡ drop start numbers.old.items) }
+    ensures err { OnErr result (numbers.new.items ≡ numbers.old.items) }
+{
+    let end = numbers.len();
+    numbers.resize(end + width, 0)?;
+    if start < end {
+        numbers.copy_within(start..end, start + width);
+    }
+    Ok(())
+}
+
+impl Table {
+    /// No groups. Takes no memory.
+    pub(crate) fn new(alloc: Global, layout: Layout) -> Table
+        requires { IsLayout layout }
+        ensures layout { result.layout ≡ layout }
+        ensures none { result.entries ≡ [] }
+    {
+        Table {
+            layout,
+            len: 0,
+            numbers: Vec::new(alloc),
+        }
+    }
+
+    /// No groups, and room for the groups of two lists of one layout.
+    pub(crate) fn with_room_for(
+        alloc: Global,
+        one: &Table,
+        other: &Table,
+    ) -> Result<Table, NoMemory>
+        ensures layout { IfOk result (λ t. t.layout ≡ one.now.layout) }
+        ensures none { IfOk result (λ t. t.entries ≡ []) }
+    {
+        let room = one.numbers.len().saturating_add(other.numbers.len());
+        Ok(Table {
+            layout: one.layout,
+            len: 0,
+            numbers: Vec::with_capacity(alloc, room)?,
+        })
+    }
+
+    /// A copy with memory of its own.
+    pub(crate) fn copy(&self) -> Result<Table, NoMemory>
+        ensures { IfOk result (λ t. t ≡ self.now) }
+    {
+        let mut numbers = Vec::with_capacity(*self.numbers.allocator(), self.numbers.len())?;
+        numbers.extend_from_slice(&self.numbers)?;
+        Ok(Table {
+            layout: self.layout,
+            len: self.len,
+            numbers,
+        })
+    }
+
+    /// Each group lies in its row as the layout tells.
+    pub(crate) fn has_one_layout(&self)
+        ensures { HaveLayout self.now.layout self.now.entries }
+    {
+        let _numbers = &self.numbers;
+    }
+
+    /// Whose memory it takes.
+    pub(crate) fn allocator(&self) -> Global {
+        *self.numbers.allocator()
+    }
+
+    /// How many groups there are.
+    pub(crate) fn len(&self) -> usize
+        ensures { result ≡ length self.now.entries }
+    {
+        let _numbers = &self.numbers;
+        self.len
+    }
+
+    /// How each group lies in its row.
+    pub(crate) fn layout(&self) -> &Layout
+        ensures layout { result.now ≡ self.now.layout }
+        ensures within { IsLayout self.now.layout }
+    {
+        let _numbers = &self.numbers;
+        &self.layout
+    }
+
+    /// The row of a group.
+    #[inline]
+    pub(crate) fn row(&self, i: usize) -> &[i128]
+        requires { i < length self.now.entries }
+        ensures entry { (d : List ℤ × Numbers) → entry_in self.now.layout result.now ≡ get_or self.now.entries i d }
+        ensures row { IsRow self.now.layout result.now }
+    {
+        let start = i * self.layout.width;
+        &self.numbers[start..start + self.layout.width]
+    }
+
+    /// The key of a group.
+    #[inline]
+    pub(crate) fn key(&self, i: usize) -> &[i128]
+        requires { i < length self.now.entries }
+        ensures { (d : List ℤ × Numbers) → result.now ≡ (get_or self.now.entries i d).0 }
+    {
+        let start = i * self.layout.width;
+        &self.numbers[start..start + self.layout.keys]
+    }
+
+    /// Takes what is known of later rows into a group.
+    #[inline]
+    pub(crate) fn join(&mut self, i: usize, other: &[i128])
+        requires there { i < length self.old.entries }
+        requires other { IsRow self.old.layout other.now }
+        requires can { (d : List ℤ × Numbers) → CanJoin (get_or self.old.entries i d).1 (entry_in self.old.layout other.now).1 }
+        ensures layout { self.new.layout ≡ self.old.layout }
+        ensures joined { (d : List ℤ × Numbers) → self.new.entries
+            ≡ set self.old.entries i ((get_or self.old.entries i d).0, join_numbers (get_or self.old.entries i d).1 (entry_in self.old.layout other.now).1) }
+    {
+        let start = i * self.layout.width;
+        let end = start + self.layout.width;
+        join_row(&self.layout, &mut self.numbers[start..end], other);
+    }
+
+    /// Counts one row more in a group.
+    #[inline]
+    pub(crate) fn add_row(&mut self, i: usize, items: &[Item], row: &Row)
+        requires there { i < length self.old.entries }
+        requires fit { AllByRecursion (CanCount row.now.values) items.now }
+        requires can { (d : List ℤ × Numbers) → CanJoin (get_or self.old.entries i d).1 (numbers items.now (row.now.values ∷ [])) }
+        ensures layout { self.new.layout ≡ self.old.layout }
+        ensures joined { (d : List ℤ × Numbers) → self.new.entries
+            ≡ set self.old.entries i ((get_or self.old.entries i d).0, join_numbers (get_or self.old.entries i d).1 (numbers items.now (row.now.values ∷ []))) }
+    {
+        let start = i * self.layout.width;
+        let end = start + self.layout.width;
+        add_row(&self.layout, &mut self.numbers[start..end], items, row);
+    }
+
+    /// Appends a group.
+    #[inline]
+    pub(crate) fn push(&mut self, row: &[i128]) -> Result<(), NoMemory>
+        requires { IsRow self.old.layout row.now }
+        ensures layout { self.new.layout ≡ self.old.layout }
+        ensures ok { OnOk result (self.new.entries ≡ self.old.entries ++ entry_in self.old.layout row.now ∷ []) }
+        ensures err { OnErr result (self.new.entries ≡ self.old.entries) }
+    {
+        self.numbers.extend_from_slice(row)?;
+        self.len += 1;
+        Ok(())
+    }
+
+    /// Appends the groups of a list of the same layout from one on.
+    pub(crate) fn push_from(&mut self, other: &Table, i: usize) -> Result<(), NoMemory>
+        requires there { i ≤ length other.now.entries }
+        requires alike { self.old.layout ≡ other.now.layout }
+        ensures layout { self.new.layout ≡ self.old.layout }
+        ensures ok { OnOk result (self.new.entries ≡ self.old.entries ++ drop i other.now.entries) }
+        ensures err { OnErr result (self.new.entries ≡ self.old.entries) }
+    {
+        let more = other.len - i;
+        let start = i * self.layout.width;
+        self.numbers.extend_from_slice(&other.numbers[start..])?;
+        self.len += more;
+        Ok(())
+    }
+
+    /// Puts a group before another, or behind all.
+    pub(crate) fn insert(&mut self, i: usize, row: &[i128]) -> Result<(), NoMemory>
+        requires there { i ≤ length self.old.entries }
+        requires row { IsRow self.old.layout row.now }
+        ensures layout { self.new.layout ≡ self.old.layout }
+        ensures ok { OnOk result (self.new.entries ≡ insert self.old.entries i (entry_in self.old.layout row.now)) }
+        ensures err { OnErr result (self.new.entries ≡ self.old.entries) }
+    {
+        let start = i * self.layout.width;
+        make_room(&mut self.numbers, start, self.layout.width)?;
+        self.numbers[start..start + self.layout.width].copy_from_slice(row);
+        self.len += 1;
+        Ok(())
+    }
+
+    /// Puts the group of a first row before another, or behind all.
+    pub(crate) fn insert_first(
+        &mut self,
+        i: usize,
+        key: &[i128],
+        items: &[Item],
+        row: &Row,
+    ) -> Result<(), NoMemory>
+        requires there { i ≤ length self.old.entries }
+        requires suits { Suits self.old.layout (length key.now) items.now }
+        requires fit { AllByRecursion (CanCount row.now.values) items.now }
+        ensures layout { self.new.layout ≡ self.old.layout }
+        ensures ok { OnOk result (self.new.entries ≡ insert self.old.entries i (key.now, numbers items.now (row.now.values ∷ []))) }
+        ensures err { OnErr result (self.new.entries ≡ self.old.entries) }
+    {
+        let start = i * self.layout.width;
+        make_room(&mut self.numbers, start, self.layout.width)?;
+        let end = start + self.layout.width;
+        write_first(&self.layout, &mut self.numbers[start..end], key, items, row);
+        self.len += 1;
+        Ok(())
+    }
+}
