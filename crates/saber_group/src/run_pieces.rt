@@ -1,5 +1,5 @@
 // What a task gives: its runs.
-ghost use Rattle.std.specs.Prelude.{IfOk};
+ghost use Rattle.std.specs.Prelude.{◌≡◌, ◌≤◌, IfOk};
 ghost use Rattle.saber_plan.specs.Trees.{tree_of};
 ghost use Rattle.saber_plan.specs.Given.{RowsFit};
 ghost use Rattle.saber_group.specs.RunPieces.{IsOf};
@@ -20,6 +20,18 @@ pub struct RunPiece {
     pub(crate) after: Mark,
 }
 
+// Where there is no run yet, room for those of so many rows, if each is as long as the first, and for 1,025
+// at most.
+fn room_for_first(runs: &mut Vec<Run>, rows: usize, first: usize) -> Result<(), NoMemory>
+    requires { 1 ≤ first }
+    ensures { runs.new.items ≡ runs.old.items }
+{
+    if runs.is_empty() {
+        runs.try_reserve_exact((rows / first).min(1024) + 1)?;
+    }
+    Ok(())
+}
+
 impl Group<'_> {
     /// The piece of a task. Each row is looked at once.
     pub(crate) fn piece_of(&self, alloc: Global, batch: &Batch) -> Result<RunPiece, NoMemory>
@@ -33,6 +45,7 @@ impl Group<'_> {
             let run = self.run_from(alloc, batch, from, &mark)?;
             mark = run.after;
             from = run.end;
+            room_for_first(&mut runs, batch.rows.len(), from)?;
             runs.push(run)?;
         }
         Ok(RunPiece {

@@ -28,7 +28,8 @@ pub(crate) fn key_order(key: &[i128], other: &[i128]) -> Ordering
     }
 }
 
-/// Where a key stands; else where it belongs. Halves what is left with each look.
+/// Where a key stands; else where it belongs. Halves what is left with each look. Each row asks it.
+#[inline(always)]
 pub(crate) fn place(groups: &Table, key: &[i128]) -> Result<usize, usize>
     requires { Rises groups.now.entries }
     ensures there { IfOk result (IsAt groups.now.entries key.now) }

@@ -1,11 +1,11 @@
 -- Facts on what windows have of entries. Any proof may cite them.
-use Rattle.std.proofs.Common.{◌≡◌, ℕ, ◌≤◌, ◌<◌, List, [], ◌∷◌, Bool, true, false, cond, nat_lt, nat_le, Option, Some, None, refl, sym, ◌∙◌, ap, le_trans, arith}
+use Rattle.std.proofs.Common.{◌≡◌, ℕ, ◌≤◌, ◌<◌, [], ◌∷◌, Bool, true, false, cond, nat_lt, nat_le, Some, None, refl, sym, ◌∙◌, ap, arith}
 use Rattle.std.specs.List.{AllByRecursion}
 use Rattle.std.proofs.lemmas.Bool.{lt-ltb, le-ltb}
 use Rattle.std.proofs.lemmas.Bool.Decides.{nat_tests}
 use Rattle.saber_plan.specs.Parts.{Part, no_part, merge}
 use Rattle.saber_laws.specs.Parts.{MergeHasUnit}
-use Rattle.saber_sliding.specs.Entries.{Entries, whole, followed, pushed, dropped, first_number, part_at}
+use Rattle.saber_sliding.specs.Entries.{Entries, whole, pushed, dropped, first_number, part_at}
 
 -- ---- facts on each entry
 

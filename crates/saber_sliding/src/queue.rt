@@ -62,7 +62,7 @@ fn summed_up(
     requires { Chained back.items }
     ensures { IfOk result (λ front. front.items ≡ suffixes back.items) }
 {
-    let mut front = VecDeque::new(alloc);
+    let mut front = VecDeque::with_capacity(alloc, back.len())?;
     loop {
         match back.pop() {
             Some((number, mut part)) => {
@@ -92,6 +92,7 @@ fn turn(
     let mut entries = mem::replace(back, Vec::new(alloc));
     *back_part = Partial::empty(alloc);
     let kept = entries.split_off(gone)?;
+    back.try_reserve_exact(kept.len())?;
     *front = summed_up(alloc, kept)?;
     Ok(())
 }
