@@ -1,5 +1,5 @@
 -- A stage before its first task.
-use Rattle.std.proofs.Common.{◌≡◌, ℕ, List, [], Option, Some, None, refl, sym, ◌∙◌, ap, subst, append-nil}
+use Rattle.std.proofs.Common.{◌≡◌, ℕ, [], sym, ◌∙◌, ap, subst}
 use Rattle.std.specs.FinMap.{empty}
 use Rattle.saber_io.specs.Outside.{appended, appended-none}
 use Rattle.saber_plan.specs.Inputs.{Input, going_on}

@@ -5,7 +5,8 @@ ghost use Rattle.saber_assembly.specs.WorkLaws.{block_keeps, tasks_again, tasks_
 
 use crate::stage::Stage;
 use saber_core::Work;
-use saber_fragment::{Block, Operator, Rows};
+use saber_flat::Rows;
+use saber_fragment::{Block, Operator};
 use saber_io::Sink;
 use std::collections::LinkedList;
 use std::marker::PhantomData;

@@ -9,6 +9,10 @@ use Rattle.saber_workers.specs.Seats.{IsFree, OfBase}
 abbrev pub IsSpare : {T : Type 0} → TableId → View T → TableId → Option T → Type 0
 IsSpare of v table base = (of ≡ table) × IsFree v × (v.job ≡ None) × (v.base ≡ base)
 
+-- it stays one, with the data that it has
+abbrev pub StaysSpare : {T : Type 0} → TableId → View T → TableId → View T → TableId → Type 0
+StaysSpare of v of' v' table = (base : Option _) → IsSpare of v table base → IsSpare of' v' table base
+
 -- it is one for fixed data that suit
 abbrev pub CanHelp : {T : Type 0} → (Option T → Type 0) → (T → Type 0) → Type 0
 CanHelp spare suits = (base : Option _) × spare base × OfBase suits base

@@ -5,7 +5,7 @@ ghost use Rattle.std.specs.Thread.{IsSync};
 ghost use Rattle.saber_ring.specs.Words.{view, table, table_of};
 ghost use Rattle.saber_ring.specs.Seats.{parting};
 ghost use Rattle.saber_workers.specs.Seats.{IsFree, OfBase};
-ghost use Rattle.saber_crew.specs.Spares.{CanHelp, IsSpare, Rejoins};
+ghost use Rattle.saber_crew.specs.Spares.{CanHelp, IsSpare, Rejoins, StaysSpare};
 ghost use Rattle.saber_crew.specs.Feeds.{BeginsFeed, FedTo};
 
 use crate::feed::{Fed, Over, feed};
@@ -120,7 +120,7 @@ where
         stop: &AtomicBool,
     )
         requires { CanHelp (IsSpare (table self.old) (view self.old) (table_of ring.now)) (L.suits op.now) }
-        ensures { (base : Option W.Told) → IsSpare (table self.old) (view self.old) (table_of ring.now) base → IsSpare (table self.new) (view self.new) (table_of ring.now) base }
+        ensures { StaysSpare (table self.old) (view self.old) (table self.new) (view self.new) (table_of ring.now) }
     {
         work_lent(rt, alloc, ring, self, op, gate, stop);
     }
@@ -201,7 +201,8 @@ where
             ensures base { (view seat.exit.now).base ≡ (view seat.entry.now).base }
             ensures free { IsFree (view seat.exit.now) }
             ensures none { (view seat.exit.now).job ≡ None }
-            ensures fed { FedTo W.is_told W.upto (P.has_given supply.exit.now from.exit.now) (P.is_over supply.exit.now) result (view seat.entry.now).lead (view seat.exit.now).lead }
+            ensures fed { FedTo W.is_told W.upto (P.has_given supply.exit.now from.exit.now) (P.is_over supply.exit.now) result
+                (view seat.entry.now).lead (view seat.exit.now).lead }
             ensures few { result.tasks ≤ 2 ^ 42 }
             ensures stops { result.over ≡ Over.Stopped → (view seat.exit.now).stopped ≡ true }
         {

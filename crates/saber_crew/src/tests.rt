@@ -123,7 +123,8 @@ impl Supply<Noting> for Numbers {
 
     fn next(&mut self, _from: &mut ()) -> Supplied<u64>
         requires { (told : List ℕ) × (d : ℕ) × Counts self.old.next self.old.count told d }
-        ensures gives { (told : List ℕ) (d : ℕ) → Counts self.old.next self.old.count told d → Gives have_length next_of are_rows (Counts self.new.next self.new.count) told d result }
+        ensures gives { (told : List ℕ) (d : ℕ) → Counts self.old.next self.old.count told d
+            → Gives have_length next_of are_rows (Counts self.new.next self.new.count) told d result }
         ensures over { result ≡ Supplied.Over → self.new.count ≤ self.new.next }
     {
         self.is_dry = self.waits && !self.is_dry;

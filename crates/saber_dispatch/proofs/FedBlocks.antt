@@ -1,9 +1,8 @@
 -- Blocks of a feed: begun, gone on with, given.
-use Rattle.std.proofs.Common.{◌≡◌, ◌≤◌, ◌<◌, ℕ, ◌+◌, length, List, [], ◌∷◌, ◌++◌, Option, Some, None, Result, Ok, Err, Bool, true, false, cond, refl, sym, ◌∙◌, ap, subst, arith}
+use Rattle.std.proofs.Common.{◌≡◌, ℕ, length, List, [], ◌∷◌, ◌++◌, Option, Some, None, Result, Ok, Err, Bool, refl, sym, ◌∙◌, ap, subst, arith}
 use Rattle.saber_io.specs.declared.feeds.EndMark.{EndMark}
 use Rattle.saber_io.specs.declared.feeds.EndMark.TheVariants as marks
 use Rattle.saber_plan.specs.declared.rows.Row.{Row}
-use Rattle.saber_plan.specs.declared.rows.Side.{Side}
 use Rattle.saber_plan.specs.declared.windows.Mark.{Mark}
 use Rattle.saber_plan.specs.declared.sizes.Sizes.{Sizes}
 use Rattle.saber_plan.specs.Sizes.{FileLimits, limits_of}
@@ -23,12 +22,12 @@ use Rattle.saber_dispatch.specs.declared.fed_cutter.FedCutter.{FedCutter}
 use Rattle.saber_dispatch.specs.declared.fed_cutter.Step.{Step}
 use Rattle.saber_dispatch.specs.declared.fed_cutter.Step.TheVariants as steps
 use Rattle.saber_dispatch.specs.Readings.{reading_of, Suits}
-use Rattle.saber_dispatch.specs.Filling.{prepend, Filling, Fills}
+use Rattle.saber_dispatch.specs.Filling.{prepend, Fills}
 use Rattle.saber_dispatch.specs.Cutting.{Cuts, CutState, Goes, CutTo, CutsNothing, Flushes, fresh, fresh_on, told_end, end_of}
 use Rattle.saber_dispatch.specs.Closing.{Closes, ClosedBy, EndStays}
 use Rattle.saber_dispatch.specs.FedReadings.{only, SawEnd, IsSeen, EndTold, NothingWaits}
 use Rattle.saber_dispatch.specs.FedFilling.{Paused}
-use Rattle.saber_dispatch.specs.Feeding.{Begins, Gave, Agrees, CutsFed, CutsNothingFed, StepTo, step_of}
+use Rattle.saber_dispatch.specs.Feeding.{Begins, Gave, Agrees, CutsNothingFed, StepTo, step_of}
 use Rattle.saber_dispatch.proofs.Fillings.{filling_nothing, still_suits}
 use Rattle.saber_dispatch.proofs.BlockReads.{reads_now}
 use Rattle.saber_dispatch.proofs.TaskBlocks.{told_is}

@@ -1,5 +1,5 @@
 -- A call of a reader over a feed.
-use Rattle.std.proofs.Common.{◌≡◌, ◌≤◌, ◌<◌, ℕ, ◌+◌, List, [], ◌∷◌, ◌++◌, Option, Some, None, Result, Ok, Err, IfSome, IfOk, Bool, true, false, refl, sym, ◌∙◌, ap, subst, arith}
+use Rattle.std.proofs.Common.{◌≡◌, ◌≤◌, ◌<◌, ℕ, List, [], ◌∷◌, ◌++◌, Option, Some, None, Result, Ok, Err, IfSome, IfOk, Bool, true, false, refl, sym, ◌∙◌, ap, subst, arith}
 use Rattle.saber_io.specs.declared.feeds.EndMark.{EndMark}
 use Rattle.saber_io.specs.declared.feeds.EndMark.TheVariants as marks
 use Rattle.saber_plan.specs.declared.rows.Row.{Row}
@@ -7,7 +7,7 @@ use Rattle.saber_plan.specs.declared.rows.RowCause.{RowCause}
 use Rattle.saber_plan.specs.declared.rows.Side.{Side}
 use Rattle.saber_plan.specs.declared.rows.Side.TheVariants.{Left}
 use Rattle.saber_plan.specs.declared.windows.Mark.{Mark}
-use Rattle.saber_plan.specs.Rows.{Read, End, RowFits, falls, stamp, all_read, bad, cut, before, lines_of, read_by}
+use Rattle.saber_plan.specs.Rows.{Read, End, RowFits, falls, all_read, bad, cut, before, lines_of, read_by}
 use Rattle.saber_plan.specs.Trees.{Tree}
 use Rattle.saber_rows.specs.declared.ends.RowEnd.{RowEnd}
 use Rattle.saber_rows.specs.declared.ends.RowEnd.TheVariants as ends
@@ -20,7 +20,7 @@ use Rattle.saber_rows.specs.Heads.{bare, Called, EndedBy, SidePassed}
 use Rattle.saber_rows.specs.Laws.{LinesPass}
 use Rattle.saber_dispatch.specs.declared.ends.End.TheVariants.{ReadFault}
 use Rattle.saber_dispatch.specs.declared.fed_reader.Got.TheVariants as gots
-use Rattle.saber_dispatch.specs.Readings.{one, end_at, RulesOf, ReadsOne}
+use Rattle.saber_dispatch.specs.Readings.{one, RulesOf, ReadsOne}
 use Rattle.saber_dispatch.specs.FedReadings.{got_of, KnownStep, GotNext, IsSeen, IsCutOff, NothingWaits, GotTold}
 use Rattle.saber_dispatch.proofs.ReadSteps.{if_some, stepped_one}
 

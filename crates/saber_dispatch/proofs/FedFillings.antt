@@ -1,23 +1,16 @@
 -- Rows of a feed, one after another.
-use Rattle.std.proofs.Common.{◌≡◌, ◌≤◌, ◌<◌, ℕ, ◌+◌, List, [], ◌∷◌, ◌++◌, length, Option, Some, Result, Ok, Err, refl, sym, ◌∙◌, ap, subst, arith, length-append}
-use Rattle.saber_io.specs.declared.feeds.EndMark.{EndMark}
+use Rattle.std.proofs.Common.{◌≡◌, ℕ, ◌+◌, List, [], ◌∷◌, ◌++◌, length, ◌∙◌, ap, subst, length-append}
 use Rattle.saber_plan.specs.declared.rows.Row.{Row}
-use Rattle.saber_plan.specs.declared.rows.Side.{Side}
 use Rattle.saber_plan.specs.declared.windows.Mark.{Mark}
-use Rattle.saber_plan.specs.Windows.{step_mark, mark_after}
 use Rattle.saber_plan.specs.Trees.{Tree}
 use Rattle.saber_rows.specs.Laws.{MovesGoOn, MergesGoOn}
 use Rattle.saber_dispatch.specs.declared.ends.End.{End}
-use Rattle.saber_dispatch.specs.declared.ends.End.TheVariants.{ReadFault}
-use Rattle.saber_dispatch.specs.declared.fed_reader.Got.{Got}
 use Rattle.saber_dispatch.specs.declared.fed_reader.Got.TheVariants as gots
-use Rattle.saber_dispatch.specs.declared.fed_fill.Progress.{Progress}
 use Rattle.saber_dispatch.specs.declared.fed_fill.Progress.TheVariants as parts
 use Rattle.saber_dispatch.specs.Sources.{Lefts}
-use Rattle.saber_dispatch.specs.Readings.{Reading, Suits, Reads, IsOpen, NextRow, NextNone}
-use Rattle.saber_dispatch.specs.Filling.{prepend, Took, Filling, Fills}
-use Rattle.saber_dispatch.specs.FedReadings.{only, NextDry}
-use Rattle.saber_dispatch.specs.FedFilling.{Paused}
+use Rattle.saber_dispatch.specs.Readings.{Reading, Suits, Reads}
+use Rattle.saber_dispatch.specs.Filling.{prepend, Took, Filling}
+use Rattle.saber_dispatch.specs.FedReadings.{NextDry}
 use Rattle.saber_dispatch.proofs.Fillings.{go_on, still_suits}
 
 module _ (law : MovesGoOn) (laws : MergesGoOn) (n : ℕ) (q : Tree) (m mark : Mark) (old mid new : Reading) (had there has : Lefts) (start kept : List Row) (f : Filling n q m mark old mid had there start kept) where

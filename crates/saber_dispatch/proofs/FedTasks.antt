@@ -1,11 +1,9 @@
 -- Blocks of a feed that goes on.
-use Rattle.std.proofs.Common.{◌≡◌, ◌≢◌, ◌≤◌, ℕ, ◌*◌, ◌/◌, length, List, [], ◌∷◌, ◌++◌, Option, Some, None, Bool, true, false, refl, sym, ◌∙◌, ap, subst, append_assoc, append-nil}
+use Rattle.std.proofs.Common.{◌≡◌, ◌≢◌, ◌≤◌, ℕ, ◌*◌, ◌/◌, length, List, [], ◌∷◌, ◌++◌, Option, Some, None, true, false, sym, ◌∙◌, ap, subst, append_assoc, append-nil}
 use Rattle.saber_io.specs.declared.feeds.EndMark.{EndMark}
 use Rattle.saber_io.specs.declared.feeds.EndMark.TheVariants as marks
-use Rattle.saber_io.specs.Outside.{given}
 use Rattle.saber_io.specs.Feeds.{Adds, Stays}
 use Rattle.saber_plan.specs.declared.rows.Row.{Row}
-use Rattle.saber_plan.specs.declared.rows.Side.{Side}
 use Rattle.saber_plan.specs.declared.windows.Mark.{Mark}
 use Rattle.saber_plan.specs.declared.sizes.Sizes.{Sizes}
 use Rattle.saber_plan.specs.Sizes.{limits_of}
@@ -13,7 +11,6 @@ use Rattle.saber_plan.specs.Rows.{Read}
 use Rattle.saber_plan.specs.Trees.{Tree}
 use Rattle.saber_plan.specs.Inputs.{Input, input, going_on}
 use Rattle.saber_plan.specs.Tasks.{upto, task_count}
-use Rattle.saber_plan.specs.Windows.{no_rows}
 use Rattle.saber_rows.specs.Reader as readers
 use Rattle.saber_rows.specs.Calls.{Moves}
 use Rattle.saber_dispatch.specs.declared.ends.End.{End}
@@ -22,13 +19,13 @@ use Rattle.saber_dispatch.specs.declared.cutter.Cutter.{Cutter}
 use Rattle.saber_dispatch.specs.declared.fed_cutter.Begun.{Begun}
 use Rattle.saber_dispatch.specs.declared.fed_cutter.FedCutter.{FedCutter}
 use Rattle.saber_dispatch.specs.Readings.{Reading, one, two, reading_of, Suits, ReadMoves}
-use Rattle.saber_dispatch.specs.Filling.{prepend, Took, Filling}
+use Rattle.saber_dispatch.specs.Filling.{prepend}
 use Rattle.saber_dispatch.specs.Cutting.{Cuts, fresh, end_of, told_end}
-use Rattle.saber_dispatch.specs.Leaving.{GaveAll, wholes, ReadsWhole, FaultsLeaveWholeTasks}
+use Rattle.saber_dispatch.specs.Leaving.{GaveAll, wholes, FaultsLeaveWholeTasks}
 use Rattle.saber_dispatch.specs.Telling.{AreNear, AreTasks, EndsNear, EndsAs, BlocksAreNear, BlocksAreTasks, input_of}
 use Rattle.saber_dispatch.specs.FedReadings.{only, SawEnd, EndTold}
-use Rattle.saber_dispatch.specs.Feeding.{Begins, Gave, Agrees, CutsFed, fed_end_of}
-use Rattle.saber_dispatch.specs.FeedLaws.{RefillsKeep, FedBlocksAreNear, FedBlocksAreTasks, GoesOn, LeavesWhole, CutsLeaveWholeTasks}
+use Rattle.saber_dispatch.specs.Feeding.{Begins, Gave, Agrees, CutsFed}
+use Rattle.saber_dispatch.specs.FeedLaws.{RefillsKeep, FedBlocksAreNear, FedBlocksAreTasks, LeavesWhole, CutsLeaveWholeTasks}
 use Rattle.saber_dispatch.proofs.TaskBlocks.{told_is}
 use Rattle.saber_dispatch.proofs.FedBlocks.{none_begun}
 

@@ -1,6 +1,8 @@
 -- Rows that a reader gives, one after another.
-use Rattle.std.proofs.Common.{◌≡◌, ◌≤◌, ◌<◌, ◌^◌, ℕ, ◌+◌, List, [], ◌∷◌, ◌++◌, Bool, true, false, Option, Result, Ok, Err, refl, sym, ◌∙◌, ap, subst, arith, append_assoc, append-nil, length-append, is_err, OnOk}
-use Rattle.std.specs.List.{AllByRecursion}
+use Rattle.std.proofs.Common.{◌≡◌, ◌≤◌, ◌<◌, ◌^◌, ℕ, ◌+◌, List, [], ◌∷◌, ◌++◌, length, get_or, Bool, true, false, Option, Some, Result, Ok, Err, refl, sym, ◌∙◌, ap, subst, arith, append_assoc, append-nil, length-append, is_err, OnOk}
+use Rattle.std.proofs.Math.Seq.{get_or-append_seam}
+use Rattle.std.proofs.lemmas.Option.{get_or_from_slice_get}
+use Rattle.std.specs.List.{AllByRecursion, slice_get}
 use Rattle.saber_plan.specs.declared.rows.Row.{Row}
 use Rattle.saber_plan.specs.declared.windows.Mark.{Mark}
 use Rattle.saber_plan.specs.Rows.{Read, before, stamp}
@@ -204,6 +206,22 @@ filled_all size u q m mark old mid had there start kept f o = record {
 } where
   no_err : (e : End) → ◌≡◌ {A = Result (Unit {0}) End} (Ok u) (Err e) → ⊥
   no_err e h = cc
+
+-- where neither the reader nor the rows changed
+pub filling_still : (n : ℕ) (q : Tree) (m mark : Mark) (old mid now : Reading) (had there : Lefts) (start kept still : List Row) → now ≡ mid → still ≡ kept
+    → Filling n q m mark old mid had there start kept → Filling n q m mark old now had there start still
+filling_still n q m mark old mid now had there start kept still r k f =
+    subst (λ x. Filling n q m mark old x had there start still) (sym r) (subst (λ x. Filling n q m mark old mid had there start x) (sym k) f)
+
+-- the last row is the one that was put there
+pub last_is : (had now : List Row) (row last : Row) (i : ℕ) → now ≡ had ++ row ∷ [] → i + 1 ≡ length now → Some last ≡ slice_get now i → last ≡ row
+last_is had now row last i e n h =
+    let at : i ≡ length had = omega (arith, n, ap length e, length-append had (row ∷ [])) in
+    sym (get_or_from_slice_get now i last row (sym h)) ∙ ap (λ xs. get_or xs i row) e ∙ ap (λ j. get_or (had ++ row ∷ []) j row) at ∙ get_or-append_seam had row [] row
+
+-- an answer with an equal row
+pub row_again : (a : Result Row End) (x y : Row) → a ≡ Ok x → y ≡ x → a ≡ Ok y
+row_again a x y e h = e ∙ ap (λ r. Ok r) (sym h)
 
 -- what holds where a result is no error
 pub pushed_ok : {X E : Type 0} (r : Result X E) (b : Bool) (P : Type 0) → b ≡ false → b ≡ is_err r → OnOk r P → P

@@ -1,5 +1,5 @@
 -- A block of which all rows that come are there.
-use Rattle.std.specs.Prelude.{◌≡◌, List, [], Option, Some, None, Result, Err}
+use Rattle.std.specs.Prelude.{◌≡◌, List, [], Some, None, Result, Err}
 use Rattle.saber_plan.specs.declared.rows.Row.{Row}
 use Rattle.saber_plan.specs.declared.rows.Side.{Side}
 use Rattle.saber_plan.specs.declared.windows.Mark.{Mark}

@@ -1,8 +1,7 @@
 -- The rows of a feed, cut into blocks (this project's rule).
-use Rattle.std.specs.Prelude.{◌≡◌, ◌≢◌, ◌≤◌, ◌<◌, ◌⊎◌, ℕ, ◌+◌, length, List, [], ◌∷◌, ◌++◌, Option, Some, None, Bool, true}
+use Rattle.std.specs.Prelude.{◌≡◌, ◌<◌, ◌⊎◌, ℕ, length, List, [], Option, Some, None}
 use Rattle.saber_io.specs.declared.feeds.EndMark.{EndMark}
 use Rattle.saber_plan.specs.declared.rows.Row.{Row}
-use Rattle.saber_plan.specs.declared.rows.Side.{Side}
 use Rattle.saber_plan.specs.declared.rows.Side.TheVariants.{Left}
 use Rattle.saber_plan.specs.declared.windows.Mark.{Mark}
 use Rattle.saber_plan.specs.declared.sizes.Sizes.{Sizes}
@@ -17,7 +16,7 @@ use Rattle.saber_dispatch.specs.declared.fed_cutter.Begun.{Begun}
 use Rattle.saber_dispatch.specs.declared.fed_cutter.FedCutter.{FedCutter}
 use Rattle.saber_dispatch.specs.declared.fed_cutter.Step.{Step}
 use Rattle.saber_dispatch.specs.declared.fed_cutter.Step.TheVariants as steps
-use Rattle.saber_dispatch.specs.Readings.{Reading, one, two, reading_of, IsOpen, ReadNeeds}
+use Rattle.saber_dispatch.specs.Readings.{reading_of, IsOpen, ReadNeeds}
 use Rattle.saber_dispatch.specs.Filling.{Filling}
 use Rattle.saber_dispatch.specs.FedReadings.{only, AreFew, IsSeen, EndTold, NothingWaits}
 use Rattle.saber_dispatch.specs.Cutting.{Cuts, end_of, IsNextBlock, and_block}

@@ -1,7 +1,7 @@
 // A block of which all rows that come are there.
 use crate::cutter::{Cut, Cutter, ended_by, stops};
 use crate::ends::End;
-use saber_fragment::Rows;
+use saber_flat::Rows;
 use saber_plan::Mark;
 use saber_rows::{merges_go_on, moves_go_on};
 

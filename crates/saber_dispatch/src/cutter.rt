@@ -24,13 +24,17 @@ use crate::inputs::Inputs;
 use crate::lasts::Lasts;
 use crate::opening::{end_counts, lasts_for, reader_for};
 use crate::reader::Reader;
-use saber_fragment::{Block, Rows};
+use saber_flat::{RowBuilder, Rows};
+use saber_fragment::Block;
 use saber_io::Source;
 use saber_laws::{checked_fit, lasts_tell_free, needs_stay, tasks_look_back, tasks_look_on};
-use saber_plan::{Mark, NoMemory, Plan, Row, Sizes};
+use saber_plan::{Mark, NoMemory, Plan, Sizes};
 use saber_rows::{mergers_stand, merges_go_on, moves_go_on, readers_stand};
 use saber_window::stamps_fit;
 use std::alloc::Global;
+
+// A block has room for so many columns a row at first; with more of them it grows.
+pub(crate) const USUAL_COLUMNS: usize = 4;
 
 /// Cuts the rows of a query's inputs into blocks, and keeps what tells how far back each task looks.
 /// It holds no rows. Contracts see it by `Cuts`: which tasks its blocks were. It is called with the same
@@ -80,7 +84,7 @@ fn look_back(lasts: &mut Option<Lasts>, number: u64, before: &Mark) -> u64
 }
 
 // Notes the rows of a block.
-fn note(lasts: &mut Option<Lasts>, before: &Mark, rows: &[Row]) -> Result<(), NoMemory>
+fn note(lasts: &mut Option<Lasts>, before: &Mark, rows: &Rows) -> Result<(), NoMemory>
     requires { MayNote before.now rows.now lasts.old }
     ensures { OnOk result (NotesOn before.now rows.now lasts.old lasts.new) }
 {
@@ -207,7 +211,7 @@ impl Cutter {
             self.ended = Some(end);
             return Cut::Ended(end);
         }
-        if note(&mut self.lasts, &before, rows.as_slice()).is_err() {
+        if note(&mut self.lasts, &before, &rows).is_err() {
             self.ended = Some(End::NoMemory);
             return Cut::Ended(End::NoMemory);
         }
@@ -279,7 +283,8 @@ impl Cutter {
     {
         moves_go_on();
         merges_go_on();
-        let Ok(mut rows) = Rows::with_capacity(self.alloc, self.size) else {
+        let room = self.size.saturating_mul(USUAL_COLUMNS);
+        let Ok(mut rows) = RowBuilder::with_capacity(self.alloc, self.size, room) else {
             self.ended = Some(End::NoMemory);
             return Cut::Ended(End::NoMemory);
         };
@@ -294,7 +299,7 @@ impl Cutter {
         self.ended = ended_by(filled);
         match stops(filled, rows.len()) {
             Some(end) => self.stop_at(end),
-            None => self.put_block(before, rows),
+            None => self.put_block(before, rows.finish()),
         }
     }
 

@@ -2,10 +2,11 @@
 ghost use Rattle.std.specs.Prelude.{◌≡◌};
 ghost use Rattle.saber_dispatch.specs.Feeding.{step_of};
 
-use crate::cutter::{Cut, Cutter};
+use crate::cutter::{Cut, Cutter, USUAL_COLUMNS};
 use crate::ends::End;
 use crate::fed_fill::{Progress, fill_fed};
-use saber_fragment::{Block, Rows};
+use saber_flat::Rows;
+use saber_fragment::Block;
 use saber_io::Feed;
 use saber_plan::{Mark, NoMemory, Plan, Sizes};
 use saber_rows::{mergers_stand, readers_stand};
@@ -97,7 +98,8 @@ impl FedCutter {
         match self.begun.take() {
             Some(begun) => Ok(begun),
             None => {
-                let rows = Rows::with_capacity(self.cutter.alloc, self.cutter.size)?;
+                let room = self.cutter.size.saturating_mul(USUAL_COLUMNS);
+                let rows = Rows::with_capacity(self.cutter.alloc, self.cutter.size, room)?;
                 Ok(Begun {
                     before: self.cutter.mark,
                     rows,

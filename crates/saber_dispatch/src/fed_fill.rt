@@ -1,5 +1,5 @@
 // The rows of one block of a feed.
-ghost use Rattle.std.specs.Prelude.{◌≡◌, ◌≢◌, ◌≤◌, length};
+ghost use Rattle.std.specs.Prelude.{◌≡◌, ◌≢◌, ◌≤◌, [], ◌∷◌, ◌++◌, length, OnOk};
 ghost use Rattle.saber_io.specs.Outside.{Rose};
 ghost use Rattle.saber_plan.specs.declared.rows.Side.{Side};
 ghost use Rattle.saber_dispatch.specs.declared.ends.End.{End};
@@ -11,9 +11,9 @@ ghost use Rattle.saber_dispatch.specs.FedFilling.{IsBegun, FillsFedOn, IsShortOf
 use crate::ends::End;
 use crate::fed_reader::Got;
 use crate::reader::Reader;
-use saber_fragment::Rows;
+use saber_flat::{RowRef, Rows};
 use saber_io::Feed;
-use saber_plan::Mark;
+use saber_plan::{Mark, NoMemory, Row};
 use saber_rows::{mergers_stand, merges_go_on, moves_go_on, readers_stand};
 use saber_window::{stamps_fit, step_mark};
 
@@ -26,6 +26,13 @@ pub(crate) enum Progress {
     Dry,
     /// No more come.
     Ended(End),
+}
+
+// One row more, behind the others.
+fn push(rows: &mut Rows, row: Row) -> Result<(), NoMemory>
+    ensures { OnOk result (rows.new ≡ rows.old ++ row ∷ []) }
+{
+    rows.push(&RowRef::of(&row))
 }
 
 /// Appends the next rows of a feed, until there are so many, and steps the mark over them.
@@ -56,8 +63,8 @@ pub(crate) fn fill_fed<F: Feed>(
     'taking: while rows.len() < size {
         match reader.next_fed(feed) {
             Got::Row(row) => {
-                *mark = step_mark(mark, &row);
-                if rows.push(row).is_err() {
+                *mark = step_mark(mark, &RowRef::of(&row));
+                if push(rows, row).is_err() {
                     return Progress::Ended(End::NoMemory);
                 }
             }

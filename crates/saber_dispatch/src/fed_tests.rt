@@ -53,8 +53,8 @@ fn see_all<F: Feed>(alloc: Global, cutter: &mut FedCutter, feed: &mut F) -> Resu
             }
             Step::Block(block) => {
                 seen.numbers.push(block.number)?;
-                for row in block.rows.as_slice() {
-                    seen.times.push(time_of(row))?;
+                for i in 0..block.rows.len() {
+                    seen.times.push(time_of(&block.rows.row(i)))?;
                 }
             }
         }

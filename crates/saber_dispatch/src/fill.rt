@@ -1,5 +1,5 @@
 // The rows of one block.
-ghost use Rattle.std.specs.Prelude.{Err, ◌≡◌, ◌≢◌};
+ghost use Rattle.std.specs.Prelude.{Err, ◌≡◌, ◌≢◌, []};
 ghost use Rattle.saber_plan.specs.declared.rows.Side.{Side};
 ghost use Rattle.saber_plan.specs.declared.windows.Mark.{Mark};
 ghost use Rattle.saber_plan.specs.Trees.{Tree};
@@ -11,7 +11,7 @@ ghost use Rattle.saber_dispatch.specs.Filling.{fill_state, FillsOn};
 use crate::ends::End;
 use crate::inputs::Inputs;
 use crate::reader::Reader;
-use saber_fragment::Rows;
+use saber_flat::{RowBuilder, RowRef};
 use saber_io::Source;
 use saber_plan::Mark;
 use saber_rows::{mergers_stand, merges_go_on, moves_go_on, readers_stand};
@@ -22,15 +22,16 @@ pub(crate) fn fill<S: Source>(
     reader: &mut Reader,
     inputs: &mut Inputs<S>,
     mark: &mut Mark,
-    rows: &mut Rows,
+    rows: &mut RowBuilder,
     size: usize,
 ) -> Result<(), End>
+    requires begun { rows.old.begun ≡ [] }
     requires suits { Suits (reading_of reader.old) (each_input S.left inputs.old) }
     requires opened { IsOpen (reading_of reader.old) }
     requires reads { (q : Tree) × Reads q mark.old (reading_of reader.old) }
     ensures fills { FillsOn result size
-        (fill_state mark.old (reading_of reader.old) (each_input S.left inputs.old) rows.old)
-        (fill_state mark.new (reading_of reader.new) (each_input S.left inputs.new) rows.new) }
+        (fill_state mark.old (reading_of reader.old) (each_input S.left inputs.old) rows.old.rows)
+        (fill_state mark.new (reading_of reader.new) (each_input S.left inputs.new) rows.new.rows) }
     ensures cause { (side : Side) → result ≡ Err (End.ReadFault side) → RoseAt side (each_input S.faults inputs.old) (each_input S.faults inputs.new) }
     ensures good { ((side : Side) → result ≢ Err (End.ReadFault side)) → each_input S.faults inputs.new ≡ each_input S.faults inputs.old }
     ensures count { NoneFell (each_input S.faults inputs.old) (each_input S.faults inputs.new) }
@@ -41,10 +42,15 @@ pub(crate) fn fill<S: Source>(
     mergers_stand();
     stamps_fit();
     for _ in 0..size {
+        if reader.take_quick(rows) {
+            *mark = step_mark(mark, &rows.row(rows.len() - 1));
+            continue;
+        }
         match reader.next(inputs) {
             Ok(row) => {
+                let row = RowRef::of(&row);
                 *mark = step_mark(mark, &row);
-                if rows.push(row).is_err() {
+                if rows.push(&row).is_err() {
                     return Err(End::NoMemory);
                 }
             }

@@ -6,7 +6,8 @@ ghost use Rattle.saber_plan.specs.Windows.{placed_after, closed_count};
 ghost use Rattle.saber_plan.specs.Needs.{later_of, last_of, free_of};
 ghost use Rattle.saber_dispatch.specs.Cutting.{KeepsOne};
 
-use saber_plan::{Mark, NoMemory, Row};
+use saber_flat::Rows;
+use saber_plan::{Mark, NoMemory};
 use saber_window::{Windows, free_of, step_mark};
 use std::collections::VecDeque;
 
@@ -33,7 +34,7 @@ fn later(a: Option<u64>, b: Option<u64>) -> Option<u64>
 }
 
 /// The greatest last window of some rows.
-fn last_of_rows(windows: &Windows, before: &Mark, rows: &[Row]) -> Option<u64>
+fn last_of_rows(windows: &Windows, before: &Mark, rows: &Rows) -> Option<u64>
     requires left { before.now.left + length rows.now < 2 ^ 63 }
     requires right { before.now.right + length rows.now < 2 ^ 63 }
     requires times { AllByRecursion (λ r. stamp r.values < 2 ^ 63) rows.now }
@@ -42,9 +43,9 @@ fn last_of_rows(windows: &Windows, before: &Mark, rows: &[Row]) -> Option<u64>
     let mut mark = *before;
     let mut last = None;
     for i in 0..rows.len() {
-        let row = &rows[i];
-        last = later(last, windows.last_window(row, &mark));
-        mark = step_mark(&mark, row);
+        let row = rows.row(i);
+        last = later(last, windows.last_window(&row, &mark));
+        mark = step_mark(&mark, &row);
     }
     last
 }
@@ -68,7 +69,7 @@ impl Lasts {
     }
 
     /// One block more, of these rows.
-    pub(crate) fn note(&mut self, before: &Mark, rows: &[Row]) -> Result<(), NoMemory>
+    pub(crate) fn note(&mut self, before: &Mark, rows: &Rows) -> Result<(), NoMemory>
         requires left { before.now.left + length rows.now < 2 ^ 63 }
         requires right { before.now.right + length rows.now < 2 ^ 63 }
         requires times { AllByRecursion (λ r. stamp r.values < 2 ^ 63) rows.now }

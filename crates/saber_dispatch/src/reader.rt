@@ -1,15 +1,16 @@
 // The rows of one input, or those of two, merged.
-ghost use Rattle.std.specs.Prelude.{◌≡◌, ◌≢◌, Err};
+ghost use Rattle.std.specs.Prelude.{◌≡◌, ◌≢◌, Err, [], true, false};
 ghost use Rattle.saber_plan.specs.declared.rows.Side.{Side};
 ghost use Rattle.saber_rows.specs.declared.ends.RowEnd.{RowEnd};
 ghost use Rattle.saber_dispatch.specs.declared.ends.End.{End};
 ghost use Rattle.saber_rows.specs.Reader.{reader_of};
 ghost use Rattle.saber_rows.specs.Merging.{merger_of};
-ghost use Rattle.saber_dispatch.specs.Readings.{Reading, one, two, reading_of, answer_one, answer_two, Suits, Steps, FaultsAreReal};
+ghost use Rattle.saber_dispatch.specs.Readings.{Reading, StepsOnce, one, two, reading_of, answer_one, answer_two, Suits, Steps, FaultsAreReal};
 ghost use Rattle.saber_dispatch.specs.Sources.{each_input, NoneFell};
 
 use crate::ends::{End, end_at};
 use crate::inputs::Inputs;
+use saber_flat::RowBuilder;
 use saber_io::Source;
 use saber_plan::{Row, Side};
 use saber_rows::{Lines, Merge, RowEnd, lines_pass};
@@ -72,7 +73,33 @@ fn next_of_two<S: Source>(merge: &mut Merge, inputs: &mut Inputs<S>) -> Result<R
     }
 }
 
+// Appends the next row of one input, if it is held and needs no second look.
+#[inline(always)]
+fn take_of_one(lines: &mut Lines, out: &mut RowBuilder) -> bool
+    requires begun { out.old.begun ≡ [] }
+    ensures none { result ≡ false → (lines.new ≡ lines.old) × (out.new ≡ out.old) }
+    ensures begun { out.new.begun ≡ [] }
+    ensures some { result ≡ true → StepsOnce (one (reader_of lines.old)) (one (reader_of lines.new)) out.old.rows out.new.rows }
+{
+    lines_pass();
+    lines.take_quick(out)
+}
+
 impl Reader {
+    /// Appends the next row of one input, if the reader holds it and needs no second look at it. No input is asked.
+    #[inline(always)]
+    pub(crate) fn take_quick(&mut self, out: &mut RowBuilder) -> bool
+        requires begun { out.old.begun ≡ [] }
+        ensures none { result ≡ false → (self.new ≡ self.old) × (out.new ≡ out.old) }
+        ensures begun { out.new.begun ≡ [] }
+        ensures some { result ≡ true → StepsOnce (reading_of self.old) (reading_of self.new) out.old.rows out.new.rows }
+    {
+        match self {
+            Reader::One(lines) => take_of_one(lines, out),
+            Reader::Two(_) => false,
+        }
+    }
+
     /// The next row, or why none comes. It is called with the same inputs each time.
     pub(crate) fn next<S: Source>(&mut self, inputs: &mut Inputs<S>) -> Result<Row, End>
         requires { Suits (reading_of self.old) (each_input S.left inputs.old) }

@@ -11,9 +11,10 @@ ghost use Rattle.saber_dispatch.specs.Sources.{Lefts, each_input};
 ghost use Rattle.saber_dispatch.specs.Cutting.{Cuts};
 
 use crate::{Cut, Cutter, End, Inputs};
+use saber_flat::RowRef;
 use saber_io::{MemSource, Source};
 use saber_plan::{
-    Expr, Item, Measure, NoMemory, Plan, Row, RowCause, Shape, Side, Sizes, Stream, Window,
+    Expr, Item, Measure, NoMemory, Plan, RowCause, Shape, Side, Sizes, Stream, Window,
 };
 use std::alloc::Global;
 use std::test::Fail;
@@ -59,8 +60,8 @@ pub(crate) fn group(alloc: Global) -> Result<Plan, NoMemory>
     Ok(Plan::new(Shape::Group, streams, items, Vec::new(alloc), None))
 }
 
-pub(crate) fn time_of(row: &Row) -> i64 {
-    row.values.as_slice().first().copied().unwrap_or(-1)
+pub(crate) fn time_of(row: &RowRef) -> i64 {
+    row.values().first().copied().unwrap_or(-1)
 }
 
 // The blocks, each as its first block, the times of its rows and what stands before them, whether the
@@ -108,8 +109,8 @@ fn see_all<S: Source>(
                 seen.firsts.push(block.first)?;
                 seen.marks.push(block.before.left)?;
                 seen.marks.push(block.before.right)?;
-                for row in block.rows.as_slice() {
-                    seen.times.push(time_of(row))?;
+                for i in 0..block.rows.len() {
+                    seen.times.push(time_of(&block.rows.row(i)))?;
                 }
             }
         }

@@ -16,51 +16,48 @@ mod predicates;
 mod values;
 
 pub use laws::{one_stream_fits, two_streams_fit};
-use saber_plan::{Expr, Pred, Row};
+use saber_flat::RowRef;
+use saber_plan::{Expr, Pred};
 
 /// The value of an expression over a row of a query's one stream: whole numbers, exact. Columns
 /// count from 0, and column 0 is the timestamp. Without its sign it is at most the expression's
 /// bound, which the check keeps at 2^126 (this project's rule), so 128 bits hold each step.
-pub fn value(e: &Expr, row: &Row) -> i128
+pub fn value(e: &Expr, row: &RowRef) -> i128
     requires { ExprFits (widths row.now.values []) e.now }
     ensures value { result ≡ v.value e.now row.now.values [] }
     ensures bound { nat_abs result ≤ sum_bound 0 e.now }
     ensures small { nat_abs result ≤ 2 ^ 126 }
 {
-    values::sum(e.as_slice(), row.values.as_slice(), &[])
+    values::sum(e.as_slice(), row.values(), &[])
 }
 
 /// The same over a left and a right row, for a join of two streams. Each column names its side.
-pub fn value2(e: &Expr, left: &Row, right: &Row) -> i128
+pub fn value2(e: &Expr, left: &RowRef, right: &RowRef) -> i128
     requires { ExprFits (widths left.now.values right.now.values) e.now }
     ensures value { result ≡ v.value e.now left.now.values right.now.values }
     ensures bound { nat_abs result ≤ sum_bound 0 e.now }
     ensures small { nat_abs result ≤ 2 ^ 126 }
 {
-    values::sum(
-        e.as_slice(),
-        left.values.as_slice(),
-        right.values.as_slice(),
-    )
+    values::sum(e.as_slice(), left.values(), right.values())
 }
 
 /// Whether a row of a query's one stream passes the predicate of WHERE (the selection of CQL 2006,
 /// over whole numbers): OR of AND of comparisons, each of which may be negated or stand in
 /// parentheses.
-pub fn holds(p: &Pred, row: &Row) -> bool
+pub fn holds(p: &Pred, row: &RowRef) -> bool
     requires { SomeFit (widths row.now.values []) (tests_of p.now) }
     ensures { result ≡ v.some_holds (v.column_of row.now.values []) (tests_of p.now) }
 {
-    predicates::some_hold(p, row.values.as_slice(), &[])
+    predicates::some_hold(p, row.values(), &[])
 }
 
 /// The same for a pair of a left and a right row, as a join asks for it.
-pub fn holds2(p: &Pred, left: &Row, right: &Row) -> bool
+pub fn holds2(p: &Pred, left: &RowRef, right: &RowRef) -> bool
     requires { SomeFit (widths left.now.values right.now.values) (tests_of p.now) }
     ensures { result ≡ v.some_holds (v.column_of left.now.values right.now.values)
         (tests_of p.now) }
 {
-    predicates::some_hold(p, left.values.as_slice(), right.values.as_slice())
+    predicates::some_hold(p, left.values(), right.values())
 }
 
 #[cfg(test)]

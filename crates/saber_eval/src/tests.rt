@@ -6,7 +6,7 @@ ghost use Rattle.saber_plan.specs.declared.predicates.Cmp.TheVariants as c;
 ghost use Rattle.saber_plan.specs.Trees as t;
 
 use super::*;
-use saber_plan::{Cmp, Conj, Factor, Factors, NoMemory, Product, Side, Unit, Values};
+use saber_plan::{Cmp, Conj, Factor, Factors, NoMemory, Product, Row, Side, Unit, Values};
 use std::alloc::Global;
 use std::test::Fail;
 
@@ -68,6 +68,7 @@ fn over_one_row(rt: HostRuntime) -> Result<(), Fail> {
     let e = two(alloc, triple, single(alloc, true, left(2))?)?;
     for (numbers, want) in [([0, 5, -2], 17), ([9, 0, 4], -4), ([1, -1, 0], -3)] {
         let r = row(alloc, Side::Left, numbers)?;
+        let r = RowRef::of(&r);
         assert_eq!(rt; value(&e, &r), want);
     }
     Ok(())
@@ -88,7 +89,9 @@ fn of_great_numbers(rt: HostRuntime) -> Result<(), Fail> {
     ];
     for (numbers, want) in table {
         let l = row(alloc, Side::Left, numbers)?;
+        let l = RowRef::of(&l);
         let r = row(alloc, Side::Right, numbers)?;
+        let r = RowRef::of(&r);
         assert_eq!(rt; value2(&plain, &l, &r), want);
         assert_eq!(rt; value(&taken, &l), -want);
     }
@@ -102,7 +105,9 @@ fn over_a_pair(rt: HostRuntime) -> Result<(), Fail> {
     let e = two(alloc, double, single(alloc, false, right(1))?)?;
     for (l, r, want) in [(5, 3, -7), (3, 5, -1), (0, -9, -9)] {
         let l = row(alloc, Side::Left, [0, l, 0])?;
+        let l = RowRef::of(&l);
         let r = row(alloc, Side::Right, [0, r, 0])?;
+        let r = RowRef::of(&r);
         assert_eq!(rt; value2(&e, &l, &r), want);
     }
     Ok(())
@@ -163,6 +168,7 @@ fn comparisons(rt: HostRuntime) -> Result<(), Fail> {
         let p = only(alloc, alone(alloc, unit)?)?;
         for (second, want) in [(0, less), (-1, equal), (-2, greater)] {
             let r = row(alloc, Side::Left, [7, -1, second])?;
+            let r = RowRef::of(&r);
             assert_eq!(rt; holds(&p, &r), want);
         }
     }
@@ -189,6 +195,7 @@ fn not_and_parentheses(rt: HostRuntime) -> Result<(), Fail> {
     ];
     for (numbers, want) in table {
         let r = row(alloc, Side::Left, numbers)?;
+        let r = RowRef::of(&r);
         assert_eq!(rt; holds(&p, &r), want);
     }
     Ok(())
@@ -212,7 +219,9 @@ fn pairs(rt: HostRuntime) -> Result<(), Fail> {
     ];
     for (l, r, both, one) in table {
         let l = row(alloc, Side::Left, l)?;
+        let l = RowRef::of(&l);
         let r = row(alloc, Side::Right, r)?;
+        let r = RowRef::of(&r);
         assert_eq!(rt; holds2(&all, &l, &r), both);
         assert_eq!(rt; holds2(&some, &l, &r), one);
     }

@@ -9,8 +9,9 @@ ghost use Rattle.saber_plan.specs.Needs.{first_window, past_window};
 ghost use Rattle.saber_laws.specs.Plans.{OneWindow};
 ghost use Rattle.saber_window.specs.Spans.{covers, AllAlike};
 
+use saber_flat::RowRef;
 use saber_laws::{checked_fit, groups_have_one_window};
-use saber_plan::{Mark, Plan, Row};
+use saber_plan::{Mark, Plan};
 use saber_window::{Span, Windows};
 use std::marker::Model;
 
@@ -65,7 +66,7 @@ impl<'a> Group<'a> {
     }
 
     /// The row lies in the windows from the one up to the other, and in no other.
-    pub(crate) fn row_windows(&self, row: &Row, before: &Mark) -> (u64, u64)
+    pub(crate) fn row_windows(&self, row: &RowRef, before: &Mark) -> (u64, u64)
         requires left { before.now.left ≤ 2 ^ 40 }
         requires right { before.now.right ≤ 2 ^ 40 }
         ensures first { result.0 ≡ first_window (frame (tree_of self.now)) (record { row = row.now; before = before.now }) }
@@ -76,7 +77,7 @@ impl<'a> Group<'a> {
     }
 
     /// Points near the row that lie in the same windows.
-    pub(crate) fn alike(&self, row: &Row, before: &Mark) -> Span
+    pub(crate) fn alike(&self, row: &RowRef, before: &Mark) -> Span
         ensures { AllAlike (frame (tree_of self.now)) (record { row = row.now; before = before.now }) result }
     {
         let _plan = &self.plan;
@@ -84,7 +85,7 @@ impl<'a> Group<'a> {
     }
 
     /// The row lies in the span.
-    pub(crate) fn is_alike(&self, span: Span, row: &Row, before: &Mark) -> bool
+    pub(crate) fn is_alike(&self, span: Span, row: &RowRef, before: &Mark) -> bool
         ensures { result ≡ covers (frame (tree_of self.now)) span (record { row = row.now; before = before.now }) }
     {
         let _plan = &self.plan;

@@ -42,7 +42,7 @@ impl Operator for Group<'_> {
     fn start(&self, alloc: Global, own: &Block) -> Result<RunPiece, NoMemory> {
         let batch = Batch {
             before: own.before,
-            rows: own.rows.as_slice(),
+            rows: &own.rows,
             ended: own.ended,
         };
         self.piece_of(alloc, &batch)

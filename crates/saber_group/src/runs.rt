@@ -9,12 +9,13 @@ ghost use Rattle.saber_group.specs.RunParts.{IsRun, LiesIn, AllLieIn, with_row};
 
 use crate::batch::Batch;
 use crate::group::Group;
+use saber_flat::RowRef;
 use saber_laws::{
     begun_stay, closed_stay, groups_have_one_window, merge_has_unit, merge_is_associative,
     no_rows_no_part, rows_add_to_groups, rows_span,
 };
 use saber_partial::{Partial, groups_are_of_rows, small_parts_merge};
-use saber_plan::{Mark, NoMemory, Row};
+use saber_plan::{Mark, NoMemory};
 use saber_window::{Span, past_have_none};
 use std::alloc::Global;
 
@@ -33,7 +34,7 @@ pub(crate) struct Run {
 impl Group<'_> {
     // The row lies in the windows from `first` up to `past`, and in no other. Rows in the span all do, and need no
     // division to tell it.
-    fn lies_in(&self, first: u64, past: u64, span: Span, row: &Row, before: &Mark) -> bool
+    fn lies_in(&self, first: u64, past: u64, span: Span, row: &RowRef, before: &Mark) -> bool
         requires left { before.now.left ≤ 2 ^ 40 }
         requires right { before.now.right ≤ 2 ^ 40 }
         requires span { AllLieIn (tree_of self.now) first past span }
@@ -52,7 +53,7 @@ impl Group<'_> {
         &self,
         alloc: Global,
         is_wanted: bool,
-        row: &Row,
+        row: &RowRef,
         part: &mut Partial,
     ) -> Result<(), NoMemory>
         requires row { IsRowOf (tree_of self.now) row.now }
@@ -94,15 +95,15 @@ impl Group<'_> {
         rows_span();
         small_parts_merge();
         let rows = batch.rows;
-        let row = &rows[from];
-        let (first, past) = self.row_windows(row, mark);
-        let span = self.alike(row, mark);
+        let row = rows.row(from);
+        let (first, past) = self.row_windows(&row, mark);
+        let span = self.alike(&row, mark);
         let has_windows = first < past;
         let mut part = Partial::empty(alloc);
         let mut after = *mark;
         for end in from..rows.len() {
-            let row = &rows[end];
-            if !self.lies_in(first, past, span, row, &after) {
+            let row = rows.row(end);
+            if !self.lies_in(first, past, span, &row, &after) {
                 return Ok(Run {
                     first,
                     past,
@@ -111,8 +112,8 @@ impl Group<'_> {
                     after,
                 });
             }
-            self.add_row(alloc, has_windows, row, &mut part)?;
-            after = self.step(&after, row);
+            self.add_row(alloc, has_windows, &row, &mut part)?;
+            after = self.step(&after, &row);
         }
         Ok(Run {
             first,

@@ -16,7 +16,8 @@ ghost use Rattle.saber_samples.specs.Standing.{ComesBehind, Keeps};
 use super::*;
 use crate::run_pieces::RunPiece;
 use crate::run_stores::RunStore;
-use saber_fragment::{Block, Operator, Rows};
+use saber_flat::Rows;
+use saber_fragment::{Block, Operator};
 use saber_laws::{
     checked_fit, no_rows_give_nothing, open_goes_on, shares_are_local, shares_make_piece,
 };

@@ -3,7 +3,8 @@ ghost use Rattle.std.specs.Prelude.{◌≡◌, [], IfOk, OnOk};
 ghost use Rattle.saber_fragment.specs.Drafts.{begins, own_sight, fed};
 ghost use Rattle.saber_join.specs.Sights.{sight_of};
 
-use saber_fragment::{Block, Rows};
+use saber_flat::Rows;
+use saber_fragment::Block;
 use saber_plan::{Mark, NoMemory};
 use std::alloc::Global;
 
@@ -41,10 +42,10 @@ impl JoinDraft {
     }
 
     /// One block more that is looked back on.
-    pub(crate) fn feed(&mut self, alloc: Global, block: &Block) -> Result<(), NoMemory>
+    pub(crate) fn feed(&mut self, block: &Block) -> Result<(), NoMemory>
         ensures { OnOk result (sight_of self.new ≡ fed (sight_of self.old) block.now) }
     {
         self.first = begins(&self.back, self.first, block.before);
-        self.back.extend_copied(alloc, block.rows.as_slice())
+        self.back.extend(&block.rows)
     }
 }

@@ -13,7 +13,8 @@ use crate::join::Join;
 use crate::pairs::Pairs;
 use crate::seen::Seen;
 use crate::shelf::Shelf;
-use saber_plan::{Mark, NoMemory, Row, Side};
+use saber_flat::RowRef;
+use saber_plan::{Mark, NoMemory, Side};
 use std::alloc::Global;
 use std::marker::Model;
 
@@ -171,13 +172,13 @@ impl<'a> Opened<'a> {
         &mut self,
         alloc: Global,
         key: i64,
-        row: &'a Row,
+        row: &RowRef<'a>,
         before: Mark,
     ) -> Result<(), NoMemory>
         requires { before.left + before.right < 2 ^ 62 }
         ensures { OnOk result (self.new ≡ noted key self.old (record { row = row.now; before = before })) }
     {
-        match row.side {
+        match row.side() {
             Side::Left => self.lefts.put(alloc, key, row, before)?,
             Side::Right => self.rights.put(alloc, key, row, before)?,
         }
@@ -191,7 +192,7 @@ impl<'a> Opened<'a> {
         alloc: Global,
         join: &Join,
         key: i64,
-        row: &'a Row,
+        row: &RowRef<'a>,
         before: Mark,
     ) -> Result<(), NoMemory>
         requires small { before.left + before.right < 2 ^ 62 }
@@ -200,7 +201,7 @@ impl<'a> Opened<'a> {
         ensures { OnOk result (self.new ≡ taken (tree_of join.now) key self.old (record { row = row.now; before = before })) }
     {
         let seen = Seen::new(row, before);
-        match row.side {
+        match row.side() {
             Side::Left => {
                 meet_rights(alloc, join, &seen, key, &self.rights, &mut self.pairs)?;
                 self.lefts.put(alloc, key, row, before)?;

@@ -16,8 +16,9 @@ ghost use Rattle.saber_join.specs.Ties.{CanTie, narrow, key_in};
 
 use crate::ties::{Tie, tie_in};
 use saber_eval::{holds2, two_streams_fit, value2};
+use saber_flat::{RowRef, Rows};
 use saber_laws::{checked_fit, joins_have_two_windows};
-use saber_plan::{Item, Mark, NoMemory, Plan, Row, Side};
+use saber_plan::{Item, Mark, NoMemory, Plan, Side};
 use saber_window::{Windows, stamps_fit, step_mark};
 use std::alloc::Global;
 use std::marker::Model;
@@ -49,7 +50,7 @@ impl<'a> Model for Join<'a> {
 }
 
 // The value of an item over a pair. A join's items are expressions alone.
-fn item_value(item: &Item, left: &Row, right: &Row) -> i128
+fn item_value(item: &Item, left: &RowRef, right: &RowRef) -> i128
     requires { CanShow left.now.values right.now.values item.now }
     ensures { result ≡ item_value left.now.values right.now.values item.now }
 {
@@ -63,8 +64,8 @@ fn item_value(item: &Item, left: &Row, right: &Row) -> i128
 fn item_values(
     alloc: Global,
     items: &[Item],
-    left: &Row,
-    right: &Row,
+    left: &RowRef,
+    right: &RowRef,
 ) -> Result<Vec<i128>, NoMemory>
     requires { AllByRecursion (CanShow left.now.values right.now.values) items.now }
     ensures { IfOk result (λ vs. vs.items ≡ map (item_value left.now.values right.now.values) items.now) }
@@ -112,7 +113,7 @@ impl<'a> Join<'a> {
     }
 
     // Its items can be worked out over a pair of rows of its streams.
-    fn can_show(&self, left: &Row, right: &Row)
+    fn can_show(&self, left: &RowRef, right: &RowRef)
         requires left { IsOn (tree_of self.now) sides.Left left.now }
         requires right { IsOn (tree_of self.now) sides.Right right.now }
         ensures { AllByRecursion (CanShow left.now.values right.now.values) (tree_of self.now).items }
@@ -122,7 +123,7 @@ impl<'a> Join<'a> {
     }
 
     /// Whether a pair of rows passes WHERE.
-    pub(crate) fn passes(&self, left: &Row, right: &Row) -> bool
+    pub(crate) fn passes(&self, left: &RowRef, right: &RowRef) -> bool
         requires left { IsOn (tree_of self.now) sides.Left left.now }
         requires right { IsOn (tree_of self.now) sides.Right right.now }
         ensures { result ≡ v.passes (tree_of self.now).predicate left.now.values right.now.values }
@@ -146,16 +147,16 @@ impl<'a> Join<'a> {
     }
 
     /// The key of a row: rows of two sides with different keys make no pair that passes.
-    pub(crate) fn key(&self, tie: &Option<Tie>, row: &Row) -> i64
+    pub(crate) fn key(&self, tie: &Option<Tie>, row: &RowRef) -> i64
         requires tie { CanTie (tree_of self.now).predicate tie.now }
         requires row { IsRowOf (tree_of self.now) row.now }
         ensures { result ≡ key_in tie.now row.now }
     {
         self.has_windows();
         match tie {
-            Some(tie) => match row.side {
-                Side::Left => narrow(value2(tie.left, row, row)),
-                Side::Right => narrow(value2(tie.right, row, row)),
+            Some(tie) => match row.side() {
+                Side::Left => narrow(value2(tie.left, row, &row.again())),
+                Side::Right => narrow(value2(tie.right, row, &row.again())),
             },
             None => 0,
         }
@@ -165,8 +166,8 @@ impl<'a> Join<'a> {
     pub(crate) fn values(
         &self,
         alloc: Global,
-        left: &Row,
-        right: &Row,
+        left: &RowRef,
+        right: &RowRef,
     ) -> Result<Vec<i128>, NoMemory>
         requires left { IsOn (tree_of self.now) sides.Left left.now }
         requires right { IsOn (tree_of self.now) sides.Right right.now }
@@ -177,7 +178,7 @@ impl<'a> Join<'a> {
     }
 
     /// The row lies in the windows from the one up to the other, and in no other.
-    pub(crate) fn row_windows(&self, row: &Row, before: &Mark) -> (u64, u64)
+    pub(crate) fn row_windows(&self, row: &RowRef, before: &Mark) -> (u64, u64)
         requires left { before.now.left ≤ 2 ^ 40 }
         requires right { before.now.right ≤ 2 ^ 40 }
         ensures first { result.0 ≡ first_window (frame (tree_of self.now)) (record { row = row.now; before = before.now }) }
@@ -204,7 +205,7 @@ impl<'a> Join<'a> {
     }
 
     /// The mark after one more row.
-    pub(crate) fn step(&self, before: &Mark, row: &Row) -> Mark
+    pub(crate) fn step(&self, before: &Mark, row: &RowRef) -> Mark
         requires row { IsRowOf (tree_of self.now) row.now }
         requires left { before.now.left ≤ 2 ^ 40 }
         requires right { before.now.right ≤ 2 ^ 40 }
@@ -215,13 +216,13 @@ impl<'a> Join<'a> {
     }
 
     /// The mark after some rows.
-    pub(crate) fn mark_over(&self, before: &Mark, rows: &[Row]) -> Mark
+    pub(crate) fn mark_over(&self, before: &Mark, rows: &Rows) -> Mark
         requires { RowsFit (tree_of self.now) before.now rows.now }
         ensures { result ≡ w.mark_after before.now rows.now }
     {
         let mut mark = *before;
-        for row in rows {
-            mark = self.step(&mark, row);
+        for i in 0..rows.len() {
+            mark = self.step(&mark, &rows.row(i));
         }
         mark
     }

@@ -44,8 +44,8 @@ impl Operator for Join<'_> {
         JoinDraft::new(alloc, own)
     }
 
-    fn feed(&self, alloc: Global, draft: &mut JoinDraft, block: &Block) -> Result<(), NoMemory> {
-        draft.feed(alloc, block)
+    fn feed(&self, _alloc: Global, draft: &mut JoinDraft, block: &Block) -> Result<(), NoMemory> {
+        draft.feed(block)
     }
 
     fn finish(&self, alloc: Global, draft: JoinDraft) -> Result<Piece<Pairs>, NoMemory> {
@@ -58,8 +58,8 @@ impl Operator for Join<'_> {
         no_rows_no_part();
         pairs_are_in_order();
         rows_span();
-        let back = draft.back.as_slice();
-        let rows = draft.rows.as_slice();
+        let back = &draft.back;
+        let rows = &draft.rows;
         let before = draft.before;
         let last = self.mark_over(&before, rows);
         let after = ending(draft.ended, &last);

@@ -2,13 +2,14 @@
 ghost use Rattle.std.specs.Prelude.{◌≡◌, ◌+◌, ◌^◌, ◌<◌, pos};
 ghost use Rattle.saber_plan.specs.Windows.{place};
 
-use saber_plan::{Mark, Row};
+use saber_flat::RowRef;
+use saber_plan::Mark;
 use std::marker::Model;
 
 /// A row, and what is behind it.
 #[derive(Drop)]
 pub(crate) struct Seen<'a> {
-    row: &'a Row,
+    row: RowRef<'a>,
     before: Mark,
 }
 
@@ -18,18 +19,21 @@ impl<'a> Model for Seen<'a> {
 
     ghost Value = { Placed };
 
-    ghost view = { λ s. record { row = s.row.now; before = s.before } };
+    ghost view = { λ s. record { row = s.row; before = s.before } };
 
     ghost invariant = { λ s. s.before.left + s.before.right < 2 ^ 62 };
 }
 
 impl<'a> Seen<'a> {
     /// A row with the mark before it.
-    pub(crate) fn new(row: &'a Row, before: Mark) -> Seen<'a>
+    pub(crate) fn new(row: &RowRef<'a>, before: Mark) -> Seen<'a>
         requires { before.left + before.right < 2 ^ 62 }
         ensures { result ≡ record { row = row.now; before = before } }
     {
-        Seen { row, before }
+        Seen {
+            row: row.again(),
+            before,
+        }
     }
 
     /// How many rows of both sides came before it.
@@ -40,9 +44,9 @@ impl<'a> Seen<'a> {
     }
 
     /// The row itself.
-    pub(crate) fn row(&self) -> &Row
+    pub(crate) fn row(&self) -> &RowRef<'a>
         ensures { result.now ≡ self.now.row }
     {
-        self.row
+        &self.row
     }
 }

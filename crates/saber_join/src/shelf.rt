@@ -4,7 +4,8 @@ ghost use Rattle.std.specs.FinMap.{empty};
 ghost use Rattle.saber_join.specs.Shelves.{rows_at, put};
 
 use crate::seen::Seen;
-use saber_plan::{Mark, NoMemory, Row};
+use saber_flat::RowRef;
+use saber_plan::{Mark, NoMemory};
 use std::alloc::Global;
 use std::collections::BTreeMap;
 use std::marker::Model;
@@ -58,7 +59,7 @@ impl<'a> Shelf<'a> {
         &mut self,
         alloc: Global,
         key: i64,
-        row: &'a Row,
+        row: &RowRef<'a>,
         before: Mark,
     ) -> Result<(), NoMemory>
         requires { before.left + before.right < 2 ^ 62 }

@@ -15,7 +15,8 @@ ghost use Rattle.saber_samples.specs.Asking.{IsJoinOf, one_column, only};
 ghost use Rattle.saber_samples.specs.Standing.{ComesBehind, Keeps};
 
 use super::*;
-use saber_fragment::{Block, Operator, Parts, Piece, Rows};
+use saber_flat::Rows;
+use saber_fragment::{Block, Operator, Parts, Piece};
 use saber_laws::{
     checked_fit, merge_has_unit, no_rows_give_nothing, open_goes_on, part_has_lines, parts_join,
     parts_lie_within, shares_make_piece,
@@ -381,7 +382,7 @@ fn answer<O: Operator>(
     for table in tasks {
         let (own, after) = sided_block(alloc, 2, mark, table, false)?;
         give(alloc, operator, &behind, &own, &mut store, &mut out)?;
-        behind.rows.extend_copied(alloc, own.rows.as_slice())?;
+        behind.rows.extend(&own.rows)?;
         mark = after;
     }
     let (own, _) = sided_block(alloc, 2, mark, &[], true)?;

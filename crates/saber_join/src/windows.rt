@@ -10,8 +10,9 @@ ghost use Rattle.saber_join.specs.Open.{seen_held, held_in, AllFit, Changed, Cha
 use crate::held::Opened;
 use crate::join::Join;
 use crate::ties::Tie;
+use saber_flat::{RowRef, Rows};
 use saber_laws::{no_rows_no_part, rows_span, windows_get_pairs};
-use saber_plan::{Mark, NoMemory, Row};
+use saber_plan::{Mark, NoMemory};
 use std::alloc::Global;
 use std::collections::BTreeMap;
 
@@ -21,7 +22,7 @@ fn note_at<'a>(
     windows: &mut BTreeMap<u64, Opened<'a>>,
     window: u64,
     key: i64,
-    row: &'a Row,
+    row: &RowRef<'a>,
     before: Mark,
 ) -> Result<(), NoMemory>
     requires { before.left + before.right < 2 ^ 62 }
@@ -49,7 +50,7 @@ fn note_row<'a>(
     tie: &Option<Tie>,
     first: u64,
     past: u64,
-    row: &'a Row,
+    row: &RowRef<'a>,
     before: Mark,
 ) -> Result<(), NoMemory>
     requires small { before.left + before.right < 2 ^ 62 }
@@ -75,7 +76,7 @@ fn take_at<'a>(
     windows: &mut BTreeMap<u64, Opened<'a>>,
     window: u64,
     key: i64,
-    row: &'a Row,
+    row: &RowRef<'a>,
     before: Mark,
 ) -> Result<(), NoMemory>
     requires small { before.left + before.right < 2 ^ 62 }
@@ -105,7 +106,7 @@ fn take_row<'a>(
     tie: &Option<Tie>,
     first: u64,
     past: u64,
-    row: &'a Row,
+    row: &RowRef<'a>,
     before: Mark,
 ) -> Result<(), NoMemory>
     requires small { before.left + before.right < 2 ^ 62 }
@@ -134,7 +135,7 @@ impl Join<'_> {
         tie: &Option<Tie>,
         closed: u64,
         before: &Mark,
-        rows: &'a [Row],
+        rows: &'a Rows,
     ) -> Result<(), NoMemory>
         requires tie { CanTie (tree_of self.now).predicate tie.now }
         requires fits { RowsFit (tree_of self.now) before.now rows.now }
@@ -146,11 +147,12 @@ impl Join<'_> {
         self.has_windows();
         rows_span();
         let mut mark = *before;
-        for row in rows {
-            let (first, past) = self.row_windows(row, &mark);
+        for i in 0..rows.len() {
+            let row = rows.row(i);
+            let (first, past) = self.row_windows(&row, &mark);
             let low = first.max(closed);
-            note_row(alloc, self, windows, tie, low, past, row, mark)?;
-            mark = self.step(&mark, row);
+            note_row(alloc, self, windows, tie, low, past, &row, mark)?;
+            mark = self.step(&mark, &row);
         }
         Ok(())
     }
@@ -163,7 +165,7 @@ impl Join<'_> {
         tie: &Option<Tie>,
         closed: u64,
         before: &Mark,
-        rows: &'a [Row],
+        rows: &'a Rows,
     ) -> Result<(), NoMemory>
         requires tie { CanTie (tree_of self.now).predicate tie.now }
         requires fits { RowsFit (tree_of self.now) before.now rows.now }
@@ -174,11 +176,12 @@ impl Join<'_> {
         self.has_windows();
         rows_span();
         let mut mark = *before;
-        for row in rows {
-            let (first, past) = self.row_windows(row, &mark);
+        for i in 0..rows.len() {
+            let row = rows.row(i);
+            let (first, past) = self.row_windows(&row, &mark);
             let low = first.max(closed);
-            take_row(alloc, self, windows, tie, low, past, row, mark)?;
-            mark = self.step(&mark, row);
+            take_row(alloc, self, windows, tie, low, past, &row, mark)?;
+            mark = self.step(&mark, &row);
         }
         Ok(())
     }
@@ -190,8 +193,8 @@ impl Join<'_> {
         alloc: Global,
         before: &Mark,
         after: &Mark,
-        back: &'a [Row],
-        rows: &'a [Row],
+        back: &'a Rows,
+        rows: &'a Rows,
     ) -> Result<BTreeMap<u64, Opened<'a>>, NoMemory>
         requires fits { RowsFit (tree_of self.now) before.now (back.now ++ rows.now) }
         requires after { after.now ≡ mark_after before.now back.now }

@@ -12,8 +12,9 @@ ghost use Rattle.saber_plan.specs.Windows.{one};
 ghost use Rattle.saber_partial.specs.Panes.{divisor, first_pane, is_counted, pane_count, pane_of, point_by};
 
 use saber_eval::{holds, one_stream_fits};
+use saber_flat::RowRef;
 use saber_laws::groups_have_one_window;
-use saber_plan::{Mark, Measure, Plan, Row, Window};
+use saber_plan::{Mark, Measure, Plan, Window};
 use saber_window::{Windows, stamps_fit, step_mark};
 use std::marker::Model;
 
@@ -57,17 +58,17 @@ pub(crate) fn width_of(window: &Window) -> u64
 }
 
 // The timestamp of a row; 0 where it has none.
-fn stamp(row: &Row) -> u64
+fn stamp(row: &RowRef) -> u64
     ensures { result ≡ stamp row.now.values }
 {
-    match row.values.as_slice().first() {
+    match row.values().first() {
         Some(time) => time.unsigned_abs(),
         None => 0,
     }
 }
 
 // What sizes and slides count of a row.
-fn point(measure: Measure, row: &Row, before: &Mark) -> u64
+fn point(measure: Measure, row: &RowRef, before: &Mark) -> u64
     ensures { result ≡ point_by measure (record { row = row.now; before = before.now }) }
 {
     match measure {
@@ -124,7 +125,7 @@ impl<'a> Cuts<'a> {
     }
 
     /// The pane of a row.
-    pub(crate) fn pane_of(&self, row: &Row, before: &Mark) -> u64
+    pub(crate) fn pane_of(&self, row: &RowRef, before: &Mark) -> u64
         ensures { result ≡ pane_of (frame (tree_of self.now)) (record { row = row.now; before = before.now }) }
     {
         let _plan = &self.plan;
@@ -143,7 +144,7 @@ impl<'a> Cuts<'a> {
     }
 
     // Whether a row passes WHERE.
-    fn passes(&self, row: &Row) -> bool
+    fn passes(&self, row: &RowRef) -> bool
         requires { IsRowOf (tree_of self.now) row.now }
         ensures { result ≡ v.passes (tree_of self.now).predicate row.now.values [] }
     {
@@ -156,7 +157,7 @@ impl<'a> Cuts<'a> {
     }
 
     /// Whether a row lies in a window and passes WHERE.
-    pub(crate) fn is_counted(&self, row: &Row, before: &Mark) -> bool
+    pub(crate) fn is_counted(&self, row: &RowRef, before: &Mark) -> bool
         requires row { IsRowOf (tree_of self.now) row.now }
         requires left { before.now.left ≤ 2 ^ 40 }
         requires right { before.now.right ≤ 2 ^ 40 }
@@ -168,7 +169,7 @@ impl<'a> Cuts<'a> {
     }
 
     /// The mark after one more row.
-    pub(crate) fn step(&self, before: &Mark, row: &Row) -> Mark
+    pub(crate) fn step(&self, before: &Mark, row: &RowRef) -> Mark
         requires row { IsRowOf (tree_of self.now) row.now }
         requires left { before.now.left ≤ 2 ^ 40 }
         requires right { before.now.right ≤ 2 ^ 40 }

@@ -9,11 +9,12 @@ ghost use Rattle.saber_partial.specs.Flat.{numbers_asked};
 use crate::gather::Gather;
 use crate::layout::Layout;
 use saber_eval::value;
-use saber_plan::{Item, Row};
+use saber_flat::RowRef;
+use saber_plan::Item;
 
 // Writes an item's value at k, if the item wants one, and tells where the next one stands.
 #[inline]
-fn write_value(xs: &mut [i128], k: usize, gather: Gather, item: &Item, row: &Row) -> usize
+fn write_value(xs: &mut [i128], k: usize, gather: Gather, item: &Item, row: &RowRef) -> usize
     requires there { k + length (option_to_list (wanted gather item.now)) ≤ length xs.old }
     requires fits { CanCount row.now.values item.now }
     ensures next { result ≡ k + length (option_to_list (wanted gather item.now)) }
@@ -37,7 +38,7 @@ fn write_each(
     greatests: &mut [i128],
     firsts: &mut [i128],
     items: &[Item],
-    row: &Row,
+    row: &RowRef,
 )
     requires sums { length sums.old ≡ length (summed items.now) }
     requires leasts { length leasts.old ≡ length (least items.now) }
@@ -64,7 +65,7 @@ fn write_each(
 
 /// Writes the values over a first row over numbers by kind.
 #[inline]
-pub(crate) fn write_kinds(layout: &Layout, xs: &mut [i128], items: &[Item], row: &Row)
+pub(crate) fn write_kinds(layout: &Layout, xs: &mut [i128], items: &[Item], row: &RowRef)
     requires long { length xs.old ≡ numbers_asked items.now }
     requires sums { layout.now.sums ≡ length (summed items.now) }
     requires leasts { layout.now.leasts ≡ length (least items.now) }

@@ -10,7 +10,8 @@ use crate::layout::Layout;
 use crate::merges::{merged, take_in};
 use crate::places::place;
 use crate::table::Table;
-use saber_plan::{Item, NoMemory, Row};
+use saber_flat::RowRef;
+use saber_plan::{Item, NoMemory};
 use std::alloc::Global;
 use std::marker::Model;
 
@@ -63,7 +64,7 @@ impl Partial {
         alloc: Global,
         key: &[i128],
         items: &[Item],
-        row: &Row,
+        row: &RowRef,
     ) -> Result<(), NoMemory>
         requires keys { length key.now ≤ 8 }
         requires items { length items.now ≤ 32 }
@@ -84,7 +85,7 @@ impl Partial {
         alloc: Global,
         key: &[i128],
         items: &[Item],
-        row: &Row,
+        row: &RowRef,
     ) -> Result<(), NoMemory>
         requires keys { length key.now ≤ 8 }
         requires items { length items.now ≤ 32 }

@@ -9,12 +9,13 @@ ghost use Rattle.saber_partial.specs.Gathering.{wanted, exprs_of, values_by, com
 use crate::gather::Gather;
 use crate::layout::Layout;
 use saber_eval::value;
-use saber_plan::{Item, Row};
+use saber_flat::RowRef;
+use saber_plan::Item;
 
 // Takes an item's value into the number at k, if the item wants one, and tells where the next one
 // stands.
 #[inline]
-fn add_value(xs: &mut [i128], k: usize, gather: Gather, item: &Item, row: &Row) -> usize
+fn add_value(xs: &mut [i128], k: usize, gather: Gather, item: &Item, row: &RowRef) -> usize
     requires there { k + length (option_to_list (wanted gather item.now)) ≤ length xs.old }
     requires fits { CanCount row.now.values item.now }
     requires room { AllByRecursion (HasRoom gather) (drop k xs.old) }
@@ -39,7 +40,7 @@ fn add_each(
     leasts: &mut [i128],
     greatests: &mut [i128],
     items: &[Item],
-    row: &Row,
+    row: &RowRef,
 )
     requires sums { length sums.old ≡ length (summed items.now) }
     requires leasts { length leasts.old ≡ length (least items.now) }
@@ -63,7 +64,7 @@ fn add_each(
 
 /// Takes the values over one row more into numbers by kind; those of first rows stay.
 #[inline]
-pub(crate) fn add_kinds(layout: &Layout, xs: &mut [i128], items: &[Item], row: &Row)
+pub(crate) fn add_kinds(layout: &Layout, xs: &mut [i128], items: &[Item], row: &RowRef)
     requires there { layout.now.sums + layout.now.leasts + layout.now.greatests ≤ length xs.old }
     requires sums { layout.now.sums ≡ length (summed items.now) }
     requires leasts { layout.now.leasts ≡ length (least items.now) }

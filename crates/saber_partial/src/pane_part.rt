@@ -10,7 +10,8 @@ ghost use Rattle.saber_partial.specs.Tallies.{CanMerge};
 
 use crate::groups::Partial;
 use crate::steps::Steps;
-use saber_plan::{NoMemory, Plan, Row};
+use saber_flat::RowRef;
+use saber_plan::{NoMemory, Plan};
 use std::alloc::Global;
 use std::marker::Model;
 use std::sync::ledger::Ledger;
@@ -47,7 +48,7 @@ impl PanePart {
         &mut self,
         alloc: Global,
         plan: &Plan,
-        row: &Row,
+        row: &RowRef,
         steps: &mut Steps<L>,
     ) -> Result<(), NoMemory>
         requires checked { IsChecked (tree_of plan.now) }

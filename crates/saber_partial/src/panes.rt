@@ -17,8 +17,9 @@ use crate::cuts::Cuts;
 use crate::groups::Partial;
 use crate::pane_part::PanePart;
 use crate::steps::Steps;
+use saber_flat::{RowRef, Rows};
 use saber_laws::{groups_join, merge_has_unit, merge_is_associative};
-use saber_plan::{Mark, NoMemory, Plan, Row};
+use saber_plan::{Mark, NoMemory, Plan};
 use std::alloc::Global;
 use std::collections::BTreeMap;
 use std::marker::Model;
@@ -60,7 +61,7 @@ impl Panes {
         alloc: Global,
         plan: &Plan,
         pane: u64,
-        row: &Row,
+        row: &RowRef,
         steps: &mut Steps<L>,
     ) -> Result<(), NoMemory>
         requires checked { IsChecked (tree_of plan.now) }
@@ -88,7 +89,7 @@ impl Panes {
         plan: &Plan,
         cuts: &Cuts,
         before: &Mark,
-        row: &Row,
+        row: &RowRef,
         steps: &mut Steps<L>,
     ) -> Result<(), NoMemory>
         requires checked { IsChecked (tree_of plan.now) }
@@ -116,7 +117,7 @@ impl Panes {
         alloc: Global,
         p: &Plan,
         before: &Mark,
-        rows: &[Row],
+        rows: &Rows,
         steps: &mut Steps<L>,
     ) -> Result<(), NoMemory>
         requires checked { IsChecked (tree_of p.now) }
@@ -130,9 +131,10 @@ impl Panes {
         merge_is_associative();
         let cuts = Cuts::new(p);
         let mut mark = *before;
-        for row in rows {
-            self.fold_row(alloc, p, &cuts, &mark, row, steps)?;
-            mark = cuts.step(&mark, row);
+        for i in 0..rows.len() {
+            let row = rows.row(i);
+            self.fold_row(alloc, p, &cuts, &mark, &row, steps)?;
+            mark = cuts.step(&mark, &row);
         }
         Ok(())
     }

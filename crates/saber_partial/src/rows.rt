@@ -12,7 +12,8 @@ ghost use Rattle.std.specs.List.{AllByRecursion};
 
 use crate::groups::Partial;
 use arrayvec::ArrayVec;
-use saber_plan::{NoMemory, Plan, Row};
+use saber_flat::RowRef;
+use saber_plan::{NoMemory, Plan};
 use std::alloc::Global;
 
 // The key list of a row, of at most eight columns.
@@ -32,7 +33,7 @@ impl Partial {
     /// one, all rows have the empty key), whether or not it passes WHERE: callers ask
     /// `saber_eval::holds` once a row. Only the first row of a group takes memory; where that is
     /// wanting, nothing changes. `groups_can_merge` and `small_parts_merge` meet `room`.
-    pub fn add_row(&mut self, alloc: Global, plan: &Plan, row: &Row) -> Result<(), NoMemory>
+    pub fn add_row(&mut self, alloc: Global, plan: &Plan, row: &RowRef) -> Result<(), NoMemory>
         requires checked { IsChecked (tree_of plan.now) }
         requires group { (tree_of plan.now).shape ≡ Group }
         requires row { RowFits Left (columns_on (tree_of plan.now).streams Left) row.now }
@@ -41,7 +42,7 @@ impl Partial {
         ensures err { OnErr result (self.new ≡ self.old) }
     {
         let mut list = ArrayVec::new();
-        push_key(&mut list, plan.keys(), row.values.as_slice());
+        push_key(&mut list, plan.keys(), row.values());
         self.add(alloc, list.as_slice(), plan.items(), row)
     }
 }

@@ -9,7 +9,8 @@ ghost use Rattle.saber_partial.specs.Flat.{entry_in, HaveLayout, IsLayout, IsRow
 
 use crate::layout::Layout;
 use crate::tally::{add_row, join_row, write_first};
-use saber_plan::{Item, NoMemory, Row};
+use saber_flat::RowRef;
+use saber_plan::{Item, NoMemory};
 use std::alloc::Global;
 use std::marker::Model;
 
@@ -162,7 +163,7 @@ impl Table {
 
     /// Counts one row more in a group.
     #[inline]
-    pub(crate) fn add_row(&mut self, i: usize, items: &[Item], row: &Row)
+    pub(crate) fn add_row(&mut self, i: usize, items: &[Item], row: &RowRef)
         requires there { i < length self.old.entries }
         requires fit { AllByRecursion (CanCount row.now.values) items.now }
         requires can { (d : List ℤ × Numbers) → CanJoin (get_or self.old.entries i d).1 (numbers items.now (row.now.values ∷ [])) }
@@ -224,7 +225,7 @@ impl Table {
         i: usize,
         key: &[i128],
         items: &[Item],
-        row: &Row,
+        row: &RowRef,
     ) -> Result<(), NoMemory>
         requires there { i ≤ length self.old.entries }
         requires suits { Suits self.old.layout (length key.now) items.now }

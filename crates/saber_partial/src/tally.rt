@@ -10,7 +10,8 @@ use crate::first_row::write_kinds;
 use crate::joins::join_slices;
 use crate::later_row::add_kinds;
 use crate::layout::Layout;
-use saber_plan::{Item, Row};
+use saber_flat::RowRef;
+use saber_plan::Item;
 
 /// Takes what is known of later rows with the key into a row of numbers.
 #[inline]
@@ -29,7 +30,7 @@ pub(crate) fn join_row(layout: &Layout, xs: &mut [i128], ys: &[i128])
 
 /// Counts one row more with the key.
 #[inline]
-pub(crate) fn add_row(layout: &Layout, xs: &mut [i128], items: &[Item], row: &Row)
+pub(crate) fn add_row(layout: &Layout, xs: &mut [i128], items: &[Item], row: &RowRef)
     requires layout { IsLayout layout.now }
     requires mine { IsRow layout.now xs.old }
     requires fit { AllByRecursion (CanCount row.now.values) items.now }
@@ -45,7 +46,13 @@ pub(crate) fn add_row(layout: &Layout, xs: &mut [i128], items: &[Item], row: &Ro
 
 /// Writes what is known of a first row over a row of numbers.
 #[inline]
-pub(crate) fn write_first(layout: &Layout, xs: &mut [i128], key: &[i128], items: &[Item], row: &Row)
+pub(crate) fn write_first(
+    layout: &Layout,
+    xs: &mut [i128],
+    key: &[i128],
+    items: &[Item],
+    row: &RowRef,
+)
     requires suits { Suits layout.now (length key.now) items.now }
     requires long { length xs.old ≡ layout.now.width }
     requires fit { AllByRecursion (CanCount row.now.values) items.now }

@@ -11,6 +11,7 @@ ghost use Rattle.saber_plan.specs.Checked.{IsChecked, columns_on};
 ghost use Rattle.saber_partial.specs.PartLaws.{OfRows};
 
 use super::*;
+use saber_flat::RowRef;
 use saber_plan::{
     Expr, Factor, Factors, Item, Measure, NoMemory, Plan, Product, Row, Shape, Side, Stream,
     Values, Window,
@@ -119,7 +120,7 @@ fn grouped(alloc: Global, plan: &Plan, rows: &[(u32, i64, i64)]) -> Result<Parti
     small_parts_merge();
     for (time, key, number) in rows {
         let row = row(alloc, *time, *key, *number)?;
-        part.add_row(alloc, plan, &row)?;
+        part.add_row(alloc, plan, &RowRef::of(&row))?;
     }
     Ok(part)
 }

@@ -1,5 +1,5 @@
 -- A reader over a feed.
-use Rattle.std.proofs.Common.{◌≡◌, ◌⊎◌, inl, inr, ℕ, ◌≤◌, List, [], ◌∷◌, ◌++◌, length, take, Bool, true, false, Option, Some, None, Result, Ok, Err, IfSome, IfOk, refl, sym, ◌∙◌, ap, subst, arith}
+use Rattle.std.proofs.Common.{◌≡◌, inl, inr, ℕ, ◌≤◌, List, [], ◌∷◌, ◌++◌, length, take, Bool, true, false, Option, Some, None, Result, Ok, Err, IfSome, refl, sym, ◌∙◌, ap, arith}
 use Rattle.std.proofs.lemmas.List.{append-nil}
 use Rattle.saber_io.specs.declared.feeds.Fed.{Fed}
 use Rattle.saber_io.specs.declared.feeds.EndMark.{EndMark}
@@ -15,14 +15,12 @@ use Rattle.saber_rows.specs.declared.ends.RowEnd.{RowEnd}
 use Rattle.saber_rows.specs.declared.ends.RowEnd.TheVariants.{ReadFault, NoMemory, Bad}
 use Rattle.saber_rows.specs.declared.ends.Behind.{Behind}
 use Rattle.saber_rows.specs.declared.ends.Behind.TheVariants as behinds
-use Rattle.saber_rows.specs.declared.ends.Stop.{Stop}
 use Rattle.saber_rows.specs.declared.ends.Stop.TheVariants.{AllRead, Failed}
 use Rattle.saber_rows.specs.declared.lines.Turn.{Turn}
 use Rattle.saber_rows.specs.declared.lines.Turn.TheVariants as turns
-use Rattle.saber_rows.specs.Reader.{Reader, rest_of, rest_by, nothing, CanFollow, answer_of, stop_behind, end_behind}
+use Rattle.saber_rows.specs.Reader.{Reader, rest_of, rest_by, nothing, stop_behind, end_behind}
 use Rattle.saber_rows.specs.Calls.{Moves, EndsBy}
 use Rattle.saber_rows.specs.Turns.{LineGives}
-use Rattle.saber_rows.proofs.ReadSteps.{true_not_false}
 
 -- ---- what a feed gave
 

@@ -15,6 +15,7 @@ pub mod SoundRows
 pub mod LastLines
 pub mod Chains
 pub mod Told
+pub mod QuickTakes
 pub mod FedReads
 pub mod Fronts
 pub mod MergedTurns

@@ -1,5 +1,5 @@
 -- Digits and numbers at the front of some bytes.
-use Rattle.std.proofs.Common.{◌≡◌, ◌≢◌, ℕ, zero, suc, ◌+◌, ◌-◌, ◌*◌, ◌^◌, ◌<◌, ◌≤◌, List, [], ◌∷◌, length, take, drop, get_or, Bool, true, false, ◌&&◌, ◌||◌, ◌==◌, cond, Some, ℤ, pos, neg_ℤ, int_le, ◌-ℤ◌, to_z, of_z, w64, refl, sym, ◌∙◌, ap, arith, add-one, length-take}
+use Rattle.std.proofs.Common.{◌≡◌, ◌≢◌, ℕ, zero, suc, ◌+◌, ◌-◌, ◌*◌, ◌%◌, ◌^◌, ◌<◌, ◌≤◌, List, [], ◌∷◌, length, take, drop, get_or, Bool, true, false, ◌&&◌, ◌||◌, ◌==◌, cond, Some, ℤ, pos, neg_ℤ, int_le, ◌-ℤ◌, to_z, of_z, w64, subst, length-drop, get_or-drop, drop-drop, refl, sym, ◌∙◌, ap, arith, add-one, length-take}
 use Rattle.std.proofs.lemmas.List.{length-take-le}
 use Rattle.std.proofs.lemmas.List.Folds.{list_all_more}
 use Rattle.std.proofs.lemmas.Int.{ints, to_z_pos, to_z-of_z}
@@ -34,10 +34,7 @@ tests = record {
 digits_small : (ds : List ℕ) → list_all is_ascii_digit ds ≡ true → length ds ≤ 18 → digits_value 10 ds < 10 ^ 18
 digits_small ds e h = digits_value_short (numerals_by_value (λ ds. list_all is_ascii_digit ds ≡ true) tests) ds 18 e h
 
-pub no_digits : (bytes : List ℕ) → AreDigits bytes 0 0
-no_digits bytes = record { within = omega arith; digits = refl; value = refl; small = omega arith }
-
-pub one_digit_more : (bytes : List ℕ) (size i : ℕ) → AreDigits bytes size i → i < length bytes → i + 1 ≤ 18 → is_ascii_digit (get_or bytes i 0) ≡ true → AreDigits bytes (size * 10 + (get_or bytes i 0 - 48)) (i + 1)
+one_digit_more : (bytes : List ℕ) (size i : ℕ) → AreDigits bytes size i → i < length bytes → i + 1 ≤ 18 → is_ascii_digit (get_or bytes i 0) ≡ true → AreDigits bytes (size * 10 + (get_or bytes i 0 - 48)) (i + 1)
 one_digit_more bytes size i d h k e =
     let all : list_all is_ascii_digit (take (i + 1) bytes) ≡ true = list_all_more is_ascii_digit bytes i 0 h ∙ and_true _ _ d.digits e in
     let digit : IsInRange 48 57 (get_or bytes i 0) = in_digits (get_or bytes i 0) e in
@@ -48,6 +45,17 @@ one_digit_more bytes size i d h k e =
       value = value;
       small = omega (arith, value, digits_small (take (i + 1) bytes) all (omega (arith, length-take (i + 1) bytes)));
     }
+
+-- the same from a start on, as the code writes the number: it does not wrap
+pub digit_behind : (held : List ℕ) (start i size digit : ℕ) → AreDigits (drop start held) size (i - start) → start ≤ i → i < length held → i + 1 ≤ start + 18
+    → get_or held i 0 < 256 → digit ≡ (get_or held i 0 + 208) % 256 → digit ≤ 9 → AreDigits (drop start held) ((size * 10 % 2 ^ 64 + digit) % 2 ^ 64) (i + 1 - start)
+digit_behind held start i size digit d from inside few byte own low =
+    let here : get_or (drop start held) (i - start) 0 ≡ get_or held i 0 = get_or-drop start held (i - start) 0 ∙ ap (λ j. get_or held j 0) (omega arith) in
+    let range : IsInRange 48 57 (get_or held i 0) = (omega (arith, own), omega (arith, own)) in
+    let number : size * 10 + (get_or (drop start held) (i - start) 0 - 48) ≡ (size * 10 % 2 ^ 64 + digit) % 2 ^ 64 = omega (arith, d.small, here, own, range) in
+    let next : i - start + 1 ≡ i + 1 - start = omega arith in
+    let more = one_digit_more (drop start held) size (i - start) d (omega (arith, length-drop start held)) (omega arith) (ap is_ascii_digit here ∙ is_digit _ range) in
+    subst (λ n. AreDigits (drop start held) ((size * 10 % 2 ^ 64 + digit) % 2 ^ 64) n) next (subst (λ n. AreDigits (drop start held) n (i - start + 1)) number more)
 
 -- ---- numbers
 
@@ -84,7 +92,7 @@ minus_time : (n : ℕ) → int_le (pos 0) (neg_ℤ (pos n)) ≡ true → in_rang
 minus_time zero e = refl
 minus_time (suc n) e = grind (arith, ints, nat_tests)
 
-pub plain_number : (bytes : List ℕ) (size n : ℕ) → AreDigits bytes size n → n ≢ 0 → IsNumberAt bytes (pos size) n
+plain_number : (bytes : List ℕ) (size n : ℕ) → AreDigits bytes size n → n ≢ 0 → IsNumberAt bytes (pos size) n
 plain_number bytes size n d h =
     let len : length (take n bytes) ≡ n = length-take-le n bytes d.within in
     record {
@@ -96,7 +104,7 @@ plain_number bytes size n d h =
       time = λ _. plain_time size d.small;
     }
 
-pub minus_number : (bytes : List ℕ) (size n : ℕ) → 0 < length bytes → get_or bytes 0 0 ≡ 45 → AreDigits (drop 1 bytes) size n → n ≢ 0 → IsNumberAt bytes (neg_ℤ (pos size)) (n + 1)
+minus_number : (bytes : List ℕ) (size n : ℕ) → 0 < length bytes → get_or bytes 0 0 ≡ 45 → AreDigits (drop 1 bytes) size n → n ≢ 0 → IsNumberAt bytes (neg_ℤ (pos size)) (n + 1)
 minus_number [] size n some first d h = absurd (omega arith)
 minus_number (c ∷ cs) size n some first d h =
     let len : length (take n cs) ≡ n = length-take-le n cs d.within in
@@ -115,14 +123,31 @@ in_other k z h =
     let other : (k == 1) ≡ false = grind (arith, nat_tests) in
     ap (λ b. cond b (in_range 1 z) (in_range 2 z)) other
 
-pub in_column : (bytes : List ℕ) (z : ℤ) (n k : ℕ) → IsNumberAt bytes z n → (k ≡ 1 → int_le (pos 0) z ≡ true) → in_range k z ≡ true
+in_column : (bytes : List ℕ) (z : ℤ) (n k : ℕ) → IsNumberAt bytes z n → (k ≡ 1 → int_le (pos 0) z ≡ true) → in_range k z ≡ true
 in_column bytes z n k d h = by_test (k == 1) refl where
   by_test : (b : Bool) → (k == 1) ≡ b → in_range k z ≡ true
   by_test true e = let one : k ≡ 1 = grind (arith, nat_tests) in ap (λ j. in_range j z) one ∙ d.time (h one)
   by_test false e = in_other k z (grind (arith, nat_tests)) ∙ d.range
 
 -- what the code writes for a number behind a minus
-pub minus_value : (n : ℕ) → n < 10 ^ 18 → to_z w64 (of_z w64 (pos 0 -ℤ to_z w64 n)) ≡ neg_ℤ (pos n)
+minus_value : (n : ℕ) → n < 10 ^ 18 → to_z w64 (of_z w64 (pos 0 -ℤ to_z w64 n)) ≡ neg_ℤ (pos n)
 minus_value n h =
     let small : n < 2 ^ 63 = omega arith in
     ap (λ z. to_z w64 (of_z w64 (pos 0 -ℤ z))) (to_z_pos w64 n small) ∙ to_z-of_z w64 (pos 0 -ℤ pos n) (grind (arith, ints)) ∙ grind (arith, ints)
+
+-- ---- fields
+
+pub plain_field : (bytes : List ℕ) (size n k : ℕ) → AreDigits bytes size n → n ≢ 0 → IsNumberAt bytes (to_z w64 size) n × (in_range k (to_z w64 size) ≡ true)
+plain_field bytes size n k d h =
+    let number = plain_number bytes size n d h in
+    let value : pos size ≡ to_z w64 size = sym (to_z_pos w64 size (omega (arith, d.small))) in
+    subst (λ z. IsNumberAt bytes z n × (in_range k z ≡ true)) value (number, in_column bytes (pos size) n k number (λ _. grind (arith, ints, nat_tests)))
+
+pub minus_field : (held : List ℕ) (start end size k : ℕ) → start < length held → get_or held start 0 ≡ 45 → start + 1 < end → k ≢ 1 → AreDigits (drop (start + 1) held) size (end - (start + 1))
+    → IsNumberAt (drop start held) (to_z w64 (of_z w64 (pos 0 -ℤ to_z w64 size))) (end - start) × (in_range k (to_z w64 (of_z w64 (pos 0 -ℤ to_z w64 size))) ≡ true)
+minus_field held start end size k inside first some other d =
+    let behind : AreDigits (drop 1 (drop start held)) size (end - (start + 1)) = subst (λ x. AreDigits x size (end - (start + 1))) (sym (drop-drop 1 start held)) d in
+    let first_here : get_or (drop start held) 0 0 ≡ 45 = get_or-drop start held 0 0 ∙ ap (λ j. get_or held j 0) (omega arith) ∙ first in
+    let number = minus_number (drop start held) size (end - (start + 1)) (omega (arith, length-drop start held)) first_here behind (omega arith) in
+    let whole : IsNumberAt (drop start held) (neg_ℤ (pos size)) (end - start) = subst (λ n. IsNumberAt (drop start held) (neg_ℤ (pos size)) n) (omega arith) number in
+    subst (λ z. IsNumberAt (drop start held) z (end - start) × (in_range k z ≡ true)) (sym (minus_value size d.small)) (whole, in_column (drop start held) (neg_ℤ (pos size)) (end - start) k whole (λ one. absurd (other one)))

@@ -1,11 +1,11 @@
 -- What a call of a reader does, by its answer.
-use Rattle.std.specs.Prelude.{◌≡◌, ◌<◌, ◌⊎◌, ℕ, ◌+◌, length, List, [], ◌∷◌, ◌++◌, Bool, true, false, Option, Some, None, Result, Ok, Err}
+use Rattle.std.specs.Prelude.{◌≡◌, ◌<◌, ◌≤◌, ◌⊎◌, ℕ, ◌+◌, length, List, [], ◌∷◌, ◌++◌, Bool, true, false, Option, Some, None, IfSome, Result, Ok, Err}
 use Rattle.saber_plan.specs.declared.rows.Row.{Row}
 use Rattle.saber_plan.specs.Rows.{SideRules, Line, Read, End, all_read, cut, bad, lines_of, before, stamp, falls, RowFits}
 use Rattle.saber_io.specs.Outside.{given, EndsEmpty}
 use Rattle.saber_rows.specs.declared.ends.RowEnd.{RowEnd}
 use Rattle.saber_rows.specs.declared.ends.RowEnd.TheVariants.{ReadFault, NoMemory, Bad}
-use Rattle.saber_rows.specs.Reader.{Reader, gone, rest_of, CanFollow, HasEnd, NeedsMore}
+use Rattle.saber_rows.specs.Reader.{Reader, gone, rest_of, rest_over, CanFollow, HasEnd, NeedsMore}
 
 -- an answer's row and then these
 abbrev pub given_by : Result (Option Row) RowEnd → Read → Read
@@ -72,3 +72,19 @@ IsNext (Ok o) rest = first_of_rows rest.rows rest.end ≡ Ok o
 IsNext (Err (Bad n c)) rest = first_of_rows rest.rows rest.end ≡ Err (Bad n c)
 IsNext (Err ReadFault) rest = Unit {0}
 IsNext (Err NoMemory) rest = Unit {0}
+
+-- One row more of what the reader held: the next one, whatever the source has.
+pub record HoldsNext (row : Row) (old new : Reader) : Type 0 where
+  pub goes : old.answer ≡ None
+  pub moves : (left : Option (List ℕ)) → Moves (before row) old new left left
+  pub next : (left : Option (List ℕ)) → IfSome (rest_over old left) (IsNext (Ok (Some row)))
+  pub given : IsGiven row old new
+  pub counted : gone new ≤ new.rules.most
+  pub rules : new.rules ≡ old.rules
+  pub answer : new.answer ≡ None
+
+-- and it stands behind the rows that were there
+pub record TakesOne (old new : Reader) (had has : List Row) : Type 0 where
+  pub row : Row
+  pub put : has ≡ had ++ row ∷ []
+  pub holds : HoldsNext row old new

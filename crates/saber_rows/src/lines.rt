@@ -8,10 +8,13 @@ ghost use Rattle.saber_rows.specs.Sound.{side_rules, Sound, WasSeen, held_props}
 
 use crate::buffer::Buffer;
 use crate::ends::{Behind, RowEnd, Stop};
-use crate::judge::{Judged, LONGEST, content_of, is_late, is_ready, judge_line, raise, stamp_of};
+use crate::judge::{
+    Judged, LONGEST, content_of, is_below, is_late, is_ready, judge_line, raise, stamp_of,
+};
 use crate::line_feeds::{line_end, line_feed_in};
 use crate::quick_rows::row_in;
 use crate::waiting::Waiting;
+use saber_flat::RowBuilder;
 use saber_io::Source;
 use saber_plan::{NoMemory, Row, RowCause, Side, Values};
 use std::alloc::Global;
@@ -50,7 +53,8 @@ pub struct Lines {
     ghost seen: { WasSeen over ended },
     ghost roomy: { length (bytes_of held) ≤ 8193 },
     ghost numbered: { AllBefore lines waiting } by { Prim.hlevel props },
-    ghost sound: { Sound (record { side = side; columns = columns; most = max_lines; slack = slack; room = most_held }) (record { lines = lines; high = high; accepted = rows_in waiting }) last over } by { Prim.hlevel held_props },
+    ghost sound: { Sound (record { side = side; columns = columns; most = max_lines; slack = slack; room = most_held })
+        (record { lines = lines; high = high; accepted = rows_in waiting }) last over } by { Prim.hlevel held_props },
 }
 
 // What one turn of the reader came to.
@@ -68,7 +72,7 @@ impl Lines {
     ghost use Rattle.saber_rows.specs.Judged.{judged_of, IfCounted};
     ghost use Rattle.saber_rows.specs.LineFeeds.{end_of, HasNoFeed};
     ghost use Rattle.saber_rows.specs.Reader.{reader_of, new_reader, rest_of, rest_over, gone, HasEnd, EndsRefused, NeedsMore};
-    ghost use Rattle.saber_rows.specs.Calls.{Moves, given_by, kept_by, last_after, IsGiven, EndsBy, IsNext, WantsMemory};
+    ghost use Rattle.saber_rows.specs.Calls.{TakesOne, Moves, given_by, kept_by, last_after, IsGiven, EndsBy, IsNext, WantsMemory};
     ghost use Rattle.saber_rows.specs.Turns.{Steps, Fronts, IsLastIf, first_judged, LineGives, TurnGives, PlaceMoves, Stops, work_left, IfAgain, IfFault, IfNoFault, HasEnough, NoneReady, IsReady};
 
     /// A reader with nothing read yet. A stream has 1 to 32 columns, and a file 1 to 2^40 lines,
@@ -354,7 +358,8 @@ impl Lines {
         if self.slack > 0 || self.over.is_some() || self.lines >= self.max_lines {
             return None;
         }
-        let (values, n) = row_in(self.alloc, self.columns, self.held.bytes())?;
+        let mut values = Values::new(self.alloc);
+        let n = row_in(self.columns, self.held.bytes(), &mut values)?;
         if is_late(self.slack, self.high, values.as_slice()) {
             return None;
         }
@@ -367,6 +372,45 @@ impl Lines {
             side: self.side,
             values,
         })
+    }
+
+    // Whether a row at the front that is one at the first look is the next one.
+    #[inline(always)]
+    fn is_plain(&self) -> bool
+        ensures slack { result ≡ true → self.now.slack ≡ 0 }
+        ensures goes { result ≡ true → self.now.stop ≡ None }
+        ensures over { result ≡ true → self.now.over ≡ None }
+        ensures lines { result ≡ true → self.now.lines + 1 ≤ self.now.max_lines }
+    {
+        self.slack == 0 && self.stop.is_none() && self.over.is_none() && self.lines < self.max_lines
+    }
+
+    /// Appends the next row, if it is held whole and is one at the first look, and there is no slack. No source
+    /// is asked. Where it is not, nothing changes.
+    #[inline(always)]
+    pub fn take_quick(&mut self, out: &mut RowBuilder) -> bool
+        requires begun { out.old.begun ≡ [] }
+        ensures none { result ≡ false → (self.new ≡ self.old) × (out.new ≡ out.old) }
+        ensures begun { out.new.begun ≡ [] }
+        ensures some { result ≡ true → TakesOne (reader_of self.old) (reader_of self.new) out.old.rows out.new.rows }
+    {
+        if !self.is_plain() {
+            return false;
+        }
+        let Some(n) = row_in(self.columns, self.held.bytes(), out) else {
+            out.drop_begun();
+            return false;
+        };
+        let stamp = stamp_of(out.begun());
+        if is_below(self.high, stamp) || out.close(self.side).is_err() {
+            out.drop_begun();
+            return false;
+        }
+        self.high = Some(stamp);
+        self.last = Some(stamp);
+        self.held.consume(n + 1);
+        self.lines += 1;
+        true
     }
 
     // One step: a line, or a read.

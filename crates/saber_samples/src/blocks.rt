@@ -3,7 +3,8 @@ ghost use Rattle.std.specs.Prelude.{◌≡◌, IfOk};
 ghost use Rattle.saber_samples.specs.Filling.{CanCome, IsBehind, HasKeyed, HasPairs};
 
 use crate::rows::{follows, keyed_row, sided_row, step};
-use saber_fragment::{Block, Rows};
+use saber_flat::{RowRef, Rows};
+use saber_fragment::Block;
 use saber_plan::{Mark, NoMemory, Side};
 use std::alloc::Global;
 
@@ -24,7 +25,7 @@ fn keyed_rows(
         }
         let row = keyed_row(alloc, *time, *key, *number)?;
         mark = step(&mark, Side::Left, *time);
-        rows.push(row)?;
+        rows.push(&RowRef::of(&row))?;
     }
     Ok((rows, mark))
 }
@@ -46,7 +47,7 @@ fn sided_rows(
         }
         let row = sided_row(alloc, *side, *time, *number)?;
         mark = step(&mark, *side, *time);
-        rows.push(row)?;
+        rows.push(&RowRef::of(&row))?;
     }
     Ok((rows, mark))
 }

@@ -1,5 +1,5 @@
 -- The lines of rows, one by one.
-use Rattle.std.proofs.Common.{◌≡◌, List, [], ◌∷◌, ◌++◌, map, filter, flat_map, cond, true, false, ℤ, refl, sym, ◌∙◌, ap, append_assoc, append-nil, ℕ, ◌≤◌, ◌<◌, ◌+◌, length, drop, get_or, arith}
+use Rattle.std.proofs.Common.{◌≡◌, List, [], ◌∷◌, ◌++◌, map, filter, flat_map, cond, true, false, ℤ, refl, sym, ◌∙◌, ap, append_assoc, ℕ, ◌≤◌, ◌<◌, ◌+◌, length, drop, get_or, arith}
 use Rattle.std.proofs.lemmas.List.{drop_more}
 use Rattle.std.specs.Fmt.{signed_decimal}
 use Rattle.saber_plan.specs.declared.rows.Row.{Row}

@@ -8,10 +8,11 @@ ghost use Rattle.saber_select.specs.Printing.{CanShow};
 
 use saber_cells::{write_cell, write_number};
 use saber_eval::value;
-use saber_plan::{Item, NoMemory, Row};
+use saber_flat::RowRef;
+use saber_plan::{Item, NoMemory};
 
 // The value of an item over a row. A selection's items are expressions alone.
-fn item_value(item: &Item, row: &Row) -> i128
+fn item_value(item: &Item, row: &RowRef) -> i128
     requires { CanShow row.now.values item.now }
     ensures { result ≡ item_value row.now.values [] item.now }
 {
@@ -21,14 +22,14 @@ fn item_value(item: &Item, row: &Row) -> i128
     }
 }
 
-fn write_value(out: &mut Vec<u8>, item: &Item, row: &Row) -> Result<(), NoMemory>
+fn write_value(out: &mut Vec<u8>, item: &Item, row: &RowRef) -> Result<(), NoMemory>
     requires { CanShow row.now.values item.now }
     ensures { OnOk result (out.new.items ≡ out.old.items ++ signed_decimal (item_value row.now.values [] item.now)) }
 {
     write_number(out, item_value(item, row))
 }
 
-fn write_cells(out: &mut Vec<u8>, items: &[Item], row: &Row) -> Result<(), NoMemory>
+fn write_cells(out: &mut Vec<u8>, items: &[Item], row: &RowRef) -> Result<(), NoMemory>
     requires { AllByRecursion (CanShow row.now.values) items.now }
     ensures { OnOk result (out.new.items ≡ out.old.items ++ cells (map (item_value row.now.values []) items.now)) }
 {
@@ -40,7 +41,7 @@ fn write_cells(out: &mut Vec<u8>, items: &[Item], row: &Row) -> Result<(), NoMem
 
 /// Writes the values of the items over a row in decimal, with commas between, and LF (this
 /// project's rule).
-pub(crate) fn write_line(out: &mut Vec<u8>, items: &[Item], row: &Row) -> Result<(), NoMemory>
+pub(crate) fn write_line(out: &mut Vec<u8>, items: &[Item], row: &RowRef) -> Result<(), NoMemory>
     requires fit { AllByRecursion (CanShow row.now.values) items.now }
     requires some { 1 ≤ length items.now }
     ensures { OnOk result (out.new.items ≡ out.old.items ++ line (map (item_value row.now.values []) items.now)) }

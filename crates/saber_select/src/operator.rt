@@ -36,7 +36,7 @@ impl Operator for Select<'_> {
 
     fn start(&self, alloc: Global, own: &Block) -> Result<Text, NoMemory> {
         let mut text = Vec::new(alloc);
-        self.write_rows(own.rows.as_slice(), &mut text)?;
+        self.write_rows(&own.rows, &mut text)?;
         Ok(Text::from_vec(text))
     }
 

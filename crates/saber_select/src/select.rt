@@ -12,8 +12,9 @@ ghost use Rattle.saber_select.specs.Printing.{CanShow, row_text};
 
 use crate::lines::write_line;
 use saber_eval::{holds, one_stream_fits};
+use saber_flat::{RowRef, Rows};
 use saber_laws::selections_have_no_window;
-use saber_plan::{NoMemory, Plan, Row};
+use saber_plan::{NoMemory, Plan};
 use std::marker::Model;
 
 /// The operator of a checked selection over its plan: the rows that pass WHERE (CQL 2006: a
@@ -63,7 +64,7 @@ impl<'a> Select<'a> {
     }
 
     // Its items can be worked out over a row of its stream.
-    fn can_show(&self, row: &Row)
+    fn can_show(&self, row: &RowRef)
         requires { IsRowOf (tree_of self.now) row.now }
         ensures { AllByRecursion (CanShow row.now.values) (tree_of self.now).items }
     {
@@ -73,7 +74,7 @@ impl<'a> Select<'a> {
     }
 
     // Whether a row passes WHERE.
-    fn passes(&self, row: &Row) -> bool
+    fn passes(&self, row: &RowRef) -> bool
         requires { IsRowOf (tree_of self.now) row.now }
         ensures { result ≡ v.passes (tree_of self.now).predicate row.now.values [] }
     {
@@ -86,7 +87,7 @@ impl<'a> Select<'a> {
     }
 
     // A row's line, if the row passes.
-    fn write_row(&self, row: &Row, out: &mut Vec<u8>) -> Result<(), NoMemory>
+    fn write_row(&self, row: &RowRef, out: &mut Vec<u8>) -> Result<(), NoMemory>
         requires { IsRowOf (tree_of self.now) row.now }
         ensures { OnOk result (out.new.items ≡ out.old.items ++ row_text (tree_of self.now) row.now.values) }
     {
@@ -98,12 +99,12 @@ impl<'a> Select<'a> {
     }
 
     /// Writes the lines of the rows that pass, in the order of the rows, behind what `out` has.
-    pub(crate) fn write_rows(&self, rows: &[Row], out: &mut Vec<u8>) -> Result<(), NoMemory>
+    pub(crate) fn write_rows(&self, rows: &Rows, out: &mut Vec<u8>) -> Result<(), NoMemory>
         requires { AllByRecursion (IsRowOf (tree_of self.now)) rows.now }
         ensures { OnOk result (out.new.items ≡ out.old.items ++ selected (tree_of self.now) rows.now) }
     {
-        for row in rows {
-            self.write_row(row, out)?;
+        for i in 0..rows.len() {
+            self.write_row(&rows.row(i), out)?;
         }
         Ok(())
     }

@@ -1,11 +1,9 @@
 -- Points at which as many steps are reached.
-use Rattle.std.proofs.Common.{◌≡◌, ℕ, ◌+◌, ◌-◌, ◌*◌, ◌/◌, ◌%◌, ◌≤◌, ◌<◌, Bool, true, false, ◌&&◌, nat_le, nat_lt, cond, sym, ap, ◌∙◌, refl, arith}
+use Rattle.std.proofs.Common.{◌≡◌, ℕ, ◌+◌, ◌-◌, ◌*◌, ◌/◌, ◌%◌, ◌≤◌, ◌<◌, true, ◌&&◌, nat_le, nat_lt, cond, sym, ap, ◌∙◌, arith}
 use Rattle.std.proofs.lemmas.Bool.Decides.{nat_tests}
 use Rattle.std.proofs.Math.Nat.{div-add-mod'}
 use Rattle.std.proofs.lemmas.Nat.{le-div, div_below}
 use Rattle.saber_plan.specs.Windows.{count_to}
-use Rattle.saber_window.specs.declared.spans.Span.{Span}
-use Rattle.saber_window.specs.Spans.{spanned}
 
 -- a distance from the last whole step on, and short of the next one, has as many whole steps
 same_steps : (slide d e : ℕ) → 1 ≤ slide → d / slide * slide ≤ e → e < (d / slide + 1) * slide → e / slide ≡ d / slide

@@ -1,6 +1,5 @@
 -- Points that lie in the same windows as another one.
-use Rattle.std.specs.Prelude.{◌≡◌, ℕ, ◌≤◌, ◌<◌, Bool, true, false, ◌&&◌, nat_le, nat_lt}
-use Rattle.saber_plan.specs.declared.windows.Measure.{Measure}
+use Rattle.std.specs.Prelude.{◌≡◌, ℕ, Bool, true, false, ◌&&◌, nat_le, nat_lt}
 use Rattle.saber_plan.specs.Windows.{Frame, unwindowed, one, two, Placed, by_side, count_to}
 use Rattle.saber_plan.specs.Needs.{first_window, past_window}
 use Rattle.saber_window.specs.Points.{point}

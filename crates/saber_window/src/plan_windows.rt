@@ -13,8 +13,9 @@ use crate::points::{ends_by, spans};
 use crate::rows::point;
 use crate::spans::{Span, alike_to};
 use crate::windowed::{Windowed, windowed_of};
+use saber_flat::RowRef;
 use saber_laws::{begun_are_counted, checked_fit, closed_are_counted};
-use saber_plan::{Kind, Mark, Measure, Plan, Row, Side};
+use saber_plan::{Kind, Mark, Measure, Plan, Side};
 use std::marker::Model;
 
 /// The windows of a checked plan: one slide, and the size of each stream's windows. It is made once for
@@ -164,7 +165,7 @@ impl Windows {
     /// The first window that has a row, where the mark tells of the rows before it. It has the row only if
     /// it is below the one of `past_window`. It is 0 for a row of a stream that has no windows.
     #[inline]
-    pub fn first_window(&self, r: &Row, before: &Mark) -> u64
+    pub fn first_window(&self, r: &RowRef, before: &Mark) -> u64
         ensures { result ≡ first_window self.now (record { row = r.now; before = before.now }) }
     {
         match self.windowed {
@@ -173,7 +174,7 @@ impl Windows {
                 measure,
                 slide,
                 size,
-            } => match r.side {
+            } => match r.side() {
                 Side::Left => count_to(slide, size, point(measure, r, before)),
                 Side::Right => 0,
             },
@@ -182,7 +183,7 @@ impl Windows {
                 slide,
                 left,
                 right,
-            } => match r.side {
+            } => match r.side() {
                 Side::Left => count_to(slide, left, point(measure, r, before)),
                 Side::Right => count_to(slide, right, point(measure, r, before)),
             },
@@ -192,7 +193,7 @@ impl Windows {
     /// The window after the last one that has the row: how many windows begin at most there. Counts below
     /// 2^63 leave room for it.
     #[inline]
-    pub fn past_window(&self, r: &Row, before: &Mark) -> u64
+    pub fn past_window(&self, r: &RowRef, before: &Mark) -> u64
         requires left { before.now.left < 2 ^ 63 }
         requires right { before.now.right < 2 ^ 63 }
         ensures { result ≡ past_window self.now (record { row = r.now; before = before.now }) }
@@ -203,7 +204,7 @@ impl Windows {
                 measure,
                 slide,
                 size: _,
-            } => match r.side {
+            } => match r.side() {
                 Side::Left => count_to(slide, 0, point(measure, r, before)),
                 Side::Right => 0,
             },
@@ -218,7 +219,7 @@ impl Windows {
 
     /// Window i has the row.
     #[inline]
-    pub fn has(&self, i: u64, r: &Row, before: &Mark) -> bool
+    pub fn has(&self, i: u64, r: &RowRef, before: &Mark) -> bool
         ensures { result ≡ has self.now i (record { row = r.now; before = before.now }) }
     {
         match self.windowed {
@@ -227,13 +228,13 @@ impl Windows {
                 measure,
                 slide,
                 size,
-            } => r.side == Side::Left && spans(slide, size, i, point(measure, r, before)),
+            } => r.side() == Side::Left && spans(slide, size, i, point(measure, r, before)),
             Windowed::Both {
                 measure,
                 slide,
                 left,
                 right,
-            } => match r.side {
+            } => match r.side() {
                 Side::Left => spans(slide, left, i, point(measure, r, before)),
                 Side::Right => spans(slide, right, i, point(measure, r, before)),
             },
@@ -242,7 +243,7 @@ impl Windows {
 
     /// Both of these: the row lies in the windows from the one up to the other, and in no other.
     #[inline]
-    pub fn row_windows(&self, r: &Row, before: &Mark) -> (u64, u64)
+    pub fn row_windows(&self, r: &RowRef, before: &Mark) -> (u64, u64)
         requires left { before.now.left < 2 ^ 63 }
         requires right { before.now.right < 2 ^ 63 }
         ensures first { result.0 ≡ first_window self.now (record { row = r.now; before = before.now }) }
@@ -254,7 +255,7 @@ impl Windows {
     /// Points near a row of the only stream that lie in the same windows: a row in this span (`is_alike`) needs no
     /// division to tell its windows.
     #[inline]
-    pub fn alike(&self, r: &Row, before: &Mark) -> Span
+    pub fn alike(&self, r: &RowRef, before: &Mark) -> Span
         ensures { AllAlike self.now (record { row = r.now; before = before.now }) result }
     {
         match self.windowed {
@@ -262,7 +263,7 @@ impl Windows {
                 measure,
                 slide,
                 size,
-            } => match r.side {
+            } => match r.side() {
                 Side::Left => {
                     let point = point(measure, r, before);
                     alike_to(slide, size, point).and(alike_to(slide, 0, point))
@@ -276,7 +277,7 @@ impl Windows {
 
     /// The row is one of the only stream, and lies in the span.
     #[inline]
-    pub fn is_alike(&self, span: Span, r: &Row, before: &Mark) -> bool
+    pub fn is_alike(&self, span: Span, r: &RowRef, before: &Mark) -> bool
         ensures { result ≡ covers self.now span (record { row = r.now; before = before.now }) }
     {
         match self.windowed {
@@ -284,7 +285,7 @@ impl Windows {
                 measure,
                 slide: _,
                 size: _,
-            } => match r.side {
+            } => match r.side() {
                 Side::Left => span.has(point(measure, r, before)),
                 Side::Right => false,
             },
@@ -295,7 +296,7 @@ impl Windows {
 
     /// The last window that has the row, if any has it.
     #[inline]
-    pub fn last_window(&self, r: &Row, before: &Mark) -> Option<u64>
+    pub fn last_window(&self, r: &RowRef, before: &Mark) -> Option<u64>
         requires left { before.now.left < 2 ^ 63 }
         requires right { before.now.right < 2 ^ 63 }
         ensures { result ≡ last_window self.now (record { row = r.now; before = before.now }) }
@@ -307,7 +308,7 @@ impl Windows {
     /// Window i ends at the row or before it: neither the row nor a later one of its stream is in it,
     /// where timestamps do not fall (`past_have_none`).
     #[inline]
-    pub fn is_past(&self, i: u64, r: &Row, before: &Mark) -> bool
+    pub fn is_past(&self, i: u64, r: &RowRef, before: &Mark) -> bool
         ensures { result ≡ nat_lt i (first_window self.now (record { row = r.now; before = before.now })) }
     {
         match self.windowed {
@@ -316,13 +317,13 @@ impl Windows {
                 measure,
                 slide,
                 size,
-            } => r.side == Side::Left && ends_by(slide, size, i, point(measure, r, before)),
+            } => r.side() == Side::Left && ends_by(slide, size, i, point(measure, r, before)),
             Windowed::Both {
                 measure,
                 slide,
                 left,
                 right,
-            } => match r.side {
+            } => match r.side() {
                 Side::Left => ends_by(slide, left, i, point(measure, r, before)),
                 Side::Right => ends_by(slide, right, i, point(measure, r, before)),
             },

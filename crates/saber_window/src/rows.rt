@@ -4,15 +4,16 @@ ghost use Rattle.saber_plan.specs.Rows.{stamp};
 ghost use Rattle.saber_plan.specs.Windows.{by_side, step_mark, ending};
 ghost use Rattle.saber_window.specs.Points.{point};
 
-use saber_plan::{Mark, Measure, Row, Side};
+use saber_flat::RowRef;
+use saber_plan::{Mark, Measure, Side};
 
 /// The timestamp, a row's first number; 0 where it has none.
 #[inline]
-pub(crate) fn stamp(r: &Row) -> u64
+pub(crate) fn stamp(r: &RowRef) -> u64
     ensures stamp { result ≡ stamp r.now.values }
     ensures small { result ≤ 2 ^ 63 }
 {
-    match r.values.as_slice().first() {
+    match r.values().first() {
         Some(time) => time.unsigned_abs(),
         None => 0,
     }
@@ -20,10 +21,10 @@ pub(crate) fn stamp(r: &Row) -> u64
 
 /// How many rows of the row's own side come before it.
 #[inline]
-pub(crate) fn own(r: &Row, before: &Mark) -> u64
+pub(crate) fn own(r: &RowRef, before: &Mark) -> u64
     ensures { result ≡ by_side r.now.side before.now.left before.now.right }
 {
-    match r.side {
+    match r.side() {
         Side::Left => before.left,
         Side::Right => before.right,
     }
@@ -31,7 +32,7 @@ pub(crate) fn own(r: &Row, before: &Mark) -> u64
 
 /// Where a row lies among what sizes and slides count: its position, or its timestamp.
 #[inline]
-pub(crate) fn point(measure: Measure, r: &Row, before: &Mark) -> u64
+pub(crate) fn point(measure: Measure, r: &RowRef, before: &Mark) -> u64
     ensures point { result ≡ point measure (record { row = r.now; before = before.now }) }
     ensures small { before.now.left < 2 ^ 63 → before.now.right < 2 ^ 63 → result ≤ 2 ^ 63 }
 {
@@ -44,14 +45,14 @@ pub(crate) fn point(measure: Measure, r: &Row, before: &Mark) -> u64
 /// The mark after one more row: one row more on its side, and its timestamp as the last. A row that fits
 /// its stream has one that is low enough (`stamps_fit`).
 #[inline]
-pub fn step_mark(m: &Mark, r: &Row) -> Mark
+pub fn step_mark(m: &Mark, r: &RowRef) -> Mark
     requires left { m.now.left < 2 ^ 63 }
     requires right { m.now.right < 2 ^ 63 }
     requires time { stamp r.now.values < 2 ^ 63 }
     ensures { result ≡ step_mark m.now r.now }
 {
     let last = Some(stamp(r) as i64);
-    match r.side {
+    match r.side() {
         Side::Left => Mark {
             left: m.left + 1,
             right: m.right,

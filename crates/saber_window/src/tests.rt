@@ -5,6 +5,7 @@ ghost use Rattle.saber_plan.specs.Trees.{tree_of};
 ghost use Rattle.saber_plan.specs.Checked.{IsChecked, Pairs, WindowFits};
 
 use crate::{Windows, begun_below, closed_below, ending, free_of, kind_of, step_mark, windows_of};
+use saber_flat::RowRef;
 use saber_plan::{
     Expr, Item, Kind, Mark, Measure, NoMemory, Plan, Row, Shape, Side, Stream, Values, Window,
 };
@@ -244,7 +245,9 @@ fn rows_lie_in_windows(rt: HostRuntime) -> Result<(), Fail> {
         ended: false,
     };
     let left = row(alloc, Side::Left, 4)?;
+    let left = RowRef::of(&left);
     let right = row(alloc, Side::Right, 4)?;
+    let right = RowRef::of(&right);
     let by_time = Windows::of_plan(&group(alloc, Measure::Range, 3, 2)?);
     assert_eq!(rt; by_time.first_window(&left, &before), 1);
     assert_eq!(rt; by_time.past_window(&left, &before), 3);
@@ -311,10 +314,12 @@ fn rows_lie_alike(rt: HostRuntime) -> Result<(), Fail> {
         ended: false,
     };
     let four = row(alloc, Side::Left, 4)?;
+    let four = RowRef::of(&four);
     let times = Windows::of_plan(&group(alloc, Measure::Range, 3, 2)?);
     let span = times.alike(&four, &before);
     for (time, is_alike) in [(3, false), (4, true), (5, false)] {
         let other = row(alloc, Side::Left, time)?;
+        let other = RowRef::of(&other);
         assert_eq!(rt;
             times.is_alike(span, &other, &before),
             is_alike,

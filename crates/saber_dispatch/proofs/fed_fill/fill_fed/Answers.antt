@@ -1,5 +1,7 @@
-use Rattle.std.proofs.Common.{◌≡◌, ◌≤◌, ◌<◌, ◌+◌, ◌++◌, ◌∷◌, [], length, ◌∙◌, refl, sym, ap, subst, arith, Ok, Err}
-use Rattle.saber_plan.specs.Rows.{Read, before}
+use Rattle.std.proofs.Common.{◌≡◌, ◌<◌, ◌++◌, ◌∷◌, [], length, ◌∙◌, refl, sym, ap, subst, arith}
+use Rattle.saber_plan.specs.declared.rows.Row.{Row}
+use Rattle.saber_plan.specs.Rows.{Read, before, stamp}
+use Rattle.saber_plan.specs.Windows.{step_mark}
 use Rattle.saber_dispatch.specs.declared.ends.End.TheVariants.{ReadFault}
 use Rattle.saber_dispatch.specs.declared.fed_reader.Got.{Got}
 use Rattle.saber_dispatch.specs.Readings.{reading_of, NextRow, NextNone}
@@ -49,7 +51,7 @@ step_mark-requires-clause-time g c =
     let r = filling_reads (length c.taking.rows) q m c.taking.mark first (reading_of c.taking.reader) had (only (w c.taking.feed)) [] c.taking.rows f in
     let n : NextRow q c.taking.mark c.in-Row.row (reading_of c.taking.reader) (reading_of c.next_fed.new.self) (only (w c.taking.feed)) (only (w c.next_fed.new.feed)) =
     subst (λ (a : Got). GotNext q c.taking.mark a (reading_of c.taking.reader) (reading_of c.next_fed.new.self) (only (w c.taking.feed)) (only (w c.next_fed.new.feed))) c.in-Row.is (c.next_fed.ensures.step q c.taking.mark r) in
-    omega (arith, c.stamps_fit.ensures _ _ c.in-Row.row n.fits.fits)
+    omega (arith, c.stamps_fit.ensures _ _ c.in-Row.row n.fits.fits, ap (λ (x : Row). stamp x.values) c.of.ensures)
 
 pub taking-preserved : goal.taking-preserved
 taking-preserved g c =
@@ -59,8 +61,8 @@ taking-preserved g c =
     let new = reading_of c.next_fed.new.self in
     let had1 = only (w c.taking.feed) in
     let has1 = only (w c.next_fed.new.feed) in
-    let e : c.push.new.self ≡ c.taking.rows ++ c.in-Row.row ∷ [] = pushed_ok c.push.result c.is_err.result _ c.if-is_err.false c.is_err.ensures.value c.push.ensures.ok in
-    let longer = one_longer c.taking.rows c.push.new.self c.in-Row.row e in
+    let e : c.push.new.rows ≡ c.taking.rows ++ c.in-Row.row ∷ [] = pushed_ok c.push.result c.is_err.result _ c.if-is_err.false c.is_err.ensures.value c.push.ensures in
+    let longer = one_longer c.taking.rows c.push.new.rows c.in-Row.row e in
     let (q0, m0, first0, had0, f00) = c.requires.filling in
     let r0 = filling_reads (length c.taking.rows) q0 m0 c.taking.mark first0 old had0 had1 [] c.taking.rows (inv.filling q0 m0 first0 had0 f00) in
     let n0 : NextRow q0 c.taking.mark c.in-Row.row old new had1 has1 = subst (λ (a : Got). GotNext q0 c.taking.mark a old new had1 has1) c.in-Row.is (c.next_fed.ensures.step q0 c.taking.mark r0) in
@@ -69,8 +71,8 @@ taking-preserved g c =
           let f = inv.filling q m first had f0 in
           let r = filling_reads (length c.taking.rows) q m c.taking.mark first old had had1 [] c.taking.rows f in
           let n : NextRow q c.taking.mark c.in-Row.row old new had1 has1 = subst (λ (a : Got). GotNext q c.taking.mark a old new had1 has1) c.in-Row.is (c.next_fed.ensures.step q c.taking.mark r) in
-          subst (λ k. Filling k q m c.step_mark.result first new had has1 [] c.push.new.self) (sym longer)
-          (filling_more c.moves_go_on.ensures c.merges_go_on.ensures (length c.taking.rows) q m c.taking.mark first old new had had1 has1 [] c.taking.rows f c.step_mark.result c.push.new.self c.in-Row.row n c.step_mark.ensures e);
+          subst (λ k. Filling k q m c.step_mark.result first new had has1 [] c.push.new.rows) (sym longer)
+          (filling_more c.moves_go_on.ensures c.merges_go_on.ensures (length c.taking.rows) q m c.taking.mark first old new had had1 has1 [] c.taking.rows f c.step_mark.result c.push.new.rows c.in-Row.row n (c.step_mark.ensures ∙ ap (step_mark c.taking.mark) c.of.ensures) e);
       few = omega (arith, longer, c.taking-test.true, c.len.ensures);
       opened = n0.open_still;
       short = λ m e.
@@ -96,7 +98,7 @@ returns-then-is_err-clause-fills g c q m first had f0 =
     let r = filling_reads (length c.taking.rows) q m c.taking.mark first old had had1 [] c.taking.rows f in
     let n : NextRow q c.taking.mark c.in-Row.row old new had1 has1 = subst (λ (a : Got). GotNext q c.taking.mark a old new had1 has1) c.in-Row.is (c.next_fed.ensures.step q c.taking.mark r) in
     let less : length c.taking.rows < c.args.size = omega (arith, c.taking-test.true, c.len.ensures) in
-    filled_lack c.moves_go_on.ensures c.merges_go_on.ensures (length c.taking.rows) q m c.taking.mark first old new had had1 has1 [] c.taking.rows f c.args.size c.step_mark.result c.push.new.self c.in-Row.row less n c.step_mark.ensures
+    filled_lack c.moves_go_on.ensures c.merges_go_on.ensures (length c.taking.rows) q m c.taking.mark first old new had had1 has1 [] c.taking.rows f c.args.size c.step_mark.result c.push.new.rows c.in-Row.row less n (c.step_mark.ensures ∙ ap (step_mark c.taking.mark) c.of.ensures)
 
 pub returns-in-Dry-clause-fills : goal.returns-in-Dry-clause-fills
 returns-in-Dry-clause-fills g c q m first had f0 =

@@ -2,7 +2,7 @@ use Rattle.std.proofs.Common.{List, ℕ, Option, None, [], sym, subst}
 use Rattle.saber_io.specs.declared.feeds.EndMark.{EndMark}
 use Rattle.saber_plan.specs.Inputs.{going_on}
 use Rattle.saber_plan.specs.Trees.{tree_of}
-use Rattle.saber_io.specs.MemFeeds.{taken_of, waiting_of, mark_of}
+use Rattle.saber_io.specs.MemFeeds.{waiting_of, mark_of}
 use Rattle.saber_dispatch.specs.Feeding.{CutsFed}
 use Rattle.saber_dispatch.proofs.fed_tests.see.Goals as goal
 

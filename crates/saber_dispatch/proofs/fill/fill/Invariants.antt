@@ -1,4 +1,4 @@
-use Rattle.std.specs.Prelude.{◌≡◌}
+use Rattle.std.specs.Prelude.{◌≡◌, []}
 use Rattle.saber_plan.specs.Trees.{Tree}
 use Rattle.saber_dispatch.specs.Readings.{reading_of, Suits, Reads, IsOpen}
 use Rattle.saber_dispatch.specs.Sources.{each_input, NoneFell}
@@ -10,7 +10,8 @@ invariant-loop g l =
     let left = g.S.Source.left in
     let faults = g.S.Source.faults in
     record {
-      filling : (q : Tree) → Reads q l.fn.mark (reading_of l.fn.reader) → Filling l.counter q l.fn.mark l.mark (reading_of l.fn.reader) (reading_of l.reader) (each_input left l.fn.inputs) (each_input left l.inputs) l.fn.rows l.rows;
+      begun : l.rows.begun ≡ [];
+      filling : (q : Tree) → Reads q l.fn.mark (reading_of l.fn.reader) → Filling l.counter q l.fn.mark l.mark (reading_of l.fn.reader) (reading_of l.reader) (each_input left l.fn.inputs) (each_input left l.inputs) l.fn.rows.rows l.rows.rows;
       suits : Suits (reading_of l.reader) (each_input left l.inputs);
       opened : IsOpen (reading_of l.reader);
       same : each_input faults l.inputs ≡ each_input faults l.fn.inputs;

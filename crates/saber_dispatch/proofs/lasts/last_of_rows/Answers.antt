@@ -1,4 +1,5 @@
 use Rattle.std.proofs.Common.{◌≡◌, ◌≤◌, ◌<◌, ◌+◌, ◌^◌, length, drop, get_or, sym, ◌∙◌, ap, subst, arith}
+use Rattle.std.proofs.lemmas.Option.{get_or_from_slice_get}
 use Rattle.saber_plan.specs.Rows.{stamp}
 use Rattle.saber_plan.specs.Windows.{placed_after, step_mark}
 use Rattle.saber_plan.specs.Needs.{later_of, last_of, last_window}
@@ -9,14 +10,14 @@ pub loop-i-preserved : goal.loop-i-preserved
 loop-i-preserved c =
     let f = c.args.windows.now in
     let xs = c.args.rows.now in
-    let r = c.index-rows-i.result in
+    let r = c.row-row.result in
     let m = c.loop-i.mark in
     let k = c.loop-i.i in
     let all = last_of f (placed_after c.args.before.now xs) in
     let rest = drop (k + 1) xs in
     let inside : k < length xs = omega (arith, c.loop-i-test.true) in
     let last : c.later-last.result ≡ later_of c.loop-i.last (last_window f (record { row = r; before = m })) = c.later-last.ensures ∙ ap (later_of c.loop-i.last) c.last_window.ensures in
-    let here : get_or xs k r ≡ r = sym c.index-rows-i.is in
+    let here : get_or xs k r ≡ r = get_or_from_slice_get xs k r r (sym c.row-row.ensures) in
     let mark : step_mark m r ≡ c.step_mark-mark.result = sym c.step_mark-mark.ensures in
     let step = taken f all c.loop-i.last m xs k r inside c.loop-i.invariant.last in
     record {

@@ -1,4 +1,4 @@
-use Rattle.std.proofs.Common.{◌++◌, sym, ◌∙◌, ap, subst, arith}
+use Rattle.std.proofs.Common.{sym, ◌∙◌, ap, subst, arith}
 use Rattle.saber_plan.specs.Inputs.{going_on}
 use Rattle.saber_plan.specs.Windows.{no_rows, mark_of}
 use Rattle.saber_plan.specs.Given.{RowsFit}
@@ -35,8 +35,7 @@ loop-table-preserved g c =
     let op = c.args.operator.now in
     let i = c.loop-table.invariant in
     let old = c.loop-table.behind.rows in
-    let own = c.in_ok-own.own.rows in
-    let more = c.in_ok-extend_copied.ensures ∙ ap (λ l. old ++ l) c.as_slice.ensures in
+    let more = c.in_ok-extend.ensures in
     record {
       first = i.first;
       mark = c.in_ok-own.ensures.mark no_rows old i.mark ∙ ap mark_of (sym more);

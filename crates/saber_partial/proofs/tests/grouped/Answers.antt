@@ -11,14 +11,14 @@ loop-time-init c = subst (OfRows (tree_of c.args.plan.now) 0) (sym c.empty-part.
 pub add_row-requires-clause-room : goal.add_row-requires-clause-room
 add_row-requires-clause-room c =
     let q = tree_of c.args.plan.now in
-    let one = c.in_ok-row.row.values ∷ [] in
+    let one = c.of.result.values ∷ [] in
     let few = c.requires.few in
     (c.small_parts_merge.ensures q c.loop-time.time-index 1 c.loop-time.part (group_part q one) c.loop-time.invariant (c.groups_are_of_rows.ensures q one) (omega (arith, few))).0
 
 pub loop-time-preserved : goal.loop-time-preserved
 loop-time-preserved c =
     let q = tree_of c.args.plan.now in
-    let one = c.in_ok-row.row.values ∷ [] in
+    let one = c.of.result.values ∷ [] in
     let few = c.requires.few in
     subst (OfRows q (c.loop-time.time-index + 1)) (sym c.in_ok-add_row.ensures.ok)
     (c.small_parts_merge.ensures q c.loop-time.time-index 1 c.loop-time.part (group_part q one) c.loop-time.invariant (c.groups_are_of_rows.ensures q one) (omega (arith, few))).1

@@ -20,7 +20,7 @@ loop-time-preserved c =
     let same = c.in_ok-row.ensures.1 in
     let can = c.if-not-follows.ensures in
     let e = c.step-mark.ensures in
-    let next : c.push.new.self ≡ xs ++ x ∷ [] = c.in_ok-push.ensures.ok in
+    let next : c.push.new.self ≡ xs ++ x ∷ [] = c.in_ok-push.ensures.ok ∙ ap (λ r. xs ++ r ∷ []) c.of.ensures in
     record {
       mark = stepped n c.step-mark.result x _ _ fits_row.own same e.left e.right e.last e.ended
           ∙ mark_next b n xs x c.loop-time.invariant.mark ∙ sym (ap (mark_after b) next);

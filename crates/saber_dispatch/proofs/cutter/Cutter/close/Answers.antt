@@ -1,4 +1,4 @@
-use Rattle.std.proofs.Common.{◌≡◌, Some, None, Err, refl, sym, ◌∙◌, ap, subst, length}
+use Rattle.std.proofs.Common.{◌≡◌, Some, None, sym, ◌∙◌, ap, subst, length}
 use Rattle.saber_plan.specs.Inputs.{going_on}
 use Rattle.saber_dispatch.specs.declared.ends.End.TheVariants.{AllRead, ReadFault, NoMemory}
 use Rattle.saber_dispatch.specs.declared.cutter.Cut.TheVariants.{Ended}

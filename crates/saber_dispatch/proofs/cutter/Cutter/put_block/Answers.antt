@@ -1,5 +1,4 @@
-use Rattle.std.proofs.Common.{◌≡◌, ◌≤◌, ◌+◌, ◌-◌, ◌++◌, length, false, Some, refl, sym, ◌∙◌, ap, subst, arith}
-use Rattle.saber_plan.specs.Given.{RowsFit}
+use Rattle.std.proofs.Common.{◌≤◌, ◌+◌, ◌-◌, ◌++◌, length, false, Some, refl, sym, ◌∙◌, subst, arith}
 use Rattle.saber_plan.specs.Inputs.{going_on}
 use Rattle.saber_dispatch.specs.declared.ends.End.TheVariants.{TooWide, NoMemory}
 use Rattle.saber_dispatch.specs.declared.cutter.Cut.TheVariants.{Ended}
@@ -43,8 +42,8 @@ note-requires c =
     let (q, s, had, has, xs, f) = c.requires in
     let a = c.args.self.now in
     let b = behind q s had has a xs c.args.before c.args.rows f in
-    let few : length c.as_slice.result.now ≤ 65536 = omega (arith, f.few, f.sizes.task, ap length c.as_slice.ensures) in
-    (q, s.task, xs, a.number, b, c.look_back-first.ensures.back q s.task xs b f.back, subst (RowsFit q c.args.before) (sym c.as_slice.ensures) (own_fit q s had has a xs c.args.before c.args.rows f), few)
+    let few : length c.args.rows ≤ 65536 = omega (arith, f.few, f.sizes.task) in
+    (q, s.task, xs, a.number, b, c.look_back-first.ensures.back q s.task xs b f.back, own_fit q s had has a xs c.args.before c.args.rows f, few)
 
 pub returns-then-is_err : goal.returns-then-is_err
 returns-then-is_err c = record {
@@ -61,11 +60,9 @@ returns c = record {
       let b = behind q s had has a xs c.args.before c.args.rows f in
       let is = c.look_back-first.ensures.first q s.task xs b f.back in
       let looked = c.look_back-first.ensures.back q s.task xs b f.back in
-      let own : c.as_slice.result.now ≡ c.args.rows = c.as_slice.ensures in
-      let fit = subst (RowsFit q c.args.before) (sym own) (own_fit q s had has a xs c.args.before c.args.rows f) in
-      let few : length c.as_slice.result.now ≤ s.task = omega (arith, f.few, ap length own) in
+      let fit = own_fit q s had has a xs c.args.before c.args.rows f in
       let noted = pushed_ok c.note.result c.is_err.result _ c.if-is_err.false c.is_err.ensures.value c.note.ensures in
-      let back = subst (λ l. LooksBack q s.task (xs ++ l) (a.number + 1) c.note.new.lasts) own (noted q s.task xs a.number b f.whole looked fit few) in
+      let back : LooksBack q s.task (xs ++ c.args.rows) (a.number + 1) c.note.new.lasts = noted q s.task xs a.number b f.whole looked fit f.few in
       let near = is_near q s had has a xs c.args.before c.args.rows f c.look_back-first.result is (near_end a.number c.look_back-first.result a.room (sym c.too_wide.ensures ∙ c.in_default.is)) in
       let block : Block = record { number = a.number; first = c.look_back-first.result; before = c.args.before; rows = c.args.rows; ended = false } in
       (is_next q s had has a xs c.args.before c.args.rows f block refl refl refl refl is (near_end a.number c.look_back-first.result a.room (sym c.too_wide.ensures ∙ c.in_default.is)), given_cuts q s had has a xs c.args.before c.args.rows f c.needs_stay.ensures c.note.new.lasts back near);

@@ -1,4 +1,4 @@
-use Rattle.std.proofs.Common.{Ok, Err, Some, inr, sym, ◌∙◌, ap, subst}
+use Rattle.std.proofs.Common.{Ok, Err, inr, sym, ◌∙◌, ap, subst}
 use Rattle.saber_dispatch.specs.declared.fed_fill.Progress.{Progress}
 use Rattle.saber_dispatch.specs.declared.fed_cutter.Step.{Step}
 use Rattle.saber_dispatch.specs.Readings.{reading_of}

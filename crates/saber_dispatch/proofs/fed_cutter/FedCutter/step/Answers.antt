@@ -1,4 +1,4 @@
-use Rattle.std.proofs.Common.{◌≡◌, Some, sym, ◌∙◌, subst}
+use Rattle.std.proofs.Common.{sym, ◌∙◌, subst}
 use Rattle.saber_dispatch.specs.declared.ends.End.TheVariants.{AllRead, ReadFault}
 use Rattle.saber_dispatch.specs.declared.fed_cutter.Step.{Step}
 use Rattle.saber_dispatch.specs.FedReadings.{only}

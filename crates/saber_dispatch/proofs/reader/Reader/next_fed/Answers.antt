@@ -1,5 +1,4 @@
 use Rattle.std.proofs.Common.{sym, subst}
-use Rattle.saber_plan.specs.declared.rows.Side.{Side}
 use Rattle.saber_rows.specs.Reader.{reader_of}
 use Rattle.saber_dispatch.specs.Readings.{one, reading_of}
 use Rattle.saber_dispatch.specs.FedReadings.{only, FedSteps}

@@ -1,4 +1,4 @@
-use Rattle.std.proofs.Common.{◌≡◌, [], length, take, append-nil, subst, ◌∙◌, ap, refl, arith}
+use Rattle.std.proofs.Common.{◌≡◌, ◌≤◌, [], length, take, append-nil, subst, ◌∙◌, ap, refl, arith}
 use Rattle.std.proofs.lemmas.List.{take_all}
 use Rattle.saber_plan.specs.Trees.{tree_of}
 use Rattle.saber_plan.specs.Windows.{mark_after, ending}
@@ -9,7 +9,7 @@ pub returns : goal.returns
 returns c =
     let b = c.args.batch.now in
     let within = c.loop-from.invariant.within in
-    let over = c.loop-from-test.false in
+    let over = subst (λ n. n ≤ c.loop-from.from) c.len.ensures c.loop-from-test.false in
     let at_end : c.loop-from.from ≡ length b.rows.now = omega (arith, within, over) in
     let all : take c.loop-from.from b.rows.now ≡ b.rows.now = take_all c.loop-from.from b.rows.now over in
     record {

@@ -1,4 +1,4 @@
-use Rattle.std.proofs.Common.{◌≡◌, ◌∙◌, ap, to_z-of_z}
+use Rattle.std.proofs.Common.{◌≡◌, ◌∙◌, sym, ap, to_z-of_z}
 use mir.Val.{SFits, to_z, of_z}
 use mir.Syntax.{w64}
 use Rattle.saber_plan.specs.Trees.{tree_of}
@@ -21,7 +21,7 @@ returns-in_ok-put-in-Left c =
       lefts = (c.in_ok-put-in-Left.ensures ∙ (λ j. put h.lefts (same j) x)) i;
       rights = h.rights;
       part = (c.in_ok-meet_rights-in-Left.ensures ∙ (λ j. with_rights q h.part (c.new-seen.ensures j) (rows_at h.rights (same j)))) i;
-    }) ∙ take_left q k h x c.in-Left.is ∙ ap (λ h. taken q k h x) c.self.view_is
+    }) ∙ take_left q k h x (sym c.side.ensures ∙ c.in-Left.is) ∙ ap (λ h. taken q k h x) c.self.view_is
 
 pub returns-in_ok-put-in-Right : goal.returns-in_ok-put-in-Right
 returns-in_ok-put-in-Right c =
@@ -35,4 +35,4 @@ returns-in_ok-put-in-Right c =
       lefts = h.lefts;
       rights = (c.in_ok-put-in-Right.ensures ∙ (λ j. put h.rights (same j) x)) i;
       part = (c.in_ok-meet_lefts-in-Right.ensures ∙ (λ j. with_lefts q h.part (c.new-seen.ensures j) (rows_at h.lefts (same j)))) i;
-    }) ∙ take_right q k h x c.in-Right.is ∙ ap (λ h. taken q k h x) c.self.view_is
+    }) ∙ take_right q k h x (sym c.side.ensures ∙ c.in-Right.is) ∙ ap (λ h. taken q k h x) c.self.view_is

@@ -6,9 +6,9 @@ use Rattle.saber_join.specs.Keeping.{noted_by}
 use Rattle.saber_join.specs.Open.{seen_held, AllFit, Grown}
 use Rattle.saber_join.proofs.join.Join.note_rows.Given as goal
 
-abbrev pub invariant-loop-row : goal.invariant-loop-row
-invariant-loop-row l = record {
-  mark : l.mark ≡ mark_after l.fn.before (take l.row-index l.rows);
-  grown : Grown (frame (tree_of l.fn.self)) (noted_by l.tie) l.fn.closed (placed_after l.fn.before (take l.row-index l.rows)) (seen_held l.fn.windows.entries) (seen_held l.windows.entries);
+abbrev pub invariant-loop-i : goal.invariant-loop-i
+invariant-loop-i l = record {
+  mark : l.mark ≡ mark_after l.fn.before (take l.i l.rows);
+  grown : Grown (frame (tree_of l.fn.self)) (noted_by l.tie) l.fn.closed (placed_after l.fn.before (take l.i l.rows)) (seen_held l.fn.windows.entries) (seen_held l.windows.entries);
   held : AllFit (tree_of l.fn.self) (seen_held l.windows.entries);
 }

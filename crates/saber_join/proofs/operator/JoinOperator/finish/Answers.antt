@@ -1,4 +1,4 @@
-use Rattle.std.proofs.Common.{◌≡◌, ◌++◌, ◌∙◌, ap, sym, subst, nat_cmp, subst₂}
+use Rattle.std.proofs.Common.{◌≡◌, ◌∙◌, ap, sym, subst, nat_cmp}
 use Rattle.saber_plan.specs.Trees.{tree_of}
 use Rattle.saber_plan.specs.Windows.{mark_after, ending, closed_count, begun_count}
 use Rattle.saber_plan.specs.Answers.{frame}
@@ -20,21 +20,21 @@ mark_over-last-requires c =
     let q = tree_of c.args.self.now in
     let d = c.args.draft in
     let whole : IsWhole q (sight_of d) = subst (IsWhole q) (sym c.requires.1) c.requires.2 in
-    subst₂ (RowsFit q) (sym whole.meets) (sym c.as_slice-rows.ensures) (fits_back q d.first d.back d.rows whole.fits)
+    subst (λ m. RowsFit q m d.rows) (sym whole.meets) (fits_back q d.first d.back d.rows whole.fits)
 
 pub windows_of-requires-clause-fits : goal.windows_of-requires-clause-fits
 windows_of-requires-clause-fits c =
     let q = tree_of c.args.self.now in
     let d = c.args.draft in
     let whole : IsWhole q (sight_of d) = subst (IsWhole q) (sym c.requires.1) c.requires.2 in
-    subst₂ (λ us vs. RowsFit q d.first (us ++ vs)) (sym c.as_slice-back.ensures) (sym c.as_slice-rows.ensures) whole.fits
+    whole.fits
 
 pub windows_of-requires-clause-after : goal.windows_of-requires-clause-after
 windows_of-requires-clause-after c =
     let q = tree_of c.args.self.now in
     let d = c.args.draft in
     let whole : IsWhole q (sight_of d) = subst (IsWhole q) (sym c.requires.1) c.requires.2 in
-    whole.meets ∙ ap (mark_after d.first) (sym c.as_slice-back.ensures)
+    whole.meets
 
 pub returns-clause-shares : goal.returns-clause-shares
 returns-clause-shares c s seen whole =
@@ -42,13 +42,12 @@ returns-clause-shares c s seen whole =
     let q = tree_of c.args.self.now in
     let w = c.has_windows.ensures in
     let g = c.in_ok-gathered.gathered in
-    let back = c.as_slice-back.result.now in
-    let rows = c.as_slice-rows.result.now in
+    let back = d.back in
+    let rows = d.rows in
     let es = c.in_ok-windows.windows.entries in
     let own : IsWhole q (sight_of d) = subst (IsWhole q) (sym seen) whole in
-    let before : d.before ≡ mark_after d.first back = own.meets ∙ ap (mark_after d.first) (sym c.as_slice-back.ensures) in
+    let before : d.before ≡ mark_after d.first back = own.meets in
     let b : Bounds = record { begun_before = c.begun_below.result; closed_after = c.closed_below.result } in
-    let fits = subst₂ (λ us vs. RowsFit q d.first (us ++ vs)) (sym c.as_slice-back.ensures) (sym c.as_slice-rows.ensures) own.fits in
     let given : AreBounds q (mark_after d.first back) (ending d.ended (mark_after (mark_after d.first back) rows)) b = record {
       begun_before = c.begun_below.ensures ∙ ap (begun_count (frame q)) before;
       closed_after = c.closed_below.ensures ∙ ap (closed_count (frame q)) (c.ending-after.ensures ∙ ap (ending d.ended) (c.mark_over-last.ensures ∙ ap (λ m. mark_after m rows) before));
@@ -72,5 +71,4 @@ returns-clause-shares c s seen whole =
       lines = c.into_piece.ensures.text j;
       closed = c.into_piece.ensures.closed j;
     })
-    ∙ shares_are laws q w.checked w.join w.windows w.fits d.first back rows d.ended fits b given es (sorted_seen nat_cmp (λ k. k) (λ x. x) es c.len-count.ensures.ordered) holds g.closing g.pending g.opening g.text.items c.in_ok-gathered.ensures
-    ∙ (λ j. shares_here q d.first (c.as_slice-back.ensures j) (c.as_slice-rows.ensures j) d.ended))
+    ∙ shares_are laws q w.checked w.join w.windows w.fits d.first back rows d.ended own.fits b given es (sorted_seen nat_cmp (λ k. k) (λ x. x) es c.len-count.ensures.ordered) holds g.closing g.pending g.opening g.text.items c.in_ok-gathered.ensures)

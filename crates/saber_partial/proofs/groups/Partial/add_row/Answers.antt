@@ -21,8 +21,8 @@ pub add-requires-clause-room : goal.add-requires-clause-room
 add-requires-clause-room c =
     let q = tree_of c.args.plan.now in
     let zs = c.args.row.now.values in
-    let k = c.as_slice-2.result.now in
-    let here : k ≡ key q.keys zs = c.as_slice-2.ensures.value ∙ c.push_key.ensures ∙ (λ i. c.new-list.ensures i ++ key (c.keys.ensures i) (c.as_slice.ensures i)) in
+    let k = c.as_slice.result.now in
+    let here : k ≡ key q.keys zs = c.as_slice.ensures.value ∙ c.push_key.ensures ∙ (λ i. c.new-list.ensures i ++ key (c.keys.ensures i) (c.values.ensures i)) in
     let one : numbers c.items.result.now (zs ∷ []) ≡ numbers q.items (zs ∷ []) = ap (λ is. numbers is (zs ∷ [])) c.items.ensures in
     subst (FitsAt c.args.self.now k) (sym one) (add_fits q c.args.self.now zs k here c.requires.room)
 
@@ -31,7 +31,7 @@ returns-clause-ok c =
     let q = tree_of c.args.plan.now in
     let zs = c.args.row.now.values in
     let m = c.args.self.now in
-    let k = c.as_slice-2.result.now in
-    let here : k ≡ key q.keys zs = c.as_slice-2.ensures.value ∙ c.push_key.ensures ∙ (λ i. c.new-list.ensures i ++ key (c.keys.ensures i) (c.as_slice.ensures i)) in
+    let k = c.as_slice.result.now in
+    let here : k ≡ key q.keys zs = c.as_slice.ensures.value ∙ c.push_key.ensures ∙ (λ i. c.new-list.ensures i ++ key (c.keys.ensures i) (c.values.ensures i)) in
     let one : numbers c.items.result.now (zs ∷ []) ≡ numbers q.items (zs ∷ []) = ap (λ is. numbers is (zs ∷ [])) c.items.ensures in
     subst (λ (x : Part). OnOk c.add.result (c.add.new.self ≡ x)) (add_at q m zs k (joined join_numbers (get m k) (numbers c.items.result.now (zs ∷ []))) here (ap (joined join_numbers (get m k)) one)) c.add.ensures.ok

@@ -7,9 +7,9 @@ use Rattle.saber_partial.specs.Panes.{panes_in}
 use Rattle.saber_partial.proofs.PaneFolding.{so_far}
 use Rattle.saber_partial.proofs.panes.Panes.fold.Given as goal
 
-abbrev pub invariant-loop-row : goal.invariant-loop-row
-invariant-loop-row g l = record {
-  mark : l.mark ≡ mark_after l.fn.before (take l.row-index l.rows);
-  panes : l.self ≡ both merge l.fn.self (panes_in (tree_of l.fn.p) (so_far (tree_of l.fn.p) l.fn.before l.rows l.row-index));
-  steps : l.steps ≤ l.fn.steps + length (so_far (tree_of l.fn.p) l.fn.before l.rows l.row-index);
+abbrev pub invariant-loop-i : goal.invariant-loop-i
+invariant-loop-i g l = record {
+  mark : l.mark ≡ mark_after l.fn.before (take l.i l.rows);
+  panes : l.self ≡ both merge l.fn.self (panes_in (tree_of l.fn.p) (so_far (tree_of l.fn.p) l.fn.before l.rows l.i));
+  steps : l.steps ≤ l.fn.steps + length (so_far (tree_of l.fn.p) l.fn.before l.rows l.i);
 }

@@ -1,11 +1,10 @@
-use Rattle.std.proofs.Common.{◌≡◌, arith, refl, sym, ◌∙◌, ap, subst, Some, option_map}
+use Rattle.std.proofs.Common.{◌≡◌, arith, refl, sym, ◌∙◌, subst, Some}
 use Rattle.saber_plan.specs.Rows.{before}
 use Rattle.saber_io.specs.declared.feeds.EndMark.{EndMark}
-use Rattle.saber_rows.specs.Reader.{reader_of, gone, answer_of}
+use Rattle.saber_rows.specs.Reader.{reader_of}
 use Rattle.saber_rows.specs.declared.lines.Turn.{Turn}
 use Rattle.saber_rows.specs.Turns.{same, TurnGives, PlaceMoves, IfAgain, IfNoFault, HasEnough}
-use Rattle.saber_rows.proofs.Chains.{chain, stands, stopped_moves, stopped_ends, kept_stop, last_stop, no_row}
-use Rattle.saber_rows.proofs.TakenRows.{given_since}
+use Rattle.saber_rows.proofs.Chains.{chain, stands}
 use Rattle.saber_rows.proofs.ReadSteps.{true_not_false}
 use Rattle.saber_rows.proofs.FedReads.{later_marked}
 use Rattle.saber_rows.proofs.lines.Lines.advance_fed.Goals as goal

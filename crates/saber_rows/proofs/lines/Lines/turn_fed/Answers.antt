@@ -1,4 +1,4 @@
-use Rattle.std.proofs.Common.{rules, ◌≡◌, ◌≤◌, None, Some, false, sym, subst, length, ◌∙◌, ap}
+use Rattle.std.proofs.Common.{rules, ◌≡◌, ◌≤◌, None, Some, false, sym, subst, length}
 use Rattle.saber_plan.specs.Rows.{before}
 use Rattle.saber_rows.specs.Buffer.{bytes_of}
 use Rattle.saber_rows.specs.LineFeeds.{HasNoFeed}

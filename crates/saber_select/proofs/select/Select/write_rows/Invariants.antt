@@ -5,8 +5,8 @@ use Rattle.saber_plan.specs.Given.{IsRowOf}
 use Rattle.saber_plan.specs.Answers.{selected}
 use Rattle.saber_select.proofs.select.Select.write_rows.Given as goal
 
-abbrev pub invariant-loop-row : goal.invariant-loop-row
-invariant-loop-row l = record {
-  fit : AllByRecursion (IsRowOf (tree_of l.fn.self)) (drop l.row-index l.rows);
-  all : l.out.items ++ selected (tree_of l.fn.self) (drop l.row-index l.rows) ≡ l.fn.out.items ++ selected (tree_of l.fn.self) l.rows;
+abbrev pub invariant-loop-i : goal.invariant-loop-i
+invariant-loop-i l = record {
+  fit : AllByRecursion (IsRowOf (tree_of l.fn.self)) (drop l.i l.rows);
+  all : l.out.items ++ selected (tree_of l.fn.self) (drop l.i l.rows) ≡ l.fn.out.items ++ selected (tree_of l.fn.self) l.rows;
 }
