@@ -14,7 +14,7 @@ use saber_laws::{
     begun_stay, closed_stay, groups_have_one_window, merge_has_unit, merge_is_associative,
     no_rows_no_part, rows_add_to_groups, rows_span,
 };
-use saber_partial::{Partial, groups_are_of_rows, small_parts_merge};
+use saber_partial::{Gathering, Partial, groups_are_of_rows, small_parts_merge};
 use saber_plan::{Mark, NoMemory};
 use saber_window::{Span, past_have_none};
 use std::alloc::Global;
@@ -54,7 +54,7 @@ impl Group<'_> {
         alloc: Global,
         is_wanted: bool,
         row: &RowRef,
-        part: &mut Partial,
+        part: &mut Gathering,
     ) -> Result<(), NoMemory>
         requires row { IsRowOf (tree_of self.now) row.now }
         requires room { CanMerge part.old (p.group_part (tree_of self.now) (row.now.values ∷ [])) }
@@ -99,7 +99,7 @@ impl Group<'_> {
         let (first, past) = self.row_windows(&row, mark);
         let span = self.alike(&row, mark);
         let has_windows = first < past;
-        let mut part = Partial::empty(alloc);
+        let mut part = Gathering::empty(alloc);
         let mut after = *mark;
         for end in from..rows.len() {
             let row = rows.row(end);
@@ -107,7 +107,7 @@ impl Group<'_> {
                 return Ok(Run {
                     first,
                     past,
-                    part,
+                    part: part.into_part(alloc)?,
                     end,
                     after,
                 });
@@ -118,7 +118,7 @@ impl Group<'_> {
         Ok(Run {
             first,
             past,
-            part,
+            part: part.into_part(alloc)?,
             end: rows.len(),
             after,
         })

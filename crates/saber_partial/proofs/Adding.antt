@@ -13,7 +13,7 @@ use Rattle.saber_plan.specs.PartFacts.{total, exact, merge-empty_right}
 use Rattle.saber_plan.specs.MapFacts.{take_one}
 use Rattle.saber_partial.specs.Tallies.{CanMerge, FitsAt}
 use Rattle.saber_partial.specs.Sorted.{part_of}
-use Rattle.saber_partial.proofs.Merging.{not_both}
+use Rattle.saber_partial.specs.MergeFacts.{not_both}
 
 -- the part of one row
 pub one_part : (q : Tree) (zs : List ℤ) → group_part q (zs ∷ []) ≡ from_entries {R = key_cmp} ((key q.keys zs, numbers q.items (zs ∷ [])) ∷ [])

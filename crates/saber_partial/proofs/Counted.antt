@@ -20,8 +20,7 @@ use Rattle.saber_plan.specs.MapFacts.{equal_if, get-both}
 use Rattle.saber_plan.specs.PartFacts.{exact, total, get-group_part, numbers_if}
 use Rattle.saber_plan.specs.ListFacts.{few_pass}
 use Rattle.saber_plan.specs.RowFacts.{length-placed}
-use Rattle.saber_partial.proofs.Zips.{zip_long}
-use Rattle.saber_partial.proofs.Merging.{not_both}
+use Rattle.saber_partial.specs.MergeFacts.{not_both, zip_long}
 
 can_join : (is : List Item) (a b : Numbers) → OfItems is a → OfItems is b → a.count + b.count ≤ 2 ^ 40 → CanJoin a b
 can_join is a b g h n = record {

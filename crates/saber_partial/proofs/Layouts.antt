@@ -11,7 +11,7 @@ use Rattle.saber_partial.specs.declared.layout.Layout.{Layout}
 use Rattle.saber_partial.specs.Flat.{HasLayout, HaveLayout, Suits}
 use Rattle.saber_partial.specs.Sorted.{part_of, Rises}
 use Rattle.saber_partial.specs.Tallies.{Alike, CanMerge, FitsAt, with_row}
-use Rattle.saber_partial.proofs.Merging.{not_both}
+use Rattle.saber_partial.specs.MergeFacts.{not_both}
 use Rattle.saber_partial.proofs.Rising.{get_there, filled_part}
 
 -- what isn't an empty part has an entry

@@ -21,5 +21,5 @@ mod PaneParts
 mod PaneCuts
 mod PaneFolding
 mod PaneMerging
-mod NumberedRows
 mod PaneRooms
+mod PileFacts

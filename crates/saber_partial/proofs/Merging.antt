@@ -1,5 +1,5 @@
 -- One entry after another taken into a map.
-use Rattle.std.proofs.Common.{◌≡◌, List, ◌∷◌, Bool, true, false, cond, T, ℤ, Option, Some, None, Result, Ok, Err, OnOk, OnErr, refl, sym, ◌∙◌, ap}
+use Rattle.std.proofs.Common.{◌≡◌, List, ◌∷◌, Bool, true, false, cond, T, ℤ, Some, None, Result, Ok, Err, OnOk, OnErr, refl, sym, ◌∙◌, ap}
 use Rattle.std.specs.Cmp.{tied_itself}
 use Rattle.std.specs.Ordering.{eq_by_cmp, is_eq}
 use Rattle.std.specs.FinMap.{get, insert, from_entries, find, is_sorted, get-from_entries, get-insert}
@@ -9,11 +9,9 @@ use Rattle.saber_plan.specs.Parts.{Part, Numbers, join_numbers, merge}
 use Rattle.saber_plan.specs.PartFacts.{total, exact}
 use Rattle.saber_plan.specs.MapFacts.{equal_if, take_one, first_alone}
 use Rattle.saber_partial.specs.Tallies.{CanJoin}
+use Rattle.saber_partial.specs.MergeFacts.{not_both}
 use Rattle.saber_partial.specs.Sorted.{JoinsFit}
 use Rattle.saber_plan.specs.Merges.{joined}
-
-pub not_both : {A : Type 0} {o : Option A} {y : A} → o ≡ None → o ≡ Some y → ⊥
-not_both e h = cc
 
 -- what holds at both ends
 pub either : {T E : Type 0} (r : Result T E) (P Q R : Type 0) → OnOk r P → OnErr r Q → (P → R) → (Q → R) → R

@@ -21,7 +21,7 @@ use Rattle.saber_partial.specs.declared.layout.Layout.{Layout}
 use Rattle.saber_partial.specs.Flat.{entry_in}
 use Rattle.saber_partial.specs.Tallies.{with_row}
 use Rattle.saber_partial.specs.Sorted.{part_of, Rises, IsAt, IsGap, JoinsFit, CanJoinAll}
-use Rattle.saber_partial.proofs.Merging.{not_both}
+use Rattle.saber_partial.specs.MergeFacts.{not_both}
 
 -- ---- order
 

@@ -9,7 +9,8 @@ use Rattle.saber_partial.specs.declared.gather.Gather.TheVariants.{Sums}
 use Rattle.saber_partial.specs.Gathering.{HasRoom}
 use Rattle.saber_partial.specs.Kinds.{joined_behind, joined_list}
 use Rattle.saber_partial.specs.Tallies.{numbers_in, IsTally, CanJoin}
-use Rattle.saber_partial.proofs.Zips.{zip_long, zip_earlier}
+use Rattle.saber_partial.proofs.Zips.{zip_earlier}
+use Rattle.saber_partial.specs.MergeFacts.{zip_long}
 
 front_long : (f : ℤ → ℤ → ℤ) (n : ℕ) (xs ps : List ℤ) → n ≤ length xs → length ps ≡ n → length (zip_by f (take n xs) ps) ≡ n
 front_long f n xs ps h e = let a = length-take-le n xs h in zip_long f (take n xs) ps (a ∙ sym e) ∙ a

@@ -6,5 +6,6 @@ pub mod Gathering
 pub mod Printing
 pub mod PartLaws
 pub mod Panes
+pub mod Piles
+pub mod MergeFacts
 pub mod PaneLaws
-pub mod Numbered

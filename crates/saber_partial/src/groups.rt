@@ -50,6 +50,11 @@ impl Partial {
         }
     }
 
+    /// How many groups there are.
+    pub(crate) fn len(&self) -> usize {
+        self.groups.len()
+    }
+
     /// Whether there is no group, so that there is nothing to keep.
     pub fn is_empty(&self) -> bool
         ensures none { result ≡ true → self.now ≡ no_part }

@@ -5,6 +5,7 @@
 mod cuts;
 mod first_row;
 mod gather;
+mod gathering;
 mod groups;
 mod joined_lines;
 mod joins;
@@ -13,10 +14,10 @@ mod laws;
 mod layout;
 mod lines;
 mod merges;
-mod numbered;
 mod pane_laws;
 mod pane_part;
 mod panes;
+mod piles;
 mod places;
 mod rows;
 mod steps;
@@ -24,6 +25,7 @@ mod table;
 mod tally;
 mod unprinted;
 
+pub use gathering::Gathering;
 pub use groups::Partial;
 pub use laws::{
     groups_are_of_rows, groups_can_merge, parts_are_of_rows, parts_can_merge, small_parts_merge,
@@ -33,6 +35,7 @@ pub use pane_laws::{
     rows_have_room, windows_are_panes, windows_have_room,
 };
 pub use panes::Panes;
+pub use piles::Pile;
 pub use steps::Steps;
 
 #[cfg(test)]

@@ -11,6 +11,7 @@ ghost use Rattle.saber_plan.specs.Checked.{IsChecked, columns_on};
 ghost use Rattle.saber_partial.specs.PartLaws.{OfRows};
 
 use super::*;
+use saber_cells::{write_cell, write_count};
 use saber_flat::RowRef;
 use saber_plan::{
     Expr, Factor, Factors, Item, Measure, NoMemory, Plan, Product, Row, Shape, Side, Stream,
@@ -313,5 +314,138 @@ fn no_groups(rt: HostRuntime) -> Result<(), Fail> {
         out.as_slice(),
         b"0,1,10\n1,1,10\n2,1,10\n3,1,10\n".as_slice()
     );
+    Ok(())
+}
+
+// Keys 10 to 80, and then two of them and one more, as a pile of three lists.
+fn three_lists(alloc: Global, plan: &Plan) -> Result<Pile, NoMemory>
+    requires checked { IsChecked (tree_of plan.now) }
+    requires group { (tree_of plan.now).shape ≡ h.Group }
+    requires columns { columns_on (tree_of plan.now).streams s.Left ≡ 3 }
+    ensures { IfOk result (λ p. OfRows (tree_of plan.now) 12 p) }
+{
+    let many = grouped(alloc, plan, &MANY)?;
+    let two = grouped(alloc, plan, &[(4, 20, 100), (4, 30, 200)])?;
+    let one = grouped(alloc, plan, &[(5, 90, 9)])?;
+    let mut pile = Pile::empty(alloc);
+    pile.take_in(many)?;
+    pile.take_in(two)?;
+    pile.take_from(alloc, &one)?;
+    pile.take_from(alloc, &one)?;
+    Ok(pile)
+}
+
+// With so many groups more that all become one list.
+fn one_list(alloc: Global, plan: &Plan) -> Result<Pile, NoMemory>
+    requires checked { IsChecked (tree_of plan.now) }
+    requires group { (tree_of plan.now).shape ≡ h.Group }
+    requires columns { columns_on (tree_of plan.now).streams s.Left ≡ 3 }
+{
+    let four = grouped(
+        alloc,
+        plan,
+        &[(6, 15, 1), (6, 25, 1), (6, 35, 1), (6, 45, 1)],
+    )?;
+    small_parts_merge();
+    let mut pile = three_lists(alloc, plan)?;
+    pile.take_in(four)?;
+    Ok(pile)
+}
+
+// A part before three lists, and all of them.
+fn write_behind(alloc: Global, plan: &Plan, out: &mut Vec<u8>) -> Result<(), NoMemory>
+    requires checked { IsChecked (tree_of plan.now) }
+    requires group { (tree_of plan.now).shape ≡ h.Group }
+    requires columns { columns_on (tree_of plan.now).streams s.Left ≡ 3 }
+{
+    let two = grouped(alloc, plan, &[(0, 5, 1), (0, 90, 1000)])?;
+    small_parts_merge();
+    let mut pile = three_lists(alloc, plan)?;
+    pile.lines_behind(&two, plan, 0, out)
+}
+
+#[test]
+fn a_pile_of_parts(rt: HostRuntime) -> Result<(), Fail> {
+    let alloc = rt.alloc();
+    let plan = sums(alloc)?;
+    let mut out = Vec::new(alloc);
+    write_behind(alloc, &plan, &mut out)?;
+    assert_eq!(rt;
+        out.as_slice(),
+        b"0,5,1\n0,10,1\n0,20,102\n0,30,203\n0,40,4\n0,50,5\n0,60,6\n0,70,7\n0,80,8\n0,90,1018\n".as_slice()
+    );
+    let mut lines = Vec::new(alloc);
+    let mut pile = three_lists(alloc, &plan)?;
+    pile.lines(&plan, 1, &mut lines)?;
+    let part = three_lists(alloc, &plan)?.into_part(alloc)?;
+    let mut lines_of_part = Vec::new(alloc);
+    part.lines(&plan, 1, &mut lines_of_part)?;
+    assert_eq!(rt;
+        lines.as_slice(),
+        b"1,10,1\n1,20,102\n1,30,203\n1,40,4\n1,50,5\n1,60,6\n1,70,7\n1,80,8\n1,90,18\n".as_slice()
+    );
+    assert_eq!(rt; lines_of_part.as_slice(), lines.as_slice());
+    Ok(())
+}
+
+#[test]
+fn a_pile_of_one_list(rt: HostRuntime) -> Result<(), Fail> {
+    let alloc = rt.alloc();
+    let plan = sums(alloc)?;
+    let mut out = Vec::new(alloc);
+    let mut pile = one_list(alloc, &plan)?;
+    pile.lines(&plan, 2, &mut out)?;
+    assert_eq!(rt;
+        out.as_slice(),
+        b"2,10,1\n2,15,1\n2,20,102\n2,25,1\n2,30,203\n2,35,1\n2,40,4\n2,45,1\n2,50,5\n2,60,6\n2,70,7\n2,80,8\n2,90,18\n".as_slice()
+    );
+    Ok(())
+}
+
+// Rows of 300 keys in turn, which neither rise nor fall. The number is the key.
+fn gathered(alloc: Global, plan: &Plan, count: u32) -> Result<Gathering, NoMemory>
+    requires checked { IsChecked (tree_of plan.now) }
+    requires group { (tree_of plan.now).shape ≡ h.Group }
+    requires columns { columns_on (tree_of plan.now).streams s.Left ≡ 3 }
+    ensures { IfOk result (λ g. OfRows (tree_of plan.now) count g) }
+{
+    let mut gathering = Gathering::empty(alloc);
+    groups_are_of_rows();
+    small_parts_merge();
+    for time in 0..count {
+        let key = i64::from(time % 300 * 7 % 300);
+        let row = row(alloc, time, key, key)?;
+        gathering.add_row(alloc, plan, &RowRef::of(&row))?;
+    }
+    Ok(gathering)
+}
+
+// The lines of 300 keys that have one row or two.
+fn lines_of_keys(alloc: Global, have_two: bool) -> Result<Vec<u8>, NoMemory> {
+    let mut out = Vec::new(alloc);
+    for number in 0..300_u32 {
+        let key = i128::from(number);
+        let sum = if have_two { key + key } else { key };
+        write_count(&mut out, 0)?;
+        write_cell(&mut out, key)?;
+        write_cell(&mut out, sum)?;
+        out.push(b'\n')?;
+    }
+    Ok(out)
+}
+
+// More groups than are young at once: each key once, and each twice.
+#[test]
+fn many_groups_gathered(rt: HostRuntime) -> Result<(), Fail> {
+    let alloc = rt.alloc();
+    let plan = sums(alloc)?;
+    let once = gathered(alloc, &plan, 300)?.into_part(alloc)?;
+    let twice = gathered(alloc, &plan, 600)?.into_part(alloc)?;
+    let mut out = Vec::new(alloc);
+    once.lines(&plan, 0, &mut out)?;
+    assert_eq!(rt; out.as_slice(), lines_of_keys(alloc, false)?.as_slice());
+    let mut out = Vec::new(alloc);
+    twice.lines(&plan, 0, &mut out)?;
+    assert_eq!(rt; out.as_slice(), lines_of_keys(alloc, true)?.as_slice());
     Ok(())
 }

@@ -1,12 +1,12 @@
 -- Entries and what they come to, as one more comes and the first goes.
-use Rattle.std.proofs.Common.{◌≡◌, ℕ, zero, suc, ◌≤◌, ◌<◌, true, false, cond, nat_le, [], ◌∷◌, ◌++◌, drop, length, refl, sym, ◌∙◌, ap, subst, subst₂, append-nil, append_assoc, arith}
+use Rattle.std.proofs.Common.{◌≡◌, ℕ, zero, suc, ◌≤◌, ◌<◌, true, false, cond, nat_le, [], ◌∷◌, ◌++◌, drop, length, refl, sym, ◌∙◌, ap, subst, subst₂, append-nil, append_assoc, get_or, arith}
 use Rattle.std.proofs.lemmas.List.{length-map}
 use Rattle.saber_plan.specs.Parts.{Part, no_part, merge}
-use Rattle.saber_laws.specs.Parts.{MergesGive, MergeHasUnit, MergeIsAssociative}
+use Rattle.saber_laws.specs.Parts.{MergeHasUnit, MergeIsAssociative}
 use Rattle.saber_partial.specs.Tallies.{CanMerge}
 use Rattle.saber_sliding.specs.Entries.{Entries, whole, followed, pushed, dropped, merged, suffixes, seen, CanFollow, Chained, Sound}
 use Rattle.saber_sliding.specs.EntryFacts.{all_dropped}
-use Rattle.saber_sliding.proofs.Merging.{can_shift, can_none, none_can}
+use Rattle.saber_partial.specs.MergeFacts.{can_ahead, can_none, none_can}
 
 abbrev last : ℕ → Part → Entries
 last n p = (n, p) ∷ []
@@ -43,20 +43,20 @@ follow_back : (p b : Part) (front es : Entries) → CanFollow p (followed b fron
 follow_back p b [] es h = h
 follow_back p b (e ∷ front) es h = follow_back p b front es h.1
 
-joins-push : MergesGive → (b p : Part) (front es : Entries) → CanFollow b front → CanFollow p (followed b front ++ es) → CanFollow (merge b p) front
-joins-push give b p [] es g h = tt
-joins-push give b p (e ∷ front) es g h = (can_shift give e.1 b p g.0 h.0, joins-push give b p front es g.1 h.1)
+joins-push : (b p : Part) (front es : Entries) → CanFollow b front → CanFollow p (followed b front ++ es) → CanFollow (merge b p) front
+joins-push b p [] es g h = tt
+joins-push b p (e ∷ front) es g h = (can_ahead e.1 b p g.0 h.0, joins-push b p front es g.1 h.1)
 
-chained-push : MergesGive → MergeHasUnit → MergeIsAssociative → (n : ℕ) (p : Part) (es : Entries) → Chained es → CanFollow p (suffixes es) → Chained (es ++ last n p)
-chained-push give unit assoc n p [] g h = (can_none p, tt)
-chained-push give unit assoc n p (e ∷ es) g h =
-    (subst (CanMerge e.1) (sym (merged-push unit assoc n p es)) (can_shift give e.1 (merged es) p g.0 h.0), chained-push give unit assoc n p es g.1 h.1)
+chained-push : MergeHasUnit → MergeIsAssociative → (n : ℕ) (p : Part) (es : Entries) → Chained es → CanFollow p (suffixes es) → Chained (es ++ last n p)
+chained-push unit assoc n p [] g h = (can_none p, tt)
+chained-push unit assoc n p (e ∷ es) g h =
+    (subst (CanMerge e.1) (sym (merged-push unit assoc n p es)) (can_ahead e.1 (merged es) p g.0 h.0), chained-push unit assoc n p es g.1 h.1)
 
-pub sound-push : MergesGive → MergeHasUnit → MergeIsAssociative → (front back : Entries) (b : Part) (n : ℕ) (p : Part) → Sound front back b → CanFollow p (seen front back b) → Sound front (back ++ last n p) (merge b p)
-sound-push give unit assoc front back b n p s h = record {
+pub sound-push : MergeHasUnit → MergeIsAssociative → (front back : Entries) (b : Part) (n : ℕ) (p : Part) → Sound front back b → CanFollow p (seen front back b) → Sound front (back ++ last n p) (merge b p)
+sound-push unit assoc front back b n p s h = record {
   merge_is = ap (λ m. merge m p) s.merge_is ∙ sym (merged-push unit assoc n p back);
-  chained = chained-push give unit assoc n p back s.chained (follow_back p b front (suffixes back) h);
-  joins = joins-push give b p front (suffixes back) s.joins h;
+  chained = chained-push unit assoc n p back s.chained (follow_back p b front (suffixes back) h);
+  joins = joins-push b p front (suffixes back) s.joins h;
 }
 
 first_can : (p : Part) (es : Entries) → CanFollow p (suffixes es) → CanMerge (merged es) p
@@ -119,6 +119,11 @@ nothing (e ∷ front) h = absurd (omega (arith, h))
 
 pub whole_alone : (front back : Entries) (b : Part) → Sound front back b → length front ≤ 0 → b ≡ whole (seen front back b)
 whole_alone front back b s h = s.merge_is ∙ sym (whole_merged back) ∙ ap (λ f. whole (seen f back b)) (sym (nothing front h))
+
+-- with entries at the front, it is the first of them and the back behind it
+pub whole_ahead : (front back : Entries) (b : Part) (e : ℕ × Part) → 0 < length front → e ≡ get_or front 0 e → whole (seen front back b) ≡ merge e.1 b
+whole_ahead [] back b e h at = absurd (omega (arith, h))
+whole_ahead (f ∷ front) back b e h at = ap (λ (d : ℕ × Part). merge d.1 b) (sym at)
 
 -- ---- those at the front go
 

@@ -5,8 +5,8 @@ ghost use Rattle.saber_plan.specs.Trees.{tree_of};
 ghost use Rattle.saber_partial.specs.Tallies.{CanMerge};
 ghost use Rattle.saber_sliding.specs.Entries.{dropped, first_number, pushed, suffixes, whole, CanFollow, Chained};
 
-use saber_laws::{merge_has_unit, merge_is_associative, merges_give};
-use saber_partial::Partial;
+use saber_laws::{merge_has_unit, merge_is_associative};
+use saber_partial::{Partial, Pile};
 use saber_plan::{NoMemory, Plan};
 use std::alloc::Global;
 use std::collections::VecDeque;
@@ -23,7 +23,7 @@ use std::mem;
 pub struct Sliding {
     front: VecDeque<(u64, Partial)>,
     back: Vec<(u64, Partial)>,
-    back_part: Partial,
+    back_part: Pile,
 }
 
 impl Model for Sliding {
@@ -80,7 +80,7 @@ fn turn(
     gone: usize,
     front: &mut VecDeque<(u64, Partial)>,
     back: &mut Vec<(u64, Partial)>,
-    back_part: &mut Partial,
+    back_part: &mut Pile,
 ) -> Result<(), NoMemory>
     requires chained { Chained back.old.items }
     requires there { gone ≤ length back.old.items }
@@ -90,7 +90,7 @@ fn turn(
     ensures part { back_part.new ≡ no_part }
 {
     let mut entries = mem::replace(back, Vec::new(alloc));
-    *back_part = Partial::empty(alloc);
+    *back_part = Pile::empty(alloc);
     let kept = entries.split_off(gone)?;
     back.try_reserve_exact(kept.len())?;
     *front = summed_up(alloc, kept)?;
@@ -141,7 +141,7 @@ fn count_gone(back: &[(u64, Partial)], i: u64) -> usize
 fn put_behind(
     alloc: Global,
     back: &mut Vec<(u64, Partial)>,
-    back_part: &mut Partial,
+    back_part: &mut Pile,
     number: u64,
     part: Partial,
 ) -> Result<(), NoMemory>
@@ -149,7 +149,7 @@ fn put_behind(
     ensures back { OnOk result (back.new.items ≡ back.old.items ++ (number, part) ∷ []) }
     ensures part { OnOk result (back_part.new ≡ merge back_part.old part) }
 {
-    back_part.merge_from(alloc, &part)?;
+    back_part.take_from(alloc, &part)?;
     back.push((number, part))?;
     Ok(())
 }
@@ -162,7 +162,7 @@ impl Sliding {
         Sliding {
             front: VecDeque::new(alloc),
             back: Vec::new(alloc),
-            back_part: Partial::empty(alloc),
+            back_part: Pile::empty(alloc),
         }
     }
 
@@ -186,7 +186,6 @@ impl Sliding {
     {
         merge_has_unit();
         merge_is_associative();
-        merges_give();
         match put_behind(alloc, &mut self.back, &mut self.back_part, number, part) {
             Ok(()) => Ok(()),
             Err(lacks) => {
@@ -220,14 +219,23 @@ impl Sliding {
     }
 
     /// Writes the lines of the merge of all parts behind what `out` has, in a walk over two lists of groups at
-    /// most. Where memory is wanting, `out` stays as it was.
-    pub fn lines(&self, plan: &Plan, window: u64, out: &mut Vec<u8>) -> Result<(), NoMemory>
-        ensures ok { OnOk result (out.new.items ≡ out.old.items ++ part_lines (tree_of plan.now) window (whole self.now)) }
+    /// most. Where memory is wanting, `out` stays as it was, and nothing is kept.
+    pub fn lines(&mut self, plan: &Plan, window: u64, out: &mut Vec<u8>) -> Result<(), NoMemory>
+        ensures ok { OnOk result (out.new.items ≡ out.old.items ++ part_lines (tree_of plan.now) window (whole self.old)) }
+        ensures same { OnOk result (self.new ≡ self.old) }
         ensures err { OnErr result (out.new.items ≡ out.old.items) }
     {
-        match self.front.front() {
-            Some(first) => first.1.lines_with(&self.back_part, plan, window, out),
+        let alloc = *self.back.allocator();
+        let written = match self.front.front() {
+            Some(first) => self.back_part.lines_behind(&first.1, plan, window, out),
             None => self.back_part.lines(plan, window, out),
+        };
+        match written {
+            Ok(()) => Ok(()),
+            Err(lacks) => {
+                *self = Sliding::empty(alloc);
+                Err(lacks)
+            }
         }
     }
 }

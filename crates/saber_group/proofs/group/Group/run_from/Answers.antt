@@ -1,4 +1,4 @@
-use Rattle.std.proofs.Common.{rules, ◌≡◌, ℕ, ◌+◌, ◌-◌, ◌<◌, List, Some, get_or, ◌∷◌, [], length, sym, ap, subst, ◌∙◌, arith}
+use Rattle.std.proofs.Common.{rules, ◌≡◌, ℕ, ◌+◌, ◌-◌, ◌<◌, List, Some, get_or, ◌∷◌, [], length, sym, ap, subst, subst₂, ◌∙◌, arith}
 use Rattle.std.proofs.lemmas.Bool.{both_ways}
 use Rattle.std.proofs.lemmas.Option.{get_or_from_slice_get}
 use Rattle.std.specs.List.{slice_get}
@@ -61,10 +61,14 @@ returns-then-not-lies_in-clause-run c =
     let b = c.args.batch.now in
     let w = c.row_windows-first.result in
     let below = (subst (λ n. c.loop-end.end < n) c.len-end-end.ensures c.loop-end-test.true) in
-    run_is q b.before b.rows.now c.args.from c.loop-end.end w.0 w.1 c.loop-end.part
+    subst (IsRun q b.before b.rows.now c.args.from c.loop-end.end w.0 w.1) (sym c.in_ok-into_part.ensures)
+    (run_is q b.before b.rows.now c.args.from c.loop-end.end w.0 w.1 c.loop-end.part
     (starts_at c.past_have_none.ensures c.begun_stay.ensures c.closed_stay.ensures q c.has_window.ensures.window c.has_window.ensures.fits b.before b.rows.now c.args.from c.row-row.result c.args.mark.now w.0 w.1
     c.requires.fits c.requires.there (is_row b.rows.now c.args.from c.row-row.result c.row-row.ensures) c.requires.mark c.row_windows-first.ensures.first c.row_windows-first.ensures.past)
-    (later c) (omega (arith, below)) c.loop-end.invariant.run
+    (later c) (omega (arith, below)) c.loop-end.invariant.run)
+
+pub add_row-requires-clause-row : goal.add_row-requires-clause-row
+add_row-requires-clause-row c = let b = c.args.batch.now in row_at (tree_of c.args.self.now) b.before b.rows.now c.loop-end.end c.row-row-in-loop-end.result (subst (λ n. c.loop-end.end < n) c.len-end-end.ensures c.loop-end-test.true) (is_row b.rows.now c.loop-end.end c.row-row-in-loop-end.result c.row-row-in-loop-end.ensures) c.requires.fits
 
 pub add_row-requires-clause-room : goal.add_row-requires-clause-room
 add_row-requires-clause-room c =
@@ -109,7 +113,7 @@ returns-clause-run c =
     let low = c.loop-end.invariant.low in
     let there = c.requires.there in
     let all : c.loop-end.end ≡ length b.rows.now = omega arith in
-    subst (λ n. IsRun q b.before b.rows.now c.args.from n w.0 w.1 c.loop-end.part) (sym c.len.ensures)
+    subst₂ (λ n p. IsRun q b.before b.rows.now c.args.from n w.0 w.1 p) (sym c.len.ensures) (sym c.in_ok-into_part-2.ensures)
     (run_is q b.before b.rows.now c.args.from (length b.rows.now) w.0 w.1 c.loop-end.part
     (starts_at c.past_have_none.ensures c.begun_stay.ensures c.closed_stay.ensures q c.has_window.ensures.window c.has_window.ensures.fits b.before b.rows.now c.args.from c.row-row.result c.args.mark.now w.0 w.1
     c.requires.fits c.requires.there (is_row b.rows.now c.args.from c.row-row.result c.row-row.ensures) c.requires.mark c.row_windows-first.ensures.first c.row_windows-first.ensures.past)

@@ -30,7 +30,8 @@ loop-self-preserved-in-Some c =
     record {
       up = omega (arith, begun);
       high = omega (arith, most, below);
-      runs = λ m rows h. holds_later q m rows n (n + 1) rest (omega arith) (subst (Holds q m rows n) (sym dropped_is) (holds_drop q m rows n runs (c.loop-self.invariant.runs m rows h)));
+      runs = λ m rows h. holds_later q m rows n (n + 1) c.lines.new.self (omega arith)
+          (subst (Holds q m rows n) (sym (c.in_ok-lines-in-Some.ensures.same ∙ dropped_is)) (holds_drop q m rows n runs (c.loop-self.invariant.runs m rows h)));
       text = λ m rows all h settled. text_step q m all c.args.self.now.next n begun (whole rest) c.args.out.now.items c.loop-self.out.items c.lines.new.out.items
           (ap whole dropped_is ∙ whole_is q m rows n runs (c.loop-self.invariant.runs m rows h) ∙ settled n below)
           c.in_ok-lines-in-Some.ensures.ok (c.loop-self.invariant.text m rows all h settled);

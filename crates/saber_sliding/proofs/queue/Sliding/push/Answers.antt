@@ -11,7 +11,7 @@ put_behind-requires c =
 pub invariant_of-self : goal.invariant_of-self
 invariant_of-self c =
     let s = c.self.inside in
-    let new = sound-push c.merges_give.ensures c.merge_has_unit.ensures c.merge_is_associative.ensures s.front.items s.back.items s.back_part c.args.number c.args.part
+    let new = sound-push c.merge_has_unit.ensures c.merge_is_associative.ensures s.front.items s.back.items s.back_part c.args.number c.args.part
     c.self.invariant (subst (CanFollow c.args.part) (sym c.self.view_is) c.requires) in
     subst (λ b. Sound s.front.items b c.put_behind.new.back_part) (sym c.in-Ok.ensures.back)
     (subst (Sound s.front.items (s.back.items ++ (c.args.number, c.args.part) ∷ [])) (sym c.in-Ok.ensures.part) new)

@@ -1,0 +1,12 @@
+use Rattle.std.proofs.Common.{sym, subst, ◌∙◌, ap₂}
+use Rattle.saber_plan.specs.Parts.{Part, merge, no_part}
+use Rattle.saber_plan.specs.PartFacts.{merge-empty_left}
+use Rattle.saber_partial.specs.Tallies.{CanMerge}
+use Rattle.saber_partial.specs.MergeFacts.{none_can}
+use Rattle.saber_partial.proofs.gathering.Gathering.empty.Goals as goal
+
+pub invariant_of-result : goal.invariant_of-result
+invariant_of-result c = subst (λ (p : Part). CanMerge p c.empty-2.result) (sym c.empty.ensures) (none_can c.empty-2.result)
+
+pub returns : goal.returns
+returns c = ap₂ merge c.empty.ensures c.empty-2.ensures ∙ merge-empty_left no_part

@@ -1,0 +1,211 @@
+-- Facts on which parts can be merged, where three follow one another. Any proof may cite them.
+use Rattle.std.proofs.Common.{◌≡◌, ℕ, suc, ◌+◌, ◌^◌, ◌≤◌, List, [], ◌∷◌, length, ℤ, ◌+ℤ◌, Option, Some, None, refl, sym, ◌∙◌, ap, subst, subst₂, arith}
+use Rattle.std.specs.Int.{int_min, int_max}
+use Rattle.std.specs.FinMap.{get, get-empty}
+use Rattle.saber_plan.specs.Answers.{key_cmp, earlier}
+use Rattle.saber_plan.specs.Merges.{join}
+use Rattle.saber_plan.specs.MapFacts.{get-both}
+use Rattle.saber_plan.specs.PartFacts.{total}
+use Rattle.saber_plan.specs.Parts.{Part, Numbers, no_part, merge, join_numbers, zip_by}
+use Rattle.saber_partial.specs.Tallies.{Alike, CanJoin, CanMerge}
+
+pub not_both : {A : Type 0} {o : Option A} {y : A} → o ≡ None → o ≡ Some y → ⊥
+not_both e h = cc
+
+pub zip_long : (f : ℤ → ℤ → ℤ) (xs ys : List ℤ) → length xs ≡ length ys → length (zip_by f xs ys) ≡ length xs
+zip_long f [] ys h = refl
+zip_long f (x ∷ xs) [] h = absurd (omega arith)
+zip_long f (x ∷ xs) (y ∷ ys) h = ap suc (zip_long f xs ys (omega arith))
+
+-- ---- how many numbers of each kind
+
+record Sizes : Type 0 where
+  sums : ℕ
+  leasts : ℕ
+  greatests : ℕ
+  firsts : ℕ
+
+abbrev sizes : Numbers → Sizes
+sizes a = record { sums = length a.sums; leasts = length a.leasts; greatests = length a.greatests; firsts = length a.firsts }
+
+sizes_joined : (x y : Numbers) → sizes x ≡ sizes y → sizes (join_numbers x y) ≡ sizes x
+sizes_joined x y e = λ i. record {
+  sums = zip_long ◌+ℤ◌ x.sums y.sums (ap (λ (s : Sizes). s.sums) e) i;
+  leasts = zip_long int_min x.leasts y.leasts (ap (λ (s : Sizes). s.leasts) e) i;
+  greatests = zip_long int_max x.greatests y.greatests (ap (λ (s : Sizes). s.greatests) e) i;
+  firsts = zip_long earlier x.firsts y.firsts (ap (λ (s : Sizes). s.firsts) e) i;
+}
+
+sizes_join : (x y : Numbers) → CanJoin x y → sizes x ≡ sizes y
+sizes_join x y h = λ i. record { sums = h.sums i; leasts = h.leasts i; greatests = h.greatests i; firsts = h.firsts i }
+
+sizes_alike : (j k : List ℤ) (x y : Numbers) → Alike j k x y → sizes x ≡ sizes y
+sizes_alike j k x y h = λ i. record { sums = h.sums i; leasts = h.leasts i; greatests = h.greatests i; firsts = h.firsts i }
+
+to_join : (x y : Numbers) → x.count + y.count ≤ 2 ^ 40 → sizes x ≡ sizes y → CanJoin x y
+to_join x y n e = record {
+  counts = n;
+  sums = ap (λ (s : Sizes). s.sums) e;
+  leasts = ap (λ (s : Sizes). s.leasts) e;
+  greatests = ap (λ (s : Sizes). s.greatests) e;
+  firsts = ap (λ (s : Sizes). s.firsts) e;
+}
+
+to_alike : (j k : List ℤ) (x y : Numbers) → length j ≡ length k → sizes x ≡ sizes y → Alike j k x y
+to_alike j k x y n e = record {
+  keys = n;
+  sums = ap (λ (s : Sizes). s.sums) e;
+  leasts = ap (λ (s : Sizes). s.leasts) e;
+  greatests = ap (λ (s : Sizes). s.greatests) e;
+  firsts = ap (λ (s : Sizes). s.firsts) e;
+}
+
+-- ---- what two parts have under a key, and under two keys
+
+abbrev Joins : Option Numbers → Option Numbers → Type 0
+Joins None p = Unit {0}
+Joins (Some x) None = Unit {0}
+Joins (Some x) (Some y) = CanJoin x y
+
+abbrev AreLike : List ℤ → List ℤ → Option Numbers → Option Numbers → Type 0
+AreLike j k None p = Unit {0}
+AreLike j k (Some x) None = Unit {0}
+AreLike j k (Some x) (Some y) = Alike j k x y
+
+joins_of : (o p : Option Numbers) → ((x y : Numbers) → o ≡ Some x → p ≡ Some y → CanJoin x y) → Joins o p
+joins_of None p f = tt
+joins_of (Some x) None f = tt
+joins_of (Some x) (Some y) f = f x y refl refl
+
+like_of : (j k : List ℤ) (o p : Option Numbers) → ((x y : Numbers) → o ≡ Some x → p ≡ Some y → Alike j k x y) → AreLike j k o p
+like_of j k None p f = tt
+like_of j k (Some x) None f = tt
+like_of j k (Some x) (Some y) f = f x y refl refl
+
+joins_at : (m n : Part) → CanMerge m n → (k : List ℤ) → Joins (get m k) (get n k)
+joins_at m n h k = joins_of (get m k) (get n k) (λ x y e f. h.at k x y e f)
+
+like_at : (m n : Part) → CanMerge m n → (j k : List ℤ) → AreLike j k (get m j) (get n k)
+like_at m n h j k = like_of j k (get m j) (get n k) (λ x y e f. h.alike j k x y e f)
+
+can_by : (m n : Part) → ((k : List ℤ) → Joins (get m k) (get n k)) → ((j k : List ℤ) → AreLike j k (get m j) (get n k)) → CanMerge m n
+can_by m n f g = record { at = λ k x y d e. subst₂ Joins d e (f k); alike = λ j k x y d e. subst₂ (AreLike j k) d e (g j k) }
+
+abbrev with : Option Numbers → Option Numbers → Option Numbers
+with o p = join join_numbers o p
+
+given : (a b : Part) (k : List ℤ) → get (merge a b) k ≡ with (get a k) (get b k)
+given a b k = get-both total join_numbers a b k
+
+-- ---- the first two are merged: so can be the last two
+
+front_sizes : (x y w : Numbers) → CanJoin x y → CanJoin (join_numbers x y) w → sizes y ≡ sizes w
+front_sizes x y w g h = let e = sizes_join x y g in sym e ∙ sym (sizes_joined x y e) ∙ sizes_join (join_numbers x y) w h
+
+joins_behind : (o p q : Option Numbers) → Joins o p → Joins (with o p) q → Joins p q
+joins_behind None p q g h = h
+joins_behind (Some x) None q g h = tt
+joins_behind (Some x) (Some y) None g h = tt
+joins_behind (Some x) (Some y) (Some w) g h = let few : (x.count + y.count) + w.count ≤ 2 ^ 40 = h.counts in to_join y w (omega (arith, few)) (front_sizes x y w g h)
+
+joins_ahead : (o p q : Option Numbers) → Joins o p → Joins (with o p) q → Joins o (with p q)
+joins_ahead None p q g h = tt
+joins_ahead (Some x) None None g h = tt
+joins_ahead (Some x) None (Some w) g h = h
+joins_ahead (Some x) (Some y) None g h = g
+joins_ahead (Some x) (Some y) (Some w) g h =
+    let few : (x.count + y.count) + w.count ≤ 2 ^ 40 = h.counts in
+    to_join x (join_numbers y w) (omega (arith, few)) (sizes_join x y g ∙ sym (sizes_joined y w (front_sizes x y w g h)))
+
+like_behind : (j k : List ℤ) (o p q : Option Numbers) → Joins o p → AreLike j k (with o p) q → AreLike j k p q
+like_behind j k None p q g h = h
+like_behind j k (Some x) None q g h = tt
+like_behind j k (Some x) (Some y) None g h = tt
+like_behind j k (Some x) (Some y) (Some w) g h = let e = sizes_join x y g in to_alike j k y w h.keys (sym e ∙ sym (sizes_joined x y e) ∙ sizes_alike j k (join_numbers x y) w h)
+
+like_first : (j k : List ℤ) (o p q : Option Numbers) → Joins o p → AreLike j k (with o p) q → AreLike j k o q
+like_first j k None p q g h = tt
+like_first j k (Some x) None q g h = h
+like_first j k (Some x) (Some y) None g h = tt
+like_first j k (Some x) (Some y) (Some w) g h = to_alike j k x w h.keys (sym (sizes_joined x y (sizes_join x y g)) ∙ sizes_alike j k (join_numbers x y) w h)
+
+like_ahead : (j k : List ℤ) (o p q : Option Numbers) → AreLike j k o p → AreLike j k o q → AreLike j k o (with p q)
+like_ahead j k None p q g h = tt
+like_ahead j k (Some x) None q g h = h
+like_ahead j k (Some x) (Some y) None g h = g
+like_ahead j k (Some x) (Some y) (Some w) g h =
+    let e = sizes_alike j k x y g in
+    to_alike j k x (join_numbers y w) g.keys (e ∙ sym (sizes_joined y w (sym e ∙ sizes_alike j k x w h)))
+
+pub can_behind : (a b c : Part) → CanMerge a b → CanMerge (merge a b) c → CanMerge b c
+can_behind a b c g h = can_by b c
+    (λ k. joins_behind (get a k) (get b k) (get c k) (joins_at a b g k) (subst (λ o. Joins o (get c k)) (given a b k) (joins_at (merge a b) c h k)))
+    (λ j k. like_behind j k (get a j) (get b j) (get c k) (joins_at a b g j) (subst (λ o. AreLike j k o (get c k)) (given a b j) (like_at (merge a b) c h j k)))
+
+pub can_ahead : (a b c : Part) → CanMerge a b → CanMerge (merge a b) c → CanMerge a (merge b c)
+can_ahead a b c g h = can_by a (merge b c)
+    (λ k. subst (Joins (get a k)) (sym (given b c k))
+    (joins_ahead (get a k) (get b k) (get c k) (joins_at a b g k) (subst (λ o. Joins o (get c k)) (given a b k) (joins_at (merge a b) c h k))))
+    (λ j k. subst (AreLike j k (get a j)) (sym (given b c k))
+    (like_ahead j k (get a j) (get b k) (get c k) (like_at a b g j k)
+    (like_first j k (get a j) (get b j) (get c k) (joins_at a b g j) (subst (λ o. AreLike j k o (get c k)) (given a b j) (like_at (merge a b) c h j k)))))
+
+-- ---- the last two are merged: so can be the first two
+
+joins_first : (o p q : Option Numbers) → Joins p q → Joins o (with p q) → Joins o p
+joins_first None p q g h = tt
+joins_first (Some x) None q g h = tt
+joins_first (Some x) (Some y) None g h = h
+joins_first (Some x) (Some y) (Some w) g h =
+    let few : x.count + (y.count + w.count) ≤ 2 ^ 40 = h.counts in
+    to_join x y (omega (arith, few)) (sizes_join x (join_numbers y w) h ∙ sizes_joined y w (sizes_join y w g))
+
+joins_back : (o p q : Option Numbers) → Joins p q → Joins o (with p q) → Joins (with o p) q
+joins_back None p q g h = g
+joins_back (Some x) None q g h = h
+joins_back (Some x) (Some y) None g h = tt
+joins_back (Some x) (Some y) (Some w) g h =
+    let few : x.count + (y.count + w.count) ≤ 2 ^ 40 = h.counts in
+    let same = sizes_join y w g in
+    let e : sizes x ≡ sizes y = sizes_join x (join_numbers y w) h ∙ sizes_joined y w same in
+    to_join (join_numbers x y) w (omega (arith, few)) (sizes_joined x y e ∙ e ∙ same)
+
+like_before : (j k : List ℤ) (o p q : Option Numbers) → Joins p q → AreLike j k o (with p q) → AreLike j k o p
+like_before j k None p q g h = tt
+like_before j k (Some x) None q g h = tt
+like_before j k (Some x) (Some y) None g h = h
+like_before j k (Some x) (Some y) (Some w) g h = to_alike j k x y h.keys (sizes_alike j k x (join_numbers y w) h ∙ sizes_joined y w (sizes_join y w g))
+
+like_last : (j k : List ℤ) (o p q : Option Numbers) → Joins p q → AreLike j k o (with p q) → AreLike j k o q
+like_last j k None p q g h = tt
+like_last j k (Some x) None q g h = h
+like_last j k (Some x) (Some y) None g h = tt
+like_last j k (Some x) (Some y) (Some w) g h = let e = sizes_join y w g in to_alike j k x w h.keys (sizes_alike j k x (join_numbers y w) h ∙ sizes_joined y w e ∙ e)
+
+like_back : (j k : List ℤ) (o p q : Option Numbers) → Joins o p → AreLike j k o q → AreLike j k p q → AreLike j k (with o p) q
+like_back j k None p q c g h = h
+like_back j k (Some x) None q c g h = g
+like_back j k (Some x) (Some y) None c g h = tt
+like_back j k (Some x) (Some y) (Some w) c g h = to_alike j k (join_numbers x y) w g.keys (sizes_joined x y (sizes_join x y c) ∙ sizes_alike j k x w g)
+
+pub can_first : (a b c : Part) → CanMerge b c → CanMerge a (merge b c) → CanMerge a b
+can_first a b c g h = can_by a b
+    (λ k. joins_first (get a k) (get b k) (get c k) (joins_at b c g k) (subst (Joins (get a k)) (given b c k) (joins_at a (merge b c) h k)))
+    (λ j k. like_before j k (get a j) (get b k) (get c k) (joins_at b c g k) (subst (AreLike j k (get a j)) (given b c k) (like_at a (merge b c) h j k)))
+
+pub can_back : (a b c : Part) → CanMerge b c → CanMerge a (merge b c) → CanMerge (merge a b) c
+can_back a b c g h = can_by (merge a b) c
+    (λ k. subst (λ o. Joins o (get c k)) (sym (given a b k))
+    (joins_back (get a k) (get b k) (get c k) (joins_at b c g k) (subst (Joins (get a k)) (given b c k) (joins_at a (merge b c) h k))))
+    (λ j k. subst (λ o. AreLike j k o (get c k)) (sym (given a b j))
+    (like_back j k (get a j) (get b j) (get c k) (joins_at a b (can_first a b c g h) j)
+    (like_last j k (get a j) (get b k) (get c k) (joins_at b c g k) (subst (AreLike j k (get a j)) (given b c k) (like_at a (merge b c) h j k)))
+    (like_at b c g j k)))
+
+-- ---- no groups
+
+pub can_none : (a : Part) → CanMerge a no_part
+can_none a = record { at = λ k x y e f. absurd (not_both (get-empty key_cmp k) f); alike = λ j k x y e f. absurd (not_both (get-empty key_cmp k) f) }
+
+pub none_can : (a : Part) → CanMerge no_part a
+none_can a = record { at = λ k x y e f. absurd (not_both (get-empty key_cmp k) e); alike = λ j k x y e f. absurd (not_both (get-empty key_cmp j) e) }
