@@ -1,5 +1,5 @@
 -- Sums, one product after another.
-use Rattle.std.proofs.Common.{◌≡◌, ℕ, suc, ◌+◌, ◌^◌, ◌<◌, ◌≤◌, List, [], ◌∷◌, length, drop, get_or, fold, ℤ, pos, Bool, ◌+ℤ◌, ◌*ℤ◌, nat_abs, refl, ◌∙◌, ap, subst, sym, arith, add-one, drop-cons}
+use Rattle.std.proofs.Common.{◌≡◌, ℕ, suc, ◌+◌, ◌^◌, ◌<◌, ◌≤◌, List, [], ◌∷◌, length, drop, get_or, fold, ℤ, pos, Bool, false, ◌+ℤ◌, ◌*ℤ◌, nat_abs, refl, ◌∙◌, ap, subst, sym, arith, add-one, drop-cons}
 use Rattle.std.proofs.Math.IntN.{+ℤ_idl, suc_ℤ-*ℤ, zero-*ℤ}
 use Rattle.std.specs.List.{AllByRecursion}
 use Rattle.saber_plan.specs.declared.rows.Side.{Side}
@@ -60,15 +60,15 @@ module _ (at : Side → ℕ → ℤ) (columns : Side → ℕ) (all : List Produc
 once : (z : ℤ) → pos 1 *ℤ z ≡ z
 once z = suc_ℤ-*ℤ (pos 0) z ∙ ap (λ y. y +ℤ z) (zero-*ℤ z) ∙ +ℤ_idl z
 
--- the value of a product of one factor
-factor_alone : (at : Side → ℕ → ℤ) (minus : Bool) (fs : List Factor) (g : Factor) → length fs ≡ 1 → signed minus (factor_value at (get_or fs 0 g)) ≡ signed minus (fold (λ z f. z *ℤ factor_value at f) (pos 1) fs)
-factor_alone at minus [] g one = absurd (omega arith)
-factor_alone at minus (f ∷ []) g one = ap (signed minus) (sym (once (factor_value at f)))
-factor_alone at minus (f ∷ f' ∷ fs) g one = absurd (omega arith)
+-- the value of a product of one factor that isn't taken away
+factor_alone : (at : Side → ℕ → ℤ) (minus : Bool) (fs : List Factor) (g : Factor) → length fs ≡ 1 → minus ≡ false → factor_value at (get_or fs 0 g) ≡ signed minus (fold (λ z f. z *ℤ factor_value at f) (pos 1) fs)
+factor_alone at minus [] g one plain = absurd (omega arith)
+factor_alone at minus (f ∷ []) g one plain = sym (once (factor_value at f)) ∙ ap (λ b. signed b (pos 1 *ℤ factor_value at f)) (sym plain)
+factor_alone at minus (f ∷ f' ∷ fs) g one plain = absurd (omega arith)
 
 -- and of one such product
-pub value_alone : (at : Side → ℕ → ℤ) (ps : List Product) (d e : Product) (g : Factor) → length ps ≡ 1 → length (get_or ps 0 d).factors ≡ 1 → signed (get_or ps 0 e).minus (factor_value at (get_or (get_or ps 0 d).factors 0 g)) ≡ value_at at ps
+pub value_alone : (at : Side → ℕ → ℤ) (ps : List Product) (d e : Product) (g : Factor) → length ps ≡ 1 → (get_or ps 0 d).minus ≡ false → length (get_or ps 0 e).factors ≡ 1 → factor_value at (get_or (get_or ps 0 e).factors 0 g) ≡ value_at at ps
 unfolding value_at
-value_alone at [] d e g one alone = absurd (omega arith)
-value_alone at (p ∷ []) d e g one alone = factor_alone at p.minus p.factors g alone ∙ sym (+ℤ_idl (product_value at p))
-value_alone at (p ∷ q ∷ ps) d e g one alone = absurd (omega arith)
+value_alone at [] d e g one plain alone = absurd (omega arith)
+value_alone at (p ∷ []) d e g one plain alone = factor_alone at p.minus p.factors g alone plain ∙ sym (+ℤ_idl (product_value at p))
+value_alone at (p ∷ q ∷ ps) d e g one plain alone = absurd (omega arith)

@@ -1,5 +1,5 @@
 -- Units joined by AND and those joined by OR, one after another.
-use Rattle.std.proofs.Common.{◌≡◌, ℕ, suc, ◌+◌, ◌<◌, ◌≤◌, List, [], ◌∷◌, map, length, drop, get_or, Bool, true, false, not, ℤ, ◌&&◌, ◌||◌, Box, rules, ◌∙◌, ap, subst, sym, arith, add-one, drop-cons}
+use Rattle.std.proofs.Common.{◌≡◌, ℕ, suc, ◌+◌, ◌<◌, ◌≤◌, List, [], ◌∷◌, map, length, drop, get_or, Bool, true, false, not, ℤ, ◌&&◌, ◌||◌, Box, rules, refl, ◌∙◌, ap, subst, sym, arith, add-one, drop-cons}
 use Rattle.std.proofs.lemmas.List.{drop_all}
 use Rattle.std.specs.declared.alloc.Global.{Global}
 use Rattle.saber_plan.specs.declared.rows.Side.{Side}
@@ -97,6 +97,16 @@ module _ (at : Side → ℕ → ℤ) (columns : Side → ℕ) where
 
   pub some_false : (whole : Tests) (bs : List Conj) (i : ℕ) → length bs ≤ i → Left_some whole (drop i bs) → false ≡ some_holds at whole
   some_false whole bs i h k = false_nil whole (subst (Left_some whole) (drop_all i bs h) k)
+
+  -- ---- one unit alone
+
+  alone : (b : Bool) → b ≡ ((b && true) || false)
+  alone true = refl
+  alone false = refl
+
+  pub alone_holds : (ts : Tests) (t : Test) (r : Bool) → ts ≡ either (both t no_more) no_other → r ≡ test_holds at t → r ≡ some_holds at ts
+  unfolding test_holds
+  alone_holds ts t r e h = h ∙ alone (test_holds at t) ∙ sym (ap (some_holds at) e)
 
 -- ---- what a unit's tree is
 

@@ -48,7 +48,7 @@ pub fn holds(p: &Pred, row: &RowRef) -> bool
     requires { SomeFit (widths row.now.values []) (tests_of p.now) }
     ensures { result ≡ v.some_holds (v.column_of row.now.values []) (tests_of p.now) }
 {
-    predicates::some_hold(p, row.values(), &[])
+    predicates::predicate_holds(p, row.values(), &[])
 }
 
 /// The same for a pair of a left and a right row, as a join asks for it.
@@ -57,7 +57,7 @@ pub fn holds2(p: &Pred, left: &RowRef, right: &RowRef) -> bool
     ensures { result ≡ v.some_holds (v.column_of left.now.values right.now.values)
         (tests_of p.now) }
 {
-    predicates::some_hold(p, left.values(), right.values())
+    predicates::predicate_holds(p, left.values(), right.values())
 }
 
 #[cfg(test)]

@@ -32,6 +32,15 @@ fn times(so_far: i128, by: i64) -> i128
     so_far * by as i128
 }
 
+// Of two numbers of 64 bits, which takes one step of the machine.
+fn both(first: i64, second: i64) -> i128
+    ensures value { result ≡ first *ℤ second }
+    ensures bound { nat_abs result ≤ nat_abs first * nat_abs second }
+{
+    i128::from(first) * i128::from(second)
+}
+
+// A product of one factor or two, as most are, or of more.
 fn product(factors: &[Factor], left: &[i64], right: &[i64]) -> i128
     requires fits { ProductFits 1 factors.now }
     requires columns { AllByRecursion (HasColumn (widths left.now right.now)) factors.now }
@@ -39,6 +48,15 @@ fn product(factors: &[Factor], left: &[i64], right: &[i64]) -> i128
         (pos 1) factors.now }
     ensures bound { nat_abs result ≤ bound_after 1 factors.now }
 {
+    if factors.len() == 1 {
+        return i128::from(factor(&factors[0], left, right));
+    }
+    if factors.len() == 2 {
+        return both(
+            factor(&factors[0], left, right),
+            factor(&factors[1], left, right),
+        );
+    }
     let mut so_far = 1i128;
     for f in factors {
         so_far = times(so_far, factor(f, left, right));
@@ -73,37 +91,50 @@ fn term(p: &Product, left: &[i64], right: &[i64]) -> i128
 }
 
 // The value of one column or constant alone, as most expressions are.
-#[inline]
-fn single(products: &[Product], left: &[i64], right: &[i64]) -> Option<i128>
+#[inline(always)]
+pub(crate) fn single(products: &[Product], left: &[i64], right: &[i64]) -> Option<i64>
     requires { ExprFits (widths left.now right.now) products.now }
     ensures value { IfSome result (λ z. z ≡ value_at (column_of left.now right.now) products.now) }
     ensures bound { IfSome result (λ z. nat_abs z ≤ sum_bound 0 products.now) }
-    ensures small { IfSome result (λ z. nat_abs z ≤ 2 ^ 126) }
 {
     if products.len() != 1 {
+        return None;
+    }
+    if products[0].minus {
         return None;
     }
     let factors = products[0].factors.as_slice();
     if factors.len() != 1 {
         return None;
     }
-    let number = factor(&factors[0], left, right);
-    Some(with_sign(products[0].minus, i128::from(number)))
+    Some(factor(&factors[0], left, right))
 }
 
-// The value of an expression, from its products.
+// The value of an expression, one product after another.
+#[inline(never)]
+pub(crate) fn sum_all(products: &[Product], left: &[i64], right: &[i64]) -> i128
+    requires { ExprFits (widths left.now right.now) products.now }
+    ensures value { result ≡ value_at (column_of left.now right.now) products.now }
+    ensures bound { nat_abs result ≤ sum_bound 0 products.now }
+    ensures small { nat_abs result ≤ 2 ^ 126 }
+{
+    let mut so_far = 0i128;
+    for p in products {
+        so_far = plus(so_far, term(p, left, right));
+    }
+    so_far
+}
+
+// The value of an expression.
+#[inline(always)]
 pub(crate) fn sum(products: &[Product], left: &[i64], right: &[i64]) -> i128
     requires { ExprFits (widths left.now right.now) products.now }
     ensures value { result ≡ value_at (column_of left.now right.now) products.now }
     ensures bound { nat_abs result ≤ sum_bound 0 products.now }
     ensures small { nat_abs result ≤ 2 ^ 126 }
 {
-    if let Some(number) = single(products, left, right) {
-        return number;
+    match single(products, left, right) {
+        Some(number) => i128::from(number),
+        None => sum_all(products, left, right),
     }
-    let mut so_far = 0i128;
-    for p in products {
-        so_far = plus(so_far, term(p, left, right));
-    }
-    so_far
 }
