@@ -152,6 +152,17 @@ filling_nothing law laws q m r had kept s h = record { rows = []; took = took_no
 pub filling_reads : (n : ℕ) (q : Tree) (m mark : Mark) (old mid : Reading) (had there : Lefts) (start kept : List Row) → Filling n q m mark old mid had there start kept → Reads q mark mid
 filling_reads n q m mark old mid had there start kept f = subst (λ k. Reads q k mid) (sym f.mark) f.took.reads
 
+-- some rows, and then others
+pub filling_on : MovesGoOn → MergesGoOn → (n k : ℕ) (q : Tree) (m mark after : Mark) (old mid new : Reading) (had there has : Lefts) (start kept more : List Row)
+    → Filling n q m mark old mid had there start kept → Filling k q mark after mid new there has kept more → Filling (n + k) q m after old new had has start more
+filling_on law laws n k q m mark after old mid new had there has start kept more f g = record {
+  rows = f.rows ++ g.rows;
+  took = took_on law laws q m old mid new had there has f.rows g.rows f.took (subst (λ x. Took q x mid new there has g.rows) f.mark g.took);
+  mark = g.mark ∙ ap (λ x. mark_after x g.rows) f.mark ∙ sym (mark_append m f.rows g.rows);
+  kept = g.kept ∙ ap (λ xs. xs ++ g.rows) f.kept ∙ append_assoc start f.rows g.rows;
+  count = omega (arith, length-append f.rows g.rows, f.count, g.count);
+}
+
 module _ (law : MovesGoOn) (laws : MergesGoOn) (n : ℕ) (q : Tree) (m mark : Mark) (old mid new : Reading) (had there has : Lefts) (start kept : List Row) (f : Filling n q m mark old mid had there start kept) where
   pub filling_more : (after : Mark) (more : List Row) (x : Row) → NextRow q mark x mid new there has → after ≡ step_mark mark x → more ≡ kept ++ x ∷ [] → Filling (n + 1) q m after old new had has start more
   filling_more after more x next e k = record {

@@ -30,10 +30,10 @@ row_of q side r row k e f = record {
   fits = subst (λ n. RowFits row.side n row) (k.columns ∙ ap (columns_on q.streams) (sym e)) f;
 }
 
-left_more : (m : Mark) (row : Row) → row.side ≡ Left → m.left + 1 ≡ (step_mark m row).left
+pub left_more : (m : Mark) (row : Row) → row.side ≡ Left → m.left + 1 ≡ (step_mark m row).left
 left_more m row e = sym (ap (λ s. by_side s (m.left + 1) m.left) e)
 
-right_same : (m : Mark) (row : Row) → row.side ≡ Left → (step_mark m row).right ≡ m.right
+pub right_same : (m : Mark) (row : Row) → row.side ≡ Left → (step_mark m row).right ≡ m.right
 right_same m row e = ap (λ s. by_side s m.right (m.right + 1)) e
 
 -- where the input did not end, a row that isn't before the last one can follow

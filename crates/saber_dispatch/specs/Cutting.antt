@@ -71,6 +71,10 @@ pub record Behind (q : Tree) (n : ℕ) (xs : List Row) (t : ℕ) (before : Mark)
   pub left : before.left ≤ 2 ^ 40
   pub right : before.right ≤ 2 ^ 40
 
+-- whatever tasks stand before task t, this is the first block that it looks back on
+abbrev pub IsFirstOf : ℕ → Mark → Option Lasts → ℕ → Type 0
+IsFirstOf t before old first = (q : Tree) (n : ℕ) (xs : List Row) → Behind q n xs t before → LooksBack q n xs t old → first ≡ free q n (going_on xs) t
+
 -- these rows may be a block's behind some tasks, and what is kept is that of the tasks
 abbrev pub MayNote : Mark → List Row → Option Lasts → Type 0
 MayNote before rows old = (q : Tree) × (n : ℕ) × (xs : List Row) × (t : ℕ) ×

@@ -81,6 +81,10 @@ pub record IsShort (waiting : List ℕ) (mark : Option EndMark) (c : FedCutter) 
 abbrev pub IsWaiting : Step → Type 0
 IsWaiting step = (step ≡ steps.Dry) ⊎ (step ≡ steps.Ended NoMemory)
 
+-- behind the rows of a block that was begun, where all that waits has too few more
+abbrev pub WaitsIfFew : Cutter → Begun → List ℕ → Option EndMark → Step → Type 0
+WaitsIfFew c b waiting mark step = AreFew c.size (length b.rows) (reading_of c.reader) waiting mark → IsWaiting step
+
 -- a block of a cutter, or an end, as a step
 abbrev pub step_of : Cut → Step
 step_of (cuts.Block b) = steps.Block b

@@ -10,7 +10,7 @@ use Rattle.saber_plan.specs.Given.{IsRowOf}
 use Rattle.saber_dispatch.specs.Sources.{Lefts}
 use Rattle.saber_dispatch.specs.declared.ends.End.{End}
 use Rattle.saber_dispatch.specs.declared.ends.End.TheVariants.{AllRead, Bad, ReadFault, TooWide, NoMemory}
-use Rattle.saber_dispatch.specs.Readings.{Reading, ReadMoves, ReadEnds, Reads, IsOpen}
+use Rattle.saber_dispatch.specs.Readings.{Reading, Suits, ReadMoves, ReadEnds, Reads, IsOpen}
 
 -- these rows and then others
 abbrev pub prepend : List Row → Read → Read
@@ -42,6 +42,11 @@ pub record Filling (n : ℕ) (q : Tree) (m after : Mark) (old new : Reading) (ha
   pub mark : after ≡ mark_after m rows
   pub kept : behind ≡ before ++ rows
   pub count : length rows ≡ n
+
+-- whatever rows the reader gave before, so many more came of what it holds, and the inputs stand
+abbrev pub TakesOn : ℕ → Mark → Mark → Reading → Reading → List Row → List Row → Type 0
+TakesOn n m after old new had has =
+    (q : Tree) (lefts : Lefts) → Suits old lefts → Reads q m old → Filling n q m after old new lefts lefts had has × (IsOpen old → IsOpen new)
 
 -- rows were read until there were so many more, or no more came
 pub record Fills (result : Result (Unit {0}) End) (q : Tree) (size : ℕ) (m after : Mark) (old new : Reading) (had has : Lefts)

@@ -1,5 +1,5 @@
 -- The reader of one or of two inputs, as contracts see it.
-use Rattle.std.specs.Prelude.{◌≡◌, ◌≤◌, ℕ, ◌^◌, List, [], ◌∷◌, ◌++◌, Option, Some, None, true, false, Result, Ok, Err}
+use Rattle.std.specs.Prelude.{◌≡◌, ◌≤◌, ℕ, ◌^◌, List, [], ◌∷◌, Option, Some, None, true, false, Result, Ok, Err}
 use Rattle.saber_plan.specs.declared.rows.Row.{Row}
 use Rattle.saber_plan.specs.declared.rows.Side.{Side}
 use Rattle.saber_plan.specs.declared.rows.Side.TheVariants.{Left, Right}
@@ -132,12 +132,6 @@ Stepped q m (Err end) old new had has = NextNone q m end old new had has
 -- whatever rows it gave before, the answer is a step
 abbrev pub Steps : Result Row End → Reading → Reading → Lefts → Lefts → Type 0
 Steps answer old new had has = (q : Tree) (m : Mark) → Reads q m old → Stepped q m answer old new had has
-
--- Whatever rows it gave before, a row came of what was held, and stands behind those that were there.
-pub record StepsOnce (old new : Reading) (had has : List Row) : Type 0 where
-  pub row : Row
-  pub put : has ≡ had ++ row ∷ []
-  pub steps : (lefts : Lefts) → Suits old lefts → Steps (Ok row) old new lefts lefts
 
 -- a fault of reading comes first only where that side's count rose
 abbrev pub FaultsAreReal : Result Row End → Reading → List ℕ → List ℕ → Type 0

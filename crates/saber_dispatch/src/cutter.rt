@@ -3,15 +3,14 @@ ghost use Rattle.std.specs.Prelude.{◌≡◌, ◌≢◌, ◌≤◌, ◌^◌, If
 ghost use Rattle.saber_plan.specs.declared.rows.Row.{Row};
 ghost use Rattle.saber_plan.specs.declared.sizes.Sizes.{Sizes};
 ghost use Rattle.saber_plan.specs.Trees.{Tree};
-ghost use Rattle.saber_plan.specs.Inputs.{Input, going_on};
-ghost use Rattle.saber_plan.specs.Needs.{free};
+ghost use Rattle.saber_plan.specs.Inputs.{Input};
 ghost use Rattle.saber_plan.specs.declared.rows.Side.{Side};
 ghost use Rattle.saber_dispatch.specs.declared.ends.End.{End};
 ghost use Rattle.saber_fragment.specs.declared.blocks.Block.{Block};
 ghost use Rattle.saber_dispatch.specs.declared.cutter.Cut.{Cut};
 ghost use Rattle.saber_dispatch.specs.Sources.{Lefts, each_input, NoneFell};
 ghost use Rattle.saber_dispatch.specs.Filling.{keeps};
-ghost use Rattle.saber_dispatch.specs.Cutting.{Behind, LooksBack, MayNote, NotesOn, Filled, PutsOn, Cuts, CutTo, CutsOn, ReadFaultsRose, CutsNothing, fresh, too_wide, ended_by, stops, is_due, end_of};
+ghost use Rattle.saber_dispatch.specs.Cutting.{Behind, LooksBack, IsFirstOf, MayNote, NotesOn, Filled, PutsOn, Cuts, CutTo, CutsOn, ReadFaultsRose, CutsNothing, fresh, too_wide, ended_by, stops, is_due, end_of};
 ghost use Rattle.saber_dispatch.specs.Readings.{reading_of};
 ghost use Rattle.saber_dispatch.specs.Closing.{EndStays};
 ghost use Rattle.saber_plan.specs.Trees.{tree_of};
@@ -70,7 +69,7 @@ pub enum Cut {
 // The first block that the next task looks back on.
 fn look_back(lasts: &mut Option<Lasts>, number: u64, before: &Mark) -> u64
     requires { (q : Tree) × (n : ℕ) × (xs : List Row) × Behind q n xs number before.now × LooksBack q n xs number lasts.old }
-    ensures first { (q : Tree) (n : ℕ) (xs : List Row) → Behind q n xs number before.now → LooksBack q n xs number lasts.old → result ≡ free q n (going_on xs) number }
+    ensures first { IsFirstOf number before.now lasts.old result }
     ensures back { (q : Tree) (n : ℕ) (xs : List Row) → Behind q n xs number before.now → LooksBack q n xs number lasts.old → LooksBack q n xs number lasts.new }
     ensures within { result ≤ number }
     ensures few { number ≤ 2 ^ 41 }

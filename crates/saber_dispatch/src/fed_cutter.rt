@@ -63,9 +63,8 @@ impl FedCutter {
     ghost use Rattle.saber_fragment.specs.declared.blocks.Block.{Block};
     ghost use Rattle.saber_dispatch.specs.declared.ends.End.{End};
     ghost use Rattle.saber_dispatch.specs.declared.fed_cutter.Step.{Step};
-    ghost use Rattle.saber_dispatch.specs.Feeding.{Agrees, Begins, BeginsOn, CutsFed, CutsNothingFed, IsShort, IsWaiting, StepsFrom, StepsOn, begun_count, fed_end_of};
-    ghost use Rattle.saber_dispatch.specs.FedReadings.{NothingWaits, IsCutOff, AreFew};
-    ghost use Rattle.saber_dispatch.specs.Readings.{reading_of};
+    ghost use Rattle.saber_dispatch.specs.Feeding.{Agrees, Begins, BeginsOn, CutsFed, CutsNothingFed, IsShort, IsWaiting, StepsFrom, WaitsIfFew, StepsOn, begun_count, fed_end_of};
+    ghost use Rattle.saber_dispatch.specs.FedReadings.{NothingWaits, IsCutOff};
 
     /// A cutter of a checked plan of one stream, which was given nothing. A block has `sizes.task` rows, and no
     /// task may need more than `sizes.ring` blocks, its own counted. With `sizes.flush` the end of the feed
@@ -115,7 +114,7 @@ impl FedCutter {
         requires begins { (q : Tree) × (s : Sizes) × (r : Input) × Begins q s (F.taken feed.old) (F.waiting feed.old) self.old.cutter r begun.before begun.rows }
         ensures cuts { StepsFrom begun result (F.taken feed.old) (F.waiting feed.old) (F.waiting feed.new) (F.mark feed.old) self.old.cutter self.new }
         ensures stands { (F.taken feed.new ≡ F.taken feed.old) × (F.mark feed.new ≡ F.mark feed.old) }
-        ensures short { AreFew self.old.cutter.size (length begun.rows) (reading_of self.old.cutter.reader) (F.waiting feed.old) (F.mark feed.old) → IsWaiting result }
+        ensures short { WaitsIfFew self.old.cutter begun (F.waiting feed.old) (F.mark feed.old) result }
         ensures cause { (side : Side) → result ≡ Step.Ended (End.ReadFault side) → Rose (F.faults feed.old) (F.faults feed.new) }
         ensures sound { (b : Block) → result ≡ Step.Block b → (side : Side) → self.new.cutter.ended ≢ Some (End.ReadFault side) }
         ensures good { ((side : Side) → result ≢ Step.Ended (End.ReadFault side)) → F.faults feed.new ≡ F.faults feed.old }

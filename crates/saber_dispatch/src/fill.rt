@@ -41,10 +41,11 @@ pub(crate) fn fill<S: Source>(
     readers_stand();
     mergers_stand();
     stamps_fit();
-    for _ in 0..size {
-        if reader.take_quick(rows) {
-            *mark = step_mark(mark, &rows.row(rows.len() - 1));
-            continue;
+    let mut done = 0;
+    while done < size {
+        done += reader.take_quick(mark, rows, size - done);
+        if done == size {
+            return Ok(());
         }
         match reader.next(inputs) {
             Ok(row) => {
@@ -56,6 +57,7 @@ pub(crate) fn fill<S: Source>(
             }
             Err(end) => return Err(end),
         }
+        done += 1;
     }
     Ok(())
 }

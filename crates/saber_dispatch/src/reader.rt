@@ -1,19 +1,24 @@
 // The rows of one input, or those of two, merged.
-ghost use Rattle.std.specs.Prelude.{◌≡◌, ◌≢◌, Err, [], true, false};
+ghost use Rattle.std.specs.Prelude.{◌≡◌, ◌≢◌, ◌≤◌, Err, []};
 ghost use Rattle.saber_plan.specs.declared.rows.Side.{Side};
 ghost use Rattle.saber_rows.specs.declared.ends.RowEnd.{RowEnd};
 ghost use Rattle.saber_dispatch.specs.declared.ends.End.{End};
 ghost use Rattle.saber_rows.specs.Reader.{reader_of};
 ghost use Rattle.saber_rows.specs.Merging.{merger_of};
-ghost use Rattle.saber_dispatch.specs.Readings.{Reading, StepsOnce, one, two, reading_of, answer_one, answer_two, Suits, Steps, FaultsAreReal};
+ghost use Rattle.saber_dispatch.specs.Readings.{Reading, Reads, one, two, reading_of, answer_one, answer_two, Suits, Steps, FaultsAreReal};
+ghost use Rattle.saber_dispatch.specs.Filling.{TakesOn};
 ghost use Rattle.saber_dispatch.specs.Sources.{each_input, NoneFell};
+ghost use Rattle.saber_plan.specs.Trees.{Tree};
 
 use crate::ends::{End, end_at};
 use crate::inputs::Inputs;
 use saber_flat::RowBuilder;
 use saber_io::Source;
-use saber_plan::{Row, Side};
-use saber_rows::{Lines, Merge, RowEnd, lines_pass};
+use saber_plan::{Mark, Row, Side};
+use saber_rows::{
+    Lines, Merge, RowEnd, lines_pass, mergers_stand, merges_go_on, moves_go_on, readers_stand,
+};
+use saber_window::{stamps_fit, step_mark};
 
 /// The reader of a query's inputs. Contracts see it as a `Reading`, by `reading_of`.
 #[derive(Drop)]
@@ -73,30 +78,52 @@ fn next_of_two<S: Source>(merge: &mut Merge, inputs: &mut Inputs<S>) -> Result<R
     }
 }
 
-// Appends the next row of one input, if it is held and needs no second look.
+// Appends the next rows of one input, up to so many, as far as they are held and need no second look, and steps the mark
+// over them: all are of one stream, so the last of them tells its time.
 #[inline(always)]
-fn take_of_one(lines: &mut Lines, out: &mut RowBuilder) -> bool
+fn take_of_one(lines: &mut Lines, mark: &mut Mark, out: &mut RowBuilder, most: usize) -> usize
     requires begun { out.old.begun ≡ [] }
-    ensures none { result ≡ false → (lines.new ≡ lines.old) × (out.new ≡ out.old) }
+    requires reads { (q : Tree) × Reads q mark.old (one (reader_of lines.old)) }
+    ensures most { result ≤ most }
     ensures begun { out.new.begun ≡ [] }
-    ensures some { result ≡ true → StepsOnce (one (reader_of lines.old)) (one (reader_of lines.new)) out.old.rows out.new.rows }
+    ensures takes { TakesOn result mark.old mark.new (one (reader_of lines.old)) (one (reader_of lines.new)) out.old.rows out.new.rows }
 {
     lines_pass();
-    lines.take_quick(out)
+    moves_go_on();
+    merges_go_on();
+    readers_stand();
+    mergers_stand();
+    stamps_fit();
+    let taken = lines.take_quick(out, most);
+    if taken == 0 {
+        return 0;
+    }
+    let before = Mark {
+        left: mark.left + (taken as u64 - 1),
+        right: mark.right,
+        last: mark.last,
+        ended: mark.ended,
+    };
+    *mark = step_mark(&before, &out.row(out.len() - 1));
+    taken
 }
 
 impl Reader {
-    /// Appends the next row of one input, if the reader holds it and needs no second look at it. No input is asked.
+    /// Appends the next rows, up to so many, as far as the reader holds them and needs no second look at them, steps the
+    /// mark over them, and answers how many they are. No input is asked.
     #[inline(always)]
-    pub(crate) fn take_quick(&mut self, out: &mut RowBuilder) -> bool
+    pub(crate) fn take_quick(&mut self, mark: &mut Mark, out: &mut RowBuilder, most: usize) -> usize
         requires begun { out.old.begun ≡ [] }
-        ensures none { result ≡ false → (self.new ≡ self.old) × (out.new ≡ out.old) }
+        requires reads { (q : Tree) × Reads q mark.old (reading_of self.old) }
+        ensures most { result ≤ most }
         ensures begun { out.new.begun ≡ [] }
-        ensures some { result ≡ true → StepsOnce (reading_of self.old) (reading_of self.new) out.old.rows out.new.rows }
+        ensures takes { TakesOn result mark.old mark.new (reading_of self.old) (reading_of self.new) out.old.rows out.new.rows }
     {
+        readers_stand();
+        mergers_stand();
         match self {
-            Reader::One(lines) => take_of_one(lines, out),
-            Reader::Two(_) => false,
+            Reader::One(lines) => take_of_one(lines, mark, out, most),
+            Reader::Two(_) => 0,
         }
     }
 

@@ -1,5 +1,5 @@
 -- Fields at the front of some bytes, one after another.
-use Rattle.std.proofs.Common.{◌≡◌, ℕ, ◌+◌, ◌-◌, ◌<◌, ◌≤◌, List, [], ◌∷◌, ◌++◌, length, take, drop, get_or, get_or-drop, length-drop, true, false, ◌==◌, cond, is_some, unwrap_or, Some, None, ℤ, pos, refl, sym, ◌∙◌, ap, subst, arith, add-one, append_assoc}
+use Rattle.std.proofs.Common.{◌≡◌, ℕ, ◌+◌, ◌<◌, ◌≤◌, List, [], ◌∷◌, ◌++◌, length, take, drop, get_or, true, false, ◌==◌, cond, is_some, unwrap_or, Some, None, ℤ, pos, refl, sym, ◌∙◌, ap, subst, arith, add-one, append_assoc}
 use Rattle.std.proofs.Math.Seq.{take-suc, take-add}
 use Rattle.std.proofs.lemmas.List.Folds.{list_all-append}
 use Rattle.std.proofs.lemmas.Bool.Decides.{nat_tests}
@@ -61,11 +61,8 @@ module _ (front f : List ℕ) (next : ℕ) (vs : List ℤ) (v : ℤ) (b : Begun 
             ∙ ap (λ o. wide_field next (unwrap_or o (pos 0) ∷ [])) number ∙ ap (λ t. cond t None (Some next)) range;
       }
 
-pub begun_more : (held : List ℕ) (at end next : ℕ) (vs : List ℤ) (v : ℤ) → Begun (take at held) next vs → at < end → IsNumberAt (drop at held) v (end - at) → in_range next v ≡ true → end < length held → get_or held end 0 ≡ 44 → Begun (take (end + 1) held) (next + 1) (vs ++ v ∷ [])
-begun_more held at end next vs v b some d range inside comma =
-    let n : ℕ = end - at in
-    let here : get_or (drop at held) n 0 ≡ 44 = get_or-drop at held n 0 ∙ ap (λ j. get_or held j 0) (omega arith) ∙ comma in
-    let within : n < length (drop at held) = omega (arith, length-drop at held) in
-    let front : take (end + 1) held ≡ take at held ++ (take n (drop at held) ++ 44 ∷ []) =
-    ap (λ j. take j held) (omega arith) ∙ take-add at (n + 1) held ∙ ap (λ x. take at held ++ x) (rw add-one (take-suc (drop at held) n 0 within ∙ ap (λ x. take n (drop at held) ++ x ∷ []) here)) in
+pub begun_more : (held : List ℕ) (at n next : ℕ) (vs : List ℤ) (v : ℤ) → Begun (take at held) next vs → IsNumberAt (drop at held) v n → in_range next v ≡ true → n < length (drop at held) → get_or (drop at held) n 0 ≡ 44 → Begun (take (at + (n + 1)) held) (next + 1) (vs ++ v ∷ [])
+begun_more held at n next vs v b d range within here =
+    let front : take (at + (n + 1)) held ≡ take at held ++ (take n (drop at held) ++ 44 ∷ []) =
+    take-add at (n + 1) held ∙ ap (λ x. take at held ++ x) (rw add-one (take-suc (drop at held) n 0 within ∙ ap (λ x. take n (drop at held) ++ x ∷ []) here)) in
     subst (λ x. Begun x (next + 1) (vs ++ v ∷ [])) (sym front) (begun_field (take at held) (take n (drop at held)) next vs v b d.plain d.number range)

@@ -81,13 +81,12 @@ row_line columns held vs end feed within clear row behind = elim behind.behind a
         row = subst (λ x. IsRow columns x vs) (sym (ap without_cr front ∙ a_cr (take end held))) row;
       }
 
-pub row_ends : (columns : ℕ) (held : List ℕ) (vs : List ℤ) (v : ℤ) (at end feed : ℕ) → Begun (take at held) columns vs → at < end → end ≤ length held → IsNumberAt (drop at held) v (end - at) → in_range columns v ≡ true → end ≤ 4096 → IsFeedBehind held end feed → IsRowAt columns held (vs ++ v ∷ []) feed
-row_ends columns held vs v at end feed b more within d range most behind =
-    let f : List ℕ = take (end - at) (drop at held) in
-    let front : take end held ≡ take at held ++ f = ap (λ j. take j held) (omega arith) ∙ take-add at (end - at) held in
-    let len : length (take end held) ≡ end = length-take-le end held within in
-    let joined : length (take at held ++ f) ≡ end = ap length (sym front) ∙ len in
-    let some : 1 ≤ length f = omega (arith, d.some, length-take-le (end - at) (drop at held) d.within) in
+pub row_ends : (columns : ℕ) (held : List ℕ) (vs : List ℤ) (v : ℤ) (at n feed : ℕ) → Begun (take at held) columns vs → at + n ≤ length held → IsNumberAt (drop at held) v n → in_range columns v ≡ true → at + n ≤ 4096 → IsFeedBehind held (at + n) feed → IsRowAt columns held (vs ++ v ∷ []) feed
+row_ends columns held vs v at n feed b within d range most behind =
+    let f : List ℕ = take n (drop at held) in
+    let front : take (at + n) held ≡ take at held ++ f = take-add at n held in
+    let joined : length (take at held ++ f) ≡ at + n = ap length (sym front) ∙ length-take-le (at + n) held within in
+    let some : 1 ≤ length f = omega (arith, d.some, length-take-le n (drop at held) d.within) in
     let row = row_field (take at held) f columns vs v b d.plain d.number range some (omega (arith, joined)) in
-    let clear : list_all is_clear (take end held) ≡ true = ap (list_all is_clear) front ∙ list_all-append is_clear (take at held) f ∙ and_true _ _ b.clear (all_clear f d.plain) in
-    row_line columns held (vs ++ v ∷ []) end feed within clear (subst (λ x. IsRow columns x (vs ++ v ∷ [])) (sym front) row) behind
+    let clear : list_all is_clear (take (at + n) held) ≡ true = ap (list_all is_clear) front ∙ list_all-append is_clear (take at held) f ∙ and_true _ _ b.clear (all_clear f d.plain) in
+    row_line columns held (vs ++ v ∷ []) (at + n) feed within clear (subst (λ x. IsRow columns x (vs ++ v ∷ [])) (sym front) row) behind

@@ -1,6 +1,6 @@
 -- Digits and numbers at the front of some bytes.
-use Rattle.std.proofs.Common.{◌≡◌, ◌≢◌, ℕ, zero, suc, ◌+◌, ◌-◌, ◌*◌, ◌%◌, ◌^◌, ◌<◌, ◌≤◌, List, [], ◌∷◌, length, take, drop, get_or, Bool, true, false, ◌&&◌, ◌||◌, ◌==◌, cond, Some, ℤ, pos, neg_ℤ, int_le, ◌-ℤ◌, to_z, of_z, w64, subst, length-drop, get_or-drop, drop-drop, refl, sym, ◌∙◌, ap, arith, add-one, length-take}
-use Rattle.std.proofs.lemmas.List.{length-take-le}
+use Rattle.std.proofs.Common.{◌≡◌, ◌≢◌, ℕ, zero, suc, ◌+◌, ◌-◌, ◌*◌, ◌%◌, ◌^◌, ◌<◌, ◌≤◌, List, [], ◌∷◌, length, take, drop, get_or, Bool, true, false, ◌&&◌, ◌||◌, ◌==◌, cond, Some, ℤ, pos, neg_ℤ, int_le, ◌-ℤ◌, to_z, of_z, w64, subst, refl, sym, ◌∙◌, ap, arith, add-one, length-take}
+use Rattle.std.proofs.lemmas.List.{length-take-le, take-take, get_or-take}
 use Rattle.std.proofs.lemmas.List.Folds.{list_all_more}
 use Rattle.std.proofs.lemmas.Int.{ints, to_z_pos, to_z-of_z}
 use Rattle.std.proofs.lemmas.Int.Digits.{digits_value_more}
@@ -12,7 +12,7 @@ use Rattle.std.specs.Int.{IsInRange}
 use Rattle.std.specs.List.{list_all}
 use Rattle.std.specs.Str.Parse.{digits_value}
 use Rattle.saber_plan.specs.Rows.{in_range, is_digits, if_digits, number_of}
-use Rattle.saber_rows.specs.QuickRows.{AreDigits, is_plain, IsNumberAt}
+use Rattle.saber_rows.specs.QuickRows.{AreDigits, EndDigits, is_plain, IsNumberAt}
 use Rattle.saber_rows.proofs.Digits.{both_true, in_digits, if_digits_true}
 
 pub and_true : (a b : Bool) → a ≡ true → b ≡ true → a && b ≡ true
@@ -46,16 +46,30 @@ one_digit_more bytes size i d h k e =
       small = omega (arith, value, digits_small (take (i + 1) bytes) all (omega (arith, length-take (i + 1) bytes)));
     }
 
--- the same from a start on, as the code writes the number: it does not wrap
-pub digit_behind : (held : List ℕ) (start i size digit : ℕ) → AreDigits (drop start held) size (i - start) → start ≤ i → i < length held → i + 1 ≤ start + 18
-    → get_or held i 0 < 256 → digit ≡ (get_or held i 0 + 208) % 256 → digit ≤ 9 → AreDigits (drop start held) ((size * 10 % 2 ^ 64 + digit) % 2 ^ 64) (i + 1 - start)
-digit_behind held start i size digit d from inside few byte own low =
-    let here : get_or (drop start held) (i - start) 0 ≡ get_or held i 0 = get_or-drop start held (i - start) 0 ∙ ap (λ j. get_or held j 0) (omega arith) in
-    let range : IsInRange 48 57 (get_or held i 0) = (omega (arith, own), omega (arith, own)) in
-    let number : size * 10 + (get_or (drop start held) (i - start) 0 - 48) ≡ (size * 10 % 2 ^ 64 + digit) % 2 ^ 64 = omega (arith, d.small, here, own, range) in
-    let next : i - start + 1 ≡ i + 1 - start = omega arith in
-    let more = one_digit_more (drop start held) size (i - start) d (omega (arith, length-drop start held)) (omega arith) (ap is_ascii_digit here ∙ is_digit _ range) in
-    subst (λ n. AreDigits (drop start held) ((size * 10 % 2 ^ 64 + digit) % 2 ^ 64) n) next (subst (λ n. AreDigits (drop start held) n (i - start + 1)) number more)
+-- the same as the code writes the number: it does not wrap
+pub digit_more : (held : List ℕ) (i size digit : ℕ) → AreDigits held size i → i < length held → i + 1 ≤ 18
+    → get_or held i 0 < 256 → digit ≡ (get_or held i 0 + 18446744073709551568) % 2 ^ 64 → digit ≤ 9 → AreDigits held ((size * 10 % 2 ^ 64 + digit) % 2 ^ 64) (i + 1)
+digit_more held i size digit d inside few byte own low =
+    let range : IsInRange 48 57 (get_or held i 0) = (omega (arith, byte, own, low), omega (arith, byte, own, low)) in
+    let number : size * 10 + (get_or held i 0 - 48) ≡ (size * 10 % 2 ^ 64 + digit) % 2 ^ 64 = omega (arith, d.small, own, range) in
+    subst (λ n. AreDigits held n (i + 1)) number (one_digit_more held size i d inside few (is_digit _ range))
+
+-- digits among the first so many bytes are digits of all
+pub digits_of_front : (k : ℕ) (held : List ℕ) (size n next : ℕ) → EndDigits (take k held) size n next → EndDigits held size n next
+digits_of_front k held size n next d =
+    let small : n < k = omega (arith, d.inside, length-take k held) in
+    let same : take n (take k held) ≡ take n held = take-take n k held (omega arith) in
+    let len : length (take k held) ≤ length held = omega (arith, length-take k held) in
+    record {
+      inside = omega (arith, d.inside, len);
+      digits = record {
+        within = omega (arith, d.inside, len);
+        digits = ap (list_all is_ascii_digit) (sym same) ∙ d.digits.digits;
+        value = d.digits.value ∙ ap (digits_value 10) same;
+        small = d.digits.small;
+      };
+      next_is = d.next_is ∙ get_or-take k held n 0 small;
+    }
 
 -- ---- numbers
 
@@ -143,11 +157,8 @@ plain_field bytes size n k d h =
     let value : pos size ≡ to_z w64 size = sym (to_z_pos w64 size (omega (arith, d.small))) in
     subst (λ z. IsNumberAt bytes z n × (in_range k z ≡ true)) value (number, in_column bytes (pos size) n k number (λ _. grind (arith, ints, nat_tests)))
 
-pub minus_field : (held : List ℕ) (start end size k : ℕ) → start < length held → get_or held start 0 ≡ 45 → start + 1 < end → k ≢ 1 → AreDigits (drop (start + 1) held) size (end - (start + 1))
-    → IsNumberAt (drop start held) (to_z w64 (of_z w64 (pos 0 -ℤ to_z w64 size))) (end - start) × (in_range k (to_z w64 (of_z w64 (pos 0 -ℤ to_z w64 size))) ≡ true)
-minus_field held start end size k inside first some other d =
-    let behind : AreDigits (drop 1 (drop start held)) size (end - (start + 1)) = subst (λ x. AreDigits x size (end - (start + 1))) (sym (drop-drop 1 start held)) d in
-    let first_here : get_or (drop start held) 0 0 ≡ 45 = get_or-drop start held 0 0 ∙ ap (λ j. get_or held j 0) (omega arith) ∙ first in
-    let number = minus_number (drop start held) size (end - (start + 1)) (omega (arith, length-drop start held)) first_here behind (omega arith) in
-    let whole : IsNumberAt (drop start held) (neg_ℤ (pos size)) (end - start) = subst (λ n. IsNumberAt (drop start held) (neg_ℤ (pos size)) n) (omega arith) number in
-    subst (λ z. IsNumberAt (drop start held) z (end - start) × (in_range k z ≡ true)) (sym (minus_value size d.small)) (whole, in_column (drop start held) (neg_ℤ (pos size)) (end - start) k whole (λ one. absurd (other one)))
+pub minus_field : (bytes : List ℕ) (size n k : ℕ) → 0 < length bytes → get_or bytes 0 0 ≡ 45 → n ≢ 0 → k ≢ 1 → AreDigits (drop 1 bytes) size n
+    → IsNumberAt bytes (to_z w64 (of_z w64 (pos 0 -ℤ to_z w64 size))) (n + 1) × (in_range k (to_z w64 (of_z w64 (pos 0 -ℤ to_z w64 size))) ≡ true)
+minus_field bytes size n k inside first some other d =
+    let number = minus_number bytes size n inside first d some in
+    subst (λ z. IsNumberAt bytes z (n + 1) × (in_range k z ≡ true)) (sym (minus_value size d.small)) (number, in_column bytes (neg_ℤ (pos size)) (n + 1) k number (λ one. absurd (other one)))

@@ -1,5 +1,5 @@
 -- What a call of a reader does, by its answer.
-use Rattle.std.specs.Prelude.{◌≡◌, ◌<◌, ◌≤◌, ◌⊎◌, ℕ, ◌+◌, length, List, [], ◌∷◌, ◌++◌, Bool, true, false, Option, Some, None, IfSome, Result, Ok, Err}
+use Rattle.std.specs.Prelude.{◌≡◌, ◌<◌, ◌≤◌, ◌⊎◌, ℕ, zero, suc, ◌+◌, length, List, [], ◌∷◌, ◌++◌, Bool, true, false, Option, Some, None, IfSome, Result, Ok, Err}
 use Rattle.saber_plan.specs.declared.rows.Row.{Row}
 use Rattle.saber_plan.specs.Rows.{SideRules, Line, Read, End, all_read, cut, bad, lines_of, before, stamp, falls, RowFits}
 use Rattle.saber_io.specs.Outside.{given, EndsEmpty}
@@ -88,3 +88,8 @@ pub record TakesOne (old new : Reader) (had has : List Row) : Type 0 where
   pub row : Row
   pub put : has ≡ had ++ row ∷ []
   pub holds : HoldsNext row old new
+
+-- so many rows more, one after another
+abbrev pub TakesRows : ℕ → Reader → Reader → List Row → List Row → Type 0
+TakesRows zero old new had has = (new ≡ old) × (has ≡ had)
+TakesRows (suc n) old new had has = (mid : Reader) × (there : List Row) × TakesRows n old mid had there × TakesOne mid new there has

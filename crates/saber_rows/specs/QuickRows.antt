@@ -1,9 +1,11 @@
 -- What a reader of rows finds at the front of what it holds.
-use Rattle.std.specs.Prelude.{◌≡◌, ◌≤◌, ◌<◌, ℕ, ◌+◌, ◌^◌, ◌==◌, ◌||◌, List, ◌++◌, length, take, Bool, true, Some, None, ℤ, pos, int_le, get_or, ◌⊎◌}
+use Rattle.std.specs.Prelude.{◌≡◌, ◌≤◌, ◌<◌, ℕ, ◌+◌, ◌^◌, ◌==◌, ◌||◌, List, [], ◌∷◌, ◌++◌, length, take, Bool, true, false, Option, Some, None, ℤ, pos, int_le, get_or, ◌⊎◌}
 use Rattle.std.specs.List.{list_all}
 use Rattle.std.specs.Char.{is_ascii_digit}
 use Rattle.std.specs.Str.Parse.{digits_value}
-use Rattle.saber_plan.specs.Rows.{number_of, in_range, fields_of, bad_field, numbers, wide_field, without_cr}
+use Rattle.saber_plan.specs.Rows.{number_of, in_range, fields_of, bad_field, numbers, wide_field, without_cr, late, stamp, raised}
+use Rattle.saber_plan.specs.declared.rows.Row.{Row}
+use Rattle.saber_plan.specs.declared.rows.Side.{Side}
 use Rattle.saber_rows.specs.LineFeeds.{IsLine}
 
 -- the first n bytes are digits, up to 18 of them, and write this number
@@ -12,6 +14,12 @@ pub record AreDigits (bytes : List ℕ) (size n : ℕ) : Type 0 where
   pub digits : list_all is_ascii_digit (take n bytes) ≡ true
   pub value : size ≡ digits_value 10 (take n bytes)
   pub small : size < 10 ^ 18
+
+-- and this byte is behind them
+pub record EndDigits (bytes : List ℕ) (size n next : ℕ) : Type 0 where
+  pub inside : n < length bytes
+  pub digits : AreDigits bytes size n
+  pub next_is : next ≡ get_or bytes n 0
 
 -- a byte of a number
 abbrev pub is_plain : ℕ → Bool
@@ -25,6 +33,13 @@ pub record IsNumberAt (bytes : List ℕ) (value : ℤ) (n : ℕ) : Type 0 where
   pub number : number_of (take n bytes) ≡ Some value
   pub range : in_range 2 value ≡ true
   pub time : int_le (pos 0) value ≡ true → in_range 1 value ≡ true
+
+-- they are a number in the range of this column, and this byte is behind them
+pub record EndsField (bytes : List ℕ) (column : ℕ) (value : ℤ) (n next : ℕ) : Type 0 where
+  pub inside : n < length bytes
+  pub number : IsNumberAt bytes value n
+  pub range : in_range column value ≡ true
+  pub next_is : next ≡ get_or bytes n 0
 
 -- a byte of a number, or a comma
 abbrev pub is_clear : ℕ → Bool
@@ -58,3 +73,12 @@ pub record IsFeedBehind (held : List ℕ) (end n : ℕ) : Type 0 where
   pub inside : n < length held
   pub feed : get_or held n 0 ≡ 10
   pub behind : (n ≡ end) ⊎ ((n ≡ end + 1) × (get_or held end 0 ≡ 13))
+
+-- The first n bytes are a row of no earlier time than the greatest, this is its timestamp, and it stands behind the rows that were there.
+pub record IsPut (side : Side) (columns : ℕ) (held : List ℕ) (high : Option ℕ) (had has : List Row) (n time : ℕ) : Type 0 where
+  pub values : List ℤ
+  pub put : has ≡ had ++ record { side = side; values = values } ∷ []
+  pub row : IsRowAt columns held values n
+  pub in_time : late 0 high values ≡ false
+  pub own : time ≡ stamp values
+  pub highest : time ≡ raised high (stamp values)

@@ -5,10 +5,13 @@ use Rattle.saber_plan.specs.Rows.{Line, Read, lines_of, before, SideRules, Place
 use Rattle.saber_rows.specs.declared.ends.RowEnd.TheVariants.{ReadFault, NoMemory, Bad}
 use Rattle.saber_rows.specs.declared.ends.Stop.{Stop}
 use Rattle.saber_rows.specs.declared.ends.Stop.TheVariants.{AllRead, Failed}
+use Rattle.saber_rows.specs.declared.ends.Behind.{Behind}
+use Rattle.saber_rows.specs.declared.lines.Run.{Run}
 use Rattle.saber_rows.specs.declared.lines.Turn.{Turn}
 use Rattle.saber_rows.specs.declared.lines.Turn.TheVariants as turns
 use Rattle.saber_rows.specs.Reader.{Reader, gone, rest_of, CanFollow, NeedsMore, answer_of}
-use Rattle.saber_rows.specs.Calls.{Moves, IsGiven, EndsBy}
+use Rattle.saber_rows.specs.Calls.{Moves, IsGiven, EndsBy, TakesRows}
+use Rattle.saber_rows.specs.Sound.{Sound}
 
 -- the rows as they are
 abbrev pub same : Read → Read
@@ -106,3 +109,22 @@ IfNoFault (turns.Row row) P = P
 -- what is held decides the next answer with no read
 abbrev pub HasEnough : Reader → Type 0
 HasEnough r = ¬ NeedsMore r
+
+-- the reader behind rows that were taken at the first look
+abbrev pub behind_run : Reader → Run → Reader
+behind_run r run = record {
+  rules = r.rules;
+  place = record { lines = r.place.lines + run.taken; high = run.high; accepted = r.place.accepted };
+  last = run.last;
+  held = drop run.at r.held;
+  ended = r.ended;
+  over = r.over;
+  answer = r.answer;
+}
+
+-- they are the next ones, and what is true of the rows that are held stays so
+pub record Runs (r : Reader) (over : Option Behind) (run : Run) (had has : List Row) : Type 0 where
+  pub within : run.at ≤ length r.held
+  pub counted : r.place.lines + run.taken ≤ r.rules.most
+  pub rows : TakesRows run.taken r (behind_run r run) had has
+  pub sound : Sound r.rules (behind_run r run).place run.last over

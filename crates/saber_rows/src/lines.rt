@@ -8,11 +8,9 @@ ghost use Rattle.saber_rows.specs.Sound.{side_rules, Sound, WasSeen, held_props}
 
 use crate::buffer::Buffer;
 use crate::ends::{Behind, RowEnd, Stop};
-use crate::judge::{
-    Judged, LONGEST, content_of, is_below, is_late, is_ready, judge_line, raise, stamp_of,
-};
+use crate::judge::{Judged, LONGEST, content_of, is_late, is_ready, judge_line, raise, stamp_of};
 use crate::line_feeds::{line_end, line_feed_in};
-use crate::quick_rows::row_in;
+use crate::quick_rows::{put_row, row_in};
 use crate::waiting::Waiting;
 use saber_flat::RowBuilder;
 use saber_io::Source;
@@ -65,6 +63,15 @@ pub(crate) enum Turn {
     Stop(Stop),
 }
 
+// Rows that were taken at the first look: how many, the bytes of their lines, and the greatest timestamp and the last one behind them.
+#[derive(Drop)]
+struct Run {
+    taken: usize,
+    at: usize,
+    high: Option<u64>,
+    last: Option<u64>,
+}
+
 impl Lines {
     ghost use Rattle.std.specs.Prelude.{◌≡◌, ◌≢◌, ◌≤◌, ◌^◌, ◌<◌, ◌+◌, [], ℕ, ℤ, List, Option, if◌then◌else◌, IfOk, IfSome, OnErr, OnSome, Some, None, Ok, Err, option_map, length, true, false};
     ghost use Rattle.saber_io.specs.Outside.{Rose};
@@ -72,8 +79,8 @@ impl Lines {
     ghost use Rattle.saber_rows.specs.Judged.{judged_of, IfCounted};
     ghost use Rattle.saber_rows.specs.LineFeeds.{end_of, HasNoFeed};
     ghost use Rattle.saber_rows.specs.Reader.{reader_of, new_reader, rest_of, rest_over, gone, HasEnd, EndsRefused, NeedsMore};
-    ghost use Rattle.saber_rows.specs.Calls.{TakesOne, Moves, given_by, kept_by, last_after, IsGiven, EndsBy, IsNext, WantsMemory};
-    ghost use Rattle.saber_rows.specs.Turns.{Steps, Fronts, IsLastIf, first_judged, LineGives, TurnGives, PlaceMoves, Stops, work_left, IfAgain, IfFault, IfNoFault, HasEnough, NoneReady, IsReady};
+    ghost use Rattle.saber_rows.specs.Calls.{TakesRows, Moves, given_by, kept_by, last_after, IsGiven, EndsBy, IsNext, WantsMemory};
+    ghost use Rattle.saber_rows.specs.Turns.{Steps, Runs, Fronts, IsLastIf, first_judged, LineGives, TurnGives, PlaceMoves, Stops, work_left, IfAgain, IfFault, IfNoFault, HasEnough, NoneReady, IsReady};
 
     /// A reader with nothing read yet. A stream has 1 to 32 columns, and a file 1 to 2^40 lines,
     /// empty ones counted: this project's limits. The memory of its buffer is taken here; a call
@@ -374,43 +381,68 @@ impl Lines {
         })
     }
 
-    // Whether a row at the front that is one at the first look is the next one.
+    // Whether rows at the front that are rows at the first look are the next ones.
     #[inline(always)]
     fn is_plain(&self) -> bool
         ensures slack { result ≡ true → self.now.slack ≡ 0 }
         ensures goes { result ≡ true → self.now.stop ≡ None }
         ensures over { result ≡ true → self.now.over ≡ None }
-        ensures lines { result ≡ true → self.now.lines + 1 ≤ self.now.max_lines }
     {
-        self.slack == 0 && self.stop.is_none() && self.over.is_none() && self.lines < self.max_lines
+        self.slack == 0 && self.stop.is_none() && self.over.is_none()
     }
 
-    /// Appends the next row, if it is held whole and is one at the first look, and there is no slack. No source
-    /// is asked. Where it is not, nothing changes.
+    // Appends the rows at the front, up to so many, as far as each is one at the first look.
     #[inline(always)]
-    pub fn take_quick(&mut self, out: &mut RowBuilder) -> bool
+    fn run(&self, out: &mut RowBuilder, most: usize) -> Run
         requires begun { out.old.begun ≡ [] }
-        ensures none { result ≡ false → (self.new ≡ self.old) × (out.new ≡ out.old) }
+        requires slack { self.now.slack ≡ 0 }
+        requires goes { self.now.stop ≡ None }
+        requires over { self.now.over ≡ None }
+        ensures most { result.taken ≤ most }
         ensures begun { out.new.begun ≡ [] }
-        ensures some { result ≡ true → TakesOne (reader_of self.old) (reader_of self.new) out.old.rows out.new.rows }
+        ensures runs { Runs (reader_of self.now) self.now.over result out.old.rows out.new.rows }
+    {
+        let side = self.side;
+        let columns = self.columns;
+        let held = self.held.bytes();
+        let most = most.min((self.max_lines - self.lines) as usize);
+        let mut run = Run {
+            taken: 0,
+            at: 0,
+            high: self.high,
+            last: self.last,
+        };
+        while run.taken < most {
+            let rest = &held[run.at..];
+            let Some((n, stamp)) = put_row(side, columns, rest, run.high, out) else {
+                return run;
+            };
+            run.taken += 1;
+            run.at += n + 1;
+            run.high = Some(stamp);
+            run.last = Some(stamp);
+        }
+        run
+    }
+
+    /// Appends the next rows, up to so many, as far as they are held whole and are rows at the first look, and there
+    /// is no slack. Answers how many they are. No source is asked.
+    #[inline(never)]
+    pub fn take_quick(&mut self, out: &mut RowBuilder, most: usize) -> usize
+        requires begun { out.old.begun ≡ [] }
+        ensures most { result ≤ most }
+        ensures begun { out.new.begun ≡ [] }
+        ensures rows { TakesRows result (reader_of self.old) (reader_of self.new) out.old.rows out.new.rows }
     {
         if !self.is_plain() {
-            return false;
+            return 0;
         }
-        let Some(n) = row_in(self.columns, self.held.bytes(), out) else {
-            out.drop_begun();
-            return false;
-        };
-        let stamp = stamp_of(out.begun());
-        if is_below(self.high, stamp) || out.close(self.side).is_err() {
-            out.drop_begun();
-            return false;
-        }
-        self.high = Some(stamp);
-        self.last = Some(stamp);
-        self.held.consume(n + 1);
-        self.lines += 1;
-        true
+        let run = self.run(out, most);
+        self.lines += run.taken as u64;
+        self.high = run.high;
+        self.last = run.last;
+        self.held.consume(run.at);
+        run.taken
     }
 
     // One step: a line, or a read.

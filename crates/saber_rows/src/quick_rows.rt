@@ -1,11 +1,10 @@
 // Rows at the front of what is held, in one pass.
-ghost use Rattle.std.specs.Prelude.{◌≡◌, ◌≤◌, ◌<◌, ◌+◌, ◌-◌, [], true, IfSome, length, take, drop};
-ghost use Rattle.saber_plan.specs.Rows.{in_range};
-ghost use Rattle.saber_rows.specs.QuickRows.{AreDigits, IsNumberAt, Begun, IsFeedBehind, IsRowAt};
+ghost use Rattle.std.specs.Prelude.{◌≡◌, ◌≤◌, ◌<◌, [], None, IfSome, length, take, get_or};
+ghost use Rattle.saber_rows.specs.QuickRows.{EndDigits, EndsField, Begun, IsFeedBehind, IsRowAt, IsPut};
 
-use crate::judge::LONGEST;
+use crate::judge::{LONGEST, is_below, stamp_of};
 use saber_flat::RowBuilder;
-use saber_plan::{NoMemory, Values};
+use saber_plan::{NoMemory, Side, Values};
 
 /// Where the numbers of a row go, one after another.
 pub(crate) trait Numbers {
@@ -51,46 +50,52 @@ impl Numbers for RowBuilder {
 // So many digits have 64 bits.
 const MOST_DIGITS: usize = 18;
 
-// The digits from `start` on, and where they end. Of more than 18 the number is of no use.
+// The digits at the front, how many they are, and the byte behind them.
 #[inline(always)]
-fn digits_from(held: &[u8], start: usize) -> (u64, usize)
-    requires { start ≤ length held.now }
-    ensures from { start ≤ result.1 }
-    ensures within { result.1 ≤ length held.now }
-    ensures digits { result.1 ≤ start + 18 → AreDigits (drop start held.now) result.0 (result.1 - start) }
+fn digits_among(held: &[u8]) -> Option<(u64, usize, u8)>
+    requires { length held.now ≤ 19 }
+    ensures { IfSome result (λ r. EndDigits held.now r.0 r.1 r.2) }
 {
     let mut size = 0u64;
-    for i in start..held.len() {
-        let digit = held[i].wrapping_sub(b'0');
+    for i in 0..held.len() {
+        let digit = u64::from(held[i]).wrapping_sub(48);
         if digit > 9 {
-            return (size, i);
+            return Some((size, i, held[i]));
         }
-        size = size.wrapping_mul(10).wrapping_add(u64::from(digit));
+        size = size.wrapping_mul(10).wrapping_add(digit);
     }
-    (size, held.len())
+    None
 }
 
-// The number of up to 18 digits from `start` on, and where it ends. The first column is a time.
+// Up to 18 digits at the front, how many they are, and the byte behind them. That the bytes which can be so are of a
+// length that is known makes it fast.
 #[inline(always)]
-fn field_from(held: &[u8], start: usize, column: u32) -> Option<(i64, usize)>
-    requires { start ≤ length held.now }
-    ensures { IfSome result (λ r. (start < r.1) × (r.1 ≤ length held.now) × IsNumberAt (drop start held.now) r.0 (r.1 - start) × (in_range column r.0 ≡ true)) }
+fn digits_in(held: &[u8]) -> Option<(u64, usize, u8)>
+    ensures { IfSome result (λ r. EndDigits held.now r.0 r.1 r.2) }
 {
-    let (size, end) = digits_from(held, start);
-    if end > start {
-        if end - start > MOST_DIGITS {
-            return None;
-        }
-        return Some((size as i64, end));
+    if held.len() > MOST_DIGITS {
+        return digits_among(&held[..MOST_DIGITS + 1]);
     }
-    if column == 1 || start == held.len() || held[start] != b'-' {
+    digits_among(held)
+}
+
+// The number at the front of up to 18 digits, how many bytes it is, and the byte behind it. The first column is a time.
+#[inline(always)]
+fn field_in(held: &[u8], column: u32) -> Option<(i64, usize, u8)>
+    ensures { IfSome result (λ r. EndsField held.now column r.0 r.1 r.2) }
+{
+    let (size, n, next) = digits_in(held)?;
+    if n > 0 {
+        return Some((size as i64, n, next));
+    }
+    if column == 1 || next != b'-' {
         return None;
     }
-    let (size, end) = digits_from(held, start + 1);
-    if end == start + 1 || end - (start + 1) > MOST_DIGITS {
+    let (size, n, next) = digits_in(&held[1..])?;
+    if n == 0 {
         return None;
     }
-    Some((-(size as i64), end))
+    Some((-(size as i64), n + 1, next))
 }
 
 // Reads all fields but the last, with their commas, and answers how many bytes they are.
@@ -104,28 +109,27 @@ fn fields_in<N: Numbers>(columns: u32, held: &[u8], out: &mut N) -> Option<usize
 {
     let mut at = 0;
     for column in 1..columns {
-        let (value, end) = field_from(held, at, column)?;
-        if end == held.len() || held[end] != b',' || out.put(value).is_err() {
+        let (value, n, next) = field_in(&held[at..], column)?;
+        if next != b',' || out.put(value).is_err() {
             return None;
         }
-        at = end + 1;
+        at += n + 1;
     }
     Some(at)
 }
 
-// Where the line ends whose content ends here, if it does.
+// Where the line ends whose content ends here before this byte, if it does.
 #[inline(always)]
-fn feed_at(held: &[u8], end: usize) -> Option<usize>
-    requires { end ≤ length held.now }
+fn feed_at(held: &[u8], end: usize, next: u8) -> Option<usize>
+    requires inside { end < length held.now }
+    requires next { next ≡ get_or held.now end 0 }
     ensures { IfSome result (λ n. IsFeedBehind held.now end n) }
 {
-    let feed = if end < held.len() && held[end] == b'\r' {
-        end + 1
-    } else {
-        end
-    };
-    if feed < held.len() && held[feed] == b'\n' {
-        return Some(feed);
+    if next == b'\n' {
+        return Some(end);
+    }
+    if next == b'\r' && end + 1 < held.len() && held[end + 1] == b'\n' {
+        return Some(end + 1);
     }
     None
 }
@@ -140,9 +144,38 @@ pub(crate) fn row_in<N: Numbers>(columns: u32, held: &[u8], out: &mut N) -> Opti
     ensures behind { N.behind out.new ≡ N.behind out.old }
 {
     let at = fields_in(columns, held, out)?;
-    let (value, end) = field_from(held, at, columns)?;
+    let (value, n, next) = field_in(&held[at..], columns)?;
+    let end = at + n;
     if end > LONGEST || out.put(value).is_err() {
         return None;
     }
-    feed_at(held, end)
+    feed_at(held, end, next)
+}
+
+/// Appends the row at the front, if it needs no second look and is not below this timestamp. Answers its length,
+/// and its own timestamp. Where it is not, nothing is appended.
+#[inline(always)]
+pub(crate) fn put_row(
+    side: Side,
+    columns: u32,
+    held: &[u8],
+    high: Option<u64>,
+    out: &mut RowBuilder,
+) -> Option<(usize, u64)>
+    requires begun { out.old.begun ≡ [] }
+    requires some { 1 ≤ columns }
+    ensures begun { out.new.begun ≡ [] }
+    ensures none { result ≡ None → out.new.rows ≡ out.old.rows }
+    ensures some { IfSome result (λ r. IsPut side columns held.now high out.old.rows out.new.rows r.0 r.1) }
+{
+    let Some(n) = row_in(columns, held, out) else {
+        out.drop_begun();
+        return None;
+    };
+    let stamp = stamp_of(out.begun());
+    if is_below(high, stamp) || out.close(side).is_err() {
+        out.drop_begun();
+        return None;
+    }
+    Some((n, stamp))
 }

@@ -3,6 +3,7 @@ ghost use Rattle.std.specs.Prelude.{◌≤◌, ◌^◌};
 ghost use Rattle.saber_io.specs.Outside.{Rose};
 
 use crate::{Lines, RowEnd};
+use saber_flat::RowBuilder;
 use saber_io::{Failed, MemSource, Source};
 use saber_plan::{RowCause, Side};
 use std::alloc::Global;
@@ -314,5 +315,31 @@ fn a_read_fails_where_rows_wait(rt: HostRuntime) -> Result<(), Fail> {
     assert!(rt; seen.is(&BASE_VALUES[..3], Some(RowEnd::ReadFault)));
     assert!(rt; see_all(alloc, &mut lines, &mut source)?.is(&[], Some(RowEnd::ReadFault)));
     assert_eq!(rt; source.reads, 3);
+    Ok(())
+}
+
+// Rows at the first look: none before any is held, then as many as are asked for, and none of 19 digits.
+#[test]
+fn rows_at_the_first_look(rt: HostRuntime) -> Result<(), Fail> {
+    let alloc = rt.alloc();
+    let text = b"0,1,10\n1,-20,300\r\n2,2,999999999999999999\n3,0,1000000000000000000\n4,1,1\n";
+    let cuts = vec![in alloc; 1 << 20; 4]?;
+    let mut source = MemSource::new(text.to_vec(alloc)?, cuts, Vec::new(alloc));
+    let mut lines = Lines::new(alloc, Side::Left, 3, 9, 0)?;
+    let mut rows = RowBuilder::with_capacity(alloc, 1, 1)?;
+    assert_eq!(rt; lines.take_quick(&mut rows, 9), 0);
+    let first = lines.next(&mut source);
+    assert!(rt; first.is_ok());
+    assert_eq!(rt; lines.take_quick(&mut rows, 1), 1);
+    assert_eq!(rt; lines.take_quick(&mut rows, 9), 1);
+    let rows = rows.finish();
+    let mut values = Vec::new(alloc);
+    for i in 0..rows.len() {
+        values.extend_from_slice(rows.row(i).values())?;
+    }
+    let want = [1, -20, 300, 2, 2, 999999999999999999];
+    assert_eq!(rt; values.as_slice(), want.as_slice());
+    let seen = see_all(alloc, &mut lines, &mut source)?;
+    assert!(rt; seen.is(&[3, 0, 1000000000000000000, 4, 1, 1], None));
     Ok(())
 }
