@@ -1,6 +1,7 @@
 pub mod Lasting
 pub mod Opened
 pub mod Completing
+pub mod RowsTogether
 pub mod Running
 pub mod RunsTaken
 pub mod RunKeeping

@@ -127,15 +127,6 @@ run_more add span assoc small of_rows q fits m rows k e first past p x a low her
 
 -- ---- the whole run
 
--- a row of which something else holds than of row k comes later
-pub is_later : (P : Row → Mark → Type 0) (m : Mark) (rows : List Row) (k e : ℕ) (x y : Row) (a z : Mark) → k ≤ e → e < length rows → x ≡ get_or rows k x → y ≡ get_or rows e y → a ≡ mark_after m (take k rows) → z ≡ mark_after m (take e rows) → P x a → (P y z → ⊥) → k < e
-is_later P m rows k e x y a z low here is_x is_y is_a is_z h none =
-    ⊎_elim (λ g. g) (λ g.
-    let same : k ≡ e = omega (arith, low, g) in
-    let row : x ≡ y = is_x ∙ get_or_default rows k x y (omega (arith, low, here)) ∙ ap (λ n. get_or rows n y) same ∙ sym is_y in
-    let mark : a ≡ z = is_a ∙ ap (λ n. mark_after m (take n rows)) same ∙ sym is_z in
-    absurd (none (subst₂ P row mark h))) (cases_lt k e)
-
 pub run_is : (q : Tree) (m : Mark) (rows : List Row) (k e first past : ℕ) (p : Part) → Starts q m rows k first past → k < e → e ≤ length rows → RunTo q m rows k e first past p → IsRun q m rows k e first past p
 run_is q m rows k e first past p starts more within run = record {
   inside = run.inside;

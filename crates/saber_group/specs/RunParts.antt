@@ -1,14 +1,11 @@
 -- Parts of windows over rows, runs of rows, and what a queue of runs has of them.
-use Rattle.std.specs.Prelude.{◌≡◌, ℕ, ◌-◌, ◌≤◌, ◌<◌, List, [], ◌∷◌, ◌++◌, Bool, true, ◌&&◌, if◌then◌else◌, filter, flat_map, take, length, ◌⊎◌}
+use Rattle.std.specs.Prelude.{◌≡◌, ℕ, ◌-◌, ◌≤◌, ◌<◌, List, [], ◌∷◌, ◌++◌, Bool, ◌&&◌, if◌then◌else◌, filter, flat_map, take, length, ◌⊎◌}
 use Rattle.std.specs.List.{AllByRecursion}
 use Rattle.saber_plan.specs.declared.rows.Row.{Row}
 use Rattle.saber_plan.specs.declared.windows.Mark.{Mark}
 use Rattle.saber_plan.specs.Trees.{Tree}
 use Rattle.saber_plan.specs.Values.{passes}
-use Rattle.saber_plan.specs.Needs.{first_window, past_window}
-use Rattle.saber_window.specs.declared.spans.Span.{Span}
-use Rattle.saber_window.specs.Spans.{covers}
-use Rattle.saber_plan.specs.Windows.{Placed, mark_after, placed_after, has, closed_count, begun_count, from}
+use Rattle.saber_plan.specs.Windows.{mark_after, placed_after, has, closed_count, begun_count, from}
 use Rattle.saber_plan.specs.Answers.{frame, passing}
 use Rattle.saber_plan.specs.Parts.{Part, no_part, group_part, merge, part_lines}
 use Rattle.saber_partial.specs.PartLaws.{OfRows}
@@ -42,15 +39,6 @@ pub record IsRun (q : Tree) (m : Mark) (rows : List Row) (x y first past : ℕ) 
   pub closes : first ≤ closed_by q m (take y rows)
   pub begins : begun_by q m (take x rows) ≤ past
   pub ends : past ≤ begun_by q m (take y rows)
-
--- a row lies in the windows from `first` up to `past`, and in no other
-pub record LiesIn (q : Tree) (first past : ℕ) (row : Row) (before : Mark) : Type 0 where
-  pub begins : first ≡ first_window (frame q) (record { row = row; before = before })
-  pub ends : past ≡ past_window (frame q) (record { row = row; before = before })
-
--- each row in the span lies so
-abbrev pub AllLieIn : Tree → ℕ → ℕ → Span → Type 0
-AllLieIn q first past span = (x : Placed) → covers (frame q) span x ≡ true → LiesIn q first past x.row x.before
 
 -- a part with one row more, if that is wanted and passes
 abbrev pub with_row : Tree → Bool → Part → Row → Part

@@ -7,12 +7,11 @@ ghost use Rattle.saber_plan.specs.Windows.{Fits, closed_count, begun_count};
 ghost use Rattle.saber_plan.specs.Answers.{frame};
 ghost use Rattle.saber_plan.specs.Needs.{first_window, past_window};
 ghost use Rattle.saber_laws.specs.Plans.{OneWindow};
-ghost use Rattle.saber_window.specs.Spans.{covers, AllAlike};
 
 use saber_flat::RowRef;
 use saber_laws::{checked_fit, groups_have_one_window};
 use saber_plan::{Mark, Plan};
-use saber_window::{Span, Windows};
+use saber_window::Windows;
 use std::marker::Model;
 
 /// The operator of a checked group query, over its plan. Contracts see it as the plan.
@@ -74,22 +73,6 @@ impl<'a> Group<'a> {
     {
         let _plan = &self.plan;
         self.windows.row_windows(row, before)
-    }
-
-    /// Points near the row that lie in the same windows.
-    pub(crate) fn alike(&self, row: &RowRef, before: &Mark) -> Span
-        ensures { AllAlike (frame (tree_of self.now)) (record { row = row.now; before = before.now }) result }
-    {
-        let _plan = &self.plan;
-        self.windows.alike(row, before)
-    }
-
-    /// The row lies in the span.
-    pub(crate) fn is_alike(&self, span: Span, row: &RowRef, before: &Mark) -> bool
-        ensures { result ≡ covers (frame (tree_of self.now)) span (record { row = row.now; before = before.now }) }
-    {
-        let _plan = &self.plan;
-        self.windows.is_alike(span, row, before)
     }
 
     /// How many windows are closed by the rows that a mark tells of.

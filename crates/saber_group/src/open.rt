@@ -70,6 +70,9 @@ impl Open {
                 }
             }
         }
+        // Runs of no open window go now, so that they are never summed up with later ones.
+        let first_open = self.next;
+        self.runs.drop_to(alloc, first_open)?;
         Ok(())
     }
 }

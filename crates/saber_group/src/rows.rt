@@ -1,16 +1,19 @@
-// The rows of a task, one by one.
-ghost use Rattle.std.specs.Prelude.{◌≡◌, ◌≤◌, ◌^◌, []};
+// The rows of a task, one by one and some at once.
+ghost use Rattle.std.specs.Prelude.{◌≡◌, ◌<◌, ◌≤◌, [], length, take};
 ghost use Rattle.saber_plan.specs.Values as v;
-ghost use Rattle.saber_plan.specs.Windows as w;
+ghost use Rattle.saber_plan.specs.Windows.{mark_after};
+ghost use Rattle.saber_plan.specs.Answers.{frame};
 ghost use Rattle.saber_plan.specs.Trees.{tree_of};
-ghost use Rattle.saber_plan.specs.Given.{IsRowOf};
+ghost use Rattle.saber_plan.specs.Given.{IsRowOf, RowsFit};
+ghost use Rattle.saber_window.specs.Together.{LieTogether};
 
+use crate::batch::Batch;
 use crate::group::Group;
 use saber_eval::{holds, one_stream_fits};
 use saber_flat::RowRef;
 use saber_laws::groups_have_one_window;
 use saber_plan::Mark;
-use saber_window::{stamps_fit, step_mark};
+use saber_window::{mark_behind, stamps_fit};
 
 impl Group<'_> {
     /// Whether a row passes WHERE.
@@ -26,14 +29,30 @@ impl Group<'_> {
         }
     }
 
-    /// The mark after one more row.
-    pub(crate) fn step(&self, before: &Mark, row: &RowRef) -> Mark
-        requires row { IsRowOf (tree_of self.now) row.now }
-        requires left { before.now.left ≤ 2 ^ 40 }
-        requires right { before.now.right ≤ 2 ^ 40 }
-        ensures { result ≡ w.step_mark before.now row.now }
+    /// Where the rows end that lie in the same windows as row `from`, from there on, before which `mark` stands.
+    pub(crate) fn run_end(&self, batch: &Batch, from: usize, mark: &Mark) -> usize
+        requires fits { RowsFit (tree_of self.now) batch.now.before batch.now.rows.now }
+        requires there { from < length batch.now.rows.now }
+        requires mark { mark.now ≡ mark_after batch.now.before (take from batch.now.rows.now) }
+        ensures more { from < result }
+        ensures within { result ≤ length batch.now.rows.now }
+        ensures together { LieTogether (frame (tree_of self.now)) mark.now batch.now.rows.now from result }
     {
+        self.has_window();
         stamps_fit();
-        step_mark(before, row)
+        self.windows.run_end(batch.rows, from, mark)
+    }
+
+    /// The mark behind the rows up to row `end`, of which `mark` has those up to row `from`.
+    pub(crate) fn mark_behind(&self, batch: &Batch, from: usize, end: usize, mark: &Mark) -> Mark
+        requires fits { RowsFit (tree_of self.now) batch.now.before batch.now.rows.now }
+        requires more { from < end }
+        requires within { end ≤ length batch.now.rows.now }
+        requires mark { mark.now ≡ mark_after batch.now.before (take from batch.now.rows.now) }
+        ensures { result ≡ mark_after batch.now.before (take end batch.now.rows.now) }
+    {
+        self.has_window();
+        stamps_fit();
+        mark_behind(mark, batch.rows, from, end)
     }
 }

@@ -7,6 +7,7 @@ ghost use Rattle.saber_group.specs.RunPieces.{IsOf};
 use crate::batch::Batch;
 use crate::group::Group;
 use crate::runs::Run;
+use saber_partial::Gathering;
 use saber_plan::{Mark, NoMemory};
 use saber_window::ending;
 use std::alloc::Global;
@@ -39,10 +40,11 @@ impl Group<'_> {
         ensures { IfOk result (λ p. IsOf (tree_of self.now) batch.now.before batch.now.rows.now batch.now.ended p) }
     {
         let mut runs = Vec::new(alloc);
+        let mut part = Gathering::empty(alloc);
         let mut mark = batch.before;
         let mut from = 0;
         while from < batch.rows.len() {
-            let run = self.run_from(alloc, batch, from, &mark)?;
+            let run = self.run_from(alloc, batch, from, &mark, &mut part)?;
             mark = run.after;
             from = run.end;
             room_for_first(&mut runs, batch.rows.len(), from)?;

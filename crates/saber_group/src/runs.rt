@@ -1,11 +1,11 @@
 // Rows that lie in the same windows.
-ghost use Rattle.std.specs.Prelude.{◌≡◌, ◌^◌, ◌≤◌, ◌<◌, [], ◌∷◌, length, take, true, OnOk, IfOk};
+ghost use Rattle.std.specs.Prelude.{◌≡◌, ◌≤◌, ◌<◌, [], ◌∷◌, length, take, OnOk, IfOk};
 ghost use Rattle.saber_plan.specs.Windows.{mark_after};
 ghost use Rattle.saber_plan.specs.Parts as p;
 ghost use Rattle.saber_plan.specs.Trees.{tree_of};
 ghost use Rattle.saber_plan.specs.Given.{IsRowOf, RowsFit};
 ghost use Rattle.saber_partial.specs.Tallies.{CanMerge};
-ghost use Rattle.saber_group.specs.RunParts.{IsRun, LiesIn, AllLieIn, with_row};
+ghost use Rattle.saber_group.specs.RunParts.{IsRun, with_row};
 
 use crate::batch::Batch;
 use crate::group::Group;
@@ -16,7 +16,7 @@ use saber_laws::{
 };
 use saber_partial::{Gathering, Partial, groups_are_of_rows, small_parts_merge};
 use saber_plan::{Mark, NoMemory};
-use saber_window::{Span, past_have_none};
+use saber_window::past_have_none;
 use std::alloc::Global;
 
 /// Some rows of a task, one after another, that lie in the windows from `first` up to `past` and in no
@@ -32,22 +32,6 @@ pub(crate) struct Run {
 }
 
 impl Group<'_> {
-    // The row lies in the windows from `first` up to `past`, and in no other. Rows in the span all do, and need no
-    // division to tell it.
-    fn lies_in(&self, first: u64, past: u64, span: Span, row: &RowRef, before: &Mark) -> bool
-        requires left { before.now.left ≤ 2 ^ 40 }
-        requires right { before.now.right ≤ 2 ^ 40 }
-        requires span { AllLieIn (tree_of self.now) first past span }
-        ensures yes { result ≡ true → LiesIn (tree_of self.now) first past row.now before.now }
-        ensures no { LiesIn (tree_of self.now) first past row.now before.now → result ≡ true }
-    {
-        if self.is_alike(span, row, before) {
-            return true;
-        }
-        let windows = self.row_windows(row, before);
-        windows.0 == first && windows.1 == past
-    }
-
     // Adds a row to a part, if it is wanted and passes WHERE.
     fn add_row(
         &self,
@@ -67,21 +51,26 @@ impl Group<'_> {
         Ok(())
     }
 
-    /// The rows from row `from` on that lie in the windows of this one, before which `mark` stands.
+    /// The rows from row `from` on that lie in the windows of this one, before which `mark` stands. Where they end is worked out
+    /// first, so that none of them is asked for its windows. They are gathered in `part`, which has no group before and behind,
+    /// and whose memory serves one run after another.
     pub(crate) fn run_from(
         &self,
         alloc: Global,
         batch: &Batch,
         from: usize,
         mark: &Mark,
+        part: &mut Gathering,
     ) -> Result<Run, NoMemory>
         requires fits { RowsFit (tree_of self.now) batch.now.before batch.now.rows.now }
         requires there { from < length batch.now.rows.now }
         requires mark { mark.now ≡ mark_after batch.now.before (take from batch.now.rows.now) }
+        requires none { part.old ≡ p.no_part }
         ensures run { IfOk result (λ r. IsRun (tree_of self.now) batch.now.before batch.now.rows.now from r.end r.first r.past r.part) }
         ensures more { IfOk result (λ r. from < r.end) }
         ensures within { IfOk result (λ r. r.end ≤ length batch.now.rows.now) }
         ensures after { IfOk result (λ r. r.after ≡ mark_after batch.now.before (take r.end batch.now.rows.now)) }
+        ensures none { OnOk result (part.new ≡ p.no_part) }
     {
         self.has_window();
         begun_stay();
@@ -97,30 +86,17 @@ impl Group<'_> {
         let rows = batch.rows;
         let row = rows.row(from);
         let (first, past) = self.row_windows(&row, mark);
-        let span = self.alike(&row, mark);
+        let end = self.run_end(batch, from, mark);
         let has_windows = first < past;
-        let mut part = Gathering::empty(alloc);
-        let mut after = *mark;
-        for end in from..rows.len() {
-            let row = rows.row(end);
-            if !self.lies_in(first, past, span, &row, &after) {
-                return Ok(Run {
-                    first,
-                    past,
-                    part: part.into_part(alloc)?,
-                    end,
-                    after,
-                });
-            }
-            self.add_row(alloc, has_windows, &row, &mut part)?;
-            after = self.step(&after, &row);
+        for i in from..end {
+            self.add_row(alloc, has_windows, &rows.row(i), part)?;
         }
         Ok(Run {
             first,
             past,
-            part: part.into_part(alloc)?,
-            end: rows.len(),
-            after,
+            part: part.take_part(alloc)?,
+            end,
+            after: self.mark_behind(batch, from, end, mark),
         })
     }
 }

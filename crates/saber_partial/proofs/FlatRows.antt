@@ -1,6 +1,6 @@
 -- Rows in one list: a row read, written and put in, and rows appended.
-use Rattle.std.proofs.Common.{◌≡◌, ℕ, zero, suc, ◌+◌, ◌-◌, ◌*◌, ◌≤◌, ◌<◌, List, [], ◌∷◌, ◌++◌, length, map, take, drop, get_or, append_assoc, ℤ, refl, sym, ◌∙◌, ap, ap₂, subst, arith}
-use Rattle.std.proofs.lemmas.List.{take_at, drop_at, length-take-le, length-drop, length-map, length-append, take_all, drop-drop, take-take, take-append-drop, map-append}
+use Rattle.std.proofs.Common.{◌≡◌, ℕ, zero, suc, ◌+◌, ◌-◌, ◌*◌, ◌≤◌, ◌<◌, List, [], ◌∷◌, ◌++◌, length, map, take, drop, get_or, append_assoc, append-nil, ℤ, refl, sym, ◌∙◌, ap, ap₂, subst, arith}
+use Rattle.std.proofs.lemmas.List.{take_at, drop_at, drop_all, length-take-le, length-drop, length-map, length-append, take_all, drop-drop, take-take, take-append-drop, map-append}
 use Rattle.std.proofs.lemmas.List.Edits.{insert-append_right}
 use Rattle.std.proofs.lemmas.Slice.{put_mid-paste}
 use borrow.Rule.Slice.PartMut.{put_mid}
@@ -188,6 +188,14 @@ put_over a w n xs d ys e h low long =
     let one = length-append ys (drop (a + w) xs) in
     let both = length-append (take a xs) (ys ++ drop (a + w) xs) in
     ap (λ l. take n (l ++ drop (length l) xs)) new ∙ take_at (take a xs ++ (ys ++ drop (a + w) xs)) _ n (omega (arith, h, low, long, front, behind, one, both))
+
+-- and to what lies behind others
+pub put_behind : (a w n : ℕ) (old xs d ys : List ℤ) → take a xs ≡ old → d ≡ xs → length xs ≡ n → n ≡ a + w → length ys ≡ w
+    → take n (put_mid a (a + w - a) d ys ++ drop (length (put_mid a (a + w - a) d ys)) xs) ≡ old ++ ys
+put_behind a w n old xs d ys t e h m long =
+    put_over a w n xs d ys e h (omega (arith, m)) long
+    ∙ ap₂ (λ (l : List ℤ) (r : List ℤ). l ++ (ys ++ r)) t (drop_all (a + w) xs (omega (arith, h, m)))
+    ∙ ap (λ l. old ++ l) (append-nil ys)
 
 -- a part of a Vec's list is the row there
 pub part_here : (w a : ℕ) (d xs : List ℤ) → d ≡ xs → take (a + w - a) (drop a d) ≡ take w (drop a xs)

@@ -23,3 +23,4 @@ mod PaneFolding
 mod PaneMerging
 mod PaneRooms
 mod PileFacts
+mod Picked

@@ -7,13 +7,13 @@ use Rattle.saber_plan.specs.declared.expressions.Product.{Product}
 use Rattle.saber_plan.specs.Values.{value}
 use Rattle.saber_plan.specs.Bounds.{sum_bound}
 use Rattle.saber_plan.specs.Checked.{ExprFits}
-use Rattle.saber_plan.specs.Answers.{earlier}
-use Rattle.saber_plan.specs.Parts.{summed, least, greatest, plain, zip_by}
+use Rattle.saber_plan.specs.Parts.{summed, least, greatest, zip_by}
 use Rattle.saber_eval.specs.Widths.{widths}
 use Rattle.saber_partial.specs.Kinds.{joined_list}
 use Rattle.saber_partial.specs.declared.gather.Gather.{Gather}
-use Rattle.saber_partial.specs.declared.gather.Gather.TheVariants.{Sums, Leasts, Greatests, Firsts}
+use Rattle.saber_partial.specs.declared.gather.Gather.TheVariants.{Sums, Leasts, Greatests}
 
+-- the expression of an item of one kind, if it is of that kind
 abbrev pub sum_of : Item → Option (List Product)
 sum_of (Sum e) = Some e
 sum_of _ = None
@@ -30,21 +30,7 @@ abbrev pub plain_of : Item → Option (List Product)
 plain_of (Value e) = Some e
 plain_of _ = None
 
--- the expression that an item wants gathered so
-abbrev pub wanted : Gather → Item → Option (List Product)
-wanted Sums i = sum_of i
-wanted Leasts i = least_of i
-wanted Greatests i = greatest_of i
-wanted Firsts i = plain_of i
-
--- those of some items
-abbrev pub exprs_of : Gather → List Item → List (List Product)
-exprs_of Sums is = summed is
-exprs_of Leasts is = least is
-exprs_of Greatests is = greatest is
-exprs_of Firsts is = plain is
-
--- their values over a row
+-- the values of expressions over a row
 abbrev pub values_by : List ℤ → List (List Product) → List ℤ
 values_by zs es = map (λ e. value e zs []) es
 
@@ -67,7 +53,6 @@ abbrev pub combine : Gather → ℤ → ℤ → ℤ
 combine Sums = ◌+ℤ◌
 combine Leasts = int_min
 combine Greatests = int_max
-combine Firsts = earlier
 
 -- numbers, of which those from k on are joined with others
 abbrev pub combined_from : Gather → List ℤ → ℕ → List ℤ → List ℤ

@@ -7,5 +7,6 @@ pub mod Printing
 pub mod PartLaws
 pub mod Panes
 pub mod Piles
+pub mod Young
 pub mod MergeFacts
 pub mod PaneLaws

@@ -3,31 +3,88 @@ ghost use Rattle.std.specs.Prelude.{◌≡◌, ◌+◌, ◌≤◌, ◌++◌, len
 ghost use Rattle.std.specs.List.{AllByRecursion};
 ghost use Rattle.saber_plan.specs.Parts.{summed, least, greatest, plain};
 ghost use Rattle.saber_partial.specs.declared.gather.Gather.TheVariants.{Sums};
-ghost use Rattle.saber_partial.specs.Gathering.{wanted, exprs_of, values_by, CanCount, IsSmall};
+ghost use Rattle.saber_partial.specs.Gathering.{sum_of, least_of, greatest_of, plain_of, values_by, CanCount, IsSmall};
 ghost use Rattle.saber_partial.specs.Flat.{numbers_asked};
 
-use crate::gather::Gather;
 use crate::layout::Layout;
 use saber_eval::value;
 use saber_flat::RowRef;
 use saber_plan::Item;
 
-// Writes an item's value at k, if the item wants one, and tells where the next one stands.
-#[inline]
-fn write_value(xs: &mut [i128], k: usize, gather: Gather, item: &Item, row: &RowRef) -> usize
-    requires there { k + length (option_to_list (wanted gather item.now)) ≤ length xs.old }
+// How many numbers of each kind have been written.
+#[derive(Clone, Copy)]
+struct Written {
+    sums: usize,
+    leasts: usize,
+    greatests: usize,
+    firsts: usize,
+}
+
+// Writes an item's value over the next number of its kind, if it has one.
+#[inline(always)]
+fn write_item(
+    sums: &mut [i128],
+    leasts: &mut [i128],
+    greatests: &mut [i128],
+    firsts: &mut [i128],
+    at: Written,
+    item: &Item,
+    row: &RowRef,
+) -> Written
+    requires sums { at.sums + length (option_to_list (sum_of item.now)) ≤ length sums.old }
+    requires leasts { at.leasts + length (option_to_list (least_of item.now)) ≤ length leasts.old }
+    requires greatests { at.greatests + length (option_to_list (greatest_of item.now)) ≤ length greatests.old }
+    requires firsts { at.firsts + length (option_to_list (plain_of item.now)) ≤ length firsts.old }
     requires fits { CanCount row.now.values item.now }
-    ensures next { result ≡ k + length (option_to_list (wanted gather item.now)) }
-    ensures long { length xs.new ≡ length xs.old }
-    ensures all { take result xs.new ≡ take k xs.old ++ values_by row.now.values (option_to_list (wanted gather item.now)) }
-    ensures small { AllByRecursion (IsSmall gather) (values_by row.now.values (option_to_list (wanted gather item.now))) }
+    ensures next_sum { result.sums ≡ at.sums + length (option_to_list (sum_of item.now)) }
+    ensures next_least { result.leasts ≡ at.leasts + length (option_to_list (least_of item.now)) }
+    ensures next_greatest { result.greatests ≡ at.greatests + length (option_to_list (greatest_of item.now)) }
+    ensures next_first { result.firsts ≡ at.firsts + length (option_to_list (plain_of item.now)) }
+    ensures sums { take result.sums sums.new ≡ take at.sums sums.old ++ values_by row.now.values (option_to_list (sum_of item.now)) }
+    ensures leasts { take result.leasts leasts.new ≡ take at.leasts leasts.old ++ values_by row.now.values (option_to_list (least_of item.now)) }
+    ensures greatests { take result.greatests greatests.new
+        ≡ take at.greatests greatests.old ++ values_by row.now.values (option_to_list (greatest_of item.now)) }
+    ensures firsts { take result.firsts firsts.new ≡ take at.firsts firsts.old ++ values_by row.now.values (option_to_list (plain_of item.now)) }
+    ensures small { AllByRecursion (IsSmall Sums) (values_by row.now.values (option_to_list (sum_of item.now))) }
 {
-    match gather.wanted(item) {
-        Some(e) => {
-            xs[k] = value(e, row);
-            k + 1
+    match item {
+        Item::Sum(e) => {
+            sums[at.sums] = value(e, row);
+            Written {
+                sums: at.sums + 1,
+                leasts: at.leasts,
+                greatests: at.greatests,
+                firsts: at.firsts,
+            }
         }
-        None => k,
+        Item::Min(e) => {
+            leasts[at.leasts] = value(e, row);
+            Written {
+                sums: at.sums,
+                leasts: at.leasts + 1,
+                greatests: at.greatests,
+                firsts: at.firsts,
+            }
+        }
+        Item::Max(e) => {
+            greatests[at.greatests] = value(e, row);
+            Written {
+                sums: at.sums,
+                leasts: at.leasts,
+                greatests: at.greatests + 1,
+                firsts: at.firsts,
+            }
+        }
+        Item::Value(e) => {
+            firsts[at.firsts] = value(e, row);
+            Written {
+                sums: at.sums,
+                leasts: at.leasts,
+                greatests: at.greatests,
+                firsts: at.firsts + 1,
+            }
+        }
+        Item::Count => at,
     }
 }
 
@@ -51,15 +108,14 @@ fn write_each(
     ensures firsts { firsts.new ≡ values_by row.now.values (plain items.now) }
     ensures small { AllByRecursion (IsSmall Sums) (values_by row.now.values (summed items.now)) }
 {
-    let mut sum = 0;
-    let mut least = 0;
-    let mut greatest = 0;
-    let mut first = 0;
+    let mut at = Written {
+        sums: 0,
+        leasts: 0,
+        greatests: 0,
+        firsts: 0,
+    };
     for item in items {
-        sum = write_value(sums, sum, Gather::Sums, item, row);
-        least = write_value(leasts, least, Gather::Leasts, item, row);
-        greatest = write_value(greatests, greatest, Gather::Greatests, item, row);
-        first = write_value(firsts, first, Gather::Firsts, item, row);
+        at = write_item(sums, leasts, greatests, firsts, at, item, row);
     }
 }
 

@@ -1,5 +1,5 @@
 // Rows gathered into groups, a few groups at a time.
-ghost use Rattle.std.specs.Prelude.{◌≡◌, ◌∷◌, [], OnOk, IfOk};
+ghost use Rattle.std.specs.Prelude.{◌≡◌, ◌∷◌, [], ◌<◌, length, OnOk, IfOk};
 ghost use Rattle.saber_plan.specs.declared.rows.Side.TheVariants.{Left};
 ghost use Rattle.saber_plan.specs.declared.plans.Shape.TheVariants.{Group};
 ghost use Rattle.saber_plan.specs.Trees.{tree_of};
@@ -7,9 +7,11 @@ ghost use Rattle.saber_plan.specs.Rows.{RowFits};
 ghost use Rattle.saber_plan.specs.Checked.{IsChecked, columns_on};
 ghost use Rattle.saber_plan.specs.Parts.{group_part, merge, no_part};
 ghost use Rattle.saber_partial.specs.Tallies.{CanMerge};
+ghost use Rattle.saber_partial.specs.Young.{young_part, IsOrder};
 
 use crate::groups::Partial;
 use crate::piles::Pile;
+use crate::young::Young;
 use saber_flat::RowRef;
 use saber_laws::merge_is_associative;
 use saber_plan::{NoMemory, Plan};
@@ -17,28 +19,44 @@ use std::alloc::Global;
 use std::marker::Model;
 use std::mem;
 
-// A new group makes room among so many others at most.
-const MOST_YOUNG: usize = 128;
-
-/// The part of rows that come one after another. A row whose key is new makes room among the latest groups alone, however many
-/// there are in all. Contracts see it as the part.
+/// The part of rows that come one after another. A row is taken into one of the latest groups, however many there are in all,
+/// and no group is moved for one whose key is new. Contracts see it as the part.
 #[derive(Drop)]
 pub struct Gathering {
     pile: Pile,
-    young: Partial,
+    young: Young,
 }
 
 impl Model for Gathering {
     ghost use Rattle.saber_plan.specs.Parts.{Part, merge};
     ghost use Rattle.saber_partial.specs.Tallies.{coded_part, CanMerge};
+    ghost use Rattle.saber_partial.specs.Young.{young_part, IsOrder};
 
     ghost Value = { Part };
 
     ghost coded = { coded_part };
 
-    ghost view = { λ g. merge g.pile g.young };
+    ghost view = { λ g. merge g.pile (young_part g.young.order g.young.groups.entries) };
 
-    ghost invariant = { λ g. CanMerge g.pile g.young };
+    ghost invariant = { λ g. CanMerge g.pile (young_part g.young.order g.young.groups.entries) × IsOrder g.young.order g.young.groups.entries };
+}
+
+// Where the latest groups are as many as there may be, they go to the others.
+#[inline]
+fn make_room(alloc: Global, pile: &mut Pile, young: &mut Young) -> Result<(), NoMemory>
+    requires can { CanMerge pile.old (young_part young.old.order young.old.groups.entries) }
+    requires order { IsOrder young.old.order young.old.groups.entries }
+    ensures can { CanMerge pile.new (young_part young.new.order young.new.groups.entries) }
+    ensures order { IsOrder young.new.order young.new.groups.entries }
+    ensures few { OnOk result (length young.new.groups.entries < 128) }
+    ensures same { OnOk result (merge pile.new (young_part young.new.order young.new.groups.entries)
+        ≡ merge pile.old (young_part young.old.order young.old.groups.entries)) }
+{
+    if !young.is_full() {
+        return Ok(());
+    }
+    let full = young.take_part(alloc)?;
+    pile.take_in(full)
 }
 
 impl Gathering {
@@ -48,7 +66,7 @@ impl Gathering {
     {
         Gathering {
             pile: Pile::empty(alloc),
-            young: Partial::empty(alloc),
+            young: Young::empty(alloc),
         }
     }
 
@@ -63,31 +81,22 @@ impl Gathering {
         ensures { OnOk result (self.new ≡ merge self.old (group_part (tree_of plan.now) (row.now.values ∷ []))) }
     {
         merge_is_associative();
-        self.make_room(alloc)?;
-        self.young.add_row(alloc, plan, row)
+        make_room(alloc, &mut self.pile, &mut self.young)?;
+        self.young.add_row(plan, row)
     }
 
-    // Few groups are young.
-    #[inline]
-    fn make_room(&mut self, alloc: Global) -> Result<(), NoMemory>
-        ensures { OnOk result (self.new ≡ self.old) }
+    /// All in one part, after which there is no group. The memory for the latest groups stays, for others. After want of
+    /// memory it is only safe.
+    pub fn take_part(&mut self, alloc: Global) -> Result<Partial, NoMemory>
+        ensures part { IfOk result (λ p. p ≡ self.old) }
+        ensures none { OnOk result (self.new ≡ no_part) }
     {
-        if self.young.len() < MOST_YOUNG {
-            return Ok(());
+        let part = self.young.take_part(alloc)?;
+        if self.pile.is_empty() {
+            return Ok(part);
         }
-        let full = mem::replace(&mut self.young, Partial::empty(alloc));
-        self.pile.take_in(full)
-    }
-
-    /// All in one part.
-    pub fn into_part(self, alloc: Global) -> Result<Partial, NoMemory>
-        ensures { IfOk result (λ p. p ≡ self) }
-    {
-        let mut pile = self.pile;
-        if pile.is_empty() {
-            return Ok(self.young);
-        }
-        pile.take_in(self.young)?;
-        pile.into_part(alloc)
+        self.pile.take_in(part)?;
+        let all = mem::replace(&mut self.pile, Pile::empty(alloc));
+        all.into_part(alloc)
     }
 }

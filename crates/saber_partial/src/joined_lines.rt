@@ -2,11 +2,11 @@
 ghost use Rattle.std.specs.Prelude.{◌≡◌, ◌∷◌, ◌++◌, OnOk, OnErr, map, pos};
 ghost use Rattle.saber_plan.specs.Trees.{tree_of};
 ghost use Rattle.saber_plan.specs.Answers.{line};
-ghost use Rattle.saber_plan.specs.Parts.{answers_of, join_numbers, merge, part_lines};
+ghost use Rattle.saber_plan.specs.Parts.{merge, part_lines};
 ghost use Rattle.saber_plan.specs.Texts.{Behind};
 ghost use Rattle.saber_cells.specs.Cells.{cells};
 ghost use Rattle.saber_partial.specs.Flat.{entry_in, IsLayout, IsRow};
-ghost use Rattle.saber_partial.specs.Printing.{lines_for};
+ghost use Rattle.saber_partial.specs.Printing.{answers_of_both, lines_for};
 ghost use Rattle.saber_partial.specs.Sorted.{weave, CanJoinAll};
 ghost use Rattle.saber_partial.specs.Tallies.{CanJoin, CanMerge};
 
@@ -31,7 +31,7 @@ fn write_both_cells(
     requires row { IsRow layout.now row.now }
     requires later { IsRow layout.now later.now }
     requires can { CanJoin (entry_in layout.now row.now).1 (entry_in layout.now later.now).1 }
-    ensures ok { OnOk result (out.new.items ≡ out.old.items ++ cells (answers_of items.now (join_numbers (entry_in layout.now row.now).1 (entry_in layout.now later.now).1))) }
+    ensures ok { OnOk result (out.new.items ≡ out.old.items ++ cells (answers_of_both layout.now items.now row.now later.now)) }
     ensures behind { Behind out.old.items out.new.items }
 {
     let mut unprinted = Unprinted::of_row(layout, row);
@@ -56,7 +56,7 @@ fn write_both(
     requires row { IsRow layout.now row.now }
     requires later { IsRow layout.now later.now }
     requires can { CanJoin (entry_in layout.now row.now).1 (entry_in layout.now later.now).1 }
-    ensures ok { OnOk result (out.new.items ≡ out.old.items ++ line (pos window ∷ answers_of items.now (join_numbers (entry_in layout.now row.now).1 (entry_in layout.now later.now).1))) }
+    ensures ok { OnOk result (out.new.items ≡ out.old.items ++ line (pos window ∷ answers_of_both layout.now items.now row.now later.now)) }
     ensures behind { Behind out.old.items out.new.items }
 {
     write_count(out, window)?;

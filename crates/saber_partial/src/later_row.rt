@@ -1,10 +1,10 @@
 // Numbers of rows with those of one row more taken in, in place.
-ghost use Rattle.std.specs.Prelude.{◌≡◌, ◌+◌, ◌≤◌, List, ◌++◌, ◌+ℤ◌, length, take, drop, option_to_list, ℤ};
+ghost use Rattle.std.specs.Prelude.{◌≡◌, ◌+◌, ◌≤◌, ◌<◌, List, ◌∷◌, ◌++◌, ◌+ℤ◌, length, take, drop, option_to_list, ℤ};
 ghost use Rattle.std.specs.Int.{int_min, int_max};
 ghost use Rattle.std.specs.List.{AllByRecursion};
 ghost use Rattle.saber_plan.specs.Parts.{zip_by, summed, least, greatest};
-ghost use Rattle.saber_partial.specs.declared.gather.Gather.TheVariants.{Sums};
-ghost use Rattle.saber_partial.specs.Gathering.{wanted, exprs_of, values_by, combine, combined_from, CanCount, IsSmall, HasRoom, with_values};
+ghost use Rattle.saber_partial.specs.declared.gather.Gather.TheVariants.{Sums, Leasts, Greatests};
+ghost use Rattle.saber_partial.specs.Gathering.{sum_of, least_of, greatest_of, values_by, combined_from, CanCount, IsSmall, HasRoom, with_values};
 
 use crate::gather::Gather;
 use crate::layout::Layout;
@@ -12,29 +12,85 @@ use saber_eval::value;
 use saber_flat::RowRef;
 use saber_plan::Item;
 
-// Takes an item's value into the number at k, if the item wants one, and tells where the next one
-// stands.
+// How many numbers of each kind have taken in their values.
+#[derive(Clone, Copy)]
+struct Taken {
+    sums: usize,
+    leasts: usize,
+    greatests: usize,
+}
+
+// Takes a value into the number at k.
 #[inline]
-fn add_value(xs: &mut [i128], k: usize, gather: Gather, item: &Item, row: &RowRef) -> usize
-    requires there { k + length (option_to_list (wanted gather item.now)) ≤ length xs.old }
-    requires fits { CanCount row.now.values item.now }
+fn add_value(xs: &mut [i128], k: usize, gather: Gather, more: i128)
+    requires there { k < length xs.old }
     requires room { AllByRecursion (HasRoom gather) (drop k xs.old) }
-    ensures next { result ≡ k + length (option_to_list (wanted gather item.now)) }
-    ensures all { (ys : List ℤ) → combined_from gather xs.new result ys
-        ≡ combined_from gather xs.old k (values_by row.now.values (option_to_list (wanted gather item.now)) ++ ys) }
-    ensures room { AllByRecursion (HasRoom gather) (drop result xs.new) }
-    ensures small { AllByRecursion (IsSmall gather) (values_by row.now.values (option_to_list (wanted gather item.now))) }
+    requires small { IsSmall gather more }
+    ensures all { (ys : List ℤ) → combined_from gather xs.new (k + 1) ys ≡ combined_from gather xs.old k (more ∷ ys) }
+    ensures room { AllByRecursion (HasRoom gather) (drop (k + 1) xs.new) }
 {
-    match gather.wanted(item) {
-        Some(e) => {
-            xs[k] = gather.combined(xs[k], value(e, row));
-            k + 1
+    xs[k] = gather.combined(xs[k], more);
+}
+
+// Takes an item's value into the next number of its kind, if it has one.
+#[inline(always)]
+fn add_item(
+    sums: &mut [i128],
+    leasts: &mut [i128],
+    greatests: &mut [i128],
+    at: Taken,
+    item: &Item,
+    row: &RowRef,
+) -> Taken
+    requires sums { at.sums + length (option_to_list (sum_of item.now)) ≤ length sums.old }
+    requires leasts { at.leasts + length (option_to_list (least_of item.now)) ≤ length leasts.old }
+    requires greatests { at.greatests + length (option_to_list (greatest_of item.now)) ≤ length greatests.old }
+    requires fits { CanCount row.now.values item.now }
+    requires room { AllByRecursion (HasRoom Sums) (drop at.sums sums.old) }
+    ensures next_sum { result.sums ≡ at.sums + length (option_to_list (sum_of item.now)) }
+    ensures next_least { result.leasts ≡ at.leasts + length (option_to_list (least_of item.now)) }
+    ensures next_greatest { result.greatests ≡ at.greatests + length (option_to_list (greatest_of item.now)) }
+    ensures sums { (ys : List ℤ) → combined_from Sums sums.new result.sums ys
+        ≡ combined_from Sums sums.old at.sums (values_by row.now.values (option_to_list (sum_of item.now)) ++ ys) }
+    ensures leasts { (ys : List ℤ) → combined_from Leasts leasts.new result.leasts ys
+        ≡ combined_from Leasts leasts.old at.leasts (values_by row.now.values (option_to_list (least_of item.now)) ++ ys) }
+    ensures greatests { (ys : List ℤ) → combined_from Greatests greatests.new result.greatests ys
+        ≡ combined_from Greatests greatests.old at.greatests (values_by row.now.values (option_to_list (greatest_of item.now)) ++ ys) }
+    ensures room { AllByRecursion (HasRoom Sums) (drop result.sums sums.new) }
+    ensures small { AllByRecursion (IsSmall Sums) (values_by row.now.values (option_to_list (sum_of item.now))) }
+{
+    match item {
+        Item::Sum(e) => {
+            add_value(sums, at.sums, Gather::Sums, value(e, row));
+            Taken {
+                sums: at.sums + 1,
+                leasts: at.leasts,
+                greatests: at.greatests,
+            }
         }
-        None => k,
+        Item::Min(e) => {
+            add_value(leasts, at.leasts, Gather::Leasts, value(e, row));
+            Taken {
+                sums: at.sums,
+                leasts: at.leasts + 1,
+                greatests: at.greatests,
+            }
+        }
+        Item::Max(e) => {
+            add_value(greatests, at.greatests, Gather::Greatests, value(e, row));
+            Taken {
+                sums: at.sums,
+                leasts: at.leasts,
+                greatests: at.greatests + 1,
+            }
+        }
+        Item::Count => at,
+        Item::Value(_) => at,
     }
 }
 
 // Takes in the values of the items in one walk over them.
+#[inline]
 fn add_each(
     sums: &mut [i128],
     leasts: &mut [i128],
@@ -52,13 +108,13 @@ fn add_each(
     ensures greatests { greatests.new ≡ zip_by int_max greatests.old (values_by row.now.values (greatest items.now)) }
     ensures small { AllByRecursion (IsSmall Sums) (values_by row.now.values (summed items.now)) }
 {
-    let mut sum = 0;
-    let mut least = 0;
-    let mut greatest = 0;
+    let mut at = Taken {
+        sums: 0,
+        leasts: 0,
+        greatests: 0,
+    };
     for item in items {
-        sum = add_value(sums, sum, Gather::Sums, item, row);
-        least = add_value(leasts, least, Gather::Leasts, item, row);
-        greatest = add_value(greatests, greatest, Gather::Greatests, item, row);
+        at = add_item(sums, leasts, greatests, at, item, row);
     }
 }
 

@@ -24,6 +24,7 @@ mod steps;
 mod table;
 mod tally;
 mod unprinted;
+mod young;
 
 pub use gathering::Gathering;
 pub use groups::Partial;

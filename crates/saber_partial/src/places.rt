@@ -1,8 +1,11 @@
 // Where keys stand among groups whose keys rise.
-ghost use Rattle.std.specs.Prelude.{◌≡◌, true, IfOk, IfErr};
+ghost use Rattle.std.specs.Prelude.{◌≡◌, ◌<◌, true, length, IfOk, IfErr};
+ghost use Rattle.std.specs.List.{AllByRecursion};
 ghost use Rattle.std.specs.Map.{keys_of};
+ghost use Rattle.saber_plan.specs.Answers as a;
 ghost use Rattle.saber_plan.specs.Answers.{key_cmp};
 ghost use Rattle.saber_partial.specs.Sorted.{IsAt, IsGap, Rises};
+ghost use Rattle.saber_partial.specs.Young.{by_key, IsOrder};
 
 use crate::table::Table;
 use std::cmp::Ordering;
@@ -57,6 +60,42 @@ pub(crate) fn have_same_keys(groups: &Table, others: &Table) -> bool
     }
     for i in 0..groups.len() {
         if groups.key(i) != others.key(i) {
+            return false;
+        }
+    }
+    true
+}
+
+/// The same among groups whose places by key are told.
+pub(crate) fn place_by(groups: &Table, order: &[u8], key: &[i128]) -> Result<usize, usize>
+    requires { IsOrder order.now groups.now.entries }
+    ensures there { IfOk result (IsAt (by_key order.now groups.now.entries) key.now) }
+    ensures missing { IfErr result (IsGap (by_key order.now groups.now.entries) key.now) }
+{
+    let mut low = 0;
+    let mut high = groups.len();
+    while low < high {
+        let middle = low + (high - low) / 2;
+        match key_order(groups.key(usize::from(order[middle])), key) {
+            Ordering::Less => low = middle + 1,
+            Ordering::Equal => return Ok(middle),
+            Ordering::Greater => high = middle,
+        }
+    }
+    Err(low)
+}
+
+/// Whether a key has the numbers of a row in some columns.
+#[inline]
+pub(crate) fn is_key_of(key: &[i128], columns: &[u32], numbers: &[i64]) -> bool
+    requires { AllByRecursion (λ k. k < length numbers.now) columns.now }
+    ensures { result ≡ true → key.now ≡ a.key columns.now numbers.now }
+{
+    if key.len() != columns.len() {
+        return false;
+    }
+    for i in 0..columns.len() {
+        if key[i] != i128::from(numbers[columns[i] as usize]) {
             return false;
         }
     }

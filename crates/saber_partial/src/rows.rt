@@ -18,7 +18,7 @@ use std::alloc::Global;
 
 // The key list of a row, of at most eight columns.
 #[inline]
-fn push_key(list: &mut ArrayVec<i128, 8>, columns: &[u32], numbers: &[i64])
+pub(crate) fn push_key(list: &mut ArrayVec<i128, 8>, columns: &[u32], numbers: &[i64])
     requires few { length list.old.items + length columns.now ≤ 8 }
     requires there { AllByRecursion (λ k. k < length numbers.now) columns.now }
     ensures { list.new.items ≡ list.old.items ++ key columns.now numbers.now }

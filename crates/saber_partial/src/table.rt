@@ -6,6 +6,7 @@ ghost use Rattle.saber_plan.specs.Parts.{Numbers, numbers, join_numbers};
 ghost use Rattle.saber_partial.specs.Gathering.{CanCount};
 ghost use Rattle.saber_partial.specs.Tallies.{CanJoin};
 ghost use Rattle.saber_partial.specs.Flat.{entry_in, HaveLayout, IsLayout, IsRow, Suits};
+ghost use Rattle.saber_partial.specs.Young.{by_key};
 
 use crate::layout::Layout;
 use crate::tally::{add_row, join_row, write_first};
@@ -161,8 +162,8 @@ impl Table {
         join_row(&self.layout, &mut self.numbers[start..end], other);
     }
 
-    /// Counts one row more in a group.
-    #[inline]
+    /// Counts one row more in a group. Each row asks it.
+    #[inline(always)]
     pub(crate) fn add_row(&mut self, i: usize, items: &[Item], row: &RowRef)
         requires there { i < length self.old.entries }
         requires fit { AllByRecursion (CanCount row.now.values) items.now }
@@ -240,5 +241,67 @@ impl Table {
         write_first(&self.layout, &mut self.numbers[start..end], key, items, row);
         self.len += 1;
         Ok(())
+    }
+
+    /// Appends the group of a first row.
+    pub(crate) fn push_first(
+        &mut self,
+        key: &[i128],
+        items: &[Item],
+        row: &RowRef,
+    ) -> Result<(), NoMemory>
+        requires suits { Suits self.old.layout (length key.now) items.now }
+        requires fit { AllByRecursion (CanCount row.now.values) items.now }
+        ensures layout { self.new.layout ≡ self.old.layout }
+        ensures ok { OnOk result (self.new.entries ≡ self.old.entries ++ (key.now, numbers items.now (row.now.values ∷ [])) ∷ []) }
+        ensures err { OnErr result (self.new.entries ≡ self.old.entries) }
+    {
+        let start = self.numbers.len();
+        let end = start + self.layout.width;
+        self.numbers.resize(end, 0)?;
+        write_first(&self.layout, &mut self.numbers[start..end], key, items, row);
+        self.len += 1;
+        Ok(())
+    }
+
+    /// No groups any more, and a layout for others. The memory stays.
+    pub(crate) fn clear(&mut self, layout: Layout)
+        requires { IsLayout layout }
+        ensures layout { self.new.layout ≡ layout }
+        ensures none { self.new.entries ≡ [] }
+    {
+        self.numbers.clear();
+        self.len = 0;
+        self.layout = layout;
+    }
+
+    /// Where there is no group yet, the layout becomes that of groups of keys of so many columns.
+    pub(crate) fn suit(&mut self, keys: usize, items: &[Item])
+        requires keys { keys ≤ 8 }
+        requires items { length items.now ≤ 32 }
+        requires others { 0 < length self.old.entries → Suits self.old.layout keys items.now }
+        ensures suits { Suits self.new.layout keys items.now }
+        ensures same { self.new.entries ≡ self.old.entries }
+    {
+        if self.len() == 0 {
+            self.clear(Layout::of_items(keys, items));
+        }
+    }
+
+    /// The groups in another order, in memory of their own.
+    pub(crate) fn in_order(&self, alloc: Global, order: &[u8]) -> Result<Table, NoMemory>
+        requires long { length self.now.entries ≤ length order.now }
+        requires within { AllByRecursion (λ p. p < length self.now.entries) (take (length self.now.entries) order.now) }
+        ensures { IfOk result (λ t. t.entries ≡ by_key order.now self.now.entries) }
+    {
+        let mut groups = Table {
+            layout: self.layout,
+            len: 0,
+            numbers: Vec::with_capacity(alloc, self.numbers.len())?,
+        };
+        for i in 0..self.len() {
+            groups.push(self.row(usize::from(order[i])))?;
+        }
+        Ok(groups)
     }
 }

@@ -439,8 +439,10 @@ fn lines_of_keys(alloc: Global, have_two: bool) -> Result<Vec<u8>, NoMemory> {
 fn many_groups_gathered(rt: HostRuntime) -> Result<(), Fail> {
     let alloc = rt.alloc();
     let plan = sums(alloc)?;
-    let once = gathered(alloc, &plan, 300)?.into_part(alloc)?;
-    let twice = gathered(alloc, &plan, 600)?.into_part(alloc)?;
+    let once = gathered(alloc, &plan, 300)?.take_part(alloc)?;
+    let mut gathering = gathered(alloc, &plan, 600)?;
+    let twice = gathering.take_part(alloc)?;
+    assert!(rt; gathering.take_part(alloc)?.is_empty());
     let mut out = Vec::new(alloc);
     once.lines(&plan, 0, &mut out)?;
     assert_eq!(rt; out.as_slice(), lines_of_keys(alloc, false)?.as_slice());

@@ -1,5 +1,5 @@
 -- Points at which as many steps are reached.
-use Rattle.std.proofs.Common.{◌≡◌, ℕ, ◌+◌, ◌-◌, ◌*◌, ◌/◌, ◌%◌, ◌≤◌, ◌<◌, true, ◌&&◌, nat_le, nat_lt, cond, sym, ap, ◌∙◌, arith}
+use Rattle.std.proofs.Common.{◌≡◌, ℕ, ◌+◌, ◌-◌, ◌*◌, ◌/◌, ◌%◌, ◌≤◌, ◌<◌, true, nat_le, cond, sym, ap, ◌∙◌, arith}
 use Rattle.std.proofs.lemmas.Bool.Decides.{nat_tests}
 use Rattle.std.proofs.Math.Nat.{div-add-mod'}
 use Rattle.std.proofs.lemmas.Nat.{le-div, div_below}
@@ -25,11 +25,9 @@ steps_near slide first far until p some within high from below =
     (some_left, same_steps slide (far - first) (p - first) some low short)
 
 pub counts_alike : (slide first far until p : ℕ) → 1 ≤ slide → first ≤ far → until ≤ far - (far - first) % slide + slide
-    → (nat_le (far - (far - first) % slide) p && nat_lt p until) ≡ true → count_to slide first p ≡ count_to slide first far
-counts_alike slide first far until p some within high t =
-    let from : far - (far - first) % slide ≤ p = grind (arith, nat_tests, t) in
-    let below : p < until = grind (arith, nat_tests, t) in
-    let near = steps_near slide first far until p some within high from below in
+    → far ≤ p → p < until → count_to slide first p ≡ count_to slide first far
+counts_alike slide first far until p some within high behind below =
+    let near = steps_near slide first far until p some within high (omega (arith, behind)) below in
     let one : nat_le first p ≡ true = grind (arith, nat_tests, near.0) in
     let two : nat_le first far ≡ true = grind (arith, nat_tests, within) in
     ap (λ b. cond b ((p - first) / slide + 1) 0) one ∙ ap (λ n. n + 1) near.1 ∙ sym (ap (λ b. cond b ((far - first) / slide + 1) 0) two)

@@ -1,4 +1,4 @@
 pub mod Frames
 pub mod Points
 pub mod Laws
-pub mod Spans
+pub mod Together

@@ -1,19 +1,20 @@
 // The windows of a plan, taken out of it once.
-ghost use Rattle.std.specs.Prelude.{◌≡◌, ℕ, ◌^◌, ◌<◌, ◌≤◌, ◌||◌, not, nat_lt, is_none};
+ghost use Rattle.std.specs.Prelude.{◌≡◌, ℕ, ◌^◌, ◌<◌, ◌≤◌, ◌||◌, not, nat_lt, is_none, length, drop};
+ghost use Rattle.std.specs.List.{AllByRecursion};
 ghost use Rattle.saber_plan.specs.Trees.{tree_of};
 ghost use Rattle.saber_plan.specs.Answers.{frame};
 ghost use Rattle.saber_plan.specs.Checked.{IsChecked};
-ghost use Rattle.saber_plan.specs.Windows.{Fits, begun, begun_count, closed, closed_count, has, kind_of, past_count};
+ghost use Rattle.saber_plan.specs.Windows.{Fits, Ordered, begun, begun_count, closed, closed_count, has, kind_of, past_count};
 ghost use Rattle.saber_plan.specs.Needs.{first_window, last_window, past_window};
-ghost use Rattle.saber_window.specs.Spans.{covers, AllAlike};
+ghost use Rattle.saber_window.specs.Together.{IsLeft, LieTogether};
 
 use crate::counts::{count_reached, count_to};
 use crate::laws::closed_within_begun;
 use crate::points::{ends_by, spans};
 use crate::rows::point;
-use crate::spans::{Span, alike_to};
+use crate::runs::{rows_end, times_end};
 use crate::windowed::{Windowed, windowed_of};
-use saber_flat::RowRef;
+use saber_flat::{RowRef, Rows};
 use saber_laws::{begun_are_counted, checked_fit, closed_are_counted};
 use saber_plan::{Kind, Mark, Measure, Plan, Side};
 use std::marker::Model;
@@ -252,45 +253,31 @@ impl Windows {
         (self.first_window(r, before), self.past_window(r, before))
     }
 
-    /// Points near a row of the only stream that lie in the same windows: a row in this span (`is_alike`) needs no
-    /// division to tell its windows.
-    #[inline]
-    pub fn alike(&self, r: &RowRef, before: &Mark) -> Span
-        ensures { AllAlike self.now (record { row = r.now; before = before.now }) result }
+    /// Where some rows end that lie in the same windows, from row `from` on. They are as many as there are, if
+    /// there is one stream. No row of them needs a division to tell its windows.
+    pub fn run_end(&self, rows: &Rows, from: usize, before: &Mark) -> usize
+        requires there { from < length rows.now }
+        requires small { before.now.left < 2 ^ 63 }
+        requires left { AllByRecursion IsLeft (drop from rows.now) }
+        requires order { Ordered before.now (drop from rows.now) }
+        ensures more { from < result }
+        ensures within { result ≤ length rows.now }
+        ensures together { LieTogether self.now before.now rows.now from result }
     {
+        let _all = rows.len();
         match self.windowed {
             Windowed::One {
-                measure,
+                measure: Measure::Rows,
                 slide,
                 size,
-            } => match r.side() {
-                Side::Left => {
-                    let point = point(measure, r, before);
-                    alike_to(slide, size, point).and(alike_to(slide, 0, point))
-                }
-                Side::Right => Span::empty(),
-            },
-            Windowed::Neither => Span::empty(),
-            Windowed::Both { .. } => Span::empty(),
-        }
-    }
-
-    /// The row is one of the only stream, and lies in the span.
-    #[inline]
-    pub fn is_alike(&self, span: Span, r: &RowRef, before: &Mark) -> bool
-        ensures { result ≡ covers self.now span (record { row = r.now; before = before.now }) }
-    {
-        match self.windowed {
+            } => rows_end(slide, size, rows, from, before),
             Windowed::One {
-                measure,
-                slide: _,
-                size: _,
-            } => match r.side() {
-                Side::Left => span.has(point(measure, r, before)),
-                Side::Right => false,
-            },
-            Windowed::Neither => false,
-            Windowed::Both { .. } => false,
+                measure: Measure::Range,
+                slide,
+                size,
+            } => times_end(slide, size, rows, from, before),
+            Windowed::Neither => from + 1,
+            Windowed::Both { .. } => from + 1,
         }
     }
 

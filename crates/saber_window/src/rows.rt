@@ -1,10 +1,12 @@
 // Rows: their timestamps, and the mark after one more.
-ghost use Rattle.std.specs.Prelude.{◌≡◌, ◌^◌, ◌<◌, ◌≤◌};
+ghost use Rattle.std.specs.Prelude.{◌≡◌, ◌+◌, ◌-◌, ◌^◌, ◌<◌, ◌≤◌, length, take, drop};
+ghost use Rattle.std.specs.List.{AllByRecursion};
 ghost use Rattle.saber_plan.specs.Rows.{stamp};
-ghost use Rattle.saber_plan.specs.Windows.{by_side, step_mark, ending};
+ghost use Rattle.saber_plan.specs.Windows.{by_side, mark_after, step_mark, ending};
 ghost use Rattle.saber_window.specs.Points.{point};
+ghost use Rattle.saber_window.specs.Together.{IsLeft};
 
-use saber_flat::RowRef;
+use saber_flat::{RowRef, Rows};
 use saber_plan::{Mark, Measure, Side};
 
 /// The timestamp, a row's first number; 0 where it has none.
@@ -65,6 +67,24 @@ pub fn step_mark(m: &Mark, r: &RowRef) -> Mark
             last,
             ended: m.ended,
         },
+    }
+}
+
+/// The mark after some rows of the left stream, from one up to another: the steps over all of them at once.
+#[inline]
+pub fn mark_behind(m: &Mark, rows: &Rows, from: usize, end: usize) -> Mark
+    requires more { from < end }
+    requires within { end ≤ length rows.now }
+    requires small { m.now.left + (end - from) < 2 ^ 63 }
+    requires left { AllByRecursion IsLeft (drop from rows.now) }
+    ensures { result ≡ mark_after m.now (take (end - from) (drop from rows.now)) }
+{
+    let time = stamp(&rows.row(end - 1));
+    Mark {
+        left: m.left + (end - from) as u64,
+        right: m.right,
+        last: Some(time as i64),
+        ended: m.ended,
     }
 }
 

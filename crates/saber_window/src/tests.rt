@@ -1,11 +1,17 @@
 //! Windows worked out by hand.
-ghost use Rattle.std.specs.Prelude.{◌≡◌, ◌^◌, ◌<◌, IfOk};
+ghost use Rattle.std.specs.Prelude.{◌≡◌, ℕ, ◌^◌, ◌<◌, ◌≤◌, IfOk, false, None, length};
+ghost use Rattle.std.specs.List.{AllByRecursion};
 ghost use Rattle.saber_plan.specs.Rows.{stamp};
+ghost use Rattle.saber_plan.specs.Windows.{Ordered};
+ghost use Rattle.saber_window.specs.Together.{IsLeft};
 ghost use Rattle.saber_plan.specs.Trees.{tree_of};
 ghost use Rattle.saber_plan.specs.Checked.{IsChecked, Pairs, WindowFits};
 
-use crate::{Windows, begun_below, closed_below, ending, free_of, kind_of, step_mark, windows_of};
-use saber_flat::RowRef;
+use crate::{
+    Windows, begun_below, closed_below, ending, free_of, kind_of, mark_behind, step_mark,
+    windows_of,
+};
+use saber_flat::{RowRef, Rows};
 use saber_plan::{
     Expr, Item, Kind, Mark, Measure, NoMemory, Plan, Row, Shape, Side, Stream, Values, Window,
 };
@@ -50,10 +56,26 @@ fn join(alloc: Global, left: Window, right: Window) -> Result<Plan, NoMemory>
 
 // A row that has a timestamp alone.
 fn row(alloc: Global, side: Side, time: u32) -> Result<Row, NoMemory>
-    ensures { IfOk result (λ r. stamp r.values < 2 ^ 63) }
+    ensures time { IfOk result (λ r. stamp r.values ≡ time) }
+    ensures side { IfOk result (λ r. r.side ≡ side) }
 {
     let values = Values::from_slice(alloc, &[i64::from(time)])?;
     Ok(Row { side, values })
+}
+
+// Two rows of one stream.
+fn two_rows(alloc: Global, first: u32, second: u32) -> Result<Rows, NoMemory>
+    requires { first ≤ second }
+    ensures long { IfOk result (λ rs. length rs ≡ 2) }
+    ensures left { IfOk result (λ rs. AllByRecursion IsLeft rs) }
+    ensures order { IfOk result (λ rs. (l : ℕ) → Ordered (record { left = l; right = 0; last = None; ended = false }) rs) }
+{
+    let first = row(alloc, Side::Left, first)?;
+    let second = row(alloc, Side::Left, second)?;
+    let mut rows = Rows::new(alloc);
+    rows.push(&RowRef::of(&first))?;
+    rows.push(&RowRef::of(&second))?;
+    Ok(rows)
 }
 
 #[test]
@@ -277,7 +299,6 @@ fn rows_lie_in_windows(rt: HostRuntime) -> Result<(), Fail> {
         slide: 1,
     };
     let joined = Windows::of_plan(&join(alloc, narrow, wide)?);
-    assert!(rt; !joined.is_alike(joined.alike(&left, &before), &left, &before));
     assert_eq!(rt; joined.row_windows(&left, &before), (5, 6));
     assert_eq!(rt; joined.row_windows(&right, &before), (1, 3));
     assert_eq!(rt; joined.last_window(&right, &before), Some(2));
@@ -302,39 +323,30 @@ fn rows_lie_in_windows(rt: HostRuntime) -> Result<(), Fail> {
     Ok(())
 }
 
-// By time a row of time 4 shares its windows (of 2 to 4, and of 4 to 6) with no other time; by rows, the second of a window of four
-// shares it with the other three.
+// By time a row of time 4 shares its windows (of 2 to 4, and of 4 to 6) with no other time; by rows, a window has the four from 4
+// on. Behind both rows the mark counts two more.
 #[test]
-fn rows_lie_alike(rt: HostRuntime) -> Result<(), Fail> {
+fn rows_lie_together(rt: HostRuntime) -> Result<(), Fail> {
     let alloc = rt.alloc();
-    let mut before = Mark {
-        left: 5,
-        right: 0,
-        last: Some(4),
-        ended: false,
-    };
-    let four = row(alloc, Side::Left, 4)?;
-    let four = RowRef::of(&four);
     let times = Windows::of_plan(&group(alloc, Measure::Range, 3, 2)?);
-    let span = times.alike(&four, &before);
-    for (time, is_alike) in [(3, false), (4, true), (5, false)] {
-        let other = row(alloc, Side::Left, time)?;
-        let other = RowRef::of(&other);
-        assert_eq!(rt;
-            times.is_alike(span, &other, &before),
-            is_alike,
-            "time {time}"
-        );
-    }
     let places = Windows::of_plan(&group(alloc, Measure::Rows, 4, 4)?);
-    let span = places.alike(&four, &before);
-    for (left, is_alike) in [(3, false), (4, true), (5, true), (7, true), (8, false)] {
-        before.left = left;
-        assert_eq!(rt;
-            places.is_alike(span, &four, &before),
-            is_alike,
-            "place {left}"
-        );
+    for (left, second, by_time, by_place) in [(6, 4, 2, 2), (6, 5, 1, 2), (7, 4, 2, 1)] {
+        let before = Mark {
+            left,
+            right: 0,
+            last: None,
+            ended: false,
+        };
+        let rows = two_rows(alloc, 4, second)?;
+        assert_eq!(rt; times.run_end(&rows, 0, &before), by_time, "time {second}");
+        assert_eq!(rt; places.run_end(&rows, 0, &before), by_place, "place {left}");
+        let after = Mark {
+            left: left + 2,
+            right: 0,
+            last: Some(i64::from(second)),
+            ended: false,
+        };
+        assert_eq!(rt; mark_behind(&before, &rows, 0, 2), after);
     }
     Ok(())
 }

@@ -55,3 +55,9 @@ loop-self-preserved c =
       text = λ m rows all h settled. text_skip q m all c.args.self.now.next n low begun (omega (arith, below)) (λ i p r. sym (settled i r) ∙ (held m rows h).at i p ∙ ap (λ es. part_at es i) none)
           c.args.out.now.items c.loop-self.out.items (c.loop-self.invariant.text m rows all h settled);
     }
+
+pub returns-clause-runs : goal.returns-clause-runs
+returns-clause-runs c =
+    let q = tree_of c.args.plan.now in
+    let s = c.loop-self.self in
+    λ m rows h. subst (Holds q m rows s.next) (sym c.in_ok-drop_to-2.ensures) (holds_drop q m rows s.next s.runs (c.loop-self.invariant.runs m rows h))
