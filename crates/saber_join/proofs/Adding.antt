@@ -47,8 +47,3 @@ unfolding with_lefts with_rights
 lefts_more q p y us x =
     let g = λ (z : Placed). pairs_with q (pair_numbers q) z (y ∷ []) in
     ap (with_entries p) (flat_map-append g us (x ∷ []) ∙ ap (λ l. flat_map g us ++ l) (append-nil (g x))) ∙ fold-append (λ m e. insert m e.0 e.1) p (flat_map g us) (g x)
-
--- the first of left rows, and then the others
-pub lefts_first : (q : Tree) (p : Part) (y x : Placed) (xs : List Placed) → with_lefts q p y (x ∷ xs) ≡ with_lefts q (with_rights q p x (y ∷ [])) y xs
-unfolding with_lefts with_rights
-lefts_first q p y x xs = let g = λ (z : Placed). pairs_with q (pair_numbers q) z (y ∷ []) in fold-append (λ m e. insert m e.0 e.1) p (g x) (flat_map g xs)

@@ -27,8 +27,7 @@ use Rattle.saber_laws.specs.Plans.{TwoWindows}
 use Rattle.saber_window.specs.Laws.{ClosedWithinBegun}
 use Rattle.saber_parts.specs.declared.bounds.Bounds.{Bounds}
 use Rattle.saber_join.specs.Found.{pair_lines}
-use Rattle.saber_join.specs.Keeping.{Held}
-use Rattle.saber_join.specs.Open.{seen_held, HoldsTask}
+use Rattle.saber_join.specs.Open.{seen_parts, HoldsTask}
 use Rattle.saber_parts.specs.Kinds.{kind_in}
 use Rattle.saber_parts.specs.WindowFacts.{entry_is, kind_is}
 use Rattle.saber_parts.specs.Entries.{entry_if}
@@ -55,7 +54,7 @@ module _ {X : Type 0} (g : ℕ → Part → List X) (none : (i : ℕ) (p : Part)
   abbrev held_at : ℕ → Part
   held_at i = cond (nat_lt i c) no_part (at i)
 
-  pub by_number : (es : List (ℕ × Held)) → T (is_sorted nat_cmp (seen es)) → ((i : ℕ) → part_in es i ≡ held_at i) → flat_map (λ e. g e.0 e.1.part) es ≡ flat_map (λ i. g i (at i)) (from c (n - c))
+  pub by_number : (es : List (ℕ × Part)) → T (is_sorted nat_cmp (seen es)) → ((i : ℕ) → part_in es i ≡ held_at i) → flat_map (λ e. g e.0 e.1) es ≡ flat_map (λ i. g i (at i)) (from c (n - c))
   by_number es s h =
       let whole : n - 0 ≡ n = omega arith in
       let to : c - 0 ≡ c = omega arith in
@@ -78,7 +77,7 @@ pub record Laws : Type 0 where
   pub order : PairsAreInOrder
 
 module _ (laws : Laws) (q : Tree) (checked : IsChecked q) (e : q.shape ≡ Join) (w : TwoWindows q) (fits : Fits (frame q)) (m : Mark) (back rows : List Row) (ended : Bool) (h : RowsFit q m (back ++ rows)) (b : Bounds) (given : AreBounds q (mark_after m back) (ending ended (mark_after (mark_after m back) rows)) b)
-    (es : List (ℕ × Held)) (sorted : T (is_sorted nat_cmp (seen es))) (holds : HoldsTask q (closed_count (frame q) (mark_after m back)) m back rows (seen_held es)) where
+    (es : List (ℕ × Part)) (sorted : T (is_sorted nat_cmp (seen es))) (holds : HoldsTask q (closed_count (frame q) (mark_after m back)) m back rows (seen_parts es)) where
   abbrev a : Mark
   a = mark_after m back
 

@@ -1,8 +1,9 @@
--- One more row held of a window.
-use Rattle.std.proofs.Common.{◌≡◌, ℕ, ◌+◌, ◌≤◌, ◌<◌, max, List, [], ◌∷◌, ◌++◌, filter, flat_map, length, Bool, true, false, cond, nat_le, ℤ, Option, refl, sym, ◌∙◌, ap, subst, unwrap_or, append-nil, arith}
-use Rattle.std.specs.Ordering.{int_cmp}
-use Rattle.std.specs.FinMap.{from_entries, get-empty}
+-- What a task holds after one more row.
+use Rattle.std.proofs.Common.{◌≡◌, ℕ, ◌+◌, ◌≤◌, ◌<◌, max, List, [], ◌∷◌, ◌++◌, map, filter, flat_map, length, Bool, true, false, cond, nat_le, Option, refl, sym, ◌∙◌, ap, subst, append-nil, append_assoc, take, drop, ℤ, arith}
+use Rattle.std.specs.FinMap.{from_entries}
+use Rattle.std.specs.List.{AllByRecursion}
 use Rattle.std.proofs.lemmas.Bool.{lt-leb}
+use Rattle.std.proofs.lemmas.List.{map-append, take-append-drop}
 use Rattle.std.proofs.lemmas.List.Elements.{filter-append}
 use Rattle.saber_plan.specs.declared.rows.Side.{Side}
 use Rattle.saber_plan.specs.declared.rows.Side.TheVariants.{Left, Right}
@@ -11,60 +12,92 @@ use Rattle.saber_plan.specs.declared.rows.Values.{Values}
 use Rattle.saber_plan.specs.declared.windows.Mark.{Mark}
 use Rattle.saber_plan.specs.Trees.{Tree}
 use Rattle.saber_plan.specs.Values.{passes}
-use Rattle.saber_plan.specs.Windows.{Placed, place, by_side, has, step_mark, mark_after, placed_after}
-use Rattle.saber_plan.specs.Given.{IsRowOf}
-use Rattle.saber_plan.specs.Answers.{key_cmp, is_left, is_right, pairs_with, pairs, frame}
-use Rattle.saber_plan.specs.Parts.{Part, Numbers, no_part, pair_numbers, pair_part, later}
-use Rattle.saber_plan.specs.Pairing.{row_pairs, with_entries}
+use Rattle.saber_plan.specs.Windows.{Frame, Placed, place, by_side, step_mark, mark_after, placed_after}
+use Rattle.saber_plan.specs.Given.{IsRowOf, RowsFit}
+use Rattle.saber_plan.specs.Answers.{key_cmp, is_left, is_right, pairs_with, pairs}
+use Rattle.saber_plan.specs.Parts.{Numbers, no_part, pair_numbers, pair_part, later}
 use Rattle.saber_plan.specs.ListFacts.{Each, each-filter, each-map, each-weaker, dropped}
-use Rattle.saber_plan.specs.RowFacts.{placed-append, placed-one}
-use Rattle.saber_laws.specs.Pairs.{WindowsGetPairs, after_rows, with_row}
+use Rattle.saber_plan.specs.RowFacts.{placed-append, placed-one, fits_front}
+use Rattle.saber_laws.specs.Pairs.{after_rows}
 use Rattle.saber_laws.specs.Parts.{NoRowsNoPart}
 use Rattle.saber_join.specs.Rows.{IsOn, AllOn}
-use Rattle.saber_join.specs.Adding.{with_rights, with_lefts}
-use Rattle.saber_join.specs.Shelves.{Shelf, rows_at, put}
-use Rattle.saber_join.specs.Ties.{Ends, CanTie, key_in}
-use Rattle.saber_join.specs.Keeping.{Held, nothing, noted, taken, noted_by, taken_by, by_key, held_of, HeldFits}
-use Rattle.saber_join.proofs.Partners.{put_fits, by_key_more, partners_found}
+use Rattle.saber_join.specs.Shelves.{Card, card_of}
+use Rattle.saber_join.specs.Ties.{Ends}
+use Rattle.saber_join.specs.Keeping.{lies_from, cards_of, lefts_of, rights_of}
 
-abbrev held : Shelf → Shelf → Part → Held
-held ls rs p = record { lefts = ls; rights = rs; part = p }
+pub placed_push : (m : Mark) (xs : List Row) (r : Row) → placed_after m (xs ++ r ∷ []) ≡ placed_after m xs ++ after_rows m xs r ∷ []
+placed_push m xs r = placed-append m xs (r ∷ []) ∙ ap (λ l. placed_after m xs ++ l) (placed-one (mark_after m xs) r)
 
-abbrev by_sides : Tree → ℤ → Held → Placed → Side → Held
-by_sides q k h x s = held (by_side s (put h.lefts k x) h.lefts) (by_side s h.rights (put h.rights k x)) (by_side s (with_rights q h.part x (rows_at h.rights k)) (with_lefts q h.part x (rows_at h.lefts k)))
+-- ---- the cards of one row more
 
-part_case : (q : Tree) (p : Part) (lefts rights : List Placed) (s : Side) (v : Values) (m : Mark)
-    → by_side s (with_rights q p (record { row = record { side = s; values = v }; before = m }) rights) (with_lefts q p (record { row = record { side = s; values = v }; before = m }) lefts) ≡ with_entries p (row_pairs q (record { row = record { side = s; values = v }; before = m }) lefts rights)
-unfolding with_rights with_lefts
-part_case q p lefts rights Left v m = refl
-part_case q p lefts rights Right v m = refl
+cards_append : (f : Frame) (t : Option Ends) (c : ℕ) (us vs : List Placed) → cards_of f t c (us ++ vs) ≡ cards_of f t c us ++ cards_of f t c vs
+cards_append f t c us vs = ap (map (card_of f t c)) (filter-append (lies_from f c) us vs) ∙ map-append (card_of f t c) (filter (lies_from f c) us) (filter (lies_from f c) vs)
 
-take_parts : (q : Tree) (k : ℤ) (h : Held) (x : Placed) → by_sides q k h x x.row.side ≡ taken q k h x
-take_parts q k h x = λ i. record { lefts = by_side x.row.side (put h.lefts k x) h.lefts; rights = by_side x.row.side h.rights (put h.rights k x); part = part_case q h.part (rows_at h.lefts k) (rows_at h.rights k) x.row.side x.row.values x.before i }
+pub lefts_append : (f : Frame) (t : Option Ends) (c : ℕ) (us vs : List Placed) → lefts_of f t c (us ++ vs) ≡ lefts_of f t c us ++ lefts_of f t c vs
+lefts_append f t c us vs = ap (cards_of f t c) (filter-append is_left us vs) ∙ cards_append f t c (filter is_left us) (filter is_left vs)
 
-pub take_left : (q : Tree) (k : ℤ) (h : Held) (x : Placed) → x.row.side ≡ Left → held (put h.lefts k x) h.rights (with_rights q h.part x (rows_at h.rights k)) ≡ taken q k h x
-take_left q k h x e = ap (by_sides q k h x) (sym e) ∙ take_parts q k h x
+pub rights_append : (f : Frame) (t : Option Ends) (c : ℕ) (us vs : List Placed) → rights_of f t c (us ++ vs) ≡ rights_of f t c us ++ rights_of f t c vs
+rights_append f t c us vs = ap (cards_of f t c) (filter-append is_right us vs) ∙ cards_append f t c (filter is_right us) (filter is_right vs)
 
-pub take_right : (q : Tree) (k : ℤ) (h : Held) (x : Placed) → x.row.side ≡ Right → held h.lefts (put h.rights k x) (with_lefts q h.part x (rows_at h.lefts k)) ≡ taken q k h x
-take_right q k h x e = ap (by_sides q k h x) (sym e) ∙ take_parts q k h x
+-- ---- those of a loop over rows
 
--- ---- its rows are rows of their sides
+pub lefts_none : (f : Frame) (t : Option Ends) (c : ℕ) (b : Mark) (es : List Card) → es ≡ es ++ lefts_of f t c (placed_after b [])
+unfolding placed_after
+lefts_none f t c b es = sym (append-nil es)
 
-side_fits : (q : Tree) (k : ℤ) (h : Held) (x : Placed) (s : Side) → x.row.side ≡ s → IsRowOf q x.row → HeldFits q h → HeldFits q (held (by_side s (put h.lefts k x) h.lefts) (by_side s h.rights (put h.rights k x)) h.part)
-side_fits q k h x Left e r f = record { lefts = put_fits (λ (y : Placed). IsOn q Left y.row) h.lefts k x (record { row = r; side = e }) f.lefts; rights = f.rights }
-side_fits q k h x Right e r f = record { lefts = f.lefts; rights = put_fits (λ (y : Placed). IsOn q Right y.row) h.rights k x (record { row = r; side = e }) f.rights }
+pub rights_none : (f : Frame) (t : Option Ends) (c : ℕ) (b : Mark) (es : List Card) → es ≡ es ++ rights_of f t c (placed_after b [])
+unfolding placed_after
+rights_none f t c b es = sym (append-nil es)
 
-pub nothing_fits : (q : Tree) → HeldFits q nothing
-nothing_fits q = record {
-  lefts = λ z. subst (AllOn q Left) (sym (ap (λ o. unwrap_or o []) (get-empty int_cmp z))) tt;
-  rights = λ z. subst (AllOn q Right) (sym (ap (λ o. unwrap_or o []) (get-empty int_cmp z))) tt;
-}
+module _ (f : Frame) (t : Option Ends) (c : ℕ) (b : Mark) (xs ys : List Row) (r : Row) (mark : Mark) (is : mark ≡ mark_after b xs) (more : ys ≡ xs ++ r ∷ []) (start old new : List Card) where
+  pub lefts_push : old ≡ start ++ lefts_of f t c (placed_after b xs) → new ≡ old ++ lefts_of f t c (record { row = r; before = mark } ∷ []) → new ≡ start ++ lefts_of f t c (placed_after b ys)
+  lefts_push e g =
+      g ∙ (λ j. e j ++ lefts_of f t c (record { row = r; before = is j } ∷ []))
+      ∙ append_assoc start (lefts_of f t c (placed_after b xs)) (lefts_of f t c (after_rows b xs r ∷ []))
+      ∙ ap (λ l. start ++ l) (sym (lefts_append f t c (placed_after b xs) (after_rows b xs r ∷ [])) ∙ ap (lefts_of f t c) (sym (placed_push b xs r)) ∙ ap (λ l. lefts_of f t c (placed_after b l)) (sym more))
 
-pub noted_fits : (q : Tree) (k : ℤ) (h : Held) (x : Placed) → IsRowOf q x.row → HeldFits q h → HeldFits q (noted k h x)
-noted_fits q k h x r f = let both = side_fits q k h x x.row.side refl r f in record { lefts = both.lefts; rights = both.rights }
+  pub rights_push : old ≡ start ++ rights_of f t c (placed_after b xs) → new ≡ old ++ rights_of f t c (record { row = r; before = mark } ∷ []) → new ≡ start ++ rights_of f t c (placed_after b ys)
+  rights_push e g =
+      g ∙ (λ j. e j ++ rights_of f t c (record { row = r; before = is j } ∷ []))
+      ∙ append_assoc start (rights_of f t c (placed_after b xs)) (rights_of f t c (after_rows b xs r ∷ []))
+      ∙ ap (λ l. start ++ l) (sym (rights_append f t c (placed_after b xs) (after_rows b xs r ∷ [])) ∙ ap (rights_of f t c) (sym (placed_push b xs r)) ∙ ap (λ l. rights_of f t c (placed_after b l)) (sym more))
 
-pub taken_fits : (q : Tree) (k : ℤ) (h : Held) (x : Placed) → IsRowOf q x.row → HeldFits q h → HeldFits q (taken q k h x)
-taken_fits q k h x r f = let both = side_fits q k h x x.row.side refl r f in record { lefts = both.lefts; rights = both.rights }
+-- the rows so far fit
+pub fits_so_far : (q : Tree) (b : Mark) (back rows : List Row) (k : ℕ) → RowsFit q b (back ++ rows) → RowsFit q b (back ++ take k rows)
+fits_so_far q b back rows k h = fits_front q b (back ++ take k rows) (drop k rows) (subst (RowsFit q b) (sym (append_assoc back (take k rows) (drop k rows) ∙ ap (λ l. back ++ l) (take-append-drop k rows))) h)
+
+-- ---- they are rows of their sides
+
+filter_on : (P : Placed → Type 0) (p : Placed → Bool) (us : List Placed) → AllByRecursion P us → AllByRecursion P (filter p us)
+filter_on P p [] h = tt
+filter_on P p (u ∷ us) h = elim (p u) as (λ b. AllByRecursion P (cond b (u ∷ filter p us) (filter p us))) [ true ↦ (h.0, filter_on P p us h.1) | false ↦ filter_on P p us h.1 ]
+
+cards_on : (q : Tree) (s : Side) (f : Frame) (t : Option Ends) (c : ℕ) (us : List Placed) → AllByRecursion (λ (x : Placed). IsOn q s x.row) us → AllOn q s (map (card_of f t c) us)
+cards_on q s f t c [] h = tt
+cards_on q s f t c (u ∷ us) h = (h.0, cards_on q s f t c us h.1)
+
+is_on_left : (s : Side) → by_side s true false ≡ true → s ≡ Left
+is_on_left Left e = refl
+is_on_left Right e = cc
+
+is_on_right : (s : Side) → by_side s false true ≡ true → s ≡ Right
+is_on_right Left e = cc
+is_on_right Right e = refl
+
+side_on : (q : Tree) (s : Side) (p : Placed → Bool) → ((x : Placed) → p x ≡ true → x.row.side ≡ s) → (us : List Placed) → AllByRecursion (λ (x : Placed). IsRowOf q x.row) us → AllByRecursion (λ (x : Placed). IsOn q s x.row) (filter p us)
+side_on q s p w [] h = tt
+side_on q s p w (u ∷ us) h = elim (p u) as (λ b. p u ≡ b → AllByRecursion (λ (x : Placed). IsOn q s x.row) (cond b (u ∷ filter p us) (filter p us))) [ true ↦ λ e. (record { row = h.0; side = w u e }, side_on q s p w us h.1) | false ↦ λ e. side_on q s p w us h.1 ] refl
+
+placed_rows : (q : Tree) (m : Mark) (xs : List Row) → AllByRecursion (IsRowOf q) xs → AllByRecursion (λ (x : Placed). IsRowOf q x.row) (placed_after m xs)
+unfolding placed_after
+placed_rows q m [] h = tt
+placed_rows q m (x ∷ xs) h = (h.0, placed_rows q (step_mark m x) xs h.1)
+
+pub lefts_on : (q : Tree) (f : Frame) (t : Option Ends) (c : ℕ) (m : Mark) (xs : List Row) → RowsFit q m xs → AllOn q Left (lefts_of f t c (placed_after m xs))
+lefts_on q f t c m xs h = cards_on q Left f t c _ (filter_on _ (lies_from f c) _ (side_on q Left is_left (λ x e. is_on_left x.row.side e) (placed_after m xs) (placed_rows q m xs h.rows)))
+
+pub rights_on : (q : Tree) (f : Frame) (t : Option Ends) (c : ℕ) (m : Mark) (xs : List Row) → RowsFit q m xs → AllOn q Right (rights_of f t c (placed_after m xs))
+rights_on q f t c m xs h = cards_on q Right f t c _ (filter_on _ (lies_from f c) _ (side_on q Right is_right (λ x e. is_on_right x.row.side e) (placed_after m xs) (placed_rows q m xs h.rows)))
 
 -- ---- rows that are looked back on make no pairs
 
@@ -106,62 +139,3 @@ unfolding pair_part
 pair_part-none none q n us h =
     ap (λ l. from_entries {R = key_cmp} l) (dropped (late n) (pairs q (pair_numbers q) us) (each-flat_map (λ e. late n e ≡ false) _ (filter is_left us) (each-weaker _ _ (λ x p. none_late q n x (filter is_right us) p (each-filter _ is_right us h)) (filter is_left us) (each-filter _ is_left us h))))
     ∙ (none q).of_pairs n
-
--- ---- what is held is what there is to hold
-
-side_lists : (x : Placed) (us : List Placed) (s : Side) (v : Values) (m : Mark) → x ≡ record { row = record { side = s; values = v }; before = m }
-    → (filter is_left (us ++ x ∷ []) ≡ by_side s (filter is_left us ++ x ∷ []) (filter is_left us)) × (filter is_right (us ++ x ∷ []) ≡ by_side s (filter is_right us) (filter is_right us ++ x ∷ []))
-side_lists x us Left v m e =
-    (filter-append is_left us (x ∷ []) ∙ ap (λ y. filter is_left us ++ cond (is_left y) (x ∷ []) []) e, filter-append is_right us (x ∷ []) ∙ ap (λ y. filter is_right us ++ cond (is_right y) (x ∷ []) []) e ∙ append-nil _)
-side_lists x us Right v m e =
-    (filter-append is_left us (x ∷ []) ∙ ap (λ y. filter is_left us ++ cond (is_left y) (x ∷ []) []) e ∙ append-nil _, filter-append is_right us (x ∷ []) ∙ ap (λ y. filter is_right us ++ cond (is_right y) (x ∷ []) []) e)
-
-side_shelves : (t : Option Ends) (x : Placed) (us : List Placed) (s : Side) (v : Values) (m : Mark) → x ≡ record { row = record { side = s; values = v }; before = m }
-    → (by_key t (filter is_left (us ++ x ∷ [])) ≡ by_side s (put (by_key t (filter is_left us)) (key_in t x.row) x) (by_key t (filter is_left us)))
-    × (by_key t (filter is_right (us ++ x ∷ [])) ≡ by_side s (by_key t (filter is_right us)) (put (by_key t (filter is_right us)) (key_in t x.row) x))
-side_shelves t x us Left v m e = let lists = side_lists x us Left v m e in (ap (by_key t) lists.0 ∙ by_key_more t (filter is_left us) x, ap (by_key t) lists.1)
-side_shelves t x us Right v m e = let lists = side_lists x us Right v m e in (ap (by_key t) lists.0, ap (by_key t) lists.1 ∙ by_key_more t (filter is_right us) x)
-
-placed_push : (m : Mark) (xs : List Row) (r : Row) → placed_after m (xs ++ r ∷ []) ≡ placed_after m xs ++ after_rows m xs r ∷ []
-placed_push m xs r = placed-append m xs (r ∷ []) ∙ ap (λ l. placed_after m xs ++ l) (placed-one (mark_after m xs) r)
-
-in_window : (q : Tree) (i : ℕ) (m : Mark) (xs : List Row) (r : Row) → has (frame q) i (after_rows m xs r) ≡ true → filter (has (frame q) i) (placed_after m (xs ++ r ∷ [])) ≡ filter (has (frame q) i) (placed_after m xs) ++ after_rows m xs r ∷ []
-in_window q i m xs r e = ap (filter (has (frame q) i)) (placed_push m xs r) ∙ filter-append (has (frame q) i) (placed_after m xs) (after_rows m xs r ∷ []) ∙ ap (λ b. filter (has (frame q) i) (placed_after m xs) ++ cond b (after_rows m xs r ∷ []) []) e
-
-not_in_window : (q : Tree) (i : ℕ) (m : Mark) (xs : List Row) (r : Row) → has (frame q) i (after_rows m xs r) ≡ false → filter (has (frame q) i) (placed_after m (xs ++ r ∷ [])) ≡ filter (has (frame q) i) (placed_after m xs)
-not_in_window q i m xs r e = ap (filter (has (frame q) i)) (placed_push m xs r) ∙ filter-append (has (frame q) i) (placed_after m xs) (after_rows m xs r ∷ []) ∙ ap (λ b. filter (has (frame q) i) (placed_after m xs) ++ cond b (after_rows m xs r ∷ []) []) e ∙ append-nil _
-
-abbrev held_from : Tree → Option Ends → ℕ → List Placed → Held
-held_from q t n ys = record { lefts = by_key t (filter is_left ys); rights = by_key t (filter is_right ys); part = pair_part q n ys }
-
--- a window that has the next row of the task takes it
-pub held-take : WindowsGetPairs → (q : Tree) (t : Option Ends) → CanTie q.predicate t → (n i : ℕ) (m : Mark) (xs : List Row) (r : Row) → n ≤ place (after_rows m xs r) → has (frame q) i (after_rows m xs r) ≡ true
-    → taken_by q t (held_of q t n i (placed_after m xs)) (after_rows m xs r) ≡ held_of q t n i (placed_after m (xs ++ r ∷ []))
-held-take get q t tie n i m xs r h e =
-    let ys = filter (has (frame q) i) (placed_after m xs) in
-    let x = after_rows m xs r in
-    let shelves = side_shelves t x ys x.row.side x.row.values x.before refl in
-    let whole = in_window q i m xs r e in
-    sym (λ j. record {
-      lefts = (ap (λ us. by_key t (filter is_left us)) whole ∙ shelves.0) j;
-      rights = (ap (λ us. by_key t (filter is_right us)) whole ∙ shelves.1) j;
-      part = (get q n i m xs r h ∙ ap (λ b. cond b (with_row q n ys x) (pair_part q n ys)) e ∙ ap (with_entries (pair_part q n ys)) (sym (partners_found q t tie x ys))) j;
-    })
-
--- one that doesn't stays
-pub held-stays : (q : Tree) (t : Option Ends) (n i : ℕ) (m : Mark) (xs : List Row) (r : Row) → has (frame q) i (after_rows m xs r) ≡ false → held_of q t n i (placed_after m xs) ≡ held_of q t n i (placed_after m (xs ++ r ∷ []))
-held-stays q t n i m xs r e = sym (ap (held_from q t n) (not_in_window q i m xs r e))
-
--- and one that has a row before the task's keeps it, without pairs
-pub held-note : NoRowsNoPart → (q : Tree) (t : Option Ends) (n i : ℕ) (m : Mark) (xs : List Row) (r : Row) → Each (λ y. place y < n) (placed_after m xs) → Each (λ y. place y < n) (placed_after m (xs ++ r ∷ [])) → has (frame q) i (after_rows m xs r) ≡ true
-    → noted_by t (held_of q t n i (placed_after m xs)) (after_rows m xs r) ≡ held_of q t n i (placed_after m (xs ++ r ∷ []))
-held-note none q t n i m xs r g h e =
-    let ys = filter (has (frame q) i) (placed_after m xs) in
-    let x = after_rows m xs r in
-    let shelves = side_shelves t x ys x.row.side x.row.values x.before refl in
-    let whole = in_window q i m xs r e in
-    sym (λ j. record {
-      lefts = (ap (λ us. by_key t (filter is_left us)) whole ∙ shelves.0) j;
-      rights = (ap (λ us. by_key t (filter is_right us)) whole ∙ shelves.1) j;
-      part = (pair_part-none none q n _ (each-filter _ (has (frame q) i) (placed_after m (xs ++ r ∷ [])) h) ∙ sym (pair_part-none none q n ys (each-filter _ (has (frame q) i) (placed_after m xs) g))) j;
-    })

@@ -1,19 +1,20 @@
 pub mod Keyed
 pub mod Lined
 pub mod Filled
+pub mod Linking
 pub mod Sides
 pub mod Adding
-pub mod Holding
 pub mod Changing
-pub mod Growing
-pub mod Task
+pub mod Meeting
 pub mod Entering
 pub mod Spread
+mod Tying
+mod Partners
+pub mod Holding
+pub mod Task
 pub mod Answering
 pub mod Parting
 pub mod Beginning
 pub mod Finishing
 pub mod AllBehind
 pub mod Tested
-mod Tying
-mod Partners

@@ -1,84 +1,102 @@
--- What is held after all rows of a task: the pairs of each window's part.
-use Rattle.std.proofs.Common.{◌≡◌, ℕ, ◌+◌, ◌≤◌, List, [], ◌∷◌, ◌++◌, filter, length, Bool, true, false, cond, nat_lt, Option, refl, sym, ◌∙◌, ap, append_assoc, append-nil, length-append, arith}
-use Rattle.std.specs.FinMap.{empty}
+-- What a task holds after all its rows: the pairs of each window's part.
+use Rattle.std.proofs.Common.{◌≡◌, ℕ, ◌+◌, ◌≤◌, max, List, [], ◌∷◌, ◌++◌, filter, length, Bool, true, false, cond, ◌&&◌, nat_le, nat_lt, Option, unwrap_or, refl, sym, ◌∙◌, ap, nat_cmp, arith}
+use Rattle.std.proofs.lemmas.Bool.Decides.{nat_tests}
+use Rattle.std.specs.FinMap.{get-empty}
 use Rattle.saber_plan.specs.declared.plans.Shape.TheVariants.{Join}
 use Rattle.saber_plan.specs.declared.rows.Row.{Row}
 use Rattle.saber_plan.specs.declared.windows.Mark.{Mark}
 use Rattle.saber_plan.specs.Trees.{Tree}
-use Rattle.saber_plan.specs.Windows.{has, step_mark, mark_after, placed_after}
+use Rattle.saber_plan.specs.Windows.{Fits, Placed, place, has, mark_after, placed_after}
 use Rattle.saber_plan.specs.Answers.{frame, by_shape, passing}
-use Rattle.saber_plan.specs.Parts.{no_part, pair_part, group_part}
-use Rattle.saber_plan.specs.Needs.{part_here}
-use Rattle.saber_plan.specs.RowFacts.{mark-append}
-use Rattle.saber_laws.specs.Pairs.{WindowsGetPairs, after_rows}
+use Rattle.saber_plan.specs.Parts.{Part, no_part, pair_part, group_part}
+use Rattle.saber_plan.specs.Needs.{part_here, first_window, past_window}
+use Rattle.saber_plan.specs.ListFacts.{each-filter}
+use Rattle.saber_laws.specs.Needs.{RowsSpan}
+use Rattle.saber_laws.specs.Pairs.{WindowsGetPairs, after_rows, with_row}
 use Rattle.saber_laws.specs.Parts.{NoRowsNoPart}
-use Rattle.saber_join.specs.Ties.{Ends, CanTie}
-use Rattle.saber_join.specs.Keeping.{Held, nothing, noted_by, taken_by, held_of}
-use Rattle.saber_join.specs.Open.{Windows, held_in, grown, Grown, HoldsTask}
-use Rattle.saber_join.proofs.Holding.{behind, behind_after, placed_below, held-take, held-stays, held-note}
+use Rattle.saber_join.specs.Standing.{standing}
+use Rattle.saber_join.specs.Shelves.{meets}
+use Rattle.saber_join.specs.Ties.{Ends, CanTie, key_in}
+use Rattle.saber_join.specs.Keeping.{lefts_of, rights_of}
+use Rattle.saber_join.specs.Open.{Windows, pairs_in, seen_parts, meeting, Takes, HoldsTask}
+use Rattle.saber_join.proofs.Partners.{partners_met}
+use Rattle.saber_join.proofs.Holding.{behind, behind_after, placed_below, pair_part-none}
 
--- ---- rows before the task's
+-- ---- the parts of windows after some rows, of which those from position n on are the task's
 
-one_more : (xs ys : List Row) (y : Row) → length (xs ++ y ∷ []) + length ys ≡ length xs + length (y ∷ ys)
-one_more xs ys y = let e = length-append xs (y ∷ []) in omega (arith, e)
+abbrev pub part_of : Tree → ℕ → ℕ → Mark → List Row → ℕ → Part
+part_of q c n b xs i = cond (nat_lt i c) no_part (pair_part q n (filter (has (frame q) i) (placed_after b xs)))
 
-note_case : NoRowsNoPart → (q : Tree) (t : Option Ends) (n i : ℕ) (m : Mark) (xs : List Row) (y : Row) → behind m + length (xs ++ y ∷ []) ≤ n → (b : Bool) → has (frame q) i (after_rows m xs y) ≡ b
-    → cond b (noted_by t (held_of q t n i (placed_after m xs)) (after_rows m xs y)) (held_of q t n i (placed_after m xs)) ≡ held_of q t n i (placed_after m (xs ++ y ∷ []))
-note_case none q t n i m xs y h true e = let longer = length-append xs (y ∷ []) in held-note none q t n i m xs y (placed_below m xs n (omega (arith, longer, h))) (placed_below m (xs ++ y ∷ []) n h) e
-note_case none q t n i m xs y h false e = held-stays q t n i m xs y e
+pub record HasParts (q : Tree) (c n : ℕ) (b : Mark) (xs : List Row) (m : Windows) : Type 0 where
+  pub at : (i : ℕ) → pairs_in m i ≡ part_of q c n b xs i
 
-noted_all : NoRowsNoPart → (q : Tree) (t : Option Ends) (n i : ℕ) (m : Mark) (xs ys : List Row) → behind m + (length xs + length ys) ≤ n → grown (frame q) (noted_by t) i (held_of q t n i (placed_after m xs)) (placed_after (mark_after m xs) ys) ≡ held_of q t n i (placed_after m (xs ++ ys))
-unfolding placed_after
-noted_all none q t n i m xs [] h = ap (λ l. held_of q t n i (placed_after m l)) (sym (append-nil xs))
-noted_all none q t n i m xs (y ∷ ys) h =
-    let next : step_mark (mark_after m xs) y ≡ mark_after m (xs ++ y ∷ []) = sym (mark-append m xs (y ∷ [])) in
-    let longer = one_more xs ys y in
-    (λ j. grown (frame q) (noted_by t) i (note_case none q t n i m xs y (omega (arith, longer, h)) (has (frame q) i (after_rows m xs y)) refl j) (placed_after (next j) ys))
-    ∙ noted_all none q t n i m (xs ++ y ∷ []) ys (omega (arith, longer, h))
-    ∙ ap (λ l. held_of q t n i (placed_after m l)) (append_assoc xs (y ∷ []) ys)
+both_none : (b : Bool) (p : Part) → p ≡ no_part → no_part ≡ cond b no_part p
+both_none true p e = refl
+both_none false p e = sym e
 
--- ---- those of the task
+-- none before the task's rows
+pub none_yet : NoRowsNoPart → (q : Tree) (c : ℕ) (b : Mark) (back : List Row) (es : List (ℕ × Part)) → es ≡ [] → HasParts q c (b.left + b.right + length back) b back (seen_parts es)
+none_yet none q c b back es e = record {
+  at = λ i.
+      let n = b.left + b.right + length back in
+      ap (λ l. pairs_in (seen_parts l) i) e ∙ ap (λ o. unwrap_or o no_part) (get-empty nat_cmp i)
+      ∙ both_none (nat_lt i c) _ (pair_part-none none q n (filter (has (frame q) i) (placed_after b back)) (each-filter _ (has (frame q) i) (placed_after b back) (placed_below b back n (omega arith))));
+}
 
-take_case : WindowsGetPairs → (q : Tree) (t : Option Ends) → CanTie q.predicate t → (n i : ℕ) (m : Mark) (xs : List Row) (y : Row) → n ≤ behind m + length xs → (b : Bool) → has (frame q) i (after_rows m xs y) ≡ b
-    → cond b (taken_by q t (held_of q t n i (placed_after m xs)) (after_rows m xs y)) (held_of q t n i (placed_after m xs)) ≡ held_of q t n i (placed_after m (xs ++ y ∷ []))
-take_case get q t tie n i m xs y h true e = let here = behind_after m xs in held-take get q t tie n i m xs y (omega (arith, here, h)) e
-take_case get q t tie n i m xs y h false e = held-stays q t n i m xs y e
+low_case : (c i first past : ℕ) → nat_lt i c ≡ true → (nat_le (max first c) i && nat_lt i past) ≡ false
+low_case c i first past h = grind (arith, nat_tests)
 
-taken_all : WindowsGetPairs → (q : Tree) (t : Option Ends) → CanTie q.predicate t → (n i : ℕ) (m : Mark) (xs ys : List Row) → n ≤ behind m + length xs → grown (frame q) (taken_by q t) i (held_of q t n i (placed_after m xs)) (placed_after (mark_after m xs) ys) ≡ held_of q t n i (placed_after m (xs ++ ys))
-unfolding placed_after
-taken_all get q t tie n i m xs [] h = ap (λ l. held_of q t n i (placed_after m l)) (sym (append-nil xs))
-taken_all get q t tie n i m xs (y ∷ ys) h =
-    let next : step_mark (mark_after m xs) y ≡ mark_after m (xs ++ y ∷ []) = sym (mark-append m xs (y ∷ [])) in
-    let longer = length-append xs (y ∷ []) in
-    (λ j. grown (frame q) (taken_by q t) i (take_case get q t tie n i m xs y h (has (frame q) i (after_rows m xs y)) refl j) (placed_after (next j) ys))
-    ∙ taken_all get q t tie n i m (xs ++ y ∷ []) ys (omega (arith, longer, h))
-    ∙ ap (λ l. held_of q t n i (placed_after m l)) (append_assoc xs (y ∷ []) ys)
+high_case : (c i first past : ℕ) → nat_lt i c ≡ false → (nat_le (max first c) i && nat_lt i past) ≡ (nat_le first i && nat_lt i past)
+high_case c i first past h = grind (arith, nat_tests)
 
--- ---- both
+not_low : (c i : ℕ) → nat_lt i c ≡ false → c ≤ i
+not_low c i h = grind (arith, nat_tests)
 
-held_none : NoRowsNoPart → (q : Tree) (t : Option Ends) (n i : ℕ) (m : Mark) → nothing ≡ held_of q t n i (placed_after m [])
-unfolding placed_after
-held_none none q t n i m = λ j. record { lefts = empty; rights = empty; part = sym ((none q).of_pairs n) j }
+begun : (c i first past : ℕ) → c ≤ i → (nat_le first i && nat_lt i past) ≡ true → max first c ≤ i
+begun c i first past l h = grind (arith, nat_tests)
+
+module _ (span : RowsSpan) (get : WindowsGetPairs) (q : Tree) (fits : Fits (frame q)) (t : Option Ends) (tie : CanTie q.predicate t) (c n : ℕ) (b : Mark) (xs : List Row) (r : Row) (late : n ≤ behind b + length xs) (m k : Windows)
+    (takes : Takes q t c (after_rows b xs r) (lefts_of (frame q) t c (placed_after b xs)) (rights_of (frame q) t c (placed_after b xs)) m k) where
+  abbrev x : Placed
+  x = after_rows b xs r
+
+  abbrev first : ℕ
+  first = first_window (frame q) (after_rows b xs r)
+
+  abbrev past : ℕ
+  past = past_window (frame q) (after_rows b xs r)
+
+  abbrev chosen : ℕ → List Placed
+  chosen i = filter (has (frame q) i) (placed_after b xs)
+
+  abbrev changed : ℕ → Part → Part
+  changed i p = meeting q (standing (after_rows b xs r)) (filter (meets (key_in t r) (max (first_window (frame q) (after_rows b xs r)) c)) (lefts_of (frame q) t c (placed_after b xs))) (filter (meets (key_in t r) (max (first_window (frame q) (after_rows b xs r)) c)) (rights_of (frame q) t c (placed_after b xs))) i p
+
+  behind_them : n ≤ place (after_rows b xs r)
+  behind_them = let here = behind_after b xs in omega (arith, here, late)
+
+  -- a window that has the row gets its pairs
+  has_case : (i : ℕ) → c ≤ i → (h : Bool) → has (frame q) i (after_rows b xs r) ≡ h → cond h (changed i (pair_part q n (chosen i))) (pair_part q n (chosen i)) ≡ cond h (with_row q n (chosen i) (after_rows b xs r)) (pair_part q n (chosen i))
+  has_case i up true e = partners_met q t tie span fits c i up (max first c) (begun c i first past up (sym (span (frame q) fits i (after_rows b xs r)) ∙ e)) (after_rows b xs r) (pair_part q n (chosen i)) (placed_after b xs)
+  has_case i up false e = refl
+
+  step_case : (i : ℕ) (low : Bool) → nat_lt i c ≡ low → pairs_in m i ≡ cond low no_part (pair_part q n (chosen i)) → pairs_in k i ≡ cond low no_part (pair_part q n (filter (has (frame q) i) (placed_after b (xs ++ r ∷ []))))
+  step_case i true e h = takes.at i ∙ ap (λ d. cond d (changed i (pairs_in m i)) (pairs_in m i)) (low_case c i first past e) ∙ h
+  step_case i false e h =
+      takes.at i
+      ∙ ap (λ d. cond d (changed i (pairs_in m i)) (pairs_in m i)) (high_case c i first past e ∙ sym (span (frame q) fits i (after_rows b xs r)))
+      ∙ ap (λ p. cond (has (frame q) i (after_rows b xs r)) (changed i p) p) h
+      ∙ has_case i (not_low c i e) (has (frame q) i (after_rows b xs r)) refl
+      ∙ sym (get q n i b xs r behind_them)
+
+  pub row_taken : HasParts q c n b xs m → HasParts q c n b (xs ++ r ∷ []) k
+  row_taken h = record { at = λ i. step_case i (nat_lt i c) refl (h.at i) }
+
+-- ---- all of them
 
 pub part_is : (q : Tree) (b : Mark) (back rows : List Row) (i : ℕ) → q.shape ≡ Join → pair_part q (b.left + b.right + length back) (filter (has (frame q) i) (placed_after b (back ++ rows))) ≡ part_here q i b back rows
 unfolding part_here
 part_is q b back rows i e = sym (ap (λ s. by_shape s no_part (group_part q (passing q (filter (has (frame q) i) (placed_after (mark_after b back) rows)))) (pair_part q (b.left + b.right + length back) (filter (has (frame q) i) (placed_after b (back ++ rows))))) e)
 
-case_held : NoRowsNoPart → WindowsGetPairs → (q : Tree) (t : Option Ends) → CanTie q.predicate t → (b : Mark) (back rows : List Row) (i : ℕ) → q.shape ≡ Join → (low : Bool) (m n : Held) → m ≡ cond low nothing (grown (frame q) (noted_by t) i nothing (placed_after b back)) → n ≡ cond low m (grown (frame q) (taken_by q t) i m (placed_after (mark_after b back) rows))
-    → n.part ≡ cond low no_part (part_here q i b back rows)
-case_held none get q t tie b back rows i s true m n e h = ap (λ k. k.part) (h ∙ e)
-case_held none get q t tie b back rows i s false m n e h =
-    let f = frame q in
-    let at = b.left + b.right + length back in
-    let same : length {A = Row} [] + length back ≡ length back = omega arith in
-    let all : behind b + (length {A = Row} [] + length back) ≤ at = omega (arith, same) in
-    let back_held : m ≡ held_of q t at i (placed_after b back) = e ∙ ap (λ k. grown f (noted_by t) i k (placed_after b back)) (held_none none q t at i b) ∙ noted_all none q t at i b [] back all in
-    let all_held : n ≡ held_of q t at i (placed_after b (back ++ rows)) = h ∙ ap (λ k. grown f (taken_by q t) i k (placed_after (mark_after b back) rows)) back_held ∙ taken_all get q t tie at i b back rows (omega arith) in
-    ap (λ k. k.part) all_held ∙ part_is q b back rows i s
-
--- what two loops over the rows leave
-pub task_held : NoRowsNoPart → WindowsGetPairs → (q : Tree) (t : Option Ends) → CanTie q.predicate t → (b : Mark) (back rows : List Row) (c : ℕ) (k m n : Windows) → q.shape ≡ Join → ((i : ℕ) → held_in k i ≡ nothing) → Grown (frame q) (noted_by t) c (placed_after b back) k m → Grown (frame q) (taken_by q t) c (placed_after (mark_after b back) rows) m n
-    → HoldsTask q c b back rows n
-task_held none get q t tie b back rows c k m n s empty g h = record {
-  at = λ i. case_held none get q t tie b back rows i s (nat_lt i c) (held_in m i) (held_in n i) (g.at i ∙ ap (λ x. cond (nat_lt i c) x (grown (frame q) (noted_by t) i x (placed_after b back))) (empty i)) (h.at i);
-}
+pub task_held : (q : Tree) (c : ℕ) (b : Mark) (back rows : List Row) (m : Windows) → q.shape ≡ Join → HasParts q c (b.left + b.right + length back) b (back ++ rows) m → HoldsTask q c b back rows m
+task_held q c b back rows m s h = record { at = λ i. h.at i ∙ ap (λ p. cond (nat_lt i c) no_part p) (part_is q b back rows i s) }

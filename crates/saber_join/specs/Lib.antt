@@ -1,6 +1,8 @@
 pub mod Found
 pub mod Rows
+pub mod Standing
 pub mod Shelves
+pub mod Linked
 pub mod Ties
 pub mod Adding
 pub mod Keeping

@@ -8,8 +8,8 @@ use Rattle.saber_plan.specs.declared.plans.Item.TheVariants.{Count, Sum, Min, Ma
 use Rattle.saber_plan.specs.Trees.{Tree}
 use Rattle.saber_plan.specs.Checked.{ExprFits}
 use Rattle.saber_plan.specs.Given.{IsRowOf}
-use Rattle.saber_plan.specs.Windows.{Placed}
 use Rattle.saber_eval.specs.Widths.{widths}
+use Rattle.saber_join.specs.Shelves.{Card}
 
 -- a row of one side
 pub record IsOn (q : Tree) (s : Side) (r : Row) : Type 0 where
@@ -17,8 +17,8 @@ pub record IsOn (q : Tree) (s : Side) (r : Row) : Type 0 where
   pub side : r.side ≡ s
 
 -- all are rows of one side
-abbrev pub AllOn : Tree → Side → List Placed → Type 0
-AllOn q s xs = AllByRecursion (λ (x : Placed). IsOn q s x.row) xs
+abbrev pub AllOn : Tree → Side → List Card → Type 0
+AllOn q s es = AllByRecursion (λ (e : Card). IsOn q s e.seen.row) es
 
 -- an item of a join, which can be worked out over a pair
 abbrev pub CanShow : List ℤ → List ℤ → Item → Type 0

@@ -1,50 +1,58 @@
--- Rows of one side of a window, by their keys; those of a key stand in the order in which they came.
-use Rattle.std.specs.Prelude.{◌≡◌, ℕ, List, [], ◌∷◌, ◌++◌, unwrap_or, Bool, true, false, Option, ℤ, refl}
-use Rattle.std.specs.Ordering.{int_cmp}
-use Rattle.std.specs.Coded.{Coded, code_by, coded×, coded_bool, coded_ℕ, coded_ℤ, coded_list, coded_option}
-use Rattle.std.specs.FinMap.{FinMap, get, insert, code}
-use Rattle.saber_plan.specs.declared.rows.Side.{Side}
-use Rattle.saber_plan.specs.declared.rows.Side.TheVariants.{Left, Right}
-use Rattle.saber_plan.specs.Windows.{Placed, by_side}
+-- Rows of one side of a task with their keys, and how they are linked by buckets of keys.
+use Rattle.std.specs.Prelude.{◌≡◌, ℕ, zero, suc, ◌*◌, ◌/◌, ◌%◌, ◌^◌, ◌<◌, max, List, [], ◌∷◌, ◌++◌, length, get_or, map, Bool, ◌&&◌, ◌==◌, if◌then◌else◌, nat_lt, Option, ℤ, pos, bit_and}
+use Rattle.std.specs.Int.{cast_unsigned, w64}
+use Rattle.std.specs.Ordering.{int_eq}
+use Rattle.std.specs.List.{AllByRecursion}
+use Rattle.saber_plan.specs.declared.rows.Side.TheVariants.{Left}
+use Rattle.saber_plan.specs.Windows.{Placed, Frame, by_side}
+use Rattle.saber_plan.specs.Needs.{first_window, past_window}
+use Rattle.saber_join.specs.Standing.{standing, behind_rows}
+use Rattle.saber_join.specs.Ties.{Ends, key_in}
 
-abbrev pub Shelf : Type 0
-Shelf = FinMap int_cmp (List Placed)
+-- a row with its key, and the windows that it lies in: those from `first` up to `past`
+pub record Card : Type 0 where
+  pub seen : Placed
+  pub key : ℤ
+  pub first : ℕ
+  pub past : ℕ
 
--- the rows with this key
-abbrev pub rows_at : Shelf → ℤ → List Placed
-rows_at m k = unwrap_or (get m k) []
+-- the card of a row, where windows below c don't count
+abbrev pub card_of : Frame → Option Ends → ℕ → Placed → Card
+card_of f t c x = record { seen = standing x; key = key_in t x.row; first = max (first_window f x) c; past = past_window f x }
 
--- with one row more under this key
-abbrev pub put : Shelf → ℤ → Placed → Shelf
-put m k x = insert m k (rows_at m k ++ x ∷ [])
+-- the same, where all is known
+abbrev pub card_with : ℤ → ℕ → ℕ → Placed → Card
+card_with k first past x = record { seen = x; key = k; first = first; past = past }
 
--- ---- a code, so that a type may have a shelf as its value
+-- the left and the right cards, and one more of its side
+abbrev pub lefts_with : Card → List Card → List Card
+lefts_with e es = by_side e.seen.row.side (es ++ e ∷ []) es
 
--- a row behind a mark: its side, its values, and the fields of the mark
-abbrev Fields : Type 0
-Fields = Bool × (List ℤ × (ℕ × (ℕ × (Option ℤ × Bool))))
+abbrev pub rights_with : Card → List Card → List Card
+rights_with e es = by_side e.seen.row.side es (es ++ e ∷ [])
 
-abbrev side_of : Bool → Side
-side_of true = Left
-side_of false = Right
+-- it has this key, and a window behind the first `low`
+abbrev pub meets : ℤ → ℕ → Card → Bool
+meets k low e = int_eq e.key k && nat_lt low e.past
 
-pub side_back : (s : Side) → side_of (by_side s true false) ≡ s
-side_back Left = refl
-side_back Right = refl
+-- one that stands nowhere
+abbrev pub no_card : Card
+no_card = record { seen = record { row = record { side = Left; values = [] }; before = behind_rows 0 }; key = pos 0; first = 0; past = 0 }
 
-abbrev to_fields : Placed → Fields
-to_fields x = (by_side x.row.side true false, (x.row.values, (x.before.left, (x.before.right, (x.before.last, x.before.ended)))))
+-- places of cards
+abbrev pub cards_at : List Card → List ℕ → List Card
+cards_at es found = map (λ i. get_or es i no_card) found
 
-abbrev from_fields : Fields → Placed
-from_fields f = record {
-  row = record { side = side_of f.0; values = f.1.0 };
-  before = record { left = f.1.1.0; right = f.1.1.1.0; last = f.1.1.1.1.0; ended = f.1.1.1.1.1 };
-}
+pub record Found (es chosen : List Card) (found : List ℕ) : Type 0 where
+  pub there : AllByRecursion (λ (i : ℕ). i < length es) found
+  pub are : cards_at es found ≡ chosen
 
-abbrev from_to : (x : Placed) → from_fields (to_fields x) ≡ x
-from_to x = λ i. record { row = record { side = side_back x.row.side i; values = x.row.values }; before = x.before }
+-- ---- buckets of keys
 
-abbrev pub coded_shelf : Coded Shelf
-coded_shelf =
-    let fields = coded× coded_bool (coded× (coded_list coded_ℤ) (coded× coded_ℕ (coded× coded_ℕ (coded× (coded_option coded_ℤ) coded_bool)))) in
-    code coded_ℤ (coded_list (code_by Fields fields to_fields from_fields from_to))
+abbrev pub bucket_of : ℕ → ℤ → ℕ
+bucket_of mask k = bit_and (cast_unsigned w64 k * 0x9E3779B97F4A7C15 % 2 ^ 64 / 2 ^ 48) mask
+
+-- of the first n keys the last that lies in a bucket, counted from 1 on; 0 where there is none
+abbrev pub last_in : ℕ → ℕ → List ℤ → ℕ → ℕ
+last_in mask b ks zero = 0
+last_in mask b ks (suc n) = if bucket_of mask (get_or ks n (pos 0)) == b then suc n else last_in mask b ks n

@@ -5,7 +5,6 @@ ghost use Rattle.saber_plan.specs.Needs.{is_closing, is_pending, is_opening};
 ghost use Rattle.saber_parts.specs.Entries.{entry, entry_if};
 ghost use Rattle.saber_join.specs.Entries.{lines_if, Gave};
 
-use crate::held::Opened;
 use crate::pairs::Pairs;
 use saber_fragment::Parts;
 use saber_parts::{Bounds, Gathered};
@@ -47,18 +46,13 @@ fn place(
 pub(crate) fn gather(
     alloc: Global,
     bounds: &Bounds,
-    windows: BTreeMap<u64, Opened>,
+    windows: BTreeMap<u64, Pairs>,
 ) -> Result<Gathered<Pairs>, NoMemory>
-    ensures { IfOk result (λ g. Gave bounds.now windows.entry.entries g.closing g.pending g.opening g.text.items) }
+    ensures { IfOk result (λ g. Gave bounds.now windows.entries g.closing g.pending g.opening g.text.items) }
 {
     let mut gathered = Gathered::new(alloc);
-    for (window, held) in windows {
-        place(
-            &mut gathered,
-            bounds.kind(window),
-            window,
-            held.into_pairs(),
-        )?;
+    for (window, pairs) in windows {
+        place(&mut gathered, bounds.kind(window), window, pairs)?;
     }
     Ok(gathered)
 }

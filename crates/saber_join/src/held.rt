@@ -1,42 +1,33 @@
-// What a task holds of one window.
-ghost use Rattle.std.specs.Prelude.{◌≡◌, ◌+◌, ◌^◌, ◌<◌, [], ◌∷◌, OnOk};
+// What a task holds.
+ghost use Rattle.std.specs.Prelude.{◌≡◌, ◌<◌, ◌≤◌, [], length, true, OnOk, IfOk};
+ghost use Rattle.std.specs.List.{AllByRecursion};
 ghost use Rattle.saber_plan.specs.declared.rows.Side.TheVariants as sides;
 ghost use Rattle.saber_plan.specs.Trees.{tree_of};
+ghost use Rattle.saber_plan.specs.Values as v;
 ghost use Rattle.saber_plan.specs.Answers.{pair_key};
 ghost use Rattle.saber_plan.specs.Given.{IsRowOf};
 ghost use Rattle.saber_join.specs.Rows.{IsOn, AllOn};
-ghost use Rattle.saber_join.specs.Shelves.{rows_at};
-ghost use Rattle.saber_join.specs.Adding.{with_rights, with_lefts};
-ghost use Rattle.saber_join.specs.Keeping.{nothing, noted, taken, HeldFits};
+ghost use Rattle.saber_join.specs.Shelves.{card_with, cards_at, lefts_with, rights_with};
+ghost use Rattle.saber_join.specs.Adding.{with_rights};
+ghost use Rattle.saber_join.specs.Open.{seen_parts, Changed, ChangedAt, MeetsAlike, MeetsLefts, MeetsRights, with_pair};
 
 use crate::join::Join;
 use crate::pairs::Pairs;
 use crate::seen::Seen;
 use crate::shelf::Shelf;
-use saber_flat::RowRef;
-use saber_plan::{Mark, NoMemory, Side};
+use saber_plan::{NoMemory, Side};
 use std::alloc::Global;
-use std::marker::Model;
+use std::collections::BTreeMap;
 
-/// The rows of one window so far, of each side by their keys, and the pairs found.
+/// The rows so far of each side that lie in windows that aren't closed, and the pairs found of each
+/// window.
 #[derive(Drop)]
-pub(crate) struct Opened<'a> {
-    lefts: Shelf<'a>,
-    rights: Shelf<'a>,
-    pairs: Pairs,
-}
-
-impl<'a> Model for Opened<'a> {
-    ghost use Rattle.std.specs.Coded.{codes};
-    ghost use Rattle.saber_plan.specs.Codes.{coded_part};
-    ghost use Rattle.saber_join.specs.Shelves.{coded_shelf};
-    ghost use Rattle.saber_join.specs.Keeping.{Held};
-
-    ghost Value = { Held };
-
-    ghost coded = { Prim.hlevel (codes, coded_part, coded_shelf) };
-
-    ghost view = { λ o. record { lefts = o.lefts; rights = o.rights; part = o.pairs } };
+pub(crate) struct Held<'a> {
+    pub(crate) lefts: Shelf<'a>,
+    pub(crate) rights: Shelf<'a>,
+    pub(crate) windows: BTreeMap<u64, Pairs>,
+    // the places of the rows that one row meets
+    pub(crate) found: Vec<usize>,
 }
 
 // The key of a pair: the places of its rows.
@@ -46,169 +37,191 @@ fn places(left: &Seen, right: &Seen) -> [i64; 2]
     [left.place(), right.place()]
 }
 
-// Adds a pair, if it passes.
+// Puts a pair that passes into a window.
+fn put_at(
+    alloc: Global,
+    join: &Join,
+    left: &Seen,
+    right: &Seen,
+    window: u64,
+    windows: &mut BTreeMap<u64, Pairs>,
+) -> Result<(), NoMemory>
+    requires left { IsOn (tree_of join.now) sides.Left left.now.row }
+    requires right { IsOn (tree_of join.now) sides.Right right.now.row }
+    requires passes { v.passes (tree_of join.now).predicate left.now.row.values right.now.row.values ≡ true }
+    ensures { OnOk result (ChangedAt (with_pair (tree_of join.now) left.now right.now window) window
+        (seen_parts windows.old.entries) (seen_parts windows.new.entries)) }
+{
+    join.has_windows();
+    let values = join.values(alloc, left.row(), right.row())?;
+    match windows.get_mut(&window) {
+        Some(pairs) => {
+            pairs.put(places(left, right), values)?;
+            Ok(())
+        }
+        None => {
+            let mut pairs = Pairs::empty(alloc);
+            pairs.put(places(left, right), values)?;
+            windows.insert(window, pairs)?;
+            Ok(())
+        }
+    }
+}
+
+// Adds a pair to each window from the one up to the other, if it passes.
 fn add_pair(
     alloc: Global,
     join: &Join,
     left: &Seen,
     right: &Seen,
-    pairs: &mut Pairs,
+    low: u64,
+    past: u64,
+    windows: &mut BTreeMap<u64, Pairs>,
 ) -> Result<(), NoMemory>
     requires left { IsOn (tree_of join.now) sides.Left left.now.row }
     requires right { IsOn (tree_of join.now) sides.Right right.now.row }
-    ensures { OnOk result (pairs.new ≡ with_rights (tree_of join.now) pairs.old left.now (right.now ∷ [])) }
+    ensures { OnOk result (Changed (with_pair (tree_of join.now) left.now right.now) low past (seen_parts windows.old.entries) (seen_parts windows.new.entries)) }
 {
-    join.has_windows();
-    if join.passes(left.row(), right.row()) {
-        let values = join.values(alloc, left.row(), right.row())?;
-        pairs.put(places(left, right), values)?;
+    if !join.passes(left.row(), right.row()) {
+        return Ok(());
+    }
+    for window in low..past {
+        put_at(alloc, join, left, right, window, windows)?;
     }
     Ok(())
 }
 
-// Adds the pairs of a left row with right rows.
-fn add_rights(
-    alloc: Global,
-    join: &Join,
-    left: &Seen,
-    rights: &[Seen],
-    pairs: &mut Pairs,
-) -> Result<(), NoMemory>
-    requires left { IsOn (tree_of join.now) sides.Left left.now.row }
-    requires rights { AllOn (tree_of join.now) sides.Right rights.now }
-    ensures { OnOk result (pairs.new ≡ with_rights (tree_of join.now) pairs.old left.now rights.now) }
-{
-    for right in rights {
-        add_pair(alloc, join, left, right, pairs)?;
-    }
-    Ok(())
-}
-
-// Adds the pairs of a right row with left rows.
-fn add_lefts(
-    alloc: Global,
-    join: &Join,
-    right: &Seen,
-    lefts: &[Seen],
-    pairs: &mut Pairs,
-) -> Result<(), NoMemory>
-    requires right { IsOn (tree_of join.now) sides.Right right.now.row }
-    requires lefts { AllOn (tree_of join.now) sides.Left lefts.now }
-    ensures { OnOk result (pairs.new ≡ with_lefts (tree_of join.now) pairs.old right.now lefts.now) }
-{
-    for left in lefts {
-        add_pair(alloc, join, left, right, pairs)?;
-    }
-    Ok(())
-}
-
-// Adds the pairs of a left row with the right rows that have its key.
+// Adds the pairs of a left row with right rows, those at these places, to each window that both lie
+// in.
 fn meet_rights(
     alloc: Global,
     join: &Join,
     left: &Seen,
-    key: i64,
+    low: u64,
+    past: u64,
     rights: &Shelf,
-    pairs: &mut Pairs,
+    found: &[usize],
+    windows: &mut BTreeMap<u64, Pairs>,
 ) -> Result<(), NoMemory>
     requires left { IsOn (tree_of join.now) sides.Left left.now.row }
-    requires rights { AllOn (tree_of join.now) sides.Right (rows_at rights.now key) }
-    ensures { OnOk result (pairs.new ≡ with_rights (tree_of join.now) pairs.old left.now (rows_at rights.now key)) }
+    requires rights { AllOn (tree_of join.now) sides.Right rights.now }
+    requires there { AllByRecursion (λ i. i < length rights.now) found.now }
+    ensures { OnOk result (MeetsRights (tree_of join.now) left.now (cards_at rights.now found.now) low past windows.old.entries windows.new.entries) }
 {
-    match rights.rows_at(key) {
-        Some(rows) => {
-            add_pair(alloc, join, left, &rows.first, pairs)?;
-            add_rights(alloc, join, left, &rows.others, pairs)?;
-            Ok(())
-        }
-        None => Ok(()),
+    for i in found {
+        let right = rights.at(*i);
+        let from = low.max(right.first);
+        let to = past.min(right.past);
+        add_pair(alloc, join, left, &right.seen, from, to, windows)?;
     }
+    Ok(())
 }
 
-// Adds the pairs of a right row with the left rows that have its key.
+// Adds the pairs of a right row with left rows, those at these places, to each window that both lie
+// in.
 fn meet_lefts(
     alloc: Global,
     join: &Join,
     right: &Seen,
-    key: i64,
+    low: u64,
+    past: u64,
     lefts: &Shelf,
-    pairs: &mut Pairs,
+    found: &[usize],
+    windows: &mut BTreeMap<u64, Pairs>,
 ) -> Result<(), NoMemory>
     requires right { IsOn (tree_of join.now) sides.Right right.now.row }
-    requires lefts { AllOn (tree_of join.now) sides.Left (rows_at lefts.now key) }
-    ensures { OnOk result (pairs.new ≡ with_lefts (tree_of join.now) pairs.old right.now (rows_at lefts.now key)) }
+    requires lefts { AllOn (tree_of join.now) sides.Left lefts.now }
+    requires there { AllByRecursion (λ i. i < length lefts.now) found.now }
+    ensures { OnOk result (MeetsLefts (tree_of join.now) right.now (cards_at lefts.now found.now) low past windows.old.entries windows.new.entries) }
 {
-    match lefts.rows_at(key) {
-        Some(rows) => {
-            add_pair(alloc, join, &rows.first, right, pairs)?;
-            add_lefts(alloc, join, right, &rows.others, pairs)?;
-            Ok(())
-        }
-        None => Ok(()),
+    for i in found {
+        let left = lefts.at(*i);
+        let from = low.max(left.first);
+        let to = past.min(left.past);
+        add_pair(alloc, join, &left.seen, right, from, to, windows)?;
     }
+    Ok(())
 }
 
-impl<'a> Opened<'a> {
-    /// No row and no pair. Takes no memory.
-    pub(crate) fn new(alloc: Global) -> Opened<'a>
-        ensures { result ≡ nothing }
+impl<'a> Held<'a> {
+    /// No row and no pair, and room for so many rows of each side.
+    pub(crate) fn new(alloc: Global, rows: usize) -> Result<Held<'a>, NoMemory>
+        ensures lefts { IfOk result (λ h. h.lefts ≡ []) }
+        ensures rights { IfOk result (λ h. h.rights ≡ []) }
+        ensures windows { IfOk result (λ h. h.windows.entries ≡ []) }
     {
-        Opened {
-            lefts: Shelf::new(alloc),
-            rights: Shelf::new(alloc),
-            pairs: Pairs::empty(alloc),
-        }
-    }
-
-    /// The pairs found.
-    pub(crate) fn into_pairs(self) -> Pairs
-        ensures { result ≡ self.entry.part }
-    {
-        self.pairs
+        Ok(Held {
+            lefts: Shelf::new(alloc, rows)?,
+            rights: Shelf::new(alloc, rows)?,
+            windows: BTreeMap::new(alloc),
+            found: Vec::new(alloc),
+        })
     }
 
     /// Keeps a row that is looked back on, under its key.
     pub(crate) fn note(
         &mut self,
-        alloc: Global,
         key: i64,
-        row: &RowRef<'a>,
-        before: Mark,
+        first: u64,
+        past: u64,
+        seen: Seen<'a>,
     ) -> Result<(), NoMemory>
-        requires { before.left + before.right < 2 ^ 62 }
-        ensures { OnOk result (self.new ≡ noted key self.old (record { row = row.now; before = before })) }
+        ensures lefts { OnOk result (self.new.lefts ≡ lefts_with (card_with key first past seen.entry) self.old.lefts) }
+        ensures rights { OnOk result (self.new.rights ≡ rights_with (card_with key first past seen.entry) self.old.rights) }
+        ensures windows { OnOk result (self.new.windows.entries ≡ self.old.windows.entries) }
     {
-        match row.side() {
-            Side::Left => self.lefts.put(alloc, key, row, before)?,
-            Side::Right => self.rights.put(alloc, key, row, before)?,
+        match seen.row().side() {
+            Side::Left => self.lefts.put(key, first, past, seen)?,
+            Side::Right => self.rights.put(key, first, past, seen)?,
         }
         Ok(())
     }
 
-    /// Adds the pairs of a row of the task with the other side's rows before it that have its key,
-    /// and keeps it.
-    pub(crate) fn take(
+    /// Adds the pairs of a row of the task with the other side's rows before it that have its key, to
+    /// each window that both lie in.
+    pub(crate) fn meet(
         &mut self,
         alloc: Global,
         join: &Join,
         key: i64,
-        row: &RowRef<'a>,
-        before: Mark,
+        first: u64,
+        past: u64,
+        seen: &Seen,
     ) -> Result<(), NoMemory>
-        requires small { before.left + before.right < 2 ^ 62 }
-        requires row { IsRowOf (tree_of join.now) row.now }
-        requires held { HeldFits (tree_of join.now) self.old }
-        ensures { OnOk result (self.new ≡ taken (tree_of join.now) key self.old (record { row = row.now; before = before })) }
+        requires row { IsRowOf (tree_of join.now) seen.now.row }
+        requires lefts { AllOn (tree_of join.now) sides.Left self.old.lefts }
+        requires rights { AllOn (tree_of join.now) sides.Right self.old.rights }
+        ensures lefts { OnOk result (self.new.lefts ≡ self.old.lefts) }
+        ensures rights { OnOk result (self.new.rights ≡ self.old.rights) }
+        ensures windows { OnOk result (MeetsAlike (tree_of join.now) seen.now key first past self.old.lefts self.old.rights
+            self.old.windows.entries self.new.windows.entries) }
     {
-        let seen = Seen::new(row, before);
-        match row.side() {
+        match seen.row().side() {
             Side::Left => {
-                meet_rights(alloc, join, &seen, key, &self.rights, &mut self.pairs)?;
-                self.lefts.put(alloc, key, row, before)?;
+                self.rights.find(key, first, &mut self.found)?;
+                meet_rights(
+                    alloc,
+                    join,
+                    seen,
+                    first,
+                    past,
+                    &self.rights,
+                    &self.found,
+                    &mut self.windows,
+                )?;
             }
             Side::Right => {
-                meet_lefts(alloc, join, &seen, key, &self.lefts, &mut self.pairs)?;
-                self.rights.put(alloc, key, row, before)?;
+                self.lefts.find(key, first, &mut self.found)?;
+                meet_lefts(
+                    alloc,
+                    join,
+                    seen,
+                    first,
+                    past,
+                    &self.lefts,
+                    &self.found,
+                    &mut self.windows,
+                )?;
             }
         }
         Ok(())

@@ -1,5 +1,5 @@
 // A join and its windows.
-ghost use Rattle.std.specs.Prelude.{◌≡◌, ◌++◌, [], ◌∷◌, ◌≤◌, ◌^◌, map, OnOk, IfOk};
+ghost use Rattle.std.specs.Prelude.{◌≡◌, ◌++◌, [], ◌∷◌, ◌≤◌, ◌^◌, map, nat_lt, OnOk, IfOk};
 ghost use Rattle.std.specs.List.{AllByRecursion};
 ghost use Rattle.saber_plan.specs.declared.rows.Side.TheVariants as sides;
 ghost use Rattle.saber_plan.specs.declared.plans.Shape.TheVariants as shapes;
@@ -9,14 +9,14 @@ ghost use Rattle.saber_plan.specs.Checked.{IsChecked};
 ghost use Rattle.saber_plan.specs.Windows as w;
 ghost use Rattle.saber_plan.specs.Answers.{frame, item_value};
 ghost use Rattle.saber_plan.specs.Needs.{first_window, past_window};
-ghost use Rattle.saber_plan.specs.Given.{IsRowOf, RowsFit};
+ghost use Rattle.saber_plan.specs.Given.{IsRowOf};
 ghost use Rattle.saber_laws.specs.Plans.{TwoWindows};
 ghost use Rattle.saber_join.specs.Rows.{IsOn, CanShow};
 ghost use Rattle.saber_join.specs.Ties.{CanTie, narrow, key_in};
 
 use crate::ties::{Tie, tie_in};
 use saber_eval::{holds2, two_streams_fit, value2};
-use saber_flat::{RowRef, Rows};
+use saber_flat::RowRef;
 use saber_laws::{checked_fit, joins_have_two_windows};
 use saber_plan::{Item, Mark, NoMemory, Plan, Side};
 use saber_window::{Windows, stamps_fit, step_mark};
@@ -188,6 +188,16 @@ impl<'a> Join<'a> {
         self.windows.row_windows(row, before)
     }
 
+    /// Whether the last window that has the row, if any has it, is this one or a later one.
+    pub(crate) fn reaches(&self, window: u64, row: &RowRef, before: &Mark) -> bool
+        requires left { before.now.left ≤ 2 ^ 40 }
+        requires right { before.now.right ≤ 2 ^ 40 }
+        ensures { result ≡ nat_lt window (past_window (frame (tree_of self.now)) (record { row = row.now; before = before.now })) }
+    {
+        let _plan = &self.plan;
+        window < self.windows.past_window(row, before)
+    }
+
     /// How many windows are closed by the rows that a mark tells of.
     pub(crate) fn closed_below(&self, mark: &Mark) -> u64
         ensures { result ≡ w.closed_count (frame (tree_of self.now)) mark.now }
@@ -213,17 +223,5 @@ impl<'a> Join<'a> {
     {
         stamps_fit();
         step_mark(before, row)
-    }
-
-    /// The mark after some rows.
-    pub(crate) fn mark_over(&self, before: &Mark, rows: &Rows) -> Mark
-        requires { RowsFit (tree_of self.now) before.now rows.now }
-        ensures { result ≡ w.mark_after before.now rows.now }
-    {
-        let mut mark = *before;
-        for i in 0..rows.len() {
-            mark = self.step(&mark, &rows.row(i));
-        }
-        mark
     }
 }

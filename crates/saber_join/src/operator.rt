@@ -61,16 +61,15 @@ impl Operator for Join<'_> {
         let back = &draft.back;
         let rows = &draft.rows;
         let before = draft.before;
-        let last = self.mark_over(&before, rows);
-        let after = ending(draft.ended, &last);
+        let found = self.windows_of(alloc, &draft.first, &before, back, rows)?;
+        let after = ending(draft.ended, &found.1);
         let bounds = Bounds {
             begun_before: self.begun_below(&before),
             closed_after: self.closed_below(&after),
         };
-        let windows = self.windows_of(alloc, &draft.first, &before, back, rows)?;
         // That its windows rise, which the proof needs, is told by the length.
-        let _count = windows.len();
-        let gathered = gather(alloc, &bounds, windows)?;
+        let _count = found.0.len();
+        let gathered = gather(alloc, &bounds, found.0)?;
         Ok(gathered.into_piece(bounds.closed_after))
     }
 

@@ -1,26 +1,37 @@
-use Rattle.std.proofs.Common.{◌≡◌, ◌∙◌, sym, ap, true, false, map}
+use Rattle.std.proofs.Common.{◌+◌, ◌∙◌, sym, subst, arith}
 use Rattle.saber_plan.specs.Trees.{tree_of}
 use Rattle.saber_plan.specs.Values.{passes}
-use Rattle.saber_plan.specs.Answers.{item_value}
-use Rattle.saber_join.specs.Found.{numbers_with}
-use Rattle.saber_join.proofs.Sides.{numbers_are}
-use Rattle.saber_join.proofs.Adding.{pair_in, pair_out}
+use Rattle.saber_join.specs.Open.{seen_parts, Changed, with_pair}
+use Rattle.saber_join.proofs.Adding.{pair_out}
+use Rattle.saber_join.proofs.Changing.{range_empty, none_changed, one_changed, all_changed}
 use Rattle.saber_join.proofs.held.add_pair.Goals as goal
 
-pub returns-in_ok-put : goal.returns-in_ok-put
-returns-in_ok-put c =
-    let q = tree_of c.args.join.now in
-    let x = c.args.left.now in
-    let y = c.args.right.now in
-    let e : passes q.predicate x.row.values y.row.values ≡ true = sym (λ i. passes q.predicate (c.row.ensures i).values (c.row-2.ensures i).values) ∙ sym c.passes.ensures ∙ c.if-passes.true in
-    let vs = c.in_ok-values.values.items in
-    let shown : vs ≡ map (item_value x.row.values y.row.values) q.items = c.in_ok-values.ensures ∙ (λ i. map (item_value (c.row-then-passes.ensures i).values (c.row-then-passes-2.ensures i).values) q.items) in
-    c.in_ok-put.ensures ∙ pair_in q c.args.pairs.now x y c.places.result (numbers_with vs) e c.places.ensures (ap numbers_with shown ∙ numbers_are q c.has_windows.ensures.checked c.has_windows.ensures.join x.row.values y.row.values)
+pub loop-window-init : goal.loop-window-init
+loop-window-init c = record { changed = range_empty (with_pair (tree_of c.args.join.now) c.args.left.now c.args.right.now) c.args.low c.args.low (seen_parts c.args.windows.now.entries) (omega arith); within = omega arith }
 
-pub returns-else-passes : goal.returns-else-passes
-returns-else-passes c =
+pub put_at-requires-clause-passes : goal.put_at-requires-clause-passes
+put_at-requires-clause-passes c =
+    let q = tree_of c.args.join.now in
+    sym (λ i. passes q.predicate (c.row.ensures i).values (c.row-2.ensures i).values) ∙ sym c.passes.ensures ∙ c.if-not-passes.false
+
+pub loop-window-preserved : goal.loop-window-preserved
+loop-window-preserved c =
+    let f = with_pair (tree_of c.args.join.now) c.args.left.now c.args.right.now in
+    record {
+      changed = subst (Changed f c.args.low (c.loop-window.window + 1) (seen_parts c.args.windows.now.entries)) (sym c.in_ok-put_at.ensures)
+          (one_changed f c.args.low c.loop-window.window (seen_parts c.args.windows.now.entries) (seen_parts c.loop-window.windows.entries) (omega arith) c.loop-window.invariant.changed);
+      within = omega arith;
+    }
+
+pub returns : goal.returns
+returns c =
+    let f = with_pair (tree_of c.args.join.now) c.args.left.now c.args.right.now in
+    all_changed f c.args.low c.loop-window.window c.args.past (seen_parts c.args.windows.now.entries) (seen_parts c.loop-window.windows.entries) (omega arith) (omega arith) (λ l. omega arith) (λ l. omega arith) c.loop-window.invariant.changed
+
+pub returns-then-not-passes : goal.returns-then-not-passes
+returns-then-not-passes c =
     let q = tree_of c.args.join.now in
     let x = c.args.left.now in
     let y = c.args.right.now in
-    let e : passes q.predicate x.row.values y.row.values ≡ false = sym (λ i. passes q.predicate (c.row.ensures i).values (c.row-2.ensures i).values) ∙ sym c.passes.ensures ∙ c.if-passes.false in
-    pair_out q c.args.pairs.now x y e
+    let e = sym (λ i. passes q.predicate (c.row.ensures i).values (c.row-2.ensures i).values) ∙ sym c.passes.ensures ∙ c.if-not-passes.true in
+    none_changed (with_pair q x y) c.args.low c.args.past (seen_parts c.args.windows.now.entries) (λ i p. sym (pair_out q p x y e))

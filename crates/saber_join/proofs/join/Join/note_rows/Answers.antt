@@ -1,30 +1,31 @@
-use Rattle.std.proofs.Common.{◌≡◌, ◌<◌, ◌∙◌, length, get_or, sym, ap, refl, max, arith}
+use Rattle.std.proofs.Common.{◌≡◌, ◌<◌, ◌+◌, ◌∙◌, ◌++◌, [], ◌∷◌, length, get_or, take, sym, ap, refl, arith}
 use Rattle.std.proofs.lemmas.Option.{get_or_from_slice_get}
+use Rattle.std.proofs.lemmas.List.{take_more}
 use Rattle.saber_plan.specs.Trees.{tree_of}
-use Rattle.saber_plan.specs.Windows.{Placed, step_mark}
+use Rattle.saber_plan.specs.Windows.{step_mark}
 use Rattle.saber_plan.specs.Answers.{frame}
 use Rattle.saber_plan.specs.RowFacts.{left_small, right_small, mark_more, row_at}
-use Rattle.saber_join.specs.Keeping.{Held, noted, noted_by}
-use Rattle.saber_join.specs.Open.{seen_held}
-use Rattle.saber_join.specs.Ties.{key_in}
-use Rattle.saber_join.proofs.Holding.{noted_fits}
-use Rattle.saber_join.proofs.Changing.{changed_fits}
-use Rattle.saber_join.proofs.Growing.{no_rows_grown, small_at, grow_step}
+use Rattle.saber_join.proofs.Holding.{lefts_none, rights_none, lefts_push, rights_push}
 use Rattle.saber_join.proofs.join.Join.note_rows.Goals as goal
 
 pub loop-i-init : goal.loop-i-init
 loop-i-init c =
-    let q = tree_of c.args.self.now in
-    record { mark = refl; grown = no_rows_grown (frame q) (noted_by c.args.tie.now) c.args.closed c.args.before.now (seen_held c.args.windows.now.entries); held = c.requires.held }
+    let f = frame (tree_of c.args.self.now) in
+    record { mark = refl; lefts = lefts_none f c.args.tie.now c.args.closed c.args.before.now c.args.held.now.lefts; rights = rights_none f c.args.tie.now c.args.closed c.args.before.now c.args.held.now.rights; windows = refl }
 
-pub row_windows-first-requires-clause-left : goal.row_windows-first-requires-clause-left
-row_windows-first-requires-clause-left c = left_small (tree_of c.args.self.now) c.args.before.now c.loop-i.mark c.args.rows.now c.loop-i.i c.requires.fits c.loop-i.invariant.mark
+pub note_row-requires-clause-left : goal.note_row-requires-clause-left
+note_row-requires-clause-left c = left_small (tree_of c.args.self.now) c.args.before.now c.loop-i.mark c.args.rows.now c.loop-i.i c.requires.fits c.loop-i.invariant.mark
 
-pub row_windows-first-requires-clause-right : goal.row_windows-first-requires-clause-right
-row_windows-first-requires-clause-right c = right_small (tree_of c.args.self.now) c.args.before.now c.loop-i.mark c.args.rows.now c.loop-i.i c.requires.fits c.loop-i.invariant.mark
+pub note_row-requires-clause-right : goal.note_row-requires-clause-right
+note_row-requires-clause-right c = right_small (tree_of c.args.self.now) c.args.before.now c.loop-i.mark c.args.rows.now c.loop-i.i c.requires.fits c.loop-i.invariant.mark
 
-pub note_row-requires-clause-small : goal.note_row-requires-clause-small
-note_row-requires-clause-small c = small_at (tree_of c.args.self.now) c.args.before.now c.args.rows.now c.loop-i.i c.loop-i.mark c.requires.fits c.loop-i.invariant.mark
+pub note_row-requires-clause-row : goal.note_row-requires-clause-row
+note_row-requires-clause-row c =
+    let k = c.loop-i.i in
+    let r = c.row-row.result in
+    let rows = c.args.rows.now in
+    let below : k < length rows = omega (arith, c.loop-i-test.true) in
+    row_at (tree_of c.args.self.now) c.args.before.now rows k r below (sym (get_or_from_slice_get rows k r r (sym c.row-row.ensures))) c.requires.fits
 
 pub step-mark-requires-clause-left : goal.step-mark-requires-clause-left
 step-mark-requires-clause-left c = left_small (tree_of c.args.self.now) c.args.before.now c.loop-i.mark c.args.rows.now c.loop-i.i c.requires.fits c.loop-i.invariant.mark
@@ -32,22 +33,30 @@ step-mark-requires-clause-left c = left_small (tree_of c.args.self.now) c.args.b
 pub step-mark-requires-clause-right : goal.step-mark-requires-clause-right
 step-mark-requires-clause-right c = right_small (tree_of c.args.self.now) c.args.before.now c.loop-i.mark c.args.rows.now c.loop-i.i c.requires.fits c.loop-i.invariant.mark
 
+pub step-mark-requires-clause-row : goal.step-mark-requires-clause-row
+step-mark-requires-clause-row c =
+    let k = c.loop-i.i in
+    let r = c.row-row.result in
+    let rows = c.args.rows.now in
+    let below : k < length rows = omega (arith, c.loop-i-test.true) in
+    row_at (tree_of c.args.self.now) c.args.before.now rows k r below (sym (get_or_from_slice_get rows k r r (sym c.row-row.ensures))) c.requires.fits
+
 pub loop-i-preserved : goal.loop-i-preserved
 loop-i-preserved c =
-    let q = tree_of c.args.self.now in
+    let f = frame (tree_of c.args.self.now) in
+    let t = c.args.tie.now in
+    let n = c.args.closed in
+    let b = c.args.before.now in
     let k = c.loop-i.i in
     let r = c.row-row.result in
     let rows = c.args.rows.now in
     let below : k < length rows = omega (arith, c.loop-i-test.true) in
     let at : get_or rows k r ≡ r = get_or_from_slice_get rows k r r (sym c.row-row.ensures) in
-    let is = sym at in
-    let x : Placed = record { row = r; before = c.loop-i.mark } in
-    let low : c.max-low.result ≡ max c.row_windows-first.result.0 c.args.closed = c.max-low.ensures in
-    let z = key_in c.args.tie.now r in
-    let row = row_at q c.args.before.now rows k r below is c.requires.fits in
+    let more : take (k + 1) rows ≡ take k rows ++ r ∷ [] = take_more rows k r below ∙ ap (λ z. take k rows ++ z ∷ []) at in
+    let h = c.loop-i.invariant in
     record {
-      mark = c.step-mark.ensures ∙ ap (λ m. step_mark m r) c.loop-i.invariant.mark ∙ sym (mark_more c.args.before.now rows k r below is);
-      grown = grow_step c.rows_span.ensures (frame q) c.has_windows.ensures.fits (noted_by c.args.tie.now) c.args.closed c.args.before.now rows k r c.loop-i.mark c.row_windows-first.result.0 c.row_windows-first.result.1 c.max-low.result (seen_held c.args.windows.now.entries) (seen_held c.loop-i.windows.entries) (seen_held c.note_row.new.windows.entries)
-          below is c.loop-i.invariant.mark c.row_windows-first.ensures.first c.row_windows-first.ensures.past low c.loop-i.invariant.grown c.in_ok-note_row.ensures;
-      held = changed_fits q (λ (h : Held). noted z h x) c.max-low.result c.row_windows-first.result.1 (seen_held c.loop-i.windows.entries) (seen_held c.note_row.new.windows.entries) (λ (h : Held) k. noted_fits q z h x row k) c.in_ok-note_row.ensures c.loop-i.invariant.held;
+      mark = c.step-mark.ensures ∙ ap (λ m. step_mark m r) h.mark ∙ sym (mark_more b rows k r below (sym at));
+      lefts = lefts_push f t n b (take k rows) (take (k + 1) rows) r c.loop-i.mark h.mark more c.args.held.now.lefts c.loop-i.held.lefts c.note_row.new.held.lefts h.lefts c.in_ok-note_row.ensures.lefts;
+      rights = rights_push f t n b (take k rows) (take (k + 1) rows) r c.loop-i.mark h.mark more c.args.held.now.rights c.loop-i.held.rights c.note_row.new.held.rights h.rights c.in_ok-note_row.ensures.rights;
+      windows = c.in_ok-note_row.ensures.windows ∙ h.windows;
     }
