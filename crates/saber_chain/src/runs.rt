@@ -88,7 +88,8 @@ fn run_both<
             requires sizes { SizesFit sizes.now }
             requires same { job.sizes.now ≡ sizes.now }
             requires new { waiting feed ≡ taken feed }
-            ensures { RunsBoth S.left S.faults K.written K.faults (tree_of job.entry.plan.now) (tree_of second.entry.now) sizes.entry.now job.entry.inputs sink result }
+            ensures { RunsBoth S.left S.faults K.written K.faults (tree_of job.entry.plan.now) (tree_of second.entry.now) sizes.entry.now
+                job.entry.inputs sink result }
         {
             let promise = FirstPromise {
                 plan: Snapshot::of(job.plan),

@@ -36,6 +36,10 @@ pub record HasPlans (files : Contents) (a : AskedChain) (p q : Tree) : Type 0 wh
   pub first : IsPlanned files a.first p
   pub second : IsPlanned files a.second q
 
+-- where files tell
+abbrev pub HasPlansTold : Option Told → AskedChain → Tree → Tree → Type 0
+HasPlansTold told a p q = IfSome told (λ t. HasPlans t.contents a p q)
+
 -- The first one's lines begin with the number of their window, so it is no selection; and they are one stream, so the second one is no join.
 pub record IsChainable (p q : Tree) : Type 0 where
   pub has_windows : p.shape ≢ Select

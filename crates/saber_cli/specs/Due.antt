@@ -113,6 +113,10 @@ pub record AsksFor (asked : AskedRun) (n ring : ℕ) (flush : Bool) : Type 0 whe
   pub cells : ring ≡ asked.ring
   pub closes : flush ≡ asked.flush
 
+-- the run's query names so many streams, and the command another number of row files
+abbrev pub IsUnlike : Contents → AskedRun → ℕ → ℕ → Type 0
+IsUnlike files r streams given = (q : Tree) × HasRun files r q × (length q.streams ≡ streams) × (length (row_names r) ≡ given) × (streams ≢ given)
+
 -- What is due for a command that is no chain; of a chain see Chained.
 abbrev pub IsDueFor : Contents → Asked → Due → Type 0
 IsDueFor files c usage = ⊥
@@ -124,7 +128,7 @@ IsDueFor files (run r) (faulty byte cause) = IsFaulty files r.query byte cause
 IsDueFor files (check c) (faulty byte cause) = IsFaulty files c.query byte cause
 IsDueFor files (demo d) (faulty byte cause) = ⊥
 IsDueFor files (chain a) (faulty byte cause) = ⊥
-IsDueFor files (run r) (unlike streams given) = (q : Tree) × HasRun files r q × (length q.streams ≡ streams) × (length (row_names r) ≡ given) × (streams ≢ given)
+IsDueFor files (run r) (unlike streams given) = IsUnlike files r streams given
 IsDueFor files (check r) (unlike streams given) = ⊥
 IsDueFor files (demo d) (unlike streams given) = ⊥
 IsDueFor files (chain a) (unlike streams given) = ⊥

@@ -1,5 +1,5 @@
 -- How runs end, as the engine and as the command tell it.
-use Rattle.std.specs.Prelude.{Bool, true, false, ◌≡◌, ℕ}
+use Rattle.std.specs.Prelude.{Bool, true, false, ◌≡◌, ℕ, List}
 use Rattle.saber_plan.specs.declared.rows.Side.{Side}
 use Rattle.saber_plan.specs.declared.rows.Side.TheVariants as sides
 use Rattle.saber_plan.specs.Rows.{Read}
@@ -8,6 +8,7 @@ use Rattle.saber_plan.specs.Tasks.{run_input}
 use Rattle.saber_engine.specs.declared.ends.RunEnd.{RunEnd}
 use Rattle.saber_engine.specs.declared.ends.RunEnd.TheVariants as ends
 use Rattle.saber_engine.specs.Gives.{EndsAs}
+use Rattle.saber_engine.specs.Sources.{RoseAt}
 use Rattle.saber_notes.specs.declared.outcome.InputFile.{InputFile}
 use Rattle.saber_notes.specs.declared.outcome.InputFile.TheVariants.{Left, Right}
 use Rattle.saber_notes.specs.declared.outcome.Outcome.{Outcome}
@@ -45,6 +46,10 @@ chained_as ring first (ends.Bad side line cause) stopped = unless_cut ring first
 chained_as ring first ends.AllRead stopped = ended_as ring first
 chained_as ring first (ends.ReadFault side) stopped = ended_as ring first
 chained_as ring first (ends.TooWide task need) stopped = ended_as ring first
+
+-- a fault of reading is told of a side only where that side's count of faults rose
+abbrev pub ReadFaultsRose : Outcome → List ℕ → List ℕ → Type 0
+ReadFaultsRose o old new = (side : Side) → o ≡ ReadFault (file_on side) → RoseAt side old new
 
 -- The end of a run that an outcome tells. One that tells nothing of the rows and the tasks is like want of memory in this.
 abbrev pub end_of : Outcome → RunEnd

@@ -1,8 +1,9 @@
 -- What a command gives over files that tell their contents.
-use Rattle.std.specs.Prelude.{ℕ, List}
+use Rattle.std.specs.Prelude.{ℕ, List, Option, IfSome}
+use Rattle.saber_io.specs.Outside.{Told}
 use Rattle.saber_words.specs.Commands.{Asked}
 use Rattle.saber_notes.specs.declared.outcome.Outcome.{Outcome}
-use Rattle.saber_cli.specs.Due.{Contents, Due, IsDueFor, IsDue}
+use Rattle.saber_cli.specs.Due.{AreNoChain, Contents, Due, IsDueFor, IsDue}
 use Rattle.saber_cli.specs.Causes.{HasCause, Allows}
 use Rattle.saber_cli.specs.Puts.{PutsOut}
 
@@ -17,3 +18,7 @@ pub record Answers (words : List (List ℕ)) (files : Contents) (o : Outcome) (t
   pub cause : HasCause (IsDue words files) o
   pub allows : (d : Due) → IsDue words files d → Allows d o
   pub puts : (d : Due) → IsDue words files d → PutsOut d o tasks out
+
+-- of words that are no chain, where files tell
+abbrev pub AnswersTold : List (List ℕ) → Option Told → Outcome → ℕ → List ℕ → Type 0
+AnswersTold words told o tasks out = AreNoChain words → IfSome told (λ t. Answers words t.contents o tasks out)

@@ -1,15 +1,14 @@
 // A run over sources that are open.
 ghost use Rattle.std.specs.Prelude.{◌≡◌, ◌≢◌, ℕ, List, IfSome, length};
 ghost use Rattle.saber_io.specs.Outside.{Rose, appended};
-ghost use Rattle.saber_plan.specs.declared.rows.Side.{Side};
 ghost use Rattle.saber_plan.specs.Trees.{tree_of};
 ghost use Rattle.saber_plan.specs.Checked.{IsChecked};
 ghost use Rattle.saber_plan.specs.Sizes.{SizesFit};
-ghost use Rattle.saber_engine.specs.Sources.{each_input, told_by, RoseAt, NoneFell, GaveAll};
+ghost use Rattle.saber_engine.specs.Sources.{each_input, told_by, NoneFell, GaveAll};
 ghost use Rattle.saber_notes.specs.declared.outcome.Outcome.{Outcome};
 ghost use Rattle.saber_cli.specs.Outcomes.{IsClean, IsOfRun};
 ghost use Rattle.saber_cli.specs.Uses.{IsOpened};
-ghost use Rattle.saber_cli.specs.Endings.{ended_as, file_on};
+ghost use Rattle.saber_cli.specs.Endings.{ReadFaultsRose, ended_as, file_on};
 ghost use Rattle.saber_cli.specs.Answered.{AnsweredOver};
 ghost use Rattle.saber_cli.specs.Taken.{CutLeavesWhole};
 
@@ -75,7 +74,7 @@ pub(crate) fn answer<S: Source, K: Sink + Send, G: Gate + Sync, R: Threads + Wai
     ensures opened { IsOpened result.outcome }
     ensures taken { CutLeavesWhole (tree_of plan.now) sizes.now result.outcome result.tasks (each_input S.left inputs.old) (each_input S.left inputs.new) }
     ensures takes { (taken : List (List ℕ)) × GaveAll (each_input S.left inputs.old) taken (each_input S.left inputs.new) }
-    ensures read { (side : Side) → result.outcome ≡ Outcome.ReadFault (file_on side) → RoseAt side (each_input S.faults inputs.old) (each_input S.faults inputs.new) }
+    ensures read { ReadFaultsRose result.outcome (each_input S.faults inputs.old) (each_input S.faults inputs.new) }
     ensures reads { NoneFell (each_input S.faults inputs.old) (each_input S.faults inputs.new) }
     ensures read_good { IsClean result.outcome → each_input S.faults inputs.new ≡ each_input S.faults inputs.old }
     ensures write { result.outcome ≡ Outcome.WriteFault → Rose (K.faults sink) (K.faults result.sink) }

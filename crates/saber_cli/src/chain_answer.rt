@@ -1,16 +1,15 @@
 // A chain over sources that are open.
 ghost use Rattle.std.specs.Prelude.{◌≡◌, ◌≢◌, ℕ, List, length, false};
 ghost use Rattle.saber_io.specs.Outside.{Rose};
-ghost use Rattle.saber_plan.specs.declared.rows.Side.{Side};
 ghost use Rattle.saber_plan.specs.Trees.{tree_of};
 ghost use Rattle.saber_plan.specs.Checked.{IsChecked};
 ghost use Rattle.saber_plan.specs.Sizes.{SizesFit};
 ghost use Rattle.saber_engine.specs.declared.ends.RunEnd.{RunEnd};
-ghost use Rattle.saber_engine.specs.Sources.{each_input, told_by, RoseAt, GaveAll};
+ghost use Rattle.saber_engine.specs.Sources.{each_input, told_by, GaveAll};
 ghost use Rattle.saber_notes.specs.declared.outcome.Outcome.{Outcome};
 ghost use Rattle.saber_cli.specs.Outcomes.{IsClean, IsOfChain};
 ghost use Rattle.saber_cli.specs.Uses.{IsOpened};
-ghost use Rattle.saber_cli.specs.Endings.{chained_as, file_on, unless_cut};
+ghost use Rattle.saber_cli.specs.Endings.{ReadFaultsRose, chained_as, unless_cut};
 ghost use Rattle.saber_cli.specs.Chained.{RunsChain};
 
 use crate::answer::outcome_of;
@@ -95,7 +94,7 @@ pub(crate) fn answer_chain<
     ensures kinds { IsOfChain result.outcome }
     ensures opened { IsOpened result.outcome }
     ensures takes { (taken : List (List ℕ)) × GaveAll (each_input S.left inputs) taken (each_input S.left result.inputs) }
-    ensures read { (side : Side) → result.outcome ≡ Outcome.ReadFault (file_on side) → RoseAt side (each_input S.faults inputs) (each_input S.faults result.inputs) }
+    ensures read { ReadFaultsRose result.outcome (each_input S.faults inputs) (each_input S.faults result.inputs) }
     ensures read_good { IsClean result.outcome → each_input S.faults result.inputs ≡ each_input S.faults inputs }
     ensures write { result.outcome ≡ Outcome.WriteFault → Rose (K.faults sink) (K.faults result.sink) }
     ensures write_good { result.outcome ≢ Outcome.WriteFault → K.faults result.sink ≡ K.faults sink }

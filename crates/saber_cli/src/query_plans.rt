@@ -8,7 +8,7 @@ ghost use Rattle.saber_notes.specs.declared.outcome.InputFile.{InputFile};
 ghost use Rattle.saber_cli.specs.Outcomes.{IsClean, IsFileFault, IsOfPlan, IsOfPlans};
 ghost use Rattle.saber_cli.specs.Due.{IsLike, first_run, row_names};
 ghost use Rattle.saber_cli.specs.Uses.{Uses, KeepsFaults, outcome_of};
-ghost use Rattle.saber_cli.specs.Chained.{HasPlans, HasReason, IsChainable, IsPlanned};
+ghost use Rattle.saber_cli.specs.Chained.{HasPlansTold, HasReason, IsChainable, IsPlanned};
 ghost use Rattle.saber_cli.specs.ChainLeaves.{LeavesChain};
 ghost use Rattle.saber_cli.specs.Chaining.{BothRead, IsMisfit, LacksPlan, as_second};
 
@@ -97,7 +97,7 @@ pub(crate) fn chain_plans<F: Files>(
     files: &mut F,
     command: &Chain<'_>,
 ) -> Result<Plans, Outcome>
-    ensures plans { IfOk result (λ plans. IfSome (F.told files.old) (λ t. HasPlans t.contents (asked_chain command.now) (tree_of plans.first) (tree_of plans.second))) }
+    ensures plans { IfOk result (λ plans. HasPlansTold (F.told files.old) (asked_chain command.now) (tree_of plans.first) (tree_of plans.second)) }
     ensures first { IfOk result (λ plans. IsChecked (tree_of plans.first)) }
     ensures second { IfOk result (λ plans. IsChecked (tree_of plans.second)) }
     ensures chains { IfOk result (λ plans. IsChainable (tree_of plans.first) (tree_of plans.second)) }

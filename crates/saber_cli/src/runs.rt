@@ -42,7 +42,8 @@ pub(crate) fn run_rows<F: Files, K: Sink + Send, G: Gate + Sync, R: Threads + Wa
     ensures early { IsBeforeRun result.outcome → (result.tasks ≡ 0) × (result.sink ≡ sink) }
     ensures kinds { IsOfRun result.outcome }
     ensures uses { UsesRows (row_names (asked_run command.now)) result.outcome (F.told files.old) (F.told files.new) }
-    ensures taken { CutTakesRows (tree_of plan.now) sizes.now result.outcome result.tasks (row_names (asked_run command.now)) (F.told files.old) (F.told files.new) }
+    ensures taken { CutTakesRows (tree_of plan.now) sizes.now result.outcome result.tasks (row_names (asked_run command.now))
+        (F.told files.old) (F.told files.new) }
     ensures cause { IsFileFault result.outcome → Rose (F.faults files.old) (F.faults files.new) }
     ensures count { KeepsFaults (F.faults files.old) (F.faults files.new) }
     ensures read_good { IsClean result.outcome → F.faults files.new ≡ F.faults files.old }

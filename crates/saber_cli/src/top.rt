@@ -1,5 +1,5 @@
 // The top call.
-ghost use Rattle.std.specs.Prelude.{◌≡◌, ◌≢◌, ◌≤◌, ℕ, List, IfSome, None, Some, map};
+ghost use Rattle.std.specs.Prelude.{◌≡◌, ◌≢◌, ◌≤◌, ℕ, List, None, Some, map};
 ghost use Rattle.saber_io.specs.Outside.{Rose, appended, AppendsPrefix};
 ghost use Rattle.saber_words.specs.Commands.{chain, command_of};
 ghost use Rattle.saber_words.specs.Chain.{AskedChain};
@@ -7,8 +7,8 @@ ghost use Rattle.saber_notes.specs.Notes.{status_of, note_of};
 ghost use Rattle.saber_notes.specs.declared.outcome.Outcome.{Outcome};
 ghost use Rattle.saber_notes.specs.declared.note.Noted.{Noted};
 ghost use Rattle.saber_cli.specs.Outcomes.{IsClean, IsFileFault, IsBeforeRun, IsOfSecond};
-ghost use Rattle.saber_cli.specs.Due.{AreNoChain, IfRun, IfDemo, IfChain, IfPlain};
-ghost use Rattle.saber_cli.specs.Gives.{Answers};
+ghost use Rattle.saber_cli.specs.Due.{IfRun, IfDemo, IfChain, IfPlain};
+ghost use Rattle.saber_cli.specs.Gives.{AnswersTold};
 ghost use Rattle.saber_cli.specs.Chained.{AnswersChain};
 ghost use Rattle.saber_cli.specs.ChainLeaves.{LeavesChain};
 ghost use Rattle.saber_cli.specs.Leaves.{LeavesTold};
@@ -61,7 +61,7 @@ where
 
     // What goes out is the text of the first tasks' rows, the outcome has its cause, and is one that what is due allows. Of a chain see `chained`.
     ensures answers { (out : List ℕ) × (K.written result.sink ≡ appended (K.written sink) out)
-        × (AreNoChain (map (λ word. word.now) words.now) → IfSome (F.told files.old) (λ t. Answers (map (λ word. word.now) words.now) t.contents result.outcome result.tasks out)) }
+        × AnswersTold (map (λ word. word.now) words.now) (F.told files.old) result.outcome result.tasks out }
     ensures before { IsBeforeRun result.outcome → (result.tasks ≡ 0) × (result.sink ≡ sink) }
 
     // A run over generated rows tells its summary, whatever files there are: of the seed and the number of rows alone.

@@ -1,12 +1,12 @@
 // The command that the words are, over its files.
-ghost use Rattle.std.specs.Prelude.{◌≡◌, ◌≢◌, ℕ, List, IfSome, None, Some, map};
+ghost use Rattle.std.specs.Prelude.{◌≡◌, ◌≢◌, ℕ, List, None, Some, map};
 ghost use Rattle.saber_io.specs.Outside.{Rose, appended};
 ghost use Rattle.saber_words.specs.Commands.{chain, command_of};
 ghost use Rattle.saber_words.specs.Chain.{AskedChain};
 ghost use Rattle.saber_notes.specs.declared.outcome.Outcome.{Outcome};
 ghost use Rattle.saber_cli.specs.Outcomes.{IsClean, IsFileFault, IsBeforeRun, IsOfSecond};
-ghost use Rattle.saber_cli.specs.Due.{AreNoChain, IfRun, IfDemo, IfChain, IfPlain};
-ghost use Rattle.saber_cli.specs.Gives.{Answers};
+ghost use Rattle.saber_cli.specs.Due.{IfRun, IfDemo, IfChain, IfPlain};
+ghost use Rattle.saber_cli.specs.Gives.{AnswersTold};
 ghost use Rattle.saber_cli.specs.Chained.{AnswersChain};
 ghost use Rattle.saber_cli.specs.ChainLeaves.{LeavesChain};
 ghost use Rattle.saber_cli.specs.Leaves.{LeavesTold};
@@ -48,7 +48,7 @@ pub(crate) fn run_words<F: Files, K: Sink + Send + Drop, G: Gate + Sync, R: Thre
 where
     F::Src: Send + Drop,
     ensures written { (out : List ℕ) × (K.written result.sink ≡ appended (K.written sink) out)
-        × (AreNoChain (map (λ word. word.now) words.now) → IfSome (F.told files.old) (λ t. Answers (map (λ word. word.now) words.now) t.contents result.outcome result.tasks out)) }
+        × AnswersTold (map (λ word. word.now) words.now) (F.told files.old) result.outcome result.tasks out }
     ensures chained { IfChain (map (λ word. word.now) words.now)
         (λ a. AnswersChain a result.outcome result.tasks (F.told files.old) (K.written sink) (K.written result.sink)) }
     ensures second { IsOfSecond result.outcome → (a : AskedChain) × (command_of (map (λ word. word.now) words.now) ≡ Some (chain a)) }

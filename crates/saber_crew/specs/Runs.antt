@@ -1,5 +1,5 @@
 -- What a run leaves.
-use Rattle.std.specs.Prelude.{◌≡◌, ◌≢◌, ◌≤◌, ℕ, ◌+◌, Bool, false, Option, Some, None}
+use Rattle.std.specs.Prelude.{◌≡◌, ◌≢◌, ◌≤◌, ℕ, ◌+◌, Bool, false, Option, Some, None, IfSome}
 use Rattle.saber_ring.specs.Shows.{extra}
 use Rattle.saber_crew.specs.declared.feed.Fed.{Fed}
 use Rattle.saber_crew.specs.declared.feed.Over.TheVariants.{AllGiven, Stopped}
@@ -26,3 +26,7 @@ module _ {T S : Type 0} (is_told : T → ℕ → Type 0) (upto : T → ℕ → T
     pub stage_is : is_stage (upto told (k + extra stopped)) k stopped stage
     pub within : k + extra stopped ≤ fed.tasks
     pub runs : stopped ≡ false → (k ≡ fed.tasks) × (fed.over ≢ Stopped)
+
+  -- so it was over the data that are named, if some are
+  abbrev pub RunsOver : Option T → S → Fed → Type 0
+  RunsOver named stage fed = IfSome named (λ base. RunsTo base stage fed)

@@ -19,3 +19,8 @@ module _ {T R : Type 0} (is_told : T → ℕ → Type 0) (filled : T → R → T
   abbrev pub GivesAtLast : Result R Over → Type 0
   GivesAtLast (Ok rows) = GivesRows rows
   GivesAtLast (Err over) = given told d
+
+module _ {T R : Type 0} (is_told : T → ℕ → Type 0) (filled : T → R → T) (is_rows : T → ℕ → R → Type 0) (before now : T → ℕ → Type 0) where
+  -- the rows of the next task, or none, whatever was given before
+  abbrev pub GivesOn : Supplied R → Type 0
+  GivesOn supplied = (told : T) (d : ℕ) → before told d → Gives is_told filled is_rows now told d supplied

@@ -1,6 +1,6 @@
 //! A whole run.
-ghost use Rattle.std.specs.Prelude.{◌≡◌, ◌<◌, ◌≤◌, IfErr, IfOk, IfSome};
-ghost use Rattle.saber_crew.specs.Runs.{BeginsRun, RunsTo};
+ghost use Rattle.std.specs.Prelude.{◌≡◌, ◌<◌, ◌≤◌, IfErr, IfOk};
+ghost use Rattle.saber_crew.specs.Runs.{BeginsRun, RunsOver};
 
 use crate::crew::crew;
 use crate::feed::Fed;
@@ -41,7 +41,7 @@ where
     L::Draft: Send,
     requires begins { BeginsRun W.is_told W.is_stage (L.suits op.now) (P.has_given supply.old from.old) stage J.told }
     requires size { (0 < sizes.now.ring) × (sizes.now.ring ≤ 1024) }
-    ensures ended { IfOk result (λ r. IfSome J.told (λ told. RunsTo W.is_told W.upto W.is_stage (P.has_given supply.new from.new) (P.is_over supply.new) told r.0 r.1)) }
+    ensures ended { IfOk result (λ r. RunsOver W.is_told W.upto W.is_stage (P.has_given supply.new from.new) (P.is_over supply.new) J.told r.0 r.1) }
     ensures refused { IfErr result (λ back. (back ≡ stage) × (supply.new ≡ supply.old) × (from.new ≡ from.old)) }
 {
     let (ring, mut seat) = match Ring::<W>::new::<J>(alloc, sizes.ring, stage) {

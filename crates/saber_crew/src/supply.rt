@@ -1,6 +1,6 @@
 //! Where the tasks of a work come from.
 ghost use Rattle.std.specs.Prelude.{◌≡◌, ◌+◌, ◌<◌, ◌^◌, ◌≤◌, ℕ};
-ghost use Rattle.saber_crew.specs.Supplies.{Gives};
+ghost use Rattle.saber_crew.specs.Supplies.{GivesOn};
 
 use saber_core::Work;
 
@@ -29,6 +29,6 @@ pub trait Supply<W: Work> {
     /// The rows of the next task, if they are there.
     fn next(&mut self, from: &mut Self::From) -> Supplied<W::Rows>
         requires { (told : W.Told) × (d : ℕ) × has_given self.old from.old told d }
-        ensures gives { (told : W.Told) (d : ℕ) → has_given self.old from.old told d → Gives W.is_told W.filled W.is_rows (has_given self.new from.new) told d result }
+        ensures gives { GivesOn W.is_told W.filled W.is_rows (has_given self.old from.old) (has_given self.new from.new) result }
         ensures over { result ≡ Supplied.Over → is_over self.new };
 }

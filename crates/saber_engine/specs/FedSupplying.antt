@@ -35,7 +35,8 @@ pub record IsCounted (end : Option End) (before now : ℕ) : Type 0 where
 
 -- Of a feed with such a count when the run began, so many blocks were given, and the data have their rows. Once the blocks ended, the cutter
 -- tells their end, and until then the feed was not found cut off.
-pub record HasFed {O : Type 0} (plan : O → Tree) (s : Sizes) (before : ℕ) (v : FeedView) (c : FedCutter) (end : Option End) (told : Told O) (d : ℕ) : Type 0 where
+pub record HasFed {O : Type 0} (plan : O → Tree) (s : Sizes) (before : ℕ) (v : FeedView) (c : FedCutter) (end : Option End)
+    (told : Told O) (d : ℕ) : Type 0 where
   pub cuts : CutsFed (plan told.operator) s v.taken v.waiting v.mark c (input_of told)
   pub size : told.size ≡ s.task
   pub count : d ≡ task_count s.task (input_of told)

@@ -4,3 +4,4 @@ pub mod Grows
 pub mod Hands
 pub mod Lasts
 pub mod Queries
+pub mod Turns

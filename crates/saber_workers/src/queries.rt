@@ -3,8 +3,8 @@ ghost use Rattle.std.specs.Prelude.{◌≡◌, ℕ, false, None};
 ghost use Rattle.saber_ring.specs.Shows.{first_of_task};
 ghost use Rattle.saber_assembly.specs.declared.work.Told.{Told};
 ghost use Rattle.saber_assembly.specs.Works.{first_tasks, first_needed, IsBlockOf, IsPieceOf};
-ghost use Rattle.saber_workers.specs.Labors.{IsOwn, Begins, CanFeed, Feeds, CanFinish, Finishes};
-ghost use Rattle.saber_workers.specs.Queries.{Suits, HasBlocks, IsNextPiece, AbsorbsPiece};
+ghost use Rattle.saber_workers.specs.Labors.{IsOwn, Begins, CanFinish, Finishes};
+ghost use Rattle.saber_workers.specs.Queries.{Suits, HasBlocks, CanFeedBlock, FeedsBlock, IsNextPiece, AbsorbsPiece};
 
 use crate::labor::Labor;
 use saber_assembly::{Absorbed, SaberWork, Stage};
@@ -55,8 +55,8 @@ impl<O: Operator, K: Pour> Labor<SaberWork<O, K>> for O {
     }
 
     fn feed(&self, alloc: Global, draft: &mut O::Draft, block: &Block) -> bool
-        requires { CanFeed first_tasks (first_needed O.plan) (IsBlockOf O.plan) (Suits self.now) (HasBlocks O.plan O.has_seen self.now) draft.old block.now }
-        ensures { Feeds first_tasks (first_needed O.plan) (IsBlockOf O.plan) (Suits self.now) (HasBlocks O.plan O.has_seen self.now) draft.old block.now result draft.new }
+        requires { CanFeedBlock O.plan O.has_seen self.now draft.old block.now }
+        ensures { FeedsBlock O.plan O.has_seen self.now draft.old block.now result draft.new }
     {
         blocks_feed_tasks();
         let Ok(()) = Operator::feed(self, alloc, draft, block) else {

@@ -6,6 +6,7 @@ ghost use Rattle.saber_workers.specs.Seats.{IsFree, OfBase, SameSeat, StepsOn, n
 ghost use Rattle.saber_workers.specs.Grows.{Grows};
 ghost use Rattle.saber_workers.specs.Hands.{HoldsJob, IsInHand, is_empty};
 ghost use Rattle.saber_workers.specs.Lasts.{IsClaimed, LeavesNone};
+ghost use Rattle.saber_workers.specs.Turns.{WhereBusy, WhereClaimed, WhereRefused};
 
 use crate::blocks::{Gone, read_on};
 use crate::drive::drive;
@@ -152,9 +153,9 @@ pub fn turn_of_work<W: Work, L: Labor<W>, G: Gate>(
     ensures grows { Grows (view seat.old) (view seat.new) result.stopped }
 
     // Why no task was claimed, or its job waits: by the last step that was refused.
-    ensures busy { is_empty hand.old.held ≡ false → HasNoNew (cells ring.now) (view seat.old) (view seat.new) hand.old.cursor hand.new.cursor result.claimed result.held }
-    ensures got { is_empty hand.old.held ≡ true → result.claimed ≡ true → HasNext (cells ring.now) (view seat.old) (view seat.new) hand.old.cursor hand.new.cursor result.held }
-    ensures not { is_empty hand.old.held ≡ true → result.claimed ≡ false → HasNothing (cells ring.now) (view seat.old) (view seat.new) hand.old.cursor hand.new.cursor result.held }
+    ensures busy { WhereBusy (cells ring.now) (view seat.old) (view seat.new) hand.old hand.new result }
+    ensures got { WhereClaimed (cells ring.now) (view seat.old) (view seat.new) hand.old hand.new result }
+    ensures not { WhereRefused (cells ring.now) (view seat.old) (view seat.new) hand.old hand.new result }
     ensures last { is_empty hand.old.held ≡ true → IsClaimed hand.old.cursor (view seat.old).lead (view seat.new).own }
     ensures done { result.held ≡ None → ((view seat.new).job ≡ None) × (is_empty hand.new.held ≡ true) }
     ensures others { IfSome result.held (λ u. NotLast (view seat.old).lead) }
