@@ -9,6 +9,7 @@ pub mod Rising
 pub mod Weaving
 pub mod Adding
 pub mod Fitting
+pub mod Left
 pub mod Lined
 pub mod Counted
 mod Divisors

@@ -1,10 +1,12 @@
 -- Lines of groups, number by number.
-use Rattle.std.specs.Prelude.{ℕ, List, ◌∷◌, flat_map, map, ℤ, pos}
+use Rattle.std.specs.Prelude.{◌≡◌, ℕ, ◌-◌, ◌≤◌, ◌<◌, List, ◌∷◌, length, take, drop, get_or, flat_map, map, nat_abs, ℤ, pos}
 use Rattle.std.specs.FinMap.{entries}
 use Rattle.saber_plan.specs.declared.plans.Item.{Item}
 use Rattle.saber_plan.specs.Answers.{line}
 use Rattle.saber_plan.specs.Parts.{Part, Numbers, answers_of, join_numbers}
 use Rattle.saber_partial.specs.declared.layout.Layout.{Layout}
+use Rattle.saber_partial.specs.declared.unprinted.Ends.{Ends}
+use Rattle.saber_partial.specs.declared.unprinted.Unprinted.{Unprinted}
 use Rattle.saber_partial.specs.Flat.{entry_in}
 
 -- a line for each group's numbers
@@ -18,3 +20,25 @@ numbers_of p = map (λ e. e.1) (entries p)
 -- what the items ask of one group, of which two rows have the numbers
 abbrev pub answers_of_both : Layout → List Item → List ℤ → List ℤ → List ℤ
 answers_of_both l is xs ys = answers_of is (join_numbers (entry_in l xs).1 (entry_in l ys).1)
+
+-- the numbers from one place up to another
+abbrev pub between : ℕ → ℕ → List ℤ → List ℤ
+between a b xs = take (b - a) (drop a xs)
+
+-- what is still to be printed of a row
+abbrev pub left_of : Unprinted → List ℤ → Numbers
+left_of u xs = record {
+  count = nat_abs (get_or xs u.ends.count (pos 0));
+  sums = between u.sum u.ends.sums xs;
+  leasts = between u.least u.ends.leasts xs;
+  greatests = between u.greatest u.ends.greatests xs;
+  firsts = between u.first (length xs) xs;
+}
+
+-- a row has a count, and numbers as far as each kind goes
+pub record CanPrint (e : Ends) (xs : List ℤ) : Type 0 where
+  pub there : e.count < length xs
+  pub count : pos (nat_abs (get_or xs e.count (pos 0))) ≡ get_or xs e.count (pos 0)
+  pub sums : e.sums ≤ length xs
+  pub leasts : e.leasts ≤ length xs
+  pub greatests : e.greatests ≤ length xs

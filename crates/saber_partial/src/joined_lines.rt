@@ -34,10 +34,9 @@ fn write_both_cells(
     ensures ok { OnOk result (out.new.items ≡ out.old.items ++ cells (answers_of_both layout.now items.now row.now later.now)) }
     ensures behind { Behind out.old.items out.new.items }
 {
-    let mut unprinted = Unprinted::of_row(layout, row);
-    let mut others = Unprinted::of_row(layout, later);
+    let mut unprinted = Unprinted::of_layout(layout);
     for item in items {
-        let number = unprinted.next_of_both(&mut others, item);
+        let number = unprinted.next_of_both(row, later, item);
         write_cell(out, number)?;
     }
     Ok(())

@@ -26,9 +26,9 @@ fn write_cells(
     ensures ok { OnOk result (out.new.items ≡ out.old.items ++ cells (answers_of items.now (entry_in layout.now row.now).1)) }
     ensures behind { Behind out.old.items out.new.items }
 {
-    let mut unprinted = Unprinted::of_row(layout, row);
+    let mut unprinted = Unprinted::of_layout(layout);
     for item in items {
-        let number = unprinted.next(item);
+        let number = unprinted.next(row, item);
         write_cell(out, number)?;
     }
     Ok(())
