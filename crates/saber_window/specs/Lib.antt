@@ -2,3 +2,4 @@ pub mod Frames
 pub mod Points
 pub mod Laws
 pub mod Together
+pub mod Stretches

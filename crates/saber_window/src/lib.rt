@@ -5,6 +5,7 @@
 
 mod counts;
 mod frees;
+mod lately;
 mod laws;
 mod plan_windows;
 mod plans;
@@ -15,6 +16,7 @@ mod steps;
 mod windowed;
 
 pub use frees::free_of;
+pub use lately::Lately;
 pub use laws::{closed_within_begun, past_have_none, stamps_fit};
 pub use plan_windows::Windows;
 pub use plans::{begun_below, closed_below, kind_of};

@@ -8,7 +8,7 @@ ghost use Rattle.saber_plan.specs.Trees.{tree_of};
 ghost use Rattle.saber_plan.specs.Checked.{IsChecked, Pairs, WindowFits};
 
 use crate::{
-    Windows, begun_below, closed_below, ending, free_of, kind_of, mark_behind, step_mark,
+    Lately, Windows, begun_below, closed_below, ending, free_of, kind_of, mark_behind, step_mark,
     windows_of,
 };
 use saber_flat::{RowRef, Rows};
@@ -320,6 +320,55 @@ fn rows_lie_in_windows(rt: HostRuntime) -> Result<(), Fail> {
             ended: false
         }
     );
+    Ok(())
+}
+
+// Left windows are 0 to 3, 4 to 7, 8 to 11, and right ones 0 to 5, 4 to 9, 8 to 13: rows of both sides after one another, of which the
+// last two go back.
+#[test]
+fn rows_lie_in_windows_lately(rt: HostRuntime) -> Result<(), Fail> {
+    let alloc = rt.alloc();
+    let measure = Measure::Range;
+    let left = Window {
+        measure,
+        size: 4,
+        slide: 4,
+    };
+    let right = Window {
+        measure,
+        size: 6,
+        slide: 4,
+    };
+    let before = Mark {
+        left: 0,
+        right: 0,
+        last: None,
+        ended: false,
+    };
+    let mut lately = Lately::of_plan(&join(alloc, left, right)?);
+    for (side, time, windows) in [
+        (Side::Left, 5, (1, 2)),
+        (Side::Right, 5, (0, 2)),
+        (Side::Right, 6, (1, 2)),
+        (Side::Left, 7, (1, 2)),
+        (Side::Left, 8, (2, 3)),
+        (Side::Right, 9, (1, 3)),
+        (Side::Left, 4, (1, 2)),
+        (Side::Right, 6, (1, 2)),
+    ] {
+        let row = row(alloc, side, time)?;
+        assert_eq!(rt;
+            lately.row_windows(&RowRef::of(&row), &before),
+            windows,
+            "time {time}"
+        );
+    }
+    // Of one stream they are those of its rows alone: 2 to 4, and 4 to 6.
+    let mut lately = Lately::of_plan(&group(alloc, Measure::Range, 3, 2)?);
+    let left = row(alloc, Side::Left, 4)?;
+    let right = row(alloc, Side::Right, 4)?;
+    assert_eq!(rt; lately.row_windows(&RowRef::of(&left), &before), (1, 3));
+    assert_eq!(rt; lately.row_windows(&RowRef::of(&right), &before), (0, 0));
     Ok(())
 }
 
