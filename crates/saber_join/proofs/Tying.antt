@@ -4,6 +4,7 @@ use Rattle.std.specs.List.{AllByRecursion}
 use Rattle.std.proofs.lemmas.Bool.{and_parts}
 use Rattle.std.proofs.lemmas.List.{drop_more, drop_all, length-map, get_or-map}
 use Rattle.std.proofs.lemmas.Int.{ints}
+use Rattle.std.proofs.Math.IntN.{+ℤ_idl, suc_ℤ-*ℤ, zero-*ℤ}
 use Rattle.saber_plan.specs.declared.rows.Side.{Side}
 use Rattle.saber_plan.specs.declared.rows.Side.TheVariants.{Left, Right}
 use Rattle.saber_plan.specs.declared.rows.Row.{Row}
@@ -21,7 +22,7 @@ use Rattle.saber_plan.specs.Checked.{HasColumn, ExprFits, TestFits, AllFit, Pred
 use Rattle.saber_plan.specs.Given.{IsRowOf}
 use Rattle.saber_eval.specs.Widths.{widths}
 use Rattle.saber_plan.specs.Windows.{by_side}
-use Rattle.saber_join.specs.Ties.{Ends, IsOf, Over, Ties, TiesTest, TiesAll, TiesPairs, CanTie, narrow, key_in}
+use Rattle.saber_join.specs.Ties.{Ends, IsColumn, IsOf, Over, Ties, TiesTest, TiesAll, TiesPairs, CanTie, narrow, key_in}
 
 -- ---- an expression over one side is worth the same whatever the other side has
 
@@ -58,6 +59,19 @@ one_key p (Some e) t x y a b h =
     ap (λ s. narrow (by_side s (value e.left x.values x.values) (value e.right x.values x.values))) a
     ∙ ap narrow (keys_meet e p t x.values y.values h)
     ∙ sym (ap (λ s. narrow (by_side s (value e.left y.values y.values) (value e.right y.values y.values))) b)
+
+-- ---- the value of a column alone
+
+once : (z : ℤ) → pos 1 *ℤ z ≡ z
+once z = suc_ℤ-*ℤ (pos 0) z ∙ ap (λ y. y +ℤ z) (zero-*ℤ z) ∙ +ℤ_idl z
+
+column_alone : (s : Side) (k : ℕ) (xs : List ℤ) → value (record { minus = false; factors = Column s k ∷ [] } ∷ []) xs xs ≡ get_or xs k (pos 0)
+unfolding value_at
+column_alone Left k xs = +ℤ_idl (pos 1 *ℤ get_or xs k (pos 0)) ∙ once (get_or xs k (pos 0))
+column_alone Right k xs = +ℤ_idl (pos 1 *ℤ get_or xs k (pos 0)) ∙ once (get_or xs k (pos 0))
+
+pub column_value : (k : ℕ) (ps : List Product) (xs : List ℤ) → IsColumn k ps → value ps xs xs ≡ get_or xs k (pos 0)
+column_value k ps xs (s, e) = ap (λ l. value l xs xs) e ∙ column_alone s k xs
 
 -- ---- all of what is left gives all
 

@@ -1,5 +1,6 @@
 -- What a task holds after some rows: those of each side that lie in open windows.
-use Rattle.std.specs.Prelude.{◌≡◌, ◌++◌, ℕ, List, map, filter, max, Bool, nat_lt, Option}
+use Rattle.std.specs.Prelude.{◌≡◌, ◌++◌, ℕ, List, map, filter, max, Bool, false, nat_lt, Option}
+use Rattle.saber_plan.specs.ListFacts.{Each}
 use Rattle.saber_plan.specs.Windows.{Frame, Placed}
 use Rattle.saber_plan.specs.Needs.{first_window, past_window}
 use Rattle.saber_plan.specs.Answers.{frame, is_left, is_right}
@@ -10,6 +11,10 @@ use Rattle.saber_join.specs.Ties.{Ends}
 -- the row lies in a window from c on
 abbrev pub lies_from : Frame → ℕ → Placed → Bool
 lies_from f c x = nat_lt (max (first_window f x) c) (past_window f x)
+
+-- none of these rows does
+abbrev pub NoneLies : Frame → ℕ → List Placed → Type 0
+NoneLies f c xs = Each (λ (x : Placed). lies_from f c x ≡ false) xs
 
 -- the cards of the rows that do
 abbrev pub cards_of : Frame → Option Ends → ℕ → List Placed → List Card

@@ -159,6 +159,7 @@ impl<'a> Held<'a> {
     }
 
     /// Keeps a row that is looked back on, under its key.
+    #[inline(always)]
     pub(crate) fn note(
         &mut self,
         key: i64,
@@ -179,6 +180,7 @@ impl<'a> Held<'a> {
 
     /// Adds the pairs of a row of the task with the other side's rows before it that have its key, to
     /// each window that both lie in.
+    #[inline(always)]
     pub(crate) fn meet(
         &mut self,
         alloc: Global,

@@ -12,14 +12,14 @@ ghost use Rattle.saber_plan.specs.Needs.{first_window, past_window};
 ghost use Rattle.saber_plan.specs.Given.{IsRowOf};
 ghost use Rattle.saber_laws.specs.Plans.{TwoWindows};
 ghost use Rattle.saber_join.specs.Rows.{IsOn, CanShow};
-ghost use Rattle.saber_join.specs.Ties.{CanTie, narrow, key_in};
+ghost use Rattle.saber_join.specs.Ties.{CanTie, key_in};
 
 use crate::ties::{Tie, tie_in};
 use saber_eval::{holds2, two_streams_fit, value2};
 use saber_flat::RowRef;
 use saber_laws::{checked_fit, joins_have_two_windows};
 use saber_plan::{Item, Mark, NoMemory, Plan, Side};
-use saber_window::{Windows, stamps_fit, step_mark};
+use saber_window::{Lately, Windows, stamps_fit, step_mark};
 use std::alloc::Global;
 use std::marker::Model;
 
@@ -75,16 +75,6 @@ fn item_values(
         values.push(item_value(item, left, right))?;
     }
     Ok(values)
-}
-
-// A number by which equal values are found, in half the bits: 0 for those that don't fit.
-fn narrow(value: i128) -> i64
-    ensures { result ≡ narrow value }
-{
-    if value < i128::from(i64::MIN) || value > i128::from(i64::MAX) {
-        return 0;
-    }
-    value as i64
 }
 
 impl<'a> Join<'a> {
@@ -147,6 +137,7 @@ impl<'a> Join<'a> {
     }
 
     /// The key of a row: rows of two sides with different keys make no pair that passes.
+    #[inline(always)]
     pub(crate) fn key(&self, tie: &Option<Tie>, row: &RowRef) -> i64
         requires tie { CanTie (tree_of self.now).predicate tie.now }
         requires row { IsRowOf (tree_of self.now) row.now }
@@ -155,8 +146,8 @@ impl<'a> Join<'a> {
         self.has_windows();
         match tie {
             Some(tie) => match row.side() {
-                Side::Left => narrow(value2(tie.left, row, &row.again())),
-                Side::Right => narrow(value2(tie.right, row, &row.again())),
+                Side::Left => tie.left.key(row),
+                Side::Right => tie.right.key(row),
             },
             None => 0,
         }
@@ -177,18 +168,29 @@ impl<'a> Join<'a> {
         item_values(alloc, self.plan.items(), left, right)
     }
 
+    /// Its windows, to be asked for rows that come one after another.
+    pub(crate) fn lately(&self) -> Lately
+        ensures { result ≡ frame (tree_of self.now) }
+    {
+        self.has_windows();
+        Lately::of_plan(self.plan)
+    }
+
     /// The row lies in the windows from the one up to the other, and in no other.
-    pub(crate) fn row_windows(&self, row: &RowRef, before: &Mark) -> (u64, u64)
+    #[inline(always)]
+    pub(crate) fn row_windows(&self, lately: &mut Lately, row: &RowRef, before: &Mark) -> (u64, u64)
+        requires lately { lately.old ≡ frame (tree_of self.now) }
         requires left { before.now.left ≤ 2 ^ 40 }
         requires right { before.now.right ≤ 2 ^ 40 }
+        ensures lately { lately.new ≡ frame (tree_of self.now) }
         ensures first { result.0 ≡ first_window (frame (tree_of self.now)) (record { row = row.now; before = before.now }) }
         ensures past { result.1 ≡ past_window (frame (tree_of self.now)) (record { row = row.now; before = before.now }) }
     {
-        let _plan = &self.plan;
-        self.windows.row_windows(row, before)
+        lately.row_windows(row, before)
     }
 
     /// Whether the last window that has the row, if any has it, is this one or a later one.
+    #[inline]
     pub(crate) fn reaches(&self, window: u64, row: &RowRef, before: &Mark) -> bool
         requires left { before.now.left ≤ 2 ^ 40 }
         requires right { before.now.right ≤ 2 ^ 40 }

@@ -91,6 +91,7 @@ impl<'a> Kept<'a> {
 }
 
 // The places of the rows that have this key and a window behind the first `low`, the last first.
+#[inline(always)]
 fn walk(
     rows: &[Kept],
     last: &[usize],
@@ -141,6 +142,7 @@ impl<'a> Shelf<'a> {
     }
 
     /// One row more. After want of memory the shelf is only safe to let go.
+    #[inline(always)]
     pub(crate) fn put(
         &mut self,
         key: i64,
@@ -167,6 +169,7 @@ impl<'a> Shelf<'a> {
     }
 
     /// The places of the rows that have this key and a window behind the first `low`.
+    #[inline(always)]
     pub(crate) fn find(&self, key: i64, low: u64, found: &mut Vec<usize>) -> Result<(), NoMemory>
         ensures { OnOk result (Found self.now (filter (meets key low) self.now) found.new.items) }
     {

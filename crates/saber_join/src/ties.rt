@@ -4,17 +4,93 @@ ghost use Rattle.std.specs.List.{AllByRecursion};
 ghost use Rattle.saber_plan.specs.declared.rows.Side.TheVariants as sides;
 ghost use Rattle.saber_plan.specs.declared.predicates.Cmp.TheVariants as cmps;
 ghost use Rattle.saber_plan.specs.Trees.{test_of, tests_of, joined, compare};
-ghost use Rattle.saber_join.specs.Ties.{IsOf, Over, TiesTest, TiesAll, TiesPairs};
+ghost use Rattle.saber_plan.specs.Values.{value};
+ghost use Rattle.saber_plan.specs.Checked.{ExprFits};
+ghost use Rattle.saber_eval.specs.Widths.{widths};
+ghost use Rattle.saber_join.specs.Ties.{IsOf, Over, IsColumn, TiesTest, TiesAll, TiesPairs, narrow};
 
+use saber_eval::value2;
+use saber_flat::RowRef;
 use saber_plan::{Cmp, Expr, Factor, Pred, Side, Unit};
 use std::marker::Model;
+
+/// An expression over the rows of one side, and the number of its column, where it is one column alone: as most are, so that a row costs
+/// no walk through it. Contracts see it as the expression.
+#[derive(Drop)]
+pub(crate) struct End<'a> {
+    expr: &'a Expr,
+    column: Option<usize>,
+}
+
+impl<'a> Model for End<'a> {
+    ghost use Rattle.std.specs.Prelude.{List, IfSome};
+    ghost use Rattle.saber_plan.specs.declared.expressions.Product.{Product};
+    ghost use Rattle.saber_join.specs.Ties.{IsColumn};
+
+    ghost Value = { List Product };
+
+    ghost view = { λ e. e.expr.now };
+
+    ghost invariant = { λ e. IfSome e.column (λ k. IsColumn k e.expr.now) };
+}
+
+// The number of the column that an expression is alone.
+fn column_in(e: &Expr) -> Option<usize>
+    ensures { IfSome result (λ k. IsColumn k e.now) }
+{
+    let products = e.as_slice();
+    if products.len() != 1 || products[0].minus {
+        return None;
+    }
+    let factors = products[0].factors.as_slice();
+    if factors.len() != 1 {
+        return None;
+    }
+    match &factors[0] {
+        Factor::Column { index, .. } => Some(*index as usize),
+        Factor::Constant(_) => None,
+    }
+}
+
+fn end_of(expr: &Expr) -> End<'_>
+    ensures { result ≡ expr.now }
+{
+    End {
+        expr,
+        column: column_in(expr),
+    }
+}
+
+// A number by which equal values are found, in half the bits: 0 for those that don't fit.
+fn narrow(value: i128) -> i64
+    ensures { result ≡ narrow value }
+{
+    if value < i128::from(i64::MIN) || value > i128::from(i64::MAX) {
+        return 0;
+    }
+    value as i64
+}
+
+impl End<'_> {
+    /// Its value over a row, in half the bits.
+    #[inline(always)]
+    pub(crate) fn key(&self, row: &RowRef) -> i64
+        requires { ExprFits (widths row.now.values row.now.values) self.now }
+        ensures { result ≡ narrow (value self.now row.now.values row.now.values) }
+    {
+        match self.column {
+            Some(k) => narrow(i128::from(row.values()[k])),
+            None => narrow(value2(self.expr, row, &row.again())),
+        }
+    }
+}
 
 /// An expression over left rows and one over right rows, which are equal in each pair that passes
 /// WHERE. So only rows with equal values of them need be paired.
 #[derive(Drop)]
 pub(crate) struct Tie<'a> {
-    pub(crate) left: &'a Expr,
-    pub(crate) right: &'a Expr,
+    pub(crate) left: End<'a>,
+    pub(crate) right: End<'a>,
 }
 
 impl<'a> Model for Tie<'a> {
@@ -22,7 +98,7 @@ impl<'a> Model for Tie<'a> {
 
     ghost Value = { Ends };
 
-    ghost view = { λ t. record { left = t.left.now; right = t.right.now } };
+    ghost view = { λ t. record { left = t.left; right = t.right } };
 }
 
 // Whether it is no column of the other side.
@@ -77,10 +153,16 @@ fn tied<'a>(x: &'a Expr, y: &'a Expr) -> Option<Tie<'a>>
     ensures { IfSome result (λ t. TiesTest (compare x.now cmps.Equal y.now) t) }
 {
     if is_left(x) && is_right(y) {
-        return Some(Tie { left: x, right: y });
+        return Some(Tie {
+            left: end_of(x),
+            right: end_of(y),
+        });
     }
     if is_left(y) && is_right(x) {
-        return Some(Tie { left: y, right: x });
+        return Some(Tie {
+            left: end_of(y),
+            right: end_of(x),
+        });
     }
     None
 }

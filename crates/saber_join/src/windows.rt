@@ -1,5 +1,5 @@
 // The windows of a task, by number.
-ghost use Rattle.std.specs.Prelude.{◌≡◌, ◌^◌, ◌≤◌, ◌∷◌, [], ◌++◌, OnOk, IfOk};
+ghost use Rattle.std.specs.Prelude.{◌≡◌, ◌^◌, ◌≤◌, ◌∷◌, [], ◌++◌, length, take, OnOk, IfOk};
 ghost use Rattle.saber_plan.specs.declared.rows.Side.TheVariants as sides;
 ghost use Rattle.saber_plan.specs.Trees.{tree_of};
 ghost use Rattle.saber_plan.specs.Answers.{frame};
@@ -7,7 +7,7 @@ ghost use Rattle.saber_plan.specs.Windows.{mark_after, placed_after};
 ghost use Rattle.saber_plan.specs.Given.{IsRowOf, RowsFit};
 ghost use Rattle.saber_join.specs.Rows.{AllOn};
 ghost use Rattle.saber_join.specs.Ties.{CanTie};
-ghost use Rattle.saber_join.specs.Keeping.{KeepsLefts, KeepsRights};
+ghost use Rattle.saber_join.specs.Keeping.{KeepsLefts, KeepsRights, NoneLies};
 ghost use Rattle.saber_join.specs.Open.{seen_parts, Takes, HoldsOpen};
 
 use crate::held::Held;
@@ -18,6 +18,7 @@ use crate::ties::Tie;
 use saber_flat::{RowRef, Rows};
 use saber_laws::{no_rows_no_part, rows_span, windows_get_pairs};
 use saber_plan::{Mark, NoMemory};
+use saber_window::Lately;
 use std::alloc::Global;
 use std::collections::BTreeMap;
 
@@ -27,22 +28,22 @@ impl Join<'_> {
         &self,
         held: &mut Held<'a>,
         tie: &Option<Tie>,
+        lately: &mut Lately,
         closed: u64,
         row: &RowRef<'a>,
         before: &Mark,
     ) -> Result<(), NoMemory>
+        requires lately { lately.old ≡ frame (tree_of self.now) }
         requires left { before.now.left ≤ 2 ^ 40 }
         requires right { before.now.right ≤ 2 ^ 40 }
         requires row { IsRowOf (tree_of self.now) row.now }
         requires tie { CanTie (tree_of self.now).predicate tie.now }
+        ensures lately { lately.new ≡ frame (tree_of self.now) }
         ensures lefts { OnOk result (KeepsLefts (tree_of self.now) tie.now closed (record { row = row.now; before = before.now } ∷ []) held.old.lefts held.new.lefts) }
         ensures rights { OnOk result (KeepsRights (tree_of self.now) tie.now closed (record { row = row.now; before = before.now } ∷ []) held.old.rights held.new.rights) }
         ensures windows { OnOk result (held.new.windows.entries ≡ held.old.windows.entries) }
     {
-        if !self.reaches(closed, row, before) {
-            return Ok(());
-        }
-        let (first, past) = self.row_windows(row, before);
+        let (first, past) = self.row_windows(lately, row, before);
         let low = first.max(closed);
         if past <= low {
             return Ok(());
@@ -51,27 +52,31 @@ impl Join<'_> {
     }
 
     // Takes a row of the task into each window from `closed` on that has it.
+    #[inline(always)]
     fn take_row<'a>(
         &self,
         alloc: Global,
         held: &mut Held<'a>,
         tie: &Option<Tie>,
+        lately: &mut Lately,
         closed: u64,
         row: &RowRef<'a>,
         before: &Mark,
     ) -> Result<(), NoMemory>
+        requires lately { lately.old ≡ frame (tree_of self.now) }
         requires left { before.now.left ≤ 2 ^ 40 }
         requires right { before.now.right ≤ 2 ^ 40 }
         requires row { IsRowOf (tree_of self.now) row.now }
         requires tie { CanTie (tree_of self.now).predicate tie.now }
         requires lefts { AllOn (tree_of self.now) sides.Left held.old.lefts }
         requires rights { AllOn (tree_of self.now) sides.Right held.old.rights }
+        ensures lately { lately.new ≡ frame (tree_of self.now) }
         ensures lefts { OnOk result (KeepsLefts (tree_of self.now) tie.now closed (record { row = row.now; before = before.now } ∷ []) held.old.lefts held.new.lefts) }
         ensures rights { OnOk result (KeepsRights (tree_of self.now) tie.now closed (record { row = row.now; before = before.now } ∷ []) held.old.rights held.new.rights) }
         ensures windows { OnOk result (Takes (tree_of self.now) tie.now closed (record { row = row.now; before = before.now }) held.old.lefts held.old.rights
             (seen_parts held.old.windows.entries) (seen_parts held.new.windows.entries)) }
     {
-        let (first, past) = self.row_windows(row, before);
+        let (first, past) = self.row_windows(lately, row, before);
         let low = first.max(closed);
         if past <= low {
             return Ok(());
@@ -82,25 +87,47 @@ impl Join<'_> {
         held.note(key, low, past, seen)
     }
 
+    // How many rows come before the first that reaches a window from `closed` on, and the mark behind them.
+    fn skip(&self, closed: u64, before: &Mark, rows: &Rows) -> (usize, Mark)
+        requires fits { RowsFit (tree_of self.now) before.now rows.now }
+        ensures within { result.0 ≤ length rows.now }
+        ensures mark { result.1 ≡ mark_after before.now (take result.0 rows.now) }
+        ensures none { NoneLies (frame (tree_of self.now)) closed (placed_after before.now (take result.0 rows.now)) }
+    {
+        let mut mark = *before;
+        for i in 0..rows.len() {
+            let row = rows.row(i);
+            if self.reaches(closed, &row, &mark) {
+                return (i, mark);
+            }
+            mark = self.step(&mark, &row);
+        }
+        (rows.len(), mark)
+    }
+
     // Keeps the rows that are looked back on and lie in windows from `closed` on.
     fn note_rows<'a>(
         &self,
         held: &mut Held<'a>,
         tie: &Option<Tie>,
+        lately: &mut Lately,
         closed: u64,
         before: &Mark,
         rows: &'a Rows,
     ) -> Result<(), NoMemory>
+        requires lately { lately.old ≡ frame (tree_of self.now) }
         requires tie { CanTie (tree_of self.now).predicate tie.now }
         requires fits { RowsFit (tree_of self.now) before.now rows.now }
+        ensures lately { lately.new ≡ frame (tree_of self.now) }
         ensures lefts { OnOk result (KeepsLefts (tree_of self.now) tie.now closed (placed_after before.now rows.now) held.old.lefts held.new.lefts) }
         ensures rights { OnOk result (KeepsRights (tree_of self.now) tie.now closed (placed_after before.now rows.now) held.old.rights held.new.rights) }
         ensures windows { OnOk result (held.new.windows.entries ≡ held.old.windows.entries) }
     {
-        let mut mark = *before;
-        for i in 0..rows.len() {
+        let (from, behind) = self.skip(closed, before, rows);
+        let mut mark = behind;
+        for i in from..rows.len() {
             let row = rows.row(i);
-            self.note_row(held, tie, closed, &row, &mark)?;
+            self.note_row(held, tie, lately, closed, &row, &mark)?;
             mark = self.step(&mark, &row);
         }
         Ok(())
@@ -125,14 +152,15 @@ impl Join<'_> {
         no_rows_no_part();
         rows_span();
         windows_get_pairs();
-        let mut held = Held::new(alloc, rows.len() / 2)?;
+        let mut held = Held::new(alloc, rows.len() / 2 + rows.len() / 4)?;
         let closed = self.closed_below(after);
         let tie = self.tie();
-        self.note_rows(&mut held, &tie, closed, before, back)?;
+        let mut lately = self.lately();
+        self.note_rows(&mut held, &tie, &mut lately, closed, before, back)?;
         let mut mark = *after;
         for i in 0..rows.len() {
             let row = rows.row(i);
-            self.take_row(alloc, &mut held, &tie, closed, &row, &mark)?;
+            self.take_row(alloc, &mut held, &tie, &mut lately, closed, &row, &mark)?;
             mark = self.step(&mark, &row);
         }
         Ok((held.windows, mark))

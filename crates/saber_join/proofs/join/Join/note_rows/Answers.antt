@@ -2,16 +2,25 @@ use Rattle.std.proofs.Common.{◌≡◌, ◌<◌, ◌+◌, ◌∙◌, ◌++◌, 
 use Rattle.std.proofs.lemmas.Option.{get_or_from_slice_get}
 use Rattle.std.proofs.lemmas.List.{take_more}
 use Rattle.saber_plan.specs.Trees.{tree_of}
-use Rattle.saber_plan.specs.Windows.{step_mark}
+use Rattle.saber_plan.specs.Windows.{step_mark, placed_after}
 use Rattle.saber_plan.specs.Answers.{frame}
 use Rattle.saber_plan.specs.RowFacts.{left_small, right_small, mark_more, row_at}
-use Rattle.saber_join.proofs.Holding.{lefts_none, rights_none, lefts_push, rights_push}
+use Rattle.saber_join.proofs.Holding.{lefts_skipped, rights_skipped, lefts_push, rights_push}
 use Rattle.saber_join.proofs.join.Join.note_rows.Goals as goal
 
 pub loop-i-init : goal.loop-i-init
 loop-i-init c =
     let f = frame (tree_of c.args.self.now) in
-    record { mark = refl; lefts = lefts_none f c.args.tie.now c.args.closed c.args.before.now c.args.held.now.lefts; rights = rights_none f c.args.tie.now c.args.closed c.args.before.now c.args.held.now.rights; windows = refl }
+    let t = c.args.tie.now in
+    let n = c.args.closed in
+    let us = placed_after c.args.before.now (take c.skip-from.result.0 c.args.rows.now) in
+    record {
+      lately = c.requires.lately;
+      mark = c.skip-from.ensures.mark;
+      lefts = lefts_skipped f t n us c.args.held.now.lefts c.skip-from.ensures.none;
+      rights = rights_skipped f t n us c.args.held.now.rights c.skip-from.ensures.none;
+      windows = refl;
+    }
 
 pub note_row-requires-clause-left : goal.note_row-requires-clause-left
 note_row-requires-clause-left c = left_small (tree_of c.args.self.now) c.args.before.now c.loop-i.mark c.args.rows.now c.loop-i.i c.requires.fits c.loop-i.invariant.mark
@@ -55,6 +64,7 @@ loop-i-preserved c =
     let more : take (k + 1) rows ≡ take k rows ++ r ∷ [] = take_more rows k r below ∙ ap (λ z. take k rows ++ z ∷ []) at in
     let h = c.loop-i.invariant in
     record {
+      lately = c.note_row.ensures.lately;
       mark = c.step-mark.ensures ∙ ap (λ m. step_mark m r) h.mark ∙ sym (mark_more b rows k r below (sym at));
       lefts = lefts_push f t n b (take k rows) (take (k + 1) rows) r c.loop-i.mark h.mark more c.args.held.now.lefts c.loop-i.held.lefts c.note_row.new.held.lefts h.lefts c.in_ok-note_row.ensures.lefts;
       rights = rights_push f t n b (take k rows) (take (k + 1) rows) r c.loop-i.mark h.mark more c.args.held.now.rights c.loop-i.held.rights c.note_row.new.held.rights h.rights c.in_ok-note_row.ensures.rights;

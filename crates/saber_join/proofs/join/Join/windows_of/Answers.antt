@@ -28,6 +28,7 @@ loop-i-init c =
     let back = c.args.back.now in
     let noted = c.in_ok-note_rows.ensures in
     record {
+      lately = c.note_rows.ensures.lately;
       mark = refl;
       lefts = noted.lefts ∙ ap (λ l. l ++ lefts_of f t n (placed_after b back)) c.in_ok-held.ensures.lefts ∙ ap (λ l. lefts_of f t n (placed_after b l)) (sym (append-nil back));
       rights = noted.rights ∙ ap (λ l. l ++ rights_of f t n (placed_after b back)) c.in_ok-held.ensures.rights ∙ ap (λ l. rights_of f t n (placed_after b l)) (sym (append-nil back));
@@ -118,6 +119,7 @@ loop-i-preserved c =
     let takes = subst (λ (a : Mark). Takes q t n (record { row = r; before = a }) (lefts_of f t n (placed_after b xs)) (rights_of f t n (placed_after b xs)) m w) is
     (subst₂ (λ ls rs. Takes q t n (record { row = r; before = mark }) ls rs m w) h.lefts h.rights took.windows) in
     record {
+      lately = c.take_row.ensures.lately;
       mark = c.step-mark.ensures ∙ ap (λ m. step_mark m r) h.mark ∙ sym (mark_more c.args.after.now rows k r below (sym at));
       lefts = lefts_push f t n b xs (back ++ take (k + 1) rows) r mark is more [] c.loop-i.held.lefts c.take_row.new.held.lefts h.lefts took.lefts;
       rights = rights_push f t n b xs (back ++ take (k + 1) rows) r mark is more [] c.loop-i.held.rights c.take_row.new.held.rights h.rights took.rights;

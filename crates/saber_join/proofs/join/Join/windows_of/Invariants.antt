@@ -9,6 +9,7 @@ use Rattle.saber_join.proofs.join.Join.windows_of.Given as goal
 
 abbrev pub invariant-loop-i : goal.invariant-loop-i
 invariant-loop-i l = record {
+  lately : l.lately ≡ frame (tree_of l.self);
   mark : l.mark ≡ mark_after l.fn.after (take l.i l.rows);
   lefts : l.held.lefts ≡ lefts_of (frame (tree_of l.self)) l.tie l.closed (placed_after l.fn.before (l.back ++ take l.i l.rows));
   rights : l.held.rights ≡ rights_of (frame (tree_of l.self)) l.tie l.closed (placed_after l.fn.before (l.back ++ take l.i l.rows));
