@@ -1,5 +1,5 @@
 -- Entries and what they come to, as one more comes and the first goes.
-use Rattle.std.proofs.Common.{◌≡◌, ℕ, zero, suc, ◌≤◌, ◌<◌, true, false, cond, nat_le, [], ◌∷◌, ◌++◌, drop, length, refl, sym, ◌∙◌, ap, subst, subst₂, append-nil, append_assoc, get_or, arith}
+use Rattle.std.proofs.Common.{◌≡◌, ℕ, zero, suc, ◌≤◌, ◌<◌, true, false, cond, nat_le, [], ◌∷◌, ◌++◌, length, refl, sym, ◌∙◌, ap, subst, subst₂, append-nil, append_assoc, get_or, arith}
 use Rattle.std.proofs.lemmas.List.{length-map}
 use Rattle.saber_plan.specs.Parts.{Part, no_part, merge}
 use Rattle.saber_laws.specs.Parts.{MergeHasUnit, MergeIsAssociative}
@@ -126,11 +126,6 @@ whole_ahead [] back b e h at = absurd (omega (arith, h))
 whole_ahead (f ∷ front) back b e h at = ap (λ (d : ℕ × Part). merge d.1 b) (sym at)
 
 -- ---- those at the front go
-
-pub chained_drop : (n : ℕ) (es : Entries) → Chained es → Chained (drop n es)
-chained_drop zero es h = h
-chained_drop (suc n) [] h = tt
-chained_drop (suc n) (e ∷ es) h = chained_drop n es h.1
 
 dropped_followed : (i : ℕ) (p : Part) (es : Entries) → dropped i (followed p es) ≡ followed p (dropped i es)
 dropped_followed i p [] = refl

@@ -54,27 +54,30 @@ fn merge_behind(
     }
 }
 
-// Turns entries with their own parts into ones with the merge from theirs on, one merge for each.
-fn summed_up(
+// Turns entries with their own parts, but for the first `gone`, into ones with the merge from theirs on, one merge for each.
+fn sum_up(
     alloc: Global,
-    mut back: Vec<(u64, Partial)>,
-) -> Result<VecDeque<(u64, Partial)>, NoMemory>
-    requires { Chained back.items }
-    ensures { IfOk result (λ front. front.items ≡ suffixes back.items) }
+    gone: usize,
+    back: &mut Vec<(u64, Partial)>,
+    front: &mut VecDeque<(u64, Partial)>,
+) -> Result<(), NoMemory>
+    requires chained { Chained back.old.items }
+    requires there { gone ≤ length back.old.items }
+    requires none { front.old.items ≡ [] }
+    ensures { OnOk result (front.new.items ≡ suffixes (drop gone back.old.items)) }
 {
-    let mut front = VecDeque::with_capacity(alloc, back.len())?;
-    loop {
-        match back.pop() {
-            Some((number, mut part)) => {
-                merge_behind(alloc, &mut part, &front)?;
-                front.push_front((number, part))?;
-            }
-            None => return Ok(front),
-        }
+    while gone < back.len() {
+        let Some((number, mut part)) = back.pop() else {
+            return Ok(());
+        };
+        merge_behind(alloc, &mut part, front)?;
+        front.push_front((number, part))?;
     }
+    Ok(())
 }
 
-// The entries of the back but for the first `gone` become the front, which had none.
+// The entries of the back but for the first `gone` become the front, which had none. The memory of both stays, with room for
+// as many entries in the back again, and one more.
 fn turn(
     alloc: Global,
     gone: usize,
@@ -84,16 +87,17 @@ fn turn(
 ) -> Result<(), NoMemory>
     requires chained { Chained back.old.items }
     requires there { gone ≤ length back.old.items }
+    requires none { front.old.items ≡ [] }
     ensures front { OnOk result (front.new.items ≡ suffixes (drop gone back.old.items)) }
-    ensures stays { OnErr result (front.new.items ≡ front.old.items) }
-    ensures back { back.new.items ≡ [] }
-    ensures part { back_part.new ≡ no_part }
+    ensures back { OnOk result (back.new.items ≡ []) }
+    ensures part { OnOk result (back_part.new ≡ no_part) }
 {
-    let mut entries = mem::replace(back, Vec::new(alloc));
+    let count = back.len();
+    front.try_reserve_exact(count - gone)?;
+    sum_up(alloc, gone, back, front)?;
+    back.clear();
+    back.try_reserve_exact(count + 1)?;
     *back_part = Pile::empty(alloc);
-    let kept = entries.split_off(gone)?;
-    back.try_reserve_exact(kept.len())?;
-    *front = summed_up(alloc, kept)?;
     Ok(())
 }
 
@@ -195,9 +199,9 @@ impl Sliding {
         }
     }
 
-    /// Drops the entries at the front that window i doesn't have: a merge for each entry that is left,
-    /// where the back has to become the front. After want of memory it is only safe.
-    pub fn drop_to(&mut self, alloc: Global, i: u64) -> Result<(), NoMemory>
+    // The same where the first entry goes.
+    #[inline(never)]
+    fn drop_some(&mut self, alloc: Global, i: u64) -> Result<(), NoMemory>
         ensures { OnOk result (self.new ≡ dropped i self.old) }
     {
         merge_has_unit();
@@ -209,13 +213,36 @@ impl Sliding {
         if gone == 0 {
             return Ok(());
         }
-        turn(
+        match turn(
             alloc,
             gone,
             &mut self.front,
             &mut self.back,
             &mut self.back_part,
-        )
+        ) {
+            Ok(()) => Ok(()),
+            Err(lacks) => {
+                *self = Sliding::empty(alloc);
+                Err(lacks)
+            }
+        }
+    }
+
+    /// Drops the entries at the front that window i doesn't have: a merge for each entry that is left,
+    /// where the back has to become the front. After want of memory it is only safe.
+    #[inline]
+    pub fn drop_to(&mut self, alloc: Global, i: u64) -> Result<(), NoMemory>
+        ensures { OnOk result (self.new ≡ dropped i self.old) }
+    {
+        match self.first_number() {
+            Some(number) => {
+                if number > i {
+                    return Ok(());
+                }
+                self.drop_some(alloc, i)
+            }
+            None => Ok(()),
+        }
     }
 
     /// Writes the lines of the merge of all parts behind what `out` has, in a walk over two lists of groups at

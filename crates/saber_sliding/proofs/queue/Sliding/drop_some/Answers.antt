@@ -1,9 +1,8 @@
 use Rattle.std.proofs.Common.{◌≡◌, ◌<◌, ℕ, zero, suc, false, ◌==◌, drop, length, sym, subst, ◌∙◌, ap, arith}
 use Rattle.std.proofs.lemmas.Bool.{eqb-true, false≢true}
-use Rattle.std.proofs.lemmas.Result.{on_ok_weaker}
 use Rattle.saber_sliding.specs.Entries.{dropped, seen, suffixes, Sound}
 use Rattle.saber_sliding.proofs.Entered.{nothing, sound_dropped, seen_some, seen_none, seen_turned_all, sound_turned_all}
-use Rattle.saber_sliding.proofs.queue.Sliding.drop_to.Goals as goal
+use Rattle.saber_sliding.proofs.queue.Sliding.drop_some.Goals as goal
 
 pub invariant_of-self : goal.invariant_of-self
 invariant_of-self c =
@@ -31,15 +30,15 @@ returns-then-gone-eq0 c =
     let same = ap (λ n. drop n s.back.items) (sym c.if-gone-eq0.true) ∙ subst (λ l. drop c.count_gone-gone.result l ≡ dropped c.args.i l) c.deref.ensures.value c.count_gone-gone.ensures.gone in
     ap (λ l. seen l s.back.items s.back_part) front ∙ ap suffixes same ∙ seen_none c.args.i s.front.items s.back.items s.back_part (sym c.drop_front.ensures ∙ front) ∙ ap (dropped c.args.i) c.self.view_is
 
-pub invariant_of-self-2 : goal.invariant_of-self-2
-invariant_of-self-2 c = sound_turned_all c.turn.new.front.items c.turn.new.back.items c.turn.new.back_part c.turn.ensures.back c.turn.ensures.part
+pub invariant_of-self-in-Ok : goal.invariant_of-self-in-Ok
+invariant_of-self-in-Ok c = sound_turned_all c.turn.new.front.items c.turn.new.back.items c.turn.new.back_part c.in-Ok.ensures.back c.in-Ok.ensures.part
 
-pub returns : goal.returns
-returns c =
+pub returns-in-Ok : goal.returns-in-Ok
+returns-in-Ok c =
     let s = c.self.inside in
     let long = c.drop_front.new.front.ok.0 in
     let none : c.drop_front.new.front.len ≡ 0 = eqb-true c.drop_front.new.front.len 0 (sym c.if-not-is_empty.ensures) in
     let front = nothing c.drop_front.new.front.items (omega (arith, long, none)) in
     let same = subst (λ l. drop c.count_gone-gone.result l ≡ dropped c.args.i l) c.deref.ensures.value c.count_gone-gone.ensures.gone in
-    on_ok_weaker c.turn.result (λ (e : c.turn.new.front.items ≡ suffixes (drop c.count_gone-gone.result s.back.items)). seen_turned_all c.merge_has_unit.ensures c.turn.new.front.items c.turn.new.back.items (suffixes (dropped c.args.i s.back.items)) c.turn.new.back_part (e ∙ ap suffixes same) c.turn.ensures.back c.turn.ensures.part
-    ∙ seen_none c.args.i s.front.items s.back.items s.back_part (sym c.drop_front.ensures ∙ front) ∙ ap (dropped c.args.i) c.self.view_is) c.turn.ensures.front
+    seen_turned_all c.merge_has_unit.ensures c.turn.new.front.items c.turn.new.back.items (suffixes (dropped c.args.i s.back.items)) c.turn.new.back_part (c.in-Ok.ensures.front ∙ ap suffixes same) c.in-Ok.ensures.back c.in-Ok.ensures.part
+    ∙ seen_none c.args.i s.front.items s.back.items s.back_part (sym c.drop_front.ensures ∙ front) ∙ ap (dropped c.args.i) c.self.view_is
