@@ -45,7 +45,7 @@ impl Group<'_> {
         let mut from = 0;
         while from < batch.rows.len() {
             let run = self.run_from(alloc, batch, from, &mark, &mut part)?;
-            mark = run.after;
+            mark = self.mark_behind(batch, from, run.end, &mark);
             from = run.end;
             room_for_first(&mut runs, batch.rows.len(), from)?;
             runs.push(run)?;

@@ -21,14 +21,13 @@ use std::alloc::Global;
 
 /// Some rows of a task, one after another, that lie in the windows from `first` up to `past` and in no
 /// other, with their part (SABER 2016: a pane). It is worked out once, and goes into each of these
-/// windows. Behind it comes row `end`, with the mark `after` before it.
+/// windows. Behind it comes row `end`.
 #[derive(Drop)]
 pub(crate) struct Run {
     pub(crate) first: u64,
     pub(crate) past: u64,
-    pub(crate) part: Partial,
     pub(crate) end: usize,
-    pub(crate) after: Mark,
+    pub(crate) part: Partial,
 }
 
 impl Group<'_> {
@@ -69,7 +68,6 @@ impl Group<'_> {
         ensures run { IfOk result (λ r. IsRun (tree_of self.now) batch.now.before batch.now.rows.now from r.end r.first r.past r.part) }
         ensures more { IfOk result (λ r. from < r.end) }
         ensures within { IfOk result (λ r. r.end ≤ length batch.now.rows.now) }
-        ensures after { IfOk result (λ r. r.after ≡ mark_after batch.now.before (take r.end batch.now.rows.now)) }
         ensures none { OnOk result (part.new ≡ p.no_part) }
     {
         self.has_window();
@@ -94,9 +92,8 @@ impl Group<'_> {
         Ok(Run {
             first,
             past,
-            part: part.take_part(alloc)?,
             end,
-            after: self.mark_behind(batch, from, end, mark),
+            part: part.take_part(alloc)?,
         })
     }
 }
