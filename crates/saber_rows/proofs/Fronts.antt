@@ -1,5 +1,5 @@
 -- A look at what stands in front of a side.
-use Rattle.std.proofs.Common.{◌≡◌, ℕ, List, [], true, Option, Some, None, Result, Ok, Err, IfSome, ℤ, refl, sym, ◌∙◌, ap, subst, arith}
+use Rattle.std.proofs.Common.{◌≡◌, ℕ, List, [], Bool, true, false, cond, Option, Some, None, Result, Ok, Err, IfSome, ℤ, refl, sym, ◌∙◌, ap, subst, arith}
 use Rattle.saber_plan.specs.declared.rows.Row.{Row}
 use Rattle.saber_plan.specs.declared.rows.Side.{Side}
 use Rattle.saber_plan.specs.Rows.{Read, before, stamp, bad, RowFits, SideRules}
@@ -149,9 +149,11 @@ looks old new had has side last count ahead none p result a e c =
 abbrev pub stand : (r : Reader) (had : Option (List ℕ)) → Takes r r had had
 stand r had = record { taken = []; left = given_none had; done = []; count = omega arith; lines = λ z follow. refl; still = λ e. (refl, e); seen = λ unended e. cc }
 
-pub no_some : (o : Option Row) → ((row : Row) → o ≡ Some row → ⊥) → o ≡ None
-no_some None h = refl
-no_some (Some row) h = absurd (h row refl)
+pub in_front : (b : Bool) (row : Row) → b ≡ true → cond b (Some row) None ≡ Some row
+in_front b row e = ap (λ x. cond x (Some row) None) e
+
+pub none_in_front : (b : Bool) (row : Row) → b ≡ false → cond b (Some row) None ≡ None
+none_in_front b row e = ap (λ x. cond x (Some row) None) e
 
 -- a row that stands in front already
 pub stays : (row : Row) (h : Headed) (side : Side) (last : Option ℤ) (count : ℕ) (had : Option (List ℕ)) → h.ahead ≡ Some row → SidePassed side last count h → Looks (Found (stamp row.values)) side last count h h had had

@@ -20,3 +20,4 @@ pub mod FedReads
 pub mod Fronts
 pub mod MergedTurns
 pub mod MergedLaws
+pub mod MergedRows

@@ -19,7 +19,7 @@ pub record Headed : Type 0 where
   pub ahead : Option Row
 
 abbrev pub headed : Head → Headed
-headed h = record { reader = reader_of h.lines; ahead = h.ahead }
+headed h = record { reader = reader_of h.lines; ahead = if h.full then Some h.row else None }
 
 -- with no row in front
 abbrev pub bare : Reader → Headed

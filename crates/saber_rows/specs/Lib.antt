@@ -16,3 +16,4 @@ pub mod Merging
 pub mod FedSizes
 pub mod FedTurns
 pub mod FedSteps
+pub mod MergedRows

@@ -1,18 +1,20 @@
 // A reader, and the row in front of it.
-ghost use Rattle.std.specs.Prelude.{◌≡◌, None};
+ghost use Rattle.std.specs.Prelude.{◌≡◌, None, [], ◌∷◌, ◌++◌, OnOk, true, false};
 ghost use Rattle.saber_rows.specs.Reader.{reader_of};
 
 use crate::ends::RowEnd;
 use crate::judge::stamp_of;
 use crate::lines::Lines;
+use saber_flat::RowBuilder;
 use saber_io::Source;
-use saber_plan::Row;
+use saber_plan::{NoMemory, Row};
 
-/// A reader, and the row that it gave last, if that isn't passed on yet.
+/// A reader, and the row that it gave last, with whether that isn't passed on yet. The next row is written over it.
 #[derive(Drop)]
 pub(crate) struct Head {
     lines: Lines,
-    ahead: Option<Row>,
+    row: Row,
+    full: bool,
 }
 
 /// What stands in front of a side: a row with this timestamp, or none.
@@ -23,20 +25,54 @@ pub(crate) enum Look {
     Failed(RowEnd),
 }
 
+// Appends numbers to the row that is not closed.
+#[inline(always)]
+fn put_numbers(numbers: &[i64], out: &mut RowBuilder) -> Result<(), NoMemory>
+    requires begun { out.old.begun ≡ [] }
+    ensures rows { out.new.rows ≡ out.old.rows }
+    ensures numbers { OnOk result (out.new.begun ≡ numbers.now) }
+{
+    for i in 0..numbers.len() {
+        out.put(numbers[i])?;
+    }
+    Ok(())
+}
+
+// Appends a copy of a row, and tells whether it did. Rows are short, so that it goes number by number.
+#[inline(always)]
+fn put_copy(row: &Row, out: &mut RowBuilder) -> bool
+    requires begun { out.old.begun ≡ [] }
+    ensures begun { out.new.begun ≡ [] }
+    ensures put { result ≡ true → out.new.rows ≡ out.old.rows ++ row.now ∷ [] }
+    ensures kept { result ≡ false → out.new.rows ≡ out.old.rows }
+{
+    if put_numbers(row.values.as_slice(), out).is_err() || out.close(row.side).is_err() {
+        out.drop_begun();
+        return false;
+    }
+    true
+}
+
 impl Head {
-    ghost use Rattle.std.specs.Prelude.{◌≡◌, ◌≢◌, ◌≤◌, ℕ, ℤ, Option, None, IfSome};
+    ghost use Rattle.std.specs.Prelude.{◌≡◌, ◌≢◌, ◌≤◌, ℕ, ℤ, List, [], Option, None, IfSome, true, false};
     ghost use Rattle.saber_io.specs.Outside.{Rose};
     ghost use Rattle.saber_plan.specs.declared.rows.Side.{Side};
     ghost use Rattle.saber_rows.specs.declared.heads.Look.{Look};
     ghost use Rattle.saber_rows.specs.declared.ends.RowEnd.{RowEnd};
     ghost use Rattle.saber_rows.specs.Reader.{reader_of, NeedsMore};
     ghost use Rattle.saber_rows.specs.Heads.{headed, bare, LooksAfterAny, front_of};
+    ghost use Rattle.saber_rows.specs.MergedRows.{PutsFront};
 
     /// A reader with no row in front of it.
     pub(crate) fn new(lines: Lines) -> Head
         ensures { headed result ≡ bare (reader_of lines) }
     {
-        Head { lines, ahead: None }
+        let row = lines.no_row();
+        Head {
+            lines,
+            row,
+            full: false,
+        }
     }
 
     /// Has the next row in front, and tells its timestamp, or why there is none. It reads only where no
@@ -50,13 +86,14 @@ impl Head {
         ensures count { S.faults source.old ≤ S.faults source.new }
         ensures reads { ¬ NeedsMore (headed self.old).reader → source.new ≡ source.old }
     {
-        if let Some(row) = &self.ahead {
-            return Look::Found(stamp_of(row.values.as_slice()));
+        if self.full {
+            return Look::Found(stamp_of(self.row.values.as_slice()));
         }
         match self.lines.next(source) {
             Ok(Some(row)) => {
                 let stamp = stamp_of(row.values.as_slice());
-                self.ahead = Some(row);
+                self.row = row;
+                self.full = true;
                 Look::Found(stamp)
             }
             Ok(None) => Look::Ended,
@@ -64,11 +101,59 @@ impl Head {
         }
     }
 
+    /// Has the next row in front where the reader holds it and needs no second look at it, and tells its timestamp. The
+    /// source isn't asked.
+    #[inline(always)]
+    pub(crate) fn look_quick(&mut self) -> Option<u64>
+        ensures none { result ≡ None → headed self.new ≡ headed self.old }
+        ensures some { IfSome result (λ stamp. (left : Option (List ℕ)) → LooksAfterAny (Look.Found stamp) (headed self.old) (headed self.new) left left) }
+        ensures rules { (headed self.new).reader.rules ≡ (headed self.old).reader.rules }
+    {
+        if self.full {
+            return Some(stamp_of(self.row.values.as_slice()));
+        }
+        self.fetch_quick()
+    }
+
+    // The same where no row is in front.
+    #[inline(always)]
+    fn fetch_quick(&mut self) -> Option<u64>
+        requires { self.old.full ≡ false }
+        ensures none { result ≡ None → headed self.new ≡ headed self.old }
+        ensures some { IfSome result (λ stamp. (left : Option (List ℕ)) → LooksAfterAny (Look.Found stamp) (headed self.old) (headed self.new) left left) }
+        ensures rules { (headed self.new).reader.rules ≡ (headed self.old).reader.rules }
+    {
+        self.row = self.lines.no_row();
+        let stamp = self.lines.held_into(&mut self.row.values)?;
+        self.full = true;
+        Some(stamp)
+    }
+
+    /// Appends the row in front, and tells whether it did.
+    #[inline(always)]
+    pub(crate) fn put(&mut self, out: &mut RowBuilder) -> bool
+        requires begun { out.old.begun ≡ [] }
+        ensures begun { out.new.begun ≡ [] }
+        ensures put { result ≡ true → PutsFront (headed self.old) (headed self.new) out.old.rows out.new.rows }
+        ensures kept { result ≡ false → (headed self.new ≡ headed self.old) × (out.new.rows ≡ out.old.rows) }
+    {
+        if !self.full || !put_copy(&self.row, out) {
+            return false;
+        }
+        self.full = false;
+        true
+    }
+
     /// Passes on the row in front.
     pub(crate) fn take(&mut self) -> Option<Row>
         ensures row { result ≡ (headed self.old).ahead }
         ensures rest { headed self.new ≡ bare (headed self.old).reader }
     {
-        self.ahead.take()
+        if !self.full {
+            return None;
+        }
+        self.full = false;
+        let none = self.lines.no_row();
+        Some(std::mem::replace(&mut self.row, none))
     }
 }

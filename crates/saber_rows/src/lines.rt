@@ -8,7 +8,9 @@ ghost use Rattle.saber_rows.specs.Sound.{side_rules, Sound, WasSeen, held_props}
 
 use crate::buffer::Buffer;
 use crate::ends::{Behind, RowEnd, Stop};
-use crate::judge::{Judged, LONGEST, content_of, is_late, is_ready, judge_line, raise, stamp_of};
+use crate::judge::{
+    Judged, LONGEST, content_of, is_below, is_late, is_ready, judge_line, raise, stamp_of,
+};
 use crate::line_feeds::{line_end, line_feed_in};
 use crate::quick_rows::{put_row, row_in};
 use crate::waiting::Waiting;
@@ -79,7 +81,7 @@ impl Lines {
     ghost use Rattle.saber_rows.specs.Judged.{judged_of, IfCounted};
     ghost use Rattle.saber_rows.specs.LineFeeds.{end_of, HasNoFeed};
     ghost use Rattle.saber_rows.specs.Reader.{reader_of, new_reader, rest_of, rest_over, gone, HasEnd, EndsRefused, NeedsMore};
-    ghost use Rattle.saber_rows.specs.Calls.{TakesRows, Moves, given_by, kept_by, last_after, IsGiven, EndsBy, IsNext, WantsMemory};
+    ghost use Rattle.saber_rows.specs.Calls.{HoldsNext, TakesRows, Moves, given_by, kept_by, last_after, IsGiven, EndsBy, IsNext, WantsMemory};
     ghost use Rattle.saber_rows.specs.Turns.{Steps, Runs, Fronts, IsLastIf, first_judged, LineGives, TurnGives, PlaceMoves, Stops, work_left, IfAgain, IfFault, IfNoFault, HasEnough, NoneReady, IsReady};
 
     /// A reader with nothing read yet. A stream has 1 to 32 columns, and a file 1 to 2^40 lines,
@@ -389,6 +391,41 @@ impl Lines {
         ensures over { result ≡ true → self.now.over ≡ None }
     {
         self.slack == 0 && self.stop.is_none() && self.over.is_none()
+    }
+
+    /// A row of the side without numbers, to be written into.
+    #[inline(always)]
+    pub(crate) fn no_row(&self) -> Row
+        ensures { result ≡ record { side = self.now.side; values = [] } }
+    {
+        Row {
+            side: self.side,
+            values: Values::new(self.alloc),
+        }
+    }
+
+    /// Writes the next row's numbers here, and tells its timestamp, if it is held and is a row at the first look, and there is
+    /// no slack. Where it is not, some of its numbers may be there. The source is not asked.
+    #[inline(always)]
+    pub(crate) fn held_into(&mut self, values: &mut Values) -> Option<u64>
+        requires empty { values.old ≡ [] }
+        ensures none { result ≡ None → self.new ≡ self.old }
+        ensures own { IfSome result (λ time. time ≡ stamp_in values.new) }
+        ensures some { IfSome result (λ time. HoldsNext (record { side = self.old.side; values = values.new }) (reader_of self.old) (reader_of self.new)) }
+    {
+        if !self.is_plain() || self.lines >= self.max_lines {
+            return None;
+        }
+        let n = row_in(self.columns, self.held.bytes(), values)?;
+        let stamp = stamp_of(values.as_slice());
+        if is_below(self.high, stamp) {
+            return None;
+        }
+        self.high = Some(stamp);
+        self.last = Some(stamp);
+        self.held.consume(n + 1);
+        self.lines += 1;
+        Some(stamp)
     }
 
     // Appends the rows at the front, up to so many, as far as each is one at the first look.

@@ -2,6 +2,7 @@
 ghost use Rattle.std.specs.Prelude.{◌≤◌, ◌^◌};
 
 use crate::{Lines, Merge, RowEnd};
+use saber_flat::{RowBuilder, Rows};
 use saber_io::{MemSource, Source};
 use saber_plan::{RowCause, Side};
 use std::alloc::Global;
@@ -136,5 +137,59 @@ fn a_read_of_a_side_fails(rt: HostRuntime) -> Result<(), Fail> {
     assert!(rt; seen.is(&[0, 0, 5, 1, 0, 7], end));
     let again = see_all(alloc, &mut merge, &mut left, &mut right)?;
     assert!(rt; again.is(&[], end));
+    Ok(())
+}
+
+// Rows as `Seen` has them.
+fn numbers_of(alloc: Global, rows: &Rows) -> Result<Vec<i64>, Fail> {
+    let mut numbers = Vec::new(alloc);
+    for i in 0..rows.len() {
+        let row = rows.row(i);
+        numbers.push(side_number(row.side()))?;
+        numbers.extend_from_slice(row.values())?;
+    }
+    Ok(numbers)
+}
+
+// Rows at the first look: none before both sides hold some, then as many as are asked for, the left first on a tie, and
+// none where a side holds no more.
+#[test]
+fn merged_rows_at_the_first_look(rt: HostRuntime) -> Result<(), Fail> {
+    let alloc = rt.alloc();
+    let mut left = source(alloc, b"0,5\n1,9\n3,1\n3,2\n", 1 << 20)?;
+    let mut right = source(alloc, b"0,7\n3,6\n8,0\n", 1 << 20)?;
+    let mut merge = merge(alloc)?;
+    let mut rows = RowBuilder::with_capacity(alloc, 1, 1)?;
+    assert_eq!(rt; merge.take_quick(&mut rows, 9), 0);
+    let first = merge.next(&mut left, &mut right);
+    assert!(rt; first.is_ok());
+    assert_eq!(rt; merge.take_quick(&mut rows, 2), 2);
+    assert_eq!(rt; merge.take_quick(&mut rows, 9), 2);
+    let numbers = numbers_of(alloc, &rows.finish())?;
+    let want = [1, 0, 7, 0, 1, 9, 0, 3, 1, 0, 3, 2];
+    assert_eq!(rt; numbers.as_slice(), want.as_slice());
+    let rest = see_all(alloc, &mut merge, &mut left, &mut right)?;
+    assert!(rt; rest.is(&[1, 3, 6, 1, 8, 0], None));
+    Ok(())
+}
+
+// A refused line behind them is told by the next call.
+#[test]
+fn a_refused_line_behind_quick_rows(rt: HostRuntime) -> Result<(), Fail> {
+    let alloc = rt.alloc();
+    let mut left = source(alloc, b"0,5\n1,9\nx\n", 1 << 20)?;
+    let mut right = source(alloc, RIGHT, 1 << 20)?;
+    let mut merge = merge(alloc)?;
+    let mut rows = RowBuilder::with_capacity(alloc, 1, 1)?;
+    let first = merge.next(&mut left, &mut right);
+    assert!(rt; first.is_ok());
+    assert_eq!(rt; merge.take_quick(&mut rows, 9), 2);
+    let numbers = numbers_of(alloc, &rows.finish())?;
+    assert_eq!(rt; numbers.as_slice(), [1, 0, 7, 0, 1, 9].as_slice());
+    let rest = see_all(alloc, &mut merge, &mut left, &mut right)?;
+    let line = 3;
+    let cause = RowCause::FieldCount;
+    let end = Some((Side::Left, RowEnd::Bad { line, cause }));
+    assert!(rt; rest.is(&[], end));
     Ok(())
 }

@@ -2,6 +2,7 @@
 use crate::ends::RowEnd;
 use crate::heads::{Head, Look};
 use crate::lines::Lines;
+use saber_flat::RowBuilder;
 use saber_io::Source;
 use saber_laws::merges_turn;
 use saber_plan::{Row, Side};
@@ -15,7 +16,7 @@ pub struct Merge {
 }
 
 impl Merge {
-    ghost use Rattle.std.specs.Prelude.{◌≡◌, ◌≢◌, ◌≤◌, Some, Err, IfSome};
+    ghost use Rattle.std.specs.Prelude.{◌≡◌, ◌≢◌, ◌≤◌, Some, Err, IfSome, [], true, false};
     ghost use Rattle.saber_plan.specs.declared.rows.Side.TheVariants as sides;
     ghost use Rattle.saber_plan.specs.declared.windows.Mark.{Mark};
     ghost use Rattle.saber_rows.specs.declared.ends.RowEnd.{RowEnd};
@@ -23,6 +24,7 @@ impl Merge {
     ghost use Rattle.saber_rows.specs.Reader.{reader_of, NeedsMore};
     ghost use Rattle.saber_rows.specs.Heads.{headed, front_of};
     ghost use Rattle.saber_rows.specs.Merging.{merger_of, new_merger, settled, merge_answer, Passed, StartsPassed, MergeTurns, RightTurns};
+    ghost use Rattle.saber_rows.specs.MergedRows.{MergesOne, MergeStands, TakesMerged};
     ghost use Rattle.saber_rows.specs.Merging.{FaultRose, RightFaultRose};
 
     /// The merge of a reader of the left side and one of the right. Takes no memory.
@@ -86,6 +88,47 @@ impl Merge {
             Look::Ended => Ok(self.left.take()),
             Look::Failed(end) => Err((Side::Right, end)),
         }
+    }
+
+    // Appends the next row, if both sides hold theirs: the lesser, the left on a tie. Tells whether it did.
+    #[inline(always)]
+    fn put_lesser(&mut self, out: &mut RowBuilder) -> bool
+        requires begun { out.old.begun ≡ [] }
+        ensures begun { out.new.begun ≡ [] }
+        ensures one { result ≡ true → MergesOne (merger_of self.old) (merger_of self.new) out.old.rows out.new.rows }
+        ensures none { result ≡ false → MergeStands (merger_of self.old) (merger_of self.new) × (out.new.rows ≡ out.old.rows) }
+    {
+        merges_turn();
+        let Some(time) = self.left.look_quick() else {
+            return false;
+        };
+        let Some(other) = self.right.look_quick() else {
+            return false;
+        };
+        if time <= other {
+            self.left.put(out)
+        } else {
+            self.right.put(out)
+        }
+    }
+
+    /// Appends the next rows, up to so many, as far as both sides hold them whole and as rows at the first look, and
+    /// there is no slack. Answers how many they are. No source is asked.
+    #[inline(never)]
+    pub fn take_quick(&mut self, out: &mut RowBuilder, most: usize) -> usize
+        requires begun { out.old.begun ≡ [] }
+        ensures most { result ≤ most }
+        ensures begun { out.new.begun ≡ [] }
+        ensures rows { TakesMerged result (merger_of self.old) (merger_of self.new) out.old.rows out.new.rows }
+    {
+        let mut taken = 0;
+        while taken < most {
+            if !self.put_lesser(out) {
+                return taken;
+            }
+            taken += 1;
+        }
+        taken
     }
 
     /// The next row by timestamp, the left on a tie, or `None` at the end of both. The left side is asked

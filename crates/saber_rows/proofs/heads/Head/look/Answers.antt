@@ -3,14 +3,15 @@ use Rattle.saber_plan.specs.Rows.{stamp}
 use Rattle.saber_rows.specs.Reader.{reader_of}
 use Rattle.saber_rows.specs.declared.heads.Look.TheVariants.{Found, Ended, Failed}
 use Rattle.saber_rows.specs.Heads.{Called, headed, Looks}
-use Rattle.saber_rows.proofs.Fronts.{if_some, no_some, looks, stays}
+use Rattle.saber_rows.proofs.Fronts.{if_some, in_front, none_in_front, looks, stays}
 use Rattle.saber_rows.proofs.heads.Head.look.Goals as goal
 
-pub returns-in-Some-clause-looks : goal.returns-in-Some-clause-looks
-returns-in-Some-clause-looks g c side last count p =
-    let same : c.stamp_of.result ≡ stamp c.in-Some.row.values = c.stamp_of.ensures ∙ ap stamp c.as_slice.ensures in
-    subst (λ n. Looks (Found n) side last count (headed c.args.self.now) (headed c.args.self.now) (g.S.Source.left c.args.source.now) (g.S.Source.left c.args.source.now)) (sym same)
-    (stays c.in-Some.row (headed c.args.self.now) side last count (g.S.Source.left c.args.source.now) c.in-Some.is p)
+pub returns-then-self-clause-looks : goal.returns-then-self-clause-looks
+returns-then-self-clause-looks g c side last count p =
+    let h = c.args.self.now in
+    let same : c.stamp_of.result ≡ stamp h.row.values = c.stamp_of.ensures ∙ ap stamp c.as_slice.ensures in
+    subst (λ n. Looks (Found n) side last count (headed h) (headed h) (g.S.Source.left c.args.source.now) (g.S.Source.left c.args.source.now)) (sym same)
+    (stays h.row (headed h) side last count (g.S.Source.left c.args.source.now) (in_front h.full h.row c.if-self.true) p)
 
 pub returns-in-Ok-Some-clause-looks : goal.returns-in-Ok-Some-clause-looks
 returns-in-Ok-Some-clause-looks g c side last count p =
@@ -19,7 +20,7 @@ returns-in-Ok-Some-clause-looks g c side last count p =
     let new = reader_of c.next.new.self in
     let had = g.S.Source.left c.args.source.now in
     let has = g.S.Source.left c.next.new.source in
-    let none = no_some c.args.self.now.ahead (λ row e. c.in_default.not-Some row e) in
+    let none = none_in_front c.args.self.now.full c.args.self.now.row c.if-self.false in
     let called : Called c.next.result old new had has = record {
       again = if_some _ _ old.answer n.again (λ a h. (h.0, ap reader_of h.1));
       moves = n.moves;
@@ -40,7 +41,7 @@ returns-in-Ok-Some-clause-looks g c side last count p =
     let row = c.in-Ok-Some.row in
     let same : c.stamp_of-stamp.result ≡ stamp row.values = c.stamp_of-stamp.ensures ∙ ap stamp c.as_slice-in-Ok-Some.ensures in
     subst (λ k. Looks (Found k) side last count (headed c.args.self.now) (record { reader = new; ahead = Some row }) had has) (sym same)
-    (looks old new had has side last count c.args.self.now.ahead none p c.next.result (Ok (Some row)) (c.in-Ok-Some.is ∙ ap Ok c.in-Ok-Some.field-0-is) called)
+    (looks old new had has side last count (headed c.args.self.now).ahead none p c.next.result (Ok (Some row)) (c.in-Ok-Some.is ∙ ap Ok c.in-Ok-Some.field-0-is) called)
 
 pub returns-in-Ok-None-clause-looks : goal.returns-in-Ok-None-clause-looks
 returns-in-Ok-None-clause-looks g c side last count p =
@@ -49,7 +50,7 @@ returns-in-Ok-None-clause-looks g c side last count p =
     let new = reader_of c.next.new.self in
     let had = g.S.Source.left c.args.source.now in
     let has = g.S.Source.left c.next.new.source in
-    let none = no_some c.args.self.now.ahead (λ row e. c.in_default.not-Some row e) in
+    let none = none_in_front c.args.self.now.full c.args.self.now.row c.if-self.false in
     let called : Called c.next.result old new had has = record {
       again = if_some _ _ old.answer n.again (λ a h. (h.0, ap reader_of h.1));
       moves = n.moves;
@@ -68,7 +69,7 @@ returns-in-Ok-None-clause-looks g c side last count p =
       counted = n.counted;
     } in
     subst (λ o. Looks Ended side last count (headed c.args.self.now) (record { reader = new; ahead = o }) had has) (sym none)
-    (looks old new had has side last count c.args.self.now.ahead none p c.next.result (Ok None) (c.in-Ok-None.is ∙ ap Ok c.in-Ok-None.field-0-is) called)
+    (looks old new had has side last count (headed c.args.self.now).ahead none p c.next.result (Ok None) (c.in-Ok-None.is ∙ ap Ok c.in-Ok-None.field-0-is) called)
 
 pub returns-in-Err-clause-looks : goal.returns-in-Err-clause-looks
 returns-in-Err-clause-looks g c side last count p =
@@ -77,7 +78,7 @@ returns-in-Err-clause-looks g c side last count p =
     let new = reader_of c.next.new.self in
     let had = g.S.Source.left c.args.source.now in
     let has = g.S.Source.left c.next.new.source in
-    let none = no_some c.args.self.now.ahead (λ row e. c.in_default.not-Some row e) in
+    let none = none_in_front c.args.self.now.full c.args.self.now.row c.if-self.false in
     let called : Called c.next.result old new had has = record {
       again = if_some _ _ old.answer n.again (λ a h. (h.0, ap reader_of h.1));
       moves = n.moves;
@@ -96,4 +97,4 @@ returns-in-Err-clause-looks g c side last count p =
       counted = n.counted;
     } in
     subst (λ o. Looks (Failed c.in-Err.end) side last count (headed c.args.self.now) (record { reader = new; ahead = o }) had has) (sym none)
-    (looks old new had has side last count c.args.self.now.ahead none p c.next.result (Err c.in-Err.end) c.in-Err.is called)
+    (looks old new had has side last count (headed c.args.self.now).ahead none p c.next.result (Err c.in-Err.end) c.in-Err.is called)
