@@ -1,5 +1,5 @@
 -- Entries and what they come to, as one more comes and the first goes.
-use Rattle.std.proofs.Common.{◌≡◌, ℕ, zero, suc, ◌≤◌, ◌<◌, true, false, cond, nat_le, [], ◌∷◌, ◌++◌, length, refl, sym, ◌∙◌, ap, subst, subst₂, append-nil, append_assoc, get_or, arith}
+use Rattle.std.proofs.Common.{◌≡◌, ℕ, ◌≤◌, ◌<◌, true, false, cond, nat_le, [], ◌∷◌, ◌++◌, length, refl, sym, ◌∙◌, ap, subst, subst₂, append-nil, append_assoc, get_or, arith}
 use Rattle.std.proofs.lemmas.List.{length-map}
 use Rattle.saber_plan.specs.Parts.{Part, no_part, merge}
 use Rattle.saber_laws.specs.Parts.{MergeHasUnit, MergeIsAssociative}

@@ -153,9 +153,11 @@ fn put_behind(
     ensures back { OnOk result (back.new.items ≡ back.old.items ++ (number, part) ∷ []) }
     ensures part { OnOk result (back_part.new ≡ merge back_part.old part) }
 {
-    back_part.take_from(alloc, &part)?;
     back.push((number, part))?;
-    Ok(())
+    match back.last() {
+        Some(entry) => back_part.take_from(alloc, &entry.1),
+        None => Ok(()),
+    }
 }
 
 impl Sliding {
