@@ -1,5 +1,5 @@
 -- Parts that follow one another, as one more comes and the last goes.
-use Rattle.std.proofs.Common.{◌≡◌, ℕ, ℤ, map, ◌≤◌, List, [], ◌∷◌, ◌++◌, length, Option, Some, None, MatchOption, Bor, refl, sym, ◌∙◌, ap, subst, length-append, arith}
+use Rattle.std.proofs.Common.{◌≡◌, ℕ, zero, suc, ℤ, map, take, slice_index_or, slice_set, ◌≤◌, List, [], ◌∷◌, ◌++◌, length, Option, Some, None, MatchOption, Bor, refl, sym, ◌∙◌, ap, subst, length-append, arith}
 use Rattle.std.specs.Option.{option_copied}
 use Rattle.std.specs.List.{slice_get}
 use Rattle.saber_plan.specs.Parts.{Part, Numbers, answers_of, part_lines, no_part, merge}
@@ -49,6 +49,21 @@ joined assoc old rest a b e h g =
       can = can_push assoc rest (merge a b) front.0 (can_ahead (piled rest) a b front.1 both);
       all = piled-push assoc rest (merge a b) ∙ sym (assoc (piled rest) a b) ∙ ap (λ m. merge m b) (sym one);
     }
+
+-- the last of some, and another in its place
+pub last_is : (ps : List Part) (i : ℕ) (a : Part) → length ps ≡ suc i → a ≡ slice_index_or ps i a → ps ≡ take i ps ++ a ∷ []
+last_is [] i a h e = absurd (omega (arith, h))
+last_is (p ∷ []) zero a h e = ap (λ q. q ∷ []) (sym e)
+last_is (p ∷ []) (suc i) a h e = absurd (omega (arith, h))
+last_is (p ∷ q ∷ ps) zero a h e = absurd (omega (arith, h))
+last_is (p ∷ q ∷ ps) (suc i) a h e = ap (λ l. p ∷ l) (last_is (q ∷ ps) i a (omega (arith, h)) e)
+
+pub last_set : (ps : List Part) (i : ℕ) (a : Part) → length ps ≡ suc i → slice_set ps i a ≡ take i ps ++ a ∷ []
+last_set [] i a h = absurd (omega (arith, h))
+last_set (p ∷ []) zero a h = refl
+last_set (p ∷ []) (suc i) a h = absurd (omega (arith, h))
+last_set (p ∷ q ∷ ps) zero a h = absurd (omega (arith, h))
+last_set (p ∷ q ∷ ps) (suc i) a h = ap (λ l. p ∷ l) (last_set (q ∷ ps) i a (omega (arith, h)))
 
 -- the last two become one
 pub last_two : MergeIsAssociative → (old mid rest : List Part) (a b : Part) → old ≡ mid ++ b ∷ [] → mid ≡ rest ++ a ∷ [] → CanPile old → Joined mid rest a b

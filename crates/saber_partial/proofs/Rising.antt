@@ -144,6 +144,14 @@ keys_more (e ∷ es) (f ∷ fs) (suc i) l m h r =
     let next : suc i + 1 ≡ suc (i + 1) = omega arith in
     keys_more es fs i (omega (arith, l)) (omega (arith, m)) h (subst (λ n. keys_of (drop n (e ∷ es)) ≡ keys_of (drop n (f ∷ fs))) next r)
 
+pub keys_alone : (es fs : List (List ℤ × Numbers)) → length es ≡ 1 → length fs ≡ 1
+    → ((d : List ℤ × Numbers) → (get_or es 0 d).0 ≡ (get_or fs 0 d).0) → keys_of es ≡ keys_of fs
+keys_alone [] fs l m h = absurd (omega (arith, l))
+keys_alone (e ∷ es) [] l m h = absurd (omega (arith, m))
+keys_alone (e ∷ []) (f ∷ []) l m h = λ i. h e i ∷ []
+keys_alone (e ∷ []) (f ∷ y ∷ fs) l m h = absurd (omega (arith, m))
+keys_alone (e ∷ x ∷ es) (f ∷ fs) l m h = absurd (omega (arith, l))
+
 -- ---- a key's entry, read and written
 
 -- a row read by a layout that is the same

@@ -157,6 +157,14 @@ left_same gs es i d h l low =
     let both : get_or gs i d ∷ drop (i + 1) gs ≡ get_or es i d ∷ drop (i + 1) es = sym a ∙ h ∙ b in
     (cc, cc)
 
+-- one entry alone
+pub joined_alone : (es fs : List (List ℤ × Numbers)) (d : List ℤ × Numbers) → length es ≡ 1 → 0 < length fs
+    → set es 0 ((get_or es 0 d).0, join_numbers (get_or es 0 d).1 (get_or fs 0 d).1) ≡ joined_each es fs
+joined_alone [] fs d h g = absurd (omega (arith, h))
+joined_alone (e ∷ es) [] d h g = absurd (omega (arith, g))
+joined_alone (e ∷ []) (f ∷ fs) d h g = refl
+joined_alone (e ∷ x ∷ es) (f ∷ fs) d h g = absurd (omega (arith, h))
+
 -- one more entry joined
 module _ (gs hs es fs : List (List ℤ × Numbers)) (i : ℕ) (d : List ℤ × Numbers) (low : i < length es) (more : i < length fs)
     (long : length gs ≡ length es) (left : drop i gs ≡ drop i es)

@@ -139,6 +139,7 @@ impl Partial {
     }
 
     // Takes in what is known of later rows where there is a group.
+    #[inline]
     fn take_all(&mut self, alloc: Global, other: &Partial) -> Result<(), NoMemory>
         requires some { full self.old ≡ Some self.old }
         requires can { CanMerge self.old other.now }

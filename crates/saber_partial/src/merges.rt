@@ -5,7 +5,7 @@ ghost use Rattle.saber_plan.specs.Parts.{merge, Numbers};
 ghost use Rattle.saber_partial.specs.Tallies.{with_row};
 ghost use Rattle.saber_partial.specs.Sorted.{joined_each, part_of, weave, CanJoinAll, JoinsAt, JoinsFit, Rises};
 
-use crate::places::{have_same_keys, key_order, place};
+use crate::places::{have_one_key, have_same_keys, key_order, place};
 use crate::table::Table;
 use saber_plan::NoMemory;
 use std::alloc::Global;
@@ -22,6 +22,18 @@ fn join_each(groups: &mut Table, others: &Table)
     for i in 0..groups.len() {
         groups.join(i, others.row(i));
     }
+}
+
+// The same where there is one group.
+#[inline]
+fn join_one(groups: &mut Table, others: &Table)
+    requires alike { groups.old.layout ≡ others.now.layout }
+    requires same { keys_of groups.old.entries ≡ keys_of others.now.entries }
+    requires one { length groups.old.entries ≡ 1 }
+    requires can { CanJoinAll groups.old.entries others.now.entries }
+    ensures { groups.new.entries ≡ joined_each groups.old.entries others.now.entries }
+{
+    groups.join(0, others.row(0));
 }
 
 // Takes in a group by a look-up, and copies it if it is new.
@@ -95,9 +107,10 @@ fn woven(alloc: Global, groups: &Table, others: &Table) -> Result<Table, NoMemor
     Ok(out)
 }
 
-/// Takes in groups of later rows, by key: side by side where both have the same keys, by look-ups where
-/// they are few, else in a walk over both into a new list.
-pub(crate) fn take_in(alloc: Global, groups: &mut Table, others: &Table) -> Result<(), NoMemory>
+// Takes in groups of later rows, by key: side by side where both have the same keys, by look-ups where
+// they are few, else in a walk over both into a new list.
+#[inline(never)]
+fn take_in_some(alloc: Global, groups: &mut Table, others: &Table) -> Result<(), NoMemory>
     requires alike { groups.old.layout ≡ others.now.layout }
     requires mine { Rises groups.old.entries }
     requires theirs { Rises others.now.entries }
@@ -114,6 +127,23 @@ pub(crate) fn take_in(alloc: Global, groups: &mut Table, others: &Table) -> Resu
     }
     *groups = woven(alloc, groups, others)?;
     Ok(())
+}
+
+/// Takes in groups of later rows, by key. Where there is one group, and it is the same one, at once.
+#[inline]
+pub(crate) fn take_in(alloc: Global, groups: &mut Table, others: &Table) -> Result<(), NoMemory>
+    requires alike { groups.old.layout ≡ others.now.layout }
+    requires mine { Rises groups.old.entries }
+    requires theirs { Rises others.now.entries }
+    requires can { JoinsFit (part_of groups.old.entries) (part_of others.now.entries) }
+    ensures rises { Rises groups.new.entries }
+    ensures ok { OnOk result (part_of groups.new.entries ≡ merge (part_of groups.old.entries) (part_of others.now.entries)) }
+{
+    if have_one_key(groups, others) {
+        join_one(groups, others);
+        return Ok(());
+    }
+    take_in_some(alloc, groups, others)
 }
 
 /// The groups of both, in a list of their own.

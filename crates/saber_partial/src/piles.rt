@@ -126,12 +126,16 @@ fn merge_behind(alloc: Global, parts: &mut Vec<Partial>, part: &Partial) -> Resu
     ensures can { CanPile parts.new.items }
 {
     merge_is_associative();
-    let Some(mut last) = parts.pop() else {
+    let Some(last) = parts.last_mut() else {
         return Ok(());
     };
-    last.merge_from(alloc, part)?;
-    parts.push(last)?;
-    Ok(())
+    match last.merge_from(alloc, part) {
+        Ok(()) => Ok(()),
+        Err(lacks) => {
+            parts.clear();
+            Err(lacks)
+        }
+    }
 }
 
 // What comes behind all others, which is lent.

@@ -66,6 +66,22 @@ pub(crate) fn have_same_keys(groups: &Table, others: &Table) -> bool
     true
 }
 
+/// Whether both have one group alone, of the same key, as parts of queries without GROUP BY have.
+#[inline]
+pub(crate) fn have_one_key(groups: &Table, others: &Table) -> bool
+    ensures same { result ≡ true → keys_of groups.now.entries ≡ keys_of others.now.entries }
+    ensures one { result ≡ true → length groups.now.entries ≡ 1 }
+{
+    if groups.len() != 1 || others.len() != 1 {
+        return false;
+    }
+    match key_order(groups.key(0), others.key(0)) {
+        Ordering::Equal => true,
+        Ordering::Less => false,
+        Ordering::Greater => false,
+    }
+}
+
 /// The same among groups whose places by key are told.
 pub(crate) fn place_by(groups: &Table, order: &[u8], key: &[i128]) -> Result<usize, usize>
     requires { IsOrder order.now groups.now.entries }

@@ -2,7 +2,7 @@ use Rattle.std.proofs.Common.{sym, ap, ◌∙◌, subst}
 use Rattle.saber_partial.specs.Sorted.{part_of, Rises}
 use Rattle.saber_partial.proofs.Rising.{can_all}
 use Rattle.saber_partial.proofs.Weaving.{joined_rises, joined_merge, weave_rises, weave_merge}
-use Rattle.saber_partial.proofs.merges.take_in.Goals as goal
+use Rattle.saber_partial.proofs.merges.take_in_some.Goals as goal
 
 pub join_each-requires-clause-can : goal.join_each-requires-clause-can
 join_each-requires-clause-can c = can_all c.args.groups.now.entries c.args.others.now.entries c.requires.mine c.requires.theirs c.requires.can

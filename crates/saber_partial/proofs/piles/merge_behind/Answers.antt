@@ -1,24 +1,34 @@
-use Rattle.std.proofs.Common.{◌++◌, ◌∷◌, [], sym, subst, ◌∙◌, ap}
+use Rattle.std.proofs.Common.{◌≡◌, ◌++◌, ◌∷◌, [], ◌-◌, suc, length, take, sym, subst, ◌∙◌, ap, arith}
 use Rattle.saber_plan.specs.Parts.{Part}
 use Rattle.saber_partial.specs.Piles.{piled, CanPile}
-use Rattle.saber_partial.proofs.PileFacts.{joined}
+use Rattle.saber_partial.proofs.PileFacts.{joined, last_is, last_set}
 use Rattle.saber_partial.proofs.piles.merge_behind.Goals as goal
 
 pub merge_from-requires : goal.merge_from-requires
-merge_from-requires c = (joined c.merge_is_associative.ensures c.args.parts.now.items c.pop.new.self.items c.in-Some.last c.args.part.now c.in-Some.ensures.items c.requires.can c.requires.room).two
+merge_from-requires c =
+    let ps = c.args.parts.now.items in
+    let i = c.args.parts.now.len - 1 in
+    let some = c.requires.some in
+    let same = c.args.parts.now.ok.0 in
+    let long : length ps ≡ suc i = omega (arith, some, same) in
+    (joined c.merge_is_associative.ensures ps (take i ps) c.in-Some.last.now c.args.part.now (last_is ps i c.in-Some.last.now long c.in-Some.ensures.value) c.requires.can c.requires.room).two
 
-pub returns-in_err-merge_from-clause-can : goal.returns-in_err-merge_from-clause-can
-returns-in_err-merge_from-clause-can c =
-    (joined c.merge_is_associative.ensures c.args.parts.now.items c.pop.new.self.items c.in-Some.last c.args.part.now c.in-Some.ensures.items c.requires.can c.requires.room).rest_can
+pub returns-in-Ok-clause-all : goal.returns-in-Ok-clause-all
+returns-in-Ok-clause-all c =
+    let ps = c.args.parts.now.items in
+    let i = c.args.parts.now.len - 1 in
+    let some = c.requires.some in
+    let same = c.args.parts.now.ok.0 in
+    let long : length ps ≡ suc i = omega (arith, some, same) in
+    let j = joined c.merge_is_associative.ensures ps (take i ps) c.in-Some.last.now c.args.part.now (last_is ps i c.in-Some.last.now long c.in-Some.ensures.value) c.requires.can c.requires.room in
+    ap piled (last_set ps i c.merge_from.new.self long ∙ ap (λ (p : Part). take i ps ++ p ∷ []) c.in-Ok.ensures) ∙ j.all
 
-pub returns-clause-all : goal.returns-clause-all
-returns-clause-all c =
-    let rest = c.pop.new.self.items in
-    ap piled c.in_ok-push.ensures.items ∙ ap (λ (p : Part). piled (rest ++ p ∷ [])) c.in_ok-merge_from.ensures
-    ∙ (joined c.merge_is_associative.ensures c.args.parts.now.items rest c.in-Some.last c.args.part.now c.in-Some.ensures.items c.requires.can c.requires.room).all
-
-pub returns-clause-can : goal.returns-clause-can
-returns-clause-can c =
-    let rest = c.pop.new.self.items in
-    let j = joined c.merge_is_associative.ensures c.args.parts.now.items rest c.in-Some.last c.args.part.now c.in-Some.ensures.items c.requires.can c.requires.room in
-    subst CanPile (sym c.in_ok-push.ensures.items) (subst (λ (p : Part). CanPile (rest ++ p ∷ [])) (sym c.in_ok-merge_from.ensures) j.can)
+pub returns-in-Ok-clause-can : goal.returns-in-Ok-clause-can
+returns-in-Ok-clause-can c =
+    let ps = c.args.parts.now.items in
+    let i = c.args.parts.now.len - 1 in
+    let some = c.requires.some in
+    let same = c.args.parts.now.ok.0 in
+    let long : length ps ≡ suc i = omega (arith, some, same) in
+    let j = joined c.merge_is_associative.ensures ps (take i ps) c.in-Some.last.now c.args.part.now (last_is ps i c.in-Some.last.now long c.in-Some.ensures.value) c.requires.can c.requires.room in
+    subst CanPile (sym (last_set ps i c.merge_from.new.self long ∙ ap (λ (p : Part). take i ps ++ p ∷ []) c.in-Ok.ensures)) j.can
