@@ -18,7 +18,7 @@ later_none : (a : Option ℕ) → later_of a None ≡ a
 later_none None = refl
 later_none (Some x) = refl
 
-drop_at : (d : Row) (xs : List Row) (i : ℕ) → i < length xs → drop i xs ≡ get_or xs i d ∷ drop (i + 1) xs
+pub drop_at : (d : Row) (xs : List Row) (i : ℕ) → i < length xs → drop i xs ≡ get_or xs i d ∷ drop (i + 1) xs
 drop_at d xs i h = at xs i h ∙ (let e : suc i ≡ i + 1 = omega arith in ap (λ k. get_or xs i d ∷ drop k xs) e) where
   at : (ys : List Row) (k : ℕ) → k < length ys → drop k ys ≡ get_or ys k d ∷ drop (suc k) ys
   at [] k g = absurd (omega (arith, g))

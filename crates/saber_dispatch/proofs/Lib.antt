@@ -2,6 +2,7 @@ pub mod ReadSteps
 pub mod FedCalls
 pub mod Fillings
 pub mod Takings
+pub mod MergedTakings
 pub mod FedFillings
 pub mod Faults
 pub mod LastBlocks

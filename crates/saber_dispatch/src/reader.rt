@@ -1,5 +1,8 @@
 // The rows of one input, or those of two, merged.
-ghost use Rattle.std.specs.Prelude.{◌≡◌, ◌≢◌, ◌≤◌, Err, []};
+ghost use Rattle.std.specs.Prelude.{◌≡◌, ◌≢◌, ◌≤◌, ◌<◌, ◌+◌, ◌-◌, ◌^◌, Err, [], length, drop};
+ghost use Rattle.std.specs.List.{AllByRecursion};
+ghost use Rattle.saber_plan.specs.Rows.{stamp};
+ghost use Rattle.saber_plan.specs.Windows.{mark_after};
 ghost use Rattle.saber_plan.specs.declared.rows.Side.{Side};
 ghost use Rattle.saber_rows.specs.declared.ends.RowEnd.{RowEnd};
 ghost use Rattle.saber_dispatch.specs.declared.ends.End.{End};
@@ -108,6 +111,43 @@ fn take_of_one(lines: &mut Lines, mark: &mut Mark, out: &mut RowBuilder, most: u
     taken
 }
 
+// The mark behind the rows from this one on.
+fn mark_from(before: &Mark, out: &RowBuilder, from: usize) -> Mark
+    requires within { from ≤ length out.now.rows }
+    requires left { before.now.left + (length out.now.rows - from) < 2 ^ 63 }
+    requires right { before.now.right + (length out.now.rows - from) < 2 ^ 63 }
+    requires times { AllByRecursion (λ r. stamp r.values < 2 ^ 63) (drop from out.now.rows) }
+    ensures { result ≡ mark_after before.now (drop from out.now.rows) }
+{
+    let mut mark = *before;
+    for i in from..out.len() {
+        let row = out.row(i);
+        mark = step_mark(&mark, &row);
+    }
+    mark
+}
+
+// Appends the next rows of two inputs, up to so many, as far as both sides hold theirs and they need no second look, and
+// steps the mark over them.
+#[inline(always)]
+fn take_of_two(merge: &mut Merge, mark: &mut Mark, out: &mut RowBuilder, most: usize) -> usize
+    requires begun { out.old.begun ≡ [] }
+    requires reads { (q : Tree) × Reads q mark.old (two (merger_of merge.old)) }
+    ensures most { result ≤ most }
+    ensures begun { out.new.begun ≡ [] }
+    ensures takes { TakesOn result mark.old mark.new (two (merger_of merge.old)) (two (merger_of merge.new)) out.old.rows out.new.rows }
+{
+    moves_go_on();
+    merges_go_on();
+    readers_stand();
+    mergers_stand();
+    stamps_fit();
+    let from = out.len();
+    let taken = merge.take_quick(out, most);
+    *mark = mark_from(mark, out, from);
+    taken
+}
+
 impl Reader {
     /// Appends the next rows, up to so many, as far as the reader holds them and needs no second look at them, steps the
     /// mark over them, and answers how many they are. No input is asked.
@@ -119,11 +159,9 @@ impl Reader {
         ensures begun { out.new.begun ≡ [] }
         ensures takes { TakesOn result mark.old mark.new (reading_of self.old) (reading_of self.new) out.old.rows out.new.rows }
     {
-        readers_stand();
-        mergers_stand();
         match self {
             Reader::One(lines) => take_of_one(lines, mark, out, most),
-            Reader::Two(_) => 0,
+            Reader::Two(merge) => take_of_two(merge, mark, out, most),
         }
     }
 

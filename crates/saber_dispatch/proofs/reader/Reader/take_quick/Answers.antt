@@ -1,8 +1,8 @@
-use Rattle.std.proofs.Common.{refl, sym, subst}
+use Rattle.std.proofs.Common.{sym, subst}
 use Rattle.saber_rows.specs.Reader.{reader_of}
-use Rattle.saber_dispatch.specs.Readings.{one, reading_of}
+use Rattle.saber_rows.specs.Merging.{merger_of}
+use Rattle.saber_dispatch.specs.Readings.{one, two, reading_of}
 use Rattle.saber_dispatch.specs.Filling.{TakesOn}
-use Rattle.saber_dispatch.proofs.Takings.{takes_none}
 use Rattle.saber_dispatch.proofs.reader.Reader.take_quick.Goals as goal
 
 pub returns-in-One-clause-takes : goal.returns-in-One-clause-takes
@@ -12,4 +12,5 @@ returns-in-One-clause-takes c =
 
 pub returns-in-Two-clause-takes : goal.returns-in-Two-clause-takes
 returns-in-Two-clause-takes c =
-    takes_none c.readers_stand.ensures c.mergers_stand.ensures c.args.mark.now (reading_of c.args.self.now) (reading_of c.args.self.now) c.args.out.now.rows c.args.out.now.rows refl refl
+    let t = c.take_of_two in
+    subst (λ r. TakesOn t.result c.args.mark.now t.new.mark (reading_of r) (two (merger_of t.new.merge)) c.args.out.now.rows t.new.out.rows) (sym c.in-Two.is) t.ensures.takes
