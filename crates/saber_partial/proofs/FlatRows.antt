@@ -120,6 +120,10 @@ module _ (l : Layout) (n i : ℕ) (xs : List ℤ) (rows : AreRows l n xs) (low :
     each = all_back (IsRow l) _ _ (subst (AllByRecursion (IsRow l)) halves rows.each);
   }
 
+  -- the entries up to one
+  pub seen_front : entries_in l i (take (i * l.width) xs) ≡ take i (entries_in l n xs)
+  seen_front = sym (ap (take i) seen_halves ∙ take_at _ _ i (length-entries l i (take (i * l.width) xs)))
+
   -- the entries from one on
   pub seen_behind : entries_in l (n - i) (drop (i * l.width) xs) ≡ drop i (entries_in l n xs)
   seen_behind = sym (ap (drop i) seen_halves ∙ drop_at _ _ i (length-entries l i (take (i * l.width) xs)))
@@ -133,6 +137,29 @@ module _ (l : Layout) (n i : ℕ) (xs : List ℤ) (rows : AreRows l n xs) (low :
 
   pub rows_put_in : (r : List ℤ) → IsRow l r → AreRows l (n + 1) (take (i * l.width) xs ++ (r ++ drop (i * l.width) xs))
   rows_put_in r h = rows_append l i (suc (n - i)) (n + 1) _ _ (omega (arith, low)) front_rows (rows_append l 1 (n - i) (suc (n - i)) r _ (omega arith) (are_one l r rows.layout h) behind_rows)
+
+-- rows from one up to another
+module _ (l : Layout) (n i j : ℕ) (xs : List ℤ) (rows : AreRows l n xs) (order : i ≤ j) (low : j ≤ n) where
+  first : i ≤ n
+  first = omega (arith, order, low)
+
+  pub range_ends : (i * l.width ≤ j * l.width) × (j * l.width ≤ length xs)
+  range_ends = (start_within l.width i j order, start_ends l n j xs rows low)
+
+  range_cut : (d : List ℤ) → d ≡ xs → take (j * l.width - i * l.width) (drop (i * l.width) d) ≡ take ((j - i) * l.width) (drop (i * l.width) xs)
+  range_cut d e =
+      let both = times_both l.width i (j - i) j (omega (arith, order)) in
+      let wide : j * l.width - i * l.width ≡ (j - i) * l.width = omega (arith, both) in
+      ap₂ (λ k m. take k (drop (i * l.width) m)) wide e
+
+  pub range_rows : (d : List ℤ) → d ≡ xs → AreRows l (j - i) (take (j * l.width - i * l.width) (drop (i * l.width) d))
+  range_rows d e = subst (AreRows l (j - i)) (sym (range_cut d e)) (front_rows l (n - i) (j - i) (drop (i * l.width) xs) (behind_rows l n i xs rows first) (omega (arith, order, low)))
+
+  pub range_seen : (d : List ℤ) → d ≡ xs → entries_in l (j - i) (take (j * l.width - i * l.width) (drop (i * l.width) d)) ≡ take (j - i) (drop i (entries_in l n xs))
+  range_seen d e =
+      ap (entries_in l (j - i)) (range_cut d e)
+      ∙ seen_front l (n - i) (j - i) (drop (i * l.width) xs) (behind_rows l n i xs rows first) (omega (arith, order, low))
+      ∙ ap (take (j - i)) (seen_behind l n i xs rows first)
 
 abbrev pub here : Layout → ℕ → List ℤ → List ℤ
 here l i xs = take l.width (drop (i * l.width) xs)

@@ -1,6 +1,7 @@
 -- Entries in one list, by key, as a finite map: look-ups, writes and inserts.
-use Rattle.std.proofs.Common.{◌≡◌, ℕ, zero, suc, ◌+◌, ◌<◌, ◌≤◌, T, List, [], ◌∷◌, length, get_or, drop, ℤ, Bool, true, false, cond, Option, Some, None, refl, sym, ◌∙◌, ap, ap₂, subst, ⊎_elim, arith}
+use Rattle.std.proofs.Common.{◌≡◌, ℕ, zero, suc, ◌+◌, ◌-◌, ◌<◌, ◌≤◌, T, List, [], ◌∷◌, length, get_or, drop, ℤ, Bool, true, false, cond, Option, Some, None, refl, sym, ◌∙◌, ap, ap₂, subst, ⊎_elim, arith}
 use Rattle.std.proofs.Math.ListN.{set}
+use Rattle.std.proofs.lemmas.List.{get_or-drop, length-drop}
 use Rattle.std.proofs.Math.Nat.{eq-or-lt_of_le}
 use Rattle.std.specs.declared.cmp.Ordering.{Ordering}
 use Rattle.std.specs.declared.cmp.Ordering.TheVariants.{Less, Equal, Greater}
@@ -19,7 +20,7 @@ use Rattle.saber_plan.specs.MapFacts.{equal_if, first_alone, rest_rises}
 use Rattle.saber_plan.specs.PartFacts.{total, exact}
 use Rattle.saber_partial.specs.declared.layout.Layout.{Layout}
 use Rattle.saber_partial.specs.Flat.{entry_in}
-use Rattle.saber_partial.specs.Tallies.{with_row}
+use Rattle.saber_partial.specs.Tallies.{with_row, CanJoin}
 use Rattle.saber_partial.specs.Sorted.{part_of, Rises, IsAt, IsGap, JoinsFit, CanJoinAll}
 use Rattle.saber_partial.specs.MergeFacts.{not_both}
 
@@ -122,6 +123,16 @@ put_rises k n es s = is_sorted-put key_cmp total k n es s
 
 pub can_all : (es fs : List (List ℤ × Numbers)) → Rises es → Rises fs → JoinsFit (part_of es) (part_of fs) → CanJoinAll es fs
 can_all es fs s t can = record { at = λ i j d e h l same. can.at (get_or es i d).0 _ _ (get_there es (get_or es i d).0 i d s h refl) (get_there fs (get_or es i d).0 j e t l (sym same)) }
+
+-- the same of those of the other list from one on
+pub can_behind : (es fs : List (List ℤ × Numbers)) (n i j : ℕ) (d : List ℤ × Numbers) → CanJoinAll es (drop n fs) → n ≤ j → i < length es → j < length fs
+    → (get_or es i d).0 ≡ (get_or fs j d).0 → CanJoin (get_or es i d).1 (get_or fs j d).1
+can_behind es fs n i j d can start low more same =
+    let far : n + (j - n) ≡ j = omega (arith, start) in
+    let there : get_or (drop n fs) (j - n) d ≡ get_or fs j d = get_or-drop n fs (j - n) d ∙ ap (λ m. get_or fs m d) far in
+    let long = length-drop n fs in
+    subst (λ (x : List ℤ × Numbers). CanJoin (get_or es i d).1 x.1) there
+    (can.at i (j - n) d d low (omega (arith, start, more, long)) (same ∙ ap (λ (x : List ℤ × Numbers). x.0) (sym there)))
 
 -- keys that are the same are so at each place
 pub same_at : (es fs : List (List ℤ × Numbers)) (i : ℕ) (d e : List ℤ × Numbers) → keys_of es ≡ keys_of fs → i < length es → (i < length fs) × ((get_or es i d).0 ≡ (get_or fs i e).0)

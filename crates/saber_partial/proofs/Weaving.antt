@@ -1,8 +1,9 @@
 -- The entries of two lists by key, as the merge of two parts.
-use Rattle.std.proofs.Common.{◌≡◌, ℕ, ◌+◌, ◌<◌, T, List, [], ◌∷◌, ◌++◌, length, get_or, take, drop, append_assoc, append-nil, ◌⊎◌, inl, inr, ℤ, Bool, true, false, cond, Option, Some, None, refl, sym, ◌∙◌, ap, ap₂, subst, arith}
-use Rattle.std.proofs.lemmas.List.{drop_more, drop-set-lt, get_or_push, length-set, take_more_set}
+use Rattle.std.proofs.Common.{◌≡◌, ℕ, suc, ◌+◌, ◌-◌, ◌<◌, ◌≤◌, T, List, [], ◌∷◌, ◌++◌, length, get_or, take, drop, append_assoc, append-nil, ◌⊎◌, inl, inr, ℤ, Bool, true, false, cond, Option, Some, None, refl, sym, ◌∙◌, ap, ap₂, subst, ⊎_elim, arith}
+use Rattle.std.proofs.lemmas.List.{drop_more, drop-drop, drop-set-lt, get_or-drop, get_or-take, get_or_push, length-set, length-take, take-append-drop, take_more_set}
 use Rattle.std.proofs.Math.Seq.{set-append_seam}
 use Rattle.std.proofs.Math.ListN.{set}
+use Rattle.std.proofs.Math.Nat.{eq-or-lt_of_le}
 use Rattle.std.specs.declared.cmp.Ordering.{Ordering}
 use Rattle.std.specs.declared.cmp.Ordering.TheVariants.{Less, Equal, Greater}
 use Rattle.std.specs.Ordering.{eq_by_cmp, is_lt}
@@ -15,8 +16,8 @@ use Rattle.saber_plan.specs.Parts.{Numbers, join_numbers, merge}
 use Rattle.saber_plan.specs.ListFacts.{T_parts, and_T}
 use Rattle.saber_plan.specs.MapFacts.{equal_if, get-both, not_below, rest_rises, join-none}
 use Rattle.saber_plan.specs.PartFacts.{total, exact}
-use Rattle.saber_partial.specs.Sorted.{part_of, Rises, joined_each, weave}
-use Rattle.saber_partial.proofs.Rising.{less, turned_back}
+use Rattle.saber_partial.specs.Sorted.{part_of, Rises, joined_each, weave, AllBelow}
+use Rattle.saber_partial.proofs.Rising.{less, turned, turned_back}
 
 less_T : (o : Ordering) → o ≡ Less → T (is_lt o)
 less_T o e = subst (λ r. T (is_lt r)) (sym e) tt
@@ -192,19 +193,70 @@ module _ (out es fs : List (List ℤ × Numbers)) (i j : ℕ) (d : List ℤ × N
       → (out ++ x ∷ []) ++ rest ≡ out ++ weave (drop i es) (drop j fs)
   step x rest h = append_assoc out (x ∷ []) rest ∙ ap (λ l. out ++ l) (sym (ap₂ weave (drop_more es i d low) (drop_more fs j d more) ∙ h))
 
-  pub woven_less : key_cmp (get_or es i d).0 (get_or fs j d).0 ≡ Less
-      → (out ++ get_or es i d ∷ []) ++ weave (drop (i + 1) es) (drop j fs) ≡ out ++ weave (drop i es) (drop j fs)
-  woven_less h = step (get_or es i d) (weave (drop (i + 1) es) (drop j fs))
-      (weave_less _ _ _ _ h ∙ ap (λ l. get_or es i d ∷ weave (drop (i + 1) es) l) (sym (drop_more fs j d more)))
-
   pub woven_equal : key_cmp (get_or es i d).0 (get_or fs j d).0 ≡ Equal
       → (out ++ ((get_or es i d).0, join_numbers (get_or es i d).1 (get_or fs j d).1) ∷ []) ++ weave (drop (i + 1) es) (drop (j + 1) fs) ≡ out ++ weave (drop i es) (drop j fs)
   woven_equal h = step _ (weave (drop (i + 1) es) (drop (j + 1) fs)) (weave_equal _ _ _ _ h)
 
-  pub woven_greater : key_cmp (get_or es i d).0 (get_or fs j d).0 ≡ Greater
-      → (out ++ get_or fs j d ∷ []) ++ weave (drop i es) (drop (j + 1) fs) ≡ out ++ weave (drop i es) (drop j fs)
-  woven_greater h = step (get_or fs j d) (weave (drop i es) (drop (j + 1) fs))
-      (weave_greater _ _ _ _ h ∙ ap (λ l. get_or fs j d ∷ weave l (drop (j + 1) fs)) (sym (drop_more es i d low)))
+-- some entries at once, all below the next of the other list
+run_less : (xs es : List (List ℤ × Numbers)) (f : List ℤ × Numbers) (fs : List (List ℤ × Numbers)) → ((k : ℕ) (d : List ℤ × Numbers) → k < length xs → key_cmp (get_or xs k d).0 f.0 ≡ Less)
+    → xs ++ weave es (f ∷ fs) ≡ weave (xs ++ es) (f ∷ fs)
+run_less [] es f fs h = refl
+run_less (x ∷ xs) es f fs h =
+    ap (λ l. x ∷ l) (run_less xs es f fs (λ k d l. h (suc k) d (omega (arith, l)))) ∙ sym (weave_less x f (xs ++ es) fs (h 0 x (omega arith)))
+
+run_greater : (e : List ℤ × Numbers) (es xs fs : List (List ℤ × Numbers)) → ((k : ℕ) (d : List ℤ × Numbers) → k < length xs → key_cmp (get_or xs k d).0 e.0 ≡ Less)
+    → xs ++ weave (e ∷ es) fs ≡ weave (e ∷ es) (xs ++ fs)
+run_greater e es [] fs h = refl
+run_greater e es (x ∷ xs) fs h =
+    ap (λ l. x ∷ l) (run_greater e es xs fs (λ k d l. h (suc k) d (omega (arith, l)))) ∙ sym (weave_greater e x es (xs ++ fs) (turned x.0 e.0 (h 0 x (omega arith))))
+
+-- those of a list from one place up to another
+module _ (es : List (List ℤ × Numbers)) (i end : ℕ) (order : i ≤ end) where
+  cut : take (end - i) (drop i es) ++ drop end es ≡ drop i es
+  cut =
+      let far : i + (end - i) ≡ end = omega (arith, order) in
+      let rest : drop (end - i) (drop i es) ≡ drop end es = drop-drop (end - i) i es ∙ ap (λ n. drop n es) far in
+      ap (λ l. take (end - i) (drop i es) ++ l) (sym rest) ∙ take-append-drop (end - i) (drop i es)
+
+  below_cut : (k : List ℤ) → AllBelow es i end k → (j : ℕ) (d : List ℤ × Numbers) → j < length (take (end - i) (drop i es)) → key_cmp (get_or (take (end - i) (drop i es)) j d).0 k ≡ Less
+  below_cut k h j d l =
+      let most = length-take (end - i) (drop i es) in
+      let low : j < end - i = omega (arith, l, most) in
+      ap (λ (x : List ℤ × Numbers). key_cmp x.0 k) (get_or-take (end - i) (drop i es) j d low ∙ get_or-drop i es j d) ∙ h (i + j) d (omega arith) (omega (arith, low))
+
+-- the next entries of two lists, up to the first one of the other
+module _ (out es fs : List (List ℤ × Numbers)) (i j : ℕ) (d : List ℤ × Numbers) where
+  pub woven_run_less : (end : ℕ) → i ≤ end → j < length fs → AllBelow es i end (get_or fs j d).0
+      → (out ++ take (end - i) (drop i es)) ++ weave (drop end es) (drop j fs) ≡ out ++ weave (drop i es) (drop j fs)
+  woven_run_less end order more h =
+      let f = get_or fs j d in
+      let here = drop_more fs j d more in
+      let xs = take (end - i) (drop i es) in
+      append_assoc out xs (weave (drop end es) (drop j fs))
+      ∙ ap (λ l. out ++ l) (ap (λ l. xs ++ weave (drop end es) l) here
+      ∙ run_less xs (drop end es) f (drop (j + 1) fs) (below_cut es i end order f.0 h)
+      ∙ ap₂ weave (cut es i end order) (sym here))
+
+  pub woven_run_greater : (end : ℕ) → j ≤ end → i < length es → AllBelow fs j end (get_or es i d).0
+      → (out ++ take (end - j) (drop j fs)) ++ weave (drop i es) (drop end fs) ≡ out ++ weave (drop i es) (drop j fs)
+  woven_run_greater end order low h =
+      let e = get_or es i d in
+      let here = drop_more es i d low in
+      let xs = take (end - j) (drop j fs) in
+      append_assoc out xs (weave (drop i es) (drop end fs))
+      ∙ ap (λ l. out ++ l) (ap (λ l. xs ++ weave l (drop end fs)) here
+      ∙ run_greater e (drop (i + 1) es) xs (drop end fs) (below_cut fs j end order e.0 h)
+      ∙ ap₂ weave (sym here) (cut fs j end order))
+
+-- one more place below a key
+pub below_more : (es : List (List ℤ × Numbers)) (m n : ℕ) (k : List ℤ) → AllBelow es m n k → ((d : List ℤ × Numbers) → key_cmp (get_or es n d).0 k ≡ Less) → AllBelow es m (n + 1) k
+below_more es m n k h one j d low far =
+    ⊎_elim (λ (w : j ≡ n). ap (λ (i : ℕ). key_cmp (get_or es i d).0 k) w ∙ one d) (λ (w : j < n). h j d low w) (eq-or-lt_of_le (omega (arith, far)))
+
+-- and one before them
+pub below_first : (es : List (List ℤ × Numbers)) (m n : ℕ) (k : List ℤ) → ((d : List ℤ × Numbers) → key_cmp (get_or es m d).0 k ≡ Less) → AllBelow es (m + 1) n k → AllBelow es m n k
+below_first es m n k one h j d low far =
+    ⊎_elim (λ (w : m ≡ j). ap (λ (i : ℕ). key_cmp (get_or es i d).0 k) (sym w) ∙ one d) (λ (w : m < j). h j d (omega (arith, w)) far) (eq-or-lt_of_le low)
 
 -- the last entry joined with more
 pub joined_last : (out : List (List ℤ × Numbers)) (e d : List ℤ × Numbers) (v : Numbers) (n : ℕ) → n ≡ length out

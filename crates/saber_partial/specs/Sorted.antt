@@ -26,6 +26,10 @@ pub record IsGap (es : List (List ℤ × Numbers)) (k : List ℤ) (i : ℕ) : Ty
   pub below : (j : ℕ) (d : List ℤ × Numbers) → j < i → key_cmp (get_or es j d).0 k ≡ Less
   pub above : (j : ℕ) (d : List ℤ × Numbers) → i ≤ j → j < length es → key_cmp (get_or es j d).0 k ≡ Greater
 
+-- the keys from place m up to place n are below this one
+abbrev pub AllBelow : List (List ℤ × Numbers) → ℕ → ℕ → List ℤ → Type 0
+AllBelow es m n k = (j : ℕ) (d : List ℤ × Numbers) → m ≤ j → j < n → key_cmp (get_or es j d).0 k ≡ Less
+
 -- what a part has of a key can be joined with the numbers
 abbrev pub JoinsAt : Part → List ℤ → Numbers → Type 0
 JoinsAt m k v = (a : Numbers) → get m k ≡ Some a → CanJoin a v

@@ -1,11 +1,10 @@
 // Groups with those of later rows, in lists by key.
-ghost use Rattle.std.specs.Prelude.{◌≡◌, ◌<◌, length, get_or, IfOk, OnOk, List, ℤ};
+ghost use Rattle.std.specs.Prelude.{◌≡◌, ◌≤◌, length, drop, IfOk, OnOk};
 ghost use Rattle.std.specs.Map.{keys_of};
-ghost use Rattle.saber_plan.specs.Parts.{merge, Numbers};
-ghost use Rattle.saber_partial.specs.Tallies.{with_row};
-ghost use Rattle.saber_partial.specs.Sorted.{joined_each, part_of, weave, CanJoinAll, JoinsAt, JoinsFit, Rises};
+ghost use Rattle.saber_plan.specs.Parts.{merge};
+ghost use Rattle.saber_partial.specs.Sorted.{joined_each, part_of, weave, CanJoinAll, JoinsFit, Rises};
 
-use crate::places::{have_one_key, have_same_keys, key_order, place};
+use crate::places::{have_one_key, have_same_keys, is_at, key_order, reach};
 use crate::table::Table;
 use saber_plan::NoMemory;
 use std::alloc::Global;
@@ -36,58 +35,50 @@ fn join_one(groups: &mut Table, others: &Table)
     groups.join(0, others.row(0));
 }
 
-// Takes in a group by a look-up, and copies it if it is new.
-fn take_one(groups: &mut Table, others: &Table, j: usize) -> Result<(), NoMemory>
-    requires alike { groups.old.layout ≡ others.now.layout }
-    requires there { j < length others.now.entries }
-    requires rises { Rises groups.old.entries }
-    requires fits { (d : List ℤ × Numbers) → JoinsAt (part_of groups.old.entries) (get_or others.now.entries j d).0 (get_or others.now.entries j d).1 }
-    ensures layout { groups.new.layout ≡ groups.old.layout }
-    ensures rises { Rises groups.new.entries }
-    ensures ok { OnOk result ((d : List ℤ × Numbers) → part_of groups.new.entries
-        ≡ with_row (part_of groups.old.entries) (get_or others.now.entries j d).0 (get_or others.now.entries j d).1) }
-{
-    let row = others.row(j);
-    match place(groups, others.key(j)) {
-        Ok(i) => {
-            groups.join(i, row);
-            Ok(())
-        }
-        Err(i) => groups.insert(i, row),
-    }
-}
-
-// Takes in groups one by one: a few into many.
-fn take_each(groups: &mut Table, others: &Table) -> Result<(), NoMemory>
+// Takes in the groups, from the first on, whose keys are there, in one walk over both, and says how many these are before
+// the first whose key isn't.
+fn take_found(groups: &mut Table, others: &Table) -> usize
     requires alike { groups.old.layout ≡ others.now.layout }
     requires mine { Rises groups.old.entries }
     requires theirs { Rises others.now.entries }
     requires can { JoinsFit (part_of groups.old.entries) (part_of others.now.entries) }
+    ensures within { result ≤ length others.now.entries }
     ensures layout { groups.new.layout ≡ groups.old.layout }
-    ensures rises { Rises groups.new.entries }
-    ensures ok { OnOk result (part_of groups.new.entries ≡ merge (part_of groups.old.entries) (part_of others.now.entries)) }
+    ensures mine { Rises groups.new.entries }
+    ensures theirs { Rises (drop result others.now.entries) }
+    ensures can { JoinsFit (part_of groups.new.entries) (part_of (drop result others.now.entries)) }
+    ensures all { merge (part_of groups.new.entries) (part_of (drop result others.now.entries)) ≡ merge (part_of groups.old.entries) (part_of others.now.entries) }
 {
+    let mut i = 0;
     for j in 0..others.len() {
-        take_one(groups, others, j)?;
+        let at = reach(groups, i, others.key(j));
+        if !is_at(groups, at, others.key(j)) {
+            return j;
+        }
+        groups.join(at, others.row(j));
+        i = at;
     }
-    Ok(())
+    others.len()
 }
 
-// All groups of both by key, those that both have joined, in one walk over both.
-fn woven(alloc: Global, groups: &Table, others: &Table) -> Result<Table, NoMemory>
+// All groups of both by key, of the others those from one on, and those that both have joined, in one walk over both. Groups
+// of one that lie between two of the other are copied at once.
+fn woven(alloc: Global, groups: &Table, others: &Table, from: usize) -> Result<Table, NoMemory>
     requires alike { groups.now.layout ≡ others.now.layout }
-    requires can { CanJoinAll groups.now.entries others.now.entries }
+    requires there { from ≤ length others.now.entries }
+    requires can { CanJoinAll groups.now.entries (drop from others.now.entries) }
     ensures layout { IfOk result (λ t. t.layout ≡ groups.now.layout) }
-    ensures all { IfOk result (λ t. t.entries ≡ weave groups.now.entries others.now.entries) }
+    ensures all { IfOk result (λ t. t.entries ≡ weave groups.now.entries (drop from others.now.entries)) }
 {
     let mut out = Table::with_room_for(alloc, groups, others)?;
     let mut i = 0;
-    let mut j = 0;
+    let mut j = from;
     while i < groups.len() && j < others.len() {
         match key_order(groups.key(i), others.key(j)) {
             Ordering::Less => {
-                out.push(groups.row(i))?;
-                i += 1;
+                let end = reach(groups, i + 1, others.key(j));
+                out.push_range(groups, i, end)?;
+                i = end;
             }
             Ordering::Equal => {
                 let last = out.len();
@@ -97,18 +88,36 @@ fn woven(alloc: Global, groups: &Table, others: &Table) -> Result<Table, NoMemor
                 j += 1;
             }
             Ordering::Greater => {
-                out.push(others.row(j))?;
-                j += 1;
+                let end = reach(others, j + 1, groups.key(i));
+                out.push_range(others, j, end)?;
+                j = end;
             }
         }
     }
-    out.push_from(groups, i)?;
-    out.push_from(others, j)?;
+    out.push_range(groups, i, groups.len())?;
+    out.push_range(others, j, others.len())?;
     Ok(out)
 }
 
-// Takes in groups of later rows, by key: side by side where both have the same keys, by look-ups where
-// they are few, else in a walk over both into a new list.
+// Takes in the groups from one on, in a walk over both into a new list.
+fn take_rest(alloc: Global, groups: &mut Table, others: &Table, from: usize) -> Result<(), NoMemory>
+    requires alike { groups.old.layout ≡ others.now.layout }
+    requires there { from ≤ length others.now.entries }
+    requires mine { Rises groups.old.entries }
+    requires theirs { Rises (drop from others.now.entries) }
+    requires can { JoinsFit (part_of groups.old.entries) (part_of (drop from others.now.entries)) }
+    ensures rises { Rises groups.new.entries }
+    ensures ok { OnOk result (part_of groups.new.entries ≡ merge (part_of groups.old.entries) (part_of (drop from others.now.entries))) }
+{
+    if from == others.len() {
+        return Ok(());
+    }
+    *groups = woven(alloc, groups, others, from)?;
+    Ok(())
+}
+
+// Takes in groups of later rows, by key: side by side where both have the same keys; in place while the keys of the fewer are
+// there; and the rest in a walk over both into a new list.
 #[inline(never)]
 fn take_in_some(alloc: Global, groups: &mut Table, others: &Table) -> Result<(), NoMemory>
     requires alike { groups.old.layout ≡ others.now.layout }
@@ -122,11 +131,11 @@ fn take_in_some(alloc: Global, groups: &mut Table, others: &Table) -> Result<(),
         join_each(groups, others);
         return Ok(());
     }
-    if others.len() < groups.len() / 4 && groups.len() < 512 {
-        return take_each(groups, others);
+    if others.len() > groups.len() {
+        return take_rest(alloc, groups, others, 0);
     }
-    *groups = woven(alloc, groups, others)?;
-    Ok(())
+    let found = take_found(groups, others);
+    take_rest(alloc, groups, others, found)
 }
 
 /// Takes in groups of later rows, by key. Where there is one group, and it is the same one, at once.
@@ -160,5 +169,5 @@ pub(crate) fn merged(alloc: Global, groups: &Table, others: &Table) -> Result<Ta
         join_each(&mut both, others);
         return Ok(both);
     }
-    woven(alloc, groups, others)
+    woven(alloc, groups, others, 0)
 }

@@ -1,10 +1,11 @@
 // Where keys stand among groups whose keys rise.
-ghost use Rattle.std.specs.Prelude.{◌≡◌, ◌<◌, true, length, IfOk, IfErr};
+ghost use Rattle.std.specs.Prelude.{◌≡◌, ◌<◌, ◌≤◌, true, length, IfOk, IfErr};
+ghost use Rattle.std.specs.declared.cmp.Ordering.TheVariants.{Less};
 ghost use Rattle.std.specs.List.{AllByRecursion};
 ghost use Rattle.std.specs.Map.{keys_of};
 ghost use Rattle.saber_plan.specs.Answers as a;
 ghost use Rattle.saber_plan.specs.Answers.{key_cmp};
-ghost use Rattle.saber_partial.specs.Sorted.{IsAt, IsGap, Rises};
+ghost use Rattle.saber_partial.specs.Sorted.{AllBelow, IsAt, IsGap, Rises};
 ghost use Rattle.saber_partial.specs.Young.{by_key, IsOrder};
 
 use crate::table::Table;
@@ -49,6 +50,44 @@ pub(crate) fn place(groups: &Table, key: &[i128]) -> Result<usize, usize>
         }
     }
     Err(low)
+}
+
+// Whether the first number of a key is less than that of another.
+#[inline(always)]
+fn begins_below(key: &[i128], other: &[i128]) -> bool
+    ensures { result ≡ true → key_cmp key.now other.now ≡ Less }
+{
+    match key.first() {
+        Some(number) => match other.first() {
+            Some(bound) => number < bound,
+            None => false,
+        },
+        None => false,
+    }
+}
+
+/// Where a walk over the groups from one on stops, with groups alone behind it whose keys are less than this one. It passes
+/// those whose first number is less, so that a group costs it one look.
+#[inline(always)]
+pub(crate) fn reach(groups: &Table, from: usize, key: &[i128]) -> usize
+    requires { from ≤ length groups.now.entries }
+    ensures more { from ≤ result }
+    ensures within { result ≤ length groups.now.entries }
+    ensures below { AllBelow groups.now.entries from result key.now }
+{
+    let mut i = from;
+    while i < groups.len() && begins_below(groups.key(i), key) {
+        i += 1;
+    }
+    i
+}
+
+/// Whether a key stands at this place.
+#[inline]
+pub(crate) fn is_at(groups: &Table, i: usize, key: &[i128]) -> bool
+    ensures { result ≡ true → IsAt groups.now.entries key.now i }
+{
+    i < groups.len() && key_order(groups.key(i), key).is_eq()
 }
 
 /// Whether both have groups of the same keys, as windows mostly have.

@@ -1,5 +1,5 @@
 // Groups of one layout, in one list of numbers.
-ghost use Rattle.std.specs.Prelude.{◌≡◌, [], ◌∷◌, ◌++◌, ◌+◌, ◌<◌, ◌≤◌, List, ℤ, length, get_or, take, drop, IfOk, OnOk, OnErr};
+ghost use Rattle.std.specs.Prelude.{◌≡◌, [], ◌∷◌, ◌++◌, ◌+◌, ◌-◌, ◌<◌, ◌≤◌, List, ℤ, length, get_or, take, drop, IfOk, OnOk, OnErr};
 ghost use Rattle.std.specs.List.{insert, AllByRecursion};
 ghost use Rattle.std.proofs.Math.ListN.{set};
 ghost use Rattle.saber_plan.specs.Parts.{Numbers, numbers, join_numbers};
@@ -190,18 +190,25 @@ impl Table {
         Ok(())
     }
 
-    /// Appends the groups of a list of the same layout from one on.
-    pub(crate) fn push_from(&mut self, other: &Table, i: usize) -> Result<(), NoMemory>
-        requires there { i ≤ length other.now.entries }
+    /// Appends the groups of a list of the same layout from one up to another, in one copy.
+    pub(crate) fn push_range(
+        &mut self,
+        other: &Table,
+        from: usize,
+        end: usize,
+    ) -> Result<(), NoMemory>
+        requires order { from ≤ end }
+        requires there { end ≤ length other.now.entries }
         requires alike { self.old.layout ≡ other.now.layout }
         ensures layout { self.new.layout ≡ self.old.layout }
-        ensures ok { OnOk result (self.new.entries ≡ self.old.entries ++ drop i other.now.entries) }
+        ensures ok { OnOk result (self.new.entries ≡ self.old.entries ++ take (end - from) (drop from other.now.entries)) }
         ensures err { OnErr result (self.new.entries ≡ self.old.entries) }
     {
-        let more = other.len - i;
-        let start = i * self.layout.width;
-        self.numbers.extend_from_slice(&other.numbers[start..])?;
-        self.len += more;
+        let numbers = &other.numbers;
+        let start = from * self.layout.width;
+        let stop = end * self.layout.width;
+        self.numbers.extend_from_slice(&numbers[start..stop])?;
+        self.len += end - from;
         Ok(())
     }
 

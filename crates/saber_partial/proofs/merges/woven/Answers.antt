@@ -1,15 +1,16 @@
-use Rattle.std.proofs.Common.{◌≡◌, ◌<◌, ◌⊎◌, inl, inr, List, ℤ, [], ◌∷◌, ◌++◌, ◌+◌, sym, ap, ap₂, ◌∙◌, subst₂, drop, length, get_or, arith}
-use Rattle.std.proofs.lemmas.List.{drop_all, get_or_push}
+use Rattle.std.proofs.Common.{◌≡◌, ◌<◌, ◌⊎◌, inl, inr, List, ℤ, [], ◌∷◌, ◌++◌, ◌+◌, sym, ap, ap₂, ◌∙◌, ◌-◌, subst, subst₂, take, drop, length, get_or, arith}
+use Rattle.std.proofs.lemmas.List.{drop_all, get_or_push, take_rest}
 use Rattle.std.proofs.Math.ListN.{set}
 use Rattle.std.specs.declared.cmp.Ordering.{Ordering}
+use Rattle.std.specs.declared.cmp.Ordering.TheVariants.{Less}
 use Rattle.saber_plan.specs.Answers.{key_cmp}
-use Rattle.saber_plan.specs.Parts.{Numbers, join_numbers}
+use Rattle.saber_plan.specs.Parts.{Numbers, numbers, join_numbers}
 use Rattle.saber_plan.specs.PartFacts.{exact}
 use Rattle.saber_partial.specs.Flat.{entry_in}
 use Rattle.saber_partial.specs.Tallies.{CanJoin}
-use Rattle.saber_partial.specs.Sorted.{weave}
-use Rattle.saber_partial.proofs.Rising.{read_alike}
-use Rattle.saber_partial.proofs.Weaving.{woven_less, woven_equal, woven_greater, joined_last, woven_end}
+use Rattle.saber_partial.specs.Sorted.{weave, AllBelow}
+use Rattle.saber_partial.proofs.Rising.{read_alike, can_behind, turned_back}
+use Rattle.saber_partial.proofs.Weaving.{woven_equal, woven_run_less, woven_run_greater, below_first, joined_last, woven_end}
 use Rattle.saber_partial.proofs.merges.woven.Goals.{then-loop-i-test+else-j-len, else-loop-i-test}
 use Rattle.saber_partial.proofs.merges.woven.Goals as goal
 
@@ -25,17 +26,19 @@ loop-i-preserved-in-Less c =
     let j = c.loop-i.j in
     let out = c.loop-i.out in
     let kept = c.loop-i.invariant in
-    let d = entry_in c.args.groups.now.layout c.row.result.now in
-    let low : i < length es = omega (arith, c.loop-i-test.true, c.len.ensures) in
+    let end = c.reach-end.result in
+    let d : List ℤ × Numbers = ([], numbers [] []) in
+    let f = get_or fs j d in
     let more : j < length fs = omega (arith, c.if-j-len.true, c.len-in-loop-i.ensures) in
-    let is : entry_in out.layout c.row.result.now ≡ get_or es i d = read_alike _ _ c.row.result.now _ kept.layout (c.row.ensures.entry d) in
-    let order = ordered _ _ (get_or es i d) (get_or fs j d) _ _ (c.key.ensures d) (c.key-in-loop-i.ensures d) c.key_order.ensures c.in-Less.is in
+    let far = c.reach-end.ensures.more in
+    let order : (e : List ℤ × Numbers) → key_cmp (get_or es i e).0 f.0 ≡ Less = λ e. ordered _ _ (get_or es i e) f _ _ (c.key.ensures e) (c.key-in-loop-i.ensures d) c.key_order.ensures c.in-Less.is in
+    let below = below_first es i end f.0 order (subst (AllBelow es (i + 1) end) (c.key-in-Less.ensures d) c.reach-end.ensures.below) in
     record {
-      mine = omega (arith, low);
+      mine = c.reach-end.ensures.within;
+      start = kept.start;
       theirs = kept.theirs;
-      layout = c.push.ensures.layout ∙ kept.layout;
-      all = ap (λ l. l ++ weave (drop (i + 1) es) (drop j fs)) (c.in_ok-push-in-Less.ensures.ok ∙ ap (λ e. out.entries ++ e ∷ []) is)
-          ∙ woven_less out.entries es fs i j d low more order ∙ kept.all;
+      layout = c.push_range.ensures.layout ∙ kept.layout;
+      all = ap (λ l. l ++ weave (drop end es) (drop j fs)) c.in_ok-push_range-in-Less.ensures.ok ∙ woven_run_less out.entries es fs i j d end (omega (arith, far)) more below ∙ kept.all;
     }
 
 pub join-requires-clause-can : goal.join-requires-clause-can
@@ -45,19 +48,19 @@ join-requires-clause-can c = λ d.
     let i = c.loop-i.i in
     let j = c.loop-i.j in
     let out = c.loop-i.out in
-    let next = c.push-in-Equal.new.self in
+    let next = c.push.new.self in
     let kept = c.loop-i.invariant in
     let low : i < length es = omega (arith, c.loop-i-test.true, c.len.ensures) in
     let more : j < length fs = omega (arith, c.if-j-len.true, c.len-in-loop-i.ensures) in
-    let one : entry_in out.layout c.row-in-Equal.result.now ≡ get_or es i d =
-    read_alike _ _ c.row-in-Equal.result.now _ kept.layout (c.row-in-Equal.ensures.entry d) in
-    let two : entry_in next.layout c.row-in-Equal-2.result.now ≡ get_or fs j d =
-    read_alike _ _ c.row-in-Equal-2.result.now _ (c.push-in-Equal.ensures.layout ∙ kept.layout ∙ c.requires.alike) (c.row-in-Equal-2.ensures.entry d) in
+    let one : entry_in out.layout c.row.result.now ≡ get_or es i d =
+    read_alike _ _ c.row.result.now _ kept.layout (c.row.ensures.entry d) in
+    let two : entry_in next.layout c.row-in-Equal.result.now ≡ get_or fs j d =
+    read_alike _ _ c.row-in-Equal.result.now _ (c.push.ensures.layout ∙ kept.layout ∙ c.requires.alike) (c.row-in-Equal.ensures.entry d) in
     let last : get_or next.entries c.len-last.result d ≡ get_or es i d =
     ap (λ l. get_or l c.len-last.result d) c.in_ok-push-in-Equal.ensures.ok
-    ∙ get_or_push out.entries (entry_in out.layout c.row-in-Equal.result.now) d c.len-last.result (sym c.len-last.ensures) ∙ one in
+    ∙ get_or_push out.entries (entry_in out.layout c.row.result.now) d c.len-last.result (sym c.len-last.ensures) ∙ one in
     let same = exact _ _ (ordered _ _ (get_or es i d) (get_or fs j d) _ _ (c.key.ensures d) (c.key-in-loop-i.ensures d) c.key_order.ensures c.in-Equal.is) in
-    subst₂ (λ (a b : List ℤ × Numbers). CanJoin a.1 b.1) (sym last) (sym two) (c.requires.can.at i j d d low more same)
+    subst₂ (λ (a b : List ℤ × Numbers). CanJoin a.1 b.1) (sym last) (sym two) (can_behind es fs c.args.from i j d c.requires.can kept.start low more same)
 
 pub loop-i-preserved-in-Equal : goal.loop-i-preserved-in-Equal
 loop-i-preserved-in-Equal c =
@@ -66,17 +69,17 @@ loop-i-preserved-in-Equal c =
     let i = c.loop-i.i in
     let j = c.loop-i.j in
     let out = c.loop-i.out in
-    let next = c.push-in-Equal.new.self in
+    let next = c.push.new.self in
     let n = c.len-last.result in
     let kept = c.loop-i.invariant in
-    let d = entry_in c.args.groups.now.layout c.row-in-Equal.result.now in
+    let d = entry_in c.args.groups.now.layout c.row.result.now in
     let e = get_or es i d in
     let f = get_or fs j d in
     let low : i < length es = omega (arith, c.loop-i-test.true, c.len.ensures) in
     let more : j < length fs = omega (arith, c.if-j-len.true, c.len-in-loop-i.ensures) in
-    let one : entry_in out.layout c.row-in-Equal.result.now ≡ e = read_alike _ _ c.row-in-Equal.result.now _ kept.layout (c.row-in-Equal.ensures.entry d) in
-    let two : entry_in next.layout c.row-in-Equal-2.result.now ≡ f =
-    read_alike _ _ c.row-in-Equal-2.result.now _ (c.push-in-Equal.ensures.layout ∙ kept.layout ∙ c.requires.alike) (c.row-in-Equal-2.ensures.entry d) in
+    let one : entry_in out.layout c.row.result.now ≡ e = read_alike _ _ c.row.result.now _ kept.layout (c.row.ensures.entry d) in
+    let two : entry_in next.layout c.row-in-Equal.result.now ≡ f =
+    read_alike _ _ c.row-in-Equal.result.now _ (c.push.ensures.layout ∙ kept.layout ∙ c.requires.alike) (c.row-in-Equal.ensures.entry d) in
     let order = ordered _ _ e f _ _ (c.key.ensures d) (c.key-in-loop-i.ensures d) c.key_order.ensures c.in-Equal.is in
     let written = λ (l : List (List ℤ × Numbers)) (y : List ℤ × Numbers). set l n ((get_or l n d).0, join_numbers (get_or l n d).1 y.1) in
     let new : c.join.new.self.entries ≡ out.entries ++ (e.0, join_numbers e.1 f.1) ∷ [] =
@@ -84,8 +87,9 @@ loop-i-preserved-in-Equal c =
     ∙ joined_last out.entries e d f.1 n c.len-last.ensures in
     record {
       mine = omega (arith, low);
+      start = let first = kept.start in omega (arith, first);
       theirs = omega (arith, more);
-      layout = c.join.ensures.layout ∙ c.push-in-Equal.ensures.layout ∙ kept.layout;
+      layout = c.join.ensures.layout ∙ c.push.ensures.layout ∙ kept.layout;
       all = ap (λ l. l ++ weave (drop (i + 1) es) (drop (j + 1) fs)) new ∙ woven_equal out.entries es fs i j d low more order ∙ kept.all;
     }
 
@@ -97,18 +101,20 @@ loop-i-preserved c =
     let j = c.loop-i.j in
     let out = c.loop-i.out in
     let kept = c.loop-i.invariant in
-    let d = entry_in c.args.others.now.layout c.row-in-Greater.result.now in
+    let end = c.reach-end-in-Greater.result in
+    let d : List ℤ × Numbers = ([], numbers [] []) in
+    let e = get_or es i d in
     let low : i < length es = omega (arith, c.loop-i-test.true, c.len.ensures) in
-    let more : j < length fs = omega (arith, c.if-j-len.true, c.len-in-loop-i.ensures) in
-    let is : entry_in out.layout c.row-in-Greater.result.now ≡ get_or fs j d =
-    read_alike _ _ c.row-in-Greater.result.now _ (kept.layout ∙ c.requires.alike) (c.row-in-Greater.ensures.entry d) in
-    let order = ordered _ _ (get_or es i d) (get_or fs j d) _ _ (c.key.ensures d) (c.key-in-loop-i.ensures d) c.key_order.ensures c.in-Greater.is in
+    let first = kept.start in
+    let far = c.reach-end-in-Greater.ensures.more in
+    let order : (f : List ℤ × Numbers) → key_cmp (get_or fs j f).0 e.0 ≡ Less = λ f. turned_back e.0 (get_or fs j f).0 (ordered _ _ e (get_or fs j f) _ _ (c.key.ensures d) (c.key-in-loop-i.ensures f) c.key_order.ensures c.in-Greater.is) in
+    let below = below_first fs j end e.0 order (subst (AllBelow fs (j + 1) end) (c.key-in-Greater.ensures d) c.reach-end-in-Greater.ensures.below) in
     record {
       mine = kept.mine;
-      theirs = omega (arith, more);
-      layout = c.push-in-Greater.ensures.layout ∙ kept.layout;
-      all = ap (λ l. l ++ weave (drop i es) (drop (j + 1) fs)) (c.in_ok-push-in-Greater.ensures.ok ∙ ap (λ e. out.entries ++ e ∷ []) is)
-          ∙ woven_greater out.entries es fs i j d low more order ∙ kept.all;
+      start = omega (arith, first, far);
+      theirs = c.reach-end-in-Greater.ensures.within;
+      layout = c.push_range-in-Greater.ensures.layout ∙ kept.layout;
+      all = ap (λ l. l ++ weave (drop i es) (drop end fs)) c.in_ok-push_range-in-Greater.ensures.ok ∙ woven_run_greater out.entries es fs i j d end (omega (arith, far)) low below ∙ kept.all;
     }
 
 pub returns-clause-all : goal.returns-clause-all
@@ -119,4 +125,7 @@ returns-clause-all c =
       | then-loop-i-test+else-j-len w ↦ inr (drop_all c.loop-i.j c.args.others.now.entries (omega (arith, w.if-j-len.false, w.len-in-loop-i.ensures)))
       | else-loop-i-test w ↦ inl (drop_all c.loop-i.i c.args.groups.now.entries (omega (arith, w.loop-i-test.false, c.len.ensures)))
     ] in
-    c.in_ok-push_from-2.ensures.ok ∙ ap (λ l. l ++ ys) c.in_ok-push_from.ensures.ok ∙ woven_end c.loop-i.out.entries xs ys done ∙ c.loop-i.invariant.all
+    let mine : take (c.len-2.result - c.loop-i.i) xs ≡ xs = ap (λ n. take (n - c.loop-i.i) xs) c.len-2.ensures ∙ take_rest c.args.groups.now.entries c.loop-i.i in
+    let theirs : take (c.len-3.result - c.loop-i.j) ys ≡ ys = ap (λ n. take (n - c.loop-i.j) ys) c.len-3.ensures ∙ take_rest c.args.others.now.entries c.loop-i.j in
+    c.in_ok-push_range-2.ensures.ok ∙ ap₂ (λ l m. l ++ m) (c.in_ok-push_range.ensures.ok ∙ ap (λ l. c.loop-i.out.entries ++ l) mine) theirs
+    ∙ woven_end c.loop-i.out.entries xs ys done ∙ c.loop-i.invariant.all

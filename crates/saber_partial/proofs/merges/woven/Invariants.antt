@@ -5,9 +5,10 @@ use Rattle.saber_partial.proofs.merges.woven.Given as goal
 abbrev pub invariant-loop-i : goal.invariant-loop-i
 invariant-loop-i l = record {
   mine : l.i ≤ length l.groups.entries;
+  start : l.from ≤ l.j;
   theirs : l.j ≤ length l.others.entries;
   layout : l.out.layout ≡ l.groups.layout;
-  all : l.out.entries ++ weave (drop l.i l.groups.entries) (drop l.j l.others.entries) ≡ weave l.groups.entries l.others.entries;
+  all : l.out.entries ++ weave (drop l.i l.groups.entries) (drop l.j l.others.entries) ≡ weave l.groups.entries (drop l.from l.others.entries);
 }
 
 abbrev pub decreases-loop-i : goal.decreases-loop-i
