@@ -3,6 +3,7 @@ mod Layouts
 pub mod Zips
 pub mod Sharing
 pub mod Gathered
+pub mod Headed
 pub mod RowNumbers
 pub mod Merging
 pub mod Rising

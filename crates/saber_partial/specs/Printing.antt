@@ -1,9 +1,11 @@
 -- Lines of groups, number by number.
 use Rattle.std.specs.Prelude.{◌≡◌, ℕ, ◌-◌, ◌≤◌, ◌<◌, List, ◌∷◌, length, take, drop, get_or, flat_map, map, nat_abs, ℤ, pos}
 use Rattle.std.specs.FinMap.{entries}
+use Rattle.std.specs.Fmt.{decimal}
 use Rattle.saber_plan.specs.declared.plans.Item.{Item}
 use Rattle.saber_plan.specs.Answers.{line}
 use Rattle.saber_plan.specs.Parts.{Part, Numbers, answers_of, join_numbers}
+use Rattle.saber_partial.specs.declared.headings.Heading.{Heading}
 use Rattle.saber_partial.specs.declared.layout.Layout.{Layout}
 use Rattle.saber_partial.specs.declared.unprinted.Ends.{Ends}
 use Rattle.saber_partial.specs.declared.unprinted.Unprinted.{Unprinted}
@@ -42,3 +44,8 @@ pub record CanPrint (e : Ends) (xs : List ℤ) : Type 0 where
   pub sums : e.sums ≤ length xs
   pub leasts : e.leasts ≤ length xs
   pub greatests : e.greatests ≤ length xs
+
+-- the text of a window's number
+pub record IsHeading (h : Heading) : Type 0 where
+  pub few : h.count ≤ 24
+  pub text : take h.count h.text ≡ decimal h.window

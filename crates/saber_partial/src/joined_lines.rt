@@ -1,71 +1,129 @@
 // The lines of two parts together, without their merge.
-ghost use Rattle.std.specs.Prelude.{◌≡◌, ◌∷◌, ◌++◌, OnOk, OnErr, map, pos};
+ghost use Rattle.std.specs.Prelude.{◌≡◌, ◌≤◌, ◌∷◌, ◌++◌, IfOk, OnOk, OnErr, map, pos};
 ghost use Rattle.saber_plan.specs.Trees.{tree_of};
 ghost use Rattle.saber_plan.specs.Answers.{line};
 ghost use Rattle.saber_plan.specs.Parts.{merge, part_lines};
 ghost use Rattle.saber_plan.specs.Texts.{Behind};
-ghost use Rattle.saber_cells.specs.Cells.{cells};
+ghost use Rattle.saber_cells.specs.Cells.{cells, drafted};
 ghost use Rattle.saber_partial.specs.Flat.{entry_in, IsLayout, IsRow};
-ghost use Rattle.saber_partial.specs.Printing.{answers_of_both, lines_for};
+ghost use Rattle.saber_partial.specs.Printing.{answers_of_both, lines_for, IsHeading};
 ghost use Rattle.saber_partial.specs.Sorted.{weave, CanJoinAll};
 ghost use Rattle.saber_partial.specs.Tallies.{CanJoin, CanMerge};
 
 use crate::groups::Partial;
+use crate::headings::Heading;
 use crate::layout::Layout;
 use crate::lines::{write_groups, write_line};
 use crate::places::key_order;
 use crate::table::Table;
 use crate::unprinted::Unprinted;
-use saber_cells::{write_cell, write_count};
+use saber_cells::{end_line, flush, put_cell, start_line};
 use saber_plan::{Item, NoMemory, Plan};
 use std::cmp::Ordering;
 
+#[inline(always)]
 fn write_both_cells(
     out: &mut Vec<u8>,
+    draft: &mut [u8; 128],
+    start: usize,
     items: &[Item],
     layout: &Layout,
     row: &[i128],
     later: &[i128],
-) -> Result<(), NoMemory>
+) -> Result<usize, NoMemory>
+    requires start { start ≤ 121 }
     requires layout { IsLayout layout.now }
     requires row { IsRow layout.now row.now }
     requires later { IsRow layout.now later.now }
     requires can { CanJoin (entry_in layout.now row.now).1 (entry_in layout.now later.now).1 }
-    ensures ok { OnOk result (out.new.items ≡ out.old.items ++ cells (answers_of_both layout.now items.now row.now later.now)) }
+    ensures ok { IfOk result (λ end. drafted out.new.items draft.new end
+        ≡ drafted out.old.items draft.old start ++ cells (answers_of_both layout.now items.now row.now later.now)) }
+    ensures room { IfOk result (λ end. end ≤ 121) }
     ensures behind { Behind out.old.items out.new.items }
 {
     let mut unprinted = Unprinted::of_layout(layout);
+    let mut at = start;
     for item in items {
         let number = unprinted.next_of_both(row, later, item);
-        write_cell(out, number)?;
+        at = put_cell(out, draft, at, number)?;
     }
-    Ok(())
+    Ok(at)
 }
 
 // The line of a group that both have.
+#[inline(always)]
 fn write_both(
     out: &mut Vec<u8>,
-    window: u64,
+    draft: &mut [u8; 128],
+    start: usize,
+    heading: &Heading,
     items: &[Item],
     layout: &Layout,
     row: &[i128],
     later: &[i128],
-) -> Result<(), NoMemory>
+) -> Result<usize, NoMemory>
+    requires start { start ≤ 128 }
+    requires heading { IsHeading heading.now }
     requires layout { IsLayout layout.now }
     requires row { IsRow layout.now row.now }
     requires later { IsRow layout.now later.now }
     requires can { CanJoin (entry_in layout.now row.now).1 (entry_in layout.now later.now).1 }
-    ensures ok { OnOk result (out.new.items ≡ out.old.items ++ line (pos window ∷ answers_of_both layout.now items.now row.now later.now)) }
+    ensures ok { IfOk result (λ end. drafted out.new.items draft.new end
+        ≡ drafted out.old.items draft.old start ++ line (pos heading.now.window ∷ answers_of_both layout.now items.now row.now later.now)) }
+    ensures room { IfOk result (λ end. end ≤ 128) }
     ensures behind { Behind out.old.items out.new.items }
 {
-    write_count(out, window)?;
-    write_both_cells(out, items, layout, row, later)?;
-    out.push(b'\n')?;
-    Ok(())
+    let first = start_line(out, draft, start, &heading.text, heading.count)?;
+    let end = write_both_cells(out, draft, first, items, layout, row, later)?;
+    Ok(end_line(draft, end))
 }
 
 // The lines of the groups of both by key, in one walk over both.
 fn write_woven(
+    out: &mut Vec<u8>,
+    draft: &mut [u8; 128],
+    heading: &Heading,
+    items: &[Item],
+    groups: &Table,
+    others: &Table,
+) -> Result<usize, NoMemory>
+    requires alike { groups.now.layout ≡ others.now.layout }
+    requires heading { IsHeading heading.now }
+    requires can { CanJoinAll groups.now.entries others.now.entries }
+    ensures ok { IfOk result (λ end. drafted out.new.items draft.new end
+        ≡ drafted out.old.items draft.old 0 ++ lines_for heading.now.window items.now (map (λ g. g.1) (weave groups.now.entries others.now.entries))) }
+    ensures room { IfOk result (λ end. end ≤ 128) }
+    ensures behind { Behind out.old.items out.new.items }
+{
+    let layout = groups.layout();
+    let mut at = 0;
+    let mut i = 0;
+    let mut j = 0;
+    while i < groups.len() && j < others.len() {
+        match key_order(groups.key(i), others.key(j)) {
+            Ordering::Less => {
+                at = write_line(out, draft, at, heading, items, layout, groups.row(i))?;
+                i += 1;
+            }
+            Ordering::Equal => {
+                let row = groups.row(i);
+                let later = others.row(j);
+                at = write_both(out, draft, at, heading, items, layout, row, later)?;
+                i += 1;
+                j += 1;
+            }
+            Ordering::Greater => {
+                at = write_line(out, draft, at, heading, items, layout, others.row(j))?;
+                j += 1;
+            }
+        }
+    }
+    let middle = write_groups(out, draft, at, heading, items, groups, i)?;
+    write_groups(out, draft, middle, heading, items, others, j)
+}
+
+// The lines of all groups of both.
+fn write_all_woven(
     out: &mut Vec<u8>,
     window: u64,
     items: &[Item],
@@ -77,28 +135,10 @@ fn write_woven(
     ensures ok { OnOk result (out.new.items ≡ out.old.items ++ lines_for window items.now (map (λ g. g.1) (weave groups.now.entries others.now.entries))) }
     ensures behind { Behind out.old.items out.new.items }
 {
-    let layout = groups.layout();
-    let mut i = 0;
-    let mut j = 0;
-    while i < groups.len() && j < others.len() {
-        match key_order(groups.key(i), others.key(j)) {
-            Ordering::Less => {
-                write_line(out, window, items, layout, groups.row(i))?;
-                i += 1;
-            }
-            Ordering::Equal => {
-                write_both(out, window, items, layout, groups.row(i), others.row(j))?;
-                i += 1;
-                j += 1;
-            }
-            Ordering::Greater => {
-                write_line(out, window, items, layout, others.row(j))?;
-                j += 1;
-            }
-        }
-    }
-    write_groups(out, window, items, groups, i)?;
-    write_groups(out, window, items, others, j)
+    let heading = Heading::of_window(window);
+    let mut draft = [0; 128];
+    let end = write_woven(out, &mut draft, &heading, items, groups, others)?;
+    flush(out, &draft, end)
 }
 
 impl Partial {
@@ -124,7 +164,7 @@ impl Partial {
         self.groups.has_one_layout();
         later.groups.has_one_layout();
         let start = out.len();
-        match write_woven(out, window, plan.items(), &self.groups, &later.groups) {
+        match write_all_woven(out, window, plan.items(), &self.groups, &later.groups) {
             Ok(()) => Ok(()),
             Err(want) => {
                 out.truncate(start);

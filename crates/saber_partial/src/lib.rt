@@ -7,6 +7,7 @@ mod first_row;
 mod gather;
 mod gathering;
 mod groups;
+mod headings;
 mod joined_lines;
 mod joins;
 mod later_row;

@@ -1,74 +1,115 @@
 // The lines of groups.
-ghost use Rattle.std.specs.Prelude.{◌≡◌, ◌≤◌, ◌∷◌, ◌++◌, OnOk, OnErr, drop, length, map, pos};
+ghost use Rattle.std.specs.Prelude.{◌≡◌, ◌≤◌, ◌∷◌, ◌++◌, IfOk, OnOk, OnErr, drop, length, map, pos};
 ghost use Rattle.saber_plan.specs.Trees.{tree_of};
 ghost use Rattle.saber_plan.specs.Answers.{line};
 ghost use Rattle.saber_plan.specs.Parts.{answers_of, part_lines};
 ghost use Rattle.saber_plan.specs.Texts.{Behind};
-ghost use Rattle.saber_cells.specs.Cells.{cells};
+ghost use Rattle.saber_cells.specs.Cells.{cells, drafted};
 ghost use Rattle.saber_partial.specs.Flat.{entry_in, IsLayout, IsRow};
-ghost use Rattle.saber_partial.specs.Printing.{lines_for};
+ghost use Rattle.saber_partial.specs.Printing.{lines_for, IsHeading};
 
 use crate::groups::Partial;
+use crate::headings::Heading;
 use crate::layout::Layout;
 use crate::table::Table;
 use crate::unprinted::Unprinted;
-use saber_cells::{write_cell, write_count};
+use saber_cells::{end_line, flush, put_cell, start_line};
 use saber_plan::{Item, NoMemory, Plan};
 
+#[inline(always)]
 fn write_cells(
     out: &mut Vec<u8>,
+    draft: &mut [u8; 128],
+    start: usize,
     items: &[Item],
     layout: &Layout,
     row: &[i128],
-) -> Result<(), NoMemory>
+) -> Result<usize, NoMemory>
+    requires start { start ≤ 121 }
     requires layout { IsLayout layout.now }
     requires row { IsRow layout.now row.now }
-    ensures ok { OnOk result (out.new.items ≡ out.old.items ++ cells (answers_of items.now (entry_in layout.now row.now).1)) }
+    ensures ok { IfOk result (λ end. drafted out.new.items draft.new end
+        ≡ drafted out.old.items draft.old start ++ cells (answers_of items.now (entry_in layout.now row.now).1)) }
+    ensures room { IfOk result (λ end. end ≤ 121) }
     ensures behind { Behind out.old.items out.new.items }
 {
     let mut unprinted = Unprinted::of_layout(layout);
+    let mut at = start;
     for item in items {
         let number = unprinted.next(row, item);
-        write_cell(out, number)?;
+        at = put_cell(out, draft, at, number)?;
     }
-    Ok(())
+    Ok(at)
 }
 
-/// The line of a group: the window's number, a cell for each item, and LF.
+/// The line of a group: the window's number, a cell for each item, and LF. It goes into an array,
+/// which is written out where it is nearly full, so that a cell asks no room of the list.
+#[inline]
 pub(crate) fn write_line(
     out: &mut Vec<u8>,
-    window: u64,
+    draft: &mut [u8; 128],
+    start: usize,
+    heading: &Heading,
     items: &[Item],
     layout: &Layout,
     row: &[i128],
-) -> Result<(), NoMemory>
+) -> Result<usize, NoMemory>
+    requires start { start ≤ 128 }
+    requires heading { IsHeading heading.now }
     requires layout { IsLayout layout.now }
     requires row { IsRow layout.now row.now }
-    ensures ok { OnOk result (out.new.items ≡ out.old.items ++ line (pos window ∷ answers_of items.now (entry_in layout.now row.now).1)) }
+    ensures ok { IfOk result (λ end. drafted out.new.items draft.new end
+        ≡ drafted out.old.items draft.old start ++ line (pos heading.now.window ∷ answers_of items.now (entry_in layout.now row.now).1)) }
+    ensures room { IfOk result (λ end. end ≤ 128) }
     ensures behind { Behind out.old.items out.new.items }
 {
-    write_count(out, window)?;
-    write_cells(out, items, layout, row)?;
-    out.push(b'\n')?;
-    Ok(())
+    let first = start_line(out, draft, start, &heading.text, heading.count)?;
+    let end = write_cells(out, draft, first, items, layout, row)?;
+    Ok(end_line(draft, end))
 }
 
 /// The lines of groups from one on, one after another.
 pub(crate) fn write_groups(
     out: &mut Vec<u8>,
-    window: u64,
+    draft: &mut [u8; 128],
+    start: usize,
+    heading: &Heading,
     items: &[Item],
     groups: &Table,
     from: usize,
-) -> Result<(), NoMemory>
-    requires { from ≤ length groups.now.entries }
-    ensures ok { OnOk result (out.new.items ≡ out.old.items ++ lines_for window items.now (map (λ g. g.1) (drop from groups.now.entries))) }
+) -> Result<usize, NoMemory>
+    requires start { start ≤ 128 }
+    requires heading { IsHeading heading.now }
+    requires from { from ≤ length groups.now.entries }
+    ensures ok { IfOk result (λ end. drafted out.new.items draft.new end
+        ≡ drafted out.old.items draft.old start ++ lines_for heading.now.window items.now (map (λ g. g.1) (drop from groups.now.entries))) }
+    ensures room { IfOk result (λ end. end ≤ 128) }
     ensures behind { Behind out.old.items out.new.items }
 {
+    let mut at = start;
     for i in from..groups.len() {
-        write_line(out, window, items, groups.layout(), groups.row(i))?;
+        at = write_line(
+            out,
+            draft,
+            at,
+            heading,
+            items,
+            groups.layout(),
+            groups.row(i),
+        )?;
     }
-    Ok(())
+    Ok(at)
+}
+
+// The lines of all groups.
+fn write_all(out: &mut Vec<u8>, window: u64, items: &[Item], groups: &Table) -> Result<(), NoMemory>
+    ensures ok { OnOk result (out.new.items ≡ out.old.items ++ lines_for window items.now (map (λ g. g.1) groups.now.entries)) }
+    ensures behind { Behind out.old.items out.new.items }
+{
+    let heading = Heading::of_window(window);
+    let mut draft = [0; 128];
+    let end = write_groups(out, &mut draft, 0, &heading, items, groups, 0)?;
+    flush(out, &draft, end)
 }
 
 impl Partial {
@@ -80,7 +121,7 @@ impl Partial {
         ensures err { OnErr result (out.new.items ≡ out.old.items) }
     {
         let start = out.len();
-        match write_groups(out, window, plan.items(), &self.groups, 0) {
+        match write_all(out, window, plan.items(), &self.groups) {
             Ok(()) => Ok(()),
             Err(want) => {
                 out.truncate(start);

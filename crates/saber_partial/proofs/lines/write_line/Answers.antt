@@ -1,12 +1,14 @@
-use Rattle.std.proofs.Common.{◌++◌, ◌∷◌, [], ◌∙◌, ap, pos}
+use Rattle.std.proofs.Common.{◌++◌, ◌∙◌, ap}
 use Rattle.saber_plan.specs.Parts.{answers_of}
-use Rattle.saber_cells.specs.Cells.{cells}
-use Rattle.saber_cells.specs.CellFacts.{line_after}
+use Rattle.saber_cells.specs.Cells.{drafted}
 use Rattle.saber_partial.specs.Flat.{entry_in}
+use Rattle.saber_partial.proofs.Headed.{ended}
 use Rattle.saber_partial.proofs.lines.write_line.Goals as goal
 
 pub returns-clause-ok : goal.returns-clause-ok
 returns-clause-ok c =
     let zs = answers_of c.args.items.now (entry_in c.args.layout.now c.args.row.now).1 in
-    c.in_ok-push.ensures.items ∙ ap (λ l. l ++ 10 ∷ []) (c.in_ok-write_cells.ensures.ok ∙ ap (λ l. l ++ cells zs) c.in_ok-write_count.ensures.ok)
-    ∙ line_after c.args.out.now.items (pos c.args.window) zs
+    let old = drafted c.args.out.now.items c.args.draft.now c.args.start in
+    let first = drafted c.start_line.new.out.items c.start_line.new.line c.in_ok-first.first in
+    ended old first c.write_cells.new.out.items c.write_cells.new.draft c.end_line.new.line c.args.heading.now.window c.in_ok-end.end c.end_line.result zs
+    (c.in_ok-first.ensures.ok ∙ ap (λ l. old ++ l) c.requires.heading.text) c.in_ok-end.ensures.ok c.end_line.ensures.written

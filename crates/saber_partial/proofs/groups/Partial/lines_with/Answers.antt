@@ -28,8 +28,8 @@ returns-then-is_empty-2-clause-ok c =
     subst (λ (p : Part). OnOk c.lines-then-is_empty-2.result (c.lines-then-is_empty-2.new.out.items ≡ c.args.out.now.items ++ part_lines (tree_of c.args.plan.now) c.args.window p)) same
     c.lines-then-is_empty-2.ensures.ok
 
-pub write_woven-requires-clause-alike : goal.write_woven-requires-clause-alike
-write_woven-requires-clause-alike c =
+pub write_all_woven-requires-clause-alike : goal.write_all_woven-requires-clause-alike
+write_all_woven-requires-clause-alike c =
     let es = c.self.inside.groups.entries in
     let fs = c.later.inside.groups.entries in
     let both = subst₂ CanMerge (sym c.self.view_is) (sym c.later.view_is) c.requires in
@@ -37,8 +37,8 @@ write_woven-requires-clause-alike c =
     let theirs = entry_in_full fs (subst (λ (p : Part). full p ≡ Some p) (sym c.later.view_is) (c.is_empty.ensures.some c.if-is_empty.false)) in
     one_layout c.self.inside.groups.layout c.later.inside.groups.layout es fs c.has_one_layout.ensures c.has_one_layout-2.ensures c.self.invariant c.later.invariant both mine theirs
 
-pub write_woven-requires-clause-can : goal.write_woven-requires-clause-can
-write_woven-requires-clause-can c =
+pub write_all_woven-requires-clause-can : goal.write_all_woven-requires-clause-can
+write_all_woven-requires-clause-can c =
     let both = subst₂ CanMerge (sym c.self.view_is) (sym c.later.view_is) c.requires in
     can_all c.self.inside.groups.entries c.later.inside.groups.entries c.self.invariant c.later.invariant (record { at = both.at })
 
