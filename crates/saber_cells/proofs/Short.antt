@@ -162,13 +162,13 @@ put_list xs four at k long room few =
     put_bytes xs at (get_or four 0 0) (get_or four 1 0) (get_or four 2 0) (get_or four 3 0) room k few ∙ ap (λ l. take at xs ++ take k l) (sym (four_is four long))
 
 -- a number's digits but the last three, and the last three
-pub three_behind : (front all last : List ℕ) (n : ℕ) → 1000 ≤ n → n < 2 ^ 64 → last ≡ (48 + n % 1000 / 100) ∷ (48 + n % 1000 / 10 % 10) ∷ (48 + n % 1000 % 10) ∷ []
+pub three_behind : (front all last : List ℕ) (n : ℕ) → 1000 ≤ n → n < 2 ^ 64 → last ≡ (48 + n % 1000 / 100) ∷ (48 + n % 1000 % 100 / 10) ∷ (48 + n % 1000 % 100 % 10) ∷ []
     → all ≡ (front ++ decimal (n / 1000)) ++ last → all ≡ front ++ decimal n
 three_behind front all last n low high e f =
     let a : n / 100 / 10 ≡ n / 1000 = omega arith in
     let b : n / 100 % 10 ≡ n % 1000 / 100 = omega arith in
-    let c : n % 100 / 10 ≡ n % 1000 / 10 % 10 = omega arith in
-    let d : n % 100 % 10 ≡ n % 1000 % 10 = omega arith in
+    let c : n % 100 / 10 ≡ n % 1000 % 100 / 10 = omega arith in
+    let d : n % 100 % 10 ≡ n % 1000 % 100 % 10 = omega arith in
     let whole : decimal n ≡ decimal (n / 1000) ++ last =
     rw (e, decimal_pair n (omega arith) high, decimal_step (n / 100) (omega arith) (omega arith), append_assoc, a, b, c, d) refl in
     f ∙ append_assoc front (decimal (n / 1000)) last ∙ ap (λ l. front ++ l) (sym whole)

@@ -4,6 +4,7 @@ ghost use Rattle.std.specs.Fmt.{signed_decimal};
 ghost use Rattle.saber_plan.specs.Texts.{Behind};
 ghost use Rattle.saber_cells.specs.Cells.{drafted};
 
+use crate::numbers::pair;
 use itoa::Buffer;
 use saber_plan::NoMemory;
 
@@ -84,13 +85,11 @@ fn put_three(line: &mut [u8; 128], at: usize, number: u64) -> usize
 // The last three digits of a number.
 #[inline(always)]
 fn last_three(number: u64) -> [u8; 4]
-    ensures { take 3 result ≡ (48 + number % 1000 / 100) ∷ (48 + number % 1000 / 10 % 10) ∷ (48 + number % 1000 % 10) ∷ [] }
+    ensures { take 3 result ≡ (48 + number % 1000 / 100) ∷ (48 + number % 1000 % 100 / 10) ∷ (48 + number % 1000 % 100 % 10) ∷ [] }
 {
     let last = number % 1000;
-    let hundreds = b'0' + (last / 100) as u8;
-    let tens = b'0' + (last / 10 % 10) as u8;
-    let ones = b'0' + (last % 10) as u8;
-    [hundreds, tens, ones, b' ']
+    let (tens, ones) = pair(last % 100);
+    [b'0' + (last / 100) as u8, tens, ones, b' ']
 }
 
 // Writes a number below 1,000,000.
@@ -109,8 +108,21 @@ fn put_six(line: &mut [u8; 128], at: usize, number: u64) -> usize
     end + 3
 }
 
+// Writes a number of seven to twelve digits.
+#[inline]
+fn put_twelve(line: &mut [u8; 128], at: usize, number: u64) -> usize
+    requires small { (1000000 ≤ number) × (number < 1000000000000) }
+    requires room { at + 13 ≤ 128 }
+    ensures written { take result line.new ≡ take at line.old ++ decimal number }
+    ensures short { result ≤ at + 12 }
+{
+    let end = put_six(line, at, number / 1_000_000);
+    put_four(line, end, last_three(number / 1000));
+    put_four(line, end + 3, last_three(number));
+    end + 6
+}
+
 // Writes a number of any length.
-#[inline(never)]
 fn put_any(line: &mut [u8; 128], at: usize, number: i128) -> usize
     requires room { at + 40 ≤ 128 }
     ensures written { take result line.new ≡ take at line.old ++ signed_decimal number }
@@ -148,6 +160,19 @@ fn with_room(out: &mut Vec<u8>, line: &[u8; 128], at: usize) -> Result<usize, No
     Ok(0)
 }
 
+// Writes a number that has more than six digits, or is less than 0.
+#[inline(never)]
+fn put_long(line: &mut [u8; 128], at: usize, number: i128) -> usize
+    requires room { at + 40 ≤ 128 }
+    ensures written { take result line.new ≡ take at line.old ++ signed_decimal number }
+    ensures short { result ≤ at + 40 }
+{
+    if 1_000_000 <= number && number < 1_000_000_000_000 {
+        return put_twelve(line, at, number as u64);
+    }
+    put_any(line, at, number)
+}
+
 /// Writes a number in decimal at a place of the array, and returns where it ends. What stood behind
 /// the place may be written over.
 #[inline(always)]
@@ -159,7 +184,7 @@ pub fn put_number(line: &mut [u8; 128], at: usize, number: i128) -> usize
     if 0 <= number && number < 1_000_000 {
         return put_six(line, at, number as u64);
     }
-    put_any(line, at, number)
+    put_long(line, at, number)
 }
 
 /// Writes a comma and a number behind what stands before a place of the array: one cell more of a
