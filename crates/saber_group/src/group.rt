@@ -10,6 +10,7 @@ ghost use Rattle.saber_laws.specs.Plans.{OneWindow};
 
 use saber_flat::RowRef;
 use saber_laws::{checked_fit, groups_have_one_window};
+use saber_partial::Aggregates;
 use saber_plan::{Mark, Plan};
 use saber_window::Windows;
 use std::marker::Model;
@@ -19,6 +20,7 @@ use std::marker::Model;
 pub struct Group<'a> {
     pub(crate) plan: &'a Plan,
     pub(crate) windows: Windows,
+    pub(crate) aggregates: Aggregates<'a>,
 }
 
 impl<'a> Model for Group<'a> {
@@ -37,7 +39,7 @@ impl<'a> Model for Group<'a> {
 
     ghost view = { λ g. g.plan.now };
 
-    ghost invariant = { λ g. IsChecked (tree_of g.plan.now) × ((tree_of g.plan.now).shape ≡ shapes.Group) × (g.windows ≡ frame (tree_of g.plan.now)) };
+    ghost invariant = { λ g. IsChecked (tree_of g.plan.now) × ((tree_of g.plan.now).shape ≡ shapes.Group) × (g.windows ≡ frame (tree_of g.plan.now)) × (g.aggregates ≡ g.plan.now) };
 }
 
 impl<'a> Group<'a> {
@@ -50,6 +52,7 @@ impl<'a> Group<'a> {
         Group {
             plan,
             windows: Windows::of_plan(plan),
+            aggregates: Aggregates::of_plan(plan),
         }
     }
 

@@ -45,7 +45,7 @@ impl Group<'_> {
     {
         groups_have_one_window();
         if is_wanted && self.passes(row) {
-            part.add_row(alloc, self.plan, row)?;
+            part.add_row(alloc, &self.aggregates, row)?;
         }
         Ok(())
     }

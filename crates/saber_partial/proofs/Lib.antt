@@ -2,6 +2,7 @@ mod FlatRows
 mod Layouts
 pub mod Zips
 pub mod Sharing
+pub mod Sourced
 pub mod Gathered
 pub mod Headed
 pub mod RowNumbers

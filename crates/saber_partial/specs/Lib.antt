@@ -3,6 +3,7 @@ pub mod Sorted
 pub mod Flat
 pub mod Kinds
 pub mod Gathering
+pub mod Sources
 pub mod Printing
 pub mod PartLaws
 pub mod Panes

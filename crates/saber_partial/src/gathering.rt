@@ -9,12 +9,13 @@ ghost use Rattle.saber_plan.specs.Parts.{group_part, merge, no_part};
 ghost use Rattle.saber_partial.specs.Tallies.{CanMerge};
 ghost use Rattle.saber_partial.specs.Young.{young_part, IsOrder};
 
+use crate::aggregates::Aggregates;
 use crate::groups::Partial;
 use crate::piles::Pile;
 use crate::young::Young;
 use saber_flat::RowRef;
 use saber_laws::merge_is_associative;
-use saber_plan::{NoMemory, Plan};
+use saber_plan::NoMemory;
 use std::alloc::Global;
 use std::marker::Model;
 use std::mem;
@@ -41,8 +42,23 @@ impl Model for Gathering {
     ghost invariant = { λ g. CanMerge g.pile (young_part g.young.order g.young.groups.entries) × IsOrder g.young.order g.young.groups.entries };
 }
 
+// The latest groups go to the others. Few rows ask it.
+#[inline(never)]
+fn hand_over(alloc: Global, pile: &mut Pile, young: &mut Young) -> Result<(), NoMemory>
+    requires can { CanMerge pile.old (young_part young.old.order young.old.groups.entries) }
+    requires order { IsOrder young.old.order young.old.groups.entries }
+    ensures can { CanMerge pile.new (young_part young.new.order young.new.groups.entries) }
+    ensures order { IsOrder young.new.order young.new.groups.entries }
+    ensures few { OnOk result (length young.new.groups.entries < 128) }
+    ensures same { OnOk result (merge pile.new (young_part young.new.order young.new.groups.entries)
+        ≡ merge pile.old (young_part young.old.order young.old.groups.entries)) }
+{
+    let full = young.take_part(alloc)?;
+    pile.take_in(full)
+}
+
 // Where the latest groups are as many as there may be, they go to the others.
-#[inline]
+#[inline(always)]
 fn make_room(alloc: Global, pile: &mut Pile, young: &mut Young) -> Result<(), NoMemory>
     requires can { CanMerge pile.old (young_part young.old.order young.old.groups.entries) }
     requires order { IsOrder young.old.order young.old.groups.entries }
@@ -55,8 +71,7 @@ fn make_room(alloc: Global, pile: &mut Pile, young: &mut Young) -> Result<(), No
     if !young.is_full() {
         return Ok(());
     }
-    let full = young.take_part(alloc)?;
-    pile.take_in(full)
+    hand_over(alloc, pile, young)
 }
 
 impl Gathering {
@@ -73,16 +88,21 @@ impl Gathering {
     /// Adds a row of a group query's stream to the group of its key, as `Partial::add_row` does. After want of memory it
     /// is only safe.
     #[inline]
-    pub fn add_row(&mut self, alloc: Global, plan: &Plan, row: &RowRef) -> Result<(), NoMemory>
-        requires checked { IsChecked (tree_of plan.now) }
-        requires group { (tree_of plan.now).shape ≡ Group }
-        requires row { RowFits Left (columns_on (tree_of plan.now).streams Left) row.now }
-        requires room { CanMerge self.old (group_part (tree_of plan.now) (row.now.values ∷ [])) }
-        ensures { OnOk result (self.new ≡ merge self.old (group_part (tree_of plan.now) (row.now.values ∷ []))) }
+    pub fn add_row(
+        &mut self,
+        alloc: Global,
+        aggregates: &Aggregates,
+        row: &RowRef,
+    ) -> Result<(), NoMemory>
+        requires checked { IsChecked (tree_of aggregates.now) }
+        requires group { (tree_of aggregates.now).shape ≡ Group }
+        requires row { RowFits Left (columns_on (tree_of aggregates.now).streams Left) row.now }
+        requires room { CanMerge self.old (group_part (tree_of aggregates.now) (row.now.values ∷ [])) }
+        ensures { OnOk result (self.new ≡ merge self.old (group_part (tree_of aggregates.now) (row.now.values ∷ []))) }
     {
         merge_is_associative();
         make_room(alloc, &mut self.pile, &mut self.young)?;
-        self.young.add_row(plan, row)
+        self.young.add_row(aggregates, row)
     }
 
     /// All in one part, after which there is no group. The memory for the latest groups stays, for others. After want of

@@ -1,17 +1,19 @@
 // Groups of rows: from key lists to what is known of their rows.
 ghost use Rattle.std.specs.Prelude.{◌≡◌, [], ◌∷◌, true, false, Some, IfOk, OnOk, OnErr, length, ◌≤◌};
 ghost use Rattle.std.specs.List.{AllByRecursion};
+ghost use Rattle.saber_plan.specs.Trees.{tree_of};
 ghost use Rattle.saber_plan.specs.Parts.{no_part, numbers, merge};
 ghost use Rattle.saber_plan.specs.Tasks.{full};
 ghost use Rattle.saber_partial.specs.Gathering.{CanCount};
 ghost use Rattle.saber_partial.specs.Tallies.{CanMerge, FitsAt, with_row};
 
+use crate::aggregates::Aggregates;
 use crate::layout::Layout;
 use crate::merges::{merged, take_in};
 use crate::places::place;
 use crate::table::Table;
 use saber_flat::RowRef;
-use saber_plan::{Item, NoMemory};
+use saber_plan::NoMemory;
 use std::alloc::Global;
 use std::marker::Model;
 
@@ -68,18 +70,17 @@ impl Partial {
         &mut self,
         alloc: Global,
         key: &[i128],
-        items: &[Item],
+        aggregates: &Aggregates,
         row: &RowRef,
     ) -> Result<(), NoMemory>
-        requires keys { length key.now ≤ 8 }
-        requires items { length items.now ≤ 32 }
-        requires fit { AllByRecursion (CanCount row.now.values) items.now }
+        requires keys { length key.now ≡ length (tree_of aggregates.now).keys }
+        requires fit { AllByRecursion (CanCount row.now.values) (tree_of aggregates.now).items }
         requires none { self.old ≡ no_part }
-        ensures ok { OnOk result (self.new ≡ with_row self.old key.now (numbers items.now (row.now.values ∷ []))) }
+        ensures ok { OnOk result (self.new ≡ with_row self.old key.now (numbers (tree_of aggregates.now).items (row.now.values ∷ []))) }
         ensures err { OnErr result (self.new ≡ self.old) }
     {
-        let mut groups = Table::new(alloc, Layout::of_items(key.len(), items));
-        groups.insert_first(0, key, items, row)?;
+        let mut groups = Table::new(alloc, aggregates.layout());
+        groups.insert_first(0, key, aggregates, row)?;
         self.groups = groups;
         Ok(())
     }
@@ -89,26 +90,25 @@ impl Partial {
         &mut self,
         alloc: Global,
         key: &[i128],
-        items: &[Item],
+        aggregates: &Aggregates,
         row: &RowRef,
     ) -> Result<(), NoMemory>
-        requires keys { length key.now ≤ 8 }
-        requires items { length items.now ≤ 32 }
-        requires fit { AllByRecursion (CanCount row.now.values) items.now }
-        requires room { FitsAt self.old key.now (numbers items.now (row.now.values ∷ [])) }
-        ensures ok { OnOk result (self.new ≡ with_row self.old key.now (numbers items.now (row.now.values ∷ []))) }
+        requires keys { length key.now ≡ length (tree_of aggregates.now).keys }
+        requires fit { AllByRecursion (CanCount row.now.values) (tree_of aggregates.now).items }
+        requires room { FitsAt self.old key.now (numbers (tree_of aggregates.now).items (row.now.values ∷ [])) }
+        ensures ok { OnOk result (self.new ≡ with_row self.old key.now (numbers (tree_of aggregates.now).items (row.now.values ∷ []))) }
         ensures err { OnErr result (self.new ≡ self.old) }
     {
         if self.is_empty() {
-            return self.add_first(alloc, key, items, row);
+            return self.add_first(alloc, key, aggregates, row);
         }
         self.groups.has_one_layout();
         match place(&self.groups, key) {
             Ok(i) => {
-                self.groups.add_row(i, items, row);
+                self.groups.add_row(i, aggregates, row);
                 Ok(())
             }
-            Err(i) => self.groups.insert_first(i, key, items, row),
+            Err(i) => self.groups.insert_first(i, key, aggregates, row),
         }
     }
 

@@ -2,6 +2,7 @@
 //! values, and the values of first rows.
 #![tactic(auto)]
 
+mod aggregates;
 mod cuts;
 mod first_row;
 mod gather;
@@ -21,12 +22,14 @@ mod panes;
 mod piles;
 mod places;
 mod rows;
+mod sources;
 mod steps;
 mod table;
 mod tally;
 mod unprinted;
 mod young;
 
+pub use aggregates::Aggregates;
 pub use gathering::Gathering;
 pub use groups::Partial;
 pub use laws::{

@@ -10,6 +10,7 @@ ghost use Rattle.saber_plan.specs.Parts.{group_part, merge};
 ghost use Rattle.saber_partial.specs.Tallies.{CanMerge};
 ghost use Rattle.std.specs.List.{AllByRecursion};
 
+use crate::aggregates::Aggregates;
 use crate::groups::Partial;
 use arrayvec::ArrayVec;
 use saber_flat::RowRef;
@@ -32,7 +33,7 @@ impl Partial {
     /// Adds a row of a group query's stream to the group of its key (CQL 2006, GROUP BY; without
     /// one, all rows have the empty key), whether or not it passes WHERE: callers ask
     /// `saber_eval::holds` once a row. Only the first row of a group takes memory; where that is
-    /// wanting, nothing changes. `groups_can_merge` and `small_parts_merge` meet `room`.
+    /// wanting, nothing changes. What the plan asks is worked out anew: rows one after another go by a `Gathering`. `groups_can_merge` and `small_parts_merge` meet `room`.
     pub fn add_row(&mut self, alloc: Global, plan: &Plan, row: &RowRef) -> Result<(), NoMemory>
         requires checked { IsChecked (tree_of plan.now) }
         requires group { (tree_of plan.now).shape ≡ Group }
@@ -43,6 +44,6 @@ impl Partial {
     {
         let mut list = ArrayVec::new();
         push_key(&mut list, plan.keys(), row.values());
-        self.add(alloc, list.as_slice(), plan.items(), row)
+        self.add(alloc, list.as_slice(), &Aggregates::of_plan(plan), row)
     }
 }

@@ -2,16 +2,18 @@
 ghost use Rattle.std.specs.Prelude.{◌≡◌, [], ◌∷◌, ◌++◌, ◌+◌, ◌-◌, ◌<◌, ◌≤◌, List, ℤ, length, get_or, take, drop, IfOk, OnOk, OnErr};
 ghost use Rattle.std.specs.List.{insert, AllByRecursion};
 ghost use Rattle.std.proofs.Math.ListN.{set};
+ghost use Rattle.saber_plan.specs.Trees.{tree_of};
 ghost use Rattle.saber_plan.specs.Parts.{Numbers, numbers, join_numbers};
 ghost use Rattle.saber_partial.specs.Gathering.{CanCount};
 ghost use Rattle.saber_partial.specs.Tallies.{CanJoin};
 ghost use Rattle.saber_partial.specs.Flat.{entry_in, HaveLayout, IsLayout, IsRow, Suits};
 ghost use Rattle.saber_partial.specs.Young.{by_key};
 
+use crate::aggregates::Aggregates;
 use crate::layout::Layout;
 use crate::tally::{add_row, join_row, write_first};
 use saber_flat::RowRef;
-use saber_plan::{Item, NoMemory};
+use saber_plan::NoMemory;
 use std::alloc::Global;
 use std::marker::Model;
 
@@ -164,17 +166,17 @@ impl Table {
 
     /// Counts one row more in a group. Each row asks it.
     #[inline(always)]
-    pub(crate) fn add_row(&mut self, i: usize, items: &[Item], row: &RowRef)
+    pub(crate) fn add_row(&mut self, i: usize, aggregates: &Aggregates, row: &RowRef)
         requires there { i < length self.old.entries }
-        requires fit { AllByRecursion (CanCount row.now.values) items.now }
-        requires can { (d : List ℤ × Numbers) → CanJoin (get_or self.old.entries i d).1 (numbers items.now (row.now.values ∷ [])) }
+        requires fit { AllByRecursion (CanCount row.now.values) (tree_of aggregates.now).items }
+        requires can { (d : List ℤ × Numbers) → CanJoin (get_or self.old.entries i d).1 (numbers (tree_of aggregates.now).items (row.now.values ∷ [])) }
         ensures layout { self.new.layout ≡ self.old.layout }
         ensures joined { (d : List ℤ × Numbers) → self.new.entries
-            ≡ set self.old.entries i ((get_or self.old.entries i d).0, join_numbers (get_or self.old.entries i d).1 (numbers items.now (row.now.values ∷ []))) }
+            ≡ set self.old.entries i ((get_or self.old.entries i d).0, join_numbers (get_or self.old.entries i d).1 (numbers (tree_of aggregates.now).items (row.now.values ∷ []))) }
     {
         let start = i * self.layout.width;
         let end = start + self.layout.width;
-        add_row(&self.layout, &mut self.numbers[start..end], items, row);
+        add_row(&self.layout, &mut self.numbers[start..end], aggregates, row);
     }
 
     /// Appends a group.
@@ -232,20 +234,26 @@ impl Table {
         &mut self,
         i: usize,
         key: &[i128],
-        items: &[Item],
+        aggregates: &Aggregates,
         row: &RowRef,
     ) -> Result<(), NoMemory>
         requires there { i ≤ length self.old.entries }
-        requires suits { Suits self.old.layout (length key.now) items.now }
-        requires fit { AllByRecursion (CanCount row.now.values) items.now }
+        requires suits { Suits self.old.layout (length key.now) (tree_of aggregates.now).items }
+        requires fit { AllByRecursion (CanCount row.now.values) (tree_of aggregates.now).items }
         ensures layout { self.new.layout ≡ self.old.layout }
-        ensures ok { OnOk result (self.new.entries ≡ insert self.old.entries i (key.now, numbers items.now (row.now.values ∷ []))) }
+        ensures ok { OnOk result (self.new.entries ≡ insert self.old.entries i (key.now, numbers (tree_of aggregates.now).items (row.now.values ∷ []))) }
         ensures err { OnErr result (self.new.entries ≡ self.old.entries) }
     {
         let start = i * self.layout.width;
         make_room(&mut self.numbers, start, self.layout.width)?;
         let end = start + self.layout.width;
-        write_first(&self.layout, &mut self.numbers[start..end], key, items, row);
+        write_first(
+            &self.layout,
+            &mut self.numbers[start..end],
+            key,
+            aggregates,
+            row,
+        );
         self.len += 1;
         Ok(())
     }
@@ -254,19 +262,25 @@ impl Table {
     pub(crate) fn push_first(
         &mut self,
         key: &[i128],
-        items: &[Item],
+        aggregates: &Aggregates,
         row: &RowRef,
     ) -> Result<(), NoMemory>
-        requires suits { Suits self.old.layout (length key.now) items.now }
-        requires fit { AllByRecursion (CanCount row.now.values) items.now }
+        requires suits { Suits self.old.layout (length key.now) (tree_of aggregates.now).items }
+        requires fit { AllByRecursion (CanCount row.now.values) (tree_of aggregates.now).items }
         ensures layout { self.new.layout ≡ self.old.layout }
-        ensures ok { OnOk result (self.new.entries ≡ self.old.entries ++ (key.now, numbers items.now (row.now.values ∷ [])) ∷ []) }
+        ensures ok { OnOk result (self.new.entries ≡ self.old.entries ++ (key.now, numbers (tree_of aggregates.now).items (row.now.values ∷ [])) ∷ []) }
         ensures err { OnErr result (self.new.entries ≡ self.old.entries) }
     {
         let start = self.numbers.len();
         let end = start + self.layout.width;
         self.numbers.resize(end, 0)?;
-        write_first(&self.layout, &mut self.numbers[start..end], key, items, row);
+        write_first(
+            &self.layout,
+            &mut self.numbers[start..end],
+            key,
+            aggregates,
+            row,
+        );
         self.len += 1;
         Ok(())
     }
@@ -282,16 +296,14 @@ impl Table {
         self.layout = layout;
     }
 
-    /// Where there is no group yet, the layout becomes that of groups of keys of so many columns.
-    pub(crate) fn suit(&mut self, keys: usize, items: &[Item])
-        requires keys { keys ≤ 8 }
-        requires items { length items.now ≤ 32 }
-        requires others { 0 < length self.old.entries → Suits self.old.layout keys items.now }
-        ensures suits { Suits self.new.layout keys items.now }
+    /// Where there is no group yet, the layout becomes that of the groups of a plan.
+    pub(crate) fn suit(&mut self, aggregates: &Aggregates)
+        requires others { 0 < length self.old.entries → Suits self.old.layout (length (tree_of aggregates.now).keys) (tree_of aggregates.now).items }
+        ensures suits { Suits self.new.layout (length (tree_of aggregates.now).keys) (tree_of aggregates.now).items }
         ensures same { self.new.entries ≡ self.old.entries }
     {
         if self.len() == 0 {
-            self.clear(Layout::of_items(keys, items));
+            self.clear(aggregates.layout());
         }
     }
 

@@ -410,12 +410,13 @@ fn gathered(alloc: Global, plan: &Plan, count: u32) -> Result<Gathering, NoMemor
     ensures { IfOk result (λ g. OfRows (tree_of plan.now) count g) }
 {
     let mut gathering = Gathering::empty(alloc);
+    let aggregates = Aggregates::of_plan(plan);
     groups_are_of_rows();
     small_parts_merge();
     for time in 0..count {
         let key = i64::from(time % 300 * 7 % 300);
         let row = row(alloc, time, key, key)?;
-        gathering.add_row(alloc, plan, &RowRef::of(&row))?;
+        gathering.add_row(alloc, &aggregates, &RowRef::of(&row))?;
     }
     Ok(gathering)
 }

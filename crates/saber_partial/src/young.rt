@@ -13,6 +13,7 @@ ghost use Rattle.saber_partial.specs.Sorted.{IsGap};
 ghost use Rattle.saber_partial.specs.Tallies.{CanMerge, FitsAt, with_row};
 ghost use Rattle.saber_partial.specs.Young.{by_key, young_part, HasKey, IsOrder};
 
+use crate::aggregates::Aggregates;
 use crate::groups::Partial;
 use crate::layout::Layout;
 use crate::places::{is_key_of, place_by};
@@ -20,7 +21,7 @@ use crate::rows::push_key;
 use crate::table::Table;
 use arrayvec::ArrayVec;
 use saber_flat::RowRef;
-use saber_plan::{Item, NoMemory, Plan};
+use saber_plan::NoMemory;
 use std::alloc::Global;
 
 /// Groups of 128 keys at most. A new group comes behind all others, so that none is moved for it, and its place is put among
@@ -81,26 +82,25 @@ impl Young {
         slot: usize,
         i: usize,
         key: &[i128],
-        items: &[Item],
+        aggregates: &Aggregates,
         row: &RowRef,
     ) -> Result<(), NoMemory>
         requires slot { slot < 128 }
         requires order { IsOrder self.old.order self.old.groups.entries }
         requires few { length self.old.groups.entries < 128 }
         requires missing { IsGap (by_key self.old.order self.old.groups.entries) key.now i }
-        requires keys { length key.now ≤ 8 }
-        requires items { length items.now ≤ 32 }
-        requires fit { AllByRecursion (CanCount row.now.values) items.now }
-        requires room { FitsAt (young_part self.old.order self.old.groups.entries) key.now (numbers items.now (row.now.values ∷ [])) }
+        requires keys { length key.now ≡ length (tree_of aggregates.now).keys }
+        requires fit { AllByRecursion (CanCount row.now.values) (tree_of aggregates.now).items }
+        requires room { FitsAt (young_part self.old.order self.old.groups.entries) key.now (numbers (tree_of aggregates.now).items (row.now.values ∷ [])) }
         ensures order { IsOrder self.new.order self.new.groups.entries }
         ensures ok { OnOk result (young_part self.new.order self.new.groups.entries
-            ≡ with_row (young_part self.old.order self.old.groups.entries) key.now (numbers items.now (row.now.values ∷ []))) }
+            ≡ with_row (young_part self.old.order self.old.groups.entries) key.now (numbers (tree_of aggregates.now).items (row.now.values ∷ []))) }
         ensures err { OnErr result (young_part self.new.order self.new.groups.entries ≡ young_part self.old.order self.old.groups.entries) }
     {
         let count = self.groups.len();
         self.groups.has_one_layout();
-        self.groups.suit(key.len(), items);
-        self.groups.push_first(key, items, row)?;
+        self.groups.suit(aggregates);
+        self.groups.push_first(key, aggregates, row)?;
         let place = count as u8;
         put_before(&mut self.order, count, i, place);
         self.hints[slot] = place;
@@ -148,7 +148,7 @@ impl Young {
         slot: usize,
         i: usize,
         columns: &[u32],
-        items: &[Item],
+        aggregates: &Aggregates,
         row: &RowRef,
     ) -> Result<(), NoMemory>
         requires slot { slot < 128 }
@@ -156,61 +156,66 @@ impl Young {
         requires few { length self.old.groups.entries < 128 }
         requires missing { IsGap (by_key self.old.order self.old.groups.entries) (key columns.now row.now.values) i }
         requires keys { length columns.now ≤ 8 }
+        requires columns { columns.now ≡ (tree_of aggregates.now).keys }
         requires there { AllByRecursion (λ k. k < length row.now.values) columns.now }
-        requires items { length items.now ≤ 32 }
-        requires fit { AllByRecursion (CanCount row.now.values) items.now }
-        requires room { FitsAt (young_part self.old.order self.old.groups.entries) (key columns.now row.now.values) (numbers items.now (row.now.values ∷ [])) }
+        requires fit { AllByRecursion (CanCount row.now.values) (tree_of aggregates.now).items }
+        requires room { FitsAt (young_part self.old.order self.old.groups.entries) (key columns.now row.now.values) (numbers (tree_of aggregates.now).items (row.now.values ∷ [])) }
         ensures order { IsOrder self.new.order self.new.groups.entries }
         ensures ok { OnOk result (young_part self.new.order self.new.groups.entries
-            ≡ with_row (young_part self.old.order self.old.groups.entries) (key columns.now row.now.values) (numbers items.now (row.now.values ∷ []))) }
+            ≡ with_row (young_part self.old.order self.old.groups.entries) (key columns.now row.now.values) (numbers (tree_of aggregates.now).items (row.now.values ∷ []))) }
         ensures err { OnErr result (young_part self.new.order self.new.groups.entries ≡ young_part self.old.order self.old.groups.entries) }
     {
         let mut list = ArrayVec::new();
         push_key(&mut list, columns, row.values());
-        self.add_first(slot, i, list.as_slice(), items, row)
+        self.add_first(slot, i, list.as_slice(), aggregates, row)
     }
 
     // Adds what is known of one row to the group of its key.
     #[inline]
-    fn add(&mut self, columns: &[u32], items: &[Item], row: &RowRef) -> Result<(), NoMemory>
+    fn add(
+        &mut self,
+        columns: &[u32],
+        aggregates: &Aggregates,
+        row: &RowRef,
+    ) -> Result<(), NoMemory>
         requires order { IsOrder self.old.order self.old.groups.entries }
         requires few { length self.old.groups.entries < 128 }
         requires keys { length columns.now ≤ 8 }
+        requires columns { columns.now ≡ (tree_of aggregates.now).keys }
         requires there { AllByRecursion (λ k. k < length row.now.values) columns.now }
-        requires items { length items.now ≤ 32 }
-        requires fit { AllByRecursion (CanCount row.now.values) items.now }
-        requires room { FitsAt (young_part self.old.order self.old.groups.entries) (key columns.now row.now.values) (numbers items.now (row.now.values ∷ [])) }
+        requires fit { AllByRecursion (CanCount row.now.values) (tree_of aggregates.now).items }
+        requires room { FitsAt (young_part self.old.order self.old.groups.entries) (key columns.now row.now.values) (numbers (tree_of aggregates.now).items (row.now.values ∷ [])) }
         ensures order { IsOrder self.new.order self.new.groups.entries }
         ensures ok { OnOk result (young_part self.new.order self.new.groups.entries
-            ≡ with_row (young_part self.old.order self.old.groups.entries) (key columns.now row.now.values) (numbers items.now (row.now.values ∷ []))) }
+            ≡ with_row (young_part self.old.order self.old.groups.entries) (key columns.now row.now.values) (numbers (tree_of aggregates.now).items (row.now.values ∷ []))) }
         ensures err { OnErr result (young_part self.new.order self.new.groups.entries ≡ young_part self.old.order self.old.groups.entries) }
     {
         let slot = slot_of(columns, row.values());
         match self.find(slot, columns, row.values()) {
             Ok(place) => {
                 self.hints[slot] = place as u8;
-                self.groups.add_row(place, items, row);
+                self.groups.add_row(place, aggregates, row);
                 Ok(())
             }
-            Err(i) => self.add_new(slot, i, columns, items, row),
+            Err(i) => self.add_new(slot, i, columns, aggregates, row),
         }
     }
 
     /// Adds a row to the group of its key, as `Partial::add_row` does.
     #[inline]
-    pub(crate) fn add_row(&mut self, plan: &Plan, row: &RowRef) -> Result<(), NoMemory>
+    pub(crate) fn add_row(&mut self, aggregates: &Aggregates, row: &RowRef) -> Result<(), NoMemory>
         requires order { IsOrder self.old.order self.old.groups.entries }
         requires few { length self.old.groups.entries < 128 }
-        requires checked { IsChecked (tree_of plan.now) }
-        requires group { (tree_of plan.now).shape ≡ Group }
-        requires row { RowFits Left (columns_on (tree_of plan.now).streams Left) row.now }
-        requires room { CanMerge (young_part self.old.order self.old.groups.entries) (group_part (tree_of plan.now) (row.now.values ∷ [])) }
+        requires checked { IsChecked (tree_of aggregates.now) }
+        requires group { (tree_of aggregates.now).shape ≡ Group }
+        requires row { RowFits Left (columns_on (tree_of aggregates.now).streams Left) row.now }
+        requires room { CanMerge (young_part self.old.order self.old.groups.entries) (group_part (tree_of aggregates.now) (row.now.values ∷ [])) }
         ensures order { IsOrder self.new.order self.new.groups.entries }
         ensures ok { OnOk result (young_part self.new.order self.new.groups.entries
-            ≡ merge (young_part self.old.order self.old.groups.entries) (group_part (tree_of plan.now) (row.now.values ∷ []))) }
+            ≡ merge (young_part self.old.order self.old.groups.entries) (group_part (tree_of aggregates.now) (row.now.values ∷ []))) }
         ensures err { OnErr result (young_part self.new.order self.new.groups.entries ≡ young_part self.old.order self.old.groups.entries) }
     {
-        self.add(plan.keys(), plan.items(), row)
+        self.add(aggregates.keys(), aggregates, row)
     }
 
     /// Whether no more groups have room.

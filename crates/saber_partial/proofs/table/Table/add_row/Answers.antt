@@ -1,5 +1,6 @@
 use Rattle.std.proofs.Common.{[], ◌∷◌, ◌*◌, List, ℤ, length, get_or, sym, ap, ◌∙◌, subst, arith}
 use Rattle.std.proofs.Math.ListN.{set}
+use Rattle.saber_plan.specs.Trees.{tree_of}
 use Rattle.saber_plan.specs.Parts.{Numbers, numbers, join_numbers}
 use Rattle.saber_partial.specs.Flat.{Table, entry_in, entries_in, IsRow, AreRows}
 use Rattle.saber_partial.specs.Tallies.{CanJoin}
@@ -48,7 +49,7 @@ add_row-requires-clause-can c =
     let t = c.self.inside in
     let l = t.layout in
     let i = c.args.i in
-    let v = numbers c.args.items.now (c.args.row.now.values ∷ []) in
+    let v = numbers (tree_of c.args.aggregates.now).items (c.args.row.now.values ∷ []) in
     let e = entry_in l (here l i t.numbers.items) in
     let low = len_shown l t.len t.numbers.items c.args.self.now i c.self.view_is c.requires.there in
     let can = subst (λ (x : Table). (d : List ℤ × Numbers) → CanJoin (get_or x.entries i d).1 v) (sym c.self.view_is) c.requires.can e in
@@ -70,7 +71,7 @@ returns-clause-joined c = λ d.
     let t = c.self.inside in
     let l = t.layout in
     let i = c.args.i in
-    let v = numbers c.args.items.now (c.args.row.now.values ∷ []) in
+    let v = numbers (tree_of c.args.aggregates.now).items (c.args.row.now.values ∷ []) in
     let low = len_shown l t.len t.numbers.items c.args.self.now i c.self.view_is c.requires.there in
     let ends = row_ends l t.len i t.numbers.items c.self.invariant low in
     let r = c.add_row.ensures.row in

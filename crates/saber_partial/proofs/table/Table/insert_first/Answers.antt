@@ -1,5 +1,6 @@
 use Rattle.std.proofs.Common.{[], ◌∷◌, ◌+◌, ◌*◌, sym, ap, ◌∙◌, subst, arith}
 use Rattle.std.specs.List.{insert}
+use Rattle.saber_plan.specs.Trees.{tree_of}
 use Rattle.saber_plan.specs.Parts.{numbers}
 use Rattle.saber_partial.specs.Flat.{Table, entries_in, AreRows}
 use Rattle.saber_partial.proofs.FlatRows.{start_shown, start_ends, put_between, put_in, rows_put_in}
@@ -47,4 +48,4 @@ returns-clause-ok c =
     ap (entries_in l (t.len + 1)) new
     ∙ put_in l t.len i xs c.self.invariant low c.write_first.new.xs r.long
     ∙ ap (insert (entries_in l t.len xs) i) (c.write_first.ensures.first)
-    ∙ ap (λ (x : Table). insert x.entries i (c.args.key.now, numbers c.args.items.now (c.args.row.now.values ∷ []))) c.self.view_is
+    ∙ ap (λ (x : Table). insert x.entries i (c.args.key.now, numbers (tree_of c.args.aggregates.now).items (c.args.row.now.values ∷ []))) c.self.view_is

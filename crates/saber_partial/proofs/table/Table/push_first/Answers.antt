@@ -1,5 +1,6 @@
 use Rattle.std.proofs.Common.{◌≡◌, ◌+◌, [], ◌∷◌, ◌++◌, length, take, sym, ap, ◌∙◌, subst, arith}
 use Rattle.std.proofs.lemmas.List.{take_at, take_all}
+use Rattle.saber_plan.specs.Trees.{tree_of}
 use Rattle.saber_plan.specs.Parts.{numbers}
 use Rattle.saber_partial.specs.Flat.{Table, entries_in, AreRows}
 use Rattle.saber_partial.proofs.FlatRows.{put_behind, rows_push, seen_push}
@@ -32,4 +33,4 @@ returns-clause-ok c =
     ap (entries_in l (t.len + 1)) new
     ∙ seen_push l t.len t.numbers.items c.write_first.new.xs c.self.invariant r
     ∙ ap (λ e. entries_in l t.len t.numbers.items ++ e ∷ []) c.write_first.ensures.first
-    ∙ ap (λ (x : Table). x.entries ++ (c.args.key.now, numbers c.args.items.now (c.args.row.now.values ∷ [])) ∷ []) c.self.view_is
+    ∙ ap (λ (x : Table). x.entries ++ (c.args.key.now, numbers (tree_of c.args.aggregates.now).items (c.args.row.now.values ∷ [])) ∷ []) c.self.view_is

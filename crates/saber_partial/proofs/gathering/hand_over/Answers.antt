@@ -5,7 +5,7 @@ use Rattle.saber_plan.specs.PartFacts.{merge-empty_right}
 use Rattle.saber_partial.specs.Tallies.{CanMerge}
 use Rattle.saber_partial.specs.MergeFacts.{can_none}
 use Rattle.saber_partial.specs.Young.{young_part}
-use Rattle.saber_partial.proofs.gathering.make_room.Goals as goal
+use Rattle.saber_partial.proofs.gathering.hand_over.Goals as goal
 
 pub returns-clause-can : goal.returns-clause-can
 returns-clause-can c =

@@ -1,0 +1,17 @@
+use Rattle.std.proofs.Common.{[], get_or, pos, ◌∙◌, ap, sym, rules, to_z-of_z}
+use mir.Val.{SFits}
+use mir.Syntax.{w64, w128}
+use Rattle.saber_plan.specs.Values as v
+use Rattle.saber_partial.specs.Sources.{expression}
+use Rattle.saber_partial.proofs.Sourced.{lone_value}
+use Rattle.saber_partial.proofs.sources.Source.value.Goals as goal
+
+pub returns-in-Column-clause-value : goal.returns-in-Column-clause-value
+returns-in-Column-clause-value c =
+    let k = c.in-Column.column in
+    let zs = c.args.row.now.values in
+    let fits : SFits w64 (get_or c.values.result.now k (pos 0)) = search rules in
+    let wide = simp to_z-of_z at c.from.ensures in
+    let fits_wide : SFits w128 c.from.result = search rules in
+    let all = wide ∙ ap (λ l. get_or l k (pos 0)) c.values.ensures ∙ sym (ap (λ s. v.value (expression c.args.items.now s) zs []) c.in-Column.is ∙ lone_value k zs) in
+    simp to_z-of_z all
