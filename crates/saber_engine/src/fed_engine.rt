@@ -13,6 +13,7 @@ ghost use Rattle.saber_engine.specs.Endings.{MayStop};
 
 use crate::ends::{Ran, RunEnd};
 use crate::fed_plans::run_fed;
+use crate::spare::keep_freed;
 use saber_group::Group;
 use saber_io::{EndMark, Feed, Gate, Plain, Pour, Sink};
 use saber_plan::{Plan, Shape, Sizes};
@@ -103,6 +104,7 @@ pub fn engine_fed<F: Feed, K: Sink + Send, G: Gate + Sync, R: Threads + Wait + S
     // The stage was stopped where a write failed, maybe where memory lacked, and at no other end.
     ensures stopped { MayStop result.end result.stopped }
 {
+    keep_freed(alloc);
     let ran = run_shape(rt, alloc, plan, feed, Plain { sink }, sizes, gate);
     let Ran {
         end,

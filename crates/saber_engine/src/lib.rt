@@ -10,6 +10,7 @@ mod fed_engine;
 mod fed_plans;
 mod plans;
 mod run_engine;
+mod spare;
 
 pub use ends::{Ran, RunEnd};
 pub use fed_engine::engine_fed;

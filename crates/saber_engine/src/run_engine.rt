@@ -12,6 +12,7 @@ ghost use Rattle.saber_engine.specs.Endings.{MayStop};
 
 use crate::ends::{Ran, RunEnd};
 use crate::plans::run_plan;
+use crate::spare::keep_freed;
 use saber_dispatch::Inputs;
 use saber_group::Group;
 use saber_io::{Gate, Plain, Pour, Sink, Source};
@@ -61,6 +62,7 @@ pub fn engine_pouring<S: Source, K: Pour + Send, G: Gate + Sync, R: Threads + Wa
     // The stage was stopped where a write failed, maybe where memory lacked, and at no other end.
     ensures stopped { MayStop result.end result.stopped }
 {
+    keep_freed(alloc);
     match plan.shape() {
         Shape::Select => {
             let operator = Select::new(plan);
