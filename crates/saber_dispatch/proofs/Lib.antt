@@ -6,6 +6,7 @@ pub mod MergedTakings
 pub mod FedFillings
 pub mod Faults
 pub mod LastBlocks
+pub mod TimedLasts
 pub mod NextTasks
 pub mod BlockLists
 pub mod BlockCuts

@@ -1,6 +1,7 @@
 pub mod Sources
 pub mod Readings
 pub mod Filling
+pub mod Timed
 pub mod Cutting
 pub mod Telling
 pub mod Supplying

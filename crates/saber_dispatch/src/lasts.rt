@@ -2,52 +2,23 @@
 ghost use Rattle.std.specs.Prelude.{◌≡◌, ◌≤◌, ◌<◌, ◌+◌, ◌-◌, ◌++◌, ◌∷◌, ◌^◌, [], length, drop, OnOk};
 ghost use Rattle.std.specs.List.{AllByRecursion};
 ghost use Rattle.saber_plan.specs.Rows.{stamp};
-ghost use Rattle.saber_plan.specs.Windows.{placed_after, closed_count};
-ghost use Rattle.saber_plan.specs.Needs.{later_of, last_of, free_of};
+ghost use Rattle.saber_plan.specs.Windows.{Ordered, placed_after, closed_count};
+ghost use Rattle.saber_plan.specs.Needs.{last_of, free_of};
 ghost use Rattle.saber_dispatch.specs.Cutting.{KeepsOne};
 
+use crate::join_windows::JoinWindows;
 use saber_flat::Rows;
 use saber_plan::{Mark, NoMemory};
-use saber_window::{Windows, free_of, step_mark};
+use saber_window::free_of;
 use std::collections::VecDeque;
 
 /// What is kept of the blocks before the next one, from the first that a task may still look back on:
 /// the greatest last window of each block's rows.
 #[derive(Drop)]
 pub(crate) struct Lasts {
-    pub(crate) windows: Windows,
+    pub(crate) windows: JoinWindows,
     pub(crate) first: u64,
     pub(crate) list: VecDeque<Option<u64>>,
-}
-
-// The greater of two last windows.
-fn later(a: Option<u64>, b: Option<u64>) -> Option<u64>
-    ensures { result ≡ later_of a b }
-{
-    match a {
-        None => b,
-        Some(x) => match b {
-            None => a,
-            Some(y) => Some(x.max(y)),
-        },
-    }
-}
-
-/// The greatest last window of some rows.
-fn last_of_rows(windows: &Windows, before: &Mark, rows: &Rows) -> Option<u64>
-    requires left { before.now.left + length rows.now < 2 ^ 63 }
-    requires right { before.now.right + length rows.now < 2 ^ 63 }
-    requires times { AllByRecursion (λ r. stamp r.values < 2 ^ 63) rows.now }
-    ensures { result ≡ last_of windows.now (placed_after before.now rows.now) }
-{
-    let mut mark = *before;
-    let mut last = None;
-    for i in 0..rows.len() {
-        let row = rows.row(i);
-        last = later(last, windows.last_window(&row, &mark));
-        mark = step_mark(&mark, &row);
-    }
-    last
 }
 
 impl Lasts {
@@ -73,10 +44,10 @@ impl Lasts {
         requires left { before.now.left + length rows.now < 2 ^ 63 }
         requires right { before.now.right + length rows.now < 2 ^ 63 }
         requires times { AllByRecursion (λ r. stamp r.values < 2 ^ 63) rows.now }
+        requires order { Ordered before.now rows.now }
         ensures { OnOk result (KeepsOne (last_of self.old.windows (placed_after before.now rows.now)) self.old self.new) }
     {
-        let windows = self.windows;
-        let last = last_of_rows(&windows, before, rows);
+        let last = self.windows.last_of(before, rows);
         self.list.push_back(last)?;
         Ok(())
     }

@@ -10,6 +10,7 @@ mod fed_laws;
 mod fed_reader;
 mod fill;
 mod inputs;
+mod join_windows;
 mod lasts;
 mod laws;
 mod opening;
