@@ -1,5 +1,5 @@
 -- What a task holds after one more row.
-use Rattle.std.proofs.Common.{◌≡◌, ℕ, ◌+◌, ◌≤◌, ◌<◌, max, List, [], ◌∷◌, ◌++◌, map, filter, flat_map, length, Bool, true, false, cond, nat_le, nat_lt, Option, refl, sym, ◌∙◌, ap, subst, append-nil, append_assoc, take, drop, ℤ, arith}
+use Rattle.std.proofs.Common.{◌≡◌, ℕ, ◌+◌, ◌≤◌, ◌<◌, max, List, [], ◌∷◌, ◌++◌, map, filter, flat_map, length, Bool, true, false, cond, nat_le, Option, refl, sym, ◌∙◌, ap, subst, append_assoc, take, drop, ℤ, arith}
 use Rattle.std.specs.FinMap.{from_entries}
 use Rattle.std.specs.List.{AllByRecursion}
 use Rattle.std.proofs.lemmas.Bool.{lt-leb}
@@ -23,9 +23,7 @@ use Rattle.saber_laws.specs.Parts.{NoRowsNoPart}
 use Rattle.saber_join.specs.Rows.{IsOn, AllOn}
 use Rattle.saber_join.specs.Shelves.{Card, card_of}
 use Rattle.saber_join.specs.Ties.{Ends}
-use Rattle.saber_plan.specs.Needs.{first_window, past_window}
-use Rattle.std.proofs.lemmas.Bool.Decides.{nat_tests}
-use Rattle.saber_join.specs.Keeping.{NoneLies, lies_from, cards_of, lefts_of, rights_of}
+use Rattle.saber_join.specs.Keeping.{lies_from, cards_of, lefts_of, rights_of}
 
 pub placed_push : (m : Mark) (xs : List Row) (r : Row) → placed_after m (xs ++ r ∷ []) ≡ placed_after m xs ++ after_rows m xs r ∷ []
 placed_push m xs r = placed-append m xs (r ∷ []) ∙ ap (λ l. placed_after m xs ++ l) (placed-one (mark_after m xs) r)
@@ -43,30 +41,18 @@ rights_append f t c us vs = ap (cards_of f t c) (filter-append is_right us vs) �
 
 -- ---- those of a loop over rows
 
-each-append : {B : Type 0} (P : B → Type 0) (xs ys : List B) → Each P xs → Each P ys → Each P (xs ++ ys)
+pub each-append : {B : Type 0} (P : B → Type 0) (xs ys : List B) → Each P xs → Each P ys → Each P (xs ++ ys)
 each-append P [] ys g h = h
 each-append P (x ∷ xs) ys g h = (g.0, each-append P xs ys g.1 h)
 
--- rows none of which lies in an open window leave no card
-none_kept : (f : Frame) (t : Option Ends) (c : ℕ) (p : Placed → Bool) (us : List Placed) → NoneLies f c us → cards_of f t c (filter p us) ≡ []
-none_kept f t c p us h = ap (map (card_of f t c)) (dropped (lies_from f c) (filter p us) (each-filter _ p us h))
-
-pub lefts_skipped : (f : Frame) (t : Option Ends) (c : ℕ) (us : List Placed) (es : List Card) → NoneLies f c us → es ≡ es ++ lefts_of f t c us
-lefts_skipped f t c us es h = sym (append-nil es) ∙ ap (λ l. es ++ l) (sym (none_kept f t c is_left us h))
-
-pub rights_skipped : (f : Frame) (t : Option Ends) (c : ℕ) (us : List Placed) (es : List Card) → NoneLies f c us → es ≡ es ++ rights_of f t c us
-rights_skipped f t c us es h = sym (append-nil es) ∙ ap (λ l. es ++ l) (sym (none_kept f t c is_right us h))
-
--- one row more that does not
-pub none_more : (f : Frame) (c : ℕ) (b : Mark) (xs ys : List Row) (r : Row) (mark : Mark) → mark ≡ mark_after b xs → ys ≡ xs ++ r ∷ [] → nat_lt c (past_window f (record { row = r; before = mark })) ≡ false
-    → NoneLies f c (placed_after b xs) → NoneLies f c (placed_after b ys)
-none_more f c b xs ys r mark is more past h =
-    let one : nat_lt (max (first_window f (after_rows b xs r)) c) (past_window f (after_rows b xs r)) ≡ false = grind (arith, nat_tests, subst (λ (m : Mark). nat_lt c (past_window f (record { row = r; before = m })) ≡ false) is past) in
-    subst (NoneLies f c) (sym (placed_push b xs r) ∙ ap (placed_after b) (sym more)) (each-append _ (placed_after b xs) (after_rows b xs r ∷ []) h (one, tt))
-
-pub none_first : (f : Frame) (c : ℕ) (b : Mark) → NoneLies f c (placed_after b [])
+-- no rows leave no card
+pub no_lefts : (f : Frame) (t : Option Ends) (c : ℕ) (b : Mark) → lefts_of f t c (placed_after b []) ≡ []
 unfolding placed_after
-none_first f c b = tt
+no_lefts f t c b = refl
+
+pub no_rights : (f : Frame) (t : Option Ends) (c : ℕ) (b : Mark) → rights_of f t c (placed_after b []) ≡ []
+unfolding placed_after
+no_rights f t c b = refl
 
 module _ (f : Frame) (t : Option Ends) (c : ℕ) (b : Mark) (xs ys : List Row) (r : Row) (mark : Mark) (is : mark ≡ mark_after b xs) (more : ys ≡ xs ++ r ∷ []) (start old new : List Card) where
   pub lefts_push : old ≡ start ++ lefts_of f t c (placed_after b xs) → new ≡ old ++ lefts_of f t c (record { row = r; before = mark } ∷ []) → new ≡ start ++ lefts_of f t c (placed_after b ys)

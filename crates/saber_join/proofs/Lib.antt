@@ -17,4 +17,5 @@ pub mod Parting
 pub mod Beginning
 pub mod Finishing
 pub mod AllBehind
+pub mod Passing
 pub mod Tested

@@ -49,7 +49,7 @@ low_case c i first past h = grind (arith, nat_tests)
 high_case : (c i first past : ℕ) → nat_lt i c ≡ false → (nat_le (max first c) i && nat_lt i past) ≡ (nat_le first i && nat_lt i past)
 high_case c i first past h = grind (arith, nat_tests)
 
-not_low : (c i : ℕ) → nat_lt i c ≡ false → c ≤ i
+pub not_low : (c i : ℕ) → nat_lt i c ≡ false → c ≤ i
 not_low c i h = grind (arith, nat_tests)
 
 begun : (c i first past : ℕ) → c ≤ i → (nat_le first i && nat_lt i past) ≡ true → max first c ≤ i

@@ -18,7 +18,7 @@ use crate::ties::{Tie, tie_in};
 use saber_eval::{holds2, two_streams_fit, value2};
 use saber_flat::RowRef;
 use saber_laws::{checked_fit, joins_have_two_windows};
-use saber_plan::{Item, Mark, NoMemory, Plan, Side};
+use saber_plan::{Item, Mark, NoMemory, Plan, Side, Stream};
 use saber_window::{Lately, Windows, stamps_fit, step_mark};
 use std::alloc::Global;
 use std::marker::Model;
@@ -166,6 +166,13 @@ impl<'a> Join<'a> {
     {
         self.can_show(left, right);
         item_values(alloc, self.plan.items(), left, right)
+    }
+
+    /// The streams that it joins.
+    pub(crate) fn streams(&self) -> &[Stream]
+        ensures { result.now ≡ (tree_of self.now).streams }
+    {
+        self.plan.streams()
     }
 
     /// Its windows, to be asked for rows that come one after another.

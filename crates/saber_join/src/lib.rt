@@ -8,6 +8,7 @@
 #![tactic(auto)]
 
 mod assembles;
+mod back;
 mod draft;
 mod gathered;
 mod held;

@@ -1,4 +1,5 @@
 // What a join does with tasks and what they give.
+use crate::back::mark_before;
 use crate::draft::JoinDraft;
 use crate::gathered::gather;
 use crate::join::Join;
@@ -20,15 +21,14 @@ impl Operator for Join<'_> {
 
     type Store = PartStore<Pairs>;
 
-    ghost use Rattle.std.specs.Prelude.{◌≡◌};
     ghost use Rattle.saber_plan.specs.Trees.{tree_of};
     ghost use Rattle.saber_fragment.specs.Shown.{shares_of};
     ghost use Rattle.saber_parts.specs.Stored.{held_by, staying_by};
-    ghost use Rattle.saber_join.specs.Sights.{sight_of};
+    ghost use Rattle.saber_join.specs.Sights.{HasSeen};
 
     ghost plan = { tree_of };
 
-    ghost has_seen = { λ _ draft s. sight_of draft ≡ s };
+    ghost has_seen = { λ p draft s. HasSeen (tree_of p) draft s };
 
     ghost shares = { λ _. shares_of (λ part. part) };
 
@@ -44,8 +44,8 @@ impl Operator for Join<'_> {
         JoinDraft::new(alloc, own)
     }
 
-    fn feed(&self, _alloc: Global, draft: &mut JoinDraft, block: &Block) -> Result<(), NoMemory> {
-        draft.feed(block)
+    fn feed(&self, alloc: Global, draft: &mut JoinDraft, block: &Block) -> Result<(), NoMemory> {
+        self.look_back(alloc, draft, block)
     }
 
     fn finish(&self, alloc: Global, draft: JoinDraft) -> Result<Piece<Pairs>, NoMemory> {
@@ -61,7 +61,8 @@ impl Operator for Join<'_> {
         let back = &draft.back;
         let rows = &draft.rows;
         let before = draft.before;
-        let found = self.windows_of(alloc, &draft.first, &before, back, rows)?;
+        let first = mark_before(&before, draft.last, back);
+        let found = self.windows_of(alloc, &first, &before, back, rows)?;
         let after = ending(draft.ended, &found.1);
         let bounds = Bounds {
             begun_before: self.begun_below(&before),

@@ -7,7 +7,7 @@ ghost use Rattle.saber_plan.specs.Windows.{mark_after, placed_after};
 ghost use Rattle.saber_plan.specs.Given.{IsRowOf, RowsFit};
 ghost use Rattle.saber_join.specs.Rows.{AllOn};
 ghost use Rattle.saber_join.specs.Ties.{CanTie};
-ghost use Rattle.saber_join.specs.Keeping.{KeepsLefts, KeepsRights, NoneLies};
+ghost use Rattle.saber_join.specs.Keeping.{KeepsLefts, KeepsRights};
 ghost use Rattle.saber_join.specs.Open.{seen_parts, Takes, HoldsOpen};
 
 use crate::held::Held;
@@ -87,24 +87,6 @@ impl Join<'_> {
         held.note(key, low, past, seen)
     }
 
-    // How many rows come before the first that reaches a window from `closed` on, and the mark behind them.
-    fn skip(&self, closed: u64, before: &Mark, rows: &Rows) -> (usize, Mark)
-        requires fits { RowsFit (tree_of self.now) before.now rows.now }
-        ensures within { result.0 ≤ length rows.now }
-        ensures mark { result.1 ≡ mark_after before.now (take result.0 rows.now) }
-        ensures none { NoneLies (frame (tree_of self.now)) closed (placed_after before.now (take result.0 rows.now)) }
-    {
-        let mut mark = *before;
-        for i in 0..rows.len() {
-            let row = rows.row(i);
-            if self.reaches(closed, &row, &mark) {
-                return (i, mark);
-            }
-            mark = self.step(&mark, &row);
-        }
-        (rows.len(), mark)
-    }
-
     // Keeps the rows that are looked back on and lie in windows from `closed` on.
     fn note_rows<'a>(
         &self,
@@ -123,9 +105,8 @@ impl Join<'_> {
         ensures rights { OnOk result (KeepsRights (tree_of self.now) tie.now closed (placed_after before.now rows.now) held.old.rights held.new.rights) }
         ensures windows { OnOk result (held.new.windows.entries ≡ held.old.windows.entries) }
     {
-        let (from, behind) = self.skip(closed, before, rows);
-        let mut mark = behind;
-        for i in from..rows.len() {
+        let mut mark = *before;
+        for i in 0..rows.len() {
             let row = rows.row(i);
             self.note_row(held, tie, lately, closed, &row, &mark)?;
             mark = self.step(&mark, &row);

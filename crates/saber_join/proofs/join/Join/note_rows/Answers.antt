@@ -1,11 +1,11 @@
-use Rattle.std.proofs.Common.{◌≡◌, ◌<◌, ◌+◌, ◌∙◌, ◌++◌, [], ◌∷◌, length, get_or, take, sym, ap, refl, arith}
+use Rattle.std.proofs.Common.{◌≡◌, ◌<◌, ◌+◌, ◌∙◌, ◌++◌, [], ◌∷◌, length, get_or, take, sym, ap, refl, append-nil, arith}
 use Rattle.std.proofs.lemmas.Option.{get_or_from_slice_get}
 use Rattle.std.proofs.lemmas.List.{take_more}
 use Rattle.saber_plan.specs.Trees.{tree_of}
-use Rattle.saber_plan.specs.Windows.{step_mark, placed_after}
+use Rattle.saber_plan.specs.Windows.{step_mark}
 use Rattle.saber_plan.specs.Answers.{frame}
 use Rattle.saber_plan.specs.RowFacts.{left_small, right_small, mark_more, row_at}
-use Rattle.saber_join.proofs.Holding.{lefts_skipped, rights_skipped, lefts_push, rights_push}
+use Rattle.saber_join.proofs.Holding.{no_lefts, no_rights, lefts_push, rights_push}
 use Rattle.saber_join.proofs.join.Join.note_rows.Goals as goal
 
 pub loop-i-init : goal.loop-i-init
@@ -13,12 +13,11 @@ loop-i-init c =
     let f = frame (tree_of c.args.self.now) in
     let t = c.args.tie.now in
     let n = c.args.closed in
-    let us = placed_after c.args.before.now (take c.skip-from.result.0 c.args.rows.now) in
     record {
       lately = c.requires.lately;
-      mark = c.skip-from.ensures.mark;
-      lefts = lefts_skipped f t n us c.args.held.now.lefts c.skip-from.ensures.none;
-      rights = rights_skipped f t n us c.args.held.now.rights c.skip-from.ensures.none;
+      mark = refl;
+      lefts = sym (append-nil c.args.held.now.lefts) ∙ ap (λ l. c.args.held.now.lefts ++ l) (sym (no_lefts f t n c.args.before.now));
+      rights = sym (append-nil c.args.held.now.rights) ∙ ap (λ l. c.args.held.now.rights ++ l) (sym (no_rights f t n c.args.before.now));
       windows = refl;
     }
 
