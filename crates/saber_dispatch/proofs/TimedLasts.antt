@@ -10,7 +10,7 @@ use Rattle.saber_plan.specs.declared.windows.Measure.TheVariants.{Rows, Range}
 use Rattle.saber_plan.specs.Rows.{stamp}
 use Rattle.saber_plan.specs.Windows.{Frame, unwindowed, one, two, Placed, Ordered, in_order, time, placed_after, step_mark, count_to}
 use Rattle.saber_plan.specs.Needs.{later_of, last_of, last_window, first_window, past_window}
-use Rattle.saber_dispatch.specs.Timed.{IsTimed}
+use Rattle.saber_window.specs.Timed.{IsTimed}
 
 div_rises : (a b k : ℕ) → a ≤ b → a / k ≤ b / k
 div_rises a b zero h = subst (λ n. n ≤ b / zero) (sym (div-zero a)) (omega arith)

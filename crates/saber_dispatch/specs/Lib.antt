@@ -1,7 +1,6 @@
 pub mod Sources
 pub mod Readings
 pub mod Filling
-pub mod Timed
 pub mod Cutting
 pub mod Telling
 pub mod Supplying

@@ -6,17 +6,17 @@ ghost use Rattle.saber_plan.specs.Windows.{Ordered, placed_after, closed_count};
 ghost use Rattle.saber_plan.specs.Needs.{last_of, free_of};
 ghost use Rattle.saber_dispatch.specs.Cutting.{KeepsOne};
 
-use crate::join_windows::JoinWindows;
+use crate::last_windows::last_of;
 use saber_flat::Rows;
 use saber_plan::{Mark, NoMemory};
-use saber_window::free_of;
+use saber_window::{Windows, free_of};
 use std::collections::VecDeque;
 
 /// What is kept of the blocks before the next one, from the first that a task may still look back on:
 /// the greatest last window of each block's rows.
 #[derive(Drop)]
 pub(crate) struct Lasts {
-    pub(crate) windows: JoinWindows,
+    pub(crate) windows: Windows,
     pub(crate) first: u64,
     pub(crate) list: VecDeque<Option<u64>>,
 }
@@ -47,7 +47,8 @@ impl Lasts {
         requires order { Ordered before.now rows.now }
         ensures { OnOk result (KeepsOne (last_of self.old.windows (placed_after before.now rows.now)) self.old self.new) }
     {
-        let last = self.windows.last_of(before, rows);
+        let windows = self.windows;
+        let last = last_of(&windows, before, rows);
         self.list.push_back(last)?;
         Ok(())
     }

@@ -10,7 +10,7 @@ mod fed_laws;
 mod fed_reader;
 mod fill;
 mod inputs;
-mod join_windows;
+mod last_windows;
 mod lasts;
 mod laws;
 mod opening;

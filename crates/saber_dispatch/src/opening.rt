@@ -6,12 +6,12 @@ ghost use Rattle.saber_plan.specs.Sizes.{SizesFit, limits_of};
 ghost use Rattle.saber_dispatch.specs.Readings.{reading_of, one_new, two_new};
 ghost use Rattle.saber_dispatch.specs.Cutting.{LooksBack, end_counts, fresh};
 
-use crate::join_windows::JoinWindows;
 use crate::lasts::Lasts;
 use crate::reader::Reader;
 use saber_laws::{groups_have_one_window, joins_have_two_windows, selections_have_no_window};
 use saber_plan::{NoMemory, Plan, Shape, Side, Sizes, Stream};
 use saber_rows::{Lines, Merge};
+use saber_window::Windows;
 use std::alloc::Global;
 use std::collections::VecDeque;
 
@@ -62,7 +62,7 @@ pub(crate) fn lasts_for(alloc: Global, plan: &Plan) -> Option<Lasts>
         Shape::Select => None,
         Shape::Group => None,
         Shape::Join => Some(Lasts {
-            windows: JoinWindows::of_plan(plan),
+            windows: Windows::of_plan(plan),
             first: 0,
             list: VecDeque::new(alloc),
         }),

@@ -23,7 +23,7 @@ use Rattle.saber_fragment.specs.declared.blocks.Block.{Block}
 use Rattle.saber_fragment.specs.Drafts.{Sight, begins, fed, CanFeed, IsWhole}
 use Rattle.saber_join.specs.declared.draft.JoinDraft.{JoinDraft}
 use Rattle.saber_join.specs.Keeping.{NoneLies, lies_from}
-use Rattle.saber_join.specs.Timed.{IsTimed}
+use Rattle.saber_window.specs.Timed.{IsTimed}
 use Rattle.saber_join.specs.Open.{Windows, HoldsTask}
 use Rattle.saber_join.specs.Sights.{HasSeen}
 use Rattle.saber_join.proofs.Holding.{behind_after, each-append}

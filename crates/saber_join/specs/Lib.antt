@@ -6,7 +6,6 @@ pub mod Linked
 pub mod Ties
 pub mod Adding
 pub mod Keeping
-pub mod Timed
 pub mod Open
 pub mod Entries
 pub mod Sights

@@ -3,11 +3,10 @@ ghost use Rattle.std.specs.Prelude.{◌≡◌, ◌≤◌, [], length, take, drop
 ghost use Rattle.saber_plan.specs.declared.windows.Mark.{Mark};
 ghost use Rattle.saber_plan.specs.Trees.{tree_of};
 ghost use Rattle.saber_plan.specs.Answers.{frame};
-ghost use Rattle.saber_plan.specs.Windows.{frame_of, mark_after, placed_after};
+ghost use Rattle.saber_plan.specs.Windows.{mark_after, placed_after};
 ghost use Rattle.saber_plan.specs.Given.{RowsFit};
 ghost use Rattle.saber_fragment.specs.Drafts.{Sight, fed, CanFeed};
 ghost use Rattle.saber_join.specs.Keeping.{NoneLies};
-ghost use Rattle.saber_join.specs.Timed.{IsTimed};
 ghost use Rattle.saber_join.specs.Sights.{HasSeen};
 
 use crate::draft::JoinDraft;
@@ -15,28 +14,11 @@ use crate::join::Join;
 use saber_flat::Rows;
 use saber_fragment::Block;
 use saber_laws::begun_stay;
-use saber_plan::{Mark, Measure, NoMemory, Side, Stream};
+use saber_plan::{Mark, NoMemory, Side};
 use std::alloc::Global;
 
 // Rows have room for so many numbers each at first; with more of them it grows.
 const USUAL_COLUMNS: usize = 4;
-
-// Whether two streams have windows by time. Both have the same measure.
-fn are_timed(streams: &[Stream]) -> bool
-    ensures { result ≡ true → IsTimed (frame_of streams.now) }
-{
-    match streams {
-        [
-            Stream {
-                window: Some(window),
-                ..
-            },
-            _,
-            ..
-        ] => window.measure == Measure::Range,
-        _ => false,
-    }
-}
 
 // The rows from this one on.
 fn rest_of(alloc: Global, rows: &Rows, from: usize) -> Result<Rows, NoMemory>
@@ -149,12 +131,5 @@ impl Join<'_> {
         } else {
             draft.back.extend(&block.rows)
         }
-    }
-
-    // Whether its windows go by time.
-    fn goes_by_time(&self) -> bool
-        ensures { result ≡ true → IsTimed (frame (tree_of self.now)) }
-    {
-        are_timed(self.streams())
     }
 }

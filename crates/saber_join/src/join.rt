@@ -1,5 +1,5 @@
 // A join and its windows.
-ghost use Rattle.std.specs.Prelude.{◌≡◌, ◌++◌, [], ◌∷◌, ◌≤◌, ◌^◌, map, nat_lt, OnOk, IfOk};
+ghost use Rattle.std.specs.Prelude.{◌≡◌, ◌++◌, [], ◌∷◌, ◌≤◌, ◌^◌, map, nat_lt, true, OnOk, IfOk};
 ghost use Rattle.std.specs.List.{AllByRecursion};
 ghost use Rattle.saber_plan.specs.declared.rows.Side.TheVariants as sides;
 ghost use Rattle.saber_plan.specs.declared.plans.Shape.TheVariants as shapes;
@@ -11,6 +11,7 @@ ghost use Rattle.saber_plan.specs.Answers.{frame, item_value};
 ghost use Rattle.saber_plan.specs.Needs.{first_window, past_window};
 ghost use Rattle.saber_plan.specs.Given.{IsRowOf};
 ghost use Rattle.saber_laws.specs.Plans.{TwoWindows};
+ghost use Rattle.saber_window.specs.Timed.{IsTimed};
 ghost use Rattle.saber_join.specs.Rows.{IsOn, CanShow};
 ghost use Rattle.saber_join.specs.Ties.{CanTie, key_in};
 
@@ -100,6 +101,14 @@ impl<'a> Join<'a> {
         let _plan = &self.plan;
         joins_have_two_windows();
         checked_fit();
+    }
+
+    /// Whether its windows go by time.
+    pub(crate) fn goes_by_time(&self) -> bool
+        ensures { result ≡ true → IsTimed (frame (tree_of self.now)) }
+    {
+        let _plan = &self.plan;
+        self.windows.go_by_time()
     }
 
     // Its items can be worked out over a pair of rows of its streams.

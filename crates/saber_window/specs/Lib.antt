@@ -3,3 +3,4 @@ pub mod Points
 pub mod Laws
 pub mod Together
 pub mod Stretches
+pub mod Timed

@@ -1,11 +1,12 @@
 // The windows of a plan, taken out of it once.
-ghost use Rattle.std.specs.Prelude.{◌≡◌, ℕ, ◌^◌, ◌<◌, ◌≤◌, ◌||◌, not, nat_lt, is_none, length, drop};
+ghost use Rattle.std.specs.Prelude.{◌≡◌, ℕ, ◌^◌, ◌<◌, ◌≤◌, ◌||◌, true, not, nat_lt, is_none, length, drop};
 ghost use Rattle.std.specs.List.{AllByRecursion};
 ghost use Rattle.saber_plan.specs.Trees.{tree_of};
 ghost use Rattle.saber_plan.specs.Answers.{frame};
 ghost use Rattle.saber_plan.specs.Checked.{IsChecked};
 ghost use Rattle.saber_plan.specs.Windows.{Fits, Ordered, begun, begun_count, closed, closed_count, has, kind_of, past_count};
 ghost use Rattle.saber_plan.specs.Needs.{first_window, last_window, past_window};
+ghost use Rattle.saber_window.specs.Timed.{IsTimed};
 ghost use Rattle.saber_window.specs.Together.{IsLeft, LieTogether};
 
 use crate::counts::{count_reached, count_to};
@@ -50,6 +51,18 @@ impl Windows {
         checked_fit();
         Windows {
             windowed: windowed_of(p.streams()),
+        }
+    }
+
+    /// Whether they are those of a join by time: which of them a row lies in is then told by its timestamp and its side, so
+    /// that of rows in order the last one tells of all.
+    pub fn go_by_time(&self) -> bool
+        ensures { result ≡ true → IsTimed self.now }
+    {
+        match self.windowed {
+            Windowed::Both { measure, .. } => measure == Measure::Range,
+            Windowed::One { .. } => false,
+            Windowed::Neither => false,
         }
     }
 

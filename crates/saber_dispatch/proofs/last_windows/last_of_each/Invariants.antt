@@ -3,7 +3,7 @@ use Rattle.std.specs.List.{AllByRecursion}
 use Rattle.saber_plan.specs.Rows.{stamp}
 use Rattle.saber_plan.specs.Windows.{placed_after}
 use Rattle.saber_plan.specs.Needs.{later_of, last_of}
-use Rattle.saber_dispatch.proofs.join_windows.last_of_each.Given as goal
+use Rattle.saber_dispatch.proofs.last_windows.last_of_each.Given as goal
 
 abbrev pub invariant-loop-i : goal.invariant-loop-i
 invariant-loop-i l = record {

@@ -4,7 +4,7 @@ use Rattle.saber_plan.specs.Rows.{stamp}
 use Rattle.saber_plan.specs.Windows.{placed_after, step_mark}
 use Rattle.saber_plan.specs.Needs.{later_of, last_of, last_window}
 use Rattle.saber_dispatch.proofs.LastBlocks.{taken, at_end, all_after, left_step, right_step}
-use Rattle.saber_dispatch.proofs.join_windows.last_of_each.Goals as goal
+use Rattle.saber_dispatch.proofs.last_windows.last_of_each.Goals as goal
 
 pub loop-i-preserved : goal.loop-i-preserved
 loop-i-preserved c =
