@@ -2,6 +2,7 @@
 ghost use Rattle.std.specs.Prelude.{◌≡◌, ◌≢◌, ◌≤◌, ℕ, List, length};
 ghost use Rattle.saber_io.specs.Outside.{Rose};
 ghost use Rattle.saber_plan.specs.declared.rows.Side.{Side};
+ghost use Rattle.saber_plan.specs.declared.plans.Shape.TheVariants as shapes;
 ghost use Rattle.saber_plan.specs.Trees.{tree_of};
 ghost use Rattle.saber_plan.specs.Checked.{IsChecked};
 ghost use Rattle.saber_plan.specs.Sizes.{SizesFit};
@@ -23,6 +24,35 @@ use std::alloc::Global;
 use std::marker::Brand;
 use std::sync::Wait;
 use std::thread::Threads;
+
+// A run of a group query. It stands alone, since that a group's operator may be sent and shared is found where little else is known.
+fn run_group<S: Source, K: Pour + Send, G: Gate + Sync, R: Threads + Wait + Sync>(
+    rt: &R,
+    alloc: Global,
+    plan: &Plan,
+    inputs: &mut Inputs<S>,
+    sink: K,
+    sizes: &Sizes,
+    gate: &G,
+) -> Ran<K>
+    requires checked { IsChecked (tree_of plan.now) }
+    requires group { (tree_of plan.now).shape ≡ shapes.Group }
+    requires inputs { length (each_input S.left inputs.old) ≡ length (tree_of plan.now).streams }
+    requires sizes { SizesFit sizes.now }
+    ensures gives { GivesTold (tree_of plan.now) sizes.now (told_by S.left inputs.old) (K.written sink) (K.written result.sink) result.end result.tasks }
+    ensures whole { LeavesWhole (tree_of plan.now) sizes.now (each_input S.left inputs.old) (each_input S.left inputs.new) result.end result.tasks }
+    ensures takes { (taken : List (List ℕ)) × GaveAll (each_input S.left inputs.old) taken (each_input S.left inputs.new) }
+    ensures read { (side : Side) → result.end ≡ RunEnd.ReadFault side → RoseAt side (each_input S.faults inputs.old) (each_input S.faults inputs.new) }
+    ensures write { result.end ≡ RunEnd.WriteFault → Rose (K.faults sink) (K.faults result.sink) }
+    ensures read_good { IsClean result.end → each_input S.faults inputs.new ≡ each_input S.faults inputs.old }
+    ensures write_good { result.end ≢ RunEnd.WriteFault → K.faults result.sink ≡ K.faults sink }
+    ensures reads { NoneFell (each_input S.faults inputs.old) (each_input S.faults inputs.new) }
+    ensures writes { K.faults sink ≤ K.faults result.sink }
+    ensures stopped { MayStop result.end result.stopped }
+{
+    let operator = Group::new(plan);
+    run_plan::<S, Group<'_>, K, G, Brand, R>(rt, alloc, &operator, plan, inputs, sink, sizes, gate)
+}
 
 /// Runs a checked plan over its inputs: cuts the rows into tasks of `sizes.task` rows, has the piece of
 /// each made by this thread and `sizes.threads` others round a ring of `sizes.ring` cells, and assembles
@@ -70,12 +100,7 @@ pub fn engine_pouring<S: Source, K: Pour + Send, G: Gate + Sync, R: Threads + Wa
                 rt, alloc, &operator, plan, inputs, sink, sizes, gate,
             )
         }
-        Shape::Group => {
-            let operator = Group::new(plan);
-            run_plan::<S, Group<'_>, K, G, Brand, R>(
-                rt, alloc, &operator, plan, inputs, sink, sizes, gate,
-            )
-        }
+        Shape::Group => run_group(rt, alloc, plan, inputs, sink, sizes, gate),
         Shape::Join => {
             let operator = Join::new(plan);
             run_plan::<S, Join<'_>, K, G, Brand, R>(

@@ -6,6 +6,3 @@ ghosts-run_plan g a = record { sizes = a.sizes.now; lefts = each_input g.S.Sourc
 
 abbrev pub ghosts-run_plan-2 : goal.ghosts-run_plan-2
 ghosts-run_plan-2 g a = record { sizes = a.sizes.now; lefts = each_input g.S.Source.left a.inputs.now; faults = each_input g.S.Source.faults a.inputs.now }
-
-abbrev pub ghosts-run_plan-3 : goal.ghosts-run_plan-3
-ghosts-run_plan-3 g a = record { sizes = a.sizes.now; lefts = each_input g.S.Source.left a.inputs.now; faults = each_input g.S.Source.faults a.inputs.now }
