@@ -83,7 +83,7 @@ module _ (q : Tree) (e : q.shape ≡ Group) where
   pub held_is : (r : Input) (s : RunStore) → TakenIn q r s → held_in s ≡ unclosed q r
   unfolding unclosed
   held_is r s t =
-      let at = λ (i : ℕ). full (part_at s.windows.runs i) in
+      let at = λ (i : ℕ). full (part_at s.windows.runs.entries i) in
       let given = λ (i : ℕ). full (part q i r.rows 0 (length r.rows)) in
       ap (from_entries {R = nat_cmp}) (
       numbered_is at s.windows.next (s.begun - s.windows.next)
@@ -144,7 +144,7 @@ module _ (q : Tree) (r : Input) (x y : ℕ) (s : RunStore) (p : RunPiece) (f : F
           subst (λ n. closed_by q no_rows (old_rows ++ new_rows) ≤ n) (sym closed_end)
           (subst (λ l. closed_by q no_rows l ≤ closed_count (frame q) (mark_at r y)) (sym all_rows) (laws.close_more (frame q) f.windows (arrived r y).ended (mark_of (take y r.rows))))
 
-      pub goes_on : GoesOn q old_rows new_rows s.windows.next s.windows.runs p.runs.items closed
+      pub goes_on : GoesOn q old_rows new_rows s.windows.next s.windows.runs.entries p.runs.items closed
       goes_on = record {
         holds = f.taken_is.holds;
         low = subst₂ (λ n o. n ≤ o) (sym f.taken_is.next_is) (sym closed_end) (laws.rise (frame q) f.windows r x y f.fits.ordered f.rises);
@@ -153,9 +153,9 @@ module _ (q : Tree) (r : Input) (x y : ℕ) (s : RunStore) (p : RunPiece) (f : F
         reaches = reaches_all;
       }
 
-      pub taken_after : (new : RunStore) (before after : List ℕ) → new.begun ≡ begun_count (frame q) p.after → WentOn q old_rows new_rows s.windows.next new.windows.runs closed new.windows.next before after → TakenIn q (arrived r y) new
+      pub taken_after : (new : RunStore) (before after : List ℕ) → new.begun ≡ begun_count (frame q) p.after → WentOn q old_rows new_rows s.windows.next new.windows.runs.entries closed new.windows.next before after → TakenIn q (arrived r y) new
       taken_after new before after begun w = record {
-        holds = subst₂ (λ l n. Holds q no_rows l n new.windows.runs) all_rows (sym w.done_is) w.holds;
+        holds = subst₂ (λ l n. Holds q no_rows l n new.windows.runs.entries) all_rows (sym w.done_is) w.holds;
         next_is = w.done_is ∙ closed_end;
         begun_is = begun ∙ ap (begun_count (frame q)) mark_end;
       }
@@ -186,4 +186,4 @@ none_begun q w = subst (λ f. 0 ≡ begun_count f no_rows) (sym w.has_frame) (no
 
 pub nothing_held : (s : RunStore) → s.windows.next ≡ 0 → s.begun ≡ 0 → held_in s ≡ empty
 unfolding from
-nothing_held s n b = (λ j. from_entries {R = nat_cmp} (numbered (n j) (b j - n j) (λ i. full (part_at s.windows.runs i))))
+nothing_held s n b = (λ j. from_entries {R = nat_cmp} (numbered (n j) (b j - n j) (λ i. full (part_at s.windows.runs.entries i))))

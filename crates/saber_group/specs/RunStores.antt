@@ -17,11 +17,11 @@ use Rattle.saber_group.specs.RunPieces.{RunsFrom}
 
 -- the parts of the windows that are begun and not closed
 abbrev pub held_in : RunStore → Parts
-held_in s = from_entries {R = nat_cmp} (numbered s.windows.next (s.begun - s.windows.next) (λ i. full (part_at s.windows.runs i)))
+held_in s = from_entries {R = nat_cmp} (numbered s.windows.next (s.begun - s.windows.next) (λ i. full (part_at s.windows.runs.entries i)))
 
 -- the store has taken in the pieces of this input, and no other
 pub record TakenIn (q : Tree) (r : Input) (s : RunStore) : Type 0 where
-  pub holds : Holds q no_rows r.rows s.windows.next s.windows.runs
+  pub holds : Holds q no_rows r.rows s.windows.next s.windows.runs.entries
   pub next_is : s.windows.next ≡ closed_count (frame q) (last_mark r)
   pub begun_is : s.begun ≡ begun_count (frame q) (last_mark r)
 

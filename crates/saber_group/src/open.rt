@@ -1,13 +1,14 @@
 // The windows that may have more rows.
-ghost use Rattle.std.specs.Prelude.{◌≡◌, max, [], OnOk};
+ghost use Rattle.std.specs.Prelude.{◌≡◌, ◌≤◌, ◌+◌, max, [], OnOk};
 ghost use Rattle.saber_plan.specs.Trees.{tree_of};
 ghost use Rattle.saber_sliding.specs.Entries.{CanFollow};
 ghost use Rattle.saber_group.specs.RunParts.{Entered, HoldStill, Printed};
 
-use saber_partial::Partial;
+use saber_partial::{Partial, Steps};
 use saber_plan::{NoMemory, Plan};
 use saber_sliding::Sliding;
 use std::alloc::Global;
+use std::sync::ledger::Ledger;
 
 /// The runs so far that window `next` or one behind it has, each with the first window that doesn't
 /// have it. The windows below `next` are done.
@@ -21,7 +22,8 @@ impl Open {
     /// No run yet. Takes no memory.
     pub(crate) fn new(alloc: Global, next: u64) -> Open
         ensures next { result.next ≡ next }
-        ensures runs { result.runs ≡ [] }
+        ensures runs { result.runs.entries ≡ [] }
+        ensures owed { result.runs.owed ≡ 0 }
     {
         Open {
             next,
@@ -29,40 +31,44 @@ impl Open {
         }
     }
 
-    /// Adds the part of more rows, which lie in all windows from `next` up to `past`.
-    pub(crate) fn take_in(
+    /// Adds the part of more rows, which lie in all windows from `next` up to `past`: two steps, now or later.
+    pub(crate) fn take_in<L: Ledger>(
         &mut self,
         alloc: Global,
         past: u64,
         part: Partial,
+        steps: &mut Steps<L>,
     ) -> Result<(), NoMemory>
-        requires { CanFollow part self.old.runs }
-        ensures runs { OnOk result (Entered self.old.runs past part self.new.runs) }
+        requires { CanFollow part self.old.runs.entries }
+        ensures runs { OnOk result (Entered self.old.runs.entries past part self.new.runs.entries) }
         ensures next { OnOk result (self.new.next ≡ self.old.next) }
+        ensures steps { OnOk result (steps.new + self.new.runs.owed ≤ steps.old + self.old.runs.owed + 2) }
     {
         if part.is_empty() {
             return Ok(());
         }
-        self.runs.push(alloc, past, part)
+        self.runs.push(alloc, past, part, steps)
     }
 
-    /// Appends the lines of the windows below `low`. No later row lies in them.
-    pub(crate) fn close_lines(
+    /// Appends the lines of the windows below `low`: one step for each, beside those owed. No later row lies in them.
+    pub(crate) fn close_lines<L: Ledger>(
         &mut self,
         alloc: Global,
         plan: &Plan,
         low: u64,
         out: &mut Vec<u8>,
+        steps: &mut Steps<L>,
     ) -> Result<(), NoMemory>
         ensures next { OnOk result (self.new.next ≡ max self.old.next low) }
-        ensures runs { OnOk result (HoldStill (tree_of plan.now) self.old.next self.old.runs self.new.next self.new.runs) }
-        ensures text { OnOk result (Printed (tree_of plan.now) self.old.next self.old.runs low self.new.next out.old.items out.new.items) }
+        ensures runs { OnOk result (HoldStill (tree_of plan.now) self.old.next self.old.runs.entries self.new.next self.new.runs.entries) }
+        ensures text { OnOk result (Printed (tree_of plan.now) self.old.next self.old.runs.entries low self.new.next out.old.items out.new.items) }
+        ensures steps { OnOk result (steps.new + self.new.runs.owed + self.old.next ≤ steps.old + self.old.runs.owed + self.new.next) }
     {
         while self.next < low {
-            self.runs.drop_to(alloc, self.next)?;
+            self.runs.drop_to(alloc, self.next, steps)?;
             match self.runs.first_number() {
                 Some(_) => {
-                    self.runs.lines(plan, self.next, out)?;
+                    self.runs.lines(plan, self.next, out, steps)?;
                     self.next += 1;
                 }
                 None => {
@@ -72,7 +78,7 @@ impl Open {
         }
         // Runs of no open window go now, so that they are never summed up with later ones.
         let first_open = self.next;
-        self.runs.drop_to(alloc, first_open)?;
+        self.runs.drop_to(alloc, first_open, steps)?;
         Ok(())
     }
 }

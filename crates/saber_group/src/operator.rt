@@ -12,6 +12,8 @@ use saber_laws::{
 };
 use saber_plan::NoMemory;
 use std::alloc::Global;
+use std::marker::Brand;
+use std::sync::ledger::Blank;
 
 // A task's piece is made of its own block alone, so nothing of the block is copied.
 impl Operator for Group<'_> {
@@ -92,7 +94,14 @@ impl Operator for Group<'_> {
         let closed = self.closed_below(&piece.after);
         let begun = self.begun_below(&piece.after);
         let mut text = Vec::new(alloc);
-        self.take_runs(alloc, &mut store.windows, piece.runs, closed, &mut text)?;
+        self.take_uncounted::<Brand>(
+            alloc,
+            &mut store.windows,
+            piece.runs,
+            closed,
+            &mut text,
+            Blank::new(1),
+        )?;
         store.begun = begun;
         out.extend_from_slice(&text)?;
         Ok(())

@@ -1,7 +1,8 @@
--- Parts that follow one another, as one.
-use Rattle.std.specs.Prelude.{List, [], ◌∷◌}
+-- Parts that follow one another.
+use Rattle.std.specs.Prelude.{◌≡◌, ℕ, List, [], ◌∷◌, refl}
+use Rattle.std.specs.Coded.{Coded, code_by, coded×, coded_ℕ}
 use Rattle.saber_plan.specs.Parts.{Part, no_part, merge}
-use Rattle.saber_partial.specs.Tallies.{CanMerge}
+use Rattle.saber_partial.specs.Tallies.{coded_part, CanMerge}
 
 -- the merge of all of them
 abbrev pub piled : List Part → Part
@@ -12,3 +13,11 @@ piled (p ∷ ps) = merge p (piled ps)
 abbrev pub CanPile : List Part → Type 0
 CanPile [] = Unit {0}
 CanPile (p ∷ ps) = CanMerge p (piled ps) × CanPile ps
+
+-- a part, and in how many pieces it lies
+pub record Pile : Type 0 where
+  pub part : Part
+  pub pieces : ℕ
+
+abbrev pub coded_pile : Coded Pile
+coded_pile = code_by (Part × ℕ) (coded× coded_part coded_ℕ) (λ p. (p.part, p.pieces)) (λ p. record { part = p.0; pieces = p.1 }) (λ _. refl)

@@ -37,21 +37,21 @@ impl Model for Gathering {
 
     ghost coded = { coded_part };
 
-    ghost view = { λ g. merge g.pile (young_part g.young.order g.young.groups.entries) };
+    ghost view = { λ g. merge g.pile.part (young_part g.young.order g.young.groups.entries) };
 
-    ghost invariant = { λ g. CanMerge g.pile (young_part g.young.order g.young.groups.entries) × IsOrder g.young.order g.young.groups.entries };
+    ghost invariant = { λ g. CanMerge g.pile.part (young_part g.young.order g.young.groups.entries) × IsOrder g.young.order g.young.groups.entries };
 }
 
 // The latest groups go to the others. Few rows ask it.
 #[inline(never)]
 fn hand_over(alloc: Global, pile: &mut Pile, young: &mut Young) -> Result<(), NoMemory>
-    requires can { CanMerge pile.old (young_part young.old.order young.old.groups.entries) }
+    requires can { CanMerge pile.old.part (young_part young.old.order young.old.groups.entries) }
     requires order { IsOrder young.old.order young.old.groups.entries }
-    ensures can { CanMerge pile.new (young_part young.new.order young.new.groups.entries) }
+    ensures can { CanMerge pile.new.part (young_part young.new.order young.new.groups.entries) }
     ensures order { IsOrder young.new.order young.new.groups.entries }
     ensures few { OnOk result (length young.new.groups.entries < 128) }
-    ensures same { OnOk result (merge pile.new (young_part young.new.order young.new.groups.entries)
-        ≡ merge pile.old (young_part young.old.order young.old.groups.entries)) }
+    ensures same { OnOk result (merge pile.new.part (young_part young.new.order young.new.groups.entries)
+        ≡ merge pile.old.part (young_part young.old.order young.old.groups.entries)) }
 {
     let full = young.take_part(alloc)?;
     pile.take_in(full)
@@ -60,13 +60,13 @@ fn hand_over(alloc: Global, pile: &mut Pile, young: &mut Young) -> Result<(), No
 // Where the latest groups are as many as there may be, they go to the others.
 #[inline(always)]
 fn make_room(alloc: Global, pile: &mut Pile, young: &mut Young) -> Result<(), NoMemory>
-    requires can { CanMerge pile.old (young_part young.old.order young.old.groups.entries) }
+    requires can { CanMerge pile.old.part (young_part young.old.order young.old.groups.entries) }
     requires order { IsOrder young.old.order young.old.groups.entries }
-    ensures can { CanMerge pile.new (young_part young.new.order young.new.groups.entries) }
+    ensures can { CanMerge pile.new.part (young_part young.new.order young.new.groups.entries) }
     ensures order { IsOrder young.new.order young.new.groups.entries }
     ensures few { OnOk result (length young.new.groups.entries < 128) }
-    ensures same { OnOk result (merge pile.new (young_part young.new.order young.new.groups.entries)
-        ≡ merge pile.old (young_part young.old.order young.old.groups.entries)) }
+    ensures same { OnOk result (merge pile.new.part (young_part young.new.order young.new.groups.entries)
+        ≡ merge pile.old.part (young_part young.old.order young.old.groups.entries)) }
 {
     if !young.is_full() {
         return Ok(());

@@ -1,5 +1,5 @@
 // Groups of rows: from key lists to what is known of their rows.
-ghost use Rattle.std.specs.Prelude.{◌≡◌, [], ◌∷◌, true, false, Some, IfOk, OnOk, OnErr, length, ◌≤◌};
+ghost use Rattle.std.specs.Prelude.{◌≡◌, [], ◌∷◌, true, false, Some, IfOk, OnOk, OnErr, length, ◌+◌, ◌≤◌};
 ghost use Rattle.std.specs.List.{AllByRecursion};
 ghost use Rattle.saber_plan.specs.Trees.{tree_of};
 ghost use Rattle.saber_plan.specs.Parts.{no_part, numbers, merge};
@@ -11,11 +11,13 @@ use crate::aggregates::Aggregates;
 use crate::layout::Layout;
 use crate::merges::{merged, take_in};
 use crate::places::place;
+use crate::steps::Steps;
 use crate::table::Table;
 use saber_flat::RowRef;
 use saber_plan::NoMemory;
 use std::alloc::Global;
 use std::marker::Model;
+use std::sync::ledger::Ledger;
 
 /// The partial answer of a group query over some rows of one window (SABER 2016: what a task gives
 /// for a window that does not lie whole in it). From key lists, in their order, to how many rows
@@ -164,6 +166,21 @@ impl Partial {
             return Ok(());
         }
         self.take_all(alloc, other)
+    }
+
+    /// The same, as one step of those that are counted.
+    pub fn merge_counted<L: Ledger>(
+        &mut self,
+        alloc: Global,
+        other: &Partial,
+        steps: &mut Steps<L>,
+    ) -> Result<(), NoMemory>
+        requires { CanMerge self.old other.now }
+        ensures ok { OnOk result (self.new ≡ merge self.old other.now) }
+        ensures steps { steps.new ≡ steps.old + 1 }
+    {
+        steps.tick();
+        self.merge_from(alloc, other)
     }
 
     /// The merge with what is known of later rows of the same plan, in memory of its own; both stay as

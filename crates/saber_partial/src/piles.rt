@@ -1,19 +1,22 @@
 // Parts that follow one another, as few lists that fall in size.
-ghost use Rattle.std.specs.Prelude.{◌≡◌, ◌+◌, ◌≤◌, ◌++◌, true, length, MatchOption, OnOk, OnErr, IfOk};
+ghost use Rattle.std.specs.Prelude.{◌≡◌, ◌+◌, ◌<◌, ◌≤◌, ◌++◌, true, length, MatchOption, OnOk, OnErr, IfOk};
 ghost use Rattle.saber_plan.specs.Parts.{merge, no_part, part_lines};
 ghost use Rattle.saber_plan.specs.Trees.{tree_of};
 ghost use Rattle.saber_partial.specs.Tallies.{CanMerge};
 ghost use Rattle.saber_partial.specs.Piles.{piled, CanPile};
 
 use crate::groups::Partial;
+use crate::steps::Steps;
 use saber_laws::merge_is_associative;
 use saber_plan::{NoMemory, Plan};
 use std::alloc::Global;
-use std::marker::Model;
+use std::marker::{Brand, Model};
+use std::sync::ledger::{Blank, Ledger};
 
 /// A part that is taken in piece by piece. The pieces are merged by twos as they come to be of like size, as a binary
 /// counter carries, so that a group is moved as often as the number of groups has halves, and not once for each piece.
-/// Contracts see it as the merge of all.
+/// Contracts see the merge of all, and in how many pieces it lies: as a merge makes one piece of two, there are
+/// never more merges than pieces that were taken in.
 #[derive(Drop)]
 pub struct Pile {
     // from first to last
@@ -21,15 +24,15 @@ pub struct Pile {
 }
 
 impl Model for Pile {
-    ghost use Rattle.saber_plan.specs.Parts.{Part};
-    ghost use Rattle.saber_partial.specs.Tallies.{coded_part};
-    ghost use Rattle.saber_partial.specs.Piles.{piled, CanPile};
+    ghost use Rattle.std.specs.Prelude.{length};
+    ghost use Rattle.saber_partial.specs.Piles as piles;
+    ghost use Rattle.saber_partial.specs.Piles.{coded_pile, piled, CanPile};
 
-    ghost Value = { Part };
+    ghost Value = { piles.Pile };
 
-    ghost coded = { coded_part };
+    ghost coded = { coded_pile };
 
-    ghost view = { λ p. piled p.parts.items };
+    ghost view = { λ p. record { part = piled p.parts.items; pieces = length p.parts.items } };
 
     ghost invariant = { λ p. CanPile p.parts.items };
 }
@@ -42,13 +45,14 @@ fn are_like(parts: &[Partial]) -> bool
     count > 1 && parts[count - 2].len() / 2 < parts[count - 1].len()
 }
 
-// The last two of two parts at least become one.
-fn merge_last(parts: &mut Vec<Partial>) -> Result<(), NoMemory>
+// The last two of two parts at least become one: one step.
+fn merge_last<L: Ledger>(parts: &mut Vec<Partial>, steps: &mut Steps<L>) -> Result<(), NoMemory>
     requires two { 2 ≤ length parts.old.items }
     requires can { CanPile parts.old.items }
     ensures same { OnOk result (piled parts.new.items ≡ piled parts.old.items) }
     ensures fewer { length parts.new.items + 1 ≤ length parts.old.items }
     ensures can { CanPile parts.new.items }
+    ensures steps { steps.new ≤ steps.old + 1 }
 {
     merge_is_associative();
     let Some(last) = parts.pop() else {
@@ -57,32 +61,35 @@ fn merge_last(parts: &mut Vec<Partial>) -> Result<(), NoMemory>
     let Some(mut before) = parts.pop() else {
         return Ok(());
     };
+    steps.tick();
     before.merge(last)?;
     parts.push(before)?;
     Ok(())
 }
 
-// Merges the last two while they are of like size.
-fn carry(parts: &mut Vec<Partial>) -> Result<(), NoMemory>
+// Merges the last two while they are of like size: at most a step for each part that is fewer.
+fn carry<L: Ledger>(parts: &mut Vec<Partial>, steps: &mut Steps<L>) -> Result<(), NoMemory>
     requires { CanPile parts.old.items }
     ensures same { OnOk result (piled parts.new.items ≡ piled parts.old.items) }
     ensures can { CanPile parts.new.items }
+    ensures steps { steps.new + length parts.new.items ≤ steps.old + length parts.old.items }
 {
     while are_like(parts) {
-        merge_last(parts)?;
+        merge_last(parts, steps)?;
     }
     Ok(())
 }
 
-// Merges all into one.
-fn settle(parts: &mut Vec<Partial>) -> Result<(), NoMemory>
+// Merges all into one: at most a step for each part that is fewer.
+fn settle<L: Ledger>(parts: &mut Vec<Partial>, steps: &mut Steps<L>) -> Result<(), NoMemory>
     requires { CanPile parts.old.items }
     ensures same { OnOk result (piled parts.new.items ≡ piled parts.old.items) }
     ensures one { OnOk result (length parts.new.items ≤ 1) }
     ensures can { CanPile parts.new.items }
+    ensures steps { steps.new + length parts.new.items ≤ steps.old + length parts.old.items }
 {
     while parts.len() > 1 {
-        merge_last(parts)?;
+        merge_last(parts, steps)?;
     }
     Ok(())
 }
@@ -95,18 +102,6 @@ fn only(parts: &[Partial]) -> Option<&Partial>
     parts.first()
 }
 
-// A part behind all others.
-fn put_behind(parts: &mut Vec<Partial>, part: Partial) -> Result<(), NoMemory>
-    requires can { CanPile parts.old.items }
-    requires room { CanMerge (piled parts.old.items) part }
-    ensures all { OnOk result (piled parts.new.items ≡ merge (piled parts.old.items) part) }
-    ensures can { CanPile parts.new.items }
-{
-    merge_is_associative();
-    parts.push(part)?;
-    carry(parts)
-}
-
 // Whether the last part isn't twice as great as what comes behind it.
 fn is_like_last(parts: &[Partial], part: &Partial) -> bool
     ensures { result ≡ true → 1 ≤ length parts.now }
@@ -117,18 +112,25 @@ fn is_like_last(parts: &[Partial], part: &Partial) -> bool
     }
 }
 
-// The last of some parts takes in what comes behind it.
-fn merge_behind(alloc: Global, parts: &mut Vec<Partial>, part: &Partial) -> Result<(), NoMemory>
+// The last of some parts takes in what comes behind it: one step.
+fn merge_behind<L: Ledger>(
+    alloc: Global,
+    parts: &mut Vec<Partial>,
+    part: &Partial,
+    steps: &mut Steps<L>,
+) -> Result<(), NoMemory>
     requires some { 1 ≤ length parts.old.items }
     requires can { CanPile parts.old.items }
     requires room { CanMerge (piled parts.old.items) part.now }
     ensures all { OnOk result (piled parts.new.items ≡ merge (piled parts.old.items) part.now) }
     ensures can { CanPile parts.new.items }
+    ensures steps { steps.new + length parts.new.items ≤ steps.old + length parts.old.items + 1 }
 {
     merge_is_associative();
     let Some(last) = parts.last_mut() else {
         return Ok(());
     };
+    steps.tick();
     match last.merge_from(alloc, part) {
         Ok(()) => Ok(()),
         Err(lacks) => {
@@ -139,25 +141,73 @@ fn merge_behind(alloc: Global, parts: &mut Vec<Partial>, part: &Partial) -> Resu
 }
 
 // What comes behind all others, which is lent.
-fn put_copy(alloc: Global, parts: &mut Vec<Partial>, part: &Partial) -> Result<(), NoMemory>
+fn put_copy<L: Ledger>(
+    alloc: Global,
+    parts: &mut Vec<Partial>,
+    part: &Partial,
+    steps: &mut Steps<L>,
+) -> Result<(), NoMemory>
     requires can { CanPile parts.old.items }
     requires room { CanMerge (piled parts.old.items) part.now }
     ensures all { OnOk result (piled parts.new.items ≡ merge (piled parts.old.items) part.now) }
     ensures can { CanPile parts.new.items }
+    ensures steps { steps.new + length parts.new.items ≤ steps.old + length parts.old.items + 1 }
 {
     merge_is_associative();
     if is_like_last(parts, part) {
-        merge_behind(alloc, parts, part)?;
-        return carry(parts);
+        merge_behind(alloc, parts, part, steps)?;
+        return carry(parts, steps);
     }
     parts.push(part.copy(alloc)?)?;
     Ok(())
 }
 
+// All in one part.
+fn join_all<L: Ledger>(
+    alloc: Global,
+    parts: Vec<Partial>,
+    blank: Blank,
+) -> Result<Partial, NoMemory>
+    requires can { CanPile parts.items }
+    requires name { blank.name ≡ L.name }
+    requires parts { blank.parts ≡ L.parts }
+    requires some { 0 < blank.parts }
+    ensures { IfOk result (λ p. p ≡ piled parts.items) }
+{
+    let mut steps = Steps::<L>::new(blank);
+    let mut all = parts;
+    settle(&mut all, &mut steps)?;
+    match all.pop() {
+        Some(part) => Ok(part),
+        None => Ok(Partial::empty(alloc)),
+    }
+}
+
+// A part behind all others.
+fn put_behind<L: Ledger>(
+    parts: &mut Vec<Partial>,
+    part: Partial,
+    blank: Blank,
+) -> Result<(), NoMemory>
+    requires can { CanPile parts.old.items }
+    requires room { CanMerge (piled parts.old.items) part }
+    requires name { blank.name ≡ L.name }
+    requires parts { blank.parts ≡ L.parts }
+    requires some { 0 < blank.parts }
+    ensures all { OnOk result (piled parts.new.items ≡ merge (piled parts.old.items) part) }
+    ensures can { CanPile parts.new.items }
+{
+    merge_is_associative();
+    let mut steps = Steps::<L>::new(blank);
+    parts.push(part)?;
+    carry(parts, &mut steps)
+}
+
 impl Pile {
     /// No group. Takes no memory.
     pub fn empty(alloc: Global) -> Pile
-        ensures { result ≡ no_part }
+        ensures part { result.part ≡ no_part }
+        ensures pieces { result.pieces ≡ 0 }
     {
         Pile {
             parts: Vec::new(alloc),
@@ -166,75 +216,89 @@ impl Pile {
 
     /// Whether nothing was taken in.
     pub(crate) fn is_empty(&self) -> bool
-        ensures { result ≡ true → self.now ≡ no_part }
+        ensures { result ≡ true → self.now.part ≡ no_part }
     {
         self.parts.is_empty()
     }
 
-    /// Takes in what is known of later rows. After want of memory it is only safe, as with `Partial::merge`.
-    pub fn take_in(&mut self, part: Partial) -> Result<(), NoMemory>
-        requires { CanMerge self.old part }
-        ensures { OnOk result (self.new ≡ merge self.old part) }
+    /// Takes in what is known of later rows. Its steps are counted nowhere. After want of memory it is only safe, as with
+    /// `Partial::merge`.
+    pub(crate) fn take_in(&mut self, part: Partial) -> Result<(), NoMemory>
+        requires { CanMerge self.old.part part }
+        ensures { OnOk result (self.new.part ≡ merge self.old.part part) }
     {
         if part.is_empty() {
             return Ok(());
         }
-        put_behind(&mut self.parts, part)
+        put_behind::<Brand>(&mut self.parts, part, Blank::new(1))
     }
 
-    /// The same of a part that is lent.
-    pub fn take_from(&mut self, alloc: Global, part: &Partial) -> Result<(), NoMemory>
-        requires { CanMerge self.old part.now }
-        ensures { OnOk result (self.new ≡ merge self.old part.now) }
+    /// Takes in what is known of later rows, which is lent: one step, if each piece more counts for one. After want of memory it
+    /// is only safe, as with `Partial::merge`.
+    pub fn take_from<L: Ledger>(
+        &mut self,
+        alloc: Global,
+        part: &Partial,
+        steps: &mut Steps<L>,
+    ) -> Result<(), NoMemory>
+        requires { CanMerge self.old.part part.now }
+        ensures part { OnOk result (self.new.part ≡ merge self.old.part part.now) }
+        ensures steps { steps.new + self.new.pieces ≤ steps.old + self.old.pieces + 1 }
     {
         if part.is_empty() {
             return Ok(());
         }
-        put_copy(alloc, &mut self.parts, part)
+        put_copy(alloc, &mut self.parts, part, steps)
     }
 
-    /// All in one part.
-    pub fn into_part(self, alloc: Global) -> Result<Partial, NoMemory>
-        ensures { IfOk result (λ p. p ≡ self) }
+    /// All in one part. Its steps are counted nowhere.
+    pub(crate) fn into_part(self, alloc: Global) -> Result<Partial, NoMemory>
+        ensures { IfOk result (λ p. p ≡ self.part) }
     {
-        let mut parts = self.parts;
-        settle(&mut parts)?;
-        match parts.pop() {
-            Some(part) => Ok(part),
-            None => Ok(Partial::empty(alloc)),
-        }
+        join_all::<Brand>(alloc, self.parts, Blank::new(1))
     }
 
-    /// Writes the lines of all groups behind what `out` has. Where memory is wanting, `out` stays as it was.
-    pub fn lines(&mut self, plan: &Plan, window: u64, out: &mut Vec<u8>) -> Result<(), NoMemory>
-        ensures ok { OnOk result (out.new.items ≡ out.old.items ++ part_lines (tree_of plan.now) window self.old) }
-        ensures same { OnOk result (self.new ≡ self.old) }
+    /// Writes the lines of all groups behind what `out` has: a step for each piece that is fewer. Where memory is wanting,
+    /// `out` stays as it was.
+    pub fn lines<L: Ledger>(
+        &mut self,
+        plan: &Plan,
+        window: u64,
+        out: &mut Vec<u8>,
+        steps: &mut Steps<L>,
+    ) -> Result<(), NoMemory>
+        ensures ok { OnOk result (out.new.items ≡ out.old.items ++ part_lines (tree_of plan.now) window self.old.part) }
+        ensures same { OnOk result (self.new.part ≡ self.old.part) }
         ensures err { OnErr result (out.new.items ≡ out.old.items) }
+        ensures steps { steps.new + self.new.pieces ≤ steps.old + self.old.pieces }
     {
-        settle(&mut self.parts)?;
+        settle(&mut self.parts, steps)?;
         let Some(part) = only(&self.parts) else {
             return Ok(());
         };
         part.lines(plan, window, out)
     }
 
-    /// The same of a part before them and of all together.
-    pub fn lines_behind(
+    /// The same of a part before them and of all together: one step more, for they are merged as they are written.
+    pub fn lines_behind<L: Ledger>(
         &mut self,
         first: &Partial,
         plan: &Plan,
         window: u64,
         out: &mut Vec<u8>,
+        steps: &mut Steps<L>,
     ) -> Result<(), NoMemory>
-        requires { CanMerge first.now self.old }
-        ensures ok { OnOk result (out.new.items ≡ out.old.items ++ part_lines (tree_of plan.now) window (merge first.now self.old)) }
-        ensures same { OnOk result (self.new ≡ self.old) }
+        requires { CanMerge first.now self.old.part }
+        ensures ok { OnOk result (out.new.items ≡ out.old.items ++ part_lines (tree_of plan.now) window (merge first.now self.old.part)) }
+        ensures same { OnOk result (self.new.part ≡ self.old.part) }
         ensures err { OnErr result (out.new.items ≡ out.old.items) }
+        ensures steps { steps.new + self.new.pieces ≤ steps.old + self.old.pieces + 1 }
     {
-        settle(&mut self.parts)?;
+        settle(&mut self.parts, steps)?;
         let Some(part) = only(&self.parts) else {
             return first.lines(plan, window, out);
         };
+        steps.tick();
         first.lines_with(part, plan, window, out)
     }
 }

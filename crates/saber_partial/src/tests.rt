@@ -1,5 +1,5 @@
 // Groups that were worked out by hand, from the rules.
-ghost use Rattle.std.specs.Prelude.{◌≡◌, ◌^◌, ◌≤◌, ◌∷◌, [], length, IfOk, Some, None, false};
+ghost use Rattle.std.specs.Prelude.{◌≡◌, ◌+◌, ◌^◌, ◌<◌, ◌≤◌, ◌∷◌, [], length, IfOk, Some, None, false};
 ghost use Rattle.saber_plan.specs.declared.rows.Side.TheVariants as s;
 ghost use Rattle.saber_plan.specs.declared.expressions.Factor.TheVariants as f;
 ghost use Rattle.saber_plan.specs.declared.plans.Item.TheVariants as i;
@@ -18,6 +18,8 @@ use saber_plan::{
     Values, Window,
 };
 use std::alloc::Global;
+use std::marker::Brand;
+use std::sync::ledger::{Blank, Ledger};
 use std::test::Fail;
 
 fn column(alloc: Global, index: u32) -> Result<Expr, NoMemory>
@@ -318,28 +320,34 @@ fn no_groups(rt: HostRuntime) -> Result<(), Fail> {
 }
 
 // Keys 10 to 80, and then two of them and one more, as a pile of three lists.
-fn three_lists(alloc: Global, plan: &Plan) -> Result<Pile, NoMemory>
+fn three_lists<L: Ledger>(
+    alloc: Global,
+    plan: &Plan,
+    steps: &mut Steps<L>,
+) -> Result<Pile, NoMemory>
     requires checked { IsChecked (tree_of plan.now) }
     requires group { (tree_of plan.now).shape ≡ h.Group }
     requires columns { columns_on (tree_of plan.now).streams s.Left ≡ 3 }
-    ensures { IfOk result (λ p. OfRows (tree_of plan.now) 12 p) }
+    ensures part { IfOk result (λ p. OfRows (tree_of plan.now) 12 p.part) }
+    ensures steps { IfOk result (λ p. steps.new + p.pieces ≤ steps.old + 4) }
 {
     let many = grouped(alloc, plan, &MANY)?;
     let two = grouped(alloc, plan, &[(4, 20, 100), (4, 30, 200)])?;
     let one = grouped(alloc, plan, &[(5, 90, 9)])?;
     let mut pile = Pile::empty(alloc);
-    pile.take_in(many)?;
-    pile.take_in(two)?;
-    pile.take_from(alloc, &one)?;
-    pile.take_from(alloc, &one)?;
+    pile.take_from(alloc, &many, steps)?;
+    pile.take_from(alloc, &two, steps)?;
+    pile.take_from(alloc, &one, steps)?;
+    pile.take_from(alloc, &one, steps)?;
     Ok(pile)
 }
 
 // With so many groups more that all become one list.
-fn one_list(alloc: Global, plan: &Plan) -> Result<Pile, NoMemory>
+fn one_list<L: Ledger>(alloc: Global, plan: &Plan, steps: &mut Steps<L>) -> Result<Pile, NoMemory>
     requires checked { IsChecked (tree_of plan.now) }
     requires group { (tree_of plan.now).shape ≡ h.Group }
     requires columns { columns_on (tree_of plan.now).streams s.Left ≡ 3 }
+    ensures { IfOk result (λ p. steps.new + p.pieces ≤ steps.old + 5) }
 {
     let four = grouped(
         alloc,
@@ -347,21 +355,34 @@ fn one_list(alloc: Global, plan: &Plan) -> Result<Pile, NoMemory>
         &[(6, 15, 1), (6, 25, 1), (6, 35, 1), (6, 45, 1)],
     )?;
     small_parts_merge();
-    let mut pile = three_lists(alloc, plan)?;
-    pile.take_in(four)?;
+    let mut pile = three_lists(alloc, plan, steps)?;
+    pile.take_from(alloc, &four, steps)?;
     Ok(pile)
 }
 
-// A part before three lists, and all of them.
-fn write_behind(alloc: Global, plan: &Plan, out: &mut Vec<u8>) -> Result<(), NoMemory>
+// The lines of one list, with two of a part before three lists and all of them.
+fn write_all<L: Ledger>(
+    alloc: Global,
+    plan: &Plan,
+    out: &mut Vec<u8>,
+    blank: Blank,
+) -> Result<(), NoMemory>
     requires checked { IsChecked (tree_of plan.now) }
     requires group { (tree_of plan.now).shape ≡ h.Group }
     requires columns { columns_on (tree_of plan.now).streams s.Left ≡ 3 }
+    requires name { blank.name ≡ L.name }
+    requires parts { blank.parts ≡ L.parts }
+    requires some { 0 < blank.parts }
 {
     let two = grouped(alloc, plan, &[(0, 5, 1), (0, 90, 1000)])?;
     small_parts_merge();
-    let mut pile = three_lists(alloc, plan)?;
-    pile.lines_behind(&two, plan, 0, out)
+    let mut steps = Steps::<L>::new(blank);
+    let mut pile = three_lists(alloc, plan, &mut steps)?;
+    pile.lines_behind(&two, plan, 0, out, &mut steps)?;
+    let mut lists = three_lists(alloc, plan, &mut steps)?;
+    lists.lines(plan, 1, out, &mut steps)?;
+    let mut list = one_list(alloc, plan, &mut steps)?;
+    list.lines(plan, 2, out, &mut steps)
 }
 
 #[test]
@@ -369,35 +390,13 @@ fn a_pile_of_parts(rt: HostRuntime) -> Result<(), Fail> {
     let alloc = rt.alloc();
     let plan = sums(alloc)?;
     let mut out = Vec::new(alloc);
-    write_behind(alloc, &plan, &mut out)?;
+    write_all::<Brand>(alloc, &plan, &mut out, Blank::new(1))?;
     assert_eq!(rt;
         out.as_slice(),
-        b"0,5,1\n0,10,1\n0,20,102\n0,30,203\n0,40,4\n0,50,5\n0,60,6\n0,70,7\n0,80,8\n0,90,1018\n".as_slice()
-    );
-    let mut lines = Vec::new(alloc);
-    let mut pile = three_lists(alloc, &plan)?;
-    pile.lines(&plan, 1, &mut lines)?;
-    let part = three_lists(alloc, &plan)?.into_part(alloc)?;
-    let mut lines_of_part = Vec::new(alloc);
-    part.lines(&plan, 1, &mut lines_of_part)?;
-    assert_eq!(rt;
-        lines.as_slice(),
-        b"1,10,1\n1,20,102\n1,30,203\n1,40,4\n1,50,5\n1,60,6\n1,70,7\n1,80,8\n1,90,18\n".as_slice()
-    );
-    assert_eq!(rt; lines_of_part.as_slice(), lines.as_slice());
-    Ok(())
-}
-
-#[test]
-fn a_pile_of_one_list(rt: HostRuntime) -> Result<(), Fail> {
-    let alloc = rt.alloc();
-    let plan = sums(alloc)?;
-    let mut out = Vec::new(alloc);
-    let mut pile = one_list(alloc, &plan)?;
-    pile.lines(&plan, 2, &mut out)?;
-    assert_eq!(rt;
-        out.as_slice(),
-        b"2,10,1\n2,15,1\n2,20,102\n2,25,1\n2,30,203\n2,35,1\n2,40,4\n2,45,1\n2,50,5\n2,60,6\n2,70,7\n2,80,8\n2,90,18\n".as_slice()
+        b"0,5,1\n0,10,1\n0,20,102\n0,30,203\n0,40,4\n0,50,5\n0,60,6\n0,70,7\n0,80,8\n0,90,1018\n\
+          1,10,1\n1,20,102\n1,30,203\n1,40,4\n1,50,5\n1,60,6\n1,70,7\n1,80,8\n1,90,18\n\
+          2,10,1\n2,15,1\n2,20,102\n2,25,1\n2,30,203\n2,35,1\n2,40,4\n2,45,1\n2,50,5\n2,60,6\n2,70,7\n2,80,8\n2,90,18\n"
+            .as_slice()
     );
     Ok(())
 }

@@ -1,7 +1,7 @@
 -- Parts that follow one another, each with the number of the first window that doesn't have it, and what each comes to with those behind it.
-use Rattle.std.specs.Prelude.{◌≡◌, ℕ, List, [], ◌∷◌, ◌++◌, map, if◌then◌else◌, nat_le, nat_lt, Option, Some, None}
+use Rattle.std.specs.Prelude.{◌≡◌, ℕ, List, [], ◌∷◌, ◌++◌, map, if◌then◌else◌, nat_le, nat_lt, Option, Some, None, refl}
 use Rattle.std.specs.List.{AllByRecursion}
-use Rattle.std.specs.Coded.{Coded, coded×, coded_ℕ, coded_list}
+use Rattle.std.specs.Coded.{Coded, code_by, coded×, coded_ℕ, coded_list}
 use Rattle.saber_plan.specs.Parts.{Part, no_part, merge}
 use Rattle.saber_partial.specs.Tallies.{CanMerge, coded_part}
 
@@ -11,6 +11,14 @@ Entries = List (ℕ × Part)
 
 abbrev pub coded_entries : Coded Entries
 coded_entries = coded_list (coded× coded_ℕ coded_part)
+
+-- parts with their numbers, and how many steps may still be taken for them
+pub record Queue : Type 0 where
+  pub entries : Entries
+  pub owed : ℕ
+
+abbrev pub coded_queue : Coded Queue
+coded_queue = code_by (Entries × ℕ) (coded× coded_entries coded_ℕ) (λ q. (q.entries, q.owed)) (λ p. record { entries = p.0; owed = p.1 }) (λ _. refl)
 
 -- ---- what contracts see: each entry with the merge of its part and all behind it
 

@@ -1,24 +1,25 @@
 // Parts that follow one another, with the merge of all from any one on.
-ghost use Rattle.std.specs.Prelude.{◌≡◌, ◌≤◌, [], ◌∷◌, ◌++◌, drop, length, IfOk, OnOk, OnErr};
+ghost use Rattle.std.specs.Prelude.{◌≡◌, ◌+◌, ◌≤◌, [], ◌∷◌, ◌++◌, drop, length, OnOk, OnErr};
 ghost use Rattle.saber_plan.specs.Parts.{merge, no_part, part_lines};
 ghost use Rattle.saber_plan.specs.Trees.{tree_of};
 ghost use Rattle.saber_partial.specs.Tallies.{CanMerge};
 ghost use Rattle.saber_sliding.specs.Entries.{dropped, first_number, pushed, suffixes, whole, CanFollow, Chained};
 
 use saber_laws::{merge_has_unit, merge_is_associative};
-use saber_partial::{Partial, Pile};
+use saber_partial::{Partial, Pile, Steps};
 use saber_plan::{NoMemory, Plan};
 use std::alloc::Global;
 use std::collections::VecDeque;
 use std::marker::Model;
-use std::mem;
+use std::sync::ledger::Ledger;
 
 /// Parts of rows that follow one another, each with the number of the first window that doesn't have it.
 /// It is a queue of two stacks (SABER 2016 names incremental computation over panes; the two stacks are
 /// those of Tangwongsan et al. 2015): the front one keeps merges of its entries to its end, the back one
 /// its entries' own parts and the merge of all. So a part is merged once where it comes, once where the
 /// back becomes the front, and once for each time that the whole is asked. Contracts see the entries in
-/// order, each with the merge of its part and all behind it.
+/// order, each with the merge of its part and all behind it, and how many steps for them are still owed: each
+/// merge of two parts is a step.
 #[derive(Drop)]
 pub struct Sliding {
     front: VecDeque<(u64, Partial)>,
@@ -27,50 +28,55 @@ pub struct Sliding {
 }
 
 impl Model for Sliding {
-    ghost use Rattle.saber_sliding.specs.Entries.{coded_entries, seen, Entries, Sound};
+    ghost use Rattle.std.specs.Prelude.{◌+◌, length};
+    ghost use Rattle.saber_sliding.specs.Entries.{coded_queue, seen, Queue, Sound};
 
-    ghost Value = { Entries };
+    ghost Value = { Queue };
 
-    ghost coded = { coded_entries };
+    ghost coded = { coded_queue };
 
-    ghost view = { λ s. seen s.front.items s.back.items s.back_part };
+    ghost view = { λ s. record { entries = seen s.front.items s.back.items s.back_part.part; owed = length s.back.items + s.back_part.pieces } };
 
-    ghost invariant = { λ s. Sound s.front.items s.back.items s.back_part };
+    ghost invariant = { λ s. Sound s.front.items s.back.items s.back_part.part };
 }
 
-// A part, and the merge of all that stand behind it.
-fn merge_behind(
+// A part, and the merge of all that stand behind it: one step at most.
+fn merge_behind<L: Ledger>(
     alloc: Global,
     part: &mut Partial,
     front: &VecDeque<(u64, Partial)>,
+    steps: &mut Steps<L>,
 ) -> Result<(), NoMemory>
     requires { CanMerge part.old (whole front.now.items) }
-    ensures { OnOk result (part.new ≡ merge part.old (whole front.now.items)) }
+    ensures part { OnOk result (part.new ≡ merge part.old (whole front.now.items)) }
+    ensures steps { steps.new ≤ steps.old + 1 }
 {
     merge_has_unit();
     match front.front() {
-        Some(next) => part.merge_from(alloc, &next.1),
+        Some(next) => part.merge_counted(alloc, &next.1, steps),
         None => Ok(()),
     }
 }
 
-// Turns entries with their own parts, but for the first `gone`, into ones with the merge from theirs on, one merge for each.
-fn sum_up(
+// Turns entries with their own parts, but for the first `gone`, into ones with the merge from theirs on, one step for each at most.
+fn sum_up<L: Ledger>(
     alloc: Global,
     gone: usize,
     back: &mut Vec<(u64, Partial)>,
     front: &mut VecDeque<(u64, Partial)>,
+    steps: &mut Steps<L>,
 ) -> Result<(), NoMemory>
     requires chained { Chained back.old.items }
     requires there { gone ≤ length back.old.items }
     requires none { front.old.items ≡ [] }
-    ensures { OnOk result (front.new.items ≡ suffixes (drop gone back.old.items)) }
+    ensures front { OnOk result (front.new.items ≡ suffixes (drop gone back.old.items)) }
+    ensures steps { OnOk result (steps.new + gone ≤ steps.old + length back.old.items) }
 {
     while gone < back.len() {
         let Some((number, mut part)) = back.pop() else {
             return Ok(());
         };
-        merge_behind(alloc, &mut part, front)?;
+        merge_behind(alloc, &mut part, front, steps)?;
         front.push_front((number, part))?;
     }
     Ok(())
@@ -78,23 +84,26 @@ fn sum_up(
 
 // The entries of the back but for the first `gone` become the front, which had none. The memory of both stays, with room for
 // as many entries in the back again, and one more.
-fn turn(
+fn turn<L: Ledger>(
     alloc: Global,
     gone: usize,
     front: &mut VecDeque<(u64, Partial)>,
     back: &mut Vec<(u64, Partial)>,
     back_part: &mut Pile,
+    steps: &mut Steps<L>,
 ) -> Result<(), NoMemory>
     requires chained { Chained back.old.items }
     requires there { gone ≤ length back.old.items }
     requires none { front.old.items ≡ [] }
     ensures front { OnOk result (front.new.items ≡ suffixes (drop gone back.old.items)) }
     ensures back { OnOk result (back.new.items ≡ []) }
-    ensures part { OnOk result (back_part.new ≡ no_part) }
+    ensures part { OnOk result (back_part.new.part ≡ no_part) }
+    ensures pieces { OnOk result (back_part.new.pieces ≡ 0) }
+    ensures steps { OnOk result (steps.new ≤ steps.old + length back.old.items) }
 {
     let count = back.len();
     front.try_reserve_exact(count - gone)?;
-    sum_up(alloc, gone, back, front)?;
+    sum_up(alloc, gone, back, front, steps)?;
     back.clear();
     back.try_reserve_exact(count + 1)?;
     *back_part = Pile::empty(alloc);
@@ -141,21 +150,23 @@ fn count_gone(back: &[(u64, Partial)], i: u64) -> usize
     back.len()
 }
 
-// One entry more with its own part, and the merge of all.
-fn put_behind(
+// One entry more with its own part, and the merge of all: one step, if each piece more counts for one.
+fn put_behind<L: Ledger>(
     alloc: Global,
     back: &mut Vec<(u64, Partial)>,
     back_part: &mut Pile,
     number: u64,
     part: Partial,
+    steps: &mut Steps<L>,
 ) -> Result<(), NoMemory>
-    requires { CanMerge back_part.old part }
+    requires { CanMerge back_part.old.part part }
     ensures back { OnOk result (back.new.items ≡ back.old.items ++ (number, part) ∷ []) }
-    ensures part { OnOk result (back_part.new ≡ merge back_part.old part) }
+    ensures part { OnOk result (back_part.new.part ≡ merge back_part.old.part part) }
+    ensures steps { OnOk result (steps.new + back_part.new.pieces ≤ steps.old + back_part.old.pieces + 1) }
 {
     back.push((number, part))?;
     match back.last() {
-        Some(entry) => back_part.take_from(alloc, &entry.1),
+        Some(entry) => back_part.take_from(alloc, &entry.1, steps),
         None => Ok(()),
     }
 }
@@ -163,7 +174,8 @@ fn put_behind(
 impl Sliding {
     /// No part. Takes no memory.
     pub fn empty(alloc: Global) -> Sliding
-        ensures { result ≡ [] }
+        ensures entries { result.entries ≡ [] }
+        ensures owed { result.owed ≡ 0 }
     {
         Sliding {
             front: VecDeque::new(alloc),
@@ -174,7 +186,7 @@ impl Sliding {
 
     /// The first entry's number.
     pub fn first_number(&self) -> Option<u64>
-        ensures { result ≡ first_number self.now }
+        ensures { result ≡ first_number self.now.entries }
     {
         match self.front.front() {
             Some(entry) => Some(entry.0),
@@ -185,14 +197,28 @@ impl Sliding {
         }
     }
 
-    /// A part of rows behind all others: one merge. After want of memory nothing is kept.
-    pub fn push(&mut self, alloc: Global, number: u64, part: Partial) -> Result<(), NoMemory>
-        requires { CanFollow part self.old }
-        ensures { OnOk result (self.new ≡ pushed self.old number part) }
+    /// A part of rows behind all others. It costs two steps, each now or later. After want of memory nothing is kept.
+    pub fn push<L: Ledger>(
+        &mut self,
+        alloc: Global,
+        number: u64,
+        part: Partial,
+        steps: &mut Steps<L>,
+    ) -> Result<(), NoMemory>
+        requires { CanFollow part self.old.entries }
+        ensures entries { OnOk result (self.new.entries ≡ pushed self.old.entries number part) }
+        ensures steps { OnOk result (steps.new + self.new.owed ≤ steps.old + self.old.owed + 2) }
     {
         merge_has_unit();
         merge_is_associative();
-        match put_behind(alloc, &mut self.back, &mut self.back_part, number, part) {
+        match put_behind(
+            alloc,
+            &mut self.back,
+            &mut self.back_part,
+            number,
+            part,
+            steps,
+        ) {
             Ok(()) => Ok(()),
             Err(lacks) => {
                 *self = Sliding::empty(alloc);
@@ -201,10 +227,16 @@ impl Sliding {
         }
     }
 
-    // The same where the first entry goes.
+    // The same as `drop_to` where the first entry goes.
     #[inline(never)]
-    fn drop_some(&mut self, alloc: Global, i: u64) -> Result<(), NoMemory>
-        ensures { OnOk result (self.new ≡ dropped i self.old) }
+    fn drop_some<L: Ledger>(
+        &mut self,
+        alloc: Global,
+        i: u64,
+        steps: &mut Steps<L>,
+    ) -> Result<(), NoMemory>
+        ensures entries { OnOk result (self.new.entries ≡ dropped i self.old.entries) }
+        ensures steps { OnOk result (steps.new + self.new.owed ≤ steps.old + self.old.owed) }
     {
         merge_has_unit();
         drop_front(&mut self.front, i);
@@ -221,6 +253,7 @@ impl Sliding {
             &mut self.front,
             &mut self.back,
             &mut self.back_part,
+            steps,
         ) {
             Ok(()) => Ok(()),
             Err(lacks) => {
@@ -230,34 +263,49 @@ impl Sliding {
         }
     }
 
-    /// Drops the entries at the front that window i doesn't have: a merge for each entry that is left,
-    /// where the back has to become the front. After want of memory it is only safe.
+    /// Drops the entries at the front that window i doesn't have. It takes only steps that are owed, one for each entry that is
+    /// left where the back has to become the front. After want of memory it is only safe.
     #[inline]
-    pub fn drop_to(&mut self, alloc: Global, i: u64) -> Result<(), NoMemory>
-        ensures { OnOk result (self.new ≡ dropped i self.old) }
+    pub fn drop_to<L: Ledger>(
+        &mut self,
+        alloc: Global,
+        i: u64,
+        steps: &mut Steps<L>,
+    ) -> Result<(), NoMemory>
+        ensures entries { OnOk result (self.new.entries ≡ dropped i self.old.entries) }
+        ensures steps { OnOk result (steps.new + self.new.owed ≤ steps.old + self.old.owed) }
     {
         match self.first_number() {
             Some(number) => {
                 if number > i {
                     return Ok(());
                 }
-                self.drop_some(alloc, i)
+                self.drop_some(alloc, i, steps)
             }
             None => Ok(()),
         }
     }
 
     /// Writes the lines of the merge of all parts behind what `out` has, in a walk over two lists of groups at
-    /// most. Where memory is wanting, `out` stays as it was, and nothing is kept.
-    pub fn lines(&mut self, plan: &Plan, window: u64, out: &mut Vec<u8>) -> Result<(), NoMemory>
-        ensures ok { OnOk result (out.new.items ≡ out.old.items ++ part_lines (tree_of plan.now) window (whole self.old)) }
-        ensures same { OnOk result (self.new ≡ self.old) }
+    /// most: one step beside those owed. Where memory is wanting, `out` stays as it was, and nothing is kept.
+    pub fn lines<L: Ledger>(
+        &mut self,
+        plan: &Plan,
+        window: u64,
+        out: &mut Vec<u8>,
+        steps: &mut Steps<L>,
+    ) -> Result<(), NoMemory>
+        ensures ok { OnOk result (out.new.items ≡ out.old.items ++ part_lines (tree_of plan.now) window (whole self.old.entries)) }
+        ensures same { OnOk result (self.new.entries ≡ self.old.entries) }
         ensures err { OnErr result (out.new.items ≡ out.old.items) }
+        ensures steps { OnOk result (steps.new + self.new.owed ≤ steps.old + self.old.owed + 1) }
     {
         let alloc = *self.back.allocator();
         let written = match self.front.front() {
-            Some(first) => self.back_part.lines_behind(&first.1, plan, window, out),
-            None => self.back_part.lines(plan, window, out),
+            Some(first) => self
+                .back_part
+                .lines_behind(&first.1, plan, window, out, steps),
+            None => self.back_part.lines(plan, window, out, steps),
         };
         match written {
             Ok(()) => Ok(()),

@@ -1,12 +1,13 @@
-use Rattle.std.proofs.Common.{◌≡◌, length}
+use Rattle.std.proofs.Common.{◌≡◌, ◌+◌, ◌≤◌, length}
 use Rattle.saber_partial.specs.Piles.{piled, CanPile}
 use Rattle.saber_partial.proofs.piles.carry.Given as goal
 
 abbrev pub invariant-loop-parts : goal.invariant-loop-parts
-invariant-loop-parts l = record {
+invariant-loop-parts g l = record {
   same : piled l.parts.items ≡ piled l.fn.parts.items;
   can : CanPile l.parts.items;
+  steps : l.steps + length l.parts.items ≤ l.fn.steps + length l.fn.parts.items;
 }
 
 abbrev pub decreases-loop-parts : goal.decreases-loop-parts
-decreases-loop-parts l = length l.parts.items
+decreases-loop-parts g l = length l.parts.items

@@ -5,7 +5,7 @@ use Rattle.saber_partial.proofs.PileFacts.{joined, last_is, last_set}
 use Rattle.saber_partial.proofs.piles.merge_behind.Goals as goal
 
 pub merge_from-requires : goal.merge_from-requires
-merge_from-requires c =
+merge_from-requires g c =
     let ps = c.args.parts.now.items in
     let i = c.args.parts.now.len - 1 in
     let some = c.requires.some in
@@ -14,7 +14,7 @@ merge_from-requires c =
     (joined c.merge_is_associative.ensures ps (take i ps) c.in-Some.last.now c.args.part.now (last_is ps i c.in-Some.last.now long c.in-Some.ensures.value) c.requires.can c.requires.room).two
 
 pub returns-in-Ok-clause-all : goal.returns-in-Ok-clause-all
-returns-in-Ok-clause-all c =
+returns-in-Ok-clause-all g c =
     let ps = c.args.parts.now.items in
     let i = c.args.parts.now.len - 1 in
     let some = c.requires.some in
@@ -24,7 +24,7 @@ returns-in-Ok-clause-all c =
     ap piled (last_set ps i c.merge_from.new.self long ∙ ap (λ (p : Part). take i ps ++ p ∷ []) c.in-Ok.ensures) ∙ j.all
 
 pub returns-in-Ok-clause-can : goal.returns-in-Ok-clause-can
-returns-in-Ok-clause-can c =
+returns-in-Ok-clause-can g c =
     let ps = c.args.parts.now.items in
     let i = c.args.parts.now.len - 1 in
     let some = c.requires.some in

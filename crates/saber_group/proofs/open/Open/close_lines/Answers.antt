@@ -10,54 +10,62 @@ use Rattle.saber_group.proofs.RunsTaken.{text_nil, text_step, text_skip}
 use Rattle.saber_group.proofs.open.Open.close_lines.Goals as goal
 
 pub loop-self-init : goal.loop-self-init
-loop-self-init c = record {
+loop-self-init g c = record {
   up = omega arith;
   high = omega arith;
   runs = λ m rows h. h;
   text = λ m rows all h settled. text_nil (tree_of c.args.plan.now) m all c.args.self.now.next c.args.out.now.items;
+  steps = omega arith;
 }
 
 pub loop-self-preserved-in-Some : goal.loop-self-preserved-in-Some
-loop-self-preserved-in-Some c =
+loop-self-preserved-in-Some g c =
     let q = tree_of c.args.plan.now in
     let n = c.loop-self.self.next in
-    let runs = c.loop-self.self.runs in
-    let rest = c.drop_to.new.self in
-    let dropped_is = c.in_ok-drop_to.ensures in
+    let runs = c.loop-self.self.runs.entries in
+    let rest = c.drop_to.new.self.entries in
+    let dropped_is = c.in_ok-drop_to.ensures.entries in
     let begun = c.loop-self.invariant.up in
     let most = c.loop-self.invariant.high in
     let below = c.loop-self-test.true in
+    let used = c.loop-self.invariant.steps in
+    let dropped = c.in_ok-drop_to.ensures.steps in
+    let written = c.in_ok-lines-in-Some.ensures.steps in
     record {
       up = omega (arith, begun);
       high = omega (arith, most, below);
-      runs = λ m rows h. holds_later q m rows n (n + 1) c.lines.new.self (omega arith)
+      runs = λ m rows h. holds_later q m rows n (n + 1) c.lines.new.self.entries (omega arith)
           (subst (Holds q m rows n) (sym (c.in_ok-lines-in-Some.ensures.same ∙ dropped_is)) (holds_drop q m rows n runs (c.loop-self.invariant.runs m rows h)));
       text = λ m rows all h settled. text_step q m all c.args.self.now.next n begun (whole rest) c.args.out.now.items c.loop-self.out.items c.lines.new.out.items
           (ap whole dropped_is ∙ whole_is q m rows n runs (c.loop-self.invariant.runs m rows h) ∙ settled n below)
           c.in_ok-lines-in-Some.ensures.ok (c.loop-self.invariant.text m rows all h settled);
+      steps = omega (arith, used, dropped, written);
     }
 
 pub loop-self-preserved : goal.loop-self-preserved
-loop-self-preserved c =
+loop-self-preserved g c =
     let q = tree_of c.args.plan.now in
     let n = c.loop-self.self.next in
-    let runs = c.loop-self.self.runs in
+    let runs = c.loop-self.self.runs.entries in
     let low = c.args.low in
-    let rest = c.drop_to.new.self in
+    let rest = c.drop_to.new.self.entries in
     let begun = c.loop-self.invariant.up in
     let below = c.loop-self-test.true in
     let none : rest ≡ [] = nothing_first rest (sym c.in-None.ensures) in
-    let held = λ (m : Mark) (rows : List Row) (h : Holds q m rows c.args.self.now.next c.args.self.now.runs). subst (Holds q m rows n) (sym c.in_ok-drop_to.ensures) (holds_drop q m rows n runs (c.loop-self.invariant.runs m rows h)) in
+    let used = c.loop-self.invariant.steps in
+    let dropped = c.in_ok-drop_to.ensures.steps in
+    let held = λ (m : Mark) (rows : List Row) (h : Holds q m rows c.args.self.now.next c.args.self.now.runs.entries). subst (Holds q m rows n) (sym c.in_ok-drop_to.ensures.entries) (holds_drop q m rows n runs (c.loop-self.invariant.runs m rows h)) in
     record {
       up = omega (arith, begun, below);
       high = omega arith;
       runs = λ m rows h. holds_later q m rows n low rest (omega (arith, below)) (held m rows h);
       text = λ m rows all h settled. text_skip q m all c.args.self.now.next n low begun (omega (arith, below)) (λ i p r. sym (settled i r) ∙ (held m rows h).at i p ∙ ap (λ es. part_at es i) none)
           c.args.out.now.items c.loop-self.out.items (c.loop-self.invariant.text m rows all h settled);
+      steps = omega (arith, used, dropped, below);
     }
 
 pub returns-clause-runs : goal.returns-clause-runs
-returns-clause-runs c =
+returns-clause-runs g c =
     let q = tree_of c.args.plan.now in
     let s = c.loop-self.self in
-    λ m rows h. subst (Holds q m rows s.next) (sym c.in_ok-drop_to-2.ensures) (holds_drop q m rows s.next s.runs (c.loop-self.invariant.runs m rows h))
+    λ m rows h. subst (Holds q m rows s.next) (sym c.in_ok-drop_to-2.ensures.entries) (holds_drop q m rows s.next s.runs.entries (c.loop-self.invariant.runs m rows h))

@@ -12,7 +12,7 @@ pub returns-clause-taken : goal.returns-clause-taken
 returns-clause-taken c =
     let q = tree_of c.args.self.now in
     record {
-      holds = holds_nil c.no_rows_no_part.ensures q no_rows c.new.result.next c.new.result.runs c.new.ensures.runs;
+      holds = holds_nil c.no_rows_no_part.ensures q no_rows c.new.result.next c.new.result.runs.entries c.new.ensures.runs;
       next_is = c.new.ensures.next ∙ none_closed q c.has_window.ensures.window;
       begun_is = none_begun q c.has_window.ensures.window;
     }

@@ -12,7 +12,7 @@ pub add_row-requires-clause-room : goal.add_row-requires-clause-room
 add_row-requires-clause-room c =
     let m = c.make_room.new in
     let one = group_part (tree_of c.args.aggregates.now) (c.args.row.now.values ∷ []) in
-    can_behind m.pile (young_part m.young.order m.young.groups.entries) one c.in_ok-make_room.ensures.can
+    can_behind m.pile.part (young_part m.young.order m.young.groups.entries) one c.in_ok-make_room.ensures.can
     (subst (λ (p : Part). CanMerge p one) (sym (c.in_ok-make_room.ensures.same ∙ c.self.view_is)) c.requires.room)
 
 pub invariant_of-self-2 : goal.invariant_of-self-2
@@ -21,9 +21,9 @@ invariant_of-self-2 c =
     let young = young_part m.young.order m.young.groups.entries in
     let more = young_part c.add_row.new.self.order c.add_row.new.self.groups.entries in
     let one = group_part (tree_of c.args.aggregates.now) (c.args.row.now.values ∷ []) in
-    let can = can_ahead m.pile young one c.in_ok-make_room.ensures.can (subst (λ (p : Part). CanMerge p one) (sym (c.in_ok-make_room.ensures.same ∙ c.self.view_is)) c.requires.room) in (
-      either c.add_row.result (more ≡ merge young one) (more ≡ young) (CanMerge m.pile more) c.add_row.ensures.ok c.add_row.ensures.err
-          (λ e. subst (CanMerge m.pile) (sym e) can) (λ e. subst (CanMerge m.pile) (sym e) c.in_ok-make_room.ensures.can),
+    let can = can_ahead m.pile.part young one c.in_ok-make_room.ensures.can (subst (λ (p : Part). CanMerge p one) (sym (c.in_ok-make_room.ensures.same ∙ c.self.view_is)) c.requires.room) in (
+      either c.add_row.result (more ≡ merge young one) (more ≡ young) (CanMerge m.pile.part more) c.add_row.ensures.ok c.add_row.ensures.err
+          (λ e. subst (CanMerge m.pile.part) (sym e) can) (λ e. subst (CanMerge m.pile.part) (sym e) c.in_ok-make_room.ensures.can),
       c.add_row.ensures.order,
     )
 
@@ -34,4 +34,4 @@ returns c =
     let more = young_part c.add_row.new.self.order c.add_row.new.self.groups.entries in
     let one = group_part (tree_of c.args.aggregates.now) (c.args.row.now.values ∷ []) in
     on_ok_weaker c.add_row.result (λ (e : more ≡ merge young one).
-    ap (merge m.pile) e ∙ sym (c.merge_is_associative.ensures m.pile young one) ∙ ap (λ (p : Part). merge p one) (c.in_ok-make_room.ensures.same ∙ c.self.view_is)) c.add_row.ensures.ok
+    ap (merge m.pile.part) e ∙ sym (c.merge_is_associative.ensures m.pile.part young one) ∙ ap (λ (p : Part). merge p one) (c.in_ok-make_room.ensures.same ∙ c.self.view_is)) c.add_row.ensures.ok

@@ -9,7 +9,7 @@ use Rattle.saber_partial.proofs.gathering.Gathering.empty.Goals as goal
 pub invariant_of-result : goal.invariant_of-result
 invariant_of-result c =
     let young = young_part c.empty-2.result.order c.empty-2.result.groups.entries in
-    (subst (λ (p : Part). CanMerge p young) (sym c.empty.ensures) (none_can young), c.empty-2.ensures.order)
+    (subst (λ (p : Part). CanMerge p young) (sym c.empty.ensures.part) (none_can young), c.empty-2.ensures.order)
 
 pub returns : goal.returns
-returns c = ap₂ merge c.empty.ensures c.empty-2.ensures.none ∙ merge-empty_left no_part
+returns c = ap₂ merge c.empty.ensures.part c.empty-2.ensures.none ∙ merge-empty_left no_part

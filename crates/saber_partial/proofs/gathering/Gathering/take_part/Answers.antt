@@ -1,6 +1,7 @@
 use Rattle.std.proofs.Common.{Result, Ok, Err, OnOk, sym, subst, ◌∙◌, ap, ap₂}
 use Rattle.saber_plan.specs.Parts.{Part, merge, no_part}
 use Rattle.saber_plan.specs.PartFacts.{merge-empty_left}
+use Rattle.saber_partial.specs.Piles.{Pile}
 use Rattle.saber_partial.specs.Tallies.{CanMerge}
 use Rattle.saber_partial.specs.MergeFacts.{can_none}
 use Rattle.saber_partial.specs.Young.{young_part}
@@ -12,7 +13,7 @@ on_ok (Err x) p = tt
 
 pub invariant_of-self-then-is_empty : goal.invariant_of-self-then-is_empty
 invariant_of-self-then-is_empty c =
-    let pile = c.self.inside.pile in
+    let pile = c.self.inside.pile.part in
     (subst (CanMerge pile) (sym (ap (young_part c.take_part.new.self.order) c.in_ok-part.ensures.none)) (can_none pile), c.take_part.ensures.order)
 
 pub returns-then-is_empty-clause-part : goal.returns-then-is_empty-clause-part
@@ -27,14 +28,14 @@ returns-then-is_empty-clause-none c =
 
 pub invariant_of-self-in_err-take_in : goal.invariant_of-self-in_err-take_in
 invariant_of-self-in_err-take_in c =
-    let pile = c.take_in.new.self in
+    let pile = c.take_in.new.self.part in
     (subst (CanMerge pile) (sym (ap (young_part c.take_part.new.self.order) c.in_ok-part.ensures.none)) (can_none pile), c.take_part.ensures.order)
 
 pub invariant_of-self-2 : goal.invariant_of-self-2
 invariant_of-self-2 c =
-    let pile = c.replace-all.new.dest in
+    let pile = c.replace-all.new.dest.part in
     (subst (CanMerge pile) (sym (ap (young_part c.take_part.new.self.order) c.in_ok-part.ensures.none)) (can_none pile), c.take_part.ensures.order)
 
 pub returns-clause-none : goal.returns-clause-none
 returns-clause-none c =
-    on_ok c.into_part.result (ap₂ merge (c.replace-all.ensures.after ∙ c.empty.ensures) (ap (young_part c.take_part.new.self.order) c.in_ok-part.ensures.none) ∙ merge-empty_left no_part)
+    on_ok c.into_part.result (ap₂ merge (ap (λ (p : Pile). p.part) c.replace-all.ensures.after ∙ c.empty.ensures.part) (ap (young_part c.take_part.new.self.order) c.in_ok-part.ensures.none) ∙ merge-empty_left no_part)

@@ -4,4 +4,4 @@ use Rattle.saber_plan.specs.PartFacts.{merge-empty_right}
 use Rattle.saber_partial.proofs.piles.Pile.take_in.Goals as goal
 
 pub returns-then-is_empty : goal.returns-then-is_empty
-returns-then-is_empty c = sym (ap (merge c.args.self.now) (c.is_empty.ensures.none c.if-is_empty.true) ∙ merge-empty_right c.args.self.now)
+returns-then-is_empty c = sym (ap (merge c.args.self.now.part) (c.is_empty.ensures.none c.if-is_empty.true) ∙ merge-empty_right c.args.self.now.part)
