@@ -1,5 +1,6 @@
 // Rows that lie in the same windows.
-ghost use Rattle.std.specs.Prelude.{◌≡◌, ◌≤◌, ◌<◌, [], ◌∷◌, length, take, OnOk, IfOk};
+ghost use Rattle.std.specs.Prelude.{◌≡◌, ◌&&◌, ◌≤◌, ◌<◌, [], ◌∷◌, length, take, OnOk, IfOk};
+ghost use Rattle.saber_plan.specs.Values.{passes};
 ghost use Rattle.saber_plan.specs.Windows.{mark_after};
 ghost use Rattle.saber_plan.specs.Parts as p;
 ghost use Rattle.saber_plan.specs.Trees.{tree_of};
@@ -31,7 +32,16 @@ pub(crate) struct Run {
 }
 
 impl Group<'_> {
-    // Adds a row to a part, if it is wanted and passes WHERE.
+    // Whether a row counts: if it is wanted, and passes WHERE.
+    #[inline]
+    fn counts(&self, is_wanted: bool, row: &RowRef) -> bool
+        requires { IsRowOf (tree_of self.now) row.now }
+        ensures { result ≡ is_wanted && passes (tree_of self.now).predicate row.now.values [] }
+    {
+        is_wanted && self.passes(row)
+    }
+
+    // Adds a row to a part, if it counts.
     fn add_row(
         &self,
         alloc: Global,
@@ -44,10 +54,23 @@ impl Group<'_> {
         ensures { OnOk result (part.new ≡ with_row (tree_of self.now) is_wanted part.old row.now) }
     {
         groups_have_one_window();
-        if is_wanted && self.passes(row) {
+        if self.counts(is_wanted, row) {
             part.add_row(alloc, &self.aggregates, row)?;
         }
         Ok(())
+    }
+
+    // The part of one row, if it counts.
+    fn part_of_row(&self, alloc: Global, is_wanted: bool, row: &RowRef) -> Result<Partial, NoMemory>
+        requires { IsRowOf (tree_of self.now) row.now }
+        ensures { IfOk result (λ part. part ≡ with_row (tree_of self.now) is_wanted p.no_part row.now) }
+    {
+        groups_have_one_window();
+        merge_has_unit();
+        if self.counts(is_wanted, row) {
+            return Partial::of_row(alloc, &self.aggregates, row);
+        }
+        Ok(Partial::empty(alloc))
     }
 
     /// The rows from row `from` on that lie in the windows of this one, before which `mark` stands. Where they end is worked out
@@ -86,6 +109,14 @@ impl Group<'_> {
         let (first, past) = self.row_windows(&row, mark);
         let end = self.run_end(batch, from, mark);
         let has_windows = first < past;
+        if end == from + 1 {
+            return Ok(Run {
+                first,
+                past,
+                end,
+                part: self.part_of_row(alloc, has_windows, &row)?,
+            });
+        }
         for i in from..end {
             self.add_row(alloc, has_windows, &rows.row(i), part)?;
         }

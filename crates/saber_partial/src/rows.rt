@@ -1,5 +1,5 @@
 // Rows of a stream, counted into groups.
-ghost use Rattle.std.specs.Prelude.{◌≡◌, ◌<◌, ◌+◌, ◌≤◌, [], ◌∷◌, ◌++◌, length, OnOk, OnErr};
+ghost use Rattle.std.specs.Prelude.{◌≡◌, ◌<◌, ◌+◌, ◌≤◌, [], ◌∷◌, ◌++◌, length, IfOk, OnOk, OnErr};
 ghost use Rattle.saber_plan.specs.declared.rows.Side.TheVariants.{Left};
 ghost use Rattle.saber_plan.specs.declared.plans.Shape.TheVariants.{Group};
 ghost use Rattle.saber_plan.specs.Trees.{tree_of};
@@ -33,7 +33,7 @@ impl Partial {
     /// Adds a row of a group query's stream to the group of its key (CQL 2006, GROUP BY; without
     /// one, all rows have the empty key), whether or not it passes WHERE: callers ask
     /// `saber_eval::holds` once a row. Only the first row of a group takes memory; where that is
-    /// wanting, nothing changes. What the plan asks is worked out anew: rows one after another go by a `Gathering`. `groups_can_merge` and `small_parts_merge` meet `room`.
+    /// wanting, nothing changes. What the plan asks is worked out anew. `groups_can_merge` and `small_parts_merge` meet `room`.
     pub fn add_row(&mut self, alloc: Global, plan: &Plan, row: &RowRef) -> Result<(), NoMemory>
         requires checked { IsChecked (tree_of plan.now) }
         requires group { (tree_of plan.now).shape ≡ Group }
@@ -42,8 +42,41 @@ impl Partial {
         ensures ok { OnOk result (self.new ≡ merge self.old (group_part (tree_of plan.now) (row.now.values ∷ []))) }
         ensures err { OnErr result (self.new ≡ self.old) }
     {
+        self.add_by(alloc, &Aggregates::of_plan(plan), row)
+    }
+
+    // The same by what the plan asks of each row.
+    fn add_by(
+        &mut self,
+        alloc: Global,
+        aggregates: &Aggregates,
+        row: &RowRef,
+    ) -> Result<(), NoMemory>
+        requires checked { IsChecked (tree_of aggregates.now) }
+        requires group { (tree_of aggregates.now).shape ≡ Group }
+        requires row { RowFits Left (columns_on (tree_of aggregates.now).streams Left) row.now }
+        requires room { CanMerge self.old (group_part (tree_of aggregates.now) (row.now.values ∷ [])) }
+        ensures ok { OnOk result (self.new ≡ merge self.old (group_part (tree_of aggregates.now) (row.now.values ∷ []))) }
+        ensures err { OnErr result (self.new ≡ self.old) }
+    {
         let mut list = ArrayVec::new();
-        push_key(&mut list, plan.keys(), row.values());
-        self.add(alloc, list.as_slice(), &Aggregates::of_plan(plan), row)
+        push_key(&mut list, aggregates.keys(), row.values());
+        self.add(alloc, list.as_slice(), aggregates, row)
+    }
+
+    /// The part of one row, as `Gathering` has it of some.
+    pub fn of_row(
+        alloc: Global,
+        aggregates: &Aggregates,
+        row: &RowRef,
+    ) -> Result<Partial, NoMemory>
+        requires checked { IsChecked (tree_of aggregates.now) }
+        requires group { (tree_of aggregates.now).shape ≡ Group }
+        requires row { RowFits Left (columns_on (tree_of aggregates.now).streams Left) row.now }
+        ensures { IfOk result (λ p. p ≡ group_part (tree_of aggregates.now) (row.now.values ∷ [])) }
+    {
+        let mut part = Partial::empty(alloc);
+        part.add_by(alloc, aggregates, row)?;
+        Ok(part)
     }
 }

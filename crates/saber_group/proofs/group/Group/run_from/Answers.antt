@@ -4,7 +4,7 @@ use Rattle.std.specs.List.{slice_get}
 use Rattle.saber_plan.specs.declared.rows.Row.{Row}
 use Rattle.saber_plan.specs.Trees.{tree_of}
 use Rattle.saber_plan.specs.Windows.{mark_after}
-use Rattle.saber_plan.specs.Parts.{group_part}
+use Rattle.saber_plan.specs.Parts.{group_part, no_part}
 use Rattle.saber_plan.specs.RowFacts.{left_small, right_small, few_rows, row_at}
 use Rattle.saber_group.specs.RunParts.{IsRun}
 use Rattle.saber_group.proofs.RowsTogether.{lies}
@@ -75,3 +75,22 @@ returns-clause-run c =
     (starts_at c.past_have_none.ensures c.begun_stay.ensures c.closed_stay.ensures q c.has_window.ensures.window c.has_window.ensures.fits b.before b.rows.now c.args.from c.row-row.result c.args.mark.now w.0 w.1
     c.requires.fits c.requires.there (is_row b.rows.now c.args.from c.row-row.result c.row-row.ensures) c.requires.mark c.row_windows-first.ensures.first c.row_windows-first.ensures.past)
     c.run_end-end.ensures.more c.run_end-end.ensures.within (subst (λ n. RunTo q b.before b.rows.now c.args.from n w.0 w.1 c.loop-i.part) all c.loop-i.invariant.run))
+
+pub returns-then-end-from-clause-run : goal.returns-then-end-from-clause-run
+returns-then-end-from-clause-run c =
+    let q = tree_of c.args.self.now in
+    let b = c.args.batch.now in
+    let k = c.args.from in
+    let w = c.row_windows-first.result in
+    let x = c.row-row.result in
+    let end = c.run_end-end.result in
+    let win = c.has_window.ensures.window in
+    let is = is_row b.rows.now k x c.row-row.ensures in
+    let none = run_nil c.merge_has_unit.ensures c.groups_are_of_rows.ensures q b.before b.rows.now k w.0 w.1 no_part (c.no_rows_no_part.ensures q).of_groups refl in
+    let one = run_more c.rows_add_to_groups.ensures c.rows_span.ensures c.merge_is_associative.ensures c.small_parts_merge.ensures c.groups_are_of_rows.ensures q c.has_window.ensures.fits b.before b.rows.now k k w.0 w.1 no_part x c.args.mark.now
+    (omega arith) c.requires.there (few_rows q win.stream win.streams b.before b.rows.now c.requires.fits) is c.requires.mark c.row_windows-first.ensures.first c.row_windows-first.ensures.past none in
+    run_is q b.before b.rows.now k end w.0 w.1 c.in_ok-part_of_row.field-0
+    (starts_at c.past_have_none.ensures c.begun_stay.ensures c.closed_stay.ensures q win c.has_window.ensures.fits b.before b.rows.now k x c.args.mark.now w.0 w.1
+    c.requires.fits c.requires.there is c.requires.mark c.row_windows-first.ensures.first c.row_windows-first.ensures.past)
+    c.run_end-end.ensures.more c.run_end-end.ensures.within
+    (subst₂ (λ n p. RunTo q b.before b.rows.now k n w.0 w.1 p) (sym c.if-end-from.true) (sym c.in_ok-part_of_row.ensures) one)
