@@ -65,11 +65,7 @@ impl Partial {
     }
 
     /// The part of one row, as `Gathering` has it of some.
-    pub fn of_row(
-        alloc: Global,
-        aggregates: &Aggregates,
-        row: &RowRef,
-    ) -> Result<Partial, NoMemory>
+    pub fn of_row(alloc: Global, aggregates: &Aggregates, row: &RowRef) -> Result<Partial, NoMemory>
         requires checked { IsChecked (tree_of aggregates.now) }
         requires group { (tree_of aggregates.now).shape ≡ Group }
         requires row { RowFits Left (columns_on (tree_of aggregates.now).streams Left) row.now }
