@@ -1,5 +1,5 @@
 //! Tasks of group queries, worked out by hand, through the trait that the stage uses.
-ghost use Rattle.std.specs.Prelude.{◌≡◌, ◌≢◌, ◌++◌, List, [], IfOk, OnOk, Some, None, true, false};
+ghost use Rattle.std.specs.Prelude.{◌≡◌, ◌≢◌, ◌<◌, ◌++◌, List, [], IfOk, OnOk, Some, None, true, false};
 ghost use Rattle.saber_plan.specs.declared.rows.Row.{Row};
 ghost use Rattle.saber_plan.specs.declared.rows.Side.TheVariants as sides;
 ghost use Rattle.saber_plan.specs.declared.plans.Shape.TheVariants as shapes;
@@ -21,10 +21,13 @@ use saber_fragment::{Block, Operator};
 use saber_laws::{
     checked_fit, no_rows_give_nothing, open_goes_on, shares_are_local, shares_make_piece,
 };
+use saber_partial::Steps;
 use saber_plan::{Cmp, Factor, Item, Mark, Measure, NoMemory, Plan, Shape, Side, Unit};
 use saber_samples::{all, column, counts, keyed_block, single, window, windowed};
 use std::alloc::Global;
+use std::marker::Brand;
 use std::process::Abort;
+use std::sync::ledger::{Blank, Ledger};
 use std::test::Fail;
 
 // ---- queries over one stream of three columns: a time, a key and a number
@@ -193,12 +196,22 @@ fn answer_to(
 }
 
 // The parts that a store holds, as the lines that their windows would print now.
-fn held(alloc: Global, plan: &Plan, store: RunStore) -> Result<Vec<u8>, NoMemory> {
+fn held<L: Ledger>(
+    alloc: Global,
+    plan: &Plan,
+    store: RunStore,
+    blank: Blank,
+) -> Result<Vec<u8>, NoMemory>
+    requires name { blank.name ≡ L.name }
+    requires parts { blank.parts ≡ L.parts }
+    requires some { 0 < blank.parts }
+{
+    let mut steps = Steps::<L>::new(blank);
     let mut out = Vec::new(alloc);
     let mut runs = store.windows.runs;
     for window in store.windows.next..store.begun {
-        runs.drop_to(alloc, window)?;
-        runs.lines(plan, window, &mut out)?;
+        runs.drop_to(alloc, window, &mut steps)?;
+        runs.lines(plan, window, &mut out, &mut steps)?;
     }
     Ok(out)
 }
@@ -241,7 +254,7 @@ fn check(
 {
     let (out, store) = answer_to(alloc, plan, tasks, flush)?;
     assert_eq!(rt; out.as_slice(), text.as_bytes());
-    let open_parts = held(alloc, plan, store)?;
+    let open_parts = held::<Brand>(alloc, plan, store, Blank::new(1))?;
     assert_eq!(rt; open_parts.as_slice(), open.as_bytes());
     Ok(())
 }
