@@ -1,5 +1,6 @@
 // How many cells the ring of a run has.
-ghost use Rattle.std.specs.Prelude.{◌≤◌, ◌^◌};
+ghost use Rattle.std.specs.Prelude.{◌≡◌, ◌≢◌, ◌≤◌, ◌^◌, length};
+ghost use Rattle.saber_plan.specs.Trees.{tree_of};
 ghost use Rattle.saber_plan.specs.Sizes.{SizesFit};
 
 use saber_plan::{Plan, Sizes};
@@ -13,7 +14,8 @@ const NEAR_A_THREAD: u32 = 2;
 // the rows of those that wait stay in the processors' nearer memory.
 pub(crate) fn cells(plan: &Plan, sizes: &Sizes) -> u32
     requires { SizesFit sizes.now }
-    ensures { (1 ≤ result) × (result ≤ 2 ^ 10) }
+    ensures within { (1 ≤ result) × (result ≤ 2 ^ 10) }
+    ensures all { length (tree_of plan.now).streams ≢ 1 → result ≡ sizes.now.ring }
 {
     if plan.streams().len() == 1 {
         sizes.ring.min(NEAR + NEAR_A_THREAD * sizes.threads)
