@@ -1,9 +1,11 @@
 pub mod Lasting
 pub mod Opened
 pub mod Completing
+pub mod Completed
 pub mod RowsTogether
 pub mod Running
 pub mod RunsTaken
+pub mod PiecesTaken
 pub mod RunKeeping
 pub mod RunShares
 pub mod Tested

@@ -1,5 +1,5 @@
 -- A store of runs, and the open parts and the text that it stands for.
-use Rattle.std.proofs.Common.{◌≡◌, ℕ, ◌+◌, ◌-◌, ◌/◌, ◌≤◌, ◌<◌, List, [], ◌∷◌, ◌++◌, filter, flat_map, length, take, slice_range, Bool, true, false, cond, nat_le, refl, sym, ◌∙◌, ap, subst, arith, subst₂}
+use Rattle.std.proofs.Common.{◌≡◌, ℕ, ◌+◌, ◌-◌, ◌/◌, ◌≤◌, ◌<◌, List, [], ◌∷◌, ◌++◌, filter, flat_map, length, take, slice_range, Bool, true, false, cond, nat_le, Option, Some, None, refl, sym, ◌∙◌, ap, subst, arith, subst₂}
 use Rattle.std.specs.Option.{option_map_or}
 use Rattle.std.specs.Ordering.{nat_cmp}
 use Rattle.std.specs.FinMap.{empty, from_entries}
@@ -14,7 +14,7 @@ use Rattle.saber_plan.specs.Inputs.{Input, arrived}
 use Rattle.saber_plan.specs.declared.windows.Mark.{Mark}
 use Rattle.saber_plan.specs.declared.windows.Measure.{Measure}
 use Rattle.saber_plan.specs.declared.windows.Measure.TheVariants.{Rows, Range}
-use Rattle.saber_plan.specs.Windows.{Fits, one, no_rows, mark_of, mark_at, last_mark, placed, has, closed_count, begun_count, from}
+use Rattle.saber_plan.specs.Windows.{Fits, one, no_rows, mark_of, mark_after, ending, mark_at, last_mark, placed, has, closed_count, begun_count, from}
 use Rattle.saber_plan.specs.Answers.{by_shape, frame, lines, passing, selected, text, window_text}
 use Rattle.saber_plan.specs.Parts.{Part, no_part, part, part_lines, group_part, pair_part}
 use Rattle.saber_plan.specs.Shares.{piece_in}
@@ -23,18 +23,21 @@ use Rattle.saber_laws.specs.Parts.{PartHasLines, ClosedLinesStay}
 use Rattle.saber_laws.specs.Pieces.{TextGoesOn}
 use Rattle.saber_laws.specs.Marks.{MarksFollow, MarksAreOfRows, EndsAreBehind, ClosedRise, EndsCloseMore}
 use Rattle.saber_laws.specs.Windows.{ClosedAreCounted}
+use Rattle.saber_laws.specs.Ends.{EndsBeginNone}
+use Rattle.saber_window.specs.Laws.{ClosedWithinBegun}
 use Rattle.saber_laws.specs.Plans.{OneWindow}
 use Rattle.saber_laws.specs.Shares.{SharesMakePiece}
 use Rattle.saber_plan.specs.ListFacts.{slice-front, slice-join, nothing_behind}
-use Rattle.saber_plan.specs.RowFacts.{fits_take, length-placed}
+use Rattle.saber_plan.specs.RowFacts.{fits_take, length-placed, mark-append}
 use Rattle.saber_plan.specs.NumberFacts.{flat_map-from, from_more, numbered_is}
 use Rattle.saber_sliding.specs.Entries.{Entries, part_at}
+use Rattle.saber_group.specs.declared.complete.Complete.{Complete}
 use Rattle.saber_group.specs.declared.runs.Run.{Run}
 use Rattle.saber_group.specs.declared.run_stores.RunStore.{RunStore}
 use Rattle.saber_group.specs.declared.run_pieces.RunPiece.{RunPiece}
 use Rattle.saber_group.specs.RunParts.{part_of, closed_by, lines_between, Holds}
-use Rattle.saber_group.specs.RunPieces.{RunsFrom, IsOf, shares_in}
-use Rattle.saber_group.specs.RunStores.{held_in, TakenIn, GoesOn, WentOn}
+use Rattle.saber_group.specs.RunPieces.{RunsFrom, Given, IsOf, shares_in}
+use Rattle.saber_group.specs.RunStores.{held_in, TakenIn, Comes, Came}
 use Rattle.saber_fragment.specs.Stores.{Follows}
 
 module _ (q : Tree) (e : q.shape ≡ Group) where
@@ -99,11 +102,18 @@ pub record MarkLaws : Type 0 where
   pub behind : EndsAreBehind
   pub rise : ClosedRise
   pub close_more : EndsCloseMore
+  pub within : ClosedWithinBegun
+  pub begin_none : EndsBeginNone
 
 -- where there are no rows there are no runs, whatever is before them
 no_runs : (q : Tree) (m n : Mark) (rows : List Row) (rs : List Run) → length rows ≡ 0 → RunsFrom q m rows 0 rs → RunsFrom q n rows 0 rs
 no_runs q m n rows [] e h = h
 no_runs q m n rows (r ∷ rs) e h = absurd (let some = h.1.0 in let within = h.1.1.0 in omega (arith, some, within, e))
+
+-- and no window lies whole in them
+nothing_given : (q : Tree) (m n : Mark) (rows : List Row) (ended : Bool) (runs : List Run) (o : Option Complete) → length rows ≡ 0 → Given q m rows ended runs o → Given q n rows ended runs o
+nothing_given q m n rows ended runs None e h = no_runs q m n rows runs e h
+nothing_given q m n rows ended runs (Some c) e h = absurd (let some = h.some in omega (arith, some, e))
 
 module _ (q : Tree) (r : Input) (x y : ℕ) (s : RunStore) (p : RunPiece) (f : Follows q (held_in s) (shares_in q p) (λ u. TakenIn q u s) (λ m rows ended. IsOf q m rows ended p) r x y) where
   abbrev pub old_rows : List Row
@@ -127,11 +137,11 @@ module _ (q : Tree) (r : Input) (x y : ℕ) (s : RunStore) (p : RunPiece) (f : F
     mark_end : p.after ≡ mark_at r y
     mark_end = f.of_is.after_is ∙ sym (laws.follow r x y f.rises)
 
-    -- behind the end there is no run, and before it the mark is that of the rows
-    runs_open : RunsFrom q (mark_of old_rows) new_rows 0 p.runs.items
-    runs_open = elim ((arrived r x).ended) as (λ b. (arrived r x).ended ≡ b → RunsFrom q (mark_of old_rows) new_rows 0 p.runs.items) [
-      | true ↦ λ e. no_runs q (mark_at r x) (mark_of old_rows) new_rows p.runs.items (ap length (nothing_behind r.rows x y (let far = laws.behind r x e in omega (arith, far)))) f.of_is.runs_are
-      | false ↦ λ e. subst (λ m. RunsFrom q m new_rows 0 p.runs.items) (laws.of_rows r x e) f.of_is.runs_are
+    -- behind the end there are no rows, and before it the mark is that of the rows
+    given_open : Given q (mark_of old_rows) new_rows (arrived r y).ended p.runs.items p.complete
+    given_open = elim ((arrived r x).ended) as (λ b. (arrived r x).ended ≡ b → Given q (mark_of old_rows) new_rows (arrived r y).ended p.runs.items p.complete) [
+      | true ↦ λ e. nothing_given q (mark_at r x) (mark_of old_rows) new_rows (arrived r y).ended p.runs.items p.complete (ap length (nothing_behind r.rows x y (let far = laws.behind r x e in omega (arith, far)))) f.of_is.given
+      | false ↦ λ e. subst (λ m. Given q m new_rows (arrived r y).ended p.runs.items p.complete) (laws.of_rows r x e) f.of_is.given
     ] refl
 
     module _ (closed : ℕ) (closed_is : closed ≡ closed_count (frame q) p.after) where
@@ -144,23 +154,32 @@ module _ (q : Tree) (r : Input) (x y : ℕ) (s : RunStore) (p : RunPiece) (f : F
           subst (λ n. closed_by q no_rows (old_rows ++ new_rows) ≤ n) (sym closed_end)
           (subst (λ l. closed_by q no_rows l ≤ closed_count (frame q) (mark_at r y)) (sym all_rows) (laws.close_more (frame q) f.windows (arrived r y).ended (mark_of (take y r.rows))))
 
-      pub goes_on : GoesOn q old_rows new_rows s.windows.next s.windows.runs.entries p.runs.items closed
-      goes_on = record {
+      end_is : closed ≡ closed_count (frame q) (ending (arrived r y).ended (mark_after (mark_of old_rows) new_rows))
+      end_is = closed_end
+          ∙ ap (λ l. closed_count (frame q) (ending (arrived r y).ended (mark_of l))) (sym all_rows)
+          ∙ ap (λ m. closed_count (frame q) (ending (arrived r y).ended m)) (mark-append no_rows old_rows new_rows)
+
+      pub comes : Comes q old_rows new_rows (arrived r y).ended s.windows.next s.windows.runs.entries p.runs.items p.complete closed
+      comes = record {
         holds = f.taken_is.holds;
         low = subst₂ (λ n o. n ≤ o) (sym f.taken_is.next_is) (sym closed_end) (laws.rise (frame q) f.windows r x y f.fits.ordered f.rises);
-        runs_are = runs_open;
-        fits = fits_all;
+        begun = subst₂ (λ n o. n ≤ o) (sym f.taken_is.next_is) (laws.begin_none (frame q) (arrived r x).ended (mark_of old_rows)).counts (laws.within (frame q) f.windows (last_mark (arrived r x)));
+        given = given_open;
+        closed_is = end_is;
         reaches = reaches_all;
+        fits = fits_all;
       }
 
-      pub taken_after : (new : RunStore) (before after : List ℕ) → new.begun ≡ begun_count (frame q) p.after → WentOn q old_rows new_rows s.windows.next new.windows.runs.entries closed new.windows.next before after → TakenIn q (arrived r y) new
-      taken_after new before after begun w = record {
-        holds = subst₂ (λ l n. Holds q no_rows l n new.windows.runs.entries) all_rows (sym w.done_is) w.holds;
-        next_is = w.done_is ∙ closed_end;
-        begun_is = begun ∙ ap (begun_count (frame q)) mark_end;
-      }
+      pub taken_after : (new : RunStore) (before after : List ℕ) → new.begun ≡ begun_count (frame q) p.after → Came q old_rows new_rows s.windows.next new.windows.runs.entries closed new.windows.next before after → TakenIn q (arrived r y) new
+      taken_after new before after begun w =
+          let all = old_rows ++ new_rows in
+          record {
+            holds = subst₂ (λ l n. Holds q no_rows l n new.windows.runs.entries) (take_all (length all) all (omega arith) ∙ all_rows) (sym w.done_is) w.holds;
+            next_is = w.done_is ∙ closed_end;
+            begun_is = begun ∙ ap (begun_count (frame q)) mark_end;
+          }
 
-      pub text_after : (new : Entries) (done : ℕ) (before after : List ℕ) → before ≡ [] → WentOn q old_rows new_rows s.windows.next new closed done before after
+      pub text_after : (new : Entries) (done : ℕ) (before after : List ℕ) → before ≡ [] → Came q old_rows new_rows s.windows.next new closed done before after
           → after ≡ lines_between q no_rows (take y r.rows) (closed_count (frame q) (mark_at r x)) (closed_count (frame q) (mark_at r y))
       text_after new done before after none w = w.text ∙ ap (λ b. b ++ lines_between q no_rows (old_rows ++ new_rows) s.windows.next closed) none ∙ (λ j. lines_between q no_rows (all_rows j) (f.taken_is.next_is j) (closed_end j))
 

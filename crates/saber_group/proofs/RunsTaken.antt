@@ -1,17 +1,18 @@
 -- Runs that are taken in, one after another, behind the rows of earlier tasks.
-use Rattle.std.proofs.Common.{◌≡◌, ℕ, suc, ◌+◌, ◌-◌, ◌≤◌, ◌<◌, List, [], ◌∷◌, ◌++◌, filter, flat_map, map, length, max, take, refl, sym, ◌∙◌, ap, subst, le_trans, append-nil, append_assoc, arith}
-use Rattle.std.proofs.lemmas.List.{map-append, nil_from_length, take_all}
+use Rattle.std.proofs.Common.{◌≡◌, ℕ, suc, ◌+◌, ◌-◌, ◌^◌, ◌≤◌, ◌<◌, Result, Ok, Err, OnOk, List, [], ◌∷◌, ◌++◌, filter, flat_map, map, length, max, take, refl, sym, ◌∙◌, ap, subst, append-nil, append_assoc, arith}
+use Rattle.std.proofs.lemmas.List.{map-append, nil_from_length}
 use Rattle.std.proofs.Common.{Global}
 use Rattle.std.specs.Vec.Iter.{into_iter_len, into_iter_items}
 use Rattle.std.specs.declared.vec.IntoIter.{IntoIter}
 use Rattle.std.proofs.lemmas.List.Elements.{filter-append}
 use Rattle.std.proofs.lemmas.List.Concat.{flat_map-append}
+use Rattle.std.specs.List.{AllByRecursion}
 use Rattle.saber_plan.specs.declared.rows.Row.{Row}
 use Rattle.saber_plan.specs.declared.windows.Mark.{Mark}
 use Rattle.saber_plan.specs.Trees.{Tree}
 use Rattle.saber_plan.specs.Values.{passes}
 use Rattle.saber_plan.specs.Given.{RowsFit}
-use Rattle.saber_plan.specs.Windows.{Fits, Placed, no_rows, mark_of, placed_after, has, begun_count, closed_count, from}
+use Rattle.saber_plan.specs.Windows.{Placed, no_rows, mark_of, placed_after, has, begun_count, closed_count, from}
 use Rattle.saber_plan.specs.Answers.{frame, passing, key_cmp, entry_lines}
 use Rattle.saber_plan.specs.MapFacts.{entries-empty}
 use Rattle.saber_plan.specs.Parts.{Part, no_part, group_part, merge, part_lines, answers_of}
@@ -19,15 +20,12 @@ use Rattle.saber_plan.specs.RowFacts.{mark-append, placed-append, few_rows}
 use Rattle.saber_plan.specs.NumberFacts.{flat_nil, flat_step, flat_skip, from_more}
 use Rattle.saber_laws.specs.Groups.{GroupsJoin}
 use Rattle.saber_laws.specs.Parts.{MergeHasUnit, MergeIsAssociative}
-use Rattle.saber_laws.specs.Windows.{ClosedStay}
 use Rattle.saber_laws.specs.Plans.{OneWindow}
 use Rattle.saber_partial.specs.PartLaws.{OfRows, SmallPartsMerge}
 use Rattle.saber_group.specs.RunParts.{part_of, begun_by, closed_by, lines_between, Entered, IsRun, Holds}
 use Rattle.saber_sliding.specs.Entries.{Entries, CanFollow}
 use Rattle.saber_group.specs.declared.runs.Run.{Run}
-use Rattle.saber_group.specs.RunPieces.{RunsFrom}
-use Rattle.saber_group.specs.RunStores.{GoesOn, WentOn}
-use Rattle.saber_group.proofs.Completing.{closed_within}
+use Rattle.saber_group.specs.RunStores.{RunsAt, GoesOn, WentOn}
 use Rattle.saber_group.proofs.Opened.{has_room, holds_more}
 
 -- ---- the text of windows, one after another
@@ -55,11 +53,11 @@ text_join q m rows a n k up more start out new t h =
 
 -- ---- rows behind others
 
-take_behind : (old rows : List Row) (x : ℕ) → take (length old + x) (old ++ rows) ≡ old ++ take x rows
+pub take_behind : (old rows : List Row) (x : ℕ) → take (length old + x) (old ++ rows) ≡ old ++ take x rows
 take_behind [] rows x = let none : length {A = Row} [] + x ≡ x = omega arith in ap (λ k. take k rows) none
 take_behind (y ∷ old) rows x = let more : length (y ∷ old) + x ≡ suc (length old + x) = omega arith in ap (λ k. take k (y ∷ (old ++ rows))) more ∙ ap (λ l. y ∷ l) (take_behind old rows x)
 
-long_both : (old rows : List Row) → length (old ++ rows) ≡ length old + length rows
+pub long_both : (old rows : List Row) → length (old ++ rows) ≡ length old + length rows
 long_both [] rows = omega arith
 long_both (y ∷ old) rows = let rest = long_both old rows in omega (arith, rest)
 
@@ -71,14 +69,14 @@ module _ (q : Tree) (old rows : List Row) where
   passing-append us vs = ap (filter (λ zs. passes q.predicate zs [])) (map-append (λ x. x.row.values) us vs) ∙ filter-append (λ zs. passes q.predicate zs []) (map (λ x. x.row.values) us) (map (λ x. x.row.values) vs)
 
   -- a window's part is that of the old rows and that of the new ones
-  part_behind : GroupsJoin → (i : ℕ) (xs : List Row) → part_of q i no_rows (old ++ xs) ≡ merge (part_of q i no_rows old) (part_of q i mark xs)
+  pub part_behind : GroupsJoin → (i : ℕ) (xs : List Row) → part_of q i no_rows (old ++ xs) ≡ merge (part_of q i no_rows old) (part_of q i mark xs)
   part_behind join i xs =
       ap (λ l. group_part q (passing q (filter (has (frame q) i) l))) (placed-append no_rows old xs)
       ∙ ap (λ l. group_part q (passing q l)) (filter-append (has (frame q) i) (placed_after no_rows old) (placed_after mark xs))
       ∙ ap (group_part q) (passing-append (filter (has (frame q) i) (placed_after no_rows old)) (filter (has (frame q) i) (placed_after mark xs)))
       ∙ join q (passing q (filter (has (frame q) i) (placed_after no_rows old))) (passing q (filter (has (frame q) i) (placed_after mark xs)))
 
-  part_cut : GroupsJoin → (i x : ℕ) → part_of q i no_rows (take (length old + x) (old ++ rows)) ≡ merge (part_of q i no_rows old) (part_of q i mark (take x rows))
+  pub part_cut : GroupsJoin → (i x : ℕ) → part_of q i no_rows (take (length old + x) (old ++ rows)) ≡ merge (part_of q i no_rows old) (part_of q i mark (take x rows))
   part_cut join i x = ap (part_of q i no_rows) (take_behind old rows x) ∙ part_behind join i (take x rows)
 
   begun_cut : (x : ℕ) → begun_by q no_rows (take (length old + x) (old ++ rows)) ≡ begun_by q mark (take x rows)
@@ -88,7 +86,7 @@ module _ (q : Tree) (old rows : List Row) where
   closed_cut x = ap (closed_by q no_rows) (take_behind old rows x) ∙ ap (closed_count (frame q)) (mark-append no_rows old (take x rows))
 
   -- a run of the new rows is one of all
-  run_behind : GroupsJoin → MergeIsAssociative → (x y first past : ℕ) (p : Part) → IsRun q mark rows x y first past p → IsRun q no_rows (old ++ rows) (length old + x) (length old + y) first past p
+  pub run_behind : GroupsJoin → MergeIsAssociative → (x y first past : ℕ) (p : Part) → IsRun q mark rows x y first past p → IsRun q no_rows (old ++ rows) (length old + x) (length old + y) first past p
   run_behind join assoc x y first past p run =
       let same : y - x ≡ (length old + y) - (length old + x) = omega arith in
       record {
@@ -105,80 +103,79 @@ module _ (q : Tree) (old rows : List Row) where
 
 -- ---- runs that are taken in, one after another
 
--- the runs up to row x are in, the others are left
-pub record Along (q : Tree) (old rows : List Row) (start next : ℕ) (es : Entries) (left : List Run) (closed : ℕ) (before after : List ℕ) : Type 0 where
+-- the runs up to position x are in, the others are left
+pub record Along (q : Tree) (m : Mark) (all : List Row) (o y start next : ℕ) (es : Entries) (left : List Run) (closed : ℕ) (before after : List ℕ) : Type 0 where
   pub x : ℕ
-  pub within : x ≤ length rows
-  pub holds : Holds q no_rows (take (length old + x) (old ++ rows)) next es
+  pub holds : Holds q m (take (o + x) all) next es
   pub low : start ≤ next
   pub high : next ≤ closed
-  pub left_are : RunsFrom q (mark_of old) rows x left
-  pub text : after ≡ before ++ lines_between q no_rows (old ++ rows) start next
+  pub left_are : RunsAt q m all o x left y
+  pub firsts : AllByRecursion (λ (r : Run). r.first ≤ closed) left
+  pub text : after ≡ before ++ lines_between q m all start next
 
-pub along_nil : (q : Tree) (old rows : List Row) (start : ℕ) (es : Entries) (left : List Run) (closed : ℕ) (out : List ℕ) → GoesOn q old rows start es left closed → Along q old rows start start es left closed out out
-along_nil q old rows start es left closed out g = record {
-  x = 0;
-  within = omega arith;
-  holds = subst (λ r. Holds q no_rows r start es) (sym (take_behind old rows 0 ∙ append-nil old)) g.holds;
+pub along_nil : (q : Tree) (m : Mark) (all : List Row) (o x y start : ℕ) (es : Entries) (left : List Run) (closed : ℕ) (out : List ℕ) → GoesOn q m all o x y start es left closed → Along q m all o y start start es left closed out out
+along_nil q m all o x y start es left closed out g = record {
+  x = x;
+  holds = g.holds;
   low = omega arith;
   high = g.low;
   left_are = g.runs_are;
-  text = text_nil q no_rows (old ++ rows) start out;
+  firsts = g.firsts;
+  text = text_nil q m all start out;
 }
 
-module _ (q : Tree) (w : OneWindow q) (old rows : List Row) (start next : ℕ) (es : Entries) (run : Run) (left : List Run) (closed : ℕ) (before after : List ℕ) (given : RowsFit q no_rows (old ++ rows)) (a : Along q old rows start next es (run ∷ left) closed before after) where
-  lifted : GroupsJoin → MergeIsAssociative → IsRun q no_rows (old ++ rows) (length old + a.x) (length old + run.end) run.first run.past run.part
-  lifted join assoc = run_behind q old rows join assoc a.x run.end run.first run.past run.part a.left_are.0
-
-  low_end : length old + a.x ≤ length old + run.end
+module _ (q : Tree) (w : OneWindow q) (m : Mark) (all : List Row) (o y start next : ℕ) (es : Entries) (run : Run) (left : List Run) (closed : ℕ) (before after : List ℕ) (given : RowsFit q m all) (a : Along q m all o y start next es (run ∷ left) closed before after) where
+  low_end : o + a.x ≤ o + run.end
   low_end = let more = a.left_are.1.0 in omega (arith, more)
 
-  high_end : length old + run.end ≤ length (old ++ rows)
-  high_end = let most = a.left_are.1.1.0 in let long = long_both old rows in omega (arith, most, long)
+  few : length all ≤ 2 ^ 40
+  few = few_rows q w.stream w.streams m all given
 
   -- the windows before its first have no more rows
-  pub along_below : GroupsJoin → MergeIsAssociative → (i : ℕ) → i < run.first → part_of q i no_rows (take (length old + a.x) (old ++ rows)) ≡ part_of q i no_rows (old ++ rows)
-  along_below join assoc = (lifted join assoc).below
+  pub along_below : (i : ℕ) → i < run.first → part_of q i m (take (o + a.x) all) ≡ part_of q i m all
+  along_below = a.left_are.0.below
 
-  pub along_can : GroupsJoin → MergeIsAssociative → SmallPartsMerge → (later : ℕ) (fs : Entries) → Holds q no_rows (take (length old + a.x) (old ++ rows)) later fs → CanFollow run.part fs
-  along_can join assoc small later fs held =
-      has_room q no_rows (old ++ rows) (length old + a.x) (length old + run.end) run.first run.past run.part (lifted join assoc) later fs held small low_end high_end (few_rows q w.stream w.streams no_rows (old ++ rows) given)
+  pub along_can : SmallPartsMerge → (later : ℕ) (fs : Entries) → Holds q m (take (o + a.x) all) later fs → CanFollow run.part fs
+  along_can small later fs held =
+      has_room q m all (o + a.x) (o + run.end) run.first run.past run.part a.left_are.0 later fs held small low_end a.left_are.1.1.0 few
 
-  pub along_more : GroupsJoin → MergeIsAssociative → MergeHasUnit → SmallPartsMerge → ClosedStay → Fits (frame q) → closed_by q no_rows (old ++ rows) ≤ closed
-      → (later new : ℕ) (fs gs : Entries) (out : List ℕ) → later ≡ max next run.first → new ≡ later → Holds q no_rows (take (length old + a.x) (old ++ rows)) later fs → Entered fs run.past run.part gs
-      → out ≡ after ++ lines_between q no_rows (old ++ rows) next later → Along q old rows start new gs left closed before out
-  along_more join assoc unit small stay fits reaches later new fs gs out most same held entered text =
+  pub along_more : MergeHasUnit → SmallPartsMerge
+      → (later new : ℕ) (fs gs : Entries) (out : List ℕ) → later ≡ max next run.first → new ≡ later → Holds q m (take (o + a.x) all) later fs → Entered fs run.past run.part gs
+      → out ≡ after ++ lines_between q m all next later → Along q m all o y start new gs left closed before out
+  along_more unit small later new fs gs out most same held entered text =
       let up = a.low in
       let high = a.high in
-      let first : run.first ≤ closed = le_trans (le_trans (lifted join assoc).closes (closed_within stay q fits no_rows (old ++ rows) (length old + run.end) given)) reaches in
+      let first = a.firsts.0 in
       record {
         x = run.end;
-        within = a.left_are.1.1.0;
-        holds = holds_more q no_rows (old ++ rows) (length old + a.x) (length old + run.end) run.first run.past run.part (lifted join assoc) later fs held unit small gs new same (omega (arith, most)) low_end high_end (few_rows q w.stream w.streams no_rows (old ++ rows) given) entered;
+        holds = holds_more q m all (o + a.x) (o + run.end) run.first run.past run.part a.left_are.0 later fs held unit small gs new same (omega (arith, most)) low_end a.left_are.1.1.0 few entered;
         low = omega (arith, up, most, same);
         high = omega (arith, high, first, most, same);
         left_are = a.left_are.1.1.1;
-        text = subst (λ n. out ≡ before ++ lines_between q no_rows (old ++ rows) start n) (sym same) (text_join q no_rows (old ++ rows) start next later up (omega (arith, most)) before after out a.text text);
+        firsts = a.firsts.1;
+        text = subst (λ n. out ≡ before ++ lines_between q m all start n) (sym same) (text_join q m all start next later up (omega (arith, most)) before after out a.text text);
       }
 
-module _ (q : Tree) (old rows : List Row) (start next : ℕ) (es : Entries) (closed : ℕ) (before after : List ℕ) (a : Along q old rows start next es [] closed before after) where
-  all_rows : take (length old + a.x) (old ++ rows) ≡ old ++ rows
-  all_rows = let ends = a.left_are in let long = long_both old rows in take_all (length old + a.x) (old ++ rows) (omega (arith, ends, long))
+module _ (q : Tree) (m : Mark) (all : List Row) (o y start next : ℕ) (es : Entries) (closed : ℕ) (before after : List ℕ) (a : Along q m all o y start next es [] closed before after) where
+  pub along_holds : Holds q m (take (o + y) all) next es
+  along_holds = subst (λ z. Holds q m (take (o + z) all) next es) a.left_are a.holds
 
-  pub along_holds : Holds q no_rows (old ++ rows) next es
-  along_holds = subst (λ r. Holds q no_rows r next es) all_rows a.holds
-
-  pub along_done : (new : ℕ) (fs : Entries) (out : List ℕ) → new ≡ max next closed → Holds q no_rows (old ++ rows) new fs → out ≡ after ++ lines_between q no_rows (old ++ rows) next new → WentOn q old rows start fs closed new before out
+  pub along_done : (new : ℕ) (fs : Entries) (out : List ℕ) → new ≡ max next closed → Holds q m (take (o + y) all) new fs → out ≡ after ++ lines_between q m all next new → WentOn q m all (o + y) start fs closed new before out
   along_done new fs out most held text =
       let up = a.low in
       let high = a.high in
       let same : new ≡ closed = omega (arith, high, most) in
       record {
-        holds = subst (λ n. Holds q no_rows (old ++ rows) n fs) same held;
+        holds = subst (λ n. Holds q m (take (o + y) all) n fs) same held;
         done_is = same;
-        text = text_join q no_rows (old ++ rows) start next closed up high before after out a.text (subst (λ n. out ≡ after ++ lines_between q no_rows (old ++ rows) next n) same text);
+        text = text_join q m all start next closed up high before after out a.text (subst (λ n. out ≡ after ++ lines_between q m all next n) same text);
       }
 
 -- an iterator that gave all has nothing left
 pub all_given : {X : Type 0} (it : IntoIter X Global) → into_iter_len it ≡ 0 → into_iter_items it ≡ []
 all_given it e = nil_from_length _ (sym it.rest.ok.0 ∙ e)
+
+-- what follows from what holds where all went well
+pub on_ok : {X E : Type 0} (r : Result X E) (P Q : Type 0) → OnOk r P → (P → Q) → OnOk r Q
+on_ok (Ok x) P Q h f = f h
+on_ok (Err e) P Q h f = h

@@ -1,5 +1,6 @@
 -- Runs as what a task gives.
-use Rattle.std.specs.Prelude.{◌≡◌, ℕ, ◌-◌, ◌≤◌, ◌<◌, List, [], ◌∷◌, filter, flat_map, length, Bool, ◌&&◌, nat_le, nat_lt, if◌then◌else◌}
+use Rattle.std.specs.Prelude.{◌≡◌, ℕ, ◌-◌, ◌≤◌, ◌<◌, List, [], ◌∷◌, filter, flat_map, length, take, Bool, ◌&&◌, nat_le, nat_lt, if◌then◌else◌, Option, Some, None}
+use Rattle.std.specs.List.{AllByRecursion}
 use Rattle.saber_plan.specs.declared.rows.Row.{Row}
 use Rattle.saber_plan.specs.declared.windows.Mark.{Mark}
 use Rattle.saber_plan.specs.Trees.{Tree}
@@ -9,18 +10,43 @@ use Rattle.saber_plan.specs.Parts.{Part, no_part, merge, part_lines}
 use Rattle.saber_plan.specs.Tasks.{is_complete}
 use Rattle.saber_plan.specs.Needs.{is_closing, is_pending, is_opening, of_kind}
 use Rattle.saber_plan.specs.Shares.{Shares}
+use Rattle.saber_sliding.specs.Entries.{part_at}
+use Rattle.saber_group.specs.declared.complete.Complete.{Complete}
 use Rattle.saber_group.specs.declared.runs.Run.{Run}
 use Rattle.saber_group.specs.declared.run_pieces.RunPiece.{RunPiece}
-use Rattle.saber_group.specs.RunParts.{IsRun}
+use Rattle.saber_group.specs.RunParts.{lines_between, Holds, IsRun, Settled}
 
--- the runs of the rows from position x on, each from where the one before it ends
+-- the runs of the rows from position x up to y, each from where the one before it ends
+abbrev pub RunsTo : Tree → Mark → List Row → ℕ → List Run → ℕ → Type 0
+RunsTo q m rows x [] y = x ≡ y
+RunsTo q m rows x (r ∷ rs) y = IsRun q m rows x r.end r.first r.past r.part × ((x < r.end) × ((r.end ≤ length rows) × RunsTo q m rows r.end rs y))
+
+-- up to the last row
 abbrev pub RunsFrom : Tree → Mark → List Row → ℕ → List Run → Type 0
-RunsFrom q m rows x [] = x ≡ length rows
-RunsFrom q m rows x (r ∷ rs) = IsRun q m rows x r.end r.first r.past r.part × ((x < r.end) × ((r.end ≤ length rows) × RunsFrom q m rows r.end rs))
+RunsFrom q m rows x rs = RunsTo q m rows x rs (length rows)
+
+-- The windows from `low` on that are done lie whole in the rows, and their text is there. The windows below get nothing from row x on, and
+-- have these runs up to there; those behind, which the rows begin and don't close, have what is open.
+pub record IsComplete (q : Tree) (m : Mark) (rows : List Row) (ended : Bool) (runs : List Run) (c : Complete) : Type 0 where
+  pub x : ℕ
+  pub closing_are : RunsTo q m rows 0 runs x
+  pub firsts : AllByRecursion (λ (r : Run). r.first ≤ c.low) runs
+  pub below : Settled q m (take x rows) rows c.low
+  pub text_is : c.text.items ≡ lines_between q m rows c.low c.open.next
+  pub open_is : Holds q m rows c.open.next c.open.runs.entries
+  pub low_is : c.low ≡ begun_count (frame q) m
+  pub high_is : c.open.next ≡ closed_count (frame q) (ending ended (mark_after m rows))
+  pub order : c.low ≤ c.open.next
+  pub some : 0 < length rows
+
+-- all runs of the rows, or those of closing windows and what the task answers itself
+abbrev pub Given : Tree → Mark → List Row → Bool → List Run → Option Complete → Type 0
+Given q m rows ended runs None = RunsFrom q m rows 0 runs
+Given q m rows ended runs (Some c) = IsComplete q m rows ended runs c
 
 -- the piece is of these rows behind a mark, where the input ends behind them or not
 pub record IsOf (q : Tree) (m : Mark) (rows : List Row) (ended : Bool) (p : RunPiece) : Type 0 where
-  pub runs_are : RunsFrom q m rows 0 p.runs.items
+  pub given : Given q m rows ended p.runs.items p.complete
   pub before_is : p.before ≡ m
   pub after_is : p.after ≡ ending ended (mark_after m rows)
 
@@ -36,12 +62,30 @@ whole_lines q a b at =
     let g = begun_count (frame q) b in
     flat_map (λ i. part_lines q i (at i)) (filter (λ i. is_complete (kind_of (frame q) i a b)) (from c (g - c)))
 
--- A piece, for the definitions: each window has its runs merged, and goes where its kind says.
-abbrev pub shares_in : Tree → RunPiece → Shares
-shares_in q p = record {
-  closing = of_kind is_closing (frame q) p.before p.after (part_in p.runs.items);
-  pending = of_kind is_pending (frame q) p.before p.after (part_in p.runs.items);
-  opening = of_kind is_opening (frame q) p.before p.after (part_in p.runs.items);
-  lines = whole_lines q p.before p.after (part_in p.runs.items);
-  closed = closed_count (frame q) p.after;
+-- each window has its runs merged, and goes where its kind says
+abbrev pub shares_of_all : Tree → Mark → Mark → List Run → Shares
+shares_of_all q a b runs = record {
+  closing = of_kind is_closing (frame q) a b (part_in runs);
+  pending = of_kind is_pending (frame q) a b (part_in runs);
+  opening = of_kind is_opening (frame q) a b (part_in runs);
+  lines = whole_lines q a b (part_in runs);
+  closed = closed_count (frame q) b;
 }
+
+-- where windows lie whole in the task, closing ones have the runs, opening ones what is open, and none is pending
+abbrev pub shares_of_some : Tree → Mark → Mark → List Run → Complete → Shares
+shares_of_some q a b runs c = record {
+  closing = of_kind is_closing (frame q) a b (part_in runs);
+  pending = [];
+  opening = of_kind is_opening (frame q) a b (part_at c.open.runs.entries);
+  lines = c.text.items;
+  closed = closed_count (frame q) b;
+}
+
+abbrev shares_by : Tree → Mark → Mark → List Run → Option Complete → Shares
+shares_by q a b runs None = shares_of_all q a b runs
+shares_by q a b runs (Some c) = shares_of_some q a b runs c
+
+-- A piece, for the definitions.
+abbrev pub shares_in : Tree → RunPiece → Shares
+shares_in q p = shares_by q p.before p.after p.runs.items p.complete

@@ -1,19 +1,22 @@
 -- Runs that are kept from task to task, and what windows print that are closed.
-use Rattle.std.specs.Prelude.{◌≡◌, ℕ, ◌-◌, ◌≤◌, List, ◌++◌}
+use Rattle.std.specs.Prelude.{◌≡◌, ℕ, ◌-◌, ◌+◌, ◌≤◌, ◌<◌, List, [], ◌∷◌, ◌++◌, Bool, Option, length, take}
 use Rattle.std.specs.Ordering.{nat_cmp}
+use Rattle.std.specs.List.{AllByRecursion}
 use Rattle.std.specs.FinMap.{from_entries}
 use Rattle.saber_plan.specs.declared.rows.Row.{Row}
+use Rattle.saber_plan.specs.declared.windows.Mark.{Mark}
 use Rattle.saber_plan.specs.Trees.{Tree}
 use Rattle.saber_plan.specs.Inputs.{Input}
 use Rattle.saber_plan.specs.Answers.{frame}
-use Rattle.saber_plan.specs.Windows.{no_rows, mark_of, last_mark, closed_count, begun_count}
+use Rattle.saber_plan.specs.Windows.{no_rows, mark_of, mark_after, ending, last_mark, closed_count, begun_count}
 use Rattle.saber_plan.specs.Given.{RowsFit}
 use Rattle.saber_plan.specs.Tasks.{Parts, full, numbered}
 use Rattle.saber_sliding.specs.Entries.{Entries, part_at}
+use Rattle.saber_group.specs.declared.complete.Complete.{Complete}
 use Rattle.saber_group.specs.declared.runs.Run.{Run}
 use Rattle.saber_group.specs.declared.run_stores.RunStore.{RunStore}
-use Rattle.saber_group.specs.RunParts.{closed_by, lines_between, Holds}
-use Rattle.saber_group.specs.RunPieces.{RunsFrom}
+use Rattle.saber_group.specs.RunParts.{begun_by, closed_by, lines_between, Holds, IsRun, Settled}
+use Rattle.saber_group.specs.RunPieces.{Given}
 
 -- the parts of the windows that are begun and not closed
 abbrev pub held_in : RunStore → Parts
@@ -25,19 +28,42 @@ pub record TakenIn (q : Tree) (r : Input) (s : RunStore) : Type 0 where
   pub next_is : s.windows.next ≡ closed_count (frame q) (last_mark r)
   pub begun_is : s.begun ≡ begun_count (frame q) (last_mark r)
 
--- ---- one step
+-- ---- runs that come
 
--- Some rows have been taken in, run by run, and the windows below `next` are done. These are the runs of the next rows, and how
--- many windows are to be done: those that all of these rows close are among them.
-pub record GoesOn (q : Tree) (old rows : List Row) (next : ℕ) (es : Entries) (runs : List Run) (closed : ℕ) : Type 0 where
+-- the runs of rows from position x up to y, where these stand o rows further on in a longer list
+abbrev pub RunsAt : Tree → Mark → List Row → ℕ → ℕ → List Run → ℕ → Type 0
+RunsAt q m all o x [] y = x ≡ y
+RunsAt q m all o x (r ∷ rs) y = IsRun q m all (o + x) (o + r.end) r.first r.past r.part × ((x < r.end) × ((o + r.end ≤ length all) × RunsAt q m all o r.end rs y))
+
+-- Of some rows behind a mark those up to position o + x have been taken in, run by run, and the windows below `next` are done. These
+-- are the runs up to position o + y, and how many windows are to be done: no later row lies in them.
+pub record GoesOn (q : Tree) (m : Mark) (all : List Row) (o x y next : ℕ) (es : Entries) (runs : List Run) (closed : ℕ) : Type 0 where
+  pub holds : Holds q m (take (o + x) all) next es
+  pub low : next ≤ closed
+  pub runs_are : RunsAt q m all o x runs y
+  pub firsts : AllByRecursion (λ (r : Run). r.first ≤ closed) runs
+  pub settled : Settled q m (take (o + y) all) all closed
+  pub fits : RowsFit q m all
+
+-- All up to position z have been taken in: the windows below `closed` are done, and their lines are behind the text.
+pub record WentOn (q : Tree) (m : Mark) (all : List Row) (z next : ℕ) (new : Entries) (closed done : ℕ) (before after : List ℕ) : Type 0 where
+  pub holds : Holds q m (take z all) closed new
+  pub done_is : done ≡ closed
+  pub text : after ≡ before ++ lines_between q m all next closed
+
+-- ---- pieces that come
+
+-- A store has taken in some rows, and the windows below `next` are done. This is what the piece of the next rows has, and how many
+-- windows are to be done: all that are closed behind these rows.
+pub record Comes (q : Tree) (old rows : List Row) (ended : Bool) (next : ℕ) (es : Entries) (runs : List Run) (complete : Option Complete) (closed : ℕ) : Type 0 where
   pub holds : Holds q no_rows old next es
   pub low : next ≤ closed
-  pub runs_are : RunsFrom q (mark_of old) rows 0 runs
-  pub fits : RowsFit q no_rows (old ++ rows)
+  pub begun : next ≤ begun_by q no_rows old
+  pub given : Given q (mark_of old) rows ended runs complete
+  pub closed_is : closed ≡ closed_count (frame q) (ending ended (mark_after (mark_of old) rows))
   pub reaches : closed_by q no_rows (old ++ rows) ≤ closed
+  pub fits : RowsFit q no_rows (old ++ rows)
 
--- They have been taken in too: the windows below `closed` are done, and their lines are behind the text.
-pub record WentOn (q : Tree) (old rows : List Row) (next : ℕ) (new : Entries) (closed done : ℕ) (before after : List ℕ) : Type 0 where
-  pub holds : Holds q no_rows (old ++ rows) closed new
-  pub done_is : done ≡ closed
-  pub text : after ≡ before ++ lines_between q no_rows (old ++ rows) next closed
+-- it has taken in these rows too
+abbrev pub Came : Tree → List Row → List Row → ℕ → Entries → ℕ → ℕ → List ℕ → List ℕ → Type 0
+Came q old rows next new closed done before after = WentOn q no_rows (old ++ rows) (length (old ++ rows)) next new closed done before after

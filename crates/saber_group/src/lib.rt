@@ -5,6 +5,7 @@
 #![tactic(auto)]
 
 mod batch;
+mod complete;
 mod group;
 mod open;
 mod operator;

@@ -6,14 +6,14 @@ use crate::run_pieces::RunPiece;
 use crate::run_stores::RunStore;
 use saber_fragment::{Block, Operator};
 use saber_laws::{
-    closed_are_counted, closed_lines_stay, closed_rise, ends_are_behind, ends_close_more,
-    marks_are_of_rows, marks_follow, merge_has_unit, merge_is_associative, no_rows_no_part,
-    open_goes_on, part_has_lines, shares_make_piece, text_goes_on,
+    begun_are_counted, closed_are_counted, closed_lines_stay, closed_rise, ends_are_behind,
+    ends_begin_none, ends_close_more, kinds_are_ranges, marks_are_of_rows, marks_follow,
+    merge_has_unit, merge_is_associative, no_rows_no_part, open_goes_on, part_has_lines,
+    shares_make_piece, text_goes_on,
 };
 use saber_plan::NoMemory;
+use saber_window::closed_within_begun;
 use std::alloc::Global;
-use std::marker::Brand;
-use std::sync::ledger::Blank;
 
 // A task's piece is made of its own block alone, so nothing of the block is copied.
 impl Operator for Group<'_> {
@@ -56,6 +56,9 @@ impl Operator for Group<'_> {
 
     fn finish(&self, _alloc: Global, draft: RunPiece) -> Result<RunPiece, NoMemory> {
         self.has_window();
+        begun_are_counted();
+        closed_are_counted();
+        kinds_are_ranges();
         merge_has_unit();
         merge_is_associative();
         no_rows_no_part();
@@ -83,7 +86,9 @@ impl Operator for Group<'_> {
         closed_are_counted();
         closed_lines_stay();
         closed_rise();
+        closed_within_begun();
         ends_are_behind();
+        ends_begin_none();
         ends_close_more();
         marks_are_of_rows();
         marks_follow();
@@ -94,14 +99,7 @@ impl Operator for Group<'_> {
         let closed = self.closed_below(&piece.after);
         let begun = self.begun_below(&piece.after);
         let mut text = Vec::new(alloc);
-        self.take_uncounted::<Brand>(
-            alloc,
-            &mut store.windows,
-            piece.runs,
-            closed,
-            &mut text,
-            Blank::new(1),
-        )?;
+        self.take_piece(alloc, &mut store.windows, piece, closed, &mut text)?;
         store.begun = begun;
         out.extend_from_slice(&text)?;
         Ok(())

@@ -1,10 +1,12 @@
 // What a task gives: its runs.
-ghost use Rattle.std.specs.Prelude.{◌≡◌, ◌≤◌, IfOk};
+ghost use Rattle.std.specs.Prelude.{◌≡◌, ◌≤◌, true, IfOk};
 ghost use Rattle.saber_plan.specs.Trees.{tree_of};
+ghost use Rattle.saber_plan.specs.Windows.{mark_after};
 ghost use Rattle.saber_plan.specs.Given.{RowsFit};
-ghost use Rattle.saber_group.specs.RunPieces.{IsOf};
+ghost use Rattle.saber_group.specs.RunPieces.{IsOf, RunsFrom};
 
 use crate::batch::Batch;
+use crate::complete::Complete;
 use crate::group::Group;
 use crate::runs::Run;
 use saber_partial::Gathering;
@@ -12,11 +14,12 @@ use saber_plan::{Mark, NoMemory};
 use saber_window::ending;
 use std::alloc::Global;
 
-/// The runs of a task's rows, in order, with the mark before them and the one behind them, which has
-/// the input's end if that comes there.
+/// The runs of a task's rows, in order, with the mark before the rows and the one behind them, which has the input's end if that
+/// comes there. Where the task answers windows itself, the runs are those of the windows that earlier tasks began.
 #[derive(Drop)]
 pub struct RunPiece {
     pub(crate) runs: Vec<Run>,
+    pub(crate) complete: Option<Complete>,
     pub(crate) before: Mark,
     pub(crate) after: Mark,
 }
@@ -34,10 +37,11 @@ fn room_for_first(runs: &mut Vec<Run>, rows: usize, first: usize) -> Result<(), 
 }
 
 impl Group<'_> {
-    /// The piece of a task. Each row is looked at once.
-    pub(crate) fn piece_of(&self, alloc: Global, batch: &Batch) -> Result<RunPiece, NoMemory>
+    // The runs of a task's rows, and the mark behind these. Each row is looked at once.
+    fn runs_of(&self, alloc: Global, batch: &Batch) -> Result<(Vec<Run>, Mark), NoMemory>
         requires { RowsFit (tree_of self.now) batch.now.before batch.now.rows.now }
-        ensures { IfOk result (λ p. IsOf (tree_of self.now) batch.now.before batch.now.rows.now batch.now.ended p) }
+        ensures runs { IfOk result (λ r. RunsFrom (tree_of self.now) batch.now.before batch.now.rows.now 0 r.0.items) }
+        ensures mark { IfOk result (λ r. r.1 ≡ mark_after batch.now.before batch.now.rows.now) }
     {
         let mut runs = Vec::new(alloc);
         let mut part = Gathering::empty(alloc);
@@ -50,10 +54,41 @@ impl Group<'_> {
             room_for_first(&mut runs, batch.rows.len(), from)?;
             runs.push(run)?;
         }
+        Ok((runs, mark))
+    }
+
+    // Whether the windows from `low` up to `high`, which lie whole in a task, are more than those that are open before it. Else its
+    // runs are mostly of windows that other tasks have too, and to copy them costs more than is shared out.
+    fn has_more_complete(&self, before: &Mark, low: u64, high: u64) -> bool
+        ensures { result ≡ true → low ≤ high }
+    {
+        low < high && high - low > low.saturating_sub(self.closed_below(before))
+    }
+
+    /// The piece of a task.
+    pub(crate) fn piece_of(&self, alloc: Global, batch: &Batch) -> Result<RunPiece, NoMemory>
+        requires { RowsFit (tree_of self.now) batch.now.before batch.now.rows.now }
+        ensures { IfOk result (λ p. IsOf (tree_of self.now) batch.now.before batch.now.rows.now batch.now.ended p) }
+    {
+        let (runs, mark) = self.runs_of(alloc, batch)?;
+        let before = batch.before;
+        let after = ending(batch.ended, &mark);
+        let low = self.begun_below(&before);
+        let high = self.closed_below(&after);
+        if batch.rows.len() == 0 || !self.has_more_complete(&before, low, high) {
+            return Ok(RunPiece {
+                runs,
+                complete: None,
+                before,
+                after,
+            });
+        }
+        let (closing, complete) = self.completed(alloc, batch, runs, low, high)?;
         Ok(RunPiece {
-            runs,
-            before: batch.before,
-            after: ending(batch.ended, &mark),
+            runs: closing,
+            complete: Some(complete),
+            before,
+            after,
         })
     }
 }

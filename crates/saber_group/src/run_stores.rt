@@ -1,16 +1,20 @@
 // What is kept from task to task: the runs that open windows have.
-ghost use Rattle.std.specs.Prelude.{◌≡◌, ◌≤◌, ◌<◌, ◌+◌, ◌*◌, List, length, OnOk};
+ghost use Rattle.std.specs.Prelude.{◌≡◌, ◌≤◌, ◌<◌, ◌+◌, ◌*◌, ℕ, Bool, List, Some, length, OnOk};
 ghost use Rattle.saber_plan.specs.declared.rows.Row.{Row};
+ghost use Rattle.saber_plan.specs.declared.windows.Mark.{Mark};
 ghost use Rattle.saber_plan.specs.Trees.{tree_of};
-ghost use Rattle.saber_group.specs.RunStores.{GoesOn, WentOn};
+ghost use Rattle.saber_group.specs.RunStores.{Came, Comes, GoesOn, WentOn};
 
+use crate::complete::Complete;
 use crate::group::Group;
 use crate::open::Open;
+use crate::run_pieces::RunPiece;
 use crate::runs::Run;
 use saber_laws::{closed_stay, groups_join, merge_has_unit, merge_is_associative};
 use saber_partial::{Steps, small_parts_merge};
 use saber_plan::NoMemory;
 use std::alloc::Global;
+use std::marker::Brand;
 use std::sync::ledger::{Blank, Ledger};
 
 /// The runs that windows have that aren't closed, and how many windows are begun.
@@ -21,7 +25,7 @@ pub struct RunStore {
 }
 
 impl Group<'_> {
-    /// Takes the runs of the next rows in, and appends the lines of the windows that are closed now. A run costs two
+    /// Takes the next runs in, and appends the lines of the windows below `closed`. A run costs two
     /// steps, each now or later, and a window one, however many runs it has and however many windows have a run: each
     /// merge of two parts is a step. After want of memory store and text are only safe.
     pub(crate) fn take_runs<L: Ledger>(
@@ -33,16 +37,13 @@ impl Group<'_> {
         out: &mut Vec<u8>,
         steps: &mut Steps<L>,
     ) -> Result<(), NoMemory>
-        requires { (old : List Row) × (rows : List Row) × GoesOn (tree_of self.now) old rows store.old.next store.old.runs.entries runs.items closed }
-        ensures went_on { OnOk result ((old rows : List Row) → GoesOn (tree_of self.now) old rows store.old.next store.old.runs.entries runs.items closed
-            → WentOn (tree_of self.now) old rows store.old.next store.new.runs.entries closed store.new.next out.old.items out.new.items) }
+        requires { (m : Mark) × (all : List Row) × (o : ℕ) × (x : ℕ) × (y : ℕ) × GoesOn (tree_of self.now) m all o x y store.old.next store.old.runs.entries runs.items closed }
+        ensures went_on { OnOk result ((m : Mark) (all : List Row) (o x y : ℕ) → GoesOn (tree_of self.now) m all o x y store.old.next store.old.runs.entries runs.items closed
+            → WentOn (tree_of self.now) m all (o + y) store.old.next store.new.runs.entries closed store.new.next out.old.items out.new.items) }
         ensures steps { OnOk result (steps.new + store.new.runs.owed + store.old.next ≤ steps.old + store.old.runs.owed + 2 * length runs.items + store.new.next) }
     {
         self.has_window();
-        closed_stay();
-        groups_join();
         merge_has_unit();
-        merge_is_associative();
         small_parts_merge();
         for run in runs {
             store.close_lines(alloc, self.plan, run.first, out, steps)?;
@@ -62,14 +63,62 @@ impl Group<'_> {
         out: &mut Vec<u8>,
         blank: Blank,
     ) -> Result<(), NoMemory>
-        requires goes_on { (old : List Row) × (rows : List Row) × GoesOn (tree_of self.now) old rows store.old.next store.old.runs.entries runs.items closed }
+        requires goes_on { (m : Mark) × (all : List Row) × (o : ℕ) × (x : ℕ) × (y : ℕ) × GoesOn (tree_of self.now) m all o x y store.old.next store.old.runs.entries runs.items closed }
         requires name { blank.name ≡ L.name }
         requires parts { blank.parts ≡ L.parts }
         requires some { 0 < blank.parts }
-        ensures { OnOk result ((old rows : List Row) → GoesOn (tree_of self.now) old rows store.old.next store.old.runs.entries runs.items closed
-            → WentOn (tree_of self.now) old rows store.old.next store.new.runs.entries closed store.new.next out.old.items out.new.items) }
+        ensures { OnOk result ((m : Mark) (all : List Row) (o x y : ℕ) → GoesOn (tree_of self.now) m all o x y store.old.next store.old.runs.entries runs.items closed
+            → WentOn (tree_of self.now) m all (o + y) store.old.next store.new.runs.entries closed store.new.next out.old.items out.new.items) }
     {
         let mut steps = Steps::<L>::new(blank);
         self.take_runs(alloc, store, runs, closed, out, &mut steps)
+    }
+
+    // The piece of a task that answers windows itself: the store's windows get their last runs, and what the task leaves open is the
+    // store's then.
+    fn take_complete(
+        &self,
+        alloc: Global,
+        store: &mut Open,
+        runs: Vec<Run>,
+        complete: Complete,
+        out: &mut Vec<u8>,
+    ) -> Result<(), NoMemory>
+        requires { (old : List Row) × (rows : List Row) × (ended : Bool) × (closed : ℕ) × Comes (tree_of self.now) old rows ended store.old.next store.old.runs.entries runs.items (Some complete) closed }
+        ensures { OnOk result ((old rows : List Row) (ended : Bool) (closed : ℕ) → Comes (tree_of self.now) old rows ended store.old.next store.old.runs.entries runs.items (Some complete) closed
+            → Came (tree_of self.now) old rows store.old.next store.new.runs.entries closed store.new.next out.old.items out.new.items) }
+    {
+        groups_join();
+        merge_has_unit();
+        merge_is_associative();
+        self.take_uncounted::<Brand>(alloc, store, runs, complete.low, out, Blank::new(1))?;
+        out.extend_from_slice(&complete.text)?;
+        *store = complete.open;
+        Ok(())
+    }
+
+    /// Takes the piece of the next task in, and appends the lines of the windows below `closed`. After want of memory store and text
+    /// are only safe.
+    pub(crate) fn take_piece(
+        &self,
+        alloc: Global,
+        store: &mut Open,
+        piece: RunPiece,
+        closed: u64,
+        out: &mut Vec<u8>,
+    ) -> Result<(), NoMemory>
+        requires { (old : List Row) × (rows : List Row) × (ended : Bool) × Comes (tree_of self.now) old rows ended store.old.next store.old.runs.entries piece.runs.items piece.complete closed }
+        ensures { OnOk result ((old rows : List Row) (ended : Bool) → Comes (tree_of self.now) old rows ended store.old.next store.old.runs.entries piece.runs.items piece.complete closed
+            → Came (tree_of self.now) old rows store.old.next store.new.runs.entries closed store.new.next out.old.items out.new.items) }
+    {
+        self.has_window();
+        closed_stay();
+        groups_join();
+        merge_is_associative();
+        let RunPiece { runs, complete, .. } = piece;
+        match complete {
+            Some(complete) => self.take_complete(alloc, store, runs, complete, out),
+            None => { self.take_uncounted::<Brand>(alloc, store, runs, closed, out, Blank::new(1)) }
+        }
     }
 }

@@ -31,6 +31,20 @@ pub(crate) struct Run {
     pub(crate) part: Partial,
 }
 
+impl Run {
+    /// The same with memory of its own.
+    pub(crate) fn copy(&self, alloc: Global) -> Result<Run, NoMemory>
+        ensures { IfOk result (λ r. r ≡ self.now) }
+    {
+        Ok(Run {
+            first: self.first,
+            past: self.past,
+            end: self.end,
+            part: self.part.copy(alloc)?,
+        })
+    }
+}
+
 impl Group<'_> {
     // Whether a row counts: if it is wanted, and passes WHERE.
     #[inline]

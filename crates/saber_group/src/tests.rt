@@ -236,6 +236,34 @@ fn runs(alloc: Global, plan: &Plan, tasks: &[&[(u32, i64, i64)]]) -> Result<Vec<
     Ok(out)
 }
 
+// What these tasks answer themselves, and what they leave open then, as the lines that its windows would print now.
+fn answered(
+    alloc: Global,
+    plan: &Plan,
+    tasks: &[&[(u32, i64, i64)]],
+    begun: u64,
+) -> Result<(Vec<u8>, Vec<u8>), NoMemory>
+    requires checked { IsChecked (tree_of plan.now) }
+    requires group { (tree_of plan.now).shape ≡ shapes.Group }
+    requires columns { columns_on (tree_of plan.now).streams sides.Left ≡ 3 }
+{
+    checked_fit();
+    let mut text = Vec::new(alloc);
+    let mut open = Vec::new(alloc);
+    for piece in pieces(alloc, &Group::new(plan), tasks)? {
+        let RunPiece { complete, .. } = piece;
+        if let Some(complete) = complete {
+            text.extend_from_slice(&complete.text)?;
+            let store = RunStore {
+                windows: complete.open,
+                begun,
+            };
+            open.extend_from_slice(&held::<Brand>(alloc, plan, store, Blank::new(1))?)?;
+        }
+    }
+    Ok((text, open))
+}
+
 const ROWS: [(u32, i64, i64); 5] = [(0, 1, 10), (1, 1, 20), (2, 2, 5), (2, 1, 7), (9, 2, 1)];
 
 // The tasks of a query write this text, and leave these parts open.
@@ -296,6 +324,36 @@ fn runs_of_tasks_of_two_rows(rt: HostRuntime) -> Result<(), Fail> {
         shown.as_slice(),
         b"0,1,10\n0,1,20\n1,1,20\n\n0,2,5\n1,2,5\n2,2,5\n1,1,7\n2,1,7\n3,1,7\n\n2,2,1\n3,2,1\n4,2,1\n\n".as_slice()
     );
+    Ok(())
+}
+
+// Of four rows behind one, windows 1 and 2 have no other: their text is made with them. Window 0 gets the runs of the
+// first two rows, and windows 3 and 4 are open.
+#[test]
+fn windows_that_lie_whole_in_a_task(rt: HostRuntime) -> Result<(), Fail> {
+    let alloc = rt.alloc();
+    let plan = sums(alloc)?;
+    let tasks: &[&[(u32, i64, i64)]] = &[&ROWS[..1], &ROWS[1..]];
+    let shown = runs(alloc, &plan, tasks)?;
+    assert_eq!(&rt;
+        shown.as_slice(),
+        b"0,1,10\n\n0,1,20\n1,1,20\n0,2,5\n1,2,5\n2,2,5\n\n".as_slice()
+    );
+    let (text, open) = answered(alloc, &plan, tasks, 5)?;
+    assert_eq!(&rt;
+        text.as_slice(),
+        b"1,1,27\n1,2,5\n2,1,7\n2,2,6\n".as_slice()
+    );
+    assert_eq!(&rt; open.as_slice(), b"3,1,7\n3,2,1\n4,2,1\n".as_slice());
+    check(
+        &rt,
+        alloc,
+        &plan,
+        tasks,
+        false,
+        "0,1,30\n0,2,5\n1,1,27\n1,2,5\n2,1,7\n2,2,6\n",
+        "3,1,7\n3,2,1\n4,2,1\n",
+    )?;
     Ok(())
 }
 

@@ -1,10 +1,9 @@
-use Rattle.std.proofs.Common.{◌≡◌, ℕ, ◌+◌, ◌<◌, List, ◌++◌, length, take, refl, sym, ap, subst, arith}
+use Rattle.std.proofs.Common.{◌≡◌, ℕ, ◌+◌, ◌<◌, List, ◌++◌, length, take, sym, ap, subst, arith}
 use Rattle.std.specs.Vec.Iter.{into_iter_items}
 use Rattle.saber_plan.specs.declared.rows.Row.{Row}
 use Rattle.saber_plan.specs.declared.plans.Plan.{Plan}
 use Rattle.saber_plan.specs.declared.windows.Mark.{Mark}
 use Rattle.saber_plan.specs.Trees.{tree_of}
-use Rattle.saber_plan.specs.Windows.{no_rows}
 use Rattle.saber_group.specs.RunParts.{part_of, lines_between, Holds}
 use Rattle.saber_group.proofs.RunsTaken.{Along, along_nil, along_below, along_can, along_more, along_holds, along_done, all_given}
 use Rattle.saber_group.proofs.group.Group.take_runs.Goals as goal
@@ -13,50 +12,48 @@ pub loop-run-init : goal.loop-run-init
 loop-run-init g c =
     let all = c.into_iter-run-iterator.ensures.into_iter_gives.0 in
     let q = tree_of c.args.self.now in
+    let s = c.args.store.now in
     record {
       can = tt;
       finite = tt;
-      along = λ old rows given. subst (λ l. Along q old rows c.args.store.now.next c.args.store.now.next c.args.store.now.runs.entries l c.args.closed c.args.out.now.items c.args.out.now.items) (sym all) (along_nil q old rows c.args.store.now.next c.args.store.now.runs.entries c.args.runs.items c.args.closed c.args.out.now.items given);
+      along = λ m xs o x y given. subst (λ l. Along q m xs o y s.next s.next s.runs.entries l c.args.closed c.args.out.now.items c.args.out.now.items) (sym all) (along_nil q m xs o x y s.next s.runs.entries c.args.runs.items c.args.closed c.args.out.now.items given);
       steps = let long = ap length all in omega (arith, long);
     }
 
 pub take_in-requires : goal.take_in-requires
 take_in-requires g c =
     let q = tree_of c.args.self.now in
-    let old = c.requires.0 in
-    let rows = c.requires.1 in
-    let given = c.requires.2 in
+    let (m, xs, o, x, y, given) = c.requires in
     let s = c.loop-run.store in
     let new = c.close_lines.new.self in
     let r = c.in-Some.run' in
     let left = c.in-Some.ensures.steps.0 in
-    let a = subst (λ l. Along q old rows c.args.store.now.next s.next s.runs.entries l c.args.closed c.args.out.now.items c.loop-run.out.items) left (c.loop-run.invariant.along old rows given) in
+    let a = subst (λ l. Along q m xs o y c.args.store.now.next s.next s.runs.entries l c.args.closed c.args.out.now.items c.loop-run.out.items) left (c.loop-run.invariant.along m xs o x y given) in
     let held = subst (λ (p : Plan). (m : Mark) (xs : List Row) → Holds (tree_of p) m xs s.next s.runs.entries → Holds (tree_of p) m xs new.next new.runs.entries) c.self.view_is c.in_ok-close_lines.ensures.runs in
-    along_can q c.has_window.ensures.window old rows c.args.store.now.next s.next s.runs.entries r (into_iter_items c.next.new.self) c.args.closed c.args.out.now.items c.loop-run.out.items given.fits a
-    c.groups_join.ensures c.merge_is_associative.ensures c.small_parts_merge.ensures new.next new.runs.entries (held no_rows (take (length old + a.x) (old ++ rows)) a.holds)
+    along_can q c.has_window.ensures.window m xs o y c.args.store.now.next s.next s.runs.entries r (into_iter_items c.next.new.self) c.args.closed c.args.out.now.items c.loop-run.out.items given.fits a
+    c.small_parts_merge.ensures new.next new.runs.entries (held m (take (o + a.x) xs) a.holds)
 
 pub loop-run-preserved : goal.loop-run-preserved
 loop-run-preserved g c =
     let q = tree_of c.args.self.now in
+    let w = c.has_window.ensures.window in
     let s = c.loop-run.store in
     let new = c.close_lines.new.self in
     let r = c.in-Some.run' in
     let left = c.in-Some.ensures.steps.0 in
     let rest = into_iter_items c.next.new.self in
-    let join = c.groups_join.ensures in
-    let assoc = c.merge_is_associative.ensures in
     let held = subst (λ (p : Plan). (m : Mark) (xs : List Row) → Holds (tree_of p) m xs s.next s.runs.entries → Holds (tree_of p) m xs new.next new.runs.entries) c.self.view_is c.in_ok-close_lines.ensures.runs in
     let text = subst (λ (p : Plan). (m : Mark) (xs all : List Row) → Holds (tree_of p) m xs s.next s.runs.entries → ((i : ℕ) → i < r.first → part_of (tree_of p) i m xs ≡ part_of (tree_of p) i m all) → c.close_lines.new.out.items ≡ c.loop-run.out.items ++ lines_between (tree_of p) m all s.next new.next) c.self.view_is c.in_ok-close_lines.ensures.text in
     record {
       can = tt;
       finite = tt;
-      along = λ old rows given.
-          let a = subst (λ l. Along q old rows c.args.store.now.next s.next s.runs.entries l c.args.closed c.args.out.now.items c.loop-run.out.items) left (c.loop-run.invariant.along old rows given) in
-          let xs = take (length old + a.x) (old ++ rows) in
-          along_more q c.has_window.ensures.window old rows c.args.store.now.next s.next s.runs.entries r rest c.args.closed c.args.out.now.items c.loop-run.out.items given.fits a
-          join assoc c.merge_has_unit.ensures c.small_parts_merge.ensures c.closed_stay.ensures c.has_window.ensures.fits given.reaches new.next c.take_in.new.self.next new.runs.entries c.take_in.new.self.runs.entries c.close_lines.new.out.items
-          c.in_ok-close_lines.ensures.next c.in_ok-take_in.ensures.next (held no_rows xs a.holds) c.in_ok-take_in.ensures.runs
-          (text no_rows xs (old ++ rows) a.holds (along_below q c.has_window.ensures.window old rows c.args.store.now.next s.next s.runs.entries r rest c.args.closed c.args.out.now.items c.loop-run.out.items given.fits a join assoc));
+      along = λ m xs o x y given.
+          let a = subst (λ l. Along q m xs o y c.args.store.now.next s.next s.runs.entries l c.args.closed c.args.out.now.items c.loop-run.out.items) left (c.loop-run.invariant.along m xs o x y given) in
+          let front = take (o + a.x) xs in
+          along_more q w m xs o y c.args.store.now.next s.next s.runs.entries r rest c.args.closed c.args.out.now.items c.loop-run.out.items given.fits a
+          c.merge_has_unit.ensures c.small_parts_merge.ensures new.next c.take_in.new.self.next new.runs.entries c.take_in.new.self.runs.entries c.close_lines.new.out.items
+          c.in_ok-close_lines.ensures.next c.in_ok-take_in.ensures.next (held m front a.holds) c.in_ok-take_in.ensures.runs
+          (text m front xs a.holds (along_below q w m xs o y c.args.store.now.next s.next s.runs.entries r rest c.args.closed c.args.out.now.items c.loop-run.out.items given.fits a));
       steps =
           let used = c.loop-run.invariant.steps in
           let long = ap length left in
@@ -74,11 +71,11 @@ returns-clause-went_on g c =
     let none = all_given c.loop-run.run-iterator c.in-None.ensures.steps.0 in
     let held = subst (λ (p : Plan). (m : Mark) (xs : List Row) → Holds (tree_of p) m xs s.next s.runs.entries → Holds (tree_of p) m xs new.next new.runs.entries) c.self.view_is c.in_ok-close_lines-2.ensures.runs in
     let text = subst (λ (p : Plan). (m : Mark) (xs all : List Row) → Holds (tree_of p) m xs s.next s.runs.entries → ((i : ℕ) → i < c.args.closed → part_of (tree_of p) i m xs ≡ part_of (tree_of p) i m all) → c.close_lines-2.new.out.items ≡ c.loop-run.out.items ++ lines_between (tree_of p) m all s.next new.next) c.self.view_is c.in_ok-close_lines-2.ensures.text in
-    λ old rows given.
-    let a = subst (λ l. Along q old rows c.args.store.now.next s.next s.runs.entries l c.args.closed c.args.out.now.items c.loop-run.out.items) none (c.loop-run.invariant.along old rows given) in
-    let h = along_holds q old rows c.args.store.now.next s.next s.runs.entries c.args.closed c.args.out.now.items c.loop-run.out.items a in
-    along_done q old rows c.args.store.now.next s.next s.runs.entries c.args.closed c.args.out.now.items c.loop-run.out.items a new.next new.runs.entries c.close_lines-2.new.out.items
-    c.in_ok-close_lines-2.ensures.next (held no_rows (old ++ rows) h) (text no_rows (old ++ rows) (old ++ rows) h (λ i l. refl))
+    λ m xs o x y given.
+    let a = subst (λ l. Along q m xs o y c.args.store.now.next s.next s.runs.entries l c.args.closed c.args.out.now.items c.loop-run.out.items) none (c.loop-run.invariant.along m xs o x y given) in
+    let h = along_holds q m xs o y c.args.store.now.next s.next s.runs.entries c.args.closed c.args.out.now.items c.loop-run.out.items a in
+    along_done q m xs o y c.args.store.now.next s.next s.runs.entries c.args.closed c.args.out.now.items c.loop-run.out.items a new.next new.runs.entries c.close_lines-2.new.out.items
+    c.in_ok-close_lines-2.ensures.next (held m (take (o + y) xs) h) (text m (take (o + y) xs) xs h given.settled)
 
 pub returns-clause-steps : goal.returns-clause-steps
 returns-clause-steps g c =

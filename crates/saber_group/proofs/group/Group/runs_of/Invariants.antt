@@ -4,7 +4,7 @@ use Rattle.saber_plan.specs.Windows.{mark_after}
 use Rattle.saber_plan.specs.Parts.{no_part}
 use Rattle.saber_group.specs.declared.runs.Run.{Run}
 use Rattle.saber_group.specs.RunPieces.{RunsFrom}
-use Rattle.saber_group.proofs.group.Group.piece_of.Given as goal
+use Rattle.saber_group.proofs.group.Group.runs_of.Given as goal
 
 abbrev pub invariant-loop-from : goal.invariant-loop-from
 invariant-loop-from l = record {
