@@ -13,6 +13,7 @@ use Rattle.saber_plan.specs.Given.{RowsFit}
 use Rattle.saber_plan.specs.Tasks.{Parts, full, numbered}
 use Rattle.saber_sliding.specs.Entries.{Entries, part_at}
 use Rattle.saber_group.specs.declared.complete.Complete.{Complete}
+use Rattle.saber_group.specs.declared.open.Open.{Open}
 use Rattle.saber_group.specs.declared.runs.Run.{Run}
 use Rattle.saber_group.specs.declared.run_stores.RunStore.{RunStore}
 use Rattle.saber_group.specs.RunParts.{begun_by, closed_by, lines_between, Holds, IsRun, Settled}
@@ -51,6 +52,15 @@ pub record WentOn (q : Tree) (m : Mark) (all : List Row) (z next : ℕ) (new : E
   pub done_is : done ≡ closed
   pub text : after ≡ before ++ lines_between q m all next closed
 
+-- the store can take these runs in, as those of some rows
+abbrev pub CanGoOn : Tree → Open → List Run → ℕ → Type 0
+CanGoOn q s runs closed = (m : Mark) × (all : List Row) × (o : ℕ) × (x : ℕ) × (y : ℕ) × GoesOn q m all o x y s.next s.runs.entries runs closed
+
+-- it has taken them in, whatever rows they are of
+abbrev pub HasGoneOn : Tree → Open → List Run → ℕ → Open → List ℕ → List ℕ → Type 0
+HasGoneOn q s runs closed new before after = (m : Mark) (all : List Row) (o x y : ℕ) → GoesOn q m all o x y s.next s.runs.entries runs closed
+    → WentOn q m all (o + y) s.next new.runs.entries closed new.next before after
+
 -- ---- pieces that come
 
 -- A store has taken in some rows, and the windows below `next` are done. This is what the piece of the next rows has, and how many
@@ -67,3 +77,12 @@ pub record Comes (q : Tree) (old rows : List Row) (ended : Bool) (next : ℕ) (e
 -- it has taken in these rows too
 abbrev pub Came : Tree → List Row → List Row → ℕ → Entries → ℕ → ℕ → List ℕ → List ℕ → Type 0
 Came q old rows next new closed done before after = WentOn q no_rows (old ++ rows) (length (old ++ rows)) next new closed done before after
+
+-- the store can take this piece in, as that of some rows behind others
+abbrev pub CanCome : Tree → Open → List Run → Option Complete → ℕ → Type 0
+CanCome q s runs complete closed = (old : List Row) × (rows : List Row) × (ended : Bool) × Comes q old rows ended s.next s.runs.entries runs complete closed
+
+-- it has taken it in, whatever rows it is of
+abbrev pub HasCome : Tree → Open → List Run → Option Complete → ℕ → Open → List ℕ → List ℕ → Type 0
+HasCome q s runs complete closed new before after = (old rows : List Row) (ended : Bool) → Comes q old rows ended s.next s.runs.entries runs complete closed
+    → Came q old rows s.next new.runs.entries closed new.next before after

@@ -55,7 +55,7 @@ fn closing_end(runs: &[Run], low: u64) -> usize
 
 impl Group<'_> {
     /// What a task answers itself, of its runs: the windows from `low` up to `high`, which are those that lie whole in it. It takes its
-    /// runs in as the store would, and as many steps. The windows below have the runs that are given back, which are copies.
+    /// runs in as the store would, in as many steps. The windows below have the runs that are given back, which are copies.
     pub(crate) fn completed(
         &self,
         alloc: Global,

@@ -1,9 +1,7 @@
 // What is kept from task to task: the runs that open windows have.
-ghost use Rattle.std.specs.Prelude.{◌≡◌, ◌≤◌, ◌<◌, ◌+◌, ◌*◌, ℕ, Bool, List, Some, length, OnOk};
-ghost use Rattle.saber_plan.specs.declared.rows.Row.{Row};
-ghost use Rattle.saber_plan.specs.declared.windows.Mark.{Mark};
+ghost use Rattle.std.specs.Prelude.{◌≡◌, ◌≤◌, ◌<◌, ◌+◌, ◌*◌, ℕ, Some, length, OnOk};
 ghost use Rattle.saber_plan.specs.Trees.{tree_of};
-ghost use Rattle.saber_group.specs.RunStores.{Came, Comes, GoesOn, WentOn};
+ghost use Rattle.saber_group.specs.RunStores.{CanCome, CanGoOn, HasCome, HasGoneOn};
 
 use crate::complete::Complete;
 use crate::group::Group;
@@ -37,9 +35,8 @@ impl Group<'_> {
         out: &mut Vec<u8>,
         steps: &mut Steps<L>,
     ) -> Result<(), NoMemory>
-        requires { (m : Mark) × (all : List Row) × (o : ℕ) × (x : ℕ) × (y : ℕ) × GoesOn (tree_of self.now) m all o x y store.old.next store.old.runs.entries runs.items closed }
-        ensures went_on { OnOk result ((m : Mark) (all : List Row) (o x y : ℕ) → GoesOn (tree_of self.now) m all o x y store.old.next store.old.runs.entries runs.items closed
-            → WentOn (tree_of self.now) m all (o + y) store.old.next store.new.runs.entries closed store.new.next out.old.items out.new.items) }
+        requires { CanGoOn (tree_of self.now) store.old runs.items closed }
+        ensures went_on { OnOk result (HasGoneOn (tree_of self.now) store.old runs.items closed store.new out.old.items out.new.items) }
         ensures steps { OnOk result (steps.new + store.new.runs.owed + store.old.next ≤ steps.old + store.old.runs.owed + 2 * length runs.items + store.new.next) }
     {
         self.has_window();
@@ -63,12 +60,11 @@ impl Group<'_> {
         out: &mut Vec<u8>,
         blank: Blank,
     ) -> Result<(), NoMemory>
-        requires goes_on { (m : Mark) × (all : List Row) × (o : ℕ) × (x : ℕ) × (y : ℕ) × GoesOn (tree_of self.now) m all o x y store.old.next store.old.runs.entries runs.items closed }
+        requires goes_on { CanGoOn (tree_of self.now) store.old runs.items closed }
         requires name { blank.name ≡ L.name }
         requires parts { blank.parts ≡ L.parts }
         requires some { 0 < blank.parts }
-        ensures { OnOk result ((m : Mark) (all : List Row) (o x y : ℕ) → GoesOn (tree_of self.now) m all o x y store.old.next store.old.runs.entries runs.items closed
-            → WentOn (tree_of self.now) m all (o + y) store.old.next store.new.runs.entries closed store.new.next out.old.items out.new.items) }
+        ensures { OnOk result (HasGoneOn (tree_of self.now) store.old runs.items closed store.new out.old.items out.new.items) }
     {
         let mut steps = Steps::<L>::new(blank);
         self.take_runs(alloc, store, runs, closed, out, &mut steps)
@@ -84,9 +80,8 @@ impl Group<'_> {
         complete: Complete,
         out: &mut Vec<u8>,
     ) -> Result<(), NoMemory>
-        requires { (old : List Row) × (rows : List Row) × (ended : Bool) × (closed : ℕ) × Comes (tree_of self.now) old rows ended store.old.next store.old.runs.entries runs.items (Some complete) closed }
-        ensures { OnOk result ((old rows : List Row) (ended : Bool) (closed : ℕ) → Comes (tree_of self.now) old rows ended store.old.next store.old.runs.entries runs.items (Some complete) closed
-            → Came (tree_of self.now) old rows store.old.next store.new.runs.entries closed store.new.next out.old.items out.new.items) }
+        requires { (closed : ℕ) × CanCome (tree_of self.now) store.old runs.items (Some complete) closed }
+        ensures { OnOk result ((closed : ℕ) → HasCome (tree_of self.now) store.old runs.items (Some complete) closed store.new out.old.items out.new.items) }
     {
         groups_join();
         merge_has_unit();
@@ -107,9 +102,8 @@ impl Group<'_> {
         closed: u64,
         out: &mut Vec<u8>,
     ) -> Result<(), NoMemory>
-        requires { (old : List Row) × (rows : List Row) × (ended : Bool) × Comes (tree_of self.now) old rows ended store.old.next store.old.runs.entries piece.runs.items piece.complete closed }
-        ensures { OnOk result ((old rows : List Row) (ended : Bool) → Comes (tree_of self.now) old rows ended store.old.next store.old.runs.entries piece.runs.items piece.complete closed
-            → Came (tree_of self.now) old rows store.old.next store.new.runs.entries closed store.new.next out.old.items out.new.items) }
+        requires { CanCome (tree_of self.now) store.old piece.runs.items piece.complete closed }
+        ensures { OnOk result (HasCome (tree_of self.now) store.old piece.runs.items piece.complete closed store.new out.old.items out.new.items) }
     {
         self.has_window();
         closed_stay();

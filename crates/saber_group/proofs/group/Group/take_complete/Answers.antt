@@ -7,11 +7,11 @@ use Rattle.saber_group.proofs.group.Group.take_complete.Goals as goal
 pub take_uncounted-requires-clause-goes_on : goal.take_uncounted-requires-clause-goes_on
 take_uncounted-requires-clause-goes_on c =
     let s = c.args.store.now in
-    let (old, rows, ended, closed, g) = c.requires in
+    let (closed, (old, rows, ended, g)) = c.requires in
     (no_rows, old ++ rows, length old, 0, g.given.x, go_closing (tree_of c.args.self.now) old rows ended s.next s.runs.entries c.args.runs.items c.args.complete closed g c.groups_join.ensures c.merge_is_associative.ensures)
 
 pub returns : goal.returns
-returns c old rows ended closed g =
+returns c closed old rows ended g =
     let q = tree_of c.args.self.now in
     let s = c.args.store.now in
     let new = c.take_uncounted.new in

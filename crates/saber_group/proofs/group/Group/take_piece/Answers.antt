@@ -39,4 +39,4 @@ returns-in-Some c =
     let s = c.args.store.now in
     let runs = c.args.piece.runs.items in
     on_ok c.take_complete.result _ _ c.take_complete.ensures (λ went old rows ended g.
-    went old rows ended c.args.closed (subst (λ (o : Option Complete). Comes q old rows ended s.next s.runs.entries runs o c.args.closed) c.in-Some.is g))
+    went c.args.closed old rows ended (subst (λ (o : Option Complete). Comes q old rows ended s.next s.runs.entries runs o c.args.closed) c.in-Some.is g))
