@@ -26,7 +26,7 @@ use Rattle.saber_group.specs.declared.complete.Complete as completes
 use Rattle.saber_group.specs.declared.runs.Run.{Run}
 use Rattle.saber_group.specs.declared.run_pieces.RunPiece.{RunPiece}
 use Rattle.saber_group.specs.RunParts.{part_of, IsRun}
-use Rattle.saber_group.specs.RunPieces.{RunsTo, RunsFrom, IsOf, IsComplete, Given, part_in, whole_lines, shares_of_all, shares_of_some, shares_in}
+use Rattle.saber_group.specs.RunPieces.{RunsTo, RunsFrom, IsOf, IsComplete, Given, part_in, whole_lines, by_parts, given_shares, shares_of_some, shares_in}
 use Rattle.saber_group.proofs.Lasting.{part_nil}
 
 -- ---- runs add what the rows have that they are of
@@ -90,21 +90,6 @@ no_parts wanted f a b p h =
     (λ j. numbered c n (λ i. cond (h i j) (full (p i)) None)) ∙ none_left (from c n)
 
 -- ---- all windows
-
--- what a task gives, by each window's part
-abbrev by_parts : Tree → Mark → Mark → (ℕ → Part) → Shares
-by_parts q a b at = record {
-  closing = of_kind is_closing (frame q) a b at;
-  pending = of_kind is_pending (frame q) a b at;
-  opening = of_kind is_opening (frame q) a b at;
-  lines = whole_lines q a b at;
-  closed = closed_count (frame q) b;
-}
-
--- and by what a piece has, as `shares_in` does
-abbrev given_shares : Tree → Mark → Mark → List Run → Option completes.Complete → Shares
-given_shares q a b runs None = shares_of_all q a b runs
-given_shares q a b runs (Some c) = shares_of_some q a b runs c
 
 module _ (assoc : MergeIsAssociative) (unit : MergeHasUnit) (none : NoRowsNoPart) (closed_counted : ClosedAreCounted) (begun_counted : BegunAreCounted) (ranges : KindsAreRanges) (q : Tree) (fits : Fits (frame q)) (m : Mark) (rows : List Row) (ended : Bool) (order : Ordered m rows) where
   abbrev ends : Mark

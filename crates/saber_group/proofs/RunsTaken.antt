@@ -1,5 +1,5 @@
 -- Runs that are taken in, one after another, behind the rows of earlier tasks.
-use Rattle.std.proofs.Common.{◌≡◌, ℕ, suc, ◌+◌, ◌-◌, ◌^◌, ◌≤◌, ◌<◌, Result, Ok, Err, OnOk, List, [], ◌∷◌, ◌++◌, filter, flat_map, map, length, max, take, refl, sym, ◌∙◌, ap, subst, append-nil, append_assoc, arith}
+use Rattle.std.proofs.Common.{◌≡◌, ℕ, suc, ◌+◌, ◌-◌, ◌^◌, ◌≤◌, ◌<◌, List, [], ◌∷◌, ◌++◌, filter, flat_map, map, length, max, take, refl, sym, ◌∙◌, ap, subst, append-nil, append_assoc, arith}
 use Rattle.std.proofs.lemmas.List.{map-append, nil_from_length}
 use Rattle.std.proofs.Common.{Global}
 use Rattle.std.specs.Vec.Iter.{into_iter_len, into_iter_items}
@@ -174,8 +174,3 @@ module _ (q : Tree) (m : Mark) (all : List Row) (o y start next : ℕ) (es : Ent
 -- an iterator that gave all has nothing left
 pub all_given : {X : Type 0} (it : IntoIter X Global) → into_iter_len it ≡ 0 → into_iter_items it ≡ []
 all_given it e = nil_from_length _ (sym it.rest.ok.0 ∙ e)
-
--- what follows from what holds where all went well
-pub on_ok : {X E : Type 0} (r : Result X E) (P Q : Type 0) → OnOk r P → (P → Q) → OnOk r Q
-on_ok (Ok x) P Q h f = f h
-on_ok (Err e) P Q h f = h

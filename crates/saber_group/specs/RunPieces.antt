@@ -62,13 +62,13 @@ whole_lines q a b at =
     let g = begun_count (frame q) b in
     flat_map (λ i. part_lines q i (at i)) (filter (λ i. is_complete (kind_of (frame q) i a b)) (from c (g - c)))
 
--- each window has its runs merged, and goes where its kind says
-abbrev pub shares_of_all : Tree → Mark → Mark → List Run → Shares
-shares_of_all q a b runs = record {
-  closing = of_kind is_closing (frame q) a b (part_in runs);
-  pending = of_kind is_pending (frame q) a b (part_in runs);
-  opening = of_kind is_opening (frame q) a b (part_in runs);
-  lines = whole_lines q a b (part_in runs);
+-- each window's part goes where its kind says
+abbrev pub by_parts : Tree → Mark → Mark → (ℕ → Part) → Shares
+by_parts q a b at = record {
+  closing = of_kind is_closing (frame q) a b at;
+  pending = of_kind is_pending (frame q) a b at;
+  opening = of_kind is_opening (frame q) a b at;
+  lines = whole_lines q a b at;
   closed = closed_count (frame q) b;
 }
 
@@ -82,10 +82,11 @@ shares_of_some q a b runs c = record {
   closed = closed_count (frame q) b;
 }
 
-abbrev shares_by : Tree → Mark → Mark → List Run → Option Complete → Shares
-shares_by q a b runs None = shares_of_all q a b runs
-shares_by q a b runs (Some c) = shares_of_some q a b runs c
+-- each window has its runs merged, or else what the task has of it
+abbrev pub given_shares : Tree → Mark → Mark → List Run → Option Complete → Shares
+given_shares q a b runs None = by_parts q a b (part_in runs)
+given_shares q a b runs (Some c) = shares_of_some q a b runs c
 
 -- A piece, for the definitions.
 abbrev pub shares_in : Tree → RunPiece → Shares
-shares_in q p = shares_by q p.before p.after p.runs.items p.complete
+shares_in q p = given_shares q p.before p.after p.runs.items p.complete

@@ -1,12 +1,12 @@
 // What a task answers itself: the windows that lie whole in it.
-ghost use Rattle.std.specs.Prelude.{◌≡◌, ◌<◌, ◌≤◌, Some, length, take, IfOk};
+ghost use Rattle.std.specs.Prelude.{◌≡◌, ◌*◌, ◌≤◌, Some, length, take, IfOk, IfSome};
 ghost use Rattle.std.specs.List.{AllByRecursion, slice_get};
 ghost use Rattle.saber_plan.specs.Windows.{mark_after, ending, begun_count, closed_count};
 ghost use Rattle.saber_plan.specs.Answers.{frame};
 ghost use Rattle.saber_plan.specs.Trees.{tree_of};
 ghost use Rattle.saber_plan.specs.Given.{RowsFit};
 ghost use Rattle.saber_group.specs.declared.runs.Run.{Run};
-ghost use Rattle.saber_group.specs.RunPieces.{IsComplete, RunsFrom};
+ghost use Rattle.saber_group.specs.RunPieces.{Given, RunsFrom};
 
 use crate::batch::Batch;
 use crate::group::Group;
@@ -55,7 +55,8 @@ fn closing_end(runs: &[Run], low: u64) -> usize
 
 impl Group<'_> {
     /// What a task answers itself, of its runs: the windows from `low` up to `high`, which are those that lie whole in it. It takes its
-    /// runs in as the store would, in as many steps. The windows below have the runs that are given back, which are copies.
+    /// runs in as the store would, in as many steps. The windows below have the runs that are given back, which are copies. Where
+    /// these would be more than half, or no window lies whole, the runs are given back as they are: so a run costs three steps at most.
     pub(crate) fn completed(
         &self,
         alloc: Global,
@@ -63,23 +64,26 @@ impl Group<'_> {
         runs: Vec<Run>,
         low: u64,
         high: u64,
-    ) -> Result<(Vec<Run>, Complete), NoMemory>
+    ) -> Result<(Vec<Run>, Option<Complete>), NoMemory>
         requires fits { RowsFit (tree_of self.now) batch.now.before batch.now.rows.now }
         requires runs { RunsFrom (tree_of self.now) batch.now.before batch.now.rows.now 0 runs.items }
         requires low { low ≡ begun_count (frame (tree_of self.now)) batch.now.before }
         requires high { high ≡ closed_count (frame (tree_of self.now)) (ending batch.now.ended (mark_after batch.now.before batch.now.rows.now)) }
-        requires order { low ≤ high }
-        requires some { 0 < length batch.now.rows.now }
-        ensures { IfOk result (λ r. IsComplete (tree_of self.now) batch.now.before batch.now.rows.now batch.now.ended r.0.items r.1) }
+        ensures given { IfOk result (λ r. Given (tree_of self.now) batch.now.before batch.now.rows.now batch.now.ended r.0.items r.1) }
+        ensures few { IfOk result (λ r. IfSome r.1 (λ c. 2 * length r.0.items ≤ length runs.items)) }
     {
         self.has_window();
         closed_stay();
         ends_close_more();
         no_rows_no_part();
-        let closing = copied(alloc, &runs[..closing_end(&runs, low)])?;
+        let count = closing_end(&runs, low);
+        if high <= low || batch.rows.len() == 0 || runs.len() / 2 < count {
+            return Ok((runs, None));
+        }
+        let closing = copied(alloc, &runs[..count])?;
         let mut text = Vec::new(alloc);
         let mut open = Open::new(alloc, low);
         self.take_uncounted::<Brand>(alloc, &mut open, runs, high, &mut text, Blank::new(1))?;
-        Ok((closing, Complete { low, text, open }))
+        Ok((closing, Some(Complete { low, text, open })))
     }
 }

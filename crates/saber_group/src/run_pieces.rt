@@ -1,5 +1,5 @@
 // What a task gives: its runs.
-ghost use Rattle.std.specs.Prelude.{◌≡◌, ◌≤◌, true, IfOk};
+ghost use Rattle.std.specs.Prelude.{◌≡◌, ◌≤◌, IfOk};
 ghost use Rattle.saber_plan.specs.Trees.{tree_of};
 ghost use Rattle.saber_plan.specs.Windows.{mark_after};
 ghost use Rattle.saber_plan.specs.Given.{RowsFit};
@@ -57,14 +57,6 @@ impl Group<'_> {
         Ok((runs, mark))
     }
 
-    // Whether the windows from `low` up to `high`, which lie whole in a task, are more than those that are open before it. Else its
-    // runs are mostly of windows that other tasks have too, and to copy them costs more than is shared out.
-    fn has_more_complete(&self, before: &Mark, low: u64, high: u64) -> bool
-        ensures { result ≡ true → low ≤ high }
-    {
-        low < high && high - low > low.saturating_sub(self.closed_below(before))
-    }
-
     /// The piece of a task.
     pub(crate) fn piece_of(&self, alloc: Global, batch: &Batch) -> Result<RunPiece, NoMemory>
         requires { RowsFit (tree_of self.now) batch.now.before batch.now.rows.now }
@@ -75,18 +67,10 @@ impl Group<'_> {
         let after = ending(batch.ended, &mark);
         let low = self.begun_below(&before);
         let high = self.closed_below(&after);
-        if batch.rows.len() == 0 || !self.has_more_complete(&before, low, high) {
-            return Ok(RunPiece {
-                runs,
-                complete: None,
-                before,
-                after,
-            });
-        }
-        let (closing, complete) = self.completed(alloc, batch, runs, low, high)?;
+        let (runs, complete) = self.completed(alloc, batch, runs, low, high)?;
         Ok(RunPiece {
-            runs: closing,
-            complete: Some(complete),
+            runs,
+            complete,
             before,
             after,
         })
