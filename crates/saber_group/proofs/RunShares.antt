@@ -15,7 +15,7 @@ use Rattle.saber_plan.specs.Answers.{by_shape, frame, passing, selected}
 use Rattle.saber_plan.specs.Parts.{Part, no_part, merge, group_part, pair_part, part_lines}
 use Rattle.saber_plan.specs.Tasks.{full, numbered}
 use Rattle.saber_plan.specs.Needs.{is_closing, is_pending, is_opening, of_kind, part_here}
-use Rattle.saber_plan.specs.Shares.{Shares, shares_here}
+use Rattle.saber_plan.specs.Shares.{shares_here}
 use Rattle.saber_plan.specs.RowFacts.{task_fits}
 use Rattle.saber_fragment.specs.Drafts.{Sight, IsWhole}
 use Rattle.saber_laws.specs.Parts.{MergeHasUnit, MergeIsAssociative, NoRowsNoPart}
