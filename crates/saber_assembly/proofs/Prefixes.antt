@@ -1,6 +1,7 @@
 -- Prefixes of what is written.
-use Rattle.std.proofs.Common.{◌≡◌, ℕ, List, Option, subst}
+use Rattle.std.proofs.Common.{◌≡◌, ℕ, List, [], ◌++◌, Option, ◌∙◌, ap, subst}
 use Rattle.saber_io.specs.Outside.{AppendsPrefix}
 
-pub prefix_as : (old had new : Option (List ℕ)) (text t : List ℕ) → old ≡ had → text ≡ t → AppendsPrefix old new text → AppendsPrefix had new t
-prefix_as old had new text t e f p = subst (λ o. AppendsPrefix o new t) e (subst (AppendsPrefix old new) f p)
+-- of a text that was empty before this much was added, a prefix went out
+pub prefix_as : (old new : Option (List ℕ)) (text out start adds : List ℕ) → text ≡ out → out ≡ start ++ adds → start ≡ [] → AppendsPrefix old new text → AppendsPrefix old new adds
+prefix_as old new text out start adds e f none p = subst (AppendsPrefix old new) (e ∙ f ∙ ap (λ l. l ++ adds) none) p

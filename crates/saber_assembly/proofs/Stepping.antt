@@ -43,13 +43,17 @@ stopped_if : (r : Absorbed) → (r ≡ Done → ⊥) → r ≡ Stopped
 stopped_if Done h = absurd (h refl)
 stopped_if Stopped h = refl
 
-module _ (cuts : CutsRise) (goes : TextGoesOn) (opens : OpenGoesOn) (make : SharesMakePiece) (q : Tree) (n : ℕ) (r : Input) (start : Start) (old new : StageView) (result : Absorbed) (s : Shares)
-    (t : Tasks q n r) (a : After q n r start old Running) (e : s ≡ shares_between q r (cut n r old.k) (cut n r (old.k + 1))) (h : Step q old new result s) where
+module _ (cuts : CutsRise) (goes : TextGoesOn) (opens : OpenGoesOn) (make : SharesMakePiece) (q : Tree) (n : ℕ) (r : Input) (start : Start) (old new : StageView) (result : Absorbed)
+    (t : Tasks q n r) (a : After q n r start old Running) (h : Step q old new result (shares_between q r (cut n r old.k) (cut n r (old.k + 1)))) where
+  -- what the next task gives
+  abbrev s : Shares
+  s = shares_between q r (cut n r old.k) (cut n r (old.k + 1))
+
   rises : cut n r old.k ≤ cut n r (old.k + 1)
   rises = cuts n r old.k (old.k + 1) (omega arith)
 
   step_piece : piece_in s ≡ piece_between q r (cut n r old.k) (cut n r (old.k + 1))
-  step_piece = ap piece_in e ∙ make q r (cut n r old.k) (cut n r (old.k + 1)) (record { fits = t.windows; ordered = t.fits.ordered; rises = rises })
+  step_piece = make q r (cut n r old.k) (cut n r (old.k + 1)) (record { fits = t.windows; ordered = t.fits.ordered; rises = rises })
 
   step_text : text q (upto n r (old.k + 1)) ≡ text q (upto n r old.k) ++ written_by q old.parts (piece_in s)
   step_text = goes q t.windows r (cut n r old.k) (cut n r (old.k + 1)) t.fits.ordered rises

@@ -1,17 +1,14 @@
 -- The result stage as contracts see it, and where it stands after some tasks.
-use Rattle.std.specs.Prelude.{◌≡◌, ◌≤◌, ℕ, ◌+◌, Bool, List, ◌++◌, Option, IfSome}
+use Rattle.std.specs.Prelude.{◌≡◌, ◌≤◌, ℕ, ◌+◌, List, ◌++◌, Option, IfSome}
 use Rattle.saber_io.specs.Outside.{Rose, appended, AppendsPrefix}
-use Rattle.saber_plan.specs.declared.rows.Row.{Row}
-use Rattle.saber_plan.specs.declared.windows.Mark.{Mark}
 use Rattle.saber_plan.specs.Inputs.{Input}
 use Rattle.saber_plan.specs.Trees.{Tree}
 use Rattle.saber_plan.specs.Answers.{text, frame}
 use Rattle.saber_plan.specs.Given.{RowsFit}
-use Rattle.saber_plan.specs.Windows.{Fits, no_rows, mark_at}
+use Rattle.saber_plan.specs.Windows.{Fits, no_rows}
 use Rattle.saber_plan.specs.Tasks.{Parts, cut, upto, unclosed, written_by, left_by}
-use Rattle.saber_plan.specs.Needs.{task_rows}
-use Rattle.saber_plan.specs.Shares.{Shares, shares_between, piece_in}
-use Rattle.saber_fragment.specs.Stores.{CanTakeIn, TakesIn}
+use Rattle.saber_plan.specs.Shares.{Shares, piece_in}
+use Rattle.saber_fragment.specs.Stores.{CanTakeIn, ByShares, TakesIn}
 use Rattle.saber_assembly.specs.declared.stage.Stage.{Stage}
 use Rattle.saber_assembly.specs.declared.stage.State.{State}
 use Rattle.saber_assembly.specs.declared.stage.State.TheVariants.{Running, SinkFailed, NoMemory}
@@ -64,10 +61,9 @@ pub record Keeps (q : Tree) (n : ℕ) (r : Input) (start : Start) (taken : Input
   pub after : After q n r start s s.state
   pub taken_is : s.state ≡ Running → taken (upto n r s.k)
 
--- a piece of task k, by its shares and by what it knows of its rows
-pub record IsPieceAt (q : Tree) (n : ℕ) (r : Input) (k : ℕ) (s : Shares) (of : Mark → List Row → Bool → Type 0) : Type 0 where
-  pub shares_are : s ≡ shares_between q r (cut n r k) (cut n r (k + 1))
-  pub of_is : of (mark_at r (cut n r k)) (task_rows n r k) (upto n r (k + 1)).ended
+-- the piece of task k, by what it is of
+abbrev pub IsPieceAt : ℕ → Input → ℕ → (Input → ℕ → ℕ → Type 0) → Type 0
+IsPieceAt n r k of = of r (cut n r k) (cut n r (k + 1))
 
 module _ (q : Tree) (held : Parts) (s : Shares) where
   -- over these open parts, what a piece of such shares adds to the text went out
@@ -84,28 +80,31 @@ module _ (q : Tree) (held : Parts) (s : Shares) where
 
 -- ---- a step of the stage, from s to t, by what its operator tells of stores and pieces
 
-module _ {O S P : Type 0} (plan : O → Tree) (held : S → Parts) (shares : O → P → Shares) where
-  module _ {K : Type 0} (op : O) where
+module _ {O S P : Type 0} (plan : O → Tree) (held : S → Parts) (taken : O → S → Input → Type 0) (is_of : O → P → Input → ℕ → ℕ → Type 0) (op : O) where
+  module _ {K : Type 0} where
+    -- the piece follows what the store has taken in
+    abbrev pub CanAbsorb : Stage S K → P → Type 0
+    CanAbsorb s p = CanTakeIn (plan op) (held s.store) (taken op s.store) (is_of op p)
+
+    -- so it is with the shares of the piece's arrivals
+    abbrev BySharesOf : Stage S K → P → (Shares → Type 0) → Type 0
+    BySharesOf s p P = ByShares (plan op) (held s.store) (taken op s.store) (is_of op p) P
+
     -- the text that the piece adds went out
     abbrev pub AddsText : (K → Option (List ℕ)) → Stage S K → Stage S K → P → Type 0
-    AddsText written s t p = Writes (plan op) (held s.store) (shares op p) (written s.sink) (written t.sink)
+    AddsText written s t p = BySharesOf s p (λ a. Writes (plan op) (held s.store) a (written s.sink) (written t.sink))
 
     -- a prefix of it did
     abbrev pub AddsFront : (K → Option (List ℕ)) → Stage S K → Stage S K → P → Type 0
-    AddsFront written s t p = WritesFront (plan op) (held s.store) (shares op p) (written s.sink) (written t.sink)
+    AddsFront written s t p = BySharesOf s p (λ a. WritesFront (plan op) (held s.store) a (written s.sink) (written t.sink))
 
     -- the parts that the piece leaves open are kept
     abbrev pub LeavesOpen : Stage S K → Stage S K → P → Type 0
-    LeavesOpen s t p = Leaves (plan op) (held s.store) (shares op p) (held t.store)
-
-  module _ {K : Type 0} (taken : O → S → Input → Type 0) (is_of : O → P → Mark → List Row → Bool → Type 0) (op : O) where
-    -- the piece follows what the store has taken in
-    abbrev pub CanAbsorb : Stage S K → P → Type 0
-    CanAbsorb s p = CanTakeIn (plan op) (held s.store) (shares op p) (taken op s.store) (is_of op p)
+    LeavesOpen s t p = BySharesOf s p (λ a. Leaves (plan op) (held s.store) a (held t.store))
 
     -- all up to the end of the piece is taken in then
     abbrev pub TakesPiece : Stage S K → Stage S K → P → Type 0
-    TakesPiece s t p = TakesIn (plan op) (held s.store) (shares op p) (taken op s.store) (is_of op p) (taken op t.store)
+    TakesPiece s t p = TakesIn (plan op) (held s.store) (taken op s.store) (is_of op p) (taken op t.store)
 
 module _ {O S K : Type 0} (plan : O → Tree) (held : S → Parts) (taken : O → S → Input → Type 0) (written : K → Option (List ℕ)) (faults : K → ℕ) (op : O) where
   -- what a stage keeps of a run
@@ -117,7 +116,7 @@ module _ {O S K : Type 0} (plan : O → Tree) (held : S → Parts) (taken : O �
   BeginsRuns sink s = (n : ℕ) (r : Input) → Tasks (plan op) n r → KeepsRun n r (record { written = written sink; faults = faults sink }) s
 
   -- given the piece of the next task, it keeps what it should of each run of which it did
-  abbrev pub KeepsRuns : {P : Type 0} → (O → P → Shares) → (O → P → Mark → List Row → Bool → Type 0) → Stage S K → Option P → Stage S K → Type 0
-  KeepsRuns shares is_of s piece t =
+  abbrev pub KeepsRuns : {P : Type 0} → (O → P → Input → ℕ → ℕ → Type 0) → Stage S K → Option P → Stage S K → Type 0
+  KeepsRuns is_of s piece t =
       (n : ℕ) (r : Input) (start : Start) → Tasks (plan op) n r → KeepsRun n r start s
-      → IfSome piece (λ p. IsPieceAt (plan op) n r s.k (shares op p) (is_of op p)) → KeepsRun n r start t
+      → IfSome piece (λ p. IsPieceAt n r s.k (is_of op p)) → KeepsRun n r start t

@@ -6,13 +6,11 @@ use Rattle.std.proofs.lemmas.Bool.{cases_lt}
 use Rattle.std.proofs.lemmas.List.{take-append-le, take_all}
 use Rattle.std.proofs.Math.Nat.{mul-le-mul}
 use Rattle.saber_plan.specs.declared.rows.Row.{Row}
-use Rattle.saber_plan.specs.declared.windows.Mark.{Mark}
 use Rattle.saber_plan.specs.Inputs.{Input}
 use Rattle.saber_plan.specs.Trees.{Tree}
 use Rattle.saber_plan.specs.Tasks.{Parts, cut, upto, row_tasks, unclosed}
 use Rattle.saber_plan.specs.Answers.{text}
 use Rattle.saber_plan.specs.Needs.{free, task_rows}
-use Rattle.saber_plan.specs.Shares.{Shares}
 use Rattle.saber_laws.proofs.TaskCutLaws.{upto-upto, cut_rises, rows_fit}
 use Rattle.saber_laws.proofs.GrowLaws.{free-upto}
 use Rattle.saber_laws.proofs.FreeLaws.{free_at_most, free_rises}
@@ -112,19 +110,18 @@ module _ (n : ℕ) (size : 1 ≤ n) (r r' : Input) (bs : List Row) (e : Bool) (d
   }
 
 -- the piece of task k follows what a stage after k tasks has taken in
-pub follows : (q : Tree) (n : ℕ) (r : Input) (start : Start) (s : StageView) (taken : Input → Type 0) (shares : Shares) (of : Mark → List Row → Bool → Type 0)
-    → Tasks q n r → cut n r s.k ≤ cut n r (s.k + 1) → Keeps q n r start taken s → s.state ≡ Running → IsPieceAt q n r s.k shares of
-    → Follows q s.parts shares taken of r (cut n r s.k) (cut n r (s.k + 1))
-follows q n r start s taken shares of t up kept run p =
+pub follows : (q : Tree) (n : ℕ) (r : Input) (start : Start) (s : StageView) (taken : Input → Type 0) (of : Input → ℕ → ℕ → Type 0)
+    → Tasks q n r → cut n r s.k ≤ cut n r (s.k + 1) → Keeps q n r start taken s → s.state ≡ Running → IsPieceAt n r s.k of
+    → Follows q s.parts taken of r (cut n r s.k) (cut n r (s.k + 1))
+follows q n r start s taken of t up kept run p =
     let a : After q n r start s Running = subst (After q n r start s) run kept.after in
     record {
       windows = t.windows;
       fits = t.fits;
       rises = up;
       unclosed_is = a.1;
-      shares_are = p.shares_are;
       taken_is = kept.taken_is run;
-      of_is = p.of_is;
+      of_is = p;
     }
 
 module _ {O : Type 0} (plan : O → Tree) where
@@ -179,16 +176,16 @@ module _ {O : Type 0} (plan : O → Tree) where
         }
 
     -- its store can take in the next task's piece
-    pub takes_next : {P : Type 0} (shares : O → P → Shares) (is_of : O → P → Mark → List Row → Bool → Type 0) (told : Told O) (k : ℕ) (s : Stage S K) (p : P)
-        → IsStageOf plan (seen held written faults) taken (first_tasks told k) k false s → IsPieceOf plan shares is_of told k p
-        → CanTakeIn (plan told.operator) (held s.store) (shares told.operator p) (taken told.operator s.store) (is_of told.operator p)
-    takes_next shares is_of told k s p is of =
+    pub takes_next : {P : Type 0} (is_of : O → P → Input → ℕ → ℕ → Type 0) (told : Told O) (k : ℕ) (s : Stage S K) (p : P)
+        → IsStageOf plan (seen held written faults) taken (first_tasks told k) k false s → IsPieceOf plan is_of told k p
+        → CanTakeIn (plan told.operator) (held s.store) (taken told.operator s.store) (is_of told.operator p)
+    takes_next is_of told k s p is of =
         let q = plan told.operator in let n = told.size in let r = input_of told in
-        let piece : IsPieceAt q n r s.k (shares told.operator p) (is_of told.operator p) =
-        subst (λ j. IsPieceAt q n r j (shares told.operator p) (is_of told.operator p)) (sym is.behind) of.piece in (
+        let piece : IsPieceAt n r s.k (is_of told.operator p) =
+        subst (λ j. IsPieceAt n r j (is_of told.operator p)) (sym is.behind) of.piece in (
           r,
           cut n r s.k,
           cut n r (s.k + 1),
-          follows q n r (start_of told) (seen held written faults s) (taken told.operator s.store) (shares told.operator p) (is_of told.operator p) of.tasks
+          follows q n r (start_of told) (seen held written faults s) (taken told.operator s.store) (is_of told.operator p) of.tasks
               (cut_rises n r s.k) (keeps_on told k s is) (is.runs refl) piece,
         )

@@ -1,12 +1,9 @@
 -- What blocks, pieces and stages are, by the input filled so far.
-use Rattle.std.specs.Prelude.{◌≡◌, ◌≢◌, ℕ, Bool, true, false, List, ◌++◌, ◌||◌}
-use Rattle.saber_plan.specs.declared.rows.Row.{Row}
-use Rattle.saber_plan.specs.declared.windows.Mark.{Mark}
+use Rattle.std.specs.Prelude.{◌≡◌, ◌≢◌, ℕ, Bool, true, false, ◌++◌, ◌||◌}
 use Rattle.saber_plan.specs.Inputs.{Input}
 use Rattle.saber_plan.specs.Trees.{Tree}
 use Rattle.saber_plan.specs.Tasks.{upto}
 use Rattle.saber_plan.specs.Needs.{free}
-use Rattle.saber_plan.specs.Shares.{Shares}
 use Rattle.saber_fragment.specs.declared.blocks.Block.{Block}
 use Rattle.saber_feeds.specs.Feeds.{IsBlock}
 use Rattle.saber_assembly.specs.declared.stage.Stage.{Stage}
@@ -57,10 +54,10 @@ module _ {O : Type 0} (plan : O → Tree) where
     pub number : b.number ≡ t
     pub first : b.first ≡ first_needed (first_tasks told t) t
 
-  -- the piece of task t, by its shares and by what it knows of its rows
-  pub record IsPieceOf {P : Type 0} (shares : O → P → Shares) (is_of : O → P → Mark → List Row → Bool → Type 0) (told : Told O) (t : ℕ) (p : P) : Type 0 where
+  -- the piece of task t
+  pub record IsPieceOf {P : Type 0} (is_of : O → P → Input → ℕ → ℕ → Type 0) (told : Told O) (t : ℕ) (p : P) : Type 0 where
     pub tasks : AreTasks told
-    pub piece : IsPieceAt (plan told.operator) told.size (input_of told) t (shares told.operator p) (is_of told.operator p)
+    pub piece : IsPieceAt told.size (input_of told) t (is_of told.operator p)
 
   -- the stage has k tasks behind it, and is stopped or runs
   pub record IsStageOf {S K : Type 0} (view : Stage S K → StageView) (taken : O → S → Input → Type 0) (told : Told O) (k : ℕ) (stopped : Bool)

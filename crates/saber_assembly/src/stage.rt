@@ -117,15 +117,15 @@ impl<S: Drop, K: Sink> Stage<S, K> {
     ) -> Absorbed
         requires running { self.old.state ≡ State.Running }
         requires few { self.old.k < 2 ^ 62 }
-        requires next { CanAbsorb O.plan O.held O.shares O.has_taken O.is_of operator.now self.old piece }
-        ensures written { result ≡ Absorbed.Done → AddsText O.plan O.held O.shares operator.now K.written self.old self.new piece }
-        ensures left { result ≡ Absorbed.Done → LeavesOpen O.plan O.held O.shares operator.now self.old self.new piece }
+        requires next { CanAbsorb O.plan O.held O.has_taken O.is_of operator.now self.old piece }
+        ensures written { result ≡ Absorbed.Done → AddsText O.plan O.held O.has_taken O.is_of operator.now K.written self.old self.new piece }
+        ensures left { result ≡ Absorbed.Done → LeavesOpen O.plan O.held O.has_taken O.is_of operator.now self.old self.new piece }
         ensures rises { result ≡ Absorbed.Done → self.new.k ≡ self.old.k + 1 }
         ensures runs { result ≡ Absorbed.Done → self.new.state ≡ State.Running }
-        ensures taken { result ≡ Absorbed.Done → TakesPiece O.plan O.held O.shares O.has_taken O.is_of operator.now self.old self.new piece }
+        ensures taken { result ≡ Absorbed.Done → TakesPiece O.plan O.held O.has_taken O.is_of operator.now self.old self.new piece }
         ensures stopped { result ≡ Absorbed.Stopped → self.new.state ≢ State.Running }
         ensures stays { result ≡ Absorbed.Stopped → self.new.k ≡ self.old.k }
-        ensures failed { self.new.state ≡ State.SinkFailed → AddsFront O.plan O.held O.shares operator.now K.written self.old self.new piece }
+        ensures failed { self.new.state ≡ State.SinkFailed → AddsFront O.plan O.held O.has_taken O.is_of operator.now K.written self.old self.new piece }
         ensures cause { self.new.state ≡ State.SinkFailed → Rose (K.faults self.old.sink) (K.faults self.new.sink) }
         ensures good { self.new.state ≢ State.SinkFailed → K.faults self.new.sink ≡ K.faults self.old.sink }
         ensures memory { self.new.state ≡ State.NoMemory → K.written self.new.sink ≡ K.written self.old.sink }
@@ -165,29 +165,29 @@ impl<S: Drop, K: Sink> Stage<S, K> {
     ) -> Absorbed
         requires running { self.old.state ≡ State.Running }
         requires few { self.old.k < 2 ^ 62 }
-        requires next { IfSome piece (λ p. CanAbsorb O.plan O.held O.shares O.has_taken O.is_of operator.now self.old p) }
+        requires next { IfSome piece (λ p. CanAbsorb O.plan O.held O.has_taken O.is_of operator.now self.old p) }
 
         // The step of the definitions.
-        ensures written { result ≡ Absorbed.Done → IfSome piece (λ p. AddsText O.plan O.held O.shares operator.now K.written self.old self.new p) }
-        ensures left { result ≡ Absorbed.Done → IfSome piece (λ p. LeavesOpen O.plan O.held O.shares operator.now self.old self.new p) }
+        ensures written { result ≡ Absorbed.Done → IfSome piece (λ p. AddsText O.plan O.held O.has_taken O.is_of operator.now K.written self.old self.new p) }
+        ensures left { result ≡ Absorbed.Done → IfSome piece (λ p. LeavesOpen O.plan O.held O.has_taken O.is_of operator.now self.old self.new p) }
         ensures rises { result ≡ Absorbed.Done → self.new.k ≡ self.old.k + 1 }
         ensures runs { result ≡ Absorbed.Done → self.new.state ≡ State.Running }
 
         // And the store has taken in all up to the piece's end.
-        ensures taken { result ≡ Absorbed.Done → IfSome piece (λ p. TakesPiece O.plan O.held O.shares O.has_taken O.is_of operator.now self.old self.new p) }
+        ensures taken { result ≡ Absorbed.Done → IfSome piece (λ p. TakesPiece O.plan O.held O.has_taken O.is_of operator.now self.old self.new p) }
 
         // What a stop leaves, and why it comes.
         ensures stopped { result ≡ Absorbed.Stopped → self.new.state ≢ State.Running }
         ensures stays { result ≡ Absorbed.Stopped → self.new.k ≡ self.old.k }
         ensures none { IfNone piece ((result ≡ Absorbed.Stopped) × (self.new.state ≡ State.NoMemory)) }
-        ensures failed { self.new.state ≡ State.SinkFailed → IfSome piece (λ p. AddsFront O.plan O.held O.shares operator.now K.written self.old self.new p) }
+        ensures failed { self.new.state ≡ State.SinkFailed → IfSome piece (λ p. AddsFront O.plan O.held O.has_taken O.is_of operator.now K.written self.old self.new p) }
         ensures cause { self.new.state ≡ State.SinkFailed → Rose (K.faults self.old.sink) (K.faults self.new.sink) }
         ensures good { self.new.state ≢ State.SinkFailed → K.faults self.new.sink ≡ K.faults self.old.sink }
         ensures memory { self.new.state ≡ State.NoMemory → K.written self.new.sink ≡ K.written self.old.sink }
         ensures count { K.faults self.old.sink ≤ K.faults self.new.sink }
 
         // So a stage after k tasks, given the piece of task k, is one after k + 1, or stopped at k.
-        ensures keeps { KeepsRuns O.plan O.held O.has_taken K.written K.faults operator.now O.shares O.is_of self.old piece self.new }
+        ensures keeps { KeepsRuns O.plan O.held O.has_taken K.written K.faults operator.now O.is_of self.old piece self.new }
     {
         cuts_rise();
         text_goes_on();

@@ -51,7 +51,7 @@ impl<O: Operator, K: Sink> Work for SaberWork<O, K> {
 
     ghost is_rows = { IsBlockOf O.plan };
 
-    ghost is_piece = { IsPieceOf O.plan O.shares O.is_of };
+    ghost is_piece = { IsPieceOf O.plan O.is_of };
 
     ghost first = { first_needed O.plan };
 

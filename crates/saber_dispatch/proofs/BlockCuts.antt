@@ -18,6 +18,8 @@ use Rattle.saber_plan.specs.Given.{IsRowOf, RowsFit}
 use Rattle.saber_plan.specs.Needs.{free, need}
 use Rattle.saber_window.specs.Laws.{StampsFit}
 use Rattle.saber_fragment.specs.declared.blocks.Block.{Block}
+use Rattle.saber_fragment.specs.declared.blocks.Earlier.{Earlier}
+use Rattle.saber_fragment.specs.Drafts.{EndWith}
 use Rattle.saber_dispatch.specs.declared.ends.End.{End}
 use Rattle.saber_dispatch.specs.declared.ends.End.TheVariants.{AllRead, Bad, ReadFault, TooWide, NoMemory}
 use Rattle.saber_dispatch.specs.declared.cutter.Cutter.{Cutter}
@@ -70,6 +72,10 @@ right_rises m (x ∷ xs) = omega (arith, right_rises (step_mark m x) xs, by_case
   by_case : (s : Side) → m.right ≤ by_side s m.right (m.right + 1)
   by_case Left = omega arith
   by_case Right = omega arith
+
+-- none of some rows are the last of them
+pub none_earlier : (xs : List Row) (e : Earlier) → e.before ≡ mark_of xs → e.rows ≡ [] → EndWith xs e
+none_earlier xs e at none = record { front = xs; rows_are = sym (ap (λ l. xs ++ l) none ∙ append-nil xs); before_is = at }
 
 -- ---- the rows of a block
 
@@ -133,13 +139,14 @@ module _ (q : Tree) (s : Sizes) (had has : List (Option (List ℕ))) (c : Cutter
   pub is_near : (first : ℕ) → first ≡ free q s.task (going_on xs) c.number → c.number - first + 1 ≤ c.room → need q s.task (going_on xs) c.number ≤ s.ring
   is_near first is near = subst (λ r. need q s.task (going_on xs) c.number ≤ r) f.made.room (subst (λ k. c.number - k + 1 ≤ c.room) is near)
 
-  pub is_next : (b : Block) → b.number ≡ c.number → b.before ≡ before → b.rows ≡ rows → b.ended ≡ false → b.first ≡ free q s.task (going_on xs) c.number → c.number - b.first + 1 ≤ c.room → IsNextBlock q s (going_on xs) b
-  is_next b number at own goes first near = record {
+  pub is_next : (b : Block) → b.number ≡ c.number → b.before ≡ before → b.rows ≡ rows → b.ended ≡ false → b.first ≡ free q s.task (going_on xs) c.number → c.number - b.first + 1 ≤ c.room → b.earlier.before ≡ before → b.earlier.rows ≡ [] → IsNextBlock q s (going_on xs) b
+  is_next b number at own goes first near behind_all none = record {
     windows = f.windows;
     size = some_size;
     unended = refl;
     number = number ∙ whole_tasks s.task c.number (length xs) some_size f.whole;
     before = at ∙ f.before_is;
+    earlier = none_earlier xs b.earlier (behind_all ∙ f.before_is) none;
     first = first ∙ ap (free q s.task (going_on xs)) (sym number);
     near = subst (λ k. need q s.task (going_on xs) k ≤ s.ring) (sym number) (is_near b.first first near);
     fits = subst (λ l. RowsFit q no_rows (xs ++ l)) (sym own) all_fit;

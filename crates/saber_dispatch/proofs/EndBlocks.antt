@@ -23,6 +23,7 @@ use Rattle.saber_dispatch.specs.Filling.{Took}
 use Rattle.saber_dispatch.specs.Cutting.{LooksBack, Behind, AtEnd, EndComes, CutState, Flushes, Cuts, Adds, IsNextBlock, is_due, end_counts, and_block, fresh}
 use Rattle.saber_dispatch.proofs.Fillings.{small as small_marks}
 use Rattle.saber_dispatch.proofs.NextTasks.{goes_on, upto_rows, need_stays}
+use Rattle.saber_dispatch.proofs.BlockCuts.{none_earlier}
 use Rattle.saber_plan.specs.CountFacts.{tasks_have_rows}
 
 both_on : (b : Bool) (n : ℕ) → (b && not (n == 0)) ≡ true → (b ≡ true) × (1 ≤ n)
@@ -116,13 +117,14 @@ module _ (q : Tree) (s : Sizes) (had has : List (Option (List ℕ))) (c : Cutter
     no_more : r.rows ++ b.rows ≡ r.rows
     no_more = ap (λ l. r.rows ++ l) none ∙ append-nil r.rows
 
-    pub end_next : b.number ≡ c.number → b.before ≡ c.mark → b.first ≡ free q s.task (going_on r.rows) c.number → IsNextBlock q s r b
-    end_next number at first = record {
+    pub end_next : b.number ≡ c.number → b.before ≡ c.mark → b.first ≡ free q s.task (going_on r.rows) c.number → b.earlier.before ≡ c.mark → b.earlier.rows ≡ [] → IsNextBlock q s r b
+    end_next number at first behind_all alone = record {
       windows = k.windows;
       size = some_size;
       unended = opened.0;
       number = number ∙ k.count;
       before = at ∙ at_end.mark opened.0;
+      earlier = none_earlier r.rows b.earlier (behind_all ∙ at_end.mark opened.0) alone;
       first = first ∙ ap (λ i. free q s.task i c.number) (sym is_rows) ∙ ap (free q s.task r) (sym number);
       near = subst (λ t. need q s.task r t ≤ s.ring) (sym number) near;
       fits = subst (RowsFit q no_rows) (sym no_more) (record { rows = took_all.fits; ordered = took_all.ordered; left = marks_small.0; right = marks_small.1 });

@@ -1,5 +1,5 @@
 -- Rows of two inputs that were taken as their sides held them.
-use Rattle.std.proofs.Common.{◌≡◌, ◌≤◌, ◌<◌, ◌^◌, ℕ, zero, suc, ◌+◌, ◌-◌, List, [], ◌∷◌, ◌++◌, length, drop, Option, Some, Result, Ok, refl, sym, ◌∙◌, ap, subst, arith, length-append}
+use Rattle.std.proofs.Common.{◌≡◌, ◌≤◌, ◌<◌, ◌^◌, ℕ, zero, suc, ◌+◌, ◌-◌, List, [], ◌∷◌, ◌++◌, length, drop, Option, Some, Ok, refl, sym, ◌∙◌, ap, subst, arith, length-append}
 use Rattle.std.specs.List.{AllByRecursion}
 use Rattle.saber_plan.specs.declared.rows.Row.{Row}
 use Rattle.saber_plan.specs.declared.rows.Side.{Side}
@@ -13,7 +13,7 @@ use Rattle.saber_rows.specs.Laws.{MovesGoOn, ReadersStand, MergesGoOn, MergersSt
 use Rattle.saber_rows.specs.Merging.{Merger}
 use Rattle.saber_rows.specs.MergedRows.{StillGives, MergeStands, MergesOne, MergesRows, TakesMerged}
 use Rattle.saber_window.specs.Laws.{StampsFit}
-use Rattle.saber_dispatch.specs.Readings.{two, Suits, Reads, RulesOf, ReadsTwo, NextRow, IsOpen}
+use Rattle.saber_dispatch.specs.Readings.{two, Reads, RulesOf, ReadsTwo, NextRow, IsOpen}
 use Rattle.saber_dispatch.specs.Filling.{Filling, TakesOn, prepend}
 use Rattle.saber_dispatch.proofs.ReadSteps.{stepped_two}
 use Rattle.saber_dispatch.proofs.Fillings.{Lefts, go_on, filling_nothing, filling_more, filling_still, filling_reads, small}

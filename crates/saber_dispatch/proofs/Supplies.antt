@@ -13,6 +13,7 @@ use Rattle.saber_plan.specs.Windows.{mark_after, step_mark, last_mark, ending}
 use Rattle.saber_plan.specs.Tasks.{cut, upto, row_tasks, task_count}
 use Rattle.saber_plan.specs.Needs.{free, task_rows}
 use Rattle.saber_fragment.specs.declared.blocks.Block.{Block}
+use Rattle.saber_fragment.specs.Drafts.{EndWith}
 use Rattle.saber_assembly.specs.declared.work.Told.{Told}
 use Rattle.saber_assembly.specs.Stages.{Tasks}
 use Rattle.saber_assembly.specs.Works.{input_of, with_block}
@@ -101,6 +102,7 @@ module _ {O : Type 0} (plan : O → Tree) (told : Told O) (s : Sizes) (b : Block
     block = record {
       tasks = tasks;
       block = record {
+        earlier = subst (λ (l : List Row). EndWith l b.earlier) (ap (λ (i : Input). i.rows) (sym stand.front)) next.earlier;
         before = next.before ∙ sym (ap last_mark stand.front);
         rows = stand.rows;
         ended = ends ∙ sym (ap (λ (i : Input). i.ended) stand.whole);

@@ -19,6 +19,7 @@ use Rattle.saber_plan.specs.Given.{RowsFit}
 use Rattle.saber_plan.specs.Tasks.{task_count}
 use Rattle.saber_plan.specs.Needs.{free, need, block_lasts}
 use Rattle.saber_fragment.specs.declared.blocks.Block.{Block}
+use Rattle.saber_fragment.specs.Drafts.{EndWith}
 use Rattle.saber_dispatch.specs.Sources.{Lefts, RoseAt}
 use Rattle.saber_dispatch.specs.declared.ends.End.{End}
 use Rattle.saber_dispatch.specs.declared.ends.End.TheVariants.{AllRead, Bad, ReadFault, TooWide, NoMemory}
@@ -216,13 +217,15 @@ abbrev pub Adds : Tree → Sizes → Input → Block → Bool → Type 0
 Adds q s r b false = AddsRows s r b
 Adds q s r b true = AddsEnd q s r b
 
--- The block of the next task of an input: the rows of the task or the input's end, with what stands before them, and the first task whose rows the task needs.
+-- The block of the next task of an input: the rows of the task or the input's end, with what stands before them, and the first task whose rows
+-- the task needs. The rows that it has of those before are the last of them.
 pub record IsNextBlock (q : Tree) (s : Sizes) (r : Input) (b : Block) : Type 0 where
   pub windows : Fits (frame q)
   pub size : 1 ≤ s.task
   pub unended : r.ended ≡ false
   pub number : b.number ≡ task_count s.task r
   pub before : b.before ≡ mark_of r.rows
+  pub earlier : EndWith r.rows b.earlier
   pub first : b.first ≡ free q s.task r b.number
   pub near : need q s.task r b.number ≤ s.ring
   pub fits : RowsFit q no_rows (r.rows ++ b.rows)

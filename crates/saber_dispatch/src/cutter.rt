@@ -24,7 +24,7 @@ use crate::lasts::Lasts;
 use crate::opening::{end_counts, lasts_for, reader_for};
 use crate::reader::Reader;
 use saber_flat::{RowBuilder, Rows};
-use saber_fragment::Block;
+use saber_fragment::{Block, Earlier};
 use saber_io::Source;
 use saber_laws::{checked_fit, lasts_tell_free, needs_stay, tasks_look_back, tasks_look_on};
 use saber_plan::{Mark, NoMemory, Plan, Sizes};
@@ -219,6 +219,7 @@ impl Cutter {
         Cut::Block(Block {
             number,
             first,
+            earlier: Earlier::none(self.alloc, before),
             before,
             rows,
             ended: false,
@@ -247,6 +248,7 @@ impl Cutter {
         Cut::Block(Block {
             number,
             first,
+            earlier: Earlier::none(self.alloc, self.mark),
             before: self.mark,
             rows: Rows::new(self.alloc),
             ended: true,

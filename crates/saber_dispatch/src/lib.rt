@@ -10,6 +10,7 @@ mod fed_laws;
 mod fed_reader;
 mod fill;
 mod inputs;
+mod keeper;
 mod last_windows;
 mod lasts;
 mod laws;
@@ -23,6 +24,7 @@ pub use fed_laws::{
     cuts_leave_whole_tasks, fed_blocks_are_near, fed_blocks_are_tasks, refills_keep,
 };
 pub use inputs::Inputs;
+pub use keeper::Keeper;
 pub use laws::{blocks_are_near, blocks_are_supplied, blocks_are_tasks, faults_leave_whole_tasks};
 
 #[cfg(test)]

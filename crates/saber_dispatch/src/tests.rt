@@ -10,7 +10,7 @@ ghost use Rattle.saber_plan.specs.Checked.{IsChecked};
 ghost use Rattle.saber_dispatch.specs.Sources.{Lefts, each_input};
 ghost use Rattle.saber_dispatch.specs.Cutting.{Cuts};
 
-use crate::{Cut, Cutter, End, Inputs};
+use crate::{Cut, Cutter, End, Inputs, Keeper};
 use saber_flat::RowRef;
 use saber_io::{MemSource, Source};
 use saber_plan::{
@@ -50,6 +50,17 @@ fn join(alloc: Global) -> Result<Plan, NoMemory>
     Ok(Plan::new(Shape::Join, streams, items, Vec::new(alloc), None))
 }
 
+// Windows of four seconds, two of them at each row.
+fn sliding() -> Window
+    ensures { result ≡ record { measure = measures.Range; size = 4; slide = 2 } }
+{
+    Window {
+        measure: Measure::Range,
+        size: 4,
+        slide: 2,
+    }
+}
+
 // Counts the rows of each window of one stream.
 pub(crate) fn group(alloc: Global) -> Result<Plan, NoMemory>
     ensures checked { IfOk result (λ p. IsChecked (tree_of p)) }
@@ -60,17 +71,28 @@ pub(crate) fn group(alloc: Global) -> Result<Plan, NoMemory>
     Ok(Plan::new(Shape::Group, streams, items, Vec::new(alloc), None))
 }
 
+// The same over windows that overlap.
+fn sliding_group(alloc: Global) -> Result<Plan, NoMemory>
+    ensures checked { IfOk result (λ p. IsChecked (tree_of p)) }
+    ensures one { IfOk result (λ p. (a : Stream) × ((tree_of p).streams ≡ a ∷ [])) }
+{
+    let streams = vec![in alloc; stream(Some(sliding()))]?;
+    let items = vec![in alloc; Item::Count]?;
+    Ok(Plan::new(Shape::Group, streams, items, Vec::new(alloc), None))
+}
+
 pub(crate) fn time_of(row: &RowRef) -> i64 {
     row.values().first().copied().unwrap_or(-1)
 }
 
-// The blocks, each as its first block, the times of its rows and what stands before them, whether the
-// last has the input's end, and how they end.
+// The blocks, each as its first block, the times of its rows and what stands before them, and of the rows that it has of those before;
+// whether the last has the input's end, and how they end.
 #[derive(Drop)]
 struct Seen {
     firsts: Vec<u64>,
     times: Vec<i64>,
     marks: Vec<u64>,
+    earlier: Vec<i64>,
     flushed: bool,
     end: Option<End>,
 }
@@ -84,6 +106,7 @@ impl Seen {
 fn see_all<S: Source>(
     alloc: Global,
     cutter: &mut Cutter,
+    keeper: &mut Keeper,
     inputs: &mut Inputs<S>,
 ) -> Result<Seen, Fail>
     requires { (q : Tree) × (s : Sizes) × (had : Lefts) × (r : Input) × Cuts q s had (each_input S.left inputs.old) cutter.old r }
@@ -92,6 +115,7 @@ fn see_all<S: Source>(
         firsts: Vec::new(alloc),
         times: Vec::new(alloc),
         marks: Vec::new(alloc),
+        earlier: Vec::new(alloc),
         flushed: false,
         end: None,
     };
@@ -102,6 +126,7 @@ fn see_all<S: Source>(
                 return Ok(seen);
             }
             Cut::Block(block) => {
+                let block = keeper.pass_on(block);
                 if block.number != number || seen.flushed {
                     return Ok(seen);
                 }
@@ -111,6 +136,9 @@ fn see_all<S: Source>(
                 seen.marks.push(block.before.right)?;
                 for i in 0..block.rows.len() {
                     seen.times.push(time_of(&block.rows.row(i)))?;
+                }
+                for i in 0..block.earlier.rows.len() {
+                    seen.earlier.push(time_of(&block.earlier.rows.row(i)))?;
                 }
             }
         }
@@ -145,16 +173,33 @@ fn see_join(alloc: Global, left: &[u8], right: &[u8], sizes: &Sizes) -> Result<S
     let plan = join(alloc)?;
     let mut inputs = Inputs::Two(source(alloc, left)?, source(alloc, right)?);
     let mut cutter = Cutter::new(alloc, &plan, sizes)?;
-    see_all(alloc, &mut cutter, &mut inputs)
+    let mut keeper = Keeper::new(alloc, &plan, sizes);
+    see_all(alloc, &mut cutter, &mut keeper, &mut inputs)
+}
+
+fn see_one(alloc: Global, plan: &Plan, text: MemSource, sizes: &Sizes) -> Result<Seen, Fail>
+    requires checked { IsChecked (tree_of plan.now) }
+    requires one { (a : Stream) × ((tree_of plan.now).streams ≡ a ∷ []) }
+    requires sizes { SizesFit sizes.now }
+{
+    let mut inputs = Inputs::One(text);
+    let mut cutter = Cutter::new(alloc, plan, sizes)?;
+    let mut keeper = Keeper::new(alloc, plan, sizes);
+    see_all(alloc, &mut cutter, &mut keeper, &mut inputs)
 }
 
 fn see_group(alloc: Global, text: MemSource, sizes: &Sizes) -> Result<Seen, Fail>
     requires { SizesFit sizes.now }
 {
     let plan = group(alloc)?;
-    let mut inputs = Inputs::One(text);
-    let mut cutter = Cutter::new(alloc, &plan, sizes)?;
-    see_all(alloc, &mut cutter, &mut inputs)
+    see_one(alloc, &plan, text, sizes)
+}
+
+fn see_sliding(alloc: Global, text: MemSource, sizes: &Sizes) -> Result<Seen, Fail>
+    requires { SizesFit sizes.now }
+{
+    let plan = sliding_group(alloc)?;
+    see_one(alloc, &plan, text, sizes)
 }
 
 // A left row of time 0 lies in window 0, which the row of time 4 closes.
@@ -227,5 +272,24 @@ fn the_end_is_a_block(rt: HostRuntime) -> Result<(), Fail> {
     let seen = see_join(alloc, LEFT, RIGHT, &sizes(1, 5, true))?;
     assert!(rt; seen.flushed);
     assert!(rt; seen.is(&[0, 0, 0, 0, 0, 4, 5], &[0, 0, 1, 3, 4, 8], End::AllRead));
+    Ok(())
+}
+
+// Where windows overlap, and threads share the work, a block has the rows of the one before: the second those of times 0 and 1, and the
+// input's end that of time 4.
+#[test]
+fn rows_are_kept_for_the_next_block(rt: HostRuntime) -> Result<(), Fail> {
+    let alloc = rt.alloc();
+    let some = Sizes {
+        threads: 2,
+        ..sizes(2, 1, true)
+    };
+    let seen = see_sliding(alloc, source(alloc, LEFT)?, &some)?;
+    assert!(rt; seen.is(&[0, 1, 2], &[0, 1, 4], End::AllRead));
+    assert_eq!(rt; seen.earlier.as_slice(), [0, 1, 4].as_slice());
+    let seen = see_sliding(alloc, source(alloc, LEFT)?, &sizes(2, 1, true))?;
+    assert!(rt; seen.is(&[0, 1, 2], &[0, 1, 4], End::AllRead) && seen.earlier.is_empty());
+    let seen = see_group(alloc, source(alloc, LEFT)?, &some)?;
+    assert!(rt; seen.is(&[0, 1, 2], &[0, 1, 4], End::AllRead) && seen.earlier.is_empty());
     Ok(())
 }

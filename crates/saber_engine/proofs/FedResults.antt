@@ -27,6 +27,7 @@ use Rattle.saber_crew.specs.Runs.{RunsTo}
 use Rattle.saber_dispatch.specs.declared.ends.End.{End}
 use Rattle.saber_dispatch.specs.declared.ends.End.TheVariants as cut
 use Rattle.saber_dispatch.specs.declared.fed_cutter.FedCutter.{FedCutter}
+use Rattle.saber_dispatch.specs.declared.keeper.Keeper.{Keeper}
 use Rattle.saber_dispatch.specs.Cutting.{is_due, told_end}
 use Rattle.saber_dispatch.specs.Feeding.{CutsFed, CutsNothingFed, fed_end_of}
 use Rattle.saber_dispatch.specs.FedReadings.{EndTold}
@@ -39,6 +40,7 @@ use Rattle.saber_engine.specs.Endings.{given_end, end_of}
 use Rattle.saber_engine.specs.Supplying.{first_told}
 use Rattle.saber_engine.specs.FedRuns.{TakesWhole}
 use Rattle.saber_engine.specs.FedSupplying.{FeedView, HasFed}
+use Rattle.saber_engine.proofs.Passed.{kept_none}
 use Rattle.saber_engine.proofs.Assembled.{op_is}
 use Rattle.saber_engine.proofs.Reaches.{by_fault, clean_end, lack_not_write}
 use Rattle.saber_engine.proofs.Comings.{GivenBy, Came, came_to, gives_nothing}
@@ -49,11 +51,12 @@ none_some : {A : Type 0} (x : A) → ◌≡◌ {A = Option A} None (Some x) → 
 none_some x e = cc
 
 -- no block was given
-pub fed_none : {O : Type 0} (plan : O → Tree) (op : O) (s : Sizes) (v : FeedView) (w : Option (List ℕ)) (f : ℕ) (c : FedCutter) → CutsNothingFed (plan op) s c → fed_end_of c ≡ None → v.waiting ≡ v.taken → 1 ≤ s.task → HasFed plan s v.faults v c None (first_told op s.task w f) 0
-fed_none plan op s v w f c nothing open_still waits some = record {
+pub fed_none : {O : Type 0} (plan : O → Tree) (op : O) (s : Sizes) (v : FeedView) (w : Option (List ℕ)) (f : ℕ) (c : FedCutter) (k : Keeper) → CutsNothingFed (plan op) s c → fed_end_of c ≡ None → v.waiting ≡ v.taken → 1 ≤ s.task → k.kept ≡ None → HasFed plan s v.faults v c k None (first_told op s.task w f) 0
+fed_none plan op s v w f c k nothing open_still waits some kept = record {
   cuts = subst (λ z. CutsFed (plan op) s v.taken z v.mark c (going_on [])) (sym waits) (nothing v.taken v.mark);
   size = refl;
   count = let few : div_ceil 0 s.task ≤ 0 = tasks_have_rows s.task 0 some in omega (arith, few);
+  kept = kept_none k kept;
   ended = λ e i. absurd (none_some e i);
   sound = λ _ side i. none_some (cut.ReadFault side) (sym open_still ∙ i);
   counted = record { rises = omega arith; good = λ _. refl; cause = λ side i. absurd (none_some (cut.ReadFault side) i) };
@@ -109,8 +112,8 @@ pub record FedDone (q : Tree) (s : Sizes) (v : FeedView) (before : ℕ) (w : Opt
   pub writes : f ≤ faults
 
 module _ (first : FirstOfFirst) (are : FedBlocksAreTasks) (leave : CutsLeaveWholeTasks) {O S K : Type 0} (plan : O → Tree) (held : S → Parts) (taken : O → S → Input → Type 0) (wrote : K → Option (List ℕ)) (failed : K → ℕ)
-    (op : O) (s : Sizes) (some : 1 ≤ s.task) (w : Option (List ℕ)) (f : ℕ) (v : FeedView) (before : ℕ) (c : FedCutter) (end : Option End) (stage : Stage S K) (fed : Fed)
-    (r : RunsTo (IsTold plan) first_tasks (IsStageOf plan (seen held wrote failed) taken) (HasFed plan s before v c end) (IsSome end) (first_told op s.task w f) stage fed) where
+    (op : O) (s : Sizes) (some : 1 ≤ s.task) (w : Option (List ℕ)) (f : ℕ) (v : FeedView) (before : ℕ) (c : FedCutter) (k : Keeper) (end : Option End) (stage : Stage S K) (fed : Fed)
+    (r : RunsTo (IsTold plan) first_tasks (IsStageOf plan (seen held wrote failed) taken) (HasFed plan s before v c k end) (IsSome end) (first_told op s.task w f) stage fed) where
   abbrev q : Tree
   q = plan op
 
@@ -118,13 +121,13 @@ module _ (first : FirstOfFirst) (are : FedBlocksAreTasks) (leave : CutsLeaveWhol
   all_input = told_input r.told
 
   cuts : CutsFed q s v.taken v.waiting v.mark c all_input
-  cuts = subst (λ o. CutsFed (plan o) s v.taken v.waiting v.mark c all_input) (op_is first plan held taken wrote failed op s.task w f (HasFed plan s before v c end) (IsSome end) stage fed r) r.is_given.cuts
+  cuts = subst (λ o. CutsFed (plan o) s v.taken v.waiting v.mark c all_input) (op_is first plan held taken wrote failed op s.task w f (HasFed plan s before v c k end) (IsSome end) stage fed r) r.is_given.cuts
 
   given_by : GivenBy s c.cutter end all_input r.count
   given_by = record { size = some; count = r.is_given.count; ended = r.is_given.ended }
 
   came : Came q s c.cutter end all_input stage.state fed.over stage.k w (wrote stage.sink) f (failed stage.sink)
-  came = came_to first plan held taken wrote failed op s w f (HasFed plan s before v c end) (IsSome end) c.cutter end stage fed r given_by
+  came = came_to first plan held taken wrote failed op s w f (HasFed plan s before v c k end) (IsSome end) c.cutter end stage fed r given_by
 
   leaves : (side : Side) → end_of stage.state fed.over end ≡ ReadFault side → TakesWhole q s.task (limits_of s) stage.k v.taken
   leaves side e =

@@ -15,12 +15,15 @@ use Rattle.saber_dispatch.specs.declared.ends.End.TheVariants.{ReadFault}
 use Rattle.saber_dispatch.specs.declared.fed_cutter.FedCutter.{FedCutter}
 use Rattle.saber_dispatch.specs.declared.fed_cutter.Step.{Step}
 use Rattle.saber_dispatch.specs.declared.fed_cutter.Step.TheVariants as steps
-use Rattle.saber_dispatch.specs.Feeding.{StepTo, StepsOn, fed_end_of}
+use Rattle.saber_dispatch.specs.declared.keeper.Keeper.{Keeper}
+use Rattle.saber_dispatch.specs.Cutting.{IsNextBlock}
+use Rattle.saber_dispatch.specs.Feeding.{CutsFed, StepTo, StepsOn, fed_end_of}
 use Rattle.saber_dispatch.specs.FeedLaws.{RefillsKeep}
 use Rattle.saber_dispatch.specs.Supplying.{BlocksAreSupplied}
 use Rattle.saber_crew.specs.Supplies.{GivesRows}
 use Rattle.saber_engine.specs.FedSupplying.{FeedView, IsCounted, HasFed}
 use Rattle.saber_engine.proofs.Counts.{few_blocks, next_count}
+use Rattle.saber_engine.proofs.Passed.{Passes, next_passed, same_with, kept_on}
 
 none_some : {A : Type 0} (x : A) → ◌≡◌ {A = Option A} None (Some x) → ⊥
 none_some x e = cc
@@ -48,7 +51,7 @@ pub record Stepped (v w : FeedView) (old new : FedCutter) (step : Step) : Type 0
   pub good : ((side : Side) → step ≢ steps.Ended (ReadFault side)) → w.faults ≡ v.faults
   pub count : v.faults ≤ w.faults
 
-module _ {O : Type 0} (plan : O → Tree) (s : Sizes) (before : ℕ) (v w : FeedView) (old new : FedCutter) (end : Option End) (open_still : end ≡ None) (step : Step) (called : Stepped v w old new step) (told : Told O) (d : ℕ) (h : HasFed plan s before v old end told d) where
+module _ {O : Type 0} (plan : O → Tree) (s : Sizes) (before : ℕ) (v w : FeedView) (old new : FedCutter) (k : Keeper) (end : Option End) (open_still : end ≡ None) (step : Step) (called : Stepped v w old new step) (told : Told O) (d : ℕ) (h : HasFed plan s before v old k end told d) where
   same_before : v.faults ≡ before
   same_before = h.counted.good (λ side e. none_some (ReadFault side) (sym open_still ∙ e))
 
@@ -69,40 +72,43 @@ module _ {O : Type 0} (plan : O → Tree) (s : Sizes) (before : ℕ) (v w : Feed
         cause = λ side f. absurd (none_some (ReadFault side) (sym open_still ∙ f));
       }
 
-  -- the next task's block came
-  pub block_given : BlocksAreSupplied plan → (b : Block) → step ≡ steps.Block b → GivesRows (IsTold plan) with_block (IsBlockOf plan) (HasFed plan s before w new end) told d b
-  block_given law b e =
+  -- the next task's block came, and was passed on
+  pub block_given : BlocksAreSupplied plan → (b c : Block) (l : Keeper) → step ≡ steps.Block b → Passes k b c l → GivesRows (IsTold plan) with_block (IsBlockOf plan) (HasFed plan s before w new l end) told d c
+  block_given law b c l e p =
       let to = steps_to (steps.Block b) e in
-      let number : b.number ≡ d = to.0.number ∙ sym h.count in
-      let is = law told s b h.size to.0 in (
-        subst (λ t. IsBlockOf plan (with_block told b) t b) number is.block,
-        subst (λ t. IsTold plan (with_block told b) (t + 1)) number is.told_is,
+      let next : IsNextBlock q s (input_of told) c = next_passed q s (input_of told) k b c l p h.kept to.0 in
+      let number : c.number ≡ d = next.number ∙ sym h.count in
+      let is = law told s c h.size next in (
+        subst (λ t. IsBlockOf plan (with_block told c) t c) number is.block,
+        subst (λ t. IsTold plan (with_block told c) (t + 1)) number is.told_is,
         record {
-          cuts = to.1;
+          cuts = subst (CutsFed q s w.taken w.waiting w.mark new) (same_with q s (input_of told) k b c l p h.kept to.0) to.1;
           size = h.size;
-          count = sym (next_count q s (input_of told) b to.0 ∙ ap (λ t. t + 1) number);
+          count = sym (next_count q s (input_of told) c next ∙ ap (λ t. t + 1) number);
+          kept = kept_on q s (input_of told) k b c l p h.kept to.0;
           ended = λ x f. absurd (none_some x (sym open_still ∙ f));
           sound = λ _ side. called.sound b e side;
           counted = still (λ side f. block_not_end b (ReadFault side) (sym e ∙ f));
         },
-        let few = few_blocks q s (input_of told) b to.0 in omega (arith, few, number),
+        let few = few_blocks q s (input_of told) c next in omega (arith, few, number),
       )
 
   -- none is there as yet
-  pub dry : step ≡ steps.Dry → HasFed plan s before w new end told d
+  pub dry : step ≡ steps.Dry → HasFed plan s before w new k end told d
   dry e =
       let to = steps_to steps.Dry e in
       record {
         cuts = to.1;
         size = h.size;
         count = h.count;
+        kept = h.kept;
         ended = λ x f. absurd (none_some x (sym open_still ∙ f));
         sound = λ _ side f. none_some (ReadFault side) (sym to.0.unended ∙ f);
         counted = still (λ side f. dry_not_end (ReadFault side) (sym e ∙ f));
       }
 
   -- none comes any more
-  pub end_given : (e : End) → step ≡ steps.Ended e → HasFed plan s before w new (Some e) told d
+  pub end_given : (e : End) → step ≡ steps.Ended e → HasFed plan s before w new k (Some e) told d
   end_given e is =
       let to = steps_to (steps.Ended e) is in
       let rose : (side : Side) → e ≡ ReadFault side → Rose v.faults w.faults = λ side f. by_case side f (fed_end_of old) refl in
@@ -110,6 +116,7 @@ module _ {O : Type 0} (plan : O → Tree) (s : Sizes) (before : ℕ) (v w : Feed
         cuts = to.1;
         size = h.size;
         count = h.count;
+        kept = h.kept;
         ended = λ x f. to.0 ∙ f;
         sound = λ f. absurd (none_some e (sym f));
         counted = record {
@@ -124,12 +131,13 @@ module _ {O : Type 0} (plan : O → Tree) (s : Sizes) (before : ℕ) (v w : Feed
       by_case side f (Some x) k = absurd (h.sound open_still side (k ∙ ap (λ y. Some y) (sym (same_end e x (sym is ∙ called.again x k)) ∙ f)))
 
 -- a feed that was refilled has given what it gave before
-pub refilled : RefillsKeep → {O : Type 0} (plan : O → Tree) (s : Sizes) (before : ℕ) (v w : FeedView) (c : FedCutter) (end : Option End) (more : Bool) → Refills v.taken w.taken v.waiting w.waiting v.mark w.mark more → w.faults ≡ v.faults
-    → (told : Told O) (d : ℕ) → HasFed plan s before v c end told d → HasFed plan s before w c end told d
-refilled law plan s before v w c end more fills same told d h = record {
+pub refilled : RefillsKeep → {O : Type 0} (plan : O → Tree) (s : Sizes) (before : ℕ) (v w : FeedView) (c : FedCutter) (k : Keeper) (end : Option End) (more : Bool) → Refills v.taken w.taken v.waiting w.waiting v.mark w.mark more → w.faults ≡ v.faults
+    → (told : Told O) (d : ℕ) → HasFed plan s before v c k end told d → HasFed plan s before w c k end told d
+refilled law plan s before v w c k end more fills same told d h = record {
   cuts = law (plan told.operator) s v.taken w.taken v.waiting w.waiting v.mark w.mark c (input_of told) more h.cuts fills;
   size = h.size;
   count = h.count;
+  kept = h.kept;
   ended = h.ended;
   sound = h.sound;
   counted = subst (IsCounted end before) (sym same) h.counted;

@@ -1,4 +1,5 @@
 mod Counts
+mod Passed
 mod Supplied
 mod Assembled
 mod Reaches

@@ -24,6 +24,7 @@ use Rattle.saber_dispatch.specs.declared.ends.End.TheVariants as cut
 use Rattle.saber_dispatch.specs.declared.inputs.Inputs.{Inputs}
 use Rattle.saber_dispatch.specs.declared.inputs.Inputs.TheVariants.{One, Two}
 use Rattle.saber_dispatch.specs.declared.cutter.Cutter.{Cutter}
+use Rattle.saber_dispatch.specs.declared.keeper.Keeper.{Keeper}
 use Rattle.saber_dispatch.specs.Sources.{Lefts, RoseAt, NoneFell, each_input}
 use Rattle.saber_dispatch.specs.Readings.{Reading, one, two, Suits, ReadMoves}
 use Rattle.saber_dispatch.specs.Cutting.{Cuts, fresh, fresh_on}
@@ -56,8 +57,8 @@ pub record Done (q : Tree) (s : Sizes) (had has : Lefts) (before now : List ℕ)
   pub writes : f ≤ faults
 
 module _ (first : FirstOfFirst) (are : telling.BlocksAreTasks) (leave : FaultsLeaveWholeTasks) {O S K : Type 0} (plan : O → Tree) (held : S → Parts) (taken : O → S → Input → Type 0) (wrote : K → Option (List ℕ)) (failed : K → ℕ)
-    (op : O) (s : Sizes) (w : Option (List ℕ)) (f : ℕ) (had has : Lefts) (before now : List ℕ) (c : Cutter) (end : Option End) (stage : Stage S K) (fed : Fed)
-    (r : RunsTo (IsTold plan) first_tasks (IsStageOf plan (seen held wrote failed) taken) (HasGiven plan s had has before now c end) (IsSome end) (first_told op s.task w f) stage fed) where
+    (op : O) (s : Sizes) (w : Option (List ℕ)) (f : ℕ) (had has : Lefts) (before now : List ℕ) (c : Cutter) (k : Keeper) (end : Option End) (stage : Stage S K) (fed : Fed)
+    (r : RunsTo (IsTold plan) first_tasks (IsStageOf plan (seen held wrote failed) taken) (HasGiven plan s had has before now c k end) (IsSome end) (first_told op s.task w f) stage fed) where
   abbrev q : Tree
   q = plan op
 
@@ -65,13 +66,13 @@ module _ (first : FirstOfFirst) (are : telling.BlocksAreTasks) (leave : FaultsLe
   all = told_input r.told
 
   cuts : Cuts q s had has c all
-  cuts = subst (λ o. Cuts (plan o) s had has c all) (op_is first plan held taken wrote failed op s.task w f (HasGiven plan s had has before now c end) (IsSome end) stage fed r) r.is_given.cuts
+  cuts = subst (λ o. Cuts (plan o) s had has c all) (op_is first plan held taken wrote failed op s.task w f (HasGiven plan s had has before now c k end) (IsSome end) stage fed r) r.is_given.cuts
 
   given_by : GivenBy s c end all r.count
   given_by = record { size = cuts.sizes.task.0; count = r.is_given.count ∙ cuts.count; ended = r.is_given.ended }
 
   came : Came q s c end all stage.state fed.over stage.k w (wrote stage.sink) f (failed stage.sink)
-  came = came_to first plan held taken wrote failed op s w f (HasGiven plan s had has before now c end) (IsSome end) c end stage fed r given_by
+  came = came_to first plan held taken wrote failed op s w f (HasGiven plan s had has before now c k end) (IsSome end) c end stage fed r given_by
 
   told_so : (files : List (List ℕ)) → Suits (fresh q (limits_of s)) had → had ≡ map Some files → telling.AreTasks q s c all (input_of q (limits_of s) files)
   told_so files suits e = are q s files has c all (subst (Suits (fresh q (limits_of s))) e suits) (subst (λ l. Cuts q s l has c all) e cuts)

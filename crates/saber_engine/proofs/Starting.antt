@@ -20,11 +20,13 @@ use Rattle.saber_workers.specs.Queries.{Suits}
 use Rattle.saber_crew.specs.Runs.{BeginsRun}
 use Rattle.saber_dispatch.specs.declared.ends.End.TheVariants.{ReadFault}
 use Rattle.saber_dispatch.specs.declared.cutter.Cutter.{Cutter}
+use Rattle.saber_dispatch.specs.declared.keeper.Keeper.{Keeper}
 use Rattle.saber_dispatch.specs.Sources.{Lefts}
 use Rattle.saber_dispatch.specs.Readings as readings
 use Rattle.saber_dispatch.specs.Cutting.{Cuts, CutsNothing, fresh, end_of}
 use Rattle.saber_engine.specs.Supplying.{HasGiven, first_told}
 use Rattle.saber_engine.proofs.Counts.{none_same}
+use Rattle.saber_engine.proofs.Passed.{kept_none}
 use Rattle.saber_plan.specs.CountFacts.{tasks_have_rows}
 
 none_some : {A : Type 0} (x : A) → ◌≡◌ {A = Option A} None (Some x) → ⊥
@@ -38,14 +40,15 @@ unfolding Ordered
 fits_none q = record { rows = tt; ordered = tt; left = omega arith; right = omega arith }
 
 -- no block was given
-pub given_none : {O : Type 0} (plan : O → Tree) (op : O) (s : Sizes) (had : Lefts) (before : List ℕ) (w : Option (List ℕ)) (f : ℕ) (c : Cutter) → CutsNothing (plan op) s c → end_of c ≡ None → readings.Suits (fresh (plan op) (limits_of s)) had → HasGiven plan s had had before before c None (first_told op s.task w f) 0
-given_none plan op s had before w f c nothing open_still suits =
+pub given_none : {O : Type 0} (plan : O → Tree) (op : O) (s : Sizes) (had : Lefts) (before : List ℕ) (w : Option (List ℕ)) (f : ℕ) (c : Cutter) (k : Keeper) → CutsNothing (plan op) s c → end_of c ≡ None → readings.Suits (fresh (plan op) (limits_of s)) had → k.kept ≡ None → HasGiven plan s had had before before c k None (first_told op s.task w f) 0
+given_none plan op s had before w f c k nothing open_still suits kept =
     let cuts : Cuts (plan op) s had had c (going_on []) = nothing had suits in
     let few : div_ceil 0 s.task ≤ 0 = tasks_have_rows s.task 0 cuts.sizes.task.0 in
     record {
       cuts = cuts;
       size = refl;
       count = let n = cuts.count in omega (arith, few, n);
+      kept = kept_none k kept;
       ended = λ e i. absurd (none_some e i);
       sound = λ _ side i. none_some (ReadFault side) (sym open_still ∙ i);
       counted = record { fell = none_same before; good = λ _. refl; cause = λ side i. absurd (none_some (ReadFault side) i) };

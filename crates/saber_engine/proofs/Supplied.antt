@@ -4,6 +4,7 @@ use Rattle.std.specs.Prelude.{Option, Some, None, IfSome}
 use Rattle.saber_plan.specs.declared.rows.Side.{Side}
 use Rattle.saber_plan.specs.declared.sizes.Sizes.{Sizes}
 use Rattle.saber_plan.specs.Trees.{Tree}
+use Rattle.saber_plan.specs.Tasks.{task_count}
 use Rattle.saber_fragment.specs.declared.blocks.Block.{Block}
 use Rattle.saber_assembly.specs.declared.work.Told.{Told}
 use Rattle.saber_assembly.specs.Works.{IsTold, IsBlockOf, input_of, with_block}
@@ -12,12 +13,14 @@ use Rattle.saber_dispatch.specs.declared.ends.End.TheVariants.{ReadFault}
 use Rattle.saber_dispatch.specs.declared.cutter.Cutter.{Cutter}
 use Rattle.saber_dispatch.specs.declared.cutter.Cut.{Cut}
 use Rattle.saber_dispatch.specs.declared.cutter.Cut.TheVariants as cuts
+use Rattle.saber_dispatch.specs.declared.keeper.Keeper.{Keeper}
 use Rattle.saber_dispatch.specs.Sources.{Lefts, RoseAt, NoneFell}
-use Rattle.saber_dispatch.specs.Cutting.{CutTo, CutsOn, end_of}
+use Rattle.saber_dispatch.specs.Cutting.{Cuts, CutTo, CutsOn, IsNextBlock, end_of}
 use Rattle.saber_dispatch.specs.Supplying.{BlocksAreSupplied}
 use Rattle.saber_crew.specs.Supplies.{GivesRows}
 use Rattle.saber_engine.specs.Supplying.{HasGiven}
 use Rattle.saber_engine.proofs.Counts.{none_same, few_blocks, next_count}
+use Rattle.saber_engine.proofs.Passed.{Passes, next_passed, same_with, kept_on}
 
 pub if_some : {A : Type 0} (P : A → Type 0) (o : Option A) (x : A) → o ≡ Some x → IfSome o P → P x
 if_some P o x e h = subst (λ z. IfSome z P) e h
@@ -43,24 +46,26 @@ pub record Called (left has : Lefts) (mid now : List ℕ) (old new : Cutter) (cu
   pub good : ((side : Side) → cut ≢ cuts.Ended (ReadFault side)) → now ≡ mid
   pub count : NoneFell mid now
 
-module _ {O : Type 0} (plan : O → Tree) (s : Sizes) (had left has : Lefts) (before mid now : List ℕ) (old new : Cutter) (end : Option End) (open_still : end ≡ None) (cut : Cut) (called : Called left has mid now old new cut) (told : Told O) (d : ℕ) (h : HasGiven plan s had left before mid old end told d) where
+module _ {O : Type 0} (plan : O → Tree) (s : Sizes) (had left has : Lefts) (before mid now : List ℕ) (old new : Cutter) (k : Keeper) (end : Option End) (open_still : end ≡ None) (cut : Cut) (called : Called left has mid now old new cut) (told : Told O) (d : ℕ) (h : HasGiven plan s had left before mid old k end told d) where
   same_before : mid ≡ before
   same_before = h.counted.good (λ side e. none_some (ReadFault side) (sym open_still ∙ e))
 
-  -- the next task's block came
-  pub block_given : BlocksAreSupplied plan → (b : Block) → cut ≡ cuts.Block b → GivesRows (IsTold plan) with_block (IsBlockOf plan) (HasGiven plan s had has before now new end) told d b
-  block_given law b e =
+  -- the next task's block came, and was passed on
+  pub block_given : BlocksAreSupplied plan → (b c : Block) (l : Keeper) → cut ≡ cuts.Block b → Passes k b c l → GivesRows (IsTold plan) with_block (IsBlockOf plan) (HasGiven plan s had has before now new l end) told d c
+  block_given law b c l e p =
       let q : Tree = plan told.operator in
       let to : CutTo (cuts.Block b) q s had has new (input_of told) = subst (λ z. CutTo z q s had has new (input_of told)) e (called.on q s had (input_of told) h.cuts) in
-      let number : b.number ≡ d = to.0.number ∙ sym h.cuts.count ∙ sym h.count in
-      let is = law told s b h.size to.0 in
+      let next : IsNextBlock q s (input_of told) c = next_passed q s (input_of told) k b c l p h.kept to.0 in
+      let number : c.number ≡ d = next.number ∙ sym h.cuts.count ∙ sym h.count in
+      let is = law told s c h.size next in
       let same : now ≡ before = called.good (λ side f. block_not_end b (ReadFault side) (sym e ∙ f)) ∙ same_before in (
-        subst (λ t. IsBlockOf plan (with_block told b) t b) number is.block,
-        subst (λ t. IsTold plan (with_block told b) (t + 1)) number is.told_is,
+        subst (λ t. IsBlockOf plan (with_block told c) t c) number is.block,
+        subst (λ t. IsTold plan (with_block told c) (t + 1)) number is.told_is,
         record {
-          cuts = to.1;
+          cuts = subst (Cuts q s had has new) (same_with q s (input_of told) k b c l p h.kept to.0) to.1;
           size = h.size;
-          count = sym (to.1.count ∙ next_count q s (input_of told) b to.0 ∙ ap (λ t. t + 1) number);
+          count = sym (to.1.count ∙ ap (task_count s.task) (same_with q s (input_of told) k b c l p h.kept to.0) ∙ next_count q s (input_of told) c next ∙ ap (λ t. t + 1) number);
+          kept = kept_on q s (input_of told) k b c l p h.kept to.0;
           ended = λ x f. absurd (none_some x (sym open_still ∙ f));
           sound = λ _ side. called.sound b e side;
           counted = record {
@@ -69,11 +74,11 @@ module _ {O : Type 0} (plan : O → Tree) (s : Sizes) (had left has : Lefts) (be
             cause = λ side f. absurd (none_some (ReadFault side) (sym open_still ∙ f));
           };
         },
-        let few = few_blocks q s (input_of told) b to.0 in omega (arith, few, number),
+        let few = few_blocks q s (input_of told) c next in omega (arith, few, number),
       )
 
   -- none came
-  pub end_given : (e : End) → cut ≡ cuts.Ended e → HasGiven plan s had has before now new (Some e) told d
+  pub end_given : (e : End) → cut ≡ cuts.Ended e → HasGiven plan s had has before now new k (Some e) told d
   end_given e is =
       let q : Tree = plan told.operator in
       let to : CutTo (cuts.Ended e) q s had has new (input_of told) = subst (λ z. CutTo z q s had has new (input_of told)) is (called.on q s had (input_of told) h.cuts) in
@@ -82,6 +87,7 @@ module _ {O : Type 0} (plan : O → Tree) (s : Sizes) (had left has : Lefts) (be
         cuts = to.1;
         size = h.size;
         count = h.count ∙ h.cuts.count ∙ sym to.1.count;
+        kept = h.kept;
         ended = λ x f. to.0 ∙ f;
         sound = λ f. absurd (none_some e (sym f));
         counted = record {

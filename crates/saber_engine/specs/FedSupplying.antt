@@ -12,7 +12,9 @@ use Rattle.saber_assembly.specs.Works.{IsTold, IsBlockOf, input_of, with_block}
 use Rattle.saber_dispatch.specs.declared.ends.End.{End}
 use Rattle.saber_dispatch.specs.declared.ends.End.TheVariants.{ReadFault}
 use Rattle.saber_dispatch.specs.declared.fed_cutter.FedCutter.{FedCutter}
+use Rattle.saber_dispatch.specs.declared.keeper.Keeper.{Keeper}
 use Rattle.saber_dispatch.specs.Feeding.{CutsFed, fed_end_of}
+use Rattle.saber_dispatch.specs.Keeping.{KeepsLast}
 use Rattle.saber_crew.specs.declared.supply.Supplied.{Supplied}
 use Rattle.saber_crew.specs.Supplies.{Gives}
 
@@ -33,13 +35,14 @@ pub record IsCounted (end : Option End) (before now : ℕ) : Type 0 where
   pub good : ((side : Side) → end ≢ Some (ReadFault side)) → now ≡ before
   pub cause : (side : Side) → end ≡ Some (ReadFault side) → Rose before now
 
--- Of a feed with such a count when the run began, so many blocks were given, and the data have their rows. Once the blocks ended, the cutter
--- tells their end, and until then the feed was not found cut off.
-pub record HasFed {O : Type 0} (plan : O → Tree) (s : Sizes) (before : ℕ) (v : FeedView) (c : FedCutter) (end : Option End)
+-- Of a feed with such a count when the run began, so many blocks were given, and the data have their rows, of which the last are kept, if any
+-- are. Once the blocks ended, the cutter tells their end, and until then the feed was not found cut off.
+pub record HasFed {O : Type 0} (plan : O → Tree) (s : Sizes) (before : ℕ) (v : FeedView) (c : FedCutter) (k : Keeper) (end : Option End)
     (told : Told O) (d : ℕ) : Type 0 where
   pub cuts : CutsFed (plan told.operator) s v.taken v.waiting v.mark c (input_of told)
   pub size : told.size ≡ s.task
   pub count : d ≡ task_count s.task (input_of told)
+  pub kept : KeepsLast k told.rows
   pub ended : (e : End) → end ≡ Some e → fed_end_of c ≡ Some e
   pub sound : end ≡ None → (side : Side) → fed_end_of c ≢ Some (ReadFault side)
   pub counted : IsCounted end before v.faults
@@ -50,19 +53,20 @@ module _ {T R : Type 0} (is_told : T → ℕ → Type 0) (filled : T → R → T
   Tries None = given told d
   Tries (Some supplied) = Gives is_told filled is_rows given told d supplied
 
--- where the blocks of a feed stand: the feed, the cutter, and how the blocks ended, once they did
+-- where the blocks of a feed stand: the feed, the cutter, what is kept for the next block, and how the blocks ended, once they did
 pub record FedStanding : Type 0 where
   pub view : FeedView
   pub cutter : FedCutter
+  pub keeper : Keeper
   pub end : Option End
 
-abbrev pub fed_standing : FeedView → FedCutter → Option End → FedStanding
-fed_standing view cutter end = record { view = view; cutter = cutter; end = end }
+abbrev pub fed_standing : FeedView → FedCutter → Keeper → Option End → FedStanding
+fed_standing view cutter keeper end = record { view = view; cutter = cutter; keeper = keeper; end = end }
 
 module _ {O : Type 0} (plan : O → Tree) (s : Sizes) (faults : ℕ) where
   -- of a feed with such a count, so many blocks were given
   abbrev pub FedAt : FedStanding → Told O → ℕ → Type 0
-  FedAt now told d = HasFed plan s faults now.view now.cutter now.end told d
+  FedAt now told d = HasFed plan s faults now.view now.cutter now.keeper now.end told d
 
   -- some blocks were given
   abbrev pub FedSome : FedStanding → Type 0

@@ -10,8 +10,10 @@ use Rattle.saber_dispatch.specs.declared.ends.End.{End}
 use Rattle.saber_dispatch.specs.declared.ends.End.TheVariants.{ReadFault}
 use Rattle.saber_dispatch.specs.declared.cutter.Cutter.{Cutter}
 use Rattle.saber_dispatch.specs.declared.inputs.Inputs.{Inputs}
+use Rattle.saber_dispatch.specs.declared.keeper.Keeper.{Keeper}
 use Rattle.saber_dispatch.specs.Sources.{Lefts, RoseAt, NoneFell, each_input}
 use Rattle.saber_dispatch.specs.Cutting.{Cuts, end_of}
+use Rattle.saber_dispatch.specs.Keeping.{KeepsLast}
 use Rattle.saber_crew.specs.declared.supply.Supplied.{Supplied}
 use Rattle.saber_crew.specs.Supplies.{Gives}
 
@@ -21,13 +23,14 @@ pub record AreCounted (end : Option End) (before now : List ℕ) : Type 0 where
   pub good : ((side : Side) → end ≢ Some (ReadFault side)) → now ≡ before
   pub cause : (side : Side) → end ≡ Some (ReadFault side) → RoseAt side before now
 
--- Of inputs that had so much left and such counts, so many blocks were given, and the data have their rows. Once the blocks ended, the
--- cutter tells their end, and until then no read had failed.
-pub record HasGiven {O : Type 0} (plan : O → Tree) (s : Sizes) (had has : Lefts) (before now : List ℕ) (c : Cutter) (end : Option End)
+-- Of inputs that had so much left and such counts, so many blocks were given, and the data have their rows, of which the last are kept, if
+-- any are. Once the blocks ended, the cutter tells their end, and until then no read had failed.
+pub record HasGiven {O : Type 0} (plan : O → Tree) (s : Sizes) (had has : Lefts) (before now : List ℕ) (c : Cutter) (k : Keeper) (end : Option End)
     (told : Told O) (d : ℕ) : Type 0 where
   pub cuts : Cuts (plan told.operator) s had has c (input_of told)
   pub size : told.size ≡ s.task
   pub count : d ≡ c.number
+  pub kept : KeepsLast k told.rows
   pub ended : (e : End) → end ≡ Some e → end_of c ≡ Some e
   pub sound : end ≡ None → (side : Side) → end_of c ≢ Some (ReadFault side)
   pub counted : AreCounted end before now
@@ -36,20 +39,28 @@ pub record HasGiven {O : Type 0} (plan : O → Tree) (s : Sizes) (had has : Left
 abbrev pub first_told : {O : Type 0} → O → ℕ → Option (List ℕ) → ℕ → Told O
 first_told operator size written faults = record { operator = operator; size = size; written = written; faults = faults; rows = []; ended = false }
 
--- where the blocks of inputs stand: what each input has left, and its count of faults; the cutter; and how the blocks ended, once they did
+-- where the blocks of inputs stand: what each input has left, and its count of faults; the cutter, and what is kept for the next block; and
+-- how the blocks ended, once they did
 pub record Standing : Type 0 where
   pub lefts : Lefts
   pub faults : List ℕ
   pub cutter : Cutter
+  pub keeper : Keeper
   pub end : Option End
 
-abbrev pub standing : {S : Type 0} → (S → Option (List ℕ)) → (S → ℕ) → Inputs S → Cutter → Option End → Standing
-standing left faults inputs cutter end = record { lefts = each_input left inputs; faults = each_input faults inputs; cutter = cutter; end = end }
+abbrev pub standing : {S : Type 0} → (S → Option (List ℕ)) → (S → ℕ) → Inputs S → Cutter → Keeper → Option End → Standing
+standing left faults inputs cutter keeper end = record {
+  lefts = each_input left inputs;
+  faults = each_input faults inputs;
+  cutter = cutter;
+  keeper = keeper;
+  end = end;
+}
 
 module _ {O : Type 0} (plan : O → Tree) (s : Sizes) (lefts : Lefts) (faults : List ℕ) where
   -- of inputs that had so much left and such counts, so many blocks were given
   abbrev pub GivenAt : Standing → Told O → ℕ → Type 0
-  GivenAt now told d = HasGiven plan s lefts now.lefts faults now.faults now.cutter now.end told d
+  GivenAt now told d = HasGiven plan s lefts now.lefts faults now.faults now.cutter now.keeper now.end told d
 
   -- some blocks were given
   abbrev pub GivenSome : Standing → Type 0

@@ -6,7 +6,7 @@ ghost use Rattle.saber_engine.specs.Supplying.{standing, GivenAt, GivenSome, Giv
 
 use saber_assembly::SaberWork;
 use saber_crew::{Supplied, Supply};
-use saber_dispatch::{Cut, Cutter, End, Inputs, blocks_are_supplied};
+use saber_dispatch::{Cut, Cutter, End, Inputs, Keeper, blocks_are_supplied};
 use saber_fragment::{Block, Operator};
 use saber_io::{Sink, Source};
 use std::marker::{Brand, PhantomData};
@@ -34,6 +34,7 @@ impl Begins for Brand {
 /// The blocks of a run that began so, and how they ended, once they did.
 pub(crate) struct Blocks<S, J> {
     pub(crate) cutter: Cutter,
+    pub(crate) keeper: Keeper,
     pub(crate) end: Option<End>,
     pub(crate) source: PhantomData<S>,
     pub(crate) begun: PhantomData<J>,
@@ -42,15 +43,15 @@ pub(crate) struct Blocks<S, J> {
 impl<S: Source, J: Begins, O: Operator, K: Sink> Supply<SaberWork<O, K>> for Blocks<S, J> {
     type From = Inputs<S>;
 
-    ghost has_given = { λ blocks from told d. GivenAt O.plan J.sizes J.lefts J.faults (standing S.left S.faults from blocks.cutter blocks.end) told d };
+    ghost has_given = { λ blocks from told d. GivenAt O.plan J.sizes J.lefts J.faults (standing S.left S.faults from blocks.cutter blocks.keeper blocks.end) told d };
 
     ghost is_over = { λ blocks. IsSome blocks.end };
 
     fn next(&mut self, from: &mut Inputs<S>) -> Supplied<Block>
-        requires { GivenSome O.plan J.sizes J.lefts J.faults (standing S.left S.faults from.old self.old.cutter self.old.end) }
+        requires { GivenSome O.plan J.sizes J.lefts J.faults (standing S.left S.faults from.old self.old.cutter self.old.keeper self.old.end) }
         ensures gives { GivesNext O.plan J.sizes J.lefts J.faults
-            (standing S.left S.faults from.old self.old.cutter self.old.end)
-            (standing S.left S.faults from.new self.new.cutter self.new.end) result }
+            (standing S.left S.faults from.old self.old.cutter self.old.keeper self.old.end)
+            (standing S.left S.faults from.new self.new.cutter self.new.keeper self.new.end) result }
         ensures over { result ≡ Supplied.Over → IsSome self.new.end }
 
         // Files have each block at once, or none any more.
@@ -60,7 +61,7 @@ impl<S: Source, J: Begins, O: Operator, K: Sink> Supply<SaberWork<O, K>> for Blo
         match self.end {
             Some(_) => Supplied::Over,
             None => match self.cutter.next_block(from) {
-                Cut::Block(block) => Supplied::Rows(block),
+                Cut::Block(block) => Supplied::Rows(self.keeper.pass_on(block)),
                 Cut::Ended(end) => {
                     self.end = Some(end);
                     Supplied::Over

@@ -5,7 +5,7 @@ ghost use Rattle.saber_engine.specs.FedSupplying.{feed_seen, fed_standing, FedAt
 
 use saber_assembly::SaberWork;
 use saber_crew::{Supplied, Supply};
-use saber_dispatch::{End, FedCutter, Step, blocks_are_supplied, refills_keep};
+use saber_dispatch::{End, FedCutter, Keeper, Step, blocks_are_supplied, refills_keep};
 use saber_fragment::{Block, Operator};
 use saber_io::{Feed, Sink};
 use std::marker::{Brand, PhantomData};
@@ -31,6 +31,7 @@ impl BeginsFed for Brand {
 /// The blocks of a run over a feed that began so, and how they ended, once they did.
 pub(crate) struct FedBlocks<F, J> {
     pub(crate) cutter: FedCutter,
+    pub(crate) keeper: Keeper,
     pub(crate) end: Option<End>,
     pub(crate) feed: PhantomData<F>,
     pub(crate) begun: PhantomData<J>,
@@ -42,18 +43,18 @@ fn try_next<F: Feed, J: BeginsFed, O: Operator>(
     blocks: &mut FedBlocks<F, J>,
     feed: &mut F,
 ) -> Option<Supplied<Block>>
-    requires given { FedSome O.plan J.sizes J.faults (fed_standing (feed_seen F.taken F.waiting F.mark F.faults feed.old) blocks.old.cutter blocks.old.end) }
+    requires given { FedSome O.plan J.sizes J.faults (fed_standing (feed_seen F.taken F.waiting F.mark F.faults feed.old) blocks.old.cutter blocks.old.keeper blocks.old.end) }
     requires goes { blocks.old.end ≡ None }
     ensures gives { TriesNext O.plan J.sizes J.faults
-        (fed_standing (feed_seen F.taken F.waiting F.mark F.faults feed.old) blocks.old.cutter blocks.old.end)
-        (fed_standing (feed_seen F.taken F.waiting F.mark F.faults feed.new) blocks.new.cutter blocks.new.end) result }
+        (fed_standing (feed_seen F.taken F.waiting F.mark F.faults feed.old) blocks.old.cutter blocks.old.keeper blocks.old.end)
+        (fed_standing (feed_seen F.taken F.waiting F.mark F.faults feed.new) blocks.new.cutter blocks.new.keeper blocks.new.end) result }
     ensures over { result ≡ Some Supplied.Over → IsSome blocks.new.end }
     ensures goes { result ≡ None → blocks.new.end ≡ None }
 {
     blocks_are_supplied::<O>();
     refills_keep();
     match blocks.cutter.step(feed) {
-        Step::Block(block) => Some(Supplied::Rows(block)),
+        Step::Block(block) => Some(Supplied::Rows(blocks.keeper.pass_on(block))),
         Step::Ended(end) => {
             blocks.end = Some(end);
             Some(Supplied::Over)
@@ -72,15 +73,15 @@ impl<F: Feed, J: BeginsFed, O: Operator, K: Sink> Supply<SaberWork<O, K>> for Fe
     type From = F;
 
     ghost has_given = { λ blocks from told d.
-        FedAt O.plan J.sizes J.faults (fed_standing (feed_seen F.taken F.waiting F.mark F.faults from) blocks.cutter blocks.end) told d };
+        FedAt O.plan J.sizes J.faults (fed_standing (feed_seen F.taken F.waiting F.mark F.faults from) blocks.cutter blocks.keeper blocks.end) told d };
 
     ghost is_over = { λ blocks. IsSome blocks.end };
 
     fn next(&mut self, from: &mut F) -> Supplied<Block>
-        requires { FedSome O.plan J.sizes J.faults (fed_standing (feed_seen F.taken F.waiting F.mark F.faults from.old) self.old.cutter self.old.end) }
+        requires { FedSome O.plan J.sizes J.faults (fed_standing (feed_seen F.taken F.waiting F.mark F.faults from.old) self.old.cutter self.old.keeper self.old.end) }
         ensures gives { FeedsNext O.plan J.sizes J.faults
-            (fed_standing (feed_seen F.taken F.waiting F.mark F.faults from.old) self.old.cutter self.old.end)
-            (fed_standing (feed_seen F.taken F.waiting F.mark F.faults from.new) self.new.cutter self.new.end) result }
+            (fed_standing (feed_seen F.taken F.waiting F.mark F.faults from.old) self.old.cutter self.old.keeper self.old.end)
+            (fed_standing (feed_seen F.taken F.waiting F.mark F.faults from.new) self.new.cutter self.new.keeper self.new.end) result }
         ensures over { result ≡ Supplied.Over → IsSome self.new.end }
     {
         if self.end.is_some() {

@@ -16,7 +16,7 @@ use crate::ends::{Ran, RunEnd, ended};
 use crate::fed_blocks::{BeginsFed, FedBlocks};
 use saber_assembly::{SaberWork, Stage};
 use saber_crew::{Over, run};
-use saber_dispatch::{FedCutter, cuts_leave_whole_tasks, fed_blocks_are_tasks};
+use saber_dispatch::{FedCutter, Keeper, cuts_leave_whole_tasks, fed_blocks_are_tasks};
 use saber_fragment::Operator;
 use saber_io::{EndMark, Feed, Gate, Pour};
 use saber_laws::{checked_fit, first_of_first, no_rows_give_nothing, no_tasks_no_rows};
@@ -76,8 +76,10 @@ where
     let Ok(cutter) = FedCutter::new(alloc, plan, sizes) else {
         return ended(stage, Over::NoMemory, None);
     };
+    let keeper = Keeper::new(alloc, plan, sizes);
     let mut blocks = FedBlocks::<F, J> {
         cutter,
+        keeper,
         end: None,
         feed: PhantomData,
         begun: PhantomData,
@@ -101,6 +103,7 @@ where
     );
     let FedBlocks {
         cutter: _cutter,
+        keeper: _keeper,
         end,
         feed: _feed,
         begun: _begun,

@@ -15,7 +15,7 @@ use crate::cells::cells;
 use crate::ends::{Ran, RunEnd, ended};
 use saber_assembly::{SaberWork, Stage};
 use saber_crew::{Over, run};
-use saber_dispatch::{Cutter, Inputs, blocks_are_tasks, faults_leave_whole_tasks};
+use saber_dispatch::{Cutter, Inputs, Keeper, blocks_are_tasks, faults_leave_whole_tasks};
 use saber_fragment::Operator;
 use saber_io::{Gate, Pour, Source};
 use saber_laws::{checked_fit, first_of_first, no_rows_give_nothing, no_tasks_no_rows};
@@ -73,8 +73,10 @@ where
     let Ok(cutter) = Cutter::new(alloc, plan, sizes) else {
         return ended(stage, Over::NoMemory, None);
     };
+    let keeper = Keeper::new(alloc, plan, sizes);
     let mut blocks = Blocks::<S, J> {
         cutter,
+        keeper,
         end: None,
         source: PhantomData,
         begun: PhantomData,
@@ -98,6 +100,7 @@ where
     );
     let Blocks {
         cutter: _cutter,
+        keeper: _keeper,
         end,
         source: _source,
         begun: _begun,

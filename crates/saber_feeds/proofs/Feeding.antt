@@ -1,5 +1,5 @@
 -- A draft of a task, block by block.
-use Rattle.std.proofs.Common.{◌≡◌, ℕ, ◌+◌, ◌≤◌, List, [], ◌∷◌, ◌++◌, slice_range, Bool, true, false, cond, ◌==◌, refl, sym, ◌∙◌, ap, subst, le_trans, arith}
+use Rattle.std.proofs.Common.{◌≡◌, ℕ, ◌+◌, ◌≤◌, List, [], ◌∷◌, ◌++◌, take, slice_range, Bool, true, false, cond, ◌==◌, refl, sym, ◌∙◌, ap, subst, le_trans, arith}
 use Rattle.std.proofs.lemmas.Bool.Decides.{nat_tests}
 use Rattle.saber_plan.specs.declared.rows.Row.{Row}
 use Rattle.saber_plan.specs.Inputs.{Input}
@@ -16,10 +16,11 @@ use Rattle.saber_laws.specs.Ends.{CutsRise, NoneNeededBehind}
 use Rattle.saber_laws.specs.Needs.{TasksLookBack}
 use Rattle.saber_laws.specs.Shares.{SharesNeedNoMore}
 use Rattle.saber_fragment.specs.declared.blocks.Block.{Block}
-use Rattle.saber_fragment.specs.Drafts.{Sight, own_sight, begins, fed, CanFeed}
+use Rattle.saber_fragment.specs.declared.blocks.Earlier.{Earlier}
+use Rattle.saber_fragment.specs.Drafts.{EndWith, CanStart, Sight, own_sight, begins, fed, CanFeed, IsWhole, IsSightOf}
 use Rattle.saber_feeds.specs.Feeds.{IsBlock, sight_to, IsFed}
 use Rattle.saber_plan.specs.ListFacts.{slice-join, nothing_between}
-use Rattle.saber_feeds.proofs.Slicing.{fits_between, not_before, mark_on}
+use Rattle.saber_feeds.proofs.Slicing.{fits_between, not_before, mark_on, mark_behind, fits_behind}
 
 -- where rows begin, of which there are none with the first block
 starts_at : (l : List Row) (c : Bool) (t m b : Mark) → (c ≡ true → l ≡ []) → b ≡ mark_after m l → begins l (cond c t m) b ≡ m
@@ -65,24 +66,39 @@ module _ (cuts : CutsRise) (marks : MarksGoOn) (behind : NoneNeededBehind) (back
     | false ↦ λ e. mark_on marks r (at f) (at u) (rises f u h) (not_before r (at u) (at t) (rises u t l) e)
   ] refl
 
-  begun : (b : Block) → IsBlock q n r t b → own_sight b ≡ sight_to q n r t f
+  own_rises : at t ≤ at (t + 1)
+  own_rises = rises t (t + 1) next_up
+
+  own_fit : RowsFit q (task_mark n r t) (task_rows n r t)
+  own_fit = fits_between q r (at t) (at (t + 1)) fits
+
+  -- the earlier rows that its block has stand right before the task's own
+  started : (b : Block) → IsBlock q n r t b → (upto n r t).ended ≡ false → CanStart q b
+  started b h opens = record {
+    fits = subst (λ m. RowsFit q m b.rows) (sym h.before) (subst (RowsFit q (task_mark n r t)) (sym h.rows) own_fit);
+    meets = h.before ∙ mark_behind r (at t) b.earlier h.earlier opens;
+    all_fit = subst (λ l. RowsFit q b.earlier.before (b.earlier.rows ++ l)) (sym h.rows) (fits_behind r (at t) b.earlier h.earlier q (at (t + 1)) own_rises fits);
+  }
+
+  begun : (b : Block) → IsBlock q n r t b → own_sight b ≡ sight_to q n r t b.earlier f
   begun b h = λ j. record {
     first = (h.before ∙ sym (ap (λ c. cond c (task_mark n r t) (back_mark q n r t)) (itself f))) j;
     back = sym (nothing_between r.rows (at f)) j;
+    earlier = b.earlier;
     before = h.before j;
     rows = h.rows j;
     ended = h.ended j;
   }
 
-  module _ (u : ℕ) (b : Block) (low : f ≤ u) (high : u + 1 ≤ t) (is : IsBlock q n r u b) where
+  module _ (e : Earlier) (u : ℕ) (b : Block) (low : f ≤ u) (high : u + 1 ≤ t) (is : IsBlock q n r u b) where
     abbrev s : Sight
-    s = sight_to q n r t u
+    s = sight_to q n r t e u
 
     up : u ≤ u + 1
     up = omega arith
 
     none_yet : (u == f) ≡ true → slice_range r.rows (at f) (at u) ≡ []
-    none_yet e = ap (λ k. slice_range r.rows (at f) (at k)) (same_if u f e) ∙ nothing_between r.rows (at f)
+    none_yet first = ap (λ k. slice_range r.rows (at f) (at k)) (same_if u f first) ∙ nothing_between r.rows (at f)
 
     there : b.before ≡ mark_after (back_mark q n r t) (slice_range r.rows (at f) (at u))
     there = is.before ∙ mark_to u low (le_trans up high)
@@ -102,31 +118,45 @@ module _ (cuts : CutsRise) (marks : MarksGoOn) (behind : NoneNeededBehind) (back
       goes_on = there ∙ sym (ap (λ m. mark_after m (slice_range r.rows (at f) (at u))) first_is);
       meets = mark_to t looks_back (omega arith) ∙ sym (λ j. mark_after (first_is j) (all_is j));
       fits = subst (λ m. RowsFit q m (((fed s b).back ++ slice_range r.rows (at (u + 1)) (at t)) ++ task_rows n r t)) (sym first_is)
-          (subst (RowsFit q (back_mark q n r t)) (slice-join r.rows (at f) (at t) (at (t + 1)) (rises f t looks_back) (rises t (t + 1) next_up) ∙ ap (λ l. l ++ task_rows n r t) (sym all_is)) (fits_between q r (at f) (at (t + 1)) fits));
+          (subst (RowsFit q (back_mark q n r t)) (slice-join r.rows (at f) (at t) (at (t + 1)) (rises f t looks_back) own_rises ∙ ap (λ l. l ++ task_rows n r t) (sym all_is)) (fits_between q r (at f) (at (t + 1)) fits));
     }
 
-    one_more : fed s b ≡ sight_to q n r t (u + 1)
+    one_more : fed s b ≡ sight_to q n r t e (u + 1)
     one_more = λ j. record {
       first = (first_is ∙ sym (ap (λ c. cond c (task_mark n r t) (back_mark q n r t)) (not_first f u low))) j;
       back = back_is j;
+      earlier = e;
       before = task_mark n r t;
       rows = task_rows n r t;
       ended = task_ends n r t;
     }
 
-  whole_first : (sight_to q n r t t).first ≡ back_mark q n r t
-  whole_first = last_case (t == f) (task_mark n r t) (back_mark q n r t) (λ e. ap (λ k. task_mark n r k) (same_if t f e))
+  module _ (e : Earlier) where
+    abbrev all : Sight
+    all = sight_to q n r t e t
 
-  pub is_fed : IsFed q n r t
-  is_fed = record {
-    starts = λ b h. subst (λ m. RowsFit q m b.rows) (sym h.before) (subst (RowsFit q (task_mark n r t)) (sym h.rows) (fits_between q r (at t) (at (t + 1)) fits));
-    begins = begun;
-    can = feeds;
-    goes_on = one_more;
-    ends = record {
+    whole_first : all.first ≡ back_mark q n r t
+    whole_first = last_case (t == f) (task_mark n r t) (back_mark q n r t) (λ same. ap (λ k. task_mark n r k) (same_if t f same))
+
+    ended : IsWhole q all
+    ended = record {
       meets = mark_to t looks_back (omega arith) ∙ sym (ap (λ m. mark_after m (slice_range r.rows (at f) (at t))) whole_first);
       fits = subst (λ m. RowsFit q m (slice_range r.rows (at f) (at t) ++ task_rows n r t)) (sym whole_first)
-          (subst (RowsFit q (back_mark q n r t)) (slice-join r.rows (at f) (at t) (at (t + 1)) (rises f t looks_back) (rises t (t + 1) next_up)) (fits_between q r (at f) (at (t + 1)) fits));
-    };
-    gives = ap (λ m. shares_here q m (slice_range r.rows (at f) (at t)) (task_rows n r t) (task_ends n r t)) whole_first ∙ need q n r t size windows fits.ordered;
-  }
+          (subst (RowsFit q (back_mark q n r t)) (slice-join r.rows (at f) (at t) (at (t + 1)) (rises f t looks_back) own_rises) (fits_between q r (at f) (at (t + 1)) fits));
+    }
+
+    given : (upto n r t).ended ≡ false → EndWith (take (at t) r.rows) e → IsSightOf q all r (at t) (at (t + 1))
+    given opens last = record {
+      windows = windows;
+      fits = fits;
+      rises = own_rises;
+      opens = opens;
+      earlier_are = last;
+      before_is = refl;
+      rows_are = refl;
+      ended_is = refl;
+      gives = ap (λ m. shares_here q m (slice_range r.rows (at f) (at t)) (task_rows n r t) (task_ends n r t)) whole_first ∙ need q n r t size windows fits.ordered;
+    }
+
+  pub is_fed : IsFed q n r t
+  is_fed = record { starts = started; begins = begun; can = feeds; goes_on = one_more; ends = ended; gives = given }

@@ -1,5 +1,5 @@
 -- Rows of an input from one position up to another, and the marks there.
-use Rattle.std.proofs.Common.{◌≡◌, ℕ, ◌-◌, ◌≤◌, ◌<◌, List, [], length, take, drop, slice_range, Bool, true, false, ◌&&◌, nat_lt, refl, sym, ◌∙◌, ap, subst, take-append-drop, arith}
+use Rattle.std.proofs.Common.{◌≡◌, ℕ, ◌-◌, ◌≤◌, ◌<◌, List, [], ◌++◌, length, take, drop, slice_range, Bool, true, false, ◌&&◌, nat_lt, refl, sym, ◌∙◌, ap, subst, take-append-drop, append_assoc, arith}
 use Rattle.std.proofs.lemmas.Bool.{ltb-true, both_ways}
 use Rattle.std.proofs.lemmas.Bool.Decides.{nat_tests}
 use Rattle.saber_plan.specs.declared.rows.Row.{Row}
@@ -8,9 +8,11 @@ use Rattle.saber_plan.specs.Trees.{Tree}
 use Rattle.saber_plan.specs.Inputs.{Input, arrived}
 use Rattle.saber_plan.specs.Windows.{no_rows, mark_after, mark_of, ending, mark_at, Ordered}
 use Rattle.saber_plan.specs.Given.{RowsFit}
-use Rattle.saber_plan.specs.ListFacts.{nothing_behind}
-use Rattle.saber_plan.specs.RowFacts.{fits_front, fits_back}
+use Rattle.saber_plan.specs.ListFacts.{nothing_behind, slice-front, slice-join}
+use Rattle.saber_plan.specs.RowFacts.{mark-append, fits_front, fits_back, fits_take}
 use Rattle.saber_laws.specs.Windows.{MarksGoOn}
+use Rattle.saber_fragment.specs.declared.blocks.Earlier.{Earlier}
+use Rattle.saber_fragment.specs.Drafts.{EndWith}
 
 fits_slice : (q : Tree) (xs : List Row) (x y : ℕ) → RowsFit q no_rows xs → RowsFit q (mark_of (take x xs)) (slice_range xs x y)
 fits_slice q xs x y h =
@@ -55,3 +57,22 @@ fits_between q r x y h = elim ((arrived r x).ended) as (λ b. (arrived r x).ende
   | true ↦ λ e. fits_none q (arrived r x).ended (mark_of (take x r.rows)) (slice_range r.rows x y) (none_behind r x y e) (fits_slice q r.rows x y h)
   | false ↦ λ e. subst (λ m. RowsFit q m (slice_range r.rows x y)) (sym (mark_open r x e)) (fits_slice q r.rows x y h)
 ] refl
+
+-- ---- rows that are the last ones before a position
+
+-- the rows up to a later position
+take_on : (xs : List Row) (x y : ℕ) → x ≤ y → take y xs ≡ take x xs ++ slice_range xs x y
+take_on xs x y h = sym (slice-front xs y) ∙ slice-join xs 0 x y (omega arith) h ∙ ap (λ l. l ++ slice_range xs x y) (slice-front xs x)
+
+module _ (r : Input) (x : ℕ) (e : Earlier) (h : EndWith (take x r.rows) e) where
+  -- the mark at the position is the one behind them
+  pub mark_behind : (arrived r x).ended ≡ false → mark_at r x ≡ mark_after e.before e.rows
+  mark_behind opens = mark_open r x opens ∙ ap mark_of h.rows_are ∙ mark-append no_rows h.front e.rows ∙ sym (ap (λ m. mark_after m e.rows) h.before_is)
+
+  -- and with the rows from there on they can follow those in front of them
+  pub fits_behind : (q : Tree) (y : ℕ) → x ≤ y → RowsFit q no_rows r.rows → RowsFit q e.before (e.rows ++ slice_range r.rows x y)
+  fits_behind q y up fits =
+      let ys = slice_range r.rows x y in
+      let all : take y r.rows ≡ h.front ++ (e.rows ++ ys) = take_on r.rows x y up ∙ ap (λ l. l ++ ys) h.rows_are ∙ append_assoc h.front e.rows ys in
+      subst (λ m. RowsFit q m (e.rows ++ ys)) (sym h.before_is)
+      (fits_back q no_rows h.front (e.rows ++ ys) (subst (RowsFit q no_rows) all (fits_take q no_rows r.rows y fits)))

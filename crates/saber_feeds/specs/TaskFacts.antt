@@ -12,9 +12,10 @@ use Rattle.saber_plan.specs.Answers.{frame}
 use Rattle.saber_plan.specs.Windows.{Fits, no_rows, mark_of, mark_at, last_mark}
 use Rattle.saber_plan.specs.Given.{RowsFit}
 use Rattle.saber_plan.specs.Tasks.{Parts, unclosed, left_by}
-use Rattle.saber_plan.specs.Shares.{Shares, shares_here, shares_between, piece_in}
+use Rattle.saber_plan.specs.Shares.{shares_here, shares_between, piece_in}
 use Rattle.saber_laws.specs.Pieces.{OpenGoesOn}
 use Rattle.saber_laws.specs.Shares.{SharesAreLocal, SharesMakePiece}
+use Rattle.saber_fragment.specs.Drafts.{EndWith, Sight, IsSightOf}
 use Rattle.saber_fragment.specs.Stores.{Follows}
 
 -- the input with the task, and where the task ends in it
@@ -73,34 +74,43 @@ module _ (xs ys : List Row) (ended : Bool) where
       ∙ local q r (length xs) (end_of xs ys ended)
       (record { fits = w; ordered = fits.ordered; rises = reaches ended (length xs) (length ys) }) no_join
 
+  -- a draft that has the task's rows, those before them as its block has them, and what it looks back on, is seen as they are
+  pub task_sight : (q : Tree) → Fits (frame q) → RowsFit q no_rows (xs ++ ys) → (s : Sight) → s.before ≡ mark_of xs → s.rows ≡ ys → s.ended ≡ ended → EndWith xs s.earlier
+      → shares_here q s.first s.back s.rows s.ended ≡ shares_between q (with_task xs ys ended) (length xs) (end_of xs ys ended)
+      → IsSightOf q s (with_task xs ys ended) (length xs) (end_of xs ys ended)
+  task_sight q w fits s before rows end last gives = record {
+    windows = w;
+    fits = fits;
+    rises = reaches ended (length xs) (length ys);
+    opens = ap (λ u. u.ended) at_first;
+    earlier_are = subst (λ l. EndWith l s.earlier) (sym (take-append_seam xs ys)) last;
+    before_is = before ∙ ap last_mark (sym at_first);
+    rows_are = rows ∙ sym own_rows;
+    ended_is = end ∙ ap (λ u. u.ended) (sym at_last);
+    gives = gives;
+  }
+
   -- a store that has taken in the rows before the task can take the task in
-  pub task_follows : (q : Tree) → Fits (frame q) → (m : Mark) → m ≡ mark_of xs → RowsFit q no_rows (xs ++ ys)
-      → (parts : Parts) (s : Shares) (taken : Input → Type 0) (of : Mark → List Row → Bool → Type 0)
-      → parts ≡ unclosed q (going_on xs) → taken (going_on xs) → s ≡ shares_between q (with_task xs ys ended) (length xs) (end_of xs ys ended) → of m ys ended
-      → Follows q parts s taken of (with_task xs ys ended) (length xs) (end_of xs ys ended)
-  task_follows q w m before fits parts s taken of held is_taken shares is_of =
-      let r = with_task xs ys ended in
-      let mark : m ≡ mark_at r (length xs) = before ∙ ap last_mark (sym at_first) in
-      let ends : ended ≡ (arrived r (end_of xs ys ended)).ended = ap (λ u. u.ended) (sym at_last) in
-      record {
-        windows = w;
-        fits = fits;
-        rises = reaches ended (length xs) (length ys);
-        unclosed_is = held ∙ ap (unclosed q) (sym at_first);
-        shares_are = shares;
-        taken_is = subst taken (sym at_first) is_taken;
-        of_is = subst (λ (a : Mark). of a (slice_range (xs ++ ys) (length xs) (end_of xs ys ended)) (arrived r (end_of xs ys ended)).ended) mark
-            (subst (λ l. of m l (arrived r (end_of xs ys ended)).ended) (sym own_rows) (subst (λ b. of m ys b) ends is_of));
-      }
+  pub task_follows : (q : Tree) → Fits (frame q) → RowsFit q no_rows (xs ++ ys)
+      → (parts : Parts) (taken : Input → Type 0) (of : Input → ℕ → ℕ → Type 0)
+      → parts ≡ unclosed q (going_on xs) → taken (going_on xs) → of (with_task xs ys ended) (length xs) (end_of xs ys ended)
+      → Follows q parts taken of (with_task xs ys ended) (length xs) (end_of xs ys ended)
+  task_follows q w fits parts taken of held is_taken is_of = record {
+    windows = w;
+    fits = fits;
+    rises = reaches ended (length xs) (length ys);
+    unclosed_is = held ∙ ap (unclosed q) (sym at_first);
+    taken_is = subst taken (sym at_first) is_taken;
+    of_is = is_of;
+  }
 
   -- and then it holds what they leave open together
   pub task_leaves : SharesMakePiece → OpenGoesOn
-      → (q : Tree) (parts : Parts) (s : Shares) (taken : Input → Type 0) (of : Mark → List Row → Bool → Type 0)
-      → Follows q parts s taken of (with_task xs ys ended) (length xs) (end_of xs ys ended)
-      → left_by q parts (piece_in s) ≡ unclosed q (with_task xs ys ended)
-  task_leaves make goes q parts s taken of f =
+      → (q : Tree) (parts : Parts) (taken : Input → Type 0) (of : Input → ℕ → ℕ → Type 0)
+      → Follows q parts taken of (with_task xs ys ended) (length xs) (end_of xs ys ended)
+      → left_by q parts (piece_in (shares_between q (with_task xs ys ended) (length xs) (end_of xs ys ended))) ≡ unclosed q (with_task xs ys ended)
+  task_leaves make goes q parts taken of f =
       let r = with_task xs ys ended in
-      (λ j. left_by q (f.unclosed_is j)
-      ((ap piece_in f.shares_are ∙ make q r (length xs) (end_of xs ys ended) (record { fits = f.windows; ordered = f.fits.ordered; rises = f.rises })) j))
+      (λ j. left_by q (f.unclosed_is j) (make q r (length xs) (end_of xs ys ended) (record { fits = f.windows; ordered = f.fits.ordered; rises = f.rises }) j))
       ∙ sym (goes q f.windows r (length xs) (end_of xs ys ended) f.fits.ordered f.rises)
       ∙ ap (unclosed q) at_last

@@ -1,14 +1,12 @@
 -- What a store can be given next.
-use Rattle.std.specs.Prelude.{◌≡◌, ◌≤◌, ℕ, Bool, List, slice_range}
-use Rattle.saber_plan.specs.declared.rows.Row.{Row}
-use Rattle.saber_plan.specs.declared.windows.Mark.{Mark}
+use Rattle.std.specs.Prelude.{◌≡◌, ◌≤◌, ℕ, List, ◌++◌}
 use Rattle.saber_plan.specs.Inputs.{Input, arrived}
 use Rattle.saber_plan.specs.Trees.{Tree}
 use Rattle.saber_plan.specs.Answers.{frame}
 use Rattle.saber_plan.specs.Given.{RowsFit}
-use Rattle.saber_plan.specs.Windows.{Fits, no_rows, mark_at}
-use Rattle.saber_plan.specs.Tasks.{Parts, unclosed}
-use Rattle.saber_plan.specs.Shares.{Shares, shares_between}
+use Rattle.saber_plan.specs.Windows.{Fits, no_rows}
+use Rattle.saber_plan.specs.Tasks.{Parts, unclosed, written_by, left_by}
+use Rattle.saber_plan.specs.Shares.{Shares, shares_between, piece_in}
 
 -- the parts are those that the arrivals before a position leave open, and these are the shares of the arrivals from it up to another
 pub record Continues (q : Tree) (parts : Parts) (s : Shares) : Type 0 where
@@ -21,22 +19,32 @@ pub record Continues (q : Tree) (parts : Parts) (s : Shares) : Type 0 where
   pub unclosed_is : parts ≡ unclosed q (arrived input from)
   pub shares_are : s ≡ shares_between q input from to
 
--- The store has taken in the arrivals before a position, and the piece is of those from it up to another: by the parts and the shares,
--- and by what both know beside these.
-pub record Follows (q : Tree) (parts : Parts) (s : Shares) (taken : Input → Type 0) (of : Mark → List Row → Bool → Type 0)
-    (r : Input) (from to : ℕ) : Type 0 where
+-- The store has taken in the arrivals before a position, which its parts show, and the piece is of those from it up to another.
+pub record Follows (q : Tree) (parts : Parts) (taken : Input → Type 0) (of : Input → ℕ → ℕ → Type 0) (r : Input) (from to : ℕ) : Type 0 where
   pub windows : Fits (frame q)
   pub fits : RowsFit q no_rows r.rows
   pub rises : from ≤ to
   pub unclosed_is : parts ≡ unclosed q (arrived r from)
-  pub shares_are : s ≡ shares_between q r from to
   pub taken_is : taken (arrived r from)
-  pub of_is : of (mark_at r from) (slice_range r.rows from to) (arrived r to).ended
+  pub of_is : of r from to
 
--- there is an input in which the piece follows what the store has taken in
-abbrev pub CanTakeIn : Tree → Parts → Shares → (Input → Type 0) → (Mark → List Row → Bool → Type 0) → Type 0
-CanTakeIn q parts s taken of = (r : Input) × (x : ℕ) × (y : ℕ) × Follows q parts s taken of r x y
+module _ (q : Tree) (parts : Parts) (taken : Input → Type 0) (of : Input → ℕ → ℕ → Type 0) where
+  -- there is an input in which the piece follows what the store has taken in
+  abbrev pub CanTakeIn : Type 0
+  CanTakeIn = (r : Input) × (x : ℕ) × (y : ℕ) × Follows q parts taken of r x y
 
--- in each such input, all up to the end of the piece is taken in then
-abbrev pub TakesIn : Tree → Parts → Shares → (Input → Type 0) → (Mark → List Row → Bool → Type 0) → (Input → Type 0) → Type 0
-TakesIn q parts s taken of now = (r : Input) (x y : ℕ) → Follows q parts s taken of r x y → now (arrived r y)
+  -- whichever input that is, so it is with the shares of the piece's arrivals
+  abbrev pub ByShares : (Shares → Type 0) → Type 0
+  ByShares P = (r : Input) (x y : ℕ) → Follows q parts taken of r x y → P (shares_between q r x y)
+
+  -- what they add is behind the text
+  abbrev pub AddsText : List ℕ → List ℕ → Type 0
+  AddsText old new = ByShares (λ s. new ≡ old ++ written_by q parts (piece_in s))
+
+  -- the parts that they leave open are there
+  abbrev pub LeavesOpen : Parts → Type 0
+  LeavesOpen new = ByShares (λ s. new ≡ left_by q parts (piece_in s))
+
+  -- all up to the end of the piece is taken in then
+  abbrev pub TakesIn : (Input → Type 0) → Type 0
+  TakesIn now = (r : Input) (x y : ℕ) → Follows q parts taken of r x y → now (arrived r y)

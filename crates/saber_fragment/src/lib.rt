@@ -6,6 +6,6 @@ mod blocks;
 mod operator;
 mod pieces;
 
-pub use blocks::Block;
+pub use blocks::{Block, Earlier};
 pub use operator::Operator;
 pub use pieces::{Parts, Piece, Text};

@@ -1,15 +1,11 @@
 // What every kind of query does with tasks and what they give.
-ghost use Rattle.std.specs.Prelude.{◌≡◌, Bool, List, [], ◌++◌, IfOk, OnOk, OnErr};
+ghost use Rattle.std.specs.Prelude.{◌≡◌, ℕ, [], IfOk, OnOk, OnErr};
 ghost use Rattle.std.specs.FinMap.{empty};
-ghost use Rattle.saber_plan.specs.declared.rows.Row.{Row};
-ghost use Rattle.saber_plan.specs.declared.windows.Mark.{Mark};
 ghost use Rattle.saber_plan.specs.Inputs.{Input, going_on};
 ghost use Rattle.saber_plan.specs.Trees.{Tree};
-ghost use Rattle.saber_plan.specs.Given.{RowsFit};
-ghost use Rattle.saber_plan.specs.Tasks.{Parts, written_by, left_by};
-ghost use Rattle.saber_plan.specs.Shares.{Shares, shares_here, piece_in};
-ghost use Rattle.saber_fragment.specs.Drafts.{Sight, own_sight, fed, CanFeed, IsWhole};
-ghost use Rattle.saber_fragment.specs.Stores.{CanTakeIn, TakesIn};
+ghost use Rattle.saber_plan.specs.Tasks.{Parts};
+ghost use Rattle.saber_fragment.specs.Drafts.{Sight, own_sight, fed, CanStart, CanFeed, IsWhole, IsSightOf};
+ghost use Rattle.saber_fragment.specs.Stores.{CanTakeIn, AddsText, LeavesOpen, TakesIn};
 
 use crate::Block;
 use saber_plan::NoMemory;
@@ -34,9 +30,6 @@ pub trait Operator {
     /// How much of its task's input a draft has.
     ghost has_seen: { Self → Self.Draft → Sight → Type 0 };
 
-    /// What a piece is for the definitions.
-    ghost shares: { Self → Self.Piece → Shares };
-
     /// The parts of windows that a store holds.
     ghost held: { Self.Store → Parts };
 
@@ -46,13 +39,13 @@ pub trait Operator {
     /// What a store knows of the input whose pieces it has taken in, beside the parts of windows.
     ghost has_taken: { Self → Self.Store → Input → Type 0 };
 
-    /// What a piece knows, beside its shares, of its rows, of the mark before them, and of whether the
-    /// input ends behind them.
-    ghost is_of: { Self → Self.Piece → Mark → List Row → Bool → Type 0 };
+    /// A piece has what the arrivals of an input from one position up to another give: the definitions call that their shares
+    /// (`shares_between`).
+    ghost is_of: { Self → Self.Piece → Input → ℕ → ℕ → Type 0 };
 
     /// Begins a task's piece by the task's own block, of which it copies what it keeps.
     fn start(&self, alloc: Global, own: &Block) -> Result<Self::Draft, NoMemory>
-        requires { RowsFit (plan self.now) own.now.before own.now.rows }
+        requires { CanStart (plan self.now) own.now }
         ensures { IfOk result (λ d. has_seen self.now d (own_sight own.now)) };
 
     /// Takes in one block more of those before the task's own, from `first` on, each once and rising.
@@ -62,13 +55,11 @@ pub trait Operator {
         ensures { OnOk result ((s : Sight) → has_seen self.now draft.old s → CanFeed (plan self.now) s block.now
             → has_seen self.now draft.new (fed s block.now)) };
 
-    /// The piece, once all blocks before the task's own are in.
+    /// The piece, once all blocks before the task's own are in: that of the arrivals that the task's own rows are.
     fn finish(&self, alloc: Global, draft: Self::Draft) -> Result<Self::Piece, NoMemory>
         requires { (s : Sight) × (has_seen self.now draft s) × IsWhole (plan self.now) s }
-        ensures shares { IfOk result (λ p. (s : Sight) → has_seen self.now draft s → IsWhole (plan self.now) s
-            → shares self.now p ≡ shares_here (plan self.now) s.first s.back s.rows s.ended) }
-        ensures of { IfOk result (λ p. (s : Sight) → has_seen self.now draft s → IsWhole (plan self.now) s
-            → is_of self.now p s.before s.rows s.ended) };
+        ensures { IfOk result (λ p. (s : Sight) (r : Input) (x y : ℕ) → has_seen self.now draft s → IsWhole (plan self.now) s
+            → IsSightOf (plan self.now) s r x y → is_of self.now p r x y) };
 
     /// A store with nothing in it. Takes no memory.
     fn empty_store(&self, alloc: Global) -> Self::Store
@@ -85,12 +76,13 @@ pub trait Operator {
         piece: Self::Piece,
         out: &mut Vec<u8>,
     ) -> Result<(), NoMemory>
-        requires { CanTakeIn (plan self.now) (held store.old) (shares self.now piece)
-            (has_taken self.now store.old) (is_of self.now piece) }
-        ensures text { OnOk result (out.new.items ≡ out.old.items ++ written_by (plan self.now) (held store.old) (piece_in (shares self.now piece))) }
-        ensures stays { OnOk result (staying store.new ≡ left_by (plan self.now) (held store.old) (piece_in (shares self.now piece))) }
-        ensures taken { OnOk result (TakesIn (plan self.now) (held store.old) (shares self.now piece)
-            (has_taken self.now store.old) (is_of self.now piece) (has_taken self.now store.new)) }
+        requires { CanTakeIn (plan self.now) (held store.old) (has_taken self.now store.old) (is_of self.now piece) }
+        ensures text { OnOk result (AddsText (plan self.now) (held store.old) (has_taken self.now store.old) (is_of self.now piece)
+            out.old.items out.new.items) }
+        ensures stays { OnOk result (LeavesOpen (plan self.now) (held store.old) (has_taken self.now store.old) (is_of self.now piece)
+            (staying store.new)) }
+        ensures taken { OnOk result (TakesIn (plan self.now) (held store.old) (has_taken self.now store.old) (is_of self.now piece)
+            (has_taken self.now store.new)) }
         ensures err { OnErr result (out.new.items ≡ out.old.items) };
 
     /// Drops the parts of closed windows. Takes no memory.

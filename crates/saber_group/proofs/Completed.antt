@@ -1,23 +1,34 @@
--- The runs of a task that answers windows itself: those of the windows before them, and all, as a store takes them in.
-use Rattle.std.proofs.Common.{◌≡◌, ℕ, zero, suc, ◌+◌, ◌≤◌, List, [], ◌∷◌, Bool, Some, length, take, refl, sym, ap, subst, subst₂, le_trans, arith}
+-- The runs of a task that answers windows itself: those of the windows before them, and all, behind the rows before the task.
+use Rattle.std.proofs.Common.{◌≡◌, ℕ, zero, suc, ◌+◌, ◌-◌, ◌≤◌, max, List, [], ◌∷◌, ◌++◌, Bool, Some, length, take, refl, sym, ◌∙◌, ap, subst, subst₂, le_trans, append_assoc, arith}
 use Rattle.std.specs.List.{AllByRecursion, slice_get}
 use Rattle.std.proofs.lemmas.List.{take_all}
 use Rattle.saber_plan.specs.declared.rows.Row.{Row}
 use Rattle.saber_plan.specs.declared.windows.Mark.{Mark}
+use Rattle.saber_plan.specs.declared.plans.Shape.TheVariants.{Group}
 use Rattle.saber_plan.specs.Trees.{Tree}
-use Rattle.saber_plan.specs.Windows.{Fits, mark_after, ending, closed_count}
+use Rattle.saber_plan.specs.Windows.{Fits, no_rows, mark_of, mark_after, ending, closed_count, begun_count}
 use Rattle.saber_plan.specs.Answers.{frame}
 use Rattle.saber_plan.specs.Given.{RowsFit}
-use Rattle.saber_laws.specs.Parts.{NoRowsNoPart}
-use Rattle.saber_laws.specs.Windows.{ClosedStay}
+use Rattle.saber_plan.specs.Parts.{Part, merge, part_lines}
+use Rattle.saber_plan.specs.RowFacts.{mark-append, fits_front, fits_back}
+use Rattle.saber_plan.specs.NumberFacts.{flat_map-from}
+use Rattle.saber_fragment.specs.declared.blocks.Earlier.{Earlier}
+use Rattle.saber_fragment.specs.Drafts.{EndWith}
+use Rattle.saber_laws.specs.Groups.{GroupsJoin}
+use Rattle.saber_laws.specs.Parts.{MergeHasUnit, MergeIsAssociative, PartsLieWithin}
+use Rattle.saber_laws.specs.Windows.{BegunAreCounted, ClosedStay}
 use Rattle.saber_laws.specs.Marks.{EndsCloseMore}
+use Rattle.saber_partial.specs.PartLaws.{OfRows}
 use Rattle.saber_sliding.specs.Entries.{Entries}
+use Rattle.saber_sliding.specs.EntryFacts.{all_map}
+use Rattle.saber_group.specs.declared.complete.Complete.{Complete}
 use Rattle.saber_group.specs.declared.runs.Run.{Run}
-use Rattle.saber_group.specs.RunParts.{part_of, closed_by, IsRun, Settled}
-use Rattle.saber_group.specs.RunPieces.{RunsTo, RunsFrom}
-use Rattle.saber_group.specs.RunStores.{RunsAt, GoesOn}
+use Rattle.saber_group.specs.RunParts.{part_of, closed_by, lines_between, Holds, Settled}
+use Rattle.saber_group.specs.RunPieces.{RunsTo, RunsFrom, IsComplete}
+use Rattle.saber_group.specs.RunStores.{GoesOn, WentOn}
 use Rattle.saber_group.proofs.Completing.{closed_within}
-use Rattle.saber_group.proofs.Opened.{holds_nil}
+use Rattle.saber_group.proofs.Lasting.{few_more, none_begun_have}
+use Rattle.saber_group.proofs.RunsTaken.{lifted, no_more, no_row, part_behind, long_both}
 
 -- ---- runs cut at a run
 
@@ -51,23 +62,80 @@ module _ (q : Tree) (m : Mark) (rows : List Row) where
   firsts_low stay fits given n up x [] y h = tt
   firsts_low stay fits given n up x (r ∷ rs) y h = (le_trans h.0.closes (le_trans (closed_within stay q fits m rows r.end given) up), firsts_low stay fits given n up r.end rs y h.1.1.1)
 
-  -- a store of no runs takes them in from the first row on
-  pub at_start : (x : ℕ) (rs : List Run) (y : ℕ) → RunsTo q m rows x rs y → RunsAt q m rows 0 x rs y
-  at_start x [] y h = h
-  at_start x (r ∷ rs) y h =
-      let from : x ≡ 0 + x = omega arith in
-      let to : r.end ≡ 0 + r.end = omega arith in
-      (subst₂ (λ a b. IsRun q m rows a b r.first r.past r.part) from to h.0, (h.1.0, (subst (λ b. b ≤ length rows) to h.1.1.0, at_start r.end rs y h.1.1.1)))
+-- ---- behind the rows before a task that its block has
 
-  pub goes_on : ClosedStay → EndsCloseMore → NoRowsNoPart → Fits (frame q) → RowsFit q m rows → (ended : Bool) (low high next : ℕ) (es : Entries) (rs : List Run) → low ≤ high → high ≡ closed_count (frame q) (ending ended (mark_after m rows))
-      → next ≡ low → es ≡ [] → RunsFrom q m rows 0 rs → GoesOn q m rows 0 0 (length rows) next es rs high
-  goes_on stay more none fits given ended low high next es rs up most first empty h =
-      let closed : closed_by q m rows ≤ high = subst (λ n. closed_by q m rows ≤ n) (sym most) (more (frame q) fits ended (mark_after m rows)) in
+module _ (q : Tree) (e : Earlier) (m : Mark) (rows : List Row) (ended : Bool) (meets : m ≡ mark_after e.before e.rows) where
+  -- the queue over those can take the task's runs in
+  pub goes_behind : GroupsJoin → MergeIsAssociative → ClosedStay → EndsCloseMore → Fits (frame q) → RowsFit q e.before (e.rows ++ rows) → (low high next : ℕ) (es : Entries) (rs : List Run)
+      → low ≤ high → high ≡ closed_count (frame q) (ending ended (mark_after m rows)) → next ≡ low → Holds q e.before e.rows low es → RunsFrom q m rows 0 rs
+      → GoesOn q e.before (e.rows ++ rows) (length e.rows) 0 (length rows) next es rs high
+  goes_behind join assoc stay more fits given low high next es rs up most first held h =
+      let a : Mark = mark_after e.before e.rows in
+      let own : RunsFrom q a rows 0 rs = subst (λ z. RunsFrom q z rows 0 rs) meets h in
+      let closed : closed_by q a rows ≤ high = subst₂ (λ z n. closed_by q z rows ≤ n) meets (sym most) (more (frame q) fits ended (mark_after m rows)) in
       record {
-        holds = holds_nil none q m next es empty;
+        holds = subst₂ (λ l n. Holds q e.before l n es) (sym (no_row q e.before e.rows rows)) (sym first) held;
         low = subst (λ n. n ≤ high) (sym first) up;
-        runs_are = at_start 0 rs (length rows) h;
-        firsts = firsts_low stay fits given high closed 0 rs (length rows) h;
-        settled = λ i l. at_end i (0 + length rows) (omega arith);
+        runs_are = lifted q e.before e.rows rows join assoc 0 rs (length rows) own;
+        firsts = firsts_low q a rows stay fits (fits_back q e.before e.rows rows given) high closed 0 rs (length rows) own;
+        settled = no_more q e.before e.rows rows high;
         fits = given;
       }
+
+  -- ---- whatever rows stand before
+
+  module _ (old : List Row) (given : RowsFit q no_rows (old ++ rows)) (end : EndWith old e) where
+    all_are : old ++ rows ≡ end.front ++ (e.rows ++ rows)
+    all_are = ap (λ l. l ++ rows) end.rows_are ∙ append_assoc end.front e.rows rows
+
+    front_fits : RowsFit q no_rows end.front
+    front_fits = fits_front q no_rows end.front e.rows (subst (RowsFit q no_rows) end.rows_are (fits_front q no_rows old rows given))
+
+    module _ (within : PartsLieWithin) (counted : BegunAreCounted) (join : GroupsJoin) (unit : MergeHasUnit) (shape : q.shape ≡ Group) (fits : Fits (frame q)) where
+      -- the windows that begin with the rows that the block has, or behind, have no others
+      own_part : (i : ℕ) → begun_count (frame q) e.before ≤ i → part_of q i e.before (e.rows ++ rows) ≡ part_of q i no_rows (old ++ rows)
+      own_part i l =
+          let none = none_begun_have within counted q shape fits end.front front_fits.ordered i (subst (λ a. begun_count (frame q) a ≤ i) end.before_is l) in
+          let own = part_of q i (mark_of end.front) (e.rows ++ rows) in
+          ap (λ a. part_of q i a (e.rows ++ rows)) end.before_is
+          ∙ sym (ap (part_of q i no_rows) all_are ∙ part_behind q no_rows end.front (e.rows ++ rows) join i (e.rows ++ rows) ∙ ap (λ p. merge p own) none ∙ (unit own).0)
+
+      own_text : (low high : ℕ) → begun_count (frame q) e.before ≤ low → lines_between q e.before (e.rows ++ rows) low high ≡ lines_between q no_rows (old ++ rows) low high
+      own_text low high l =
+          flat_map-from (λ i. part_lines q i (part_of q i e.before (e.rows ++ rows))) (λ i. part_lines q i (part_of q i no_rows (old ++ rows))) low (high - low)
+          (λ i up h. ap (part_lines q i) (own_part i (le_trans l up)))
+
+      same_mark : mark_after e.before (e.rows ++ rows) ≡ mark_of (old ++ rows)
+      same_mark = ap (λ a. mark_after a (e.rows ++ rows)) end.before_is ∙ sym (ap mark_of all_are ∙ mark-append no_rows end.front (e.rows ++ rows))
+
+      own_open : (n : ℕ) (es : Entries) → begun_count (frame q) e.before ≤ n → Holds q e.before (e.rows ++ rows) n es → Holds q no_rows (old ++ rows) n es
+      own_open n es l h =
+          let long = ap length all_are ∙ long_both end.front (e.rows ++ rows) in
+          record {
+            at = λ i up. sym (own_part i (le_trans l up)) ∙ h.at i up;
+            begun = subst (λ (a : Mark). AllByRecursion (λ (x : ℕ × Part). x.0 ≤ begun_count (frame q) a) es) same_mark h.begun;
+            few = all_map (λ (x : ℕ × Part). OfRows q (length (e.rows ++ rows)) x.1) (λ x. OfRows q (length (old ++ rows)) x.1) es (λ x f. few_more q (length (e.rows ++ rows)) (length (old ++ rows)) x.1 (omega (arith, long)) f) h.few;
+          }
+
+      -- what the task answers is right behind them
+      pub is_complete : m ≡ mark_of old → (low high : ℕ) (c : Complete) (rs : List Run) (k : ℕ) (closing : List Run) (next : ℕ) (out : List ℕ) → out ≡ [] → low ≤ high → high ≡ closed_count (frame q) (ending ended (mark_after m rows))
+          → low ≡ max (begun_count (frame q) e.before) (closed_count (frame q) m) → c.low ≡ low → next ≡ low → RunsFrom q m rows 0 rs → closing ≡ take k rs → AllByRecursion (λ (r : Run). r.first ≤ low) (take k rs)
+          → ((r : Run) → Some r ≡ slice_get rs k → low ≤ r.first) → WentOn q e.before (e.rows ++ rows) (length e.rows + length rows) next c.open.runs.entries high c.open.next out c.text.items → IsComplete q old rows ended closing c
+      is_complete same low high c rs k closing next out empty up most least low_is next_is runs copies firsts first w =
+          let all = e.rows ++ rows in
+          let begun : begun_count (frame q) e.before ≤ low = omega (arith, least) in
+          let own : RunsFrom q (mark_of old) rows 0 rs = subst (λ z. RunsFrom q z rows 0 rs) same runs in
+          let done : c.open.next ≡ high = w.done_is in
+          let whole : take (length e.rows + length rows) all ≡ all = let long = long_both e.rows rows in take_all (length e.rows + length rows) all (omega (arith, long)) in
+          let held : Holds q e.before all high c.open.runs.entries = subst (λ l. Holds q e.before l high c.open.runs.entries) whole w.holds in
+          record {
+            x = begins_at 0 rs k;
+            closing_are = subst (λ l. RunsTo q (mark_of old) rows 0 l (begins_at 0 rs k)) (sym copies) (runs_front q (mark_of old) rows 0 rs (length rows) k own);
+            firsts = subst₂ (λ n l. AllByRecursion (λ (r : Run). r.first ≤ n) l) (sym low_is) (sym copies) firsts;
+            below = subst (Settled q (mark_of old) (take (begins_at 0 rs k) rows) rows) (sym low_is) (settled_at q (mark_of old) rows low 0 rs k own first);
+            text_is = w.text ∙ (λ j. empty j ++ lines_between q e.before all (next_is j) high) ∙ own_text low high begun ∙ sym (λ j. lines_between q no_rows (old ++ rows) (low_is j) (done j));
+            open_is = subst (λ n. Holds q no_rows (old ++ rows) n c.open.runs.entries) (sym done) (own_open high c.open.runs.entries (omega (arith, begun, up)) held);
+            closed_is = subst₂ (λ z n. closed_count (frame q) z ≤ n) same (sym low_is) (omega (arith, least));
+            high_is = done ∙ most ∙ ap (λ z. closed_count (frame q) (ending ended (mark_after z rows))) same;
+            order = subst₂ (λ a b. a ≤ b) (sym low_is) (sym done) up;
+          }

@@ -1,18 +1,22 @@
 -- Which rows a window has: from the first that it has up to the first behind it.
-use Rattle.std.proofs.Common.{◌≡◌, ℕ, ◌+◌, ◌≤◌, ◌<◌, List, [], ◌∷◌, ◌++◌, filter, length, take, drop, get_or, true, cond, ◌&&◌, nat_lt, sym, ◌∙◌, ap, subst, append-nil, take-append-drop, le_trans}
-use Rattle.std.proofs.lemmas.List.{drop_more}
+use Rattle.std.proofs.Common.{◌≡◌, ℕ, ◌+◌, ◌-◌, ◌≤◌, ◌<◌, List, [], ◌∷◌, ◌++◌, filter, length, take, drop, slice_range, get_or, true, false, cond, ◌&&◌, nat_lt, sym, ◌∙◌, ap, subst, append-nil, take-append-drop, le_trans, arith}
+use Rattle.std.proofs.lemmas.Bool.{le-ltb}
+use Rattle.std.proofs.lemmas.List.{drop_more, take_all}
 use Rattle.std.proofs.lemmas.List.Elements.{filter-append}
 use Rattle.saber_plan.specs.declared.rows.Row.{Row}
 use Rattle.saber_plan.specs.declared.windows.Mark.{Mark}
+use Rattle.saber_plan.specs.declared.plans.Shape.TheVariants.{Group}
+use Rattle.saber_plan.specs.Inputs.{going_on}
 use Rattle.saber_plan.specs.Trees.{Tree}
 use Rattle.saber_plan.specs.Values.{passes}
-use Rattle.saber_plan.specs.Windows.{Frame, one, Fits, Ordered, mark_after, placed_after, has}
-use Rattle.saber_plan.specs.Answers.{frame, passing}
-use Rattle.saber_plan.specs.Parts.{Part, group_part, no_part, merge}
+use Rattle.saber_plan.specs.Windows.{Frame, one, Fits, Ordered, no_rows, mark_of, mark_after, mark_at, placed, placed_after, has, begun, begun_count}
+use Rattle.saber_plan.specs.Answers.{by_shape, frame, passing}
+use Rattle.saber_plan.specs.Parts.{Part, part, group_part, pair_part, no_part, merge}
 use Rattle.saber_plan.specs.Needs.{first_window}
 use Rattle.saber_plan.specs.Given.{RowsFit}
-use Rattle.saber_plan.specs.RowFacts.{placed-append, placed_more, fits_drop}
-use Rattle.saber_laws.specs.Parts.{NoRowsNoPart, RowsAddToGroups}
+use Rattle.saber_plan.specs.RowFacts.{length-placed, placed-append, placed_more, fits_drop}
+use Rattle.saber_laws.specs.Parts.{NoRowsNoPart, RowsAddToGroups, PartsLieWithin}
+use Rattle.saber_laws.specs.Windows.{BegunAreCounted}
 use Rattle.saber_laws.specs.Plans.{OneWindow}
 use Rattle.saber_window.specs.Laws.{PastHaveNone}
 use Rattle.saber_partial.specs.PartLaws.{OfRows}
@@ -62,3 +66,18 @@ row_part law q i m xs k x n h e g =
 -- fewer rows are few too
 pub few_more : (q : Tree) (n k : ℕ) (p : Part) → n ≤ k → OfRows q n p → OfRows q k p
 few_more q n k p h few = record { at = λ key a e. (le_trans (few.at key a e).0 h, (few.at key a e).1); keys = few.keys }
+
+-- the part of a window over all rows
+pub part_whole : (q : Tree) → q.shape ≡ Group → (i : ℕ) (xs : List Row) → part q i xs 0 (length xs) ≡ part_of q i no_rows xs
+part_whole q e i xs =
+    let long = length-placed no_rows xs in
+    let all : slice_range (placed xs) 0 (length xs) ≡ placed xs = take_all (length xs - 0) (placed xs) (omega (arith, long)) in
+    ap (λ s. by_shape s no_part (group_part q (passing q (filter (has (frame q) i) (slice_range (placed xs) 0 (length xs))))) (pair_part q 0 (filter (has (frame q) i) (slice_range (placed xs) 0 (length xs))))) e
+    ∙ ap (λ l. group_part q (passing q (filter (has (frame q) i) l))) all
+
+-- rows lie in no window that they don't begin
+pub none_begun_have : PartsLieWithin → BegunAreCounted → (q : Tree) → q.shape ≡ Group → Fits (frame q) → (xs : List Row) → Ordered no_rows xs → (i : ℕ) → begun_count (frame q) (mark_of xs) ≤ i → part_of q i no_rows xs ≡ no_part
+none_begun_have within counted q e fits xs order i low =
+    let all : mark_at (going_on xs) (length xs) ≡ mark_of xs = ap mark_of (take_all (length xs) xs (omega arith)) in
+    let not_yet : begun (frame q) i (mark_at (going_on xs) (length xs)) ≡ false = ap (begun (frame q) i) all ∙ sym (counted (frame q) fits i (mark_of xs)) ∙ le-ltb i (begun_count (frame q) (mark_of xs)) low in
+    sym (part_whole q e i xs) ∙ (within q i (going_on xs) 0 (length xs) order (omega arith)).not_begun not_yet

@@ -1,11 +1,12 @@
 pub mod Lasting
 pub mod Opened
 pub mod Completing
+pub mod Gathered
 pub mod Completed
 pub mod RowsTogether
 pub mod Running
 pub mod RunsTaken
 pub mod PiecesTaken
 pub mod RunKeeping
-pub mod RunShares
+pub mod Making
 pub mod Tested

@@ -1,5 +1,5 @@
 -- The runs of open windows.
-use Rattle.std.proofs.Common.{◌≡◌, ℕ, ◌+◌, ◌-◌, ◌^◌, ◌≤◌, List, [], length, take, inl, inr, sym, ◌∙◌, ap, subst, le_trans, ⊎_elim, arith}
+use Rattle.std.proofs.Common.{◌≡◌, ℕ, ◌+◌, ◌-◌, ◌^◌, ◌≤◌, List, [], length, take, inl, inr, refl, sym, ◌∙◌, ap, subst, le_trans, ⊎_elim, arith}
 use Rattle.std.specs.List.{AllByRecursion}
 use Rattle.std.proofs.lemmas.Bool.{cases_lt}
 use Rattle.std.proofs.lemmas.List.{length-take-le}
@@ -12,7 +12,7 @@ use Rattle.saber_partial.specs.Tallies.{CanMerge}
 use Rattle.saber_partial.specs.PartLaws.{OfRows, SmallPartsMerge}
 use Rattle.saber_sliding.specs.Entries.{Entries, whole, pushed, dropped, part_at, CanFollow}
 use Rattle.saber_sliding.specs.EntryFacts.{all_map, all_dropped, all_pushed, part_at-dropped, whole-dropped, part_at-pushed, part_at-behind}
-use Rattle.saber_group.specs.RunParts.{part_of, begun_by, Entered, IsRun, Holds}
+use Rattle.saber_group.specs.RunParts.{part_of, begun_by, Entered, EnteredFrom, IsRun, Holds}
 use Rattle.saber_group.proofs.Lasting.{part_nil, few_more}
 
 -- ---- windows that are done
@@ -78,6 +78,17 @@ module _ (q : Tree) (m : Mark) (rows : List Row) (x y first past : ℕ) (p : Par
         few = all_map (IsFew x) (IsFew y) es (λ e h. few_more q (length (take x rows)) (length (take y rows)) e.1 (omega (arith, up, long, longer)) h) held.few;
       }
 
+  -- it is of no window from there on
+  holds_past : past ≤ next → x ≤ y → y ≤ length rows → Holds q m (take y rows) next es
+  holds_past low up within =
+      let long = length-take-le x rows (omega (arith, up, within)) in
+      let longer = length-take-le y rows (omega (arith, within)) in
+      record {
+        at = λ i l. run.behind i (le_trans run.order (le_trans low l)) (le_trans low l) ∙ held.at i l;
+        begun = all_map (IsBegun x) (IsBegun y) es begun_more held.begun;
+        few = all_map (IsFew x) (IsFew y) es (λ e h. few_more q (length (take x rows)) (length (take y rows)) e.1 (omega (arith, up, long, longer)) h) held.few;
+      }
+
   holds_pushed : MergeHasUnit → SmallPartsMerge → first ≤ next → x ≤ y → y ≤ length rows → length rows ≤ 2 ^ 40 → Holds q m (take y rows) next (pushed es past p)
   holds_pushed unit small low up within few =
       let long = length-take-le y rows (omega (arith, within)) in
@@ -95,3 +106,7 @@ module _ (q : Tree) (m : Mark) (rows : List Row) (x y first past : ℕ) (p : Par
   pub holds_more : MergeHasUnit → SmallPartsMerge → (fs : Entries) (new : ℕ) → new ≡ next → first ≤ next → x ≤ y → y ≤ length rows → length rows ≤ 2 ^ 40 → Entered es past p fs → Holds q m (take y rows) new fs
   holds_more unit small fs new same low up within few (inl e) = subst (λ n. Holds q m (take y rows) n fs) (sym same) (subst (Holds q m (take y rows) next) (sym e.1) (holds_same unit low up within e.0))
   holds_more unit small fs new same low up within few (inr e) = subst (λ n. Holds q m (take y rows) n fs) (sym same) (subst (Holds q m (take y rows) next) (sym e) (holds_pushed unit small low up within few))
+
+  pub holds_from : MergeHasUnit → SmallPartsMerge → (fs : Entries) → first ≤ next → x ≤ y → y ≤ length rows → length rows ≤ 2 ^ 40 → EnteredFrom next es past p fs → Holds q m (take y rows) next fs
+  holds_from unit small fs low up within few (inl e) = subst (Holds q m (take y rows) next) (sym e.1) (holds_past e.0 up within)
+  holds_from unit small fs low up within few (inr e) = holds_more unit small fs next refl low up within few e

@@ -1,5 +1,5 @@
 -- A store of runs, and the open parts and the text that it stands for.
-use Rattle.std.proofs.Common.{◌≡◌, ℕ, ◌+◌, ◌-◌, ◌/◌, ◌≤◌, ◌<◌, List, [], ◌∷◌, ◌++◌, filter, flat_map, length, take, slice_range, Bool, true, false, cond, nat_le, Option, Some, None, refl, sym, ◌∙◌, ap, subst, arith, subst₂}
+use Rattle.std.proofs.Common.{◌≡◌, ℕ, ◌+◌, ◌-◌, ◌/◌, ◌≤◌, ◌<◌, List, [], ◌∷◌, ◌++◌, flat_map, length, take, slice_range, Bool, true, false, cond, nat_le, refl, sym, ◌∙◌, ap, subst, arith, subst₂, le_refl}
 use Rattle.std.specs.Option.{option_map_or}
 use Rattle.std.specs.Ordering.{nat_cmp}
 use Rattle.std.specs.FinMap.{empty, from_entries}
@@ -11,46 +11,36 @@ use Rattle.saber_plan.specs.declared.plans.Shape.TheVariants.{Group}
 use Rattle.saber_plan.specs.Trees.{Tree}
 use Rattle.saber_plan.specs.Given.{RowsFit}
 use Rattle.saber_plan.specs.Inputs.{Input, arrived}
-use Rattle.saber_plan.specs.declared.windows.Mark.{Mark}
 use Rattle.saber_plan.specs.declared.windows.Measure.{Measure}
 use Rattle.saber_plan.specs.declared.windows.Measure.TheVariants.{Rows, Range}
-use Rattle.saber_plan.specs.Windows.{Fits, one, no_rows, mark_of, mark_after, ending, mark_at, last_mark, placed, has, closed_count, begun_count, from}
-use Rattle.saber_plan.specs.Answers.{by_shape, frame, lines, passing, selected, text, window_text}
-use Rattle.saber_plan.specs.Parts.{Part, no_part, part, part_lines, group_part, pair_part}
-use Rattle.saber_plan.specs.Shares.{piece_in}
+use Rattle.saber_plan.specs.Windows.{Fits, one, no_rows, mark_of, mark_after, ending, mark_at, last_mark, closed_count, begun_count, from}
+use Rattle.saber_plan.specs.Answers.{by_shape, frame, lines, selected, text, window_text}
+use Rattle.saber_plan.specs.Parts.{Part, part, part_lines}
 use Rattle.saber_plan.specs.Tasks.{full, numbered, unclosed, piece_between, written_by}
 use Rattle.saber_laws.specs.Parts.{PartHasLines, ClosedLinesStay}
 use Rattle.saber_laws.specs.Pieces.{TextGoesOn}
-use Rattle.saber_laws.specs.Marks.{MarksFollow, MarksAreOfRows, EndsAreBehind, ClosedRise, EndsCloseMore}
+use Rattle.saber_laws.specs.Marks.{MarksFollow, ClosedRise, EndsCloseMore}
 use Rattle.saber_laws.specs.Windows.{ClosedAreCounted}
-use Rattle.saber_laws.specs.Ends.{EndsBeginNone}
-use Rattle.saber_window.specs.Laws.{ClosedWithinBegun}
 use Rattle.saber_laws.specs.Plans.{OneWindow}
-use Rattle.saber_laws.specs.Shares.{SharesMakePiece}
-use Rattle.saber_plan.specs.ListFacts.{slice-front, slice-join, nothing_behind}
-use Rattle.saber_plan.specs.RowFacts.{fits_take, length-placed, mark-append}
+use Rattle.saber_plan.specs.ListFacts.{slice-front, slice-join}
+use Rattle.saber_plan.specs.RowFacts.{fits_take, mark-append}
 use Rattle.saber_plan.specs.NumberFacts.{flat_map-from, from_more, numbered_is}
 use Rattle.saber_sliding.specs.Entries.{Entries, part_at}
-use Rattle.saber_group.specs.declared.complete.Complete.{Complete}
-use Rattle.saber_group.specs.declared.runs.Run.{Run}
 use Rattle.saber_group.specs.declared.run_stores.RunStore.{RunStore}
 use Rattle.saber_group.specs.declared.run_pieces.RunPiece.{RunPiece}
 use Rattle.saber_group.specs.RunParts.{part_of, closed_by, lines_between, Holds}
-use Rattle.saber_group.specs.RunPieces.{RunsFrom, Given, IsOf, shares_in}
+use Rattle.saber_group.specs.RunPieces.{IsOf}
 use Rattle.saber_group.specs.RunStores.{held_in, TakenIn, Comes, Came}
 use Rattle.saber_fragment.specs.Stores.{Follows}
+use Rattle.saber_group.proofs.Lasting.{part_whole}
+
+-- the rows up to a position, and those from it up to another
+pub rows_upto : (xs : List Row) (x y : ℕ) → x ≤ y → take x xs ++ slice_range xs x y ≡ take y xs
+rows_upto xs x y up = sym (sym (slice-front xs y) ∙ slice-join xs 0 x y (omega arith) up ∙ ap (λ l. l ++ slice_range xs x y) (slice-front xs x))
 
 module _ (q : Tree) (e : q.shape ≡ Group) where
-  -- the part of a window over all rows
-  part_whole : (i : ℕ) (xs : List Row) → part q i xs 0 (length xs) ≡ part_of q i no_rows xs
-  part_whole i xs =
-      let long = length-placed no_rows xs in
-      let all : slice_range (placed xs) 0 (length xs) ≡ placed xs = take_all (length xs - 0) (placed xs) (omega (arith, long)) in
-      ap (λ s. by_shape s no_part (group_part q (passing q (filter (has (frame q) i) (slice_range (placed xs) 0 (length xs))))) (pair_part q 0 (filter (has (frame q) i) (slice_range (placed xs) 0 (length xs))))) e
-      ∙ ap (λ l. group_part q (passing q (filter (has (frame q) i) l))) all
-
   line_is : PartHasLines → (i : ℕ) (xs : List Row) → lines q i xs ≡ part_lines q i (part_of q i no_rows xs)
-  line_is law i xs = law q i xs ∙ ap (part_lines q i) (part_whole i xs)
+  line_is law i xs = law q i xs ∙ ap (part_lines q i) (part_whole q e i xs)
 
   text_is : PartHasLines → (r : Input) → text q r ≡ lines_between q no_rows r.rows 0 (closed_count (frame q) (last_mark r))
   unfolding text
@@ -91,31 +81,17 @@ module _ (q : Tree) (e : q.shape ≡ Group) where
       ap (from_entries {R = nat_cmp}) (
       numbered_is at s.windows.next (s.begun - s.windows.next)
       ∙ flat_map-from (λ i. option_map_or (λ p. (i, p) ∷ []) (at i) []) (λ i. option_map_or (λ p. (i, p) ∷ []) (given i) []) s.windows.next (s.begun - s.windows.next)
-      (λ i p l. ap (λ a. option_map_or (λ (m : Part). (i, m) ∷ []) (full a) []) (sym (t.holds.at i p) ∙ sym (part_whole i r.rows)))
+      (λ i p l. ap (λ a. option_map_or (λ (m : Part). (i, m) ∷ []) (full a) []) (sym (t.holds.at i p) ∙ sym (part_whole q e i r.rows)))
       ∙ sym (numbered_is given s.windows.next (s.begun - s.windows.next))
       ∙ (λ j. numbered (t.next_is j) (t.begun_is j - t.next_is j) given))
 
 -- the laws of marks along an input and of its end
 pub record MarkLaws : Type 0 where
   pub follow : MarksFollow
-  pub of_rows : MarksAreOfRows
-  pub behind : EndsAreBehind
   pub rise : ClosedRise
   pub close_more : EndsCloseMore
-  pub within : ClosedWithinBegun
-  pub begin_none : EndsBeginNone
 
--- where there are no rows there are no runs, whatever is before them
-no_runs : (q : Tree) (m n : Mark) (rows : List Row) (rs : List Run) → length rows ≡ 0 → RunsFrom q m rows 0 rs → RunsFrom q n rows 0 rs
-no_runs q m n rows [] e h = h
-no_runs q m n rows (r ∷ rs) e h = absurd (let some = h.1.0 in let within = h.1.1.0 in omega (arith, some, within, e))
-
--- and no window lies whole in them
-nothing_given : (q : Tree) (m n : Mark) (rows : List Row) (ended : Bool) (runs : List Run) (o : Option Complete) → length rows ≡ 0 → Given q m rows ended runs o → Given q n rows ended runs o
-nothing_given q m n rows ended runs None e h = no_runs q m n rows runs e h
-nothing_given q m n rows ended runs (Some c) e h = absurd (let some = h.some in omega (arith, some, e))
-
-module _ (q : Tree) (r : Input) (x y : ℕ) (s : RunStore) (p : RunPiece) (f : Follows q (held_in s) (shares_in q p) (λ u. TakenIn q u s) (λ m rows ended. IsOf q m rows ended p) r x y) where
+module _ (q : Tree) (r : Input) (x y : ℕ) (s : RunStore) (p : RunPiece) (f : Follows q (held_in s) (λ u. TakenIn q u s) (λ r x y. IsOf q r x y p) r x y) where
   abbrev pub old_rows : List Row
   old_rows = take x r.rows
 
@@ -123,65 +99,53 @@ module _ (q : Tree) (r : Input) (x y : ℕ) (s : RunStore) (p : RunPiece) (f : F
   new_rows = slice_range r.rows x y
 
   all_rows : old_rows ++ new_rows ≡ take y r.rows
-  all_rows = sym (sym (slice-front r.rows y) ∙ slice-join r.rows 0 x y (omega arith) f.rises ∙ ap (λ l. l ++ slice_range r.rows x y) (slice-front r.rows x))
+  all_rows = rows_upto r.rows x y f.rises
 
   fits_all : RowsFit q no_rows (old_rows ++ new_rows)
   fits_all = subst (RowsFit q no_rows) (sym all_rows) (fits_take q no_rows r.rows y f.fits)
 
-  -- the shares are the piece of those arrivals
-  pub piece_is : SharesMakePiece → piece_in (shares_in q p) ≡ piece_between q r x y
-  piece_is law = ap piece_in f.shares_are ∙ law q r x y (record { fits = f.windows; ordered = f.fits.ordered; rises = f.rises })
+  -- the mark before the piece is that of the rows
+  mark_open : mark_at r x ≡ mark_of old_rows
+  mark_open = ap (λ b. ending b (mark_of old_rows)) f.of_is.opens
 
-  module _ (laws : MarkLaws) where
-    -- behind the piece comes what is behind all arrivals up to its end
-    mark_end : p.after ≡ mark_at r y
-    mark_end = f.of_is.after_is ∙ sym (laws.follow r x y f.rises)
+  module _ (laws : MarkLaws) (closed : ℕ) (closed_is : closed ≡ closed_count (frame q) p.after) where
+    closed_end : closed ≡ closed_count (frame q) (mark_at r y)
+    closed_end = closed_is ∙ ap (closed_count (frame q)) f.of_is.after_is
 
-    -- behind the end there are no rows, and before it the mark is that of the rows
-    given_open : Given q (mark_of old_rows) new_rows (arrived r y).ended p.runs.items p.complete
-    given_open = elim ((arrived r x).ended) as (λ b. (arrived r x).ended ≡ b → Given q (mark_of old_rows) new_rows (arrived r y).ended p.runs.items p.complete) [
-      | true ↦ λ e. nothing_given q (mark_at r x) (mark_of old_rows) new_rows (arrived r y).ended p.runs.items p.complete (ap length (nothing_behind r.rows x y (let far = laws.behind r x e in omega (arith, far)))) f.of_is.given
-      | false ↦ λ e. subst (λ m. Given q m new_rows (arrived r y).ended p.runs.items p.complete) (laws.of_rows r x e) f.of_is.given
-    ] refl
+    -- the end closes windows too
+    reaches_all : closed_by q no_rows (old_rows ++ new_rows) ≤ closed
+    reaches_all =
+        subst (λ n. closed_by q no_rows (old_rows ++ new_rows) ≤ n) (sym closed_end)
+        (subst (λ l. closed_by q no_rows l ≤ closed_count (frame q) (mark_at r y)) (sym all_rows) (laws.close_more (frame q) f.windows (arrived r y).ended (mark_of (take y r.rows))))
 
-    module _ (closed : ℕ) (closed_is : closed ≡ closed_count (frame q) p.after) where
-      closed_end : closed ≡ closed_count (frame q) (mark_at r y)
-      closed_end = closed_is ∙ ap (closed_count (frame q)) mark_end
+    end_is : closed ≡ closed_count (frame q) (ending (arrived r y).ended (mark_after (mark_of old_rows) new_rows))
+    end_is = closed_end
+        ∙ ap (λ l. closed_count (frame q) (ending (arrived r y).ended (mark_of l))) (sym all_rows)
+        ∙ ap (λ m. closed_count (frame q) (ending (arrived r y).ended m)) (mark-append no_rows old_rows new_rows)
 
-      -- the end closes windows too
-      reaches_all : closed_by q no_rows (old_rows ++ new_rows) ≤ closed
-      reaches_all =
-          subst (λ n. closed_by q no_rows (old_rows ++ new_rows) ≤ n) (sym closed_end)
-          (subst (λ l. closed_by q no_rows l ≤ closed_count (frame q) (mark_at r y)) (sym all_rows) (laws.close_more (frame q) f.windows (arrived r y).ended (mark_of (take y r.rows))))
+    pub comes : Comes q old_rows new_rows (arrived r y).ended s.windows.next s.windows.runs.entries p.runs.items p.complete closed
+    comes = record {
+      holds = f.taken_is.holds;
+      low = subst₂ (λ n o. n ≤ o) (sym f.taken_is.next_is) (sym closed_end) (laws.rise (frame q) f.windows r x y f.fits.ordered f.rises);
+      passed = subst (λ n. n ≤ closed_by q no_rows old_rows) (sym (f.taken_is.next_is ∙ ap (closed_count (frame q)) mark_open)) (le_refl (closed_by q no_rows old_rows));
+      given = f.of_is.given;
+      closed_is = end_is;
+      reaches = reaches_all;
+      fits = fits_all;
+    }
 
-      end_is : closed ≡ closed_count (frame q) (ending (arrived r y).ended (mark_after (mark_of old_rows) new_rows))
-      end_is = closed_end
-          ∙ ap (λ l. closed_count (frame q) (ending (arrived r y).ended (mark_of l))) (sym all_rows)
-          ∙ ap (λ m. closed_count (frame q) (ending (arrived r y).ended m)) (mark-append no_rows old_rows new_rows)
+    pub taken_after : (new : RunStore) (before after : List ℕ) → new.begun ≡ begun_count (frame q) p.after → Came q old_rows new_rows s.windows.next new.windows.runs.entries closed new.windows.next before after → TakenIn q (arrived r y) new
+    taken_after new before after begun w =
+        let all = old_rows ++ new_rows in
+        record {
+          holds = subst₂ (λ l n. Holds q no_rows l n new.windows.runs.entries) (take_all (length all) all (omega arith) ∙ all_rows) (sym w.done_is) w.holds;
+          next_is = w.done_is ∙ closed_end;
+          begun_is = begun ∙ ap (begun_count (frame q)) f.of_is.after_is;
+        }
 
-      pub comes : Comes q old_rows new_rows (arrived r y).ended s.windows.next s.windows.runs.entries p.runs.items p.complete closed
-      comes = record {
-        holds = f.taken_is.holds;
-        low = subst₂ (λ n o. n ≤ o) (sym f.taken_is.next_is) (sym closed_end) (laws.rise (frame q) f.windows r x y f.fits.ordered f.rises);
-        begun = subst₂ (λ n o. n ≤ o) (sym f.taken_is.next_is) (laws.begin_none (frame q) (arrived r x).ended (mark_of old_rows)).counts (laws.within (frame q) f.windows (last_mark (arrived r x)));
-        given = given_open;
-        closed_is = end_is;
-        reaches = reaches_all;
-        fits = fits_all;
-      }
-
-      pub taken_after : (new : RunStore) (before after : List ℕ) → new.begun ≡ begun_count (frame q) p.after → Came q old_rows new_rows s.windows.next new.windows.runs.entries closed new.windows.next before after → TakenIn q (arrived r y) new
-      taken_after new before after begun w =
-          let all = old_rows ++ new_rows in
-          record {
-            holds = subst₂ (λ l n. Holds q no_rows l n new.windows.runs.entries) (take_all (length all) all (omega arith) ∙ all_rows) (sym w.done_is) w.holds;
-            next_is = w.done_is ∙ closed_end;
-            begun_is = begun ∙ ap (begun_count (frame q)) mark_end;
-          }
-
-      pub text_after : (new : Entries) (done : ℕ) (before after : List ℕ) → before ≡ [] → Came q old_rows new_rows s.windows.next new closed done before after
-          → after ≡ lines_between q no_rows (take y r.rows) (closed_count (frame q) (mark_at r x)) (closed_count (frame q) (mark_at r y))
-      text_after new done before after none w = w.text ∙ ap (λ b. b ++ lines_between q no_rows (old_rows ++ new_rows) s.windows.next closed) none ∙ (λ j. lines_between q no_rows (all_rows j) (f.taken_is.next_is j) (closed_end j))
+    pub text_after : (new : Entries) (done : ℕ) (before after : List ℕ) → before ≡ [] → Came q old_rows new_rows s.windows.next new closed done before after
+        → after ≡ lines_between q no_rows (take y r.rows) (closed_count (frame q) (mark_at r x)) (closed_count (frame q) (mark_at r y))
+    text_after new done before after none w = w.text ∙ ap (λ b. b ++ lines_between q no_rows (old_rows ++ new_rows) s.windows.next closed) none ∙ (λ j. lines_between q no_rows (all_rows j) (f.taken_is.next_is j) (closed_end j))
 
 -- ---- no rows
 

@@ -1,6 +1,6 @@
 -- Runs that are taken in, one after another, behind the rows of earlier tasks.
 use Rattle.std.proofs.Common.{◌≡◌, ℕ, suc, ◌+◌, ◌-◌, ◌^◌, ◌≤◌, ◌<◌, List, [], ◌∷◌, ◌++◌, filter, flat_map, map, length, max, take, refl, sym, ◌∙◌, ap, subst, append-nil, append_assoc, arith}
-use Rattle.std.proofs.lemmas.List.{map-append, nil_from_length}
+use Rattle.std.proofs.lemmas.List.{map-append, nil_from_length, take_all}
 use Rattle.std.proofs.Common.{Global}
 use Rattle.std.specs.Vec.Iter.{into_iter_len, into_iter_items}
 use Rattle.std.specs.declared.vec.IntoIter.{IntoIter}
@@ -12,7 +12,7 @@ use Rattle.saber_plan.specs.declared.windows.Mark.{Mark}
 use Rattle.saber_plan.specs.Trees.{Tree}
 use Rattle.saber_plan.specs.Values.{passes}
 use Rattle.saber_plan.specs.Given.{RowsFit}
-use Rattle.saber_plan.specs.Windows.{Placed, no_rows, mark_of, placed_after, has, begun_count, closed_count, from}
+use Rattle.saber_plan.specs.Windows.{Placed, mark_after, placed_after, has, begun_count, closed_count, from}
 use Rattle.saber_plan.specs.Answers.{frame, passing, key_cmp, entry_lines}
 use Rattle.saber_plan.specs.MapFacts.{entries-empty}
 use Rattle.saber_plan.specs.Parts.{Part, no_part, group_part, merge, part_lines, answers_of}
@@ -22,9 +22,10 @@ use Rattle.saber_laws.specs.Groups.{GroupsJoin}
 use Rattle.saber_laws.specs.Parts.{MergeHasUnit, MergeIsAssociative}
 use Rattle.saber_laws.specs.Plans.{OneWindow}
 use Rattle.saber_partial.specs.PartLaws.{OfRows, SmallPartsMerge}
-use Rattle.saber_group.specs.RunParts.{part_of, begun_by, closed_by, lines_between, Entered, IsRun, Holds}
+use Rattle.saber_group.specs.RunParts.{part_of, begun_by, closed_by, lines_between, Entered, IsRun, Holds, Settled}
 use Rattle.saber_sliding.specs.Entries.{Entries, CanFollow}
 use Rattle.saber_group.specs.declared.runs.Run.{Run}
+use Rattle.saber_group.specs.RunPieces.{RunsTo}
 use Rattle.saber_group.specs.RunStores.{RunsAt, GoesOn, WentOn}
 use Rattle.saber_group.proofs.Opened.{has_room, holds_more}
 
@@ -61,45 +62,68 @@ pub long_both : (old rows : List Row) → length (old ++ rows) ≡ length old + 
 long_both [] rows = omega arith
 long_both (y ∷ old) rows = let rest = long_both old rows in omega (arith, rest)
 
-module _ (q : Tree) (old rows : List Row) where
+module _ (q : Tree) (m : Mark) (old rows : List Row) where
   abbrev mark : Mark
-  mark = mark_of old
+  mark = mark_after m old
 
   passing-append : (us vs : List Placed) → passing q (us ++ vs) ≡ passing q us ++ passing q vs
   passing-append us vs = ap (filter (λ zs. passes q.predicate zs [])) (map-append (λ x. x.row.values) us vs) ∙ filter-append (λ zs. passes q.predicate zs []) (map (λ x. x.row.values) us) (map (λ x. x.row.values) vs)
 
   -- a window's part is that of the old rows and that of the new ones
-  pub part_behind : GroupsJoin → (i : ℕ) (xs : List Row) → part_of q i no_rows (old ++ xs) ≡ merge (part_of q i no_rows old) (part_of q i mark xs)
+  pub part_behind : GroupsJoin → (i : ℕ) (xs : List Row) → part_of q i m (old ++ xs) ≡ merge (part_of q i m old) (part_of q i mark xs)
   part_behind join i xs =
-      ap (λ l. group_part q (passing q (filter (has (frame q) i) l))) (placed-append no_rows old xs)
-      ∙ ap (λ l. group_part q (passing q l)) (filter-append (has (frame q) i) (placed_after no_rows old) (placed_after mark xs))
-      ∙ ap (group_part q) (passing-append (filter (has (frame q) i) (placed_after no_rows old)) (filter (has (frame q) i) (placed_after mark xs)))
-      ∙ join q (passing q (filter (has (frame q) i) (placed_after no_rows old))) (passing q (filter (has (frame q) i) (placed_after mark xs)))
+      ap (λ l. group_part q (passing q (filter (has (frame q) i) l))) (placed-append m old xs)
+      ∙ ap (λ l. group_part q (passing q l)) (filter-append (has (frame q) i) (placed_after m old) (placed_after mark xs))
+      ∙ ap (group_part q) (passing-append (filter (has (frame q) i) (placed_after m old)) (filter (has (frame q) i) (placed_after mark xs)))
+      ∙ join q (passing q (filter (has (frame q) i) (placed_after m old))) (passing q (filter (has (frame q) i) (placed_after mark xs)))
 
-  pub part_cut : GroupsJoin → (i x : ℕ) → part_of q i no_rows (take (length old + x) (old ++ rows)) ≡ merge (part_of q i no_rows old) (part_of q i mark (take x rows))
-  part_cut join i x = ap (part_of q i no_rows) (take_behind old rows x) ∙ part_behind join i (take x rows)
+  pub part_cut : GroupsJoin → (i x : ℕ) → part_of q i m (take (length old + x) (old ++ rows)) ≡ merge (part_of q i m old) (part_of q i mark (take x rows))
+  part_cut join i x = ap (part_of q i m) (take_behind old rows x) ∙ part_behind join i (take x rows)
 
-  begun_cut : (x : ℕ) → begun_by q no_rows (take (length old + x) (old ++ rows)) ≡ begun_by q mark (take x rows)
-  begun_cut x = ap (begun_by q no_rows) (take_behind old rows x) ∙ ap (begun_count (frame q)) (mark-append no_rows old (take x rows))
+  begun_cut : (x : ℕ) → begun_by q m (take (length old + x) (old ++ rows)) ≡ begun_by q mark (take x rows)
+  begun_cut x = ap (begun_by q m) (take_behind old rows x) ∙ ap (begun_count (frame q)) (mark-append m old (take x rows))
 
-  closed_cut : (x : ℕ) → closed_by q no_rows (take (length old + x) (old ++ rows)) ≡ closed_by q mark (take x rows)
-  closed_cut x = ap (closed_by q no_rows) (take_behind old rows x) ∙ ap (closed_count (frame q)) (mark-append no_rows old (take x rows))
+  closed_cut : (x : ℕ) → closed_by q m (take (length old + x) (old ++ rows)) ≡ closed_by q mark (take x rows)
+  closed_cut x = ap (closed_by q m) (take_behind old rows x) ∙ ap (closed_count (frame q)) (mark-append m old (take x rows))
 
   -- a run of the new rows is one of all
-  pub run_behind : GroupsJoin → MergeIsAssociative → (x y first past : ℕ) (p : Part) → IsRun q mark rows x y first past p → IsRun q no_rows (old ++ rows) (length old + x) (length old + y) first past p
+  pub run_behind : GroupsJoin → MergeIsAssociative → (x y first past : ℕ) (p : Part) → IsRun q mark rows x y first past p → IsRun q m (old ++ rows) (length old + x) (length old + y) first past p
   run_behind join assoc x y first past p run =
       let same : y - x ≡ (length old + y) - (length old + x) = omega arith in
       record {
-        inside = λ i l h. part_cut join i y ∙ ap (merge (part_of q i no_rows old)) (run.inside i l h) ∙ sym (assoc (part_of q i no_rows old) (part_of q i mark (take x rows)) p) ∙ ap (λ a. merge a p) (sym (part_cut join i x));
-        behind = λ i l h. part_cut join i y ∙ ap (merge (part_of q i no_rows old)) (run.behind i l h) ∙ sym (part_cut join i x);
-        below = λ i h. part_cut join i x ∙ ap (merge (part_of q i no_rows old)) (run.below i h) ∙ sym (part_behind join i rows);
-        before = λ i h. part_cut join i y ∙ ap (merge (part_of q i no_rows old)) (run.before i h) ∙ sym (part_cut join i x);
+        inside = λ i l h. part_cut join i y ∙ ap (merge (part_of q i m old)) (run.inside i l h) ∙ sym (assoc (part_of q i m old) (part_of q i mark (take x rows)) p) ∙ ap (λ a. merge a p) (sym (part_cut join i x));
+        behind = λ i l h. part_cut join i y ∙ ap (merge (part_of q i m old)) (run.behind i l h) ∙ sym (part_cut join i x);
+        below = λ i h. part_cut join i x ∙ ap (merge (part_of q i m old)) (run.below i h) ∙ sym (part_behind join i rows);
+        before = λ i h. part_cut join i y ∙ ap (merge (part_of q i m old)) (run.before i h) ∙ sym (part_cut join i x);
         few = subst (λ n. OfRows q n p) same run.few;
         order = run.order;
         closes = subst (λ n. first ≤ n) (sym (closed_cut y)) run.closes;
         begins = subst (λ n. n ≤ past) (sym (begun_cut x)) run.begins;
         ends = subst (λ n. past ≤ n) (sym (begun_cut y)) run.ends;
       }
+
+  -- ---- the runs of the new rows, as runs of all
+
+  module _ (join : GroupsJoin) (assoc : MergeIsAssociative) where
+    pub lifted : (x : ℕ) (rs : List Run) (y : ℕ) → RunsTo q mark rows x rs y → RunsAt q m (old ++ rows) (length old) x rs y
+    lifted x [] y h = h
+    lifted x (r ∷ rs) y h =
+        let within = h.1.1.0 in
+        let long = long_both old rows in
+        (run_behind join assoc x r.end r.first r.past r.part h.0, (h.1.0, (omega (arith, within, long), lifted r.end rs y h.1.1.1)))
+
+    -- windows that get nothing more from the new rows get nothing more of all
+    pub settled_all : (x n : ℕ) → Settled q mark (take x rows) rows n → Settled q m (take (length old + x) (old ++ rows)) (old ++ rows) n
+    settled_all x n h = λ i l. part_cut join i x ∙ ap (merge (part_of q i m old)) (h i l) ∙ sym (part_behind join i rows)
+
+  all_rows : take (length old + length rows) (old ++ rows) ≡ old ++ rows
+  all_rows = let long = long_both old rows in take_all (length old + length rows) (old ++ rows) (omega (arith, long))
+
+  pub no_more : (n : ℕ) → Settled q m (take (length old + length rows) (old ++ rows)) (old ++ rows) n
+  no_more n = λ i l. ap (part_of q i m) all_rows
+
+  pub no_row : take (length old + 0) (old ++ rows) ≡ old
+  no_row = take_behind old rows 0 ∙ append-nil old
 
 -- ---- runs that are taken in, one after another
 

@@ -48,6 +48,10 @@ with_row q is_wanted p row = if is_wanted && passes q.predicate row.values [] th
 abbrev pub Entered : Entries → ℕ → Part → Entries → Type 0
 Entered es n p fs = ((p ≡ no_part) × (fs ≡ es)) ⊎ (fs ≡ pushed es n p)
 
+-- or unless no window from `low` on has its rows
+abbrev pub EnteredFrom : ℕ → Entries → ℕ → Part → Entries → Type 0
+EnteredFrom low es n p fs = ((n ≤ low) × (fs ≡ es)) ⊎ Entered es n p fs
+
 -- the runs over some rows give the windows from `next` on their parts, and lie in none that isn't begun
 pub record Holds (q : Tree) (m : Mark) (rows : List Row) (next : ℕ) (runs : Entries) : Type 0 where
   pub at : (i : ℕ) → next ≤ i → part_of q i m rows ≡ part_at runs i

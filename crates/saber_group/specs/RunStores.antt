@@ -16,7 +16,7 @@ use Rattle.saber_group.specs.declared.complete.Complete.{Complete}
 use Rattle.saber_group.specs.declared.open.Open.{Open}
 use Rattle.saber_group.specs.declared.runs.Run.{Run}
 use Rattle.saber_group.specs.declared.run_stores.RunStore.{RunStore}
-use Rattle.saber_group.specs.RunParts.{begun_by, closed_by, lines_between, Holds, IsRun, Settled}
+use Rattle.saber_group.specs.RunParts.{closed_by, lines_between, Holds, IsRun, Settled}
 use Rattle.saber_group.specs.RunPieces.{Given}
 
 -- the parts of the windows that are begun and not closed
@@ -68,8 +68,8 @@ HasGoneOn q s runs closed new before after = (m : Mark) (all : List Row) (o x y 
 pub record Comes (q : Tree) (old rows : List Row) (ended : Bool) (next : ℕ) (es : Entries) (runs : List Run) (complete : Option Complete) (closed : ℕ) : Type 0 where
   pub holds : Holds q no_rows old next es
   pub low : next ≤ closed
-  pub begun : next ≤ begun_by q no_rows old
-  pub given : Given q (mark_of old) rows ended runs complete
+  pub passed : next ≤ closed_by q no_rows old
+  pub given : Given q old rows ended runs complete
   pub closed_is : closed ≡ closed_count (frame q) (ending ended (mark_after (mark_of old) rows))
   pub reaches : closed_by q no_rows (old ++ rows) ≤ closed
   pub fits : RowsFit q no_rows (old ++ rows)

@@ -53,7 +53,6 @@ impl Open {
     /// Appends the lines of the windows below `low`: one step for each, beside those owed. No later row lies in them.
     pub(crate) fn close_lines<L: Ledger>(
         &mut self,
-        alloc: Global,
         plan: &Plan,
         low: u64,
         out: &mut Vec<u8>,
@@ -65,7 +64,7 @@ impl Open {
         ensures steps { OnOk result (steps.new + self.new.runs.owed + self.old.next ≤ steps.old + self.old.runs.owed + self.new.next) }
     {
         while self.next < low {
-            self.runs.drop_to(alloc, self.next, steps)?;
+            self.runs.drop_to(self.next);
             match self.runs.first_number() {
                 Some(_) => {
                     self.runs.lines(plan, self.next, out, steps)?;
@@ -78,7 +77,7 @@ impl Open {
         }
         // Runs of no open window go now, so that they are never summed up with later ones.
         let first_open = self.next;
-        self.runs.drop_to(alloc, first_open, steps)?;
+        self.runs.drop_to(first_open);
         Ok(())
     }
 }

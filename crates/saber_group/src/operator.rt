@@ -6,16 +6,13 @@ use crate::run_pieces::RunPiece;
 use crate::run_stores::RunStore;
 use saber_fragment::{Block, Operator};
 use saber_laws::{
-    begun_are_counted, closed_are_counted, closed_lines_stay, closed_rise, ends_are_behind,
-    ends_begin_none, ends_close_more, kinds_are_ranges, marks_are_of_rows, marks_follow,
-    merge_has_unit, merge_is_associative, no_rows_no_part, open_goes_on, part_has_lines,
-    shares_make_piece, text_goes_on,
+    closed_are_counted, closed_lines_stay, closed_rise, ends_close_more, marks_follow,
+    no_rows_no_part, open_goes_on, part_has_lines, shares_make_piece, text_goes_on,
 };
 use saber_plan::NoMemory;
-use saber_window::closed_within_begun;
 use std::alloc::Global;
 
-// A task's piece is made of its own block alone, so nothing of the block is copied.
+// A task's piece is made of its own block, so nothing of the block is copied.
 impl Operator for Group<'_> {
     type Draft = RunPiece;
 
@@ -24,14 +21,12 @@ impl Operator for Group<'_> {
     type Store = RunStore;
 
     ghost use Rattle.saber_plan.specs.Trees.{tree_of};
-    ghost use Rattle.saber_group.specs.RunPieces.{shares_in, IsOf};
+    ghost use Rattle.saber_group.specs.RunPieces.{IsMade, IsOf};
     ghost use Rattle.saber_group.specs.RunStores.{held_in, TakenIn};
 
     ghost plan = { tree_of };
 
-    ghost has_seen = { λ group draft s. IsOf (tree_of group) s.before s.rows s.ended draft };
-
-    ghost shares = { λ group. shares_in (tree_of group) };
+    ghost has_seen = { λ group draft s. IsMade (tree_of group) s draft };
 
     ghost held = { held_in };
 
@@ -39,7 +34,7 @@ impl Operator for Group<'_> {
 
     ghost has_taken = { λ group store r. TakenIn (tree_of group) r store };
 
-    ghost is_of = { λ group piece m rows ended. IsOf (tree_of group) m rows ended piece };
+    ghost is_of = { λ group piece r x y. IsOf (tree_of group) r x y piece };
 
     fn start(&self, alloc: Global, own: &Block) -> Result<RunPiece, NoMemory> {
         let batch = Batch {
@@ -47,7 +42,7 @@ impl Operator for Group<'_> {
             rows: &own.rows,
             ended: own.ended,
         };
-        self.piece_of(alloc, &batch)
+        self.piece_of(alloc, &own.earlier, &batch)
     }
 
     fn feed(&self, _alloc: Global, _draft: &mut RunPiece, _block: &Block) -> Result<(), NoMemory> {
@@ -55,13 +50,7 @@ impl Operator for Group<'_> {
     }
 
     fn finish(&self, _alloc: Global, draft: RunPiece) -> Result<RunPiece, NoMemory> {
-        self.has_window();
-        begun_are_counted();
-        closed_are_counted();
-        kinds_are_ranges();
-        merge_has_unit();
-        merge_is_associative();
-        no_rows_no_part();
+        marks_follow();
         Ok(draft)
     }
 
@@ -86,11 +75,7 @@ impl Operator for Group<'_> {
         closed_are_counted();
         closed_lines_stay();
         closed_rise();
-        closed_within_begun();
-        ends_are_behind();
-        ends_begin_none();
         ends_close_more();
-        marks_are_of_rows();
         marks_follow();
         open_goes_on();
         part_has_lines();

@@ -1,26 +1,26 @@
 // What a task gives: its runs.
-ghost use Rattle.std.specs.Prelude.{◌≡◌, ◌≤◌, IfOk};
+ghost use Rattle.std.specs.Prelude.{◌≡◌, ◌≤◌, ◌++◌, IfOk};
 ghost use Rattle.saber_plan.specs.Trees.{tree_of};
-ghost use Rattle.saber_plan.specs.Windows.{mark_after};
+ghost use Rattle.saber_plan.specs.Windows.{mark_after, ending};
 ghost use Rattle.saber_plan.specs.Given.{RowsFit};
-ghost use Rattle.saber_group.specs.RunPieces.{IsOf, RunsFrom};
+ghost use Rattle.saber_group.specs.RunPieces.{Gives, RunsFrom};
 
 use crate::batch::Batch;
-use crate::complete::Complete;
+use crate::complete::{Complete, closing_end};
 use crate::group::Group;
 use crate::runs::Run;
+use saber_fragment::Earlier;
 use saber_partial::Gathering;
 use saber_plan::{Mark, NoMemory};
 use saber_window::ending;
 use std::alloc::Global;
 
-/// The runs of a task's rows, in order, with the mark before the rows and the one behind them, which has the input's end if that
-/// comes there. Where the task answers windows itself, the runs are those of the windows that earlier tasks began.
+/// The runs of a task's rows, in order, with the mark behind the rows, which has the input's end if that comes there. Where the task
+/// answers windows itself, the runs are those of the windows that it doesn't answer.
 #[derive(Drop)]
 pub struct RunPiece {
     pub(crate) runs: Vec<Run>,
     pub(crate) complete: Option<Complete>,
-    pub(crate) before: Mark,
     pub(crate) after: Mark,
 }
 
@@ -37,8 +37,8 @@ fn room_for_first(runs: &mut Vec<Run>, rows: usize, first: usize) -> Result<(), 
 }
 
 impl Group<'_> {
-    // The runs of a task's rows, and the mark behind these. Each row is looked at once.
-    fn runs_of(&self, alloc: Global, batch: &Batch) -> Result<(Vec<Run>, Mark), NoMemory>
+    /// The runs of some rows, and the mark behind these. Each row is looked at once.
+    pub(crate) fn runs_of(&self, alloc: Global, batch: &Batch) -> Result<(Vec<Run>, Mark), NoMemory>
         requires { RowsFit (tree_of self.now) batch.now.before batch.now.rows.now }
         ensures runs { IfOk result (λ r. RunsFrom (tree_of self.now) batch.now.before batch.now.rows.now 0 r.0.items) }
         ensures mark { IfOk result (λ r. r.1 ≡ mark_after batch.now.before batch.now.rows.now) }
@@ -57,21 +57,39 @@ impl Group<'_> {
         Ok((runs, mark))
     }
 
-    /// The piece of a task.
-    pub(crate) fn piece_of(&self, alloc: Global, batch: &Batch) -> Result<RunPiece, NoMemory>
-        requires { RowsFit (tree_of self.now) batch.now.before batch.now.rows.now }
-        ensures { IfOk result (λ p. IsOf (tree_of self.now) batch.now.before batch.now.rows.now batch.now.ended p) }
+    // Whether a task is to look at the rows before its own: where most of its runs are of windows that begin there, and it closes one for
+    // 32 of these rows at least.
+    fn looks_back(&self, earlier: &Earlier, before: &Mark, runs: &[Run], high: u64) -> bool {
+        let windows = high.saturating_sub(self.closed_below(before));
+        closing_end(runs, self.begun_below(before)) > runs.len() / 2
+            && earlier.rows.len() as u64 / 32 <= windows
+    }
+
+    /// The piece of a task, whose block has these rows of those before its own.
+    pub(crate) fn piece_of(
+        &self,
+        alloc: Global,
+        earlier: &Earlier,
+        batch: &Batch,
+    ) -> Result<RunPiece, NoMemory>
+        requires fits { RowsFit (tree_of self.now) batch.now.before batch.now.rows.now }
+        requires meets { batch.now.before ≡ mark_after earlier.now.before earlier.now.rows }
+        requires all_fit { RowsFit (tree_of self.now) earlier.now.before (earlier.now.rows ++ batch.now.rows.now) }
+        ensures gives { IfOk result (λ p. Gives (tree_of self.now) earlier.now batch.now.before batch.now.rows.now batch.now.ended p.runs.items p.complete) }
+        ensures after { IfOk result (λ p. p.after ≡ ending batch.now.ended (mark_after batch.now.before batch.now.rows.now)) }
     {
         let (runs, mark) = self.runs_of(alloc, batch)?;
-        let before = batch.before;
         let after = ending(batch.ended, &mark);
-        let low = self.begun_below(&before);
         let high = self.closed_below(&after);
-        let (runs, complete) = self.completed(alloc, batch, runs, low, high)?;
+        let none = Earlier::none(alloc, batch.before);
+        let (runs, complete) = if self.looks_back(earlier, &batch.before, &runs, high) {
+            self.completed(alloc, earlier, batch, runs, high)?
+        } else {
+            self.completed(alloc, &none, batch, runs, high)?
+        };
         Ok(RunPiece {
             runs,
             complete,
-            before,
             after,
         })
     }

@@ -43,10 +43,10 @@ impl Group<'_> {
         merge_has_unit();
         small_parts_merge();
         for run in runs {
-            store.close_lines(alloc, self.plan, run.first, out, steps)?;
+            store.close_lines(self.plan, run.first, out, steps)?;
             store.take_in(alloc, run.past, run.part, steps)?;
         }
-        store.close_lines(alloc, self.plan, closed, out, steps)?;
+        store.close_lines(self.plan, closed, out, steps)?;
         Ok(())
     }
 
@@ -84,7 +84,6 @@ impl Group<'_> {
         ensures { OnOk result ((closed : ℕ) → HasCome (tree_of self.now) store.old runs.items (Some complete) closed store.new out.old.items out.new.items) }
     {
         groups_join();
-        merge_has_unit();
         merge_is_associative();
         self.take_uncounted::<Brand>(alloc, store, runs, complete.low, out, Blank::new(1))?;
         out.extend_from_slice(&complete.text)?;

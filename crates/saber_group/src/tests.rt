@@ -1,15 +1,14 @@
 //! Tasks of group queries, worked out by hand, through the trait that the stage uses.
-ghost use Rattle.std.specs.Prelude.{◌≡◌, ◌≢◌, ◌<◌, ◌++◌, List, [], IfOk, OnOk, Some, None, true, false};
+ghost use Rattle.std.specs.Prelude.{◌≡◌, ◌≢◌, ◌<◌, ℕ, ◌++◌, List, [], IfOk, OnOk, Some, None, true, false};
 ghost use Rattle.saber_plan.specs.declared.rows.Row.{Row};
 ghost use Rattle.saber_plan.specs.declared.rows.Side.TheVariants as sides;
 ghost use Rattle.saber_plan.specs.declared.plans.Shape.TheVariants as shapes;
 ghost use Rattle.saber_plan.specs.Answers.{frame};
 ghost use Rattle.saber_plan.specs.Checked.{IsChecked, columns_on};
-ghost use Rattle.saber_plan.specs.Given.{RowsFit};
-ghost use Rattle.saber_plan.specs.Inputs.{going_on};
-ghost use Rattle.saber_plan.specs.Shares.{shares_here};
-ghost use Rattle.saber_plan.specs.Trees.{tree_of};
+ghost use Rattle.saber_plan.specs.Inputs.{Input, going_on};
+ghost use Rattle.saber_plan.specs.Trees.{Tree, tree_of};
 ghost use Rattle.saber_plan.specs.Windows.{Fits};
+ghost use Rattle.saber_fragment.specs.Drafts.{own_sight, CanStart, IsSightOf};
 ghost use Rattle.saber_samples.specs.Asking.{IsOfOne};
 ghost use Rattle.saber_samples.specs.Standing.{ComesBehind, Keeps};
 
@@ -17,7 +16,7 @@ use super::*;
 use crate::run_pieces::RunPiece;
 use crate::run_stores::RunStore;
 use saber_flat::Rows;
-use saber_fragment::{Block, Operator};
+use saber_fragment::{Block, Earlier, Operator};
 use saber_laws::{
     checked_fit, no_rows_give_nothing, open_goes_on, shares_are_local, shares_make_piece,
 };
@@ -80,14 +79,13 @@ fn high_counts(alloc: Global, limit: i64) -> Result<Plan, NoMemory>
 
 // The piece of one task, which is fed a block without rows.
 fn piece<O: Operator>(alloc: Global, operator: &O, own: &Block) -> Result<O::Piece, NoMemory>
-    requires windows { Fits (frame (O.plan operator.now)) }
-    requires fits { RowsFit (O.plan operator.now) own.now.before own.now.rows }
-    ensures shares { IfOk result (λ p. O.shares operator.now p ≡ shares_here (O.plan operator.now) own.now.before [] own.now.rows own.now.ended) }
-    ensures of { IfOk result (λ p. O.is_of operator.now p own.now.before own.now.rows own.now.ended) }
+    requires { CanStart (O.plan operator.now) own.now }
+    ensures { IfOk result (λ p. (r : Input) (x y : ℕ) → IsSightOf (O.plan operator.now) (own_sight own.now) r x y → O.is_of operator.now p r x y) }
 {
     let nothing = Block {
         number: 0,
         first: 0,
+        earlier: Earlier::none(alloc, own.before),
         before: own.before,
         rows: Rows::new(alloc),
         ended: false,
@@ -104,7 +102,6 @@ fn pieces<O: Operator>(
     operator: &O,
     tasks: &[&[(u32, i64, i64)]],
 ) -> Result<Vec<O::Piece>, NoMemory>
-    requires windows { Fits (frame (O.plan operator.now)) }
     requires columns { columns_on (O.plan operator.now).streams sides.Left ≡ 3 }
 {
     let mut mark = Mark {
@@ -210,7 +207,7 @@ fn held<L: Ledger>(
     let mut out = Vec::new(alloc);
     let mut runs = store.windows.runs;
     for window in store.windows.next..store.begun {
-        runs.drop_to(alloc, window, &mut steps)?;
+        runs.drop_to(window);
         runs.lines(plan, window, &mut out, &mut steps)?;
     }
     Ok(out)
@@ -236,8 +233,29 @@ fn runs(alloc: Global, plan: &Plan, tasks: &[&[(u32, i64, i64)]]) -> Result<Vec<
     Ok(out)
 }
 
-// What these tasks answer themselves, and what they leave open then, as the lines that its windows would print now.
+// What a task answers itself, and what it leaves open then, as the lines that its windows would print now.
 fn answered(
+    alloc: Global,
+    plan: &Plan,
+    piece: RunPiece,
+    begun: u64,
+) -> Result<(Vec<u8>, Vec<u8>), NoMemory> {
+    let RunPiece { complete, .. } = piece;
+    match complete {
+        None => Ok((Vec::new(alloc), Vec::new(alloc))),
+        Some(complete) => {
+            let store = RunStore {
+                windows: complete.open,
+                begun,
+            };
+            let open = held::<Brand>(alloc, plan, store, Blank::new(1))?;
+            Ok((complete.text, open))
+        }
+    }
+}
+
+// The same of these tasks.
+fn all_answered(
     alloc: Global,
     plan: &Plan,
     tasks: &[&[(u32, i64, i64)]],
@@ -247,21 +265,78 @@ fn answered(
     requires group { (tree_of plan.now).shape ≡ shapes.Group }
     requires columns { columns_on (tree_of plan.now).streams sides.Left ≡ 3 }
 {
-    checked_fit();
     let mut text = Vec::new(alloc);
     let mut open = Vec::new(alloc);
     for piece in pieces(alloc, &Group::new(plan), tasks)? {
-        let RunPiece { complete, .. } = piece;
-        if let Some(complete) = complete {
-            text.extend_from_slice(&complete.text)?;
-            let store = RunStore {
-                windows: complete.open,
-                begun,
-            };
-            open.extend_from_slice(&held::<Brand>(alloc, plan, store, Blank::new(1))?)?;
-        }
+        let (lines, left) = answered(alloc, plan, piece, begun)?;
+        text.extend_from_slice(&lines)?;
+        open.extend_from_slice(&left)?;
     }
     Ok((text, open))
+}
+
+// The block of rows behind others, which it has too; and the block of those.
+fn two_blocks(
+    alloc: Global,
+    first: &[(u32, i64, i64)],
+    second: &[(u32, i64, i64)],
+) -> Result<(Block, Block), NoMemory>
+    ensures first { IfOk result (λ b. (q : Tree) → columns_on q.streams sides.Left ≡ 3 → ComesBehind q b.0 []) }
+    ensures second { IfOk result (λ b. (q : Tree) → columns_on q.streams sides.Left ≡ 3 → ComesBehind q b.1 b.0.rows) }
+    ensures open { IfOk result (λ b. b.0.ended ≡ false) }
+{
+    let mark = Mark {
+        left: 0,
+        right: 0,
+        last: None,
+        ended: false,
+    };
+    let (one, after) = keyed_block(alloc, 0, mark, first, false)?;
+    let (mut two, _) = keyed_block(alloc, 1, after, second, false)?;
+    two.earlier = Earlier {
+        before: one.before,
+        rows: one.rows.copy(alloc)?,
+    };
+    Ok((one, two))
+}
+
+// What the second of two tasks answers itself, which has the rows of the first one.
+fn answered_behind(
+    alloc: Global,
+    plan: &Plan,
+    first: &[(u32, i64, i64)],
+    second: &[(u32, i64, i64)],
+    begun: u64,
+) -> Result<(Vec<u8>, Vec<u8>), NoMemory>
+    requires checked { IsChecked (tree_of plan.now) }
+    requires group { (tree_of plan.now).shape ≡ shapes.Group }
+    requires columns { columns_on (tree_of plan.now).streams sides.Left ≡ 3 }
+{
+    let (_one, two) = two_blocks(alloc, first, second)?;
+    let piece = piece(alloc, &Group::new(plan), &two)?;
+    answered(alloc, plan, piece, begun)
+}
+
+// The text of both, and the store behind them.
+fn answer_behind(
+    alloc: Global,
+    plan: &Plan,
+    first: &[(u32, i64, i64)],
+    second: &[(u32, i64, i64)],
+) -> Result<(Vec<u8>, RunStore), NoMemory>
+    requires checked { IsChecked (tree_of plan.now) }
+    requires group { (tree_of plan.now).shape ≡ shapes.Group }
+    requires columns { columns_on (tree_of plan.now).streams sides.Left ≡ 3 }
+{
+    checked_fit();
+    no_rows_give_nothing();
+    let group = Group::new(plan);
+    let (one, two) = two_blocks(alloc, first, second)?;
+    let mut store = group.empty_store(alloc);
+    let mut out = Vec::new(alloc);
+    give(alloc, &group, &one, &mut store, &mut out)?;
+    give(alloc, &group, &two, &mut store, &mut out)?;
+    Ok((out, store))
 }
 
 const ROWS: [(u32, i64, i64); 5] = [(0, 1, 10), (1, 1, 20), (2, 2, 5), (2, 1, 7), (9, 2, 1)];
@@ -339,7 +414,7 @@ fn windows_that_lie_whole_in_a_task(rt: HostRuntime) -> Result<(), Fail> {
         shown.as_slice(),
         b"0,1,10\n\n0,1,20\n1,1,20\n0,2,5\n1,2,5\n2,2,5\n\n".as_slice()
     );
-    let (text, open) = answered(alloc, &plan, tasks, 5)?;
+    let (text, open) = all_answered(alloc, &plan, tasks, 5)?;
     assert_eq!(&rt;
         text.as_slice(),
         b"1,1,27\n1,2,5\n2,1,7\n2,2,6\n".as_slice()
@@ -354,6 +429,24 @@ fn windows_that_lie_whole_in_a_task(rt: HostRuntime) -> Result<(), Fail> {
         "0,1,30\n0,2,5\n1,1,27\n1,2,5\n2,1,7\n2,2,6\n",
         "3,1,7\n3,2,1\n4,2,1\n",
     )?;
+    Ok(())
+}
+
+// A task of three rows behind one of two answers windows 0 and 1 too, which begin there, where its block has these two rows. It gives
+// no runs, and windows 3 and 4 are open.
+#[test]
+fn windows_that_lie_in_two_tasks(rt: HostRuntime) -> Result<(), Fail> {
+    let alloc = rt.alloc();
+    let plan = sums(alloc)?;
+    let lines = b"0,1,30\n0,2,5\n1,1,27\n1,2,5\n2,1,7\n2,2,6\n".as_slice();
+    let still = b"3,1,7\n3,2,1\n4,2,1\n".as_slice();
+    let (text, open) = answered_behind(alloc, &plan, &ROWS[..2], &ROWS[2..], 5)?;
+    assert_eq!(&rt; text.as_slice(), lines);
+    assert_eq!(&rt; open.as_slice(), still);
+    let (out, store) = answer_behind(alloc, &plan, &ROWS[..2], &ROWS[2..])?;
+    assert_eq!(&rt; out.as_slice(), lines);
+    let open_parts = held::<Brand>(alloc, &plan, store, Blank::new(1))?;
+    assert_eq!(&rt; open_parts.as_slice(), still);
     Ok(())
 }
 

@@ -21,7 +21,9 @@ impl Operator for Join<'_> {
 
     type Store = PartStore<Pairs>;
 
+    ghost use Rattle.std.specs.Prelude.{◌≡◌};
     ghost use Rattle.saber_plan.specs.Trees.{tree_of};
+    ghost use Rattle.saber_plan.specs.Shares.{shares_between};
     ghost use Rattle.saber_fragment.specs.Shown.{shares_of};
     ghost use Rattle.saber_parts.specs.Stored.{held_by, staying_by};
     ghost use Rattle.saber_join.specs.Sights.{HasSeen};
@@ -30,15 +32,13 @@ impl Operator for Join<'_> {
 
     ghost has_seen = { λ p draft s. HasSeen (tree_of p) draft s };
 
-    ghost shares = { λ _. shares_of (λ part. part) };
-
     ghost held = { held_by (λ part. part) };
 
     ghost staying = { staying_by (λ part. part) };
 
     ghost has_taken = { λ _ _ _. Unit {0} };
 
-    ghost is_of = { λ _ _ _ _ _. Unit {0} };
+    ghost is_of = { λ p piece r x y. shares_of (λ part. part) piece ≡ shares_between (tree_of p) r x y };
 
     fn start(&self, alloc: Global, own: &Block) -> Result<JoinDraft, NoMemory> {
         JoinDraft::new(alloc, own)

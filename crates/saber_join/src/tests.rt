@@ -1,5 +1,5 @@
 //! Pairs of windows, worked out by hand.
-ghost use Rattle.std.specs.Prelude.{◌≡◌, ◌++◌, [], IfOk, OnOk, Some, None, true, false};
+ghost use Rattle.std.specs.Prelude.{◌≡◌, ℕ, ◌++◌, [], IfOk, OnOk, Some, None, true, false};
 ghost use Rattle.saber_plan.specs.declared.rows.Side.TheVariants as s;
 ghost use Rattle.saber_plan.specs.declared.predicates.Cmp.TheVariants as c;
 ghost use Rattle.saber_plan.specs.declared.plans.Shape.TheVariants as h;
@@ -7,16 +7,16 @@ ghost use Rattle.saber_plan.specs.Trees as t;
 ghost use Rattle.saber_plan.specs.Trees.{tree_of};
 ghost use Rattle.saber_plan.specs.Checked.{IsChecked, columns_on};
 ghost use Rattle.saber_plan.specs.Given.{RowsFit};
-ghost use Rattle.saber_plan.specs.Inputs.{going_on};
+ghost use Rattle.saber_plan.specs.Inputs.{Input, going_on};
 ghost use Rattle.saber_plan.specs.Answers.{frame};
-ghost use Rattle.saber_plan.specs.Shares.{shares_here};
 ghost use Rattle.saber_plan.specs.Windows.{Fits, mark_after, no_rows};
+ghost use Rattle.saber_fragment.specs.Drafts.{own_sight, fed, CanStart, IsSightOf};
 ghost use Rattle.saber_samples.specs.Asking.{IsJoinOf, one_column, only};
 ghost use Rattle.saber_samples.specs.Standing.{ComesBehind, Keeps};
 
 use super::*;
 use saber_flat::Rows;
-use saber_fragment::{Block, Operator, Parts, Piece};
+use saber_fragment::{Block, Earlier, Operator, Parts, Piece};
 use saber_laws::{
     checked_fit, merge_has_unit, no_rows_give_nothing, open_goes_on, part_has_lines, parts_join,
     parts_lie_within, shares_make_piece,
@@ -110,12 +110,12 @@ fn piece<O: Operator>(
     two: &Block,
     own: &Block,
 ) -> Result<O::Piece, NoMemory>
+    requires starts { CanStart (O.plan operator.now) own.now }
     requires fits { RowsFit (O.plan operator.now) one.now.before ((one.now.rows ++ two.now.rows) ++ own.now.rows) }
     requires goes_on { two.now.before ≡ mark_after one.now.before one.now.rows }
     requires meets { own.now.before ≡ mark_after one.now.before (one.now.rows ++ two.now.rows) }
-    ensures shares { IfOk result (λ p. O.shares operator.now p
-        ≡ shares_here (O.plan operator.now) one.now.before (one.now.rows ++ two.now.rows) own.now.rows own.now.ended) }
-    ensures of { IfOk result (λ p. O.is_of operator.now p own.now.before own.now.rows own.now.ended) }
+    ensures { IfOk result (λ p. (r : Input) (x y : ℕ)
+        → IsSightOf (O.plan operator.now) (fed (fed (own_sight own.now) one.now) two.now) r x y → O.is_of operator.now p r x y) }
 {
     let mut draft = operator.start(alloc, own)?;
     operator.feed(alloc, &mut draft, one)?;
@@ -342,6 +342,7 @@ fn give<O: Operator>(
     let none = Block {
         number: 1,
         first: 0,
+        earlier: Earlier::none(alloc, own.before),
         before: own.before,
         rows: Rows::new(alloc),
         ended: false,
@@ -373,6 +374,7 @@ fn answer<O: Operator>(
     let mut behind = Block {
         number: 0,
         first: 0,
+        earlier: Earlier::none(alloc, mark),
         before: mark,
         rows: Rows::new(alloc),
         ended: false,

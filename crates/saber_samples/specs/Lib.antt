@@ -1,3 +1,4 @@
 pub mod Asking
 pub mod Filling
 pub mod Standing
+pub mod BlockFacts

@@ -1,5 +1,5 @@
 -- Where a store stands between the tasks of a test.
-use Rattle.std.specs.Prelude.{◌≡◌, List, ◌++◌}
+use Rattle.std.specs.Prelude.{◌≡◌, List, [], ◌++◌}
 use Rattle.saber_plan.specs.declared.rows.Row.{Row}
 use Rattle.saber_plan.specs.Inputs.{Input}
 use Rattle.saber_plan.specs.Trees.{Tree}
@@ -7,10 +7,16 @@ use Rattle.saber_plan.specs.Windows.{mark_of, no_rows}
 use Rattle.saber_plan.specs.Given.{RowsFit}
 use Rattle.saber_plan.specs.Tasks.{Parts, unclosed}
 use Rattle.saber_fragment.specs.declared.blocks.Block.{Block}
+use Rattle.saber_fragment.specs.Drafts.{EndWith}
+
+-- the block has none of the rows before its own
+abbrev pub IsAlone : Block → Type 0
+IsAlone b = (b.earlier.before ≡ b.before) × (b.earlier.rows ≡ [])
 
 -- the block comes behind these rows, and the query can be given them and its own
 pub record ComesBehind (q : Tree) (own : Block) (xs : List Row) : Type 0 where
   pub before : own.before ≡ mark_of xs
+  pub earlier : EndWith xs own.earlier
   pub fits : RowsFit q no_rows (xs ++ own.rows)
 
 -- the parts are those that an input leaves open, and the input is what was taken in

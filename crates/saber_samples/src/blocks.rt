@@ -1,10 +1,11 @@
 // Blocks of rows.
 ghost use Rattle.std.specs.Prelude.{◌≡◌, IfOk};
 ghost use Rattle.saber_samples.specs.Filling.{CanCome, IsBehind, HasKeyed, HasPairs};
+ghost use Rattle.saber_samples.specs.Standing.{IsAlone};
 
 use crate::rows::{follows, keyed_row, sided_row, step};
 use saber_flat::{RowRef, Rows};
-use saber_fragment::Block;
+use saber_fragment::{Block, Earlier};
 use saber_plan::{Mark, NoMemory, Side};
 use std::alloc::Global;
 
@@ -64,6 +65,7 @@ pub fn keyed_block(
     ensures number { IfOk result (λ b. b.0.number ≡ number) }
     ensures before { IfOk result (λ b. b.0.before ≡ before) }
     ensures ended { IfOk result (λ b. b.0.ended ≡ ended) }
+    ensures alone { IfOk result (λ b. IsAlone b.0) }
     ensures fit { IfOk result (λ b. CanCome HasKeyed before b.0.rows) }
     ensures mark { IfOk result (λ b. IsBehind before b.0.rows b.1) }
 {
@@ -71,6 +73,7 @@ pub fn keyed_block(
     let block = Block {
         number,
         first: 0,
+        earlier: Earlier::none(alloc, before),
         before,
         rows,
         ended,
@@ -90,6 +93,7 @@ pub fn sided_block(
     ensures number { IfOk result (λ b. b.0.number ≡ number) }
     ensures before { IfOk result (λ b. b.0.before ≡ before) }
     ensures ended { IfOk result (λ b. b.0.ended ≡ ended) }
+    ensures alone { IfOk result (λ b. IsAlone b.0) }
     ensures fit { IfOk result (λ b. CanCome HasPairs before b.0.rows) }
     ensures mark { IfOk result (λ b. IsBehind before b.0.rows b.1) }
 {
@@ -97,6 +101,7 @@ pub fn sided_block(
     let block = Block {
         number,
         first: 0,
+        earlier: Earlier::none(alloc, before),
         before,
         rows,
         ended,

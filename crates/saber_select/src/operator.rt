@@ -16,15 +16,15 @@ impl Operator for Select<'_> {
 
     type Store = NoStore;
 
+    ghost use Rattle.std.specs.Prelude.{◌≡◌};
     ghost use Rattle.std.specs.FinMap.{empty};
     ghost use Rattle.saber_plan.specs.Trees.{tree_of};
+    ghost use Rattle.saber_plan.specs.Shares.{shares_between};
     ghost use Rattle.saber_select.specs.Texts.{IsTextOf, text_alone};
 
     ghost plan = { tree_of };
 
     ghost has_seen = { λ select. IsTextOf (tree_of select) };
-
-    ghost shares = { λ _. text_alone };
 
     ghost held = { λ _. empty };
 
@@ -32,7 +32,7 @@ impl Operator for Select<'_> {
 
     ghost has_taken = { λ _ _ _. Unit {0} };
 
-    ghost is_of = { λ _ _ _ _ _. Unit {0} };
+    ghost is_of = { λ select piece r x y. text_alone piece ≡ shares_between (tree_of select) r x y };
 
     fn start(&self, alloc: Global, own: &Block) -> Result<Text, NoMemory> {
         let mut text = Vec::new(alloc);

@@ -6,7 +6,7 @@ ghost use Rattle.saber_plan.specs.declared.plans.Shape.TheVariants as h;
 ghost use Rattle.saber_plan.specs.Trees as t;
 ghost use Rattle.saber_plan.specs.Trees.{tree_of};
 ghost use Rattle.saber_plan.specs.Checked.{IsChecked, columns_on};
-ghost use Rattle.saber_plan.specs.Given.{RowsFit};
+ghost use Rattle.saber_fragment.specs.Drafts.{CanStart};
 ghost use Rattle.saber_samples.specs.Asking.{IsOfOne, one_column, one_number, plus, less, without_window};
 
 use super::*;
@@ -74,7 +74,7 @@ fn tens(alloc: Global) -> Result<Plan, NoMemory>
 }
 
 fn piece<O: Operator>(alloc: Global, operator: &O, own: &Block) -> Result<O::Piece, NoMemory>
-    requires { RowsFit (O.plan operator.now) own.now.before own.now.rows }
+    requires { CanStart (O.plan operator.now) own.now }
 {
     let draft = operator.start(alloc, own)?;
     operator.finish(alloc, draft)

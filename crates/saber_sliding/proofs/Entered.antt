@@ -1,15 +1,20 @@
 -- Entries and what they come to, as one more comes and the first goes.
-use Rattle.std.proofs.Common.{◌≡◌, ℕ, ◌≤◌, ◌<◌, true, false, cond, nat_le, [], ◌∷◌, ◌++◌, length, refl, sym, ◌∙◌, ap, subst, subst₂, append-nil, append_assoc, get_or, arith}
+use Rattle.std.proofs.Common.{◌≡◌, ℕ, zero, suc, drop, ◌≤◌, ◌<◌, Bool, true, false, cond, nat_le, [], ◌∷◌, ◌++◌, length, refl, sym, ◌∙◌, ap, subst, subst₂, append-nil, append_assoc, get_or, arith}
+use Rattle.std.proofs.lemmas.Bool.{false≢true}
 use Rattle.std.proofs.lemmas.List.{length-map}
 use Rattle.saber_plan.specs.Parts.{Part, no_part, merge}
 use Rattle.saber_laws.specs.Parts.{MergeHasUnit, MergeIsAssociative}
 use Rattle.saber_partial.specs.Tallies.{CanMerge}
-use Rattle.saber_sliding.specs.Entries.{Entries, whole, followed, pushed, dropped, merged, suffixes, seen, CanFollow, Chained, Sound}
+use Rattle.saber_sliding.specs.Entries.{Entries, whole, followed, pushed, dropped, merged, suffixes, seen, CanFollow, Chained, Sound, IsSound}
 use Rattle.saber_sliding.specs.EntryFacts.{all_dropped}
 use Rattle.saber_partial.specs.MergeFacts.{can_ahead, can_none, none_can}
 
 abbrev last : ℕ → Part → Entries
 last n p = (n, p) ∷ []
+
+pub length-suffixes : (es : Entries) → length (suffixes es) ≡ length es
+length-suffixes [] = refl
+length-suffixes (e ∷ es) = let rest = length-suffixes es in omega (arith, rest)
 
 pub whole_merged : (es : Entries) → whole (suffixes es) ≡ merged es
 whole_merged [] = refl
@@ -25,7 +30,7 @@ followed_twice : MergeIsAssociative → (m p : Part) (es : Entries) → followed
 followed_twice assoc m p [] = refl
 followed_twice assoc m p (e ∷ es) = λ i. (e.0, sym (assoc e.1 m p) i) ∷ followed_twice assoc m p es i
 
-suffixes-push : MergeHasUnit → MergeIsAssociative → (n : ℕ) (p : Part) (es : Entries) → suffixes (es ++ last n p) ≡ followed p (suffixes es) ++ last n p
+pub suffixes-push : MergeHasUnit → MergeIsAssociative → (n : ℕ) (p : Part) (es : Entries) → suffixes (es ++ last n p) ≡ followed p (suffixes es) ++ last n p
 suffixes-push unit assoc n p [] = λ i. (n, (unit p).1 i) ∷ []
 suffixes-push unit assoc n p (e ∷ es) = λ i. (e.0, (ap (merge e.1) (merged-push unit assoc n p es) ∙ sym (assoc e.1 (merged es) p)) i) ∷ suffixes-push unit assoc n p es i
 
@@ -47,7 +52,7 @@ joins-push : (b p : Part) (front es : Entries) → CanFollow b front → CanFoll
 joins-push b p [] es g h = tt
 joins-push b p (e ∷ front) es g h = (can_ahead e.1 b p g.0 h.0, joins-push b p front es g.1 h.1)
 
-chained-push : MergeHasUnit → MergeIsAssociative → (n : ℕ) (p : Part) (es : Entries) → Chained es → CanFollow p (suffixes es) → Chained (es ++ last n p)
+pub chained-push : MergeHasUnit → MergeIsAssociative → (n : ℕ) (p : Part) (es : Entries) → Chained es → CanFollow p (suffixes es) → Chained (es ++ last n p)
 chained-push unit assoc n p [] g h = (can_none p, tt)
 chained-push unit assoc n p (e ∷ es) g h =
     (subst (CanMerge e.1) (sym (merged-push unit assoc n p es)) (can_ahead e.1 (merged es) p g.0 h.0), chained-push unit assoc n p es g.1 h.1)
@@ -80,6 +85,31 @@ sound_turned es = record { merge_is = refl; chained = tt; joins = any es } where
   any : (es : Entries) → CanFollow no_part es
   any [] = tt
   any (e ∷ es) = (can_none e.1, any es)
+
+-- ---- a back that is still to become the front
+
+pub late_none : (late : Bool) (front back : Entries) (p : Part) → late ≡ true → IsSound late front back p → (front ≡ []) × Chained back
+late_none true front back p e h = h
+late_none false front back p e h = absurd (false≢true e)
+
+pub not_late : (late : Bool) (front back : Entries) (p : Part) → late ≡ false → IsSound late front back p → Sound front back p
+not_late true front back p e h = absurd (false≢true (sym e))
+not_late false front back p e h = h
+
+chained_any : (late : Bool) (front back : Entries) (p : Part) → IsSound late front back p → Chained back
+chained_any true front back p h = h.1
+chained_any false front back p h = h.chained
+
+chained_drop : (n : ℕ) (es : Entries) → Chained es → Chained (drop n es)
+chained_drop zero es h = h
+chained_drop (suc n) [] h = tt
+chained_drop (suc n) (e ∷ es) h = chained_drop n es h.1
+
+pub chained_left : (late : Bool) (front back : Entries) (p : Part) (n : ℕ) → IsSound late front back p → Chained (drop n back)
+chained_left late front back p n h = chained_drop n back (chained_any late front back p h)
+
+pub seen_late : (front back : Entries) (p : Part) → front ≡ [] → seen front back p ≡ suffixes back
+seen_late front back p e = ap (λ f. seen f back p) e
 
 -- ---- summing up
 
@@ -145,8 +175,12 @@ none_left i [] fs h = refl
 none_left i (e ∷ es) fs h =
     elim (nat_le e.0 i) as (λ b. cond b (dropped i es) (e ∷ es) ≡ [] → cond b (dropped i (es ++ fs)) (e ∷ es ++ fs) ≡ dropped i fs) [ true ↦ λ l. none_left i es fs l | false ↦ λ l. cc ] h
 
-pub sound_dropped : (i : ℕ) (front back : Entries) (p : Part) → Sound front back p → Sound (dropped i front) back p
+sound_dropped : (i : ℕ) (front back : Entries) (p : Part) → Sound front back p → Sound (dropped i front) back p
 sound_dropped i front back p s = record { merge_is = s.merge_is; chained = s.chained; joins = all_dropped (λ (e : ℕ × Part). CanMerge e.1 p) i front s.joins }
+
+pub still_sound : (late : Bool) (i : ℕ) (front back : Entries) (p : Part) → IsSound late front back p → IsSound late (dropped i front) back p
+still_sound true i front back p h = (ap (dropped i) h.0, h.1)
+still_sound false i front back p h = sound_dropped i front back p h
 
 -- some of the front stay
 pub seen_some : (i : ℕ) (front back : Entries) (p : Part) → 0 < length (dropped i front) → seen (dropped i front) back p ≡ dropped i (seen front back p)

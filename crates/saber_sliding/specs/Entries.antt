@@ -1,5 +1,5 @@
 -- Parts that follow one another, each with the number of the first window that doesn't have it, and what each comes to with those behind it.
-use Rattle.std.specs.Prelude.{◌≡◌, ℕ, List, [], ◌∷◌, ◌++◌, map, if◌then◌else◌, nat_le, nat_lt, Option, Some, None, refl}
+use Rattle.std.specs.Prelude.{◌≡◌, ℕ, Bool, true, false, List, [], ◌∷◌, ◌++◌, map, if◌then◌else◌, nat_le, nat_lt, Option, Some, None, refl}
 use Rattle.std.specs.List.{AllByRecursion}
 use Rattle.std.specs.Coded.{Coded, code_by, coded×, coded_ℕ, coded_list}
 use Rattle.saber_plan.specs.Parts.{Part, no_part, merge}
@@ -74,6 +74,11 @@ pub record Sound (front back : Entries) (p : Part) : Type 0 where
   pub merge_is : p ≡ merged back
   pub chained : Chained back
   pub joins : CanFollow p front
+
+-- Or the back is still to become the front, which has none, and no merge is kept.
+abbrev pub IsSound : Bool → Entries → Entries → Part → Type 0
+IsSound false front back p = Sound front back p
+IsSound true front back p = (front ≡ []) × Chained back
 
 -- both as they are seen
 abbrev pub seen : Entries → Entries → Part → Entries

@@ -2,6 +2,8 @@
 //! at about three merges a run, however many windows a run lies in.
 #![tactic(auto)]
 
+mod front;
 mod queue;
 
+pub use front::Front;
 pub use queue::Sliding;

@@ -1,9 +1,9 @@
 // Parts that follow one another, with the merge of all from any one on.
-ghost use Rattle.std.specs.Prelude.{◌≡◌, ◌+◌, ◌≤◌, [], ◌∷◌, ◌++◌, drop, length, OnOk, OnErr};
+ghost use Rattle.std.specs.Prelude.{◌≡◌, ◌+◌, ◌≤◌, [], ◌∷◌, ◌++◌, drop, length, false, OnOk, OnErr, IfOk};
 ghost use Rattle.saber_plan.specs.Parts.{merge, no_part, part_lines};
 ghost use Rattle.saber_plan.specs.Trees.{tree_of};
 ghost use Rattle.saber_partial.specs.Tallies.{CanMerge};
-ghost use Rattle.saber_sliding.specs.Entries.{dropped, first_number, pushed, suffixes, whole, CanFollow, Chained};
+ghost use Rattle.saber_sliding.specs.Entries.{dropped, first_number, pushed, seen, suffixes, whole, CanFollow, Chained, IsSound, Sound};
 
 use saber_laws::{merge_has_unit, merge_is_associative};
 use saber_partial::{Partial, Pile, Steps};
@@ -17,7 +17,8 @@ use std::sync::ledger::Ledger;
 /// It is a queue of two stacks (SABER 2016 names incremental computation over panes; the two stacks are
 /// those of Tangwongsan et al. 2015): the front one keeps merges of its entries to its end, the back one
 /// its entries' own parts and the merge of all. So a part is merged once where it comes, once where the
-/// back becomes the front, and once for each time that the whole is asked. Contracts see the entries in
+/// back becomes the front, and once for each time that the whole is asked. The back becomes the front when
+/// something is asked or comes, and not as entries go: a queue that nobody asks again is never summed up. Contracts see the entries in
 /// order, each with the merge of its part and all behind it, and how many steps for them are still owed: each
 /// merge of two parts is a step.
 #[derive(Drop)]
@@ -25,11 +26,13 @@ pub struct Sliding {
     front: VecDeque<(u64, Partial)>,
     back: Vec<(u64, Partial)>,
     back_part: Pile,
+    // whether the back is still to become the front, which has none then
+    late: bool,
 }
 
 impl Model for Sliding {
     ghost use Rattle.std.specs.Prelude.{◌+◌, length};
-    ghost use Rattle.saber_sliding.specs.Entries.{coded_queue, seen, Queue, Sound};
+    ghost use Rattle.saber_sliding.specs.Entries.{coded_queue, seen, Queue, IsSound};
 
     ghost Value = { Queue };
 
@@ -37,7 +40,7 @@ impl Model for Sliding {
 
     ghost view = { λ s. record { entries = seen s.front.items s.back.items s.back_part.part; owed = length s.back.items + s.back_part.pieces } };
 
-    ghost invariant = { λ s. Sound s.front.items s.back.items s.back_part.part };
+    ghost invariant = { λ s. IsSound s.late s.front.items s.back.items s.back_part.part };
 }
 
 // A part, and the merge of all that stand behind it: one step at most.
@@ -110,6 +113,30 @@ fn turn<L: Ledger>(
     Ok(())
 }
 
+// The back becomes the front, where that is still to be done: one step for each of its entries at most.
+fn settle<L: Ledger>(
+    alloc: Global,
+    late: &mut bool,
+    front: &mut VecDeque<(u64, Partial)>,
+    back: &mut Vec<(u64, Partial)>,
+    back_part: &mut Pile,
+    steps: &mut Steps<L>,
+) -> Result<(), NoMemory>
+    requires { IsSound late.old front.old.items back.old.items back_part.old.part }
+    ensures sound { OnOk result (Sound front.new.items back.new.items back_part.new.part) }
+    ensures late { OnOk result (late.new ≡ false) }
+    ensures entries { OnOk result (seen front.new.items back.new.items back_part.new.part ≡ seen front.old.items back.old.items back_part.old.part) }
+    ensures steps { OnOk result (steps.new + (length back.new.items + back_part.new.pieces) ≤ steps.old + (length back.old.items + back_part.old.pieces)) }
+{
+    merge_has_unit();
+    if !*late {
+        return Ok(());
+    }
+    turn(alloc, 0, front, back, back_part, steps)?;
+    *late = false;
+    Ok(())
+}
+
 // Without the first entry.
 fn drop_one(front: &mut VecDeque<(u64, Partial)>)
     ensures { front.new.items ≡ drop 1 front.old.items }
@@ -150,6 +177,14 @@ fn count_gone(back: &[(u64, Partial)], i: u64) -> usize
     back.len()
 }
 
+// Without the first entries.
+fn drop_first(back: &mut Vec<(u64, Partial)>, gone: usize)
+    requires { gone ≤ length back.old.items }
+    ensures { back.new.items ≡ drop gone back.old.items }
+{
+    let _gone = back.drain(..gone);
+}
+
 // One entry more with its own part, and the merge of all: one step, if each piece more counts for one.
 fn put_behind<L: Ledger>(
     alloc: Global,
@@ -171,6 +206,59 @@ fn put_behind<L: Ledger>(
     }
 }
 
+// The same, once the back is the front where that is still to be done.
+fn put_settled<L: Ledger>(
+    alloc: Global,
+    late: &mut bool,
+    front: &mut VecDeque<(u64, Partial)>,
+    back: &mut Vec<(u64, Partial)>,
+    back_part: &mut Pile,
+    number: u64,
+    part: Partial,
+    steps: &mut Steps<L>,
+) -> Result<(), NoMemory>
+    requires sound { IsSound late.old front.old.items back.old.items back_part.old.part }
+    requires room { CanFollow part (seen front.old.items back.old.items back_part.old.part) }
+    ensures sound { OnOk result (Sound front.new.items back.new.items back_part.new.part) }
+    ensures late { OnOk result (late.new ≡ false) }
+    ensures entries { OnOk result (seen front.new.items back.new.items back_part.new.part ≡ pushed (seen front.old.items back.old.items back_part.old.part) number part) }
+    ensures steps { OnOk result (steps.new + (length back.new.items + back_part.new.pieces) ≤ steps.old + (length back.old.items + back_part.old.pieces) + 2) }
+{
+    merge_has_unit();
+    merge_is_associative();
+    settle(alloc, late, front, back, back_part, steps)?;
+    put_behind(alloc, back, back_part, number, part, steps)?;
+    Ok(())
+}
+
+// The lines of the merge of all, once the back is the front where that is still to be done.
+fn lines_settled<L: Ledger>(
+    alloc: Global,
+    late: &mut bool,
+    front: &mut VecDeque<(u64, Partial)>,
+    back: &mut Vec<(u64, Partial)>,
+    back_part: &mut Pile,
+    plan: &Plan,
+    window: u64,
+    out: &mut Vec<u8>,
+    steps: &mut Steps<L>,
+) -> Result<(), NoMemory>
+    requires { IsSound late.old front.old.items back.old.items back_part.old.part }
+    ensures ok { OnOk result (out.new.items ≡ out.old.items ++ part_lines (tree_of plan.now) window (whole (seen front.old.items back.old.items back_part.old.part))) }
+    ensures err { OnErr result (out.new.items ≡ out.old.items) }
+    ensures sound { OnOk result (Sound front.new.items back.new.items back_part.new.part) }
+    ensures late { OnOk result (late.new ≡ false) }
+    ensures entries { OnOk result (seen front.new.items back.new.items back_part.new.part ≡ seen front.old.items back.old.items back_part.old.part) }
+    ensures steps { OnOk result (steps.new + (length back.new.items + back_part.new.pieces) ≤ steps.old + (length back.old.items + back_part.old.pieces) + 1) }
+{
+    merge_has_unit();
+    settle(alloc, late, front, back, back_part, steps)?;
+    match front.front() {
+        Some(first) => back_part.lines_behind(&first.1, plan, window, out, steps),
+        None => back_part.lines(plan, window, out, steps),
+    }
+}
+
 impl Sliding {
     /// No part. Takes no memory.
     pub fn empty(alloc: Global) -> Sliding
@@ -181,7 +269,32 @@ impl Sliding {
             front: VecDeque::new(alloc),
             back: Vec::new(alloc),
             back_part: Pile::empty(alloc),
+            late: false,
         }
+    }
+
+    /// The queue of entries with their own parts: one step for each.
+    pub(crate) fn of_entries<L: Ledger>(
+        alloc: Global,
+        entries: Vec<(u64, Partial)>,
+        steps: &mut Steps<L>,
+    ) -> Result<Sliding, NoMemory>
+        requires { Chained entries.items }
+        ensures entries { IfOk result (λ s. s.entries ≡ suffixes entries.items) }
+        ensures owed { IfOk result (λ s. s.owed ≡ 0) }
+        ensures steps { OnOk result (steps.new ≤ steps.old + length entries.items) }
+    {
+        merge_has_unit();
+        let mut back = entries;
+        let mut front = VecDeque::new(alloc);
+        front.try_reserve_exact(back.len())?;
+        sum_up(alloc, 0, &mut back, &mut front, steps)?;
+        Ok(Sliding {
+            front,
+            back: Vec::new(alloc),
+            back_part: Pile::empty(alloc),
+            late: false,
+        })
     }
 
     /// The first entry's number.
@@ -211,8 +324,10 @@ impl Sliding {
     {
         merge_has_unit();
         merge_is_associative();
-        match put_behind(
+        match put_settled(
             alloc,
+            &mut self.late,
+            &mut self.front,
             &mut self.back,
             &mut self.back_part,
             number,
@@ -229,60 +344,37 @@ impl Sliding {
 
     // The same as `drop_to` where the first entry goes.
     #[inline(never)]
-    fn drop_some<L: Ledger>(
-        &mut self,
-        alloc: Global,
-        i: u64,
-        steps: &mut Steps<L>,
-    ) -> Result<(), NoMemory>
-        ensures entries { OnOk result (self.new.entries ≡ dropped i self.old.entries) }
-        ensures steps { OnOk result (steps.new + self.new.owed ≤ steps.old + self.old.owed) }
+    fn drop_some(&mut self, i: u64)
+        ensures entries { self.new.entries ≡ dropped i self.old.entries }
+        ensures owed { self.new.owed ≤ self.old.owed }
     {
-        merge_has_unit();
         drop_front(&mut self.front, i);
         if !self.front.is_empty() {
-            return Ok(());
+            return;
         }
         let gone = count_gone(&self.back, i);
         if gone == 0 {
-            return Ok(());
+            return;
         }
-        match turn(
-            alloc,
-            gone,
-            &mut self.front,
-            &mut self.back,
-            &mut self.back_part,
-            steps,
-        ) {
-            Ok(()) => Ok(()),
-            Err(lacks) => {
-                *self = Sliding::empty(alloc);
-                Err(lacks)
-            }
-        }
+        let alloc = *self.back.allocator();
+        drop_first(&mut self.back, gone);
+        self.back_part = Pile::empty(alloc);
+        self.late = true;
     }
 
-    /// Drops the entries at the front that window i doesn't have. It takes only steps that are owed, one for each entry that is
-    /// left where the back has to become the front. After want of memory it is only safe.
+    /// Drops the entries at the front that window i doesn't have. Takes no memory and no step.
     #[inline]
-    pub fn drop_to<L: Ledger>(
-        &mut self,
-        alloc: Global,
-        i: u64,
-        steps: &mut Steps<L>,
-    ) -> Result<(), NoMemory>
-        ensures entries { OnOk result (self.new.entries ≡ dropped i self.old.entries) }
-        ensures steps { OnOk result (steps.new + self.new.owed ≤ steps.old + self.old.owed) }
+    pub fn drop_to(&mut self, i: u64)
+        ensures entries { self.new.entries ≡ dropped i self.old.entries }
+        ensures owed { self.new.owed ≤ self.old.owed }
     {
         match self.first_number() {
             Some(number) => {
-                if number > i {
-                    return Ok(());
+                if number <= i {
+                    self.drop_some(i);
                 }
-                self.drop_some(alloc, i, steps)
             }
-            None => Ok(()),
+            None => {}
         }
     }
 
@@ -300,13 +392,19 @@ impl Sliding {
         ensures err { OnErr result (out.new.items ≡ out.old.items) }
         ensures steps { OnOk result (steps.new + self.new.owed ≤ steps.old + self.old.owed + 1) }
     {
+        merge_has_unit();
         let alloc = *self.back.allocator();
-        let written = match self.front.front() {
-            Some(first) => self
-                .back_part
-                .lines_behind(&first.1, plan, window, out, steps),
-            None => self.back_part.lines(plan, window, out, steps),
-        };
+        let written = lines_settled(
+            alloc,
+            &mut self.late,
+            &mut self.front,
+            &mut self.back,
+            &mut self.back_part,
+            plan,
+            window,
+            out,
+            steps,
+        );
         match written {
             Ok(()) => Ok(()),
             Err(lacks) => {

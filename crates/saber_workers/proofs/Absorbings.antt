@@ -1,14 +1,11 @@
 -- The ordered assembly's step, by the input filled so far.
-use Rattle.std.proofs.Common.{◌≡◌, ◌≢◌, ℕ, false, Bool, List, refl, sym, ◌∙◌, ap, subst}
+use Rattle.std.proofs.Common.{◌≡◌, ◌≢◌, ℕ, false, List, refl, sym, ◌∙◌, ap, subst}
 use Rattle.std.specs.Prelude.{Option, Some, None, IfSome, IfNone}
 use Rattle.saber_io.specs.Outside.{appended}
-use Rattle.saber_plan.specs.declared.rows.Row.{Row}
-use Rattle.saber_plan.specs.declared.windows.Mark.{Mark}
 use Rattle.saber_plan.specs.Inputs.{Input}
 use Rattle.saber_plan.specs.Trees.{Tree}
 use Rattle.saber_plan.specs.Answers.{text}
 use Rattle.saber_plan.specs.Tasks.{Parts, upto}
-use Rattle.saber_plan.specs.Shares.{Shares}
 use Rattle.saber_core.specs.Works.{IsPieceOrMark}
 use Rattle.saber_assembly.specs.declared.stage.Stage.{Stage}
 use Rattle.saber_assembly.specs.declared.stage.State.TheVariants.{Running, SinkFailed, NoMemory}
@@ -27,25 +24,25 @@ apart e = cc
 unlike : NoMemory ≡ SinkFailed → ⊥
 unlike e = cc
 
-module _ {O P S K : Type 0} (plan : O → Tree) (shares : O → P → Shares) (is_of : O → P → Mark → List Row → Bool → Type 0) (held : S → Parts) (taken : O → S → Input → Type 0) (written : K → Option (List ℕ)) (faults : K → ℕ)
+module _ {O P S K : Type 0} (plan : O → Tree) (is_of : O → P → Input → ℕ → ℕ → Type 0) (held : S → Parts) (taken : O → S → Input → Type 0) (written : K → Option (List ℕ)) (faults : K → ℕ)
     (op : O) (told : Told O) (k : ℕ) (old new : Stage S K) (suits : Suits op told) (is : IsStageOf plan (seen held written faults) taken (first_tasks told k) k false old) where
   abbrev KeepsAt : O → ℕ → Input → Start → Stage S K → Type 0
   KeepsAt z n r start s = Keeps (plan z) n r start (taken z s.store) (seen held written faults s)
 
   -- what the assembly says of its stage afterwards
   abbrev pub SaysAfter : Option P → Type 0
-  SaysAfter piece = (n : ℕ) (r : Input) (start : Start) → Tasks (plan op) n r → KeepsAt op n r start old → IfSome piece (λ p. IsPieceAt (plan op) n r old.k (shares op p) (is_of op p)) → KeepsAt op n r start new
+  SaysAfter piece = (n : ℕ) (r : Input) (start : Start) → Tasks (plan op) n r → KeepsAt op n r start old → IfSome piece (λ p. IsPieceAt n r old.k (is_of op p)) → KeepsAt op n r start new
 
   -- the store can take the piece in
-  pub can_absorb : (piece : Option P) → IsPieceOrMark (IsPieceOf plan shares is_of) told k piece → IfSome piece (λ p. CanTakeIn (plan op) (held old.store) (shares op p) (taken op old.store) (is_of op p))
+  pub can_absorb : (piece : Option P) → IsPieceOrMark (IsPieceOf plan is_of) told k piece → IfSome piece (λ p. CanTakeIn (plan op) (held old.store) (taken op old.store) (is_of op p))
   can_absorb None piece = piece
-  can_absorb (Some p) piece = subst (λ z. CanTakeIn (plan z) (held old.store) (shares z p) (taken z old.store) (is_of z p)) suits (takes_next plan held taken written faults shares is_of told k old p is piece)
+  can_absorb (Some p) piece = subst (λ z. CanTakeIn (plan z) (held old.store) (taken z old.store) (is_of z p)) suits (takes_next plan held taken written faults is_of told k old p is piece)
 
-  with_piece : (p : P) → IsPieceOf plan shares is_of told k p → SaysAfter (Some p) → KeepsAt told.operator told.size (input_of told) (start_of told) new
+  with_piece : (p : P) → IsPieceOf plan is_of told k p → SaysAfter (Some p) → KeepsAt told.operator told.size (input_of told) (start_of told) new
   with_piece p piece says =
       let n : ℕ = told.size in let r : Input = input_of told in
-      let own : IsPieceAt (plan op) n r k (shares op p) (is_of op p) = subst (λ z. IsPieceAt (plan z) n r k (shares z p) (is_of z p)) suits piece.piece in
-      let here : IsPieceAt (plan op) n r old.k (shares op p) (is_of op p) = subst (λ j. IsPieceAt (plan op) n r j (shares op p) (is_of op p)) (sym is.behind) own in
+      let own : IsPieceAt n r k (is_of op p) = subst (λ z. IsPieceAt n r k (is_of z p)) suits piece.piece in
+      let here : IsPieceAt n r old.k (is_of op p) = subst (λ j. IsPieceAt n r j (is_of op p)) (sym is.behind) own in
       subst (λ z. KeepsAt z n r (start_of told) new) (sym suits)
       (says n r (start_of told) (subst (λ z. Tasks (plan z) n r) suits piece.tasks) (subst (λ z. KeepsAt z n r (start_of told) old) suits (keeps_on plan held taken written faults told k old is)) here)
 
@@ -58,7 +55,7 @@ module _ {O P S K : Type 0} (plan : O → Tree) (shares : O → P → Shares) (i
         taken_is = λ run. absurd (apart (sym lacks ∙ run));
       }
 
-  pub keeps_after : (piece : Option P) (result : Absorbed) → IsPieceOrMark (IsPieceOf plan shares is_of) told k piece → SaysAfter piece → IfNone piece ((result ≡ Stopped) × (new.state ≡ NoMemory)) → (new.state ≡ NoMemory → written new.sink ≡ written old.sink) → (new.state ≢ SinkFailed → faults new.sink ≡ faults old.sink) → (result ≡ Stopped → new.k ≡ old.k)
+  pub keeps_after : (piece : Option P) (result : Absorbed) → IsPieceOrMark (IsPieceOf plan is_of) told k piece → SaysAfter piece → IfNone piece ((result ≡ Stopped) × (new.state ≡ NoMemory)) → (new.state ≡ NoMemory → written new.sink ≡ written old.sink) → (new.state ≢ SinkFailed → faults new.sink ≡ faults old.sink) → (result ≡ Stopped → new.k ≡ old.k)
       → KeepsAt told.operator told.size (input_of told) (start_of told) new
   keeps_after None result piece says none memory good stays = with_mark none.1 (memory none.1) (good (λ f. unlike (sym none.1 ∙ f))) (stays none.0)
   keeps_after (Some p) result piece says none memory good stays = with_piece p piece says

@@ -1,17 +1,15 @@
 -- The drafts of a query's operator, by the input filled so far.
-use Rattle.std.proofs.Common.{◌≡◌, ℕ, ◌+◌, ◌≤◌, Bool, List, refl, sym, ◌∙◌, ap, subst, le_refl, arith}
-use Rattle.saber_plan.specs.declared.rows.Row.{Row}
-use Rattle.saber_plan.specs.declared.windows.Mark.{Mark}
+use Rattle.std.proofs.Common.{◌≡◌, ℕ, ◌+◌, ◌≤◌, sym, ◌∙◌, ap, subst, le_refl, arith}
 use Rattle.saber_plan.specs.Inputs.{Input}
 use Rattle.saber_plan.specs.Trees.{Tree}
 use Rattle.saber_plan.specs.Windows.{last_mark}
-use Rattle.saber_plan.specs.Given.{RowsFit}
+use Rattle.saber_plan.specs.Tasks.{cut}
 use Rattle.saber_plan.specs.Needs.{free}
-use Rattle.saber_plan.specs.Shares.{Shares, shares_here}
 use Rattle.saber_laws.proofs.TaskCutLaws.{upto-upto}
 use Rattle.saber_laws.proofs.GrowLaws.{free-upto, task_rows-upto}
 use Rattle.saber_fragment.specs.declared.blocks.Block.{Block}
-use Rattle.saber_fragment.specs.Drafts.{Sight, own_sight, fed, CanFeed, IsWhole}
+use Rattle.saber_fragment.specs.declared.blocks.Earlier.{Earlier}
+use Rattle.saber_fragment.specs.Drafts.{EndWith, CanStart, Sight, own_sight, fed, CanFeed, IsWhole, IsSightOf}
 use Rattle.saber_feeds.specs.Feeds.{BlocksFeedTasks, IsBlock, IsFed, sight_to}
 use Rattle.saber_assembly.specs.declared.work.Told.{Told}
 use Rattle.saber_assembly.specs.Works.{input_of, AreTasks, first_tasks, first_needed, IsBlockOf, IsPieceOf}
@@ -22,8 +20,8 @@ before_next : (u : ℕ) → u ≤ u + 1
 before_next u = omega arith
 
 module _ {O D : Type 0} (plan : O → Tree) (has_seen : O → D → Sight → Type 0) (feeds : BlocksFeedTasks) (op : O) (told : Told O) (t : ℕ) (suits : Suits op told) where
-  abbrev sight : ℕ → Sight
-  sight u = sight_to (plan told.operator) told.size (input_of told) t u
+  abbrev sight : Earlier → ℕ → Sight
+  sight e u = sight_to (plan told.operator) told.size (input_of told) t e u
 
   abbrev first : ℕ
   first = first_of_task first_tasks (first_needed plan) told t
@@ -34,14 +32,21 @@ module _ {O D : Type 0} (plan : O → Tree) (has_seen : O → D → Sight → Ty
   first_is : first ≡ free (plan told.operator) told.size (input_of told) t
   first_is = free-upto (plan told.operator) told.size (input_of told) t t (le_refl t)
 
-  pub can_start : (b : Block) → IsBlockOf plan told t b → RowsFit (plan op) b.before b.rows
-  can_start b is = subst (λ z. RowsFit (plan z) b.before b.rows) suits ((is_fed is.tasks).starts b is.block)
+  pub can_start : (b : Block) → IsBlockOf plan told t b → CanStart (plan op) b
+  can_start b is = subst (λ z. CanStart (plan z) b) suits ((is_fed is.tasks).starts b is.block is.opens)
 
   pub started : (b : Block) (d : D) → IsBlockOf plan told t b → has_seen op d (own_sight b) → HasBlocks plan has_seen op told t first d
-  started b d is seen = record { tasks = is.tasks; seen = subst (λ u. has_seen op d (sight u)) (sym first_is) (subst (has_seen op d) ((is_fed is.tasks).begins b is.block) seen) }
+  started b d is seen = record {
+    tasks = is.tasks;
+    opens = is.opens;
+    earlier = b.earlier;
+    earlier_are = is.block.earlier;
+    seen = subst (λ u. has_seen op d (sight b.earlier u)) (sym first_is) (subst (has_seen op d) ((is_fed is.tasks).begins b is.block) seen);
+  }
 
   block_stays : (u : ℕ) (b : Block) → IsBlockOf plan (first_tasks told (u + 1)) u b → IsBlock (plan told.operator) told.size (input_of told) u b
   block_stays u b is = record {
+    earlier = subst (λ (z : Input). EndWith z.rows b.earlier) (upto-upto told.size (input_of told) (u + 1) u (before_next u)) is.block.earlier;
     before = is.block.before ∙ ap last_mark (upto-upto told.size (input_of told) (u + 1) u (before_next u));
     rows = is.block.rows ∙ task_rows-upto told.size (input_of told) (u + 1) u (le_refl (u + 1));
     ended = is.block.ended ∙ ap (λ (z : Input). z.ended) (upto-upto told.size (input_of told) (u + 1) (u + 1) (le_refl (u + 1)));
@@ -51,21 +56,29 @@ module _ {O D : Type 0} (plan : O → Tree) (has_seen : O → D → Sight → Ty
     from_free : free (plan told.operator) told.size (input_of told) t ≤ u
     from_free = subst (λ z. z ≤ u) first_is low
 
-    pub can_feed : CanFeed (plan op) (sight u) b
-    can_feed = subst (λ z. CanFeed (plan z) (sight u) b) suits ((is_fed has.tasks).can u b from_free high (block_stays u b is))
+    pub can_feed : CanFeed (plan op) (sight has.earlier u) b
+    can_feed = subst (λ z. CanFeed (plan z) (sight has.earlier u) b) suits ((is_fed has.tasks).can has.earlier u b from_free high (block_stays u b is))
 
-    pub fed_on : (d' : D) → has_seen op d' (fed (sight u) b) → HasBlocks plan has_seen op told t (u + 1) d'
-    fed_on d' seen = record { tasks = has.tasks; seen = subst (has_seen op d') ((is_fed has.tasks).goes_on u b from_free high (block_stays u b is)) seen }
+    pub fed_on : (d' : D) → has_seen op d' (fed (sight has.earlier u) b) → HasBlocks plan has_seen op told t (u + 1) d'
+    fed_on d' seen = record {
+      tasks = has.tasks;
+      opens = has.opens;
+      earlier = has.earlier;
+      earlier_are = has.earlier_are;
+      seen = subst (has_seen op d') ((is_fed has.tasks).goes_on has.earlier u b from_free high (block_stays u b is)) seen;
+    }
 
-  pub is_whole : (d : D) → HasBlocks plan has_seen op told t t d → IsWhole (plan op) (sight t)
-  is_whole d has = subst (λ z. IsWhole (plan z) (sight t)) suits (is_fed has.tasks).ends
+  module _ (d : D) (has : HasBlocks plan has_seen op told t t d) where
+    pub is_whole : IsWhole (plan op) (sight has.earlier t)
+    is_whole = subst (λ z. IsWhole (plan z) (sight has.earlier t)) suits ((is_fed has.tasks).ends has.earlier)
 
-  pub finished : {P : Type 0} (shares : O → P → Shares) (is_of : O → P → Mark → List Row → Bool → Type 0) (d : D) (p : P) → HasBlocks plan has_seen op told t t d → shares op p ≡ shares_here (plan op) (sight t).first (sight t).back (sight t).rows (sight t).ended
-      → is_of op p (sight t).before (sight t).rows (sight t).ended → IsPieceOf plan shares is_of told t p
-  finished shares is_of d p has e f = record {
-    tasks = has.tasks;
-    piece = record {
-      shares_are = ap (λ z. shares z p) suits ∙ e ∙ ap (λ z. shares_here (plan z) (sight t).first (sight t).back (sight t).rows (sight t).ended) (sym suits) ∙ (is_fed has.tasks).gives;
-      of_is = subst (λ z. is_of z p (sight t).before (sight t).rows (sight t).ended) (sym suits) f;
-    };
-  }
+    -- it has seen the task's arrivals
+    pub is_sight : IsSightOf (plan op) (sight has.earlier t) (input_of told) (cut told.size (input_of told) t) (cut told.size (input_of told) (t + 1))
+    is_sight = subst (λ z. IsSightOf (plan z) (sight has.earlier t) (input_of told) (cut told.size (input_of told) t) (cut told.size (input_of told) (t + 1))) suits
+        ((is_fed has.tasks).gives has.earlier has.opens has.earlier_are)
+
+    pub finished : {P : Type 0} (is_of : O → P → Input → ℕ → ℕ → Type 0) (p : P) → is_of op p (input_of told) (cut told.size (input_of told) t) (cut told.size (input_of told) (t + 1)) → IsPieceOf plan is_of told t p
+    finished is_of p of = record {
+      tasks = has.tasks;
+      piece = subst (λ z. is_of z p (input_of told) (cut told.size (input_of told) t) (cut told.size (input_of told) (t + 1))) (sym suits) of;
+    }

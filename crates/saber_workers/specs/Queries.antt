@@ -1,13 +1,11 @@
 -- What the operator of a query has of a task.
-use Rattle.std.specs.Prelude.{◌≡◌, ℕ, Bool, List, Option}
-use Rattle.saber_plan.specs.declared.rows.Row.{Row}
-use Rattle.saber_plan.specs.declared.windows.Mark.{Mark}
+use Rattle.std.specs.Prelude.{◌≡◌, ℕ, Bool, false, List, take, Option}
 use Rattle.saber_plan.specs.Inputs.{Input}
 use Rattle.saber_plan.specs.Trees.{Tree}
-use Rattle.saber_plan.specs.Tasks.{Parts}
-use Rattle.saber_plan.specs.Shares.{Shares}
+use Rattle.saber_plan.specs.Tasks.{Parts, cut, upto}
 use Rattle.saber_fragment.specs.declared.blocks.Block.{Block}
-use Rattle.saber_fragment.specs.Drafts.{Sight}
+use Rattle.saber_fragment.specs.declared.blocks.Earlier.{Earlier}
+use Rattle.saber_fragment.specs.Drafts.{EndWith, Sight}
 use Rattle.saber_feeds.specs.Feeds.{sight_to}
 use Rattle.saber_assembly.specs.declared.stage.Stage.{Stage}
 use Rattle.saber_assembly.specs.declared.work.Told.{Told}
@@ -20,10 +18,14 @@ abbrev pub Suits : {O : Type 0} → O → Told O → Type 0
 Suits op told = told.operator ≡ op
 
 module _ {O D : Type 0} (plan : O → Tree) (has_seen : O → D → Sight → Type 0) where
-  -- the draft of task t has its own rows, and those before them from the first that the task needs up to block u
+  -- The draft of task t has its own rows, and those before them from the first that the task needs up to block u. The input did not end
+  -- before the task, and the rows that its own block has of those before are the last of them.
   pub record HasBlocks (op : O) (told : Told O) (t u : ℕ) (draft : D) : Type 0 where
     pub tasks : AreTasks plan told
-    pub seen : has_seen op draft (sight_to (plan told.operator) told.size (input_of told) t u)
+    pub opens : (upto told.size (input_of told) t).ended ≡ false
+    pub earlier : Earlier
+    pub earlier_are : EndWith (take (cut told.size (input_of told) t) told.rows) earlier
+    pub seen : has_seen op draft (sight_to (plan told.operator) told.size (input_of told) t earlier u)
 
   module _ (op : O) where
     -- the block is the next of those that the draft's task needs before its own
@@ -34,14 +36,14 @@ module _ {O D : Type 0} (plan : O → Tree) (has_seen : O → D → Sight → Ty
     abbrev pub FeedsBlock : D → Block → Bool → D → Type 0
     FeedsBlock old block fed new = Feeds first_tasks (first_needed plan) (IsBlockOf plan) (Suits op) (HasBlocks op) old block fed new
 
-module _ {O S K P : Type 0} (plan : O → Tree) (shares : O → P → Shares) (is_of : O → P → Mark → List Row → Bool → Type 0) (held : S → Parts)
+module _ {O S K P : Type 0} (plan : O → Tree) (is_of : O → P → Input → ℕ → ℕ → Type 0) (held : S → Parts)
     (taken : O → S → Input → Type 0) (written : K → Option (List ℕ)) (faults : K → ℕ) (op : O) where
   -- the piece is of the task that comes next to the stage, which runs
   abbrev pub IsNextPiece : Stage S K → Option P → Type 0
   IsNextPiece stage piece =
-      IsNext first_tasks (IsPieceOf plan shares is_of) (IsStageOf plan (seen held written faults) taken) (Suits op) stage piece
+      IsNext first_tasks (IsPieceOf plan is_of) (IsStageOf plan (seen held written faults) taken) (Suits op) stage piece
 
   -- the stage goes on by the piece, or is stopped
   abbrev pub AbsorbsPiece : Stage S K → Option P → Stage S K → Bool → Type 0
   AbsorbsPiece old piece new goes =
-      Absorbs first_tasks (IsPieceOf plan shares is_of) (IsStageOf plan (seen held written faults) taken) (Suits op) old piece new goes
+      Absorbs first_tasks (IsPieceOf plan is_of) (IsStageOf plan (seen held written faults) taken) (Suits op) old piece new goes

@@ -20,9 +20,9 @@ fn take_in<O: Operator, K: Sink>(
     stage: &mut Stage<O::Store, K>,
     piece: Option<O::Piece>,
 ) -> bool
-    requires { IsNextPiece O.plan O.shares O.is_of O.held O.has_taken K.written K.faults op.now stage.old piece }
+    requires { IsNextPiece O.plan O.is_of O.held O.has_taken K.written K.faults op.now stage.old piece }
     ensures none { piece ≡ None → result ≡ false }
-    ensures stage { AbsorbsPiece O.plan O.shares O.is_of O.held O.has_taken K.written K.faults op.now stage.old piece stage.new result }
+    ensures stage { AbsorbsPiece O.plan O.is_of O.held O.has_taken K.written K.faults op.now stage.old piece stage.new result }
 {
     match stage.absorb(alloc, op, piece) {
         Absorbed::Done => true,
@@ -67,7 +67,7 @@ impl<O: Operator, K: Pour> Labor<SaberWork<O, K>> for O {
 
     fn finish(&self, alloc: Global, draft: O::Draft) -> Option<O::Piece>
         requires { CanFinish first_tasks (Suits self.now) (HasBlocks O.plan O.has_seen self.now) draft }
-        ensures { Finishes first_tasks (Suits self.now) (HasBlocks O.plan O.has_seen self.now) (IsPieceOf O.plan O.shares O.is_of) draft result }
+        ensures { Finishes first_tasks (Suits self.now) (HasBlocks O.plan O.has_seen self.now) (IsPieceOf O.plan O.is_of) draft result }
     {
         blocks_feed_tasks();
         let Ok(piece) = Operator::finish(self, alloc, draft) else {
@@ -77,9 +77,9 @@ impl<O: Operator, K: Pour> Labor<SaberWork<O, K>> for O {
     }
 
     fn absorb(&self, alloc: Global, stage: &mut Stage<O::Store, K>, piece: Option<O::Piece>) -> bool
-        requires { IsNextPiece O.plan O.shares O.is_of O.held O.has_taken K.written K.faults self.now stage.old piece }
+        requires { IsNextPiece O.plan O.is_of O.held O.has_taken K.written K.faults self.now stage.old piece }
         ensures none { piece ≡ None → result ≡ false }
-        ensures stage { AbsorbsPiece O.plan O.shares O.is_of O.held O.has_taken K.written K.faults self.now stage.old piece stage.new result }
+        ensures stage { AbsorbsPiece O.plan O.is_of O.held O.has_taken K.written K.faults self.now stage.old piece stage.new result }
     {
         let goes = take_in::<O, K>(self, alloc, stage, piece);
         stage.pour();

@@ -27,14 +27,15 @@ run-ran-requires-clause-begins g c spans live =
     let f = g.F.Feed in
     let v : FeedView = feed_seen f.taken f.waiting f.mark f.faults c.args.feed.now in
     let cutter = c.in-Ok.cutter in
+    let keeper = c.new-keeper.result in
     let e = c.new-stage.ensures in
     let stage = c.new-stage.result in
     let b = c.requires.begins in
     let nothing : CutsNothingFed (plan op) s cutter = subst (λ z. CutsNothingFed z s cutter) (sym c.requires.plan) c.in-Ok.ensures.cuts in
     let fits : Fits (frame (plan op)) = subst (λ z. Fits (frame z)) (sym c.requires.plan) (c.checked_fit.ensures (tree_of c.args.plan.now) c.requires.checked) in
-    let is : HasFed plan s v.faults v cutter None (first_told op s.task (wrote stage.sink) (failed stage.sink)) 0 = fed_none plan op s v (wrote stage.sink) (failed stage.sink) cutter nothing c.in-Ok.ensures.goes c.requires.fresh c.requires.sizes.task.0 in
-    begins plan g.O.Operator.held g.O.Operator.has_taken wrote failed op s.task stage c.no_tasks_no_rows.ensures fits c.requires.sizes.task.0 c.args.sink e.sink e.none e.runs e.keeps (HasFed plan g.J.BeginsFed.sizes g.J.BeginsFed.faults v cutter None)
-    (transport (λ i. HasFed plan (sym b.0 i) (sym b.1 i) v cutter None (first_told op s.task (wrote stage.sink) (failed stage.sink)) 0) is)
+    let is : HasFed plan s v.faults v cutter keeper None (first_told op s.task (wrote stage.sink) (failed stage.sink)) 0 = fed_none plan op s v (wrote stage.sink) (failed stage.sink) cutter keeper nothing c.in-Ok.ensures.goes c.requires.fresh c.requires.sizes.task.0 c.new-keeper.ensures in
+    begins plan g.O.Operator.held g.O.Operator.has_taken wrote failed op s.task stage c.no_tasks_no_rows.ensures fits c.requires.sizes.task.0 c.args.sink e.sink e.none e.runs e.keeps (HasFed plan g.J.BeginsFed.sizes g.J.BeginsFed.faults v cutter keeper None)
+    (transport (λ i. HasFed plan (sym b.0 i) (sym b.1 i) v cutter keeper None (first_told op s.task (wrote stage.sink) (failed stage.sink)) 0) is)
 
 pub returns-in-Ok-ran : goal.returns-in-Ok-ran
 returns-in-Ok-ran g c =
@@ -50,15 +51,16 @@ returns-in-Ok-ran g c =
     let w = wrote c.args.sink in
     let f = failed c.args.sink in
     let cutter = c.run-ran.new.supply.cutter in
+    let keeper = c.run-ran.new.supply.keeper in
     let end = c.run-ran.new.supply.end in
     let stage = c.in-Ok-ran.stage in
     let fed = c.in-Ok-ran.fed in
     let e = c.new-stage.ensures in
     let b = c.requires.begins in
     let x = c.ended-in-Ok-ran.ensures in
-    let r : RunsTo (IsTold plan) first_tasks (IsStageOf plan (seen g.O.Operator.held wrote failed) g.O.Operator.has_taken) (HasFed plan s before v cutter end) (IsSome end) (first_told op s.task w f) stage fed =
-    transport (λ i. RunsTo (IsTold plan) first_tasks (IsStageOf plan (seen g.O.Operator.held wrote failed) g.O.Operator.has_taken) (HasFed plan (b.0 i) (b.1 i) v cutter end) (IsSome end) (first_told op s.task (wrote (e.sink i)) (failed (e.sink i))) stage fed) c.in-Ok-ran.ensures.ended in
-    let over = fed_done c.first_of_first.ensures c.fed_blocks_are_tasks.ensures c.cuts_leave_whole_tasks.ensures plan g.O.Operator.held g.O.Operator.has_taken wrote failed op s c.requires.sizes.task.0 w f v before cutter end stage fed r in
+    let r : RunsTo (IsTold plan) first_tasks (IsStageOf plan (seen g.O.Operator.held wrote failed) g.O.Operator.has_taken) (HasFed plan s before v cutter keeper end) (IsSome end) (first_told op s.task w f) stage fed =
+    transport (λ i. RunsTo (IsTold plan) first_tasks (IsStageOf plan (seen g.O.Operator.held wrote failed) g.O.Operator.has_taken) (HasFed plan (b.0 i) (b.1 i) v cutter keeper end) (IsSome end) (first_told op s.task (wrote (e.sink i)) (failed (e.sink i))) stage fed) c.in-Ok-ran.ensures.ended in
+    let over = fed_done c.first_of_first.ensures c.fed_blocks_are_tasks.ensures c.cuts_leave_whole_tasks.ensures plan g.O.Operator.held g.O.Operator.has_taken wrote failed op s c.requires.sizes.task.0 w f v before cutter keeper end stage fed r in
     let d : FedDone q s v before w f c.ended-in-Ok-ran.result.end c.ended-in-Ok-ran.result.tasks (wrote c.ended-in-Ok-ran.result.sink) (failed c.ended-in-Ok-ran.result.sink) =
     transport (λ i. FedDone (c.requires.plan i) s v before w f (sym x.end i) (sym x.tasks i) (wrote (sym x.sink i)) (failed (sym x.sink i))) over in
     record {

@@ -31,15 +31,16 @@ run-ran-requires-clause-begins g c spans live =
     let left = each_input g.S.Source.left c.args.inputs.now in
     let faults = each_input g.S.Source.faults c.args.inputs.now in
     let cutter = c.in-Ok.cutter in
+    let keeper = c.new-keeper.result in
     let e = c.new-stage.ensures in
     let stage = c.new-stage.result in
     let b = c.requires.begins in
     let nothing : CutsNothing (plan op) s cutter = subst (λ z. CutsNothing z s cutter) (sym c.requires.plan) c.in-Ok.ensures.cuts in
     let many : Suits (fresh (plan op) (limits_of s)) left = subst (λ z. Suits (fresh z (limits_of s)) left) (sym c.requires.plan) (suits q (limits_of s) g.S.Source.left c.args.inputs.now c.requires.inputs) in
     let fits : Fits (frame (plan op)) = subst (λ z. Fits (frame z)) (sym c.requires.plan) (c.checked_fit.ensures q c.requires.checked) in
-    let is : HasGiven plan s left left faults faults cutter None (first_told op s.task (wrote stage.sink) (failed stage.sink)) 0 = given_none plan op s left faults (wrote stage.sink) (failed stage.sink) cutter nothing c.in-Ok.ensures.goes many in
-    begins plan g.O.Operator.held g.O.Operator.has_taken wrote failed op s.task stage c.no_tasks_no_rows.ensures fits c.requires.sizes.task.0 c.args.sink e.sink e.none e.runs e.keeps (HasGiven plan g.J.Begins.sizes g.J.Begins.lefts left g.J.Begins.faults faults cutter None)
-    (transport (λ i. HasGiven plan (sym b.0 i) (sym b.1 i) left (sym b.2 i) faults cutter None (first_told op s.task (wrote stage.sink) (failed stage.sink)) 0) is)
+    let is : HasGiven plan s left left faults faults cutter keeper None (first_told op s.task (wrote stage.sink) (failed stage.sink)) 0 = given_none plan op s left faults (wrote stage.sink) (failed stage.sink) cutter keeper nothing c.in-Ok.ensures.goes many c.new-keeper.ensures in
+    begins plan g.O.Operator.held g.O.Operator.has_taken wrote failed op s.task stage c.no_tasks_no_rows.ensures fits c.requires.sizes.task.0 c.args.sink e.sink e.none e.runs e.keeps (HasGiven plan g.J.Begins.sizes g.J.Begins.lefts left g.J.Begins.faults faults cutter keeper None)
+    (transport (λ i. HasGiven plan (sym b.0 i) (sym b.1 i) left (sym b.2 i) faults cutter keeper None (first_told op s.task (wrote stage.sink) (failed stage.sink)) 0) is)
 
 pub returns-in-Ok-ran : goal.returns-in-Ok-ran
 returns-in-Ok-ran g c =
@@ -56,15 +57,16 @@ returns-in-Ok-ran g c =
     let w = wrote c.args.sink in
     let f = failed c.args.sink in
     let cutter = c.run-ran.new.supply.cutter in
+    let keeper = c.run-ran.new.supply.keeper in
     let end = c.run-ran.new.supply.end in
     let stage = c.in-Ok-ran.stage in
     let fed = c.in-Ok-ran.fed in
     let e = c.new-stage.ensures in
     let b = c.requires.begins in
     let x = c.ended-in-Ok-ran.ensures in
-    let r : RunsTo (IsTold plan) first_tasks (IsStageOf plan (seen g.O.Operator.held wrote failed) g.O.Operator.has_taken) (HasGiven plan s had has before now cutter end) (IsSome end) (first_told op s.task w f) stage fed =
-    transport (λ i. RunsTo (IsTold plan) first_tasks (IsStageOf plan (seen g.O.Operator.held wrote failed) g.O.Operator.has_taken) (HasGiven plan (b.0 i) (b.1 i) has (b.2 i) now cutter end) (IsSome end) (first_told op s.task (wrote (e.sink i)) (failed (e.sink i))) stage fed) c.in-Ok-ran.ensures.ended in
-    let over = done c.first_of_first.ensures c.blocks_are_tasks.ensures c.faults_leave_whole_tasks.ensures plan g.O.Operator.held g.O.Operator.has_taken wrote failed op s w f had has before now cutter end stage fed r in
+    let r : RunsTo (IsTold plan) first_tasks (IsStageOf plan (seen g.O.Operator.held wrote failed) g.O.Operator.has_taken) (HasGiven plan s had has before now cutter keeper end) (IsSome end) (first_told op s.task w f) stage fed =
+    transport (λ i. RunsTo (IsTold plan) first_tasks (IsStageOf plan (seen g.O.Operator.held wrote failed) g.O.Operator.has_taken) (HasGiven plan (b.0 i) (b.1 i) has (b.2 i) now cutter keeper end) (IsSome end) (first_told op s.task (wrote (e.sink i)) (failed (e.sink i))) stage fed) c.in-Ok-ran.ensures.ended in
+    let over = done c.first_of_first.ensures c.blocks_are_tasks.ensures c.faults_leave_whole_tasks.ensures plan g.O.Operator.held g.O.Operator.has_taken wrote failed op s w f had has before now cutter keeper end stage fed r in
     let d : Done q s had has before now w f c.ended-in-Ok-ran.result.end c.ended-in-Ok-ran.result.tasks (wrote c.ended-in-Ok-ran.result.sink) (failed c.ended-in-Ok-ran.result.sink) =
     transport (λ i. Done (c.requires.plan i) s had has before now w f (sym x.end i) (sym x.tasks i) (wrote (sym x.sink i)) (failed (sym x.sink i))) over in
     record {

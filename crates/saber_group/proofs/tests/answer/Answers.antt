@@ -1,7 +1,18 @@
-use Rattle.std.proofs.Common.{[], ◌++◌, refl, sym, ◌∙◌, arith}
-use Rattle.saber_plan.specs.Windows.{no_rows}
+use Rattle.std.proofs.Common.{◌≡◌, List, [], ◌++◌, refl, sym, ◌∙◌, arith}
+use Rattle.saber_plan.specs.declared.rows.Row.{Row}
+use Rattle.saber_plan.specs.declared.windows.Mark.{Mark}
+use Rattle.saber_plan.specs.Trees.{Tree}
+use Rattle.saber_plan.specs.Given.{RowsFit}
+use Rattle.saber_plan.specs.Windows.{no_rows, mark_of}
+use Rattle.saber_fragment.specs.declared.blocks.Block.{Block}
+use Rattle.saber_samples.specs.Standing.{IsAlone, ComesBehind}
+use Rattle.saber_samples.specs.BlockFacts.{none_before}
 use Rattle.saber_samples.specs.Filling.{fits_nil}
 use Rattle.saber_group.proofs.tests.answer.Goals as goal
+
+-- a block alone comes behind the rows of which its mark is
+comes : (q : Tree) (xs : List Row) {b : Block} {m : Mark} → b.before ≡ m → m ≡ mark_of xs → IsAlone b → RowsFit q no_rows (xs ++ b.rows) → ComesBehind q b xs
+comes q xs {b} before mark alone fits = record { before = before ∙ mark; earlier = none_before xs b alone (before ∙ mark); fits = fits }
 
 pub loop-table-init : goal.loop-table-init
 loop-table-init g c =
@@ -20,7 +31,7 @@ give-requires-clause-next g c =
     let own = c.in_ok-own.ensures in
     let kept = c.loop-table.invariant in (
       kept.rows,
-      record { before = own.before ∙ kept.mark_is; fits = own.fit q no_rows kept.rows c.requires.columns kept.mark_is kept.fits },
+      comes q kept.rows own.before kept.mark_is own.alone (own.fit q no_rows kept.rows c.requires.columns kept.mark_is kept.fits),
       record { held = kept.parts_are; taken = kept.taken_is },
     )
 
@@ -30,7 +41,7 @@ give-requires-then-flush-clause-next g c =
     let own = c.in_ok-own-2.ensures in
     let kept = c.loop-table.invariant in (
       kept.rows,
-      record { before = own.before ∙ kept.mark_is; fits = own.fit q no_rows kept.rows c.requires.columns kept.mark_is kept.fits },
+      comes q kept.rows own.before kept.mark_is own.alone (own.fit q no_rows kept.rows c.requires.columns kept.mark_is kept.fits),
       record { held = kept.parts_are; taken = kept.taken_is },
     )
 
@@ -40,7 +51,7 @@ loop-table-preserved g c =
     let own = c.in_ok-own.ensures in
     let kept = c.loop-table.invariant in
     let fits = own.fit q no_rows kept.rows c.requires.columns kept.mark_is kept.fits in
-    let after = c.in_ok-give.ensures kept.rows (record { before = own.before ∙ kept.mark_is; fits = fits }) (record { held = kept.parts_are; taken = kept.taken_is }) own.ended in record {
+    let after = c.in_ok-give.ensures kept.rows (comes q kept.rows own.before kept.mark_is own.alone fits) (record { held = kept.parts_are; taken = kept.taken_is }) own.ended in record {
       rows = kept.rows ++ c.in_ok-own.own.rows;
       fits = fits;
       mark_is = own.mark no_rows kept.rows kept.mark_is;

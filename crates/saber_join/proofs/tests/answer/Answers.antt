@@ -5,6 +5,7 @@ use Rattle.saber_plan.specs.Given.{RowsFit}
 use Rattle.saber_plan.specs.Tasks.{unclosed}
 use Rattle.saber_samples.specs.Filling.{fits_nil}
 use Rattle.saber_samples.specs.Standing.{Keeps}
+use Rattle.saber_samples.specs.BlockFacts.{none_before}
 use Rattle.saber_join.proofs.tests.answer.Goals as goal
 
 pub loop-table-init : goal.loop-table-init
@@ -26,6 +27,7 @@ give-requires-clause-next g c =
     let i = c.loop-table.invariant in
     record {
       before = c.in_ok-own.ensures.before ∙ i.mark;
+      earlier = none_before c.loop-table.behind.rows c.in_ok-own.own c.in_ok-own.ensures.alone (c.in_ok-own.ensures.before ∙ i.mark);
       fits = c.in_ok-own.ensures.fit (g.O.Operator.plan c.args.operator.now) no_rows c.loop-table.behind.rows (c.requires.left, c.requires.right) i.mark i.fits;
     }
 
@@ -48,5 +50,6 @@ give-requires-2-clause-next g c =
     let i = c.loop-table.invariant in
     record {
       before = c.in_ok-own-2.ensures.before ∙ i.mark;
+      earlier = none_before c.loop-table.behind.rows c.in_ok-own-2.own c.in_ok-own-2.ensures.alone (c.in_ok-own-2.ensures.before ∙ i.mark);
       fits = c.in_ok-own-2.ensures.fit (g.O.Operator.plan c.args.operator.now) no_rows c.loop-table.behind.rows (c.requires.left, c.requires.right) i.mark i.fits;
     }

@@ -2,8 +2,6 @@ use Rattle.std.proofs.Common.{◌≡◌, ◌++◌, [], refl, sym, ◌∙◌, ap,
 use Rattle.saber_plan.specs.Trees.{Tree}
 use Rattle.saber_plan.specs.Windows.{mark_after}
 use Rattle.saber_plan.specs.Given.{RowsFit}
-use Rattle.saber_plan.specs.Shares.{shares_here}
-use Rattle.saber_plan.specs.RowFacts.{fits_back}
 use Rattle.saber_fragment.specs.declared.blocks.Block.{Block}
 use Rattle.saber_fragment.specs.Drafts.{Sight, own_sight, fed, CanFeed, IsWhole}
 use Rattle.saber_join.proofs.Tested.{begins_there}
@@ -33,14 +31,6 @@ module _ (q : Tree) (one two own : Block) (fits : RowsFit q one.before ((one.row
     fits = subst (λ m. RowsFit q m ((one.rows ++ two.rows) ++ own.rows)) (sym there) fits;
   }
 
-pub start-requires : goal.start-requires
-start-requires g c =
-    let q = g.O.Operator.plan c.args.operator.now in
-    let one = c.args.one.now in
-    let two = c.args.two.now in
-    let own = c.args.own.now in
-    subst (λ m. RowsFit q m own.rows) (sym c.requires.meets) (fits_back q one.before (one.rows ++ two.rows) own.rows c.requires.fits)
-
 pub feed-requires : goal.feed-requires
 feed-requires g c =
     let q = g.O.Operator.plan c.args.operator.now in
@@ -67,24 +57,13 @@ finish-requires g c =
       all_in q one two own r.fits r.goes_on r.meets,
     )
 
-pub returns-clause-shares : goal.returns-clause-shares
-returns-clause-shares g c =
+pub returns : goal.returns
+returns g c r x y of =
     let q = g.O.Operator.plan c.args.operator.now in
     let one = c.args.one.now in
     let two = c.args.two.now in
     let own = c.args.own.now in
-    let r = c.requires in
-    c.in_ok-piece.ensures.shares (fed (fed (own_sight own) one) two)
-    (c.in_ok-feed-2.ensures (fed (own_sight own) one) (c.in_ok-feed.ensures (own_sight own) c.in_ok-draft.ensures (one_can q one two own r.fits r.goes_on r.meets)) (two_can q one two own r.fits r.goes_on r.meets))
-    (all_in q one two own r.fits r.goes_on r.meets) ∙ ap (λ m. shares_here q m (one.rows ++ two.rows) own.rows own.ended) (there q one two own r.fits r.goes_on r.meets)
-
-pub returns-clause-of : goal.returns-clause-of
-returns-clause-of g c =
-    let q = g.O.Operator.plan c.args.operator.now in
-    let one = c.args.one.now in
-    let two = c.args.two.now in
-    let own = c.args.own.now in
-    let r = c.requires in
-    c.in_ok-piece.ensures.of (fed (fed (own_sight own) one) two)
-    (c.in_ok-feed-2.ensures (fed (own_sight own) one) (c.in_ok-feed.ensures (own_sight own) c.in_ok-draft.ensures (one_can q one two own r.fits r.goes_on r.meets)) (two_can q one two own r.fits r.goes_on r.meets))
-    (all_in q one two own r.fits r.goes_on r.meets)
+    let h = c.requires in
+    c.in_ok-piece.ensures (fed (fed (own_sight own) one) two) r x y
+    (c.in_ok-feed-2.ensures (fed (own_sight own) one) (c.in_ok-feed.ensures (own_sight own) c.in_ok-draft.ensures (one_can q one two own h.fits h.goes_on h.meets)) (two_can q one two own h.fits h.goes_on h.meets))
+    (all_in q one two own h.fits h.goes_on h.meets) of

@@ -1,5 +1,6 @@
-use Rattle.std.proofs.Common.{◌+◌, Some, IfSome, subst, arith}
+use Rattle.std.proofs.Common.{◌+◌, IfSome, subst, arith}
 use Rattle.saber_plan.specs.Tasks.{cut}
+use Rattle.saber_fragment.specs.Stores.{Follows}
 use Rattle.saber_assembly.specs.Stages.{seen, After, IsPieceAt}
 use Rattle.saber_assembly.proofs.Stepping.{stepped}
 use Rattle.saber_assembly.specs.WorkLaws.{follows}
@@ -9,27 +10,27 @@ pub returns-in-Some-clause-keeps : goal.returns-in-Some-clause-keeps
 returns-in-Some-clause-keeps g c n r start t kept e =
     let q = g.O.Operator.plan c.args.operator.now in
     let p = c.in-Some.piece in
-    let shares = g.O.Operator.shares c.args.operator.now p in
     let of = g.O.Operator.is_of c.args.operator.now p in
     let old = seen g.O.Operator.held g.K.Sink.written g.K.Sink.faults c.args.self.now in
     let new = seen g.O.Operator.held g.K.Sink.written g.K.Sink.faults c.absorb_piece.new.self in
-    let here : IfSome (Some p) (λ p. IsPieceAt q n r old.k (g.O.Operator.shares c.args.operator.now p) (g.O.Operator.is_of c.args.operator.now p)) = subst (λ o. IfSome o (λ p. IsPieceAt q n r old.k (g.O.Operator.shares c.args.operator.now p) (g.O.Operator.is_of c.args.operator.now p))) c.in-Some.is e in
-    let piece : IsPieceAt q n r old.k shares of = here in
-    stepped c.cuts_rise.ensures c.text_goes_on.ensures c.open_goes_on.ensures c.shares_make_piece.ensures q n r start old new c.absorb_piece.result shares t
+    let x = cut n r old.k in let y = cut n r (old.k + 1) in
+    let piece : IsPieceAt n r old.k of = subst (λ o. IfSome o (λ p. IsPieceAt n r old.k (g.O.Operator.is_of c.args.operator.now p))) c.in-Some.is e in
+    let next : Follows q old.parts (g.O.Operator.has_taken c.args.operator.now c.args.self.now.store) of r x y =
+    follows q n r start old (g.O.Operator.has_taken c.args.operator.now c.args.self.now.store) of t (c.cuts_rise.ensures n r old.k (old.k + 1) (omega arith)) kept c.requires.running piece in
+    stepped c.cuts_rise.ensures c.text_goes_on.ensures c.open_goes_on.ensures c.shares_make_piece.ensures q n r start old new c.absorb_piece.result t
     (subst (After q n r start old) c.requires.running kept.after)
-    piece.shares_are
     (record {
-      written = c.absorb_piece.ensures.written;
-      left = c.absorb_piece.ensures.left;
+      written = λ d. c.absorb_piece.ensures.written d r x y next;
+      left = λ d. c.absorb_piece.ensures.left d r x y next;
       rises = c.absorb_piece.ensures.rises;
       stopped = c.absorb_piece.ensures.stopped;
       stays = c.absorb_piece.ensures.stays;
       runs = c.absorb_piece.ensures.runs;
-      failed = c.absorb_piece.ensures.failed;
+      failed = λ f. c.absorb_piece.ensures.failed f r x y next;
       cause = c.absorb_piece.ensures.cause;
       memory = c.absorb_piece.ensures.memory;
       good = c.absorb_piece.ensures.good;
       count = c.absorb_piece.ensures.count;
     })
     (g.O.Operator.has_taken c.args.operator.now c.absorb_piece.new.self.store)
-    (λ d. c.absorb_piece.ensures.taken d r (cut n r old.k) (cut n r (old.k + 1)) (follows q n r start old (g.O.Operator.has_taken c.args.operator.now c.args.self.now.store) shares of t (c.cuts_rise.ensures n r old.k (old.k + 1) (omega arith)) kept c.requires.running piece))
+    (λ d. c.absorb_piece.ensures.taken d r x y next)

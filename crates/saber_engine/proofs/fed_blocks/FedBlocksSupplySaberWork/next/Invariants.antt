@@ -8,5 +8,5 @@ abbrev pub invariant-loop : goal.invariant-loop
 invariant-loop g l =
     let f = g.F.Feed in
     (l.self.end ≡ None)
-    × ((told : Told g.row.O.Denot) (d : ℕ) → HasFed g.O.Operator.plan g.J.BeginsFed.sizes g.J.BeginsFed.faults (feed_seen f.taken f.waiting f.mark f.faults l.fn.from) l.fn.self.cutter l.fn.self.end told d
-    → HasFed g.O.Operator.plan g.J.BeginsFed.sizes g.J.BeginsFed.faults (feed_seen f.taken f.waiting f.mark f.faults l.from) l.self.cutter l.self.end told d)
+    × ((told : Told g.row.O.Denot) (d : ℕ) → HasFed g.O.Operator.plan g.J.BeginsFed.sizes g.J.BeginsFed.faults (feed_seen f.taken f.waiting f.mark f.faults l.fn.from) l.fn.self.cutter l.fn.self.keeper l.fn.self.end told d
+    → HasFed g.O.Operator.plan g.J.BeginsFed.sizes g.J.BeginsFed.faults (feed_seen f.taken f.waiting f.mark f.faults l.from) l.self.cutter l.self.keeper l.self.end told d)

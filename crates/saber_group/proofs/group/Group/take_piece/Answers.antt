@@ -31,7 +31,7 @@ returns-in-None c =
     let assoc = c.merge_is_associative.ensures in
     on_ok_weaker c.take_uncounted.result (λ went old rows ended g.
     let all = go_all join assoc c.closed_stay.ensures q c.has_window.ensures.fits old rows ended s.next s.runs.entries runs c.args.closed (subst (λ (o : Option Complete). Comes q old rows ended s.next s.runs.entries runs o c.args.closed) c.in-None.is g) in
-    came q old rows join assoc s.next c.take_uncounted.new.store.runs.entries c.args.closed c.take_uncounted.new.store.next c.args.out.now.items c.take_uncounted.new.out.items (went no_rows (old ++ rows) (length old) 0 (length rows) all)) c.take_uncounted.ensures
+    came q old rows s.next c.take_uncounted.new.store.runs.entries c.args.closed c.take_uncounted.new.store.next c.args.out.now.items c.take_uncounted.new.out.items (went no_rows (old ++ rows) (length old) 0 (length rows) all)) c.take_uncounted.ensures
 
 pub returns-in-Some : goal.returns-in-Some
 returns-in-Some c =

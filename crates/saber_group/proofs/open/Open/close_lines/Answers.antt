@@ -24,12 +24,12 @@ loop-self-preserved-in-Some g c =
     let n = c.loop-self.self.next in
     let runs = c.loop-self.self.runs.entries in
     let rest = c.drop_to.new.self.entries in
-    let dropped_is = c.in_ok-drop_to.ensures.entries in
+    let dropped_is = c.drop_to.ensures.entries in
     let begun = c.loop-self.invariant.up in
     let most = c.loop-self.invariant.high in
     let below = c.loop-self-test.true in
     let used = c.loop-self.invariant.steps in
-    let dropped = c.in_ok-drop_to.ensures.steps in
+    let dropped = c.drop_to.ensures.owed in
     let written = c.in_ok-lines-in-Some.ensures.steps in
     record {
       up = omega (arith, begun);
@@ -53,8 +53,8 @@ loop-self-preserved g c =
     let below = c.loop-self-test.true in
     let none : rest ≡ [] = nothing_first rest (sym c.in-None.ensures) in
     let used = c.loop-self.invariant.steps in
-    let dropped = c.in_ok-drop_to.ensures.steps in
-    let held = λ (m : Mark) (rows : List Row) (h : Holds q m rows c.args.self.now.next c.args.self.now.runs.entries). subst (Holds q m rows n) (sym c.in_ok-drop_to.ensures.entries) (holds_drop q m rows n runs (c.loop-self.invariant.runs m rows h)) in
+    let dropped = c.drop_to.ensures.owed in
+    let held = λ (m : Mark) (rows : List Row) (h : Holds q m rows c.args.self.now.next c.args.self.now.runs.entries). subst (Holds q m rows n) (sym c.drop_to.ensures.entries) (holds_drop q m rows n runs (c.loop-self.invariant.runs m rows h)) in
     record {
       up = omega (arith, begun, below);
       high = omega arith;
@@ -68,4 +68,4 @@ pub returns-clause-runs : goal.returns-clause-runs
 returns-clause-runs g c =
     let q = tree_of c.args.plan.now in
     let s = c.loop-self.self in
-    λ m rows h. subst (Holds q m rows s.next) (sym c.in_ok-drop_to-2.ensures.entries) (holds_drop q m rows s.next s.runs.entries (c.loop-self.invariant.runs m rows h))
+    λ m rows h. subst (Holds q m rows s.next) (sym c.drop_to-2.ensures.entries) (holds_drop q m rows s.next s.runs.entries (c.loop-self.invariant.runs m rows h))

@@ -3,7 +3,7 @@ use Rattle.saber_plan.specs.Trees.{tree_of}
 use Rattle.saber_plan.specs.Inputs.{arrived}
 use Rattle.saber_plan.specs.Tasks.{written_by, left_by}
 use Rattle.saber_group.specs.declared.run_stores.RunStore.{RunStore}
-use Rattle.saber_group.proofs.RunKeeping.{MarkLaws, held_is, written_is, old_rows, new_rows, piece_is, comes, taken_after, text_after}
+use Rattle.saber_group.proofs.RunKeeping.{MarkLaws, held_is, written_is, old_rows, new_rows, comes, taken_after, text_after}
 use Rattle.saber_group.proofs.operator.GroupOperator.take_in.Goals as goal
 
 pub take_piece-requires : goal.take_piece-requires
@@ -15,7 +15,7 @@ take_piece-requires c =
     let f = c.requires.3 in
     let s = c.args.store.now in
     let p = c.args.piece in
-    let laws : MarkLaws = record { follow = c.marks_follow.ensures; of_rows = c.marks_are_of_rows.ensures; behind = c.ends_are_behind.ensures; rise = c.closed_rise.ensures; close_more = c.ends_close_more.ensures; within = c.closed_within_begun.ensures; begin_none = c.ends_begin_none.ensures } in
+    let laws : MarkLaws = record { follow = c.marks_follow.ensures; rise = c.closed_rise.ensures; close_more = c.ends_close_more.ensures } in
     (old_rows q r x y s p f, new_rows q r x y s p f, (arrived r y).ended, comes q r x y s p f laws c.closed_below-closed.result c.closed_below-closed.ensures)
 
 pub returns-clause-taken : goal.returns-clause-taken
@@ -23,7 +23,7 @@ returns-clause-taken c =
     let q = tree_of c.args.self.now in
     let s = c.args.store.now in
     let p = c.args.piece in
-    let laws : MarkLaws = record { follow = c.marks_follow.ensures; of_rows = c.marks_are_of_rows.ensures; behind = c.ends_are_behind.ensures; rise = c.closed_rise.ensures; close_more = c.ends_close_more.ensures; within = c.closed_within_begun.ensures; begin_none = c.ends_begin_none.ensures } in
+    let laws : MarkLaws = record { follow = c.marks_follow.ensures; rise = c.closed_rise.ensures; close_more = c.ends_close_more.ensures } in
     let n = c.closed_below-closed.result in
     let n_is = c.closed_below-closed.ensures in
     let new : RunStore = record { windows = c.take_piece.new.store; begun = c.begun_below-begun.result } in
@@ -31,15 +31,11 @@ returns-clause-taken c =
     (c.in_ok-take_piece.ensures (old_rows q r x y s p f) (new_rows q r x y s p f) (arrived r y).ended (comes q r x y s p f laws n n_is))
 
 pub returns-clause-stays : goal.returns-clause-stays
-returns-clause-stays c =
+returns-clause-stays c r x y f =
     let q = tree_of c.args.self.now in
-    let r = c.requires.0 in
-    let x = c.requires.1 in
-    let y = c.requires.2 in
-    let f = c.requires.3 in
     let s = c.args.store.now in
     let p = c.args.piece in
-    let laws : MarkLaws = record { follow = c.marks_follow.ensures; of_rows = c.marks_are_of_rows.ensures; behind = c.ends_are_behind.ensures; rise = c.closed_rise.ensures; close_more = c.ends_close_more.ensures; within = c.closed_within_begun.ensures; begin_none = c.ends_begin_none.ensures } in
+    let laws : MarkLaws = record { follow = c.marks_follow.ensures; rise = c.closed_rise.ensures; close_more = c.ends_close_more.ensures } in
     let n = c.closed_below-closed.result in
     let n_is = c.closed_below-closed.ensures in
     let new : RunStore = record { windows = c.take_piece.new.store; begun = c.begun_below-begun.result } in
@@ -47,18 +43,14 @@ returns-clause-stays c =
     let went = c.in_ok-take_piece.ensures (old_rows q r x y s p f) (new_rows q r x y s p f) (arrived r y).ended (comes q r x y s p f laws n n_is) in
     held_is q w.group _ new (taken_after q r x y s p f laws n n_is new c.new-text.result.items c.take_piece.new.out.items c.begun_below-begun.ensures went)
     ∙ c.open_goes_on.ensures q w.fits r x y f.fits.ordered f.rises
-    ∙ sym (λ j. left_by q (f.unclosed_is j) (piece_is q r x y s p f c.shares_make_piece.ensures j))
+    ∙ sym (λ j. left_by q (f.unclosed_is j) (c.shares_make_piece.ensures q r x y (record { fits = f.windows; ordered = f.fits.ordered; rises = f.rises }) j))
 
 pub returns-clause-text : goal.returns-clause-text
-returns-clause-text c =
+returns-clause-text c r x y f =
     let q = tree_of c.args.self.now in
-    let r = c.requires.0 in
-    let x = c.requires.1 in
-    let y = c.requires.2 in
-    let f = c.requires.3 in
     let s = c.args.store.now in
     let p = c.args.piece in
-    let laws : MarkLaws = record { follow = c.marks_follow.ensures; of_rows = c.marks_are_of_rows.ensures; behind = c.ends_are_behind.ensures; rise = c.closed_rise.ensures; close_more = c.ends_close_more.ensures; within = c.closed_within_begun.ensures; begin_none = c.ends_begin_none.ensures } in
+    let laws : MarkLaws = record { follow = c.marks_follow.ensures; rise = c.closed_rise.ensures; close_more = c.ends_close_more.ensures } in
     let n = c.closed_below-closed.result in
     let n_is = c.closed_below-closed.ensures in
     let w = c.has_window.ensures in
@@ -67,4 +59,4 @@ returns-clause-text c =
     c.deref.ensures.value
     ∙ text_after q r x y s p f laws n n_is c.take_piece.new.store.runs.entries c.take_piece.new.store.next c.new-text.result.items c.take_piece.new.out.items c.new-text.ensures.items went
     ∙ written_is q w.group c.part_has_lines.ensures c.closed_lines_stay.ensures c.closed_are_counted.ensures c.closed_rise.ensures c.text_goes_on.ensures w.fits r x y f.fits f.rises
-    ∙ sym (λ j. written_by q (f.unclosed_is j) (piece_is q r x y s p f c.shares_make_piece.ensures j)))
+    ∙ sym (λ j. written_by q (f.unclosed_is j) (c.shares_make_piece.ensures q r x y (record { fits = f.windows; ordered = f.fits.ordered; rises = f.rises }) j)))

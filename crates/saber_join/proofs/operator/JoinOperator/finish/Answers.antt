@@ -35,8 +35,8 @@ windows_of-requires-clause-after c =
     let first : c.mark_before-first.result ≡ mark_after s.first seen.passed = c.mark_before-first.ensures (mark_after s.first seen.passed) (ends_there q d s seen c.requires.2) seen.last in
     ends_there q d s seen c.requires.2 ∙ ap (λ m. mark_after m d.back) (sym first)
 
-pub returns-clause-shares : goal.returns-clause-shares
-returns-clause-shares c s seen whole =
+pub returns : goal.returns
+returns c s r x y seen whole of =
     let d = c.args.draft in
     let q = tree_of c.args.self.now in
     let w = c.has_windows.ensures in
@@ -72,3 +72,4 @@ returns-clause-shares c s seen whole =
       closed = c.into_piece.ensures.closed j;
     })
     ∙ shares_are laws q w.checked w.join w.windows w.fits s.first s.back s.rows s.ended whole.fits b given es (sorted_seen nat_cmp (λ k. k) (λ x. x) es c.len-count.ensures.ordered) (subst (λ m. HoldsTask q (closed_count (frame q) m) s.first s.back s.rows parts) whole.meets held) g.closing g.pending g.opening g.text.items c.in_ok-gathered.ensures
+    ∙ of.gives

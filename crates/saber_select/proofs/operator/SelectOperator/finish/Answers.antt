@@ -4,5 +4,6 @@ use Rattle.saber_select.specs.Texts.{text_alone}
 use Rattle.saber_select.proofs.Shown.{shares_are}
 use Rattle.saber_select.proofs.operator.SelectOperator.finish.Goals as goal
 
-pub returns-clause-shares : goal.returns-clause-shares
-returns-clause-shares c s seen whole = ap text_alone seen.is ∙ shares_are (tree_of c.args.self.now) s.first s.back s.rows s.ended c.has_no_window.ensures.select c.has_no_window.ensures.window.has_frame
+pub returns : goal.returns
+returns c s r x y seen whole of =
+    ap text_alone seen.is ∙ shares_are (tree_of c.args.self.now) s.first s.back s.rows s.ended c.has_no_window.ensures.select c.has_no_window.ensures.window.has_frame ∙ of.gives

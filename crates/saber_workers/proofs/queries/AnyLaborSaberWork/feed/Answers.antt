@@ -5,12 +5,12 @@ use Rattle.saber_workers.proofs.queries.AnyLaborSaberWork.feed.Goals as goal
 
 pub feed-requires : goal.feed-requires
 feed-requires g c =
-    let r = c.requires in let told = r.0 in
-    (sight_to (g.O.Operator.plan told.operator) told.size (input_of told) r.1 r.2, r.6.seen, can_feed g.O.Operator.plan g.O.Operator.has_seen c.blocks_feed_tasks.ensures c.args.self.now told r.1 r.3 r.2 c.args.draft.now c.args.block.now r.4 r.5 r.6 r.7)
+    let r = c.requires in let told = r.0 in let has = r.6 in
+    (sight_to (g.O.Operator.plan told.operator) told.size (input_of told) r.1 has.earlier r.2, has.seen, can_feed g.O.Operator.plan g.O.Operator.has_seen c.blocks_feed_tasks.ensures c.args.self.now told r.1 r.3 r.2 c.args.draft.now c.args.block.now r.4 r.5 has r.7)
 
 pub returns : goal.returns
 returns g c told t u suits low high has is in_it =
     let q = g.O.Operator.plan in let seen = g.O.Operator.has_seen in let op = c.args.self.now in
-    let s = sight_to (q told.operator) told.size (input_of told) t u in
+    let s = sight_to (q told.operator) told.size (input_of told) t has.earlier u in
     fed_on q seen c.blocks_feed_tasks.ensures op told t suits u c.args.draft.now c.args.block.now low high has is c.feed.new.draft
     (c.in-Ok.ensures s has.seen (can_feed q seen c.blocks_feed_tasks.ensures op told t suits u c.args.draft.now c.args.block.now low high has is))

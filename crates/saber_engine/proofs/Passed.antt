@@ -1,0 +1,53 @@
+-- A block that is passed on, with the rows of the one before it.
+use Rattle.std.proofs.Common.{◌≡◌, [], ◌++◌, Bool, true, false, sym, ap, subst}
+use Rattle.std.specs.Prelude.{Option, None, IfSome}
+use Rattle.saber_plan.specs.declared.sizes.Sizes.{Sizes}
+use Rattle.saber_plan.specs.Inputs.{Input}
+use Rattle.saber_plan.specs.Trees.{Tree}
+use Rattle.saber_fragment.specs.declared.blocks.Block.{Block}
+use Rattle.saber_fragment.specs.declared.blocks.Earlier.{Earlier}
+use Rattle.saber_fragment.specs.Drafts.{EndWith}
+use Rattle.saber_dispatch.specs.declared.keeper.Keeper.{Keeper}
+use Rattle.saber_dispatch.specs.Cutting.{Adds, IsNextBlock, and_block}
+use Rattle.saber_dispatch.specs.Keeping.{KeepsLast, OnlyEarlier, GivesLast, KeepsOn}
+
+-- nothing is kept before the first block
+pub kept_none : (k : Keeper) → k.kept ≡ None → KeepsLast k []
+kept_none k none = subst (λ (o : Option Earlier). IfSome o (EndWith [])) (sym none) tt
+
+-- what a call of the keeper says
+pub record Passes (old : Keeper) (b c : Block) (new : Keeper) : Type 0 where
+  pub same : OnlyEarlier b c
+  pub gives : GivesLast old b c
+  pub keeps : KeepsOn old b new
+
+-- what a block adds is told by its own rows
+adds_same : (q : Tree) (s : Sizes) (r : Input) (b : Block) (e : Earlier) (ended : Bool) → Adds q s r b ended → Adds q s r (record b { earlier = e }) ended
+adds_same q s r b e false a = record { whole = a.whole; some = a.some; few = a.few }
+adds_same q s r b e true a = record { counts = a.counts; had_rows = a.had_rows; none = a.none }
+
+module _ (q : Tree) (s : Sizes) (r : Input) (old : Keeper) (b c : Block) (new : Keeper) (p : Passes old b c new) (kept : KeepsLast old r.rows) (next : IsNextBlock q s r b) where
+  -- it is still the next one
+  pub next_passed : IsNextBlock q s r c
+  next_passed =
+      let last : EndWith r.rows p.same.0 = subst (λ (x : Block). EndWith r.rows x.earlier) p.same.1 (p.gives r.rows next.before next.earlier kept) in
+      subst (IsNextBlock q s r) (sym p.same.1) (record {
+        windows = next.windows;
+        size = next.size;
+        unended = next.unended;
+        number = next.number;
+        before = next.before;
+        earlier = last;
+        first = next.first;
+        near = next.near;
+        fits = next.fits;
+        adds = adds_same q s r b p.same.0 b.ended next.adds;
+      })
+
+  -- the input with it is the same
+  pub same_with : and_block r b ≡ and_block r c
+  same_with = ap (and_block r) (sym p.same.1)
+
+  -- and of its rows the last are kept
+  pub kept_on : KeepsLast new (r.rows ++ c.rows)
+  kept_on = subst (λ (x : Block). KeepsLast new (r.rows ++ x.rows)) (sym p.same.1) (p.keeps r.rows next.before kept)

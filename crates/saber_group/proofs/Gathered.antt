@@ -1,0 +1,49 @@
+-- The runs of the rows before a task, one after another, for the windows from one on.
+use Rattle.std.proofs.Common.{◌≡◌, ℕ, ◌^◌, ◌≤◌, arith, List, [], ◌∷◌, length, take, sym, subst, le_trans}
+use Rattle.std.proofs.lemmas.List.{take_all}
+use Rattle.saber_plan.specs.declared.rows.Row.{Row}
+use Rattle.saber_plan.specs.declared.windows.Mark.{Mark}
+use Rattle.saber_plan.specs.Trees.{Tree}
+use Rattle.saber_plan.specs.Windows.{Fits}
+use Rattle.saber_plan.specs.Answers.{frame}
+use Rattle.saber_plan.specs.Given.{RowsFit}
+use Rattle.saber_laws.specs.Parts.{MergeHasUnit, NoRowsNoPart}
+use Rattle.saber_laws.specs.Windows.{ClosedStay}
+use Rattle.saber_partial.specs.PartLaws.{SmallPartsMerge}
+use Rattle.saber_sliding.specs.Entries.{Entries, CanFollow}
+use Rattle.saber_group.specs.declared.runs.Run.{Run}
+use Rattle.saber_group.specs.RunParts.{closed_by, EnteredFrom, Holds}
+use Rattle.saber_group.specs.RunPieces.{RunsFrom}
+use Rattle.saber_group.proofs.Completing.{closed_within}
+use Rattle.saber_group.proofs.Opened.{holds_nil, has_room, holds_from}
+
+-- the runs up to position x are in, the others are left
+pub record Gathered (q : Tree) (m : Mark) (rows : List Row) (low : ℕ) (left : List Run) (es : Entries) : Type 0 where
+  pub x : ℕ
+  pub holds : Holds q m (take x rows) low es
+  pub left_are : RunsFrom q m rows x left
+
+pub gathered_nil : NoRowsNoPart → (q : Tree) (m : Mark) (rows : List Row) (low : ℕ) (runs left : List Run) (es : Entries) → left ≡ runs → es ≡ [] → RunsFrom q m rows 0 runs → Gathered q m rows low left es
+gathered_nil none q m rows low runs left es all empty h = record {
+  x = 0;
+  holds = holds_nil none q m low es empty;
+  left_are = subst (RunsFrom q m rows 0) (sym all) h;
+}
+
+module _ (q : Tree) (m : Mark) (rows : List Row) (low : ℕ) (run : Run) (left : List Run) (es : Entries) (few : length rows ≤ 2 ^ 40) (g : Gathered q m rows low (run ∷ left) es) where
+  up : g.x ≤ run.end
+  up = let more = g.left_are.1.0 in omega (arith, more)
+
+  pub gathered_can : SmallPartsMerge → CanFollow run.part es
+  gathered_can small = has_room q m rows g.x run.end run.first run.past run.part g.left_are.0 low es g.holds small up g.left_are.1.1.0 few
+
+  pub gathered_more : MergeHasUnit → SmallPartsMerge → ClosedStay → Fits (frame q) → RowsFit q m rows → closed_by q m rows ≤ low → (fs : Entries) → EnteredFrom low es run.past run.part fs → Gathered q m rows low left fs
+  gathered_more unit small stay fits given closed fs entered = record {
+    x = run.end;
+    holds = holds_from q m rows g.x run.end run.first run.past run.part g.left_are.0 low es g.holds unit small fs
+        (le_trans g.left_are.0.closes (le_trans (closed_within stay q fits m rows run.end given) closed)) up g.left_are.1.1.0 few entered;
+    left_are = g.left_are.1.1.1;
+  }
+
+pub gathered_all : (q : Tree) (m : Mark) (rows : List Row) (low : ℕ) (es : Entries) → Gathered q m rows low [] es → Holds q m rows low es
+gathered_all q m rows low es g = subst (λ l. Holds q m l low es) (take_all g.x rows (let end = g.left_are in omega (arith, end))) g.holds

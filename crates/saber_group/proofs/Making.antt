@@ -1,0 +1,24 @@
+-- The piece of a task's own block is that of the arrivals that its rows are.
+use Rattle.std.proofs.Common.{◌≡◌, ℕ, ◌++◌, take, slice_range, sym, ◌∙◌, ap, subst}
+use Rattle.saber_plan.specs.Inputs.{Input}
+use Rattle.saber_plan.specs.Trees.{Tree}
+use Rattle.saber_plan.specs.Windows.{no_rows, mark_of, mark_after, ending}
+use Rattle.saber_plan.specs.Given.{RowsFit}
+use Rattle.saber_plan.specs.RowFacts.{fits_take}
+use Rattle.saber_fragment.specs.Drafts.{Sight, IsSightOf}
+use Rattle.saber_laws.specs.Marks.{MarksFollow}
+use Rattle.saber_group.specs.declared.run_pieces.RunPiece.{RunPiece}
+use Rattle.saber_group.specs.RunPieces.{Given, IsMade, IsOf}
+use Rattle.saber_group.proofs.RunKeeping.{rows_upto}
+
+pub piece_is_of : MarksFollow → (q : Tree) (s : Sight) (r : Input) (x y : ℕ) (p : RunPiece) → IsMade q s p → IsSightOf q s r x y → IsOf q r x y p
+piece_is_of follow q s r x y p made sight =
+    let old = take x r.rows in
+    let fits : RowsFit q no_rows (old ++ s.rows) = subst (λ l. RowsFit q no_rows (old ++ l)) (sym sight.rows_are) (subst (RowsFit q no_rows) (sym (rows_upto r.rows x y sight.rises)) (fits_take q no_rows r.rows y sight.fits)) in
+    let before : s.before ≡ mark_of old = sight.before_is ∙ ap (λ b. ending b (mark_of old)) sight.opens in
+    record {
+      opens = sight.opens;
+      given = subst (λ b. Given q old (slice_range r.rows x y) b p.runs.items p.complete) sight.ended_is
+          (subst (λ l. Given q old l s.ended p.runs.items p.complete) sight.rows_are (made.gives old fits sight.earlier_are before));
+      after_is = made.after_is ∙ (λ j. ending (sight.ended_is j) (mark_after (sight.before_is j) (sight.rows_are j))) ∙ sym (follow r x y sight.rises);
+    }
