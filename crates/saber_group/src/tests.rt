@@ -312,8 +312,8 @@ fn answered_behind(
     requires group { (tree_of plan.now).shape ≡ shapes.Group }
     requires columns { columns_on (tree_of plan.now).streams sides.Left ≡ 3 }
 {
-    let (_one, two) = two_blocks(alloc, first, second)?;
-    let piece = piece(alloc, &Group::new(plan), &two)?;
+    let blocks = two_blocks(alloc, first, second)?;
+    let piece = piece(alloc, &Group::new(plan), &blocks.1)?;
     answered(alloc, plan, piece, begun)
 }
 
