@@ -21,7 +21,7 @@ pub struct Keeper {
 fn may_lie_in_two(window: &Window, task: u32) -> bool {
     let rows = u64::from(task);
     let fits = match window.measure {
-        Measure::Rows => window.size <= 2 * rows && rows / 2 < window.size,
+        Measure::Rows => window.size.saturating_sub(window.slide) <= rows && rows / 2 < window.size,
         Measure::Range => true,
     };
     window.slide < window.size && fits
