@@ -11,6 +11,3 @@ mod settle;
 pub use chained::Chained;
 pub use runs::chain;
 pub use saber_engine::{Inputs, RunEnd};
-
-#[cfg(test)]
-mod tests;

@@ -1,5 +1,5 @@
 // The plans of expressions.
-ghost use Rattle.std.specs.Prelude.{◌≡◌, ◌+◌, ◌≤◌, ◌^◌, ◌∷◌, map, length, IfOk, pos, neg_ℤ, min, ◌-◌};
+ghost use Rattle.std.specs.Prelude.{◌≡◌, ◌+◌, ◌≤◌, ◌^◌, ◌∷◌, ◌++◌, [], map, length, IfOk, OnOk, pos, neg_ℤ, min, ◌-◌};
 ghost use Rattle.saber_query.specs.Trees.{query_of};
 ghost use Rattle.saber_check.specs.Widths.{decl_width, span};
 ghost use Rattle.saber_check.specs.Names.{decls, names};
@@ -158,15 +158,30 @@ fn is_minus(adding: Adding) -> bool
     }
 }
 
+// One product more.
+fn put_product(
+    list: &mut Vec<Product>,
+    alloc: Global,
+    query: &Select,
+    minus: bool,
+    prod: &Prod,
+) -> Result<(), NoMemory>
+    requires { Small (query_of query.now) }
+    ensures { OnOk result (list.new.items ≡ list.old.items ++ plan_product (query_of query.now) minus prod.now ∷ []) }
+{
+    list.push(product(alloc, query, minus, prod)?)?;
+    Ok(())
+}
+
 pub(crate) fn expr(alloc: Global, query: &Select, expr: &Expr) -> Result<saber_plan::Expr, NoMemory>
     requires { Small (query_of query.now) }
     ensures { IfOk result (λ e. e ≡ plan_expr (query_of query.now) expr.now) }
 {
     let mut list = Vec::new(alloc);
-    list.push(product(alloc, query, false, &expr.first)?)?;
+    put_product(&mut list, alloc, query, false, &expr.first)?;
     let terms = expr.more.as_slice();
     for term in terms {
-        list.push(product(alloc, query, is_minus(term.adding), &term.prod)?)?;
+        put_product(&mut list, alloc, query, is_minus(term.adding), &term.prod)?;
     }
     Ok(saber_plan::Expr::from_vec(list))
 }

@@ -13,8 +13,6 @@ mod plans;
 mod predicates;
 mod query;
 mod shape;
-#[cfg(test)]
-mod tests;
 mod text;
 mod walk;
 mod whole;

@@ -1,5 +1,5 @@
 // The plan of a query.
-ghost use Rattle.std.specs.Prelude.{◌≡◌, ◌+◌, ◌≤◌, ◌^◌, ◌∷◌, map, option_map, length, IfOk};
+ghost use Rattle.std.specs.Prelude.{◌≡◌, ◌+◌, ◌≤◌, ◌^◌, ◌∷◌, ◌++◌, [], map, option_map, length, IfOk, OnOk};
 ghost use Rattle.saber_plan.specs.Trees as t;
 ghost use Rattle.saber_query.specs.Trees.{tests_of, query_of};
 ghost use Rattle.saber_check.specs.Widths.{decl_width, span};
@@ -27,16 +27,30 @@ fn item(alloc: Global, query: &Select, item: &Item) -> Result<saber_plan::Item, 
     }
 }
 
+// One item more.
+fn put_item(
+    list: &mut Vec<saber_plan::Item>,
+    alloc: Global,
+    query: &Select,
+    next: &Item,
+) -> Result<(), NoMemory>
+    requires { Small (query_of query.now) }
+    ensures { OnOk result (list.new.items ≡ list.old.items ++ plan_item (query_of query.now) next.now ∷ []) }
+{
+    list.push(item(alloc, query, next)?)?;
+    Ok(())
+}
+
 fn plan_items(alloc: Global, query: &Select) -> Result<Vec<saber_plan::Item>, NoMemory>
     requires { Small (query_of query.now) }
     ensures { IfOk result (λ v. v.items ≡ map (plan_item (query_of query.now))
         (items (query_of query.now))) }
 {
     let mut list = Vec::new(alloc);
-    list.push(item(alloc, query, &query.item)?)?;
+    put_item(&mut list, alloc, query, &query.item)?;
     let others = query.items.as_slice();
     for next in others {
-        list.push(item(alloc, query, next)?)?;
+        put_item(&mut list, alloc, query, next)?;
     }
     Ok(list)
 }

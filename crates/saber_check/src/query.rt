@@ -2,6 +2,7 @@
 ghost use Rattle.std.specs.Prelude.{◌≡◌, IfOk, IfErr};
 ghost use Rattle.saber_plan.specs.Trees.{tree_of};
 ghost use Rattle.saber_plan.specs.Checked.{IsChecked};
+ghost use Rattle.saber_query.specs.Parsed.{IsParsed};
 ghost use Rattle.saber_query.specs.Trees.{query_of};
 ghost use Rattle.saber_check.specs.Plans.{plan_tree};
 ghost use Rattle.saber_check.specs.Outcome.{IsFaultless, IsFaultOf};
@@ -15,6 +16,7 @@ use std::alloc::Global;
 /// The plan of a query, or the first that is wrong with it, at the byte where its word begins. Where
 /// several things are wrong at one word, the order of `Cause` decides.
 pub fn check(alloc: Global, query: &Query) -> Result<Plan, QueryFault>
+    ensures parsed { IsParsed query.now.select query.now.starts }
     ensures faultless { IfOk result (λ p. IsFaultless (query_of query.now.select)) }
     ensures plan { IfOk result (λ p. tree_of p ≡ plan_tree (query_of query.now.select)) }
     ensures checked { IfOk result (λ p. IsChecked (tree_of p)) }

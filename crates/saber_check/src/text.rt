@@ -17,5 +17,7 @@ pub fn plan_of(alloc: Global, text: &[u8]) -> Result<Plan, QueryFault>
     ensures fault { IfErr result (IsFaultIn text.now) }
 {
     let query = parse(alloc, text)?;
-    check(alloc, &query)
+    let plan = check(alloc, &query);
+    query.let_go();
+    plan
 }

@@ -22,22 +22,3 @@ mod words;
 pub use saber_notes::{InputFile, Noted, Outcome};
 pub use saber_words::WordsFault;
 pub use top::{Ended, Refused, refuse_words, saber};
-
-#[cfg(test)]
-mod chain_tests;
-#[cfg(test)]
-mod demo_tests;
-#[cfg(test)]
-mod fault_tests;
-#[cfg(test)]
-mod join_tests;
-#[cfg(test)]
-mod late_tests;
-#[cfg(test)]
-mod malice_tests;
-#[cfg(test)]
-mod query_tests;
-#[cfg(test)]
-mod tests;
-#[cfg(test)]
-mod thread_tests;

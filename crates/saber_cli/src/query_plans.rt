@@ -116,10 +116,17 @@ pub(crate) fn chain_plans<F: Files>(
     };
     let second = match query_plan(alloc, files, command.second) {
         Ok(plan) => plan,
-        Err(outcome) => return Err(as_second(outcome)),
+        Err(outcome) => {
+            first.let_go();
+            return Err(as_second(outcome));
+        }
     };
     match misfit(&first, &second, file_count(command)) {
         None => Ok(Plans { first, second }),
-        Some(outcome) => Err(outcome),
+        Some(outcome) => {
+            first.let_go();
+            second.let_go();
+            Err(outcome)
+        }
     }
 }

@@ -1,11 +1,11 @@
 // The command `check`: a query's own text.
-ghost use Rattle.std.specs.Prelude.{◌≡◌, ◌≢◌, ℕ, List, [], ◌∷◌, ◌++◌, IfOk, IfErr};
+ghost use Rattle.std.specs.Prelude.{◌≡◌, ◌≢◌, ℕ, List, [], ◌∷◌, ◌++◌, IfOk, IfErr, OnOk};
 ghost use Rattle.saber_io.specs.Outside.{Rose, appended};
+ghost use Rattle.saber_query.specs.Parsed.{IsParsed};
 ghost use Rattle.saber_query.specs.Trees.{query_of};
 ghost use Rattle.saber_query.specs.Words.{words};
 ghost use Rattle.saber_query.specs.Spelling.{spelled};
-ghost use Rattle.saber_query.specs.Means.{MeansTree};
-ghost use Rattle.saber_check.specs.Outcome.{IsFaultless};
+ghost use Rattle.saber_check.specs.Outcome.{IsFaultless, IsFaultOf};
 ghost use Rattle.saber_check.specs.Texts.{IsFaultIn};
 ghost use Rattle.saber_notes.specs.declared.outcome.Outcome.{Outcome};
 ghost use Rattle.saber_cli.specs.Outcomes.{IsQueryFault, IsOfShow};
@@ -24,15 +24,14 @@ use saber_query::{Query, QueryFault, parse};
 use saber_show::show;
 use std::alloc::Global;
 
-// The query that a text means, which passes its checks, or the text's first fault.
-fn checked(alloc: Global, text: &[u8]) -> Result<Query, QueryFault>
-    ensures means { IfOk result (MeansTree text.now) }
-    ensures faultless { IfOk result (λ q. IsFaultless (query_of q.select)) }
-    ensures fault { IfErr result (IsFaultIn text.now) }
+// That a query passes its checks, or its first fault.
+fn passes(alloc: Global, query: &Query) -> Result<(), QueryFault>
+    ensures parsed { IsParsed query.now.select query.now.starts }
+    ensures faultless { OnOk result (IsFaultless (query_of query.now.select)) }
+    ensures fault { IfErr result (IsFaultOf query.now) }
 {
-    let query = parse(alloc, text)?;
-    check(alloc, &query)?;
-    Ok(query)
+    check(alloc, query)?;
+    Ok(())
 }
 
 // A query's own text, with a line feed.
@@ -44,18 +43,39 @@ fn line(alloc: Global, query: &Query) -> Result<Vec<u8>, NoMemory>
     Ok(out)
 }
 
-// The text with a line feed of the query that a text means, or why the text is refused.
+// The same of a query that passes its checks, or its first fault.
+fn checked_line(alloc: Global, query: &Query) -> Result<Vec<u8>, QueryFault>
+    ensures parsed { IsParsed query.now.select query.now.starts }
+    ensures faultless { OnOk result (IsFaultless (query_of query.now.select)) }
+    ensures text { IfOk result (λ out. out.items ≡ spelled (words (query_of query.now.select)) ++ 10 ∷ []) }
+    ensures fault { IfErr result (IsFaultOf query.now) }
+{
+    passes(alloc, query)?;
+    match line(alloc, query) {
+        Ok(out) => Ok(out),
+        Err(_) => Err(QueryFault::NoMemory),
+    }
+}
+
+// The text with a line feed of the query that a text means, or the text's first fault.
+fn line_of(alloc: Global, text: &[u8]) -> Result<Vec<u8>, QueryFault>
+    ensures shows { IfOk result (λ out. Shows text.now out.items) }
+    ensures fault { IfErr result (IsFaultIn text.now) }
+{
+    let query = parse(alloc, text)?;
+    let line = checked_line(alloc, &query);
+    query.let_go();
+    line
+}
+
+// The same, or why the text is refused.
 fn shown(alloc: Global, text: &[u8]) -> Result<Vec<u8>, Outcome>
     ensures ok { IfOk result (λ out. Shows text.now out.items) }
     ensures err { IfErr result (IsTextFault text.now) }
 {
-    let query = match checked(alloc, text) {
-        Ok(query) => query,
-        Err(fault) => return Err(refused(fault)),
-    };
-    match line(alloc, &query) {
+    match line_of(alloc, text) {
         Ok(out) => Ok(out),
-        Err(_) => Err(Outcome::NoMemory),
+        Err(fault) => Err(refused(fault)),
     }
 }
 

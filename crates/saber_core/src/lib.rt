@@ -6,8 +6,6 @@
 mod events;
 mod machine;
 mod runs;
-#[cfg(test)]
-mod tests;
 mod work;
 
 pub use events::{Event, TaskPhase};

@@ -30,7 +30,7 @@ pub enum Over {
 }
 
 /// How many tasks were filled, and why no more.
-#[derive(Clone, Copy, Debug, PartialEq, Eq)]
+#[derive(Clone, Copy)]
 pub struct Fed {
     pub tasks: u64,
     pub over: Over,

@@ -6,8 +6,6 @@ mod crew;
 mod feed;
 mod runs;
 mod supply;
-#[cfg(test)]
-mod tests;
 
 pub use feed::{Fed, Over};
 pub use runs::run;

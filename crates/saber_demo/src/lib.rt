@@ -14,6 +14,3 @@ pub use query::demo_plan;
 pub use source::Generated;
 pub use summaries::summary;
 pub use text_sink::TextSink;
-
-#[cfg(test)]
-mod tests;

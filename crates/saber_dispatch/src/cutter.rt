@@ -43,7 +43,7 @@ pub struct Cutter {
     pub(crate) alloc: Global,
     pub(crate) reader: Reader,
     // of a query that joins two streams
-    lasts: Option<Lasts>,
+    pub(crate) lasts: Option<Lasts>,
     // rows of a block
     pub(crate) size: usize,
     // how many blocks a task may need

@@ -24,9 +24,9 @@ pub(crate) struct Begun {
 /// so far. It is called with the same feed each time, and the feed may be refilled in between.
 #[derive(Drop)]
 pub struct FedCutter {
-    cutter: Cutter,
+    pub(crate) cutter: Cutter,
     // the block that is begun, if one is
-    begun: Option<Begun>,
+    pub(crate) begun: Option<Begun>,
 }
 
 /// What a call of a cutter over a feed comes to.

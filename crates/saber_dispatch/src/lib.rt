@@ -14,6 +14,7 @@ mod keeper;
 mod last_windows;
 mod lasts;
 mod laws;
+mod letting;
 mod opening;
 mod reader;
 
@@ -26,8 +27,3 @@ pub use fed_laws::{
 pub use inputs::Inputs;
 pub use keeper::Keeper;
 pub use laws::{blocks_are_near, blocks_are_supplied, blocks_are_tasks, faults_leave_whole_tasks};
-
-#[cfg(test)]
-mod fed_tests;
-#[cfg(test)]
-mod tests;

@@ -7,6 +7,7 @@ ghost use Rattle.saber_dispatch.specs.Readings.{reading_of, one_new, two_new};
 ghost use Rattle.saber_dispatch.specs.Cutting.{LooksBack, end_counts, fresh};
 
 use crate::lasts::Lasts;
+use crate::letting::let_lines_go;
 use crate::reader::Reader;
 use saber_laws::{groups_have_one_window, joins_have_two_windows, selections_have_no_window};
 use saber_plan::{NoMemory, Plan, Shape, Side, Sizes, Stream};
@@ -36,8 +37,13 @@ fn two_readers(alloc: Global, left: u32, right: u32, sizes: &Sizes) -> Result<Re
     ensures { IfOk result (λ r. reading_of r ≡ two_new left right (limits_of sizes.now)) }
 {
     let left = Lines::new(alloc, Side::Left, left, sizes.max_lines, sizes.slack)?;
-    let right = Lines::new(alloc, Side::Right, right, sizes.max_lines, sizes.slack)?;
-    Ok(Reader::Two(Merge::new(left, right)))
+    match Lines::new(alloc, Side::Right, right, sizes.max_lines, sizes.slack) {
+        Ok(right) => Ok(Reader::Two(Merge::new(left, right))),
+        Err(stop) => {
+            let_lines_go(left);
+            Err(stop)
+        }
+    }
 }
 
 /// The reader of a plan's inputs.

@@ -102,12 +102,14 @@ where
         },
     );
     let FedBlocks {
-        cutter: _cutter,
-        keeper: _keeper,
+        cutter,
+        keeper,
         end,
         feed: _feed,
         begun: _begun,
     } = blocks;
+    cutter.let_go();
+    keeper.let_go();
     match ran {
         Ok((stage, fed)) => ended(stage, fed.over, end),
         Err(stage) => ended(stage, Over::NoMemory, None),

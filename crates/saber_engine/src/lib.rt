@@ -16,6 +16,3 @@ pub use ends::{Ran, RunEnd};
 pub use fed_engine::engine_fed;
 pub use run_engine::{engine, engine_pouring};
 pub use saber_dispatch::Inputs;
-
-#[cfg(test)]
-mod tests;

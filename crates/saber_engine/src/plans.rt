@@ -99,12 +99,14 @@ where
         },
     );
     let Blocks {
-        cutter: _cutter,
-        keeper: _keeper,
+        cutter,
+        keeper,
         end,
         source: _source,
         begun: _begun,
     } = blocks;
+    cutter.let_go();
+    keeper.let_go();
     match ran {
         Ok((stage, fed)) => ended(stage, fed.over, end),
         Err(stage) => ended(stage, Over::NoMemory, None),

@@ -59,6 +59,3 @@ pub fn holds2(p: &Pred, left: &RowRef, right: &RowRef) -> bool
 {
     predicates::predicate_holds(p, left.values(), right.values())
 }
-
-#[cfg(test)]
-mod tests;

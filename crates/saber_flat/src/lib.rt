@@ -9,6 +9,3 @@ mod rows;
 pub use builder::RowBuilder;
 pub use row_ref::RowRef;
 pub use rows::Rows;
-
-#[cfg(test)]
-mod tests;

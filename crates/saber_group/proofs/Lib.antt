@@ -9,4 +9,3 @@ pub mod RunsTaken
 pub mod PiecesTaken
 pub mod RunKeeping
 pub mod Making
-pub mod Tested

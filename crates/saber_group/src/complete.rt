@@ -1,5 +1,5 @@
 // What a task answers itself: the windows that lie whole in it and in the rows before it that its block has.
-ghost use Rattle.std.specs.Prelude.{◌≡◌, ◌*◌, ◌<◌, ◌≤◌, ◌++◌, Some, length, take, true, IfOk, IfSome, OnOk};
+ghost use Rattle.std.specs.Prelude.{◌≡◌, [], ◌*◌, ◌<◌, ◌≤◌, ◌++◌, Some, length, take, true, IfOk, IfSome, OnOk};
 ghost use Rattle.std.specs.List.{AllByRecursion, slice_get};
 ghost use Rattle.saber_plan.specs.Windows.{mark_after, ending, closed_count};
 ghost use Rattle.saber_plan.specs.Answers.{frame};
@@ -12,6 +12,7 @@ ghost use Rattle.saber_group.specs.RunPieces.{Gives, RunsFrom};
 
 use crate::batch::Batch;
 use crate::group::Group;
+use crate::letting::{let_front_go, let_runs_go};
 use crate::open::Open;
 use crate::runs::Run;
 use saber_fragment::Earlier;
@@ -35,16 +36,30 @@ pub(crate) struct Complete {
     pub(crate) open: Open,
 }
 
+// Puts copies of these runs into an empty list.
+fn copy_all(alloc: Global, runs: &[Run], copies: &mut Vec<Run>) -> Result<(), NoMemory>
+    requires { copies.old.items ≡ [] }
+    ensures { OnOk result (copies.new.items ≡ runs.now) }
+{
+    copies.try_reserve_exact(runs.len())?;
+    for run in runs {
+        copies.push(run.copy(alloc)?)?;
+    }
+    Ok(())
+}
+
 // Runs with memory of their own.
 fn copied(alloc: Global, runs: &[Run]) -> Result<Vec<Run>, NoMemory>
     ensures { IfOk result (λ v. v.items ≡ runs.now) }
 {
     let mut copies = Vec::new(alloc);
-    copies.try_reserve_exact(runs.len())?;
-    for run in runs {
-        copies.push(run.copy(alloc)?)?;
+    match copy_all(alloc, runs, &mut copies) {
+        Ok(()) => Ok(copies),
+        Err(want) => {
+            let_runs_go(copies);
+            Err(want)
+        }
     }
-    Ok(copies)
 }
 
 /// How many runs, from the first on, have a window below `low`.
@@ -111,7 +126,13 @@ impl Group<'_> {
         let (runs, _) = self.runs_of(alloc, earlier)?;
         let mut front = Front::empty(alloc);
         for run in runs {
-            add_run(&mut front, low, run)?;
+            match add_run(&mut front, low, run) {
+                Ok(()) => {}
+                Err(want) => {
+                    let_front_go(front);
+                    return Err(want);
+                }
+            }
         }
         let mut steps = Steps::<L>::new(blank);
         Ok(Open {
@@ -157,10 +178,29 @@ impl Group<'_> {
             rows: &earlier.rows,
             ended: false,
         };
-        let closing = copied(alloc, &runs[..count])?;
+        let closing = match copied(alloc, &runs[..count]) {
+            Ok(closing) => closing,
+            Err(want) => {
+                let_runs_go(runs);
+                return Err(want);
+            }
+        };
+        let mut open = match self.open_behind::<Brand>(alloc, &before, low, Blank::new(1)) {
+            Ok(open) => open,
+            Err(want) => {
+                let_runs_go(closing);
+                let_runs_go(runs);
+                return Err(want);
+            }
+        };
         let mut text = Vec::new(alloc);
-        let mut open = self.open_behind::<Brand>(alloc, &before, low, Blank::new(1))?;
-        self.take_uncounted::<Brand>(alloc, &mut open, runs, high, &mut text, Blank::new(1))?;
-        Ok((closing, Some(Complete { low, text, open })))
+        match self.take_uncounted::<Brand>(alloc, &mut open, runs, high, &mut text, Blank::new(1)) {
+            Ok(()) => Ok((closing, Some(Complete { low, text, open }))),
+            Err(want) => {
+                let_runs_go(closing);
+                open.let_go();
+                Err(want)
+            }
+        }
     }
 }

@@ -7,6 +7,7 @@
 mod batch;
 mod complete;
 mod group;
+mod letting;
 mod open;
 mod operator;
 mod rows;
@@ -15,6 +16,3 @@ mod run_stores;
 mod runs;
 
 pub use group::Group;
-
-#[cfg(test)]
-mod tests;

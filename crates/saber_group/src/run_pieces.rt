@@ -1,5 +1,5 @@
 // What a task gives: its runs.
-ghost use Rattle.std.specs.Prelude.{◌≡◌, ◌≤◌, ◌++◌, IfOk};
+ghost use Rattle.std.specs.Prelude.{◌≡◌, ◌≤◌, ◌++◌, ◌∷◌, [], IfOk, OnOk};
 ghost use Rattle.saber_plan.specs.Trees.{tree_of};
 ghost use Rattle.saber_plan.specs.Windows.{mark_after, ending};
 ghost use Rattle.saber_plan.specs.Given.{RowsFit};
@@ -8,6 +8,7 @@ ghost use Rattle.saber_group.specs.RunPieces.{Gives, RunsFrom};
 use crate::batch::Batch;
 use crate::complete::{Complete, closing_end};
 use crate::group::Group;
+use crate::letting::{let_part_go, let_runs_go};
 use crate::runs::Run;
 use saber_fragment::Earlier;
 use saber_partial::Gathering;
@@ -36,6 +37,23 @@ fn room_for_first(runs: &mut Vec<Run>, rows: usize, first: usize) -> Result<(), 
     Ok(())
 }
 
+// Puts a run of a task of so many rows behind others.
+#[inline]
+fn keep_run(runs: &mut Vec<Run>, rows: usize, run: Run) -> Result<(), NoMemory>
+    requires { 1 ≤ run.end }
+    ensures { OnOk result (runs.new.items ≡ runs.old.items ++ run ∷ []) }
+{
+    match room_for_first(runs, rows, run.end) {
+        Ok(()) => {}
+        Err(want) => {
+            run.let_go();
+            return Err(want);
+        }
+    }
+    runs.push(run)?;
+    Ok(())
+}
+
 impl Group<'_> {
     /// The runs of some rows, and the mark behind these. Each row is looked at once.
     pub(crate) fn runs_of(&self, alloc: Global, batch: &Batch) -> Result<(Vec<Run>, Mark), NoMemory>
@@ -48,12 +66,26 @@ impl Group<'_> {
         let mut mark = batch.before;
         let mut from = 0;
         while from < batch.rows.len() {
-            let run = self.run_from(alloc, batch, from, &mark, &mut part)?;
+            let run = match self.run_from(alloc, batch, from, &mark, &mut part) {
+                Ok(run) => run,
+                Err(want) => {
+                    let_runs_go(runs);
+                    let_part_go(part);
+                    return Err(want);
+                }
+            };
             mark = self.mark_behind(batch, from, run.end, &mark);
             from = run.end;
-            room_for_first(&mut runs, batch.rows.len(), from)?;
-            runs.push(run)?;
+            match keep_run(&mut runs, batch.rows.len(), run) {
+                Ok(()) => {}
+                Err(want) => {
+                    let_runs_go(runs);
+                    let_part_go(part);
+                    return Err(want);
+                }
+            }
         }
+        let_part_go(part);
         Ok((runs, mark))
     }
 

@@ -85,8 +85,20 @@ impl Group<'_> {
     {
         groups_join();
         merge_is_associative();
-        self.take_uncounted::<Brand>(alloc, store, runs, complete.low, out, Blank::new(1))?;
-        out.extend_from_slice(&complete.text)?;
+        match self.take_uncounted::<Brand>(alloc, store, runs, complete.low, out, Blank::new(1)) {
+            Ok(()) => {}
+            Err(want) => {
+                complete.let_go();
+                return Err(want);
+            }
+        }
+        match out.extend_from_slice(&complete.text) {
+            Ok(()) => {}
+            Err(want) => {
+                complete.let_go();
+                return Err(want);
+            }
+        }
         *store = complete.open;
         Ok(())
     }

@@ -7,14 +7,14 @@ ghost use Rattle.saber_io.specs.Feeds.{Feeds, IsCut, Refills};
 use crate::Failed;
 
 /// How a feed ends: all has come, or it was cut off before.
-#[derive(Clone, Copy, Debug, PartialEq, Eq)]
+#[derive(Clone, Copy)]
 pub enum EndMark {
     End,
     Cut,
 }
 
 /// What a feed gives: so many bytes, its end, or nothing as yet.
-#[derive(Clone, Copy, Debug, PartialEq, Eq)]
+#[derive(Clone, Copy, PartialEq, Eq)]
 pub enum Fed {
     Bytes(usize),
     End,

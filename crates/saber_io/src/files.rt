@@ -252,36 +252,3 @@ impl Files for MemFiles {
         self.closed = Some(place);
     }
 }
-
-#[cfg(test)]
-mod tests {
-    use super::*;
-    use std::test::Fail;
-
-    // A source that is given back stands behind those that were given back before.
-    #[test]
-    fn sources_given_back(rt: HostRuntime) -> Result<(), Fail> {
-        let alloc = rt.alloc();
-        let only = MemFile {
-            name: String::from_str(alloc, "only")?,
-            bytes: b"abcd".to_vec(alloc)?,
-            cuts: vec![in alloc; 3]?,
-            fails: vec![in alloc; 2]?,
-        };
-        let mut files = MemFiles::new(alloc, vec![in alloc; only]?, Vec::new(alloc));
-        let mut first = files.open_file(alloc, "only")?;
-        let second = files.open_file(alloc, "only")?;
-        assert!(rt; first.read(&mut [0; 4]) == Ok(3));
-        assert!(rt; first.read(&mut [0; 4]) == Err(Failed));
-        files.close_file(second);
-        assert_eq!(rt; files.faults, 0);
-        files.close_file(first);
-        assert_eq!(rt; files.faults, 1);
-        let last = files.closed.ok_or("one is missing")?;
-        assert_eq!(rt; last.source.faults(), 1);
-        let before = last.before.as_ref().ok_or("two are missing")?;
-        assert_eq!(rt; before.source.faults(), 0);
-        assert!(rt; before.before.is_none());
-        Ok(())
-    }
-}

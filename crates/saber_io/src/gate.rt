@@ -14,7 +14,7 @@ pub trait Gate {
 }
 
 /// The gate that does nothing, which runs outside of tests use.
-#[derive(Clone, Copy, Debug, PartialEq, Eq)]
+#[derive(Clone, Copy)]
 pub struct OpenGate;
 
 impl Gate for OpenGate {
@@ -25,7 +25,7 @@ impl Gate for OpenGate {
 
 /// A gate that holds one task back until another one is done, for so many looks at most. A test with it
 /// shows that both tasks are under way at once: on one thread the first would wait in vain.
-#[derive(Debug, Drop)]
+#[derive(Drop)]
 pub struct HoldGate {
     first: u64,
     second: u64,

@@ -9,8 +9,6 @@ mod mem_feed;
 mod memory;
 mod outside;
 mod pours;
-#[cfg(test)]
-mod tests;
 
 pub use feeds::{EndMark, Fed, Feed};
 pub use files::{MemFile, MemFiles, MemOpened};

@@ -16,6 +16,4 @@ pub mod Answering
 pub mod Parting
 pub mod Beginning
 pub mod Finishing
-pub mod AllBehind
 pub mod Passing
-pub mod Tested

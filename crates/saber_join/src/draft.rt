@@ -36,4 +36,7 @@ impl JoinDraft {
             ended: own.ended,
         })
     }
+
+    /// Lets the draft go.
+    pub(crate) fn let_go(self) {}
 }

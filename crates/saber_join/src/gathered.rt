@@ -42,6 +42,9 @@ fn place(
     }
 }
 
+// Lets go of what some windows gave.
+fn let_gathered_go(_gathered: Gathered<Pairs>) {}
+
 /// What these windows give.
 pub(crate) fn gather(
     alloc: Global,
@@ -52,7 +55,13 @@ pub(crate) fn gather(
 {
     let mut gathered = Gathered::new(alloc);
     for (window, pairs) in windows {
-        place(&mut gathered, bounds.kind(window), window, pairs)?;
+        match place(&mut gathered, bounds.kind(window), window, pairs) {
+            Ok(()) => {}
+            Err(want) => {
+                let_gathered_go(gathered);
+                return Err(want);
+            }
+        }
     }
     Ok(gathered)
 }

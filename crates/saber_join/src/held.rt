@@ -150,12 +150,35 @@ impl<'a> Held<'a> {
         ensures rights { IfOk result (λ h. h.rights ≡ []) }
         ensures windows { IfOk result (λ h. h.windows.entries ≡ []) }
     {
-        Ok(Held {
-            lefts: Shelf::new(alloc, rows)?,
-            rights: Shelf::new(alloc, rows)?,
-            windows: BTreeMap::new(alloc),
-            found: Vec::new(alloc),
-        })
+        let lefts = Shelf::new(alloc, rows)?;
+        match Shelf::new(alloc, rows) {
+            Ok(rights) => Ok(Held {
+                lefts,
+                rights,
+                windows: BTreeMap::new(alloc),
+                found: Vec::new(alloc),
+            }),
+            Err(want) => {
+                lefts.let_go();
+                Err(want)
+            }
+        }
+    }
+
+    /// The pairs found of each window. The rows are let go.
+    pub(crate) fn into_windows(self) -> BTreeMap<u64, Pairs>
+        ensures { result.entries ≡ self.entry.windows.entries }
+    {
+        self.lefts.let_go();
+        self.rights.let_go();
+        self.windows
+    }
+
+    /// Lets all go. Where a function held this at an exit of its own, the steps that let each part go would stand in that
+    /// function, once for each exit, and its proof would take them all in.
+    pub(crate) fn let_go(self) {
+        self.lefts.let_go();
+        self.rights.let_go();
     }
 
     /// Keeps a row that is looked back on, under its key.

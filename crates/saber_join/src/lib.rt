@@ -24,6 +24,3 @@ mod windows;
 pub use draft::JoinDraft;
 pub use join::Join;
 pub use pairs::Pairs;
-
-#[cfg(test)]
-mod tests;

@@ -133,6 +133,9 @@ impl<'a> Shelf<'a> {
         })
     }
 
+    /// Lets the rows go.
+    pub(crate) fn let_go(self) {}
+
     /// The row at this place.
     pub(crate) fn at(&self, i: usize) -> &Kept<'a>
         requires { i < length self.now }

@@ -137,13 +137,25 @@ impl Join<'_> {
         let closed = self.closed_below(after);
         let tie = self.tie();
         let mut lately = self.lately();
-        self.note_rows(&mut held, &tie, &mut lately, closed, before, back)?;
+        match self.note_rows(&mut held, &tie, &mut lately, closed, before, back) {
+            Ok(()) => {}
+            Err(want) => {
+                held.let_go();
+                return Err(want);
+            }
+        }
         let mut mark = *after;
         for i in 0..rows.len() {
             let row = rows.row(i);
-            self.take_row(alloc, &mut held, &tie, &mut lately, closed, &row, &mark)?;
+            match self.take_row(alloc, &mut held, &tie, &mut lately, closed, &row, &mark) {
+                Ok(()) => {}
+                Err(want) => {
+                    held.let_go();
+                    return Err(want);
+                }
+            }
             mark = self.step(&mark, &row);
         }
-        Ok((held.windows, mark))
+        Ok((held.into_windows(), mark))
     }
 }

@@ -7,6 +7,3 @@ mod outcome;
 
 pub use note::{Noted, write_note};
 pub use outcome::{InputFile, Outcome};
-
-#[cfg(test)]
-mod tests;

@@ -14,16 +14,5 @@ pub mod Fitting
 pub mod Left
 pub mod Lined
 pub mod Counted
-mod Divisors
-mod PaneMaps
-mod WorkedPanes
-mod PaneRows
-mod PaneWindows
-mod PanePoints
-mod PaneParts
-mod PaneCuts
-mod PaneFolding
-mod PaneMerging
-mod PaneRooms
 mod PileFacts
 mod Picked

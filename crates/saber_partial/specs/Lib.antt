@@ -6,8 +6,6 @@ pub mod Gathering
 pub mod Sources
 pub mod Printing
 pub mod PartLaws
-pub mod Panes
 pub mod Piles
 pub mod Young
 pub mod MergeFacts
-pub mod PaneLaws

@@ -1,5 +1,5 @@
 // The lines of two parts together, without their merge.
-ghost use Rattle.std.specs.Prelude.{◌≡◌, ◌≤◌, ◌∷◌, ◌++◌, IfOk, OnOk, OnErr, map, pos};
+ghost use Rattle.std.specs.Prelude.{◌≡◌, ◌≤◌, ◌<◌, ◌+◌, ◌∷◌, ◌++◌, IfOk, OnOk, OnErr, drop, length, map, pos};
 ghost use Rattle.saber_plan.specs.Trees.{tree_of};
 ghost use Rattle.saber_plan.specs.Answers.{line};
 ghost use Rattle.saber_plan.specs.Parts.{merge, part_lines};
@@ -78,6 +78,55 @@ fn write_both(
     Ok(end_line(draft, end))
 }
 
+// The line of the group that comes next in a walk over both, of one or of both. Tells where the text and the walk then are.
+#[inline(always)]
+fn write_next(
+    out: &mut Vec<u8>,
+    draft: &mut [u8; 128],
+    at: usize,
+    heading: &Heading,
+    items: &[Item],
+    groups: &Table,
+    i: usize,
+    others: &Table,
+    j: usize,
+) -> Result<(usize, usize, usize), NoMemory>
+    requires at { at ≤ 128 }
+    requires alike { groups.now.layout ≡ others.now.layout }
+    requires heading { IsHeading heading.now }
+    requires mine { i < length groups.now.entries }
+    requires theirs { j < length others.now.entries }
+    requires can { CanJoinAll groups.now.entries others.now.entries }
+    ensures ok { IfOk result (λ next. drafted out.new.items draft.new next.0
+        ++ lines_for heading.now.window items.now (map (λ g. g.1) (weave (drop next.1 groups.now.entries) (drop next.2 others.now.entries)))
+        ≡ drafted out.old.items draft.old at
+        ++ lines_for heading.now.window items.now (map (λ g. g.1) (weave (drop i groups.now.entries) (drop j others.now.entries)))) }
+    ensures room { IfOk result (λ next. next.0 ≤ 128) }
+    ensures mine { IfOk result (λ next. next.1 ≤ length groups.now.entries) }
+    ensures theirs { IfOk result (λ next. next.2 ≤ length others.now.entries) }
+    ensures further { IfOk result (λ next. i + j < next.1 + next.2) }
+    ensures behind { Behind out.old.items out.new.items }
+{
+    let _counts = (groups.len(), others.len());
+    let layout = groups.layout();
+    match key_order(groups.key(i), others.key(j)) {
+        Ordering::Less => {
+            let end = write_line(out, draft, at, heading, items, layout, groups.row(i))?;
+            Ok((end, i + 1, j))
+        }
+        Ordering::Equal => {
+            let row = groups.row(i);
+            let later = others.row(j);
+            let end = write_both(out, draft, at, heading, items, layout, row, later)?;
+            Ok((end, i + 1, j + 1))
+        }
+        Ordering::Greater => {
+            let end = write_line(out, draft, at, heading, items, layout, others.row(j))?;
+            Ok((end, i, j + 1))
+        }
+    }
+}
+
 // The lines of the groups of both by key, in one walk over both.
 fn write_woven(
     out: &mut Vec<u8>,
@@ -95,28 +144,14 @@ fn write_woven(
     ensures room { IfOk result (λ end. end ≤ 128) }
     ensures behind { Behind out.old.items out.new.items }
 {
-    let layout = groups.layout();
     let mut at = 0;
     let mut i = 0;
     let mut j = 0;
     while i < groups.len() && j < others.len() {
-        match key_order(groups.key(i), others.key(j)) {
-            Ordering::Less => {
-                at = write_line(out, draft, at, heading, items, layout, groups.row(i))?;
-                i += 1;
-            }
-            Ordering::Equal => {
-                let row = groups.row(i);
-                let later = others.row(j);
-                at = write_both(out, draft, at, heading, items, layout, row, later)?;
-                i += 1;
-                j += 1;
-            }
-            Ordering::Greater => {
-                at = write_line(out, draft, at, heading, items, layout, others.row(j))?;
-                j += 1;
-            }
-        }
+        let (end, mine, theirs) = write_next(out, draft, at, heading, items, groups, i, others, j)?;
+        at = end;
+        i = mine;
+        j = theirs;
     }
     let middle = write_groups(out, draft, at, heading, items, groups, i)?;
     write_groups(out, draft, middle, heading, items, others, j)

@@ -1,8 +1,10 @@
 // Groups with those of later rows, in lists by key.
-ghost use Rattle.std.specs.Prelude.{◌≡◌, ◌≤◌, length, drop, IfOk, OnOk};
+ghost use Rattle.std.specs.Prelude.{◌≡◌, ◌≤◌, ◌<◌, ◌+◌, ◌-◌, ◌++◌, ◌∷◌, [], length, take, drop, IfOk, OnOk};
 ghost use Rattle.std.specs.Map.{keys_of};
-ghost use Rattle.saber_plan.specs.Parts.{merge};
-ghost use Rattle.saber_partial.specs.Sorted.{joined_each, part_of, weave, CanJoinAll, JoinsFit, Rises};
+ghost use Rattle.saber_plan.specs.Parts.{join_numbers, merge};
+ghost use Rattle.saber_partial.specs.Flat.{entry_in, IsRow};
+ghost use Rattle.saber_partial.specs.Sorted.{joined_each, part_of, weave, AllBelow, CanJoinAll, JoinsFit, Rises};
+ghost use Rattle.saber_partial.specs.Tallies.{CanJoin};
 
 use crate::places::{have_one_key, have_same_keys, is_at, key_order, reach};
 use crate::table::Table;
@@ -61,8 +63,66 @@ fn take_found(groups: &mut Table, others: &Table) -> usize
     others.len()
 }
 
-// All groups of both by key, of the others those from one on, and those that both have joined, in one walk over both. Groups
-// of one that lie between two of the other are copied at once.
+// Appends the groups from one on whose keys are below this one, at once, and says where they end. The first of them is.
+fn push_below(out: &mut Table, groups: &Table, from: usize, key: &[i128]) -> Result<usize, NoMemory>
+    requires alike { out.old.layout ≡ groups.now.layout }
+    requires there { from < length groups.now.entries }
+    ensures layout { out.new.layout ≡ out.old.layout }
+    ensures more { IfOk result (λ end. from < end) }
+    ensures within { IfOk result (λ end. end ≤ length groups.now.entries) }
+    ensures below { IfOk result (λ end. AllBelow groups.now.entries (from + 1) end key.now) }
+    ensures all { IfOk result (λ end. out.new.entries ≡ out.old.entries ++ take (end - from) (drop from groups.now.entries)) }
+{
+    let _count = groups.len();
+    let end = reach(groups, from + 1, key);
+    out.push_range(groups, from, end)?;
+    Ok(end)
+}
+
+// Appends a group that both have, joined.
+fn push_joined(out: &mut Table, row: &[i128], later: &[i128]) -> Result<(), NoMemory>
+    requires row { IsRow out.old.layout row.now }
+    requires later { IsRow out.old.layout later.now }
+    requires can { CanJoin (entry_in out.old.layout row.now).1 (entry_in out.old.layout later.now).1 }
+    ensures layout { out.new.layout ≡ out.old.layout }
+    ensures all { OnOk result (out.new.entries ≡ out.old.entries
+        ++ ((entry_in out.old.layout row.now).0, join_numbers (entry_in out.old.layout row.now).1 (entry_in out.old.layout later.now).1) ∷ []) }
+{
+    let last = out.len();
+    out.push(row)?;
+    out.join(last, later);
+    Ok(())
+}
+
+// Appends all groups of both by key, of the others those from one on, and those that both have joined, in one walk over both.
+// Groups of one that lie between two of the other are copied at once.
+fn weave_into(out: &mut Table, groups: &Table, others: &Table, from: usize) -> Result<(), NoMemory>
+    requires layout { out.old.layout ≡ groups.now.layout }
+    requires alike { groups.now.layout ≡ others.now.layout }
+    requires there { from ≤ length others.now.entries }
+    requires can { CanJoinAll groups.now.entries (drop from others.now.entries) }
+    ensures layout { out.new.layout ≡ out.old.layout }
+    ensures all { OnOk result (out.new.entries ≡ out.old.entries ++ weave groups.now.entries (drop from others.now.entries)) }
+{
+    let mut i = 0;
+    let mut j = from;
+    while i < groups.len() && j < others.len() {
+        match key_order(groups.key(i), others.key(j)) {
+            Ordering::Less => i = push_below(out, groups, i, others.key(j))?,
+            Ordering::Equal => {
+                push_joined(out, groups.row(i), others.row(j))?;
+                i += 1;
+                j += 1;
+            }
+            Ordering::Greater => j = push_below(out, others, j, groups.key(i))?,
+        }
+    }
+    out.push_range(groups, i, groups.len())?;
+    out.push_range(others, j, others.len())?;
+    Ok(())
+}
+
+// The same in a list of their own.
 fn woven(alloc: Global, groups: &Table, others: &Table, from: usize) -> Result<Table, NoMemory>
     requires alike { groups.now.layout ≡ others.now.layout }
     requires there { from ≤ length others.now.entries }
@@ -71,31 +131,7 @@ fn woven(alloc: Global, groups: &Table, others: &Table, from: usize) -> Result<T
     ensures all { IfOk result (λ t. t.entries ≡ weave groups.now.entries (drop from others.now.entries)) }
 {
     let mut out = Table::with_room_for(alloc, groups, others)?;
-    let mut i = 0;
-    let mut j = from;
-    while i < groups.len() && j < others.len() {
-        match key_order(groups.key(i), others.key(j)) {
-            Ordering::Less => {
-                let end = reach(groups, i + 1, others.key(j));
-                out.push_range(groups, i, end)?;
-                i = end;
-            }
-            Ordering::Equal => {
-                let last = out.len();
-                out.push(groups.row(i))?;
-                out.join(last, others.row(j));
-                i += 1;
-                j += 1;
-            }
-            Ordering::Greater => {
-                let end = reach(others, j + 1, groups.key(i));
-                out.push_range(others, j, end)?;
-                j = end;
-            }
-        }
-    }
-    out.push_range(groups, i, groups.len())?;
-    out.push_range(others, j, others.len())?;
+    weave_into(&mut out, groups, others, from)?;
     Ok(out)
 }
 

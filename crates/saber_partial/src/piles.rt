@@ -45,6 +45,35 @@ fn are_like(parts: &[Partial]) -> bool
     count > 1 && parts[count - 2].len() / 2 < parts[count - 1].len()
 }
 
+// The last of some parts takes in what comes behind it: one step.
+fn merge_behind<L: Ledger>(
+    alloc: Global,
+    parts: &mut Vec<Partial>,
+    part: &Partial,
+    steps: &mut Steps<L>,
+) -> Result<(), NoMemory>
+    requires some { 1 ≤ length parts.old.items }
+    requires can { CanPile parts.old.items }
+    requires room { CanMerge (piled parts.old.items) part.now }
+    ensures all { OnOk result (piled parts.new.items ≡ merge (piled parts.old.items) part.now) }
+    ensures can { CanPile parts.new.items }
+    ensures fewer { length parts.new.items ≤ length parts.old.items }
+    ensures steps { steps.new ≤ steps.old + 1 }
+{
+    merge_is_associative();
+    let Some(last) = parts.last_mut() else {
+        return Ok(());
+    };
+    steps.tick();
+    match last.merge_from(alloc, part) {
+        Ok(()) => Ok(()),
+        Err(lacks) => {
+            parts.clear();
+            Err(lacks)
+        }
+    }
+}
+
 // The last two of two parts at least become one: one step.
 fn merge_last<L: Ledger>(parts: &mut Vec<Partial>, steps: &mut Steps<L>) -> Result<(), NoMemory>
     requires two { 2 ≤ length parts.old.items }
@@ -55,16 +84,11 @@ fn merge_last<L: Ledger>(parts: &mut Vec<Partial>, steps: &mut Steps<L>) -> Resu
     ensures steps { steps.new ≤ steps.old + 1 }
 {
     merge_is_associative();
+    let alloc = *parts.allocator();
     let Some(last) = parts.pop() else {
         return Ok(());
     };
-    let Some(mut before) = parts.pop() else {
-        return Ok(());
-    };
-    steps.tick();
-    before.merge(last)?;
-    parts.push(before)?;
-    Ok(())
+    merge_behind(alloc, parts, &last, steps)
 }
 
 // Merges the last two while they are of like size: at most a step for each part that is fewer.
@@ -102,6 +126,28 @@ fn only(parts: &[Partial]) -> Option<&Partial>
     parts.first()
 }
 
+// The lines of a part and of what comes behind it, which is one part at most: one step at most.
+fn write_behind<L: Ledger>(
+    first: &Partial,
+    parts: &[Partial],
+    plan: &Plan,
+    window: u64,
+    out: &mut Vec<u8>,
+    steps: &mut Steps<L>,
+) -> Result<(), NoMemory>
+    requires one { length parts.now ≤ 1 }
+    requires can { CanMerge first.now (piled parts.now) }
+    ensures ok { OnOk result (out.new.items ≡ out.old.items ++ part_lines (tree_of plan.now) window (merge first.now (piled parts.now))) }
+    ensures err { OnErr result (out.new.items ≡ out.old.items) }
+    ensures steps { steps.new ≤ steps.old + 1 }
+{
+    let Some(part) = only(parts) else {
+        return first.lines(plan, window, out);
+    };
+    steps.tick();
+    first.lines_with(part, plan, window, out)
+}
+
 // Whether the last part isn't twice as great as what comes behind it.
 fn is_like_last(parts: &[Partial], part: &Partial) -> bool
     ensures { result ≡ true → 1 ≤ length parts.now }
@@ -109,34 +155,6 @@ fn is_like_last(parts: &[Partial], part: &Partial) -> bool
     match parts.last() {
         Some(last) => last.len() / 2 < part.len(),
         None => false,
-    }
-}
-
-// The last of some parts takes in what comes behind it: one step.
-fn merge_behind<L: Ledger>(
-    alloc: Global,
-    parts: &mut Vec<Partial>,
-    part: &Partial,
-    steps: &mut Steps<L>,
-) -> Result<(), NoMemory>
-    requires some { 1 ≤ length parts.old.items }
-    requires can { CanPile parts.old.items }
-    requires room { CanMerge (piled parts.old.items) part.now }
-    ensures all { OnOk result (piled parts.new.items ≡ merge (piled parts.old.items) part.now) }
-    ensures can { CanPile parts.new.items }
-    ensures steps { steps.new + length parts.new.items ≤ steps.old + length parts.old.items + 1 }
-{
-    merge_is_associative();
-    let Some(last) = parts.last_mut() else {
-        return Ok(());
-    };
-    steps.tick();
-    match last.merge_from(alloc, part) {
-        Ok(()) => Ok(()),
-        Err(lacks) => {
-            parts.clear();
-            Err(lacks)
-        }
     }
 }
 
@@ -162,7 +180,23 @@ fn put_copy<L: Ledger>(
     Ok(())
 }
 
-// All in one part.
+// All in one part, after which there is none.
+fn take_all<L: Ledger>(
+    alloc: Global,
+    parts: &mut Vec<Partial>,
+    steps: &mut Steps<L>,
+) -> Result<Partial, NoMemory>
+    requires { CanPile parts.old.items }
+    ensures { IfOk result (λ p. p ≡ piled parts.old.items) }
+{
+    settle(parts, steps)?;
+    match parts.pop() {
+        Some(part) => Ok(part),
+        None => Ok(Partial::empty(alloc)),
+    }
+}
+
+// The same of parts that are given up.
 fn join_all<L: Ledger>(
     alloc: Global,
     parts: Vec<Partial>,
@@ -176,11 +210,7 @@ fn join_all<L: Ledger>(
 {
     let mut steps = Steps::<L>::new(blank);
     let mut all = parts;
-    settle(&mut all, &mut steps)?;
-    match all.pop() {
-        Some(part) => Ok(part),
-        None => Ok(Partial::empty(alloc)),
-    }
+    take_all(alloc, &mut all, &mut steps)
 }
 
 // A part behind all others.
@@ -295,10 +325,6 @@ impl Pile {
         ensures steps { steps.new + self.new.pieces ≤ steps.old + self.old.pieces + 1 }
     {
         settle(&mut self.parts, steps)?;
-        let Some(part) = only(&self.parts) else {
-            return first.lines(plan, window, out);
-        };
-        steps.tick();
-        first.lines_with(part, plan, window, out)
+        write_behind(first, &self.parts, plan, window, out, steps)
     }
 }

@@ -35,7 +35,7 @@ impl<L: Ledger> Steps<L> {
     }
 
     /// One step more. It has no code.
-    pub(crate) fn tick(&mut self)
+    pub fn tick(&mut self)
         ensures { self.new ≡ self.old + 1 }
     {
         self.book.add(&mut self.share, 1);

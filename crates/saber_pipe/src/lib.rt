@@ -12,8 +12,6 @@ mod receipt;
 mod relay;
 mod rule;
 mod sink;
-#[cfg(test)]
-mod tests;
 
 pub use backlog::Backlog;
 pub use feed::PipeFeed;

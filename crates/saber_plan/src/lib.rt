@@ -6,6 +6,7 @@
 use std::alloc::AllocError;
 
 mod expressions;
+mod letting;
 mod plans;
 mod predicates;
 mod rows;

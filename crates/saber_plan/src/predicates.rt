@@ -99,18 +99,3 @@ impl Pred {
         &self.conjs
     }
 }
-
-#[cfg(test)]
-mod tests {
-    use super::*;
-    use std::test::Fail;
-
-    #[test]
-    fn a_negation_is_made(rt: HostRuntime) -> Result<(), Fail> {
-        let alloc = rt.alloc();
-        let none = Pred::from_vec(Vec::new(alloc));
-        let negated = Unit::negated(alloc, Unit::any(none))?;
-        assert!(rt; matches!(negated, Unit::Not(_)));
-        Ok(())
-    }
-}

@@ -113,31 +113,3 @@ pub enum RowCause {
     /// With this row more than 1,048,576 rows would wait for others.
     TooManyHeld,
 }
-
-#[cfg(test)]
-mod tests {
-    use super::*;
-    use std::test::Fail;
-
-    // Nine numbers: one more than lie in the value itself.
-    #[test]
-    fn numbers_are_kept(rt: HostRuntime) -> Result<(), Fail> {
-        let alloc = rt.alloc();
-        let nine = [0, 1, 2, 3, 4, 5, 6, 7, -8];
-        let mut values = Values::new(alloc);
-        for number in nine {
-            values.push(number)?;
-        }
-        assert_eq!(rt; values.as_slice(), nine.as_slice());
-        let copy = Values::from_slice(alloc, &nine)?;
-        assert_eq!(rt; copy.as_slice(), nine.as_slice());
-        let row = Row {
-            side: Side::Right,
-            values,
-        };
-        let equal = row.copy(alloc)?;
-        assert_eq!(rt; equal.side, Side::Right);
-        assert_eq!(rt; equal.values.as_slice(), nine.as_slice());
-        Ok(())
-    }
-}

@@ -3,6 +3,7 @@ pub mod Back
 pub mod Forth
 pub mod Exact
 pub mod ParseLemmas
+pub mod WholeLemmas
 pub mod QueryLemmas
 pub mod RealLemmas
 pub mod TextLemmas

@@ -1,5 +1,6 @@
 // Streams of FROM and columns of GROUP BY from tokens.
-ghost use Rattle.std.specs.Prelude.{◌≡◌, ◌∷◌, []};
+ghost use Rattle.std.specs.Prelude.{◌≡◌, ◌∷◌, ◌++◌, []};
+ghost use Rattle.saber_query.specs.declared.tree.Keys.{Keys};
 ghost use Rattle.saber_query.specs.Machine as m;
 ghost use Rattle.saber_query.specs.Words.{measure_word, window_words, source_words, second_source_words, column_words, columns_words, group_words};
 ghost use Rattle.saber_query.specs.Reading.{coming, Parses};
@@ -48,8 +49,13 @@ pub(crate) fn source(tokens: &mut Tokens) -> Result<Source, Stop>
     let Some(name) = tokens.take_name() else {
         return Err(Stop::Syntax);
     };
-    let window = window(tokens)?;
-    Ok(Source { name, window })
+    match window(tokens) {
+        Ok(window) => Ok(Source { name, window }),
+        Err(stop) => {
+            name.let_go();
+            Err(stop)
+        }
+    }
 }
 
 pub(crate) fn second(tokens: &mut Tokens) -> Result<Option<Source>, Stop>
@@ -69,8 +75,13 @@ fn column(tokens: &mut Tokens) -> Result<Column, Stop>
     let Some(first) = tokens.take_name() else {
         return Err(Stop::Syntax);
     };
-    let second = second_name(tokens)?;
-    Ok(Column { first, second })
+    match second_name(tokens) {
+        Ok(second) => Ok(Column { first, second }),
+        Err(stop) => {
+            first.let_go();
+            Err(stop)
+        }
+    }
 }
 
 fn columns(alloc: Global, tokens: &mut Tokens) -> Result<Columns, Stop>
@@ -84,6 +95,21 @@ fn columns(alloc: Global, tokens: &mut Tokens) -> Result<Columns, Stop>
     Ok(Columns::from_vec(items))
 }
 
+fn keys(alloc: Global, tokens: &mut Tokens) -> Result<Keys, Stop>
+    ensures { Parses (m.column ∷ m.more_columns ∷ [])
+        (λ (k : Keys). column_words k.first ++ columns_words k.more) result (coming tokens.old)
+        (coming tokens.new) }
+{
+    let first = column(tokens)?;
+    match columns(alloc, tokens) {
+        Ok(more) => Ok(Keys { first, more }),
+        Err(stop) => {
+            first.let_go();
+            Err(stop)
+        }
+    }
+}
+
 pub(crate) fn group(alloc: Global, tokens: &mut Tokens) -> Result<Option<Keys>, Stop>
     ensures { Parses (m.a_group ∷ []) group_words result (coming tokens.old) (coming tokens.new) }
 {
@@ -91,7 +117,8 @@ pub(crate) fn group(alloc: Global, tokens: &mut Tokens) -> Result<Option<Keys>, 
         return Ok(None);
     }
     tokens.expect_word(Keyword::By)?;
-    let first = column(tokens)?;
-    let more = columns(alloc, tokens)?;
-    Ok(Some(Keys { first, more }))
+    match keys(alloc, tokens) {
+        Ok(keys) => Ok(Some(keys)),
+        Err(stop) => Err(stop),
+    }
 }

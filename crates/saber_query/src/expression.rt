@@ -44,8 +44,13 @@ fn factor(tokens: &mut Tokens) -> Result<Factor, Stop>
     ensures { Parses (m.factor ∷ []) factor_words result (coming tokens.old) (coming tokens.new) }
 {
     if let Some(first) = tokens.take_name() {
-        let second = second_name(tokens)?;
-        return Ok(Factor::Column(Column { first, second }));
+        return match second_name(tokens) {
+            Ok(second) => Ok(Factor::Column(Column { first, second })),
+            Err(stop) => {
+                first.let_go();
+                Err(stop)
+            }
+        };
     }
     if let Some(value) = tokens.take_number() {
         return Ok(Factor::Number(value));
@@ -72,8 +77,13 @@ fn prod(alloc: Global, tokens: &mut Tokens) -> Result<Prod, Stop>
         (coming tokens.new) }
 {
     let first = factor(tokens)?;
-    let more = factors(alloc, tokens)?;
-    Ok(Prod { first, more })
+    match factors(alloc, tokens) {
+        Ok(more) => Ok(Prod { first, more }),
+        Err(stop) => {
+            first.let_go();
+            Err(stop)
+        }
+    }
 }
 
 fn terms(alloc: Global, tokens: &mut Tokens) -> Result<Terms, Stop>
@@ -92,6 +102,11 @@ pub(crate) fn expr(alloc: Global, tokens: &mut Tokens) -> Result<Expr, Stop>
         (coming tokens.old) (coming tokens.new) }
 {
     let first = prod(alloc, tokens)?;
-    let more = terms(alloc, tokens)?;
-    Ok(Expr { first, more })
+    match terms(alloc, tokens) {
+        Ok(more) => Ok(Expr { first, more }),
+        Err(stop) => {
+            first.let_go();
+            Err(stop)
+        }
+    }
 }

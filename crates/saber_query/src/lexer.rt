@@ -2,6 +2,7 @@
 ghost use Rattle.std.specs.Prelude.{◌≡◌, ◌≤◌, ◌<◌, ◌+◌, ◌++◌, ◌∷◌, [], ◌^◌, ◌*◌, ◌-◌, length, IfOk, IfErr, OnOk, OnErr, Err};
 ghost use Rattle.saber_query.specs.Lexing.{is_letter, is_name_byte, is_space, single, double, angle, begin, placed, step, number_more, ended, lexed, StepGives, LexGives, tokens_in};
 ghost use Rattle.saber_query.specs.declared.fault.QueryFault.TheVariants.{NoMemory};
+ghost use Rattle.saber_query.specs.declared.lexer.Pending.TheVariants as p;
 ghost use Rattle.saber_query.specs.Small.{IsSmall, IsLexFault};
 
 use crate::fault::{Cause, QueryFault};
@@ -71,6 +72,27 @@ fn angle(greater: bool) -> Sign
     if greater { Sign::Greater } else { Sign::Less }
 }
 
+fn put(out: &mut Vec<Placed>, byte: u64, token: Token) -> Result<(), QueryFault>
+    ensures ok { OnOk result (out.new.items ≡ out.old.items ++ placed byte token ∷ []) }
+    ensures err { OnErr result (result ≡ Err QueryFault.NoMemory) }
+{
+    out.push(Placed { byte, token })?;
+    Ok(())
+}
+
+// The name that a byte begins.
+fn named(alloc: Global, at: u64, byte: u8) -> Result<Pending, QueryFault>
+    ensures ok { IfOk result (λ q. q ≡ p.Name at (byte ∷ [])) }
+    ensures err { IfErr result (λ e. e ≡ NoMemory) }
+{
+    let mut bytes = Vec::new(alloc);
+    bytes.push(byte)?;
+    Ok(Pending::Name {
+        start: at,
+        bytes: Name::from_vec(bytes),
+    })
+}
+
 #[tactic(auto, unfolding(crate::specs::Lexing::begin))]
 fn begin(alloc: Global, at: u64, byte: u8, out: &mut Vec<Placed>) -> Result<Pending, QueryFault>
     ensures gives { StepGives result out.old.items out.new.items (begin at byte) }
@@ -78,10 +100,7 @@ fn begin(alloc: Global, at: u64, byte: u8, out: &mut Vec<Placed>) -> Result<Pend
     ensures causes { IfErr result IsLexFault }
 {
     if is_letter(byte) {
-        let mut bytes = Vec::new(alloc);
-        bytes.push(byte)?;
-        let bytes = Name::from_vec(bytes);
-        return Ok(Pending::Name { start: at, bytes });
+        return named(alloc, at, byte);
     }
     if byte.is_ascii_digit() {
         return Ok(Pending::Number {
@@ -110,10 +129,7 @@ fn begin(alloc: Global, at: u64, byte: u8, out: &mut Vec<Placed>) -> Result<Pend
             cause: Cause::BadByte,
         });
     };
-    out.push(Placed {
-        byte: at,
-        token: Token::Mark(sign),
-    })?;
+    put(out, at, Token::Mark(sign))?;
     Ok(Pending::Nothing)
 }
 
@@ -138,12 +154,82 @@ fn number_more(start: u64, value: u64, digit: u8) -> Result<Pending, QueryFault>
     })
 }
 
-fn put(out: &mut Vec<Placed>, byte: u64, token: Token) -> Result<(), QueryFault>
-    ensures ok { OnOk result (out.new.items ≡ out.old.items ++ placed byte token ∷ []) }
-    ensures err { OnErr result (result ≡ Err QueryFault.NoMemory) }
+// A name with one byte more.
+fn longer(start: u64, bytes: Name, byte: u8) -> Result<Pending, QueryFault>
+    ensures ok { IfOk result (λ q. q ≡ p.Name start (bytes ++ byte ∷ [])) }
+    ensures err { IfErr result (λ e. e ≡ NoMemory) }
 {
-    out.push(Placed { byte, token })?;
-    Ok(())
+    let mut bytes = bytes.into_vec();
+    bytes.push(byte)?;
+    Ok(Pending::Name {
+        start,
+        bytes: Name::from_vec(bytes),
+    })
+}
+
+// A byte behind a name.
+#[tactic(auto, unfolding(crate::specs::Lexing::step))]
+fn after_name(
+    alloc: Global,
+    at: u64,
+    start: u64,
+    bytes: Name,
+    byte: u8,
+    out: &mut Vec<Placed>,
+) -> Result<Pending, QueryFault>
+    ensures gives { StepGives result out.old.items out.new.items (step at (p.Name start bytes) byte) }
+    ensures small { IfOk result IsSmall }
+    ensures causes { IfErr result IsLexFault }
+{
+    if is_name_byte(byte) {
+        return longer(start, bytes, byte);
+    }
+    put(out, start, word(bytes))?;
+    begin(alloc, at, byte, out)
+}
+
+// A byte behind a number.
+#[tactic(auto, unfolding(crate::specs::Lexing::step))]
+fn after_number(
+    alloc: Global,
+    at: u64,
+    start: u64,
+    value: u64,
+    byte: u8,
+    out: &mut Vec<Placed>,
+) -> Result<Pending, QueryFault>
+    requires { value ≤ 2 ^ 63 }
+    ensures gives { StepGives result out.old.items out.new.items (step at (p.Number start value) byte) }
+    ensures small { IfOk result IsSmall }
+    ensures causes { IfErr result IsLexFault }
+{
+    if byte.is_ascii_digit() {
+        return number_more(start, value, byte - b'0');
+    }
+    put(out, start, Token::Number(value))?;
+    begin(alloc, at, byte, out)
+}
+
+// A byte behind `<` or `>`.
+#[tactic(auto, unfolding(crate::specs::Lexing::step))]
+fn after_angle(
+    alloc: Global,
+    at: u64,
+    start: u64,
+    greater: bool,
+    byte: u8,
+    out: &mut Vec<Placed>,
+) -> Result<Pending, QueryFault>
+    ensures gives { StepGives result out.old.items out.new.items (step at (p.Angle start greater) byte) }
+    ensures small { IfOk result IsSmall }
+    ensures causes { IfErr result IsLexFault }
+{
+    if let Some(sign) = double(greater, byte) {
+        put(out, start, Token::Mark(sign))?;
+        return Ok(Pending::Nothing);
+    }
+    put(out, start, Token::Mark(angle(greater)))?;
+    begin(alloc, at, byte, out)
 }
 
 // One byte: what it goes on with or ends, and what it begins.
@@ -161,31 +247,11 @@ fn step(
     ensures causes { IfErr result IsLexFault }
 {
     match pending {
-        Pending::Nothing => {}
-        Pending::Name { start, bytes } => {
-            if is_name_byte(byte) {
-                let mut bytes = bytes.into_vec();
-                bytes.push(byte)?;
-                let bytes = Name::from_vec(bytes);
-                return Ok(Pending::Name { start, bytes });
-            }
-            put(out, start, word(bytes))?;
-        }
-        Pending::Number { start, value } => {
-            if byte.is_ascii_digit() {
-                return number_more(start, value, byte - b'0');
-            }
-            put(out, start, Token::Number(value))?;
-        }
-        Pending::Angle { start, greater } => {
-            if let Some(sign) = double(greater, byte) {
-                put(out, start, Token::Mark(sign))?;
-                return Ok(Pending::Nothing);
-            }
-            put(out, start, Token::Mark(angle(greater)))?;
-        }
+        Pending::Nothing => begin(alloc, at, byte, out),
+        Pending::Name { start, bytes } => after_name(alloc, at, start, bytes, byte, out),
+        Pending::Number { start, value } => after_number(alloc, at, start, value, byte, out),
+        Pending::Angle { start, greater } => after_angle(alloc, at, start, greater, byte, out),
     }
-    begin(alloc, at, byte, out)
 }
 
 #[tactic(auto, unfolding(crate::specs::Lexing::ended))]

@@ -7,6 +7,7 @@ mod declaration;
 mod expression;
 mod fault;
 mod laws;
+mod letting;
 mod lexer;
 mod predicate;
 mod query;
@@ -28,6 +29,3 @@ pub use tree::{
     Adding, Cmp, Column, Columns, Conj, Decl, Decls, Expr, Factor, Factors, Item, Items, Keys,
     Measure, Names, Pred, Prod, Select, Source, Term, Terms, Unit, Window,
 };
-
-#[cfg(test)]
-mod tests;

@@ -71,9 +71,20 @@ fn compare(alloc: Global, tokens: &mut Tokens) -> Result<Unit, Stop>
     ensures depth { IfOk result (λ u. test_depth (test_of u) ≡ 0) }
 {
     let left = expr(alloc, tokens)?;
-    let cmp = comparison(tokens)?;
-    let right = expr(alloc, tokens)?;
-    Ok(compared(left, cmp, right))
+    let cmp = match comparison(tokens) {
+        Ok(cmp) => cmp,
+        Err(stop) => {
+            left.let_go();
+            return Err(stop);
+        }
+    };
+    match expr(alloc, tokens) {
+        Ok(right) => Ok(compared(left, cmp, right)),
+        Err(stop) => {
+            left.let_go();
+            Err(stop)
+        }
+    }
 }
 
 // A unit where nothing more may be opened.
@@ -106,8 +117,13 @@ fn unit(alloc: Global, tokens: &mut Tokens, left: u32) -> Result<Unit, Stop>
     }
     if tokens.take_mark(Sign::Open) {
         let inner = pred(alloc, tokens, left - 1)?;
-        tokens.expect_mark(Sign::Close)?;
-        return enclosed(alloc, inner);
+        return match tokens.expect_mark(Sign::Close) {
+            Ok(()) => enclosed(alloc, inner),
+            Err(stop) => {
+                inner.let_go();
+                Err(stop)
+            }
+        };
     }
     compare(alloc, tokens)
 }
@@ -132,8 +148,13 @@ fn conj(alloc: Global, tokens: &mut Tokens, left: u32) -> Result<Conj, Stop>
     ensures depth { IfOk result (λ c. both_depth (both_of c) ≤ left) }
 {
     let first = unit(alloc, tokens, left)?;
-    let more = units(alloc, tokens, left)?;
-    Ok(joined(first, more))
+    match units(alloc, tokens, left) {
+        Ok(more) => Ok(joined(first, more)),
+        Err(stop) => {
+            first.let_go();
+            Err(stop)
+        }
+    }
 }
 
 #[cycle(parser)]
@@ -156,6 +177,11 @@ pub(crate) fn pred(alloc: Global, tokens: &mut Tokens, left: u32) -> Result<Pred
     ensures depth { IfOk result (λ p. tests_depth (tests_of p) ≤ left) }
 {
     let first = conj(alloc, tokens, left)?;
-    let more = conjs(alloc, tokens, left)?;
-    Ok(chosen(first, more))
+    match conjs(alloc, tokens, left) {
+        Ok(more) => Ok(chosen(first, more)),
+        Err(stop) => {
+            first.let_go();
+            Err(stop)
+        }
+    }
 }

@@ -34,6 +34,11 @@ impl Query {
         Query { select, starts }
     }
 
+    /// Lets the query go. Crates above call it, so that their proofs don't take in what is done with each part.
+    pub fn let_go(self) {
+        self.select.let_go();
+    }
+
     /// The tree of its words.
     pub fn select(&self) -> &Select
         ensures value { result.now ≡ self.now.select }

@@ -16,6 +16,7 @@ use crate::clauses::{group, second, source};
 use crate::cursor::Tokens;
 use crate::declaration::{decl, decls};
 use crate::expression::expr;
+use crate::letting::{let_declared_go, let_outputs_go, let_predicate_go, let_streams_go};
 use crate::predicate::pred;
 use crate::stop::Stop;
 use crate::token::{Keyword, Sign};
@@ -40,8 +41,13 @@ fn argument(alloc: Global, tokens: &mut Tokens) -> Result<Expr, Stop>
 {
     tokens.expect_mark(Sign::Open)?;
     let argument = expr(alloc, tokens)?;
-    tokens.expect_mark(Sign::Close)?;
-    Ok(argument)
+    match tokens.expect_mark(Sign::Close) {
+        Ok(()) => Ok(argument),
+        Err(stop) => {
+            argument.let_go();
+            Err(stop)
+        }
+    }
 }
 
 fn item(alloc: Global, tokens: &mut Tokens) -> Result<Item, Stop>
@@ -105,8 +111,13 @@ fn take_outputs(alloc: Global, tokens: &mut Tokens) -> Result<Outputs, Stop>
 {
     tokens.expect_word(Keyword::Select)?;
     let item = item(alloc, tokens)?;
-    let items = items(alloc, tokens)?;
-    Ok(Outputs { item, items })
+    match items(alloc, tokens) {
+        Ok(items) => Ok(Outputs { item, items }),
+        Err(stop) => {
+            item.let_go();
+            Err(stop)
+        }
+    }
 }
 
 // The streams of FROM.
@@ -141,13 +152,20 @@ fn take_ends(alloc: Global, tokens: &mut Tokens, left: u32) -> Result<Ends, Stop
     ensures depth { IfOk result (λ e. where_depth (option_map tests_of e.predicate) ≤ left) }
 {
     let predicate = condition(alloc, tokens, left)?;
-    let group = group(alloc, tokens)?;
-    let closed = semicolon(tokens);
-    Ok(Ends {
-        predicate,
-        group,
-        closed,
-    })
+    match group(alloc, tokens) {
+        Ok(group) => {
+            let closed = semicolon(tokens);
+            Ok(Ends {
+                predicate,
+                group,
+                closed,
+            })
+        }
+        Err(stop) => {
+            let_predicate_go(predicate);
+            Err(stop)
+        }
+    }
 }
 
 fn select(alloc: Global, tokens: &mut Tokens, left: u32) -> Result<Select, Stop>
@@ -156,10 +174,37 @@ fn select(alloc: Global, tokens: &mut Tokens, left: u32) -> Result<Select, Stop>
     ensures depth { IfOk result (λ q. depth (query_of q) ≤ left) }
 {
     let decl = decl(alloc, tokens)?;
-    let decls = decls(alloc, tokens)?;
-    let outputs = take_outputs(alloc, tokens)?;
-    let streams = take_streams(tokens)?;
-    let ends = take_ends(alloc, tokens, left)?;
+    let decls = match decls(alloc, tokens) {
+        Ok(decls) => decls,
+        Err(stop) => {
+            decl.let_go();
+            return Err(stop);
+        }
+    };
+    let outputs = match take_outputs(alloc, tokens) {
+        Ok(outputs) => outputs,
+        Err(stop) => {
+            let_declared_go(decl, decls);
+            return Err(stop);
+        }
+    };
+    let streams = match take_streams(tokens) {
+        Ok(streams) => streams,
+        Err(stop) => {
+            let_declared_go(decl, decls);
+            let_outputs_go(outputs.item, outputs.items);
+            return Err(stop);
+        }
+    };
+    let ends = match take_ends(alloc, tokens, left) {
+        Ok(ends) => ends,
+        Err(stop) => {
+            let_declared_go(decl, decls);
+            let_outputs_go(outputs.item, outputs.items);
+            let_streams_go(streams.from, streams.second);
+            return Err(stop);
+        }
+    };
     Ok(Select {
         decl,
         decls,
@@ -179,6 +224,7 @@ pub(crate) fn query(alloc: Global, tokens: &mut Tokens) -> Result<Select, Stop>
 {
     let query = select(alloc, tokens, 64)?;
     if !tokens.is_empty() {
+        query.let_go();
         return Err(Stop::Syntax);
     }
     Ok(query)

@@ -5,7 +5,7 @@ ghost use Rattle.saber_query.specs.declared.stop.Stop.TheVariants.{NoMemory};
 use std::alloc::{AllocError, AllocFailed};
 
 /// Why a tree can't be read: want of memory, or the token that is left first.
-#[derive(Clone, Copy, Debug, PartialEq, Eq)]
+#[derive(Clone, Copy)]
 pub(crate) enum Stop {
     NoMemory,
     Syntax,

@@ -1,12 +1,16 @@
 // Texts as queries.
-ghost use Rattle.std.specs.Prelude.{◌≡◌, ◌≤◌, ◌++◌, length, map, IfOk, OnErr, IfErr, Err};
+ghost use Rattle.std.specs.Prelude.{◌≡◌, ◌≤◌, ◌++◌, List, length, map, IfOk, IfErr, Ok, Err};
+ghost use Rattle.saber_query.specs.declared.token.Placed.{Placed};
+ghost use Rattle.saber_query.specs.declared.token.Token.{Token};
 ghost use Rattle.saber_query.specs.declared.fault.QueryFault.TheVariants.{NoMemory};
-ghost use Rattle.saber_query.specs.Reading.{coming, token_of};
+ghost use Rattle.saber_query.specs.Reading.{coming, token_of, QueryGives};
+ghost use Rattle.saber_query.specs.Lexing.{lexed};
 ghost use Rattle.saber_query.specs.Means.{byte_of, ParseGives};
 ghost use Rattle.saber_query.specs.Small.{byte_at};
 
 use crate::cursor::Tokens;
 use crate::fault::{Cause, QueryFault};
+use crate::letting::{let_placed_go, let_tokens_go};
 use crate::lexer::lex;
 use crate::query::Query;
 use crate::select::query;
@@ -48,6 +52,66 @@ fn tokens_of(alloc: Global, placed: Vec<Placed>) -> Result<Tokens, QueryFault>
     Ok(Tokens::from_deque(rest))
 }
 
+// The fault of a text at whose tokens the parser stopped: it stands where those that are left begin.
+fn stopped(text: &[u8], starts: &[u64], left: usize, stop: Stop) -> QueryFault
+    requires { (ps : List Placed) × (rest : List Token) × (length text.now ≤ 65536)
+        × (lexed text.now ≡ Ok ps) × (starts.now ≡ map byte_of ps) × (left ≡ length rest)
+        × QueryGives (Err stop) (map token_of ps) rest }
+    ensures { ParseGives (Err result) text.now }
+{
+    let end = text.len() as u64;
+    match stop {
+        Stop::NoMemory => QueryFault::NoMemory,
+        Stop::Syntax => QueryFault::At {
+            byte: start_of_rest(starts, left, end),
+            cause: Cause::Syntax,
+        },
+        Stop::Depth => QueryFault::At {
+            byte: start_of_rest(starts, left, end),
+            cause: Cause::Depth,
+        },
+    }
+}
+
+// The query of a text's tokens.
+fn parse_tokens(
+    alloc: Global,
+    text: &[u8],
+    mut tokens: Tokens,
+    starts: Vec<u64>,
+) -> Result<Query, QueryFault>
+    requires { (ps : List Placed) × (length text.now ≤ 65536) × (lexed text.now ≡ Ok ps)
+        × (coming tokens ≡ map token_of ps) × (starts.items ≡ map byte_of ps) }
+    ensures { ParseGives result text.now }
+{
+    let parsed = query(alloc, &mut tokens);
+    let left = tokens.len();
+    let_tokens_go(tokens);
+    match parsed {
+        Ok(select) => Ok(Query::new(select, starts)),
+        Err(stop) => Err(stopped(text, &starts, left, stop)),
+    }
+}
+
+// The query of a text's tokens with their places.
+fn parse_placed(alloc: Global, text: &[u8], placed: Vec<Placed>) -> Result<Query, QueryFault>
+    requires short { length text.now ≤ 65536 }
+    requires lexed { lexed text.now ≡ Ok placed.items }
+    ensures { ParseGives result text.now }
+{
+    let starts = match starts_of(alloc, &placed) {
+        Ok(starts) => starts,
+        Err(fault) => {
+            let_placed_go(placed);
+            return Err(fault);
+        }
+    };
+    match tokens_of(alloc, placed) {
+        Ok(tokens) => parse_tokens(alloc, text, tokens, starts),
+        Err(fault) => Err(fault),
+    }
+}
+
 /// The query that a text means, or its first fault: a text that is too long, else its first bad token, else the
 /// first token that the grammar doesn't allow there or that opens too much. Memory may run out at any time.
 ///
@@ -77,20 +141,8 @@ pub fn parse(alloc: Global, text: &[u8]) -> Result<Query, QueryFault>
             cause: Cause::TooLong,
         });
     }
-    let placed = lex(alloc, text)?;
-    let starts = starts_of(alloc, &placed)?;
-    let mut tokens = tokens_of(alloc, placed)?;
-    let end = text.len() as u64;
-    match query(alloc, &mut tokens) {
-        Ok(select) => Ok(Query::new(select, starts)),
-        Err(Stop::NoMemory) => Err(QueryFault::NoMemory),
-        Err(Stop::Syntax) => Err(QueryFault::At {
-            byte: start_of_rest(&starts, tokens.len(), end),
-            cause: Cause::Syntax,
-        }),
-        Err(Stop::Depth) => Err(QueryFault::At {
-            byte: start_of_rest(&starts, tokens.len(), end),
-            cause: Cause::Depth,
-        }),
+    match lex(alloc, text) {
+        Ok(placed) => parse_placed(alloc, text, placed),
+        Err(fault) => Err(fault),
     }
 }

@@ -6,7 +6,7 @@ ghost use Rattle.saber_query.specs.Tokens.{keyword_among, keyword_of, word_of};
 use std::marker::Model;
 
 /// The reserved words, in any case. The last four are reserved for partitioned windows and for relations as streams.
-#[derive(Clone, Copy, Debug, PartialEq, Eq)]
+#[derive(Clone, Copy, PartialEq, Eq)]
 pub enum Keyword {
     Stream,
     Select,
@@ -31,7 +31,7 @@ pub enum Keyword {
 }
 
 /// The signs of one or two bytes.
-#[derive(Clone, Copy, Debug, PartialEq, Eq)]
+#[derive(Clone, Copy, PartialEq, Eq)]
 pub enum Sign {
     Open,
     Close,
@@ -52,7 +52,7 @@ pub enum Sign {
 }
 
 /// The bytes of a name: ASCII letters, digits and `_`. Names are case sensitive.
-#[derive(Drop, Debug)]
+#[derive(Drop)]
 pub struct Name {
     bytes: Vec<u8>,
 }
@@ -96,7 +96,7 @@ impl Name {
 }
 
 /// A token of a text. A number is its value: leading zeros are lost.
-#[derive(Drop, Debug)]
+#[derive(Drop)]
 pub enum Token {
     Word(Keyword),
     Mark(Sign),
@@ -105,7 +105,7 @@ pub enum Token {
 }
 
 /// A token and the byte that it begins at, counted from 0.
-#[derive(Drop, Debug)]
+#[derive(Drop)]
 pub struct Placed {
     pub byte: u64,
     pub token: Token,

@@ -4,7 +4,7 @@ use crate::token::Name;
 use std::marker::Model;
 
 /// A column: `column`, or `stream.column`.
-#[derive(Drop, Debug)]
+#[derive(Drop)]
 pub struct Column {
     /// The column, or the stream where a second name follows.
     pub first: Name,
@@ -12,7 +12,7 @@ pub struct Column {
 }
 
 /// A column, a number, or a number with a minus sign of its own. Numbers are at most 2^63.
-#[derive(Drop, Debug)]
+#[derive(Drop)]
 pub enum Factor {
     Column(Column),
     Number(u64),
@@ -20,7 +20,7 @@ pub enum Factor {
 }
 
 /// Factors of a product behind its first.
-#[derive(Drop, Debug)]
+#[derive(Drop)]
 pub struct Factors {
     items: Vec<Factor>,
 }
@@ -52,28 +52,28 @@ impl Factors {
 }
 
 /// Factors with `*` between.
-#[derive(Drop, Debug)]
+#[derive(Drop)]
 pub struct Prod {
     pub first: Factor,
     pub more: Factors,
 }
 
 /// How a product is joined to those before it.
-#[derive(Clone, Copy, Debug, PartialEq, Eq)]
+#[derive(Clone, Copy, PartialEq, Eq)]
 pub enum Adding {
     Plus,
     Minus,
 }
 
 /// A product behind the first, with the sign before it.
-#[derive(Drop, Debug)]
+#[derive(Drop)]
 pub struct Term {
     pub adding: Adding,
     pub prod: Prod,
 }
 
 /// Terms of an expression behind its first.
-#[derive(Drop, Debug)]
+#[derive(Drop)]
 pub struct Terms {
     items: Vec<Term>,
 }
@@ -105,14 +105,14 @@ impl Terms {
 }
 
 /// Products with `+` and `-` between, from left to right.
-#[derive(Drop, Debug)]
+#[derive(Drop)]
 pub struct Expr {
     pub first: Prod,
     pub more: Terms,
 }
 
 /// What SELECT asks for: the count of rows, an aggregate of an expression, or an expression.
-#[derive(Drop, Debug)]
+#[derive(Drop)]
 pub enum Item {
     Count,
     Sum(Expr),
@@ -122,14 +122,14 @@ pub enum Item {
 }
 
 /// What a window is measured in: rows, or ticks of the timestamp.
-#[derive(Clone, Copy, Debug, PartialEq, Eq)]
+#[derive(Clone, Copy, PartialEq, Eq)]
 pub enum Measure {
     Rows,
     Range,
 }
 
 /// `[ROWS size SLIDE slide]` or `[RANGE size SLIDE slide]`, in any range that a number has.
-#[derive(Clone, Copy, Debug, PartialEq, Eq)]
+#[derive(Clone, Copy, PartialEq, Eq)]
 pub struct Window {
     pub measure: Measure,
     pub size: u64,
@@ -137,14 +137,14 @@ pub struct Window {
 }
 
 /// A stream that FROM names.
-#[derive(Drop, Debug)]
+#[derive(Drop)]
 pub struct Source {
     pub name: Name,
     pub window: Option<Window>,
 }
 
 /// A comparison of two expressions.
-#[derive(Clone, Copy, Debug, PartialEq, Eq)]
+#[derive(Clone, Copy, PartialEq, Eq)]
 pub enum Cmp {
     Equal,
     Unequal,
@@ -180,7 +180,7 @@ pub struct Pred {
 }
 
 /// Columns behind the first.
-#[derive(Drop, Debug)]
+#[derive(Drop)]
 pub struct Columns {
     items: Vec<Column>,
 }
@@ -212,14 +212,14 @@ impl Columns {
 }
 
 /// The columns of GROUP BY.
-#[derive(Drop, Debug)]
+#[derive(Drop)]
 pub struct Keys {
     pub first: Column,
     pub more: Columns,
 }
 
 /// Names of columns behind the first.
-#[derive(Drop, Debug)]
+#[derive(Drop)]
 pub struct Names {
     items: Vec<Name>,
 }
@@ -250,7 +250,7 @@ impl Names {
 }
 
 /// A stream with its columns.
-#[derive(Drop, Debug)]
+#[derive(Drop)]
 pub struct Decl {
     pub name: Name,
     pub first: Name,
@@ -258,7 +258,7 @@ pub struct Decl {
 }
 
 /// Items behind the first.
-#[derive(Drop, Debug)]
+#[derive(Drop)]
 pub struct Items {
     items: Vec<Item>,
 }
@@ -290,7 +290,7 @@ impl Items {
 }
 
 /// Declarations behind the first.
-#[derive(Drop, Debug)]
+#[derive(Drop)]
 pub struct Decls {
     items: Vec<Decl>,
 }

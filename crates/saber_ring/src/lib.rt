@@ -17,8 +17,6 @@ mod plays;
 mod release;
 mod ring;
 mod seat;
-#[cfg(test)]
-mod tests;
 mod threads;
 mod turn;
 mod view;

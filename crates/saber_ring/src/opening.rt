@@ -6,7 +6,7 @@ use crate::view::SlotValue;
 use std::alloc::Global;
 
 // The words of a ring in which novalue was filled.
-pub(crate) fn first_words(alloc: Global, size: u64) -> Option<Vec<u64>>
+fn first_words(alloc: Global, size: u64) -> Option<Vec<u64>>
     requires { size ≤ 1024 }
     ensures { IfSome result (λ v. IsOpen size v.items) }
 {
@@ -20,11 +20,7 @@ pub(crate) fn first_words(alloc: Global, size: u64) -> Option<Vec<u64>>
 }
 
 // The stage, and room for a value of each cell and each block.
-pub(crate) fn first_slots<R, P, S>(
-    alloc: Global,
-    size: u64,
-    stage: S,
-) -> Result<Vec<SlotValue<R, P, S>>, S>
+fn first_slots<R, P, S>(alloc: Global, size: u64, stage: S) -> Result<Vec<SlotValue<R, P, S>>, S>
     requires { size ≤ 1024 }
     ensures { MatchResult result (λ v. v.items ≡ first_values size stage) (λ s. s ≡ stage) }
 {
@@ -37,6 +33,24 @@ pub(crate) fn first_slots<R, P, S>(
         slots.push_reserved(SlotValue::Empty);
     }
     Ok(slots)
+}
+
+// The words and the slots of a ring in which nothing was filled; the stage comes back where memory lacks.
+pub(crate) fn first_parts<R, P, S>(
+    alloc: Global,
+    size: u64,
+    stage: S,
+) -> Result<(Vec<u64>, Vec<SlotValue<R, P, S>>), S>
+    requires { size ≤ 1024 }
+    ensures { MatchResult result (λ v. IsOpen size v.0.items × (v.1.items ≡ first_values size stage)) (λ s. s ≡ stage) }
+{
+    let Some(words) = first_words(alloc, size) else {
+        return Err(stage);
+    };
+    match first_slots(alloc, size, stage) {
+        Ok(slots) => Ok((words, slots)),
+        Err(stage) => Err(stage),
+    }
 }
 
 // Takes the stage out of the slots, and gives their memory back.

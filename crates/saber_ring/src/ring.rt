@@ -4,14 +4,13 @@ ghost use Rattle.saber_ring.specs.Opening.{Begins};
 ghost use Rattle.saber_ring.specs.Shows.{first_view};
 
 use crate::closing::sweep;
-use crate::fixed::{FixedData, token};
-use crate::opening::{first_slots, first_words, stage_back};
+use crate::fixed::{FixedData, told_by};
+use crate::opening::{first_parts, stage_back};
 use crate::seat::Seat;
 use crate::view::{RingKey, RingRule, SlotValue, View};
 use atomic_table::{Refused, Table};
 use saber_core::Work;
 use std::alloc::{AllocError as NoMemory, Global};
-use std::snapshot::Snapshot;
 
 /// The ring of slots by which threads hand rows, pieces and the stage to each other, each by single
 /// atomic steps. Word 0 is the word of the turn; the words of the cells come next, then those of the blocks. It is
@@ -49,15 +48,11 @@ impl<W: Work> Ring<W> {
         ensures refused { IfErr result (λ e. e.1 ≡ stage) }
     {
         let size = size as u64;
-        let Ok(token) = token::<W::Told, J>(alloc) else {
+        let Ok(told) = told_by::<W::Told, J>(alloc) else {
             return Err((NoMemory, stage));
         };
-        let told = Snapshot::of(&token);
-        let Some(words) = first_words(alloc, size) else {
-            return Err((NoMemory, stage));
-        };
-        let slots = match first_slots(alloc, size, stage) {
-            Ok(slots) => slots,
+        let (words, slots) = match first_parts(alloc, size, stage) {
+            Ok(parts) => parts,
             Err(stage) => return Err((NoMemory, stage)),
         };
         let key = RingKey { size, told };

@@ -1,5 +1,5 @@
 -- A reader takes a line, or gives a row.
-use Rattle.std.proofs.Common.{◌≡◌, ℕ, ◌+◌, ◌≤◌, List, [], ◌∷◌, ◌++◌, drop, take, length, Bool, true, false, not, ◌&&◌, ◌||◌, cond, nat_lt, nat_le, Option, Some, None, ℤ, refl, sym, ◌∙◌, ap, arith}
+use Rattle.std.proofs.Common.{◌≡◌, ℕ, ◌+◌, ◌-◌, ◌*◌, ◌≤◌, ◌<◌, List, [], ◌∷◌, ◌++◌, drop, take, length, Bool, true, false, not, ◌&&◌, ◌||◌, cond, nat_lt, nat_le, Option, Some, None, ℤ, refl, sym, ◌∙◌, ap, arith}
 use Rattle.std.proofs.lemmas.Bool.Decides.{nat_tests}
 use Rattle.saber_plan.specs.declared.rows.Row.{Row}
 use Rattle.saber_plan.specs.declared.rows.RowCause.{RowCause}
@@ -163,3 +163,8 @@ gives old row rest given e ready = record {
   lines = λ z follow. refl;
   rest = λ partial z follow. give_by partial old.rules (lines_of (old.held ++ z)) old.place row rest old.over e ready;
 }
+
+-- ---- a line more leaves less to do, however many bytes are held
+
+pub less_left : (most lines a b ended over : ℕ) → lines + 1 ≤ most → (most - (lines + 1)) * 16384 + (8193 - a) + ended + over < (most - lines) * 16384 + (8193 - b) + ended + over
+less_left most lines a b ended over h = omega (arith, h)

@@ -1,11 +1,13 @@
 -- Readers over sources that tell what they have left.
-use Rattle.std.proofs.Common.{◌≡◌, ℕ, List, [], ◌++◌, Bool, true, false, cond, Option, Some, None, Result, Ok, Err, IfSome, refl, sym, ◌∙◌, ap, subst, option_map}
+use Rattle.std.proofs.Common.{◌≡◌, ℕ, List, [], ◌++◌, Bool, true, false, cond, Option, Some, None, Result, Ok, Err, IfOk, IfSome, refl, sym, ◌∙◌, ap, subst, option_map}
 use Rattle.saber_io.specs.Outside.{given, EndsEmpty}
-use Rattle.saber_plan.specs.Rows.{Read}
+use Rattle.saber_plan.specs.Rows.{Read, bad}
 use Rattle.saber_plan.specs.declared.rows.Row.{Row}
+use Rattle.saber_plan.specs.declared.rows.Side.{Side}
 use Rattle.saber_rows.specs.declared.ends.RowEnd.{RowEnd}
 use Rattle.saber_rows.specs.declared.ends.RowEnd.TheVariants.{ReadFault, NoMemory, Bad}
-use Rattle.saber_rows.specs.Reader.{Reader, rest_of, CanFollow, to_come, rest_over}
+use Rattle.saber_rows.specs.declared.ends.Stop.{Stop}
+use Rattle.saber_rows.specs.Reader.{Reader, rest_of, CanFollow, to_come, rest_over, EndsRefused, HasEnd, answer_of}
 use Rattle.saber_rows.specs.Calls.{Moves, EndsBy, given_by, IsNext, first_of_rows}
 use Rattle.saber_rows.proofs.ReadSteps.{true_not_false}
 
@@ -62,3 +64,22 @@ is_next result old new had has m ends = some_of (IsNext result) (given_by result
   by_answer (Err (Bad n c)) h z = ap (λ r. first_of_rows r.rows r.end) (h (to_come new z) (can_come new z))
   by_answer (Err ReadFault) h z = tt
   by_answer (Err NoMemory) h z = tt
+
+-- ---- what an answer says of its row, and of the line that it refuses
+
+pub of_given : (P Q : Row → Type 0) (a : Result (Option Row) RowEnd) → ((row : Row) → P row → Q row) → IfOk a (λ o. IfSome o P) → IfOk a (λ o. IfSome o Q)
+of_given P Q (Ok None) f h = tt
+of_given P Q (Ok (Some row)) f h = f row h
+of_given P Q (Err e) f h = tt
+
+pub refused_ends : (a : Result (Option Row) RowEnd) (side : Side) (r : Reader) → r.rules.side ≡ side → EndsBy a r → EndsRefused a side r
+refused_ends a side r e h line cause is = subst (λ s. HasEnd (bad s line cause) r) e (subst (λ x. EndsBy x r) is h)
+
+-- a reader that stopped keeps an answer
+pub stopped : (o : Option Stop) (s : Stop) → o ≡ Some s → option_map answer_of o ≡ None → ⊥
+stopped None s e h = cc
+stopped (Some t) s e h = cc
+
+-- an answer that is told twice is one
+pub same_answer : (o : Option (Result (Option Row) RowEnd)) (a b : Result (Option Row) RowEnd) → o ≡ Some a → o ≡ Some b → a ≡ b
+same_answer o a b e h = let one : Some a ≡ Some b = sym e ∙ h in cc

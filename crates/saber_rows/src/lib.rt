@@ -5,21 +5,15 @@ mod buffer;
 mod ends;
 mod fed_buffer;
 mod fed_lines;
-#[cfg(test)]
-mod fed_tests;
 mod fields;
 mod heads;
 mod judge;
 mod laws;
 mod line_feeds;
 mod lines;
-#[cfg(test)]
-mod merge_tests;
 mod merges;
 mod numbers;
 mod quick_rows;
-#[cfg(test)]
-mod tests;
 mod waiting;
 
 pub use ends::{FedRow, RowEnd};

@@ -77,7 +77,7 @@ struct Run {
 impl Lines {
     ghost use Rattle.std.specs.Prelude.{◌≡◌, ◌≢◌, ◌≤◌, ◌^◌, ◌<◌, ◌+◌, [], ℕ, ℤ, List, Option, if◌then◌else◌, IfOk, IfSome, OnErr, OnSome, Some, None, Ok, Err, option_map, length, true, false};
     ghost use Rattle.saber_io.specs.Outside.{Rose};
-    ghost use Rattle.saber_plan.specs.Rows.{SideRules, rows, whole, all_read, before, falls, RowFits, stamp as stamp_in, taken, refused, judge, crowds, timed, due};
+    ghost use Rattle.saber_plan.specs.Rows.{SideRules, rows, whole, all_read, before, falls, RowFits, stamp as stamp_in, skipped, taken, refused, judge, crowds, timed, due};
     ghost use Rattle.saber_rows.specs.Judged.{judged_of, IfCounted};
     ghost use Rattle.saber_rows.specs.LineFeeds.{end_of, HasNoFeed};
     ghost use Rattle.saber_rows.specs.Reader.{reader_of, new_reader, rest_of, rest_over, gone, HasEnd, EndsRefused, NeedsMore};
@@ -190,14 +190,29 @@ impl Lines {
                 self.over = Some(Behind::Refused { line, cause });
                 Turn::Again
             }
-            Ok(Judged::Skipped) => {
-                self.held.consume(line_end(n, whole));
-                self.lines += 1;
-                Turn::Again
-            }
+            Ok(Judged::Skipped) => self.skip_line(n, whole),
             Ok(Judged::Taken(values)) if self.slack == 0 => self.take_at_once(n, whole, values),
             Ok(Judged::Taken(values)) => self.take_held(n, whole, values),
         }
+    }
+
+    // Takes a line without content.
+    fn skip_line(&mut self, n: usize, whole: bool) -> Turn
+        requires within { end_of n whole ≤ length (bytes_of self.old.held) }
+        requires line { Fronts whole (bytes_of self.old.held) n (end_of n whole) }
+        requires last { IsLastIf whole (reader_of self.old) }
+        requires over { self.old.over ≡ None }
+        requires counted { self.old.lines + 1 ≤ self.old.max_lines }
+        requires judged { skipped ≡ first_judged (reader_of self.old) n }
+        ensures gives { LineGives result (reader_of self.old) (reader_of self.new) }
+        ensures falls { IfAgain result (work_left (reader_of self.new) < work_left (reader_of self.old)) }
+        ensures place { PlaceMoves result (reader_of self.old) (reader_of self.new) }
+        ensures rules { (reader_of self.new).rules ≡ (reader_of self.old).rules }
+        ensures stop { self.new.stop ≡ self.old.stop }
+    {
+        self.held.consume(line_end(n, whole));
+        self.lines += 1;
+        Turn::Again
     }
 
     // Takes a row that can be given at once.
@@ -364,23 +379,9 @@ impl Lines {
         ensures rules { (reader_of self.new).rules ≡ (reader_of self.old).rules }
         ensures stop { self.new.stop ≡ self.old.stop }
     {
-        if self.slack > 0 || self.over.is_some() || self.lines >= self.max_lines {
-            return None;
-        }
-        let mut values = Values::new(self.alloc);
-        let n = row_in(self.columns, self.held.bytes(), &mut values)?;
-        if is_late(self.slack, self.high, values.as_slice()) {
-            return None;
-        }
-        let stamp = stamp_of(values.as_slice());
-        self.high = Some(raise(self.high, stamp));
-        self.last = Some(stamp);
-        self.held.consume(n + 1);
-        self.lines += 1;
-        Some(Row {
-            side: self.side,
-            values,
-        })
+        let mut row = self.no_row();
+        self.held_into(&mut row.values)?;
+        Some(row)
     }
 
     // Whether rows at the front that are rows at the first look are the next ones.
@@ -411,6 +412,8 @@ impl Lines {
         requires empty { values.old ≡ [] }
         ensures none { result ≡ None → self.new ≡ self.old }
         ensures own { IfSome result (λ time. time ≡ stamp_in values.new) }
+        ensures steps { IfSome result (λ time. Steps (before (record { side = self.old.side; values = values.new })) (reader_of self.old) (reader_of self.new)) }
+        ensures stop { self.new.stop ≡ self.old.stop }
         ensures some { IfSome result (λ time. HoldsNext (record { side = self.old.side; values = values.new }) (reader_of self.old) (reader_of self.new)) }
     {
         if !self.is_plain() || self.lines >= self.max_lines {

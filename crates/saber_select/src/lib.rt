@@ -10,6 +10,3 @@ mod select;
 
 pub use operator::NoStore;
 pub use select::Select;
-
-#[cfg(test)]
-mod tests;

@@ -9,6 +9,3 @@ mod select;
 mod spell;
 
 pub use query::show;
-
-#[cfg(test)]
-mod tests;

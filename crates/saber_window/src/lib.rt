@@ -22,6 +22,3 @@ pub use plan_windows::Windows;
 pub use plans::{begun_below, closed_below, kind_of};
 pub use points::windows_of;
 pub use rows::{ending, mark_behind, step_mark};
-
-#[cfg(test)]
-mod tests;

@@ -22,7 +22,7 @@ use std::marker::Model;
 
 /// The windows of a checked plan: one slide, and the size of each stream's windows. It is made once for
 /// a task, so that a row costs no walk through the plan. Contracts see it as the plan's frame.
-#[derive(Clone, Copy, Debug, PartialEq, Eq)]
+#[derive(Clone, Copy)]
 pub struct Windows {
     windowed: Windowed,
 }

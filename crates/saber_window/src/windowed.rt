@@ -6,7 +6,7 @@ ghost use Rattle.saber_window.specs.Frames.{frame_with};
 use saber_plan::{Measure, Stream};
 
 /// Which streams have windows: none, the only one, or both of a join.
-#[derive(Clone, Copy, Debug, PartialEq, Eq)]
+#[derive(Clone, Copy)]
 pub(crate) enum Windowed {
     Neither,
     One {

@@ -12,6 +12,3 @@ mod reading;
 pub use commands::{Chain, Check, Command, Demo, Run, WordsFault};
 pub use laws::{sizes_of_words, words_of_file_names};
 pub use reading::read_words;
-
-#[cfg(test)]
-mod tests;

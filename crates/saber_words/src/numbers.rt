@@ -9,7 +9,7 @@ use clap::{Arg, ArgMatches};
 use std::alloc::Global;
 
 /// An option of one value, a whole number: `--name N`.
-#[derive(Clone, Copy, Debug)]
+#[derive(Clone, Copy)]
 pub(crate) struct NumberOption {
     /// What stands behind `--`, and the option's id.
     pub(crate) name: &'static str,
@@ -93,7 +93,7 @@ pub(crate) fn number_arg<'a>(alloc: Global, option: NumberOption) -> Arg<'a>
 }
 
 /// The numbers of a run's options.
-#[derive(Clone, Copy, Debug)]
+#[derive(Clone, Copy)]
 pub(crate) struct RunSizes {
     pub(crate) task: u32,
     pub(crate) ring: u32,

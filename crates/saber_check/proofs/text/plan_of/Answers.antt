@@ -1,7 +1,6 @@
-use Rattle.std.proofs.Common.{◌≡◌, ℕ, List, Result, Ok, Err, IfOk, IfErr, subst, sym}
+use Rattle.std.proofs.Common.{◌≡◌, ℕ, List, Result, Ok, Err, IfOk, IfErr}
 use Rattle.saber_plan.specs.declared.plans.Plan.{Plan}
 use Rattle.saber_plan.specs.Trees.{tree_of}
-use Rattle.saber_query.specs.declared.tree.Select.{Select}
 use Rattle.saber_query.specs.Trees.{query_of}
 use Rattle.saber_query.specs.Parsed.{Parsed, IsParsed}
 use Rattle.saber_query.specs.Means.{MeansTree}
@@ -11,10 +10,6 @@ use Rattle.saber_check.specs.Plans.{plan_tree}
 use Rattle.saber_check.specs.Outcome.{IsFaultless, IsFaultOf}
 use Rattle.saber_check.specs.Texts.{HasPlan, fails_checks, IsFaultIn}
 use Rattle.saber_check.proofs.text.plan_of.Goals as goal
-
--- what a query keeps, of its tree and its starts
-viewed : (p : Parsed) (s : Select) (starts : List ℕ) → p ≡ record { select = s; starts = starts } → IsParsed s starts → IsParsed p.select p.starts
-viewed p s starts e i = let P : Parsed → Type 0 = λ x. IsParsed x.select x.starts in subst P (sym e) i
 
 planned : (text : List ℕ) (p : Parsed) (r : Result Plan QueryFault) → IsParsed p.select p.starts → MeansTree text p → IfOk r (λ y. IsFaultless (query_of p.select)) → IfOk r (λ y. tree_of y ≡ plan_tree (query_of p.select)) → IfOk r (λ y. HasPlan text (tree_of y))
 planned text p (Ok y) i m n e = record { query = p; parsed = i; means = m; faultless = n; same = e }
@@ -26,7 +21,7 @@ refused text p (Err NoMemory) m g = tt
 refused text p (Err (At b c)) m g = fails_checks (record { query = p; means = m; fails = g })
 
 pub returns-clause-plan : goal.returns-clause-plan
-returns-clause-plan c = planned c.args.text.now _ c.check.result (viewed c.in_ok-query.query c.query.inside.select c.query.inside.starts.items (cc) c.query.invariant) c.in_ok-query.ensures c.check.ensures.faultless c.check.ensures.plan
+returns-clause-plan c = planned c.args.text.now _ c.check-plan.result c.check-plan.ensures.parsed c.in_ok-query.ensures c.check-plan.ensures.faultless c.check-plan.ensures.plan
 
 pub returns-clause-fault : goal.returns-clause-fault
-returns-clause-fault c = refused c.args.text.now _ c.check.result c.in_ok-query.ensures c.check.ensures.fault
+returns-clause-fault c = refused c.args.text.now _ c.check-plan.result c.in_ok-query.ensures c.check-plan.ensures.fault

@@ -113,8 +113,8 @@ returns-in_default g c =
       stopped = c.ended.ensures.may;
     }
 
-pub returns : goal.returns
-returns g c =
+pub returns-in-Err : goal.returns-in-Err
+returns-in-Err g c =
     let s = c.args.sizes.now in
     let q : Tree = tree_of c.args.plan.now in
     let wrote = g.K.Sink.written in

@@ -32,10 +32,10 @@ loop-window-preserved c =
     record {
       can = tt;
       finite = tt;
-      closing = gave_more old.closing new.closing _ (entries_by is_closing b next) _ (c.in_ok-place.ensures.closing ∙ (λ j. old.closing ++ entry_if (is_closing (Some (kind j))) i c.in-Some.pairs)) (ap (λ es. old.closing ++ entries_by is_closing b es) (sym left) ∙ c.loop-window.invariant.closing);
-      pending = gave_more old.pending new.pending _ (entries_by is_pending b next) _ (c.in_ok-place.ensures.pending ∙ (λ j. old.pending ++ entry_if (is_pending (Some (kind j))) i c.in-Some.pairs)) (ap (λ es. old.pending ++ entries_by is_pending b es) (sym left) ∙ c.loop-window.invariant.pending);
-      opening = gave_more old.opening new.opening _ (entries_by is_opening b next) _ (c.in_ok-place.ensures.opening ∙ (λ j. old.opening ++ entry_if (is_opening (Some (kind j))) i c.in-Some.pairs)) (ap (λ es. old.opening ++ entries_by is_opening b es) (sym left) ∙ c.loop-window.invariant.opening);
-      lines = gave_more old.text.items new.text.items _ (lines_by b next) _ (c.in_ok-place.ensures.text ∙ (λ j. old.text.items ++ lines_if (is_complete (Some (kind j))) i c.in-Some.pairs)) (ap (λ es. old.text.items ++ lines_by b es) (sym left) ∙ c.loop-window.invariant.lines);
+      closing = gave_more old.closing new.closing _ (entries_by is_closing b next) _ (c.in-Ok.ensures.closing ∙ (λ j. old.closing ++ entry_if (is_closing (Some (kind j))) i c.in-Some.pairs)) (ap (λ es. old.closing ++ entries_by is_closing b es) (sym left) ∙ c.loop-window.invariant.closing);
+      pending = gave_more old.pending new.pending _ (entries_by is_pending b next) _ (c.in-Ok.ensures.pending ∙ (λ j. old.pending ++ entry_if (is_pending (Some (kind j))) i c.in-Some.pairs)) (ap (λ es. old.pending ++ entries_by is_pending b es) (sym left) ∙ c.loop-window.invariant.pending);
+      opening = gave_more old.opening new.opening _ (entries_by is_opening b next) _ (c.in-Ok.ensures.opening ∙ (λ j. old.opening ++ entry_if (is_opening (Some (kind j))) i c.in-Some.pairs)) (ap (λ es. old.opening ++ entries_by is_opening b es) (sym left) ∙ c.loop-window.invariant.opening);
+      lines = gave_more old.text.items new.text.items _ (lines_by b next) _ (c.in-Ok.ensures.text ∙ (λ j. old.text.items ++ lines_if (is_complete (Some (kind j))) i c.in-Some.pairs)) (ap (λ es. old.text.items ++ lines_by b es) (sym left) ∙ c.loop-window.invariant.lines);
     }
 
 pub returns : goal.returns

@@ -1,24 +1,30 @@
-use Rattle.std.proofs.Common.{◌++◌, ◌∷◌, [], sym, subst, ◌∙◌, ap}
-use Rattle.saber_plan.specs.Parts.{Part}
+use Rattle.std.proofs.Common.{◌∷◌, [], length, length-append, sym, subst, ◌∙◌, ap, arith}
+use Rattle.std.proofs.lemmas.Result.{on_ok_weaker}
 use Rattle.saber_partial.specs.Piles.{piled, CanPile}
-use Rattle.saber_partial.proofs.PileFacts.{piled-push, last_two}
+use Rattle.saber_partial.proofs.PileFacts.{piled-push, can_pop}
 use Rattle.saber_partial.proofs.piles.merge_last.Goals as goal
 
-pub merge-requires : goal.merge-requires
-merge-requires g c = (last_two c.merge_is_associative.ensures c.args.parts.now.items c.pop.new.self.items c.pop-2.new.self.items c.in-Some-pop.before c.in-Some.last c.in-Some.ensures.items c.in-Some-pop.ensures.items c.requires.can).two
+pub merge_behind-requires-clause-some : goal.merge_behind-requires-clause-some
+merge_behind-requires-clause-some g c =
+    let two = c.requires.two in
+    let all = ap length c.in-Some.ensures.items in
+    let more = length-append c.pop.new.self.items (c.in-Some.last ∷ []) in
+    omega (arith, two, all, more)
 
-pub returns-in_err-merge-clause-can : goal.returns-in_err-merge-clause-can
-returns-in_err-merge-clause-can g c = (last_two c.merge_is_associative.ensures c.args.parts.now.items c.pop.new.self.items c.pop-2.new.self.items c.in-Some-pop.before c.in-Some.last c.in-Some.ensures.items c.in-Some-pop.ensures.items c.requires.can).rest_can
+pub merge_behind-requires-clause-can : goal.merge_behind-requires-clause-can
+merge_behind-requires-clause-can g c = (can_pop c.merge_is_associative.ensures c.pop.new.self.items c.in-Some.last (subst CanPile c.in-Some.ensures.items c.requires.can)).0
+
+pub merge_behind-requires-clause-room : goal.merge_behind-requires-clause-room
+merge_behind-requires-clause-room g c = (can_pop c.merge_is_associative.ensures c.pop.new.self.items c.in-Some.last (subst CanPile c.in-Some.ensures.items c.requires.can)).1
 
 pub returns-clause-same : goal.returns-clause-same
 returns-clause-same g c =
-    let rest = c.pop-2.new.self.items in
-    let j = last_two c.merge_is_associative.ensures c.args.parts.now.items c.pop.new.self.items c.pop-2.new.self.items c.in-Some-pop.before c.in-Some.last c.in-Some.ensures.items c.in-Some-pop.ensures.items c.requires.can in
-    ap piled c.in_ok-push.ensures.items ∙ ap (λ (p : Part). piled (rest ++ p ∷ [])) c.in_ok-merge.ensures
-    ∙ j.all ∙ sym (ap piled c.in-Some.ensures.items ∙ piled-push c.merge_is_associative.ensures c.pop.new.self.items c.in-Some.last)
+    let old = ap piled c.in-Some.ensures.items ∙ piled-push c.merge_is_associative.ensures c.pop.new.self.items c.in-Some.last in
+    on_ok_weaker c.merge_behind.result (λ e. e ∙ sym old) c.merge_behind.ensures.all
 
-pub returns-clause-can : goal.returns-clause-can
-returns-clause-can g c =
-    let rest = c.pop-2.new.self.items in
-    let j = last_two c.merge_is_associative.ensures c.args.parts.now.items c.pop.new.self.items c.pop-2.new.self.items c.in-Some-pop.before c.in-Some.last c.in-Some.ensures.items c.in-Some-pop.ensures.items c.requires.can in
-    subst CanPile (sym c.in_ok-push.ensures.items) (subst (λ (p : Part). CanPile (rest ++ p ∷ [])) (sym c.in_ok-merge.ensures) j.can)
+pub returns-clause-fewer : goal.returns-clause-fewer
+returns-clause-fewer g c =
+    let few = c.merge_behind.ensures.fewer in
+    let all = ap length c.in-Some.ensures.items in
+    let more = length-append c.pop.new.self.items (c.in-Some.last ∷ []) in
+    omega (arith, few, all, more)

@@ -10,10 +10,8 @@ returns-in_err-first c =
     let p = err_from_is_err_and c.from_residual.result c.from_residual.ensures.1 in
     rw (p.1, p.2) (fail_first (factor ∷ more_factors ∷ []) (more_terms ∷ []) expr_words prod_words c.in_err-first.field-0.0 _ _ c.in_err-first.ensures)
 
-pub returns-in_err-more : goal.returns-in_err-more
-returns-in_err-more c =
-    let p = err_from_is_err_and c.from_residual-in_err-more.result c.from_residual-in_err-more.ensures.1 in
-    rw (p.1, p.2) (fail_then (factor ∷ more_factors ∷ []) (more_terms ∷ []) _ expr_words terms_words c.in_err-more.field-0.0 _ _ _ c.in_ok-first.ensures c.in_err-more.ensures)
+pub returns-in-Err : goal.returns-in-Err
+returns-in-Err c = fail_then (factor ∷ more_factors ∷ []) (more_terms ∷ []) _ expr_words terms_words c.in-Err.stop _ _ _ c.in_ok-first.ensures c.in-Err.ensures
 
-pub returns : goal.returns
-returns c = read_then (factor ∷ more_factors ∷ []) (more_terms ∷ []) _ _ _ _ _ c.in_ok-first.ensures c.in_ok-more.ensures
+pub returns-in-Ok : goal.returns-in-Ok
+returns-in-Ok c = read_then (factor ∷ more_factors ∷ []) (more_terms ∷ []) _ _ _ _ _ c.in_ok-first.ensures c.in-Ok.ensures

@@ -61,17 +61,15 @@ unit-returns-in_err-inner-2-clause-parses t c =
     (sym c.if-take_word.ensures.took.0 ∙ c.if-take_mark.ensures.took)
     (fail_first (preds (c.args.left - 1)) (close_sign ∷ []) (λ (v : List Token). v) (λ (q : Pred). tests_words (tests_of q)) e _ _ c.in_err-inner-2.ensures.parses))
 
-pub unit-returns-in_err-expect_mark-clause-parses :
-    goal.unit-returns-in_err-expect_mark-clause-parses
-unit-returns-in_err-expect_mark-clause-parses t c =
-    let p = err_from_is_err_and c.from_residual-in_err-expect_mark.result c.from_residual-in_err-expect_mark.ensures.1 in
-    let e = c.in_err-expect_mark.field-0.0 in
-    rw (p.1, p.2) (fail_token (unit c.args.left) (preds (c.args.left - 1) ++ close_sign ∷ []) (Mark s.Open) (λ (u : Unit_tree). test_words (test_of u)) (λ (v : List Token). v) e _ _ _ (open_takes c.args.left (omega arith))
+pub unit-returns-in-Err-clause-parses : goal.unit-returns-in-Err-clause-parses
+unit-returns-in-Err-clause-parses t c =
+    let e = c.in-Err.stop in
+    fail_token (unit c.args.left) (preds (c.args.left - 1) ++ close_sign ∷ []) (Mark s.Open) (λ (u : Unit_tree). test_words (test_of u)) (λ (v : List Token). v) e _ _ _ (open_takes c.args.left (omega arith))
     (sym c.if-take_word.ensures.took.0 ∙ c.if-take_mark.ensures.took)
     (fail_then (preds (c.args.left - 1)) (close_sign ∷ []) _ (λ (v : List Token). v) (λ (v : List Token). v) e _ _ _ c.in_ok-inner-2.ensures.parses
-    (close_fails (Unit {0}) (λ (v : List Token). v) e _ _ c.in_err-expect_mark.ensures.took)))
+    (close_fails (Unit {0}) (λ (v : List Token). v) e _ _ c.in-Err.ensures.took))
 
-pub unit-returns-then-take_mark-clause-parses : goal.unit-returns-then-take_mark-clause-parses
-unit-returns-then-take_mark-clause-parses t c =
+pub unit-returns-in-Ok-clause-parses : goal.unit-returns-in-Ok-clause-parses
+unit-returns-in-Ok-clause-parses t c =
     made c.enclosed.result (enclosed_by (tests_of c.in_ok-inner-2.inner)) (unit c.args.left ∷ []) _ _ c.enclosed.ensures.ok c.enclosed.ensures.err
-    (let q = tests_of c.in_ok-inner-2.inner in read_open c.args.left (test_words q.first) (ands_words q.ands) (ors_words q.ors) _ _ _ _ (omega arith) (sym c.if-take_word.ensures.took.0 ∙ c.if-take_mark.ensures.took) c.in_ok-inner-2.ensures.parses c.in_ok-expect_mark.ensures.took)
+    (let q = tests_of c.in_ok-inner-2.inner in read_open c.args.left (test_words q.first) (ands_words q.ands) (ors_words q.ors) _ _ _ _ (omega arith) (sym c.if-take_word.ensures.took.0 ∙ c.if-take_mark.ensures.took) c.in_ok-inner-2.ensures.parses c.in-Ok.ensures.took)

@@ -17,21 +17,17 @@ returns-in_err-left-clause-parses c d =
     rw (p.1, p.2) (as_unit_fails d (λ (t : List Token). t) expr_words c.in_err-left.field-0.0 _ _ c.requires.not c.requires.open
     (fail_first exprs (comparison ∷ exprs) expr_words expr_words c.in_err-left.field-0.0 _ _ c.in_err-left.ensures))
 
-pub returns-in_err-cmp-clause-parses : goal.returns-in_err-cmp-clause-parses
-returns-in_err-cmp-clause-parses c d =
-    let p = err_from_is_err_and c.from_residual-in_err-cmp.result c.from_residual-in_err-cmp.ensures.1 in
-    rw (p.1, p.2) (as_unit_fails d (λ (t : List Token). t) expr_words c.in_err-cmp.field-0.0 _ _ c.requires.not c.requires.open
-    (fail_then exprs (comparison ∷ exprs) _ expr_words expr_words c.in_err-cmp.field-0.0 _ _ _ c.in_ok-left.ensures
-    (fail_first (comparison ∷ []) exprs expr_words (λ (v : Cmp). Mark (cmp_sign v) ∷ []) c.in_err-cmp.field-0.0 _ _ c.in_err-cmp.ensures)))
+pub returns-in-Err-clause-parses : goal.returns-in-Err-clause-parses
+returns-in-Err-clause-parses c d = as_unit_fails d (λ (t : List Token). t) expr_words c.in-Err.stop _ _ c.requires.not c.requires.open
+    (fail_then exprs (comparison ∷ exprs) _ expr_words expr_words c.in-Err.stop _ _ _ c.in_ok-left.ensures
+    (fail_first (comparison ∷ []) exprs expr_words (λ (v : Cmp). Mark (cmp_sign v) ∷ []) c.in-Err.stop _ _ c.in-Err.ensures))
 
-pub returns-in_err-right-clause-parses : goal.returns-in_err-right-clause-parses
-returns-in_err-right-clause-parses c d =
-    let p = err_from_is_err_and c.from_residual-in_err-right.result c.from_residual-in_err-right.ensures.1 in
-    rw (p.1, p.2) (as_unit_fails d (λ (t : List Token). t) expr_words c.in_err-right.field-0.0 _ _ c.requires.not c.requires.open
-    (fail_then exprs (comparison ∷ exprs) _ expr_words expr_words c.in_err-right.field-0.0 _ _ _ c.in_ok-left.ensures
-    (fail_then (comparison ∷ []) exprs _ expr_words expr_words c.in_err-right.field-0.0 _ _ _ c.in_ok-cmp.ensures c.in_err-right.ensures)))
+pub returns-in-Err-expr-clause-parses : goal.returns-in-Err-expr-clause-parses
+returns-in-Err-expr-clause-parses c d = as_unit_fails d (λ (t : List Token). t) expr_words c.in-Err-expr.stop _ _ c.requires.not c.requires.open
+    (fail_then exprs (comparison ∷ exprs) _ expr_words expr_words c.in-Err-expr.stop _ _ _ c.in_ok-left.ensures
+    (fail_then (comparison ∷ []) exprs _ expr_words expr_words c.in-Err-expr.stop _ _ _ c.in-Ok.ensures c.in-Err-expr.ensures))
 
-pub returns-clause-parses : goal.returns-clause-parses
-returns-clause-parses c d = rw (ap test_words c.compared.ensures) (as_unit d _ _ _ c.requires.not c.requires.open
+pub returns-in-Ok-expr-clause-parses : goal.returns-in-Ok-expr-clause-parses
+returns-in-Ok-expr-clause-parses c d = rw (ap test_words c.compared.ensures) (as_unit d _ _ _ c.requires.not c.requires.open
     (read_then exprs (comparison ∷ exprs) _ _ _ _ _ c.in_ok-left.ensures
-    (read_then (comparison ∷ []) exprs _ _ _ _ _ c.in_ok-cmp.ensures c.in_ok-right.ensures)))
+    (read_then (comparison ∷ []) exprs _ _ _ _ _ c.in-Ok.ensures c.in-Ok-expr.ensures)))

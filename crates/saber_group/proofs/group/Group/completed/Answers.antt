@@ -26,18 +26,18 @@ take_uncounted-requires-clause-goes_on c =
     let b = c.args.batch.now in
     let low = c.max-low.result in
     let order : low ≤ c.args.high = let more = c.if-high-low.false in omega (arith, more) in
-    let store = c.in_ok-open.open in (
+    let store = c.in-Ok-open_behind.open in (
       e.before,
       e.rows ++ b.rows.now,
       length e.rows,
       0,
       length b.rows.now,
       goes_behind q e b.before b.rows.now b.ended c.requires.meets c.groups_join.ensures c.merge_is_associative.ensures c.closed_stay.ensures c.ends_close_more.ensures c.has_window.ensures.fits c.requires.fits
-          low c.args.high store.next store.runs.entries c.args.runs.items order c.requires.high c.in_ok-open.ensures.next c.in_ok-open.ensures.runs c.requires.runs,
+          low c.args.high store.next store.runs.entries c.args.runs.items order c.requires.high c.in-Ok-open_behind.ensures.next c.in-Ok-open_behind.ensures.runs c.requires.runs,
     )
 
-pub returns-clause-gives : goal.returns-clause-gives
-returns-clause-gives c old given end same =
+pub returns-in-Ok-take_uncounted-clause-gives : goal.returns-in-Ok-take_uncounted-clause-gives
+returns-in-Ok-take_uncounted-clause-gives c old given end same =
     let q = tree_of c.args.self.now in
     let e = c.args.earlier.now in
     let b = c.args.batch.now in
@@ -45,13 +45,13 @@ returns-clause-gives c old given end same =
     let low = c.max-low.result in
     let k = c.closing_end-count.result in
     let order : low ≤ c.args.high = let more = c.if-high-low.false in omega (arith, more) in
-    let store = c.in_ok-open.open in
+    let store = c.in-Ok-open_behind.open in
     let least = c.max-low.ensures ∙ (λ j. max (c.begun_below.ensures j) (c.closed_below-closed.ensures j)) in
     let goes = goes_behind q e b.before b.rows.now b.ended c.requires.meets c.groups_join.ensures c.merge_is_associative.ensures c.closed_stay.ensures c.ends_close_more.ensures c.has_window.ensures.fits c.requires.fits
-    low c.args.high store.next store.runs.entries runs order c.requires.high c.in_ok-open.ensures.next c.in_ok-open.ensures.runs c.requires.runs in
+    low c.args.high store.next store.runs.entries runs order c.requires.high c.in-Ok-open_behind.ensures.next c.in-Ok-open_behind.ensures.runs c.requires.runs in
     is_complete q e b.before b.rows.now b.ended c.requires.meets old given end c.parts_lie_within.ensures c.begun_are_counted.ensures c.groups_join.ensures c.merge_has_unit.ensures c.has_window.ensures.group c.has_window.ensures.fits same
-    low c.args.high (record { low = low; text = c.take_uncounted.new.out; «open» = c.take_uncounted.new.store }) runs k c.in_ok-closing.closing.items store.next c.new-text.result.items c.new-text.ensures.items order c.requires.high least refl c.in_ok-open.ensures.next c.requires.runs
-    (c.in_ok-closing.ensures ∙ ap (take k) c.deref-2.ensures.value)
+    low c.args.high (record { low = low; text = c.take_uncounted.new.out; «open» = c.take_uncounted.new.store }) runs k c.in-Ok.closing.items store.next c.new-text.result.items c.new-text.ensures.items order c.requires.high least refl c.in-Ok-open_behind.ensures.next c.requires.runs
+    (c.in-Ok.ensures ∙ ap (take k) c.deref-2.ensures.value)
     (subst (λ l. AllByRecursion (λ (r : Run). r.first ≤ low) (take k l)) c.deref.ensures.value c.closing_end-count.ensures.firsts)
     (subst (λ l. (r : Run) → Some r ≡ slice_get l k → low ≤ r.first) c.deref.ensures.value c.closing_end-count.ensures.behind)
-    (c.in_ok-take_uncounted.ensures e.before (e.rows ++ b.rows.now) (length e.rows) 0 (length b.rows.now) goes)
+    (c.in-Ok-take_uncounted.ensures e.before (e.rows ++ b.rows.now) (length e.rows) 0 (length b.rows.now) goes)

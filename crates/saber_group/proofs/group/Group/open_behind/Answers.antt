@@ -38,7 +38,7 @@ loop-run-preserved g c =
       finite = tt;
       gathered = gathered_more q e.before e.rows.now c.args.low c.in-Some.run' (into_iter_items c.next.new.self) c.loop-run.front few
           (subst (λ l. Gathered q e.before e.rows.now c.args.low l c.loop-run.front) left c.loop-run.invariant.gathered)
-          c.merge_has_unit.ensures c.small_parts_merge.ensures c.closed_stay.ensures c.has_window.ensures.fits c.requires.fits c.requires.low c.add_run.new.front c.in_ok-add_run.ensures;
+          c.merge_has_unit.ensures c.small_parts_merge.ensures c.closed_stay.ensures c.has_window.ensures.fits c.requires.fits c.requires.low c.add_run.new.front c.in-Ok.ensures;
     }
 
 pub returns-clause-runs : goal.returns-clause-runs

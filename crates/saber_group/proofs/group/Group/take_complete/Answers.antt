@@ -16,6 +16,6 @@ returns c closed old rows ended g =
     let s = c.args.store.now in
     let new = c.take_uncounted.new in
     let closing = go_closing q old rows ended s.next s.runs.entries c.args.runs.items c.args.complete closed g c.groups_join.ensures c.merge_is_associative.ensures in
-    let own = c.in_ok-extend_from_slice.ensures.items ∙ ap (λ l. new.out.items ++ l) c.deref.ensures.value in
+    let own = c.in-Ok-extend_from_slice.ensures.items ∙ ap (λ l. new.out.items ++ l) c.deref.ensures.value in
     came_complete q old rows ended s.next s.runs.entries c.args.runs.items c.args.complete closed g new.store.next new.store.runs.entries c.args.out.now.items new.out.items c.extend_from_slice.new.self.items
-    (c.in_ok-take_uncounted.ensures no_rows (old ++ rows) (length old) 0 g.given.x closing) own
+    (c.in-Ok.ensures no_rows (old ++ rows) (length old) 0 g.given.x closing) own

@@ -4,7 +4,7 @@ use Rattle.std.proofs.lemmas.List.{take_more, take_all}
 use Rattle.saber_plan.specs.declared.rows.Side.TheVariants as sides
 use Rattle.saber_plan.specs.declared.windows.Mark.{Mark}
 use Rattle.saber_plan.specs.Trees.{tree_of}
-use Rattle.saber_plan.specs.Windows.{step_mark, mark_after, placed_after}
+use Rattle.saber_plan.specs.Windows.{step_mark, mark_after, placed_after, closed_count}
 use Rattle.saber_plan.specs.Answers.{frame}
 use Rattle.saber_plan.specs.Given.{RowsFit}
 use Rattle.saber_plan.specs.RowFacts.{left_small, right_small, mark_more, mark-append, row_at, fits_front, fits_back}
@@ -26,7 +26,7 @@ loop-i-init c =
     let n = c.closed_below-closed.result in
     let b = c.args.before.now in
     let back = c.args.back.now in
-    let noted = c.in_ok-note_rows.ensures in
+    let noted = c.in-Ok.ensures in
     record {
       lately = c.note_rows.ensures.lately;
       mark = refl;
@@ -107,7 +107,7 @@ loop-i-preserved c =
     let rows = c.args.rows.now in
     let mark = c.loop-i.mark in
     let h = c.loop-i.invariant in
-    let took = c.in_ok-take_row.ensures in
+    let took = c.in-Ok-take_row.ensures in
     let m = seen_parts c.loop-i.held.windows.entries in
     let w = seen_parts c.take_row.new.held.windows.entries in
     let below : k < length rows = omega (arith, c.loop-i-test.true) in
@@ -137,5 +137,6 @@ returns-clause-windows c =
     let k = c.loop-i.i in
     let m = seen_parts c.loop-i.held.windows.entries in
     let all : take k rows ≡ rows = take_all k rows (omega (arith, c.loop-i-test.false)) in
-    subst (λ n. HoldsTask q n b back rows m) c.closed_below-closed.ensures
-    (task_held q n b back rows m c.has_windows.ensures.join (subst (λ l. HasParts q n (b.left + b.right + length back) b (back ++ l) m) all c.loop-i.invariant.parts))
+    subst (λ es. HoldsTask q (closed_count (frame q) c.args.after.now) b back rows (seen_parts es)) (sym c.into_windows.ensures)
+    (subst (λ n. HoldsTask q n b back rows m) c.closed_below-closed.ensures
+    (task_held q n b back rows m c.has_windows.ensures.join (subst (λ l. HasParts q n (b.left + b.right + length back) b (back ++ l) m) all c.loop-i.invariant.parts)))

@@ -6,7 +6,7 @@ use Rattle.saber_rows.specs.LineFeeds.{end_of}
 use Rattle.saber_rows.specs.Reader.{reader_of, gone, end_behind}
 use Rattle.saber_rows.specs.Waiting.{rows_in}
 use Rattle.saber_rows.specs.Sound.{Sound}
-use Rattle.saber_rows.proofs.LineSteps.{holds}
+use Rattle.saber_rows.proofs.LineSteps.{holds, less_left}
 use Rattle.saber_rows.proofs.TakenRows.{accepted}
 use Rattle.saber_rows.proofs.HeldRows.{length-in_time}
 use Rattle.saber_rows.proofs.SoundRows.{no_end, sound_held}
@@ -42,3 +42,6 @@ returns-clause-gives c =
 
 pub returns-clause-place : goal.returns-clause-place
 returns-clause-place c = (refl, holds_none c.before)
+
+pub returns-clause-falls : goal.returns-clause-falls
+returns-clause-falls c = less_left c.args.self.now.max_lines c.args.self.now.lines (length (bytes_of c.consume.new.self)) (length (bytes_of c.args.self.now.held)) _ _ c.requires.counted

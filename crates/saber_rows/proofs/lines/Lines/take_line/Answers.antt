@@ -1,8 +1,6 @@
-use Rattle.std.proofs.Common.{ap, drop, ◌∙◌}
-use Rattle.saber_rows.specs.Buffer.{bytes_of}
 use Rattle.saber_rows.specs.Reader.{reader_of, end_behind}
 use Rattle.saber_rows.specs.LineFeeds.{end_of}
-use Rattle.saber_rows.proofs.LineSteps.{skips, refuses}
+use Rattle.saber_rows.proofs.LineSteps.{refuses}
 use Rattle.saber_rows.proofs.SoundRows.{no_end}
 use Rattle.saber_rows.proofs.lines.Lines.take_line.Goals as goal
 
@@ -11,8 +9,5 @@ returns-in-Ok-Refused-clause-gives c =
     refuses (reader_of c.args.self.now) (no_end c.args.self.now.over (end_behind c.args.self.now.side) c.requires.over) c.args.whole c.args.n (end_of c.args.n c.args.whole) c.requires.line c.requires.last c.in-Ok-Refused.cause
     (rw c.in-Ok-Refused.field-0-is at c.in-Ok-Refused.ensures.judged)
 
-pub returns-in-Ok-Skipped-clause-gives : goal.returns-in-Ok-Skipped-clause-gives
-returns-in-Ok-Skipped-clause-gives c =
-    skips (reader_of c.args.self.now) (no_end c.args.self.now.over (end_behind c.args.self.now.side) c.requires.over) c.args.whole c.args.n (end_of c.args.n c.args.whole) c.requires.line c.requires.last (bytes_of c.consume.new.self)
-    (c.consume.ensures ∙ ap (λ e. drop e (bytes_of c.args.self.now.held)) c.line_end.ensures)
-    (rw c.in-Ok-Skipped.field-0-is at c.in-Ok-Skipped.ensures.judged)
+pub skip_line-requires-clause-judged : goal.skip_line-requires-clause-judged
+skip_line-requires-clause-judged c = rw c.in-Ok-Skipped.field-0-is at c.in-Ok-Skipped.ensures.judged

@@ -1,0 +1,11 @@
+mod Divisors
+mod PaneMaps
+mod WorkedPanes
+mod PaneRows
+mod PaneWindows
+mod PanePoints
+mod PaneParts
+mod PaneCuts
+mod PaneFolding
+mod PaneMerging
+mod PaneRooms

@@ -1,0 +1,47 @@
+use Rattle.std.proofs.Common.{◌≡◌, [], ◌∷◌, sym, ◌∙◌, ap, subst, Some, None}
+use Rattle.std.proofs.lemmas.Result.{on_ok_weaker}
+use Rattle.std.specs.Option.{option_copied_mut}
+use Rattle.std.specs.FinMap.{get, insert}
+use Rattle.saber_plan.specs.Trees.{tree_of}
+use Rattle.saber_plan.specs.Merges.{joined}
+use Rattle.saber_plan.specs.Parts.{Part, group_part, merge}
+use Rattle.saber_partial.specs.Tallies.{CanMerge}
+use Rattle.saber_panes.specs.Panes.{seen_panes, or_none}
+use Rattle.saber_plan.specs.PartFacts.{merge-empty_left}
+use Rattle.saber_panes.proofs.PaneMaps.{pane_at, pane_written, pane_inserted}
+use Rattle.saber_panes.proofs.panes.Panes.add_row.Goals as goal
+
+pub add_row-requires-clause-room : goal.add_row-requires-clause-room
+add_row-requires-clause-room g c =
+    let row = group_part (tree_of c.args.plan.now) (c.args.row.now.values ∷ []) in
+    let here = pane_at c.args.pane c.self.inside.parts.entries (Some c.in-Some.mine.now) (sym c.get_mut.ensures.value ∙ ap option_copied_mut c.in-Some.is) in
+    subst (λ (p : Part). CanMerge p row) (ap or_none (ap (λ m. get m c.args.pane) (sym c.self.view_is) ∙ here)) c.requires.room
+
+pub of_row-requires-clause-room : goal.of_row-requires-clause-room
+of_row-requires-clause-room g c =
+    let row = group_part (tree_of c.args.plan.now) (c.args.row.now.values ∷ []) in
+    let here = pane_at c.args.pane c.self.inside.parts.entries None (sym c.get_mut.ensures.value ∙ ap option_copied_mut c.in-None.is) in
+    subst (λ (p : Part). CanMerge p row) (ap or_none (ap (λ m. get m c.args.pane) (sym c.self.view_is) ∙ here)) c.requires.room
+
+pub returns-in-Some-clause-ok : goal.returns-in-Some-clause-ok
+returns-in-Some-clause-ok g c =
+    let row = group_part (tree_of c.args.plan.now) (c.args.row.now.values ∷ []) in
+    let k = c.args.pane in
+    let es = c.self.inside.parts.entries in
+    let n = c.add_row.new.self in
+    let found = sym c.get_mut.ensures.value ∙ ap option_copied_mut c.in-Some.is in
+    let here = ap (λ m. get m k) (sym c.self.view_is) ∙ pane_at k es (Some c.in-Some.mine.now) found in
+    let new : seen_panes (c.get_mut.follows.lender n).entries ≡ insert c.args.self.now k n = ap seen_panes (c.get_mut.follows.holds n).0 ∙ pane_written k n c.in-Some.mine.now es found ∙ ap (λ m. insert m k n) c.self.view_is in
+    on_ok_weaker c.add_row.result (λ e. new ∙ ap (insert c.args.self.now k) (e ∙ sym (ap (λ o. joined merge o row) here))) c.add_row.ensures.ok
+
+pub returns-in_ok-insert-in-None-clause-ok : goal.returns-in_ok-insert-in-None-clause-ok
+returns-in_ok-insert-in-None-clause-ok g c =
+    let row = group_part (tree_of c.args.plan.now) (c.args.row.now.values ∷ []) in
+    let k = c.args.pane in
+    let es = c.self.inside.parts.entries in
+    let n = c.in_ok-part-in-None.part in
+    let found = sym c.get_mut.ensures.value ∙ ap option_copied_mut c.in-None.is in
+    let here : get c.args.self.now k ≡ None = ap (λ m. get m k) (sym c.self.view_is) ∙ pane_at k es None found in
+    let same : seen_panes c.get_mut.follows.lender-at-none.entries ≡ c.args.self.now = ap seen_panes (λ i. (c.get_mut.follows.holds-at-none i).entries) ∙ c.self.view_is in
+    let sum : n ≡ joined merge (get c.args.self.now k) row = c.in_ok-part-in-None.ensures.ok ∙ merge-empty_left row ∙ sym (ap (λ o. joined merge o row) here) in
+    ap seen_panes c.in_ok-insert-in-None.ensures.entries ∙ pane_inserted k n c.get_mut.follows.lender-at-none.entries ∙ ap (λ m. insert m k n) same ∙ ap (insert c.args.self.now k) sum

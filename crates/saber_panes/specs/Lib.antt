@@ -1,0 +1,2 @@
+pub mod Panes
+pub mod PaneLaws

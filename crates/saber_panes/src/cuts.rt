@@ -1,0 +1,181 @@
+// How a plan's points are cut into panes.
+ghost use Rattle.std.specs.Prelude.{◌≡◌, ◌≤◌, ◌^◌, ◌<◌, ◌+◌, []};
+ghost use Rattle.saber_plan.specs.declared.plans.Shape.TheVariants.{Group};
+ghost use Rattle.saber_plan.specs.Trees.{tree_of};
+ghost use Rattle.saber_plan.specs.Answers.{frame};
+ghost use Rattle.saber_plan.specs.Checked.{IsChecked, WindowFits};
+ghost use Rattle.saber_plan.specs.Given.{IsRowOf};
+ghost use Rattle.saber_plan.specs.Rows.{stamp};
+ghost use Rattle.saber_plan.specs.Values as v;
+ghost use Rattle.saber_plan.specs.Windows as w;
+ghost use Rattle.saber_plan.specs.Windows.{one};
+ghost use Rattle.saber_panes.specs.Panes.{divisor, first_pane, is_counted, pane_count, pane_of, point_by};
+
+use saber_eval::{holds, one_stream_fits};
+use saber_flat::RowRef;
+use saber_laws::groups_have_one_window;
+use saber_plan::{Mark, Measure, Plan, Window};
+use saber_window::{Windows, stamps_fit, step_mark};
+use std::marker::Model;
+
+// The greatest common divisor, by Euclid's steps.
+fn divisor(a: u64, b: u64) -> u64
+    ensures { result ≡ divisor a b }
+{
+    let mut x = a;
+    let mut y = b;
+    while y != 0 {
+        let rest = x % y;
+        x = y;
+        y = rest;
+    }
+    x
+}
+
+/// The window of a group query's stream.
+pub(crate) fn window_of(plan: &Plan) -> Window
+    requires checked { IsChecked (tree_of plan.now) }
+    requires group { (tree_of plan.now).shape ≡ Group }
+    ensures frame { frame (tree_of plan.now) ≡ one result.measure result.slide result.size }
+    ensures fits { WindowFits result }
+{
+    groups_have_one_window();
+    if let [stream, ..] = plan.streams() {
+        if let Some(window) = stream.window {
+            return window;
+        }
+    }
+    unreachable!()
+}
+
+/// How many points a pane has: the greatest common divisor of the window's size and slide.
+pub(crate) fn width_of(window: &Window) -> u64
+    requires { WindowFits window.now }
+    ensures width { result ≡ divisor window.now.size window.now.slide }
+    ensures some { 1 ≤ result }
+{
+    divisor(window.size, window.slide)
+}
+
+// The timestamp of a row; 0 where it has none.
+fn stamp(row: &RowRef) -> u64
+    ensures { result ≡ stamp row.now.values }
+{
+    match row.values().first() {
+        Some(time) => time.unsigned_abs(),
+        None => 0,
+    }
+}
+
+// What sizes and slides count of a row.
+fn point(measure: Measure, row: &RowRef, before: &Mark) -> u64
+    ensures { result ≡ point_by measure (record { row = row.now; before = before.now }) }
+{
+    match measure {
+        Measure::Rows => before.left,
+        Measure::Range => stamp(row),
+    }
+}
+
+/// A group query's windows and how its points are cut into panes, worked out once a call. Contracts
+/// see it as the plan.
+#[derive(Drop)]
+pub(crate) struct Cuts<'a> {
+    plan: &'a Plan,
+    windows: Windows,
+    window: Window,
+    width: u64,
+}
+
+impl<'a> Model for Cuts<'a> {
+    ghost use Rattle.std.specs.Prelude.{◌≡◌, ◌≤◌};
+    ghost use Rattle.saber_plan.specs.declared.plans.Shape.TheVariants as shapes;
+    ghost use Rattle.saber_plan.specs.declared.plans.Plan.{Plan};
+    ghost use Rattle.saber_plan.specs.Trees.{tree_of};
+    ghost use Rattle.saber_plan.specs.Checked.{IsChecked, WindowFits};
+    ghost use Rattle.saber_plan.specs.Windows.{one};
+    ghost use Rattle.saber_plan.specs.Answers.{frame};
+    ghost use Rattle.saber_plan.specs.contracts.predicates.Pred as e;
+    ghost use Rattle.std.specs.Coded.{codes};
+    ghost use Rattle.saber_panes.specs.Panes.{divisor, Cut};
+
+    ghost Value = { Plan };
+
+    ghost coded = { Prim.hlevel (codes, e.the_row.coded) };
+
+    ghost view = { λ c. c.plan.now };
+
+    ghost invariant = { λ c. Cut (tree_of c.plan.now) c.windows c.window c.width };
+}
+
+impl<'a> Cuts<'a> {
+    /// How this plan's rows are cut.
+    pub(crate) fn new(plan: &'a Plan) -> Cuts<'a>
+        requires checked { IsChecked (tree_of plan.now) }
+        requires group { (tree_of plan.now).shape ≡ Group }
+        ensures { result ≡ plan.now }
+    {
+        let window = window_of(plan);
+        Cuts {
+            plan,
+            windows: Windows::of_plan(plan),
+            window,
+            width: width_of(&window),
+        }
+    }
+
+    /// The pane of a row.
+    pub(crate) fn pane_of(&self, row: &RowRef, before: &Mark) -> u64
+        ensures { result ≡ pane_of (frame (tree_of self.now)) (record { row = row.now; before = before.now }) }
+    {
+        let _plan = &self.plan;
+        point(self.window.measure, row, before) / self.width
+    }
+
+    /// The first pane of a window, and the one behind its last.
+    pub(crate) fn panes_of(&self, i: u64) -> (u64, u64)
+        requires { first_pane (frame (tree_of self.now)) i + pane_count (frame (tree_of self.now)) < 2 ^ 64 }
+        ensures first { result.0 ≡ first_pane (frame (tree_of self.now)) i }
+        ensures past { result.1 ≡ first_pane (frame (tree_of self.now)) i + pane_count (frame (tree_of self.now)) }
+    {
+        let _plan = &self.plan;
+        let first = i * (self.window.slide / self.width);
+        (first, first + self.window.size / self.width)
+    }
+
+    // Whether a row passes WHERE.
+    fn passes(&self, row: &RowRef) -> bool
+        requires { IsRowOf (tree_of self.now) row.now }
+        ensures { result ≡ v.passes (tree_of self.now).predicate row.now.values [] }
+    {
+        groups_have_one_window();
+        one_stream_fits();
+        match self.plan.predicate() {
+            Some(predicate) => holds(predicate, row),
+            None => true,
+        }
+    }
+
+    /// Whether a row lies in a window and passes WHERE.
+    pub(crate) fn is_counted(&self, row: &RowRef, before: &Mark) -> bool
+        requires row { IsRowOf (tree_of self.now) row.now }
+        requires left { before.now.left ≤ 2 ^ 40 }
+        requires right { before.now.right ≤ 2 ^ 40 }
+        ensures { result ≡ is_counted (tree_of self.now) (record { row = row.now; before = before.now }) }
+    {
+        let _plan = &self.plan;
+        let (first, past) = self.windows.row_windows(row, before);
+        first < past && self.passes(row)
+    }
+
+    /// The mark after one more row.
+    pub(crate) fn step(&self, before: &Mark, row: &RowRef) -> Mark
+        requires row { IsRowOf (tree_of self.now) row.now }
+        requires left { before.now.left ≤ 2 ^ 40 }
+        requires right { before.now.right ≤ 2 ^ 40 }
+        ensures { result ≡ w.step_mark before.now row.now }
+    {
+        stamps_fit();
+        step_mark(before, row)
+    }
+}

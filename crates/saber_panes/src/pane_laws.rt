@@ -1,0 +1,53 @@
+// Laws of panes.
+ghost use Rattle.saber_panes.specs.PaneLaws.{DroppedPanesFit, DroppedPanesStay, PanesAreOfRows, PanesCanJoin, PanesJoin, RowsHaveRoom, WindowsArePanes, WindowsHaveRoom};
+
+use saber_laws::{groups_join, merge_has_unit, merge_is_associative, no_rows_no_part, rows_span};
+
+/// The panes of some rows and of the rows behind them are taken in one after the other, wherever rows
+/// are cut.
+pub fn panes_join()
+    ensures { PanesJoin }
+{
+    groups_join();
+}
+
+/// The merge of a window's panes is its part: what tasks keep by panes means what they keep by windows.
+pub fn windows_are_panes()
+    ensures { WindowsArePanes }
+{
+    groups_join();
+    merge_has_unit();
+    merge_is_associative();
+    no_rows_no_part();
+    rows_span();
+}
+
+/// Each pane of rows is a part over the rows that lie in it.
+pub fn panes_are_of_rows()
+    ensures { PanesAreOfRows }
+{}
+
+/// Panes of rows can take in those behind them, where there are at most 2^40 rows together.
+pub fn rows_have_room()
+    ensures { RowsHaveRoom }
+{}
+
+/// And the panes of these rows.
+pub fn panes_can_join()
+    ensures { PanesCanJoin }
+{}
+
+/// A window of panes of at most 2^40 rows can be merged into no part.
+pub fn windows_have_room()
+    ensures { WindowsHaveRoom }
+{}
+
+/// Panes that are dropped leave the others as they are.
+pub fn dropped_panes_fit()
+    ensures { DroppedPanesFit }
+{}
+
+/// They are of no window that begins behind them.
+pub fn dropped_panes_stay()
+    ensures { DroppedPanesStay }
+{}
