@@ -1,0 +1,5 @@
+mod InOrder
+mod PartFacts
+mod Back
+mod AllBehind
+mod PanesFrom

@@ -1,0 +1,18 @@
+use Rattle.std.proofs.Common.{◌++◌, sym, ◌∙◌, ap}
+use Rattle.saber_plan.specs.Windows.{no_rows}
+use Rattle.saber_operator_tests.proofs.groups.next_block.Goals as goal
+
+pub returns-clause-comes : goal.returns-clause-comes
+returns-clause-comes c q xs has stands fits =
+    let own = c.in_ok-own.ensures in
+    record {
+      before = own.before ∙ stands.mark;
+      earlier = c.earlier_of.ensures xs stands;
+      fits = own.fit q no_rows xs has stands.mark fits;
+    }
+
+pub returns-clause-stands : goal.returns-clause-stands
+returns-clause-stands c xs stands = record {
+  mark = c.in_ok-own.ensures.mark no_rows xs stands.mark;
+  last = record { front = xs; rows_are = ap (λ l. xs ++ l) (sym c.in_ok-rows.ensures); before_is = stands.mark };
+}

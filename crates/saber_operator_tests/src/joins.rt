@@ -1,0 +1,412 @@
+// Pairs of windows, worked out by hand. Rows have two columns: a time and a number, x of stream A and y of stream B.
+ghost use Rattle.std.specs.Prelude.{◌≡◌, ℕ, ◌∷◌, [], ◌++◌, IfOk, OnOk, false};
+ghost use Rattle.saber_plan.specs.declared.rows.Side.TheVariants as s;
+ghost use Rattle.saber_plan.specs.declared.predicates.Cmp.TheVariants as c;
+ghost use Rattle.saber_plan.specs.declared.plans.Item.TheVariants as i;
+ghost use Rattle.saber_plan.specs.declared.plans.Shape.TheVariants as h;
+ghost use Rattle.saber_plan.specs.Trees as t;
+ghost use Rattle.saber_plan.specs.Given.{RowsFit};
+ghost use Rattle.saber_plan.specs.Inputs.{Input, going_on};
+ghost use Rattle.saber_plan.specs.Answers.{frame};
+ghost use Rattle.saber_plan.specs.Windows.{Fits, mark_after, no_rows};
+ghost use Rattle.saber_fragment.specs.Drafts.{own_sight, fed, CanStart, IsSightOf};
+ghost use Rattle.saber_samples.specs.Asking.{IsJoinOf, one_column, only};
+ghost use Rattle.saber_samples.specs.Filling.{HasPairs};
+ghost use Rattle.saber_samples.specs.Standing.{ComesBehind, Keeps};
+
+use crate::texts::{assert_text, cut, sided_rows};
+use saber_cells::write_number;
+use saber_flat::Rows;
+use saber_fragment::{Block, Earlier, Operator, Parts, Piece};
+use saber_join::{Join, Pairs};
+use saber_laws::{
+    checked_fit, merge_has_unit, no_rows_give_nothing, open_goes_on, part_has_lines, parts_join,
+    parts_lie_within, shares_make_piece,
+};
+use saber_plan::{Cmp, Item, Mark, Measure, NoMemory, Plan, Pred, Shape, Side, Unit};
+use saber_samples::{all, column, sided_block, windowed};
+use std::alloc::Global;
+use std::process::Abort;
+use std::test::Fail;
+
+mod ties;
+
+const BEGINNING: Mark = Mark {
+    left: 0,
+    right: 0,
+    last: None,
+    ended: false,
+};
+
+// ---- queries
+
+// x < y
+fn rising(alloc: Global) -> Result<Pred, NoMemory>
+    ensures { IfOk result (λ p. t.tests_of p ≡ only (t.compare (one_column s.Left 1) c.Less (one_column s.Right 1))) }
+{
+    let left = column(alloc, Side::Left, 1)?;
+    let right = column(alloc, Side::Right, 1)?;
+    all(
+        alloc,
+        vec![in alloc; Unit::compare(left, Cmp::Less, right)]?,
+    )
+}
+
+// SELECT x, y
+fn both_numbers(alloc: Global) -> Result<Vec<Item>, NoMemory>
+    ensures { IfOk result (λ v. v.items ≡ i.Value (one_column s.Left 1) ∷ i.Value (one_column s.Right 1) ∷ []) }
+{
+    let x = Item::Value(column(alloc, Side::Left, 1)?);
+    let y = Item::Value(column(alloc, Side::Right, 1)?);
+    Ok(vec![in alloc; x, y]?)
+}
+
+// .. FROM A [RANGE 4 SLIDE 4], B [RANGE 4 SLIDE 4] WHERE x < y
+fn by_time(alloc: Global) -> Result<Plan, NoMemory>
+    ensures { IfOk result (IsJoinOf 2) }
+{
+    let left = windowed(2, Measure::Range, 4, 4);
+    let right = windowed(2, Measure::Range, 4, 4);
+    let streams = vec![in alloc; left, right]?;
+    let predicate = Some(rising(alloc)?);
+    let items = both_numbers(alloc)?;
+    Ok(Plan::new(Shape::Join, streams, items, Vec::new(alloc), predicate))
+}
+
+// .. FROM A [ROWS 2 SLIDE 1], B [ROWS 2 SLIDE 1]
+fn by_rows(alloc: Global) -> Result<Plan, NoMemory>
+    ensures { IfOk result (IsJoinOf 2) }
+{
+    let left = windowed(2, Measure::Rows, 2, 1);
+    let right = windowed(2, Measure::Rows, 2, 1);
+    let streams = vec![in alloc; left, right]?;
+    let items = both_numbers(alloc)?;
+    Ok(Plan::new(Shape::Join, streams, items, Vec::new(alloc), None))
+}
+
+// .. FROM A [ROWS 2 SLIDE 2], B [ROWS 1 SLIDE 2]
+fn sizes_by_rows(alloc: Global) -> Result<Plan, NoMemory>
+    ensures { IfOk result (IsJoinOf 2) }
+{
+    let left = windowed(2, Measure::Rows, 2, 2);
+    let right = windowed(2, Measure::Rows, 1, 2);
+    let streams = vec![in alloc; left, right]?;
+    let items = both_numbers(alloc)?;
+    Ok(Plan::new(Shape::Join, streams, items, Vec::new(alloc), None))
+}
+
+// .. FROM A [RANGE 4 SLIDE 4], B [RANGE 2 SLIDE 4]
+fn sizes_by_time(alloc: Global) -> Result<Plan, NoMemory>
+    ensures { IfOk result (IsJoinOf 2) }
+{
+    let left = windowed(2, Measure::Range, 4, 4);
+    let right = windowed(2, Measure::Range, 2, 4);
+    let streams = vec![in alloc; left, right]?;
+    let items = both_numbers(alloc)?;
+    Ok(Plan::new(Shape::Join, streams, items, Vec::new(alloc), None))
+}
+
+// ---- what one task gives
+
+// The piece of a task that looks back on two blocks.
+fn piece<O: Operator>(
+    alloc: Global,
+    operator: &O,
+    one: &Block,
+    two: &Block,
+    own: &Block,
+) -> Result<O::Piece, NoMemory>
+    requires starts { CanStart (O.plan operator.now) own.now }
+    requires fits { RowsFit (O.plan operator.now) one.now.before ((one.now.rows ++ two.now.rows) ++ own.now.rows) }
+    requires goes_on { two.now.before ≡ mark_after one.now.before one.now.rows }
+    requires meets { own.now.before ≡ mark_after one.now.before (one.now.rows ++ two.now.rows) }
+    ensures { IfOk result (λ p. (r : Input) (x y : ℕ)
+        → IsSightOf (O.plan operator.now) (fed (fed (own_sight own.now) one.now) two.now) r x y → O.is_of operator.now p r x y) }
+{
+    let mut draft = operator.start(alloc, own)?;
+    operator.feed(alloc, &mut draft, one)?;
+    operator.feed(alloc, &mut draft, two)?;
+    let piece = operator.finish(alloc, draft)?;
+    Ok(piece)
+}
+
+// The same for a join, of the rows of two blocks and of the task, which may be the flush task.
+fn piece_of(
+    alloc: Global,
+    plan: &Plan,
+    first: &[(Side, u32, i64)],
+    second: &[(Side, u32, i64)],
+    rows: &[(Side, u32, i64)],
+    ended: bool,
+) -> Result<Piece<Pairs>, NoMemory>
+    requires { IsJoinOf 2 plan.now }
+{
+    let (one, mark) = sided_block(alloc, 0, BEGINNING, first, false)?;
+    let (two, mark) = sided_block(alloc, 1, mark, second, false)?;
+    let (own, _) = sided_block(alloc, 2, mark, rows, ended)?;
+    piece(alloc, &Join::new(plan), &one, &two, &own)
+}
+
+// The numbers of the windows that have pairs, and a bar.
+fn write_windows(parts: Parts<Pairs>, out: &mut Vec<u8>) -> Result<(), NoMemory> {
+    for (window, _pairs) in parts.into_vec() {
+        write_number(out, i128::from(window))?;
+        out.push(b' ')?;
+    }
+    out.push(b'|')?;
+    Ok(())
+}
+
+// The windows that a task closes, that it goes on with and that it begins, the text of those that lie whole in it, and how many are
+// closed behind it.
+fn shown(alloc: Global, piece: Piece<Pairs>) -> Result<Vec<u8>, NoMemory> {
+    let mut out = Vec::new(alloc);
+    write_windows(piece.closing, &mut out)?;
+    write_windows(piece.pending, &mut out)?;
+    write_windows(piece.opening, &mut out)?;
+    out.extend_from_slice(piece.complete_text.as_slice())?;
+    out.push(b'|')?;
+    write_number(&mut out, i128::from(piece.closed_below))?;
+    Ok(out)
+}
+
+// Two blocks, the task and what it gives: `A,0,5 / B,0,7 / A,1,9 = |0 |||0`. The flush task, which has no rows, is `end`.
+fn check_piece(rt: &impl Abort, alloc: Global, plan: &Plan, line: &str) -> Result<(), NoMemory>
+    requires { IsJoinOf 2 plan.now }
+{
+    let (given, wanted) = cut(rt, line, '=');
+    let (one, rest) = cut(rt, given, '/');
+    let (two, own) = cut(rt, rest, '/');
+    let ended = own.trim() == "end";
+    let one = sided_rows(rt, alloc, one)?;
+    let two = sided_rows(rt, alloc, two)?;
+    let own = sided_rows(rt, alloc, if ended { "" } else { own })?;
+    let piece = piece_of(alloc, plan, &one, &two, &own, ended)?;
+    assert_text(rt, shown(alloc, piece)?, wanted.trim());
+    Ok(())
+}
+
+fn check_pieces(rt: &impl Abort, alloc: Global, plan: &Plan, lines: &str) -> Result<(), NoMemory>
+    requires { IsJoinOf 2 plan.now }
+{
+    for line in lines.lines() {
+        check_piece(rt, alloc, plan, line)?;
+    }
+    Ok(())
+}
+
+// ---- tasks, one after another
+
+// Takes in the task of this block, which looks back on all rows before it.
+fn give<O: Operator>(
+    alloc: Global,
+    operator: &O,
+    behind: &Block,
+    own: &Block,
+    store: &mut O::Store,
+    out: &mut Vec<u8>,
+) -> Result<(), NoMemory>
+    requires windows { Fits (frame (O.plan operator.now)) }
+    requires join { (O.plan operator.now).shape ≡ h.Join }
+    requires first { behind.now.before ≡ no_rows }
+    requires next { ComesBehind (O.plan operator.now) own.now behind.now.rows }
+    requires kept { Keeps (O.plan operator.now) (O.held store.old) (O.has_taken operator.now store.old) (going_on behind.now.rows) }
+    ensures { OnOk result (own.now.ended ≡ false
+        → Keeps (O.plan operator.now) (O.held store.new) (O.has_taken operator.now store.new) (going_on (behind.now.rows ++ own.now.rows))) }
+{
+    merge_has_unit();
+    open_goes_on();
+    part_has_lines();
+    parts_join();
+    parts_lie_within();
+    shares_make_piece();
+    let none = Block {
+        number: 1,
+        first: 0,
+        earlier: Earlier::none(alloc, own.before),
+        before: own.before,
+        rows: Rows::new(alloc),
+        ended: false,
+    };
+    let piece = piece(alloc, operator, behind, &none, own)?;
+    operator.take_in(alloc, store, piece, out)?;
+    operator.drop_closed(store);
+    Ok(())
+}
+
+// The text of these tasks and, behind a bar, what the flush task adds: the windows that they leave open. A store that kept the parts of
+// closed windows would write them again.
+fn answer<O: Operator>(
+    rt: &impl Abort,
+    alloc: Global,
+    operator: &O,
+    tasks: &str,
+) -> Result<Vec<u8>, NoMemory>
+    requires windows { Fits (frame (O.plan operator.now)) }
+    requires join { (O.plan operator.now).shape ≡ h.Join }
+    requires columns { HasPairs (O.plan operator.now) }
+{
+    no_rows_give_nothing();
+    let mut mark = BEGINNING;
+    let mut behind = Block {
+        number: 0,
+        first: 0,
+        earlier: Earlier::none(alloc, mark),
+        before: mark,
+        rows: Rows::new(alloc),
+        ended: false,
+    };
+    let mut store = operator.empty_store(alloc);
+    let mut out = Vec::new(alloc);
+    for task in tasks.split('|') {
+        let table = sided_rows(rt, alloc, task)?;
+        let (own, after) = sided_block(alloc, 2, mark, &table, false)?;
+        give(alloc, operator, &behind, &own, &mut store, &mut out)?;
+        behind.rows.extend(&own.rows)?;
+        mark = after;
+    }
+    out.push(b'|')?;
+    let (own, _after) = sided_block(alloc, 2, mark, &[], true)?;
+    give(alloc, operator, &behind, &own, &mut store, &mut out)?;
+    Ok(out)
+}
+
+// Tasks, and their text: `A,0,5 | B,0,7 = |0,5,7;`.
+fn check_answer(rt: &impl Abort, alloc: Global, plan: &Plan, line: &str) -> Result<(), NoMemory>
+    requires { IsJoinOf 2 plan.now }
+{
+    checked_fit();
+    let (tasks, wanted) = cut(rt, line, '=');
+    let out = answer(rt, alloc, &Join::new(plan), tasks)?;
+    assert_text(rt, out, wanted.trim());
+    Ok(())
+}
+
+fn check_answers(rt: &impl Abort, alloc: Global, plan: &Plan, lines: &str) -> Result<(), NoMemory>
+    requires { IsJoinOf 2 plan.now }
+{
+    for line in lines.lines() {
+        check_answer(rt, alloc, plan, line)?;
+    }
+    Ok(())
+}
+
+// What single tasks of a query give, and what is written for tasks of one row, of two and of all.
+fn check_plan(
+    rt: &impl Abort,
+    alloc: Global,
+    plan: &Plan,
+    pieces: &str,
+    answers: &str,
+) -> Result<(), NoMemory>
+    requires { IsJoinOf 2 plan.now }
+{
+    check_pieces(rt, alloc, plan, pieces)?;
+    check_answers(rt, alloc, plan, answers)
+}
+
+// ---- by time
+
+// One task of all rows; tasks of two rows, each of which looks back on the rows before it and finds the pairs of its own alone; the flush
+// task behind all rows, which gives no part and no line, and closes the window that stood open; and rows that leave a gap of a thousand
+// million windows.
+const PIECES_BY_TIME: &str = "\
+/ / A,0,5 B,0,7 A,1,9 B,3,6 A,4,1 B,8,0 = |||0,5,7;0,5,6;|2
+/ / A,0,5 B,0,7 = ||0 ||0
+A,0,5 B,0,7 / / A,1,9 B,3,6 = |0 |||0
+A,0,5 B,0,7 / A,1,9 B,3,6 / A,4,1 B,8,0 = ||||2
+A,0,5 B,0,7 / A,1,9 B,3,6 A,4,1 B,8,0 / end = ||||3
+/ / A,0,-3 B,1,9223372036854775807 A,4294967294,-9223372036854775808 B,4294967294,0 \
+= ||1073741823 |0,-3,9223372036854775807;|1073741823";
+
+const ANSWERS_BY_TIME: &str = "\
+A,0,5 | B,0,7 | A,1,9 | B,3,6 | A,4,1 | B,8,0 = 0,5,7;0,5,6;|
+A,0,5 B,0,7 | A,1,9 B,3,6 | A,4,1 B,8,0 = 0,5,7;0,5,6;|
+A,0,5 B,0,7 A,1,9 B,3,6 A,4,1 B,8,0 = 0,5,7;0,5,6;|
+A,0,-3 B,1,9223372036854775807 A,4294967294,-9223372036854775808 B,4294967294,0 \
+= 0,-3,9223372036854775807;|1073741823,-9223372036854775808,0;";
+
+#[test]
+fn windows_by_time(rt: HostRuntime) -> Result<(), Fail> {
+    let plan = by_time(rt.alloc())?;
+    let checked = check_plan(&rt, rt.alloc(), &plan, PIECES_BY_TIME, ANSWERS_BY_TIME);
+    plan.let_go();
+    checked?;
+    Ok(())
+}
+
+// Four seconds on the left and two on the right, every four: time 3 lies behind window 0's right rows, but only time 4 closes it. Right
+// row 6, of time 3, lies in no window.
+const PIECES_OF_SIZES_BY_TIME: &str = "\
+/ / A,0,5 B,0,7 A,1,9 B,3,6 A,4,1 B,8,0 = |||0,5,7;0,9,7;|2
+/ / A,0,5 B,0,7 = ||0 ||0
+A,0,5 B,0,7 / / A,1,9 B,3,6 = |0 |||0
+A,0,5 B,0,7 / A,1,9 B,3,6 / A,4,1 B,8,0 = ||||2";
+
+const ANSWERS_OF_SIZES_BY_TIME: &str = "\
+A,0,5 | B,0,7 | A,1,9 | B,3,6 | A,4,1 | B,8,0 = 0,5,7;0,9,7;|
+A,0,5 B,0,7 | A,1,9 B,3,6 | A,4,1 B,8,0 = 0,5,7;0,9,7;|
+A,0,5 B,0,7 A,1,9 B,3,6 A,4,1 B,8,0 = 0,5,7;0,9,7;|";
+
+#[test]
+fn windows_of_two_sizes_by_time(rt: HostRuntime) -> Result<(), Fail> {
+    let plan = sizes_by_time(rt.alloc())?;
+    let checked = check_plan(
+        &rt,
+        rt.alloc(),
+        &plan,
+        PIECES_OF_SIZES_BY_TIME,
+        ANSWERS_OF_SIZES_BY_TIME,
+    );
+    plan.let_go();
+    checked?;
+    Ok(())
+}
+
+// ---- by rows
+
+// A window's pairs stand by the left row, then by the right one, whatever came first. Window 1 has the second row of either side.
+const PIECES_BY_ROWS: &str = "/ / A,0,1 A,0,2 B,0,7 B,0,8 = ||1 |0,1,7;0,1,8;0,2,7;0,2,8;|1";
+
+const ANSWERS_BY_ROWS: &str = "\
+A,0,5 | B,0,7 | A,1,9 | B,3,6 | A,4,1 | B,8,0 = 0,5,7;0,5,6;0,9,7;0,9,6;1,9,6;1,9,0;1,1,6;1,1,0;|2,1,0;
+A,0,5 B,0,7 | A,1,9 B,3,6 | A,4,1 B,8,0 = 0,5,7;0,5,6;0,9,7;0,9,6;1,9,6;1,9,0;1,1,6;1,1,0;|2,1,0;
+A,0,5 B,0,7 A,1,9 B,3,6 A,4,1 B,8,0 = 0,5,7;0,5,6;0,9,7;0,9,6;1,9,6;1,9,0;1,1,6;1,1,0;|2,1,0;
+A,0,1 A,0,2 B,0,7 B,0,8 = 0,1,7;0,1,8;0,2,7;0,2,8;|1,2,8;";
+
+#[test]
+fn windows_by_rows(rt: HostRuntime) -> Result<(), Fail> {
+    let plan = by_rows(rt.alloc())?;
+    let checked = check_plan(&rt, rt.alloc(), &plan, PIECES_BY_ROWS, ANSWERS_BY_ROWS);
+    plan.let_go();
+    checked?;
+    Ok(())
+}
+
+// Two left rows and one right row, every two. Window 0 has left rows 5 and 9 and right row 7, and window 1 left row 1 and right row 0.
+// The second row brings all of the right side, and only the third, the last of the left side, closes window 0.
+const PIECES_OF_SIZES_BY_ROWS: &str = "\
+/ / A,0,5 B,0,7 A,1,9 B,3,6 A,4,1 B,8,0 = ||1 |0,5,7;0,9,7;|1
+/ / A,0,5 B,0,7 = ||0 ||0
+A,0,5 B,0,7 / / A,1,9 B,3,6 = 0 ||||1
+A,0,5 B,0,7 / A,1,9 B,3,6 / A,4,1 B,8,0 = ||1 ||1";
+
+const ANSWERS_OF_SIZES_BY_ROWS: &str = "\
+A,0,5 | B,0,7 | A,1,9 | B,3,6 | A,4,1 | B,8,0 = 0,5,7;0,9,7;|1,1,0;
+A,0,5 B,0,7 | A,1,9 B,3,6 | A,4,1 B,8,0 = 0,5,7;0,9,7;|1,1,0;
+A,0,5 B,0,7 A,1,9 B,3,6 A,4,1 B,8,0 = 0,5,7;0,9,7;|1,1,0;";
+
+#[test]
+fn windows_of_two_sizes_by_rows(rt: HostRuntime) -> Result<(), Fail> {
+    let plan = sizes_by_rows(rt.alloc())?;
+    let checked = check_plan(
+        &rt,
+        rt.alloc(),
+        &plan,
+        PIECES_OF_SIZES_BY_ROWS,
+        ANSWERS_OF_SIZES_BY_ROWS,
+    );
+    plan.let_go();
+    checked?;
+    Ok(())
+}

@@ -1,0 +1,22 @@
+//! Tests of the operators and of what they stand on, by their public calls, in a crate of its own so that each of those is proved once.
+//! A table is one text, a line for each case: what is given, `=`, and what is wanted, which was worked out by hand from the rules.
+#![tactic(auto)]
+
+#[cfg(test)]
+mod groups;
+#[cfg(test)]
+mod joins;
+#[cfg(test)]
+mod panes;
+#[cfg(test)]
+mod parts;
+#[cfg(test)]
+mod plans;
+#[cfg(test)]
+mod selections;
+#[cfg(test)]
+mod texts;
+#[cfg(test)]
+mod values;
+#[cfg(test)]
+mod windows;
