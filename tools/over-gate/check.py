@@ -7,7 +7,7 @@ With `-o FILE.rlib` in place of `--allow-holes` and `--only` the crate is built,
 folder for the gate's by LIBS=NAME=FOLDER,.. in the environment. JOBS is the number of processes (2).
 """
 import os, subprocess, sys
-KIT = "/opt/rattle"
+KIT = os.path.dirname(subprocess.check_output(["rt", "doc"], text=True).strip())
 gate, tree, crate, words = os.path.abspath(sys.argv[1]), os.path.abspath(sys.argv[2]), sys.argv[3], sys.argv[4:]
 deps = {}
 for line in open(f"{tree}/crates.txt"):
