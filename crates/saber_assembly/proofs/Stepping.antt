@@ -3,12 +3,10 @@ use Rattle.std.proofs.Common.{◌≡◌, ◌≢◌, ℕ, ◌≤◌, ◌+◌, ◌
 use Rattle.saber_io.specs.Outside.{Rose, appended, AppendsPrefix}
 use Rattle.saber_plan.specs.Trees.{Tree}
 use Rattle.saber_plan.specs.Answers.{text}
-use Rattle.saber_plan.specs.Tasks.{upto, unclosed, cut, written_by, left_by, piece_between}
-use Rattle.saber_plan.specs.Shares.{Shares, piece_in, shares_between}
+use Rattle.saber_plan.specs.Tasks.{Kept, upto, kept_behind, cut, added}
 use Rattle.saber_plan.specs.Inputs.{Input, arrived}
 use Rattle.saber_laws.specs.Ends.{CutsRise}
-use Rattle.saber_laws.specs.Pieces.{TextGoesOn, OpenGoesOn}
-use Rattle.saber_laws.specs.Shares.{SharesMakePiece}
+use Rattle.saber_laws.specs.Pieces.{TextGoesOn}
 use Rattle.saber_assembly.specs.Stages.{StageView, Start, Tasks, IsCutOff, After, Keeps}
 use Rattle.saber_assembly.specs.declared.stage.State.TheVariants.{Running, SinkFailed, NoMemory}
 use Rattle.saber_assembly.specs.declared.stage.Absorbed.{Absorbed}
@@ -22,14 +20,14 @@ rose_since : (start old new : ℕ) → old ≡ start → min (old + 1) (2 ^ 64 -
 rose_since start old new h r = omega (arith, h, r)
 
 -- what the step made, and what the definitions say of it
-pub record Step (q : Tree) (old new : StageView) (result : Absorbed) (s : Shares) : Type 0 where
-  pub written : result ≡ Done → new.written ≡ appended old.written (written_by q old.parts (piece_in s))
-  pub left : result ≡ Done → new.parts ≡ left_by q old.parts (piece_in s)
+pub record Step (old new : StageView) (result : Absorbed) (more : List ℕ) (left : Kept) : Type 0 where
+  pub written : result ≡ Done → new.written ≡ appended old.written more
+  pub leaves : result ≡ Done → new.kept ≡ left
   pub rises : result ≡ Done → new.k ≡ old.k + 1
   pub stopped : result ≡ Stopped → new.state ≢ Running
   pub stays : result ≡ Stopped → new.k ≡ old.k
   pub runs : result ≡ Done → new.state ≡ Running
-  pub failed : new.state ≡ SinkFailed → AppendsPrefix old.written new.written (written_by q old.parts (piece_in s))
+  pub failed : new.state ≡ SinkFailed → AppendsPrefix old.written new.written more
   pub cause : new.state ≡ SinkFailed → Rose old.faults new.faults
   pub memory : new.state ≡ NoMemory → new.written ≡ old.written
   pub good : new.state ≢ SinkFailed → new.faults ≡ old.faults
@@ -43,45 +41,40 @@ stopped_if : (r : Absorbed) → (r ≡ Done → ⊥) → r ≡ Stopped
 stopped_if Done h = absurd (h refl)
 stopped_if Stopped h = refl
 
-module _ (cuts : CutsRise) (goes : TextGoesOn) (opens : OpenGoesOn) (make : SharesMakePiece) (q : Tree) (n : ℕ) (r : Input) (start : Start) (old new : StageView) (result : Absorbed)
-    (t : Tasks q n r) (a : After q n r start old Running) (h : Step q old new result (shares_between q r (cut n r old.k) (cut n r (old.k + 1)))) where
-  -- what the next task gives
-  abbrev s : Shares
-  s = shares_between q r (cut n r old.k) (cut n r (old.k + 1))
+module _ (cuts : CutsRise) (goes : TextGoesOn) (q : Tree) (n : ℕ) (r : Input) (start : Start) (old new : StageView) (result : Absorbed)
+    (t : Tasks q n r) (a : After q n r start old Running) (h : Step old new result (added q r (cut n r old.k) (cut n r (old.k + 1))) (kept_behind q (upto n r (old.k + 1)))) where
+  -- what the next task adds
+  abbrev adds : List ℕ
+  adds = added q r (cut n r old.k) (cut n r (old.k + 1))
 
   rises : cut n r old.k ≤ cut n r (old.k + 1)
   rises = cuts n r old.k (old.k + 1) (omega arith)
 
-  step_piece : piece_in s ≡ piece_between q r (cut n r old.k) (cut n r (old.k + 1))
-  step_piece = make q r (cut n r old.k) (cut n r (old.k + 1)) (record { fits = t.windows; ordered = t.fits.ordered; rises = rises })
-
-  step_text : text q (upto n r (old.k + 1)) ≡ text q (upto n r old.k) ++ written_by q old.parts (piece_in s)
+  step_text : text q (upto n r (old.k + 1)) ≡ text q (upto n r old.k) ++ adds
   step_text = goes q t.windows r (cut n r old.k) (cut n r (old.k + 1)) t.fits.ordered rises
-      ∙ sym (λ i. text q (upto n r old.k) ++ written_by q (a.1 i) (step_piece i))
 
   runs_on : new.state ≡ Running → After q n r start new Running
   runs_on run =
       let d : result ≡ Done = done_if result (λ z. h.stopped z run) in
       let k : new.k ≡ old.k + 1 = h.rises d in (
-        h.written d ∙ ap (λ o. appended o (written_by q old.parts (piece_in s))) a.0 ∙ appended_twice start.written (text q (upto n r old.k)) (written_by q old.parts (piece_in s)) ∙ ap (appended start.written) (sym step_text ∙ ap (λ j. text q (upto n r j)) (sym k)),
-        h.left d ∙ (λ i. left_by q (a.1 i) (step_piece i)) ∙ sym (opens q t.windows r (cut n r old.k) (cut n r (old.k + 1)) t.fits.ordered rises) ∙ ap (λ j. unclosed q (upto n r j)) (sym k),
+        h.written d ∙ ap (λ o. appended o adds) a.0 ∙ appended_twice start.written (text q (upto n r old.k)) adds ∙ ap (appended start.written) (sym step_text ∙ ap (λ j. text q (upto n r j)) (sym k)),
+        h.leaves d ∙ ap (λ j. kept_behind q (upto n r j)) (sym k),
         h.good (λ f. apart (sym run ∙ f)) ∙ a.2,
       )
     where
       apart : Running ≡ SinkFailed → ⊥
       apart e = cc
 
-  cut_off : new.k ≡ old.k → AppendsPrefix old.written new.written (written_by q old.parts (piece_in s)) → IsCutOff q n r new.k start.written new.written
+  cut_off : new.k ≡ old.k → AppendsPrefix old.written new.written adds → IsCutOff q n r new.k start.written new.written
   cut_off k p =
-      let w = written_by q old.parts (piece_in s) in
       subst (λ j. IsCutOff q n r j start.written new.written) (sym k) (record {
-        out = text q (upto n r old.k) ++ take p.0 w;
-        written_is = p.2 ∙ ap (λ o. appended o (take p.0 w)) a.0 ∙ appended_twice start.written (text q (upto n r old.k)) (take p.0 w);
+        out = text q (upto n r old.k) ++ take p.0 adds;
+        written_is = p.2 ∙ ap (λ o. appended o (take p.0 adds)) a.0 ∙ appended_twice start.written (text q (upto n r old.k)) (take p.0 adds);
         is_cut = record {
-          more = take p.0 w;
-          rest = drop p.0 w;
+          more = take p.0 adds;
+          rest = drop p.0 adds;
           out_is = refl;
-          next_is = step_text ∙ ap (λ l. text q (upto n r old.k) ++ l) (sym (take-append-drop p.0 w));
+          next_is = step_text ∙ ap (λ l. text q (upto n r old.k) ++ l) (sym (take-append-drop p.0 adds));
         };
       })
 

@@ -1,29 +1,28 @@
 -- The result stage as contracts see it, and where it stands after some tasks.
 use Rattle.std.specs.Prelude.{◌≡◌, ◌≤◌, ℕ, ◌+◌, List, ◌++◌, Option, IfSome}
 use Rattle.saber_io.specs.Outside.{Rose, appended, AppendsPrefix}
-use Rattle.saber_plan.specs.Inputs.{Input}
+use Rattle.saber_plan.specs.Inputs.{Input, arrived}
 use Rattle.saber_plan.specs.Trees.{Tree}
 use Rattle.saber_plan.specs.Answers.{text, frame}
 use Rattle.saber_plan.specs.Given.{RowsFit}
 use Rattle.saber_plan.specs.Windows.{Fits, no_rows}
-use Rattle.saber_plan.specs.Tasks.{Parts, cut, upto, unclosed, written_by, left_by}
-use Rattle.saber_plan.specs.Shares.{Shares, piece_in}
-use Rattle.saber_fragment.specs.Stores.{CanTakeIn, ByShares, TakesIn}
+use Rattle.saber_plan.specs.Tasks.{Kept, cut, upto, kept_behind, added}
+use Rattle.saber_fragment.specs.Stores.{CanTakeIn, OfArrivals, TakesIn}
 use Rattle.saber_assembly.specs.declared.stage.Stage.{Stage}
 use Rattle.saber_assembly.specs.declared.stage.State.{State}
 use Rattle.saber_assembly.specs.declared.stage.State.TheVariants.{Running, SinkFailed, NoMemory}
 
--- what the sink has written, where it tells, and its count of faults; the open parts; how many tasks are behind; and whether it goes on
+-- what the sink has written, where it tells, and its count of faults; what the store keeps; how many tasks are behind; and whether it goes on
 pub record StageView : Type 0 where
   pub written : Option (List ℕ)
   pub faults : ℕ
-  pub parts : Parts
+  pub kept : Kept
   pub k : ℕ
   pub state : State
 
 -- a stage, seen so, by what its operator holds in a store, and by what its sink has written and its faults
-abbrev pub seen : {S K : Type 0} → (S → Parts) → (K → Option (List ℕ)) → (K → ℕ) → Stage S K → StageView
-seen held written faults s = record { written = written s.sink; faults = faults s.sink; parts = held s.store; k = s.k; state = s.state }
+abbrev pub seen : {S K : Type 0} → (S → Kept) → (K → Option (List ℕ)) → (K → ℕ) → Stage S K → StageView
+seen held written faults s = record { written = written s.sink; faults = faults s.sink; kept = held s.store; k = s.k; state = s.state }
 
 -- an input that the plan can be given, cut into tasks of n rows
 pub record Tasks (q : Tree) (n : ℕ) (r : Input) : Type 0 where
@@ -49,10 +48,10 @@ pub record IsCutOff (q : Tree) (n : ℕ) (r : Input) (k : ℕ) (start written : 
   pub written_is : written ≡ appended start out
   pub is_cut : IsCut q n r k out
 
--- The stage has k tasks of n rows behind it: while it runs, the text of their rows is written and their open parts are kept;
+-- The stage has k tasks of n rows behind it: while it runs, the text of their rows is written, and what is to be kept of them is kept;
 -- where the sink failed, a prefix of the next task's text is out too, and the count of faults rose, which it else did not; where memory lacked, nothing more is out.
 abbrev pub After : Tree → ℕ → Input → Start → StageView → State → Type 0
-After q n r start s Running = (s.written ≡ appended start.written (text q (upto n r s.k))) × (s.parts ≡ unclosed q (upto n r s.k)) × (s.faults ≡ start.faults)
+After q n r start s Running = (s.written ≡ appended start.written (text q (upto n r s.k))) × (s.kept ≡ kept_behind q (upto n r s.k)) × (s.faults ≡ start.faults)
 After q n r start s SinkFailed = IsCutOff q n r s.k start.written s.written × Rose start.faults s.faults × (start.faults ≤ s.faults)
 After q n r start s NoMemory = (s.written ≡ appended start.written (text q (upto n r s.k))) × (s.faults ≡ start.faults)
 
@@ -65,48 +64,35 @@ pub record Keeps (q : Tree) (n : ℕ) (r : Input) (start : Start) (taken : Input
 abbrev pub IsPieceAt : ℕ → Input → ℕ → (Input → ℕ → ℕ → Type 0) → Type 0
 IsPieceAt n r k of = of r (cut n r k) (cut n r (k + 1))
 
-module _ (q : Tree) (held : Parts) (s : Shares) where
-  -- over these open parts, what a piece of such shares adds to the text went out
-  abbrev pub Writes : Option (List ℕ) → Option (List ℕ) → Type 0
-  Writes old new = new ≡ appended old (written_by q held (piece_in s))
-
-  -- a prefix of it did
-  abbrev pub WritesFront : Option (List ℕ) → Option (List ℕ) → Type 0
-  WritesFront old new = AppendsPrefix old new (written_by q held (piece_in s))
-
-  -- the parts are those that the piece leaves open
-  abbrev pub Leaves : Parts → Type 0
-  Leaves new = new ≡ left_by q held (piece_in s)
-
 -- ---- a step of the stage, from s to t, by what its operator tells of stores and pieces
 
-module _ {O S P : Type 0} (plan : O → Tree) (held : S → Parts) (taken : O → S → Input → Type 0) (is_of : O → P → Input → ℕ → ℕ → Type 0) (op : O) where
+module _ {O S P : Type 0} (plan : O → Tree) (held : S → Kept) (taken : O → S → Input → Type 0) (is_of : O → P → Input → ℕ → ℕ → Type 0) (op : O) where
   module _ {K : Type 0} where
     -- the piece follows what the store has taken in
     abbrev pub CanAbsorb : Stage S K → P → Type 0
     CanAbsorb s p = CanTakeIn (plan op) (held s.store) (taken op s.store) (is_of op p)
 
-    -- so it is with the shares of the piece's arrivals
-    abbrev BySharesOf : Stage S K → P → (Shares → Type 0) → Type 0
-    BySharesOf s p P = ByShares (plan op) (held s.store) (taken op s.store) (is_of op p) P
+    -- so it is with the piece's arrivals
+    abbrev Arrive : Stage S K → P → (Input → ℕ → ℕ → Type 0) → Type 0
+    Arrive s p P = OfArrivals (plan op) (held s.store) (taken op s.store) (is_of op p) P
 
-    -- the text that the piece adds went out
+    -- what the piece adds to the text went out
     abbrev pub AddsText : (K → Option (List ℕ)) → Stage S K → Stage S K → P → Type 0
-    AddsText written s t p = BySharesOf s p (λ a. Writes (plan op) (held s.store) a (written s.sink) (written t.sink))
+    AddsText written s t p = Arrive s p (λ r x y. written t.sink ≡ appended (written s.sink) (added (plan op) r x y))
 
     -- a prefix of it did
     abbrev pub AddsFront : (K → Option (List ℕ)) → Stage S K → Stage S K → P → Type 0
-    AddsFront written s t p = BySharesOf s p (λ a. WritesFront (plan op) (held s.store) a (written s.sink) (written t.sink))
+    AddsFront written s t p = Arrive s p (λ r x y. AppendsPrefix (written s.sink) (written t.sink) (added (plan op) r x y))
 
-    -- the parts that the piece leaves open are kept
-    abbrev pub LeavesOpen : Stage S K → Stage S K → P → Type 0
-    LeavesOpen s t p = BySharesOf s p (λ a. Leaves (plan op) (held s.store) a (held t.store))
+    -- what is to be kept behind the piece is kept
+    abbrev pub LeavesKept : Stage S K → Stage S K → P → Type 0
+    LeavesKept s t p = Arrive s p (λ r x y. held t.store ≡ kept_behind (plan op) (arrived r y))
 
     -- all up to the end of the piece is taken in then
     abbrev pub TakesPiece : Stage S K → Stage S K → P → Type 0
     TakesPiece s t p = TakesIn (plan op) (held s.store) (taken op s.store) (is_of op p) (taken op t.store)
 
-module _ {O S K : Type 0} (plan : O → Tree) (held : S → Parts) (taken : O → S → Input → Type 0) (written : K → Option (List ℕ)) (faults : K → ℕ) (op : O) where
+module _ {O S K : Type 0} (plan : O → Tree) (held : S → Kept) (taken : O → S → Input → Type 0) (written : K → Option (List ℕ)) (faults : K → ℕ) (op : O) where
   -- what a stage keeps of a run
   abbrev pub KeepsRun : ℕ → Input → Start → Stage S K → Type 0
   KeepsRun n r start s = Keeps (plan op) n r start (taken op s.store) (seen held written faults s)

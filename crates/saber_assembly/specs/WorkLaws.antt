@@ -8,7 +8,7 @@ use Rattle.std.proofs.Math.Nat.{mul-le-mul}
 use Rattle.saber_plan.specs.declared.rows.Row.{Row}
 use Rattle.saber_plan.specs.Inputs.{Input}
 use Rattle.saber_plan.specs.Trees.{Tree}
-use Rattle.saber_plan.specs.Tasks.{Parts, cut, upto, row_tasks, unclosed}
+use Rattle.saber_plan.specs.Tasks.{Kept, cut, upto, row_tasks, kept_behind}
 use Rattle.saber_plan.specs.Answers.{text}
 use Rattle.saber_plan.specs.Needs.{free, task_rows}
 use Rattle.saber_laws.proofs.TaskCutLaws.{upto-upto, cut_rises, rows_fit}
@@ -112,14 +112,14 @@ module _ (n : ℕ) (size : 1 ≤ n) (r r' : Input) (bs : List Row) (e : Bool) (d
 -- the piece of task k follows what a stage after k tasks has taken in
 pub follows : (q : Tree) (n : ℕ) (r : Input) (start : Start) (s : StageView) (taken : Input → Type 0) (of : Input → ℕ → ℕ → Type 0)
     → Tasks q n r → cut n r s.k ≤ cut n r (s.k + 1) → Keeps q n r start taken s → s.state ≡ Running → IsPieceAt n r s.k of
-    → Follows q s.parts taken of r (cut n r s.k) (cut n r (s.k + 1))
+    → Follows q s.kept taken of r (cut n r s.k) (cut n r (s.k + 1))
 follows q n r start s taken of t up kept run p =
     let a : After q n r start s Running = subst (After q n r start s) run kept.after in
     record {
       windows = t.windows;
       fits = t.fits;
       rises = up;
-      unclosed_is = a.1;
+      kept_is = a.1;
       taken_is = kept.taken_is run;
       of_is = p;
     }
@@ -161,7 +161,7 @@ module _ {O : Type 0} (plan : O → Tree) where
 
   -- ---- the stage
 
-  module _ {S K : Type 0} (held : S → Parts) (taken : O → S → Input → Type 0) (written : K → Option (List ℕ)) (faults : K → ℕ) where
+  module _ {S K : Type 0} (held : S → Kept) (taken : O → S → Input → Type 0) (written : K → Option (List ℕ)) (faults : K → ℕ) where
     -- what a stage that runs after k tasks keeps, it keeps by the rows of later tasks too
     pub keeps_on : (told : Told O) (k : ℕ) (s : Stage S K) → IsStageOf plan (seen held written faults) taken (first_tasks told k) k false s
         → Keeps (plan told.operator) told.size (input_of told) (start_of told) (taken told.operator s.store) (seen held written faults s)
@@ -169,7 +169,7 @@ module _ {O : Type 0} (plan : O → Tree) where
         let q = plan told.operator in let n = told.size in let r = input_of told in let v = seen held written faults s in
         let a : After q n (upto n r k) (start_of told) v Running = subst (After q n (upto n r k) (start_of told) v) (is.runs refl) is.keeps.after in
         let same : upto n (upto n r k) s.k ≡ upto n r s.k = upto-upto n r k s.k (subst (λ c. c ≤ k) (sym is.behind) (le_refl k)) in
-        let b : After q n r (start_of told) v Running = (a.0 ∙ ap (λ z. appended told.written (text q z)) same, a.1 ∙ ap (unclosed q) same, a.2) in
+        let b : After q n r (start_of told) v Running = (a.0 ∙ ap (λ z. appended told.written (text q z)) same, a.1 ∙ ap (kept_behind q) same, a.2) in
         record {
           after = subst (After q n r (start_of told) v) (sym (is.runs refl)) b;
           taken_is = λ run. subst (taken told.operator s.store) same (is.keeps.taken_is run);

@@ -5,10 +5,7 @@ ghost use Rattle.saber_io.specs.declared.outside.WriteFault.{WriteFault};
 
 use saber_fragment::Operator;
 use saber_io::{Pour, Sink, WriteFault};
-use saber_laws::{
-    cuts_rise, no_rows_give_nothing, no_tasks_no_rows, open_goes_on, shares_make_piece,
-    text_goes_on,
-};
+use saber_laws::{cuts_rise, no_rows_give_nothing, no_tasks_no_rows, text_goes_on};
 use std::alloc::Global;
 
 /// Whether a stage goes on, or why it stopped.
@@ -55,17 +52,17 @@ fn write_text<K: Sink>(sink: &mut K, text: &[u8]) -> Result<(), WriteFault>
 
 impl<S: Drop, K: Sink> Stage<S, K> {
     ghost use Rattle.std.specs.Prelude.{◌≡◌, ◌≢◌, ◌≤◌, ◌<◌, ◌^◌, ◌+◌, [], IfSome, IfNone};
-    ghost use Rattle.std.specs.FinMap.{empty};
     ghost use Rattle.saber_io.specs.Outside.{Rose};
+    ghost use Rattle.saber_plan.specs.Tasks.{nothing_kept};
     ghost use Rattle.saber_plan.specs.Inputs.{going_on};
-    ghost use Rattle.saber_assembly.specs.Stages.{CanAbsorb, AddsText, AddsFront, LeavesOpen, TakesPiece, BeginsRuns, KeepsRuns};
+    ghost use Rattle.saber_assembly.specs.Stages.{CanAbsorb, AddsText, AddsFront, LeavesKept, TakesPiece, BeginsRuns, KeepsRuns};
     ghost use Rattle.saber_assembly.specs.declared.stage.State.{State};
     ghost use Rattle.saber_assembly.specs.declared.stage.Absorbed.{Absorbed};
 
     /// A stage with no task behind it: of each run it keeps what stands before the first task. Takes no memory.
     pub fn new<O: Operator<Store = S>>(alloc: Global, operator: &O, sink: K) -> Stage<S, K>
         ensures sink { result.sink ≡ sink }
-        ensures parts { O.held result.store ≡ empty }
+        ensures kept { O.held result.store ≡ nothing_kept }
         ensures none { result.k ≡ 0 }
         ensures runs { result.state ≡ State.Running }
         ensures taken { O.has_taken operator.now result.store (going_on []) }
@@ -119,7 +116,7 @@ impl<S: Drop, K: Sink> Stage<S, K> {
         requires few { self.old.k < 2 ^ 62 }
         requires next { CanAbsorb O.plan O.held O.has_taken O.is_of operator.now self.old piece }
         ensures written { result ≡ Absorbed.Done → AddsText O.plan O.held O.has_taken O.is_of operator.now K.written self.old self.new piece }
-        ensures left { result ≡ Absorbed.Done → LeavesOpen O.plan O.held O.has_taken O.is_of operator.now self.old self.new piece }
+        ensures left { result ≡ Absorbed.Done → LeavesKept O.plan O.held O.has_taken O.is_of operator.now self.old self.new piece }
         ensures rises { result ≡ Absorbed.Done → self.new.k ≡ self.old.k + 1 }
         ensures runs { result ≡ Absorbed.Done → self.new.state ≡ State.Running }
         ensures taken { result ≡ Absorbed.Done → TakesPiece O.plan O.held O.has_taken O.is_of operator.now self.old self.new piece }
@@ -169,7 +166,7 @@ impl<S: Drop, K: Sink> Stage<S, K> {
 
         // The step of the definitions.
         ensures written { result ≡ Absorbed.Done → IfSome piece (λ p. AddsText O.plan O.held O.has_taken O.is_of operator.now K.written self.old self.new p) }
-        ensures left { result ≡ Absorbed.Done → IfSome piece (λ p. LeavesOpen O.plan O.held O.has_taken O.is_of operator.now self.old self.new p) }
+        ensures left { result ≡ Absorbed.Done → IfSome piece (λ p. LeavesKept O.plan O.held O.has_taken O.is_of operator.now self.old self.new p) }
         ensures rises { result ≡ Absorbed.Done → self.new.k ≡ self.old.k + 1 }
         ensures runs { result ≡ Absorbed.Done → self.new.state ≡ State.Running }
 
@@ -191,8 +188,6 @@ impl<S: Drop, K: Sink> Stage<S, K> {
     {
         cuts_rise();
         text_goes_on();
-        open_goes_on();
-        shares_make_piece();
         match piece {
             Some(piece) => self.absorb_piece(alloc, operator, piece),
             None => {
@@ -205,7 +200,7 @@ impl<S: Drop, K: Sink> Stage<S, K> {
 
 impl<S: Drop, K: Pour> Stage<S, K> {
     ghost use Rattle.std.specs.Prelude.{◌≡◌};
-    ghost use Rattle.saber_plan.specs.Tasks.{Parts};
+    ghost use Rattle.saber_plan.specs.Tasks.{Kept};
     ghost use Rattle.saber_assembly.specs.Stages.{seen};
 
     /// Has its sink let go of what that holds back. Nothing that is seen of the stage changes.
@@ -213,7 +208,7 @@ impl<S: Drop, K: Pour> Stage<S, K> {
         ensures store { self.new.store ≡ self.old.store }
         ensures tasks { self.new.k ≡ self.old.k }
         ensures state { self.new.state ≡ self.old.state }
-        ensures seen { (held : S → Parts) → seen held K.written K.faults self.new ≡ seen held K.written K.faults self.old }
+        ensures seen { (held : S → Kept) → seen held K.written K.faults self.new ≡ seen held K.written K.faults self.old }
     {
         self.sink.pour();
     }

@@ -138,7 +138,7 @@ nothing_given nothing none q fits n ring read = record {
     few = omega arith;
     all = λ e. cc;
     before = λ t e. cc;
-    answers = λ _. sym (nothing q fits).0 ∙ ap (text q) (sym (none n (run_input q false read)));
+    answers = λ _. sym (nothing q fits).text ∙ ap (text q) (sym (none n (run_input q false read)));
     cut = λ e. cc;
   };
 }

@@ -1,5 +1,5 @@
 -- Each fault of a query stands at one of its words.
-use Rattle.std.proofs.Common.{◌≡◌, ℕ, ◌+◌, ◌*◌, ◌<◌, ◌≤◌, List, [], ◌∷◌, ◌++◌, Contains, Option, Some, None, Bool, true, false, ◌&&◌, not, ◌==◌, take, refl, arith, is_some}
+use Rattle.std.proofs.Common.{◌≡◌, ℕ, ◌+◌, ◌*◌, ◌<◌, ◌≤◌, List, [], ◌∷◌, ◌++◌, Contains, Option, Some, None, Bool, true, false, ◌&&◌, ◌||◌, not, ◌==◌, take, refl, arith, is_some, option_and_then}
 use Rattle.std.specs.List.{AllByRecursion}
 use Rattle.std.specs.Option.{option_map_or}
 use Rattle.saber_query.specs.declared.fault.Cause.{Cause}
@@ -12,6 +12,8 @@ use Rattle.saber_query.specs.declared.tree.Term.{Term}
 use Rattle.saber_query.specs.declared.tree.Expr.{Expr}
 use Rattle.saber_query.specs.declared.tree.Item.{Item}
 use Rattle.saber_query.specs.declared.tree.Item.TheVariants.{Count, Sum, Min, Max, Value}
+use Rattle.saber_query.specs.declared.tree.Measure.{Measure}
+use Rattle.saber_query.specs.declared.tree.Measure.TheVariants.{Rows, Range, Partition}
 use Rattle.saber_query.specs.declared.tree.Window.{Window}
 use Rattle.saber_query.specs.declared.tree.Source.{Source}
 use Rattle.saber_query.specs.declared.tree.Keys.{Keys}
@@ -19,10 +21,10 @@ use Rattle.saber_query.specs.declared.tree.Decl.{Decl}
 use Rattle.saber_query.specs.Trees.{Query, Test, negated, enclosed, compare, Ands, no_more, and_also, Ors, no_other, or_else, Tests}
 use Rattle.saber_check.specs.declared.fault.Fault.{Fault}
 use Rattle.saber_check.specs.Least.{row, each}
-use Rattle.saber_check.specs.Widths.{name_width, second_width, column_width, factor_width, prod_width, term_width, expr_width, item_width, window_width, source_width, second_source_width, test_width, ands_width, ors_width, where_width, decl_width, group_width, span}
+use Rattle.saber_check.specs.Widths.{name_width, second_width, column_width, factor_width, prod_width, term_width, expr_width, item_width, measure_width, window_width, source_width, second_source_width, test_width, ands_width, ors_width, where_width, decl_width, group_width, span}
 use Rattle.saber_check.specs.Names.{names, decls, same, among, names_stream, is_declared, is_unknown_stream, is_unknown_column, is_ambiguous}
 use Rattle.saber_check.specs.Bounds.{within, factor_bound, product_bound, product_faults, sum_faults, too_wide, factors, prods, products}
-use Rattle.saber_check.specs.Faults.{column_faults, factor_faults, prod_faults, expr_faults, content_faults, item_faults, column_name_faults, decl_faults, window_faults, source_faults, second_faults, is_sum_wide, is_group, is_key, is_join, is_aggregate, is_out, most_windows, is_overlapping, among_columns, is_apart, is_selection, test_faults, ands_faults, ors_faults, tests_faults, key_faults, group_faults, keys, items, select_at, from_at, second_at, where_at, group_at, faults, width}
+use Rattle.saber_check.specs.Faults.{column_faults, factor_faults, prod_faults, expr_faults, content_faults, item_faults, column_name_faults, decl_faults, measure_faults, sizes_faults, window_faults, source_faults, second_faults, is_sum_wide, is_group, is_key, is_join, is_aggregate, is_out, most_windows, is_overlapping, has_windows, may_partition, measure_keys, partition_of, among_columns, is_apart, test_faults, ands_faults, ors_faults, tests_faults, key_faults, group_faults, keys, items, select_at, from_at, second_at, where_at, group_at, faults, width}
 use Rattle.saber_check.proofs.FirstLaws.{every}
 
 -- the faults stand before this word
@@ -49,11 +51,6 @@ more {m} {xs} n a r = record { all = every xs a.all }
 at_row : (n i : ℕ) (b : Bool) (c : Cause) → i < n → Before n (row b i c)
 at_row n i true c h = record { all = (h, tt) }
 at_row n i false c h = record { all = tt }
-
--- a row whose test asks for something that isn't there
-no_row : (n i : ℕ) (b : Bool) (c : Cause) → Before n (row (b && false) i c)
-no_row n i true c = nothing n
-no_row n i false c = nothing n
 
 -- parts one after the other, with a word between
 parts : {X : Type 0} (width : X → ℕ) (faults : ℕ → ℕ → X → List Fault) → ((k i : ℕ) (x : X) → Before (i + width x) (faults k i x)) → (k i n : ℕ) (xs : List X) → i + span width xs ≤ n + 1 → Before n (each width faults k i xs)
@@ -154,17 +151,40 @@ decl q k i d =
 
 -- ---- streams
 
-window : (most i : ℕ) (w : Window) → Before (i + 6) (window_faults most i w)
-unfolding window_faults
-window most i w = append (append (at_row (i + 6) (i + 2) (is_out w.size) cause.WindowRange (omega arith)) (at_row (i + 6) (i + 4) (is_out w.slide) cause.WindowRange (omega arith))) (at_row (i + 6) (i + 2) (is_overlapping most w) cause.Overlap (omega arith))
+key : (q : Query) (g : Keys) (k i : ℕ) (c : Column) → Before (i + column_width c) (key_faults q g k i c)
+unfolding key_faults
+key q g k i c =
+    let n = i + column_width c in
+    append (append (at_row n i (k == 8) cause.TooMany (omega arith)) (at_row n i (among_columns q c (take k (keys g))) cause.DuplicateName (omega arith))) (column q i c)
 
-windowed : (q : Query) (i : ℕ) (s : List ℕ) (o : Option Window) → Before (i + (1 + window_width o)) (row (not (is_declared q s)) i cause.UnknownStream ++ row (is_selection q && is_some o) (i + 1) cause.Shape ++ row (not (is_selection q) && not (is_some o)) i cause.Shape ++ option_map_or (window_faults (most_windows q) (i + 1)) o [])
+measure : (q : Query) (i : ℕ) (m : Measure) → Before (i + measure_width m) (measure_faults q i m)
+measure q i Rows = nothing (i + 1)
+measure q i Range = nothing (i + 1)
+measure q i (Partition g) = parts column_width (key_faults q g) (key q g) 0 (i + 2) (i + measure_width (Partition g)) (keys g) (omega arith)
+
+sizes : (most i : ℕ) (w : Window) → Before (i + 4) (sizes_faults most i w)
+sizes most i w =
+    let n = i + 4 in
+    append (append (at_row n i (is_out w.size) cause.WindowRange (omega arith)) (at_row n (i + 2) (is_out w.slide) cause.WindowRange (omega arith))) (at_row n i (is_overlapping most w) cause.Overlap (omega arith))
+
+window : (q : Query) (i : ℕ) (w : Window) → Before (i + (5 + measure_width w.measure)) (window_faults q i w)
+unfolding window_faults
+window q i w =
+    let n = i + (5 + measure_width w.measure) in
+    append (more n (measure q (i + 1) w.measure) (omega arith)) (more n (sizes (most_windows q) (i + 1 + measure_width w.measure) w) (omega arith))
+
+windowed : (q : Query) (i : ℕ) (s : List ℕ) (o : Option Window) →
+    Before (i + (1 + window_width o)) (row (not (is_declared q s)) i cause.UnknownStream ++ row (is_some o && not (has_windows q)) (i + 1) cause.Shape ++ row (has_windows q && not (is_some o)) i cause.Shape
+    ++ row (is_some (option_and_then (λ (w : Window). measure_keys w.measure) o) && not (may_partition q)) (i + 1) cause.Shape
+    ++ row (is_some q.word || is_some (option_and_then (λ (w : Window). measure_keys w.measure) o)) i cause.Shape ++ option_map_or (window_faults q (i + 1)) o [])
 windowed q i s None =
     let n = i + 1 in
-    append (append (append (at_row n i (not (is_declared q s)) cause.UnknownStream (omega arith)) (no_row n (i + 1) (is_selection q) cause.Shape)) (at_row n i (not (is_selection q) && true) cause.Shape (omega arith))) (nothing n)
+    append (append (append (append (append (at_row n i (not (is_declared q s)) cause.UnknownStream (omega arith)) (nothing n)) (at_row n i (has_windows q && true) cause.Shape (omega arith))) (nothing n))
+    (at_row n i (is_some q.word || false) cause.Shape (omega arith))) (nothing n)
 windowed q i s (Some w) =
-    let n = i + 7 in
-    append (append (append (at_row n i (not (is_declared q s)) cause.UnknownStream (omega arith)) (at_row n (i + 1) (is_selection q && is_some (Some w)) cause.Shape (omega arith))) (at_row n i (not (is_selection q) && not (is_some (Some w))) cause.Shape (omega arith))) (more n (window (most_windows q) (i + 1) w) (omega arith))
+    let n = i + (1 + (5 + measure_width w.measure)) in
+    append (append (append (append (append (at_row n i (not (is_declared q s)) cause.UnknownStream (omega arith)) (at_row n (i + 1) (not (has_windows q)) cause.Shape (omega arith))) (at_row n i (has_windows q && false) cause.Shape (omega arith)))
+    (at_row n (i + 1) (is_some (measure_keys w.measure) && not (may_partition q)) cause.Shape (omega arith))) (at_row n i (is_some q.word || is_some (measure_keys w.measure)) cause.Shape (omega arith))) (more n (window q (i + 1) w) (omega arith))
 
 source : (q : Query) (i : ℕ) (s : Source) → Before (i + source_width s) (source_faults q i s)
 unfolding source_faults
@@ -209,12 +229,6 @@ mutual
       append (append (more n (test q (i + 1) t) (omega arith)) (more n (ands q (i + 1 + test_width t) a) (omega arith))) (more n (ors q (i + 1 + test_width t + ands_width a) o) (omega arith))
 
 -- ---- the whole
-
-key : (q : Query) (g : Keys) (k i : ℕ) (c : Column) → Before (i + column_width c) (key_faults q g k i c)
-unfolding key_faults
-key q g k i c =
-    let n = i + column_width c in
-    append (append (at_row n i (k == 8) cause.TooMany (omega arith)) (at_row n i (among_columns q c (take k (keys g))) cause.DuplicateName (omega arith))) (column q i c)
 
 group : (q : Query) (i : ℕ) (o : Option Keys) → Before (i + group_width o) (option_map_or (group_faults q i) o [])
 unfolding group_faults

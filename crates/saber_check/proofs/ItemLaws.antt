@@ -1,5 +1,5 @@
 -- The items and the keys of a query without a fault fit its shape.
-use Rattle.std.proofs.Common.{◌≡◌, ℕ, suc, ◌+◌, ◌<◌, ◌≤◌, ◌⊎◌, inl, inr, List, [], ◌∷◌, length, map, take, Contains, Bool, true, false, ◌&&◌, ◌||◌, not, ◌==◌, Option, Some, None, is_some, if◌then◌else◌, nat_lt, ◌^◌, refl, sym, ap, ◌∙◌, subst, arith}
+use Rattle.std.proofs.Common.{◌≡◌, ℕ, zero, suc, ◌+◌, ◌<◌, ◌≤◌, ◌⊎◌, inl, inr, List, [], ◌∷◌, ◌++◌, length, map, take, Contains, Bool, true, false, ◌&&◌, ◌||◌, not, ◌==◌, Option, Some, None, is_some, if◌then◌else◌, nat_lt, ◌^◌, refl, sym, ap, ◌∙◌, subst, arith}
 use Rattle.std.specs.Option.{option_map_or}
 use Rattle.std.specs.List.{AllByRecursion}
 use Rattle.std.proofs.lemmas.List.{length-map}
@@ -27,8 +27,8 @@ use Rattle.saber_check.specs.Least.{each}
 use Rattle.saber_check.specs.Widths.{factor_width, prod_width, column_width, item_width}
 use Rattle.saber_check.specs.Names.{same, decls, declares}
 use Rattle.saber_check.specs.Bounds.{factors, prods, products, product_faults, sum_faults}
-use Rattle.saber_check.specs.Faults.{own_name, same_second, same_words, is_of_one, same_column, among_columns, column_faults, factor_faults, prod_faults, expr_faults, is_aggregate, any_aggregate, is_join, is_group, is_key, is_column_key, is_sum_wide, content_faults, item_faults, items, key_faults, group_faults, group_part_faults, keys}
-use Rattle.saber_check.specs.Plans.{is_left, place, plan_place, plan_side, plan_factor, plan_term, plan_expr, plan_item, plan_stream, plan_shape, plan_keys, streams}
+use Rattle.saber_check.specs.Faults.{own_name, same_second, same_words, is_of_one, same_column, among_columns, column_faults, factor_faults, prod_faults, expr_faults, is_aggregate, any_aggregate, is_join, is_group, is_key, is_listed, partition_of, is_column_key, is_sum_wide, content_faults, item_faults, items, key_faults, keys_faults, group_faults, group_part_faults, keys}
+use Rattle.saber_check.specs.Plans.{is_left, place, plan_place, plan_side, plan_factor, plan_term, plan_expr, plan_item, plan_stream, plan_shape, places, plan_keys, plan_partition, streams}
 use Rattle.saber_check.proofs.NoFaults.{before, row_and, rows_and, first_part, other_parts, few, is_true, neither, not_both, same_names}
 use Rattle.saber_check.proofs.ColumnLaws.{AreDeclared, Found, found, left_there, column_there}
 use Rattle.saber_check.proofs.BoundLaws.{expr_law}
@@ -110,12 +110,19 @@ pub record KeysLaw (q : Query) : Type 0 where
   pub few : length (plan_keys q) ≤ 8
   pub there : AllByRecursion (λ k. k < sides q Left) (plan_keys q)
 
-keys_of : (q : Query) (i : ℕ) (o : Option Keys) → AreDeclared q → option_map_or (group_faults q i) o [] ≡ [] → (length (option_map_or (λ (g : Keys). map (plan_place q) (keys g)) o []) ≤ 8) × AllByRecursion (λ k. k < sides q Left) (option_map_or (λ (g : Keys). map (plan_place q) (keys g)) o [])
+-- at most 8 columns, and those of the first stream
+abbrev pub PlacesFit : Query → List ℕ → Type 0
+PlacesFit q ks = (length ks ≤ 8) × AllByRecursion (λ k. k < sides q Left) ks
+
+pub places_fit : (q : Query) (g : Keys) (i : ℕ) → q.second ≡ None → AreDeclared q → keys_faults q g i ≡ [] → PlacesFit q (map (plan_place q) (keys g))
+places_fit q g i n d e = (omega (arith, few column_width (key_faults q g) 8 (ninth q g) 0 i (keys g) (omega arith) e, length-map (keys g) (plan_place q)), keys_there q g 0 i (keys g) n d e)
+
+keys_of : (q : Query) (i : ℕ) (o : Option Keys) → AreDeclared q → option_map_or (group_faults q i) o [] ≡ [] → PlacesFit q (places q o)
 unfolding group_faults
 keys_of q i None d e = (omega arith, tt)
 keys_of q i (Some g) d e =
-    let h = row_and (is_join q) i cause.Shape (each column_width (key_faults q g) 0 (i + 2) (keys g)) e in
-    (omega (arith, few column_width (key_faults q g) 8 (ninth q g) 0 (i + 2) (keys g) (omega arith) h.1, length-map (keys g) (plan_place q)), keys_there q g 0 (i + 2) (keys g) (no_second q.second h.0) d h.1)
+    let h = row_and (is_join q) i cause.Shape (keys_faults q g (i + 2)) e in
+    places_fit q g (i + 2) (no_second q.second h.0) d h.1
   where
     no_second : (o : Option Source) → is_some o ≡ false → o ≡ None
     no_second None e = refl
@@ -170,39 +177,58 @@ among_places q c (d ∷ ds) n e = elim (either (same_column q d c) (among_column
   | inr h ↦ behind_one (plan_place q d) (plan_place q c) (map (plan_place q) ds) (among_places q c ds n h)
 ]
 
-key_of : (q : Query) (c : Column) (o : Option Keys) → q.second ≡ None → option_map_or (λ (g : Keys). among_columns q c (keys g)) o false ≡ true → Contains (option_map_or (λ (g : Keys). map (plan_place q) (keys g)) o []) (plan_place q c)
-key_of q c None n e = cc
-key_of q c (Some g) n e = among_places q c (keys g) n e
+listed_place : (q : Query) (c : Column) (o : Option Keys) → q.second ≡ None → is_listed q c o ≡ true → Contains (places q o) (plan_place q c)
+listed_place q c None n e = cc
+listed_place q c (Some g) n e = among_places q c (keys g) n e
+
+in_front : (n : ℕ) (xs ys : List ℕ) → Contains xs n → Contains (xs ++ ys) n
+in_front n [] ys (k, h, e) = absurd (omega arith)
+in_front n (x ∷ xs) ys (zero, h, e) = (0, omega arith, e)
+in_front n (x ∷ xs) ys (suc k, h, e) = behind_one x n (xs ++ ys) (in_front n xs ys (k, omega arith, e))
+
+at_back : (n : ℕ) (xs ys : List ℕ) → Contains ys n → Contains (xs ++ ys) n
+at_back n [] ys h = h
+at_back n (x ∷ xs) ys h = behind_one x n (xs ++ ys) (at_back n xs ys h)
+
+-- the places of the columns that an item may be by itself
+abbrev pub all_keys : Query → List ℕ
+all_keys q = plan_keys q ++ plan_partition q
+
+key_of : (q : Query) (c : Column) → q.second ≡ None → (is_listed q c q.group || is_listed q c (partition_of q.from)) ≡ true → Contains (all_keys q) (plan_place q c)
+key_of q c n e = elim (either (is_listed q c q.group) (is_listed q c (partition_of q.from)) e) [
+  | inl h ↦ in_front (plan_place q c) (plan_keys q) (plan_partition q) (listed_place q c q.group n h)
+  | inr h ↦ at_back (plan_place q c) (plan_keys q) (plan_partition q) (listed_place q c (partition_of q.from) n h)
+]
 
 -- an expression that is one factor
-single : (q : Query) (x : Factor) (i : ℕ) → q.second ≡ None → AreDeclared q → is_column_key q x ≡ true → factor_faults q i x ≡ [] → IsKeyAmong (plan_keys q) (record { minus = false; factors = plan_factor q x ∷ [] } ∷ [])
+single : (q : Query) (x : Factor) (i : ℕ) → q.second ≡ None → AreDeclared q → is_column_key q x ≡ true → factor_faults q i x ≡ [] → IsKeyAmong (all_keys q) (record { minus = false; factors = plan_factor q x ∷ [] } ∷ [])
 unfolding factor_faults
 single q (f.Column c) i n d t e =
     let l = left_alone q c n (found q i c d e) in
-    (plan_place q c, ap (λ (s : Side). record { minus = false; factors = plan.Column s (plan_place q c) ∷ [] }) l.0, key_of q c q.group n t)
+    (plan_place q c, ap (λ (s : Side). record { minus = false; factors = plan.Column s (plan_place q c) ∷ [] }) l.0, key_of q c n t)
 single q (f.Number m) i n d t e = cc
 single q (f.Negative m) i n d t e = cc
 
-is_key_among : (q : Query) (i : ℕ) (e : Expr) → q.second ≡ None → AreDeclared q → is_key q e ≡ true → expr_faults q i e ≡ [] → IsKeyAmong (plan_keys q) (plan_expr q e)
+is_key_among : (q : Query) (i : ℕ) (e : Expr) → q.second ≡ None → AreDeclared q → is_key q e ≡ true → expr_faults q i e ≡ [] → IsKeyAmong (all_keys q) (plan_expr q e)
 unfolding expr_faults prod_faults
 is_key_among q i e n d t h =
     let a = both (length e.more == 0 && length e.first.more == 0) (is_column_key q e.first.first) t in
     let b = both (length e.more == 0) (length e.first.more == 0) a.0 in
     let p = first_part prod_width (λ k. prod_faults q) 0 i e.first (prods e.more) (before (each prod_width (λ k. prod_faults q) 0 i (products e)) (sum_faults 0 i (products e)) h) in
     let x = first_part factor_width (λ k. factor_faults q) 0 i e.first.first e.first.more (before (each factor_width (λ k. factor_faults q) 0 i (factors e.first)) (product_faults 1 i (factors e.first)) p) in
-    let P : List Term → List Factor → Type 0 = λ ts xs. IsKeyAmong (plan_keys q) (record { minus = false; factors = plan_factor q e.first.first ∷ map (plan_factor q) xs } ∷ map (plan_term q) ts) in
+    let P : List Term → List Factor → Type 0 = λ ts xs. IsKeyAmong (all_keys q) (record { minus = false; factors = plan_factor q e.first.first ∷ map (plan_factor q) xs } ∷ map (plan_term q) ts) in
     subst (λ ts. P ts e.first.more) (sym (empty e.more b.0)) (subst (P []) (sym (empty e.first.more b.1)) (single q e.first.first i n d a.1 x))
 
 -- ---- items
 
 -- a join's item
-joined : (q : Query) (k i : ℕ) (x : Item) → AreDeclared q → is_join q ≡ true → item_faults q k i x ≡ [] → ItemFits shape.Join (sides q) (plan_keys q) (plan_item q x)
+joined : (q : Query) (k i : ℕ) (x : Item) → AreDeclared q → is_join q ≡ true → item_faults q k i x ≡ [] → ItemFits shape.Join (sides q) (all_keys q) (plan_item q x)
 unfolding item_faults
 joined q k i x d j e =
     let h = rows_and (k == 32) (is_join q && is_aggregate x) i i cause.TooMany cause.Shape (content_faults q i x) e in
     by x (not_both (is_join q) (is_aggregate x) h.1 j) h.2
   where
-    by : (x : Item) → is_aggregate x ≡ false → content_faults q i x ≡ [] → ItemFits shape.Join (sides q) (plan_keys q) (plan_item q x)
+    by : (x : Item) → is_aggregate x ≡ false → content_faults q i x ≡ [] → ItemFits shape.Join (sides q) (all_keys q) (plan_item q x)
     by Count a c = cc
     by (Sum e) a c = cc
     by (Min e) a c = cc
@@ -210,11 +236,11 @@ joined q k i x d j e =
     by (Value e) a c = expr_fits q i e d (row_and (is_group q && not (is_key q e)) i cause.NotGrouped (expr_faults q i e) c).1
 
 -- a group query's item
-grouped : (q : Query) (k i : ℕ) (x : Item) → AreDeclared q → q.second ≡ None → is_group q ≡ true → item_faults q k i x ≡ [] → ItemFits shape.Group (sides q) (plan_keys q) (plan_item q x)
+grouped : (q : Query) (k i : ℕ) (x : Item) → AreDeclared q → q.second ≡ None → is_group q ≡ true → item_faults q k i x ≡ [] → ItemFits shape.Group (sides q) (all_keys q) (plan_item q x)
 unfolding item_faults
 grouped q k i x d n g e = by x (rows_and (k == 32) (is_join q && is_aggregate x) i i cause.TooMany cause.Shape (content_faults q i x) e).2
   where
-    by : (x : Item) → content_faults q i x ≡ [] → ItemFits shape.Group (sides q) (plan_keys q) (plan_item q x)
+    by : (x : Item) → content_faults q i x ≡ [] → ItemFits shape.Group (sides q) (all_keys q) (plan_item q x)
     by Count c = tt
     by (Sum e) c = let h = row_and (is_sum_wide e) i cause.SumTooWide (expr_faults q (i + 2) e) c in (expr_fits q (i + 2) e d h.1, sum_small q (i + 2) e h.1 h.0)
     by (Min e) c = expr_fits q (i + 2) e d c
@@ -224,26 +250,26 @@ grouped q k i x d n g e = by x (rows_and (k == 32) (is_join q && is_aggregate x)
         (expr_fits q i e d h.1, is_key_among q i e n d (is_true (is_key q e) (not_both (is_group q) (not (is_key q e)) h.0 g)) h.1)
 
 -- a selection's item
-selected : (q : Query) (k i : ℕ) (x : Item) → AreDeclared q → is_aggregate x ≡ false → item_faults q k i x ≡ [] → ItemFits shape.Select (sides q) (plan_keys q) (plan_item q x)
+selected : (q : Query) (k i : ℕ) (x : Item) → AreDeclared q → is_aggregate x ≡ false → item_faults q k i x ≡ [] → ItemFits shape.Select (sides q) (all_keys q) (plan_item q x)
 unfolding item_faults
 selected q k i x d a e = by x a (rows_and (k == 32) (is_join q && is_aggregate x) i i cause.TooMany cause.Shape (content_faults q i x) e).2
   where
-    by : (x : Item) → is_aggregate x ≡ false → content_faults q i x ≡ [] → ItemFits shape.Select (sides q) (plan_keys q) (plan_item q x)
+    by : (x : Item) → is_aggregate x ≡ false → content_faults q i x ≡ [] → ItemFits shape.Select (sides q) (all_keys q) (plan_item q x)
     by Count a c = cc
     by (Sum e) a c = cc
     by (Min e) a c = cc
     by (Max e) a c = cc
     by (Value e) a c = expr_fits q i e d (row_and (is_group q && not (is_key q e)) i cause.NotGrouped (expr_faults q i e) c).1
 
-all_joined : (q : Query) (k i : ℕ) (xs : List Item) → AreDeclared q → is_join q ≡ true → each item_width (item_faults q) k i xs ≡ [] → AllByRecursion (ItemFits shape.Join (sides q) (plan_keys q)) (map (plan_item q) xs)
+all_joined : (q : Query) (k i : ℕ) (xs : List Item) → AreDeclared q → is_join q ≡ true → each item_width (item_faults q) k i xs ≡ [] → AllByRecursion (ItemFits shape.Join (sides q) (all_keys q)) (map (plan_item q) xs)
 all_joined q k i [] d j e = tt
 all_joined q k i (x ∷ xs) d j e = (joined q k i x d j (first_part item_width (item_faults q) k i x xs e), all_joined q (k + 1) (i + item_width x + 1) xs d j (other_parts item_width (item_faults q) k i x xs e))
 
-all_grouped : (q : Query) (k i : ℕ) (xs : List Item) → AreDeclared q → q.second ≡ None → is_group q ≡ true → each item_width (item_faults q) k i xs ≡ [] → AllByRecursion (ItemFits shape.Group (sides q) (plan_keys q)) (map (plan_item q) xs)
+all_grouped : (q : Query) (k i : ℕ) (xs : List Item) → AreDeclared q → q.second ≡ None → is_group q ≡ true → each item_width (item_faults q) k i xs ≡ [] → AllByRecursion (ItemFits shape.Group (sides q) (all_keys q)) (map (plan_item q) xs)
 all_grouped q k i [] d n g e = tt
 all_grouped q k i (x ∷ xs) d n g e = (grouped q k i x d n g (first_part item_width (item_faults q) k i x xs e), all_grouped q (k + 1) (i + item_width x + 1) xs d n g (other_parts item_width (item_faults q) k i x xs e))
 
-all_selected : (q : Query) (k i : ℕ) (xs : List Item) → AreDeclared q → any_aggregate xs ≡ false → each item_width (item_faults q) k i xs ≡ [] → AllByRecursion (ItemFits shape.Select (sides q) (plan_keys q)) (map (plan_item q) xs)
+all_selected : (q : Query) (k i : ℕ) (xs : List Item) → AreDeclared q → any_aggregate xs ≡ false → each item_width (item_faults q) k i xs ≡ [] → AllByRecursion (ItemFits shape.Select (sides q) (all_keys q)) (map (plan_item q) xs)
 all_selected q k i [] d a e = tt
 all_selected q k i (x ∷ xs) d a e =
     let h = neither (is_aggregate x) (any_aggregate xs) a in
@@ -256,9 +282,9 @@ thirty_third q i x e = cc
 pub few_items : (q : Query) (i : ℕ) → each item_width (item_faults q) 0 i (items q) ≡ [] → length (map (plan_item q) (items q)) ≤ 32
 few_items q i e = omega (arith, few item_width (item_faults q) 32 (thirty_third q) 0 i (items q) (omega arith) e, length-map (items q) (plan_item q))
 
-pub items_fit : (q : Query) (i : ℕ) → AreDeclared q → each item_width (item_faults q) 0 i (items q) ≡ [] → AllByRecursion (ItemFits (plan_shape q) (sides q) (plan_keys q)) (map (plan_item q) (items q))
+pub items_fit : (q : Query) (i : ℕ) → AreDeclared q → each item_width (item_faults q) 0 i (items q) ≡ [] → AllByRecursion (ItemFits (plan_shape q) (sides q) (all_keys q)) (map (plan_item q) (items q))
 items_fit q i d e =
-    let P : Bool → Bool → Type 0 = λ j g. AllByRecursion (ItemFits (if j then shape.Join else (if g then shape.Group else shape.Select)) (sides q) (plan_keys q)) (map (plan_item q) (items q)) in
+    let P : Bool → Bool → Type 0 = λ j g. AllByRecursion (ItemFits (if j then shape.Join else (if g then shape.Group else shape.Select)) (sides q) (all_keys q)) (map (plan_item q) (items q)) in
     elim (q.second) as (λ (o : Option Source). q.second ≡ o → P (is_join q) (is_group q)) [
       | Some s ↦ λ h. let j : is_join q ≡ true = ap (λ (o : Option Source). is_some o) h in subst (λ b. P b (is_group q)) (sym j) (all_joined q 0 i (items q) d j e)
       | None ↦ λ h.

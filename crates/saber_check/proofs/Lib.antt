@@ -10,6 +10,7 @@ pub mod StreamLaws
 pub mod ColumnLaws
 pub mod BoundLaws
 pub mod ItemLaws
+pub mod PartitionLaws
 pub mod ConditionLaws
 pub mod CheckedLaws
 pub mod SettledLaws

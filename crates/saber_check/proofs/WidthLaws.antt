@@ -9,12 +9,15 @@ use Rattle.saber_query.specs.declared.tree.Term.{Term}
 use Rattle.saber_query.specs.declared.tree.Expr.{Expr}
 use Rattle.saber_query.specs.declared.tree.Item.{Item}
 use Rattle.saber_query.specs.declared.tree.Item.TheVariants.{Count, Sum, Min, Max, Value}
+use Rattle.saber_query.specs.declared.tree.Measure.{Measure}
+use Rattle.saber_query.specs.declared.tree.Measure.TheVariants.{Rows, Range, Partition}
 use Rattle.saber_query.specs.declared.tree.Window.{Window}
+use Rattle.saber_query.specs.declared.tree.StreamWord.{StreamWord}
 use Rattle.saber_query.specs.declared.tree.Source.{Source}
 use Rattle.saber_query.specs.declared.tree.Decl.{Decl}
 use Rattle.saber_query.specs.declared.tree.Keys.{Keys}
 use Rattle.saber_query.specs.Trees.{Test, negated, enclosed, compare, Ands, no_more, and_also, Ors, no_other, or_else, Tests, Query}
-use Rattle.saber_query.specs.declared.token.Token.TheVariants.{Mark, Word}
+use Rattle.saber_query.specs.declared.token.Token.TheVariants.{Mark, Word, Number}
 use Rattle.saber_query.specs.declared.token.Keyword.TheVariants as k
 use Rattle.saber_query.specs.declared.token.Sign.TheVariants as s
 use Rattle.saber_query.specs.Words as w
@@ -54,9 +57,17 @@ item_count (Min e) = omega (arith, length-append {A = Token}, expr_count e)
 item_count (Max e) = omega (arith, length-append {A = Token}, expr_count e)
 item_count (Value e) = expr_count e
 
+by_count : (g : Keys) → length (w.by_words g) ≡ 1 + (n.column_width g.first + n.span n.column_width g.more)
+by_count g = omega (arith, length-append (w.second_words g.first.second) (w.after_each (Mark s.Comma) w.column_words g.more), column_count g.first, each_count (Mark s.Comma) w.column_words n.column_width column_count g.more)
+
+measure_count : (m : Measure) → length (w.measure_words m) ≡ n.measure_width m
+measure_count Rows = refl
+measure_count Range = refl
+measure_count (Partition g) = omega (arith, length-append (w.by_words g) (Word k.Rows ∷ []), by_count g)
+
 window_count : (o : Option Window) → length (w.window_words o) ≡ n.window_width o
 window_count None = refl
-window_count (Some v) = refl
+window_count (Some v) = omega (arith, length-append (w.measure_words v.measure) (Number v.size ∷ Word k.Slide ∷ Number v.slide ∷ Mark s.CloseBracket ∷ []), measure_count v.measure)
 
 source_count : (x : Source) → length (w.source_words x) ≡ n.source_width x
 source_count x = omega (arith, window_count x.window)
@@ -85,7 +96,7 @@ where_count (Some t) = omega (arith, length-append {A = Token}, test_count t.fir
 
 group_count : (o : Option Keys) → length (w.group_words o) ≡ n.group_width o
 group_count None = refl
-group_count (Some g) = omega (arith, length-append (w.second_words g.first.second) (w.after_each (Mark s.Comma) w.column_words g.more), column_count g.first, each_count (Mark s.Comma) w.column_words n.column_width column_count g.more)
+group_count (Some g) = omega (arith, by_count g)
 
 name_count : (m : List ℕ) → length (w.name_words m) ≡ n.name_width m
 name_count m = refl
@@ -97,18 +108,26 @@ decls_count : (ds : List Decl) → length (w.decls_words ds) ≡ n.span n.decl_w
 decls_count [] = refl
 decls_count (d ∷ ds) = omega (arith, length-append (w.decl_words d) (w.decls_words ds), decl_count d, decls_count ds)
 
+opened_count : (o : Option StreamWord) → length (w.opened_words o) ≡ n.opened_width o
+opened_count None = refl
+opened_count (Some v) = refl
+
+shut_count : (o : Option StreamWord) → length (w.shut_words o) ≡ n.shut_width o
+shut_count None = refl
+shut_count (Some v) = refl
+
 closed_count : (b : Bool) → length (w.last_words b) ≡ closed_width b
 closed_count true = refl
 closed_count false = refl
 
-parts_count : (s t : Token) (a b i j f o p g l : List Token) (na nb ni nj nf nz np ng nl : ℕ) → length a ≡ na → length b ≡ nb → length i ≡ ni → length j ≡ nj → length f ≡ nf → length o ≡ nz → length p ≡ np → length g ≡ ng → length l ≡ nl →
-    length (a ++ (b ++ s ∷ (i ++ (j ++ t ∷ (f ++ (o ++ (p ++ (g ++ l)))))))) ≡ na + nb + 1 + ni + nj + 1 + nf + nz + np + ng + nl
-parts_count s t a b i j f o p g l na nb ni nj nf nz np ng nl ea eb ei ej ef eo ep eg el = simp length-append (omega (arith, ea, eb, ei, ej, ef, eo, ep, eg, el))
+parts_count : (s t : Token) (a b y i j f o p g z l : List Token) (na nb ny ni nj nf ns np ng nz nl : ℕ) → length a ≡ na → length b ≡ nb → length y ≡ ny → length i ≡ ni → length j ≡ nj → length f ≡ nf → length o ≡ ns → length p ≡ np → length g ≡ ng → length z ≡ nz → length l ≡ nl →
+    length (a ++ (b ++ (y ++ s ∷ (i ++ (j ++ t ∷ (f ++ (o ++ (p ++ (g ++ (z ++ l)))))))))) ≡ na + nb + ny + 1 + ni + nj + 1 + nf + ns + np + ng + nz + nl
+parts_count s t a b y i j f o p g z l na nb ny ni nj nf ns np ng nz nl ea eb ey ei ej ef eo ep eg ez el = simp length-append (omega (arith, ea, eb, ey, ei, ej, ef, eo, ep, eg, ez, el))
 
 -- a query has so many words
 pub words_count : (q : Query) → length (w.words q) ≡ width q
 words_count q =
-    let e : 1 + n.decl_width q.decl + n.span n.decl_width q.decls + 1 + n.item_width q.item + n.span n.item_width q.items + 1 + n.source_width q.from + n.second_source_width q.second + n.where_width q.predicate + n.group_width q.group + closed_width q.closed ≡ width q = omega arith in
-    parts_count (Word k.Select) (Word k.From) (w.decl_words q.decl) (w.decls_words q.decls) (w.item_words q.item) (w.items_words q.items) (w.source_words q.from) (w.second_source_words q.second) (w.where_words q.predicate) (w.group_words q.group) (w.last_words q.closed) _ _ _ _ _ _ _ _ _
-    (decl_count q.decl) (decls_count q.decls) (item_count q.item) (each_count (Mark s.Comma) w.item_words n.item_width item_count q.items) (source_count q.from) (second_source_count q.second) (where_count q.predicate) (group_count q.group) (closed_count q.closed)
+    let e : 1 + n.decl_width q.decl + n.span n.decl_width q.decls + n.opened_width q.word + 1 + n.item_width q.item + n.span n.item_width q.items + 1 + n.source_width q.from + n.second_source_width q.second + n.where_width q.predicate + n.group_width q.group + n.shut_width q.word + closed_width q.closed ≡ width q = omega arith in
+    parts_count (Word k.Select) (Word k.From) (w.decl_words q.decl) (w.decls_words q.decls) (w.opened_words q.word) (w.item_words q.item) (w.items_words q.items) (w.source_words q.from) (w.second_source_words q.second) (w.where_words q.predicate) (w.group_words q.group) (w.shut_words q.word) (w.last_words q.closed) _ _ _ _ _ _ _ _ _ _ _
+    (decl_count q.decl) (decls_count q.decls) (opened_count q.word) (item_count q.item) (each_count (Mark s.Comma) w.item_words n.item_width item_count q.items) (source_count q.from) (second_source_count q.second) (where_count q.predicate) (group_count q.group) (shut_count q.word) (closed_count q.closed)
     ∙ e

@@ -1,7 +1,7 @@
 -- What is wrong with a query whose words are right: each fault with the index of the word where it stands (this project's
 -- rules on queries). Each table below is a list of rows; a row is a test, a place and a cause. In each, i is the index of
 -- the part's first word, and k counts the parts of its kind before it.
-use Rattle.std.specs.Prelude.{if◌then◌else◌, ℕ, ◌+◌, ◌^◌, ◌==◌, List, [], ◌∷◌, ◌++◌, length, take, Bool, true, false, not, ◌&&◌, ◌||◌, nat_lt, Option, Some, None, is_some}
+use Rattle.std.specs.Prelude.{if◌then◌else◌, ℕ, ◌+◌, ◌^◌, ◌==◌, List, [], ◌∷◌, ◌++◌, length, take, Bool, true, false, not, ◌&&◌, ◌||◌, nat_lt, Option, Some, None, is_some, option_and_then}
 use Rattle.std.specs.Option.{option_map_or}
 use Rattle.saber_plan.specs.Checked.{most_overlap, most_overlap_joined}
 use Rattle.saber_plan.specs.Overlap.{overlap}
@@ -13,7 +13,7 @@ use Rattle.saber_query.specs.declared.tree.Expr.{Expr}
 use Rattle.saber_query.specs.declared.tree.Item.{Item}
 use Rattle.saber_query.specs.declared.tree.Item.TheVariants.{Count, Sum, Min, Max, Value}
 use Rattle.saber_query.specs.declared.tree.Measure.{Measure}
-use Rattle.saber_query.specs.declared.tree.Measure.TheVariants.{Rows, Range}
+use Rattle.saber_query.specs.declared.tree.Measure.TheVariants.{Rows, Range, Partition}
 use Rattle.saber_query.specs.declared.tree.Window.{Window}
 use Rattle.saber_query.specs.declared.tree.Source.{Source}
 use Rattle.saber_query.specs.declared.tree.Keys.{Keys}
@@ -21,7 +21,7 @@ use Rattle.saber_query.specs.declared.tree.Decl.{Decl}
 use Rattle.saber_check.specs.declared.fault.Fault.{Fault}
 use Rattle.saber_query.specs.declared.fault.Cause.TheVariants as cause
 use Rattle.saber_query.specs.Trees.{Test, negated, enclosed, compare, Ands, no_more, and_also, Ors, no_other, or_else, Tests, Both, Query}
-use Rattle.saber_check.specs.Widths.{column_width, factor_width, prod_width, expr_width, item_width, source_width, second_source_width, second_width, test_width, ands_width, where_width, decl_width, name_width, group_width, span}
+use Rattle.saber_check.specs.Widths.{column_width, factor_width, prod_width, expr_width, item_width, source_width, second_source_width, second_width, measure_width, test_width, ands_width, where_width, decl_width, name_width, opened_width, shut_width, group_width, span}
 use Rattle.saber_check.specs.Names.{decls, names, among, names_stream, is_declared, is_unknown_stream, is_unknown_column, is_ambiguous, is_of_first, is_of_second, same}
 use Rattle.saber_check.specs.Bounds.{product_faults, sum_faults, factors, products, expr_bound}
 use Rattle.saber_check.specs.Least.{row, each}
@@ -110,17 +110,30 @@ abbrev pub among_columns : Query → Column → List Column → Bool
 among_columns q c [] = false
 among_columns q c (d ∷ ds) = same_column q d c || among_columns q c ds
 
--- all columns of GROUP BY in order
+-- all columns of GROUP BY, or of PARTITION BY, in order
 abbrev pub keys : Keys → List Column
 keys k = k.first ∷ k.more
 
--- a column that GROUP BY names
+-- what PARTITION BY names in a stream's window
+abbrev pub measure_keys : Measure → Option Keys
+measure_keys Rows = None
+measure_keys Range = None
+measure_keys (Partition g) = Some g
+
+abbrev pub partition_of : Source → Option Keys
+partition_of s = option_and_then (λ w. measure_keys w.measure) s.window
+
+-- whether the column is one of a list that may not be there
+abbrev pub is_listed : Query → Column → Option Keys → Bool
+is_listed q c o = option_map_or (λ k. among_columns q c (keys k)) o false
+
+-- a column that GROUP BY or PARTITION BY names
 abbrev pub is_column_key : Query → Factor → Bool
-is_column_key q (f.Column c) = option_map_or (λ k. among_columns q c (keys k)) q.group false
+is_column_key q (f.Column c) = is_listed q c q.group || is_listed q c (partition_of q.from)
 is_column_key q (f.Number n) = false
 is_column_key q (f.Negative n) = false
 
--- a single column of GROUP BY
+-- a single column of GROUP BY or PARTITION BY
 abbrev pub is_key : Query → Expr → Bool
 is_key q e = length e.more == 0 && length e.first.more == 0 && is_column_key q e.first.first
 
@@ -161,6 +174,16 @@ decl_faults q k i d =
 abbrev pub decls_faults : Query → ℕ → List Fault
 decls_faults q i = each decl_width (decl_faults q) 0 i (decls q)
 
+-- ---- lists of columns
+
+-- at most 8 columns in GROUP BY or PARTITION BY, each once
+unfoldable pub key_faults : Query → Keys → ℕ → ℕ → Column → List Fault
+key_faults q g k i c = row (k == 8) i cause.TooMany ++ row (among_columns q c (take k (keys g))) i cause.DuplicateName ++ column_faults q i c
+
+-- those of all its columns, the first at i
+abbrev pub keys_faults : Query → Keys → ℕ → List Fault
+keys_faults q g i = each column_width (key_faults q g) 0 i (keys g)
+
 -- ---- windows
 
 -- sizes and slides are 1 to 2^40
@@ -175,27 +198,59 @@ most_windows q = if is_join q then most_overlap_joined else most_overlap
 abbrev pub is_overlapping : ℕ → Window → Bool
 is_overlapping most w = not (is_out w.size) && not (is_out w.slide) && nat_lt most (overlap w.size w.slide)
 
--- i is the index of its bracket
-unfoldable pub window_faults : ℕ → ℕ → Window → List Fault
-window_faults most i w =
-    row (is_out w.size) (i + 2) cause.WindowRange
-    ++ row (is_out w.slide) (i + 4) cause.WindowRange
-    ++ row (is_overlapping most w) (i + 2) cause.Overlap
+-- the columns of PARTITION BY
+abbrev pub measure_faults : Query → ℕ → Measure → List Fault
+measure_faults q i Rows = []
+measure_faults q i Range = []
+measure_faults q i (Partition g) = keys_faults q g (i + 2)
 
--- a stream of FROM: declared, without a window in a selection, with one in every other query
+-- i is the index of the size
+abbrev pub sizes_faults : ℕ → ℕ → Window → List Fault
+sizes_faults most i w =
+    row (is_out w.size) i cause.WindowRange
+    ++ row (is_out w.slide) (i + 2) cause.WindowRange
+    ++ row (is_overlapping most w) i cause.Overlap
+
+-- i is the index of its bracket
+unfoldable pub window_faults : Query → ℕ → Window → List Fault
+window_faults q i w = measure_faults q (i + 1) w.measure ++ sizes_faults (most_windows q) (i + 1 + measure_width w.measure) w
+
+-- the streams of every query have windows, but for a selection without a word
+abbrev pub has_windows : Query → Bool
+has_windows q = not (is_selection q) || is_some q.word
+
+-- only a group query without a word may have its rows parted by keys
+abbrev pub may_partition : Query → Bool
+may_partition q = is_group q && not (is_some q.word)
+
+-- a word, or rows parted by keys: nothing answers such queries as yet
+abbrev pub is_unanswered : Query → Source → Bool
+is_unanswered q s = is_some q.word || is_some (partition_of s)
+
+-- a stream of FROM: declared, with a window where the query's streams have windows, and without one where not
+abbrev pub stream_faults : Query → ℕ → Source → List Fault
+stream_faults q i s =
+    row (not (is_declared q s.name)) i cause.UnknownStream
+    ++ row (is_some s.window && not (has_windows q)) (i + 1) cause.Shape
+    ++ row (has_windows q && not (is_some s.window)) i cause.Shape
+    ++ row (is_some (partition_of s) && not (may_partition q)) (i + 1) cause.Shape
+    ++ row (is_unanswered q s) i cause.Shape
+
+-- and what is wrong with its window
 unfoldable pub source_faults : Query → ℕ → Source → List Fault
 source_faults q i s =
-    row (not (is_declared q s.name)) i cause.UnknownStream
-    ++ row (is_selection q && is_some s.window) (i + 1) cause.Shape
-    ++ row (not (is_selection q) && not (is_some s.window)) i cause.Shape
-    ++ option_map_or (window_faults (most_windows q) (i + 1)) s.window []
+    stream_faults q i s
+    ++ option_map_or (window_faults q (i + 1)) s.window []
+
+-- sizes count timestamps
+abbrev pub is_range : Measure → Bool
+is_range Rows = false
+is_range Range = true
+is_range (Partition g) = false
 
 -- both count rows, or both timestamps
 abbrev pub same_measure : Measure → Measure → Bool
-same_measure Rows Rows = true
-same_measure Rows Range = false
-same_measure Range Rows = false
-same_measure Range Range = true
+same_measure m n = if is_range m then is_range n else not (is_range n)
 
 -- two windows that differ in measure or slide
 abbrev pub is_apart : Option Window → Option Window → Bool
@@ -234,21 +289,13 @@ tests_faults q i t = test_faults q i t.first ++ ands_faults q (i + test_width t.
 
 -- ---- the whole
 
--- at most 8 columns in GROUP BY, each once
-unfoldable pub key_faults : Query → Keys → ℕ → ℕ → Column → List Fault
-key_faults q g k i c = row (k == 8) i cause.TooMany ++ row (among_columns q c (take k (keys g))) i cause.DuplicateName ++ column_faults q i c
-
--- those of all its columns, the first at i
-abbrev pub keys_faults : Query → Keys → ℕ → List Fault
-keys_faults q g i = each column_width (key_faults q g) 0 i (keys g)
-
 -- i is the index of the word GROUP, which no join has
 unfoldable pub group_faults : Query → ℕ → Keys → List Fault
 group_faults q i g = row (is_join q) i cause.Shape ++ keys_faults q g (i + 2)
 
 -- where SELECT, FROM, what is behind the first stream, WHERE and GROUP stand
 abbrev pub select_at : Query → ℕ
-select_at q = decl_width q.decl + span decl_width q.decls + 1
+select_at q = decl_width q.decl + span decl_width q.decls + 1 + opened_width q.word
 
 abbrev pub from_at : Query → ℕ
 from_at q = select_at q + 1 + item_width q.item + span item_width q.items
@@ -289,4 +336,4 @@ closed_width true = 1
 
 -- how many words there are
 abbrev pub width : Query → ℕ
-width q = group_at q + group_width q.group + closed_width q.closed
+width q = group_at q + group_width q.group + shut_width q.word + closed_width q.closed

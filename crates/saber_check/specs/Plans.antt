@@ -1,10 +1,12 @@
 -- The plan of a query that has no fault.
-use Rattle.std.specs.Prelude.{ℕ, ◌+◌, ◌-◌, ◌^◌, ◌≤◌, min, List, [], ◌∷◌, map, length, Bool, true, false, if◌then◌else◌, option_map, option_to_list, pos, neg_ℤ}
+use Rattle.std.specs.Prelude.{ℕ, ◌+◌, ◌-◌, ◌^◌, ◌≤◌, min, List, [], ◌∷◌, map, length, Bool, true, false, if◌then◌else◌, Option, option_map, option_to_list, pos, neg_ℤ}
 use Rattle.std.specs.Option.{option_map_or}
 use Rattle.saber_plan.specs.declared.rows.Side.{Side}
 use Rattle.saber_plan.specs.declared.rows.Side.TheVariants.{Left, Right}
 use Rattle.saber_plan.specs.declared.plans.Shape.{Shape}
 use Rattle.saber_plan.specs.declared.plans.Shape.TheVariants as shape
+use Rattle.saber_plan.specs.declared.plans.Word.{Word}
+use Rattle.saber_plan.specs.declared.plans.Word.TheVariants as word
 use Rattle.saber_plan.specs.declared.expressions.Factor.{Factor as Plan_factor}
 use Rattle.saber_plan.specs.declared.expressions.Factor.TheVariants as plan
 use Rattle.saber_plan.specs.declared.expressions.Product.{Product}
@@ -29,15 +31,17 @@ use Rattle.saber_query.specs.declared.tree.Expr.{Expr}
 use Rattle.saber_query.specs.declared.tree.Item.{Item}
 use Rattle.saber_query.specs.declared.tree.Item.TheVariants.{Count, Sum, Min, Max, Value}
 use Rattle.saber_query.specs.declared.tree.Measure.{Measure}
-use Rattle.saber_query.specs.declared.tree.Measure.TheVariants.{Rows, Range}
+use Rattle.saber_query.specs.declared.tree.Measure.TheVariants.{Rows, Range, Partition}
 use Rattle.saber_query.specs.declared.tree.Window.{Window}
 use Rattle.saber_query.specs.declared.tree.Source.{Source}
 use Rattle.saber_query.specs.declared.tree.Keys.{Keys}
+use Rattle.saber_query.specs.declared.tree.StreamWord.{StreamWord}
+use Rattle.saber_query.specs.declared.tree.StreamWord.TheVariants.{Rstream, Istream, Dstream}
 use Rattle.saber_query.specs.declared.tree.Cmp.{Cmp}
 use Rattle.saber_query.specs.declared.tree.Cmp.TheVariants as c
 use Rattle.saber_query.specs.Trees.{Test, negated, enclosed, compare, Ands, no_more, and_also, Ors, no_other, or_else, Tests, Both, Query}
 use Rattle.saber_check.specs.Names.{same, names, decls, in_first}
-use Rattle.saber_check.specs.Faults.{own_name, keys, items, is_join, is_group, width}
+use Rattle.saber_check.specs.Faults.{own_name, keys, partition_of, items, is_join, is_group, width}
 use Rattle.saber_check.specs.Bounds.{factors}
 
 -- how many names stand before this one
@@ -106,6 +110,7 @@ plan_item q (Value e) = item.Value (plan_expr q e)
 abbrev pub plan_measure : Measure → Plan_measure
 plan_measure Rows = measure.Rows
 plan_measure Range = measure.Range
+plan_measure (Partition g) = measure.Rows
 
 -- a window as it stands
 abbrev pub plan_window : Window → Plan_window
@@ -154,9 +159,22 @@ plan_shape q = if is_join q then shape.Join else (if is_group q then shape.Group
 abbrev pub streams : Query → List Source
 streams q = q.from ∷ option_to_list q.second
 
--- the places of the columns of GROUP BY
+-- the places of a list of columns that may not be there
+abbrev pub places : Query → Option Keys → List ℕ
+places q o = option_map_or (λ (g : Keys). map (plan_place q) (keys g)) o []
+
+-- those of GROUP BY, and of PARTITION BY
 abbrev pub plan_keys : Query → List ℕ
-plan_keys q = option_map_or (λ (g : Keys). map (plan_place q) (keys g)) q.group []
+plan_keys q = places q q.group
+
+abbrev pub plan_partition : Query → List ℕ
+plan_partition q = places q (partition_of q.from)
+
+-- words one for one
+abbrev pub plan_word : StreamWord → Word
+plan_word Rstream = word.Rstream
+plan_word Istream = word.Istream
+plan_word Dstream = word.Dstream
 
 -- the plan's tree
 abbrev pub plan_tree : Query → t.Tree
@@ -166,6 +184,8 @@ plan_tree q = record {
   items = map (plan_item q) (items q);
   keys = plan_keys q;
   predicate = option_map (plan_tests q) q.predicate;
+  partition = plan_partition q;
+  word = option_map plan_word q.word;
 }
 
 -- a query of a text that is short enough

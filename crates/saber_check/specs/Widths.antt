@@ -8,7 +8,10 @@ use Rattle.saber_query.specs.declared.tree.Term.{Term}
 use Rattle.saber_query.specs.declared.tree.Expr.{Expr}
 use Rattle.saber_query.specs.declared.tree.Item.{Item}
 use Rattle.saber_query.specs.declared.tree.Item.TheVariants.{Count, Sum, Min, Max, Value}
+use Rattle.saber_query.specs.declared.tree.Measure.{Measure}
+use Rattle.saber_query.specs.declared.tree.Measure.TheVariants.{Rows, Range, Partition}
 use Rattle.saber_query.specs.declared.tree.Window.{Window}
+use Rattle.saber_query.specs.declared.tree.StreamWord.{StreamWord}
 use Rattle.saber_query.specs.declared.tree.Source.{Source}
 use Rattle.saber_query.specs.declared.tree.Decl.{Decl}
 use Rattle.saber_query.specs.declared.tree.Keys.{Keys}
@@ -58,10 +61,16 @@ item_width (Min e) = 3 + expr_width e
 item_width (Max e) = 3 + expr_width e
 item_width (Value e) = expr_width e
 
+-- ROWS, RANGE, or PARTITION BY, columns and ROWS
+abbrev pub measure_width : Measure → ℕ
+measure_width Rows = 1
+measure_width Range = 1
+measure_width (Partition g) = 2 + (column_width g.first + span column_width g.more) + 1
+
 -- bracket, measure, size, SLIDE, slide, bracket
 abbrev pub window_width : Option Window → ℕ
 window_width None = 0
-window_width (Some w) = 6
+window_width (Some w) = 5 + measure_width w.measure
 
 -- a name and its window
 abbrev pub source_width : Source → ℕ
@@ -102,6 +111,15 @@ where_width (Some t) = 1 + tests_width t
 -- without its semicolon
 abbrev pub decl_width : Decl → ℕ
 decl_width d = 5 + span name_width d.more
+
+-- a word and its parenthesis, and the one that closes it
+abbrev pub opened_width : Option StreamWord → ℕ
+opened_width None = 0
+opened_width (Some w) = 2
+
+abbrev pub shut_width : Option StreamWord → ℕ
+shut_width None = 0
+shut_width (Some w) = 1
 
 -- with the words GROUP BY
 abbrev pub group_width : Option Keys → ℕ

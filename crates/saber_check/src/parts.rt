@@ -4,17 +4,17 @@ ghost use Rattle.saber_query.specs.declared.fault.Cause.TheVariants.{NotGrouped}
 ghost use Rattle.saber_query.specs.Trees.{query_of};
 ghost use Rattle.saber_check.specs.Least.{row, each, Visits, Room};
 ghost use Rattle.saber_check.specs.Names.{names, names_stream, decls, among};
-ghost use Rattle.saber_check.specs.Widths.{name_width, column_width, expr_width, item_width, source_width, decl_width, span};
-ghost use Rattle.saber_check.specs.Faults.{expr_faults, content_faults, item_faults, window_faults, source_faults, second_faults, key_faults, group_faults, column_name_faults, decl_faults, items_faults, decls_faults, keys_faults, is_group, is_key, keys, among_columns};
+ghost use Rattle.saber_check.specs.Widths.{name_width, column_width, expr_width, item_width, measure_width, source_width, decl_width, span};
+ghost use Rattle.saber_check.specs.Faults.{expr_faults, content_faults, item_faults, measure_faults, sizes_faults, window_faults, stream_faults, source_faults, second_faults, key_faults, group_faults, column_name_faults, decl_faults, items_faults, decls_faults, keys_faults, is_group, is_key, keys, among_columns};
 
 use crate::bounds::{column_words, is_sum_wide};
 use crate::names::{is_among, is_declared, is_named};
 use crate::shape::{
-    is_aggregate, is_among_columns, is_apart, is_group, is_join, is_key, is_out, is_overlapping,
-    is_selection, most_windows, same_column,
+    is_aggregate, is_among_columns, is_apart, is_bare, is_group, is_join, is_key, is_out,
+    is_overlapping, is_parted_amiss, is_stray, is_unanswered, most_windows, same_column,
 };
 use crate::walk::Walk;
-use saber_query::{Cause, Column, Decl, Expr, Item, Keys, Name, Select, Source, Window};
+use saber_query::{Cause, Column, Decl, Expr, Item, Keys, Measure, Name, Select, Source, Window};
 
 // Whether one of so many first columns has the name.
 fn is_column_before(decl: &Decl, before: usize, name: &Name) -> bool
@@ -113,16 +113,63 @@ impl Walk {
         self.content(query, grouped, item);
     }
 
-    #[tactic(auto, using(crate::proofs::Lemmas::walking), unfolding(crate::specs::Faults::window_faults))]
-    fn window(&mut self, most: u64, window: Window)
-        requires { Room self.old 6 }
-        ensures { Visits self.old self.new 6 (window_faults most self.old.index window) }
+    #[tactic(auto, using(crate::proofs::Lemmas::walking))]
+    fn measure(&mut self, query: &Select, measure: &Measure)
+        requires { Room self.old (measure_width measure.now) }
+        ensures { Visits self.old self.new (measure_width measure.now)
+            (measure_faults (query_of query.now) self.old.index measure.now) }
+    {
+        match measure {
+            Measure::Rows => self.skip(1),
+            Measure::Range => self.skip(1),
+            Measure::Partition(keys) => {
+                self.skip(2);
+                self.keys(query, keys);
+                self.skip(1);
+            }
+        }
+    }
+
+    // What is behind the measure.
+    #[tactic(auto, using(crate::proofs::Lemmas::walking))]
+    fn sizes(&mut self, most: u64, window: &Window)
+        requires { Room self.old 4 }
+        ensures { Visits self.old self.new 4 (sizes_faults most self.old.index window.now) }
     {
         let start = self.index;
-        self.report(is_out(window.size), start + 2, Cause::WindowRange);
-        self.report(is_out(window.slide), start + 4, Cause::WindowRange);
-        self.report(is_overlapping(most, window), start + 2, Cause::Overlap);
-        self.skip(6);
+        self.report(is_out(window.size), start, Cause::WindowRange);
+        self.report(is_out(window.slide), start + 2, Cause::WindowRange);
+        self.report(is_overlapping(most, window), start, Cause::Overlap);
+        self.skip(4);
+    }
+
+    #[tactic(auto, using(crate::proofs::Lemmas::walking), unfolding(crate::specs::Faults::window_faults))]
+    fn window(&mut self, query: &Select, window: &Window)
+        requires { Room self.old (5 + measure_width window.now.measure) }
+        ensures { Visits self.old self.new (5 + measure_width window.now.measure)
+            (window_faults (query_of query.now) self.old.index window.now) }
+    {
+        self.skip(1);
+        self.measure(query, &window.measure);
+        self.sizes(most_windows(query), window);
+    }
+
+    // The stream itself, of which no word is gone past.
+    #[tactic(auto, using(crate::proofs::Lemmas::walking))]
+    fn stream(&mut self, query: &Select, source: &Source)
+        requires { Room self.old 1 }
+        ensures { Visits self.old self.new 0 (stream_faults (query_of query.now) self.old.index source.now) }
+    {
+        let start = self.index;
+        self.report(
+            !is_declared(query, &source.name),
+            start,
+            Cause::UnknownStream,
+        );
+        self.report(is_stray(query, source), start + 1, Cause::Shape);
+        self.report(is_bare(query, source), start, Cause::Shape);
+        self.report(is_parted_amiss(query, source), start + 1, Cause::Shape);
+        self.report(is_unanswered(query, source), start, Cause::Shape);
     }
 
     #[tactic(auto, using(crate::proofs::Lemmas::walking), unfolding(crate::specs::Faults::source_faults))]
@@ -131,19 +178,10 @@ impl Walk {
         ensures { Visits self.old self.new (source_width source.now)
             (source_faults (query_of query.now) self.old.index source.now) }
     {
-        let start = self.index;
-        let stray = is_selection(query) && source.window.is_some();
-        let bare = !is_selection(query) && !source.window.is_some();
-        self.report(
-            !is_declared(query, &source.name),
-            start,
-            Cause::UnknownStream,
-        );
-        self.report(stray, start + 1, Cause::Shape);
-        self.report(bare, start, Cause::Shape);
+        self.stream(query, source);
         self.skip(1);
-        if let Some(window) = source.window {
-            self.window(most_windows(query), window);
+        if let Some(window) = &source.window {
+            self.window(query, window);
         }
     }
 
@@ -160,7 +198,7 @@ impl Walk {
             Cause::DuplicateName,
         );
         self.report(
-            is_apart(query.from.window, source.window),
+            is_apart(&query.from.window, &source.window),
             start + 1,
             Cause::Shape,
         );

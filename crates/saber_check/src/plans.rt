@@ -4,14 +4,14 @@ ghost use Rattle.saber_plan.specs.Trees as t;
 ghost use Rattle.saber_query.specs.Trees.{tests_of, query_of};
 ghost use Rattle.saber_check.specs.Widths.{decl_width, span};
 ghost use Rattle.saber_check.specs.Names.{decls, names};
-ghost use Rattle.saber_check.specs.Faults.{items, keys};
-ghost use Rattle.saber_check.specs.Plans.{columns, plan_place, plan_item, plan_measure, plan_window, plan_stream, plan_shape, plan_keys, plan_tests, plan_tree, streams, Small};
+ghost use Rattle.saber_check.specs.Faults.{items, keys, measure_keys};
+ghost use Rattle.saber_check.specs.Plans.{columns, plan_place, plan_item, plan_measure, plan_window, plan_stream, plan_shape, places, plan_keys, plan_partition, plan_word, plan_tests, plan_tree, streams, Small};
 
 use crate::expressions::{expr, plan_place};
 use crate::predicates::plan_pred;
 use crate::shape::{is_group, is_join};
-use saber_plan::{NoMemory, Plan, Shape, Stream};
-use saber_query::{Decl, Item, Keys, Measure, Name, Select, Source, Window};
+use saber_plan::{NoMemory, Plan, Shape, Stream, Word};
+use saber_query::{Decl, Item, Keys, Measure, Name, Select, Source, StreamWord, Window};
 use std::alloc::Global;
 
 fn item(alloc: Global, query: &Select, item: &Item) -> Result<saber_plan::Item, NoMemory>
@@ -84,21 +84,22 @@ fn columns(query: &Select, stream: &Name) -> u32
     columns_among(query.decls.as_slice(), stream)
 }
 
-fn measure(measure: Measure) -> saber_plan::Measure
-    ensures { result ≡ plan_measure measure }
+fn measure(measure: &Measure) -> saber_plan::Measure
+    ensures { result ≡ plan_measure measure.now }
 {
     match measure {
         Measure::Rows => saber_plan::Measure::Rows,
         Measure::Range => saber_plan::Measure::Range,
+        Measure::Partition(_) => saber_plan::Measure::Rows,
     }
 }
 
-fn window(window: Option<Window>) -> Option<saber_plan::Window>
-    ensures { result ≡ option_map plan_window window }
+fn window(window: &Option<Window>) -> Option<saber_plan::Window>
+    ensures { result ≡ option_map plan_window window.now }
 {
     match window {
         Some(inner) => Some(saber_plan::Window {
-            measure: measure(inner.measure),
+            measure: measure(&inner.measure),
             size: inner.size,
             slide: inner.slide,
         }),
@@ -112,7 +113,7 @@ fn stream(query: &Select, source: &Source) -> Stream
 {
     Stream {
         columns: columns(query, &source.name),
-        window: window(source.window),
+        window: window(&source.window),
     }
 }
 
@@ -155,6 +156,37 @@ fn places(alloc: Global, query: &Select, group: &Keys) -> Result<Vec<u32>, NoMem
     Ok(list)
 }
 
+fn measure_places(alloc: Global, query: &Select, measure: &Measure) -> Result<Vec<u32>, NoMemory>
+    requires { Small (query_of query.now) }
+    ensures { IfOk result (λ v. v.items ≡ places (query_of query.now) (measure_keys measure.now)) }
+{
+    match measure {
+        Measure::Rows => Ok(Vec::new(alloc)),
+        Measure::Range => Ok(Vec::new(alloc)),
+        Measure::Partition(keys) => places(alloc, query, keys),
+    }
+}
+
+fn plan_partition(alloc: Global, query: &Select) -> Result<Vec<u32>, NoMemory>
+    requires { Small (query_of query.now) }
+    ensures { IfOk result (λ v. v.items ≡ plan_partition (query_of query.now)) }
+{
+    match &query.from.window {
+        Some(window) => measure_places(alloc, query, &window.measure),
+        None => Ok(Vec::new(alloc)),
+    }
+}
+
+fn plan_word(word: StreamWord) -> Word
+    ensures { result ≡ plan_word word }
+{
+    match word {
+        StreamWord::Rstream => Word::Rstream,
+        StreamWord::Istream => Word::Istream,
+        StreamWord::Dstream => Word::Dstream,
+    }
+}
+
 fn plan_where(alloc: Global, query: &Select) -> Result<Option<saber_plan::Pred>, NoMemory>
     requires { Small (query_of query.now) }
     ensures { IfOk result (λ p. option_map t.tests_of p ≡ option_map
@@ -187,5 +219,10 @@ pub(crate) fn plan(alloc: Global, query: &Select) -> Result<Plan, NoMemory>
     let items = plan_items(alloc, query)?;
     let keys = plan_keys(alloc, query)?;
     let predicate = plan_where(alloc, query)?;
-    Ok(Plan::new(shape(query), streams, items, keys, predicate))
+    let partition = plan_partition(alloc, query)?;
+    let plan = Plan::new(shape(query), streams, items, keys, predicate).partitioned(partition);
+    match query.word {
+        Some(word) => Ok(plan.streamed(plan_word(word))),
+        None => Ok(plan),
+    }
 }

@@ -2,11 +2,12 @@
 ghost use Rattle.std.specs.Prelude.{◌≡◌, ◌≤◌, ◌^◌, ◌&&◌, ◌||◌, not, is_some, false};
 ghost use Rattle.std.specs.Option.{option_map_or};
 ghost use Rattle.saber_query.specs.Trees.{query_of};
-ghost use Rattle.saber_check.specs.Faults.{any_aggregate, is_aggregate, is_join, is_group, is_selection, same_measure, is_apart, is_out, most_windows, is_overlapping, own_name, is_of_one, same_second, same_words, same_column, among_columns, is_column_key, is_key, keys};
+ghost use Rattle.saber_query.specs.declared.tree.Factor.TheVariants as f;
+ghost use Rattle.saber_check.specs.Faults.{any_aggregate, is_aggregate, is_join, is_group, is_selection, same_measure, is_apart, is_out, most_windows, is_overlapping, has_windows, may_partition, is_unanswered, measure_keys, partition_of, is_range, own_name, is_of_one, same_second, same_words, same_column, among_columns, is_listed, is_column_key, is_key, keys};
 
 use crate::names::{is_of_first, is_of_second};
 use saber_plan::overlap;
-use saber_query::{Column, Expr, Factor, Item, Measure, Name, Select, Window};
+use saber_query::{Column, Expr, Factor, Item, Keys, Measure, Name, Select, Source, Window};
 
 /// COUNT, SUM, MIN or MAX.
 pub(crate) fn is_aggregate(item: &Item) -> bool
@@ -56,25 +57,100 @@ pub(crate) fn is_selection(query: &Select) -> bool
     !is_join(query) && !is_group(query)
 }
 
-fn same_measure(measure: Measure, other: Measure) -> bool
-    ensures { result ≡ same_measure measure other }
+/// The streams of every query have windows, but for a selection without a word.
+pub(crate) fn has_windows(query: &Select) -> bool
+    ensures { result ≡ has_windows (query_of query.now) }
 {
-    match (measure, other) {
-        (Measure::Rows, Measure::Rows) => true,
-        (Measure::Range, Measure::Range) => true,
-        _ => false,
+    !is_selection(query) || query.word.is_some()
+}
+
+/// Only a group query without a word may have its rows parted by keys.
+pub(crate) fn may_partition(query: &Select) -> bool
+    ensures { result ≡ may_partition (query_of query.now) }
+{
+    is_group(query) && !query.word.is_some()
+}
+
+fn is_by_keys(measure: &Measure) -> bool
+    ensures { result ≡ is_some (measure_keys measure.now) }
+{
+    match measure {
+        Measure::Rows => false,
+        Measure::Range => false,
+        Measure::Partition(_) => true,
+    }
+}
+
+/// The stream's window is one of rows that are alike in some columns.
+pub(crate) fn is_partitioned(source: &Source) -> bool
+    ensures { result ≡ is_some (partition_of source.now) }
+{
+    match &source.window {
+        Some(window) => is_by_keys(&window.measure),
+        None => false,
+    }
+}
+
+/// It has a window, and the query's streams have none.
+pub(crate) fn is_stray(query: &Select, source: &Source) -> bool
+    ensures { result ≡ is_some source.now.window && not (has_windows (query_of query.now)) }
+{
+    source.window.is_some() && !has_windows(query)
+}
+
+/// It has none, and they have.
+pub(crate) fn is_bare(query: &Select, source: &Source) -> bool
+    ensures { result ≡ has_windows (query_of query.now) && not (is_some source.now.window) }
+{
+    has_windows(query) && !source.window.is_some()
+}
+
+/// Its rows are parted by keys, and the query's may not be.
+pub(crate) fn is_parted_amiss(query: &Select, source: &Source) -> bool
+    ensures { result ≡ is_some (partition_of source.now) && not (may_partition (query_of query.now)) }
+{
+    is_partitioned(source) && !may_partition(query)
+}
+
+/// A stream word, or rows parted by keys: nothing answers such queries as yet.
+pub(crate) fn is_unanswered(query: &Select, source: &Source) -> bool
+    ensures { result ≡ is_unanswered (query_of query.now) source.now }
+{
+    query.word.is_some() || is_partitioned(source)
+}
+
+fn is_range(measure: &Measure) -> bool
+    ensures { result ≡ is_range measure.now }
+{
+    match measure {
+        Measure::Rows => false,
+        Measure::Range => true,
+        Measure::Partition(_) => false,
+    }
+}
+
+fn same_measure(measure: &Measure, other: &Measure) -> bool
+    ensures { result ≡ same_measure measure.now other.now }
+{
+    if is_range(measure) {
+        is_range(other)
+    } else {
+        !is_range(other)
     }
 }
 
 /// Whether there are two windows that differ in measure or slide.
-pub(crate) fn is_apart(first: Option<Window>, second: Option<Window>) -> bool
-    ensures { result ≡ is_apart first second }
+pub(crate) fn is_apart(first: &Option<Window>, second: &Option<Window>) -> bool
+    ensures { result ≡ is_apart first.now second.now }
 {
-    match (first, second) {
-        (Some(window), Some(other)) => {
-            !(same_measure(window.measure, other.measure) && window.slide == other.slide)
-        }
-        _ => false,
+    match first {
+        Some(window) => match second {
+            Some(other) => {
+                !(same_measure(&window.measure, &other.measure) && window.slide == other.slide)
+            }
+            None => false,
+        },
+        None => false,
     }
 }
 
@@ -93,8 +169,8 @@ pub(crate) fn most_windows(query: &Select) -> u64
 }
 
 /// A point lies in too many windows.
-pub(crate) fn is_overlapping(most: u64, window: Window) -> bool
-    ensures { result ≡ is_overlapping most window }
+pub(crate) fn is_overlapping(most: u64, window: &Window) -> bool
+    ensures { result ≡ is_overlapping most window.now }
 {
     if is_out(window.size) || is_out(window.slide) {
         return false;
@@ -157,21 +233,48 @@ pub(crate) fn is_among_columns(query: &Select, column: &Column, columns: &[Colum
     false
 }
 
+fn is_among_keys(query: &Select, column: &Column, list: &Keys) -> bool
+    ensures { result ≡ among_columns (query_of query.now) column.now (keys list.now) }
+{
+    same_column(query, &list.first, column) || is_among_columns(query, column, list.more.as_slice())
+}
+
 fn is_grouped(query: &Select, column: &Column) -> bool
-    ensures { result
-        ≡ option_map_or (λ k. among_columns (query_of query.now) column.now (keys k)) query.now.group
-        false }
+    ensures { result ≡ is_listed (query_of query.now) column.now query.now.group }
 {
     match &query.group {
-        Some(keys) => {
-            same_column(query, &keys.first, column)
-                || is_among_columns(query, column, keys.more.as_slice())
-        }
+        Some(keys) => is_among_keys(query, column, keys),
         None => false,
     }
 }
 
-/// A single column of GROUP BY.
+fn is_in_measure(query: &Select, column: &Column, measure: &Measure) -> bool
+    ensures { result ≡ is_listed (query_of query.now) column.now (measure_keys measure.now) }
+{
+    match measure {
+        Measure::Rows => false,
+        Measure::Range => false,
+        Measure::Partition(keys) => is_among_keys(query, column, keys),
+    }
+}
+
+fn is_parted(query: &Select, column: &Column) -> bool
+    ensures { result ≡ is_listed (query_of query.now) column.now (partition_of query.now.from) }
+{
+    match &query.from.window {
+        Some(window) => is_in_measure(query, column, &window.measure),
+        None => false,
+    }
+}
+
+// A column that GROUP BY or PARTITION BY names.
+fn is_column_key(query: &Select, column: &Column) -> bool
+    ensures { result ≡ is_column_key (query_of query.now) (f.Column column.now) }
+{
+    is_grouped(query, column) || is_parted(query, column)
+}
+
+/// A single column of GROUP BY or PARTITION BY.
 pub(crate) fn is_key(query: &Select, expr: &Expr) -> bool
     ensures { result ≡ is_key (query_of query.now) expr.now }
 {
@@ -179,7 +282,7 @@ pub(crate) fn is_key(query: &Select, expr: &Expr) -> bool
         return false;
     }
     match &expr.first.first {
-        Factor::Column(column) => is_grouped(query, column),
+        Factor::Column(column) => is_column_key(query, column),
         Factor::Number(_) => false,
         Factor::Negative(_) => false,
     }

@@ -2,7 +2,7 @@
 ghost use Rattle.std.specs.Prelude.{◌≡◌, ◌+◌, ◌≤◌, ◌^◌, option_map};
 ghost use Rattle.saber_check.specs.Least.{Visits, Room, least};
 ghost use Rattle.saber_query.specs.Trees.{tests_of, query_of};
-ghost use Rattle.saber_check.specs.Widths.{second_source_width, where_width, group_width};
+ghost use Rattle.saber_check.specs.Widths.{second_source_width, where_width, opened_width, group_width};
 ghost use Rattle.saber_check.specs.Faults.{second_part_faults, where_faults, group_part_faults, faults, width};
 
 use crate::fault::Fault;
@@ -46,6 +46,13 @@ impl Walk {
     }
 }
 
+/// How many words stand before SELECT and behind the declarations.
+fn opened_words(query: &Select) -> u64
+    ensures { result ≡ opened_width query.now.word }
+{
+    if query.word.is_some() { 2 } else { 0 }
+}
+
 /// The first fault of a query, with the index of its word.
 #[tactic(auto, using(crate::proofs::Lemmas::walking), unfolding(crate::specs::Faults::faults))]
 pub(crate) fn first_fault(query: &Select) -> Option<Fault>
@@ -57,7 +64,7 @@ pub(crate) fn first_fault(query: &Select) -> Option<Fault>
         least: None,
     };
     walk.decls(query);
-    walk.skip(2);
+    walk.skip(2 + opened_words(query));
     walk.items(query);
     walk.skip(1);
     walk.source(query, &query.from);

@@ -24,7 +24,7 @@ use Rattle.saber_cli.specs.Puts.{PutsOut, no_text}
 
 -- no task has a text
 pub no_task_text : Laws → (q : Tree) (n : ℕ) (u : Input) → IsChecked q → text q (upto n u 0) ≡ []
-no_task_text ls q n u h = ap (text q) (ls.no_rows n u) ∙ (ls.nothing q (ls.fits q h)).0
+no_task_text ls q n u h = ap (text q) (ls.no_rows n u) ∙ (ls.nothing q (ls.fits q h)).text
 
 early_reach : (o : Outcome) → IsEarly o → reach_of (end_of o) ≡ first_tasks
 early_reach Done h = absurd h

@@ -2,7 +2,7 @@
 ghost use Rattle.std.specs.Prelude.{◌≡◌, ◌≢◌, ℕ, List, length, false};
 ghost use Rattle.saber_io.specs.Outside.{Rose};
 ghost use Rattle.saber_plan.specs.Trees.{tree_of};
-ghost use Rattle.saber_plan.specs.Checked.{IsChecked};
+ghost use Rattle.saber_plan.specs.Checked.{IsChecked, IsPlain};
 ghost use Rattle.saber_plan.specs.Sizes.{SizesFit};
 ghost use Rattle.saber_engine.specs.declared.ends.RunEnd.{RunEnd};
 ghost use Rattle.saber_engine.specs.Sources.{each_input, told_by, GaveAll};
@@ -84,8 +84,10 @@ pub(crate) fn answer_chain<
     gate: &G,
 ) -> RanBoth<S, K>
     requires first { IsChecked (tree_of first.now) }
+    requires first_plain { IsPlain (tree_of first.now) }
     requires inputs { length (each_input S.left inputs) ≡ length (tree_of first.now).streams }
     requires second { IsChecked (tree_of second.now) }
+    requires second_plain { IsPlain (tree_of second.now) }
     requires one { length (tree_of second.now).streams ≡ 1 }
     requires sizes { SizesFit sizes.now }
     requires open_end { sizes.now.flush ≡ false }

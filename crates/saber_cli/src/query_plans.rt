@@ -2,7 +2,7 @@
 ghost use Rattle.std.specs.Prelude.{◌≡◌, ◌≢◌, ℕ, List, IfOk, IfErr, IfSome, None, length};
 ghost use Rattle.saber_io.specs.Outside.{Rose};
 ghost use Rattle.saber_plan.specs.Trees.{tree_of};
-ghost use Rattle.saber_plan.specs.Checked.{IsChecked};
+ghost use Rattle.saber_plan.specs.Checked.{IsChecked, IsPlain};
 ghost use Rattle.saber_words.specs.Chain.{asked_chain};
 ghost use Rattle.saber_notes.specs.declared.outcome.InputFile.{InputFile};
 ghost use Rattle.saber_cli.specs.Outcomes.{IsClean, IsFileFault, IsOfPlan, IsOfPlans};
@@ -25,6 +25,7 @@ use std::alloc::Global;
 fn query_plan<F: Files>(alloc: Global, files: &mut F, name: &str) -> Result<Plan, Outcome>
     ensures plan { IfOk result (λ plan. IfSome (F.told files.old) (λ t. IsPlanned t.contents name.now (tree_of plan))) }
     ensures checked { IfOk result (λ plan. IsChecked (tree_of plan)) }
+    ensures plain { IfOk result (λ plan. IsPlain (tree_of plan)) }
     ensures lacks { IfErr result (λ o. IfSome (F.told files.old) (λ t. LacksPlan t.contents name.now o)) }
     ensures kinds { IfErr result IsOfPlan }
     ensures uses { Uses InputFile.Query name.now (outcome_of result) (F.told files.old) (F.told files.new) }
@@ -99,7 +100,9 @@ pub(crate) fn chain_plans<F: Files>(
 ) -> Result<Plans, Outcome>
     ensures plans { IfOk result (λ plans. HasPlansTold (F.told files.old) (asked_chain command.now) (tree_of plans.first) (tree_of plans.second)) }
     ensures first { IfOk result (λ plans. IsChecked (tree_of plans.first)) }
+    ensures first_plain { IfOk result (λ plans. IsPlain (tree_of plans.first)) }
     ensures second { IfOk result (λ plans. IsChecked (tree_of plans.second)) }
+    ensures second_plain { IfOk result (λ plans. IsPlain (tree_of plans.second)) }
     ensures chains { IfOk result (λ plans. IsChainable (tree_of plans.first) (tree_of plans.second)) }
     ensures like { IfOk result (λ plans. IsLike (first_run (asked_chain command.now)) (tree_of plans.first)) }
     ensures reason { IfErr result (λ o. IfSome (F.told files.old) (λ t. HasReason t.contents (asked_chain command.now) o)) }

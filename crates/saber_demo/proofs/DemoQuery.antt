@@ -29,6 +29,7 @@ abbrev demo_select : Select
 demo_select = record {
   decl = record { name = codes "D"; first = codes "t"; more = codes "g" ∷ codes "v" ∷ [] };
   decls = [];
+  word = None;
   item = Value (named (codes "g"));
   items = Count ∷ Sum (named (codes "v")) ∷ [];
   from = record { name = codes "D"; window = Some (record { measure = Range; size = 8; slide = 4 }) };

@@ -24,4 +24,6 @@ demo_tree = record {
   items = Value (column 1) ∷ Count ∷ Sum (column 2) ∷ [];
   keys = 1 ∷ [];
   predicate = None;
+  partition = [];
+  word = None;
 }

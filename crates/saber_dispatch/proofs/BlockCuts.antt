@@ -26,7 +26,7 @@ use Rattle.saber_dispatch.specs.declared.cutter.Cutter.{Cutter}
 use Rattle.saber_dispatch.specs.declared.lasts.Lasts.{Lasts}
 use Rattle.saber_dispatch.specs.Readings.{reading_of}
 use Rattle.saber_dispatch.specs.Filling.{Took}
-use Rattle.saber_dispatch.specs.Cutting.{AreWhole, LooksBack, Behind, IsTooWide, CutState, Cuts, Adds, IsNextBlock, FilledState, Filled, fresh}
+use Rattle.saber_dispatch.specs.Cutting.{AreWhole, LooksBack, Behind, IsTooWide, CutState, Cuts, Adds, IsNextBlock, FilledState, Filled, places_behind, fresh}
 use Rattle.saber_dispatch.proofs.Fillings.{small as small_marks, mark_append}
 use Rattle.saber_dispatch.proofs.NextTasks.{upto_seam, need_stays}
 use Rattle.saber_plan.specs.CountFacts.{whole_tasks, one_task_more}
@@ -121,6 +121,7 @@ module _ (q : Tree) (s : Sizes) (had has : List (Option (List ℕ))) (c : Cutter
   pub dropped_cuts : (l : Option Lasts) (e : End) → CutState q s (record c { lasts = l; ended = Some e }) (going_on xs) rows (Some e) → Cuts q s had has (record c { lasts = l; ended = Some e }) (going_on xs)
   dropped_cuts l e h = record {
     windows = f.windows;
+    unlisted = f.unlisted;
     sizes = f.sizes;
     made = record { size = f.made.size; room = f.made.room };
     dropped = rows;
@@ -139,8 +140,8 @@ module _ (q : Tree) (s : Sizes) (had has : List (Option (List ℕ))) (c : Cutter
   pub is_near : (first : ℕ) → first ≡ free q s.task (going_on xs) c.number → c.number - first + 1 ≤ c.room → need q s.task (going_on xs) c.number ≤ s.ring
   is_near first is near = subst (λ r. need q s.task (going_on xs) c.number ≤ r) f.made.room (subst (λ k. c.number - k + 1 ≤ c.room) is near)
 
-  pub is_next : (b : Block) → b.number ≡ c.number → b.before ≡ before → b.rows ≡ rows → b.ended ≡ false → b.first ≡ free q s.task (going_on xs) c.number → c.number - b.first + 1 ≤ c.room → b.earlier.before ≡ before → b.earlier.rows ≡ [] → IsNextBlock q s (going_on xs) b
-  is_next b number at own goes first near behind_all none = record {
+  pub is_next : (b : Block) → b.number ≡ c.number → b.before ≡ before → b.rows ≡ rows → b.ended ≡ false → b.first ≡ free q s.task (going_on xs) c.number → c.number - b.first + 1 ≤ c.room → b.earlier.before ≡ before → b.earlier.rows ≡ [] → b.places.items ≡ [] → IsNextBlock q s (going_on xs) b
+  is_next b number at own goes first near behind_all none unplaced = record {
     windows = f.windows;
     size = some_size;
     unended = refl;
@@ -150,6 +151,7 @@ module _ (q : Tree) (s : Sizes) (had has : List (Option (List ℕ))) (c : Cutter
     first = first ∙ ap (free q s.task (going_on xs)) (sym number);
     near = subst (λ k. need q s.task (going_on xs) k ≤ s.ring) (sym number) (is_near b.first first near);
     fits = subst (λ l. RowsFit q no_rows (xs ++ l)) (sym own) all_fit;
+    places = unplaced ∙ sym (ap (λ ks. places_behind q ks xs b.rows) f.unlisted);
     adds = subst (λ e. Adds q s (going_on xs) b e) (sym goes) (record {
       whole = f.whole ∙ ap (λ k. k * s.task) (sym number);
       some = subst (λ l. 1 ≤ length l) (sym own) f.some;
@@ -193,6 +195,7 @@ module _ (q : Tree) (s : Sizes) (had has : List (Option (List ℕ))) (c : Cutter
     pub given_cuts : Cuts q s had has given (going_on (xs ++ rows))
     given_cuts = record {
       windows = f.windows;
+      unlisted = f.unlisted;
       sizes = f.sizes;
       made = record { size = f.made.size; room = f.made.room };
       dropped = [];

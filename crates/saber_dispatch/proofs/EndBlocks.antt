@@ -20,7 +20,7 @@ use Rattle.saber_dispatch.specs.declared.cutter.Cutter.{Cutter}
 use Rattle.saber_dispatch.specs.declared.lasts.Lasts.{Lasts}
 use Rattle.saber_dispatch.specs.Readings.{reading_of}
 use Rattle.saber_dispatch.specs.Filling.{Took}
-use Rattle.saber_dispatch.specs.Cutting.{LooksBack, Behind, AtEnd, EndComes, CutState, Flushes, Cuts, Adds, IsNextBlock, is_due, end_counts, and_block, fresh}
+use Rattle.saber_dispatch.specs.Cutting.{LooksBack, Behind, AtEnd, EndComes, CutState, Flushes, Cuts, Adds, IsNextBlock, is_due, end_counts, and_block, places_behind, fresh}
 use Rattle.saber_dispatch.proofs.Fillings.{small as small_marks}
 use Rattle.saber_dispatch.proofs.NextTasks.{goes_on, upto_rows, need_stays}
 use Rattle.saber_dispatch.proofs.BlockCuts.{none_earlier}
@@ -91,6 +91,7 @@ module _ (q : Tree) (s : Sizes) (had has : List (Option (List ℕ))) (c : Cutter
   pub wide_cuts : (l : Option Lasts) (first needs : ℕ) → first ≡ free q s.task (going_on r.rows) c.number → needs ≡ c.number - first + 1 → c.room < needs → Cuts q s had has (record c { lasts = l; ended = Some (TooWide c.number needs) }) r
   wide_cuts l first needs is n wide = record {
     windows = k.windows;
+    unlisted = k.unlisted;
     sizes = k.sizes;
     made = record { size = k.made.size; room = k.made.room };
     dropped = k.dropped;
@@ -117,8 +118,8 @@ module _ (q : Tree) (s : Sizes) (had has : List (Option (List ℕ))) (c : Cutter
     no_more : r.rows ++ b.rows ≡ r.rows
     no_more = ap (λ l. r.rows ++ l) none ∙ append-nil r.rows
 
-    pub end_next : b.number ≡ c.number → b.before ≡ c.mark → b.first ≡ free q s.task (going_on r.rows) c.number → b.earlier.before ≡ c.mark → b.earlier.rows ≡ [] → IsNextBlock q s r b
-    end_next number at first behind_all alone = record {
+    pub end_next : b.number ≡ c.number → b.before ≡ c.mark → b.first ≡ free q s.task (going_on r.rows) c.number → b.earlier.before ≡ c.mark → b.earlier.rows ≡ [] → b.places.items ≡ [] → IsNextBlock q s r b
+    end_next number at first behind_all alone unplaced = record {
       windows = k.windows;
       size = some_size;
       unended = opened.0;
@@ -128,6 +129,7 @@ module _ (q : Tree) (s : Sizes) (had has : List (Option (List ℕ))) (c : Cutter
       first = first ∙ ap (λ i. free q s.task i c.number) (sym is_rows) ∙ ap (free q s.task r) (sym number);
       near = subst (λ t. need q s.task r t ≤ s.ring) (sym number) near;
       fits = subst (RowsFit q no_rows) (sym no_more) (record { rows = took_all.fits; ordered = took_all.ordered; left = marks_small.0; right = marks_small.1 });
+      places = unplaced ∙ sym (ap (λ ks. places_behind q ks r.rows b.rows) k.unlisted);
       adds = subst (Adds q s r b) (sym ends) (record { counts = sym opened.1 ∙ on.0; had_rows = had_rows; none = none });
     }
 
@@ -158,6 +160,7 @@ module _ (q : Tree) (s : Sizes) (had has : List (Option (List ℕ))) (c : Cutter
       all_cuts : Cuts q s had has given all
       all_cuts = record {
         windows = k.windows;
+        unlisted = k.unlisted;
         sizes = k.sizes;
         made = record { size = k.made.size; room = k.made.room };
         dropped = k.dropped;

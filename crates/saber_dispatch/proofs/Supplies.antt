@@ -10,14 +10,14 @@ use Rattle.saber_plan.specs.declared.sizes.Sizes.{Sizes}
 use Rattle.saber_plan.specs.Inputs.{Input, going_on}
 use Rattle.saber_plan.specs.Trees.{Tree}
 use Rattle.saber_plan.specs.Windows.{mark_after, step_mark, last_mark, ending}
-use Rattle.saber_plan.specs.Tasks.{cut, upto, row_tasks, task_count}
+use Rattle.saber_plan.specs.Tasks.{cut, upto, row_tasks, task_count, places, places_by}
 use Rattle.saber_plan.specs.Needs.{free, task_rows}
 use Rattle.saber_fragment.specs.declared.blocks.Block.{Block}
 use Rattle.saber_fragment.specs.Drafts.{EndWith}
 use Rattle.saber_assembly.specs.declared.work.Told.{Told}
 use Rattle.saber_assembly.specs.Stages.{Tasks}
 use Rattle.saber_assembly.specs.Works.{input_of, with_block}
-use Rattle.saber_dispatch.specs.Cutting.{Adds, IsNextBlock}
+use Rattle.saber_dispatch.specs.Cutting.{Adds, IsNextBlock, places_behind}
 use Rattle.saber_dispatch.specs.Supplying.{IsSupplied, BlocksAreSupplied}
 use Rattle.saber_dispatch.proofs.NextTasks.{goes_on, row_cut, upto_rows, upto_end, upto_all, upto_seam}
 
@@ -68,6 +68,10 @@ module _ (q : Tree) (s : Sizes) (xs : List Row) (b : Block) (some : 1 ≤ s.task
       let at_all = back (xs ++ b.rows) (sym same) in
       record { front = at_all.0; whole = at_all.1; rows = at_all.2 }
 
+same_places : (q : Tree) (ks : List ℕ) (xs : List Row) (x y : ℕ) → places_behind q ks (take x xs) (slice_range xs x y) ≡ places_by q ks xs x y
+same_places q [] xs x y = refl
+same_places q (k ∷ ks) xs x y = refl
+
 no_end : (m : Mark) → ending false m ≡ m
 no_end m = refl
 
@@ -94,6 +98,11 @@ module _ {O : Type 0} (plan : O → Tree) (told : Told O) (s : Sizes) (b : Block
   stand : Stands q told.size told.rows b more
   stand = subst (λ n. Stands q n told.rows b more) (sym size) (subst (λ e. Stands q s.task told.rows b (record { rows = told.rows ++ b.rows; ended = e })) ends rows_stand)
 
+  stand_places : places_behind q q.partition told.rows b.rows ≡ places q more.rows (cut told.size more b.number) (cut told.size more (b.number + 1))
+  stand_places =
+      (λ j. places_behind q q.partition (ap (λ (i : Input). i.rows) (sym stand.front) j) (stand.rows j))
+      ∙ same_places q q.partition more.rows (cut told.size more b.number) (cut told.size more (b.number + 1))
+
   tasks : Tasks q told.size more
   tasks = record { windows = next.windows; fits = next.fits; size = subst (λ n. 1 ≤ n) (sym size) next.size }
 
@@ -105,6 +114,7 @@ module _ {O : Type 0} (plan : O → Tree) (told : Told O) (s : Sizes) (b : Block
         earlier = subst (λ (l : List Row). EndWith l b.earlier) (ap (λ (i : Input). i.rows) (sym stand.front)) next.earlier;
         before = next.before ∙ sym (ap last_mark stand.front);
         rows = stand.rows;
+        places = next.places ∙ stand_places;
         ended = ends ∙ sym (ap (λ (i : Input). i.ended) stand.whole);
       };
       opens = ap (λ (i : Input). i.ended) stand.front;

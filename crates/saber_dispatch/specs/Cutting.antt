@@ -16,7 +16,7 @@ use Rattle.saber_plan.specs.Answers.{frame}
 use Rattle.saber_plan.specs.Trees.{Tree}
 use Rattle.saber_plan.specs.Checked.{columns_on}
 use Rattle.saber_plan.specs.Given.{RowsFit}
-use Rattle.saber_plan.specs.Tasks.{task_count}
+use Rattle.saber_plan.specs.Tasks.{task_count, places_after}
 use Rattle.saber_plan.specs.Needs.{free, need, block_lasts}
 use Rattle.saber_fragment.specs.declared.blocks.Block.{Block}
 use Rattle.saber_fragment.specs.Drafts.{EndWith}
@@ -173,6 +173,7 @@ Flushes q s c r dropped true = EndGiven q s c r dropped
 -- The cutter gave the tasks of this input, which are the first of its inputs; it read other rows that are in no block.
 pub record Cuts (q : Tree) (s : Sizes) (had has : Lefts) (c : Cutter) (r : Input) : Type 0 where
   pub windows : Fits (frame q)
+  pub unlisted : q.partition ≡ []
   pub sizes : SizesFit s
   pub made : MadeFor s c
   pub dropped : List Row
@@ -217,6 +218,11 @@ abbrev pub Adds : Tree → Sizes → Input → Block → Bool → Type 0
 Adds q s r b false = AddsRows s r b
 Adds q s r b true = AddsEnd q s r b
 
+-- where rows stand in their substreams, behind others; only a query with PARTITION BY asks for it
+abbrev pub places_behind : Tree → List ℕ → List Row → List Row → List ℕ
+places_behind q [] xs rows = []
+places_behind q (k ∷ ks) xs rows = places_after q xs rows
+
 -- The block of the next task of an input: the rows of the task or the input's end, with what stands before them, and the first task whose rows
 -- the task needs. The rows that it has of those before are the last of them.
 pub record IsNextBlock (q : Tree) (s : Sizes) (r : Input) (b : Block) : Type 0 where
@@ -229,6 +235,7 @@ pub record IsNextBlock (q : Tree) (s : Sizes) (r : Input) (b : Block) : Type 0 w
   pub first : b.first ≡ free q s.task r b.number
   pub near : need q s.task r b.number ≤ s.ring
   pub fits : RowsFit q no_rows (r.rows ++ b.rows)
+  pub places : b.places.items ≡ places_behind q q.partition r.rows b.rows
   pub adds : Adds q s r b b.ended
 
 -- an input with one block more
@@ -278,6 +285,7 @@ FilledState s c rows (Some _) = ⊥
 -- the rows of the block behind those of the blocks given
 pub record Filled (q : Tree) (s : Sizes) (had has : Lefts) (c : Cutter) (xs : List Row) (before : Mark) (rows : List Row) : Type 0 where
   pub windows : Fits (frame q)
+  pub unlisted : q.partition ≡ []
   pub sizes : SizesFit s
   pub made : MadeFor s c
   pub took : Took q no_rows (fresh q (limits_of s)) (reading_of c.reader) had has (xs ++ rows)

@@ -165,9 +165,11 @@ fn is_due(flush: bool, count: u64, end: End) -> bool
 impl Cutter {
     /// A cutter of a checked plan's inputs, which has read nothing. A block has `sizes.task` rows, and no
     /// task may need more than `sizes.ring` blocks, its own counted. With `sizes.flush` the end of the input
-    /// is a block too, where the query has windows. The memory of the readers' buffers is taken here.
+    /// is a block too, where the query has windows. The memory of the readers' buffers is taken here. The plan has
+    /// no PARTITION BY: its blocks don't say where their rows stand in their substreams.
     pub fn new(alloc: Global, plan: &Plan, sizes: &Sizes) -> Result<Cutter, NoMemory>
         requires checked { IsChecked (tree_of plan.now) }
+        requires unlisted { (tree_of plan.now).partition ≡ [] }
         requires sizes { SizesFit sizes.now }
         ensures cuts { IfOk result (CutsNothing (tree_of plan.now) sizes.now) }
         ensures goes { IfOk result (λ c. end_of c ≡ None) }
@@ -215,6 +217,7 @@ impl Cutter {
             return Cut::Ended(End::NoMemory);
         }
         let number = self.number;
+        let places = Vec::new(self.alloc);
         self.number += 1;
         Cut::Block(Block {
             number,
@@ -222,6 +225,7 @@ impl Cutter {
             earlier: Earlier::none(self.alloc, before),
             before,
             rows,
+            places,
             ended: false,
         })
     }
@@ -243,6 +247,7 @@ impl Cutter {
             return Cut::Ended(end);
         }
         let number = self.number;
+        let places = Vec::new(self.alloc);
         self.number = number + 1;
         self.flush = false;
         Cut::Block(Block {
@@ -251,6 +256,7 @@ impl Cutter {
             earlier: Earlier::none(self.alloc, self.mark),
             before: self.mark,
             rows: Rows::new(self.alloc),
+            places,
             ended: true,
         })
     }

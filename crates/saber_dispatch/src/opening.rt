@@ -9,7 +9,10 @@ ghost use Rattle.saber_dispatch.specs.Cutting.{LooksBack, end_counts, fresh};
 use crate::lasts::Lasts;
 use crate::letting::let_lines_go;
 use crate::reader::Reader;
-use saber_laws::{groups_have_one_window, joins_have_two_windows, selections_have_no_window};
+use saber_laws::{
+    groups_have_one_window, joins_have_two_windows, selections_have_no_window,
+    words_have_one_window,
+};
 use saber_plan::{NoMemory, Plan, Shape, Side, Sizes, Stream};
 use saber_rows::{Lines, Merge};
 use saber_window::Windows;
@@ -81,10 +84,14 @@ pub(crate) fn end_counts(plan: &Plan, sizes: &Sizes) -> bool
     ensures { result ≡ end_counts (tree_of plan.now) sizes.now }
 {
     selections_have_no_window();
+    words_have_one_window();
     groups_have_one_window();
     joins_have_two_windows();
     match plan.shape() {
-        Shape::Select => false,
+        Shape::Select => match plan.word() {
+            None => false,
+            Some(_) => sizes.flush,
+        },
         Shape::Group => sizes.flush,
         Shape::Join => sizes.flush,
     }

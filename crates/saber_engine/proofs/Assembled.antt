@@ -6,7 +6,7 @@ use Rattle.saber_io.specs.Outside.{appended}
 use Rattle.saber_plan.specs.Inputs.{Input}
 use Rattle.saber_plan.specs.Trees.{Tree}
 use Rattle.saber_plan.specs.Answers.{text}
-use Rattle.saber_plan.specs.Tasks.{Parts, upto, unclosed}
+use Rattle.saber_plan.specs.Tasks.{Kept, upto, kept_behind}
 use Rattle.saber_laws.specs.Cuts.{FirstOfFirst}
 use Rattle.saber_ring.specs.Shows.{extra}
 use Rattle.saber_assembly.specs.declared.stage.Stage.{Stage}
@@ -23,7 +23,7 @@ use Rattle.saber_engine.specs.Supplying.{first_told}
 -- a stage by the input of the first tasks is one by all of it
 after_all : FirstOfFirst → (q : Tree) (n : ℕ) (r : Input) (start : Start) (j : ℕ) (s : StageView) (state : State) → s.k ≤ j → (state ≡ SinkFailed → s.k + 1 ≤ j) → After q n (upto n r j) start s state → After q n r start s state
 after_all first q n r start j s Running le next a =
-    let same = first n r j s.k le in (a.0 ∙ ap (λ z. appended start.written (text q z)) same, a.1 ∙ ap (unclosed q) same, a.2)
+    let same = first n r j s.k le in (a.0 ∙ ap (λ z. appended start.written (text q z)) same, a.1 ∙ ap (kept_behind q) same, a.2)
 after_all first q n r start j s SinkFailed le next a =
     let same = first n r j s.k le in let more = first n r j (s.k + 1) (next refl) in let c = a.0.is_cut in (
       record {
@@ -44,7 +44,7 @@ after_all first q n r start j s NoMemory le next a = (a.0 ∙ ap (λ z. appended
 apart : Running ≡ SinkFailed → ⊥
 apart e = cc
 
-module _ (first : FirstOfFirst) {O S K : Type 0} (plan : O → Tree) (held : S → Parts) (taken : O → S → Input → Type 0) (wrote : K → Option (List ℕ)) (failed : K → ℕ) (op : O) (n : ℕ) (w : Option (List ℕ)) (f : ℕ) (given : Told O → ℕ → Type 0) (over : Type 0) (s : Stage S K) (fed : Fed)
+module _ (first : FirstOfFirst) {O S K : Type 0} (plan : O → Tree) (held : S → Kept) (taken : O → S → Input → Type 0) (wrote : K → Option (List ℕ)) (failed : K → ℕ) (op : O) (n : ℕ) (w : Option (List ℕ)) (f : ℕ) (given : Told O → ℕ → Type 0) (over : Type 0) (s : Stage S K) (fed : Fed)
     (r : RunsTo (IsTold plan) first_tasks (IsStageOf plan (seen held wrote failed) taken) given over (first_told op n w f) s fed) where
   pub op_is : r.told.operator ≡ op
   op_is = ap (λ (z : Told O). z.operator) r.base_is

@@ -7,7 +7,7 @@ use Rattle.saber_plan.specs.declared.sizes.Sizes.{Sizes}
 use Rattle.saber_plan.specs.Inputs.{Input}
 use Rattle.saber_plan.specs.Rows.{Read}
 use Rattle.saber_plan.specs.Trees.{Tree}
-use Rattle.saber_plan.specs.Tasks.{Parts, upto, task_count, run_input}
+use Rattle.saber_plan.specs.Tasks.{Kept, upto, task_count, run_input}
 use Rattle.saber_plan.specs.Answers.{text, frame}
 use Rattle.saber_plan.specs.Windows.{Fits}
 use Rattle.saber_laws.specs.Cuts.{FirstOfFirst}
@@ -53,7 +53,7 @@ pub record Came (q : Tree) (s : Sizes) (c : Cutter) (end : Option End) (all : In
   pub write_good : end_of state over end ≢ WriteFault → faults ≡ f
   pub writes : f ≤ faults
 
-module _ (first : FirstOfFirst) {O S K : Type 0} (plan : O → Tree) (held : S → Parts) (taken : O → S → Input → Type 0) (wrote : K → Option (List ℕ)) (failed : K → ℕ)
+module _ (first : FirstOfFirst) {O S K : Type 0} (plan : O → Tree) (held : S → Kept) (taken : O → S → Input → Type 0) (wrote : K → Option (List ℕ)) (failed : K → ℕ)
     (op : O) (s : Sizes) (w : Option (List ℕ)) (f : ℕ) (IsGiven : Told O → ℕ → Type 0) (IsOver : Type 0) (c : Cutter) (end : Option End) (stage : Stage S K) (fed : Fed)
     (r : RunsTo (IsTold plan) first_tasks (IsStageOf plan (seen held wrote failed) taken) IsGiven IsOver (first_told op s.task w f) stage fed)
     (given : GivenBy s c end (told_input r.told) r.count) where
@@ -191,7 +191,7 @@ gives_nothing nothing none q fits s rows = record {
     few = omega arith;
     all = λ i. absurd (some_not_all i);
     before = λ u i. absurd (some_not_before u i);
-    answers = λ _. sym (ap (text q) (none s.task (run_input q s.flush rows)) ∙ (nothing q fits).0);
+    answers = λ _. sym (ap (text q) (none s.task (run_input q s.flush rows)) ∙ (nothing q fits).text);
     cut = λ i. absurd (some_not_cut i);
   };
 }

@@ -12,7 +12,7 @@ use Rattle.saber_plan.specs.Inputs.{Input, going_on}
 use Rattle.saber_plan.specs.Trees.{Tree}
 use Rattle.saber_plan.specs.Answers.{frame}
 use Rattle.saber_plan.specs.Windows.{Fits}
-use Rattle.saber_plan.specs.Tasks.{Parts}
+use Rattle.saber_plan.specs.Tasks.{Kept}
 use Rattle.saber_laws.specs.Cuts.{FirstOfFirst}
 use Rattle.saber_laws.specs.Pieces.{NoRowsGiveNothing, NoTasksNoRows}
 use Rattle.saber_assembly.specs.declared.stage.Stage.{Stage}
@@ -111,7 +111,7 @@ pub record FedDone (q : Tree) (s : Sizes) (v : FeedView) (before : ℕ) (w : Opt
   pub reads : before ≤ v.faults
   pub writes : f ≤ faults
 
-module _ (first : FirstOfFirst) (are : FedBlocksAreTasks) (leave : CutsLeaveWholeTasks) {O S K : Type 0} (plan : O → Tree) (held : S → Parts) (taken : O → S → Input → Type 0) (wrote : K → Option (List ℕ)) (failed : K → ℕ)
+module _ (first : FirstOfFirst) (are : FedBlocksAreTasks) (leave : CutsLeaveWholeTasks) {O S K : Type 0} (plan : O → Tree) (held : S → Kept) (taken : O → S → Input → Type 0) (wrote : K → Option (List ℕ)) (failed : K → ℕ)
     (op : O) (s : Sizes) (some : 1 ≤ s.task) (w : Option (List ℕ)) (f : ℕ) (v : FeedView) (before : ℕ) (c : FedCutter) (k : Keeper) (end : Option End) (stage : Stage S K) (fed : Fed)
     (r : RunsTo (IsTold plan) first_tasks (IsStageOf plan (seen held wrote failed) taken) (HasFed plan s before v c k end) (IsSome end) (first_told op s.task w f) stage fed) where
   abbrev q : Tree

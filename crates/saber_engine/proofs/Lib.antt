@@ -10,3 +10,4 @@ mod FedSupplied
 mod FedResults
 mod Shapes
 mod Stops
+mod Sending

@@ -41,6 +41,7 @@ module _ (q : Tree) (s : Sizes) (r : Input) (old : Keeper) (b c : Block) (new : 
         first = next.first;
         near = next.near;
         fits = next.fits;
+        places = next.places;
         adds = adds_same q s r b p.same.0 b.ended next.adds;
       })
 

@@ -11,7 +11,7 @@ use Rattle.saber_plan.specs.Rows.{Read}
 use Rattle.saber_plan.specs.Trees.{Tree}
 use Rattle.saber_plan.specs.Answers.{frame}
 use Rattle.saber_plan.specs.Windows.{Fits}
-use Rattle.saber_plan.specs.Tasks.{Parts}
+use Rattle.saber_plan.specs.Tasks.{Kept}
 use Rattle.saber_laws.specs.Cuts.{FirstOfFirst}
 use Rattle.saber_laws.specs.Pieces.{NoRowsGiveNothing, NoTasksNoRows}
 use Rattle.saber_assembly.specs.declared.stage.Stage.{Stage}
@@ -56,7 +56,7 @@ pub record Done (q : Tree) (s : Sizes) (had has : Lefts) (before now : List ℕ)
   pub reads : NoneFell before now
   pub writes : f ≤ faults
 
-module _ (first : FirstOfFirst) (are : telling.BlocksAreTasks) (leave : FaultsLeaveWholeTasks) {O S K : Type 0} (plan : O → Tree) (held : S → Parts) (taken : O → S → Input → Type 0) (wrote : K → Option (List ℕ)) (failed : K → ℕ)
+module _ (first : FirstOfFirst) (are : telling.BlocksAreTasks) (leave : FaultsLeaveWholeTasks) {O S K : Type 0} (plan : O → Tree) (held : S → Kept) (taken : O → S → Input → Type 0) (wrote : K → Option (List ℕ)) (failed : K → ℕ)
     (op : O) (s : Sizes) (w : Option (List ℕ)) (f : ℕ) (had has : Lefts) (before now : List ℕ) (c : Cutter) (k : Keeper) (end : Option End) (stage : Stage S K) (fed : Fed)
     (r : RunsTo (IsTold plan) first_tasks (IsStageOf plan (seen held wrote failed) taken) (HasGiven plan s had has before now c k end) (IsSome end) (first_told op s.task w f) stage fed) where
   abbrev q : Tree

@@ -9,7 +9,7 @@ use Rattle.saber_plan.specs.Trees.{Tree}
 use Rattle.saber_plan.specs.Answers.{frame}
 use Rattle.saber_plan.specs.Windows.{Fits, no_rows, Ordered}
 use Rattle.saber_plan.specs.Given.{RowsFit}
-use Rattle.saber_plan.specs.Tasks.{Parts}
+use Rattle.saber_plan.specs.Tasks.{Kept}
 use Rattle.saber_laws.specs.Pieces.{NoTasksNoRows}
 use Rattle.saber_assembly.specs.declared.stage.Stage.{Stage}
 use Rattle.saber_assembly.specs.declared.stage.State.TheVariants.{Running}
@@ -54,7 +54,7 @@ given_none plan op s had before w f c k nothing open_still suits kept =
       counted = record { fell = none_same before; good = λ _. refl; cause = λ side i. absurd (none_some (ReadFault side) i) };
     }
 
-module _ {O S K : Type 0} (plan : O → Tree) (held : S → Parts) (taken : O → S → Input → Type 0) (wrote : K → Option (List ℕ)) (failed : K → ℕ) (op : O) (n : ℕ) (stage : Stage S K) where
+module _ {O S K : Type 0} (plan : O → Tree) (held : S → Kept) (taken : O → S → Input → Type 0) (wrote : K → Option (List ℕ)) (failed : K → ℕ) (op : O) (n : ℕ) (stage : Stage S K) where
   abbrev told : Told O
   told = first_told op n (wrote stage.sink) (failed stage.sink)
 

@@ -3,8 +3,9 @@ ghost use Rattle.std.specs.Prelude.{◌≡◌, ◌≢◌, ◌≤◌, Some, lengt
 ghost use Rattle.saber_io.specs.Outside.{Rose};
 ghost use Rattle.saber_io.specs.declared.feeds.EndMark.{EndMark};
 ghost use Rattle.saber_plan.specs.declared.rows.Side.{Side};
+ghost use Rattle.saber_plan.specs.declared.plans.Shape.TheVariants as shapes;
 ghost use Rattle.saber_plan.specs.Trees.{tree_of};
-ghost use Rattle.saber_plan.specs.Checked.{IsChecked};
+ghost use Rattle.saber_plan.specs.Checked.{IsChecked, IsPlain};
 ghost use Rattle.saber_plan.specs.Sizes.{SizesFit};
 ghost use Rattle.saber_engine.specs.declared.ends.RunEnd.{RunEnd};
 ghost use Rattle.saber_engine.specs.Gives.{IsClean};
@@ -23,6 +24,38 @@ use std::marker::Brand;
 use std::sync::Wait;
 use std::thread::Threads;
 
+// A run of a group query. It stands alone, since that a group's operator may be sent and shared is found where little else is known.
+fn run_group<F: Feed, K: Pour + Send, G: Gate + Sync, R: Threads + Wait + Sync>(
+    rt: &R,
+    alloc: Global,
+    plan: &Plan,
+    feed: &mut F,
+    sink: K,
+    sizes: &Sizes,
+    gate: &G,
+) -> Ran<K>
+    requires checked { IsChecked (tree_of plan.now) }
+    requires plain { IsPlain (tree_of plan.now) }
+    requires group { (tree_of plan.now).shape ≡ shapes.Group }
+    requires one { length (tree_of plan.now).streams ≡ 1 }
+    requires sizes { SizesFit sizes.now }
+    requires fresh { F.waiting feed.old ≡ F.taken feed.old }
+    ensures gives { GivesFed (tree_of plan.now) sizes.now (F.taken feed.new) (F.mark feed.new) (K.written sink) (K.written result.sink) result.end result.tasks }
+    ensures whole { CutLeavesWhole (tree_of plan.now) sizes.now (F.taken feed.new) result.end result.tasks }
+    ensures all { result.end ≡ RunEnd.AllRead → F.mark feed.new ≡ Some EndMark.End }
+    ensures cut { (side : Side) → result.end ≡ RunEnd.ReadFault side → F.mark feed.new ≡ Some EndMark.Cut }
+    ensures read { (side : Side) → result.end ≡ RunEnd.ReadFault side → Rose (F.faults feed.old) (F.faults feed.new) }
+    ensures write { result.end ≡ RunEnd.WriteFault → Rose (K.faults sink) (K.faults result.sink) }
+    ensures read_good { IsClean result.end → F.faults feed.new ≡ F.faults feed.old }
+    ensures write_good { result.end ≢ RunEnd.WriteFault → K.faults result.sink ≡ K.faults sink }
+    ensures reads { F.faults feed.old ≤ F.faults feed.new }
+    ensures writes { K.faults sink ≤ K.faults result.sink }
+    ensures stopped { MayStop result.end result.stopped }
+{
+    let operator = Group::new(plan);
+    run_fed::<F, Group<'_>, K, G, Brand, R>(rt, alloc, &operator, plan, feed, sink, sizes, gate)
+}
+
 // The operator of the plan's shape.
 fn run_shape<F: Feed, K: Pour + Send, G: Gate + Sync, R: Threads + Wait + Sync>(
     rt: &R,
@@ -34,6 +67,7 @@ fn run_shape<F: Feed, K: Pour + Send, G: Gate + Sync, R: Threads + Wait + Sync>(
     gate: &G,
 ) -> Ran<K>
     requires checked { IsChecked (tree_of plan.now) }
+    requires plain { IsPlain (tree_of plan.now) }
     requires one { length (tree_of plan.now).streams ≡ 1 }
     requires sizes { SizesFit sizes.now }
     requires fresh { F.waiting feed.old ≡ F.taken feed.old }
@@ -56,12 +90,7 @@ fn run_shape<F: Feed, K: Pour + Send, G: Gate + Sync, R: Threads + Wait + Sync>(
                 rt, alloc, &operator, plan, feed, sink, sizes, gate,
             )
         }
-        Shape::Group => {
-            let operator = Group::new(plan);
-            run_fed::<F, Group<'_>, K, G, Brand, R>(
-                rt, alloc, &operator, plan, feed, sink, sizes, gate,
-            )
-        }
+        Shape::Group => run_group(rt, alloc, plan, feed, sink, sizes, gate),
         Shape::Join => unreachable!(),
     }
 }
@@ -78,6 +107,7 @@ pub fn engine_fed<F: Feed, K: Sink + Send, G: Gate + Sync, R: Threads + Wait + S
     gate: &G,
 ) -> Ran<K>
     requires checked { IsChecked (tree_of plan.now) }
+    requires plain { IsPlain (tree_of plan.now) }
     requires one { length (tree_of plan.now).streams ≡ 1 }
     requires sizes { SizesFit sizes.now }
     requires fresh { F.waiting feed.old ≡ F.taken feed.old }

@@ -4,7 +4,7 @@ ghost use Rattle.saber_io.specs.Outside.{Rose};
 ghost use Rattle.saber_plan.specs.declared.rows.Side.{Side};
 ghost use Rattle.saber_plan.specs.declared.plans.Shape.TheVariants as shapes;
 ghost use Rattle.saber_plan.specs.Trees.{tree_of};
-ghost use Rattle.saber_plan.specs.Checked.{IsChecked};
+ghost use Rattle.saber_plan.specs.Checked.{IsChecked, IsPlain};
 ghost use Rattle.saber_plan.specs.Sizes.{SizesFit};
 ghost use Rattle.saber_engine.specs.declared.ends.RunEnd.{RunEnd};
 ghost use Rattle.saber_engine.specs.Sources.{each_input, told_by, RoseAt, NoneFell, GaveAll};
@@ -36,6 +36,7 @@ fn run_group<S: Source, K: Pour + Send, G: Gate + Sync, R: Threads + Wait + Sync
     gate: &G,
 ) -> Ran<K>
     requires checked { IsChecked (tree_of plan.now) }
+    requires plain { IsPlain (tree_of plan.now) }
     requires group { (tree_of plan.now).shape ≡ shapes.Group }
     requires inputs { length (each_input S.left inputs.old) ≡ length (tree_of plan.now).streams }
     requires sizes { SizesFit sizes.now }
@@ -68,6 +69,7 @@ pub fn engine_pouring<S: Source, K: Pour + Send, G: Gate + Sync, R: Threads + Wa
     gate: &G,
 ) -> Ran<K>
     requires checked { IsChecked (tree_of plan.now) }
+    requires plain { IsPlain (tree_of plan.now) }
     requires inputs { length (each_input S.left inputs.old) ≡ length (tree_of plan.now).streams }
     requires sizes { SizesFit sizes.now }
 
@@ -121,6 +123,7 @@ pub fn engine<S: Source, K: Sink + Send, G: Gate + Sync, R: Threads + Wait + Syn
     gate: &G,
 ) -> Ran<K>
     requires checked { IsChecked (tree_of plan.now) }
+    requires plain { IsPlain (tree_of plan.now) }
     requires inputs { length (each_input S.left inputs.old) ≡ length (tree_of plan.now).streams }
     requires sizes { SizesFit sizes.now }
 

@@ -8,13 +8,13 @@ use Rattle.saber_plan.specs.Trees.{Tree}
 use Rattle.saber_plan.specs.Windows.{Fits, no_rows, mark_after}
 use Rattle.saber_plan.specs.Answers.{frame}
 use Rattle.saber_plan.specs.Given.{RowsFit}
-use Rattle.saber_plan.specs.Tasks.{cut, upto}
+use Rattle.saber_plan.specs.Tasks.{cut, upto, places}
 use Rattle.saber_plan.specs.Needs.{free, back_mark, task_mark, task_rows, task_ends}
-use Rattle.saber_plan.specs.Shares.{shares_here}
+use Rattle.saber_plan.specs.Shares.{shares_here, handed_here}
 use Rattle.saber_laws.specs.Windows.{MarksGoOn}
 use Rattle.saber_laws.specs.Ends.{CutsRise, NoneNeededBehind}
 use Rattle.saber_laws.specs.Needs.{TasksLookBack}
-use Rattle.saber_laws.specs.Shares.{SharesNeedNoMore}
+use Rattle.saber_laws.specs.Shares.{SharesNeedNoMore, HandedNeedsNoMore}
 use Rattle.saber_fragment.specs.declared.blocks.Block.{Block}
 use Rattle.saber_fragment.specs.declared.blocks.Earlier.{Earlier}
 use Rattle.saber_fragment.specs.Drafts.{EndWith, CanStart, Sight, own_sight, begins, fed, CanFeed, IsWhole, IsSightOf}
@@ -41,7 +41,7 @@ last_case : (c : Bool) (t m : Mark) → (c ≡ true → t ≡ m) → cond c t m 
 last_case true t m h = h refl
 last_case false t m h = refl
 
-module _ (cuts : CutsRise) (marks : MarksGoOn) (behind : NoneNeededBehind) (back : TasksLookBack) (need : SharesNeedNoMore) (q : Tree) (n : ℕ) (r : Input) (t : ℕ) (size : 1 ≤ n) (windows : Fits (frame q)) (fits : RowsFit q no_rows r.rows) where
+module _ (cuts : CutsRise) (marks : MarksGoOn) (behind : NoneNeededBehind) (back : TasksLookBack) (need : SharesNeedNoMore) (hand : HandedNeedsNoMore) (q : Tree) (n : ℕ) (r : Input) (t : ℕ) (size : 1 ≤ n) (windows : Fits (frame q)) (fits : RowsFit q no_rows r.rows) where
   abbrev f : ℕ
   f = free q n r t
 
@@ -87,6 +87,7 @@ module _ (cuts : CutsRise) (marks : MarksGoOn) (behind : NoneNeededBehind) (back
     earlier = b.earlier;
     before = h.before j;
     rows = h.rows j;
+    places = h.places j;
     ended = h.ended j;
   }
 
@@ -128,6 +129,7 @@ module _ (cuts : CutsRise) (marks : MarksGoOn) (behind : NoneNeededBehind) (back
       earlier = e;
       before = task_mark n r t;
       rows = task_rows n r t;
+      places = places q r.rows (at t) (at (t + 1));
       ended = task_ends n r t;
     }
 
@@ -155,6 +157,8 @@ module _ (cuts : CutsRise) (marks : MarksGoOn) (behind : NoneNeededBehind) (back
       before_is = refl;
       rows_are = refl;
       ended_is = refl;
+      places_are = refl;
+      hands = ap (λ m. handed_here q m (slice_range r.rows (at f) (at t)) (task_rows n r t) (task_ends n r t)) whole_first ∙ hand q n r t size windows fits.ordered;
       gives = ap (λ m. shares_here q m (slice_range r.rows (at f) (at t)) (task_rows n r t) (task_ends n r t)) whole_first ∙ need q n r t size windows fits.ordered;
     }
 

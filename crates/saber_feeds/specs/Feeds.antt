@@ -5,18 +5,19 @@ use Rattle.saber_plan.specs.Inputs.{Input}
 use Rattle.saber_plan.specs.Windows.{Fits, no_rows}
 use Rattle.saber_plan.specs.Answers.{frame}
 use Rattle.saber_plan.specs.Given.{RowsFit}
-use Rattle.saber_plan.specs.Tasks.{cut, upto}
+use Rattle.saber_plan.specs.Tasks.{cut, upto, places}
 use Rattle.saber_plan.specs.Needs.{free, back_mark, task_mark, task_rows, task_ends}
 use Rattle.saber_fragment.specs.declared.blocks.Block.{Block}
 use Rattle.saber_fragment.specs.declared.blocks.Earlier.{Earlier}
 use Rattle.saber_fragment.specs.Drafts.{EndWith, CanStart, Sight, own_sight, fed, CanFeed, IsWhole, IsSightOf}
 
 -- The block has the rows of task t of an input in tasks of n rows, and tells whether the input ends behind them; and the rows that it has
--- of those before are the last of them.
+-- of those before are the last of them; and where its rows stand in their substreams.
 pub record IsBlock (q : Tree) (n : ℕ) (r : Input) (t : ℕ) (b : Block) : Type 0 where
   pub earlier : EndWith (take (cut n r t) r.rows) b.earlier
   pub before : b.before ≡ task_mark n r t
   pub rows : b.rows ≡ task_rows n r t
+  pub places : b.places.items ≡ places q r.rows (cut n r t) (cut n r (t + 1))
   pub ended : b.ended ≡ task_ends n r t
 
 -- what a draft of task t has, with the blocks from the first that the task needs up to block u, where its own block has these rows before its own
@@ -27,6 +28,7 @@ sight_to q n r t e u = record {
   earlier = e;
   before = task_mark n r t;
   rows = task_rows n r t;
+  places = places q r.rows (cut n r t) (cut n r (t + 1));
   ended = task_ends n r t;
 }
 

@@ -11,10 +11,9 @@ use Rattle.saber_plan.specs.Trees.{Tree}
 use Rattle.saber_plan.specs.Answers.{frame}
 use Rattle.saber_plan.specs.Windows.{Fits, no_rows, mark_of, mark_at, last_mark}
 use Rattle.saber_plan.specs.Given.{RowsFit}
-use Rattle.saber_plan.specs.Tasks.{Parts, unclosed, left_by}
-use Rattle.saber_plan.specs.Shares.{shares_here, shares_between, piece_in}
-use Rattle.saber_laws.specs.Pieces.{OpenGoesOn}
-use Rattle.saber_laws.specs.Shares.{SharesAreLocal, SharesMakePiece}
+use Rattle.saber_plan.specs.Tasks.{Kept, kept_behind, places}
+use Rattle.saber_plan.specs.Shares.{shares_here, shares_between, handed_here, handed_between}
+use Rattle.saber_laws.specs.Shares.{SharesAreLocal, HandedAreLocal}
 use Rattle.saber_fragment.specs.Drafts.{EndWith, Sight, IsSightOf}
 use Rattle.saber_fragment.specs.Stores.{Follows}
 
@@ -74,11 +73,24 @@ module _ (xs ys : List Row) (ended : Bool) where
       ∙ local q r (length xs) (end_of xs ys ended)
       (record { fits = w; ordered = fits.ordered; rises = reaches ended (length xs) (length ys) }) no_join
 
+  -- and what it hands on
+  pub local_hands : HandedAreLocal → (q : Tree) → Fits (frame q) → q.shape ≢ Join → (m : Mark) → m ≡ mark_of xs → RowsFit q no_rows (xs ++ ys)
+      → handed_here q m [] ys ended ≡ handed_between q (with_task xs ys ended) (length xs) (end_of xs ys ended)
+  local_hands local q w no_join m before fits =
+      let r = with_task xs ys ended in
+      let mark : m ≡ mark_at r (length xs) = before ∙ ap last_mark (sym at_first) in
+      let ends : ended ≡ (arrived r (end_of xs ys ended)).ended = ap (λ u. u.ended) (sym at_last) in
+      (λ j. handed_here q (mark j) [] (sym own_rows j) (ends j))
+      ∙ local q r (length xs) (end_of xs ys ended)
+      (record { fits = w; ordered = fits.ordered; rises = reaches ended (length xs) (length ys) }) no_join
+
   -- a draft that has the task's rows, those before them as its block has them, and what it looks back on, is seen as they are
   pub task_sight : (q : Tree) → Fits (frame q) → RowsFit q no_rows (xs ++ ys) → (s : Sight) → s.before ≡ mark_of xs → s.rows ≡ ys → s.ended ≡ ended → EndWith xs s.earlier
+      → s.places ≡ places q (xs ++ ys) (length xs) (end_of xs ys ended)
       → shares_here q s.first s.back s.rows s.ended ≡ shares_between q (with_task xs ys ended) (length xs) (end_of xs ys ended)
+      → handed_here q s.first s.back s.rows s.ended ≡ handed_between q (with_task xs ys ended) (length xs) (end_of xs ys ended)
       → IsSightOf q s (with_task xs ys ended) (length xs) (end_of xs ys ended)
-  task_sight q w fits s before rows end last gives = record {
+  task_sight q w fits s before rows end last stand gives hands = record {
     windows = w;
     fits = fits;
     rises = reaches ended (length xs) (length ys);
@@ -87,30 +99,25 @@ module _ (xs ys : List Row) (ended : Bool) where
     before_is = before ∙ ap last_mark (sym at_first);
     rows_are = rows ∙ sym own_rows;
     ended_is = end ∙ ap (λ u. u.ended) (sym at_last);
+    places_are = stand;
     gives = gives;
+    hands = hands;
   }
 
   -- a store that has taken in the rows before the task can take the task in
   pub task_follows : (q : Tree) → Fits (frame q) → RowsFit q no_rows (xs ++ ys)
-      → (parts : Parts) (taken : Input → Type 0) (of : Input → ℕ → ℕ → Type 0)
-      → parts ≡ unclosed q (going_on xs) → taken (going_on xs) → of (with_task xs ys ended) (length xs) (end_of xs ys ended)
-      → Follows q parts taken of (with_task xs ys ended) (length xs) (end_of xs ys ended)
-  task_follows q w fits parts taken of held is_taken is_of = record {
+      → (kept : Kept) (taken : Input → Type 0) (of : Input → ℕ → ℕ → Type 0)
+      → kept ≡ kept_behind q (going_on xs) → taken (going_on xs) → of (with_task xs ys ended) (length xs) (end_of xs ys ended)
+      → Follows q kept taken of (with_task xs ys ended) (length xs) (end_of xs ys ended)
+  task_follows q w fits kept taken of held is_taken is_of = record {
     windows = w;
     fits = fits;
     rises = reaches ended (length xs) (length ys);
-    unclosed_is = held ∙ ap (unclosed q) (sym at_first);
+    kept_is = held ∙ ap (kept_behind q) (sym at_first);
     taken_is = subst taken (sym at_first) is_taken;
     of_is = is_of;
   }
 
-  -- and then it holds what they leave open together
-  pub task_leaves : SharesMakePiece → OpenGoesOn
-      → (q : Tree) (parts : Parts) (taken : Input → Type 0) (of : Input → ℕ → ℕ → Type 0)
-      → Follows q parts taken of (with_task xs ys ended) (length xs) (end_of xs ys ended)
-      → left_by q parts (piece_in (shares_between q (with_task xs ys ended) (length xs) (end_of xs ys ended))) ≡ unclosed q (with_task xs ys ended)
-  task_leaves make goes q parts taken of f =
-      let r = with_task xs ys ended in
-      (λ j. left_by q (f.unclosed_is j) (make q r (length xs) (end_of xs ys ended) (record { fits = f.windows; ordered = f.fits.ordered; rises = f.rises }) j))
-      ∙ sym (goes q f.windows r (length xs) (end_of xs ys ended) f.fits.ordered f.rises)
-      ∙ ap (unclosed q) at_last
+  -- and then it keeps what is to be kept of both together
+  pub task_leaves : (q : Tree) → kept_behind q (arrived (with_task xs ys ended) (end_of xs ys ended)) ≡ kept_behind q (with_task xs ys ended)
+  task_leaves q = ap (kept_behind q) at_last

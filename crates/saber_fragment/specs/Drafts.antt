@@ -7,7 +7,8 @@ use Rattle.saber_plan.specs.Trees.{Tree}
 use Rattle.saber_plan.specs.Answers.{frame}
 use Rattle.saber_plan.specs.Windows.{Fits, no_rows, mark_of, mark_after, mark_at}
 use Rattle.saber_plan.specs.Given.{RowsFit}
-use Rattle.saber_plan.specs.Shares.{shares_here, shares_between}
+use Rattle.saber_plan.specs.Shares.{shares_here, shares_between, handed_here, handed_between}
+use Rattle.saber_plan.specs.Tasks.{places}
 use Rattle.saber_fragment.specs.declared.blocks.Block.{Block}
 use Rattle.saber_fragment.specs.declared.blocks.Earlier.{Earlier}
 
@@ -28,18 +29,19 @@ pub record CanStart (q : Tree) (b : Block) : Type 0 where
 -- ---- what a draft has seen
 
 -- The rows looked back on so far with the mark before them, the task's own rows with theirs, and whether the input ends behind those;
--- and the rows before its own that the task's block has.
+-- the rows before its own that the task's block has, and where the own ones stand in their substreams.
 pub record Sight : Type 0 where
   pub first : Mark
   pub back : List Row
   pub earlier : Earlier
   pub before : Mark
   pub rows : List Row
+  pub places : List ℕ
   pub ended : Bool
 
 -- the task's own block alone
 abbrev pub own_sight : Block → Sight
-own_sight b = record { first = b.before; back = []; earlier = b.earlier; before = b.before; rows = b.rows; ended = b.ended }
+own_sight b = record { first = b.before; back = []; earlier = b.earlier; before = b.before; rows = b.rows; places = b.places.items; ended = b.ended }
 
 -- the mark before rows, else the one where the first rows begin
 abbrev pub begins : List Row → Mark → Mark → Mark
@@ -48,7 +50,7 @@ begins (x ∷ xs) m b = m
 
 -- one block more that is looked back on
 abbrev pub fed : Sight → Block → Sight
-fed s b = record { first = begins s.back s.first b.before; back = s.back ++ b.rows; earlier = s.earlier; before = s.before; rows = s.rows; ended = s.ended }
+fed s b = record { first = begins s.back s.first b.before; back = s.back ++ b.rows; earlier = s.earlier; before = s.before; rows = s.rows; places = s.places; ended = s.ended }
 
 -- The block is the next one before the task's own: the rows looked back on, the block's, maybe those of blocks between, and the
 -- task's own follow one another in one input.
@@ -64,7 +66,7 @@ pub record IsWhole (q : Tree) (s : Sight) : Type 0 where
   pub fits : RowsFit q s.first (s.back ++ s.rows)
 
 -- The task's own rows are the arrivals of an input from position x up to position y, and with the rows looked back on they tell all that
--- these give.
+-- these give, in lines or in parts that are handed on.
 pub record IsSightOf (q : Tree) (s : Sight) (r : Input) (x y : ℕ) : Type 0 where
   pub windows : Fits (frame q)
   pub fits : RowsFit q no_rows r.rows
@@ -74,4 +76,6 @@ pub record IsSightOf (q : Tree) (s : Sight) (r : Input) (x y : ℕ) : Type 0 whe
   pub before_is : s.before ≡ mark_at r x
   pub rows_are : s.rows ≡ slice_range r.rows x y
   pub ended_is : s.ended ≡ (arrived r y).ended
+  pub places_are : s.places ≡ places q r.rows x y
   pub gives : shares_here q s.first s.back s.rows s.ended ≡ shares_between q r x y
+  pub hands : handed_here q s.first s.back s.rows s.ended ≡ handed_between q r x y

@@ -5,8 +5,8 @@ use Rattle.saber_plan.specs.Trees.{Tree}
 use Rattle.saber_plan.specs.Answers.{frame}
 use Rattle.saber_plan.specs.Given.{RowsFit}
 use Rattle.saber_plan.specs.Windows.{Fits, no_rows}
-use Rattle.saber_plan.specs.Tasks.{Parts, unclosed, written_by, left_by}
-use Rattle.saber_plan.specs.Shares.{Shares, shares_between, piece_in}
+use Rattle.saber_plan.specs.Tasks.{Parts, Kept, unclosed, kept_behind, added}
+use Rattle.saber_plan.specs.Shares.{Shares, shares_between}
 
 -- the parts are those that the arrivals before a position leave open, and these are the shares of the arrivals from it up to another
 pub record Continues (q : Tree) (parts : Parts) (s : Shares) : Type 0 where
@@ -19,32 +19,32 @@ pub record Continues (q : Tree) (parts : Parts) (s : Shares) : Type 0 where
   pub unclosed_is : parts ≡ unclosed q (arrived input from)
   pub shares_are : s ≡ shares_between q input from to
 
--- The store has taken in the arrivals before a position, which its parts show, and the piece is of those from it up to another.
-pub record Follows (q : Tree) (parts : Parts) (taken : Input → Type 0) (of : Input → ℕ → ℕ → Type 0) (r : Input) (from to : ℕ) : Type 0 where
+-- The store has taken in the arrivals before a position, and keeps what is to be kept of them, and the piece is of those from it up to another.
+pub record Follows (q : Tree) (kept : Kept) (taken : Input → Type 0) (of : Input → ℕ → ℕ → Type 0) (r : Input) (from to : ℕ) : Type 0 where
   pub windows : Fits (frame q)
   pub fits : RowsFit q no_rows r.rows
   pub rises : from ≤ to
-  pub unclosed_is : parts ≡ unclosed q (arrived r from)
+  pub kept_is : kept ≡ kept_behind q (arrived r from)
   pub taken_is : taken (arrived r from)
   pub of_is : of r from to
 
-module _ (q : Tree) (parts : Parts) (taken : Input → Type 0) (of : Input → ℕ → ℕ → Type 0) where
+module _ (q : Tree) (kept : Kept) (taken : Input → Type 0) (of : Input → ℕ → ℕ → Type 0) where
   -- there is an input in which the piece follows what the store has taken in
   abbrev pub CanTakeIn : Type 0
-  CanTakeIn = (r : Input) × (x : ℕ) × (y : ℕ) × Follows q parts taken of r x y
+  CanTakeIn = (r : Input) × (x : ℕ) × (y : ℕ) × Follows q kept taken of r x y
 
-  -- whichever input that is, so it is with the shares of the piece's arrivals
-  abbrev pub ByShares : (Shares → Type 0) → Type 0
-  ByShares P = (r : Input) (x y : ℕ) → Follows q parts taken of r x y → P (shares_between q r x y)
+  -- whichever input that is, so it is with the piece's arrivals
+  abbrev pub OfArrivals : (Input → ℕ → ℕ → Type 0) → Type 0
+  OfArrivals P = (r : Input) (x y : ℕ) → Follows q kept taken of r x y → P r x y
 
   -- what they add is behind the text
   abbrev pub AddsText : List ℕ → List ℕ → Type 0
-  AddsText old new = ByShares (λ s. new ≡ old ++ written_by q parts (piece_in s))
+  AddsText old new = OfArrivals (λ r x y. new ≡ old ++ added q r x y)
 
-  -- the parts that they leave open are there
-  abbrev pub LeavesOpen : Parts → Type 0
-  LeavesOpen new = ByShares (λ s. new ≡ left_by q parts (piece_in s))
+  -- what is to be kept behind them is kept
+  abbrev pub LeavesKept : Kept → Type 0
+  LeavesKept new = OfArrivals (λ r x y. new ≡ kept_behind q (arrived r y))
 
   -- all up to the end of the piece is taken in then
   abbrev pub TakesIn : (Input → Type 0) → Type 0
-  TakesIn now = (r : Input) (x y : ℕ) → Follows q parts taken of r x y → now (arrived r y)
+  TakesIn now = OfArrivals (λ r x y. now (arrived r y))

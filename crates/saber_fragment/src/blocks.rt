@@ -42,6 +42,8 @@ pub struct Block {
     pub before: Mark,
     /// The task's own rows.
     pub rows: Rows,
+    /// Where each of them stands among all rows with its key list, where the query has PARTITION BY, else nothing.
+    pub places: Vec<u64>,
     /// Whether the input ends behind them: of the flush task alone, which has no rows.
     pub ended: bool,
 }

@@ -1,11 +1,10 @@
 // What every kind of query does with tasks and what they give.
 ghost use Rattle.std.specs.Prelude.{◌≡◌, ℕ, [], IfOk, OnOk, OnErr};
-ghost use Rattle.std.specs.FinMap.{empty};
 ghost use Rattle.saber_plan.specs.Inputs.{Input, going_on};
 ghost use Rattle.saber_plan.specs.Trees.{Tree};
-ghost use Rattle.saber_plan.specs.Tasks.{Parts};
+ghost use Rattle.saber_plan.specs.Tasks.{Kept, nothing_kept};
 ghost use Rattle.saber_fragment.specs.Drafts.{Sight, own_sight, fed, CanStart, CanFeed, IsWhole, IsSightOf};
-ghost use Rattle.saber_fragment.specs.Stores.{CanTakeIn, AddsText, LeavesOpen, TakesIn};
+ghost use Rattle.saber_fragment.specs.Stores.{CanTakeIn, AddsText, LeavesKept, TakesIn};
 
 use crate::Block;
 use saber_plan::NoMemory;
@@ -30,17 +29,17 @@ pub trait Operator {
     /// How much of its task's input a draft has.
     ghost has_seen: { Self → Self.Draft → Sight → Type 0 };
 
-    /// The parts of windows that a store holds.
-    ghost held: { Self.Store → Parts };
+    /// What a store keeps: open parts by window, or by key list and window, and the answers of the last closed window.
+    ghost held: { Self.Store → Kept };
 
-    /// Those of them that stay, once the closed ones are dropped.
-    ghost staying: { Self.Store → Parts };
+    /// What stays of it, once the closed parts are dropped.
+    ghost staying: { Self.Store → Kept };
 
-    /// What a store knows of the input whose pieces it has taken in, beside the parts of windows.
+    /// What a store knows of the input whose pieces it has taken in, beside what it keeps.
     ghost has_taken: { Self → Self.Store → Input → Type 0 };
 
-    /// A piece has what the arrivals of an input from one position up to another give: the definitions call that their shares
-    /// (`shares_between`).
+    /// A piece has what the arrivals of an input from one position up to another give. Of windows that print their answers as they are
+    /// that is their shares (`shares_between`), of others what is handed on (`handed_between`).
     ghost is_of: { Self → Self.Piece → Input → ℕ → ℕ → Type 0 };
 
     /// Begins a task's piece by the task's own block, of which it copies what it keeps.
@@ -63,11 +62,11 @@ pub trait Operator {
 
     /// A store with nothing in it. Takes no memory.
     fn empty_store(&self, alloc: Global) -> Self::Store
-        ensures held { held result ≡ empty }
+        ensures held { held result ≡ nothing_kept }
         ensures taken { has_taken self.now result (going_on []) };
 
-    /// Takes in the piece of the next task, and appends what it adds to the text: the lines of the
-    /// windows that are closed now, and those of the windows that lie whole in the task. After want of
+    /// Takes in the piece of the next task, and appends what its arrivals add to the text: what is printed of
+    /// the windows that are closed now, or of its rows. After want of
     /// memory `out` is as before, and the store is only safe to let go.
     fn take_in(
         &self,
@@ -79,7 +78,7 @@ pub trait Operator {
         requires { CanTakeIn (plan self.now) (held store.old) (has_taken self.now store.old) (is_of self.now piece) }
         ensures text { OnOk result (AddsText (plan self.now) (held store.old) (has_taken self.now store.old) (is_of self.now piece)
             out.old.items out.new.items) }
-        ensures stays { OnOk result (LeavesOpen (plan self.now) (held store.old) (has_taken self.now store.old) (is_of self.now piece)
+        ensures stays { OnOk result (LeavesKept (plan self.now) (held store.old) (has_taken self.now store.old) (is_of self.now piece)
             (staying store.new)) }
         ensures taken { OnOk result (TakesIn (plan self.now) (held store.old) (has_taken self.now store.old) (is_of self.now piece)
             (has_taken self.now store.new)) }

@@ -11,7 +11,7 @@ use Rattle.saber_plan.specs.Trees.{Tree}
 use Rattle.saber_plan.specs.Values.{passes}
 use Rattle.saber_plan.specs.Windows.{Frame, one, Fits, Ordered, no_rows, mark_of, mark_after, mark_at, placed, placed_after, has, begun, begun_count}
 use Rattle.saber_plan.specs.Answers.{by_shape, frame, passing}
-use Rattle.saber_plan.specs.Parts.{Part, part, group_part, pair_part, no_part, merge}
+use Rattle.saber_plan.specs.Parts.{Part, part, group_part, pair_part, no_part, merge, row_part}
 use Rattle.saber_plan.specs.Needs.{first_window}
 use Rattle.saber_plan.specs.Given.{RowsFit}
 use Rattle.saber_plan.specs.RowFacts.{length-placed, placed-append, placed_more, fits_drop}
@@ -57,9 +57,9 @@ ends_here law q w u i m xs k x n o h e g l = part_ends q i m xs k (none_after la
 
 -- ---- the part of one window, row by row
 
-pub row_part : RowsAddToGroups → (q : Tree) (i : ℕ) (m : Mark) (xs : List Row) (k : ℕ) (x : Row) (n : Mark) → k < length xs → x ≡ get_or xs k x → n ≡ mark_after m (take k xs)
+pub row_joins : RowsAddToGroups → (q : Tree) (i : ℕ) (m : Mark) (xs : List Row) (k : ℕ) (x : Row) (n : Mark) → k < length xs → x ≡ get_or xs k x → n ≡ mark_after m (take k xs)
     → part_of q i m (take (k + 1) xs) ≡ cond (has (frame q) i (record { row = x; before = n }) && passes q.predicate x.values []) (merge (part_of q i m (take k xs)) (group_part q (x.values ∷ []))) (part_of q i m (take k xs))
-row_part law q i m xs k x n h e g =
+row_joins law q i m xs k x n h e g =
     ap (λ l. group_part q (passing q (filter (has (frame q) i) l))) (placed_more m xs k x h e) ∙ law q (placed_after m (take k xs)) i (record { row = x; before = mark_after m (take k xs) })
     ∙ ap (λ (b : Mark). cond (has (frame q) i (record { row = x; before = b }) && passes q.predicate x.values []) (merge (part_of q i m (take k xs)) (group_part q (x.values ∷ []))) (part_of q i m (take k xs))) (sym g)
 
@@ -72,7 +72,7 @@ pub part_whole : (q : Tree) → q.shape ≡ Group → (i : ℕ) (xs : List Row) 
 part_whole q e i xs =
     let long = length-placed no_rows xs in
     let all : slice_range (placed xs) 0 (length xs) ≡ placed xs = take_all (length xs - 0) (placed xs) (omega (arith, long)) in
-    ap (λ s. by_shape s no_part (group_part q (passing q (filter (has (frame q) i) (slice_range (placed xs) 0 (length xs))))) (pair_part q 0 (filter (has (frame q) i) (slice_range (placed xs) 0 (length xs))))) e
+    ap (λ s. by_shape s (row_part q (filter (has (frame q) i) (slice_range (placed xs) 0 (length xs)))) (group_part q (passing q (filter (has (frame q) i) (slice_range (placed xs) 0 (length xs))))) (pair_part q 0 (filter (has (frame q) i) (slice_range (placed xs) 0 (length xs))))) e
     ∙ ap (λ l. group_part q (passing q (filter (has (frame q) i) l))) all
 
 -- rows lie in no window that they don't begin

@@ -3,9 +3,8 @@ use Rattle.std.proofs.Common.{◌≡◌, ℕ, ◌+◌, ◌-◌, ◌/◌, ◌≤�
 use Rattle.std.specs.Option.{option_map_or}
 use Rattle.std.specs.Ordering.{nat_cmp}
 use Rattle.std.specs.FinMap.{empty, from_entries}
-use Rattle.std.proofs.lemmas.Bool.{lt-ltb, lt-leb}
-use Rattle.std.proofs.lemmas.List.{append_cancel_left, take_all}
-use Rattle.std.proofs.lemmas.List.Concat.{flat_map-append}
+use Rattle.std.proofs.lemmas.Bool.{lt-leb}
+use Rattle.std.proofs.lemmas.List.{take_all}
 use Rattle.saber_plan.specs.declared.rows.Row.{Row}
 use Rattle.saber_plan.specs.declared.plans.Shape.TheVariants.{Group}
 use Rattle.saber_plan.specs.Trees.{Tree}
@@ -13,18 +12,17 @@ use Rattle.saber_plan.specs.Given.{RowsFit}
 use Rattle.saber_plan.specs.Inputs.{Input, arrived}
 use Rattle.saber_plan.specs.declared.windows.Measure.{Measure}
 use Rattle.saber_plan.specs.declared.windows.Measure.TheVariants.{Rows, Range}
-use Rattle.saber_plan.specs.Windows.{Fits, one, no_rows, mark_of, mark_after, ending, mark_at, last_mark, closed_count, begun_count, from}
-use Rattle.saber_plan.specs.Answers.{by_shape, frame, lines, selected, text, window_text}
+use Rattle.saber_plan.specs.Windows.{Fits, one, has_windows, no_rows, mark_of, mark_after, ending, mark_at, closed_count, begun_count, from}
+use Rattle.saber_plan.specs.Answers.{by_shape, frame, lines, lines_from, selected, alike, way}
+use Rattle.saber_plan.specs.KeptFacts.{alike_added}
 use Rattle.saber_plan.specs.Parts.{Part, part, part_lines}
-use Rattle.saber_plan.specs.Tasks.{full, numbered, unclosed, piece_between, written_by}
-use Rattle.saber_laws.specs.Parts.{PartHasLines, ClosedLinesStay}
-use Rattle.saber_laws.specs.Pieces.{TextGoesOn}
+use Rattle.saber_plan.specs.Tasks.{full, numbered, unclosed, by_windows, added}
+use Rattle.saber_laws.specs.Parts.{PartHasLines}
 use Rattle.saber_laws.specs.Marks.{MarksFollow, ClosedRise, EndsCloseMore}
-use Rattle.saber_laws.specs.Windows.{ClosedAreCounted}
 use Rattle.saber_laws.specs.Plans.{OneWindow}
 use Rattle.saber_plan.specs.ListFacts.{slice-front, slice-join}
 use Rattle.saber_plan.specs.RowFacts.{fits_take, mark-append}
-use Rattle.saber_plan.specs.NumberFacts.{flat_map-from, from_more, numbered_is}
+use Rattle.saber_plan.specs.NumberFacts.{flat_map-from, numbered_is}
 use Rattle.saber_sliding.specs.Entries.{Entries, part_at}
 use Rattle.saber_group.specs.declared.run_stores.RunStore.{RunStore}
 use Rattle.saber_group.specs.declared.run_pieces.RunPiece.{RunPiece}
@@ -42,35 +40,15 @@ module _ (q : Tree) (e : q.shape ≡ Group) where
   line_is : PartHasLines → (i : ℕ) (xs : List Row) → lines q i xs ≡ part_lines q i (part_of q i no_rows xs)
   line_is law i xs = law q i xs ∙ ap (part_lines q i) (part_whole q e i xs)
 
-  text_is : PartHasLines → (r : Input) → text q r ≡ lines_between q no_rows r.rows 0 (closed_count (frame q) (last_mark r))
-  unfolding text
-  text_is law r =
-      let c = closed_count (frame q) (last_mark r) in
-      let all : c ≡ c - 0 = omega arith in
-      ap (λ s. by_shape s (selected q r.rows) (window_text q r) (window_text q r)) e
-      ∙ flat_map-from (λ i. lines q i r.rows) (λ i. part_lines q i (part_of q i no_rows r.rows)) 0 c (λ i p l. line_is law i r.rows)
-      ∙ ap (λ n. flat_map (λ i. part_lines q i (part_of q i no_rows r.rows)) (from 0 n)) all
-
   -- what windows print that more arrivals close
-  text_more : PartHasLines → ClosedLinesStay → ClosedAreCounted → ClosedRise → Fits (frame q) → (r : Input) (x y : ℕ) → RowsFit q no_rows r.rows → x ≤ y
-      → text q (arrived r y) ≡ text q (arrived r x) ++ lines_between q no_rows (take y r.rows) (closed_count (frame q) (mark_at r x)) (closed_count (frame q) (mark_at r y))
-  text_more law stay counted rise fits r x y given up =
+  pub added_is : PartHasLines → way q ≡ alike → (r : Input) (x y : ℕ)
+      → lines_between q no_rows (take y r.rows) (closed_count (frame q) (mark_at r x)) (closed_count (frame q) (mark_at r y)) ≡ added q r x y
+  added_is law w r x y =
       let a = closed_count (frame q) (mark_at r x) in
       let b = closed_count (frame q) (mark_at r y) in
-      let low : a ≤ b = rise (frame q) fits r x y given.ordered up in
-      let g = λ (i : ℕ). part_lines q i (part_of q i no_rows (take y r.rows)) in
-      let none : a - 0 ≡ a = omega arith in
-      text_is law (arrived r y) ∙ ap (flat_map g) (from_more 0 a b (omega arith) low) ∙ flat_map-append g (from 0 (a - 0)) (from a (b - a))
-      ∙ ap (λ l. l ++ lines_between q no_rows (take y r.rows) a b) (
-      flat_map-from g (λ i. part_lines q i (part_of q i no_rows (take x r.rows))) 0 (a - 0) (λ i p l.
-      let below : i < a = omega (arith, l, none) in
-      sym (line_is law i (take y r.rows)) ∙ stay q i r x y given.ordered up (sym (counted (frame q) fits i (mark_at r x)) ∙ lt-ltb i a below) ∙ line_is law i (take x r.rows))
-      ∙ sym (text_is law (arrived r x)))
-
-  pub written_is : PartHasLines → ClosedLinesStay → ClosedAreCounted → ClosedRise → TextGoesOn → Fits (frame q) → (r : Input) (x y : ℕ) → RowsFit q no_rows r.rows → x ≤ y
-      → lines_between q no_rows (take y r.rows) (closed_count (frame q) (mark_at r x)) (closed_count (frame q) (mark_at r y)) ≡ written_by q (unclosed q (arrived r x)) (piece_between q r x y)
-  written_is law stay counted rise goes fits r x y given up =
-      append_cancel_left (text q (arrived r x)) _ _ (sym (text_more law stay counted rise fits r x y given up) ∙ goes q fits r x y given.ordered up)
+      sym (alike_added q w r x y
+      ∙ ap (λ s. by_shape s (cond (has_windows (frame q)) (lines_from q (take y r.rows) a b) (selected q (slice_range r.rows x y))) (lines_from q (take y r.rows) a b) (lines_from q (take y r.rows) a b)) e
+      ∙ flat_map-from (λ i. lines q i (take y r.rows)) (λ i. part_lines q i (part_of q i no_rows (take y r.rows))) a (b - a) (λ i p l. line_is law i (take y r.rows)))
 
   -- the store's parts are the open ones
   pub held_is : (r : Input) (s : RunStore) → TakenIn q r s → held_in s ≡ unclosed q r
@@ -91,7 +69,7 @@ pub record MarkLaws : Type 0 where
   pub rise : ClosedRise
   pub close_more : EndsCloseMore
 
-module _ (q : Tree) (r : Input) (x y : ℕ) (s : RunStore) (p : RunPiece) (f : Follows q (held_in s) (λ u. TakenIn q u s) (λ r x y. IsOf q r x y p) r x y) where
+module _ (q : Tree) (r : Input) (x y : ℕ) (s : RunStore) (p : RunPiece) (f : Follows q (by_windows (held_in s)) (λ u. TakenIn q u s) (λ r x y. IsOf q r x y p) r x y) where
   abbrev pub old_rows : List Row
   old_rows = take x r.rows
 

@@ -24,7 +24,7 @@ use Rattle.saber_laws.specs.Plans.{OneWindow}
 use Rattle.saber_window.specs.Laws.{PastHaveNone}
 use Rattle.saber_partial.specs.PartLaws.{OfRows, GroupsAreOfRows, SmallPartsMerge}
 use Rattle.saber_group.specs.RunParts.{part_of, begun_by, closed_by, IsRun}
-use Rattle.saber_group.proofs.Lasting.{row_part, ends_here, few_more}
+use Rattle.saber_group.proofs.Lasting.{row_joins, ends_here, few_more}
 use Rattle.saber_group.proofs.Completing.{count_low, past_begun, past_high, first_low}
 
 -- ---- what the first row of a run tells
@@ -104,7 +104,7 @@ pub run_more : RowsAddToGroups → RowsSpan → MergeIsAssociative → SmallPart
 run_more add span assoc small of_rows q fits m rows k e first past p x a low here few is mark f l run =
     let at : Placed = record { row = x; before = a } in
     let lies = λ (i : ℕ). span (frame q) fits i at ∙ (λ j. nat_le (sym f j) i && nat_lt i (sym l j)) in
-    let step = λ (i : ℕ). row_part add q i m rows e x a here is mark in
+    let step = λ (i : ℕ). row_joins add q i m rows e x a here is mark in
     let next : (e - k) + 1 ≡ e + 1 - k = omega (arith, low) in
     record {
       inside = λ i h r.

@@ -12,7 +12,7 @@ ghost use Rattle.saber_group.specs.RunPieces.{Gives, RunsFrom};
 
 use crate::batch::Batch;
 use crate::group::Group;
-use crate::letting::{let_front_go, let_runs_go};
+use crate::letting::let_runs_go;
 use crate::open::Open;
 use crate::runs::Run;
 use saber_fragment::Earlier;
@@ -129,7 +129,7 @@ impl Group<'_> {
             match add_run(&mut front, low, run) {
                 Ok(()) => {}
                 Err(want) => {
-                    let_front_go(front);
+                    front.let_go();
                     return Err(want);
                 }
             }

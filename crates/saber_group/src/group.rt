@@ -2,7 +2,7 @@
 ghost use Rattle.std.specs.Prelude.{◌≡◌, ◌≤◌, ◌^◌};
 ghost use Rattle.saber_plan.specs.declared.plans.Shape.TheVariants as shapes;
 ghost use Rattle.saber_plan.specs.Trees.{tree_of};
-ghost use Rattle.saber_plan.specs.Checked.{IsChecked};
+ghost use Rattle.saber_plan.specs.Checked.{IsChecked, IsPlain};
 ghost use Rattle.saber_plan.specs.Windows.{Fits, closed_count, begun_count};
 ghost use Rattle.saber_plan.specs.Answers.{frame};
 ghost use Rattle.saber_plan.specs.Needs.{first_window, past_window};
@@ -28,7 +28,7 @@ impl<'a> Model for Group<'a> {
     ghost use Rattle.saber_plan.specs.declared.plans.Shape.TheVariants as shapes;
     ghost use Rattle.saber_plan.specs.declared.plans.Plan.{Plan};
     ghost use Rattle.saber_plan.specs.Trees.{tree_of};
-    ghost use Rattle.saber_plan.specs.Checked.{IsChecked};
+    ghost use Rattle.saber_plan.specs.Checked.{IsChecked, IsPlain};
     ghost use Rattle.saber_plan.specs.Answers.{frame};
     ghost use Rattle.saber_plan.specs.contracts.predicates.Pred as e;
     ghost use Rattle.std.specs.Coded.{codes};
@@ -39,7 +39,7 @@ impl<'a> Model for Group<'a> {
 
     ghost view = { λ g. g.plan.now };
 
-    ghost invariant = { λ g. IsChecked (tree_of g.plan.now) × ((tree_of g.plan.now).shape ≡ shapes.Group) × (g.windows ≡ frame (tree_of g.plan.now)) × (g.aggregates ≡ g.plan.now) };
+    ghost invariant = { λ g. IsChecked (tree_of g.plan.now) × ((tree_of g.plan.now).shape ≡ shapes.Group) × (g.windows ≡ frame (tree_of g.plan.now)) × (g.aggregates ≡ g.plan.now) × IsPlain (tree_of g.plan.now) };
 }
 
 impl<'a> Group<'a> {
@@ -47,6 +47,7 @@ impl<'a> Group<'a> {
     pub fn new(plan: &'a Plan) -> Group<'a>
         requires checked { IsChecked (tree_of plan.now) }
         requires group { (tree_of plan.now).shape ≡ shapes.Group }
+        requires plain { IsPlain (tree_of plan.now) }
         ensures { result ≡ plan.now }
     {
         Group {
@@ -59,6 +60,7 @@ impl<'a> Group<'a> {
     /// It groups rows, and its stream has a window, which fits.
     pub(crate) fn has_window(&self)
         ensures group { (tree_of self.now).shape ≡ shapes.Group }
+        ensures plain { IsPlain (tree_of self.now) }
         ensures window { OneWindow (tree_of self.now) }
         ensures fits { Fits (frame (tree_of self.now)) }
     {

@@ -4,7 +4,6 @@ use crate::complete::Complete;
 use crate::open::Open;
 use crate::runs::Run;
 use saber_partial::Gathering;
-use saber_sliding::Front;
 
 impl Run {
     /// Lets the run go.
@@ -16,9 +15,6 @@ pub(crate) fn let_runs_go(_runs: Vec<Run>) {}
 
 /// Lets go of a part in the making.
 pub(crate) fn let_part_go(_part: Gathering) {}
-
-/// Lets the front of a queue go.
-pub(crate) fn let_front_go(_front: Front) {}
 
 impl Open {
     /// Lets the runs go that windows have.

@@ -5,10 +5,7 @@ use crate::open::Open;
 use crate::run_pieces::RunPiece;
 use crate::run_stores::RunStore;
 use saber_fragment::{Block, Operator};
-use saber_laws::{
-    closed_are_counted, closed_lines_stay, closed_rise, ends_close_more, marks_follow,
-    no_rows_no_part, open_goes_on, part_has_lines, shares_make_piece, text_goes_on,
-};
+use saber_laws::{closed_rise, ends_close_more, marks_follow, no_rows_no_part, part_has_lines};
 use saber_plan::NoMemory;
 use std::alloc::Global;
 
@@ -21,6 +18,7 @@ impl Operator for Group<'_> {
     type Store = RunStore;
 
     ghost use Rattle.saber_plan.specs.Trees.{tree_of};
+    ghost use Rattle.saber_plan.specs.Tasks.{by_windows};
     ghost use Rattle.saber_group.specs.RunPieces.{IsMade, IsOf};
     ghost use Rattle.saber_group.specs.RunStores.{held_in, TakenIn};
 
@@ -28,9 +26,9 @@ impl Operator for Group<'_> {
 
     ghost has_seen = { λ group draft s. IsMade (tree_of group) s draft };
 
-    ghost held = { held_in };
+    ghost held = { λ s. by_windows (held_in s) };
 
-    ghost staying = { held_in };
+    ghost staying = { λ s. by_windows (held_in s) };
 
     ghost has_taken = { λ group store r. TakenIn (tree_of group) r store };
 
@@ -72,15 +70,10 @@ impl Operator for Group<'_> {
         out: &mut Vec<u8>,
     ) -> Result<(), NoMemory> {
         self.has_window();
-        closed_are_counted();
-        closed_lines_stay();
         closed_rise();
         ends_close_more();
         marks_follow();
-        open_goes_on();
         part_has_lines();
-        shares_make_piece();
-        text_goes_on();
         let closed = self.closed_below(&piece.after);
         let begun = self.begun_below(&piece.after);
         let mut text = Vec::new(alloc);

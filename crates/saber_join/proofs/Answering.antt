@@ -10,7 +10,7 @@ use Rattle.saber_plan.specs.Trees.{Tree}
 use Rattle.saber_plan.specs.Values.{value}
 use Rattle.saber_plan.specs.Windows.{Placed, has, inside, placed_after, step_mark, no_rows}
 use Rattle.saber_plan.specs.Answers.{line, entry_lines, item_value, is_left, pairs, frame, by_shape, passing}
-use Rattle.saber_plan.specs.Parts.{Part, Numbers, no_part, part, pair_numbers, pair_part, group_part, part_lines, answers_of, shown, summed, least, greatest, plain}
+use Rattle.saber_plan.specs.Parts.{Part, Numbers, part, pair_numbers, pair_part, group_part, part_lines, answers_of, shown, summed, least, greatest, plain, row_part}
 use Rattle.saber_plan.specs.Checked.{IsChecked, columns_on}
 use Rattle.saber_plan.specs.Given.{IsPartOf}
 use Rattle.saber_plan.specs.ListFacts.{Each, each-filter, each-map, each-all}
@@ -60,7 +60,7 @@ inside_is q i xs y = let same : y - 0 ≡ y = omega arith in ap (λ n. filter (h
 
 -- a join's part has the pairs of the rows so far
 pub part_of_pairs : (q : Tree) → q.shape ≡ Join → (i : ℕ) (xs : List Row) (x y : ℕ) → part q i xs x y ≡ pair_part q x (filter (has (frame q) i) (placed_after no_rows (take y xs)))
-part_of_pairs q e i xs x y = ap (λ s. by_shape s no_part (group_part q (passing q (inside (frame q) i xs x y))) (pair_part q x (inside (frame q) i xs 0 y))) e ∙ ap (pair_part q x) (inside_is q i xs y)
+part_of_pairs q e i xs x y = ap (λ s. by_shape s (row_part q (inside (frame q) i xs x y)) (group_part q (passing q (inside (frame q) i xs x y))) (pair_part q x (inside (frame q) i xs 0 y))) e ∙ ap (pair_part q x) (inside_is q i xs y)
 
 pub lines_of_part : PairsAreInOrder → (q : Tree) → IsChecked q → q.shape ≡ Join → (i : ℕ) (p : Part) → IsPartOf q p → pair_lines i p ≡ part_lines q i p
 lines_of_part order q checked e i p h =

@@ -9,7 +9,7 @@ use Rattle.saber_plan.specs.declared.windows.Mark.{Mark}
 use Rattle.saber_plan.specs.declared.windows.Kind.{Kind}
 use Rattle.saber_plan.specs.declared.plans.Shape.TheVariants.{Join}
 use Rattle.saber_plan.specs.Trees.{Tree}
-use Rattle.saber_plan.specs.Windows.{Fits, mark_after, ending, has, closed_count, begun_count, kind_of, from}
+use Rattle.saber_plan.specs.Windows.{Fits, mark_after, ending, has, closed_count, begun_count, kind_of, from, has_windows}
 use Rattle.saber_plan.specs.Answers.{by_shape, frame, selected}
 use Rattle.saber_plan.specs.Parts.{Part, no_part, part_lines}
 use Rattle.saber_plan.specs.Tasks.{full, is_complete}
@@ -134,6 +134,6 @@ module _ (laws : Laws) (q : Tree) (checked : IsChecked q) (e : q.shape ≡ Join)
         closing = (gave.closing ∙ entries_are is_closing) j;
         pending = (gave.pending ∙ entries_are is_pending) j;
         opening = (gave.opening ∙ entries_are is_opening) j;
-        lines = (gave.lines ∙ lines_are ∙ ap (λ s. by_shape s (selected q rows) whole whole) (sym e)) j;
+        lines = (gave.lines ∙ lines_are ∙ ap (λ s. by_shape s (cond (has_windows (frame q)) whole (selected q rows)) whole whole) (sym e)) j;
         closed = given.closed_after j;
       }

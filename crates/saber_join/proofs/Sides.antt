@@ -12,7 +12,7 @@ use Rattle.saber_plan.specs.Rows.{RowFits}
 use Rattle.saber_plan.specs.Values.{value}
 use Rattle.saber_plan.specs.Answers.{item_value}
 use Rattle.saber_plan.specs.Parts.{summed, least, greatest, plain, values_numbers}
-use Rattle.saber_plan.specs.Checked.{IsChecked, ItemFits, columns_on}
+use Rattle.saber_plan.specs.Checked.{named_columns, IsChecked, ItemFits, columns_on}
 use Rattle.saber_eval.specs.Widths.{widths}
 use Rattle.saber_eval.specs.Fitting.{TwoStreamsFit}
 use Rattle.saber_laws.specs.Plans.{TwoWindows}
@@ -43,7 +43,7 @@ all_shown ls rs keys (i ∷ is) h = (shown_case ls rs keys i h.0, all_shown ls r
 -- the items of a join, over a pair of its rows
 pub items_shown : TwoStreamsFit → (q : Tree) → IsChecked q → q.shape ≡ Join → (w : TwoWindows q) (l r : Row) → IsOn q Left l → IsOn q Right r → AllByRecursion (CanShow l.values r.values) q.items
 items_shown fit q checked e w l r h k =
-    all_shown l.values r.values q.keys q.items (subst (λ s. AllByRecursion (ItemFits s (widths l.values r.values) q.keys) q.items) e (fit q w.left_stream w.right_stream l r checked w.streams (left_fits q w l h) (right_fits q w r k)).items)
+    all_shown l.values r.values (named_columns q) q.items (subst (λ s. AllByRecursion (ItemFits s (widths l.values r.values) (named_columns q)) q.items) e (fit q w.left_stream w.right_stream l r checked w.streams (left_fits q w l h) (right_fits q w r k)).items)
 
 -- ---- the numbers of a pair
 
@@ -82,8 +82,8 @@ all_plain ls rs columns keys (Min e ∷ is) h = absurd h.0
 all_plain ls rs columns keys (Max e ∷ is) h = absurd h.0
 all_plain ls rs columns keys (Value e ∷ is) h = ap (λ l. value e ls rs ∷ l) (all_plain ls rs columns keys is h.1)
 
-pub are_values : (q : Tree) → IsChecked q → q.shape ≡ Join → AllByRecursion (ItemFits Join (columns_on q.streams) q.keys) q.items
-are_values q checked e = subst (λ s. AllByRecursion (ItemFits s (columns_on q.streams) q.keys) q.items) e checked.items
+pub are_values : (q : Tree) → IsChecked q → q.shape ≡ Join → AllByRecursion (ItemFits Join (columns_on q.streams) (named_columns q)) q.items
+are_values q checked e = subst (λ s. AllByRecursion (ItemFits s (columns_on q.streams) (named_columns q)) q.items) e checked.items
 
 -- a pair's numbers are the values of its items
 pub numbers_are : (q : Tree) → IsChecked q → q.shape ≡ Join → (ls rs : List ℤ) → numbers_with (map (item_value ls rs) q.items) ≡ values_numbers q ls rs
@@ -91,8 +91,8 @@ numbers_are q checked e ls rs =
     let h = are_values q checked e in
     λ i. record {
       count = 1;
-      sums = no_sums ls rs (columns_on q.streams) q.keys q.items h i;
-      leasts = no_leasts ls rs (columns_on q.streams) q.keys q.items h i;
-      greatests = no_greatests ls rs (columns_on q.streams) q.keys q.items h i;
-      firsts = all_plain ls rs (columns_on q.streams) q.keys q.items h i;
+      sums = no_sums ls rs (columns_on q.streams) (named_columns q) q.items h i;
+      leasts = no_leasts ls rs (columns_on q.streams) (named_columns q) q.items h i;
+      greatests = no_greatests ls rs (columns_on q.streams) (named_columns q) q.items h i;
+      firsts = all_plain ls rs (columns_on q.streams) (named_columns q) q.items h i;
     }

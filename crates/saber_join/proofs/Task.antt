@@ -8,7 +8,7 @@ use Rattle.saber_plan.specs.declared.windows.Mark.{Mark}
 use Rattle.saber_plan.specs.Trees.{Tree}
 use Rattle.saber_plan.specs.Windows.{Fits, Placed, place, has, mark_after, placed_after}
 use Rattle.saber_plan.specs.Answers.{frame, by_shape, passing}
-use Rattle.saber_plan.specs.Parts.{Part, no_part, pair_part, group_part}
+use Rattle.saber_plan.specs.Parts.{Part, no_part, pair_part, group_part, row_part}
 use Rattle.saber_plan.specs.Needs.{part_here, first_window, past_window}
 use Rattle.saber_plan.specs.ListFacts.{each-filter}
 use Rattle.saber_laws.specs.Needs.{RowsSpan}
@@ -96,7 +96,7 @@ module _ (span : RowsSpan) (get : WindowsGetPairs) (q : Tree) (fits : Fits (fram
 
 pub part_is : (q : Tree) (b : Mark) (back rows : List Row) (i : ℕ) → q.shape ≡ Join → pair_part q (b.left + b.right + length back) (filter (has (frame q) i) (placed_after b (back ++ rows))) ≡ part_here q i b back rows
 unfolding part_here
-part_is q b back rows i e = sym (ap (λ s. by_shape s no_part (group_part q (passing q (filter (has (frame q) i) (placed_after (mark_after b back) rows)))) (pair_part q (b.left + b.right + length back) (filter (has (frame q) i) (placed_after b (back ++ rows))))) e)
+part_is q b back rows i e = sym (ap (λ s. by_shape s (row_part q (filter (has (frame q) i) (placed_after (mark_after b back) rows))) (group_part q (passing q (filter (has (frame q) i) (placed_after (mark_after b back) rows)))) (pair_part q (b.left + b.right + length back) (filter (has (frame q) i) (placed_after b (back ++ rows))))) e)
 
 pub task_held : (q : Tree) (c : ℕ) (b : Mark) (back rows : List Row) (m : Windows) → q.shape ≡ Join → HasParts q c (b.left + b.right + length back) b (back ++ rows) m → HoldsTask q c b back rows m
 task_held q c b back rows m s h = record { at = λ i. h.at i ∙ ap (λ p. cond (nat_lt i c) no_part p) (part_is q b back rows i s) }

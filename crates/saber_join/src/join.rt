@@ -5,7 +5,7 @@ ghost use Rattle.saber_plan.specs.declared.rows.Side.TheVariants as sides;
 ghost use Rattle.saber_plan.specs.declared.plans.Shape.TheVariants as shapes;
 ghost use Rattle.saber_plan.specs.Trees.{tree_of};
 ghost use Rattle.saber_plan.specs.Values as v;
-ghost use Rattle.saber_plan.specs.Checked.{IsChecked};
+ghost use Rattle.saber_plan.specs.Checked.{IsChecked, IsPlain};
 ghost use Rattle.saber_plan.specs.Windows as w;
 ghost use Rattle.saber_plan.specs.Answers.{frame, item_value};
 ghost use Rattle.saber_plan.specs.Needs.{first_window, past_window};
@@ -36,7 +36,7 @@ impl<'a> Model for Join<'a> {
     ghost use Rattle.saber_plan.specs.declared.plans.Shape.TheVariants as shapes;
     ghost use Rattle.saber_plan.specs.declared.plans.Plan.{Plan};
     ghost use Rattle.saber_plan.specs.Trees.{tree_of};
-    ghost use Rattle.saber_plan.specs.Checked.{IsChecked};
+    ghost use Rattle.saber_plan.specs.Checked.{IsChecked, IsPlain};
     ghost use Rattle.saber_plan.specs.Answers.{frame};
     ghost use Rattle.saber_plan.specs.contracts.predicates.Pred as e;
     ghost use Rattle.std.specs.Coded.{codes};
@@ -47,7 +47,7 @@ impl<'a> Model for Join<'a> {
 
     ghost view = { λ g. g.plan.now };
 
-    ghost invariant = { λ g. IsChecked (tree_of g.plan.now) × ((tree_of g.plan.now).shape ≡ shapes.Join) × (g.windows ≡ frame (tree_of g.plan.now)) };
+    ghost invariant = { λ g. IsChecked (tree_of g.plan.now) × ((tree_of g.plan.now).shape ≡ shapes.Join) × (g.windows ≡ frame (tree_of g.plan.now)) × IsPlain (tree_of g.plan.now) };
 }
 
 // The value of an item over a pair. A join's items are expressions alone.
@@ -83,6 +83,7 @@ impl<'a> Join<'a> {
     pub fn new(plan: &'a Plan) -> Join<'a>
         requires checked { IsChecked (tree_of plan.now) }
         requires join { (tree_of plan.now).shape ≡ shapes.Join }
+        requires plain { IsPlain (tree_of plan.now) }
         ensures { result ≡ plan.now }
     {
         Join {
@@ -95,6 +96,7 @@ impl<'a> Join<'a> {
     pub(crate) fn has_windows(&self)
         ensures checked { IsChecked (tree_of self.now) }
         ensures join { (tree_of self.now).shape ≡ shapes.Join }
+        ensures plain { IsPlain (tree_of self.now) }
         ensures windows { TwoWindows (tree_of self.now) }
         ensures fits { w.Fits (frame (tree_of self.now)) }
     {

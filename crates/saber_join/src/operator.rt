@@ -7,7 +7,7 @@ use crate::pairs::Pairs;
 use saber_fragment::{Block, Operator, Piece};
 use saber_laws::{
     begun_are_counted, begun_stay, closed_are_counted, ends_begin_none, no_rows_no_part,
-    pairs_are_in_order, rows_span,
+    open_goes_on, pairs_are_in_order, pieces_print, rows_span, shares_make_piece,
 };
 use saber_parts::{Bounds, PartStore};
 use saber_plan::NoMemory;
@@ -65,6 +65,7 @@ impl Operator for Join<'_> {
     ghost use Rattle.std.specs.Prelude.{◌≡◌};
     ghost use Rattle.saber_plan.specs.Trees.{tree_of};
     ghost use Rattle.saber_plan.specs.Shares.{shares_between};
+    ghost use Rattle.saber_plan.specs.Tasks.{by_windows};
     ghost use Rattle.saber_fragment.specs.Shown.{shares_of};
     ghost use Rattle.saber_parts.specs.Stored.{held_by, staying_by};
     ghost use Rattle.saber_join.specs.Sights.{HasSeen};
@@ -73,9 +74,9 @@ impl Operator for Join<'_> {
 
     ghost has_seen = { λ p draft s. HasSeen (tree_of p) draft s };
 
-    ghost held = { held_by (λ part. part) };
+    ghost held = { λ s. by_windows (held_by (λ part. part) s) };
 
-    ghost staying = { staying_by (λ part. part) };
+    ghost staying = { λ s. by_windows (staying_by (λ part. part) s) };
 
     ghost has_taken = { λ _ _ _. Unit {0} };
 
@@ -106,6 +107,10 @@ impl Operator for Join<'_> {
         piece: Piece<Pairs>,
         out: &mut Vec<u8>,
     ) -> Result<(), NoMemory> {
+        self.has_windows();
+        open_goes_on();
+        pieces_print();
+        shares_make_piece();
         store.take_in(self, piece, out)?;
         Ok(())
     }

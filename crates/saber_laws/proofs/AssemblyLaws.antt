@@ -1,9 +1,9 @@
 -- Taking in a piece: what is written, and what stays open.
-use Rattle.std.proofs.Common.{◌≡◌, ℕ, zero, suc, ◌+◌, ◌-◌, ◌≤◌, ◌<◌, min, List, [], ◌++◌, map, filter, flat_map, length, take, slice_range, Bool, true, false, cond, not, nat_lt, nat_le, ◌==◌, Option, Some, None, refl, sym, ◌∙◌, ap, ap₂, append-nil, le_trans, lt_of_lt_of_le, zero-le, ⊎_elim, ℤ, arith}
+use Rattle.std.proofs.Common.{◌≡◌, ℕ, zero, suc, ◌+◌, ◌-◌, ◌≤◌, ◌<◌, min, List, [], ◌∷◌, ◌++◌, map, filter, flat_map, length, take, slice_range, Bool, true, false, cond, not, nat_lt, nat_le, ◌==◌, Option, Some, None, ◌&&◌, refl, sym, ◌∙◌, ap, ap₂, append-nil, append_assoc, le_refl, le_trans, lt_of_lt_of_le, zero-le, ⊎_elim, ℤ, arith}
 use Rattle.std.specs.Option.{option_map_or}
 use Rattle.std.proofs.lemmas.Bool.{lt-ltb, le-leb, lt-leb, le-ltb, cases_lt, eqb-true, both_ways}
 use Rattle.std.proofs.lemmas.Bool.Decides.{nat_tests}
-use Rattle.std.proofs.lemmas.List.{map-append}
+use Rattle.std.proofs.lemmas.List.{map-append, take_all}
 use Rattle.std.proofs.lemmas.List.Concat.{flat_map-append}
 use Rattle.std.proofs.lemmas.List.Elements.{filter-append}
 use Rattle.std.specs.Cmp.{nat_cmp_total}
@@ -17,20 +17,20 @@ use Rattle.saber_plan.specs.declared.plans.Shape.TheVariants.{Select, Group, Joi
 use Rattle.saber_plan.specs.Trees.{Tree}
 use Rattle.saber_plan.specs.Values.{passes}
 use Rattle.saber_plan.specs.Inputs.{Input, arrived}
-use Rattle.saber_plan.specs.Windows.{Frame, Fits, no_rows, mark_at, begun_count, closed_count, Ordered, kind_of, inside, from}
-use Rattle.saber_plan.specs.Answers.{key_cmp, groups, pairs, pair_answers, passing, entry_lines, by_shape, frame, lines, line, item_value, selected, window_text, text}
+use Rattle.saber_plan.specs.Windows.{Frame, unwindowed, one, two, has_windows, Fits, no_rows, mark_at, begun_count, closed, closed_count, Ordered, kind_of, from}
+use Rattle.saber_plan.specs.Answers.{key_cmp, entry_lines, by_shape, by_frame, frame, lines, lines_from, line, item_value, selected, window_text, plain_text, Change, window_answers, before_window, answer_lines, change_lines, change_text, list_of, substream, closed_by, closed_in_turn, closed_at_last, key_text, alike, by_list, by_change, way, by_way, text}
 use Rattle.saber_plan.specs.Merges.{join}
 use Rattle.saber_plan.specs.Parts.{Part, no_part, part, part_lines, answers_of, Numbers, join_numbers, merge}
 use Rattle.saber_plan.specs.Shares.{full, numbered, is_complete, shares_between}
-use Rattle.saber_plan.specs.Tasks.{Parts, unclosed, piece_between, taken_in, written_by, left_by}
+use Rattle.saber_plan.specs.Tasks.{Parts, unclosed, last_answers, plain_added, change_added, list_added, added, piece_between, taken_in, written_by, left_by}
 use Rattle.saber_plan.specs.MapFacts.{get-both, both_empty_left, entries-empty}
-use Rattle.saber_plan.specs.ListFacts.{slice-join, slice-front}
+use Rattle.saber_plan.specs.ListFacts.{slice-join, slice-front, nothing_behind}
 use Rattle.saber_plan.specs.PartFacts.{total, exact, merge-empty_left, merge-empty_right}
 use Rattle.saber_laws.proofs.DirectLaws.{is_part, parts_between}
 use Rattle.saber_laws.proofs.WindowLaws.{closed_is, begun_is, closed_within_begun}
 use Rattle.saber_plan.specs.NumberFacts.{from-append}
 use Rattle.saber_laws.proofs.NumberedLaws.{get_low, get_high, get_in, entries-numbered, flat_map-numbered, flat_map-from, filter_all, filter_none}
-use Rattle.saber_laws.proofs.EndLaws.{closed_rises, begun_rises, join_at, part_upto, part_not_begun, lines_upto, lines_stay}
+use Rattle.saber_laws.proofs.EndLaws.{stays_ended, end_behind, closed_rises, begun_rises, join_at, part_upto, part_not_begun, lines_upto, lines_stay, answers_stay}
 
 -- ---- parts that aren't empty
 
@@ -126,14 +126,15 @@ piece_closed : (q : Tree) (r : Input) (x y : ℕ) → (piece_between q r x y).cl
 unfolding piece_between shares_between
 piece_closed q r x y = refl
 
-nothing_from : {B : Type 0} (f : ℕ → List B) (a n : ℕ) → ((i : ℕ) → f i ≡ []) → flat_map f (from a n) ≡ []
-unfolding from
-nothing_from f a zero h = refl
-nothing_from f a (suc n) h = λ j. h a j ++ nothing_from f (a + 1) n h j
+no_count : (b : Bool) (n : ℕ) → cond b n n ≡ n
+no_count true n = refl
+no_count false n = refl
 
-no_lines : (q : Tree) → q.shape ≡ Select → (i : ℕ) (xs : List Row) → lines q i xs ≡ []
-unfolding lines
-no_lines q e i xs = ap (λ s. entry_lines i (by_shape s [] (groups q (passing q (inside (frame q) i xs 0 (length xs)))) (pairs q (pair_answers q) (inside (frame q) i xs 0 (length xs))))) e
+-- without windows none is closed
+none_of : (f : Frame) (m : Mark) → has_windows f ≡ false → closed_count f m ≡ 0
+none_of unwindowed m e = no_count m.ended 0
+none_of (one measure slide size) m e = cc
+none_of (two measure slide left right) m e = cc
 
 -- the lines of the windows that lie whole between positions x and y
 abbrev whole_lines : Tree → Input → ℕ → ℕ → List ℕ
@@ -141,6 +142,15 @@ whole_lines q r x y =
     let a = mark_at r x in
     let b = mark_at r y in
     flat_map (λ i. lines q i (take y r.rows)) (filter (λ i. is_complete (kind_of (frame q) i a b)) (from (closed_count (frame q) a) (begun_count (frame q) b - closed_count (frame q) a)))
+
+-- what rows close, and then more rows
+pub in_turn-append : (q : Tree) (xs us vs : List Row) → closed_in_turn q xs (us ++ vs) ≡ closed_in_turn q xs us ++ closed_in_turn q (xs ++ us) vs
+unfolding closed_in_turn
+in_turn-append q xs [] vs = ap (λ l. closed_in_turn q l vs) (sym (append-nil xs))
+in_turn-append q xs (u ∷ us) vs =
+    ap (λ l. closed_by q (substream q (list_of q u) xs) u ++ l) (in_turn-append q (xs ++ u ∷ []) us vs
+    ∙ ap (λ l. closed_in_turn q (xs ++ u ∷ []) us ++ closed_in_turn q l vs) (append_assoc xs (u ∷ []) us))
+    ∙ sym (append_assoc (closed_by q (substream q (list_of q u) xs) u) (closed_in_turn q (xs ++ u ∷ []) us) (closed_in_turn q (xs ++ u ∷ us) vs))
 
 -- a piece of rows x to y of a list, with what it needs
 module _ (q : Tree) (w : Fits (frame q)) (r : Input) (x y : ℕ) (o : Ordered no_rows r.rows) (a : x ≤ y) where
@@ -261,19 +271,34 @@ module _ (q : Tree) (w : Fits (frame q)) (r : Input) (x y : ℕ) (o : Ordered no
       ++ filter_none p cb (gb - cb) (λ i l b. ap is_complete (kind_here i) ∙ open_not_complete ca ga cb gb i ca_cb l (omega (arith, l, b, cb_gb))) j))
       ∙ append-nil _
 
+  -- the lines of a window, over the rows up to y
+  abbrev lines_y : ℕ → List ℕ
+  lines_y i = lines q i (take y r.rows)
+
   -- the windows that are closed between x and y: first those that were begun before, then those that lie whole
-  window_lines : window_text q (arrived r y) ≡ window_text q (arrived r x) ++ (flat_map (λ i. lines q i (take y r.rows)) (from ca (mid - ca)) ++ whole_lines q r x y)
-  window_lines =
-      let g = λ (i : ℕ). lines q i (take y r.rows) in
-      let lengths : cb ≡ ca + ((mid - ca) + (cb - mid)) = omega (arith, ca_mid, ca_cb) in
+  closed_lines : lines_from q (take y r.rows) ca cb ≡ flat_map lines_y (from ca (mid - ca)) ++ whole_lines q r x y
+  closed_lines =
+      let lengths : cb - ca ≡ (mid - ca) + (cb - mid) = omega (arith, ca_mid, ca_cb) in
       let there : ca + (mid - ca) ≡ mid = omega (arith, ca_mid) in
+      let cut : from ca (cb - ca) ≡ from ca (mid - ca) ++ from mid (cb - mid) =
+      ap (from ca) lengths ∙ from-append ca (mid - ca) (cb - mid) ∙ ap (λ n. from ca (mid - ca) ++ from n (cb - mid)) there in
+      ap (flat_map lines_y) cut ∙ flat_map-append lines_y (from ca (mid - ca)) (from mid (cb - mid))
+      ∙ ap (λ l. flat_map lines_y (from ca (mid - ca)) ++ flat_map lines_y l) (sym complete_numbers)
+
+  -- what is said of windows, of those closed at x and then of those closed between, where the former stay
+  more_closed : (f g : ℕ → List ℕ) → ((i : ℕ) → i < ca → f i ≡ g i) → flat_map f (from 0 cb) ≡ flat_map g (from 0 ca) ++ flat_map f (from ca (cb - ca))
+  more_closed f g same =
+      let lengths : cb ≡ ca + (cb - ca) = omega (arith, ca_cb) in
       let front : 0 + ca ≡ ca = omega arith in
-      let cut : from 0 cb ≡ from 0 ca ++ (from ca (mid - ca) ++ from mid (cb - mid)) =
-      ap (from 0) lengths ∙ from-append 0 ca ((mid - ca) + (cb - mid)) ∙ ap (λ n. from 0 ca ++ from n ((mid - ca) + (cb - mid))) front
-      ∙ ap (λ l. from 0 ca ++ l) (from-append ca (mid - ca) (cb - mid) ∙ ap (λ n. from ca (mid - ca) ++ from n (cb - mid)) there) in
-      ap (flat_map g) cut ∙ flat_map-append g (from 0 ca) (from ca (mid - ca) ++ from mid (cb - mid)) ∙ ap (λ l. flat_map g (from 0 ca) ++ l) (flat_map-append g (from ca (mid - ca)) (from mid (cb - mid)))
-      ∙ (λ j. flat_map-from g (λ i. lines q i (take x r.rows)) 0 ca (λ i l b. lines_stay q i r x y o a (sym (closed_is (frame q) w i (mark_at r x)) ∙ lt-ltb i ca (omega (arith, b)))) j
-      ++ (flat_map g (from ca (mid - ca)) ++ flat_map g (sym complete_numbers j)))
+      let cut : from 0 cb ≡ from 0 ca ++ from ca (cb - ca) = ap (from 0) lengths ∙ from-append 0 ca (cb - ca) ∙ ap (λ n. from 0 ca ++ from n (cb - ca)) front in
+      ap (flat_map f) cut ∙ flat_map-append f (from 0 ca) (from ca (cb - ca))
+      ∙ ap (λ l. l ++ flat_map f (from ca (cb - ca))) (flat_map-from f g 0 ca (λ i l b. same i (omega (arith, b))))
+
+  closed_before : (i : ℕ) → i < ca → closed (frame q) i (mark_at r x) ≡ true
+  closed_before i l = sym (closed_is (frame q) w i (mark_at r x)) ∙ lt-ltb i ca l
+
+  window_lines : window_text q (arrived r y) ≡ window_text q (arrived r x) ++ lines_from q (take y r.rows) ca cb
+  window_lines = more_closed lines_y (λ i. lines q i (take x r.rows)) (λ i l. lines_stay q i r x y o a (closed_before i l))
 
   select_rows : selected q (take y r.rows) ≡ selected q (take x r.rows) ++ selected q (slice_range r.rows x y)
   select_rows =
@@ -285,14 +310,114 @@ module _ (q : Tree) (w : Fits (frame q)) (r : Input) (x y : ℕ) (o : Ordered no
       ∙ ap (flat_map g) (filter-append p (map (λ r. r.values) (take x xs)) (map (λ r. r.values) (slice_range r.rows x y)))
       ∙ flat_map-append g (filter p (map (λ r. r.values) (take x xs))) (filter p (map (λ r. r.values) (slice_range r.rows x y)))
 
-  text_parts : (s : Shape) → q.shape ≡ s → by_shape s (selected q (take y r.rows)) (window_text q (arrived r y)) (window_text q (arrived r y))
-      ≡ by_shape s (selected q (take x r.rows)) (window_text q (arrived r x)) (window_text q (arrived r x))
-      ++ (flat_map (λ i. lines q i (take y r.rows)) (from ca (mid - ca)) ++ by_shape s (selected q (slice_range r.rows x y)) (whole_lines q r x y) (whole_lines q r x y))
-  text_parts Select e = select_rows ∙ ap (λ l. selected q (take x r.rows) ++ (l ++ selected q (slice_range r.rows x y))) (sym (nothing_from (λ i. lines q i (take y r.rows)) ca (mid - ca) (λ i. no_lines q e i (take y r.rows))))
-  text_parts Group e = window_lines
-  text_parts Join e = window_lines
+  -- ---- what is added to the text of windows, or of rows
 
-  -- the text up to y is that up to x, and then what is written
-  pub text_law : text q (arrived r y) ≡ text q (arrived r x) ++ written_by q (unclosed q (arrived r x)) (piece_between q r x y)
-  unfolding text written_by piece_between shares_between
-  text_law = text_parts q.shape refl ∙ ap (λ l. by_shape q.shape (selected q (take x r.rows)) (window_text q (arrived r x)) (window_text q (arrived r x)) ++ (l ++ by_shape q.shape (selected q (slice_range r.rows x y)) (whole_lines q r x y) (whole_lines q r x y))) (sym closing_lines)
+  plain_law : plain_text q (arrived r y) ≡ plain_text q (arrived r x) ++ plain_added q r x y
+  plain_law = elim q.shape as (λ s. by_shape s (cond (has_windows (frame q)) (window_text q (arrived r y)) (selected q (take y r.rows))) (window_text q (arrived r y)) (window_text q (arrived r y))
+      ≡ by_shape s (cond (has_windows (frame q)) (window_text q (arrived r x)) (selected q (take x r.rows))) (window_text q (arrived r x)) (window_text q (arrived r x))
+      ++ by_shape s (cond (has_windows (frame q)) (lines_from q (take y r.rows) ca cb) (selected q (slice_range r.rows x y))) (lines_from q (take y r.rows) ca cb) (lines_from q (take y r.rows) ca cb)) [
+        | Select ↦ elim (has_windows (frame q)) as (λ b. cond b (window_text q (arrived r y)) (selected q (take y r.rows))
+            ≡ cond b (window_text q (arrived r x)) (selected q (take x r.rows)) ++ cond b (lines_from q (take y r.rows) ca cb) (selected q (slice_range r.rows x y))) [ true ↦ window_lines | false ↦ select_rows ]
+        | Group ↦ window_lines
+        | Join ↦ window_lines
+      ]
+
+  -- the closing parts' lines, where there are no windows
+  none_closing : has_windows (frame q) ≡ false → flat_map lines_y (from ca (mid - ca)) ≡ []
+  unfolding from
+  none_closing e =
+      let none : cb ≡ 0 = none_of (frame q) (mark_at r y) e in
+      let few : mid - ca ≡ 0 = omega (arith, none) in
+      ap (λ n. flat_map lines_y (from ca n)) few
+
+  printed_case : (b : Bool) → has_windows (frame q) ≡ b → cond b (lines_from q (take y r.rows) ca cb) (selected q (slice_range r.rows x y))
+      ≡ flat_map lines_y (from ca (mid - ca)) ++ cond b (whole_lines q r x y) (selected q (slice_range r.rows x y))
+  printed_case true e = closed_lines
+  printed_case false e = sym (ap (λ l. l ++ selected q (slice_range r.rows x y)) (none_closing e))
+
+  printed : plain_added q r x y ≡ flat_map lines_y (from ca (mid - ca)) ++ by_frame q (selected q (slice_range r.rows x y)) (whole_lines q r x y)
+  printed = elim q.shape as (λ s. by_shape s (cond (has_windows (frame q)) (lines_from q (take y r.rows) ca cb) (selected q (slice_range r.rows x y))) (lines_from q (take y r.rows) ca cb) (lines_from q (take y r.rows) ca cb)
+      ≡ flat_map lines_y (from ca (mid - ca)) ++ by_shape s (cond (has_windows (frame q)) (whole_lines q r x y) (selected q (slice_range r.rows x y))) (whole_lines q r x y) (whole_lines q r x y)) [
+        | Select ↦ printed_case (has_windows (frame q)) refl
+        | Group ↦ closed_lines
+        | Join ↦ closed_lines
+      ]
+
+  -- the piece's lines are those of the windows that are closed, or of the rows
+  pub written_law : plain_added q r x y ≡ written_by q (unclosed q (arrived r x)) (piece_between q r x y)
+  unfolding written_by piece_between shares_between
+  written_law = printed ∙ ap (λ l. l ++ by_frame q (selected q (slice_range r.rows x y)) (whole_lines q r x y)) (sym closing_lines)
+
+  -- ---- what windows gain or lose
+
+  before_stays : (i : ℕ) → i ≤ ca → before_window (λ k. window_answers q k (take y r.rows)) i ≡ before_window (λ k. window_answers q k (take x r.rows)) i
+  before_stays zero l = refl
+  before_stays (suc i) l = answers_stay q i r x y o a (closed_before i (omega (arith, l)))
+
+  -- what was kept is what stands before the first window that is closed now
+  pub last_stays : before_window (λ k. window_answers q k (take y r.rows)) ca ≡ last_answers q (arrived r x)
+  unfolding last_answers
+  last_stays = before_stays ca (le_refl ca)
+
+  change_law : (c : Change) → change_text c q (arrived r y) ≡ change_text c q (arrived r x) ++ change_added c q r x y
+  change_law c = more_closed (change_lines c q (take y r.rows)) (change_lines c q (take x r.rows))
+      (λ i l j. answer_lines i (c (before_stays i (omega (arith, l)) j) (answers_stay q i r x y o a (closed_before i l) j)))
+
+  -- ---- what rows close in their substreams
+
+  abbrev turn_y : List ℕ
+  turn_y = closed_in_turn q [] (take y r.rows)
+
+  abbrev turn_x : List ℕ
+  turn_x = closed_in_turn q [] (take x r.rows)
+
+  abbrev turn_xy : List ℕ
+  turn_xy = closed_in_turn q (take x r.rows) (slice_range r.rows x y)
+
+  turns : turn_y ≡ turn_x ++ turn_xy
+  turns = ap (closed_in_turn q []) (sym (slice-front r.rows y) ∙ slice-join r.rows 0 x y zero-le a ∙ ap (λ l. l ++ slice_range r.rows x y) (slice-front r.rows x))
+      ∙ in_turn-append q [] (take x r.rows) (slice_range r.rows x y)
+
+  last_case : (b : Bool) → (arrived r y).ended ≡ b → cond b (closed_at_last q (take y r.rows)) [] ≡ cond b (closed_at_last q r.rows) []
+  last_case true e = ap (closed_at_last q) (take_all y r.rows (let far = end_behind r y e in omega (arith, far)))
+  last_case false e = refl
+
+  none_between : (arrived r x).ended ≡ true → slice_range r.rows x y ≡ []
+  none_between e = nothing_behind r.rows x y (let far = end_behind r x e in omega (arith, far))
+
+  no_turn : (arrived r x).ended ≡ true → turn_xy ≡ []
+  unfolding closed_in_turn
+  no_turn e = ap (closed_in_turn q (take x r.rows)) (none_between e)
+
+  all_came : (arrived r x).ended ≡ true → take y r.rows ≡ take x r.rows
+  all_came e =
+      let far = end_behind r x e in
+      take_all y r.rows (omega (arith, far, a)) ∙ sym (take_all x r.rows (omega (arith, far)))
+
+  list_case : (b : Bool) → (arrived r x).ended ≡ b
+      → turn_y ++ cond (arrived r y).ended (closed_at_last q (take y r.rows)) []
+      ≡ (turn_x ++ cond b (closed_at_last q (take x r.rows)) []) ++ (turn_xy ++ cond (not b && (arrived r y).ended) (closed_at_last q r.rows) [])
+  list_case true e =
+      let all : turn_y ≡ turn_x = ap (closed_in_turn q []) (all_came e) in
+      (λ j. all j ++ cond (stays_ended r x y a e j) (closed_at_last q (all_came e j)) [])
+      ∙ sym (append-nil (turn_x ++ closed_at_last q (take x r.rows)))
+      ∙ sym (ap (λ l. (turn_x ++ closed_at_last q (take x r.rows)) ++ (l ++ [])) (no_turn e))
+  list_case false e =
+      ap (λ l. l ++ cond (arrived r y).ended (closed_at_last q (take y r.rows)) []) turns
+      ∙ append_assoc turn_x turn_xy (cond (arrived r y).ended (closed_at_last q (take y r.rows)) [])
+      ∙ ap (λ l. turn_x ++ (turn_xy ++ l)) (last_case (arrived r y).ended refl)
+      ∙ sym (ap (λ l. l ++ (turn_xy ++ cond (arrived r y).ended (closed_at_last q r.rows) [])) (append-nil turn_x))
+
+  list_law : key_text q (arrived r y) ≡ key_text q (arrived r x) ++ list_added q r x y
+  list_law = list_case (arrived r x).ended refl
+
+  -- ---- the text up to y is that up to x, and then what is added
+  pub text_law : text q (arrived r y) ≡ text q (arrived r x) ++ added q r x y
+  unfolding text added
+  text_law = elim (way q) as (λ u. by_way u (plain_text q (arrived r y)) (key_text q (arrived r y)) (λ c. change_text c q (arrived r y))
+      ≡ by_way u (plain_text q (arrived r x)) (key_text q (arrived r x)) (λ c. change_text c q (arrived r x))
+      ++ by_way u (plain_added q r x y) (list_added q r x y) (λ c. change_added c q r x y)) [
+        | alike ↦ plain_law
+        | by_list ↦ list_law
+        | by_change c ↦ change_law c
+      ]

@@ -1,16 +1,17 @@
 -- What a checked plan's windows are good for.
-use Rattle.std.proofs.Common.{◌≡◌, List, [], ◌∷◌, Option, Some, refl, sym, ◌∙◌, ap, subst}
+use Rattle.std.proofs.Common.{◌≡◌, List, [], ◌∷◌, Option, Some, None, IfSome, refl, sym, ◌∙◌, ap, subst, subst₂}
 use Rattle.std.specs.Option.{option_map_or}
 use Rattle.std.proofs.lemmas.Bool.{le-leb}
 use Rattle.saber_plan.specs.declared.windows.Window.{Window}
 use Rattle.saber_plan.specs.declared.windows.Stream.{Stream}
+use Rattle.saber_plan.specs.declared.plans.Word.{Word}
 use Rattle.saber_plan.specs.declared.plans.Shape.{Shape}
 use Rattle.saber_plan.specs.declared.plans.Shape.TheVariants.{Select, Group, Join}
 use Rattle.saber_plan.specs.Trees.{Tree}
 use Rattle.saber_plan.specs.Windows.{Frame, unwindowed, one, two, frame_of, Fits}
 use Rattle.saber_plan.specs.Answers.{frame}
-use Rattle.saber_plan.specs.Checked.{IsChecked, StreamsFit}
-use Rattle.saber_laws.specs.Plans.{NoWindow, OneWindow, TwoWindows, SelectionsHaveNoWindow, GroupsHaveOneWindow, JoinsHaveTwoWindows}
+use Rattle.saber_plan.specs.Checked.{IsChecked, StreamsFit, WordFits, WindowFits}
+use Rattle.saber_laws.specs.Plans.{NoWindow, OneWindow, TwoWindows, SelectionsHaveNoWindow, WordsHaveOneWindow, GroupsHaveOneWindow, JoinsHaveTwoWindows}
 
 abbrev one_frame : Option Window → Frame
 one_frame o = option_map_or (λ w. one w.measure w.slide w.size) o unwindowed
@@ -18,9 +19,13 @@ one_frame o = option_map_or (λ w. one w.measure w.slide w.size) o unwindowed
 abbrev two_frame : Option Window → Option Window → Frame
 two_frame a b = option_map_or (λ v. option_map_or (λ w. two v.measure v.slide v.size w.size) b unwindowed) a unwindowed
 
+any_frame : (o : Option Window) → IfSome o WindowFits → Fits (one_frame o)
+any_frame None h = tt
+any_frame (Some w) h = (le-leb 1 w.slide h.slide.0, le-leb 1 w.size h.size.0)
+
 streams_fit : (s : Shape) (ss : List Stream) → StreamsFit s ss → Fits (frame_of ss)
 streams_fit Select [] h = absurd h
-streams_fit Select (s ∷ []) h = subst (λ o. Fits (one_frame o)) (sym h) tt
+streams_fit Select (s ∷ []) h = any_frame s.window h
 streams_fit Select (s ∷ t ∷ ts) h = absurd h
 streams_fit Group [] h = absurd h
 streams_fit Group (s ∷ []) (w, e, f) = subst (λ o. Fits (one_frame o)) (sym e) (le-leb 1 w.slide f.slide.0, le-leb 1 w.size f.size.0)
@@ -37,10 +42,15 @@ checked_fits q h = streams_fit q.shape q.streams h.streams
 
 -- ---- which windows they are
 
-select_case : (q : Tree) (ss : List Stream) → q.streams ≡ ss → StreamsFit Select ss → NoWindow q
-select_case q [] e h = absurd h
-select_case q (s ∷ []) e h = record { stream = s; streams = e; plain = h; has_frame = ap frame_of e ∙ ap one_frame h }
-select_case q (s ∷ t ∷ ts) e h = absurd h
+select_case : (q : Tree) (ss : List Stream) → q.streams ≡ ss → StreamsFit Select ss → WordFits Select ss None → NoWindow q
+select_case q [] e h k = absurd h
+select_case q (s ∷ []) e h k = record { stream = s; streams = e; plain = k; has_frame = ap frame_of e ∙ ap one_frame k }
+select_case q (s ∷ t ∷ ts) e h k = absurd h
+
+word_case : (q : Tree) (ss : List Stream) (word : Word) → q.streams ≡ ss → StreamsFit Select ss → WordFits Select ss (Some word) → OneWindow q
+word_case q [] word e h k = absurd h
+word_case q (s ∷ []) word e h (w, g) = record { stream = s; window = w; streams = e; windowed = g; fits = subst (λ o. IfSome o WindowFits) g h; has_frame = ap frame_of e ∙ ap one_frame g }
+word_case q (s ∷ t ∷ ts) word e h k = absurd h
 
 group_case : (q : Tree) (ss : List Stream) → q.streams ≡ ss → StreamsFit Group ss → OneWindow q
 group_case q [] e h = absurd h
@@ -66,7 +76,10 @@ join_case q (s ∷ t ∷ []) e (v, w, g, k, f, l, p) = record {
 join_case q (s ∷ t ∷ u ∷ us) e h = absurd h
 
 pub selection_has_none : SelectionsHaveNoWindow
-selection_has_none q h e = select_case q q.streams refl (subst (λ s. StreamsFit s q.streams) e h.streams)
+selection_has_none q h e n = select_case q q.streams refl (subst (λ s. StreamsFit s q.streams) e h.streams) (subst₂ (λ s o. WordFits s q.streams o) e n h.word)
+
+pub words_have_one : WordsHaveOneWindow
+words_have_one q word h e n = word_case q q.streams word refl (subst (λ s. StreamsFit s q.streams) e h.streams) (subst₂ (λ s o. WordFits s q.streams o) e n h.word)
 
 pub group_has_one : GroupsHaveOneWindow
 group_has_one q h e = group_case q q.streams refl (subst (λ s. StreamsFit s q.streams) e h.streams)

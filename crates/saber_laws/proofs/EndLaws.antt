@@ -8,8 +8,8 @@ use Rattle.saber_plan.specs.declared.windows.Mark.{Mark}
 use Rattle.saber_plan.specs.Trees.{Tree}
 use Rattle.saber_plan.specs.Inputs.{Input, arrived}
 use Rattle.saber_plan.specs.Windows.{Frame, Fits, no_rows, step_mark, mark_after, mark_of, ending, mark_at, begun, closed, begun_count, closed_count, has, Ordered, place, placed_after, placed, inside}
-use Rattle.saber_plan.specs.Answers.{by_shape, frame, lines, passing}
-use Rattle.saber_plan.specs.Parts.{no_part, part, part_lines, group_part, pair_part, join_numbers, merge}
+use Rattle.saber_plan.specs.Answers.{by_shape, frame, lines, window_answers, passing}
+use Rattle.saber_plan.specs.Parts.{no_part, part, part_lines, part_answers, row_part, group_part, pair_part, join_numbers, merge}
 use Rattle.saber_plan.specs.ListFacts.{Each, each-filter, slice-join, slice-front, nothing_behind}
 use Rattle.saber_plan.specs.MapFacts.{both_empty_right}
 use Rattle.saber_plan.specs.PartFacts.{total, exact, merge-empty_right}
@@ -18,7 +18,8 @@ use Rattle.saber_laws.proofs.WindowLaws.{begun_ending, begun_count_ending, close
 use Rattle.saber_laws.proofs.RowLaws.{take-placed, slice-placed, Ordered-slice}
 use Rattle.saber_laws.proofs.PartLaws.{group_part-empty}
 use Rattle.saber_laws.proofs.PairLaws.{pair_part-none, placed_below}
-use Rattle.saber_laws.proofs.ShareLaws.{part-join, part-not_begun, part-closed, part-take, lines-part, shaped}
+use Rattle.saber_laws.proofs.RowPartLaws.{row_part-nil}
+use Rattle.saber_laws.proofs.ShareLaws.{part-join, part-not_begun, part-closed, part-take, lines-part, answers_whole, shaped}
 
 -- ---- the marks of an input
 
@@ -132,7 +133,7 @@ pub part_whole : (q : Tree) (i : ℕ) (xs : List Row) (x y z : ℕ) → length x
 part_whole q i xs x y z h k =
     let all : length (placed xs) ≡ length xs = length-placed no_rows xs in
     let rows = λ (v : ℕ). slice_whole (placed xs) v y z (omega arith) (omega arith) in
-    λ j. by_shape q.shape no_part (group_part q (passing q (filter (has (frame q) i) (rows x j)))) (pair_part q x (filter (has (frame q) i) (rows 0 j)))
+    λ j. by_shape q.shape (row_part q (filter (has (frame q) i) (rows x j))) (group_part q (passing q (filter (has (frame q) i) (rows x j)))) (pair_part q x (filter (has (frame q) i) (rows 0 j)))
 
 inside_before : (f : Frame) (i : ℕ) (xs : List Row) (x y : ℕ) → length xs ≤ x → Each (λ p. place p < x) (inside f i xs 0 y)
 inside_before f i xs x y h = each-filter (λ p. place p < x) (has f i) (slice_range (placed xs) 0 y) (subst (Each (λ p. place p < x)) (sym (slice-front (placed xs) y ∙ take-placed y no_rows xs)) (placed_below no_rows (take y xs) x (let few = length-take y xs in omega arith)))
@@ -141,7 +142,7 @@ pub part_behind : (q : Tree) (i : ℕ) (xs : List Row) (x y : ℕ) → length xs
 part_behind q i xs x y h =
     let all : length (placed xs) ≡ length xs = length-placed no_rows xs in
     let none = ap (filter (has (frame q) i)) (nothing_behind (placed xs) x y (omega arith)) in
-    shaped q.shape _ _ _ no_part refl (ap (λ l. group_part q (passing q l)) none ∙ group_part-empty q) (pair_part-none q x _ (inside_before (frame q) i xs x y h))
+    shaped q.shape _ _ _ no_part (ap (row_part q) none ∙ row_part-nil q) (ap (λ l. group_part q (passing q l)) none ∙ group_part-empty q) (pair_part-none q x _ (inside_before (frame q) i xs x y h))
 
 -- parts join at each position
 pub join_at : (q : Tree) (i : ℕ) (xs : List Row) (x y z : ℕ) → x ≤ y → y ≤ z → part q i xs x z ≡ merge (part q i xs x y) (part q i xs y z)
@@ -169,6 +170,13 @@ part_closed q i r x y o a h = elim ((arrived r x).ended) as (λ b. (arrived r x)
 
 pub lines_stay : (q : Tree) (i : ℕ) (r : Input) (x y : ℕ) → Ordered no_rows r.rows → x ≤ y → closed (frame q) i (mark_at r x) ≡ true → lines q i (take y r.rows) ≡ lines q i (take x r.rows)
 lines_stay q i r x y o a h = lines_upto q i r.rows y ∙ ap (part_lines q i) (join_at q i r.rows 0 x y zero-le a ∙ ap (merge (part q i r.rows 0 x)) (part_closed q i r x y o a h) ∙ merge-empty_right (part q i r.rows 0 x)) ∙ sym (lines_upto q i r.rows x)
+
+-- and so do its answers
+pub answers_upto : (q : Tree) (i : ℕ) (xs : List Row) (y : ℕ) → window_answers q i (take y xs) ≡ part_answers q (part q i xs 0 y)
+answers_upto q i xs y = answers_whole q i (take y xs) ∙ ap (part_answers q) (part_upto q i xs y)
+
+pub answers_stay : (q : Tree) (i : ℕ) (r : Input) (x y : ℕ) → Ordered no_rows r.rows → x ≤ y → closed (frame q) i (mark_at r x) ≡ true → window_answers q i (take y r.rows) ≡ window_answers q i (take x r.rows)
+answers_stay q i r x y o a h = answers_upto q i r.rows y ∙ ap (part_answers q) (join_at q i r.rows 0 x y zero-le a ∙ ap (merge (part q i r.rows 0 x)) (part_closed q i r x y o a h) ∙ merge-empty_right (part q i r.rows 0 x)) ∙ sym (answers_upto q i r.rows x)
 
 -- one that isn't begun has nothing yet
 pub part_not_begun : (q : Tree) (i : ℕ) (r : Input) (y : ℕ) → Ordered no_rows r.rows → begun (frame q) i (mark_at r y) ≡ false → part q i r.rows 0 y ≡ no_part

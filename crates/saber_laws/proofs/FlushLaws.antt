@@ -7,7 +7,7 @@ use Rattle.saber_plan.specs.declared.windows.Mark.{Mark}
 use Rattle.saber_plan.specs.declared.windows.Kind.{Kind}
 use Rattle.saber_plan.specs.Trees.{Tree}
 use Rattle.saber_plan.specs.Inputs.{arrived}
-use Rattle.saber_plan.specs.Windows.{step_mark, mark_after, mark_of, ending, last_mark, closed_count, begun_count, past_count, kind_of, from}
+use Rattle.saber_plan.specs.Windows.{has_windows, step_mark, mark_after, mark_of, ending, last_mark, closed_count, begun_count, past_count, kind_of, from}
 use Rattle.saber_plan.specs.Answers.{frame, entry_lines, key_cmp}
 use Rattle.saber_plan.specs.MapFacts.{entries-empty}
 use Rattle.saber_plan.specs.Parts.{Part, part_lines, answers_of}
@@ -40,6 +40,10 @@ begin_none f e m = record { tests = λ i. begun_ending f i e m; counts = begun_c
 
 -- ---- a task without rows
 
+pub either_way : {A : Type 0} (b : Bool) {x y z : A} → x ≡ z → y ≡ z → cond b x y ≡ z
+either_way true e f = e
+either_way false e f = f
+
 chosen_none : (b : Bool) (p : Option Part) → p ≡ None → cond b p None ≡ None
 chosen_none true p e = e
 chosen_none false p e = refl
@@ -69,7 +73,7 @@ module _ (q : Tree) (m : Mark) (back : List Row) where
   unfolding shares_here
   given_lines =
       let none = nothing_of (filter (λ i. is_complete (kind_of (frame q) i a b)) (from (closed_count (frame q) a) (begun_count (frame q) b - closed_count (frame q) a))) in
-      shaped q.shape _ _ _ [] refl none none
+      shaped q.shape _ _ _ [] (either_way (has_windows (frame q)) none refl) none none
 
   given_closed : (shares_here q m back [] true).closed ≡ begun_count (frame q) a
   unfolding shares_here

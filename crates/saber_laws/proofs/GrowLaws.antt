@@ -5,10 +5,11 @@ use Rattle.saber_plan.specs.Inputs.{Input}
 use Rattle.saber_plan.specs.Trees.{Tree}
 use Rattle.saber_plan.specs.Windows.{last_mark}
 use Rattle.saber_plan.specs.Answers.{by_shape, frame}
-use Rattle.saber_plan.specs.Tasks.{cut, upto, piece, piece_between}
+use Rattle.saber_plan.specs.Tasks.{cut, upto, places, piece, piece_between}
 use Rattle.saber_plan.specs.Needs.{first_open, free, back_rows, task_rows, back_mark}
 use Rattle.saber_plan.specs.ListFacts.{slice-take}
 use Rattle.saber_laws.proofs.TaskLaws.{piece-take}
+use Rattle.saber_laws.proofs.ListLaws.{stay}
 use Rattle.saber_laws.proofs.TaskCutLaws.{cut_rises, cut_keeps, cut-upto, upto-upto}
 use Rattle.saber_laws.specs.Needs.{NeedsStay, TasksStay}
 use Rattle.saber_laws.proofs.FreeLaws.{free_at_most}
@@ -31,6 +32,14 @@ task_rows-upto n r d t l =
     let less : t ≤ d = omega arith in
     ap₂ (slice_range (upto n r d).rows) (cut-upto n r d t less) (cut-upto n r d (t + 1) l)
     ∙ slice-take r.rows (cut n r t) (cut n r (t + 1)) (cut n r d) (cut_rises n r t) (cut_keeps n r (t + 1) d l)
+
+-- where its rows stand in their substreams
+pub places-upto : (q : Tree) (n : ℕ) (r : Input) (d t : ℕ) → t + 1 ≤ d
+    → places q (upto n r d).rows (cut n (upto n r d) t) (cut n (upto n r d) (t + 1)) ≡ places q r.rows (cut n r t) (cut n r (t + 1))
+places-upto q n r d t l =
+    let less : t ≤ d = omega arith in
+    ap₂ (places q (upto n r d).rows) (cut-upto n r d t less) (cut-upto n r d (t + 1) l)
+    ∙ stay q r.rows (cut n r t) (cut n r (t + 1)) (cut n r d) (cut_rises n r t) (cut_keeps n r (t + 1) d l)
 
 pub piece-upto : (q : Tree) (n : ℕ) (r : Input) (d t : ℕ) → t + 1 ≤ d → piece q n (upto n r d) t ≡ piece q n r t
 piece-upto q n r d t l =

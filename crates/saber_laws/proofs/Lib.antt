@@ -4,6 +4,7 @@ pub mod NumberedLaws
 pub mod DirectLaws
 pub mod PartLaws
 pub mod PairLaws
+pub mod RowPartLaws
 pub mod ShareLaws
 pub mod EndLaws
 pub mod AssemblyLaws
@@ -33,3 +34,5 @@ pub mod FlushLaws
 pub mod DueLaws
 pub mod FrontLaws
 pub mod WideLaws
+pub mod WordLaws
+pub mod ListLaws

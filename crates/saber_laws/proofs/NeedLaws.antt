@@ -16,9 +16,9 @@ use Rattle.saber_plan.specs.Rows.{stamp}
 use Rattle.saber_plan.specs.Trees.{Tree}
 use Rattle.saber_plan.specs.Inputs.{Input, arrived, going_on}
 use Rattle.saber_plan.specs.Windows.{Frame, unwindowed, one, two, Fits, by_side, no_rows, step_mark, mark_after, mark_of, ending, last_mark, mark_at, Ordered, Placed, place, placed_after, placed, has, begun, closed, begun_count, closed_count, kind_of, inside, from}
-use Rattle.saber_plan.specs.Answers.{by_shape, frame, passing, selected, lines}
-use Rattle.saber_plan.specs.Parts.{no_part, part, group_part, pair_part, part_lines}
-use Rattle.saber_plan.specs.Shares.{is_complete, is_closing, is_pending, is_opening, of_kind, part_here, shares_here, shares_between, piece_in}
+use Rattle.saber_plan.specs.Answers.{by_shape, by_frame, frame, passing, selected, lines}
+use Rattle.saber_plan.specs.Parts.{no_part, part, row_part, group_part, pair_part, part_lines}
+use Rattle.saber_plan.specs.Shares.{is_complete, is_closed, is_closing, is_pending, is_opening, of_kind, part_here, shares_here, shares_between, handed_here, handed_between, piece_in}
 use Rattle.saber_plan.specs.Tasks.{piece_between}
 use Rattle.saber_plan.specs.Needs.{first_window, past_window, lies_open, first_place, first_open, piece_here}
 use Rattle.saber_laws.proofs.WindowLaws.{spans_is, closed_is, begun_is, begins, begun_after, begun_ending}
@@ -27,6 +27,7 @@ use Rattle.saber_plan.specs.ListFacts.{Each, each-filter, each-weaker, dropped, 
 use Rattle.saber_laws.proofs.PairLaws.{Rising, pair_part-none, placed_below, placed_rising, behind, behind_after}
 use Rattle.saber_laws.proofs.ShareLaws.{inside_below, shaped}
 use Rattle.saber_laws.proofs.PartLaws.{group_part-empty}
+use Rattle.saber_laws.proofs.RowPartLaws.{row_part-nil}
 use Rattle.saber_laws.proofs.EndLaws.{rows_on, mark_on, mark_next, mark_open, open_at, part_behind}
 use Rattle.saber_laws.proofs.TaskLaws.{lines-whole}
 
@@ -204,11 +205,12 @@ module _ (q : Tree) (w : Fits (frame q)) (xs : List Row) (s x y : ℕ) (o : Orde
   rows_here : (q.shape ≡ Join → Not_past s (first_open (frame q) (going_on (take x xs)))) → (i : ℕ) → part_here q i (mark_of (take s xs)) (slice_range xs s x) (slice_range xs x y) ≡ part q i xs x y
   unfolding part_here
   rows_here n i =
-      elim (q.shape) as (λ t. (t ≡ Join → Not_past s (first_open (frame q) (going_on (take x xs)))) → by_shape t no_part
+      elim (q.shape) as (λ t. (t ≡ Join → Not_past s (first_open (frame q) (going_on (take x xs)))) → by_shape t
+      (row_part q (filter (has (frame q) i) (placed_after (mark_after (mark_of (take s xs)) (slice_range xs s x)) (slice_range xs x y))))
       (group_part q (passing q (filter (has (frame q) i) (placed_after (mark_after (mark_of (take s xs)) (slice_range xs s x)) (slice_range xs x y)))))
       (pair_part q ((mark_of (take s xs)).left + (mark_of (take s xs)).right + length (slice_range xs s x)) (filter (has (frame q) i) (placed_after (mark_of (take s xs)) (slice_range xs s x ++ slice_range xs x y))))
-      ≡ by_shape t no_part (group_part q (passing q (inside (frame q) i xs x y))) (pair_part q x (inside (frame q) i xs 0 y))) [
-        | Select ↦ λ n. refl
+      ≡ by_shape t (row_part q (inside (frame q) i xs x y)) (group_part q (passing q (inside (frame q) i xs x y))) (pair_part q x (inside (frame q) i xs 0 y))) [
+        | Select ↦ λ n. ap (row_part q) (group_rows i)
         | Group ↦ λ n. ap (λ l. group_part q (passing q l)) (group_rows i)
         | Join ↦ λ n. ap (λ p. pair_part q p (filter (has (frame q) i) (placed_after (mark_of (take s xs)) (slice_range xs s x ++ slice_range xs x y)))) back_place ∙ ap (pair_part q x) (back_inside i) ∙ pairs_case i (n refl) _ refl
       ] n
@@ -220,7 +222,7 @@ unfolding part_here placed_after
 no_rows_here q i m back rows e =
     let some = length-append back [] in
     ap (part_here q i m back) e
-    ∙ shaped q.shape _ _ _ no_part refl (group_part-empty q) (pair_part-none q (m.left + m.right + length back) _ (each-filter _ (has (frame q) i) _ (placed_below m (back ++ []) (m.left + m.right + length back) (omega arith))))
+    ∙ shaped q.shape _ _ _ no_part (row_part-nil q) (group_part-empty q) (pair_part-none q (m.left + m.right + length back) _ (each-filter _ (has (frame q) i) _ (placed_below m (back ++ []) (m.left + m.right + length back) (omega arith))))
 
 -- positions s, x, y of an input
 module _ (q : Tree) (w : Fits (frame q)) (r : Input) (s x y : ℕ) (o : Ordered no_rows r.rows) (d : s ≤ x) (a : x ≤ y) where
@@ -268,7 +270,22 @@ module _ (q : Tree) (w : Fits (frame q)) (r : Input) (s x y : ℕ) (o : Ordered 
         closing = of_kind is_closing f (ma j) (mb j) (λ i. part_here_is n i j);
         pending = of_kind is_pending f (ma j) (mb j) (λ i. part_here_is n i j);
         opening = of_kind is_opening f (ma j) (mb j) (λ i. part_here_is n i j);
-        lines = by_shape q.shape (selected q rows) (all j) (all j);
+        lines = by_frame q (selected q rows) (all j);
+        closed = closed_count f (mb j);
+      }
+
+  -- and so is what is handed on
+  pub handed_here_is : (q.shape ≡ Join → Not_past s (first_open (frame q) (arrived r x))) → ((arrived r x).ended ≡ true → (arrived r s).ended ≡ true) → handed_here q (mark_at r s) (slice_range r.rows s x) (slice_range r.rows x y) (arrived r y).ended ≡ handed_between q r x y
+  unfolding handed_here handed_between
+  handed_here_is n k =
+      let f = frame q in
+      let ma : mark_after (mark_at r s) back ≡ mark_at r x = mark_next r s x d k in
+      let mb : ending (arrived r y).ended (mark_after (mark_after (mark_at r s) back) rows) ≡ mark_at r y = ap (λ b. ending (arrived r y).ended (mark_after b rows)) ma ∙ sym (mark_on r x y a) in
+      λ j. record {
+        closing = of_kind is_closed f (ma j) (mb j) (λ i. part_here_is n i j);
+        pending = of_kind is_pending f (ma j) (mb j) (λ i. part_here_is n i j);
+        opening = of_kind is_opening f (ma j) (mb j) (λ i. part_here_is n i j);
+        lines = [];
         closed = closed_count f (mb j);
       }
 

@@ -127,7 +127,7 @@ pub rising-filter : (p : Placed → Bool) (xs : List Placed) → Rising xs → R
 rising-filter p [] h = tt
 rising-filter p (x ∷ xs) h = elim (p x) as (λ b. Rising (cond b (x ∷ filter p xs) (filter p xs))) [ true ↦ (each-filter _ p xs h.0, rising-filter p xs h.1) | false ↦ rising-filter p xs h.1 ]
 
-int_less : (a b : ℕ) → a < b → int_cmp (pos a) (pos b) ≡ Less
+pub int_less : (a b : ℕ) → a < b → int_cmp (pos a) (pos b) ≡ Less
 int_less a b h = sym (int_cmp_is (pos a) (pos b) Less (omega (arith, ints)))
 
 int_same : (a : ℕ) → int_cmp (pos a) (pos a) ≡ Equal
@@ -139,7 +139,7 @@ less_first a b c d h = subst (λ o. T (is_lt (ordering_then o (key_cmp (pos b �
 less_second : (a b d : ℕ) → b < d → T (is_lt (key_cmp (pos a ∷ pos b ∷ []) (pos a ∷ pos d ∷ [])))
 less_second a b d h = subst₂ (λ o r. T (is_lt (ordering_then o (ordering_then r Equal)))) (sym (int_same a)) (sym (int_less b d h)) tt
 
-below-map : (k : List ℤ) (f : Placed → Numbered) (ys : List Placed) → Each (λ y. T (is_lt (key_cmp k (f y).0))) ys → T (below_all key_cmp k (map f ys))
+pub below-map : (k : List ℤ) (f : Placed → Numbered) (ys : List Placed) → Each (λ y. T (is_lt (key_cmp k (f y).0))) ys → T (below_all key_cmp k (map f ys))
 below-map k f [] h = tt
 below-map k f (y ∷ ys) h = and_T _ _ h.0 (below-map k f ys h.1)
 
@@ -182,7 +182,7 @@ entries-pair_part q xs r =
     ap (λ es. entries (from_entries {R = key_cmp} es)) all_kept ∙ entries-from_rising total exact (pairs q (pair_numbers q) xs) (sorted_pairs q xs r)
 
 -- the numbers of a pair show its answers
-pair-shown : (is : List Item) (l r : List ℤ) → shown is 1 (map (λ e. value e l r) (summed is)) (map (λ e. value e l r) (least is)) (map (λ e. value e l r) (greatest is)) (map (λ e. value e l r) (plain is)) ≡ map (item_value l r) is
+pub pair-shown : (is : List Item) (l r : List ℤ) → shown is 1 (map (λ e. value e l r) (summed is)) (map (λ e. value e l r) (least is)) (map (λ e. value e l r) (greatest is)) (map (λ e. value e l r) (plain is)) ≡ map (item_value l r) is
 pair-shown [] l r = refl
 pair-shown (Count ∷ is) l r = ap (λ t. pos 1 ∷ t) (pair-shown is l r)
 pair-shown (Sum e ∷ is) l r = ap (λ t. value e l r ∷ t) (pair-shown is l r)
@@ -190,7 +190,7 @@ pair-shown (Min e ∷ is) l r = ap (λ t. value e l r ∷ t) (pair-shown is l r)
 pair-shown (Max e ∷ is) l r = ap (λ t. value e l r ∷ t) (pair-shown is l r)
 pair-shown (Value e ∷ is) l r = ap (λ t. value e l r ∷ t) (pair-shown is l r)
 
-abbrev answered : Tree → Numbered → Entry
+abbrev pub answered : Tree → Numbered → Entry
 answered q e = (e.0, answers_of q.items e.1)
 
 answered-map : (q : Tree) (x : Placed) (ys : List Placed) → map (answered q) (map (λ y. (pair_key x y, pair_numbers q x y)) ys) ≡ map (λ y. (pair_key x y, pair_answers q x y)) ys

@@ -5,29 +5,37 @@ use Rattle.std.specs.Ordering.{nat_cmp}
 use Rattle.std.proofs.lemmas.List.Elements.{filter-append}
 use Rattle.saber_plan.specs.Values.{passes}
 use Rattle.saber_plan.specs.declared.rows.Row.{Row}
-use Rattle.saber_plan.specs.declared.plans.Shape.TheVariants.{Select, Group, Join}
+use Rattle.saber_plan.specs.declared.plans.Shape.TheVariants.{Group}
 use Rattle.saber_plan.specs.declared.windows.Measure.TheVariants.{Rows, Range}
 use Rattle.saber_plan.specs.Trees.{Tree}
 use Rattle.saber_plan.specs.Inputs.{Input, arrived, going_on}
-use Rattle.saber_plan.specs.Windows.{Frame, unwindowed, one, two, Fits, no_rows, mark_of, last_mark, mark_at, begun, begun_count, closed_count, Ordered, kind_of, from, has, inside, Placed, placed_after}
-use Rattle.saber_plan.specs.Answers.{frame, lines, text, window_text, by_shape, passing, selected}
-use Rattle.saber_plan.specs.Parts.{Part, no_part, part, part_lines, group_part, pair_part, merge}
+use Rattle.saber_plan.specs.Windows.{Frame, unwindowed, one, two, has_windows, Fits, no_rows, mark_of, last_mark, mark_at, begun, begun_count, closed_count, Ordered, kind_of, from, has, inside, Placed, placed_after}
+use Rattle.saber_plan.specs.Answers.{frame, lines, text, plain_text, by_shape, by_frame, passing, selected, keys_of, window_answers, before_window, change_lines, change_text, closed_in_turn, key_text, alike, by_list, by_change, way, by_way}
+use Rattle.saber_plan.specs.Parts.{Part, part, part_lines, row_part, group_part, pair_part, merge}
 use Rattle.saber_plan.specs.declared.windows.Kind.{Kind}
 use Rattle.saber_plan.specs.Shares.{full, numbered, is_complete, is_closing, is_pending, is_opening, of_kind, piece_in, shares_between}
-use Rattle.saber_plan.specs.Tasks.{cut, upto, unclosed, take_in, joined_to, stage_at, PiecesMakeText, piece, piece_between, written_by, left_by}
+use Rattle.saber_plan.specs.Tasks.{cut, upto, unclosed, unclosed_by_list, last_answers, kept_behind, by_windows, nothing_kept, plain_added, change_added, list_added, added, take_in, joined_to, stage_at, PiecesMakeText, piece, piece_between, written_by, left_by}
 use Rattle.saber_plan.specs.ListFacts.{slice-take}
 use Rattle.saber_plan.specs.PartFacts.{merge-empty_left}
 use Rattle.saber_laws.proofs.PartLaws.{group_part-append}
 use Rattle.saber_laws.proofs.RowLaws.{slice-placed}
 use Rattle.saber_laws.proofs.WindowLaws.{closed_within_begun}
-use Rattle.saber_laws.proofs.ShareLaws.{passing-append, part-take}
+use Rattle.saber_laws.proofs.ShareLaws.{passing-append, part-take, shaped}
 use Rattle.saber_laws.proofs.EndLaws.{join_at, part_not_begun, lines_upto, arrived_twice}
 use Rattle.saber_laws.proofs.TaskCutLaws.{cut_rises, no_cut}
-use Rattle.saber_laws.proofs.AssemblyLaws.{text_law, open_law}
+use Rattle.saber_laws.proofs.AssemblyLaws.{text_law, written_law, open_law}
+
+-- the text goes on with what the piece writes, where windows print their answers as they are
+pub alike_text : (q : Tree) → way q ≡ alike → Fits (frame q) → (r : Input) (x y : ℕ) → Ordered no_rows r.rows → x ≤ y
+    → text q (arrived r y) ≡ text q (arrived r x) ++ written_by q (unclosed q (arrived r x)) (piece_between q r x y)
+unfolding added
+alike_text q e w r x y o a =
+    text_law q w r x y o a
+    ∙ ap (λ l. text q (arrived r x) ++ l) (ap (λ u. by_way u (plain_added q r x y) (list_added q r x y) (λ c. change_added c q r x y)) e ∙ written_law q w r x y o a)
 
 -- the assembly law: what a stage with k tasks behind it writes and keeps on piece k
-pub next_text : (q : Tree) → Fits (frame q) → (n : ℕ) (r : Input) → Ordered no_rows r.rows → (k : ℕ) → text q (upto n r (k + 1)) ≡ text q (upto n r k) ++ written_by q (unclosed q (upto n r k)) (piece q n r k)
-next_text q w n r o k = text_law q w r (cut n r k) (cut n r (k + 1)) o (cut_rises n r k)
+pub next_text : (q : Tree) → way q ≡ alike → Fits (frame q) → (n : ℕ) (r : Input) → Ordered no_rows r.rows → (k : ℕ) → text q (upto n r (k + 1)) ≡ text q (upto n r k) ++ written_by q (unclosed q (upto n r k)) (piece q n r k)
+next_text q e w n r o k = alike_text q e w r (cut n r k) (cut n r (k + 1)) o (cut_rises n r k)
 
 pub next_open : (q : Tree) → Fits (frame q) → (n : ℕ) (r : Input) → Ordered no_rows r.rows → (k : ℕ) → left_by q (unclosed q (upto n r k)) (piece q n r k) ≡ unclosed q (upto n r (k + 1))
 next_open q w n r o k = open_law q w r (cut n r k) (cut n r (k + 1)) o (cut_rises n r k)
@@ -37,15 +45,15 @@ next_open q w n r o k = open_law q w r (cut n r k) (cut n r (k + 1)) o (cut_rise
 suc_is : (k : ℕ) → suc k ≡ k + 1
 suc_is k = omega arith
 
-stage_step : (q : Tree) → Fits (frame q) → (n : ℕ) (r : Input) → Ordered no_rows r.rows → (start : List ℕ) (k : ℕ) → take_in q (stage_at q n r start k) (piece q n r k) ≡ stage_at q n r start (k + 1)
-stage_step q w n r o start k = λ i. record {
-  written = (append_assoc start (text q (upto n r k)) (written_by q (unclosed q (upto n r k)) (piece q n r k)) ∙ ap (λ l. start ++ l) (sym (next_text q w n r o k))) i;
+stage_step : (q : Tree) → way q ≡ alike → Fits (frame q) → (n : ℕ) (r : Input) → Ordered no_rows r.rows → (start : List ℕ) (k : ℕ) → take_in q (stage_at q n r start k) (piece q n r k) ≡ stage_at q n r start (k + 1)
+stage_step q e w n r o start k = λ i. record {
+  written = (append_assoc start (text q (upto n r k)) (written_by q (unclosed q (upto n r k)) (piece q n r k)) ∙ ap (λ l. start ++ l) (sym (next_text q e w n r o k))) i;
   parts = next_open q w n r o k i;
 }
 
-pub joined_is : (q : Tree) → Fits (frame q) → (n : ℕ) (r : Input) → Ordered no_rows r.rows → (start : List ℕ) (k : ℕ) → joined_to q n r (stage_at q n r start 0) k ≡ stage_at q n r start k
-joined_is q w n r o start zero = refl
-joined_is q w n r o start (suc k) = ap (λ s. take_in q s (piece q n r k)) (joined_is q w n r o start k) ∙ stage_step q w n r o start k ∙ ap (stage_at q n r start) (sym (suc_is k))
+pub joined_is : (q : Tree) → way q ≡ alike → Fits (frame q) → (n : ℕ) (r : Input) → Ordered no_rows r.rows → (start : List ℕ) (k : ℕ) → joined_to q n r (stage_at q n r start 0) k ≡ stage_at q n r start k
+joined_is q e w n r o start zero = refl
+joined_is q e w n r o start (suc k) = ap (λ s. take_in q s (piece q n r k)) (joined_is q e w n r o start k) ∙ stage_step q e w n r o start k ∙ ap (stage_at q n r start) (sym (suc_is k))
 
 none_begun : (f : Frame) → begun_count f no_rows ≡ 0
 none_begun unwindowed = refl
@@ -57,13 +65,26 @@ none_begun (two Range s n k) = refl
 none_closed : (f : Frame) → Fits f → closed_count f no_rows ≡ 0
 none_closed f w = omega (arith, closed_within_begun f w no_rows, none_begun f)
 
-no_windows : (q : Tree) (n : ℕ) → n ≡ 0 → flat_map (λ i. lines q i []) (from 0 n) ≡ []
+no_windows : (f : ℕ → List ℕ) (n : ℕ) → n ≡ 0 → flat_map f (from 0 n) ≡ []
 unfolding from
-no_windows q n e = ap (λ k. flat_map (λ i. lines q i []) (from 0 k)) e
+no_windows f n e = ap (λ k. flat_map f (from 0 k)) e
+
+plain-none : (q : Tree) → Fits (frame q) → plain_text q (going_on []) ≡ []
+plain-none q w =
+    let none = no_windows (λ i. lines q i []) _ (none_closed (frame q) w) in
+    shaped q.shape _ _ _ [] (either_case (has_windows (frame q)) none refl) none none
+  where
+    either_case : (b : Bool) {x y : List ℕ} → x ≡ [] → y ≡ [] → cond b x y ≡ []
+    either_case true e f = e
+    either_case false e f = f
 
 pub text-none : (q : Tree) → Fits (frame q) → text q (going_on []) ≡ []
-unfolding text
-text-none q w = let none = no_windows q _ (none_closed (frame q) w) in elim (q.shape) as (λ s. by_shape s [] (window_text q (going_on [])) (window_text q (going_on [])) ≡ []) [ Select ↦ refl | Group ↦ none | Join ↦ none ]
+unfolding text closed_in_turn
+text-none q w = elim (way q) as (λ u. by_way u (plain_text q (going_on [])) (key_text q (going_on [])) (λ c. change_text c q (going_on [])) ≡ []) [
+  | alike ↦ plain-none q w
+  | by_list ↦ refl
+  | by_change c ↦ no_windows (change_lines c q []) _ (none_closed (frame q) w)
+]
 
 pub no_numbers : {X : Type 0} (a n : ℕ) (f : ℕ → Option X) → n ≡ 0 → from_entries {R = nat_cmp} (numbered a n f) ≡ empty
 unfolding from
@@ -73,12 +94,29 @@ pub open-none : (q : Tree) → Fits (frame q) → unclosed q (going_on []) ≡ e
 unfolding unclosed
 open-none q w = no_numbers _ _ (λ i. full (part q i [] 0 0)) (omega (arith, none_begun (frame q)))
 
+last-none : (q : Tree) → Fits (frame q) → last_answers q (going_on []) ≡ []
+unfolding last_answers
+last-none q w = ap (before_window (λ i. window_answers q i [])) (none_closed (frame q) w)
+
+no_lists : (q : Tree) → unclosed_by_list q (going_on []) ≡ empty
+unfolding unclosed_by_list keys_of
+no_lists q = refl
+
+pub kept-none : (q : Tree) → Fits (frame q) → kept_behind q (going_on []) ≡ nothing_kept
+unfolding kept_behind
+kept-none q w = elim (way q) as (λ u. by_way u (by_windows (unclosed q (going_on []))) (record { parts = empty; lists = unclosed_by_list q (going_on []); answers = [] })
+    (λ c. record { parts = unclosed q (going_on []); lists = empty; answers = last_answers q (going_on []) }) ≡ nothing_kept) [
+      | alike ↦ ap by_windows (open-none q w)
+      | by_list ↦ λ j. record { parts = empty; lists = no_lists q j; answers = [] }
+      | by_change c ↦ λ j. record { parts = open-none q w j; lists = empty; answers = last-none q w j }
+    ]
+
 -- what the first k pieces make of an empty stage
-pub pieces_make : (q : Tree) → Fits (frame q) → (n : ℕ) (r : Input) → Ordered no_rows r.rows → (start : List ℕ) (k : ℕ) → joined_to q n r (record { written = start; parts = empty }) k ≡ stage_at q n r start k
-pieces_make q w n r o start k = ap (λ s. joined_to q n r s k) (λ i. record {
+pub pieces_make : (q : Tree) → way q ≡ alike → Fits (frame q) → (n : ℕ) (r : Input) → Ordered no_rows r.rows → (start : List ℕ) (k : ℕ) → joined_to q n r (record { written = start; parts = empty }) k ≡ stage_at q n r start k
+pieces_make q e w n r o start k = ap (λ s. joined_to q n r s k) (λ i. record {
   written = (sym (append-nil start) ∙ ap (λ l. start ++ l) (sym (ap (text q) (no_cut n r) ∙ text-none q w))) i;
   parts = sym (ap (unclosed q) (no_cut n r) ∙ open-none q w) i;
-}) ∙ joined_is q w n r o start k
+}) ∙ joined_is q e w n r o start k
 
 -- ---- a piece looks at no later row
 
@@ -94,7 +132,7 @@ piece-take q r x y n a b =
       closing = of is_closing (before j) (after j) (λ i. part-take q i r.rows x y n a b j);
       pending = of is_pending (before j) (after j) (λ i. part-take q i r.rows x y n a b j);
       opening = of is_opening (before j) (after j) (λ i. part-take q i r.rows x y n a b j);
-      lines = by_shape q.shape (selected q (slice-take r.rows x y n a b j)) (whole (before j) (after j)) (whole (before j) (after j));
+      lines = by_frame q (selected q (slice-take r.rows x y n a b j)) (whole (before j) (after j));
       closed = closed_count f (last_mark (after j));
     })
 
@@ -102,7 +140,7 @@ piece-take q r x y n a b =
 
 -- a group part needs the rows from x to y and the mark before them alone
 pub part-local : (q : Tree) (i : ℕ) (xs : List Row) (x y : ℕ) → q.shape ≡ Group → part q i xs x y ≡ group_part q (passing q (filter (has (frame q) i) (placed_after (mark_of (take x xs)) (slice_range xs x y))))
-part-local q i xs x y e = ap (λ s. by_shape s no_part (group_part q (passing q (inside (frame q) i xs x y))) (pair_part q x (inside (frame q) i xs 0 y))) e ∙ ap (λ l. group_part q (passing q (filter (has (frame q) i) l))) (slice-placed xs x y)
+part-local q i xs x y e = ap (λ s. by_shape s (row_part q (inside (frame q) i xs x y)) (group_part q (passing q (inside (frame q) i xs x y))) (pair_part q x (inside (frame q) i xs 0 y))) e ∙ ap (λ l. group_part q (passing q (filter (has (frame q) i) l))) (slice-placed xs x y)
 
 -- a window that wasn't begun has its lines from the piece alone
 pub lines-whole : (q : Tree) (i : ℕ) (r : Input) (x y : ℕ) → Ordered no_rows r.rows → x ≤ y → begun (frame q) i (mark_at r x) ≡ false → lines q i (take y r.rows) ≡ part_lines q i (part q i r.rows x y)

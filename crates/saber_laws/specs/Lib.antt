@@ -13,3 +13,5 @@ pub mod Pairs
 pub mod Kinds
 pub mod Numbers
 pub mod Groups
+pub mod Words
+pub mod Lists

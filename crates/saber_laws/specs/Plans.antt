@@ -2,13 +2,14 @@
 use Rattle.std.specs.Prelude.{◌≡◌, [], ◌∷◌, Some, None}
 use Rattle.saber_plan.specs.declared.windows.Window.{Window}
 use Rattle.saber_plan.specs.declared.windows.Stream.{Stream}
+use Rattle.saber_plan.specs.declared.plans.Word.{Word}
 use Rattle.saber_plan.specs.declared.plans.Shape.TheVariants.{Select, Group, Join}
 use Rattle.saber_plan.specs.Trees.{Tree}
 use Rattle.saber_plan.specs.Windows.{unwindowed, one, two}
 use Rattle.saber_plan.specs.Answers.{frame}
 use Rattle.saber_plan.specs.Checked.{IsChecked, WindowFits, Pairs}
 
--- a selection has one stream, without a window
+-- a selection without a stream word has one stream, without a window
 pub record NoWindow (q : Tree) : Type 0 where
   pub stream : Stream
   pub streams : q.streams ≡ stream ∷ []
@@ -16,7 +17,7 @@ pub record NoWindow (q : Tree) : Type 0 where
   pub has_frame : frame q ≡ unwindowed
 
 abbrev pub SelectionsHaveNoWindow : Type 0
-SelectionsHaveNoWindow = (q : Tree) → IsChecked q → q.shape ≡ Select → NoWindow q
+SelectionsHaveNoWindow = (q : Tree) → IsChecked q → q.shape ≡ Select → q.word ≡ None → NoWindow q
 
 -- a group query one with a window
 pub record OneWindow (q : Tree) : Type 0 where
@@ -29,6 +30,10 @@ pub record OneWindow (q : Tree) : Type 0 where
 
 abbrev pub GroupsHaveOneWindow : Type 0
 GroupsHaveOneWindow = (q : Tree) → IsChecked q → q.shape ≡ Group → OneWindow q
+
+-- and so has a selection with a stream word
+abbrev pub WordsHaveOneWindow : Type 0
+WordsHaveOneWindow = (q : Tree) (word : Word) → IsChecked q → q.shape ≡ Select → q.word ≡ Some word → OneWindow q
 
 -- a join two with windows of one measure and slide
 pub record TwoWindows (q : Tree) : Type 0 where

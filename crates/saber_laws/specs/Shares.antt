@@ -10,7 +10,7 @@ use Rattle.saber_plan.specs.Answers.{frame}
 use Rattle.saber_plan.specs.Parts.{Part, part}
 use Rattle.saber_plan.specs.Tasks.{cut, unclosed, piece_between, taken_in}
 use Rattle.saber_plan.specs.Needs.{back_mark, back_rows, task_rows, task_ends}
-use Rattle.saber_plan.specs.Shares.{entries_in, piece_in, shares_here, shares_between}
+use Rattle.saber_plan.specs.Shares.{entries_in, piece_in, shares_here, shares_between, handed_here, handed_between}
 
 -- two positions of an input whose timestamps do not fall, under windows as a checked query has them
 pub record Between (q : Tree) (r : Input) (x y : ℕ) : Type 0 where
@@ -34,6 +34,15 @@ SharesAreLocal = (q : Tree) (r : Input) (x y : ℕ) → Between q r x y → q.sh
 abbrev pub SharesNeedNoMore : Type 0
 SharesNeedNoMore = (q : Tree) (n : ℕ) (r : Input) (t : ℕ) → 1 ≤ n → Fits (frame q) → Ordered no_rows r.rows
     → shares_here q (back_mark q n r t) (back_rows q n r t) (task_rows n r t) (task_ends n r t) ≡ shares_between q r (cut n r t) (cut n r (t + 1))
+
+-- and so it is with what is handed on
+abbrev pub HandedAreLocal : Type 0
+HandedAreLocal = (q : Tree) (r : Input) (x y : ℕ) → Between q r x y → q.shape ≢ Join
+    → handed_here q (mark_at r x) [] (slice_range r.rows x y) (arrived r y).ended ≡ handed_between q r x y
+
+abbrev pub HandedNeedsNoMore : Type 0
+HandedNeedsNoMore = (q : Tree) (n : ℕ) (r : Input) (t : ℕ) → 1 ≤ n → Fits (frame q) → Ordered no_rows r.rows
+    → handed_here q (back_mark q n r t) (back_rows q n r t) (task_rows n r t) (task_ends n r t) ≡ handed_between q r (cut n r t) (cut n r (t + 1))
 
 -- an open part is that of its window over the arrivals so far
 abbrev pub OpenPartsAre : Type 0

@@ -10,6 +10,7 @@ mod fronts;
 mod groups;
 mod inputs;
 mod kinds;
+mod lists;
 mod marks;
 mod needs;
 mod numbers;
@@ -19,47 +20,118 @@ mod pieces;
 mod plans;
 mod shares;
 mod windows;
+mod words;
 
-pub use cuts::{first_of_first, first_tell_free, rows_have_tasks};
-pub use ends::{
-    cuts_rise, ends_begin_none, ends_close_all, flush_gives_no_part, none_needed_behind,
-    nothing_open_behind, open_inputs_are_rows, open_marks_count_rows, rows_do_not_end,
-    tasks_make_all,
-};
-pub use fronts::{all_are_first, inputs_keep_first, merges_keep_first, whole_lines_are_first};
+pub use cuts::first_of_first;
+pub use cuts::first_tell_free;
+pub use cuts::rows_have_tasks;
+pub use ends::cuts_rise;
+pub use ends::ends_begin_none;
+pub use ends::ends_close_all;
+pub use ends::flush_gives_no_part;
+pub use ends::none_needed_behind;
+pub use ends::nothing_open_behind;
+pub use ends::open_inputs_are_rows;
+pub use ends::open_marks_count_rows;
+pub use ends::rows_do_not_end;
+pub use ends::tasks_make_all;
+pub use fronts::all_are_first;
+pub use fronts::inputs_keep_first;
+pub use fronts::merges_keep_first;
+pub use fronts::whole_lines_are_first;
 pub use groups::groups_join;
-pub use inputs::{
-    file_rows_fit, files_are_plain, files_are_sorted, merges_are_ordered, merges_are_short,
-    merges_begin, merges_end, merges_fit, merges_turn, sides_are_counted, whole_rows_fit,
-    wholes_are_plain,
-};
+pub use inputs::file_rows_fit;
+pub use inputs::files_are_plain;
+pub use inputs::files_are_sorted;
+pub use inputs::merges_are_ordered;
+pub use inputs::merges_are_short;
+pub use inputs::merges_begin;
+pub use inputs::merges_end;
+pub use inputs::merges_fit;
+pub use inputs::merges_turn;
+pub use inputs::sides_are_counted;
+pub use inputs::whole_rows_fit;
+pub use inputs::wholes_are_plain;
 pub use kinds::kinds_are_ranges;
-pub use marks::{
-    begun_rise, closed_rise, ends_are_behind, ends_close_more, marks_are_of_rows, marks_follow,
-    no_rows_behind,
-};
-pub use needs::{
-    first_wide_is, kinds_are_taken_in, lasts_tell_free, needs_make_parts, needs_make_pieces,
-    needs_stay, none_is_wide, parts_by_kind, rows_make_parts, rows_make_pieces, rows_span,
-    tasks_look_back, tasks_look_on, tasks_stay,
-};
-pub use numbers::{numbered_maps_give, numbers_follow, texts_agree};
-pub use pairs::{pairs_are_in_order, rows_add_pairs, windows_get_pairs};
-pub use parts::{
-    closed_lines_stay, full_merges, merge_has_unit, merge_is_associative, merges_give,
-    no_rows_no_part, part_has_lines, parts_join, parts_lie_within, rows_add_to_groups,
-    taking_in_gives,
-};
-pub use pieces::{
-    no_rows_give_nothing, no_tasks_no_rows, open_goes_on, pieces_make_text, pieces_stay,
-    text_goes_on, text_grows,
-};
-pub use plans::{groups_have_one_window, joins_have_two_windows, selections_have_no_window};
-pub use shares::{
-    open_parts_are, piece_parts_are, shares_are_local, shares_make_piece, shares_need_no_more,
-    shares_rise, taken_parts_are,
-};
-pub use windows::{
-    begun_are_counted, begun_stay, checked_fit, closed_are_begun, closed_are_counted, closed_stay,
-    counts_are_exact, cuts_are_ordered, marks_go_on, placed_are_counted, points_span,
-};
+pub use lists::no_list_open_behind;
+pub use lists::places_are_low;
+pub use lists::places_stay;
+pub use lists::rows_close_one;
+pub use lists::streams_are_counted;
+pub use lists::substreams_fit;
+pub use lists::substreams_join;
+pub use lists::turns_go_on;
+pub use marks::begun_rise;
+pub use marks::closed_rise;
+pub use marks::ends_are_behind;
+pub use marks::ends_close_more;
+pub use marks::marks_are_of_rows;
+pub use marks::marks_follow;
+pub use marks::no_rows_behind;
+pub use needs::first_wide_is;
+pub use needs::kinds_are_taken_in;
+pub use needs::lasts_tell_free;
+pub use needs::needs_make_parts;
+pub use needs::needs_make_pieces;
+pub use needs::needs_stay;
+pub use needs::none_is_wide;
+pub use needs::parts_by_kind;
+pub use needs::rows_make_parts;
+pub use needs::rows_make_pieces;
+pub use needs::rows_span;
+pub use needs::tasks_look_back;
+pub use needs::tasks_look_on;
+pub use needs::tasks_stay;
+pub use numbers::numbered_maps_give;
+pub use numbers::numbers_follow;
+pub use numbers::texts_agree;
+pub use pairs::pairs_are_in_order;
+pub use pairs::rows_add_pairs;
+pub use pairs::windows_get_pairs;
+pub use parts::closed_lines_stay;
+pub use parts::full_merges;
+pub use parts::merge_has_unit;
+pub use parts::merge_is_associative;
+pub use parts::merges_give;
+pub use parts::no_rows_no_part;
+pub use parts::part_has_lines;
+pub use parts::parts_join;
+pub use parts::parts_lie_within;
+pub use parts::rows_add_to_groups;
+pub use parts::taking_in_gives;
+pub use pieces::no_rows_give_nothing;
+pub use pieces::no_tasks_no_rows;
+pub use pieces::open_goes_on;
+pub use pieces::pieces_make_text;
+pub use pieces::pieces_print;
+pub use pieces::pieces_stay;
+pub use pieces::text_goes_on;
+pub use pieces::text_grows;
+pub use plans::groups_have_one_window;
+pub use plans::joins_have_two_windows;
+pub use plans::selections_have_no_window;
+pub use plans::words_have_one_window;
+pub use shares::handed_are_local;
+pub use shares::handed_needs_no_more;
+pub use shares::open_parts_are;
+pub use shares::piece_parts_are;
+pub use shares::shares_are_local;
+pub use shares::shares_make_piece;
+pub use shares::shares_need_no_more;
+pub use shares::shares_rise;
+pub use shares::taken_parts_are;
+pub use windows::begun_are_counted;
+pub use windows::begun_stay;
+pub use windows::checked_fit;
+pub use windows::closed_are_begun;
+pub use windows::closed_are_counted;
+pub use windows::closed_stay;
+pub use windows::counts_are_exact;
+pub use windows::cuts_are_ordered;
+pub use windows::marks_go_on;
+pub use windows::placed_are_counted;
+pub use windows::points_span;
+pub use words::answers_are_of_parts;
+pub use words::closed_answers_stay;
+pub use words::last_answers_stay;
+pub use words::no_answers_no_change;

@@ -1,6 +1,6 @@
 // Laws of the pieces of tasks.
 ghost use Rattle.saber_plan.specs.Tasks.{PiecesMakeText};
-ghost use Rattle.saber_laws.specs.Pieces.{PiecesStay, TextGoesOn, OpenGoesOn, NoRowsGiveNothing, TextGrows, NoTasksNoRows};
+ghost use Rattle.saber_laws.specs.Pieces.{PiecesStay, TextGoesOn, PiecesPrint, OpenGoesOn, NoRowsGiveNothing, TextGrows, NoTasksNoRows};
 
 /// Pieces taken in one after another, in the order of their tasks, make the text of the windows that
 /// their rows close, and leave the parts of those that stay open, for every task size.
@@ -13,9 +13,14 @@ pub fn pieces_stay()
     ensures { PiecesStay }
 {}
 
-/// What is written for a piece goes on with the text of the rows before it.
+/// What arrivals add goes on with the text of those before them, however the query answers.
 pub fn text_goes_on()
     ensures { TextGoesOn }
+{}
+
+/// What is written for a piece is what its arrivals add, where windows print their answers as they are, or rows theirs.
+pub fn pieces_print()
+    ensures { PiecesPrint }
 {}
 
 /// What a piece leaves are the open parts of its rows and those before it.
@@ -23,7 +28,7 @@ pub fn open_goes_on()
     ensures { OpenGoesOn }
 {}
 
-/// No rows have no text, and leave nothing open.
+/// No rows have no text, and nothing is kept of them.
 pub fn no_rows_give_nothing()
     ensures { NoRowsGiveNothing }
 {}

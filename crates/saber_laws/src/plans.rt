@@ -1,9 +1,14 @@
 // Laws of checked plans.
-ghost use Rattle.saber_laws.specs.Plans.{SelectionsHaveNoWindow, GroupsHaveOneWindow, JoinsHaveTwoWindows};
+ghost use Rattle.saber_laws.specs.Plans.{SelectionsHaveNoWindow, WordsHaveOneWindow, GroupsHaveOneWindow, JoinsHaveTwoWindows};
 
-/// A checked selection has one stream, without a window.
+/// A checked selection without a stream word has one stream, without a window.
 pub fn selections_have_no_window()
     ensures { SelectionsHaveNoWindow }
+{}
+
+/// A checked selection with a stream word has one stream with a window, which is its frame.
+pub fn words_have_one_window()
+    ensures { WordsHaveOneWindow }
 {}
 
 /// A checked group query has one stream with a window, which is its frame.

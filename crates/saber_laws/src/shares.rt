@@ -1,5 +1,5 @@
 // Laws of what a task gives, its parts apart by kind.
-ghost use Rattle.saber_laws.specs.Shares.{SharesMakePiece, SharesRise, SharesAreLocal, SharesNeedNoMore, OpenPartsAre, PiecePartsAre, TakenPartsAre};
+ghost use Rattle.saber_laws.specs.Shares.{SharesMakePiece, SharesRise, SharesAreLocal, SharesNeedNoMore, HandedAreLocal, HandedNeedsNoMore, OpenPartsAre, PiecePartsAre, TakenPartsAre};
 
 /// The parts of closing, pending and opening windows together are the piece.
 pub fn shares_make_piece()
@@ -19,6 +19,16 @@ pub fn shares_are_local()
 /// Any query needs a task's rows and those that it looks back on.
 pub fn shares_need_no_more()
     ensures { SharesNeedNoMore }
+{}
+
+/// So it is with what such a query hands on of its windows.
+pub fn handed_are_local()
+    ensures { HandedAreLocal }
+{}
+
+/// And with what any query does.
+pub fn handed_needs_no_more()
+    ensures { HandedNeedsNoMore }
 {}
 
 /// The open parts are those of all rows so far.

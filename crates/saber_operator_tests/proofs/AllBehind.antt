@@ -8,11 +8,11 @@ use Rattle.saber_plan.specs.declared.plans.Shape.TheVariants.{Join}
 use Rattle.saber_plan.specs.Trees.{Tree}
 use Rattle.saber_plan.specs.Inputs.{Input}
 use Rattle.saber_plan.specs.Windows.{Placed, no_rows, mark_after, step_mark, mark_at, last_mark, ending, placed_after, inside, has, begun, closed_count, begun_count, kind_of, from, Ordered}
-use Rattle.saber_plan.specs.Answers.{by_shape, frame, lines, passing, selected}
+use Rattle.saber_plan.specs.Answers.{by_shape, by_frame, frame, lines, passing, selected}
 use Rattle.saber_plan.specs.Parts.{no_part, part, merge, group_part, pair_part, part_lines}
 use Rattle.saber_plan.specs.Tasks.{is_complete}
 use Rattle.saber_plan.specs.Needs.{of_kind, part_here, is_closing, is_pending, is_opening}
-use Rattle.saber_plan.specs.Shares.{shares_here, shares_between}
+use Rattle.saber_plan.specs.Shares.{is_closed, shares_here, shares_between, handed_here, handed_between}
 use Rattle.saber_plan.specs.RowFacts.{mark-append}
 use Rattle.saber_laws.specs.Parts.{PartHasLines, PartsJoin, PartsLieWithin, MergeHasUnit}
 use Rattle.saber_plan.specs.NumberFacts.{flat_filter}
@@ -110,6 +110,17 @@ module _ (q : Tree) (e : q.shape ≡ Join) (xs ys : List Row) (ended : Bool) whe
       ∙ (λ j. flat_map (λ i. chosen (lies_whole i) (g i) (h i) (λ w. lines_joined laws ordered i (begun_in _ _ _ (begun (frame q) i (mark_at all start)) w)) j) is)
       ∙ flat_filter h lies_whole is
 
+  -- what is handed on has the same parts
+  pub joined_handed : handed_here q no_rows xs ys ended ≡ handed_between q all start stop
+  unfolding handed_here handed_between
+  joined_handed = λ j. record {
+    closing = of_kind is_closed (frame q) (before_is j) (after_is j) (λ i. part_joined i j);
+    pending = of_kind is_pending (frame q) (before_is j) (after_is j) (λ i. part_joined i j);
+    opening = of_kind is_opening (frame q) (before_is j) (after_is j) (λ i. part_joined i j);
+    lines = [];
+    closed = closed_count (frame q) (after_is j);
+  }
+
   pub joined_shares : PartLaws → Ordered no_rows (xs ++ ys) → shares_here q no_rows xs ys ended ≡ shares_between q all start stop
   unfolding shares_here shares_between
   joined_shares laws ordered =
@@ -120,6 +131,6 @@ module _ (q : Tree) (e : q.shape ≡ Join) (xs ys : List Row) (ended : Bool) whe
         closing = of_kind is_closing (frame q) (before_is j) (after_is j) (λ i. part_joined i j);
         pending = of_kind is_pending (frame q) (before_is j) (after_is j) (λ i. part_joined i j);
         opening = of_kind is_opening (frame q) (before_is j) (after_is j) (λ i. part_joined i j);
-        lines = ((λ k. by_shape q.shape (selected q (sym (own_rows xs ys ended) k)) (text (before_is k) (after_is k)) (text (before_is k) (after_is k))) ∙ ap (λ w. by_shape q.shape (selected q (slice_range (xs ++ ys) start stop)) w w) (whole_joined laws ordered numbers)) j;
+        lines = ((λ k. by_frame q (selected q (sym (own_rows xs ys ended) k)) (text (before_is k) (after_is k))) ∙ ap (λ w. by_frame q (selected q (slice_range (xs ++ ys) start stop)) w) (whole_joined laws ordered numbers)) j;
         closed = closed_count (frame q) (after_is j);
       }

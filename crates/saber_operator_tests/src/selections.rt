@@ -41,7 +41,7 @@ fn compared(alloc: Global, index: u32, cmp: Cmp, number: i64) -> Result<Unit, No
 // Three columns: a time, a group and a number.
 fn plan(alloc: Global, items: Vec<Item>, predicate: Pred) -> Result<Plan, NoMemory>
     ensures { IfOk result (λ p. tree_of p
-        ≡ record { shape = h.Select; streams = without_window 3 ∷ []; items = items.items; keys = []; predicate = Some (t.tests_of predicate) }) }
+        ≡ record { shape = h.Select; streams = without_window 3 ∷ []; items = items.items; keys = []; predicate = Some (t.tests_of predicate); partition = []; word = None }) }
 {
     let stream = Stream {
         columns: 3,

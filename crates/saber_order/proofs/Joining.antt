@@ -29,7 +29,7 @@ joined_on q n r s (suc k) a =
     ap (λ b. joined_by q n r b (range_with_len (a + 1) k)) (sym (ap (joined_to q n r s) (next_is a))) ∙ joined_on q n r s k (a + 1) ∙ ap (joined_to q n r s) (more_is a k)
 
 pub gives_joined : ((size seats : ℕ) (events : List Event) → IsOrderly (fresh size seats) events) → PiecesMakeText → GivesMakeText
-gives_joined orders make q f n r o start size seats events =
+gives_joined orders make q e f n r o start size seats events =
     let g = given (state_after (fresh size seats) events) in
     let s : Stage = record { written = start; parts = empty } in
-    ap (joined_by q n r s) (orders size seats events).gives_in_order ∙ joined_on q n r s g 0 ∙ ap (joined_to q n r s) (from_zero g) ∙ make q f n r o start g
+    ap (joined_by q n r s) (orders size seats events).gives_in_order ∙ joined_on q n r s g 0 ∙ ap (joined_to q n r s) (from_zero g) ∙ make q e f n r o start g

@@ -4,7 +4,7 @@ use Rattle.std.specs.FinMap.{empty}
 use Rattle.saber_plan.specs.Inputs.{Input}
 use Rattle.saber_plan.specs.Trees.{Tree}
 use Rattle.saber_plan.specs.Windows.{Fits, Ordered, no_rows}
-use Rattle.saber_plan.specs.Answers.{frame}
+use Rattle.saber_plan.specs.Answers.{frame, alike, way}
 use Rattle.saber_plan.specs.Tasks.{Stage, piece, take_in, stage_at}
 use Rattle.saber_core.specs.declared.events.Event.{Event}
 use Rattle.saber_core.specs.Machine.{fresh, given}
@@ -14,8 +14,9 @@ use Rattle.saber_core.specs.Runs.{state_after, gives}
 abbrev pub joined_by : Tree → ℕ → Input → Stage → List ℕ → Stage
 joined_by q n r s tasks = fold (λ a t. take_in q a (piece q n r t)) s tasks
 
--- those of the tasks given, in the order of the gives, make the text and the open parts of as many tasks
+-- those of the tasks given, in the order of the gives, make the text and the open parts of as many tasks, where windows print their answers
+-- as they are, or rows theirs
 abbrev pub GivesMakeText : Type 0
-GivesMakeText = (q : Tree) → Fits (frame q) → (n : ℕ) (r : Input) → Ordered no_rows r.rows → (start : List ℕ) (size seats : ℕ) (events : List Event)
+GivesMakeText = (q : Tree) → way q ≡ alike → Fits (frame q) → (n : ℕ) (r : Input) → Ordered no_rows r.rows → (start : List ℕ) (size seats : ℕ) (events : List Event)
     → joined_by q n r (record { written = start; parts = empty }) (gives (fresh size seats) events)
     ≡ stage_at q n r start (given (state_after (fresh size seats) events))

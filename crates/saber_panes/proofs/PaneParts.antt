@@ -12,7 +12,7 @@ use Rattle.saber_plan.specs.Values.{passes}
 use Rattle.saber_plan.specs.Windows.{one, Fits, Placed, time, own, placed, no_rows, has, spans, by_side, count_to, Ordered, inside}
 use Rattle.saber_plan.specs.Needs.{first_window, past_window}
 use Rattle.saber_plan.specs.Answers.{frame, passing, by_shape}
-use Rattle.saber_plan.specs.Parts.{no_part, group_part, pair_part, part}
+use Rattle.saber_plan.specs.Parts.{no_part, group_part, pair_part, part, row_part}
 use Rattle.saber_plan.specs.RowFacts.{length-placed}
 use Rattle.saber_laws.specs.Groups.{GroupsJoin}
 use Rattle.saber_laws.specs.Parts.{MergeHasUnit, MergeIsAssociative}
@@ -92,4 +92,4 @@ module _ (span : RowsSpan) (q : Tree) (o : OneWindow q) (i : ℕ) where
   window_is law unit assoc none g xs r =
       window_rows law unit assoc q none (counted q (placed xs)) (panes_dont_fall xs r) (first_pane (frame q) i) (pane_count (frame q))
       ∙ ap (group_part q) (same_rows (placed xs) ∙ ap (λ l. passing q (filter (has (frame q) i) l)) (sym (all_placed xs)))
-      ∙ sym (ap (λ s. by_shape s no_part (group_part q (passing q (inside (frame q) i xs 0 (length xs)))) (pair_part q 0 (inside (frame q) i xs 0 (length xs)))) g)
+      ∙ sym (ap (λ s. by_shape s (row_part q (inside (frame q) i xs 0 (length xs))) (group_part q (passing q (inside (frame q) i xs 0 (length xs)))) (pair_part q 0 (inside (frame q) i xs 0 (length xs)))) g)

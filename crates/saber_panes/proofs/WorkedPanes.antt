@@ -19,7 +19,7 @@ five = record { side = Left; values = pos 0 ∷ pos 1 ∷ pos 10 ∷ [] } ∷ re
     ∷ record { side = Left; values = pos 2 ∷ pos 1 ∷ pos 7 ∷ [] } ∷ record { side = Left; values = pos 9 ∷ pos 2 ∷ pos 1 ∷ [] } ∷ []
 
 abbrev over : Measure → ℕ → ℕ → List Item → List ℕ → Tree
-over measure size slide items keys = record { shape = Group; streams = record { columns = 3; window = Some (record { measure = measure; size = size; slide = slide }) } ∷ []; items = items; keys = keys; predicate = None }
+over measure size slide items keys = record { shape = Group; streams = record { columns = 3; window = Some (record { measure = measure; size = size; slide = slide }) } ∷ []; items = items; keys = keys; predicate = None; partition = []; word = None }
 
 abbrev column : ℕ → List Product
 column k = record { minus = false; factors = Column Left k ∷ [] } ∷ []

@@ -11,8 +11,8 @@ use Rattle.saber_plan.specs.declared.plans.Shape.TheVariants.{Select, Group, Joi
 use Rattle.saber_plan.specs.Trees.{Tree}
 use Rattle.saber_plan.specs.Values.{passes}
 use Rattle.saber_plan.specs.Windows.{Placed, placed, no_rows, inside, has}
-use Rattle.saber_plan.specs.Answers.{frame, passing, pairs_with, pair_key, is_left, is_right, by_shape, key_cmp, key, rows_of_key}
-use Rattle.saber_plan.specs.Parts.{Part, no_part, Numbers, numbers, join_numbers, merge, group_part, pair_part, pair_numbers, summed, least, greatest, plain, part}
+use Rattle.saber_plan.specs.Answers.{frame, passing, pairs_with, pair_key, is_left, is_right, by_shape, key_cmp, key, rows_of_key, row_key}
+use Rattle.saber_plan.specs.Parts.{Part, no_part, Numbers, numbers, join_numbers, merge, group_part, pair_part, pair_numbers, summed, least, greatest, plain, part, row_part, row_numbers}
 use Rattle.saber_partial.specs.Tallies.{Alike, CanJoin, CanMerge}
 use Rattle.saber_partial.specs.PartLaws.{OfItems, OfRows}
 use Rattle.saber_plan.specs.Merges.{join}
@@ -143,7 +143,7 @@ parts_of_rows q i xs x y g =
     let us = passing q (inside (frame q) i xs x y) in
     let few = few_passing q i xs x y in
     let low = range_long xs x y in
-    subst (λ s. OfRows q (y - x) (by_shape s no_part (group_part q us) (pair_part q x (inside (frame q) i xs 0 y)))) (sym g)
+    subst (λ s. OfRows q (y - x) (by_shape s (row_part q (inside (frame q) i xs x y)) (group_part q us) (pair_part q x (inside (frame q) i xs 0 y)))) (sym g)
     (more_rows q (length us) (y - x) (group_part q us) (omega (arith, few, low)) (groups_of_rows q us))
 
 few_both : (xs : List Row) (x y z : ℕ) → length (slice_range (placed xs) x y) + length (slice_range (placed xs) y z) ≤ length xs
@@ -220,18 +220,61 @@ pairs_merge q x y xs ys = record {
       are_alike q.items j k a b (g.keys ∙ sym h.keys) g.items h.items;
 }
 
+-- ---- rows by themselves
+
+-- a key of one number, and those of one row
+record IsSingle (q : Tree) (e : List ℤ × Numbers) : Type 0 where
+  keys : length e.0 ≡ 1
+  one : e.1.count ≡ 1
+  items : OfItems q.items e.1
+
+row_fits : (q : Tree) (x : Placed) → OfItems q.items (row_numbers q x)
+row_fits q x = record { sums = length-map (summed q.items) _; leasts = length-map (least q.items) _; greatests = length-map (greatest q.items) _; firsts = length-map (plain q.items) _ }
+
+singles : (q : Tree) (xs : List Placed) → AllByRecursion (IsSingle q) (map (λ x. (row_key x, row_numbers q x)) xs)
+singles q [] = tt
+singles q (x ∷ xs) = (record { keys = refl; one = refl; items = row_fits q x }, singles q xs)
+
+single_case : (q : Tree) (k : List ℤ) (x : List ℤ × Numbers) (a : Numbers) (o : Option Numbers) (b : Bool) → eq_by_cmp key_cmp k x.0 ≡ b → IsSingle q x → (o ≡ Some a → IsSingle q (k, a)) → cond b (Some x.1) o ≡ Some a → IsSingle q (k, a)
+single_case q k x a o true t g h e =
+    let key_is = exact k x.0 (equal_if _ t) in
+    let numbers_are = ap (λ o. unwrap_or o a) e in
+    subst (IsSingle q) (λ i. (sym key_is i, numbers_are i)) g
+single_case q k x a o false t g h e = h e
+
+found_single : (q : Tree) (k : List ℤ) (a : Numbers) (es : List (List ℤ × Numbers)) → AllByRecursion (IsSingle q) es → find key_cmp k es ≡ Some a → IsSingle q (k, a)
+found_single q k a [] h e = cc
+found_single q k a (x ∷ es) h e = single_case q k x a (find key_cmp k es) (eq_by_cmp key_cmp k x.0) refl h.0 (found_single q k a es h.1) e
+
+single_there : (q : Tree) (xs : List Placed) (k : List ℤ) (a : Numbers) → get (row_part q xs) k ≡ Some a → IsSingle q (k, a)
+unfolding row_part
+single_there q xs k a e = found_single q k a _ (singles q (filter (λ x. passes q.predicate x.row.values []) xs)) (sym (get-from_entries total _ k) ∙ e)
+
+rows_merge : (q : Tree) (xs ys : List Placed) → CanMerge (row_part q xs) (row_part q ys)
+rows_merge q xs ys = record {
+  at = λ k a b e f.
+      let g = single_there q xs k a e in
+      let h = single_there q ys k b f in
+      can_join q.items a b g.items h.items (one_each a.count b.count g.one h.one);
+  alike = λ j k a b e f.
+      let g = single_there q xs j a e in
+      let h = single_there q ys k b f in
+      are_alike q.items j k a b (g.keys ∙ sym h.keys) g.items h.items;
+}
+
 -- ---- parts
 
-shape_case : (s : Shape) (g h g1 h1 : Part) → CanMerge g g1 → CanMerge h h1 → CanMerge (by_shape s no_part g h) (by_shape s no_part g1 h1)
-shape_case Select g h g1 h1 a b = record { at = λ k x y e f. absurd (not_both (get-empty key_cmp k) e); alike = λ j k x y e f. absurd (not_both (get-empty key_cmp j) e) }
-shape_case Group g h g1 h1 a b = a
-shape_case Join g h g1 h1 a b = b
+shape_case : (s : Shape) (f g h f1 g1 h1 : Part) → CanMerge f f1 → CanMerge g g1 → CanMerge h h1 → CanMerge (by_shape s f g h) (by_shape s f1 g1 h1)
+shape_case Select f g h f1 g1 h1 a b c = a
+shape_case Group f g h f1 g1 h1 a b c = b
+shape_case Join f g h f1 g1 h1 a b c = c
 
 pub parts_merge : (q : Tree) (i : ℕ) (xs : List Row) (x y z : ℕ) → length xs ≤ 2 ^ 40 → CanMerge (part q i xs x y) (part q i xs y z)
 parts_merge q i xs x y z n =
     let low = few_passing q i xs x y in
     let high = few_passing q i xs y z in
     let all = few_both xs x y z in
-    shape_case q.shape _ _ _ _
+    shape_case q.shape _ _ _ _ _ _
+    (rows_merge q (inside (frame q) i xs x y) (inside (frame q) i xs y z))
     (groups_merge q (passing q (inside (frame q) i xs x y)) (passing q (inside (frame q) i xs y z)) (omega (arith, n, low, high, all)))
     (pairs_merge q x y (inside (frame q) i xs 0 y) (inside (frame q) i xs 0 z))

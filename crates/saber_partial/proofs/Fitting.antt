@@ -8,7 +8,7 @@ use Rattle.saber_plan.specs.declared.plans.Item.TheVariants.{Count, Sum, Min, Ma
 use Rattle.saber_plan.specs.declared.plans.Shape.TheVariants.{Group}
 use Rattle.saber_plan.specs.declared.windows.Stream.{Stream}
 use Rattle.saber_plan.specs.Trees.{Tree}
-use Rattle.saber_plan.specs.Checked.{IsChecked, StreamsFit, ItemFits, columns_on}
+use Rattle.saber_plan.specs.Checked.{named_columns, IsChecked, StreamsFit, ItemFits, columns_on}
 use Rattle.saber_eval.specs.Widths.{widths}
 use Rattle.saber_partial.specs.Gathering.{CanCount}
 
@@ -30,4 +30,4 @@ can_count zs keys (Value e ∷ is) h = (h.0.0, can_count zs keys is h.1)
 pub items_count : (q : Tree) → IsChecked q → q.shape ≡ Group → (zs : List ℤ) → length zs ≡ columns_on q.streams Left → AllByRecursion (CanCount zs) q.items
 items_count q k g zs h =
     let wide : columns_on q.streams ≡ widths zs [] = λ i side. width_of q.streams (subst (λ s. StreamsFit s q.streams) g k.streams) zs h side i in
-    can_count zs q.keys q.items (subst (λ w. AllByRecursion (ItemFits Group w q.keys) q.items) wide (subst (λ s. AllByRecursion (ItemFits s (columns_on q.streams) q.keys) q.items) g k.items))
+    can_count zs (named_columns q) q.items (subst (λ w. AllByRecursion (ItemFits Group w (named_columns q)) q.items) wide (subst (λ s. AllByRecursion (ItemFits s (columns_on q.streams) (named_columns q)) q.items) g k.items))

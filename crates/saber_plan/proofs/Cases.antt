@@ -34,7 +34,7 @@ abbrev pub right_column : ℕ → List Product
 right_column k = record { minus = false; factors = Column Right k ∷ [] } ∷ []
 
 abbrev pub grouped : Measure → ℕ → ℕ → List Item → List ℕ → Tree
-grouped m size slide items keys = record { shape = Group; streams = record { columns = 3; window = Some (record { measure = m; size = size; slide = slide }) } ∷ []; items = items; keys = keys; predicate = None }
+grouped m size slide items keys = record { shape = Group; streams = record { columns = 3; window = Some (record { measure = m; size = size; slide = slide }) } ∷ []; items = items; keys = keys; predicate = None; partition = []; word = None }
 
 -- SELECT g, SUM(v) FROM S [ROWS 3 SLIDE 1] GROUP BY g
 abbrev pub sums_by_group : Tree
@@ -49,6 +49,8 @@ abbrev pub joining : Measure → ℕ → ℕ → ℕ → Tree
 joining m left right slide = record {
   shape = Join;
   keys = [];
+  partition = [];
+  word = None;
   predicate = Some (either (both (compare (column 1) Less (right_column 1)) no_more) no_other);
   items = Value (column 1) ∷ Value (right_column 1) ∷ [];
   streams = record { columns = 2; window = Some (record { measure = m; size = left; slide = slide }) } ∷ record { columns = 2; window = Some (record { measure = m; size = right; slide = slide }) } ∷ [];

@@ -4,3 +4,5 @@ mod WorkedAnswers
 mod WorkedJoins
 mod WorkedNeeds
 mod WorkedEnds
+mod WorkedLists
+mod WorkedWords

@@ -58,7 +58,7 @@ unfolding lines_of fields_of judge read_by value_at placed_after from with_key k
 no_row_passes = refl
 
 -- SELECT g, v*2-1 FROM S WHERE v > 5
-selection : text (record { shape = Select; streams = record { columns = 3; window = None } ∷ []; keys = []; predicate = Some (above 5); items = Value (column 1) ∷ Value (record { minus = false; factors = Column Left 2 ∷ Constant (pos 2) ∷ [] } ∷ record { minus = true; factors = Constant (pos 1) ∷ [] } ∷ []) ∷ [] })
+selection : text (record { shape = Select; streams = record { columns = 3; window = None } ∷ []; keys = []; partition = []; word = None; predicate = Some (above 5); items = Value (column 1) ∷ Value (record { minus = false; factors = Column Left 2 ∷ Constant (pos 2) ∷ [] } ∷ record { minus = true; factors = Constant (pos 1) ∷ [] } ∷ []) ∷ [] })
     (going_on (rows_in five_lines)) ≡ codes "1,19\n1,39\n1,13\n"
 unfolding lines_of fields_of judge read_by value_at placed_after from with_key keys_of lines text digits test_holds all_hold some_holds
 selection = refl

@@ -1,7 +1,7 @@
 -- What is printed for a window, and for a whole list of rows.
-use Rattle.std.specs.Prelude.{ℕ, List, [], ◌∷◌, ◌++◌, map, filter, flat_map, length, fold, Bool, true, false, ℤ, pos, ◌+ℤ◌}
+use Rattle.std.specs.Prelude.{ℕ, zero, suc, ◌-◌, List, [], ◌∷◌, ◌++◌, map, filter, flat_map, length, fold, Bool, true, false, if◌then◌else◌, Option, Some, None, ℤ, pos, ◌+ℤ◌}
 use Rattle.std.specs.Fmt.{signed_decimal}
-use Rattle.std.specs.List.{join_with_byte}
+use Rattle.std.specs.List.{join_with_byte, list_any}
 use Rattle.std.specs.Int.{int_min, int_max}
 use Rattle.std.specs.Ordering.{int_cmp, match_ordering, eq_by_cmp}
 use Rattle.std.specs.declared.cmp.Ordering.{Ordering}
@@ -11,12 +11,14 @@ use Rattle.saber_plan.specs.declared.rows.Row.{Row}
 use Rattle.saber_plan.specs.declared.plans.Shape.{Shape}
 use Rattle.saber_plan.specs.declared.plans.Shape.TheVariants.{Select, Group, Join}
 use Rattle.saber_plan.specs.declared.expressions.Product.{Product}
+use Rattle.saber_plan.specs.declared.plans.Word.{Word}
+use Rattle.saber_plan.specs.declared.plans.Word.TheVariants.{Rstream, Istream, Dstream}
 use Rattle.saber_plan.specs.declared.plans.Item.{Item}
 use Rattle.saber_plan.specs.declared.plans.Item.TheVariants.{Count, Sum, Min, Max, Value}
 use Rattle.saber_plan.specs.Trees.{Tree}
 use Rattle.saber_plan.specs.Values.{value, passes, column_of}
 use Rattle.saber_plan.specs.Inputs.{Input}
-use Rattle.saber_plan.specs.Windows.{Frame, frame_of, Placed, place, inside, closed_count, last_mark, from, by_side}
+use Rattle.saber_plan.specs.Windows.{Frame, frame_of, has_windows, Placed, place, inside, mark_of, closed_count, past_count, begun_count, last_mark, from, by_side}
 
 -- numbers with commas between, and LF
 abbrev pub line : List ℤ → List ℕ
@@ -114,6 +116,19 @@ pairs q g xs = flat_map (λ x. pairs_with q g x (filter is_right xs)) (filter is
 abbrev pub pair_answers : Tree → Placed → Placed → List ℤ
 pair_answers q x y = map (item_value x.row.values y.row.values) q.items
 
+-- ---- rows by themselves
+
+-- a row's position is its key
+abbrev pub row_key : Placed → List ℤ
+row_key x = pos (place x) ∷ []
+
+-- the rows that pass, and what g says of each
+abbrev pub picked : {X : Type 0} → Tree → (Placed → X) → List Placed → List (List ℤ × X)
+picked q g xs = map (λ x. (row_key x, g x)) (filter (λ x. passes q.predicate x.row.values []) xs)
+
+abbrev pub row_answers : Tree → Placed → List ℤ
+row_answers q x = map (item_value x.row.values []) q.items
+
 -- ---- lines
 
 abbrev pub by_shape : {X : Type 0} → Shape → X → X → X → X
@@ -121,9 +136,9 @@ by_shape Select x y z = x
 by_shape Group x y z = y
 by_shape Join x y z = z
 
--- what some rows of one window give: groups, or pairs
+-- what some rows of one window give: themselves, groups, or pairs
 abbrev pub entries_in : Tree → List Placed → List Entry
-entries_in q xs = by_shape q.shape [] (groups q (passing q xs)) (pairs q (pair_answers q) xs)
+entries_in q xs = by_shape q.shape (picked q (row_answers q) xs) (groups q (passing q xs)) (pairs q (pair_answers q) xs)
 
 abbrev pub frame : Tree → Frame
 frame q = frame_of q.streams
@@ -132,13 +147,132 @@ frame q = frame_of q.streams
 unfoldable pub lines : Tree → ℕ → List Row → List ℕ
 lines q i xs = entry_lines i (entries_in q (inside (frame q) i xs 0 (length xs)))
 
--- the lines of a selection
+-- the lines of rows by themselves, where no window is looked at
 abbrev pub selected : Tree → List Row → List ℕ
 selected q xs = flat_map (λ zs. line (map (item_value zs []) q.items)) (filter (λ zs. passes q.predicate zs []) (map (λ x. x.values) xs))
+
+-- those of the windows from a up to b
+abbrev pub lines_from : Tree → List Row → ℕ → ℕ → List ℕ
+lines_from q xs a b = flat_map (λ i. lines q i xs) (from a (b - a))
 
 abbrev pub window_text : Tree → Input → List ℕ
 window_text q r = flat_map (λ i. lines q i r.rows) (from 0 (closed_count (frame q) (last_mark r)))
 
+-- a selection without a window prints its rows
+abbrev pub by_frame : {X : Type 0} → Tree → X → X → X
+by_frame q rows windows = by_shape q.shape (if has_windows (frame q) then windows else rows) windows windows
+
+abbrev pub plain_text : Tree → Input → List ℕ
+plain_text q r = by_frame q (selected q r.rows) (window_text q r)
+
+-- ---- what a window has that the one before it hasn't (CQL 2006: ISTREAM, DSTREAM)
+
+-- answers of one window, each a line without the window's number
+abbrev pub Answers : Type 0
+Answers = List (List ℤ)
+
+abbrev pub window_answers : Tree → ℕ → List Row → Answers
+window_answers q i xs = map (λ e. e.1) (entries_in q (inside (frame q) i xs 0 (length xs)))
+
+-- of the window before; before the first stands the empty list
+abbrev pub before_window : (ℕ → Answers) → ℕ → Answers
+before_window at zero = []
+before_window at (suc i) = at i
+
+abbrev pub same_line : List ℤ → List ℤ → Bool
+same_line k l = eq_by_cmp key_cmp k l
+
+-- without the first line that equals this one
+abbrev pub without : List ℤ → Answers → Answers
+without k [] = []
+without k (l ∷ ls) = if same_line k l then ls else l ∷ without k ls
+
+-- the lines that cancel none: each in turn cancels one equal line that is still left of the others
+abbrev pub uncancelled : Answers → Answers → Answers
+uncancelled [] others = []
+uncancelled (k ∷ ks) others = if list_any (same_line k) others then uncancelled ks (without k others) else k ∷ uncancelled ks others
+
+-- what is printed of a window, from the answers of the one before and its own
+abbrev pub Change : Type 0
+Change = Answers → Answers → Answers
+
+abbrev pub gained : Change
+gained before now = uncancelled now before
+
+abbrev pub lost : Change
+lost before now = uncancelled before now
+
+abbrev pub answer_lines : ℕ → Answers → List ℕ
+answer_lines i ls = flat_map (λ zs. line (pos i ∷ zs)) ls
+
+-- the lines of window i
+abbrev pub change_lines : Change → Tree → List Row → ℕ → List ℕ
+change_lines change q xs i = answer_lines i (change (before_window (λ j. window_answers q j xs) i) (window_answers q i xs))
+
+abbrev pub change_text : Change → Tree → Input → List ℕ
+change_text change q r = flat_map (change_lines change q r.rows) (from 0 (closed_count (frame q) (last_mark r)))
+
+-- ---- the windows of each key list (CQL 2006: PARTITION BY)
+
+-- the columns of PARTITION BY of a row
+abbrev pub list_of : Tree → Row → List ℤ
+list_of q r = key q.partition r.values
+
+-- the rows with such a key list, in order: its substream, which has windows of its own
+abbrev pub substream : Tree → List ℤ → List Row → List Row
+substream q k xs = filter (λ r. eq_by_cmp key_cmp k (list_of q r)) xs
+
+-- the key lists of some rows, rising
+abbrev pub lists_in : Tree → List Row → List (List ℤ)
+lists_in q xs = keys_of (map (list_of q) xs)
+
+-- how many windows the rows of a stream alone close, and how many they begin
+abbrev pub past_in : Tree → List Row → ℕ
+past_in q us = past_count (frame q) (mark_of us)
+
+abbrev pub begun_in : Tree → List Row → ℕ
+begun_in q us = begun_count (frame q) (mark_of us)
+
+-- the lines of what a row closes, behind the rows of its substream before it
+abbrev pub closed_by : Tree → List Row → Row → List ℕ
+closed_by q us r = lines_from q (us ++ r ∷ []) (past_in q us) (past_in q (us ++ r ∷ []))
+
+-- of what each of some rows closes, behind all rows before them
+unfoldable pub closed_in_turn : Tree → List Row → List Row → List ℕ
+closed_in_turn q xs [] = []
+closed_in_turn q xs (r ∷ rs) = closed_by q (substream q (list_of q r) xs) r ++ closed_in_turn q (xs ++ r ∷ []) rs
+
+-- of the windows that are begun and not closed, by key list
+abbrev pub closed_at_last : Tree → List Row → List ℕ
+closed_at_last q xs = flat_map (λ k. let us = substream q k xs in lines_from q us (past_in q us) (begun_in q us)) (lists_in q xs)
+
+-- in the order of the rows that close windows; the input's end closes those that are begun
+abbrev pub key_text : Tree → Input → List ℕ
+key_text q r = closed_in_turn q [] r.rows ++ (if r.ended then closed_at_last q r.rows else [])
+
+-- ---- the text
+
+-- how a query answers: window by window, or row by row; for each key list by itself; or by what windows gain or lose
+pub data Way : Type 0 where
+  alike : Way
+  by_list : Way
+  by_change : Change → Way
+
+abbrev pub way_of : List ℕ → Option Word → Way
+way_of (k ∷ ks) word = by_list
+way_of [] None = alike
+way_of [] (Some Rstream) = alike
+way_of [] (Some Istream) = by_change gained
+way_of [] (Some Dstream) = by_change lost
+
+abbrev pub way : Tree → Way
+way q = way_of q.partition q.word
+
+abbrev pub by_way : {X : Type 0} → Way → X → X → (Change → X) → X
+by_way alike x y f = x
+by_way by_list x y f = y
+by_way (by_change change) x y f = f change
+
 -- all that is printed for an input
 unfoldable pub text : Tree → Input → List ℕ
-text q r = by_shape q.shape (selected q r.rows) (window_text q r) (window_text q r)
+text q r = by_way (way q) (plain_text q r) (key_text q r) (λ change. change_text change q r)

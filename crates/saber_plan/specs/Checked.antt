@@ -1,8 +1,9 @@
 -- What the checks of a query promise of its plan. Windows, evaluation and the operators rest on it.
-use Rattle.std.specs.Prelude.{◌≡◌, ℕ, ◌^◌, ◌<◌, ◌≤◌, List, [], ◌∷◌, length, Option, Some, None, Contains, false}
+use Rattle.std.specs.Prelude.{◌≡◌, ℕ, ◌^◌, ◌<◌, ◌≤◌, List, [], ◌∷◌, ◌++◌, length, Option, Some, None, IfSome, Contains, false}
 use Rattle.std.specs.List.{AllByRecursion}
 use Rattle.saber_plan.specs.declared.rows.Side.{Side}
 use Rattle.saber_plan.specs.declared.rows.Side.TheVariants.{Left, Right}
+use Rattle.saber_plan.specs.declared.windows.Measure.TheVariants.{Rows}
 use Rattle.saber_plan.specs.declared.windows.Window.{Window}
 use Rattle.saber_plan.specs.declared.windows.Stream.{Stream}
 use Rattle.saber_plan.specs.declared.expressions.Factor.{Factor}
@@ -10,6 +11,7 @@ use Rattle.saber_plan.specs.declared.expressions.Factor.TheVariants.{Column, Con
 use Rattle.saber_plan.specs.declared.expressions.Product.{Product}
 use Rattle.saber_plan.specs.declared.plans.Item.{Item}
 use Rattle.saber_plan.specs.declared.plans.Item.TheVariants.{Count, Sum, Min, Max, Value}
+use Rattle.saber_plan.specs.declared.plans.Word.{Word}
 use Rattle.saber_plan.specs.declared.plans.Shape.{Shape}
 use Rattle.saber_plan.specs.declared.plans.Shape.TheVariants.{Select, Group, Join}
 use Rattle.saber_plan.specs.Trees.{Tree, Test, negated, one_of, compare, Both, no_more, both, Tests, no_other, either}
@@ -38,12 +40,27 @@ pub record Pairs (v w : Window) : Type 0 where
   pub few_left : overlap v.size v.slide ≤ most_overlap_joined
   pub few_right : overlap w.size w.slide ≤ most_overlap_joined
 
--- a selection has one stream without a window, a group query one with a window, a join two with windows that pair
+-- a selection has one stream, a group query one with a window, a join two with windows that pair
 abbrev pub StreamsFit : Shape → List Stream → Type 0
-StreamsFit Select (s ∷ []) = s.window ≡ None
+StreamsFit Select (s ∷ []) = IfSome s.window WindowFits
 StreamsFit Group (s ∷ []) = (w : Window) × (s.window ≡ Some w) × WindowFits w
 StreamsFit Join (s ∷ t ∷ []) = (v w : Window) × (s.window ≡ Some v) × (t.window ≡ Some w) × WindowFits v × WindowFits w × Pairs v w
 StreamsFit _ _ = ⊥
+
+-- a selection has a window exactly where a stream word stands before it
+abbrev pub WordFits : Shape → List Stream → Option Word → Type 0
+WordFits Select (s ∷ []) None = s.window ≡ None
+WordFits Select (s ∷ []) (Some word) = (w : Window) × (s.window ≡ Some w)
+WordFits Select [] word = Unit {0}
+WordFits Select (s ∷ t ∷ ts) word = Unit {0}
+WordFits Group ss word = Unit {0}
+WordFits Join ss word = Unit {0}
+
+-- PARTITION BY stands in a group query alone, whose window counts rows, and under no stream word
+abbrev pub PartitionFits : List ℕ → Shape → List Stream → Option Word → Type 0
+PartitionFits [] shape ss word = Unit {0}
+PartitionFits (k ∷ ks) Group (s ∷ []) None = (w : Window) × (s.window ≡ Some w) × (w.measure ≡ Rows)
+PartitionFits _ _ _ _ = ⊥
 
 -- each stream has 1 to 32 columns
 abbrev pub ColumnsFit : List Stream → Type 0
@@ -76,7 +93,11 @@ abbrev pub IsKeyAmong : List ℕ → List Product → Type 0
 IsKeyAmong keys (p ∷ []) = (k : ℕ) × (p ≡ record { minus = false; factors = Column Left k ∷ [] }) × Contains keys k
 IsKeyAmong keys _ = ⊥
 
--- what a shape's items may be: a group query's values are its keys, and no other query has aggregates
+-- the columns that a group query's items may be by themselves: those of GROUP BY and PARTITION BY
+abbrev pub named_columns : Tree → List ℕ
+named_columns q = q.keys ++ q.partition
+
+-- what a shape's items may be: a group query's values are such columns, and no other query has aggregates
 abbrev pub ItemFits : Shape → (Side → ℕ) → List ℕ → Item → Type 0
 ItemFits Group columns keys Count = Unit {0}
 ItemFits Group columns keys (Sum e) = ExprFits columns e × (sum_bound 0 e ≤ 2 ^ 86)
@@ -111,10 +132,19 @@ PredicateFits columns (Some ts) = SomeFit columns ts
 
 pub record IsChecked (q : Tree) : Type 0 where
   pub streams : StreamsFit q.shape q.streams
+  pub word : WordFits q.shape q.streams q.word
+  pub partition : PartitionFits q.partition q.shape q.streams q.word
   pub columns : ColumnsFit q.streams
   pub some_items : 1 ≤ length q.items
   pub few_items : length q.items ≤ 32
-  pub items : AllByRecursion (ItemFits q.shape (columns_on q.streams) q.keys) q.items
+  pub items : AllByRecursion (ItemFits q.shape (columns_on q.streams) (named_columns q)) q.items
   pub few_keys : length q.keys ≤ 8
   pub keys : AllByRecursion (λ k. k < columns_on q.streams Left) q.keys
+  pub few_lists : length q.partition ≤ 8
+  pub lists : AllByRecursion (λ k. k < columns_on q.streams Left) q.partition
   pub predicate : PredicateFits (columns_on q.streams) q.predicate
+
+-- a plan without PARTITION BY and without a stream word
+pub record IsPlain (q : Tree) : Type 0 where
+  pub no_partition : q.partition ≡ []
+  pub no_word : q.word ≡ None

@@ -25,3 +25,4 @@ pub mod TreeFacts
 pub mod Codes
 pub mod NumberFacts
 pub mod CountFacts
+pub mod KeptFacts

@@ -9,7 +9,7 @@ use Rattle.saber_plan.specs.declared.expressions.Product.{Product}
 use Rattle.saber_plan.specs.Trees.{Tree}
 use Rattle.saber_plan.specs.Values.{value}
 use Rattle.saber_plan.specs.Windows.{Placed, inside}
-use Rattle.saber_plan.specs.Answers.{Entry, key_cmp, key, passing, pairs, values_of, first_by, rows_of_key, entry_lines, by_shape, frame, earlier}
+use Rattle.saber_plan.specs.Answers.{Entry, Answers, key_cmp, key, passing, picked, pairs, values_of, first_by, rows_of_key, entry_lines, by_shape, frame, earlier}
 use Rattle.saber_plan.specs.Merges.{both}
 
 -- ---- numbers
@@ -77,6 +77,10 @@ values_numbers q left right = record {
 abbrev pub pair_numbers : Tree → Placed → Placed → Numbers
 pair_numbers q x y = values_numbers q x.row.values y.row.values
 
+-- those of a row by itself
+abbrev pub row_numbers : Tree → Placed → Numbers
+row_numbers q x = values_numbers q x.row.values []
+
 abbrev pub zip_by : (ℤ → ℤ → ℤ) → List ℤ → List ℤ → List ℤ
 zip_by f [] ys = []
 zip_by f (x ∷ xs) [] = []
@@ -110,7 +114,7 @@ answers_of is a = shown is a.count a.sums a.leasts a.greatests a.firsts
 
 -- ---- parts
 
--- From key lists to numbers. A pair's key is its two positions.
+-- From key lists to numbers. A pair's key is its two positions, and that of a row by itself its position.
 abbrev pub Part : Type 0
 Part = FinMap key_cmp Numbers
 
@@ -121,9 +125,17 @@ no_part = empty
 unfoldable pub group_part : Tree → List (List ℤ) → Part
 group_part q rows = from_entries (map (λ k. (k, numbers q.items (rows_of_key q.keys k rows))) (map (key q.keys) rows))
 
+-- each row that passes, at its position
+unfoldable pub row_part : Tree → List Placed → Part
+row_part q xs = from_entries (picked q (row_numbers q) xs)
+
 -- the lines of a part, as those of window i
 abbrev pub answers_in : Tree → Part → List Entry
 answers_in q p = map (λ e. (e.0, answers_of q.items e.1)) (entries p)
+
+-- without the window's number
+abbrev pub part_answers : Tree → Part → Answers
+part_answers q p = map (λ e. e.1) (answers_in q p)
 
 abbrev pub part_lines : Tree → ℕ → Part → List ℕ
 part_lines q i p = entry_lines i (answers_in q p)
@@ -138,7 +150,8 @@ pair_part q x xs = from_entries (filter (λ e. nat_le x (later e.0)) (pairs q (p
 
 -- the part of window i over positions x up to y
 abbrev pub part : Tree → ℕ → List Row → ℕ → ℕ → Part
-part q i xs x y = by_shape q.shape no_part
+part q i xs x y = by_shape q.shape
+    (row_part q (inside (frame q) i xs x y))
     (group_part q (passing q (inside (frame q) i xs x y)))
     (pair_part q x (inside (frame q) i xs 0 y))
 

@@ -1,5 +1,5 @@
 -- What a task gives, with the parts of its windows apart by what they are for the task (SABER 2016: closing, pending, opening and complete fragments).
-use Rattle.std.specs.Prelude.{ℕ, ◌+◌, ◌-◌, List, ◌++◌, filter, flat_map, take, length, slice_range, Bool, true, false, if◌then◌else◌, ◌==◌, Option, Some, None, option_map}
+use Rattle.std.specs.Prelude.{ℕ, ◌+◌, ◌-◌, List, [], ◌++◌, filter, flat_map, take, length, slice_range, Bool, true, false, if◌then◌else◌, ◌==◌, Option, Some, None, option_map}
 use Rattle.std.specs.List.{filter_map}
 use Rattle.std.specs.Ordering.{nat_cmp}
 use Rattle.std.specs.FinMap.{FinMap, len, from_entries}
@@ -10,8 +10,8 @@ use Rattle.saber_plan.specs.declared.windows.Kind.TheVariants.{Opening, Closing,
 use Rattle.saber_plan.specs.Trees.{Tree}
 use Rattle.saber_plan.specs.Inputs.{Input}
 use Rattle.saber_plan.specs.Windows.{Frame, has, placed_after, mark_after, ending, mark_at, closed_count, begun_count, kind_of, from}
-use Rattle.saber_plan.specs.Answers.{by_shape, frame, lines, passing, selected}
-use Rattle.saber_plan.specs.Parts.{Part, no_part, part, group_part, pair_part, part_lines}
+use Rattle.saber_plan.specs.Answers.{by_shape, by_frame, frame, lines, passing, selected}
+use Rattle.saber_plan.specs.Parts.{Part, part, row_part, group_part, pair_part, part_lines}
 
 -- ---- parts by window
 
@@ -56,6 +56,14 @@ is_complete (Some Closing) = false
 is_complete (Some Pending) = false
 is_complete (Some Complete) = true
 
+-- closed by the rows
+abbrev pub is_closed : Option Kind → Bool
+is_closed None = false
+is_closed (Some Opening) = false
+is_closed (Some Closing) = true
+is_closed (Some Pending) = false
+is_closed (Some Complete) = true
+
 -- the parts that aren't empty of the windows of such kinds, rising, where the rows go from mark a up to mark b
 unfoldable pub of_kind : (Option Kind → Bool) → Frame → Mark → Mark → (ℕ → Part) → List (ℕ × Part)
 of_kind wanted f a b part =
@@ -77,19 +85,31 @@ pub record Shares : Type 0 where
   pub lines : List ℕ
   pub closed : ℕ
 
--- from mark a up to mark b: by the part of each window, and the lines of each, or those of a selection
+-- from mark a up to mark b: by the part of each window, and the lines of each, or those of rows by themselves
 abbrev shares_by : Tree → Mark → Mark → (ℕ → Part) → (ℕ → List ℕ) → List ℕ → Shares
 shares_by q a b part window_lines chosen = record {
   closing = of_kind is_closing (frame q) a b part;
   pending = of_kind is_pending (frame q) a b part;
   opening = of_kind is_opening (frame q) a b part;
-  lines = let whole = flat_map window_lines (complete (frame q) a b) in by_shape q.shape chosen whole whole;
+  lines = let whole = flat_map window_lines (complete (frame q) a b) in by_frame q chosen whole;
+  closed = closed_count (frame q) b;
+}
+
+-- The same where what is printed of a window stands on the one before it: no line as yet, and with the parts of closing windows those of
+-- complete ones.
+abbrev handed_by : Tree → Mark → Mark → (ℕ → Part) → Shares
+handed_by q a b part = record {
+  closing = of_kind is_closed (frame q) a b part;
+  pending = of_kind is_pending (frame q) a b part;
+  opening = of_kind is_opening (frame q) a b part;
+  lines = [];
   closed = closed_count (frame q) b;
 }
 
 -- The part of window i over a task's rows, which follow rows that are looked back on. The mark is that before the latter.
 unfoldable pub part_here : Tree → ℕ → Mark → List Row → List Row → Part
-part_here q i m back rows = by_shape q.shape no_part
+part_here q i m back rows = by_shape q.shape
+    (row_part q (filter (has (frame q) i) (placed_after (mark_after m back) rows)))
     (group_part q (passing q (filter (has (frame q) i) (placed_after (mark_after m back) rows))))
     (pair_part q (m.left + m.right + length back) (filter (has (frame q) i) (placed_after m (back ++ rows))))
 
@@ -107,6 +127,15 @@ shares_between q r x y =
     let part_between = λ (i : ℕ). part q i r.rows x y in
     let lines_upto = λ (i : ℕ). lines q i (take y r.rows) in
     shares_by q (mark_at r x) (mark_at r y) part_between lines_upto (selected q (slice_range r.rows x y))
+
+-- and what is handed on
+unfoldable pub handed_here : Tree → Mark → List Row → List Row → Bool → Shares
+handed_here q m back rows ended =
+    let a = mark_after m back in
+    handed_by q a (ending ended (mark_after a rows)) (λ i. part_here q i m back rows)
+
+unfoldable pub handed_between : Tree → Input → ℕ → ℕ → Shares
+handed_between q r x y = handed_by q (mark_at r x) (mark_at r y) (λ i. part q i r.rows x y)
 
 -- ---- the same, with all parts in one map
 

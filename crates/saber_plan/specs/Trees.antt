@@ -1,9 +1,11 @@
 -- Predicates and plans as trees, without where they lie in memory.
 use Rattle.std.specs.Prelude.{ℕ, List, [], ◌∷◌, Option, option_map}
+use Rattle.std.specs.Option.{option_map_or}
 use Rattle.saber_plan.specs.declared.predicates.Cmp.{Cmp}
 use Rattle.saber_plan.specs.declared.plans.Item.{Item}
 use Rattle.saber_plan.specs.declared.expressions.Product.{Product}
 use Rattle.saber_plan.specs.declared.plans.Shape.{Shape}
+use Rattle.saber_plan.specs.declared.plans.Word.{Word}
 use Rattle.saber_plan.specs.declared.windows.Stream.{Stream}
 use Rattle.saber_plan.specs.declared.plans.Plan.{Plan}
 use Rattle.saber_plan.specs.declared.predicates.Pred.{Pred, fold-Pred}
@@ -58,7 +60,9 @@ pub record Tree : Type 0 where
   pub items : List Item
   pub keys : List ℕ
   pub predicate : Option Tests
+  pub partition : List ℕ
+  pub word : Option Word
 
 -- a plan's tree
 abbrev pub tree_of : Plan → Tree
-tree_of p = record { shape = p.shape; streams = p.streams.items; items = p.items.items; keys = p.keys.items; predicate = option_map tests_of p.predicate }
+tree_of p = record { shape = p.shape; streams = p.streams.items; items = p.items.items; keys = p.keys.items; predicate = option_map tests_of p.predicate; partition = option_map_or (λ v. v.items) p.partition []; word = p.word }

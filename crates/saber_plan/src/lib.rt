@@ -14,7 +14,7 @@ mod sizes;
 mod windows;
 
 pub use expressions::{Expr, Factor, Factors, Product};
-pub use plans::{Item, Plan, Shape};
+pub use plans::{Item, Plan, Shape, Word};
 pub use predicates::{Cmp, Conj, Pred, Unit};
 pub use rows::{Row, RowCause, Side, Values};
 pub use sizes::Sizes;

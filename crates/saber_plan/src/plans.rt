@@ -19,8 +19,18 @@ pub enum Item {
     Value(Expr),
 }
 
+/// Which of the answers of its windows a query prints (CQL 2006: relation to stream): each window's, those that the window
+/// before it didn't have, or those of the window before it that it hasn't.
+#[derive(Clone, Copy, Debug, PartialEq, Eq)]
+pub enum Word {
+    Rstream,
+    Istream,
+    Dstream,
+}
+
 /// What is to be computed: the shape, the streams of FROM with their windows, the items of SELECT,
-/// the columns of GROUP BY (counted from 0), and the predicate of WHERE. Contracts see it as a tree.
+/// the columns of GROUP BY (counted from 0), the predicate of WHERE, and, where the query has them, the columns of
+/// PARTITION BY and its stream word. Contracts see it as a tree.
 #[derive(Drop)]
 pub struct Plan {
     shape: Shape,
@@ -28,13 +38,16 @@ pub struct Plan {
     items: Vec<Item>,
     keys: Vec<u32>,
     predicate: Option<Pred>,
+    partition: Option<Vec<u32>>,
+    word: Option<Word>,
 }
 
 impl Plan {
-    ghost use Rattle.std.specs.Prelude.{◌≡◌, option_map};
+    ghost use Rattle.std.specs.Prelude.{◌≡◌, [], None, Some, option_map};
+    ghost use Rattle.std.specs.Option.{option_map_or};
     ghost use Rattle.saber_plan.specs.Trees.{tree_of, tests_of};
 
-    /// The plan of these parts. The check of a query makes it.
+    /// The plan of these parts, without PARTITION BY and a stream word. The check of a query makes it.
     pub fn new(
         shape: Shape,
         streams: Vec<Stream>,
@@ -42,7 +55,7 @@ impl Plan {
         keys: Vec<u32>,
         predicate: Option<Pred>,
     ) -> Plan
-        ensures { tree_of result ≡ record { shape = shape; streams = streams.items; items = items.items; keys = keys.items; predicate = option_map tests_of predicate } }
+        ensures { tree_of result ≡ record { shape = shape; streams = streams.items; items = items.items; keys = keys.items; predicate = option_map tests_of predicate; partition = []; word = None } }
     {
         Plan {
             shape,
@@ -50,6 +63,56 @@ impl Plan {
             items,
             keys,
             predicate,
+            partition: None,
+            word: None,
+        }
+    }
+
+    /// The same plan with these columns of PARTITION BY.
+    pub fn partitioned(self, columns: Vec<u32>) -> Plan
+        ensures { tree_of result ≡ record (tree_of self) { partition = columns.items } }
+    {
+        let Plan {
+            shape,
+            streams,
+            items,
+            keys,
+            predicate,
+            partition: _partition,
+            word,
+        } = self;
+        Plan {
+            shape,
+            streams,
+            items,
+            keys,
+            predicate,
+            partition: Some(columns),
+            word,
+        }
+    }
+
+    /// The same plan with this stream word.
+    pub fn streamed(self, word: Word) -> Plan
+        ensures { tree_of result ≡ record (tree_of self) { word = Some word } }
+    {
+        let Plan {
+            shape,
+            streams,
+            items,
+            keys,
+            predicate,
+            partition,
+            word: _word,
+        } = self;
+        Plan {
+            shape,
+            streams,
+            items,
+            keys,
+            predicate,
+            partition,
+            word: Some(word),
         }
     }
 
@@ -86,5 +149,22 @@ impl Plan {
         ensures { option_map (λ p. tests_of p.now) result ≡ (tree_of self.now).predicate }
     {
         self.predicate.as_ref()
+    }
+
+    /// The columns of PARTITION BY, counted from 0; none where the query has no such clause.
+    pub fn partition(&self) -> &[u32]
+        ensures { result.now ≡ (tree_of self.now).partition }
+    {
+        match &self.partition {
+            Some(columns) => columns,
+            None => &[],
+        }
+    }
+
+    /// The stream word, if the query has one.
+    pub fn word(&self) -> Option<Word>
+        ensures { result ≡ (tree_of self.now).word }
+    {
+        self.word
     }
 }

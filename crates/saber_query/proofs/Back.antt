@@ -8,15 +8,18 @@ use Rattle.saber_query.specs.declared.tree.Factor.TheVariants as f
 use Rattle.saber_query.specs.declared.tree.Adding.TheVariants.{Plus, Minus}
 use Rattle.saber_query.specs.declared.tree.Expr.{Expr}
 use Rattle.saber_query.specs.declared.tree.Item.TheVariants.{Count, Sum, Min, Max, Value}
-use Rattle.saber_query.specs.declared.tree.Measure.TheVariants.{Rows, Range}
+use Rattle.saber_query.specs.declared.tree.Measure.TheVariants.{Rows, Range, Partition}
+use Rattle.saber_query.specs.declared.tree.StreamWord.{StreamWord}
+use Rattle.saber_query.specs.declared.tree.StreamWord.TheVariants.{Rstream, Istream, Dstream}
 use Rattle.saber_query.specs.declared.tree.Cmp.TheVariants as c
 use Rattle.saber_query.specs.declared.tree.Decl.{Decl}
-use Rattle.saber_query.specs.Trees.{negated, enclosed, compare, no_more, and_also, no_other, or_else, Query, depth}
-use Rattle.saber_query.specs.Words.{expr_words, cmp_sign, measure_word, item_words, items_words, decl_words, decls_words, source_words, second_source_words, where_words, group_words, last_words, words, names_words, column_words, columns_words}
-use Rattle.saber_query.specs.Machine.{Symbol, declared, start, open_sign, close_sign, star_sign, from_word, slide_word, close_bracket, a_name, a_number, comparison, measure, factor, more_column, more_factors, more_terms, item, more_items, unit, more_ands, more_ors, a_window, a_where, a_semicolon, select_word, by_word, semicolon_sign, decl, more_decls, more_names, source, a_second, column, more_columns, a_group, Push, takes, too_deep, refuses, push, may_lack, all_may_lack, pushed, move}
+use Rattle.saber_query.specs.Trees.{negated, enclosed, compare, no_more, and_also, no_other, or_else, Asked, Query, where_depth, depth}
+use Rattle.saber_query.specs.Words.{expr_words, cmp_sign, measure_words, item_words, items_words, decl_words, decls_words, source_words, second_source_words, where_words, group_words, last_words, words, names_words, column_words, columns_words, stream_keyword, opened_words, shut_words, asked_words, body_words}
+use Rattle.saber_query.specs.Machine.{Symbol, declared, chosen, worded, start, open_sign, close_sign, star_sign, from_word, slide_word, close_bracket, a_name, a_number, comparison, measure, factor, more_column, more_factors, more_terms, item, more_items, unit, more_ands, more_ors, a_window, a_where, a_semicolon, rows_word, select_word, by_word, semicolon_sign, decl, more_decls, more_names, source, a_second, column, more_columns, a_group, body, Push, takes, too_deep, refuses, push, may_lack, all_may_lack, pushed, move}
 use Rattle.saber_query.specs.Tokens.{keyword_among}
 use Rattle.saber_query.specs.Real.{IsReal, AllReal}
 use Rattle.saber_query.specs.Parts.{Part, part_words, Means}
+use Rattle.saber_query.proofs.Flat.{asked_flat, body_flat}
 
 join : (a w b v c : List Token) → a ≡ w ++ b → b ≡ v ++ c → a ≡ (w ++ v) ++ c
 join a w b v c e e' = e ∙ ap (λ z. w ++ z) e' ∙ sym (append_assoc w v c)
@@ -66,6 +69,31 @@ to_decl xs ts (n, r1, e1, (u, r2, e2, (f, r3, e3, (ns, r4, e4, (v, r5, e5, (w, r
   m,
 )
 
+append_nil : (ts : List Token) → ts ++ [] ≡ ts
+append_nil [] = refl
+append_nil (t ∷ ts) = ap (λ z. t ∷ z) (append_nil ts)
+
+-- what is asked in front
+to_asked : (d : ℕ) (xs : List Symbol) (ts : List Token) → Means (chosen d ++ xs) ts → (a : Asked) × (r : List Token) × (where_depth a.predicate ≤ d) × (Word k.Select ∷ ts ≡ asked_words a ++ r) × Means xs r
+to_asked d xs ts (i, r1, e1, (j, r2, e2, (u, r3, e3, (f, r4, e4, (o, r5, e5, ((p, h), r6, e6, (g, r7, e7, m))))))) = (
+  record { item = i; items = j; from = f; second = o; predicate = p; group = g },
+  r7,
+  h,
+  ap (λ z. Word k.Select ∷ z) (e1 ∙ ap (λ z. item_words i ++ z) (e2 ∙ ap (λ z. items_words j ++ z) (e3 ∙ ap (λ z. Word k.From ∷ z) (e4 ∙ ap (λ z. source_words f ++ z) (e5 ∙ ap (λ z. second_source_words o ++ z) (e6 ∙ ap (λ z. where_words p ++ z) e7))))))
+      ∙ sym (asked_flat (record { item = i; items = j; from = f; second = o; predicate = p; group = g }) r7),
+  m,
+)
+
+to_bare : (d : ℕ) (xs : List Symbol) (ts : List Token) → Means (chosen d ++ xs) ts → Means (body d ∷ xs) (Word k.Select ∷ ts)
+to_bare d xs ts m =
+    let (a, r, h, e, m') = to_asked d xs ts m in
+    ((None, a, h), r, e ∙ ap (λ z. z ++ r) (sym (append_nil (asked_words a))), m')
+
+to_worded : (w : StreamWord) (d : ℕ) (xs : List Symbol) (ts : List Token) → Means (worded d ++ xs) ts → Means (body d ∷ xs) (Word (stream_keyword w) ∷ ts)
+to_worded w d xs ts (u, r1, e1, (v, r2, e2, m)) =
+    let (a, r, h, e, (u', r', e', m')) = to_asked d (close_sign ∷ xs) r2 m in
+    ((Some w, a, h), r', ap (λ z. Word (stream_keyword w) ∷ z) (e1 ∙ ap (λ z. Mark s.Open ∷ z) (join r1 (asked_words a) r (Mark s.Close ∷ []) r' (e2 ∙ e) e')), m')
+
 pub back_push : (x : Symbol) (t : Token) (xs : List Symbol) (ts : List Token) → Onto (push x t) xs ts → Means (x ∷ xs) (t ∷ ts)
 back_push open_sign (Mark s.Open) xs ts m = (tt, ts, refl, m)
 back_push close_sign (Mark s.Close) xs ts m = (tt, ts, refl, m)
@@ -83,6 +111,13 @@ back_push comparison (Mark s.Greater) xs ts m = (c.Greater, ts, refl, m)
 back_push comparison (Mark s.AtLeast) xs ts m = (c.AtLeast, ts, refl, m)
 back_push measure (Word k.Rows) xs ts m = (Rows, ts, refl, m)
 back_push measure (Word k.Range) xs ts m = (Range, ts, refl, m)
+back_push measure (Word k.Partition) xs ts (u, r, e, (c, r', e', (cs, r'', e'', (v, r3, e3, m)))) = (
+  Partition (record { first = c; more = cs }),
+  r3,
+  ap (λ z. Word k.Partition ∷ z) (e ∙ ap (λ z. Word k.By ∷ z) (join r (column_words c ++ columns_words cs) r'' (Word k.Rows ∷ []) r3 (join r (column_words c) r' (columns_words cs) r'' e' e'') e3)),
+  m,
+)
+back_push rows_word (Word k.Rows) xs ts m = (tt, ts, refl, m)
 back_push factor t xs ts m = back_factor t xs ts m
 back_push more_column (Mark s.Dot) xs ts (n, r, e, m) = (Some n, r, ap (λ z. Mark s.Dot ∷ z) e, m)
 back_push more_factors (Mark s.Star) xs ts (f, r, e, (fs, r', e', m)) = (f ∷ fs, r', ap (λ z. Mark s.Star ∷ z) (join _ _ _ _ _ e e'), m)
@@ -117,7 +152,7 @@ back_push (more_ands d) (Word k.And) xs ts ((t, h), r, e, ((a, h'), r', e', m)) 
 back_push (more_ors d) (Word k.Or) xs ts ((t, h), r, e, ((a, h'), r', e', ((o, h''), r'', e'', m))) =
     ((or_else t a o, omega arith), r'', ap (λ z. Word k.Or ∷ z) (join _ _ _ _ _ e (join _ _ _ _ _ e' e'')), m)
 back_push a_window (Mark s.OpenBracket) xs ts (w, r, e, (n, r', e', (u, r'', e'', (l, r3, e3, (u', r4, e4, m))))) =
-    (Some (record { measure = w; size = n; slide = l }), r4, ap (λ z. Mark s.OpenBracket ∷ z) (e ∙ ap (λ z. measure_word w ∷ z) (e' ∙ ap (λ z. Number n ∷ z) (e'' ∙ ap (λ z. Word k.Slide ∷ z) (e3 ∙ ap (λ z. Number l ∷ z) e4)))), m)
+    (Some (record { measure = w; size = n; slide = l }), r4, ap (λ z. Mark s.OpenBracket ∷ z) (join ts (measure_words w) r (Number n ∷ Word k.Slide ∷ Number l ∷ Mark s.CloseBracket ∷ []) r4 e (e' ∙ ap (λ z. Number n ∷ z) (e'' ∙ ap (λ z. Word k.Slide ∷ z) (e3 ∙ ap (λ z. Number l ∷ z) e4)))), m)
 back_push (a_where d) (Word k.Where) xs ts ((t, h), r, e, ((a, h'), r', e', ((o, h''), r'', e'', m))) =
     ((Some (record { first = t; ands = a; ors = o }), omega arith), r'', ap (λ z. Word k.Where ∷ z) (join _ _ _ _ _ e (join _ _ _ _ _ e' e'')), m)
 back_push a_semicolon (Mark s.Semicolon) xs ts m = (true, ts, refl, m)
@@ -135,6 +170,10 @@ back_push column (Named n) xs ts (o, r, e, m) = (record { first = n; second = o 
 back_push more_columns (Mark s.Comma) xs ts (c, r, e, (cs, r', e', m)) = (c ∷ cs, r', ap (λ z. Mark s.Comma ∷ z) (join ts (column_words c) r (columns_words cs) r' e e'), m)
 back_push a_group (Word k.Group) xs ts (u, r, e, (c, r', e', (cs, r'', e'', m))) =
     (Some (record { first = c; more = cs }), r'', ap (λ z. Word k.Group ∷ z) (e ∙ ap (λ z. Word k.By ∷ z) (join r (column_words c) r' (columns_words cs) r'' e' e'')), m)
+back_push (body d) (Word k.Select) xs ts m = to_bare d xs ts m
+back_push (body d) (Word k.Rstream) xs ts m = to_worded Rstream d xs ts m
+back_push (body d) (Word k.Istream) xs ts m = to_worded Istream d xs ts m
+back_push (body d) (Word k.Dstream) xs ts m = to_worded Dstream d xs ts m
 back_push _ _ xs ts h = absurd h
 
 skip : (x : Symbol) (xs : List Symbol) (ts : List Token) → may_lack x ≡ true → Means xs ts → Means (x ∷ xs) ts
@@ -203,6 +242,7 @@ some_part a_second = None
 some_part column = record { first = some_name; second = None }
 some_part more_columns = []
 some_part a_group = None
+some_part (body d) = (None, record { item = Count; items = []; from = record { name = some_name; window = None }; second = None; predicate = None; group = None }, omega arith)
 some_part _ = tt
 
 real_append : (ts us : List Token) → AllReal ts → AllReal us → AllReal (ts ++ us)
@@ -238,6 +278,8 @@ some_real a_second = tt
 some_real column = (name_real, tt)
 some_real more_columns = tt
 some_real a_group = tt
+some_real (body d) = (tt, (tt, (tt, (tt, (tt, (tt, (name_real, tt)))))))
+some_real rows_word = (tt, tt)
 some_real select_word = (tt, tt)
 some_real by_word = (tt, tt)
 some_real semicolon_sign = (tt, tt)
@@ -259,14 +301,10 @@ all_lack (x ∷ xs) e = let (e', e'') = both_true _ _ e in skip x xs [] e' (all_
   both_true true b h = (refl, h)
   both_true false b h = cc
 
-append_nil : (ts : List Token) → ts ++ [] ≡ ts
-append_nil [] = refl
-append_nil (t ∷ ts) = ap (λ z. t ∷ z) (append_nil ts)
-
 -- what the machine begins with stands for a whole tree
 pub to_query : (d : ℕ) (ts : List Token) → Means (start d) ts → (q : Query) × (depth q ≤ d) × (ts ≡ words q)
-to_query d ts (a, r1, e1, (b, r2, e2, (u, r3, e3, (i, r4, e4, (j, r5, e5, (v, r6, e6, (f, r7, e7, (o, r8, e8, ((p, h), r9, e9, (g, r10, e10, (l, r11, e11, m))))))))))) = (
-  record { decl = a; decls = b; item = i; items = j; from = f; second = o; predicate = p; group = g; closed = l },
+to_query d ts (a, r1, e1, (b, r2, e2, ((o, s, h), r3, e3, (l, r4, e4, m)))) = (
+  record { decl = a; decls = b; word = o; item = s.item; items = s.items; from = s.from; second = s.second; predicate = s.predicate; group = s.group; closed = l },
   h,
-  e1 ∙ ap (λ z. decl_words a ++ z) (e2 ∙ ap (λ z. decls_words b ++ z) (e3 ∙ ap (λ z. Word k.Select ∷ z) (e4 ∙ ap (λ z. item_words i ++ z) (e5 ∙ ap (λ z. items_words j ++ z) (e6 ∙ ap (λ z. Word k.From ∷ z) (e7 ∙ ap (λ z. source_words f ++ z) (e8 ∙ ap (λ z. second_source_words o ++ z) (e9 ∙ ap (λ z. where_words p ++ z) (e10 ∙ ap (λ z. group_words g ++ z) (e11 ∙ ap (λ z. last_words l ++ z) m ∙ append_nil (last_words l))))))))))),
+  e1 ∙ ap (λ z. decl_words a ++ z) (e2 ∙ ap (λ z. decls_words b ++ z) (e3 ∙ ap (λ z. body_words o s ++ z) (e4 ∙ ap (λ z. last_words l ++ z) m ∙ append_nil (last_words l)) ∙ body_flat o s (last_words l))),
 )

@@ -8,7 +8,7 @@ use Rattle.saber_query.specs.Trees.{Query, depth}
 use Rattle.saber_query.specs.Real.{AllReal}
 use Rattle.saber_query.specs.Words.{words, Begins, Unfit, Opens, IsSyntax, IsDeep}
 use Rattle.saber_query.specs.Reading.{StopsWith}
-use Rattle.saber_query.specs.Machine.{Symbol, open_sign, close_sign, star_sign, from_word, slide_word, close_bracket, a_name, a_number, comparison, measure, factor, more_column, more_factors, more_terms, item, more_items, unit, more_ands, more_ors, a_window, a_where, a_semicolon, select_word, by_word, semicolon_sign, decl, more_decls, more_names, source, a_second, column, more_columns, a_group, Push, takes, too_deep, refuses, push, may_lack, all_may_lack, pushed, move, Fate, fits, stops, deepens, moved, fate, start}
+use Rattle.saber_query.specs.Machine.{Symbol, open_sign, close_sign, star_sign, from_word, slide_word, close_bracket, a_name, a_number, comparison, measure, factor, more_column, more_factors, more_terms, item, more_items, unit, more_ands, more_ors, a_window, a_where, a_semicolon, rows_word, select_word, by_word, semicolon_sign, decl, more_decls, more_names, source, a_second, column, more_columns, a_group, body, Push, takes, too_deep, refuses, push, may_lack, all_may_lack, pushed, move, Fate, fits, stops, deepens, moved, fate, start}
 use Rattle.saber_query.specs.Parts.{Means}
 use Rattle.saber_query.proofs.Back.{Behind, back_move, some_words, all_lack, to_query}
 use Rattle.saber_query.proofs.Forth.{words_fit}
@@ -20,6 +20,7 @@ deeper (unit d) = unit (suc d)
 deeper (more_ands d) = more_ands (suc d)
 deeper (more_ors d) = more_ors (suc d)
 deeper (a_where d) = a_where (suc d)
+deeper (body d) = body (suc d)
 deeper open_sign = open_sign
 deeper close_sign = close_sign
 deeper star_sign = star_sign
@@ -38,6 +39,7 @@ deeper item = item
 deeper more_items = more_items
 deeper a_window = a_window
 deeper a_semicolon = a_semicolon
+deeper rows_word = rows_word
 deeper select_word = select_word
 deeper by_word = by_word
 deeper semicolon_sign = semicolon_sign
@@ -74,6 +76,7 @@ is_level (unit d) = true
 is_level (more_ands d) = true
 is_level (more_ors d) = true
 is_level (a_where d) = true
+is_level (body d) = true
 is_level _ = false
 
 deeper_ands : (d : ℕ) (t : Token) → Deepened (push (more_ands d) t) (push (more_ands (suc d)) t)
@@ -87,6 +90,13 @@ deeper_ors d _ = refl
 deeper_where : (d : ℕ) (t : Token) → Deepened (push (a_where d) t) (push (a_where (suc d)) t)
 deeper_where d (Word k.Where) = refl
 deeper_where d _ = refl
+
+deeper_body : (d : ℕ) (t : Token) → Deepened (push (body d) t) (push (body (suc d)) t)
+deeper_body d (Word k.Select) = refl
+deeper_body d (Word k.Rstream) = refl
+deeper_body d (Word k.Istream) = refl
+deeper_body d (Word k.Dstream) = refl
+deeper_body d _ = refl
 
 abbrev Plain : Push → Type 0
 Plain p = Deepened p p
@@ -106,8 +116,6 @@ plain_push comparison (Mark s.Less) e = refl
 plain_push comparison (Mark s.AtMost) e = refl
 plain_push comparison (Mark s.Greater) e = refl
 plain_push comparison (Mark s.AtLeast) e = refl
-plain_push measure (Word k.Rows) e = refl
-plain_push measure (Word k.Range) e = refl
 plain_push factor (Named n) e = refl
 plain_push factor (Number n) e = refl
 plain_push factor (Mark s.Minus) e = refl
@@ -136,10 +144,15 @@ plain_push a_second (Mark s.Comma) e = refl
 plain_push column (Named n) e = refl
 plain_push more_columns (Mark s.Comma) e = refl
 plain_push a_group (Word k.Group) e = refl
+plain_push measure (Word k.Rows) e = refl
+plain_push measure (Word k.Range) e = refl
+plain_push measure (Word k.Partition) e = refl
+plain_push rows_word (Word k.Rows) e = refl
 plain_push (unit d) t e = cc
 plain_push (more_ands d) t e = cc
 plain_push (more_ors d) t e = cc
 plain_push (a_where d) t e = cc
+plain_push (body d) t e = cc
 plain_push _ _ e = refl
 
 deeper_push : (x : Symbol) (t : Token) → Deepened (push x t) (push (deeper x) t)
@@ -147,6 +160,7 @@ deeper_push (unit d) t = deeper_unit d t
 deeper_push (more_ands d) t = deeper_ands d t
 deeper_push (more_ors d) t = deeper_ors d t
 deeper_push (a_where d) t = deeper_where d t
+deeper_push (body d) t = deeper_body d t
 deeper_push open_sign t = plain_push open_sign t refl
 deeper_push close_sign t = plain_push close_sign t refl
 deeper_push star_sign t = plain_push star_sign t refl
@@ -165,6 +179,7 @@ deeper_push item t = plain_push item t refl
 deeper_push more_items t = plain_push more_items t refl
 deeper_push a_window t = plain_push a_window t refl
 deeper_push a_semicolon t = plain_push a_semicolon t refl
+deeper_push rows_word t = plain_push rows_word t refl
 deeper_push select_word t = plain_push select_word t refl
 deeper_push by_word t = plain_push by_word t refl
 deeper_push semicolon_sign t = plain_push semicolon_sign t refl
@@ -182,6 +197,7 @@ deeper_lacks (unit d) = refl
 deeper_lacks (more_ands d) = refl
 deeper_lacks (more_ors d) = refl
 deeper_lacks (a_where d) = refl
+deeper_lacks (body d) = refl
 deeper_lacks _ = refl
 
 deeper_all_lack : (xs : List Symbol) → all_may_lack (map deeper xs) ≡ all_may_lack xs
@@ -231,6 +247,13 @@ where_stays : (d : ℕ) (t : Token) → ¬ (push (a_where d) t ≡ too_deep)
 where_stays d (Word k.Where) e = cc
 where_stays d _ e = cc
 
+body_stays : (d : ℕ) (t : Token) → ¬ (push (body d) t ≡ too_deep)
+body_stays d (Word k.Select) e = cc
+body_stays d (Word k.Rstream) e = cc
+body_stays d (Word k.Istream) e = cc
+body_stays d (Word k.Dstream) e = cc
+body_stays d _ e = cc
+
 not_deep : (p : Push) → Plain p → ¬ (p ≡ too_deep)
 not_deep (takes ys) h e = cc
 not_deep too_deep (zs, h) e = cc
@@ -244,6 +267,7 @@ push_opens (unit d) t e = unit_opens d t e
 push_opens (more_ands d) t e = absurd (ands_stay d t e)
 push_opens (more_ors d) t e = absurd (ors_stay d t e)
 push_opens (a_where d) t e = absurd (where_stays d t e)
+push_opens (body d) t e = absurd (body_stays d t e)
 push_opens x t e = plain_stays x t refl e
 
 pushed_opens : (p : Push) (lacks : Bool) (xs : List Symbol) (o : Push) (t : Token) → (p ≡ too_deep → Opens t) → (o ≡ too_deep → Opens t) → pushed p lacks xs o ≡ too_deep → Opens t

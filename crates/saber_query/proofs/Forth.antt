@@ -4,7 +4,7 @@ use Rattle.std.proofs.Common.{◌≡◌, ℕ, zero, suc, ◌≤◌, List, [], �
 use Rattle.saber_query.specs.declared.token.Keyword.TheVariants as k
 use Rattle.saber_query.specs.declared.token.Sign.TheVariants as s
 use Rattle.saber_query.specs.declared.token.Token.{Token}
-use Rattle.saber_query.specs.declared.token.Token.TheVariants.{Word, Mark, Named}
+use Rattle.saber_query.specs.declared.token.Token.TheVariants.{Word, Mark, Named, Number}
 use Rattle.saber_query.specs.declared.tree.Factor.{Factor}
 use Rattle.saber_query.specs.declared.tree.Factor.TheVariants as f
 use Rattle.saber_query.specs.declared.tree.Adding.{Adding}
@@ -15,7 +15,9 @@ use Rattle.saber_query.specs.declared.tree.Expr.{Expr}
 use Rattle.saber_query.specs.declared.tree.Item.{Item}
 use Rattle.saber_query.specs.declared.tree.Item.TheVariants.{Count, Sum, Min, Max, Value}
 use Rattle.saber_query.specs.declared.tree.Measure.{Measure}
-use Rattle.saber_query.specs.declared.tree.Measure.TheVariants.{Rows, Range}
+use Rattle.saber_query.specs.declared.tree.Measure.TheVariants.{Rows, Range, Partition}
+use Rattle.saber_query.specs.declared.tree.StreamWord.{StreamWord}
+use Rattle.saber_query.specs.declared.tree.StreamWord.TheVariants.{Rstream, Istream, Dstream}
 use Rattle.saber_query.specs.declared.tree.Window.{Window}
 use Rattle.saber_query.specs.declared.tree.Source.{Source}
 use Rattle.saber_query.specs.declared.tree.Decl.{Decl}
@@ -23,9 +25,9 @@ use Rattle.saber_query.specs.declared.tree.Column.{Column}
 use Rattle.saber_query.specs.declared.tree.Keys.{Keys}
 use Rattle.saber_query.specs.declared.tree.Cmp.{Cmp}
 use Rattle.saber_query.specs.declared.tree.Cmp.TheVariants as c
-use Rattle.saber_query.specs.Trees.{Test, negated, enclosed, compare, Ands, no_more, and_also, Ors, no_other, or_else, Tests, Query, test_depth, ands_depth, ors_depth, where_depth, depth}
-use Rattle.saber_query.specs.Words.{second_words, factor_words, factors_words, prod_words, adding_sign, terms_words, expr_words, item_words, items_words, measure_word, window_words, cmp_sign, test_words, ands_words, ors_words, where_words, last_words, words, names_words, decl_words, decls_words, source_words, second_source_words, column_words, columns_words, group_words}
-use Rattle.saber_query.specs.Machine.{Symbol, close_sign, from_word, comparison, measure, factor, more_column, more_factors, more_terms, item, more_items, unit, more_ands, more_ors, a_window, a_where, a_semicolon, select_word, semicolon_sign, decl, more_decls, more_names, source, a_second, column, more_columns, a_group, refuses, may_lack, all_may_lack, pushed, move, fits, stops, moved, fate, start}
+use Rattle.saber_query.specs.Trees.{Test, negated, enclosed, compare, Ands, no_more, and_also, Ors, no_other, or_else, Tests, Asked, Query, test_depth, ands_depth, ors_depth, where_depth, depth}
+use Rattle.saber_query.specs.Words.{second_words, factor_words, factors_words, prod_words, adding_sign, terms_words, expr_words, item_words, items_words, measure_words, window_words, cmp_sign, test_words, ands_words, ors_words, where_words, last_words, words, names_words, decl_words, decls_words, source_words, second_source_words, column_words, columns_words, by_words, group_words, opened_words, shut_words}
+use Rattle.saber_query.specs.Machine.{Symbol, close_sign, from_word, slide_word, close_bracket, a_number, comparison, measure, factor, more_column, more_factors, more_terms, item, more_items, unit, more_ands, more_ors, a_window, a_where, a_semicolon, rows_word, semicolon_sign, decl, more_decls, more_names, source, a_second, column, more_columns, a_group, body, chosen, refuses, may_lack, all_may_lack, pushed, move, fits, stops, moved, fate, start}
 
 pub skipped : (x : Symbol) (xs : List Symbol) (ts : List Token) → may_lack x ≡ true → Refuses x ts → fate (x ∷ xs) ts ≡ fate xs ts
 unfolding fate
@@ -241,29 +243,6 @@ decls_law (d ∷ ds) xs ts h =
     ∙ decl_law d (more_decls ∷ xs) (decls_words ds ++ ts)
     ∙ decls_law ds xs ts h
 
-measured : (m : Measure) (xs : List Symbol) (ts : List Token) → fate (measure ∷ xs) (measure_word m ∷ ts) ≡ fate xs ts
-unfolding fate
-measured Rows xs ts = refl
-measured Range xs ts = refl
-
-window_law : (w : Option Window) (xs : List Symbol) (ts : List Token) → Refuses a_window ts → fate (a_window ∷ xs) (window_words w ++ ts) ≡ fate xs ts
-unfolding fate
-window_law None xs ts h = skipped a_window xs ts refl h
-window_law (Some w) xs ts h = measured w.measure _ _
-
-source_law : (f : Source) (xs : List Symbol) (ts : List Token) → Refuses a_window ts → fate (source ∷ xs) (source_words f ++ ts) ≡ fate xs ts
-unfolding fate
-source_law f xs ts h = window_law f.window xs ts h
-
-second_law : (o : Option Source) (xs : List Symbol) (ts : List Token) → Refuses a_window ts → Refuses a_second ts → fate (a_second ∷ xs) (second_source_words o ++ ts) ≡ fate xs ts
-unfolding fate
-second_law None xs ts h h' = skipped a_second xs ts refl h'
-second_law (Some f) xs ts h h' = source_law f xs ts h
-
-pub second_ends : (o : Option Source) (ts : List Token) → Refuses a_window ts → Refuses a_window (second_source_words o ++ ts)
-second_ends None ts h = h
-second_ends (Some f) ts h = refl
-
 key_law : (c : Column) (xs : List Symbol) (ts : List Token) → Refuses more_column ts → fate (column ∷ xs) (column_words c ++ ts) ≡ fate xs ts
 unfolding fate
 key_law c xs ts h = qualified c.second where
@@ -283,6 +262,46 @@ keys_law (c ∷ cs) xs ts h h' =
     ∙ key_law c (more_columns ∷ xs) (columns_words cs ++ ts) (keys_end cs ts h)
     ∙ keys_law cs xs ts h h'
 
+-- BY and its columns
+by_law : (g : Keys) (xs : List Symbol) (ts : List Token) → Refuses more_column ts → Refuses more_columns ts → fate (column ∷ more_columns ∷ xs) ((column_words g.first ++ columns_words g.more) ++ ts) ≡ fate xs ts
+by_law g xs ts h h' =
+    ap (fate (column ∷ more_columns ∷ xs)) (append_assoc (column_words g.first) (columns_words g.more) ts)
+    ∙ key_law g.first (more_columns ∷ xs) (columns_words g.more ++ ts) (keys_end g.more ts h)
+    ∙ keys_law g.more xs ts h h'
+
+partitioned : (g : Keys) (xs : List Symbol) (ts : List Token) → fate (column ∷ more_columns ∷ rows_word ∷ xs) (((column_words g.first ++ columns_words g.more) ++ Word k.Rows ∷ []) ++ ts) ≡ fate xs ts
+unfolding fate
+partitioned g xs ts =
+    ap (fate (column ∷ more_columns ∷ rows_word ∷ xs)) (append_assoc (column_words g.first ++ columns_words g.more) (Word k.Rows ∷ []) ts)
+    ∙ by_law g (rows_word ∷ xs) (Word k.Rows ∷ ts) refl refl
+
+measured : (m : Measure) (xs : List Symbol) (ts : List Token) → fate (measure ∷ xs) (measure_words m ++ ts) ≡ fate xs ts
+unfolding fate
+measured Rows xs ts = refl
+measured Range xs ts = refl
+measured (Partition g) xs ts = partitioned g xs ts
+
+window_law : (w : Option Window) (xs : List Symbol) (ts : List Token) → Refuses a_window ts → fate (a_window ∷ xs) (window_words w ++ ts) ≡ fate xs ts
+unfolding fate
+window_law None xs ts h = skipped a_window xs ts refl h
+window_law (Some w) xs ts h =
+    let ns : List Token = Number w.size ∷ Word k.Slide ∷ Number w.slide ∷ Mark s.CloseBracket ∷ [] in
+    ap (fate (measure ∷ a_number ∷ slide_word ∷ a_number ∷ close_bracket ∷ xs)) (append_assoc (measure_words w.measure) ns ts)
+    ∙ measured w.measure (a_number ∷ slide_word ∷ a_number ∷ close_bracket ∷ xs) (ns ++ ts)
+
+source_law : (f : Source) (xs : List Symbol) (ts : List Token) → Refuses a_window ts → fate (source ∷ xs) (source_words f ++ ts) ≡ fate xs ts
+unfolding fate
+source_law f xs ts h = window_law f.window xs ts h
+
+second_law : (o : Option Source) (xs : List Symbol) (ts : List Token) → Refuses a_window ts → Refuses a_second ts → fate (a_second ∷ xs) (second_source_words o ++ ts) ≡ fate xs ts
+unfolding fate
+second_law None xs ts h h' = skipped a_second xs ts refl h'
+second_law (Some f) xs ts h h' = source_law f xs ts h
+
+pub second_ends : (o : Option Source) (ts : List Token) → Refuses a_window ts → Refuses a_window (second_source_words o ++ ts)
+second_ends None ts h = h
+second_ends (Some f) ts h = refl
+
 -- nothing of what is before WHERE goes on, nor of a predicate
 pub record EndsPred (ts : List Token) : Type 0 where
   pub ands : EndsAnds ts
@@ -291,29 +310,21 @@ pub record EndsPred (ts : List Token) : Type 0 where
   pub window : Refuses a_window ts
   pub second : Refuses a_second ts
 
-pub tail_ends : (g : Option Keys) (b : Bool) → EndsPred (group_words g ++ last_words b)
-tail_ends (Some g) b = record { ands = record { expr = record { column = refl; factors = refl; terms = refl }; ands = λ d. refl }; ors = λ d. refl; wheres = λ d. refl; window = refl; second = refl }
-tail_ends None true = record { ands = record { expr = record { column = refl; factors = refl; terms = refl }; ands = λ d. refl }; ors = λ d. refl; wheres = λ d. refl; window = refl; second = refl }
-tail_ends None false = record { ands = record { expr = record { column = tt; factors = tt; terms = tt }; ands = λ d. tt }; ors = λ d. tt; wheres = λ d. tt; window = tt; second = tt }
+-- nothing of what is asked goes on
+pub record EndsAsked (ts : List Token) : Type 0 where
+  pub pred : EndsPred ts
+  pub column : Refuses more_column ts
+  pub columns : Refuses more_columns ts
+  pub group : Refuses a_group ts
 
-last_law : (b : Bool) → fate (a_semicolon ∷ []) (last_words b) ≡ fits
+pub tail_ends : (g : Option Keys) (ts : List Token) → EndsAsked ts → EndsPred (group_words g ++ ts)
+tail_ends (Some g) ts h = record { ands = record { expr = record { column = refl; factors = refl; terms = refl }; ands = λ d. refl }; ors = λ d. refl; wheres = λ d. refl; window = refl; second = refl }
+tail_ends None ts h = h.pred
+
+group_law : (g : Option Keys) (xs : List Symbol) (ts : List Token) → EndsAsked ts → fate (a_group ∷ xs) (group_words g ++ ts) ≡ fate xs ts
 unfolding fate
-last_law true = refl
-last_law false = refl
-
-pub last_ends : (b : Bool) → Refuses more_column (last_words b) × Refuses more_columns (last_words b) × Refuses a_group (last_words b)
-last_ends true = (refl, refl, refl)
-last_ends false = (tt, tt, tt)
-
-group_law : (g : Option Keys) (b : Bool) → fate (a_group ∷ a_semicolon ∷ []) (group_words g ++ last_words b) ≡ fits
-unfolding fate
-group_law None b = skipped a_group (a_semicolon ∷ []) (last_words b) refl (last_ends b).2 ∙ last_law b
-group_law (Some g) b =
-    let (h, h', h'') = last_ends b in
-    ap (fate (column ∷ more_columns ∷ a_semicolon ∷ [])) (append_assoc (column_words g.first) (columns_words g.more) (last_words b))
-    ∙ key_law g.first _ _ (keys_end g.more _ h)
-    ∙ keys_law g.more _ _ h h'
-    ∙ last_law b
+group_law None xs ts h = skipped a_group xs ts refl h.group
+group_law (Some g) xs ts h = by_law g xs ts h.column h.columns
 
 where_law : (p : Option Tests) (d : ℕ) (xs : List Symbol) (ts : List Token) → where_depth p ≤ d → EndsPred ts → fate (a_where d ∷ xs) (where_words p ++ ts) ≡ fate xs ts
 unfolding fate
@@ -328,26 +339,65 @@ pub where_ends : (p : Option Tests) (ts : List Token) → EndsPred ts → Refuse
 where_ends None ts h = (h.window, h.second)
 where_ends (Some p) ts h = (refl, refl)
 
-selected : (xs : List Symbol) (ts : List Token) → fate (select_word ∷ xs) (Word k.Select ∷ ts) ≡ fate xs ts
-unfolding fate
-selected xs ts = refl
-
 taken_from : (xs : List Symbol) (ts : List Token) → fate (from_word ∷ xs) (Word k.From ∷ ts) ≡ fate xs ts
 unfolding fate
 taken_from xs ts = refl
 
+asked_law : (a : Asked) (d : ℕ) (xs : List Symbol) (ts : List Token) → where_depth a.predicate ≤ d → EndsAsked ts →
+    fate (chosen d ++ xs) (item_words a.item ++ (items_words a.items ++ Word k.From ∷ (source_words a.from ++ (second_source_words a.second ++ (where_words a.predicate ++ (group_words a.group ++ ts)))))) ≡ fate xs ts
+asked_law a d xs ts g h =
+    let t = tail_ends a.group ts h in
+    let (w, u) = where_ends a.predicate _ t in
+    item_law a.item _ _ (items_end a.items _ (record { column = refl; factors = refl; terms = refl }))
+    ∙ items_law a.items _ _ (record { column = refl; factors = refl; terms = refl }) refl
+    ∙ taken_from _ _
+    ∙ source_law a.from _ _ (second_ends a.second _ w)
+    ∙ second_law a.second _ _ w u
+    ∙ where_law a.predicate d _ _ g t
+    ∙ group_law a.group xs ts h
+
+-- what comes behind it, by the word before it
+abbrev shuts : Option StreamWord → List Symbol
+shuts None = []
+shuts (Some w) = close_sign ∷ []
+
+opened_law : (o : Option StreamWord) (d : ℕ) (xs : List Symbol) (ts : List Token) → fate (body d ∷ xs) (opened_words o ++ Word k.Select ∷ ts) ≡ fate (chosen d ++ (shuts o ++ xs)) ts
+unfolding fate
+opened_law None d xs ts = refl
+opened_law (Some Rstream) d xs ts = refl
+opened_law (Some Istream) d xs ts = refl
+opened_law (Some Dstream) d xs ts = refl
+
+pub opened_ends : (o : Option StreamWord) (ts : List Token) → Refuses more_decls (opened_words o ++ Word k.Select ∷ ts)
+opened_ends None ts = refl
+opened_ends (Some Rstream) ts = refl
+opened_ends (Some Istream) ts = refl
+opened_ends (Some Dstream) ts = refl
+
+shut_law : (o : Option StreamWord) (xs : List Symbol) (ts : List Token) → fate (shuts o ++ xs) (shut_words o ++ ts) ≡ fate xs ts
+unfolding fate
+shut_law None xs ts = refl
+shut_law (Some w) xs ts = refl
+
+pub shut_ends : (o : Option StreamWord) (b : Bool) → EndsAsked (shut_words o ++ last_words b)
+shut_ends (Some w) b = record { pred = record { ands = at_close _; ors = λ d. refl; wheres = λ d. refl; window = refl; second = refl }; column = refl; columns = refl; group = refl }
+shut_ends None true = record { pred = record { ands = record { expr = record { column = refl; factors = refl; terms = refl }; ands = λ d. refl }; ors = λ d. refl; wheres = λ d. refl; window = refl; second = refl }; column = refl; columns = refl; group = refl }
+shut_ends None false = record { pred = record { ands = record { expr = record { column = tt; factors = tt; terms = tt }; ands = λ d. tt }; ors = λ d. tt; wheres = λ d. tt; window = tt; second = tt }; column = tt; columns = tt; group = tt }
+
+last_law : (b : Bool) → fate (a_semicolon ∷ []) (last_words b) ≡ fits
+unfolding fate
+last_law true = refl
+last_law false = refl
+
+abbrev asked_in : Query → Asked
+asked_in q = record { item = q.item; items = q.items; from = q.from; second = q.second; predicate = q.predicate; group = q.group }
+
 -- the words of a tree fit
 pub words_fit : (q : Query) (d : ℕ) → depth q ≤ d → fate (start d) (words q) ≡ fits
 words_fit q d g =
-    let t = tail_ends q.group q.closed in
-    let (w, u) = where_ends q.predicate _ t in
     decl_law q.decl _ _
-    ∙ decls_law q.decls _ _ refl
-    ∙ selected _ _
-    ∙ item_law q.item _ _ (items_end q.items _ (record { column = refl; factors = refl; terms = refl }))
-    ∙ items_law q.items _ _ (record { column = refl; factors = refl; terms = refl }) refl
-    ∙ taken_from _ _
-    ∙ source_law q.from _ _ (second_ends q.second _ w)
-    ∙ second_law q.second _ _ w u
-    ∙ where_law q.predicate d _ _ g t
-    ∙ group_law q.group q.closed
+    ∙ decls_law q.decls _ _ (opened_ends q.word _)
+    ∙ opened_law q.word d (a_semicolon ∷ []) _
+    ∙ asked_law (asked_in q) d (shuts q.word ++ a_semicolon ∷ []) (shut_words q.word ++ last_words q.closed) g (shut_ends q.word q.closed)
+    ∙ shut_law q.word (a_semicolon ∷ []) (last_words q.closed)
+    ∙ last_law q.closed

@@ -1,4 +1,5 @@
 pub mod LexLemmas
+pub mod Flat
 pub mod Back
 pub mod Forth
 pub mod Exact

@@ -14,7 +14,7 @@ use Rattle.saber_query.specs.declared.tree.Conj.{Conj}
 use Rattle.saber_query.specs.declared.tree.Pred.{Pred, roll-Pred}
 use Rattle.saber_query.specs.declared.tree.Select.{Select}
 use Rattle.saber_query.specs.Trees.{Test, negated, enclosed, compare, Ands, no_more, and_also, Ors, no_other, or_else, Tests, Both, Query, test_of, both_of, tests_of, query_of, ands_of, ors_of, enclosed_by, both_by, tests_by}
-use Rattle.saber_query.specs.Words.{test_words, ands_words, ors_words, decl_words, decls_words, item_words, items_words, source_words, second_source_words, where_words, group_words, last_words, words}
+use Rattle.saber_query.specs.Words.{test_words, ands_words, ors_words, decl_words, decls_words, item_words, items_words, source_words, second_source_words, where_words, group_words, last_words, opened_words, shut_words, words}
 
 -- ---- lists and boxes, which lie nowhere
 
@@ -141,15 +141,18 @@ where_for (Some t) h =
 
 few_where : (q : Query) → length (words q) ≤ 65536 → length (where_words q.predicate) ≤ 65536
 few_where q h =
-    let e1 = group_words q.group ++ last_words q.closed in
+    let e0 = shut_words q.word ++ last_words q.closed in
+    let e1 = group_words q.group ++ e0 in
     let e2 = where_words q.predicate ++ e1 in
     let e3 = second_source_words q.second ++ e2 in
     let e4 = source_words q.from ++ e3 in
     let e5 = items_words q.items ++ Word k.From ∷ e4 in
     let e6 = item_words q.item ++ e5 in
-    let e7 = decls_words q.decls ++ Word k.Select ∷ e6 in
-    let h7 = second_few (decl_words q.decl) e7 h in
-    let h6 : length (Word k.Select ∷ e6) ≤ 65536 = second_few (decls_words q.decls) (Word k.Select ∷ e6) h7 in
+    let e7 = opened_words q.word ++ Word k.Select ∷ e6 in
+    let e8 = decls_words q.decls ++ e7 in
+    let h8 = second_few (decl_words q.decl) e8 h in
+    let h7 = second_few (decls_words q.decls) e7 h8 in
+    let h6 : length (Word k.Select ∷ e6) ≤ 65536 = second_few (opened_words q.word) (Word k.Select ∷ e6) h7 in
     let h5 = second_few (item_words q.item) e5 (omega (arith, h6)) in
     let h4 : length (Word k.From ∷ e4) ≤ 65536 = second_few (items_words q.items) (Word k.From ∷ e4) h5 in
     let h3 = second_few (source_words q.from) e3 (omega (arith, h4)) in
@@ -158,6 +161,6 @@ few_where q h =
 pub select_for : (q : Query) → length (words q) ≤ 65536 → (s : Select) × (query_of s ≡ q)
 select_for q h =
     let p = where_for q.predicate (few_where q h) in (
-      record { decl = q.decl; decls = q.decls; item = q.item; items = q.items; from = q.from; second = q.second; predicate = p.0; group = q.group; closed = q.closed },
-      ap (λ x. record { decl = q.decl; decls = q.decls; item = q.item; items = q.items; from = q.from; second = q.second; predicate = x; group = q.group; closed = q.closed }) p.1,
+      record { decl = q.decl; decls = q.decls; word = q.word; item = q.item; items = q.items; from = q.from; second = q.second; predicate = p.0; group = q.group; closed = q.closed },
+      ap (λ x. record { decl = q.decl; decls = q.decls; word = q.word; item = q.item; items = q.items; from = q.from; second = q.second; predicate = x; group = q.group; closed = q.closed }) p.1,
     )

@@ -13,17 +13,19 @@ use Rattle.saber_query.specs.declared.tree.Decl.{Decl}
 use Rattle.saber_query.specs.declared.tree.Column.{Column}
 use Rattle.saber_query.specs.declared.stop.Stop.{Stop}
 use Rattle.saber_query.specs.declared.stop.Stop.TheVariants.{NoMemory, Syntax, Depth}
-use Rattle.saber_query.specs.Words.{factor_words, factors_words, prod_words, adding_sign, terms_words, item_words, items_words, last_words, cmp_sign, test_words, ands_words, ors_words, both_words, after_each, name_words, names_words, declared_words, decl_words, decls_words, column_words, columns_words}
+use Rattle.saber_query.specs.Words.{factor_words, factors_words, prod_words, adding_sign, terms_words, item_words, items_words, last_words, cmp_sign, test_words, ands_words, ors_words, both_words, after_each, name_words, names_words, declared_words, decl_words, decls_words, column_words, columns_words, stream_keyword}
 use Rattle.saber_query.specs.declared.tree.Cmp.{Cmp}
+use Rattle.saber_query.specs.declared.tree.StreamWord.{StreamWord}
+use Rattle.saber_query.specs.declared.tree.StreamWord.TheVariants.{Rstream, Istream, Dstream}
 use Rattle.saber_query.specs.declared.tree.Cmp.TheVariants as c
 use Rattle.saber_query.specs.Trees.{Test, Both, test_depth, ands_depth, ors_depth, both_depth, ands_of, ors_of, test_of, both_of}
 use Rattle.saber_query.specs.declared.tree.Unit.{Unit as Unit_tree}
 use Rattle.saber_query.specs.declared.tree.Conj.{Conj}
 use Rattle.std.specs.Result.{IfOk, IfErr}
-use Rattle.saber_query.specs.Machine.{Symbol, open_sign, close_sign, star_sign, from_word, slide_word, close_bracket, a_name, a_number, comparison, measure, factor, more_column, more_factors, more_terms, item, more_items, unit, more_ands, more_ors, a_window, a_where, a_semicolon, select_word, by_word, semicolon_sign, decl, more_decls, more_names, source, a_second, column, more_columns, a_group, takes, refuses, push, may_lack, all_may_lack, pushed, move, fits, stops, deepens, moved, fate}
+use Rattle.saber_query.specs.Machine.{Symbol, open_sign, close_sign, star_sign, from_word, slide_word, close_bracket, a_name, a_number, comparison, measure, factor, more_column, more_factors, more_terms, item, more_items, unit, more_ands, more_ors, a_window, a_where, a_semicolon, rows_word, select_word, by_word, semicolon_sign, decl, more_decls, more_names, source, a_second, column, more_columns, a_group, body, selects, worded, takes, refuses, push, may_lack, all_may_lack, pushed, move, fits, stops, deepens, moved, fate}
 use Rattle.saber_query.specs.Reading.{Expected, StartsWith, starts_name, starts_number, Reads, Parses}
 use Rattle.saber_query.proofs.Forth.{skipped}
-use Rattle.saber_query.specs.Reading.{Refuses, IsTerminal, Took}
+use Rattle.saber_query.specs.Reading.{Refuses, IsTerminal, Took, StartsWithNoStreamWord}
 
 -- a symbol that takes a token
 pub shift : (x : Symbol) (zs : List Symbol) (t : Token) (old mid : List Token) → push x t ≡ takes zs → old ≡ t ∷ mid → (ys : List Symbol) → fate (x ∷ ys) old ≡ fate (zs ++ ys) mid
@@ -433,11 +435,41 @@ is_end = record { takes = refl; there = refl; only = no_semicolon_sign } where
   no_semicolon_sign (Mark s.Semicolon ∷ ts) h = absurd (h refl)
   no_semicolon_sign (_ ∷ ts) h = refl
 
-pub no_measure : (ts : List Token) → ¬ (StartsWith (Word k.Rows) ts) → ¬ (StartsWith (Word k.Range) ts) → Refuses measure ts
-no_measure [] h h' = tt
-no_measure (Word k.Rows ∷ ts) h h' = absurd (h refl)
-no_measure (Word k.Range ∷ ts) h h' = absurd (h' refl)
-no_measure (_ ∷ ts) h h' = refl
+pub is_rows : IsTerminal rows_word (Word k.Rows)
+is_rows = record { takes = refl; there = refl; only = no_rows_word } where
+  no_rows_word : (ts : List Token) → ¬ (StartsWith (Word k.Rows) ts) → Refuses rows_word ts
+  no_rows_word [] h = tt
+  no_rows_word (Word k.Rows ∷ ts) h = absurd (h refl)
+  no_rows_word (_ ∷ ts) h = refl
+
+pub no_measure : (ts : List Token) → ¬ (StartsWith (Word k.Rows) ts) → ¬ (StartsWith (Word k.Range) ts) → ¬ (StartsWith (Word k.Partition) ts) → Refuses measure ts
+no_measure [] h h' h'' = tt
+no_measure (Word k.Rows ∷ ts) h h' h'' = absurd (h refl)
+no_measure (Word k.Range ∷ ts) h h' h'' = absurd (h' refl)
+no_measure (Word k.Partition ∷ ts) h h' h'' = absurd (h'' refl)
+no_measure (_ ∷ ts) h h' h'' = refl
+
+-- what is asked without a word
+body_as : (d : ℕ) (ts : List Token) → StartsWithNoStreamWord ts → (ys : List Symbol) → fate (body d ∷ ys) ts ≡ fate (selects d ++ ys) ts
+unfolding fate
+body_as d [] h ys = refl
+body_as d (Word k.Select ∷ ts) h ys = refl
+body_as d (Word k.Rstream ∷ ts) h ys = absurd (h.0 refl)
+body_as d (Word k.Istream ∷ ts) h ys = absurd (h.1 refl)
+body_as d (Word k.Dstream ∷ ts) h ys = absurd (h.2 refl)
+body_as d (_ ∷ ts) h ys = refl
+
+pub as_body : (d : ℕ) (w old mid new : List Token) → mid ≡ old → StartsWithNoStreamWord old → Reads (selects d) w mid new → Reads (body d ∷ []) (w ++ []) old new
+as_body d w old mid new e h r = record { words = sym e ∙ r.words ∙ ap (λ z. z ++ new) (sym (append_nil w)); goes = λ ys. body_as d old h ys ∙ ap (fate (selects d ++ ys)) (sym e) ∙ r.goes ys }
+
+pub as_body_fails : {T U : Type 0} (d : ℕ) (g : U → List Token) (f : T → List Token) (e : Stop) (old mid new : List Token) → mid ≡ old → StartsWithNoStreamWord old → Parses (selects d) f (Err e) mid new → Parses (body d ∷ []) g (Err e) old new
+as_body_fails d g f e old mid new eq h p = failed (body d ∷ []) (selects d) g f e old mid new (λ ys. body_as d old h ys ∙ ap (fate (selects d ++ ys)) (sym eq)) p
+
+-- and behind a word
+pub word_takes : (w : StreamWord) (d : ℕ) → push (body d) (Word (stream_keyword w)) ≡ takes (worded d)
+word_takes Rstream d = refl
+word_takes Istream d = refl
+word_takes Dstream d = refl
 
 pub still : (w : Token) (old new : List Token) → new ≡ old → ¬ (StartsWith w new) → ¬ (StartsWith w old)
 still w old new e h g = h (let P : List Token → Type 0 = StartsWith w in subst P (sym e) g)
@@ -496,9 +528,9 @@ pub then_parse : {T : Type 0} (xs zs : List Symbol) (w : List Token) (f : T → 
 then_parse xs zs w f (Ok v) a b c r p = read_then xs zs w (f v) a b c r p
 then_parse xs zs w f (Err e) a b c r p = fail_then xs zs w (λ v. w ++ f v) f e a b c r p
 
--- the words of a query, part by part
-pub select_words : (a b i j f o z : List Token) → a ++ (b ++ ((Word k.Select ∷ (i ++ j)) ++ ((Word k.From ∷ (f ++ o)) ++ z))) ≡ a ++ (b ++ Word k.Select ∷ (i ++ (j ++ Word k.From ∷ (f ++ (o ++ z)))))
-select_words a b i j f o z = ap (λ y. a ++ (b ++ Word k.Select ∷ y)) (append_assoc i j (Word k.From ∷ ((f ++ o) ++ z)) ∙ ap (λ y. i ++ (j ++ Word k.From ∷ y)) (append_assoc f o z))
+-- the words of what is asked, part by part
+pub chosen_words : (i j f o z : List Token) → (Word k.Select ∷ (i ++ j)) ++ ((Word k.From ∷ (f ++ o)) ++ z) ≡ Word k.Select ∷ (i ++ (j ++ Word k.From ∷ (f ++ (o ++ z))))
+chosen_words i j f o z = ap (λ y. Word k.Select ∷ y) (append_assoc i j (Word k.From ∷ ((f ++ o) ++ z)) ∙ ap (λ y. i ++ (j ++ Word k.From ∷ y)) (append_assoc f o z))
 
 pub read_words : (xs : List Symbol) (w v old new : List Token) → w ≡ v → Reads xs w old new → Reads xs v old new
 read_words xs w v old new e r = record { words = r.words ∙ ap (λ z. z ++ new) e; goes = r.goes }

@@ -3,7 +3,7 @@ use Rattle.std.proofs.Common.{◌≡◌, ℕ, List, [], ◌∷◌, ◌++◌, Opt
 use Rattle.saber_query.specs.declared.token.Keyword.TheVariants as k
 use Rattle.saber_query.specs.declared.token.Sign.TheVariants as s
 use Rattle.saber_query.specs.declared.token.Token.{Token}
-use Rattle.saber_query.specs.declared.token.Token.TheVariants.{Word, Mark}
+use Rattle.saber_query.specs.declared.token.Token.TheVariants.{Word, Mark, Number}
 use Rattle.saber_query.specs.declared.tree.Factor.{Factor}
 use Rattle.saber_query.specs.declared.tree.Factor.TheVariants as f
 use Rattle.saber_query.specs.declared.tree.Adding.{Adding}
@@ -14,7 +14,9 @@ use Rattle.saber_query.specs.declared.tree.Expr.{Expr}
 use Rattle.saber_query.specs.declared.tree.Item.{Item}
 use Rattle.saber_query.specs.declared.tree.Item.TheVariants.{Count, Sum, Min, Max, Value}
 use Rattle.saber_query.specs.declared.tree.Measure.{Measure}
-use Rattle.saber_query.specs.declared.tree.Measure.TheVariants.{Rows, Range}
+use Rattle.saber_query.specs.declared.tree.Measure.TheVariants.{Rows, Range, Partition}
+use Rattle.saber_query.specs.declared.tree.StreamWord.{StreamWord}
+use Rattle.saber_query.specs.declared.tree.StreamWord.TheVariants.{Rstream, Istream, Dstream}
 use Rattle.saber_query.specs.declared.tree.Window.{Window}
 use Rattle.saber_query.specs.declared.tree.Source.{Source}
 use Rattle.saber_query.specs.declared.tree.Decl.{Decl}
@@ -23,10 +25,10 @@ use Rattle.saber_query.specs.declared.tree.Keys.{Keys}
 use Rattle.saber_query.specs.declared.tree.Cmp.{Cmp}
 use Rattle.saber_query.specs.declared.tree.Cmp.TheVariants as c
 use Rattle.saber_query.specs.Trees.{Test, negated, enclosed, compare, Ands, no_more, and_also, Ors, no_other, or_else, Tests, Query}
-use Rattle.saber_query.specs.Words.{after_each, name_words, second_words, column_words, factor_words, factors_words, prod_words, adding_sign, terms_words, expr_words, argument_words, item_words, items_words, measure_word, window_words, source_words, second_source_words, cmp_sign, test_words, ands_words, ors_words, where_words, columns_words, group_words, names_words, decl_words, decls_words, last_words, words}
+use Rattle.saber_query.specs.Words.{after_each, name_words, second_words, column_words, factor_words, factors_words, prod_words, adding_sign, terms_words, expr_words, argument_words, item_words, items_words, measure_words, window_words, source_words, second_source_words, cmp_sign, test_words, ands_words, ors_words, where_words, columns_words, by_words, group_words, opened_words, stream_keyword, shut_words, names_words, decl_words, decls_words, last_words, words}
 use Rattle.saber_query.specs.Machine.{Symbol, factor, more_column, more_factors, more_terms, more_items, more_ands, more_ors, a_window, a_where, more_decls, more_names, a_second, more_columns, a_group, takes, refuses, push}
 use Rattle.saber_query.specs.Reading.{Refuses}
-use Rattle.saber_query.proofs.Forth.{EndsExpr, factors_end, terms_end, items_end, cmp_ends, EndsAnds, ands_end, ors_end, at_close, expr_begins, three, four, keys_end, EndsPred, tail_ends, where_ends, second_ends, last_ends}
+use Rattle.saber_query.proofs.Forth.{EndsExpr, factors_end, terms_end, items_end, cmp_ends, EndsAnds, ands_end, ors_end, at_close, expr_begins, three, four, keys_end, EndsPred, EndsAsked, tail_ends, where_ends, second_ends, opened_ends, shut_ends}
 
 -- words in front of what they end at are those of one part alone
 abbrev Single : {X : Type 0} → (X → List Token) → (List Token → Type 0) → Type 0
@@ -167,20 +169,41 @@ items_single = each_single more_items (Mark s.Comma) _ item_words EndsExpr refl 
 
 -- ---- streams and keys
 
-measure_one : (a b : Measure) → measure_word a ≡ measure_word b → a ≡ b
-measure_one Rows Rows e = refl
-measure_one Range Range e = refl
-measure_one _ _ e = cc
+columns_single : (xs ys : List Column) (ts us : List Token) → Refuses more_column ts → Refuses more_column us → Refuses more_columns ts → Refuses more_columns us → columns_words xs ++ ts ≡ columns_words ys ++ us → (xs ≡ ys) × (ts ≡ us)
+columns_single = each_single more_columns (Mark s.Comma) _ column_words (Refuses more_column) refl column_single (λ ts. refl)
+
+-- nothing of a list of columns goes on
+abbrev EndsColumns : List Token → Type 0
+EndsColumns ts = Refuses more_column ts × Refuses more_columns ts
+
+by_single : Single by_words EndsColumns
+by_single x y ts us (h, g) (h', g') e =
+    let d = sym (append_assoc (column_words x.first) (columns_words x.more) ts) ∙ tail _ _ _ _ e ∙ append_assoc (column_words y.first) (columns_words y.more) us in
+    let (a, b) = column_single x.first y.first _ _ (keys_end x.more ts h) (keys_end y.more us h') d in
+    let (a', b') = columns_single x.more y.more ts us h h' g g' b in
+    (same2 (λ (w : Column) (ws : List Column). record { first = w; more = ws }) _ _ _ _ a a', b')
+
+measure_single : (x y : Measure) (ts us : List Token) → measure_words x ++ ts ≡ measure_words y ++ us → (x ≡ y) × (ts ≡ us)
+measure_single Rows Rows ts us e = (refl, tail _ _ _ _ e)
+measure_single Range Range ts us e = (refl, tail _ _ _ _ e)
+measure_single (Partition x) (Partition y) ts us e =
+    let d = sym (append_assoc (by_words x) (Word k.Rows ∷ []) ts) ∙ tail _ _ _ _ e ∙ append_assoc (by_words y) (Word k.Rows ∷ []) us in
+    let (a, b) = by_single x y (Word k.Rows ∷ ts) (Word k.Rows ∷ us) (refl, refl) (refl, refl) d in
+    (ap Partition a, tail _ _ _ _ b)
+measure_single _ _ ts us e = cc
 
 window_single : Single window_words (Refuses a_window)
 window_single None None ts us h h' e = (refl, e)
 window_single None (Some y) ts us h h' e = absurd (clash a_window (Mark s.OpenBracket) _ ts _ refl e h)
 window_single (Some x) None ts us h h' e = absurd (clash a_window (Mark s.OpenBracket) _ us _ refl (sym e) h')
 window_single (Some x) (Some y) ts us h h' e =
-    let m : measure_word x.measure ≡ measure_word y.measure = cc in
+    let ns : List Token = Number x.size ∷ Word k.Slide ∷ Number x.slide ∷ Mark s.CloseBracket ∷ [] in
+    let ms : List Token = Number y.size ∷ Word k.Slide ∷ Number y.slide ∷ Mark s.CloseBracket ∷ [] in
+    let d = sym (append_assoc (measure_words x.measure) ns ts) ∙ tail _ _ _ _ e ∙ append_assoc (measure_words y.measure) ms us in
+    let (a, b) = measure_single x.measure y.measure (ns ++ ts) (ms ++ us) d in
     let n : x.size ≡ y.size = cc in
     let l : x.slide ≡ y.slide = cc in
-    (ap Some (same3 (λ (w : Measure) (i j : ℕ). record { measure = w; size = i; slide = j }) _ _ _ _ _ _ (measure_one x.measure y.measure m) n l), cc)
+    (ap Some (same3 (λ (w : Measure) (i j : ℕ). record { measure = w; size = i; slide = j }) _ _ _ _ _ _ a n l), cc)
 
 source_single : Single source_words (Refuses a_window)
 source_single x y ts us h h' e =
@@ -198,27 +221,45 @@ second_source_single None (Some y) ts us h h' e = absurd (clash a_second (Mark s
 second_source_single (Some x) None ts us h h' e = absurd (clash a_second (Mark s.Comma) _ us _ refl (sym e) h'.1)
 second_source_single (Some x) (Some y) ts us h h' e = let (a, b) = source_single x y ts us h.0 h'.0 (tail _ _ _ _ e) in (ap Some a, b)
 
-columns_single : (xs ys : List Column) (ts us : List Token) → Refuses more_column ts → Refuses more_column us → Refuses more_columns ts → Refuses more_columns us → columns_words xs ++ ts ≡ columns_words ys ++ us → (xs ≡ ys) × (ts ≡ us)
-columns_single = each_single more_columns (Mark s.Comma) _ column_words (Refuses more_column) refl column_single (λ ts. refl)
-
--- nothing of GROUP BY goes on
-abbrev EndsGroup : List Token → Type 0
-EndsGroup ts = Refuses more_column ts × Refuses more_columns ts × Refuses a_group ts
-
-group_single : Single group_words EndsGroup
+group_single : Single group_words EndsAsked
 group_single None None ts us h h' e = (refl, e)
-group_single None (Some y) ts us (h1, h2, h3) h' e = absurd (clash a_group (Word k.Group) _ ts _ refl e h3)
-group_single (Some x) None ts us h (h1, h2, h3) e = absurd (clash a_group (Word k.Group) _ us _ refl (sym e) h3)
-group_single (Some x) (Some y) ts us (h1, h2, h3) (g1, g2, g3) e =
-    let d = sym (append_assoc (column_words x.first) (columns_words x.more) ts) ∙ tail _ _ _ _ (tail _ _ _ _ e) ∙ append_assoc (column_words y.first) (columns_words y.more) us in
-    let (a, b) = column_single x.first y.first _ _ (keys_end x.more ts h1) (keys_end y.more us g1) d in
-    let (a', b') = columns_single x.more y.more ts us h1 g1 h2 g2 b in
-    (ap Some (same2 (λ (w : Column) (ws : List Column). record { first = w; more = ws }) _ _ _ _ a a'), b')
+group_single None (Some y) ts us h h' e = absurd (clash a_group (Word k.Group) _ ts _ refl e h.group)
+group_single (Some x) None ts us h h' e = absurd (clash a_group (Word k.Group) _ us _ refl (sym e) h'.group)
+group_single (Some x) (Some y) ts us h h' e =
+    let (a, b) = by_single x y ts us (h.column, h.columns) (h'.column, h'.columns) (tail _ _ _ _ e) in
+    (ap Some a, b)
+
+-- ---- the word
+
+keyword_one : (v w : StreamWord) → Word (stream_keyword v) ≡ Word (stream_keyword w) → v ≡ w
+keyword_one Rstream Rstream e = refl
+keyword_one Istream Istream e = refl
+keyword_one Dstream Dstream e = refl
+keyword_one _ _ e = cc
+
+no_select : (w : StreamWord) → ¬ (Word k.Select ≡ Word (stream_keyword w))
+no_select Rstream e = cc
+no_select Istream e = cc
+no_select Dstream e = cc
+
+head : (a b : Token) (ts us : List Token) → a ∷ ts ≡ b ∷ us → a ≡ b
+head a b ts us e = cc
+
+opened_single : (o q : Option StreamWord) (ts us : List Token) → opened_words o ++ Word k.Select ∷ ts ≡ opened_words q ++ Word k.Select ∷ us → (o ≡ q) × (ts ≡ us)
+opened_single None None ts us e = (refl, tail _ _ _ _ e)
+opened_single None (Some w) ts us e = absurd (no_select w (head _ _ _ _ e))
+opened_single (Some v) None ts us e = absurd (no_select v (sym (head _ _ _ _ e)))
+opened_single (Some v) (Some w) ts us e = (ap Some (keyword_one v w (head _ _ _ _ e)), tail _ _ _ _ (tail _ _ _ _ (tail _ _ _ _ e)))
 
 last_one : (a b : Bool) → last_words a ≡ last_words b → a ≡ b
 last_one true true e = refl
 last_one false false e = refl
 last_one _ _ e = cc
+
+ended_one : (o q : Option StreamWord) (a b : Bool) → o ≡ q → shut_words o ++ last_words a ≡ shut_words q ++ last_words b → a ≡ b
+ended_one None None a b h e = last_one a b e
+ended_one (Some w) (Some v) a b h e = last_one a b (tail _ _ _ _ e)
+ended_one _ _ a b h e = cc
 
 -- ---- declarations
 
@@ -318,20 +359,23 @@ at_from ts = record { column = refl; factors = refl; terms = refl }
 -- no two trees have the same words
 pub one_tree : (x y : Query) → words x ≡ words y → x ≡ y
 one_tree x y e =
-    let t = tail_ends x.group x.closed in
-    let t' = tail_ends y.group y.closed in
+    let l = shut_ends x.word x.closed in
+    let l' = shut_ends y.word y.closed in
+    let t = tail_ends x.group _ l in
+    let t' = tail_ends y.group _ l' in
     let (w, u) = where_ends x.predicate _ t in
     let (w', u') = where_ends y.predicate _ t' in
     let (e1, r1) = decl_single x.decl y.decl _ _ e in
-    let (e2, r2) = decls_single x.decls y.decls _ _ refl refl r1 in
-    let (e3, r3) = item_single x.item y.item _ _ (items_end x.items _ (at_from _)) (items_end y.items _ (at_from _)) (tail _ _ _ _ r2) in
+    let (e2, r2) = decls_single x.decls y.decls _ _ (opened_ends x.word _) (opened_ends y.word _) r1 in
+    let (e0, r0) = opened_single x.word y.word _ _ r2 in
+    let (e3, r3) = item_single x.item y.item _ _ (items_end x.items _ (at_from _)) (items_end y.items _ (at_from _)) r0 in
     let (e4, r4) = items_single x.items y.items _ _ (at_from _) (at_from _) refl refl r3 in
     let (e5, r5) = source_single x.from y.from _ _ (second_ends x.second _ w) (second_ends y.second _ w') (tail _ _ _ _ r4) in
     let (e6, r6) = second_source_single x.second y.second _ _ (w, u) (w', u') r5 in
     let (e7, r7) = where_single x.predicate y.predicate _ _ t t' r6 in
-    let (e8, r8) = group_single x.group y.group _ _ (last_ends x.closed) (last_ends y.closed) r7 in
-    same3 (λ (p : Decl × List Decl × Item) (q : List Item × Source × Option Source) (r : Option Tests × Option Keys × Bool).
-    record { decl = p.0; decls = p.1; item = p.2; items = q.0; from = q.1; second = q.2; predicate = r.0; group = r.1; closed = r.2 }) _ _ _ _ _ _
+    let (e8, r8) = group_single x.group y.group _ _ l l' r7 in
+    same3 (λ (p : Decl × List Decl × Item) (q : List Item × Source × Option Source) (r : (Option Tests × Option Keys × Bool) × Option StreamWord).
+    record { decl = p.0; decls = p.1; word = r.1; item = p.2; items = q.0; from = q.1; second = q.2; predicate = r.0.0; group = r.0.1; closed = r.0.2 }) _ _ _ _ _ _
     (same3 (λ (a : Decl) (b : List Decl) (c : Item). (a, b, c)) _ _ _ _ _ _ e1 e2 e3)
     (same3 (λ (a : List Item) (b : Source) (c : Option Source). (a, b, c)) _ _ _ _ _ _ e4 e5 e6)
-    (same3 (λ (a : Option Tests) (b : Option Keys) (c : Bool). (a, b, c)) _ _ _ _ _ _ e7 e8 (last_one x.closed y.closed r8))
+    (same2 (λ (a : Option Tests × Option Keys × Bool) (b : Option StreamWord). (a, b)) _ _ _ _ (same3 (λ (a : Option Tests) (b : Option Keys) (c : Bool). (a, b, c)) _ _ _ _ _ _ e7 e8 (ended_one x.word y.word x.closed y.closed e0 r8)) e0)

@@ -1,17 +1,19 @@
 -- What a step of the parser does to the tokens that are left.
 use Rattle.std.specs.Prelude.{◌≡◌, ℕ, ◌≤◌, List, [], ◌∷◌, ◌++◌, map, Option, Some, None, Bool, true, false, Result, Ok, Err}
 use Rattle.saber_query.specs.declared.token.Token.{Token}
-use Rattle.saber_query.specs.declared.token.Token.TheVariants.{Mark, Named, Number}
+use Rattle.saber_query.specs.declared.token.Token.TheVariants.{Word, Mark, Named, Number}
 use Rattle.saber_query.specs.declared.token.Placed.{Placed}
 use Rattle.saber_query.specs.declared.cursor.Tokens.{Tokens}
 use Rattle.saber_query.specs.declared.tree.Cmp.{Cmp}
 use Rattle.saber_query.specs.declared.stop.Stop.{Stop}
 use Rattle.saber_query.specs.declared.stop.Stop.TheVariants.{NoMemory, Syntax, Depth}
 use Rattle.saber_query.specs.declared.token.Sign.TheVariants as s
+use Rattle.saber_query.specs.declared.token.Keyword.TheVariants as k
 use Rattle.saber_query.specs.declared.tree.Adding.{Adding}
+use Rattle.saber_query.specs.declared.tree.StreamWord.{StreamWord}
 use Rattle.saber_query.specs.declared.tree.Select.{Select}
 use Rattle.saber_query.specs.Trees.{depth, query_of}
-use Rattle.saber_query.specs.Words.{cmp_sign, adding_sign, words, IsSyntax, IsDeep}
+use Rattle.saber_query.specs.Words.{cmp_sign, adding_sign, stream_keyword, words, IsSyntax, IsDeep}
 use Rattle.saber_query.specs.Machine.{Symbol, stops, deepens, fate, push, takes, refuses, may_lack}
 
 abbrev pub token_of : Placed → Token
@@ -62,6 +64,17 @@ StartsWithNoCmp ts =
 abbrev pub TookCmp : Option Cmp → List Token → List Token → Type 0
 TookCmp (Some c) old new = old ≡ Mark (cmp_sign c) ∷ new
 TookCmp None old new = (new ≡ old) × StartsWithNoCmp old
+
+-- the tokens begin with none of RSTREAM, ISTREAM and DSTREAM
+abbrev pub StartsWithNoStreamWord : List Token → Type 0
+StartsWithNoStreamWord ts =
+    ¬ (StartsWith (Word k.Rstream) ts)
+    × ¬ (StartsWith (Word k.Istream) ts)
+    × ¬ (StartsWith (Word k.Dstream) ts)
+
+abbrev pub TookStreamWord : Option StreamWord → List Token → List Token → Type 0
+TookStreamWord (Some w) old new = old ≡ Word (stream_keyword w) ∷ new
+TookStreamWord None old new = (new ≡ old) × StartsWithNoStreamWord old
 
 abbrev pub Expected : {T : Type 0} → Token → Result T Stop → List Token → List Token → Type 0
 Expected w (Ok u) old new = old ≡ w ∷ new

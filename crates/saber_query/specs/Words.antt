@@ -3,6 +3,7 @@ use Rattle.std.specs.Prelude.{◌≡◌, ◌⊎◌, ℕ, suc, ◌≤◌, List, [
 use Rattle.std.specs.declared.alloc.Global.{Global}
 use Rattle.saber_query.specs.declared.tree.Unit.{Unit as Unit_tree}
 use Rattle.saber_query.specs.declared.tree.Conj.{Conj}
+use Rattle.saber_query.specs.declared.token.Keyword.{Keyword}
 use Rattle.saber_query.specs.declared.token.Keyword.TheVariants as k
 use Rattle.saber_query.specs.declared.token.Sign.{Sign}
 use Rattle.saber_query.specs.declared.token.Sign.TheVariants as s
@@ -19,16 +20,20 @@ use Rattle.saber_query.specs.declared.tree.Expr.{Expr}
 use Rattle.saber_query.specs.declared.tree.Item.{Item}
 use Rattle.saber_query.specs.declared.tree.Item.TheVariants.{Count, Sum, Min, Max, Value}
 use Rattle.saber_query.specs.declared.tree.Measure.{Measure}
-use Rattle.saber_query.specs.declared.tree.Measure.TheVariants.{Rows, Range}
+use Rattle.saber_query.specs.declared.tree.Measure.TheVariants.{Rows, Range, Partition}
 use Rattle.saber_query.specs.declared.tree.Window.{Window}
 use Rattle.saber_query.specs.declared.tree.Source.{Source}
 use Rattle.saber_query.specs.declared.tree.Decl.{Decl}
 use Rattle.saber_query.specs.declared.tree.Keys.{Keys}
+use Rattle.saber_query.specs.declared.tree.StreamWord.{StreamWord}
+use Rattle.saber_query.specs.declared.tree.StreamWord.TheVariants.{Rstream, Istream, Dstream}
+use Rattle.saber_query.specs.declared.select.Chosen.{Chosen}
+use Rattle.saber_query.specs.declared.select.Body.{Body}
 use Rattle.saber_query.specs.declared.select.Ends.{Ends}
 use Rattle.saber_query.specs.declared.tree.Cmp.{Cmp}
 use Rattle.saber_query.specs.declared.tree.Cmp.TheVariants as c
 use Rattle.saber_query.specs.Real.{AllReal}
-use Rattle.saber_query.specs.Trees.{Test, negated, enclosed, compare, Ands, no_more, and_also, Ors, no_other, or_else, Tests, Both, Query, depth, test_of, both_of, ands_of, ors_of, tests_of}
+use Rattle.saber_query.specs.Trees.{Test, negated, enclosed, compare, Ands, no_more, and_also, Ors, no_other, or_else, Tests, Both, Asked, Query, depth, test_of, both_of, ands_of, ors_of, tests_of}
 
 -- parts that each have this word before
 abbrev pub after_each : {X : Type 0} → Token → (X → List Token) → List X → List Token
@@ -80,13 +85,21 @@ item_words (Value e) = expr_words e
 abbrev pub items_words : List Item → List Token
 items_words is = after_each (Mark s.Comma) item_words is
 
-abbrev pub measure_word : Measure → Token
-measure_word Rows = Word k.Rows
-measure_word Range = Word k.Range
+abbrev pub columns_words : List Column → List Token
+columns_words cs = after_each (Mark s.Comma) column_words cs
+
+-- behind GROUP and PARTITION
+abbrev pub by_words : Keys → List Token
+by_words g = Word k.By ∷ (column_words g.first ++ columns_words g.more)
+
+abbrev pub measure_words : Measure → List Token
+measure_words Rows = Word k.Rows ∷ []
+measure_words Range = Word k.Range ∷ []
+measure_words (Partition g) = Word k.Partition ∷ (by_words g ++ Word k.Rows ∷ [])
 
 abbrev pub window_words : Option Window → List Token
 window_words None = []
-window_words (Some w) = Mark s.OpenBracket ∷ measure_word w.measure ∷ Number w.size ∷ Word k.Slide ∷ Number w.slide ∷ Mark s.CloseBracket ∷ []
+window_words (Some w) = Mark s.OpenBracket ∷ (measure_words w.measure ++ Number w.size ∷ Word k.Slide ∷ Number w.slide ∷ Mark s.CloseBracket ∷ [])
 
 abbrev pub source_words : Source → List Token
 source_words f = Named f.name ∷ window_words f.window
@@ -133,12 +146,9 @@ abbrev pub where_words : Option Tests → List Token
 where_words None = []
 where_words (Some t) = Word k.Where ∷ tests_words t
 
-abbrev pub columns_words : List Column → List Token
-columns_words cs = after_each (Mark s.Comma) column_words cs
-
 abbrev pub group_words : Option Keys → List Token
 group_words None = []
-group_words (Some g) = Word k.Group ∷ Word k.By ∷ (column_words g.first ++ columns_words g.more)
+group_words (Some g) = Word k.Group ∷ by_words g
 
 abbrev pub names_words : List (List ℕ) → List Token
 names_words ns = after_each (Mark s.Comma) name_words ns
@@ -158,6 +168,20 @@ abbrev pub last_words : Bool → List Token
 last_words false = []
 last_words true = Mark s.Semicolon ∷ []
 
+abbrev pub stream_keyword : StreamWord → Keyword
+stream_keyword Rstream = k.Rstream
+stream_keyword Istream = k.Istream
+stream_keyword Dstream = k.Dstream
+
+-- before SELECT, and behind all but the last semicolon
+abbrev pub opened_words : Option StreamWord → List Token
+opened_words None = []
+opened_words (Some w) = Word (stream_keyword w) ∷ Mark s.Open ∷ []
+
+abbrev pub shut_words : Option StreamWord → List Token
+shut_words None = []
+shut_words (Some w) = Mark s.Close ∷ []
+
 -- from SELECT to before FROM
 abbrev pub outputs_words : Item → List Item → List Token
 outputs_words i is = Word k.Select ∷ (item_words i ++ items_words is)
@@ -166,20 +190,43 @@ outputs_words i is = Word k.Select ∷ (item_words i ++ items_words is)
 abbrev pub streams_words : Source → Option Source → List Token
 streams_words f o = Word k.From ∷ (source_words f ++ second_source_words o)
 
--- from WHERE on
-abbrev pub ends_words : Option Tests → Option Keys → Bool → List Token
-ends_words p g b = where_words p ++ (group_words g ++ last_words b)
+-- WHERE and GROUP BY
+abbrev pub ends_words : Option Tests → Option Keys → List Token
+ends_words p g = where_words p ++ group_words g
 
 -- the same of what was taken there
 abbrev pub words_of_ends : Ends → List Token
-words_of_ends e = ends_words (option_map tests_of e.predicate) e.group e.closed
+words_of_ends e = ends_words (option_map tests_of e.predicate) e.group
+
+-- from SELECT on
+abbrev pub asked_words : Asked → List Token
+asked_words a = Word k.Select ∷ (item_words a.item ++ (items_words a.items ++ Word k.From ∷ (source_words a.from ++ (second_source_words a.second ++ (where_words a.predicate ++ group_words a.group)))))
+
+-- what was taken there
+abbrev pub asked_of : Chosen → Asked
+asked_of c = record {
+  item = c.outputs.item;
+  items = c.outputs.items;
+  from = c.streams.from;
+  second = c.streams.second;
+  predicate = option_map tests_of c.ends.predicate;
+  group = c.ends.group;
+}
+
+-- with the word around it
+abbrev pub body_words : Option StreamWord → Asked → List Token
+body_words o a = opened_words o ++ (asked_words a ++ shut_words o)
+
+abbrev pub words_of_body : Body → List Token
+words_of_body b = body_words b.word (asked_of b.chosen)
 
 abbrev pub words : Query → List Token
 words q =
-    decl_words q.decl ++ (decls_words q.decls
+    decl_words q.decl ++ (decls_words q.decls ++ (opened_words q.word
     ++ Word k.Select ∷ (item_words q.item ++ (items_words q.items
     ++ Word k.From ∷ (source_words q.from ++ (second_source_words q.second
-    ++ (where_words q.predicate ++ (group_words q.group ++ last_words q.closed)))))))
+    ++ (where_words q.predicate ++ (group_words q.group
+    ++ (shut_words q.word ++ last_words q.closed)))))))))
 
 -- ---- what contracts cite
 

@@ -1,8 +1,10 @@
-// Streams of FROM and columns of GROUP BY from tokens.
+// Streams of FROM, and columns of GROUP BY and PARTITION BY, from tokens.
 ghost use Rattle.std.specs.Prelude.{◌≡◌, ◌∷◌, ◌++◌, []};
+ghost use Rattle.saber_query.specs.declared.token.Keyword.TheVariants.{Rows};
+ghost use Rattle.saber_query.specs.declared.token.Token.TheVariants.{Word};
 ghost use Rattle.saber_query.specs.declared.tree.Keys.{Keys};
 ghost use Rattle.saber_query.specs.Machine as m;
-ghost use Rattle.saber_query.specs.Words.{measure_word, window_words, source_words, second_source_words, column_words, columns_words, group_words};
+ghost use Rattle.saber_query.specs.Words.{measure_words, window_words, source_words, second_source_words, column_words, columns_words, by_words, group_words};
 ghost use Rattle.saber_query.specs.Reading.{coming, Parses};
 
 use crate::cursor::Tokens;
@@ -12,9 +14,8 @@ use crate::token::{Keyword, Sign};
 use crate::tree::{Column, Columns, Keys, Measure, Source, Window};
 use std::alloc::Global;
 
-fn measure(tokens: &mut Tokens) -> Result<Measure, Stop>
-    ensures { Parses (m.measure ∷ []) (λ w. measure_word w ∷ []) result (coming tokens.old)
-        (coming tokens.new) }
+fn measure(alloc: Global, tokens: &mut Tokens) -> Result<Measure, Stop>
+    ensures { Parses (m.measure ∷ []) measure_words result (coming tokens.old) (coming tokens.new) }
 {
     if tokens.take_word(Keyword::Rows) {
         return Ok(Measure::Rows);
@@ -22,16 +23,19 @@ fn measure(tokens: &mut Tokens) -> Result<Measure, Stop>
     if tokens.take_word(Keyword::Range) {
         return Ok(Measure::Range);
     }
+    if tokens.take_word(Keyword::Partition) {
+        return Ok(Measure::Partition(partition(alloc, tokens)?));
+    }
     Err(Stop::Syntax)
 }
 
-fn window(tokens: &mut Tokens) -> Result<Option<Window>, Stop>
+fn window(alloc: Global, tokens: &mut Tokens) -> Result<Option<Window>, Stop>
     ensures { Parses (m.a_window ∷ []) window_words result (coming tokens.old) (coming tokens.new) }
 {
     if !tokens.take_mark(Sign::OpenBracket) {
         return Ok(None);
     }
-    let measure = measure(tokens)?;
+    let measure = measure(alloc, tokens)?;
     let size = number(tokens)?;
     tokens.expect_word(Keyword::Slide)?;
     let slide = number(tokens)?;
@@ -43,13 +47,13 @@ fn window(tokens: &mut Tokens) -> Result<Option<Window>, Stop>
     }))
 }
 
-pub(crate) fn source(tokens: &mut Tokens) -> Result<Source, Stop>
+pub(crate) fn source(alloc: Global, tokens: &mut Tokens) -> Result<Source, Stop>
     ensures { Parses (m.source ∷ []) source_words result (coming tokens.old) (coming tokens.new) }
 {
     let Some(name) = tokens.take_name() else {
         return Err(Stop::Syntax);
     };
-    match window(tokens) {
+    match window(alloc, tokens) {
         Ok(window) => Ok(Source { name, window }),
         Err(stop) => {
             name.let_go();
@@ -58,14 +62,14 @@ pub(crate) fn source(tokens: &mut Tokens) -> Result<Source, Stop>
     }
 }
 
-pub(crate) fn second(tokens: &mut Tokens) -> Result<Option<Source>, Stop>
+pub(crate) fn second(alloc: Global, tokens: &mut Tokens) -> Result<Option<Source>, Stop>
     ensures { Parses (m.a_second ∷ []) second_source_words result (coming tokens.old)
         (coming tokens.new) }
 {
     if !tokens.take_mark(Sign::Comma) {
         return Ok(None);
     }
-    let second = source(tokens)?;
+    let second = source(alloc, tokens)?;
     Ok(Some(second))
 }
 
@@ -95,16 +99,33 @@ fn columns(alloc: Global, tokens: &mut Tokens) -> Result<Columns, Stop>
     Ok(Columns::from_vec(items))
 }
 
-fn keys(alloc: Global, tokens: &mut Tokens) -> Result<Keys, Stop>
-    ensures { Parses (m.column ∷ m.more_columns ∷ [])
-        (λ (k : Keys). column_words k.first ++ columns_words k.more) result (coming tokens.old)
-        (coming tokens.new) }
+// BY and its columns.
+fn by_columns(alloc: Global, tokens: &mut Tokens) -> Result<Keys, Stop>
+    ensures { Parses (m.by_word ∷ m.column ∷ m.more_columns ∷ []) by_words result
+        (coming tokens.old) (coming tokens.new) }
 {
+    tokens.expect_word(Keyword::By)?;
     let first = column(tokens)?;
     match columns(alloc, tokens) {
         Ok(more) => Ok(Keys { first, more }),
         Err(stop) => {
             first.let_go();
+            Err(stop)
+        }
+    }
+}
+
+// What follows PARTITION, before the size.
+fn partition(alloc: Global, tokens: &mut Tokens) -> Result<Keys, Stop>
+    ensures { Parses (m.by_word ∷ m.column ∷ m.more_columns ∷ m.rows_word ∷ [])
+        (λ (g : Keys). by_words g ++ Word Rows ∷ []) result (coming tokens.old)
+        (coming tokens.new) }
+{
+    let keys = by_columns(alloc, tokens)?;
+    match tokens.expect_word(Keyword::Rows) {
+        Ok(()) => Ok(keys),
+        Err(stop) => {
+            keys.let_go();
             Err(stop)
         }
     }
@@ -116,9 +137,5 @@ pub(crate) fn group(alloc: Global, tokens: &mut Tokens) -> Result<Option<Keys>, 
     if !tokens.take_word(Keyword::Group) {
         return Ok(None);
     }
-    tokens.expect_word(Keyword::By)?;
-    match keys(alloc, tokens) {
-        Ok(keys) => Ok(Some(keys)),
-        Err(stop) => Err(stop),
-    }
+    Ok(Some(by_columns(alloc, tokens)?))
 }

@@ -2,11 +2,11 @@
 ghost use Rattle.std.specs.Prelude.{◌≡◌, ◌<◌, length, OnSome, IsTrue, ◌↔◌, ◌∷◌, [], map};
 ghost use Rattle.saber_query.specs.declared.token.Token.TheVariants.{Word, Mark};
 ghost use Rattle.saber_query.specs.Machine.{Symbol};
-ghost use Rattle.saber_query.specs.Reading.{coming, token_of, Took, TookName, TookNumber, TookAdding, TookCmp, Expected, IsTerminal, Parses, StartsWith, starts_name, starts_number};
+ghost use Rattle.saber_query.specs.Reading.{coming, token_of, Took, TookName, TookNumber, TookAdding, TookCmp, TookStreamWord, Expected, IsTerminal, Parses, StartsWith, starts_name, starts_number};
 
 use crate::stop::Stop;
 use crate::token::{Keyword, Name, Placed, Sign, Token};
-use crate::tree::{Adding, Cmp};
+use crate::tree::{Adding, Cmp, StreamWord};
 use std::collections::VecDeque;
 
 #[derive(Drop)]
@@ -143,6 +143,21 @@ impl Tokens {
         }
         if self.take_mark(Sign::AtLeast) {
             return Some(Cmp::AtLeast);
+        }
+        None
+    }
+
+    pub(crate) fn take_stream_word(&mut self) -> Option<StreamWord>
+        ensures took { TookStreamWord result (coming self.old) (coming self.new) }
+    {
+        if self.take_word(Keyword::Rstream) {
+            return Some(StreamWord::Rstream);
+        }
+        if self.take_word(Keyword::Istream) {
+            return Some(StreamWord::Istream);
+        }
+        if self.take_word(Keyword::Dstream) {
+            return Some(StreamWord::Dstream);
         }
         None
     }

@@ -70,6 +70,13 @@ impl Expr {
     }
 }
 
+impl Keys {
+    /// Lets the columns go.
+    pub(crate) fn let_go(self) {
+        drop(self);
+    }
+}
+
 impl Item {
     /// Lets the item go.
     pub(crate) fn let_go(self) {

@@ -27,5 +27,5 @@ pub use text::parse;
 pub use token::{Keyword, Name, Placed, Sign, Token};
 pub use tree::{
     Adding, Cmp, Column, Columns, Conj, Decl, Decls, Expr, Factor, Factors, Item, Items, Keys,
-    Measure, Names, Pred, Prod, Select, Source, Term, Terms, Unit, Window,
+    Measure, Names, Pred, Prod, Select, Source, StreamWord, Term, Terms, Unit, Window,
 };

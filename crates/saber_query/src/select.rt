@@ -7,8 +7,9 @@ ghost use Rattle.saber_query.specs.declared.token.Keyword.TheVariants.{From};
 ghost use Rattle.saber_query.specs.declared.tree.Expr.{Expr};
 ghost use Rattle.saber_query.specs.declared.select.Outputs.{Outputs};
 ghost use Rattle.saber_query.specs.declared.select.Streams.{Streams};
+ghost use Rattle.saber_query.specs.declared.select.Chosen.{Chosen};
 ghost use Rattle.saber_query.specs.Machine as m;
-ghost use Rattle.saber_query.specs.Words.{argument_words, item_words, items_words, where_words, last_words, words, outputs_words, streams_words, words_of_ends};
+ghost use Rattle.saber_query.specs.Words.{argument_words, item_words, items_words, where_words, last_words, words, outputs_words, streams_words, words_of_ends, asked_words, asked_of, words_of_body};
 ghost use Rattle.saber_query.specs.Trees.{tests_of, where_depth, depth, query_of};
 ghost use Rattle.saber_query.specs.Reading.{coming, Parses, QueryGives};
 
@@ -20,7 +21,7 @@ use crate::letting::{let_declared_go, let_outputs_go, let_predicate_go, let_stre
 use crate::predicate::pred;
 use crate::stop::Stop;
 use crate::token::{Keyword, Sign};
-use crate::tree::{Expr, Item, Items, Keys, Pred, Select, Source};
+use crate::tree::{Expr, Item, Items, Keys, Pred, Select, Source, StreamWord};
 use std::alloc::Global;
 
 // What follows COUNT.
@@ -127,14 +128,14 @@ struct Streams {
     second: Option<Source>,
 }
 
-fn take_streams(tokens: &mut Tokens) -> Result<Streams, Stop>
+fn take_streams(alloc: Global, tokens: &mut Tokens) -> Result<Streams, Stop>
     ensures { Parses (m.from_word ∷ m.source ∷ m.a_second ∷ [])
         (λ (s : Streams). streams_words s.from s.second) result (coming tokens.old)
         (coming tokens.new) }
 {
     tokens.expect_word(Keyword::From)?;
-    let from = source(tokens)?;
-    let second = second(tokens)?;
+    let from = source(alloc, tokens)?;
+    let second = second(alloc, tokens)?;
     Ok(Streams { from, second })
 }
 
@@ -143,29 +144,103 @@ fn take_streams(tokens: &mut Tokens) -> Result<Streams, Stop>
 struct Ends {
     predicate: Option<Pred>,
     group: Option<Keys>,
-    closed: bool,
 }
 
 fn take_ends(alloc: Global, tokens: &mut Tokens, left: u32) -> Result<Ends, Stop>
-    ensures parses { Parses (m.a_where left ∷ m.a_group ∷ m.a_semicolon ∷ []) words_of_ends
-        result (coming tokens.old) (coming tokens.new) }
+    ensures parses { Parses (m.a_where left ∷ m.a_group ∷ []) words_of_ends result
+        (coming tokens.old) (coming tokens.new) }
     ensures depth { IfOk result (λ e. where_depth (option_map tests_of e.predicate) ≤ left) }
 {
     let predicate = condition(alloc, tokens, left)?;
     match group(alloc, tokens) {
-        Ok(group) => {
-            let closed = semicolon(tokens);
-            Ok(Ends {
-                predicate,
-                group,
-                closed,
-            })
-        }
+        Ok(group) => Ok(Ends { predicate, group }),
         Err(stop) => {
             let_predicate_go(predicate);
             Err(stop)
         }
     }
+}
+
+// What stands from SELECT on, but for the last semicolon.
+#[derive(Drop)]
+struct Chosen {
+    outputs: Outputs,
+    streams: Streams,
+    ends: Ends,
+}
+
+// Lets what is chosen go.
+fn let_chosen_go(chosen: Chosen) {
+    drop(chosen);
+}
+
+fn take_chosen(alloc: Global, tokens: &mut Tokens, left: u32) -> Result<Chosen, Stop>
+    ensures parses { Parses (m.selects left) (λ (c : Chosen). asked_words (asked_of c)) result
+        (coming tokens.old) (coming tokens.new) }
+    ensures depth { IfOk result (λ c. where_depth (option_map tests_of c.ends.predicate) ≤ left) }
+{
+    let outputs = take_outputs(alloc, tokens)?;
+    let streams = match take_streams(alloc, tokens) {
+        Ok(streams) => streams,
+        Err(stop) => {
+            let_outputs_go(outputs.item, outputs.items);
+            return Err(stop);
+        }
+    };
+    match take_ends(alloc, tokens, left) {
+        Ok(ends) => Ok(Chosen {
+            outputs,
+            streams,
+            ends,
+        }),
+        Err(stop) => {
+            let_outputs_go(outputs.item, outputs.items);
+            let_streams_go(streams.from, streams.second);
+            Err(stop)
+        }
+    }
+}
+
+// The same with the word before it, if there is one, in whose parentheses it stands then.
+#[derive(Drop)]
+struct Body {
+    word: Option<StreamWord>,
+    chosen: Chosen,
+}
+
+// What stands in parentheses behind a word.
+fn in_parentheses(alloc: Global, tokens: &mut Tokens, left: u32) -> Result<Chosen, Stop>
+    ensures parses { Parses (m.worded left)
+        (λ (c : Chosen). Mark Open ∷ (asked_words (asked_of c) ++ Mark Close ∷ [])) result
+        (coming tokens.old) (coming tokens.new) }
+    ensures depth { IfOk result (λ c. where_depth (option_map tests_of c.ends.predicate) ≤ left) }
+{
+    tokens.expect_mark(Sign::Open)?;
+    let chosen = take_chosen(alloc, tokens, left)?;
+    match tokens.expect_mark(Sign::Close) {
+        Ok(()) => Ok(chosen),
+        Err(stop) => {
+            let_chosen_go(chosen);
+            Err(stop)
+        }
+    }
+}
+
+fn take_body(alloc: Global, tokens: &mut Tokens, left: u32) -> Result<Body, Stop>
+    ensures parses { Parses (m.body left ∷ []) words_of_body result (coming tokens.old)
+        (coming tokens.new) }
+    ensures depth { IfOk result (λ b. where_depth (option_map tests_of b.chosen.ends.predicate)
+        ≤ left) }
+{
+    let Some(word) = tokens.take_stream_word() else {
+        let chosen = take_chosen(alloc, tokens, left)?;
+        return Ok(Body { word: None, chosen });
+    };
+    let chosen = in_parentheses(alloc, tokens, left)?;
+    Ok(Body {
+        word: Some(word),
+        chosen,
+    })
 }
 
 fn select(alloc: Global, tokens: &mut Tokens, left: u32) -> Result<Select, Stop>
@@ -181,40 +256,30 @@ fn select(alloc: Global, tokens: &mut Tokens, left: u32) -> Result<Select, Stop>
             return Err(stop);
         }
     };
-    let outputs = match take_outputs(alloc, tokens) {
-        Ok(outputs) => outputs,
+    let body = match take_body(alloc, tokens, left) {
+        Ok(body) => body,
         Err(stop) => {
             let_declared_go(decl, decls);
             return Err(stop);
         }
     };
-    let streams = match take_streams(tokens) {
-        Ok(streams) => streams,
-        Err(stop) => {
-            let_declared_go(decl, decls);
-            let_outputs_go(outputs.item, outputs.items);
-            return Err(stop);
-        }
-    };
-    let ends = match take_ends(alloc, tokens, left) {
-        Ok(ends) => ends,
-        Err(stop) => {
-            let_declared_go(decl, decls);
-            let_outputs_go(outputs.item, outputs.items);
-            let_streams_go(streams.from, streams.second);
-            return Err(stop);
-        }
-    };
+    let closed = semicolon(tokens);
+    let Chosen {
+        outputs,
+        streams,
+        ends,
+    } = body.chosen;
     Ok(Select {
         decl,
         decls,
+        word: body.word,
         item: outputs.item,
         items: outputs.items,
         from: streams.from,
         second: streams.second,
         predicate: ends.predicate,
         group: ends.group,
-        closed: ends.closed,
+        closed,
     })
 }
 

@@ -118,11 +118,11 @@ fn parse_placed(alloc: Global, text: &[u8], placed: Vec<Placed>) -> Result<Query
 /// The grammar is this project's profile of CQL 2006; braces repeat, square brackets without quotes are optional:
 ///
 /// ```text
-/// Query  = Decl { Decl } Select [ ";" ]
+/// Query  = Decl { Decl } ( Select | Stream "(" Select ")" ) [ ";" ]
 /// Decl   = STREAM Name "(" Name { "," Name } ")" ";"
 /// Select = SELECT Item { "," Item } FROM From [ "," From ] [ WHERE Pred ] [ GROUP BY Col { "," Col } ]
 /// Item   = COUNT "(" "*" ")" | ( SUM | MIN | MAX ) "(" Expr ")" | Expr
-/// From   = Name [ "[" ( ROWS | RANGE ) Number SLIDE Number "]" ]
+/// From   = Name [ "[" ( ROWS | RANGE | PARTITION BY Col { "," Col } ROWS ) Number SLIDE Number "]" ]
 /// Pred   = Conj { OR Conj }
 /// Conj   = Unit { AND Unit }
 /// Unit   = NOT Unit | "(" Pred ")" | Expr Cmp Expr
@@ -131,6 +131,7 @@ fn parse_placed(alloc: Global, text: &[u8], placed: Vec<Placed>) -> Result<Query
 /// Prod   = Factor { "*" Factor }
 /// Factor = Col | Number | "-" Number
 /// Col    = Name [ "." Name ]
+/// Stream = RSTREAM | ISTREAM | DSTREAM
 /// ```
 pub fn parse(alloc: Global, text: &[u8]) -> Result<Query, QueryFault>
     ensures { ParseGives result text.now }

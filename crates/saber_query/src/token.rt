@@ -5,7 +5,7 @@ ghost use Rattle.saber_query.specs.Tokens.{keyword_among, keyword_of, word_of};
 
 use std::marker::Model;
 
-/// The reserved words, in any case. The last four are reserved for partitioned windows and for relations as streams.
+/// The reserved words, in any case.
 #[derive(Clone, Copy, PartialEq, Eq)]
 pub enum Keyword {
     Stream,

@@ -121,15 +121,17 @@ pub enum Item {
     Value(Expr),
 }
 
-/// What a window is measured in: rows, or ticks of the timestamp.
-#[derive(Clone, Copy, PartialEq, Eq)]
+/// What a window is measured in: rows, ticks of the timestamp, or rows that are alike in some columns.
+#[derive(Drop)]
 pub enum Measure {
     Rows,
     Range,
+    Partition(Keys),
 }
 
-/// `[ROWS size SLIDE slide]` or `[RANGE size SLIDE slide]`, in any range that a number has.
-#[derive(Clone, Copy, PartialEq, Eq)]
+/// `[ROWS size SLIDE slide]`, `[RANGE size SLIDE slide]` or `[PARTITION BY columns ROWS size SLIDE slide]`, in any
+/// range that a number has.
+#[derive(Drop)]
 pub struct Window {
     pub measure: Measure,
     pub size: u64,
@@ -211,7 +213,7 @@ impl Columns {
     }
 }
 
-/// The columns of GROUP BY.
+/// The columns of GROUP BY or PARTITION BY.
 #[derive(Drop)]
 pub struct Keys {
     pub first: Column,
@@ -321,11 +323,21 @@ impl Decls {
     }
 }
 
+/// The word before a SELECT in parentheses, which makes a stream of the answers of its windows: all of each window, those
+/// that the window before it lacks, or those of the window before it that it lacks.
+#[derive(Clone, Copy, Debug, PartialEq, Eq)]
+pub enum StreamWord {
+    Rstream,
+    Istream,
+    Dstream,
+}
+
 /// A whole query, its declarations included. `closed` says whether a semicolon ends it.
 #[derive(Drop)]
 pub struct Select {
     pub decl: Decl,
     pub decls: Decls,
+    pub word: Option<StreamWord>,
     pub item: Item,
     pub items: Items,
     pub from: Source,

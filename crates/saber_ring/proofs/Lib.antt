@@ -18,5 +18,4 @@ pub mod Lasts
 pub mod Cores
 pub mod Carries
 pub mod Calls
-pub mod Adding
 pub mod NoEvents

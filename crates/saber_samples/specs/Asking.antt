@@ -11,15 +11,15 @@ use Rattle.saber_plan.specs.declared.plans.Plan.{Plan}
 use Rattle.saber_plan.specs.declared.plans.Shape.{Shape}
 use Rattle.saber_plan.specs.declared.plans.Shape.TheVariants.{Join}
 use Rattle.saber_plan.specs.Trees.{Test, Tests, both, no_more, either, no_other, tree_of}
-use Rattle.saber_plan.specs.Checked.{IsChecked, columns_on}
+use Rattle.saber_plan.specs.Checked.{IsChecked, IsPlain, columns_on}
 
--- a checked query of this shape, over one stream of so many columns
+-- a checked, plain query of this shape, over one stream of so many columns
 abbrev pub IsOfOne : Shape → ℕ → Plan → Type 0
-IsOfOne shape n p = IsChecked (tree_of p) × ((tree_of p).shape ≡ shape) × (columns_on (tree_of p).streams Left ≡ n)
+IsOfOne shape n p = IsChecked (tree_of p) × ((tree_of p).shape ≡ shape) × (columns_on (tree_of p).streams Left ≡ n) × IsPlain (tree_of p)
 
--- a checked join of two streams of so many columns each
+-- a checked, plain join of two streams of so many columns each
 abbrev pub IsJoinOf : ℕ → Plan → Type 0
-IsJoinOf n p = IsChecked (tree_of p) × ((tree_of p).shape ≡ Join) × (columns_on (tree_of p).streams Left ≡ n) × (columns_on (tree_of p).streams Right ≡ n)
+IsJoinOf n p = IsChecked (tree_of p) × ((tree_of p).shape ≡ Join) × (columns_on (tree_of p).streams Left ≡ n) × (columns_on (tree_of p).streams Right ≡ n) × IsPlain (tree_of p)
 
 -- a checked query of so many streams
 abbrev pub HasStreams : ℕ → Plan → Type 0

@@ -1,5 +1,5 @@
 // Blocks of rows.
-ghost use Rattle.std.specs.Prelude.{◌≡◌, IfOk};
+ghost use Rattle.std.specs.Prelude.{◌≡◌, IfOk, []};
 ghost use Rattle.saber_samples.specs.Filling.{CanCome, IsBehind, HasKeyed, HasPairs};
 ghost use Rattle.saber_samples.specs.Standing.{IsAlone};
 
@@ -66,6 +66,7 @@ pub fn keyed_block(
     ensures before { IfOk result (λ b. b.0.before ≡ before) }
     ensures ended { IfOk result (λ b. b.0.ended ≡ ended) }
     ensures alone { IfOk result (λ b. IsAlone b.0) }
+    ensures places { IfOk result (λ b. b.0.places.items ≡ []) }
     ensures fit { IfOk result (λ b. CanCome HasKeyed before b.0.rows) }
     ensures mark { IfOk result (λ b. IsBehind before b.0.rows b.1) }
 {
@@ -76,6 +77,7 @@ pub fn keyed_block(
         earlier: Earlier::none(alloc, before),
         before,
         rows,
+        places: Vec::new(alloc),
         ended,
     };
     Ok((block, after))
@@ -94,6 +96,7 @@ pub fn sided_block(
     ensures before { IfOk result (λ b. b.0.before ≡ before) }
     ensures ended { IfOk result (λ b. b.0.ended ≡ ended) }
     ensures alone { IfOk result (λ b. IsAlone b.0) }
+    ensures places { IfOk result (λ b. b.0.places.items ≡ []) }
     ensures fit { IfOk result (λ b. CanCome HasPairs before b.0.rows) }
     ensures mark { IfOk result (λ b. IsBehind before b.0.rows b.1) }
 {
@@ -104,6 +107,7 @@ pub fn sided_block(
         earlier: Earlier::none(alloc, before),
         before,
         rows,
+        places: Vec::new(alloc),
         ended,
     };
     Ok((block, after))

@@ -10,10 +10,10 @@ use Rattle.saber_plan.specs.declared.plans.Item.TheVariants.{Count, Sum, Min, Ma
 use Rattle.saber_plan.specs.declared.plans.Shape.TheVariants.{Select}
 use Rattle.saber_plan.specs.Trees.{Tree}
 use Rattle.saber_plan.specs.Rows.{RowFits}
-use Rattle.saber_plan.specs.Checked.{ItemFits, columns_on}
+use Rattle.saber_plan.specs.Checked.{named_columns, ItemFits, columns_on}
 use Rattle.saber_plan.specs.Given.{IsRowOf}
 use Rattle.saber_laws.specs.Plans.{NoWindow}
-use Rattle.saber_plan.specs.Windows.{Frame, unwindowed, mark_after, ending, closed_count, begun_count, kind_of, from}
+use Rattle.saber_plan.specs.Windows.{Frame, unwindowed, has_windows, mark_after, ending, closed_count, begun_count, kind_of, from}
 use Rattle.saber_plan.specs.Answers.{by_shape, frame, selected}
 use Rattle.saber_plan.specs.Parts.{Part, part_lines}
 use Rattle.saber_plan.specs.Tasks.{numbered, is_complete}
@@ -37,8 +37,8 @@ all_shown zs keys [] h = tt
 all_shown zs keys (i ∷ is) h = (shown_case zs keys i h.0, all_shown zs keys is h.1)
 
 -- the items of a selection, by what a checked plan says of them
-pub items_shown : (q : Tree) (zs : List ℤ) → q.shape ≡ Select → AllByRecursion (ItemFits q.shape (widths zs []) q.keys) q.items → AllByRecursion (CanShow zs) q.items
-items_shown q zs e h = all_shown zs q.keys q.items (subst (λ s. AllByRecursion (ItemFits s (widths zs []) q.keys) q.items) e h)
+pub items_shown : (q : Tree) (zs : List ℤ) → q.shape ≡ Select → AllByRecursion (ItemFits q.shape (widths zs []) (named_columns q)) q.items → AllByRecursion (CanShow zs) q.items
+items_shown q zs e h = all_shown zs (named_columns q) q.items (subst (λ s. AllByRecursion (ItemFits s (widths zs []) (named_columns q)) q.items) e h)
 
 -- ---- rows
 
@@ -72,6 +72,6 @@ shares_are q m back rows ended e f =
       closing = none_of_kind is_closing (frame q) a b p f j;
       pending = none_of_kind is_pending (frame q) a b p f j;
       opening = none_of_kind is_opening (frame q) a b p f j;
-      lines = ap (λ s. by_shape s (selected q rows) complete complete) (sym e) j;
+      lines = (ap (λ g. cond (has_windows g) complete (selected q rows)) (sym f) ∙ ap (λ s. by_shape s (cond (has_windows (frame q)) complete (selected q rows)) complete complete) (sym e)) j;
       closed = (none_closed b ∙ ap (λ g. closed_count g b) (sym f)) j;
     }

@@ -1,6 +1,7 @@
 // What a selection does with tasks and what they give.
 use crate::select::Select;
 use saber_fragment::{Block, Operator, Text};
+use saber_laws::{open_goes_on, pieces_print, shares_make_piece};
 use saber_plan::NoMemory;
 use std::alloc::Global;
 
@@ -17,7 +18,7 @@ impl Operator for Select<'_> {
     type Store = NoStore;
 
     ghost use Rattle.std.specs.Prelude.{◌≡◌};
-    ghost use Rattle.std.specs.FinMap.{empty};
+    ghost use Rattle.saber_plan.specs.Tasks.{nothing_kept};
     ghost use Rattle.saber_plan.specs.Trees.{tree_of};
     ghost use Rattle.saber_plan.specs.Shares.{shares_between};
     ghost use Rattle.saber_select.specs.Texts.{IsTextOf, text_alone};
@@ -26,9 +27,9 @@ impl Operator for Select<'_> {
 
     ghost has_seen = { λ select. IsTextOf (tree_of select) };
 
-    ghost held = { λ _. empty };
+    ghost held = { λ _. nothing_kept };
 
-    ghost staying = { λ _. empty };
+    ghost staying = { λ _. nothing_kept };
 
     ghost has_taken = { λ _ _ _. Unit {0} };
 
@@ -60,6 +61,10 @@ impl Operator for Select<'_> {
         piece: Text,
         out: &mut Vec<u8>,
     ) -> Result<(), NoMemory> {
+        self.has_no_window();
+        pieces_print();
+        open_goes_on();
+        shares_make_piece();
         out.extend_from_slice(piece.as_slice())?;
         Ok(())
     }

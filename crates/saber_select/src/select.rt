@@ -4,7 +4,7 @@ ghost use Rattle.std.specs.List.{AllByRecursion};
 ghost use Rattle.saber_plan.specs.declared.plans.Shape.TheVariants as shapes;
 ghost use Rattle.saber_plan.specs.Trees.{tree_of};
 ghost use Rattle.saber_plan.specs.Values as v;
-ghost use Rattle.saber_plan.specs.Checked.{IsChecked};
+ghost use Rattle.saber_plan.specs.Checked.{IsChecked, IsPlain};
 ghost use Rattle.saber_plan.specs.Given.{IsRowOf};
 ghost use Rattle.saber_plan.specs.Answers.{selected};
 ghost use Rattle.saber_laws.specs.Plans.{NoWindow};
@@ -31,7 +31,7 @@ impl<'a> Model for Select<'a> {
     ghost use Rattle.saber_plan.specs.declared.plans.Shape.TheVariants as shapes;
     ghost use Rattle.saber_plan.specs.declared.plans.Plan.{Plan};
     ghost use Rattle.saber_plan.specs.Trees.{tree_of};
-    ghost use Rattle.saber_plan.specs.Checked.{IsChecked};
+    ghost use Rattle.saber_plan.specs.Checked.{IsChecked, IsPlain};
     ghost use Rattle.saber_plan.specs.contracts.predicates.Pred as e;
     ghost use Rattle.std.specs.Coded.{codes};
 
@@ -41,7 +41,7 @@ impl<'a> Model for Select<'a> {
 
     ghost view = { λ s. s.plan.now };
 
-    ghost invariant = { λ s. IsChecked (tree_of s.plan.now) × ((tree_of s.plan.now).shape ≡ shapes.Select) };
+    ghost invariant = { λ s. IsChecked (tree_of s.plan.now) × ((tree_of s.plan.now).shape ≡ shapes.Select) × IsPlain (tree_of s.plan.now) };
 }
 
 impl<'a> Select<'a> {
@@ -49,6 +49,7 @@ impl<'a> Select<'a> {
     pub fn new(plan: &'a Plan) -> Select<'a>
         requires checked { IsChecked (tree_of plan.now) }
         requires select { (tree_of plan.now).shape ≡ shapes.Select }
+        requires plain { IsPlain (tree_of plan.now) }
         ensures { result ≡ plan.now }
     {
         Select { plan }
@@ -57,6 +58,7 @@ impl<'a> Select<'a> {
     /// It selects rows, and its stream has no window.
     pub(crate) fn has_no_window(&self)
         ensures select { (tree_of self.now).shape ≡ shapes.Select }
+        ensures plain { IsPlain (tree_of self.now) }
         ensures window { NoWindow (tree_of self.now) }
     {
         let _plan = &self.plan;

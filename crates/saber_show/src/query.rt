@@ -1,13 +1,13 @@
 // Queries as texts.
 ghost use Rattle.std.specs.Prelude.{◌≡◌, ◌++◌, OnOk, IfOk, option_map};
 ghost use Rattle.saber_query.specs.Spelling.{spaced, spelled, HasTokens};
-ghost use Rattle.saber_show.specs.Rest.{rest_words};
+ghost use Rattle.saber_show.specs.Rest.{chosen_words, body_words, rest_words};
 ghost use Rattle.saber_query.specs.Words as w;
 ghost use Rattle.saber_query.specs.Trees.{query_of, tests_of};
 
 use crate::declaration::{declared, decls};
 use crate::predicate::condition;
-use crate::select::{group, item, items, second, source};
+use crate::select::{group, item, items, opened, second, shut, source};
 use crate::spell::{mark, word};
 use saber_query::{Keyword, Query, Select, Sign, spelled_tokens_are_read_back};
 use std::alloc::{AllocError as NoMemory, Global};
@@ -45,11 +45,28 @@ fn last(out: &mut Vec<u8>, closed: bool) -> Result<(), NoMemory>
 #[tactic(auto, using(crate::proofs::SpellLemmas::joining))]
 fn ends(alloc: Global, out: &mut Vec<u8>, select: &Select) -> Result<(), NoMemory>
     ensures { OnOk result (out.new.items ≡ out.old.items ++ spaced
-        (w.ends_words (option_map tests_of select.now.predicate) select.now.group
-        select.now.closed)) }
+        (w.ends_words (option_map tests_of select.now.predicate) select.now.group)) }
 {
     condition(alloc, out, &select.predicate)?;
-    group(out, &select.group)?;
+    group(out, &select.group)
+}
+
+// What stands from SELECT on, but for the last semicolon.
+fn asked(alloc: Global, out: &mut Vec<u8>, select: &Select) -> Result<(), NoMemory>
+    ensures { OnOk result (out.new.items ≡ out.old.items ++ spaced (chosen_words select.now)) }
+{
+    outputs(alloc, out, select)?;
+    streams(alloc, out, select)?;
+    ends(alloc, out, select)
+}
+
+// The same in its word's parentheses, and the last semicolon.
+fn body(alloc: Global, out: &mut Vec<u8>, select: &Select) -> Result<(), NoMemory>
+    ensures { OnOk result (out.new.items ≡ out.old.items ++ spaced (body_words select.now)) }
+{
+    opened(out, select.word)?;
+    asked(alloc, out, select)?;
+    shut(out, select.word)?;
     last(out, select.closed)
 }
 
@@ -59,9 +76,7 @@ fn rest(alloc: Global, out: &mut Vec<u8>, select: &Select) -> Result<(), NoMemor
 {
     declared(out, &select.decl)?;
     decls(out, select.decls.as_slice())?;
-    outputs(alloc, out, select)?;
-    streams(alloc, out, select)?;
-    ends(alloc, out, select)
+    body(alloc, out, select)
 }
 
 #[tactic(auto, unfolding(saber_query::specs::Spelling::spell), using(crate::proofs::RestLemmas::rest_is))]

@@ -6,7 +6,7 @@ ghost use Rattle.saber_query.specs.Words as w;
 
 use crate::expression::{column, expr};
 use crate::spell::{mark, name, number, word};
-use saber_query::{Column, Expr, Item, Keys, Keyword, Measure, Sign, Source, Window};
+use saber_query::{Column, Expr, Item, Keys, Keyword, Measure, Sign, Source, StreamWord, Window};
 use std::alloc::{AllocError as NoMemory, Global};
 
 #[tactic(auto, using(crate::proofs::SpellLemmas::joining))]
@@ -62,22 +62,47 @@ pub(crate) fn items(alloc: Global, out: &mut Vec<u8>, others: &[Item]) -> Result
 }
 
 #[tactic(auto, using(crate::proofs::SpellLemmas::joining))]
-fn measure(out: &mut Vec<u8>, measure: Measure) -> Result<(), NoMemory>
-    ensures { OnOk result (out.new.items ≡ out.old.items ++ spaced (w.measure_word measure ∷ [])) }
+fn columns(out: &mut Vec<u8>, others: &[Column]) -> Result<(), NoMemory>
+    ensures { OnOk result (out.new.items ≡ out.old.items ++ spaced (w.columns_words others.now)) }
+{
+    for other in others {
+        mark(out, Sign::Comma)?;
+        column(out, other)?;
+    }
+    Ok(())
+}
+
+#[tactic(auto, using(crate::proofs::SpellLemmas::joining))]
+fn by_columns(out: &mut Vec<u8>, keys: &Keys) -> Result<(), NoMemory>
+    ensures { OnOk result (out.new.items ≡ out.old.items ++ spaced (w.by_words keys.now)) }
+{
+    word(out, Keyword::By)?;
+    column(out, &keys.first)?;
+    columns(out, keys.more.as_slice())
+}
+
+#[tactic(auto, using(crate::proofs::SpellLemmas::joining))]
+fn measure(out: &mut Vec<u8>, measure: &Measure) -> Result<(), NoMemory>
+    ensures { OnOk result (out.new.items ≡ out.old.items ++ spaced (w.measure_words measure.now)) }
 {
     match measure {
         Measure::Rows => word(out, Keyword::Rows),
         Measure::Range => word(out, Keyword::Range),
+        Measure::Partition(keys) => {
+            word(out, Keyword::Partition)?;
+            by_columns(out, keys)?;
+            word(out, Keyword::Rows)
+        }
     }
 }
 
 #[tactic(auto, using(crate::proofs::SpellLemmas::joining))]
-fn window(alloc: Global, out: &mut Vec<u8>, window: Option<Window>) -> Result<(), NoMemory>
-    ensures { OnOk result (out.new.items ≡ out.old.items ++ spaced (w.window_words window)) }
+fn window(alloc: Global, out: &mut Vec<u8>, window: &Option<Window>) -> Result<(), NoMemory>
+    ensures { OnOk result (out.new.items ≡ out.old.items ++ spaced (w.window_words window.now)) }
 {
     if let Some(inner) = window {
         mark(out, Sign::OpenBracket)?;
-        measure(out, inner.measure)?;
+        measure(out, &inner.measure)?;
         number(alloc, out, inner.size)?;
         word(out, Keyword::Slide)?;
         number(alloc, out, inner.slide)?;
@@ -91,7 +116,7 @@ pub(crate) fn source(alloc: Global, out: &mut Vec<u8>, source: &Source) -> Resul
     ensures { OnOk result (out.new.items ≡ out.old.items ++ spaced (w.source_words source.now)) }
 {
     name(out, &source.name)?;
-    window(alloc, out, source.window)
+    window(alloc, out, &source.window)
 }
 
 #[tactic(auto, using(crate::proofs::SpellLemmas::joining))]
@@ -110,25 +135,43 @@ pub(crate) fn second(
 }
 
 #[tactic(auto, using(crate::proofs::SpellLemmas::joining))]
-fn columns(out: &mut Vec<u8>, others: &[Column]) -> Result<(), NoMemory>
-    ensures { OnOk result (out.new.items ≡ out.old.items ++ spaced (w.columns_words others.now)) }
-{
-    for other in others {
-        mark(out, Sign::Comma)?;
-        column(out, other)?;
-    }
-    Ok(())
-}
-
-#[tactic(auto, using(crate::proofs::SpellLemmas::joining))]
 pub(crate) fn group(out: &mut Vec<u8>, group: &Option<Keys>) -> Result<(), NoMemory>
     ensures { OnOk result (out.new.items ≡ out.old.items ++ spaced (w.group_words group.now)) }
 {
     if let Some(keys) = group {
         word(out, Keyword::Group)?;
-        word(out, Keyword::By)?;
-        column(out, &keys.first)?;
-        columns(out, keys.more.as_slice())?;
+        by_columns(out, keys)?;
+    }
+    Ok(())
+}
+
+fn stream_keyword(word: StreamWord) -> Keyword
+    ensures { result ≡ w.stream_keyword word }
+{
+    match word {
+        StreamWord::Rstream => Keyword::Rstream,
+        StreamWord::Istream => Keyword::Istream,
+        StreamWord::Dstream => Keyword::Dstream,
+    }
+}
+
+#[tactic(auto, using(crate::proofs::SpellLemmas::joining))]
+pub(crate) fn opened(out: &mut Vec<u8>, stream: Option<StreamWord>) -> Result<(), NoMemory>
+    ensures { OnOk result (out.new.items ≡ out.old.items ++ spaced (w.opened_words stream)) }
+{
+    if let Some(inner) = stream {
+        word(out, stream_keyword(inner))?;
+        mark(out, Sign::Open)?;
+    }
+    Ok(())
+}
+
+#[tactic(auto, using(crate::proofs::SpellLemmas::joining))]
+pub(crate) fn shut(out: &mut Vec<u8>, stream: Option<StreamWord>) -> Result<(), NoMemory>
+    ensures { OnOk result (out.new.items ≡ out.old.items ++ spaced (w.shut_words stream)) }
+{
+    if stream.is_some() {
+        mark(out, Sign::Close)?;
     }
     Ok(())
 }

@@ -50,6 +50,9 @@ impl Front {
         Ok(())
     }
 
+    /// Lets the parts go.
+    pub fn let_go(self) {}
+
     /// The queue of them: one step for each, and none is owed.
     pub fn into_queue<L: Ledger>(
         self,

@@ -1,6 +1,7 @@
 //! The arithmetic of windows: which windows have a point or a row, and how many windows the rows so
-//! far have begun and closed. Nothing here takes memory or refuses, and two calls alone have a loop: `free_of` over blocks, and `run_end`
-//! over timestamps, few of which it looks at. Everything that a query does with windows stands on these calls.
+//! far have begun and closed. Nothing here takes memory or refuses, and two calls alone have loops:
+//! `free_of` over blocks, and `run_end` over timestamps, few of which it looks at. Everything that a
+//! query does with windows stands on these calls.
 #![tactic(auto)]
 
 mod counts;

@@ -5,7 +5,7 @@ use Rattle.saber_io.specs.Outside.{appended}
 use Rattle.saber_plan.specs.Inputs.{Input}
 use Rattle.saber_plan.specs.Trees.{Tree}
 use Rattle.saber_plan.specs.Answers.{text}
-use Rattle.saber_plan.specs.Tasks.{Parts, upto}
+use Rattle.saber_plan.specs.Tasks.{Kept, upto}
 use Rattle.saber_core.specs.Works.{IsPieceOrMark}
 use Rattle.saber_assembly.specs.declared.stage.Stage.{Stage}
 use Rattle.saber_assembly.specs.declared.stage.State.TheVariants.{Running, SinkFailed, NoMemory}
@@ -24,7 +24,7 @@ apart e = cc
 unlike : NoMemory ≡ SinkFailed → ⊥
 unlike e = cc
 
-module _ {O P S K : Type 0} (plan : O → Tree) (is_of : O → P → Input → ℕ → ℕ → Type 0) (held : S → Parts) (taken : O → S → Input → Type 0) (written : K → Option (List ℕ)) (faults : K → ℕ)
+module _ {O P S K : Type 0} (plan : O → Tree) (is_of : O → P → Input → ℕ → ℕ → Type 0) (held : S → Kept) (taken : O → S → Input → Type 0) (written : K → Option (List ℕ)) (faults : K → ℕ)
     (op : O) (told : Told O) (k : ℕ) (old new : Stage S K) (suits : Suits op told) (is : IsStageOf plan (seen held written faults) taken (first_tasks told k) k false old) where
   abbrev KeepsAt : O → ℕ → Input → Start → Stage S K → Type 0
   KeepsAt z n r start s = Keeps (plan z) n r start (taken z s.store) (seen held written faults s)

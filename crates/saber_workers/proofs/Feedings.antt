@@ -6,7 +6,7 @@ use Rattle.saber_plan.specs.Windows.{last_mark}
 use Rattle.saber_plan.specs.Tasks.{cut}
 use Rattle.saber_plan.specs.Needs.{free}
 use Rattle.saber_laws.proofs.TaskCutLaws.{upto-upto}
-use Rattle.saber_laws.proofs.GrowLaws.{free-upto, task_rows-upto}
+use Rattle.saber_laws.proofs.GrowLaws.{free-upto, task_rows-upto, places-upto}
 use Rattle.saber_fragment.specs.declared.blocks.Block.{Block}
 use Rattle.saber_fragment.specs.declared.blocks.Earlier.{Earlier}
 use Rattle.saber_fragment.specs.Drafts.{EndWith, CanStart, Sight, own_sight, fed, CanFeed, IsWhole, IsSightOf}
@@ -49,6 +49,7 @@ module _ {O D : Type 0} (plan : O → Tree) (has_seen : O → D → Sight → Ty
     earlier = subst (λ (z : Input). EndWith z.rows b.earlier) (upto-upto told.size (input_of told) (u + 1) u (before_next u)) is.block.earlier;
     before = is.block.before ∙ ap last_mark (upto-upto told.size (input_of told) (u + 1) u (before_next u));
     rows = is.block.rows ∙ task_rows-upto told.size (input_of told) (u + 1) u (le_refl (u + 1));
+    places = is.block.places ∙ places-upto (plan told.operator) told.size (input_of told) (u + 1) u (le_refl (u + 1));
     ended = is.block.ended ∙ ap (λ (z : Input). z.ended) (upto-upto told.size (input_of told) (u + 1) (u + 1) (le_refl (u + 1)));
   }
 

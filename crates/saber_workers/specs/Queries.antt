@@ -2,7 +2,7 @@
 use Rattle.std.specs.Prelude.{◌≡◌, ℕ, Bool, false, List, take, Option}
 use Rattle.saber_plan.specs.Inputs.{Input}
 use Rattle.saber_plan.specs.Trees.{Tree}
-use Rattle.saber_plan.specs.Tasks.{Parts, cut, upto}
+use Rattle.saber_plan.specs.Tasks.{Kept, cut, upto}
 use Rattle.saber_fragment.specs.declared.blocks.Block.{Block}
 use Rattle.saber_fragment.specs.declared.blocks.Earlier.{Earlier}
 use Rattle.saber_fragment.specs.Drafts.{EndWith, Sight}
@@ -36,7 +36,7 @@ module _ {O D : Type 0} (plan : O → Tree) (has_seen : O → D → Sight → Ty
     abbrev pub FeedsBlock : D → Block → Bool → D → Type 0
     FeedsBlock old block fed new = Feeds first_tasks (first_needed plan) (IsBlockOf plan) (Suits op) (HasBlocks op) old block fed new
 
-module _ {O S K P : Type 0} (plan : O → Tree) (is_of : O → P → Input → ℕ → ℕ → Type 0) (held : S → Parts)
+module _ {O S K P : Type 0} (plan : O → Tree) (is_of : O → P → Input → ℕ → ℕ → Type 0) (held : S → Kept)
     (taken : O → S → Input → Type 0) (written : K → Option (List ℕ)) (faults : K → ℕ) (op : O) where
   -- the piece is of the task that comes next to the stage, which runs
   abbrev pub IsNextPiece : Stage S K → Option P → Type 0

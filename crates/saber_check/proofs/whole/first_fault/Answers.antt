@@ -1,9 +1,9 @@
-use Rattle.std.proofs.Common.{◌≡◌, ℕ, ◌+◌, List, [], Option, None, arith, ap, ◌∙◌, refl}
+use Rattle.std.proofs.Common.{◌≡◌, ℕ, ◌+◌, List, [], Option, None, arith, ap, subst, ◌∙◌, refl}
 use Rattle.saber_check.specs.declared.fault.Fault.{Fault}
 use Rattle.saber_check.specs.declared.walk.Walk.{Walk}
 use Rattle.saber_check.specs.Names.{decls}
 use Rattle.saber_query.specs.Trees.{Query, query_of}
-use Rattle.saber_check.specs.Widths.{decl_width, item_width, source_width, second_source_width, where_width, group_width, span}
+use Rattle.saber_check.specs.Widths.{decl_width, item_width, source_width, second_source_width, where_width, opened_width, group_width, span}
 use Rattle.saber_check.specs.Least.{Visits, each, least, earlier}
 use Rattle.saber_check.specs.Faults.{decl_faults, item_faults, items, source_faults, second_part_faults, where_faults, group_part_faults, faults, select_at, from_at, second_at, where_at, group_at}
 use Rattle.saber_check.proofs.Lemmas.{least_append, least_none, earlier_none}
@@ -18,7 +18,7 @@ skipped a b n i x e h v = (omega (arith, v.place), v.least ∙ ap (λ y. earlier
 
 whole : (q : Query) (a b c d e f g h i : Walk) → a.index ≡ 0 → a.least ≡ None →
     Visits a b (decl_width q.decl + span decl_width q.decls) (each decl_width (decl_faults q) 0 a.index (decls q)) →
-    Visits b c 2 [] →
+    Visits b c (2 + opened_width q.word) [] →
     Visits c d (item_width q.item + span item_width q.items) (each item_width (item_faults q) 0 c.index (items q)) →
     Visits d e 1 [] →
     Visits e f (source_width q.from) (source_faults q e.index q.from) →
@@ -29,7 +29,7 @@ whole : (q : Query) (a b c d e f g h i : Walk) → a.index ≡ 0 → a.least ≡
 unfolding faults earlier
 whole q a b c d e f g h i p l v0 v1 v2 v3 v4 v5 v6 v7 =
     let r0 = part a b _ 0 (λ n. each decl_width (decl_faults q) 0 n (decls q)) None p l v0 in
-    let r1 = skipped b c 2 _ _ r0.0 r0.1 v1 in
+    let r1 = skipped b c (2 + opened_width q.word) _ _ r0.0 r0.1 v1 in
     let k1 : c.index ≡ select_at q + 1 = omega (arith, r1.0) in
     let r2 = part c d _ (select_at q + 1) (λ n. each item_width (item_faults q) 0 n (items q)) _ k1 r1.1 v2 in
     let r3 = skipped d e 1 _ _ r2.0 r2.1 v3 in
@@ -41,5 +41,8 @@ whole q a b c d e f g h i p l v0 v1 v2 v3 v4 v5 v6 v7 =
     let r7 = part h i _ (group_at q) (group_part_faults q) _ r6.0 r6.1 v7 in
     simp least_append r7.1
 
+opening : (a b : Walk) (m n : ℕ) → m ≡ n → Visits a b (2 + m) [] → Visits a b (2 + n) []
+opening a b m n e v = subst (λ k. Visits a b (2 + k) []) e v
+
 pub returns : goal.returns
-returns c = whole (query_of c.args.query.now) _ _ _ _ _ _ _ _ _ refl refl c.decls.ensures c.skip.ensures c.items.ensures c.skip-2.ensures c.source.ensures c.second_part.ensures c.where_part.ensures c.group_part.ensures
+returns c = whole (query_of c.args.query.now) _ _ _ _ _ _ _ _ _ refl refl c.decls.ensures (opening _ _ _ _ c.opened_words.ensures c.skip.ensures) c.items.ensures c.skip-2.ensures c.source.ensures c.second_part.ensures c.where_part.ensures c.group_part.ensures

@@ -2,6 +2,3 @@ use Rattle.saber_engine.proofs.fed_engine.run_shape.Given as goal
 
 abbrev pub ghosts-run_fed : goal.ghosts-run_fed
 ghosts-run_fed g a = record { sizes = a.sizes.now; faults = g.F.Feed.faults a.feed.now }
-
-abbrev pub ghosts-run_fed-2 : goal.ghosts-run_fed-2
-ghosts-run_fed-2 g a = record { sizes = a.sizes.now; faults = g.F.Feed.faults a.feed.now }

@@ -1,8 +1,8 @@
-use Rattle.std.proofs.Common.{◌≡◌, ℕ, List, [], ◌++◌, false, refl, sym, ◌∙◌, ap, subst}
+use Rattle.std.proofs.Common.{◌≡◌, ℕ, List, [], ◌++◌, false, refl, sym, ◌∙◌, ap, subst, Vec, Global}
 use Rattle.saber_plan.specs.declared.rows.Row.{Row}
 use Rattle.saber_plan.specs.Given.{RowsFit}
 use Rattle.saber_plan.specs.Windows.{mark_after}
-use Rattle.saber_plan.specs.Shares.{shares_here}
+use Rattle.saber_plan.specs.Shares.{shares_here, handed_here}
 use Rattle.saber_plan.specs.Inputs.{Input}
 use Rattle.saber_fragment.specs.declared.blocks.Block.{Block}
 use Rattle.saber_fragment.specs.declared.blocks.Earlier.{Earlier}
@@ -34,28 +34,30 @@ still_seen q b n r x y e none s = record {
   before_is = s.before_is;
   rows_are = s.rows_are;
   ended_is = s.ended_is;
+  places_are = s.places_are;
   gives = (λ j. shares_here q (e j) ([] ++ none j) b.rows b.ended) ∙ s.gives;
+  hands = (λ j. handed_here q (e j) ([] ++ none j) b.rows b.ended) ∙ s.hands;
 }
 
-abbrev empty_block : Block → Earlier → List Row → Block
-empty_block b earlier rows = record { number = 0; first = 0; earlier = earlier; before = b.before; rows = rows; ended = false }
+abbrev empty_block : Block → Earlier → List Row → Vec ℕ Global → Block
+empty_block b earlier rows places = record { number = 0; first = 0; earlier = earlier; before = b.before; rows = rows; places = places; ended = false }
 
 pub feed-requires : goal.feed-requires
 feed-requires g c =
     let b = c.args.own.now in
-    (own_sight b, c.in_ok-draft.ensures, nothing (g.O.Operator.plan c.args.operator.now) b (empty_block b c.none.result c.new.result) c.requires.fits refl c.new.ensures)
+    (own_sight b, c.in_ok-draft.ensures, nothing (g.O.Operator.plan c.args.operator.now) b (empty_block b c.none.result c.new.result c.new-2.result) c.requires.fits refl c.new.ensures)
 
 pub finish-requires : goal.finish-requires
 finish-requires g c =
     let b = c.args.own.now in
     let q = g.O.Operator.plan c.args.operator.now in
-    let n = empty_block b c.none.result c.new.result in
+    let n = empty_block b c.none.result c.new.result c.new-2.result in
     (fed (own_sight b) n, c.in_ok-feed.ensures (own_sight b) c.in_ok-draft.ensures (nothing q b n c.requires.fits refl c.new.ensures), still_whole q b n c.requires.fits refl c.new.ensures)
 
 pub returns : goal.returns
 returns g c r x y sight =
     let b = c.args.own.now in
     let q = g.O.Operator.plan c.args.operator.now in
-    let n = empty_block b c.none.result c.new.result in
+    let n = empty_block b c.none.result c.new.result c.new-2.result in
     c.in_ok-piece.ensures (fed (own_sight b) n) r x y (c.in_ok-feed.ensures (own_sight b) c.in_ok-draft.ensures (nothing q b n c.requires.fits refl c.new.ensures)) (still_whole q b n c.requires.fits refl c.new.ensures)
     (still_seen q b n r x y refl c.new.ensures sight)

@@ -15,13 +15,13 @@ returns-in-Some-clause-keeps g c n r start t kept e =
     let new = seen g.O.Operator.held g.K.Sink.written g.K.Sink.faults c.absorb_piece.new.self in
     let x = cut n r old.k in let y = cut n r (old.k + 1) in
     let piece : IsPieceAt n r old.k of = subst (λ o. IfSome o (λ p. IsPieceAt n r old.k (g.O.Operator.is_of c.args.operator.now p))) c.in-Some.is e in
-    let next : Follows q old.parts (g.O.Operator.has_taken c.args.operator.now c.args.self.now.store) of r x y =
+    let next : Follows q old.kept (g.O.Operator.has_taken c.args.operator.now c.args.self.now.store) of r x y =
     follows q n r start old (g.O.Operator.has_taken c.args.operator.now c.args.self.now.store) of t (c.cuts_rise.ensures n r old.k (old.k + 1) (omega arith)) kept c.requires.running piece in
-    stepped c.cuts_rise.ensures c.text_goes_on.ensures c.open_goes_on.ensures c.shares_make_piece.ensures q n r start old new c.absorb_piece.result t
+    stepped c.cuts_rise.ensures c.text_goes_on.ensures q n r start old new c.absorb_piece.result t
     (subst (After q n r start old) c.requires.running kept.after)
     (record {
       written = λ d. c.absorb_piece.ensures.written d r x y next;
-      left = λ d. c.absorb_piece.ensures.left d r x y next;
+      leaves = λ d. c.absorb_piece.ensures.left d r x y next;
       rises = c.absorb_piece.ensures.rises;
       stopped = c.absorb_piece.ensures.stopped;
       stays = c.absorb_piece.ensures.stays;

@@ -64,8 +64,8 @@ returns c = record {
       let noted = pushed_ok c.note.result c.is_err.result _ c.if-is_err.false c.is_err.ensures.value c.note.ensures in
       let back : LooksBack q s.task (xs ++ c.args.rows) (a.number + 1) c.note.new.lasts = noted q s.task xs a.number b f.whole looked fit f.few in
       let near = is_near q s had has a xs c.args.before c.args.rows f c.look_back-first.result is (near_end a.number c.look_back-first.result a.room (sym c.too_wide.ensures ∙ c.in_default.is)) in
-      let block : Block = record { number = a.number; first = c.look_back-first.result; earlier = c.none.result; before = c.args.before; rows = c.args.rows; ended = false } in
-      (is_next q s had has a xs c.args.before c.args.rows f block refl refl refl refl is (near_end a.number c.look_back-first.result a.room (sym c.too_wide.ensures ∙ c.in_default.is)) c.none.ensures.before c.none.ensures.rows, given_cuts q s had has a xs c.args.before c.args.rows f c.needs_stay.ensures c.note.new.lasts back near);
+      let block : Block = record { number = a.number; first = c.look_back-first.result; earlier = c.none.result; before = c.args.before; rows = c.args.rows; places = c.new-places.result; ended = false } in
+      (is_next q s had has a xs c.args.before c.args.rows f block refl refl refl refl is (near_end a.number c.look_back-first.result a.room (sym c.too_wide.ensures ∙ c.in_default.is)) c.none.ensures.before c.none.ensures.rows c.new-places.ensures.items, given_cuts q s had has a xs c.args.before c.args.rows f c.needs_stay.ensures c.note.new.lasts back near);
   same = λ b e. refl;
   stays = record { reader = refl; all = λ e. e; fault = λ side e. e };
   read = λ side e. cc;

@@ -1,12 +1,13 @@
-use Rattle.std.proofs.Common.{refl, ◌∙◌}
+use Rattle.std.proofs.Common.{refl, ◌∙◌, ap}
 use Rattle.saber_plan.specs.Trees.{tree_of}
+use Rattle.saber_plan.specs.Tasks.{by_windows}
 use Rattle.saber_plan.specs.Windows.{no_rows}
 use Rattle.saber_group.proofs.Opened.{holds_nil}
 use Rattle.saber_group.proofs.RunKeeping.{none_closed, none_begun, nothing_held}
 use Rattle.saber_group.proofs.operator.GroupOperator.empty_store.Goals as goal
 
 pub returns-clause-held : goal.returns-clause-held
-returns-clause-held c = nothing_held (record { windows = c.new.result; begun = 0 }) c.new.ensures.next refl
+returns-clause-held c = ap by_windows (nothing_held (record { windows = c.new.result; begun = 0 }) c.new.ensures.next refl)
 
 pub returns-clause-taken : goal.returns-clause-taken
 returns-clause-taken c =

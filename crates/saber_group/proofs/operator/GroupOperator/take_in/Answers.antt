@@ -1,9 +1,10 @@
 use Rattle.std.proofs.Common.{◌++◌, sym, ◌∙◌, ap}
 use Rattle.saber_plan.specs.Trees.{tree_of}
 use Rattle.saber_plan.specs.Inputs.{arrived}
-use Rattle.saber_plan.specs.Tasks.{written_by, left_by}
+use Rattle.saber_plan.specs.Tasks.{by_windows}
+use Rattle.saber_plan.specs.KeptFacts.{plain_way, alike_kept}
 use Rattle.saber_group.specs.declared.run_stores.RunStore.{RunStore}
-use Rattle.saber_group.proofs.RunKeeping.{MarkLaws, held_is, written_is, old_rows, new_rows, comes, taken_after, text_after}
+use Rattle.saber_group.proofs.RunKeeping.{MarkLaws, held_is, added_is, old_rows, new_rows, comes, taken_after, text_after}
 use Rattle.saber_group.proofs.operator.GroupOperator.take_in.Goals as goal
 
 pub take_piece-requires : goal.take_piece-requires
@@ -41,9 +42,8 @@ returns-clause-stays c r x y f =
     let new : RunStore = record { windows = c.take_piece.new.store; begun = c.begun_below-begun.result } in
     let w = c.has_window.ensures in
     let went = c.in_ok-take_piece.ensures (old_rows q r x y s p f) (new_rows q r x y s p f) (arrived r y).ended (comes q r x y s p f laws n n_is) in
-    held_is q w.group _ new (taken_after q r x y s p f laws n n_is new c.new-text.result.items c.take_piece.new.out.items c.begun_below-begun.ensures went)
-    ∙ c.open_goes_on.ensures q w.fits r x y f.fits.ordered f.rises
-    ∙ sym (λ j. left_by q (f.unclosed_is j) (c.shares_make_piece.ensures q r x y (record { fits = f.windows; ordered = f.fits.ordered; rises = f.rises }) j))
+    ap by_windows (held_is q w.group _ new (taken_after q r x y s p f laws n n_is new c.new-text.result.items c.take_piece.new.out.items c.begun_below-begun.ensures went))
+    ∙ sym (alike_kept q (plain_way q w.plain) (arrived r y))
 
 pub returns-clause-text : goal.returns-clause-text
 returns-clause-text c r x y f =
@@ -58,5 +58,4 @@ returns-clause-text c r x y f =
     c.in_ok-extend_from_slice.ensures.items ∙ ap (λ l. c.args.out.now.items ++ l) (
     c.deref.ensures.value
     ∙ text_after q r x y s p f laws n n_is c.take_piece.new.store.runs.entries c.take_piece.new.store.next c.new-text.result.items c.take_piece.new.out.items c.new-text.ensures.items went
-    ∙ written_is q w.group c.part_has_lines.ensures c.closed_lines_stay.ensures c.closed_are_counted.ensures c.closed_rise.ensures c.text_goes_on.ensures w.fits r x y f.fits f.rises
-    ∙ sym (λ j. written_by q (f.unclosed_is j) (c.shares_make_piece.ensures q r x y (record { fits = f.windows; ordered = f.fits.ordered; rises = f.rises }) j)))
+    ∙ added_is q w.group c.part_has_lines.ensures (plain_way q w.plain) r x y)
