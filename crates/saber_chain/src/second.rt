@@ -1,5 +1,5 @@
 // The second query of a chain, which reads from the pipe.
-ghost use Rattle.std.specs.Prelude.{◌≡◌, ◌≢◌, ◌≤◌, length};
+ghost use Rattle.std.specs.Prelude.{◌≡◌, ◌≢◌, ◌≤◌, None, length};
 ghost use Rattle.saber_io.specs.Outside.{Rose};
 ghost use Rattle.saber_pipe.specs.PipeFeeds.{taken, waiting};
 ghost use Rattle.saber_pipe.specs.Relays.{taken_by, mark_in};
@@ -64,6 +64,9 @@ pub(crate) fn run_second<'a, K: Sink + Send, G: Gate + Sync, P: PipeName, R: Thr
     ensures write_good { result.ran.end ≢ RunEnd.WriteFault → K.faults result.ran.sink ≡ K.faults sink }
     ensures writes { K.faults sink ≤ K.faults result.ran.sink }
     ensures stopped { MayStop result.ran.end result.ran.stopped }
+
+    // It took what came up to the mark, so that the first query waits for no room.
+    ensures over { mark_in result.relay ≢ None }
 {
     let mut relay = Relay::new(feed, backlog);
     let ran = engine_fed(

@@ -1,5 +1,5 @@
 -- A chain over row files that are opened, run and given back.
-use Rattle.std.proofs.Common.{◌≡◌, ◌≢◌, ℕ, suc, List, [], ◌∷◌, length, map, Option, Some, None, IfSome, refl, sym, ◌∙◌, ap, subst, arith}
+use Rattle.std.proofs.Common.{◌≡◌, ◌≢◌, ℕ, suc, List, [], ◌∷◌, length, map, Option, Some, None, IfSome, refl, sym, ◌∙◌, ap, subst, append_assoc, arith}
 use Rattle.std.proofs.lemmas.List.{take_all}
 use Rattle.std.specs.Prelude.{Bool, true, false}
 use Rattle.saber_io.specs.Outside.{Told, Closed, Rose, appended}
@@ -34,12 +34,13 @@ use Rattle.saber_cli.specs.Due.{Contents, IsLike, contents_of, first_run, row_na
 use Rattle.saber_cli.specs.Endings.{chained_as, ended_as, file_on, unless_cut}
 use Rattle.saber_cli.specs.Leaves.{HadNoFaults}
 use Rattle.saber_cli.specs.RowFiles.{OpensAll, raised_by, using}
-use Rattle.saber_cli.specs.Chained.{AnswersChain, AsksChainRows, ChainsOver, HasPlans, HasReason, IsAnswered, IsChainable, RunsChain, chain_sizes, not_run, both_run}
+use Rattle.saber_cli.specs.Chained.{AnswersChain, AsksChainRows, ChainsOver, CutTakesChain, HasPlans, HasReason, IsAnswered, IsChainable, RunsChain, chain_sizes, not_run, both_run}
+use Rattle.saber_cli.specs.Taken.{TakesOf, TakesRows}
 use Rattle.saber_cli.specs.ChainLeaves.{HadFaultsAt, LeavesChain, MatchesChain}
-use Rattle.saber_cli.specs.Chaining.{BothRead, ChainedIn, UsesChainRows, all_run, none_run}
+use Rattle.saber_cli.specs.Chaining.{BothRead, ChainedIn, ChainedTold, CutTakes, UsesChainRows, all_run, none_run}
 use Rattle.saber_cli.proofs.FileLemmas.{rose_some}
 use Rattle.saber_cli.proofs.AnsweredLemmas.{clean_by, read_by, write_by}
-use Rattle.saber_cli.proofs.RowLemmas.{all_told, back_length, backs, both_used, faults_of, gave_length, lefts_of, no_faults_same, of_told, run_cause}
+use Rattle.saber_cli.proofs.RowLemmas.{all_told, back_length, backs, both_used, faults_of, gave_length, lefts_of, no_faults_same, of_told, run_cause, run_takes}
 use Rattle.saber_cli.proofs.RunLemmas.{some_map}
 use Rattle.saber_cli.proofs.ChainLeaveLemmas.{none_asked}
 
@@ -190,9 +191,9 @@ chained_whole ring first ends.NoMemory true cut narrow h = absurd h
 chained_whole ring first ends.NoMemory false cut narrow h = absurd (lack_unanswered ring first h)
 
 -- both runs of a chain, by how each ended
-pub runs_chain : {S K : Type 0} (p q : Tree) (s : Sizes) (files : Option (List (List ℕ))) (had has : Option (List ℕ)) (o : Outcome) (e : Chained S K) → o ≡ chained_as s.ring e.first e.second e.second_stopped → MayStop e.second e.second_stopped → Chains p q s files had has e
-    → e.first ≢ ends.WriteFault → (e.second ≡ ends.AllRead → IsWhole e.first) → ((side : Side) → e.second ≡ ends.ReadFault side → IsShort e.first) → ((task need : ℕ) → e.second ≢ ends.TooWide task need) → RunsChain p q s files had has o e.tasks
-runs_chain p q s files had has o e is stops g never all cut narrow = record {
+pub runs_chain : {S K : Type 0} (p q : Tree) (s : Sizes) (leaves : RunEnd → ℕ → Type 0) (files : Option (List (List ℕ))) (had has : Option (List ℕ)) (o : Outcome) (e : Chained S K) → o ≡ chained_as s.ring e.first e.second e.second_stopped → MayStop e.second e.second_stopped → Chains p q s files had has e → leaves e.first e.first_tasks
+    → e.first ≢ ends.WriteFault → (e.second ≡ ends.AllRead → IsWhole e.first) → ((side : Side) → e.second ≡ ends.ReadFault side → IsShort e.first) → ((task need : ℕ) → e.second ≢ ends.TooWide task need) → RunsChain p q s leaves files had has o e.tasks
+runs_chain p q s leaves files had has o e is stops g whole never all cut narrow = record {
   first = e.first;
   second = e.second;
   stopped = e.second_stopped;
@@ -205,12 +206,37 @@ runs_chain p q s files had has o e is stops g never all cut narrow = record {
   gives_first = g.gives_first;
   gives_second = g.gives_second;
   whole_tasks = g.whole_tasks;
+  whole_first = whole;
   never = never;
   all = all;
   cut = cut;
   narrow = narrow;
   whole = λ h. let w = chained_whole s.ring e.first e.second e.second_stopped cut narrow (subst IsAnswered is h) in
       some_map (λ (fs : List (List ℕ)). g.out ≡ text_of_both p q (going_on (input_of p (limits_of s) fs).rows)) (λ fs. has ≡ appended had (text_of_both p q (going_on (input_of p (limits_of s) fs).rows))) files (λ fs k. g.written ∙ ap (appended had) k) (g.whole_text w.0 w.1);
+}
+
+-- the same where more, or other things, are known of the first query's tasks
+runs_on : (p q : Tree) (s : Sizes) (A B : RunEnd → ℕ → Type 0) (files : Option (List (List ℕ))) (had has : Option (List ℕ)) (o : Outcome) (tasks : ℕ) → ((e : RunEnd) (n : ℕ) → A e n → B e n)
+    → RunsChain p q s A files had has o tasks → RunsChain p q s B files had has o tasks
+runs_on p q s A B files had has o tasks f r = record {
+  first = r.first;
+  second = r.second;
+  stopped = r.stopped;
+  stops = r.stops;
+  first_tasks = r.first_tasks;
+  outcome = r.outcome;
+  between = r.between;
+  out = r.out;
+  written = r.written;
+  gives_first = r.gives_first;
+  gives_second = r.gives_second;
+  whole_tasks = r.whole_tasks;
+  whole_first = f r.first r.first_tasks r.whole_first;
+  never = r.never;
+  all = r.all;
+  cut = r.cut;
+  narrow = r.narrow;
+  whole = r.whole;
 }
 
 -- ---- kinds of outcomes
@@ -321,12 +347,15 @@ module _ {S : Type 0} (left : S → Option (List ℕ)) (faults : S → ℕ) wher
   chain_cause o i j a b c fresh e f h p r k = run_cause left faults o i j a b c fresh e f (chain_or_run o h k) p r k
 
   -- what both runs come to over open sources is what they come to over their files
-  pub chain_runs : (p q : Tree) (s : Sizes) (names : List (List ℕ)) (had has : Option (List ℕ)) (o : Outcome) (tasks : ℕ) (i : Inputs S) (told : Option Told) → IfSome told (λ t. OpensAll t.contents names (each_input left i))
-      → RunsChain p q s (told_by left i) had has o tasks → IfSome told (λ t. ChainedIn p q s (contents_of t.contents names) had has o tasks)
-  chain_runs p q s names had has o tasks i None opens h = tt
-  chain_runs p q s names had has o tasks i (Some t) opens h =
+  pub chain_runs : (p q : Tree) (s : Sizes) (names : List (List ℕ)) (had has : Option (List ℕ)) (o : Outcome) (tasks : ℕ) (i j : Inputs S) (a b c : Option Told) → IfSome a (λ t. OpensAll t.contents names (each_input left i))
+      → b ≡ using a names [] → c ≡ using b [] (backs left faults j) → RunsChain p q s (engine.LeavesWhole p s (each_input left i) (each_input left j)) (told_by left i) had has o tasks
+      → ChainedTold p q s names a c had has o tasks
+  chain_runs p q s names had has o tasks i j None b c opens asked closed h = tt
+  chain_runs p q s names had has o tasks i j (Some t) b c opens asked closed h =
       let a = all_told left faults t.contents names i opens in
-      all_run a.0 a.1 (subst (λ x. RunsChain p q s x had has o tasks) a.2 h)
+      all_run a.0 a.1 (runs_on p q s (engine.LeavesWhole p s (each_input left i) (each_input left j)) (CutTakes p s names (Some t) c) (Some a.0) had has o tasks
+      (λ e n l side k. run_takes left faults p s.task (limits_of s) n names i j (Some t) b c opens asked closed (l side k))
+      (subst (λ x. RunsChain p q s (engine.LeavesWhole p s (each_input left i) (each_input left j)) x had has o tasks) a.2 h))
 
 -- ---- the whole
 
@@ -349,10 +378,33 @@ unopened_reason files a (TooWide task need cells) r h = absurd h
 unopened_reason files a WriteFault r h = absurd h
 unopened_reason files a NoMemory r h = tt
 
+-- what is known of the first query's tasks, in other words
+pub chained_on : (p q : Tree) (s : Sizes) (A B : RunEnd → ℕ → Type 0) (content : Option (List (List ℕ))) (had has : Option (List ℕ)) (o : Outcome) (tasks : ℕ) → ((e : RunEnd) (n : ℕ) → A e n → B e n)
+    → ChainedIn p q s A content had has o tasks → ChainedIn p q s B content had has o tasks
+chained_on p q s A B content had has o tasks f (none_run h t n) = none_run h t n
+chained_on p q s A B content had has o tasks f (all_run all e r) = all_run all e (runs_on p q s A B (Some all) had has o tasks f r)
+
+-- what was taken of the row files, behind both queries' files
+pub cut_takes : (a : AskedChain) (p : Tree) (old mid new : Option Told) → BothRead a.first a.second old mid
+    → IfSome old (λ t. (e : RunEnd) (n : ℕ) → CutTakes p (chain_sizes a) (row_names (first_run a)) mid new e n → CutTakesChain a t new p e n)
+cut_takes a p None mid new b = tt
+cut_takes a p (Some t) mid new b = λ e n h side k.
+    let w : TakesRows p a.task (limits_of (chain_sizes a)) n (row_names (first_run a)) mid new = h side k in (
+      _,
+      w.told ∙ ap (λ o. using o (row_names (first_run a)) w.given_back) b.told,
+      record {
+        first_query = b.one;
+        second_query = b.two;
+        given_back = w.given_back;
+        closed = append_assoc t.closed (b.one ∷ b.two ∷ []) w.given_back;
+        takes = subst (λ o. IfSome o (λ (u : Told). TakesOf p a.task (limits_of (chain_sizes a)) n u.contents (row_names (first_run a)) w.given_back)) b.told w.takes;
+      },
+    )
+
 -- the run over the row files, behind two plans that chain
-pub chain_over : (files : Contents) (a : AskedChain) (p q : Tree) (o : Outcome) (tasks : ℕ) (had has : Option (List ℕ)) → HasPlans files a p q → IsChainable p q → IsLike (first_run a) p → ChainedIn p q (chain_sizes a) (contents_of files (row_names (first_run a))) had has o tasks → ChainsOver files a o tasks had has
-chain_over files a p q o tasks had has u k l (none_run h t n) = not_run (unopened_reason files a o (record { first = p; second = q; plans = u; chains = k; like = l }) h) t n
-chain_over files a p q o tasks had has u k l (all_run all e r) = both_run (record { first = p; second = q; plans = u; chains = k; like = l }) all e r
+pub chain_over : (files : Contents) (leaves : Tree → RunEnd → ℕ → Type 0) (a : AskedChain) (p q : Tree) (o : Outcome) (tasks : ℕ) (had has : Option (List ℕ)) → HasPlans files a p q → IsChainable p q → IsLike (first_run a) p → ChainedIn p q (chain_sizes a) (leaves p) (contents_of files (row_names (first_run a))) had has o tasks → ChainsOver files leaves a o tasks had has
+chain_over files leaves a p q o tasks had has u k l (none_run h t n) = not_run (unopened_reason files a o (record { first = p; second = q; plans = u; chains = k; like = l }) h) t n
+chain_over files leaves a p q o tasks had has u k l (all_run all e r) = both_run (record { first = p; second = q; plans = u; chains = k; like = l }) all e r
 
 -- two queries' files that were read leave the contents
 pub read_contents : (P : Contents → Type 0) (first second : List ℕ) (old new : Option Told) → BothRead first second old new → IfSome new (λ u. P u.contents) → IfSome old (λ t. P t.contents)
@@ -361,10 +413,10 @@ read_contents P first second (Some t) new b h = subst (λ m. IfSome m (λ u. P u
 
 -- ---- words that were not read
 
-pub unread_chained : (ws : List (List ℕ)) (a : AskedChain) (f : WordsFault) (told : Option Told) (w : Option (List ℕ)) → (f ≡ fault.Usage → command_of ws ≡ None) → command_of ws ≡ Some (chain a) → AnswersChain a (unread f) 0 told w w
-unread_chained ws a fault.NoMemory None w h is = tt
-unread_chained ws a fault.NoMemory (Some t) w h is = not_run tt refl refl
-unread_chained ws a fault.Usage told w h is = let clash : Some (chain a) ≡ None = sym is ∙ h refl in cc
+pub unread_chained : (ws : List (List ℕ)) (a : AskedChain) (f : WordsFault) (told new : Option Told) (w : Option (List ℕ)) → (f ≡ fault.Usage → command_of ws ≡ None) → command_of ws ≡ Some (chain a) → AnswersChain a (unread f) 0 told new w w
+unread_chained ws a fault.NoMemory None new w h is = tt
+unread_chained ws a fault.NoMemory (Some t) new w h is = not_run tt refl refl
+unread_chained ws a fault.Usage told new w h is = let clash : Some (chain a) ≡ None = sym is ∙ h refl in cc
 
 pub unread_leaves : (ws : List (List ℕ)) (a : AskedChain) (f : WordsFault) (told : Option Told) → (f ≡ fault.Usage → command_of ws ≡ None) → command_of ws ≡ Some (chain a) → LeavesChain a (unread f) told told
 unread_leaves ws a fault.NoMemory told h is = none_asked a NoMemory told refl

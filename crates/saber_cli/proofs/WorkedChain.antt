@@ -61,15 +61,15 @@ told_fault ls files a (TooWide task need cells) byte cause f h = absurd h
 told_fault ls files a WriteFault byte cause f h = absurd h
 told_fault ls files a NoMemory byte cause f h = inr (inr refl)
 
-first_fault_told : Laws → (files : Contents) (a : AskedChain) (o : Outcome) (tasks : ℕ) (had has : Option (List ℕ)) (byte : ℕ) (cause : Cause) → IsFaulty files a.first byte cause → ChainsOver files a o tasks had has → (o ≡ QueryFault byte cause) ⊎ (IsQueryUnread o ⊎ (o ≡ NoMemory))
-first_fault_told ls files a o tasks had has byte cause f (not_run h t n) = told_fault ls files a o byte cause f h
-first_fault_told ls files a o tasks had has byte cause f (both_run r all e k) = absurd (planned_or_fault ls files a.first r.first byte cause r.plans.first f)
+first_fault_told : Laws → (files : Contents) (leaves : Tree → RunEnd → ℕ → Type 0) (a : AskedChain) (o : Outcome) (tasks : ℕ) (had has : Option (List ℕ)) (byte : ℕ) (cause : Cause) → IsFaulty files a.first byte cause → ChainsOver files leaves a o tasks had has → (o ≡ QueryFault byte cause) ⊎ (IsQueryUnread o ⊎ (o ≡ NoMemory))
+first_fault_told ls files leaves a o tasks had has byte cause f (not_run h t n) = told_fault ls files a o byte cause f h
+first_fault_told ls files leaves a o tasks had has byte cause f (both_run r all e k) = absurd (planned_or_fault ls files a.first r.first byte cause r.plans.first f)
 
 -- what is told as done was run, and the text of both went out
-done_is_text : (files : Contents) (a : AskedChain) (tasks : ℕ) (had has : Option (List ℕ)) → ChainsOver files a Done tasks had has
+done_is_text : (files : Contents) (leaves : Tree → RunEnd → ℕ → Type 0) (a : AskedChain) (tasks : ℕ) (had has : Option (List ℕ)) → ChainsOver files leaves a Done tasks had has
     → (r : AsksChainRows files a) × (all : List (List ℕ)) × (contents_of files (row_names (first_run a)) ≡ Some all) × (has ≡ appended had (text_of_both r.first r.second (going_on (input_of r.first (limits_of (chain_sizes a)) all).rows)))
-done_is_text files a tasks had has (not_run h t n) = absurd h
-done_is_text files a tasks had has (both_run r all e k) = (r, all, e, k.whole tt)
+done_is_text files leaves a tasks had has (not_run h t n) = absurd h
+done_is_text files leaves a tasks had has (both_run r all e k) = (r, all, e, k.whole tt)
 
 -- where the second query's stage was stopped for want of memory, that is told whatever the first one came to; where its rows ended so, behind what cut the first
 -- one off, and before a line that the first one refuses

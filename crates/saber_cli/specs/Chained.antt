@@ -1,6 +1,6 @@
 -- What a chain comes to: two queries, of which the second one's rows are the lines of the first.
-use Rattle.std.specs.Prelude.{Bool, ◌≡◌, ◌≢◌, ℕ, List, length, Option, Some, IfSome, false}
-use Rattle.saber_io.specs.Outside.{Told, appended, content_in}
+use Rattle.std.specs.Prelude.{Bool, ◌≡◌, ◌≢◌, ℕ, List, ◌∷◌, ◌++◌, length, Option, Some, IfSome, false}
+use Rattle.saber_io.specs.Outside.{Told, Closed, appended, content_in}
 use Rattle.saber_plan.specs.declared.rows.Side.{Side}
 use Rattle.saber_plan.specs.declared.plans.Shape.TheVariants.{Select, Join}
 use Rattle.saber_plan.specs.declared.sizes.Sizes.{Sizes}
@@ -22,6 +22,7 @@ use Rattle.saber_notes.specs.declared.outcome.Outcome.{Outcome}
 use Rattle.saber_notes.specs.declared.outcome.Outcome.TheVariants.{Done, FileCount, QueryFault, SecondQueryFault, Unchainable, LineRefused, ChainLineRefused, OpenFault, ReadFault, NoMemory}
 use Rattle.saber_cli.specs.Due.{Contents, IsFaulty, IsLike, contents_of, first_run, row_names}
 use Rattle.saber_cli.specs.Endings.{chained_as}
+use Rattle.saber_cli.specs.Taken.{TakesOf}
 
 -- ---- the queries
 
@@ -94,8 +95,8 @@ IsAnswered _ = ⊥
 
 -- Both plans were run, the first one over row files with these bytes, if they tell, and the second one over what the first one gave; and the outcome
 -- tells how each ended, and for want of memory of the second one whether its stage was stopped by that, or its rows ended so. The first one writes where no write fails. The second one reads to the end only where the first one's text is whole, and is
--- cut off only where it isn't; none of its tasks is too wide.
-pub record RunsChain (p q : Tree) (s : Sizes) (files : Option (List (List ℕ))) (had has : Option (List ℕ)) (o : Outcome) (tasks : ℕ) : Type 0 where
+-- cut off only where it isn't; none of its tasks is too wide. What is known of how many tasks a first query that ended so has assembled holds of this one.
+pub record RunsChain (p q : Tree) (s : Sizes) (leaves : RunEnd → ℕ → Type 0) (files : Option (List (List ℕ))) (had has : Option (List ℕ)) (o : Outcome) (tasks : ℕ) : Type 0 where
   pub first : RunEnd
   pub second : RunEnd
   pub stopped : Bool
@@ -108,6 +109,7 @@ pub record RunsChain (p q : Tree) (s : Sizes) (files : Option (List (List ℕ)))
   pub gives_first : IfSome files (λ fs. Gives p s.task s.ring false (input_of p (limits_of s) fs) first first_tasks between)
   pub gives_second : Gives q s.task s.ring false (rows_between q between) second tasks out
   pub whole_tasks : (side : Side) → second ≡ ends.ReadFault side → TakesWhole q s.task between_limits tasks between
+  pub whole_first : leaves first first_tasks
   pub never : first ≢ ends.WriteFault
   pub all : second ≡ ends.AllRead → IsWhole first
   pub cut : (side : Side) → second ≡ ends.ReadFault side → IsShort first
@@ -121,11 +123,23 @@ chain_sizes a = record { task = a.task; ring = a.ring; threads = a.threads; max_
 -- ---- the whole
 
 -- What a chain comes to over files that tell their contents: nothing was run, for a reason; or both queries were, over all row files.
-pub data ChainsOver (files : Contents) (a : AskedChain) (o : Outcome) (tasks : ℕ) (had has : Option (List ℕ)) : Type 0 where
-  not_run : HasReason files a o → tasks ≡ 0 → has ≡ had → ChainsOver files a o tasks had has
+pub data ChainsOver (files : Contents) (leaves : Tree → RunEnd → ℕ → Type 0) (a : AskedChain) (o : Outcome) (tasks : ℕ) (had has : Option (List ℕ)) : Type 0 where
+  not_run : HasReason files a o → tasks ≡ 0 → has ≡ had → ChainsOver files leaves a o tasks had has
   both_run : (r : AsksChainRows files a) (all : List (List ℕ)) → contents_of files (row_names (first_run a)) ≡ Some all
-      → RunsChain r.first r.second (chain_sizes a) (Some all) had has o tasks → ChainsOver files a o tasks had has
+      → RunsChain r.first r.second (chain_sizes a) (leaves r.first) (Some all) had has o tasks → ChainsOver files leaves a o tasks had has
 
--- the same where files tell
-abbrev pub AnswersChain : AskedChain → Outcome → ℕ → Option Told → Option (List ℕ) → Option (List ℕ) → Type 0
-AnswersChain a o tasks told had has = IfSome told (λ t. ChainsOver t.contents a o tasks had has)
+-- The row files' sources were given back behind those of both queries, and of what was taken of them at least every whole task of the whole lines is assembled.
+pub record TakesChain (q : Tree) (a : AskedChain) (tasks : ℕ) (old new : Told) : Type 0 where
+  pub first_query : Closed
+  pub second_query : Closed
+  pub given_back : List Closed
+  pub closed : new.closed ≡ old.closed ++ first_query ∷ second_query ∷ given_back
+  pub takes : TakesOf q a.task (limits_of (chain_sizes a)) tasks old.contents (row_names (first_run a)) given_back
+
+-- so it is of a first query that could not read its rows to the end
+abbrev pub CutTakesChain : AskedChain → Told → Option Told → Tree → RunEnd → ℕ → Type 0
+CutTakesChain a old new q end tasks = (side : Side) → end ≡ ends.ReadFault side → (u : Told) × (new ≡ Some u) × TakesChain q a tasks old u
+
+-- the whole where files tell, before and after the call
+abbrev pub AnswersChain : AskedChain → Outcome → ℕ → Option Told → Option Told → Option (List ℕ) → Option (List ℕ) → Type 0
+AnswersChain a o tasks told new had has = IfSome told (λ t. ChainsOver t.contents (CutTakesChain a t new) a o tasks had has)

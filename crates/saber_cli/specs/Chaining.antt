@@ -2,8 +2,12 @@
 use Rattle.std.specs.Prelude.{◌≡◌, ◌≢◌, ◌≤◌, ℕ, suc, List, [], ◌∷◌, length, take, Option, Some, IfSome}
 use Rattle.saber_io.specs.Outside.{Told, Closed}
 use Rattle.saber_plan.specs.declared.plans.Shape.TheVariants.{Select, Join}
+use Rattle.saber_plan.specs.declared.rows.Side.{Side}
 use Rattle.saber_plan.specs.declared.sizes.Sizes.{Sizes}
+use Rattle.saber_plan.specs.Sizes.{limits_of}
 use Rattle.saber_plan.specs.Trees.{Tree}
+use Rattle.saber_engine.specs.declared.ends.RunEnd.{RunEnd}
+use Rattle.saber_engine.specs.declared.ends.RunEnd.TheVariants as ends
 use Rattle.saber_notes.specs.declared.outcome.InputFile.TheVariants.{Query, SecondQuery}
 use Rattle.saber_notes.specs.declared.outcome.Outcome.{Outcome}
 use Rattle.saber_notes.specs.declared.outcome.Outcome.TheVariants.{QueryFault, SecondQueryFault, Unchainable, FileCount, OpenFault, ReadFault, NoMemory}
@@ -12,6 +16,7 @@ use Rattle.saber_cli.specs.Due.{Contents, IsFaulty, contents_of}
 use Rattle.saber_cli.specs.Leaves.{AreOf}
 use Rattle.saber_cli.specs.RowFiles.{using}
 use Rattle.saber_cli.specs.Uses.{IsOf}
+use Rattle.saber_cli.specs.Taken.{TakesRows}
 use Rattle.saber_cli.specs.Chained.{IsChainable, RunsChain}
 use Rattle.saber_cli.specs.ChainLeaves.{MatchesChain}
 
@@ -64,10 +69,14 @@ pub record UsesChainRows (names : List (List ℕ)) (o : Outcome) (old new : Opti
   pub matches : (one two : Closed) → one.1 ≡ 0 → two.1 ≡ 0 → MatchesChain (suc (suc (length names))) o (suc (suc count)) (one ∷ two ∷ given_back)
 
 -- Over row files with these bytes; or one of them was not opened.
-pub data ChainedIn (p q : Tree) (s : Sizes) (content : Option (List (List ℕ))) (had has : Option (List ℕ)) (o : Outcome) (tasks : ℕ) : Type 0 where
-  none_run : IsUnopened o → tasks ≡ 0 → has ≡ had → ChainedIn p q s content had has o tasks
-  all_run : (all : List (List ℕ)) → content ≡ Some all → RunsChain p q s (Some all) had has o tasks → ChainedIn p q s content had has o tasks
+pub data ChainedIn (p q : Tree) (s : Sizes) (leaves : RunEnd → ℕ → Type 0) (content : Option (List (List ℕ))) (had has : Option (List ℕ)) (o : Outcome) (tasks : ℕ) : Type 0 where
+  none_run : IsUnopened o → tasks ≡ 0 → has ≡ had → ChainedIn p q s leaves content had has o tasks
+  all_run : (all : List (List ℕ)) → content ≡ Some all → RunsChain p q s leaves (Some all) had has o tasks → ChainedIn p q s leaves content had has o tasks
+
+-- the first query's end, with so many tasks, behind a fault of reading the row files with these names
+abbrev pub CutTakes : Tree → Sizes → List (List ℕ) → Option Told → Option Told → RunEnd → ℕ → Type 0
+CutTakes p s names old new end tasks = (side : Side) → end ≡ ends.ReadFault side → TakesRows p s.task (limits_of s) tasks names old new
 
 -- over the row files with these names, where files tell
-abbrev pub ChainedTold : Tree → Tree → Sizes → List (List ℕ) → Option Told → Option (List ℕ) → Option (List ℕ) → Outcome → ℕ → Type 0
-ChainedTold p q s names told had has o tasks = IfSome told (λ t. ChainedIn p q s (contents_of t.contents names) had has o tasks)
+abbrev pub ChainedTold : Tree → Tree → Sizes → List (List ℕ) → Option Told → Option Told → Option (List ℕ) → Option (List ℕ) → Outcome → ℕ → Type 0
+ChainedTold p q s names told new had has o tasks = IfSome told (λ t. ChainedIn p q s (CutTakes p s names told new) (contents_of t.contents names) had has o tasks)

@@ -5,6 +5,7 @@ ghost use Rattle.saber_plan.specs.Trees.{tree_of};
 ghost use Rattle.saber_plan.specs.Checked.{IsChecked, IsPlain};
 ghost use Rattle.saber_plan.specs.Sizes.{SizesFit};
 ghost use Rattle.saber_engine.specs.declared.ends.RunEnd.{RunEnd};
+ghost use Rattle.saber_engine.specs.Gives.{LeavesWhole};
 ghost use Rattle.saber_engine.specs.Sources.{each_input, told_by, GaveAll};
 ghost use Rattle.saber_notes.specs.declared.outcome.Outcome.{Outcome};
 ghost use Rattle.saber_cli.specs.Outcomes.{IsClean, IsOfChain};
@@ -91,8 +92,8 @@ pub(crate) fn answer_chain<
     requires one { length (tree_of second.now).streams ≡ 1 }
     requires sizes { SizesFit sizes.now }
     requires open_end { sizes.now.flush ≡ false }
-    ensures runs { RunsChain (tree_of first.now) (tree_of second.now) sizes.now (told_by S.left inputs)
-        (K.written sink) (K.written result.sink) result.outcome result.tasks }
+    ensures runs { RunsChain (tree_of first.now) (tree_of second.now) sizes.now
+        (LeavesWhole (tree_of first.now) sizes.now (each_input S.left inputs) (each_input S.left result.inputs)) (told_by S.left inputs) (K.written sink) (K.written result.sink) result.outcome result.tasks }
     ensures kinds { IsOfChain result.outcome }
     ensures opened { IsOpened result.outcome }
     ensures takes { (taken : List (List ℕ)) × GaveAll (each_input S.left inputs) taken (each_input S.left result.inputs) }

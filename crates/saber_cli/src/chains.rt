@@ -82,7 +82,7 @@ where
     requires sizes { SizesFit sizes.now }
     requires open_end { sizes.now.flush ≡ false }
     ensures written { (out : List ℕ) × (K.written result.sink ≡ appended (K.written sink) out) }
-    ensures runs { ChainedTold (tree_of first.now) (tree_of second.now) sizes.now (row_names (asked_run command.now)) (F.told files.old)
+    ensures runs { ChainedTold (tree_of first.now) (tree_of second.now) sizes.now (row_names (asked_run command.now)) (F.told files.old) (F.told files.new)
         (K.written sink) (K.written result.sink) result.outcome result.tasks }
     ensures early { IsBeforeRun result.outcome → (result.tasks ≡ 0) × (result.sink ≡ sink) }
     ensures kinds { IsOfChain result.outcome }
@@ -127,7 +127,7 @@ where
     F::Src: Send + Drop,
     requires sizes { IsSized (asked (Command.Chain command.now)) }
     ensures written { (out : List ℕ) × (K.written result.sink ≡ appended (K.written sink) out) }
-    ensures chained { AnswersChain (asked_chain command.now) result.outcome result.tasks (F.told files.old) (K.written sink) (K.written result.sink) }
+    ensures chained { AnswersChain (asked_chain command.now) result.outcome result.tasks (F.told files.old) (F.told files.new) (K.written sink) (K.written result.sink) }
     ensures early { IsBeforeRun result.outcome → (result.tasks ≡ 0) × (result.sink ≡ sink) }
     ensures kinds { result.outcome ≢ Outcome.Usage }
     ensures leaves { LeavesChain (asked_chain command.now) result.outcome (F.told files.old) (F.told files.new) }

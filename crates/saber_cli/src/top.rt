@@ -67,9 +67,10 @@ where
     // A run over generated rows tells its summary, whatever files there are: of the seed and the number of rows alone.
     ensures told { IfDemo (map (λ word. word.now) words.now) (λ d. TellsRun d result.outcome result.tasks (K.written sink) (K.written result.sink)) }
 
-    // A chain answers the second query over the lines of the first, and its outcome has its cause: in the texts, in how they fit, or in both runs.
+    // A chain answers the second query over the lines of the first, and its outcome has its cause: in the texts, in how they fit, or in both runs. Behind a
+    // fault of reading those lines are of at least every whole task of what was taken of the row files.
     ensures chained { IfChain (map (λ word. word.now) words.now)
-        (λ a. AnswersChain a result.outcome result.tasks (F.told files.old) (K.written sink) (K.written result.sink)) }
+        (λ a. AnswersChain a result.outcome result.tasks (F.told files.old) (F.told files.new) (K.written sink) (K.written result.sink)) }
     ensures second { IsOfSecond result.outcome → (a : AskedChain) × (command_of (map (λ word. word.now) words.now) ≡ Some (chain a)) }
 
     // Words that are no command, whether the files tell or not.

@@ -50,7 +50,7 @@ where
     ensures written { (out : List ℕ) × (K.written result.sink ≡ appended (K.written sink) out)
         × AnswersTold (map (λ word. word.now) words.now) (F.told files.old) result.outcome result.tasks out }
     ensures chained { IfChain (map (λ word. word.now) words.now)
-        (λ a. AnswersChain a result.outcome result.tasks (F.told files.old) (K.written sink) (K.written result.sink)) }
+        (λ a. AnswersChain a result.outcome result.tasks (F.told files.old) (F.told files.new) (K.written sink) (K.written result.sink)) }
     ensures second { IsOfSecond result.outcome → (a : AskedChain) × (command_of (map (λ word. word.now) words.now) ≡ Some (chain a)) }
     ensures told { IfDemo (map (λ word. word.now) words.now) (λ d. TellsRun d result.outcome result.tasks (K.written sink) (K.written result.sink)) }
     ensures unread { command_of (map (λ word. word.now) words.now) ≡ None → EndsUnread result.outcome result.tasks files.old files.new sink result.sink }

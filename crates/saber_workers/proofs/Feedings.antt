@@ -19,6 +19,17 @@ use Rattle.saber_workers.specs.Queries.{Suits, HasBlocks}
 before_next : (u : ℕ) → u ≤ u + 1
 before_next u = omega arith
 
+module _ {O : Type 0} (plan : O → Tree) (told : Told O) where
+  -- a block of the first tasks is one of all
+  pub block_stays : (u : ℕ) (b : Block) → IsBlockOf plan (first_tasks told (u + 1)) u b → IsBlock (plan told.operator) told.size (input_of told) u b
+  block_stays u b is = record {
+    earlier = subst (λ (z : Input). EndWith z.rows b.earlier) (upto-upto told.size (input_of told) (u + 1) u (before_next u)) is.block.earlier;
+    before = is.block.before ∙ ap last_mark (upto-upto told.size (input_of told) (u + 1) u (before_next u));
+    rows = is.block.rows ∙ task_rows-upto told.size (input_of told) (u + 1) u (le_refl (u + 1));
+    places = is.block.places ∙ places-upto (plan told.operator) told.size (input_of told) (u + 1) u (le_refl (u + 1));
+    ended = is.block.ended ∙ ap (λ (z : Input). z.ended) (upto-upto told.size (input_of told) (u + 1) (u + 1) (le_refl (u + 1)));
+  }
+
 module _ {O D : Type 0} (plan : O → Tree) (has_seen : O → D → Sight → Type 0) (feeds : BlocksFeedTasks) (op : O) (told : Told O) (t : ℕ) (suits : Suits op told) where
   abbrev sight : Earlier → ℕ → Sight
   sight e u = sight_to (plan told.operator) told.size (input_of told) t e u
@@ -44,21 +55,12 @@ module _ {O D : Type 0} (plan : O → Tree) (has_seen : O → D → Sight → Ty
     seen = subst (λ u. has_seen op d (sight b.earlier u)) (sym first_is) (subst (has_seen op d) ((is_fed is.tasks).begins b is.block) seen);
   }
 
-  block_stays : (u : ℕ) (b : Block) → IsBlockOf plan (first_tasks told (u + 1)) u b → IsBlock (plan told.operator) told.size (input_of told) u b
-  block_stays u b is = record {
-    earlier = subst (λ (z : Input). EndWith z.rows b.earlier) (upto-upto told.size (input_of told) (u + 1) u (before_next u)) is.block.earlier;
-    before = is.block.before ∙ ap last_mark (upto-upto told.size (input_of told) (u + 1) u (before_next u));
-    rows = is.block.rows ∙ task_rows-upto told.size (input_of told) (u + 1) u (le_refl (u + 1));
-    places = is.block.places ∙ places-upto (plan told.operator) told.size (input_of told) (u + 1) u (le_refl (u + 1));
-    ended = is.block.ended ∙ ap (λ (z : Input). z.ended) (upto-upto told.size (input_of told) (u + 1) (u + 1) (le_refl (u + 1)));
-  }
-
   module _ (u : ℕ) (d : D) (b : Block) (low : first ≤ u) (high : u + 1 ≤ t) (has : HasBlocks plan has_seen op told t u d) (is : IsBlockOf plan (first_tasks told (u + 1)) u b) where
     from_free : free (plan told.operator) told.size (input_of told) t ≤ u
     from_free = subst (λ z. z ≤ u) first_is low
 
     pub can_feed : CanFeed (plan op) (sight has.earlier u) b
-    can_feed = subst (λ z. CanFeed (plan z) (sight has.earlier u) b) suits ((is_fed has.tasks).can has.earlier u b from_free high (block_stays u b is))
+    can_feed = subst (λ z. CanFeed (plan z) (sight has.earlier u) b) suits ((is_fed has.tasks).can has.earlier u b from_free high (block_stays plan told u b is))
 
     pub fed_on : (d' : D) → has_seen op d' (fed (sight has.earlier u) b) → HasBlocks plan has_seen op told t (u + 1) d'
     fed_on d' seen = record {
@@ -66,7 +68,7 @@ module _ {O D : Type 0} (plan : O → Tree) (has_seen : O → D → Sight → Ty
       opens = has.opens;
       earlier = has.earlier;
       earlier_are = has.earlier_are;
-      seen = subst (has_seen op d') ((is_fed has.tasks).goes_on has.earlier u b from_free high (block_stays u b is)) seen;
+      seen = subst (has_seen op d') ((is_fed has.tasks).goes_on has.earlier u b from_free high (block_stays plan told u b is)) seen;
     }
 
   module _ (d : D) (has : HasBlocks plan has_seen op told t t d) where

@@ -43,6 +43,10 @@ module _ {T : Type 0} where
             (λ (e : (s ≡ true) × IsStop y). inr (e.0, (e.1.0, λ t. let p = times_append (Take t) x y in let q = times_append (Give t) x y in let u = even t in let v = e.1.1 t in omega arith))) g.3,
       )
 
+  -- where each take has its give, nothing is asked of the stage
+  pub even_grows : (a b : View T) (s : Bool) → Grows a b false → Grows a b s
+  even_grows a b s f = (f.0, f.1, f.2, inl (even_of f.0 f.3))
+
   -- and entries after a stop, with each take's give
   pub grows_then : (a b c : View T) (s : Bool) → Grows a b s → Grows b c false → Grows a c s
   grows_then a b c s f g =

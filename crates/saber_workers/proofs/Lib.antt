@@ -5,3 +5,4 @@ pub mod Feedings
 pub mod Absorbings
 pub mod Pourings
 pub mod Drives
+pub mod Rests

@@ -5,3 +5,4 @@ pub mod Hands
 pub mod Lasts
 pub mod Queries
 pub mod Turns
+pub mod Free

@@ -64,7 +64,11 @@ module _ {T : Type 0} (size : ℕ) (v : View T) where
   abbrev pub StoresRunning : Type 0
   StoresRunning = (k : ℕ) × (v.saw.word ≡ turn_word k (free false)) × (v.before.place ≡ k % size + 1) × (v.before.word ≢ 8 * k + 4) × (v.before.word ≢ 8 * k + 6)
 
-  -- the last step was on the word of the turn: it stored a stopped stage, or one that runs; or another seat has the turn
+  -- another seat had the turn: the word found is odd, or isn't the even one that the step before found there
+  abbrev pub SawHeld : Type 0
+  SawHeld = NotLast v.lead × ((v.saw.word % 2 ≢ 0) ⊎ ((v.before.place ≡ 0) × (v.before.word % 2 ≡ 0) × (v.saw.word ≢ v.before.word)))
+
+  -- the last step was on the word of the turn: it stored a stopped stage, or one that runs; or another seat had the turn
   abbrev pub EndsTurn : Bool → Type 0
   EndsTurn true = (v.saw.place ≡ 0) × ((k : ℕ) × (v.saw.word ≡ turn_word k (free true)))
-  EndsTurn false = (v.saw.place ≡ 0) × (NotLast v.lead ⊎ StoresRunning)
+  EndsTurn false = (v.saw.place ≡ 0) × (SawHeld ⊎ StoresRunning)

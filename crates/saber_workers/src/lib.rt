@@ -5,6 +5,7 @@
 
 mod blocks;
 mod drive;
+mod free;
 mod hand;
 mod labor;
 mod last;
@@ -12,6 +13,7 @@ mod queries;
 mod turns;
 mod worker;
 
+pub use free::free_turns_are_at_rest;
 pub use hand::Hand;
 pub use labor::Labor;
 pub use last::work_alone;

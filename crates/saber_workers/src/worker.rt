@@ -1,5 +1,5 @@
 //! What a thread does.
-ghost use Rattle.std.specs.Prelude.{◌≡◌, ◌^◌, ◌≤◌, Bool, true, false, None};
+ghost use Rattle.std.specs.Prelude.{◌≡◌, ◌^◌, ◌≤◌, true, false, None};
 ghost use Rattle.saber_ring.specs.Words.{view, table, table_of};
 ghost use Rattle.saber_workers.specs.Seats.{IsFree, OfBase, SameSeat};
 ghost use Rattle.saber_workers.specs.Grows.{Grows};
@@ -47,7 +47,7 @@ fn work_until<W: Work, L: Labor<W>, G: Gate, R: Wait>(
     ensures kept { SameSeat (view seat.old) (view seat.new) }
     ensures free { IsFree (view seat.new) }
     ensures hand { IsInHand W.upto W.first (L.suits op.now) (L.has_blocks op.now) hand.new.held (view seat.new).job }
-    ensures grows { (stopped : Bool) × Grows (view seat.old) (view seat.new) stopped }
+    ensures grows { Grows (view seat.old) (view seat.new) (view seat.new).stopped }
 {
     let mut idle = Pause::new();
     for _ in rt.forever() {
@@ -139,7 +139,7 @@ pub fn work_lent<W: Work, L: Labor<W>, G: Gate, R: Wait>(
     ensures kept { SameSeat (view seat.old) (view seat.new) }
     ensures free { IsFree (view seat.new) }
     ensures none { (view seat.new).job ≡ None }
-    ensures grows { (stopped : Bool) × Grows (view seat.old) (view seat.new) stopped }
+    ensures grows { Grows (view seat.old) (view seat.new) (view seat.new).stopped }
 {
     let mut hand = Hand::new(0);
     work_until(rt, alloc, seat, ring, op, gate, &mut hand, stop);
@@ -164,7 +164,7 @@ pub fn work<W: Work, L: Labor<W>, G: Gate, R: Wait>(
     ensures kept { SameSeat (view seat) (view result) }
     ensures free { IsFree (view result) }
     ensures none { (view result).job ≡ None }
-    ensures grows { (stopped : Bool) × Grows (view seat) (view result) stopped }
+    ensures grows { Grows (view seat) (view result) (view result).stopped }
 {
     let mut seat = seat;
     work_lent(rt, alloc, ring, &mut seat, op, gate, stop);

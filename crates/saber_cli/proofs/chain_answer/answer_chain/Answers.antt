@@ -1,5 +1,7 @@
 use Rattle.std.proofs.Common.{◌∙◌, sym, ap, subst}
 use Rattle.saber_plan.specs.Trees.{tree_of}
+use Rattle.saber_engine.specs.Gives.{LeavesWhole}
+use Rattle.saber_engine.specs.Sources.{each_input}
 use Rattle.saber_cli.specs.Outcomes.{IsClean, IsOfChain}
 use Rattle.saber_cli.specs.Uses.{IsOpened}
 use Rattle.saber_cli.specs.Endings.{chained_as}
@@ -7,7 +9,9 @@ use Rattle.saber_cli.proofs.ChainRunLemmas.{chained_clean, chained_kinds, chaine
 use Rattle.saber_cli.proofs.chain_answer.answer_chain.Goals as goal
 
 pub returns-clause-runs : goal.returns-clause-runs
-returns-clause-runs g c = runs_chain (tree_of c.args.first.now) (tree_of c.args.second.now) c.args.sizes.now _ _ _ c.chained_as.result c.chain-first_end.result c.chained_as.ensures c.chain-first_end.ensures.stopped c.chain-first_end.ensures.gives c.chain-first_end.ensures.never c.chain-first_end.ensures.all c.chain-first_end.ensures.cut c.chain-first_end.ensures.narrow
+returns-clause-runs g c = runs_chain (tree_of c.args.first.now) (tree_of c.args.second.now) c.args.sizes.now
+    (LeavesWhole (tree_of c.args.first.now) c.args.sizes.now (each_input g.S.Source.left c.args.inputs) (each_input g.S.Source.left c.chain-first_end.result.inputs)) _ _ _ c.chained_as.result c.chain-first_end.result c.chained_as.ensures c.chain-first_end.ensures.stopped c.chain-first_end.ensures.gives
+    c.chain-first_end.ensures.whole c.chain-first_end.ensures.never c.chain-first_end.ensures.all c.chain-first_end.ensures.cut c.chain-first_end.ensures.narrow
 
 pub returns-clause-kinds : goal.returns-clause-kinds
 returns-clause-kinds g c = subst IsOfChain (sym c.chained_as.ensures) (chained_kinds c.args.sizes.now.ring c.chain-first_end.result.first c.chain-first_end.result.second c.chain-first_end.result.second_stopped)

@@ -1,16 +1,17 @@
-use Rattle.std.proofs.Common.{◌≡◌, [], IfSome, ◌∙◌, refl, subst}
+use Rattle.std.proofs.Common.{◌≡◌, ℕ, [], ◌∙◌, refl, subst}
 use Rattle.saber_io.specs.Outside.{Told, appended-none}
 use Rattle.saber_plan.specs.Trees.{Tree, tree_of}
 use Rattle.saber_words.specs.Commands.{AskedRun, asked_run}
 use Rattle.saber_words.specs.Chain.{AskedChain, asked_chain}
+use Rattle.saber_engine.specs.declared.ends.RunEnd.{RunEnd}
 use Rattle.saber_cli.specs.Outcomes.{IsOfChain, IsOfPlans}
 use Rattle.saber_cli.specs.Due.{contents_of, first_run, row_names}
-use Rattle.saber_cli.specs.Chained.{AsksChainRows, ChainsOver, HasPlans, HasReason, chain_sizes, not_run}
-use Rattle.saber_cli.specs.Chaining.{ChainedIn, UsesChainRows}
+use Rattle.saber_cli.specs.Chained.{AsksChainRows, ChainsOver, CutTakesChain, HasPlans, HasReason, chain_sizes, not_run}
+use Rattle.saber_cli.specs.Chaining.{ChainedIn, ChainedTold, CutTakes, UsesChainRows}
 use Rattle.saber_cli.proofs.FileLemmas.{keeps_rose}
 use Rattle.saber_cli.proofs.RunLemmas.{some_both, some_map}
 use Rattle.saber_cli.proofs.ChainLeaveLemmas.{chain_rows_leave}
-use Rattle.saber_cli.proofs.ChainRunLemmas.{chain_over, read_contents}
+use Rattle.saber_cli.proofs.ChainRunLemmas.{chain_over, chained_on, cut_takes, read_contents}
 use Rattle.saber_cli.proofs.chains.chain_command.Goals as goal
 
 pub returns-in-Err-clause-written : goal.returns-in-Err-clause-written
@@ -21,7 +22,8 @@ returns-in-Err-clause-chained g c =
     let a : AskedChain = asked_chain c.args.command.now in
     let o = c.in-Err.outcome in
     let w = g.K.Sink.written c.args.sink in
-    some_map (λ (t : Told). HasReason t.contents a o) (λ t. ChainsOver t.contents a o 0 w w) _ (λ t h. not_run h refl refl) c.in-Err.ensures.reason
+    let new = g.F.Files.told c.chain_plans.new.files in
+    some_map (λ (t : Told). HasReason t.contents a o) (λ t. ChainsOver t.contents (CutTakesChain a t new) a o 0 w w) _ (λ t h. not_run h refl refl) c.in-Err.ensures.reason
 
 pub returns-in-Err-clause-kinds : goal.returns-in-Err-clause-kinds
 returns-in-Err-clause-kinds g c e = subst IsOfPlans e c.in-Err.ensures.kinds
@@ -38,11 +40,20 @@ returns-clause-chained g c =
     let v = g.K.Sink.written c.chain_rows.result.sink in
     let rows : asked_run c.first_run-rows.result ≡ first_run a = c.first_run-rows.ensures in
     let sizes : c.chain_sizes-sizes.result ≡ chain_sizes a = c.chain_sizes-sizes.ensures.sizes in
-    let over_rows = subst (λ (r : AskedRun). IfSome (told c.chain_plans.new.files) (λ (t : Told). ChainedIn p q c.chain_sizes-sizes.result (contents_of t.contents (row_names r)) w v o tasks)) rows c.chain_rows.ensures.runs in
-    let over_sizes = subst (λ s. IfSome (told c.chain_plans.new.files) (λ (t : Told). ChainedIn p q s (contents_of t.contents (row_names (first_run a))) w v o tasks)) sizes over_rows in
-    let runs = read_contents (λ files. ChainedIn p q (chain_sizes a) (contents_of files (row_names (first_run a))) w v o tasks) a.first a.second _ _ c.in-Ok.ensures.read over_sizes in
-    some_both (λ (t : Told). HasPlans t.contents a p q) (λ t. ChainedIn p q (chain_sizes a) (contents_of t.contents (row_names (first_run a))) w v o tasks) (λ t. ChainsOver t.contents a o tasks w v) _
-    (λ t u k. chain_over t.contents a p q o tasks w v u c.in-Ok.ensures.chains c.in-Ok.ensures.like k) c.in-Ok.ensures.plans runs
+    let names = row_names (first_run a) in
+    let old = told c.args.files.now in
+    let mid = told c.chain_plans.new.files in
+    let new = told c.chain_rows.new.files in
+    let over_rows = subst (λ (r : AskedRun). ChainedTold p q c.chain_sizes-sizes.result (row_names r) mid new w v o tasks) rows c.chain_rows.ensures.runs in
+    let over_sizes = subst (λ s. ChainedTold p q s names mid new w v o tasks) sizes over_rows in
+    let leaves : RunEnd → ℕ → Type 0 = CutTakes p (chain_sizes a) names mid new in
+    let runs = read_contents (λ files. ChainedIn p q (chain_sizes a) leaves (contents_of files names) w v o tasks) a.first a.second old mid c.in-Ok.ensures.read over_sizes in
+    let told_on =
+    some_both (λ (t : Told). (e : RunEnd) (n : ℕ) → leaves e n → CutTakesChain a t new p e n) (λ t. ChainedIn p q (chain_sizes a) leaves (contents_of t.contents names) w v o tasks)
+    (λ t. ChainedIn p q (chain_sizes a) (CutTakesChain a t new p) (contents_of t.contents names) w v o tasks) old
+    (λ t f k. chained_on p q (chain_sizes a) leaves (CutTakesChain a t new p) (contents_of t.contents names) w v o tasks f k) (cut_takes a p old mid new c.in-Ok.ensures.read) runs in
+    some_both (λ (t : Told). HasPlans t.contents a p q) (λ t. ChainedIn p q (chain_sizes a) (CutTakesChain a t new p) (contents_of t.contents names) w v o tasks) (λ t. ChainsOver t.contents (CutTakesChain a t new) a o tasks w v) old
+    (λ t u k. chain_over t.contents (CutTakesChain a t new) a p q o tasks w v u c.in-Ok.ensures.chains c.in-Ok.ensures.like k) c.in-Ok.ensures.plans told_on
 
 pub returns-clause-kinds : goal.returns-clause-kinds
 returns-clause-kinds g c e = subst IsOfChain e c.chain_rows.ensures.kinds

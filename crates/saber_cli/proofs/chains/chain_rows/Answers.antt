@@ -3,7 +3,7 @@ use Rattle.saber_io.specs.Outside.{Told, appended-none}
 use Rattle.saber_plan.specs.Trees.{tree_of}
 use Rattle.saber_words.specs.Commands.{asked_run}
 use Rattle.saber_cli.specs.Due.{contents_of, row_names}
-use Rattle.saber_cli.specs.Chaining.{ChainedIn, none_run}
+use Rattle.saber_cli.specs.Chaining.{ChainedIn, CutTakes, none_run}
 use Rattle.saber_cli.proofs.AnsweredLemmas.{for_any}
 use Rattle.saber_cli.proofs.ChainLeaveLemmas.{unopened_uses}
 use Rattle.saber_cli.proofs.ChainRunLemmas.{chain_cause, chain_not_before, chain_runs, chain_uses, unopened_of_chain}
@@ -14,7 +14,7 @@ returns-in-Ok-clause-written g c = let r = c.answer_chain-outcome.ensures.runs i
 
 pub returns-in-Ok-clause-runs : goal.returns-in-Ok-clause-runs
 returns-in-Ok-clause-runs g c =
-    chain_runs g.F.Src.Source.left g.F.Src.Source.faults (tree_of c.args.first.now) (tree_of c.args.second.now) c.args.sizes.now (row_names (asked_run c.args.command.now)) _ _ c.answer_chain-outcome.result.outcome c.answer_chain-outcome.result.tasks _ _ c.in-Ok.ensures.opens c.answer_chain-outcome.ensures.runs
+    chain_runs g.F.Src.Source.left g.F.Src.Source.faults (tree_of c.args.first.now) (tree_of c.args.second.now) c.args.sizes.now (row_names (asked_run c.args.command.now)) _ _ c.answer_chain-outcome.result.outcome c.answer_chain-outcome.result.tasks _ _ _ _ _ c.in-Ok.ensures.opens c.in-Ok.ensures.asked c.close_rows.ensures.closed c.answer_chain-outcome.ensures.runs
 
 pub returns-in-Ok-clause-early : goal.returns-in-Ok-clause-early
 returns-in-Ok-clause-early g c b = absurd (chain_not_before c.answer_chain-outcome.result.outcome c.answer_chain-outcome.ensures.kinds c.answer_chain-outcome.ensures.opened b)
@@ -33,8 +33,8 @@ returns-in-Err-clause-written g c = ([], appended-none _)
 
 pub returns-in-Err-clause-runs : goal.returns-in-Err-clause-runs
 returns-in-Err-clause-runs g c =
-    let w = g.K.Sink.written c.args.sink in
-    for_any (λ (t : Told). ChainedIn (tree_of c.args.first.now) (tree_of c.args.second.now) c.args.sizes.now (contents_of t.contents (row_names (asked_run c.args.command.now))) w w c.in-Err.outcome 0) _ (λ t. none_run c.in-Err.ensures.kinds refl refl)
+    let w = g.K.Sink.written c.args.sink in let told = g.F.Files.told in
+    for_any (λ (t : Told). ChainedIn (tree_of c.args.first.now) (tree_of c.args.second.now) c.args.sizes.now (CutTakes (tree_of c.args.first.now) c.args.sizes.now (row_names (asked_run c.args.command.now)) (told c.args.files.now) (told c.open_rows.new.files)) (contents_of t.contents (row_names (asked_run c.args.command.now))) w w c.in-Err.outcome 0) _ (λ t. none_run c.in-Err.ensures.kinds refl refl)
 
 pub returns-in-Err-clause-kinds : goal.returns-in-Err-clause-kinds
 returns-in-Err-clause-kinds g c = unopened_of_chain c.in-Err.outcome c.in-Err.ensures.kinds

@@ -102,7 +102,7 @@ returns-in-Err-clause-chained g c a is =
     let ws : List (List ℕ) = map (λ (word : Bor (List ℕ)). word.now) c.args.words.now in
     let w = g.K.Sink.written c.args.sink in
     let told = g.F.Files.told c.args.files.now in
-    subst (λ o. AnswersChain a o 0 told w w) (sym c.unread.ensures) (unread_chained ws a c.in-Err.fault told w (λ e. c.in-Err.ensures.usage (ap Err e)) is)
+    subst (λ o. AnswersChain a o 0 told told w w) (sym c.unread.ensures) (unread_chained ws a c.in-Err.fault told told w (λ e. c.in-Err.ensures.usage (ap Err e)) is)
 
 pub returns-in-Err-clause-leaves : goal.returns-in-Err-clause-leaves
 returns-in-Err-clause-leaves g c a is n =
@@ -146,7 +146,7 @@ returns-in-Chain-clause-chained g c a e =
     let is : command_of ws ≡ Some (chain b) = c.in-Ok.ensures.taken ∙ ap (λ (x : Command). Some (asked x)) c.in-Chain.is in
     let both : Some (chain b) ≡ Some (chain a) = sym is ∙ e in
     let same : b ≡ a = cc in
-    subst (λ x. AnswersChain x c.chain_command.result.outcome c.chain_command.result.tasks (g.F.Files.told c.args.files.now) (g.K.Sink.written c.args.sink) (g.K.Sink.written c.chain_command.result.sink)) same c.chain_command.ensures.chained
+    subst (λ x. AnswersChain x c.chain_command.result.outcome c.chain_command.result.tasks (g.F.Files.told c.args.files.now) (g.F.Files.told c.chain_command.new.files) (g.K.Sink.written c.args.sink) (g.K.Sink.written c.chain_command.result.sink)) same c.chain_command.ensures.chained
 
 pub returns-in-Chain-clause-leaves_chain : goal.returns-in-Chain-clause-leaves_chain
 returns-in-Chain-clause-leaves_chain g c a e =

@@ -7,7 +7,7 @@ use Rattle.saber_workers.specs.Seats.{EndsTurn}
 use Rattle.saber_workers.specs.Lasts.{GaveAll}
 use Rattle.saber_workers.proofs.Grows.{released_own}
 use Rattle.saber_workers.proofs.Lasts.{gave_left}
-use Rattle.saber_workers.proofs.Drives.{open_of, ends_turn}
+use Rattle.saber_workers.proofs.Drives.{open_of, ends_turn, held_ends}
 use Rattle.saber_workers.proofs.drive.drive.Goals as goal
 
 pub returns-clause-left : goal.returns-clause-left
@@ -25,3 +25,7 @@ returns-clause-ends g c =
     let turn = c.drain.new.turn in
     subst (EndsTurn (cells c.args.ring.now) (view c.release.new.self)) (sym c.is_stopped-stopped.ensures)
     (ends_turn c.args.ring.now.size turn.behind (view c.drain.new.seat) (view c.release.new.self) turn.state c.release.ensures.told c.drain.ensures.found)
+
+pub returns-in-Held-clause-ends : goal.returns-in-Held-clause-ends
+returns-in-Held-clause-ends g c =
+    let w = c.in-Held.ensures.told in held_ends c.args.ring.now.size c.in-Held.word (view c.args.seat.now) (view c.win.new.self) w.0 w.2
