@@ -1,4 +1,12 @@
 //! The program `saber`: the top call over real files, standard output and standard error.
+//! All else is in `saber_cli`; here are the words of the process, and the adapters of `saber_io`.
+//!
+//! - Call: `main` takes the runtime, and gives the status that `saber` tells. Words that the system
+//!   can't hand over end it by `refuse_words`.
+//! - Proved: that it is safe. It has no contract: that it hands words, files and sinks on, and the
+//!   status back, is to be read.
+//! - Tested: `args`, `data` and `stdout` are one stored run, which the gate makes with two
+//!   compilers.
 #![tactic(auto)]
 
 use saber_cli::{Ended, WordsFault, refuse_words, saber};

@@ -1,6 +1,21 @@
-//! The ordered assembly (SABER 2016: the result stage): takes the pieces of tasks in, in the order of
-//! the tasks, keeps what is open in the operator's store, and writes the text of those that close. And
-//! the work of the engine, which says what blocks, pieces and stages are by the input filled so far.
+//! The result stage (SABER 2016): takes pieces in, in the order of tasks, and writes the text.
+//! What is open is kept in the operator's store. It also says, by the input filled so far, what
+//! blocks, pieces and stages are (`SaberWork`). Dispatch, workers and engine use it.
+//!
+//! - Parts: `stage` (`Stage`: the sink, the store, how many tasks are behind it), `work` (the work
+//!   that threads do for a query, as the trait of `saber_core` wants it).
+//! - Calls: `Stage::new` takes an operator and a sink; `absorb` takes the next task's piece, or the
+//!   mark of want of memory; `pour` has the sink let go of what it holds back; `into_sink` gives it
+//!   back.
+//! - Proved: a stage after k tasks (`After`, `specs/Stages.antt`) that absorbs the piece of task k
+//!   is one after k + 1, or is stopped at k with its cause. While it runs, the text of the first k
+//!   tasks' rows is written and what they leave open is kept; where a write failed, a front of the
+//!   next task's text is out too; where memory lacked, or the mark came, no more is. What it keeps
+//!   is one record (`Keeps`), which `specs/Works.antt` makes a part of the ring's rule; docs/RUN.md
+//!   ties it to the headline.
+//! - Not claimed: that a stage goes on: want of memory may stop it at any task.
+//! - Limits: fewer than `2^62` tasks. A task's text goes out in one write, and none if it has no
+//!   byte.
 #![tactic(auto)]
 
 mod stage;

@@ -1,5 +1,12 @@
-//! Tries files of cases, which the words name: prints a line for each case that fails and for each file that is refused, and at last how many
-//! cases and runs there were. The status is 0 where none failed and no file was refused.
+//! The program that tries files of cases, which the words name; `data/` has them.
+//! It prints a line for each case that fails and for each file that is refused, and at last how
+//! many cases and runs there were. The status is 0 where none failed and no file was refused.
+//!
+//! - Call: `main` takes the runtime; `try_cases` of `saber_trials` does the work, file by file.
+//! - Proved: that it is safe, and no more.
+//! - Tested: `args` names the files of `data/`, and `stdout` has the line of counts, so that it
+//!   changes with each new case. The gate makes this run with two compilers; docs/CASES.md has the
+//!   format.
 #![tactic(auto)]
 
 use saber_trials::{Counts, try_cases};

@@ -1,4 +1,19 @@
 //! Two queries in a chain: the lines of the first are the rows of the second, while both run.
+//! The number of a window is the time of such a row. The command `chain` of the top call runs it.
+//!
+//! - Parts: `chained` (how a chain ends), `gate` (tasks of both told apart), `first` (it writes
+//!   into the pipe), `second` (it reads from it), `settle` (what both come to), `runs` (the call).
+//! - Call: `chain` takes two checked plans, the inputs of the first, a sink and sizes, and gives
+//!   inputs and sink back with how both ended.
+//! - Proved (`specs/Chains.antt`): what goes out is what the second query gives over the lines that
+//!   the first gave, and the text of both where each has read to the end or to a line refused. The
+//!   first never fails to write. The second reads to the end only where the first one's text is
+//!   whole, is cut off only where that is, and is never too wide. Faults are real, and none is
+//!   passed over.
+//! - Not claimed: that both run at once. Where no thread can be had, the caller runs both; that
+//!   with one they do run at once a test with a gate sees.
+//! - Limits: the second plan has one stream, and the input's end closes no window; neither has
+//!   PARTITION BY or a stream word. At most `2^40` lines go between, by a pipe of 64 items.
 #![tactic(auto)]
 
 mod chained;

@@ -1,5 +1,19 @@
-//! The checks of a query that a text means, and its plan. A query is refused by the first thing
-//! that is wrong with it, at the byte where that stands; the plan of one that passes is sound.
+//! The checks of a query that a text means, and its plan.
+//! A query is refused by the first thing that is wrong with it, at the byte where that stands; the
+//! plan of one that passes is sound. The demo and the top call use it.
+//!
+//! - Parts: `names`, `shape` and `bounds` (tests), `fault` and `walk` (the first fault so far),
+//!   `conditions`, `parts` and `whole` (a walk over all words), `expressions`, `predicates` and
+//!   `plans` (the plan of a faultless query), `query` and `text` (the calls), `laws`.
+//! - Calls: `check` takes a parsed `Query`, `plan_of` a text; both give a `Plan`, or the first
+//!   fault.
+//! - Proved: they give the query's own plan (`specs/Plans.antt`) exactly where it has no fault,
+//!   else the fault that stands first, of those at one word the first of `Cause`
+//!   (`specs/Faults.antt` lists all), or want of memory. The plan is checked (`IsChecked` of
+//!   `saber_plan`), which is what crates above rest on. Laws: a text has one plan or one first
+//!   fault, and not both; its first 65,537 bytes tell which.
+//! - Limits: docs/LANGUAGE.md has those of queries. PARTITION BY and stream words are refused as
+//!   `Shape`: no operator answers them.
 #![tactic(auto)]
 
 mod bounds;

@@ -1,4 +1,22 @@
-//! The command line of the engine.
+//! The top call `saber`, from words and files to bytes, a status and a note.
+//! The program is `main` over it, and cases are tried on it. `top.rt` holds the theorem, one clause
+//! a fact; docs/RULES.md ("What is promised of a call") has it in words, docs/RUN.md what it rests
+//! on.
+//!
+//! - Parts, from the top: `top`, `words` (words to command), `commands` (a run, a check), `queries`
+//!   and `texts` (the query file), `shows` (the text of a checked query), `plans`, `sizes`, `runs`
+//!   (a run over the row files), `chains`, `query_plans` (the plans of a chain, and whether they
+//!   chain), `chain_answer` (the chain over sources), `demo`, `puts` (a text goes out), `row_files`
+//!   (they are opened and given back), `answer` (the engine over them), `laws` (those that proofs
+//!   here rest on).
+//! - Calls: `saber` takes words, files, a sink and a sink for notes, and gives `Ended`;
+//!   `refuse_words` ends a call whose words the system can't hand over.
+//! - Proved: what goes out, which files are asked for and given back, which status and note comes,
+//!   and that each has its cause. Of `specs/` open `Outcomes`, `Due`, `Answered`, `Chained` and
+//!   `Leaves` first.
+//! - Not claimed: a cause for want of memory, progress of threads, and what files and sinks hold
+//!   that don't tell. What contracts leave open is tested by cases (docs/CASES.md).
+//! - Limits: a query file is read up to 65,537 bytes; options have the ranges of `saber_words`.
 #![tactic(auto)]
 
 mod answer;

@@ -1,5 +1,18 @@
-//! Threads round a ring: the first seat fills it with the tasks of a supply, others work, and the stage
-//! that comes out has all their pieces, in the order of tasks, for every number of threads.
+//! Threads round a ring: the first seat fills it with the tasks of a supply, the others work.
+//! The stage that comes out has their pieces, in the order of tasks, for every number of threads.
+//! The engine runs it.
+//!
+//! - Parts: `supply` (the trait: where tasks come from), `feed` (the loop of the first seat),
+//!   `crew` (threads, and their seats taken in again), `runs` (a whole run).
+//! - Call: `run` takes a `Labor`, a supply, a stage and sizes, and gives the stage back, with how
+//!   many tasks were filled and why no more.
+//! - Proved, for any work and any supply (`RunsTo`, `specs/Runs.antt`): the stage has the first of
+//!   the tasks given behind it, all of them where it runs and the supply was over. `Ring::finish`
+//!   wants every seat back, so all threads have ended then. Where memory lacks for the ring, all is
+//!   as it was.
+//! - Not claimed: that threads help. Where one can't be made, the caller does its share. A full
+//!   ring is back-pressure: the first seat works meanwhile, and so it does where the supply is dry.
+//! - Limits: rings of 1 to 1,024 cells, `2^42` tasks. It waits for its threads and its supply.
 #![tactic(auto)]
 
 mod crew;

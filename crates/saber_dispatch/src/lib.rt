@@ -1,4 +1,21 @@
-//! The rows of a query's inputs, cut into blocks, and how far back each task looks.
+//! The rows of a query's inputs, cut into the blocks of tasks, and how far back each task looks.
+//! The engine takes its blocks; the contracts of chain and top call cite its definitions.
+//!
+//! - Parts: `inputs`, `ends`, `reader` (rows of one input or of two merged), `fill` (rows of a
+//!   block), `last_windows` and `lasts` (the free pointer of joins), `opening`, `cutter`,
+//!   `closing`; the same over a feed: `fed_reader`, `fed_fill`, `fed_cutter`; `keeper` (rows before
+//!   a task's own), `letting` (values let go by calls), `laws` and `fed_laws`.
+//! - Calls: `Cutter::next_block` takes the inputs and gives a `Block` or an `End`,
+//!   `FedCutter::step` takes a feed, and may say that it is dry; `Keeper::pass_on` takes a block
+//!   and gives it on.
+//! - Proved: a block is that of the next task, or of the input's end, with its mark, its number and
+//!   the first block that it needs; an end has its cause. The blocks are the first tasks of the
+//!   input, all of them where all was read or a line refused; after a failed read at least every
+//!   whole task of the whole lines taken; the task told as too wide is the first that is
+//!   (`specs/Telling.antt`). A feed gives the same blocks, whatever comes behind what was taken.
+//!   `Keeper` gives a block the last rows before it, or none.
+//! - Not claimed: to which blocks `Keeper` gives rows. A copy for which memory lacks is left out.
+//! - Limits: those of `Sizes`. Plans without PARTITION BY; over a feed, of one stream.
 #![tactic(auto)]
 
 mod closing;

@@ -1,5 +1,21 @@
-//! A run of a query over its inputs: cuts the rows into tasks, has the pieces made by threads, and
-//! assembles them in order.
+//! A run of a plan over its inputs: cuts rows into tasks, has pieces made, assembles them in order.
+//! The chain and the top call run queries by it.
+//!
+//! - Parts: `ends` (how a run ends), `cells` (the size of the ring), `spare` (memory stays with the
+//!   process), `blocks` and `plans` (a run of one operator), `run_engine` (a plan over sources),
+//!   `fed_blocks`, `fed_plans` and `fed_engine` (the same over a feed).
+//! - Calls: `engine` takes a checked plan, sources, a sink, sizes and a gate, and gives the sink
+//!   back with how the run ended and how many tasks are assembled; `engine_pouring` takes a sink
+//!   that may hold bytes back, `engine_fed` a feed in place of sources.
+//! - Proved (`specs/Gives.antt`): over files that tell their bytes the sink holds the text of the
+//!   first tasks' rows: of all where all was read or a line refused, of those before the first task
+//!   that is too wide; after a failed read at least of every whole task; after a failed write a
+//!   front of the next task's text too. Every fault is real, and none is passed over. Over a feed
+//!   the same holds for every file that goes on from what was taken (`specs/FedRuns.antt`).
+//! - Not claimed: time, progress of threads, or a cause for want of memory. Over one stream the
+//!   ring may have fewer cells than `--ring` says (`cells.rt`); no contract speaks of it.
+//! - Limits: those of `Sizes`; plans without PARTITION BY and without a stream word. A run waits
+//!   for its threads.
 #![tactic(auto)]
 
 mod blocks;

@@ -1,7 +1,16 @@
-//! The values of expressions and the truth of predicates, over one row and over a pair of rows, as
-//! the operators of a query ask for them row by row. Each is what the definitions of `saber_plan`
-//! say (its `specs/Values.antt`), without an error and without memory: the check of a query has made
-//! sure that each column is there and that nothing overflows, and the two laws hand that on.
+//! Values of expressions and truth of predicates, over one row or over a pair of rows.
+//! Panes, partial answers, groups, joins and selections ask for them row by row.
+//!
+//! - Parts: `lib` (the calls), `values` (expressions), `predicates` (WHERE), `laws`.
+//! - Calls: `value` and `holds` take an expression or a predicate and a row of the one stream,
+//!   `value2` and `holds2` a left and a right row; they give a number of 128 bits, or whether WHERE
+//!   holds.
+//! - Proved: they are the definitions of `saber_plan/specs/Values.antt`, without an error and
+//!   without memory. No value passes its expression's bound, nor `2^126`, and no step overflows.
+//! - What they require, that each column is there and nothing overflows, the check of a query has
+//!   made sure of: `one_stream_fits` and `two_streams_fit` hand it on to each row, or pair, of the
+//!   streams.
+//! - Limits: none of their own. Columns count from 0, and column 0 is the time.
 #![tactic(auto)]
 
 ghost use Rattle.std.specs.Prelude.{◌≡◌, ◌≤◌, ◌^◌, nat_abs, []};

@@ -1,7 +1,20 @@
-//! Laws over the definitions of `saber_plan`, each the contract of a call that does nothing: that
-//! the counts of windows are those of the plain tests, that parts of windows can be merged, that the
-//! pieces of tasks, taken in one after another, make the text, for every task size, that the rows
-//! which a task needs are enough for its piece, and what the rows of files and checked plans keep.
+//! Laws over the definitions of `saber_plan`, each the contract of a call that does nothing.
+//! A proof above names no lemma of this crate: it calls the law. Most crates use it.
+//!
+//! - Parts, each law stated in the file of `specs/` with the part's name: `windows`, `marks`,
+//!   `kinds`, `numbers` (counts and kinds of windows), `plans` (what a checked plan has), `inputs`,
+//!   `fronts` (rows of files, their merge, what was read so far), `parts`, `groups`, `pairs` (parts
+//!   and their merge), `shares`, `pieces` (what tasks give, and the text of that), `cuts`, `needs`
+//!   (where tasks begin, how far they look back), `ends` (the input's end), `lists` (substreams of
+//!   key lists), `words` (answers of which a stream word prints what changes).
+//! - Calls: a law is a call of its own name, such as `pieces_make_text`, that takes and gives
+//!   nothing.
+//! - Proved: counts of windows are those of the plain tests, and windows of one kind are ranges;
+//!   parts merge in any grouping, with a unit; the pieces make the text for every task size, where
+//!   windows print their answers as they are, or rows theirs; the rows that a task needs are enough
+//!   for its piece, and stay so as rows are added; rows of files come in order of time and fit
+//!   their stream; and what a checked plan keeps.
+//! - There is no wrong body to refuse: a law that is false has no proof.
 #![tactic(auto)]
 
 mod cuts;

@@ -36,7 +36,7 @@ pub fn places_stay()
     ensures { PlacesStay }
 {}
 
-/// Each row has a place, below the number of all rows.
+/// Each row has a place, at most the number of all rows.
 pub fn places_are_low()
     ensures { PlacesAreLow }
 {}

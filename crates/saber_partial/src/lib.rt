@@ -1,5 +1,23 @@
-//! Partial answers of groups: a list by key, from key lists to counts, sums, least and greatest
-//! values, and the values of first rows.
+//! Partial answers of groups: from key lists to counts, sums, least, greatest and first values.
+//! The groups of a part are one list of numbers, by key. Panes, the two-stacks queue and groups use
+//! it.
+//!
+//! - Parts, from below: `layout`, `sources`, `aggregates` (what a plan asks of each row), `gather`,
+//!   `joins`, `first_row`, `later_row` and `tally` (numbers of one group), `table`, `places` and
+//!   `merges` (groups in one list), `groups` and `rows` (`Partial`), `young`, `piles` and
+//!   `gathering` (rows gathered, few groups at a time), `headings`, `unprinted`, `lines` and
+//!   `joined_lines` (the text), `steps` (merges counted), `laws` (by which callers meet what is
+//!   required).
+//! - Calls: `Partial::add_row` takes a row, `merge` and `merge_from` the part of later rows, given
+//!   or lent, `lines` prints a window's part, `lines_with` two parts without their merge;
+//!   `Gathering::add_row` and `take_part`; `Pile::take_from`.
+//! - Proved: each is the step of the definitions (`saber_plan/specs/Parts.antt`). A `Gathering` is
+//!   seen as the part of its rows; a `Pile` as the part of all that it took in, and in how many
+//!   pieces that lies: steps and pieces together grow by one a part. After want of memory `lines`,
+//!   `lines_with` and `Partial::add_row` leave all as it was; merges and gatherings are only safe
+//!   to let go.
+//! - Not claimed: which groups a row is compared with, and how often a group is moved.
+//! - Limits: a group has at most `2^40` rows, each of which adds at most `2^86` to a sum.
 #![tactic(auto)]
 
 mod aggregates;

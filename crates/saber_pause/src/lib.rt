@@ -1,4 +1,14 @@
 //! How a thread waits that finds nothing to do.
+//! Workers, the loop of the crew and the pipe pause between two looks; so nobody has to wake a
+//! thread.
+//!
+//! - Parts: `lib`, with the one type `Pause`.
+//! - Calls: `wait` lets other threads run, and from the 65th time in a row on sleeps, 8
+//!   microseconds and twice as long each time up to half a millisecond; `reset` says that there was
+//!   something to do.
+//! - Proved: how often in a row there was nothing to do, counted up to 70 (`specs/Pauses.antt`).
+//! - Not claimed: how long anything takes, and that others run meanwhile. docs/RUN.md says who
+//!   waits.
 #![tactic(auto)]
 
 ghost use Rattle.std.specs.Prelude.{◌≤◌};

@@ -1,4 +1,20 @@
-//! A pipe: what one query writes is what the next one reads, by way of a bounded queue.
+//! A pipe between two queries: what one writes is what the next one reads, by a bounded queue.
+//! The chain uses it.
+//!
+//! - Parts: `rule` (what the queue's ends know), `items`, `names` (the pipe in the types of its
+//!   ends), `pipe`, `outbox` and `sink` (the end written to), `feed` (the end read from), `left`
+//!   and `backlog` (what a writer left), `receipt` (all that was written), `relay` (a reader that
+//!   has the backlog too).
+//! - Calls: `Pipe::ends` lends a sink and a feed; `PipeSink::finish` takes how the bytes end, and
+//!   gives a receipt and what is still to be sent; `Relay::drain` takes all that comes; `settle`
+//!   takes the receipt.
+//! - Proved: what was sent is what was got, and then what the queue holds (`specs/Order.antt`);
+//!   behind a mark nothing is sent. No write fails but for want of memory. `pour` keeps nothing, or
+//!   the pipe was full. What was taken is a front of what was written, and all of it where a mark
+//!   was taken, which is the one that was sent (`settle`, `specs/Receipts.antt`).
+//! - Not claimed: that a reader reads. A full pipe is back-pressure: a writer waits for room,
+//!   unless it is alone; then it never waits, and who reads later sends its backlog on.
+//! - Limits: 64 items in the queue; what a sink that is alone keeps has no limit but memory.
 #![tactic(auto)]
 
 mod backlog;

@@ -1,6 +1,23 @@
-//! The plain types of rows, windows, expressions and plans, and the public definitions of what a
-//! query answers: which rows a file has, which rows a window has, what is printed for it, and how
-//! the answer is put together from the parts of tasks. Every other crate's contract cites these.
+//! Plain types of rows, windows and plans, and the definitions of what a query answers.
+//! Which rows a file has and a window, what is printed for it, and how the answer is put together
+//! from the parts of tasks: every other crate's contract cites these. Nearly all crates use it.
+//!
+//! - Parts: `rows` (a row, and why a line is none), `windows` (measure, window, mark, kind),
+//!   `expressions`, `predicates`, `plans` (a checked query), `sizes` (of a run), `letting` (plans
+//!   are let go by calls).
+//! - Definitions, the files of `specs/` in this order: `Rows`, `Inputs` (lines of files, their
+//!   rows, the merge of two), `Windows`, `Values`, `Answers`, `Parts`, `Shares`, `Tasks`, `Needs`.
+//!   `Checked` is what every checked plan keeps, `Given` the rows that it can be given; the
+//!   `*Facts` serve proofs.
+//! - Calls: `Plan::new` takes a shape, streams, items, keys and a predicate; `overlap` a size and a
+//!   slide.
+//! - Proved: plans, expressions and predicates give back what they were built from; `overlap` is
+//!   how many windows have a point, at most. In `proofs/` the `Worked*` are small cases worked out
+//!   by hand, with which the checker finds the definitions to agree.
+//! - Not claimed: that the definitions say what was meant. Who doubts it reads them; tests and
+//!   cases hold them against docs/RULES.md.
+//! - Limits: `Checked` and `Sizes` have them, and `Rows` how many rows of a file may wait
+//!   (`most_held`).
 #![tactic(auto)]
 
 use std::alloc::AllocError;

@@ -34,7 +34,7 @@ pub enum Cause {
     Overlap,
     /// Parts of a query that don't go together.
     Shape,
-    /// An item beside an aggregate that is no column of GROUP BY.
+    /// An item beside an aggregate that is no column of GROUP BY or PARTITION BY.
     NotGrouped,
     /// An expression whose value may need too many bits.
     ExprTooWide,

@@ -1,4 +1,20 @@
 //! The query language: texts as trees, exactly, and the first fault of a text that is no query.
+//! The check, the way back to a text, the demo, the notes and the top call use its trees and
+//! causes.
+//!
+//! - Parts: `token` and `lexer` (the tokens of a text), `tree`, `stop` and `cursor` (tokens that
+//!   are left), `expression`, `predicate`, `declaration`, `clauses` and `select` (trees from
+//!   tokens), `query` (a tree with the bytes of its words), `text` (the call, and the grammar),
+//!   `fault` (all causes, those of the checks too, in their order), `letting` (trees are let go by
+//!   calls), `laws`.
+//! - Call: `parse` takes a text and gives a `Query`, or a `QueryFault`: a cause and its byte, or
+//!   want of memory.
+//! - Proved: it gives the tree that the text means (`specs/Means.antt`), else the text's first
+//!   fault at its byte: a length above the limit, else the first bad token, else the first token
+//!   that no query can have there. Laws: tokens are those of longest match; words are read back,
+//!   and have one tree; each text means a query or has a fault.
+//! - Limits: 65,536 bytes, numbers of at most `2^63`, 64 NOT or `(` open at once. docs/LANGUAGE.md
+//!   shows the language by examples.
 #![tactic(auto)]
 
 mod clauses;

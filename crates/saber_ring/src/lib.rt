@@ -1,7 +1,22 @@
-//! The ring of slots by which the dispatcher, the workers and whoever assembles hand rows, pieces and the
-//! stage to each other, each by single atomic steps on one word, with no lock and no second try. It is
-//! generic in the work that it carries, and looks into none of it. One rule (`specs/Shows.antt`) says what
-//! its words, its slots and the views of its seats are at every moment, and every step keeps it.
+//! The lock-free ring of cells and blocks by which threads hand rows, pieces and the stage on.
+//! A step is one atomic operation on one word, with no lock and no second try. It is generic in the
+//! work that it carries, and looks into none of it. Workers, crew and engine use it.
+//!
+//! - Parts: `words` and `phases` (what words show), `view` and `plays` (what a seat knows, what a
+//!   step tells it), `ring`, `opening`, `closing`, `fixed`, `seat` (the calls), `answers`, `job`,
+//!   `turn`, `blocks`, `release`, `frees` (first blocks that tasks need), `threads`, `laws`.
+//! - Calls: `Ring::new` takes a size and a stage and gives the ring and its first seat. A `Seat`
+//!   can `fill`, `claim`, `read`, `put_back`, `deposit`, `win`, `take`, `give`, `release`, `split`,
+//!   `join`. `Ring::finish` gives the stage back.
+//! - Proved: one rule (`specs/Shows.antt`) says what the words, the slots and the views of all
+//!   seats are at every moment, and every step keeps it. Each step that is an event of the core
+//!   takes the core to its next state, each other one leaves it. The blocks that tasks not yet
+//!   assembled need are whole; a refusal has its reason; the last seat finishes alone. docs/RING.md
+//!   has words, steps and rule, `specs/Calls.antt` what each call asks and tells.
+//! - Not claimed: that a call wins while others are at work, that a seat comes back, or anything of
+//!   time.
+//! - Limits: 1 to 1,024 cells and as many blocks, `2^42` tasks. Of its calls `Ring::new` alone
+//!   takes memory.
 #![tactic(auto)]
 
 mod answers;

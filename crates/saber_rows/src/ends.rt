@@ -9,7 +9,7 @@ use saber_plan::{Row, RowCause};
 pub enum RowEnd {
     /// A read failed. Comes first only in a call in which the source's count of faults rose.
     ReadFault,
-    /// Want of memory, which comes only with more than eight columns.
+    /// Want of memory, which comes only with more than eight columns or a slack.
     NoMemory,
     /// A line is refused. Lines count from 1, empty ones too.
     Bad { line: u64, cause: RowCause },

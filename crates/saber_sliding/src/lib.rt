@@ -1,5 +1,17 @@
-//! The parts of runs of rows, one behind another, of which all, from any run on, are at hand merged
-//! at about three merges a run, however many windows a run lies in.
+//! A two-stacks queue of parts: from any one on, all are at hand merged, at few merges a part.
+//! The merges don't depend on how many windows a part lies in. The operator of groups keeps its
+//! slices in it.
+//!
+//! - Parts: `queue` (`Sliding`), `front` (`Front`: parts that are to be summed up at once).
+//! - Calls: `push` puts a part behind the others, with the first window that doesn't have it;
+//!   `drop_to` lets those at the front go that a window doesn't have; `lines` prints the merge of
+//!   all that are there; `Front::into_queue` makes a queue of parts.
+//! - Proved: each entry is seen with the merge of itself and all behind it (`specs/Entries.antt`),
+//!   and the queue with how many steps (merges) it still owes. `push` costs two steps, now or
+//!   later, `lines` one more, `drop_to` none. Of a `Front` no part is merged before all are there,
+//!   and then it is one step for each. After want of memory `lines` leaves the text as it was.
+//! - Not claimed: what a step costs: a part of many groups is longer to merge than one of few.
+//! - Limits: those of `saber_partial`.
 #![tactic(auto)]
 
 mod front;

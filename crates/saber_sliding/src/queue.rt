@@ -379,7 +379,7 @@ impl Sliding {
     }
 
     /// Writes the lines of the merge of all parts behind what `out` has, in a walk over two lists of groups at
-    /// most: one step beside those owed. Where memory is wanting, `out` stays as it was, and nothing is kept.
+    /// most: one step beside those owed. Where memory is wanting, `out` stays as it was.
     pub fn lines<L: Ledger>(
         &mut self,
         plan: &Plan,

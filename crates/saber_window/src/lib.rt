@@ -1,7 +1,20 @@
-//! The arithmetic of windows: which windows have a point or a row, and how many windows the rows so
-//! far have begun and closed. Nothing here takes memory or refuses, and two calls alone have loops:
-//! `free_of` over blocks, and `run_end` over timestamps, few of which it looks at. Everything that a
-//! query does with windows stands on these calls.
+//! The arithmetic of windows: which have a point or a row, and how many are begun and closed.
+//! Panes, groups, joins and dispatch ask it for all that they do with windows.
+//!
+//! - Parts: `counts` and `points` (windows up to a point, and of one), `rows` (times, and marks
+//!   behind rows), `plans` (straight from a plan), `windowed` and `plan_windows` (`Windows`, made
+//!   once a task), `steps` and `runs` (where rows of the same windows end), `lately` (windows kept
+//!   till a row leaves them), `frees` (how far back a task looks), `laws`.
+//! - Calls: `Windows::of_plan` takes a checked plan; of it `closed_below` and `begun_below` take a
+//!   mark and count windows, `row_windows` takes a row and the mark before it and gives the first
+//!   window that has it and the one behind the last, `run_end` tells where a slice ends.
+//! - Proved: each gives its definition's value: windows of a point, a row and a mark, what a window
+//!   is to a task (`kind_of`), marks (`step_mark`, `mark_behind`), the free pointer by the last
+//!   windows of blocks (`free_of`). The rows up to `run_end` lie in the same windows. Nothing takes
+//!   memory or refuses.
+//! - Not claimed: that `run_end` goes as far as it might. Two calls alone have loops: `free_of`
+//!   over blocks, `run_end` over times, few of which it looks at.
+//! - Limits: fewer than `2^63` rows a side; block numbers below `2^42` for `free_of`.
 #![tactic(auto)]
 
 mod counts;

@@ -1,4 +1,16 @@
-//! The words of the command line: which of them are a command of `saber`, and what it asks for.
+//! The words of the command line: which are a command of `saber`, and what it asks for.
+//! The top call reads its words by it; the kit's `clap` does the work.
+//!
+//! - Parts: `commands` (what may be asked for), `flags` and `numbers` (options), `chain` and `demo`
+//!   (their words), `reading` (the call, and the words of `run` and `check`), `laws`.
+//! - Call: `read_words` takes the words, the program's name first, and gives a `Command`, or a
+//!   `WordsFault`: no command, or want of memory. A wish for help is no command.
+//! - Proved: the command is exactly the one that the words ask for (`specs/Commands.antt`), and
+//!   they are refused as no command only where they are none. Laws: what words of file names alone
+//!   come to, and that numbers lie within their ranges whatever the words.
+//! - Not claimed: what `clap` would print. Its contract is the kit's, and trusted.
+//! - Limits: README.md has the ranges of options. A word of two bytes or more that begins with `-`
+//!   is no file name.
 #![tactic(auto)]
 
 mod chain;

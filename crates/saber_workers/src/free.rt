@@ -1,4 +1,4 @@
-//! What stands whenever nobody has the turn, in the words of the whole engine's theorem.
+// What stands whenever nobody has the turn, in the words of the whole engine's theorem.
 ghost use Rattle.saber_workers.specs.Free.{FreeTurnsAreAtRest};
 
 use saber_assembly::SaberWork;
