@@ -4,7 +4,7 @@ ghost use Rattle.saber_io.specs.Outside.{Rose};
 ghost use Rattle.saber_pipe.specs.PipeFeeds.{taken, waiting};
 ghost use Rattle.saber_pipe.specs.Relays.{taken_by, mark_in};
 ghost use Rattle.saber_plan.specs.Trees.{tree_of};
-ghost use Rattle.saber_plan.specs.Checked.{IsChecked, IsPlain};
+ghost use Rattle.saber_plan.specs.Checked.{IsChecked};
 ghost use Rattle.saber_plan.specs.Sizes.{SizesFit};
 ghost use Rattle.saber_engine.specs.declared.ends.RunEnd.{RunEnd};
 ghost use Rattle.saber_engine.specs.Endings.{MayStop};
@@ -55,7 +55,7 @@ pub(crate) fn run_second<'a, K: Sink + Send, G: Gate + Sync, P: PipeName, R: Thr
     gate: &G,
 ) -> SecondRan<'a, K, R, P>
     requires checked { IsChecked (tree_of plan.now) }
-    requires plain { IsPlain (tree_of plan.now) }
+    requires wordless { (tree_of plan.now).word ≡ None }
     requires one { length (tree_of plan.now).streams ≡ 1 }
     requires sizes { SizesFit sizes.now }
     requires fresh { waiting feed ≡ taken feed }

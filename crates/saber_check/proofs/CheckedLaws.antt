@@ -1,7 +1,7 @@
 -- The plan of a query without a fault is sound.
 use Rattle.std.proofs.Common.{◌≡◌, ℕ, ◌+◌, List, [], ◌++◌, true, Option, Some, None, subst, arith}
 use Rattle.std.specs.Option.{option_map_or}
-use Rattle.saber_plan.specs.Checked.{IsChecked, IsPlain}
+use Rattle.saber_plan.specs.Checked.{IsChecked}
 use Rattle.saber_query.specs.declared.tree.Source.{Source}
 use Rattle.saber_query.specs.Trees.{Query}
 use Rattle.saber_check.specs.declared.fault.Fault.{Fault}
@@ -14,7 +14,7 @@ use Rattle.saber_check.proofs.NoFaults.{before, behind}
 use Rattle.saber_check.proofs.ColumnLaws.{AreDeclared}
 use Rattle.saber_check.proofs.ItemLaws.{keys_law, few_items, items_fit}
 use Rattle.saber_check.proofs.ConditionLaws.{predicate_fits}
-use Rattle.saber_check.proofs.PartitionLaws.{partition_fits, lists_fit, word_fits, is_plain}
+use Rattle.saber_check.proofs.PartitionLaws.{partition_fits, lists_fit, word_fits, is_wordless}
 use Rattle.saber_check.proofs.StreamLaws.{source_passes, second_passes, streams_fit, columns_fit}
 
 -- none of a query's parts has a fault
@@ -67,5 +67,5 @@ plan_checked q e =
       predicate = predicate_fits q (where_at q) d h.predicate;
     }
 
-pub plan_plain : (q : Query) → faults q ≡ [] → IsPlain (plan_tree q)
-plan_plain q e = is_plain q (from_at q + 1) (all_pass q e).first
+pub plan_wordless : (q : Query) → faults q ≡ [] → (plan_tree q).word ≡ None
+plan_wordless q e = is_wordless q (from_at q + 1) (all_pass q e).first

@@ -176,15 +176,15 @@ window q i w =
 windowed : (q : Query) (i : ℕ) (s : List ℕ) (o : Option Window) →
     Before (i + (1 + window_width o)) (row (not (is_declared q s)) i cause.UnknownStream ++ row (is_some o && not (has_windows q)) (i + 1) cause.Shape ++ row (has_windows q && not (is_some o)) i cause.Shape
     ++ row (is_some (option_and_then (λ (w : Window). measure_keys w.measure) o) && not (may_partition q)) (i + 1) cause.Shape
-    ++ row (is_some q.word || is_some (option_and_then (λ (w : Window). measure_keys w.measure) o)) i cause.Shape ++ option_map_or (window_faults q (i + 1)) o [])
+    ++ row (is_some q.word) i cause.Shape ++ option_map_or (window_faults q (i + 1)) o [])
 windowed q i s None =
     let n = i + 1 in
     append (append (append (append (append (at_row n i (not (is_declared q s)) cause.UnknownStream (omega arith)) (nothing n)) (at_row n i (has_windows q && true) cause.Shape (omega arith))) (nothing n))
-    (at_row n i (is_some q.word || false) cause.Shape (omega arith))) (nothing n)
+    (at_row n i (is_some q.word) cause.Shape (omega arith))) (nothing n)
 windowed q i s (Some w) =
     let n = i + (1 + (5 + measure_width w.measure)) in
     append (append (append (append (append (at_row n i (not (is_declared q s)) cause.UnknownStream (omega arith)) (at_row n (i + 1) (not (has_windows q)) cause.Shape (omega arith))) (at_row n i (has_windows q && false) cause.Shape (omega arith)))
-    (at_row n (i + 1) (is_some (measure_keys w.measure) && not (may_partition q)) cause.Shape (omega arith))) (at_row n i (is_some q.word || is_some (measure_keys w.measure)) cause.Shape (omega arith))) (more n (window q (i + 1) w) (omega arith))
+    (at_row n (i + 1) (is_some (measure_keys w.measure) && not (may_partition q)) cause.Shape (omega arith))) (at_row n i (is_some q.word) cause.Shape (omega arith))) (more n (window q (i + 1) w) (omega arith))
 
 source : (q : Query) (i : ℕ) (s : Source) → Before (i + source_width s) (source_faults q i s)
 unfolding source_faults

@@ -1,21 +1,20 @@
 -- The columns of PARTITION BY and the word of a query without a fault fit its plan.
-use Rattle.std.proofs.Common.{◌≡◌, ℕ, ◌+◌, ◌≤◌, List, [], ◌∷◌, length, map, Bool, true, false, ◌&&◌, ◌||◌, not, Option, Some, None, option_map, option_and_then, option_to_list, is_some, if◌then◌else◌, refl, sym, ap, ◌∙◌, subst, arith}
+use Rattle.std.proofs.Common.{◌≡◌, ℕ, ◌+◌, List, [], ◌∷◌, map, Bool, true, false, ◌&&◌, ◌||◌, not, Option, Some, None, option_map, option_and_then, option_to_list, is_some, if◌then◌else◌, refl, sym, ap, ◌∙◌, subst, arith}
 use Rattle.std.specs.Option.{option_map_or}
 use Rattle.saber_plan.specs.declared.windows.Stream.{Stream}
 use Rattle.saber_plan.specs.declared.plans.Shape.{Shape}
 use Rattle.saber_plan.specs.declared.plans.Shape.TheVariants as shape
 use Rattle.saber_plan.specs.declared.plans.Word.{Word}
-use Rattle.saber_plan.specs.Checked.{WordFits, PartitionFits, IsPlain}
+use Rattle.saber_plan.specs.Checked.{WordFits, PartitionFits}
 use Rattle.saber_query.specs.declared.tree.Measure.{Measure}
 use Rattle.saber_query.specs.declared.tree.Measure.TheVariants.{Rows, Range, Partition}
 use Rattle.saber_query.specs.declared.tree.Window.{Window}
 use Rattle.saber_query.specs.declared.tree.Source.{Source}
-use Rattle.saber_query.specs.declared.tree.Keys.{Keys}
 use Rattle.saber_query.specs.declared.tree.StreamWord.{StreamWord}
 use Rattle.saber_query.specs.Trees.{Query}
-use Rattle.saber_check.specs.Faults.{any_aggregate, items, keys, is_join, is_group, measure_keys, partition_of, may_partition, measure_faults, window_faults, source_faults}
+use Rattle.saber_check.specs.Faults.{any_aggregate, items, keys, is_join, is_group, measure_keys, may_partition, measure_faults, window_faults, source_faults}
 use Rattle.saber_check.specs.Plans.{plan_place, plan_measure, plan_window, plan_stream, plan_shape, plan_word, streams, places, plan_partition, plan_tree}
-use Rattle.saber_check.proofs.NoFaults.{is_true, neither, not_both}
+use Rattle.saber_check.proofs.NoFaults.{is_true}
 use Rattle.saber_check.proofs.ColumnLaws.{AreDeclared}
 use Rattle.saber_check.proofs.ItemLaws.{PlacesFit, places_fit}
 use Rattle.saber_check.proofs.StreamLaws.{source_passes, measure_passes, windowed, bare}
@@ -112,13 +111,6 @@ word_fits q i f = elim (q.second) as (λ (o : Option Source). q.second ≡ o →
   | Some s ↦ λ n. tt
 ] refl
 
--- ---- neither
-
--- a query that is answered has no word and no PARTITION BY
-pub is_plain : (q : Query) (i : ℕ) → source_faults q i q.from ≡ [] → IsPlain (plan_tree q)
-is_plain q i f =
-    let h = neither (is_some q.word) (is_some (partition_of q.from)) (source_passes q i q.from f).answered in
-    record {
-      no_partition = ap (λ (o : Option Keys). places q o) (none_there (partition_of q.from) h.1);
-      no_word = ap (λ (o : Option StreamWord). option_map plan_word o) (none_there q.word h.0);
-    }
+-- a query that is answered has none
+pub is_wordless : (q : Query) (i : ℕ) → source_faults q i q.from ≡ [] → (plan_tree q).word ≡ None
+is_wordless q i f = ap (λ (o : Option StreamWord). option_map plan_word o) (none_there q.word (source_passes q i q.from f).answered)

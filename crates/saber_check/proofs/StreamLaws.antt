@@ -70,13 +70,13 @@ pub record SourcePasses (q : Query) (i : ℕ) (s : Source) : Type 0 where
   pub bare : (is_some s.window && not (has_windows q)) ≡ false
   pub windowed : (has_windows q && not (is_some s.window)) ≡ false
   pub parted : (is_some (partition_of s) && not (may_partition q)) ≡ false
-  pub answered : is_unanswered q s ≡ false
+  pub answered : is_unanswered q ≡ false
   pub fits : option_map_or (window_faults q (i + 1)) s.window [] ≡ []
 
 pub source_passes : (q : Query) (i : ℕ) (s : Source) → source_faults q i s ≡ [] → SourcePasses q i s
 unfolding source_faults
 source_passes q i s e =
-    let h = five_rows_and (not (is_declared q s.name)) (is_some s.window && not (has_windows q)) (has_windows q && not (is_some s.window)) (is_some (partition_of s) && not (may_partition q)) (is_unanswered q s) i (i + 1) i (i + 1) i cause.UnknownStream cause.Shape cause.Shape cause.Shape cause.Shape (option_map_or (window_faults q (i + 1)) s.window []) e in
+    let h = five_rows_and (not (is_declared q s.name)) (is_some s.window && not (has_windows q)) (has_windows q && not (is_some s.window)) (is_some (partition_of s) && not (may_partition q)) (is_unanswered q) i (i + 1) i (i + 1) i cause.UnknownStream cause.Shape cause.Shape cause.Shape cause.Shape (option_map_or (window_faults q (i + 1)) s.window []) e in
     record { declared = is_true (is_declared q s.name) h.0; bare = h.1; windowed = h.2; parted = h.3; answered = h.4; fits = h.5 }
 
 pub second_passes : (q : Query) (i : ℕ) (s : Source) → second_faults q i s ≡ [] → (is_apart q.from.window s.window ≡ false) × (source_faults q i s ≡ [])

@@ -169,7 +169,7 @@ impl Walk {
         self.report(is_stray(query, source), start + 1, Cause::Shape);
         self.report(is_bare(query, source), start, Cause::Shape);
         self.report(is_parted_amiss(query, source), start + 1, Cause::Shape);
-        self.report(is_unanswered(query, source), start, Cause::Shape);
+        self.report(is_unanswered(query), start, Cause::Shape);
     }
 
     #[tactic(auto, using(crate::proofs::Lemmas::walking), unfolding(crate::specs::Faults::source_faults))]

@@ -1,7 +1,7 @@
 // The check of a query.
-ghost use Rattle.std.specs.Prelude.{◌≡◌, IfOk, IfErr};
+ghost use Rattle.std.specs.Prelude.{◌≡◌, IfOk, IfErr, None};
 ghost use Rattle.saber_plan.specs.Trees.{tree_of};
-ghost use Rattle.saber_plan.specs.Checked.{IsChecked, IsPlain};
+ghost use Rattle.saber_plan.specs.Checked.{IsChecked};
 ghost use Rattle.saber_query.specs.Parsed.{IsParsed};
 ghost use Rattle.saber_query.specs.Trees.{query_of};
 ghost use Rattle.saber_check.specs.Plans.{plan_tree};
@@ -20,7 +20,7 @@ pub fn check(alloc: Global, query: &Query) -> Result<Plan, QueryFault>
     ensures faultless { IfOk result (λ p. IsFaultless (query_of query.now.select)) }
     ensures plan { IfOk result (λ p. tree_of p ≡ plan_tree (query_of query.now.select)) }
     ensures checked { IfOk result (λ p. IsChecked (tree_of p)) }
-    ensures plain { IfOk result (λ p. IsPlain (tree_of p)) }
+    ensures wordless { IfOk result (λ p. (tree_of p).word ≡ None) }
     ensures fault { IfErr result (IsFaultOf query.now) }
 {
     let tree = query.select();

@@ -112,11 +112,11 @@ pub(crate) fn is_parted_amiss(query: &Select, source: &Source) -> bool
     is_partitioned(source) && !may_partition(query)
 }
 
-/// A stream word, or rows parted by keys: nothing answers such queries as yet.
-pub(crate) fn is_unanswered(query: &Select, source: &Source) -> bool
-    ensures { result ≡ is_unanswered (query_of query.now) source.now }
+/// A stream word: nothing answers such queries as yet.
+pub(crate) fn is_unanswered(query: &Select) -> bool
+    ensures { result ≡ is_unanswered (query_of query.now) }
 {
-    query.word.is_some() || is_partitioned(source)
+    query.word.is_some()
 }
 
 fn is_range(measure: &Measure) -> bool

@@ -1,5 +1,5 @@
 -- What a chain comes to: two queries, of which the second one's rows are the lines of the first.
-use Rattle.std.specs.Prelude.{Bool, ◌≡◌, ◌≢◌, ℕ, List, ◌∷◌, ◌++◌, length, Option, Some, IfSome, false}
+use Rattle.std.specs.Prelude.{Bool, ◌≡◌, ◌≢◌, ◌⊎◌, ℕ, List, [], ◌∷◌, ◌++◌, length, Option, Some, IfSome, false}
 use Rattle.saber_io.specs.Outside.{Told, Closed, appended, content_in}
 use Rattle.saber_plan.specs.declared.rows.Side.{Side}
 use Rattle.saber_plan.specs.declared.plans.Shape.TheVariants.{Select, Join}
@@ -41,9 +41,17 @@ pub record HasPlans (files : Contents) (a : AskedChain) (p q : Tree) : Type 0 wh
 abbrev pub HasPlansTold : Option Told → AskedChain → Tree → Tree → Type 0
 HasPlansTold told a p q = IfSome told (λ t. HasPlans t.contents a p q)
 
--- The first one's lines begin with the number of their window, so it is no selection; and they are one stream, so the second one is no join.
-pub record IsChainable (p q : Tree) : Type 0 where
+-- The first one's lines begin with the numbers of their windows, which rise: it is no selection, and has no PARTITION BY.
+pub record MayBeFirst (p : Tree) : Type 0 where
   pub has_windows : p.shape ≢ Select
+  pub in_order : p.partition ≡ []
+
+abbrev pub MayNotBeFirst : Tree → Type 0
+MayNotBeFirst p = (p.shape ≡ Select) ⊎ (p.partition ≢ [])
+
+-- And they are one stream, so the second one is no join.
+pub record IsChainable (p q : Tree) : Type 0 where
+  pub begins : MayBeFirst p
   pub has_one_stream : q.shape ≢ Join
 
 -- the row files are asked for: both queries have plans that chain, and each stream of the first one has its file
@@ -66,14 +74,14 @@ pub record CountsDiffer (files : Contents) (a : AskedChain) (streams given : ℕ
 
 -- ---- before a run
 
--- Why nothing was run: the first of what is at fault, in this order. The text of the first query; that of the second one; the first one's shape;
--- the second one's; the number of row files. A file that can't be opened or read has its cause in a count of faults, and is asked for where all
+-- Why nothing was run: the first of what is at fault, in this order. The text of the first query; that of the second one; what the first one's lines
+-- begin with; the second one's shape; the number of row files. A file that can't be opened or read has its cause in a count of faults, and is asked for where all
 -- before it was good. Want of memory has no cause.
 abbrev pub HasReason : Contents → AskedChain → Outcome → Type 0
 HasReason files a (QueryFault byte cause) = IsFaulty files a.first byte cause
 HasReason files a (SecondQueryFault byte cause) = (p : Tree) × IsPlanned files a.first p × IsFaulty files a.second byte cause
-HasReason files a (Unchainable Query) = (p : Tree) × (q : Tree) × HasPlans files a p q × (p.shape ≡ Select)
-HasReason files a (Unchainable SecondQuery) = (p : Tree) × (q : Tree) × HasPlans files a p q × (p.shape ≢ Select) × (q.shape ≡ Join)
+HasReason files a (Unchainable Query) = (p : Tree) × (q : Tree) × HasPlans files a p q × MayNotBeFirst p
+HasReason files a (Unchainable SecondQuery) = (p : Tree) × (q : Tree) × HasPlans files a p q × MayBeFirst p × (q.shape ≡ Join)
 HasReason files a (FileCount streams given) = CountsDiffer files a streams given
 HasReason files a (OpenFault Query) = Unit {0}
 HasReason files a (ReadFault Query) = Unit {0}

@@ -1,7 +1,7 @@
 -- What the parts of a chain come to: a query's plan, both plans, and the run over the row files.
 use Rattle.std.specs.Prelude.{◌≡◌, ◌≢◌, ◌≤◌, ℕ, suc, List, [], ◌∷◌, length, take, Option, Some, IfSome}
 use Rattle.saber_io.specs.Outside.{Told, Closed}
-use Rattle.saber_plan.specs.declared.plans.Shape.TheVariants.{Select, Join}
+use Rattle.saber_plan.specs.declared.plans.Shape.TheVariants.{Join}
 use Rattle.saber_plan.specs.declared.rows.Side.{Side}
 use Rattle.saber_plan.specs.declared.sizes.Sizes.{Sizes}
 use Rattle.saber_plan.specs.Sizes.{limits_of}
@@ -17,7 +17,7 @@ use Rattle.saber_cli.specs.Leaves.{AreOf}
 use Rattle.saber_cli.specs.RowFiles.{using}
 use Rattle.saber_cli.specs.Uses.{IsOf}
 use Rattle.saber_cli.specs.Taken.{TakesRows}
-use Rattle.saber_cli.specs.Chained.{IsChainable, RunsChain}
+use Rattle.saber_cli.specs.Chained.{MayBeFirst, MayNotBeFirst, IsChainable, RunsChain}
 use Rattle.saber_cli.specs.ChainLeaves.{MatchesChain}
 
 -- ---- a query
@@ -39,8 +39,8 @@ as_second o = o
 
 -- why two plans make no chain over so many row files
 abbrev pub IsMisfit : Tree → Tree → ℕ → Outcome → Type 0
-IsMisfit p q files (Unchainable Query) = p.shape ≡ Select
-IsMisfit p q files (Unchainable SecondQuery) = (p.shape ≢ Select) × (q.shape ≡ Join)
+IsMisfit p q files (Unchainable Query) = MayNotBeFirst p
+IsMisfit p q files (Unchainable SecondQuery) = MayBeFirst p × (q.shape ≡ Join)
 IsMisfit p q files (FileCount streams given) = IsChainable p q × (length p.streams ≡ streams) × (files ≡ given) × (streams ≢ given)
 IsMisfit p q files _ = ⊥
 

@@ -12,9 +12,7 @@ ghost use Rattle.saber_cli.specs.Tells.{IsAnswer, IsWholeOrLacks, TellsRun};
 
 use crate::answer::Ran;
 use crate::puts::put;
-use saber_demo::{
-    Generated, TextSink, demo_is_checked, demo_is_plain, demo_plan, generated_is_read, summary,
-};
+use saber_demo::{Generated, TextSink, demo_is_checked, demo_plan, generated_is_read, summary};
 use saber_engine::{Inputs, Ran as Engine, RunEnd, engine};
 use saber_io::{Gate, Sink};
 use saber_laws::{none_is_wide, rows_have_tasks};
@@ -79,7 +77,6 @@ fn run_generated<G: Gate + Sync, R: Threads + Wait + Sync>(
     ensures few { IfErr result (λ tasks. tasks ≤ tasks_of_run (asked_demo command.now)) }
 {
     demo_is_checked();
-    demo_is_plain();
     generated_is_read();
     none_is_wide();
     rows_have_tasks();

@@ -1,14 +1,14 @@
 // The plans of a chain's two queries.
-ghost use Rattle.std.specs.Prelude.{◌≡◌, ◌≢◌, ℕ, List, IfOk, IfErr, IfSome, None, length};
+ghost use Rattle.std.specs.Prelude.{◌≡◌, ◌≢◌, ℕ, List, IfOk, IfErr, IfSome, None, length, true, false};
 ghost use Rattle.saber_io.specs.Outside.{Rose};
 ghost use Rattle.saber_plan.specs.Trees.{tree_of};
-ghost use Rattle.saber_plan.specs.Checked.{IsChecked, IsPlain};
+ghost use Rattle.saber_plan.specs.Checked.{IsChecked};
 ghost use Rattle.saber_words.specs.Chain.{asked_chain};
 ghost use Rattle.saber_notes.specs.declared.outcome.InputFile.{InputFile};
 ghost use Rattle.saber_cli.specs.Outcomes.{IsClean, IsFileFault, IsOfPlan, IsOfPlans};
 ghost use Rattle.saber_cli.specs.Due.{IsLike, first_run, row_names};
 ghost use Rattle.saber_cli.specs.Uses.{Uses, KeepsFaults, outcome_of};
-ghost use Rattle.saber_cli.specs.Chained.{HasPlansTold, HasReason, IsChainable, IsPlanned};
+ghost use Rattle.saber_cli.specs.Chained.{HasPlansTold, HasReason, IsChainable, IsPlanned, MayBeFirst, MayNotBeFirst};
 ghost use Rattle.saber_cli.specs.ChainLeaves.{LeavesChain};
 ghost use Rattle.saber_cli.specs.Chaining.{BothRead, IsMisfit, LacksPlan, as_second};
 
@@ -25,7 +25,7 @@ use std::alloc::Global;
 fn query_plan<F: Files>(alloc: Global, files: &mut F, name: &str) -> Result<Plan, Outcome>
     ensures plan { IfOk result (λ plan. IfSome (F.told files.old) (λ t. IsPlanned t.contents name.now (tree_of plan))) }
     ensures checked { IfOk result (λ plan. IsChecked (tree_of plan)) }
-    ensures plain { IfOk result (λ plan. IsPlain (tree_of plan)) }
+    ensures wordless { IfOk result (λ plan. (tree_of plan).word ≡ None) }
     ensures lacks { IfErr result (λ o. IfSome (F.told files.old) (λ t. LacksPlan t.contents name.now o)) }
     ensures kinds { IfErr result IsOfPlan }
     ensures uses { Uses InputFile.Query name.now (outcome_of result) (F.told files.old) (F.told files.new) }
@@ -56,13 +56,24 @@ fn as_second(outcome: Outcome) -> Outcome
     }
 }
 
+// Whether a query's lines begin with the numbers of windows, which rise.
+fn may_be_first(plan: &Plan) -> bool
+    ensures is { result ≡ true → MayBeFirst (tree_of plan.now) }
+    ensures isnt { result ≡ false → MayNotBeFirst (tree_of plan.now) }
+{
+    if plan.shape() == Shape::Select {
+        return false;
+    }
+    plan.partition().is_empty()
+}
+
 // Why two plans make no chain over so many row files.
 fn misfit(first: &Plan, second: &Plan, files: u64) -> Option<Outcome>
     ensures some { IfSome result (IsMisfit (tree_of first.now) (tree_of second.now) files) }
     ensures chains { result ≡ None → IsChainable (tree_of first.now) (tree_of second.now) }
     ensures like { result ≡ None → length (tree_of first.now).streams ≡ files }
 {
-    if first.shape() == Shape::Select {
+    if !may_be_first(first) {
         return Some(Outcome::Unchainable(InputFile::Query));
     }
     if second.shape() == Shape::Join {
@@ -100,9 +111,9 @@ pub(crate) fn chain_plans<F: Files>(
 ) -> Result<Plans, Outcome>
     ensures plans { IfOk result (λ plans. HasPlansTold (F.told files.old) (asked_chain command.now) (tree_of plans.first) (tree_of plans.second)) }
     ensures first { IfOk result (λ plans. IsChecked (tree_of plans.first)) }
-    ensures first_plain { IfOk result (λ plans. IsPlain (tree_of plans.first)) }
+    ensures first_wordless { IfOk result (λ plans. (tree_of plans.first).word ≡ None) }
     ensures second { IfOk result (λ plans. IsChecked (tree_of plans.second)) }
-    ensures second_plain { IfOk result (λ plans. IsPlain (tree_of plans.second)) }
+    ensures second_wordless { IfOk result (λ plans. (tree_of plans.second).word ≡ None) }
     ensures chains { IfOk result (λ plans. IsChainable (tree_of plans.first) (tree_of plans.second)) }
     ensures like { IfOk result (λ plans. IsLike (first_run (asked_chain command.now)) (tree_of plans.first)) }
     ensures reason { IfErr result (λ o. IfSome (F.told files.old) (λ t. HasReason t.contents (asked_chain command.now) o)) }

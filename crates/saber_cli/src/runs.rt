@@ -1,8 +1,8 @@
 // A run over the row files of its query.
-ghost use Rattle.std.specs.Prelude.{◌≡◌, ◌≢◌, ℕ, List, length};
+ghost use Rattle.std.specs.Prelude.{◌≡◌, ◌≢◌, ℕ, List, length, None};
 ghost use Rattle.saber_io.specs.Outside.{Rose, appended};
 ghost use Rattle.saber_plan.specs.Trees.{tree_of};
-ghost use Rattle.saber_plan.specs.Checked.{IsChecked, IsPlain};
+ghost use Rattle.saber_plan.specs.Checked.{IsChecked};
 ghost use Rattle.saber_plan.specs.Sizes.{SizesFit};
 ghost use Rattle.saber_words.specs.Commands.{asked_run};
 ghost use Rattle.saber_notes.specs.declared.outcome.Outcome.{Outcome};
@@ -35,7 +35,7 @@ pub(crate) fn run_rows<F: Files, K: Sink + Send, G: Gate + Sync, R: Threads + Wa
     gate: &G,
 ) -> Ran<K>
     requires checked { IsChecked (tree_of plan.now) }
-    requires plain { IsPlain (tree_of plan.now) }
+    requires wordless { (tree_of plan.now).word ≡ None }
     requires like { length (tree_of plan.now).streams ≡ length (row_names (asked_run command.now)) }
     requires sizes { SizesFit sizes.now }
     ensures written { (out : List ℕ) × (K.written result.sink ≡ appended (K.written sink) out)

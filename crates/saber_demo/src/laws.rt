@@ -1,5 +1,5 @@
 // What the generated file and the text of the query come to. Calls that do nothing.
-ghost use Rattle.saber_plan.specs.Checked.{IsChecked, IsPlain};
+ghost use Rattle.saber_plan.specs.Checked.{IsChecked};
 ghost use Rattle.saber_demo.specs.Laws.{GeneratedIsRead};
 ghost use Rattle.saber_check.specs.Texts.{HasPlan};
 ghost use Rattle.saber_demo.specs.Query.{demo_query, demo_tree};
@@ -16,11 +16,6 @@ pub fn generated_is_read()
 /// The query's plan is as the check of a query leaves plans.
 pub fn demo_is_checked()
     ensures { IsChecked demo_tree }
-{}
-
-/// And it is plain.
-pub fn demo_is_plain()
-    ensures { IsPlain demo_tree }
 {}
 
 /// The plan that is built is that of the query's text.

@@ -20,7 +20,7 @@ mod source;
 mod summaries;
 mod text_sink;
 
-pub use laws::{demo_is_checked, demo_is_plain, demo_query_has_plan, generated_is_read};
+pub use laws::{demo_is_checked, demo_query_has_plan, generated_is_read};
 pub use query::demo_plan;
 pub use source::Generated;
 pub use summaries::summary;

@@ -88,7 +88,6 @@ module _ (law : MovesGoOn) (laws : MergesGoOn) (q : Tree) (s : Sizes) (had has n
   filled_by : f.rows ≡ rows → 1 ≤ length rows → FilledState s (after (ended_by filled)) rows (ended_by filled) → Filled q s had now (after (ended_by filled)) r.rows c.mark rows
   filled_by e some h = record {
     windows = k.windows;
-    unlisted = k.unlisted;
     sizes = k.sizes;
     made = record { size = k.made.size; room = k.made.room };
     took = subst (λ l. Took q no_rows (fresh q (limits_of s)) (reading_of new) had now (r.rows ++ l)) e all_took;
@@ -100,6 +99,7 @@ module _ (law : MovesGoOn) (laws : MergesGoOn) (q : Tree) (s : Sizes) (had has n
     before_is = goes.mark;
     mark = marks ∙ ap (λ l. mark_of (r.rows ++ l)) e;
     back = goes.back;
+    counted = goes.counted;
     state = h;
   }
 
@@ -139,7 +139,6 @@ module _ (law : MovesGoOn) (laws : MergesGoOn) (q : Tree) (s : Sizes) (had has n
   ended_cuts : (e end : End) → filled ≡ Err e → stops (Err e) (length rows) ≡ Some end → Cuts q s had now (after (Some e)) r
   ended_cuts e end h i = record {
     windows = k.windows;
-    unlisted = k.unlisted;
     sizes = k.sizes;
     made = record { size = k.made.size; room = k.made.room };
     dropped = f.rows;

@@ -1,5 +1,5 @@
 -- The block of the input's end, behind all rows.
-use Rattle.std.proofs.Common.{inr, ◌≡◌, ◌≤◌, ◌<◌, ◌^◌, ℕ, zero, suc, ◌+◌, ◌-◌, ◌*◌, ◌==◌, min, length, List, [], ◌++◌, Option, Some, Bool, true, false, ◌&&◌, ◌||◌, not, refl, sym, ◌∙◌, ap, subst, ⊎_elim, arith, append-nil}
+use Rattle.std.proofs.Common.{inr, ◌≡◌, ◌≤◌, ◌<◌, ◌^◌, ℕ, zero, suc, ◌+◌, ◌-◌, ◌*◌, ◌==◌, min, length, List, [], ◌∷◌, ◌++◌, Option, Some, Bool, true, false, ◌&&◌, ◌||◌, not, refl, sym, ◌∙◌, ap, subst, ⊎_elim, arith, append-nil}
 use Rattle.std.proofs.lemmas.Bool.{cases_lt}
 use Rattle.std.proofs.lemmas.List.{take_all}
 use Rattle.std.proofs.lemmas.Grind.{div_ceil_times}
@@ -11,16 +11,18 @@ use Rattle.saber_plan.specs.Windows.{no_rows, mark_of}
 use Rattle.saber_plan.specs.Inputs.{Input, going_on}
 use Rattle.saber_plan.specs.Trees.{Tree}
 use Rattle.saber_plan.specs.Given.{RowsFit}
-use Rattle.saber_plan.specs.Tasks.{upto, task_count, row_tasks}
+use Rattle.saber_plan.specs.declared.rows.Row.{Row}
+use Rattle.saber_plan.specs.Tasks.{upto, task_count, row_tasks, places_after}
 use Rattle.saber_plan.specs.Needs.{free, need}
 use Rattle.saber_laws.specs.Needs.{NeedsStay}
 use Rattle.saber_fragment.specs.declared.blocks.Block.{Block}
+use Rattle.saber_places.specs.Counting.{places_behind}
 use Rattle.saber_dispatch.specs.declared.ends.End.TheVariants.{AllRead, TooWide}
 use Rattle.saber_dispatch.specs.declared.cutter.Cutter.{Cutter}
 use Rattle.saber_dispatch.specs.declared.lasts.Lasts.{Lasts}
 use Rattle.saber_dispatch.specs.Readings.{reading_of}
 use Rattle.saber_dispatch.specs.Filling.{Took}
-use Rattle.saber_dispatch.specs.Cutting.{LooksBack, Behind, AtEnd, EndComes, CutState, Flushes, Cuts, Adds, IsNextBlock, is_due, end_counts, and_block, places_behind, fresh}
+use Rattle.saber_dispatch.specs.Cutting.{LooksBack, Behind, AtEnd, EndComes, CutState, Flushes, Cuts, Adds, IsNextBlock, is_due, end_counts, and_block, fresh}
 use Rattle.saber_dispatch.proofs.Fillings.{small as small_marks}
 use Rattle.saber_dispatch.proofs.NextTasks.{goes_on, upto_rows, need_stays}
 use Rattle.saber_dispatch.proofs.BlockCuts.{none_earlier}
@@ -34,6 +36,12 @@ both_on false n h = absurd (let e : false ≡ true = h in cc)
 or_on : (b : Bool) → (b || true) ≡ true
 or_on true = refl
 or_on false = refl
+
+-- no rows have no places
+nothing_placed : (q : Tree) (ks : List ℕ) (xs : List Row) → places_behind q ks xs [] ≡ []
+unfolding places_after
+nothing_placed q [] xs = refl
+nothing_placed q (k ∷ ks) xs = refl
 
 not_both : true ≡ false → ⊥
 not_both h = cc
@@ -91,7 +99,6 @@ module _ (q : Tree) (s : Sizes) (had has : List (Option (List ℕ))) (c : Cutter
   pub wide_cuts : (l : Option Lasts) (first needs : ℕ) → first ≡ free q s.task (going_on r.rows) c.number → needs ≡ c.number - first + 1 → c.room < needs → Cuts q s had has (record c { lasts = l; ended = Some (TooWide c.number needs) }) r
   wide_cuts l first needs is n wide = record {
     windows = k.windows;
-    unlisted = k.unlisted;
     sizes = k.sizes;
     made = record { size = k.made.size; room = k.made.room };
     dropped = k.dropped;
@@ -129,7 +136,7 @@ module _ (q : Tree) (s : Sizes) (had has : List (Option (List ℕ))) (c : Cutter
       first = first ∙ ap (λ i. free q s.task i c.number) (sym is_rows) ∙ ap (free q s.task r) (sym number);
       near = subst (λ t. need q s.task r t ≤ s.ring) (sym number) near;
       fits = subst (RowsFit q no_rows) (sym no_more) (record { rows = took_all.fits; ordered = took_all.ordered; left = marks_small.0; right = marks_small.1 });
-      places = unplaced ∙ sym (ap (λ ks. places_behind q ks r.rows b.rows) k.unlisted);
+      places = unplaced ∙ sym (ap (places_behind q q.partition r.rows) none ∙ nothing_placed q q.partition r.rows);
       adds = subst (Adds q s r b) (sym ends) (record { counts = sym opened.1 ∙ on.0; had_rows = had_rows; none = none });
     }
 
@@ -160,7 +167,6 @@ module _ (q : Tree) (s : Sizes) (had has : List (Option (List ℕ))) (c : Cutter
       all_cuts : Cuts q s had has given all
       all_cuts = record {
         windows = k.windows;
-        unlisted = k.unlisted;
         sizes = k.sizes;
         made = record { size = k.made.size; room = k.made.room };
         dropped = k.dropped;

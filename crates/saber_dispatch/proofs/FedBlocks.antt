@@ -64,7 +64,6 @@ module _ (q : Tree) (s : Sizes) (taken waiting : List ℕ) (c : Cutter) (r : Inp
   pub lacks : Cuts q s (only taken) (only waiting) (record c { ended = Some NoMemory }) r
   lacks = record {
     windows = k.windows;
-    unlisted = k.unlisted;
     sizes = k.sizes;
     made = record { size = k.made.size; room = k.made.room };
     dropped = k.dropped;

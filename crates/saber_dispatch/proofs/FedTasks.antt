@@ -70,7 +70,6 @@ module _ (q : Tree) (s : Sizes) (taken more : List ℕ) where
   cuts_more : (there : List ℕ) (c : Cutter) (r : Input) → Cuts q s (only taken) (only there) c r → (SawEnd (reading_of c.reader) → more ≡ []) → Cuts q s (only (taken ++ more)) (only (there ++ more)) c r
   cuts_more there c r k none = record {
     windows = k.windows;
-    unlisted = k.unlisted;
     sizes = k.sizes;
     made = k.made;
     dropped = k.dropped;

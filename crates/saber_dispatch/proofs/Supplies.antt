@@ -17,7 +17,8 @@ use Rattle.saber_fragment.specs.Drafts.{EndWith}
 use Rattle.saber_assembly.specs.declared.work.Told.{Told}
 use Rattle.saber_assembly.specs.Stages.{Tasks}
 use Rattle.saber_assembly.specs.Works.{input_of, with_block}
-use Rattle.saber_dispatch.specs.Cutting.{Adds, IsNextBlock, places_behind}
+use Rattle.saber_dispatch.specs.Cutting.{Adds, IsNextBlock}
+use Rattle.saber_places.specs.Counting.{places_behind}
 use Rattle.saber_dispatch.specs.Supplying.{IsSupplied, BlocksAreSupplied}
 use Rattle.saber_dispatch.proofs.NextTasks.{goes_on, row_cut, upto_rows, upto_end, upto_all, upto_seam}
 

@@ -16,10 +16,11 @@ use Rattle.saber_plan.specs.Answers.{frame}
 use Rattle.saber_plan.specs.Trees.{Tree}
 use Rattle.saber_plan.specs.Checked.{columns_on}
 use Rattle.saber_plan.specs.Given.{RowsFit}
-use Rattle.saber_plan.specs.Tasks.{task_count, places_after}
+use Rattle.saber_plan.specs.Tasks.{task_count}
 use Rattle.saber_plan.specs.Needs.{free, need, block_lasts}
 use Rattle.saber_fragment.specs.declared.blocks.Block.{Block}
 use Rattle.saber_fragment.specs.Drafts.{EndWith}
+use Rattle.saber_places.specs.Counting.{AreCounted, places_behind}
 use Rattle.saber_dispatch.specs.Sources.{Lefts, RoseAt}
 use Rattle.saber_dispatch.specs.declared.ends.End.{End}
 use Rattle.saber_dispatch.specs.declared.ends.End.TheVariants.{AllRead, Bad, ReadFault, TooWide, NoMemory}
@@ -105,6 +106,7 @@ pub record Goes (q : Tree) (s : Sizes) (c : Cutter) (r : Input) (dropped : List 
   pub whole : length r.rows ≡ c.number * s.task
   pub mark : c.mark ≡ mark_of r.rows
   pub back : LooksBack q s.task r.rows c.number c.lasts
+  pub counted : AreCounted q r.rows c.places
 
 -- All rows are in blocks. As long as the input's end isn't, the cutter has what the end's block tells.
 pub record AtEnd (q : Tree) (s : Sizes) (c : Cutter) (r : Input) (dropped : List Row) : Type 0 where
@@ -173,7 +175,6 @@ Flushes q s c r dropped true = EndGiven q s c r dropped
 -- The cutter gave the tasks of this input, which are the first of its inputs; it read other rows that are in no block.
 pub record Cuts (q : Tree) (s : Sizes) (had has : Lefts) (c : Cutter) (r : Input) : Type 0 where
   pub windows : Fits (frame q)
-  pub unlisted : q.partition ≡ []
   pub sizes : SizesFit s
   pub made : MadeFor s c
   pub dropped : List Row
@@ -218,13 +219,8 @@ abbrev pub Adds : Tree → Sizes → Input → Block → Bool → Type 0
 Adds q s r b false = AddsRows s r b
 Adds q s r b true = AddsEnd q s r b
 
--- where rows stand in their substreams, behind others; only a query with PARTITION BY asks for it
-abbrev pub places_behind : Tree → List ℕ → List Row → List Row → List ℕ
-places_behind q [] xs rows = []
-places_behind q (k ∷ ks) xs rows = places_after q xs rows
-
 -- The block of the next task of an input: the rows of the task or the input's end, with what stands before them, and the first task whose rows
--- the task needs. The rows that it has of those before are the last of them.
+-- the task needs. The rows that it has of those before are the last of them, and it has where its own stand in their substreams.
 pub record IsNextBlock (q : Tree) (s : Sizes) (r : Input) (b : Block) : Type 0 where
   pub windows : Fits (frame q)
   pub size : 1 ≤ s.task
@@ -285,7 +281,6 @@ FilledState s c rows (Some _) = ⊥
 -- the rows of the block behind those of the blocks given
 pub record Filled (q : Tree) (s : Sizes) (had has : Lefts) (c : Cutter) (xs : List Row) (before : Mark) (rows : List Row) : Type 0 where
   pub windows : Fits (frame q)
-  pub unlisted : q.partition ≡ []
   pub sizes : SizesFit s
   pub made : MadeFor s c
   pub took : Took q no_rows (fresh q (limits_of s)) (reading_of c.reader) had has (xs ++ rows)
@@ -297,6 +292,7 @@ pub record Filled (q : Tree) (s : Sizes) (had has : Lefts) (c : Cutter) (xs : Li
   pub before_is : before ≡ mark_of xs
   pub mark : c.mark ≡ mark_of (xs ++ rows)
   pub back : LooksBack q s.task xs c.number c.lasts
+  pub counted : AreCounted q xs c.places
   pub state : FilledState s c rows c.ended
 
 -- whatever was given before, these rows were read behind it, and this is what comes of their block

@@ -27,6 +27,7 @@ use saber_flat::{RowBuilder, Rows};
 use saber_fragment::{Block, Earlier};
 use saber_io::Source;
 use saber_laws::{checked_fit, lasts_tell_free, needs_stay, tasks_look_back, tasks_look_on};
+use saber_places::{Places, places_of};
 use saber_plan::{Mark, NoMemory, Plan, Sizes};
 use saber_rows::{mergers_stand, merges_go_on, moves_go_on, readers_stand};
 use saber_window::stamps_fit;
@@ -44,6 +45,8 @@ pub struct Cutter {
     pub(crate) reader: Reader,
     // of a query that joins two streams
     pub(crate) lasts: Option<Lasts>,
+    // of a query with PARTITION BY
+    pub(crate) places: Option<Places>,
     // rows of a block
     pub(crate) size: usize,
     // how many blocks a task may need
@@ -165,11 +168,10 @@ fn is_due(flush: bool, count: u64, end: End) -> bool
 impl Cutter {
     /// A cutter of a checked plan's inputs, which has read nothing. A block has `sizes.task` rows, and no
     /// task may need more than `sizes.ring` blocks, its own counted. With `sizes.flush` the end of the input
-    /// is a block too, where the query has windows. The memory of the readers' buffers is taken here. The plan has
-    /// no PARTITION BY: its blocks don't say where their rows stand in their substreams.
+    /// is a block too, where the query has windows. The memory of the readers' buffers is taken here. For a plan with PARTITION BY
+    /// the blocks tell where their rows stand in their substreams, and memory is taken for each key list.
     pub fn new(alloc: Global, plan: &Plan, sizes: &Sizes) -> Result<Cutter, NoMemory>
         requires checked { IsChecked (tree_of plan.now) }
-        requires unlisted { (tree_of plan.now).partition ≡ [] }
         requires sizes { SizesFit sizes.now }
         ensures cuts { IfOk result (CutsNothing (tree_of plan.now) sizes.now) }
         ensures goes { IfOk result (λ c. end_of c ≡ None) }
@@ -180,10 +182,12 @@ impl Cutter {
         readers_stand();
         mergers_stand();
         let reader = reader_for(alloc, plan, sizes)?;
+        let places = Places::of_plan(alloc, plan)?;
         Ok(Cutter {
             alloc,
             reader,
             lasts: lasts_for(alloc, plan),
+            places,
             size: sizes.task as usize,
             room: u64::from(sizes.ring),
             flush: end_counts(plan, sizes),
@@ -216,8 +220,11 @@ impl Cutter {
             self.ended = Some(End::NoMemory);
             return Cut::Ended(End::NoMemory);
         }
+        let Ok(places) = places_of(&mut self.places, self.alloc, &rows) else {
+            self.ended = Some(End::NoMemory);
+            return Cut::Ended(End::NoMemory);
+        };
         let number = self.number;
-        let places = Vec::new(self.alloc);
         self.number += 1;
         Cut::Block(Block {
             number,

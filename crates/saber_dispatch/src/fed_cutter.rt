@@ -51,7 +51,7 @@ fn step_of(cut: Cut) -> Step
 }
 
 impl FedCutter {
-    ghost use Rattle.std.specs.Prelude.{◌≡◌, ◌≢◌, ◌≤◌, IfOk, OnErr, IfSome, Some, None, length, []};
+    ghost use Rattle.std.specs.Prelude.{◌≡◌, ◌≢◌, ◌≤◌, IfOk, OnErr, IfSome, Some, None, length};
     ghost use Rattle.saber_io.specs.declared.feeds.EndMark.TheVariants as marks;
     ghost use Rattle.saber_io.specs.Outside.{Rose};
     ghost use Rattle.saber_plan.specs.declared.rows.Side.{Side};
@@ -68,11 +68,9 @@ impl FedCutter {
 
     /// A cutter of a checked plan of one stream, which was given nothing. A block has `sizes.task` rows, and no
     /// task may need more than `sizes.ring` blocks, its own counted. With `sizes.flush` the end of the feed
-    /// is a block too, where the query has windows. The memory of the reader's buffer is taken here. The plan has
-    /// no PARTITION BY.
+    /// is a block too, where the query has windows. The memory of the reader's buffer is taken here.
     pub fn new(alloc: Global, plan: &Plan, sizes: &Sizes) -> Result<FedCutter, NoMemory>
         requires checked { IsChecked (tree_of plan.now) }
-        requires unlisted { (tree_of plan.now).partition ≡ [] }
         requires one { length (tree_of plan.now).streams ≡ 1 }
         requires sizes { SizesFit sizes.now }
         ensures cuts { IfOk result (CutsNothingFed (tree_of plan.now) sizes.now) }

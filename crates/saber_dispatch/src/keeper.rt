@@ -38,11 +38,14 @@ fn has_such(streams: &[Stream], task: u32) -> bool {
     }
 }
 
-// Whether a query's tasks are to have the rows of the task before: with no thread beside the caller's nothing waits for the turn.
+// Whether a query's tasks are to have the rows of the task before: with no thread beside the caller's nothing waits for the turn, and with
+// PARTITION BY no task answers a window by itself.
 fn helps(plan: &Plan, sizes: &Sizes) -> bool {
     match plan.shape() {
         Shape::Select => false,
-        Shape::Group => sizes.threads > 0 && has_such(plan.streams(), sizes.task),
+        Shape::Group => {
+            sizes.threads > 0 && plan.partition().is_empty() && has_such(plan.streams(), sizes.task)
+        }
         Shape::Join => false,
     }
 }

@@ -6,6 +6,7 @@ use crate::fed_cutter::{Begun, FedCutter};
 use crate::keeper::Keeper;
 use crate::lasts::Lasts;
 use crate::reader::Reader;
+use saber_places::Places;
 use saber_rows::{Lines, Merge};
 
 // Lets the reader of one input go.
@@ -25,6 +26,9 @@ fn let_reader_go(reader: Reader) {
 // Lets the last windows of blocks go.
 fn let_lasts_go(_lasts: Option<Lasts>) {}
 
+// Lets the counts of rows by key list go.
+fn let_places_go(_places: Option<Places>) {}
+
 // Lets a block that isn't whole go.
 fn let_begun_go(_begun: Option<Begun>) {}
 
@@ -33,6 +37,7 @@ impl Cutter {
     pub fn let_go(self) {
         let_reader_go(self.reader);
         let_lasts_go(self.lasts);
+        let_places_go(self.places);
     }
 }
 

@@ -9,13 +9,13 @@
 //!   `FedCutter::step` takes a feed, and may say that it is dry; `Keeper::pass_on` takes a block
 //!   and gives it on.
 //! - Proved: a block is that of the next task, or of the input's end, with its mark, its number and
-//!   the first block that it needs; an end has its cause. The blocks are the first tasks of the
-//!   input, all of them where all was read or a line refused; after a failed read at least every
-//!   whole task of the whole lines taken; the task told as too wide is the first that is
-//!   (`specs/Telling.antt`). A feed gives the same blocks, whatever comes behind what was taken.
-//!   `Keeper` gives a block the last rows before it, or none.
+//!   the first block that it needs, and with PARTITION BY its rows' places; an end has its cause.
+//!   The blocks are the first tasks of the input, all of them where all was read or a line refused;
+//!   after a failed read at least every whole task of the whole lines taken; the task told as too
+//!   wide is the first that is (`specs/Telling.antt`). A feed gives the same blocks, whatever comes
+//!   behind what was taken. `Keeper` gives a block the last rows before it, or none.
 //! - Not claimed: to which blocks `Keeper` gives rows. A copy for which memory lacks is left out.
-//! - Limits: those of `Sizes`. Plans without PARTITION BY; over a feed, of one stream.
+//! - Limits: those of `Sizes`. Over a feed, plans of one stream.
 #![tactic(auto)]
 
 mod closing;

@@ -2,8 +2,9 @@
 //! The chain and the top call run queries by it.
 //!
 //! - Parts: `ends` (how a run ends), `cells` (the size of the ring), `spare` (memory stays with the
-//!   process), `blocks` and `plans` (a run of one operator), `run_engine` (a plan over sources),
-//!   `fed_blocks`, `fed_plans` and `fed_engine` (the same over a feed).
+//!   process), `blocks` and `plans` (a run of one operator), `partitioned` (which group queries have
+//!   PARTITION BY), `run_engine` (a plan over sources), `fed_blocks`, `fed_plans` and `fed_engine`
+//!   (the same over a feed).
 //! - Calls: `engine` takes a checked plan, sources, a sink, sizes and a gate, and gives the sink
 //!   back with how the run ended and how many tasks are assembled; `engine_pouring` takes a sink
 //!   that may hold bytes back, `engine_fed` a feed in place of sources.
@@ -14,8 +15,7 @@
 //!   the same holds for every file that goes on from what was taken (`specs/FedRuns.antt`).
 //! - Not claimed: time, progress of threads, or a cause for want of memory. Over one stream the
 //!   ring may have fewer cells than `--ring` says (`cells.rt`); no contract speaks of it.
-//! - Limits: those of `Sizes`; plans without PARTITION BY and without a stream word. A run waits
-//!   for its threads.
+//! - Limits: those of `Sizes`; plans without a stream word. A run waits for its threads.
 #![tactic(auto)]
 
 mod blocks;
@@ -24,6 +24,7 @@ mod ends;
 mod fed_blocks;
 mod fed_engine;
 mod fed_plans;
+mod partitioned;
 mod plans;
 mod run_engine;
 mod spare;

@@ -3,7 +3,7 @@ ghost use Rattle.std.specs.Prelude.{◌≡◌, ◌≢◌, ◌≤◌, ℕ, List, 
 ghost use Rattle.saber_io.specs.Outside.{Rose};
 ghost use Rattle.saber_plan.specs.declared.rows.Side.{Side};
 ghost use Rattle.saber_plan.specs.Trees.{tree_of};
-ghost use Rattle.saber_plan.specs.Checked.{IsChecked, IsPlain};
+ghost use Rattle.saber_plan.specs.Checked.{IsChecked};
 ghost use Rattle.saber_plan.specs.Sizes.{SizesFit};
 ghost use Rattle.saber_engine.specs.declared.ends.RunEnd.{RunEnd};
 ghost use Rattle.saber_engine.specs.Sources.{each_input, told_by, RoseAt, NoneFell, GaveAll};
@@ -49,7 +49,6 @@ where
     O::Store: Send,
     requires plan { O.plan operator.now ≡ tree_of plan.now }
     requires checked { IsChecked (tree_of plan.now) }
-    requires plain { IsPlain (tree_of plan.now) }
     requires inputs { length (each_input S.left inputs.old) ≡ length (tree_of plan.now).streams }
     requires sizes { SizesFit sizes.now }
     requires begins { (J.sizes ≡ sizes.now) × (J.lefts ≡ each_input S.left inputs.old) × (J.faults ≡ each_input S.faults inputs.old) }

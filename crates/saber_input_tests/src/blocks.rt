@@ -54,6 +54,16 @@ const OVERLAPS: &str = "\
 2 1 0 +|0,5;1,9;4,1;|[0, 1, 2] [0, 1, 4] [0, 0, 2, 0, 3, 0] [] true Some(AllRead)
 ";
 
+// Counts in windows of two rows of each key. Here is seen where each row stands among those of its key in all blocks, in place of what stands before
+// blocks and of the rows before that they have.
+const KEYS: &str = "\
+1 1 0 -|0,7;1,8;1,7;2,7;2,8;3,7;|[0, 1, 2, 3, 4, 5] [0, 1, 1, 2, 2, 3] [0, 0, 1, 2, 1, 3] false Some(AllRead)
+2 1 0 +|0,7;1,8;1,7;2,7;2,8;3,7;|[0, 1, 2, 3] [0, 1, 1, 2, 2, 3] [0, 0, 1, 2, 1, 3] true Some(AllRead)
+2 1 2 +|0,7;1,8;1,7;2,7;2,8;3,7;|[0, 1, 2, 3] [0, 1, 1, 2, 2, 3] [0, 0, 1, 2, 1, 3] true Some(AllRead)
+5 1 0 -|0,7;1,8;1,7;2,7;2,8;3,7;|[0, 1] [0, 1, 1, 2, 2, 3] [0, 0, 1, 2, 1, 3] false Some(AllRead)
+2 1 0 +|0,7;1,8;1,7;2;|[0, 1] [0, 1, 1] [0, 0, 1] false Some(Bad { side: Left, line: 4, cause: FieldCount })
+";
+
 // Windows of four seconds, side by side.
 const APART: Window = Window {
     measure: Measure::Range,
@@ -66,6 +76,13 @@ const OVERLAPPING: Window = Window {
     measure: Measure::Range,
     size: 4,
     slide: 2,
+};
+
+// Windows of two rows, of which two lie over each row.
+const OF_TWO_ROWS: Window = Window {
+    measure: Measure::Rows,
+    size: 2,
+    slide: 1,
 };
 
 fn stream(window: Window) -> Stream
@@ -110,6 +127,18 @@ pub(crate) fn group(alloc: Global, overlaps: bool) -> Result<Plan, NoMemory>
     }
 }
 
+// The same in windows of the rows with one number in the second column.
+pub(crate) fn keyed(alloc: Global) -> Result<Plan, NoMemory>
+    ensures checked { IfOk result (λ p. IsChecked (tree_of p)) }
+    ensures one { IfOk result (λ p. (a : Stream) × ((tree_of p).streams ≡ a ∷ [])) }
+{
+    let streams = vec![in alloc; stream(OF_TWO_ROWS)]?;
+    let items = vec![in alloc; Item::Count]?;
+    let columns = vec![in alloc; 1]?;
+    let plan = Plan::new(Shape::Group, streams, items, Vec::new(alloc), None);
+    Ok(plan.partitioned(columns))
+}
+
 // The times of rows.
 pub(crate) fn note_times(times: &mut Vec<i64>, rows: &Rows) -> Result<(), NoMemory> {
     for i in 0..rows.len() {
@@ -125,6 +154,7 @@ struct Seen {
     times: Vec<i64>,
     marks: Vec<u64>,
     earlier: Vec<i64>,
+    places: Vec<u64>,
     flushed: bool,
     end: Option<End>,
 }
@@ -135,6 +165,7 @@ fn nothing(alloc: Global) -> Seen {
         times: Vec::new(alloc),
         marks: Vec::new(alloc),
         earlier: Vec::new(alloc),
+        places: Vec::new(alloc),
         flushed: false,
         end: None,
     }
@@ -148,9 +179,23 @@ fn told(alloc: Global, seen: &Seen) -> Result<String, NoMemory> {
         earlier,
         flushed,
         end,
+        ..
     } = seen;
     let end = end_text(alloc, end)?;
     format!(in alloc; "{firsts:?} {times:?} {marks:?} {earlier:?} {flushed} {end}")
+}
+
+fn told_places(alloc: Global, seen: &Seen) -> Result<String, NoMemory> {
+    let Seen {
+        firsts,
+        times,
+        places,
+        flushed,
+        end,
+        ..
+    } = seen;
+    let end = end_text(alloc, end)?;
+    format!(in alloc; "{firsts:?} {times:?} {places:?} {flushed} {end}")
 }
 
 fn note(seen: &mut Seen, block: &Block) -> Result<(), NoMemory> {
@@ -158,6 +203,7 @@ fn note(seen: &mut Seen, block: &Block) -> Result<(), NoMemory> {
     seen.firsts.push(block.first)?;
     seen.marks.push(block.before.left)?;
     seen.marks.push(block.before.right)?;
+    seen.places.extend_from_slice(&block.places)?;
     note_times(&mut seen.times, &block.rows)?;
     note_times(&mut seen.earlier, &block.earlier.rows)
 }
@@ -301,6 +347,18 @@ fn see_group(alloc: Global, overlaps: bool, text: &str, sizes: &Sizes) -> Result
     told(alloc, &seen)
 }
 
+fn see_keyed(alloc: Global, text: &str, sizes: &Sizes) -> Result<String, NoMemory>
+    requires { SizesFit sizes.now }
+{
+    let text = source(alloc, text)?;
+    let plan = keyed(alloc)?;
+    let mut seen = nothing(alloc);
+    let saw = see_one(alloc, &plan, text, sizes, &mut seen);
+    plan.let_go();
+    saw?;
+    told_places(alloc, &seen)
+}
+
 fn wanted_sizes<R: Abort>(rt: &R, text: &str) -> Sizes
     ensures { SizesFit result }
 {
@@ -327,6 +385,14 @@ fn check_group<R: Abort>(rt: &R, alloc: Global, overlaps: bool, row: &str) -> Re
     Ok(())
 }
 
+fn check_keyed<R: Abort>(rt: &R, alloc: Global, row: &str) -> Result<(), NoMemory> {
+    let (sizes, rest) = parts(rt, row);
+    let (text, wanted) = parts(rt, rest);
+    let sizes = wanted_sizes(rt, sizes);
+    assert_same(rt, &see_keyed(alloc, text, &sizes)?, wanted);
+    Ok(())
+}
+
 #[test]
 fn blocks_of_joins(rt: HostRuntime) -> Result<(), Fail> {
     for row in JOINS.lines() {
@@ -342,6 +408,14 @@ fn blocks_of_groups(rt: HostRuntime) -> Result<(), Fail> {
     }
     for row in OVERLAPS.lines() {
         check_group(&rt, rt.alloc(), true, row)?;
+    }
+    Ok(())
+}
+
+#[test]
+fn blocks_of_keys(rt: HostRuntime) -> Result<(), Fail> {
+    for row in KEYS.lines() {
+        check_keyed(&rt, rt.alloc(), row)?;
     }
     Ok(())
 }

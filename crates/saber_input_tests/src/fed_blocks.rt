@@ -7,7 +7,7 @@ ghost use Rattle.saber_plan.specs.Trees.{Tree, tree_of};
 ghost use Rattle.saber_plan.specs.Checked.{IsChecked};
 ghost use Rattle.saber_dispatch.specs.Feeding.{CutsFed};
 
-use crate::blocks::{group, note_times, sizes};
+use crate::blocks::{group, keyed, note_times, sizes};
 use crate::ends::end_text;
 use crate::texts::{assert_same, bytes_of, fault_of, parts};
 use saber_dispatch::{End, FedCutter, Step, refills_keep};
@@ -29,10 +29,16 @@ const ROWS: &str = "\
 2+|0,5;1;4,1;!|[0] [0] Some(Bad { side: Left, line: 2, cause: FieldCount })
 ";
 
+// Rows of two keys, where each stands among those of its key, and how they end.
+const KEYS: &str = "0,7;1,8;1,7;2,7;2,8;3,7;";
+
+const PLACES: &str = "[0, 1, 2, 3] [0, 1, 1, 2, 2, 3] [0, 0, 1, 2, 1, 3] Some(AllRead)";
+
 #[derive(Drop)]
 struct Seen {
     numbers: Vec<u64>,
     times: Vec<i64>,
+    places: Vec<u64>,
     end: Option<End>,
 }
 
@@ -41,8 +47,17 @@ fn told(alloc: Global, seen: &Seen) -> Result<String, NoMemory> {
     format!(in alloc; "{:?} {:?} {end}", seen.numbers, seen.times)
 }
 
+fn told_places(alloc: Global, seen: &Seen) -> Result<String, NoMemory> {
+    let end = end_text(alloc, &seen.end)?;
+    format!(in alloc;
+        "{:?} {:?} {:?} {end}",
+        seen.numbers, seen.times, seen.places
+    )
+}
+
 fn note(seen: &mut Seen, block: &Block) -> Result<(), NoMemory> {
     seen.numbers.push(block.number)?;
+    seen.places.extend_from_slice(&block.places)?;
     note_times(&mut seen.times, &block.rows)
 }
 
@@ -89,6 +104,15 @@ fn see_feed(
     see_all(&mut cutter, &mut feed, seen)
 }
 
+fn nothing(alloc: Global) -> Seen {
+    Seen {
+        numbers: Vec::new(alloc),
+        times: Vec::new(alloc),
+        places: Vec::new(alloc),
+        end: None,
+    }
+}
+
 fn see(alloc: Global, text: &str, step: usize, sizes: &Sizes) -> Result<String, NoMemory>
     requires { SizesFit sizes.now }
 {
@@ -96,15 +120,23 @@ fn see(alloc: Global, text: &str, step: usize, sizes: &Sizes) -> Result<String, 
     let end = if is_cut { EndMark::Cut } else { EndMark::End };
     let bytes = bytes_of(alloc, text)?;
     let plan = group(alloc, false)?;
-    let mut seen = Seen {
-        numbers: Vec::new(alloc),
-        times: Vec::new(alloc),
-        end: None,
-    };
+    let mut seen = nothing(alloc);
     let saw = see_feed(alloc, &plan, bytes, step, end, sizes, &mut seen);
     plan.let_go();
     saw?;
     told(alloc, &seen)
+}
+
+fn see_keyed(alloc: Global, step: usize, sizes: &Sizes) -> Result<String, NoMemory>
+    requires { SizesFit sizes.now }
+{
+    let bytes = bytes_of(alloc, KEYS)?;
+    let plan = keyed(alloc)?;
+    let mut seen = nothing(alloc);
+    let saw = see_feed(alloc, &plan, bytes, step, EndMark::End, sizes, &mut seen);
+    plan.let_go();
+    saw?;
+    told_places(alloc, &seen)
 }
 
 fn sizes_for(task: &str) -> Sizes
@@ -131,6 +163,15 @@ fn check_row<R: Abort>(rt: &R, alloc: Global, row: &str) -> Result<(), NoMemory>
 fn blocks_come_by_and_by(rt: HostRuntime) -> Result<(), Fail> {
     for row in ROWS.lines() {
         check_row(&rt, rt.alloc(), row)?;
+    }
+    Ok(())
+}
+
+#[test]
+fn keys_come_by_and_by(rt: HostRuntime) -> Result<(), Fail> {
+    let sizes = sizes_for("2+");
+    for step in 1..14 {
+        assert_same(&rt, &see_keyed(rt.alloc(), step, &sizes)?, PLACES);
     }
     Ok(())
 }

@@ -9,7 +9,7 @@ use Rattle.saber_plan.specs.Trees.{Tree}
 use Rattle.saber_plan.specs.Inputs.{Input}
 use Rattle.saber_plan.specs.Windows.{Placed, no_rows, mark_after, step_mark, mark_at, last_mark, ending, placed_after, inside, has, begun, closed_count, begun_count, kind_of, from, Ordered}
 use Rattle.saber_plan.specs.Answers.{by_shape, by_frame, frame, lines, passing, selected}
-use Rattle.saber_plan.specs.Parts.{no_part, part, merge, group_part, pair_part, part_lines}
+use Rattle.saber_plan.specs.Parts.{part, merge, row_part, group_part, pair_part, part_lines}
 use Rattle.saber_plan.specs.Tasks.{is_complete}
 use Rattle.saber_plan.specs.Needs.{of_kind, part_here, is_closing, is_pending, is_opening}
 use Rattle.saber_plan.specs.Shares.{is_closed, shares_here, shares_between, handed_here, handed_between}
@@ -31,11 +31,11 @@ inside_is q i xs y = let same : y - 0 ≡ y = omega arith in ap (λ n. filter (h
 
 -- a join's part has the pairs of the rows so far
 part_of_pairs : (q : Tree) → q.shape ≡ Join → (i : ℕ) (xs : List Row) (x y : ℕ) → part q i xs x y ≡ pair_part q x (filter (has (frame q) i) (placed_after no_rows (take y xs)))
-part_of_pairs q e i xs x y = ap (λ s. by_shape s no_part (group_part q (passing q (inside (frame q) i xs x y))) (pair_part q x (inside (frame q) i xs 0 y))) e ∙ ap (pair_part q x) (inside_is q i xs y)
+part_of_pairs q e i xs x y = ap (λ s. by_shape s (row_part q (inside (frame q) i xs x y)) (group_part q (passing q (inside (frame q) i xs x y))) (pair_part q x (inside (frame q) i xs 0 y))) e ∙ ap (pair_part q x) (inside_is q i xs y)
 
 part_is : (q : Tree) (b : Mark) (back rows : List Row) (i : ℕ) → q.shape ≡ Join → pair_part q (b.left + b.right + length back) (filter (has (frame q) i) (placed_after b (back ++ rows))) ≡ part_here q i b back rows
 unfolding part_here
-part_is q b back rows i e = sym (ap (λ s. by_shape s no_part (group_part q (passing q (filter (has (frame q) i) (placed_after (mark_after b back) rows)))) (pair_part q (b.left + b.right + length back) (filter (has (frame q) i) (placed_after b (back ++ rows))))) e)
+part_is q b back rows i e = sym (ap (λ s. by_shape s (row_part q (filter (has (frame q) i) (placed_after (mark_after b back) rows))) (group_part q (passing q (filter (has (frame q) i) (placed_after (mark_after b back) rows)))) (pair_part q (b.left + b.right + length back) (filter (has (frame q) i) (placed_after b (back ++ rows))))) e)
 
 -- ---- windows that lie whole in a task
 

@@ -1,35 +1,29 @@
 // Pairs of windows, worked out by hand. Rows have two columns: a time and a number, x of stream A and y of stream B.
-ghost use Rattle.std.specs.Prelude.{◌≡◌, ℕ, ◌∷◌, [], ◌++◌, IfOk, OnOk, false};
-ghost use Rattle.saber_plan.specs.declared.rows.Side.TheVariants as s;
-ghost use Rattle.saber_plan.specs.declared.predicates.Cmp.TheVariants as c;
-ghost use Rattle.saber_plan.specs.declared.plans.Item.TheVariants as i;
+ghost use Rattle.std.specs.Prelude.{◌≡◌, ℕ, [], ◌++◌, IfOk, OnOk, false};
 ghost use Rattle.saber_plan.specs.declared.plans.Shape.TheVariants as h;
-ghost use Rattle.saber_plan.specs.Trees as t;
 ghost use Rattle.saber_plan.specs.Given.{RowsFit};
 ghost use Rattle.saber_plan.specs.Inputs.{Input, going_on};
 ghost use Rattle.saber_plan.specs.Answers.{frame};
 ghost use Rattle.saber_plan.specs.Windows.{Fits, mark_after, no_rows};
 ghost use Rattle.saber_fragment.specs.Drafts.{own_sight, fed, CanStart, IsSightOf};
-ghost use Rattle.saber_samples.specs.Asking.{IsJoinOf, one_column, only};
+ghost use Rattle.saber_samples.specs.Asking.{IsJoinOf};
 ghost use Rattle.saber_samples.specs.Filling.{HasPairs};
 ghost use Rattle.saber_samples.specs.Standing.{ComesBehind, Keeps};
 
-use crate::texts::{assert_text, cut, sided_rows};
+use crate::plans::plan_of_two;
+use crate::texts::{assert_text, cut, is_query, is_remark, sided_rows};
 use saber_cells::write_number;
 use saber_flat::Rows;
 use saber_fragment::{Block, Earlier, Operator, Parts, Piece};
 use saber_join::{Join, Pairs};
 use saber_laws::{
-    checked_fit, merge_has_unit, no_rows_give_nothing, open_goes_on, part_has_lines, parts_join,
-    parts_lie_within, shares_make_piece,
+    checked_fit, merge_has_unit, no_rows_give_nothing, part_has_lines, parts_join, parts_lie_within,
 };
-use saber_plan::{Cmp, Item, Mark, Measure, NoMemory, Plan, Pred, Shape, Side, Unit};
-use saber_samples::{all, column, sided_block, windowed};
+use saber_plan::{Mark, NoMemory, Plan, Side};
+use saber_samples::sided_block;
 use std::alloc::Global;
 use std::process::Abort;
 use std::test::Fail;
-
-mod ties;
 
 const BEGINNING: Mark = Mark {
     left: 0,
@@ -37,74 +31,6 @@ const BEGINNING: Mark = Mark {
     last: None,
     ended: false,
 };
-
-// ---- queries
-
-// x < y
-fn rising(alloc: Global) -> Result<Pred, NoMemory>
-    ensures { IfOk result (λ p. t.tests_of p ≡ only (t.compare (one_column s.Left 1) c.Less (one_column s.Right 1))) }
-{
-    let left = column(alloc, Side::Left, 1)?;
-    let right = column(alloc, Side::Right, 1)?;
-    all(
-        alloc,
-        vec![in alloc; Unit::compare(left, Cmp::Less, right)]?,
-    )
-}
-
-// SELECT x, y
-fn both_numbers(alloc: Global) -> Result<Vec<Item>, NoMemory>
-    ensures { IfOk result (λ v. v.items ≡ i.Value (one_column s.Left 1) ∷ i.Value (one_column s.Right 1) ∷ []) }
-{
-    let x = Item::Value(column(alloc, Side::Left, 1)?);
-    let y = Item::Value(column(alloc, Side::Right, 1)?);
-    Ok(vec![in alloc; x, y]?)
-}
-
-// .. FROM A [RANGE 4 SLIDE 4], B [RANGE 4 SLIDE 4] WHERE x < y
-fn by_time(alloc: Global) -> Result<Plan, NoMemory>
-    ensures { IfOk result (IsJoinOf 2) }
-{
-    let left = windowed(2, Measure::Range, 4, 4);
-    let right = windowed(2, Measure::Range, 4, 4);
-    let streams = vec![in alloc; left, right]?;
-    let predicate = Some(rising(alloc)?);
-    let items = both_numbers(alloc)?;
-    Ok(Plan::new(Shape::Join, streams, items, Vec::new(alloc), predicate))
-}
-
-// .. FROM A [ROWS 2 SLIDE 1], B [ROWS 2 SLIDE 1]
-fn by_rows(alloc: Global) -> Result<Plan, NoMemory>
-    ensures { IfOk result (IsJoinOf 2) }
-{
-    let left = windowed(2, Measure::Rows, 2, 1);
-    let right = windowed(2, Measure::Rows, 2, 1);
-    let streams = vec![in alloc; left, right]?;
-    let items = both_numbers(alloc)?;
-    Ok(Plan::new(Shape::Join, streams, items, Vec::new(alloc), None))
-}
-
-// .. FROM A [ROWS 2 SLIDE 2], B [ROWS 1 SLIDE 2]
-fn sizes_by_rows(alloc: Global) -> Result<Plan, NoMemory>
-    ensures { IfOk result (IsJoinOf 2) }
-{
-    let left = windowed(2, Measure::Rows, 2, 2);
-    let right = windowed(2, Measure::Rows, 1, 2);
-    let streams = vec![in alloc; left, right]?;
-    let items = both_numbers(alloc)?;
-    Ok(Plan::new(Shape::Join, streams, items, Vec::new(alloc), None))
-}
-
-// .. FROM A [RANGE 4 SLIDE 4], B [RANGE 2 SLIDE 4]
-fn sizes_by_time(alloc: Global) -> Result<Plan, NoMemory>
-    ensures { IfOk result (IsJoinOf 2) }
-{
-    let left = windowed(2, Measure::Range, 4, 4);
-    let right = windowed(2, Measure::Range, 2, 4);
-    let streams = vec![in alloc; left, right]?;
-    let items = both_numbers(alloc)?;
-    Ok(Plan::new(Shape::Join, streams, items, Vec::new(alloc), None))
-}
 
 // ---- what one task gives
 
@@ -186,15 +112,6 @@ fn check_piece(rt: &impl Abort, alloc: Global, plan: &Plan, line: &str) -> Resul
     Ok(())
 }
 
-fn check_pieces(rt: &impl Abort, alloc: Global, plan: &Plan, lines: &str) -> Result<(), NoMemory>
-    requires { IsJoinOf 2 plan.now }
-{
-    for line in lines.lines() {
-        check_piece(rt, alloc, plan, line)?;
-    }
-    Ok(())
-}
-
 // ---- tasks, one after another
 
 // Takes in the task of this block, which looks back on all rows before it.
@@ -208,6 +125,8 @@ fn give<O: Operator>(
 ) -> Result<(), NoMemory>
     requires windows { Fits (frame (O.plan operator.now)) }
     requires join { (O.plan operator.now).shape ≡ h.Join }
+    requires unlisted { (O.plan operator.now).partition ≡ [] }
+    requires unplaced { own.now.places.items ≡ [] }
     requires first { behind.now.before ≡ no_rows }
     requires next { ComesBehind (O.plan operator.now) own.now behind.now.rows }
     requires kept { Keeps (O.plan operator.now) (O.held store.old) (O.has_taken operator.now store.old) (going_on behind.now.rows) }
@@ -215,17 +134,16 @@ fn give<O: Operator>(
         → Keeps (O.plan operator.now) (O.held store.new) (O.has_taken operator.now store.new) (going_on (behind.now.rows ++ own.now.rows))) }
 {
     merge_has_unit();
-    open_goes_on();
     part_has_lines();
     parts_join();
     parts_lie_within();
-    shares_make_piece();
     let none = Block {
         number: 1,
         first: 0,
         earlier: Earlier::none(alloc, own.before),
         before: own.before,
         rows: Rows::new(alloc),
+        places: Vec::new(alloc),
         ended: false,
     };
     let piece = piece(alloc, operator, behind, &none, own)?;
@@ -244,6 +162,7 @@ fn answer<O: Operator>(
 ) -> Result<Vec<u8>, NoMemory>
     requires windows { Fits (frame (O.plan operator.now)) }
     requires join { (O.plan operator.now).shape ≡ h.Join }
+    requires unlisted { (O.plan operator.now).partition ≡ [] }
     requires columns { HasPairs (O.plan operator.now) }
 {
     no_rows_give_nothing();
@@ -254,6 +173,7 @@ fn answer<O: Operator>(
         earlier: Earlier::none(alloc, mark),
         before: mark,
         rows: Rows::new(alloc),
+        places: Vec::new(alloc),
         ended: false,
     };
     let mut store = operator.empty_store(alloc);
@@ -282,131 +202,136 @@ fn check_answer(rt: &impl Abort, alloc: Global, plan: &Plan, line: &str) -> Resu
     Ok(())
 }
 
-fn check_answers(rt: &impl Abort, alloc: Global, plan: &Plan, lines: &str) -> Result<(), NoMemory>
-    requires { IsJoinOf 2 plan.now }
-{
-    for line in lines.lines() {
-        check_answer(rt, alloc, plan, line)?;
-    }
-    Ok(())
+fn check_line(rt: &impl Abort, alloc: Global, query: &str, line: &str) -> Result<(), NoMemory> {
+    let plan = plan_of_two(rt, alloc, query)?;
+    let checked = if line.contains('/') {
+        check_piece(rt, alloc, &plan, line)
+    } else {
+        check_answer(rt, alloc, &plan, line)
+    };
+    plan.let_go();
+    checked
 }
 
-// What single tasks of a query give, and what is written for tasks of one row, of two and of all.
-fn check_plan(
-    rt: &impl Abort,
-    alloc: Global,
-    plan: &Plan,
-    pieces: &str,
-    answers: &str,
-) -> Result<(), NoMemory>
-    requires { IsJoinOf 2 plan.now }
-{
-    check_pieces(rt, alloc, plan, pieces)?;
-    check_answers(rt, alloc, plan, answers)
-}
-
-// ---- by time
-
-// One task of all rows; tasks of two rows, each of which looks back on the rows before it and finds the pairs of its own alone; the flush
-// task behind all rows, which gives no part and no line, and closes the window that stood open; and rows that leave a gap of a thousand
-// million windows.
-const PIECES_BY_TIME: &str = "\
+// Queries, and behind each what single tasks of it give, and what is written for tasks of one row, of two and of all.
+const TABLE: &str = "\
+# One task of all rows; tasks of two rows, each of which looks back on the rows before it and finds the pairs of its own alone; the flush
+# task behind all rows, which gives no part and no line, and closes the window that stood open; and rows that leave a gap of a thousand
+# million windows.
+SELECT x, y FROM A [RANGE 4 SLIDE 4], B [RANGE 4 SLIDE 4] WHERE x < y
 / / A,0,5 B,0,7 A,1,9 B,3,6 A,4,1 B,8,0 = |||0,5,7;0,5,6;|2
 / / A,0,5 B,0,7 = ||0 ||0
 A,0,5 B,0,7 / / A,1,9 B,3,6 = |0 |||0
 A,0,5 B,0,7 / A,1,9 B,3,6 / A,4,1 B,8,0 = ||||2
 A,0,5 B,0,7 / A,1,9 B,3,6 A,4,1 B,8,0 / end = ||||3
 / / A,0,-3 B,1,9223372036854775807 A,4294967294,-9223372036854775808 B,4294967294,0 \
-= ||1073741823 |0,-3,9223372036854775807;|1073741823";
-
-const ANSWERS_BY_TIME: &str = "\
+= ||1073741823 |0,-3,9223372036854775807;|1073741823
 A,0,5 | B,0,7 | A,1,9 | B,3,6 | A,4,1 | B,8,0 = 0,5,7;0,5,6;|
 A,0,5 B,0,7 | A,1,9 B,3,6 | A,4,1 B,8,0 = 0,5,7;0,5,6;|
 A,0,5 B,0,7 A,1,9 B,3,6 A,4,1 B,8,0 = 0,5,7;0,5,6;|
 A,0,-3 B,1,9223372036854775807 A,4294967294,-9223372036854775808 B,4294967294,0 \
-= 0,-3,9223372036854775807;|1073741823,-9223372036854775808,0;";
-
-#[test]
-fn windows_by_time(rt: HostRuntime) -> Result<(), Fail> {
-    let plan = by_time(rt.alloc())?;
-    let checked = check_plan(&rt, rt.alloc(), &plan, PIECES_BY_TIME, ANSWERS_BY_TIME);
-    plan.let_go();
-    checked?;
-    Ok(())
-}
-
-// Four seconds on the left and two on the right, every four: time 3 lies behind window 0's right rows, but only time 4 closes it. Right
-// row 6, of time 3, lies in no window.
-const PIECES_OF_SIZES_BY_TIME: &str = "\
+= 0,-3,9223372036854775807;|1073741823,-9223372036854775808,0;
+# Four seconds on the left and two on the right, every four: time 3 lies behind window 0's right rows, but only time 4 closes it. Right
+# row 6, of time 3, lies in no window.
+SELECT x, y FROM A [RANGE 4 SLIDE 4], B [RANGE 2 SLIDE 4]
 / / A,0,5 B,0,7 A,1,9 B,3,6 A,4,1 B,8,0 = |||0,5,7;0,9,7;|2
 / / A,0,5 B,0,7 = ||0 ||0
 A,0,5 B,0,7 / / A,1,9 B,3,6 = |0 |||0
-A,0,5 B,0,7 / A,1,9 B,3,6 / A,4,1 B,8,0 = ||||2";
-
-const ANSWERS_OF_SIZES_BY_TIME: &str = "\
+A,0,5 B,0,7 / A,1,9 B,3,6 / A,4,1 B,8,0 = ||||2
 A,0,5 | B,0,7 | A,1,9 | B,3,6 | A,4,1 | B,8,0 = 0,5,7;0,9,7;|
 A,0,5 B,0,7 | A,1,9 B,3,6 | A,4,1 B,8,0 = 0,5,7;0,9,7;|
-A,0,5 B,0,7 A,1,9 B,3,6 A,4,1 B,8,0 = 0,5,7;0,9,7;|";
-
-#[test]
-fn windows_of_two_sizes_by_time(rt: HostRuntime) -> Result<(), Fail> {
-    let plan = sizes_by_time(rt.alloc())?;
-    let checked = check_plan(
-        &rt,
-        rt.alloc(),
-        &plan,
-        PIECES_OF_SIZES_BY_TIME,
-        ANSWERS_OF_SIZES_BY_TIME,
-    );
-    plan.let_go();
-    checked?;
-    Ok(())
-}
-
-// ---- by rows
-
-// A window's pairs stand by the left row, then by the right one, whatever came first. Window 1 has the second row of either side.
-const PIECES_BY_ROWS: &str = "/ / A,0,1 A,0,2 B,0,7 B,0,8 = ||1 |0,1,7;0,1,8;0,2,7;0,2,8;|1";
-
-const ANSWERS_BY_ROWS: &str = "\
+A,0,5 B,0,7 A,1,9 B,3,6 A,4,1 B,8,0 = 0,5,7;0,9,7;|
+# A window's pairs stand by the left row, then by the right one, whatever came first. Window 1 has the second row of either side.
+SELECT x, y FROM A [ROWS 2 SLIDE 1], B [ROWS 2 SLIDE 1]
+/ / A,0,1 A,0,2 B,0,7 B,0,8 = ||1 |0,1,7;0,1,8;0,2,7;0,2,8;|1
 A,0,5 | B,0,7 | A,1,9 | B,3,6 | A,4,1 | B,8,0 = 0,5,7;0,5,6;0,9,7;0,9,6;1,9,6;1,9,0;1,1,6;1,1,0;|2,1,0;
 A,0,5 B,0,7 | A,1,9 B,3,6 | A,4,1 B,8,0 = 0,5,7;0,5,6;0,9,7;0,9,6;1,9,6;1,9,0;1,1,6;1,1,0;|2,1,0;
 A,0,5 B,0,7 A,1,9 B,3,6 A,4,1 B,8,0 = 0,5,7;0,5,6;0,9,7;0,9,6;1,9,6;1,9,0;1,1,6;1,1,0;|2,1,0;
-A,0,1 A,0,2 B,0,7 B,0,8 = 0,1,7;0,1,8;0,2,7;0,2,8;|1,2,8;";
-
-#[test]
-fn windows_by_rows(rt: HostRuntime) -> Result<(), Fail> {
-    let plan = by_rows(rt.alloc())?;
-    let checked = check_plan(&rt, rt.alloc(), &plan, PIECES_BY_ROWS, ANSWERS_BY_ROWS);
-    plan.let_go();
-    checked?;
-    Ok(())
-}
-
-// Two left rows and one right row, every two. Window 0 has left rows 5 and 9 and right row 7, and window 1 left row 1 and right row 0.
-// The second row brings all of the right side, and only the third, the last of the left side, closes window 0.
-const PIECES_OF_SIZES_BY_ROWS: &str = "\
+A,0,1 A,0,2 B,0,7 B,0,8 = 0,1,7;0,1,8;0,2,7;0,2,8;|1,2,8;
+# Two left rows and one right row, every two. Window 0 has left rows 5 and 9 and right row 7, and window 1 left row 1 and right row 0.
+# The second row brings all of the right side, and only the third, the last of the left side, closes window 0.
+SELECT x, y FROM A [ROWS 2 SLIDE 2], B [ROWS 1 SLIDE 2]
 / / A,0,5 B,0,7 A,1,9 B,3,6 A,4,1 B,8,0 = ||1 |0,5,7;0,9,7;|1
 / / A,0,5 B,0,7 = ||0 ||0
 A,0,5 B,0,7 / / A,1,9 B,3,6 = 0 ||||1
-A,0,5 B,0,7 / A,1,9 B,3,6 / A,4,1 B,8,0 = ||1 ||1";
-
-const ANSWERS_OF_SIZES_BY_ROWS: &str = "\
+A,0,5 B,0,7 / A,1,9 B,3,6 / A,4,1 B,8,0 = ||1 ||1
 A,0,5 | B,0,7 | A,1,9 | B,3,6 | A,4,1 | B,8,0 = 0,5,7;0,9,7;|1,1,0;
 A,0,5 B,0,7 | A,1,9 B,3,6 | A,4,1 B,8,0 = 0,5,7;0,9,7;|1,1,0;
-A,0,5 B,0,7 A,1,9 B,3,6 A,4,1 B,8,0 = 0,5,7;0,9,7;|1,1,0;";
+A,0,5 B,0,7 A,1,9 B,3,6 A,4,1 B,8,0 = 0,5,7;0,9,7;|1,1,0;
+";
 
 #[test]
-fn windows_of_two_sizes_by_rows(rt: HostRuntime) -> Result<(), Fail> {
-    let plan = sizes_by_rows(rt.alloc())?;
-    let checked = check_plan(
-        &rt,
-        rt.alloc(),
-        &plan,
-        PIECES_OF_SIZES_BY_ROWS,
-        ANSWERS_OF_SIZES_BY_ROWS,
-    );
-    plan.let_go();
-    checked?;
+fn tasks_of_joins(rt: HostRuntime) -> Result<(), Fail> {
+    let mut query = "";
+    for line in TABLE.lines() {
+        if is_query(line) {
+            query = line;
+        } else if !is_remark(line) {
+            check_line(&rt, rt.alloc(), query, line)?;
+        }
+    }
+    Ok(())
+}
+
+// ---- partners that are found by key, and predicates that tie nothing
+
+// Window 0 has left numbers 5, 5 and 6, of times 0, 1 and 3, and right numbers 5, 7 and 5, of times 0, 1 and 2. Window 1 has left
+// number 7, of time 4, and right numbers 6 and 7, of times 5 and 6. The last row closes it. They come in one task, in tasks of three
+// rows and of one.
+const ALL: &str = "A,0,5 B,0,5 A,1,5 B,1,7 B,2,5 A,3,6 A,4,7 B,5,6 B,6,7 B,8,0";
+
+const THREES: &str = "A,0,5 B,0,5 A,1,5 | B,1,7 B,2,5 A,3,6 | A,4,7 B,5,6 B,6,7 | B,8,0";
+
+const ONES: &str = "A,0,5|B,0,5|A,1,5|B,1,7|B,2,5|A,3,6|A,4,7|B,5,6|B,6,7|B,8,0";
+
+// The seconds of a right window, what WHERE asks for, and the times of the pairs.
+const TIES: &str = "\
+4|x = y|0,0,0;0,0,2;0,1,0;0,1,2;1,4,6;
+# A right window of two seconds has times 0 and 1, and 4 and 5.
+2|x = y|0,0,0;0,1,0;
+4|y = x|0,0,0;0,0,2;0,1,0;0,1,2;1,4,6;
+# 6 with 5, and 7 with 6
+4|x = y + 1|0,3,0;0,3,2;1,4,5;
+# 25 twice, and neither 36 nor 49
+4|x * x = y * 5|0,0,0;0,0,2;0,1,0;0,1,2;
+# 6, 7 and 8 are none of 25, 30 and 35
+4|x + 1 = y * 5|
+4|x = y AND A.t < B.t|0,0,2;0,1,2;1,4,6;
+4|A.t < B.t AND x = y|0,0,2;0,1,2;1,4,6;
+4|x = y AND NOT A.t < B.t|0,0,0;0,1,0;
+# No equality must hold: all of a window's rows are gone through.
+4|x = y OR x < y|0,0,0;0,0,1;0,0,2;0,1,0;0,1,1;0,1,2;0,3,1;1,4,6;
+4|NOT x = y|0,0,1;0,1,1;0,3,0;0,3,1;0,3,2;1,4,5;
+";
+
+fn check_answers(
+    rt: &impl Abort,
+    alloc: Global,
+    query: &str,
+    wanted: &str,
+) -> Result<(), NoMemory> {
+    for tasks in [ALL, THREES, ONES] {
+        let line = format!(in alloc; "{tasks} = {wanted}|")?;
+        check_line(rt, alloc, query, &line)?;
+    }
+    Ok(())
+}
+
+fn check_tie(rt: &impl Abort, alloc: Global, row: &str) -> Result<(), NoMemory> {
+    let (size, rest) = cut(rt, row, '|');
+    let (predicate, wanted) = cut(rt, rest, '|');
+    let query = format!(in alloc;
+        "SELECT A.t, B.t FROM A [RANGE 4 SLIDE 4], B [RANGE {size} SLIDE 4] WHERE {predicate}"
+    )?;
+    check_answers(rt, alloc, &query, wanted)
+}
+
+#[test]
+fn ties(rt: HostRuntime) -> Result<(), Fail> {
+    for row in TIES.lines() {
+        if !is_remark(row) {
+            check_tie(&rt, rt.alloc(), row)?;
+        }
+    }
     Ok(())
 }

@@ -8,13 +8,14 @@ ghost use Rattle.saber_plan.specs.Windows.{no_rows};
 ghost use Rattle.saber_panes.specs.Panes.{first_pane, pane_count, panes_here};
 ghost use Rattle.saber_samples.specs.Asking.{IsOfOne};
 
-use crate::plans::sums;
-use crate::texts::{assert_text, keyed_rows};
+use crate::plans::plan_of_one;
+use crate::texts::{assert_text, cut, keyed_rows};
 use saber_flat::Rows;
+use saber_laws::groups_have_one_window;
 use saber_panes::{Panes, panes_are_of_rows, panes_join, rows_have_room, windows_have_room};
 use saber_partial::{Partial, Steps};
-use saber_plan::{Mark, Measure, NoMemory, Plan};
-use saber_samples::{counts, keyed_block, window};
+use saber_plan::{Mark, NoMemory, Plan, Shape};
+use saber_samples::keyed_block;
 use std::alloc::Global;
 use std::marker::Brand;
 use std::process::Abort;
@@ -73,10 +74,11 @@ fn lines_of_window<L: Ledger>(
     Ok(out)
 }
 
+// Of five rows.
 fn check_window(rt: &impl Abort, alloc: Global, plan: &Plan, wanted: &str) -> Result<(), NoMemory>
-    requires group { IsOfOne shapes.Group 3 plan.now }
-    requires near { first_pane (frame (tree_of plan.now)) 0 + pane_count (frame (tree_of plan.now)) < 2 ^ 64 }
+    requires { IsOfOne shapes.Group 3 plan.now }
 {
+    groups_have_one_window();
     let table = keyed_rows(rt, alloc, "0,1,10 1,1,20 2,2,5 2,1,7 9,2,1")?;
     let (own, _) = keyed_block(alloc, 0, BEGINNING, &table, false)?;
     assert!(rt; own.rows.len() <= 100);
@@ -85,22 +87,24 @@ fn check_window(rt: &impl Abort, alloc: Global, plan: &Plan, wanted: &str) -> Re
     Ok(())
 }
 
-// COUNT(*) [ROWS 4 SLIDE 2]: the five rows are five steps, and window 0 is two panes.
-#[test]
-fn counts_of_two_panes(rt: HostRuntime) -> Result<(), Fail> {
-    let plan = counts(rt.alloc(), 3, window(Measure::Rows, 4, 2))?;
-    let checked = check_window(&rt, rt.alloc(), &plan, "0,4;");
+// Window 0 is two panes of two rows, and three panes of one row.
+const TABLE: &str = "\
+SELECT COUNT(*) FROM S [ROWS 4 SLIDE 2]=0,4;
+SELECT g, SUM(v) FROM S [ROWS 3 SLIDE 1] GROUP BY g=0,1,30;0,2,5;
+";
+
+fn check_line(rt: &impl Abort, alloc: Global, line: &str) -> Result<(), NoMemory> {
+    let (query, wanted) = cut(rt, line, '=');
+    let plan = plan_of_one(rt, alloc, Shape::Group, query)?;
+    let checked = check_window(rt, alloc, &plan, wanted);
     plan.let_go();
-    checked?;
-    Ok(())
+    checked
 }
 
-// key, SUM(number) [ROWS 3 SLIDE 1] GROUP BY key: window 0 is three panes of one row.
 #[test]
-fn sums_of_three_panes(rt: HostRuntime) -> Result<(), Fail> {
-    let plan = sums(rt.alloc())?;
-    let checked = check_window(&rt, rt.alloc(), &plan, "0,1,30;0,2,5;");
-    plan.let_go();
-    checked?;
+fn windows_of_panes(rt: HostRuntime) -> Result<(), Fail> {
+    for line in TABLE.lines() {
+        check_line(&rt, rt.alloc(), line)?;
+    }
     Ok(())
 }

@@ -6,14 +6,14 @@ ghost use Rattle.saber_partial.specs.PartLaws.{OfRows};
 ghost use Rattle.saber_partial.specs.Tallies.{CanMerge};
 ghost use Rattle.saber_samples.specs.Asking.{IsOfOne};
 
-use crate::plans::{all_kinds, extremes, pairs, sums};
-use crate::texts::{assert_text, cut, keyed_rows};
+use crate::plans::plan_of_one;
+use crate::texts::{assert_text, cut, is_query, is_remark, keyed_rows};
 use saber_cells::{write_cell, write_count};
 use saber_flat::RowRef;
 use saber_partial::{
     Aggregates, Gathering, Partial, Pile, Steps, groups_are_of_rows, small_parts_merge,
 };
-use saber_plan::{NoMemory, Plan};
+use saber_plan::{NoMemory, Plan, Shape};
 use saber_samples::keyed_row;
 use std::alloc::Global;
 use std::marker::Brand;
@@ -135,18 +135,17 @@ fn check_two(rt: &impl Abort, alloc: Global, plan: &Plan, line: &str) -> Result<
     check_parts(rt, alloc, plan, first, second, wanted.trim())
 }
 
-fn check_all(rt: &impl Abort, alloc: Global, plan: &Plan, lines: &str) -> Result<(), NoMemory>
-    requires { IsOfOne shapes.Group 3 plan.now }
-{
-    for line in lines.lines() {
-        check_two(rt, alloc, plan, line)?;
-    }
-    Ok(())
+fn check_line(rt: &impl Abort, alloc: Global, query: &str, line: &str) -> Result<(), NoMemory> {
+    let plan = plan_of_one(rt, alloc, Shape::Group, query)?;
+    let checked = check_two(rt, alloc, &plan, line);
+    plan.let_go();
+    checked
 }
 
-// One part alone; a great sum; keys that both have and that one has; the same keys; a key behind all others and one before them; one
-// group into eight; and no groups, on either side.
-const SUMS: &str = "\
+const TABLE: &str = "\
+# One part alone; a great sum; keys that both have and that one has; the same keys; a key behind all others and one before them; one
+# group into eight; and no groups, on either side.
+SELECT g, SUM(v) FROM S [ROWS 3 SLIDE 1] GROUP BY g
 0,1,10 1,1,20 2,2,5 | = 7,1,30;7,2,5;
 0,-1,-9223372036854775808 0,-1,-9223372036854775808 | = 7,-1,-18446744073709551616;
 0,1,10 1,3,20 2,2,5 | 2,1,7 9,4,1 = 7,1,17;7,2,5;7,3,20;7,4,1;
@@ -157,59 +156,36 @@ const SUMS: &str = "\
 0,80,8 0,10,1 1,70,7 1,20,2 2,60,6 2,30,3 3,50,5 3,40,4 | 8,-5,1 = 7,-5,1;7,10,1;7,20,2;7,30,3;7,40,4;7,50,5;7,60,6;7,70,7;7,80,8;
 0,1,10 | = 7,1,10;
  | 0,1,10 = 7,1,10;
- | =";
-
-#[test]
-fn sums_by_key(rt: HostRuntime) -> Result<(), Fail> {
-    let plan = sums(rt.alloc())?;
-    let checked = check_all(&rt, rt.alloc(), &plan, SUMS);
-    plan.let_go();
-    checked?;
-    Ok(())
-}
-
-// The least and the greatest number, of one part and of two.
-const ENDS: &str = "\
+ | =
+# The least and the greatest number, of one part and of two.
+SELECT MIN(v), MAX(v), COUNT(*) FROM S [RANGE 3 SLIDE 2]
 0,1,10 1,1,20 2,2,5 2,1,7 | = 7,5,20,4;
-0,1,10 1,1,20 | 2,2,5 2,1,7 9,2,1 = 7,1,20,5;";
-
-#[test]
-fn ends_of_all(rt: HostRuntime) -> Result<(), Fail> {
-    let plan = extremes(rt.alloc())?;
-    let checked = check_all(&rt, rt.alloc(), &plan, ENDS);
-    plan.let_go();
-    checked?;
-    Ok(())
-}
-
-// Keys that both have, that the first alone has, and that the second alone has, also behind all others; and the other way round.
-const KINDS: &str = "\
+0,1,10 1,1,20 | 2,2,5 2,1,7 9,2,1 = 7,1,20,5;
+# Keys that both have, that the first alone has, and that the second alone has, also behind all others; and the other way round.
+SELECT g, SUM(v), MIN(v), MAX(v), COUNT(*) FROM S [ROWS 3 SLIDE 3] GROUP BY g
 0,1,10 1,3,20 2,1,-7 3,4,5 | 4,1,8 5,2,1 6,4,-2 7,5,9 = 7,1,11,-7,10,3;7,2,1,1,1,1;7,3,20,20,20,1;7,4,3,-2,5,2;7,5,9,9,9,1;
-4,1,8 5,2,1 6,4,-2 7,5,9 | 0,1,10 1,3,20 2,1,-7 3,4,5 = 7,1,11,-7,10,3;7,2,1,1,1,1;7,3,20,20,20,1;7,4,3,-2,5,2;7,5,9,9,9,1;";
+4,1,8 5,2,1 6,4,-2 7,5,9 | 0,1,10 1,3,20 2,1,-7 3,4,5 = 7,1,11,-7,10,3;7,2,1,1,1,1;7,3,20,20,20,1;7,4,3,-2,5,2;7,5,9,9,9,1;
+# The first group by the second column.
+SELECT g, v, COUNT(*) FROM S [ROWS 3 SLIDE 3] GROUP BY g, v
+0,2,7 1,1,9 2,2,-3 3,1,9 | 4,1,-9 5,2,7 = 7,1,-9,1;7,1,9,2;7,2,-3,1;7,2,7,2;
+";
 
 #[test]
-fn all_kinds_of_answers(rt: HostRuntime) -> Result<(), Fail> {
-    let plan = all_kinds(rt.alloc())?;
-    let checked = check_all(&rt, rt.alloc(), &plan, KINDS);
-    plan.let_go();
-    checked?;
-    Ok(())
-}
-
-// The first group by the second column.
-const TWO_COLUMNS: &str =
-    "0,2,7 1,1,9 2,2,-3 3,1,9 | 4,1,-9 5,2,7 = 7,1,-9,1;7,1,9,2;7,2,-3,1;7,2,7,2;";
-
-#[test]
-fn keys_of_two_columns(rt: HostRuntime) -> Result<(), Fail> {
-    let plan = pairs(rt.alloc())?;
-    let checked = check_all(&rt, rt.alloc(), &plan, TWO_COLUMNS);
-    plan.let_go();
-    checked?;
+fn two_parts(rt: HostRuntime) -> Result<(), Fail> {
+    let mut query = "";
+    for line in TABLE.lines() {
+        if is_query(line) {
+            query = line;
+        } else if !is_remark(line) {
+            check_line(&rt, rt.alloc(), query, line)?;
+        }
+    }
     Ok(())
 }
 
 // ---- piles
+
+const SUMS: &str = "SELECT g, SUM(v) FROM S [ROWS 3 SLIDE 1] GROUP BY g";
 
 // The parts of some rows each, up to eleven, one after another in a pile.
 fn piled<L: Ledger>(
@@ -287,7 +263,7 @@ fn check_piles(rt: &impl Abort, alloc: Global, plan: &Plan) -> Result<(), NoMemo
 
 #[test]
 fn piles_of_parts(rt: HostRuntime) -> Result<(), Fail> {
-    let plan = sums(rt.alloc())?;
+    let plan = plan_of_one(&rt, rt.alloc(), Shape::Group, SUMS)?;
     let checked = check_piles(&rt, rt.alloc(), &plan);
     plan.let_go();
     checked?;
@@ -361,7 +337,7 @@ fn check_row(rt: &impl Abort, alloc: Global, plan: &Plan) -> Result<(), NoMemory
 // More groups than are young at once: each key once, and each twice.
 #[test]
 fn many_groups_gathered(rt: HostRuntime) -> Result<(), Fail> {
-    let plan = sums(rt.alloc())?;
+    let plan = plan_of_one(&rt, rt.alloc(), Shape::Group, SUMS)?;
     let once = check_gathered(&rt, rt.alloc(), &plan, 300, false);
     let twice = check_gathered(&rt, rt.alloc(), &plan, 600, true);
     let row = check_row(&rt, rt.alloc(), &plan);

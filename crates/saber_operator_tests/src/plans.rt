@@ -1,70 +1,95 @@
-// Queries over one stream of three columns, which are a time, a key and a number.
-ghost use Rattle.std.specs.Prelude.{◌≡◌, ◌∷◌, [], IfOk};
+// Plans of queries that are told as texts. Stream S has three columns: a time t, a key g and a number v. Streams A and B have a time t, and a number x
+// or y.
+ghost use Rattle.std.specs.Prelude.{◌≡◌, ◌≤◌, [], IfOk, None, length, true, false};
+ghost use Rattle.saber_plan.specs.declared.rows.Side.TheVariants as sides;
 ghost use Rattle.saber_plan.specs.declared.plans.Shape.TheVariants as shapes;
-ghost use Rattle.saber_plan.specs.declared.windows.Measure.TheVariants as measures;
+ghost use Rattle.saber_plan.specs.Checked.{IsChecked, columns_on};
 ghost use Rattle.saber_plan.specs.Trees.{tree_of};
-ghost use Rattle.saber_samples.specs.Asking.{IsOfOne, with_window};
+ghost use Rattle.saber_samples.specs.Asking.{IsOfKeys, IsOfOne, IsJoinOf};
 
-use saber_plan::{Cmp, Factor, Item, Measure, NoMemory, Plan, Shape, Side, Unit};
-use saber_samples::{all, column, single, windowed};
+use saber_check::plan_of;
+use saber_plan::{NoMemory, Plan, Shape, Stream};
 use std::alloc::Global;
+use std::process::Abort;
 
-/// SELECT key, SUM(number) .. [ROWS 3 SLIDE 1] GROUP BY key
-pub(crate) fn sums(alloc: Global) -> Result<Plan, NoMemory>
-    ensures query { IfOk result (IsOfOne shapes.Group 3) }
-    ensures streams { IfOk result (λ p. (tree_of p).streams ≡ with_window 3 (record { measure = measures.Rows; size = 3; slide = 1 }) ∷ []) }
+fn planned(rt: &impl Abort, alloc: Global, text: &str) -> Plan
+    ensures checked { IsChecked (tree_of result) }
+    ensures wordless { (tree_of result).word ≡ None }
 {
-    let streams = vec![in alloc; windowed(3, Measure::Rows, 3, 1)]?;
-    let key = Item::Value(column(alloc, Side::Left, 1)?);
-    let sum = Item::Sum(column(alloc, Side::Left, 2)?);
-    let items = vec![in alloc; key, sum]?;
-    Ok(Plan::new(Shape::Group, streams, items, vec![in alloc; 1]?, None))
+    match plan_of(alloc, text.as_bytes()) {
+        Ok(plan) => plan,
+        Err(fault) => panic!(rt; "{text}: {fault:?}"),
+    }
 }
 
-/// SELECT key, number, COUNT(*) .. [ROWS 3 SLIDE 3] GROUP BY key, number
-pub(crate) fn pairs(alloc: Global) -> Result<Plan, NoMemory>
-    ensures { IfOk result (IsOfOne shapes.Group 3) }
+fn left_columns(streams: &[Stream]) -> u32
+    ensures { result ≡ columns_on streams.now sides.Left }
 {
-    let streams = vec![in alloc; windowed(3, Measure::Rows, 3, 3)]?;
-    let first = Item::Value(column(alloc, Side::Left, 1)?);
-    let second = Item::Value(column(alloc, Side::Left, 2)?);
-    let items = vec![in alloc; first, second, Item::Count]?;
-    Ok(Plan::new(Shape::Group, streams, items, vec![in alloc; 1, 2]?, None))
+    match streams {
+        [] => 0,
+        [only] => only.columns,
+        [first, _second, ..] => first.columns,
+    }
 }
 
-/// SELECT key, SUM(number), MIN(number), MAX(number), COUNT(*) .. [ROWS 3 SLIDE 3] GROUP BY key
-pub(crate) fn all_kinds(alloc: Global) -> Result<Plan, NoMemory>
-    ensures { IfOk result (IsOfOne shapes.Group 3) }
+fn right_columns(streams: &[Stream]) -> u32
+    ensures { result ≡ columns_on streams.now sides.Right }
 {
-    let streams = vec![in alloc; windowed(3, Measure::Rows, 3, 3)]?;
-    let key = Item::Value(column(alloc, Side::Left, 1)?);
-    let sum = Item::Sum(column(alloc, Side::Left, 2)?);
-    let least = Item::Min(column(alloc, Side::Left, 2)?);
-    let greatest = Item::Max(column(alloc, Side::Left, 2)?);
-    let items = vec![in alloc; key, sum, least, greatest, Item::Count]?;
-    Ok(Plan::new(Shape::Group, streams, items, vec![in alloc; 1]?, None))
+    match streams {
+        [] => 0,
+        [_only] => 0,
+        [_first, second, ..] => second.columns,
+    }
 }
 
-/// SELECT MIN(number), MAX(number), COUNT(*) .. [RANGE 3 SLIDE 2]
-pub(crate) fn extremes(alloc: Global) -> Result<Plan, NoMemory>
-    ensures { IfOk result (IsOfOne shapes.Group 3) }
+fn has_keys(plan: &Plan) -> bool
+    ensures none { result ≡ false → (tree_of plan.now).partition ≡ [] }
+    ensures some { result ≡ true → 1 ≤ length (tree_of plan.now).partition }
 {
-    let streams = vec![in alloc; windowed(3, Measure::Range, 3, 2)]?;
-    let least = Item::Min(column(alloc, Side::Left, 2)?);
-    let greatest = Item::Max(column(alloc, Side::Left, 2)?);
-    let items = vec![in alloc; least, greatest, Item::Count]?;
-    Ok(Plan::new(Shape::Group, streams, items, Vec::new(alloc), None))
+    match plan.partition() {
+        [] => false,
+        [_first, ..] => true,
+    }
 }
 
-/// SELECT COUNT(*) .. [ROWS 2 SLIDE 2] WHERE number > limit
-pub(crate) fn high_counts(alloc: Global, limit: i64) -> Result<Plan, NoMemory>
-    ensures { IfOk result (IsOfOne shapes.Group 3) }
+/// The plan of a query over S.
+pub(crate) fn plan_of_one(
+    rt: &impl Abort,
+    alloc: Global,
+    shape: Shape,
+    query: &str,
+) -> Result<Plan, NoMemory>
+    ensures { IfOk result (IsOfOne shape 3) }
 {
-    let number = column(alloc, Side::Left, 2)?;
-    let least = single(alloc, Factor::Constant(limit))?;
-    let high = Unit::compare(number, Cmp::Greater, least);
-    let predicate = Some(all(alloc, vec![in alloc; high]?)?);
-    let streams = vec![in alloc; windowed(3, Measure::Rows, 2, 2)]?;
-    let items = vec![in alloc; Item::Count]?;
-    Ok(Plan::new(Shape::Group, streams, items, Vec::new(alloc), predicate))
+    let text = format!(in alloc; "STREAM S(t,g,v); {query}")?;
+    let plan = planned(rt, alloc, &text);
+    assert!(rt; plan.shape() == shape, "{query}");
+    assert!(rt; left_columns(plan.streams()) == 3);
+    assert!(rt; !has_keys(&plan), "{query}");
+    Ok(plan)
+}
+
+/// That of one with PARTITION BY.
+pub(crate) fn plan_of_keys(rt: &impl Abort, alloc: Global, query: &str) -> Result<Plan, NoMemory>
+    ensures { IfOk result (IsOfKeys 3) }
+{
+    let text = format!(in alloc; "STREAM S(t,g,v); {query}")?;
+    let plan = planned(rt, alloc, &text);
+    assert!(rt; plan.shape() == Shape::Group, "{query}");
+    assert!(rt; left_columns(plan.streams()) == 3);
+    assert!(rt; has_keys(&plan), "{query}");
+    Ok(plan)
+}
+
+/// The plan of a join of A and B.
+pub(crate) fn plan_of_two(rt: &impl Abort, alloc: Global, query: &str) -> Result<Plan, NoMemory>
+    ensures { IfOk result (IsJoinOf 2) }
+{
+    let text = format!(in alloc; "STREAM A(t,x); STREAM B(t,y); {query}")?;
+    let plan = planned(rt, alloc, &text);
+    assert!(rt; plan.shape() == Shape::Join, "{query}");
+    assert!(rt; left_columns(plan.streams()) == 2);
+    assert!(rt; right_columns(plan.streams()) == 2);
+    assert!(rt; !has_keys(&plan), "{query}");
+    Ok(plan)
 }

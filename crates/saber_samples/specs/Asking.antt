@@ -1,5 +1,5 @@
 -- What queries of tests are.
-use Rattle.std.specs.Prelude.{◌≡◌, ℤ, ℕ, List, [], ◌∷◌, length, Some, None, true, false}
+use Rattle.std.specs.Prelude.{◌≡◌, ◌≤◌, ℤ, ℕ, List, [], ◌∷◌, length, Some, None, true, false}
 use Rattle.saber_plan.specs.declared.rows.Side.{Side}
 use Rattle.saber_plan.specs.declared.rows.Side.TheVariants.{Left, Right}
 use Rattle.saber_plan.specs.declared.windows.Window.{Window}
@@ -9,13 +9,17 @@ use Rattle.saber_plan.specs.declared.expressions.Factor.TheVariants.{Column, Con
 use Rattle.saber_plan.specs.declared.expressions.Product.{Product}
 use Rattle.saber_plan.specs.declared.plans.Plan.{Plan}
 use Rattle.saber_plan.specs.declared.plans.Shape.{Shape}
-use Rattle.saber_plan.specs.declared.plans.Shape.TheVariants.{Join}
+use Rattle.saber_plan.specs.declared.plans.Shape.TheVariants.{Group, Join}
 use Rattle.saber_plan.specs.Trees.{Test, Tests, both, no_more, either, no_other, tree_of}
 use Rattle.saber_plan.specs.Checked.{IsChecked, IsPlain, columns_on}
 
 -- a checked, plain query of this shape, over one stream of so many columns
 abbrev pub IsOfOne : Shape → ℕ → Plan → Type 0
 IsOfOne shape n p = IsChecked (tree_of p) × ((tree_of p).shape ≡ shape) × (columns_on (tree_of p).streams Left ≡ n) × IsPlain (tree_of p)
+
+-- a checked group query with PARTITION BY, over one stream of so many columns
+abbrev pub IsOfKeys : ℕ → Plan → Type 0
+IsOfKeys n p = IsChecked (tree_of p) × ((tree_of p).shape ≡ Group) × (columns_on (tree_of p).streams Left ≡ n) × (1 ≤ length (tree_of p).partition)
 
 -- a checked, plain join of two streams of so many columns each
 abbrev pub IsJoinOf : ℕ → Plan → Type 0

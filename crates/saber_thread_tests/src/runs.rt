@@ -1,5 +1,5 @@
 //! Runs over sources in memory, by several threads, worked out by hand. What a run over files gives is data: `saber_cases`.
-ghost use Rattle.std.specs.Prelude.{◌≡◌, ◌≤◌, ◌^◌, length, IfOk};
+ghost use Rattle.std.specs.Prelude.{◌≡◌, ◌≤◌, ◌^◌, None, length, IfOk};
 ghost use Rattle.saber_plan.specs.declared.plans.Shape.TheVariants as shapes;
 ghost use Rattle.saber_plan.specs.Trees.{tree_of};
 ghost use Rattle.saber_io.specs.MemFeeds.{taken_of, waiting_of};
@@ -30,7 +30,7 @@ const RANGE: Window = Window {
 // COUNT(*) over one stream of three columns.
 fn counts(alloc: Global, window: Window) -> Result<Plan, NoMemory>
     requires { WindowFits window }
-    ensures { IfOk result (λ p. IsChecked (tree_of p) × (length (tree_of p).streams ≡ 1)) }
+    ensures { IfOk result (λ p. IsChecked (tree_of p) × ((tree_of p).word ≡ None) × (length (tree_of p).streams ≡ 1)) }
 {
     let stream = Stream {
         columns: 3,
@@ -43,7 +43,7 @@ fn counts(alloc: Global, window: Window) -> Result<Plan, NoMemory>
 
 // The number of nothing, 0, for each pair of rows in one of the windows of four seconds.
 fn pairs(alloc: Global) -> Result<Plan, NoMemory>
-    ensures { IfOk result (λ p. IsChecked (tree_of p) × (length (tree_of p).streams ≡ 2)) }
+    ensures { IfOk result (λ p. IsChecked (tree_of p) × ((tree_of p).word ≡ None) × (length (tree_of p).streams ≡ 2)) }
 {
     let window = Window {
         measure: Measure::Range,
@@ -162,7 +162,7 @@ rows +|0,1,10;1,1,20;0,1,1;2,2,5;!|Bad { side: Left, line: 3, cause: TimeOrder }
 ";
 
 fn counts_of(alloc: Global, kind: &str) -> Result<Plan, NoMemory>
-    ensures { IfOk result (λ p. IsChecked (tree_of p) × (length (tree_of p).streams ≡ 1)) }
+    ensures { IfOk result (λ p. IsChecked (tree_of p) × ((tree_of p).word ≡ None) × (length (tree_of p).streams ≡ 1)) }
 {
     if kind == "range -" {
         counts(alloc, RANGE)

@@ -1,6 +1,6 @@
-use Rattle.std.proofs.Common.{◌≡◌, refl, sym, ◌∙◌, subst, arith}
+use Rattle.std.proofs.Common.{◌≡◌, refl, sym, ◌∙◌, ap, subst, arith}
 use Rattle.saber_plan.specs.Sizes.{limits_of}
-use Rattle.saber_plan.specs.Trees.{tree_of}
+use Rattle.saber_plan.specs.Trees.{Tree, tree_of}
 use Rattle.saber_words.specs.Demo.{asked_demo}
 use Rattle.saber_dispatch.specs.declared.inputs.Inputs.TheVariants.{One}
 use Rattle.saber_engine.specs.declared.ends.RunEnd.TheVariants.{AllRead, WriteFault}
@@ -8,6 +8,9 @@ use Rattle.saber_demo.specs.Rows.{generated}
 use Rattle.saber_cli.specs.Tells.{IsAnswer}
 use Rattle.saber_cli.proofs.DemoLemmas.{IsRunOf, end_is, run_gives, demo_read, whole_answer, written_is}
 use Rattle.saber_cli.proofs.demo.run_generated.Goals as goal
+
+pub engine-end-requires-clause-wordless : goal.engine-end-requires-clause-wordless
+engine-end-requires-clause-wordless g c spans live = ap (λ (t : Tree). t.word) c.in-Ok.ensures
 
 pub is_whole-requires : goal.is_whole-requires
 is_whole-requires g c =

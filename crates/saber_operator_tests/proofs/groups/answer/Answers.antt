@@ -9,17 +9,30 @@ loop-task-init g c =
     let q = g.O.Operator.plan c.args.operator.now in
     record {
       rows = [];
+      counted = c.requires.counted;
       fits = fits_nil q no_rows (omega arith) (omega arith);
       stands = record { mark = refl; last = none_end [] no_rows c.none-last.result refl c.none-last.ensures.before c.none-last.ensures.rows };
-      keeps = record { held = c.empty_store-store.ensures.held ∙ sym (c.no_rows_give_nothing.ensures q c.requires.windows).1; taken = c.empty_store-store.ensures.taken };
+      keeps = record { held = c.empty_store-store.ensures.held ∙ sym (c.no_rows_give_nothing.ensures q c.requires.windows).kept; taken = c.empty_store-store.ensures.taken };
     }
+
+pub next_block-own-requires : goal.next_block-own-requires
+next_block-own-requires g c =
+    let q = g.O.Operator.plan c.args.operator.now in
+    let kept = c.loop-task.invariant in
+    (q, kept.rows, c.requires.columns, kept.stands, kept.fits, kept.counted)
+
+pub next_block-own-requires-2 : goal.next_block-own-requires-2
+next_block-own-requires-2 g c =
+    let q = g.O.Operator.plan c.args.operator.now in
+    let kept = c.loop-task.invariant in
+    (q, kept.rows, c.requires.columns, kept.stands, kept.fits, kept.counted)
 
 pub give-requires-clause-next : goal.give-requires-clause-next
 give-requires-clause-next g c =
     let q = g.O.Operator.plan c.args.operator.now in
     let kept = c.loop-task.invariant in (
       kept.rows,
-      c.in_ok-own.ensures.comes q kept.rows c.requires.columns kept.stands kept.fits,
+      c.in_ok-own.ensures.comes q kept.rows c.requires.columns kept.stands kept.fits kept.counted,
       kept.keeps,
     )
 
@@ -27,10 +40,11 @@ pub loop-task-preserved : goal.loop-task-preserved
 loop-task-preserved g c =
     let q = g.O.Operator.plan c.args.operator.now in
     let kept = c.loop-task.invariant in
-    let comes = c.in_ok-own.ensures.comes q kept.rows c.requires.columns kept.stands kept.fits in
+    let comes = c.in_ok-own.ensures.comes q kept.rows c.requires.columns kept.stands kept.fits kept.counted in
     record {
       rows = kept.rows ++ c.in_ok-own.own.rows;
-      fits = comes.fits;
+      counted = c.in_ok-own.ensures.counted q kept.rows kept.counted;
+      fits = comes.comes.fits;
       stands = c.in_ok-own.ensures.stands kept.rows kept.stands;
       keeps = c.in_ok-give.ensures kept.rows comes kept.keeps c.in_ok-own.ensures.ended;
     }
@@ -40,6 +54,6 @@ give-requires-2-clause-next g c =
     let q = g.O.Operator.plan c.args.operator.now in
     let kept = c.loop-task.invariant in (
       kept.rows,
-      c.in_ok-own-2.ensures.comes q kept.rows c.requires.columns kept.stands kept.fits,
+      c.in_ok-own-2.ensures.comes q kept.rows c.requires.columns kept.stands kept.fits kept.counted,
       kept.keeps,
     )

@@ -7,6 +7,6 @@ pub returns-clause-cuts : goal.returns-clause-cuts
 returns-clause-cuts c had suits =
     let q = tree_of c.args.plan.now in
     let s = c.args.sizes.now in
-    cuts_nothing c.readers_stand.ensures c.mergers_stand.ensures q c.requires.checked c.requires.unlisted (c.checked_fit.ensures q c.requires.checked) s c.requires.sizes
-    (record { alloc = c.args.alloc; reader = c.in_ok-reader.reader; lasts = c.lasts_for.result; size = s.task; room = c.from.result; flush = c.end_counts.result; mark = record { left = 0; right = 0; last = None; ended = false }; number = 0; ended = None })
-    refl c.from.ensures c.end_counts.ensures c.in_ok-reader.ensures refl refl refl (c.lasts_for.ensures s.task) had suits
+    cuts_nothing c.readers_stand.ensures c.mergers_stand.ensures q c.requires.checked (c.checked_fit.ensures q c.requires.checked) s c.requires.sizes
+    (record { alloc = c.args.alloc; reader = c.in_ok-reader.reader; lasts = c.lasts_for.result; places = c.in_ok-places.places; size = s.task; room = c.from.result; flush = c.end_counts.result; mark = record { left = 0; right = 0; last = None; ended = false }; number = 0; ended = None })
+    refl c.from.ensures c.end_counts.ensures c.in_ok-reader.ensures refl refl refl (c.lasts_for.ensures s.task) c.in_ok-places.ensures had suits

@@ -1,0 +1,29 @@
+use Rattle.std.proofs.Common.{◌++◌, sym, ◌∙◌, ap}
+use Rattle.saber_plan.specs.Trees.{tree_of}
+use Rattle.saber_plan.specs.Inputs.{arrived}
+use Rattle.saber_plan.specs.Tasks.{list_added}
+use Rattle.saber_partition.specs.Stores.{lists_of}
+use Rattle.saber_partition.proofs.Taking.{list_adds, keeps_rightly}
+use Rattle.saber_partition.proofs.operator.PartitionOperator.take_in.Goals as goal
+
+pub take_piece-requires-clause-follow : goal.take_piece-requires-clause-follow
+take_piece-requires-clause-follow c =
+    let (r, x, y, f) = c.requires in
+    (r, x, y, record { fits = f.fits; rises = f.rises; taken = f.taken_is; of_is = f.of_is })
+
+pub returns-clause-taken : goal.returns-clause-taken
+returns-clause-taken c r x y f = (c.in_ok-take_piece.ensures r x y (record { fits = f.fits; rises = f.rises; taken = f.taken_is; of_is = f.of_is })).taken
+
+pub returns-clause-stays : goal.returns-clause-stays
+returns-clause-stays c r x y f =
+    keeps_rightly c.no_list_open_behind.ensures c.stream_laws.ensures.none (tree_of c.args.self.now) c.asks.ensures (arrived r y) (lists_of c.take_piece.new.store.lists.entries)
+    (c.in_ok-take_piece.ensures r x y (record { fits = f.fits; rises = f.rises; taken = f.taken_is; of_is = f.of_is })).taken
+
+pub returns-clause-text : goal.returns-clause-text
+returns-clause-text c r x y f =
+    let q = tree_of c.args.self.now in
+    c.in_ok-extend_from_slice.ensures.items ∙ ap (λ l. c.args.out.now.items ++ l) (
+    c.deref.ensures.value
+    ∙ (c.in_ok-take_piece.ensures r x y (record { fits = f.fits; rises = f.rises; taken = f.taken_is; of_is = f.of_is })).text
+    ∙ ap (λ l. l ++ list_added q r x y) c.new-text.ensures.items
+    ∙ sym (list_adds q c.asks.ensures r x y))

@@ -1,0 +1,10 @@
+use Rattle.std.proofs.Common.{map, take}
+use Rattle.saber_plan.specs.Trees.{tree_of}
+use Rattle.saber_partition.specs.Pieces.{AreMade}
+use Rattle.saber_partition.specs.Stores.{made_of}
+use Rattle.saber_partition.proofs.partition.Partition.put_pieces.Given as goal
+
+abbrev pub invariant-loop-i : goal.invariant-loop-i
+invariant-loop-i l = record {
+  made : AreMade (tree_of l.fn.self) (take l.i l.fn.rows) l.fn.places (map made_of l.pieces.items);
+}

@@ -1,0 +1,4 @@
+pub mod Streams
+pub mod Lists
+pub mod Pieces
+pub mod Stores

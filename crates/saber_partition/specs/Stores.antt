@@ -1,0 +1,18 @@
+-- The code's own rows and stores as the definitions see them.
+use Rattle.std.specs.Prelude.{List, map, ℤ}
+use Rattle.std.specs.FinMap.{from_entries}
+use Rattle.arrayvec.specs.ArrayVec.{ArrayVec}
+use Rattle.saber_plan.specs.Answers.{key_cmp}
+use Rattle.saber_partition.specs.declared.keyed.Keyed.{Keyed}
+use Rattle.saber_partition.specs.declared.pieces.RowPiece.{RowPiece}
+use Rattle.saber_partition.specs.Lists.{Own, Lists}
+use Rattle.saber_partition.specs.Pieces.{Made}
+
+abbrev pub own_of : Keyed → Own
+own_of s = record { next = s.next; begun = s.begun; entries = s.parts.entries }
+
+abbrev pub lists_of : List (ArrayVec ℤ × Keyed) → Lists
+lists_of es = from_entries {R = key_cmp} (map (λ e. (e.0.items, own_of e.1)) es)
+
+abbrev pub made_of : RowPiece → Made
+made_of p = record { list = p.list.items; place = p.place; part = p.part }

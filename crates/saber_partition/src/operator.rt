@@ -1,0 +1,124 @@
+// What a query with PARTITION BY does with tasks and what they give.
+ghost use Rattle.std.specs.Prelude.{◌≡◌, ◌<◌, ℕ, OnOk, map};
+ghost use Rattle.saber_plan.specs.Trees.{tree_of};
+ghost use Rattle.saber_plan.specs.Inputs.{Input};
+ghost use Rattle.saber_partition.specs.Pieces.{Follow, Followed};
+ghost use Rattle.saber_partition.specs.Stores.{lists_of, made_of};
+
+use crate::laws::stream_laws;
+use crate::lists::{ListStore, take_end, take_rows};
+use crate::partition::Partition;
+use crate::pieces::ListPiece;
+use saber_fragment::{Block, Operator};
+use saber_laws::{ends_are_behind, no_list_open_behind};
+use saber_partial::Steps;
+use saber_plan::NoMemory;
+use std::alloc::Global;
+use std::collections::BTreeMap;
+use std::marker::Brand;
+use std::sync::ledger::{Blank, Ledger};
+
+impl Partition<'_> {
+    // Takes a piece in, where nobody asks for the steps.
+    fn take_piece<L: Ledger>(
+        &self,
+        alloc: Global,
+        store: &mut ListStore,
+        piece: ListPiece,
+        out: &mut Vec<u8>,
+        blank: Blank,
+    ) -> Result<(), NoMemory>
+        requires follow { (r : Input) × (x : ℕ) × (y : ℕ) × Follow (tree_of self.now) r x y (map made_of piece.rows.items) piece.ended (lists_of store.old.lists.entries) }
+        requires name { blank.name ≡ L.name }
+        requires parts { blank.parts ≡ L.parts }
+        requires some { 0 < blank.parts }
+        ensures { OnOk result ((r : Input) (x y : ℕ) → Follow (tree_of self.now) r x y (map made_of piece.rows.items) piece.ended (lists_of store.old.lists.entries)
+            → Followed (tree_of self.now) r x y (lists_of store.new.lists.entries) out.old.items out.new.items) }
+    {
+        self.asks();
+        ends_are_behind();
+        let ListPiece { rows, ended } = piece;
+        let mut steps = Steps::<L>::new(blank);
+        take_rows(
+            alloc,
+            self.plan,
+            &self.windows,
+            &mut store.lists,
+            rows,
+            out,
+            &mut steps,
+        )?;
+        take_end(alloc, self.plan, &mut store.lists, ended, out, &mut steps)?;
+        Ok(())
+    }
+}
+
+// A task's piece is made of its own block, so nothing of the block is copied.
+impl Operator for Partition<'_> {
+    type Draft = ListPiece;
+
+    type Piece = ListPiece;
+
+    type Store = ListStore;
+
+    ghost use Rattle.std.specs.Prelude.{map};
+    ghost use Rattle.saber_plan.specs.Trees.{tree_of};
+    ghost use Rattle.saber_partition.specs.Lists.{TakenIn, kept_in};
+    ghost use Rattle.saber_partition.specs.Pieces.{HasSeen, IsOf};
+    ghost use Rattle.saber_partition.specs.Stores.{lists_of, made_of};
+
+    ghost plan = { tree_of };
+
+    ghost has_seen = { λ partition draft s. HasSeen (tree_of partition) s (map made_of draft.rows.items) draft.ended };
+
+    ghost held = { λ s. kept_in (lists_of s.lists.entries) };
+
+    ghost staying = { λ s. kept_in (lists_of s.lists.entries) };
+
+    ghost has_taken = { λ partition store r. TakenIn (tree_of partition) r (lists_of store.lists.entries) };
+
+    ghost is_of = { λ partition piece r x y. IsOf (tree_of partition) r x y (map made_of piece.rows.items) piece.ended };
+
+    fn start(&self, alloc: Global, own: &Block) -> Result<ListPiece, NoMemory> {
+        let rows = self.pieces_of(alloc, &own.rows, &own.places)?;
+        Ok(ListPiece {
+            rows,
+            ended: own.ended,
+        })
+    }
+
+    fn feed(&self, _alloc: Global, _draft: &mut ListPiece, _block: &Block) -> Result<(), NoMemory> {
+        Ok(())
+    }
+
+    fn finish(&self, _alloc: Global, draft: ListPiece) -> Result<ListPiece, NoMemory> {
+        self.asks();
+        Ok(draft)
+    }
+
+    fn empty_store(&self, alloc: Global) -> ListStore {
+        ListStore {
+            lists: BTreeMap::new(alloc),
+        }
+    }
+
+    // The lines are put together first, so that `out` is as before after want of memory.
+    fn take_in(
+        &self,
+        alloc: Global,
+        store: &mut ListStore,
+        piece: ListPiece,
+        out: &mut Vec<u8>,
+    ) -> Result<(), NoMemory> {
+        self.asks();
+        no_list_open_behind();
+        stream_laws();
+        let mut text = Vec::new(alloc);
+        self.take_piece::<Brand>(alloc, store, piece, &mut text, Blank::new(1))?;
+        out.extend_from_slice(&text)?;
+        Ok(())
+    }
+
+    // Taking a piece in has dropped what no open window has.
+    fn drop_closed(&self, _store: &mut ListStore) {}
+}

@@ -1,0 +1,153 @@
+// What a task works out of its rows.
+ghost use Rattle.std.specs.Prelude.{◌≡◌, ◌<◌, ◌≤◌, ◌+◌, ◌++◌, length, get_or, map, IfOk, OnOk};
+ghost use Rattle.std.specs.List.{AllByRecursion};
+ghost use Rattle.saber_plan.specs.Answers.{key, list_of};
+ghost use Rattle.saber_plan.specs.Given.{IsRowOf};
+ghost use Rattle.saber_plan.specs.Trees.{tree_of};
+ghost use Rattle.saber_plan.specs.Values as v;
+ghost use Rattle.std.specs.Prelude as l;
+ghost use Rattle.saber_partition.specs.Streams.{row_part};
+ghost use Rattle.saber_partition.specs.Pieces.{AreMade, IsMade};
+ghost use Rattle.saber_partition.specs.Stores.{made_of};
+
+use crate::letting::let_rows_go;
+use crate::partition::Partition;
+use arrayvec::ArrayVec;
+use saber_eval::{holds, one_stream_fits};
+use saber_flat::{RowRef, Rows};
+use saber_laws::{groups_have_one_window, no_rows_no_part};
+use saber_partial::Partial;
+use saber_plan::NoMemory;
+use std::alloc::Global;
+
+/// A row's key list, where it stands among the rows with it, and its part, which is empty where it doesn't pass WHERE.
+#[derive(Drop)]
+pub(crate) struct RowPiece {
+    pub(crate) list: ArrayVec<i64, 8>,
+    pub(crate) place: u64,
+    pub(crate) part: Partial,
+}
+
+/// What a task gives: this of each of its rows, in order, and whether the input ends behind them.
+#[derive(Drop)]
+pub struct ListPiece {
+    pub(crate) rows: Vec<RowPiece>,
+    pub(crate) ended: bool,
+}
+
+// The key list of a row, of at most eight columns.
+fn push_list(list: &mut ArrayVec<i64, 8>, columns: &[u32], numbers: &[i64])
+    requires few { length list.old.items + length columns.now ≤ 8 }
+    requires there { AllByRecursion (λ k. k < length numbers.now) columns.now }
+    ensures { list.new.items ≡ list.old.items ++ key columns.now numbers.now }
+{
+    for column in columns {
+        list.push(numbers[*column as usize]);
+    }
+}
+
+// The place of row `i`, if it is told.
+fn place_at(places: &[u64], i: usize) -> u64
+    ensures { result ≡ get_or places.now i 0 }
+{
+    match places.get(i) {
+        Some(place) => *place,
+        None => 0,
+    }
+}
+
+impl Partition<'_> {
+    // Whether a row passes WHERE.
+    fn passes(&self, row: &RowRef) -> bool
+        requires { IsRowOf (tree_of self.now) row.now }
+        ensures { result ≡ v.passes (tree_of self.now).predicate row.now.values l.[] }
+    {
+        self.asks();
+        groups_have_one_window();
+        one_stream_fits();
+        match self.plan.predicate() {
+            Some(predicate) => holds(predicate, row),
+            None => true,
+        }
+    }
+
+    // The part of one row.
+    fn part_of_row(&self, alloc: Global, row: &RowRef) -> Result<Partial, NoMemory>
+        requires { IsRowOf (tree_of self.now) row.now }
+        ensures { IfOk result (λ part. part ≡ row_part (tree_of self.now) row.now) }
+    {
+        self.asks();
+        groups_have_one_window();
+        no_rows_no_part();
+        if self.passes(row) {
+            return Partial::of_row(alloc, &self.aggregates, row);
+        }
+        Ok(Partial::empty(alloc))
+    }
+
+    // Its key list.
+    fn list_of_row(&self, row: &RowRef) -> ArrayVec<i64, 8>
+        requires { IsRowOf (tree_of self.now) row.now }
+        ensures { result.items ≡ list_of (tree_of self.now) row.now }
+    {
+        self.asks();
+        let mut list = ArrayVec::new();
+        push_list(&mut list, self.plan.partition(), row.values());
+        list
+    }
+
+    // What a row gives that stands at this place.
+    fn row_piece(&self, alloc: Global, row: &RowRef, place: u64) -> Result<RowPiece, NoMemory>
+        requires { IsRowOf (tree_of self.now) row.now }
+        ensures { IfOk result (λ p. IsMade (tree_of self.now) row.now place (made_of p)) }
+    {
+        let part = self.part_of_row(alloc, row)?;
+        Ok(RowPiece {
+            list: self.list_of_row(row),
+            place,
+            part,
+        })
+    }
+
+    // Puts what rows give that stand at these places into an empty list.
+    fn put_pieces(
+        &self,
+        alloc: Global,
+        rows: &Rows,
+        places: &[u64],
+        pieces: &mut Vec<RowPiece>,
+    ) -> Result<(), NoMemory>
+        requires rows { AllByRecursion (IsRowOf (tree_of self.now)) rows.now }
+        requires none { pieces.old.items ≡ l.[] }
+        ensures { OnOk result (AreMade (tree_of self.now) rows.now places.now (map made_of pieces.new.items)) }
+    {
+        let count = rows.len();
+        pieces.try_reserve_exact(count)?;
+        for i in 0..count {
+            let place = place_at(places, i);
+            let piece = self.row_piece(alloc, &rows.row(i), place)?;
+            pieces.push(piece)?;
+        }
+        Ok(())
+    }
+
+    /// What a task's rows give that stand at these places. Each row is looked at once.
+    pub(crate) fn pieces_of(
+        &self,
+        alloc: Global,
+        rows: &Rows,
+        places: &[u64],
+    ) -> Result<Vec<RowPiece>, NoMemory>
+        requires { AllByRecursion (IsRowOf (tree_of self.now)) rows.now }
+        ensures { IfOk result (λ v. AreMade (tree_of self.now) rows.now places.now (map made_of v.items)) }
+    {
+        let mut pieces = Vec::new(alloc);
+        match self.put_pieces(alloc, rows, places, &mut pieces) {
+            Ok(()) => Ok(pieces),
+            Err(want) => {
+                let_rows_go(pieces);
+                Err(want)
+            }
+        }
+    }
+}

@@ -1,0 +1,3 @@
+mod Filled
+mod Tallied
+mod Counted
