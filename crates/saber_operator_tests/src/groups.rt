@@ -15,7 +15,7 @@ ghost use Rattle.saber_samples.specs.Standing.{Keeps};
 ghost use Rattle.saber_operator_tests.specs.Stands.{ComesPlaced, Stands};
 
 use crate::plans::{plan_of_keys, plan_of_one};
-use crate::texts::{assert_text, cut, is_query, is_remark, keyed_rows};
+use crate::texts::{assert_text, cut, is_remark, keyed_rows};
 use saber_flat::Rows;
 use saber_fragment::{Block, Earlier, Operator};
 use saber_group::Group;
@@ -191,15 +191,47 @@ fn check_keyed(rt: &impl Abort, alloc: Global, plan: &Plan, line: &str) -> Resul
     Ok(())
 }
 
-fn check_line(rt: &impl Abort, alloc: Global, query: &str, line: &str) -> Result<(), NoMemory> {
+fn check_lines(rt: &impl Abort, alloc: Global, plan: &Plan, lines: &str) -> Result<(), NoMemory>
+    requires { IsOfOne shapes.Group 3 plan.now }
+{
+    for line in lines.lines() {
+        if !is_remark(line) {
+            check_tasks(rt, alloc, plan, line)?;
+        }
+    }
+    Ok(())
+}
+
+fn check_keyed_lines(
+    rt: &impl Abort,
+    alloc: Global,
+    plan: &Plan,
+    lines: &str,
+) -> Result<(), NoMemory>
+    requires { IsOfKeys 3 plan.now }
+{
+    for line in lines.lines() {
+        if !is_remark(line) {
+            check_keyed(rt, alloc, plan, line)?;
+        }
+    }
+    Ok(())
+}
+
+fn check_keys(rt: &impl Abort, alloc: Global, query: &str, lines: &str) -> Result<(), NoMemory> {
+    let plan = plan_of_keys(rt, alloc, query)?;
+    let checked = check_keyed_lines(rt, alloc, &plan, lines);
+    plan.let_go();
+    checked
+}
+
+fn check_section(rt: &impl Abort, alloc: Global, section: &str) -> Result<(), NoMemory> {
+    let (query, lines) = cut(rt, section, '\n');
     if query.contains("PARTITION") {
-        let plan = plan_of_keys(rt, alloc, query)?;
-        let checked = check_keyed(rt, alloc, &plan, line);
-        plan.let_go();
-        return checked;
+        return check_keys(rt, alloc, query, lines);
     }
     let plan = plan_of_one(rt, alloc, Shape::Group, query)?;
-    let checked = check_tasks(rt, alloc, &plan, line);
+    let checked = check_lines(rt, alloc, &plan, lines);
     plan.let_go();
     checked
 }
@@ -214,47 +246,50 @@ SELECT g, SUM(v) FROM S [ROWS 3 SLIDE 1] GROUP BY g
 0,1,10 | 1,1,20 2,2,5 2,1,7 9,2,1 = 0,1,30;0,2,5;1,1,27;1,2,5;2,1,7;2,2,6;|3,1,7;3,2,1;4,2,1;
 0,1,10 1,1,20 | 2,2,5 2,1,7 9,2,1 = 0,1,30;0,2,5;1,1,27;1,2,5;2,1,7;2,2,6;|3,1,7;3,2,1;4,2,1;
 0,1,10 1,1,20 2,2,5 2,1,7 9,2,1 = 0,1,30;0,2,5;1,1,27;1,2,5;2,1,7;2,2,6;|3,1,7;3,2,1;4,2,1;
-# One row of each three: the rows between lie in no window.
+
 SELECT COUNT(*) FROM S [ROWS 1 SLIDE 3]
+# One row of each three: the rows between lie in no window.
 0,1,10 | 1,1,20 | 2,2,5 | 2,1,7 | 9,2,1 = 0,1;1,1;|
 0,1,10 1,1,20 | 2,2,5 2,1,7 | 9,2,1 = 0,1;1,1;|
 0,1,10 1,1,20 2,2,5 2,1,7 9,2,1 = 0,1;1,1;|
-# Rows that fail WHERE count as rows of ROWS windows, and give nothing.
+
 SELECT COUNT(*) FROM S [ROWS 2 SLIDE 2] WHERE v > 5
+# Rows that fail WHERE count as rows of ROWS windows, and give nothing.
 0,1,10 | 1,1,20 | 2,2,5 | 2,1,7 | 9,2,1 = 0,2;1,1;|
 0,1,10 1,1,20 | 2,2,5 2,1,7 | 9,2,1 = 0,2;1,1;|
 0,1,10 1,1,20 2,2,5 2,1,7 9,2,1 = 0,2;1,1;|
+
 SELECT COUNT(*) FROM S [ROWS 2 SLIDE 2] WHERE v > 100
 0,1,10 | 1,1,20 | 2,2,5 | 2,1,7 | 9,2,1 = |
 0,1,10 1,1,20 | 2,2,5 2,1,7 | 9,2,1 = |
 0,1,10 1,1,20 2,2,5 2,1,7 9,2,1 = |
-# Three seconds every two: a row lies in one window or in two. Windows 2 and 3 close empty.
+
 SELECT MIN(v), MAX(v), COUNT(*) FROM S [RANGE 3 SLIDE 2]
+# Three seconds every two: a row lies in one window or in two. Windows 2 and 3 close empty.
 0,1,10 | 1,1,20 | 2,2,5 | 2,1,7 | 9,2,1 = 0,5,20,4;1,5,7,2;|4,1,1,1;
 0,1,10 1,1,20 | 2,2,5 2,1,7 | 9,2,1 = 0,5,20,4;1,5,7,2;|4,1,1,1;
 0,1,10 1,1,20 2,2,5 2,1,7 9,2,1 = 0,5,20,4;1,5,7,2;|4,1,1,1;
-# Four thousand million windows that have no row cost nothing.
+
 SELECT COUNT(*) FROM S [RANGE 1 SLIDE 1]
+# Four thousand million windows that have no row cost nothing.
 0,1,1 4294967295,1,1 = 0,1;|4294967295,1;
-# Windows of each key are written with the row that closes them, and at the end by key. Key 2 has two rows, of which WHERE lets none pass.
+
 SELECT g, SUM(v) FROM S [PARTITION BY g ROWS 2 SLIDE 1]
+# Windows of each key are written with the row that closes them, and at the end by key.
 0,1,10 | 1,1,20 | 2,2,5 | 2,1,7 | 9,2,1 = 0,1,30;1,1,27;0,2,6;|2,1,7;1,2,1;
 0,1,10 1,1,20 | 2,2,5 2,1,7 | 9,2,1 = 0,1,30;1,1,27;0,2,6;|2,1,7;1,2,1;
 0,1,10 1,1,20 2,2,5 2,1,7 9,2,1 = 0,1,30;1,1,27;0,2,6;|2,1,7;1,2,1;
+
 SELECT g, SUM(v) FROM S [PARTITION BY g ROWS 2 SLIDE 1] WHERE v > 5
+# Key 2 has two rows, of which none passes.
 0,1,10 | 1,1,20 | 2,2,5 | 2,1,7 | 9,2,1 = 0,1,30;1,1,27;|2,1,7;
 0,1,10 1,1,20 2,2,5 2,1,7 9,2,1 = 0,1,30;1,1,27;|2,1,7;
 ";
 
 #[test]
 fn tasks_of_groups(rt: HostRuntime) -> Result<(), Fail> {
-    let mut query = "";
-    for line in TABLE.lines() {
-        if is_query(line) {
-            query = line;
-        } else if !is_remark(line) {
-            check_line(&rt, rt.alloc(), query, line)?;
-        }
+    for section in TABLE.split("\n\n") {
+        check_section(&rt, rt.alloc(), section)?;
     }
     Ok(())
 }

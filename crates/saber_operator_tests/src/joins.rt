@@ -11,7 +11,7 @@ ghost use Rattle.saber_samples.specs.Filling.{HasPairs};
 ghost use Rattle.saber_samples.specs.Standing.{ComesBehind, Keeps};
 
 use crate::plans::plan_of_two;
-use crate::texts::{assert_text, cut, is_query, is_remark, sided_rows};
+use crate::texts::{assert_text, cut, is_remark, sided_rows};
 use saber_cells::write_number;
 use saber_flat::Rows;
 use saber_fragment::{Block, Earlier, Operator, Parts, Piece};
@@ -202,23 +202,42 @@ fn check_answer(rt: &impl Abort, alloc: Global, plan: &Plan, line: &str) -> Resu
     Ok(())
 }
 
-fn check_line(rt: &impl Abort, alloc: Global, query: &str, line: &str) -> Result<(), NoMemory> {
-    let plan = plan_of_two(rt, alloc, query)?;
-    let checked = if line.contains('/') {
-        check_piece(rt, alloc, &plan, line)
+// What one task gives, or what all of them write.
+fn check_line(rt: &impl Abort, alloc: Global, plan: &Plan, line: &str) -> Result<(), NoMemory>
+    requires { IsJoinOf 2 plan.now }
+{
+    if line.contains('/') {
+        check_piece(rt, alloc, plan, line)
     } else {
-        check_answer(rt, alloc, &plan, line)
-    };
+        check_answer(rt, alloc, plan, line)
+    }
+}
+
+fn check_lines(rt: &impl Abort, alloc: Global, plan: &Plan, lines: &str) -> Result<(), NoMemory>
+    requires { IsJoinOf 2 plan.now }
+{
+    for line in lines.lines() {
+        if !is_remark(line) {
+            check_line(rt, alloc, plan, line)?;
+        }
+    }
+    Ok(())
+}
+
+fn check_section(rt: &impl Abort, alloc: Global, section: &str) -> Result<(), NoMemory> {
+    let (query, lines) = cut(rt, section, '\n');
+    let plan = plan_of_two(rt, alloc, query)?;
+    let checked = check_lines(rt, alloc, &plan, lines);
     plan.let_go();
     checked
 }
 
 // Queries, and behind each what single tasks of it give, and what is written for tasks of one row, of two and of all.
 const TABLE: &str = "\
+SELECT x, y FROM A [RANGE 4 SLIDE 4], B [RANGE 4 SLIDE 4] WHERE x < y
 # One task of all rows; tasks of two rows, each of which looks back on the rows before it and finds the pairs of its own alone; the flush
 # task behind all rows, which gives no part and no line, and closes the window that stood open; and rows that leave a gap of a thousand
 # million windows.
-SELECT x, y FROM A [RANGE 4 SLIDE 4], B [RANGE 4 SLIDE 4] WHERE x < y
 / / A,0,5 B,0,7 A,1,9 B,3,6 A,4,1 B,8,0 = |||0,5,7;0,5,6;|2
 / / A,0,5 B,0,7 = ||0 ||0
 A,0,5 B,0,7 / / A,1,9 B,3,6 = |0 |||0
@@ -231,9 +250,10 @@ A,0,5 B,0,7 | A,1,9 B,3,6 | A,4,1 B,8,0 = 0,5,7;0,5,6;|
 A,0,5 B,0,7 A,1,9 B,3,6 A,4,1 B,8,0 = 0,5,7;0,5,6;|
 A,0,-3 B,1,9223372036854775807 A,4294967294,-9223372036854775808 B,4294967294,0 \
 = 0,-3,9223372036854775807;|1073741823,-9223372036854775808,0;
+
+SELECT x, y FROM A [RANGE 4 SLIDE 4], B [RANGE 2 SLIDE 4]
 # Four seconds on the left and two on the right, every four: time 3 lies behind window 0's right rows, but only time 4 closes it. Right
 # row 6, of time 3, lies in no window.
-SELECT x, y FROM A [RANGE 4 SLIDE 4], B [RANGE 2 SLIDE 4]
 / / A,0,5 B,0,7 A,1,9 B,3,6 A,4,1 B,8,0 = |||0,5,7;0,9,7;|2
 / / A,0,5 B,0,7 = ||0 ||0
 A,0,5 B,0,7 / / A,1,9 B,3,6 = |0 |||0
@@ -241,16 +261,18 @@ A,0,5 B,0,7 / A,1,9 B,3,6 / A,4,1 B,8,0 = ||||2
 A,0,5 | B,0,7 | A,1,9 | B,3,6 | A,4,1 | B,8,0 = 0,5,7;0,9,7;|
 A,0,5 B,0,7 | A,1,9 B,3,6 | A,4,1 B,8,0 = 0,5,7;0,9,7;|
 A,0,5 B,0,7 A,1,9 B,3,6 A,4,1 B,8,0 = 0,5,7;0,9,7;|
-# A window's pairs stand by the left row, then by the right one, whatever came first. Window 1 has the second row of either side.
+
 SELECT x, y FROM A [ROWS 2 SLIDE 1], B [ROWS 2 SLIDE 1]
+# A window's pairs stand by the left row, then by the right one, whatever came first. Window 1 has the second row of either side.
 / / A,0,1 A,0,2 B,0,7 B,0,8 = ||1 |0,1,7;0,1,8;0,2,7;0,2,8;|1
 A,0,5 | B,0,7 | A,1,9 | B,3,6 | A,4,1 | B,8,0 = 0,5,7;0,5,6;0,9,7;0,9,6;1,9,6;1,9,0;1,1,6;1,1,0;|2,1,0;
 A,0,5 B,0,7 | A,1,9 B,3,6 | A,4,1 B,8,0 = 0,5,7;0,5,6;0,9,7;0,9,6;1,9,6;1,9,0;1,1,6;1,1,0;|2,1,0;
 A,0,5 B,0,7 A,1,9 B,3,6 A,4,1 B,8,0 = 0,5,7;0,5,6;0,9,7;0,9,6;1,9,6;1,9,0;1,1,6;1,1,0;|2,1,0;
 A,0,1 A,0,2 B,0,7 B,0,8 = 0,1,7;0,1,8;0,2,7;0,2,8;|1,2,8;
+
+SELECT x, y FROM A [ROWS 2 SLIDE 2], B [ROWS 1 SLIDE 2]
 # Two left rows and one right row, every two. Window 0 has left rows 5 and 9 and right row 7, and window 1 left row 1 and right row 0.
 # The second row brings all of the right side, and only the third, the last of the left side, closes window 0.
-SELECT x, y FROM A [ROWS 2 SLIDE 2], B [ROWS 1 SLIDE 2]
 / / A,0,5 B,0,7 A,1,9 B,3,6 A,4,1 B,8,0 = ||1 |0,5,7;0,9,7;|1
 / / A,0,5 B,0,7 = ||0 ||0
 A,0,5 B,0,7 / / A,1,9 B,3,6 = 0 ||||1
@@ -262,13 +284,8 @@ A,0,5 B,0,7 A,1,9 B,3,6 A,4,1 B,8,0 = 0,5,7;0,9,7;|1,1,0;
 
 #[test]
 fn tasks_of_joins(rt: HostRuntime) -> Result<(), Fail> {
-    let mut query = "";
-    for line in TABLE.lines() {
-        if is_query(line) {
-            query = line;
-        } else if !is_remark(line) {
-            check_line(&rt, rt.alloc(), query, line)?;
-        }
+    for section in TABLE.split("\n\n") {
+        check_section(&rt, rt.alloc(), section)?;
     }
     Ok(())
 }
@@ -304,26 +321,32 @@ const TIES: &str = "\
 4|NOT x = y|0,0,1;0,1,1;0,3,0;0,3,1;0,3,2;1,4,5;
 ";
 
-fn check_answers(
-    rt: &impl Abort,
-    alloc: Global,
-    query: &str,
-    wanted: &str,
-) -> Result<(), NoMemory> {
+fn check_orders(rt: &impl Abort, alloc: Global, plan: &Plan, wanted: &str) -> Result<(), NoMemory>
+    requires { IsJoinOf 2 plan.now }
+{
     for tasks in [ALL, THREES, ONES] {
         let line = format!(in alloc; "{tasks} = {wanted}|")?;
-        check_line(rt, alloc, query, &line)?;
+        check_answer(rt, alloc, plan, &line)?;
     }
     Ok(())
+}
+
+fn tie(rt: &impl Abort, alloc: Global, size: &str, predicate: &str) -> Result<Plan, NoMemory>
+    ensures { IfOk result (IsJoinOf 2) }
+{
+    let query = format!(in alloc;
+        "SELECT A.t, B.t FROM A [RANGE 4 SLIDE 4], B [RANGE {size} SLIDE 4] WHERE {predicate}"
+    )?;
+    plan_of_two(rt, alloc, &query)
 }
 
 fn check_tie(rt: &impl Abort, alloc: Global, row: &str) -> Result<(), NoMemory> {
     let (size, rest) = cut(rt, row, '|');
     let (predicate, wanted) = cut(rt, rest, '|');
-    let query = format!(in alloc;
-        "SELECT A.t, B.t FROM A [RANGE 4 SLIDE 4], B [RANGE {size} SLIDE 4] WHERE {predicate}"
-    )?;
-    check_answers(rt, alloc, &query, wanted)
+    let plan = tie(rt, alloc, size, predicate)?;
+    let checked = check_orders(rt, alloc, &plan, wanted);
+    plan.let_go();
+    checked
 }
 
 #[test]

@@ -7,7 +7,7 @@ ghost use Rattle.saber_partial.specs.Tallies.{CanMerge};
 ghost use Rattle.saber_samples.specs.Asking.{IsOfOne};
 
 use crate::plans::plan_of_one;
-use crate::texts::{assert_text, cut, is_query, is_remark, keyed_rows};
+use crate::texts::{assert_text, cut, is_remark, keyed_rows};
 use saber_cells::{write_cell, write_count};
 use saber_flat::RowRef;
 use saber_partial::{
@@ -135,17 +135,29 @@ fn check_two(rt: &impl Abort, alloc: Global, plan: &Plan, line: &str) -> Result<
     check_parts(rt, alloc, plan, first, second, wanted.trim())
 }
 
-fn check_line(rt: &impl Abort, alloc: Global, query: &str, line: &str) -> Result<(), NoMemory> {
+fn check_lines(rt: &impl Abort, alloc: Global, plan: &Plan, lines: &str) -> Result<(), NoMemory>
+    requires { IsOfOne shapes.Group 3 plan.now }
+{
+    for line in lines.lines() {
+        if !is_remark(line) {
+            check_two(rt, alloc, plan, line)?;
+        }
+    }
+    Ok(())
+}
+
+fn check_section(rt: &impl Abort, alloc: Global, section: &str) -> Result<(), NoMemory> {
+    let (query, lines) = cut(rt, section, '\n');
     let plan = plan_of_one(rt, alloc, Shape::Group, query)?;
-    let checked = check_two(rt, alloc, &plan, line);
+    let checked = check_lines(rt, alloc, &plan, lines);
     plan.let_go();
     checked
 }
 
 const TABLE: &str = "\
+SELECT g, SUM(v) FROM S [ROWS 3 SLIDE 1] GROUP BY g
 # One part alone; a great sum; keys that both have and that one has; the same keys; a key behind all others and one before them; one
 # group into eight; and no groups, on either side.
-SELECT g, SUM(v) FROM S [ROWS 3 SLIDE 1] GROUP BY g
 0,1,10 1,1,20 2,2,5 | = 7,1,30;7,2,5;
 0,-1,-9223372036854775808 0,-1,-9223372036854775808 | = 7,-1,-18446744073709551616;
 0,1,10 1,3,20 2,2,5 | 2,1,7 9,4,1 = 7,1,17;7,2,5;7,3,20;7,4,1;
@@ -157,28 +169,26 @@ SELECT g, SUM(v) FROM S [ROWS 3 SLIDE 1] GROUP BY g
 0,1,10 | = 7,1,10;
  | 0,1,10 = 7,1,10;
  | =
-# The least and the greatest number, of one part and of two.
+
 SELECT MIN(v), MAX(v), COUNT(*) FROM S [RANGE 3 SLIDE 2]
+# The least and the greatest number, of one part and of two.
 0,1,10 1,1,20 2,2,5 2,1,7 | = 7,5,20,4;
 0,1,10 1,1,20 | 2,2,5 2,1,7 9,2,1 = 7,1,20,5;
-# Keys that both have, that the first alone has, and that the second alone has, also behind all others; and the other way round.
+
 SELECT g, SUM(v), MIN(v), MAX(v), COUNT(*) FROM S [ROWS 3 SLIDE 3] GROUP BY g
+# Keys that both have, that the first alone has, and that the second alone has, also behind all others; and the other way round.
 0,1,10 1,3,20 2,1,-7 3,4,5 | 4,1,8 5,2,1 6,4,-2 7,5,9 = 7,1,11,-7,10,3;7,2,1,1,1,1;7,3,20,20,20,1;7,4,3,-2,5,2;7,5,9,9,9,1;
 4,1,8 5,2,1 6,4,-2 7,5,9 | 0,1,10 1,3,20 2,1,-7 3,4,5 = 7,1,11,-7,10,3;7,2,1,1,1,1;7,3,20,20,20,1;7,4,3,-2,5,2;7,5,9,9,9,1;
-# The first group by the second column.
+
 SELECT g, v, COUNT(*) FROM S [ROWS 3 SLIDE 3] GROUP BY g, v
+# The first group by the second column.
 0,2,7 1,1,9 2,2,-3 3,1,9 | 4,1,-9 5,2,7 = 7,1,-9,1;7,1,9,2;7,2,-3,1;7,2,7,2;
 ";
 
 #[test]
 fn two_parts(rt: HostRuntime) -> Result<(), Fail> {
-    let mut query = "";
-    for line in TABLE.lines() {
-        if is_query(line) {
-            query = line;
-        } else if !is_remark(line) {
-            check_line(&rt, rt.alloc(), query, line)?;
-        }
+    for section in TABLE.split("\n\n") {
+        check_section(&rt, rt.alloc(), section)?;
     }
     Ok(())
 }

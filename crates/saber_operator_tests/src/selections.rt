@@ -4,7 +4,7 @@ ghost use Rattle.saber_fragment.specs.Drafts.{CanStart};
 ghost use Rattle.saber_samples.specs.Asking.{IsOfOne};
 
 use crate::plans::plan_of_one;
-use crate::texts::{assert_text, cut, is_query, is_remark, keyed_rows, last, time};
+use crate::texts::{assert_text, cut, is_remark, keyed_rows, last, time};
 use saber_fragment::{Block, Operator, Text};
 use saber_plan::{Mark, NoMemory, Plan, Shape};
 use saber_samples::keyed_block;
@@ -55,33 +55,41 @@ fn check_task(rt: &impl Abort, alloc: Global, plan: &Plan, line: &str) -> Result
     Ok(())
 }
 
-fn check_line(rt: &impl Abort, alloc: Global, query: &str, line: &str) -> Result<(), NoMemory> {
+fn check_lines(rt: &impl Abort, alloc: Global, plan: &Plan, lines: &str) -> Result<(), NoMemory>
+    requires { IsOfOne h.Select 3 plan.now }
+{
+    for line in lines.lines() {
+        if !is_remark(line) {
+            check_task(rt, alloc, plan, line)?;
+        }
+    }
+    Ok(())
+}
+
+fn check_section(rt: &impl Abort, alloc: Global, section: &str) -> Result<(), NoMemory> {
+    let (query, lines) = cut(rt, section, '\n');
     let plan = plan_of_one(rt, alloc, Shape::Select, query)?;
-    let checked = check_task(rt, alloc, &plan, line);
+    let checked = check_lines(rt, alloc, &plan, lines);
     plan.let_go();
     checked
 }
 
 const TABLE: &str = "\
-# All rows, and tasks of one selection, the second without a row that passes, the third with great numbers.
 SELECT g, v*2-1 FROM S WHERE v > 5
+# All rows, and tasks of one selection, the second without a row that passes, the third with great numbers.
 0 - | 0,1,10 1,1,20 2,2,5 2,1,7 9,2,1 = 1,19;1,39;1,13;
 0 - | 0,1,10 1,1,20 = 1,19;1,39;
 2 1 | 2,2,5 =
 3 2 | 9,-4,9223372036854775807 9,-9223372036854775808,6 = -4,18446744073709551613;-9223372036854775808,11;
+
 SELECT v FROM S WHERE g = 1 AND NOT v < 10
 0 - | 0,1,10 1,1,20 2,2,5 2,1,7 9,2,1 = 10;20;
 ";
 
 #[test]
 fn rows_of_selections(rt: HostRuntime) -> Result<(), Fail> {
-    let mut query = "";
-    for line in TABLE.lines() {
-        if is_query(line) {
-            query = line;
-        } else if !is_remark(line) {
-            check_line(&rt, rt.alloc(), query, line)?;
-        }
+    for section in TABLE.split("\n\n") {
+        check_section(&rt, rt.alloc(), section)?;
     }
     Ok(())
 }

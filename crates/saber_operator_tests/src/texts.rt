@@ -3,12 +3,7 @@ use saber_plan::{NoMemory, Side};
 use std::alloc::Global;
 use std::process::Abort;
 
-/// A line of a table that has the query of those behind it.
-pub(crate) fn is_query(line: &str) -> bool {
-    line.starts_with("SELECT")
-}
-
-/// One that says why the next are there.
+/// A line of a table that says why the next are there.
 pub(crate) fn is_remark(line: &str) -> bool {
     line.starts_with('#')
 }

@@ -15,14 +15,14 @@ loop-task-init g c =
       keeps = record { held = c.empty_store-store.ensures.held ∙ sym (c.no_rows_give_nothing.ensures q c.requires.windows).kept; taken = c.empty_store-store.ensures.taken };
     }
 
-pub next_block-own-requires : goal.next_block-own-requires
-next_block-own-requires g c =
+pub next_block-requires : goal.next_block-requires
+next_block-requires g c =
     let q = g.O.Operator.plan c.args.operator.now in
     let kept = c.loop-task.invariant in
     (q, kept.rows, c.requires.columns, kept.stands, kept.fits, kept.counted)
 
-pub next_block-own-requires-2 : goal.next_block-own-requires-2
-next_block-own-requires-2 g c =
+pub next_block-requires-2 : goal.next_block-requires-2
+next_block-requires-2 g c =
     let q = g.O.Operator.plan c.args.operator.now in
     let kept = c.loop-task.invariant in
     (q, kept.rows, c.requires.columns, kept.stands, kept.fits, kept.counted)

@@ -2,8 +2,8 @@ use Rattle.std.proofs.Common.{◌++◌, sym, ◌∙◌, ap}
 use Rattle.saber_plan.specs.Windows.{no_rows}
 use Rattle.saber_operator_tests.proofs.groups.next_block.Goals as goal
 
-pub places_of-places-requires : goal.places_of-places-requires
-places_of-places-requires c =
+pub places_of-requires : goal.places_of-requires
+places_of-requires c =
     let (q, xs, has, stands, fits, counted) = c.requires in
     (q, xs, counted, c.in_ok-own.ensures.fit q no_rows xs has stands.mark fits)
 
