@@ -1,5 +1,5 @@
 -- Filling one task after another.
-use Rattle.std.proofs.Common.{◌≡◌, true, ℕ, ◌+◌, ◌-◌, ◌≤◌, ◌<◌, List, [], ◌∷◌, ◌++◌, length, refl, sym, ◌∙◌, ap, subst, length-append, arith}
+use Rattle.std.proofs.Common.{◌≡◌, true, ℕ, ◌+◌, ◌-◌, ◌≤◌, ◌<◌, [], ◌∷◌, ◌++◌, length, refl, sym, ◌∙◌, ap, subst, length-append, arith}
 use mathlib.Core.Logic.{dite}
 use native.Mathlib.Decide.{ℕ_discrete}
 use Rattle.std.specs.Prelude.{Option, Some, None, slice_index}
@@ -12,10 +12,9 @@ use Rattle.saber_ring.specs.Shows.{first_of_task}
 use Rattle.saber_ring.specs.Plays.{more_filled}
 use Rattle.saber_ring.specs.Freeing.{IsSlid}
 use Rattle.saber_crew.specs.declared.feed.Fed.{Fed}
-use Rattle.saber_crew.specs.declared.feed.Over.{Over}
 use Rattle.saber_crew.specs.declared.feed.Over.TheVariants.{AllGiven}
 use Rattle.saber_crew.specs.Supplies.{GivesRows}
-use Rattle.saber_crew.specs.Feeds.{Puts, BeginsFeed, FedAll, AreFirst, FedTo, AreFrees}
+use Rattle.saber_crew.specs.Feeds.{Puts, BeginsFeed, FedAll, FedTo, AreFrees}
 
 module _ {T R : Type 0} (is_told : T → ℕ → Type 0) (filled : T → R → T) (upto : T → ℕ → T) (is_rows : T → ℕ → R → Type 0)
     (keeps : (told : T) (d k : ℕ) (rows : R) → is_told told d → is_told (filled told rows) (d + 1) → is_rows (filled told rows) d rows → k ≤ d → upto (filled told rows) k ≡ upto told k)

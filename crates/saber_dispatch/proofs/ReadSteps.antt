@@ -12,7 +12,7 @@ use Rattle.saber_plan.specs.Given.{IsRowOf}
 use Rattle.saber_rows.specs.declared.ends.RowEnd.{RowEnd}
 use Rattle.saber_rows.specs.declared.ends.RowEnd.TheVariants as ends
 use Rattle.saber_rows.specs.Reader as readers
-use Rattle.saber_rows.specs.Reader.{HasEnd, NeedsMore}
+use Rattle.saber_rows.specs.Reader.{HasEnd}
 use Rattle.saber_rows.specs.Calls.{EndsBy}
 use Rattle.saber_rows.specs.Heads.{bare, EndedBy, Called, SidePassed}
 use Rattle.saber_rows.specs.Laws.{LinesPass}

@@ -8,7 +8,7 @@ use Rattle.saber_plan.specs.declared.rows.Side.TheVariants.{Left}
 use Rattle.saber_plan.specs.declared.rows.Row.{Row}
 use Rattle.saber_plan.specs.Trees.{Tree}
 use Rattle.saber_plan.specs.Given.{IsRowOf, RowsFit}
-use Rattle.saber_plan.specs.Windows.{one, no_rows, closed_count, begun_count, count_to, from}
+use Rattle.saber_plan.specs.Windows.{no_rows, closed_count, begun_count, count_to, from}
 use Rattle.saber_plan.specs.Answers.{frame, list_of, substream, past_in, begun_in, closed_by, closed_in_turn, closed_at_last}
 use Rattle.saber_plan.specs.Parts.{part_lines}
 use Rattle.saber_plan.specs.PartFacts.{total}

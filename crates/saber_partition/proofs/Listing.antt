@@ -12,7 +12,7 @@ use Rattle.saber_plan.specs.declared.rows.Row.{Row}
 use Rattle.saber_plan.specs.declared.plans.Shape.TheVariants.{Group}
 use Rattle.saber_plan.specs.Trees.{Tree}
 use Rattle.saber_plan.specs.Inputs.{going_on}
-use Rattle.saber_plan.specs.Windows.{one, no_rows, mark_of, last_mark, past_count, begun_count, closed_count}
+use Rattle.saber_plan.specs.Windows.{no_rows, mark_of, last_mark, past_count, begun_count, closed_count}
 use Rattle.saber_plan.specs.Answers.{frame, key_cmp, with_key, keys_of, list_of, substream, lists_in, past_in, closed_at_last}
 use Rattle.saber_plan.specs.Parts.{Part, part}
 use Rattle.saber_plan.specs.PartFacts.{total, exact, keyed}

@@ -8,7 +8,7 @@ use Rattle.saber_plan.specs.declared.rows.Row.{Row}
 use Rattle.saber_plan.specs.declared.plans.Shape.TheVariants.{Group}
 use Rattle.saber_plan.specs.Trees.{Tree}
 use Rattle.saber_plan.specs.Values.{passes}
-use Rattle.saber_plan.specs.Windows.{Placed, no_rows, mark_of, placed, placed_after, has, from}
+use Rattle.saber_plan.specs.Windows.{Placed, no_rows, mark_of, placed, placed_after, has}
 use Rattle.saber_plan.specs.Answers.{frame, passing, by_shape, key_cmp, entry_lines, lines, lines_from, past_in, begun_in}
 use Rattle.saber_plan.specs.MapFacts.{entries-empty}
 use Rattle.saber_plan.specs.ListFacts.{few_pass}

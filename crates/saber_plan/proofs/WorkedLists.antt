@@ -5,7 +5,7 @@ use Rattle.saber_plan.specs.declared.plans.Item.TheVariants.{Count, Value, Sum}
 use Rattle.saber_plan.specs.declared.windows.Measure.TheVariants as measures
 use Rattle.saber_plan.specs.Trees.{Tree}
 use Rattle.saber_plan.specs.Rows.{rows, lines_of, fields_of, judge, read_by}
-use Rattle.saber_plan.specs.Inputs.{Input, going_on}
+use Rattle.saber_plan.specs.Inputs.{going_on}
 use Rattle.saber_plan.specs.Values.{value_at, test_holds, all_hold, some_holds}
 use Rattle.saber_plan.specs.Windows.{placed_after, from}
 use Rattle.saber_plan.specs.Answers.{with_key, keys_of, lines, closed_in_turn, text}

@@ -14,7 +14,7 @@ use Rattle.saber_query.specs.declared.tree.StreamWord.TheVariants.{Rstream, Istr
 use Rattle.saber_query.specs.declared.tree.Cmp.TheVariants as c
 use Rattle.saber_query.specs.declared.tree.Decl.{Decl}
 use Rattle.saber_query.specs.Trees.{negated, enclosed, compare, no_more, and_also, no_other, or_else, Asked, Query, where_depth, depth}
-use Rattle.saber_query.specs.Words.{expr_words, cmp_sign, measure_words, item_words, items_words, decl_words, decls_words, source_words, second_source_words, where_words, group_words, last_words, words, names_words, column_words, columns_words, stream_keyword, opened_words, shut_words, asked_words, body_words}
+use Rattle.saber_query.specs.Words.{expr_words, cmp_sign, measure_words, item_words, items_words, decl_words, decls_words, source_words, second_source_words, where_words, last_words, words, names_words, column_words, columns_words, stream_keyword, asked_words, body_words}
 use Rattle.saber_query.specs.Machine.{Symbol, declared, chosen, worded, start, open_sign, close_sign, star_sign, from_word, slide_word, close_bracket, a_name, a_number, comparison, measure, factor, more_column, more_factors, more_terms, item, more_items, unit, more_ands, more_ors, a_window, a_where, a_semicolon, rows_word, select_word, by_word, semicolon_sign, decl, more_decls, more_names, source, a_second, column, more_columns, a_group, body, Push, takes, too_deep, refuses, push, may_lack, all_may_lack, pushed, move}
 use Rattle.saber_query.specs.Tokens.{keyword_among}
 use Rattle.saber_query.specs.Real.{IsReal, AllReal}

@@ -1,5 +1,5 @@
 -- The words of what is asked, one part after the other.
-use Rattle.std.proofs.Common.{◌≡◌, List, [], ◌∷◌, ◌++◌, Option, ◌∙◌, ap, append_assoc}
+use Rattle.std.proofs.Common.{◌≡◌, List, ◌∷◌, ◌++◌, Option, ◌∙◌, ap, append_assoc}
 use Rattle.saber_query.specs.declared.token.Keyword.TheVariants as k
 use Rattle.saber_query.specs.declared.token.Token.{Token}
 use Rattle.saber_query.specs.declared.token.Token.TheVariants.{Word}

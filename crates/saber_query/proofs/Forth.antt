@@ -26,7 +26,7 @@ use Rattle.saber_query.specs.declared.tree.Keys.{Keys}
 use Rattle.saber_query.specs.declared.tree.Cmp.{Cmp}
 use Rattle.saber_query.specs.declared.tree.Cmp.TheVariants as c
 use Rattle.saber_query.specs.Trees.{Test, negated, enclosed, compare, Ands, no_more, and_also, Ors, no_other, or_else, Tests, Asked, Query, test_depth, ands_depth, ors_depth, where_depth, depth}
-use Rattle.saber_query.specs.Words.{second_words, factor_words, factors_words, prod_words, adding_sign, terms_words, expr_words, item_words, items_words, measure_words, window_words, cmp_sign, test_words, ands_words, ors_words, where_words, last_words, words, names_words, decl_words, decls_words, source_words, second_source_words, column_words, columns_words, by_words, group_words, opened_words, shut_words}
+use Rattle.saber_query.specs.Words.{second_words, factor_words, factors_words, prod_words, adding_sign, terms_words, expr_words, item_words, items_words, measure_words, window_words, cmp_sign, test_words, ands_words, ors_words, where_words, last_words, words, names_words, decl_words, decls_words, source_words, second_source_words, column_words, columns_words, group_words, opened_words, shut_words}
 use Rattle.saber_query.specs.Machine.{Symbol, close_sign, from_word, slide_word, close_bracket, a_number, comparison, measure, factor, more_column, more_factors, more_terms, item, more_items, unit, more_ands, more_ors, a_window, a_where, a_semicolon, rows_word, semicolon_sign, decl, more_decls, more_names, source, a_second, column, more_columns, a_group, body, chosen, refuses, may_lack, all_may_lack, pushed, move, fits, stops, moved, fate, start}
 
 pub skipped : (x : Symbol) (xs : List Symbol) (ts : List Token) → may_lack x ≡ true → Refuses x ts → fate (x ∷ xs) ts ≡ fate xs ts

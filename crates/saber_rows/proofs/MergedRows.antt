@@ -1,5 +1,5 @@
 -- Rows of a merge that its sides hold.
-use Rattle.std.proofs.Common.{◌≡◌, ◌≢◌, ◌≤◌, ℕ, ◌+◌, List, [], ◌∷◌, ◌++◌, Bool, true, false, nat_le, suc, Option, Some, None, Result, Ok, Err, IfSome, ℤ, refl, sym, ◌∙◌, ap, subst, arith}
+use Rattle.std.proofs.Common.{◌≡◌, ◌≢◌, ℕ, ◌+◌, List, true, false, nat_le, suc, Option, Some, None, Result, Ok, IfSome, refl, sym, ◌∙◌, ap, subst, arith}
 use Rattle.saber_plan.specs.declared.rows.Row.{Row}
 use Rattle.saber_plan.specs.declared.rows.Side.TheVariants.{Left, Right}
 use Rattle.saber_plan.specs.declared.windows.Mark.{Mark}
@@ -12,7 +12,7 @@ use Rattle.saber_rows.specs.declared.heads.Look.TheVariants.{Found, Ended, Faile
 use Rattle.saber_rows.specs.Reader.{Reader}
 use Rattle.saber_rows.specs.Calls.{HoldsNext}
 use Rattle.saber_rows.specs.Heads.{Headed, bare, side_rest, front_of, Called, Looks, LooksAfterAny}
-use Rattle.saber_rows.specs.Merging.{Merger, settled, merge_answer, Passed, MergeTurn}
+use Rattle.saber_rows.specs.Merging.{Merger, settled, Passed, MergeTurn}
 use Rattle.saber_rows.specs.MergedRows.{PutsFront, StillGives, MergeStands, MergesOne, MergesRows}
 use Rattle.saber_rows.proofs.Fronts.{stand, looks}
 use Rattle.saber_rows.proofs.MergedTurns.{front_is, none_some, found_fails, unfailed_yet, on_left, on_right, lesser_left, lesser_right}

@@ -10,7 +10,6 @@ use Rattle.saber_plan.specs.Answers.{text}
 use Rattle.saber_plan.specs.Tasks.{Kept, upto, kept_behind}
 use Rattle.saber_plan.specs.Needs.{free}
 use Rattle.saber_laws.specs.Cuts.{FirstOfFirst, FirstTellFree}
-use Rattle.saber_fragment.specs.declared.blocks.Block.{Block}
 use Rattle.saber_ring.specs.declared.view.SlotValue.TheVariants as slot
 use Rattle.saber_ring.specs.declared.view.TurnState.TheVariants.{Open, TookPiece, TookMark, WonStopped, Leaving}
 use Rattle.saber_ring.specs.Shows.{RingState, RingTurn, won_by, turn_word, extra, TurnFits, StageHome, first_of_task}

@@ -1,6 +1,5 @@
-use Rattle.std.proofs.Common.{ℕ, ◌∙◌, ◌≡◌, refl, sym, subst, ap, arith}
+use Rattle.std.proofs.Common.{◌∙◌, ◌≡◌, refl, sym, subst, ap, arith}
 use Rattle.std.specs.Prelude.{Err}
-use Rattle.saber_ring.specs.declared.frees.Frees.{Frees}
 use Rattle.saber_ring.specs.Words.{view}
 use Rattle.saber_crew.specs.declared.feed.Over.TheVariants.{AllGiven, Stopped, NoMemory}
 use Rattle.saber_crew.specs.declared.feed.Fed.{Fed}

@@ -1,4 +1,4 @@
-use Rattle.std.proofs.Common.{◌≡◌, suc, ◌+◌, ℤ, pos, [], ◌∷◌, ◌++◌, take, get_or, sym, ◌∙◌, ap, arith, rules, w64, SFits, to_z-of_z}
+use Rattle.std.proofs.Common.{◌≡◌, suc, ◌+◌, pos, [], ◌∷◌, ◌++◌, take, get_or, sym, ◌∙◌, ap, arith, rules, w64, SFits, to_z-of_z}
 use Rattle.std.proofs.Math.Seq.{take-suc}
 use Rattle.std.proofs.lemmas.List.{take_all}
 use Rattle.saber_flat.specs.Places.{Building}
