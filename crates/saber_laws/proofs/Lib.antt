@@ -34,5 +34,6 @@ pub mod FlushLaws
 pub mod DueLaws
 pub mod FrontLaws
 pub mod WideLaws
+pub mod HandedLaws
 pub mod WordLaws
 pub mod ListLaws

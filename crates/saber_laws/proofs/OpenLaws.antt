@@ -30,10 +30,10 @@ full_case false p r e = cc
 full_is : (p r : Part) → full p ≡ Some r → r ≡ p
 full_is p r e = full_case (len p == 0) p r e
 
-full_nothing : full no_part ≡ None
+pub full_nothing : full no_part ≡ None
 full_nothing = ap (λ n. cond (n == 0) None (Some no_part)) (len-empty key_cmp Numbers)
 
-kept_is : (b : Bool) (p r : Part) → cond b (full p) None ≡ Some r → r ≡ p
+pub kept_is : (b : Bool) (p r : Part) → cond b (full p) None ≡ Some r → r ≡ p
 kept_is true p r e = full_is p r e
 kept_is false p r e = cc
 
@@ -57,7 +57,7 @@ open_before q r x i = nat_le (closed_count (frame q) (mark_at r x)) i
 part_before : (q : Tree) → Fits (frame q) → (r : Input) (x i : ℕ) → Ordered no_rows r.rows → begun_count (frame q) (mark_at r x) ≤ i → part q i r.rows 0 x ≡ no_part
 part_before q w r x i o h = part_not_begun q i r x o (sym (begun_is (frame q) w i (mark_at r x)) ∙ le-ltb i _ h)
 
-unclosed_at : (q : Tree) → Fits (frame q) → (r : Input) (x i : ℕ) → Ordered no_rows r.rows → get (unclosed q (arrived r x)) i ≡ cond (open_before q r x i) (full (part q i r.rows 0 x)) None
+pub unclosed_at : (q : Tree) → Fits (frame q) → (r : Input) (x i : ℕ) → Ordered no_rows r.rows → get (unclosed q (arrived r x)) i ≡ cond (open_before q r x i) (full (part q i r.rows 0 x)) None
 unfolding unclosed
 unclosed_at q w r x i o =
     let c = closed_count (frame q) (mark_at r x) in

@@ -6,13 +6,13 @@ use Rattle.std.proofs.lemmas.Bool.{lt-ltb, le-leb, lt-leb, le-ltb, cases_lt, bot
 use Rattle.std.specs.Option.{option_or}
 use Rattle.std.specs.Ordering.{eq_by_cmp, is_lt, ordering_then}
 use Rattle.std.specs.declared.cmp.Ordering.TheVariants.{Equal}
-use Rattle.std.specs.FinMap.{get, entries, from_entries, find, is_sorted, get-from_entries, same_map}
+use Rattle.std.specs.FinMap.{entries, find, is_sorted, get-from_entries, same_map}
 use Rattle.saber_plan.specs.Trees.{Tree}
 use Rattle.saber_plan.specs.Values.{passes}
 use Rattle.saber_plan.specs.Windows.{Placed, place}
 use Rattle.saber_plan.specs.Answers.{key_cmp, row_key, row_answers, picked}
 use Rattle.saber_plan.specs.Merges.{join}
-use Rattle.saber_plan.specs.Parts.{no_part, row_part, later, Numbers, row_numbers, answers_in, join_numbers, merge}
+use Rattle.saber_plan.specs.Parts.{no_part, row_part, later, row_numbers, answers_in, join_numbers, merge}
 use Rattle.saber_plan.specs.ListFacts.{Each, each-filter, each-map, each-weaker, and_T}
 use Rattle.saber_plan.specs.MapFacts.{get-both, join-none, equal_if, entries-from_rising}
 use Rattle.saber_plan.specs.PartFacts.{total, exact}

@@ -1,5 +1,5 @@
 -- The parts of windows over positions of one list of rows.
-use Rattle.std.proofs.Common.{◌≡◌, ℕ, ◌+◌, ◌≤◌, ◌<◌, List, [], ◌∷◌, ◌++◌, map, filter, length, take, slice_range, true, false, refl, sym, ◌∙◌, ap, append-nil, length-take, length-take-le, le_refl, le_trans, zero-le, subst, arith}
+use Rattle.std.proofs.Common.{◌≡◌, ℕ, ◌+◌, ◌≤◌, ◌<◌, List, [], ◌∷◌, ◌++◌, map, filter, length, take, slice_range, true, false, sym, ◌∙◌, ap, append-nil, length-take, length-take-le, le_refl, le_trans, zero-le, subst, arith}
 use Rattle.std.proofs.lemmas.List.{map-append}
 use Rattle.std.proofs.lemmas.List.Elements.{filter-append}
 use Rattle.saber_plan.specs.declared.rows.Row.{Row}

@@ -24,7 +24,7 @@ use Rattle.saber_laws.proofs.EndLaws.{closed_rises, begun_rises}
 -- ---- numbers in a row
 
 module _ {X : Type 0} where
-  numbered-append : (a m n : ℕ) (f : ℕ → Option X) → numbered a (m + n) f ≡ numbered a m f ++ numbered (a + m) n f
+  pub numbered-append : (a m n : ℕ) (f : ℕ → Option X) → numbered a (m + n) f ≡ numbered a m f ++ numbered (a + m) n f
   numbered-append a m n f = ap (filter_map (λ i. option_map (λ x. (i, x)) (f i))) (from-append a m n) ∙ filter_map-append (λ i. option_map (λ x. (i, x)) (f i)) (from a m) (from (a + m) n)
 
   pub numbered-none : (a n : ℕ) (f : ℕ → Option X) → ((i : ℕ) → a ≤ i → i < a + n → f i ≡ None) → numbered a n f ≡ []
@@ -32,12 +32,12 @@ module _ {X : Type 0} where
   numbered-none a zero f h = refl
   numbered-none a (suc n) f h = ap (λ o. cons_option (option_map (λ x. (a, x)) o) (numbered (a + 1) n f)) (h a (omega arith) (omega arith)) ∙ numbered-none (a + 1) n f (λ i l b. h i (omega arith) (omega arith))
 
-  numbered-same : (a n : ℕ) (f g : ℕ → Option X) → ((i : ℕ) → a ≤ i → i < a + n → f i ≡ g i) → numbered a n f ≡ numbered a n g
+  pub numbered-same : (a n : ℕ) (f g : ℕ → Option X) → ((i : ℕ) → a ≤ i → i < a + n → f i ≡ g i) → numbered a n f ≡ numbered a n g
   unfolding from
   numbered-same a zero f g h = refl
   numbered-same a (suc n) f g h = λ j. cons_option (option_map (λ x. (a, x)) (h a (omega arith) (omega arith) j)) (numbered-same (a + 1) n f g (λ i l b. h i (omega arith) (omega arith)) j)
 
-  numbered-three : (a u v b : ℕ) (f : ℕ → Option X) → a ≤ u → u ≤ v → v ≤ b → numbered a (b - a) f ≡ numbered a (u - a) f ++ (numbered u (v - u) f ++ numbered v (b - v) f)
+  pub numbered-three : (a u v b : ℕ) (f : ℕ → Option X) → a ≤ u → u ≤ v → v ≤ b → numbered a (b - a) f ≡ numbered a (u - a) f ++ (numbered u (v - u) f ++ numbered v (b - v) f)
   numbered-three a u v b f h k l =
       let lengths : b - a ≡ (u - a) + ((v - u) + (b - v)) = omega arith in
       let first : a + (u - a) ≡ u = omega arith in

@@ -1,12 +1,17 @@
 -- Laws of the answers of windows, of which a query with a stream word prints what changes.
-use Rattle.std.specs.Prelude.{◌≡◌, ℕ, ◌≤◌, List, [], take, true}
+use Rattle.std.specs.Prelude.{◌≡◌, ℕ, ◌≤◌, List, [], take, true, T, nat_le, if◌then◌else◌, Some, None}
+use Rattle.std.specs.Ordering.{nat_cmp}
+use Rattle.std.specs.FinMap.{get, from_entries, is_sorted}
 use Rattle.saber_plan.specs.declared.rows.Row.{Row}
 use Rattle.saber_plan.specs.Trees.{Tree}
 use Rattle.saber_plan.specs.Inputs.{Input, arrived}
 use Rattle.saber_plan.specs.Windows.{Fits, Ordered, no_rows, mark_at, closed}
 use Rattle.saber_plan.specs.Answers.{frame, window_answers, before_window, gained, lost, change_lines}
-use Rattle.saber_plan.specs.Parts.{part, part_answers}
-use Rattle.saber_plan.specs.Tasks.{closed_at, last_answers}
+use Rattle.saber_plan.specs.Merges.{both}
+use Rattle.saber_plan.specs.Parts.{Part, part, part_answers, merge}
+use Rattle.saber_plan.specs.Shares.{full, entries_in, handed_between}
+use Rattle.saber_plan.specs.Tasks.{unclosed, closed_at, last_answers}
+use Rattle.saber_laws.specs.Shares.{Between}
 
 -- the answers of a window are those of its whole part
 abbrev pub AnswersAreOfParts : Type 0
@@ -29,3 +34,25 @@ pub record NothingChanges (q : Tree) (xs : List Row) (i : ℕ) : Type 0 where
 
 abbrev pub NoAnswersNoChange : Type 0
 NoAnswersNoChange = (q : Tree) (xs : List Row) (i : ℕ) → before_window (λ j. window_answers q j xs) i ≡ [] → window_answers q i xs ≡ [] → NothingChanges q xs i
+
+-- ---- what is handed on of windows
+
+-- closed windows come before pending ones, and those before opening ones
+abbrev pub HandedRise : Type 0
+HandedRise = (q : Tree) (r : Input) (x y : ℕ) → Between q r x y → T (is_sorted nat_cmp (entries_in (handed_between q r x y)))
+
+-- each part is that of its window over the arrivals
+abbrev pub HandedPartsAre : Type 0
+HandedPartsAre = (q : Tree) (r : Input) (x y : ℕ) → Between q r x y → (i : ℕ) (p : Part) → get (from_entries {R = nat_cmp} (entries_in (handed_between q r x y))) i ≡ Some p
+    → p ≡ part q i r.rows x y
+
+-- once it is taken in, each window that isn't closed before has its part over all rows so far, unless that is empty
+abbrev pub HandedIsTakenIn : Type 0
+HandedIsTakenIn = (q : Tree) (r : Input) (x y : ℕ) → Between q r x y → (i : ℕ)
+    → get (both merge (unclosed q (arrived r x)) (from_entries {R = nat_cmp} (entries_in (handed_between q r x y)))) i
+    ≡ (if nat_le (closed_at q r x) i then full (part q i r.rows 0 y) else None)
+
+-- and so have the open parts, of the windows that aren't closed
+abbrev pub OpenBehind : Type 0
+OpenBehind = (q : Tree) → Fits (frame q) → (r : Input) (y i : ℕ) → Ordered no_rows r.rows
+    → get (unclosed q (arrived r y)) i ≡ (if nat_le (closed_at q r y) i then full (part q i r.rows 0 y) else None)

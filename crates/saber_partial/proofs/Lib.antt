@@ -12,6 +12,7 @@ pub mod Weaving
 pub mod Adding
 pub mod Fitting
 pub mod Left
+pub mod Listed
 pub mod Lined
 pub mod Counted
 mod PileFacts

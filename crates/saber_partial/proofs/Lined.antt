@@ -1,6 +1,5 @@
 -- The lines of a part, group by group.
 use Rattle.std.proofs.Common.{◌≡◌, ℕ, ◌+◌, ◌<◌, List, [], ◌∷◌, ◌++◌, length, get_or, drop, map, ◌⊎◌, inl, inr, ℤ, pos, refl, sym, ◌∙◌, ap, ap₂, append_assoc, append-nil}
-use Rattle.std.proofs.lemmas.List.{drop_more}
 use Rattle.std.specs.declared.cmp.Ordering.TheVariants.{Less, Equal, Greater}
 use Rattle.std.specs.FinMap.{entries}
 use Rattle.std.specs.Fmt.{signed_decimal}
@@ -12,6 +11,7 @@ use Rattle.saber_plan.specs.Texts.{Behind}
 use Rattle.saber_plan.specs.Trees.{Tree}
 use Rattle.saber_partial.specs.Printing.{lines_for, numbers_of}
 use Rattle.saber_partial.specs.Sorted.{part_of, weave, Rises}
+use Rattle.saber_partial.proofs.Listed.{next_asked}
 use Rattle.saber_partial.proofs.Weaving.{weave_none, weave_less, weave_equal, weave_greater}
 use Rattle.saber_plan.specs.MapFacts.{entries-from_rising}
 use Rattle.saber_plan.specs.PartFacts.{total, exact}
@@ -48,7 +48,7 @@ written_cell items k x a b z out new low is h w =
     let rest = drop (k + 1) items in
     ap (λ l. l ++ cells (answers_of rest b)) w
     ∙ append_assoc out (44 ∷ signed_decimal z) (cells (answers_of rest b))
-    ∙ ap (λ l. out ++ cells l) (sym (ap (λ l. answers_of l a) (drop_more items k x low ∙ ap (λ y. y ∷ rest) (sym is)) ∙ h rest))
+    ∙ ap (λ l. out ++ cells l) (sym (next_asked items k x a b z low is h))
 
 -- what is behind a text that is behind another
 pub behind_both : (xs ys zs : List ℕ) → Behind xs ys → Behind ys zs → Behind xs zs

@@ -6,11 +6,12 @@
 //!   `joins`, `first_row`, `later_row` and `tally` (numbers of one group), `table`, `places` and
 //!   `merges` (groups in one list), `groups` and `rows` (`Partial`), `young`, `piles` and
 //!   `gathering` (rows gathered, few groups at a time), `headings`, `unprinted`, `lines` and
-//!   `joined_lines` (the text), `steps` (merges counted), `laws` (by which callers meet what is
-//!   required).
+//!   `joined_lines` (the text), `answers` (the same as values), `steps` (merges counted), `laws`
+//!   (by which callers meet what is required).
 //! - Calls: `Partial::add_row` takes a row, `merge` and `merge_from` the part of later rows, given
-//!   or lent, `lines` prints a window's part, `lines_with` two parts without their merge;
-//!   `Gathering::add_row` and `take_part`; `Pile::take_from`.
+//!   or lent, `lines` prints a window's part, `lines_with` two parts without their merge, `answers`
+//!   gives a part's answers as values; `Gathering::add_row` and `take_part`; `Pile::take_from`,
+//!   `lines` and `answers`, and `lines_behind` and `answers_behind` of a part before them.
 //! - Proved: each is the step of the definitions (`saber_plan/specs/Parts.antt`). A `Gathering` is
 //!   seen as the part of its rows; a `Pile` as the part of all that it took in, and in how many
 //!   pieces that lies: steps and pieces together grow by one a part. After want of memory `lines`,
@@ -21,6 +22,7 @@
 #![tactic(auto)]
 
 mod aggregates;
+mod answers;
 mod first_row;
 mod gather;
 mod gathering;

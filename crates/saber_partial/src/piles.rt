@@ -1,12 +1,13 @@
 // Parts that follow one another, as few lists that fall in size.
 ghost use Rattle.std.specs.Prelude.{◌≡◌, ◌+◌, ◌<◌, ◌≤◌, ◌++◌, true, length, MatchOption, OnOk, OnErr, IfOk};
-ghost use Rattle.saber_plan.specs.Parts.{merge, no_part, part_lines};
+ghost use Rattle.saber_plan.specs.Parts.{merge, no_part, part_answers, part_lines};
 ghost use Rattle.saber_plan.specs.Trees.{tree_of};
 ghost use Rattle.saber_partial.specs.Tallies.{CanMerge};
 ghost use Rattle.saber_partial.specs.Piles.{piled, CanPile};
 
 use crate::groups::Partial;
 use crate::steps::Steps;
+use saber_changes::Answers;
 use saber_laws::merge_is_associative;
 use saber_plan::{NoMemory, Plan};
 use std::alloc::Global;
@@ -146,6 +147,26 @@ fn write_behind<L: Ledger>(
     };
     steps.tick();
     first.lines_with(part, plan, window, out)
+}
+
+// The answers of a part and of what comes behind it, which is one part at most: one step at most.
+fn answers_of_both<L: Ledger>(
+    alloc: Global,
+    first: &Partial,
+    parts: &[Partial],
+    plan: &Plan,
+    steps: &mut Steps<L>,
+) -> Result<Answers, NoMemory>
+    requires one { length parts.now ≤ 1 }
+    requires can { CanMerge first.now (piled parts.now) }
+    ensures ok { IfOk result (λ a. a ≡ part_answers (tree_of plan.now) (merge first.now (piled parts.now))) }
+    ensures steps { steps.new ≤ steps.old + 1 }
+{
+    let Some(part) = only(parts) else {
+        return first.answers(alloc, plan);
+    };
+    steps.tick();
+    first.answers_with(alloc, part, plan)
 }
 
 // Whether the last part isn't twice as great as what comes behind it.
@@ -326,5 +347,40 @@ impl Pile {
     {
         settle(&mut self.parts, steps)?;
         write_behind(first, &self.parts, plan, window, out, steps)
+    }
+
+    /// The answers of all groups, as those of a `Partial`: a step for each piece that is fewer.
+    pub fn answers<L: Ledger>(
+        &mut self,
+        alloc: Global,
+        plan: &Plan,
+        steps: &mut Steps<L>,
+    ) -> Result<Answers, NoMemory>
+        ensures ok { IfOk result (λ a. a ≡ part_answers (tree_of plan.now) self.old.part) }
+        ensures same { OnOk result (self.new.part ≡ self.old.part) }
+        ensures steps { steps.new + self.new.pieces ≤ steps.old + self.old.pieces }
+    {
+        settle(&mut self.parts, steps)?;
+        let Some(part) = only(&self.parts) else {
+            return Ok(Answers::new(alloc));
+        };
+        part.answers(alloc, plan)
+    }
+
+    /// The same of a part before them and of all together: one step more, in which they are merged.
+    pub fn answers_behind<L: Ledger>(
+        &mut self,
+        alloc: Global,
+        first: &Partial,
+        plan: &Plan,
+        steps: &mut Steps<L>,
+    ) -> Result<Answers, NoMemory>
+        requires { CanMerge first.now self.old.part }
+        ensures ok { IfOk result (λ a. a ≡ part_answers (tree_of plan.now) (merge first.now self.old.part)) }
+        ensures same { OnOk result (self.new.part ≡ self.old.part) }
+        ensures steps { steps.new + self.new.pieces ≤ steps.old + self.old.pieces + 1 }
+    {
+        settle(&mut self.parts, steps)?;
+        answers_of_both(alloc, first, &self.parts, plan, steps)
     }
 }

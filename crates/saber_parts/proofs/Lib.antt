@@ -1,4 +1,6 @@
+mod Changed
 mod Continuing
 mod Cutting
 mod Dropping
+mod Ranged
 mod Storing

@@ -1,4 +1,6 @@
 pub mod Stored
+pub mod Changing
+pub mod ChangeFacts
 pub mod Kinds
 pub mod Entries
 pub mod WindowFacts

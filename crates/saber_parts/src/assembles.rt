@@ -1,10 +1,12 @@
 // What an operator does with the parts of its windows.
-ghost use Rattle.std.specs.Prelude.{◌≡◌, ◌++◌, OnOk, OnErr};
+ghost use Rattle.std.specs.Prelude.{◌≡◌, ◌++◌, OnOk, OnErr, IfOk};
 ghost use Rattle.saber_plan.specs.Trees.{Tree};
-ghost use Rattle.saber_plan.specs.Parts.{Part, merge, part_lines};
+ghost use Rattle.saber_plan.specs.Parts.{Part, merge, part_lines, part_answers};
 ghost use Rattle.saber_plan.specs.Given.{IsPartOf, AreNeighbors};
 
+use saber_changes::Answers;
 use saber_plan::NoMemory;
+use std::alloc::Global;
 
 /// How the parts of windows are put together (SABER 2016: the assembly function of an operator).
 pub trait Assembles {
@@ -28,4 +30,9 @@ pub trait Assembles {
         requires { IsPartOf (plan self.now) (shown part.now) }
         ensures ok { OnOk result (out.new.items ≡ out.old.items ++ part_lines (plan self.now) i (shown part.now)) }
         ensures err { OnErr result (out.new.items ≡ out.old.items) };
+
+    /// The answers of a window, of which this is the whole part.
+    fn answers(&self, alloc: Global, part: &Self::Part) -> Result<Answers, NoMemory>
+        requires { IsPartOf (plan self.now) (shown part.now) }
+        ensures { IfOk result (λ a. a ≡ part_answers (plan self.now) (shown part.now)) };
 }

@@ -15,11 +15,14 @@
 
 mod assembles;
 mod bounds;
+mod change_store;
+mod changes;
 mod gathered;
 mod part_store;
 mod store;
 
 pub use assembles::Assembles;
 pub use bounds::Bounds;
+pub use change_store::ChangeStore;
 pub use gathered::Gathered;
 pub use part_store::PartStore;

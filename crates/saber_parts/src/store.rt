@@ -56,8 +56,8 @@ pub(crate) fn write_closed<A: Assembles>(
     Ok(())
 }
 
-// All parts of a piece, whose windows rise.
-fn joined<P: Drop>(
+/// All parts of a piece, whose windows rise.
+pub(crate) fn joined<P: Drop>(
     closing: Parts<P>,
     pending: Parts<P>,
     opening: Parts<P>,

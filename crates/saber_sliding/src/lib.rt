@@ -5,11 +5,13 @@
 //! - Parts: `queue` (`Sliding`), `front` (`Front`: parts that are to be summed up at once).
 //! - Calls: `push` puts a part behind the others, with the first window that doesn't have it;
 //!   `drop_to` lets those at the front go that a window doesn't have; `lines` prints the merge of
-//!   all that are there; `Front::into_queue` makes a queue of parts.
+//!   all that are there, and `answers` gives its answers as values; `Front::into_queue` makes a
+//!   queue of parts.
 //! - Proved: each entry is seen with the merge of itself and all behind it (`specs/Entries.antt`),
 //!   and the queue with how many steps (merges) it still owes. `push` costs two steps, now or
-//!   later, `lines` one more, `drop_to` none. Of a `Front` no part is merged before all are there,
-//!   and then it is one step for each. After want of memory `lines` leaves the text as it was.
+//!   later, `lines` or `answers` one more, `drop_to` none. Of a `Front` no part is merged before
+//!   all are there, and then it is one step for each. After want of memory `lines` leaves the text
+//!   as it was.
 //! - Not claimed: what a step costs: a part of many groups is longer to merge than one of few.
 //! - Limits: those of `saber_partial`.
 #![tactic(auto)]

@@ -1,10 +1,11 @@
 // Parts that follow one another, with the merge of all from any one on.
 ghost use Rattle.std.specs.Prelude.{◌≡◌, ◌+◌, ◌≤◌, [], ◌∷◌, ◌++◌, drop, length, false, OnOk, OnErr, IfOk};
-ghost use Rattle.saber_plan.specs.Parts.{merge, no_part, part_lines};
+ghost use Rattle.saber_plan.specs.Parts.{merge, no_part, part_answers, part_lines};
 ghost use Rattle.saber_plan.specs.Trees.{tree_of};
 ghost use Rattle.saber_partial.specs.Tallies.{CanMerge};
 ghost use Rattle.saber_sliding.specs.Entries.{dropped, first_number, pushed, seen, suffixes, whole, CanFollow, Chained, IsSound, Sound};
 
+use saber_changes::Answers;
 use saber_laws::{merge_has_unit, merge_is_associative};
 use saber_partial::{Partial, Pile, Steps};
 use saber_plan::{NoMemory, Plan};
@@ -259,6 +260,31 @@ fn lines_settled<L: Ledger>(
     }
 }
 
+// The answers of the merge of all, once the back is the front where that is still to be done.
+fn answers_settled<L: Ledger>(
+    alloc: Global,
+    late: &mut bool,
+    front: &mut VecDeque<(u64, Partial)>,
+    back: &mut Vec<(u64, Partial)>,
+    back_part: &mut Pile,
+    plan: &Plan,
+    steps: &mut Steps<L>,
+) -> Result<Answers, NoMemory>
+    requires { IsSound late.old front.old.items back.old.items back_part.old.part }
+    ensures ok { IfOk result (λ a. a ≡ part_answers (tree_of plan.now) (whole (seen front.old.items back.old.items back_part.old.part))) }
+    ensures sound { OnOk result (Sound front.new.items back.new.items back_part.new.part) }
+    ensures late { OnOk result (late.new ≡ false) }
+    ensures entries { OnOk result (seen front.new.items back.new.items back_part.new.part ≡ seen front.old.items back.old.items back_part.old.part) }
+    ensures steps { OnOk result (steps.new + (length back.new.items + back_part.new.pieces) ≤ steps.old + (length back.old.items + back_part.old.pieces) + 1) }
+{
+    merge_has_unit();
+    settle(alloc, late, front, back, back_part, steps)?;
+    match front.front() {
+        Some(first) => back_part.answers_behind(alloc, &first.1, plan, steps),
+        None => back_part.answers(alloc, plan, steps),
+    }
+}
+
 impl Sliding {
     /// No part. Takes no memory.
     pub fn empty(alloc: Global) -> Sliding
@@ -407,6 +433,37 @@ impl Sliding {
         );
         match written {
             Ok(()) => Ok(()),
+            Err(lacks) => {
+                *self = Sliding::empty(alloc);
+                Err(lacks)
+            }
+        }
+    }
+
+    /// The answers of the merge of all parts, as those of a `Partial`: one step beside those owed.
+    /// After want of memory nothing is kept.
+    pub fn answers<L: Ledger>(
+        &mut self,
+        plan: &Plan,
+        steps: &mut Steps<L>,
+    ) -> Result<Answers, NoMemory>
+        ensures ok { IfOk result (λ a. a ≡ part_answers (tree_of plan.now) (whole self.old.entries)) }
+        ensures same { OnOk result (self.new.entries ≡ self.old.entries) }
+        ensures steps { OnOk result (steps.new + self.new.owed ≤ steps.old + self.old.owed + 1) }
+    {
+        merge_has_unit();
+        let alloc = *self.back.allocator();
+        let all = answers_settled(
+            alloc,
+            &mut self.late,
+            &mut self.front,
+            &mut self.back,
+            &mut self.back_part,
+            plan,
+            steps,
+        );
+        match all {
+            Ok(answers) => Ok(answers),
             Err(lacks) => {
                 *self = Sliding::empty(alloc);
                 Err(lacks)

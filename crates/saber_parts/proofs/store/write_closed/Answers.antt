@@ -1,8 +1,22 @@
-use Rattle.std.proofs.Common.{◌++◌, sym, ◌∙◌, ap, subst, append_assoc}
+use Rattle.std.proofs.Common.{◌++◌, [], append-nil, sym, ◌∙◌, ap, subst, append_assoc}
 use Rattle.saber_plan.specs.Parts.{part_lines}
 use Rattle.saber_fragment.specs.Shown.{windows_by}
 use Rattle.saber_parts.specs.Stored.{ArePartsOf, lines_of}
+use Rattle.saber_parts.proofs.Ranged.{range_below}
 use Rattle.saber_parts.proofs.store.write_closed.Goals as goal
+
+pub loop-window-init : goal.loop-window-init
+loop-window-init g c =
+    let q = g.A.Assembles.plan c.args.by.now in
+    let shown = g.A.Assembles.shown in
+    let given = c.into_iter-window-iterator.ensures.into_iter_gives ∙ c.range-window-items.ensures.between tt ∙ range_below c.args.closed_below c.args.parts.now.entries in
+    record {
+      can = tt;
+      finite = tt;
+      rest = ap (λ l. c.args.out.now.items ++ lines_of q (windows_by shown l)) given;
+      behind = record { more = []; all = sym (append-nil c.args.out.now.items) };
+      parts = subst (λ l. ArePartsOf q (windows_by shown l)) (sym given) c.requires;
+    }
 
 pub loop-window-preserved : goal.loop-window-preserved
 loop-window-preserved g c =

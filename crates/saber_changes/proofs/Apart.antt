@@ -1,0 +1,118 @@
+-- What cancels none, where the lines of both windows rise.
+use Rattle.std.proofs.Common.{◌≡◌, ℕ, zero, suc, ◌+◌, List, [], ◌∷◌, drop, length, Bool, true, false, ◌||◌, cond, ℤ, Vec, Global, refl, sym, ◌∙◌, ap, subst, arith}
+use Rattle.std.proofs.lemmas.Bool.{both_ways}
+use Rattle.std.specs.Cmp.{tied_itself, alike_right}
+use Rattle.std.specs.List.{list_any}
+use Rattle.std.specs.Ordering.{is_eq, is_lt, ordering_reverse}
+use Rattle.std.specs.declared.cmp.Ordering.{Ordering}
+use Rattle.std.specs.declared.cmp.Ordering.TheVariants.{Less, Equal, Greater}
+use Rattle.saber_plan.specs.Answers.{Answers, key_cmp, same_line, without, uncancelled}
+use Rattle.saber_plan.specs.PartFacts.{total}
+use Rattle.saber_changes.specs.Counts.{numbers_in}
+use Rattle.saber_changes.specs.Rising.{is_below, NoneBelow, Rises, Reaches, begins_with}
+use Rattle.saber_changes.proofs.Cancelling.{same}
+
+-- ---- the order of lines
+
+-- a line is not below itself
+not_itself : (k : List ℤ) → is_below k k ≡ false
+not_itself k = ap is_lt (tied_itself total k)
+
+less_is : (o : Ordering) → is_lt o ≡ true → o ≡ Less
+less_is Less e = refl
+less_is Equal e = cc
+less_is Greater e = cc
+
+-- what isn't below a line that isn't below another isn't below that
+not_below : (k l m : List ℤ) → is_below l k ≡ false → is_below m l ≡ false → is_below m k ≡ false
+not_below k l m a b = case_of (is_below m k) refl
+  where
+    middle : (o : Ordering) → key_cmp m k ≡ Less → key_cmp k l ≡ o → ⊥
+    middle Less low f = both_ways _ (sym (ap is_lt (total.trans m k l low f)) ∙ b) refl
+    middle Equal low f = both_ways _ (sym (ap is_lt (sym (alike_right total k l m f) ∙ low)) ∙ b) refl
+    middle Greater low f = both_ways _ (sym (ap is_lt (total.antisymm l k ∙ ap ordering_reverse f)) ∙ a) refl
+
+    case_of : (t : Bool) → is_below m k ≡ t → is_below m k ≡ false
+    case_of false e = e
+    case_of true e = absurd (middle (key_cmp k l) (less_is _ e) refl)
+
+none_below_on : (k l : List ℤ) (ls : Answers) → is_below l k ≡ false → NoneBelow l ls → NoneBelow k ls
+none_below_on k l [] a h = h
+none_below_on k l (m ∷ ms) a h = (not_below k l m a h.0, none_below_on k l ms a h.1)
+
+-- one more line in front of some that rise
+pub one_more_rises : (k : List ℤ) (ls : Answers) → Reaches k ls → Rises ls → Rises (k ∷ ls)
+one_more_rises k [] h r = (tt, tt)
+one_more_rises k (l ∷ ls) h r = ((h, none_below_on k l ls h r.0), r)
+
+-- a line isn't below itself nor are those behind it
+pub none_from : (k : List ℤ) (ks : Answers) → Rises (k ∷ ks) → NoneBelow k (k ∷ ks)
+none_from k ks r = (not_itself k, r.0)
+
+pub rest_rises : (ls : Answers) → Rises ls → Rises (drop 1 ls)
+rest_rises [] r = r
+rest_rises (l ∷ ls) r = r.1
+
+-- ---- lines that cancel none
+
+-- a line that is below all of these cancels none of them
+differs : (k l o : List ℤ) → is_below o k ≡ true → is_below l k ≡ false → (b : Bool) → same_line l o ≡ b → same_line l o ≡ false
+differs k l o low h false e = e
+differs k l o low h true e = absurd (both_ways _ (sym low ∙ subst (λ x. is_below x k ≡ false) (same l o e) h) refl)
+
+pub below_cancels_none : (k o : List ℤ) (ls os : Answers) → is_below o k ≡ true → NoneBelow k ls → uncancelled ls (o ∷ os) ≡ uncancelled ls os
+below_cancels_none k o [] os low h = refl
+below_cancels_none k o (l ∷ ls) os low h =
+    let other = differs k l o low h.0 (same_line l o) refl in
+    (λ i. cond (other i || list_any (same_line l) os) (uncancelled ls (cond (other i) os (o ∷ without l os))) (l ∷ uncancelled ls (o ∷ os)))
+    ∙ (λ i. cond (list_any (same_line l) os) (below_cancels_none k o ls (without l os) low h.1 i) (l ∷ below_cancels_none k o ls os low h.1 i))
+
+-- the first of the others cancels the line
+pub first_cancels : (k : List ℤ) (ks os : Answers) → begins_with k os ≡ true → uncancelled (k ∷ ks) os ≡ uncancelled ks (drop 1 os)
+first_cancels k ks [] e = cc
+first_cancels k ks (o ∷ os) e = λ i. cond (e i || list_any (same_line k) os) (uncancelled ks (cond (e i) os (o ∷ without k os))) (k ∷ uncancelled ks (o ∷ os))
+
+above : (k o : List ℤ) → is_below o k ≡ false → same_line k o ≡ false → is_below k o ≡ true
+above k o a b = from_order (key_cmp k o) refl
+  where
+    from_order : (r : Ordering) → key_cmp k o ≡ r → is_below k o ≡ true
+    from_order Less e = ap is_lt e
+    from_order Equal e = absurd (both_ways _ (sym (ap is_eq e) ∙ b) refl)
+    from_order Greater e = absurd (both_ways _ (sym (ap is_lt (total.antisymm o k ∙ ap ordering_reverse e)) ∙ a) refl)
+
+none_same : (k o : List ℤ) (ls : Answers) → is_below k o ≡ true → NoneBelow o ls → list_any (same_line k) ls ≡ false
+none_same k o [] low h = refl
+none_same k o (l ∷ ls) low h =
+    (λ i. differs_back (same_line k l) refl i || list_any (same_line k) ls) ∙ none_same k o ls low h.1
+  where
+    differs_back : (b : Bool) → same_line k l ≡ b → same_line k l ≡ false
+    differs_back false e = e
+    differs_back true e = absurd (both_ways _ (sym low ∙ subst (λ x. is_below x o ≡ false) (sym (same k l e)) h.0) refl)
+
+-- or none of the others does
+pub none_cancels : (k : List ℤ) (ks os : Answers) → Reaches k os → Rises os → begins_with k os ≡ false → uncancelled (k ∷ ks) os ≡ k ∷ uncancelled ks os
+none_cancels k ks [] h r e = refl
+none_cancels k ks (o ∷ os) h r e =
+    let none : list_any (same_line k) (o ∷ os) ≡ false = (λ i. e i || list_any (same_line k) os) ∙ none_same k o os (above k o h e) r.0 in
+    λ i. cond (none i) (uncancelled ks (without k (o ∷ os))) (k ∷ uncancelled ks (o ∷ os))
+
+-- ---- in lists of lists
+
+one_up : (n : ℕ) → n + 1 ≡ suc n
+one_up n = omega arith
+
+rest_behind : (ls : List (Vec ℤ Global)) (n : ℕ) → drop 1 (numbers_in (drop n ls)) ≡ numbers_in (drop (suc n) ls)
+rest_behind [] zero = refl
+rest_behind [] (suc n) = refl
+rest_behind (l ∷ ls) zero = refl
+rest_behind (l ∷ ls) (suc n) = rest_behind ls n
+
+pub rest_is : (ls : List (Vec ℤ Global)) (n : ℕ) → drop 1 (numbers_in (drop n ls)) ≡ numbers_in (drop (n + 1) ls)
+rest_is ls n = rest_behind ls n ∙ ap (λ k. numbers_in (drop k ls)) (sym (one_up n))
+
+-- the last of them alone
+pub last_rises : (ls : List (Vec ℤ Global)) (n : ℕ) → n + 1 ≡ length ls → Rises (numbers_in (drop n ls))
+last_rises [] n e = absurd (omega (arith, e))
+last_rises (l ∷ []) zero e = (tt, tt)
+last_rises (l ∷ m ∷ ls) zero e = absurd (omega (arith, e))
+last_rises (l ∷ ls) (suc n) e = last_rises ls n (omega (arith, e))

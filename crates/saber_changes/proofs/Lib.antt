@@ -1,0 +1,4 @@
+mod Apart
+mod Cancelling
+mod Tallied
+mod Walking

@@ -1,0 +1,1 @@
+use Rattle.saber_changes.proofs.rising.rise.Goals as goal

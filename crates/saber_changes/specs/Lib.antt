@@ -1,0 +1,4 @@
+pub mod Counts
+pub mod Rising
+pub mod Walks
+pub mod WalkFacts
