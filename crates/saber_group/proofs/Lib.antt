@@ -8,4 +8,6 @@ pub mod Running
 pub mod RunsTaken
 pub mod PiecesTaken
 pub mod RunKeeping
+pub mod Walked
+pub mod WalkKeeping
 pub mod Making

@@ -1,5 +1,5 @@
 -- The piece of a task's own block is that of the arrivals that its rows are.
-use Rattle.std.proofs.Common.{◌≡◌, ℕ, ◌++◌, take, slice_range, sym, ◌∙◌, ap, subst}
+use Rattle.std.proofs.Common.{◌≡◌, ℕ, ◌++◌, take, slice_range, Result, Ok, Err, IfOk, sym, ◌∙◌, ap, subst}
 use Rattle.saber_plan.specs.Inputs.{Input}
 use Rattle.saber_plan.specs.Trees.{Tree}
 use Rattle.saber_plan.specs.Windows.{no_rows, mark_of, mark_after, ending}
@@ -8,7 +8,9 @@ use Rattle.saber_plan.specs.RowFacts.{fits_take}
 use Rattle.saber_fragment.specs.Drafts.{Sight, IsSightOf}
 use Rattle.saber_laws.specs.Marks.{MarksFollow}
 use Rattle.saber_group.specs.declared.run_pieces.RunPiece.{RunPiece}
-use Rattle.saber_group.specs.RunPieces.{Given, IsMade, IsOf}
+use Rattle.saber_group.specs.declared.change_pieces.TaskRuns.{TaskRuns}
+use Rattle.saber_group.specs.RunPieces.{Given, RunsFrom, IsMade, IsOf}
+use Rattle.saber_group.specs.ChangeStores.{piece_of}
 use Rattle.saber_group.proofs.RunKeeping.{rows_upto}
 
 pub piece_is_of : MarksFollow → (q : Tree) (s : Sight) (r : Input) (x y : ℕ) (p : RunPiece) → IsMade q s p → IsSightOf q s r x y → IsOf q r x y p
@@ -22,3 +24,9 @@ piece_is_of follow q s r x y p made sight =
           (subst (λ l. Given q old l s.ended p.runs.items p.complete) sight.rows_are (made.gives old fits sight.earlier_are before));
       after_is = made.after_is ∙ (λ j. ending (sight.ended_is j) (mark_after (sight.before_is j) (sight.rows_are j))) ∙ sym (follow r x y sight.rises);
     }
+
+-- and so are all its runs, where it answers no window itself
+pub runs_are_made : {E : Type 0} (q : Tree) (s : Sight) (r : Result TaskRuns E) → IfOk r (λ p. RunsFrom q s.before s.rows 0 p.runs.items) → IfOk r (λ p. p.after ≡ ending s.ended (mark_after s.before s.rows))
+    → IfOk r (λ p. IsMade q s (piece_of p))
+runs_are_made q s (Ok p) runs after = record { gives = λ old fits end same. subst (λ m. RunsFrom q m s.rows 0 p.runs.items) same runs; after_is = after }
+runs_are_made q s (Err e) runs after = tt

@@ -1,11 +1,10 @@
 -- Rows of a task that lie in the same windows, and the mark behind them.
-use Rattle.std.proofs.Common.{◌≡◌, ℕ, ◌+◌, ◌-◌, ◌^◌, ◌≤◌, ◌<◌, List, length, take, drop, Some, sym, ◌∙◌, ap, subst, take-add, arith}
+use Rattle.std.proofs.Common.{◌≡◌, ℕ, ◌+◌, ◌-◌, ◌≤◌, ◌<◌, List, take, drop, Some, sym, ◌∙◌, ap, subst, take-add, arith}
 use Rattle.std.specs.List.{AllByRecursion, slice_get}
 use Rattle.saber_plan.specs.declared.rows.Row.{Row}
 use Rattle.saber_plan.specs.declared.windows.Mark.{Mark}
-use Rattle.saber_plan.specs.Rows.{stamp}
 use Rattle.saber_plan.specs.Trees.{Tree}
-use Rattle.saber_plan.specs.Windows.{Frame, Ordered, mark_after}
+use Rattle.saber_plan.specs.Windows.{Ordered, mark_after}
 use Rattle.saber_plan.specs.Answers.{frame}
 use Rattle.saber_plan.specs.Needs.{first_window, past_window}
 use Rattle.saber_plan.specs.Given.{IsRowOf, RowsFit}

@@ -1,5 +1,5 @@
 -- A store of runs, and the open parts and the text that it stands for.
-use Rattle.std.proofs.Common.{◌≡◌, ℕ, ◌+◌, ◌-◌, ◌/◌, ◌≤◌, ◌<◌, List, [], ◌∷◌, ◌++◌, flat_map, length, take, slice_range, Bool, true, false, cond, nat_le, refl, sym, ◌∙◌, ap, subst, arith, subst₂, le_refl}
+use Rattle.std.proofs.Common.{◌≡◌, ℕ, ◌+◌, ◌-◌, ◌/◌, ◌≤◌, List, [], ◌∷◌, ◌++◌, length, take, slice_range, Bool, true, false, cond, nat_le, refl, sym, ◌∙◌, ap, subst, arith, subst₂, le_refl}
 use Rattle.std.specs.Option.{option_map_or}
 use Rattle.std.specs.Ordering.{nat_cmp}
 use Rattle.std.specs.FinMap.{empty, from_entries}
@@ -12,11 +12,11 @@ use Rattle.saber_plan.specs.Given.{RowsFit}
 use Rattle.saber_plan.specs.Inputs.{Input, arrived}
 use Rattle.saber_plan.specs.declared.windows.Measure.{Measure}
 use Rattle.saber_plan.specs.declared.windows.Measure.TheVariants.{Rows, Range}
-use Rattle.saber_plan.specs.Windows.{Fits, one, has_windows, no_rows, mark_of, mark_after, ending, mark_at, closed_count, begun_count, from}
+use Rattle.saber_plan.specs.Windows.{one, has_windows, no_rows, mark_of, mark_after, ending, mark_at, closed_count, begun_count, from}
 use Rattle.saber_plan.specs.Answers.{by_shape, frame, lines, lines_from, selected, alike, way}
 use Rattle.saber_plan.specs.KeptFacts.{alike_added}
 use Rattle.saber_plan.specs.Parts.{Part, part, part_lines}
-use Rattle.saber_plan.specs.Tasks.{full, numbered, unclosed, by_windows, added}
+use Rattle.saber_plan.specs.Tasks.{full, numbered, unclosed, Kept, added}
 use Rattle.saber_laws.specs.Parts.{PartHasLines}
 use Rattle.saber_laws.specs.Marks.{MarksFollow, ClosedRise, EndsCloseMore}
 use Rattle.saber_laws.specs.Plans.{OneWindow}
@@ -69,14 +69,14 @@ pub record MarkLaws : Type 0 where
   pub rise : ClosedRise
   pub close_more : EndsCloseMore
 
-module _ (q : Tree) (r : Input) (x y : ℕ) (s : RunStore) (p : RunPiece) (f : Follows q (by_windows (held_in s)) (λ u. TakenIn q u s) (λ r x y. IsOf q r x y p) r x y) where
+module _ (q : Tree) (r : Input) (x y : ℕ) (s : RunStore) (p : RunPiece) (kept : Kept) (f : Follows q kept (λ u. TakenIn q u s) (λ r x y. IsOf q r x y p) r x y) where
   abbrev pub old_rows : List Row
   old_rows = take x r.rows
 
   abbrev pub new_rows : List Row
   new_rows = slice_range r.rows x y
 
-  all_rows : old_rows ++ new_rows ≡ take y r.rows
+  pub all_rows : old_rows ++ new_rows ≡ take y r.rows
   all_rows = rows_upto r.rows x y f.rises
 
   fits_all : RowsFit q no_rows (old_rows ++ new_rows)
@@ -87,7 +87,7 @@ module _ (q : Tree) (r : Input) (x y : ℕ) (s : RunStore) (p : RunPiece) (f : F
   mark_open = ap (λ b. ending b (mark_of old_rows)) f.of_is.opens
 
   module _ (laws : MarkLaws) (closed : ℕ) (closed_is : closed ≡ closed_count (frame q) p.after) where
-    closed_end : closed ≡ closed_count (frame q) (mark_at r y)
+    pub closed_end : closed ≡ closed_count (frame q) (mark_at r y)
     closed_end = closed_is ∙ ap (closed_count (frame q)) f.of_is.after_is
 
     -- the end closes windows too
@@ -112,12 +112,13 @@ module _ (q : Tree) (r : Input) (x y : ℕ) (s : RunStore) (p : RunPiece) (f : F
       fits = fits_all;
     }
 
-    pub taken_after : (new : RunStore) (before after : List ℕ) → new.begun ≡ begun_count (frame q) p.after → Came q old_rows new_rows s.windows.next new.windows.runs.entries closed new.windows.next before after → TakenIn q (arrived r y) new
-    taken_after new before after begun w =
+    pub taken_after : (new : RunStore) → new.begun ≡ begun_count (frame q) p.after → new.windows.next ≡ closed
+        → Holds q no_rows (take (length (old_rows ++ new_rows)) (old_rows ++ new_rows)) closed new.windows.runs.entries → TakenIn q (arrived r y) new
+    taken_after new begun done held =
         let all = old_rows ++ new_rows in
         record {
-          holds = subst₂ (λ l n. Holds q no_rows l n new.windows.runs.entries) (take_all (length all) all (omega arith) ∙ all_rows) (sym w.done_is) w.holds;
-          next_is = w.done_is ∙ closed_end;
+          holds = subst₂ (λ l n. Holds q no_rows l n new.windows.runs.entries) (take_all (length all) all (omega arith) ∙ all_rows) (sym done) held;
+          next_is = done ∙ closed_end;
           begun_is = begun ∙ ap (begun_count (frame q)) f.of_is.after_is;
         }
 

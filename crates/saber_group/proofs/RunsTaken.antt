@@ -26,7 +26,7 @@ use Rattle.saber_group.specs.RunParts.{part_of, begun_by, closed_by, lines_betwe
 use Rattle.saber_sliding.specs.Entries.{Entries, CanFollow}
 use Rattle.saber_group.specs.declared.runs.Run.{Run}
 use Rattle.saber_group.specs.RunPieces.{RunsTo}
-use Rattle.saber_group.specs.RunStores.{RunsAt, GoesOn, WentOn}
+use Rattle.saber_group.specs.RunStores.{RunsAt, GoesOn}
 use Rattle.saber_group.proofs.Opened.{has_room, holds_more}
 
 -- ---- the text of windows, one after another
@@ -128,27 +128,25 @@ module _ (q : Tree) (m : Mark) (old rows : List Row) where
 -- ---- runs that are taken in, one after another
 
 -- the runs up to position x are in, the others are left
-pub record Along (q : Tree) (m : Mark) (all : List Row) (o y start next : ℕ) (es : Entries) (left : List Run) (closed : ℕ) (before after : List ℕ) : Type 0 where
+pub record Along (q : Tree) (m : Mark) (all : List Row) (o y start next : ℕ) (es : Entries) (left : List Run) (closed : ℕ) : Type 0 where
   pub x : ℕ
   pub holds : Holds q m (take (o + x) all) next es
   pub low : start ≤ next
   pub high : next ≤ closed
   pub left_are : RunsAt q m all o x left y
   pub firsts : AllByRecursion (λ (r : Run). r.first ≤ closed) left
-  pub text : after ≡ before ++ lines_between q m all start next
 
-pub along_nil : (q : Tree) (m : Mark) (all : List Row) (o x y start : ℕ) (es : Entries) (left : List Run) (closed : ℕ) (out : List ℕ) → GoesOn q m all o x y start es left closed → Along q m all o y start start es left closed out out
-along_nil q m all o x y start es left closed out g = record {
+pub along_nil : (q : Tree) (m : Mark) (all : List Row) (o x y start : ℕ) (es : Entries) (left : List Run) (closed : ℕ) → GoesOn q m all o x y start es left closed → Along q m all o y start start es left closed
+along_nil q m all o x y start es left closed g = record {
   x = x;
   holds = g.holds;
   low = omega arith;
   high = g.low;
   left_are = g.runs_are;
   firsts = g.firsts;
-  text = text_nil q m all start out;
 }
 
-module _ (q : Tree) (w : OneWindow q) (m : Mark) (all : List Row) (o y start next : ℕ) (es : Entries) (run : Run) (left : List Run) (closed : ℕ) (before after : List ℕ) (given : RowsFit q m all) (a : Along q m all o y start next es (run ∷ left) closed before after) where
+module _ (q : Tree) (w : OneWindow q) (m : Mark) (all : List Row) (o y start next : ℕ) (es : Entries) (run : Run) (left : List Run) (closed : ℕ) (given : RowsFit q m all) (a : Along q m all o y start next es (run ∷ left) closed) where
   low_end : o + a.x ≤ o + run.end
   low_end = let more = a.left_are.1.0 in omega (arith, more)
 
@@ -164,9 +162,8 @@ module _ (q : Tree) (w : OneWindow q) (m : Mark) (all : List Row) (o y start nex
       has_room q m all (o + a.x) (o + run.end) run.first run.past run.part a.left_are.0 later fs held small low_end a.left_are.1.1.0 few
 
   pub along_more : MergeHasUnit → SmallPartsMerge
-      → (later new : ℕ) (fs gs : Entries) (out : List ℕ) → later ≡ max next run.first → new ≡ later → Holds q m (take (o + a.x) all) later fs → Entered fs run.past run.part gs
-      → out ≡ after ++ lines_between q m all next later → Along q m all o y start new gs left closed before out
-  along_more unit small later new fs gs out most same held entered text =
+      → (later new : ℕ) (fs gs : Entries) → later ≡ max next run.first → new ≡ later → Holds q m (take (o + a.x) all) later fs → Entered fs run.past run.part gs → Along q m all o y start new gs left closed
+  along_more unit small later new fs gs most same held entered =
       let up = a.low in
       let high = a.high in
       let first = a.firsts.0 in
@@ -177,23 +174,15 @@ module _ (q : Tree) (w : OneWindow q) (m : Mark) (all : List Row) (o y start nex
         high = omega (arith, high, first, most, same);
         left_are = a.left_are.1.1.1;
         firsts = a.firsts.1;
-        text = subst (λ n. out ≡ before ++ lines_between q m all start n) (sym same) (text_join q m all start next later up (omega (arith, most)) before after out a.text text);
       }
 
-module _ (q : Tree) (m : Mark) (all : List Row) (o y start next : ℕ) (es : Entries) (closed : ℕ) (before after : List ℕ) (a : Along q m all o y start next es [] closed before after) where
+module _ (q : Tree) (m : Mark) (all : List Row) (o y start next : ℕ) (es : Entries) (closed : ℕ) (a : Along q m all o y start next es [] closed) where
   pub along_holds : Holds q m (take (o + y) all) next es
   along_holds = subst (λ z. Holds q m (take (o + z) all) next es) a.left_are a.holds
 
-  pub along_done : (new : ℕ) (fs : Entries) (out : List ℕ) → new ≡ max next closed → Holds q m (take (o + y) all) new fs → out ≡ after ++ lines_between q m all next new → WentOn q m all (o + y) start fs closed new before out
-  along_done new fs out most held text =
-      let up = a.low in
-      let high = a.high in
-      let same : new ≡ closed = omega (arith, high, most) in
-      record {
-        holds = subst (λ n. Holds q m (take (o + y) all) n fs) same held;
-        done_is = same;
-        text = text_join q m all start next closed up high before after out a.text (subst (λ n. out ≡ after ++ lines_between q m all next n) same text);
-      }
+  -- once none is left, the windows below `closed` are done, and no other
+  pub along_done : (new : ℕ) → new ≡ max next closed → new ≡ closed
+  along_done new most = let high = a.high in omega (arith, high, most)
 
 -- an iterator that gave all has nothing left
 pub all_given : {X : Type 0} (it : IntoIter X Global) → into_iter_len it ≡ 0 → into_iter_items it ≡ []

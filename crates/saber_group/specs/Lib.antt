@@ -1,3 +1,4 @@
 pub mod RunParts
 pub mod RunPieces
 pub mod RunStores
+pub mod ChangeStores

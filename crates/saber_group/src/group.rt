@@ -2,7 +2,7 @@
 ghost use Rattle.std.specs.Prelude.{◌≡◌, ◌≤◌, ◌^◌};
 ghost use Rattle.saber_plan.specs.declared.plans.Shape.TheVariants as shapes;
 ghost use Rattle.saber_plan.specs.Trees.{tree_of};
-ghost use Rattle.saber_plan.specs.Checked.{IsChecked, IsPlain};
+ghost use Rattle.saber_plan.specs.Checked.{IsChecked};
 ghost use Rattle.saber_plan.specs.Windows.{Fits, closed_count, begun_count};
 ghost use Rattle.saber_plan.specs.Answers.{frame};
 ghost use Rattle.saber_plan.specs.Needs.{first_window, past_window};
@@ -15,9 +15,10 @@ use saber_plan::{Mark, Plan};
 use saber_window::Windows;
 use std::marker::Model;
 
-/// The operator of a checked group query, over its plan. Contracts see it as the plan.
+/// A checked group query and its windows, over its plan: what its operators have in common, whatever
+/// word stands before the query. Contracts see it as the plan.
 #[derive(Drop)]
-pub struct Group<'a> {
+pub(crate) struct Group<'a> {
     pub(crate) plan: &'a Plan,
     pub(crate) windows: Windows,
     pub(crate) aggregates: Aggregates<'a>,
@@ -28,7 +29,7 @@ impl<'a> Model for Group<'a> {
     ghost use Rattle.saber_plan.specs.declared.plans.Shape.TheVariants as shapes;
     ghost use Rattle.saber_plan.specs.declared.plans.Plan.{Plan};
     ghost use Rattle.saber_plan.specs.Trees.{tree_of};
-    ghost use Rattle.saber_plan.specs.Checked.{IsChecked, IsPlain};
+    ghost use Rattle.saber_plan.specs.Checked.{IsChecked};
     ghost use Rattle.saber_plan.specs.Answers.{frame};
     ghost use Rattle.saber_plan.specs.contracts.predicates.Pred as e;
     ghost use Rattle.std.specs.Coded.{codes};
@@ -39,15 +40,14 @@ impl<'a> Model for Group<'a> {
 
     ghost view = { λ g. g.plan.now };
 
-    ghost invariant = { λ g. IsChecked (tree_of g.plan.now) × ((tree_of g.plan.now).shape ≡ shapes.Group) × (g.windows ≡ frame (tree_of g.plan.now)) × (g.aggregates ≡ g.plan.now) × IsPlain (tree_of g.plan.now) };
+    ghost invariant = { λ g. IsChecked (tree_of g.plan.now) × ((tree_of g.plan.now).shape ≡ shapes.Group) × (g.windows ≡ frame (tree_of g.plan.now)) × (g.aggregates ≡ g.plan.now) };
 }
 
 impl<'a> Group<'a> {
-    /// The operator of this plan. Takes no memory.
-    pub fn new(plan: &'a Plan) -> Group<'a>
+    /// That of this plan. Takes no memory.
+    pub(crate) fn new(plan: &'a Plan) -> Group<'a>
         requires checked { IsChecked (tree_of plan.now) }
         requires group { (tree_of plan.now).shape ≡ shapes.Group }
-        requires plain { IsPlain (tree_of plan.now) }
         ensures { result ≡ plan.now }
     {
         Group {
@@ -60,7 +60,6 @@ impl<'a> Group<'a> {
     /// It groups rows, and its stream has a window, which fits.
     pub(crate) fn has_window(&self)
         ensures group { (tree_of self.now).shape ≡ shapes.Group }
-        ensures plain { IsPlain (tree_of self.now) }
         ensures window { OneWindow (tree_of self.now) }
         ensures fits { Fits (frame (tree_of self.now)) }
     {

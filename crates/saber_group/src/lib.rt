@@ -1,24 +1,34 @@
-//! The operator of group queries (SABER 2016: the fragment function of an aggregation by groups).
-//! It goes over a task once, by slices (runs in the code): rows one after another that lie in the
+//! The operators of group queries (SABER 2016: the fragment function of an aggregation by groups).
+//! They go over a task once, by slices (runs in the code): rows one after another that lie in the
 //! same windows. A slice is worked out once, and goes into each window that has it, so a window
-//! without a row that passes costs nothing, and neither does a gap in time. The engine runs it;
-//! docs/TASKS.md follows it.
+//! without a row that passes costs nothing, and neither does a gap in time. Windows print their
+//! answers, as without a stream word and under RSTREAM, or under ISTREAM and DSTREAM what they gain
+//! or lose against the window before. The engine runs them; docs/TASKS.md follows the first.
 //!
-//! - Parts: `group` (`Group`, over its plan), `batch` and `rows` (a task's rows), `runs`, `open`
-//!   (windows that may get more rows), `complete` (windows that a task answers itself),
-//!   `run_pieces`, `run_stores`, `operator` (the trait's calls), `letting` (values let go by
-//!   calls).
-//! - Call: `Group::new` takes a checked plan; the rest is by the trait of `saber_fragment`.
+//! - Parts: `group` (`Group`, over its plan: what both operators have), `batch` and `rows` (a
+//!   task's rows), `runs`, `open` (windows that may get more rows), `complete` (windows that a task
+//!   answers itself), `run_pieces`, `run_stores`, `operator` (`GroupOperator`, and the trait's
+//!   calls); `changes` (`GroupChanges`), `change_pieces`, `change_stores` (the walk over closed
+//!   windows of `saber_changes`), `change_operator`; `letting` (values let go by calls).
+//! - Calls: `GroupOperator::new` takes a checked plan whose windows print their answers,
+//!   `GroupChanges::new` one whose windows print what changes, with the change; the rest is by the
+//!   trait of `saber_fragment`.
 //! - Proved: a piece has exactly the runs of the task's rows, or the text of the windows that it
 //!   answers, what is open behind, and the runs of the windows below (`IsOf`,
 //!   `specs/RunPieces.antt`). The store's runs, merged by window, are the open parts
-//!   (`specs/RunStores.antt`). In merges, a run that the store takes in costs two and a window one;
-//!   beside what it answers a task gives at most half of its runs.
-//! - Not claimed: that a task answers the windows that it could.
-//! - Limits: plans without PARTITION BY and without a stream word; `2^40` rows.
+//!   (`specs/RunStores.antt`), and its walk has the answers of the last closed window
+//!   (`specs/ChangeStores.antt`). In merges, a run that the store takes in costs two and a window
+//!   one; beside what it answers a task gives at most half of its runs.
+//! - Not claimed: that a task answers the windows that it could. Under ISTREAM and DSTREAM it
+//!   answers none: the store prints them all.
+//! - Limits: plans without PARTITION BY; `2^40` rows.
 #![tactic(auto)]
 
 mod batch;
+mod change_operator;
+mod change_pieces;
+mod change_stores;
+mod changes;
 mod complete;
 mod group;
 mod letting;
@@ -29,4 +39,5 @@ mod run_pieces;
 mod run_stores;
 mod runs;
 
-pub use group::Group;
+pub use changes::GroupChanges;
+pub use operator::GroupOperator;

@@ -1,16 +1,61 @@
-// What a group query does with tasks and what they give.
+// What a group query does with tasks and what they give, whose windows print their answers as they
+// are.
+ghost use Rattle.std.specs.Prelude.{◌≡◌};
+ghost use Rattle.saber_plan.specs.declared.plans.Shape.TheVariants as shapes;
+ghost use Rattle.saber_plan.specs.Trees.{tree_of};
+ghost use Rattle.saber_plan.specs.Checked.{IsChecked};
+ghost use Rattle.saber_plan.specs.Answers.{alike, way};
+
 use crate::batch::Batch;
 use crate::group::Group;
-use crate::open::Open;
 use crate::run_pieces::RunPiece;
 use crate::run_stores::RunStore;
 use saber_fragment::{Block, Operator};
-use saber_laws::{closed_rise, ends_close_more, marks_follow, no_rows_no_part, part_has_lines};
-use saber_plan::NoMemory;
+use saber_laws::{closed_rise, ends_close_more, marks_follow, part_has_lines};
+use saber_plan::{NoMemory, Plan};
 use std::alloc::Global;
+use std::marker::Model;
+
+/// The operator of a checked group query without a stream word or under RSTREAM, over its plan.
+/// Contracts see it as the plan.
+#[derive(Drop)]
+pub struct GroupOperator<'a> {
+    group: Group<'a>,
+}
+
+impl<'a> Model for GroupOperator<'a> {
+    ghost use Rattle.std.specs.Prelude.{◌≡◌};
+    ghost use Rattle.std.specs.Coded.{codes};
+    ghost use Rattle.saber_plan.specs.declared.plans.Plan.{Plan};
+    ghost use Rattle.saber_plan.specs.Trees.{tree_of};
+    ghost use Rattle.saber_plan.specs.Answers.{alike, way};
+    ghost use Rattle.saber_plan.specs.contracts.predicates.Pred as e;
+
+    ghost Value = { Plan };
+
+    ghost coded = { Prim.hlevel (codes, e.the_row.coded) };
+
+    ghost view = { λ g. g.group };
+
+    ghost invariant = { λ g. way (tree_of g.group) ≡ alike };
+}
+
+impl<'a> GroupOperator<'a> {
+    /// The operator of this plan. Takes no memory.
+    pub fn new(plan: &'a Plan) -> GroupOperator<'a>
+        requires checked { IsChecked (tree_of plan.now) }
+        requires group { (tree_of plan.now).shape ≡ shapes.Group }
+        requires alike { way (tree_of plan.now) ≡ alike }
+        ensures { result ≡ plan.now }
+    {
+        GroupOperator {
+            group: Group::new(plan),
+        }
+    }
+}
 
 // A task's piece is made of its own block, so nothing of the block is copied.
-impl Operator for Group<'_> {
+impl Operator for GroupOperator<'_> {
     type Draft = RunPiece;
 
     type Piece = RunPiece;
@@ -40,7 +85,7 @@ impl Operator for Group<'_> {
             rows: &own.rows,
             ended: own.ended,
         };
-        self.piece_of(alloc, &own.earlier, &batch)
+        self.group.piece_of(alloc, &own.earlier, &batch)
     }
 
     fn feed(&self, _alloc: Global, _draft: &mut RunPiece, _block: &Block) -> Result<(), NoMemory> {
@@ -53,12 +98,7 @@ impl Operator for Group<'_> {
     }
 
     fn empty_store(&self, alloc: Global) -> RunStore {
-        self.has_window();
-        no_rows_no_part();
-        RunStore {
-            windows: Open::new(alloc, 0),
-            begun: 0,
-        }
+        self.group.no_runs(alloc)
     }
 
     // The lines are put together first, so that `out` is as before after want of memory.
@@ -69,15 +109,16 @@ impl Operator for Group<'_> {
         piece: RunPiece,
         out: &mut Vec<u8>,
     ) -> Result<(), NoMemory> {
-        self.has_window();
+        self.group.has_window();
         closed_rise();
         ends_close_more();
         marks_follow();
         part_has_lines();
-        let closed = self.closed_below(&piece.after);
-        let begun = self.begun_below(&piece.after);
+        let closed = self.group.closed_below(&piece.after);
+        let begun = self.group.begun_below(&piece.after);
         let mut text = Vec::new(alloc);
-        self.take_piece(alloc, &mut store.windows, piece, closed, &mut text)?;
+        self.group
+            .take_piece(alloc, &mut store.windows, piece, closed, &mut text)?;
         store.begun = begun;
         out.extend_from_slice(&text)?;
         Ok(())

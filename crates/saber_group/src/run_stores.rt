@@ -1,14 +1,16 @@
 // What is kept from task to task: the runs that open windows have.
-ghost use Rattle.std.specs.Prelude.{◌≡◌, ◌≤◌, ◌<◌, ◌+◌, ◌*◌, ℕ, Some, length, OnOk};
+ghost use Rattle.std.specs.Prelude.{◌≡◌, ◌≤◌, ◌<◌, ◌+◌, ◌*◌, ℕ, [], Some, length, OnOk};
+ghost use Rattle.std.specs.FinMap.{empty};
 ghost use Rattle.saber_plan.specs.Trees.{tree_of};
-ghost use Rattle.saber_group.specs.RunStores.{CanCome, CanGoOn, HasCome, HasGoneOn};
+ghost use Rattle.saber_plan.specs.Inputs.{going_on};
+ghost use Rattle.saber_group.specs.RunStores.{held_in, CanCome, CanGoOn, HasCome, HasGoneOn, TakenIn};
 
 use crate::complete::Complete;
 use crate::group::Group;
 use crate::open::Open;
 use crate::run_pieces::RunPiece;
 use crate::runs::Run;
-use saber_laws::{closed_stay, groups_join, merge_has_unit, merge_is_associative};
+use saber_laws::{closed_stay, groups_join, merge_has_unit, merge_is_associative, no_rows_no_part};
 use saber_partial::{Steps, small_parts_merge};
 use saber_plan::NoMemory;
 use std::alloc::Global;
@@ -23,6 +25,20 @@ pub struct RunStore {
 }
 
 impl Group<'_> {
+    /// No run yet, and no window begun. Takes no memory.
+    pub(crate) fn no_runs(&self, alloc: Global) -> RunStore
+        ensures next { result.windows.next ≡ 0 }
+        ensures held { held_in result ≡ empty }
+        ensures taken { TakenIn (tree_of self.now) (going_on []) result }
+    {
+        self.has_window();
+        no_rows_no_part();
+        RunStore {
+            windows: Open::new(alloc, 0),
+            begun: 0,
+        }
+    }
+
     /// Takes the next runs in, and appends the lines of the windows below `closed`. A run costs two
     /// steps, each now or later, and a window one, however many runs it has and however many windows have a run: each
     /// merge of two parts is a step. After want of memory store and text are only safe.

@@ -10,12 +10,12 @@ use Rattle.saber_plan.specs.Trees.{Tree}
 use Rattle.saber_plan.specs.Values.{value}
 use Rattle.saber_plan.specs.Windows.{Placed, has, inside, placed_after, step_mark, no_rows}
 use Rattle.saber_plan.specs.Answers.{line, entry_lines, item_value, is_left, pairs, frame, by_shape, passing}
-use Rattle.saber_plan.specs.Parts.{Part, Numbers, part, pair_numbers, pair_part, group_part, part_lines, answers_of, shown, summed, least, greatest, plain, row_part}
+use Rattle.saber_plan.specs.Parts.{Part, Numbers, part, pair_numbers, pair_part, group_part, part_lines, part_answers, answers_of, shown, summed, least, greatest, plain, row_part}
 use Rattle.saber_plan.specs.Checked.{IsChecked, columns_on}
 use Rattle.saber_plan.specs.Given.{IsPartOf}
 use Rattle.saber_plan.specs.ListFacts.{Each, each-filter, each-map, each-all}
 use Rattle.saber_laws.specs.Pairs.{PairsAreInOrder}
-use Rattle.saber_join.specs.Found.{lines_for, pair_lines}
+use Rattle.saber_join.specs.Found.{lines_for, pair_lines, values_in}
 use Rattle.saber_join.proofs.Sides.{all_plain, are_values}
 use Rattle.saber_join.proofs.Holding.{each-flat_map}
 
@@ -65,3 +65,15 @@ part_of_pairs q e i xs x y = ap (λ s. by_shape s (row_part q (inside (frame q) 
 pub lines_of_part : PairsAreInOrder → (q : Tree) → IsChecked q → q.shape ≡ Join → (i : ℕ) (p : Part) → IsPartOf q p → pair_lines i p ≡ part_lines q i p
 lines_of_part order q checked e i p h =
     subst (λ r. pair_lines i r ≡ part_lines q i r) (sym (h.is ∙ part_of_pairs q e h.window h.rows h.from h.to)) (lines_of order q checked e h.from (has (frame q) h.window) no_rows (take h.to h.rows) i)
+
+-- ---- the answers of a window's part
+
+answers_show : (q : Tree) (es : List (List ℤ × Numbers)) → Each (Shows q) es → map (λ (e : List ℤ × Numbers). e.1.firsts) es ≡ map (λ (e : List ℤ × List ℤ). e.1) (map (λ (e : List ℤ × Numbers). (e.0, answers_of q.items e.1)) es)
+answers_show q [] h = refl
+answers_show q (e ∷ es) h = λ j. sym h.0 j ∷ answers_show q es h.1 j
+
+pub answers_of_part : PairsAreInOrder → (q : Tree) → IsChecked q → q.shape ≡ Join → (p : Part) → IsPartOf q p → values_in p ≡ part_answers q p
+answers_of_part order q checked e p h =
+    let us = filter (has (frame q) h.window) (placed_after no_rows (take h.to h.rows)) in
+    subst (λ r. values_in r ≡ part_answers q r) (sym (h.is ∙ part_of_pairs q e h.window h.rows h.from h.to))
+    (answers_show q (entries (pair_part q h.from us)) (subst (Each (Shows q)) (sym (order q h.from (has (frame q) h.window) no_rows (take h.to h.rows))) (each-filter (Shows q) _ (pairs q (pair_numbers q) us) (pairs_show q checked e us))))

@@ -4,7 +4,6 @@ use Rattle.std.proofs.lemmas.Bool.{lt-ltb, le-ltb}
 use Rattle.std.proofs.lemmas.List.Concat.{flat_map-append}
 use Rattle.std.specs.Option.{option_map_or}
 use Rattle.std.specs.FinMap.{is_sorted}
-use Rattle.saber_plan.specs.declared.rows.Row.{Row}
 use Rattle.saber_plan.specs.declared.windows.Mark.{Mark}
 use Rattle.saber_plan.specs.declared.windows.Kind.{Kind}
 use Rattle.saber_plan.specs.declared.plans.Shape.TheVariants.{Join}
@@ -13,10 +12,9 @@ use Rattle.saber_plan.specs.Windows.{Fits, mark_after, ending, has, closed_count
 use Rattle.saber_plan.specs.Answers.{by_shape, frame, selected}
 use Rattle.saber_plan.specs.Parts.{Part, no_part, part_lines}
 use Rattle.saber_plan.specs.Tasks.{full, is_complete}
-use Rattle.saber_plan.specs.Needs.{is_closing, is_pending, is_opening, of_kind, part_here, piece_here}
+use Rattle.saber_plan.specs.Needs.{is_closing, is_pending, is_opening, of_kind, part_here}
 use Rattle.saber_plan.specs.Checked.{IsChecked}
-use Rattle.saber_plan.specs.Given.{RowsFit}
-use Rattle.saber_plan.specs.Shares.{shares_here}
+use Rattle.saber_plan.specs.Shares.{is_closed, shares_here, handed_here}
 use Rattle.saber_plan.specs.RowFacts.{Ordered-append}
 use Rattle.saber_laws.specs.Windows.{ClosedAreCounted, BegunAreCounted, BegunStay}
 use Rattle.saber_laws.specs.Ends.{EndsBeginNone}
@@ -31,7 +29,9 @@ use Rattle.saber_join.specs.Open.{seen_parts, HoldsTask}
 use Rattle.saber_parts.specs.Kinds.{kind_in}
 use Rattle.saber_parts.specs.WindowFacts.{entry_is, kind_is}
 use Rattle.saber_parts.specs.Entries.{entry_if}
-use Rattle.saber_join.specs.Entries.{lines_if, entries_by, lines_by, Gave}
+use Rattle.saber_fragment.specs.Drafts.{Sight, IsWhole}
+use Rattle.saber_join.specs.Entries.{lines_if, entries_by, lines_by}
+use Rattle.saber_join.specs.Pieces.{AreOfTask}
 use Rattle.saber_join.proofs.Task.{part_is}
 use Rattle.saber_plan.specs.NumberFacts.{flat_map-from, flat_none, flat_filter, from_more, numbered_is}
 use Rattle.saber_parts.specs.WindowFacts.{no_entry}
@@ -76,32 +76,32 @@ pub record Laws : Type 0 where
   pub none : NoRowsNoPart
   pub order : PairsAreInOrder
 
-module _ (laws : Laws) (q : Tree) (checked : IsChecked q) (e : q.shape ≡ Join) (w : TwoWindows q) (fits : Fits (frame q)) (m : Mark) (back rows : List Row) (ended : Bool) (h : RowsFit q m (back ++ rows)) (b : Bounds) (given : AreBounds q (mark_after m back) (ending ended (mark_after (mark_after m back) rows)) b)
-    (es : List (ℕ × Part)) (sorted : T (is_sorted nat_cmp (seen es))) (holds : HoldsTask q (closed_count (frame q) (mark_after m back)) m back rows (seen_parts es)) where
+module _ (laws : Laws) (q : Tree) (checked : IsChecked q) (e : q.shape ≡ Join) (w : TwoWindows q) (fits : Fits (frame q)) (s : Sight) (whole : IsWhole q s) (b : Bounds) (given : AreBounds q (mark_after s.first s.back) (ending s.ended (mark_after (mark_after s.first s.back) s.rows)) b)
+    (es : List (ℕ × Part)) (sorted : T (is_sorted nat_cmp (seen es))) (holds : HoldsTask q (closed_count (frame q) (mark_after s.first s.back)) s.first s.back s.rows (seen_parts es)) where
   abbrev a : Mark
-  a = mark_after m back
+  a = mark_after s.first s.back
 
   abbrev z : Mark
-  z = ending ended (mark_after (mark_after m back) rows)
+  z = ending s.ended (mark_after (mark_after s.first s.back) s.rows)
 
   abbrev c : ℕ
-  c = closed_count (frame q) (mark_after m back)
+  c = closed_count (frame q) (mark_after s.first s.back)
 
   abbrev n : ℕ
-  n = begun_count (frame q) (ending ended (mark_after (mark_after m back) rows))
+  n = begun_count (frame q) (ending s.ended (mark_after (mark_after s.first s.back) s.rows))
 
   -- the end begins none of them
-  begins : begun_count (frame q) (mark_after (mark_after m back) rows) ≡ n
-  begins = sym (laws.begins (frame q) ended (mark_after (mark_after m back) rows)).counts
+  begins : begun_count (frame q) (mark_after (mark_after s.first s.back) s.rows) ≡ n
+  begins = sym (laws.begins (frame q) s.ended (mark_after (mark_after s.first s.back) s.rows)).counts
 
   abbrev at : ℕ → Part
-  at i = part_here q i m back rows
+  at i = part_here q i s.first s.back s.rows
 
   within : c ≤ n
-  within = subst (λ k. c ≤ k) begins (le_trans (laws.within (frame q) fits a) (laws.stay (frame q) fits a rows (Ordered-append m back rows h.ordered).1))
+  within = subst (λ k. c ≤ k) begins (le_trans (laws.within (frame q) fits a) (laws.stay (frame q) fits a s.rows (Ordered-append s.first s.back s.rows whole.fits.ordered).1))
 
   ends : (i : ℕ) → n ≤ i → at i ≡ no_part
-  ends i l = none_begun laws.span laws.stay laws.none q e w fits m back rows h i (subst (λ k. k ≤ i) (sym begins) l)
+  ends i l = none_begun laws.span laws.stay laws.none q e w fits s.first s.back s.rows whole.fits i (subst (λ k. k ≤ i) (sym begins) l)
 
   kind : (i : ℕ) → c ≤ i → i < c + (n - c) → Some (kind_in b i) ≡ kind_of (frame q) i a z
   kind i l r = let up = within in kind_is laws.closed_are laws.begun_are (frame q) fits a z b given.begun_before given.closed_after i l (omega (arith, l, r, up))
@@ -115,7 +115,7 @@ module _ (laws : Laws) (q : Tree) (checked : IsChecked q) (e : q.shape ≡ Join)
       ∙ sym (numbered_is given_kind c (n - c))
 
   here_lines : (i : ℕ) → pair_lines i (at i) ≡ part_lines q i (at i)
-  here_lines i = subst (λ p. pair_lines i p ≡ part_lines q i p) (part_is q m back rows i e) (lines_of laws.order q checked e _ (has (frame q) i) m (back ++ rows) i)
+  here_lines i = subst (λ p. pair_lines i p ≡ part_lines q i p) (part_is q s.first s.back s.rows i e) (lines_of laws.order q checked e _ (has (frame q) i) s.first (s.back ++ s.rows) i)
 
   abbrev complete : ℕ → Bool
   complete i = is_complete (kind_of (frame q) i a z)
@@ -126,14 +126,24 @@ module _ (laws : Laws) (q : Tree) (checked : IsChecked q) (e : q.shape ≡ Join)
       ∙ flat_map-from _ (λ i. cond (complete i) (part_lines q i (at i)) []) c (n - c) (λ i l r j. cond (is_complete (kind i l r j)) (here_lines i j) [])
       ∙ flat_filter (λ i. part_lines q i (at i)) complete (from c (n - c))
 
-  pub shares_are : (cs ps os : List (ℕ × Part)) (t : List ℕ) → Gave b es cs ps os t → record { closing = cs; pending = ps; opening = os; lines = t; closed = b.closed_after } ≡ shares_here q m back rows ended
-  unfolding shares_here piece_here
-  shares_are cs ps os t gave =
-      let whole = flat_map (λ i. part_lines q i (at i)) (filter complete (from c (n - c))) in
-      λ j. record {
-        closing = (gave.closing ∙ entries_are is_closing) j;
-        pending = (gave.pending ∙ entries_are is_pending) j;
-        opening = (gave.opening ∙ entries_are is_opening) j;
-        lines = (gave.lines ∙ lines_are ∙ ap (λ s. by_shape s (cond (has_windows (frame q)) whole (selected q rows)) whole whole) (sym e)) j;
-        closed = given.closed_after j;
+  -- so they are the task's, and what they hand on is what it hands on
+  pub of_task : AreOfTask q s b es
+  unfolding shares_here handed_here
+  of_task =
+      let all = flat_map (λ i. part_lines q i (at i)) (filter complete (from c (n - c))) in
+      record {
+        give = (λ j. record {
+          closing = entries_are is_closing j;
+          pending = entries_are is_pending j;
+          opening = entries_are is_opening j;
+          lines = (lines_are ∙ ap (λ k. by_shape k (cond (has_windows (frame q)) all (selected q s.rows)) all all) (sym e)) j;
+          closed = given.closed_after j;
+        });
+        hand = (λ j. record {
+          closing = entries_are is_closed j;
+          pending = entries_are is_pending j;
+          opening = entries_are is_opening j;
+          lines = [];
+          closed = given.closed_after j;
+        });
       }

@@ -4,6 +4,7 @@ use Rattle.saber_plan.specs.declared.windows.Kind.{Kind}
 use Rattle.saber_plan.specs.Parts.{Part}
 use Rattle.saber_plan.specs.Tasks.{is_complete}
 use Rattle.saber_plan.specs.Needs.{is_closing, is_pending, is_opening}
+use Rattle.saber_plan.specs.Shares.{is_closed}
 use Rattle.saber_parts.specs.declared.bounds.Bounds.{Bounds}
 use Rattle.saber_parts.specs.Kinds.{kind_in}
 use Rattle.saber_parts.specs.Entries.{entry_if}
@@ -26,3 +27,10 @@ pub record Gave (b : Bounds) (es : List (ℕ × Part)) (closings pendings openin
   pub pending : pendings ≡ entries_by is_pending b es
   pub opening : openings ≡ entries_by is_opening b es
   pub lines : text ≡ lines_by b es
+
+-- and what they hand on: no line as yet, and the closed ones together
+pub record HandedOn (b : Bounds) (es : List (ℕ × Part)) (closings pendings openings : List (ℕ × Part)) (text : List ℕ) : Type 0 where
+  pub closing : closings ≡ entries_by is_closed b es
+  pub pending : pendings ≡ entries_by is_pending b es
+  pub opening : openings ≡ entries_by is_opening b es
+  pub none : text ≡ []

@@ -8,4 +8,5 @@ pub mod Adding
 pub mod Keeping
 pub mod Open
 pub mod Entries
+pub mod Pieces
 pub mod Sights

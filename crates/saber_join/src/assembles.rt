@@ -1,9 +1,11 @@
 // How the pairs of a join's windows are put together.
 use crate::join::Join;
 use crate::pairs::Pairs;
+use saber_changes::Answers;
 use saber_laws::{no_rows_no_part, pairs_are_in_order};
 use saber_parts::Assembles;
 use saber_plan::NoMemory;
+use std::alloc::Global;
 
 impl Assembles for Join<'_> {
     type Part = Pairs;
@@ -24,5 +26,12 @@ impl Assembles for Join<'_> {
         self.has_windows();
         pairs_are_in_order();
         part.lines(i, out)
+    }
+
+    fn answers(&self, alloc: Global, part: &Pairs) -> Result<Answers, NoMemory> {
+        self.has_windows();
+        pairs_are_in_order();
+        let answers = part.answers(alloc)?;
+        Ok(answers)
     }
 }

@@ -2,8 +2,9 @@
 ghost use Rattle.std.specs.Prelude.{◌≡◌, ◌++◌, OnOk, IfOk, Some};
 ghost use Rattle.saber_plan.specs.Tasks.{is_complete};
 ghost use Rattle.saber_plan.specs.Needs.{is_closing, is_pending, is_opening};
+ghost use Rattle.saber_plan.specs.Shares.{is_closed};
 ghost use Rattle.saber_parts.specs.Entries.{entry, entry_if};
-ghost use Rattle.saber_join.specs.Entries.{lines_if, Gave};
+ghost use Rattle.saber_join.specs.Entries.{lines_if, Gave, HandedOn};
 
 use crate::pairs::Pairs;
 use saber_fragment::Parts;
@@ -62,6 +63,41 @@ pub(crate) fn gather(
                 return Err(want);
             }
         }
+    }
+    Ok(gathered)
+}
+
+// Puts in the pairs of the next window, where what is printed of it stands on the window before: as yet no line is written.
+fn hand_on(
+    onto: &mut Gathered<Pairs>,
+    kind: Kind,
+    window: u64,
+    pairs: Pairs,
+) -> Result<(), NoMemory>
+    ensures closing { OnOk result (onto.new.closing ≡ onto.old.closing ++ entry_if (is_closed (Some kind)) window pairs) }
+    ensures pending { OnOk result (onto.new.pending ≡ onto.old.pending ++ entry_if (is_pending (Some kind)) window pairs) }
+    ensures opening { OnOk result (onto.new.opening ≡ onto.old.opening ++ entry_if (is_opening (Some kind)) window pairs) }
+    ensures text { OnOk result (onto.new.text.items ≡ onto.old.text.items) }
+{
+    match kind {
+        Kind::Closing => keep(&mut onto.closing, window, pairs),
+        Kind::Pending => keep(&mut onto.pending, window, pairs),
+        Kind::Opening => keep(&mut onto.opening, window, pairs),
+        Kind::Complete => keep(&mut onto.closing, window, pairs),
+    }
+}
+
+/// What these windows hand on, where a query prints what they gain or lose.
+pub(crate) fn handed_on(
+    alloc: Global,
+    bounds: &Bounds,
+    windows: BTreeMap<u64, Pairs>,
+) -> Result<Gathered<Pairs>, NoMemory>
+    ensures { IfOk result (λ g. HandedOn bounds.now windows.entries g.closing g.pending g.opening g.text.items) }
+{
+    let mut gathered = Gathered::new(alloc);
+    for (window, pairs) in windows {
+        hand_on(&mut gathered, bounds.kind(window), window, pairs)?;
     }
     Ok(gathered)
 }

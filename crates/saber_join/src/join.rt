@@ -5,7 +5,7 @@ ghost use Rattle.saber_plan.specs.declared.rows.Side.TheVariants as sides;
 ghost use Rattle.saber_plan.specs.declared.plans.Shape.TheVariants as shapes;
 ghost use Rattle.saber_plan.specs.Trees.{tree_of};
 ghost use Rattle.saber_plan.specs.Values as v;
-ghost use Rattle.saber_plan.specs.Checked.{IsChecked, IsPlain};
+ghost use Rattle.saber_plan.specs.Checked.{IsChecked};
 ghost use Rattle.saber_plan.specs.Windows as w;
 ghost use Rattle.saber_plan.specs.Answers.{frame, item_value};
 ghost use Rattle.saber_plan.specs.Needs.{first_window, past_window};
@@ -24,9 +24,10 @@ use saber_window::{Lately, Windows, stamps_fit, step_mark};
 use std::alloc::Global;
 use std::marker::Model;
 
-/// The operator of a checked join of two streams, over its plan. Contracts see it as the plan.
+/// A checked join of two streams, over its plan, whatever its windows print. Contracts see it as the
+/// plan.
 #[derive(Drop)]
-pub struct Join<'a> {
+pub(crate) struct Join<'a> {
     plan: &'a Plan,
     windows: Windows,
 }
@@ -36,7 +37,7 @@ impl<'a> Model for Join<'a> {
     ghost use Rattle.saber_plan.specs.declared.plans.Shape.TheVariants as shapes;
     ghost use Rattle.saber_plan.specs.declared.plans.Plan.{Plan};
     ghost use Rattle.saber_plan.specs.Trees.{tree_of};
-    ghost use Rattle.saber_plan.specs.Checked.{IsChecked, IsPlain};
+    ghost use Rattle.saber_plan.specs.Checked.{IsChecked};
     ghost use Rattle.saber_plan.specs.Answers.{frame};
     ghost use Rattle.saber_plan.specs.contracts.predicates.Pred as e;
     ghost use Rattle.std.specs.Coded.{codes};
@@ -47,7 +48,7 @@ impl<'a> Model for Join<'a> {
 
     ghost view = { λ g. g.plan.now };
 
-    ghost invariant = { λ g. IsChecked (tree_of g.plan.now) × ((tree_of g.plan.now).shape ≡ shapes.Join) × (g.windows ≡ frame (tree_of g.plan.now)) × IsPlain (tree_of g.plan.now) };
+    ghost invariant = { λ g. IsChecked (tree_of g.plan.now) × ((tree_of g.plan.now).shape ≡ shapes.Join) × (g.windows ≡ frame (tree_of g.plan.now)) };
 }
 
 // The value of an item over a pair. A join's items are expressions alone.
@@ -79,11 +80,10 @@ fn item_values(
 }
 
 impl<'a> Join<'a> {
-    /// The operator of this plan. Takes no memory.
-    pub fn new(plan: &'a Plan) -> Join<'a>
+    /// The join of this plan. Takes no memory.
+    pub(crate) fn new(plan: &'a Plan) -> Join<'a>
         requires checked { IsChecked (tree_of plan.now) }
         requires join { (tree_of plan.now).shape ≡ shapes.Join }
-        requires plain { IsPlain (tree_of plan.now) }
         ensures { result ≡ plan.now }
     {
         Join {
@@ -96,7 +96,6 @@ impl<'a> Join<'a> {
     pub(crate) fn has_windows(&self)
         ensures checked { IsChecked (tree_of self.now) }
         ensures join { (tree_of self.now).shape ≡ shapes.Join }
-        ensures plain { IsPlain (tree_of self.now) }
         ensures windows { TwoWindows (tree_of self.now) }
         ensures fits { w.Fits (frame (tree_of self.now)) }
     {

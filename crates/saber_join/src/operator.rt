@@ -1,61 +1,59 @@
-// What a join does with tasks and what they give.
-use crate::back::mark_before;
+// The operator of joins whose windows print their answers as they are.
+ghost use Rattle.std.specs.Prelude.{◌≡◌};
+ghost use Rattle.saber_plan.specs.declared.plans.Shape.TheVariants as shapes;
+ghost use Rattle.saber_plan.specs.Trees.{tree_of};
+ghost use Rattle.saber_plan.specs.Checked.{IsChecked};
+ghost use Rattle.saber_plan.specs.Answers.{way, alike};
+
 use crate::draft::JoinDraft;
-use crate::gathered::gather;
 use crate::join::Join;
 use crate::pairs::Pairs;
 use saber_fragment::{Block, Operator, Piece};
-use saber_laws::{
-    begun_are_counted, begun_stay, closed_are_counted, ends_begin_none, no_rows_no_part,
-    open_goes_on, pairs_are_in_order, pieces_print, rows_span, shares_make_piece,
-};
-use saber_parts::{Bounds, PartStore};
-use saber_plan::NoMemory;
-use saber_window::{closed_within_begun, ending};
+use saber_laws::{open_goes_on, pieces_print, shares_make_piece};
+use saber_parts::PartStore;
+use saber_plan::{NoMemory, Plan};
 use std::alloc::Global;
+use std::marker::Model;
 
-impl Join<'_> {
-    ghost use Rattle.std.specs.Prelude.{◌≡◌, ℕ, IfOk};
-    ghost use Rattle.saber_plan.specs.Inputs.{Input};
+/// The operator of a checked join whose windows print their answers as they are: without a stream
+/// word, or with RSTREAM (CQL 2006). Contracts see it as its plan.
+#[derive(Drop)]
+pub struct JoinOperator<'a> {
+    join: Join<'a>,
+}
+
+impl<'a> Model for JoinOperator<'a> {
+    ghost use Rattle.std.specs.Prelude.{◌≡◌};
+    ghost use Rattle.saber_plan.specs.declared.plans.Plan.{Plan};
     ghost use Rattle.saber_plan.specs.Trees.{tree_of};
-    ghost use Rattle.saber_plan.specs.Shares.{shares_between};
-    ghost use Rattle.saber_fragment.specs.Drafts.{Sight, IsWhole, IsSightOf};
-    ghost use Rattle.saber_fragment.specs.Shown.{shares_of};
-    ghost use Rattle.saber_join.specs.Sights.{HasSeen};
+    ghost use Rattle.saber_plan.specs.Answers.{way, alike};
+    ghost use Rattle.saber_plan.specs.contracts.predicates.Pred as e;
+    ghost use Rattle.std.specs.Coded.{codes};
 
-    // The piece of a task whose blocks are all in.
-    fn piece_of(&self, alloc: Global, draft: &JoinDraft) -> Result<Piece<Pairs>, NoMemory>
-        requires { (s : Sight) × HasSeen (tree_of self.now) draft.now s × IsWhole (tree_of self.now) s }
-        ensures { IfOk result (λ p. (s : Sight) (r : Input) (x y : ℕ) → HasSeen (tree_of self.now) draft.now s → IsWhole (tree_of self.now) s
-            → IsSightOf (tree_of self.now) s r x y → shares_of (λ part. part) p ≡ shares_between (tree_of self.now) r x y) }
+    ghost Value = { Plan };
+
+    ghost coded = { Prim.hlevel (codes, e.the_row.coded) };
+
+    ghost view = { λ o. o.join };
+
+    ghost invariant = { λ o. way (tree_of o.join) ≡ alike };
+}
+
+impl<'a> JoinOperator<'a> {
+    /// The operator of this plan. Takes no memory.
+    pub fn new(plan: &'a Plan) -> JoinOperator<'a>
+        requires checked { IsChecked (tree_of plan.now) }
+        requires join { (tree_of plan.now).shape ≡ shapes.Join }
+        requires alike { way (tree_of plan.now) ≡ alike }
+        ensures { result ≡ plan.now }
     {
-        self.has_windows();
-        begun_are_counted();
-        begun_stay();
-        closed_are_counted();
-        closed_within_begun();
-        ends_begin_none();
-        no_rows_no_part();
-        pairs_are_in_order();
-        rows_span();
-        let back = &draft.back;
-        let rows = &draft.rows;
-        let before = draft.before;
-        let first = mark_before(&before, draft.last, back);
-        let found = self.windows_of(alloc, &first, &before, back, rows)?;
-        let after = ending(draft.ended, &found.1);
-        let bounds = Bounds {
-            begun_before: self.begun_below(&before),
-            closed_after: self.closed_below(&after),
-        };
-        // That its windows rise, which the proof needs, is told by the length.
-        let _count = found.0.len();
-        let gathered = gather(alloc, &bounds, found.0)?;
-        Ok(gathered.into_piece(bounds.closed_after))
+        JoinOperator {
+            join: Join::new(plan),
+        }
     }
 }
 
-impl Operator for Join<'_> {
+impl Operator for JoinOperator<'_> {
     type Draft = JoinDraft;
 
     type Piece = Piece<Pairs>;
@@ -87,11 +85,11 @@ impl Operator for Join<'_> {
     }
 
     fn feed(&self, alloc: Global, draft: &mut JoinDraft, block: &Block) -> Result<(), NoMemory> {
-        self.look_back(alloc, draft, block)
+        self.join.look_back(alloc, draft, block)
     }
 
     fn finish(&self, alloc: Global, draft: JoinDraft) -> Result<Piece<Pairs>, NoMemory> {
-        let piece = self.piece_of(alloc, &draft);
+        let piece = self.join.piece_of(alloc, &draft);
         draft.let_go();
         piece
     }
@@ -107,11 +105,10 @@ impl Operator for Join<'_> {
         piece: Piece<Pairs>,
         out: &mut Vec<u8>,
     ) -> Result<(), NoMemory> {
-        self.has_windows();
         open_goes_on();
         pieces_print();
         shares_make_piece();
-        store.take_in(self, piece, out)?;
+        store.take_in(&self.join, piece, out)?;
         Ok(())
     }
 

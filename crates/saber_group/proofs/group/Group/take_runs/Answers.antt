@@ -1,11 +1,11 @@
-use Rattle.std.proofs.Common.{◌≡◌, ℕ, ◌+◌, ◌<◌, List, ◌++◌, length, take, sym, ap, subst, arith}
+use Rattle.std.proofs.Common.{◌≡◌, ℕ, ◌+◌, ◌<◌, List, ◌++◌, length, max, take, sym, ap, subst, arith}
 use Rattle.std.specs.Vec.Iter.{into_iter_items}
 use Rattle.saber_plan.specs.declared.rows.Row.{Row}
 use Rattle.saber_plan.specs.declared.plans.Plan.{Plan}
 use Rattle.saber_plan.specs.declared.windows.Mark.{Mark}
 use Rattle.saber_plan.specs.Trees.{tree_of}
 use Rattle.saber_group.specs.RunParts.{part_of, lines_between, Holds}
-use Rattle.saber_group.proofs.RunsTaken.{Along, along_nil, along_below, along_can, along_more, along_holds, along_done, all_given}
+use Rattle.saber_group.proofs.RunsTaken.{Along, text_nil, text_join, along_nil, along_below, along_can, along_more, along_holds, along_done, all_given}
 use Rattle.saber_group.proofs.group.Group.take_runs.Goals as goal
 
 pub loop-run-init : goal.loop-run-init
@@ -16,7 +16,8 @@ loop-run-init g c =
     record {
       can = tt;
       finite = tt;
-      along = λ m xs o x y given. subst (λ l. Along q m xs o y s.next s.next s.runs.entries l c.args.closed c.args.out.now.items c.args.out.now.items) (sym all) (along_nil q m xs o x y s.next s.runs.entries c.args.runs.items c.args.closed c.args.out.now.items given);
+      along = λ m xs o x y given. subst (λ l. Along q m xs o y s.next s.next s.runs.entries l c.args.closed) (sym all) (along_nil q m xs o x y s.next s.runs.entries c.args.runs.items c.args.closed given);
+      text = λ m xs o x y given. text_nil q m xs s.next c.args.out.now.items;
       steps = let long = ap length all in omega (arith, long);
     }
 
@@ -28,9 +29,9 @@ take_in-requires g c =
     let new = c.close_lines.new.self in
     let r = c.in-Some.run' in
     let left = c.in-Some.ensures.steps.0 in
-    let a = subst (λ l. Along q m xs o y c.args.store.now.next s.next s.runs.entries l c.args.closed c.args.out.now.items c.loop-run.out.items) left (c.loop-run.invariant.along m xs o x y given) in
+    let a = subst (λ l. Along q m xs o y c.args.store.now.next s.next s.runs.entries l c.args.closed) left (c.loop-run.invariant.along m xs o x y given) in
     let held = subst (λ (p : Plan). (m : Mark) (xs : List Row) → Holds (tree_of p) m xs s.next s.runs.entries → Holds (tree_of p) m xs new.next new.runs.entries) c.self.view_is c.in_ok-close_lines.ensures.runs in
-    along_can q c.has_window.ensures.window m xs o y c.args.store.now.next s.next s.runs.entries r (into_iter_items c.next.new.self) c.args.closed c.args.out.now.items c.loop-run.out.items given.fits a
+    along_can q c.has_window.ensures.window m xs o y c.args.store.now.next s.next s.runs.entries r (into_iter_items c.next.new.self) c.args.closed given.fits a
     c.small_parts_merge.ensures new.next new.runs.entries (held m (take (o + a.x) xs) a.holds)
 
 pub loop-run-preserved : goal.loop-run-preserved
@@ -38,28 +39,33 @@ loop-run-preserved g c =
     let q = tree_of c.args.self.now in
     let w = c.has_window.ensures.window in
     let s = c.loop-run.store in
+    let start = c.args.store.now.next in
     let new = c.close_lines.new.self in
     let r = c.in-Some.run' in
     let left = c.in-Some.ensures.steps.0 in
     let rest = into_iter_items c.next.new.self in
+    let most : new.next ≡ max s.next r.first = c.in_ok-close_lines.ensures.next in
+    let same : c.take_in.new.self.next ≡ new.next = c.in_ok-take_in.ensures.next in
     let held = subst (λ (p : Plan). (m : Mark) (xs : List Row) → Holds (tree_of p) m xs s.next s.runs.entries → Holds (tree_of p) m xs new.next new.runs.entries) c.self.view_is c.in_ok-close_lines.ensures.runs in
     let text = subst (λ (p : Plan). (m : Mark) (xs all : List Row) → Holds (tree_of p) m xs s.next s.runs.entries → ((i : ℕ) → i < r.first → part_of (tree_of p) i m xs ≡ part_of (tree_of p) i m all) → c.close_lines.new.out.items ≡ c.loop-run.out.items ++ lines_between (tree_of p) m all s.next new.next) c.self.view_is c.in_ok-close_lines.ensures.text in
     record {
       can = tt;
       finite = tt;
       along = λ m xs o x y given.
-          let a = subst (λ l. Along q m xs o y c.args.store.now.next s.next s.runs.entries l c.args.closed c.args.out.now.items c.loop-run.out.items) left (c.loop-run.invariant.along m xs o x y given) in
-          let front = take (o + a.x) xs in
-          along_more q w m xs o y c.args.store.now.next s.next s.runs.entries r rest c.args.closed c.args.out.now.items c.loop-run.out.items given.fits a
-          c.merge_has_unit.ensures c.small_parts_merge.ensures new.next c.take_in.new.self.next new.runs.entries c.take_in.new.self.runs.entries c.close_lines.new.out.items
-          c.in_ok-close_lines.ensures.next c.in_ok-take_in.ensures.next (held m front a.holds) c.in_ok-take_in.ensures.runs
-          (text m front xs a.holds (along_below q w m xs o y c.args.store.now.next s.next s.runs.entries r rest c.args.closed c.args.out.now.items c.loop-run.out.items given.fits a));
+          let a = subst (λ l. Along q m xs o y start s.next s.runs.entries l c.args.closed) left (c.loop-run.invariant.along m xs o x y given) in
+          along_more q w m xs o y start s.next s.runs.entries r rest c.args.closed given.fits a
+          c.merge_has_unit.ensures c.small_parts_merge.ensures new.next c.take_in.new.self.next new.runs.entries c.take_in.new.self.runs.entries
+          most same (held m (take (o + a.x) xs) a.holds) c.in_ok-take_in.ensures.runs;
+      text = λ m xs o x y given.
+          let a = subst (λ l. Along q m xs o y start s.next s.runs.entries l c.args.closed) left (c.loop-run.invariant.along m xs o x y given) in
+          let more = text m (take (o + a.x) xs) xs a.holds (along_below q w m xs o y start s.next s.runs.entries r rest c.args.closed given.fits a) in
+          subst (λ n. c.close_lines.new.out.items ≡ c.args.out.now.items ++ lines_between q m xs start n) (sym same)
+          (text_join q m xs start s.next new.next a.low (omega (arith, most)) c.args.out.now.items c.loop-run.out.items c.close_lines.new.out.items (c.loop-run.invariant.text m xs o x y given) more);
       steps =
           let used = c.loop-run.invariant.steps in
           let long = ap length left in
           let closed = c.in_ok-close_lines.ensures.steps in
           let taken = c.in_ok-take_in.ensures.steps in
-          let same = c.in_ok-take_in.ensures.next in
           omega (arith, used, long, closed, taken, same);
     }
 
@@ -67,15 +73,22 @@ pub returns-clause-went_on : goal.returns-clause-went_on
 returns-clause-went_on g c =
     let q = tree_of c.args.self.now in
     let s = c.loop-run.store in
+    let start = c.args.store.now.next in
     let new = c.close_lines-2.new.self in
     let none = all_given c.loop-run.run-iterator c.in-None.ensures.steps.0 in
+    let most : new.next ≡ max s.next c.args.closed = c.in_ok-close_lines-2.ensures.next in
     let held = subst (λ (p : Plan). (m : Mark) (xs : List Row) → Holds (tree_of p) m xs s.next s.runs.entries → Holds (tree_of p) m xs new.next new.runs.entries) c.self.view_is c.in_ok-close_lines-2.ensures.runs in
     let text = subst (λ (p : Plan). (m : Mark) (xs all : List Row) → Holds (tree_of p) m xs s.next s.runs.entries → ((i : ℕ) → i < c.args.closed → part_of (tree_of p) i m xs ≡ part_of (tree_of p) i m all) → c.close_lines-2.new.out.items ≡ c.loop-run.out.items ++ lines_between (tree_of p) m all s.next new.next) c.self.view_is c.in_ok-close_lines-2.ensures.text in
     λ m xs o x y given.
-    let a = subst (λ l. Along q m xs o y c.args.store.now.next s.next s.runs.entries l c.args.closed c.args.out.now.items c.loop-run.out.items) none (c.loop-run.invariant.along m xs o x y given) in
-    let h = along_holds q m xs o y c.args.store.now.next s.next s.runs.entries c.args.closed c.args.out.now.items c.loop-run.out.items a in
-    along_done q m xs o y c.args.store.now.next s.next s.runs.entries c.args.closed c.args.out.now.items c.loop-run.out.items a new.next new.runs.entries c.close_lines-2.new.out.items
-    c.in_ok-close_lines-2.ensures.next (held m (take (o + y) xs) h) (text m (take (o + y) xs) xs h given.settled)
+    let a = subst (λ l. Along q m xs o y start s.next s.runs.entries l c.args.closed) none (c.loop-run.invariant.along m xs o x y given) in
+    let h = along_holds q m xs o y start s.next s.runs.entries c.args.closed a in
+    let done = along_done q m xs o y start s.next s.runs.entries c.args.closed a new.next most in
+    record {
+      holds = subst (λ n. Holds q m (take (o + y) xs) n new.runs.entries) done (held m (take (o + y) xs) h);
+      done_is = done;
+      text = subst (λ n. c.close_lines-2.new.out.items ≡ c.args.out.now.items ++ lines_between q m xs start n) done
+          (text_join q m xs start s.next new.next a.low (omega (arith, most)) c.args.out.now.items c.loop-run.out.items c.close_lines-2.new.out.items (c.loop-run.invariant.text m xs o x y given) (text m (take (o + y) xs) xs h given.settled));
+    }
 
 pub returns-clause-steps : goal.returns-clause-steps
 returns-clause-steps g c =

@@ -1,0 +1,97 @@
+// What a group query does with tasks and what they give, of whose windows it prints what they gain
+// or lose.
+use crate::batch::Batch;
+use crate::change_pieces::TaskRuns;
+use crate::change_stores::WalkStore;
+use crate::changes::GroupChanges;
+use saber_changes::Walk;
+use saber_fragment::{Block, Operator};
+use saber_laws::{
+    answers_are_of_parts, closed_rise, ends_close_more, last_answers_stay, marks_follow,
+};
+use saber_plan::NoMemory;
+use std::alloc::Global;
+
+// A task's piece is made of its own block, so nothing of the block is copied.
+impl Operator for GroupChanges<'_> {
+    type Draft = TaskRuns;
+
+    type Piece = TaskRuns;
+
+    type Store = WalkStore;
+
+    ghost use Rattle.saber_plan.specs.Trees.{tree_of};
+    ghost use Rattle.saber_group.specs.RunPieces.{IsMade, IsOf};
+    ghost use Rattle.saber_group.specs.ChangeStores.{kept_in, piece_of, HasWalked};
+
+    ghost plan = { tree_of };
+
+    ghost has_seen = { λ group draft s. IsMade (tree_of group) s (piece_of draft) };
+
+    ghost held = { kept_in };
+
+    ghost staying = { kept_in };
+
+    ghost has_taken = { λ group store r. HasWalked (tree_of group) r store };
+
+    ghost is_of = { λ group piece r x y. IsOf (tree_of group) r x y (piece_of piece) };
+
+    fn start(&self, alloc: Global, own: &Block) -> Result<TaskRuns, NoMemory> {
+        let batch = Batch {
+            before: own.before,
+            rows: &own.rows,
+            ended: own.ended,
+        };
+        self.group.task_runs(alloc, &batch)
+    }
+
+    fn feed(&self, _alloc: Global, _draft: &mut TaskRuns, _block: &Block) -> Result<(), NoMemory> {
+        Ok(())
+    }
+
+    fn finish(&self, _alloc: Global, draft: TaskRuns) -> Result<TaskRuns, NoMemory> {
+        marks_follow();
+        Ok(draft)
+    }
+
+    fn empty_store(&self, alloc: Global) -> WalkStore {
+        WalkStore {
+            runs: self.group.no_runs(alloc),
+            walk: Walk::new(alloc),
+        }
+    }
+
+    // The lines are put together first, so that `out` is as before after want of memory.
+    fn take_in(
+        &self,
+        alloc: Global,
+        store: &mut WalkStore,
+        piece: TaskRuns,
+        out: &mut Vec<u8>,
+    ) -> Result<(), NoMemory> {
+        self.group.has_window();
+        answers_are_of_parts();
+        closed_rise();
+        ends_close_more();
+        last_answers_stay();
+        marks_follow();
+        let closed = self.group.closed_below(&piece.after);
+        let begun = self.group.begun_below(&piece.after);
+        let mut text = Vec::new(alloc);
+        self.group.walk_task(
+            alloc,
+            self.change,
+            &mut store.runs.windows,
+            &mut store.walk,
+            piece.runs,
+            closed,
+            &mut text,
+        )?;
+        store.runs.begun = begun;
+        out.extend_from_slice(&text)?;
+        Ok(())
+    }
+
+    // Taking a piece in has dropped what no open window has.
+    fn drop_closed(&self, _store: &mut WalkStore) {}
+}

@@ -1,0 +1,17 @@
+use Rattle.std.proofs.Common.{◌++◌, sym, ◌∙◌, ap, map}
+use Rattle.saber_plan.specs.Answers.{key_cmp}
+use Rattle.saber_plan.specs.TreeFacts.{sorted_seen}
+use Rattle.saber_join.specs.Found.{numbers_with, values_in}
+use Rattle.saber_join.proofs.Lined.{values_seen}
+use Rattle.saber_join.proofs.pairs.Pairs.answers.Goals as goal
+
+pub loop-values-init : goal.loop-values-init
+loop-values-init c =
+    let es = c.self.inside.pairs.entries in
+    let rising = sorted_seen key_cmp (λ k. k) (λ v. numbers_with v.items) es c.values-values-items.ensures.ordered in
+    record {
+      can = tt;
+      finite = tt;
+      all = ap (λ l. l ++ map (λ v. v.items) c.into_iter-values-iterator.result) c.new-answers.ensures
+          ∙ ap (map (λ v. v.items)) (c.into_iter-values-iterator.ensures.into_iter_gives ∙ c.values-values-items.ensures.rest) ∙ sym (values_seen es rising) ∙ ap values_in c.self.view_is;
+    }

@@ -1,0 +1,91 @@
+// What a task of a join gives.
+use crate::back::mark_before;
+use crate::draft::JoinDraft;
+use crate::gathered::{gather, handed_on};
+use crate::join::Join;
+use crate::pairs::Pairs;
+use saber_fragment::Piece;
+use saber_laws::{
+    begun_are_counted, begun_stay, closed_are_counted, ends_begin_none, no_rows_no_part,
+    pairs_are_in_order, rows_span,
+};
+use saber_parts::Bounds;
+use saber_plan::NoMemory;
+use saber_window::{closed_within_begun, ending};
+use std::alloc::Global;
+use std::collections::BTreeMap;
+
+impl Join<'_> {
+    ghost use Rattle.std.specs.Prelude.{◌≡◌, ℕ, IfOk};
+    ghost use Rattle.saber_plan.specs.Inputs.{Input};
+    ghost use Rattle.saber_plan.specs.Trees.{tree_of};
+    ghost use Rattle.saber_plan.specs.Shares.{shares_between, handed_between};
+    ghost use Rattle.saber_fragment.specs.Drafts.{Sight, IsWhole, IsSightOf};
+    ghost use Rattle.saber_fragment.specs.Shown.{shares_of};
+    ghost use Rattle.saber_join.specs.Sights.{HasSeen};
+    ghost use Rattle.saber_join.specs.Pieces.{AreOfTask};
+
+    // The windows of a task whose blocks are all in, and how many are begun before it and closed after it.
+    fn task_windows(
+        &self,
+        alloc: Global,
+        draft: &JoinDraft,
+    ) -> Result<(Bounds, BTreeMap<u64, Pairs>), NoMemory>
+        requires { (s : Sight) × HasSeen (tree_of self.now) draft.now s × IsWhole (tree_of self.now) s }
+        ensures { IfOk result (λ f. (s : Sight) → HasSeen (tree_of self.now) draft.now s → IsWhole (tree_of self.now) s
+            → AreOfTask (tree_of self.now) s f.0 f.1.entries) }
+    {
+        self.has_windows();
+        begun_are_counted();
+        begun_stay();
+        closed_are_counted();
+        closed_within_begun();
+        ends_begin_none();
+        no_rows_no_part();
+        pairs_are_in_order();
+        rows_span();
+        let back = &draft.back;
+        let rows = &draft.rows;
+        let before = draft.before;
+        let first = mark_before(&before, draft.last, back);
+        let found = self.windows_of(alloc, &first, &before, back, rows)?;
+        let after = ending(draft.ended, &found.1);
+        let bounds = Bounds {
+            begun_before: self.begun_below(&before),
+            closed_after: self.closed_below(&after),
+        };
+        // That its windows rise, which the proof needs, is told by the length.
+        let _count = found.0.len();
+        Ok((bounds, found.0))
+    }
+
+    /// The piece of a task whose blocks are all in: its shares of windows.
+    pub(crate) fn piece_of(
+        &self,
+        alloc: Global,
+        draft: &JoinDraft,
+    ) -> Result<Piece<Pairs>, NoMemory>
+        requires { (s : Sight) × HasSeen (tree_of self.now) draft.now s × IsWhole (tree_of self.now) s }
+        ensures { IfOk result (λ p. (s : Sight) (r : Input) (x y : ℕ) → HasSeen (tree_of self.now) draft.now s → IsWhole (tree_of self.now) s
+            → IsSightOf (tree_of self.now) s r x y → shares_of (λ part. part) p ≡ shares_between (tree_of self.now) r x y) }
+    {
+        let (bounds, windows) = self.task_windows(alloc, draft)?;
+        let gathered = gather(alloc, &bounds, windows)?;
+        Ok(gathered.into_piece(bounds.closed_after))
+    }
+
+    /// What such a task hands on, where a query prints what its windows gain or lose.
+    pub(crate) fn handed_of(
+        &self,
+        alloc: Global,
+        draft: &JoinDraft,
+    ) -> Result<Piece<Pairs>, NoMemory>
+        requires { (s : Sight) × HasSeen (tree_of self.now) draft.now s × IsWhole (tree_of self.now) s }
+        ensures { IfOk result (λ p. (s : Sight) (r : Input) (x y : ℕ) → HasSeen (tree_of self.now) draft.now s → IsWhole (tree_of self.now) s
+            → IsSightOf (tree_of self.now) s r x y → shares_of (λ part. part) p ≡ handed_between (tree_of self.now) r x y) }
+    {
+        let (bounds, windows) = self.task_windows(alloc, draft)?;
+        let gathered = handed_on(alloc, &bounds, windows)?;
+        Ok(gathered.into_piece(bounds.closed_after))
+    }
+}

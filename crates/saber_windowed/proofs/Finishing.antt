@@ -1,0 +1,130 @@
+-- All windows together are what the task gives.
+use Rattle.std.proofs.Common.{◌≡◌, ℕ, ◌+◌, ◌-◌, ◌≤◌, ◌<◌, List, [], ◌∷◌, filter, flat_map, Bool, cond, T, Option, Some, None, sym, ◌∙◌, ap, subst, le_trans, nat_cmp, arith}
+use Rattle.std.specs.Option.{option_map_or}
+use Rattle.std.specs.FinMap.{is_sorted}
+use Rattle.saber_plan.specs.declared.rows.Row.{Row}
+use Rattle.saber_plan.specs.declared.windows.Mark.{Mark}
+use Rattle.saber_plan.specs.declared.windows.Kind.{Kind}
+use Rattle.saber_plan.specs.declared.plans.Shape.TheVariants.{Select}
+use Rattle.saber_plan.specs.Trees.{Tree}
+use Rattle.saber_plan.specs.Windows.{Frame, Fits, mark_after, ending, has, placed_after, closed_count, begun_count, kind_of, from, has_windows}
+use Rattle.saber_plan.specs.Answers.{by_shape, frame, passing, selected}
+use Rattle.saber_plan.specs.Parts.{Part, row_part, group_part, pair_part, part_lines}
+use Rattle.saber_plan.specs.Tasks.{full, is_complete}
+use Rattle.saber_plan.specs.Needs.{is_closing, is_pending, is_opening, of_kind, part_here}
+use Rattle.saber_plan.specs.Checked.{IsChecked}
+use Rattle.saber_plan.specs.Given.{RowsFit}
+use Rattle.saber_plan.specs.Shares.{is_closed, shares_here, handed_here}
+use Rattle.saber_plan.specs.NumberFacts.{flat_map-from, flat_filter, numbered_is}
+use Rattle.saber_laws.specs.Windows.{ClosedAreCounted, BegunAreCounted, BegunStay}
+use Rattle.saber_laws.specs.Ends.{EndsBeginNone}
+use Rattle.saber_laws.specs.Needs.{RowsSpan}
+use Rattle.saber_laws.specs.Plans.{OneWindow}
+use Rattle.saber_window.specs.Laws.{ClosedWithinBegun}
+use Rattle.saber_fragment.specs.Shown.{windows_by}
+use Rattle.saber_parts.specs.declared.bounds.Bounds.{Bounds}
+use Rattle.saber_parts.specs.Kinds.{kind_in}
+use Rattle.saber_parts.specs.WindowFacts.{entry_is, kind_is}
+use Rattle.saber_parts.specs.Entries.{entry_if}
+use Rattle.saber_windowed.specs.Found.{Found, part_of, values_in, lines_for}
+use Rattle.saber_windowed.specs.Open.{seen_windows, found_here, HoldsTask}
+use Rattle.saber_windowed.specs.Entries.{lines_if, entries_by, lines_by, Gave, HandedOn}
+use Rattle.saber_windowed.proofs.Finding.{rising-filter, placed_rising}
+use Rattle.saber_windowed.proofs.Entering.{no_lines, no_entries}
+use Rattle.saber_windowed.proofs.Spread.{seen, rows_among_in, by_number}
+use Rattle.saber_windowed.proofs.Beginning.{none_begun}
+use Rattle.saber_windowed.proofs.Answering.{rows_part, lines_of_rows}
+
+-- what is known of the bounds of a task
+pub record AreBounds (q : Tree) (a z : Mark) (b : Bounds) : Type 0 where
+  pub begun_before : b.begun_before ≡ begun_count (frame q) a
+  pub closed_after : b.closed_after ≡ closed_count (frame q) z
+
+-- the laws that a task's end rests on
+pub record Laws : Type 0 where
+  pub closed_are : ClosedAreCounted
+  pub begun_are : BegunAreCounted
+  pub stay : BegunStay
+  pub within : ClosedWithinBegun
+  pub begins : EndsBeginNone
+  pub span : RowsSpan
+
+module _ (laws : Laws) (q : Tree) (checked : IsChecked q) (e : q.shape ≡ Select) (w : OneWindow q) (fits : Fits (frame q)) (m : Mark) (rows : List Row) (ended : Bool) (h : RowsFit q m rows) (b : Bounds) (given : AreBounds q m (ending ended (mark_after m rows)) b)
+    (es : List (ℕ × List Found)) (sorted : T (is_sorted nat_cmp (seen es))) (holds : HoldsTask q m rows (seen_windows es)) where
+  abbrev z : Mark
+  z = ending ended (mark_after m rows)
+
+  abbrev c : ℕ
+  c = closed_count (frame q) m
+
+  abbrev n : ℕ
+  n = begun_count (frame q) (ending ended (mark_after m rows))
+
+  -- the end begins none of them
+  begins : begun_count (frame q) (mark_after m rows) ≡ n
+  begins = sym (laws.begins (frame q) ended (mark_after m rows)).counts
+
+  abbrev at : ℕ → List Found
+  at i = found_here q m rows i
+
+  within : c ≤ n
+  within = subst (λ k. c ≤ k) begins (le_trans (laws.within (frame q) fits m) (laws.stay (frame q) fits m rows h.ordered))
+
+  ends : (i : ℕ) → n ≤ i → at i ≡ []
+  ends i l = none_begun laws.span laws.stay q w fits m rows h.ordered i (subst (λ k. k ≤ i) (sym begins) l)
+
+  kind : (i : ℕ) → c ≤ i → i < c + (n - c) → Some (kind_in b i) ≡ kind_of (frame q) i m z
+  kind i l r = let up = within in kind_is laws.closed_are laws.begun_are (frame q) fits m z b given.begun_before given.closed_after i l (omega (arith, l, r, up))
+
+  -- the part of window i
+  part_is : (i : ℕ) → part_of (at i) ≡ part_here q i m [] rows
+  unfolding part_here
+  part_is i =
+      let us = filter (has (frame q) i) (placed_after m rows) in
+      rows_part q checked e us ∙ sym (ap (λ s. by_shape s (row_part q us) (group_part q (passing q us)) (pair_part q (m.left + m.right + 0) us)) e)
+
+  entries_are : (wanted : Option Kind → Bool) → entries_by wanted b es ≡ of_kind wanted (frame q) m z (λ i. part_here q i m [] rows)
+  unfolding of_kind
+  entries_are wanted =
+      let given_kind = λ (i : ℕ). cond (wanted (kind_of (frame q) i m z)) (full (part_here q i m [] rows)) None in
+      by_number (λ i r. entry_if (wanted (Some (kind_in b i))) i (part_of r)) (λ i. no_entries (wanted (Some (kind_in b i))) i) at c n within ends es sorted (λ i. rows_among_in es i ∙ holds.at i)
+      ∙ flat_map-from _ (λ i. option_map_or (λ (r : Part). (i, r) ∷ []) (given_kind i) []) c (n - c) (λ i l r. (λ j. entry_if (wanted (kind i l r j)) i (part_is i j)) ∙ entry_is (wanted (kind_of (frame q) i m z)) i (part_here q i m [] rows))
+      ∙ sym (numbered_is given_kind c (n - c))
+
+  here_lines : (i : ℕ) → lines_for i (values_in (at i)) ≡ part_lines q i (part_here q i m [] rows)
+  here_lines i = lines_of_rows q checked e i (filter (has (frame q) i) (placed_after m rows)) (rising-filter (has (frame q) i) (placed_after m rows) (placed_rising m rows)) ∙ ap (part_lines q i) (part_is i)
+
+  abbrev complete : ℕ → Bool
+  complete i = is_complete (kind_of (frame q) i m z)
+
+  lines_are : lines_by b es ≡ flat_map (λ i. part_lines q i (part_here q i m [] rows)) (filter complete (from c (n - c)))
+  lines_are =
+      by_number (λ i r. lines_if (is_complete (Some (kind_in b i))) i r) (λ i. no_lines (is_complete (Some (kind_in b i))) i) at c n within ends es sorted (λ i. rows_among_in es i ∙ holds.at i)
+      ∙ flat_map-from _ (λ i. cond (complete i) (part_lines q i (part_here q i m [] rows)) []) c (n - c) (λ i l r j. cond (is_complete (kind i l r j)) (here_lines i j) [])
+      ∙ flat_filter (λ i. part_lines q i (part_here q i m [] rows)) complete (from c (n - c))
+
+  pub shares_are : (cs ps os : List (ℕ × List Found)) (t : List ℕ) → Gave b es cs ps os t
+      → record { closing = windows_by part_of cs; pending = windows_by part_of ps; opening = windows_by part_of os; lines = t; closed = b.closed_after } ≡ shares_here q m [] rows ended
+  unfolding shares_here
+  shares_are cs ps os t gave =
+      let whole = flat_map (λ i. part_lines q i (part_here q i m [] rows)) (filter complete (from c (n - c))) in
+      λ j. record {
+        closing = (gave.closing ∙ entries_are is_closing) j;
+        pending = (gave.pending ∙ entries_are is_pending) j;
+        opening = (gave.opening ∙ entries_are is_opening) j;
+        lines = (gave.lines ∙ lines_are ∙ sym (ap (λ (f : Frame). cond (has_windows f) whole (selected q rows)) w.has_frame)
+            ∙ ap (λ s. by_shape s (cond (has_windows (frame q)) whole (selected q rows)) whole whole) (sym e)) j;
+        closed = given.closed_after j;
+      }
+
+  -- and what they hand on
+  pub handed_are : (cs ps os : List (ℕ × List Found)) (t : List ℕ) → HandedOn b es cs ps os t
+      → record { closing = windows_by part_of cs; pending = windows_by part_of ps; opening = windows_by part_of os; lines = t; closed = b.closed_after } ≡ handed_here q m [] rows ended
+  unfolding handed_here
+  handed_are cs ps os t gave = λ j. record {
+    closing = (gave.closing ∙ entries_are is_closed) j;
+    pending = (gave.pending ∙ entries_are is_pending) j;
+    opening = (gave.opening ∙ entries_are is_opening) j;
+    lines = gave.none j;
+    closed = given.closed_after j;
+  }

@@ -1,0 +1,13 @@
+pub mod Spotting
+pub mod Filled
+pub mod Entering
+pub mod Showing
+pub mod Putting
+pub mod Finding
+pub mod Task
+pub mod Keyed
+pub mod Answering
+pub mod Spread
+pub mod Beginning
+pub mod Finishing
+pub mod Local

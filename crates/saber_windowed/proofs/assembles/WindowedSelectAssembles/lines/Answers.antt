@@ -1,0 +1,12 @@
+use Rattle.std.proofs.Common.{◌≡◌, ◌++◌, subst}
+use Rattle.std.specs.Result.{OnOk}
+use Rattle.saber_plan.specs.Trees.{tree_of}
+use Rattle.saber_windowed.proofs.Answering.{lines_of_part}
+use Rattle.saber_windowed.proofs.assembles.WindowedSelectAssembles.lines.Goals as goal
+
+pub returns-clause-ok : goal.returns-clause-ok
+returns-clause-ok c =
+    let q = tree_of c.args.self.now in
+    let w = c.has_window.ensures in
+    let out = c.args.out.now.items in
+    subst (λ t. OnOk c.lines.result (c.lines.new.out.items ≡ out ++ t)) (lines_of_part q w.checked w.select c.args.i c.args.part.now c.rises.ensures c.requires) c.lines.ensures.ok

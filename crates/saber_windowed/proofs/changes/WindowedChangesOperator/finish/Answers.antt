@@ -1,0 +1,13 @@
+use Rattle.std.proofs.Common.{◌≡◌, subst}
+use Rattle.saber_plan.specs.declared.plans.Plan.{Plan}
+use Rattle.saber_plan.specs.declared.plans.Shape.TheVariants.{Select}
+use Rattle.saber_plan.specs.Trees.{tree_of}
+use Rattle.saber_fragment.specs.Shown.{shares_of}
+use Rattle.saber_windowed.specs.Found.{part_of}
+use Rattle.saber_windowed.proofs.Local.{hands_between}
+use Rattle.saber_windowed.proofs.changes.WindowedChangesOperator.finish.Goals as goal
+
+pub returns : goal.returns
+returns c s r x y seen whole of =
+    let select = subst (λ (p : Plan). (tree_of p).shape ≡ Select) c.self.view_is c.has_window.ensures.select in
+    hands_between c.handed_are_local.ensures (tree_of c.args.self.now) select (shares_of part_of c.args.draft) s r x y seen of

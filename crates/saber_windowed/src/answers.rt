@@ -1,0 +1,29 @@
+// The answers of a window, from its rows.
+ghost use Rattle.std.specs.Prelude.{◌≡◌, IfOk};
+ghost use Rattle.saber_windowed.specs.Found.{values_in};
+
+use crate::picked::Picked;
+use saber_changes::Answers;
+use saber_plan::NoMemory;
+use std::alloc::Global;
+
+fn copied(alloc: Global, values: &[i128]) -> Result<Vec<i128>, NoMemory>
+    ensures { IfOk result (λ line. line.items ≡ values.now) }
+{
+    let mut line = Vec::new(alloc);
+    line.extend_from_slice(values)?;
+    Ok(line)
+}
+
+impl Picked {
+    /// The values of the items of each row, in the order of the rows.
+    pub(crate) fn answers(&self, alloc: Global) -> Result<Answers, NoMemory>
+        ensures { IfOk result (λ answers. answers ≡ values_in self.now) }
+    {
+        let mut answers = Answers::new(alloc);
+        for spot in &self.spots {
+            answers.push(copied(alloc, &self.numbers[spot.start..spot.end])?)?;
+        }
+        Ok(answers)
+    }
+}

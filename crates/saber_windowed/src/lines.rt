@@ -1,0 +1,59 @@
+// The lines of rows.
+ghost use Rattle.std.specs.Prelude.{◌≡◌, ◌∷◌, ◌++◌, OnOk, OnErr, pos};
+ghost use Rattle.saber_plan.specs.Answers.{line};
+ghost use Rattle.saber_plan.specs.Texts.{Behind};
+ghost use Rattle.saber_cells.specs.Cells.{cells};
+ghost use Rattle.saber_windowed.specs.Found.{lines_for, values_in};
+
+use crate::picked::Picked;
+use saber_cells::{write_cell, write_count};
+use saber_plan::NoMemory;
+
+fn write_cells(out: &mut Vec<u8>, values: &[i128]) -> Result<(), NoMemory>
+    ensures ok { OnOk result (out.new.items ≡ out.old.items ++ cells values.now) }
+    ensures behind { Behind out.old.items out.new.items }
+{
+    for number in values {
+        write_cell(out, *number)?;
+    }
+    Ok(())
+}
+
+fn write_line(out: &mut Vec<u8>, window: u64, values: &[i128]) -> Result<(), NoMemory>
+    ensures ok { OnOk result (out.new.items ≡ out.old.items ++ line (pos window ∷ values.now)) }
+    ensures behind { Behind out.old.items out.new.items }
+{
+    write_count(out, window)?;
+    write_cells(out, values)?;
+    out.push(b'\n')?;
+    Ok(())
+}
+
+impl Picked {
+    fn write_lines(&self, window: u64, out: &mut Vec<u8>) -> Result<(), NoMemory>
+        ensures ok { OnOk result (out.new.items ≡ out.old.items ++ lines_for window (values_in self.now)) }
+        ensures behind { Behind out.old.items out.new.items }
+    {
+        for spot in &self.spots {
+            write_line(out, window, &self.numbers[spot.start..spot.end])?;
+        }
+        Ok(())
+    }
+
+    /// Writes the lines of the rows behind what `out` has, in the order of the rows: each the
+    /// window's number and the values of the items in decimal, with commas between, and LF (this
+    /// project's rule). Where memory is wanting, `out` stays as it was.
+    pub(crate) fn lines(&self, window: u64, out: &mut Vec<u8>) -> Result<(), NoMemory>
+        ensures ok { OnOk result (out.new.items ≡ out.old.items ++ lines_for window (values_in self.now)) }
+        ensures err { OnErr result (out.new.items ≡ out.old.items) }
+    {
+        let start = out.len();
+        match self.write_lines(window, out) {
+            Ok(()) => Ok(()),
+            Err(want) => {
+                out.truncate(start);
+                Err(want)
+            }
+        }
+    }
+}

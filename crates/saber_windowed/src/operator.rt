@@ -1,0 +1,132 @@
+// Selections whose windows print their answers as they are.
+ghost use Rattle.std.specs.Prelude.{◌≡◌, Some};
+ghost use Rattle.saber_plan.specs.declared.plans.Shape.TheVariants as shapes;
+ghost use Rattle.saber_plan.specs.declared.plans.Word.TheVariants as words;
+ghost use Rattle.saber_plan.specs.Trees.{tree_of};
+ghost use Rattle.saber_plan.specs.Checked.{IsChecked};
+
+use crate::picked::Picked;
+use crate::select::WindowedSelect;
+use saber_fragment::{Block, Operator, Piece};
+use saber_laws::{open_goes_on, pieces_print, shares_are_local, shares_make_piece};
+use saber_parts::PartStore;
+use saber_plan::{NoMemory, Plan};
+use std::alloc::Global;
+use std::marker::Model;
+
+/// The operator of a checked selection under RSTREAM: for each window the rows of it that pass
+/// WHERE. Contracts see it as the plan.
+#[derive(Drop)]
+pub struct WindowedOperator<'a> {
+    select: WindowedSelect<'a>,
+}
+
+impl<'a> Model for WindowedOperator<'a> {
+    ghost use Rattle.std.specs.Prelude.{◌≡◌, Some};
+    ghost use Rattle.saber_plan.specs.declared.plans.Word.TheVariants as words;
+    ghost use Rattle.saber_plan.specs.declared.plans.Plan.{Plan};
+    ghost use Rattle.saber_plan.specs.Trees.{tree_of};
+    ghost use Rattle.saber_plan.specs.contracts.predicates.Pred as e;
+    ghost use Rattle.std.specs.Coded.{codes};
+
+    ghost Value = { Plan };
+
+    ghost coded = { Prim.hlevel (codes, e.the_row.coded) };
+
+    ghost view = { λ o. o.select };
+
+    ghost invariant = { λ o. (tree_of o.select).word ≡ Some words.Rstream };
+}
+
+impl<'a> WindowedOperator<'a> {
+    ghost use Rattle.saber_plan.specs.Answers.{alike, way};
+
+    /// The operator of this plan. Takes no memory.
+    pub fn new(plan: &'a Plan) -> WindowedOperator<'a>
+        requires checked { IsChecked (tree_of plan.now) }
+        requires select { (tree_of plan.now).shape ≡ shapes.Select }
+        requires word { (tree_of plan.now).word ≡ Some words.Rstream }
+        ensures { result ≡ plan.now }
+    {
+        WindowedOperator {
+            select: WindowedSelect::new(plan),
+        }
+    }
+
+    // Its windows print their answers as they are.
+    fn prints_alike(&self)
+        ensures { way (tree_of self.now) ≡ alike }
+    {
+        self.select.has_window();
+    }
+}
+
+// A task's piece is made of its own block, so nothing of the block is copied.
+impl Operator for WindowedOperator<'_> {
+    type Draft = Piece<Picked>;
+
+    type Piece = Piece<Picked>;
+
+    type Store = PartStore<Picked>;
+
+    ghost use Rattle.saber_plan.specs.Shares.{shares_between};
+    ghost use Rattle.saber_plan.specs.Tasks.{by_windows};
+    ghost use Rattle.saber_fragment.specs.Shown.{shares_of};
+    ghost use Rattle.saber_parts.specs.Stored.{held_by, staying_by};
+    ghost use Rattle.saber_windowed.specs.Found.{part_of};
+    ghost use Rattle.saber_windowed.specs.Sights.{Gives};
+
+    ghost plan = { tree_of };
+
+    ghost has_seen = { λ o draft s. Gives (tree_of o) (shares_of part_of draft) s };
+
+    ghost held = { λ s. by_windows (held_by part_of s) };
+
+    ghost staying = { λ s. by_windows (staying_by part_of s) };
+
+    ghost has_taken = { λ _ _ _. Unit {0} };
+
+    ghost is_of = { λ o piece r x y. shares_of part_of piece ≡ shares_between (tree_of o) r x y };
+
+    fn start(&self, alloc: Global, own: &Block) -> Result<Piece<Picked>, NoMemory> {
+        self.select.piece_of(alloc, own)
+    }
+
+    fn feed(
+        &self,
+        _alloc: Global,
+        _draft: &mut Piece<Picked>,
+        _block: &Block,
+    ) -> Result<(), NoMemory> {
+        Ok(())
+    }
+
+    fn finish(&self, _alloc: Global, draft: Piece<Picked>) -> Result<Piece<Picked>, NoMemory> {
+        self.select.has_window();
+        shares_are_local();
+        Ok(draft)
+    }
+
+    fn empty_store(&self, alloc: Global) -> PartStore<Picked> {
+        PartStore::new(alloc)
+    }
+
+    fn take_in(
+        &self,
+        _alloc: Global,
+        store: &mut PartStore<Picked>,
+        piece: Piece<Picked>,
+        out: &mut Vec<u8>,
+    ) -> Result<(), NoMemory> {
+        self.prints_alike();
+        open_goes_on();
+        pieces_print();
+        shares_make_piece();
+        store.take_in(&self.select, piece, out)?;
+        Ok(())
+    }
+
+    fn drop_closed(&self, store: &mut PartStore<Picked>) {
+        store.drop_closed();
+    }
+}

@@ -1,0 +1,86 @@
+// What a task of a selection gives, from its own rows.
+ghost use Rattle.std.specs.Prelude.{◌≡◌, [], IfOk};
+ghost use Rattle.saber_plan.specs.Trees.{tree_of};
+ghost use Rattle.saber_plan.specs.Answers.{frame};
+ghost use Rattle.saber_plan.specs.Windows.{mark_after, ending, closed_count, begun_count};
+ghost use Rattle.saber_plan.specs.Given.{RowsFit};
+ghost use Rattle.saber_plan.specs.Shares.{shares_here, handed_here};
+ghost use Rattle.saber_fragment.specs.Shown.{shares_of};
+ghost use Rattle.saber_windowed.specs.Found.{part_of};
+ghost use Rattle.saber_windowed.specs.Open.{seen_windows, HoldsTask};
+
+use crate::gathered::{gather, handed_on};
+use crate::picked::Picked;
+use crate::select::WindowedSelect;
+use saber_fragment::{Block, Piece};
+use saber_laws::{begun_are_counted, begun_stay, closed_are_counted, ends_begin_none, rows_span};
+use saber_parts::Bounds;
+use saber_plan::NoMemory;
+use saber_window::{closed_within_begun, ending};
+use std::alloc::Global;
+use std::collections::BTreeMap;
+
+impl WindowedSelect<'_> {
+    // The rows of the windows that aren't closed before a task, and how many are begun before it
+    // and closed after it.
+    fn found_of(
+        &self,
+        alloc: Global,
+        own: &Block,
+    ) -> Result<(BTreeMap<u64, Picked>, Bounds), NoMemory>
+        requires { RowsFit (tree_of self.now) own.now.before own.now.rows }
+        ensures windows { IfOk result (λ r. HoldsTask (tree_of self.now) own.now.before own.now.rows (seen_windows r.0.entries)) }
+        ensures begun { IfOk result (λ r. r.1.begun_before ≡ begun_count (frame (tree_of self.now)) own.now.before) }
+        ensures closed { IfOk result (λ r. r.1.closed_after
+            ≡ closed_count (frame (tree_of self.now)) (ending own.now.ended (mark_after own.now.before own.now.rows))) }
+    {
+        let before = own.before;
+        let found = self.windows_of(alloc, &before, &own.rows)?;
+        let after = ending(own.ended, &found.1);
+        let bounds = Bounds {
+            begun_before: self.begun_below(&before),
+            closed_after: self.closed_below(&after),
+        };
+        Ok((found.0, bounds))
+    }
+
+    /// The piece of a task where windows print their answers as they are.
+    pub(crate) fn piece_of(&self, alloc: Global, own: &Block) -> Result<Piece<Picked>, NoMemory>
+        requires { RowsFit (tree_of self.now) own.now.before own.now.rows }
+        ensures { IfOk result (λ p. shares_of part_of p ≡ shares_here (tree_of self.now) own.now.before [] own.now.rows own.now.ended) }
+    {
+        self.has_window();
+        begun_are_counted();
+        begun_stay();
+        closed_are_counted();
+        closed_within_begun();
+        ends_begin_none();
+        rows_span();
+        let found = self.found_of(alloc, own)?;
+        let bounds = found.1;
+        // That its windows rise, which the proof needs, is told by the length.
+        let _count = found.0.len();
+        let gathered = gather(alloc, &bounds, found.0)?;
+        Ok(gathered.into_piece(bounds.closed_after))
+    }
+
+    /// The piece of a task where they print what they gain or lose.
+    pub(crate) fn handed_of(&self, alloc: Global, own: &Block) -> Result<Piece<Picked>, NoMemory>
+        requires { RowsFit (tree_of self.now) own.now.before own.now.rows }
+        ensures { IfOk result (λ p. shares_of part_of p ≡ handed_here (tree_of self.now) own.now.before [] own.now.rows own.now.ended) }
+    {
+        self.has_window();
+        begun_are_counted();
+        begun_stay();
+        closed_are_counted();
+        closed_within_begun();
+        ends_begin_none();
+        rows_span();
+        let found = self.found_of(alloc, own)?;
+        let bounds = found.1;
+        // That its windows rise, which the proof needs, is told by the length.
+        let _count = found.0.len();
+        let gathered = handed_on(alloc, &bounds, found.0)?;
+        Ok(gathered.into_piece(bounds.closed_after))
+    }
+}

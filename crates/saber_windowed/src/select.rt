@@ -1,0 +1,163 @@
+// A selection with a window, over its plan.
+ghost use Rattle.std.specs.Prelude.{◌≡◌, ◌≤◌, ◌^◌, [], map, OnOk};
+ghost use Rattle.std.specs.List.{AllByRecursion};
+ghost use Rattle.saber_plan.specs.declared.plans.Shape.TheVariants as shapes;
+ghost use Rattle.saber_plan.specs.Trees.{tree_of};
+ghost use Rattle.saber_plan.specs.Values as v;
+ghost use Rattle.saber_plan.specs.Checked.{IsChecked};
+ghost use Rattle.saber_plan.specs.Windows as w;
+ghost use Rattle.saber_plan.specs.Answers.{frame, item_value};
+ghost use Rattle.saber_plan.specs.Given.{IsRowOf};
+ghost use Rattle.saber_laws.specs.Plans.{OneWindow};
+ghost use Rattle.saber_windowed.specs.Showing.{HasWord, CanShow};
+
+use saber_eval::{holds, one_stream_fits, value};
+use saber_flat::RowRef;
+use saber_laws::{checked_fit, words_have_one_window};
+use saber_plan::{Item, Mark, NoMemory, Plan};
+use saber_window::{Lately, Windows, stamps_fit, step_mark};
+use std::marker::Model;
+
+/// A checked selection with a stream word, over its plan: what each of its operators makes of rows.
+/// Contracts see it as the plan.
+#[derive(Drop)]
+pub(crate) struct WindowedSelect<'a> {
+    plan: &'a Plan,
+    windows: Windows,
+}
+
+impl<'a> Model for WindowedSelect<'a> {
+    ghost use Rattle.std.specs.Prelude.{◌≡◌};
+    ghost use Rattle.saber_plan.specs.declared.plans.Shape.TheVariants as shapes;
+    ghost use Rattle.saber_plan.specs.declared.plans.Plan.{Plan};
+    ghost use Rattle.saber_plan.specs.Trees.{tree_of};
+    ghost use Rattle.saber_plan.specs.Checked.{IsChecked};
+    ghost use Rattle.saber_plan.specs.Answers.{frame};
+    ghost use Rattle.saber_plan.specs.contracts.predicates.Pred as e;
+    ghost use Rattle.std.specs.Coded.{codes};
+    ghost use Rattle.saber_windowed.specs.Showing.{HasWord};
+
+    ghost Value = { Plan };
+
+    ghost coded = { Prim.hlevel (codes, e.the_row.coded) };
+
+    ghost view = { λ s. s.plan.now };
+
+    ghost invariant = { λ s. IsChecked (tree_of s.plan.now) × ((tree_of s.plan.now).shape ≡ shapes.Select) × (s.windows ≡ frame (tree_of s.plan.now)) × HasWord (tree_of s.plan.now) };
+}
+
+// The value of an item over a row. A selection's items are expressions alone.
+fn item_value(item: &Item, row: &RowRef) -> i128
+    requires { CanShow row.now.values item.now }
+    ensures { result ≡ item_value row.now.values [] item.now }
+{
+    match item {
+        Item::Value(e) => value(e, row),
+        Item::Count | Item::Sum(_) | Item::Min(_) | Item::Max(_) => unreachable!(),
+    }
+}
+
+// The values of items over a row, in place of those that `values` has.
+fn put_values(values: &mut Vec<i128>, items: &[Item], row: &RowRef) -> Result<(), NoMemory>
+    requires { AllByRecursion (CanShow row.now.values) items.now }
+    ensures { OnOk result (values.new.items ≡ map (item_value row.now.values []) items.now) }
+{
+    values.clear();
+    for item in items {
+        values.push(item_value(item, row))?;
+    }
+    Ok(())
+}
+
+impl<'a> WindowedSelect<'a> {
+    /// The selection of this plan. Takes no memory.
+    pub(crate) fn new(plan: &'a Plan) -> WindowedSelect<'a>
+        requires checked { IsChecked (tree_of plan.now) }
+        requires select { (tree_of plan.now).shape ≡ shapes.Select }
+        requires word { HasWord (tree_of plan.now) }
+        ensures { result ≡ plan.now }
+    {
+        WindowedSelect {
+            plan,
+            windows: Windows::of_plan(plan),
+        }
+    }
+
+    /// It selects rows of one stream, which has a window that fits.
+    pub(crate) fn has_window(&self)
+        ensures checked { IsChecked (tree_of self.now) }
+        ensures select { (tree_of self.now).shape ≡ shapes.Select }
+        ensures window { OneWindow (tree_of self.now) }
+        ensures fits { w.Fits (frame (tree_of self.now)) }
+    {
+        let _plan = &self.plan;
+        words_have_one_window();
+        checked_fit();
+    }
+
+    // Its items can be worked out over a row of its stream.
+    fn can_show(&self, row: &RowRef)
+        requires { IsRowOf (tree_of self.now) row.now }
+        ensures { AllByRecursion (CanShow row.now.values) (tree_of self.now).items }
+    {
+        self.has_window();
+        one_stream_fits();
+    }
+
+    /// Whether a row passes WHERE.
+    pub(crate) fn passes(&self, row: &RowRef) -> bool
+        requires { IsRowOf (tree_of self.now) row.now }
+        ensures { result ≡ v.passes (tree_of self.now).predicate row.now.values [] }
+    {
+        self.has_window();
+        one_stream_fits();
+        match self.plan.predicate() {
+            Some(predicate) => holds(predicate, row),
+            None => true,
+        }
+    }
+
+    /// Works out the values of the items over a row, in place of those that `values` has.
+    pub(crate) fn work_out(&self, row: &RowRef, values: &mut Vec<i128>) -> Result<(), NoMemory>
+        requires { IsRowOf (tree_of self.now) row.now }
+        ensures { OnOk result (values.new.items ≡ map (item_value row.now.values []) (tree_of self.now).items) }
+    {
+        self.can_show(row);
+        put_values(values, self.plan.items(), row)
+    }
+
+    /// Its windows, to be asked for rows that come one after another.
+    pub(crate) fn lately(&self) -> Lately
+        ensures { result ≡ frame (tree_of self.now) }
+    {
+        self.has_window();
+        Lately::of_plan(self.plan)
+    }
+
+    /// How many windows are closed by the rows that a mark tells of.
+    pub(crate) fn closed_below(&self, mark: &Mark) -> u64
+        ensures { result ≡ w.closed_count (frame (tree_of self.now)) mark.now }
+    {
+        let _plan = &self.plan;
+        self.windows.closed_below(mark)
+    }
+
+    /// How many windows are begun by them.
+    pub(crate) fn begun_below(&self, mark: &Mark) -> u64
+        ensures { result ≡ w.begun_count (frame (tree_of self.now)) mark.now }
+    {
+        let _plan = &self.plan;
+        self.windows.begun_below(mark)
+    }
+
+    /// The mark after one more row.
+    pub(crate) fn step(&self, before: &Mark, row: &RowRef) -> Mark
+        requires row { IsRowOf (tree_of self.now) row.now }
+        requires left { before.now.left ≤ 2 ^ 40 }
+        requires right { before.now.right ≤ 2 ^ 40 }
+        ensures { result ≡ w.step_mark before.now row.now }
+    {
+        stamps_fit();
+        step_mark(before, row)
+    }
+}
