@@ -3,7 +3,7 @@ use Rattle.std.proofs.Common.{◌≡◌, ◌≢◌, ◌≤◌, ℕ, ◌+◌, ◌
 use Rattle.std.proofs.Math.Path.{transport}
 use Rattle.std.specs.Option.{option_map_or}
 use Rattle.std.specs.Prelude.{Bool, Option, Some, None, IfSome, ◌/◌, false}
-use Rattle.saber_io.specs.Outside.{Rose, appended, appended-none}
+use Rattle.saber_io.specs.Outside.{Rose, appended-none}
 use Rattle.saber_io.specs.declared.feeds.EndMark.{EndMark}
 use Rattle.saber_io.specs.declared.feeds.EndMark.TheVariants as marks
 use Rattle.saber_plan.specs.declared.plans.Shape.{Shape}
@@ -16,9 +16,9 @@ use Rattle.saber_plan.specs.Rows.{Read}
 use Rattle.saber_plan.specs.Inputs.{Input, going_on}
 use Rattle.saber_plan.specs.Trees.{Tree}
 use Rattle.saber_plan.specs.Answers.{text, by_shape, frame}
-use Rattle.saber_plan.specs.Tasks.{upto, task_count, run_input}
+use Rattle.saber_plan.specs.Tasks.{upto, run_input}
 use Rattle.saber_plan.specs.Windows.{Fits}
-use Rattle.saber_plan.specs.Needs.{need, wide, first_open}
+use Rattle.saber_plan.specs.Needs.{wide, first_open}
 use Rattle.saber_pipe.specs.Receipts.{Settled}
 use Rattle.saber_laws.specs.Ends.{TasksMakeAll}
 use Rattle.saber_laws.specs.Needs.{NoneIsWide}
@@ -30,7 +30,7 @@ use Rattle.saber_engine.specs.declared.ends.RunEnd.{RunEnd}
 use Rattle.saber_engine.specs.declared.ends.RunEnd.TheVariants.{AllRead, Bad, ReadFault, TooWide, WriteFault, NoMemory}
 use Rattle.saber_engine.specs.Sources.{input_of, each_input, told_by, GaveAll}
 use Rattle.saber_engine.specs.Endings.{MayStop}
-use Rattle.saber_engine.specs.Gives.{Gives, reach_of, all_tasks, cut_off}
+use Rattle.saber_engine.specs.Gives.{Gives}
 use Rattle.saber_chain.specs.Texts.{rows_between, text_of_both}
 use Rattle.saber_chain.specs.Marks.{mark_after, IsWhole}
 use Rattle.saber_chain.specs.declared.chained.Chained.{Chained}

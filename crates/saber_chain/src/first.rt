@@ -1,5 +1,5 @@
 // The first query of a chain, which writes into the pipe.
-ghost use Rattle.std.specs.Prelude.{◌≡◌, [], None, length};
+ghost use Rattle.std.specs.Prelude.{◌≡◌, [], length};
 ghost use Rattle.saber_pipe.specs.Sinks.{written};
 ghost use Rattle.saber_pipe.specs.Receipts.{written_by, mark_by};
 ghost use Rattle.saber_plan.specs.Trees.{tree_of};
@@ -59,7 +59,6 @@ pub(crate) fn run_first<
     R: Threads + Wait + Sync,
 >(job: FirstJob<'a, S, P, G, R>) -> FirstRan<'a, S, P>
     requires checked { IsChecked (tree_of job.plan.now) }
-    requires wordless { (tree_of job.plan.now).word ≡ None }
     requires inputs { length (each_input S.left job.inputs) ≡ length (tree_of job.plan.now).streams }
     requires sizes { SizesFit job.sizes.now }
     requires fresh { written job.sink ≡ [] }

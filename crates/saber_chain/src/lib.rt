@@ -12,8 +12,8 @@
 //!   passed over.
 //! - Not claimed: that both run at once. Where no thread can be had, the caller runs both; that
 //!   with one they do run at once a test with a gate sees.
-//! - Limits: the second plan has one stream, and the input's end closes no window; neither has a
-//!   stream word. At most `2^40` lines go between, by a pipe of 64 items.
+//! - Limits: the second plan has one stream, and the input's end closes no window. At most `2^40`
+//!   lines go between, by a pipe of 64 items.
 #![tactic(auto)]
 
 mod chained;

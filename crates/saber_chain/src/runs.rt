@@ -1,5 +1,5 @@
 // Both queries of a chain at once.
-ghost use Rattle.std.specs.Prelude.{◌≡◌, ◌≢◌, ◌≤◌, ℕ, List, [], None, length, false};
+ghost use Rattle.std.specs.Prelude.{◌≡◌, ◌≢◌, ◌≤◌, ℕ, List, [], length, false};
 ghost use Rattle.saber_io.specs.Outside.{Rose};
 ghost use Rattle.saber_pipe.specs.Pipes.{id_of, IsNew};
 ghost use Rattle.saber_pipe.specs.PipeFeeds.{taken, waiting};
@@ -58,10 +58,8 @@ fn run_both<
     alone: &'a AtomicBool,
 ) -> Chained<S, K>
     requires first { IsChecked (tree_of first.now) }
-    requires first_wordless { (tree_of first.now).word ≡ None }
     requires inputs { length (each_input S.left inputs) ≡ length (tree_of first.now).streams }
     requires second { IsChecked (tree_of second.now) }
-    requires second_wordless { (tree_of second.now).word ≡ None }
     requires one { length (tree_of second.now).streams ≡ 1 }
     requires sizes { SizesFit sizes.now }
     requires new { IsNew pipe.old }
@@ -83,11 +81,9 @@ fn run_both<
         rt,
         move |scope| -> Chained<S, K>
             requires first { IsChecked (tree_of job.plan.now) }
-            requires first_wordless { (tree_of job.plan.now).word ≡ None }
             requires inputs { length (each_input S.left job.inputs) ≡ length (tree_of job.plan.now).streams }
             requires fresh { written job.sink ≡ [] }
             requires second { IsChecked (tree_of second.now) }
-            requires second_wordless { (tree_of second.now).word ≡ None }
             requires one { length (tree_of second.now).streams ≡ 1 }
             requires sizes { SizesFit sizes.now }
             requires same { job.sizes.now ≡ sizes.now }
@@ -104,7 +100,6 @@ fn run_both<
                 promise,
                 move || -> FirstRan<'_, S, P>
                     requires checked { IsChecked (tree_of job.plan.now) }
-                    requires wordless { (tree_of job.plan.now).word ≡ None }
                     requires inputs { length (each_input S.left job.inputs) ≡ length (tree_of job.plan.now).streams }
                     requires sizes { SizesFit job.sizes.now }
                     requires fresh { written job.sink ≡ [] }
@@ -152,10 +147,8 @@ pub fn chain<
     gate: &G,
 ) -> Chained<S, K>
     requires first { IsChecked (tree_of first.now) }
-    requires first_wordless { (tree_of first.now).word ≡ None }
     requires inputs { length (each_input S.left inputs) ≡ length (tree_of first.now).streams }
     requires second { IsChecked (tree_of second.now) }
-    requires second_wordless { (tree_of second.now).word ≡ None }
     requires one { length (tree_of second.now).streams ≡ 1 }
     requires sizes { SizesFit sizes.now }
     requires open_end { sizes.now.flush ≡ false }

@@ -55,7 +55,6 @@ pub(crate) fn run_second<'a, K: Sink + Send, G: Gate + Sync, P: PipeName, R: Thr
     gate: &G,
 ) -> SecondRan<'a, K, R, P>
     requires checked { IsChecked (tree_of plan.now) }
-    requires wordless { (tree_of plan.now).word ≡ None }
     requires one { length (tree_of plan.now).streams ≡ 1 }
     requires sizes { SizesFit sizes.now }
     requires fresh { waiting feed ≡ taken feed }

@@ -14,7 +14,7 @@ use Rattle.saber_check.proofs.NoFaults.{before, behind}
 use Rattle.saber_check.proofs.ColumnLaws.{AreDeclared}
 use Rattle.saber_check.proofs.ItemLaws.{keys_law, few_items, items_fit}
 use Rattle.saber_check.proofs.ConditionLaws.{predicate_fits}
-use Rattle.saber_check.proofs.PartitionLaws.{partition_fits, lists_fit, word_fits, is_wordless}
+use Rattle.saber_check.proofs.PartitionLaws.{partition_fits, lists_fit, word_fits}
 use Rattle.saber_check.proofs.StreamLaws.{source_passes, second_passes, streams_fit, columns_fit}
 
 -- none of a query's parts has a fault
@@ -66,6 +66,3 @@ plan_checked q e =
       lists = l.1;
       predicate = predicate_fits q (where_at q) d h.predicate;
     }
-
-pub plan_wordless : (q : Query) → faults q ≡ [] → (plan_tree q).word ≡ None
-plan_wordless q e = is_wordless q (from_at q + 1) (all_pass q e).first

@@ -1,5 +1,5 @@
 -- Each fault of a query stands at one of its words.
-use Rattle.std.proofs.Common.{◌≡◌, ℕ, ◌+◌, ◌*◌, ◌<◌, ◌≤◌, List, [], ◌∷◌, ◌++◌, Contains, Option, Some, None, Bool, true, false, ◌&&◌, ◌||◌, not, ◌==◌, take, refl, arith, is_some, option_and_then}
+use Rattle.std.proofs.Common.{◌≡◌, ℕ, ◌+◌, ◌*◌, ◌<◌, ◌≤◌, List, [], ◌∷◌, ◌++◌, Contains, Option, Some, None, Bool, true, false, ◌&&◌, not, ◌==◌, take, refl, arith, is_some, option_and_then}
 use Rattle.std.specs.List.{AllByRecursion}
 use Rattle.std.specs.Option.{option_map_or}
 use Rattle.saber_query.specs.declared.fault.Cause.{Cause}
@@ -24,7 +24,7 @@ use Rattle.saber_check.specs.Least.{row, each}
 use Rattle.saber_check.specs.Widths.{name_width, second_width, column_width, factor_width, prod_width, term_width, expr_width, item_width, measure_width, window_width, source_width, second_source_width, test_width, ands_width, ors_width, where_width, decl_width, group_width, span}
 use Rattle.saber_check.specs.Names.{names, decls, same, among, names_stream, is_declared, is_unknown_stream, is_unknown_column, is_ambiguous}
 use Rattle.saber_check.specs.Bounds.{within, factor_bound, product_bound, product_faults, sum_faults, too_wide, factors, prods, products}
-use Rattle.saber_check.specs.Faults.{column_faults, factor_faults, prod_faults, expr_faults, content_faults, item_faults, column_name_faults, decl_faults, measure_faults, sizes_faults, window_faults, source_faults, second_faults, is_sum_wide, is_group, is_key, is_join, is_aggregate, is_out, most_windows, is_overlapping, has_windows, may_partition, measure_keys, partition_of, among_columns, is_apart, test_faults, ands_faults, ors_faults, tests_faults, key_faults, group_faults, keys, items, select_at, from_at, second_at, where_at, group_at, faults, width}
+use Rattle.saber_check.specs.Faults.{column_faults, factor_faults, prod_faults, expr_faults, content_faults, item_faults, column_name_faults, decl_faults, measure_faults, sizes_faults, window_faults, source_faults, second_faults, is_sum_wide, is_group, is_key, is_join, is_aggregate, is_out, most_windows, is_overlapping, has_windows, may_partition, measure_keys, among_columns, is_apart, test_faults, ands_faults, ors_faults, tests_faults, key_faults, group_faults, keys, items, select_at, from_at, second_at, where_at, group_at, faults, width}
 use Rattle.saber_check.proofs.FirstLaws.{every}
 
 -- the faults stand before this word
@@ -176,15 +176,14 @@ window q i w =
 windowed : (q : Query) (i : ℕ) (s : List ℕ) (o : Option Window) →
     Before (i + (1 + window_width o)) (row (not (is_declared q s)) i cause.UnknownStream ++ row (is_some o && not (has_windows q)) (i + 1) cause.Shape ++ row (has_windows q && not (is_some o)) i cause.Shape
     ++ row (is_some (option_and_then (λ (w : Window). measure_keys w.measure) o) && not (may_partition q)) (i + 1) cause.Shape
-    ++ row (is_some q.word) i cause.Shape ++ option_map_or (window_faults q (i + 1)) o [])
+    ++ option_map_or (window_faults q (i + 1)) o [])
 windowed q i s None =
     let n = i + 1 in
-    append (append (append (append (append (at_row n i (not (is_declared q s)) cause.UnknownStream (omega arith)) (nothing n)) (at_row n i (has_windows q && true) cause.Shape (omega arith))) (nothing n))
-    (at_row n i (is_some q.word) cause.Shape (omega arith))) (nothing n)
+    append (append (append (append (at_row n i (not (is_declared q s)) cause.UnknownStream (omega arith)) (nothing n)) (at_row n i (has_windows q && true) cause.Shape (omega arith))) (nothing n)) (nothing n)
 windowed q i s (Some w) =
     let n = i + (1 + (5 + measure_width w.measure)) in
-    append (append (append (append (append (at_row n i (not (is_declared q s)) cause.UnknownStream (omega arith)) (at_row n (i + 1) (not (has_windows q)) cause.Shape (omega arith))) (at_row n i (has_windows q && false) cause.Shape (omega arith)))
-    (at_row n (i + 1) (is_some (measure_keys w.measure) && not (may_partition q)) cause.Shape (omega arith))) (at_row n i (is_some q.word) cause.Shape (omega arith))) (more n (window q (i + 1) w) (omega arith))
+    append (append (append (append (at_row n i (not (is_declared q s)) cause.UnknownStream (omega arith)) (at_row n (i + 1) (not (has_windows q)) cause.Shape (omega arith))) (at_row n i (has_windows q && false) cause.Shape (omega arith)))
+    (at_row n (i + 1) (is_some (measure_keys w.measure) && not (may_partition q)) cause.Shape (omega arith))) (more n (window q (i + 1) w) (omega arith))
 
 source : (q : Query) (i : ℕ) (s : Source) → Before (i + source_width s) (source_faults q i s)
 unfolding source_faults

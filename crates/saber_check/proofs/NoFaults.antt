@@ -35,13 +35,12 @@ rows_and true b i j x y fs e = cc
 rows_and false true i j x y fs e = cc
 rows_and false false i j x y fs e = (refl, refl, e)
 
-pub five_rows_and : (a b c d e : Bool) (i j k l m : ℕ) (x y z w v : Cause) (fs : List Fault) → row a i x ++ row b j y ++ row c k z ++ row d l w ++ row e m v ++ fs ≡ [] → (a ≡ false) × (b ≡ false) × (c ≡ false) × (d ≡ false) × (e ≡ false) × (fs ≡ [])
-five_rows_and true b c d e i j k l m x y z w v fs h = cc
-five_rows_and false true c d e i j k l m x y z w v fs h = cc
-five_rows_and false false true d e i j k l m x y z w v fs h = cc
-five_rows_and false false false true e i j k l m x y z w v fs h = cc
-five_rows_and false false false false true i j k l m x y z w v fs h = cc
-five_rows_and false false false false false i j k l m x y z w v fs h = (refl, refl, refl, refl, refl, h)
+pub four_rows_and : (a b c d : Bool) (i j k l : ℕ) (x y z w : Cause) (fs : List Fault) → row a i x ++ row b j y ++ row c k z ++ row d l w ++ fs ≡ [] → (a ≡ false) × (b ≡ false) × (c ≡ false) × (d ≡ false) × (fs ≡ [])
+four_rows_and true b c d i j k l x y z w fs h = cc
+four_rows_and false true c d i j k l x y z w fs h = cc
+four_rows_and false false true d i j k l x y z w fs h = cc
+four_rows_and false false false true i j k l x y z w fs h = cc
+four_rows_and false false false false i j k l x y z w fs h = (refl, refl, refl, refl, h)
 
 pub first_part : {X : Type 0} (width : X → ℕ) (faults : ℕ → ℕ → X → List Fault) (k i : ℕ) (x : X) (xs : List X) → each width faults k i (x ∷ xs) ≡ [] → faults k i x ≡ []
 unfolding each

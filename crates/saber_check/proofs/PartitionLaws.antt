@@ -13,7 +13,7 @@ use Rattle.saber_query.specs.declared.tree.Source.{Source}
 use Rattle.saber_query.specs.declared.tree.StreamWord.{StreamWord}
 use Rattle.saber_query.specs.Trees.{Query}
 use Rattle.saber_check.specs.Faults.{any_aggregate, items, keys, is_join, is_group, measure_keys, may_partition, measure_faults, window_faults, source_faults}
-use Rattle.saber_check.specs.Plans.{plan_place, plan_measure, plan_window, plan_stream, plan_shape, plan_word, streams, places, plan_partition, plan_tree}
+use Rattle.saber_check.specs.Plans.{plan_place, plan_measure, plan_window, plan_stream, plan_shape, plan_word, streams, places, plan_partition}
 use Rattle.saber_check.proofs.NoFaults.{is_true}
 use Rattle.saber_check.proofs.ColumnLaws.{AreDeclared}
 use Rattle.saber_check.proofs.ItemLaws.{PlacesFit, places_fit}
@@ -110,7 +110,3 @@ word_fits q i f = elim (q.second) as (λ (o : Option Source). q.second ≡ o →
   | None ↦ λ n. alone_fits q i (is_group q) refl n f q.word refl
   | Some s ↦ λ n. tt
 ] refl
-
--- a query that is answered has none
-pub is_wordless : (q : Query) (i : ℕ) → source_faults q i q.from ≡ [] → (plan_tree q).word ≡ None
-is_wordless q i f = ap (λ (o : Option StreamWord). option_map plan_word o) (none_there q.word (source_passes q i q.from f).answered)

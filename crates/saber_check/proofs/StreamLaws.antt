@@ -17,9 +17,9 @@ use Rattle.saber_query.specs.Trees.{Query}
 use Rattle.saber_check.specs.Least.{row, each}
 use Rattle.saber_check.specs.Widths.{measure_width, decl_width, name_width}
 use Rattle.saber_check.specs.Names.{same, names, decls, names_stream, is_declared}
-use Rattle.saber_check.specs.Faults.{is_out, most_windows, is_overlapping, is_join, measure_faults, sizes_faults, window_faults, has_windows, may_partition, is_unanswered, partition_of, source_faults, second_faults, second_part_faults, same_measure, is_apart, is_group, is_selection, column_name_faults, decl_faults}
+use Rattle.saber_check.specs.Faults.{is_out, most_windows, is_overlapping, is_join, measure_faults, sizes_faults, window_faults, has_windows, may_partition, partition_of, source_faults, second_faults, second_part_faults, same_measure, is_apart, is_group, is_selection, column_name_faults, decl_faults}
 use Rattle.saber_check.specs.Plans.{columns, plan_measure, plan_window, plan_stream, plan_shape, streams}
-use Rattle.saber_check.proofs.NoFaults.{before, behind, passes, rows_and, five_rows_and, first_part, other_parts, few, is_true, neither, not_both}
+use Rattle.saber_check.proofs.NoFaults.{before, behind, passes, rows_and, four_rows_and, first_part, other_parts, few, is_true, neither, not_both}
 
 -- ---- windows
 
@@ -70,14 +70,13 @@ pub record SourcePasses (q : Query) (i : ℕ) (s : Source) : Type 0 where
   pub bare : (is_some s.window && not (has_windows q)) ≡ false
   pub windowed : (has_windows q && not (is_some s.window)) ≡ false
   pub parted : (is_some (partition_of s) && not (may_partition q)) ≡ false
-  pub answered : is_unanswered q ≡ false
   pub fits : option_map_or (window_faults q (i + 1)) s.window [] ≡ []
 
 pub source_passes : (q : Query) (i : ℕ) (s : Source) → source_faults q i s ≡ [] → SourcePasses q i s
 unfolding source_faults
 source_passes q i s e =
-    let h = five_rows_and (not (is_declared q s.name)) (is_some s.window && not (has_windows q)) (has_windows q && not (is_some s.window)) (is_some (partition_of s) && not (may_partition q)) (is_unanswered q) i (i + 1) i (i + 1) i cause.UnknownStream cause.Shape cause.Shape cause.Shape cause.Shape (option_map_or (window_faults q (i + 1)) s.window []) e in
-    record { declared = is_true (is_declared q s.name) h.0; bare = h.1; windowed = h.2; parted = h.3; answered = h.4; fits = h.5 }
+    let h = four_rows_and (not (is_declared q s.name)) (is_some s.window && not (has_windows q)) (has_windows q && not (is_some s.window)) (is_some (partition_of s) && not (may_partition q)) i (i + 1) i (i + 1) cause.UnknownStream cause.Shape cause.Shape cause.Shape (option_map_or (window_faults q (i + 1)) s.window []) e in
+    record { declared = is_true (is_declared q s.name) h.0; bare = h.1; windowed = h.2; parted = h.3; fits = h.4 }
 
 pub second_passes : (q : Query) (i : ℕ) (s : Source) → second_faults q i s ≡ [] → (is_apart q.from.window s.window ≡ false) × (source_faults q i s ≡ [])
 unfolding second_faults

@@ -223,10 +223,6 @@ has_windows q = not (is_selection q) || is_some q.word
 abbrev pub may_partition : Query → Bool
 may_partition q = is_group q && not (is_some q.word)
 
--- a stream word: nothing answers such queries as yet
-abbrev pub is_unanswered : Query → Bool
-is_unanswered q = is_some q.word
-
 -- a stream of FROM: declared, with a window where the query's streams have windows, and without one where not
 abbrev pub stream_faults : Query → ℕ → Source → List Fault
 stream_faults q i s =
@@ -234,7 +230,6 @@ stream_faults q i s =
     ++ row (is_some s.window && not (has_windows q)) (i + 1) cause.Shape
     ++ row (has_windows q && not (is_some s.window)) i cause.Shape
     ++ row (is_some (partition_of s) && not (may_partition q)) (i + 1) cause.Shape
-    ++ row (is_unanswered q) i cause.Shape
 
 -- and what is wrong with its window
 unfoldable pub source_faults : Query → ℕ → Source → List Fault

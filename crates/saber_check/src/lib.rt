@@ -12,8 +12,7 @@
 //!   (`specs/Faults.antt` lists all), or want of memory. The plan is checked (`IsChecked` of
 //!   `saber_plan`), which is what crates above rest on. Laws: a text has one plan or one first
 //!   fault, and not both; its first 65,537 bytes tell which.
-//! - Limits: docs/LANGUAGE.md has those of queries. Stream words are refused as `Shape`: no
-//!   operator answers them.
+//! - Limits: docs/LANGUAGE.md has those of queries.
 #![tactic(auto)]
 
 mod bounds;

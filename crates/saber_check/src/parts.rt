@@ -11,7 +11,7 @@ use crate::bounds::{column_words, is_sum_wide};
 use crate::names::{is_among, is_declared, is_named};
 use crate::shape::{
     is_aggregate, is_among_columns, is_apart, is_bare, is_group, is_join, is_key, is_out,
-    is_overlapping, is_parted_amiss, is_stray, is_unanswered, most_windows, same_column,
+    is_overlapping, is_parted_amiss, is_stray, most_windows, same_column,
 };
 use crate::walk::Walk;
 use saber_query::{Cause, Column, Decl, Expr, Item, Keys, Measure, Name, Select, Source, Window};
@@ -169,7 +169,6 @@ impl Walk {
         self.report(is_stray(query, source), start + 1, Cause::Shape);
         self.report(is_bare(query, source), start, Cause::Shape);
         self.report(is_parted_amiss(query, source), start + 1, Cause::Shape);
-        self.report(is_unanswered(query), start, Cause::Shape);
     }
 
     #[tactic(auto, using(crate::proofs::Lemmas::walking), unfolding(crate::specs::Faults::source_faults))]

@@ -1,5 +1,5 @@
 // The check of a query.
-ghost use Rattle.std.specs.Prelude.{◌≡◌, IfOk, IfErr, None};
+ghost use Rattle.std.specs.Prelude.{◌≡◌, IfOk, IfErr};
 ghost use Rattle.saber_plan.specs.Trees.{tree_of};
 ghost use Rattle.saber_plan.specs.Checked.{IsChecked};
 ghost use Rattle.saber_query.specs.Parsed.{IsParsed};
@@ -20,7 +20,6 @@ pub fn check(alloc: Global, query: &Query) -> Result<Plan, QueryFault>
     ensures faultless { IfOk result (λ p. IsFaultless (query_of query.now.select)) }
     ensures plan { IfOk result (λ p. tree_of p ≡ plan_tree (query_of query.now.select)) }
     ensures checked { IfOk result (λ p. IsChecked (tree_of p)) }
-    ensures wordless { IfOk result (λ p. (tree_of p).word ≡ None) }
     ensures fault { IfErr result (IsFaultOf query.now) }
 {
     let tree = query.select();

@@ -3,7 +3,7 @@ ghost use Rattle.std.specs.Prelude.{◌≡◌, ◌≤◌, ◌^◌, ◌&&◌, ◌
 ghost use Rattle.std.specs.Option.{option_map_or};
 ghost use Rattle.saber_query.specs.Trees.{query_of};
 ghost use Rattle.saber_query.specs.declared.tree.Factor.TheVariants as f;
-ghost use Rattle.saber_check.specs.Faults.{any_aggregate, is_aggregate, is_join, is_group, is_selection, same_measure, is_apart, is_out, most_windows, is_overlapping, has_windows, may_partition, is_unanswered, measure_keys, partition_of, is_range, own_name, is_of_one, same_second, same_words, same_column, among_columns, is_listed, is_column_key, is_key, keys};
+ghost use Rattle.saber_check.specs.Faults.{any_aggregate, is_aggregate, is_join, is_group, is_selection, same_measure, is_apart, is_out, most_windows, is_overlapping, has_windows, may_partition, measure_keys, partition_of, is_range, own_name, is_of_one, same_second, same_words, same_column, among_columns, is_listed, is_column_key, is_key, keys};
 
 use crate::names::{is_of_first, is_of_second};
 use saber_plan::overlap;
@@ -110,13 +110,6 @@ pub(crate) fn is_parted_amiss(query: &Select, source: &Source) -> bool
     ensures { result ≡ is_some (partition_of source.now) && not (may_partition (query_of query.now)) }
 {
     is_partitioned(source) && !may_partition(query)
-}
-
-/// A stream word: nothing answers such queries as yet.
-pub(crate) fn is_unanswered(query: &Select) -> bool
-    ensures { result ≡ is_unanswered (query_of query.now) }
-{
-    query.word.is_some()
 }
 
 fn is_range(measure: &Measure) -> bool

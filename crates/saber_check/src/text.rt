@@ -1,5 +1,5 @@
 // Texts as plans.
-ghost use Rattle.std.specs.Prelude.{◌≡◌, IfOk, IfErr, None};
+ghost use Rattle.std.specs.Prelude.{IfOk, IfErr};
 ghost use Rattle.saber_plan.specs.Trees.{tree_of};
 ghost use Rattle.saber_plan.specs.Checked.{IsChecked};
 ghost use Rattle.saber_check.specs.Texts.{HasPlan, IsFaultIn};
@@ -14,7 +14,6 @@ use std::alloc::Global;
 pub fn plan_of(alloc: Global, text: &[u8]) -> Result<Plan, QueryFault>
     ensures plan { IfOk result (λ p. HasPlan text.now (tree_of p)) }
     ensures checked { IfOk result (λ p. IsChecked (tree_of p)) }
-    ensures wordless { IfOk result (λ p. (tree_of p).word ≡ None) }
     ensures fault { IfErr result (IsFaultIn text.now) }
 {
     let query = parse(alloc, text)?;

@@ -1,12 +1,14 @@
 -- What a chain comes to: two queries, of which the second one's rows are the lines of the first.
-use Rattle.std.specs.Prelude.{Bool, ◌≡◌, ◌≢◌, ◌⊎◌, ℕ, List, [], ◌∷◌, ◌++◌, length, Option, Some, IfSome, false}
+use Rattle.std.specs.Prelude.{Bool, ◌≡◌, ◌≢◌, ◌⊎◌, ℕ, List, [], ◌∷◌, ◌++◌, length, Option, Some, IfSome, true, false}
 use Rattle.saber_io.specs.Outside.{Told, Closed, appended, content_in}
 use Rattle.saber_plan.specs.declared.rows.Side.{Side}
-use Rattle.saber_plan.specs.declared.plans.Shape.TheVariants.{Select, Join}
+use Rattle.saber_plan.specs.declared.plans.Shape.TheVariants.{Join}
 use Rattle.saber_plan.specs.declared.sizes.Sizes.{Sizes}
 use Rattle.saber_plan.specs.Sizes.{limits_of}
 use Rattle.saber_plan.specs.Inputs.{going_on}
 use Rattle.saber_plan.specs.Trees.{Tree}
+use Rattle.saber_plan.specs.Windows.{has_windows}
+use Rattle.saber_plan.specs.Answers.{frame}
 use Rattle.saber_check.specs.Texts.{HasPlan}
 use Rattle.saber_words.specs.Chain.{AskedChain}
 use Rattle.saber_engine.specs.declared.ends.RunEnd.{RunEnd}
@@ -41,13 +43,14 @@ pub record HasPlans (files : Contents) (a : AskedChain) (p q : Tree) : Type 0 wh
 abbrev pub HasPlansTold : Option Told → AskedChain → Tree → Tree → Type 0
 HasPlansTold told a p q = IfSome told (λ t. HasPlans t.contents a p q)
 
--- The first one's lines begin with the numbers of their windows, which rise: it is no selection, and has no PARTITION BY.
+-- The first one's lines begin with the numbers of their windows, which rise: it has windows, as all have but a selection without a stream word, and no
+-- PARTITION BY.
 pub record MayBeFirst (p : Tree) : Type 0 where
-  pub has_windows : p.shape ≢ Select
+  pub windowed : has_windows (frame p) ≡ true
   pub in_order : p.partition ≡ []
 
 abbrev pub MayNotBeFirst : Tree → Type 0
-MayNotBeFirst p = (p.shape ≡ Select) ⊎ (p.partition ≢ [])
+MayNotBeFirst p = (has_windows (frame p) ≡ false) ⊎ (p.partition ≢ [])
 
 -- And they are one stream, so the second one is no join.
 pub record IsChainable (p q : Tree) : Type 0 where

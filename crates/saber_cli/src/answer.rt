@@ -1,5 +1,5 @@
 // A run over sources that are open.
-ghost use Rattle.std.specs.Prelude.{◌≡◌, ◌≢◌, ℕ, List, IfSome, length, None};
+ghost use Rattle.std.specs.Prelude.{◌≡◌, ◌≢◌, ℕ, List, IfSome, length};
 ghost use Rattle.saber_io.specs.Outside.{Rose, appended};
 ghost use Rattle.saber_plan.specs.Trees.{tree_of};
 ghost use Rattle.saber_plan.specs.Checked.{IsChecked};
@@ -66,7 +66,6 @@ pub(crate) fn answer<S: Source, K: Sink + Send, G: Gate + Sync, R: Threads + Wai
     gate: &G,
 ) -> Ran<K>
     requires checked { IsChecked (tree_of plan.now) }
-    requires wordless { (tree_of plan.now).word ≡ None }
     requires inputs { length (each_input S.left inputs.old) ≡ length (tree_of plan.now).streams }
     requires sizes { SizesFit sizes.now }
     ensures written { (out : List ℕ) × (K.written result.sink ≡ appended (K.written sink) out)

@@ -1,5 +1,5 @@
 // A chain over sources that are open.
-ghost use Rattle.std.specs.Prelude.{◌≡◌, ◌≢◌, ℕ, List, length, false, None};
+ghost use Rattle.std.specs.Prelude.{◌≡◌, ◌≢◌, ℕ, List, length, false};
 ghost use Rattle.saber_io.specs.Outside.{Rose};
 ghost use Rattle.saber_plan.specs.Trees.{tree_of};
 ghost use Rattle.saber_plan.specs.Checked.{IsChecked};
@@ -85,10 +85,8 @@ pub(crate) fn answer_chain<
     gate: &G,
 ) -> RanBoth<S, K>
     requires first { IsChecked (tree_of first.now) }
-    requires first_wordless { (tree_of first.now).word ≡ None }
     requires inputs { length (each_input S.left inputs) ≡ length (tree_of first.now).streams }
     requires second { IsChecked (tree_of second.now) }
-    requires second_wordless { (tree_of second.now).word ≡ None }
     requires one { length (tree_of second.now).streams ≡ 1 }
     requires sizes { SizesFit sizes.now }
     requires open_end { sizes.now.flush ≡ false }

@@ -1,5 +1,5 @@
 // The command `chain`: two queries over row files.
-ghost use Rattle.std.specs.Prelude.{◌≡◌, ◌≢◌, ℕ, List, length, false, None};
+ghost use Rattle.std.specs.Prelude.{◌≡◌, ◌≢◌, ℕ, List, length, false};
 ghost use Rattle.saber_io.specs.Outside.{Rose, appended};
 ghost use Rattle.saber_plan.specs.Trees.{tree_of};
 ghost use Rattle.saber_plan.specs.Checked.{IsChecked};
@@ -74,9 +74,7 @@ fn chain_rows<F: Files, K: Sink + Send + Drop, G: Gate + Sync, R: Threads + Wait
 where
     F::Src: Send + Drop,
     requires first { IsChecked (tree_of first.now) }
-    requires first_wordless { (tree_of first.now).word ≡ None }
     requires second { IsChecked (tree_of second.now) }
-    requires second_wordless { (tree_of second.now).word ≡ None }
     requires one { length (tree_of second.now).streams ≡ 1 }
     requires like { length (tree_of first.now).streams ≡ length (row_names (asked_run command.now)) }
     requires sizes { SizesFit sizes.now }

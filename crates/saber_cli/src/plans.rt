@@ -1,5 +1,5 @@
 // From the text of a query to the plan that is run.
-ghost use Rattle.std.specs.Prelude.{◌≡◌, IfOk, IfErr, None};
+ghost use Rattle.std.specs.Prelude.{◌≡◌, IfOk, IfErr};
 ghost use Rattle.saber_plan.specs.Trees.{tree_of};
 ghost use Rattle.saber_plan.specs.Checked.{IsChecked};
 ghost use Rattle.saber_check.specs.Texts.{HasPlan};
@@ -25,7 +25,6 @@ pub(crate) fn refused(fault: QueryFault) -> Outcome
 pub(crate) fn planned(alloc: Global, text: &[u8]) -> Result<Plan, Outcome>
     ensures plan { IfOk result (λ plan. HasPlan text.now (tree_of plan)) }
     ensures checked { IfOk result (λ plan. IsChecked (tree_of plan)) }
-    ensures wordless { IfOk result (λ plan. (tree_of plan).word ≡ None) }
     ensures fault { IfErr result (IsTextFault text.now) }
 {
     match plan_of(alloc, text) {

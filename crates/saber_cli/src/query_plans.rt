@@ -3,6 +3,8 @@ ghost use Rattle.std.specs.Prelude.{◌≡◌, ◌≢◌, ℕ, List, IfOk, IfErr
 ghost use Rattle.saber_io.specs.Outside.{Rose};
 ghost use Rattle.saber_plan.specs.Trees.{tree_of};
 ghost use Rattle.saber_plan.specs.Checked.{IsChecked};
+ghost use Rattle.saber_plan.specs.Windows.{has_windows};
+ghost use Rattle.saber_plan.specs.Answers.{frame};
 ghost use Rattle.saber_words.specs.Chain.{asked_chain};
 ghost use Rattle.saber_notes.specs.declared.outcome.InputFile.{InputFile};
 ghost use Rattle.saber_cli.specs.Outcomes.{IsClean, IsFileFault, IsOfPlan, IsOfPlans};
@@ -16,6 +18,10 @@ use crate::laws::laws;
 use crate::plans::planned;
 use crate::queries::query_text;
 use saber_io::Files;
+use saber_laws::{
+    groups_have_one_window, joins_have_two_windows, selections_have_no_window,
+    words_have_one_window,
+};
 use saber_notes::{InputFile, Outcome};
 use saber_plan::{Plan, Shape};
 use saber_words::Chain;
@@ -25,7 +31,6 @@ use std::alloc::Global;
 fn query_plan<F: Files>(alloc: Global, files: &mut F, name: &str) -> Result<Plan, Outcome>
     ensures plan { IfOk result (λ plan. IfSome (F.told files.old) (λ t. IsPlanned t.contents name.now (tree_of plan))) }
     ensures checked { IfOk result (λ plan. IsChecked (tree_of plan)) }
-    ensures wordless { IfOk result (λ plan. (tree_of plan).word ≡ None) }
     ensures lacks { IfErr result (λ o. IfSome (F.told files.old) (λ t. LacksPlan t.contents name.now o)) }
     ensures kinds { IfErr result IsOfPlan }
     ensures uses { Uses InputFile.Query name.now (outcome_of result) (F.told files.old) (F.told files.new) }
@@ -56,12 +61,32 @@ fn as_second(outcome: Outcome) -> Outcome
     }
 }
 
+// Whether a query has windows.
+fn has_windows(plan: &Plan) -> bool
+    requires { IsChecked (tree_of plan.now) }
+    ensures { result ≡ has_windows (frame (tree_of plan.now)) }
+{
+    selections_have_no_window();
+    words_have_one_window();
+    groups_have_one_window();
+    joins_have_two_windows();
+    match plan.shape() {
+        Shape::Select => match plan.word() {
+            None => false,
+            Some(_) => true,
+        },
+        Shape::Group => true,
+        Shape::Join => true,
+    }
+}
+
 // Whether a query's lines begin with the numbers of windows, which rise.
 fn may_be_first(plan: &Plan) -> bool
+    requires { IsChecked (tree_of plan.now) }
     ensures is { result ≡ true → MayBeFirst (tree_of plan.now) }
     ensures isnt { result ≡ false → MayNotBeFirst (tree_of plan.now) }
 {
-    if plan.shape() == Shape::Select {
+    if !has_windows(plan) {
         return false;
     }
     plan.partition().is_empty()
@@ -69,6 +94,7 @@ fn may_be_first(plan: &Plan) -> bool
 
 // Why two plans make no chain over so many row files.
 fn misfit(first: &Plan, second: &Plan, files: u64) -> Option<Outcome>
+    requires { IsChecked (tree_of first.now) }
     ensures some { IfSome result (IsMisfit (tree_of first.now) (tree_of second.now) files) }
     ensures chains { result ≡ None → IsChainable (tree_of first.now) (tree_of second.now) }
     ensures like { result ≡ None → length (tree_of first.now).streams ≡ files }
@@ -111,9 +137,7 @@ pub(crate) fn chain_plans<F: Files>(
 ) -> Result<Plans, Outcome>
     ensures plans { IfOk result (λ plans. HasPlansTold (F.told files.old) (asked_chain command.now) (tree_of plans.first) (tree_of plans.second)) }
     ensures first { IfOk result (λ plans. IsChecked (tree_of plans.first)) }
-    ensures first_wordless { IfOk result (λ plans. (tree_of plans.first).word ≡ None) }
     ensures second { IfOk result (λ plans. IsChecked (tree_of plans.second)) }
-    ensures second_wordless { IfOk result (λ plans. (tree_of plans.second).word ≡ None) }
     ensures chains { IfOk result (λ plans. IsChainable (tree_of plans.first) (tree_of plans.second)) }
     ensures like { IfOk result (λ plans. IsLike (first_run (asked_chain command.now)) (tree_of plans.first)) }
     ensures reason { IfErr result (λ o. IfSome (F.told files.old) (λ t. HasReason t.contents (asked_chain command.now) o)) }

@@ -1,5 +1,5 @@
 // A run over the row files of its query.
-ghost use Rattle.std.specs.Prelude.{◌≡◌, ◌≢◌, ℕ, List, length, None};
+ghost use Rattle.std.specs.Prelude.{◌≡◌, ◌≢◌, ℕ, List, length};
 ghost use Rattle.saber_io.specs.Outside.{Rose, appended};
 ghost use Rattle.saber_plan.specs.Trees.{tree_of};
 ghost use Rattle.saber_plan.specs.Checked.{IsChecked};
@@ -35,7 +35,6 @@ pub(crate) fn run_rows<F: Files, K: Sink + Send, G: Gate + Sync, R: Threads + Wa
     gate: &G,
 ) -> Ran<K>
     requires checked { IsChecked (tree_of plan.now) }
-    requires wordless { (tree_of plan.now).word ≡ None }
     requires like { length (tree_of plan.now).streams ≡ length (row_names (asked_run command.now)) }
     requires sizes { SizesFit sizes.now }
     ensures written { (out : List ℕ) × (K.written result.sink ≡ appended (K.written sink) out)

@@ -4,3 +4,5 @@ pub mod Endings
 pub mod Supplying
 pub mod FedRuns
 pub mod FedSupplying
+pub mod Runs
+pub mod Ways

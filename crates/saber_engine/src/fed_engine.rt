@@ -1,97 +1,28 @@
 // The engine over a feed: a checked plan of one stream.
-ghost use Rattle.std.specs.Prelude.{◌≡◌, ◌≢◌, ◌≤◌, None, Some, length};
+ghost use Rattle.std.specs.Prelude.{◌≡◌, ◌≢◌, ◌≤◌, Some, length};
 ghost use Rattle.saber_io.specs.Outside.{Rose};
 ghost use Rattle.saber_io.specs.declared.feeds.EndMark.{EndMark};
 ghost use Rattle.saber_plan.specs.declared.rows.Side.{Side};
-ghost use Rattle.saber_plan.specs.declared.plans.Shape.TheVariants as shapes;
 ghost use Rattle.saber_plan.specs.Trees.{tree_of};
-ghost use Rattle.saber_plan.specs.Checked.{IsChecked, IsPlain};
+ghost use Rattle.saber_plan.specs.Checked.{IsChecked};
 ghost use Rattle.saber_plan.specs.Sizes.{SizesFit};
 ghost use Rattle.saber_engine.specs.declared.ends.RunEnd.{RunEnd};
 ghost use Rattle.saber_engine.specs.Gives.{IsClean};
 ghost use Rattle.saber_engine.specs.FedRuns.{GivesFed, CutLeavesWhole};
 ghost use Rattle.saber_engine.specs.Endings.{MayStop};
+ghost use Rattle.saber_engine.specs.Runs.{RunsFed};
 
 use crate::ends::{Ran, RunEnd};
-use crate::fed_plans::run_fed;
-use crate::partitioned::is_partitioned;
+use crate::fed_groups::run_group;
+use crate::fed_selections::run_selection;
 use crate::spare::keep_freed;
-use saber_group::Group;
 use saber_io::{EndMark, Feed, Gate, Plain, Pour, Sink};
-use saber_partition::Partition;
 use saber_plan::{Plan, Shape, Sizes};
-use saber_select::Select;
 use std::alloc::Global;
-use std::marker::Brand;
 use std::sync::Wait;
 use std::thread::Threads;
 
-// A run of a group query without PARTITION BY. It stands alone, since that a group's operator may be sent and shared is found where little
-// else is known.
-fn run_group<F: Feed, K: Pour + Send, G: Gate + Sync, R: Threads + Wait + Sync>(
-    rt: &R,
-    alloc: Global,
-    plan: &Plan,
-    feed: &mut F,
-    sink: K,
-    sizes: &Sizes,
-    gate: &G,
-) -> Ran<K>
-    requires checked { IsChecked (tree_of plan.now) }
-    requires plain { IsPlain (tree_of plan.now) }
-    requires group { (tree_of plan.now).shape ≡ shapes.Group }
-    requires one { length (tree_of plan.now).streams ≡ 1 }
-    requires sizes { SizesFit sizes.now }
-    requires fresh { F.waiting feed.old ≡ F.taken feed.old }
-    ensures gives { GivesFed (tree_of plan.now) sizes.now (F.taken feed.new) (F.mark feed.new) (K.written sink) (K.written result.sink) result.end result.tasks }
-    ensures whole { CutLeavesWhole (tree_of plan.now) sizes.now (F.taken feed.new) result.end result.tasks }
-    ensures all { result.end ≡ RunEnd.AllRead → F.mark feed.new ≡ Some EndMark.End }
-    ensures cut { (side : Side) → result.end ≡ RunEnd.ReadFault side → F.mark feed.new ≡ Some EndMark.Cut }
-    ensures read { (side : Side) → result.end ≡ RunEnd.ReadFault side → Rose (F.faults feed.old) (F.faults feed.new) }
-    ensures write { result.end ≡ RunEnd.WriteFault → Rose (K.faults sink) (K.faults result.sink) }
-    ensures read_good { IsClean result.end → F.faults feed.new ≡ F.faults feed.old }
-    ensures write_good { result.end ≢ RunEnd.WriteFault → K.faults result.sink ≡ K.faults sink }
-    ensures reads { F.faults feed.old ≤ F.faults feed.new }
-    ensures writes { K.faults sink ≤ K.faults result.sink }
-    ensures stopped { MayStop result.end result.stopped }
-{
-    let operator = Group::new(plan);
-    run_fed::<F, Group<'_>, K, G, Brand, R>(rt, alloc, &operator, plan, feed, sink, sizes, gate)
-}
-
-// A run of one with PARTITION BY.
-fn run_partition<F: Feed, K: Pour + Send, G: Gate + Sync, R: Threads + Wait + Sync>(
-    rt: &R,
-    alloc: Global,
-    plan: &Plan,
-    feed: &mut F,
-    sink: K,
-    sizes: &Sizes,
-    gate: &G,
-) -> Ran<K>
-    requires checked { IsChecked (tree_of plan.now) }
-    requires group { (tree_of plan.now).shape ≡ shapes.Group }
-    requires lists { 1 ≤ length (tree_of plan.now).partition }
-    requires one { length (tree_of plan.now).streams ≡ 1 }
-    requires sizes { SizesFit sizes.now }
-    requires fresh { F.waiting feed.old ≡ F.taken feed.old }
-    ensures gives { GivesFed (tree_of plan.now) sizes.now (F.taken feed.new) (F.mark feed.new) (K.written sink) (K.written result.sink) result.end result.tasks }
-    ensures whole { CutLeavesWhole (tree_of plan.now) sizes.now (F.taken feed.new) result.end result.tasks }
-    ensures all { result.end ≡ RunEnd.AllRead → F.mark feed.new ≡ Some EndMark.End }
-    ensures cut { (side : Side) → result.end ≡ RunEnd.ReadFault side → F.mark feed.new ≡ Some EndMark.Cut }
-    ensures read { (side : Side) → result.end ≡ RunEnd.ReadFault side → Rose (F.faults feed.old) (F.faults feed.new) }
-    ensures write { result.end ≡ RunEnd.WriteFault → Rose (K.faults sink) (K.faults result.sink) }
-    ensures read_good { IsClean result.end → F.faults feed.new ≡ F.faults feed.old }
-    ensures write_good { result.end ≢ RunEnd.WriteFault → K.faults result.sink ≡ K.faults sink }
-    ensures reads { F.faults feed.old ≤ F.faults feed.new }
-    ensures writes { K.faults sink ≤ K.faults result.sink }
-    ensures stopped { MayStop result.end result.stopped }
-{
-    let operator = Partition::new(plan);
-    run_fed::<F, Partition<'_>, K, G, Brand, R>(rt, alloc, &operator, plan, feed, sink, sizes, gate)
-}
-
-// The operator of the plan's shape.
+// Runs a plan by its shape. No join has one stream.
 fn run_shape<F: Feed, K: Pour + Send, G: Gate + Sync, R: Threads + Wait + Sync>(
     rt: &R,
     alloc: Global,
@@ -102,36 +33,14 @@ fn run_shape<F: Feed, K: Pour + Send, G: Gate + Sync, R: Threads + Wait + Sync>(
     gate: &G,
 ) -> Ran<K>
     requires checked { IsChecked (tree_of plan.now) }
-    requires wordless { (tree_of plan.now).word ≡ None }
     requires one { length (tree_of plan.now).streams ≡ 1 }
     requires sizes { SizesFit sizes.now }
     requires fresh { F.waiting feed.old ≡ F.taken feed.old }
-    ensures gives { GivesFed (tree_of plan.now) sizes.now (F.taken feed.new) (F.mark feed.new) (K.written sink) (K.written result.sink) result.end result.tasks }
-    ensures whole { CutLeavesWhole (tree_of plan.now) sizes.now (F.taken feed.new) result.end result.tasks }
-    ensures all { result.end ≡ RunEnd.AllRead → F.mark feed.new ≡ Some EndMark.End }
-    ensures cut { (side : Side) → result.end ≡ RunEnd.ReadFault side → F.mark feed.new ≡ Some EndMark.Cut }
-    ensures read { (side : Side) → result.end ≡ RunEnd.ReadFault side → Rose (F.faults feed.old) (F.faults feed.new) }
-    ensures write { result.end ≡ RunEnd.WriteFault → Rose (K.faults sink) (K.faults result.sink) }
-    ensures read_good { IsClean result.end → F.faults feed.new ≡ F.faults feed.old }
-    ensures write_good { result.end ≢ RunEnd.WriteFault → K.faults result.sink ≡ K.faults sink }
-    ensures reads { F.faults feed.old ≤ F.faults feed.new }
-    ensures writes { K.faults sink ≤ K.faults result.sink }
-    ensures stopped { MayStop result.end result.stopped }
+    ensures { RunsFed F.taken F.mark F.faults K.written K.faults (tree_of plan.now) sizes.now feed.old feed.new sink result }
 {
     match plan.shape() {
-        Shape::Select => {
-            let operator = Select::new(plan);
-            run_fed::<F, Select<'_>, K, G, Brand, R>(
-                rt, alloc, &operator, plan, feed, sink, sizes, gate,
-            )
-        }
-        Shape::Group => {
-            if is_partitioned(plan) {
-                run_partition(rt, alloc, plan, feed, sink, sizes, gate)
-            } else {
-                run_group(rt, alloc, plan, feed, sink, sizes, gate)
-            }
-        }
+        Shape::Select => run_selection(rt, alloc, plan, feed, sink, sizes, gate),
+        Shape::Group => run_group(rt, alloc, plan, feed, sink, sizes, gate),
         Shape::Join => unreachable!(),
     }
 }
@@ -148,7 +57,6 @@ pub fn engine_fed<F: Feed, K: Sink + Send, G: Gate + Sync, R: Threads + Wait + S
     gate: &G,
 ) -> Ran<K>
     requires checked { IsChecked (tree_of plan.now) }
-    requires wordless { (tree_of plan.now).word ≡ None }
     requires one { length (tree_of plan.now).streams ≡ 1 }
     requires sizes { SizesFit sizes.now }
     requires fresh { F.waiting feed.old ≡ F.taken feed.old }

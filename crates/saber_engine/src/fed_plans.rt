@@ -1,24 +1,18 @@
 // A run of one operator over a feed.
-ghost use Rattle.std.specs.Prelude.{◌≡◌, ◌≢◌, ◌≤◌, Some, length};
-ghost use Rattle.saber_io.specs.Outside.{Rose};
-ghost use Rattle.saber_io.specs.declared.feeds.EndMark.{EndMark};
-ghost use Rattle.saber_plan.specs.declared.rows.Side.{Side};
+ghost use Rattle.std.specs.Prelude.{◌≡◌, length};
 ghost use Rattle.saber_plan.specs.Trees.{tree_of};
 ghost use Rattle.saber_plan.specs.Checked.{IsChecked};
 ghost use Rattle.saber_plan.specs.Sizes.{SizesFit};
-ghost use Rattle.saber_engine.specs.declared.ends.RunEnd.{RunEnd};
-ghost use Rattle.saber_engine.specs.Gives.{IsClean};
-ghost use Rattle.saber_engine.specs.FedRuns.{GivesFed, CutLeavesWhole};
-ghost use Rattle.saber_engine.specs.Endings.{MayStop};
+ghost use Rattle.saber_engine.specs.Runs.{RunsFed};
 
 use crate::cells::cells;
-use crate::ends::{Ran, RunEnd, ended};
+use crate::ends::{Ran, ended};
 use crate::fed_blocks::{BeginsFed, FedBlocks};
 use saber_assembly::{SaberWork, Stage};
 use saber_crew::{Over, run};
 use saber_dispatch::{FedCutter, Keeper, cuts_leave_whole_tasks, fed_blocks_are_tasks};
 use saber_fragment::Operator;
-use saber_io::{EndMark, Feed, Gate, Pour};
+use saber_io::{Feed, Gate, Pour};
 use saber_laws::{checked_fit, first_of_first, no_rows_give_nothing, no_tasks_no_rows};
 use saber_plan::{Plan, Sizes};
 use std::alloc::Global;
@@ -54,17 +48,7 @@ where
     requires sizes { SizesFit sizes.now }
     requires fresh { F.waiting feed.old ≡ F.taken feed.old }
     requires begins { (J.sizes ≡ sizes.now) × (J.faults ≡ F.faults feed.old) }
-    ensures gives { GivesFed (tree_of plan.now) sizes.now (F.taken feed.new) (F.mark feed.new) (K.written sink) (K.written result.sink) result.end result.tasks }
-    ensures whole { CutLeavesWhole (tree_of plan.now) sizes.now (F.taken feed.new) result.end result.tasks }
-    ensures all { result.end ≡ RunEnd.AllRead → F.mark feed.new ≡ Some EndMark.End }
-    ensures cut { (side : Side) → result.end ≡ RunEnd.ReadFault side → F.mark feed.new ≡ Some EndMark.Cut }
-    ensures read { (side : Side) → result.end ≡ RunEnd.ReadFault side → Rose (F.faults feed.old) (F.faults feed.new) }
-    ensures write { result.end ≡ RunEnd.WriteFault → Rose (K.faults sink) (K.faults result.sink) }
-    ensures read_good { IsClean result.end → F.faults feed.new ≡ F.faults feed.old }
-    ensures write_good { result.end ≢ RunEnd.WriteFault → K.faults result.sink ≡ K.faults sink }
-    ensures reads { F.faults feed.old ≤ F.faults feed.new }
-    ensures writes { K.faults sink ≤ K.faults result.sink }
-    ensures stopped { MayStop result.end result.stopped }
+    ensures { RunsFed F.taken F.mark F.faults K.written K.faults (tree_of plan.now) sizes.now feed.old feed.new sink result }
 {
     checked_fit();
     no_rows_give_nothing();

@@ -2,9 +2,10 @@
 //! The chain and the top call run queries by it.
 //!
 //! - Parts: `ends` (how a run ends), `cells` (the size of the ring), `spare` (memory stays with the
-//!   process), `blocks` and `plans` (a run of one operator), `partitioned` (which group queries have
-//!   PARTITION BY), `run_engine` (a plan over sources), `fed_blocks`, `fed_plans` and `fed_engine`
-//!   (the same over a feed).
+//!   process), `blocks` and `plans` (a run of one operator), `ways` (how a plan answers),
+//!   `selections`, `groups` and `joins` (the operator of a plan, by its way), `run_engine` (a plan
+//!   over sources), `fed_blocks`, `fed_plans`, `fed_selections`, `fed_groups` and `fed_engine` (the
+//!   same over a feed).
 //! - Calls: `engine` takes a checked plan, sources, a sink, sizes and a gate, and gives the sink
 //!   back with how the run ended and how many tasks are assembled; `engine_pouring` takes a sink
 //!   that may hold bytes back, `engine_fed` a feed in place of sources.
@@ -15,7 +16,7 @@
 //!   the same holds for every file that goes on from what was taken (`specs/FedRuns.antt`).
 //! - Not claimed: time, progress of threads, or a cause for want of memory. Over one stream the
 //!   ring may have fewer cells than `--ring` says (`cells.rt`); no contract speaks of it.
-//! - Limits: those of `Sizes`; plans without a stream word. A run waits for its threads.
+//! - Limits: those of `Sizes`. A run waits for its threads.
 #![tactic(auto)]
 
 mod blocks;
@@ -23,11 +24,16 @@ mod cells;
 mod ends;
 mod fed_blocks;
 mod fed_engine;
+mod fed_groups;
 mod fed_plans;
-mod partitioned;
+mod fed_selections;
+mod groups;
+mod joins;
 mod plans;
 mod run_engine;
+mod selections;
 mod spare;
+mod ways;
 
 pub use ends::{Ran, RunEnd};
 pub use fed_engine::engine_fed;

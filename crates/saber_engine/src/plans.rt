@@ -1,18 +1,14 @@
 // A run of one operator.
-ghost use Rattle.std.specs.Prelude.{◌≡◌, ◌≢◌, ◌≤◌, ℕ, List, length};
-ghost use Rattle.saber_io.specs.Outside.{Rose};
-ghost use Rattle.saber_plan.specs.declared.rows.Side.{Side};
+ghost use Rattle.std.specs.Prelude.{◌≡◌, length};
 ghost use Rattle.saber_plan.specs.Trees.{tree_of};
 ghost use Rattle.saber_plan.specs.Checked.{IsChecked};
 ghost use Rattle.saber_plan.specs.Sizes.{SizesFit};
-ghost use Rattle.saber_engine.specs.declared.ends.RunEnd.{RunEnd};
-ghost use Rattle.saber_engine.specs.Sources.{each_input, told_by, RoseAt, NoneFell, GaveAll};
-ghost use Rattle.saber_engine.specs.Gives.{GivesTold, IsClean, LeavesWhole};
-ghost use Rattle.saber_engine.specs.Endings.{MayStop};
+ghost use Rattle.saber_engine.specs.Sources.{each_input};
+ghost use Rattle.saber_engine.specs.Runs.{RunsPlan};
 
 use crate::blocks::{Begins, Blocks};
 use crate::cells::cells;
-use crate::ends::{Ran, RunEnd, ended};
+use crate::ends::{Ran, ended};
 use saber_assembly::{SaberWork, Stage};
 use saber_crew::{Over, run};
 use saber_dispatch::{Cutter, Inputs, Keeper, blocks_are_tasks, faults_leave_whole_tasks};
@@ -52,16 +48,7 @@ where
     requires inputs { length (each_input S.left inputs.old) ≡ length (tree_of plan.now).streams }
     requires sizes { SizesFit sizes.now }
     requires begins { (J.sizes ≡ sizes.now) × (J.lefts ≡ each_input S.left inputs.old) × (J.faults ≡ each_input S.faults inputs.old) }
-    ensures gives { GivesTold (tree_of plan.now) sizes.now (told_by S.left inputs.old) (K.written sink) (K.written result.sink) result.end result.tasks }
-    ensures whole { LeavesWhole (tree_of plan.now) sizes.now (each_input S.left inputs.old) (each_input S.left inputs.new) result.end result.tasks }
-    ensures takes { (taken : List (List ℕ)) × GaveAll (each_input S.left inputs.old) taken (each_input S.left inputs.new) }
-    ensures read { (side : Side) → result.end ≡ RunEnd.ReadFault side → RoseAt side (each_input S.faults inputs.old) (each_input S.faults inputs.new) }
-    ensures write { result.end ≡ RunEnd.WriteFault → Rose (K.faults sink) (K.faults result.sink) }
-    ensures read_good { IsClean result.end → each_input S.faults inputs.new ≡ each_input S.faults inputs.old }
-    ensures write_good { result.end ≢ RunEnd.WriteFault → K.faults result.sink ≡ K.faults sink }
-    ensures reads { NoneFell (each_input S.faults inputs.old) (each_input S.faults inputs.new) }
-    ensures writes { K.faults sink ≤ K.faults result.sink }
-    ensures stopped { MayStop result.end result.stopped }
+    ensures { RunsPlan S.left S.faults K.written K.faults (tree_of plan.now) sizes.now inputs.old inputs.new sink result }
 {
     checked_fit();
     no_rows_give_nothing();

@@ -1,35 +1,30 @@
 // The engine: a checked plan over its inputs.
-ghost use Rattle.std.specs.Prelude.{◌≡◌, ◌≢◌, ◌≤◌, ℕ, List, None, length};
+ghost use Rattle.std.specs.Prelude.{◌≡◌, ◌≢◌, ◌≤◌, ℕ, List, length};
 ghost use Rattle.saber_io.specs.Outside.{Rose};
 ghost use Rattle.saber_plan.specs.declared.rows.Side.{Side};
-ghost use Rattle.saber_plan.specs.declared.plans.Shape.TheVariants as shapes;
 ghost use Rattle.saber_plan.specs.Trees.{tree_of};
-ghost use Rattle.saber_plan.specs.Checked.{IsChecked, IsPlain};
+ghost use Rattle.saber_plan.specs.Checked.{IsChecked};
 ghost use Rattle.saber_plan.specs.Sizes.{SizesFit};
 ghost use Rattle.saber_engine.specs.declared.ends.RunEnd.{RunEnd};
 ghost use Rattle.saber_engine.specs.Sources.{each_input, told_by, RoseAt, NoneFell, GaveAll};
 ghost use Rattle.saber_engine.specs.Gives.{GivesTold, IsClean, LeavesWhole};
 ghost use Rattle.saber_engine.specs.Endings.{MayStop};
+ghost use Rattle.saber_engine.specs.Runs.{RunsPlan};
 
 use crate::ends::{Ran, RunEnd};
-use crate::partitioned::is_partitioned;
-use crate::plans::run_plan;
+use crate::groups::run_group;
+use crate::joins::run_join;
+use crate::selections::run_selection;
 use crate::spare::keep_freed;
 use saber_dispatch::Inputs;
-use saber_group::Group;
 use saber_io::{Gate, Plain, Pour, Sink, Source};
-use saber_join::Join;
-use saber_partition::Partition;
 use saber_plan::{Plan, Shape, Sizes};
-use saber_select::Select;
 use std::alloc::Global;
-use std::marker::Brand;
 use std::sync::Wait;
 use std::thread::Threads;
 
-// A run of a group query without PARTITION BY. It stands alone, since that a group's operator may be sent and shared is found where little
-// else is known.
-fn run_group<S: Source, K: Pour + Send, G: Gate + Sync, R: Threads + Wait + Sync>(
+// Runs a plan by its shape.
+fn run_shape<S: Source, K: Pour + Send, G: Gate + Sync, R: Threads + Wait + Sync>(
     rt: &R,
     alloc: Global,
     plan: &Plan,
@@ -39,55 +34,15 @@ fn run_group<S: Source, K: Pour + Send, G: Gate + Sync, R: Threads + Wait + Sync
     gate: &G,
 ) -> Ran<K>
     requires checked { IsChecked (tree_of plan.now) }
-    requires plain { IsPlain (tree_of plan.now) }
-    requires group { (tree_of plan.now).shape ≡ shapes.Group }
     requires inputs { length (each_input S.left inputs.old) ≡ length (tree_of plan.now).streams }
     requires sizes { SizesFit sizes.now }
-    ensures gives { GivesTold (tree_of plan.now) sizes.now (told_by S.left inputs.old) (K.written sink) (K.written result.sink) result.end result.tasks }
-    ensures whole { LeavesWhole (tree_of plan.now) sizes.now (each_input S.left inputs.old) (each_input S.left inputs.new) result.end result.tasks }
-    ensures takes { (taken : List (List ℕ)) × GaveAll (each_input S.left inputs.old) taken (each_input S.left inputs.new) }
-    ensures read { (side : Side) → result.end ≡ RunEnd.ReadFault side → RoseAt side (each_input S.faults inputs.old) (each_input S.faults inputs.new) }
-    ensures write { result.end ≡ RunEnd.WriteFault → Rose (K.faults sink) (K.faults result.sink) }
-    ensures read_good { IsClean result.end → each_input S.faults inputs.new ≡ each_input S.faults inputs.old }
-    ensures write_good { result.end ≢ RunEnd.WriteFault → K.faults result.sink ≡ K.faults sink }
-    ensures reads { NoneFell (each_input S.faults inputs.old) (each_input S.faults inputs.new) }
-    ensures writes { K.faults sink ≤ K.faults result.sink }
-    ensures stopped { MayStop result.end result.stopped }
+    ensures { RunsPlan S.left S.faults K.written K.faults (tree_of plan.now) sizes.now inputs.old inputs.new sink result }
 {
-    let operator = Group::new(plan);
-    run_plan::<S, Group<'_>, K, G, Brand, R>(rt, alloc, &operator, plan, inputs, sink, sizes, gate)
-}
-
-// A run of one with PARTITION BY.
-fn run_partition<S: Source, K: Pour + Send, G: Gate + Sync, R: Threads + Wait + Sync>(
-    rt: &R,
-    alloc: Global,
-    plan: &Plan,
-    inputs: &mut Inputs<S>,
-    sink: K,
-    sizes: &Sizes,
-    gate: &G,
-) -> Ran<K>
-    requires checked { IsChecked (tree_of plan.now) }
-    requires group { (tree_of plan.now).shape ≡ shapes.Group }
-    requires lists { 1 ≤ length (tree_of plan.now).partition }
-    requires inputs { length (each_input S.left inputs.old) ≡ length (tree_of plan.now).streams }
-    requires sizes { SizesFit sizes.now }
-    ensures gives { GivesTold (tree_of plan.now) sizes.now (told_by S.left inputs.old) (K.written sink) (K.written result.sink) result.end result.tasks }
-    ensures whole { LeavesWhole (tree_of plan.now) sizes.now (each_input S.left inputs.old) (each_input S.left inputs.new) result.end result.tasks }
-    ensures takes { (taken : List (List ℕ)) × GaveAll (each_input S.left inputs.old) taken (each_input S.left inputs.new) }
-    ensures read { (side : Side) → result.end ≡ RunEnd.ReadFault side → RoseAt side (each_input S.faults inputs.old) (each_input S.faults inputs.new) }
-    ensures write { result.end ≡ RunEnd.WriteFault → Rose (K.faults sink) (K.faults result.sink) }
-    ensures read_good { IsClean result.end → each_input S.faults inputs.new ≡ each_input S.faults inputs.old }
-    ensures write_good { result.end ≢ RunEnd.WriteFault → K.faults result.sink ≡ K.faults sink }
-    ensures reads { NoneFell (each_input S.faults inputs.old) (each_input S.faults inputs.new) }
-    ensures writes { K.faults sink ≤ K.faults result.sink }
-    ensures stopped { MayStop result.end result.stopped }
-{
-    let operator = Partition::new(plan);
-    run_plan::<S, Partition<'_>, K, G, Brand, R>(
-        rt, alloc, &operator, plan, inputs, sink, sizes, gate,
-    )
+    match plan.shape() {
+        Shape::Select => run_selection(rt, alloc, plan, inputs, sink, sizes, gate),
+        Shape::Group => run_group(rt, alloc, plan, inputs, sink, sizes, gate),
+        Shape::Join => run_join(rt, alloc, plan, inputs, sink, sizes, gate),
+    }
 }
 
 /// Runs a checked plan over its inputs: cuts the rows into tasks of `sizes.task` rows, has the piece of
@@ -104,7 +59,6 @@ pub fn engine_pouring<S: Source, K: Pour + Send, G: Gate + Sync, R: Threads + Wa
     gate: &G,
 ) -> Ran<K>
     requires checked { IsChecked (tree_of plan.now) }
-    requires wordless { (tree_of plan.now).word ≡ None }
     requires inputs { length (each_input S.left inputs.old) ≡ length (tree_of plan.now).streams }
     requires sizes { SizesFit sizes.now }
 
@@ -130,27 +84,7 @@ pub fn engine_pouring<S: Source, K: Pour + Send, G: Gate + Sync, R: Threads + Wa
     ensures stopped { MayStop result.end result.stopped }
 {
     keep_freed(alloc);
-    match plan.shape() {
-        Shape::Select => {
-            let operator = Select::new(plan);
-            run_plan::<S, Select<'_>, K, G, Brand, R>(
-                rt, alloc, &operator, plan, inputs, sink, sizes, gate,
-            )
-        }
-        Shape::Group => {
-            if is_partitioned(plan) {
-                run_partition(rt, alloc, plan, inputs, sink, sizes, gate)
-            } else {
-                run_group(rt, alloc, plan, inputs, sink, sizes, gate)
-            }
-        }
-        Shape::Join => {
-            let operator = Join::new(plan);
-            run_plan::<S, Join<'_>, K, G, Brand, R>(
-                rt, alloc, &operator, plan, inputs, sink, sizes, gate,
-            )
-        }
-    }
+    run_shape(rt, alloc, plan, inputs, sink, sizes, gate)
 }
 
 /// The same into a sink that holds nothing back.
@@ -164,7 +98,6 @@ pub fn engine<S: Source, K: Sink + Send, G: Gate + Sync, R: Threads + Wait + Syn
     gate: &G,
 ) -> Ran<K>
     requires checked { IsChecked (tree_of plan.now) }
-    requires wordless { (tree_of plan.now).word ≡ None }
     requires inputs { length (each_input S.left inputs.old) ≡ length (tree_of plan.now).streams }
     requires sizes { SizesFit sizes.now }
 

@@ -12,7 +12,7 @@ use Rattle.saber_plan.specs.Trees.{Tree}
 use Rattle.saber_plan.specs.Checked.{IsChecked}
 use Rattle.saber_check.specs.Plans.{plan_tree}
 use Rattle.saber_check.proofs.NoFaults.{least_gives}
-use Rattle.saber_check.proofs.CheckedLaws.{plan_checked, plan_wordless}
+use Rattle.saber_check.proofs.CheckedLaws.{plan_checked}
 use Rattle.saber_check.proofs.query.check.Goals as goal
 
 small : (p : Parsed) (q : Query) → q ≡ query_of p.select → IsParsed p.select p.starts → width q ≤ 2 ^ 30
@@ -56,9 +56,3 @@ sound t q e l = let P : Tree → Type 0 = λ u. IsChecked u in subst P (sym e) (
 
 pub returns-in_ok-plan-in-None-clause-checked : goal.returns-in_ok-plan-in-None-clause-checked
 returns-in_ok-plan-in-None-clause-checked c = sound _ _ c.in_ok-plan-in-None.ensures c.in-None.ensures
-
-wordless : (t : Tree) (q : Query) → t ≡ plan_tree q → None ≡ least (faults q) → t.word ≡ None
-wordless t q e l = ap (λ (u : Tree). u.word) e ∙ plan_wordless q (least_gives (faults q) (sym l))
-
-pub returns-in_ok-plan-in-None-clause-wordless : goal.returns-in_ok-plan-in-None-clause-wordless
-returns-in_ok-plan-in-None-clause-wordless c = wordless _ _ c.in_ok-plan-in-None.ensures c.in-None.ensures

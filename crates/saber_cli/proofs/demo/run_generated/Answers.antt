@@ -9,9 +9,6 @@ use Rattle.saber_cli.specs.Tells.{IsAnswer}
 use Rattle.saber_cli.proofs.DemoLemmas.{IsRunOf, end_is, run_gives, demo_read, whole_answer, written_is}
 use Rattle.saber_cli.proofs.demo.run_generated.Goals as goal
 
-pub engine-end-requires-clause-wordless : goal.engine-end-requires-clause-wordless
-engine-end-requires-clause-wordless g c spans live = ap (λ (t : Tree). t.word) c.in-Ok.ensures
-
 pub is_whole-requires : goal.is_whole-requires
 is_whole-requires g c =
     let d = asked_demo c.args.command.now in

@@ -1,4 +1,4 @@
-use Rattle.std.proofs.Common.{◌≡◌, ap, ◌∙◌}
+use Rattle.std.proofs.Common.{ap, ◌∙◌}
 use Rattle.std.proofs.Math.Path.{transport}
 use Rattle.saber_plan.specs.Trees.{tree_of}
 use Rattle.saber_pipe.specs.Receipts.{written_by, mark_by}

@@ -1,0 +1,143 @@
+// Runs of a selection.
+ghost use Rattle.std.specs.Prelude.{◌≡◌, length, Some, IsSome};
+ghost use Rattle.saber_plan.specs.declared.plans.Shape.TheVariants as shapes;
+ghost use Rattle.saber_plan.specs.declared.plans.Word.TheVariants as words;
+ghost use Rattle.saber_plan.specs.Trees.{tree_of};
+ghost use Rattle.saber_plan.specs.Checked.{IsChecked, IsPlain};
+ghost use Rattle.saber_plan.specs.Sizes.{SizesFit};
+ghost use Rattle.saber_plan.specs.Answers.{by_change, way};
+ghost use Rattle.saber_changes.specs.Counts.{change_of};
+ghost use Rattle.saber_engine.specs.Sources.{each_input};
+ghost use Rattle.saber_engine.specs.Runs.{RunsPlan};
+
+use crate::ends::Ran;
+use crate::plans::run_plan;
+use crate::ways::{Way, way_of};
+use saber_changes::Change;
+use saber_dispatch::Inputs;
+use saber_io::{Gate, Pour, Source};
+use saber_plan::{Plan, Sizes};
+use saber_select::Select;
+use saber_windowed::{WindowedChanges, WindowedOperator};
+use std::alloc::Global;
+use std::marker::Brand;
+use std::sync::Wait;
+use std::thread::Threads;
+
+// Each operator has a run of its own, since that it may be sent and shared is found where little else is known.
+
+// One without a stream word, which prints rows.
+fn run_rows<S: Source, K: Pour + Send, G: Gate + Sync, R: Threads + Wait + Sync>(
+    rt: &R,
+    alloc: Global,
+    plan: &Plan,
+    inputs: &mut Inputs<S>,
+    sink: K,
+    sizes: &Sizes,
+    gate: &G,
+) -> Ran<K>
+    requires checked { IsChecked (tree_of plan.now) }
+    requires select { (tree_of plan.now).shape ≡ shapes.Select }
+    requires plain { IsPlain (tree_of plan.now) }
+    requires inputs { length (each_input S.left inputs.old) ≡ length (tree_of plan.now).streams }
+    requires sizes { SizesFit sizes.now }
+    ensures { RunsPlan S.left S.faults K.written K.faults (tree_of plan.now) sizes.now inputs.old inputs.new sink result }
+{
+    let operator = Select::new(plan);
+    run_plan::<S, Select<'_>, K, G, Brand, R>(rt, alloc, &operator, plan, inputs, sink, sizes, gate)
+}
+
+// One under RSTREAM, whose windows print their answers.
+fn run_alike<S: Source, K: Pour + Send, G: Gate + Sync, R: Threads + Wait + Sync>(
+    rt: &R,
+    alloc: Global,
+    plan: &Plan,
+    inputs: &mut Inputs<S>,
+    sink: K,
+    sizes: &Sizes,
+    gate: &G,
+) -> Ran<K>
+    requires checked { IsChecked (tree_of plan.now) }
+    requires select { (tree_of plan.now).shape ≡ shapes.Select }
+    requires word { (tree_of plan.now).word ≡ Some words.Rstream }
+    requires inputs { length (each_input S.left inputs.old) ≡ length (tree_of plan.now).streams }
+    requires sizes { SizesFit sizes.now }
+    ensures { RunsPlan S.left S.faults K.written K.faults (tree_of plan.now) sizes.now inputs.old inputs.new sink result }
+{
+    let operator = WindowedOperator::new(plan);
+    run_plan::<S, WindowedOperator<'_>, K, G, Brand, R>(
+        rt, alloc, &operator, plan, inputs, sink, sizes, gate,
+    )
+}
+
+// One whose windows print what they gain or lose.
+fn run_changing<S: Source, K: Pour + Send, G: Gate + Sync, R: Threads + Wait + Sync>(
+    rt: &R,
+    alloc: Global,
+    plan: &Plan,
+    change: Change,
+    inputs: &mut Inputs<S>,
+    sink: K,
+    sizes: &Sizes,
+    gate: &G,
+) -> Ran<K>
+    requires checked { IsChecked (tree_of plan.now) }
+    requires select { (tree_of plan.now).shape ≡ shapes.Select }
+    requires changes { way (tree_of plan.now) ≡ by_change (change_of change) }
+    requires inputs { length (each_input S.left inputs.old) ≡ length (tree_of plan.now).streams }
+    requires sizes { SizesFit sizes.now }
+    ensures { RunsPlan S.left S.faults K.written K.faults (tree_of plan.now) sizes.now inputs.old inputs.new sink result }
+{
+    let operator = WindowedChanges::new(plan, change);
+    run_plan::<S, WindowedChanges<'_>, K, G, Brand, R>(
+        rt, alloc, &operator, plan, inputs, sink, sizes, gate,
+    )
+}
+
+// Runs a selection under a stream word.
+fn run_windowed<S: Source, K: Pour + Send, G: Gate + Sync, R: Threads + Wait + Sync>(
+    rt: &R,
+    alloc: Global,
+    plan: &Plan,
+    inputs: &mut Inputs<S>,
+    sink: K,
+    sizes: &Sizes,
+    gate: &G,
+) -> Ran<K>
+    requires checked { IsChecked (tree_of plan.now) }
+    requires select { (tree_of plan.now).shape ≡ shapes.Select }
+    requires word { IsSome (tree_of plan.now).word }
+    requires inputs { length (each_input S.left inputs.old) ≡ length (tree_of plan.now).streams }
+    requires sizes { SizesFit sizes.now }
+    ensures { RunsPlan S.left S.faults K.written K.faults (tree_of plan.now) sizes.now inputs.old inputs.new sink result }
+{
+    match way_of(plan) {
+        Way::Alike => run_alike(rt, alloc, plan, inputs, sink, sizes, gate),
+        Way::ByList => unreachable!(),
+        Way::Changing(change) => {
+            run_changing(rt, alloc, plan, change, inputs, sink, sizes, gate)
+        }
+    }
+}
+
+/// Runs a selection.
+pub(crate) fn run_selection<S: Source, K: Pour + Send, G: Gate + Sync, R: Threads + Wait + Sync>(
+    rt: &R,
+    alloc: Global,
+    plan: &Plan,
+    inputs: &mut Inputs<S>,
+    sink: K,
+    sizes: &Sizes,
+    gate: &G,
+) -> Ran<K>
+    requires checked { IsChecked (tree_of plan.now) }
+    requires select { (tree_of plan.now).shape ≡ shapes.Select }
+    requires inputs { length (each_input S.left inputs.old) ≡ length (tree_of plan.now).streams }
+    requires sizes { SizesFit sizes.now }
+    ensures { RunsPlan S.left S.faults K.written K.faults (tree_of plan.now) sizes.now inputs.old inputs.new sink result }
+{
+    match plan.word() {
+        None => run_rows(rt, alloc, plan, inputs, sink, sizes, gate),
+        Some(_) => run_windowed(rt, alloc, plan, inputs, sink, sizes, gate),
+    }
+}
