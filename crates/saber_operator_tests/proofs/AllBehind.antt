@@ -7,7 +7,7 @@ use Rattle.saber_plan.specs.declared.windows.Kind.TheVariants.{Opening, Closing,
 use Rattle.saber_plan.specs.declared.plans.Shape.TheVariants.{Join}
 use Rattle.saber_plan.specs.Trees.{Tree}
 use Rattle.saber_plan.specs.Inputs.{Input}
-use Rattle.saber_plan.specs.Windows.{Placed, no_rows, mark_after, step_mark, mark_at, last_mark, ending, placed_after, inside, has, begun, closed_count, begun_count, kind_of, from, Ordered}
+use Rattle.saber_plan.specs.Windows.{no_rows, mark_after, step_mark, mark_at, last_mark, ending, placed_after, inside, has, begun, closed_count, begun_count, kind_of, from, Ordered}
 use Rattle.saber_plan.specs.Answers.{by_shape, by_frame, frame, lines, passing, selected}
 use Rattle.saber_plan.specs.Parts.{part, merge, row_part, group_part, pair_part, part_lines}
 use Rattle.saber_plan.specs.Tasks.{is_complete}

@@ -1,5 +1,2 @@
-mod InOrder
-mod PartFacts
 mod Back
 mod AllBehind
-mod PanesFrom

@@ -1,194 +1,37 @@
-// Tasks of group queries, with and without PARTITION BY, worked out by hand, through the trait that the stage uses.
-ghost use Rattle.std.specs.Prelude.{◌≡◌, ◌≢◌, ℕ, [], ◌++◌, List, IfOk, OnOk, false};
-ghost use Rattle.saber_plan.specs.declared.rows.Row.{Row};
+// Tasks of group queries, worked out by hand: plain ones, under each stream word, and with PARTITION BY.
 ghost use Rattle.saber_plan.specs.declared.plans.Shape.TheVariants as shapes;
-ghost use Rattle.saber_plan.specs.Answers.{frame};
-ghost use Rattle.saber_plan.specs.Given.{RowsFit};
-ghost use Rattle.saber_plan.specs.Inputs.{Input, going_on};
-ghost use Rattle.saber_plan.specs.Trees.{Tree};
-ghost use Rattle.saber_plan.specs.Windows.{Fits, no_rows};
-ghost use Rattle.saber_fragment.specs.Drafts.{own_sight, CanStart, EndWith, IsSightOf};
-ghost use Rattle.saber_places.specs.Counting.{AreCounted};
 ghost use Rattle.saber_samples.specs.Asking.{IsOfKeys, IsOfOne};
-ghost use Rattle.saber_samples.specs.Filling.{HasKeyed};
-ghost use Rattle.saber_samples.specs.Standing.{Keeps};
-ghost use Rattle.saber_operator_tests.specs.Stands.{ComesPlaced, Stands};
 
-use crate::plans::{plan_of_keys, plan_of_one};
-use crate::texts::{assert_text, cut, is_remark, keyed_rows};
-use saber_flat::Rows;
-use saber_fragment::{Block, Earlier, Operator};
-use saber_group::Group;
-use saber_laws::{checked_fit, handed_are_local, no_rows_give_nothing, shares_are_local};
+use crate::plans::{change_in, plan_of_keys, plan_of_one};
+use crate::tasks::{check_tasks, check_text};
+use crate::texts::{cut, is_remark};
+use saber_group::{GroupChanges, GroupOperator};
+use saber_laws::checked_fit;
 use saber_partition::Partition;
-use saber_places::{Places, places_of};
-use saber_plan::{Mark, NoMemory, Plan, Shape};
-use saber_samples::keyed_block;
+use saber_places::Places;
+use saber_plan::{NoMemory, Plan, Shape};
 use std::alloc::Global;
 use std::process::Abort;
 use std::test::Fail;
 
-const BEGINNING: Mark = Mark {
-    left: 0,
-    right: 0,
-    last: None,
-    ended: false,
-};
-
-// The rows before a task's own that its block has: these, or none.
-fn earlier_of(alloc: Global, looks_back: bool, last: Earlier, before: Mark) -> Earlier
-    ensures { (xs : List Row) → Stands xs before last → EndWith xs result }
-{
-    if looks_back {
-        last
-    } else {
-        Earlier::none(alloc, before)
-    }
-}
-
-// The block of the task behind some rows, of which it has the last, if it looks back; and what stands behind it. Its rows are counted by their keys,
-// where the query asks for that.
-fn next_block(
-    alloc: Global,
-    looks_back: bool,
-    counter: &mut Option<Places>,
-    before: Mark,
-    last: Earlier,
-    table: &[(u32, i64, i64)],
-    ended: bool,
-) -> Result<(Block, Mark, Earlier), NoMemory>
-    requires { (q : Tree) × (xs : List Row) × HasKeyed q × Stands xs before last × RowsFit q no_rows xs × AreCounted q xs counter.old }
-    ensures comes { IfOk result (λ r. (q : Tree) (xs : List Row) → HasKeyed q → Stands xs before last → RowsFit q no_rows xs → AreCounted q xs counter.old → ComesPlaced q r.0 xs) }
-    ensures counted { IfOk result (λ r. (q : Tree) (xs : List Row) → AreCounted q xs counter.old → AreCounted q (xs ++ r.0.rows) counter.new) }
-    ensures stands { IfOk result (λ r. (xs : List Row) → Stands xs before last → Stands (xs ++ r.0.rows) r.1 r.2) }
-    ensures ended { IfOk result (λ r. r.0.ended ≡ ended) }
-{
-    let (mut own, after) = keyed_block(alloc, 0, before, table, ended)?;
-    own.earlier = earlier_of(alloc, looks_back, last, before);
-    let places = places_of(counter, alloc, &own.rows)?;
-    own.places = places;
-    let rows = own.rows.copy(alloc)?;
-    Ok((own, after, Earlier { before, rows }))
-}
-
-// The piece of one task, which is fed a block without rows.
-fn piece<O: Operator>(alloc: Global, operator: &O, own: &Block) -> Result<O::Piece, NoMemory>
-    requires { CanStart (O.plan operator.now) own.now }
-    ensures { IfOk result (λ p. (r : Input) (x y : ℕ) → IsSightOf (O.plan operator.now) (own_sight own.now) r x y → O.is_of operator.now p r x y) }
-{
-    let nothing = Block {
-        number: 0,
-        first: 0,
-        earlier: Earlier::none(alloc, own.before),
-        before: own.before,
-        rows: Rows::new(alloc),
-        places: Vec::new(alloc),
-        ended: false,
-    };
-    let mut draft = operator.start(alloc, own)?;
-    operator.feed(alloc, &mut draft, &nothing)?;
-    let piece = operator.finish(alloc, draft)?;
-    Ok(piece)
-}
-
-// Takes in the task of this block.
-fn give<O: Operator>(
-    alloc: Global,
-    operator: &O,
-    own: &Block,
-    store: &mut O::Store,
-    out: &mut Vec<u8>,
-) -> Result<(), NoMemory>
-    requires windows { Fits (frame (O.plan operator.now)) }
-    requires no_join { (O.plan operator.now).shape ≢ shapes.Join }
-    requires next { (xs : List Row) × ComesPlaced (O.plan operator.now) own.now xs
-        × Keeps (O.plan operator.now) (O.held store.old) (O.has_taken operator.now store.old) (going_on xs) }
-    ensures { OnOk result ((xs : List Row) → ComesPlaced (O.plan operator.now) own.now xs
-        → Keeps (O.plan operator.now) (O.held store.old) (O.has_taken operator.now store.old) (going_on xs)
-        → own.now.ended ≡ false
-        → Keeps (O.plan operator.now) (O.held store.new) (O.has_taken operator.now store.new) (going_on (xs ++ own.now.rows))) }
-{
-    shares_are_local();
-    handed_are_local();
-    let piece = piece(alloc, operator, own)?;
-    operator.take_in(alloc, store, piece, out)?;
-    operator.drop_closed(store);
-    Ok(())
-}
-
-// The text of these tasks and, behind a bar, what the flush task adds: the windows that they leave open.
-fn answer<O: Operator>(
-    rt: &impl Abort,
-    alloc: Global,
-    operator: &O,
-    counter: Option<Places>,
-    tasks: &str,
-    looks_back: bool,
-) -> Result<Vec<u8>, NoMemory>
-    requires windows { Fits (frame (O.plan operator.now)) }
-    requires no_join { (O.plan operator.now).shape ≢ shapes.Join }
-    requires columns { HasKeyed (O.plan operator.now) }
-    requires counted { AreCounted (O.plan operator.now) [] counter }
-{
-    no_rows_give_nothing();
-    let mut counted = counter;
-    let mut mark = BEGINNING;
-    let mut last = Earlier::none(alloc, mark);
-    let mut store = operator.empty_store(alloc);
-    let mut out = Vec::new(alloc);
-    for task in tasks.split('|') {
-        let table = keyed_rows(rt, alloc, task)?;
-        let (own, after, rows) = next_block(
-            alloc,
-            looks_back,
-            &mut counted,
-            mark,
-            last,
-            &table,
-            false,
-        )?;
-        give(alloc, operator, &own, &mut store, &mut out)?;
-        mark = after;
-        last = rows;
-    }
-    out.push(b'|')?;
-    let (own, _after, _rows) = next_block(alloc, looks_back, &mut counted, mark, last, &[], true)?;
-    give(alloc, operator, &own, &mut store, &mut out)?;
-    Ok(out)
-}
-
-// Tasks, and their text. It is the same whether or not their blocks have rows before their own.
-fn check_tasks(rt: &impl Abort, alloc: Global, plan: &Plan, line: &str) -> Result<(), NoMemory>
+// Tasks, and their text.
+fn check_line(rt: &impl Abort, alloc: Global, plan: &Plan, line: &str) -> Result<(), NoMemory>
     requires { IsOfOne shapes.Group 3 plan.now }
 {
     checked_fit();
-    let (tasks, wanted) = cut(rt, line, '=');
-    let group = Group::new(plan);
-    for looks_back in [false, true] {
-        let counter = Places::of_plan(alloc, plan)?;
-        assert_text(
-            rt,
-            answer(rt, alloc, &group, counter, tasks, looks_back)?,
-            wanted.trim(),
-        );
+    match change_in(plan) {
+        None => check_tasks(rt, alloc, &GroupOperator::new(plan), line),
+        Some(change) => check_tasks(rt, alloc, &GroupChanges::new(plan, change), line),
     }
-    Ok(())
 }
 
-// The same of a query with PARTITION BY.
+// Those of a query with PARTITION BY.
 fn check_keyed(rt: &impl Abort, alloc: Global, plan: &Plan, line: &str) -> Result<(), NoMemory>
     requires { IsOfKeys 3 plan.now }
 {
     checked_fit();
-    let (tasks, wanted) = cut(rt, line, '=');
-    let partition = Partition::new(plan);
     let counter = Places::of_plan(alloc, plan)?;
-    assert_text(
-        rt,
-        answer(rt, alloc, &partition, counter, tasks, false)?,
-        wanted.trim(),
-    );
-    Ok(())
+    check_text(rt, alloc, &Partition::new(plan), counter, false, line)
 }
 
 fn check_lines(rt: &impl Abort, alloc: Global, plan: &Plan, lines: &str) -> Result<(), NoMemory>
@@ -196,7 +39,7 @@ fn check_lines(rt: &impl Abort, alloc: Global, plan: &Plan, lines: &str) -> Resu
 {
     for line in lines.lines() {
         if !is_remark(line) {
-            check_tasks(rt, alloc, plan, line)?;
+            check_line(rt, alloc, plan, line)?;
         }
     }
     Ok(())
@@ -273,6 +116,65 @@ SELECT MIN(v), MAX(v), COUNT(*) FROM S [RANGE 3 SLIDE 2]
 SELECT COUNT(*) FROM S [RANGE 1 SLIDE 1]
 # Four thousand million windows that have no row cost nothing.
 0,1,1 4294967295,1,1 = 0,1;|4294967295,1;
+
+RSTREAM (SELECT g, SUM(v) FROM S [ROWS 3 SLIDE 1] GROUP BY g)
+# What is printed without a word.
+0,1,10 1,1,20 | 2,2,5 2,1,7 = 0,1,30;0,2,5;1,1,27;1,2,5;|2,1,7;2,2,5;3,1,7;
+0,1,10 | 1,1,20 | 2,2,5 | 2,1,7 | 9,2,1 = 0,1,30;0,2,5;1,1,27;1,2,5;2,1,7;2,2,6;|3,1,7;3,2,1;4,2,1;
+
+ISTREAM (SELECT g, SUM(v) FROM S [ROWS 3 SLIDE 1] GROUP BY g)
+# What a window has that the one before it hasn't: windows 0 and 1 have the same sum of key 2.
+0,1,10 1,1,20 | 2,2,5 2,1,7 = 0,1,30;0,2,5;1,1,27;|2,1,7;
+0,1,10 | 1,1,20 | 2,2,5 | 2,1,7 | 9,2,1 = 0,1,30;0,2,5;1,1,27;2,1,7;2,2,6;|3,2,1;
+0,1,10 1,1,20 | 2,2,5 2,1,7 | 9,2,1 = 0,1,30;0,2,5;1,1,27;2,1,7;2,2,6;|3,2,1;
+0,1,10 | 1,1,20 2,2,5 2,1,7 9,2,1 = 0,1,30;0,2,5;1,1,27;2,1,7;2,2,6;|3,2,1;
+0,1,10 1,1,20 2,2,5 2,1,7 9,2,1 = 0,1,30;0,2,5;1,1,27;2,1,7;2,2,6;|3,2,1;
+
+DSTREAM (SELECT g, SUM(v) FROM S [ROWS 3 SLIDE 1] GROUP BY g)
+# What the one before it has and it hasn't.
+0,1,10 1,1,20 | 2,2,5 2,1,7 = 1,1,30;|2,1,27;3,2,5;
+0,1,10 | 1,1,20 | 2,2,5 | 2,1,7 | 9,2,1 = 1,1,30;2,1,27;2,2,5;|3,2,6;4,1,7;
+0,1,10 1,1,20 | 2,2,5 2,1,7 | 9,2,1 = 1,1,30;2,1,27;2,2,5;|3,2,6;4,1,7;
+0,1,10 | 1,1,20 2,2,5 2,1,7 9,2,1 = 1,1,30;2,1,27;2,2,5;|3,2,6;4,1,7;
+0,1,10 1,1,20 2,2,5 2,1,7 9,2,1 = 1,1,30;2,1,27;2,2,5;|3,2,6;4,1,7;
+
+ISTREAM (SELECT COUNT(*) FROM S [ROWS 3 SLIDE 1] GROUP BY g)
+# Equal lines are counted: windows 0 to 4 have 2 and 1, 2 and 1, 1 and 2, 1 and 1, and 1.
+0,1,10 | 1,1,20 | 2,2,5 | 2,1,7 | 9,2,1 = 0,2;0,1;|3,1;
+0,1,10 1,1,20 2,2,5 2,1,7 9,2,1 = 0,2;0,1;|3,1;
+
+DSTREAM (SELECT COUNT(*) FROM S [ROWS 3 SLIDE 1] GROUP BY g)
+0,1,10 | 1,1,20 | 2,2,5 | 2,1,7 | 9,2,1 = |3,2;4,1;
+0,1,10 1,1,20 2,2,5 2,1,7 9,2,1 = |3,2;4,1;
+
+ISTREAM (SELECT COUNT(*) FROM S [ROWS 1 SLIDE 1] WHERE v > 6)
+# Windows 0, 1 and 3 have a row that passes. It is window 2 that window 3 is compared with, not the last that had a line.
+0,1,10 | 1,1,20 | 2,2,5 | 2,1,7 | 9,2,1 = 0,1;3,1;|
+0,1,10 1,1,20 | 2,2,5 2,1,7 | 9,2,1 = 0,1;3,1;|
+0,1,10 1,1,20 2,2,5 2,1,7 9,2,1 = 0,1;3,1;|
+
+DSTREAM (SELECT COUNT(*) FROM S [ROWS 1 SLIDE 1] WHERE v > 6)
+0,1,10 | 1,1,20 | 2,2,5 | 2,1,7 | 9,2,1 = 2,1;4,1;|
+0,1,10 1,1,20 | 2,2,5 2,1,7 | 9,2,1 = 2,1;4,1;|
+0,1,10 1,1,20 2,2,5 2,1,7 9,2,1 = 2,1;4,1;|
+
+ISTREAM (SELECT COUNT(*) FROM S [RANGE 3 SLIDE 2])
+# By time: windows 2 and 3 close empty, and window 4 is open behind the rows.
+0,1,10 | 1,1,20 | 2,2,5 | 2,1,7 | 9,2,1 = 0,4;1,2;|4,1;
+0,1,10 1,1,20 2,2,5 2,1,7 9,2,1 = 0,4;1,2;|4,1;
+
+DSTREAM (SELECT COUNT(*) FROM S [RANGE 3 SLIDE 2])
+0,1,10 | 1,1,20 | 2,2,5 | 2,1,7 | 9,2,1 = 1,4;2,2;|
+0,1,10 1,1,20 2,2,5 2,1,7 9,2,1 = 1,4;2,2;|
+
+ISTREAM (SELECT COUNT(*) FROM S [RANGE 1 SLIDE 1])
+# Windows between that have no row cost nothing here either.
+0,1,1 4294967295,1,1 = 0,1;|4294967295,1;
+0,1,1 | 4294967295,1,1 = 0,1;|4294967295,1;
+
+DSTREAM (SELECT COUNT(*) FROM S [RANGE 1 SLIDE 1])
+0,1,1 4294967295,1,1 = 1,1;|
+0,1,1 | 4294967295,1,1 = 1,1;|
 
 SELECT g, SUM(v) FROM S [PARTITION BY g ROWS 2 SLIDE 1]
 # Windows of each key are written with the row that closes them, and at the end by key.

@@ -3,19 +3,21 @@ ghost use Rattle.std.specs.Prelude.{◌≡◌, ℕ, [], ◌++◌, IfOk, OnOk, fa
 ghost use Rattle.saber_plan.specs.declared.plans.Shape.TheVariants as h;
 ghost use Rattle.saber_plan.specs.Given.{RowsFit};
 ghost use Rattle.saber_plan.specs.Inputs.{Input, going_on};
-ghost use Rattle.saber_plan.specs.Answers.{frame};
+ghost use Rattle.saber_plan.specs.Answers.{alike, frame, way};
+ghost use Rattle.saber_plan.specs.Trees.{tree_of};
 ghost use Rattle.saber_plan.specs.Windows.{Fits, mark_after, no_rows};
 ghost use Rattle.saber_fragment.specs.Drafts.{own_sight, fed, CanStart, IsSightOf};
 ghost use Rattle.saber_samples.specs.Asking.{IsJoinOf};
 ghost use Rattle.saber_samples.specs.Filling.{HasPairs};
 ghost use Rattle.saber_samples.specs.Standing.{ComesBehind, Keeps};
+ghost use Rattle.saber_operator_tests.specs.Stands.{BehindBlock};
 
-use crate::plans::plan_of_two;
+use crate::plans::{change_in, plan_of_two};
 use crate::texts::{assert_text, cut, is_remark, sided_rows};
 use saber_cells::write_number;
 use saber_flat::Rows;
 use saber_fragment::{Block, Earlier, Operator, Parts, Piece};
-use saber_join::{Join, Pairs};
+use saber_join::{JoinChanges, JoinOperator, Pairs};
 use saber_laws::{
     checked_fit, merge_has_unit, no_rows_give_nothing, part_has_lines, parts_join, parts_lie_within,
 };
@@ -65,12 +67,13 @@ fn piece_of(
     rows: &[(Side, u32, i64)],
     ended: bool,
 ) -> Result<Piece<Pairs>, NoMemory>
-    requires { IsJoinOf 2 plan.now }
+    requires join { IsJoinOf 2 plan.now }
+    requires alike { way (tree_of plan.now) ≡ alike }
 {
     let (one, mark) = sided_block(alloc, 0, BEGINNING, first, false)?;
     let (two, mark) = sided_block(alloc, 1, mark, second, false)?;
     let (own, _) = sided_block(alloc, 2, mark, rows, ended)?;
-    piece(alloc, &Join::new(plan), &one, &two, &own)
+    piece(alloc, &JoinOperator::new(plan), &one, &two, &own)
 }
 
 // The numbers of the windows that have pairs, and a bar.
@@ -98,7 +101,8 @@ fn shown(alloc: Global, piece: Piece<Pairs>) -> Result<Vec<u8>, NoMemory> {
 
 // Two blocks, the task and what it gives: `A,0,5 / B,0,7 / A,1,9 = |0 |||0`. The flush task, which has no rows, is `end`.
 fn check_piece(rt: &impl Abort, alloc: Global, plan: &Plan, line: &str) -> Result<(), NoMemory>
-    requires { IsJoinOf 2 plan.now }
+    requires join { IsJoinOf 2 plan.now }
+    requires alike { way (tree_of plan.now) ≡ alike }
 {
     let (given, wanted) = cut(rt, line, '=');
     let (one, rest) = cut(rt, given, '/');
@@ -152,6 +156,31 @@ fn give<O: Operator>(
     Ok(())
 }
 
+// The next task, of these rows or the input's end, which looks back on a block of all rows before it; and the mark behind it.
+fn take_task<O: Operator>(
+    alloc: Global,
+    operator: &O,
+    behind: &mut Block,
+    mark: Mark,
+    table: &[(Side, u32, i64)],
+    ended: bool,
+    store: &mut O::Store,
+    out: &mut Vec<u8>,
+) -> Result<Mark, NoMemory>
+    requires windows { Fits (frame (O.plan operator.now)) }
+    requires join { (O.plan operator.now).shape ≡ h.Join }
+    requires unlisted { (O.plan operator.now).partition ≡ [] }
+    requires columns { HasPairs (O.plan operator.now) }
+    requires behind { BehindBlock (O.plan operator.now) behind.old mark (O.held store.old) (O.has_taken operator.now store.old) }
+    ensures { IfOk result (λ m. ended ≡ false
+        → BehindBlock (O.plan operator.now) behind.new m (O.held store.new) (O.has_taken operator.now store.new)) }
+{
+    let (own, after) = sided_block(alloc, 2, mark, table, ended)?;
+    give(alloc, operator, behind, &own, store, out)?;
+    behind.rows.extend(&own.rows)?;
+    Ok(after)
+}
+
 // The text of these tasks and, behind a bar, what the flush task adds: the windows that they leave open. A store that kept the parts of
 // closed windows would write them again.
 fn answer<O: Operator>(
@@ -180,36 +209,68 @@ fn answer<O: Operator>(
     let mut out = Vec::new(alloc);
     for task in tasks.split('|') {
         let table = sided_rows(rt, alloc, task)?;
-        let (own, after) = sided_block(alloc, 2, mark, &table, false)?;
-        give(alloc, operator, &behind, &own, &mut store, &mut out)?;
-        behind.rows.extend(&own.rows)?;
-        mark = after;
+        mark = take_task(
+            alloc,
+            operator,
+            &mut behind,
+            mark,
+            &table,
+            false,
+            &mut store,
+            &mut out,
+        )?;
     }
     out.push(b'|')?;
-    let (own, _after) = sided_block(alloc, 2, mark, &[], true)?;
-    give(alloc, operator, &behind, &own, &mut store, &mut out)?;
+    take_task(
+        alloc,
+        operator,
+        &mut behind,
+        mark,
+        &[],
+        true,
+        &mut store,
+        &mut out,
+    )?;
     Ok(out)
 }
 
 // Tasks, and their text: `A,0,5 | B,0,7 = |0,5,7;`.
-fn check_answer(rt: &impl Abort, alloc: Global, plan: &Plan, line: &str) -> Result<(), NoMemory>
-    requires { IsJoinOf 2 plan.now }
+fn check_tasks<O: Operator>(
+    rt: &impl Abort,
+    alloc: Global,
+    operator: &O,
+    line: &str,
+) -> Result<(), NoMemory>
+    requires windows { Fits (frame (O.plan operator.now)) }
+    requires join { (O.plan operator.now).shape ≡ h.Join }
+    requires unlisted { (O.plan operator.now).partition ≡ [] }
+    requires columns { HasPairs (O.plan operator.now) }
 {
-    checked_fit();
     let (tasks, wanted) = cut(rt, line, '=');
-    let out = answer(rt, alloc, &Join::new(plan), tasks)?;
+    let out = answer(rt, alloc, operator, tasks)?;
     assert_text(rt, out, wanted.trim());
     Ok(())
 }
 
 // What one task gives, or what all of them write.
+fn check_alike(rt: &impl Abort, alloc: Global, plan: &Plan, line: &str) -> Result<(), NoMemory>
+    requires join { IsJoinOf 2 plan.now }
+    requires alike { way (tree_of plan.now) ≡ alike }
+{
+    checked_fit();
+    if line.contains('/') {
+        return check_piece(rt, alloc, plan, line);
+    }
+    check_tasks(rt, alloc, &JoinOperator::new(plan), line)
+}
+
 fn check_line(rt: &impl Abort, alloc: Global, plan: &Plan, line: &str) -> Result<(), NoMemory>
     requires { IsJoinOf 2 plan.now }
 {
-    if line.contains('/') {
-        check_piece(rt, alloc, plan, line)
-    } else {
-        check_answer(rt, alloc, plan, line)
+    checked_fit();
+    match change_in(plan) {
+        None => check_alike(rt, alloc, plan, line),
+        Some(change) => check_tasks(rt, alloc, &JoinChanges::new(plan, change), line),
     }
 }
 
@@ -280,6 +341,53 @@ A,0,5 B,0,7 / A,1,9 B,3,6 / A,4,1 B,8,0 = ||1 ||1
 A,0,5 | B,0,7 | A,1,9 | B,3,6 | A,4,1 | B,8,0 = 0,5,7;0,9,7;|1,1,0;
 A,0,5 B,0,7 | A,1,9 B,3,6 | A,4,1 B,8,0 = 0,5,7;0,9,7;|1,1,0;
 A,0,5 B,0,7 A,1,9 B,3,6 A,4,1 B,8,0 = 0,5,7;0,9,7;|1,1,0;
+
+SELECT x*y FROM A [RANGE 1 SLIDE 1], B [RANGE 1 SLIDE 1]
+# At the ends of the bound of products, 2^126.
+A,0,-9223372036854775808 B,0,-9223372036854775808 B,0,9223372036854775807 A,1,3 B,1,-4 \
+= 0,85070591730234615865843651857942052864;0,-85070591730234615856620279821087277056;|1,-12;
+
+SELECT y-2*x FROM A [RANGE 1 SLIDE 1], B [RANGE 1 SLIDE 1]
+A,0,5 B,0,3 A,1,3 B,1,5 A,2,0 B,2,-9 = 0,-7;1,-1;|2,-9;
+
+RSTREAM (SELECT x, y FROM A [ROWS 2 SLIDE 1], B [ROWS 2 SLIDE 1])
+# What is printed without a word.
+A,0,5 | B,0,7 | A,1,9 | B,3,6 | A,4,1 | B,8,0 = 0,5,7;0,5,6;0,9,7;0,9,6;1,9,6;1,9,0;1,1,6;1,1,0;|2,1,0;
+A,0,5 B,0,7 | A,1,9 B,3,6 | A,4,1 B,8,0 = 0,5,7;0,5,6;0,9,7;0,9,6;1,9,6;1,9,0;1,1,6;1,1,0;|2,1,0;
+
+ISTREAM (SELECT x, y FROM A [ROWS 2 SLIDE 1], B [ROWS 2 SLIDE 1])
+# Windows 0 and 1 share the pair of 9 and 6, windows 1 and 2 that of 1 and 0.
+A,0,5 | B,0,7 | A,1,9 | B,3,6 | A,4,1 | B,8,0 = 0,5,7;0,5,6;0,9,7;0,9,6;1,9,0;1,1,6;1,1,0;|
+A,0,5 B,0,7 | A,1,9 B,3,6 | A,4,1 B,8,0 = 0,5,7;0,5,6;0,9,7;0,9,6;1,9,0;1,1,6;1,1,0;|
+A,0,5 B,0,7 A,1,9 B,3,6 A,4,1 B,8,0 = 0,5,7;0,5,6;0,9,7;0,9,6;1,9,0;1,1,6;1,1,0;|
+
+DSTREAM (SELECT x, y FROM A [ROWS 2 SLIDE 1], B [ROWS 2 SLIDE 1])
+A,0,5 | B,0,7 | A,1,9 | B,3,6 | A,4,1 | B,8,0 = 1,5,7;1,5,6;1,9,7;|2,9,6;2,9,0;2,1,6;
+A,0,5 B,0,7 | A,1,9 B,3,6 | A,4,1 B,8,0 = 1,5,7;1,5,6;1,9,7;|2,9,6;2,9,0;2,1,6;
+A,0,5 B,0,7 A,1,9 B,3,6 A,4,1 B,8,0 = 1,5,7;1,5,6;1,9,7;|2,9,6;2,9,0;2,1,6;
+
+ISTREAM (SELECT x FROM A [ROWS 2 SLIDE 1], B [ROWS 2 SLIDE 1])
+# Equal lines are counted: windows 0, 1 and 2 have 5, 5, 9 and 9, then 9, 9, 1 and 1, and then 1.
+A,0,5 | B,0,7 | A,1,9 | B,3,6 | A,4,1 | B,8,0 = 0,5;0,5;0,9;0,9;1,1;1,1;|
+A,0,5 B,0,7 A,1,9 B,3,6 A,4,1 B,8,0 = 0,5;0,5;0,9;0,9;1,1;1,1;|
+
+DSTREAM (SELECT x FROM A [ROWS 2 SLIDE 1], B [ROWS 2 SLIDE 1])
+A,0,5 | B,0,7 | A,1,9 | B,3,6 | A,4,1 | B,8,0 = 1,5;1,5;|2,9;2,9;2,1;
+A,0,5 B,0,7 A,1,9 B,3,6 A,4,1 B,8,0 = 1,5;1,5;|2,9;2,9;2,1;
+
+ISTREAM (SELECT x, y FROM A [RANGE 4 SLIDE 4], B [RANGE 4 SLIDE 4] WHERE x < y)
+# By time: window 1 has no pair, so it loses both of window 0.
+A,0,5 | B,0,7 | A,1,9 | B,3,6 | A,4,1 | B,8,0 = 0,5,7;0,5,6;|
+A,0,5 B,0,7 A,1,9 B,3,6 A,4,1 B,8,0 = 0,5,7;0,5,6;|
+
+DSTREAM (SELECT x, y FROM A [RANGE 4 SLIDE 4], B [RANGE 4 SLIDE 4] WHERE x < y)
+A,0,5 | B,0,7 | A,1,9 | B,3,6 | A,4,1 | B,8,0 = 1,5,7;1,5,6;|
+A,0,5 B,0,7 A,1,9 B,3,6 A,4,1 B,8,0 = 1,5,7;1,5,6;|
+
+DSTREAM (SELECT x, y FROM A [RANGE 4 SLIDE 4], B [RANGE 4 SLIDE 4])
+# Rows that leave a gap of a thousand million windows.
+A,0,-3 B,1,7 A,4294967294,5 B,4294967294,6 = 1,-3,7;|
+A,0,-3 B,1,7 | A,4294967294,5 B,4294967294,6 = 1,-3,7;|
 ";
 
 #[test]
@@ -318,6 +426,7 @@ const TIES: &str = "\
 4|x = y AND NOT A.t < B.t|0,0,0;0,1,0;
 # No equality must hold: all of a window's rows are gone through.
 4|x = y OR x < y|0,0,0;0,0,1;0,0,2;0,1,0;0,1,1;0,1,2;0,3,1;1,4,6;
+4|x = y OR A.t < B.t|0,0,0;0,0,1;0,0,2;0,1,0;0,1,2;1,4,5;1,4,6;
 4|NOT x = y|0,0,1;0,1,1;0,3,0;0,3,1;0,3,2;1,4,5;
 ";
 
@@ -326,7 +435,7 @@ fn check_orders(rt: &impl Abort, alloc: Global, plan: &Plan, wanted: &str) -> Re
 {
     for tasks in [ALL, THREES, ONES] {
         let line = format!(in alloc; "{tasks} = {wanted}|")?;
-        check_answer(rt, alloc, plan, &line)?;
+        check_line(rt, alloc, plan, &line)?;
     }
     Ok(())
 }

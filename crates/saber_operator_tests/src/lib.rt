@@ -1,5 +1,5 @@
-//! Tests of the operators and of what they stand on, by their public calls, in a crate of its own so that each of those is proved once.
-//! A table is one text, a line for each case: what is given, `=`, and what is wanted, which was worked out by hand from the rules.
+//! Tests of the operators, by their public calls, in a crate of its own so that each of those is proved once. A table is one text: sections,
+//! each with its query and a line for each case: what is given, `=`, and what is wanted, which was worked out by hand from the rules.
 #![tactic(auto)]
 
 #[cfg(test)]
@@ -7,16 +7,12 @@ mod groups;
 #[cfg(test)]
 mod joins;
 #[cfg(test)]
-mod panes;
-#[cfg(test)]
-mod parts;
-#[cfg(test)]
 mod plans;
 #[cfg(test)]
 mod selections;
 #[cfg(test)]
+mod tasks;
+#[cfg(test)]
 mod texts;
 #[cfg(test)]
-mod values;
-#[cfg(test)]
-mod windows;
+mod windowed;

@@ -1,5 +1,7 @@
-// Lines of rows, worked out by hand.
+// Lines of rows that are selected without a window, worked out by hand.
+ghost use Rattle.std.specs.Prelude.{◌≡◌, None};
 ghost use Rattle.saber_plan.specs.declared.plans.Shape.TheVariants as h;
+ghost use Rattle.saber_plan.specs.Trees.{tree_of};
 ghost use Rattle.saber_fragment.specs.Drafts.{CanStart};
 ghost use Rattle.saber_samples.specs.Asking.{IsOfOne};
 
@@ -28,7 +30,8 @@ fn select(
     last: Option<i64>,
     table: &[(u32, i64, i64)],
 ) -> Result<Text, NoMemory>
-    requires { IsOfOne h.Select 3 plan.now }
+    requires select { IsOfOne h.Select 3 plan.now }
+    requires wordless { (tree_of plan.now).word ≡ None }
 {
     let before = Mark {
         left: u64::from(left),
@@ -48,6 +51,7 @@ fn check_task(rt: &impl Abort, alloc: Global, plan: &Plan, line: &str) -> Result
     let (before, rows) = cut(rt, given, '|');
     let (left, time_before) = cut(rt, before.trim(), ' ');
     let table = keyed_rows(rt, alloc, rows)?;
+    assert!(rt; plan.word().is_none());
     let text = select(alloc, plan, time(rt, left), last(rt, time_before), &table)?;
     let mut out = Vec::new(alloc);
     out.extend_from_slice(text.as_slice())?;
@@ -84,6 +88,36 @@ SELECT g, v*2-1 FROM S WHERE v > 5
 
 SELECT v FROM S WHERE g = 1 AND NOT v < 10
 0 - | 0,1,10 1,1,20 2,2,5 2,1,7 9,2,1 = 10;20;
+
+SELECT g*3-v FROM S
+0 - | 0,5,-2 1,-1,0 9,0,4 = 17;-3;-4;
+
+SELECT 0-g*v FROM S
+# At the ends of the bound of products, 2^126.
+0 - | 0,-9223372036854775808,-9223372036854775808 0,-9223372036854775808,9223372036854775807 0,3,-4 \
+= -85070591730234615865843651857942052864;85070591730234615856620279821087277056;12;
+
+SELECT v FROM S WHERE g = v
+# The second number is greater, the same and less.
+0 - | 7,-1,0 7,-1,-1 7,-1,-2 = -1;
+
+SELECT v FROM S WHERE g <> v
+0 - | 7,-1,0 7,-1,-1 7,-1,-2 = 0;-2;
+
+SELECT v FROM S WHERE g < v
+0 - | 7,-1,0 7,-1,-1 7,-1,-2 = 0;
+
+SELECT v FROM S WHERE g <= v
+0 - | 7,-1,0 7,-1,-1 7,-1,-2 = 0;-1;
+
+SELECT v FROM S WHERE g > v
+0 - | 7,-1,0 7,-1,-1 7,-1,-2 = -2;
+
+SELECT v FROM S WHERE g >= v
+0 - | 7,-1,0 7,-1,-1 7,-1,-2 = -1;-2;
+
+SELECT g, v FROM S WHERE NOT (g < 3 OR v = 4 AND NOT g = 5)
+0 - | 0,2,0 0,2,4 0,3,4 0,5,4 0,3,5 = 5,4;3,5;
 ";
 
 #[test]

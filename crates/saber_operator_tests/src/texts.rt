@@ -17,10 +17,6 @@ pub(crate) fn number(rt: &impl Abort, word: &str) -> i64 {
     word.parse::<i64>().expect(rt, word)
 }
 
-pub(crate) fn count(rt: &impl Abort, word: &str) -> u64 {
-    word.parse::<u64>().expect(rt, word)
-}
-
 pub(crate) fn time(rt: &impl Abort, word: &str) -> u32 {
     word.parse::<u32>().expect(rt, word)
 }

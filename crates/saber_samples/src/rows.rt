@@ -19,7 +19,7 @@ pub fn keyed_row(alloc: Global, time: u32, key: i64, number: i64) -> Result<Row,
 }
 
 /// A row of two columns: a time and a number.
-pub fn sided_row(alloc: Global, side: Side, time: u32, number: i64) -> Result<Row, NoMemory>
+pub(crate) fn sided_row(alloc: Global, side: Side, time: u32, number: i64) -> Result<Row, NoMemory>
     ensures { IfOk result (λ r. RowFits side 2 r × (stamp r.values ≡ time)) }
 {
     let values = Values::from_slice(alloc, &[i64::from(time), number])?;

@@ -29,7 +29,7 @@ piece-requires-clause-starts c =
     let own = c.in_ok-own.own in
     let is = c.in_ok-own.ensures in
     let rows = one.one.rows ++ two.two.rows in
-    let all = all_fit q (c.requires.2, c.requires.3) one.one.rows two.two.rows own.rows _ _ one.ensures.fit one.ensures.mark two.ensures.fit two.ensures.mark is.fit in
+    let all = all_fit q (c.requires.join.2, c.requires.join.3) one.one.rows two.two.rows own.rows _ _ one.ensures.fit one.ensures.mark two.ensures.fit two.ensures.mark is.fit in
     let before = is.before ∙ two.ensures.mark start one.one.rows (one.ensures.mark start [] refl) in
     subst (λ (p : Plan). CanStart (tree_of p) own) (sym c.new.ensures) (starts_alone q own is.alone (subst (λ m. RowsFit q m own.rows) (sym before) (fits_back q start rows own.rows all)))
 
@@ -40,7 +40,7 @@ piece-requires-clause-fits c =
     let two = c.in_ok-two in
     let own = c.in_ok-own.own in
     let rows = one.one.rows ++ two.two.rows in
-    let all = all_fit q (c.requires.2, c.requires.3) one.one.rows two.two.rows own.rows _ _ one.ensures.fit one.ensures.mark two.ensures.fit two.ensures.mark c.in_ok-own.ensures.fit in
+    let all = all_fit q (c.requires.join.2, c.requires.join.3) one.one.rows two.two.rows own.rows _ _ one.ensures.fit one.ensures.mark two.ensures.fit two.ensures.mark c.in_ok-own.ensures.fit in
     subst₂ (λ (p : Plan) m. RowsFit (tree_of p) m (rows ++ own.rows)) (sym c.new.ensures) (sym one.ensures.before) all
 
 pub piece-requires-clause-goes_on : goal.piece-requires-clause-goes_on

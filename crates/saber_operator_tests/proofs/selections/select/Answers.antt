@@ -15,5 +15,5 @@ piece-requires c =
     let left = c.from.ensures in
     let own = c.in_ok-own.own in
     let is = c.in_ok-own.ensures in
-    let fits : RowsFit q before own.rows = is.fit q before [] c.requires.2 refl (fits_nil q before (omega (arith, left)) (omega arith)) in
+    let fits : RowsFit q before own.rows = is.fit q before [] c.requires.select.2 refl (fits_nil q before (omega (arith, left)) (omega arith)) in
     subst (λ (p : Plan). CanStart (tree_of p) own) (sym c.new.ensures) (starts_alone q own is.alone (subst (λ m. RowsFit q m own.rows) (sym is.before) fits))

@@ -1,0 +1,3 @@
+mod InOrder
+mod PartFacts
+mod PanesFrom

@@ -1,0 +1,16 @@
+//! Tests of what operators stand on, by its public calls: windows, parts and their panes, and what windows gain and lose. A table is one
+//! text, a line for each case: what is given, `=`, and what is wanted, which was worked out by hand from the rules.
+#![tactic(auto)]
+
+#[cfg(test)]
+mod changes;
+#[cfg(test)]
+mod panes;
+#[cfg(test)]
+mod parts;
+#[cfg(test)]
+mod plans;
+#[cfg(test)]
+mod texts;
+#[cfg(test)]
+mod windows;
