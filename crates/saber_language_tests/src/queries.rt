@@ -89,22 +89,17 @@ STREAM S(t,g,v); SELECT COUNT(*) FROM S [PARTITION BY g ROWS 65537 SLIDE 1]|61 O
 STREAM A(t,x); STREAM B(t,y); SELECT y FROM A [PARTITION BY x ROWS 1 SLIDE 1], B [ROWS 1 SLIDE 1]|46 Shape
 STREAM A(t,x); STREAM B(t,y); SELECT y FROM A [ROWS 1 SLIDE 1], B [PARTITION BY y ROWS 1 SLIDE 1]|66 Shape
 STREAM W(a,b,c,d,e,f,g,h,i); SELECT COUNT(*) FROM W [PARTITION BY a,b,c,d,e,f,g,h,i ROWS 1 SLIDE 1]|82 TooMany
-";
-
-// Nothing answers stream words as yet, and the checks refuse them at the name of their stream in FROM. Behind a second bar stands what
-// a text has without that: once its form is answered, this is what is wanted, and the row goes into the table above.
-const UNANSWERED: &str = "\
-STREAM S(t,g,v); RSTREAM (SELECT g FROM S [ROWS 65536 SLIDE 1])|40 Shape|Select [Stream { columns: 3, window: Some(Window { measure: Rows, size: 65536, slide: 1 }) }] [] [] Some(Rstream)
-STREAM S(t,g,v); ISTREAM (SELECT v FROM S [ROWS 1 SLIDE 1])|40 Shape|Select [Stream { columns: 3, window: Some(Window { measure: Rows, size: 1, slide: 1 }) }] [] [] Some(Istream)
-STREAM S(t,g,v); DSTREAM (SELECT v FROM S [ROWS 1 SLIDE 1])|40 Shape|Select [Stream { columns: 3, window: Some(Window { measure: Rows, size: 1, slide: 1 }) }] [] [] Some(Dstream)
-STREAM S(t,g,v); ISTREAM (SELECT g, COUNT(*) FROM S [RANGE 3 SLIDE 1] GROUP BY g);|50 Shape|Group [Stream { columns: 3, window: Some(Window { measure: Range, size: 3, slide: 1 }) }] [1] [] Some(Istream)
-STREAM A(t,x); STREAM B(t,y); DSTREAM (SELECT x, y FROM A [RANGE 4 SLIDE 4], B [RANGE 4 SLIDE 4])|56 Shape|Join [Stream { columns: 2, window: Some(Window { measure: Range, size: 4, slide: 4 }) }, Stream { columns: 2, window: Some(Window { measure: Range, size: 4, slide: 4 }) }] [] [] Some(Dstream)
-STREAM S(t,g,v); RSTREAM (SELECT v FROM S [PARTITION BY g ROWS 2 SLIDE 1])|40 Shape|42 Shape
-STREAM S(t,g,v); ISTREAM (SELECT g, COUNT(*) FROM S [PARTITION BY g ROWS 2 SLIDE 1])|50 Shape|52 Shape
-STREAM S(t,g,v); RSTREAM (SELECT v FROM S [ROWS 65537 SLIDE 1])|40 Shape|48 Overlap
-STREAM S(t,g,v); RSTREAM (SELECT v FROM S [ROWS 2 SLIDE 1] WHERE w = 1)|40 Shape|65 UnknownColumn
-STREAM A(t,x); STREAM B(t,y); RSTREAM (SELECT y FROM A [ROWS 1 SLIDE 1], B)|53 Shape|73 Shape
-STREAM A(t,x); STREAM B(t,y); RSTREAM (SELECT y FROM A [ROWS 1 SLIDE 1], B [ROWS 1 SLIDE 1] GROUP BY y)|53 Shape|92 Shape
+STREAM S(t,g,v); RSTREAM (SELECT g FROM S [ROWS 65536 SLIDE 1])|Select [Stream { columns: 3, window: Some(Window { measure: Rows, size: 65536, slide: 1 }) }] [] [] Some(Rstream)
+STREAM S(t,g,v); ISTREAM (SELECT v FROM S [ROWS 1 SLIDE 1])|Select [Stream { columns: 3, window: Some(Window { measure: Rows, size: 1, slide: 1 }) }] [] [] Some(Istream)
+STREAM S(t,g,v); DSTREAM (SELECT v FROM S [ROWS 1 SLIDE 1])|Select [Stream { columns: 3, window: Some(Window { measure: Rows, size: 1, slide: 1 }) }] [] [] Some(Dstream)
+STREAM S(t,g,v); ISTREAM (SELECT g, COUNT(*) FROM S [RANGE 3 SLIDE 1] GROUP BY g);|Group [Stream { columns: 3, window: Some(Window { measure: Range, size: 3, slide: 1 }) }] [1] [] Some(Istream)
+STREAM A(t,x); STREAM B(t,y); DSTREAM (SELECT x, y FROM A [RANGE 4 SLIDE 4], B [RANGE 4 SLIDE 4])|Join [Stream { columns: 2, window: Some(Window { measure: Range, size: 4, slide: 4 }) }, Stream { columns: 2, window: Some(Window { measure: Range, size: 4, slide: 4 }) }] [] [] Some(Dstream)
+STREAM S(t,g,v); RSTREAM (SELECT v FROM S [PARTITION BY g ROWS 2 SLIDE 1])|42 Shape
+STREAM S(t,g,v); ISTREAM (SELECT g, COUNT(*) FROM S [PARTITION BY g ROWS 2 SLIDE 1])|52 Shape
+STREAM S(t,g,v); RSTREAM (SELECT v FROM S [ROWS 65537 SLIDE 1])|48 Overlap
+STREAM S(t,g,v); RSTREAM (SELECT v FROM S [ROWS 2 SLIDE 1] WHERE w = 1)|65 UnknownColumn
+STREAM A(t,x); STREAM B(t,y); RSTREAM (SELECT y FROM A [ROWS 1 SLIDE 1], B)|73 Shape
+STREAM A(t,x); STREAM B(t,y); RSTREAM (SELECT y FROM A [ROWS 1 SLIDE 1], B [ROWS 1 SLIDE 1] GROUP BY y)|92 Shape
 ";
 
 fn plan_text(alloc: Global, plan: &Plan) -> Result<String, AllocError> {
@@ -138,10 +133,9 @@ fn checked(alloc: Global, text: &[u8]) -> Result<String, AllocError> {
 }
 
 fn check_checked<R: Abort>(rt: &R, alloc: Global, row: &str) -> Result<(), AllocError> {
-    let Some((text, rest)) = row.split_once('|') else {
+    let Some((text, wanted)) = row.split_once('|') else {
         panic!(rt; "a row without a bar");
     };
-    let (wanted, _once_answered) = rest.split_once('|').unwrap_or((rest, ""));
     let found = checked(alloc, text.as_bytes())?;
     assert!(rt; found.as_str() == wanted, "{row}: {found}");
     Ok(())
@@ -150,9 +144,6 @@ fn check_checked<R: Abort>(rt: &R, alloc: Global, row: &str) -> Result<(), Alloc
 #[test]
 fn plans_and_faults(rt: HostRuntime) -> Result<(), Fail> {
     for row in CHECKED.lines() {
-        check_checked(&rt, rt.alloc(), row)?;
-    }
-    for row in UNANSWERED.lines() {
         check_checked(&rt, rt.alloc(), row)?;
     }
     Ok(())
