@@ -1,5 +1,5 @@
 -- What cancels none, where the lines of both windows rise.
-use Rattle.std.proofs.Common.{◌≡◌, ℕ, zero, suc, ◌+◌, List, [], ◌∷◌, drop, length, Bool, true, false, ◌||◌, cond, ℤ, Vec, Global, refl, sym, ◌∙◌, ap, subst, arith}
+use Rattle.std.proofs.Common.{◌≡◌, ℕ, suc, ◌+◌, List, [], ◌∷◌, ◌++◌, drop, get_or, length, Bool, true, false, ◌||◌, cond, ℤ, refl, sym, ◌∙◌, ap, subst, arith}
 use Rattle.std.proofs.lemmas.Bool.{both_ways}
 use Rattle.std.specs.Cmp.{tied_itself, alike_right}
 use Rattle.std.specs.List.{list_any}
@@ -7,10 +7,9 @@ use Rattle.std.specs.Ordering.{is_eq, is_lt, ordering_reverse}
 use Rattle.std.specs.declared.cmp.Ordering.{Ordering}
 use Rattle.std.specs.declared.cmp.Ordering.TheVariants.{Less, Equal, Greater}
 use Rattle.saber_plan.specs.Answers.{Answers, key_cmp, same_line, without, uncancelled}
-use Rattle.saber_plan.specs.PartFacts.{total}
-use Rattle.saber_changes.specs.Counts.{numbers_in}
+use Rattle.saber_plan.specs.PartFacts.{total, exact}
 use Rattle.saber_changes.specs.Rising.{is_below, NoneBelow, Rises, Reaches, begins_with}
-use Rattle.saber_changes.proofs.Cancelling.{same}
+use Rattle.saber_changes.proofs.Cancelling.{same, itself}
 
 -- ---- the order of lines
 
@@ -40,19 +39,6 @@ none_below_on : (k l : List ℤ) (ls : Answers) → is_below l k ≡ false → N
 none_below_on k l [] a h = h
 none_below_on k l (m ∷ ms) a h = (not_below k l m a h.0, none_below_on k l ms a h.1)
 
--- one more line in front of some that rise
-pub one_more_rises : (k : List ℤ) (ls : Answers) → Reaches k ls → Rises ls → Rises (k ∷ ls)
-one_more_rises k [] h r = (tt, tt)
-one_more_rises k (l ∷ ls) h r = ((h, none_below_on k l ls h r.0), r)
-
--- a line isn't below itself nor are those behind it
-pub none_from : (k : List ℤ) (ks : Answers) → Rises (k ∷ ks) → NoneBelow k (k ∷ ks)
-none_from k ks r = (not_itself k, r.0)
-
-pub rest_rises : (ls : Answers) → Rises ls → Rises (drop 1 ls)
-rest_rises [] r = r
-rest_rises (l ∷ ls) r = r.1
-
 -- ---- lines that cancel none
 
 -- a line that is below all of these cancels none of them
@@ -68,7 +54,7 @@ below_cancels_none k o (l ∷ ls) os low h =
     ∙ (λ i. cond (list_any (same_line l) os) (below_cancels_none k o ls (without l os) low h.1 i) (l ∷ below_cancels_none k o ls os low h.1 i))
 
 -- the first of the others cancels the line
-pub first_cancels : (k : List ℤ) (ks os : Answers) → begins_with k os ≡ true → uncancelled (k ∷ ks) os ≡ uncancelled ks (drop 1 os)
+first_cancels : (k : List ℤ) (ks os : Answers) → begins_with k os ≡ true → uncancelled (k ∷ ks) os ≡ uncancelled ks (drop 1 os)
 first_cancels k ks [] e = cc
 first_cancels k ks (o ∷ os) e = λ i. cond (e i || list_any (same_line k) os) (uncancelled ks (cond (e i) os (o ∷ without k os))) (k ∷ uncancelled ks (o ∷ os))
 
@@ -90,29 +76,41 @@ none_same k o (l ∷ ls) low h =
     differs_back true e = absurd (both_ways _ (sym low ∙ subst (λ x. is_below x o ≡ false) (sym (same k l e)) h.0) refl)
 
 -- or none of the others does
-pub none_cancels : (k : List ℤ) (ks os : Answers) → Reaches k os → Rises os → begins_with k os ≡ false → uncancelled (k ∷ ks) os ≡ k ∷ uncancelled ks os
+none_cancels : (k : List ℤ) (ks os : Answers) → Reaches k os → Rises os → begins_with k os ≡ false → uncancelled (k ∷ ks) os ≡ k ∷ uncancelled ks os
 none_cancels k ks [] h r e = refl
 none_cancels k ks (o ∷ os) h r e =
     let none : list_any (same_line k) (o ∷ os) ≡ false = (λ i. e i || list_any (same_line k) os) ∙ none_same k o os (above k o h e) r.0 in
     λ i. cond (none i) (uncancelled ks (without k (o ∷ os))) (k ∷ uncancelled ks (o ∷ os))
 
--- ---- in lists of lists
+-- ---- by one look at the next of the others
 
-one_up : (n : ℕ) → n + 1 ≡ suc n
-one_up n = omega arith
+pub itself_and : (k : List ℤ) (ks : Answers) → NoneBelow k ks → NoneBelow k (k ∷ ks)
+itself_and k ks h = (not_itself k, h)
 
-rest_behind : (ls : List (Vec ℤ Global)) (n : ℕ) → drop 1 (numbers_in (drop n ls)) ≡ numbers_in (drop (suc n) ls)
-rest_behind [] zero = refl
-rest_behind [] (suc n) = refl
-rest_behind (l ∷ ls) zero = refl
-rest_behind (l ∷ ls) (suc n) = rest_behind ls n
+pub equal_cancels : (k o : List ℤ) (ks os : Answers) → key_cmp o k ≡ Equal → uncancelled (k ∷ ks) (o ∷ os) ≡ uncancelled ks os
+equal_cancels k o ks os e = first_cancels k ks (o ∷ os) (subst (λ l. same_line k l ≡ true) (sym (exact o k e)) (itself k))
 
-pub rest_is : (ls : List (Vec ℤ Global)) (n : ℕ) → drop 1 (numbers_in (drop n ls)) ≡ numbers_in (drop (n + 1) ls)
-rest_is ls n = rest_behind ls n ∙ ap (λ k. numbers_in (drop k ls)) (sym (one_up n))
+pub greater_cancels_none : (k o : List ℤ) (ks all os : Answers) → all ≡ o ∷ os → key_cmp o k ≡ Greater → Rises all → uncancelled (k ∷ ks) all ≡ k ∷ uncancelled ks all
+greater_cancels_none k o ks all os n e r =
+    none_cancels k ks all (subst (Reaches k) (sym n) (ap is_lt e)) r (ap (begins_with k) n ∙ ap is_eq (total.antisymm k o ∙ ap ordering_reverse e))
 
--- the last of them alone
-pub last_rises : (ls : List (Vec ℤ Global)) (n : ℕ) → n + 1 ≡ length ls → Rises (numbers_in (drop n ls))
-last_rises [] n e = absurd (omega (arith, e))
-last_rises (l ∷ []) zero e = (tt, tt)
-last_rises (l ∷ m ∷ ls) zero e = absurd (omega (arith, e))
-last_rises (l ∷ ls) (suc n) e = last_rises ls n (omega (arith, e))
+pub none_left : (k : List ℤ) (ks os : Answers) → os ≡ [] → uncancelled (k ∷ ks) os ≡ k ∷ uncancelled ks os
+none_left k ks os e = ap (uncancelled (k ∷ ks)) e ∙ ap (λ l. k ∷ uncancelled ks l) (sym e)
+
+-- ---- one line after another
+
+last_not_below : (m l : List ℤ) (ms : Answers) → NoneBelow m (ms ++ l ∷ []) → is_below l m ≡ false
+last_not_below m l [] h = h.0
+last_not_below m l (k ∷ ms) h = last_not_below m l ms h.1
+
+none_below_with : (k l : List ℤ) (ls : Answers) → NoneBelow k ls → is_below l k ≡ false → NoneBelow k (ls ++ l ∷ [])
+none_below_with k l [] h e = (e, tt)
+none_below_with k l (m ∷ ms) h e = (h.0, none_below_with k l ms h.1 e)
+
+-- one line more behind others that rise, where it isn't below the last of them
+pub more_rise : (ls : Answers) (l : List ℤ) → Rises ls → ((i : ℕ) → i + 1 ≡ length ls → is_below l (get_or ls i l) ≡ false) → Rises (ls ++ l ∷ [])
+more_rise [] l r h = (tt, tt)
+more_rise (k ∷ []) l r h = ((h 0 refl, tt), (tt, tt))
+more_rise (k ∷ m ∷ ms) l r h =
+    let rest = more_rise (m ∷ ms) l r.1 (λ i e. h (suc i) (omega (arith, e))) in
+    (none_below_with k l (m ∷ ms) r.0 (not_below k m l r.0.0 (last_not_below m l ms rest.0)), rest)

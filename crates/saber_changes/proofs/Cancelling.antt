@@ -1,5 +1,5 @@
 -- What cancels none, by counts.
-use Rattle.std.proofs.Common.{◌≡◌, ℕ, suc, ◌+◌, ◌-◌, ◌≤◌, ◌<◌, List, [], ◌∷◌, ◌++◌, length, drop, get_or, Bool, true, false, ◌||◌, cond, nat_lt, ℤ, pos, Vec, Global, refl, sym, ◌∙◌, ap, subst, append_assoc, arith}
+use Rattle.std.proofs.Common.{◌≡◌, ℕ, suc, ◌+◌, ◌-◌, ◌≤◌, ◌<◌, List, [], ◌∷◌, ◌++◌, length, drop, get_or, Bool, true, false, ◌||◌, cond, nat_lt, ℤ, pos, refl, sym, ◌∙◌, ap, subst, append_assoc, arith}
 use Rattle.std.proofs.lemmas.Bool.{both_ways, lt-ltb}
 use Rattle.std.proofs.lemmas.List.{drop_more}
 use Rattle.std.specs.Cmp.{tied_itself}
@@ -8,14 +8,14 @@ use Rattle.std.specs.List.{list_any}
 use Rattle.saber_plan.specs.Answers.{Answers, line, same_line, without, uncancelled, answer_lines}
 use Rattle.saber_plan.specs.MapFacts.{equal_if}
 use Rattle.saber_plan.specs.PartFacts.{total, exact}
-use Rattle.saber_changes.specs.Counts.{numbers_in, times, one_less, by_counts}
+use Rattle.saber_changes.specs.Counts.{times, one_less, by_counts}
 
 -- ---- equal lines
 
 pub same : (k l : List ℤ) → same_line k l ≡ true → k ≡ l
 same k l e = exact k l (equal_if _ e)
 
-itself : (k : List ℤ) → same_line k k ≡ true
+pub itself : (k : List ℤ) → same_line k k ≡ true
 itself k = ap is_eq (tied_itself total k)
 
 -- ---- one line less
@@ -72,8 +72,8 @@ few k (l ∷ ls) = let rest = few k ls in elim (same_line k l) as (λ b. cond b 
 -- ---- one line after another
 
 -- the next of some lines, and those behind it
-pub next_line : (ls : List (Vec ℤ Global)) (i : ℕ) (x : Vec ℤ Global) → i < length ls → x ≡ get_or ls i x → numbers_in (drop i ls) ≡ x.items ∷ numbers_in (drop (i + 1) ls)
-next_line ls i x h e = ap numbers_in (drop_more ls i x h ∙ ap (λ y. y ∷ drop (i + 1) ls) (sym e))
+pub next_line : (ls : Answers) (i : ℕ) (x : List ℤ) → i < length ls → x ≡ get_or ls i x → drop i ls ≡ x ∷ drop (i + 1) ls
+next_line ls i x h e = drop_more ls i x h ∙ ap (λ y. y ∷ drop (i + 1) ls) (sym e)
 
 -- it cancels one that is left
 pub cancels : (w : ℕ) (out all_out : List ℕ) (k : List ℤ) (all ks : Answers) (n m : List ℤ → ℕ) → all ≡ k ∷ ks → true ≡ nat_lt 0 (n k) → ((l : List ℤ) → m l ≡ one_less n k l)
@@ -94,7 +94,3 @@ few_here k whole all ks n a e =
     let most = few k whole in
     let one : times k all ≡ suc (times k ks) = ap (times k) a ∙ ap (λ b. cond b (suc (times k ks)) (times k ks)) (itself k) in
     omega (arith, most, one, e)
-
-pub numbers_long : (ls : List (Vec ℤ Global)) → length (numbers_in ls) ≡ length ls
-numbers_long [] = refl
-numbers_long (l ∷ ls) = ap suc (numbers_long ls)

@@ -1,4 +1,5 @@
 mod Apart
 mod Cancelling
+mod Spanned
 mod Tallied
 mod Walking

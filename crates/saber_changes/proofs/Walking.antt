@@ -1,5 +1,5 @@
 -- A walk passes windows without answers, and then one more.
-use Rattle.std.proofs.Common.{◌≡◌, ℕ, zero, suc, ◌+◌, ◌-◌, ◌≤◌, ◌<◌, List, [], ◌++◌, refl, sym, ◌∙◌, ap, append-nil, append_assoc, arith}
+use Rattle.std.proofs.Common.{◌≡◌, ℕ, zero, suc, ◌+◌, ◌≤◌, ◌<◌, List, [], ◌++◌, refl, sym, ◌∙◌, ap, append-nil, append_assoc, arith}
 use Rattle.saber_plan.specs.Answers.{Answers, before_window, answer_lines}
 use Rattle.saber_plan.specs.NumberFacts.{flat_nil, flat_step, flat_skip}
 use Rattle.saber_changes.specs.declared.cancel.Change.{Change}

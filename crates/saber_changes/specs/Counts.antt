@@ -1,14 +1,10 @@
 -- How often lines come, and which are left when those of two windows cancel one another, by counts.
-use Rattle.std.specs.Prelude.{ℕ, suc, ◌-◌, List, [], ◌∷◌, map, if◌then◌else◌, nat_lt, ℤ, Vec, unwrap_or}
-use Rattle.std.proofs.Common.{Global, Bor}
+use Rattle.std.specs.Prelude.{ℕ, suc, ◌-◌, List, [], ◌∷◌, map, if◌then◌else◌, nat_lt, ℤ, unwrap_or}
+use Rattle.std.proofs.Common.{Bor}
 use Rattle.std.specs.FinMap.{FinMap, get, from_entries}
 use Rattle.saber_plan.specs.Answers.{Answers, Change as Changing, key_cmp, same_line, gained, lost}
 use Rattle.saber_changes.specs.declared.cancel.Change.{Change}
 use Rattle.saber_changes.specs.declared.cancel.Change.TheVariants.{Gained, Lost}
-
--- the numbers of lines
-abbrev pub numbers_in : List (Vec ℤ Global) → Answers
-numbers_in ls = map (λ v. v.items) ls
 
 -- how often a line comes
 abbrev pub times : List ℤ → Answers → ℕ

@@ -1,4 +1,5 @@
 pub mod Counts
 pub mod Rising
+pub mod Spans
 pub mod Walks
 pub mod WalkFacts

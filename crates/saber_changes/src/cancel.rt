@@ -7,7 +7,7 @@ ghost use Rattle.saber_changes.specs.Counts.{change_of};
 use crate::answers::Answers;
 use crate::counts::{counted, take};
 use crate::lines::write_line;
-use crate::rising::{rise, write_apart};
+use crate::rising::write_apart;
 use saber_plan::NoMemory;
 use std::alloc::Global;
 
@@ -31,13 +31,13 @@ fn write_counted(
     ensures ok { OnOk result (out.new.items ≡ out.old.items ++ answer_lines window (uncancelled answers.now others.now)) }
     ensures behind { Behind out.old.items out.new.items }
 {
-    let mut left = counted(alloc, others.as_slice())?;
-    let lines = answers.as_slice();
-    for line in lines {
-        if take(&mut left, line.as_slice()) {
+    let mut left = counted(alloc, others)?;
+    for i in 0..answers.len() {
+        let line = answers.line(i);
+        if take(&mut left, line) {
             continue;
         }
-        write_line(out, window, line.as_slice())?;
+        write_line(out, window, line)?;
     }
     Ok(())
 }
@@ -54,8 +54,8 @@ pub(crate) fn write_uncancelled(
     ensures ok { OnOk result (out.new.items ≡ out.old.items ++ answer_lines window (uncancelled answers.now others.now)) }
     ensures behind { Behind out.old.items out.new.items }
 {
-    if rise(answers.as_slice()) && rise(others.as_slice()) {
-        write_apart(window, answers.as_slice(), others.as_slice(), out)
+    if answers.rise() && others.rise() {
+        write_apart(window, answers, others, out)
     } else {
         write_counted(alloc, window, answers, others, out)
     }

@@ -1,7 +1,8 @@
 // How often lines come.
 ghost use Rattle.std.specs.Prelude.{◌≡◌, ◌+◌, ◌<◌, ◌^◌, List, ℤ, nat_lt, true, false, IfOk, OnOk};
-ghost use Rattle.saber_changes.specs.Counts.{numbers_in, times, counts_of, tally, one_more, one_less};
+ghost use Rattle.saber_changes.specs.Counts.{times, counts_of, tally, one_more, one_less};
 
+use crate::answers::Answers;
 use saber_plan::NoMemory;
 use std::alloc::Global;
 use std::collections::BTreeMap;
@@ -25,13 +26,13 @@ fn count<'a>(counts: &mut BTreeMap<&'a [i128], u64>, line: &'a [i128]) -> Result
 /// How often each of these lines comes among them.
 pub(crate) fn counted<'a>(
     alloc: Global,
-    lines: &'a [Vec<i128>],
+    answers: &'a Answers,
 ) -> Result<BTreeMap<&'a [i128], u64>, NoMemory>
-    ensures { IfOk result (λ counts. (k : List ℤ) → tally (counts_of counts.entries) k ≡ times k (numbers_in lines.now)) }
+    ensures { IfOk result (λ counts. (k : List ℤ) → tally (counts_of counts.entries) k ≡ times k answers.now) }
 {
     let mut counts = BTreeMap::new(alloc);
-    for line in lines {
-        count(&mut counts, line.as_slice())?;
+    for i in 0..answers.len() {
+        count(&mut counts, answers.line(i))?;
     }
     Ok(counts)
 }

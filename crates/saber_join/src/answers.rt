@@ -7,14 +7,6 @@ use saber_changes::Answers;
 use saber_plan::NoMemory;
 use std::alloc::Global;
 
-fn copied(alloc: Global, values: &[i128]) -> Result<Vec<i128>, NoMemory>
-    ensures { IfOk result (λ line. line.items ≡ values.now) }
-{
-    let mut line = Vec::new(alloc);
-    line.extend_from_slice(values)?;
-    Ok(line)
-}
-
 impl Pairs {
     /// The values of the items of each pair, in the order of the pairs.
     pub(crate) fn answers(&self, alloc: Global) -> Result<Answers, NoMemory>
@@ -22,7 +14,7 @@ impl Pairs {
     {
         let mut answers = Answers::new(alloc);
         for values in self.pairs.values() {
-            answers.push(copied(alloc, values.as_slice())?)?;
+            answers.push(values.as_slice())?;
         }
         Ok(answers)
     }

@@ -19,6 +19,10 @@ lines_for i is ns = flat_map (λ n. line (pos i ∷ answers_of is n)) ns
 abbrev pub numbers_of : Part → List Numbers
 numbers_of p = map (λ e. e.1) (entries p)
 
+-- the answers to items of what stands under the keys of a list
+abbrev pub answers_under : List Item → List (List ℤ × Numbers) → List (List ℤ)
+answers_under is es = map (λ e. answers_of is e.1) es
+
 -- what the items ask of one group, of which two rows have the numbers
 abbrev pub answers_of_both : Layout → List Item → List ℤ → List ℤ → List ℤ
 answers_of_both l is xs ys = answers_of is (join_numbers (entry_in l xs).1 (entry_in l ys).1)

@@ -6,8 +6,8 @@
 //!   `joins`, `first_row`, `later_row` and `tally` (numbers of one group), `table`, `places` and
 //!   `merges` (groups in one list), `groups` and `rows` (`Partial`), `young`, `piles` and
 //!   `gathering` (rows gathered, few groups at a time), `headings`, `unprinted`, `lines` and
-//!   `joined_lines` (the text), `answers` (the same as values), `steps` (merges counted), `laws`
-//!   (by which callers meet what is required).
+//!   `joined_lines` (the text), `answers` and `joined_answers` (the same as values), `steps`
+//!   (merges counted), `laws` (by which callers meet what is required).
 //! - Calls: `Partial::add_row` takes a row, `merge` and `merge_from` the part of later rows, given
 //!   or lent, `lines` prints a window's part, `lines_with` two parts without their merge, `answers`
 //!   gives a part's answers as values; `Gathering::add_row` and `take_part`; `Pile::take_from`,
@@ -28,6 +28,7 @@ mod gather;
 mod gathering;
 mod groups;
 mod headings;
+mod joined_answers;
 mod joined_lines;
 mod joins;
 mod later_row;

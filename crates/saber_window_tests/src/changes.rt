@@ -20,7 +20,7 @@ fn answers(rt: &impl Abort, alloc: Global, text: &str) -> Result<Answers, NoMemo
     let mut answers = Answers::new(alloc);
     for word in text.split(' ') {
         if !word.is_empty() {
-            answers.push(answer(rt, alloc, word)?)?;
+            answers.push(answer(rt, alloc, word)?.as_slice())?;
         }
     }
     Ok(answers)

@@ -7,14 +7,6 @@ use saber_changes::Answers;
 use saber_plan::NoMemory;
 use std::alloc::Global;
 
-fn copied(alloc: Global, values: &[i128]) -> Result<Vec<i128>, NoMemory>
-    ensures { IfOk result (λ line. line.items ≡ values.now) }
-{
-    let mut line = Vec::new(alloc);
-    line.extend_from_slice(values)?;
-    Ok(line)
-}
-
 impl Picked {
     /// The values of the items of each row, in the order of the rows.
     pub(crate) fn answers(&self, alloc: Global) -> Result<Answers, NoMemory>
@@ -22,7 +14,7 @@ impl Picked {
     {
         let mut answers = Answers::new(alloc);
         for spot in &self.spots {
-            answers.push(copied(alloc, &self.numbers[spot.start..spot.end])?)?;
+            answers.push(&self.numbers[spot.start..spot.end])?;
         }
         Ok(answers)
     }

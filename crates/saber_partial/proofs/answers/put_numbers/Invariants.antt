@@ -1,7 +1,7 @@
 use Rattle.std.proofs.Common.{◌≡◌, ◌++◌, drop}
 use Rattle.saber_plan.specs.Parts.{answers_of}
 use Rattle.saber_partial.specs.Printing.{left_of, CanPrint}
-use Rattle.saber_partial.proofs.answers.line_of.Given as goal
+use Rattle.saber_partial.proofs.answers.put_numbers.Given as goal
 
 abbrev pub invariant-loop-item : goal.invariant-loop-item
 invariant-loop-item l = record {

@@ -5,7 +5,7 @@ use mir.Syntax.{w128}
 use Rattle.saber_plan.specs.Parts.{answers_of}
 use Rattle.saber_partial.specs.Printing.{left_of, CanPrint}
 use Rattle.saber_partial.proofs.Listed.{moved, next_asked}
-use Rattle.saber_partial.proofs.answers.line_of.Goals as goal
+use Rattle.saber_partial.proofs.answers.put_numbers.Goals as goal
 
 pub loop-item-preserved : goal.loop-item-preserved
 loop-item-preserved c =

@@ -1,1 +1,0 @@
-use Rattle.saber_changes.proofs.rising.rise.Goals as goal

@@ -1,0 +1,50 @@
+use Rattle.std.proofs.Common.{◌≡◌, ◌∙◌, ap, ap₂, sym, subst, subst₂, List, Some, IfOk}
+use Rattle.saber_plan.specs.declared.plans.Item.{Item}
+use Rattle.saber_plan.specs.Answers as a
+use Rattle.saber_plan.specs.Trees.{tree_of}
+use Rattle.saber_plan.specs.Parts.{Part, merge, part_answers}
+use Rattle.saber_plan.specs.PartFacts.{merge-empty_left, merge-empty_right}
+use Rattle.saber_plan.specs.Tasks.{full}
+use Rattle.saber_partial.specs.Printing.{answers_under}
+use Rattle.saber_partial.specs.Sorted.{weave}
+use Rattle.saber_partial.specs.Tallies.{CanMerge}
+use Rattle.saber_partial.proofs.Layouts.{one_layout, entry_in_full}
+use Rattle.saber_partial.proofs.Listed.{part_listed}
+use Rattle.saber_partial.proofs.Rising.{can_all}
+use Rattle.saber_partial.proofs.Weaving.{weave_rises, weave_merge}
+use Rattle.saber_partial.proofs.groups.Partial.answers_with.Goals as goal
+
+pub returns-then-is_empty : goal.returns-then-is_empty
+returns-then-is_empty c =
+    let mine = c.args.self.now in
+    let same = sym (ap (merge mine) (c.is_empty.ensures.none c.if-is_empty.true) ∙ merge-empty_right mine) in
+    subst (λ (p : Part). IfOk c.answers.result (λ a. a ≡ part_answers (tree_of c.args.plan.now) p)) same c.answers.ensures
+
+pub returns-then-is_empty-2 : goal.returns-then-is_empty-2
+returns-then-is_empty-2 c =
+    let theirs = c.args.later.now in
+    let same = sym (ap (λ (p : Part). merge p theirs) (c.is_empty-2.ensures.none c.if-is_empty-2.true) ∙ merge-empty_left theirs) in
+    subst (λ (p : Part). IfOk c.answers-then-is_empty-2.result (λ a. a ≡ part_answers (tree_of c.args.plan.now) p)) same c.answers-then-is_empty-2.ensures
+
+pub answers_woven-requires-clause-alike : goal.answers_woven-requires-clause-alike
+answers_woven-requires-clause-alike c =
+    let es = c.self.inside.groups.entries in
+    let fs = c.later.inside.groups.entries in
+    let both = subst₂ CanMerge (sym c.self.view_is) (sym c.later.view_is) c.requires in
+    let mine = entry_in_full es (subst (λ (p : Part). full p ≡ Some p) (sym c.self.view_is) (c.is_empty-2.ensures.some c.if-is_empty-2.false)) in
+    let theirs = entry_in_full fs (subst (λ (p : Part). full p ≡ Some p) (sym c.later.view_is) (c.is_empty.ensures.some c.if-is_empty.false)) in
+    one_layout c.self.inside.groups.layout c.later.inside.groups.layout es fs c.has_one_layout.ensures c.has_one_layout-2.ensures c.self.invariant c.later.invariant both mine theirs
+
+pub answers_woven-requires-clause-can : goal.answers_woven-requires-clause-can
+answers_woven-requires-clause-can c =
+    let both = subst₂ CanMerge (sym c.self.view_is) (sym c.later.view_is) c.requires in
+    can_all c.self.inside.groups.entries c.later.inside.groups.entries c.self.invariant c.later.invariant (record { at = both.at })
+
+pub returns : goal.returns
+returns c =
+    let es = c.self.inside.groups.entries in
+    let fs = c.later.inside.groups.entries in
+    let q = tree_of c.args.plan.now in
+    let part = weave_merge es fs c.self.invariant c.later.invariant ∙ ap₂ merge c.self.view_is c.later.view_is in
+    let all = ap (λ (is : List Item). answers_under is (weave es fs)) c.items.ensures ∙ part_listed q (weave es fs) (weave_rises es fs c.self.invariant c.later.invariant) ∙ ap (part_answers q) part in
+    subst (λ (l : a.Answers). IfOk c.answers_woven.result (λ a. a ≡ l)) all c.answers_woven.ensures
