@@ -20,8 +20,8 @@ use Rattle.saber_laws.specs.Groups.{GroupsJoin}
 use Rattle.saber_laws.specs.Parts.{NoRowsNoPart, PartHasLines}
 use Rattle.saber_partial.specs.Tallies.{CanMerge}
 use Rattle.saber_partial.specs.PartLaws.{OfRows}
-use Rattle.saber_sliding.specs.Entries.{Entries, whole, pushed, dropped, part_at, CanFollow}
-use Rattle.saber_sliding.specs.EntryFacts.{all_map, all_dropped, all_pushed, part_at-dropped, whole-dropped, part_at-pushed, part_at-behind}
+use Rattle.saber_sliding.specs.Entries.{Entries, whole, dropped, part_at, CanFollow, Put}
+use Rattle.saber_sliding.specs.EntryFacts.{all_map, all_dropped, all_put, part_at-dropped, whole-dropped, part_at-put, part_at-behind}
 use Rattle.saber_partition.specs.Streams.{part_of, lines_between, row_part, Entered, Holds, HoldStill, Printed, Comes, Came, StreamLaws}
 use Rattle.saber_partition.proofs.Counting.{has_is, past_rises, begun_rises, lt_true, lt_false}
 
@@ -178,20 +178,20 @@ module _ (laws : StreamLaws) (q : Tree) (us : List Row) (r : Row) (low past : �
     past_low : past ≤ begun_in q all
     past_low = subst (λ n. past ≤ n) c.past_is (omega arith)
 
-    holds_pushed : Holds q all next (pushed es past m)
-    holds_pushed = record {
+    holds_put : (fs : Entries) → Put es past m fs → Holds q all next fs
+    holds_put fs put = record {
       at = λ i l. ⊎_elim
-          (λ h. inside i (low_next i l) h ∙ ap (λ a. merge a m) (held.at i l) ∙ sym (part_at-pushed laws.unit es past m i h))
+          (λ h. inside i (low_next i l) h ∙ ap (λ a. merge a m) (held.at i l) ∙ sym (part_at-put laws.unit es past m fs i put h))
           (λ h. behind i (low_next i l) h ∙ held.at i l ∙ part_at-behind es i (none_behind i h)
-          ∙ sym (part_at-behind (pushed es past m) i (all_pushed (λ e. e.0 ≤ past) (λ e. e.0 ≤ i) es past m (λ e g. le_trans g h) h ends_low)))
+          ∙ sym (part_at-behind fs i (all_put (λ e. e.0 ≤ past) (λ e. e.0 ≤ i) es past m fs (λ e g. le_trans g h) h put ends_low)))
           (cases_lt i past);
-      begun = all_pushed (IsBegun us) (IsBegun all) es past m begun_more past_low held.begun;
-      few = all_pushed (IsFew us) (IsFew all) es past m few_both few_one held.few;
+      begun = all_put (IsBegun us) (IsBegun all) es past m fs begun_more past_low put held.begun;
+      few = all_put (IsFew us) (IsFew all) es past m fs few_both few_one put held.few;
     }
 
     pub holds_more : (fs : Entries) → Entered es past m fs → Holds q all next fs
     holds_more fs (inl e) = subst (Holds q all next) (sym e.1) (holds_same e.0)
-    holds_more fs (inr e) = subst (Holds q all next) (sym e) holds_pushed
+    holds_more fs (inr put) = holds_put fs put
 
     -- the row is in, and the windows below `low` are done
     pub came : (fs gs : Entries) (done begun : ℕ) (before after : List ℕ) → Entered es past m fs → HoldStill q next fs done gs → Printed q next fs done before after

@@ -18,7 +18,7 @@ use Rattle.saber_laws.specs.Parts.{MergeHasUnit, NoRowsNoPart, PartHasLines}
 use Rattle.saber_laws.specs.Plans.{OneWindow}
 use Rattle.saber_laws.specs.Windows.{BegunStay}
 use Rattle.saber_partial.specs.PartLaws.{OfRows, GroupsAreOfRows, SmallPartsMerge}
-use Rattle.saber_sliding.specs.Entries.{Entries, part_at, pushed}
+use Rattle.saber_sliding.specs.Entries.{Entries, part_at, Put}
 
 -- a group query with PARTITION BY
 pub record Asks (q : Tree) : Type 0 where
@@ -46,7 +46,7 @@ row_part q r = group_part q (filter (λ zs. passes q.predicate zs []) (r.values 
 
 -- a part has come behind others, unless it is empty
 abbrev pub Entered : Entries → ℕ → Part → Entries → Type 0
-Entered es n p fs = ((p ≡ no_part) × (fs ≡ es)) ⊎ (fs ≡ pushed es n p)
+Entered es n p fs = ((p ≡ no_part) × (fs ≡ es)) ⊎ Put es n p fs
 
 -- a queue gives the windows from `next` on their parts, and lies in none that isn't begun
 pub record Holds (q : Tree) (us : List Row) (next : ℕ) (es : Entries) : Type 0 where

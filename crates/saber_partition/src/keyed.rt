@@ -35,7 +35,7 @@ impl Keyed {
         }
     }
 
-    // Puts the part of a row behind the others: two steps, now or later.
+    // Puts the part of a row behind the others, in one entry with those of rows in the same windows: two steps, now or later.
     fn take_part<L: Ledger>(
         &mut self,
         alloc: Global,
@@ -53,7 +53,7 @@ impl Keyed {
         if part.is_empty() {
             return Ok(());
         }
-        self.parts.push(alloc, past, part, steps)
+        self.parts.put(alloc, past, part, steps)
     }
 
     /// Appends the lines of the windows below `low`: one step for each, beside those owed.

@@ -1,5 +1,6 @@
 //! The operator of group queries with PARTITION BY (CQL 2006): windows of each key.
-//! The rows of a key are a stream by themselves, which has windows of its own. The engine runs it;
+//! The rows of a key are a stream by themselves, which has windows of its own. Rows of one slice,
+//! which lie in the same windows, share an entry of their key's queue. The engine runs it;
 //! docs/TASKS.md follows it.
 //!
 //! - Parts, from below: `numbers` (windows by a row's place), `keyed` (one key: a queue of parts),

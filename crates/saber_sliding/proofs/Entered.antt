@@ -26,7 +26,7 @@ merged-push : MergeHasUnit → MergeIsAssociative → (n : ℕ) (p : Part) (es :
 merged-push unit assoc n p [] = (unit p).1 ∙ sym (unit p).0
 merged-push unit assoc n p (e ∷ es) = ap (merge e.1) (merged-push unit assoc n p es) ∙ sym (assoc e.1 (merged es) p)
 
-followed_twice : MergeIsAssociative → (m p : Part) (es : Entries) → followed (merge m p) es ≡ followed p (followed m es)
+pub followed_twice : MergeIsAssociative → (m p : Part) (es : Entries) → followed (merge m p) es ≡ followed p (followed m es)
 followed_twice assoc m p [] = refl
 followed_twice assoc m p (e ∷ es) = λ i. (e.0, sym (assoc e.1 m p) i) ∷ followed_twice assoc m p es i
 
@@ -34,7 +34,7 @@ pub suffixes-push : MergeHasUnit → MergeIsAssociative → (n : ℕ) (p : Part)
 suffixes-push unit assoc n p [] = λ i. (n, (unit p).1 i) ∷ []
 suffixes-push unit assoc n p (e ∷ es) = λ i. (e.0, (ap (merge e.1) (merged-push unit assoc n p es) ∙ sym (assoc e.1 (merged es) p)) i) ∷ suffixes-push unit assoc n p es i
 
-followed-append : (p : Part) (es fs : Entries) → followed p (es ++ fs) ≡ followed p es ++ followed p fs
+pub followed-append : (p : Part) (es fs : Entries) → followed p (es ++ fs) ≡ followed p es ++ followed p fs
 followed-append p [] fs = refl
 followed-append p (e ∷ es) fs = ap (λ l. (e.0, merge e.1 p) ∷ l) (followed-append p es fs)
 
@@ -44,11 +44,11 @@ seen-push unit assoc front back b n p =
     ∙ sym (append_assoc (followed p (followed b front)) (followed p (suffixes back)) (last n p))
     ∙ ap (λ l. l ++ last n p) (sym (followed-append p (followed b front) (suffixes back)))
 
-follow_back : (p b : Part) (front es : Entries) → CanFollow p (followed b front ++ es) → CanFollow p es
+pub follow_back : (p b : Part) (front es : Entries) → CanFollow p (followed b front ++ es) → CanFollow p es
 follow_back p b [] es h = h
 follow_back p b (e ∷ front) es h = follow_back p b front es h.1
 
-joins-push : (b p : Part) (front es : Entries) → CanFollow b front → CanFollow p (followed b front ++ es) → CanFollow (merge b p) front
+pub joins-push : (b p : Part) (front es : Entries) → CanFollow b front → CanFollow p (followed b front ++ es) → CanFollow (merge b p) front
 joins-push b p [] es g h = tt
 joins-push b p (e ∷ front) es g h = (can_ahead e.1 b p g.0 h.0, joins-push b p front es g.1 h.1)
 

@@ -1,5 +1,5 @@
 -- Parts that follow one another, each with the number of the first window that doesn't have it, and what each comes to with those behind it.
-use Rattle.std.specs.Prelude.{◌≡◌, ℕ, Bool, true, false, List, [], ◌∷◌, ◌++◌, map, if◌then◌else◌, nat_le, nat_lt, Option, Some, None, refl}
+use Rattle.std.specs.Prelude.{◌≡◌, ℕ, Bool, true, false, List, [], ◌∷◌, ◌++◌, map, if◌then◌else◌, nat_le, nat_lt, Option, Some, None, ◌⊎◌, refl}
 use Rattle.std.specs.List.{AllByRecursion}
 use Rattle.std.specs.Coded.{Coded, code_by, coded×, coded_ℕ, coded_list}
 use Rattle.saber_plan.specs.Parts.{Part, no_part, merge}
@@ -45,6 +45,16 @@ abbrev pub first_number : Entries → Option ℕ
 first_number [] = None
 first_number (e ∷ es) = Some e.0
 
+-- the number of the last entry
+abbrev pub last_number : Entries → Option ℕ
+last_number [] = None
+last_number (e ∷ []) = Some e.0
+last_number (e ∷ f ∷ es) = last_number (f ∷ es)
+
+-- a part has come behind them all, as one entry more or into the last one, which has its number
+abbrev pub Put : Entries → ℕ → Part → Entries → Type 0
+Put es n p fs = (fs ≡ pushed es n p) ⊎ ((last_number es ≡ Some n) × (fs ≡ followed p es))
+
 -- what window i has: the first entry that it has, and all behind it
 abbrev pub part_at : Entries → ℕ → Part
 part_at [] i = no_part
@@ -63,6 +73,12 @@ merged (e ∷ es) = merge e.1 (merged es)
 abbrev pub suffixes : Entries → Entries
 suffixes [] = []
 suffixes (e ∷ es) = (e.0, merge e.1 (merged es)) ∷ suffixes es
+
+-- the last of them with a part behind it
+abbrev pub joined : Part → Entries → Entries
+joined p [] = []
+joined p (e ∷ []) = (e.0, merge e.1 p) ∷ []
+joined p (e ∷ f ∷ es) = e ∷ joined p (f ∷ es)
 
 -- each can take in those behind it
 abbrev pub Chained : Entries → Type 0

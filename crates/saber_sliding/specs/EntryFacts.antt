@@ -1,11 +1,11 @@
 -- Facts on what windows have of entries. Any proof may cite them.
-use Rattle.std.proofs.Common.{◌≡◌, ℕ, ◌≤◌, ◌<◌, [], ◌∷◌, Bool, true, false, cond, nat_lt, nat_le, Some, None, refl, sym, ◌∙◌, ap, arith}
+use Rattle.std.proofs.Common.{◌≡◌, ℕ, ◌≤◌, ◌<◌, [], ◌∷◌, Bool, true, false, cond, nat_lt, nat_le, Some, None, inl, inr, refl, sym, ◌∙◌, ap, subst, arith}
 use Rattle.std.specs.List.{AllByRecursion}
 use Rattle.std.proofs.lemmas.Bool.{lt-ltb, le-ltb}
 use Rattle.std.proofs.lemmas.Bool.Decides.{nat_tests}
 use Rattle.saber_plan.specs.Parts.{Part, no_part, merge}
 use Rattle.saber_laws.specs.Parts.{MergeHasUnit}
-use Rattle.saber_sliding.specs.Entries.{Entries, whole, pushed, dropped, first_number, part_at}
+use Rattle.saber_sliding.specs.Entries.{Entries, whole, followed, pushed, dropped, first_number, last_number, part_at, Put}
 
 -- ---- facts on each entry
 
@@ -26,6 +26,15 @@ pub all_pushed : (P Q : ℕ × Part → Type 0) (es : Entries) (n : ℕ) (p : Pa
     → Q (n, p) → AllByRecursion P es → AllByRecursion Q (pushed es n p)
 all_pushed P Q [] n p f g h = (g, tt)
 all_pushed P Q (e ∷ es) n p f g h = (f e h.0, all_pushed P Q es n p f g h.1)
+
+all_followed : (P Q : ℕ × Part → Type 0) (es : Entries) (p : Part) → ((e : ℕ × Part) → P e → Q (e.0, merge e.1 p)) → AllByRecursion P es → AllByRecursion Q (followed p es)
+all_followed P Q [] p f h = tt
+all_followed P Q (e ∷ es) p f h = (f e h.0, all_followed P Q es p f h.1)
+
+pub all_put : (P Q : ℕ × Part → Type 0) (es : Entries) (n : ℕ) (p : Part) (fs : Entries) → ((e : ℕ × Part) → P e → Q (e.0, merge e.1 p))
+    → Q (n, p) → Put es n p fs → AllByRecursion P es → AllByRecursion Q fs
+all_put P Q es n p fs f g (inl e) h = subst (AllByRecursion Q) (sym e) (all_pushed P Q es n p f g h)
+all_put P Q es n p fs f g (inr e) h = subst (AllByRecursion Q) (sym e.1) (all_followed P Q es p f h)
 
 -- ---- what windows have
 
@@ -63,6 +72,19 @@ at_pushed false a p x y e = e
 pub part_at-pushed : MergeHasUnit → (es : Entries) (n : ℕ) (p : Part) (i : ℕ) → i < n → part_at (pushed es n p) i ≡ merge (part_at es i) p
 part_at-pushed unit [] n p i h = ap (λ b. cond b p no_part) (lt-ltb i n h) ∙ sym (unit p).0
 part_at-pushed unit (e ∷ es) n p i h = at_pushed (nat_lt i e.0) e.1 p (part_at (pushed es n p) i) (part_at es i) (part_at-pushed unit es n p i h)
+
+-- and so has one that has the last entry, where it goes into that
+part_at-followed : (es : Entries) (n : ℕ) (p : Part) (i : ℕ) → last_number es ≡ Some n → i < n → part_at (followed p es) i ≡ merge (part_at es i) p
+part_at-followed [] n p i e h = absurd (let f : None ≡ Some n = e in cc)
+part_at-followed (d ∷ []) n p i e h =
+    let last : d.0 ≡ n = cc in
+    let there : nat_lt i d.0 ≡ true = lt-ltb i d.0 (subst (λ k. i < k) (sym last) h) in
+    ap (λ b. cond b (merge d.1 p) no_part) there ∙ ap (λ b. merge (cond b d.1 no_part) p) (sym there)
+part_at-followed (d ∷ f ∷ es) n p i e h = at_pushed (nat_lt i d.0) d.1 p (part_at (followed p (f ∷ es)) i) (part_at (f ∷ es) i) (part_at-followed (f ∷ es) n p i e h)
+
+pub part_at-put : MergeHasUnit → (es : Entries) (n : ℕ) (p : Part) (fs : Entries) (i : ℕ) → Put es n p fs → i < n → part_at fs i ≡ merge (part_at es i) p
+part_at-put unit es n p fs i (inl e) h = ap (λ l. part_at l i) e ∙ part_at-pushed unit es n p i h
+part_at-put unit es n p fs i (inr e) h = ap (λ l. part_at l i) e.1 ∙ part_at-followed es n p i e.0 h
 
 -- a window behind all of them has none
 pub part_at-behind : (es : Entries) (i : ℕ) → AllByRecursion (λ (e : ℕ × Part). e.0 ≤ i) es → part_at es i ≡ no_part

@@ -2,22 +2,26 @@
 //! The merges don't depend on how many windows a part lies in. The operator of groups keeps its
 //! slices in it.
 //!
-//! - Parts: `queue` (`Sliding`), `front` (`Front`: parts that are to be summed up at once).
-//! - Calls: `push` puts a part behind the others, with the first window that doesn't have it;
-//!   `drop_to` lets those at the front go that a window doesn't have; `lines` prints the merge of
-//!   all that are there, and `answers` gives its answers as values; `Front::into_queue` makes a
-//!   queue of parts.
+//! - Parts: `queue` (`Sliding`), `together` (parts that share an entry), `front` (`Front`: parts
+//!   that are to be summed up at once).
+//! - Calls: `push` puts a part behind the others, with the first window that doesn't have it; `put`
+//!   does too, but a part of the same slice as the last one goes into its entry, so that rows of
+//!   one slice share an entry; `drop_to` lets those at the front go that a window doesn't have;
+//!   `lines` prints the merge of all that are there, and `answers` gives its answers as values;
+//!   `Front::into_queue` makes a queue of parts.
 //! - Proved: each entry is seen with the merge of itself and all behind it (`specs/Entries.antt`),
-//!   and the queue with how many steps (merges) it still owes. `push` costs two steps, now or
-//!   later, `lines` or `answers` one more, `drop_to` none. Of a `Front` no part is merged before
+//!   and the queue with how many steps (merges) it still owes. `push` or `put` costs two steps, now
+//!   or later, `lines` or `answers` one more, `drop_to` none. Of a `Front` no part is merged before
 //!   all are there, and then it is one step for each. After want of memory `lines` leaves the text
 //!   as it was.
-//! - Not claimed: what a step costs: a part of many groups is longer to merge than one of few.
+//! - Not claimed: what a step costs: a part of many groups is longer to merge than one of few. That
+//!   `put` finds the last entry in the back: one that is summed up takes no more in.
 //! - Limits: those of `saber_partial`.
 #![tactic(auto)]
 
 mod front;
 mod queue;
+mod together;
 
 pub use front::Front;
 pub use queue::Sliding;

@@ -24,11 +24,11 @@ use std::sync::ledger::Ledger;
 /// merge of two parts is a step.
 #[derive(Drop)]
 pub struct Sliding {
-    front: VecDeque<(u64, Partial)>,
-    back: Vec<(u64, Partial)>,
-    back_part: Pile,
+    pub(crate) front: VecDeque<(u64, Partial)>,
+    pub(crate) back: Vec<(u64, Partial)>,
+    pub(crate) back_part: Pile,
     // whether the back is still to become the front, which has none then
-    late: bool,
+    pub(crate) late: bool,
 }
 
 impl Model for Sliding {

@@ -1,0 +1,99 @@
+// Parts that the same windows have, in one entry of the back, whose entries have their own parts.
+ghost use Rattle.std.specs.Prelude.{◌≡◌, ◌+◌, ◌≤◌, length, true, false, Some, OnOk};
+ghost use Rattle.saber_plan.specs.Parts.{merge};
+ghost use Rattle.saber_partial.specs.Tallies.{CanMerge};
+ghost use Rattle.saber_sliding.specs.Entries.{joined, last_number, suffixes, CanFollow, Put};
+
+use crate::queue::Sliding;
+use saber_laws::{merge_has_unit, merge_is_associative};
+use saber_partial::{Partial, Pile, Steps};
+use saber_plan::NoMemory;
+use std::alloc::Global;
+use std::sync::ledger::Ledger;
+
+// Whether the last entry has this number.
+fn ends_with(back: &[(u64, Partial)], number: u64) -> bool
+    ensures { result ≡ true → last_number back.now ≡ Some number }
+{
+    match back.last() {
+        Some(entry) => entry.0 == number,
+        None => false,
+    }
+}
+
+// A part behind the last entry's own: one step.
+fn join_last<L: Ledger>(
+    alloc: Global,
+    back: &mut Vec<(u64, Partial)>,
+    part: &Partial,
+    steps: &mut Steps<L>,
+) -> Result<(), NoMemory>
+    requires { CanFollow part.now (suffixes back.old.items) }
+    ensures back { OnOk result (back.new.items ≡ joined part.now back.old.items) }
+    ensures same { length back.new.items ≡ length back.old.items }
+    ensures steps { steps.new ≤ steps.old + 1 }
+{
+    merge_has_unit();
+    let Some(last) = back.last_mut() else {
+        return Ok(());
+    };
+    last.1.merge_counted(alloc, part, steps)
+}
+
+// The same, and the merge of all where that is kept: two steps, if each piece more counts for one.
+fn join_behind<L: Ledger>(
+    alloc: Global,
+    late: bool,
+    back: &mut Vec<(u64, Partial)>,
+    back_part: &mut Pile,
+    part: &Partial,
+    steps: &mut Steps<L>,
+) -> Result<(), NoMemory>
+    requires room { CanFollow part.now (suffixes back.old.items) }
+    requires can { late ≡ false → CanMerge back_part.old.part part.now }
+    ensures back { OnOk result (back.new.items ≡ joined part.now back.old.items) }
+    ensures part { OnOk result (late ≡ false → back_part.new.part ≡ merge back_part.old.part part.now) }
+    ensures steps { OnOk result (steps.new + (length back.new.items + back_part.new.pieces) ≤ steps.old + (length back.old.items + back_part.old.pieces) + 2) }
+{
+    join_last(alloc, back, part, steps)?;
+    if late {
+        return Ok(());
+    }
+    back_part.take_from(alloc, part, steps)
+}
+
+impl Sliding {
+    /// A part of rows behind all others: where the last entry has this number and is kept with its own part, it goes into that; else
+    /// it becomes an entry, as with `push`. It costs two steps, each now or later. After want of memory nothing is kept.
+    pub fn put<L: Ledger>(
+        &mut self,
+        alloc: Global,
+        number: u64,
+        part: Partial,
+        steps: &mut Steps<L>,
+    ) -> Result<(), NoMemory>
+        requires { CanFollow part self.old.entries }
+        ensures entries { OnOk result (Put self.old.entries number part self.new.entries) }
+        ensures steps { OnOk result (steps.new + self.new.owed ≤ steps.old + self.old.owed + 2) }
+    {
+        merge_has_unit();
+        merge_is_associative();
+        if !ends_with(&self.back, number) {
+            return self.push(alloc, number, part, steps);
+        }
+        match join_behind(
+            alloc,
+            self.late,
+            &mut self.back,
+            &mut self.back_part,
+            &part,
+            steps,
+        ) {
+            Ok(()) => Ok(()),
+            Err(lacks) => {
+                *self = Sliding::empty(alloc);
+                Err(lacks)
+            }
+        }
+    }
+}
