@@ -1,5 +1,5 @@
 -- The runs of a task that answers windows itself: those of the windows before them, and all, behind the rows before the task.
-use Rattle.std.proofs.Common.{◌≡◌, ℕ, zero, suc, ◌+◌, ◌-◌, ◌≤◌, max, List, [], ◌∷◌, ◌++◌, Bool, Some, length, take, refl, sym, ◌∙◌, ap, subst, subst₂, le_trans, append_assoc, arith}
+use Rattle.std.proofs.Common.{◌≡◌, ℕ, zero, suc, ◌+◌, ◌-◌, ◌≤◌, max, List, [], ◌∷◌, ◌++◌, Bool, Option, Some, None, length, take, refl, sym, ◌∙◌, ap, subst, subst₂, le_trans, append_assoc, arith}
 use Rattle.std.specs.List.{AllByRecursion, slice_get}
 use Rattle.std.proofs.lemmas.List.{take_all}
 use Rattle.saber_plan.specs.declared.rows.Row.{Row}
@@ -24,11 +24,18 @@ use Rattle.saber_sliding.specs.EntryFacts.{all_map}
 use Rattle.saber_group.specs.declared.complete.Complete.{Complete}
 use Rattle.saber_group.specs.declared.runs.Run.{Run}
 use Rattle.saber_group.specs.RunParts.{part_of, closed_by, lines_between, Holds, Settled}
-use Rattle.saber_group.specs.RunPieces.{RunsTo, RunsFrom, IsComplete}
+use Rattle.saber_group.specs.RunPieces.{RunsTo, RunsFrom, IsComplete, TaskSteps}
 use Rattle.saber_group.specs.RunStores.{GoesOn, WentOn}
 use Rattle.saber_group.proofs.Completing.{closed_within}
 use Rattle.saber_group.proofs.Lasting.{few_more, none_begun_have}
 use Rattle.saber_group.proofs.RunsTaken.{lifted, no_more, no_row, part_behind, long_both}
+
+-- ---- how many steps they take
+
+-- with more rows before the task, or more runs, it may take more steps
+pub steps_rise : (e k n l : ℕ) (c : Option Complete) (before after : ℕ) → e ≤ k → n ≤ l → TaskSteps e n c before after → TaskSteps k l c before after
+steps_rise e k n l None before after up more h = h
+steps_rise e k n l (Some c) before after up more h = omega (arith, up, more, h)
 
 -- ---- runs cut at a run
 
@@ -44,6 +51,11 @@ module _ (q : Tree) (m : Mark) (rows : List Row) where
   runs_front x rs y zero h = refl
   runs_front x [] y (suc k) h = refl
   runs_front x (r ∷ rs) y (suc k) h = (h.0, (h.1.0, (h.1.1.0, runs_front r.end rs y k h.1.1.1)))
+
+  -- each has a row
+  pub runs_few : (x : ℕ) (rs : List Run) (y : ℕ) → RunsTo q m rows x rs y → x + length rs ≤ y
+  runs_few x [] y h = omega (arith, h)
+  runs_few x (r ∷ rs) y h = let more = h.1.0 in let rest = runs_few r.end rs y h.1.1.1 in omega (arith, more, rest)
 
   at_end : (i x : ℕ) → x ≡ length rows → part_of q i m (take x rows) ≡ part_of q i m rows
   at_end i x e = ap (part_of q i m) (take_all x rows (omega (arith, e)))

@@ -1,5 +1,5 @@
 -- Runs as what a task gives.
-use Rattle.std.specs.Prelude.{◌≡◌, ℕ, ◌≤◌, ◌<◌, List, [], ◌∷◌, ◌++◌, length, take, slice_range, Bool, false, Option, Some, None}
+use Rattle.std.specs.Prelude.{◌≡◌, ℕ, ◌+◌, ◌*◌, ◌≤◌, ◌<◌, List, [], ◌∷◌, ◌++◌, length, take, slice_range, Bool, false, Option, Some, None}
 use Rattle.std.specs.List.{AllByRecursion}
 use Rattle.saber_plan.specs.declared.rows.Row.{Row}
 use Rattle.saber_plan.specs.declared.windows.Mark.{Mark}
@@ -45,6 +45,12 @@ Given q old rows ended runs (Some c) = IsComplete q old rows ended runs c
 -- whatever rows stand before these, with those that the task's block has at their end
 abbrev pub Gives : Tree → Earlier → Mark → List Row → Bool → List Run → Option Complete → Type 0
 Gives q e m rows ended runs c = (old : List Row) → RowsFit q no_rows (old ++ rows) → EndWith old e → m ≡ mark_of old → Given q old rows ended runs c
+
+-- How many steps a task takes that answers windows: one at most for each row before it that its block has, two for each of its runs, and
+-- one for each of these windows. What its queue still owes is among them. A task that answers none takes no step.
+abbrev pub TaskSteps : ℕ → ℕ → Option Complete → ℕ → ℕ → Type 0
+TaskSteps earlier runs None before after = after ≡ before
+TaskSteps earlier runs (Some c) before after = after + c.open.runs.owed + c.low ≤ before + earlier + 2 * runs + c.open.next
 
 -- the piece is made of a task's own block
 pub record IsMade (q : Tree) (s : Sight) (p : RunPiece) : Type 0 where

@@ -1,5 +1,5 @@
 -- Runs that are kept from task to task, and what windows print that are closed.
-use Rattle.std.specs.Prelude.{◌≡◌, ℕ, ◌-◌, ◌+◌, ◌≤◌, ◌<◌, List, [], ◌∷◌, ◌++◌, Bool, Option, length, take}
+use Rattle.std.specs.Prelude.{◌≡◌, ℕ, ◌-◌, ◌+◌, ◌*◌, ◌≤◌, ◌<◌, List, [], ◌∷◌, ◌++◌, Bool, Option, Some, None, length, take}
 use Rattle.std.specs.Ordering.{nat_cmp}
 use Rattle.std.specs.List.{AllByRecursion}
 use Rattle.std.specs.FinMap.{from_entries}
@@ -86,3 +86,9 @@ CanCome q s runs complete closed = (old : List Row) × (rows : List Row) × (end
 abbrev pub HasCome : Tree → Open → List Run → Option Complete → ℕ → Open → List ℕ → List ℕ → Type 0
 HasCome q s runs complete closed new before after = (old rows : List Row) (ended : Bool) → Comes q old rows ended s.next s.runs.entries runs complete closed
     → Came q old rows s.next new.runs.entries closed new.next before after
+
+-- How many steps the store takes for a piece, beside those that it owed: two for each of its runs, and one for each window that it closes
+-- and the task didn't answer. What it owes then is among them; the queue of a task that answers windows brings what that owes.
+abbrev pub PieceSteps : Open → ℕ → Option Complete → Open → ℕ → ℕ → Type 0
+PieceSteps old runs None new before after = after + new.runs.owed + old.next ≤ before + old.runs.owed + 2 * runs + new.next
+PieceSteps old runs (Some c) new before after = after + new.runs.owed + old.next ≤ before + old.runs.owed + c.open.runs.owed + 2 * runs + c.low

@@ -11,6 +11,8 @@ use saber_laws::{
 };
 use saber_plan::NoMemory;
 use std::alloc::Global;
+use std::marker::Brand;
+use std::sync::ledger::Blank;
 
 // A task's piece is made of its own block, so nothing of the block is copied.
 impl Operator for GroupChanges<'_> {
@@ -78,7 +80,7 @@ impl Operator for GroupChanges<'_> {
         let closed = self.group.closed_below(&piece.after);
         let begun = self.group.begun_below(&piece.after);
         let mut text = Vec::new(alloc);
-        self.group.walk_task(
+        self.group.walk_uncounted::<Brand>(
             alloc,
             self.change,
             &mut store.runs.windows,
@@ -86,6 +88,7 @@ impl Operator for GroupChanges<'_> {
             piece.runs,
             closed,
             &mut text,
+            Blank::new(1),
         )?;
         store.runs.begun = begun;
         out.extend_from_slice(&text)?;

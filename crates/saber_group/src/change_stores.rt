@@ -15,7 +15,6 @@ use saber_laws::{closed_stay, groups_join, merge_has_unit, merge_is_associative}
 use saber_partial::{Steps, small_parts_merge};
 use saber_plan::{NoMemory, Plan};
 use std::alloc::Global;
-use std::marker::Brand;
 use std::sync::ledger::{Blank, Ledger};
 
 /// The runs that windows have that aren't closed, and the walk over those that are: its next window
@@ -98,8 +97,33 @@ impl Group<'_> {
         Ok(())
     }
 
-    // The same, where nobody asks for the steps.
-    fn walk_uncounted<L: Ledger>(
+    /// Takes the runs of the next task in, and appends what the windows below `closed` gain or
+    /// lose, at the same cost. After want of memory store, walk and text are only safe.
+    pub(crate) fn walk_task<L: Ledger>(
+        &self,
+        alloc: Global,
+        change: Change,
+        store: &mut Open,
+        walk: &mut Walk,
+        runs: Vec<Run>,
+        closed: u64,
+        out: &mut Vec<u8>,
+        steps: &mut Steps<L>,
+    ) -> Result<(), NoMemory>
+        requires comes { CanCome (tree_of self.now) store.old runs.items None closed }
+        requires walk { walk.old.next ≡ store.old.next }
+        ensures walked_by { OnOk result (HasWalkedBy change (tree_of self.now) store.old walk.old runs.items closed store.new walk.new out.old.items out.new.items) }
+        ensures steps { OnOk result (steps.new + store.new.runs.owed + store.old.next ≤ steps.old + store.old.runs.owed + 2 * length runs.items + store.new.next) }
+    {
+        self.has_window();
+        closed_stay();
+        groups_join();
+        merge_is_associative();
+        self.walk_runs(alloc, change, store, walk, runs, closed, out, steps)
+    }
+
+    /// The same, where nobody asks for the steps.
+    pub(crate) fn walk_uncounted<L: Ledger>(
         &self,
         alloc: Global,
         change: Change,
@@ -110,37 +134,14 @@ impl Group<'_> {
         out: &mut Vec<u8>,
         blank: Blank,
     ) -> Result<(), NoMemory>
-        requires goes_on { CanGoOn (tree_of self.now) store.old runs.items closed }
+        requires comes { CanCome (tree_of self.now) store.old runs.items None closed }
         requires walk { walk.old.next ≡ store.old.next }
         requires name { blank.name ≡ L.name }
         requires parts { blank.parts ≡ L.parts }
         requires some { 0 < blank.parts }
-        ensures { OnOk result (HasWalkedOn change (tree_of self.now) store.old walk.old runs.items closed store.new walk.new out.old.items out.new.items) }
-    {
-        let mut steps = Steps::<L>::new(blank);
-        self.walk_runs(alloc, change, store, walk, runs, closed, out, &mut steps)
-    }
-
-    /// Takes the runs of the next task in, and appends what the windows below `closed` gain or
-    /// lose. After want of memory store, walk and text are only safe.
-    pub(crate) fn walk_task(
-        &self,
-        alloc: Global,
-        change: Change,
-        store: &mut Open,
-        walk: &mut Walk,
-        runs: Vec<Run>,
-        closed: u64,
-        out: &mut Vec<u8>,
-    ) -> Result<(), NoMemory>
-        requires comes { CanCome (tree_of self.now) store.old runs.items None closed }
-        requires walk { walk.old.next ≡ store.old.next }
         ensures { OnOk result (HasWalkedBy change (tree_of self.now) store.old walk.old runs.items closed store.new walk.new out.old.items out.new.items) }
     {
-        self.has_window();
-        closed_stay();
-        groups_join();
-        merge_is_associative();
-        self.walk_uncounted::<Brand>(alloc, change, store, walk, runs, closed, out, Blank::new(1))
+        let mut steps = Steps::<L>::new(blank);
+        self.walk_task(alloc, change, store, walk, runs, closed, out, &mut steps)
     }
 }

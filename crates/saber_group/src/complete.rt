@@ -1,5 +1,5 @@
 // What a task answers itself: the windows that lie whole in it and in the rows before it that its block has.
-ghost use Rattle.std.specs.Prelude.{◌≡◌, [], ◌*◌, ◌<◌, ◌≤◌, ◌++◌, Some, length, take, true, IfOk, IfSome, OnOk};
+ghost use Rattle.std.specs.Prelude.{◌≡◌, [], ◌+◌, ◌*◌, ◌≤◌, ◌++◌, Some, length, take, true, IfOk, IfSome, OnOk};
 ghost use Rattle.std.specs.List.{AllByRecursion, slice_get};
 ghost use Rattle.saber_plan.specs.Windows.{mark_after, ending, closed_count};
 ghost use Rattle.saber_plan.specs.Answers.{frame};
@@ -8,7 +8,7 @@ ghost use Rattle.saber_plan.specs.Given.{RowsFit};
 ghost use Rattle.saber_group.specs.declared.runs.Run.{Run};
 ghost use Rattle.saber_sliding.specs.Entries.{CanFollow};
 ghost use Rattle.saber_group.specs.RunParts.{closed_by, EnteredFrom, Holds};
-ghost use Rattle.saber_group.specs.RunPieces.{Gives, RunsFrom};
+ghost use Rattle.saber_group.specs.RunPieces.{Gives, RunsFrom, TaskSteps};
 
 use crate::batch::Batch;
 use crate::group::Group;
@@ -24,8 +24,7 @@ use saber_partial::{Steps, small_parts_merge};
 use saber_plan::NoMemory;
 use saber_sliding::Front;
 use std::alloc::Global;
-use std::marker::Brand;
-use std::sync::ledger::{Blank, Ledger};
+use std::sync::ledger::Ledger;
 
 /// The text of the windows from `low` on that are done, each of which lies whole in a task and the rows before it that its block has
 /// (SABER 2016: complete, where it has none), and what is open behind them.
@@ -100,22 +99,21 @@ fn add_run(front: &mut Front, low: u64, run: Run) -> Result<(), NoMemory>
 }
 
 impl Group<'_> {
-    // The queue of the windows from `low` on, with the rows before a task: one step for each of their runs. None of the windows below
-    // that they begin is closed by them.
+    // The queue of the windows from `low` on, with the rows before a task: one step for each of their runs, and none is owed. None of
+    // the windows below that they begin is closed by them.
     fn open_behind<L: Ledger>(
         &self,
         alloc: Global,
         earlier: &Batch,
         low: u64,
-        blank: Blank,
+        steps: &mut Steps<L>,
     ) -> Result<Open, NoMemory>
         requires fits { RowsFit (tree_of self.now) earlier.now.before earlier.now.rows.now }
         requires low { closed_by (tree_of self.now) earlier.now.before earlier.now.rows.now ≤ low }
-        requires name { blank.name ≡ L.name }
-        requires parts { blank.parts ≡ L.parts }
-        requires some { 0 < blank.parts }
         ensures next { IfOk result (λ o. o.next ≡ low) }
         ensures runs { IfOk result (λ o. Holds (tree_of self.now) earlier.now.before earlier.now.rows.now low o.runs.entries) }
+        ensures owed { IfOk result (λ o. o.runs.owed ≡ 0) }
+        ensures steps { OnOk result (steps.new ≤ steps.old + length earlier.now.rows.now) }
     {
         self.has_window();
         closed_stay();
@@ -134,23 +132,23 @@ impl Group<'_> {
                 }
             }
         }
-        let mut steps = Steps::<L>::new(blank);
         Ok(Open {
             next: low,
-            runs: front.into_queue(alloc, &mut steps)?,
+            runs: front.into_queue(alloc, steps)?,
         })
     }
 
     /// What a task answers itself, of its runs: the windows up to `high` that lie whole in it and these rows before it. It takes its
     /// runs in as the store would, in as many steps, behind a queue of those rows. The windows that begin before have the runs that are
     /// given back, which are copies. Where these would be too many, or no window lies whole, the runs are given back as they are.
-    pub(crate) fn completed(
+    pub(crate) fn completed<L: Ledger>(
         &self,
         alloc: Global,
         earlier: &Earlier,
         batch: &Batch,
         runs: Vec<Run>,
         high: u64,
+        steps: &mut Steps<L>,
     ) -> Result<(Vec<Run>, Option<Complete>), NoMemory>
         requires meets { batch.now.before ≡ mark_after earlier.now.before earlier.now.rows }
         requires fits { RowsFit (tree_of self.now) earlier.now.before (earlier.now.rows ++ batch.now.rows.now) }
@@ -158,6 +156,7 @@ impl Group<'_> {
         requires high { high ≡ closed_count (frame (tree_of self.now)) (ending batch.now.ended (mark_after batch.now.before batch.now.rows.now)) }
         ensures gives { IfOk result (λ r. Gives (tree_of self.now) earlier.now batch.now.before batch.now.rows.now batch.now.ended r.0.items r.1) }
         ensures few { IfOk result (λ r. IfSome r.1 (λ c. 2 * length r.0.items ≤ length runs.items)) }
+        ensures steps { IfOk result (λ r. TaskSteps (length earlier.now.rows) (length runs.items) r.1 steps.old steps.new) }
     {
         self.has_window();
         begun_are_counted();
@@ -185,7 +184,7 @@ impl Group<'_> {
                 return Err(want);
             }
         };
-        let mut open = match self.open_behind::<Brand>(alloc, &before, low, Blank::new(1)) {
+        let mut open = match self.open_behind(alloc, &before, low, steps) {
             Ok(open) => open,
             Err(want) => {
                 let_runs_go(closing);
@@ -194,7 +193,7 @@ impl Group<'_> {
             }
         };
         let mut text = Vec::new(alloc);
-        match self.take_uncounted::<Brand>(alloc, &mut open, runs, high, &mut text, Blank::new(1)) {
+        match self.take_runs(alloc, &mut open, runs, high, &mut text, steps) {
             Ok(()) => Ok((closing, Some(Complete { low, text, open }))),
             Err(want) => {
                 let_runs_go(closing);

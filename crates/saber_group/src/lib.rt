@@ -17,8 +17,10 @@
 //!   answers, what is open behind, and the runs of the windows below (`IsOf`,
 //!   `specs/RunPieces.antt`). The store's runs, merged by window, are the open parts
 //!   (`specs/RunStores.antt`), and its walk has the answers of the last closed window
-//!   (`specs/ChangeStores.antt`). In merges, a run that the store takes in costs two and a window
-//!   one; beside what it answers a task gives at most half of its runs.
+//!   (`specs/ChangeStores.antt`). Merges are counted: a run that is taken in costs two and a window
+//!   that is answered one, in the store as in a task that answers windows itself, to which each row
+//!   before its own costs one more at most (`TaskSteps`, `PieceSteps`). Beside what it answers a
+//!   task gives at most half of its runs.
 //! - Not claimed: that a task answers the windows that it could. Under ISTREAM and DSTREAM it
 //!   answers none: the store prints them all.
 //! - Limits: plans without PARTITION BY; `2^40` rows.

@@ -14,7 +14,8 @@ use saber_fragment::{Block, Operator};
 use saber_laws::{closed_rise, ends_close_more, marks_follow, part_has_lines};
 use saber_plan::{NoMemory, Plan};
 use std::alloc::Global;
-use std::marker::Model;
+use std::marker::{Brand, Model};
+use std::sync::ledger::Blank;
 
 /// The operator of a checked group query without a stream word or under RSTREAM, over its plan.
 /// Contracts see it as the plan.
@@ -85,7 +86,8 @@ impl Operator for GroupOperator<'_> {
             rows: &own.rows,
             ended: own.ended,
         };
-        self.group.piece_of(alloc, &own.earlier, &batch)
+        self.group
+            .piece_uncounted::<Brand>(alloc, &own.earlier, &batch, Blank::new(1))
     }
 
     fn feed(&self, _alloc: Global, _draft: &mut RunPiece, _block: &Block) -> Result<(), NoMemory> {
@@ -117,8 +119,14 @@ impl Operator for GroupOperator<'_> {
         let closed = self.group.closed_below(&piece.after);
         let begun = self.group.begun_below(&piece.after);
         let mut text = Vec::new(alloc);
-        self.group
-            .take_piece(alloc, &mut store.windows, piece, closed, &mut text)?;
+        self.group.take_uncounted::<Brand>(
+            alloc,
+            &mut store.windows,
+            piece,
+            closed,
+            &mut text,
+            Blank::new(1),
+        )?;
         store.begun = begun;
         out.extend_from_slice(&text)?;
         Ok(())

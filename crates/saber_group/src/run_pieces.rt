@@ -1,9 +1,9 @@
 // What a task gives: its runs.
-ghost use Rattle.std.specs.Prelude.{◌≡◌, ◌≤◌, ◌++◌, ◌∷◌, [], IfOk, OnOk};
+ghost use Rattle.std.specs.Prelude.{◌≡◌, ◌<◌, ◌≤◌, ◌++◌, ◌∷◌, [], length, IfOk, OnOk};
 ghost use Rattle.saber_plan.specs.Trees.{tree_of};
 ghost use Rattle.saber_plan.specs.Windows.{mark_after, ending};
 ghost use Rattle.saber_plan.specs.Given.{RowsFit};
-ghost use Rattle.saber_group.specs.RunPieces.{Gives, RunsFrom};
+ghost use Rattle.saber_group.specs.RunPieces.{Gives, RunsFrom, TaskSteps};
 
 use crate::batch::Batch;
 use crate::complete::{Complete, closing_end};
@@ -11,10 +11,11 @@ use crate::group::Group;
 use crate::letting::{let_part_go, let_runs_go};
 use crate::runs::Run;
 use saber_fragment::Earlier;
-use saber_partial::Gathering;
+use saber_partial::{Gathering, Steps};
 use saber_plan::{Mark, NoMemory};
 use saber_window::ending;
 use std::alloc::Global;
+use std::sync::ledger::{Blank, Ledger};
 
 /// The runs of a task's rows, in order, with the mark behind the rows, which has the input's end if that comes there. Where the task
 /// answers windows itself, the runs are those of the windows that it doesn't answer.
@@ -98,31 +99,54 @@ impl Group<'_> {
     }
 
     /// The piece of a task, whose block has these rows of those before its own.
-    pub(crate) fn piece_of(
+    pub(crate) fn piece_of<L: Ledger>(
         &self,
         alloc: Global,
         earlier: &Earlier,
         batch: &Batch,
+        steps: &mut Steps<L>,
     ) -> Result<RunPiece, NoMemory>
         requires fits { RowsFit (tree_of self.now) batch.now.before batch.now.rows.now }
         requires meets { batch.now.before ≡ mark_after earlier.now.before earlier.now.rows }
         requires all_fit { RowsFit (tree_of self.now) earlier.now.before (earlier.now.rows ++ batch.now.rows.now) }
         ensures gives { IfOk result (λ p. Gives (tree_of self.now) earlier.now batch.now.before batch.now.rows.now batch.now.ended p.runs.items p.complete) }
         ensures after { IfOk result (λ p. p.after ≡ ending batch.now.ended (mark_after batch.now.before batch.now.rows.now)) }
+        ensures steps { IfOk result (λ p. TaskSteps (length earlier.now.rows) (length batch.now.rows.now) p.complete steps.old steps.new) }
     {
         let (runs, mark) = self.runs_of(alloc, batch)?;
         let after = ending(batch.ended, &mark);
         let high = self.closed_below(&after);
         let none = Earlier::none(alloc, batch.before);
         let (runs, complete) = if self.looks_back(earlier, &batch.before, &runs, high) {
-            self.completed(alloc, earlier, batch, runs, high)?
+            self.completed(alloc, earlier, batch, runs, high, steps)?
         } else {
-            self.completed(alloc, &none, batch, runs, high)?
+            self.completed(alloc, &none, batch, runs, high, steps)?
         };
         Ok(RunPiece {
             runs,
             complete,
             after,
         })
+    }
+
+    /// The same, where nobody asks for the steps.
+    pub(crate) fn piece_uncounted<L: Ledger>(
+        &self,
+        alloc: Global,
+        earlier: &Earlier,
+        batch: &Batch,
+        blank: Blank,
+    ) -> Result<RunPiece, NoMemory>
+        requires fits { RowsFit (tree_of self.now) batch.now.before batch.now.rows.now }
+        requires meets { batch.now.before ≡ mark_after earlier.now.before earlier.now.rows }
+        requires all_fit { RowsFit (tree_of self.now) earlier.now.before (earlier.now.rows ++ batch.now.rows.now) }
+        requires name { blank.name ≡ L.name }
+        requires parts { blank.parts ≡ L.parts }
+        requires some { 0 < blank.parts }
+        ensures gives { IfOk result (λ p. Gives (tree_of self.now) earlier.now batch.now.before batch.now.rows.now batch.now.ended p.runs.items p.complete) }
+        ensures after { IfOk result (λ p. p.after ≡ ending batch.now.ended (mark_after batch.now.before batch.now.rows.now)) }
+    {
+        let mut steps = Steps::<L>::new(blank);
+        self.piece_of(alloc, earlier, batch, &mut steps)
     }
 }

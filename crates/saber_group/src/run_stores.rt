@@ -3,7 +3,7 @@ ghost use Rattle.std.specs.Prelude.{◌≡◌, ◌≤◌, ◌<◌, ◌+◌, ◌*
 ghost use Rattle.std.specs.FinMap.{empty};
 ghost use Rattle.saber_plan.specs.Trees.{tree_of};
 ghost use Rattle.saber_plan.specs.Inputs.{going_on};
-ghost use Rattle.saber_group.specs.RunStores.{held_in, CanCome, CanGoOn, HasCome, HasGoneOn, TakenIn};
+ghost use Rattle.saber_group.specs.RunStores.{held_in, CanCome, CanGoOn, HasCome, HasGoneOn, PieceSteps, TakenIn};
 
 use crate::complete::Complete;
 use crate::group::Group;
@@ -14,7 +14,6 @@ use saber_laws::{closed_stay, groups_join, merge_has_unit, merge_is_associative,
 use saber_partial::{Steps, small_parts_merge};
 use saber_plan::NoMemory;
 use std::alloc::Global;
-use std::marker::Brand;
 use std::sync::ledger::{Blank, Ledger};
 
 /// The runs that windows have that aren't closed, and how many windows are begun.
@@ -66,42 +65,24 @@ impl Group<'_> {
         Ok(())
     }
 
-    /// The same, where nobody asks for the steps.
-    pub(crate) fn take_uncounted<L: Ledger>(
-        &self,
-        alloc: Global,
-        store: &mut Open,
-        runs: Vec<Run>,
-        closed: u64,
-        out: &mut Vec<u8>,
-        blank: Blank,
-    ) -> Result<(), NoMemory>
-        requires goes_on { CanGoOn (tree_of self.now) store.old runs.items closed }
-        requires name { blank.name ≡ L.name }
-        requires parts { blank.parts ≡ L.parts }
-        requires some { 0 < blank.parts }
-        ensures { OnOk result (HasGoneOn (tree_of self.now) store.old runs.items closed store.new out.old.items out.new.items) }
-    {
-        let mut steps = Steps::<L>::new(blank);
-        self.take_runs(alloc, store, runs, closed, out, &mut steps)
-    }
-
     // The piece of a task that answers windows itself: the store's windows get their last runs, and what the task leaves open is the
     // store's then.
-    fn take_complete(
+    fn take_complete<L: Ledger>(
         &self,
         alloc: Global,
         store: &mut Open,
         runs: Vec<Run>,
         complete: Complete,
         out: &mut Vec<u8>,
+        steps: &mut Steps<L>,
     ) -> Result<(), NoMemory>
         requires { (closed : ℕ) × CanCome (tree_of self.now) store.old runs.items (Some complete) closed }
-        ensures { OnOk result ((closed : ℕ) → HasCome (tree_of self.now) store.old runs.items (Some complete) closed store.new out.old.items out.new.items) }
+        ensures come { OnOk result ((closed : ℕ) → HasCome (tree_of self.now) store.old runs.items (Some complete) closed store.new out.old.items out.new.items) }
+        ensures steps { OnOk result (PieceSteps store.old (length runs.items) (Some complete) store.new steps.old steps.new) }
     {
         groups_join();
         merge_is_associative();
-        match self.take_uncounted::<Brand>(alloc, store, runs, complete.low, out, Blank::new(1)) {
+        match self.take_runs(alloc, store, runs, complete.low, out, steps) {
             Ok(()) => {}
             Err(want) => {
                 complete.let_go();
@@ -121,16 +102,18 @@ impl Group<'_> {
 
     /// Takes the piece of the next task in, and appends the lines of the windows below `closed`. After want of memory store and text
     /// are only safe.
-    pub(crate) fn take_piece(
+    pub(crate) fn take_piece<L: Ledger>(
         &self,
         alloc: Global,
         store: &mut Open,
         piece: RunPiece,
         closed: u64,
         out: &mut Vec<u8>,
+        steps: &mut Steps<L>,
     ) -> Result<(), NoMemory>
         requires { CanCome (tree_of self.now) store.old piece.runs.items piece.complete closed }
-        ensures { OnOk result (HasCome (tree_of self.now) store.old piece.runs.items piece.complete closed store.new out.old.items out.new.items) }
+        ensures come { OnOk result (HasCome (tree_of self.now) store.old piece.runs.items piece.complete closed store.new out.old.items out.new.items) }
+        ensures steps { OnOk result (PieceSteps store.old (length piece.runs.items) piece.complete store.new steps.old steps.new) }
     {
         self.has_window();
         closed_stay();
@@ -138,8 +121,28 @@ impl Group<'_> {
         merge_is_associative();
         let RunPiece { runs, complete, .. } = piece;
         match complete {
-            Some(complete) => self.take_complete(alloc, store, runs, complete, out),
-            None => { self.take_uncounted::<Brand>(alloc, store, runs, closed, out, Blank::new(1)) }
+            Some(complete) => self.take_complete(alloc, store, runs, complete, out, steps),
+            None => self.take_runs(alloc, store, runs, closed, out, steps),
         }
+    }
+
+    /// The same, where nobody asks for the steps.
+    pub(crate) fn take_uncounted<L: Ledger>(
+        &self,
+        alloc: Global,
+        store: &mut Open,
+        piece: RunPiece,
+        closed: u64,
+        out: &mut Vec<u8>,
+        blank: Blank,
+    ) -> Result<(), NoMemory>
+        requires comes { CanCome (tree_of self.now) store.old piece.runs.items piece.complete closed }
+        requires name { blank.name ≡ L.name }
+        requires parts { blank.parts ≡ L.parts }
+        requires some { 0 < blank.parts }
+        ensures { OnOk result (HasCome (tree_of self.now) store.old piece.runs.items piece.complete closed store.new out.old.items out.new.items) }
+    {
+        let mut steps = Steps::<L>::new(blank);
+        self.take_piece(alloc, store, piece, closed, out, &mut steps)
     }
 }

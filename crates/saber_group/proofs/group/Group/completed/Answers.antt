@@ -9,18 +9,18 @@ use Rattle.saber_group.proofs.Completed.{goes_behind, is_complete}
 use Rattle.saber_group.proofs.group.Group.completed.Goals as goal
 
 pub open_behind-requires-clause-fits : goal.open_behind-requires-clause-fits
-open_behind-requires-clause-fits c =
+open_behind-requires-clause-fits g c =
     let e = c.args.earlier.now in
     fits_front (tree_of c.args.self.now) e.before e.rows c.args.batch.now.rows.now c.requires.fits
 
 pub open_behind-requires-clause-low : goal.open_behind-requires-clause-low
-open_behind-requires-clause-low c =
+open_behind-requires-clause-low g c =
     let least = c.max-low.ensures in
     let closed = c.closed_below-closed.ensures in
     subst (λ n. n ≤ c.max-low.result) (closed ∙ ap (closed_count (frame (tree_of c.args.self.now))) c.requires.meets) (omega (arith, least))
 
-pub take_uncounted-requires-clause-goes_on : goal.take_uncounted-requires-clause-goes_on
-take_uncounted-requires-clause-goes_on c =
+pub take_runs-requires : goal.take_runs-requires
+take_runs-requires g c =
     let q = tree_of c.args.self.now in
     let e = c.args.earlier.now in
     let b = c.args.batch.now in
@@ -36,8 +36,8 @@ take_uncounted-requires-clause-goes_on c =
           low c.args.high store.next store.runs.entries c.args.runs.items order c.requires.high c.in-Ok-open_behind.ensures.next c.in-Ok-open_behind.ensures.runs c.requires.runs,
     )
 
-pub returns-in-Ok-take_uncounted-clause-gives : goal.returns-in-Ok-take_uncounted-clause-gives
-returns-in-Ok-take_uncounted-clause-gives c old given end same =
+pub returns-in-Ok-take_runs-clause-gives : goal.returns-in-Ok-take_runs-clause-gives
+returns-in-Ok-take_runs-clause-gives g c old given end same =
     let q = tree_of c.args.self.now in
     let e = c.args.earlier.now in
     let b = c.args.batch.now in
@@ -50,8 +50,16 @@ returns-in-Ok-take_uncounted-clause-gives c old given end same =
     let goes = goes_behind q e b.before b.rows.now b.ended c.requires.meets c.groups_join.ensures c.merge_is_associative.ensures c.closed_stay.ensures c.ends_close_more.ensures c.has_window.ensures.fits c.requires.fits
     low c.args.high store.next store.runs.entries runs order c.requires.high c.in-Ok-open_behind.ensures.next c.in-Ok-open_behind.ensures.runs c.requires.runs in
     is_complete q e b.before b.rows.now b.ended c.requires.meets old given end c.parts_lie_within.ensures c.begun_are_counted.ensures c.groups_join.ensures c.merge_has_unit.ensures c.has_window.ensures.group c.has_window.ensures.fits same
-    low c.args.high (record { low = low; text = c.take_uncounted.new.out; «open» = c.take_uncounted.new.store }) runs k c.in-Ok.closing.items store.next c.new-text.result.items c.new-text.ensures.items order c.requires.high least refl c.in-Ok-open_behind.ensures.next c.requires.runs
+    low c.args.high (record { low = low; text = c.take_runs.new.out; «open» = c.take_runs.new.store }) runs k c.in-Ok.closing.items store.next c.new-text.result.items c.new-text.ensures.items order c.requires.high least refl c.in-Ok-open_behind.ensures.next c.requires.runs
     (c.in-Ok.ensures ∙ ap (take k) c.deref-2.ensures.value)
     (subst (λ l. AllByRecursion (λ (r : Run). r.first ≤ low) (take k l)) c.deref.ensures.value c.closing_end-count.ensures.firsts)
     (subst (λ l. (r : Run) → Some r ≡ slice_get l k → low ≤ r.first) c.deref.ensures.value c.closing_end-count.ensures.behind)
-    (c.in-Ok-take_uncounted.ensures e.before (e.rows ++ b.rows.now) (length e.rows) 0 (length b.rows.now) goes)
+    (c.in-Ok-take_runs.ensures.went_on e.before (e.rows ++ b.rows.now) (length e.rows) 0 (length b.rows.now) goes)
+
+pub returns-in-Ok-take_runs-clause-steps : goal.returns-in-Ok-take_runs-clause-steps
+returns-in-Ok-take_runs-clause-steps g c =
+    let before = c.in-Ok-open_behind.ensures.steps in
+    let owed = c.in-Ok-open_behind.ensures.owed in
+    let next = c.in-Ok-open_behind.ensures.next in
+    let used = c.in-Ok-take_runs.ensures.steps in
+    omega (arith, before, owed, next, used)

@@ -1,9 +1,9 @@
-use Rattle.std.proofs.Common.{sym, subst}
+use Rattle.std.proofs.Common.{sym, subst, arith}
 use Rattle.std.specs.Vec.Iter.{into_iter_items}
 use Rattle.saber_plan.specs.Trees.{tree_of}
 use Rattle.saber_plan.specs.RowFacts.{few_rows}
 use Rattle.saber_group.specs.RunParts.{Holds}
-use Rattle.saber_group.proofs.Gathered.{Gathered, gathered_nil, gathered_can, gathered_more, gathered_all}
+use Rattle.saber_group.proofs.Gathered.{Gathered, gathered_nil, gathered_can, gathered_more, gathered_all, gathered_few}
 use Rattle.saber_group.proofs.RunsTaken.{all_given}
 use Rattle.saber_group.proofs.group.Group.open_behind.Goals as goal
 
@@ -48,3 +48,12 @@ returns-clause-runs g c =
     let none = all_given c.loop-run.run-iterator c.in-None.ensures.steps.0 in
     subst (Holds q e.before e.rows.now c.args.low) (sym c.in_ok-into_queue.ensures.entries)
     (gathered_all q e.before e.rows.now c.args.low c.loop-run.front (subst (λ l. Gathered q e.before e.rows.now c.args.low l c.loop-run.front) none c.loop-run.invariant.gathered))
+
+pub returns-clause-steps : goal.returns-clause-steps
+returns-clause-steps g c =
+    let q = tree_of c.args.self.now in
+    let e = c.args.earlier.now in
+    let none = all_given c.loop-run.run-iterator c.in-None.ensures.steps.0 in
+    let few = gathered_few q e.before e.rows.now c.args.low c.loop-run.front (subst (λ l. Gathered q e.before e.rows.now c.args.low l c.loop-run.front) none c.loop-run.invariant.gathered) in
+    let used = c.in_ok-into_queue.ensures.steps in
+    omega (arith, few, used)

@@ -10,8 +10,8 @@ use Rattle.saber_group.specs.RunStores.{held_in, TakenIn}
 use Rattle.saber_group.proofs.RunKeeping.{MarkLaws, held_is, added_is, old_rows, new_rows, comes, taken_after, text_after}
 use Rattle.saber_group.proofs.operator.GroupOperatorOperator.take_in.Goals as goal
 
-pub take_piece-requires : goal.take_piece-requires
-take_piece-requires c =
+pub take_uncounted-requires-clause-comes : goal.take_uncounted-requires-clause-comes
+take_uncounted-requires-clause-comes c =
     let q = tree_of c.self.inside.group in
     let s = c.args.store.now in
     let p = c.args.piece in
@@ -31,9 +31,9 @@ returns-clause-taken c =
     let laws : MarkLaws = record { follow = c.marks_follow.ensures; rise = c.closed_rise.ensures; close_more = c.ends_close_more.ensures } in
     let n = c.closed_below-closed.result in
     let n_is = c.closed_below-closed.ensures in
-    let new : RunStore = record { windows = c.take_piece.new.store; begun = c.begun_below-begun.result } in
+    let new : RunStore = record { windows = c.take_uncounted.new.store; begun = c.begun_below-begun.result } in
     subst (λ (t : Tree). (r : Input) (x y : ℕ) → Follows t k (λ u. TakenIn t u s) (λ r x y. IsOf t r x y p) r x y → TakenIn t (arrived r y) new) (ap tree_of c.self.view_is) (λ r x y f.
-    let went = c.in_ok-take_piece.ensures (old_rows q r x y s p k f) (new_rows q r x y s p k f) (arrived r y).ended (comes q r x y s p k f laws n n_is) in
+    let went = c.in_ok-take_uncounted.ensures (old_rows q r x y s p k f) (new_rows q r x y s p k f) (arrived r y).ended (comes q r x y s p k f laws n n_is) in
     taken_after q r x y s p k f laws n n_is new c.begun_below-begun.ensures went.done_is went.holds)
 
 pub returns-clause-stays : goal.returns-clause-stays
@@ -45,9 +45,9 @@ returns-clause-stays c =
     let laws : MarkLaws = record { follow = c.marks_follow.ensures; rise = c.closed_rise.ensures; close_more = c.ends_close_more.ensures } in
     let n = c.closed_below-closed.result in
     let n_is = c.closed_below-closed.ensures in
-    let new : RunStore = record { windows = c.take_piece.new.store; begun = c.begun_below-begun.result } in
+    let new : RunStore = record { windows = c.take_uncounted.new.store; begun = c.begun_below-begun.result } in
     subst (λ (t : Tree). (r : Input) (x y : ℕ) → Follows t k (λ u. TakenIn t u s) (λ r x y. IsOf t r x y p) r x y → by_windows (held_in new) ≡ kept_behind t (arrived r y)) (ap tree_of c.self.view_is) (λ r x y f.
-    let went = c.in_ok-take_piece.ensures (old_rows q r x y s p k f) (new_rows q r x y s p k f) (arrived r y).ended (comes q r x y s p k f laws n n_is) in
+    let went = c.in_ok-take_uncounted.ensures (old_rows q r x y s p k f) (new_rows q r x y s p k f) (arrived r y).ended (comes q r x y s p k f laws n n_is) in
     ap by_windows (held_is q c.has_window.ensures.group _ new (taken_after q r x y s p k f laws n n_is new c.begun_below-begun.ensures went.done_is went.holds))
     ∙ sym (alike_kept q c.self.invariant (arrived r y)))
 
@@ -62,8 +62,8 @@ returns-clause-text c =
     let n_is = c.closed_below-closed.ensures in
     let before = c.args.out.now.items in
     subst (λ (t : Tree). (r : Input) (x y : ℕ) → Follows t k (λ u. TakenIn t u s) (λ r x y. IsOf t r x y p) r x y → c.extend_from_slice.new.self.items ≡ before ++ added t r x y) (ap tree_of c.self.view_is) (λ r x y f.
-    let went = c.in_ok-take_piece.ensures (old_rows q r x y s p k f) (new_rows q r x y s p k f) (arrived r y).ended (comes q r x y s p k f laws n n_is) in
+    let went = c.in_ok-take_uncounted.ensures (old_rows q r x y s p k f) (new_rows q r x y s p k f) (arrived r y).ended (comes q r x y s p k f laws n n_is) in
     c.in_ok-extend_from_slice.ensures.items ∙ ap (λ l. before ++ l) (
     c.deref.ensures.value
-    ∙ text_after q r x y s p k f laws n n_is c.take_piece.new.store.runs.entries c.take_piece.new.store.next c.new-text.result.items c.take_piece.new.out.items c.new-text.ensures.items went
+    ∙ text_after q r x y s p k f laws n n_is c.take_uncounted.new.store.runs.entries c.take_uncounted.new.store.next c.new-text.result.items c.take_uncounted.new.out.items c.new-text.ensures.items went
     ∙ added_is q c.has_window.ensures.group c.part_has_lines.ensures c.self.invariant r x y))

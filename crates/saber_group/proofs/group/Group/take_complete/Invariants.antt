@@ -1,4 +1,0 @@
-use Rattle.saber_group.proofs.group.Group.take_complete.Given as goal
-
-abbrev pub ghosts-take_uncounted : goal.ghosts-take_uncounted
-ghosts-take_uncounted a = record { name = a.blank.name; parts = a.blank.parts }
