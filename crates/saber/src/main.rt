@@ -3,11 +3,15 @@
 //!
 //! - Call: `main` takes the runtime, and gives the status that `saber` tells. Words that the system
 //!   can't hand over end it by `refuse_words`.
-//! - Proved: that it is safe. It has no contract: that it hands words, files and sinks on, and the
-//!   status back, is to be read.
-//! - Tested: `args`, `data` and `stdout` are one stored run, which the gate makes with two
-//!   compilers.
+//! - Proved: that it is safe, and that the status is that of an outcome, whose note went to the notes
+//!   whole or a front of it (`ended`). That `main`, which takes no clause, hands on standard output,
+//!   standard error and that status is to be read.
+//! - Tested: `args`, `data`, `stdout` and `status` are one stored run, which the gate makes with two
+//!   compilers: it ends with a refused line, so the status isn't 0 and a note on standard output
+//!   would show.
 #![tactic(auto)]
+
+ghost use Rattle.saber.specs.Endings.{Ends};
 
 use saber_cli::{Ended, WordsFault, refuse_words, saber};
 use saber_io::{Files, HostFiles, OpenGate, Sink, StdSink};
@@ -47,6 +51,13 @@ fn lent<'a>(alloc: Global, texts: &'a [String]) -> Result<Vec<&'a str>, WordsFau
     Ok(words)
 }
 
+// Ends a call whose words can't be handed over, and gives the status.
+fn refused<N: Sink>(fault: WordsFault, notes: &mut N) -> u8
+    ensures { Ends result (N.written notes.old) (N.written notes.new) }
+{
+    refuse_words(fault, notes).status
+}
+
 // Does what the words ask for, and gives the status.
 fn run<F: Files, K: Sink + Send + Drop, N: Sink, R: Threads + Wait + Sync>(
     rt: &R,
@@ -58,13 +69,33 @@ fn run<F: Files, K: Sink + Send + Drop, N: Sink, R: Threads + Wait + Sync>(
 ) -> u8
 where
     F::Src: Send + Drop,
+    ensures { Ends result (N.written notes.old) (N.written notes.new) }
 {
     match lent(alloc, texts) {
         Ok(words) => {
             let Ended { status, .. } = saber(rt, alloc, &words, files, sink, notes, &OpenGate);
             status
         }
-        Err(fault) => refuse_words(fault, notes).status,
+        Err(fault) => refused(fault, notes),
+    }
+}
+
+// The same, with words that may not have been handed over.
+fn ended<F: Files, K: Sink + Send + Drop, N: Sink, R: Threads + Wait + Sync>(
+    rt: &R,
+    alloc: Global,
+    handed: Result<Vec<String>, WordsFault>,
+    files: &mut F,
+    sink: K,
+    notes: &mut N,
+) -> u8
+where
+    F::Src: Send + Drop,
+    ensures { Ends result (N.written notes.old) (N.written notes.new) }
+{
+    match handed {
+        Ok(texts) => run(rt, alloc, &texts, files, sink, notes),
+        Err(fault) => refused(fault, notes),
     }
 }
 
@@ -73,9 +104,6 @@ fn main(rt: HostRuntime) -> ExitCode {
     let mut files = HostFiles::new(rt);
     let sink = StdSink::new(rt.stdout());
     let mut notes = StdSink::new(rt.stderr());
-    let status = match words(&rt, alloc) {
-        Ok(texts) => run(&rt, alloc, &texts, &mut files, sink, &mut notes),
-        Err(fault) => refuse_words(fault, &mut notes).status,
-    };
-    ExitCode::from(status)
+    let handed = words(&rt, alloc);
+    ExitCode::from(ended(&rt, alloc, handed, &mut files, sink, &mut notes))
 }

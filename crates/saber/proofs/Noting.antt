@@ -1,0 +1,22 @@
+-- What went to the notes, by what became of the note.
+use Rattle.std.proofs.Common.{◌≡◌, ◌≢◌, ℕ, List, length, Option, refl, sym, ◌∙◌, ap, arith}
+use Rattle.std.proofs.lemmas.List.{take_all}
+use Rattle.saber_io.specs.Outside.{AppendsPrefix, appended, appended-none}
+use Rattle.saber_words.specs.declared.commands.WordsFault.{WordsFault}
+use Rattle.saber_words.specs.declared.commands.WordsFault.TheVariants as fault
+use Rattle.saber_notes.specs.declared.outcome.Outcome.TheVariants.{Done}
+use Rattle.saber_notes.specs.declared.note.Noted.{Noted}
+use Rattle.saber_notes.specs.declared.note.Noted.TheVariants.{Nothing, Whole, Failed, NoMemory}
+use Rattle.saber_cli.specs.Unread.{unread}
+
+-- words that can't be handed over are no good end
+pub not_done : (f : WordsFault) → unread f ≡ Done → ⊥
+not_done fault.Usage e = cc
+not_done fault.NoMemory e = cc
+
+pub went : (noted : Noted) (old new : Option (List ℕ)) (note : List ℕ) → noted ≢ Nothing → (noted ≡ Whole → new ≡ appended old note) → (noted ≡ Failed → AppendsPrefix old new note)
+    → (noted ≡ NoMemory → new ≡ old) → AppendsPrefix old new note
+went Nothing old new note some whole failed memory = absurd (some refl)
+went Whole old new note some whole failed memory = (length note, omega arith, whole refl ∙ ap (appended old) (sym (take_all (length note) note (omega arith))))
+went Failed old new note some whole failed memory = failed refl
+went NoMemory old new note some whole failed memory = (0, omega arith, memory refl ∙ appended-none old)
