@@ -20,14 +20,14 @@ pub one_part : (q : Tree) (zs : List ℤ) → group_part q (zs ∷ []) ≡ from_
 unfolding group_part
 one_part q zs = ap (λ b. from_entries {R = key_cmp} ((key q.keys zs, numbers q.items (cond b (zs ∷ []) [])) ∷ [])) (ap is_eq (tied_itself total (key q.keys zs)))
 
-merge_one : (m : Part) (k : List ℤ) (v : Numbers) → insert m k (joined join_numbers (get m k) v) ≡ merge m (from_entries ((k, v) ∷ []))
+pub merge_one : (m : Part) (k : List ℤ) (v : Numbers) → insert m k (joined join_numbers (get m k) v) ≡ merge m (from_entries ((k, v) ∷ []))
 merge_one m k v = sym (merge-empty_right (insert m k (joined join_numbers (get m k) v))) ∙ take_one total exact join_numbers m k v [] refl
 
 -- put in at its key, joined with what was there
 pub add_at : (q : Tree) (m : Part) (zs : List ℤ) (k : List ℤ) (n : Numbers) → k ≡ key q.keys zs → n ≡ joined join_numbers (get m k) (numbers q.items (zs ∷ [])) → insert m k n ≡ merge m (group_part q (zs ∷ []))
 add_at q m zs k n h e = ap (insert m k) e ∙ ap (λ l. insert m l (joined join_numbers (get m l) (numbers q.items (zs ∷ [])))) h ∙ merge_one m (key q.keys zs) (numbers q.items (zs ∷ [])) ∙ ap (merge m) (sym (one_part q zs))
 
-some_found : (x : List ℤ × Numbers) (es : List (List ℤ × Numbers)) → get (part_of (x ∷ es)) x.0 ≡ Some x.1
+pub some_found : (x : List ℤ × Numbers) (es : List (List ℤ × Numbers)) → get (part_of (x ∷ es)) x.0 ≡ Some x.1
 some_found x es = get-from_entries total (x ∷ es) x.0 ∙ ap (λ r. cond (is_eq r) (Some x.1) (find key_cmp x.0 es)) (tied_itself total x.0)
 
 -- what is there can take in the numbers of the row, which are like them

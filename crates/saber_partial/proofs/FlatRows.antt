@@ -237,7 +237,7 @@ pub start_shown : (l : Layout) (n : ℕ) (xs : List ℤ) (t : Table) (i : ℕ) �
 start_shown l n xs t i e h = subst (λ k. i ≤ k) (sym (ap (λ (x : Table). length x.entries) e) ∙ length-entries l n xs) h
 
 -- each row has its layout
-row_layout : (l : Layout) (r : List ℤ) → IsLayout l → IsRow l r → HasLayout l (entry_in l r)
+pub row_layout : (l : Layout) (r : List ℤ) → IsLayout l → IsRow l r → HasLayout l (entry_in l r)
 row_layout l r k h =
     let there = k.there in
     let long = h.long in

@@ -16,4 +16,5 @@ pub mod Listed
 pub mod Lined
 pub mod Counted
 mod PileFacts
+mod RowParted
 mod Picked

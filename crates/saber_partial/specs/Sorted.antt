@@ -11,6 +11,10 @@ use Rattle.saber_partial.specs.Tallies.{CanJoin}
 abbrev pub part_of : List (List ℤ × Numbers) → Part
 part_of es = from_entries {R = key_cmp} es
 
+-- the part of one entry
+abbrev pub alone : List ℤ × Numbers → Part
+alone e = part_of (e ∷ [])
+
 -- each key is below those behind it
 abbrev pub Rises : List (List ℤ × Numbers) → Type 0
 Rises es = T (is_sorted key_cmp es)

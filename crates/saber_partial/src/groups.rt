@@ -124,6 +124,27 @@ impl Partial {
         Ok(Partial { groups })
     }
 
+    // One for its memory, whatever it has.
+    pub(crate) fn of_spare(alloc: Global, spare: &mut Option<Partial>) -> Partial {
+        match spare.take() {
+            Some(part) => part,
+            None => Partial::empty(alloc),
+        }
+    }
+
+    /// A copy in the memory of one that is of no use any more, if there is one.
+    pub(crate) fn copy_in(
+        &self,
+        alloc: Global,
+        spare: &mut Option<Partial>,
+    ) -> Result<Partial, NoMemory>
+        ensures { IfOk result (λ p. p ≡ self.now) }
+    {
+        let mut copy = Partial::of_spare(alloc, spare);
+        copy.groups.set_to(&self.groups)?;
+        Ok(copy)
+    }
+
     /// Takes in what is known of later rows of the same window and plan, group by group, so that
     /// tasks can be cut anywhere (SABER 2016, assembly). After want of memory it is only safe: some
     /// groups are taken in and others not. `parts_can_merge` and `small_parts_merge` meet what it

@@ -3,10 +3,10 @@ ghost use Rattle.std.specs.Prelude.{◌≡◌, ◌≤◌, ◌<◌, ◌+◌, ◌-
 ghost use Rattle.std.specs.Map.{keys_of};
 ghost use Rattle.saber_plan.specs.Parts.{join_numbers, merge};
 ghost use Rattle.saber_partial.specs.Flat.{entry_in, IsRow};
-ghost use Rattle.saber_partial.specs.Sorted.{joined_each, part_of, weave, AllBelow, CanJoinAll, JoinsFit, Rises};
+ghost use Rattle.saber_partial.specs.Sorted.{alone, joined_each, part_of, weave, AllBelow, CanJoinAll, JoinsFit, Rises};
 ghost use Rattle.saber_partial.specs.Tallies.{CanJoin};
 
-use crate::places::{have_one_key, have_same_keys, is_at, key_order, reach};
+use crate::places::{have_one_key, have_same_keys, is_at, key_order, place, reach};
 use crate::table::Table;
 use saber_plan::NoMemory;
 use std::alloc::Global;
@@ -189,6 +189,25 @@ pub(crate) fn take_in(alloc: Global, groups: &mut Table, others: &Table) -> Resu
         return Ok(());
     }
     take_in_some(alloc, groups, others)
+}
+
+/// Takes in one group of a later row, which lies in its row as all do here: into the group of its key, or as one more.
+#[inline]
+pub(crate) fn take_in_row(groups: &mut Table, row: &[i128]) -> Result<(), NoMemory>
+    requires row { IsRow groups.old.layout row.now }
+    requires mine { Rises groups.old.entries }
+    requires can { JoinsFit (part_of groups.old.entries) (alone (entry_in groups.old.layout row.now)) }
+    ensures rises { Rises groups.new.entries }
+    ensures ok { OnOk result (part_of groups.new.entries ≡ merge (part_of groups.old.entries) (alone (entry_in groups.old.layout row.now))) }
+{
+    let keys = groups.layout().keys;
+    match place(groups, &row[..keys]) {
+        Ok(i) => {
+            groups.join(i, row);
+            Ok(())
+        }
+        Err(i) => groups.insert(i, row),
+    }
 }
 
 /// The groups of both, in a list of their own.

@@ -6,6 +6,7 @@ ghost use Rattle.saber_partial.specs.Tallies.{CanMerge};
 ghost use Rattle.saber_partial.specs.Piles.{piled, CanPile};
 
 use crate::groups::Partial;
+use crate::row_parts::RowPart;
 use crate::steps::Steps;
 use saber_changes::Answers;
 use saber_laws::merge_is_associative;
@@ -22,6 +23,8 @@ use std::sync::ledger::{Blank, Ledger};
 pub struct Pile {
     // from first to last
     parts: Vec<Partial>,
+    // of no meaning: its memory is for the next of them
+    spare: Option<Partial>,
 }
 
 impl Model for Pile {
@@ -37,6 +40,9 @@ impl Model for Pile {
 
     ghost invariant = { λ p. CanPile p.parts.items };
 }
+
+// A part of fewer groups takes in what comes behind it at once, mostly without memory.
+const FEW: usize = 16;
 
 // Whether there are two parts at least, and the one before the last isn't twice as great as the last.
 fn are_like(parts: &[Partial]) -> bool
@@ -169,20 +175,72 @@ fn answers_of_both<L: Ledger>(
     first.answers_with(alloc, part, plan)
 }
 
-// Whether the last part isn't twice as great as what comes behind it.
-fn is_like_last(parts: &[Partial], part: &Partial) -> bool
+// Whether the last part has few groups, or isn't twice as great as one of so many that comes behind it.
+fn is_like_last(parts: &[Partial], groups: usize) -> bool
     ensures { result ≡ true → 1 ≤ length parts.now }
 {
     match parts.last() {
-        Some(last) => last.len() / 2 < part.len(),
+        Some(last) => last.len() < FEW || last.len() / 2 < groups,
         None => false,
     }
+}
+
+// The last of some parts takes in the part of a row that comes behind it: one step.
+fn merge_row_behind<L: Ledger>(
+    parts: &mut Vec<Partial>,
+    part: &RowPart,
+    steps: &mut Steps<L>,
+) -> Result<(), NoMemory>
+    requires some { 1 ≤ length parts.old.items }
+    requires can { CanPile parts.old.items }
+    requires room { CanMerge (piled parts.old.items) part.now }
+    ensures all { OnOk result (piled parts.new.items ≡ merge (piled parts.old.items) part.now) }
+    ensures can { CanPile parts.new.items }
+    ensures fewer { length parts.new.items ≤ length parts.old.items }
+    ensures steps { steps.new ≤ steps.old + 1 }
+{
+    merge_is_associative();
+    let Some(last) = parts.last_mut() else {
+        return Ok(());
+    };
+    steps.tick();
+    match last.merge_row(part) {
+        Ok(()) => Ok(()),
+        Err(lacks) => {
+            parts.clear();
+            Err(lacks)
+        }
+    }
+}
+
+// The part of a row behind all others.
+fn put_row<L: Ledger>(
+    alloc: Global,
+    parts: &mut Vec<Partial>,
+    spare: &mut Option<Partial>,
+    part: &RowPart,
+    steps: &mut Steps<L>,
+) -> Result<(), NoMemory>
+    requires can { CanPile parts.old.items }
+    requires room { CanMerge (piled parts.old.items) part.now }
+    ensures all { OnOk result (piled parts.new.items ≡ merge (piled parts.old.items) part.now) }
+    ensures can { CanPile parts.new.items }
+    ensures steps { steps.new + length parts.new.items ≤ steps.old + length parts.old.items + 1 }
+{
+    merge_is_associative();
+    if is_like_last(parts, 1) {
+        merge_row_behind(parts, part, steps)?;
+        return carry(parts, steps);
+    }
+    parts.push(Partial::of_row_in(alloc, spare, part)?)?;
+    Ok(())
 }
 
 // What comes behind all others, which is lent.
 fn put_copy<L: Ledger>(
     alloc: Global,
     parts: &mut Vec<Partial>,
+    spare: &mut Option<Partial>,
     part: &Partial,
     steps: &mut Steps<L>,
 ) -> Result<(), NoMemory>
@@ -193,11 +251,11 @@ fn put_copy<L: Ledger>(
     ensures steps { steps.new + length parts.new.items ≤ steps.old + length parts.old.items + 1 }
 {
     merge_is_associative();
-    if is_like_last(parts, part) {
+    if is_like_last(parts, part.len()) {
         merge_behind(alloc, parts, part, steps)?;
         return carry(parts, steps);
     }
-    parts.push(part.copy(alloc)?)?;
+    parts.push(part.copy_in(alloc, spare)?)?;
     Ok(())
 }
 
@@ -262,7 +320,21 @@ impl Pile {
     {
         Pile {
             parts: Vec::new(alloc),
+            spare: None,
         }
+    }
+
+    /// Lets all go. The memory stays for what comes next.
+    pub fn clear(&mut self)
+        ensures part { self.new.part ≡ no_part }
+        ensures pieces { self.new.pieces ≡ 0 }
+    {
+        self.parts.truncate(1);
+        match self.parts.pop() {
+            Some(part) => self.spare = Some(part),
+            None => {}
+        }
+        self.parts.clear();
     }
 
     /// Whether nothing was taken in.
@@ -286,6 +358,7 @@ impl Pile {
 
     /// Takes in what is known of later rows, which is lent: one step, if each piece more counts for one. After want of memory it
     /// is only safe, as with `Partial::merge`.
+    #[inline(always)]
     pub fn take_from<L: Ledger>(
         &mut self,
         alloc: Global,
@@ -299,7 +372,22 @@ impl Pile {
         if part.is_empty() {
             return Ok(());
         }
-        put_copy(alloc, &mut self.parts, part, steps)
+        put_copy(alloc, &mut self.parts, &mut self.spare, part, steps)
+    }
+
+    /// The same of the part of a row.
+    #[inline]
+    pub fn take_row<L: Ledger>(
+        &mut self,
+        alloc: Global,
+        part: &RowPart,
+        steps: &mut Steps<L>,
+    ) -> Result<(), NoMemory>
+        requires { CanMerge self.old.part part.now }
+        ensures part { OnOk result (self.new.part ≡ merge self.old.part part.now) }
+        ensures steps { steps.new + self.new.pieces ≤ steps.old + self.old.pieces + 1 }
+    {
+        put_row(alloc, &mut self.parts, &mut self.spare, part, steps)
     }
 
     /// All in one part. Its steps are counted nowhere.

@@ -65,6 +65,7 @@ impl Partial {
     }
 
     /// The part of one row, as `Gathering` has it of some.
+    #[inline(always)]
     pub fn of_row(alloc: Global, aggregates: &Aggregates, row: &RowRef) -> Result<Partial, NoMemory>
         requires checked { IsChecked (tree_of aggregates.now) }
         requires group { (tree_of aggregates.now).shape ≡ Group }

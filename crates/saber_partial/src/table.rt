@@ -296,6 +296,15 @@ impl Table {
         self.layout = layout;
     }
 
+    /// Becomes a copy of another, in the memory that it has.
+    pub(crate) fn set_to(&mut self, other: &Table) -> Result<(), NoMemory>
+        ensures ok { OnOk result (self.new ≡ other.now) }
+        ensures err { OnErr result (self.new.entries ≡ []) }
+    {
+        self.clear(*other.layout());
+        self.push_range(other, 0, other.len())
+    }
+
     /// Where there is no group yet, the layout becomes that of the groups of a plan.
     pub(crate) fn suit(&mut self, aggregates: &Aggregates)
         requires others { 0 < length self.old.entries → Suits self.old.layout (length (tree_of aggregates.now).keys) (tree_of aggregates.now).items }

@@ -5,4 +5,5 @@ pub mod Listing
 pub mod Coming
 pub mod Rowing
 pub mod Taking
+pub mod Parted
 pub mod Stored

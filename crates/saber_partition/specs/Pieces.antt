@@ -1,5 +1,5 @@
 -- What a task works out of its rows, and what a store takes in of it.
-use Rattle.std.specs.Prelude.{◌≡◌, ℕ, ◌≤◌, List, [], ◌∷◌, ◌++◌, length, take, drop, get_or, slice_range, Bool, false, if◌then◌else◌, None, ℤ}
+use Rattle.std.specs.Prelude.{◌≡◌, ℕ, ◌<◌, ◌≤◌, List, [], ◌∷◌, ◌++◌, length, take, drop, get_or, slice_range, Bool, false, if◌then◌else◌, Option, Some, None, ℤ}
 use Rattle.saber_plan.specs.declared.rows.Row.{Row}
 use Rattle.saber_plan.specs.declared.windows.Mark.{Mark}
 use Rattle.saber_plan.specs.Trees.{Tree}
@@ -22,6 +22,18 @@ pub record Made : Type 0 where
 -- how many windows rows close and begin, where there are so many of them
 abbrev pub mark_with : ℕ → Mark
 mark_with n = record { left = n; right = 0; last = None; ended = false }
+
+-- ---- parts in one list
+
+-- there is a part at a place, if one is told
+abbrev pub IsPlace : List Part → Option ℕ → Type 0
+IsPlace ps None = Unit {0}
+IsPlace ps (Some i) = i < length ps
+
+-- behind parts came more
+pub record Grew (ps qs : List Part) : Type 0 where
+  pub more : List Part
+  pub all : qs ≡ ps ++ more
 
 -- ---- the piece
 

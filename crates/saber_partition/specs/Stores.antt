@@ -3,10 +3,12 @@ use Rattle.std.specs.Prelude.{List, map, ℤ}
 use Rattle.std.specs.FinMap.{from_entries}
 use Rattle.arrayvec.specs.ArrayVec.{ArrayVec}
 use Rattle.saber_plan.specs.Answers.{key_cmp}
+use Rattle.saber_plan.specs.Parts.{Part}
 use Rattle.saber_partition.specs.declared.keyed.Keyed.{Keyed}
 use Rattle.saber_partition.specs.declared.pieces.RowPiece.{RowPiece}
 use Rattle.saber_partition.specs.Lists.{Own, Lists}
-use Rattle.saber_partition.specs.Pieces.{Made}
+use Rattle.saber_partition.specs.Pieces.{Made, IsPlace}
+use Rattle.saber_partition.specs.Streams.{part_in}
 
 abbrev pub own_of : Keyed → Own
 own_of s = record { next = s.next; begun = s.begun; entries = s.parts.entries }
@@ -14,5 +16,10 @@ own_of s = record { next = s.next; begun = s.begun; entries = s.parts.entries }
 abbrev pub lists_of : List (ArrayVec ℤ × Keyed) → Lists
 lists_of es = from_entries {R = key_cmp} (map (λ e. (e.0.items, own_of e.1)) es)
 
-abbrev pub made_of : RowPiece → Made
-made_of p = record { list = p.list.items; place = p.place; part = p.part }
+-- a row's piece, whose part lies among others
+abbrev pub made_of : List Part → RowPiece → Made
+made_of ps p = record { list = p.list.items; place = p.place; part = part_in ps p.part }
+
+-- there is a part at its place, if it has one
+abbrev pub HasPart : List Part → RowPiece → Type 0
+HasPart ps p = IsPlace ps p.part

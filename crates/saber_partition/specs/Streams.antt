@@ -1,5 +1,5 @@
 -- The windows of the rows of one key list, which are a stream by themselves: their parts, and what a queue of parts has of them.
-use Rattle.std.specs.Prelude.{◌≡◌, ℕ, ◌-◌, ◌≤◌, List, [], ◌∷◌, ◌++◌, filter, flat_map, length, ◌⊎◌}
+use Rattle.std.specs.Prelude.{◌≡◌, ℕ, ◌-◌, ◌≤◌, List, [], ◌∷◌, ◌++◌, filter, flat_map, length, get_or, Option, Some, None, ◌⊎◌}
 use Rattle.std.specs.List.{AllByRecursion}
 use Rattle.saber_plan.specs.declared.plans.Shape.TheVariants.{Group}
 use Rattle.saber_plan.specs.declared.rows.Row.{Row}
@@ -43,6 +43,11 @@ lines_between q us a b = flat_map (λ i. part_lines q i (part_of q i us)) (from 
 -- the part of a row by itself, which is empty where it doesn't pass
 abbrev pub row_part : Tree → Row → Part
 row_part q r = group_part q (filter (λ zs. passes q.predicate zs []) (r.values ∷ []))
+
+-- the part at a place of some, if one is told
+abbrev pub part_in : List Part → Option ℕ → Part
+part_in ps None = no_part
+part_in ps (Some i) = get_or ps i no_part
 
 -- a part has come behind others, unless it is empty
 abbrev pub Entered : Entries → ℕ → Part → Entries → Type 0

@@ -3,10 +3,10 @@ ghost use Rattle.std.specs.Prelude.{◌≡◌, ◌≤◌, ◌+◌, max, [], List
 ghost use Rattle.saber_plan.specs.declared.rows.Row.{Row};
 ghost use Rattle.saber_plan.specs.Trees.{tree_of};
 ghost use Rattle.saber_sliding.specs.Entries.{CanFollow};
-ghost use Rattle.saber_partition.specs.Streams.{Came, Comes, Entered, HoldStill, Keeps, Printed};
+ghost use Rattle.saber_partition.specs.Streams.{part_in, Came, Comes, Entered, HoldStill, Keeps, Printed};
 
 use crate::laws::stream_laws;
-use saber_partial::{Partial, Steps};
+use saber_partial::{RowParts, Steps};
 use saber_plan::{NoMemory, Plan};
 use saber_sliding::Sliding;
 use std::alloc::Global;
@@ -35,25 +35,30 @@ impl Keyed {
         }
     }
 
-    // Puts the part of a row behind the others, in one entry with those of rows in the same windows: two steps, now or later.
+    // Puts the part of a row behind the others, in one entry with those of rows in the same windows: two steps, now or later. A row
+    // that doesn't pass has none.
     fn take_part<L: Ledger>(
         &mut self,
         alloc: Global,
         past: u64,
-        part: Partial,
+        parts: &RowParts,
+        part: Option<usize>,
         steps: &mut Steps<L>,
     ) -> Result<(), NoMemory>
-        requires { CanFollow part self.old.parts.entries }
-        ensures parts { OnOk result (Entered self.old.parts.entries past part self.new.parts.entries) }
+        requires { CanFollow (part_in parts.now part) self.old.parts.entries }
+        ensures parts { OnOk result (Entered self.old.parts.entries past (part_in parts.now part) self.new.parts.entries) }
         ensures next { OnOk result (self.new.next ≡ self.old.next) }
         ensures begun { OnOk result (self.new.begun ≡ past) }
         ensures steps { OnOk result (steps.new + self.new.parts.owed ≤ steps.old + self.old.parts.owed + 2) }
     {
         self.begun = past;
-        if part.is_empty() {
+        let Some(i) = part else {
+            return Ok(());
+        };
+        if i >= parts.len() {
             return Ok(());
         }
-        self.parts.put(alloc, past, part, steps)
+        self.parts.put(alloc, past, &parts.part(i), steps)
     }
 
     /// Appends the lines of the windows below `low`: one step for each, beside those owed.
@@ -96,19 +101,20 @@ impl Keyed {
         plan: &Plan,
         low: u64,
         past: u64,
-        part: Partial,
+        parts: &RowParts,
+        part: Option<usize>,
         out: &mut Vec<u8>,
         steps: &mut Steps<L>,
     ) -> Result<(), NoMemory>
-        requires { (us : List Row) × (r : Row) × Comes (tree_of plan.now) us r low past part
+        requires { (us : List Row) × (r : Row) × Comes (tree_of plan.now) us r low past (part_in parts.now part)
             × Keeps (tree_of plan.now) us self.old.next self.old.begun self.old.parts.entries }
-        ensures came { OnOk result ((us : List Row) (r : Row) → Comes (tree_of plan.now) us r low past part
+        ensures came { OnOk result ((us : List Row) (r : Row) → Comes (tree_of plan.now) us r low past (part_in parts.now part)
             → Keeps (tree_of plan.now) us self.old.next self.old.begun self.old.parts.entries
             → Came (tree_of plan.now) us r self.new.next self.new.begun self.new.parts.entries out.old.items out.new.items) }
         ensures steps { OnOk result (steps.new + self.new.parts.owed + self.old.next ≤ steps.old + self.old.parts.owed + 2 + self.new.next) }
     {
         stream_laws();
-        self.take_part(alloc, past, part, steps)?;
+        self.take_part(alloc, past, parts, part, steps)?;
         self.close_lines(plan, low, out, steps)?;
         Ok(())
     }

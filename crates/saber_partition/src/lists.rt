@@ -1,5 +1,6 @@
 // What is kept of the rows of each key list.
-ghost use Rattle.std.specs.Prelude.{◌≡◌, ◌++◌, List, map, max, OnOk};
+ghost use Rattle.std.specs.Prelude.{◌≡◌, ◌++◌, List, None, map, max, OnOk};
+ghost use Rattle.std.specs.FinMap.{get};
 ghost use Rattle.saber_plan.specs.declared.rows.Row.{Row};
 ghost use Rattle.saber_plan.specs.Trees.{tree_of};
 ghost use Rattle.saber_plan.specs.Answers.{closed_at_last, frame};
@@ -13,7 +14,7 @@ use crate::laws::{list_laws, stream_laws};
 use crate::numbers::numbers_behind;
 use crate::pieces::RowPiece;
 use arrayvec::ArrayVec;
-use saber_partial::Steps;
+use saber_partial::{RowParts, Steps};
 use saber_plan::{NoMemory, Plan};
 use saber_window::Windows;
 use std::alloc::Global;
@@ -27,39 +28,63 @@ pub struct ListStore {
     pub(crate) lists: BTreeMap<ArrayVec<i64, 8>, Keyed>,
 }
 
-/// Takes in a row, and appends the lines of the window that it closes.
-pub(crate) fn take_row<L: Ledger>(
+// The same as `take_row` of a key list that no row had before. It stands by itself, since what is made here would cost each row.
+#[inline(never)]
+fn take_first<L: Ledger>(
     alloc: Global,
     plan: &Plan,
     windows: &Windows,
     lists: &mut BTreeMap<ArrayVec<i64, 8>, Keyed>,
     row: RowPiece,
+    parts: &RowParts,
     out: &mut Vec<u8>,
     steps: &mut Steps<L>,
 ) -> Result<(), NoMemory>
     requires windows { windows.now ≡ frame (tree_of plan.now) }
-    requires comes { (xs : List Row) × (r : Row) × RowComes (tree_of plan.now) xs r (made_of row) (lists_of lists.old.entries) }
-    ensures { OnOk result ((xs : List Row) (r : Row) → RowComes (tree_of plan.now) xs r (made_of row) (lists_of lists.old.entries)
+    requires comes { (xs : List Row) × (r : Row) × RowComes (tree_of plan.now) xs r (made_of parts.now row) (lists_of lists.old.entries) }
+    requires missing { get (lists_of lists.old.entries) row.list.items ≡ None }
+    ensures { OnOk result ((xs : List Row) (r : Row) → RowComes (tree_of plan.now) xs r (made_of parts.now row) (lists_of lists.old.entries)
         → RowCame (tree_of plan.now) xs r (lists_of lists.new.entries) out.old.items out.new.items) }
 {
     stream_laws();
     list_laws();
     let RowPiece { list, place, part } = row;
     let (low, past) = numbers_behind(windows, place);
-    match lists.get_mut(&list) {
-        Some(own) => own.take_row(alloc, plan, low, past, part, out, steps),
-        None => {
-            let mut own = Keyed::of_none(alloc);
-            match own.take_row(alloc, plan, low, past, part, out, steps) {
-                Ok(()) => {}
-                Err(want) => {
-                    own.let_go();
-                    return Err(want);
-                }
-            }
-            lists.insert(list, own)?;
-            Ok(())
+    let mut own = Keyed::of_none(alloc);
+    match own.take_row(alloc, plan, low, past, parts, part, out, steps) {
+        Ok(()) => {}
+        Err(want) => {
+            own.let_go();
+            return Err(want);
         }
+    }
+    lists.insert(list, own)?;
+    Ok(())
+}
+
+/// Takes in a row, whose part lies among others, and appends the lines of the window that it closes.
+pub(crate) fn take_row<L: Ledger>(
+    alloc: Global,
+    plan: &Plan,
+    windows: &Windows,
+    lists: &mut BTreeMap<ArrayVec<i64, 8>, Keyed>,
+    row: RowPiece,
+    parts: &RowParts,
+    out: &mut Vec<u8>,
+    steps: &mut Steps<L>,
+) -> Result<(), NoMemory>
+    requires windows { windows.now ≡ frame (tree_of plan.now) }
+    requires comes { (xs : List Row) × (r : Row) × RowComes (tree_of plan.now) xs r (made_of parts.now row) (lists_of lists.old.entries) }
+    ensures { OnOk result ((xs : List Row) (r : Row) → RowComes (tree_of plan.now) xs r (made_of parts.now row) (lists_of lists.old.entries)
+        → RowCame (tree_of plan.now) xs r (lists_of lists.new.entries) out.old.items out.new.items) }
+{
+    list_laws();
+    match lists.get_mut(&row.list) {
+        Some(own) => {
+            let (low, past) = numbers_behind(windows, row.place);
+            own.take_row(alloc, plan, low, past, parts, row.part, out, steps)
+        }
+        None => take_first(alloc, plan, windows, lists, row, parts, out, steps),
     }
 }
 
@@ -70,17 +95,18 @@ pub(crate) fn take_rows<L: Ledger>(
     windows: &Windows,
     lists: &mut BTreeMap<ArrayVec<i64, 8>, Keyed>,
     rows: Vec<RowPiece>,
+    parts: &RowParts,
     out: &mut Vec<u8>,
     steps: &mut Steps<L>,
 ) -> Result<(), NoMemory>
     requires windows { windows.now ≡ frame (tree_of plan.now) }
-    requires come { (xs : List Row) × (rs : List Row) × RowsCome (tree_of plan.now) xs rs (map made_of rows.items) (lists_of lists.old.entries) }
-    ensures { OnOk result ((xs rs : List Row) → RowsCome (tree_of plan.now) xs rs (map made_of rows.items) (lists_of lists.old.entries)
+    requires come { (xs : List Row) × (rs : List Row) × RowsCome (tree_of plan.now) xs rs (map (made_of parts.now) rows.items) (lists_of lists.old.entries) }
+    ensures { OnOk result ((xs rs : List Row) → RowsCome (tree_of plan.now) xs rs (map (made_of parts.now) rows.items) (lists_of lists.old.entries)
         → RowsCame (tree_of plan.now) xs rs (lists_of lists.new.entries) out.old.items out.new.items) }
 {
     list_laws();
     for row in rows {
-        take_row(alloc, plan, windows, lists, row, out, steps)?;
+        take_row(alloc, plan, windows, lists, row, parts, out, steps)?;
     }
     Ok(())
 }

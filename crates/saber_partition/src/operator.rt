@@ -28,16 +28,16 @@ impl Partition<'_> {
         out: &mut Vec<u8>,
         blank: Blank,
     ) -> Result<(), NoMemory>
-        requires follow { (r : Input) × (x : ℕ) × (y : ℕ) × Follow (tree_of self.now) r x y (map made_of piece.rows.items) piece.ended (lists_of store.old.lists.entries) }
+        requires follow { (r : Input) × (x : ℕ) × (y : ℕ) × Follow (tree_of self.now) r x y (map (made_of piece.parts) piece.rows.items) piece.ended (lists_of store.old.lists.entries) }
         requires name { blank.name ≡ L.name }
         requires parts { blank.parts ≡ L.parts }
         requires some { 0 < blank.parts }
-        ensures { OnOk result ((r : Input) (x y : ℕ) → Follow (tree_of self.now) r x y (map made_of piece.rows.items) piece.ended (lists_of store.old.lists.entries)
+        ensures { OnOk result ((r : Input) (x y : ℕ) → Follow (tree_of self.now) r x y (map (made_of piece.parts) piece.rows.items) piece.ended (lists_of store.old.lists.entries)
             → Followed (tree_of self.now) r x y (lists_of store.new.lists.entries) out.old.items out.new.items) }
     {
         self.asks();
         ends_are_behind();
-        let ListPiece { rows, ended } = piece;
+        let ListPiece { rows, parts, ended } = piece;
         let mut steps = Steps::<L>::new(blank);
         take_rows(
             alloc,
@@ -45,6 +45,7 @@ impl Partition<'_> {
             &self.windows,
             &mut store.lists,
             rows,
+            &parts,
             out,
             &mut steps,
         )?;
@@ -69,7 +70,7 @@ impl Operator for Partition<'_> {
 
     ghost plan = { tree_of };
 
-    ghost has_seen = { λ partition draft s. HasSeen (tree_of partition) s (map made_of draft.rows.items) draft.ended };
+    ghost has_seen = { λ partition draft s. HasSeen (tree_of partition) s (map (made_of draft.parts) draft.rows.items) draft.ended };
 
     ghost held = { λ s. kept_in (lists_of s.lists.entries) };
 
@@ -77,12 +78,13 @@ impl Operator for Partition<'_> {
 
     ghost has_taken = { λ partition store r. TakenIn (tree_of partition) r (lists_of store.lists.entries) };
 
-    ghost is_of = { λ partition piece r x y. IsOf (tree_of partition) r x y (map made_of piece.rows.items) piece.ended };
+    ghost is_of = { λ partition piece r x y. IsOf (tree_of partition) r x y (map (made_of piece.parts) piece.rows.items) piece.ended };
 
     fn start(&self, alloc: Global, own: &Block) -> Result<ListPiece, NoMemory> {
-        let rows = self.pieces_of(alloc, &own.rows, &own.places)?;
+        let (rows, parts) = self.pieces_of(alloc, &own.rows, &own.places)?;
         Ok(ListPiece {
             rows,
+            parts,
             ended: own.ended,
         })
     }

@@ -6,9 +6,10 @@ ghost use Rattle.saber_plan.specs.Given.{IsRowOf};
 ghost use Rattle.saber_plan.specs.Trees.{tree_of};
 ghost use Rattle.saber_plan.specs.Values as v;
 ghost use Rattle.std.specs.Prelude as l;
-ghost use Rattle.saber_partition.specs.Streams.{row_part};
-ghost use Rattle.saber_partition.specs.Pieces.{AreMade, IsMade};
-ghost use Rattle.saber_partition.specs.Stores.{made_of};
+ghost use Rattle.saber_partial.specs.PartLaws.{OfRows};
+ghost use Rattle.saber_partition.specs.Streams.{part_in, row_part};
+ghost use Rattle.saber_partition.specs.Pieces.{AreMade, Grew, IsMade, IsPlace};
+ghost use Rattle.saber_partition.specs.Stores.{made_of, HasPart};
 
 use crate::letting::let_rows_go;
 use crate::partition::Partition;
@@ -16,22 +17,24 @@ use arrayvec::ArrayVec;
 use saber_eval::{holds, one_stream_fits};
 use saber_flat::{RowRef, Rows};
 use saber_laws::{groups_have_one_window, no_rows_no_part};
-use saber_partial::Partial;
+use saber_partial::RowParts;
 use saber_plan::NoMemory;
 use std::alloc::Global;
 
-/// A row's key list, where it stands among the rows with it, and its part, which is empty where it doesn't pass WHERE.
+/// A row's key list, where it stands among the rows with it, and where its part stands among those of the task, if it passes WHERE.
 #[derive(Drop)]
 pub(crate) struct RowPiece {
     pub(crate) list: ArrayVec<i64, 8>,
     pub(crate) place: u64,
-    pub(crate) part: Partial,
+    pub(crate) part: Option<usize>,
 }
 
-/// What a task gives: this of each of its rows, in order, and whether the input ends behind them.
+/// What a task gives: this of each of its rows, in order, the parts of all in one list, so that a row takes no memory of its own,
+/// and whether the input ends behind them.
 #[derive(Drop)]
 pub struct ListPiece {
     pub(crate) rows: Vec<RowPiece>,
+    pub(crate) parts: RowParts,
     pub(crate) ended: bool,
 }
 
@@ -71,18 +74,24 @@ impl Partition<'_> {
         }
     }
 
-    // The part of one row.
-    fn part_of_row(&self, alloc: Global, row: &RowRef) -> Result<Partial, NoMemory>
-        requires { IsRowOf (tree_of self.now) row.now }
-        ensures { IfOk result (λ part. part ≡ row_part (tree_of self.now) row.now) }
+    // Appends the part of a row to those of others, if the row passes, and says where it stands.
+    fn push_part(&self, row: &RowRef, parts: &mut RowParts) -> Result<Option<usize>, NoMemory>
+        requires row { IsRowOf (tree_of self.now) row.now }
+        requires others { AllByRecursion (OfRows (tree_of self.now) 1) parts.old }
+        ensures all { AllByRecursion (OfRows (tree_of self.now) 1) parts.new }
+        ensures more { OnOk result (Grew parts.old parts.new) }
+        ensures there { IfOk result (λ at. IsPlace parts.new at) }
+        ensures part { IfOk result (λ at. part_in parts.new at ≡ row_part (tree_of self.now) row.now) }
     {
         self.asks();
         groups_have_one_window();
         no_rows_no_part();
-        if self.passes(row) {
-            return Partial::of_row(alloc, &self.aggregates, row);
+        if !self.passes(row) {
+            return Ok(None);
         }
-        Ok(Partial::empty(alloc))
+        let i = parts.len();
+        parts.push(&self.aggregates, row)?;
+        Ok(Some(i))
     }
 
     // Its key list.
@@ -97,11 +106,20 @@ impl Partition<'_> {
     }
 
     // What a row gives that stands at this place.
-    fn row_piece(&self, alloc: Global, row: &RowRef, place: u64) -> Result<RowPiece, NoMemory>
-        requires { IsRowOf (tree_of self.now) row.now }
-        ensures { IfOk result (λ p. IsMade (tree_of self.now) row.now place (made_of p)) }
+    fn row_piece(
+        &self,
+        row: &RowRef,
+        place: u64,
+        parts: &mut RowParts,
+    ) -> Result<RowPiece, NoMemory>
+        requires row { IsRowOf (tree_of self.now) row.now }
+        requires others { AllByRecursion (OfRows (tree_of self.now) 1) parts.old }
+        ensures all { AllByRecursion (OfRows (tree_of self.now) 1) parts.new }
+        ensures more { OnOk result (Grew parts.old parts.new) }
+        ensures there { IfOk result (λ p. HasPart parts.new p) }
+        ensures made { IfOk result (λ p. IsMade (tree_of self.now) row.now place (made_of parts.new p)) }
     {
-        let part = self.part_of_row(alloc, row)?;
+        let part = self.push_part(row, parts)?;
         Ok(RowPiece {
             list: self.list_of_row(row),
             place,
@@ -109,41 +127,43 @@ impl Partition<'_> {
         })
     }
 
-    // Puts what rows give that stand at these places into an empty list.
+    // Puts what rows give that stand at these places into an empty list, and their parts behind others.
     fn put_pieces(
         &self,
-        alloc: Global,
         rows: &Rows,
         places: &[u64],
         pieces: &mut Vec<RowPiece>,
+        parts: &mut RowParts,
     ) -> Result<(), NoMemory>
         requires rows { AllByRecursion (IsRowOf (tree_of self.now)) rows.now }
         requires none { pieces.old.items ≡ l.[] }
-        ensures { OnOk result (AreMade (tree_of self.now) rows.now places.now (map made_of pieces.new.items)) }
+        requires others { AllByRecursion (OfRows (tree_of self.now) 1) parts.old }
+        ensures { OnOk result (AreMade (tree_of self.now) rows.now places.now (map (made_of parts.new) pieces.new.items)) }
     {
         let count = rows.len();
         pieces.try_reserve_exact(count)?;
         for i in 0..count {
             let place = place_at(places, i);
-            let piece = self.row_piece(alloc, &rows.row(i), place)?;
+            let piece = self.row_piece(&rows.row(i), place, parts)?;
             pieces.push(piece)?;
         }
         Ok(())
     }
 
-    /// What a task's rows give that stand at these places. Each row is looked at once.
+    /// What a task's rows give that stand at these places, and their parts. Each row is looked at once.
     pub(crate) fn pieces_of(
         &self,
         alloc: Global,
         rows: &Rows,
         places: &[u64],
-    ) -> Result<Vec<RowPiece>, NoMemory>
+    ) -> Result<(Vec<RowPiece>, RowParts), NoMemory>
         requires { AllByRecursion (IsRowOf (tree_of self.now)) rows.now }
-        ensures { IfOk result (λ v. AreMade (tree_of self.now) rows.now places.now (map made_of v.items)) }
+        ensures { IfOk result (λ v. AreMade (tree_of self.now) rows.now places.now (map (made_of v.1) v.0.items)) }
     {
         let mut pieces = Vec::new(alloc);
-        match self.put_pieces(alloc, rows, places, &mut pieces) {
-            Ok(()) => Ok(pieces),
+        let mut parts = RowParts::empty(alloc);
+        match self.put_pieces(rows, places, &mut pieces, &mut parts) {
+            Ok(()) => Ok((pieces, parts)),
             Err(want) => {
                 let_rows_go(pieces);
                 Err(want)

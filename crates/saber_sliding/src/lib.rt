@@ -2,20 +2,21 @@
 //! The merges don't depend on how many windows a part lies in. The operator of groups keeps its
 //! slices in it.
 //!
-//! - Parts: `queue` (`Sliding`), `together` (parts that share an entry), `front` (`Front`: parts
+//! - Parts: `queue` (`Sliding`), `together` (rows that share an entry), `front` (`Front`: parts
 //!   that are to be summed up at once).
 //! - Calls: `push` puts a part behind the others, with the first window that doesn't have it; `put`
-//!   does too, but a part of the same slice as the last one goes into its entry, so that rows of
-//!   one slice share an entry; `drop_to` lets those at the front go that a window doesn't have;
-//!   `lines` prints the merge of all that are there, and `answers` gives its answers as values;
-//!   `Front::into_queue` makes a queue of parts.
+//!   does so with the part of a row, which is lent, but one of the same slice as the last entry
+//!   goes into that, so that rows of one slice share an entry; `drop_to` lets those at the front go
+//!   that a window doesn't have; `lines` prints the merge of all that are there, and `answers`
+//!   gives its answers as values; `Front::into_queue` makes a queue of parts.
 //! - Proved: each entry is seen with the merge of itself and all behind it (`specs/Entries.antt`),
 //!   and the queue with how many steps (merges) it still owes. `push` or `put` costs two steps, now
 //!   or later, `lines` or `answers` one more, `drop_to` none. Of a `Front` no part is merged before
 //!   all are there, and then it is one step for each. After want of memory `lines` leaves the text
 //!   as it was.
 //! - Not claimed: what a step costs: a part of many groups is longer to merge than one of few. That
-//!   `put` finds the last entry in the back: one that is summed up takes no more in.
+//!   `put` finds the last entry in the back: one that is summed up takes no more in. That an entry
+//!   that goes leaves its memory for the next one of a row.
 //! - Limits: those of `saber_partial`.
 #![tactic(auto)]
 

@@ -29,6 +29,8 @@ pub struct Sliding {
     pub(crate) back_part: Pile,
     // whether the back is still to become the front, which has none then
     pub(crate) late: bool,
+    // of no meaning: its memory is for the next entry
+    pub(crate) spare: Option<Partial>,
 }
 
 impl Model for Sliding {
@@ -110,7 +112,7 @@ fn turn<L: Ledger>(
     sum_up(alloc, gone, back, front, steps)?;
     back.clear();
     back.try_reserve_exact(count + 1)?;
-    *back_part = Pile::empty(alloc);
+    back_part.clear();
     Ok(())
 }
 
@@ -138,18 +140,18 @@ fn settle<L: Ledger>(
     Ok(())
 }
 
-// Without the first entry.
-fn drop_one(front: &mut VecDeque<(u64, Partial)>)
+// Without the first entry, whose memory stays.
+fn drop_one(front: &mut VecDeque<(u64, Partial)>, spare: &mut Option<Partial>)
     ensures { front.new.items ≡ drop 1 front.old.items }
 {
     match front.pop_front() {
-        Some(_) => {}
+        Some(entry) => *spare = Some(entry.1),
         None => {}
     }
 }
 
-// Without the entries at the front that window i doesn't have.
-fn drop_front(front: &mut VecDeque<(u64, Partial)>, i: u64)
+// Without the entries at the front that window i doesn't have. The memory of the last of them stays.
+fn drop_front(front: &mut VecDeque<(u64, Partial)>, spare: &mut Option<Partial>, i: u64)
     ensures { front.new.items ≡ dropped i front.old.items }
 {
     loop {
@@ -158,7 +160,7 @@ fn drop_front(front: &mut VecDeque<(u64, Partial)>, i: u64)
                 if entry.0 > i {
                     return;
                 }
-                drop_one(front);
+                drop_one(front, spare);
             }
             None => return,
         }
@@ -178,12 +180,16 @@ fn count_gone(back: &[(u64, Partial)], i: u64) -> usize
     back.len()
 }
 
-// Without the first entries.
-fn drop_first(back: &mut Vec<(u64, Partial)>, gone: usize)
+// Without the first entries. The memory of the first stays.
+fn drop_first(back: &mut Vec<(u64, Partial)>, spare: &mut Option<Partial>, gone: usize)
     requires { gone ≤ length back.old.items }
     ensures { back.new.items ≡ drop gone back.old.items }
 {
-    let _gone = back.drain(..gone);
+    let mut entries = back.drain(..gone);
+    match entries.next() {
+        Some(entry) => *spare = Some(entry.1),
+        None => {}
+    }
 }
 
 // One entry more with its own part, and the merge of all: one step, if each piece more counts for one.
@@ -296,6 +302,7 @@ impl Sliding {
             back: Vec::new(alloc),
             back_part: Pile::empty(alloc),
             late: false,
+            spare: None,
         }
     }
 
@@ -320,6 +327,7 @@ impl Sliding {
             back: Vec::new(alloc),
             back_part: Pile::empty(alloc),
             late: false,
+            spare: None,
         })
     }
 
@@ -337,6 +345,7 @@ impl Sliding {
     }
 
     /// A part of rows behind all others. It costs two steps, each now or later. After want of memory nothing is kept.
+    #[inline(always)]
     pub fn push<L: Ledger>(
         &mut self,
         alloc: Global,
@@ -374,7 +383,7 @@ impl Sliding {
         ensures entries { self.new.entries ≡ dropped i self.old.entries }
         ensures owed { self.new.owed ≤ self.old.owed }
     {
-        drop_front(&mut self.front, i);
+        drop_front(&mut self.front, &mut self.spare, i);
         if !self.front.is_empty() {
             return;
         }
@@ -382,9 +391,8 @@ impl Sliding {
         if gone == 0 {
             return;
         }
-        let alloc = *self.back.allocator();
-        drop_first(&mut self.back, gone);
-        self.back_part = Pile::empty(alloc);
+        drop_first(&mut self.back, &mut self.spare, gone);
+        self.back_part.clear();
         self.late = true;
     }
 
@@ -406,6 +414,7 @@ impl Sliding {
 
     /// Writes the lines of the merge of all parts behind what `out` has, in a walk over two lists of groups at
     /// most: one step beside those owed. Where memory is wanting, `out` stays as it was.
+    #[inline(always)]
     pub fn lines<L: Ledger>(
         &mut self,
         plan: &Plan,

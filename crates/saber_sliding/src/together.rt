@@ -1,12 +1,12 @@
-// Parts that the same windows have, in one entry of the back, whose entries have their own parts.
+// Parts of rows: those that the same windows have in one entry of the back, whose entries have their own parts.
 ghost use Rattle.std.specs.Prelude.{◌≡◌, ◌+◌, ◌≤◌, length, true, false, Some, OnOk};
 ghost use Rattle.saber_plan.specs.Parts.{merge};
 ghost use Rattle.saber_partial.specs.Tallies.{CanMerge};
-ghost use Rattle.saber_sliding.specs.Entries.{joined, last_number, suffixes, CanFollow, Put};
+ghost use Rattle.saber_sliding.specs.Entries.{joined, last_number, pushed, suffixes, CanFollow, Put};
 
 use crate::queue::Sliding;
 use saber_laws::{merge_has_unit, merge_is_associative};
-use saber_partial::{Partial, Pile, Steps};
+use saber_partial::{Partial, Pile, RowPart, Steps};
 use saber_plan::NoMemory;
 use std::alloc::Global;
 use std::sync::ledger::Ledger;
@@ -21,11 +21,10 @@ fn ends_with(back: &[(u64, Partial)], number: u64) -> bool
     }
 }
 
-// A part behind the last entry's own: one step.
+// The part of a row behind the last entry's own: one step.
 fn join_last<L: Ledger>(
-    alloc: Global,
     back: &mut Vec<(u64, Partial)>,
-    part: &Partial,
+    part: &RowPart,
     steps: &mut Steps<L>,
 ) -> Result<(), NoMemory>
     requires { CanFollow part.now (suffixes back.old.items) }
@@ -37,7 +36,8 @@ fn join_last<L: Ledger>(
     let Some(last) = back.last_mut() else {
         return Ok(());
     };
-    last.1.merge_counted(alloc, part, steps)
+    steps.tick();
+    last.1.merge_row(part)
 }
 
 // The same, and the merge of all where that is kept: two steps, if each piece more counts for one.
@@ -46,7 +46,7 @@ fn join_behind<L: Ledger>(
     late: bool,
     back: &mut Vec<(u64, Partial)>,
     back_part: &mut Pile,
-    part: &Partial,
+    part: &RowPart,
     steps: &mut Steps<L>,
 ) -> Result<(), NoMemory>
     requires room { CanFollow part.now (suffixes back.old.items) }
@@ -55,38 +55,54 @@ fn join_behind<L: Ledger>(
     ensures part { OnOk result (late ≡ false → back_part.new.part ≡ merge back_part.old.part part.now) }
     ensures steps { OnOk result (steps.new + (length back.new.items + back_part.new.pieces) ≤ steps.old + (length back.old.items + back_part.old.pieces) + 2) }
 {
-    join_last(alloc, back, part, steps)?;
+    join_last(back, part, steps)?;
     if late {
         return Ok(());
     }
-    back_part.take_from(alloc, part, steps)
+    back_part.take_row(alloc, part, steps)
 }
 
 impl Sliding {
-    /// A part of rows behind all others: where the last entry has this number and is kept with its own part, it goes into that; else
-    /// it becomes an entry, as with `push`. It costs two steps, each now or later. After want of memory nothing is kept.
+    // The part of a row becomes an entry, as with `push`, in the memory of one that went.
+    fn push_row<L: Ledger>(
+        &mut self,
+        alloc: Global,
+        number: u64,
+        part: &RowPart,
+        steps: &mut Steps<L>,
+    ) -> Result<(), NoMemory>
+        requires { CanFollow part.now self.old.entries }
+        ensures entries { OnOk result (self.new.entries ≡ pushed self.old.entries number part.now) }
+        ensures steps { OnOk result (steps.new + self.new.owed ≤ steps.old + self.old.owed + 2) }
+    {
+        let own = Partial::of_row_in(alloc, &mut self.spare, part)?;
+        self.push(alloc, number, own, steps)
+    }
+
+    /// The part of a row behind all others: where the last entry has this number and is kept with its own part, it goes into that; else
+    /// it becomes an entry, as with `push`. It costs two steps, each now or later. After want of memory it is only safe to let go.
     pub fn put<L: Ledger>(
         &mut self,
         alloc: Global,
         number: u64,
-        part: Partial,
+        part: &RowPart,
         steps: &mut Steps<L>,
     ) -> Result<(), NoMemory>
-        requires { CanFollow part self.old.entries }
-        ensures entries { OnOk result (Put self.old.entries number part self.new.entries) }
+        requires { CanFollow part.now self.old.entries }
+        ensures entries { OnOk result (Put self.old.entries number part.now self.new.entries) }
         ensures steps { OnOk result (steps.new + self.new.owed ≤ steps.old + self.old.owed + 2) }
     {
         merge_has_unit();
         merge_is_associative();
         if !ends_with(&self.back, number) {
-            return self.push(alloc, number, part, steps);
+            return self.push_row(alloc, number, part, steps);
         }
         match join_behind(
             alloc,
             self.late,
             &mut self.back,
             &mut self.back_part,
-            &part,
+            part,
             steps,
         ) {
             Ok(()) => Ok(()),

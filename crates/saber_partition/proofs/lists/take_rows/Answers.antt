@@ -14,7 +14,7 @@ loop-row-init g c =
     record {
       can = tt;
       finite = tt;
-      along = λ xs rs come. along_nil q xs rs (map made_of c.args.rows.items) (map made_of (into_iter_items c.into_iter-row-iterator.result)) (lists_of c.args.lists.now.entries) c.args.out.now.items (ap (map made_of) all) come;
+      along = λ xs rs come. along_nil q xs rs (map (made_of c.args.parts.now) c.args.rows.items) (map (made_of c.args.parts.now) (into_iter_items c.into_iter-row-iterator.result)) (lists_of c.args.lists.now.entries) c.args.out.now.items (ap (map (made_of c.args.parts.now)) all) come;
     }
 
 pub take_row-requires-clause-comes : goal.take_row-requires-clause-comes
@@ -23,12 +23,12 @@ take_row-requires-clause-comes g c =
     let (xs, rs, come) = c.requires.come in
     let m = lists_of c.loop-row.lists.entries in
     let start = lists_of c.args.lists.now.entries in
-    let ps = map made_of c.args.rows.items in
-    let p = made_of c.in-Some.row in
-    let left = map made_of (into_iter_items c.next.new.self) in
+    let ps = map (made_of c.args.parts.now) c.args.rows.items in
+    let p = made_of c.args.parts.now c.in-Some.row in
+    let left = map (made_of c.args.parts.now) (into_iter_items c.next.new.self) in
     let before = c.args.out.now.items in
     let out = c.loop-row.out.items in
-    let a = subst (λ (l : List RowPiece). Along q xs rs (map made_of l) m before out) c.in-Some.ensures.steps.0 (c.loop-row.invariant.along xs rs come) in
+    let a = subst (λ (l : List RowPiece). Along q xs rs (map (made_of c.args.parts.now) l) m before out) c.in-Some.ensures.steps.0 (c.loop-row.invariant.along xs rs come) in
     (behind q xs rs ps start come p left m before out a, next_row q xs rs ps start come p left m before out a, along_can q xs rs ps start come p left m before out a)
 
 pub loop-row-preserved : goal.loop-row-preserved
@@ -36,16 +36,16 @@ loop-row-preserved g c =
     let q = tree_of c.args.plan.now in
     let m = lists_of c.loop-row.lists.entries in
     let start = lists_of c.args.lists.now.entries in
-    let ps = map made_of c.args.rows.items in
-    let p = made_of c.in-Some.row in
-    let left = map made_of (into_iter_items c.next.new.self) in
+    let ps = map (made_of c.args.parts.now) c.args.rows.items in
+    let p = made_of c.args.parts.now c.in-Some.row in
+    let left = map (made_of c.args.parts.now) (into_iter_items c.next.new.self) in
     let before = c.args.out.now.items in
     let out = c.loop-row.out.items in
     record {
       can = tt;
       finite = tt;
       along = λ xs rs come.
-          let a = subst (λ (l : List RowPiece). Along q xs rs (map made_of l) m before out) c.in-Some.ensures.steps.0 (c.loop-row.invariant.along xs rs come) in
+          let a = subst (λ (l : List RowPiece). Along q xs rs (map (made_of c.args.parts.now) l) m before out) c.in-Some.ensures.steps.0 (c.loop-row.invariant.along xs rs come) in
           along_more q xs rs ps start come p left m before out a c.list_laws.ensures.turns (lists_of c.take_row.new.lists.entries) c.take_row.new.out.items
           (c.in_ok-take_row.ensures (behind q xs rs ps start come p left m before out a) (next_row q xs rs ps start come p left m before out a) (along_can q xs rs ps start come p left m before out a));
     }
@@ -56,4 +56,4 @@ returns g c xs rs come =
     let m = lists_of c.loop-row.lists.entries in
     let none = all_given c.loop-row.row-iterator c.in-None.ensures.steps.0 in
     along_done q xs rs m c.args.out.now.items c.loop-row.out.items
-    (subst (λ (l : List RowPiece). Along q xs rs (map made_of l) m c.args.out.now.items c.loop-row.out.items) none (c.loop-row.invariant.along xs rs come))
+    (subst (λ (l : List RowPiece). Along q xs rs (map (made_of c.args.parts.now) l) m c.args.out.now.items c.loop-row.out.items) none (c.loop-row.invariant.along xs rs come))

@@ -11,6 +11,6 @@ abbrev pub invariant-loop-row : goal.invariant-loop-row
 invariant-loop-row g l = record {
   can : (goal.iterator-loop-row g).can_next l.row-iterator;
   finite : (goal.iterator-loop-row g).is_finite l.row-iterator;
-  along : (xs rs : List Row) → RowsCome (tree_of l.fn.plan) xs rs (map made_of l.fn.rows.items) (lists_of l.fn.lists.entries)
-      → Along (tree_of l.fn.plan) xs rs (map made_of (into_iter_items l.row-iterator)) (lists_of l.lists.entries) l.fn.out.items l.out.items;
+  along : (xs rs : List Row) → RowsCome (tree_of l.fn.plan) xs rs (map (made_of l.fn.parts) l.fn.rows.items) (lists_of l.fn.lists.entries)
+      → Along (tree_of l.fn.plan) xs rs (map (made_of l.fn.parts) (into_iter_items l.row-iterator)) (lists_of l.lists.entries) l.fn.out.items l.out.items;
 }

@@ -4,8 +4,8 @@ use Rattle.saber_plan.specs.Parts.{Part}
 use Rattle.saber_sliding.proofs.Joining.{last_can, last_set}
 use Rattle.saber_sliding.proofs.together.join_last.Goals as goal
 
-pub merge_counted-requires : goal.merge_counted-requires
-merge_counted-requires g c =
+pub merge_row-requires : goal.merge_row-requires
+merge_row-requires g c =
     let es = c.args.back.now.items in
     let i = c.args.back.now.len - 1 in
     let some = c.in-Some.ensures.item in
@@ -21,4 +21,4 @@ returns-clause-back g c =
     let some = c.in-Some.ensures.item in
     let same = c.args.back.now.ok.0 in
     let long : length es ≡ suc i = omega (arith, some, same) in
-    on_ok_weaker c.merge_counted.result (λ new. ap (λ (m : Part). slice_set es i (d.0, m)) new ∙ last_set es i d c.args.part.now long c.in-Some.ensures.value) c.merge_counted.ensures.ok
+    on_ok_weaker c.merge_row.result (λ new. ap (λ (m : Part). slice_set es i (d.0, m)) new ∙ last_set es i d c.args.part.now long c.in-Some.ensures.value) c.merge_row.ensures

@@ -1,6 +1,6 @@
 use Rattle.std.proofs.Common.{ℕ, max, ◌∙◌, ap, subst}
 use Rattle.saber_plan.specs.Trees.{tree_of}
-use Rattle.saber_partition.specs.Streams.{HoldStill, Printed}
+use Rattle.saber_partition.specs.Streams.{part_in, HoldStill, Printed}
 use Rattle.saber_partition.proofs.Streaming.{has_room, came}
 use Rattle.saber_partition.proofs.keyed.Keyed.take_row.Goals as goal
 
@@ -8,7 +8,7 @@ pub take_part-requires : goal.take_part-requires
 take_part-requires g c =
     let (us, r, comes, keeps) = c.requires in
     let s = c.args.self.now in
-    has_room c.stream_laws.ensures (tree_of c.args.plan.now) us r c.args.low c.args.past c.args.part comes s.next s.parts.entries keeps.next_is keeps.holds
+    has_room c.stream_laws.ensures (tree_of c.args.plan.now) us r c.args.low c.args.past (part_in c.args.parts.now c.args.part) comes s.next s.parts.entries keeps.next_is keeps.holds
 
 pub returns-clause-came : goal.returns-clause-came
 returns-clause-came g c us r comes keeps =
@@ -19,7 +19,7 @@ returns-clause-came g c us r comes keeps =
     let same = c.in_ok-take_part.ensures.next in
     let old = c.args.out.now.items in
     let new = c.close_lines.new.out.items in
-    came c.stream_laws.ensures q us r c.args.low c.args.past c.args.part comes s.next s.parts.entries keeps.next_is keeps.holds
+    came c.stream_laws.ensures q us r c.args.low c.args.past (part_in c.args.parts.now c.args.part) comes s.next s.parts.entries keeps.next_is keeps.holds
     m.parts.entries n.parts.entries n.next n.begun old new
     c.in_ok-take_part.ensures.parts
     (subst (λ (k : ℕ). HoldStill q k m.parts.entries n.next n.parts.entries) same c.in_ok-close_lines.ensures.parts)

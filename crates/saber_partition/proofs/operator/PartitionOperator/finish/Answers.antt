@@ -5,4 +5,4 @@ use Rattle.saber_partition.proofs.Taking.{seen_is_of}
 use Rattle.saber_partition.proofs.operator.PartitionOperator.finish.Goals as goal
 
 pub returns : goal.returns
-returns c s r x y seen whole sight = seen_is_of (tree_of c.args.self.now) c.asks.ensures s r x y (map made_of c.args.draft.rows.items) c.args.draft.ended seen sight
+returns c s r x y seen whole sight = seen_is_of (tree_of c.args.self.now) c.asks.ensures s r x y (map (made_of c.args.draft.parts) c.args.draft.rows.items) c.args.draft.ended seen sight

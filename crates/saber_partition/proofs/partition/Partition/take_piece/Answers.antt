@@ -11,7 +11,7 @@ pub take_rows-requires-clause-come : goal.take_rows-requires-clause-come
 take_rows-requires-clause-come g c =
     let q = tree_of c.self.inside.plan.now in
     let asks = subst (λ (p : Plan). Asks (tree_of p)) (sym c.self.view_is) c.asks.ensures in
-    let ps = map made_of c.args.piece.rows.items in
+    let ps = map (made_of c.args.piece.parts) c.args.piece.rows.items in
     let m = lists_of c.args.store.now.lists.entries in
     let (r, x, y, given) = c.requires.follow in
     let f = subst (λ (p : Plan). Follow (tree_of p) r x y ps c.args.piece.ended m) (sym c.self.view_is) given in
@@ -21,7 +21,7 @@ pub returns : goal.returns
 returns g c r x y given =
     let q = tree_of c.self.inside.plan.now in
     let asks = subst (λ (p : Plan). Asks (tree_of p)) (sym c.self.view_is) c.asks.ensures in
-    let ps = map made_of c.args.piece.rows.items in
+    let ps = map (made_of c.args.piece.parts) c.args.piece.rows.items in
     let ended = c.args.piece.ended in
     let m = lists_of c.args.store.now.lists.entries in
     let f = subst (λ (p : Plan). Follow (tree_of p) r x y ps ended m) (sym c.self.view_is) given in

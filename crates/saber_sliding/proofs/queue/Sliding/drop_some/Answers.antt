@@ -46,5 +46,5 @@ returns-clause-entries c =
     let none : c.drop_front.new.front.len ≡ 0 = eqb-true c.drop_front.new.front.len 0 (sym c.if-not-is_empty.ensures) in
     let front = nothing c.drop_front.new.front.items (omega (arith, long, none)) in
     let same = subst (λ l. drop c.count_gone-gone.result l ≡ dropped c.args.i l) c.deref.ensures.value c.count_gone-gone.ensures.gone in
-    seen_late c.drop_front.new.front.items c.drop_first.new.back.items c.empty.result.part front ∙ ap suffixes (c.drop_first.ensures ∙ same)
+    seen_late c.drop_front.new.front.items c.drop_first.new.back.items c.clear.new.self.part front ∙ ap suffixes (c.drop_first.ensures ∙ same)
     ∙ seen_none c.args.i s.front.items s.back.items s.back_part.part (sym c.drop_front.ensures ∙ front) ∙ ap (dropped c.args.i) (ap (λ (q : Queue). q.entries) c.self.view_is)
