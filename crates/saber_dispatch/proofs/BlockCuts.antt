@@ -20,8 +20,6 @@ use Rattle.saber_window.specs.Laws.{StampsFit}
 use Rattle.saber_fragment.specs.declared.blocks.Block.{Block}
 use Rattle.saber_fragment.specs.declared.blocks.Earlier.{Earlier}
 use Rattle.saber_fragment.specs.Drafts.{EndWith}
-use Rattle.saber_places.specs.declared.places.Places.{Places}
-use Rattle.saber_places.specs.Counting.{AreCounted, places_behind}
 use Rattle.saber_dispatch.specs.declared.ends.End.{End}
 use Rattle.saber_dispatch.specs.declared.ends.End.TheVariants.{AllRead, Bad, ReadFault, TooWide, NoMemory}
 use Rattle.saber_dispatch.specs.declared.cutter.Cutter.{Cutter}
@@ -120,8 +118,8 @@ module _ (q : Tree) (s : Sizes) (had has : List (Option (List ℕ))) (c : Cutter
   next_times = grind arith
 
   -- the block isn't given
-  pub dropped_cuts : (l : Option Lasts) (p : Option Places) (e : End) → CutState q s (record c { lasts = l; places = p; ended = Some e }) (going_on xs) rows (Some e) → Cuts q s had has (record c { lasts = l; places = p; ended = Some e }) (going_on xs)
-  dropped_cuts l p e h = record {
+  pub dropped_cuts : (l : Option Lasts) (e : End) → CutState q s (record c { lasts = l; ended = Some e }) (going_on xs) rows (Some e) → Cuts q s had has (record c { lasts = l; ended = Some e }) (going_on xs)
+  dropped_cuts l e h = record {
     windows = f.windows;
     sizes = f.sizes;
     made = record { size = f.made.size; room = f.made.room };
@@ -141,8 +139,8 @@ module _ (q : Tree) (s : Sizes) (had has : List (Option (List ℕ))) (c : Cutter
   pub is_near : (first : ℕ) → first ≡ free q s.task (going_on xs) c.number → c.number - first + 1 ≤ c.room → need q s.task (going_on xs) c.number ≤ s.ring
   is_near first is near = subst (λ r. need q s.task (going_on xs) c.number ≤ r) f.made.room (subst (λ k. c.number - k + 1 ≤ c.room) is near)
 
-  pub is_next : (b : Block) → b.number ≡ c.number → b.before ≡ before → b.rows ≡ rows → b.ended ≡ false → b.first ≡ free q s.task (going_on xs) c.number → c.number - b.first + 1 ≤ c.room → b.earlier.before ≡ before → b.earlier.rows ≡ [] → b.places.items ≡ places_behind q q.partition xs rows → IsNextBlock q s (going_on xs) b
-  is_next b number at own goes first near behind_all none placed = record {
+  pub is_next : (b : Block) → b.number ≡ c.number → b.before ≡ before → b.rows ≡ rows → b.ended ≡ false → b.first ≡ free q s.task (going_on xs) c.number → c.number - b.first + 1 ≤ c.room → b.earlier.before ≡ before → b.earlier.rows ≡ [] → IsNextBlock q s (going_on xs) b
+  is_next b number at own goes first near behind_all none = record {
     windows = f.windows;
     size = some_size;
     unended = refl;
@@ -152,7 +150,6 @@ module _ (q : Tree) (s : Sizes) (had has : List (Option (List ℕ))) (c : Cutter
     first = first ∙ ap (free q s.task (going_on xs)) (sym number);
     near = subst (λ k. need q s.task (going_on xs) k ≤ s.ring) (sym number) (is_near b.first first near);
     fits = subst (λ l. RowsFit q no_rows (xs ++ l)) (sym own) all_fit;
-    places = placed ∙ ap (places_behind q q.partition xs) (sym own);
     adds = subst (λ e. Adds q s (going_on xs) b e) (sym goes) (record {
       whole = f.whole ∙ ap (λ k. k * s.task) (sym number);
       some = subst (λ l. 1 ≤ length l) (sym own) f.some;
@@ -160,9 +157,9 @@ module _ (q : Tree) (s : Sizes) (had has : List (Option (List ℕ))) (c : Cutter
     });
   }
 
-  module _ (law : NeedsStay) (l : Option Lasts) (back : LooksBack q s.task (xs ++ rows) (c.number + 1) l) (p : Option Places) (counted : AreCounted q (xs ++ rows) p) (near : need q s.task (going_on xs) c.number ≤ s.ring) where
+  module _ (law : NeedsStay) (l : Option Lasts) (back : LooksBack q s.task (xs ++ rows) (c.number + 1) l) (near : need q s.task (going_on xs) c.number ≤ s.ring) where
     abbrev pub given : Cutter
-    given = record c { lasts = l; places = p; number = c.number + 1 }
+    given = record c { lasts = l; number = c.number + 1 }
 
     state_by : (e : Option End) → FilledState s c rows e → CutState q s given (going_on (xs ++ rows)) [] e
     state_by None h = record {
@@ -172,7 +169,6 @@ module _ (q : Tree) (s : Sizes) (had has : List (Option (List ℕ))) (c : Cutter
       whole = omega (arith, length_all, f.whole, h.1, next_times);
       mark = f.mark;
       back = back;
-      counted = counted;
     }
     state_by (Some AllRead) h = record { none_dropped = refl; has_end = h; mark = λ _. f.mark; back = λ _. back }
     state_by (Some (Bad side line cause)) h = record { none_dropped = refl; unended = refl; has_end = h }

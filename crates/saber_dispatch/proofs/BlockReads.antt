@@ -99,7 +99,6 @@ module _ (law : MovesGoOn) (laws : MergesGoOn) (q : Tree) (s : Sizes) (had has n
     before_is = goes.mark;
     mark = marks ∙ ap (λ l. mark_of (r.rows ++ l)) e;
     back = goes.back;
-    counted = goes.counted;
     state = h;
   }
 

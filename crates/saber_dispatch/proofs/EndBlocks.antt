@@ -12,11 +12,10 @@ use Rattle.saber_plan.specs.Inputs.{Input, going_on}
 use Rattle.saber_plan.specs.Trees.{Tree}
 use Rattle.saber_plan.specs.Given.{RowsFit}
 use Rattle.saber_plan.specs.declared.rows.Row.{Row}
-use Rattle.saber_plan.specs.Tasks.{upto, task_count, row_tasks, places_after}
+use Rattle.saber_plan.specs.Tasks.{upto, task_count, row_tasks}
 use Rattle.saber_plan.specs.Needs.{free, need}
 use Rattle.saber_laws.specs.Needs.{NeedsStay}
 use Rattle.saber_fragment.specs.declared.blocks.Block.{Block}
-use Rattle.saber_places.specs.Counting.{places_behind}
 use Rattle.saber_dispatch.specs.declared.ends.End.TheVariants.{AllRead, TooWide}
 use Rattle.saber_dispatch.specs.declared.cutter.Cutter.{Cutter}
 use Rattle.saber_dispatch.specs.declared.lasts.Lasts.{Lasts}
@@ -36,12 +35,6 @@ both_on false n h = absurd (let e : false ≡ true = h in cc)
 or_on : (b : Bool) → (b || true) ≡ true
 or_on true = refl
 or_on false = refl
-
--- no rows have no places
-nothing_placed : (q : Tree) (ks : List ℕ) (xs : List Row) → places_behind q ks xs [] ≡ []
-unfolding places_after
-nothing_placed q [] xs = refl
-nothing_placed q (k ∷ ks) xs = refl
 
 not_both : true ≡ false → ⊥
 not_both h = cc
@@ -125,8 +118,8 @@ module _ (q : Tree) (s : Sizes) (had has : List (Option (List ℕ))) (c : Cutter
     no_more : r.rows ++ b.rows ≡ r.rows
     no_more = ap (λ l. r.rows ++ l) none ∙ append-nil r.rows
 
-    pub end_next : b.number ≡ c.number → b.before ≡ c.mark → b.first ≡ free q s.task (going_on r.rows) c.number → b.earlier.before ≡ c.mark → b.earlier.rows ≡ [] → b.places.items ≡ [] → IsNextBlock q s r b
-    end_next number at first behind_all alone unplaced = record {
+    pub end_next : b.number ≡ c.number → b.before ≡ c.mark → b.first ≡ free q s.task (going_on r.rows) c.number → b.earlier.before ≡ c.mark → b.earlier.rows ≡ [] → IsNextBlock q s r b
+    end_next number at first behind_all alone = record {
       windows = k.windows;
       size = some_size;
       unended = opened.0;
@@ -136,7 +129,6 @@ module _ (q : Tree) (s : Sizes) (had has : List (Option (List ℕ))) (c : Cutter
       first = first ∙ ap (λ i. free q s.task i c.number) (sym is_rows) ∙ ap (free q s.task r) (sym number);
       near = subst (λ t. need q s.task r t ≤ s.ring) (sym number) near;
       fits = subst (RowsFit q no_rows) (sym no_more) (record { rows = took_all.fits; ordered = took_all.ordered; left = marks_small.0; right = marks_small.1 });
-      places = unplaced ∙ sym (ap (places_behind q q.partition r.rows) none ∙ nothing_placed q q.partition r.rows);
       adds = subst (Adds q s r b) (sym ends) (record { counts = sym opened.1 ∙ on.0; had_rows = had_rows; none = none });
     }
 

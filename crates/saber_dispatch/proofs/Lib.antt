@@ -19,3 +19,5 @@ pub mod FedBlocks
 pub mod Supplies
 pub mod Leavings
 pub mod FedTasks
+pub mod TakenBlocks
+pub mod Serving

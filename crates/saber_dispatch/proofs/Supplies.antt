@@ -18,6 +18,7 @@ use Rattle.saber_assembly.specs.declared.work.Told.{Told}
 use Rattle.saber_assembly.specs.Stages.{Tasks}
 use Rattle.saber_assembly.specs.Works.{input_of, with_block}
 use Rattle.saber_dispatch.specs.Cutting.{Adds, IsNextBlock}
+use Rattle.saber_dispatch.specs.Keeping.{IsPlaced}
 use Rattle.saber_places.specs.Counting.{places_behind}
 use Rattle.saber_dispatch.specs.Supplying.{IsSupplied, BlocksAreSupplied}
 use Rattle.saber_dispatch.proofs.NextTasks.{goes_on, row_cut, upto_rows, upto_end, upto_all, upto_seam}
@@ -80,7 +81,7 @@ unended : (m : Mark) (xs : List Row) → m.ended ≡ false → (mark_after m xs)
 unended m [] h = h
 unended m (x ∷ xs) h = unended (step_mark m x) xs h
 
-module _ {O : Type 0} (plan : O → Tree) (told : Told O) (s : Sizes) (b : Block) (size : told.size ≡ s.task) (next : IsNextBlock (plan told.operator) s (input_of told) b) where
+module _ {O : Type 0} (plan : O → Tree) (told : Told O) (s : Sizes) (b : Block) (size : told.size ≡ s.task) (next : IsNextBlock (plan told.operator) s (input_of told) b) (placed : IsPlaced (plan told.operator) told.rows b) where
   abbrev q : Tree
   q = plan told.operator
 
@@ -115,7 +116,7 @@ module _ {O : Type 0} (plan : O → Tree) (told : Told O) (s : Sizes) (b : Block
         earlier = subst (λ (l : List Row). EndWith l b.earlier) (ap (λ (i : Input). i.rows) (sym stand.front)) next.earlier;
         before = next.before ∙ sym (ap last_mark stand.front);
         rows = stand.rows;
-        places = next.places ∙ stand_places;
+        places = placed ∙ stand_places;
         ended = ends ∙ sym (ap (λ (i : Input). i.ended) stand.whole);
       };
       opens = ap (λ (i : Input). i.ended) stand.front;
@@ -126,4 +127,4 @@ module _ {O : Type 0} (plan : O → Tree) (told : Told O) (s : Sizes) (b : Block
   }
 
 pub law : {O : Type 0} (plan : O → Tree) → BlocksAreSupplied plan
-law plan told s b size next = supplied plan told s b size next
+law plan told s b size next placed = supplied plan told s b size next placed

@@ -20,7 +20,6 @@ use Rattle.saber_plan.specs.Tasks.{task_count}
 use Rattle.saber_plan.specs.Needs.{free, need, block_lasts}
 use Rattle.saber_fragment.specs.declared.blocks.Block.{Block}
 use Rattle.saber_fragment.specs.Drafts.{EndWith}
-use Rattle.saber_places.specs.Counting.{AreCounted, places_behind}
 use Rattle.saber_dispatch.specs.Sources.{Lefts, RoseAt}
 use Rattle.saber_dispatch.specs.declared.ends.End.{End}
 use Rattle.saber_dispatch.specs.declared.ends.End.TheVariants.{AllRead, Bad, ReadFault, TooWide, NoMemory}
@@ -106,7 +105,6 @@ pub record Goes (q : Tree) (s : Sizes) (c : Cutter) (r : Input) (dropped : List 
   pub whole : length r.rows ≡ c.number * s.task
   pub mark : c.mark ≡ mark_of r.rows
   pub back : LooksBack q s.task r.rows c.number c.lasts
-  pub counted : AreCounted q r.rows c.places
 
 -- All rows are in blocks. As long as the input's end isn't, the cutter has what the end's block tells.
 pub record AtEnd (q : Tree) (s : Sizes) (c : Cutter) (r : Input) (dropped : List Row) : Type 0 where
@@ -220,7 +218,7 @@ Adds q s r b false = AddsRows s r b
 Adds q s r b true = AddsEnd q s r b
 
 -- The block of the next task of an input: the rows of the task or the input's end, with what stands before them, and the first task whose rows
--- the task needs. The rows that it has of those before are the last of them, and it has where its own stand in their substreams.
+-- the task needs. The rows that it has of those before are the last of them.
 pub record IsNextBlock (q : Tree) (s : Sizes) (r : Input) (b : Block) : Type 0 where
   pub windows : Fits (frame q)
   pub size : 1 ≤ s.task
@@ -231,7 +229,6 @@ pub record IsNextBlock (q : Tree) (s : Sizes) (r : Input) (b : Block) : Type 0 w
   pub first : b.first ≡ free q s.task r b.number
   pub near : need q s.task r b.number ≤ s.ring
   pub fits : RowsFit q no_rows (r.rows ++ b.rows)
-  pub places : b.places.items ≡ places_behind q q.partition r.rows b.rows
   pub adds : Adds q s r b b.ended
 
 -- an input with one block more
@@ -258,6 +255,12 @@ CutsNothing q s c = (had : Lefts) → Suits (fresh q (limits_of s)) had → Cuts
 -- the end in place of a task that needs the blocks from this one on, where there is no room for so many
 abbrev pub too_wide : ℕ → ℕ → ℕ → Option End
 too_wide task first room = if nat_lt room (task - first + 1) then Some (TooWide task (task - first + 1)) else None
+
+-- Whatever was given before the block with this number, which was given last: behind it no more blocks come, as if it hadn't been there.
+abbrev pub TakenBack : ℕ → Bool → Cutter → Cutter → Type 0
+TakenBack number ended old new = (q : Tree) (s : Sizes) (had left has : Lefts) (before : Cutter) (r : Input) (b : Block) →
+    b.number ≡ number → b.ended ≡ ended → Cuts q s had left before r → IsNextBlock q s r b → Cuts q s had has old (and_block r b) →
+    CutTo (cuts.Ended NoMemory) q s had has new r
 
 -- ---- a block's rows were read
 
@@ -292,7 +295,6 @@ pub record Filled (q : Tree) (s : Sizes) (had has : Lefts) (c : Cutter) (xs : Li
   pub before_is : before ≡ mark_of xs
   pub mark : c.mark ≡ mark_of (xs ++ rows)
   pub back : LooksBack q s.task xs c.number c.lasts
-  pub counted : AreCounted q xs c.places
   pub state : FilledState s c rows c.ended
 
 -- whatever was given before, these rows were read behind it, and this is what comes of their block

@@ -1,5 +1,5 @@
 -- The rows of a feed, cut into blocks (this project's rule).
-use Rattle.std.specs.Prelude.{◌≡◌, ◌<◌, ◌⊎◌, ℕ, length, List, [], Option, Some, None}
+use Rattle.std.specs.Prelude.{Bool, ◌≡◌, ◌<◌, ◌⊎◌, ℕ, length, List, [], Option, Some, None}
 use Rattle.saber_io.specs.declared.feeds.EndMark.{EndMark}
 use Rattle.saber_plan.specs.declared.rows.Row.{Row}
 use Rattle.saber_plan.specs.declared.rows.Side.TheVariants.{Left}
@@ -7,6 +7,7 @@ use Rattle.saber_plan.specs.declared.windows.Mark.{Mark}
 use Rattle.saber_plan.specs.declared.sizes.Sizes.{Sizes}
 use Rattle.saber_plan.specs.Inputs.{Input, going_on}
 use Rattle.saber_plan.specs.Trees.{Tree}
+use Rattle.saber_fragment.specs.declared.blocks.Block.{Block}
 use Rattle.saber_dispatch.specs.declared.ends.End.{End}
 use Rattle.saber_dispatch.specs.declared.ends.End.TheVariants.{NoMemory}
 use Rattle.saber_dispatch.specs.declared.cutter.Cutter.{Cutter}
@@ -103,3 +104,9 @@ StepsFrom b step taken had has mark old new = (q : Tree) (s : Sizes) (r : Input)
 -- whatever was given before
 abbrev pub StepsOn : Step → List ℕ → List ℕ → List ℕ → Option EndMark → FedCutter → FedCutter → Type 0
 StepsOn step taken had has mark old new = (q : Tree) (s : Sizes) (r : Input) → CutsFed q s taken had mark old r → StepTo step q s taken has mark new r
+
+-- Whatever was given before the block with this number, which was given last and whole: behind it no more blocks come, as if it hadn't been there.
+abbrev pub TakenBackFed : ℕ → Bool → FedCutter → FedCutter → Type 0
+TakenBackFed number ended old new = (q : Tree) (s : Sizes) (taken left has : List ℕ) (mark : Option EndMark) (before : FedCutter) (r : Input) (b : Block) →
+    b.number ≡ number → b.ended ≡ ended → CutsFed q s taken left mark before r → IsNextBlock q s r b → CutsFed q s taken has mark old (and_block r b) → old.begun ≡ None →
+    StepTo (steps.Ended NoMemory) q s taken has mark new r

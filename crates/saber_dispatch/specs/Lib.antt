@@ -11,3 +11,4 @@ pub mod FedReadings
 pub mod FedFilling
 pub mod Feeding
 pub mod FeedLaws
+pub mod Serving

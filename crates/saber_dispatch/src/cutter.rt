@@ -10,8 +10,9 @@ ghost use Rattle.saber_fragment.specs.declared.blocks.Block.{Block};
 ghost use Rattle.saber_dispatch.specs.declared.cutter.Cut.{Cut};
 ghost use Rattle.saber_dispatch.specs.Sources.{Lefts, each_input, NoneFell};
 ghost use Rattle.saber_dispatch.specs.Filling.{keeps};
-ghost use Rattle.saber_dispatch.specs.Cutting.{Behind, LooksBack, IsFirstOf, MayNote, NotesOn, Filled, PutsOn, Cuts, CutTo, CutsOn, ReadFaultsRose, CutsNothing, fresh, too_wide, ended_by, stops, is_due, end_of};
+ghost use Rattle.saber_dispatch.specs.Cutting.{Behind, LooksBack, IsFirstOf, MayNote, NotesOn, Filled, PutsOn, Cuts, CutTo, CutsOn, ReadFaultsRose, CutsNothing, TakenBack, fresh, too_wide, ended_by, stops, is_due, end_of};
 ghost use Rattle.saber_dispatch.specs.Readings.{reading_of};
+ghost use Rattle.saber_dispatch.specs.Serving.{AreCutAlike};
 ghost use Rattle.saber_dispatch.specs.Closing.{EndStays};
 ghost use Rattle.saber_plan.specs.Trees.{tree_of};
 ghost use Rattle.saber_plan.specs.Checked.{IsChecked};
@@ -27,7 +28,6 @@ use saber_flat::{RowBuilder, Rows};
 use saber_fragment::{Block, Earlier};
 use saber_io::Source;
 use saber_laws::{checked_fit, lasts_tell_free, needs_stay, tasks_look_back, tasks_look_on};
-use saber_places::{Places, places_of};
 use saber_plan::{Mark, NoMemory, Plan, Sizes};
 use saber_rows::{mergers_stand, merges_go_on, moves_go_on, readers_stand};
 use saber_window::stamps_fit;
@@ -45,8 +45,6 @@ pub struct Cutter {
     pub(crate) reader: Reader,
     // of a query that joins two streams
     pub(crate) lasts: Option<Lasts>,
-    // of a query with PARTITION BY
-    pub(crate) places: Option<Places>,
     // rows of a block
     pub(crate) size: usize,
     // how many blocks a task may need
@@ -168,12 +166,14 @@ fn is_due(flush: bool, count: u64, end: End) -> bool
 impl Cutter {
     /// A cutter of a checked plan's inputs, which has read nothing. A block has `sizes.task` rows, and no
     /// task may need more than `sizes.ring` blocks, its own counted. With `sizes.flush` the end of the input
-    /// is a block too, where the query has windows. The memory of the readers' buffers is taken here. For a plan with PARTITION BY
-    /// the blocks tell where their rows stand in their substreams, and memory is taken for each key list.
+    /// is a block too, where the query has windows. The memory of the readers' buffers is taken here.
     pub fn new(alloc: Global, plan: &Plan, sizes: &Sizes) -> Result<Cutter, NoMemory>
         requires checked { IsChecked (tree_of plan.now) }
         requires sizes { SizesFit sizes.now }
         ensures cuts { IfOk result (CutsNothing (tree_of plan.now) sizes.now) }
+
+        // It serves each other plan too whose rows are cut alike.
+        ensures serves { IfOk result (λ c. (p : Tree) → IsChecked p → AreCutAlike sizes.now (tree_of plan.now) p → CutsNothing p sizes.now c) }
         ensures goes { IfOk result (λ c. end_of c ≡ None) }
         ensures fresh { IfOk result (λ c. reading_of c.reader ≡ fresh (tree_of plan.now) (limits_of sizes.now)) }
         ensures unended { IfOk result (λ c. c.ended ≡ None) }
@@ -182,12 +182,10 @@ impl Cutter {
         readers_stand();
         mergers_stand();
         let reader = reader_for(alloc, plan, sizes)?;
-        let places = Places::of_plan(alloc, plan)?;
         Ok(Cutter {
             alloc,
             reader,
             lasts: lasts_for(alloc, plan),
-            places,
             size: sizes.task as usize,
             room: u64::from(sizes.ring),
             flush: end_counts(plan, sizes),
@@ -220,10 +218,6 @@ impl Cutter {
             self.ended = Some(End::NoMemory);
             return Cut::Ended(End::NoMemory);
         }
-        let Ok(places) = places_of(&mut self.places, self.alloc, &rows) else {
-            self.ended = Some(End::NoMemory);
-            return Cut::Ended(End::NoMemory);
-        };
         let number = self.number;
         self.number += 1;
         Cut::Block(Block {
@@ -232,7 +226,7 @@ impl Cutter {
             earlier: Earlier::none(self.alloc, before),
             before,
             rows,
-            places,
+            places: Vec::new(self.alloc),
             ended: false,
         })
     }
@@ -254,7 +248,6 @@ impl Cutter {
             return Cut::Ended(end);
         }
         let number = self.number;
-        let places = Vec::new(self.alloc);
         self.number = number + 1;
         self.flush = false;
         Cut::Block(Block {
@@ -263,9 +256,22 @@ impl Cutter {
             earlier: Earlier::none(self.alloc, self.mark),
             before: self.mark,
             rows: Rows::new(self.alloc),
-            places,
+            places: Vec::new(self.alloc),
             ended: true,
         })
+    }
+
+    /// Takes back the block that was given last, which wasn't passed on for want of memory: no more come then.
+    pub fn take_back(&mut self, number: u64, ended: bool)
+        ensures cuts { TakenBack number ended self.old self.new }
+        ensures ended { self.new.ended ≡ Some End.NoMemory }
+        ensures reader { self.new.reader ≡ self.old.reader }
+    {
+        self.number = number;
+        self.ended = Some(End::NoMemory);
+        if ended {
+            self.flush = true;
+        }
     }
 
     // What comes where no more rows do: the block of the input's end, if it is due, else why.

@@ -63,7 +63,7 @@ impl FedCutter {
     ghost use Rattle.saber_fragment.specs.declared.blocks.Block.{Block};
     ghost use Rattle.saber_dispatch.specs.declared.ends.End.{End};
     ghost use Rattle.saber_dispatch.specs.declared.fed_cutter.Step.{Step};
-    ghost use Rattle.saber_dispatch.specs.Feeding.{Agrees, Begins, BeginsOn, CutsFed, CutsNothingFed, IsShort, IsWaiting, StepsFrom, WaitsIfFew, StepsOn, begun_count, fed_end_of};
+    ghost use Rattle.saber_dispatch.specs.Feeding.{Agrees, Begins, BeginsOn, CutsFed, CutsNothingFed, IsShort, IsWaiting, StepsFrom, TakenBackFed, WaitsIfFew, StepsOn, begun_count, fed_end_of};
     ghost use Rattle.saber_dispatch.specs.FedReadings.{NothingWaits, IsCutOff};
 
     /// A cutter of a checked plan of one stream, which was given nothing. A block has `sizes.task` rows, and no
@@ -81,6 +81,13 @@ impl FedCutter {
             cutter,
             begun: None,
         })
+    }
+
+    /// Takes back the block that was given last, as `Cutter::take_back`.
+    pub fn take_back(&mut self, number: u64, ended: bool)
+        ensures cuts { TakenBackFed number ended self.old self.new }
+    {
+        self.cutter.take_back(number, ended);
     }
 
     // The block that is begun, else one with no rows yet.
@@ -119,6 +126,7 @@ impl FedCutter {
         ensures sound { (b : Block) → result ≡ Step.Block b → (side : Side) → self.new.cutter.ended ≢ Some (End.ReadFault side) }
         ensures good { ((side : Side) → result ≢ Step.Ended (End.ReadFault side)) → F.faults feed.new ≡ F.faults feed.old }
         ensures count { F.faults feed.old ≤ F.faults feed.new }
+        ensures none { (b : Block) → result ≡ Step.Block b → self.new.begun ≡ None }
     {
         let Begun { before, mut rows } = begun;
         let cutter = &mut self.cutter;
@@ -149,6 +157,7 @@ impl FedCutter {
         ensures sound { (b : Block) → result ≡ Step.Block b → (side : Side) → self.new.cutter.ended ≢ Some (End.ReadFault side) }
         ensures good { ((side : Side) → result ≢ Step.Ended (End.ReadFault side)) → F.faults feed.new ≡ F.faults feed.old }
         ensures count { F.faults feed.old ≤ F.faults feed.new }
+        ensures none { (b : Block) → result ≡ Step.Block b → self.new.begun ≡ None }
     {
         match self.begin() {
             Ok(begun) => self.fill_begun(begun, feed),
@@ -187,6 +196,9 @@ impl FedCutter {
         ensures sound { (b : Block) → result ≡ Step.Block b → (side : Side) → fed_end_of self.new ≢ Some (End.ReadFault side) }
         ensures good { ((side : Side) → result ≢ Step.Ended (End.ReadFault side)) → F.faults feed.new ≡ F.faults feed.old }
         ensures count { F.faults feed.old ≤ F.faults feed.new }
+
+        // A block is whole, and behind it none is begun.
+        ensures none { (b : Block) → result ≡ Step.Block b → self.new.begun ≡ None }
     {
         match self.cutter.ended {
             Some(end) => step_of(self.cutter.stop_at(end)),

@@ -1,13 +1,20 @@
-// The rows of a block, for the one behind it.
-ghost use Rattle.std.specs.Prelude.{◌≡◌, None, IfSome};
-ghost use Rattle.saber_dispatch.specs.Keeping.{GivesLast, KeepsOn, OnlyEarlier, IsCopyOf, HasKept};
+// What a query's blocks have beside their own rows: rows of the block before, and where rows stand among those of their key lists.
+ghost use Rattle.std.specs.Prelude.{◌≡◌, ◌++◌, [], None, List, IfOk, OnOk, IfSome};
+ghost use Rattle.saber_plan.specs.declared.rows.Row.{Row};
+ghost use Rattle.saber_plan.specs.Trees.{Tree, tree_of};
+ghost use Rattle.saber_plan.specs.Checked.{IsChecked};
+ghost use Rattle.saber_plan.specs.Given.{RowsFit};
+ghost use Rattle.saber_plan.specs.Windows.{no_rows};
+ghost use Rattle.saber_dispatch.specs.Keeping.{CountsRows, GivesLast, KeepsOn, OnlyAdded, PlacesNext, IsCopyOf, HasKept};
 
 use saber_fragment::{Block, Earlier};
-use saber_plan::{Measure, Plan, Shape, Sizes, Stream, Window};
+use saber_places::{Places, places_of};
+use saber_plan::{Measure, NoMemory, Plan, Shape, Sizes, Stream, Window};
 use std::alloc::Global;
 
-/// Gives each block a copy of the rows of the block before it, where that lets its task answer windows that lie in both: else they would
-/// be put together under the turn, by one thread at a time.
+/// Gives the blocks of one query what they have beside their own rows. Each has a copy of the rows of the block before it, where that lets its
+/// task answer windows that lie in both: else they would be put together under the turn, by one thread at a time. With PARTITION BY each
+/// tells where its rows stand among those of their key lists. A cutter knows nothing of either.
 #[derive(Drop)]
 pub struct Keeper {
     pub(crate) alloc: Global,
@@ -15,6 +22,8 @@ pub struct Keeper {
     pub(crate) keeps: bool,
     // those of the last block
     pub(crate) kept: Option<Earlier>,
+    // of a query with PARTITION BY
+    pub(crate) places: Option<Places>,
 }
 
 // Whether windows overlap, and many lie whole in two tasks of so many rows and not in one.
@@ -50,14 +59,16 @@ fn helps(plan: &Plan, sizes: &Sizes) -> bool {
     }
 }
 
-// The block with these rows before its own, if there are any.
-fn with_kept(block: Block, kept: Option<Earlier>) -> Block
-    ensures same { OnlyEarlier block result }
+// The block with these rows before its own, if there are any, and with these places of its own.
+fn with_kept(block: Block, kept: Option<Earlier>, places: Vec<u64>) -> Block
+    ensures same { OnlyAdded block result }
     ensures has { HasKept block kept result }
+    ensures places { result.places ≡ places }
 {
+    let mut block = block;
+    block.places = places;
     match kept {
         Some(earlier) => {
-            let mut block = block;
             block.earlier = earlier;
             block
         }
@@ -66,15 +77,19 @@ fn with_kept(block: Block, kept: Option<Earlier>) -> Block
 }
 
 impl Keeper {
-    /// For the blocks of a plan's tasks, of which none was given. Takes no memory.
-    pub fn new(alloc: Global, plan: &Plan, sizes: &Sizes) -> Keeper
-        ensures { result.kept ≡ None }
+    /// For the blocks of a checked plan's tasks, of which none was given. Memory is taken for the columns of PARTITION BY.
+    pub fn new(alloc: Global, plan: &Plan, sizes: &Sizes) -> Result<Keeper, NoMemory>
+        requires { IsChecked (tree_of plan.now) }
+        ensures kept { IfOk result (λ k. k.kept ≡ None) }
+        ensures counted { IfOk result (λ k. CountsRows k (tree_of plan.now) []) }
     {
-        Keeper {
+        let places = Places::of_plan(alloc, plan)?;
+        Ok(Keeper {
             alloc,
             keeps: helps(plan, sizes),
             kept: None,
-        }
+            places,
+        })
     }
 
     // A copy of a block's rows, where they are wanted and memory serves.
@@ -93,16 +108,20 @@ impl Keeper {
         }
     }
 
-    /// The next block, with the rows of the one before it where they are kept. Want of memory for a copy is no error: then the next block
-    /// has none of these rows.
-    pub fn pass_on(&mut self, block: Block) -> Block
-        ensures same { OnlyEarlier block result }
-        ensures gives { GivesLast self.old block result }
-        ensures keeps { KeepsOn self.old block self.new }
+    /// The next block, with the rows of the one before it where they are kept, and with where its own stand among those of their key
+    /// lists where the plan has PARTITION BY: a key list that is new takes memory. Want of memory for a copy is no error: then the next
+    /// block has none of these rows.
+    pub fn pass_on(&mut self, block: Block) -> Result<Block, NoMemory>
+        requires { (q : Tree) × (xs : List Row) × CountsRows self.old q xs × RowsFit q no_rows (xs ++ block.rows) }
+        ensures same { IfOk result (OnlyAdded block) }
+        ensures gives { IfOk result (GivesLast self.old block) }
+        ensures keeps { OnOk result (KeepsOn self.old block self.new) }
+        ensures places { IfOk result (λ c. PlacesNext self.old c self.new) }
     {
+        let places = places_of(&mut self.places, self.alloc, &block.rows)?;
         let copy = self.copy_of(&block);
         let kept = self.kept.take();
         self.kept = copy;
-        with_kept(block, kept)
+        Ok(with_kept(block, kept, places))
     }
 }

@@ -6,6 +6,7 @@ use crate::fed_cutter::{Begun, FedCutter};
 use crate::keeper::Keeper;
 use crate::lasts::Lasts;
 use crate::reader::Reader;
+use saber_fragment::Earlier;
 use saber_places::Places;
 use saber_rows::{Lines, Merge};
 
@@ -26,6 +27,9 @@ fn let_reader_go(reader: Reader) {
 // Lets the last windows of blocks go.
 fn let_lasts_go(_lasts: Option<Lasts>) {}
 
+// Lets the rows of the block before go.
+fn let_kept_go(_kept: Option<Earlier>) {}
+
 // Lets the counts of rows by key list go.
 fn let_places_go(_places: Option<Places>) {}
 
@@ -37,7 +41,6 @@ impl Cutter {
     pub fn let_go(self) {
         let_reader_go(self.reader);
         let_lasts_go(self.lasts);
-        let_places_go(self.places);
     }
 }
 
@@ -50,6 +53,9 @@ impl FedCutter {
 }
 
 impl Keeper {
-    /// Lets the rows go that are kept.
-    pub fn let_go(self) {}
+    /// Lets the rows and counts go that are kept.
+    pub fn let_go(self) {
+        let_kept_go(self.kept);
+        let_places_go(self.places);
+    }
 }

@@ -3,17 +3,19 @@
 //!
 //! - Parts: `inputs`, `ends`, `reader` (rows of one input or of two merged), `fill` (rows of a
 //!   block), `last_windows` and `lasts` (the free pointer of joins), `opening`, `cutter`,
-//!   `closing`; the same over a feed: `fed_reader`, `fed_fill`, `fed_cutter`; `keeper` (rows before
-//!   a task's own), `letting` (values let go by calls), `laws` and `fed_laws`.
+//!   `closing`; the same over a feed: `fed_reader`, `fed_fill`, `fed_cutter`; `keeper` (what a
+//!   query's blocks have beside their own rows), `letting` (values let go by calls), `laws` and
+//!   `fed_laws`.
 //! - Calls: `Cutter::next_block` takes the inputs and gives a `Block` or an `End`,
 //!   `FedCutter::step` takes a feed, and may say that it is dry; `Keeper::pass_on` takes a block
-//!   and gives it on.
+//!   and gives it on; where memory lacks for that, `take_back` takes it back into the cutter.
 //! - Proved: a block is that of the next task, or of the input's end, with its mark, its number and
-//!   the first block that it needs, and with PARTITION BY its rows' places; an end has its cause.
-//!   The blocks are the first tasks of the input, all of them where all was read or a line refused;
-//!   after a failed read at least every whole task of the whole lines taken; the task told as too
-//!   wide is the first that is (`specs/Telling.antt`). A feed gives the same blocks, whatever comes
-//!   behind what was taken. `Keeper` gives a block the last rows before it, or none.
+//!   the first block that it needs; an end has its cause. The blocks are the first tasks of the
+//!   input, all of them where all was read or a line refused; after a failed read at least every
+//!   whole task of the whole lines taken; the task told as too wide is the first that is
+//!   (`specs/Telling.antt`). A feed gives the same blocks, whatever comes behind what was taken. A
+//!   cutter serves each plan whose rows are cut alike (`specs/Serving.antt`). `Keeper` gives a
+//!   block the last rows before it, or none, and with PARTITION BY its rows' places.
 //! - Not claimed: to which blocks `Keeper` gives rows. A copy for which memory lacks is left out.
 //! - Limits: those of `Sizes`. Over a feed, plans of one stream.
 #![tactic(auto)]

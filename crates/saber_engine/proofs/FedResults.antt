@@ -28,6 +28,7 @@ use Rattle.saber_dispatch.specs.declared.ends.End.{End}
 use Rattle.saber_dispatch.specs.declared.ends.End.TheVariants as cut
 use Rattle.saber_dispatch.specs.declared.fed_cutter.FedCutter.{FedCutter}
 use Rattle.saber_dispatch.specs.declared.keeper.Keeper.{Keeper}
+use Rattle.saber_dispatch.specs.Keeping.{CountsRows}
 use Rattle.saber_dispatch.specs.Cutting.{is_due, told_end}
 use Rattle.saber_dispatch.specs.Feeding.{CutsFed, CutsNothingFed, fed_end_of}
 use Rattle.saber_dispatch.specs.FedReadings.{EndTold}
@@ -51,12 +52,13 @@ none_some : {A : Type 0} (x : A) → ◌≡◌ {A = Option A} None (Some x) → 
 none_some x e = cc
 
 -- no block was given
-pub fed_none : {O : Type 0} (plan : O → Tree) (op : O) (s : Sizes) (v : FeedView) (w : Option (List ℕ)) (f : ℕ) (c : FedCutter) (k : Keeper) → CutsNothingFed (plan op) s c → fed_end_of c ≡ None → v.waiting ≡ v.taken → 1 ≤ s.task → k.kept ≡ None → HasFed plan s v.faults v c k None (first_told op s.task w f) 0
-fed_none plan op s v w f c k nothing open_still waits some kept = record {
+pub fed_none : {O : Type 0} (plan : O → Tree) (op : O) (s : Sizes) (v : FeedView) (w : Option (List ℕ)) (f : ℕ) (c : FedCutter) (k : Keeper) → CutsNothingFed (plan op) s c → fed_end_of c ≡ None → v.waiting ≡ v.taken → 1 ≤ s.task → k.kept ≡ None → CountsRows k (plan op) [] → HasFed plan s v.faults v c k None (first_told op s.task w f) 0
+fed_none plan op s v w f c k nothing open_still waits some kept counts = record {
   cuts = subst (λ z. CutsFed (plan op) s v.taken z v.mark c (going_on [])) (sym waits) (nothing v.taken v.mark);
   size = refl;
   count = let few : div_ceil 0 s.task ≤ 0 = tasks_have_rows s.task 0 some in omega (arith, few);
-  kept = kept_none k kept;
+  kept = λ _. kept_none k kept;
+  placed = λ _. counts;
   ended = λ e i. absurd (none_some e i);
   sound = λ _ side i. none_some (cut.ReadFault side) (sym open_still ∙ i);
   counted = record { rises = omega arith; good = λ _. refl; cause = λ side i. absurd (none_some (cut.ReadFault side) i) };

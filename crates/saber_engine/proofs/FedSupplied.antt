@@ -11,19 +11,19 @@ use Rattle.saber_fragment.specs.declared.blocks.Block.{Block}
 use Rattle.saber_assembly.specs.declared.work.Told.{Told}
 use Rattle.saber_assembly.specs.Works.{IsTold, IsBlockOf, input_of, with_block}
 use Rattle.saber_dispatch.specs.declared.ends.End.{End}
-use Rattle.saber_dispatch.specs.declared.ends.End.TheVariants.{ReadFault}
+use Rattle.saber_dispatch.specs.declared.ends.End.TheVariants.{ReadFault, NoMemory}
 use Rattle.saber_dispatch.specs.declared.fed_cutter.FedCutter.{FedCutter}
 use Rattle.saber_dispatch.specs.declared.fed_cutter.Step.{Step}
 use Rattle.saber_dispatch.specs.declared.fed_cutter.Step.TheVariants as steps
 use Rattle.saber_dispatch.specs.declared.keeper.Keeper.{Keeper}
 use Rattle.saber_dispatch.specs.Cutting.{IsNextBlock}
-use Rattle.saber_dispatch.specs.Feeding.{CutsFed, StepTo, StepsOn, fed_end_of}
+use Rattle.saber_dispatch.specs.Feeding.{CutsFed, StepTo, StepsOn, TakenBackFed, fed_end_of}
 use Rattle.saber_dispatch.specs.FeedLaws.{RefillsKeep}
 use Rattle.saber_dispatch.specs.Supplying.{BlocksAreSupplied}
 use Rattle.saber_crew.specs.Supplies.{GivesRows}
 use Rattle.saber_engine.specs.FedSupplying.{FeedView, IsCounted, HasFed}
 use Rattle.saber_engine.proofs.Counts.{few_blocks, next_count}
-use Rattle.saber_engine.proofs.Passed.{Passes, next_passed, same_with, kept_on}
+use Rattle.saber_engine.proofs.Passed.{Passes, next_passed, is_placed, same_with, kept_on, counted_on}
 
 none_some : {A : Type 0} (x : A) → ◌≡◌ {A = Option A} None (Some x) → ⊥
 none_some x e = cc
@@ -40,6 +40,9 @@ dry_not_end e h = cc
 same_end : (a b : End) → steps.Ended a ≡ steps.Ended b → a ≡ b
 same_end a b h = cc
 
+lack_not_fault : (side : Side) → ◌≡◌ {A = Option End} (Some NoMemory) (Some (ReadFault side)) → ⊥
+lack_not_fault side e = cc
+
 -- what a call of the cutter says
 pub record Stepped (v w : FeedView) (old new : FedCutter) (step : Step) : Type 0 where
   pub on : StepsOn step v.taken v.waiting w.waiting v.mark old new
@@ -50,6 +53,7 @@ pub record Stepped (v w : FeedView) (old new : FedCutter) (step : Step) : Type 0
   pub sound : (b : Block) → step ≡ steps.Block b → (side : Side) → fed_end_of new ≢ Some (ReadFault side)
   pub good : ((side : Side) → step ≢ steps.Ended (ReadFault side)) → w.faults ≡ v.faults
   pub count : v.faults ≤ w.faults
+  pub none : (b : Block) → step ≡ steps.Block b → new.begun ≡ None
 
 module _ {O : Type 0} (plan : O → Tree) (s : Sizes) (before : ℕ) (v w : FeedView) (old new : FedCutter) (k : Keeper) (end : Option End) (open_still : end ≡ None) (step : Step) (called : Stepped v w old new step) (told : Told O) (d : ℕ) (h : HasFed plan s before v old k end told d) where
   same_before : v.faults ≡ before
@@ -76,16 +80,17 @@ module _ {O : Type 0} (plan : O → Tree) (s : Sizes) (before : ℕ) (v w : Feed
   pub block_given : BlocksAreSupplied plan → (b c : Block) (l : Keeper) → step ≡ steps.Block b → Passes k b c l → GivesRows (IsTold plan) with_block (IsBlockOf plan) (HasFed plan s before w new l end) told d c
   block_given law b c l e p =
       let to = steps_to (steps.Block b) e in
-      let next : IsNextBlock q s (input_of told) c = next_passed q s (input_of told) k b c l p h.kept to.0 in
+      let next : IsNextBlock q s (input_of told) c = next_passed q s (input_of told) k b c l p (h.kept open_still) (h.placed open_still) to.0 in
       let number : c.number ≡ d = next.number ∙ sym h.count in
-      let is = law told s c h.size next in (
+      let is = law told s c h.size next (is_placed q s (input_of told) k b c l p (h.kept open_still) (h.placed open_still) to.0) in (
         subst (λ t. IsBlockOf plan (with_block told c) t c) number is.block,
         subst (λ t. IsTold plan (with_block told c) (t + 1)) number is.told_is,
         record {
-          cuts = subst (CutsFed q s w.taken w.waiting w.mark new) (same_with q s (input_of told) k b c l p h.kept to.0) to.1;
+          cuts = subst (CutsFed q s w.taken w.waiting w.mark new) (same_with q s (input_of told) k b c l p (h.kept open_still) (h.placed open_still) to.0) to.1;
           size = h.size;
           count = sym (next_count q s (input_of told) c next ∙ ap (λ t. t + 1) number);
-          kept = kept_on q s (input_of told) k b c l p h.kept to.0;
+          kept = λ _. kept_on q s (input_of told) k b c l p (h.kept open_still) (h.placed open_still) to.0;
+          placed = λ _. counted_on q s (input_of told) k b c l p (h.kept open_still) (h.placed open_still) to.0;
           ended = λ x f. absurd (none_some x (sym open_still ∙ f));
           sound = λ _ side. called.sound b e side;
           counted = still (λ side f. block_not_end b (ReadFault side) (sym e ∙ f));
@@ -102,10 +107,31 @@ module _ {O : Type 0} (plan : O → Tree) (s : Sizes) (before : ℕ) (v w : Feed
         size = h.size;
         count = h.count;
         kept = h.kept;
+        placed = h.placed;
         ended = λ x f. absurd (none_some x (sym open_still ∙ f));
         sound = λ _ side f. none_some (ReadFault side) (sym to.0.unended ∙ f);
         counted = still (λ side f. dry_not_end (ReadFault side) (sym e ∙ f));
       }
+
+  -- memory lacked to pass it on, and it was taken back
+  pub taken_back : (b : Block) (l : Keeper) (last : FedCutter) → step ≡ steps.Block b → TakenBackFed b.number b.ended new last → HasFed plan s before w last l (Some NoMemory) told d
+  taken_back b l last e back =
+      let to = steps_to (steps.Block b) e in
+      let was = transport (λ i. CutsFed q s (sym called.taken_is i) v.waiting (sym called.mark_is i) old (input_of told)) h.cuts in
+      let taken = back q s w.taken v.waiting w.waiting w.mark old (input_of told) b refl refl was to.0 to.1 (called.none b e) in
+      record {
+        cuts = taken.1;
+        size = h.size;
+        count = h.count;
+        kept = λ f. absurd (none_some NoMemory (sym f));
+        placed = λ f. absurd (none_some NoMemory (sym f));
+        ended = λ x f. taken.0 ∙ f;
+        sound = λ f. absurd (none_some NoMemory (sym f));
+        counted = again_counted (still (λ side f. block_not_end b (ReadFault side) (sym e ∙ f)));
+      }
+    where
+      again_counted : IsCounted end before w.faults → IsCounted (Some NoMemory) before w.faults
+      again_counted c = record { rises = c.rises; good = λ _. c.good (λ side f. none_some (ReadFault side) (sym open_still ∙ f)); cause = λ side f. absurd (lack_not_fault side f) }
 
   -- none comes any more
   pub end_given : (e : End) → step ≡ steps.Ended e → HasFed plan s before w new k (Some e) told d
@@ -116,7 +142,8 @@ module _ {O : Type 0} (plan : O → Tree) (s : Sizes) (before : ℕ) (v w : Feed
         cuts = to.1;
         size = h.size;
         count = h.count;
-        kept = h.kept;
+        kept = λ f. absurd (none_some e (sym f));
+        placed = λ f. absurd (none_some e (sym f));
         ended = λ x f. to.0 ∙ f;
         sound = λ f. absurd (none_some e (sym f));
         counted = record {
@@ -138,6 +165,7 @@ refilled law plan s before v w c k end more fills same told d h = record {
   size = h.size;
   count = h.count;
   kept = h.kept;
+  placed = h.placed;
   ended = h.ended;
   sound = h.sound;
   counted = subst (IsCounted end before) (sym same) h.counted;

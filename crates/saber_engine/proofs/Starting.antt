@@ -23,6 +23,7 @@ use Rattle.saber_dispatch.specs.declared.cutter.Cutter.{Cutter}
 use Rattle.saber_dispatch.specs.declared.keeper.Keeper.{Keeper}
 use Rattle.saber_dispatch.specs.Sources.{Lefts}
 use Rattle.saber_dispatch.specs.Readings as readings
+use Rattle.saber_dispatch.specs.Keeping.{CountsRows}
 use Rattle.saber_dispatch.specs.Cutting.{Cuts, CutsNothing, fresh, end_of}
 use Rattle.saber_engine.specs.Supplying.{HasGiven, first_told}
 use Rattle.saber_engine.proofs.Counts.{none_same}
@@ -40,15 +41,16 @@ unfolding Ordered
 fits_none q = record { rows = tt; ordered = tt; left = omega arith; right = omega arith }
 
 -- no block was given
-pub given_none : {O : Type 0} (plan : O → Tree) (op : O) (s : Sizes) (had : Lefts) (before : List ℕ) (w : Option (List ℕ)) (f : ℕ) (c : Cutter) (k : Keeper) → CutsNothing (plan op) s c → end_of c ≡ None → readings.Suits (fresh (plan op) (limits_of s)) had → k.kept ≡ None → HasGiven plan s had had before before c k None (first_told op s.task w f) 0
-given_none plan op s had before w f c k nothing open_still suits kept =
+pub given_none : {O : Type 0} (plan : O → Tree) (op : O) (s : Sizes) (had : Lefts) (before : List ℕ) (w : Option (List ℕ)) (f : ℕ) (c : Cutter) (k : Keeper) → CutsNothing (plan op) s c → end_of c ≡ None → readings.Suits (fresh (plan op) (limits_of s)) had → k.kept ≡ None → CountsRows k (plan op) [] → HasGiven plan s had had before before c k None (first_told op s.task w f) 0
+given_none plan op s had before w f c k nothing open_still suits kept counts =
     let cuts : Cuts (plan op) s had had c (going_on []) = nothing had suits in
     let few : div_ceil 0 s.task ≤ 0 = tasks_have_rows s.task 0 cuts.sizes.task.0 in
     record {
       cuts = cuts;
       size = refl;
       count = let n = cuts.count in omega (arith, few, n);
-      kept = kept_none k kept;
+      kept = λ _. kept_none k kept;
+      placed = λ _. counts;
       ended = λ e i. absurd (none_some e i);
       sound = λ _ side i. none_some (ReadFault side) (sym open_still ∙ i);
       counted = record { fell = none_same before; good = λ _. refl; cause = λ side i. absurd (none_some (ReadFault side) i) };

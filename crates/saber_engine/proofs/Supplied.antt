@@ -9,18 +9,18 @@ use Rattle.saber_fragment.specs.declared.blocks.Block.{Block}
 use Rattle.saber_assembly.specs.declared.work.Told.{Told}
 use Rattle.saber_assembly.specs.Works.{IsTold, IsBlockOf, input_of, with_block}
 use Rattle.saber_dispatch.specs.declared.ends.End.{End}
-use Rattle.saber_dispatch.specs.declared.ends.End.TheVariants.{ReadFault}
+use Rattle.saber_dispatch.specs.declared.ends.End.TheVariants.{ReadFault, NoMemory}
 use Rattle.saber_dispatch.specs.declared.cutter.Cutter.{Cutter}
 use Rattle.saber_dispatch.specs.declared.cutter.Cut.{Cut}
 use Rattle.saber_dispatch.specs.declared.cutter.Cut.TheVariants as cuts
 use Rattle.saber_dispatch.specs.declared.keeper.Keeper.{Keeper}
 use Rattle.saber_dispatch.specs.Sources.{Lefts, RoseAt, NoneFell}
-use Rattle.saber_dispatch.specs.Cutting.{Cuts, CutTo, CutsOn, IsNextBlock, end_of}
+use Rattle.saber_dispatch.specs.Cutting.{Cuts, CutTo, CutsOn, IsNextBlock, TakenBack, end_of}
 use Rattle.saber_dispatch.specs.Supplying.{BlocksAreSupplied}
 use Rattle.saber_crew.specs.Supplies.{GivesRows}
 use Rattle.saber_engine.specs.Supplying.{HasGiven}
 use Rattle.saber_engine.proofs.Counts.{none_same, few_blocks, next_count}
-use Rattle.saber_engine.proofs.Passed.{Passes, next_passed, same_with, kept_on}
+use Rattle.saber_engine.proofs.Passed.{Passes, next_passed, is_placed, same_with, kept_on, counted_on}
 
 pub if_some : {A : Type 0} (P : A → Type 0) (o : Option A) (x : A) → o ≡ Some x → IfSome o P → P x
 if_some P o x e h = subst (λ z. IfSome z P) e h
@@ -46,6 +46,9 @@ pub record Called (left has : Lefts) (mid now : List ℕ) (old new : Cutter) (cu
   pub good : ((side : Side) → cut ≢ cuts.Ended (ReadFault side)) → now ≡ mid
   pub count : NoneFell mid now
 
+lack_not_fault : (side : Side) → ◌≡◌ {A = Option End} (Some NoMemory) (Some (ReadFault side)) → ⊥
+lack_not_fault side e = cc
+
 module _ {O : Type 0} (plan : O → Tree) (s : Sizes) (had left has : Lefts) (before mid now : List ℕ) (old new : Cutter) (k : Keeper) (end : Option End) (open_still : end ≡ None) (cut : Cut) (called : Called left has mid now old new cut) (told : Told O) (d : ℕ) (h : HasGiven plan s had left before mid old k end told d) where
   same_before : mid ≡ before
   same_before = h.counted.good (λ side e. none_some (ReadFault side) (sym open_still ∙ e))
@@ -55,17 +58,18 @@ module _ {O : Type 0} (plan : O → Tree) (s : Sizes) (had left has : Lefts) (be
   block_given law b c l e p =
       let q : Tree = plan told.operator in
       let to : CutTo (cuts.Block b) q s had has new (input_of told) = subst (λ z. CutTo z q s had has new (input_of told)) e (called.on q s had (input_of told) h.cuts) in
-      let next : IsNextBlock q s (input_of told) c = next_passed q s (input_of told) k b c l p h.kept to.0 in
+      let next : IsNextBlock q s (input_of told) c = next_passed q s (input_of told) k b c l p (h.kept open_still) (h.placed open_still) to.0 in
       let number : c.number ≡ d = next.number ∙ sym h.cuts.count ∙ sym h.count in
-      let is = law told s c h.size next in
+      let is = law told s c h.size next (is_placed q s (input_of told) k b c l p (h.kept open_still) (h.placed open_still) to.0) in
       let same : now ≡ before = called.good (λ side f. block_not_end b (ReadFault side) (sym e ∙ f)) ∙ same_before in (
         subst (λ t. IsBlockOf plan (with_block told c) t c) number is.block,
         subst (λ t. IsTold plan (with_block told c) (t + 1)) number is.told_is,
         record {
-          cuts = subst (Cuts q s had has new) (same_with q s (input_of told) k b c l p h.kept to.0) to.1;
+          cuts = subst (Cuts q s had has new) (same_with q s (input_of told) k b c l p (h.kept open_still) (h.placed open_still) to.0) to.1;
           size = h.size;
-          count = sym (to.1.count ∙ ap (task_count s.task) (same_with q s (input_of told) k b c l p h.kept to.0) ∙ next_count q s (input_of told) c next ∙ ap (λ t. t + 1) number);
-          kept = kept_on q s (input_of told) k b c l p h.kept to.0;
+          count = sym (to.1.count ∙ ap (task_count s.task) (same_with q s (input_of told) k b c l p (h.kept open_still) (h.placed open_still) to.0) ∙ next_count q s (input_of told) c next ∙ ap (λ t. t + 1) number);
+          kept = λ _. kept_on q s (input_of told) k b c l p (h.kept open_still) (h.placed open_still) to.0;
+          placed = λ _. counted_on q s (input_of told) k b c l p (h.kept open_still) (h.placed open_still) to.0;
           ended = λ x f. absurd (none_some x (sym open_still ∙ f));
           sound = λ _ side. called.sound b e side;
           counted = record {
@@ -77,6 +81,28 @@ module _ {O : Type 0} (plan : O → Tree) (s : Sizes) (had left has : Lefts) (be
         let few = few_blocks q s (input_of told) c next in omega (arith, few, number),
       )
 
+  -- memory lacked to pass it on, and it was taken back
+  pub taken_back : (b : Block) (l : Keeper) (last : Cutter) → cut ≡ cuts.Block b → TakenBack b.number b.ended new last → HasGiven plan s had has before now last l (Some NoMemory) told d
+  taken_back b l last e back =
+      let q : Tree = plan told.operator in
+      let to : CutTo (cuts.Block b) q s had has new (input_of told) = subst (λ z. CutTo z q s had has new (input_of told)) e (called.on q s had (input_of told) h.cuts) in
+      let taken = back q s had left has old (input_of told) b refl refl h.cuts to.0 to.1 in
+      let same : now ≡ before = called.good (λ side f. block_not_end b (ReadFault side) (sym e ∙ f)) ∙ same_before in
+      record {
+        cuts = taken.1;
+        size = h.size;
+        count = h.count ∙ h.cuts.count ∙ sym taken.1.count;
+        kept = λ f. absurd (none_some NoMemory (sym f));
+        placed = λ f. absurd (none_some NoMemory (sym f));
+        ended = λ x f. taken.0 ∙ f;
+        sound = λ f. absurd (none_some NoMemory (sym f));
+        counted = record {
+          fell = subst (NoneFell before) (sym same) (none_same before);
+          good = λ _. same;
+          cause = λ side f. absurd (lack_not_fault side f);
+        };
+      }
+
   -- none came
   pub end_given : (e : End) → cut ≡ cuts.Ended e → HasGiven plan s had has before now new k (Some e) told d
   end_given e is =
@@ -87,7 +113,8 @@ module _ {O : Type 0} (plan : O → Tree) (s : Sizes) (had left has : Lefts) (be
         cuts = to.1;
         size = h.size;
         count = h.count ∙ h.cuts.count ∙ sym to.1.count;
-        kept = h.kept;
+        kept = λ f. absurd (none_some e (sym f));
+        placed = λ f. absurd (none_some e (sym f));
         ended = λ x f. to.0 ∙ f;
         sound = λ f. absurd (none_some e (sym f));
         counted = record {

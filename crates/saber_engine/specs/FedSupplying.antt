@@ -14,7 +14,7 @@ use Rattle.saber_dispatch.specs.declared.ends.End.TheVariants.{ReadFault}
 use Rattle.saber_dispatch.specs.declared.fed_cutter.FedCutter.{FedCutter}
 use Rattle.saber_dispatch.specs.declared.keeper.Keeper.{Keeper}
 use Rattle.saber_dispatch.specs.Feeding.{CutsFed, fed_end_of}
-use Rattle.saber_dispatch.specs.Keeping.{KeepsLast}
+use Rattle.saber_dispatch.specs.Keeping.{KeepsLast, CountsRows}
 use Rattle.saber_crew.specs.declared.supply.Supplied.{Supplied}
 use Rattle.saber_crew.specs.Supplies.{Gives}
 
@@ -35,14 +35,15 @@ pub record IsCounted (end : Option End) (before now : ℕ) : Type 0 where
   pub good : ((side : Side) → end ≢ Some (ReadFault side)) → now ≡ before
   pub cause : (side : Side) → end ≡ Some (ReadFault side) → Rose before now
 
--- Of a feed with such a count when the run began, so many blocks were given, and the data have their rows, of which the last are kept, if any
--- are. Once the blocks ended, the cutter tells their end, and until then the feed was not found cut off.
+-- Of a feed with such a count when the run began, so many blocks were given, and the data have their rows. As long as more may come, the last
+-- of them are kept, if any are, and they are counted by their key lists. Once the blocks ended, the cutter tells their end, and until then the feed was not found cut off.
 pub record HasFed {O : Type 0} (plan : O → Tree) (s : Sizes) (before : ℕ) (v : FeedView) (c : FedCutter) (k : Keeper) (end : Option End)
     (told : Told O) (d : ℕ) : Type 0 where
   pub cuts : CutsFed (plan told.operator) s v.taken v.waiting v.mark c (input_of told)
   pub size : told.size ≡ s.task
   pub count : d ≡ task_count s.task (input_of told)
-  pub kept : KeepsLast k told.rows
+  pub kept : end ≡ None → KeepsLast k told.rows
+  pub placed : end ≡ None → CountsRows k (plan told.operator) told.rows
   pub ended : (e : End) → end ≡ Some e → fed_end_of c ≡ Some e
   pub sound : end ≡ None → (side : Side) → fed_end_of c ≢ Some (ReadFault side)
   pub counted : IsCounted end before v.faults

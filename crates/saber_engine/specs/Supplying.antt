@@ -13,7 +13,7 @@ use Rattle.saber_dispatch.specs.declared.inputs.Inputs.{Inputs}
 use Rattle.saber_dispatch.specs.declared.keeper.Keeper.{Keeper}
 use Rattle.saber_dispatch.specs.Sources.{Lefts, RoseAt, NoneFell, each_input}
 use Rattle.saber_dispatch.specs.Cutting.{Cuts, end_of}
-use Rattle.saber_dispatch.specs.Keeping.{KeepsLast}
+use Rattle.saber_dispatch.specs.Keeping.{KeepsLast, CountsRows}
 use Rattle.saber_crew.specs.declared.supply.Supplied.{Supplied}
 use Rattle.saber_crew.specs.Supplies.{Gives}
 
@@ -23,14 +23,15 @@ pub record AreCounted (end : Option End) (before now : List ℕ) : Type 0 where
   pub good : ((side : Side) → end ≢ Some (ReadFault side)) → now ≡ before
   pub cause : (side : Side) → end ≡ Some (ReadFault side) → RoseAt side before now
 
--- Of inputs that had so much left and such counts, so many blocks were given, and the data have their rows, of which the last are kept, if
--- any are. Once the blocks ended, the cutter tells their end, and until then no read had failed.
+-- Of inputs that had so much left and such counts, so many blocks were given, and the data have their rows. As long as more may come, the last
+-- of them are kept, if any are, and they are counted by their key lists. Once the blocks ended, the cutter tells their end, and until then no read had failed.
 pub record HasGiven {O : Type 0} (plan : O → Tree) (s : Sizes) (had has : Lefts) (before now : List ℕ) (c : Cutter) (k : Keeper) (end : Option End)
     (told : Told O) (d : ℕ) : Type 0 where
   pub cuts : Cuts (plan told.operator) s had has c (input_of told)
   pub size : told.size ≡ s.task
   pub count : d ≡ c.number
-  pub kept : KeepsLast k told.rows
+  pub kept : end ≡ None → KeepsLast k told.rows
+  pub placed : end ≡ None → CountsRows k (plan told.operator) told.rows
   pub ended : (e : End) → end ≡ Some e → end_of c ≡ Some e
   pub sound : end ≡ None → (side : Side) → end_of c ≢ Some (ReadFault side)
   pub counted : AreCounted end before now

@@ -1,6 +1,11 @@
 // The blocks of a query's inputs, as the tasks of a run.
-ghost use Rattle.std.specs.Prelude.{◌≡◌, ◌≢◌, ℕ, List, [], IsSome, false};
+ghost use Rattle.std.specs.Prelude.{◌≡◌, ◌≢◌, ℕ, List, [], None, IfOk, IsSome, false};
+ghost use Rattle.saber_plan.specs.Checked.{IsChecked};
+ghost use Rattle.saber_plan.specs.Sizes.{SizesFit};
+ghost use Rattle.saber_plan.specs.Trees.{tree_of};
 ghost use Rattle.saber_plan.specs.declared.sizes.Sizes.{Sizes};
+ghost use Rattle.saber_dispatch.specs.Cutting.{CutsNothing, end_of};
+ghost use Rattle.saber_dispatch.specs.Keeping.{CountsRows};
 ghost use Rattle.saber_dispatch.specs.Sources.{Lefts};
 ghost use Rattle.saber_engine.specs.Supplying.{standing, GivenAt, GivenSome, GivesNext};
 
@@ -9,6 +14,8 @@ use saber_crew::{Supplied, Supply};
 use saber_dispatch::{Cut, Cutter, End, Inputs, Keeper, blocks_are_supplied};
 use saber_fragment::{Block, Operator};
 use saber_io::{Sink, Source};
+use saber_plan::{NoMemory, Plan, Sizes};
+use std::alloc::Global;
 use std::marker::{Brand, PhantomData};
 
 /// What there was when a run began. The caller picks it, for the contracts alone.
@@ -40,6 +47,50 @@ pub(crate) struct Blocks<S, J> {
     pub(crate) begun: PhantomData<J>,
 }
 
+impl<S, J> Blocks<S, J> {
+    /// Those of a checked plan's inputs, of which none was given.
+    pub(crate) fn new(alloc: Global, plan: &Plan, sizes: &Sizes) -> Result<Blocks<S, J>, NoMemory>
+        requires checked { IsChecked (tree_of plan.now) }
+        requires sizes { SizesFit sizes.now }
+        ensures cuts { IfOk result (λ b. CutsNothing (tree_of plan.now) sizes.now b.cutter) }
+        ensures goes { IfOk result (λ b. end_of b.cutter ≡ None) }
+        ensures kept { IfOk result (λ b. b.keeper.kept ≡ None) }
+        ensures counted { IfOk result (λ b. CountsRows b.keeper (tree_of plan.now) []) }
+        ensures end { IfOk result (λ b. b.end ≡ None) }
+    {
+        let cutter = Cutter::new(alloc, plan, sizes)?;
+        match Keeper::new(alloc, plan, sizes) {
+            Ok(keeper) => Ok(Blocks {
+                cutter,
+                keeper,
+                end: None,
+                source: PhantomData,
+                begun: PhantomData,
+            }),
+            Err(lacks) => {
+                cutter.let_go();
+                Err(lacks)
+            }
+        }
+    }
+
+    /// Lets them go, and tells how they ended.
+    pub(crate) fn let_go(self) -> Option<End>
+        ensures { result ≡ self.end }
+    {
+        let Blocks {
+            cutter,
+            keeper,
+            end,
+            source: _source,
+            begun: _begun,
+        } = self;
+        cutter.let_go();
+        keeper.let_go();
+        end
+    }
+}
+
 impl<S: Source, J: Begins, O: Operator, K: Sink> Supply<SaberWork<O, K>> for Blocks<S, J> {
     type From = Inputs<S>;
 
@@ -61,7 +112,18 @@ impl<S: Source, J: Begins, O: Operator, K: Sink> Supply<SaberWork<O, K>> for Blo
         match self.end {
             Some(_) => Supplied::Over,
             None => match self.cutter.next_block(from) {
-                Cut::Block(block) => Supplied::Rows(self.keeper.pass_on(block)),
+                Cut::Block(block) => {
+                    let number = block.number;
+                    let ended = block.ended;
+                    match self.keeper.pass_on(block) {
+                        Ok(block) => Supplied::Rows(block),
+                        Err(_) => {
+                            self.cutter.take_back(number, ended);
+                            self.end = Some(End::NoMemory);
+                            Supplied::Over
+                        }
+                    }
+                }
                 Cut::Ended(end) => {
                     self.end = Some(end);
                     Supplied::Over

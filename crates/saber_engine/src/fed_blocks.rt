@@ -1,5 +1,10 @@
 // The blocks of a feed, as the tasks of a run.
-ghost use Rattle.std.specs.Prelude.{◌≡◌, ℕ, Some, None, IsSome, false};
+ghost use Rattle.std.specs.Prelude.{◌≡◌, ℕ, [], length, Some, None, IfOk, IsSome, false};
+ghost use Rattle.saber_plan.specs.Checked.{IsChecked};
+ghost use Rattle.saber_plan.specs.Sizes.{SizesFit};
+ghost use Rattle.saber_plan.specs.Trees.{tree_of};
+ghost use Rattle.saber_dispatch.specs.Feeding.{CutsNothingFed, fed_end_of};
+ghost use Rattle.saber_dispatch.specs.Keeping.{CountsRows};
 ghost use Rattle.saber_plan.specs.declared.sizes.Sizes.{Sizes};
 ghost use Rattle.saber_engine.specs.FedSupplying.{feed_seen, fed_standing, FedAt, FedSome, FeedsNext, TriesNext};
 
@@ -8,6 +13,8 @@ use saber_crew::{Supplied, Supply};
 use saber_dispatch::{End, FedCutter, Keeper, Step, blocks_are_supplied, refills_keep};
 use saber_fragment::{Block, Operator};
 use saber_io::{Feed, Sink};
+use saber_plan::{NoMemory, Plan, Sizes};
+use std::alloc::Global;
 use std::marker::{Brand, PhantomData};
 
 // So often in a row a feed is refilled for one block, as long as something comes.
@@ -37,6 +44,55 @@ pub(crate) struct FedBlocks<F, J> {
     pub(crate) begun: PhantomData<J>,
 }
 
+impl<F, J> FedBlocks<F, J> {
+    /// Those of a feed for a checked plan of one stream, of which none was given.
+    pub(crate) fn new(
+        alloc: Global,
+        plan: &Plan,
+        sizes: &Sizes,
+    ) -> Result<FedBlocks<F, J>, NoMemory>
+        requires checked { IsChecked (tree_of plan.now) }
+        requires one { length (tree_of plan.now).streams ≡ 1 }
+        requires sizes { SizesFit sizes.now }
+        ensures cuts { IfOk result (λ b. CutsNothingFed (tree_of plan.now) sizes.now b.cutter) }
+        ensures goes { IfOk result (λ b. fed_end_of b.cutter ≡ None) }
+        ensures kept { IfOk result (λ b. b.keeper.kept ≡ None) }
+        ensures counted { IfOk result (λ b. CountsRows b.keeper (tree_of plan.now) []) }
+        ensures end { IfOk result (λ b. b.end ≡ None) }
+    {
+        let cutter = FedCutter::new(alloc, plan, sizes)?;
+        match Keeper::new(alloc, plan, sizes) {
+            Ok(keeper) => Ok(FedBlocks {
+                cutter,
+                keeper,
+                end: None,
+                feed: PhantomData,
+                begun: PhantomData,
+            }),
+            Err(lacks) => {
+                cutter.let_go();
+                Err(lacks)
+            }
+        }
+    }
+
+    /// Lets them go, and tells how they ended.
+    pub(crate) fn let_go(self) -> Option<End>
+        ensures { result ≡ self.end }
+    {
+        let FedBlocks {
+            cutter,
+            keeper,
+            end,
+            feed: _feed,
+            begun: _begun,
+        } = self;
+        cutter.let_go();
+        keeper.let_go();
+        end
+    }
+}
+
 // The next block, if it is there; else the feed is refilled. None where that brought something, so that the
 // block may be there now.
 fn try_next<F: Feed, J: BeginsFed, O: Operator>(
@@ -54,7 +110,18 @@ fn try_next<F: Feed, J: BeginsFed, O: Operator>(
     blocks_are_supplied::<O>();
     refills_keep();
     match blocks.cutter.step(feed) {
-        Step::Block(block) => Some(Supplied::Rows(blocks.keeper.pass_on(block))),
+        Step::Block(block) => {
+            let number = block.number;
+            let ended = block.ended;
+            match blocks.keeper.pass_on(block) {
+                Ok(block) => Some(Supplied::Rows(block)),
+                Err(_) => {
+                    blocks.cutter.take_back(number, ended);
+                    blocks.end = Some(End::NoMemory);
+                    Some(Supplied::Over)
+                }
+            }
+        }
         Step::Ended(end) => {
             blocks.end = Some(end);
             Some(Supplied::Over)

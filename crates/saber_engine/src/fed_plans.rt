@@ -10,13 +10,13 @@ use crate::ends::{Ran, ended};
 use crate::fed_blocks::{BeginsFed, FedBlocks};
 use saber_assembly::{SaberWork, Stage};
 use saber_crew::{Over, run};
-use saber_dispatch::{FedCutter, Keeper, cuts_leave_whole_tasks, fed_blocks_are_tasks};
+use saber_dispatch::{cuts_leave_whole_tasks, fed_blocks_are_tasks};
 use saber_fragment::Operator;
 use saber_io::{Feed, Gate, Pour};
 use saber_laws::{checked_fit, first_of_first, no_rows_give_nothing, no_tasks_no_rows};
 use saber_plan::{Plan, Sizes};
 use std::alloc::Global;
-use std::marker::{Brand, PhantomData};
+use std::marker::Brand;
 use std::sync::Wait;
 use std::thread::Threads;
 
@@ -57,17 +57,10 @@ where
     fed_blocks_are_tasks();
     cuts_leave_whole_tasks();
     let stage = Stage::new(alloc, operator, sink);
-    let Ok(cutter) = FedCutter::new(alloc, plan, sizes) else {
+    let Ok(begun) = FedBlocks::<F, J>::new(alloc, plan, sizes) else {
         return ended(stage, Over::NoMemory, None);
     };
-    let keeper = Keeper::new(alloc, plan, sizes);
-    let mut blocks = FedBlocks::<F, J> {
-        cutter,
-        keeper,
-        end: None,
-        feed: PhantomData,
-        begun: PhantomData,
-    };
+    let mut blocks = begun;
     let ran = run::<SaberWork<O, K>, O, G, FedBlocks<F, J>, Brand, R>(
         rt,
         alloc,
@@ -85,15 +78,7 @@ where
             flush: sizes.flush,
         },
     );
-    let FedBlocks {
-        cutter,
-        keeper,
-        end,
-        feed: _feed,
-        begun: _begun,
-    } = blocks;
-    cutter.let_go();
-    keeper.let_go();
+    let end = blocks.let_go();
     match ran {
         Ok((stage, fed)) => ended(stage, fed.over, end),
         Err(stage) => ended(stage, Over::NoMemory, None),

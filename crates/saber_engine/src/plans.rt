@@ -11,13 +11,13 @@ use crate::cells::cells;
 use crate::ends::{Ran, ended};
 use saber_assembly::{SaberWork, Stage};
 use saber_crew::{Over, run};
-use saber_dispatch::{Cutter, Inputs, Keeper, blocks_are_tasks, faults_leave_whole_tasks};
+use saber_dispatch::{Inputs, blocks_are_tasks, faults_leave_whole_tasks};
 use saber_fragment::Operator;
 use saber_io::{Gate, Pour, Source};
 use saber_laws::{checked_fit, first_of_first, no_rows_give_nothing, no_tasks_no_rows};
 use saber_plan::{Plan, Sizes};
 use std::alloc::Global;
-use std::marker::{Brand, PhantomData};
+use std::marker::Brand;
 use std::sync::Wait;
 use std::thread::Threads;
 
@@ -57,17 +57,10 @@ where
     blocks_are_tasks();
     faults_leave_whole_tasks();
     let stage = Stage::new(alloc, operator, sink);
-    let Ok(cutter) = Cutter::new(alloc, plan, sizes) else {
+    let Ok(begun) = Blocks::<S, J>::new(alloc, plan, sizes) else {
         return ended(stage, Over::NoMemory, None);
     };
-    let keeper = Keeper::new(alloc, plan, sizes);
-    let mut blocks = Blocks::<S, J> {
-        cutter,
-        keeper,
-        end: None,
-        source: PhantomData,
-        begun: PhantomData,
-    };
+    let mut blocks = begun;
     let ran = run::<SaberWork<O, K>, O, G, Blocks<S, J>, Brand, R>(
         rt,
         alloc,
@@ -85,15 +78,7 @@ where
             flush: sizes.flush,
         },
     );
-    let Blocks {
-        cutter,
-        keeper,
-        end,
-        source: _source,
-        begun: _begun,
-    } = blocks;
-    cutter.let_go();
-    keeper.let_go();
+    let end = blocks.let_go();
     match ran {
         Ok((stage, fed)) => ended(stage, fed.over, end),
         Err(stage) => ended(stage, Over::NoMemory, None),

@@ -8,6 +8,7 @@ ghost use Rattle.saber_plan.specs.Trees.{Tree, tree_of};
 ghost use Rattle.saber_plan.specs.Checked.{IsChecked, WindowFits};
 ghost use Rattle.saber_dispatch.specs.Sources.{Lefts, each_input};
 ghost use Rattle.saber_dispatch.specs.Cutting.{Cuts};
+ghost use Rattle.saber_dispatch.specs.Keeping.{CountsRows};
 
 use crate::ends::end_text;
 use crate::texts::{assert_same, bytes_of, fault_of, parts};
@@ -218,7 +219,7 @@ fn see_all<S: Source>(
     inputs: &mut Inputs<S>,
     seen: &mut Seen,
 ) -> Result<(), NoMemory>
-    requires { (q : Tree) × (s : Sizes) × (had : Lefts) × (r : Input) × Cuts q s had (each_input S.left inputs.old) cutter.old r }
+    requires { (q : Tree) × (s : Sizes) × (had : Lefts) × (r : Input) × Cuts q s had (each_input S.left inputs.old) cutter.old r × CountsRows keeper.old q r.rows }
 {
     'cutting: for _ in 0..20 {
         match cutter.next_block(inputs) {
@@ -226,7 +227,10 @@ fn see_all<S: Source>(
                 seen.end = Some(end);
                 return Ok(());
             }
-            Cut::Block(block) => see_block(seen, keeper.pass_on(block))?,
+            Cut::Block(block) => {
+                let passed = keeper.pass_on(block)?;
+                see_block(seen, passed)?;
+            }
         }
     }
     Ok(())
@@ -301,7 +305,7 @@ fn see_two(
 {
     let mut inputs = Inputs::Two(left, right);
     let mut cutter = Cutter::new(alloc, plan, sizes)?;
-    let mut keeper = Keeper::new(alloc, plan, sizes);
+    let mut keeper = Keeper::new(alloc, plan, sizes)?;
     see_all(&mut cutter, &mut keeper, &mut inputs, seen)
 }
 
@@ -318,7 +322,7 @@ fn see_one(
 {
     let mut inputs = Inputs::One(text);
     let mut cutter = Cutter::new(alloc, plan, sizes)?;
-    let mut keeper = Keeper::new(alloc, plan, sizes);
+    let mut keeper = Keeper::new(alloc, plan, sizes)?;
     see_all(&mut cutter, &mut keeper, &mut inputs, seen)
 }
 

@@ -6,11 +6,12 @@ ghost use Rattle.saber_plan.specs.Sizes.{SizesFit};
 ghost use Rattle.saber_plan.specs.Trees.{Tree, tree_of};
 ghost use Rattle.saber_plan.specs.Checked.{IsChecked};
 ghost use Rattle.saber_dispatch.specs.Feeding.{CutsFed};
+ghost use Rattle.saber_dispatch.specs.Keeping.{CountsRows};
 
 use crate::blocks::{group, keyed, note_times, sizes};
 use crate::ends::end_text;
 use crate::texts::{assert_same, bytes_of, fault_of, parts};
-use saber_dispatch::{End, FedCutter, Step, refills_keep};
+use saber_dispatch::{End, FedCutter, Keeper, Step, refills_keep};
 use saber_fragment::Block;
 use saber_io::{EndMark, Feed, MemFeed};
 use saber_plan::{NoMemory, Plan, Sizes};
@@ -65,8 +66,13 @@ fn see_block(seen: &mut Seen, block: Block) -> Result<(), NoMemory> {
     note(seen, &block)
 }
 
-fn see_all<F: Feed>(cutter: &mut FedCutter, feed: &mut F, seen: &mut Seen) -> Result<(), NoMemory>
-    requires { (q : Tree) × (s : Sizes) × (r : Input) × CutsFed q s (F.taken feed.old) (F.waiting feed.old) (F.mark feed.old) cutter.old r }
+fn see_all<F: Feed>(
+    cutter: &mut FedCutter,
+    keeper: &mut Keeper,
+    feed: &mut F,
+    seen: &mut Seen,
+) -> Result<(), NoMemory>
+    requires { (q : Tree) × (s : Sizes) × (r : Input) × CutsFed q s (F.taken feed.old) (F.waiting feed.old) (F.mark feed.old) cutter.old r × CountsRows keeper.old q r.rows }
 {
     refills_keep();
     'turns: for _ in 0..400 {
@@ -79,7 +85,10 @@ fn see_all<F: Feed>(cutter: &mut FedCutter, feed: &mut F, seen: &mut Seen) -> Re
                 feed.refill();
                 continue;
             }
-            Step::Block(block) => see_block(seen, block)?,
+            Step::Block(block) => {
+                let passed = keeper.pass_on(block)?;
+                see_block(seen, passed)?;
+            }
         }
     }
     Ok(())
@@ -101,7 +110,8 @@ fn see_feed(
 {
     let mut feed = MemFeed::new(bytes, step, end);
     let mut cutter = FedCutter::new(alloc, plan, sizes)?;
-    see_all(&mut cutter, &mut feed, seen)
+    let mut keeper = Keeper::new(alloc, plan, sizes)?;
+    see_all(&mut cutter, &mut keeper, &mut feed, seen)
 }
 
 fn nothing(alloc: Global) -> Seen {

@@ -1,4 +1,4 @@
-use Rattle.std.proofs.Common.{◌≡◌, ℕ, List, sym, ◌∙◌, ap, subst}
+use Rattle.std.proofs.Common.{◌≡◌, ℕ, List, [], sym, ◌∙◌, ap, subst}
 use Rattle.std.proofs.Math.Path.{transport}
 use Rattle.std.specs.Prelude.{None, IsSome}
 use Rattle.saber_crew.specs.Runs.{RunsTo}
@@ -14,6 +14,7 @@ use Rattle.saber_plan.specs.Windows.{Fits}
 use Rattle.saber_dispatch.specs.Sources.{each_input}
 use Rattle.saber_dispatch.specs.Readings.{Suits}
 use Rattle.saber_dispatch.specs.Cutting.{CutsNothing, fresh}
+use Rattle.saber_dispatch.specs.Keeping.{CountsRows}
 use Rattle.saber_dispatch.specs.Leaving.{GaveAll}
 use Rattle.saber_engine.specs.Supplying.{HasGiven, first_told}
 use Rattle.saber_engine.proofs.Starting.{given_none, begins}
@@ -30,17 +31,19 @@ run-ran-requires-clause-begins g c spans live =
     let failed = g.K.Sink.faults in
     let left = each_input g.S.Source.left c.args.inputs.now in
     let faults = each_input g.S.Source.faults c.args.inputs.now in
-    let cutter = c.in-Ok.cutter in
-    let keeper = c.new-keeper.result in
+    let cutter = c.in-Ok.begun.cutter in
+    let keeper = c.in-Ok.begun.keeper in
+    let end = c.in-Ok.begun.end in
     let e = c.new-stage.ensures in
     let stage = c.new-stage.result in
     let b = c.requires.begins in
     let nothing : CutsNothing (plan op) s cutter = subst (λ z. CutsNothing z s cutter) (sym c.requires.plan) c.in-Ok.ensures.cuts in
     let many : Suits (fresh (plan op) (limits_of s)) left = subst (λ z. Suits (fresh z (limits_of s)) left) (sym c.requires.plan) (suits q (limits_of s) g.S.Source.left c.args.inputs.now c.requires.inputs) in
+    let counts : CountsRows keeper (plan op) [] = subst (λ z. CountsRows keeper z []) (sym c.requires.plan) c.in-Ok.ensures.counted in
     let fits : Fits (frame (plan op)) = subst (λ z. Fits (frame z)) (sym c.requires.plan) (c.checked_fit.ensures q c.requires.checked) in
-    let is : HasGiven plan s left left faults faults cutter keeper None (first_told op s.task (wrote stage.sink) (failed stage.sink)) 0 = given_none plan op s left faults (wrote stage.sink) (failed stage.sink) cutter keeper nothing c.in-Ok.ensures.goes many c.new-keeper.ensures in
-    begins plan g.O.Operator.held g.O.Operator.has_taken wrote failed op s.task stage c.no_tasks_no_rows.ensures fits c.requires.sizes.task.0 c.args.sink e.sink e.none e.runs e.keeps (HasGiven plan g.J.Begins.sizes g.J.Begins.lefts left g.J.Begins.faults faults cutter keeper None)
-    (transport (λ i. HasGiven plan (sym b.0 i) (sym b.1 i) left (sym b.2 i) faults cutter keeper None (first_told op s.task (wrote stage.sink) (failed stage.sink)) 0) is)
+    let is : HasGiven plan s left left faults faults cutter keeper None (first_told op s.task (wrote stage.sink) (failed stage.sink)) 0 = given_none plan op s left faults (wrote stage.sink) (failed stage.sink) cutter keeper nothing c.in-Ok.ensures.goes many c.in-Ok.ensures.kept counts in
+    begins plan g.O.Operator.held g.O.Operator.has_taken wrote failed op s.task stage c.no_tasks_no_rows.ensures fits c.requires.sizes.task.0 c.args.sink e.sink e.none e.runs e.keeps (HasGiven plan g.J.Begins.sizes g.J.Begins.lefts left g.J.Begins.faults faults cutter keeper end)
+    (transport (λ i. HasGiven plan (sym b.0 i) (sym b.1 i) left (sym b.2 i) faults cutter keeper (sym c.in-Ok.ensures.end i) (first_told op s.task (wrote stage.sink) (failed stage.sink)) 0) is)
 
 pub returns-in-Ok-ran : goal.returns-in-Ok-ran
 returns-in-Ok-ran g c =
@@ -64,11 +67,12 @@ returns-in-Ok-ran g c =
     let e = c.new-stage.ensures in
     let b = c.requires.begins in
     let x = c.ended-in-Ok-ran.ensures in
+    let ends = x.end ∙ ap (end_of stage.state fed.over) c.let_go-end.ensures in
     let r : RunsTo (IsTold plan) first_tasks (IsStageOf plan (seen g.O.Operator.held wrote failed) g.O.Operator.has_taken) (HasGiven plan s had has before now cutter keeper end) (IsSome end) (first_told op s.task w f) stage fed =
     transport (λ i. RunsTo (IsTold plan) first_tasks (IsStageOf plan (seen g.O.Operator.held wrote failed) g.O.Operator.has_taken) (HasGiven plan (b.0 i) (b.1 i) has (b.2 i) now cutter keeper end) (IsSome end) (first_told op s.task (wrote (e.sink i)) (failed (e.sink i))) stage fed) c.in-Ok-ran.ensures.ended in
     let over = done c.first_of_first.ensures c.blocks_are_tasks.ensures c.faults_leave_whole_tasks.ensures plan g.O.Operator.held g.O.Operator.has_taken wrote failed op s w f had has before now cutter keeper end stage fed r in
     let d : Done q s had has before now w f c.ended-in-Ok-ran.result.end c.ended-in-Ok-ran.result.tasks (wrote c.ended-in-Ok-ran.result.sink) (failed c.ended-in-Ok-ran.result.sink) =
-    transport (λ i. Done (c.requires.plan i) s had has before now w f (sym x.end i) (sym x.tasks i) (wrote (sym x.sink i)) (failed (sym x.sink i))) over in
+    transport (λ i. Done (c.requires.plan i) s had has before now w f (sym ends i) (sym x.tasks i) (wrote (sym x.sink i)) (failed (sym x.sink i))) over in
     record {
       gives = (d.out, d.written_is, if_told _ g.S.Source.left c.args.inputs.now (λ files h. d.gives files (suits q (limits_of s) g.S.Source.left c.args.inputs.now c.requires.inputs) h));
       whole = d.whole;

@@ -12,4 +12,4 @@ see_all-requires c =
     let s = c.args.sizes.now in
     let had : List (Option (List ℕ)) = Some c.args.text.left ∷ [] in
     let suits : Suits (fresh q (limits_of s)) had = subst (λ streams. Suits (fresh_on q (limits_of s) streams) had) (sym c.requires.one.1) tt in
-    (q, s, had, going_on [], c.in_ok-cutter.ensures.cuts had suits)
+    (q, s, had, going_on [], c.in_ok-cutter.ensures.cuts had suits, c.in_ok-keeper.ensures.counted)

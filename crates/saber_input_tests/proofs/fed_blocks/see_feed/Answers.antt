@@ -19,4 +19,5 @@ see_all-requires c =
       subst (λ (t : List ℕ). CutsFed q s t (waiting_of f) (mark_of f) x (going_on [])) (sym fresh.0)
           (subst (λ (w : List ℕ). CutsFed q s [] w (mark_of f) x (going_on [])) (sym fresh.1)
           (subst (λ (m : Option EndMark). CutsFed q s [] [] m x (going_on [])) (sym fresh.2) (c.in_ok-cutter.ensures.cuts [] None))),
+      c.in_ok-keeper.ensures.counted,
     )

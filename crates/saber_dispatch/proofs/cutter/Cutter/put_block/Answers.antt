@@ -4,7 +4,7 @@ use Rattle.saber_dispatch.specs.declared.ends.End.TheVariants.{TooWide, NoMemory
 use Rattle.saber_dispatch.specs.declared.cutter.Cut.TheVariants.{Ended}
 use Rattle.saber_dispatch.specs.Cutting.{CutTo, LooksBack}
 use Rattle.saber_dispatch.proofs.Fillings.{pushed_ok}
-use Rattle.saber_dispatch.proofs.BlockCuts.{behind, own_fit, all_fit, dropped_cuts, is_too_wide, is_near, is_next, given_cuts}
+use Rattle.saber_dispatch.proofs.BlockCuts.{behind, own_fit, dropped_cuts, is_too_wide, is_near, is_next, given_cuts}
 use Rattle.saber_dispatch.proofs.NextTasks.{wide_end, near_end}
 use Rattle.saber_dispatch.proofs.Faults.{wide_not_all, wide_not_fault, lack_not_all, lack_not_fault}
 use Rattle.saber_fragment.specs.declared.blocks.Block.{Block}
@@ -25,7 +25,7 @@ returns-in-Some c = record {
       let l = c.look_back-first.new.lasts in
       let wide = wide_end a.number first a.room c.in-Some.end (sym c.too_wide.ensures ∙ c.in-Some.is) in
       subst (λ e. CutTo (Ended e) q s had has (record a { lasts = l; ended = Some e }) (going_on xs)) (sym wide.0)
-      (refl, (dropped_cuts q s had has a xs c.args.before c.args.rows f l a.places (TooWide a.number needs) (is_too_wide q s had has a xs c.args.before c.args.rows f l (TooWide a.number needs) first needs is refl wide.1)));
+      (refl, (dropped_cuts q s had has a xs c.args.before c.args.rows f l (TooWide a.number needs) (is_too_wide q s had has a xs c.args.before c.args.rows f l (TooWide a.number needs) first needs is refl wide.1)));
   same = λ b e. cc;
   stays =
       let a = c.args.self.now in
@@ -47,20 +47,7 @@ note-requires c =
 
 pub returns-then-is_err : goal.returns-then-is_err
 returns-then-is_err c = record {
-  cuts = λ q s had has xs f. (refl, dropped_cuts q s had has c.args.self.now xs c.args.before c.args.rows f c.note.new.lasts c.args.self.now.places NoMemory tt);
-  same = λ b e. cc;
-  stays = record { reader = refl; all = λ e. absurd (lack_not_all e); fault = λ side e. absurd (lack_not_fault side e) };
-  read = λ side e. cc;
-}
-
-pub places_of-requires : goal.places_of-requires
-places_of-requires c =
-    let (q, s, had, has, xs, f) = c.requires in
-    (q, xs, f.counted, all_fit q s had has c.args.self.now xs c.args.before c.args.rows f)
-
-pub returns-in_default-places_of : goal.returns-in_default-places_of
-returns-in_default-places_of c = record {
-  cuts = λ q s had has xs f. (refl, dropped_cuts q s had has c.args.self.now xs c.args.before c.args.rows f c.note.new.lasts c.places_of.new.counter NoMemory tt);
+  cuts = λ q s had has xs f. (refl, dropped_cuts q s had has c.args.self.now xs c.args.before c.args.rows f c.note.new.lasts NoMemory tt);
   same = λ b e. cc;
   stays = record { reader = refl; all = λ e. absurd (lack_not_all e); fault = λ side e. absurd (lack_not_fault side e) };
   read = λ side e. cc;
@@ -77,10 +64,9 @@ returns c = record {
       let noted = pushed_ok c.note.result c.is_err.result _ c.if-is_err.false c.is_err.ensures.value c.note.ensures in
       let back : LooksBack q s.task (xs ++ c.args.rows) (a.number + 1) c.note.new.lasts = noted q s.task xs a.number b f.whole looked fit f.few in
       let near = is_near q s had has a xs c.args.before c.args.rows f c.look_back-first.result is (near_end a.number c.look_back-first.result a.room (sym c.too_wide.ensures ∙ c.in_default.is)) in
-      let placed = c.in-Ok.ensures q xs f.counted in
-      let block : Block = record { number = a.number; first = c.look_back-first.result; earlier = c.none.result; before = c.args.before; rows = c.args.rows; places = c.in-Ok.places; ended = false } in (
-        is_next q s had has a xs c.args.before c.args.rows f block refl refl refl refl is (near_end a.number c.look_back-first.result a.room (sym c.too_wide.ensures ∙ c.in_default.is)) c.none.ensures.before c.none.ensures.rows placed.places,
-        given_cuts q s had has a xs c.args.before c.args.rows f c.needs_stay.ensures c.note.new.lasts back c.places_of.new.counter placed.counted near,
+      let block : Block = record { number = a.number; first = c.look_back-first.result; earlier = c.none.result; before = c.args.before; rows = c.args.rows; places = c.new.result; ended = false } in (
+        is_next q s had has a xs c.args.before c.args.rows f block refl refl refl refl is (near_end a.number c.look_back-first.result a.room (sym c.too_wide.ensures ∙ c.in_default.is)) c.none.ensures.before c.none.ensures.rows,
+        given_cuts q s had has a xs c.args.before c.args.rows f c.needs_stay.ensures c.note.new.lasts back near,
       );
   same = λ b e. refl;
   stays = record { reader = refl; all = λ e. e; fault = λ side e. e };
