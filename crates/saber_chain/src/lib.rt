@@ -9,7 +9,8 @@
 //!   the first gave, and the text of both where each has read to the end or to a line refused. The
 //!   first never fails to write. The second reads to the end only where the first one's text is
 //!   whole, is cut off only where that is, and is never too wide. Faults are real, and none is
-//!   passed over.
+//!   passed over. Where the first one's thread was joined, nothing is left to send (`dismiss`);
+//!   else the second one's relay is handed what is left.
 //! - Not claimed: that both run at once. Where no thread can be had, the caller runs both; that
 //!   with one they do run at once a test with a gate sees.
 //! - Limits: the second plan has one stream, and the input's end closes no window. At most `2^40`

@@ -109,8 +109,13 @@ fn run_both<
             );
             match first {
                 Ok(child) => {
-                    let ran = run_second(rt, alloc, second, feed, None, sink, sizes, gate);
-                    let FirstRan { ended, receipt, .. } = child.join(rt);
+                    let mut ran = run_second(rt, alloc, second, feed, None, sink, sizes, gate);
+                    let FirstRan {
+                        ended,
+                        receipt,
+                        backlog,
+                    } = child.join(rt);
+                    ran.relay.dismiss(backlog);
                     settle(ended, receipt, ran)
                 }
                 Err(refused) => {

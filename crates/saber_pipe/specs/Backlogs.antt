@@ -1,5 +1,5 @@
 -- What a writer left behind, as its callers see it (this project's rule).
-use Rattle.std.specs.Prelude.{◌≡◌, List, ◌++◌, Option, Some, None}
+use Rattle.std.specs.Prelude.{◌≡◌, true, ◌⊎◌, List, [], ◌++◌, Option, Some, None}
 use Rattle.saber_pipe.specs.declared.items.Item.{Item}
 use Rattle.saber_pipe.specs.declared.backlog.Backlog.{Backlog}
 use Rattle.saber_pipe.specs.Lefts.{sent_out, left_out, IsPouredOut}
@@ -16,6 +16,10 @@ module _ {P : Type 0} {p : _} where
   -- nothing is left, or the pipe was full at one moment of the call, of the last items that were sent
   abbrev pub IsPoured : Backlog P p → Type 0
   IsPoured b = IsPouredOut b.left
+
+  -- all was sent, or the writer was alone
+  abbrev pub IsSentUnlessAlone : Backlog P p → Type 0
+  IsSentUnlessAlone b = (to_send b ≡ []) ⊎ (b.was_alone ≡ true)
 
   -- items from the front of what was to be sent were sent, in order
   pub record Moved (old new : Backlog P p) : Type 0 where

@@ -1,5 +1,5 @@
 -- What was sent through a pipe is what was got of it, and then what it holds. One pass at most may send, and it has the list of what was sent; the same for getting.
--- The one that sends may promise once all that it will ever have sent, which others then know (this project's rule).
+-- The one that sends may promise once all that it will ever have sent, which others then know. Each other may be told a front of what was sent (this project's rule).
 use Rattle.std.specs.Prelude.{◌≡◌, ◌≢◌, ℕ, Bool, true, List, [], ◌∷◌, ◌++◌, Option, Some, None, ⊤}
 use Rattle.std.specs.List.{flat_map}
 use mathlib.Core.Option.{some}
@@ -27,19 +27,24 @@ mark_of (Item.Last mark ∷ items) = Some mark
 abbrev pub EndsByMark : List Item → Type 0
 EndsByMark items = (before after : List Item) → items ≡ before ++ after → mark_of before ≢ None → after ≡ []
 
+-- a list begins so
+abbrev pub BeginsWith : List Item → List Item → Type 0
+BeginsWith items front = (later : List Item) × (items ≡ front ++ later)
+
 -- what was promised, if something was, begins with these items, and ends by a mark if it has one
 abbrev pub Promised : Option (List Item) → List Item → Type 0
 Promised None items = ⊤
-Promised (Some all) items = EndsByMark all × ((later : List Item) × (all ≡ items ++ later))
+Promised (Some all) items = EndsByMark all × BeginsWith all items
 
 abbrev pub log : Bool → Bool → List Item → List Item → Option (List Item) → Log
 log a b sent got whole = record { sends = a; gets = b; sent = sent; got = got; whole = whole }
 
--- what a pass knows, if it may send or get, or was told what was promised
+-- what a pass knows: a front of what was sent; and more if it may send or get, or was told what was promised
 pub record Fits (writer reader : ℕ) (sent got : List Item) (whole : Option (List Item)) (port : ℕ) (v : Log) : Type 0 where
   pub sends : v.sends ≡ true → (port ≡ writer) × (v.sent ≡ sent) × (v.whole ≡ whole)
   pub gets : v.gets ≡ true → (port ≡ reader) × (v.got ≡ got)
   pub told : v.whole ≢ None → v.whole ≡ whole
+  pub front : BeginsWith sent v.sent
 
 -- the rule, of what the queue holds and of what all passes know
 pub record Relayed (items : List Item) (views : List Log) : Type 0 where

@@ -1,10 +1,11 @@
 -- Who reads a pipe, as its callers see it (this project's rule).
-use Rattle.std.specs.Prelude.{◌≡◌, ◌≢◌, ℕ, List, [], ◌++◌, Option, None}
+use Rattle.std.specs.Prelude.{◌≡◌, ◌≢◌, ℕ, List, [], ◌++◌, Option, None, IfSome}
 use Rattle.saber_io.specs.declared.feeds.EndMark.{EndMark}
 use Rattle.saber_pipe.specs.declared.backlog.Backlog.{Backlog}
 use Rattle.saber_pipe.specs.declared.feed.PipeFeed.{PipeFeed}
 use Rattle.saber_pipe.specs.declared.relay.Relay.{Relay}
-use Rattle.saber_pipe.specs.PipeFeeds.{taken, waiting, mark, faults_of}
+use Rattle.saber_pipe.specs.Backlogs.{sent_by}
+use Rattle.saber_pipe.specs.PipeFeeds.{known, taken, waiting, mark, faults_of}
 
 module _ {R P : Type 0} {p : _} where
   -- the end of the pipe that it reads from
@@ -14,6 +15,10 @@ module _ {R P : Type 0} {p : _} where
   -- what it sends on before it reads, if it was handed something over
   abbrev pub backlog_of : Relay R P p → Option (Backlog P p)
   backlog_of r = r.backlog
+
+  -- what it has sent on, and what was sent before, it knows to have been sent
+  abbrev pub KnowsSent : Relay R P p → Type 0
+  KnowsSent r = IfSome (backlog_of r) (λ b. known (feed_of r) ≡ sent_by b)
 
   -- the bytes that it has taken
   abbrev pub taken_by : Relay R P p → List ℕ

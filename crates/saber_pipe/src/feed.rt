@@ -3,8 +3,10 @@ ghost use Rattle.std.specs.Prelude.{◌≡◌, ◌≤◌, ◌+◌, ◌++◌, Som
 ghost use Rattle.crossbeam_queue.specs.Passes.{view, IsPassOf};
 ghost use Rattle.saber_pipe.specs.Order.{mark_of};
 
-use crate::rule::{End, Gets, IsTold, KeepsPromise, Line};
-use crate::{Item, PipeName, Receipt};
+use crate::left::Left;
+use crate::outbox::Outbox;
+use crate::rule::{End, Gets, IsTold, KeepsOrder, KeepsPromise, Line, Tells};
+use crate::{Backlog, Item, PipeName, Receipt};
 use saber_io::{EndMark, Failed, Fed, Feed};
 use std::alloc::Global;
 use std::marker::PhantomData;
@@ -31,10 +33,12 @@ pub struct PipeFeed<'a, R: Wait, P: PipeName> {
 
 impl<'a, R: Wait, P: PipeName> PipeFeed<'a, R, P> {
     ghost use Rattle.std.specs.Prelude.{◌≡◌, ◌≢◌, ◌↔◌, [], Some, None, true, false, IsTrue};
-    ghost use Rattle.crossbeam_queue.specs.Passes.{view, IsPassOf};
+    ghost use Rattle.crossbeam_queue.specs.Passes.{view, IsPassOf, IsSamePass};
+    ghost use Rattle.saber_pipe.specs.Lefts.{sent_out, IsSameLeft};
     ghost use Rattle.saber_pipe.specs.Order.{log};
     ghost use Rattle.saber_pipe.specs.Receipts.{written_by, mark_by, Settled};
-    ghost use Rattle.saber_pipe.specs.PipeFeeds.{got, taken, waiting, mark, faults_of};
+    ghost use Rattle.saber_pipe.specs.Backlogs.{to_send};
+    ghost use Rattle.saber_pipe.specs.PipeFeeds.{got, known, taken, waiting, mark, faults_of, IsToldMore};
 
     pub(crate) fn new(rt: &'a R, alloc: Global, line: &'a Line, end: End) -> PipeFeed<'a, R, P>
         requires own { IsPassOf line.now end }
@@ -72,6 +76,50 @@ impl<'a, R: Wait, P: PipeName> PipeFeed<'a, R, P> {
         self.at = self.piece.len();
     }
 
+    // Is told what another pass knows to have been sent.
+    fn hear(&mut self, other: &mut End)
+        requires { IsPassOf self.old.line.now other.old }
+        ensures known { known self.new ≡ (view other.old).sent }
+        ensures same { IsToldMore self.old self.new }
+        ensures other { IsSamePass other.old other.new × (view other.new ≡ view other.old) }
+    {
+        let told = self.line.another::<Tells>(other);
+        self.line.absorb::<IsTold>(&mut self.end, told);
+    }
+
+    // Is told what was sent of what a writer wrote.
+    pub(crate) fn hear_left<'b>(&mut self, left: Left<'b, P>) -> Left<'b, P>
+        ensures known { known self.new ≡ sent_out left.entry }
+        ensures feed { IsToldMore self.old self.new }
+        ensures left { IsSameLeft left.entry result }
+    {
+        match left {
+            Left::Kept(mut outbox) => {
+                self.hear(&mut outbox.end);
+                Left::Kept(outbox)
+            }
+            Left::Sent(mut receipt) => {
+                self.hear(&mut receipt.end);
+                Left::Sent(receipt)
+            }
+        }
+    }
+
+    // Takes in the leave to send of a writer that left. Since a mark was taken, it had sent all.
+    pub(crate) fn dismiss(&mut self, backlog: Backlog<'_, P>)
+        requires over { mark self.old ≢ None }
+        ensures sent { to_send backlog.entry ≡ [] }
+        ensures same { IsToldMore self.old self.new }
+    {
+        let Backlog { left, .. } = backlog;
+        let Left::Kept(outbox) = left else {
+            return;
+        };
+        let Outbox { end, .. } = outbox;
+        self.line.absorb::<IsTold>(&mut self.end, end);
+        self.line.learn_as::<KeepsOrder>(&mut self.end);
+    }
+
     /// What both ends of a pipe come to: what was taken is a front of what was written, and all of it where a mark was taken, which is the one that was
     /// sent.
     pub fn settle(self, receipt: Receipt<P>)
@@ -87,7 +135,7 @@ impl<'a, R: Wait, P: PipeName> Feed for PipeFeed<'a, R, P> {
     ghost use Rattle.std.specs.Prelude.{◌≡◌, ◌<◌, ◌≤◌, length, IfOk, OnOk, OnErr};
     ghost use Rattle.saber_io.specs.Outside.{Rose};
     ghost use Rattle.saber_io.specs.Feeds.{Feeds, IsCut, Refills};
-    ghost use Rattle.saber_pipe.specs.PipeFeeds.{got, taken, waiting, mark, faults_of, TakesOne};
+    ghost use Rattle.saber_pipe.specs.PipeFeeds.{got, known, taken, waiting, mark, faults_of, TakesOne};
 
     ghost taken = { taken };
 
@@ -127,6 +175,7 @@ impl<'a, R: Wait, P: PipeName> Feed for PipeFeed<'a, R, P> {
         ensures more { Refills (taken self.old) (taken self.new) (waiting self.old) (waiting self.new) (mark self.old) (mark self.new) result }
         ensures count { faults_of self.new ≡ faults_of self.old }
         ensures takes { TakesOne self.old self.new result }
+        ensures known { known self.new ≡ known self.old }
     {
         if self.at < self.piece.len() {
             return true;

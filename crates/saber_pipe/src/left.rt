@@ -4,17 +4,16 @@ ghost use Rattle.saber_pipe.specs.Outboxes.{whole_of, all_of};
 ghost use Rattle.saber_pipe.specs.declared.left.Left.TheVariants as left;
 ghost use Rattle.saber_pipe.specs.Lefts.{MovesLeft, IsPouredOut};
 
-use crate::PipeName;
 use crate::outbox::Outbox;
-use crate::rule::End;
+use crate::{PipeName, Receipt};
 use saber_io::EndMark;
 use std::sync::Wait;
 
-// Pieces and the mark behind them, or nothing.
+// Pieces and the mark behind them, or nothing more than what was sent.
 #[derive(Drop)]
 pub enum Left<'a, P: PipeName> {
     Kept(Outbox<'a, P>),
-    Sent(End),
+    Sent(Receipt<P>),
 }
 
 // Sends what is kept, as far as there is room for it, and the mark once nothing is kept.
@@ -33,7 +32,7 @@ pub(crate) fn send_left<'a, R: Wait, P: PipeName>(
         return Left::Kept(outbox);
     }
     match outbox.send_last(rt, mark) {
-        Ok(end) => Left::Sent(end),
+        Ok(receipt) => Left::Sent(receipt),
         Err(outbox) => Left::Kept(outbox),
     }
 }

@@ -6,14 +6,18 @@
 //!   and `backlog` (what a writer left), `receipt` (all that was written), `relay` (a reader that
 //!   has the backlog too).
 //! - Calls: `Pipe::ends` lends a sink and a feed; `PipeSink::finish` takes how the bytes end, and
-//!   gives a receipt and what is still to be sent; `Relay::drain` takes all that comes; `settle`
-//!   takes the receipt.
+//!   gives a receipt and what is still to be sent; `Relay::drain` takes all that comes; `dismiss`
+//!   lets go of what a writer left, `settle` takes the receipt.
 //! - Proved: what was sent is what was got, and then what the queue holds (`specs/Order.antt`);
 //!   behind a mark nothing is sent. No write fails but for want of memory. `pour` keeps nothing, or
-//!   the pipe was full. What was taken is a front of what was written, and all of it where a mark
-//!   was taken, which is the one that was sent (`settle`, `specs/Receipts.antt`).
-//! - Not claimed: that a reader reads. A full pipe is back-pressure: a writer waits for room,
-//!   unless it is alone; then it never waits, and who reads later sends its backlog on.
+//!   the pipe was full; `finish` leaves nothing, or its swap found `alone` set. `refill` is false
+//!   only where all was taken that its end knew to have been sent: of a relay with a backlog, all
+//!   that was sent. What was taken is a front of what was written, and all of it where a mark was
+//!   taken, which is the one that was sent (`settle`, `specs/Receipts.antt`); then nothing is left
+//!   to send (`dismiss`).
+//! - Not claimed: that a reader reads, and what `alone` holds. A full pipe is back-pressure: a
+//!   writer waits for room, unless it is alone; then it never waits, and who reads later sends its
+//!   backlog on.
 //! - Limits: 64 items in the queue; what a sink that is alone keeps has no limit but memory.
 #![tactic(auto)]
 

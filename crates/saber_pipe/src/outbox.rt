@@ -119,10 +119,14 @@ impl<'a, P: PipeName> Outbox<'a, P> {
     }
 
     // Sends how the bytes end, where nothing is kept. Where the pipe was full, it comes back as it was.
-    pub(crate) fn send_last<R: Wait>(self, rt: &R, mark: EndMark) -> Result<End, Outbox<'a, P>>
+    pub(crate) fn send_last<R: Wait>(
+        self,
+        rt: &R,
+        mark: EndMark,
+    ) -> Result<Receipt<P>, Outbox<'a, P>>
         requires empty { kept_of self ≡ [] }
         requires may { whole_of self ≡ Some (all_of self mark) }
-        ensures sent { IfOk result (λ e. ((view e).sent ≡ sent_of self.entry ++ item.Last mark ∷ []) × ((view e).whole ≡ whole_of self.entry)) }
+        ensures sent { IfOk result (λ r. ((view r.end).sent ≡ sent_of self.entry ++ item.Last mark ∷ []) × ((view r.end).whole ≡ whole_of self.entry)) }
         ensures back { IfErr result (λ o. (sent_of o ≡ sent_of self.entry) × (kept_of o ≡ []) × (whole_of o ≡ whole_of self.entry) × WasFull o) }
     {
         let Outbox {
@@ -133,7 +137,7 @@ impl<'a, P: PipeName> Outbox<'a, P> {
             named,
         } = self;
         match line.push_as::<Sends, R>(rt, &mut end, Item::Last(mark)) {
-            Ok(()) => Ok(end),
+            Ok(()) => Ok(Receipt::new(end)),
             Err(_) => Err(Outbox {
                 line,
                 end,

@@ -14,9 +14,10 @@ pub struct Relay<'a, R: Wait, P: PipeName> {
 
 impl<'a, R: Wait, P: PipeName> Relay<'a, R, P> {
     ghost use Rattle.std.specs.Prelude.{◌≡◌, ◌≢◌, [], None};
-    ghost use Rattle.saber_pipe.specs.Backlogs.{Pours};
+    ghost use Rattle.saber_pipe.specs.Backlogs.{to_send, Pours};
+    ghost use Rattle.saber_pipe.specs.PipeFeeds.{IsToldMore};
     ghost use Rattle.saber_pipe.specs.Receipts.{written_by, mark_by, Settled};
-    ghost use Rattle.saber_pipe.specs.Relays.{feed_of, backlog_of, taken_by, waiting_in, mark_in, faults_in, Drains};
+    ghost use Rattle.saber_pipe.specs.Relays.{feed_of, backlog_of, taken_by, waiting_in, mark_in, faults_in, KnowsSent, Drains};
 
     /// Reads what another thread writes, where there is no backlog, or else what was written before.
     pub fn new(feed: PipeFeed<'a, R, P>, backlog: Option<Backlog<'a, P>>) -> Relay<'a, R, P>
@@ -26,15 +27,17 @@ impl<'a, R: Wait, P: PipeName> Relay<'a, R, P> {
         Relay { feed, backlog }
     }
 
-    // Sends on what there is room for. It never waits.
+    // Sends on what there is room for, and lets the end that reads know what was sent. It never waits.
     fn pour(&mut self)
         ensures pours { Pours (backlog_of self.old) (backlog_of self.new) }
-        ensures feed { feed_of self.new ≡ feed_of self.old }
+        ensures feed { IsToldMore (feed_of self.old) (feed_of self.new) }
+        ensures told { KnowsSent self.new }
     {
         let Some(backlog) = self.backlog.take() else {
             return;
         };
-        self.backlog = Some(backlog.pour(self.feed.rt));
+        let backlog = backlog.pour(self.feed.rt);
+        self.backlog = Some(backlog.tell(&mut self.feed));
     }
 
     /// Takes all that still comes, up to the mark, so that the writer doesn't wait for room that nobody makes. It waits for the writer.
@@ -60,6 +63,16 @@ impl<'a, R: Wait, P: PipeName> Relay<'a, R, P> {
         unreachable!()
     }
 
+    /// Lets go of what a writer left on another thread. Since the mark was taken, nothing of it is still to be sent.
+    pub fn dismiss(&mut self, backlog: Backlog<'_, P>)
+        requires over { mark_in self.old ≢ None }
+        ensures sent { to_send backlog.entry ≡ [] }
+        ensures feed { IsToldMore (feed_of self.old) (feed_of self.new) }
+        ensures backlog { backlog_of self.new ≡ backlog_of self.old }
+    {
+        self.feed.dismiss(backlog);
+    }
+
     /// What both ends of a pipe come to: what was taken is a front of what was written, and all of it where a mark was taken, which is the one that was
     /// sent.
     pub fn settle(self, receipt: Receipt<P>)
@@ -76,7 +89,7 @@ impl<'a, R: Wait, P: PipeName> Feed for Relay<'a, R, P> {
     ghost use Rattle.saber_io.specs.Feeds.{Feeds, IsCut, Refills};
     ghost use Rattle.saber_pipe.specs.Backlogs.{Pours};
     ghost use Rattle.saber_pipe.specs.PipeFeeds.{got, TakesOne};
-    ghost use Rattle.saber_pipe.specs.Relays.{feed_of, backlog_of, taken_by, waiting_in, mark_in, faults_in};
+    ghost use Rattle.saber_pipe.specs.Relays.{feed_of, backlog_of, taken_by, waiting_in, mark_in, faults_in, KnowsSent};
 
     ghost taken = { taken_by };
 
@@ -105,6 +118,9 @@ impl<'a, R: Wait, P: PipeName> Feed for Relay<'a, R, P> {
         ensures count { faults_in self.new ≡ faults_in self.old }
         ensures takes { TakesOne (feed_of self.old) (feed_of self.new) result }
         ensures pours { Pours (backlog_of self.old) (backlog_of self.new) }
+
+        // Where it has what a writer left, the end that it reads from knows all that was sent.
+        ensures told { KnowsSent self.new }
     {
         self.pour();
         self.feed.refill()

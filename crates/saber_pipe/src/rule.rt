@@ -8,7 +8,8 @@ use crossbeam_queue::{Pass, RuledArrayQueue};
 use std::collections::LinkedList;
 use std::marker::{Brand, PhantomData};
 
-// What a pass may do, what it has sent, what it has got, and all that is ever sent, once that was promised. No value of it is made.
+// What a pass may do, what it has sent or knows to have been sent, what it has got, and all that is ever sent, once that was promised. No value of it is
+// made.
 pub struct Log {
     pub sends: bool,
     pub gets: bool,
@@ -64,14 +65,26 @@ impl<J: Promise> Split<Log> for Promises<J> {
     ghost right = { λ v. log false false [] [] J.whole };
 }
 
-// The end that gets is told what was promised.
+// Another pass is told what this one knows.
+pub struct Tells;
+
+impl Split<Log> for Tells {
+    ghost use Rattle.std.specs.Prelude.{false, []};
+    ghost use Rattle.saber_pipe.specs.Order.{log};
+
+    ghost left = { λ v. v };
+
+    ghost right = { λ v. log false false v.sent [] v.whole };
+}
+
+// The end that gets takes in what another pass knows of what was sent and promised, and its leave to send.
 pub struct IsTold;
 
 impl Join<Log> for IsTold {
     ghost use Rattle.std.specs.Prelude.{true, false, [], None};
     ghost use Rattle.saber_pipe.specs.Order.{log};
 
-    ghost both = { λ v w. log false true [] v.got w.whole };
+    ghost both = { λ v w. log w.sends true w.sent v.got w.whole };
 
     ghost spent = { log false false [] [] None };
 }
@@ -92,7 +105,7 @@ impl Lesson<Item, Log> for Sends {
     ghost fact = { λ v items. HoldsLastOf v.sent items };
 }
 
-// One more was got, and no mark before it.
+// One more was got, and no mark before it. An empty queue tells that all was got that the end knows to have been sent.
 pub struct Gets;
 
 impl Outcome<Item, Log> for Gets {
@@ -103,9 +116,19 @@ impl Outcome<Item, Log> for Gets {
 }
 
 impl Lesson<Item, Log> for Gets {
-    ghost use Rattle.std.specs.Prelude.{⊤};
+    ghost use Rattle.std.specs.Prelude.{◌++◌};
+    ghost use Rattle.saber_pipe.specs.Order.{BeginsWith};
 
-    ghost fact = { λ v items. ⊤ };
+    ghost fact = { λ v items. BeginsWith (v.got ++ items) v.sent };
+}
+
+// What was sent is what was got, and then what the queue holds.
+pub struct KeepsOrder;
+
+impl Lesson<Item, Log> for KeepsOrder {
+    ghost use Rattle.std.specs.Prelude.{◌≡◌, ◌++◌};
+
+    ghost fact = { λ v items. v.sent ≡ v.got ++ items };
 }
 
 // What was promised begins with what was got.

@@ -29,7 +29,7 @@ impl<'a, R: Wait, P: PipeName> PipeSink<'a, R, P> {
     ghost use Rattle.saber_pipe.specs.Outboxes.{whole_of};
     ghost use Rattle.saber_pipe.specs.Receipts.{promised, written_by, mark_by};
     ghost use Rattle.saber_pipe.specs.Sinks.{sent, kept, written};
-    ghost use Rattle.saber_pipe.specs.Backlogs.{sent_by, to_send, IsPoured};
+    ghost use Rattle.saber_pipe.specs.Backlogs.{sent_by, to_send, IsPoured, IsSentUnlessAlone};
 
     pub(crate) fn new(
         rt: &'a R,
@@ -60,7 +60,8 @@ impl<'a, R: Wait, P: PipeName> PipeSink<'a, R, P> {
         ensures written { written_by result.0 ≡ written self.entry }
         ensures mark { mark_by result.0 ≡ Some mark }
         ensures sent { promised result.0 ≡ sent_by result.1 ++ to_send result.1 }
-        ensures until { IsPoured result.1 }
+        ensures poured { IsPoured result.1 }
+        ensures until { IsSentUnlessAlone result.1 }
     {
         let PipeSink {
             rt,

@@ -3,13 +3,13 @@ use Rattle.saber_pipe.specs.declared.items.Item.{Item}
 use Rattle.saber_pipe.specs.declared.rule.Log.{Log}
 use Rattle.crossbeam_queue.specs.Passes.{view}
 use Rattle.saber_pipe.specs.Order.{mark_of}
-use Rattle.saber_pipe.proofs.Relays.{gets}
+use Rattle.saber_pipe.proofs.Relays.{gets, knows}
 use Rattle.saber_pipe.proofs.Marks.{mark_after}
 use Rattle.saber_pipe.proofs.Moves.{some_left}
 use Rattle.saber_pipe.proofs.feed.PipeFeedFeed.refill.Goals as goal
 
 pub pop_as-requires-clause-rule : goal.pop_as-requires-clause-rule
-pop_as-requires-clause-rule g c = (gets _ _ c.args.self.now.may, λ _ _ _ _. tt)
+pop_as-requires-clause-rule g c = (gets _ _ c.args.self.now.may, knows _ _ c.args.self.now.may)
 
 pub invariant_of-self-in-Piece-clause-may : goal.invariant_of-self-in-Piece-clause-may
 invariant_of-self-in-Piece-clause-may g c = ap (λ (u : Log). u.gets) c.in-Some.ensures.rule.0 ∙ c.args.self.now.may

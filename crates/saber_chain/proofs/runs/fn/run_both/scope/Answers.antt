@@ -1,9 +1,11 @@
-use Rattle.std.proofs.Common.{ap, ◌∙◌}
+use Rattle.std.proofs.Common.{Some, ap, ◌∙◌, subst}
 use Rattle.std.proofs.Math.Path.{transport}
 use Rattle.saber_plan.specs.Trees.{tree_of}
-use Rattle.saber_pipe.specs.Receipts.{written_by, mark_by}
+use Rattle.saber_pipe.specs.Order.{bytes_of, mark_of}
+use Rattle.saber_pipe.specs.Receipts.{written_by, mark_by, Settled}
 use Rattle.saber_pipe.specs.Relays.{taken_by, mark_in}
 use Rattle.saber_chain.specs.Firsts.{RanFirst}
+use Rattle.saber_chain.specs.Marks.{mark_after}
 use Rattle.saber_chain.proofs.Both.{both_runs}
 use Rattle.saber_chain.proofs.runs.fn.run_both.scope.Goals as goal
 
@@ -22,9 +24,10 @@ returns-in-Ok g c =
     let second = c.run_second-ran.result in
     let e = c.run_second-ran.ensures in
     let x = c.settle.ensures in
+    let settled = subst (λ l. Settled (written_by ran.receipt) (Some (mark_after c.settle.result.first)) (bytes_of l) (mark_of l)) c.dismiss.ensures.feed.got_is x.settled in
     both_runs left faults g.K.Sink.written g.K.Sink.faults (tree_of job.plan.now) (tree_of c.captures.second.now) c.captures.sizes.now job.inputs ran.ended.inputs c.captures.sink second.ran.sink c.settle.result
     ran.ended.end second.ran.end ran.ended.tasks second.ran.tasks (written_by ran.receipt) (taken_by second.relay) (mark_by ran.receipt) (mark_in second.relay)
-    first e.runs e.write e.write_good e.writes e.stopped x.stopped x.ends x.tasks x.given_back x.settled
+    first e.runs e.write e.write_good e.writes e.stopped x.stopped x.ends x.tasks x.given_back settled
 
 pub returns-in-Err : goal.returns-in-Err
 returns-in-Err g c =
