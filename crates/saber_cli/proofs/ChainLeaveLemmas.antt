@@ -8,7 +8,7 @@ use Rattle.saber_notes.specs.declared.outcome.InputFile.TheVariants.{Query, Left
 use Rattle.saber_notes.specs.declared.outcome.Outcome.{Outcome}
 use Rattle.saber_notes.specs.declared.outcome.Outcome.TheVariants.{Done, Usage, FileCount, QueryFault, SecondQueryFault, Unchainable, LineRefused, ChainLineRefused, OpenFault, ReadFault, TooWide, WriteFault, NoMemory}
 use Rattle.saber_cli.specs.Outcomes.{IsClean, IsOfPlan, IsUnopened}
-use Rattle.saber_cli.specs.Uses.{Uses, unasked, unopened, used, IsOf, IsOpened}
+use Rattle.saber_cli.specs.Uses.{Uses, unasked, unopened, used, IsOfQueryFile, IsOpened}
 use Rattle.saber_cli.specs.Due.{Contents, first_run, names_of, row_names}
 use Rattle.saber_cli.specs.Leaves.{AreOf, Matches}
 use Rattle.saber_cli.specs.RowFiles.{UsesRows, using}
@@ -23,11 +23,11 @@ told_chain : (a : AskedChain) (o : Outcome) (old new : Option Told) → ((t : To
 told_chain a o None new h = tt
 told_chain a o (Some t) new h = h t refl
 
--- a source is of its file, where files tell
+-- a source is of its query's file, where files tell
 abbrev IsOfTold : Option Told → List ℕ → Option (List ℕ) → ℕ → Type 0
-IsOfTold old name left faults = IfSome old (λ t. IsOf t.contents name (left, faults))
+IsOfTold old name left faults = IfSome old (λ t. IsOfQueryFile t.contents name (left, faults))
 
-is_of : (old : Option Told) (t : Told) (name : List ℕ) (left : Option (List ℕ)) (faults : ℕ) → old ≡ Some t → IsOfTold old name left faults → IsOf t.contents name (left, faults)
+is_of : (old : Option Told) (t : Told) (name : List ℕ) (left : Option (List ℕ)) (faults : ℕ) → old ≡ Some t → IsOfTold old name left faults → IsOfQueryFile t.contents name (left, faults)
 is_of old t name left faults e h = subst (λ o. IsOfTold o name left faults) e h
 
 -- the first query has a plan
@@ -49,7 +49,7 @@ back t name left faults = record { contents = t.contents; asked = t.asked ++ nam
 abbrev lost : Told → List ℕ → Told
 lost t name = record { contents = t.contents; asked = t.asked ++ name ∷ []; closed = t.closed }
 
-one_back : (a : AskedChain) (o : Outcome) (t : Told) (left : Option (List ℕ)) (faults : ℕ) → IsOf t.contents a.first (left, faults) → MatchesChain (length (names_of (chain a))) o 1 ((left, faults) ∷ []) → LeavesBoth a o t (back t a.first left faults)
+one_back : (a : AskedChain) (o : Outcome) (t : Told) (left : Option (List ℕ)) (faults : ℕ) → IsOfQueryFile t.contents a.first (left, faults) → MatchesChain (length (names_of (chain a))) o 1 ((left, faults) ∷ []) → LeavesBoth a o t (back t a.first left faults)
 one_back a o t left faults h m = record { contents = refl; count = 1; few = omega arith; second = λ k. absurd (omega (arith, k)); rows = λ k. absurd (omega (arith, k)); asked = refl; given_back = (left, faults) ∷ []; closed = refl; are_of = (h, tt); matches = m }
 
 one_lost : (a : AskedChain) (t : Told) → LeavesBoth a (OpenFault Query) t (lost t a.first)
@@ -99,7 +99,7 @@ second_matches all (TooWide task need cells) l z left faults n h p f c = absurd 
 second_matches all WriteFault l z left faults n h p f c = absurd h
 second_matches all NoMemory l z left faults n h p f c = refl
 
-two_back : (a : AskedChain) (o : Outcome) (t : Told) (l : Option (List ℕ)) (z : ℕ) (left : Option (List ℕ)) (faults : ℕ) → IsFirstPlanned a t.contents → IsOf t.contents a.first (l, z) → IsOf t.contents a.second (left, faults)
+two_back : (a : AskedChain) (o : Outcome) (t : Told) (l : Option (List ℕ)) (z : ℕ) (left : Option (List ℕ)) (faults : ℕ) → IsFirstPlanned a t.contents → IsOfQueryFile t.contents a.first (l, z) → IsOfQueryFile t.contents a.second (left, faults)
     → MatchesChain (length (names_of (chain a))) o 2 ((l, z) ∷ (left, faults) ∷ []) → LeavesBoth a o t (back (back t a.first l z) a.second left faults)
 two_back a o t l z left faults g h i m = record {
   contents = refl;
@@ -114,7 +114,7 @@ two_back a o t l z left faults g h i m = record {
   matches = m;
 }
 
-two_lost : (a : AskedChain) (t : Told) (l : Option (List ℕ)) (z : ℕ) → z ≡ 0 → IsFirstPlanned a t.contents → IsOf t.contents a.first (l, z) → LeavesBoth a (OpenFault SecondQuery) t (lost (back t a.first l z) a.second)
+two_lost : (a : AskedChain) (t : Told) (l : Option (List ℕ)) (z : ℕ) → z ≡ 0 → IsFirstPlanned a t.contents → IsOfQueryFile t.contents a.first (l, z) → LeavesBoth a (OpenFault SecondQuery) t (lost (back t a.first l z) a.second)
 two_lost a t l z n g h = record {
   contents = refl;
   count = 2;
@@ -173,7 +173,7 @@ both_read first second old mid new (unopened e s) v = cc
 both_read first second old mid new (used l z f c i p s) (unasked e s') = cc
 both_read first second old mid new (used l z f c i p s) (unopened e s') = cc
 both_read first second old mid new (used l z f c i p s) (used left faults f' c' j p' s') =
-    both_used_by first second old mid new l z left faults (c tt) (c' tt) i (used_contents (λ files. IsOf files second (left, faults)) first old mid (used l z f c i p s) j) s s'
+    both_used_by first second old mid new l z left faults (c tt) (c' tt) i (used_contents (λ files. IsOfQueryFile files second (left, faults)) first old mid (used l z f c i p s) j) s s'
 
 misfit_matches : (all : ℕ) (p q : Tree) (n : ℕ) (o : Outcome) (one two : Closed) → IsMisfit p q n o → one.1 ≡ 0 → two.1 ≡ 0 → MatchesChain all o 2 (one ∷ two ∷ [])
 misfit_matches all p q n Done one two h z w = absurd h
@@ -204,7 +204,7 @@ misfit_leaves a p q n o old new h g b = told_chain a o old new (λ t k. (
     asked = refl;
     given_back = b.one ∷ b.two ∷ [];
     closed = refl;
-    are_of = (subst (λ x. IfSome x (λ v. IsOf v.contents a.first b.one)) k b.one_of, (subst (λ x. IfSome x (λ v. IsOf v.contents a.second b.two)) k b.two_of, tt));
+    are_of = (subst (λ x. IfSome x (λ v. IsOfQueryFile v.contents a.first b.one)) k b.one_of, (subst (λ x. IfSome x (λ v. IsOfQueryFile v.contents a.second b.two)) k b.two_of, tt));
     matches = misfit_matches (length (names_of (chain a))) p q n o b.one b.two h b.one_good b.two_good;
   },
 ))
@@ -226,8 +226,8 @@ chain_rows_leave a o old mid new g b u = told_chain a o old new (λ t k. let m =
     given_back = b.one ∷ b.two ∷ u.given_back;
     closed = append_assoc t.closed (b.one ∷ b.two ∷ []) u.given_back;
     are_of = (
-      subst (λ x. IfSome x (λ v. IsOf v.contents a.first b.one)) k b.one_of,
-      (subst (λ x. IfSome x (λ v. IsOf v.contents a.second b.two)) k b.two_of, subst (λ x. IfSome x (λ v. AreOf v.contents u.given_back (row_names (first_run a)))) m u.are_of),
+      subst (λ x. IfSome x (λ v. IsOfQueryFile v.contents a.first b.one)) k b.one_of,
+      (subst (λ x. IfSome x (λ v. IsOfQueryFile v.contents a.second b.two)) k b.two_of, subst (λ x. IfSome x (λ v. AreOf 0 v.contents u.given_back (row_names (first_run a)))) m u.are_of),
     );
     matches = u.matches b.one b.two b.one_good b.two_good;
   },

@@ -1,28 +1,28 @@
 -- One file that is opened, read and given back.
 use Rattle.std.proofs.Common.{Result, Ok, Err, IfOk, IfErr, OnOk, refl, sym, ◌≡◌, ℕ, ◌<◌, ◌≤◌, List, take, Option, Some, None, IfSome, ◌∙◌, ap, subst, arith}
 use Rattle.std.proofs.lemmas.Bool.Decides.{nat_tests}
-use Rattle.saber_io.specs.Outside.{Told, asking, closing, raised, given, Rose, Opens}
+use Rattle.saber_io.specs.Outside.{Told, asking, closing, raised, Rose, Opens}
 use Rattle.saber_notes.specs.declared.outcome.InputFile.{InputFile}
 use Rattle.saber_notes.specs.declared.outcome.InputFile.TheVariants.{Query, Left, Right, SecondQuery}
 use Rattle.saber_notes.specs.declared.outcome.Outcome.{Outcome}
 use Rattle.saber_notes.specs.declared.outcome.Outcome.TheVariants.{Done, Usage, FileCount, QueryFault, SecondQueryFault, Unchainable, LineRefused, ChainLineRefused, OpenFault, ReadFault, TooWide, WriteFault, NoMemory}
 use Rattle.saber_cli.specs.Outcomes.{IsClean, IsFileFault}
-use Rattle.saber_cli.specs.Texts.{BeginsFile, read_limit}
-use Rattle.saber_cli.specs.Uses.{Uses, used, IsOf, IsOpened, IsOfText, IsOfQuery, outcome_of, KeepsFaults}
+use Rattle.saber_cli.specs.Texts.{BeginsFile, TakesFew, read_limit}
+use Rattle.saber_cli.specs.Uses.{Uses, used, IsOfQueryFile, IsOpened, IsOfText, IsOfQuery, outcome_of, KeepsFaults}
 
 -- what was read of a source that was opened is the beginning of its file
 pub opened_front : (told : Option Told) (name : List ℕ) (left : Option (List ℕ)) (text : List ℕ) → Opens told name left → IfSome left (λ whole. text ≡ take read_limit whole) → IfSome told (λ t. BeginsFile t.contents name text)
 opened_front None name left text o h = tt
 opened_front (Some t) name left text o h = record { whole = o.0; there = o.1; front = subst (λ l. IfSome l (λ whole. text ≡ take read_limit whole)) o.2 h }
 
--- a source that was opened is of its file
-pub opened_of : (told : Option Told) (name : List ℕ) (had has : Option (List ℕ)) (faults : ℕ) → Opens told name had → (taken : List ℕ) × (had ≡ given taken has) → IfSome told (λ t. IsOf t.contents name (has, faults))
+-- a source that was opened, and of which few bytes were taken, is of its query's file
+pub opened_of : (told : Option Told) (name : List ℕ) (had has : Option (List ℕ)) (faults : ℕ) → Opens told name had → TakesFew read_limit had has → IfSome told (λ t. IsOfQueryFile t.contents name (has, faults))
 opened_of None name had has faults o k = tt
-opened_of (Some t) name had None faults o k = let clash : Some o.0 ≡ None = sym o.2 ∙ k.1 in cc
-opened_of (Some t) name had (Some rest) faults o k = record { taken = k.0; rest = rest; there = o.1 ∙ sym o.2 ∙ k.1; left = refl }
+opened_of (Some t) name had None faults o k = let clash : Some o.0 ≡ None = sym o.2 ∙ k.2 in cc
+opened_of (Some t) name had (Some rest) faults o k = record { file = record { taken = k.0; rest = rest; there = o.1 ∙ sym o.2 ∙ k.2; left = refl }; few = k.1 }
 
 -- a file that was opened, and whose source was given back
-pub used_by : (file : InputFile) (name : List ℕ) (o : Outcome) (old mid new : Option Told) (left : Option (List ℕ)) (faults : ℕ) → (o ≡ ReadFault file → 0 < faults) → (IsClean o → faults ≡ 0) → IfSome old (λ t. IsOf t.contents name (left, faults)) → IsOpened o → mid ≡ asking old name → new ≡ closing mid left faults → Uses file name o old new
+pub used_by : (file : InputFile) (name : List ℕ) (o : Outcome) (old mid new : Option Told) (left : Option (List ℕ)) (faults : ℕ) → (o ≡ ReadFault file → 0 < faults) → (IsClean o → faults ≡ 0) → IfSome old (λ t. IsOfQueryFile t.contents name (left, faults)) → IsOpened o → mid ≡ asking old name → new ≡ closing mid left faults → Uses file name o old new
 used_by file name o old mid new left faults read clean is_of opened asked closed = used left faults read clean is_of opened (closed ∙ ap (λ t. closing t left faults) asked)
 
 -- what was read of a source, or why there is nothing
@@ -66,7 +66,7 @@ pub text_front : {X : Type 0} (bytes : X → List ℕ) (r : Result X Outcome) (t
 text_front bytes (Ok x) told name left o h = opened_front told name left (bytes x) o h
 text_front bytes (Err e) told name left o h = tt
 
-pub text_used : {X : Type 0} (name : List ℕ) (r : Result X Outcome) (old mid new : Option Told) (left : Option (List ℕ)) (faults : ℕ) → IfErr r IsOfText → IfErr r (λ o. o ≡ ReadFault Query → 0 < faults) → OnOk r (faults ≡ 0) → IfSome old (λ t. IsOf t.contents name (left, faults))
+pub text_used : {X : Type 0} (name : List ℕ) (r : Result X Outcome) (old mid new : Option Told) (left : Option (List ℕ)) (faults : ℕ) → IfErr r IsOfText → IfErr r (λ o. o ≡ ReadFault Query → 0 < faults) → OnOk r (faults ≡ 0) → IfSome old (λ t. IsOfQueryFile t.contents name (left, faults))
     → mid ≡ asking old name → new ≡ closing mid left faults → Uses Query name (outcome_of r) old new
 text_used name (Ok x) old mid new left faults h k z i asked closed = used_by Query name Done old mid new left faults (λ e. cc) (λ c. z) i tt asked closed
 text_used name (Err o) old mid new left faults h k z i asked closed = used_by Query name o old mid new left faults k (λ c. absurd (text_not_clean o h c)) i (read_opened o h) asked closed

@@ -7,7 +7,7 @@ use Rattle.saber_notes.specs.declared.outcome.Outcome.{Outcome}
 use Rattle.saber_notes.specs.declared.outcome.Outcome.TheVariants.{Done, Usage, FileCount, QueryFault, SecondQueryFault, Unchainable, LineRefused, ChainLineRefused, OpenFault, ReadFault, TooWide, WriteFault, NoMemory}
 use Rattle.saber_cli.specs.Due.{AsksRows, row_names}
 use Rattle.saber_cli.specs.Outcomes.{IsOfShow}
-use Rattle.saber_cli.specs.Uses.{Uses, unasked, unopened, used, IsOf, IsOpened, IsOfQuery}
+use Rattle.saber_cli.specs.Uses.{Uses, unasked, unopened, used, IsOfQueryFile, IsOpened, IsOfQuery}
 use Rattle.saber_cli.specs.Leaves.{AreOf, Leaves, LeavesTold, Matches}
 use Rattle.saber_cli.specs.RowFiles.{UsesRows, using}
 
@@ -25,11 +25,11 @@ told_by names G o (Some t) new h = h t refl
 abbrev back : Told → List ℕ → Option (List ℕ) → ℕ → Told
 back t name left faults = record { contents = t.contents; asked = t.asked ++ name ∷ []; closed = t.closed ++ (left, faults) ∷ [] }
 
--- a source is of its file, where files tell
+-- a source is of its query's file, where files tell
 abbrev IsOfTold : Option Told → List ℕ → Option (List ℕ) → ℕ → Type 0
-IsOfTold old name left faults = IfSome old (λ t. IsOf t.contents name (left, faults))
+IsOfTold old name left faults = IfSome old (λ t. IsOfQueryFile t.contents name (left, faults))
 
-is_of : (old : Option Told) (t : Told) (name : List ℕ) (left : Option (List ℕ)) (faults : ℕ) → old ≡ Some t → IsOfTold old name left faults → IsOf t.contents name (left, faults)
+is_of : (old : Option Told) (t : Told) (name : List ℕ) (left : Option (List ℕ)) (faults : ℕ) → old ≡ Some t → IsOfTold old name left faults → IsOfQueryFile t.contents name (left, faults)
 is_of old t name left faults e h = subst (λ o. IsOfTold o name left faults) e h
 
 -- ---- no file
@@ -39,7 +39,7 @@ none_left names G o old m = told_by names G o old old (λ t e. (t, e, record { c
 
 -- ---- the query's file alone
 
-one_back : (name : List ℕ) (rest : List (List ℕ)) (G : Type 0) (o : Outcome) (t : Told) (left : Option (List ℕ)) (faults : ℕ) → IsOf t.contents name (left, faults) → Matches (length (name ∷ rest)) o 1 ((left, faults) ∷ []) → Leaves (name ∷ rest) G o t (back t name left faults)
+one_back : (name : List ℕ) (rest : List (List ℕ)) (G : Type 0) (o : Outcome) (t : Told) (left : Option (List ℕ)) (faults : ℕ) → IsOfQueryFile t.contents name (left, faults) → Matches (length (name ∷ rest)) o 1 ((left, faults) ∷ []) → Leaves (name ∷ rest) G o t (back t name left faults)
 one_back name rest G o t left faults h m = record { contents = refl; count = 1; few = omega arith; rows = λ k. absurd (omega (arith, k)); asked = refl; given_back = (left, faults) ∷ []; closed = refl; are_of = (h, tt); matches = m }
 
 one_open : (name : List ℕ) (rest : List (List ℕ)) (G : Type 0) (t : Told) → Leaves (name ∷ rest) G (OpenFault Query) t (record { contents = t.contents; asked = t.asked ++ name ∷ []; closed = t.closed })
@@ -135,7 +135,7 @@ behind_query query names G o old mid new left faults z i g s u = told_by (query 
     asked = append_assoc t.asked (query ∷ []) (take u.count names);
     given_back = (left, faults) ∷ u.given_back;
     closed = append_assoc t.closed ((left, faults) ∷ []) u.given_back;
-    are_of = (is_of old t query left faults k i, subst (λ x. IfSome x (λ v. AreOf v.contents u.given_back names)) m u.are_of);
+    are_of = (is_of old t query left faults k i, subst (λ x. IfSome x (λ v. AreOf 0 v.contents u.given_back names)) m u.are_of);
     matches = u.matches (left, faults) z;
   },
 ))

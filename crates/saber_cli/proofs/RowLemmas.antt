@@ -97,7 +97,7 @@ read_of : (contents : Contents) (name : List ℕ) (had has : Option (List ℕ)) 
 read_of contents name had None faults taken o e = let clash : Some o.0 ≡ None = sym o.2 ∙ e in cc
 read_of contents name had (Some rest) faults taken o e = record { taken = taken; rest = rest; there = o.1 ∙ sym o.2 ∙ e; left = refl }
 
-all_of : (contents : Contents) (names : List (List ℕ)) (hads : List (Option (List ℕ))) (taken : List (List ℕ)) (back : List Closed) → OpensAll contents names hads → GaveAll hads taken (map (λ s. s.0) back) → AreOf contents back names
+all_of : (contents : Contents) (names : List (List ℕ)) (hads : List (Option (List ℕ))) (taken : List (List ℕ)) (back : List Closed) → OpensAll contents names hads → GaveAll hads taken (map (λ s. s.0) back) → AreOf 0 contents back names
 all_of contents names hads taken [] o g = tt
 all_of contents [] [] [] (s ∷ ss) o g = absurd g
 all_of contents [] [] (t ∷ ts) (s ∷ ss) o g = absurd g
@@ -196,7 +196,7 @@ both_used None b c names back e f = f ∙ ap (λ x. using x [] back) e
 both_used (Some t) b c names back e f = f ∙ ap (λ x. using x [] back) e ∙ (λ i. Some (record { contents = t.contents; asked = append-nil (t.asked ++ names) i; closed = append-nil t.closed i ++ back }))
 
 pub of_told : (told : Option Told) (names : List (List ℕ)) (hads : List (Option (List ℕ))) (taken : List (List ℕ)) (back : List Closed) → IfSome told (λ t. OpensAll t.contents names hads) → GaveAll hads taken (map (λ s. s.0) back)
-    → IfSome told (λ t. AreOf t.contents back names)
+    → IfSome told (λ t. AreOf 0 t.contents back names)
 of_told None names hads taken back o g = tt
 of_told (Some t) names hads taken back o g = all_of t.contents names hads taken back o g
 

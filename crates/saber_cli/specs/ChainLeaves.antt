@@ -58,7 +58,7 @@ pub record LeavesBoth (a : AskedChain) (o : Outcome) (old new : Told) : Type 0 w
   pub asked : new.asked ≡ old.asked ++ take count (names_of (chain a))
   pub given_back : List Closed
   pub closed : new.closed ≡ old.closed ++ given_back
-  pub are_of : AreOf old.contents given_back (names_of (chain a))
+  pub are_of : AreOf 2 old.contents given_back (names_of (chain a))
   pub matches : MatchesChain (length (names_of (chain a))) o count given_back
 
 -- where files tell, they still do, and the files of the chain were used so

@@ -15,7 +15,7 @@ use Rattle.saber_cli.specs.Outcomes.{IsUnopened}
 use Rattle.saber_cli.specs.Due.{Contents, IsFaulty, contents_of}
 use Rattle.saber_cli.specs.Leaves.{AreOf}
 use Rattle.saber_cli.specs.RowFiles.{using}
-use Rattle.saber_cli.specs.Uses.{IsOf}
+use Rattle.saber_cli.specs.Uses.{IsOfQueryFile}
 use Rattle.saber_cli.specs.Taken.{TakesRows}
 use Rattle.saber_cli.specs.Chained.{MayBeFirst, MayNotBeFirst, IsChainable, RunsChain}
 use Rattle.saber_cli.specs.ChainLeaves.{MatchesChain}
@@ -53,8 +53,8 @@ pub record BothRead (first second : List ℕ) (old new : Option Told) : Type 0 w
   pub one_good : one.1 ≡ 0
   pub two_good : two.1 ≡ 0
   pub told : new ≡ using old (first ∷ second ∷ []) (one ∷ two ∷ [])
-  pub one_of : IfSome old (λ t. IsOf t.contents first one)
-  pub two_of : IfSome old (λ t. IsOf t.contents second two)
+  pub one_of : IfSome old (λ t. IsOfQueryFile t.contents first one)
+  pub two_of : IfSome old (λ t. IsOfQueryFile t.contents second two)
 
 -- ---- the row files
 
@@ -65,7 +65,7 @@ pub record UsesChainRows (names : List (List ℕ)) (o : Outcome) (old new : Opti
   pub few : count ≤ length names
   pub given_back : List Closed
   pub told : new ≡ using old (take count names) given_back
-  pub are_of : IfSome old (λ t. AreOf t.contents given_back names)
+  pub are_of : IfSome old (λ t. AreOf 0 t.contents given_back names)
   pub matches : (one two : Closed) → one.1 ≡ 0 → two.1 ≡ 0 → MatchesChain (suc (suc (length names))) o (suc (suc count)) (one ∷ two ∷ given_back)
 
 -- Over row files with these bytes; or one of them was not opened.

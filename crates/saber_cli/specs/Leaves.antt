@@ -1,5 +1,5 @@
 -- What a call leaves of the files: which it asked for, and which it gave back.
-use Rattle.std.specs.Prelude.{◌≡◌, ◌<◌, ◌≤◌, ℕ, ◌+◌, List, [], ◌∷◌, ◌++◌, length, take, Option, Some, IfSome, slice_get}
+use Rattle.std.specs.Prelude.{◌≡◌, ◌<◌, ◌≤◌, ℕ, zero, suc, ◌+◌, List, [], ◌∷◌, ◌++◌, length, take, Option, Some, IfSome, slice_get}
 use Rattle.saber_io.specs.Outside.{Told, Closed}
 use Rattle.saber_words.specs.Commands.{Asked}
 use Rattle.saber_notes.specs.declared.outcome.InputFile.{InputFile}
@@ -7,7 +7,7 @@ use Rattle.saber_notes.specs.declared.outcome.InputFile.TheVariants.{Query, Left
 use Rattle.saber_notes.specs.declared.outcome.Outcome.{Outcome}
 use Rattle.saber_notes.specs.declared.outcome.Outcome.TheVariants.{Done, Usage, FileCount, QueryFault, SecondQueryFault, Unchainable, LineRefused, ChainLineRefused, OpenFault, ReadFault, TooWide, WriteFault, NoMemory}
 use Rattle.saber_cli.specs.Due.{Contents, names_of, AsksRows}
-use Rattle.saber_cli.specs.Uses.{IsOf}
+use Rattle.saber_cli.specs.Uses.{IsOf, IsOfQueryFile}
 
 -- The place of a file among those of its command, in the order in which they are opened; no command but a chain has a second query.
 abbrev pub place_of : InputFile → ℕ
@@ -55,11 +55,12 @@ Matches all (ReadFault file) asked given_back = (asked ≡ all) × (length given
 Matches all WriteFault asked given_back = (asked ≡ all) × (length given_back ≡ asked)
 Matches all NoMemory asked given_back = length given_back ≡ asked
 
--- the sources that were given back are those of the files with these names, one after another
-abbrev pub AreOf : Contents → List Closed → List (List ℕ) → Type 0
-AreOf contents [] names = Unit {0}
-AreOf contents (source ∷ more) [] = ⊥
-AreOf contents (source ∷ more) (name ∷ names) = IsOf contents name source × AreOf contents more names
+-- The sources that were given back are those of the files with these names, one after another, of which so many first ones are queries'.
+abbrev pub AreOf : ℕ → Contents → List Closed → List (List ℕ) → Type 0
+AreOf queries contents [] names = Unit {0}
+AreOf queries contents (source ∷ more) [] = ⊥
+AreOf zero contents (source ∷ more) (name ∷ names) = IsOf contents name source × AreOf zero contents more names
+AreOf (suc queries) contents (source ∷ more) (name ∷ names) = IsOfQueryFile contents name source × AreOf queries contents more names
 
 -- The call asked for the first of these names, in this order, and gave the opened ones back in the order of their opening;
 -- for more than the first only where that is due.
@@ -71,7 +72,7 @@ pub record Leaves (names : List (List ℕ)) (RowsDue : Type 0) (o : Outcome) (ol
   pub asked : new.asked ≡ old.asked ++ take count names
   pub given_back : List Closed
   pub closed : new.closed ≡ old.closed ++ given_back
-  pub are_of : AreOf old.contents given_back names
+  pub are_of : AreOf 1 old.contents given_back names
   pub matches : Matches (length names) o count given_back
 
 -- where files tell, they still do, and the files of the command were used so

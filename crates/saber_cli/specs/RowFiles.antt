@@ -41,5 +41,5 @@ pub record UsesRows (names : List (List ℕ)) (o : Outcome) (old new : Option To
   pub few : count ≤ length names
   pub given_back : List Closed
   pub told : new ≡ using old (take count names) given_back
-  pub are_of : IfSome old (λ t. AreOf t.contents given_back names)
+  pub are_of : IfSome old (λ t. AreOf 0 t.contents given_back names)
   pub matches : (query : Closed) → query.1 ≡ 0 → Matches (suc (length names)) o (suc count) (query ∷ given_back)

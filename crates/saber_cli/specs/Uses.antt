@@ -1,11 +1,12 @@
--- What is done with one file: it is opened, read and given back.
-use Rattle.std.specs.Prelude.{◌≡◌, ◌<◌, ◌≤◌, ℕ, List, ◌++◌, Option, Some, IfSome, Result, Ok, Err}
+-- What is done with a query's file: it is opened, read and given back.
+use Rattle.std.specs.Prelude.{◌≡◌, ◌<◌, ◌≤◌, ℕ, List, ◌++◌, length, Option, Some, IfSome, Result, Ok, Err}
 use Rattle.saber_io.specs.Outside.{Told, Closed, asking, closing, counted, content_in}
 use Rattle.saber_notes.specs.declared.outcome.InputFile.{InputFile}
 use Rattle.saber_notes.specs.declared.outcome.InputFile.TheVariants.{Query}
 use Rattle.saber_notes.specs.declared.outcome.Outcome.{Outcome}
 use Rattle.saber_notes.specs.declared.outcome.Outcome.TheVariants.{Done, OpenFault, ReadFault, NoMemory}
 use Rattle.saber_cli.specs.Outcomes.{IsClean}
+use Rattle.saber_cli.specs.Texts.{read_limit}
 
 -- a file was opened, whatever came after it
 abbrev pub IsOpened : Outcome → Type 0
@@ -19,13 +20,18 @@ pub record IsOf (contents : List (List ℕ × List ℕ)) (name : List ℕ) (sour
   pub there : content_in contents name ≡ Some (taken ++ rest)
   pub left : source.0 ≡ Some rest
 
--- The file was not asked for, for want of memory; or it was asked for and not opened; or it was opened, and given back
+-- the same of a query's file, of which no more is taken than tells that the text is too long
+pub record IsOfQueryFile (contents : List (List ℕ × List ℕ)) (name : List ℕ) (source : Closed) : Type 0 where
+  pub file : IsOf contents name source
+  pub few : length file.taken ≤ read_limit
+
+-- The query's file was not asked for, for want of memory; or it was asked for and not opened; or it was opened, and given back
 -- with an end of its contents: with faults where it could not be read, and with none where nothing failed.
 pub data Uses (file : InputFile) (name : List ℕ) (o : Outcome) (old new : Option Told) : Type 0 where
   unasked : o ≡ NoMemory → new ≡ old → Uses file name o old new
   unopened : o ≡ OpenFault file → new ≡ asking old name → Uses file name o old new
   used : (left : Option (List ℕ)) (faults : ℕ) → (o ≡ ReadFault file → 0 < faults) → (IsClean o → faults ≡ 0) →
-      IfSome old (λ t. IsOf t.contents name (left, faults)) → IsOpened o → new ≡ closing (asking old name) left faults → Uses file name o old new
+      IfSome old (λ t. IsOfQueryFile t.contents name (left, faults)) → IsOpened o → new ≡ closing (asking old name) left faults → Uses file name o old new
 
 -- no fault is lost: a count that rose afterwards rose before too
 abbrev pub KeepsFaults : ℕ → ℕ → Type 0

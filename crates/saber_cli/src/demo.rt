@@ -1,5 +1,5 @@
 // The command `demo`: a run over generated rows, and the summary of its answer.
-ghost use Rattle.std.specs.Prelude.{◌≡◌, ◌≢◌, ◌≤◌, ◌^◌, ◌↔◌, false, IfOk, IfErr, IsTrue};
+ghost use Rattle.std.specs.Prelude.{◌≡◌, ◌≢◌, ◌≤◌, ◌^◌, ◌↔◌, false, IsTrue};
 ghost use Rattle.saber_io.specs.Outside.{Rose};
 ghost use Rattle.saber_plan.specs.Sizes.{SizesFit};
 ghost use Rattle.saber_words.specs.declared.commands.Command.{Command};
@@ -23,11 +23,12 @@ use std::alloc::Global;
 use std::sync::Wait;
 use std::thread::Threads;
 
-// The query's answer, and how many tasks it took.
+// The query's answer, as far as the run came, and how many tasks are assembled.
 #[derive(Drop)]
 struct Answer {
     text: TextSink,
     tasks: u64,
+    whole: bool,
 }
 
 // The sizes that a command asks for. There are fewer rows than a file may have lines.
@@ -65,27 +66,31 @@ fn is_whole(end: RunEnd) -> bool
     }
 }
 
-// Runs the query over the generated rows. Where memory lacks it tells how many tasks are assembled.
+// Runs the query over the generated rows.
 fn run_generated<G: Gate + Sync, R: Threads + Wait + Sync>(
     rt: &R,
     alloc: Global,
     command: &Demo,
     gate: &G,
-) -> Result<Answer, u64>
+) -> Answer
     requires { IsSized (asked (Command.Demo command.now)) }
-    ensures answer { IfOk result (λ answer. IsAnswer (asked_demo command.now) answer.text answer.tasks) }
-    ensures few { IfErr result (λ tasks. tasks ≤ tasks_of_run (asked_demo command.now)) }
+    ensures answer { IsTrue result.whole → IsAnswer (asked_demo command.now) result.text result.tasks }
+    ensures few { result.tasks ≤ tasks_of_run (asked_demo command.now) }
 {
     demo_is_checked();
     generated_is_read();
     none_is_wide();
     rows_have_tasks();
+    let text = TextSink::new(alloc);
     let Ok(plan) = demo_plan(alloc) else {
-        return Err(0);
+        return Answer {
+            text,
+            tasks: 0,
+            whole: false,
+        };
     };
     let rows = Generated::new(u64::from(command.seed), u64::from(command.rows));
     let mut inputs = Inputs::One(rows);
-    let text = TextSink::new(alloc);
     let sizes = demo_sizes(command);
     let Engine {
         end,
@@ -93,10 +98,44 @@ fn run_generated<G: Gate + Sync, R: Threads + Wait + Sync>(
         tasks,
         ..
     } = engine(rt, alloc, &plan, &mut inputs, text, &sizes, gate);
-    if is_whole(end) {
-        Ok(Answer { text: sink, tasks })
-    } else {
-        Err(tasks)
+    Answer {
+        text: sink,
+        tasks,
+        whole: is_whole(end),
+    }
+}
+
+// Ends for want of memory behind a run that assembled so many tasks.
+fn lacking<K>(sink: K, tasks: u64) -> Ran<K>
+    ensures { result ≡ record { outcome = Outcome.NoMemory; sink = sink; tasks = tasks } }
+{
+    Ran {
+        outcome: Outcome::NoMemory,
+        sink,
+        tasks,
+    }
+}
+
+// Writes the summary of an answer that is whole. The tasks that it tells are those of the run, also where memory lacks.
+fn tell<K: Sink>(alloc: Global, command: &Demo, answer: Answer, sink: K) -> Ran<K>
+    requires answer { IsTrue answer.whole → IsAnswer (asked_demo command.now) answer.text answer.tasks }
+    requires few { answer.tasks ≤ tasks_of_run (asked_demo command.now) }
+    ensures tasks { result.tasks ≡ answer.tasks }
+    ensures told { TellsRun (asked_demo command.now) result.outcome result.tasks (K.written sink) (K.written result.sink) }
+    ensures write { result.outcome ≡ Outcome.WriteFault → Rose (K.faults sink) (K.faults result.sink) }
+    ensures write_good { result.outcome ≢ Outcome.WriteFault → K.faults result.sink ≡ K.faults sink }
+{
+    let Answer {
+        text: answered,
+        tasks,
+        whole,
+    } = answer;
+    if !whole {
+        return lacking(sink, tasks);
+    }
+    match summary(alloc, u64::from(command.rows), answered.text()) {
+        Ok(out) => put(&out, sink, tasks),
+        Err(_) => lacking(sink, tasks),
     }
 }
 
@@ -113,22 +152,6 @@ pub(crate) fn demo_command<K: Sink, G: Gate + Sync, R: Threads + Wait + Sync>(
     ensures write { result.outcome ≡ Outcome.WriteFault → Rose (K.faults sink) (K.faults result.sink) }
     ensures write_good { result.outcome ≢ Outcome.WriteFault → K.faults result.sink ≡ K.faults sink }
 {
-    let answer = match run_generated(rt, alloc, command, gate) {
-        Ok(answer) => answer,
-        Err(tasks) => {
-            return Ran {
-                outcome: Outcome::NoMemory,
-                sink,
-                tasks,
-            };
-        }
-    };
-    match summary(alloc, u64::from(command.rows), answer.text.text()) {
-        Ok(out) => put(&out, sink, answer.tasks),
-        Err(_) => Ran {
-            outcome: Outcome::NoMemory,
-            sink,
-            tasks: answer.tasks,
-        },
-    }
+    let answer = run_generated(rt, alloc, command, gate);
+    tell(alloc, command, answer, sink)
 }

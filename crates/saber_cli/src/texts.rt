@@ -1,9 +1,9 @@
 // The text of a query file, from its source.
-ghost use Rattle.std.specs.Prelude.{◌≡◌, ◌≤◌, ◌<◌, ◌+◌, ℕ, List, [], IfOk, IfErr, IfSome, OnOk, Ok, take, length};
+ghost use Rattle.std.specs.Prelude.{◌≡◌, ◌≤◌, ◌<◌, ◌+◌, ◌-◌, [], IfOk, IfErr, IfSome, OnOk, Ok, take, length};
 ghost use Rattle.saber_io.specs.Outside.{Rose, given};
 ghost use Rattle.saber_notes.specs.declared.outcome.InputFile.{InputFile};
 ghost use Rattle.saber_notes.specs.declared.outcome.Outcome.{Outcome};
-ghost use Rattle.saber_cli.specs.Texts.{read_limit};
+ghost use Rattle.saber_cli.specs.Texts.{read_limit, TakesFew};
 ghost use Rattle.saber_cli.specs.Uses.{IsOfText};
 
 use saber_io::Source;
@@ -25,7 +25,7 @@ fn read_piece<S: Source>(text: &mut Vec<u8>, source: &mut S) -> Result<usize, Ou
     ensures kinds { IfErr result IsOfText }
     ensures cause { IfErr result (λ o. o ≡ Outcome.ReadFault InputFile.Query → Rose (S.faults source.old) (S.faults source.new)) }
     ensures good { OnOk result (S.faults source.new ≡ S.faults source.old) }
-    ensures takes { (taken : List ℕ) × (S.left source.old ≡ given taken (S.left source.new)) }
+    ensures takes { TakesFew (65537 - length text.old.items) (S.left source.old) (S.left source.new) }
     ensures count { S.faults source.old ≤ S.faults source.new }
 {
     let mut piece = [0u8; PIECE];
@@ -45,7 +45,9 @@ pub(crate) fn read_text<S: Source>(alloc: Global, source: &mut S) -> Result<Vec<
     ensures kinds { IfErr result IsOfText }
     ensures cause { IfErr result (λ o. o ≡ Outcome.ReadFault InputFile.Query → Rose (S.faults source.old) (S.faults source.new)) }
     ensures good { OnOk result (S.faults source.new ≡ S.faults source.old) }
-    ensures takes { (taken : List ℕ) × (S.left source.old ≡ given taken (S.left source.new)) }
+
+    // Nothing is asked for behind what tells that the text is too long.
+    ensures takes { TakesFew read_limit (S.left source.old) (S.left source.new) }
     ensures count { S.faults source.old ≤ S.faults source.new }
 {
     let mut text = Vec::new(alloc);
@@ -55,5 +57,6 @@ pub(crate) fn read_text<S: Source>(alloc: Global, source: &mut S) -> Result<Vec<
             return Ok(text);
         }
     }
+    // One byte more than a query may have tells all that the whole file would.
     Ok(text)
 }

@@ -85,7 +85,8 @@ where
     ensures sink { result.outcome ≡ Outcome.WriteFault → Rose (K.faults sink) (K.faults result.sink) }
     ensures sink_good { result.outcome ≢ Outcome.WriteFault → K.faults result.sink ≡ K.faults sink }
 
-    // Which files were asked for and given back: the row files only behind a query that has no fault and as many streams.
+    // Which files were asked for and given back: the row files only behind a query that has no fault and as many streams. Of a query's file
+    // no more is taken than tells that its text is too long.
     ensures leaves { IfPlain (map (λ word. word.now) words.now) (λ c. LeavesTold c result.outcome (F.told files.old) (F.told files.new)) }
 
     // Of a chain too: the second query's only behind a first one that has no fault, the row files only behind two that chain.
