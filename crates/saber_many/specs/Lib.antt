@@ -1,0 +1,5 @@
+pub mod Sharing
+pub mod SharingLaws
+pub mod Queries
+pub mod Labors
+pub mod Laws
