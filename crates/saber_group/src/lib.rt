@@ -21,8 +21,9 @@
 //!   that is answered one, in the store as in a task that answers windows itself, to which each row
 //!   before its own costs one more at most (`TaskSteps`, `PieceSteps`). Beside what it answers a
 //!   task gives at most half of its runs.
-//! - Not claimed: that a task answers the windows that it could. Under ISTREAM and DSTREAM it
-//!   answers none: the store prints them all.
+//! - Not claimed: that a task answers the windows that it could (under ISTREAM and DSTREAM it
+//!   answers none: the store prints them all), and that a call merges nothing beside the steps that
+//!   it is given.
 //! - Limits: plans without PARTITION BY; `2^40` rows.
 #![tactic(auto)]
 
