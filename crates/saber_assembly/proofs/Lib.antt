@@ -1,3 +1,4 @@
 mod Beginning
 mod Prefixes
 mod Stepping
+mod Joining

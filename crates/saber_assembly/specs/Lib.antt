@@ -1,3 +1,4 @@
 pub mod Stages
 pub mod Works
 pub mod WorkLaws
+pub mod Gives

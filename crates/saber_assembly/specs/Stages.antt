@@ -1,16 +1,17 @@
 -- The result stage as contracts see it, and where it stands after some tasks.
-use Rattle.std.specs.Prelude.{◌≡◌, ◌≤◌, ℕ, ◌+◌, List, ◌++◌, Option, IfSome}
+use Rattle.std.specs.Prelude.{◌≡◌, ◌≤◌, ◌+◌, ℕ, List, Option, IfSome}
 use Rattle.saber_io.specs.Outside.{Rose, appended, AppendsPrefix}
 use Rattle.saber_plan.specs.Inputs.{Input, arrived}
 use Rattle.saber_plan.specs.Trees.{Tree}
 use Rattle.saber_plan.specs.Answers.{text, frame}
-use Rattle.saber_plan.specs.Given.{RowsFit}
+use Rattle.saber_plan.specs.GivenRows.{RowsFit}
 use Rattle.saber_plan.specs.Windows.{Fits, no_rows}
 use Rattle.saber_plan.specs.Tasks.{Kept, cut, upto, kept_behind, added}
 use Rattle.saber_fragment.specs.Stores.{CanTakeIn, OfArrivals, TakesIn}
 use Rattle.saber_assembly.specs.declared.stage.Stage.{Stage}
 use Rattle.saber_assembly.specs.declared.stage.State.{State}
 use Rattle.saber_assembly.specs.declared.stage.State.TheVariants.{Running, SinkFailed, NoMemory}
+use Rattle.saber_plan.specs.Runs.{IsCut}
 
 -- what the sink has written, where it tells, and its count of faults; what the store keeps; how many tasks are behind; and whether it goes on
 pub record StageView : Type 0 where
@@ -22,7 +23,7 @@ pub record StageView : Type 0 where
 
 -- a stage, seen so, by what its operator holds in a store, and by what its sink has written and its faults
 abbrev pub seen : {S K : Type 0} → (S → Kept) → (K → Option (List ℕ)) → (K → ℕ) → Stage S K → StageView
-seen held written faults s = record { written = written s.sink; faults = faults s.sink; kept = held s.store; k = s.k; state = s.state }
+seen contents written faults s = record { written = written s.sink; faults = faults s.sink; kept = contents s.store; k = s.k; state = s.state }
 
 -- an input that the plan can be given, cut into tasks of n rows
 pub record Tasks (q : Tree) (n : ℕ) (r : Input) : Type 0 where
@@ -34,13 +35,6 @@ pub record Tasks (q : Tree) (n : ℕ) (r : Input) : Type 0 where
 pub record Start : Type 0 where
   pub written : Option (List ℕ)
   pub faults : ℕ
-
--- the text of the first k tasks, and then a prefix of what the next task adds
-pub record IsCut (q : Tree) (n : ℕ) (r : Input) (k : ℕ) (out : List ℕ) : Type 0 where
-  pub more : List ℕ
-  pub rest : List ℕ
-  pub out_is : out ≡ text q (upto n r k) ++ more
-  pub next_is : text q (upto n r (k + 1)) ≡ text q (upto n r k) ++ (more ++ rest)
 
 -- that much is written, where the sink tells
 pub record IsCutOff (q : Tree) (n : ℕ) (r : Input) (k : ℕ) (start written : Option (List ℕ)) : Type 0 where
@@ -66,15 +60,15 @@ IsPieceAt n r k of = of r (cut n r k) (cut n r (k + 1))
 
 -- ---- a step of the stage, from s to t, by what its operator tells of stores and pieces
 
-module _ {O S P : Type 0} (plan : O → Tree) (held : S → Kept) (taken : O → S → Input → Type 0) (is_of : O → P → Input → ℕ → ℕ → Type 0) (op : O) where
+module _ {O S P : Type 0} (plan : O → Tree) (contents : S → Kept) (taken : O → S → Input → Type 0) (is_of : O → P → Input → ℕ → ℕ → Type 0) (op : O) where
   module _ {K : Type 0} where
     -- the piece follows what the store has taken in
     abbrev pub CanAbsorb : Stage S K → P → Type 0
-    CanAbsorb s p = CanTakeIn (plan op) (held s.store) (taken op s.store) (is_of op p)
+    CanAbsorb s p = CanTakeIn (plan op) (contents s.store) (taken op s.store) (is_of op p)
 
     -- so it is with the piece's arrivals
     abbrev Arrive : Stage S K → P → (Input → ℕ → ℕ → Type 0) → Type 0
-    Arrive s p P = OfArrivals (plan op) (held s.store) (taken op s.store) (is_of op p) P
+    Arrive s p P = OfArrivals (plan op) (contents s.store) (taken op s.store) (is_of op p) P
 
     -- what the piece adds to the text went out
     abbrev pub AddsText : (K → Option (List ℕ)) → Stage S K → Stage S K → P → Type 0
@@ -86,16 +80,16 @@ module _ {O S P : Type 0} (plan : O → Tree) (held : S → Kept) (taken : O →
 
     -- what is to be kept behind the piece is kept
     abbrev pub LeavesKept : Stage S K → Stage S K → P → Type 0
-    LeavesKept s t p = Arrive s p (λ r x y. held t.store ≡ kept_behind (plan op) (arrived r y))
+    LeavesKept s t p = Arrive s p (λ r x y. contents t.store ≡ kept_behind (plan op) (arrived r y))
 
     -- all up to the end of the piece is taken in then
     abbrev pub TakesPiece : Stage S K → Stage S K → P → Type 0
-    TakesPiece s t p = TakesIn (plan op) (held s.store) (taken op s.store) (is_of op p) (taken op t.store)
+    TakesPiece s t p = TakesIn (plan op) (contents s.store) (taken op s.store) (is_of op p) (taken op t.store)
 
-module _ {O S K : Type 0} (plan : O → Tree) (held : S → Kept) (taken : O → S → Input → Type 0) (written : K → Option (List ℕ)) (faults : K → ℕ) (op : O) where
+module _ {O S K : Type 0} (plan : O → Tree) (contents : S → Kept) (taken : O → S → Input → Type 0) (written : K → Option (List ℕ)) (faults : K → ℕ) (op : O) where
   -- what a stage keeps of a run
   abbrev pub KeepsRun : ℕ → Input → Start → Stage S K → Type 0
-  KeepsRun n r start s = Keeps (plan op) n r start (taken op s.store) (seen held written faults s)
+  KeepsRun n r start s = Keeps (plan op) n r start (taken op s.store) (seen contents written faults s)
 
   -- of each run over the sink it keeps what stands before the first task
   abbrev pub BeginsRuns : K → Stage S K → Type 0

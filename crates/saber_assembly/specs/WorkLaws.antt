@@ -19,7 +19,7 @@ use Rattle.saber_fragment.specs.Stores.{Follows, CanTakeIn}
 use Rattle.saber_io.specs.Outside.{appended}
 use Rattle.saber_assembly.specs.declared.stage.Stage.{Stage}
 use Rattle.saber_assembly.specs.declared.stage.State.TheVariants.{Running}
-use Rattle.saber_assembly.specs.declared.work.Told.{Told}
+use Rattle.saber_assembly.specs.declared.work.RunData.{RunData}
 use Rattle.saber_assembly.specs.Stages.{StageView, seen, Start, Tasks, After, Keeps, IsPieceAt}
 use Rattle.saber_assembly.specs.Works.{IsTold, input_of, with_input, with_block, first_tasks, start_of, IsBlockOf, IsPieceOf, IsStageOf, first_needed}
 
@@ -125,7 +125,7 @@ follows q n r start s taken of t up kept run p =
     }
 
 module _ {O : Type 0} (plan : O → Tree) where
-  pub block_keeps : (told : Told O) (d k : ℕ) (b : Block) → IsTold plan told d → IsTold plan (with_block told b) (d + 1)
+  pub block_keeps : (told : RunData O) (d k : ℕ) (b : Block) → IsTold plan told d → IsTold plan (with_block told b) (d + 1)
       → IsBlockOf plan (with_block told b) d b → k ≤ d → first_tasks (with_block told b) k ≡ first_tasks told k
   block_keeps told d k b was now is le =
       let n : ℕ = told.size in let r : Input = input_of told in let r' : Input = input_of (with_block told b) in
@@ -133,25 +133,25 @@ module _ {O : Type 0} (plan : O → Tree) where
       (sym (upto-upto n r' d k le)
       ∙ ap (λ z. upto n z k) (came_before n now.tasks.size r r' b.rows b.ended d was.whole refl refl now.whole is.block.rows is.opens))
 
-  pub tasks_again : (told : Told O) (d j k : ℕ) → IsTold plan told d → k ≤ j → j ≤ d → first_tasks (first_tasks told j) k ≡ first_tasks told k
+  pub tasks_again : (told : RunData O) (d j k : ℕ) → IsTold plan told d → k ≤ j → j ≤ d → first_tasks (first_tasks told j) k ≡ first_tasks told k
   tasks_again told d j k was le within = ap (with_input told) (upto-upto told.size (input_of told) j k le)
 
-  pub tasks_whole : (told : Told O) (d : ℕ) → IsTold plan told d → first_tasks told d ≡ told
+  pub tasks_whole : (told : RunData O) (d : ℕ) → IsTold plan told d → first_tasks told d ≡ told
   tasks_whole told d was = ap (with_input told) was.whole
 
   -- no task needs rows of a later one first
-  pub needed_early : (told : Told O) (d t : ℕ) → IsTold plan told d → t ≤ d → first_needed plan (first_tasks told t) t ≤ t
+  pub needed_early : (told : RunData O) (d t : ℕ) → IsTold plan told d → t ≤ d → first_needed plan (first_tasks told t) t ≤ t
   needed_early told d t was le = free_at_most (plan told.operator) told.size (upto told.size (input_of told) t) t was.tasks.size
 
   -- nor does a task need fewer of the first rows than one before it
-  steps_up : (told : Told O) (d j m : ℕ) → IsTold plan told d → first_needed plan told j ≤ first_needed plan told (m + j)
+  steps_up : (told : RunData O) (d j m : ℕ) → IsTold plan told d → first_needed plan told j ≤ first_needed plan told (m + j)
   steps_up told d j zero was = subst (λ k. first_needed plan told j ≤ first_needed plan told k) (none_on j) (le_refl _)
   steps_up told d j (suc m) was =
       le_trans (steps_up told d j m was)
       (subst (λ k. first_needed plan told (m + j) ≤ first_needed plan told k) (next_is m j)
       (free_rises (plan told.operator) was.tasks.windows told.size (input_of told) (m + j) was.tasks.fits.ordered was.tasks.size))
 
-  pub needed_rises : (told : Told O) (d j k : ℕ) → IsTold plan told d → j ≤ k → k ≤ d
+  pub needed_rises : (told : RunData O) (d j k : ℕ) → IsTold plan told d → j ≤ k → k ≤ d
       → first_needed plan (first_tasks told j) j ≤ first_needed plan (first_tasks told k) k
   needed_rises told d j k was le within =
       let q = plan told.operator in let n = told.size in let r = input_of told in
@@ -161,12 +161,12 @@ module _ {O : Type 0} (plan : O → Tree) where
 
   -- ---- the stage
 
-  module _ {S K : Type 0} (held : S → Kept) (taken : O → S → Input → Type 0) (written : K → Option (List ℕ)) (faults : K → ℕ) where
+  module _ {S K : Type 0} (contents : S → Kept) (taken : O → S → Input → Type 0) (written : K → Option (List ℕ)) (faults : K → ℕ) where
     -- what a stage that runs after k tasks keeps, it keeps by the rows of later tasks too
-    pub keeps_on : (told : Told O) (k : ℕ) (s : Stage S K) → IsStageOf plan (seen held written faults) taken (first_tasks told k) k false s
-        → Keeps (plan told.operator) told.size (input_of told) (start_of told) (taken told.operator s.store) (seen held written faults s)
+    pub keeps_on : (told : RunData O) (k : ℕ) (s : Stage S K) → IsStageOf plan (seen contents written faults) taken (first_tasks told k) k false s
+        → Keeps (plan told.operator) told.size (input_of told) (start_of told) (taken told.operator s.store) (seen contents written faults s)
     keeps_on told k s is =
-        let q = plan told.operator in let n = told.size in let r = input_of told in let v = seen held written faults s in
+        let q = plan told.operator in let n = told.size in let r = input_of told in let v = seen contents written faults s in
         let a : After q n (upto n r k) (start_of told) v Running = subst (After q n (upto n r k) (start_of told) v) (is.runs refl) is.keeps.after in
         let same : upto n (upto n r k) s.k ≡ upto n r s.k = upto-upto n r k s.k (subst (λ c. c ≤ k) (sym is.behind) (le_refl k)) in
         let b : After q n r (start_of told) v Running = (a.0 ∙ ap (λ z. appended told.written (text q z)) same, a.1 ∙ ap (kept_behind q) same, a.2) in
@@ -176,9 +176,9 @@ module _ {O : Type 0} (plan : O → Tree) where
         }
 
     -- its store can take in the next task's piece
-    pub takes_next : {P : Type 0} (is_of : O → P → Input → ℕ → ℕ → Type 0) (told : Told O) (k : ℕ) (s : Stage S K) (p : P)
-        → IsStageOf plan (seen held written faults) taken (first_tasks told k) k false s → IsPieceOf plan is_of told k p
-        → CanTakeIn (plan told.operator) (held s.store) (taken told.operator s.store) (is_of told.operator p)
+    pub takes_next : {P : Type 0} (is_of : O → P → Input → ℕ → ℕ → Type 0) (told : RunData O) (k : ℕ) (s : Stage S K) (p : P)
+        → IsStageOf plan (seen contents written faults) taken (first_tasks told k) k false s → IsPieceOf plan is_of told k p
+        → CanTakeIn (plan told.operator) (contents s.store) (taken told.operator s.store) (is_of told.operator p)
     takes_next is_of told k s p is of =
         let q = plan told.operator in let n = told.size in let r = input_of told in
         let piece : IsPieceAt n r s.k (is_of told.operator p) =
@@ -186,6 +186,6 @@ module _ {O : Type 0} (plan : O → Tree) where
           r,
           cut n r s.k,
           cut n r (s.k + 1),
-          follows q n r (start_of told) (seen held written faults s) (taken told.operator s.store) (is_of told.operator p) of.tasks
+          follows q n r (start_of told) (seen contents written faults s) (taken told.operator s.store) (is_of told.operator p) of.tasks
               (cut_rises n r s.k) (keeps_on told k s is) (is.runs refl) piece,
         )

@@ -3,7 +3,8 @@
 //! blocks, pieces and stages are (`SaberWork`). Dispatch, workers and engine use it.
 //!
 //! - Parts: `stage` (`Stage`: the sink, the store, how many tasks are behind it), `work` (the work
-//!   that threads do for a query, as the trait of `saber_core` wants it).
+//!   that threads do for a query, as the trait of `saber_core` wants it), `gives` (a law, which no
+//!   crate calls).
 //! - Calls: `Stage::new` takes an operator and a sink; `absorb` takes the next task's piece, or the
 //!   mark of want of memory; `pour` has the sink let go of what it holds back; `into_sink` gives it
 //!   back.
@@ -13,13 +14,20 @@
 //!   next task's text is out too; where memory lacked, or the mark came, no more is. What it keeps
 //!   is one record (`Keeps`), which `specs/Works.antt` makes a part of the ring's rule; docs/RUN.md
 //!   ties it to the headline.
+//! - The law (`gives_make_text`, `specs/Gives.antt`) ties the core, which knows no windows, to the
+//!   definitions: for any number of slots and seats and every list of events, the pieces of the
+//!   tasks given, taken in in the order of the gives, make the text of the windows that those
+//!   tasks' rows close. It is of plans whose windows print their answers as they are, or rows
+//!   theirs.
 //! - Not claimed: that a stage goes on: want of memory may stop it at any task.
 //! - Limits: fewer than `2^62` tasks. A task's text goes out in one write, and none if it has no
 //!   byte.
 #![tactic(auto)]
 
+mod gives;
 mod stage;
 mod work;
 
+pub use gives::gives_make_text;
 pub use stage::{Absorbed, Stage, State};
-pub use work::{SaberWork, Told};
+pub use work::{RunData, SaberWork};

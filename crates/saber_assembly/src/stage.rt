@@ -62,11 +62,11 @@ impl<S: Drop, K: Sink> Stage<S, K> {
     /// A stage with no task behind it: of each run it keeps what stands before the first task. Takes no memory.
     pub fn new<O: Operator<Store = S>>(alloc: Global, operator: &O, sink: K) -> Stage<S, K>
         ensures sink { result.sink ≡ sink }
-        ensures kept { O.held result.store ≡ nothing_kept }
+        ensures kept { O.contents result.store ≡ nothing_kept }
         ensures none { result.k ≡ 0 }
         ensures runs { result.state ≡ State.Running }
         ensures taken { O.has_taken operator.now result.store (going_on []) }
-        ensures keeps { BeginsRuns O.plan O.held O.has_taken K.written K.faults operator.now sink result }
+        ensures keeps { BeginsRuns O.plan O.contents O.has_taken K.written K.faults operator.now sink result }
     {
         no_rows_give_nothing();
         no_tasks_no_rows();
@@ -114,15 +114,15 @@ impl<S: Drop, K: Sink> Stage<S, K> {
     ) -> Absorbed
         requires running { self.old.state ≡ State.Running }
         requires few { self.old.k < 2 ^ 62 }
-        requires next { CanAbsorb O.plan O.held O.has_taken O.is_of operator.now self.old piece }
-        ensures written { result ≡ Absorbed.Done → AddsText O.plan O.held O.has_taken O.is_of operator.now K.written self.old self.new piece }
-        ensures left { result ≡ Absorbed.Done → LeavesKept O.plan O.held O.has_taken O.is_of operator.now self.old self.new piece }
+        requires next { CanAbsorb O.plan O.contents O.has_taken O.is_of operator.now self.old piece }
+        ensures written { result ≡ Absorbed.Done → AddsText O.plan O.contents O.has_taken O.is_of operator.now K.written self.old self.new piece }
+        ensures left { result ≡ Absorbed.Done → LeavesKept O.plan O.contents O.has_taken O.is_of operator.now self.old self.new piece }
         ensures rises { result ≡ Absorbed.Done → self.new.k ≡ self.old.k + 1 }
         ensures runs { result ≡ Absorbed.Done → self.new.state ≡ State.Running }
-        ensures taken { result ≡ Absorbed.Done → TakesPiece O.plan O.held O.has_taken O.is_of operator.now self.old self.new piece }
+        ensures taken { result ≡ Absorbed.Done → TakesPiece O.plan O.contents O.has_taken O.is_of operator.now self.old self.new piece }
         ensures stopped { result ≡ Absorbed.Stopped → self.new.state ≢ State.Running }
         ensures stays { result ≡ Absorbed.Stopped → self.new.k ≡ self.old.k }
-        ensures failed { self.new.state ≡ State.SinkFailed → AddsFront O.plan O.held O.has_taken O.is_of operator.now K.written self.old self.new piece }
+        ensures failed { self.new.state ≡ State.SinkFailed → AddsFront O.plan O.contents O.has_taken O.is_of operator.now K.written self.old self.new piece }
         ensures cause { self.new.state ≡ State.SinkFailed → Rose (K.faults self.old.sink) (K.faults self.new.sink) }
         ensures good { self.new.state ≢ State.SinkFailed → K.faults self.new.sink ≡ K.faults self.old.sink }
         ensures memory { self.new.state ≡ State.NoMemory → K.written self.new.sink ≡ K.written self.old.sink }
@@ -162,29 +162,29 @@ impl<S: Drop, K: Sink> Stage<S, K> {
     ) -> Absorbed
         requires running { self.old.state ≡ State.Running }
         requires few { self.old.k < 2 ^ 62 }
-        requires next { IfSome piece (λ p. CanAbsorb O.plan O.held O.has_taken O.is_of operator.now self.old p) }
+        requires next { IfSome piece (λ p. CanAbsorb O.plan O.contents O.has_taken O.is_of operator.now self.old p) }
 
         // The step of the definitions.
-        ensures written { result ≡ Absorbed.Done → IfSome piece (λ p. AddsText O.plan O.held O.has_taken O.is_of operator.now K.written self.old self.new p) }
-        ensures left { result ≡ Absorbed.Done → IfSome piece (λ p. LeavesKept O.plan O.held O.has_taken O.is_of operator.now self.old self.new p) }
+        ensures written { result ≡ Absorbed.Done → IfSome piece (λ p. AddsText O.plan O.contents O.has_taken O.is_of operator.now K.written self.old self.new p) }
+        ensures left { result ≡ Absorbed.Done → IfSome piece (λ p. LeavesKept O.plan O.contents O.has_taken O.is_of operator.now self.old self.new p) }
         ensures rises { result ≡ Absorbed.Done → self.new.k ≡ self.old.k + 1 }
         ensures runs { result ≡ Absorbed.Done → self.new.state ≡ State.Running }
 
         // And the store has taken in all up to the piece's end.
-        ensures taken { result ≡ Absorbed.Done → IfSome piece (λ p. TakesPiece O.plan O.held O.has_taken O.is_of operator.now self.old self.new p) }
+        ensures taken { result ≡ Absorbed.Done → IfSome piece (λ p. TakesPiece O.plan O.contents O.has_taken O.is_of operator.now self.old self.new p) }
 
         // What a stop leaves, and why it comes.
         ensures stopped { result ≡ Absorbed.Stopped → self.new.state ≢ State.Running }
         ensures stays { result ≡ Absorbed.Stopped → self.new.k ≡ self.old.k }
         ensures none { IfNone piece ((result ≡ Absorbed.Stopped) × (self.new.state ≡ State.NoMemory)) }
-        ensures failed { self.new.state ≡ State.SinkFailed → IfSome piece (λ p. AddsFront O.plan O.held O.has_taken O.is_of operator.now K.written self.old self.new p) }
+        ensures failed { self.new.state ≡ State.SinkFailed → IfSome piece (λ p. AddsFront O.plan O.contents O.has_taken O.is_of operator.now K.written self.old self.new p) }
         ensures cause { self.new.state ≡ State.SinkFailed → Rose (K.faults self.old.sink) (K.faults self.new.sink) }
         ensures good { self.new.state ≢ State.SinkFailed → K.faults self.new.sink ≡ K.faults self.old.sink }
         ensures memory { self.new.state ≡ State.NoMemory → K.written self.new.sink ≡ K.written self.old.sink }
         ensures count { K.faults self.old.sink ≤ K.faults self.new.sink }
 
         // So a stage after k tasks, given the piece of task k, is one after k + 1, or stopped at k.
-        ensures keeps { KeepsRuns O.plan O.held O.has_taken K.written K.faults operator.now O.is_of self.old piece self.new }
+        ensures keeps { KeepsRuns O.plan O.contents O.has_taken K.written K.faults operator.now O.is_of self.old piece self.new }
     {
         cuts_rise();
         text_goes_on();
@@ -208,7 +208,7 @@ impl<S: Drop, K: Pour> Stage<S, K> {
         ensures store { self.new.store ≡ self.old.store }
         ensures tasks { self.new.k ≡ self.old.k }
         ensures state { self.new.state ≡ self.old.state }
-        ensures seen { (held : S → Kept) → seen held K.written K.faults self.new ≡ seen held K.written K.faults self.old }
+        ensures seen { (contents : S → Kept) → seen contents K.written K.faults self.new ≡ seen contents K.written K.faults self.old }
     {
         self.sink.pour();
     }

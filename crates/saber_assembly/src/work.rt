@@ -13,7 +13,7 @@ use std::marker::PhantomData;
 use std::sync::Mutex;
 
 /// The fixed data of a run, and the input filled so far. No value of it is made.
-pub struct Told<O> {
+pub struct RunData<O> {
     /// What makes the pieces, and has the plan.
     pub operator: O,
     /// How many rows a task has; the last one may have fewer.
@@ -41,7 +41,7 @@ impl<O: Operator, K: Sink> Work for SaberWork<O, K> {
 
     type Stage = Stage<O::Store, K>;
 
-    type Told = Told<O>;
+    type Data = RunData<O>;
 
     ghost is_told = { IsTold O.plan };
 
@@ -55,7 +55,7 @@ impl<O: Operator, K: Sink> Work for SaberWork<O, K> {
 
     ghost first = { first_needed O.plan };
 
-    ghost is_stage = { IsStageOf O.plan (seen O.held K.written K.faults) O.has_taken };
+    ghost is_stage = { IsStageOf O.plan (seen O.contents K.written K.faults) O.has_taken };
 
     ghost keeps = { λ told d k rows. block_keeps O.plan told d k rows };
 

@@ -3,7 +3,7 @@ use Rattle.std.proofs.Common.{◌≡◌, ◌≢◌, ◌≤◌, ℕ, ◌+◌, ◌
 use Rattle.std.proofs.Math.Path.{transport}
 use Rattle.std.specs.Option.{option_map_or}
 use Rattle.std.specs.Prelude.{Bool, Option, Some, None, IfSome, ◌/◌, false}
-use Rattle.saber_io.specs.Outside.{Rose, appended-none}
+use Rattle.saber_io.specs.Outside.{Rose, appended-none, given}
 use Rattle.saber_io.specs.declared.feeds.EndMark.{EndMark}
 use Rattle.saber_io.specs.declared.feeds.EndMark.TheVariants as marks
 use Rattle.saber_plan.specs.declared.plans.Shape.{Shape}
@@ -25,12 +25,12 @@ use Rattle.saber_laws.specs.Needs.{NoneIsWide}
 use Rattle.saber_laws.specs.Pieces.{NoRowsGiveNothing, NoTasksNoRows}
 use Rattle.saber_dispatch.specs.declared.inputs.Inputs.{Inputs}
 use Rattle.saber_dispatch.specs.declared.inputs.Inputs.TheVariants.{One, Two}
-use Rattle.saber_io.specs.Outside.{given}
-use Rattle.saber_engine.specs.declared.ends.RunEnd.{RunEnd}
-use Rattle.saber_engine.specs.declared.ends.RunEnd.TheVariants.{AllRead, Bad, ReadFault, TooWide, WriteFault, NoMemory}
-use Rattle.saber_engine.specs.Sources.{input_of, each_input, told_by, GaveAll}
+use Rattle.saber_plan.specs.declared.ends.RunEnd.{RunEnd}
+use Rattle.saber_plan.specs.declared.ends.RunEnd.TheVariants.{AllRead, Bad, ReadFault, TooWide, WriteFault, NoMemory}
+use Rattle.saber_plan.specs.Files.{input_of}
+use Rattle.saber_engine.specs.Sources.{each_input, told_by, GaveAll}
 use Rattle.saber_engine.specs.Endings.{MayStop}
-use Rattle.saber_engine.specs.Gives.{Gives}
+use Rattle.saber_plan.specs.Runs.{Gives}
 use Rattle.saber_chain.specs.Texts.{rows_between, text_of_both}
 use Rattle.saber_chain.specs.Marks.{mark_after, IsWhole}
 use Rattle.saber_chain.specs.declared.chained.Chained.{Chained}

@@ -7,7 +7,7 @@ use Rattle.saber_plan.specs.declared.sizes.Sizes.{Sizes}
 use Rattle.saber_plan.specs.Trees.{Tree}
 use Rattle.saber_pipe.specs.Receipts.{Settled}
 use Rattle.saber_pipe.specs.Relays.{Drains}
-use Rattle.saber_engine.specs.declared.ends.RunEnd.{RunEnd}
+use Rattle.saber_plan.specs.declared.ends.RunEnd.{RunEnd}
 use Rattle.saber_engine.specs.FedRuns.{TakesWhole}
 use Rattle.saber_chain.specs.Texts.{between_limits}
 use Rattle.saber_chain.specs.Seconds.{RunsSecond, ReadsBetween}

@@ -7,9 +7,9 @@ use Rattle.saber_plan.specs.Sizes.{limits_of}
 use Rattle.saber_plan.specs.Inputs.{going_on}
 use Rattle.saber_plan.specs.Trees.{Tree}
 use Rattle.saber_dispatch.specs.declared.inputs.Inputs.{Inputs}
-use Rattle.saber_engine.specs.declared.ends.RunEnd.TheVariants.{ReadFault, WriteFault}
-use Rattle.saber_engine.specs.Sources.{input_of}
-use Rattle.saber_engine.specs.Gives.{Gives}
+use Rattle.saber_plan.specs.declared.ends.RunEnd.TheVariants.{ReadFault, WriteFault}
+use Rattle.saber_plan.specs.Files.{input_of}
+use Rattle.saber_plan.specs.Runs.{Gives}
 use Rattle.saber_engine.specs.Endings.{MayStop}
 use Rattle.saber_engine.specs.FedRuns.{TakesWhole}
 use Rattle.saber_chain.specs.declared.chained.Chained.{Chained}

@@ -5,10 +5,11 @@ use Rattle.saber_plan.specs.declared.rows.Side.{Side}
 use Rattle.saber_plan.specs.declared.sizes.Sizes.{Sizes}
 use Rattle.saber_plan.specs.Trees.{Tree}
 use Rattle.saber_dispatch.specs.declared.inputs.Inputs.{Inputs}
-use Rattle.saber_engine.specs.declared.ends.RunEnd.{RunEnd}
-use Rattle.saber_engine.specs.declared.ends.RunEnd.TheVariants.{ReadFault, WriteFault}
+use Rattle.saber_plan.specs.declared.ends.RunEnd.{RunEnd}
+use Rattle.saber_plan.specs.declared.ends.RunEnd.TheVariants.{ReadFault, WriteFault}
 use Rattle.saber_engine.specs.Sources.{each_input, told_by, RoseAt, NoneFell, GaveAll}
-use Rattle.saber_engine.specs.Gives.{GivesOver, IsClean, LeavesWhole}
+use Rattle.saber_plan.specs.Runs.{GivesOver, IsClean}
+use Rattle.saber_engine.specs.Gives.{LeavesWhole}
 use Rattle.saber_chain.specs.declared.settle.FirstEnd.{FirstEnd}
 use Rattle.saber_chain.specs.Marks.{mark_after}
 

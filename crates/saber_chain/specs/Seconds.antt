@@ -7,9 +7,9 @@ use Rattle.saber_plan.specs.declared.rows.Side.{Side}
 use Rattle.saber_plan.specs.declared.sizes.Sizes.{Sizes}
 use Rattle.saber_plan.specs.Trees.{Tree}
 use Rattle.saber_engine.specs.declared.ends.Ran.{Ran}
-use Rattle.saber_engine.specs.declared.ends.RunEnd.{RunEnd}
-use Rattle.saber_engine.specs.declared.ends.RunEnd.TheVariants.{AllRead, ReadFault}
-use Rattle.saber_engine.specs.Gives.{Gives}
+use Rattle.saber_plan.specs.declared.ends.RunEnd.{RunEnd}
+use Rattle.saber_plan.specs.declared.ends.RunEnd.TheVariants.{AllRead, ReadFault}
+use Rattle.saber_plan.specs.Runs.{Gives}
 use Rattle.saber_engine.specs.FedRuns.{GoesOn, TakesWhole}
 use Rattle.saber_chain.specs.Texts.{between_limits, rows_between}
 

@@ -5,7 +5,7 @@ use Rattle.saber_plan.specs.Rows.{Read}
 use Rattle.saber_plan.specs.Inputs.{Input, going_on}
 use Rattle.saber_plan.specs.Trees.{Tree}
 use Rattle.saber_plan.specs.Answers.{text}
-use Rattle.saber_engine.specs.Sources.{input_of}
+use Rattle.saber_plan.specs.Files.{input_of}
 
 -- as many lines as a file may have at most, none of them late
 abbrev pub between_limits : FileLimits

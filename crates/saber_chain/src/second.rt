@@ -6,7 +6,7 @@ ghost use Rattle.saber_pipe.specs.Relays.{taken_by, mark_in};
 ghost use Rattle.saber_plan.specs.Trees.{tree_of};
 ghost use Rattle.saber_plan.specs.Checked.{IsChecked};
 ghost use Rattle.saber_plan.specs.Sizes.{SizesFit};
-ghost use Rattle.saber_engine.specs.declared.ends.RunEnd.{RunEnd};
+ghost use Rattle.saber_plan.specs.declared.ends.RunEnd.{RunEnd};
 ghost use Rattle.saber_engine.specs.Endings.{MayStop};
 ghost use Rattle.saber_chain.specs.Seconds.{second_sizes, RunsSecondTo};
 

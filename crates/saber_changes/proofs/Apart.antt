@@ -7,7 +7,7 @@ use Rattle.std.specs.Ordering.{is_eq, is_lt, ordering_reverse}
 use Rattle.std.specs.declared.cmp.Ordering.{Ordering}
 use Rattle.std.specs.declared.cmp.Ordering.TheVariants.{Less, Equal, Greater}
 use Rattle.saber_plan.specs.Answers.{Answers, key_cmp, same_line, without, uncancelled}
-use Rattle.saber_plan.specs.PartFacts.{total, exact}
+use Rattle.saber_plan.specs.Facts.Parts.{total, exact}
 use Rattle.saber_changes.specs.Rising.{is_below, NoneBelow, Rises, Reaches, begins_with}
 use Rattle.saber_changes.proofs.Cancelling.{same, itself}
 

@@ -6,8 +6,8 @@ use Rattle.std.specs.Cmp.{tied_itself}
 use Rattle.std.specs.Ordering.{is_eq}
 use Rattle.std.specs.List.{list_any}
 use Rattle.saber_plan.specs.Answers.{Answers, line, same_line, without, uncancelled, answer_lines}
-use Rattle.saber_plan.specs.MapFacts.{equal_if}
-use Rattle.saber_plan.specs.PartFacts.{total, exact}
+use Rattle.saber_plan.specs.Facts.Maps.{equal_if}
+use Rattle.saber_plan.specs.Facts.Parts.{total, exact}
 use Rattle.saber_changes.specs.Counts.{times, one_less, by_counts}
 
 -- ---- equal lines

@@ -5,9 +5,9 @@ use Rattle.std.specs.BTreeMap.{is_at, insert_entry}
 use Rattle.std.specs.Map.{lookup, set_value}
 use Rattle.std.specs.FinMap.{get, insert, get-insert, get_tied}
 use Rattle.saber_plan.specs.Answers.{Answers, key_cmp, same_line}
-use Rattle.saber_plan.specs.MapFacts.{equal_if}
-use Rattle.saber_plan.specs.PartFacts.{total, exact}
-use Rattle.saber_plan.specs.TreeFacts.{written, inserted, looked_up}
+use Rattle.saber_plan.specs.Facts.Maps.{equal_if}
+use Rattle.saber_plan.specs.Facts.Parts.{total, exact}
+use Rattle.saber_plan.specs.Facts.Trees.{written, inserted, looked_up}
 use Rattle.saber_changes.specs.Counts.{Counts, counts_of, tally, times, one_less, one_more}
 
 abbrev pub Kept : Type 0

@@ -1,7 +1,7 @@
 -- A walk passes windows without answers, and then one more.
 use Rattle.std.proofs.Common.{◌≡◌, ℕ, zero, suc, ◌+◌, ◌≤◌, ◌<◌, List, [], ◌++◌, refl, sym, ◌∙◌, ap, append-nil, append_assoc, arith}
 use Rattle.saber_plan.specs.Answers.{Answers, before_window, answer_lines}
-use Rattle.saber_plan.specs.NumberFacts.{flat_nil, flat_step, flat_skip}
+use Rattle.saber_plan.specs.Facts.Numbers.{flat_nil, flat_step, flat_skip}
 use Rattle.saber_changes.specs.declared.cancel.Change.{Change}
 use Rattle.saber_changes.specs.declared.cancel.Change.TheVariants.{Gained, Lost}
 use Rattle.saber_changes.specs.declared.walk.Walk.{Walk}

@@ -3,7 +3,7 @@ use Rattle.std.proofs.Common.{◌≡◌, ℕ, ◌-◌, ◌≤◌, List, ◌++◌
 use Rattle.std.proofs.lemmas.List.Concat.{flat_map-append}
 use Rattle.saber_plan.specs.Windows.{from}
 use Rattle.saber_plan.specs.Answers.{Answers}
-use Rattle.saber_plan.specs.NumberFacts.{from_more}
+use Rattle.saber_plan.specs.Facts.Numbers.{from_more}
 use Rattle.saber_changes.specs.declared.cancel.Change.{Change}
 use Rattle.saber_changes.specs.declared.walk.Walk.{Walk}
 use Rattle.saber_changes.specs.Walks.{change_at, changes_from, Walks}

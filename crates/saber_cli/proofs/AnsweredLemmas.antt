@@ -7,11 +7,11 @@ use Rattle.saber_plan.specs.Trees.{Tree}
 use Rattle.saber_plan.specs.Tasks.{run_input}
 use Rattle.saber_plan.specs.Checked.{IsChecked}
 use Rattle.saber_plan.specs.Sizes.{FileLimits}
-use Rattle.saber_engine.specs.declared.ends.RunEnd.{RunEnd}
-use Rattle.saber_engine.specs.declared.ends.RunEnd.TheVariants as ends
-use Rattle.saber_engine.specs.Sources.{input_of}
-use Rattle.saber_engine.specs.Gives as engine
-use Rattle.saber_engine.specs.Gives.{Assembles, Reach, reach_of}
+use Rattle.saber_plan.specs.declared.ends.RunEnd.{RunEnd}
+use Rattle.saber_plan.specs.declared.ends.RunEnd.TheVariants as ends
+use Rattle.saber_plan.specs.Files.{input_of}
+use Rattle.saber_plan.specs.Runs as run_defs
+use Rattle.saber_plan.specs.Runs.{Assembles, Reach, reach_of}
 use Rattle.saber_notes.specs.declared.outcome.InputFile.TheVariants.{Query, Left, Right, SecondQuery}
 use Rattle.saber_notes.specs.declared.outcome.Outcome.{Outcome}
 use Rattle.saber_notes.specs.declared.outcome.Outcome.TheVariants.{Done, Usage, FileCount, QueryFault, SecondQueryFault, Unchainable, LineRefused, ChainLineRefused, OpenFault, ReadFault, TooWide, WriteFault, NoMemory}
@@ -103,7 +103,7 @@ for_any P (Some x) h = h x
 
 -- ---- the ends of the engine as outcomes
 
-ends_by : (q : Tree) (n ring : ℕ) (flush : Bool) (read : Read) (e : RunEnd) → engine.EndsAs q n ring (run_input q flush read) e read → EndsSo q n ring flush read (ended_as ring e)
+ends_by : (q : Tree) (n ring : ℕ) (flush : Bool) (read : Read) (e : RunEnd) → run_defs.EndsAs q n ring (run_input q flush read) e read → EndsSo q n ring flush read (ended_as ring e)
 ends_by q n ring flush read ends.AllRead h = (h, tt)
 ends_by q n ring flush read (ends.Bad side line cause) h = (h, tt)
 ends_by q n ring flush read (ends.ReadFault side) h = (tt, tt)
@@ -120,7 +120,7 @@ reach_by ring ends.WriteFault = refl
 reach_by ring ends.NoMemory = refl
 
 -- what went out, by the outcome
-run_answered : (q : Tree) (n ring : ℕ) (flush : Bool) (read : Read) (e : RunEnd) (o : Outcome) (tasks : ℕ) (out : List ℕ) → o ≡ ended_as ring e → engine.Gives q n ring flush read e tasks out → Answered q n ring flush read o tasks out
+run_answered : (q : Tree) (n ring : ℕ) (flush : Bool) (read : Read) (e : RunEnd) (o : Outcome) (tasks : ℕ) (out : List ℕ) → o ≡ ended_as ring e → run_defs.Gives q n ring flush read e tasks out → Answered q n ring flush read o tasks out
 run_answered q n ring flush read e o tasks out t g = subst (λ p. Answered q n ring flush read p tasks out) (sym t) (record {
   ends = ends_by q n ring flush read e g.ends;
   puts = subst (λ (x : Reach). Assembles q n (run_input q flush read) x tasks out) (sym (reach_by ring e)) g.assembles;
@@ -128,7 +128,7 @@ run_answered q n ring flush read e o tasks out t g = subst (λ p. Answered q n r
 
 -- the same where the sources tell their bytes
 pub told_answered : (q : Tree) (n ring : ℕ) (limits : FileLimits) (flush : Bool) (left : Option (List (List ℕ))) (e : RunEnd) (o : Outcome) (tasks : ℕ) (out : List ℕ) → o ≡ ended_as ring e
-    → IfSome left (λ all. engine.Gives q n ring flush (input_of q limits all) e tasks out) → IfSome left (λ all. Answered q n ring flush (input_of q limits all) o tasks out)
+    → IfSome left (λ all. run_defs.Gives q n ring flush (input_of q limits all) e tasks out) → IfSome left (λ all. Answered q n ring flush (input_of q limits all) o tasks out)
 told_answered q n ring limits flush None e o tasks out t g = tt
 told_answered q n ring limits flush (Some all) e o tasks out t g = run_answered q n ring flush (input_of q limits all) e o tasks out t g
 
@@ -153,7 +153,7 @@ read_by ring (ends.TooWide task need) side k = cc
 read_by ring ends.WriteFault side k = cc
 read_by ring ends.NoMemory side k = cc
 
-pub clean_by : (ring : ℕ) (e : RunEnd) → IsClean (ended_as ring e) → engine.IsClean e
+pub clean_by : (ring : ℕ) (e : RunEnd) → IsClean (ended_as ring e) → run_defs.IsClean e
 clean_by ring ends.AllRead w = tt
 clean_by ring (ends.Bad side line cause) w = tt
 clean_by ring (ends.ReadFault side) w = absurd w

@@ -1,6 +1,6 @@
 -- What a chain leaves of its files, from what it did with each.
 use Rattle.std.proofs.Common.{◌≡◌, ◌<◌, ℕ, suc, List, [], ◌∷◌, ◌++◌, length, take, Option, Some, None, IfSome, refl, sym, ◌∙◌, ap, subst, arith, append-nil, append_assoc}
-use Rattle.saber_io.specs.Outside.{Told, Closed, asking, closing}
+use Rattle.saber_io.specs.Outside.{FilesView, Closed, asking, closing}
 use Rattle.saber_plan.specs.Trees.{Tree}
 use Rattle.saber_words.specs.Chain.{AskedChain}
 use Rattle.saber_words.specs.Commands.{chain}
@@ -19,15 +19,15 @@ use Rattle.saber_cli.proofs.RunLemmas.{used_contents}
 
 -- ---- told or not
 
-told_chain : (a : AskedChain) (o : Outcome) (old new : Option Told) → ((t : Told) → old ≡ Some t → (u : Told) × (new ≡ Some u) × LeavesBoth a o t u) → LeavesChain a o old new
+told_chain : (a : AskedChain) (o : Outcome) (old new : Option FilesView) → ((t : FilesView) → old ≡ Some t → (u : FilesView) × (new ≡ Some u) × LeavesBoth a o t u) → LeavesChain a o old new
 told_chain a o None new h = tt
 told_chain a o (Some t) new h = h t refl
 
 -- a source is of its query's file, where files tell
-abbrev IsOfTold : Option Told → List ℕ → Option (List ℕ) → ℕ → Type 0
+abbrev IsOfTold : Option FilesView → List ℕ → Option (List ℕ) → ℕ → Type 0
 IsOfTold old name left faults = IfSome old (λ t. IsOfQueryFile t.contents name (left, faults))
 
-is_of : (old : Option Told) (t : Told) (name : List ℕ) (left : Option (List ℕ)) (faults : ℕ) → old ≡ Some t → IsOfTold old name left faults → IsOfQueryFile t.contents name (left, faults)
+is_of : (old : Option FilesView) (t : FilesView) (name : List ℕ) (left : Option (List ℕ)) (faults : ℕ) → old ≡ Some t → IsOfTold old name left faults → IsOfQueryFile t.contents name (left, faults)
 is_of old t name left faults e h = subst (λ o. IsOfTold o name left faults) e h
 
 -- the first query has a plan
@@ -36,23 +36,23 @@ IsFirstPlanned a files = (p : Tree) × IsPlanned files a.first p
 
 -- ---- no file
 
-pub none_asked : (a : AskedChain) (o : Outcome) (old : Option Told) → MatchesChain (length (names_of (chain a))) o 0 [] → LeavesChain a o old old
+pub none_asked : (a : AskedChain) (o : Outcome) (old : Option FilesView) → MatchesChain (length (names_of (chain a))) o 0 [] → LeavesChain a o old old
 none_asked a o old m = told_chain a o old old (λ t e. (t, e, record { contents = refl; count = 0; few = omega arith; second = λ k. absurd (omega (arith, k)); rows = λ k. absurd (omega (arith, k)); asked = sym (append-nil t.asked); given_back = []; closed = sym (append-nil t.closed); are_of = tt; matches = m }))
 
 -- ---- the first query's file alone
 
 -- what files tell when a source of theirs was given back
-abbrev back : Told → List ℕ → Option (List ℕ) → ℕ → Told
+abbrev back : FilesView → List ℕ → Option (List ℕ) → ℕ → FilesView
 back t name left faults = record { contents = t.contents; asked = t.asked ++ name ∷ []; closed = t.closed ++ (left, faults) ∷ [] }
 
 -- what they tell when one wasn't opened
-abbrev lost : Told → List ℕ → Told
+abbrev lost : FilesView → List ℕ → FilesView
 lost t name = record { contents = t.contents; asked = t.asked ++ name ∷ []; closed = t.closed }
 
-one_back : (a : AskedChain) (o : Outcome) (t : Told) (left : Option (List ℕ)) (faults : ℕ) → IsOfQueryFile t.contents a.first (left, faults) → MatchesChain (length (names_of (chain a))) o 1 ((left, faults) ∷ []) → LeavesBoth a o t (back t a.first left faults)
+one_back : (a : AskedChain) (o : Outcome) (t : FilesView) (left : Option (List ℕ)) (faults : ℕ) → IsOfQueryFile t.contents a.first (left, faults) → MatchesChain (length (names_of (chain a))) o 1 ((left, faults) ∷ []) → LeavesBoth a o t (back t a.first left faults)
 one_back a o t left faults h m = record { contents = refl; count = 1; few = omega arith; second = λ k. absurd (omega (arith, k)); rows = λ k. absurd (omega (arith, k)); asked = refl; given_back = (left, faults) ∷ []; closed = refl; are_of = (h, tt); matches = m }
 
-one_lost : (a : AskedChain) (t : Told) → LeavesBoth a (OpenFault Query) t (lost t a.first)
+one_lost : (a : AskedChain) (t : FilesView) → LeavesBoth a (OpenFault Query) t (lost t a.first)
 one_lost a t = record { contents = refl; count = 1; few = omega arith; second = λ k. absurd (omega (arith, k)); rows = λ k. absurd (omega (arith, k)); asked = refl; given_back = []; closed = sym (append-nil t.closed); are_of = tt; matches = (refl, refl, tt) }
 
 plan_matches : (all : ℕ) (o : Outcome) (left : Option (List ℕ)) (faults : ℕ) → IsOfPlan o → IsOpened o → (o ≡ ReadFault Query → 0 < faults) → (IsClean o → faults ≡ 0) → MatchesChain all o 1 ((left, faults) ∷ [])
@@ -74,7 +74,7 @@ plan_matches all WriteFault left faults h p f c = absurd h
 plan_matches all NoMemory left faults h p f c = refl
 
 -- a first query that gave no plan
-pub first_leaves : (a : AskedChain) (o : Outcome) (old new : Option Told) → IsOfPlan o → Uses Query a.first o old new → LeavesChain a o old new
+pub first_leaves : (a : AskedChain) (o : Outcome) (old new : Option FilesView) → IsOfPlan o → Uses Query a.first o old new → LeavesChain a o old new
 first_leaves a o old new h (unasked e s) = subst (λ n. LeavesChain a o old n) (sym s) (none_asked a o old (subst (λ p. MatchesChain (length (names_of (chain a))) p 0 []) (sym e) refl))
 first_leaves a o old new h (unopened e s) = told_chain a o old new (λ t k. (_, s ∙ ap (λ p. asking p a.first) k, subst (λ p. LeavesBoth a p t (lost t a.first)) (sym e) (one_lost a t)))
 first_leaves a o old new h (used left faults f c i p s) = told_chain a o old new (λ t k. (_, s ∙ ap (λ q. closing (asking q a.first) left faults) k, one_back a o t left faults (is_of old t a.first left faults k i) (plan_matches (length (names_of (chain a))) o left faults h p f c)))
@@ -99,7 +99,7 @@ second_matches all (TooWide task need cells) l z left faults n h p f c = absurd 
 second_matches all WriteFault l z left faults n h p f c = absurd h
 second_matches all NoMemory l z left faults n h p f c = refl
 
-two_back : (a : AskedChain) (o : Outcome) (t : Told) (l : Option (List ℕ)) (z : ℕ) (left : Option (List ℕ)) (faults : ℕ) → IsFirstPlanned a t.contents → IsOfQueryFile t.contents a.first (l, z) → IsOfQueryFile t.contents a.second (left, faults)
+two_back : (a : AskedChain) (o : Outcome) (t : FilesView) (l : Option (List ℕ)) (z : ℕ) (left : Option (List ℕ)) (faults : ℕ) → IsFirstPlanned a t.contents → IsOfQueryFile t.contents a.first (l, z) → IsOfQueryFile t.contents a.second (left, faults)
     → MatchesChain (length (names_of (chain a))) o 2 ((l, z) ∷ (left, faults) ∷ []) → LeavesBoth a o t (back (back t a.first l z) a.second left faults)
 two_back a o t l z left faults g h i m = record {
   contents = refl;
@@ -114,7 +114,7 @@ two_back a o t l z left faults g h i m = record {
   matches = m;
 }
 
-two_lost : (a : AskedChain) (t : Told) (l : Option (List ℕ)) (z : ℕ) → z ≡ 0 → IsFirstPlanned a t.contents → IsOfQueryFile t.contents a.first (l, z) → LeavesBoth a (OpenFault SecondQuery) t (lost (back t a.first l z) a.second)
+two_lost : (a : AskedChain) (t : FilesView) (l : Option (List ℕ)) (z : ℕ) → z ≡ 0 → IsFirstPlanned a t.contents → IsOfQueryFile t.contents a.first (l, z) → LeavesBoth a (OpenFault SecondQuery) t (lost (back t a.first l z) a.second)
 two_lost a t l z n g h = record {
   contents = refl;
   count = 2;
@@ -129,7 +129,7 @@ two_lost a t l z n g h = record {
 }
 
 -- behind a first query's source that had no faults
-behind_first : (a : AskedChain) (o : Outcome) (old mid new : Option Told) (l : Option (List ℕ)) (z : ℕ) → z ≡ 0 → IsOfTold old a.first l z → IfSome old (λ t. IsFirstPlanned a t.contents) → mid ≡ closing (asking old a.first) l z → IsOfPlan o → Uses Query a.second o mid new
+behind_first : (a : AskedChain) (o : Outcome) (old mid new : Option FilesView) (l : Option (List ℕ)) (z : ℕ) → z ≡ 0 → IsOfTold old a.first l z → IfSome old (λ t. IsFirstPlanned a t.contents) → mid ≡ closing (asking old a.first) l z → IsOfPlan o → Uses Query a.second o mid new
     → LeavesChain a (as_second o) old new
 behind_first a o old mid new l z n i g s h (unasked e s') = told_chain a (as_second o) old new (λ t k. (_, s' ∙ s ∙ ap (λ q. closing (asking q a.first) l z) k, subst (λ p. LeavesBoth a (as_second p) t (back t a.first l z)) (sym e) (one_back a NoMemory t l z (is_of old t a.first l z k i) refl)))
 behind_first a o old mid new l z n i g s h (unopened e s') = told_chain a (as_second o) old new (λ t k. (
@@ -144,18 +144,18 @@ behind_first a o old mid new l z n i g s h (used left faults f c j p s') = told_
 ))
 
 -- a second query that gave no plan
-pub second_leaves : (a : AskedChain) (o : Outcome) (old mid new : Option Told) → IsOfPlan o → IfSome old (λ t. IsFirstPlanned a t.contents) → Uses Query a.first Done old mid → Uses Query a.second o mid new → LeavesChain a (as_second o) old new
+pub second_leaves : (a : AskedChain) (o : Outcome) (old mid new : Option FilesView) → IsOfPlan o → IfSome old (λ t. IsFirstPlanned a t.contents) → Uses Query a.first Done old mid → Uses Query a.second o mid new → LeavesChain a (as_second o) old new
 second_leaves a o old mid new h g (unasked e s) u = cc
 second_leaves a o old mid new h g (unopened e s) u = cc
 second_leaves a o old mid new h g (used l z f c i p s) u = behind_first a o old mid new l z (c tt) i g s h u
 
 -- ---- both queries' files, read
 
-two_used : (old : Option Told) (first second : List ℕ) (one two : Closed) → closing (asking (closing (asking old first) one.0 one.1) second) two.0 two.1 ≡ using old (first ∷ second ∷ []) (one ∷ two ∷ [])
+two_used : (old : Option FilesView) (first second : List ℕ) (one two : Closed) → closing (asking (closing (asking old first) one.0 one.1) second) two.0 two.1 ≡ using old (first ∷ second ∷ []) (one ∷ two ∷ [])
 two_used None first second one two = refl
 two_used (Some t) first second one two = λ i. Some (record { contents = t.contents; asked = append_assoc t.asked (first ∷ []) (second ∷ []) i; closed = append_assoc t.closed (one ∷ []) (two ∷ []) i })
 
-both_used_by : (first second : List ℕ) (old mid new : Option Told) (l : Option (List ℕ)) (z : ℕ) (left : Option (List ℕ)) (faults : ℕ) → z ≡ 0 → faults ≡ 0 → IsOfTold old first l z → IsOfTold old second left faults → mid ≡ closing (asking old first) l z → new ≡ closing (asking mid second) left faults
+both_used_by : (first second : List ℕ) (old mid new : Option FilesView) (l : Option (List ℕ)) (z : ℕ) (left : Option (List ℕ)) (faults : ℕ) → z ≡ 0 → faults ≡ 0 → IsOfTold old first l z → IsOfTold old second left faults → mid ≡ closing (asking old first) l z → new ≡ closing (asking mid second) left faults
     → BothRead first second old new
 both_used_by first second old mid new l z left faults n m i j s s' = record {
   one = (l, z);
@@ -167,7 +167,7 @@ both_used_by first second old mid new l z left faults n m i j s s' = record {
   two_of = j;
 }
 
-pub both_read : (first second : List ℕ) (old mid new : Option Told) → Uses Query first Done old mid → Uses Query second Done mid new → BothRead first second old new
+pub both_read : (first second : List ℕ) (old mid new : Option FilesView) → Uses Query first Done old mid → Uses Query second Done mid new → BothRead first second old new
 both_read first second old mid new (unasked e s) v = cc
 both_read first second old mid new (unopened e s) v = cc
 both_read first second old mid new (used l z f c i p s) (unasked e s') = cc
@@ -191,7 +191,7 @@ misfit_matches all p q n WriteFault one two h z w = absurd h
 misfit_matches all p q n NoMemory one two h z w = absurd h
 
 -- two plans that make no chain
-pub misfit_leaves : (a : AskedChain) (p q : Tree) (n : ℕ) (o : Outcome) (old new : Option Told) → IsMisfit p q n o → IfSome old (λ t. IsFirstPlanned a t.contents) → BothRead a.first a.second old new → LeavesChain a o old new
+pub misfit_leaves : (a : AskedChain) (p q : Tree) (n : ℕ) (o : Outcome) (old new : Option FilesView) → IsMisfit p q n o → IfSome old (λ t. IsFirstPlanned a t.contents) → BothRead a.first a.second old new → LeavesChain a o old new
 misfit_leaves a p q n o old new h g b = told_chain a o old new (λ t k. (
   _,
   b.told ∙ ap (λ x. using x (a.first ∷ a.second ∷ []) (b.one ∷ b.two ∷ [])) k,
@@ -212,7 +212,7 @@ misfit_leaves a p q n o old new h g b = told_chain a o old new (λ t k. (
 -- ---- the row files behind them
 
 -- row files that were asked for behind two queries that were read
-pub chain_rows_leave : (a : AskedChain) (o : Outcome) (old mid new : Option Told) → IfSome old (λ t. AsksChainRows t.contents a) → BothRead a.first a.second old mid → UsesChainRows (row_names (first_run a)) o mid new → LeavesChain a o old new
+pub chain_rows_leave : (a : AskedChain) (o : Outcome) (old mid new : Option FilesView) → IfSome old (λ t. AsksChainRows t.contents a) → BothRead a.first a.second old mid → UsesChainRows (row_names (first_run a)) o mid new → LeavesChain a o old new
 chain_rows_leave a o old mid new g b u = told_chain a o old new (λ t k. let m = b.told ∙ ap (λ x. using x (a.first ∷ a.second ∷ []) (b.one ∷ b.two ∷ [])) k in let r : AsksChainRows t.contents a = subst (λ x. IfSome x (λ v. AsksChainRows v.contents a)) k g in (
   _,
   u.told ∙ ap (λ x. using x (take u.count (row_names (first_run a))) u.given_back) m,
@@ -252,7 +252,7 @@ unopened_matches n WriteFault k one two given_back h z m = absurd h
 unopened_matches n NoMemory k one two given_back h z m = omega (arith, m)
 
 -- one of them wasn't opened
-pub unopened_uses : (names : List (List ℕ)) (o : Outcome) (old new : Option Told) → IsUnopened o → UsesRows names o old new → UsesChainRows names o old new
+pub unopened_uses : (names : List (List ℕ)) (o : Outcome) (old new : Option FilesView) → IsUnopened o → UsesRows names o old new → UsesChainRows names o old new
 unopened_uses names o old new h u = record {
   count = u.count;
   few = u.few;

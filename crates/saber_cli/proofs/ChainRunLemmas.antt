@@ -2,7 +2,7 @@
 use Rattle.std.proofs.Common.{◌≡◌, ◌≢◌, ℕ, suc, List, [], ◌∷◌, length, map, Option, Some, None, IfSome, refl, sym, ◌∙◌, ap, subst, append_assoc, arith}
 use Rattle.std.proofs.lemmas.List.{take_all}
 use Rattle.std.specs.Prelude.{Bool, true, false}
-use Rattle.saber_io.specs.Outside.{Told, Closed, Rose, appended}
+use Rattle.saber_io.specs.Outside.{FilesView, Closed, Rose, appended}
 use Rattle.saber_io.specs.declared.feeds.EndMark.TheVariants as marks
 use Rattle.saber_plan.specs.declared.rows.Side.{Side}
 use Rattle.saber_plan.specs.declared.rows.Side.TheVariants as sides
@@ -15,11 +15,13 @@ use Rattle.saber_words.specs.Commands.{chain, command_of}
 use Rattle.saber_words.specs.declared.commands.WordsFault.{WordsFault}
 use Rattle.saber_words.specs.declared.commands.WordsFault.TheVariants as fault
 use Rattle.saber_dispatch.specs.declared.inputs.Inputs.{Inputs}
-use Rattle.saber_engine.specs.declared.ends.RunEnd.{RunEnd}
-use Rattle.saber_engine.specs.declared.ends.RunEnd.TheVariants as ends
-use Rattle.saber_engine.specs.Sources.{each_input, told_by, RoseAt, GaveAll, input_of}
+use Rattle.saber_plan.specs.declared.ends.RunEnd.{RunEnd}
+use Rattle.saber_plan.specs.declared.ends.RunEnd.TheVariants as ends
+use Rattle.saber_engine.specs.Sources.{each_input, told_by, RoseAt, GaveAll}
+use Rattle.saber_plan.specs.Files.{input_of}
 use Rattle.saber_engine.specs.Endings.{MayStop}
 use Rattle.saber_engine.specs.Gives as engine
+use Rattle.saber_plan.specs.Runs as run_defs
 use Rattle.saber_chain.specs.Texts.{text_of_both}
 use Rattle.saber_chain.specs.Marks.{IsWhole, IsShort}
 use Rattle.saber_chain.specs.declared.chained.Chained.{Chained}
@@ -83,7 +85,7 @@ chained_read ring first ends.WriteFault stopped side k = cc
 chained_read ring first ends.NoMemory true side k = cc
 chained_read ring first ends.NoMemory false side k = cut_read ring NoMemory first side (λ e. cc) k
 
-cut_clean : (ring : ℕ) (o : Outcome) (e : RunEnd) → IsClean (unless_cut ring e o) → engine.IsClean e
+cut_clean : (ring : ℕ) (o : Outcome) (e : RunEnd) → IsClean (unless_cut ring e o) → run_defs.IsClean e
 cut_clean ring o ends.AllRead w = tt
 cut_clean ring o (ends.Bad side line cause) w = tt
 cut_clean ring o (ends.ReadFault side) w = absurd w
@@ -91,7 +93,7 @@ cut_clean ring o (ends.TooWide task need) w = tt
 cut_clean ring o ends.WriteFault w = absurd w
 cut_clean ring o ends.NoMemory w = absurd w
 
-pub chained_clean : (ring : ℕ) (first second : RunEnd) (stopped : Bool) → IsClean (chained_as ring first second stopped) → engine.IsClean first
+pub chained_clean : (ring : ℕ) (first second : RunEnd) (stopped : Bool) → IsClean (chained_as ring first second stopped) → run_defs.IsClean first
 chained_clean ring first ends.AllRead stopped w = clean_by ring first w
 chained_clean ring first (ends.Bad s line cause) stopped w = cut_clean ring (ChainLineRefused line cause) first w
 chained_clean ring first (ends.ReadFault s) stopped w = clean_by ring first w
@@ -326,7 +328,7 @@ run_matches n WriteFault xs ys one two h p len y c r z w = (refl, omega (arith, 
 run_matches n NoMemory xs ys one two h p len y c r z w = omega (arith, len)
 
 module _ {S : Type 0} (left : S → Option (List ℕ)) (faults : S → ℕ) where
-  pub chain_uses : (names : List (List ℕ)) (o : Outcome) (i j : Inputs S) (a b c : Option Told) → length (each_input left i) ≡ length names → IfSome a (λ t. OpensAll t.contents names (each_input left i)) → HadNoFaults (backs left faults i)
+  pub chain_uses : (names : List (List ℕ)) (o : Outcome) (i j : Inputs S) (a b c : Option FilesView) → length (each_input left i) ≡ length names → IfSome a (λ t. OpensAll t.contents names (each_input left i)) → HadNoFaults (backs left faults i)
       → b ≡ using a names [] → c ≡ using b [] (backs left faults j) → IsOfChain o → IsOpened o → (taken : List (List ℕ)) × GaveAll (each_input left i) taken (each_input left j)
       → (IsClean o → each_input faults j ≡ each_input faults i) → ((side : Side) → o ≡ ReadFault (file_on side) → RoseAt side (each_input faults i) (each_input faults j)) → UsesChainRows names o a c
   chain_uses names o i j a b c number opens fresh asked closed kinds opened takes good read =
@@ -347,7 +349,7 @@ module _ {S : Type 0} (left : S → Option (List ℕ)) (faults : S → ℕ) wher
   chain_cause o i j a b c fresh e f h p r k = run_cause left faults o i j a b c fresh e f (chain_or_run o h k) p r k
 
   -- what both runs come to over open sources is what they come to over their files
-  pub chain_runs : (p q : Tree) (s : Sizes) (names : List (List ℕ)) (had has : Option (List ℕ)) (o : Outcome) (tasks : ℕ) (i j : Inputs S) (a b c : Option Told) → IfSome a (λ t. OpensAll t.contents names (each_input left i))
+  pub chain_runs : (p q : Tree) (s : Sizes) (names : List (List ℕ)) (had has : Option (List ℕ)) (o : Outcome) (tasks : ℕ) (i j : Inputs S) (a b c : Option FilesView) → IfSome a (λ t. OpensAll t.contents names (each_input left i))
       → b ≡ using a names [] → c ≡ using b [] (backs left faults j) → RunsChain p q s (engine.LeavesWhole p s (each_input left i) (each_input left j)) (told_by left i) had has o tasks
       → ChainedTold p q s names a c had has o tasks
   chain_runs p q s names had has o tasks i j None b c opens asked closed h = tt
@@ -385,7 +387,7 @@ chained_on p q s A B content had has o tasks f (none_run h t n) = none_run h t n
 chained_on p q s A B content had has o tasks f (all_run all e r) = all_run all e (runs_on p q s A B (Some all) had has o tasks f r)
 
 -- what was taken of the row files, behind both queries' files
-pub cut_takes : (a : AskedChain) (p : Tree) (old mid new : Option Told) → BothRead a.first a.second old mid
+pub cut_takes : (a : AskedChain) (p : Tree) (old mid new : Option FilesView) → BothRead a.first a.second old mid
     → IfSome old (λ t. (e : RunEnd) (n : ℕ) → CutTakes p (chain_sizes a) (row_names (first_run a)) mid new e n → CutTakesChain a t new p e n)
 cut_takes a p None mid new b = tt
 cut_takes a p (Some t) mid new b = λ e n h side k.
@@ -397,7 +399,7 @@ cut_takes a p (Some t) mid new b = λ e n h side k.
         second_query = b.two;
         given_back = w.given_back;
         closed = append_assoc t.closed (b.one ∷ b.two ∷ []) w.given_back;
-        takes = subst (λ o. IfSome o (λ (u : Told). TakesOf p a.task (limits_of (chain_sizes a)) n u.contents (row_names (first_run a)) w.given_back)) b.told w.takes;
+        takes = subst (λ o. IfSome o (λ (u : FilesView). TakesOf p a.task (limits_of (chain_sizes a)) n u.contents (row_names (first_run a)) w.given_back)) b.told w.takes;
       },
     )
 
@@ -407,18 +409,18 @@ chain_over files leaves a p q o tasks had has u k l (none_run h t n) = not_run (
 chain_over files leaves a p q o tasks had has u k l (all_run all e r) = both_run (record { first = p; second = q; plans = u; chains = k; like = l }) all e r
 
 -- two queries' files that were read leave the contents
-pub read_contents : (P : Contents → Type 0) (first second : List ℕ) (old new : Option Told) → BothRead first second old new → IfSome new (λ u. P u.contents) → IfSome old (λ t. P t.contents)
+pub read_contents : (P : Contents → Type 0) (first second : List ℕ) (old new : Option FilesView) → BothRead first second old new → IfSome new (λ u. P u.contents) → IfSome old (λ t. P t.contents)
 read_contents P first second None new b h = tt
 read_contents P first second (Some t) new b h = subst (λ m. IfSome m (λ u. P u.contents)) b.told h
 
 -- ---- words that were not read
 
-pub unread_chained : (ws : List (List ℕ)) (a : AskedChain) (f : WordsFault) (told new : Option Told) (w : Option (List ℕ)) → (f ≡ fault.Usage → command_of ws ≡ None) → command_of ws ≡ Some (chain a) → AnswersChain a (unread f) 0 told new w w
+pub unread_chained : (ws : List (List ℕ)) (a : AskedChain) (f : WordsFault) (told new : Option FilesView) (w : Option (List ℕ)) → (f ≡ fault.Usage → command_of ws ≡ None) → command_of ws ≡ Some (chain a) → AnswersChain a (unread f) 0 told new w w
 unread_chained ws a fault.NoMemory None new w h is = tt
 unread_chained ws a fault.NoMemory (Some t) new w h is = not_run tt refl refl
 unread_chained ws a fault.Usage told new w h is = let clash : Some (chain a) ≡ None = sym is ∙ h refl in cc
 
-pub unread_leaves : (ws : List (List ℕ)) (a : AskedChain) (f : WordsFault) (told : Option Told) → (f ≡ fault.Usage → command_of ws ≡ None) → command_of ws ≡ Some (chain a) → LeavesChain a (unread f) told told
+pub unread_leaves : (ws : List (List ℕ)) (a : AskedChain) (f : WordsFault) (told : Option FilesView) → (f ≡ fault.Usage → command_of ws ≡ None) → command_of ws ≡ Some (chain a) → LeavesChain a (unread f) told told
 unread_leaves ws a fault.NoMemory told h is = none_asked a NoMemory told refl
 unread_leaves ws a fault.Usage told h is = let clash : Some (chain a) ≡ None = sym is ∙ h refl in cc
 

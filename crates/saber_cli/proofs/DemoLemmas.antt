@@ -2,7 +2,7 @@
 use Rattle.std.proofs.Common.{Bool, ⊎_elim, ◌++◌, ◌≡◌, ◌≤◌, ◌*◌, ◌^◌, min, inl, inr, ℕ, List, [], ◌∷◌, length, Option, Some, None, false, refl, sym, ◌∙◌, ap, subst, arith}
 use Rattle.std.proofs.Math.Path.{transport}
 use Rattle.std.proofs.lemmas.List.{take_all}
-use Rattle.saber_io.specs.Outside.{Told, appended, appended-none}
+use Rattle.saber_io.specs.Outside.{FilesView, appended, appended-none}
 use Rattle.saber_plan.specs.declared.rows.Side.{Side}
 use Rattle.saber_plan.specs.declared.rows.Side.TheVariants as sides
 use Rattle.saber_plan.specs.declared.rows.Row.{Row}
@@ -25,11 +25,12 @@ use Rattle.saber_demo.specs.Summary.{summary}
 use Rattle.saber_demo.specs.Laws.{GeneratedIsRead}
 use Rattle.saber_dispatch.specs.declared.inputs.Inputs.{Inputs}
 use Rattle.saber_dispatch.specs.declared.inputs.Inputs.TheVariants.{One, Two}
-use Rattle.saber_engine.specs.declared.ends.RunEnd.{RunEnd}
-use Rattle.saber_engine.specs.declared.ends.RunEnd.TheVariants as ends
-use Rattle.saber_engine.specs.Sources.{each_input, input_of, RoseAt}
-use Rattle.saber_engine.specs.Gives as engine
-use Rattle.saber_engine.specs.Gives.{Assembles, reach_of}
+use Rattle.saber_plan.specs.declared.ends.RunEnd.{RunEnd}
+use Rattle.saber_plan.specs.declared.ends.RunEnd.TheVariants as ends
+use Rattle.saber_engine.specs.Sources.{each_input, RoseAt}
+use Rattle.saber_plan.specs.Files.{input_of}
+use Rattle.saber_plan.specs.Runs as run_defs
+use Rattle.saber_plan.specs.Runs.{Assembles, reach_of}
 use Rattle.saber_notes.specs.declared.outcome.Outcome.{Outcome}
 use Rattle.saber_notes.specs.declared.outcome.Outcome.TheVariants.{Done, Usage, FileCount, QueryFault, SecondQueryFault, Unchainable, LineRefused, ChainLineRefused, OpenFault, ReadFault, TooWide, WriteFault, NoMemory}
 use Rattle.saber_cli.specs.Due.{Contents, Due, usage, missing, faulty, unlike, shows, tells, runs, IsDueFor}
@@ -77,7 +78,7 @@ never_rose sides.Right (Two s r) (One t) h = h
 never_rose sides.Right (Two s r) (Two t u) h = omega arith
 
 -- with all read, or for want of memory
-pub end_is : {S : Type 0} (n ring : ℕ) (read : Read) (e : RunEnd) (old new : Inputs S) → NoneIsWide → 1 ≤ ring → read.end ≡ all_read → engine.EndsAs demo_tree n ring (run_input demo_tree false read) e read
+pub end_is : {S : Type 0} (n ring : ℕ) (read : Read) (e : RunEnd) (old new : Inputs S) → NoneIsWide → 1 ≤ ring → read.end ≡ all_read → run_defs.EndsAs demo_tree n ring (run_input demo_tree false read) e read
     → ((side : Side) → e ≡ ends.ReadFault side → RoseAt side (each_input (λ (s : S). 0) old) (each_input (λ (s : S). 0) new)) → (e ≡ ends.WriteFault → ⊥) → IsWholeOrLacks e
 end_is n ring read ends.AllRead old new law some all h f w = tt
 end_is n ring read (ends.Bad side line cause) old new law some all h f w = let clash : all_read ≡ bad side line cause = sym all ∙ h.0 in cc
@@ -102,13 +103,13 @@ pub record IsRunOf (d : AskedDemo) (q : Tree) (n : ℕ) (limits : FileLimits) (f
 
 -- what it gives then
 pub run_gives : GeneratedIsRead → (d : AskedDemo) (q : Tree) (n ring : ℕ) (limits : FileLimits) (flush : Bool) (file : List ℕ) (e : RunEnd) (tasks : ℕ) (out : List ℕ) → d.rows ≤ 2 ^ 20 → IsRunOf d q n limits flush file
-    → engine.Gives q n ring flush (input_of q limits (file ∷ [])) e tasks out → engine.Gives demo_tree d.task ring false (demo_read d) e tasks out
+    → run_defs.Gives q n ring flush (input_of q limits (file ∷ [])) e tasks out → run_defs.Gives demo_tree d.task ring false (demo_read d) e tasks out
 run_gives law d q n ring limits flush file e tasks out few r h =
     let read : input_of q limits (file ∷ []) ≡ demo_read d = (λ i. input_of (r.plan i) (r.lines i) (r.rows i ∷ [])) ∙ read_of law d.seed d.rows few in
-    transport (λ i. engine.Gives (r.plan i) (r.task i) ring (r.goes_on i) (read i) e tasks out) h
+    transport (λ i. run_defs.Gives (r.plan i) (r.task i) ring (r.goes_on i) (read i) e tasks out) h
 
 -- where all is read, the text of all tasks is the answer
-pub whole_answer : RowsHaveTasks → (d : AskedDemo) (ring tasks : ℕ) (e : RunEnd) (out : List ℕ) → 1 ≤ d.task → e ≡ ends.AllRead → engine.Gives demo_tree d.task ring false (demo_read d) e tasks out → IsAnswer d out tasks
+pub whole_answer : RowsHaveTasks → (d : AskedDemo) (ring tasks : ℕ) (e : RunEnd) (out : List ℕ) → 1 ≤ d.task → e ≡ ends.AllRead → run_defs.Gives demo_tree d.task ring false (demo_read d) e tasks out → IsAnswer d out tasks
 whole_answer law d ring tasks e out some is h =
     let a : Assembles demo_tree d.task (generated_input d.seed d.rows) (reach_of ends.AllRead) tasks out = subst (λ (x : RunEnd). Assembles demo_tree d.task (generated_input d.seed d.rows) (reach_of x) tasks out) is h.assembles in
     let all : tasks ≡ tasks_of_run d = a.all refl in
@@ -172,7 +173,7 @@ tell_matches WriteFault k = (refl, refl)
 tell_matches NoMemory k = refl
 
 -- none is asked for
-pub tell_leaves : (c : Asked) (d : AskedDemo) (o : Outcome) (old : Option Told) → c ≡ demo d → IsOfPut o → LeavesTold c o old old
+pub tell_leaves : (c : Asked) (d : AskedDemo) (o : Outcome) (old : Option FilesView) → c ≡ demo d → IsOfPut o → LeavesTold c o old old
 tell_leaves c d o old is k = subst (λ (a : Asked). LeavesTold a o old old) (sym is) (none_left [] (λ t. ⊥) o old (tell_matches o k))
 
 -- ---- what is due

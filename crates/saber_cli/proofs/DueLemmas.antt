@@ -14,7 +14,7 @@ use Rattle.saber_notes.specs.declared.outcome.Outcome.TheVariants.{Done, Usage, 
 use Rattle.saber_cli.specs.Laws.{Laws}
 use Rattle.saber_cli.specs.Outcomes.{IsEarly, IsFileFault, IsQueryUnread}
 use Rattle.saber_cli.specs.Texts.{BeginsFile}
-use Rattle.saber_engine.specs.Gives.{Assembles, Reach, all_tasks, before_task, first_tasks, cut_off, reach_of}
+use Rattle.saber_plan.specs.Runs.{Assembles, Reach, all_tasks, before_task, first_tasks, cut_off, reach_of}
 use Rattle.saber_cli.specs.Endings.{end_of}
 use Rattle.saber_cli.specs.Due.{Contents, Due, usage, missing, faulty, unlike, shows, tells, runs, IsDueFor, HasRun}
 use Rattle.saber_cli.specs.Causes.{Allows}

@@ -1,7 +1,7 @@
 -- One file that is opened, read and given back.
 use Rattle.std.proofs.Common.{Result, Ok, Err, IfOk, IfErr, OnOk, refl, sym, ◌≡◌, ℕ, ◌<◌, ◌≤◌, List, take, Option, Some, None, IfSome, ◌∙◌, ap, subst, arith}
 use Rattle.std.proofs.lemmas.Bool.Decides.{nat_tests}
-use Rattle.saber_io.specs.Outside.{Told, asking, closing, raised, Rose, Opens}
+use Rattle.saber_io.specs.Outside.{FilesView, asking, closing, raised, Rose, Opens}
 use Rattle.saber_notes.specs.declared.outcome.InputFile.{InputFile}
 use Rattle.saber_notes.specs.declared.outcome.InputFile.TheVariants.{Query, Left, Right, SecondQuery}
 use Rattle.saber_notes.specs.declared.outcome.Outcome.{Outcome}
@@ -11,18 +11,18 @@ use Rattle.saber_cli.specs.Texts.{BeginsFile, TakesFew, read_limit}
 use Rattle.saber_cli.specs.Uses.{Uses, used, IsOfQueryFile, IsOpened, IsOfText, IsOfQuery, outcome_of, KeepsFaults}
 
 -- what was read of a source that was opened is the beginning of its file
-pub opened_front : (told : Option Told) (name : List ℕ) (left : Option (List ℕ)) (text : List ℕ) → Opens told name left → IfSome left (λ whole. text ≡ take read_limit whole) → IfSome told (λ t. BeginsFile t.contents name text)
+pub opened_front : (told : Option FilesView) (name : List ℕ) (left : Option (List ℕ)) (text : List ℕ) → Opens told name left → IfSome left (λ whole. text ≡ take read_limit whole) → IfSome told (λ t. BeginsFile t.contents name text)
 opened_front None name left text o h = tt
 opened_front (Some t) name left text o h = record { whole = o.0; there = o.1; front = subst (λ l. IfSome l (λ whole. text ≡ take read_limit whole)) o.2 h }
 
 -- a source that was opened, and of which few bytes were taken, is of its query's file
-pub opened_of : (told : Option Told) (name : List ℕ) (had has : Option (List ℕ)) (faults : ℕ) → Opens told name had → TakesFew read_limit had has → IfSome told (λ t. IsOfQueryFile t.contents name (has, faults))
+pub opened_of : (told : Option FilesView) (name : List ℕ) (had has : Option (List ℕ)) (faults : ℕ) → Opens told name had → TakesFew read_limit had has → IfSome told (λ t. IsOfQueryFile t.contents name (has, faults))
 opened_of None name had has faults o k = tt
 opened_of (Some t) name had None faults o k = let clash : Some o.0 ≡ None = sym o.2 ∙ k.2 in cc
 opened_of (Some t) name had (Some rest) faults o k = record { file = record { taken = k.0; rest = rest; there = o.1 ∙ sym o.2 ∙ k.2; left = refl }; few = k.1 }
 
 -- a file that was opened, and whose source was given back
-pub used_by : (file : InputFile) (name : List ℕ) (o : Outcome) (old mid new : Option Told) (left : Option (List ℕ)) (faults : ℕ) → (o ≡ ReadFault file → 0 < faults) → (IsClean o → faults ≡ 0) → IfSome old (λ t. IsOfQueryFile t.contents name (left, faults)) → IsOpened o → mid ≡ asking old name → new ≡ closing mid left faults → Uses file name o old new
+pub used_by : (file : InputFile) (name : List ℕ) (o : Outcome) (old mid new : Option FilesView) (left : Option (List ℕ)) (faults : ℕ) → (o ≡ ReadFault file → 0 < faults) → (IsClean o → faults ≡ 0) → IfSome old (λ t. IsOfQueryFile t.contents name (left, faults)) → IsOpened o → mid ≡ asking old name → new ≡ closing mid left faults → Uses file name o old new
 used_by file name o old mid new left faults read clean is_of opened asked closed = used left faults read clean is_of opened (closed ∙ ap (λ t. closing t left faults) asked)
 
 -- what was read of a source, or why there is nothing
@@ -61,12 +61,12 @@ pub map_err : {X P Q : Type 0} (r : Result X Outcome) (p : Outcome) → (P → Q
 map_err (Ok x) p f h = tt
 map_err (Err o) p f h = λ e. f (h e)
 
-pub text_front : {X : Type 0} (bytes : X → List ℕ) (r : Result X Outcome) (told : Option Told) (name : List ℕ) (left : Option (List ℕ)) → Opens told name left → IfOk r (λ x. IfSome left (λ whole. bytes x ≡ take read_limit whole))
+pub text_front : {X : Type 0} (bytes : X → List ℕ) (r : Result X Outcome) (told : Option FilesView) (name : List ℕ) (left : Option (List ℕ)) → Opens told name left → IfOk r (λ x. IfSome left (λ whole. bytes x ≡ take read_limit whole))
     → IfOk r (λ x. IfSome told (λ t. BeginsFile t.contents name (bytes x)))
 text_front bytes (Ok x) told name left o h = opened_front told name left (bytes x) o h
 text_front bytes (Err e) told name left o h = tt
 
-pub text_used : {X : Type 0} (name : List ℕ) (r : Result X Outcome) (old mid new : Option Told) (left : Option (List ℕ)) (faults : ℕ) → IfErr r IsOfText → IfErr r (λ o. o ≡ ReadFault Query → 0 < faults) → OnOk r (faults ≡ 0) → IfSome old (λ t. IsOfQueryFile t.contents name (left, faults))
+pub text_used : {X : Type 0} (name : List ℕ) (r : Result X Outcome) (old mid new : Option FilesView) (left : Option (List ℕ)) (faults : ℕ) → IfErr r IsOfText → IfErr r (λ o. o ≡ ReadFault Query → 0 < faults) → OnOk r (faults ≡ 0) → IfSome old (λ t. IsOfQueryFile t.contents name (left, faults))
     → mid ≡ asking old name → new ≡ closing mid left faults → Uses Query name (outcome_of r) old new
 text_used name (Ok x) old mid new left faults h k z i asked closed = used_by Query name Done old mid new left faults (λ e. cc) (λ c. z) i tt asked closed
 text_used name (Err o) old mid new left faults h k z i asked closed = used_by Query name o old mid new left faults k (λ c. absurd (text_not_clean o h c)) i (read_opened o h) asked closed

@@ -1,6 +1,6 @@
 -- What a command leaves of its files, from what it did with each.
 use Rattle.std.proofs.Common.{◌≡◌, ◌<◌, ℕ, suc, List, [], ◌∷◌, ◌++◌, length, take, Option, Some, None, IfSome, refl, sym, ◌∙◌, ap, subst, arith, append-nil, append_assoc}
-use Rattle.saber_io.specs.Outside.{Told, asking, closing}
+use Rattle.saber_io.specs.Outside.{FilesView, asking, closing}
 use Rattle.saber_words.specs.Commands.{run, AskedRun}
 use Rattle.saber_notes.specs.declared.outcome.InputFile.TheVariants.{Query, Left, Right, SecondQuery}
 use Rattle.saber_notes.specs.declared.outcome.Outcome.{Outcome}
@@ -14,35 +14,35 @@ use Rattle.saber_cli.specs.RowFiles.{UsesRows, using}
 -- ---- told or not
 
 -- files with these names, of which more than the first are due where G holds
-abbrev pub LeavesBy : List (List ℕ) → (Told → Type 0) → Outcome → Option Told → Option Told → Type 0
-LeavesBy names G o old new = IfSome old (λ t. (u : Told) × (new ≡ Some u) × Leaves names (G t) o t u)
+abbrev pub LeavesBy : List (List ℕ) → (FilesView → Type 0) → Outcome → Option FilesView → Option FilesView → Type 0
+LeavesBy names G o old new = IfSome old (λ t. (u : FilesView) × (new ≡ Some u) × Leaves names (G t) o t u)
 
-told_by : (names : List (List ℕ)) (G : Told → Type 0) (o : Outcome) (old new : Option Told) → ((t : Told) → old ≡ Some t → (u : Told) × (new ≡ Some u) × Leaves names (G t) o t u) → LeavesBy names G o old new
+told_by : (names : List (List ℕ)) (G : FilesView → Type 0) (o : Outcome) (old new : Option FilesView) → ((t : FilesView) → old ≡ Some t → (u : FilesView) × (new ≡ Some u) × Leaves names (G t) o t u) → LeavesBy names G o old new
 told_by names G o None new h = tt
 told_by names G o (Some t) new h = h t refl
 
 -- what files tell when a source of theirs was given back
-abbrev back : Told → List ℕ → Option (List ℕ) → ℕ → Told
+abbrev back : FilesView → List ℕ → Option (List ℕ) → ℕ → FilesView
 back t name left faults = record { contents = t.contents; asked = t.asked ++ name ∷ []; closed = t.closed ++ (left, faults) ∷ [] }
 
 -- a source is of its query's file, where files tell
-abbrev IsOfTold : Option Told → List ℕ → Option (List ℕ) → ℕ → Type 0
+abbrev IsOfTold : Option FilesView → List ℕ → Option (List ℕ) → ℕ → Type 0
 IsOfTold old name left faults = IfSome old (λ t. IsOfQueryFile t.contents name (left, faults))
 
-is_of : (old : Option Told) (t : Told) (name : List ℕ) (left : Option (List ℕ)) (faults : ℕ) → old ≡ Some t → IsOfTold old name left faults → IsOfQueryFile t.contents name (left, faults)
+is_of : (old : Option FilesView) (t : FilesView) (name : List ℕ) (left : Option (List ℕ)) (faults : ℕ) → old ≡ Some t → IsOfTold old name left faults → IsOfQueryFile t.contents name (left, faults)
 is_of old t name left faults e h = subst (λ o. IsOfTold o name left faults) e h
 
 -- ---- no file
 
-pub none_left : (names : List (List ℕ)) (G : Told → Type 0) (o : Outcome) (old : Option Told) → Matches (length names) o 0 [] → LeavesBy names G o old old
+pub none_left : (names : List (List ℕ)) (G : FilesView → Type 0) (o : Outcome) (old : Option FilesView) → Matches (length names) o 0 [] → LeavesBy names G o old old
 none_left names G o old m = told_by names G o old old (λ t e. (t, e, record { contents = refl; count = 0; few = omega arith; rows = λ k. absurd (omega (arith, k)); asked = sym (append-nil t.asked); given_back = []; closed = sym (append-nil t.closed); are_of = tt; matches = m }))
 
 -- ---- the query's file alone
 
-one_back : (name : List ℕ) (rest : List (List ℕ)) (G : Type 0) (o : Outcome) (t : Told) (left : Option (List ℕ)) (faults : ℕ) → IsOfQueryFile t.contents name (left, faults) → Matches (length (name ∷ rest)) o 1 ((left, faults) ∷ []) → Leaves (name ∷ rest) G o t (back t name left faults)
+one_back : (name : List ℕ) (rest : List (List ℕ)) (G : Type 0) (o : Outcome) (t : FilesView) (left : Option (List ℕ)) (faults : ℕ) → IsOfQueryFile t.contents name (left, faults) → Matches (length (name ∷ rest)) o 1 ((left, faults) ∷ []) → Leaves (name ∷ rest) G o t (back t name left faults)
 one_back name rest G o t left faults h m = record { contents = refl; count = 1; few = omega arith; rows = λ k. absurd (omega (arith, k)); asked = refl; given_back = (left, faults) ∷ []; closed = refl; are_of = (h, tt); matches = m }
 
-one_open : (name : List ℕ) (rest : List (List ℕ)) (G : Type 0) (t : Told) → Leaves (name ∷ rest) G (OpenFault Query) t (record { contents = t.contents; asked = t.asked ++ name ∷ []; closed = t.closed })
+one_open : (name : List ℕ) (rest : List (List ℕ)) (G : Type 0) (t : FilesView) → Leaves (name ∷ rest) G (OpenFault Query) t (record { contents = t.contents; asked = t.asked ++ name ∷ []; closed = t.closed })
 one_open name rest G t = record { contents = refl; count = 1; few = omega arith; rows = λ k. absurd (omega (arith, k)); asked = refl; given_back = []; closed = sym (append-nil t.closed); are_of = tt; matches = (refl, refl, tt) }
 
 query_matches : (all : ℕ) (o : Outcome) (left : Option (List ℕ)) (faults : ℕ) → IsOfQuery o → IsOpened o → (o ≡ ReadFault Query → 0 < faults) → Matches all o 1 ((left, faults) ∷ [])
@@ -64,13 +64,13 @@ query_matches all WriteFault left faults h p f = absurd h
 query_matches all NoMemory left faults h p f = refl
 
 -- a query file that gave no text
-pub query_leaves : (name : List ℕ) (rest : List (List ℕ)) (G : Told → Type 0) (o : Outcome) (old new : Option Told) → IsOfQuery o → Uses Query name o old new → LeavesBy (name ∷ rest) G o old new
+pub query_leaves : (name : List ℕ) (rest : List (List ℕ)) (G : FilesView → Type 0) (o : Outcome) (old new : Option FilesView) → IsOfQuery o → Uses Query name o old new → LeavesBy (name ∷ rest) G o old new
 query_leaves name rest G o old new h (unasked e s) = subst (λ n. LeavesBy (name ∷ rest) G o old n) (sym s) (none_left (name ∷ rest) G o old (subst (λ p. Matches (length (name ∷ rest)) p 0 []) (sym e) refl))
 query_leaves name rest G o old new h (unopened e s) = told_by (name ∷ rest) G o old new (λ t k. (_, s ∙ ap (λ p. asking p name) k, subst (λ p. Leaves (name ∷ rest) (G t) p t (record { contents = t.contents; asked = t.asked ++ name ∷ []; closed = t.closed })) (sym e) (one_open name rest (G t) t)))
 query_leaves name rest G o old new h (used left faults f c i p s) = told_by (name ∷ rest) G o old new (λ t k. (_, s ∙ ap (λ q. closing (asking q name) left faults) k, one_back name rest (G t) o t left faults (is_of old t name left faults k i) (query_matches (length (name ∷ rest)) o left faults h p f)))
 
 -- a query file that was read, where nothing else is asked for
-after_query : (name : List ℕ) (rest : List (List ℕ)) (G : Told → Type 0) (o : Outcome) (old new : Option Told) → ((left : Option (List ℕ)) (faults : ℕ) → faults ≡ 0 → Matches (length (name ∷ rest)) o 1 ((left, faults) ∷ []))
+after_query : (name : List ℕ) (rest : List (List ℕ)) (G : FilesView → Type 0) (o : Outcome) (old new : Option FilesView) → ((left : Option (List ℕ)) (faults : ℕ) → faults ≡ 0 → Matches (length (name ∷ rest)) o 1 ((left, faults) ∷ []))
     → Uses Query name Done old new → LeavesBy (name ∷ rest) G o old new
 after_query name rest G o old new m (unasked e s) = cc
 after_query name rest G o old new m (unopened e s) = cc
@@ -98,7 +98,7 @@ refused_matches all (TooWide t n r) h left faults z = absurd h
 refused_matches all WriteFault h left faults z = absurd h
 refused_matches all NoMemory h left faults z = refl
 
-pub refused_leaves : (name : List ℕ) (rest : List (List ℕ)) (G : Told → Type 0) (o : Outcome) (old new : Option Told) → IsRefused o → Uses Query name Done old new → LeavesBy (name ∷ rest) G o old new
+pub refused_leaves : (name : List ℕ) (rest : List (List ℕ)) (G : FilesView → Type 0) (o : Outcome) (old new : Option FilesView) → IsRefused o → Uses Query name Done old new → LeavesBy (name ∷ rest) G o old new
 refused_leaves name rest G o old new h u = after_query name rest G o old new (refused_matches (length (name ∷ rest)) o h) u
 
 show_matches : (o : Outcome) → IsOfShow o → (left : Option (List ℕ)) (faults : ℕ) → faults ≡ 0 → Matches 1 o 1 ((left, faults) ∷ [])
@@ -116,13 +116,13 @@ show_matches (TooWide t n r) h left faults z = absurd h
 show_matches WriteFault h left faults z = (refl, refl)
 show_matches NoMemory h left faults z = refl
 
-pub show_leaves : (name : List ℕ) (G : Told → Type 0) (o : Outcome) (old new : Option Told) → IsOfShow o → Uses Query name Done old new → LeavesBy (name ∷ []) G o old new
+pub show_leaves : (name : List ℕ) (G : FilesView → Type 0) (o : Outcome) (old new : Option FilesView) → IsOfShow o → Uses Query name Done old new → LeavesBy (name ∷ []) G o old new
 show_leaves name G o old new h u = after_query name [] G o old new (show_matches o h) u
 
 -- ---- the query's file and then the row files
 
 -- a query's source that had no faults, and was given back before a row file was asked for
-behind_query : (query : List ℕ) (names : List (List ℕ)) (G : Told → Type 0) (o : Outcome) (old mid new : Option Told) (left : Option (List ℕ)) (faults : ℕ) → faults ≡ 0 → IsOfTold old query left faults → IfSome old G → mid ≡ closing (asking old query) left faults → UsesRows names o mid new
+behind_query : (query : List ℕ) (names : List (List ℕ)) (G : FilesView → Type 0) (o : Outcome) (old mid new : Option FilesView) (left : Option (List ℕ)) (faults : ℕ) → faults ≡ 0 → IsOfTold old query left faults → IfSome old G → mid ≡ closing (asking old query) left faults → UsesRows names o mid new
     → LeavesBy (query ∷ names) G o old new
 behind_query query names G o old mid new left faults z i g s u = told_by (query ∷ names) G o old new (λ t k. let m = s ∙ ap (λ x. closing (asking x query) left faults) k in (
   _,
@@ -141,7 +141,7 @@ behind_query query names G o old mid new left faults z i g s u = told_by (query 
 ))
 
 -- row files that were asked for behind a query that was read
-pub rows_leaves : (r : AskedRun) (o : Outcome) (old mid new : Option Told) → IfSome old (λ t. AsksRows t.contents (run r)) → Uses Query r.query Done old mid → UsesRows (row_names r) o mid new → LeavesTold (run r) o old new
+pub rows_leaves : (r : AskedRun) (o : Outcome) (old mid new : Option FilesView) → IfSome old (λ t. AsksRows t.contents (run r)) → Uses Query r.query Done old mid → UsesRows (row_names r) o mid new → LeavesTold (run r) o old new
 rows_leaves r o old mid new g (unasked e s) u = cc
 rows_leaves r o old mid new g (unopened e s) u = cc
 rows_leaves r o old mid new g (used left faults f c i p s) u = behind_query r.query (row_names r) (λ t. AsksRows t.contents (run r)) o old mid new left faults (c tt) i g s u

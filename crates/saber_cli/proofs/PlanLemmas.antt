@@ -1,6 +1,6 @@
 -- The plans of a chain's queries, and why there are none.
 use Rattle.std.proofs.Common.{◌≡◌, ◌≢◌, ℕ, List, [], ◌∷◌, length, Option, refl, sym, ◌∙◌, subst}
-use Rattle.saber_io.specs.Outside.{Told}
+use Rattle.saber_io.specs.Outside.{FilesView}
 use Rattle.saber_plan.specs.declared.plans.Shape.{Shape}
 use Rattle.saber_plan.specs.declared.plans.Shape.TheVariants.{Select, Group, Join}
 use Rattle.saber_plan.specs.declared.windows.Stream.{Stream}
@@ -116,7 +116,7 @@ refused_opened text WriteFault h = absurd h
 refused_opened text NoMemory h = tt
 
 -- a text that was refused came of a file that was read
-pub uses_refused : (name text : List ℕ) (o : Outcome) (old new : Option Told) → IsTextFault text o → Uses Query name Done old new → Uses Query name o old new
+pub uses_refused : (name text : List ℕ) (o : Outcome) (old new : Option FilesView) → IsTextFault text o → Uses Query name Done old new → Uses Query name o old new
 uses_refused name text o old new h (unasked e s) = cc
 uses_refused name text o old new h (unopened e s) = cc
 uses_refused name text o old new h (used left faults f c i p s) = used left faults (λ e. absurd (subst (IsTextFault text) e h)) (λ k. c tt) i (refused_opened text o h) s

@@ -3,14 +3,15 @@ use Rattle.std.proofs.Common.{Bool, ◌≡◌, ◌≤◌, ◌<◌, inl, inr, ℕ
 use Rattle.std.proofs.lemmas.List.{take_all}
 use Rattle.std.proofs.lemmas.Bool.Decides.{nat_tests}
 use Rattle.std.specs.Prelude.{option_to_list, option_and_then}
-use Rattle.saber_io.specs.Outside.{Told, Closed, Opens, OpensIn, Rose, asking, closing, content_in, counted, given, raised}
+use Rattle.saber_io.specs.Outside.{FilesView, Closed, Opens, OpensIn, Rose, asking, closing, content_in, counted, given, raised}
 use Rattle.saber_plan.specs.declared.rows.Side.{Side}
 use Rattle.saber_plan.specs.declared.rows.Side.TheVariants as sides
 use Rattle.saber_plan.specs.Trees.{Tree}
 use Rattle.saber_plan.specs.Sizes.{FileLimits}
 use Rattle.saber_dispatch.specs.declared.inputs.Inputs.{Inputs}
 use Rattle.saber_dispatch.specs.declared.inputs.Inputs.TheVariants.{One, Two}
-use Rattle.saber_engine.specs.Sources.{each_input, told_by, RoseAt, GaveAll, input_of}
+use Rattle.saber_engine.specs.Sources.{each_input, told_by, RoseAt, GaveAll}
+use Rattle.saber_plan.specs.Files.{input_of}
 use Rattle.saber_engine.specs.Gives.{ReadsWhole}
 use Rattle.saber_words.specs.Commands.{AskedRun}
 use Rattle.saber_notes.specs.declared.outcome.InputFile.TheVariants.{Query, Left, Right, SecondQuery}
@@ -29,20 +30,20 @@ use Rattle.saber_cli.proofs.FileLemmas.{rose_some}
 -- ---- the right file was not opened
 
 -- two files were asked for, and the first was given back
-two_asked : (told : Option Told) (l name : List ℕ) (left : Option (List ℕ)) (faults : ℕ) → closing (asking (asking told l) name) left faults ≡ using told (l ∷ name ∷ []) ((left, faults) ∷ [])
+two_asked : (told : Option FilesView) (l name : List ℕ) (left : Option (List ℕ)) (faults : ℕ) → closing (asking (asking told l) name) left faults ≡ using told (l ∷ name ∷ []) ((left, faults) ∷ [])
 two_asked None l name left faults = refl
 two_asked (Some t) l name left faults = ap (λ x. Some (record { contents = t.contents; asked = x; closed = t.closed ++ (left, faults) ∷ [] })) (append_assoc t.asked (l ∷ []) (name ∷ []))
 
-one_asked : (told : Option Told) (l : List ℕ) (left : Option (List ℕ)) (faults : ℕ) → closing (asking told l) left faults ≡ using told (l ∷ []) ((left, faults) ∷ [])
+one_asked : (told : Option FilesView) (l : List ℕ) (left : Option (List ℕ)) (faults : ℕ) → closing (asking told l) left faults ≡ using told (l ∷ []) ((left, faults) ∷ [])
 one_asked None l left faults = refl
 one_asked (Some t) l left faults = refl
 
 -- a source that was opened, and not read
-unread_of : (told : Option Told) (name : List ℕ) (left : Option (List ℕ)) (faults : ℕ) → Opens told name left → IfSome told (λ t. IsOf t.contents name (left, faults) × Unit {0})
+unread_of : (told : Option FilesView) (name : List ℕ) (left : Option (List ℕ)) (faults : ℕ) → Opens told name left → IfSome told (λ t. IsOf t.contents name (left, faults) × Unit {0})
 unread_of None name left faults o = tt
 unread_of (Some t) name left faults o = (record { taken = []; rest = o.0; there = o.1; left = o.2 }, tt)
 
-back_of_two : (l name : List ℕ) (o : Outcome) (a b c d : Option Told) (left : Option (List ℕ)) (faults : ℕ) → Opens a l left → faults ≡ 0 → b ≡ asking a l → IsNotOpened Right name o b c → d ≡ closing c left faults → UsesRows (l ∷ name ∷ []) o a d
+back_of_two : (l name : List ℕ) (o : Outcome) (a b c d : Option FilesView) (left : Option (List ℕ)) (faults : ℕ) → Opens a l left → faults ≡ 0 → b ≡ asking a l → IsNotOpened Right name o b c → d ≡ closing c left faults → UsesRows (l ∷ name ∷ []) o a d
 back_of_two l name o a b c d left faults opens fresh asked (inl (k, n)) closed = subst (λ p. UsesRows (l ∷ name ∷ []) p a d) (sym k) (record {
   count = 2;
   few = omega arith;
@@ -60,7 +61,7 @@ back_of_two l name o a b c d left faults opens fresh asked (inr (k, n)) closed =
   matches = λ query z. refl;
 })
 
-pub right_unopened : (r : AskedRun) (name : List ℕ) (o : Outcome) (a b c d : Option Told) (left : Option (List ℕ)) (faults : ℕ) → r.right ≡ Some name → Opens a r.left left → faults ≡ 0 → b ≡ asking a r.left → IsNotOpened Right name o b c → d ≡ closing c left faults → UsesRows (row_names r) o a d
+pub right_unopened : (r : AskedRun) (name : List ℕ) (o : Outcome) (a b c d : Option FilesView) (left : Option (List ℕ)) (faults : ℕ) → r.right ≡ Some name → Opens a r.left left → faults ≡ 0 → b ≡ asking a r.left → IsNotOpened Right name o b c → d ≡ closing c left faults → UsesRows (row_names r) o a d
 right_unopened r name o a b c d left faults e opens fresh asked not closed = subst (λ x. UsesRows (r.left ∷ option_to_list x) o a d) (sym e) (back_of_two r.left name o a b c d left faults opens fresh asked not closed)
 
 -- ---- sources as they are given back
@@ -191,11 +192,11 @@ run_matches n NoMemory xs ys query h p len z c r q = omega (arith, len)
 -- ---- what files tell
 
 -- all names were asked for, and then all sources given back
-pub both_used : (a b c : Option Told) (names : List (List ℕ)) (back : List Closed) → b ≡ using a names [] → c ≡ using b [] back → c ≡ using a names back
+pub both_used : (a b c : Option FilesView) (names : List (List ℕ)) (back : List Closed) → b ≡ using a names [] → c ≡ using b [] back → c ≡ using a names back
 both_used None b c names back e f = f ∙ ap (λ x. using x [] back) e
 both_used (Some t) b c names back e f = f ∙ ap (λ x. using x [] back) e ∙ (λ i. Some (record { contents = t.contents; asked = append-nil (t.asked ++ names) i; closed = append-nil t.closed i ++ back }))
 
-pub of_told : (told : Option Told) (names : List (List ℕ)) (hads : List (Option (List ℕ))) (taken : List (List ℕ)) (back : List Closed) → IfSome told (λ t. OpensAll t.contents names hads) → GaveAll hads taken (map (λ s. s.0) back)
+pub of_told : (told : Option FilesView) (names : List (List ℕ)) (hads : List (Option (List ℕ))) (taken : List (List ℕ)) (back : List Closed) → IfSome told (λ t. OpensAll t.contents names hads) → GaveAll hads taken (map (λ s. s.0) back)
     → IfSome told (λ t. AreOf 0 t.contents back names)
 of_told None names hads taken back o g = tt
 of_told (Some t) names hads taken back o g = all_of t.contents names hads taken back o g
@@ -207,7 +208,7 @@ opened_same contents [] (h ∷ hs) o = absurd o
 opened_same contents (n ∷ ns) [] o = absurd o
 opened_same contents (n ∷ ns) (h ∷ hs) o = λ i. (o.0.2 ∙ sym o.0.1) i ∷ opened_same contents ns hs o.1 i
 
-takes_told : (q : Tree) (n : ℕ) (limits : FileLimits) (tasks : ℕ) (names : List (List ℕ)) (hads : List (Option (List ℕ))) (back : List Closed) (told : Option Told) → IfSome told (λ t. OpensAll t.contents names hads) → ReadsWhole q n limits tasks hads (map (λ s. s.0) back)
+takes_told : (q : Tree) (n : ℕ) (limits : FileLimits) (tasks : ℕ) (names : List (List ℕ)) (hads : List (Option (List ℕ))) (back : List Closed) (told : Option FilesView) → IfSome told (λ t. OpensAll t.contents names hads) → ReadsWhole q n limits tasks hads (map (λ s. s.0) back)
     → IfSome told (λ t. TakesOf q n limits tasks t.contents names back)
 takes_told q n limits tasks names hads back None o w = tt
 takes_told q n limits tasks names hads back (Some t) o w = subst (λ x. ReadsWhole q n limits tasks x (map (λ s. s.0) back)) (opened_same t.contents names hads o) w
@@ -215,7 +216,7 @@ takes_told q n limits tasks names hads back (Some t) o w = subst (λ x. ReadsWho
 -- ---- a run over open sources, of inputs as they were and as they are
 
 module _ {S : Type 0} (left : S → Option (List ℕ)) (faults : S → ℕ) where
-  pub run_uses : (names : List (List ℕ)) (o : Outcome) (i j : Inputs S) (a b c : Option Told) → length (each_input left i) ≡ length names → IfSome a (λ t. OpensAll t.contents names (each_input left i)) → HadNoFaults (backs left faults i)
+  pub run_uses : (names : List (List ℕ)) (o : Outcome) (i j : Inputs S) (a b c : Option FilesView) → length (each_input left i) ≡ length names → IfSome a (λ t. OpensAll t.contents names (each_input left i)) → HadNoFaults (backs left faults i)
       → b ≡ using a names [] → c ≡ using b [] (backs left faults j) → IsOfRun o → IsOpened o → (taken : List (List ℕ)) × GaveAll (each_input left i) taken (each_input left j)
       → (IsClean o → each_input faults j ≡ each_input faults i) → ((side : Side) → o ≡ ReadFault (file_on side) → RoseAt side (each_input faults i) (each_input faults j)) → UsesRows names o a c
   run_uses names o i j a b c number opens fresh asked closed kinds opened takes good read =
@@ -233,7 +234,7 @@ module _ {S : Type 0} (left : S → Option (List ℕ)) (faults : S → ℕ) wher
 
   -- ---- what was taken
 
-  pub run_takes : (q : Tree) (n : ℕ) (limits : FileLimits) (tasks : ℕ) (names : List (List ℕ)) (i j : Inputs S) (a b c : Option Told) → IfSome a (λ t. OpensAll t.contents names (each_input left i)) → b ≡ using a names [] → c ≡ using b [] (backs left faults j)
+  pub run_takes : (q : Tree) (n : ℕ) (limits : FileLimits) (tasks : ℕ) (names : List (List ℕ)) (i j : Inputs S) (a b c : Option FilesView) → IfSome a (λ t. OpensAll t.contents names (each_input left i)) → b ≡ using a names [] → c ≡ using b [] (backs left faults j)
       → ReadsWhole q n limits tasks (each_input left i) (each_input left j) → TakesRows q n limits tasks names a c
   run_takes q n limits tasks names i j a b c opens asked closed w = record {
     given_back = backs left faults j;
@@ -257,7 +258,7 @@ module _ {S : Type 0} (left : S → Option (List ℕ)) (faults : S → ℕ) wher
   )
   all_told contents (n ∷ m ∷ l ∷ ns) (Two s t) o = absurd o.1.1
 
-  pub run_answers : (q : Tree) (n ring : ℕ) (limits : FileLimits) (flush : Bool) (names : List (List ℕ)) (o : Outcome) (tasks : ℕ) (out : List ℕ) (i : Inputs S) (told : Option Told) → IfSome told (λ t. OpensAll t.contents names (each_input left i))
+  pub run_answers : (q : Tree) (n ring : ℕ) (limits : FileLimits) (flush : Bool) (names : List (List ℕ)) (o : Outcome) (tasks : ℕ) (out : List ℕ) (i : Inputs S) (told : Option FilesView) → IfSome told (λ t. OpensAll t.contents names (each_input left i))
       → IfSome (told_by left i) (λ all. Answered q n ring flush (input_of q limits all) o tasks out) → IfSome told (λ t. AnsweredIn q n ring limits flush (contents_of t.contents names) o tasks out)
   run_answers q n ring limits flush names o tasks out i None opens h = tt
   run_answers q n ring limits flush names o tasks out i (Some t) opens h =

@@ -2,7 +2,7 @@
 use Rattle.std.proofs.Common.{Bool, ◌≡◌, ◌⊎◌, inl, inr, ℕ, List, [], length, Option, Some, None, IfSome, refl, sym, ◌∙◌, ap, subst}
 use Rattle.saber_plan.specs.Rows.{Read}
 use Rattle.saber_plan.specs.Trees.{Tree}
-use Rattle.saber_io.specs.Outside.{Told, content_in}
+use Rattle.saber_io.specs.Outside.{FilesView, content_in}
 use Rattle.saber_plan.specs.Sizes.{FileLimits}
 use Rattle.saber_query.specs.declared.fault.Cause.{Cause}
 use Rattle.saber_check.specs.Texts.{HasPlan, HasFault}
@@ -10,7 +10,7 @@ use Rattle.saber_words.specs.Commands.{Asked, run, AskedRun}
 use Rattle.saber_notes.specs.declared.outcome.InputFile.TheVariants.{Query}
 use Rattle.saber_notes.specs.declared.outcome.Outcome.{Outcome}
 use Rattle.saber_notes.specs.declared.outcome.Outcome.TheVariants.{Done, Usage, FileCount, QueryFault, SecondQueryFault, Unchainable, LineRefused, ChainLineRefused, OpenFault, ReadFault, TooWide, WriteFault, NoMemory}
-use Rattle.saber_engine.specs.Sources.{input_of}
+use Rattle.saber_plan.specs.Files.{input_of}
 use Rattle.saber_cli.specs.Laws.{Laws}
 use Rattle.saber_cli.specs.Outcomes.{IsEarly, IsFileFault, IsQueryUnread, IsOfRun, IsNoEnd}
 use Rattle.saber_cli.specs.Uses.{Uses, unasked, unopened, used, IsOfQuery}
@@ -346,7 +346,7 @@ some_both P Q R None f h k = tt
 some_both P Q R (Some x) f h k = f x h k
 
 -- a query file that was read and given back leaves the contents
-pub used_contents : (P : Contents → Type 0) (name : List ℕ) (old mid : Option Told) → Uses Query name Done old mid → IfSome mid (λ u. P u.contents) → IfSome old (λ t. P t.contents)
+pub used_contents : (P : Contents → Type 0) (name : List ℕ) (old mid : Option FilesView) → Uses Query name Done old mid → IfSome mid (λ u. P u.contents) → IfSome old (λ t. P t.contents)
 used_contents P name old mid (unasked e s) h = cc
 used_contents P name old mid (unopened e s) h = cc
 used_contents P name None mid (used left faults f c i p s) h = tt

@@ -7,7 +7,7 @@ use Rattle.saber_notes.specs.declared.outcome.InputFile.{InputFile}
 use Rattle.saber_notes.specs.declared.outcome.Outcome.{Outcome}
 use Rattle.saber_notes.specs.declared.outcome.Outcome.TheVariants.{Done, Usage, FileCount, QueryFault, SecondQueryFault, Unchainable, LineRefused, ChainLineRefused, OpenFault, ReadFault, TooWide, WriteFault, NoMemory}
 use Rattle.saber_cli.specs.Laws.{Laws}
-use Rattle.saber_io.specs.Outside.{Told}
+use Rattle.saber_io.specs.Outside.{FilesView}
 use Rattle.saber_cli.specs.Due.{Contents, Due, IsDueFor, IsDue, no_command, by_command, names_of, AsksRows}
 use Rattle.saber_cli.specs.Leaves.{LeavesTold}
 use Rattle.saber_cli.specs.Causes.{HasCause, Allows, Ends, ShowsText, TellsSummary}
@@ -94,6 +94,6 @@ unread_answers ls ws files fault.NoMemory h = record { cause = tt; allows = memo
 unread_answers ls ws files fault.Usage h = usage_answers ws files (h refl)
 
 -- none of their files is asked for
-pub unread_leave : (ws : List (List ℕ)) (c : Asked) (f : WordsFault) (told : Option Told) → (f ≡ fault.Usage → command_of ws ≡ None) → command_of ws ≡ Some c → LeavesTold c (unread f) told told
+pub unread_leave : (ws : List (List ℕ)) (c : Asked) (f : WordsFault) (told : Option FilesView) → (f ≡ fault.Usage → command_of ws ≡ None) → command_of ws ≡ Some c → LeavesTold c (unread f) told told
 unread_leave ws c fault.NoMemory told h is = none_left (names_of c) (λ t. AsksRows t.contents c) NoMemory told refl
 unread_leave ws c fault.Usage told h is = let clash : Some c ≡ None = sym is ∙ h refl in cc

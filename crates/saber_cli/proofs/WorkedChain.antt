@@ -9,9 +9,9 @@ use Rattle.saber_query.specs.declared.fault.Cause.{Cause}
 use Rattle.saber_check.specs.Texts.{HasPlan, HasFault}
 use Rattle.saber_plan.specs.declared.rows.RowCause.{RowCause}
 use Rattle.saber_plan.specs.declared.rows.Side.{Side}
-use Rattle.saber_engine.specs.declared.ends.RunEnd.{RunEnd}
-use Rattle.saber_engine.specs.declared.ends.RunEnd.TheVariants as ends
-use Rattle.saber_engine.specs.Sources.{input_of}
+use Rattle.saber_plan.specs.declared.ends.RunEnd.{RunEnd}
+use Rattle.saber_plan.specs.declared.ends.RunEnd.TheVariants as ends
+use Rattle.saber_plan.specs.Files.{input_of}
 use Rattle.saber_chain.specs.Texts.{text_of_both}
 use Rattle.saber_notes.specs.declared.outcome.InputFile.TheVariants.{Query, Left, Right, SecondQuery}
 use Rattle.saber_notes.specs.declared.outcome.Outcome.{Outcome}

@@ -1,13 +1,13 @@
 -- What a run over row files comes to.
 use Rattle.std.specs.Prelude.{Bool, ◌≡◌, ℕ, List, [], Option, Some, None, IfSome}
-use Rattle.saber_io.specs.Outside.{Told}
+use Rattle.saber_io.specs.Outside.{FilesView}
 use Rattle.saber_plan.specs.Rows.{Read}
 use Rattle.saber_plan.specs.Trees.{Tree}
 use Rattle.saber_plan.specs.Tasks.{run_input}
 use Rattle.saber_plan.specs.declared.sizes.Sizes.{Sizes}
 use Rattle.saber_plan.specs.Sizes.{FileLimits, limits_of}
-use Rattle.saber_engine.specs.Gives.{Assembles, reach_of}
-use Rattle.saber_engine.specs.Sources.{input_of}
+use Rattle.saber_plan.specs.Runs.{Assembles, reach_of}
+use Rattle.saber_plan.specs.Files.{input_of}
 use Rattle.saber_notes.specs.declared.outcome.Outcome.{Outcome}
 use Rattle.saber_cli.specs.Outcomes.{IsNoEnd}
 use Rattle.saber_cli.specs.Due.{contents_of}
@@ -28,6 +28,6 @@ AnsweredIn q n ring limits flush None o tasks out = IsNoEnd o × (tasks ≡ 0) �
 AnsweredIn q n ring limits flush (Some all) o tasks out = Answered q n ring flush (input_of q limits all) o tasks out
 
 -- of these names, where files tell
-abbrev pub AnsweredTold : Tree → Sizes → List (List ℕ) → Option Told → Outcome → ℕ → List ℕ → Type 0
+abbrev pub AnsweredTold : Tree → Sizes → List (List ℕ) → Option FilesView → Outcome → ℕ → List ℕ → Type 0
 AnsweredTold q s names told o tasks out =
     IfSome told (λ t. AnsweredIn q s.task s.ring (limits_of s) s.flush (contents_of t.contents names) o tasks out)

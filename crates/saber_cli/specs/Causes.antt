@@ -2,7 +2,7 @@
 use Rattle.std.specs.Prelude.{Bool, ◌≡◌, ◌⊎◌, ℕ, List}
 use Rattle.saber_plan.specs.Rows.{Read}
 use Rattle.saber_plan.specs.Trees.{Tree}
-use Rattle.saber_engine.specs.Gives.{IsClean}
+use Rattle.saber_plan.specs.Runs.{IsClean}
 use Rattle.saber_notes.specs.declared.outcome.Outcome.{Outcome}
 use Rattle.saber_notes.specs.declared.outcome.Outcome.TheVariants.{Done, Usage, FileCount, QueryFault, SecondQueryFault, Unchainable, LineRefused, ChainLineRefused, OpenFault, ReadFault, TooWide, WriteFault, NoMemory}
 use Rattle.saber_cli.specs.Outcomes.{IsFileFault, IsQueryUnread}

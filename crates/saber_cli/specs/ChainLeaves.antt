@@ -1,6 +1,6 @@
 -- What a chain leaves of its files: which it asked for, and which it gave back.
 use Rattle.std.specs.Prelude.{◌≡◌, ◌<◌, ◌≤◌, ℕ, ◌+◌, min, List, ◌++◌, length, take, Option, Some, IfSome, slice_get}
-use Rattle.saber_io.specs.Outside.{Told, Closed}
+use Rattle.saber_io.specs.Outside.{FilesView, Closed}
 use Rattle.saber_plan.specs.Trees.{Tree}
 use Rattle.saber_words.specs.Chain.{AskedChain}
 use Rattle.saber_words.specs.Commands.{chain}
@@ -49,7 +49,7 @@ MatchesChain all NoMemory asked given_back = length given_back ≡ asked
 
 -- The chain asked for the first of its files, in this order, and gave the opened ones back in the order of their opening: for the second query's only
 -- behind a first one with a plan, and for the row files only where they are due.
-pub record LeavesBoth (a : AskedChain) (o : Outcome) (old new : Told) : Type 0 where
+pub record LeavesBoth (a : AskedChain) (o : Outcome) (old new : FilesView) : Type 0 where
   pub contents : new.contents ≡ old.contents
   pub count : ℕ
   pub few : count ≤ length (names_of (chain a))
@@ -62,5 +62,5 @@ pub record LeavesBoth (a : AskedChain) (o : Outcome) (old new : Told) : Type 0 w
   pub matches : MatchesChain (length (names_of (chain a))) o count given_back
 
 -- where files tell, they still do, and the files of the chain were used so
-abbrev pub LeavesChain : AskedChain → Outcome → Option Told → Option Told → Type 0
-LeavesChain a o old new = IfSome old (λ t. (u : Told) × (new ≡ Some u) × LeavesBoth a o t u)
+abbrev pub LeavesChain : AskedChain → Outcome → Option FilesView → Option FilesView → Type 0
+LeavesChain a o old new = IfSome old (λ t. (u : FilesView) × (new ≡ Some u) × LeavesBoth a o t u)

@@ -1,6 +1,6 @@
 -- What a chain comes to: two queries, of which the second one's rows are the lines of the first.
 use Rattle.std.specs.Prelude.{Bool, ◌≡◌, ◌≢◌, ◌⊎◌, ℕ, List, [], ◌∷◌, ◌++◌, length, Option, Some, IfSome, true, false}
-use Rattle.saber_io.specs.Outside.{Told, Closed, appended, content_in}
+use Rattle.saber_io.specs.Outside.{FilesView, Closed, appended, content_in}
 use Rattle.saber_plan.specs.declared.rows.Side.{Side}
 use Rattle.saber_plan.specs.declared.plans.Shape.TheVariants.{Join}
 use Rattle.saber_plan.specs.declared.sizes.Sizes.{Sizes}
@@ -11,11 +11,11 @@ use Rattle.saber_plan.specs.Windows.{has_windows}
 use Rattle.saber_plan.specs.Answers.{frame}
 use Rattle.saber_check.specs.Texts.{HasPlan}
 use Rattle.saber_words.specs.Chain.{AskedChain}
-use Rattle.saber_engine.specs.declared.ends.RunEnd.{RunEnd}
-use Rattle.saber_engine.specs.declared.ends.RunEnd.TheVariants as ends
-use Rattle.saber_engine.specs.Sources.{input_of}
+use Rattle.saber_plan.specs.declared.ends.RunEnd.{RunEnd}
+use Rattle.saber_plan.specs.declared.ends.RunEnd.TheVariants as ends
+use Rattle.saber_plan.specs.Files.{input_of}
 use Rattle.saber_engine.specs.Endings.{MayStop}
-use Rattle.saber_engine.specs.Gives.{Gives}
+use Rattle.saber_plan.specs.Runs.{Gives}
 use Rattle.saber_engine.specs.FedRuns.{TakesWhole}
 use Rattle.saber_chain.specs.Texts.{between_limits, rows_between, text_of_both}
 use Rattle.saber_chain.specs.Marks.{IsWhole, IsShort}
@@ -40,7 +40,7 @@ pub record HasPlans (files : Contents) (a : AskedChain) (p q : Tree) : Type 0 wh
   pub second : IsPlanned files a.second q
 
 -- where files tell
-abbrev pub HasPlansTold : Option Told → AskedChain → Tree → Tree → Type 0
+abbrev pub HasPlansTold : Option FilesView → AskedChain → Tree → Tree → Type 0
 HasPlansTold told a p q = IfSome told (λ t. HasPlans t.contents a p q)
 
 -- The first one's lines begin with the numbers of their windows, which rise: it has windows, as all have but a selection without a stream word, and no
@@ -140,7 +140,7 @@ pub data ChainsOver (files : Contents) (leaves : Tree → RunEnd → ℕ → Typ
       → RunsChain r.first r.second (chain_sizes a) (leaves r.first) (Some all) had has o tasks → ChainsOver files leaves a o tasks had has
 
 -- The row files' sources were given back behind those of both queries, and of what was taken of them at least every whole task of the whole lines is assembled.
-pub record TakesChain (q : Tree) (a : AskedChain) (tasks : ℕ) (old new : Told) : Type 0 where
+pub record TakesChain (q : Tree) (a : AskedChain) (tasks : ℕ) (old new : FilesView) : Type 0 where
   pub first_query : Closed
   pub second_query : Closed
   pub given_back : List Closed
@@ -148,9 +148,9 @@ pub record TakesChain (q : Tree) (a : AskedChain) (tasks : ℕ) (old new : Told)
   pub takes : TakesOf q a.task (limits_of (chain_sizes a)) tasks old.contents (row_names (first_run a)) given_back
 
 -- so it is of a first query that could not read its rows to the end
-abbrev pub CutTakesChain : AskedChain → Told → Option Told → Tree → RunEnd → ℕ → Type 0
-CutTakesChain a old new q end tasks = (side : Side) → end ≡ ends.ReadFault side → (u : Told) × (new ≡ Some u) × TakesChain q a tasks old u
+abbrev pub CutTakesChain : AskedChain → FilesView → Option FilesView → Tree → RunEnd → ℕ → Type 0
+CutTakesChain a old new q end tasks = (side : Side) → end ≡ ends.ReadFault side → (u : FilesView) × (new ≡ Some u) × TakesChain q a tasks old u
 
 -- the whole where files tell, before and after the call
-abbrev pub AnswersChain : AskedChain → Outcome → ℕ → Option Told → Option Told → Option (List ℕ) → Option (List ℕ) → Type 0
+abbrev pub AnswersChain : AskedChain → Outcome → ℕ → Option FilesView → Option FilesView → Option (List ℕ) → Option (List ℕ) → Type 0
 AnswersChain a o tasks told new had has = IfSome told (λ t. ChainsOver t.contents (CutTakesChain a t new) a o tasks had has)

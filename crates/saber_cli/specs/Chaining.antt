@@ -1,13 +1,13 @@
 -- What the parts of a chain come to: a query's plan, both plans, and the run over the row files.
 use Rattle.std.specs.Prelude.{◌≡◌, ◌≢◌, ◌≤◌, ℕ, suc, List, [], ◌∷◌, length, take, Option, Some, IfSome}
-use Rattle.saber_io.specs.Outside.{Told, Closed}
+use Rattle.saber_io.specs.Outside.{FilesView, Closed}
 use Rattle.saber_plan.specs.declared.plans.Shape.TheVariants.{Join}
 use Rattle.saber_plan.specs.declared.rows.Side.{Side}
 use Rattle.saber_plan.specs.declared.sizes.Sizes.{Sizes}
 use Rattle.saber_plan.specs.Sizes.{limits_of}
 use Rattle.saber_plan.specs.Trees.{Tree}
-use Rattle.saber_engine.specs.declared.ends.RunEnd.{RunEnd}
-use Rattle.saber_engine.specs.declared.ends.RunEnd.TheVariants as ends
+use Rattle.saber_plan.specs.declared.ends.RunEnd.{RunEnd}
+use Rattle.saber_plan.specs.declared.ends.RunEnd.TheVariants as ends
 use Rattle.saber_notes.specs.declared.outcome.InputFile.TheVariants.{Query, SecondQuery}
 use Rattle.saber_notes.specs.declared.outcome.Outcome.{Outcome}
 use Rattle.saber_notes.specs.declared.outcome.Outcome.TheVariants.{QueryFault, SecondQueryFault, Unchainable, FileCount, OpenFault, ReadFault, NoMemory}
@@ -47,7 +47,7 @@ IsMisfit p q files _ = ⊥
 -- ---- both queries' files
 
 -- they were opened, read and given back, and nothing failed
-pub record BothRead (first second : List ℕ) (old new : Option Told) : Type 0 where
+pub record BothRead (first second : List ℕ) (old new : Option FilesView) : Type 0 where
   pub one : Closed
   pub two : Closed
   pub one_good : one.1 ≡ 0
@@ -60,7 +60,7 @@ pub record BothRead (first second : List ℕ) (old new : Option Told) : Type 0 w
 
 -- The first of the row files with these names were asked for, and those that were opened were given back in this order. Behind two queries' sources
 -- without faults, this is what a chain leaves of its files.
-pub record UsesChainRows (names : List (List ℕ)) (o : Outcome) (old new : Option Told) : Type 0 where
+pub record UsesChainRows (names : List (List ℕ)) (o : Outcome) (old new : Option FilesView) : Type 0 where
   pub count : ℕ
   pub few : count ≤ length names
   pub given_back : List Closed
@@ -74,9 +74,9 @@ pub data ChainedIn (p q : Tree) (s : Sizes) (leaves : RunEnd → ℕ → Type 0)
   all_run : (all : List (List ℕ)) → content ≡ Some all → RunsChain p q s leaves (Some all) had has o tasks → ChainedIn p q s leaves content had has o tasks
 
 -- the first query's end, with so many tasks, behind a fault of reading the row files with these names
-abbrev pub CutTakes : Tree → Sizes → List (List ℕ) → Option Told → Option Told → RunEnd → ℕ → Type 0
+abbrev pub CutTakes : Tree → Sizes → List (List ℕ) → Option FilesView → Option FilesView → RunEnd → ℕ → Type 0
 CutTakes p s names old new end tasks = (side : Side) → end ≡ ends.ReadFault side → TakesRows p s.task (limits_of s) tasks names old new
 
 -- over the row files with these names, where files tell
-abbrev pub ChainedTold : Tree → Tree → Sizes → List (List ℕ) → Option Told → Option Told → Option (List ℕ) → Option (List ℕ) → Outcome → ℕ → Type 0
+abbrev pub ChainedTold : Tree → Tree → Sizes → List (List ℕ) → Option FilesView → Option FilesView → Option (List ℕ) → Option (List ℕ) → Outcome → ℕ → Type 0
 ChainedTold p q s names told new had has o tasks = IfSome told (λ t. ChainedIn p q s (CutTakes p s names told new) (contents_of t.contents names) had has o tasks)

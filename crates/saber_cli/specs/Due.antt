@@ -15,7 +15,7 @@ use Rattle.saber_check.specs.Texts.{HasPlan, HasFault}
 use Rattle.saber_words.specs.Chain.{AskedChain}
 use Rattle.saber_words.specs.Demo.{AskedDemo}
 use Rattle.saber_words.specs.Commands.{Asked, run, check, demo, chain, AskedRun, command_of}
-use Rattle.saber_engine.specs.Sources.{input_of}
+use Rattle.saber_plan.specs.Files.{input_of}
 use Rattle.saber_cli.specs.Demo.{summary_of_run, tasks_of_run}
 
 -- each file's name and what it has

@@ -5,9 +5,9 @@ use Rattle.saber_plan.specs.declared.rows.Side.TheVariants as sides
 use Rattle.saber_plan.specs.Rows.{Read}
 use Rattle.saber_plan.specs.Trees.{Tree}
 use Rattle.saber_plan.specs.Tasks.{run_input}
-use Rattle.saber_engine.specs.declared.ends.RunEnd.{RunEnd}
-use Rattle.saber_engine.specs.declared.ends.RunEnd.TheVariants as ends
-use Rattle.saber_engine.specs.Gives.{EndsAs}
+use Rattle.saber_plan.specs.declared.ends.RunEnd.{RunEnd}
+use Rattle.saber_plan.specs.declared.ends.RunEnd.TheVariants as ends
+use Rattle.saber_plan.specs.Runs.{EndsAs}
 use Rattle.saber_engine.specs.Sources.{RoseAt}
 use Rattle.saber_notes.specs.declared.outcome.InputFile.{InputFile}
 use Rattle.saber_notes.specs.declared.outcome.InputFile.TheVariants.{Left, Right}

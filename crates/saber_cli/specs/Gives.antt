@@ -1,6 +1,6 @@
 -- What a command gives over files that tell their contents.
 use Rattle.std.specs.Prelude.{ℕ, List, Option, IfSome}
-use Rattle.saber_io.specs.Outside.{Told}
+use Rattle.saber_io.specs.Outside.{FilesView}
 use Rattle.saber_words.specs.Commands.{Asked}
 use Rattle.saber_notes.specs.declared.outcome.Outcome.{Outcome}
 use Rattle.saber_cli.specs.Due.{AreNoChain, Contents, Due, IsDueFor, IsDue}
@@ -20,5 +20,5 @@ pub record Answers (words : List (List ℕ)) (files : Contents) (o : Outcome) (t
   pub puts : (d : Due) → IsDue words files d → PutsOut d o tasks out
 
 -- of words that are no chain, where files tell
-abbrev pub AnswersTold : List (List ℕ) → Option Told → Outcome → ℕ → List ℕ → Type 0
+abbrev pub AnswersTold : List (List ℕ) → Option FilesView → Outcome → ℕ → List ℕ → Type 0
 AnswersTold words told o tasks out = AreNoChain words → IfSome told (λ t. Answers words t.contents o tasks out)

@@ -1,6 +1,6 @@
 -- What a call leaves of the files: which it asked for, and which it gave back.
 use Rattle.std.specs.Prelude.{◌≡◌, ◌<◌, ◌≤◌, ℕ, zero, suc, ◌+◌, List, [], ◌∷◌, ◌++◌, length, take, Option, Some, IfSome, slice_get}
-use Rattle.saber_io.specs.Outside.{Told, Closed}
+use Rattle.saber_io.specs.Outside.{FilesView, Closed}
 use Rattle.saber_words.specs.Commands.{Asked}
 use Rattle.saber_notes.specs.declared.outcome.InputFile.{InputFile}
 use Rattle.saber_notes.specs.declared.outcome.InputFile.TheVariants.{Query, Left, Right, SecondQuery}
@@ -64,7 +64,7 @@ AreOf (suc queries) contents (source ∷ more) (name ∷ names) = IsOfQueryFile 
 
 -- The call asked for the first of these names, in this order, and gave the opened ones back in the order of their opening;
 -- for more than the first only where that is due.
-pub record Leaves (names : List (List ℕ)) (RowsDue : Type 0) (o : Outcome) (old new : Told) : Type 0 where
+pub record Leaves (names : List (List ℕ)) (RowsDue : Type 0) (o : Outcome) (old new : FilesView) : Type 0 where
   pub contents : new.contents ≡ old.contents
   pub count : ℕ
   pub few : count ≤ length names
@@ -76,5 +76,5 @@ pub record Leaves (names : List (List ℕ)) (RowsDue : Type 0) (o : Outcome) (ol
   pub matches : Matches (length names) o count given_back
 
 -- where files tell, they still do, and the files of the command were used so
-abbrev pub LeavesTold : Asked → Outcome → Option Told → Option Told → Type 0
-LeavesTold c o old new = IfSome old (λ t. (u : Told) × (new ≡ Some u) × Leaves (names_of c) (AsksRows t.contents c) o t u)
+abbrev pub LeavesTold : Asked → Outcome → Option FilesView → Option FilesView → Type 0
+LeavesTold c o old new = IfSome old (λ t. (u : FilesView) × (new ≡ Some u) × Leaves (names_of c) (AsksRows t.contents c) o t u)

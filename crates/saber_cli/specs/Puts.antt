@@ -4,7 +4,7 @@ use Rattle.saber_notes.specs.declared.outcome.Outcome.{Outcome}
 use Rattle.saber_notes.specs.declared.outcome.Outcome.TheVariants.{Done, WriteFault, NoMemory}
 use Rattle.saber_cli.specs.Due.{Due, usage, missing, faulty, unlike, shows, tells, runs}
 use Rattle.saber_cli.specs.Endings.{end_of}
-use Rattle.saber_engine.specs.Gives.{Assembles, reach_of}
+use Rattle.saber_plan.specs.Runs.{Assembles, reach_of}
 use Rattle.saber_plan.specs.Tasks.{run_input}
 
 -- the text of a query goes out whole, a prefix of it where the sink fails, else nothing

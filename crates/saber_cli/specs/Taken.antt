@@ -1,6 +1,6 @@
 -- What a run that could not read its row files to the end has assembled of them.
 use Rattle.std.specs.Prelude.{◌≡◌, ℕ, List, ◌∷◌, ◌++◌, map, Option, Some, IfSome}
-use Rattle.saber_io.specs.Outside.{Told, Closed, content_in}
+use Rattle.saber_io.specs.Outside.{FilesView, Closed, content_in}
 use Rattle.saber_plan.specs.declared.rows.Side.{Side}
 use Rattle.saber_plan.specs.Trees.{Tree}
 use Rattle.saber_plan.specs.declared.sizes.Sizes.{Sizes}
@@ -19,7 +19,7 @@ abbrev pub TakesOf : Tree → ℕ → FileLimits → ℕ → Contents → List (
 TakesOf q n limits tasks contents names given_back = ReadsWhole q n limits tasks (map (content_in contents) names) (map (λ source. source.0) given_back)
 
 -- the files were opened and given back, and so much is assembled of them
-pub record TakesRows (q : Tree) (n : ℕ) (limits : FileLimits) (tasks : ℕ) (names : List (List ℕ)) (old new : Option Told) : Type 0 where
+pub record TakesRows (q : Tree) (n : ℕ) (limits : FileLimits) (tasks : ℕ) (names : List (List ℕ)) (old new : Option FilesView) : Type 0 where
   pub given_back : List Closed
   pub told : new ≡ using old names given_back
   pub takes : IfSome old (λ t. TakesOf q n limits tasks t.contents names given_back)
@@ -29,11 +29,11 @@ abbrev pub CutLeavesWhole : Tree → Sizes → Outcome → ℕ → List (Option 
 CutLeavesWhole q s o tasks had has = (side : Side) → o ≡ ReadFault (file_on side) → ReadsWhole q s.task (limits_of s) tasks had has
 
 -- the same over the row files with these names
-abbrev pub CutTakesRows : Tree → Sizes → Outcome → ℕ → List (List ℕ) → Option Told → Option Told → Type 0
+abbrev pub CutTakesRows : Tree → Sizes → Outcome → ℕ → List (List ℕ) → Option FilesView → Option FilesView → Type 0
 CutTakesRows q s o tasks names old new = (side : Side) → o ≡ ReadFault (file_on side) → TakesRows q s.task (limits_of s) tasks names old new
 
 -- the row files' sources were given back behind the query's, and so much is assembled of them
-pub record TakesWhole (r : AskedRun) (tasks : ℕ) (old new : Told) : Type 0 where
+pub record TakesWhole (r : AskedRun) (tasks : ℕ) (old new : FilesView) : Type 0 where
   pub plan : Tree
   pub has_run : HasRun old.contents r plan
   pub query : Closed
@@ -42,5 +42,5 @@ pub record TakesWhole (r : AskedRun) (tasks : ℕ) (old new : Told) : Type 0 whe
   pub takes : TakesOf plan r.task (asked_limits r) tasks old.contents (row_names r) given_back
 
 -- the same where files tell, of a call that ends by a fault of reading a row file
-abbrev pub TakesTold : AskedRun → Outcome → ℕ → Option Told → Option Told → Type 0
-TakesTold r o tasks old new = (side : Side) → o ≡ ReadFault (file_on side) → IfSome old (λ t. (u : Told) × (new ≡ Some u) × TakesWhole r tasks t u)
+abbrev pub TakesTold : AskedRun → Outcome → ℕ → Option FilesView → Option FilesView → Type 0
+TakesTold r o tasks old new = (side : Side) → o ≡ ReadFault (file_on side) → IfSome old (λ t. (u : FilesView) × (new ≡ Some u) × TakesWhole r tasks t u)

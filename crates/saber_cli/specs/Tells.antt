@@ -4,8 +4,8 @@ use Rattle.saber_io.specs.Outside.{appended}
 use Rattle.saber_plan.specs.Answers.{text}
 use Rattle.saber_words.specs.Demo.{AskedDemo}
 use Rattle.saber_demo.specs.Query.{demo_tree}
-use Rattle.saber_engine.specs.declared.ends.RunEnd.{RunEnd}
-use Rattle.saber_engine.specs.declared.ends.RunEnd.TheVariants as ends
+use Rattle.saber_plan.specs.declared.ends.RunEnd.{RunEnd}
+use Rattle.saber_plan.specs.declared.ends.RunEnd.TheVariants as ends
 use Rattle.saber_notes.specs.declared.outcome.Outcome.{Outcome}
 use Rattle.saber_cli.specs.Demo.{generated_input, summary_of_run, tasks_of_run}
 use Rattle.saber_cli.specs.Puts.{HasTasks, IsOfPut, PutsText}

@@ -1,6 +1,6 @@
 -- What is done with a query's file: it is opened, read and given back.
 use Rattle.std.specs.Prelude.{◌≡◌, ◌<◌, ◌≤◌, ℕ, List, ◌++◌, length, Option, Some, IfSome, Result, Ok, Err}
-use Rattle.saber_io.specs.Outside.{Told, Closed, asking, closing, counted, content_in}
+use Rattle.saber_io.specs.Outside.{FilesView, Closed, asking, closing, counted, content_in}
 use Rattle.saber_notes.specs.declared.outcome.InputFile.{InputFile}
 use Rattle.saber_notes.specs.declared.outcome.InputFile.TheVariants.{Query}
 use Rattle.saber_notes.specs.declared.outcome.Outcome.{Outcome}
@@ -27,7 +27,7 @@ pub record IsOfQueryFile (contents : List (List ℕ × List ℕ)) (name : List �
 
 -- The query's file was not asked for, for want of memory; or it was asked for and not opened; or it was opened, and given back
 -- with an end of its contents: with faults where it could not be read, and with none where nothing failed.
-pub data Uses (file : InputFile) (name : List ℕ) (o : Outcome) (old new : Option Told) : Type 0 where
+pub data Uses (file : InputFile) (name : List ℕ) (o : Outcome) (old new : Option FilesView) : Type 0 where
   unasked : o ≡ NoMemory → new ≡ old → Uses file name o old new
   unopened : o ≡ OpenFault file → new ≡ asking old name → Uses file name o old new
   used : (left : Option (List ℕ)) (faults : ℕ) → (o ≡ ReadFault file → 0 < faults) → (IsClean o → faults ≡ 0) →

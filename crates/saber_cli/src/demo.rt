@@ -5,7 +5,7 @@ ghost use Rattle.saber_plan.specs.Sizes.{SizesFit};
 ghost use Rattle.saber_words.specs.declared.commands.Command.{Command};
 ghost use Rattle.saber_words.specs.Commands.{asked, IsSized};
 ghost use Rattle.saber_words.specs.Demo.{asked_demo};
-ghost use Rattle.saber_engine.specs.declared.ends.RunEnd.{RunEnd};
+ghost use Rattle.saber_plan.specs.declared.ends.RunEnd.{RunEnd};
 ghost use Rattle.saber_notes.specs.declared.outcome.Outcome.{Outcome};
 ghost use Rattle.saber_cli.specs.Demo.{tasks_of_run};
 ghost use Rattle.saber_cli.specs.Tells.{IsAnswer, IsWholeOrLacks, TellsRun};

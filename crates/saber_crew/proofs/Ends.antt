@@ -9,9 +9,9 @@ use Rattle.saber_ring.specs.Closing.{Finishes, IsLast}
 use Rattle.saber_workers.specs.Seats.{OfBase}
 use Rattle.saber_workers.specs.Lasts.{GaveAll, HasFilled}
 use Rattle.saber_workers.proofs.Lasts.{behind_all}
-use Rattle.saber_crew.specs.declared.feed.Fed.{Fed}
-use Rattle.saber_crew.specs.declared.feed.Over.TheVariants.{Stopped}
-use Rattle.saber_crew.specs.Feeds.{BeginsFeed, FedTo}
+use Rattle.saber_crew.specs.declared.dispatch.Dispatched.{Dispatched}
+use Rattle.saber_crew.specs.declared.dispatch.Over.TheVariants.{Stopped}
+use Rattle.saber_crew.specs.Dispatches.{BeginsDispatch, DispatchedTo}
 use Rattle.saber_crew.specs.Runs.{BeginsRun, RunsTo}
 
 false_true : false ≡ true → ⊥
@@ -22,19 +22,19 @@ no_more x e = ap extra e
 
 module _ {T : Type 0} (is_told : T → ℕ → Type 0) (upto : T → ℕ → T) (given : T → ℕ → Type 0) (ended : Type 0) where
   -- no other seat is out, as at the start
-  pub is_last : (told : T) (fed : Fed) (o o' : Option (Lead T)) → o ≡ (start told).lead → FedTo is_told upto given ended fed o o' → IsLast o'
-  is_last told fed None o' at e = absurd e
-  is_last told fed (Some l) None at e = absurd e
-  is_last told fed (Some l) (Some m) at e = e.1 ∙ ap out_or at
+  pub is_last : (told : T) (dispatched : Dispatched) (o o' : Option (Lead T)) → o ≡ (start told).lead → DispatchedTo is_told upto given ended dispatched o o' → IsLast o'
+  is_last told dispatched None o' at e = absurd e
+  is_last told dispatched (Some l) None at e = absurd e
+  is_last told dispatched (Some l) (Some m) at e = e.1 ∙ ap out_or at
     where
       out_or : Option (Lead T) → ℕ
       out_or None = 0
       out_or (Some z) = z.out
 
-  pub all_filled : (fed : Fed) (o o' : Option (Lead T)) → FedTo is_told upto given ended fed o o' → HasFilled fed.tasks o'
-  all_filled fed None o' e l at = absurd e
-  all_filled fed (Some l') None e l at = absurd e
-  all_filled fed (Some l') (Some m) e l at = subst (λ (z : Option (Lead T)). fed.tasks ≤ filled_or z) at (let same = e.0 in omega arith)
+  pub all_filled : (dispatched : Dispatched) (o o' : Option (Lead T)) → DispatchedTo is_told upto given ended dispatched o o' → HasFilled dispatched.tasks o'
+  all_filled dispatched None o' e l at = absurd e
+  all_filled dispatched (Some l') None e l at = absurd e
+  all_filled dispatched (Some l') (Some m) e l at = subst (λ (z : Option (Lead T)). dispatched.tasks ≤ filled_or z) at (let same = e.0 in omega arith)
     where
       filled_or : Option (Lead T) → ℕ
       filled_or None = 0
@@ -49,22 +49,22 @@ module _ {T S : Type 0} (is_told : T → ℕ → Type 0) (upto : T → ℕ → T
   begins_base None v b is = absurd b
   begins_base (Some told) v b is = subst (λ (z : View T). OfBase suits z.base) (sym is) b.2
 
-  pub begins_feed : (o : Option T) (v : View T) → BeginsRun is_told is_stage suits given stage o → v ≡ first_view o → BeginsFeed is_told upto given v.lead
-  begins_feed None v b is = absurd b
-  begins_feed (Some told) v b is = subst (λ (z : View T). BeginsFeed is_told upto given z.lead) (sym is) (refl, b.0, b.3)
+  pub begins_dispatch : (o : Option T) (v : View T) → BeginsRun is_told is_stage suits given stage o → v ≡ first_view o → BeginsDispatch is_told upto given v.lead
+  begins_dispatch None v b is = absurd b
+  begins_dispatch (Some told) v b is = subst (λ (z : View T). BeginsDispatch is_told upto given z.lead) (sym is) (refl, b.0, b.3)
 
   module _ (given' : T → ℕ → Type 0) (ended : Type 0) where
-    pub begins_last : (o : Option T) (u : View T) (fed : Fed) (o' : Option (Lead T)) → BeginsRun is_told is_stage suits given stage o → u ≡ first_view o → FedTo is_told upto given' ended fed u.lead o' → IsLast o'
-    begins_last None u fed o' b is e = absurd b
-    begins_last (Some told) u fed o' b is e = is_last is_told upto given' ended told fed u.lead o' (λ i. (is i).lead) e
+    pub begins_last : (o : Option T) (u : View T) (dispatched : Dispatched) (o' : Option (Lead T)) → BeginsRun is_told is_stage suits given stage o → u ≡ first_view o → DispatchedTo is_told upto given' ended dispatched u.lead o' → IsLast o'
+    begins_last None u dispatched o' b is e = absurd b
+    begins_last (Some told) u dispatched o' b is e = is_last is_told upto given' ended told dispatched u.lead o' (λ i. (is i).lead) e
 
-    module _ (again : (told : T) (d j k : ℕ) → is_told told d → k ≤ j → j ≤ d → upto (upto told j) k ≡ upto told k) (whole : (told : T) (d : ℕ) → is_told told d → upto told d ≡ told) (fed : Fed) (v : View T) (last : S) where
-      runs_to : (told : T) (l m : Lead T) → is_told told 0 → l.told ≡ told → FedTo is_told upto given' ended fed (Some l) (Some m) → Finishes upto is_stage v last (Some m) → (v.stopped ≡ true) ⊎ GaveAll fed.tasks v.own → (fed.over ≡ Stopped → v.stopped ≡ true)
-          → RunsTo is_told upto is_stage given' ended told last fed
+    module _ (again : (told : T) (d j k : ℕ) → is_told told d → k ≤ j → j ≤ d → upto (upto told j) k ≡ upto told k) (whole : (told : T) (d : ℕ) → is_told told d → upto told d ≡ told) (dispatched : Dispatched) (v : View T) (last : S) where
+      runs_to : (told : T) (l m : Lead T) → is_told told 0 → l.told ≡ told → DispatchedTo is_told upto given' ended dispatched (Some l) (Some m) → Finishes upto is_stage v last (Some m) → (v.stopped ≡ true) ⊎ GaveAll dispatched.tasks v.own → (dispatched.over ≡ Stopped → v.stopped ≡ true)
+          → RunsTo is_told upto is_stage given' ended told last dispatched
       runs_to told l m known is e fin done why =
           let k : ℕ = fin.0 in let x : Bool = fin.1 in let same = e.0 in let within = fin.4 in let f = e.3 in let few = f.few in
           let runs = λ (no : x ≡ false) (saw : v.stopped ≡ true). false_true (sym no ∙ fin.7 saw) in
-          let below : k + extra x ≤ fed.tasks = omega arith in
+          let below : k + extra x ≤ dispatched.tasks = omega arith in
           record {
             told = f.told;
             count = f.count;
@@ -75,15 +75,15 @@ module _ {T S : Type 0} (is_told : T → ℕ → Type 0) (upto : T → ℕ → T
             all = f.all;
             k = k;
             stopped = x;
-            stage_is = subst (λ z. is_stage z k x last) (ap (λ z. upto z (k + extra x)) f.data_is ∙ again f.told f.count fed.tasks (k + extra x) f.known below few) fin.2;
+            stage_is = subst (λ z. is_stage z k x last) (ap (λ z. upto z (k + extra x)) f.data_is ∙ again f.told f.count dispatched.tasks (k + extra x) f.known below few) fin.2;
             within = below;
             runs = λ no.
-                let least : fed.tasks ≤ k = ⊎_elim (λ saw. absurd (runs no saw)) (λ gave. behind_all fed.tasks k x v.own gave fin.5) done in let none = no_more x no in
+                let least : dispatched.tasks ≤ k = ⊎_elim (λ saw. absurd (runs no saw)) (λ gave. behind_all dispatched.tasks k x v.own gave fin.5) done in let none = no_more x no in
                 (omega arith, λ cut. runs no (why cut));
           }
 
-      ends_at : (told : T) (o o' o'' : Option (Lead T)) → is_told told 0 → o ≡ (start told).lead → FedTo is_told upto given' ended fed o o' → o'' ≡ o' → Finishes upto is_stage v last o'' → (v.stopped ≡ true) ⊎ GaveAll fed.tasks v.own → (fed.over ≡ Stopped → v.stopped ≡ true)
-          → RunsTo is_told upto is_stage given' ended told last fed
+      ends_at : (told : T) (o o' o'' : Option (Lead T)) → is_told told 0 → o ≡ (start told).lead → DispatchedTo is_told upto given' ended dispatched o o' → o'' ≡ o' → Finishes upto is_stage v last o'' → (v.stopped ≡ true) ⊎ GaveAll dispatched.tasks v.own → (dispatched.over ≡ Stopped → v.stopped ≡ true)
+          → RunsTo is_told upto is_stage given' ended told last dispatched
       ends_at told None o' o'' known at e same fin done why = absurd e
       ends_at told (Some l) None o'' known at e same fin done why = absurd e
       ends_at told (Some l) (Some m) o'' known at e same fin done why = runs_to told l m known (ap told_or at) e (subst (Finishes upto is_stage v last) same fin) done why
@@ -92,7 +92,7 @@ module _ {T S : Type 0} (is_told : T → ℕ → Type 0) (upto : T → ℕ → T
           told_or None = told
           told_or (Some z) = z.told
 
-      pub ends : (o : Option T) (u : View T) (o' o'' : Option (Lead T)) → BeginsRun is_told is_stage suits given stage o → u ≡ first_view o → FedTo is_told upto given' ended fed u.lead o' → o'' ≡ o' → Finishes upto is_stage v last o'' → (v.stopped ≡ true) ⊎ GaveAll fed.tasks v.own
-          → (fed.over ≡ Stopped → v.stopped ≡ true) → IfSome o (λ told. RunsTo is_told upto is_stage given' ended told last fed)
+      pub ends : (o : Option T) (u : View T) (o' o'' : Option (Lead T)) → BeginsRun is_told is_stage suits given stage o → u ≡ first_view o → DispatchedTo is_told upto given' ended dispatched u.lead o' → o'' ≡ o' → Finishes upto is_stage v last o'' → (v.stopped ≡ true) ⊎ GaveAll dispatched.tasks v.own
+          → (dispatched.over ≡ Stopped → v.stopped ≡ true) → IfSome o (λ told. RunsTo is_told upto is_stage given' ended told last dispatched)
       ends None u o' o'' b is e same fin done why = absurd b
       ends (Some told) u o' o'' b is e same fin done why = ends_at told u.lead o' o'' b.0 (λ i. (is i).lead) e same fin done why

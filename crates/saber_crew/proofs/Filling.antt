@@ -11,30 +11,30 @@ use Rattle.saber_ring.specs.Calls.{Covers, FillsNext}
 use Rattle.saber_ring.specs.Shows.{first_of_task}
 use Rattle.saber_ring.specs.Plays.{more_filled}
 use Rattle.saber_ring.specs.Freeing.{IsSlid}
-use Rattle.saber_crew.specs.declared.feed.Fed.{Fed}
-use Rattle.saber_crew.specs.declared.feed.Over.TheVariants.{AllGiven}
+use Rattle.saber_crew.specs.declared.dispatch.Dispatched.{Dispatched}
+use Rattle.saber_crew.specs.declared.dispatch.Over.TheVariants.{AllGiven}
 use Rattle.saber_crew.specs.Supplies.{GivesRows}
-use Rattle.saber_crew.specs.Feeds.{Puts, BeginsFeed, FedAll, FedTo, AreFrees}
+use Rattle.saber_crew.specs.Dispatches.{Puts, BeginsDispatch, AllDispatched, DispatchedTo, AreFrees}
 
 module _ {T R : Type 0} (is_told : T → ℕ → Type 0) (filled : T → R → T) (upto : T → ℕ → T) (is_rows : T → ℕ → R → Type 0)
     (keeps : (told : T) (d k : ℕ) (rows : R) → is_told told d → is_told (filled told rows) (d + 1) → is_rows (filled told rows) d rows → k ≤ d → upto (filled told rows) k ≡ upto told k)
     (whole : (told : T) (d : ℕ) → is_told told d → upto told d ≡ told) where
-  pub fed_none : (given : T → ℕ → Type 0) (o : Option (Lead T)) → BeginsFeed is_told upto given o → FedAll is_told upto given 0 o o
-  fed_none given None f = absurd f
-  fed_none given (Some l) f = (f.0, refl, f.1, refl, f.2)
+  pub dispatch_none : (given : T → ℕ → Type 0) (o : Option (Lead T)) → BeginsDispatch is_told upto given o → AllDispatched is_told upto given 0 o o
+  dispatch_none given None f = absurd f
+  dispatch_none given (Some l) f = (f.0, refl, f.1, refl, f.2)
 
   -- so many were given
-  pub given_so_far : (given : T → ℕ → Type 0) (d : ℕ) (o o' : Option (Lead T)) → FedAll is_told upto given d o o' → (told : T) × (n : ℕ) × given told n
+  pub given_so_far : (given : T → ℕ → Type 0) (d : ℕ) (o o' : Option (Lead T)) → AllDispatched is_told upto given d o o' → (told : T) × (n : ℕ) × given told n
   given_so_far given d None o' e = absurd e
   given_so_far given d (Some l) None e = absurd e
   given_so_far given d (Some l) (Some m) e = (m.told, d, e.4)
 
   module _ (given given' : T → ℕ → Type 0) (d : ℕ) where
     -- none is given any more
-    pub fed_ended : (ended : Type 0) (fed : Fed) (o o' : Option (Lead T)) → FedAll is_told upto given d o o' → ((told : T) (n : ℕ) → given told n → given' told n) → (fed.over ≡ AllGiven → ended) → fed.tasks ≡ d → FedTo is_told upto given' ended fed o o'
-    fed_ended ended fed None o' e stay over is = absurd e
-    fed_ended ended fed (Some l) None e stay over is = absurd e
-    fed_ended ended fed (Some l) (Some m) e stay over is = (
+    pub dispatch_ended : (ended : Type 0) (dispatched : Dispatched) (o o' : Option (Lead T)) → AllDispatched is_told upto given d o o' → ((told : T) (n : ℕ) → given told n → given' told n) → (dispatched.over ≡ AllGiven → ended) → dispatched.tasks ≡ d → DispatchedTo is_told upto given' ended dispatched o o'
+    dispatch_ended ended dispatched None o' e stay over is = absurd e
+    dispatch_ended ended dispatched (Some l) None e stay over is = absurd e
+    dispatch_ended ended dispatched (Some l) (Some m) e stay over is = (
       e.0 ∙ sym is,
       e.1,
       subst (is_told m.told) (sym is) e.2,
@@ -52,19 +52,19 @@ module _ {T R : Type 0} (is_told : T → ℕ → Type 0) (filled : T → R → T
 
     module _ (r : R) (gives : (told : T) (n : ℕ) → given told n → GivesRows is_told filled is_rows given' told n r) where
       -- what was given is filled next
-      pub fills_next : (o o' : Option (Lead T)) → FedAll is_told upto given d o o' → FillsNext is_told filled is_rows d r o' × (d < 4398046511104)
+      pub fills_next : (o o' : Option (Lead T)) → AllDispatched is_told upto given d o o' → FillsNext is_told filled is_rows d r o' × (d < 4398046511104)
       fills_next None o' e = absurd e
       fills_next (Some l) None e = absurd e
       fills_next (Some l) (Some m) e = let g = gives m.told d e.4 in ((e.0, g.0, g.1), g.3)
 
       -- it is filled
-      pub fed_more : (o o' o'' : Option (Lead T)) → FedAll is_told upto given d o o' → Puts filled r true o' o'' → FedAll is_told upto given' (d + 1) o o''
-      fed_more None o' o'' e p = absurd e
-      fed_more (Some l) None o'' e p = absurd e
-      fed_more (Some l) (Some m) o'' e p =
+      pub dispatch_more : (o o' o'' : Option (Lead T)) → AllDispatched is_told upto given d o o' → Puts filled r true o' o'' → AllDispatched is_told upto given' (d + 1) o o''
+      dispatch_more None o' o'' e p = absurd e
+      dispatch_more (Some l) None o'' e p = absurd e
+      dispatch_more (Some l) (Some m) o'' e p =
           let g = gives m.told d e.4 in
           let same : p.0 ≡ m = (let x = p.1 in cc) in
-          subst (FedAll is_told upto given' (d + 1) (Some l)) (sym (p.2 ∙ ap (λ (z : Lead T). Some (more_filled z (filled z.told r))) same)) (
+          subst (AllDispatched is_told upto given' (d + 1) (Some l)) (sym (p.2 ∙ ap (λ (z : Lead T). Some (more_filled z (filled z.told r))) same)) (
             ap (λ z. z + 1) e.0,
             e.1,
             g.1,
@@ -73,10 +73,10 @@ module _ {T R : Type 0} (is_told : T → ℕ → Type 0) (filled : T → R → T
           )
 
       -- it is dropped
-      pub fed_dropped : (ended : Type 0) (fed : Fed) (o o' : Option (Lead T)) → FedAll is_told upto given d o o' → fed.tasks ≡ d → (fed.over ≡ AllGiven → ⊥) → FedTo is_told upto given' ended fed o o'
-      fed_dropped ended fed None o' e is not = absurd e
-      fed_dropped ended fed (Some l) None e is not = absurd e
-      fed_dropped ended fed (Some l) (Some m) e is not =
+      pub dispatch_dropped : (ended : Type 0) (dispatched : Dispatched) (o o' : Option (Lead T)) → AllDispatched is_told upto given d o o' → dispatched.tasks ≡ d → (dispatched.over ≡ AllGiven → ⊥) → DispatchedTo is_told upto given' ended dispatched o o'
+      dispatch_dropped ended dispatched None o' e is not = absurd e
+      dispatch_dropped ended dispatched (Some l) None e is not = absurd e
+      dispatch_dropped ended dispatched (Some l) (Some m) e is not =
           let g = gives m.told d e.4 in (
             e.0 ∙ sym is,
             e.1,
@@ -95,7 +95,7 @@ module _ {T R : Type 0} (is_told : T → ℕ → Type 0) (filled : T → R → T
 
       module _ (first : T → ℕ → ℕ) (y : ℕ) (says : (told : T) (t : ℕ) → is_rows told t r → y ≡ first_of_task upto first told t) where
         -- The next task's first block stands behind the others, of which the first ones may go. So the list covers what its fill asks of it.
-        pub frees_cover : (o o' : Option (Lead T)) (cut : ℕ) (old new : Frees) → FedAll is_told upto given d o o' → AreFrees upto first d old o' → cut ≤ d → IsSlid y cut old new → AreFrees upto first (d + 1) new o'
+        pub frees_cover : (o o' : Option (Lead T)) (cut : ℕ) (old new : Frees) → AllDispatched is_told upto given d o o' → AreFrees upto first d old o' → cut ≤ d → IsSlid y cut old new → AreFrees upto first (d + 1) new o'
         frees_cover None o' cut old new e a low slid = absurd e
         frees_cover (Some l) None cut old new e a low slid = absurd e
         frees_cover (Some l) (Some m) cut old new e a low slid =
@@ -114,7 +114,7 @@ module _ {T R : Type 0} (is_told : T → ℕ → Type 0) (filled : T → R → T
             )
 
         -- and it stays so once the task is filled
-        pub frees_more : (o o' o'' : Option (Lead T)) (frees : Frees) → FedAll is_told upto given d o o' → Puts filled r true o' o'' → AreFrees upto first (d + 1) frees o' → AreFrees upto first (d + 1) frees o''
+        pub frees_more : (o o' o'' : Option (Lead T)) (frees : Frees) → AllDispatched is_told upto given d o o' → Puts filled r true o' o'' → AreFrees upto first (d + 1) frees o' → AreFrees upto first (d + 1) frees o''
         frees_more None o' o'' frees e p a = absurd e
         frees_more (Some l) None o'' frees e p a = absurd e
         frees_more (Some l) (Some m) o'' frees e p a =
@@ -124,7 +124,7 @@ module _ {T R : Type 0} (is_told : T → ℕ → Type 0) (filled : T → R → T
             (a.0, λ k low lt. a.1 k low lt ∙ ap (λ z. first z k) (sym (keeps m.told d k r e.2 g.1 g.0 (omega arith))))
 
 module _ {T : Type 0} (is_told : T → ℕ → Type 0) (upto : T → ℕ → T) (first : T → ℕ → ℕ) where
-  pub frees_none : (given : T → ℕ → Type 0) (frees : Frees) (o : Option (Lead T)) → BeginsFeed is_told upto given o → frees.base ≡ 0 → frees.list.items ≡ [] → AreFrees upto first 0 frees o
+  pub frees_none : (given : T → ℕ → Type 0) (frees : Frees) (o : Option (Lead T)) → BeginsDispatch is_told upto given o → frees.base ≡ 0 → frees.list.items ≡ [] → AreFrees upto first 0 frees o
   frees_none given frees None f base none = absurd f
   frees_none given frees (Some l) f base none = (let long = ap length none in omega arith, λ k low lt. absurd (let no = lt in omega arith))
 

@@ -1,5 +1,5 @@
 pub mod Supplies
-pub mod Feeds
+pub mod Dispatches
 pub mod Spares
 pub mod Runs
 pub mod Notes

@@ -1,6 +1,6 @@
 -- What a supply of tasks gives.
 use Rattle.std.specs.Prelude.{◌<◌, ◌^◌, ℕ, ◌+◌, Result, Ok, Err}
-use Rattle.saber_crew.specs.declared.feed.Over.{Over}
+use Rattle.saber_crew.specs.declared.dispatch.Over.{Over}
 use Rattle.saber_crew.specs.declared.supply.Supplied.{Supplied}
 use Rattle.saber_crew.specs.declared.supply.Supplied.TheVariants as supplied
 

@@ -6,9 +6,9 @@ ghost use Rattle.saber_ring.specs.Words.{view, table, table_of};
 ghost use Rattle.saber_ring.specs.Seats.{parting};
 ghost use Rattle.saber_workers.specs.Seats.{IsFree, OfBase};
 ghost use Rattle.saber_crew.specs.Spares.{CanHelp, IsSpare, Rejoins, StaysSpare};
-ghost use Rattle.saber_crew.specs.Feeds.{BeginsFeed, FedTo};
+ghost use Rattle.saber_crew.specs.Dispatches.{BeginsDispatch, DispatchedTo};
 
-use crate::feed::{Fed, Over, feed};
+use crate::dispatch::{Dispatched, Over, dispatch};
 use crate::supply::Supply;
 use saber_core::Work;
 use saber_io::Gate;
@@ -31,36 +31,36 @@ fn lead<W: Work, L: Labor<W>, G: Gate, P: Supply<W>, R: Wait>(
     supply: &mut P,
     from: &mut P::From,
     is_alone: bool,
-) -> Fed
+) -> Dispatched
 where
     W::Rows: Drop,
     requires own { table seat.old ≡ table_of ring.now }
     requires free { IsFree (view seat.old) }
     requires none { (view seat.old).job ≡ None }
     requires suits { OfBase (L.suits op.now) (view seat.old).base }
-    requires begins { BeginsFeed W.is_told W.upto (P.has_given supply.old from.old) (view seat.old).lead }
+    requires begins { BeginsDispatch W.is_told W.upto (P.has_given supply.old from.old) (view seat.old).lead }
     ensures same { table seat.new ≡ table seat.old }
     ensures base { (view seat.new).base ≡ (view seat.old).base }
     ensures free { IsFree (view seat.new) }
     ensures none { (view seat.new).job ≡ None }
-    ensures fed { FedTo W.is_told W.upto (P.has_given supply.new from.new) (P.is_over supply.new) result (view seat.old).lead (view seat.new).lead }
+    ensures dispatched { DispatchedTo W.is_told W.upto (P.has_given supply.new from.new) (P.is_over supply.new) result (view seat.old).lead (view seat.new).lead }
     ensures few { result.tasks ≤ 2 ^ 42 }
     ensures stops { result.over ≡ Over.Stopped → (view seat.new).stopped ≡ true }
 {
     let mut hand = Hand::new(0);
-    let fed = feed(
+    let dispatched = dispatch(
         rt, alloc, seat, ring, op, gate, stop, supply, from, &mut hand, is_alone,
     );
     stop.store(true, Ordering::SeqCst);
     finish_hand(rt, alloc, seat, ring, op, gate, hand);
-    fed
+    dispatched
 }
 
 /// A seat as a thread has it: of a ring, over fixed data, without job, turn and block. One join of two that
 /// lends two seats of one type is not understood by the borrow checker, so it is lent as what this says.
 pub(crate) trait Spare<W: Work>: Send {
     // Of this ring, with such fixed data.
-    ghost is_spare: { Self → TableId → Option W.Told → Type 0 };
+    ghost is_spare: { Self → TableId → Option W.Data → Type 0 };
 
     /// A new one, beside the first seat.
     fn part(seat: &mut Seat<W>, ring: &Ring<W>) -> Self
@@ -81,13 +81,13 @@ pub(crate) trait Spare<W: Work>: Send {
         stop: &AtomicBool,
     )
         requires { CanHelp (is_spare self.old (table_of ring.now)) (L.suits op.now) }
-        ensures { (base : Option W.Told) → is_spare self.old (table_of ring.now) base → is_spare self.new (table_of ring.now) base };
+        ensures { (base : Option W.Data) → is_spare self.old (table_of ring.now) base → is_spare self.new (table_of ring.now) base };
 
     /// The first seat takes it in.
     fn rejoin(self, seat: &mut Seat<W>, ring: &Ring<W>)
         requires own { table seat.old ≡ table_of ring.now }
         requires lead { IsSome (view seat.old).lead }
-        requires spare { (base : Option W.Told) × is_spare self (table_of ring.now) base }
+        requires spare { (base : Option W.Data) × is_spare self (table_of ring.now) base }
         ensures same { table seat.new ≡ table seat.old }
         ensures told { Rejoins (view seat.old) (view seat.new) };
 }
@@ -128,7 +128,7 @@ where
     fn rejoin(self, seat: &mut Seat<W>, ring: &Ring<W>)
         requires own { table seat.old ≡ table_of ring.now }
         requires lead { IsSome (view seat.old).lead }
-        requires spare { (base : Option W.Told) × IsSpare (table self) (view self) (table_of ring.now) base }
+        requires spare { (base : Option W.Data) × IsSpare (table self) (view self) (table_of ring.now) base }
         ensures same { table seat.new ≡ table seat.old }
         ensures told { Rejoins (view seat.old) (view seat.new) }
     {
@@ -157,7 +157,7 @@ pub(crate) fn crew<
     supply: &mut P,
     from: &mut P::From,
     is_alone: bool,
-) -> Fed
+) -> Dispatched
 where
     W::Rows: Drop + Send,
     W::Piece: Send,
@@ -167,12 +167,12 @@ where
     requires free { IsFree (view seat.old) }
     requires none { (view seat.old).job ≡ None }
     requires suits { OfBase (L.suits op.now) (view seat.old).base }
-    requires begins { BeginsFeed W.is_told W.upto (P.has_given supply.old from.old) (view seat.old).lead }
+    requires begins { BeginsDispatch W.is_told W.upto (P.has_given supply.old from.old) (view seat.old).lead }
     ensures same { table seat.new ≡ table seat.old }
     ensures base { (view seat.new).base ≡ (view seat.old).base }
     ensures free { IsFree (view seat.new) }
     ensures none { (view seat.new).job ≡ None }
-    ensures fed { FedTo W.is_told W.upto (P.has_given supply.new from.new) (P.is_over supply.new) result (view seat.old).lead (view seat.new).lead }
+    ensures dispatched { DispatchedTo W.is_told W.upto (P.has_given supply.new from.new) (P.is_over supply.new) result (view seat.old).lead (view seat.new).lead }
     ensures few { result.tasks ≤ 2 ^ 42 }
     ensures stops { result.over ≡ Over.Stopped → (view seat.new).stopped ≡ true }
 {
@@ -183,25 +183,25 @@ where
     }
     let less = threads - 1;
     let mut theirs = T::part(seat, ring);
-    let (_, fed) = join_mut(
+    let (_, dispatched) = join_mut(
         rt,
         &mut || -> ()
             requires sync { IsSync R.row }
             requires spare { CanHelp (T.is_spare theirs (table_of ring.now)) (L.suits op.now) }
-            ensures spare { (base : Option W.Told) → T.is_spare theirs.entry (table_of ring.entry.now) base → T.is_spare theirs.exit (table_of ring.entry.now) base }
+            ensures spare { (base : Option W.Data) → T.is_spare theirs.entry (table_of ring.entry.now) base → T.is_spare theirs.exit (table_of ring.entry.now) base }
         { theirs.help(rt, *alloc, ring, op, gate, stop) },
-        &mut || -> Fed
+        &mut || -> Dispatched
             requires sync { IsSync R.row }
             requires own { table seat.now ≡ table_of ring.now }
             requires free { IsFree (view seat.now) }
             requires none { (view seat.now).job ≡ None }
             requires suits { OfBase (L.suits op.now) (view seat.now).base }
-            requires begins { BeginsFeed W.is_told W.upto (P.has_given supply.now from.now) (view seat.now).lead }
+            requires begins { BeginsDispatch W.is_told W.upto (P.has_given supply.now from.now) (view seat.now).lead }
             ensures same { table seat.exit.now ≡ table seat.entry.now }
             ensures base { (view seat.exit.now).base ≡ (view seat.entry.now).base }
             ensures free { IsFree (view seat.exit.now) }
             ensures none { (view seat.exit.now).job ≡ None }
-            ensures fed { FedTo W.is_told W.upto (P.has_given supply.exit.now from.exit.now) (P.is_over supply.exit.now) result
+            ensures dispatched { DispatchedTo W.is_told W.upto (P.has_given supply.exit.now from.exit.now) (P.is_over supply.exit.now) result
                 (view seat.entry.now).lead (view seat.exit.now).lead }
             ensures few { result.tasks ≤ 2 ^ 42 }
             ensures stops { result.over ≡ Over.Stopped → (view seat.exit.now).stopped ≡ true }
@@ -212,5 +212,5 @@ where
         },
     );
     theirs.rejoin(seat, ring);
-    fed
+    dispatched
 }

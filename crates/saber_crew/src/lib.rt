@@ -2,7 +2,7 @@
 //! The stage that comes out has their pieces, in the order of tasks, for every number of threads.
 //! The engine runs it.
 //!
-//! - Parts: `supply` (the trait: where tasks come from), `feed` (the loop of the first seat),
+//! - Parts: `supply` (the trait: where tasks come from), `dispatch` (the loop of the first seat),
 //!   `crew` (threads, and their seats taken in again), `runs` (a whole run).
 //! - Call: `run` takes a `Labor`, a supply, a stage and sizes, and gives the stage back, with how
 //!   many tasks were filled and why no more.
@@ -16,10 +16,10 @@
 #![tactic(auto)]
 
 mod crew;
-mod feed;
+mod dispatch;
 mod runs;
 mod supply;
 
-pub use feed::{Fed, Over};
+pub use dispatch::{Dispatched, Over};
 pub use runs::run;
 pub use supply::{Supplied, Supply};

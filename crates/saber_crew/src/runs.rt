@@ -3,7 +3,7 @@ ghost use Rattle.std.specs.Prelude.{◌≡◌, ◌<◌, ◌≤◌, IfErr, IfOk};
 ghost use Rattle.saber_crew.specs.Runs.{BeginsRun, RunsOver};
 
 use crate::crew::crew;
-use crate::feed::Fed;
+use crate::dispatch::Dispatched;
 use crate::supply::Supply;
 use saber_core::Work;
 use saber_io::Gate;
@@ -22,7 +22,7 @@ pub fn run<
     L: Labor<W> + Sync,
     G: Gate + Sync,
     P: Supply<W>,
-    J: FixedData<W::Told>,
+    J: FixedData<W::Data>,
     R: Threads + Wait + Sync,
 >(
     rt: &R,
@@ -33,7 +33,7 @@ pub fn run<
     from: &mut P::From,
     stage: W::Stage,
     sizes: &Sizes,
-) -> Result<(W::Stage, Fed), W::Stage>
+) -> Result<(W::Stage, Dispatched), W::Stage>
 where
     W::Rows: Drop + Send,
     W::Piece: Drop + Send,
@@ -49,7 +49,7 @@ where
         Err((_, stage)) => return Err(stage),
     };
     let stop = AtomicBool::new(false);
-    let fed = crew::<W, L, G, P, Seat<W>, R>(
+    let dispatched = crew::<W, L, G, P, Seat<W>, R>(
         rt,
         sizes.threads,
         &alloc,
@@ -62,6 +62,6 @@ where
         from,
         sizes.threads == 0,
     );
-    work_alone(alloc, &mut seat, &ring, op, gate, fed.tasks);
-    Ok((ring.finish(seat), fed))
+    work_alone(alloc, &mut seat, &ring, op, gate, dispatched.tasks);
+    Ok((ring.finish(seat), dispatched))
 }

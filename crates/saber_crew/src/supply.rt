@@ -21,14 +21,14 @@ pub trait Supply<W: Work> {
     type From;
 
     // So many tasks were given, with these data.
-    ghost has_given: { Self → Self.From → W.Told → ℕ → Type 0 };
+    ghost has_given: { Self → Self.From → W.Data → ℕ → Type 0 };
 
     // None is left, or none can be given any more.
     ghost is_over: { Self → Type 0 };
 
     /// The rows of the next task, if they are there.
     fn next(&mut self, from: &mut Self::From) -> Supplied<W::Rows>
-        requires { (told : W.Told) × (d : ℕ) × has_given self.old from.old told d }
+        requires { (told : W.Data) × (d : ℕ) × has_given self.old from.old told d }
         ensures gives { GivesOn W.is_told W.filled W.is_rows (has_given self.old from.old) (has_given self.new from.new) result }
         ensures over { result ≡ Supplied.Over → is_over self.new };
 }

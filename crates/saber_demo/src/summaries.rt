@@ -4,7 +4,7 @@ ghost use Rattle.saber_plan.specs.Rows.{lines_of};
 ghost use Rattle.saber_demo.specs.Feeds.{IsBehindFeeds};
 ghost use Rattle.saber_demo.specs.Summary.{entry, feeds, last_content, summary};
 
-use saber_cells::write_count;
+use saber_digits::write_count;
 use saber_plan::NoMemory;
 use std::alloc::Global;
 

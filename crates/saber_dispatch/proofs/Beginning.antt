@@ -21,9 +21,10 @@ use Rattle.saber_dispatch.specs.declared.cutter.Cutter.{Cutter}
 use Rattle.saber_dispatch.specs.declared.lasts.Lasts.{Lasts}
 use Rattle.saber_dispatch.specs.Readings.{reading_of, Suits, Reads, IsOpen, RulesOf}
 use Rattle.saber_dispatch.specs.Filling.{Took}
-use Rattle.saber_dispatch.specs.Cutting.{CutState, LooksBack, KeepsLasts, Cuts, end_counts, fresh, fresh_on, rules_on}
+use Rattle.saber_dispatch.specs.Cutting.{CutState, LooksBack, KeepsLasts, Cuts, end_counts, fresh, fresh_on}
+use Rattle.saber_plan.specs.Files.{rules_on}
 use Rattle.saber_dispatch.proofs.Fillings.{took_nothing}
-use Rattle.saber_plan.specs.CountFacts.{whole_tasks}
+use Rattle.saber_plan.specs.Facts.Counts.{whole_tasks}
 
 no_streams : (s : Shape) → StreamsFit s [] → ⊥
 no_streams Select h = h

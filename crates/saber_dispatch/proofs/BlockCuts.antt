@@ -14,7 +14,7 @@ use Rattle.saber_plan.specs.Inputs.{going_on}
 use Rattle.saber_plan.specs.Trees.{Tree}
 use Rattle.saber_plan.specs.declared.sizes.Sizes.{Sizes}
 use Rattle.saber_laws.specs.Needs.{NeedsStay}
-use Rattle.saber_plan.specs.Given.{IsRowOf, RowsFit}
+use Rattle.saber_plan.specs.GivenRows.{IsRowOf, RowsFit}
 use Rattle.saber_plan.specs.Needs.{free, need}
 use Rattle.saber_window.specs.Laws.{StampsFit}
 use Rattle.saber_fragment.specs.declared.blocks.Block.{Block}
@@ -29,7 +29,7 @@ use Rattle.saber_dispatch.specs.Filling.{Took}
 use Rattle.saber_dispatch.specs.Cutting.{AreWhole, LooksBack, Behind, IsTooWide, CutState, Cuts, Adds, IsNextBlock, FilledState, Filled, fresh}
 use Rattle.saber_dispatch.proofs.Fillings.{small as small_marks, mark_append}
 use Rattle.saber_dispatch.proofs.NextTasks.{upto_seam, need_stays}
-use Rattle.saber_plan.specs.CountFacts.{whole_tasks, one_task_more}
+use Rattle.saber_plan.specs.Facts.Counts.{whole_tasks, one_task_more}
 
 pub on_ok : {X E : Type 0} (r : Result X E) (P Q : Type 0) → OnOk r P → (P → Q) → OnOk r Q
 on_ok (Ok x) P Q h f = f h

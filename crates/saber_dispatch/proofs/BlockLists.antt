@@ -10,14 +10,14 @@ use Rattle.saber_plan.specs.Windows.{Frame, Ordered, no_rows, step_mark, mark_af
 use Rattle.saber_plan.specs.Inputs.{going_on}
 use Rattle.saber_plan.specs.Answers.{frame}
 use Rattle.saber_plan.specs.Trees.{Tree}
-use Rattle.saber_plan.specs.Given.{RowsFit}
+use Rattle.saber_plan.specs.GivenRows.{RowsFit}
 use Rattle.saber_plan.specs.Tasks.{cut, upto}
 use Rattle.saber_plan.specs.Needs.{free, last_of, free_of}
 use Rattle.saber_laws.specs.Needs.{LastsTellFree, TasksLookBack, TasksLookOn, NeedsStay}
 use Rattle.saber_dispatch.specs.declared.lasts.Lasts.{Lasts}
 use Rattle.saber_dispatch.specs.Cutting.{KeepsLasts, Behind}
 use Rattle.saber_dispatch.proofs.Fillings.{ordered_append}
-use Rattle.saber_plan.specs.CountFacts.{tasks_have_rows, mark_count}
+use Rattle.saber_plan.specs.Facts.Counts.{tasks_have_rows, mark_count}
 
 -- ---- numbers in a row
 

@@ -10,7 +10,7 @@ use Rattle.saber_plan.specs.Rows.{all_read}
 use Rattle.saber_plan.specs.Windows.{no_rows, mark_of}
 use Rattle.saber_plan.specs.Inputs.{Input, going_on}
 use Rattle.saber_plan.specs.Trees.{Tree}
-use Rattle.saber_plan.specs.Given.{RowsFit}
+use Rattle.saber_plan.specs.GivenRows.{RowsFit}
 use Rattle.saber_plan.specs.declared.rows.Row.{Row}
 use Rattle.saber_plan.specs.Tasks.{upto, task_count, row_tasks}
 use Rattle.saber_plan.specs.Needs.{free, need}
@@ -25,7 +25,7 @@ use Rattle.saber_dispatch.specs.Cutting.{LooksBack, Behind, AtEnd, EndComes, Cut
 use Rattle.saber_dispatch.proofs.Fillings.{small as small_marks}
 use Rattle.saber_dispatch.proofs.NextTasks.{goes_on, upto_rows, need_stays}
 use Rattle.saber_dispatch.proofs.BlockCuts.{none_earlier}
-use Rattle.saber_plan.specs.CountFacts.{tasks_have_rows}
+use Rattle.saber_plan.specs.Facts.Counts.{tasks_have_rows}
 
 both_on : (b : Bool) (n : ℕ) → (b && not (n == 0)) ≡ true → (b ≡ true) × (1 ≤ n)
 both_on true zero h = absurd (let e : false ≡ true = h in cc)

@@ -21,8 +21,9 @@ use Rattle.saber_dispatch.specs.declared.fed_cutter.FedCutter.{FedCutter}
 use Rattle.saber_dispatch.specs.Readings.{Reading, one, two, reading_of, Suits, ReadMoves}
 use Rattle.saber_dispatch.specs.Filling.{prepend}
 use Rattle.saber_dispatch.specs.Cutting.{Cuts, fresh, end_of, told_end}
-use Rattle.saber_dispatch.specs.Leaving.{GaveAll, wholes, FaultsLeaveWholeTasks}
-use Rattle.saber_dispatch.specs.Telling.{AreNear, AreTasks, EndsNear, EndsAs, BlocksAreNear, BlocksAreTasks, input_of}
+use Rattle.saber_dispatch.specs.Leaving.{GaveAll, FaultsLeaveWholeTasks}
+use Rattle.saber_plan.specs.Files.{wholes, input_of}
+use Rattle.saber_dispatch.specs.Telling.{AreNear, AreTasks, EndsNear, EndsAs, BlocksAreNear, BlocksAreTasks}
 use Rattle.saber_dispatch.specs.FedReadings.{only, SawEnd, EndTold}
 use Rattle.saber_dispatch.specs.Feeding.{Begins, Gave, Agrees, CutsFed}
 use Rattle.saber_dispatch.specs.FeedLaws.{RefillsKeep, FedBlocksAreNear, FedBlocksAreTasks, LeavesWhole, CutsLeaveWholeTasks}

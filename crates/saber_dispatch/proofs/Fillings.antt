@@ -8,7 +8,7 @@ use Rattle.saber_plan.specs.declared.windows.Mark.{Mark}
 use Rattle.saber_plan.specs.Rows.{Read, before, stamp}
 use Rattle.saber_plan.specs.Windows.{Ordered, can_follow, step_mark, mark_after}
 use Rattle.saber_plan.specs.Trees.{Tree}
-use Rattle.saber_plan.specs.Given.{IsRowOf}
+use Rattle.saber_plan.specs.GivenRows.{IsRowOf}
 use Rattle.saber_rows.specs.Reader as readers
 use Rattle.saber_rows.specs.Calls.{Moves}
 use Rattle.saber_rows.specs.Merging.{Merger, MergeMoves}

@@ -21,8 +21,9 @@ use Rattle.saber_dispatch.specs.declared.ends.End.TheVariants.{ReadFault}
 use Rattle.saber_dispatch.specs.declared.cutter.Cutter.{Cutter}
 use Rattle.saber_dispatch.specs.Readings.{Reading, one, two, reading_of, ReadMoves, ReadNeeds}
 use Rattle.saber_dispatch.specs.Filling.{prepend}
-use Rattle.saber_dispatch.specs.Cutting.{Cuts, CutState, CutOff, fresh_on, rules_on}
-use Rattle.saber_dispatch.specs.Leaving.{GaveAll, wholes, ReadsWhole, FaultsLeaveWholeTasks}
+use Rattle.saber_dispatch.specs.Cutting.{Cuts, CutState, CutOff, fresh_on}
+use Rattle.saber_plan.specs.Files.{rules_on, wholes}
+use Rattle.saber_dispatch.specs.Leaving.{GaveAll, ReadsWhole, FaultsLeaveWholeTasks}
 use Rattle.saber_dispatch.proofs.Fillings.{one_moved, two_moved}
 use Rattle.saber_dispatch.proofs.NextTasks.{goes_on}
 use Rattle.saber_dispatch.proofs.TaskBlocks.{told_is}

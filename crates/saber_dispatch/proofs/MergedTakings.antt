@@ -8,7 +8,7 @@ use Rattle.saber_plan.specs.declared.windows.Mark.{Mark}
 use Rattle.saber_plan.specs.Rows.{stamp}
 use Rattle.saber_plan.specs.Windows.{by_side, step_mark, mark_after}
 use Rattle.saber_plan.specs.Trees.{Tree}
-use Rattle.saber_plan.specs.Given.{IsRowOf}
+use Rattle.saber_plan.specs.GivenRows.{IsRowOf}
 use Rattle.saber_rows.specs.Laws.{MovesGoOn, ReadersStand, MergesGoOn, MergersStand}
 use Rattle.saber_rows.specs.Merging.{Merger}
 use Rattle.saber_rows.specs.MergedRows.{StillGives, MergeStands, MergesOne, MergesRows, TakesMerged}

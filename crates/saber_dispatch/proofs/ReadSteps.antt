@@ -8,7 +8,7 @@ use Rattle.saber_plan.specs.Rows.{SideRules, RowFits, stamp, bad}
 use Rattle.saber_plan.specs.Windows.{by_side, step_mark, in_order, can_follow}
 use Rattle.saber_plan.specs.Trees.{Tree}
 use Rattle.saber_plan.specs.Checked.{columns_on}
-use Rattle.saber_plan.specs.Given.{IsRowOf}
+use Rattle.saber_plan.specs.GivenRows.{IsRowOf}
 use Rattle.saber_rows.specs.declared.ends.RowEnd.{RowEnd}
 use Rattle.saber_rows.specs.declared.ends.RowEnd.TheVariants as ends
 use Rattle.saber_rows.specs.Reader as readers

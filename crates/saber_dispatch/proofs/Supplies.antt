@@ -14,7 +14,7 @@ use Rattle.saber_plan.specs.Tasks.{cut, upto, row_tasks, task_count, places, pla
 use Rattle.saber_plan.specs.Needs.{free, task_rows}
 use Rattle.saber_fragment.specs.declared.blocks.Block.{Block}
 use Rattle.saber_fragment.specs.Drafts.{EndWith}
-use Rattle.saber_assembly.specs.declared.work.Told.{Told}
+use Rattle.saber_assembly.specs.declared.work.RunData.{RunData}
 use Rattle.saber_assembly.specs.Stages.{Tasks}
 use Rattle.saber_assembly.specs.Works.{input_of, with_block}
 use Rattle.saber_dispatch.specs.Cutting.{Adds, IsNextBlock}
@@ -81,7 +81,7 @@ unended : (m : Mark) (xs : List Row) → m.ended ≡ false → (mark_after m xs)
 unended m [] h = h
 unended m (x ∷ xs) h = unended (step_mark m x) xs h
 
-module _ {O : Type 0} (plan : O → Tree) (told : Told O) (s : Sizes) (b : Block) (size : told.size ≡ s.task) (next : IsNextBlock (plan told.operator) s (input_of told) b) (placed : IsPlaced (plan told.operator) told.rows b) where
+module _ {O : Type 0} (plan : O → Tree) (told : RunData O) (s : Sizes) (b : Block) (size : told.size ≡ s.task) (next : IsNextBlock (plan told.operator) s (input_of told) b) (placed : IsPlaced (plan told.operator) told.rows b) where
   abbrev q : Tree
   q = plan told.operator
 

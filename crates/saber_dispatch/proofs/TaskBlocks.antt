@@ -27,8 +27,9 @@ use Rattle.saber_dispatch.specs.declared.cutter.Cutter.{Cutter}
 use Rattle.saber_dispatch.specs.Readings.{Reading, one, two, reading_of, Suits, ReadMoves, ReadHasEnd}
 use Rattle.saber_dispatch.specs.Filling.{prepend}
 use Rattle.saber_dispatch.specs.Cutting.{Cuts, CutState, AreWhole, AtEnd, AtBad, EndComes, EndGiven, Flushes, IsThere, IsTooWide, end_counts, is_due, told_end, end_of, fresh, fresh_on}
-use Rattle.saber_dispatch.specs.Telling.{input_of, IsFirstWide, EndsNear, AreNear, BlocksAreNear, HasAll, EndsAs, AreTasks, BlocksAreTasks}
-use Rattle.saber_plan.specs.CountFacts.{later_task}
+use Rattle.saber_plan.specs.Files.{input_of}
+use Rattle.saber_dispatch.specs.Telling.{IsFirstWide, EndsNear, AreNear, BlocksAreNear, HasAll, EndsAs, AreTasks, BlocksAreTasks}
+use Rattle.saber_plan.specs.Facts.Counts.{later_task}
 use Rattle.saber_dispatch.proofs.NextTasks.{goes_on, upto_rows, upto_end, upto_seam, none_wide, first_wide, need_stays}
 
 abbrev Lefts : Type 0

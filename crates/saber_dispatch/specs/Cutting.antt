@@ -1,12 +1,12 @@
 -- The rows of a query's inputs, cut into blocks.
-use Rattle.std.specs.Prelude.{◌≡◌, ◌≢◌, ◌≤◌, ◌<◌, ◌^◌, ℕ, ◌+◌, ◌-◌, ◌*◌, length, nat_lt, List, [], ◌∷◌, ◌++◌, ◌⊎◌, Option, Some, None, Result, Ok, Err, Bool, true, false, if◌then◌else◌, ◌&&◌, ◌||◌, not, ◌==◌}
+use Rattle.std.specs.Prelude.{◌≡◌, ◌≢◌, ◌≤◌, ◌<◌, ◌^◌, ◌+◌, ◌-◌, ◌*◌, ℕ, length, nat_lt, List, [], ◌∷◌, ◌++◌, ◌⊎◌, Option, Some, None, Result, Ok, Err, Bool, true, false, if◌then◌else◌, ◌&&◌, ◌||◌, not, ◌==◌}
 use Rattle.saber_plan.specs.declared.rows.Row.{Row}
 use Rattle.saber_plan.specs.declared.rows.Side.{Side}
 use Rattle.saber_plan.specs.declared.rows.Side.TheVariants.{Left, Right}
 use Rattle.saber_plan.specs.declared.windows.Mark.{Mark}
 use Rattle.saber_plan.specs.declared.windows.Stream.{Stream}
 use Rattle.saber_plan.specs.declared.plans.Shape.TheVariants.{Join}
-use Rattle.saber_plan.specs.Rows.{SideRules, all_read, bad}
+use Rattle.saber_plan.specs.Rows.{all_read, bad}
 use Rattle.saber_plan.specs.Rows as rows
 use Rattle.saber_plan.specs.declared.sizes.Sizes.{Sizes}
 use Rattle.saber_plan.specs.Sizes.{SizesFit, limits_of, FileLimits}
@@ -15,7 +15,7 @@ use Rattle.saber_plan.specs.Inputs.{Input, going_on}
 use Rattle.saber_plan.specs.Answers.{frame}
 use Rattle.saber_plan.specs.Trees.{Tree}
 use Rattle.saber_plan.specs.Checked.{columns_on}
-use Rattle.saber_plan.specs.Given.{RowsFit}
+use Rattle.saber_plan.specs.GivenRows.{RowsFit}
 use Rattle.saber_plan.specs.Tasks.{task_count}
 use Rattle.saber_plan.specs.Needs.{free, need, block_lasts}
 use Rattle.saber_fragment.specs.declared.blocks.Block.{Block}
@@ -27,12 +27,8 @@ use Rattle.saber_dispatch.specs.declared.lasts.Lasts.{Lasts}
 use Rattle.saber_dispatch.specs.declared.cutter.Cutter.{Cutter}
 use Rattle.saber_dispatch.specs.declared.cutter.Cut.{Cut}
 use Rattle.saber_dispatch.specs.declared.cutter.Cut.TheVariants as cuts
-use Rattle.saber_dispatch.specs.Readings.{Reading, reading_of, one_new, two_new, Suits, ReadHasEnd, ReadNeeds, IsOpen, rules_for}
+use Rattle.saber_dispatch.specs.Readings.{Reading, reading_of, one_new, two_new, Suits, ReadHasEnd, ReadNeeds, IsOpen}
 use Rattle.saber_dispatch.specs.Filling.{Took, keeps}
-
--- the rules for the lines of a side
-abbrev pub rules_on : Tree → FileLimits → Side → SideRules
-rules_on q limits side = rules_for side (columns_on q.streams side) limits
 
 -- the reader of a query's inputs before its first row
 abbrev pub fresh_on : Tree → FileLimits → List Stream → Reading

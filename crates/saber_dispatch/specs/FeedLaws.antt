@@ -1,5 +1,5 @@
 -- Laws of the blocks that a cutter over a feed gave.
-use Rattle.std.specs.Prelude.{◌≡◌, ◌≤◌, ℕ, ◌*◌, ◌/◌, length, List, [], ◌∷◌, ◌++◌, Option, Some, Bool}
+use Rattle.std.specs.Prelude.{◌≡◌, ◌≤◌, ◌*◌, ◌/◌, ℕ, length, List, [], ◌∷◌, ◌++◌, Option, Some, Bool}
 use Rattle.saber_io.specs.declared.feeds.EndMark.{EndMark}
 use Rattle.saber_io.specs.declared.feeds.EndMark.TheVariants as marks
 use Rattle.saber_io.specs.Feeds.{Refills}
@@ -12,8 +12,8 @@ use Rattle.saber_plan.specs.Trees.{Tree}
 use Rattle.saber_dispatch.specs.declared.ends.End.TheVariants.{ReadFault}
 use Rattle.saber_dispatch.specs.declared.fed_cutter.FedCutter.{FedCutter}
 use Rattle.saber_dispatch.specs.Feeding.{CutsFed, fed_end_of}
-use Rattle.saber_dispatch.specs.Telling.{AreNear, AreTasks, input_of}
-use Rattle.saber_dispatch.specs.Leaving.{wholes}
+use Rattle.saber_dispatch.specs.Telling.{AreNear, AreTasks}
+use Rattle.saber_plan.specs.Files.{input_of, wholes}
 
 -- a feed that is refilled has given what it gave before
 abbrev pub RefillsKeep : Type 0

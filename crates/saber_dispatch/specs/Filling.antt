@@ -6,7 +6,7 @@ use Rattle.saber_plan.specs.declared.windows.Mark.{Mark}
 use Rattle.saber_plan.specs.Rows.{Read}
 use Rattle.saber_plan.specs.Windows.{Ordered, mark_after}
 use Rattle.saber_plan.specs.Trees.{Tree}
-use Rattle.saber_plan.specs.Given.{IsRowOf}
+use Rattle.saber_plan.specs.GivenRows.{IsRowOf}
 use Rattle.saber_dispatch.specs.Sources.{Lefts}
 use Rattle.saber_dispatch.specs.declared.ends.End.{End}
 use Rattle.saber_dispatch.specs.declared.ends.End.TheVariants.{AllRead, Bad, ReadFault, TooWide, NoMemory}

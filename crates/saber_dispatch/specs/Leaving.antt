@@ -1,35 +1,22 @@
 -- What was taken of inputs of which a read failed.
-use Rattle.std.specs.Prelude.{◌≡◌, ◌≤◌, ℕ, ◌*◌, ◌/◌, length, List, [], ◌∷◌, Some}
+use Rattle.std.specs.Prelude.{◌≡◌, ◌≤◌, ◌*◌, ◌/◌, ℕ, length, List, [], ◌∷◌, Some}
 use Rattle.saber_io.specs.Outside.{given}
-use Rattle.saber_plan.specs.Sizes.{limits_of, FileLimits}
-use Rattle.saber_plan.specs.declared.rows.Row.{Row}
 use Rattle.saber_plan.specs.declared.rows.Side.{Side}
-use Rattle.saber_plan.specs.declared.rows.Side.TheVariants.{Left, Right}
 use Rattle.saber_plan.specs.declared.sizes.Sizes.{Sizes}
-use Rattle.saber_plan.specs.Rows.{Read, whole}
-use Rattle.saber_plan.specs.Inputs.{Input, input, going_on}
+use Rattle.saber_plan.specs.Inputs.{Input, going_on}
 use Rattle.saber_plan.specs.Tasks.{upto, task_count}
 use Rattle.saber_plan.specs.Trees.{Tree}
 use Rattle.saber_dispatch.specs.Sources.{Lefts}
 use Rattle.saber_dispatch.specs.declared.ends.End.TheVariants.{ReadFault}
 use Rattle.saber_dispatch.specs.declared.cutter.Cutter.{Cutter}
-use Rattle.saber_dispatch.specs.Cutting.{Cuts, end_of, rules_on}
+use Rattle.saber_dispatch.specs.Cutting.{Cuts, end_of}
+use Rattle.saber_plan.specs.Files.{whole_rows}
 
 -- these bytes were taken of each, in order
 abbrev pub GaveAll : Lefts → List (List ℕ) → Lefts → Type 0
 GaveAll [] [] [] = Unit {0}
 GaveAll (had ∷ hads) (taken ∷ more) (has ∷ hass) = (had ≡ given taken has) × GaveAll hads more hass
 GaveAll _ _ _ = ⊥
-
--- the rows of the whole lines of these bytes, where more may follow
-abbrev pub wholes : Tree → FileLimits → List (List ℕ) → List Read
-wholes q limits [] = []
-wholes q limits (l ∷ []) = whole (rules_on q limits Left) l ∷ []
-wholes q limits (l ∷ r ∷ more) = whole (rules_on q limits Left) l ∷ whole (rules_on q limits Right) r ∷ []
-
--- those of all inputs, in one
-abbrev pub whole_rows : Tree → Sizes → List (List ℕ) → List Row
-whole_rows q s taken = (input (wholes q (limits_of s) taken)).rows
 
 -- at least every whole task of the whole lines that were taken of each input is in a block
 pub record ReadsWhole (q : Tree) (s : Sizes) (had has : Lefts) (r : Input) : Type 0 where

@@ -1,16 +1,16 @@
 -- The reader of one or of two inputs, as contracts see it.
-use Rattle.std.specs.Prelude.{◌≡◌, ◌≤◌, ℕ, ◌^◌, List, [], ◌∷◌, Option, Some, None, true, false, Result, Ok, Err}
+use Rattle.std.specs.Prelude.{◌≡◌, ◌≤◌, ◌^◌, ℕ, List, [], ◌∷◌, Option, Some, None, true, false, Result, Ok, Err}
 use Rattle.saber_plan.specs.declared.rows.Row.{Row}
 use Rattle.saber_plan.specs.declared.rows.Side.{Side}
 use Rattle.saber_plan.specs.declared.rows.Side.TheVariants.{Left, Right}
 use Rattle.saber_plan.specs.declared.windows.Mark.{Mark}
-use Rattle.saber_plan.specs.Rows.{Read, SideRules, most_held, before, stamp, all_read, bad}
+use Rattle.saber_plan.specs.Rows.{Read, SideRules, before, stamp, all_read, bad}
 use Rattle.saber_plan.specs.Sizes.{FileLimits}
 use Rattle.saber_plan.specs.Rows as rows
 use Rattle.saber_plan.specs.Windows.{can_follow, step_mark}
 use Rattle.saber_plan.specs.Trees.{Tree}
 use Rattle.saber_plan.specs.Checked.{columns_on}
-use Rattle.saber_plan.specs.Given.{IsRowOf}
+use Rattle.saber_plan.specs.GivenRows.{IsRowOf}
 use Rattle.saber_rows.specs.declared.ends.RowEnd.{RowEnd}
 use Rattle.saber_rows.specs.declared.ends.RowEnd.TheVariants as ends
 use Rattle.saber_rows.specs.Reader as readers
@@ -23,6 +23,7 @@ use Rattle.saber_dispatch.specs.declared.ends.End.{End}
 use Rattle.saber_dispatch.specs.declared.ends.End.TheVariants.{AllRead, Bad, ReadFault, TooWide, NoMemory}
 use Rattle.saber_dispatch.specs.declared.reader.Reader.{Reader}
 use Rattle.saber_dispatch.specs.declared.reader.Reader.TheVariants.{One, Two}
+use Rattle.saber_plan.specs.Files.{rules_for}
 
 pub data Reading : Type 0 where
   one : readers.Reader → Reading
@@ -136,10 +137,6 @@ Steps answer old new had has = (q : Tree) (m : Mark) → Reads q m old → Stepp
 -- a fault of reading comes first only where that side's count rose
 abbrev pub FaultsAreReal : Result Row End → Reading → List ℕ → List ℕ → Type 0
 FaultsAreReal answer old before after = (q : Tree) (m : Mark) (side : Side) → Reads q m old → IsOpen old → answer ≡ Err (ReadFault side) → RoseAt side before after
-
--- the rules of a side of so many columns: the limits of files hold for each side by itself
-abbrev pub rules_for : Side → ℕ → FileLimits → SideRules
-rules_for side columns limits = record { side = side; columns = columns; most = limits.most; slack = limits.slack; room = most_held }
 
 -- a reader of so many columns before its first row
 abbrev pub one_new : ℕ → FileLimits → Reading

@@ -3,17 +3,17 @@ use Rattle.std.specs.Prelude.{◌≡◌, ◌+◌}
 use Rattle.saber_plan.specs.declared.sizes.Sizes.{Sizes}
 use Rattle.saber_plan.specs.Trees.{Tree}
 use Rattle.saber_fragment.specs.declared.blocks.Block.{Block}
-use Rattle.saber_assembly.specs.declared.work.Told.{Told}
+use Rattle.saber_assembly.specs.declared.work.RunData.{RunData}
 use Rattle.saber_assembly.specs.Works.{IsTold, IsBlockOf, input_of, with_block}
 use Rattle.saber_dispatch.specs.Cutting.{IsNextBlock}
 use Rattle.saber_dispatch.specs.Keeping.{IsPlaced}
 
 module _ {O : Type 0} (plan : O → Tree) where
   -- it is the block of its task in the input with it, and the tasks up to it have all of that input
-  pub record IsSupplied (told : Told O) (b : Block) : Type 0 where
+  pub record IsSupplied (told : RunData O) (b : Block) : Type 0 where
     pub block : IsBlockOf plan (with_block told b) b.number b
     pub told_is : IsTold plan (with_block told b) (b.number + 1)
 
   -- a block that is given behind those that have the input filled so far, and has its rows' places, is the next task's
   abbrev pub BlocksAreSupplied : Type 0
-  BlocksAreSupplied = (told : Told O) (s : Sizes) (b : Block) → told.size ≡ s.task → IsNextBlock (plan told.operator) s (input_of told) b → IsPlaced (plan told.operator) told.rows b → IsSupplied told b
+  BlocksAreSupplied = (told : RunData O) (s : Sizes) (b : Block) → told.size ≡ s.task → IsNextBlock (plan told.operator) s (input_of told) b → IsPlaced (plan told.operator) told.rows b → IsSupplied told b

@@ -1,10 +1,9 @@
 -- Blocks over inputs that tell their bytes, and which task is too wide.
-use Rattle.std.specs.Prelude.{◌≡◌, ℕ, List, [], ◌∷◌, map, Option, Some, None}
-use Rattle.saber_plan.specs.Sizes.{limits_of, FileLimits}
-use Rattle.saber_plan.specs.declared.rows.Side.TheVariants.{Left, Right}
+use Rattle.std.specs.Prelude.{◌≡◌, ℕ, List, [], map, Option, Some, None}
+use Rattle.saber_plan.specs.Sizes.{limits_of}
 use Rattle.saber_plan.specs.declared.sizes.Sizes.{Sizes}
-use Rattle.saber_plan.specs.Rows.{Read, rows, all_read, bad}
-use Rattle.saber_plan.specs.Inputs.{Input, input}
+use Rattle.saber_plan.specs.Rows.{Read, all_read, bad}
+use Rattle.saber_plan.specs.Inputs.{Input}
 use Rattle.saber_plan.specs.Trees.{Tree}
 use Rattle.saber_plan.specs.Tasks.{upto, task_count, run_input}
 use Rattle.saber_plan.specs.Needs.{need, wide}
@@ -13,7 +12,8 @@ use Rattle.saber_dispatch.specs.declared.ends.End.{End}
 use Rattle.saber_dispatch.specs.declared.ends.End.TheVariants.{AllRead, Bad, ReadFault, TooWide, NoMemory}
 use Rattle.saber_dispatch.specs.declared.cutter.Cutter.{Cutter}
 use Rattle.saber_dispatch.specs.Readings.{Suits}
-use Rattle.saber_dispatch.specs.Cutting.{Cuts, end_of, fresh, rules_on}
+use Rattle.saber_dispatch.specs.Cutting.{Cuts, end_of, fresh}
+use Rattle.saber_plan.specs.Files.{input_of}
 
 -- ---- which task is too wide
 
@@ -37,16 +37,6 @@ abbrev pub BlocksAreNear : Type 0
 BlocksAreNear = (q : Tree) (s : Sizes) (had has : Lefts) (c : Cutter) (r : Input) → Cuts q s had has c r → AreNear q s c r
 
 -- ---- inputs that tell
-
--- the rows of a query's row files: the first is the left stream of FROM, the second the right one
-abbrev pub sources : Tree → FileLimits → List (List ℕ) → List Read
-sources q limits [] = []
-sources q limits (l ∷ []) = rows (rules_on q limits Left) l ∷ []
-sources q limits (l ∷ r ∷ more) = rows (rules_on q limits Left) l ∷ rows (rules_on q limits Right) r ∷ []
-
--- the rows of the query, from the bytes of its files
-abbrev pub input_of : Tree → FileLimits → List (List ℕ) → Read
-input_of q limits files = input (sources q limits files)
 
 -- all of it was given, and it ends so
 pub record HasAll (q : Tree) (s : Sizes) (r : Input) (all : Read) : Type 0 where

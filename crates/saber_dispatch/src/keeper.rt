@@ -3,13 +3,14 @@ ghost use Rattle.std.specs.Prelude.{◌≡◌, ◌++◌, [], None, List, IfOk, O
 ghost use Rattle.saber_plan.specs.declared.rows.Row.{Row};
 ghost use Rattle.saber_plan.specs.Trees.{Tree, tree_of};
 ghost use Rattle.saber_plan.specs.Checked.{IsChecked};
-ghost use Rattle.saber_plan.specs.Given.{RowsFit};
+ghost use Rattle.saber_plan.specs.GivenRows.{RowsFit};
 ghost use Rattle.saber_plan.specs.Windows.{no_rows};
 ghost use Rattle.saber_dispatch.specs.Keeping.{CountsRows, GivesLast, KeepsOn, OnlyAdded, PlacesNext, IsCopyOf, HasKept};
 
 use saber_fragment::{Block, Earlier};
 use saber_places::{Places, places_of};
-use saber_plan::{Measure, NoMemory, Plan, Shape, Sizes, Stream, Window};
+use saber_plan::{NoMemory, Plan, Shape, Sizes, Stream};
+use saber_window::may_lie_in_two;
 use std::alloc::Global;
 
 /// Gives the blocks of one query what they have beside their own rows. Each has a copy of the rows of the block before it, where that lets its
@@ -26,17 +27,7 @@ pub struct Keeper {
     pub(crate) places: Option<Places>,
 }
 
-// Whether windows overlap, and many lie whole in two tasks of so many rows and not in one.
-fn may_lie_in_two(window: &Window, task: u32) -> bool {
-    let rows = u64::from(task);
-    let fits = match window.measure {
-        Measure::Rows => window.size.saturating_sub(window.slide) <= rows && rows / 2 < window.size,
-        Measure::Range => true,
-    };
-    window.slide < window.size && fits
-}
-
-// Whether that is so of the window of the one stream.
+// Whether many windows of the one stream lie whole in two tasks and not in one.
 fn has_such(streams: &[Stream], task: u32) -> bool {
     match streams {
         [stream] => match &stream.window {

@@ -6,7 +6,7 @@
 //! - Calls: those of the trait. `take_in` drops the closed parts at once, so that `drop_closed` has
 //!   nothing to do.
 //! - Proved: for any two operators, all that the trait asks. The plan, what was seen and taken in, and
-//!   what is held are those of whichever it is; all that it holds behind a piece stays.
+//!   what a store holds are those of whichever it is; all that it holds behind a piece stays.
 //! - Not claimed: anything of a draft, a piece or a store of the other kind. No call takes one.
 //! - Limits: two kinds. More of them are `OneOf` of `OneOf`.
 #![tactic(auto)]

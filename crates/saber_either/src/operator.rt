@@ -17,10 +17,10 @@ fn take_and_drop<O: Operator>(
     piece: O::Piece,
     out: &mut Vec<u8>,
 ) -> Result<(), NoMemory>
-    requires can { CanTakeIn (O.plan op.now) (O.held store.old) (O.has_taken op.now store.old) (O.is_of op.now piece) }
-    ensures text { OnOk result (AddsText (O.plan op.now) (O.held store.old) (O.has_taken op.now store.old) (O.is_of op.now piece) out.old.items out.new.items) }
-    ensures stays { OnOk result (LeavesKept (O.plan op.now) (O.held store.old) (O.has_taken op.now store.old) (O.is_of op.now piece) (O.held store.new)) }
-    ensures taken { OnOk result (TakesIn (O.plan op.now) (O.held store.old) (O.has_taken op.now store.old) (O.is_of op.now piece) (O.has_taken op.now store.new)) }
+    requires can { CanTakeIn (O.plan op.now) (O.contents store.old) (O.has_taken op.now store.old) (O.is_of op.now piece) }
+    ensures text { OnOk result (AddsText (O.plan op.now) (O.contents store.old) (O.has_taken op.now store.old) (O.is_of op.now piece) out.old.items out.new.items) }
+    ensures stays { OnOk result (LeavesKept (O.plan op.now) (O.contents store.old) (O.has_taken op.now store.old) (O.is_of op.now piece) (O.contents store.new)) }
+    ensures taken { OnOk result (TakesIn (O.plan op.now) (O.contents store.old) (O.has_taken op.now store.old) (O.is_of op.now piece) (O.has_taken op.now store.new)) }
     ensures err { OnErr result (out.new.items ≡ out.old.items) }
 {
     op.take_in(alloc, store, piece, out)?;
@@ -40,9 +40,9 @@ impl<A: Operator, B: Operator> Operator for OneOf<A, B> {
 
     ghost has_seen = { λ op draft s. OfOne (λ a d. A.has_seen a d s) (λ b d. B.has_seen b d s) op draft };
 
-    ghost held = { of_one A.held B.held };
+    ghost contents = { of_one A.contents B.contents };
 
-    ghost staying = { of_one A.held B.held };
+    ghost remainder = { of_one A.contents B.contents };
 
     ghost has_taken = { λ op store r. OfOne (λ a t. A.has_taken a t r) (λ b t. B.has_taken b t r) op store };
 
@@ -61,15 +61,20 @@ impl<A: Operator, B: Operator> Operator for OneOf<A, B> {
         }
     }
 
-    fn feed(&self, alloc: Global, draft: &mut Self::Draft, block: &Block) -> Result<(), NoMemory> {
+    fn look_back(
+        &self,
+        alloc: Global,
+        draft: &mut Self::Draft,
+        block: &Block,
+    ) -> Result<(), NoMemory> {
         match self {
             OneOf::First(op) => match draft {
-                OneOf::First(draft) => op.feed(alloc, draft, block),
+                OneOf::First(draft) => op.look_back(alloc, draft, block),
                 OneOf::Second(_) => unreachable!(),
             },
             OneOf::Second(op) => match draft {
                 OneOf::First(_) => unreachable!(),
-                OneOf::Second(draft) => op.feed(alloc, draft, block),
+                OneOf::Second(draft) => op.look_back(alloc, draft, block),
             },
         }
     }

@@ -12,11 +12,11 @@ use Rattle.saber_ring.specs.Shows.{extra}
 use Rattle.saber_assembly.specs.declared.stage.Stage.{Stage}
 use Rattle.saber_assembly.specs.declared.stage.State.{State}
 use Rattle.saber_assembly.specs.declared.stage.State.TheVariants.{Running, SinkFailed, NoMemory}
-use Rattle.saber_assembly.specs.declared.work.Told.{Told}
+use Rattle.saber_assembly.specs.declared.work.RunData.{RunData}
 use Rattle.saber_assembly.specs.Stages.{StageView, seen, Start, After}
 use Rattle.saber_assembly.specs.Works.{IsTold, input_of, start_of, first_tasks, IsStageOf}
-use Rattle.saber_crew.specs.declared.feed.Fed.{Fed}
-use Rattle.saber_crew.specs.declared.feed.Over.TheVariants.{AllGiven}
+use Rattle.saber_crew.specs.declared.dispatch.Dispatched.{Dispatched}
+use Rattle.saber_crew.specs.declared.dispatch.Over.TheVariants.{AllGiven}
 use Rattle.saber_crew.specs.Runs.{RunsTo}
 use Rattle.saber_engine.specs.Supplying.{first_told}
 
@@ -44,16 +44,16 @@ after_all first q n r start j s NoMemory le next a = (a.0 ∙ ap (λ z. appended
 apart : Running ≡ SinkFailed → ⊥
 apart e = cc
 
-module _ (first : FirstOfFirst) {O S K : Type 0} (plan : O → Tree) (held : S → Kept) (taken : O → S → Input → Type 0) (wrote : K → Option (List ℕ)) (failed : K → ℕ) (op : O) (n : ℕ) (w : Option (List ℕ)) (f : ℕ) (given : Told O → ℕ → Type 0) (over : Type 0) (s : Stage S K) (fed : Fed)
-    (r : RunsTo (IsTold plan) first_tasks (IsStageOf plan (seen held wrote failed) taken) given over (first_told op n w f) s fed) where
+module _ (first : FirstOfFirst) {O S K : Type 0} (plan : O → Tree) (contents : S → Kept) (taken : O → S → Input → Type 0) (wrote : K → Option (List ℕ)) (failed : K → ℕ) (op : O) (n : ℕ) (w : Option (List ℕ)) (f : ℕ) (given : RunData O → ℕ → Type 0) (over : Type 0) (s : Stage S K) (fed : Dispatched)
+    (r : RunsTo (IsTold plan) first_tasks (IsStageOf plan (seen contents wrote failed) taken) given over (first_told op n w f) s fed) where
   pub op_is : r.told.operator ≡ op
-  op_is = ap (λ (z : Told O). z.operator) r.base_is
+  op_is = ap (λ (z : RunData O). z.operator) r.base_is
 
   size_is : r.told.size ≡ n
-  size_is = ap (λ (z : Told O). z.size) r.base_is
+  size_is = ap (λ (z : RunData O). z.size) r.base_is
 
   start_is : start_of r.told ≡ record { written = w; faults = f }
-  start_is = ap (λ (z : Told O). start_of z) r.base_is
+  start_is = ap (λ (z : RunData O). start_of z) r.base_is
 
   few_in : (x : Bool) → s.k ≤ r.k + extra x
   few_in false = let k = r.stage_is.behind in omega arith
@@ -64,9 +64,9 @@ module _ (first : FirstOfFirst) {O S K : Type 0} (plan : O → Tree) (held : S �
   next_in true e h = let k = r.stage_is.behind in omega arith
 
   -- where the stage stands
-  pub after : After (plan op) n (input_of r.told) (record { written = w; faults = f }) (seen held wrote failed s) s.state
+  pub after : After (plan op) n (input_of r.told) (record { written = w; faults = f }) (seen contents wrote failed s) s.state
   after =
-      let v = seen held wrote failed s in let j : ℕ = r.k + extra r.stopped in
+      let v = seen contents wrote failed s in let j : ℕ = r.k + extra r.stopped in
       transport (λ i. After (plan (op_is i)) (size_is i) (input_of r.told) (start_is i) v s.state) (after_all first (plan r.told.operator) r.told.size (input_of r.told) (start_of r.told) j v s.state (few_in r.stopped) (next_in r.stopped refl) r.stage_is.keeps.after)
 
   pub few : s.k ≤ r.count

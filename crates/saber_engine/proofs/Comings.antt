@@ -15,21 +15,21 @@ use Rattle.saber_laws.specs.Pieces.{NoRowsGiveNothing, NoTasksNoRows}
 use Rattle.saber_assembly.specs.declared.stage.Stage.{Stage}
 use Rattle.saber_assembly.specs.declared.stage.State.{State}
 use Rattle.saber_assembly.specs.declared.stage.State.TheVariants as states
-use Rattle.saber_assembly.specs.declared.work.Told.{Told}
-use Rattle.saber_assembly.specs.Stages.{seen, Start, After, IsCut}
+use Rattle.saber_assembly.specs.declared.work.RunData.{RunData}
+use Rattle.saber_assembly.specs.Stages.{seen, Start, After}
+use Rattle.saber_plan.specs.Runs.{IsCut, Gives, Assembles, Reach, all_tasks, before_task, first_tasks as some_tasks, cut_off}
 use Rattle.saber_assembly.specs.Works.{IsTold, input_of as told_input, first_tasks, IsStageOf}
-use Rattle.saber_crew.specs.declared.feed.Fed.{Fed}
-use Rattle.saber_crew.specs.declared.feed.Over.{Over}
-use Rattle.saber_crew.specs.declared.feed.Over.TheVariants as over_by
+use Rattle.saber_crew.specs.declared.dispatch.Dispatched.{Dispatched}
+use Rattle.saber_crew.specs.declared.dispatch.Over.{Over}
+use Rattle.saber_crew.specs.declared.dispatch.Over.TheVariants as over_by
 use Rattle.saber_crew.specs.Runs.{RunsTo}
 use Rattle.saber_dispatch.specs.declared.ends.End.{End}
 use Rattle.saber_dispatch.specs.declared.ends.End.TheVariants as cut
 use Rattle.saber_dispatch.specs.declared.cutter.Cutter.{Cutter}
 use Rattle.saber_dispatch.specs.Cutting.{end_of as cutter_end}
 use Rattle.saber_dispatch.specs.Telling as telling
-use Rattle.saber_engine.specs.declared.ends.RunEnd.{RunEnd}
-use Rattle.saber_engine.specs.declared.ends.RunEnd.TheVariants.{ReadFault, WriteFault, NoMemory}
-use Rattle.saber_engine.specs.Gives.{Gives, Assembles, Reach, all_tasks, before_task, first_tasks as some_tasks, cut_off}
+use Rattle.saber_plan.specs.declared.ends.RunEnd.{RunEnd}
+use Rattle.saber_plan.specs.declared.ends.RunEnd.TheVariants.{ReadFault, WriteFault, NoMemory}
 use Rattle.saber_engine.specs.Endings.{given_end, end_of}
 use Rattle.saber_engine.specs.Supplying.{first_told}
 use Rattle.saber_engine.proofs.Counts.{first_few}
@@ -53,9 +53,9 @@ pub record Came (q : Tree) (s : Sizes) (c : Cutter) (end : Option End) (all : In
   pub write_good : end_of state over end ≢ WriteFault → faults ≡ f
   pub writes : f ≤ faults
 
-module _ (first : FirstOfFirst) {O S K : Type 0} (plan : O → Tree) (held : S → Kept) (taken : O → S → Input → Type 0) (wrote : K → Option (List ℕ)) (failed : K → ℕ)
-    (op : O) (s : Sizes) (w : Option (List ℕ)) (f : ℕ) (IsGiven : Told O → ℕ → Type 0) (IsOver : Type 0) (c : Cutter) (end : Option End) (stage : Stage S K) (fed : Fed)
-    (r : RunsTo (IsTold plan) first_tasks (IsStageOf plan (seen held wrote failed) taken) IsGiven IsOver (first_told op s.task w f) stage fed)
+module _ (first : FirstOfFirst) {O S K : Type 0} (plan : O → Tree) (contents : S → Kept) (taken : O → S → Input → Type 0) (wrote : K → Option (List ℕ)) (failed : K → ℕ)
+    (op : O) (s : Sizes) (w : Option (List ℕ)) (f : ℕ) (IsGiven : RunData O → ℕ → Type 0) (IsOver : Type 0) (c : Cutter) (end : Option End) (stage : Stage S K) (fed : Dispatched)
+    (r : RunsTo (IsTold plan) first_tasks (IsStageOf plan (seen contents wrote failed) taken) IsGiven IsOver (first_told op s.task w f) stage fed)
     (given : GivenBy s c end (told_input r.told) r.count) where
   abbrev q : Tree
   q = plan op
@@ -70,19 +70,19 @@ module _ (first : FirstOfFirst) {O S K : Type 0} (plan : O → Tree) (held : S �
   count = given.count
 
   behind : stage.k ≤ r.count
-  behind = few first plan held taken wrote failed op s.task w f IsGiven IsOver stage fed r
+  behind = few first plan contents taken wrote failed op s.task w f IsGiven IsOver stage fed r
 
   behind_next : stage.state ≡ states.SinkFailed → stage.k + 1 ≤ r.count
-  behind_next = few_next first plan held taken wrote failed op s.task w f IsGiven IsOver stage fed r
+  behind_next = few_next first plan contents taken wrote failed op s.task w f IsGiven IsOver stage fed r
 
-  stands : After q s.task all start (seen held wrote failed stage) stage.state
-  stands = after first plan held taken wrote failed op s.task w f IsGiven IsOver stage fed r
+  stands : After q s.task all start (seen contents wrote failed stage) stage.state
+  stands = after first plan contents taken wrote failed op s.task w f IsGiven IsOver stage fed r
 
-  stands_so : (state : State) → stage.state ≡ state → After q s.task all start (seen held wrote failed stage) state
-  stands_so state e = subst (After q s.task all start (seen held wrote failed stage)) e stands
+  stands_so : (state : State) → stage.state ≡ state → After q s.task all start (seen contents wrote failed stage) state
+  stands_so state e = subst (After q s.task all start (seen contents wrote failed stage)) e stands
 
   whole_behind : stage.state ≡ states.Running → fed.over ≡ over_by.AllGiven → stage.k ≡ task_count s.task all
-  whole_behind h e = (all_behind first plan held taken wrote failed op s.task w f IsGiven IsOver stage fed r h e).0 ∙ count
+  whole_behind h e = (all_behind first plan contents taken wrote failed op s.task w f IsGiven IsOver stage fed r h e).0 ∙ count
 
   abbrev so_far : List ℕ
   so_far = text q (upto s.task all stage.k)

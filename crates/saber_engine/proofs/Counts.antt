@@ -5,7 +5,7 @@ use Rattle.saber_plan.specs.declared.sizes.Sizes.{Sizes}
 use Rattle.saber_plan.specs.Inputs.{Input}
 use Rattle.saber_plan.specs.Trees.{Tree}
 use Rattle.saber_plan.specs.Windows.{no_rows}
-use Rattle.saber_plan.specs.CountFacts.{one_task_more, tasks_have_rows, ceil_rises, mark_count}
+use Rattle.saber_plan.specs.Facts.Counts.{one_task_more, tasks_have_rows, ceil_rises, mark_count}
 use Rattle.saber_plan.specs.Tasks.{cut, upto, row_tasks, task_count}
 use Rattle.saber_fragment.specs.declared.blocks.Block.{Block}
 use Rattle.saber_dispatch.specs.Sources.{NoneFell}

@@ -4,7 +4,7 @@ use Rattle.std.specs.Prelude.{Option, Some, None, IsSome, if◌then◌else◌}
 use Rattle.std.specs.Int.{div_ceil}
 use Rattle.saber_io.specs.Outside.{Rose, appended, appended-none}
 use Rattle.saber_io.specs.declared.feeds.EndMark.TheVariants as marks
-use Rattle.saber_plan.specs.CountFacts.{tasks_have_rows}
+use Rattle.saber_plan.specs.Facts.Counts.{tasks_have_rows}
 use Rattle.saber_plan.specs.Sizes.{limits_of}
 use Rattle.saber_plan.specs.declared.rows.Side.{Side}
 use Rattle.saber_plan.specs.declared.sizes.Sizes.{Sizes}
@@ -20,9 +20,9 @@ use Rattle.saber_assembly.specs.declared.stage.State.{State}
 use Rattle.saber_assembly.specs.declared.stage.State.TheVariants as states
 use Rattle.saber_assembly.specs.Stages.{seen}
 use Rattle.saber_assembly.specs.Works.{IsTold, input_of as told_input, first_tasks, IsStageOf}
-use Rattle.saber_crew.specs.declared.feed.Fed.{Fed}
-use Rattle.saber_crew.specs.declared.feed.Over.{Over}
-use Rattle.saber_crew.specs.declared.feed.Over.TheVariants as over_by
+use Rattle.saber_crew.specs.declared.dispatch.Dispatched.{Dispatched}
+use Rattle.saber_crew.specs.declared.dispatch.Over.{Over}
+use Rattle.saber_crew.specs.declared.dispatch.Over.TheVariants as over_by
 use Rattle.saber_crew.specs.Runs.{RunsTo}
 use Rattle.saber_dispatch.specs.declared.ends.End.{End}
 use Rattle.saber_dispatch.specs.declared.ends.End.TheVariants as cut
@@ -33,10 +33,10 @@ use Rattle.saber_dispatch.specs.Cutting.{is_due, told_end}
 use Rattle.saber_dispatch.specs.Feeding.{CutsFed, CutsNothingFed, fed_end_of}
 use Rattle.saber_dispatch.specs.FedReadings.{EndTold}
 use Rattle.saber_dispatch.specs.FeedLaws.{GoesOn, FedBlocksAreTasks, CutsLeaveWholeTasks}
-use Rattle.saber_engine.specs.declared.ends.RunEnd.{RunEnd}
-use Rattle.saber_engine.specs.declared.ends.RunEnd.TheVariants.{AllRead, ReadFault, WriteFault, NoMemory}
-use Rattle.saber_engine.specs.Sources.{input_of}
-use Rattle.saber_engine.specs.Gives.{Gives, IsClean}
+use Rattle.saber_plan.specs.declared.ends.RunEnd.{RunEnd}
+use Rattle.saber_plan.specs.declared.ends.RunEnd.TheVariants.{AllRead, ReadFault, WriteFault, NoMemory}
+use Rattle.saber_plan.specs.Files.{input_of}
+use Rattle.saber_plan.specs.Runs.{Gives, IsClean}
 use Rattle.saber_engine.specs.Endings.{given_end, end_of}
 use Rattle.saber_engine.specs.Supplying.{first_told}
 use Rattle.saber_engine.specs.FedRuns.{TakesWhole}
@@ -113,9 +113,9 @@ pub record FedDone (q : Tree) (s : Sizes) (v : FeedView) (before : ℕ) (w : Opt
   pub reads : before ≤ v.faults
   pub writes : f ≤ faults
 
-module _ (first : FirstOfFirst) (are : FedBlocksAreTasks) (leave : CutsLeaveWholeTasks) {O S K : Type 0} (plan : O → Tree) (held : S → Kept) (taken : O → S → Input → Type 0) (wrote : K → Option (List ℕ)) (failed : K → ℕ)
-    (op : O) (s : Sizes) (some : 1 ≤ s.task) (w : Option (List ℕ)) (f : ℕ) (v : FeedView) (before : ℕ) (c : FedCutter) (k : Keeper) (end : Option End) (stage : Stage S K) (fed : Fed)
-    (r : RunsTo (IsTold plan) first_tasks (IsStageOf plan (seen held wrote failed) taken) (HasFed plan s before v c k end) (IsSome end) (first_told op s.task w f) stage fed) where
+module _ (first : FirstOfFirst) (are : FedBlocksAreTasks) (leave : CutsLeaveWholeTasks) {O S K : Type 0} (plan : O → Tree) (contents : S → Kept) (taken : O → S → Input → Type 0) (wrote : K → Option (List ℕ)) (failed : K → ℕ)
+    (op : O) (s : Sizes) (some : 1 ≤ s.task) (w : Option (List ℕ)) (f : ℕ) (v : FeedView) (before : ℕ) (c : FedCutter) (k : Keeper) (end : Option End) (stage : Stage S K) (fed : Dispatched)
+    (r : RunsTo (IsTold plan) first_tasks (IsStageOf plan (seen contents wrote failed) taken) (HasFed plan s before v c k end) (IsSome end) (first_told op s.task w f) stage fed) where
   abbrev q : Tree
   q = plan op
 
@@ -123,13 +123,13 @@ module _ (first : FirstOfFirst) (are : FedBlocksAreTasks) (leave : CutsLeaveWhol
   all_input = told_input r.told
 
   cuts : CutsFed q s v.taken v.waiting v.mark c all_input
-  cuts = subst (λ o. CutsFed (plan o) s v.taken v.waiting v.mark c all_input) (op_is first plan held taken wrote failed op s.task w f (HasFed plan s before v c k end) (IsSome end) stage fed r) r.is_given.cuts
+  cuts = subst (λ o. CutsFed (plan o) s v.taken v.waiting v.mark c all_input) (op_is first plan contents taken wrote failed op s.task w f (HasFed plan s before v c k end) (IsSome end) stage fed r) r.is_given.cuts
 
   given_by : GivenBy s c.cutter end all_input r.count
   given_by = record { size = some; count = r.is_given.count; ended = r.is_given.ended }
 
   came : Came q s c.cutter end all_input stage.state fed.over stage.k w (wrote stage.sink) f (failed stage.sink)
-  came = came_to first plan held taken wrote failed op s w f (HasFed plan s before v c k end) (IsSome end) c.cutter end stage fed r given_by
+  came = came_to first plan contents taken wrote failed op s w f (HasFed plan s before v c k end) (IsSome end) c.cutter end stage fed r given_by
 
   leaves : (side : Side) → end_of stage.state fed.over end ≡ ReadFault side → TakesWhole q s.task (limits_of s) stage.k v.taken
   leaves side e =

@@ -8,7 +8,7 @@ use Rattle.saber_plan.specs.declared.rows.Side.{Side}
 use Rattle.saber_plan.specs.declared.sizes.Sizes.{Sizes}
 use Rattle.saber_plan.specs.Trees.{Tree}
 use Rattle.saber_fragment.specs.declared.blocks.Block.{Block}
-use Rattle.saber_assembly.specs.declared.work.Told.{Told}
+use Rattle.saber_assembly.specs.declared.work.RunData.{RunData}
 use Rattle.saber_assembly.specs.Works.{IsTold, IsBlockOf, input_of, with_block}
 use Rattle.saber_dispatch.specs.declared.ends.End.{End}
 use Rattle.saber_dispatch.specs.declared.ends.End.TheVariants.{ReadFault, NoMemory}
@@ -55,7 +55,7 @@ pub record Stepped (v w : FeedView) (old new : FedCutter) (step : Step) : Type 0
   pub count : v.faults ≤ w.faults
   pub none : (b : Block) → step ≡ steps.Block b → new.begun ≡ None
 
-module _ {O : Type 0} (plan : O → Tree) (s : Sizes) (before : ℕ) (v w : FeedView) (old new : FedCutter) (k : Keeper) (end : Option End) (open_still : end ≡ None) (step : Step) (called : Stepped v w old new step) (told : Told O) (d : ℕ) (h : HasFed plan s before v old k end told d) where
+module _ {O : Type 0} (plan : O → Tree) (s : Sizes) (before : ℕ) (v w : FeedView) (old new : FedCutter) (k : Keeper) (end : Option End) (open_still : end ≡ None) (step : Step) (called : Stepped v w old new step) (told : RunData O) (d : ℕ) (h : HasFed plan s before v old k end told d) where
   same_before : v.faults ≡ before
   same_before = h.counted.good (λ side e. none_some (ReadFault side) (sym open_still ∙ e))
 
@@ -159,7 +159,7 @@ module _ {O : Type 0} (plan : O → Tree) (s : Sizes) (before : ℕ) (v w : Feed
 
 -- a feed that was refilled has given what it gave before
 pub refilled : RefillsKeep → {O : Type 0} (plan : O → Tree) (s : Sizes) (before : ℕ) (v w : FeedView) (c : FedCutter) (k : Keeper) (end : Option End) (more : Bool) → Refills v.taken w.taken v.waiting w.waiting v.mark w.mark more → w.faults ≡ v.faults
-    → (told : Told O) (d : ℕ) → HasFed plan s before v c k end told d → HasFed plan s before w c k end told d
+    → (told : RunData O) (d : ℕ) → HasFed plan s before v c k end told d → HasFed plan s before w c k end told d
 refilled law plan s before v w c k end more fills same told d h = record {
   cuts = law (plan told.operator) s v.taken w.taken v.waiting w.waiting v.mark w.mark c (input_of told) more h.cuts fills;
   size = h.size;

@@ -4,12 +4,12 @@ use Rattle.std.specs.Prelude.{Option, Some, None}
 use Rattle.saber_plan.specs.declared.rows.Side.{Side}
 use Rattle.saber_assembly.specs.declared.stage.State.{State}
 use Rattle.saber_assembly.specs.declared.stage.State.TheVariants as states
-use Rattle.saber_crew.specs.declared.feed.Over.{Over}
-use Rattle.saber_crew.specs.declared.feed.Over.TheVariants as over_by
+use Rattle.saber_crew.specs.declared.dispatch.Over.{Over}
+use Rattle.saber_crew.specs.declared.dispatch.Over.TheVariants as over_by
 use Rattle.saber_dispatch.specs.declared.ends.End.{End}
 use Rattle.saber_dispatch.specs.declared.ends.End.TheVariants as cut
-use Rattle.saber_engine.specs.declared.ends.RunEnd.TheVariants.{ReadFault, WriteFault, NoMemory}
-use Rattle.saber_engine.specs.Gives.{all_tasks, before_task, first_tasks as some_tasks, cut_off, IsClean}
+use Rattle.saber_plan.specs.declared.ends.RunEnd.TheVariants.{ReadFault, WriteFault, NoMemory}
+use Rattle.saber_plan.specs.Runs.{all_tasks, before_task, first_tasks as some_tasks, cut_off, IsClean}
 use Rattle.saber_engine.specs.Endings.{given_end, end_of}
 
 -- ---- reaches and ends that are not one another

@@ -17,7 +17,7 @@ use Rattle.saber_laws.specs.Pieces.{NoRowsGiveNothing, NoTasksNoRows}
 use Rattle.saber_assembly.specs.declared.stage.Stage.{Stage}
 use Rattle.saber_assembly.specs.Stages.{seen}
 use Rattle.saber_assembly.specs.Works.{IsTold, input_of as told_input, first_tasks, IsStageOf}
-use Rattle.saber_crew.specs.declared.feed.Fed.{Fed}
+use Rattle.saber_crew.specs.declared.dispatch.Dispatched.{Dispatched}
 use Rattle.saber_crew.specs.Runs.{RunsTo}
 use Rattle.saber_dispatch.specs.declared.ends.End.{End}
 use Rattle.saber_dispatch.specs.declared.ends.End.TheVariants as cut
@@ -30,10 +30,12 @@ use Rattle.saber_dispatch.specs.Readings.{Reading, one, two, Suits, ReadMoves}
 use Rattle.saber_dispatch.specs.Cutting.{Cuts, fresh, fresh_on}
 use Rattle.saber_dispatch.specs.Telling as telling
 use Rattle.saber_dispatch.specs.Leaving.{GaveAll, FaultsLeaveWholeTasks}
-use Rattle.saber_engine.specs.declared.ends.RunEnd.{RunEnd}
-use Rattle.saber_engine.specs.declared.ends.RunEnd.TheVariants.{ReadFault, WriteFault, NoMemory}
-use Rattle.saber_engine.specs.Sources.{told_by, input_of}
-use Rattle.saber_engine.specs.Gives.{Gives, IsClean, ReadsWhole}
+use Rattle.saber_plan.specs.declared.ends.RunEnd.{RunEnd}
+use Rattle.saber_plan.specs.declared.ends.RunEnd.TheVariants.{ReadFault, WriteFault, NoMemory}
+use Rattle.saber_engine.specs.Sources.{told_by}
+use Rattle.saber_plan.specs.Files.{input_of}
+use Rattle.saber_plan.specs.Runs.{Gives, IsClean}
+use Rattle.saber_engine.specs.Gives.{ReadsWhole}
 use Rattle.saber_engine.specs.Endings.{end_of}
 use Rattle.saber_engine.specs.Supplying.{HasGiven, first_told}
 use Rattle.saber_engine.proofs.Counts.{none_same}
@@ -56,9 +58,9 @@ pub record Done (q : Tree) (s : Sizes) (had has : Lefts) (before now : List ℕ)
   pub reads : NoneFell before now
   pub writes : f ≤ faults
 
-module _ (first : FirstOfFirst) (are : telling.BlocksAreTasks) (leave : FaultsLeaveWholeTasks) {O S K : Type 0} (plan : O → Tree) (held : S → Kept) (taken : O → S → Input → Type 0) (wrote : K → Option (List ℕ)) (failed : K → ℕ)
-    (op : O) (s : Sizes) (w : Option (List ℕ)) (f : ℕ) (had has : Lefts) (before now : List ℕ) (c : Cutter) (k : Keeper) (end : Option End) (stage : Stage S K) (fed : Fed)
-    (r : RunsTo (IsTold plan) first_tasks (IsStageOf plan (seen held wrote failed) taken) (HasGiven plan s had has before now c k end) (IsSome end) (first_told op s.task w f) stage fed) where
+module _ (first : FirstOfFirst) (are : telling.BlocksAreTasks) (leave : FaultsLeaveWholeTasks) {O S K : Type 0} (plan : O → Tree) (contents : S → Kept) (taken : O → S → Input → Type 0) (wrote : K → Option (List ℕ)) (failed : K → ℕ)
+    (op : O) (s : Sizes) (w : Option (List ℕ)) (f : ℕ) (had has : Lefts) (before now : List ℕ) (c : Cutter) (k : Keeper) (end : Option End) (stage : Stage S K) (fed : Dispatched)
+    (r : RunsTo (IsTold plan) first_tasks (IsStageOf plan (seen contents wrote failed) taken) (HasGiven plan s had has before now c k end) (IsSome end) (first_told op s.task w f) stage fed) where
   abbrev q : Tree
   q = plan op
 
@@ -66,13 +68,13 @@ module _ (first : FirstOfFirst) (are : telling.BlocksAreTasks) (leave : FaultsLe
   all = told_input r.told
 
   cuts : Cuts q s had has c all
-  cuts = subst (λ o. Cuts (plan o) s had has c all) (op_is first plan held taken wrote failed op s.task w f (HasGiven plan s had has before now c k end) (IsSome end) stage fed r) r.is_given.cuts
+  cuts = subst (λ o. Cuts (plan o) s had has c all) (op_is first plan contents taken wrote failed op s.task w f (HasGiven plan s had has before now c k end) (IsSome end) stage fed r) r.is_given.cuts
 
   given_by : GivenBy s c end all r.count
   given_by = record { size = cuts.sizes.task.0; count = r.is_given.count ∙ cuts.count; ended = r.is_given.ended }
 
   came : Came q s c end all stage.state fed.over stage.k w (wrote stage.sink) f (failed stage.sink)
-  came = came_to first plan held taken wrote failed op s w f (HasGiven plan s had has before now c k end) (IsSome end) c end stage fed r given_by
+  came = came_to first plan contents taken wrote failed op s w f (HasGiven plan s had has before now c k end) (IsSome end) c end stage fed r given_by
 
   told_so : (files : List (List ℕ)) → Suits (fresh q (limits_of s)) had → had ≡ map Some files → telling.AreTasks q s c all (input_of q (limits_of s) files)
   told_so files suits e = are q s files has c all (subst (Suits (fresh q (limits_of s))) e suits) (subst (λ l. Cuts q s l has c all) e cuts)

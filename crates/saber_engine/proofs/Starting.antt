@@ -8,12 +8,12 @@ use Rattle.saber_plan.specs.Inputs.{Input, going_on}
 use Rattle.saber_plan.specs.Trees.{Tree}
 use Rattle.saber_plan.specs.Answers.{frame}
 use Rattle.saber_plan.specs.Windows.{Fits, no_rows, Ordered}
-use Rattle.saber_plan.specs.Given.{RowsFit}
+use Rattle.saber_plan.specs.GivenRows.{RowsFit}
 use Rattle.saber_plan.specs.Tasks.{Kept}
 use Rattle.saber_laws.specs.Pieces.{NoTasksNoRows}
 use Rattle.saber_assembly.specs.declared.stage.Stage.{Stage}
 use Rattle.saber_assembly.specs.declared.stage.State.TheVariants.{Running}
-use Rattle.saber_assembly.specs.declared.work.Told.{Told}
+use Rattle.saber_assembly.specs.declared.work.RunData.{RunData}
 use Rattle.saber_assembly.specs.Stages.{seen, Tasks, Keeps}
 use Rattle.saber_assembly.specs.Works.{IsTold, IsStageOf}
 use Rattle.saber_workers.specs.Queries.{Suits}
@@ -28,7 +28,7 @@ use Rattle.saber_dispatch.specs.Cutting.{Cuts, CutsNothing, fresh, end_of}
 use Rattle.saber_engine.specs.Supplying.{HasGiven, first_told}
 use Rattle.saber_engine.proofs.Counts.{none_same}
 use Rattle.saber_engine.proofs.Passed.{kept_none}
-use Rattle.saber_plan.specs.CountFacts.{tasks_have_rows}
+use Rattle.saber_plan.specs.Facts.Counts.{tasks_have_rows}
 
 none_some : {A : Type 0} (x : A) → ◌≡◌ {A = Option A} None (Some x) → ⊥
 none_some x e = cc
@@ -56,21 +56,21 @@ given_none plan op s had before w f c k nothing open_still suits kept counts =
       counted = record { fell = none_same before; good = λ _. refl; cause = λ side i. absurd (none_some (ReadFault side) i) };
     }
 
-module _ {O S K : Type 0} (plan : O → Tree) (held : S → Kept) (taken : O → S → Input → Type 0) (wrote : K → Option (List ℕ)) (failed : K → ℕ) (op : O) (n : ℕ) (stage : Stage S K) where
-  abbrev told : Told O
+module _ {O S K : Type 0} (plan : O → Tree) (contents : S → Kept) (taken : O → S → Input → Type 0) (wrote : K → Option (List ℕ)) (failed : K → ℕ) (op : O) (n : ℕ) (stage : Stage S K) where
+  abbrev told : RunData O
   told = first_told op n (wrote stage.sink) (failed stage.sink)
 
   -- a run begins with a new stage
   pub begins : NoTasksNoRows → Fits (frame (plan op)) → 1 ≤ n → (sink : K) → stage.sink ≡ sink → stage.k ≡ 0 → stage.state ≡ Running
-      → ((m : ℕ) (r : Input) → Tasks (plan op) m r → Keeps (plan op) m r (record { written = wrote sink; faults = failed sink }) (taken op stage.store) (seen held wrote failed stage))
-      → (given : Told O → ℕ → Type 0) → given told 0
-      → BeginsRun (IsTold plan) (IsStageOf plan (seen held wrote failed) taken) (Suits op) given stage (Some told)
+      → ((m : ℕ) (r : Input) → Tasks (plan op) m r → Keeps (plan op) m r (record { written = wrote sink; faults = failed sink }) (taken op stage.store) (seen contents wrote failed stage))
+      → (given : RunData O → ℕ → Type 0) → given told 0
+      → BeginsRun (IsTold plan) (IsStageOf plan (seen contents wrote failed) taken) (Suits op) given stage (Some told)
   begins none fits some sink sink_is no_task running keeps given is =
       let t : Tasks (plan op) n (going_on []) = record { windows = fits; fits = fits_none (plan op); size = some } in (
         record { tasks = t; whole = none n (going_on []) },
         record {
           behind = no_task;
-          keeps = subst (λ k. Keeps (plan op) n (going_on []) (record { written = wrote k; faults = failed k }) (taken op stage.store) (seen held wrote failed stage)) (sym sink_is) (keeps n (going_on []) t);
+          keeps = subst (λ k. Keeps (plan op) n (going_on []) (record { written = wrote k; faults = failed k }) (taken op stage.store) (seen contents wrote failed stage)) (sym sink_is) (keeps n (going_on []) t);
           runs = λ _. running;
           stops = λ e. absurd (not_both e);
         },

@@ -3,11 +3,11 @@ use Rattle.std.proofs.Common.{◌≡◌, refl, sym, subst}
 use Rattle.std.specs.Prelude.{Bool, false, Option, Some, None}
 use Rattle.saber_assembly.specs.declared.stage.State.{State}
 use Rattle.saber_assembly.specs.declared.stage.State.TheVariants as states
-use Rattle.saber_crew.specs.declared.feed.Over.{Over}
-use Rattle.saber_crew.specs.declared.feed.Over.TheVariants as over_by
+use Rattle.saber_crew.specs.declared.dispatch.Over.{Over}
+use Rattle.saber_crew.specs.declared.dispatch.Over.TheVariants as over_by
 use Rattle.saber_dispatch.specs.declared.ends.End.{End}
 use Rattle.saber_dispatch.specs.declared.ends.End.TheVariants as cut
-use Rattle.saber_engine.specs.declared.ends.RunEnd.{RunEnd}
+use Rattle.saber_plan.specs.declared.ends.RunEnd.{RunEnd}
 use Rattle.saber_engine.specs.Endings.{given_end, end_of, is_stopped, MayStop}
 
 -- the end of the blocks stops no stage

@@ -6,7 +6,7 @@ use Rattle.saber_plan.specs.declared.sizes.Sizes.{Sizes}
 use Rattle.saber_plan.specs.Trees.{Tree}
 use Rattle.saber_plan.specs.Tasks.{task_count}
 use Rattle.saber_fragment.specs.declared.blocks.Block.{Block}
-use Rattle.saber_assembly.specs.declared.work.Told.{Told}
+use Rattle.saber_assembly.specs.declared.work.RunData.{RunData}
 use Rattle.saber_assembly.specs.Works.{IsTold, IsBlockOf, input_of, with_block}
 use Rattle.saber_dispatch.specs.declared.ends.End.{End}
 use Rattle.saber_dispatch.specs.declared.ends.End.TheVariants.{ReadFault, NoMemory}
@@ -49,7 +49,7 @@ pub record Called (left has : Lefts) (mid now : List ℕ) (old new : Cutter) (cu
 lack_not_fault : (side : Side) → ◌≡◌ {A = Option End} (Some NoMemory) (Some (ReadFault side)) → ⊥
 lack_not_fault side e = cc
 
-module _ {O : Type 0} (plan : O → Tree) (s : Sizes) (had left has : Lefts) (before mid now : List ℕ) (old new : Cutter) (k : Keeper) (end : Option End) (open_still : end ≡ None) (cut : Cut) (called : Called left has mid now old new cut) (told : Told O) (d : ℕ) (h : HasGiven plan s had left before mid old k end told d) where
+module _ {O : Type 0} (plan : O → Tree) (s : Sizes) (had left has : Lefts) (before mid now : List ℕ) (old new : Cutter) (k : Keeper) (end : Option End) (open_still : end ≡ None) (cut : Cut) (called : Called left has mid now old new cut) (told : RunData O) (d : ℕ) (h : HasGiven plan s had left before mid old k end told d) where
   same_before : mid ≡ before
   same_before = h.counted.good (λ side e. none_some (ReadFault side) (sym open_still ∙ e))
 

@@ -2,12 +2,12 @@
 use Rattle.std.specs.Prelude.{◌≡◌, Bool, true, false, Option, Some, None}
 use Rattle.saber_assembly.specs.declared.stage.State.{State}
 use Rattle.saber_assembly.specs.declared.stage.State.TheVariants as states
-use Rattle.saber_crew.specs.declared.feed.Over.{Over}
-use Rattle.saber_crew.specs.declared.feed.Over.TheVariants as over_by
+use Rattle.saber_crew.specs.declared.dispatch.Over.{Over}
+use Rattle.saber_crew.specs.declared.dispatch.Over.TheVariants as over_by
 use Rattle.saber_dispatch.specs.declared.ends.End.{End}
 use Rattle.saber_dispatch.specs.declared.ends.End.TheVariants as cuts
-use Rattle.saber_engine.specs.declared.ends.RunEnd.{RunEnd}
-use Rattle.saber_engine.specs.declared.ends.RunEnd.TheVariants.{AllRead, Bad, ReadFault, TooWide, WriteFault, NoMemory}
+use Rattle.saber_plan.specs.declared.ends.RunEnd.{RunEnd}
+use Rattle.saber_plan.specs.declared.ends.RunEnd.TheVariants.{AllRead, Bad, ReadFault, TooWide, WriteFault, NoMemory}
 
 -- the end of the blocks, where the stage goes on and all that were given are filled
 abbrev pub given_end : Option End → RunEnd

@@ -1,5 +1,5 @@
 -- What a run over a feed gives.
-use Rattle.std.specs.Prelude.{◌≡◌, ◌≤◌, ℕ, ◌/◌, length, List, [], ◌∷◌, Option}
+use Rattle.std.specs.Prelude.{◌≡◌, ◌≤◌, ◌/◌, ℕ, length, List, [], ◌∷◌, Option}
 use Rattle.saber_io.specs.Outside.{appended}
 use Rattle.saber_io.specs.declared.feeds.EndMark.{EndMark}
 use Rattle.saber_plan.specs.declared.rows.Side.{Side}
@@ -8,10 +8,10 @@ use Rattle.saber_plan.specs.Sizes.{FileLimits, limits_of}
 use Rattle.saber_plan.specs.Inputs.{input}
 use Rattle.saber_plan.specs.Trees.{Tree}
 pub use Rattle.saber_dispatch.specs.FeedLaws.{GoesOn}
-use Rattle.saber_engine.specs.declared.ends.RunEnd.{RunEnd}
-use Rattle.saber_engine.specs.declared.ends.RunEnd.TheVariants.{ReadFault}
-use Rattle.saber_engine.specs.Sources.{wholes}
-use Rattle.saber_engine.specs.Gives.{GivesOver}
+use Rattle.saber_plan.specs.declared.ends.RunEnd.{RunEnd}
+use Rattle.saber_plan.specs.declared.ends.RunEnd.TheVariants.{ReadFault}
+use Rattle.saber_plan.specs.Files.{wholes}
+use Rattle.saber_plan.specs.Runs.{GivesOver}
 
 -- at least every whole task of the whole lines of these bytes is assembled
 pub record TakesWhole (q : Tree) (n : ℕ) (limits : FileLimits) (tasks : ℕ) (taken : List ℕ) : Type 0 where

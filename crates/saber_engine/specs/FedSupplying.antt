@@ -7,7 +7,7 @@ use Rattle.saber_plan.specs.declared.sizes.Sizes.{Sizes}
 use Rattle.saber_plan.specs.Trees.{Tree}
 use Rattle.saber_plan.specs.Tasks.{task_count}
 use Rattle.saber_fragment.specs.declared.blocks.Block.{Block}
-use Rattle.saber_assembly.specs.declared.work.Told.{Told}
+use Rattle.saber_assembly.specs.declared.work.RunData.{RunData}
 use Rattle.saber_assembly.specs.Works.{IsTold, IsBlockOf, input_of, with_block}
 use Rattle.saber_dispatch.specs.declared.ends.End.{End}
 use Rattle.saber_dispatch.specs.declared.ends.End.TheVariants.{ReadFault}
@@ -38,7 +38,7 @@ pub record IsCounted (end : Option End) (before now : ℕ) : Type 0 where
 -- Of a feed with such a count when the run began, so many blocks were given, and the data have their rows. As long as more may come, the last
 -- of them are kept, if any are, and they are counted by their key lists. Once the blocks ended, the cutter tells their end, and until then the feed was not found cut off.
 pub record HasFed {O : Type 0} (plan : O → Tree) (s : Sizes) (before : ℕ) (v : FeedView) (c : FedCutter) (k : Keeper) (end : Option End)
-    (told : Told O) (d : ℕ) : Type 0 where
+    (told : RunData O) (d : ℕ) : Type 0 where
   pub cuts : CutsFed (plan told.operator) s v.taken v.waiting v.mark c (input_of told)
   pub size : told.size ≡ s.task
   pub count : d ≡ task_count s.task (input_of told)
@@ -66,19 +66,19 @@ fed_standing view cutter keeper end = record { view = view; cutter = cutter; kee
 
 module _ {O : Type 0} (plan : O → Tree) (s : Sizes) (faults : ℕ) where
   -- of a feed with such a count, so many blocks were given
-  abbrev pub FedAt : FedStanding → Told O → ℕ → Type 0
+  abbrev pub FedAt : FedStanding → RunData O → ℕ → Type 0
   FedAt now told d = HasFed plan s faults now.view now.cutter now.keeper now.end told d
 
   -- some blocks were given
   abbrev pub FedSome : FedStanding → Type 0
-  FedSome now = (told : Told O) × (d : ℕ) × FedAt now told d
+  FedSome now = (told : RunData O) × (d : ℕ) × FedAt now told d
 
   -- whatever blocks were given, this is the next one, or none, and then those stay
   abbrev pub FeedsNext : FedStanding → FedStanding → Supplied Block → Type 0
-  FeedsNext old new supplied = (told : Told O) (d : ℕ) → FedAt old told d →
+  FeedsNext old new supplied = (told : RunData O) (d : ℕ) → FedAt old told d →
       Gives (IsTold plan) with_block (IsBlockOf plan) (FedAt new) told d supplied
 
   -- the same of a call that may have no answer as yet
   abbrev pub TriesNext : FedStanding → FedStanding → Option (Supplied Block) → Type 0
-  TriesNext old new supplied = (told : Told O) (d : ℕ) → FedAt old told d →
+  TriesNext old new supplied = (told : RunData O) (d : ℕ) → FedAt old told d →
       Tries (IsTold plan) with_block (IsBlockOf plan) (FedAt new) told d supplied

@@ -1,76 +1,22 @@
--- What a run gives over inputs that tell their bytes.
-use Rattle.std.specs.Prelude.{Bool, ◌≡◌, ◌≢◌, ◌≤◌, ℕ, ◌/◌, length, List, Option, Some, None, IfSome}
+-- What a run leaves of its inputs and its sink.
+use Rattle.std.specs.Prelude.{◌≡◌, ◌≤◌, ◌/◌, ℕ, length, List, Option, IfSome}
 use Rattle.saber_io.specs.Outside.{appended}
 use Rattle.saber_plan.specs.declared.rows.Side.{Side}
 use Rattle.saber_plan.specs.declared.sizes.Sizes.{Sizes}
 use Rattle.saber_plan.specs.Sizes.{FileLimits, limits_of}
-use Rattle.saber_plan.specs.Inputs.{Input, input}
-use Rattle.saber_plan.specs.Rows.{Read, all_read, bad}
+use Rattle.saber_plan.specs.Inputs.{input}
 use Rattle.saber_plan.specs.Trees.{Tree}
-use Rattle.saber_plan.specs.Answers.{text}
-use Rattle.saber_plan.specs.Tasks.{upto, task_count, run_input}
-use Rattle.saber_plan.specs.Needs.{need as blocks_needed, wide}
-pub use Rattle.saber_assembly.specs.Stages.{IsCut}
-use Rattle.saber_engine.specs.declared.ends.RunEnd.{RunEnd}
-use Rattle.saber_engine.specs.declared.ends.RunEnd.TheVariants.{AllRead, Bad, ReadFault, TooWide, WriteFault, NoMemory}
-use Rattle.saber_engine.specs.Sources.{GaveAll, wholes, input_of}
-
--- an answer of the rows and the ring alone: no fault came, and memory was enough
-abbrev pub IsClean : RunEnd → Type 0
-IsClean AllRead = Unit {0}
-IsClean (Bad side line cause) = Unit {0}
-IsClean (TooWide task need) = Unit {0}
-IsClean _ = ⊥
-
--- The end of the rows of an input in tasks of n, where no task is too wide for the ring; or the first that is, with what it needs.
--- A fault or want of memory may hide both.
-abbrev pub EndsAs : Tree → ℕ → ℕ → Input → RunEnd → Read → Type 0
-EndsAs q n ring r AllRead read = (read.end ≡ all_read) × (wide q n r ring ≡ None)
-EndsAs q n ring r (Bad side line cause) read = (read.end ≡ bad side line cause) × (wide q n r ring ≡ None)
-EndsAs q n ring r (TooWide task need) read = (wide q n r ring ≡ Some task) × (need ≡ blocks_needed q n r task)
-EndsAs q n ring r _ read = Unit {0}
-
--- which tasks of an input are assembled
-pub data Reach : Type 0 where
-  all_tasks : Reach
-  -- those before this one
-  before_task : ℕ → Reach
-  -- some first ones
-  first_tasks : Reach
-  -- some first ones, and the write of the next one's text failed
-  cut_off : Reach
-
--- all, of the whole input or of the rows before a line that is refused; those before one that is too wide
-abbrev pub reach_of : RunEnd → Reach
-reach_of AllRead = all_tasks
-reach_of (Bad side line cause) = all_tasks
-reach_of (ReadFault side) = first_tasks
-reach_of (TooWide task need) = before_task task
-reach_of WriteFault = cut_off
-reach_of NoMemory = first_tasks
-
--- what goes out over an input in tasks of n, of which so many are assembled
-pub record Assembles (q : Tree) (n : ℕ) (r : Input) (reach : Reach) (tasks : ℕ) (out : List ℕ) : Type 0 where
-  pub few : tasks ≤ task_count n r
-  pub all : reach ≡ all_tasks → tasks ≡ task_count n r
-  pub before : (t : ℕ) → reach ≡ before_task t → tasks ≡ t
-  pub answers : reach ≢ cut_off → out ≡ text q (upto n r tasks)
-  pub cut : reach ≡ cut_off → IsCut q n r tasks out
-
--- over an input, on a ring, where the input's end closes windows where that is asked for
-pub record Gives (q : Tree) (n ring : ℕ) (flush : Bool) (read : Read) (e : RunEnd) (tasks : ℕ) (out : List ℕ) : Type 0 where
-  pub ends : EndsAs q n ring (run_input q flush read) e read
-  pub assembles : Assembles q n (run_input q flush read) (reach_of e) tasks out
+use Rattle.saber_plan.specs.declared.ends.RunEnd.{RunEnd}
+use Rattle.saber_plan.specs.declared.ends.RunEnd.TheVariants.{ReadFault}
+use Rattle.saber_engine.specs.Sources.{GaveAll}
+use Rattle.saber_plan.specs.Files.{wholes}
+use Rattle.saber_plan.specs.Runs.{GivesOver}
 
 -- at least every whole task of the whole lines that were taken is assembled
 pub record ReadsWhole (q : Tree) (n : ℕ) (limits : FileLimits) (tasks : ℕ) (had has : List (Option (List ℕ))) : Type 0 where
   pub taken : List (List ℕ)
   pub left : GaveAll had taken has
   pub tasks_are : length (input (wholes q limits taken)).rows / n ≤ tasks
-
--- what a run of these sizes gives over files with these bytes
-abbrev pub GivesOver : Tree → Sizes → List (List ℕ) → RunEnd → ℕ → List ℕ → Type 0
-GivesOver q s files e tasks out = Gives q s.task s.ring s.flush (input_of q (limits_of s) files) e tasks out
 
 -- something goes out, and over files that tell their bytes it is this
 abbrev pub GivesTold : Tree → Sizes → Option (List (List ℕ)) → Option (List ℕ) → Option (List ℕ) → RunEnd → ℕ → Type 0

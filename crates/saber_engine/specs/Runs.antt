@@ -8,9 +8,10 @@ use Rattle.saber_plan.specs.declared.sizes.Sizes.{Sizes}
 use Rattle.saber_plan.specs.Trees.{Tree}
 use Rattle.saber_dispatch.specs.declared.inputs.Inputs.{Inputs}
 use Rattle.saber_engine.specs.declared.ends.Ran.{Ran}
-use Rattle.saber_engine.specs.declared.ends.RunEnd.TheVariants.{AllRead, ReadFault, WriteFault}
+use Rattle.saber_plan.specs.declared.ends.RunEnd.TheVariants.{AllRead, ReadFault, WriteFault}
 use Rattle.saber_engine.specs.Sources.{each_input, told_by, RoseAt, NoneFell, GaveAll}
-use Rattle.saber_engine.specs.Gives.{GivesTold, IsClean, LeavesWhole}
+use Rattle.saber_engine.specs.Gives.{GivesTold, LeavesWhole}
+use Rattle.saber_plan.specs.Runs.{IsClean}
 use Rattle.saber_engine.specs.FedRuns.{GivesFed, CutLeavesWhole}
 use Rattle.saber_engine.specs.Endings.{MayStop}
 

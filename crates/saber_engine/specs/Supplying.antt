@@ -4,7 +4,7 @@ use Rattle.saber_plan.specs.declared.rows.Side.{Side}
 use Rattle.saber_plan.specs.declared.sizes.Sizes.{Sizes}
 use Rattle.saber_plan.specs.Trees.{Tree}
 use Rattle.saber_fragment.specs.declared.blocks.Block.{Block}
-use Rattle.saber_assembly.specs.declared.work.Told.{Told}
+use Rattle.saber_assembly.specs.declared.work.RunData.{RunData}
 use Rattle.saber_assembly.specs.Works.{IsTold, IsBlockOf, input_of, with_block}
 use Rattle.saber_dispatch.specs.declared.ends.End.{End}
 use Rattle.saber_dispatch.specs.declared.ends.End.TheVariants.{ReadFault}
@@ -26,7 +26,7 @@ pub record AreCounted (end : Option End) (before now : List ℕ) : Type 0 where
 -- Of inputs that had so much left and such counts, so many blocks were given, and the data have their rows. As long as more may come, the last
 -- of them are kept, if any are, and they are counted by their key lists. Once the blocks ended, the cutter tells their end, and until then no read had failed.
 pub record HasGiven {O : Type 0} (plan : O → Tree) (s : Sizes) (had has : Lefts) (before now : List ℕ) (c : Cutter) (k : Keeper) (end : Option End)
-    (told : Told O) (d : ℕ) : Type 0 where
+    (told : RunData O) (d : ℕ) : Type 0 where
   pub cuts : Cuts (plan told.operator) s had has c (input_of told)
   pub size : told.size ≡ s.task
   pub count : d ≡ c.number
@@ -37,7 +37,7 @@ pub record HasGiven {O : Type 0} (plan : O → Tree) (s : Sizes) (had has : Left
   pub counted : AreCounted end before now
 
 -- the data before a block is filled
-abbrev pub first_told : {O : Type 0} → O → ℕ → Option (List ℕ) → ℕ → Told O
+abbrev pub first_told : {O : Type 0} → O → ℕ → Option (List ℕ) → ℕ → RunData O
 first_told operator size written faults = record { operator = operator; size = size; written = written; faults = faults; rows = []; ended = false }
 
 -- where the blocks of inputs stand: what each input has left, and its count of faults; the cutter, and what is kept for the next block; and
@@ -60,14 +60,14 @@ standing left faults inputs cutter keeper end = record {
 
 module _ {O : Type 0} (plan : O → Tree) (s : Sizes) (lefts : Lefts) (faults : List ℕ) where
   -- of inputs that had so much left and such counts, so many blocks were given
-  abbrev pub GivenAt : Standing → Told O → ℕ → Type 0
+  abbrev pub GivenAt : Standing → RunData O → ℕ → Type 0
   GivenAt now told d = HasGiven plan s lefts now.lefts faults now.faults now.cutter now.keeper now.end told d
 
   -- some blocks were given
   abbrev pub GivenSome : Standing → Type 0
-  GivenSome now = (told : Told O) × (d : ℕ) × GivenAt now told d
+  GivenSome now = (told : RunData O) × (d : ℕ) × GivenAt now told d
 
   -- whatever blocks were given, this is the next one, or none, and then those stay
   abbrev pub GivesNext : Standing → Standing → Supplied Block → Type 0
-  GivesNext old new supplied = (told : Told O) (d : ℕ) → GivenAt old told d →
+  GivesNext old new supplied = (told : RunData O) (d : ℕ) → GivenAt old told d →
       Gives (IsTold plan) with_block (IsBlockOf plan) (GivenAt new) told d supplied

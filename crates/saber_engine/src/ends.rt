@@ -6,33 +6,7 @@ use saber_assembly::{Stage, State};
 use saber_crew::Over;
 use saber_dispatch::End;
 use saber_io::Sink;
-use saber_plan::{RowCause, Side};
-
-/// How a run ended.
-#[derive(Clone, Copy, Debug, PartialEq, Eq)]
-pub enum RunEnd {
-    /// All rows are answered.
-    AllRead,
-    /// A line was refused; the rows before it are answered. Lines count from 1.
-    Bad {
-        side: Side,
-        line: u64,
-        cause: RowCause,
-    },
-    /// An input can't be read.
-    ReadFault {
-        side: Side,
-    },
-    /// A task needs the rows of more tasks than the ring has room for.
-    TooWide {
-        task: u64,
-        need: u64,
-    },
-    /// The answer can't be written.
-    WriteFault,
-    /// Want of memory.
-    NoMemory,
-}
+use saber_plan::RunEnd;
 
 /// A run that ended, with its sink and the number of tasks that are assembled.
 #[derive(Drop)]

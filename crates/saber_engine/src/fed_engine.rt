@@ -6,13 +6,13 @@ ghost use Rattle.saber_plan.specs.declared.rows.Side.{Side};
 ghost use Rattle.saber_plan.specs.Trees.{tree_of};
 ghost use Rattle.saber_plan.specs.Checked.{IsChecked};
 ghost use Rattle.saber_plan.specs.Sizes.{SizesFit};
-ghost use Rattle.saber_engine.specs.declared.ends.RunEnd.{RunEnd};
-ghost use Rattle.saber_engine.specs.Gives.{IsClean};
+ghost use Rattle.saber_plan.specs.declared.ends.RunEnd.{RunEnd};
+ghost use Rattle.saber_plan.specs.Runs.{IsClean};
 ghost use Rattle.saber_engine.specs.FedRuns.{GivesFed, CutLeavesWhole};
 ghost use Rattle.saber_engine.specs.Endings.{MayStop};
 ghost use Rattle.saber_engine.specs.Runs.{RunsFed};
 
-use crate::ends::{Ran, RunEnd};
+use crate::ends::Ran;
 use crate::fed_groups::run_group;
 use crate::fed_selections::run_selection;
 use crate::spare::keep_freed;

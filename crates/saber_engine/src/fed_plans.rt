@@ -5,9 +5,9 @@ ghost use Rattle.saber_plan.specs.Checked.{IsChecked};
 ghost use Rattle.saber_plan.specs.Sizes.{SizesFit};
 ghost use Rattle.saber_engine.specs.Runs.{RunsFed};
 
-use crate::cells::cells;
 use crate::ends::{Ran, ended};
 use crate::fed_blocks::{BeginsFed, FedBlocks};
+use crate::ring_size::ring_size;
 use saber_assembly::{SaberWork, Stage};
 use saber_crew::{Over, run};
 use saber_dispatch::{cuts_leave_whole_tasks, fed_blocks_are_tasks};
@@ -71,7 +71,7 @@ where
         stage,
         &Sizes {
             task: sizes.task,
-            ring: cells(plan, sizes),
+            ring: ring_size(plan, sizes),
             threads: sizes.threads,
             max_lines: sizes.max_lines,
             slack: sizes.slack,

@@ -1,7 +1,7 @@
 //! A run of a plan over its inputs: cuts rows into tasks, has pieces made, assembles them in order.
 //! The chain and the top call run queries by it.
 //!
-//! - Parts: `ends` (how a run ends), `cells` (the size of the ring), `spare` (memory stays with the
+//! - Parts: `ends` (how a run ends), `ring_size`, `spare` (memory stays with the
 //!   process), `blocks` and `plans` (a run of one operator), `ways` (how a plan answers),
 //!   `selections`, `groups` and `joins` (the operator of a plan, by its way), `run_engine` (a plan
 //!   over sources), `fed_blocks`, `fed_plans`, `fed_selections`, `fed_groups` and `fed_engine` (the
@@ -15,12 +15,11 @@
 //!   front of the next task's text too. Every fault is real, and none is passed over. Over a feed
 //!   the same holds for every file that goes on from what was taken (`specs/FedRuns.antt`).
 //! - Not claimed: time, progress of threads, or a cause for want of memory. Over one stream the
-//!   ring may have fewer cells than `--ring` says (`cells.rt`); no contract speaks of it.
+//!   ring may have fewer cells than `--ring` says (`ring_size.rt`); no contract speaks of it.
 //! - Limits: those of `Sizes`. A run waits for its threads.
 #![tactic(auto)]
 
 mod blocks;
-mod cells;
 mod ends;
 mod fed_blocks;
 mod fed_engine;
@@ -30,12 +29,14 @@ mod fed_selections;
 mod groups;
 mod joins;
 mod plans;
+mod ring_size;
 mod run_engine;
 mod selections;
 mod spare;
 mod ways;
 
-pub use ends::{Ran, RunEnd};
+pub use ends::Ran;
 pub use fed_engine::engine_fed;
 pub use run_engine::{engine, engine_pouring};
 pub use saber_dispatch::Inputs;
+pub use saber_plan::RunEnd;

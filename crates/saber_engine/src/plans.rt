@@ -7,8 +7,8 @@ ghost use Rattle.saber_engine.specs.Sources.{each_input};
 ghost use Rattle.saber_engine.specs.Runs.{RunsPlan};
 
 use crate::blocks::{Begins, Blocks};
-use crate::cells::cells;
 use crate::ends::{Ran, ended};
+use crate::ring_size::ring_size;
 use saber_assembly::{SaberWork, Stage};
 use saber_crew::{Over, run};
 use saber_dispatch::{Inputs, blocks_are_tasks, faults_leave_whole_tasks};
@@ -71,7 +71,7 @@ where
         stage,
         &Sizes {
             task: sizes.task,
-            ring: cells(plan, sizes),
+            ring: ring_size(plan, sizes),
             threads: sizes.threads,
             max_lines: sizes.max_lines,
             slack: sizes.slack,

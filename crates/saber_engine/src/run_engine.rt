@@ -5,13 +5,14 @@ ghost use Rattle.saber_plan.specs.declared.rows.Side.{Side};
 ghost use Rattle.saber_plan.specs.Trees.{tree_of};
 ghost use Rattle.saber_plan.specs.Checked.{IsChecked};
 ghost use Rattle.saber_plan.specs.Sizes.{SizesFit};
-ghost use Rattle.saber_engine.specs.declared.ends.RunEnd.{RunEnd};
+ghost use Rattle.saber_plan.specs.declared.ends.RunEnd.{RunEnd};
 ghost use Rattle.saber_engine.specs.Sources.{each_input, told_by, RoseAt, NoneFell, GaveAll};
-ghost use Rattle.saber_engine.specs.Gives.{GivesTold, IsClean, LeavesWhole};
+ghost use Rattle.saber_engine.specs.Gives.{GivesTold, LeavesWhole};
+ghost use Rattle.saber_plan.specs.Runs.{IsClean};
 ghost use Rattle.saber_engine.specs.Endings.{MayStop};
 ghost use Rattle.saber_engine.specs.Runs.{RunsPlan};
 
-use crate::ends::{Ran, RunEnd};
+use crate::ends::Ran;
 use crate::groups::run_group;
 use crate::joins::run_join;
 use crate::selections::run_selection;

@@ -2,7 +2,7 @@
 use Rattle.std.proofs.Common.{◌≡◌, ℕ, ℤ, ◌+◌, ◌-◌, ◌≤◌, List, [], ◌∷◌, ◌++◌, map, length, take, drop, slice_range, refl, sym, ◌∙◌, ap, subst, arith, length-append, take-append-drop}
 use Rattle.std.proofs.lemmas.List.{map-append, take_at, drop_at, take_all, drop-append-le}
 use Rattle.std.proofs.Math.Seq.{drop-append-add}
-use Rattle.saber_plan.specs.ListFacts.{slice-take, all_weaker, all_front, all_append}
+use Rattle.saber_plan.specs.Facts.Lists.{slice-take, all_weaker, all_front, all_append}
 use Rattle.saber_plan.specs.declared.rows.Row.{Row}
 use Rattle.saber_flat.specs.declared.rows.Place.{Place}
 use Rattle.saber_flat.specs.Places.{row_at, rows_at, IsBelow, AreBelow, Building, with_number, with_row, closed_by}

@@ -1,0 +1,2 @@
+mod Slicing
+mod LookingBack

@@ -6,7 +6,7 @@ use Rattle.saber_plan.specs.Inputs.{Input, arrived}
 use Rattle.saber_plan.specs.Trees.{Tree}
 use Rattle.saber_plan.specs.Answers.{frame}
 use Rattle.saber_plan.specs.Windows.{Fits, no_rows, mark_of, mark_after, mark_at}
-use Rattle.saber_plan.specs.Given.{RowsFit}
+use Rattle.saber_plan.specs.GivenRows.{RowsFit}
 use Rattle.saber_plan.specs.Shares.{shares_here, shares_between, handed_here, handed_between}
 use Rattle.saber_plan.specs.Tasks.{places}
 use Rattle.saber_fragment.specs.declared.blocks.Block.{Block}
@@ -49,16 +49,16 @@ begins [] m b = b
 begins (x ∷ xs) m b = m
 
 -- one block more that is looked back on
-abbrev pub fed : Sight → Block → Sight
-fed s b = record { first = begins s.back s.first b.before; back = s.back ++ b.rows; earlier = s.earlier; before = s.before; rows = s.rows; places = s.places; ended = s.ended }
+abbrev pub seen_back : Sight → Block → Sight
+seen_back s b = record { first = begins s.back s.first b.before; back = s.back ++ b.rows; earlier = s.earlier; before = s.before; rows = s.rows; places = s.places; ended = s.ended }
 
 -- The block is the next one before the task's own: the rows looked back on, the block's, maybe those of blocks between, and the
 -- task's own follow one another in one input.
-pub record CanFeed (q : Tree) (s : Sight) (b : Block) : Type 0 where
+pub record CanLookBack (q : Tree) (s : Sight) (b : Block) : Type 0 where
   pub between : List Row
-  pub goes_on : b.before ≡ mark_after (fed s b).first s.back
-  pub meets : s.before ≡ mark_after (fed s b).first ((fed s b).back ++ between)
-  pub fits : RowsFit q (fed s b).first (((fed s b).back ++ between) ++ s.rows)
+  pub goes_on : b.before ≡ mark_after (seen_back s b).first s.back
+  pub meets : s.before ≡ mark_after (seen_back s b).first ((seen_back s b).back ++ between)
+  pub fits : RowsFit q (seen_back s b).first (((seen_back s b).back ++ between) ++ s.rows)
 
 -- the rows looked back on end where the task's own begin
 pub record IsWhole (q : Tree) (s : Sight) : Type 0 where

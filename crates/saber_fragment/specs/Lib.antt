@@ -1,3 +1,5 @@
 pub mod Shown
 pub mod Drafts
 pub mod Stores
+pub mod LookBack
+pub mod TaskFacts

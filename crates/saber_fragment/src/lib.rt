@@ -1,26 +1,33 @@
 //! What a task is and what an operator makes of it: blocks, pieces and the trait `Operator`.
 //! Every kind of query implements the trait (SABER 2016: its fragment and its assembly function).
-//! The law of feeds, the operators, dispatch, assembly, workers and engine are stated by it.
+//! The operators, dispatch, assembly, workers and engine are stated by it.
 //!
 //! - Parts: `blocks` (`Block`: a task's rows, the mark before them, rows before its own), `pieces`
-//!   (the parts of windows by kind, and text), `operator`.
-//! - Calls: `start` takes a task's own block and gives a draft, `feed` takes each block before it
-//!   that the task looks back on, `finish` gives the piece; `take_in` takes the next task's piece
-//!   into the store and appends to the text, `drop_closed` lets the parts of closed windows go.
+//!   (the parts of windows by kind, and text), `operator`, `look_back` (a law: `drafts_look_back`,
+//!   which takes and gives nothing).
+//! - Calls: `start` takes a task's own block and gives a draft, `look_back` takes each block before
+//!   it that the task looks back on, `finish` gives the piece; `take_in` takes the next task's
+//!   piece into the store and appends to the text, `drop_closed` lets the parts of closed windows
+//!   go.
 //! - Proved of each operator, in its own crate: `finish` gives the piece of the arrivals that the
 //!   task's rows are (`is_of`), from its own block and those looked back on; `take_in` appends what
 //!   these arrivals add to the text, and leaves in the store what is to be kept behind them, once
 //!   `drop_closed` has dropped the rest; `has_taken` goes on with the store. After want of memory
 //!   the text is as before. `specs/Drafts.antt` and `specs/Stores.antt` have what is asked of
 //!   callers.
+//! - The law, for tasks of at least one row and rows that the plan can be given: a draft can be
+//!   started with the task's own block, can look back on the blocks from the first that the task
+//!   needs on, one after another, and then has the task's arrivals (`specs/LookBack.antt`).
 //! - Not claimed: what a draft, a piece or a store keeps, and what work costs.
 //! - Limits: a draft keeps no block, and copies what it needs of it.
 #![tactic(auto)]
 
 mod blocks;
+mod look_back;
 mod operator;
 mod pieces;
 
 pub use blocks::{Block, Earlier};
+pub use look_back::drafts_look_back;
 pub use operator::Operator;
 pub use pieces::{Parts, Piece, Text};

@@ -3,7 +3,7 @@ ghost use Rattle.std.specs.Prelude.{◌≡◌, ℕ, [], IfOk, OnOk, OnErr};
 ghost use Rattle.saber_plan.specs.Inputs.{Input, going_on};
 ghost use Rattle.saber_plan.specs.Trees.{Tree};
 ghost use Rattle.saber_plan.specs.Tasks.{Kept, nothing_kept};
-ghost use Rattle.saber_fragment.specs.Drafts.{Sight, own_sight, fed, CanStart, CanFeed, IsWhole, IsSightOf};
+ghost use Rattle.saber_fragment.specs.Drafts.{Sight, own_sight, seen_back, CanStart, CanLookBack, IsWhole, IsSightOf};
 ghost use Rattle.saber_fragment.specs.Stores.{CanTakeIn, AddsText, LeavesKept, TakesIn};
 
 use crate::Block;
@@ -30,10 +30,10 @@ pub trait Operator {
     ghost has_seen: { Self → Self.Draft → Sight → Type 0 };
 
     /// What a store keeps: open parts by window, or by key list and window, and the answers of the last closed window.
-    ghost held: { Self.Store → Kept };
+    ghost contents: { Self.Store → Kept };
 
     /// What stays of it, once the closed parts are dropped.
-    ghost staying: { Self.Store → Kept };
+    ghost remainder: { Self.Store → Kept };
 
     /// What a store knows of the input whose pieces it has taken in, beside what it keeps.
     ghost has_taken: { Self → Self.Store → Input → Type 0 };
@@ -49,10 +49,15 @@ pub trait Operator {
 
     /// Takes in one block more of those before the task's own, from `first` on, each once and rising.
     /// After want of memory the draft is only safe to let go.
-    fn feed(&self, alloc: Global, draft: &mut Self::Draft, block: &Block) -> Result<(), NoMemory>
-        requires { (s : Sight) × (has_seen self.now draft.old s) × CanFeed (plan self.now) s block.now }
-        ensures { OnOk result ((s : Sight) → has_seen self.now draft.old s → CanFeed (plan self.now) s block.now
-            → has_seen self.now draft.new (fed s block.now)) };
+    fn look_back(
+        &self,
+        alloc: Global,
+        draft: &mut Self::Draft,
+        block: &Block,
+    ) -> Result<(), NoMemory>
+        requires { (s : Sight) × (has_seen self.now draft.old s) × CanLookBack (plan self.now) s block.now }
+        ensures { OnOk result ((s : Sight) → has_seen self.now draft.old s → CanLookBack (plan self.now) s block.now
+            → has_seen self.now draft.new (seen_back s block.now)) };
 
     /// The piece, once all blocks before the task's own are in: that of the arrivals that the task's own rows are.
     fn finish(&self, alloc: Global, draft: Self::Draft) -> Result<Self::Piece, NoMemory>
@@ -62,7 +67,7 @@ pub trait Operator {
 
     /// A store with nothing in it. Takes no memory.
     fn empty_store(&self, alloc: Global) -> Self::Store
-        ensures held { held result ≡ nothing_kept }
+        ensures contents { contents result ≡ nothing_kept }
         ensures taken { has_taken self.now result (going_on []) };
 
     /// Takes in the piece of the next task, and appends what its arrivals add to the text: what is printed of
@@ -75,17 +80,17 @@ pub trait Operator {
         piece: Self::Piece,
         out: &mut Vec<u8>,
     ) -> Result<(), NoMemory>
-        requires { CanTakeIn (plan self.now) (held store.old) (has_taken self.now store.old) (is_of self.now piece) }
-        ensures text { OnOk result (AddsText (plan self.now) (held store.old) (has_taken self.now store.old) (is_of self.now piece)
+        requires { CanTakeIn (plan self.now) (contents store.old) (has_taken self.now store.old) (is_of self.now piece) }
+        ensures text { OnOk result (AddsText (plan self.now) (contents store.old) (has_taken self.now store.old) (is_of self.now piece)
             out.old.items out.new.items) }
-        ensures stays { OnOk result (LeavesKept (plan self.now) (held store.old) (has_taken self.now store.old) (is_of self.now piece)
-            (staying store.new)) }
-        ensures taken { OnOk result (TakesIn (plan self.now) (held store.old) (has_taken self.now store.old) (is_of self.now piece)
+        ensures stays { OnOk result (LeavesKept (plan self.now) (contents store.old) (has_taken self.now store.old) (is_of self.now piece)
+            (remainder store.new)) }
+        ensures taken { OnOk result (TakesIn (plan self.now) (contents store.old) (has_taken self.now store.old) (is_of self.now piece)
             (has_taken self.now store.new)) }
         ensures err { OnErr result (out.new.items ≡ out.old.items) };
 
     /// Drops the parts of closed windows. Takes no memory.
     fn drop_closed(&self, store: &mut Self::Store)
-        ensures held { held store.new ≡ staying store.old }
+        ensures contents { contents store.new ≡ remainder store.old }
         ensures taken { (r : Input) → has_taken self.now store.old r → has_taken self.now store.new r };
 }

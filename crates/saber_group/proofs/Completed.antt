@@ -1,4 +1,4 @@
--- The runs of a task that answers windows itself: those of the windows before them, and all, behind the rows before the task.
+-- The slices of a task that answers windows itself: those of the windows before them, and all, behind the rows before the task.
 use Rattle.std.proofs.Common.{◌≡◌, ℕ, zero, suc, ◌+◌, ◌-◌, ◌≤◌, max, List, [], ◌∷◌, ◌++◌, Bool, Option, Some, None, length, take, refl, sym, ◌∙◌, ap, subst, subst₂, le_trans, append_assoc, arith}
 use Rattle.std.specs.List.{AllByRecursion, slice_get}
 use Rattle.std.proofs.lemmas.List.{take_all}
@@ -8,10 +8,10 @@ use Rattle.saber_plan.specs.declared.plans.Shape.TheVariants.{Group}
 use Rattle.saber_plan.specs.Trees.{Tree}
 use Rattle.saber_plan.specs.Windows.{Fits, no_rows, mark_of, mark_after, ending, closed_count, begun_count}
 use Rattle.saber_plan.specs.Answers.{frame}
-use Rattle.saber_plan.specs.Given.{RowsFit}
+use Rattle.saber_plan.specs.GivenRows.{RowsFit}
 use Rattle.saber_plan.specs.Parts.{Part, merge, part_lines}
-use Rattle.saber_plan.specs.RowFacts.{mark-append, fits_front, fits_back}
-use Rattle.saber_plan.specs.NumberFacts.{flat_map-from}
+use Rattle.saber_plan.specs.Facts.Rows.{mark-append, fits_front, fits_back}
+use Rattle.saber_plan.specs.Facts.Numbers.{flat_map-from}
 use Rattle.saber_fragment.specs.declared.blocks.Earlier.{Earlier}
 use Rattle.saber_fragment.specs.Drafts.{EndWith}
 use Rattle.saber_laws.specs.Groups.{GroupsJoin}
@@ -22,73 +22,73 @@ use Rattle.saber_partial.specs.PartLaws.{OfRows}
 use Rattle.saber_sliding.specs.Entries.{Entries}
 use Rattle.saber_sliding.specs.EntryFacts.{all_map}
 use Rattle.saber_group.specs.declared.complete.Complete.{Complete}
-use Rattle.saber_group.specs.declared.runs.Run.{Run}
-use Rattle.saber_group.specs.RunParts.{part_of, closed_by, lines_between, Holds, Settled}
-use Rattle.saber_group.specs.RunPieces.{RunsTo, RunsFrom, IsComplete, TaskSteps}
-use Rattle.saber_group.specs.RunStores.{GoesOn, WentOn}
+use Rattle.saber_group.specs.declared.slices.Slice.{Slice}
+use Rattle.saber_group.specs.SliceParts.{part_of, closed_by, lines_between, Holds, Settled}
+use Rattle.saber_group.specs.SlicePieces.{SlicesTo, SlicesFrom, IsComplete, TaskSteps}
+use Rattle.saber_group.specs.SliceStores.{GoesOn, WentOn}
 use Rattle.saber_group.proofs.Completing.{closed_within}
 use Rattle.saber_group.proofs.Lasting.{few_more, none_begun_have}
-use Rattle.saber_group.proofs.RunsTaken.{lifted, no_more, no_row, part_behind, long_both}
+use Rattle.saber_group.proofs.SlicesTaken.{lifted, no_more, no_row, part_behind, long_both}
 
 -- ---- how many steps they take
 
--- with more rows before the task, or more runs, it may take more steps
+-- with more rows before the task, or more slices, it may take more steps
 pub steps_rise : (e k n l : ℕ) (c : Option Complete) (before after : ℕ) → e ≤ k → n ≤ l → TaskSteps e n c before after → TaskSteps k l c before after
 steps_rise e k n l None before after up more h = h
 steps_rise e k n l (Some c) before after up more h = omega (arith, up, more, h)
 
--- ---- runs cut at a run
+-- ---- slices cut at a slice
 
--- where run k begins, of runs from position x on
-abbrev pub begins_at : ℕ → List Run → ℕ → ℕ
+-- where slice k begins, of slices from position x on
+abbrev pub begins_at : ℕ → List Slice → ℕ → ℕ
 begins_at x rs zero = x
 begins_at x [] (suc k) = x
 begins_at x (r ∷ rs) (suc k) = begins_at r.end rs k
 
 module _ (q : Tree) (m : Mark) (rows : List Row) where
   -- those before it end there
-  pub runs_front : (x : ℕ) (rs : List Run) (y k : ℕ) → RunsTo q m rows x rs y → RunsTo q m rows x (take k rs) (begins_at x rs k)
-  runs_front x rs y zero h = refl
-  runs_front x [] y (suc k) h = refl
-  runs_front x (r ∷ rs) y (suc k) h = (h.0, (h.1.0, (h.1.1.0, runs_front r.end rs y k h.1.1.1)))
+  pub slices_front : (x : ℕ) (rs : List Slice) (y k : ℕ) → SlicesTo q m rows x rs y → SlicesTo q m rows x (take k rs) (begins_at x rs k)
+  slices_front x rs y zero h = refl
+  slices_front x [] y (suc k) h = refl
+  slices_front x (r ∷ rs) y (suc k) h = (h.0, (h.1.0, (h.1.1.0, slices_front r.end rs y k h.1.1.1)))
 
   -- each has a row
-  pub runs_few : (x : ℕ) (rs : List Run) (y : ℕ) → RunsTo q m rows x rs y → x + length rs ≤ y
-  runs_few x [] y h = omega (arith, h)
-  runs_few x (r ∷ rs) y h = let more = h.1.0 in let rest = runs_few r.end rs y h.1.1.1 in omega (arith, more, rest)
+  pub slices_few : (x : ℕ) (rs : List Slice) (y : ℕ) → SlicesTo q m rows x rs y → x + length rs ≤ y
+  slices_few x [] y h = omega (arith, h)
+  slices_few x (r ∷ rs) y h = let more = h.1.0 in let rest = slices_few r.end rs y h.1.1.1 in omega (arith, more, rest)
 
   at_end : (i x : ℕ) → x ≡ length rows → part_of q i m (take x rows) ≡ part_of q i m rows
   at_end i x e = ap (part_of q i m) (take_all x rows (omega (arith, e)))
 
   -- if it has no window below `low`, no row from there on has
-  pub settled_at : (low x : ℕ) (rs : List Run) (k : ℕ) → RunsFrom q m rows x rs → ((r : Run) → Some r ≡ slice_get rs k → low ≤ r.first) → Settled q m (take (begins_at x rs k) rows) rows low
+  pub settled_at : (low x : ℕ) (rs : List Slice) (k : ℕ) → SlicesFrom q m rows x rs → ((r : Slice) → Some r ≡ slice_get rs k → low ≤ r.first) → Settled q m (take (begins_at x rs k) rows) rows low
   settled_at low x [] zero h first i l = at_end i x h
   settled_at low x [] (suc k) h first i l = at_end i x h
   settled_at low x (r ∷ rs) zero h first i l = h.0.below i (let up = first r refl in omega (arith, l, up))
   settled_at low x (r ∷ rs) (suc k) h first i l = settled_at low r.end rs k h.1.1.1 first i l
 
-  -- ---- the runs, as a store takes them in
+  -- ---- the slices, as a store takes them in
 
-  -- all windows before a run's first are closed by the rows
-  pub firsts_low : ClosedStay → Fits (frame q) → RowsFit q m rows → (n : ℕ) → closed_by q m rows ≤ n → (x : ℕ) (rs : List Run) (y : ℕ) → RunsTo q m rows x rs y → AllByRecursion (λ (r : Run). r.first ≤ n) rs
+  -- all windows before a slice's first are closed by the rows
+  pub firsts_low : ClosedStay → Fits (frame q) → RowsFit q m rows → (n : ℕ) → closed_by q m rows ≤ n → (x : ℕ) (rs : List Slice) (y : ℕ) → SlicesTo q m rows x rs y → AllByRecursion (λ (r : Slice). r.first ≤ n) rs
   firsts_low stay fits given n up x [] y h = tt
   firsts_low stay fits given n up x (r ∷ rs) y h = (le_trans h.0.closes (le_trans (closed_within stay q fits m rows r.end given) up), firsts_low stay fits given n up r.end rs y h.1.1.1)
 
 -- ---- behind the rows before a task that its block has
 
 module _ (q : Tree) (e : Earlier) (m : Mark) (rows : List Row) (ended : Bool) (meets : m ≡ mark_after e.before e.rows) where
-  -- the queue over those can take the task's runs in
-  pub goes_behind : GroupsJoin → MergeIsAssociative → ClosedStay → EndsCloseMore → Fits (frame q) → RowsFit q e.before (e.rows ++ rows) → (low high next : ℕ) (es : Entries) (rs : List Run)
-      → low ≤ high → high ≡ closed_count (frame q) (ending ended (mark_after m rows)) → next ≡ low → Holds q e.before e.rows low es → RunsFrom q m rows 0 rs
+  -- the queue over those can take the task's slices in
+  pub goes_behind : GroupsJoin → MergeIsAssociative → ClosedStay → EndsCloseMore → Fits (frame q) → RowsFit q e.before (e.rows ++ rows) → (low high next : ℕ) (es : Entries) (rs : List Slice)
+      → low ≤ high → high ≡ closed_count (frame q) (ending ended (mark_after m rows)) → next ≡ low → Holds q e.before e.rows low es → SlicesFrom q m rows 0 rs
       → GoesOn q e.before (e.rows ++ rows) (length e.rows) 0 (length rows) next es rs high
-  goes_behind join assoc stay more fits given low high next es rs up most first held h =
+  goes_behind join assoc stay more fits given low high next es rs up most first contents h =
       let a : Mark = mark_after e.before e.rows in
-      let own : RunsFrom q a rows 0 rs = subst (λ z. RunsFrom q z rows 0 rs) meets h in
+      let own : SlicesFrom q a rows 0 rs = subst (λ z. SlicesFrom q z rows 0 rs) meets h in
       let closed : closed_by q a rows ≤ high = subst₂ (λ z n. closed_by q z rows ≤ n) meets (sym most) (more (frame q) fits ended (mark_after m rows)) in
       record {
-        holds = subst₂ (λ l n. Holds q e.before l n es) (sym (no_row q e.before e.rows rows)) (sym first) held;
+        holds = subst₂ (λ l n. Holds q e.before l n es) (sym (no_row q e.before e.rows rows)) (sym first) contents;
         low = subst (λ n. n ≤ high) (sym first) up;
-        runs_are = lifted q e.before e.rows rows join assoc 0 rs (length rows) own;
+        slices_are = lifted q e.before e.rows rows join assoc 0 rs (length rows) own;
         firsts = firsts_low q a rows stay fits (fits_back q e.before e.rows rows given) high closed 0 rs (length rows) own;
         settled = no_more q e.before e.rows rows high;
         fits = given;
@@ -130,23 +130,23 @@ module _ (q : Tree) (e : Earlier) (m : Mark) (rows : List Row) (ended : Bool) (m
           }
 
       -- what the task answers is right behind them
-      pub is_complete : m ≡ mark_of old → (low high : ℕ) (c : Complete) (rs : List Run) (k : ℕ) (closing : List Run) (next : ℕ) (out : List ℕ) → out ≡ [] → low ≤ high → high ≡ closed_count (frame q) (ending ended (mark_after m rows))
-          → low ≡ max (begun_count (frame q) e.before) (closed_count (frame q) m) → c.low ≡ low → next ≡ low → RunsFrom q m rows 0 rs → closing ≡ take k rs → AllByRecursion (λ (r : Run). r.first ≤ low) (take k rs)
-          → ((r : Run) → Some r ≡ slice_get rs k → low ≤ r.first) → WentOn q e.before (e.rows ++ rows) (length e.rows + length rows) next c.open.runs.entries high c.open.next out c.text.items → IsComplete q old rows ended closing c
-      is_complete same low high c rs k closing next out empty up most least low_is next_is runs copies firsts first w =
+      pub is_complete : m ≡ mark_of old → (low high : ℕ) (c : Complete) (rs : List Slice) (k : ℕ) (closing : List Slice) (next : ℕ) (out : List ℕ) → out ≡ [] → low ≤ high → high ≡ closed_count (frame q) (ending ended (mark_after m rows))
+          → low ≡ max (begun_count (frame q) e.before) (closed_count (frame q) m) → c.low ≡ low → next ≡ low → SlicesFrom q m rows 0 rs → closing ≡ take k rs → AllByRecursion (λ (r : Slice). r.first ≤ low) (take k rs)
+          → ((r : Slice) → Some r ≡ slice_get rs k → low ≤ r.first) → WentOn q e.before (e.rows ++ rows) (length e.rows + length rows) next c.open.slices.entries high c.open.next out c.text.items → IsComplete q old rows ended closing c
+      is_complete same low high c rs k closing next out empty up most least low_is next_is slices copies firsts first w =
           let all = e.rows ++ rows in
           let begun : begun_count (frame q) e.before ≤ low = omega (arith, least) in
-          let own : RunsFrom q (mark_of old) rows 0 rs = subst (λ z. RunsFrom q z rows 0 rs) same runs in
+          let own : SlicesFrom q (mark_of old) rows 0 rs = subst (λ z. SlicesFrom q z rows 0 rs) same slices in
           let done : c.open.next ≡ high = w.done_is in
           let whole : take (length e.rows + length rows) all ≡ all = let long = long_both e.rows rows in take_all (length e.rows + length rows) all (omega (arith, long)) in
-          let held : Holds q e.before all high c.open.runs.entries = subst (λ l. Holds q e.before l high c.open.runs.entries) whole w.holds in
+          let contents : Holds q e.before all high c.open.slices.entries = subst (λ l. Holds q e.before l high c.open.slices.entries) whole w.holds in
           record {
             x = begins_at 0 rs k;
-            closing_are = subst (λ l. RunsTo q (mark_of old) rows 0 l (begins_at 0 rs k)) (sym copies) (runs_front q (mark_of old) rows 0 rs (length rows) k own);
-            firsts = subst₂ (λ n l. AllByRecursion (λ (r : Run). r.first ≤ n) l) (sym low_is) (sym copies) firsts;
+            closing_are = subst (λ l. SlicesTo q (mark_of old) rows 0 l (begins_at 0 rs k)) (sym copies) (slices_front q (mark_of old) rows 0 rs (length rows) k own);
+            firsts = subst₂ (λ n l. AllByRecursion (λ (r : Slice). r.first ≤ n) l) (sym low_is) (sym copies) firsts;
             below = subst (Settled q (mark_of old) (take (begins_at 0 rs k) rows) rows) (sym low_is) (settled_at q (mark_of old) rows low 0 rs k own first);
             text_is = w.text ∙ (λ j. empty j ++ lines_between q e.before all (next_is j) high) ∙ own_text low high begun ∙ sym (λ j. lines_between q no_rows (old ++ rows) (low_is j) (done j));
-            open_is = subst (λ n. Holds q no_rows (old ++ rows) n c.open.runs.entries) (sym done) (own_open high c.open.runs.entries (omega (arith, begun, up)) held);
+            open_is = subst (λ n. Holds q no_rows (old ++ rows) n c.open.slices.entries) (sym done) (own_open high c.open.slices.entries (omega (arith, begun, up)) contents);
             closed_is = subst₂ (λ z n. closed_count (frame q) z ≤ n) same (sym low_is) (omega (arith, least));
             high_is = done ∙ most ∙ ap (λ z. closed_count (frame q) (ending ended (mark_after z rows))) same;
             order = subst₂ (λ a b. a ≤ b) (sym low_is) (sym done) up;

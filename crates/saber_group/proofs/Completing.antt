@@ -15,11 +15,11 @@ use Rattle.saber_plan.specs.Trees.{Tree}
 use Rattle.saber_plan.specs.Windows.{one, Fits, step_mark, mark_after, begun_count, closed_count, count_to}
 use Rattle.saber_plan.specs.Answers.{frame}
 use Rattle.saber_plan.specs.Needs.{first_window, past_window}
-use Rattle.saber_plan.specs.Given.{IsRowOf, RowsFit}
-use Rattle.saber_plan.specs.RowFacts.{mark-append, mark_more, fits_drop, row_at, is_left}
+use Rattle.saber_plan.specs.GivenRows.{IsRowOf, RowsFit}
+use Rattle.saber_plan.specs.Facts.Rows.{mark-append, mark_more, fits_drop, row_at, is_left}
 use Rattle.saber_laws.specs.Windows.{BegunStay, ClosedStay}
 use Rattle.saber_laws.specs.Plans.{OneWindow}
-use Rattle.saber_group.specs.RunParts.{begun_by, closed_by}
+use Rattle.saber_group.specs.SliceParts.{begun_by, closed_by}
 
 -- ---- the windows of one row
 

@@ -13,14 +13,14 @@ use Rattle.saber_plan.specs.Windows.{Frame, one, Fits, Ordered, no_rows, mark_of
 use Rattle.saber_plan.specs.Answers.{by_shape, frame, passing}
 use Rattle.saber_plan.specs.Parts.{Part, part, group_part, pair_part, no_part, merge, row_part}
 use Rattle.saber_plan.specs.Needs.{first_window}
-use Rattle.saber_plan.specs.Given.{RowsFit}
-use Rattle.saber_plan.specs.RowFacts.{length-placed, placed-append, placed_more, fits_drop}
+use Rattle.saber_plan.specs.GivenRows.{RowsFit}
+use Rattle.saber_plan.specs.Facts.Rows.{length-placed, placed-append, placed_more, fits_drop}
 use Rattle.saber_laws.specs.Parts.{NoRowsNoPart, RowsAddToGroups, PartsLieWithin}
 use Rattle.saber_laws.specs.Windows.{BegunAreCounted}
 use Rattle.saber_laws.specs.Plans.{OneWindow}
 use Rattle.saber_window.specs.Laws.{PastHaveNone}
 use Rattle.saber_partial.specs.PartLaws.{OfRows}
-use Rattle.saber_group.specs.RunParts.{part_of}
+use Rattle.saber_group.specs.SliceParts.{part_of}
 
 -- ---- rows cut at a row
 

@@ -5,9 +5,9 @@ pub mod Gathered
 pub mod Completed
 pub mod RowsTogether
 pub mod Running
-pub mod RunsTaken
+pub mod SlicesTaken
 pub mod PiecesTaken
-pub mod RunKeeping
+pub mod SliceKeeping
 pub mod Walked
 pub mod WalkKeeping
 pub mod Making

@@ -3,30 +3,30 @@ use Rattle.std.proofs.Common.{◌≡◌, ℕ, ◌++◌, take, slice_range, Resul
 use Rattle.saber_plan.specs.Inputs.{Input}
 use Rattle.saber_plan.specs.Trees.{Tree}
 use Rattle.saber_plan.specs.Windows.{no_rows, mark_of, mark_after, ending}
-use Rattle.saber_plan.specs.Given.{RowsFit}
-use Rattle.saber_plan.specs.RowFacts.{fits_take}
+use Rattle.saber_plan.specs.GivenRows.{RowsFit}
+use Rattle.saber_plan.specs.Facts.Rows.{fits_take}
 use Rattle.saber_fragment.specs.Drafts.{Sight, IsSightOf}
 use Rattle.saber_laws.specs.Marks.{MarksFollow}
-use Rattle.saber_group.specs.declared.run_pieces.RunPiece.{RunPiece}
-use Rattle.saber_group.specs.declared.change_pieces.TaskRuns.{TaskRuns}
-use Rattle.saber_group.specs.RunPieces.{Given, RunsFrom, IsMade, IsOf}
+use Rattle.saber_group.specs.declared.slice_pieces.SlicePiece.{SlicePiece}
+use Rattle.saber_group.specs.declared.change_pieces.TaskSlices.{TaskSlices}
+use Rattle.saber_group.specs.SlicePieces.{Given, SlicesFrom, IsMade, IsOf}
 use Rattle.saber_group.specs.ChangeStores.{piece_of}
-use Rattle.saber_group.proofs.RunKeeping.{rows_upto}
+use Rattle.saber_group.proofs.SliceKeeping.{rows_upto}
 
-pub piece_is_of : MarksFollow → (q : Tree) (s : Sight) (r : Input) (x y : ℕ) (p : RunPiece) → IsMade q s p → IsSightOf q s r x y → IsOf q r x y p
+pub piece_is_of : MarksFollow → (q : Tree) (s : Sight) (r : Input) (x y : ℕ) (p : SlicePiece) → IsMade q s p → IsSightOf q s r x y → IsOf q r x y p
 piece_is_of follow q s r x y p made sight =
     let old = take x r.rows in
     let fits : RowsFit q no_rows (old ++ s.rows) = subst (λ l. RowsFit q no_rows (old ++ l)) (sym sight.rows_are) (subst (RowsFit q no_rows) (sym (rows_upto r.rows x y sight.rises)) (fits_take q no_rows r.rows y sight.fits)) in
     let before : s.before ≡ mark_of old = sight.before_is ∙ ap (λ b. ending b (mark_of old)) sight.opens in
     record {
       opens = sight.opens;
-      given = subst (λ b. Given q old (slice_range r.rows x y) b p.runs.items p.complete) sight.ended_is
-          (subst (λ l. Given q old l s.ended p.runs.items p.complete) sight.rows_are (made.gives old fits sight.earlier_are before));
+      given = subst (λ b. Given q old (slice_range r.rows x y) b p.slices.items p.complete) sight.ended_is
+          (subst (λ l. Given q old l s.ended p.slices.items p.complete) sight.rows_are (made.gives old fits sight.earlier_are before));
       after_is = made.after_is ∙ (λ j. ending (sight.ended_is j) (mark_after (sight.before_is j) (sight.rows_are j))) ∙ sym (follow r x y sight.rises);
     }
 
--- and so are all its runs, where it answers no window itself
-pub runs_are_made : {E : Type 0} (q : Tree) (s : Sight) (r : Result TaskRuns E) → IfOk r (λ p. RunsFrom q s.before s.rows 0 p.runs.items) → IfOk r (λ p. p.after ≡ ending s.ended (mark_after s.before s.rows))
+-- and so are all its slices, where it answers no window itself
+pub slices_are_made : {E : Type 0} (q : Tree) (s : Sight) (r : Result TaskSlices E) → IfOk r (λ p. SlicesFrom q s.before s.rows 0 p.slices.items) → IfOk r (λ p. p.after ≡ ending s.ended (mark_after s.before s.rows))
     → IfOk r (λ p. IsMade q s (piece_of p))
-runs_are_made q s (Ok p) runs after = record { gives = λ old fits end same. subst (λ m. RunsFrom q m s.rows 0 p.runs.items) same runs; after_is = after }
-runs_are_made q s (Err e) runs after = tt
+slices_are_made q s (Ok p) slices after = record { gives = λ old fits end same. subst (λ m. SlicesFrom q m s.rows 0 p.slices.items) same slices; after_is = after }
+slices_are_made q s (Err e) slices after = tt

@@ -1,4 +1,4 @@
--- The runs of open windows.
+-- The slices of open windows.
 use Rattle.std.proofs.Common.{◌≡◌, ℕ, ◌+◌, ◌-◌, ◌^◌, ◌≤◌, List, [], length, take, inl, inr, refl, sym, ◌∙◌, ap, subst, le_trans, ⊎_elim, arith}
 use Rattle.std.specs.List.{AllByRecursion}
 use Rattle.std.proofs.lemmas.Bool.{cases_lt}
@@ -12,12 +12,12 @@ use Rattle.saber_partial.specs.Tallies.{CanMerge}
 use Rattle.saber_partial.specs.PartLaws.{OfRows, SmallPartsMerge}
 use Rattle.saber_sliding.specs.Entries.{Entries, whole, pushed, dropped, part_at, CanFollow}
 use Rattle.saber_sliding.specs.EntryFacts.{all_map, all_dropped, all_pushed, part_at-dropped, whole-dropped, part_at-pushed, part_at-behind}
-use Rattle.saber_group.specs.RunParts.{part_of, begun_by, Entered, EnteredFrom, IsRun, Holds}
+use Rattle.saber_group.specs.SliceParts.{part_of, begun_by, Entered, EnteredFrom, IsSlice, Holds}
 use Rattle.saber_group.proofs.Lasting.{part_nil, few_more}
 
 -- ---- windows that are done
 
--- the runs of no window from there on are gone
+-- the slices of no window from there on are gone
 pub holds_drop : (q : Tree) (m : Mark) (rows : List Row) (n : ℕ) (es : Entries) → Holds q m rows n es → Holds q m rows n (dropped n es)
 holds_drop q m rows n es h = record {
   at = λ i l. h.at i l ∙ sym (part_at-dropped n i es l);
@@ -36,34 +36,34 @@ whole_is q m rows n es h = whole-dropped n es ∙ sym (h.at n (omega arith))
 pub holds_nil : NoRowsNoPart → (q : Tree) (m : Mark) (n : ℕ) (es : Entries) → es ≡ [] → Holds q m [] n es
 holds_nil none q m n es e = subst (Holds q m [] n) (sym e) (record { at = λ i l. sym (part_nil none q i m); begun = tt; few = tt })
 
-module _ (q : Tree) (m : Mark) (rows : List Row) (x y first past : ℕ) (p : Part) (run : IsRun q m rows x y first past p) (next : ℕ) (es : Entries) (held : Holds q m (take x rows) next es) where
+module _ (q : Tree) (m : Mark) (rows : List Row) (x y first past : ℕ) (p : Part) (slice : IsSlice q m rows x y first past p) (next : ℕ) (es : Entries) (contents : Holds q m (take x rows) next es) where
   abbrev IsBegun : ℕ → ℕ × Part → Type 0
   IsBegun k e = e.0 ≤ begun_by q m (take k rows)
 
   abbrev IsFew : ℕ → ℕ × Part → Type 0
   IsFew k e = OfRows q (length (take k rows)) e.1
 
-  -- the run can go behind each of them
+  -- the slice can go behind each of them
   pub has_room : SmallPartsMerge → x ≤ y → y ≤ length rows → length rows ≤ 2 ^ 40 → CanFollow p es
   has_room small up within few =
       let long = length-take-le x rows (omega (arith, up, within)) in
-      all_map (IsFew x) (λ e. CanMerge e.1 p) es (λ e h. (small q (length (take x rows)) (y - x) e.1 p h run.few (omega (arith, up, within, few, long))).0) held.few
+      all_map (IsFew x) (λ e. CanMerge e.1 p) es (λ e h. (small q (length (take x rows)) (y - x) e.1 p h slice.few (omega (arith, up, within, few, long))).0) contents.few
 
   ends_low : AllByRecursion (λ (e : ℕ × Part). e.0 ≤ past) es
-  ends_low = all_map (IsBegun x) (λ e. e.0 ≤ past) es (λ e h. le_trans h run.begins) held.begun
+  ends_low = all_map (IsBegun x) (λ e. e.0 ≤ past) es (λ e h. le_trans h slice.begins) contents.begun
 
   none_behind : (i : ℕ) → past ≤ i → AllByRecursion (λ (e : ℕ × Part). e.0 ≤ i) es
   none_behind i l = all_map (λ e. e.0 ≤ past) (λ e. e.0 ≤ i) es (λ e h. le_trans h l) ends_low
 
   begun_more : (e : ℕ × Part) → IsBegun x e → IsBegun y e
-  begun_more e h = le_trans h (le_trans run.begins run.ends)
+  begun_more e h = le_trans h (le_trans slice.begins slice.ends)
 
   few_both : SmallPartsMerge → x ≤ y → y ≤ length rows → length rows ≤ 2 ^ 40 → (e : ℕ × Part) → IsFew x e → IsFew y (e.0, merge e.1 p)
   few_both small up within few e h =
       let long = length-take-le x rows (omega (arith, up, within)) in
       let longer = length-take-le y rows (omega (arith, within)) in
       let sum : length (take x rows) + (y - x) ≡ length (take y rows) = omega (arith, up, within, long, longer) in
-      subst (λ n. OfRows q n (merge e.1 p)) sum (small q (length (take x rows)) (y - x) e.1 p h run.few (omega (arith, up, within, few, long))).1
+      subst (λ n. OfRows q n (merge e.1 p)) sum (small q (length (take x rows)) (y - x) e.1 p h slice.few (omega (arith, up, within, few, long))).1
 
   holds_same : MergeHasUnit → first ≤ next → x ≤ y → y ≤ length rows → p ≡ no_part → Holds q m (take y rows) next es
   holds_same unit low up within none =
@@ -71,11 +71,11 @@ module _ (q : Tree) (m : Mark) (rows : List Row) (x y first past : ℕ) (p : Par
       let longer = length-take-le y rows (omega (arith, within)) in
       record {
         at = λ i l. ⊎_elim
-            (λ h. run.inside i (le_trans low l) h ∙ (λ j. merge (held.at i l j) (none j)) ∙ (unit (part_at es i)).1)
-            (λ h. run.behind i (le_trans low l) h ∙ held.at i l)
+            (λ h. slice.inside i (le_trans low l) h ∙ (λ j. merge (contents.at i l j) (none j)) ∙ (unit (part_at es i)).1)
+            (λ h. slice.behind i (le_trans low l) h ∙ contents.at i l)
             (cases_lt i past);
-        begun = all_map (IsBegun x) (IsBegun y) es begun_more held.begun;
-        few = all_map (IsFew x) (IsFew y) es (λ e h. few_more q (length (take x rows)) (length (take y rows)) e.1 (omega (arith, up, long, longer)) h) held.few;
+        begun = all_map (IsBegun x) (IsBegun y) es begun_more contents.begun;
+        few = all_map (IsFew x) (IsFew y) es (λ e h. few_more q (length (take x rows)) (length (take y rows)) e.1 (omega (arith, up, long, longer)) h) contents.few;
       }
 
   -- it is of no window from there on
@@ -84,23 +84,23 @@ module _ (q : Tree) (m : Mark) (rows : List Row) (x y first past : ℕ) (p : Par
       let long = length-take-le x rows (omega (arith, up, within)) in
       let longer = length-take-le y rows (omega (arith, within)) in
       record {
-        at = λ i l. run.behind i (le_trans run.order (le_trans low l)) (le_trans low l) ∙ held.at i l;
-        begun = all_map (IsBegun x) (IsBegun y) es begun_more held.begun;
-        few = all_map (IsFew x) (IsFew y) es (λ e h. few_more q (length (take x rows)) (length (take y rows)) e.1 (omega (arith, up, long, longer)) h) held.few;
+        at = λ i l. slice.behind i (le_trans slice.order (le_trans low l)) (le_trans low l) ∙ contents.at i l;
+        begun = all_map (IsBegun x) (IsBegun y) es begun_more contents.begun;
+        few = all_map (IsFew x) (IsFew y) es (λ e h. few_more q (length (take x rows)) (length (take y rows)) e.1 (omega (arith, up, long, longer)) h) contents.few;
       }
 
   holds_pushed : MergeHasUnit → SmallPartsMerge → first ≤ next → x ≤ y → y ≤ length rows → length rows ≤ 2 ^ 40 → Holds q m (take y rows) next (pushed es past p)
   holds_pushed unit small low up within few =
       let long = length-take-le y rows (omega (arith, within)) in
-      let begun = all_pushed (IsBegun x) (IsBegun y) es past p begun_more run.ends held.begun in
+      let begun = all_pushed (IsBegun x) (IsBegun y) es past p begun_more slice.ends contents.begun in
       record {
         at = λ i l. ⊎_elim
-            (λ h. run.inside i (le_trans low l) h ∙ ap (λ a. merge a p) (held.at i l) ∙ sym (part_at-pushed unit es past p i h))
-            (λ h. run.behind i (le_trans low l) h ∙ held.at i l ∙ part_at-behind es i (none_behind i h)
+            (λ h. slice.inside i (le_trans low l) h ∙ ap (λ a. merge a p) (contents.at i l) ∙ sym (part_at-pushed unit es past p i h))
+            (λ h. slice.behind i (le_trans low l) h ∙ contents.at i l ∙ part_at-behind es i (none_behind i h)
             ∙ sym (part_at-behind (pushed es past p) i (all_pushed (λ e. e.0 ≤ past) (λ e. e.0 ≤ i) es past p (λ e g. le_trans g h) h ends_low)))
             (cases_lt i past);
         begun = begun;
-        few = all_pushed (IsFew x) (IsFew y) es past p (few_both small up within few) (few_more q (y - x) (length (take y rows)) p (omega (arith, up, long)) run.few) held.few;
+        few = all_pushed (IsFew x) (IsFew y) es past p (few_both small up within few) (few_more q (y - x) (length (take y rows)) p (omega (arith, up, long)) slice.few) contents.few;
       }
 
   pub holds_more : MergeHasUnit → SmallPartsMerge → (fs : Entries) (new : ℕ) → new ≡ next → first ≤ next → x ≤ y → y ≤ length rows → length rows ≤ 2 ^ 40 → Entered es past p fs → Holds q m (take y rows) new fs

@@ -5,46 +5,46 @@ use Rattle.saber_plan.specs.declared.rows.Row.{Row}
 use Rattle.saber_plan.specs.Trees.{Tree}
 use Rattle.saber_plan.specs.Windows.{Fits, no_rows, mark_of, closed_count}
 use Rattle.saber_plan.specs.Answers.{frame}
-use Rattle.saber_plan.specs.RowFacts.{mark-append, fits_back}
+use Rattle.saber_plan.specs.Facts.Rows.{mark-append, fits_back}
 use Rattle.saber_laws.specs.Groups.{GroupsJoin}
 use Rattle.saber_laws.specs.Parts.{MergeIsAssociative}
 use Rattle.saber_laws.specs.Windows.{ClosedStay}
 use Rattle.saber_sliding.specs.Entries.{Entries}
 use Rattle.saber_group.specs.declared.complete.Complete.{Complete}
-use Rattle.saber_group.specs.declared.runs.Run.{Run}
-use Rattle.saber_group.specs.RunParts.{lines_between, Holds}
-use Rattle.saber_group.specs.RunStores.{GoesOn, WentOn, Comes, Came}
+use Rattle.saber_group.specs.declared.slices.Slice.{Slice}
+use Rattle.saber_group.specs.SliceParts.{lines_between, Holds}
+use Rattle.saber_group.specs.SliceStores.{GoesOn, WentOn, Comes, Came}
 use Rattle.saber_group.proofs.Completed.{firsts_low}
-use Rattle.saber_group.proofs.RunsTaken.{text_join, long_both, lifted, settled_all, no_more, no_row}
+use Rattle.saber_group.proofs.SlicesTaken.{text_join, long_both, lifted, settled_all, no_more, no_row}
 
 pub came : (q : Tree) (old rows : List Row) (next : ℕ) (new : Entries) (closed done : ℕ) (before after : List ℕ) → WentOn q no_rows (old ++ rows) (length old + length rows) next new closed done before after → Came q old rows next new closed done before after
 came q old rows next new closed done before after = subst (λ z. WentOn q no_rows (old ++ rows) z next new closed done before after) (sym (long_both old rows))
 
--- all runs at once
-pub go_all : GroupsJoin → MergeIsAssociative → ClosedStay → (q : Tree) → Fits (frame q) → (old rows : List Row) (ended : Bool) (next : ℕ) (es : Entries) (runs : List Run) (closed : ℕ) → Comes q old rows ended next es runs None closed
-    → GoesOn q no_rows (old ++ rows) (length old) 0 (length rows) next es runs closed
-go_all join assoc stay q fits old rows ended next es runs closed g =
+-- all slices at once
+pub go_all : GroupsJoin → MergeIsAssociative → ClosedStay → (q : Tree) → Fits (frame q) → (old rows : List Row) (ended : Bool) (next : ℕ) (es : Entries) (slices : List Slice) (closed : ℕ) → Comes q old rows ended next es slices None closed
+    → GoesOn q no_rows (old ++ rows) (length old) 0 (length rows) next es slices closed
+go_all join assoc stay q fits old rows ended next es slices closed g =
     record {
       holds = subst (λ l. Holds q no_rows l next es) (sym (no_row q no_rows old rows)) g.holds;
       low = g.low;
-      runs_are = lifted q no_rows old rows join assoc 0 runs (length rows) g.given;
-      firsts = firsts_low q (mark_of old) rows stay fits (fits_back q no_rows old rows g.fits) closed (subst (λ n. n ≤ closed) (ap (closed_count (frame q)) (mark-append no_rows old rows)) g.reaches) 0 runs (length rows) g.given;
+      slices_are = lifted q no_rows old rows join assoc 0 slices (length rows) g.given;
+      firsts = firsts_low q (mark_of old) rows stay fits (fits_back q no_rows old rows g.fits) closed (subst (λ n. n ≤ closed) (ap (closed_count (frame q)) (mark-append no_rows old rows)) g.reaches) 0 slices (length rows) g.given;
       settled = no_more q no_rows old rows closed;
       fits = g.fits;
     }
 
 -- ---- a task that answers windows itself
 
-module _ (q : Tree) (old rows : List Row) (ended : Bool) (next : ℕ) (es : Entries) (runs : List Run) (c : Complete) (closed : ℕ) (g : Comes q old rows ended next es runs (Some c) closed) where
+module _ (q : Tree) (old rows : List Row) (ended : Bool) (next : ℕ) (es : Entries) (slices : List Slice) (c : Complete) (closed : ℕ) (g : Comes q old rows ended next es slices (Some c) closed) where
   low : next ≤ c.low
   low = le_trans g.passed g.given.closed_is
 
-  -- the windows below its own get their last runs
-  pub go_closing : GroupsJoin → MergeIsAssociative → GoesOn q no_rows (old ++ rows) (length old) 0 g.given.x next es runs c.low
+  -- the windows below its own get their last slices
+  pub go_closing : GroupsJoin → MergeIsAssociative → GoesOn q no_rows (old ++ rows) (length old) 0 g.given.x next es slices c.low
   go_closing join assoc = record {
     holds = subst (λ l. Holds q no_rows l next es) (sym (no_row q no_rows old rows)) g.holds;
     low = low;
-    runs_are = lifted q no_rows old rows join assoc 0 runs g.given.x g.given.closing_are;
+    slices_are = lifted q no_rows old rows join assoc 0 slices g.given.x g.given.closing_are;
     firsts = g.given.firsts;
     settled = settled_all q no_rows old rows join assoc g.given.x c.low g.given.below;
     fits = g.fits;
@@ -52,12 +52,12 @@ module _ (q : Tree) (old rows : List Row) (ended : Bool) (next : ℕ) (es : Entr
 
   -- and its own text and what it leaves open follow
   pub came_complete : (done : ℕ) (closing : Entries) (out closing_out after : List ℕ)
-      → WentOn q no_rows (old ++ rows) (length old + g.given.x) next closing c.low done out closing_out → after ≡ closing_out ++ c.text.items → Came q old rows next c.open.runs.entries closed c.open.next out after
+      → WentOn q no_rows (old ++ rows) (length old + g.given.x) next closing c.low done out closing_out → after ≡ closing_out ++ c.text.items → Came q old rows next c.open.slices.entries closed c.open.next out after
   came_complete done closing out closing_out after w own =
       let all = old ++ rows in
       let high : c.open.next ≡ closed = g.given.high_is ∙ sym g.closed_is in
       record {
-        holds = subst₂ (λ l n. Holds q no_rows l n c.open.runs.entries) (sym (take_all (length all) all (omega arith))) high g.given.open_is;
+        holds = subst₂ (λ l n. Holds q no_rows l n c.open.slices.entries) (sym (take_all (length all) all (omega arith))) high g.given.open_is;
         done_is = high;
         text = subst (λ n. after ≡ out ++ lines_between q no_rows all next n) high
             (text_join q no_rows all next c.low c.open.next low g.given.order out closing_out after w.text (own ∙ ap (λ l. closing_out ++ l) g.given.text_is));

@@ -7,9 +7,9 @@ use Rattle.saber_plan.specs.Trees.{Tree}
 use Rattle.saber_plan.specs.Windows.{Ordered, mark_after}
 use Rattle.saber_plan.specs.Answers.{frame}
 use Rattle.saber_plan.specs.Needs.{first_window, past_window}
-use Rattle.saber_plan.specs.Given.{IsRowOf, RowsFit}
-use Rattle.saber_plan.specs.ListFacts.{all_weaker}
-use Rattle.saber_plan.specs.RowFacts.{mark-append, fits_drop, is_left}
+use Rattle.saber_plan.specs.GivenRows.{IsRowOf, RowsFit}
+use Rattle.saber_plan.specs.Facts.Lists.{all_weaker}
+use Rattle.saber_plan.specs.Facts.Rows.{mark-append, fits_drop, is_left}
 use Rattle.saber_laws.specs.Plans.{OneWindow}
 use Rattle.saber_window.specs.Laws.{StampsFit}
 use Rattle.saber_window.specs.Together.{IsLeft, LieTogether}

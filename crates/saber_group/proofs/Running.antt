@@ -15,19 +15,19 @@ use Rattle.saber_plan.specs.Windows.{one, Fits, Placed, own, time, by_side, coun
 use Rattle.saber_plan.specs.Answers.{frame}
 use Rattle.saber_plan.specs.Parts.{Part, group_part, no_part, merge}
 use Rattle.saber_plan.specs.Needs.{first_window, past_window}
-use Rattle.saber_plan.specs.Given.{RowsFit}
-use Rattle.saber_plan.specs.RowFacts.{fits_front, fits_take, fits_drop}
+use Rattle.saber_plan.specs.GivenRows.{RowsFit}
+use Rattle.saber_plan.specs.Facts.Rows.{fits_front, fits_take, fits_drop}
 use Rattle.saber_laws.specs.Parts.{RowsAddToGroups, MergeIsAssociative, MergeHasUnit}
 use Rattle.saber_laws.specs.Needs.{RowsSpan}
 use Rattle.saber_laws.specs.Windows.{BegunStay, ClosedStay}
 use Rattle.saber_laws.specs.Plans.{OneWindow}
 use Rattle.saber_window.specs.Laws.{PastHaveNone}
 use Rattle.saber_partial.specs.PartLaws.{OfRows, GroupsAreOfRows, SmallPartsMerge}
-use Rattle.saber_group.specs.RunParts.{part_of, begun_by, closed_by, IsRun}
+use Rattle.saber_group.specs.SliceParts.{part_of, begun_by, closed_by, IsSlice}
 use Rattle.saber_group.proofs.Lasting.{row_joins, ends_here, few_more}
 use Rattle.saber_group.proofs.Completing.{count_low, past_begun, past_high, first_low}
 
--- ---- what the first row of a run tells
+-- ---- what the first row of a slice tells
 
 pub record Starts (q : Tree) (m : Mark) (rows : List Row) (k first past : ℕ) : Type 0 where
   pub below : (i : ℕ) → i < first → part_of q i m (take k rows) ≡ part_of q i m rows
@@ -72,15 +72,15 @@ starts_at none stay lasts q w fits m rows k x a first past given here is mark f 
 abbrev pub with_row : Tree → Bool → Row → Part → Part
 with_row q wanted x p = cond (wanted && passes q.predicate x.values []) (merge p (group_part q (x.values ∷ []))) p
 
--- what the rows of a run up to row e come to
-pub record RunTo (q : Tree) (m : Mark) (rows : List Row) (k e first past : ℕ) (p : Part) : Type 0 where
+-- what the rows of a slice up to row e come to
+pub record SliceTo (q : Tree) (m : Mark) (rows : List Row) (k e first past : ℕ) (p : Part) : Type 0 where
   pub inside : (i : ℕ) → first ≤ i → i < past → part_of q i m (take e rows) ≡ merge (part_of q i m (take k rows)) p
   pub behind : (i : ℕ) → first ≤ i → past ≤ i → part_of q i m (take e rows) ≡ part_of q i m (take k rows)
   pub before : (i : ℕ) → i < first → part_of q i m (take e rows) ≡ part_of q i m (take k rows)
   pub few : OfRows q (e - k) p
 
-pub run_nil : MergeHasUnit → GroupsAreOfRows → (q : Tree) (m : Mark) (rows : List Row) (k first past : ℕ) (p : Part) → group_part q [] ≡ no_part → p ≡ no_part → RunTo q m rows k k first past p
-run_nil unit of_rows q m rows k first past p none e =
+pub slice_nil : MergeHasUnit → GroupsAreOfRows → (q : Tree) (m : Mark) (rows : List Row) (k first past : ℕ) (p : Part) → group_part q [] ≡ no_part → p ≡ no_part → SliceTo q m rows k k first past p
+slice_nil unit of_rows q m rows k first past p none e =
     let nil : k - k ≡ 0 = omega arith in
     record {
       inside = λ i l h. sym (ap (merge (part_of q i m (take k rows))) e ∙ (unit (part_of q i m (take k rows))).1);
@@ -97,11 +97,11 @@ few_case : SmallPartsMerge → GroupsAreOfRows → (q : Tree) (x : Row) (n : ℕ
 few_case small of_rows q x n p true h few = (small q n 1 p (group_part q (x.values ∷ [])) few (of_rows q (x.values ∷ [])) h).1
 few_case small of_rows q x n p false h few = few_more q n (n + 1) p (omega arith) few
 
-pub run_more : RowsAddToGroups → RowsSpan → MergeIsAssociative → SmallPartsMerge → GroupsAreOfRows → (q : Tree) → Fits (frame q) → (m : Mark) (rows : List Row) (k e first past : ℕ) (p : Part) (x : Row) (a : Mark)
+pub slice_more : RowsAddToGroups → RowsSpan → MergeIsAssociative → SmallPartsMerge → GroupsAreOfRows → (q : Tree) → Fits (frame q) → (m : Mark) (rows : List Row) (k e first past : ℕ) (p : Part) (x : Row) (a : Mark)
     → k ≤ e → e < length rows → length rows ≤ 2 ^ 40 → x ≡ get_or rows e x → a ≡ mark_after m (take e rows)
     → first ≡ first_window (frame q) (record { row = x; before = a }) → past ≡ past_window (frame q) (record { row = x; before = a })
-    → RunTo q m rows k e first past p → RunTo q m rows k (e + 1) first past (with_row q (nat_lt first past) x p)
-run_more add span assoc small of_rows q fits m rows k e first past p x a low here few is mark f l run =
+    → SliceTo q m rows k e first past p → SliceTo q m rows k (e + 1) first past (with_row q (nat_lt first past) x p)
+slice_more add span assoc small of_rows q fits m rows k e first past p x a low here few is mark f l slice =
     let at : Placed = record { row = x; before = a } in
     let lies = λ (i : ℕ). span (frame q) fits i at ∙ (λ j. nat_le (sym f j) i && nat_lt i (sym l j)) in
     let step = λ (i : ℕ). row_joins add q i m rows e x a here is mark in
@@ -113,27 +113,27 @@ run_more add span assoc small of_rows q fits m rows k e first past p x a low her
           let b = passes q.predicate x.values [] in
           let g = group_part q (x.values ∷ []) in
           merge_case assoc (part_of q i m (take k rows)) p g b (part_of q i m (take (e + 1) rows))
-          (step i ∙ (λ j. cond (has_row j && b) (merge (run.inside i h r j) g) (run.inside i h r j)))
+          (step i ∙ (λ j. cond (has_row j && b) (merge (slice.inside i h r j) g) (slice.inside i h r j)))
           ∙ ap (λ w. merge (part_of q i m (take k rows)) (cond (w && b) (merge p g) p)) (sym wanted);
       behind = λ i h r.
           let has_none : has (frame q) i at ≡ false = lies i ∙ (λ j. le-leb first i h j && le-ltb i past r j) in
-          step i ∙ ap (λ w. cond (w && passes q.predicate x.values []) (merge (part_of q i m (take e rows)) (group_part q (x.values ∷ []))) (part_of q i m (take e rows))) has_none ∙ run.behind i h r;
+          step i ∙ ap (λ w. cond (w && passes q.predicate x.values []) (merge (part_of q i m (take e rows)) (group_part q (x.values ∷ []))) (part_of q i m (take e rows))) has_none ∙ slice.behind i h r;
       before = λ i h.
           let past_it : nat_le first i ≡ false = grind (arith, nat_tests) in
           let has_none : has (frame q) i at ≡ false = lies i ∙ ap (λ t. t && nat_lt i past) past_it in
-          step i ∙ ap (λ w. cond (w && passes q.predicate x.values []) (merge (part_of q i m (take e rows)) (group_part q (x.values ∷ []))) (part_of q i m (take e rows))) has_none ∙ run.before i h;
-      few = subst (λ n. OfRows q n (with_row q (nat_lt first past) x p)) next (few_case small of_rows q x (e - k) p (nat_lt first past && passes q.predicate x.values []) (omega (arith, low, here, few)) run.few);
+          step i ∙ ap (λ w. cond (w && passes q.predicate x.values []) (merge (part_of q i m (take e rows)) (group_part q (x.values ∷ []))) (part_of q i m (take e rows))) has_none ∙ slice.before i h;
+      few = subst (λ n. OfRows q n (with_row q (nat_lt first past) x p)) next (few_case small of_rows q x (e - k) p (nat_lt first past && passes q.predicate x.values []) (omega (arith, low, here, few)) slice.few);
     }
 
--- ---- the whole run
+-- ---- the whole slice
 
-pub run_is : (q : Tree) (m : Mark) (rows : List Row) (k e first past : ℕ) (p : Part) → Starts q m rows k first past → k < e → e ≤ length rows → RunTo q m rows k e first past p → IsRun q m rows k e first past p
-run_is q m rows k e first past p starts more within run = record {
-  inside = run.inside;
-  behind = run.behind;
-  before = run.before;
+pub slice_is : (q : Tree) (m : Mark) (rows : List Row) (k e first past : ℕ) (p : Part) → Starts q m rows k first past → k < e → e ≤ length rows → SliceTo q m rows k e first past p → IsSlice q m rows k e first past p
+slice_is q m rows k e first past p starts more within slice = record {
+  inside = slice.inside;
+  behind = slice.behind;
+  before = slice.before;
   below = starts.below;
-  few = run.few;
+  few = slice.few;
   order = starts.order;
   begins = starts.begins;
   closes = starts.closes e more within;

@@ -1,4 +1,4 @@
--- A store of runs and a walk, and what is kept and printed that it stands for.
+-- A store of slices and a walk, and what is kept and printed that it stands for.
 use Rattle.std.proofs.Common.{◌≡◌, ℕ, List, [], ◌++◌, None, length, take, sym, ◌∙◌, ap, subst, arith}
 use Rattle.std.specs.FinMap.{empty}
 use Rattle.std.proofs.lemmas.List.{take_all}
@@ -15,13 +15,13 @@ use Rattle.saber_fragment.specs.Stores.{Follows}
 use Rattle.saber_changes.specs.declared.cancel.Change.{Change}
 use Rattle.saber_changes.specs.Counts.{change_of}
 use Rattle.saber_changes.specs.Walks.{Stands, changes_from}
-use Rattle.saber_group.specs.declared.change_pieces.TaskRuns.{TaskRuns}
+use Rattle.saber_group.specs.declared.change_pieces.TaskSlices.{TaskSlices}
 use Rattle.saber_group.specs.declared.change_stores.WalkStore.{WalkStore}
-use Rattle.saber_group.specs.RunPieces.{IsOf}
-use Rattle.saber_group.specs.RunStores.{TakenIn, CanCome}
+use Rattle.saber_group.specs.SlicePieces.{IsOf}
+use Rattle.saber_group.specs.SliceStores.{TakenIn, CanCome}
 use Rattle.saber_group.specs.ChangeStores.{answers_over, kept_in, piece_of, HasWalked, HasWalkedBy, WalkedOn}
 use Rattle.saber_group.proofs.Lasting.{part_whole}
-use Rattle.saber_group.proofs.RunKeeping.{MarkLaws, held_is, old_rows, new_rows, all_rows, closed_end, comes, taken_after}
+use Rattle.saber_group.proofs.SliceKeeping.{MarkLaws, held_is, old_rows, new_rows, all_rows, closed_end, comes, taken_after}
 
 -- ---- what is added and kept, where windows print what they gain or lose
 
@@ -35,7 +35,7 @@ module _ (q : Tree) (change : Change) (e : way q ≡ by_change (change_of change
   changed_kept r = ap (λ w. by_way w (by_windows (unclosed q r)) (record { parts = empty; lists = unclosed_by_list q r; answers = [] })
       (λ c. record { parts = unclosed q r; lists = empty; answers = last_answers q r })) e
 
--- the answers of windows are those of the parts that runs make
+-- the answers of windows are those of the parts that slices make
 answers_are : AnswersAreOfParts → (q : Tree) → q.shape ≡ Group → (xs : List Row) → answers_over q no_rows xs ≡ (λ i. window_answers q i xs)
 answers_are law q shape xs = λ j i. one i j where
   one : (i : ℕ) → answers_over q no_rows xs i ≡ window_answers q i xs
@@ -44,20 +44,20 @@ answers_are law q shape xs = λ j i. one i j where
 -- ---- one piece more
 
 -- the piece follows what the store has taken in
-abbrev pub Goes : Tree → WalkStore → TaskRuns → Input → ℕ → ℕ → Type 0
+abbrev pub Goes : Tree → WalkStore → TaskSlices → Input → ℕ → ℕ → Type 0
 Goes q s p = Follows q (kept_in s) (λ u. HasWalked q u s) (λ r x y. IsOf q r x y (piece_of p))
 
-pub walk_there : (q : Tree) (r : Input) (x y : ℕ) (s : WalkStore) (p : TaskRuns) → Goes q s p r x y → s.walk.next ≡ s.runs.windows.next
+pub walk_there : (q : Tree) (r : Input) (x y : ℕ) (s : WalkStore) (p : TaskSlices) → Goes q s p r x y → s.walk.next ≡ s.slices.windows.next
 walk_there q r x y s p f = f.taken_is.next_is ∙ sym f.taken_is.taken.next_is
 
--- its runs follow as they would without a walk
-runs_follow : (q : Tree) (r : Input) (x y : ℕ) (s : WalkStore) (p : TaskRuns) → Goes q s p r x y → Follows q (kept_in s) (λ u. TakenIn q u s.runs) (λ r x y. IsOf q r x y (piece_of p)) r x y
-runs_follow q r x y s p f = record { windows = f.windows; fits = f.fits; rises = f.rises; kept_is = f.kept_is; taken_is = f.taken_is.taken; of_is = f.of_is }
+-- its slices follow as they would without a walk
+slices_follow : (q : Tree) (r : Input) (x y : ℕ) (s : WalkStore) (p : TaskSlices) → Goes q s p r x y → Follows q (kept_in s) (λ u. TakenIn q u s.slices) (λ r x y. IsOf q r x y (piece_of p)) r x y
+slices_follow q r x y s p f = record { windows = f.windows; fits = f.fits; rises = f.rises; kept_is = f.kept_is; taken_is = f.taken_is.taken; of_is = f.of_is }
 
-pub can_walk : MarkLaws → (q t : Tree) → q ≡ t → (r : Input) (x y : ℕ) (s : WalkStore) (p : TaskRuns) (closed : ℕ) → closed ≡ closed_count (frame q) p.after → Goes t s p r x y → CanCome q s.runs.windows p.runs.items None closed
+pub can_walk : MarkLaws → (q t : Tree) → q ≡ t → (r : Input) (x y : ℕ) (s : WalkStore) (p : TaskSlices) (closed : ℕ) → closed ≡ closed_count (frame q) p.after → Goes t s p r x y → CanCome q s.slices.windows p.slices.items None closed
 can_walk laws q t same r x y s p closed closed_is g =
-    let f = runs_follow q r x y s p (subst (λ (u : Tree). Goes u s p r x y) (sym same) g) in
-    (old_rows q r x y s.runs (piece_of p) (kept_in s) f, new_rows q r x y s.runs (piece_of p) (kept_in s) f, (arrived r y).ended, comes q r x y s.runs (piece_of p) (kept_in s) f laws closed closed_is)
+    let f = slices_follow q r x y s p (subst (λ (u : Tree). Goes u s p r x y) (sym same) g) in
+    (old_rows q r x y s.slices (piece_of p) (kept_in s) f, new_rows q r x y s.slices (piece_of p) (kept_in s) f, (arrived r y).ended, comes q r x y s.slices (piece_of p) (kept_in s) f laws closed closed_is)
 
 -- what comes of it
 pub record Took (q : Tree) (r : Input) (x y : ℕ) (new : WalkStore) (text : List ℕ) : Type 0 where
@@ -70,25 +70,25 @@ pub record WalkLaws : Type 0 where
   pub answers : AnswersAreOfParts
   pub stay : LastAnswersStay
 
-module _ (laws : WalkLaws) (q : Tree) (shape : q.shape ≡ Group) (change : Change) (e : way q ≡ by_change (change_of change)) (s : WalkStore) (p : TaskRuns)
-    (closed : ℕ) (closed_is : closed ≡ closed_count (frame q) p.after) (new : WalkStore) (begun : new.runs.begun ≡ begun_count (frame q) p.after) (before after : List ℕ) (none : before ≡ [])
-    (went : HasWalkedBy change q s.runs.windows s.walk p.runs.items closed new.runs.windows new.walk before after) where
+module _ (laws : WalkLaws) (q : Tree) (shape : q.shape ≡ Group) (change : Change) (e : way q ≡ by_change (change_of change)) (s : WalkStore) (p : TaskSlices)
+    (closed : ℕ) (closed_is : closed ≡ closed_count (frame q) p.after) (new : WalkStore) (begun : new.slices.begun ≡ begun_count (frame q) p.after) (before after : List ℕ) (none : before ≡ [])
+    (went : HasWalkedBy change q s.slices.windows s.walk p.slices.items closed new.slices.windows new.walk before after) where
   module _ (r : Input) (x y : ℕ) (f : Goes q s p r x y) where
-    follows : Follows q (kept_in s) (λ u. TakenIn q u s.runs) (λ r x y. IsOf q r x y (piece_of p)) r x y
-    follows = runs_follow q r x y s p f
+    follows : Follows q (kept_in s) (λ u. TakenIn q u s.slices) (λ r x y. IsOf q r x y (piece_of p)) r x y
+    follows = slices_follow q r x y s p f
 
     abbrev old : List Row
-    old = old_rows q r x y s.runs (piece_of p) (kept_in s) follows
+    old = old_rows q r x y s.slices (piece_of p) (kept_in s) follows
 
     abbrev rows : List Row
-    rows = new_rows q r x y s.runs (piece_of p) (kept_in s) follows
+    rows = new_rows q r x y s.slices (piece_of p) (kept_in s) follows
 
     -- the answers of windows over all rows so far
     at_is : answers_over q no_rows (old ++ rows) ≡ (λ i. window_answers q i (take y r.rows))
-    at_is = ap (answers_over q no_rows) (all_rows q r x y s.runs (piece_of p) (kept_in s) follows) ∙ answers_are laws.answers q shape (take y r.rows)
+    at_is = ap (answers_over q no_rows) (all_rows q r x y s.slices (piece_of p) (kept_in s) follows) ∙ answers_are laws.answers q shape (take y r.rows)
 
     end_is : closed ≡ closed_at q r y
-    end_is = closed_end q r x y s.runs (piece_of p) (kept_in s) follows laws.marks closed closed_is
+    end_is = closed_end q r x y s.slices (piece_of p) (kept_in s) follows laws.marks closed closed_is
 
     -- what is kept of the window before stands before the next one over these
     stands : Stands (answers_over q no_rows (old ++ rows)) s.walk
@@ -96,11 +96,11 @@ module _ (laws : WalkLaws) (q : Tree) (shape : q.shape ≡ Group) (change : Chan
         ap (λ (k : Kept). k.answers) (f.kept_is ∙ changed_kept q change e (arrived r x)) ∙ sym (laws.stay q f.windows r x y f.fits.ordered f.rises)
         ∙ (λ j. before_window (sym at_is j) (sym f.taken_is.next_is j))
 
-    walked : WalkedOn change q no_rows (old ++ rows) (length (old ++ rows)) new.runs.windows.runs.entries closed new.runs.windows.next s.walk new.walk before after
-    walked = went old rows (arrived r y).ended (comes q r x y s.runs (piece_of p) (kept_in s) follows laws.marks closed closed_is) stands
+    walked : WalkedOn change q no_rows (old ++ rows) (length (old ++ rows)) new.slices.windows.slices.entries closed new.slices.windows.next s.walk new.walk before after
+    walked = went old rows (arrived r y).ended (comes q r x y s.slices (piece_of p) (kept_in s) follows laws.marks closed closed_is) stands
 
-    taken_is : TakenIn q (arrived r y) new.runs
-    taken_is = taken_after q r x y s.runs (piece_of p) (kept_in s) follows laws.marks closed closed_is new.runs begun walked.done_is walked.holds
+    taken_is : TakenIn q (arrived r y) new.slices
+    taken_is = taken_after q r x y s.slices (piece_of p) (kept_in s) follows laws.marks closed closed_is new.slices begun walked.done_is walked.holds
 
     last_is : new.walk.last ≡ last_answers q (arrived r y)
     unfolding last_answers
@@ -114,7 +114,7 @@ module _ (laws : WalkLaws) (q : Tree) (shape : q.shape ≡ Group) (change : Chan
     took_here : Took q r x y new after
     took_here = record {
       adds = text_is ∙ sym (changed_added q change e r x y);
-      stays = (λ j. record { parts = held_is q shape (arrived r y) new.runs taken_is j; lists = empty; answers = last_is j }) ∙ sym (changed_kept q change e (arrived r y));
+      stays = (λ j. record { parts = held_is q shape (arrived r y) new.slices taken_is j; lists = empty; answers = last_is j }) ∙ sym (changed_kept q change e (arrived r y));
       taken = record { taken = taken_is; next_is = walked.next_is ∙ end_is };
     }
 

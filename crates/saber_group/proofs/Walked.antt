@@ -1,17 +1,17 @@
--- A walk over the windows of a queue of runs, one after another.
+-- A walk over the windows of a queue of slices, one after another.
 use Rattle.std.proofs.Common.{◌≡◌, ℕ, ◌+◌, ◌≤◌, ◌<◌, List, [], ◌++◌, map, ℤ, sym, ◌∙◌, ap, append-nil, arith}
 use Rattle.saber_plan.specs.declared.rows.Row.{Row}
 use Rattle.saber_plan.specs.declared.windows.Mark.{Mark}
 use Rattle.saber_plan.specs.Trees.{Tree}
 use Rattle.saber_plan.specs.Answers.{Answers, key_cmp}
-use Rattle.saber_plan.specs.MapFacts.{entries-empty}
+use Rattle.saber_plan.specs.Facts.Maps.{entries-empty}
 use Rattle.saber_plan.specs.Parts.{Part, Numbers, no_part, answers_of, part_answers}
-use Rattle.saber_plan.specs.NumberFacts.{flat_nil}
+use Rattle.saber_plan.specs.Facts.Numbers.{flat_nil}
 use Rattle.saber_changes.specs.declared.cancel.Change.{Change}
 use Rattle.saber_changes.specs.declared.walk.Walk.{Walk}
 use Rattle.saber_changes.specs.Walks.{Stands, NoneFrom, Walks, change_at, changes_from}
 use Rattle.saber_changes.specs.WalkFacts.{walked_on}
-use Rattle.saber_group.specs.RunParts.{part_of}
+use Rattle.saber_group.specs.SliceParts.{part_of}
 use Rattle.saber_group.specs.ChangeStores.{answers_over}
 
 no_answers : (q : Tree) (p : Part) → p ≡ no_part → part_answers q p ≡ []

@@ -1,4 +1,4 @@
--- Runs that are kept from task to task of a query that prints what windows gain or lose, and the
+-- Slices that are kept from task to task of a query that prints what windows gain or lose, and the
 -- walk over closed windows.
 use Rattle.std.specs.Prelude.{◌≡◌, ℕ, ◌+◌, List, ◌++◌, Bool, None, length, take}
 use Rattle.std.specs.FinMap.{empty}
@@ -15,12 +15,12 @@ use Rattle.saber_changes.specs.declared.walk.Walk.{Walk}
 use Rattle.saber_changes.specs.Walks.{Stands, Walks}
 use Rattle.saber_sliding.specs.Entries.{Entries}
 use Rattle.saber_group.specs.declared.open.Open.{Open}
-use Rattle.saber_group.specs.declared.runs.Run.{Run}
-use Rattle.saber_group.specs.declared.run_pieces.RunPiece.{RunPiece}
-use Rattle.saber_group.specs.declared.change_pieces.TaskRuns.{TaskRuns}
+use Rattle.saber_group.specs.declared.slices.Slice.{Slice}
+use Rattle.saber_group.specs.declared.slice_pieces.SlicePiece.{SlicePiece}
+use Rattle.saber_group.specs.declared.change_pieces.TaskSlices.{TaskSlices}
 use Rattle.saber_group.specs.declared.change_stores.WalkStore.{WalkStore}
-use Rattle.saber_group.specs.RunParts.{part_of, Holds, Settled}
-use Rattle.saber_group.specs.RunStores.{held_in, TakenIn, GoesOn, Comes}
+use Rattle.saber_group.specs.SliceParts.{part_of, Holds, Settled}
+use Rattle.saber_group.specs.SliceStores.{held_in, TakenIn, GoesOn, Comes}
 
 -- the answers of each window over some rows
 abbrev pub answers_over : Tree → Mark → List Row → ℕ → Answers
@@ -29,12 +29,12 @@ answers_over q m rows i = part_answers q (part_of q i m rows)
 -- ---- windows that are done
 
 -- a walk that stands before window `next` has passed those below `low`, for any rows of which these
--- runs are
+-- slices are
 abbrev pub HasPassed : Change → Tree → ℕ → Entries → ℕ → Walk → Walk → List ℕ → List ℕ → Type 0
-HasPassed change q next runs low old new before after = (m : Mark) (rows all : List Row) → Holds q m rows next runs → Settled q m rows all low
+HasPassed change q next slices low old new before after = (m : Mark) (rows all : List Row) → Holds q m rows next slices → Settled q m rows all low
     → Stands (answers_over q m all) old → Walks change (answers_over q m all) old new new.next before after
 
--- ---- runs that come
+-- ---- slices that come
 
 -- All rows up to position z have been taken in, and the walk has passed the windows below `closed`.
 pub record WalkedOn (change : Change) (q : Tree) (m : Mark) (all : List Row) (z : ℕ) (new : Entries) (closed done : ℕ) (old walk : Walk) (before after : List ℕ) : Type 0 where
@@ -43,28 +43,28 @@ pub record WalkedOn (change : Change) (q : Tree) (m : Mark) (all : List Row) (z 
   pub next_is : walk.next ≡ closed
   pub walks : Walks change (answers_over q m all) old walk closed before after
 
--- so it is with these runs, whatever rows they are of
-abbrev pub HasWalkedOn : Change → Tree → Open → Walk → List Run → ℕ → Open → Walk → List ℕ → List ℕ → Type 0
-HasWalkedOn change q s old runs closed new walk before after = (m : Mark) (all : List Row) (o x y : ℕ) → GoesOn q m all o x y s.next s.runs.entries runs closed
-    → Stands (answers_over q m all) old → WalkedOn change q m all (o + y) new.runs.entries closed new.next old walk before after
+-- so it is with these slices, whatever rows they are of
+abbrev pub HasWalkedOn : Change → Tree → Open → Walk → List Slice → ℕ → Open → Walk → List ℕ → List ℕ → Type 0
+HasWalkedOn change q s old slices closed new walk before after = (m : Mark) (all : List Row) (o x y : ℕ) → GoesOn q m all o x y s.next s.slices.entries slices closed
+    → Stands (answers_over q m all) old → WalkedOn change q m all (o + y) new.slices.entries closed new.next old walk before after
 
--- and with all runs of the rows of a task
-abbrev pub HasWalkedBy : Change → Tree → Open → Walk → List Run → ℕ → Open → Walk → List ℕ → List ℕ → Type 0
-HasWalkedBy change q s old runs closed new walk before after = (earlier rows : List Row) (ended : Bool) → Comes q earlier rows ended s.next s.runs.entries runs None closed
+-- and with all slices of the rows of a task
+abbrev pub HasWalkedBy : Change → Tree → Open → Walk → List Slice → ℕ → Open → Walk → List ℕ → List ℕ → Type 0
+HasWalkedBy change q s old slices closed new walk before after = (earlier rows : List Row) (ended : Bool) → Comes q earlier rows ended s.next s.slices.entries slices None closed
     → Stands (answers_over q no_rows (earlier ++ rows)) old
-    → WalkedOn change q no_rows (earlier ++ rows) (length (earlier ++ rows)) new.runs.entries closed new.next old walk before after
+    → WalkedOn change q no_rows (earlier ++ rows) (length (earlier ++ rows)) new.slices.entries closed new.next old walk before after
 
 -- ---- pieces and stores
 
 -- the piece of a task that answers no window itself
-abbrev pub piece_of : TaskRuns → RunPiece
-piece_of p = record { runs = p.runs; complete = None; after = p.after }
+abbrev pub piece_of : TaskSlices → SlicePiece
+piece_of p = record { slices = p.slices; complete = None; after = p.after }
 
 -- the open parts, and the answers of the last closed window
 abbrev pub kept_in : WalkStore → Kept
-kept_in s = record { parts = held_in s.runs; lists = empty; answers = s.walk.last }
+kept_in s = record { parts = held_in s.slices; lists = empty; answers = s.walk.last }
 
 -- the store has taken in the pieces of this input, and no other
 pub record HasWalked (q : Tree) (r : Input) (s : WalkStore) : Type 0 where
-  pub taken : TakenIn q r s.runs
+  pub taken : TakenIn q r s.slices
   pub next_is : s.walk.next ≡ closed_count (frame q) (last_mark r)

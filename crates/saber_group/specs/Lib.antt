@@ -1,4 +1,4 @@
-pub mod RunParts
-pub mod RunPieces
-pub mod RunStores
+pub mod SliceParts
+pub mod SlicePieces
+pub mod SliceStores
 pub mod ChangeStores

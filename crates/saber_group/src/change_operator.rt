@@ -1,7 +1,7 @@
 // What a group query does with tasks and what they give, of whose windows it prints what they gain
 // or lose.
 use crate::batch::Batch;
-use crate::change_pieces::TaskRuns;
+use crate::change_pieces::TaskSlices;
 use crate::change_stores::WalkStore;
 use crate::changes::GroupChanges;
 use saber_changes::Walk;
@@ -16,49 +16,54 @@ use std::sync::ledger::Blank;
 
 // A task's piece is made of its own block, so nothing of the block is copied.
 impl Operator for GroupChanges<'_> {
-    type Draft = TaskRuns;
+    type Draft = TaskSlices;
 
-    type Piece = TaskRuns;
+    type Piece = TaskSlices;
 
     type Store = WalkStore;
 
     ghost use Rattle.saber_plan.specs.Trees.{tree_of};
-    ghost use Rattle.saber_group.specs.RunPieces.{IsMade, IsOf};
+    ghost use Rattle.saber_group.specs.SlicePieces.{IsMade, IsOf};
     ghost use Rattle.saber_group.specs.ChangeStores.{kept_in, piece_of, HasWalked};
 
     ghost plan = { tree_of };
 
     ghost has_seen = { λ group draft s. IsMade (tree_of group) s (piece_of draft) };
 
-    ghost held = { kept_in };
+    ghost contents = { kept_in };
 
-    ghost staying = { kept_in };
+    ghost remainder = { kept_in };
 
     ghost has_taken = { λ group store r. HasWalked (tree_of group) r store };
 
     ghost is_of = { λ group piece r x y. IsOf (tree_of group) r x y (piece_of piece) };
 
-    fn start(&self, alloc: Global, own: &Block) -> Result<TaskRuns, NoMemory> {
+    fn start(&self, alloc: Global, own: &Block) -> Result<TaskSlices, NoMemory> {
         let batch = Batch {
             before: own.before,
             rows: &own.rows,
             ended: own.ended,
         };
-        self.group.task_runs(alloc, &batch)
+        self.group.task_slices(alloc, &batch)
     }
 
-    fn feed(&self, _alloc: Global, _draft: &mut TaskRuns, _block: &Block) -> Result<(), NoMemory> {
+    fn look_back(
+        &self,
+        _alloc: Global,
+        _draft: &mut TaskSlices,
+        _block: &Block,
+    ) -> Result<(), NoMemory> {
         Ok(())
     }
 
-    fn finish(&self, _alloc: Global, draft: TaskRuns) -> Result<TaskRuns, NoMemory> {
+    fn finish(&self, _alloc: Global, draft: TaskSlices) -> Result<TaskSlices, NoMemory> {
         marks_follow();
         Ok(draft)
     }
 
     fn empty_store(&self, alloc: Global) -> WalkStore {
         WalkStore {
-            runs: self.group.no_runs(alloc),
+            slices: self.group.no_slices(alloc),
             walk: Walk::new(alloc),
         }
     }
@@ -68,7 +73,7 @@ impl Operator for GroupChanges<'_> {
         &self,
         alloc: Global,
         store: &mut WalkStore,
-        piece: TaskRuns,
+        piece: TaskSlices,
         out: &mut Vec<u8>,
     ) -> Result<(), NoMemory> {
         self.group.has_window();
@@ -83,14 +88,14 @@ impl Operator for GroupChanges<'_> {
         self.group.walk_uncounted::<Brand>(
             alloc,
             self.change,
-            &mut store.runs.windows,
+            &mut store.slices.windows,
             &mut store.walk,
-            piece.runs,
+            piece.slices,
             closed,
             &mut text,
             Blank::new(1),
         )?;
-        store.runs.begun = begun;
+        store.slices.begun = begun;
         out.extend_from_slice(&text)?;
         Ok(())
     }

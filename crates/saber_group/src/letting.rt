@@ -1,23 +1,23 @@
-// Runs, and what has them, are let go by calls. Where a function held one at an exit of its own, the steps that let each of its
+// Slices, and what has them, are let go by calls. Where a function held one at an exit of its own, the steps that let each of its
 // parts go would stand in that function, once for each exit, and its proof would take them all in.
 use crate::complete::Complete;
 use crate::open::Open;
-use crate::runs::Run;
+use crate::slices::Slice;
 use saber_partial::Gathering;
 
-impl Run {
-    /// Lets the run go.
+impl Slice {
+    /// Lets the slice go.
     pub(crate) fn let_go(self) {}
 }
 
-/// Lets runs go.
-pub(crate) fn let_runs_go(_runs: Vec<Run>) {}
+/// Lets slices go.
+pub(crate) fn let_slices_go(_slices: Vec<Slice>) {}
 
 /// Lets go of a part in the making.
 pub(crate) fn let_part_go(_part: Gathering) {}
 
 impl Open {
-    /// Lets the runs go that windows have.
+    /// Lets the slices go that windows have.
     pub(crate) fn let_go(self) {}
 }
 

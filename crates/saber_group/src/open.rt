@@ -2,7 +2,7 @@
 ghost use Rattle.std.specs.Prelude.{◌≡◌, ◌≤◌, ◌+◌, max, [], OnOk};
 ghost use Rattle.saber_plan.specs.Trees.{tree_of};
 ghost use Rattle.saber_sliding.specs.Entries.{CanFollow};
-ghost use Rattle.saber_group.specs.RunParts.{Entered, HoldStill, Printed};
+ghost use Rattle.saber_group.specs.SliceParts.{Entered, HoldStill, Printed};
 
 use saber_partial::{Partial, Steps};
 use saber_plan::{NoMemory, Plan};
@@ -10,24 +10,24 @@ use saber_sliding::Sliding;
 use std::alloc::Global;
 use std::sync::ledger::Ledger;
 
-/// The runs so far that window `next` or one behind it has, each with the first window that doesn't
+/// The slices so far that window `next` or one behind it has, each with the first window that doesn't
 /// have it. The windows below `next` are done.
 #[derive(Drop)]
 pub(crate) struct Open {
     pub(crate) next: u64,
-    pub(crate) runs: Sliding,
+    pub(crate) slices: Sliding,
 }
 
 impl Open {
-    /// No run yet. Takes no memory.
+    /// No slice yet. Takes no memory.
     pub(crate) fn new(alloc: Global, next: u64) -> Open
         ensures next { result.next ≡ next }
-        ensures runs { result.runs.entries ≡ [] }
-        ensures owed { result.runs.owed ≡ 0 }
+        ensures slices { result.slices.entries ≡ [] }
+        ensures owed { result.slices.owed ≡ 0 }
     {
         Open {
             next,
-            runs: Sliding::empty(alloc),
+            slices: Sliding::empty(alloc),
         }
     }
 
@@ -39,15 +39,15 @@ impl Open {
         part: Partial,
         steps: &mut Steps<L>,
     ) -> Result<(), NoMemory>
-        requires { CanFollow part self.old.runs.entries }
-        ensures runs { OnOk result (Entered self.old.runs.entries past part self.new.runs.entries) }
+        requires { CanFollow part self.old.slices.entries }
+        ensures slices { OnOk result (Entered self.old.slices.entries past part self.new.slices.entries) }
         ensures next { OnOk result (self.new.next ≡ self.old.next) }
-        ensures steps { OnOk result (steps.new + self.new.runs.owed ≤ steps.old + self.old.runs.owed + 2) }
+        ensures steps { OnOk result (steps.new + self.new.slices.owed ≤ steps.old + self.old.slices.owed + 2) }
     {
         if part.is_empty() {
             return Ok(());
         }
-        self.runs.push(alloc, past, part, steps)
+        self.slices.push(alloc, past, part, steps)
     }
 
     /// Appends the lines of the windows below `low`: one step for each, beside those owed. No later row lies in them.
@@ -59,15 +59,15 @@ impl Open {
         steps: &mut Steps<L>,
     ) -> Result<(), NoMemory>
         ensures next { OnOk result (self.new.next ≡ max self.old.next low) }
-        ensures runs { OnOk result (HoldStill (tree_of plan.now) self.old.next self.old.runs.entries self.new.next self.new.runs.entries) }
-        ensures text { OnOk result (Printed (tree_of plan.now) self.old.next self.old.runs.entries low self.new.next out.old.items out.new.items) }
-        ensures steps { OnOk result (steps.new + self.new.runs.owed + self.old.next ≤ steps.old + self.old.runs.owed + self.new.next) }
+        ensures slices { OnOk result (HoldStill (tree_of plan.now) self.old.next self.old.slices.entries self.new.next self.new.slices.entries) }
+        ensures text { OnOk result (Printed (tree_of plan.now) self.old.next self.old.slices.entries low self.new.next out.old.items out.new.items) }
+        ensures steps { OnOk result (steps.new + self.new.slices.owed + self.old.next ≤ steps.old + self.old.slices.owed + self.new.next) }
     {
         while self.next < low {
-            self.runs.drop_to(self.next);
-            match self.runs.first_number() {
+            self.slices.drop_to(self.next);
+            match self.slices.first_number() {
                 Some(_) => {
-                    self.runs.lines(plan, self.next, out, steps)?;
+                    self.slices.lines(plan, self.next, out, steps)?;
                     self.next += 1;
                 }
                 None => {
@@ -75,9 +75,9 @@ impl Open {
                 }
             }
         }
-        // Runs of no open window go now, so that they are never summed up with later ones.
+        // Slices of no open window go now, so that they are never summed up with later ones.
         let first_open = self.next;
-        self.runs.drop_to(first_open);
+        self.slices.drop_to(first_open);
         Ok(())
     }
 }

@@ -8,8 +8,8 @@ ghost use Rattle.saber_plan.specs.Answers.{alike, way};
 
 use crate::batch::Batch;
 use crate::group::Group;
-use crate::run_pieces::RunPiece;
-use crate::run_stores::RunStore;
+use crate::slice_pieces::SlicePiece;
+use crate::slice_stores::SliceStore;
 use saber_fragment::{Block, Operator};
 use saber_laws::{closed_rise, ends_close_more, marks_follow, part_has_lines};
 use saber_plan::{NoMemory, Plan};
@@ -57,30 +57,30 @@ impl<'a> GroupOperator<'a> {
 
 // A task's piece is made of its own block, so nothing of the block is copied.
 impl Operator for GroupOperator<'_> {
-    type Draft = RunPiece;
+    type Draft = SlicePiece;
 
-    type Piece = RunPiece;
+    type Piece = SlicePiece;
 
-    type Store = RunStore;
+    type Store = SliceStore;
 
     ghost use Rattle.saber_plan.specs.Trees.{tree_of};
     ghost use Rattle.saber_plan.specs.Tasks.{by_windows};
-    ghost use Rattle.saber_group.specs.RunPieces.{IsMade, IsOf};
-    ghost use Rattle.saber_group.specs.RunStores.{held_in, TakenIn};
+    ghost use Rattle.saber_group.specs.SlicePieces.{IsMade, IsOf};
+    ghost use Rattle.saber_group.specs.SliceStores.{held_in, TakenIn};
 
     ghost plan = { tree_of };
 
     ghost has_seen = { λ group draft s. IsMade (tree_of group) s draft };
 
-    ghost held = { λ s. by_windows (held_in s) };
+    ghost contents = { λ s. by_windows (held_in s) };
 
-    ghost staying = { λ s. by_windows (held_in s) };
+    ghost remainder = { λ s. by_windows (held_in s) };
 
     ghost has_taken = { λ group store r. TakenIn (tree_of group) r store };
 
     ghost is_of = { λ group piece r x y. IsOf (tree_of group) r x y piece };
 
-    fn start(&self, alloc: Global, own: &Block) -> Result<RunPiece, NoMemory> {
+    fn start(&self, alloc: Global, own: &Block) -> Result<SlicePiece, NoMemory> {
         let batch = Batch {
             before: own.before,
             rows: &own.rows,
@@ -90,25 +90,30 @@ impl Operator for GroupOperator<'_> {
             .piece_uncounted::<Brand>(alloc, &own.earlier, &batch, Blank::new(1))
     }
 
-    fn feed(&self, _alloc: Global, _draft: &mut RunPiece, _block: &Block) -> Result<(), NoMemory> {
+    fn look_back(
+        &self,
+        _alloc: Global,
+        _draft: &mut SlicePiece,
+        _block: &Block,
+    ) -> Result<(), NoMemory> {
         Ok(())
     }
 
-    fn finish(&self, _alloc: Global, draft: RunPiece) -> Result<RunPiece, NoMemory> {
+    fn finish(&self, _alloc: Global, draft: SlicePiece) -> Result<SlicePiece, NoMemory> {
         marks_follow();
         Ok(draft)
     }
 
-    fn empty_store(&self, alloc: Global) -> RunStore {
-        self.group.no_runs(alloc)
+    fn empty_store(&self, alloc: Global) -> SliceStore {
+        self.group.no_slices(alloc)
     }
 
     // The lines are put together first, so that `out` is as before after want of memory.
     fn take_in(
         &self,
         alloc: Global,
-        store: &mut RunStore,
-        piece: RunPiece,
+        store: &mut SliceStore,
+        piece: SlicePiece,
         out: &mut Vec<u8>,
     ) -> Result<(), NoMemory> {
         self.group.has_window();
@@ -133,5 +138,5 @@ impl Operator for GroupOperator<'_> {
     }
 
     // Taking a piece in has dropped what no open window has.
-    fn drop_closed(&self, _store: &mut RunStore) {}
+    fn drop_closed(&self, _store: &mut SliceStore) {}
 }

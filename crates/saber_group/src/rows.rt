@@ -4,7 +4,7 @@ ghost use Rattle.saber_plan.specs.Values as v;
 ghost use Rattle.saber_plan.specs.Windows.{mark_after};
 ghost use Rattle.saber_plan.specs.Answers.{frame};
 ghost use Rattle.saber_plan.specs.Trees.{tree_of};
-ghost use Rattle.saber_plan.specs.Given.{IsRowOf, RowsFit};
+ghost use Rattle.saber_plan.specs.GivenRows.{IsRowOf, RowsFit};
 ghost use Rattle.saber_window.specs.Together.{LieTogether};
 
 use crate::batch::Batch;
@@ -30,7 +30,7 @@ impl Group<'_> {
     }
 
     /// Where the rows end that lie in the same windows as row `from`, from there on, before which `mark` stands.
-    pub(crate) fn run_end(&self, batch: &Batch, from: usize, mark: &Mark) -> usize
+    pub(crate) fn slice_end(&self, batch: &Batch, from: usize, mark: &Mark) -> usize
         requires fits { RowsFit (tree_of self.now) batch.now.before batch.now.rows.now }
         requires there { from < length batch.now.rows.now }
         requires mark { mark.now ≡ mark_after batch.now.before (take from batch.now.rows.now) }
@@ -40,7 +40,7 @@ impl Group<'_> {
     {
         self.has_window();
         stamps_fit();
-        self.windows.run_end(batch.rows, from, mark)
+        self.windows.slice_end(batch.rows, from, mark)
     }
 
     /// The mark behind the rows up to row `end`, of which `mark` has those up to row `from`.

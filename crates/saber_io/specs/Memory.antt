@@ -2,7 +2,7 @@
 use Rattle.std.specs.Prelude.{◌≡◌, ℕ, ◌-◌, min, List, [], ◌∷◌, ◌++◌, length, map, take, Option, Some, IsSomeAnd, option_map, unwrap_or, slice_get, ◌==◌}
 use Rattle.std.specs.List.{find}
 use Rattle.std.specs.Str.{bytes_eq}
-use Rattle.saber_io.specs.Outside.{counted, Closed, Told}
+use Rattle.saber_io.specs.Outside.{counted, Closed, FilesView}
 
 -- a source: its bytes left, the most that each read gives by its number, the numbers of the reads that fail, how many reads were made, how many failed
 pub record SourceState : Type 0 where
@@ -80,5 +80,5 @@ abbrev pub closed_of : SourceState → Closed
 closed_of source = (Some source.left, source.faults)
 
 -- what files in memory tell
-abbrev pub told_of : FilesState → Told
+abbrev pub told_of : FilesState → FilesView
 told_of files = record { contents = map content_of files.files; asked = files.asked; closed = map closed_of files.closed }

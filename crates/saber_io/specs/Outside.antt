@@ -38,7 +38,7 @@ abbrev pub Closed : Type 0
 Closed = Option (List ℕ) × ℕ
 
 -- what files tell: contents by name, the names asked for in order, the sources given back in order
-pub record Told : Type 0 where
+pub record FilesView : Type 0 where
   pub contents : List (List ℕ × List ℕ)
   pub asked : List (List ℕ)
   pub closed : List Closed
@@ -48,11 +48,11 @@ abbrev pub content_in : List (List ℕ × List ℕ) → List ℕ → Option (Lis
 content_in contents name = option_map (λ e. e.1) (find (λ e. bytes_eq e.0 name) contents)
 
 -- a name was asked for
-abbrev pub asking : Option Told → List ℕ → Option Told
+abbrev pub asking : Option FilesView → List ℕ → Option FilesView
 asking told name = option_map (λ t. record { contents = t.contents; asked = t.asked ++ name ∷ []; closed = t.closed }) told
 
 -- a source with so much left and so many faults was given back
-abbrev pub closing : Option Told → Option (List ℕ) → ℕ → Option Told
+abbrev pub closing : Option FilesView → Option (List ℕ) → ℕ → Option FilesView
 closing told left faults = option_map (λ t. record { contents = t.contents; asked = t.asked; closed = t.closed ++ (left, faults) ∷ [] }) told
 
 -- the count after a source with these faults was given back
@@ -64,5 +64,5 @@ abbrev pub OpensIn : List (List ℕ × List ℕ) → List ℕ → Option (List �
 OpensIn contents name left = (bytes : List ℕ) × (content_in contents name ≡ Some bytes) × (left ≡ Some bytes)
 
 -- the same, where the files tell
-abbrev pub Opens : Option Told → List ℕ → Option (List ℕ) → Type 0
+abbrev pub Opens : Option FilesView → List ℕ → Option (List ℕ) → Type 0
 Opens told name left = IfSome told (λ t. OpensIn t.contents name left)

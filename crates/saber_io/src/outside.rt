@@ -2,7 +2,7 @@
 ghost use Rattle.std.specs.Prelude.{◌≡◌, ◌≢◌, ◌<◌, ◌≤◌, ℕ, List, Option, length, take, IfOk, OnOk, OnErr, Ok, Err};
 ghost use Rattle.saber_io.specs.declared.outside.OpenFault.{OpenFault};
 ghost use Rattle.saber_io.specs.declared.outside.WriteFault.{WriteFault};
-ghost use Rattle.saber_io.specs.Outside.{Rose, given, EndsEmpty, appended, AppendsPrefix, Told, asking, closing, raised, Opens};
+ghost use Rattle.saber_io.specs.Outside.{Rose, given, EndsEmpty, appended, AppendsPrefix, FilesView, asking, closing, raised, Opens};
 
 use std::alloc::{AllocError, AllocFailed, Global};
 
@@ -93,7 +93,7 @@ pub trait Files {
     type Src: Source;
 
     /// The contents by name, the names that were asked for, and the sources that were given back, where it tells.
-    ghost told: { Self → Option Told };
+    ghost told: { Self → Option FilesView };
 
     /// How often an open has failed, and how many sources were given back with faults.
     ghost faults: { Self → ℕ };

@@ -12,8 +12,8 @@ use Rattle.saber_plan.specs.Windows.{Placed, has, inside, placed_after, step_mar
 use Rattle.saber_plan.specs.Answers.{line, entry_lines, item_value, is_left, pairs, frame, by_shape, passing}
 use Rattle.saber_plan.specs.Parts.{Part, Numbers, part, pair_numbers, pair_part, group_part, part_lines, part_answers, answers_of, shown, summed, least, greatest, plain, row_part}
 use Rattle.saber_plan.specs.Checked.{IsChecked, columns_on}
-use Rattle.saber_plan.specs.Given.{IsPartOf}
-use Rattle.saber_plan.specs.ListFacts.{Each, each-filter, each-map, each-all}
+use Rattle.saber_plan.specs.GivenRows.{IsPartOf}
+use Rattle.saber_plan.specs.Facts.Lists.{Each, each-filter, each-map, each-all}
 use Rattle.saber_laws.specs.Pairs.{PairsAreInOrder}
 use Rattle.saber_join.specs.Found.{lines_for, pair_lines, values_in}
 use Rattle.saber_join.proofs.Sides.{all_plain, are_values}

@@ -14,8 +14,8 @@ use Rattle.saber_plan.specs.Windows.{two, Fits, Ordered, Placed, step_mark, mark
 use Rattle.saber_plan.specs.Answers.{frame}
 use Rattle.saber_plan.specs.Parts.{no_part, pair_part}
 use Rattle.saber_plan.specs.Needs.{first_window, past_window, part_here}
-use Rattle.saber_plan.specs.Given.{RowsFit}
-use Rattle.saber_plan.specs.RowFacts.{mark-append}
+use Rattle.saber_plan.specs.GivenRows.{RowsFit}
+use Rattle.saber_plan.specs.Facts.Rows.{mark-append}
 use Rattle.saber_laws.specs.Parts.{NoRowsNoPart}
 use Rattle.saber_laws.specs.Needs.{RowsSpan}
 use Rattle.saber_laws.specs.Windows.{BegunStay}

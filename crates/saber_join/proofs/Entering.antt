@@ -2,7 +2,7 @@
 use Rattle.std.proofs.Common.{◌≡◌, ℕ, List, [], ◌++◌, map, Bool, true, false, refl, ◌∙◌, ap, append_assoc}
 use Rattle.saber_plan.specs.Answers.{key_cmp}
 use Rattle.saber_plan.specs.Parts.{Part, no_part}
-use Rattle.saber_plan.specs.MapFacts.{entries-empty}
+use Rattle.saber_plan.specs.Facts.Maps.{entries-empty}
 use Rattle.saber_join.specs.Found.{lines_for}
 use Rattle.saber_join.specs.Entries.{lines_if}
 

@@ -6,7 +6,7 @@ use Rattle.std.specs.FinMap.{get, find, len, empty_of_len, get-from_entries, get
 use Rattle.std.proofs.lemmas.Bool.{eqb-true}
 use Rattle.saber_plan.specs.Tasks.{full}
 use Rattle.saber_plan.specs.Answers.{key_cmp}
-use Rattle.saber_plan.specs.PartFacts.{total}
+use Rattle.saber_plan.specs.Facts.Parts.{total}
 use Rattle.saber_join.specs.Found.{numbers_with, seen_entries, seen_pairs}
 use Rattle.saber_join.proofs.Keyed.{not_both}
 

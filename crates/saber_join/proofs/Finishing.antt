@@ -15,7 +15,7 @@ use Rattle.saber_plan.specs.Tasks.{full, is_complete}
 use Rattle.saber_plan.specs.Needs.{is_closing, is_pending, is_opening, of_kind, part_here}
 use Rattle.saber_plan.specs.Checked.{IsChecked}
 use Rattle.saber_plan.specs.Shares.{is_closed, shares_here, handed_here}
-use Rattle.saber_plan.specs.RowFacts.{Ordered-append}
+use Rattle.saber_plan.specs.Facts.Rows.{Ordered-append}
 use Rattle.saber_laws.specs.Windows.{ClosedAreCounted, BegunAreCounted, BegunStay}
 use Rattle.saber_laws.specs.Ends.{EndsBeginNone}
 use Rattle.saber_laws.specs.Needs.{RowsSpan}
@@ -27,14 +27,13 @@ use Rattle.saber_parts.specs.declared.bounds.Bounds.{Bounds}
 use Rattle.saber_join.specs.Found.{pair_lines}
 use Rattle.saber_join.specs.Open.{seen_parts, HoldsTask}
 use Rattle.saber_parts.specs.Kinds.{kind_in}
-use Rattle.saber_parts.specs.WindowFacts.{entry_is, kind_is}
+use Rattle.saber_parts.specs.WindowFacts.{entry_is, kind_is, no_entry}
 use Rattle.saber_parts.specs.Entries.{entry_if}
 use Rattle.saber_fragment.specs.Drafts.{Sight, IsWhole}
 use Rattle.saber_join.specs.Entries.{lines_if, entries_by, lines_by}
 use Rattle.saber_join.specs.Pieces.{AreOfTask}
 use Rattle.saber_join.proofs.Task.{part_is}
-use Rattle.saber_plan.specs.NumberFacts.{flat_map-from, flat_none, flat_filter, from_more, numbered_is}
-use Rattle.saber_parts.specs.WindowFacts.{no_entry}
+use Rattle.saber_plan.specs.Facts.Numbers.{flat_map-from, flat_none, flat_filter, from_more, numbered_is}
 use Rattle.saber_join.proofs.Entering.{no_lines}
 use Rattle.saber_join.proofs.Spread.{seen, part_in, part_is_in, rise_all, spread}
 use Rattle.saber_join.proofs.Beginning.{none_begun}

@@ -13,11 +13,11 @@ use Rattle.saber_plan.specs.declared.windows.Mark.{Mark}
 use Rattle.saber_plan.specs.Trees.{Tree}
 use Rattle.saber_plan.specs.Values.{passes}
 use Rattle.saber_plan.specs.Windows.{Frame, Placed, place, by_side, step_mark, mark_after, placed_after}
-use Rattle.saber_plan.specs.Given.{IsRowOf, RowsFit}
+use Rattle.saber_plan.specs.GivenRows.{IsRowOf, RowsFit}
 use Rattle.saber_plan.specs.Answers.{key_cmp, is_left, is_right, pairs_with, pairs}
 use Rattle.saber_plan.specs.Parts.{Numbers, no_part, pair_numbers, pair_part, later}
-use Rattle.saber_plan.specs.ListFacts.{Each, each-filter, each-map, each-weaker, dropped}
-use Rattle.saber_plan.specs.RowFacts.{placed-append, placed-one, fits_front}
+use Rattle.saber_plan.specs.Facts.Lists.{Each, each-filter, each-map, each-weaker, dropped}
+use Rattle.saber_plan.specs.Facts.Rows.{placed-append, placed-one, fits_front}
 use Rattle.saber_laws.specs.Pairs.{after_rows}
 use Rattle.saber_laws.specs.Parts.{NoRowsNoPart}
 use Rattle.saber_join.specs.Rows.{IsOn, AllOn}

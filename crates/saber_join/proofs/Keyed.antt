@@ -6,8 +6,8 @@ use Rattle.std.specs.FinMap.{get, insert, from_entries, find, is_sorted, get-fro
 use Rattle.std.specs.FinMap.Entries.{find_tied}
 use Rattle.saber_plan.specs.Answers.{key_cmp}
 use Rattle.saber_plan.specs.Merges.{joined}
-use Rattle.saber_plan.specs.MapFacts.{equal_if, take_one, first_alone}
-use Rattle.saber_plan.specs.PartFacts.{total, exact}
+use Rattle.saber_plan.specs.Facts.Maps.{equal_if, take_one, first_alone}
+use Rattle.saber_plan.specs.Facts.Parts.{total, exact}
 use Rattle.saber_plan.specs.Parts.{Part, Numbers, join_numbers, merge}
 use Rattle.saber_join.specs.Found.{Apart}
 

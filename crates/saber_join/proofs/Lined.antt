@@ -1,9 +1,9 @@
 -- The lines of a window's pairs.
 use Rattle.std.proofs.Common.{◌≡◌, List, [], ◌∷◌, map, T, ℤ, refl, ◌∙◌, ap, Vec, Global}
 use Rattle.std.specs.FinMap.{is_sorted}
-use Rattle.saber_plan.specs.MapFacts.{entries-from_rising}
+use Rattle.saber_plan.specs.Facts.Maps.{entries-from_rising}
 use Rattle.saber_plan.specs.Answers.{key_cmp}
-use Rattle.saber_plan.specs.PartFacts.{total, exact}
+use Rattle.saber_plan.specs.Facts.Parts.{total, exact}
 use Rattle.saber_join.specs.Found.{values_in, seen_entries, seen_pairs}
 
 seconds : (es : List (List ℤ × Vec ℤ Global)) → map (λ e. e.1.firsts) (seen_entries es) ≡ map (λ v. v.items) (map (λ e. e.1) es)

@@ -1,13 +1,12 @@
 -- Rows linked by buckets of keys.
 use Rattle.std.proofs.Common.{◌≡◌, ℕ, zero, suc, ◌+◌, ◌<◌, ◌≤◌, max, List, [], ◌∷◌, ◌++◌, length, take, get_or, set, map, filter, reverse, Bool, true, false, cond, ◌==◌, nat_lt, ℤ, ◌⊎◌, inl, inr, pos, refl, sym, ◌∙◌, ap, subst, subst₂, arith, length-append, append_assoc, append-nil}
 use Rattle.std.proofs.lemmas.Bool.{eqb-true, eqb-false, eq-eqb, ne_eqb, and_parts, cases_eq}
-use Rattle.std.proofs.lemmas.Bool.Decides.{nat_tests}
+use Rattle.std.proofs.lemmas.Bool.Decides.{nat_tests, Decides-int_eq}
 use Rattle.std.specs.Ordering.{int_eq}
 use Rattle.std.proofs.lemmas.List.{take_more, take_all, take-append-le, length-map, length-set, get_or-map, get_or_default, get_or-set_same, get_or-set_other, map-append, reverse-append}
 use Rattle.std.proofs.lemmas.List.Elements.{filter-append}
 use Rattle.std.specs.List.{AllByRecursion}
-use Rattle.std.proofs.lemmas.Bool.Decides.{Decides-int_eq}
-use Rattle.saber_plan.specs.ListFacts.{all_append, all_weaker}
+use Rattle.saber_plan.specs.Facts.Lists.{all_append, all_weaker}
 use Rattle.saber_join.specs.declared.shelf.Kept.{Kept}
 use Rattle.saber_join.specs.Shelves.{Card, meets, no_card, cards_at, bucket_of, last_in}
 use Rattle.saber_join.specs.Linked.{card_in, keys_in, AllBelow, Linked}

@@ -8,9 +8,9 @@ use Rattle.saber_plan.specs.Trees.{Tree}
 use Rattle.saber_plan.specs.Windows.{Placed, place, has, no_rows, placed_after}
 use Rattle.saber_plan.specs.Answers.{key_cmp, pairs, frame}
 use Rattle.saber_plan.specs.Parts.{Part, Numbers, pair_numbers, pair_part, later}
-use Rattle.saber_plan.specs.Given.{AreNeighbors}
-use Rattle.saber_plan.specs.ListFacts.{Each, each-filter}
-use Rattle.saber_plan.specs.PartFacts.{total, exact}
+use Rattle.saber_plan.specs.GivenRows.{AreNeighbors}
+use Rattle.saber_plan.specs.Facts.Lists.{Each, each-filter}
+use Rattle.saber_plan.specs.Facts.Parts.{total, exact}
 use Rattle.saber_laws.specs.Parts.{NoRowsNoPart}
 use Rattle.saber_join.specs.Found.{Apart}
 use Rattle.saber_join.proofs.Keyed.{not_both}

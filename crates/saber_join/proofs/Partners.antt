@@ -13,7 +13,7 @@ use Rattle.saber_plan.specs.Needs.{first_window, past_window}
 use Rattle.saber_plan.specs.Answers.{is_left, is_right, pair_key, pairs_with, frame}
 use Rattle.saber_plan.specs.Parts.{Part, Numbers, pair_numbers}
 use Rattle.saber_plan.specs.Pairing.{row_pairs, with_entries}
-use Rattle.saber_plan.specs.ListFacts.{Each, each-all}
+use Rattle.saber_plan.specs.Facts.Lists.{Each, each-all}
 use Rattle.saber_laws.specs.Needs.{RowsSpan}
 use Rattle.saber_join.specs.Standing.{standing}
 use Rattle.saber_join.specs.Shelves.{Card, card_of, meets}

@@ -14,13 +14,13 @@ use Rattle.saber_plan.specs.Windows.{Frame, unwindowed, one, two, Fits, Placed, 
 use Rattle.saber_plan.specs.Answers.{frame}
 use Rattle.saber_plan.specs.Parts.{Part, no_part, pair_part}
 use Rattle.saber_plan.specs.Needs.{part_here, first_window, past_window}
-use Rattle.saber_plan.specs.Given.{RowsFit}
-use Rattle.saber_plan.specs.ListFacts.{dropped, each-weaker}
-use Rattle.saber_plan.specs.RowFacts.{mark-append, mark_more, placed-append, Ordered-append, fits_front, fits_back}
+use Rattle.saber_plan.specs.GivenRows.{RowsFit}
+use Rattle.saber_plan.specs.Facts.Lists.{dropped, each-weaker}
+use Rattle.saber_plan.specs.Facts.Rows.{mark-append, mark_more, placed-append, Ordered-append, fits_front, fits_back}
 use Rattle.saber_laws.specs.Needs.{RowsSpan}
 use Rattle.saber_laws.specs.Windows.{BegunStay}
 use Rattle.saber_fragment.specs.declared.blocks.Block.{Block}
-use Rattle.saber_fragment.specs.Drafts.{Sight, begins, fed, CanFeed, IsWhole}
+use Rattle.saber_fragment.specs.Drafts.{Sight, begins, seen_back, CanLookBack, IsWhole}
 use Rattle.saber_join.specs.declared.draft.JoinDraft.{JoinDraft}
 use Rattle.saber_join.specs.Keeping.{NoneLies, lies_from}
 use Rattle.saber_window.specs.Timed.{IsTimed}
@@ -124,7 +124,7 @@ begins_some : (xs : List Row) (m n : Mark) → length xs ≢ 0 → begins xs m n
 begins_some [] m n h = absurd (h refl)
 begins_some (x ∷ xs) m n h = refl
 
-module _ (q : Tree) (d : JoinDraft) (s : Sight) (b : Block) (seen : HasSeen q d s) (can : CanFeed q s b) where
+module _ (q : Tree) (d : JoinDraft) (s : Sight) (b : Block) (seen : HasSeen q d s) (can : CanLookBack q s b) where
   abbrev start : Mark
   start = begins s.back s.first b.before
 
@@ -144,7 +144,7 @@ module _ (q : Tree) (d : JoinDraft) (s : Sight) (b : Block) (seen : HasSeen q d 
     none_here : NoneLies (frame q) (closed_count (frame q) s.before) (placed_after (mark_after start s.back) (take k b.rows))
     none_here = subst₂ (λ a m. NoneLies (frame q) (closed_count (frame q) a) (placed_after m (take k b.rows))) seen.before can.goes_on none
 
-    pub begun_seen : (new : JoinDraft) → new.last ≡ (mark_after b.before (take k b.rows)).last → new.back ≡ drop k b.rows → new.before ≡ d.before → new.rows ≡ d.rows → new.ended ≡ d.ended → HasSeen q new (fed s b)
+    pub begun_seen : (new : JoinDraft) → new.last ≡ (mark_after b.before (take k b.rows)).last → new.back ≡ drop k b.rows → new.before ≡ d.before → new.rows ≡ d.rows → new.ended ≡ d.ended → HasSeen q new (seen_back s b)
     begun_seen new last back before rows ended = record {
       passed = s.back ++ take k b.rows;
       back = ap (λ l. s.back ++ l) (sym (take-append-drop k b.rows)) ∙ sym (append_assoc s.back (take k b.rows) (drop k b.rows)) ∙ ap (λ l. (s.back ++ take k b.rows) ++ l) (sym back);
@@ -162,7 +162,7 @@ module _ (q : Tree) (d : JoinDraft) (s : Sight) (b : Block) (seen : HasSeen q d 
         let long : length s.back ≡ length seen.passed + length d.back = ap length seen.back ∙ length-append seen.passed d.back in
         begins_some s.back s.first b.before (λ none. some (omega (arith, none, long)))
 
-    pub more_seen : (new : JoinDraft) → new.back ≡ d.back ++ b.rows → new.last ≡ d.last → new.before ≡ d.before → new.rows ≡ d.rows → new.ended ≡ d.ended → HasSeen q new (fed s b)
+    pub more_seen : (new : JoinDraft) → new.back ≡ d.back ++ b.rows → new.last ≡ d.last → new.before ≡ d.before → new.rows ≡ d.rows → new.ended ≡ d.ended → HasSeen q new (seen_back s b)
     more_seen new back last before rows ended = record {
       passed = seen.passed;
       back = ap (λ l. l ++ b.rows) seen.back ∙ append_assoc seen.passed d.back b.rows ∙ ap (λ l. seen.passed ++ l) (sym back);
@@ -174,7 +174,7 @@ module _ (q : Tree) (d : JoinDraft) (s : Sight) (b : Block) (seen : HasSeen q d 
     }
 
 pub extended : {E : Type 0} (q : Tree) (d : JoinDraft) (b : Block) → length d.back ≢ 0 → (result : Result (Unit {0}) E) (back : List Row) → OnOk result (back ≡ d.back ++ b.rows)
-    → OnOk result ((s : Sight) → HasSeen q d s → CanFeed q s b → HasSeen q (record { last = d.last; back = back; before = d.before; rows = d.rows; ended = d.ended }) (fed s b))
+    → OnOk result ((s : Sight) → HasSeen q d s → CanLookBack q s b → HasSeen q (record { last = d.last; back = back; before = d.before; rows = d.rows; ended = d.ended }) (seen_back s b))
 extended q d b some (Ok u) back is = λ s seen can. more_seen q d s b seen can some (record { last = d.last; back = back; before = d.before; rows = d.rows; ended = d.ended }) is refl refl refl refl
 extended q d b some (Err e) back is = tt
 

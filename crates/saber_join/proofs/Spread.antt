@@ -8,7 +8,7 @@ use Rattle.std.specs.FinMap.{find, is_sorted, get-from_entries}
 use Rattle.std.specs.FinMap.Entries.{below_all}
 use Rattle.saber_plan.specs.Windows.{from}
 use Rattle.saber_plan.specs.Parts.{Part, no_part}
-use Rattle.saber_plan.specs.ListFacts.{Each, T_parts}
+use Rattle.saber_plan.specs.Facts.Lists.{Each, T_parts}
 use Rattle.saber_join.specs.Open.{seen_parts, pairs_in}
 use Rattle.saber_join.proofs.Changing.{same_number, other_number}
 

@@ -10,7 +10,7 @@ use Rattle.saber_plan.specs.Windows.{Fits, Placed, place, has, mark_after, place
 use Rattle.saber_plan.specs.Answers.{frame, by_shape, passing}
 use Rattle.saber_plan.specs.Parts.{Part, no_part, pair_part, group_part, row_part}
 use Rattle.saber_plan.specs.Needs.{part_here, first_window, past_window}
-use Rattle.saber_plan.specs.ListFacts.{each-filter}
+use Rattle.saber_plan.specs.Facts.Lists.{each-filter}
 use Rattle.saber_laws.specs.Needs.{RowsSpan}
 use Rattle.saber_laws.specs.Pairs.{WindowsGetPairs, after_rows, with_row}
 use Rattle.saber_laws.specs.Parts.{NoRowsNoPart}

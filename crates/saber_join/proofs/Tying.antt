@@ -19,7 +19,7 @@ use Rattle.saber_plan.specs.declared.predicates.Unit.{Unit as Unit_tree, Compare
 use Rattle.saber_plan.specs.Trees.{Tree, Test, compare, Both, Tests, no_other, either, joined, chosen, test_of, both_of}
 use Rattle.saber_plan.specs.Values.{value, value_at, column_of, factor_value, product_value, signed, test_holds, all_hold, passes}
 use Rattle.saber_plan.specs.Checked.{HasColumn, ExprFits, TestFits, AllFit, PredicateFits, columns_on}
-use Rattle.saber_plan.specs.Given.{IsRowOf}
+use Rattle.saber_plan.specs.GivenRows.{IsRowOf}
 use Rattle.saber_eval.specs.Widths.{widths}
 use Rattle.saber_plan.specs.Windows.{by_side}
 use Rattle.saber_join.specs.Ties.{Ends, IsColumn, IsOf, Over, Ties, TiesTest, TiesAll, TiesPairs, CanTie, narrow, key_in}

@@ -1,6 +1,6 @@
 -- What a task holds after some rows: those of each side that lie in open windows.
 use Rattle.std.specs.Prelude.{◌≡◌, ◌++◌, ℕ, List, map, filter, max, Bool, false, nat_lt, Option}
-use Rattle.saber_plan.specs.ListFacts.{Each}
+use Rattle.saber_plan.specs.Facts.Lists.{Each}
 use Rattle.saber_plan.specs.Windows.{Frame, Placed}
 use Rattle.saber_plan.specs.Needs.{first_window, past_window}
 use Rattle.saber_plan.specs.Answers.{frame, is_left, is_right}

@@ -7,7 +7,7 @@ use Rattle.saber_plan.specs.declared.plans.Item.{Item}
 use Rattle.saber_plan.specs.declared.plans.Item.TheVariants.{Count, Sum, Min, Max, Value}
 use Rattle.saber_plan.specs.Trees.{Tree}
 use Rattle.saber_plan.specs.Checked.{ExprFits}
-use Rattle.saber_plan.specs.Given.{IsRowOf}
+use Rattle.saber_plan.specs.GivenRows.{IsRowOf}
 use Rattle.saber_eval.specs.Widths.{widths}
 use Rattle.saber_join.specs.Shelves.{Card}
 

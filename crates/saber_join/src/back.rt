@@ -4,8 +4,8 @@ ghost use Rattle.saber_plan.specs.declared.windows.Mark.{Mark};
 ghost use Rattle.saber_plan.specs.Trees.{tree_of};
 ghost use Rattle.saber_plan.specs.Answers.{frame};
 ghost use Rattle.saber_plan.specs.Windows.{mark_after, placed_after};
-ghost use Rattle.saber_plan.specs.Given.{RowsFit};
-ghost use Rattle.saber_fragment.specs.Drafts.{Sight, fed, CanFeed};
+ghost use Rattle.saber_plan.specs.GivenRows.{RowsFit};
+ghost use Rattle.saber_fragment.specs.Drafts.{Sight, seen_back, CanLookBack};
 ghost use Rattle.saber_join.specs.Keeping.{NoneLies};
 ghost use Rattle.saber_join.specs.Sights.{HasSeen};
 
@@ -104,9 +104,9 @@ impl Join<'_> {
         block: &Block,
     ) -> Result<(), NoMemory>
         requires none { draft.old.back ≡ [] }
-        requires sight { (s : Sight) × HasSeen (tree_of self.now) draft.old s × CanFeed (tree_of self.now) s block.now }
-        ensures { OnOk result ((s : Sight) → HasSeen (tree_of self.now) draft.old s → CanFeed (tree_of self.now) s block.now
-            → HasSeen (tree_of self.now) draft.new (fed s block.now)) }
+        requires sight { (s : Sight) × HasSeen (tree_of self.now) draft.old s × CanLookBack (tree_of self.now) s block.now }
+        ensures { OnOk result ((s : Sight) → HasSeen (tree_of self.now) draft.old s → CanLookBack (tree_of self.now) s block.now
+            → HasSeen (tree_of self.now) draft.new (seen_back s block.now)) }
     {
         let closed = self.closed_below(&draft.before);
         let from = self.passed_over(closed, &block.before, &block.rows);
@@ -122,9 +122,9 @@ impl Join<'_> {
         draft: &mut JoinDraft,
         block: &Block,
     ) -> Result<(), NoMemory>
-        requires { (s : Sight) × HasSeen (tree_of self.now) draft.old s × CanFeed (tree_of self.now) s block.now }
-        ensures { OnOk result ((s : Sight) → HasSeen (tree_of self.now) draft.old s → CanFeed (tree_of self.now) s block.now
-            → HasSeen (tree_of self.now) draft.new (fed s block.now)) }
+        requires { (s : Sight) × HasSeen (tree_of self.now) draft.old s × CanLookBack (tree_of self.now) s block.now }
+        ensures { OnOk result ((s : Sight) → HasSeen (tree_of self.now) draft.old s → CanLookBack (tree_of self.now) s block.now
+            → HasSeen (tree_of self.now) draft.new (seen_back s block.now)) }
     {
         if draft.back.len() == 0 {
             self.begin_back(alloc, draft, block)

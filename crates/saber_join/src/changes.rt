@@ -74,9 +74,9 @@ impl Operator for JoinChanges<'_> {
 
     ghost has_seen = { λ p draft s. HasSeen (tree_of p) draft s };
 
-    ghost held = { λ s. kept_by (parts_by (λ part. part) s.parts.entries) s.walk };
+    ghost contents = { λ s. kept_by (parts_by (λ part. part) s.parts.entries) s.walk };
 
-    ghost staying = { λ s. kept_by (parts_from (λ part. part) s.walk.next s.parts.entries) s.walk };
+    ghost remainder = { λ s. kept_by (parts_from (λ part. part) s.walk.next s.parts.entries) s.walk };
 
     ghost has_taken = { λ p s r. HasWalked (tree_of p) s.walk r };
 
@@ -86,7 +86,12 @@ impl Operator for JoinChanges<'_> {
         JoinDraft::new(alloc, own)
     }
 
-    fn feed(&self, alloc: Global, draft: &mut JoinDraft, block: &Block) -> Result<(), NoMemory> {
+    fn look_back(
+        &self,
+        alloc: Global,
+        draft: &mut JoinDraft,
+        block: &Block,
+    ) -> Result<(), NoMemory> {
         self.join.look_back(alloc, draft, block)
     }
 

@@ -9,7 +9,7 @@ ghost use Rattle.saber_plan.specs.Checked.{IsChecked};
 ghost use Rattle.saber_plan.specs.Windows as w;
 ghost use Rattle.saber_plan.specs.Answers.{frame, item_value};
 ghost use Rattle.saber_plan.specs.Needs.{first_window, past_window};
-ghost use Rattle.saber_plan.specs.Given.{IsRowOf};
+ghost use Rattle.saber_plan.specs.GivenRows.{IsRowOf};
 ghost use Rattle.saber_laws.specs.Plans.{TwoWindows};
 ghost use Rattle.saber_window.specs.Timed.{IsTimed};
 ghost use Rattle.saber_join.specs.Rows.{IsOn, CanShow};

@@ -2,11 +2,11 @@
 ghost use Rattle.std.specs.Prelude.{◌≡◌, ◌∷◌, ◌++◌, OnOk, OnErr, pos};
 ghost use Rattle.saber_plan.specs.Answers.{line};
 ghost use Rattle.saber_plan.specs.Texts.{Behind};
-ghost use Rattle.saber_cells.specs.Cells.{cells};
+ghost use Rattle.saber_digits.specs.Cells.{cells};
 ghost use Rattle.saber_join.specs.Found.{lines_for, values_in, pair_lines};
 
 use crate::pairs::Pairs;
-use saber_cells::{write_cell, write_count};
+use saber_digits::{write_cell, write_count};
 use saber_plan::NoMemory;
 
 fn write_cells(out: &mut Vec<u8>, values: &[i128]) -> Result<(), NoMemory>

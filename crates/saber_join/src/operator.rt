@@ -65,16 +65,16 @@ impl Operator for JoinOperator<'_> {
     ghost use Rattle.saber_plan.specs.Shares.{shares_between};
     ghost use Rattle.saber_plan.specs.Tasks.{by_windows};
     ghost use Rattle.saber_fragment.specs.Shown.{shares_of};
-    ghost use Rattle.saber_parts.specs.Stored.{held_by, staying_by};
+    ghost use Rattle.saber_parts.specs.Stored.{held_by, remainder_by};
     ghost use Rattle.saber_join.specs.Sights.{HasSeen};
 
     ghost plan = { tree_of };
 
     ghost has_seen = { λ p draft s. HasSeen (tree_of p) draft s };
 
-    ghost held = { λ s. by_windows (held_by (λ part. part) s) };
+    ghost contents = { λ s. by_windows (held_by (λ part. part) s) };
 
-    ghost staying = { λ s. by_windows (staying_by (λ part. part) s) };
+    ghost remainder = { λ s. by_windows (remainder_by (λ part. part) s) };
 
     ghost has_taken = { λ _ _ _. Unit {0} };
 
@@ -84,7 +84,12 @@ impl Operator for JoinOperator<'_> {
         JoinDraft::new(alloc, own)
     }
 
-    fn feed(&self, alloc: Global, draft: &mut JoinDraft, block: &Block) -> Result<(), NoMemory> {
+    fn look_back(
+        &self,
+        alloc: Global,
+        draft: &mut JoinDraft,
+        block: &Block,
+    ) -> Result<(), NoMemory> {
         self.join.look_back(alloc, draft, block)
     }
 

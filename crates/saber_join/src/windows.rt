@@ -4,13 +4,13 @@ ghost use Rattle.saber_plan.specs.declared.rows.Side.TheVariants as sides;
 ghost use Rattle.saber_plan.specs.Trees.{tree_of};
 ghost use Rattle.saber_plan.specs.Answers.{frame};
 ghost use Rattle.saber_plan.specs.Windows.{mark_after, placed_after};
-ghost use Rattle.saber_plan.specs.Given.{IsRowOf, RowsFit};
+ghost use Rattle.saber_plan.specs.GivenRows.{IsRowOf, RowsFit};
 ghost use Rattle.saber_join.specs.Rows.{AllOn};
 ghost use Rattle.saber_join.specs.Ties.{CanTie};
 ghost use Rattle.saber_join.specs.Keeping.{KeepsLefts, KeepsRights};
 ghost use Rattle.saber_join.specs.Open.{seen_parts, Takes, HoldsOpen};
 
-use crate::held::Held;
+use crate::held_rows::HeldRows;
 use crate::join::Join;
 use crate::pairs::Pairs;
 use crate::seen::Seen;
@@ -26,7 +26,7 @@ impl Join<'_> {
     // Keeps a row that is looked back on, if it lies in a window from `closed` on.
     fn note_row<'a>(
         &self,
-        held: &mut Held<'a>,
+        contents: &mut HeldRows<'a>,
         tie: &Option<Tie>,
         lately: &mut Lately,
         closed: u64,
@@ -39,16 +39,16 @@ impl Join<'_> {
         requires row { IsRowOf (tree_of self.now) row.now }
         requires tie { CanTie (tree_of self.now).predicate tie.now }
         ensures lately { lately.new ≡ frame (tree_of self.now) }
-        ensures lefts { OnOk result (KeepsLefts (tree_of self.now) tie.now closed (record { row = row.now; before = before.now } ∷ []) held.old.lefts held.new.lefts) }
-        ensures rights { OnOk result (KeepsRights (tree_of self.now) tie.now closed (record { row = row.now; before = before.now } ∷ []) held.old.rights held.new.rights) }
-        ensures windows { OnOk result (held.new.windows.entries ≡ held.old.windows.entries) }
+        ensures lefts { OnOk result (KeepsLefts (tree_of self.now) tie.now closed (record { row = row.now; before = before.now } ∷ []) contents.old.lefts contents.new.lefts) }
+        ensures rights { OnOk result (KeepsRights (tree_of self.now) tie.now closed (record { row = row.now; before = before.now } ∷ []) contents.old.rights contents.new.rights) }
+        ensures windows { OnOk result (contents.new.windows.entries ≡ contents.old.windows.entries) }
     {
         let (first, past) = self.row_windows(lately, row, before);
         let low = first.max(closed);
         if past <= low {
             return Ok(());
         }
-        held.note(self.key(tie, row), low, past, Seen::new(row, *before))
+        contents.note(self.key(tie, row), low, past, Seen::new(row, *before))
     }
 
     // Takes a row of the task into each window from `closed` on that has it.
@@ -56,7 +56,7 @@ impl Join<'_> {
     fn take_row<'a>(
         &self,
         alloc: Global,
-        held: &mut Held<'a>,
+        contents: &mut HeldRows<'a>,
         tie: &Option<Tie>,
         lately: &mut Lately,
         closed: u64,
@@ -68,13 +68,13 @@ impl Join<'_> {
         requires right { before.now.right ≤ 2 ^ 40 }
         requires row { IsRowOf (tree_of self.now) row.now }
         requires tie { CanTie (tree_of self.now).predicate tie.now }
-        requires lefts { AllOn (tree_of self.now) sides.Left held.old.lefts }
-        requires rights { AllOn (tree_of self.now) sides.Right held.old.rights }
+        requires lefts { AllOn (tree_of self.now) sides.Left contents.old.lefts }
+        requires rights { AllOn (tree_of self.now) sides.Right contents.old.rights }
         ensures lately { lately.new ≡ frame (tree_of self.now) }
-        ensures lefts { OnOk result (KeepsLefts (tree_of self.now) tie.now closed (record { row = row.now; before = before.now } ∷ []) held.old.lefts held.new.lefts) }
-        ensures rights { OnOk result (KeepsRights (tree_of self.now) tie.now closed (record { row = row.now; before = before.now } ∷ []) held.old.rights held.new.rights) }
-        ensures windows { OnOk result (Takes (tree_of self.now) tie.now closed (record { row = row.now; before = before.now }) held.old.lefts held.old.rights
-            (seen_parts held.old.windows.entries) (seen_parts held.new.windows.entries)) }
+        ensures lefts { OnOk result (KeepsLefts (tree_of self.now) tie.now closed (record { row = row.now; before = before.now } ∷ []) contents.old.lefts contents.new.lefts) }
+        ensures rights { OnOk result (KeepsRights (tree_of self.now) tie.now closed (record { row = row.now; before = before.now } ∷ []) contents.old.rights contents.new.rights) }
+        ensures windows { OnOk result (Takes (tree_of self.now) tie.now closed (record { row = row.now; before = before.now }) contents.old.lefts contents.old.rights
+            (seen_parts contents.old.windows.entries) (seen_parts contents.new.windows.entries)) }
     {
         let (first, past) = self.row_windows(lately, row, before);
         let low = first.max(closed);
@@ -83,14 +83,14 @@ impl Join<'_> {
         }
         let key = self.key(tie, row);
         let seen = Seen::new(row, *before);
-        held.meet(alloc, self, key, low, past, &seen)?;
-        held.note(key, low, past, seen)
+        contents.meet(alloc, self, key, low, past, &seen)?;
+        contents.note(key, low, past, seen)
     }
 
     // Keeps the rows that are looked back on and lie in windows from `closed` on.
     fn note_rows<'a>(
         &self,
-        held: &mut Held<'a>,
+        contents: &mut HeldRows<'a>,
         tie: &Option<Tie>,
         lately: &mut Lately,
         closed: u64,
@@ -101,14 +101,14 @@ impl Join<'_> {
         requires tie { CanTie (tree_of self.now).predicate tie.now }
         requires fits { RowsFit (tree_of self.now) before.now rows.now }
         ensures lately { lately.new ≡ frame (tree_of self.now) }
-        ensures lefts { OnOk result (KeepsLefts (tree_of self.now) tie.now closed (placed_after before.now rows.now) held.old.lefts held.new.lefts) }
-        ensures rights { OnOk result (KeepsRights (tree_of self.now) tie.now closed (placed_after before.now rows.now) held.old.rights held.new.rights) }
-        ensures windows { OnOk result (held.new.windows.entries ≡ held.old.windows.entries) }
+        ensures lefts { OnOk result (KeepsLefts (tree_of self.now) tie.now closed (placed_after before.now rows.now) contents.old.lefts contents.new.lefts) }
+        ensures rights { OnOk result (KeepsRights (tree_of self.now) tie.now closed (placed_after before.now rows.now) contents.old.rights contents.new.rights) }
+        ensures windows { OnOk result (contents.new.windows.entries ≡ contents.old.windows.entries) }
     {
         let mut mark = *before;
         for i in 0..rows.len() {
             let row = rows.row(i);
-            self.note_row(held, tie, lately, closed, &row, &mark)?;
+            self.note_row(contents, tie, lately, closed, &row, &mark)?;
             mark = self.step(&mark, &row);
         }
         Ok(())
@@ -133,29 +133,29 @@ impl Join<'_> {
         no_rows_no_part();
         rows_span();
         windows_get_pairs();
-        let mut held = Held::new(alloc, rows.len() / 2 + rows.len() / 4)?;
+        let mut contents = HeldRows::new(alloc, rows.len() / 2 + rows.len() / 4)?;
         let closed = self.closed_below(after);
         let tie = self.tie();
         let mut lately = self.lately();
-        match self.note_rows(&mut held, &tie, &mut lately, closed, before, back) {
+        match self.note_rows(&mut contents, &tie, &mut lately, closed, before, back) {
             Ok(()) => {}
             Err(want) => {
-                held.let_go();
+                contents.let_go();
                 return Err(want);
             }
         }
         let mut mark = *after;
         for i in 0..rows.len() {
             let row = rows.row(i);
-            match self.take_row(alloc, &mut held, &tie, &mut lately, closed, &row, &mark) {
+            match self.take_row(alloc, &mut contents, &tie, &mut lately, closed, &row, &mark) {
                 Ok(()) => {}
                 Err(want) => {
-                    held.let_go();
+                    contents.let_go();
                     return Err(want);
                 }
             }
             mark = self.step(&mark, &row);
         }
-        Ok((held.into_windows(), mark))
+        Ok((contents.into_windows(), mark))
     }
 }

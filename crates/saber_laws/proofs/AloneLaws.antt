@@ -4,7 +4,7 @@ use Rattle.saber_plan.specs.Inputs.{arrived}
 use Rattle.saber_plan.specs.Windows.{mark_at}
 use Rattle.saber_plan.specs.Needs.{part_here, piece_here}
 use Rattle.saber_laws.specs.Needs.{RowsMakeParts, RowsMakePieces}
-use Rattle.saber_plan.specs.ListFacts.{nothing_between}
+use Rattle.saber_plan.specs.Facts.Lists.{nothing_between}
 use Rattle.saber_laws.proofs.NeedLaws.{part_here_is, piece_here_is}
 
 pub part_alone : RowsMakeParts

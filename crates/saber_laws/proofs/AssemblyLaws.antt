@@ -22,12 +22,12 @@ use Rattle.saber_plan.specs.Merges.{join}
 use Rattle.saber_plan.specs.Parts.{Part, no_part, part, part_lines, answers_of, Numbers, join_numbers, merge}
 use Rattle.saber_plan.specs.Shares.{full, numbered, is_complete, shares_between}
 use Rattle.saber_plan.specs.Tasks.{Parts, unclosed, last_answers, plain_added, change_added, list_added, added, piece_between, taken_in, written_by, left_by}
-use Rattle.saber_plan.specs.MapFacts.{get-both, both_empty_left, entries-empty}
-use Rattle.saber_plan.specs.ListFacts.{slice-join, slice-front, nothing_behind}
-use Rattle.saber_plan.specs.PartFacts.{total, exact, merge-empty_left, merge-empty_right}
+use Rattle.saber_plan.specs.Facts.Maps.{get-both, both_empty_left, entries-empty}
+use Rattle.saber_plan.specs.Facts.Lists.{slice-join, slice-front, nothing_behind}
+use Rattle.saber_plan.specs.Facts.Parts.{total, exact, merge-empty_left, merge-empty_right}
 use Rattle.saber_laws.proofs.DirectLaws.{is_part, parts_between}
 use Rattle.saber_laws.proofs.WindowLaws.{closed_is, begun_is, closed_within_begun}
-use Rattle.saber_plan.specs.NumberFacts.{from-append}
+use Rattle.saber_plan.specs.Facts.Numbers.{from-append}
 use Rattle.saber_laws.proofs.NumberedLaws.{get_low, get_high, get_in, entries-numbered, flat_map-numbered, flat_map-from, filter_all, filter_none}
 use Rattle.saber_laws.proofs.EndLaws.{stays_ended, end_behind, closed_rises, begun_rises, join_at, part_upto, part_not_begun, lines_upto, lines_stay, answers_stay}
 

@@ -4,8 +4,8 @@ use Rattle.saber_plan.specs.Windows.{no_rows}
 use Rattle.saber_plan.specs.Parts.{join_numbers, merge}
 use Rattle.saber_laws.specs.Windows.{CutsAreOrdered}
 use Rattle.saber_laws.specs.Parts.{MergesGive, TakingInGives, NoRowsNoPart, PartsLieWithin}
-use Rattle.saber_plan.specs.MapFacts.{get-both}
-use Rattle.saber_plan.specs.PartFacts.{total}
+use Rattle.saber_plan.specs.Facts.Maps.{get-both}
+use Rattle.saber_plan.specs.Facts.Parts.{total}
 use Rattle.saber_laws.proofs.PartLaws.{group_part-empty}
 use Rattle.saber_laws.proofs.RowLaws.{Ordered-take, Ordered-slice}
 use Rattle.saber_laws.proofs.ShareLaws.{pair_part-nil}

@@ -10,10 +10,10 @@ use Rattle.saber_plan.specs.Inputs.{Input, arrived}
 use Rattle.saber_plan.specs.Windows.{Frame, Fits, no_rows, step_mark, mark_after, mark_of, ending, mark_at, begun, closed, begun_count, closed_count, has, Ordered, place, placed_after, placed, inside}
 use Rattle.saber_plan.specs.Answers.{by_shape, frame, lines, window_answers, passing}
 use Rattle.saber_plan.specs.Parts.{no_part, part, part_lines, part_answers, row_part, group_part, pair_part, join_numbers, merge}
-use Rattle.saber_plan.specs.ListFacts.{Each, each-filter, slice-join, slice-front, nothing_behind}
-use Rattle.saber_plan.specs.MapFacts.{both_empty_right}
-use Rattle.saber_plan.specs.PartFacts.{total, exact, merge-empty_right}
-use Rattle.saber_plan.specs.RowFacts.{mark-append, length-placed}
+use Rattle.saber_plan.specs.Facts.Lists.{Each, each-filter, slice-join, slice-front, nothing_behind}
+use Rattle.saber_plan.specs.Facts.Maps.{both_empty_right}
+use Rattle.saber_plan.specs.Facts.Parts.{total, exact, merge-empty_right}
+use Rattle.saber_plan.specs.Facts.Rows.{mark-append, length-placed}
 use Rattle.saber_laws.proofs.WindowLaws.{begun_ending, begun_count_ending, closed_ending, closed_count_ending, closed_count_rises, begun_count_rises, closed_after}
 use Rattle.saber_laws.proofs.RowLaws.{take-placed, slice-placed, Ordered-slice}
 use Rattle.saber_laws.proofs.PartLaws.{group_part-empty}

@@ -9,7 +9,7 @@ use Rattle.saber_plan.specs.Trees.{Tree}
 use Rattle.saber_plan.specs.Inputs.{arrived}
 use Rattle.saber_plan.specs.Windows.{has_windows, step_mark, mark_after, mark_of, ending, last_mark, closed_count, begun_count, past_count, kind_of, from}
 use Rattle.saber_plan.specs.Answers.{frame, entry_lines, key_cmp}
-use Rattle.saber_plan.specs.MapFacts.{entries-empty}
+use Rattle.saber_plan.specs.Facts.Maps.{entries-empty}
 use Rattle.saber_plan.specs.Parts.{Part, part_lines, answers_of}
 use Rattle.saber_plan.specs.Shares.{full, part_here, is_closing, is_pending, is_opening, is_complete, of_kind, shares_here}
 use Rattle.saber_plan.specs.Tasks.{cut, row_tasks, task_count, unclosed}

@@ -13,8 +13,8 @@ use Rattle.saber_plan.specs.Parts.{part}
 use Rattle.saber_plan.specs.Tasks.{cut, upto, piece}
 use Rattle.saber_plan.specs.Needs.{lies_open, first_place, first_open, free, part_here, piece_here, back_rows, task_rows, task_ends, back_mark}
 use Rattle.saber_laws.proofs.RowLaws.{slice-placed, Ordered-take, take-placed}
-use Rattle.saber_plan.specs.ListFacts.{Each, each-weaker, slice-join, slice-front, nothing_behind}
-use Rattle.saber_plan.specs.RowFacts.{length-placed}
+use Rattle.saber_plan.specs.Facts.Lists.{Each, each-weaker, slice-join, slice-front, nothing_behind}
+use Rattle.saber_plan.specs.Facts.Rows.{length-placed}
 use Rattle.saber_laws.proofs.PairLaws.{Rising, placed_from, placed_below, placed_rising}
 use Rattle.saber_laws.proofs.EndLaws.{closed_on}
 use Rattle.saber_laws.proofs.TaskCutLaws.{cut_rises, cut_keeps, row_before, row_from, cut_by}

@@ -3,7 +3,7 @@ use Rattle.std.proofs.Common.{◌≡◌, ℕ, ◌+◌, ◌<◌, ◌≤◌, List,
 use Rattle.saber_plan.specs.declared.rows.Row.{Row}
 use Rattle.saber_plan.specs.declared.rows.RowCause.TheVariants.{TooManyLines, TooLong}
 use Rattle.saber_plan.specs.Rows.{Line, onto_line, lines_of, End, cut, bad, Read, before, stamp, SideRules, Place, start, Judged, skipped, taken, refused, judge_at, timed, accept, without_cr, is_known, no_more, after_line, read_by}
-use Rattle.saber_plan.specs.LineFacts.{length-without_cr, judged_long, long_known, long_open}
+use Rattle.saber_plan.specs.Facts.Lines.{length-without_cr, judged_long, long_known, long_open}
 use Rattle.saber_plan.specs.Inputs.{holds_up, alone, merged_rows}
 use Rattle.saber_laws.specs.Fronts.{IsFirstOf, AllAreFirst, WholeLinesAreFirst, MergesKeepFirst, InputsKeepFirst}
 use Rattle.saber_laws.proofs.FileLaws.{From}

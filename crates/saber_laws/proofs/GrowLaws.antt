@@ -7,7 +7,7 @@ use Rattle.saber_plan.specs.Windows.{last_mark}
 use Rattle.saber_plan.specs.Answers.{by_shape, frame}
 use Rattle.saber_plan.specs.Tasks.{cut, upto, places, piece, piece_between}
 use Rattle.saber_plan.specs.Needs.{first_open, free, back_rows, task_rows, back_mark}
-use Rattle.saber_plan.specs.ListFacts.{slice-take}
+use Rattle.saber_plan.specs.Facts.Lists.{slice-take}
 use Rattle.saber_laws.proofs.TaskLaws.{piece-take}
 use Rattle.saber_laws.proofs.ListLaws.{stay}
 use Rattle.saber_laws.proofs.TaskCutLaws.{cut_rises, cut_keeps, cut-upto, upto-upto}

@@ -10,7 +10,7 @@ use Rattle.saber_plan.specs.Inputs.{Input, arrived}
 use Rattle.saber_plan.specs.Windows.{mark_at, closed_count, begun_count}
 use Rattle.saber_plan.specs.Answers.{frame}
 use Rattle.saber_plan.specs.Merges.{join}
-use Rattle.saber_plan.specs.MapFacts.{get-both}
+use Rattle.saber_plan.specs.Facts.Maps.{get-both}
 use Rattle.saber_plan.specs.Parts.{Part, part, merge}
 use Rattle.saber_plan.specs.Shares.{full, numbered, is_closed, is_pending, is_opening, of_kind, entries_in, handed_between}
 use Rattle.saber_plan.specs.Tasks.{unclosed}

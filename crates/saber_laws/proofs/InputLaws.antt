@@ -13,8 +13,8 @@ use Rattle.saber_plan.specs.Windows.{by_side, step_mark, mark_after, in_order, c
 use Rattle.saber_plan.specs.Answers.{is_left, is_right}
 use Rattle.saber_plan.specs.Inputs.{holds_up, alone, merged_rows, merged}
 use Rattle.saber_laws.specs.Inputs.{on}
-use Rattle.saber_plan.specs.ListFacts.{Each}
-use Rattle.saber_plan.specs.RowFacts.{Ordered-none}
+use Rattle.saber_plan.specs.Facts.Lists.{Each}
+use Rattle.saber_plan.specs.Facts.Rows.{Ordered-none}
 
 -- ---- induction along a merge
 

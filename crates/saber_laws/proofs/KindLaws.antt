@@ -13,7 +13,7 @@ use Rattle.saber_plan.specs.Parts.{Part, merge}
 use Rattle.saber_plan.specs.Shares.{full, numbered, part_here, is_closing, is_pending, is_opening, of_kind}
 use Rattle.saber_plan.specs.Needs.{closing_here, pending_here, opening_here}
 use Rattle.saber_laws.specs.Needs.{PartsByKind, KindsAreTakenIn}
-use Rattle.saber_plan.specs.MapFacts.{join-none, get-both, both-assoc}
+use Rattle.saber_plan.specs.Facts.Maps.{join-none, get-both, both-assoc}
 use Rattle.saber_laws.proofs.DirectLaws.{is_part, parts_here}
 use Rattle.saber_laws.proofs.PartLaws.{merge-assoc}
 use Rattle.saber_laws.proofs.NumberedLaws.{get_low, get_in, get_high}

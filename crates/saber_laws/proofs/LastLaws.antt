@@ -14,7 +14,7 @@ use Rattle.saber_plan.specs.Needs.{first_window, past_window, last_window, lies_
 use Rattle.std.proofs.lemmas.List.Elements.{filter-append}
 use Rattle.saber_laws.proofs.WindowLaws.{closed_is}
 use Rattle.saber_laws.proofs.RowLaws.{take-placed, Ordered-take}
-use Rattle.saber_plan.specs.ListFacts.{Each, each-weaker, dropped, slice-join, slice-front, slice-take}
+use Rattle.saber_plan.specs.Facts.Lists.{Each, each-weaker, dropped, slice-join, slice-front, slice-take}
 use Rattle.saber_laws.proofs.PairLaws.{placed_below, placed_rising}
 use Rattle.saber_laws.proofs.TaskCutLaws.{cut_rises, cut_keeps, row_before, row_from}
 use Rattle.saber_laws.proofs.NeedLaws.{has_is, lies_found, lies_at, Begun_by, input_begun, each-take, each-both, none_early}

@@ -6,7 +6,7 @@ use Rattle.saber_plan.specs.Tasks.{cut}
 use Rattle.saber_plan.specs.Needs.{free}
 use Rattle.saber_plan.specs.Shares.{shares_here, handed_here}
 use Rattle.saber_laws.specs.Shares.{SharesAreLocal, SharesNeedNoMore, HandedAreLocal, HandedNeedsNoMore}
-use Rattle.saber_plan.specs.ListFacts.{nothing_between}
+use Rattle.saber_plan.specs.Facts.Lists.{nothing_between}
 use Rattle.saber_laws.proofs.TaskCutLaws.{cut_rises, cut_keeps}
 use Rattle.saber_laws.proofs.NeedLaws.{shares_here_is, handed_here_is}
 use Rattle.saber_laws.proofs.FreeLaws.{free_at_most, free_not_past, free_ended}

@@ -7,7 +7,7 @@ use Rattle.saber_plan.specs.Rows.{End, RowFits, before}
 use Rattle.saber_plan.specs.Windows.{by_side}
 use Rattle.saber_plan.specs.Inputs.{merged_rows}
 use Rattle.saber_laws.specs.Inputs.{FitsItsSide, MergesFit, MergesAreShort, MergesBegin, MergesEnd, MergeTurns, SidesAreCounted}
-use Rattle.saber_plan.specs.ListFacts.{Each, all_weaker}
+use Rattle.saber_plan.specs.Facts.Lists.{Each, all_weaker}
 use Rattle.saber_laws.proofs.InputLaws.{both_sides, alone_holds, merged_left, merged_right, merged_whole, merged_stops_left, merged_rest_right, merged_stops_right, merged_rest_left, merged_takes, mark_counts, left_positions, right_positions}
 
 each_of : {A : Type 0} (P : A → Type 0) (xs : List A) → AllByRecursion P xs → Each P xs

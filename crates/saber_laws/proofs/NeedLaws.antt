@@ -23,7 +23,7 @@ use Rattle.saber_plan.specs.Tasks.{piece_between}
 use Rattle.saber_plan.specs.Needs.{first_window, past_window, lies_open, first_place, first_open, piece_here}
 use Rattle.saber_laws.proofs.WindowLaws.{spans_is, closed_is, begun_is, begins, begun_after, begun_ending}
 use Rattle.saber_laws.proofs.RowLaws.{slice-placed, take-placed, inside-join, inside-closed, Ordered-take}
-use Rattle.saber_plan.specs.ListFacts.{Each, each-filter, each-weaker, dropped, slice-join, slice-front, nothing_behind}
+use Rattle.saber_plan.specs.Facts.Lists.{Each, each-filter, each-weaker, dropped, slice-join, slice-front, nothing_behind}
 use Rattle.saber_laws.proofs.PairLaws.{Rising, pair_part-none, placed_below, placed_rising, behind, behind_after}
 use Rattle.saber_laws.proofs.ShareLaws.{inside_below, shaped}
 use Rattle.saber_laws.proofs.PartLaws.{group_part-empty}

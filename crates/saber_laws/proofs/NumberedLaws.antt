@@ -11,8 +11,8 @@ use Rattle.std.specs.FinMap.{get, entries, from_entries, find, is_sorted, get-fr
 use Rattle.std.specs.FinMap.Entries.{below_all}
 use Rattle.saber_plan.specs.Windows.{from}
 use Rattle.saber_plan.specs.Tasks.{numbered}
-use Rattle.saber_plan.specs.ListFacts.{and_T}
-use Rattle.saber_plan.specs.MapFacts.{entries-from_rising}
+use Rattle.saber_plan.specs.Facts.Lists.{and_T}
+use Rattle.saber_plan.specs.Facts.Maps.{entries-from_rising}
 
 pub same_number : (i a : ℕ) → i ≡ a → eq_by_cmp nat_cmp i a ≡ true
 same_number i a e = grind (arith, nat_tests)

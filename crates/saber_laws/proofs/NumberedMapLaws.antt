@@ -1,6 +1,6 @@
 -- Maps of the parts of windows in a row.
 use Rattle.saber_laws.specs.Numbers.{NumbersFollow, TextsAgree, NumberedMapsGive}
-use Rattle.saber_plan.specs.NumberFacts.{from-append}
+use Rattle.saber_plan.specs.Facts.Numbers.{from-append}
 use Rattle.saber_laws.proofs.NumberedLaws.{flat_map-from, get_low, get_in, get_high, entries-numbered}
 
 pub numbers_follow : NumbersFollow

@@ -12,9 +12,9 @@ use Rattle.saber_plan.specs.Merges.{join}
 use Rattle.saber_plan.specs.Parts.{Part, no_part, part, Numbers, merge}
 use Rattle.saber_plan.specs.Shares.{full}
 use Rattle.saber_plan.specs.Tasks.{unclosed, piece_between}
-use Rattle.saber_plan.specs.MapFacts.{get-both}
+use Rattle.saber_plan.specs.Facts.Maps.{get-both}
 use Rattle.saber_laws.specs.Shares.{Between, OpenPartsAre, PiecePartsAre, TakenPartsAre}
-use Rattle.saber_plan.specs.PartFacts.{merge-empty_left}
+use Rattle.saber_plan.specs.Facts.Parts.{merge-empty_left}
 use Rattle.saber_laws.proofs.WindowLaws.{begun_is, closed_within_begun}
 use Rattle.saber_laws.proofs.NumberedLaws.{get_low, get_in, get_high}
 use Rattle.saber_laws.proofs.DirectLaws.{is_part, parts_between}

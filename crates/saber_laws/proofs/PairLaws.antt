@@ -24,9 +24,9 @@ use Rattle.saber_plan.specs.Merges.{join}
 use Rattle.saber_plan.specs.declared.plans.Item.{Item}
 use Rattle.saber_plan.specs.declared.plans.Item.TheVariants.{Count, Sum, Min, Max, Value}
 use Rattle.saber_plan.specs.Parts.{no_part, pair_part, later, Numbers, pair_numbers, summed, least, greatest, plain, shown, answers_of, answers_in, join_numbers, merge}
-use Rattle.saber_plan.specs.ListFacts.{Each, each-filter, kept, dropped, each-map, each-weaker, each-all, filter-flat_map, flat_map-same, flat_map-none, T_parts, and_T}
-use Rattle.saber_plan.specs.MapFacts.{get-both, join-none, entries-from_rising}
-use Rattle.saber_plan.specs.PartFacts.{total, exact}
+use Rattle.saber_plan.specs.Facts.Lists.{Each, each-filter, kept, dropped, each-map, each-weaker, each-all, filter-flat_map, flat_map-same, flat_map-none, T_parts, and_T}
+use Rattle.saber_plan.specs.Facts.Maps.{get-both, join-none, entries-from_rising}
+use Rattle.saber_plan.specs.Facts.Parts.{total, exact}
 
 -- ---- pairs of earlier and later rows
 

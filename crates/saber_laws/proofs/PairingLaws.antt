@@ -19,9 +19,9 @@ use Rattle.saber_plan.specs.Answers.{key_cmp, pair_key, pairs_with, pairs, is_le
 use Rattle.saber_plan.specs.Merges.{joined}
 use Rattle.saber_plan.specs.Parts.{Part, Numbers, pair_numbers, pair_part, later, join_numbers, merge}
 use Rattle.saber_plan.specs.Pairing.{row_pairs, with_entries}
-use Rattle.saber_plan.specs.MapFacts.{equal_if, both-empty_right, entries-from_rising, not_below, take_one}
-use Rattle.saber_plan.specs.ListFacts.{Each, each-filter, each-map, each-weaker, each-all, kept, dropped, filter-flat_map, flat_map-same, flat_map-none, T_parts, and_T}
-use Rattle.saber_plan.specs.PartFacts.{total, exact}
+use Rattle.saber_plan.specs.Facts.Maps.{equal_if, both-empty_right, entries-from_rising, not_below, take_one}
+use Rattle.saber_plan.specs.Facts.Lists.{Each, each-filter, each-map, each-weaker, each-all, kept, dropped, filter-flat_map, flat_map-same, flat_map-none, T_parts, and_T}
+use Rattle.saber_plan.specs.Facts.Parts.{total, exact}
 use Rattle.saber_laws.proofs.PairLaws.{Rising, rising-filter, Numbered, with-append, find_early, sorted_with, sorted_all, get-pair_part, pair_part-join, sorted_pairs}
 
 -- ---- late pairs

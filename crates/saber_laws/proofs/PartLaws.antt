@@ -18,8 +18,8 @@ use Rattle.saber_plan.specs.Values.{value}
 use Rattle.saber_plan.specs.Answers.{key_cmp, with_key, keys_of, key, rows_of_key, answers, item_answer, first_by, earlier, values_of, groups}
 use Rattle.saber_plan.specs.Merges.{join}
 use Rattle.saber_plan.specs.Parts.{Part, no_part, group_part, Numbers, numbers, summed, least, greatest, plain, zip_by, join_numbers, shown, answers_of, answers_in, merge}
-use Rattle.saber_plan.specs.PartFacts.{total, exact, numbers_if, keyed, get-group_part}
-use Rattle.saber_plan.specs.MapFacts.{get-both, both-assoc, entries-empty}
+use Rattle.saber_plan.specs.Facts.Parts.{total, exact, numbers_if, keyed, get-group_part}
+use Rattle.saber_plan.specs.Facts.Maps.{get-both, both-assoc, entries-empty}
 
 -- ---- the join of numbers
 

@@ -15,7 +15,7 @@ use Rattle.saber_plan.specs.Tasks.{full, numbered, is_complete}
 use Rattle.saber_plan.specs.Needs.{is_closing, is_pending, is_opening, of_kind, parts_of}
 use Rattle.saber_laws.specs.Kinds.{KindRanges, KindsAreRanges}
 use Rattle.saber_laws.proofs.WindowLaws.{closed_count_rises, begun_count_rises, closed_within_begun, closed_count_ending, begun_count_ending}
-use Rattle.saber_plan.specs.NumberFacts.{from-append}
+use Rattle.saber_plan.specs.Facts.Numbers.{from-append}
 use Rattle.saber_laws.proofs.NumberedLaws.{get_low, get_in, get_high, filter_all, filter_none}
 use Rattle.saber_laws.proofs.AssemblyLaws.{count_kind, kind_is}
 

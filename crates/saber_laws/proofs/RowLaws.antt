@@ -4,8 +4,8 @@ use Rattle.std.proofs.lemmas.List.Elements.{filter-append}
 use Rattle.saber_plan.specs.declared.rows.Row.{Row}
 use Rattle.saber_plan.specs.declared.windows.Mark.{Mark}
 use Rattle.saber_plan.specs.Windows.{Frame, no_rows, step_mark, mark_after, mark_of, has, begun, closed, Ordered, placed_after, placed, inside}
-use Rattle.saber_plan.specs.ListFacts.{slice-join, slice-take, slice-front}
-use Rattle.saber_plan.specs.RowFacts.{Ordered-append}
+use Rattle.saber_plan.specs.Facts.Lists.{slice-join, slice-take, slice-front}
+use Rattle.saber_plan.specs.Facts.Rows.{Ordered-append}
 use Rattle.saber_laws.proofs.WindowLaws.{not_begun_has_none, closed_has_none}
 
 pub take-placed : (n : ℕ) (m : Mark) (xs : List Row) → take n (placed_after m xs) ≡ placed_after m (take n xs)

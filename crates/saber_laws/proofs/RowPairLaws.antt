@@ -6,8 +6,8 @@ use Rattle.saber_plan.specs.Windows.{place, placed_after, mark_after, has}
 use Rattle.saber_plan.specs.Answers.{frame}
 use Rattle.saber_plan.specs.Parts.{pair_part}
 use Rattle.saber_laws.specs.Pairs.{after_rows, RowsAddPairs, WindowsGetPairs, PairsAreInOrder}
-use Rattle.saber_plan.specs.ListFacts.{Each, each-filter}
-use Rattle.saber_plan.specs.RowFacts.{placed-append}
+use Rattle.saber_plan.specs.Facts.Lists.{Each, each-filter}
+use Rattle.saber_plan.specs.Facts.Rows.{placed-append}
 use Rattle.saber_laws.proofs.PairLaws.{rising-filter, placed_below, placed_rising, behind, behind_after}
 use Rattle.saber_laws.proofs.PairingLaws.{pair_part-push, window-push, entries-late_pairs}
 

@@ -13,9 +13,9 @@ use Rattle.saber_plan.specs.Windows.{Placed, place}
 use Rattle.saber_plan.specs.Answers.{key_cmp, row_key, row_answers, picked}
 use Rattle.saber_plan.specs.Merges.{join}
 use Rattle.saber_plan.specs.Parts.{no_part, row_part, later, row_numbers, answers_in, join_numbers, merge}
-use Rattle.saber_plan.specs.ListFacts.{Each, each-filter, each-map, each-weaker, and_T}
-use Rattle.saber_plan.specs.MapFacts.{get-both, join-none, equal_if, entries-from_rising}
-use Rattle.saber_plan.specs.PartFacts.{total, exact}
+use Rattle.saber_plan.specs.Facts.Lists.{Each, each-filter, each-map, each-weaker, and_T}
+use Rattle.saber_plan.specs.Facts.Maps.{get-both, join-none, equal_if, entries-from_rising}
+use Rattle.saber_plan.specs.Facts.Parts.{total, exact}
 use Rattle.saber_laws.proofs.PairLaws.{Numbered, Rising, rising-filter, int_less, below-map, answered, pair-shown}
 
 picked-append : (q : Tree) (us vs : List Placed) → picked q (row_numbers q) (us ++ vs) ≡ picked q (row_numbers q) us ++ picked q (row_numbers q) vs

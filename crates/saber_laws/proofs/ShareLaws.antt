@@ -10,11 +10,11 @@ use Rattle.saber_plan.specs.Values.{passes}
 use Rattle.saber_plan.specs.Windows.{Frame, no_rows, mark_of, has, begun, closed, Ordered, Placed, place, placed, inside}
 use Rattle.saber_plan.specs.Answers.{passing, picked, row_answers, groups, pairs, pair_answers, entries_in, entry_lines, by_shape, frame, lines, window_answers}
 use Rattle.saber_plan.specs.Parts.{no_part, part, part_lines, part_answers, answers_in, row_part, group_part, pair_part, merge}
-use Rattle.saber_plan.specs.PartFacts.{merge-empty_right}
+use Rattle.saber_plan.specs.Facts.Parts.{merge-empty_right}
 use Rattle.saber_laws.proofs.PartLaws.{group_part-append, group_part-empty, answers-group_part}
 use Rattle.saber_laws.proofs.RowLaws.{inside-join, inside-take, inside-not_begun, inside-closed, slice-placed, take-placed}
 use Rattle.saber_laws.proofs.RowPartLaws.{row_part-join, row_part-nil, answers-row_part}
-use Rattle.saber_plan.specs.ListFacts.{Each, each-filter, each-weaker, slice-front}
+use Rattle.saber_plan.specs.Facts.Lists.{Each, each-filter, each-weaker, slice-front}
 use Rattle.saber_laws.proofs.PairLaws.{Rising, rising-filter, pair_part-join, pair_part-none, answers-pair_part, placed_from, placed_below, placed_rising, behind_after}
 
 pub passing-append : (q : Tree) (us vs : List Placed) → passing q (us ++ vs) ≡ passing q us ++ passing q vs

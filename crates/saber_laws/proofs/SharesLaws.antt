@@ -16,7 +16,7 @@ use Rattle.saber_plan.specs.Tasks.{piece_between}
 use Rattle.saber_laws.specs.Shares.{Between, SharesMakePiece, SharesRise}
 use Rattle.saber_laws.proofs.WindowLaws.{closed_within_begun}
 use Rattle.saber_laws.proofs.DirectLaws.{is_part}
-use Rattle.saber_plan.specs.NumberFacts.{from-append}
+use Rattle.saber_plan.specs.Facts.Numbers.{from-append}
 use Rattle.saber_laws.proofs.NumberedLaws.{entries-numbered}
 use Rattle.saber_laws.proofs.AssemblyLaws.{count_kind, kind_is}
 use Rattle.saber_laws.proofs.EndLaws.{closed_rises, begun_rises}

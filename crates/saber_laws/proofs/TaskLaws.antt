@@ -15,8 +15,8 @@ use Rattle.saber_plan.specs.Parts.{Part, part, part_lines, row_part, group_part,
 use Rattle.saber_plan.specs.declared.windows.Kind.{Kind}
 use Rattle.saber_plan.specs.Shares.{full, numbered, is_complete, is_closing, is_pending, is_opening, of_kind, piece_in, shares_between}
 use Rattle.saber_plan.specs.Tasks.{cut, upto, unclosed, unclosed_by_list, last_answers, kept_behind, by_windows, nothing_kept, plain_added, change_added, list_added, added, take_in, joined_to, stage_at, PiecesMakeText, piece, piece_between, written_by, left_by}
-use Rattle.saber_plan.specs.ListFacts.{slice-take}
-use Rattle.saber_plan.specs.PartFacts.{merge-empty_left}
+use Rattle.saber_plan.specs.Facts.Lists.{slice-take}
+use Rattle.saber_plan.specs.Facts.Parts.{merge-empty_left}
 use Rattle.saber_laws.proofs.PartLaws.{group_part-append}
 use Rattle.saber_laws.proofs.RowLaws.{slice-placed}
 use Rattle.saber_laws.proofs.WindowLaws.{closed_within_begun}

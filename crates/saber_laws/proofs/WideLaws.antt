@@ -6,7 +6,7 @@ use Rattle.saber_plan.specs.Windows.{from}
 use Rattle.saber_plan.specs.Tasks.{task_count}
 use Rattle.saber_plan.specs.Needs.{need, first_number}
 use Rattle.saber_laws.specs.Needs.{FirstWideIs, NoneIsWide}
-use Rattle.saber_plan.specs.NumberFacts.{from-append}
+use Rattle.saber_plan.specs.Facts.Numbers.{from-append}
 use Rattle.saber_laws.proofs.NumberedLaws.{filter_none}
 
 one_more : (p : ℕ → Bool) (a n : ℕ) → p a ≡ true → first_number (filter p (from a (suc n))) ≡ Some a

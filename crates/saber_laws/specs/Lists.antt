@@ -7,7 +7,7 @@ use Rattle.saber_plan.specs.declared.rows.Row.{Row}
 use Rattle.saber_plan.specs.declared.windows.Measure.TheVariants.{Rows}
 use Rattle.saber_plan.specs.Trees.{Tree}
 use Rattle.saber_plan.specs.Inputs.{Input}
-use Rattle.saber_plan.specs.Given.{RowsFit}
+use Rattle.saber_plan.specs.GivenRows.{RowsFit}
 use Rattle.saber_plan.specs.Windows.{Fits, one, no_rows, count_to}
 use Rattle.saber_plan.specs.Answers.{frame, substream, past_in, begun_in, closed_in_turn}
 use Rattle.saber_plan.specs.Tasks.{unclosed_by_list, places, places_after}

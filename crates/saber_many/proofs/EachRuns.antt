@@ -3,7 +3,7 @@ use Rattle.std.proofs.Common.{◌≡◌, ◌≤◌, ℕ, ◌+◌, Bool, true, fa
 use Rattle.std.specs.Prelude.{List, [], ◌∷◌, map}
 use Rattle.std.specs.List.{AllByRecursion, AllZip}
 use Rattle.saber_ring.specs.Shows.{extra}
-use Rattle.saber_crew.specs.declared.feed.Fed.{Fed}
+use Rattle.saber_crew.specs.declared.dispatch.Dispatched.{Dispatched}
 use Rattle.saber_crew.specs.Runs.{RunsTo}
 use Rattle.saber_many.specs.declared.member.Member.{Member}
 use Rattle.saber_many.specs.Sharing.{ToldAt, StoppedAt, GoesBy, MemberAt, StopsBy, AreStages}
@@ -14,14 +14,14 @@ not_false e = cc
 
 module _ {T S P F V : Type 0} (is_told : T → ℕ → Type 0) (alone : T → Type 0) (upto : T → ℕ → T) (is_stage : T → ℕ → Bool → S → Type 0)
     (fronts : (told : T) (j k : ℕ) → k ≤ j → upto (upto told j) k ≡ upto told k)
-    (given : P → F → List T → ℕ → Type 0) (over : P → Type 0) (members : V → List (Member S)) (supply : P) (from : F) (base : List T) (stage : V) (fed : Fed)
-    (r : RunsTogether is_told alone upto is_stage given over members supply from base stage fed) where
+    (given : P → F → List T → ℕ → Type 0) (over : P → Type 0) (members : V → List (Member S)) (supply : P) (from : F) (base : List T) (stage : V) (dispatched : Dispatched)
+    (r : RunsTogether is_told alone upto is_stage given over members supply from base stage dispatched) where
   abbrev Runs : T → T → Member S → Type 0
-  Runs = RunsAlone is_told alone upto is_stage given over members supply fed r.count
+  Runs = RunsAlone is_told alone upto is_stage given over members supply dispatched r.count
 
   -- one that stopped
-  stopped : (t : T) (s : S) (m n : ℕ) → n ≡ m → m ≤ fed.tasks → is_told t r.count → StoppedAt upto is_stage (upto t m) n s
-      → RunsTo is_told upto is_stage (IsOnly t r.count) (over supply) (upto t 0) s fed
+  stopped : (t : T) (s : S) (m n : ℕ) → n ≡ m → m ≤ dispatched.tasks → is_told t r.count → StoppedAt upto is_stage (upto t m) n s
+      → RunsTo is_told upto is_stage (IsOnly t r.count) (over supply) (upto t 0) s dispatched
   stopped t s m n same within known is =
       let front : is.front ≡ upto t (is.behind + 1) =
       ⊎_elim
@@ -49,12 +49,12 @@ module _ {T S P F V : Type 0} (is_told : T → ℕ → Type 0) (alone : T → Ty
       }
 
   module _ (x : Bool) (is : r.stopped ≡ x) where
-    within_is : r.k + extra x ≤ fed.tasks
-    within_is = subst (λ z. r.k + extra z ≤ fed.tasks) is r.within
+    within_is : r.k + extra x ≤ dispatched.tasks
+    within_is = subst (λ z. r.k + extra z ≤ dispatched.tasks) is r.within
 
   -- one that goes on with all behind it, or stopped
   by_goes : r.stopped ≡ false → (t : T) (s : S) (goes : Bool) → is_told t r.count → GoesBy upto is_stage goes (upto t (r.k + extra false)) r.k s
-      → RunsTo is_told upto is_stage (IsOnly t r.count) (over supply) (upto t 0) s fed
+      → RunsTo is_told upto is_stage (IsOnly t r.count) (over supply) (upto t 0) s dispatched
   by_goes e t s true known is = record {
     told = t;
     count = r.count;
@@ -72,7 +72,7 @@ module _ {T S P F V : Type 0} (is_told : T → ℕ → Type 0) (alone : T → Ty
   by_goes e t s false known is = stopped t s (r.k + extra false) r.k (omega arith) (within_is false e) known is
 
   by_stop : r.stopped ≡ true → (t : T) (s : S) → is_told t r.count → StoppedAt upto is_stage (upto t (r.k + extra true)) (r.k + 1) s
-      → RunsTo is_told upto is_stage (IsOnly t r.count) (over supply) (upto t 0) s fed
+      → RunsTo is_told upto is_stage (IsOnly t r.count) (over supply) (upto t 0) s dispatched
   by_stop e t s known is = stopped t s (r.k + extra true) (r.k + 1) (omega arith) (within_is true e) known is
 
   all_go : r.stopped ≡ false → (told : List T) (ms : List (Member S)) → AllByRecursion (ToldAt is_told alone r.count) told
@@ -93,5 +93,5 @@ module _ {T S P F V : Type 0} (is_told : T → ℕ → Type 0) (alone : T → Ty
   by_end false e at = all_go e r.told (members stage) r.known at
   by_end true e at = all_stop e r.told (members stage) r.known at
 
-  pub each : RunsEach is_told alone upto is_stage given over members supply from base stage fed
+  pub each : RunsEach is_told alone upto is_stage given over members supply from base stage dispatched
   each = (r.told, r.count, r.is_given, subst (λ b. AllThree Runs r.told b (members stage)) r.base_is (by_end r.stopped refl r.stage_is))

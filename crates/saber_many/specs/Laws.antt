@@ -1,6 +1,6 @@
 -- What a run of several works is to each of them.
 use Rattle.std.specs.Prelude.{◌≡◌, ℕ, Bool, List, [], ◌∷◌}
-use Rattle.saber_crew.specs.declared.feed.Fed.{Fed}
+use Rattle.saber_crew.specs.declared.dispatch.Dispatched.{Dispatched}
 use Rattle.saber_crew.specs.Runs.{RunsTo}
 use Rattle.saber_many.specs.declared.member.Member.{Member}
 use Rattle.saber_many.specs.Sharing.{AreTold, AreStages}
@@ -22,19 +22,19 @@ IsOnly told count u d = (u ≡ told) × (d ≡ count)
 module _ {T S P F V : Type 0} (is_told : T → ℕ → Type 0) (alone : T → Type 0) (upto : T → ℕ → T) (is_stage : T → ℕ → Bool → S → Type 0)
     (given : P → F → List T → ℕ → Type 0) (over : P → Type 0) (members : V → List (Member S)) where
   -- a run of all, over these base data
-  abbrev pub RunsTogether : P → F → List T → V → Fed → Type 0
-  RunsTogether supply from base stage fed =
+  abbrev pub RunsTogether : P → F → List T → V → Dispatched → Type 0
+  RunsTogether supply from base stage dispatched =
       RunsTo (AreTold is_told alone) (all_upto upto) (λ told k stopped s. AreStages upto is_stage told k stopped (members s))
-      (given supply from) (over supply) base stage fed
+      (given supply from) (over supply) base stage dispatched
 
   -- a run of one alone, over its own base data and by its own stage, to which so many tasks with these data were given
-  abbrev pub RunsAlone : P → Fed → ℕ → T → T → Member S → Type 0
-  RunsAlone supply fed count told base member = RunsTo is_told upto is_stage (IsOnly told count) (over supply) base member.stage fed
+  abbrev pub RunsAlone : P → Dispatched → ℕ → T → T → Member S → Type 0
+  RunsAlone supply dispatched count told base member = RunsTo is_told upto is_stage (IsOnly told count) (over supply) base member.stage dispatched
 
   -- data of so many tasks were given for all, and of each it is a run with its own, whatever became of the others
-  abbrev pub RunsEach : P → F → List T → V → Fed → Type 0
-  RunsEach supply from base stage fed =
-      (told : List T) × (count : ℕ) × given supply from told count × AllThree (RunsAlone supply fed count) told base (members stage)
+  abbrev pub RunsEach : P → F → List T → V → Dispatched → Type 0
+  RunsEach supply from base stage dispatched =
+      (told : List T) × (count : ℕ) × given supply from told count × AllThree (RunsAlone supply dispatched count) told base (members stage)
 
   abbrev pub EachRuns : Type 0
-  EachRuns = (supply : P) (from : F) (base : List T) (stage : V) (fed : Fed) → RunsTogether supply from base stage fed → RunsEach supply from base stage fed
+  EachRuns = (supply : P) (from : F) (base : List T) (stage : V) (dispatched : Dispatched) → RunsTogether supply from base stage dispatched → RunsEach supply from base stage dispatched

@@ -5,11 +5,11 @@ use Rattle.saber_plan.specs.declared.plans.Shape.TheVariants.{Select, Group, Joi
 use Rattle.saber_plan.specs.Trees.{Tree}
 use Rattle.saber_plan.specs.Answers.{by_shape}
 use Rattle.saber_laws.proofs.TaskCutLaws.{upto-upto}
-use Rattle.saber_assembly.specs.declared.work.Told.{Told}
+use Rattle.saber_assembly.specs.declared.work.RunData.{RunData}
 use Rattle.saber_assembly.specs.Works.{input_of, with_input, first_tasks, first_needed}
 
 -- the query joins no streams
-abbrev pub IsAlone : {O : Type 0} → (O → Tree) → Told O → Type 0
+abbrev pub IsAlone : {O : Type 0} → (O → Tree) → RunData O → Type 0
 IsAlone plan told = (plan told.operator).shape ≢ Join
 
 by_alone : (s : Shape) (t j : ℕ) → s ≢ Join → by_shape s t t j ≡ t
@@ -17,8 +17,8 @@ by_alone Select t j alone = refl
 by_alone Group t j alone = refl
 by_alone Join t j alone = absurd (alone refl)
 
-pub own_needed : {O : Type 0} (plan : O → Tree) (told : Told O) (t : ℕ) → IsAlone plan told → first_needed plan (first_tasks told t) t ≡ t
+pub own_needed : {O : Type 0} (plan : O → Tree) (told : RunData O) (t : ℕ) → IsAlone plan told → first_needed plan (first_tasks told t) t ≡ t
 own_needed plan told t alone = by_alone (plan told.operator).shape t _ alone
 
-pub first_fronts : {O : Type 0} (told : Told O) (j k : ℕ) → k ≤ j → first_tasks (first_tasks told j) k ≡ first_tasks told k
+pub first_fronts : {O : Type 0} (told : RunData O) (j k : ℕ) → k ≤ j → first_tasks (first_tasks told j) k ≡ first_tasks told k
 first_fronts told j k le = ap (with_input told) (upto-upto told.size (input_of told) j k le)

@@ -2,7 +2,7 @@
 ghost use Rattle.std.specs.Prelude.{◌≡◌, ◌≤◌, ◌^◌, ◌<◌, ◌+◌, ℕ, List, [], true, false, None, IfSome};
 ghost use Rattle.std.specs.List.{AllByRecursion};
 ghost use Rattle.saber_ring.specs.Shows.{first_of_task};
-ghost use Rattle.saber_workers.specs.Labors.{IsOwn, Begins, CanFeed, Feeds, CanFinish, Finishes, IsNext, Absorbs};
+ghost use Rattle.saber_workers.specs.Labors.{IsOwn, Begins, CanLookBack, LooksBack, CanFinish, Finishes, IsNext, Absorbs};
 ghost use Rattle.saber_many.specs.Sharing.{AreRows, ArePieces, AreStages};
 ghost use Rattle.saber_many.specs.Labors.{flat, all_upto, each_first, AllSuit, CanMake, Makes, CanMakeEach, MakesEach, CanAbsorb, AbsorbsOne, CanAbsorbEach, AbsorbsEach, HasStopped};
 
@@ -134,7 +134,7 @@ where
     ghost has_blocks = { λ each told t u draft. ArePieces W.is_piece told t draft.items };
 
     fn first(&self, own: &Vec<W::Rows>) -> u64
-        ensures { (told : List W.Told) (t : ℕ) → AreRows W.is_rows W.is_alone told t own.now.items → result ≡ first_of_task (all_upto W.upto) (each_first W.first) told t }
+        ensures { (told : List W.Data) (t : ℕ) → AreRows W.is_rows W.is_alone told t own.now.items → result ≡ first_of_task (all_upto W.upto) (each_first W.first) told t }
     {
         let Some(own) = own.first() else {
             return 0;
@@ -149,14 +149,14 @@ where
         Some(make_each::<W, L>(&self.list, alloc, own))
     }
 
-    fn feed(
+    fn look_back(
         &self,
         _alloc: Global,
         _draft: &mut VecDeque<Option<W::Piece>>,
         _block: &Vec<W::Rows>,
     ) -> bool
-        requires { CanFeed (all_upto W.upto) (each_first W.first) (λ told t rows. AreRows W.is_rows W.is_alone told t rows.items) (AllSuit L.suits self.now.list.items) (λ told t u draft. ArePieces W.is_piece told t draft.items) _draft.old _block.now }
-        ensures { Feeds (all_upto W.upto) (each_first W.first) (λ told t rows. AreRows W.is_rows W.is_alone told t rows.items) (AllSuit L.suits self.now.list.items) (λ told t u draft. ArePieces W.is_piece told t draft.items) _draft.old _block.now result _draft.new }
+        requires { CanLookBack (all_upto W.upto) (each_first W.first) (λ told t rows. AreRows W.is_rows W.is_alone told t rows.items) (AllSuit L.suits self.now.list.items) (λ told t u draft. ArePieces W.is_piece told t draft.items) _draft.old _block.now }
+        ensures { LooksBack (all_upto W.upto) (each_first W.first) (λ told t rows. AreRows W.is_rows W.is_alone told t rows.items) (AllSuit L.suits self.now.list.items) (λ told t u draft. ArePieces W.is_piece told t draft.items) _draft.old _block.now result _draft.new }
     {
         true
     }

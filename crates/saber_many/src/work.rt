@@ -23,7 +23,7 @@ impl<W: Shareable> Work for Many<W> {
 
     type Stage = Vec<Member<W::Stage>>;
 
-    type Told = LinkedList<W::Told>;
+    type Data = LinkedList<W::Data>;
 
     ghost is_told = { AreTold W.is_told W.is_alone };
 

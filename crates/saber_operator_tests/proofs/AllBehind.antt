@@ -13,10 +13,10 @@ use Rattle.saber_plan.specs.Parts.{part, merge, row_part, group_part, pair_part,
 use Rattle.saber_plan.specs.Tasks.{is_complete}
 use Rattle.saber_plan.specs.Needs.{of_kind, part_here, is_closing, is_pending, is_opening}
 use Rattle.saber_plan.specs.Shares.{is_closed, shares_here, shares_between, handed_here, handed_between}
-use Rattle.saber_plan.specs.RowFacts.{mark-append}
+use Rattle.saber_plan.specs.Facts.Rows.{mark-append}
 use Rattle.saber_laws.specs.Parts.{PartHasLines, PartsJoin, PartsLieWithin, MergeHasUnit}
-use Rattle.saber_plan.specs.NumberFacts.{flat_filter}
-use Rattle.saber_feeds.specs.TaskFacts.{with_task, end_of, at_first, at_last, own_rows}
+use Rattle.saber_plan.specs.Facts.Numbers.{flat_filter}
+use Rattle.saber_fragment.specs.TaskFacts.{with_task, end_of, at_first, at_last, own_rows}
 
 -- ---- the parts of a join
 

@@ -4,7 +4,7 @@ use Rattle.saber_plan.specs.declared.rows.Row.{Row}
 use Rattle.saber_plan.specs.declared.windows.Mark.{Mark}
 use Rattle.saber_plan.specs.Windows.{no_rows, mark_of}
 use Rattle.saber_plan.specs.Inputs.{Input, going_on}
-use Rattle.saber_plan.specs.Given.{RowsFit}
+use Rattle.saber_plan.specs.GivenRows.{RowsFit}
 use Rattle.saber_plan.specs.Tasks.{Kept}
 use Rattle.saber_plan.specs.Trees.{Tree}
 use Rattle.saber_fragment.specs.declared.blocks.Block.{Block}
@@ -25,16 +25,16 @@ pub record ComesPlaced (q : Tree) (own : Block) (xs : List Row) : Type 0 where
   pub placed : own.places.items ≡ places_behind q q.partition xs own.rows
 
 -- a store has taken in rows, which are counted, and what stands behind them is known
-pub record Behind (q : Tree) (p : Option Places) (m : Mark) (e : Earlier) (held : Kept) (taken : Input → Type 0) : Type 0 where
+pub record Behind (q : Tree) (p : Option Places) (m : Mark) (e : Earlier) (contents : Kept) (taken : Input → Type 0) : Type 0 where
   pub rows : List Row
   pub counted : AreCounted q rows p
   pub fits : RowsFit q no_rows rows
   pub stands : Stands rows m e
-  pub keeps : Keeps q held taken (going_on rows)
+  pub keeps : Keeps q contents taken (going_on rows)
 
 -- a store has taken in the rows of a block, which begins with the first, and the mark is the one behind them
-pub record BehindBlock (q : Tree) (b : Block) (m : Mark) (held : Kept) (taken : Input → Type 0) : Type 0 where
+pub record BehindBlock (q : Tree) (b : Block) (m : Mark) (contents : Kept) (taken : Input → Type 0) : Type 0 where
   pub first : b.before ≡ no_rows
   pub mark : m ≡ mark_of b.rows
   pub fits : RowsFit q no_rows b.rows
-  pub keeps : Keeps q held taken (going_on b.rows)
+  pub keeps : Keeps q contents taken (going_on b.rows)

@@ -1,12 +1,12 @@
 // Pairs of windows, worked out by hand. Rows have two columns: a time and a number, x of stream A and y of stream B.
 ghost use Rattle.std.specs.Prelude.{◌≡◌, ℕ, [], ◌++◌, IfOk, OnOk, false};
 ghost use Rattle.saber_plan.specs.declared.plans.Shape.TheVariants as h;
-ghost use Rattle.saber_plan.specs.Given.{RowsFit};
+ghost use Rattle.saber_plan.specs.GivenRows.{RowsFit};
 ghost use Rattle.saber_plan.specs.Inputs.{Input, going_on};
 ghost use Rattle.saber_plan.specs.Answers.{alike, frame, way};
 ghost use Rattle.saber_plan.specs.Trees.{tree_of};
 ghost use Rattle.saber_plan.specs.Windows.{Fits, mark_after, no_rows};
-ghost use Rattle.saber_fragment.specs.Drafts.{own_sight, fed, CanStart, IsSightOf};
+ghost use Rattle.saber_fragment.specs.Drafts.{own_sight, seen_back, CanStart, IsSightOf};
 ghost use Rattle.saber_samples.specs.Asking.{IsJoinOf};
 ghost use Rattle.saber_samples.specs.Filling.{HasPairs};
 ghost use Rattle.saber_samples.specs.Standing.{ComesBehind, Keeps};
@@ -14,7 +14,7 @@ ghost use Rattle.saber_operator_tests.specs.Stands.{BehindBlock};
 
 use crate::plans::{change_in, plan_of_two};
 use crate::texts::{assert_text, cut, is_remark, sided_rows};
-use saber_cells::write_number;
+use saber_digits::write_number;
 use saber_flat::Rows;
 use saber_fragment::{Block, Earlier, Operator, Parts, Piece};
 use saber_join::{JoinChanges, JoinOperator, Pairs};
@@ -49,11 +49,11 @@ fn piece<O: Operator>(
     requires goes_on { two.now.before ≡ mark_after one.now.before one.now.rows }
     requires meets { own.now.before ≡ mark_after one.now.before (one.now.rows ++ two.now.rows) }
     ensures { IfOk result (λ p. (r : Input) (x y : ℕ)
-        → IsSightOf (O.plan operator.now) (fed (fed (own_sight own.now) one.now) two.now) r x y → O.is_of operator.now p r x y) }
+        → IsSightOf (O.plan operator.now) (seen_back (seen_back (own_sight own.now) one.now) two.now) r x y → O.is_of operator.now p r x y) }
 {
     let mut draft = operator.start(alloc, own)?;
-    operator.feed(alloc, &mut draft, one)?;
-    operator.feed(alloc, &mut draft, two)?;
+    operator.look_back(alloc, &mut draft, one)?;
+    operator.look_back(alloc, &mut draft, two)?;
     let piece = operator.finish(alloc, draft)?;
     Ok(piece)
 }
@@ -133,9 +133,9 @@ fn give<O: Operator>(
     requires unplaced { own.now.places.items ≡ [] }
     requires first { behind.now.before ≡ no_rows }
     requires next { ComesBehind (O.plan operator.now) own.now behind.now.rows }
-    requires kept { Keeps (O.plan operator.now) (O.held store.old) (O.has_taken operator.now store.old) (going_on behind.now.rows) }
+    requires kept { Keeps (O.plan operator.now) (O.contents store.old) (O.has_taken operator.now store.old) (going_on behind.now.rows) }
     ensures { OnOk result (own.now.ended ≡ false
-        → Keeps (O.plan operator.now) (O.held store.new) (O.has_taken operator.now store.new) (going_on (behind.now.rows ++ own.now.rows))) }
+        → Keeps (O.plan operator.now) (O.contents store.new) (O.has_taken operator.now store.new) (going_on (behind.now.rows ++ own.now.rows))) }
 {
     merge_has_unit();
     part_has_lines();
@@ -171,9 +171,9 @@ fn take_task<O: Operator>(
     requires join { (O.plan operator.now).shape ≡ h.Join }
     requires unlisted { (O.plan operator.now).partition ≡ [] }
     requires columns { HasPairs (O.plan operator.now) }
-    requires behind { BehindBlock (O.plan operator.now) behind.old mark (O.held store.old) (O.has_taken operator.now store.old) }
+    requires behind { BehindBlock (O.plan operator.now) behind.old mark (O.contents store.old) (O.has_taken operator.now store.old) }
     ensures { IfOk result (λ m. ended ≡ false
-        → BehindBlock (O.plan operator.now) behind.new m (O.held store.new) (O.has_taken operator.now store.new)) }
+        → BehindBlock (O.plan operator.now) behind.new m (O.contents store.new) (O.has_taken operator.now store.new)) }
 {
     let (own, after) = sided_block(alloc, 2, mark, table, ended)?;
     give(alloc, operator, behind, &own, store, out)?;

@@ -3,7 +3,7 @@ ghost use Rattle.std.specs.Prelude.{◌≡◌, ◌≢◌, ℕ, [], ◌++◌, Lis
 ghost use Rattle.saber_plan.specs.declared.rows.Row.{Row};
 ghost use Rattle.saber_plan.specs.declared.plans.Shape.TheVariants as shapes;
 ghost use Rattle.saber_plan.specs.Answers.{frame};
-ghost use Rattle.saber_plan.specs.Given.{RowsFit};
+ghost use Rattle.saber_plan.specs.GivenRows.{RowsFit};
 ghost use Rattle.saber_plan.specs.Inputs.{Input, going_on};
 ghost use Rattle.saber_plan.specs.Trees.{Tree};
 ghost use Rattle.saber_plan.specs.Windows.{Fits, no_rows};
@@ -66,7 +66,7 @@ fn next_block(
     Ok((own, after, Earlier { before, rows }))
 }
 
-// The piece of one task, which is fed a block without rows.
+// The piece of one task, which looks back on a block without rows.
 fn piece<O: Operator>(alloc: Global, operator: &O, own: &Block) -> Result<O::Piece, NoMemory>
     requires { CanStart (O.plan operator.now) own.now }
     ensures { IfOk result (λ p. (r : Input) (x y : ℕ) → IsSightOf (O.plan operator.now) (own_sight own.now) r x y → O.is_of operator.now p r x y) }
@@ -81,7 +81,7 @@ fn piece<O: Operator>(alloc: Global, operator: &O, own: &Block) -> Result<O::Pie
         ended: false,
     };
     let mut draft = operator.start(alloc, own)?;
-    operator.feed(alloc, &mut draft, &nothing)?;
+    operator.look_back(alloc, &mut draft, &nothing)?;
     let piece = operator.finish(alloc, draft)?;
     Ok(piece)
 }
@@ -97,11 +97,11 @@ fn give<O: Operator>(
     requires windows { Fits (frame (O.plan operator.now)) }
     requires no_join { (O.plan operator.now).shape ≢ shapes.Join }
     requires next { (xs : List Row) × ComesPlaced (O.plan operator.now) own.now xs
-        × Keeps (O.plan operator.now) (O.held store.old) (O.has_taken operator.now store.old) (going_on xs) }
+        × Keeps (O.plan operator.now) (O.contents store.old) (O.has_taken operator.now store.old) (going_on xs) }
     ensures { OnOk result ((xs : List Row) → ComesPlaced (O.plan operator.now) own.now xs
-        → Keeps (O.plan operator.now) (O.held store.old) (O.has_taken operator.now store.old) (going_on xs)
+        → Keeps (O.plan operator.now) (O.contents store.old) (O.has_taken operator.now store.old) (going_on xs)
         → own.now.ended ≡ false
-        → Keeps (O.plan operator.now) (O.held store.new) (O.has_taken operator.now store.new) (going_on (xs ++ own.now.rows))) }
+        → Keeps (O.plan operator.now) (O.contents store.new) (O.has_taken operator.now store.new) (going_on (xs ++ own.now.rows))) }
 {
     shares_are_local();
     handed_are_local();
@@ -134,9 +134,9 @@ fn take_task<O: Operator>(
     requires windows { Fits (frame (O.plan operator.now)) }
     requires no_join { (O.plan operator.now).shape ≢ shapes.Join }
     requires columns { HasKeyed (O.plan operator.now) }
-    requires behind { Behind (O.plan operator.now) past.counter past.mark past.last (O.held store.old) (O.has_taken operator.now store.old) }
+    requires behind { Behind (O.plan operator.now) past.counter past.mark past.last (O.contents store.old) (O.has_taken operator.now store.old) }
     ensures { IfOk result (λ p. ended ≡ false
-        → Behind (O.plan operator.now) p.counter p.mark p.last (O.held store.new) (O.has_taken operator.now store.new)) }
+        → Behind (O.plan operator.now) p.counter p.mark p.last (O.contents store.new) (O.has_taken operator.now store.new)) }
 {
     let Past {
         mut counter,

@@ -13,15 +13,15 @@ use Rattle.saber_plan.specs.Answers.{frame}
 use Rattle.saber_plan.specs.Merges.{join, both}
 use Rattle.saber_plan.specs.Parts.{Part, no_part, group_part, merge}
 use Rattle.saber_plan.specs.Tasks.{Parts}
-use Rattle.saber_plan.specs.MapFacts.{get-both, both-assoc, both-empty_right, take_one}
+use Rattle.saber_plan.specs.Facts.Maps.{get-both, both-assoc, both-empty_right, take_one}
 use Rattle.saber_laws.specs.Groups.{GroupsJoin}
 use Rattle.saber_laws.specs.Parts.{MergeIsAssociative}
 use Rattle.saber_partial.specs.Tallies.{CanMerge}
 use Rattle.saber_partial.specs.PartLaws.{OfRows}
 use Rattle.saber_panes.specs.Panes.{panes_in, pane_of, in_pane, is_counted, counted, or_none, with_part, with_row_in, PanesOf, RowsRoom}
 use Rattle.saber_partial.proofs.Counted.{groups_of_rows, none_of_rows, more_rows, small_merge, small_stay}
-use Rattle.saber_plan.specs.RowFacts.{placed_more}
-use Rattle.saber_plan.specs.PartFacts.{if_any}
+use Rattle.saber_plan.specs.Facts.Rows.{placed_more}
+use Rattle.saber_plan.specs.Facts.Parts.{if_any}
 use Rattle.saber_panes.proofs.PaneRows.{values_in, get-panes, panes-append, counted-append}
 
 -- ---- one row

@@ -15,8 +15,8 @@ use Rattle.std.specs.FinMap.Entries.{find_tied}
 use Rattle.saber_plan.specs.Merges.{joined, both}
 use Rattle.saber_plan.specs.Parts.{Part, merge}
 use Rattle.saber_plan.specs.Tasks.{Parts}
-use Rattle.saber_plan.specs.MapFacts.{equal_if, take_one, first_alone, rest_rises}
-use Rattle.saber_plan.specs.TreeFacts.{written, inserted, looked_up}
+use Rattle.saber_plan.specs.Facts.Maps.{equal_if, take_one, first_alone, rest_rises}
+use Rattle.saber_plan.specs.Facts.Trees.{written, inserted, looked_up}
 use Rattle.saber_partial.specs.Tallies.{CanMerge}
 use Rattle.saber_panes.specs.Panes.{seen_panes, CanTakeIn}
 

@@ -13,7 +13,7 @@ use Rattle.saber_plan.specs.Windows.{one, Fits, Placed, time, own, placed, no_ro
 use Rattle.saber_plan.specs.Needs.{first_window, past_window}
 use Rattle.saber_plan.specs.Answers.{frame, passing, by_shape}
 use Rattle.saber_plan.specs.Parts.{no_part, group_part, pair_part, part, row_part}
-use Rattle.saber_plan.specs.RowFacts.{length-placed}
+use Rattle.saber_plan.specs.Facts.Rows.{length-placed}
 use Rattle.saber_laws.specs.Groups.{GroupsJoin}
 use Rattle.saber_laws.specs.Parts.{MergeHasUnit, MergeIsAssociative}
 use Rattle.saber_laws.specs.Needs.{RowsSpan}

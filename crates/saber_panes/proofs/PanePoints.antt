@@ -11,7 +11,7 @@ use Rattle.saber_plan.specs.declared.windows.Measure.{Measure}
 use Rattle.saber_plan.specs.declared.windows.Measure.TheVariants.{Rows, Range}
 use Rattle.saber_plan.specs.Rows.{stamp}
 use Rattle.saber_plan.specs.Windows.{time, placed_after, step_mark, by_side, spans, Ordered, in_order, can_follow}
-use Rattle.saber_plan.specs.ListFacts.{Each, each-weaker}
+use Rattle.saber_plan.specs.Facts.Lists.{Each, each-weaker}
 use Rattle.saber_panes.specs.Panes.{point_by}
 use Rattle.saber_panes.proofs.PaneWindows.{Rises, within}
 

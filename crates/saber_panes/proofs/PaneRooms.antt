@@ -11,8 +11,8 @@ use Rattle.saber_plan.specs.Windows.{Frame, Placed, placed_after, mark_after, fr
 use Rattle.saber_plan.specs.Answers.{frame}
 use Rattle.saber_plan.specs.Parts.{Part, no_part, merge}
 use Rattle.saber_plan.specs.Tasks.{Parts}
-use Rattle.saber_plan.specs.ListFacts.{few_pass}
-use Rattle.saber_plan.specs.RowFacts.{length-placed}
+use Rattle.saber_plan.specs.Facts.Lists.{few_pass}
+use Rattle.saber_plan.specs.Facts.Rows.{length-placed}
 use Rattle.saber_panes.specs.Panes.{panes_here, pane_of, in_pane, is_counted, counted, or_none, first_pane, pane_count, window_part, PanesOf, CanTakeIn, RowsRoom, WindowRoom}
 use Rattle.saber_partial.proofs.Counted.{none_of_rows, small_merge}
 use Rattle.saber_panes.proofs.PaneWindows.{within}

@@ -14,9 +14,9 @@ use Rattle.saber_plan.specs.Windows.{Placed, placed_after, mark_after}
 use Rattle.saber_plan.specs.Answers.{frame}
 use Rattle.saber_plan.specs.Merges.{join, both}
 use Rattle.saber_plan.specs.Parts.{Part, no_part, group_part, merge}
-use Rattle.saber_plan.specs.MapFacts.{get-both}
-use Rattle.saber_plan.specs.RowFacts.{placed-append}
-use Rattle.saber_plan.specs.PartFacts.{if_any}
+use Rattle.saber_plan.specs.Facts.Maps.{get-both}
+use Rattle.saber_plan.specs.Facts.Rows.{placed-append}
+use Rattle.saber_plan.specs.Facts.Parts.{if_any}
 use Rattle.saber_laws.specs.Groups.{GroupsJoin}
 use Rattle.saber_panes.specs.Panes.{panes_in, panes_here, pane_of, pane_part, in_pane, is_counted, counted, or_none}
 

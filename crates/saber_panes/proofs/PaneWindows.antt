@@ -7,7 +7,7 @@ use Rattle.std.specs.FinMap.{get}
 use Rattle.saber_plan.specs.Trees.{Tree}
 use Rattle.saber_plan.specs.Windows.{Placed, from}
 use Rattle.saber_plan.specs.Answers.{frame}
-use Rattle.saber_plan.specs.ListFacts.{Each, each-filter, each-weaker, dropped}
+use Rattle.saber_plan.specs.Facts.Lists.{Each, each-filter, each-weaker, dropped}
 use Rattle.saber_plan.specs.Parts.{Part, no_part, group_part, merge}
 use Rattle.saber_plan.specs.Tasks.{Parts}
 use Rattle.saber_laws.specs.Groups.{GroupsJoin}

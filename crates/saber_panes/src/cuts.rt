@@ -4,7 +4,7 @@ ghost use Rattle.saber_plan.specs.declared.plans.Shape.TheVariants.{Group};
 ghost use Rattle.saber_plan.specs.Trees.{tree_of};
 ghost use Rattle.saber_plan.specs.Answers.{frame};
 ghost use Rattle.saber_plan.specs.Checked.{IsChecked, WindowFits};
-ghost use Rattle.saber_plan.specs.Given.{IsRowOf};
+ghost use Rattle.saber_plan.specs.GivenRows.{IsRowOf};
 ghost use Rattle.saber_plan.specs.Rows.{stamp};
 ghost use Rattle.saber_plan.specs.Values as v;
 ghost use Rattle.saber_plan.specs.Windows as w;

@@ -6,7 +6,7 @@ ghost use Rattle.saber_plan.specs.Trees.{tree_of};
 ghost use Rattle.saber_plan.specs.Checked.{IsChecked, WindowFits};
 ghost use Rattle.saber_plan.specs.Windows.{one, placed_after};
 ghost use Rattle.saber_plan.specs.Answers.{frame};
-ghost use Rattle.saber_plan.specs.Given.{IsRowOf, RowsFit};
+ghost use Rattle.saber_plan.specs.GivenRows.{IsRowOf, RowsFit};
 ghost use Rattle.saber_plan.specs.Merges.{both};
 ghost use Rattle.saber_plan.specs.Parts.{Part, group_part, merge};
 ghost use Rattle.saber_plan.specs.Values as v;

@@ -9,8 +9,8 @@ use Rattle.saber_plan.specs.Trees.{Tree}
 use Rattle.saber_plan.specs.Answers.{key_cmp, key}
 use Rattle.saber_plan.specs.Merges.{joined}
 use Rattle.saber_plan.specs.Parts.{Part, Numbers, numbers, join_numbers, group_part, merge}
-use Rattle.saber_plan.specs.PartFacts.{total, exact, merge-empty_right}
-use Rattle.saber_plan.specs.MapFacts.{take_one}
+use Rattle.saber_plan.specs.Facts.Parts.{total, exact, merge-empty_right}
+use Rattle.saber_plan.specs.Facts.Maps.{take_one}
 use Rattle.saber_partial.specs.Tallies.{CanMerge, FitsAt}
 use Rattle.saber_partial.specs.Sorted.{part_of}
 use Rattle.saber_partial.specs.MergeFacts.{not_both}

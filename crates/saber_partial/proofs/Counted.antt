@@ -16,10 +16,10 @@ use Rattle.saber_plan.specs.Parts.{Part, no_part, Numbers, numbers, join_numbers
 use Rattle.saber_partial.specs.Tallies.{Alike, CanJoin, CanMerge}
 use Rattle.saber_partial.specs.PartLaws.{OfItems, OfRows}
 use Rattle.saber_plan.specs.Merges.{join}
-use Rattle.saber_plan.specs.MapFacts.{equal_if, get-both}
-use Rattle.saber_plan.specs.PartFacts.{exact, total, get-group_part, numbers_if}
-use Rattle.saber_plan.specs.ListFacts.{few_pass}
-use Rattle.saber_plan.specs.RowFacts.{length-placed}
+use Rattle.saber_plan.specs.Facts.Maps.{equal_if, get-both}
+use Rattle.saber_plan.specs.Facts.Parts.{exact, total, get-group_part, numbers_if}
+use Rattle.saber_plan.specs.Facts.Lists.{few_pass}
+use Rattle.saber_plan.specs.Facts.Rows.{length-placed}
 use Rattle.saber_partial.specs.MergeFacts.{not_both, zip_long}
 
 can_join : (is : List Item) (a b : Numbers) → OfItems is a → OfItems is b → a.count + b.count ≤ 2 ^ 40 → CanJoin a b

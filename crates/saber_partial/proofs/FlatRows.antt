@@ -8,7 +8,7 @@ use Rattle.std.proofs.Math.Seq.{set-append_seam, get_or-append_seam}
 use Rattle.std.proofs.Math.ListN.{set}
 use Rattle.std.specs.List.{insert, AllByRecursion}
 use Rattle.saber_plan.specs.Parts.{Numbers}
-use Rattle.saber_plan.specs.ListFacts.{all_front, all_back, all_append}
+use Rattle.saber_plan.specs.Facts.Lists.{all_front, all_back, all_append}
 use Rattle.saber_partial.specs.declared.layout.Layout.{Layout}
 use Rattle.saber_partial.specs.Flat.{Table, entry_in, rows_in, entries_in, HasLayout, HaveLayout, IsLayout, IsRow, AreRows}
 

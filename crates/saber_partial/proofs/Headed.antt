@@ -4,8 +4,8 @@ use Rattle.std.proofs.lemmas.Fmt.{length-decimal-le}
 use Rattle.std.proofs.lemmas.List.{length-take-le}
 use Rattle.std.specs.Fmt.{decimal}
 use Rattle.saber_plan.specs.Answers.{line}
-use Rattle.saber_cells.specs.Cells.{cells, drafted}
-use Rattle.saber_cells.specs.CellFacts.{line_after}
+use Rattle.saber_digits.specs.Cells.{cells, drafted}
+use Rattle.saber_digits.specs.CellFacts.{line_after}
 
 -- a number of 64 bits has few digits
 pub few_digits : (n k : ℕ) (xs : List ℕ) → length xs ≡ 128 → k ≤ 40 → n < 2 ^ 64 → take k xs ≡ decimal n → k ≤ 24

@@ -3,7 +3,7 @@ use Rattle.std.proofs.Common.{◌≡◌, ℕ, ◌+◌, ◌<◌, List, [], ◌∷
 use Rattle.std.specs.declared.cmp.Ordering.TheVariants.{Less, Equal, Greater}
 use Rattle.std.specs.FinMap.{entries}
 use Rattle.std.specs.Fmt.{signed_decimal}
-use Rattle.saber_cells.specs.Cells.{cells}
+use Rattle.saber_digits.specs.Cells.{cells}
 use Rattle.saber_plan.specs.declared.plans.Item.{Item}
 use Rattle.saber_plan.specs.Answers.{key_cmp, line, entry_lines}
 use Rattle.saber_plan.specs.Parts.{Part, Numbers, answers_of, join_numbers, part_lines}
@@ -13,8 +13,8 @@ use Rattle.saber_partial.specs.Printing.{lines_for, numbers_of}
 use Rattle.saber_partial.specs.Sorted.{part_of, weave, Rises}
 use Rattle.saber_partial.proofs.Listed.{next_asked}
 use Rattle.saber_partial.proofs.Weaving.{weave_none, weave_less, weave_equal, weave_greater}
-use Rattle.saber_plan.specs.MapFacts.{entries-from_rising}
-use Rattle.saber_plan.specs.PartFacts.{total, exact}
+use Rattle.saber_plan.specs.Facts.Maps.{entries-from_rising}
+use Rattle.saber_plan.specs.Facts.Parts.{total, exact}
 
 entry_each : (i : ℕ) (is : List Item) (es : List (List ℤ × Numbers)) → entry_lines i (map (λ e. (e.0, answers_of is e.1)) es) ≡ lines_for i is (map (λ e. e.1) es)
 entry_each i is [] = refl

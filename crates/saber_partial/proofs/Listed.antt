@@ -3,8 +3,8 @@ use Rattle.std.proofs.Common.{◌≡◌, ℕ, ◌+◌, ◌<◌, List, [], ◌∷
 use Rattle.std.proofs.lemmas.List.{drop_more}
 use Rattle.std.proofs.lemmas.Simd.{map-map}
 use Rattle.saber_plan.specs.declared.plans.Item.{Item}
-use Rattle.saber_plan.specs.MapFacts.{entries-from_rising}
-use Rattle.saber_plan.specs.PartFacts.{total, exact}
+use Rattle.saber_plan.specs.Facts.Maps.{entries-from_rising}
+use Rattle.saber_plan.specs.Facts.Parts.{total, exact}
 use Rattle.saber_plan.specs.Parts.{Numbers, answers_of, part_answers}
 use Rattle.saber_plan.specs.Trees.{Tree}
 use Rattle.saber_partial.proofs.Weaving.{weave_none}

@@ -3,17 +3,16 @@ use Rattle.std.proofs.Common.{◌≡◌, ℕ, zero, suc, ◌+◌, ◌<◌, ◌�
 use Rattle.std.proofs.lemmas.List.{length-map, length-take-le, length-drop, length-set, take_more, take-take, drop-take, map-append, take-map, drop-map, get_or-map, get_or-take, get_or_append_left, get_or_push, get_or-set_same, get_or-set_other, get_or_default}
 use Rattle.std.proofs.lemmas.List.Edits.{get_or-insert_below, get_or-insert_at, get_or-insert_above, take-paste}
 use Rattle.std.proofs.Math.Seq.{take-set-lt, set-append_seam}
-use Rattle.std.specs.List.{copy_within}
+use Rattle.std.specs.List.{copy_within, insert, AllByRecursion}
 use Rattle.std.proofs.Math.ListN.{set}
 use Rattle.std.proofs.Math.Nat.{eq-or-lt_of_le}
 use Rattle.std.specs.declared.cmp.Ordering.{Ordering}
 use Rattle.std.specs.declared.cmp.Ordering.TheVariants.{Less, Equal}
 use Rattle.std.specs.Cmp.{tied_itself}
-use Rattle.std.specs.List.{insert, AllByRecursion}
 use Rattle.saber_plan.specs.Answers.{key_cmp}
 use Rattle.saber_plan.specs.Parts.{Numbers, join_numbers}
-use Rattle.saber_plan.specs.PartFacts.{total}
-use Rattle.saber_plan.specs.ListFacts.{all_at, all_append}
+use Rattle.saber_plan.specs.Facts.Parts.{total}
+use Rattle.saber_plan.specs.Facts.Lists.{all_at, all_append}
 use Rattle.saber_partial.specs.declared.layout.Layout.{Layout}
 use Rattle.saber_partial.specs.Flat.{HasLayout, HaveLayout}
 use Rattle.saber_partial.specs.Sorted.{IsAt, IsGap}

@@ -5,8 +5,8 @@ use Rattle.std.specs.List.{slice_get}
 use Rattle.saber_plan.specs.Parts.{Part, Numbers, answers_of, part_answers, part_lines, no_part, merge}
 use Rattle.saber_plan.specs.Trees.{Tree}
 use Rattle.saber_plan.specs.Answers.{key_cmp, entry_lines}
-use Rattle.saber_plan.specs.MapFacts.{entries-empty}
-use Rattle.saber_plan.specs.PartFacts.{merge-empty_left, merge-empty_right}
+use Rattle.saber_plan.specs.Facts.Maps.{entries-empty}
+use Rattle.saber_plan.specs.Facts.Parts.{merge-empty_left, merge-empty_right}
 use Rattle.saber_laws.specs.Parts.{MergeIsAssociative}
 use Rattle.saber_partial.specs.Tallies.{CanMerge}
 use Rattle.saber_partial.specs.MergeFacts.{can_ahead, can_back, can_behind, can_first, can_none, none_can}

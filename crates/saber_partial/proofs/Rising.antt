@@ -15,9 +15,9 @@ use Rattle.std.specs.FinMap.Entries.{below_all, by_order, find-put, find_tied, i
 use Rattle.saber_plan.specs.Answers.{key_cmp}
 use Rattle.saber_plan.specs.Parts.{Numbers, join_numbers}
 use Rattle.saber_plan.specs.Merges.{joined}
-use Rattle.saber_plan.specs.ListFacts.{T_parts}
-use Rattle.saber_plan.specs.MapFacts.{equal_if, first_alone, rest_rises}
-use Rattle.saber_plan.specs.PartFacts.{total, exact}
+use Rattle.saber_plan.specs.Facts.Lists.{T_parts}
+use Rattle.saber_plan.specs.Facts.Maps.{equal_if, first_alone, rest_rises}
+use Rattle.saber_plan.specs.Facts.Parts.{total, exact}
 use Rattle.saber_partial.specs.declared.layout.Layout.{Layout}
 use Rattle.saber_partial.specs.Flat.{entry_in}
 use Rattle.saber_partial.specs.Tallies.{with_row, CanJoin}

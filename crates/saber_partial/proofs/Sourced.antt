@@ -3,7 +3,7 @@ use Rattle.std.proofs.Common.{◌≡◌, ℕ, zero, suc, ◌+◌, ◌<◌, ◌�
 use Rattle.std.proofs.Math.IntN.{+ℤ_idl, suc_ℤ-*ℤ, zero-*ℤ}
 use Rattle.std.proofs.lemmas.List.{drop_more, drop_all, get_or_past, get_or-map, get_or-take, get_or_default, length-append, length-map, length-take, length-take-le, map-append, append_assoc, take_at, drop_at, take-map, drop-map, take-append-drop}
 use Rattle.std.specs.List.{AllByRecursion}
-use Rattle.saber_plan.specs.ListFacts.{all_append, all_at}
+use Rattle.saber_plan.specs.Facts.Lists.{all_append, all_at}
 use Rattle.saber_plan.specs.declared.plans.Item.{Item}
 use Rattle.saber_plan.specs.declared.plans.Item.TheVariants.{Count, Sum, Min, Max, Value}
 use Rattle.saber_plan.specs.declared.expressions.Product.{Product}

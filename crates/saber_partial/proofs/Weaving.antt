@@ -13,9 +13,9 @@ use Rattle.std.specs.FinMap.Entries.{below_all, by_order, find_tied}
 use Rattle.saber_plan.specs.Answers.{key_cmp}
 use Rattle.saber_plan.specs.Merges.{join}
 use Rattle.saber_plan.specs.Parts.{Numbers, join_numbers, merge}
-use Rattle.saber_plan.specs.ListFacts.{T_parts, and_T}
-use Rattle.saber_plan.specs.MapFacts.{equal_if, get-both, not_below, rest_rises, join-none}
-use Rattle.saber_plan.specs.PartFacts.{total, exact}
+use Rattle.saber_plan.specs.Facts.Lists.{T_parts, and_T}
+use Rattle.saber_plan.specs.Facts.Maps.{equal_if, get-both, not_below, rest_rises, join-none}
+use Rattle.saber_plan.specs.Facts.Parts.{total, exact}
 use Rattle.saber_partial.specs.Sorted.{part_of, Rises, joined_each, weave, AllBelow}
 use Rattle.saber_partial.proofs.Rising.{less, turned, turned_back}
 

@@ -4,8 +4,8 @@ use Rattle.std.specs.Int.{int_min, int_max}
 use Rattle.std.specs.FinMap.{get, get-empty}
 use Rattle.saber_plan.specs.Answers.{key_cmp, earlier}
 use Rattle.saber_plan.specs.Merges.{join}
-use Rattle.saber_plan.specs.MapFacts.{get-both}
-use Rattle.saber_plan.specs.PartFacts.{total}
+use Rattle.saber_plan.specs.Facts.Maps.{get-both}
+use Rattle.saber_plan.specs.Facts.Parts.{total}
 use Rattle.saber_plan.specs.Parts.{Part, Numbers, no_part, merge, join_numbers, zip_by}
 use Rattle.saber_partial.specs.Tallies.{Alike, CanJoin, CanMerge}
 

@@ -2,7 +2,7 @@
 ghost use Rattle.std.specs.Prelude.{◌≡◌};
 ghost use Rattle.saber_partial.specs.Printing.{IsHeading};
 
-use saber_cells::put_number;
+use saber_digits::put_number;
 
 /// The number of a window, and its text, which is made once for all lines of a call.
 #[derive(Clone, Copy)]

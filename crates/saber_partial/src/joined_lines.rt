@@ -4,7 +4,7 @@ ghost use Rattle.saber_plan.specs.Trees.{tree_of};
 ghost use Rattle.saber_plan.specs.Answers.{line};
 ghost use Rattle.saber_plan.specs.Parts.{merge, part_lines};
 ghost use Rattle.saber_plan.specs.Texts.{Behind};
-ghost use Rattle.saber_cells.specs.Cells.{cells, drafted};
+ghost use Rattle.saber_digits.specs.Cells.{cells, drafted};
 ghost use Rattle.saber_partial.specs.Flat.{entry_in, IsLayout, IsRow};
 ghost use Rattle.saber_partial.specs.Printing.{answers_of_both, lines_for, IsHeading};
 ghost use Rattle.saber_partial.specs.Sorted.{weave, CanJoinAll};
@@ -17,7 +17,7 @@ use crate::lines::{write_groups, write_line};
 use crate::places::key_order;
 use crate::table::Table;
 use crate::unprinted::Unprinted;
-use saber_cells::{end_line, flush, put_cell, start_line};
+use saber_digits::{end_line, flush, put_cell, start_line};
 use saber_plan::{Item, NoMemory, Plan};
 use std::cmp::Ordering;
 

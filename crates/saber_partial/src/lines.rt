@@ -4,7 +4,7 @@ ghost use Rattle.saber_plan.specs.Trees.{tree_of};
 ghost use Rattle.saber_plan.specs.Answers.{line};
 ghost use Rattle.saber_plan.specs.Parts.{answers_of, part_lines};
 ghost use Rattle.saber_plan.specs.Texts.{Behind};
-ghost use Rattle.saber_cells.specs.Cells.{cells, drafted};
+ghost use Rattle.saber_digits.specs.Cells.{cells, drafted};
 ghost use Rattle.saber_partial.specs.Flat.{entry_in, IsLayout, IsRow};
 ghost use Rattle.saber_partial.specs.Printing.{lines_for, IsHeading};
 
@@ -13,7 +13,7 @@ use crate::headings::Heading;
 use crate::layout::Layout;
 use crate::table::Table;
 use crate::unprinted::Unprinted;
-use saber_cells::{end_line, flush, put_cell, start_line};
+use saber_digits::{end_line, flush, put_cell, start_line};
 use saber_plan::{Item, NoMemory, Plan};
 
 #[inline(always)]

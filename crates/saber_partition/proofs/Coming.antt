@@ -7,13 +7,13 @@ use Rattle.std.specs.FinMap.{get, insert, empty, entries}
 use Rattle.saber_plan.specs.declared.rows.Side.TheVariants.{Left}
 use Rattle.saber_plan.specs.declared.rows.Row.{Row}
 use Rattle.saber_plan.specs.Trees.{Tree}
-use Rattle.saber_plan.specs.Given.{IsRowOf, RowsFit}
+use Rattle.saber_plan.specs.GivenRows.{IsRowOf, RowsFit}
 use Rattle.saber_plan.specs.Windows.{no_rows, closed_count, begun_count, count_to, from}
 use Rattle.saber_plan.specs.Answers.{frame, list_of, substream, past_in, begun_in, closed_by, closed_in_turn, closed_at_last}
 use Rattle.saber_plan.specs.Parts.{part_lines}
-use Rattle.saber_plan.specs.PartFacts.{total}
-use Rattle.saber_plan.specs.ListFacts.{all_weaker}
-use Rattle.saber_plan.specs.RowFacts.{is_left, few_rows, fits_front}
+use Rattle.saber_plan.specs.Facts.Parts.{total}
+use Rattle.saber_plan.specs.Facts.Lists.{all_weaker}
+use Rattle.saber_plan.specs.Facts.Rows.{is_left, few_rows, fits_front}
 use Rattle.saber_laws.specs.Inputs.{AllOn}
 use Rattle.saber_laws.specs.Lists.{IsCounted, TurnsGoOn}
 use Rattle.saber_laws.specs.Parts.{NoRowsNoPart, PartHasLines}

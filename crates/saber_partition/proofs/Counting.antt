@@ -13,9 +13,9 @@ use Rattle.saber_plan.specs.Trees.{Tree}
 use Rattle.saber_plan.specs.Windows.{one, no_rows, mark_of, mark_after, step_mark, past_count, begun_count, count_to, has}
 use Rattle.saber_plan.specs.Answers.{frame, past_in, begun_in}
 use Rattle.saber_plan.specs.Needs.{first_window, past_window}
-use Rattle.saber_plan.specs.Given.{IsRowOf, RowsFit}
-use Rattle.saber_plan.specs.ListFacts.{all_back}
-use Rattle.saber_plan.specs.RowFacts.{mark-append, is_left, fits_back}
+use Rattle.saber_plan.specs.GivenRows.{IsRowOf, RowsFit}
+use Rattle.saber_plan.specs.Facts.Lists.{all_back}
+use Rattle.saber_plan.specs.Facts.Rows.{mark-append, is_left, fits_back}
 use Rattle.saber_laws.specs.Needs.{RowsSpan}
 use Rattle.saber_laws.specs.Windows.{BegunStay}
 use Rattle.saber_partition.specs.Streams.{Asks}

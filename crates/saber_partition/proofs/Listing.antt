@@ -15,9 +15,9 @@ use Rattle.saber_plan.specs.Inputs.{going_on}
 use Rattle.saber_plan.specs.Windows.{no_rows, mark_of, last_mark, past_count, begun_count, closed_count}
 use Rattle.saber_plan.specs.Answers.{frame, key_cmp, with_key, keys_of, list_of, substream, lists_in, past_in, closed_at_last}
 use Rattle.saber_plan.specs.Parts.{Part, part}
-use Rattle.saber_plan.specs.PartFacts.{total, exact, keyed}
-use Rattle.saber_plan.specs.MapFacts.{equal_if, entries-empty}
-use Rattle.saber_plan.specs.NumberFacts.{flat_map-from, numbered_is}
+use Rattle.saber_plan.specs.Facts.Parts.{total, exact, keyed}
+use Rattle.saber_plan.specs.Facts.Maps.{equal_if, entries-empty}
+use Rattle.saber_plan.specs.Facts.Numbers.{flat_map-from, numbered_is}
 use Rattle.saber_plan.specs.Tasks.{full, numbered, Parts, list_input, unclosed, unclosed_by_list}
 use Rattle.saber_laws.specs.Parts.{NoRowsNoPart}
 use Rattle.saber_sliding.specs.Entries.{part_at}

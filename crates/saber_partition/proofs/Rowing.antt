@@ -6,11 +6,11 @@ use Rattle.saber_plan.specs.declared.rows.Side.TheVariants.{Left}
 use Rattle.saber_plan.specs.Trees.{Tree}
 use Rattle.saber_plan.specs.Rows.{RowFits}
 use Rattle.saber_plan.specs.Checked.{columns_on}
-use Rattle.saber_plan.specs.Given.{IsRowOf}
+use Rattle.saber_plan.specs.GivenRows.{IsRowOf}
 use Rattle.saber_plan.specs.Values.{passes}
 use Rattle.saber_plan.specs.Parts.{no_part, group_part}
-use Rattle.saber_plan.specs.ListFacts.{all_weaker}
-use Rattle.saber_plan.specs.RowFacts.{is_left}
+use Rattle.saber_plan.specs.Facts.Lists.{all_weaker}
+use Rattle.saber_plan.specs.Facts.Rows.{is_left}
 use Rattle.saber_laws.specs.Parts.{NoRowsNoPart}
 use Rattle.saber_partition.specs.Streams.{Asks, row_part}
 

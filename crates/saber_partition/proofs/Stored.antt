@@ -9,9 +9,9 @@ use Rattle.std.specs.BTreeMap.{insert_entry, is_at}
 use Rattle.std.specs.FinMap.{get, insert, entries}
 use Rattle.arrayvec.specs.ArrayVec.{ArrayVec}
 use Rattle.saber_plan.specs.Answers.{key_cmp}
-use Rattle.saber_plan.specs.PartFacts.{total, exact}
-use Rattle.saber_plan.specs.MapFacts.{entries-from_rising}
-use Rattle.saber_plan.specs.TreeFacts.{written, inserted, looked_up, sorted_seen}
+use Rattle.saber_plan.specs.Facts.Parts.{total, exact}
+use Rattle.saber_plan.specs.Facts.Maps.{entries-from_rising}
+use Rattle.saber_plan.specs.Facts.Trees.{written, inserted, looked_up, sorted_seen}
 use Rattle.saber_partition.specs.declared.keyed.Keyed.{Keyed}
 use Rattle.saber_partition.specs.Lists.{Own}
 use Rattle.saber_partition.specs.Stores.{own_of, lists_of}

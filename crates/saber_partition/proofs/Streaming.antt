@@ -10,12 +10,12 @@ use Rattle.saber_plan.specs.Trees.{Tree}
 use Rattle.saber_plan.specs.Values.{passes}
 use Rattle.saber_plan.specs.Windows.{Placed, no_rows, mark_of, placed, placed_after, has}
 use Rattle.saber_plan.specs.Answers.{frame, passing, by_shape, key_cmp, entry_lines, lines, lines_from, past_in, begun_in}
-use Rattle.saber_plan.specs.MapFacts.{entries-empty}
-use Rattle.saber_plan.specs.ListFacts.{few_pass}
+use Rattle.saber_plan.specs.Facts.Maps.{entries-empty}
+use Rattle.saber_plan.specs.Facts.Lists.{few_pass}
 use Rattle.saber_plan.specs.Parts as p
 use Rattle.saber_plan.specs.Parts.{Part, part, no_part, group_part, pair_part, merge, part_lines, answers_of}
-use Rattle.saber_plan.specs.NumberFacts.{flat_map-from, flat_nil, flat_step, flat_skip}
-use Rattle.saber_plan.specs.RowFacts.{placed-append, placed-one, length-placed, few_rows}
+use Rattle.saber_plan.specs.Facts.Numbers.{flat_map-from, flat_nil, flat_step, flat_skip}
+use Rattle.saber_plan.specs.Facts.Rows.{placed-append, placed-one, length-placed, few_rows}
 use Rattle.saber_laws.specs.Groups.{GroupsJoin}
 use Rattle.saber_laws.specs.Parts.{NoRowsNoPart, PartHasLines}
 use Rattle.saber_partial.specs.Tallies.{CanMerge}
@@ -133,7 +133,7 @@ module _ (laws : StreamLaws) (q : Tree) (us : List Row) (r : Row) (low past : �
   begun_up : begun_in q us ≤ past
   begun_up = subst (λ n. begun_in q us ≤ n) (sym c.past_is) (begun_rises q c.asks us r c.fits laws.stay)
 
-  module _ (next : ℕ) (es : Entries) (next_is : next ≡ past_in q us) (held : Holds q us next es) where
+  module _ (next : ℕ) (es : Entries) (next_is : next ≡ past_in q us) (contents : Holds q us next es) where
     low_next : (i : ℕ) → next ≤ i → past_in q us ≤ i
     low_next i l = subst (λ n. n ≤ i) next_is l
 
@@ -145,10 +145,10 @@ module _ (laws : StreamLaws) (q : Tree) (us : List Row) (r : Row) (low past : �
 
     -- the row can go behind each of them
     pub has_room : CanFollow m es
-    has_room = all_map (IsFew us) (λ e. CanMerge e.1 m) es (λ e h. (laws.small q (length us) 1 e.1 m h of_row few).0) held.few
+    has_room = all_map (IsFew us) (λ e. CanMerge e.1 m) es (λ e h. (laws.small q (length us) 1 e.1 m h of_row few).0) contents.few
 
     ends_low : AllByRecursion (λ (e : ℕ × Part). e.0 ≤ past) es
-    ends_low = all_map (IsBegun us) (λ e. e.0 ≤ past) es (λ e h. le_trans h begun_up) held.begun
+    ends_low = all_map (IsBegun us) (λ e. e.0 ≤ past) es (λ e h. le_trans h begun_up) contents.begun
 
     none_behind : (i : ℕ) → past ≤ i → AllByRecursion (λ (e : ℕ × Part). e.0 ≤ i) es
     none_behind i l = all_map (λ e. e.0 ≤ past) (λ e. e.0 ≤ i) es (λ e h. le_trans h l) ends_low
@@ -168,11 +168,11 @@ module _ (laws : StreamLaws) (q : Tree) (us : List Row) (r : Row) (low past : �
     holds_same : m ≡ no_part → Holds q all next es
     holds_same none = record {
       at = λ i l. ⊎_elim
-          (λ h. inside i (low_next i l) h ∙ (λ j. merge (held.at i l j) (none j)) ∙ (laws.unit (part_at es i)).1)
-          (λ h. behind i (low_next i l) h ∙ held.at i l)
+          (λ h. inside i (low_next i l) h ∙ (λ j. merge (contents.at i l j) (none j)) ∙ (laws.unit (part_at es i)).1)
+          (λ h. behind i (low_next i l) h ∙ contents.at i l)
           (cases_lt i past);
-      begun = all_map (IsBegun us) (IsBegun all) es begun_more held.begun;
-      few = all_map (IsFew us) (IsFew all) es few_same held.few;
+      begun = all_map (IsBegun us) (IsBegun all) es begun_more contents.begun;
+      few = all_map (IsFew us) (IsFew all) es few_same contents.few;
     }
 
     past_low : past ≤ begun_in q all
@@ -181,12 +181,12 @@ module _ (laws : StreamLaws) (q : Tree) (us : List Row) (r : Row) (low past : �
     holds_put : (fs : Entries) → Put es past m fs → Holds q all next fs
     holds_put fs put = record {
       at = λ i l. ⊎_elim
-          (λ h. inside i (low_next i l) h ∙ ap (λ a. merge a m) (held.at i l) ∙ sym (part_at-put laws.unit es past m fs i put h))
-          (λ h. behind i (low_next i l) h ∙ held.at i l ∙ part_at-behind es i (none_behind i h)
+          (λ h. inside i (low_next i l) h ∙ ap (λ a. merge a m) (contents.at i l) ∙ sym (part_at-put laws.unit es past m fs i put h))
+          (λ h. behind i (low_next i l) h ∙ contents.at i l ∙ part_at-behind es i (none_behind i h)
           ∙ sym (part_at-behind fs i (all_put (λ e. e.0 ≤ past) (λ e. e.0 ≤ i) es past m fs (λ e g. le_trans g h) h put ends_low)))
           (cases_lt i past);
-      begun = all_put (IsBegun us) (IsBegun all) es past m fs begun_more past_low put held.begun;
-      few = all_put (IsFew us) (IsFew all) es past m fs few_both few_one put held.few;
+      begun = all_put (IsBegun us) (IsBegun all) es past m fs begun_more past_low put contents.begun;
+      few = all_put (IsFew us) (IsFew all) es past m fs few_both few_one put contents.few;
     }
 
     pub holds_more : (fs : Entries) → Entered es past m fs → Holds q all next fs

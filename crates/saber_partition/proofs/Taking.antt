@@ -5,11 +5,11 @@ use Rattle.std.specs.FinMap.{empty}
 use Rattle.saber_plan.specs.declared.rows.Row.{Row}
 use Rattle.saber_plan.specs.Trees.{Tree}
 use Rattle.saber_plan.specs.Inputs.{Input, arrived}
-use Rattle.saber_plan.specs.Given.{RowsFit}
+use Rattle.saber_plan.specs.GivenRows.{RowsFit}
 use Rattle.saber_plan.specs.Windows.{no_rows}
 use Rattle.saber_plan.specs.Answers.{by_way, closed_in_turn, closed_at_last}
-use Rattle.saber_plan.specs.ListFacts.{slice-front, slice-join}
-use Rattle.saber_plan.specs.RowFacts.{fits_take}
+use Rattle.saber_plan.specs.Facts.Lists.{slice-front, slice-join}
+use Rattle.saber_plan.specs.Facts.Rows.{fits_take}
 use Rattle.saber_plan.specs.Tasks.{by_windows, unclosed, unclosed_by_list, last_answers, kept_behind, plain_added, list_added, change_added, added, places_after, places_by}
 use Rattle.saber_laws.specs.Lists.{NoListOpenBehind}
 use Rattle.saber_laws.specs.Marks.{EndsAreBehind}

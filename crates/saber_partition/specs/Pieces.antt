@@ -4,7 +4,7 @@ use Rattle.saber_plan.specs.declared.rows.Row.{Row}
 use Rattle.saber_plan.specs.declared.windows.Mark.{Mark}
 use Rattle.saber_plan.specs.Trees.{Tree}
 use Rattle.saber_plan.specs.Inputs.{Input, arrived}
-use Rattle.saber_plan.specs.Given.{RowsFit}
+use Rattle.saber_plan.specs.GivenRows.{RowsFit}
 use Rattle.saber_plan.specs.Windows.{no_rows}
 use Rattle.saber_plan.specs.Answers.{list_of, substream, closed_by, closed_in_turn, closed_at_last}
 use Rattle.saber_plan.specs.Parts.{Part}

@@ -7,7 +7,7 @@ use Rattle.saber_plan.specs.declared.windows.Measure.TheVariants.{Rows}
 use Rattle.saber_plan.specs.Trees.{Tree}
 use Rattle.saber_plan.specs.Values.{passes}
 use Rattle.saber_plan.specs.Checked.{IsChecked}
-use Rattle.saber_plan.specs.Given.{RowsFit}
+use Rattle.saber_plan.specs.GivenRows.{RowsFit}
 use Rattle.saber_plan.specs.Windows.{Fits, no_rows, placed, has, from}
 use Rattle.saber_plan.specs.Answers.{frame, passing, by_list, way, past_in, begun_in, closed_by}
 use Rattle.saber_plan.specs.Parts.{Part, no_part, group_part, part_lines}

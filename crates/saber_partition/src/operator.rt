@@ -72,9 +72,9 @@ impl Operator for Partition<'_> {
 
     ghost has_seen = { λ partition draft s. HasSeen (tree_of partition) s (map (made_of draft.parts) draft.rows.items) draft.ended };
 
-    ghost held = { λ s. kept_in (lists_of s.lists.entries) };
+    ghost contents = { λ s. kept_in (lists_of s.lists.entries) };
 
-    ghost staying = { λ s. kept_in (lists_of s.lists.entries) };
+    ghost remainder = { λ s. kept_in (lists_of s.lists.entries) };
 
     ghost has_taken = { λ partition store r. TakenIn (tree_of partition) r (lists_of store.lists.entries) };
 
@@ -89,7 +89,12 @@ impl Operator for Partition<'_> {
         })
     }
 
-    fn feed(&self, _alloc: Global, _draft: &mut ListPiece, _block: &Block) -> Result<(), NoMemory> {
+    fn look_back(
+        &self,
+        _alloc: Global,
+        _draft: &mut ListPiece,
+        _block: &Block,
+    ) -> Result<(), NoMemory> {
         Ok(())
     }
 

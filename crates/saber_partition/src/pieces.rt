@@ -2,7 +2,7 @@
 ghost use Rattle.std.specs.Prelude.{◌≡◌, ◌<◌, ◌≤◌, ◌+◌, ◌++◌, length, get_or, map, IfOk, OnOk};
 ghost use Rattle.std.specs.List.{AllByRecursion};
 ghost use Rattle.saber_plan.specs.Answers.{key, list_of};
-ghost use Rattle.saber_plan.specs.Given.{IsRowOf};
+ghost use Rattle.saber_plan.specs.GivenRows.{IsRowOf};
 ghost use Rattle.saber_plan.specs.Trees.{tree_of};
 ghost use Rattle.saber_plan.specs.Values as v;
 ghost use Rattle.std.specs.Prelude as l;

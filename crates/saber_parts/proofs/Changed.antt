@@ -10,9 +10,9 @@ use Rattle.std.specs.FinMap.Entries.{find_tied, below_all}
 use Rattle.saber_plan.specs.Trees.{Tree}
 use Rattle.saber_plan.specs.Inputs.{Input, arrived}
 use Rattle.saber_plan.specs.Merges.{both}
-use Rattle.saber_plan.specs.Given.{IsPartOf}
-use Rattle.saber_plan.specs.ListFacts.{T_parts}
-use Rattle.saber_plan.specs.MapFacts.{equal_if, first_alone, rest_rises}
+use Rattle.saber_plan.specs.GivenRows.{IsPartOf}
+use Rattle.saber_plan.specs.Facts.Lists.{T_parts}
+use Rattle.saber_plan.specs.Facts.Maps.{equal_if, first_alone, rest_rises}
 use Rattle.saber_plan.specs.Windows.{from}
 use Rattle.saber_plan.specs.Answers.{Answers, window_answers, before_window, frame}
 use Rattle.saber_plan.specs.Parts.{Part, Numbers, part, part_answers, answers_of, merge}

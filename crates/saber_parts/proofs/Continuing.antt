@@ -10,9 +10,9 @@ use Rattle.saber_plan.specs.Trees.{Tree}
 use Rattle.saber_plan.specs.Merges.{both}
 use Rattle.saber_plan.specs.Parts.{Part, merge}
 use Rattle.saber_plan.specs.Tasks.{Parts, Piece, piece_between, written_by, left_by}
-use Rattle.saber_plan.specs.Given.{IsPartOf}
+use Rattle.saber_plan.specs.GivenRows.{IsPartOf}
 use Rattle.saber_plan.specs.Shares.{Shares, entries_in, piece_in}
-use Rattle.saber_plan.specs.MapFacts.{equal_if, first_alone, rest_rises}
+use Rattle.saber_plan.specs.Facts.Maps.{equal_if, first_alone, rest_rises}
 use Rattle.saber_laws.specs.Shares.{Between, SharesMakePiece, SharesRise, OpenPartsAre, PiecePartsAre, TakenPartsAre}
 use Rattle.saber_fragment.specs.declared.pieces.Piece.{Piece as Piece_of}
 use Rattle.saber_fragment.specs.Shown.{windows_by, shares_of}

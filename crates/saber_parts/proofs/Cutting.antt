@@ -7,7 +7,7 @@ use Rattle.std.specs.FinMap.Entries.{is_sorted-where_key}
 use Rattle.std.specs.FinMap.{get, entries, from_entries, retain_keys, find, is_sorted, same_map, get-from_entries, get-retain_keys, nat_cmp-IsAntisymmetric}
 use Rattle.saber_plan.specs.Parts.{Part}
 use Rattle.saber_plan.specs.Tasks.{Parts}
-use Rattle.saber_plan.specs.MapFacts.{entries-from_rising}
+use Rattle.saber_plan.specs.Facts.Maps.{entries-from_rising}
 use Rattle.saber_fragment.specs.Shown.{windows_by}
 use Rattle.saber_parts.specs.Stored.{parts_by, closed_of}
 

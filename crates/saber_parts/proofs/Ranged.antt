@@ -5,7 +5,7 @@ use Rattle.std.proofs.lemmas.List.Concat.{flat_map-append}
 use Rattle.std.specs.Ordering.{is_le}
 use Rattle.saber_plan.specs.Windows.{from}
 use Rattle.saber_plan.specs.Answers.{Answers}
-use Rattle.saber_plan.specs.NumberFacts.{flat_nil, from_more}
+use Rattle.saber_plan.specs.Facts.Numbers.{flat_nil, from_more}
 use Rattle.saber_changes.specs.declared.cancel.Change.{Change}
 use Rattle.saber_changes.specs.declared.walk.Walk.{Walk}
 use Rattle.saber_changes.specs.Walks.{Stands, change_at, changes_from, Walks}

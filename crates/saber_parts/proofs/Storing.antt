@@ -1,19 +1,18 @@
 -- One part after another taken into a store.
-use Rattle.std.proofs.Common.{◌≡◌, ℕ, List, ◌∷◌, Bool, true, false, cond, T, Option, Some, None, refl, sym, ◌∙◌, ap, nat_cmp}
+use Rattle.std.proofs.Common.{◌≡◌, ℕ, List, ◌∷◌, Bool, true, false, cond, T, Option, Some, None, refl, sym, ◌∙◌, ap, nat_cmp, Global, []}
 use Rattle.std.specs.Cmp.{nat_cmp_total, tied_itself}
 use Rattle.std.specs.Ordering.{eq_by_cmp, is_eq}
 use Rattle.std.specs.FinMap.{get, insert, from_entries, find, is_sorted, get-from_entries, get-insert, nat_cmp-IsAntisymmetric}
 use Rattle.std.specs.FinMap.Entries.{find_tied}
 use Rattle.std.proofs.lemmas.List.{nil_from_length}
-use Rattle.std.proofs.Common.{Global, []}
 use Rattle.std.specs.Vec.Iter.{into_iter_len, into_iter_items}
 use Rattle.std.specs.declared.vec.IntoIter.{IntoIter}
 use Rattle.saber_plan.specs.Merges.{joined, both}
 use Rattle.saber_plan.specs.Trees.{Tree}
 use Rattle.saber_plan.specs.Parts.{Part, merge}
 use Rattle.saber_plan.specs.Tasks.{Parts}
-use Rattle.saber_plan.specs.Given.{AreNeighbors}
-use Rattle.saber_plan.specs.MapFacts.{equal_if, take_one, first_alone}
+use Rattle.saber_plan.specs.GivenRows.{AreNeighbors}
+use Rattle.saber_plan.specs.Facts.Maps.{equal_if, take_one, first_alone}
 use Rattle.saber_parts.specs.Stored.{CanTakeIn}
 
 abbrev made : List (ℕ × Part) → Parts

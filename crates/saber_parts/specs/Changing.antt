@@ -3,7 +3,7 @@ use Rattle.std.specs.Prelude.{◌≡◌, ℕ, ◌+◌, ◌≤◌, ◌<◌, List,
 use Rattle.saber_plan.specs.Trees.{Tree}
 use Rattle.saber_plan.specs.Inputs.{Input, arrived}
 use Rattle.saber_plan.specs.Windows.{Fits, no_rows}
-use Rattle.saber_plan.specs.Given.{RowsFit}
+use Rattle.saber_plan.specs.GivenRows.{RowsFit}
 use Rattle.saber_plan.specs.Answers.{Answers, frame}
 use Rattle.saber_plan.specs.Parts.{Part, part_answers}
 use Rattle.saber_plan.specs.Tasks.{Parts, unclosed, closed_at, last_answers, change_added}

@@ -4,7 +4,7 @@ use Rattle.std.specs.List.{AllByRecursion}
 use Rattle.std.specs.Ordering.{nat_cmp}
 use Rattle.std.specs.FinMap.{get, from_entries}
 use Rattle.saber_plan.specs.Trees.{Tree}
-use Rattle.saber_plan.specs.Given.{IsPartOf, AreNeighbors}
+use Rattle.saber_plan.specs.GivenRows.{IsPartOf, AreNeighbors}
 use Rattle.saber_plan.specs.Parts.{Part, part_lines}
 use Rattle.saber_plan.specs.Tasks.{Parts, written_by, left_by}
 use Rattle.saber_plan.specs.Shares.{piece_in}
@@ -27,8 +27,8 @@ parts_from shown c es = parts_by shown (filter (λ e. nat_le c e.0) es)
 abbrev pub held_by : {P : Type 0} → (P → Part) → Kept P → Parts
 held_by shown s = parts_by shown s.0
 
-abbrev pub staying_by : {P : Type 0} → (P → Part) → Kept P → Parts
-staying_by shown s = parts_from shown s.1 s.0
+abbrev pub remainder_by : {P : Type 0} → (P → Part) → Kept P → Parts
+remainder_by shown s = parts_from shown s.1 s.0
 
 -- what a piece adds to the text behind the rows whose parts these are, and the parts that are open then
 abbrev pub written_of : {P : Type 0} → (P → Part) → Tree → List (ℕ × P) → Piece P → List ℕ

@@ -2,7 +2,7 @@
 ghost use Rattle.std.specs.Prelude.{◌≡◌, ◌++◌, OnOk, OnErr, IfOk};
 ghost use Rattle.saber_plan.specs.Trees.{Tree};
 ghost use Rattle.saber_plan.specs.Parts.{Part, merge, part_lines, part_answers};
-ghost use Rattle.saber_plan.specs.Given.{IsPartOf, AreNeighbors};
+ghost use Rattle.saber_plan.specs.GivenRows.{IsPartOf, AreNeighbors};
 
 use saber_changes::Answers;
 use saber_plan::NoMemory;

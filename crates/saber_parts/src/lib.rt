@@ -1,15 +1,17 @@
-//! Parts by window, for operators each of whose windows has a part of its own, and their store.
-//! The operator of joins uses it. Groups keep slices in place of parts by window.
+//! Parts by window, for operators each of whose windows has a part of its own, and their stores.
+//! Joins and selections with a window use it. Groups keep slices in place of parts by window.
 //!
 //! - Parts: `bounds` (what a window is to a task), `gathered` (what a task's windows give, by
 //!   kind), `assembles` (the trait: how two parts merge, and how a whole one is printed), `store`,
-//!   `part_store`.
+//!   `part_store`; `changes` and `change_store` (the same under ISTREAM and DSTREAM, with the walk
+//!   of `saber_changes`).
 //! - Calls: `PartStore::take_in` takes an operator that `Assembles`, the next task's piece, and the
-//!   text to which it appends; `drop_closed` lets the parts of closed windows go.
+//!   text to which it appends; `drop_closed` lets the parts of closed windows go. `ChangeStore` has
+//!   the same two, and appends what windows gain or lose.
 //! - Proved: the text grows by what the piece adds, and the parts that it leaves open are kept
 //!   (`specs/Stored.antt`). After want of memory the text is as before, and the store only safe to
 //!   let go. All that is asked of parts is that they come from rows (`IsPartOf`, `AreNeighbors` of
-//!   `saber_plan/specs/Given.antt`).
+//!   `saber_plan/specs/GivenRows.antt`).
 //! - Limits: none but memory. A closed window's part stays until it is dropped.
 #![tactic(auto)]
 

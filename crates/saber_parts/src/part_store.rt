@@ -2,7 +2,7 @@
 ghost use Rattle.std.specs.Prelude.{◌≡◌, ◌++◌, [], filter, nat_le, OnOk, OnErr};
 ghost use Rattle.saber_fragment.specs.Shown.{shares_of};
 ghost use Rattle.saber_fragment.specs.Stores.{Continues};
-ghost use Rattle.saber_parts.specs.Stored.{held_by, staying_by, written_of, left_of};
+ghost use Rattle.saber_parts.specs.Stored.{held_by, remainder_by, written_of, left_of};
 
 use crate::Assembles;
 use crate::store::settle;
@@ -49,7 +49,7 @@ impl<P: Drop> PartStore<P> {
     ) -> Result<(), NoMemory>
         requires { Continues (A.plan by.now) (held_by A.shown self.old) (shares_of A.shown piece) }
         ensures text { OnOk result (out.new.items ≡ out.old.items ++ written_of A.shown (A.plan by.now) self.old.0 piece) }
-        ensures stays { OnOk result (staying_by A.shown self.new ≡ left_of A.shown (A.plan by.now) self.old.0 piece) }
+        ensures stays { OnOk result (remainder_by A.shown self.new ≡ left_of A.shown (A.plan by.now) self.old.0 piece) }
         ensures err { OnErr result (out.new.items ≡ out.old.items) }
     {
         let had = out.len();

@@ -18,13 +18,13 @@ use Rattle.saber_plan.specs.declared.plans.Shape.{Shape}
 use Rattle.saber_plan.specs.declared.plans.Shape.TheVariants.{Select, Group, Join}
 use Rattle.saber_plan.specs.declared.plans.Word.{Word}
 use Rattle.saber_plan.specs.Checked.{columns_on, IsChecked, PartitionFits}
-use Rattle.saber_plan.specs.Given.{IsRowOf, RowsFit}
+use Rattle.saber_plan.specs.GivenRows.{IsRowOf, RowsFit}
 use Rattle.saber_plan.specs.Windows.{by_side, step_mark, mark_after, no_rows}
-use Rattle.saber_plan.specs.ListFacts.{all_at, all_back}
+use Rattle.saber_plan.specs.Facts.Lists.{all_at, all_back}
 use Rattle.saber_plan.specs.Answers.{key_cmp, key, list_of, substream}
 use Rattle.saber_plan.specs.Tasks.{places_after}
-use Rattle.saber_plan.specs.PartFacts.{total, exact}
-use Rattle.saber_plan.specs.MapFacts.{equal_if}
+use Rattle.saber_plan.specs.Facts.Parts.{total, exact}
+use Rattle.saber_plan.specs.Facts.Maps.{equal_if}
 use Rattle.saber_places.specs.declared.places.Places.{Places}
 use Rattle.saber_places.specs.Keys.{filled}
 use Rattle.saber_places.specs.Counts.{Tallies, seen, count_of}

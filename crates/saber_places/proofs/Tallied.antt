@@ -5,8 +5,8 @@ use Rattle.std.specs.BTreeMap.{insert_entry, is_at}
 use Rattle.std.specs.Ordering.{eq_by_cmp}
 use Rattle.std.specs.FinMap.{get, insert, get-insert}
 use Rattle.saber_plan.specs.Answers.{key_cmp}
-use Rattle.saber_plan.specs.PartFacts.{total, exact}
-use Rattle.saber_plan.specs.TreeFacts.{written, inserted, looked_up}
+use Rattle.saber_plan.specs.Facts.Parts.{total, exact}
+use Rattle.saber_plan.specs.Facts.Trees.{written, inserted, looked_up}
 use Rattle.saber_places.specs.Counts.{Tallies, seen, count_of}
 
 pub tally_at : (k : List ℤ) (es : List (List ℤ × ℕ)) (o : Option ℕ) → lookup (is_at (λ a. key_cmp k a)) es ≡ o → get (seen es) k ≡ o

@@ -3,7 +3,7 @@ ghost use Rattle.std.specs.Prelude.{◌≡◌, ◌<◌, ◌^◌, ◌+◌, ◌++�
 ghost use Rattle.saber_plan.specs.declared.rows.Row.{Row};
 ghost use Rattle.saber_plan.specs.Trees.{Tree, tree_of};
 ghost use Rattle.saber_plan.specs.Checked.{IsChecked};
-ghost use Rattle.saber_plan.specs.Given.{IsRowOf, RowsFit};
+ghost use Rattle.saber_plan.specs.GivenRows.{IsRowOf, RowsFit};
 ghost use Rattle.saber_plan.specs.Windows.{no_rows};
 ghost use Rattle.saber_plan.specs.Answers.{list_of, substream};
 ghost use Rattle.saber_plan.specs.Tasks.{places_after};

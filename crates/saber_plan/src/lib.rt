@@ -2,13 +2,14 @@
 //! Which rows a file has and a window, what is printed for it, and how the answer is put together
 //! from the parts of tasks: every other crate's contract cites these. Nearly all crates use it.
 //!
-//! - Parts: `rows` (a row, and why a line is none), `windows` (measure, window, mark, kind),
-//!   `expressions`, `predicates`, `plans` (a checked query), `sizes` (of a run), `letting` (plans
-//!   are let go by calls).
+//! - Parts: `rows` (a row, and why a line is none), `ends` (the end of a run), `windows` (measure,
+//!   window, mark, kind), `expressions`, `predicates`, `plans` (a checked query), `sizes` (of a
+//!   run), `letting` (plans are let go by calls).
 //! - Definitions, the files of `specs/` in this order: `Rows`, `Inputs` (lines of files, their
-//!   rows, the merge of two), `Windows`, `Values`, `Answers`, `Parts`, `Shares`, `Tasks`, `Needs`.
-//!   `Checked` is what every checked plan keeps, `Given` the rows that it can be given; the
-//!   `*Facts` serve proofs.
+//!   rows, the merge of two), `Files`, `Windows`, `Values`, `Answers`, `Parts`, `Shares`, `Tasks`,
+//!   `Needs`, `Runs` (what goes out of a run, by its end). `Checked` is what every checked plan
+//!   keeps, `GivenRows` the rows that it can be given. The lemmas of `specs/Facts/` serve proofs;
+//!   no contract rests on them.
 //! - Calls: `Plan::new` takes a shape, streams, items, keys and a predicate; `overlap` a size and a
 //!   slide.
 //! - Proved: plans, expressions and predicates give back what they were built from; `overlap` is
@@ -22,6 +23,7 @@
 
 use std::alloc::AllocError;
 
+mod ends;
 mod expressions;
 mod letting;
 mod plans;
@@ -30,6 +32,7 @@ mod rows;
 mod sizes;
 mod windows;
 
+pub use ends::RunEnd;
 pub use expressions::{Expr, Factor, Factors, Product};
 pub use plans::{Item, Plan, Shape, Word};
 pub use predicates::{Cmp, Conj, Pred, Unit};

@@ -37,7 +37,7 @@ fn before(size: u64, t: u64) -> u64
 // Takes the block of the next task, and gives it back with the rows.
 pub(crate) fn put_block<W: Work>(
     ring: &Ring<W>,
-    place: &mut TableSeat<SlotValue<W::Rows, W::Piece, W::Stage>, View<W::Told>>,
+    place: &mut TableSeat<SlotValue<W::Rows, W::Piece, W::Stage>, View<W::Data>>,
     t: u64,
     rows: W::Rows,
 )

@@ -35,7 +35,7 @@ pub(crate) struct SeeRoom<W> {
     work: PhantomData<W>,
 }
 
-impl<W: Work> Play<SlotValue<W::Rows, W::Piece, W::Stage>, View<W::Told>> for SeeRoom<W> {
+impl<W: Work> Play<SlotValue<W::Rows, W::Piece, W::Stage>, View<W::Data>> for SeeRoom<W> {
     ghost then = { sees_room W.upto W.first };
 }
 
@@ -51,7 +51,7 @@ pub(crate) struct Storing<W> {
     work: PhantomData<W>,
 }
 
-impl<W: Work> Play<SlotValue<W::Rows, W::Piece, W::Stage>, View<W::Told>> for Storing<W> {
+impl<W: Work> Play<SlotValue<W::Rows, W::Piece, W::Stage>, View<W::Data>> for Storing<W> {
     ghost then = { stores W.filled };
 }
 
@@ -67,7 +67,7 @@ pub(crate) struct SeeBlock<W> {
     work: PhantomData<W>,
 }
 
-impl<W: Work> Play<SlotValue<W::Rows, W::Piece, W::Stage>, View<W::Told>> for SeeBlock<W> {
+impl<W: Work> Play<SlotValue<W::Rows, W::Piece, W::Stage>, View<W::Data>> for SeeBlock<W> {
     ghost then = { sees_block W.upto W.first };
 }
 
@@ -76,7 +76,7 @@ pub(crate) struct Reading<W> {
     work: PhantomData<W>,
 }
 
-impl<W: Work> Play<SlotValue<W::Rows, W::Piece, W::Stage>, View<W::Told>> for Reading<W> {
+impl<W: Work> Play<SlotValue<W::Rows, W::Piece, W::Stage>, View<W::Data>> for Reading<W> {
     ghost then = { reads W.upto W.is_rows };
 }
 
@@ -92,7 +92,7 @@ pub(crate) struct Claiming<W> {
     work: PhantomData<W>,
 }
 
-impl<W: Work> Play<SlotValue<W::Rows, W::Piece, W::Stage>, View<W::Told>> for Claiming<W> {
+impl<W: Work> Play<SlotValue<W::Rows, W::Piece, W::Stage>, View<W::Data>> for Claiming<W> {
     ghost then = { claims W.upto W.first };
 }
 
@@ -115,7 +115,7 @@ pub(crate) struct Winning<W> {
     work: PhantomData<W>,
 }
 
-impl<W: Work> Play<SlotValue<W::Rows, W::Piece, W::Stage>, View<W::Told>> for Winning<W> {
+impl<W: Work> Play<SlotValue<W::Rows, W::Piece, W::Stage>, View<W::Data>> for Winning<W> {
     ghost then = { wins W.upto W.is_stage };
 }
 
@@ -124,7 +124,7 @@ pub(crate) struct TakePiece<W> {
     work: PhantomData<W>,
 }
 
-impl<W: Work> Play<SlotValue<W::Rows, W::Piece, W::Stage>, View<W::Told>> for TakePiece<W> {
+impl<W: Work> Play<SlotValue<W::Rows, W::Piece, W::Stage>, View<W::Data>> for TakePiece<W> {
     ghost then = { takes_piece W.upto W.is_piece false };
 }
 
@@ -133,7 +133,7 @@ pub(crate) struct TakeMark<W> {
     work: PhantomData<W>,
 }
 
-impl<W: Work> Play<SlotValue<W::Rows, W::Piece, W::Stage>, View<W::Told>> for TakeMark<W> {
+impl<W: Work> Play<SlotValue<W::Rows, W::Piece, W::Stage>, View<W::Data>> for TakeMark<W> {
     ghost then = { takes_piece W.upto W.is_piece true };
 }
 

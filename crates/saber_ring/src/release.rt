@@ -16,7 +16,7 @@ use saber_core::Work;
 // Puts the stage into its slot and gives the turn up.
 pub(crate) fn set_down<W: Work>(
     ring: &Ring<W>,
-    place: &mut TableSeat<SlotValue<W::Rows, W::Piece, W::Stage>, View<W::Told>>,
+    place: &mut TableSeat<SlotValue<W::Rows, W::Piece, W::Stage>, View<W::Data>>,
     stage: W::Stage,
     k: u64,
     state: TurnState,

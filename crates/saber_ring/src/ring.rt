@@ -18,8 +18,8 @@ use std::alloc::{AllocError as NoMemory, Global};
 pub struct Ring<W: Work> {
     pub(crate) table: Table<
         SlotValue<W::Rows, W::Piece, W::Stage>,
-        View<W::Told>,
-        RingKey<W::Told>,
+        View<W::Data>,
+        RingKey<W::Data>,
         RingRule<W>,
         Global,
     >,
@@ -35,7 +35,7 @@ impl<W: Work> Ring<W> {
     /// A ring of so many cells over a running stage that has assembled nothing, and its first seat. The
     /// fixed data of the work are those that `J` names; from then on each view has them. This is the
     /// only call that takes memory; where there is none, the stage comes back.
-    pub fn new<J: FixedData<W::Told>>(
+    pub fn new<J: FixedData<W::Data>>(
         alloc: Global,
         size: u32,
         stage: W::Stage,
@@ -48,7 +48,7 @@ impl<W: Work> Ring<W> {
         ensures refused { IfErr result (λ e. e.1 ≡ stage) }
     {
         let size = size as u64;
-        let Ok(told) = told_by::<W::Told, J>(alloc) else {
+        let Ok(told) = told_by::<W::Data, J>(alloc) else {
             return Err((NoMemory, stage));
         };
         let (words, slots) = match first_parts(alloc, size, stage) {

@@ -49,7 +49,7 @@ const READING: u64 = 3;
 /// nothing else.
 #[derive(Drop)]
 pub struct Seat<W: Work> {
-    pub(crate) place: TableSeat<SlotValue<W::Rows, W::Piece, W::Stage>, View<W::Told>>,
+    pub(crate) place: TableSeat<SlotValue<W::Rows, W::Piece, W::Stage>, View<W::Data>>,
     // The block that it reads.
     pub(crate) block: Option<u64>,
     pub ghost alive: { live place.me.0.base ≡ 1 },

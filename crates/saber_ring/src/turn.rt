@@ -38,7 +38,7 @@ impl<W: Work> Turn<W> {
 
     /// Lends the stage for writing.
     pub fn stage(&mut self) -> &mut W::Stage
-        ensures* writes_back { sem 𝓛 (LendsStage W.row W.Rows.row W.Piece.row W.Stage.row W.Told.row W.Work self.entry result) }
+        ensures* writes_back { sem 𝓛 (LendsStage W.row W.Rows.row W.Piece.row W.Stage.row W.Data.row W.Work self.entry result) }
         ensures value { result.now ≡ self.old.stage }
     {
         &mut self.stage

@@ -121,7 +121,7 @@ pub struct RingRule<W> {
     work: PhantomData<W>,
 }
 
-impl<W: Work> TableRule<SlotValue<W::Rows, W::Piece, W::Stage>, View<W::Told>, RingKey<W::Told>>
+impl<W: Work> TableRule<SlotValue<W::Rows, W::Piece, W::Stage>, View<W::Data>, RingKey<W::Data>>
     for RingRule<W> {
     ghost use Rattle.saber_ring.specs.Shows.{Shows, first_view};
 

@@ -5,7 +5,7 @@ use Rattle.std.proofs.lemmas.Bool.Decides.{nat_tests}
 use Rattle.saber_plan.specs.declared.rows.Row.{Row}
 use Rattle.saber_plan.specs.Rows.{SideRules, Place, stamp, falls, late, is_due, due, waiting, raised, in_time, crowds}
 use Rattle.saber_rows.specs.Judged.{is_ready_at}
-use Rattle.saber_rows.specs.Held.{InTime, first_stamp, least_of}
+use Rattle.saber_rows.specs.HeldRows.{InTime, first_stamp, least_of}
 
 -- ---- a row more
 

@@ -3,7 +3,7 @@ use Rattle.std.proofs.Common.{◌≡◌, ℕ, ◌+◌, ◌<◌, ◌≤◌, lengt
 use Rattle.std.proofs.lemmas.List.{take_all, drop_all}
 use Rattle.saber_plan.specs.declared.rows.RowCause.{RowCause}
 use Rattle.saber_plan.specs.Rows.{Line, all_read, refused, judge, timed, after_line, read_by, lines_of, onto_line, without_cr, bad}
-use Rattle.saber_plan.specs.LineFacts.{length-without_cr, long_known}
+use Rattle.saber_plan.specs.Facts.Lines.{length-without_cr, long_known}
 use Rattle.saber_rows.specs.LineFeeds.{onto_lines, HasNoFeed}
 use Rattle.saber_rows.specs.Reader.{Reader}
 use Rattle.saber_rows.specs.Turns.{Fronts, Steps, same}

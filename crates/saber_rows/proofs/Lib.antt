@@ -14,7 +14,7 @@ pub mod ReadSteps
 pub mod SoundRows
 pub mod LastLines
 pub mod Chains
-pub mod Told
+pub mod ReaderTexts
 pub mod QuickTakes
 pub mod FedReads
 pub mod Fronts

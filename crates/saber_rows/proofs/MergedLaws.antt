@@ -6,7 +6,7 @@ use Rattle.saber_rows.specs.Reader.{Reader, to_come}
 use Rattle.saber_rows.specs.Heads.{Headed, Takes}
 use Rattle.saber_rows.specs.Merging.{Merger, merger_rest, merger_over, MergeMoves}
 use Rattle.saber_rows.specs.Laws.{LinesPass, MergesGoOn, MergersStand, MergesTell}
-use Rattle.saber_rows.proofs.Told.{none_comes, all_comes, can_come}
+use Rattle.saber_rows.proofs.ReaderTexts.{none_comes, all_comes, can_come}
 use Rattle.saber_rows.proofs.Fronts.{stand, looked}
 use Rattle.saber_rows.proofs.MergedTurns.{takes_on, followed, is_ahead, in_turn, goes}
 

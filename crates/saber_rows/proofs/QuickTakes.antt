@@ -13,7 +13,7 @@ use Rattle.saber_rows.proofs.Chains.{moved}
 use Rattle.saber_rows.proofs.LineSteps.{row_steps, row_judged}
 use Rattle.saber_rows.proofs.SoundRows.{none_held, given_at_once, sound_at_once}
 use Rattle.saber_rows.proofs.TakenRows.{accepted}
-use Rattle.saber_rows.proofs.Told.{is_next}
+use Rattle.saber_rows.proofs.ReaderTexts.{is_next}
 
 -- without slack, where no end is known
 module _ (r : Reader) (over : Option Behind) (sound : Sound r.rules r.place r.last over) (none : over ≡ None) (unknown : r.over ≡ None) (slack : r.rules.slack ≡ 0)

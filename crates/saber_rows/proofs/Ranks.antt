@@ -8,7 +8,7 @@ use Rattle.std.specs.declared.cmp.Ordering.TheVariants.{Less, Equal, Greater}
 use Rattle.std.proofs.lemmas.Bool.Decides.{nat_tests}
 use Rattle.saber_plan.specs.declared.rows.Row.{Row}
 use Rattle.saber_plan.specs.Rows.{stamp, in_time}
-use Rattle.saber_rows.specs.Held.{IsRanked, first_stamp}
+use Rattle.saber_rows.specs.HeldRows.{IsRanked, first_stamp}
 use Rattle.saber_rows.specs.declared.waiting.Rank.{Rank}
 
 -- by timestamp, then by line

@@ -3,7 +3,7 @@ pub mod Fields
 pub mod Judged
 pub mod LineFeeds
 pub mod Buffer
-pub mod Held
+pub mod HeldRows
 pub mod Waiting
 pub mod Sound
 pub mod QuickRows

@@ -8,7 +8,7 @@ use Rattle.saber_plan.specs.declared.rows.Side.{Side}
 use Rattle.std.specs.List.{AllByRecursion}
 use Rattle.saber_plan.specs.Rows.{stamp, most_held, SideRules, Place, RowFits, waiting}
 use Rattle.saber_rows.specs.Judged.{is_ready_at}
-use Rattle.saber_rows.specs.Held.{InTime}
+use Rattle.saber_rows.specs.HeldRows.{InTime}
 use Rattle.saber_rows.specs.declared.ends.Behind.{Behind}
 use Rattle.saber_rows.specs.declared.ends.Behind.TheVariants.{AllRead}
 

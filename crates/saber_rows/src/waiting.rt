@@ -1,7 +1,7 @@
 // Rows that wait until no earlier one can come.
 ghost use Rattle.std.proofs.Props.{props};
 ghost use Rattle.std.specs.List.{AllByRecursion};
-ghost use Rattle.saber_rows.specs.Held.{IsRanked};
+ghost use Rattle.saber_rows.specs.HeldRows.{IsRanked};
 
 use crate::judge::stamp_of;
 use saber_plan::{NoMemory, Row};
@@ -25,7 +25,7 @@ pub(crate) struct Waiting {
 impl Waiting {
     ghost use Rattle.std.specs.Prelude.{◌≡◌, ◌≤◌, ◌+◌, [], ◌∷◌, length, IfNone, IfSome, OnOk, OnErr, Some, None};
     ghost use Rattle.saber_plan.specs.Rows.{stamp, in_time};
-    ghost use Rattle.saber_rows.specs.Held.{first_stamp, least_of};
+    ghost use Rattle.saber_rows.specs.HeldRows.{first_stamp, least_of};
     ghost use Rattle.saber_rows.specs.Waiting.{rows_in, AllBefore};
 
     /// No rows. Takes no memory.

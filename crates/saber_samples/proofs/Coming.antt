@@ -9,9 +9,9 @@ use Rattle.saber_plan.specs.Rows.{stamp, RowFits}
 use Rattle.saber_plan.specs.Trees.{Tree}
 use Rattle.saber_plan.specs.Windows.{by_side, step_mark, mark_after, can_follow, Ordered}
 use Rattle.saber_plan.specs.Checked.{columns_on}
-use Rattle.saber_plan.specs.Given.{IsRowOf, RowsFit}
-use Rattle.saber_plan.specs.RowFacts.{mark-append, Ordered-join}
-use Rattle.saber_plan.specs.ListFacts.{all_append}
+use Rattle.saber_plan.specs.GivenRows.{IsRowOf, RowsFit}
+use Rattle.saber_plan.specs.Facts.Rows.{mark-append, Ordered-join}
+use Rattle.saber_plan.specs.Facts.Lists.{all_append}
 use Rattle.saber_samples.specs.Filling.{HasKeyed, HasPairs, CanCome}
 
 one_ordered : (m : Mark) (x : Row) → can_follow m (stamp x.values) ≡ true → Ordered m (x ∷ [])

@@ -3,8 +3,8 @@ use Rattle.std.proofs.Common.{◌≡◌, List, ◌++◌, sym, ◌∙◌, ap, sub
 use Rattle.saber_plan.specs.declared.rows.Row.{Row}
 use Rattle.saber_plan.specs.Trees.{Tree}
 use Rattle.saber_plan.specs.Windows.{no_rows, mark_of, mark_after}
-use Rattle.saber_plan.specs.Given.{RowsFit}
-use Rattle.saber_plan.specs.RowFacts.{mark-append, fits_back}
+use Rattle.saber_plan.specs.GivenRows.{RowsFit}
+use Rattle.saber_plan.specs.Facts.Rows.{mark-append, fits_back}
 use Rattle.saber_fragment.specs.declared.blocks.Block.{Block}
 use Rattle.saber_fragment.specs.Drafts.{EndWith, CanStart}
 use Rattle.saber_samples.specs.Standing.{IsAlone, ComesBehind}

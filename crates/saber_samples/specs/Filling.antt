@@ -6,7 +6,7 @@ use Rattle.saber_plan.specs.declared.windows.Mark.{Mark}
 use Rattle.saber_plan.specs.Trees.{Tree}
 use Rattle.saber_plan.specs.Checked.{columns_on}
 use Rattle.saber_plan.specs.Windows.{mark_after, Ordered}
-use Rattle.saber_plan.specs.Given.{RowsFit}
+use Rattle.saber_plan.specs.GivenRows.{RowsFit}
 
 -- a query over a stream of three columns
 abbrev pub HasKeyed : Tree → Type 0

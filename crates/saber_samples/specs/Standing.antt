@@ -4,7 +4,7 @@ use Rattle.saber_plan.specs.declared.rows.Row.{Row}
 use Rattle.saber_plan.specs.Inputs.{Input}
 use Rattle.saber_plan.specs.Trees.{Tree}
 use Rattle.saber_plan.specs.Windows.{mark_of, no_rows}
-use Rattle.saber_plan.specs.Given.{RowsFit}
+use Rattle.saber_plan.specs.GivenRows.{RowsFit}
 use Rattle.saber_plan.specs.Tasks.{Kept, kept_behind}
 use Rattle.saber_fragment.specs.declared.blocks.Block.{Block}
 use Rattle.saber_fragment.specs.Drafts.{EndWith}
@@ -21,5 +21,5 @@ pub record ComesBehind (q : Tree) (own : Block) (xs : List Row) : Type 0 where
 
 -- what is kept is what is to be kept behind an input, and the input is what was taken in
 pub record Keeps (q : Tree) (kept : Kept) (has : Input → Type 0) (r : Input) : Type 0 where
-  pub held : kept ≡ kept_behind q r
+  pub contents : kept ≡ kept_behind q r
   pub taken : has r

@@ -8,8 +8,8 @@ use Rattle.saber_plan.specs.Trees.{Tree}
 use Rattle.saber_plan.specs.Values.{passes}
 use Rattle.saber_plan.specs.Answers.{item_value, line, selected}
 use Rattle.saber_select.specs.Printing.{row_text}
-use Rattle.saber_cells.specs.Cells.{cells}
-use Rattle.saber_cells.specs.CellFacts.{line_after}
+use Rattle.saber_digits.specs.Cells.{cells}
+use Rattle.saber_digits.specs.CellFacts.{line_after}
 
 -- the first row's line, and those of the others
 pub selected_next : (q : Tree) (x : Row) (xs : List Row) → selected q (x ∷ xs) ≡ row_text q x.values ++ selected q xs

@@ -11,7 +11,7 @@ use Rattle.saber_plan.specs.declared.plans.Shape.TheVariants.{Select}
 use Rattle.saber_plan.specs.Trees.{Tree}
 use Rattle.saber_plan.specs.Rows.{RowFits}
 use Rattle.saber_plan.specs.Checked.{named_columns, ItemFits, columns_on}
-use Rattle.saber_plan.specs.Given.{IsRowOf}
+use Rattle.saber_plan.specs.GivenRows.{IsRowOf}
 use Rattle.saber_laws.specs.Plans.{NoWindow}
 use Rattle.saber_plan.specs.Windows.{Frame, unwindowed, has_windows, mark_after, ending, closed_count, begun_count, kind_of, from}
 use Rattle.saber_plan.specs.Answers.{by_shape, frame, selected}
@@ -19,7 +19,7 @@ use Rattle.saber_plan.specs.Parts.{Part, part_lines}
 use Rattle.saber_plan.specs.Tasks.{numbered, is_complete}
 use Rattle.saber_plan.specs.Needs.{of_kind, piece_here, part_here, is_closing, is_pending, is_opening}
 use Rattle.saber_plan.specs.Shares.{shares_here}
-use Rattle.saber_plan.specs.RowFacts.{is_left}
+use Rattle.saber_plan.specs.Facts.Rows.{is_left}
 use Rattle.saber_eval.specs.Widths.{widths}
 use Rattle.saber_select.specs.Printing.{CanShow}
 

@@ -4,7 +4,7 @@ use Rattle.std.specs.Cmp.{nat_cmp_total}
 use Rattle.std.specs.FinMap.{empty, get, entries, from_entries, retain_keys, same_map, get-empty, get-from_entries, get-retain_keys, nat_cmp-IsAntisymmetric}
 use Rattle.saber_plan.specs.Trees.{Tree}
 use Rattle.saber_plan.specs.Merges.{join, both}
-use Rattle.saber_plan.specs.MapFacts.{get-both, join-none, entries-empty}
+use Rattle.saber_plan.specs.Facts.Maps.{get-both, join-none, entries-empty}
 use Rattle.saber_plan.specs.Parts.{Part, merge, part_lines}
 use Rattle.saber_plan.specs.Tasks.{Parts, written_by, left_by}
 use Rattle.saber_plan.specs.Shares.{Shares, piece_in}

@@ -3,10 +3,10 @@ ghost use Rattle.std.specs.Prelude.{◌≡◌, ◌≤◌, ◌++◌, [], length, 
 ghost use Rattle.std.specs.Fmt.{signed_decimal};
 ghost use Rattle.std.specs.List.{AllByRecursion};
 ghost use Rattle.saber_plan.specs.Answers.{item_value, line};
-ghost use Rattle.saber_cells.specs.Cells.{cells};
+ghost use Rattle.saber_digits.specs.Cells.{cells};
 ghost use Rattle.saber_select.specs.Printing.{CanShow};
 
-use saber_cells::{write_cell, write_number};
+use saber_digits::{write_cell, write_number};
 use saber_eval::value;
 use saber_flat::RowRef;
 use saber_plan::{Item, NoMemory};

@@ -27,9 +27,9 @@ impl Operator for Select<'_> {
 
     ghost has_seen = { λ select. IsTextOf (tree_of select) };
 
-    ghost held = { λ _. nothing_kept };
+    ghost contents = { λ _. nothing_kept };
 
-    ghost staying = { λ _. nothing_kept };
+    ghost remainder = { λ _. nothing_kept };
 
     ghost has_taken = { λ _ _ _. Unit {0} };
 
@@ -41,7 +41,7 @@ impl Operator for Select<'_> {
         Ok(Text::from_vec(text))
     }
 
-    fn feed(&self, _alloc: Global, _draft: &mut Text, _block: &Block) -> Result<(), NoMemory> {
+    fn look_back(&self, _alloc: Global, _draft: &mut Text, _block: &Block) -> Result<(), NoMemory> {
         Ok(())
     }
 

@@ -5,7 +5,7 @@ ghost use Rattle.saber_plan.specs.declared.plans.Shape.TheVariants as shapes;
 ghost use Rattle.saber_plan.specs.Trees.{tree_of};
 ghost use Rattle.saber_plan.specs.Values as v;
 ghost use Rattle.saber_plan.specs.Checked.{IsChecked, IsPlain};
-ghost use Rattle.saber_plan.specs.Given.{IsRowOf};
+ghost use Rattle.saber_plan.specs.GivenRows.{IsRowOf};
 ghost use Rattle.saber_plan.specs.Answers.{selected};
 ghost use Rattle.saber_laws.specs.Plans.{NoWindow};
 ghost use Rattle.saber_select.specs.Printing.{CanShow, row_text};

@@ -7,7 +7,7 @@ ghost use Rattle.saber_ring.specs.Numbers.{again, keeps, whole, early, rises};
 
 use crate::texts::{assert_same, parts};
 use saber_core::Work;
-use saber_crew::{Fed, Over, Supplied, Supply, run};
+use saber_crew::{Dispatched, Over, Supplied, Supply, run};
 use saber_io::OpenGate;
 use saber_plan::Sizes;
 use saber_ring::FixedData;
@@ -30,7 +30,7 @@ impl Work for Noting {
 
     type Stage = Vec<u64>;
 
-    type Told = LinkedList<u64>;
+    type Data = LinkedList<u64>;
 
     ghost is_told = { have_length };
 
@@ -84,7 +84,7 @@ impl Labor<Noting> for Adding {
         Some(own.wrapping_mul(1000))
     }
 
-    fn feed(&self, _alloc: Global, draft: &mut u64, block: &u64) -> bool {
+    fn look_back(&self, _alloc: Global, draft: &mut u64, block: &u64) -> bool {
         *draft = draft.wrapping_add(*block);
         true
     }
@@ -166,7 +166,7 @@ fn sizes(ring: u32, threads: u32) -> Sizes
 }
 
 // What the stage noted, and how many tasks there were where all were given: else that is up to the threads.
-fn told(alloc: Global, pieces: &[u64], fed: &Fed) -> Result<String, AllocError> {
+fn told(alloc: Global, pieces: &[u64], fed: &Dispatched) -> Result<String, AllocError> {
     if fed.over == Over::AllGiven {
         format!(in alloc; "{pieces:?} of {}", fed.tasks)
     } else {

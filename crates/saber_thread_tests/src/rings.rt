@@ -128,7 +128,7 @@ impl Work for Adding {
 
     type Stage = u64;
 
-    type Told = LinkedList<u64>;
+    type Data = LinkedList<u64>;
 
     ghost is_told = { AreNumbers };
 

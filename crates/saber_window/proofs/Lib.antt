@@ -2,4 +2,4 @@ mod Lemmas
 mod PastLaws
 mod Alike
 mod FreeSteps
-mod RunFacts
+mod SliceFacts

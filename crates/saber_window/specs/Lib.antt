@@ -4,3 +4,4 @@ pub mod Laws
 pub mod Together
 pub mod Stretches
 pub mod Timed
+pub mod Tasks

@@ -13,7 +13,7 @@ use crate::counts::{count_reached, count_to};
 use crate::laws::closed_within_begun;
 use crate::points::{ends_by, spans};
 use crate::rows::point;
-use crate::runs::{rows_end, times_end};
+use crate::slices::{rows_end, times_end};
 use crate::windowed::{Windowed, windowed_of};
 use saber_flat::{RowRef, Rows};
 use saber_laws::{begun_are_counted, checked_fit, closed_are_counted};
@@ -268,7 +268,7 @@ impl Windows {
 
     /// Where some rows end that lie in the same windows, from row `from` on. They are as many as there are, if
     /// there is one stream. No row of them needs a division to tell its windows.
-    pub fn run_end(&self, rows: &Rows, from: usize, before: &Mark) -> usize
+    pub fn slice_end(&self, rows: &Rows, from: usize, before: &Mark) -> usize
         requires there { from < length rows.now }
         requires small { before.now.left < 2 ^ 63 }
         requires left { AllByRecursion IsLeft (drop from rows.now) }

@@ -7,8 +7,8 @@ use Rattle.saber_plan.specs.declared.windows.Mark.{Mark}
 use Rattle.saber_plan.specs.Trees.{Tree}
 use Rattle.saber_plan.specs.Windows.{no_rows, placed_after}
 use Rattle.saber_plan.specs.Answers.{frame}
-use Rattle.saber_plan.specs.ListFacts.{few_pass}
-use Rattle.saber_plan.specs.RowFacts.{length-placed}
+use Rattle.saber_plan.specs.Facts.Lists.{few_pass}
+use Rattle.saber_plan.specs.Facts.Rows.{length-placed}
 use Rattle.saber_laws.specs.Plans.{OneWindow}
 use Rattle.saber_panes.specs.Panes.{divisor, first_pane, pane_count, panes_in, panes_here, counted, is_counted}
 

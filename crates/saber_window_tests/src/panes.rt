@@ -2,7 +2,7 @@
 ghost use Rattle.std.specs.Prelude.{◌≡◌, ◌+◌, ◌++◌, ◌^◌, ◌<◌, ◌≤◌, length, IfOk};
 ghost use Rattle.saber_plan.specs.declared.plans.Shape.TheVariants as shapes;
 ghost use Rattle.saber_plan.specs.Answers.{frame};
-ghost use Rattle.saber_plan.specs.Given.{RowsFit};
+ghost use Rattle.saber_plan.specs.GivenRows.{RowsFit};
 ghost use Rattle.saber_plan.specs.Trees.{tree_of};
 ghost use Rattle.saber_plan.specs.Windows.{mark_after, no_rows};
 ghost use Rattle.saber_panes.specs.Panes.{first_pane, pane_count, panes_here};

@@ -8,8 +8,8 @@ ghost use Rattle.saber_samples.specs.Asking.{IsOfOne};
 
 use crate::plans::plan_of_groups;
 use crate::texts::{assert_text, cut, is_remark, keyed_rows};
-use saber_cells::{write_cell, write_count};
 use saber_changes::{Answers, Change, Walk};
+use saber_digits::{write_cell, write_count};
 use saber_flat::RowRef;
 use saber_partial::{
     Aggregates, Gathering, Partial, Pile, Steps, groups_are_of_rows, small_parts_merge,

@@ -425,7 +425,7 @@ fn check_together(rt: &impl Abort, windows: &Windows, rows: &Rows, left: u64, wa
     requires order { (l : ℕ) → Ordered (record { left = l; right = 0; last = None; ended = false }) rows.now }
     requires few { left < 2 ^ 63 }
 {
-    let end = windows.run_end(rows, 0, &mark(left, 0, None));
+    let end = windows.slice_end(rows, 0, &mark(left, 0, None));
     assert!(rt; end == wanted);
 }
 

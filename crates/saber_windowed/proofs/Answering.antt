@@ -13,8 +13,8 @@ use Rattle.saber_plan.specs.Windows.{Placed, place, has, inside, placed_after, s
 use Rattle.saber_plan.specs.Answers.{key_cmp, line, entry_lines, item_value, frame, by_shape, passing, row_key}
 use Rattle.saber_plan.specs.Parts.{Numbers, part, row_part, group_part, pair_part, part_lines, part_answers, answers_in, answers_of, row_numbers, shown, summed, least, greatest, plain}
 use Rattle.saber_plan.specs.Checked.{IsChecked}
-use Rattle.saber_plan.specs.Given.{IsPartOf, AreNeighbors}
-use Rattle.saber_plan.specs.ListFacts.{each-filter}
+use Rattle.saber_plan.specs.GivenRows.{IsPartOf, AreNeighbors}
+use Rattle.saber_plan.specs.Facts.Lists.{each-filter}
 use Rattle.saber_windowed.specs.Found.{Found, found_row, found_of, Rises, Precedes, entry_of, part_of, values_in, lines_for}
 use Rattle.saber_windowed.proofs.Finding.{behind, behind_after, placed_below, placed_from, found_each, Rising, rising-filter, placed_rising, found_rises}
 use Rattle.saber_windowed.proofs.Keyed.{entries_part, same_rows}

@@ -9,7 +9,7 @@ use Rattle.std.proofs.lemmas.Bool.{eqb-true}
 use Rattle.saber_plan.specs.Parts.{Part, no_part}
 use Rattle.saber_plan.specs.Tasks.{full}
 use Rattle.saber_plan.specs.Answers.{key_cmp}
-use Rattle.saber_plan.specs.PartFacts.{total}
+use Rattle.saber_plan.specs.Facts.Parts.{total}
 use Rattle.saber_fragment.specs.Shown.{windows_by}
 use Rattle.saber_parts.specs.Entries.{entry}
 use Rattle.saber_parts.specs.WindowFacts.{none_kept}

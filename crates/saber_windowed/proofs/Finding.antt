@@ -11,7 +11,7 @@ use Rattle.saber_plan.specs.declared.windows.Mark.{Mark}
 use Rattle.saber_plan.specs.Trees.{Tree}
 use Rattle.saber_plan.specs.Values.{passes}
 use Rattle.saber_plan.specs.Windows.{Placed, place, step_mark, mark_after, placed_after}
-use Rattle.saber_plan.specs.ListFacts.{Each, each-filter}
+use Rattle.saber_plan.specs.Facts.Lists.{Each, each-filter}
 use Rattle.saber_windowed.specs.Found.{Found, found_row, found_of, Rises}
 
 -- ---- one row

@@ -13,9 +13,9 @@ use Rattle.saber_plan.specs.Parts.{Part, row_part, group_part, pair_part, part_l
 use Rattle.saber_plan.specs.Tasks.{full, is_complete}
 use Rattle.saber_plan.specs.Needs.{is_closing, is_pending, is_opening, of_kind, part_here}
 use Rattle.saber_plan.specs.Checked.{IsChecked}
-use Rattle.saber_plan.specs.Given.{RowsFit}
+use Rattle.saber_plan.specs.GivenRows.{RowsFit}
 use Rattle.saber_plan.specs.Shares.{is_closed, shares_here, handed_here}
-use Rattle.saber_plan.specs.NumberFacts.{flat_map-from, flat_filter, numbered_is}
+use Rattle.saber_plan.specs.Facts.Numbers.{flat_map-from, flat_filter, numbered_is}
 use Rattle.saber_laws.specs.Windows.{ClosedAreCounted, BegunAreCounted, BegunStay}
 use Rattle.saber_laws.specs.Ends.{EndsBeginNone}
 use Rattle.saber_laws.specs.Needs.{RowsSpan}

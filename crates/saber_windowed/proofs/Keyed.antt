@@ -13,9 +13,9 @@ use Rattle.std.specs.FinMap.Entries.{below_all}
 use Rattle.saber_plan.specs.Answers.{key_cmp}
 use Rattle.saber_plan.specs.Merges.{join}
 use Rattle.saber_plan.specs.Parts.{Numbers, join_numbers, merge}
-use Rattle.saber_plan.specs.ListFacts.{and_T}
-use Rattle.saber_plan.specs.MapFacts.{get-both, join-none, equal_if, entries-from_rising}
-use Rattle.saber_plan.specs.PartFacts.{total, exact}
+use Rattle.saber_plan.specs.Facts.Lists.{and_T}
+use Rattle.saber_plan.specs.Facts.Maps.{get-both, join-none, equal_if, entries-from_rising}
+use Rattle.saber_plan.specs.Facts.Parts.{total, exact}
 use Rattle.saber_windowed.specs.Found.{Found, AllBelow, AllFrom, Rises, Precedes, entry_of, part_of}
 
 -- ---- keys that rise

@@ -14,8 +14,8 @@ use Rattle.saber_plan.specs.Windows.{Placed}
 use Rattle.saber_plan.specs.Answers.{item_value, row_answers}
 use Rattle.saber_plan.specs.Parts.{summed, least, greatest, plain, row_numbers}
 use Rattle.saber_plan.specs.Checked.{named_columns, IsChecked, ItemFits, columns_on}
-use Rattle.saber_plan.specs.Given.{IsRowOf}
-use Rattle.saber_plan.specs.RowFacts.{is_left}
+use Rattle.saber_plan.specs.GivenRows.{IsRowOf}
+use Rattle.saber_plan.specs.Facts.Rows.{is_left}
 use Rattle.saber_eval.specs.Widths.{widths}
 use Rattle.saber_eval.specs.Fitting.{OneStreamFits, PlanFits}
 use Rattle.saber_laws.specs.Plans.{OneWindow}

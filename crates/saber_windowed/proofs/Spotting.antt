@@ -2,7 +2,7 @@
 use Rattle.std.proofs.Common.{◌≡◌, ℕ, suc, ℤ, ◌+◌, ◌-◌, ◌≤◌, ◌<◌, List, [], ◌∷◌, ◌++◌, map, length, take, drop, slice_range, refl, sym, ◌∙◌, ap, subst, arith, length-append, take-append-drop}
 use Rattle.std.proofs.lemmas.List.{map-append, take_at, drop_at, take_all}
 use Rattle.std.proofs.Math.Seq.{drop-append-add}
-use Rattle.saber_plan.specs.ListFacts.{slice-take, all_weaker, all_front, all_append}
+use Rattle.saber_plan.specs.Facts.Lists.{slice-take, all_weaker, all_front, all_append}
 use Rattle.saber_windowed.specs.declared.picked.Spot.{Spot}
 use Rattle.saber_windowed.specs.Found.{Found, AllBelow, AllFrom, Rises, Precedes}
 use Rattle.saber_windowed.specs.Spots.{found_at, found_in, IsWithin, AreWithin}

@@ -8,8 +8,8 @@ use Rattle.std.specs.Cmp.{nat_cmp_total}
 use Rattle.std.specs.FinMap.{find, is_sorted, get-from_entries}
 use Rattle.std.specs.FinMap.Entries.{below_all}
 use Rattle.saber_plan.specs.Windows.{from}
-use Rattle.saber_plan.specs.ListFacts.{Each, T_parts}
-use Rattle.saber_plan.specs.NumberFacts.{flat_map-from, flat_none, from_more}
+use Rattle.saber_plan.specs.Facts.Lists.{Each, T_parts}
+use Rattle.saber_plan.specs.Facts.Numbers.{flat_map-from, flat_none, from_more}
 use Rattle.saber_windowed.specs.Found.{Found}
 use Rattle.saber_windowed.specs.Open.{seen_windows, rows_in}
 use Rattle.saber_windowed.proofs.Putting.{same_number, other_number}

@@ -9,8 +9,8 @@ use Rattle.saber_plan.specs.Trees.{Tree}
 use Rattle.saber_plan.specs.Windows.{Fits, Placed, place, has, mark_after, placed_after}
 use Rattle.saber_plan.specs.Answers.{frame}
 use Rattle.saber_plan.specs.Needs.{first_window, past_window}
-use Rattle.saber_plan.specs.ListFacts.{each-filter}
-use Rattle.saber_plan.specs.RowFacts.{placed-append, placed-one}
+use Rattle.saber_plan.specs.Facts.Lists.{each-filter}
+use Rattle.saber_plan.specs.Facts.Rows.{placed-append, placed-one}
 use Rattle.saber_laws.specs.Needs.{RowsSpan}
 use Rattle.saber_laws.specs.Pairs.{after_rows}
 use Rattle.saber_windowed.specs.Found.{Found, found_of, AllBelow}

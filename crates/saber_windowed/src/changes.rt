@@ -77,9 +77,9 @@ impl Operator for WindowedChanges<'_> {
 
     ghost has_seen = { λ o draft s. HandsOn (tree_of o) (shares_of part_of draft) s };
 
-    ghost held = { λ s. kept_by (parts_by part_of s.parts.entries) s.walk };
+    ghost contents = { λ s. kept_by (parts_by part_of s.parts.entries) s.walk };
 
-    ghost staying = { λ s. kept_by (parts_from part_of s.walk.next s.parts.entries) s.walk };
+    ghost remainder = { λ s. kept_by (parts_from part_of s.walk.next s.parts.entries) s.walk };
 
     ghost has_taken = { λ o s r. HasWalked (tree_of o) s.walk r };
 
@@ -89,7 +89,7 @@ impl Operator for WindowedChanges<'_> {
         self.select.handed_of(alloc, own)
     }
 
-    fn feed(
+    fn look_back(
         &self,
         _alloc: Global,
         _draft: &mut Piece<Picked>,

@@ -72,7 +72,7 @@ impl Operator for WindowedOperator<'_> {
     ghost use Rattle.saber_plan.specs.Shares.{shares_between};
     ghost use Rattle.saber_plan.specs.Tasks.{by_windows};
     ghost use Rattle.saber_fragment.specs.Shown.{shares_of};
-    ghost use Rattle.saber_parts.specs.Stored.{held_by, staying_by};
+    ghost use Rattle.saber_parts.specs.Stored.{held_by, remainder_by};
     ghost use Rattle.saber_windowed.specs.Found.{part_of};
     ghost use Rattle.saber_windowed.specs.Sights.{Gives};
 
@@ -80,9 +80,9 @@ impl Operator for WindowedOperator<'_> {
 
     ghost has_seen = { λ o draft s. Gives (tree_of o) (shares_of part_of draft) s };
 
-    ghost held = { λ s. by_windows (held_by part_of s) };
+    ghost contents = { λ s. by_windows (held_by part_of s) };
 
-    ghost staying = { λ s. by_windows (staying_by part_of s) };
+    ghost remainder = { λ s. by_windows (remainder_by part_of s) };
 
     ghost has_taken = { λ _ _ _. Unit {0} };
 
@@ -92,7 +92,7 @@ impl Operator for WindowedOperator<'_> {
         self.select.piece_of(alloc, own)
     }
 
-    fn feed(
+    fn look_back(
         &self,
         _alloc: Global,
         _draft: &mut Piece<Picked>,

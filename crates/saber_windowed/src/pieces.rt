@@ -3,7 +3,7 @@ ghost use Rattle.std.specs.Prelude.{◌≡◌, [], IfOk};
 ghost use Rattle.saber_plan.specs.Trees.{tree_of};
 ghost use Rattle.saber_plan.specs.Answers.{frame};
 ghost use Rattle.saber_plan.specs.Windows.{mark_after, ending, closed_count, begun_count};
-ghost use Rattle.saber_plan.specs.Given.{RowsFit};
+ghost use Rattle.saber_plan.specs.GivenRows.{RowsFit};
 ghost use Rattle.saber_plan.specs.Shares.{shares_here, handed_here};
 ghost use Rattle.saber_fragment.specs.Shown.{shares_of};
 ghost use Rattle.saber_windowed.specs.Found.{part_of};

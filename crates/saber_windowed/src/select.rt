@@ -7,7 +7,7 @@ ghost use Rattle.saber_plan.specs.Values as v;
 ghost use Rattle.saber_plan.specs.Checked.{IsChecked};
 ghost use Rattle.saber_plan.specs.Windows as w;
 ghost use Rattle.saber_plan.specs.Answers.{frame, item_value};
-ghost use Rattle.saber_plan.specs.Given.{IsRowOf};
+ghost use Rattle.saber_plan.specs.GivenRows.{IsRowOf};
 ghost use Rattle.saber_laws.specs.Plans.{OneWindow};
 ghost use Rattle.saber_windowed.specs.Showing.{HasWord, CanShow};
 

@@ -3,7 +3,7 @@ ghost use Rattle.std.specs.Prelude.{◌≡◌, ◌^◌, ◌≤◌, ◌∷◌, []
 ghost use Rattle.saber_plan.specs.Trees.{tree_of};
 ghost use Rattle.saber_plan.specs.Answers.{frame};
 ghost use Rattle.saber_plan.specs.Windows.{mark_after, place};
-ghost use Rattle.saber_plan.specs.Given.{IsRowOf, RowsFit};
+ghost use Rattle.saber_plan.specs.GivenRows.{IsRowOf, RowsFit};
 ghost use Rattle.saber_windowed.specs.Found.{AllBelow};
 ghost use Rattle.saber_windowed.specs.Open.{seen_windows, rows_in, AllEarlier, PutsAt, Puts, Takes, HoldsTask};
 

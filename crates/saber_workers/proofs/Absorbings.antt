@@ -12,7 +12,7 @@ use Rattle.saber_assembly.specs.declared.stage.State.TheVariants.{Running, SinkF
 use Rattle.saber_assembly.specs.declared.stage.Absorbed.{Absorbed}
 use Rattle.saber_assembly.specs.declared.stage.Absorbed.TheVariants.{Stopped}
 use Rattle.saber_fragment.specs.Stores.{CanTakeIn}
-use Rattle.saber_assembly.specs.declared.work.Told.{Told}
+use Rattle.saber_assembly.specs.declared.work.RunData.{RunData}
 use Rattle.saber_assembly.specs.Stages.{seen, Start, Tasks, After, Keeps, IsPieceAt}
 use Rattle.saber_assembly.specs.Works.{input_of, first_tasks, start_of, IsPieceOf, IsStageOf}
 use Rattle.saber_assembly.specs.WorkLaws.{keeps_on, takes_next}
@@ -24,19 +24,19 @@ apart e = cc
 unlike : NoMemory ≡ SinkFailed → ⊥
 unlike e = cc
 
-module _ {O P S K : Type 0} (plan : O → Tree) (is_of : O → P → Input → ℕ → ℕ → Type 0) (held : S → Kept) (taken : O → S → Input → Type 0) (written : K → Option (List ℕ)) (faults : K → ℕ)
-    (op : O) (told : Told O) (k : ℕ) (old new : Stage S K) (suits : Suits op told) (is : IsStageOf plan (seen held written faults) taken (first_tasks told k) k false old) where
+module _ {O P S K : Type 0} (plan : O → Tree) (is_of : O → P → Input → ℕ → ℕ → Type 0) (contents : S → Kept) (taken : O → S → Input → Type 0) (written : K → Option (List ℕ)) (faults : K → ℕ)
+    (op : O) (told : RunData O) (k : ℕ) (old new : Stage S K) (suits : Suits op told) (is : IsStageOf plan (seen contents written faults) taken (first_tasks told k) k false old) where
   abbrev KeepsAt : O → ℕ → Input → Start → Stage S K → Type 0
-  KeepsAt z n r start s = Keeps (plan z) n r start (taken z s.store) (seen held written faults s)
+  KeepsAt z n r start s = Keeps (plan z) n r start (taken z s.store) (seen contents written faults s)
 
   -- what the assembly says of its stage afterwards
   abbrev pub SaysAfter : Option P → Type 0
   SaysAfter piece = (n : ℕ) (r : Input) (start : Start) → Tasks (plan op) n r → KeepsAt op n r start old → IfSome piece (λ p. IsPieceAt n r old.k (is_of op p)) → KeepsAt op n r start new
 
   -- the store can take the piece in
-  pub can_absorb : (piece : Option P) → IsPieceOrMark (IsPieceOf plan is_of) told k piece → IfSome piece (λ p. CanTakeIn (plan op) (held old.store) (taken op old.store) (is_of op p))
+  pub can_absorb : (piece : Option P) → IsPieceOrMark (IsPieceOf plan is_of) told k piece → IfSome piece (λ p. CanTakeIn (plan op) (contents old.store) (taken op old.store) (is_of op p))
   can_absorb None piece = piece
-  can_absorb (Some p) piece = subst (λ z. CanTakeIn (plan z) (held old.store) (taken z old.store) (is_of z p)) suits (takes_next plan held taken written faults is_of told k old p is piece)
+  can_absorb (Some p) piece = subst (λ z. CanTakeIn (plan z) (contents old.store) (taken z old.store) (is_of z p)) suits (takes_next plan contents taken written faults is_of told k old p is piece)
 
   with_piece : (p : P) → IsPieceOf plan is_of told k p → SaysAfter (Some p) → KeepsAt told.operator told.size (input_of told) (start_of told) new
   with_piece p piece says =
@@ -44,14 +44,14 @@ module _ {O P S K : Type 0} (plan : O → Tree) (is_of : O → P → Input → �
       let own : IsPieceAt n r k (is_of op p) = subst (λ z. IsPieceAt n r k (is_of z p)) suits piece.piece in
       let here : IsPieceAt n r old.k (is_of op p) = subst (λ j. IsPieceAt n r j (is_of op p)) (sym is.behind) own in
       subst (λ z. KeepsAt z n r (start_of told) new) (sym suits)
-      (says n r (start_of told) (subst (λ z. Tasks (plan z) n r) suits piece.tasks) (subst (λ z. KeepsAt z n r (start_of told) old) suits (keeps_on plan held taken written faults told k old is)) here)
+      (says n r (start_of told) (subst (λ z. Tasks (plan z) n r) suits piece.tasks) (subst (λ z. KeepsAt z n r (start_of told) old) suits (keeps_on plan contents taken written faults told k old is)) here)
 
   with_mark : new.state ≡ NoMemory → written new.sink ≡ written old.sink → faults new.sink ≡ faults old.sink → new.k ≡ old.k → KeepsAt told.operator told.size (input_of told) (start_of told) new
   with_mark lacks same alike stays =
       let q = plan told.operator in let n : ℕ = told.size in let r : Input = input_of told in
-      let was : After q n r (start_of told) (seen held written faults old) Running = subst (After q n r (start_of told) (seen held written faults old)) (is.runs refl) (keeps_on plan held taken written faults told k old is).after in
+      let was : After q n r (start_of told) (seen contents written faults old) Running = subst (After q n r (start_of told) (seen contents written faults old)) (is.runs refl) (keeps_on plan contents taken written faults told k old is).after in
       record {
-        after = subst (After q n r (start_of told) (seen held written faults new)) (sym lacks) (same ∙ was.0 ∙ ap (λ j. appended told.written (text q (upto n r j))) (sym stays), alike ∙ was.2);
+        after = subst (After q n r (start_of told) (seen contents written faults new)) (sym lacks) (same ∙ was.0 ∙ ap (λ j. appended told.written (text q (upto n r j))) (sym stays), alike ∙ was.2);
         taken_is = λ run. absurd (apart (sym lacks ∙ run));
       }
 

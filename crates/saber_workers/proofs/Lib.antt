@@ -1,7 +1,7 @@
 pub mod Grows
 pub mod Lasts
 pub mod Misses
-pub mod Feedings
+pub mod LookBacks
 pub mod Absorbings
 pub mod Pourings
 pub mod Drives

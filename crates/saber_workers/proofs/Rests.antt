@@ -19,12 +19,13 @@ use Rattle.saber_ring.specs.Laws.{IsWhole, NeedsAreWhole}
 use Rattle.saber_assembly.specs.declared.stage.Stage.{Stage}
 use Rattle.saber_assembly.specs.declared.stage.State.{State}
 use Rattle.saber_assembly.specs.declared.stage.State.TheVariants.{Running, SinkFailed, NoMemory}
-use Rattle.saber_assembly.specs.declared.work.Told.{Told}
-use Rattle.saber_assembly.specs.Stages.{StageView, seen, Start, IsCut, After}
+use Rattle.saber_assembly.specs.declared.work.RunData.{RunData}
+use Rattle.saber_assembly.specs.Stages.{StageView, seen, Start, After}
+use Rattle.saber_plan.specs.Runs.{IsCut}
 use Rattle.saber_assembly.specs.Works.{input_of, first_tasks, start_of, first_needed, IsTold, IsBlockOf, IsPieceOf, IsStageOf}
 use Rattle.saber_assembly.specs.WorkLaws.{keeps_on}
 use Rattle.saber_workers.specs.Free.{QueryTable, KeepsRule, AreWhole, FirstAreOut}
-use Rattle.saber_workers.proofs.Feedings.{block_stays}
+use Rattle.saber_workers.proofs.LookBacks.{block_stays}
 
 -- ---- the word of the turn
 
@@ -67,11 +68,11 @@ after_on first q n r d start v NoMemory le a =
     let same : upto n (upto n r d) v.k ≡ upto n r v.k = first n r d v.k (omega (arith, le)) in
     (a.0 ∙ ap (λ z. appended start.written (text q z)) same, a.1)
 
-module _ {O P S K : Type 0} (plan : O → Tree) (is_of : O → P → Input → ℕ → ℕ → Type 0) (held : S → Kept) (taken : O → S → Input → Type 0)
+module _ {O P S K : Type 0} (plan : O → Tree) (is_of : O → P → Input → ℕ → ℕ → Type 0) (contents : S → Kept) (taken : O → S → Input → Type 0)
     (written : K → Option (List ℕ)) (faults : K → ℕ)
-    (whole : NeedsAreWhole (IsTold plan) first_tasks (first_needed plan) (IsBlockOf plan) (IsPieceOf plan is_of) (IsStageOf plan (seen held written faults) taken))
+    (whole : NeedsAreWhole (IsTold plan) first_tasks (first_needed plan) (IsBlockOf plan) (IsPieceOf plan is_of) (IsStageOf plan (seen contents written faults) taken))
     (first : FirstOfFirst) (free_is : FirstTellFree)
-    (size : ℕ) (s : QueryTable plan is_of held taken written faults) (b : RingState (Told O)) (sh : KeepsRule plan is_of held taken written faults size s b) where
+    (size : ℕ) (s : QueryTable plan is_of contents taken written faults) (b : RingState (RunData O)) (sh : KeepsRule plan is_of contents taken written faults size s b) where
   abbrev q : Tree
   q = plan b.told.operator
 
@@ -81,12 +82,12 @@ module _ {O P S K : Type 0} (plan : O → Tree) (is_of : O → P → Input → �
   abbrev r : Input
   r = input_of b.told
 
-  abbrev StageAt : Told O → ℕ → Bool → Stage S K → Type 0
-  StageAt = IsStageOf plan (seen held written faults) taken
+  abbrev StageAt : RunData O → ℕ → Bool → Stage S K → Type 0
+  StageAt = IsStageOf plan (seen contents written faults) taken
 
   -- what the ring says of a block, in the words of queries
   block_whole : (u : ℕ) → IsWhole (IsTold plan) first_tasks (first_needed plan) (IsBlockOf plan) (IsPieceOf plan is_of) StageAt size s b u
-      → AreWhole plan is_of held taken written faults size s b u
+      → AreWhole plan is_of contents taken written faults size s b u
   block_whole u (inl home) =
       inl (record { word = home.0; block = home.1.0; in_place = home.1.1; rows = block_stays plan b.told u home.1.0 home.1.2 })
   block_whole u (inr one) = inr one
@@ -94,10 +95,10 @@ module _ {O P S K : Type 0} (plan : O → Tree) (is_of : O → P → Input → �
   first_is : (t : ℕ) → first_of_task first_tasks (first_needed plan) b.told t ≡ free q n r t
   first_is t = free_is q n r t t (le_refl t)
 
-  blocks : (u : ℕ) → free q n r b.assembled ≤ u → u < b.filled → AreWhole plan is_of held taken written faults size s b u
+  blocks : (u : ℕ) → free q n r b.assembled ≤ u → u < b.filled → AreWhole plan is_of contents taken written faults size s b u
   blocks u low high = block_whole u ((whole size s b sh).1 u (subst (λ z. z ≤ u) (sym (first_is b.assembled)) low, high))
 
-  tasks : (t u : ℕ) → b.assembled ≤ t → t < b.filled → free q n r t ≤ u → u ≤ t → AreWhole plan is_of held taken written faults size s b u
+  tasks : (t u : ℕ) → b.assembled ≤ t → t < b.filled → free q n r t ≤ u → u ≤ t → AreWhole plan is_of contents taken written faults size s b u
   tasks t u from below low high = block_whole u ((whole size s b sh).2 t u from below (subst (λ z. z ≤ u) (sym (first_is t)) low) high)
 
   few : b.assembled ≤ 2 ^ 42
@@ -108,10 +109,10 @@ module _ {O P S K : Type 0} (plan : O → Tree) (is_of : O → P → Input → �
 
   -- the stage at home, by the word of the turn
   with_stage : (y : Bool) → b.turn ≡ ring.free y → (st : Stage S K) → get_elem? s.homes 0 ≡ some (some (slot.Stage st))
-      → StageAt (first_tasks b.told (b.assembled + extra y)) b.assembled y st → FirstAreOut plan is_of held taken written faults size s b b.assembled
+      → StageAt (first_tasks b.told (b.assembled + extra y)) b.assembled y st → FirstAreOut plan is_of contents taken written faults size s b b.assembled
   with_stage false is st at has =
-      let kept = keeps_on plan held taken written faults b.told b.assembled st (subst (λ d. StageAt (first_tasks b.told d) b.assembled false st) (none_more b.assembled) has) in
-      let v : StageView = seen held written faults st in
+      let kept = keeps_on plan contents taken written faults b.told b.assembled st (subst (λ d. StageAt (first_tasks b.told d) b.assembled false st) (none_more b.assembled) has) in
+      let v : StageView = seen contents written faults st in
       let a : After q n r (start_of b.told) v Running = subst (After q n r (start_of b.told) v) (has.runs refl) kept.after in
       record {
         shown = shown false is;
@@ -128,7 +129,7 @@ module _ {O P S K : Type 0} (plan : O → Tree) (is_of : O → P → Input → �
         tasks = tasks;
       }
   with_stage true is st at has =
-      let v : StageView = seen held written faults st in
+      let v : StageView = seen contents written faults st in
       record {
         shown = shown true is;
         stage = st;
@@ -144,11 +145,11 @@ module _ {O P S K : Type 0} (plan : O → Tree) (is_of : O → P → Input → �
         tasks = tasks;
       }
 
-  at_home : (y : Bool) → b.turn ≡ ring.free y → FirstAreOut plan is_of held taken written faults size s b b.assembled
+  at_home : (y : Bool) → b.turn ≡ ring.free y → FirstAreOut plan is_of contents taken written faults size s b b.assembled
   at_home y is =
       let fits = subst (TurnFits b (length s.views)) is sh.shape.turn_fits in
       let h = subst (StageHome (IsTold plan) first_tasks (first_needed plan) (IsBlockOf plan) (IsPieceOf plan is_of) StageAt size s b) is sh.home.stage in
       with_stage y is h.0 h.1 (subst (λ k. StageAt (first_tasks b.told (k + extra y)) k y h.0) (sym fits.0) h.2)
 
-  pub at_rest : get_or s.words 0 0 % 2 ≡ 0 → FirstAreOut plan is_of held taken written faults size s b b.assembled
+  pub at_rest : get_or s.words 0 0 % 2 ≡ 0 → FirstAreOut plan is_of contents taken written faults size s b b.assembled
   at_rest even = let f = even_free b.assembled b.turn (get_or s.words 0 0) (sym sh.shape.turn_is) even in at_home f.0 f.1

@@ -5,16 +5,16 @@ use Rattle.saber_ring.specs.Shows.{first_of_task}
 
 module _ {T R D : Type 0} (upto : T → ℕ → T) (first : T → ℕ → ℕ) (is_rows : T → ℕ → R → Type 0) (suits : T → Type 0) (has_blocks : T → ℕ → ℕ → D → Type 0) where
   -- the draft is of some task, and the block is the next of those before the task's own
-  abbrev pub CanFeed : D → R → Type 0
-  CanFeed draft block =
+  abbrev pub CanLookBack : D → R → Type 0
+  CanLookBack draft block =
       (told : T) × (t : ℕ) × (u : ℕ) × suits (upto told 0) × (first_of_task upto first told t ≤ u) × (u + 1 ≤ t)
       × has_blocks told t u draft × is_rows (upto told (u + 1)) u block
 
   -- the draft of each such task then has that block too
-  abbrev pub Feeds : D → R → Bool → D → Type 0
-  Feeds old block fed new =
+  abbrev pub LooksBack : D → R → Bool → D → Type 0
+  LooksBack old block looked_back new =
       (told : T) (t u : ℕ) → suits (upto told 0) → first_of_task upto first told t ≤ u → u + 1 ≤ t
-      → has_blocks told t u old → is_rows (upto told (u + 1)) u block → fed ≡ true → has_blocks told t (u + 1) new
+      → has_blocks told t u old → is_rows (upto told (u + 1)) u block → looked_back ≡ true → has_blocks told t (u + 1) new
 
   -- the draft of each task of which the block is the own has that one
   abbrev pub Begins : R → Option D → Type 0

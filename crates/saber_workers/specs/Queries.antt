@@ -6,21 +6,21 @@ use Rattle.saber_plan.specs.Tasks.{Kept, cut, upto}
 use Rattle.saber_fragment.specs.declared.blocks.Block.{Block}
 use Rattle.saber_fragment.specs.declared.blocks.Earlier.{Earlier}
 use Rattle.saber_fragment.specs.Drafts.{EndWith, Sight}
-use Rattle.saber_feeds.specs.Feeds.{sight_to}
+use Rattle.saber_fragment.specs.LookBack.{sight_to}
 use Rattle.saber_assembly.specs.declared.stage.Stage.{Stage}
-use Rattle.saber_assembly.specs.declared.work.Told.{Told}
+use Rattle.saber_assembly.specs.declared.work.RunData.{RunData}
 use Rattle.saber_assembly.specs.Stages.{seen}
 use Rattle.saber_assembly.specs.Works.{first_tasks, first_needed, input_of, AreTasks, IsBlockOf, IsPieceOf, IsStageOf}
-use Rattle.saber_workers.specs.Labors.{CanFeed, Feeds, IsNext, Absorbs}
+use Rattle.saber_workers.specs.Labors.{CanLookBack, LooksBack, IsNext, Absorbs}
 
 -- the data are about this operator
-abbrev pub Suits : {O : Type 0} → O → Told O → Type 0
+abbrev pub Suits : {O : Type 0} → O → RunData O → Type 0
 Suits op told = told.operator ≡ op
 
 module _ {O D : Type 0} (plan : O → Tree) (has_seen : O → D → Sight → Type 0) where
   -- The draft of task t has its own rows, and those before them from the first that the task needs up to block u. The input did not end
   -- before the task, and the rows that its own block has of those before are the last of them.
-  pub record HasBlocks (op : O) (told : Told O) (t u : ℕ) (draft : D) : Type 0 where
+  pub record HasBlocks (op : O) (told : RunData O) (t u : ℕ) (draft : D) : Type 0 where
     pub tasks : AreTasks plan told
     pub opens : (upto told.size (input_of told) t).ended ≡ false
     pub earlier : Earlier
@@ -29,21 +29,21 @@ module _ {O D : Type 0} (plan : O → Tree) (has_seen : O → D → Sight → Ty
 
   module _ (op : O) where
     -- the block is the next of those that the draft's task needs before its own
-    abbrev pub CanFeedBlock : D → Block → Type 0
-    CanFeedBlock draft block = CanFeed first_tasks (first_needed plan) (IsBlockOf plan) (Suits op) (HasBlocks op) draft block
+    abbrev pub CanLookBackOn : D → Block → Type 0
+    CanLookBackOn draft block = CanLookBack first_tasks (first_needed plan) (IsBlockOf plan) (Suits op) (HasBlocks op) draft block
 
     -- the draft then has that one too
-    abbrev pub FeedsBlock : D → Block → Bool → D → Type 0
-    FeedsBlock old block fed new = Feeds first_tasks (first_needed plan) (IsBlockOf plan) (Suits op) (HasBlocks op) old block fed new
+    abbrev pub LooksBackOn : D → Block → Bool → D → Type 0
+    LooksBackOn old block looked_back new = LooksBack first_tasks (first_needed plan) (IsBlockOf plan) (Suits op) (HasBlocks op) old block looked_back new
 
-module _ {O S K P : Type 0} (plan : O → Tree) (is_of : O → P → Input → ℕ → ℕ → Type 0) (held : S → Kept)
+module _ {O S K P : Type 0} (plan : O → Tree) (is_of : O → P → Input → ℕ → ℕ → Type 0) (contents : S → Kept)
     (taken : O → S → Input → Type 0) (written : K → Option (List ℕ)) (faults : K → ℕ) (op : O) where
   -- the piece is of the task that comes next to the stage, which runs
   abbrev pub IsNextPiece : Stage S K → Option P → Type 0
   IsNextPiece stage piece =
-      IsNext first_tasks (IsPieceOf plan is_of) (IsStageOf plan (seen held written faults) taken) (Suits op) stage piece
+      IsNext first_tasks (IsPieceOf plan is_of) (IsStageOf plan (seen contents written faults) taken) (Suits op) stage piece
 
   -- the stage goes on by the piece, or is stopped
   abbrev pub AbsorbsPiece : Stage S K → Option P → Stage S K → Bool → Type 0
   AbsorbsPiece old piece new goes =
-      Absorbs first_tasks (IsPieceOf plan is_of) (IsStageOf plan (seen held written faults) taken) (Suits op) old piece new goes
+      Absorbs first_tasks (IsPieceOf plan is_of) (IsStageOf plan (seen contents written faults) taken) (Suits op) old piece new goes

@@ -16,7 +16,7 @@ use std::mem;
 
 // What became of a block that was to be taken in.
 #[derive(Clone, Copy)]
-pub(crate) enum Fed {
+pub(crate) enum LookBack {
     // The draft has it.
     In,
     // Another seat reads it.
@@ -26,7 +26,7 @@ pub(crate) enum Fed {
 }
 
 // The next of the blocks before the task's own.
-fn feed_one<W: Work, L: Labor<W>>(
+fn look_back_on<W: Work, L: Labor<W>>(
     alloc: Global,
     seat: &mut Seat<W>,
     ring: &Ring<W>,
@@ -34,7 +34,7 @@ fn feed_one<W: Work, L: Labor<W>>(
     job: &Job<W>,
     next: u64,
     draft: &mut L::Draft,
-) -> Fed
+) -> LookBack
     requires own { table seat.old ≡ table_of ring.now }
     requires free { IsFree (view seat.old) }
     requires job { HoldsJob W.upto W.first (L.suits op.now) job.now.task (view seat.old).job }
@@ -44,25 +44,29 @@ fn feed_one<W: Work, L: Labor<W>>(
     ensures kept { SameTasks (view seat.old) (view seat.new) }
     ensures free { IsFree (view seat.new) }
     ensures steps { StepsOn (view seat.old) (view seat.new) }
-    ensures fed { result ≡ Fed.In → HasSoFar W.upto W.first (L.has_blocks op.now) job.now.task (next + 1) draft.new (view seat.new).job }
-    ensures took { result ≡ Fed.In → IsHeldUp (cells ring.now) (view seat.old) (view seat.new) None }
-    ensures lacks { result ≡ Fed.NoMemory → IsHeldUp (cells ring.now) (view seat.old) (view seat.new) None }
-    ensures waits { result ≡ Fed.Held → IsHeldUp (cells ring.now) (view seat.old) (view seat.new) (Some next) }
-    ensures stays { result ≡ Fed.Held → draft.new ≡ draft.old }
-    ensures others { result ≡ Fed.Held → NotLast (view seat.old).lead }
+    ensures looked_back { result ≡ LookBack.In → HasSoFar W.upto W.first (L.has_blocks op.now) job.now.task (next + 1) draft.new (view seat.new).job }
+    ensures took { result ≡ LookBack.In → IsHeldUp (cells ring.now) (view seat.old) (view seat.new) None }
+    ensures lacks { result ≡ LookBack.NoMemory → IsHeldUp (cells ring.now) (view seat.old) (view seat.new) None }
+    ensures waits { result ≡ LookBack.Held → IsHeldUp (cells ring.now) (view seat.old) (view seat.new) (Some next) }
+    ensures stays { result ≡ LookBack.Held → draft.new ≡ draft.old }
+    ensures others { result ≡ LookBack.Held → NotLast (view seat.old).lead }
 {
     match seat.read(ring, job, next) {
-        Read::Held { word: _ } => Fed::Held,
+        Read::Held { word: _ } => LookBack::Held,
         Read::Got(rows) => {
-            let fed = op.feed(alloc, draft, &rows);
+            let looked_back = op.look_back(alloc, draft, &rows);
             seat.put_back(ring, job, rows);
-            if fed { Fed::In } else { Fed::NoMemory }
+            if looked_back {
+                LookBack::In
+            } else {
+                LookBack::NoMemory
+            }
         }
     }
 }
 
 // All blocks before the task's own, until one is read by another seat.
-fn feed_all<W: Work, L: Labor<W>>(
+fn look_back_all<W: Work, L: Labor<W>>(
     alloc: Global,
     seat: &mut Seat<W>,
     ring: &Ring<W>,
@@ -70,7 +74,7 @@ fn feed_all<W: Work, L: Labor<W>>(
     job: &Job<W>,
     next: &mut u64,
     draft: &mut L::Draft,
-) -> Fed
+) -> LookBack
     requires own { table seat.old ≡ table_of ring.now }
     requires free { IsFree (view seat.old) }
     requires job { HoldsJob W.upto W.first (L.suits op.now) job.now.task (view seat.old).job }
@@ -79,21 +83,21 @@ fn feed_all<W: Work, L: Labor<W>>(
     ensures kept { SameTasks (view seat.old) (view seat.new) }
     ensures free { IsFree (view seat.new) }
     ensures steps { StepsOn (view seat.old) (view seat.new) }
-    ensures fed { result ≡ Fed.In → HasSoFar W.upto W.first (L.has_blocks op.now) job.now.task job.now.task draft.new (view seat.new).job }
-    ensures took { result ≡ Fed.In → IsHeldUp (cells ring.now) (view seat.old) (view seat.new) None }
-    ensures lacks { result ≡ Fed.NoMemory → IsHeldUp (cells ring.now) (view seat.old) (view seat.new) None }
-    ensures waits { result ≡ Fed.Held → IsHeldUp (cells ring.now) (view seat.old) (view seat.new) (Some next.new) }
-    ensures stays { result ≡ Fed.Held → HasSoFar W.upto W.first (L.has_blocks op.now) job.now.task next.new draft.new (view seat.new).job }
-    ensures others { result ≡ Fed.Held → NotLast (view seat.old).lead }
+    ensures looked_back { result ≡ LookBack.In → HasSoFar W.upto W.first (L.has_blocks op.now) job.now.task job.now.task draft.new (view seat.new).job }
+    ensures took { result ≡ LookBack.In → IsHeldUp (cells ring.now) (view seat.old) (view seat.new) None }
+    ensures lacks { result ≡ LookBack.NoMemory → IsHeldUp (cells ring.now) (view seat.old) (view seat.new) None }
+    ensures waits { result ≡ LookBack.Held → IsHeldUp (cells ring.now) (view seat.old) (view seat.new) (Some next.new) }
+    ensures stays { result ≡ LookBack.Held → HasSoFar W.upto W.first (L.has_blocks op.now) job.now.task next.new draft.new (view seat.new).job }
+    ensures others { result ≡ LookBack.Held → NotLast (view seat.old).lead }
 {
     while *next < job.task() {
-        match feed_one(alloc, seat, ring, op, job, *next, draft) {
-            Fed::In => *next += 1,
-            Fed::Held => return Fed::Held,
-            Fed::NoMemory => return Fed::NoMemory,
+        match look_back_on(alloc, seat, ring, op, job, *next, draft) {
+            LookBack::In => *next += 1,
+            LookBack::Held => return LookBack::Held,
+            LookBack::NoMemory => return LookBack::NoMemory,
         }
     }
-    Fed::In
+    LookBack::In
 }
 
 /// What is in hand after some blocks were read, and the block that another seat reads, if that ended it.
@@ -131,12 +135,12 @@ fn go_on<W: Work, L: Labor<W>, G: Gate>(
     let task = job.task();
     let mut next = next;
     let mut draft = draft;
-    match feed_all(alloc, seat, ring, op, &job, &mut next, &mut draft) {
-        Fed::Held => Gone {
+    match look_back_all(alloc, seat, ring, op, &job, &mut next, &mut draft) {
+        LookBack::Held => Gone {
             held: InHand::Begun { job, next, draft },
             waits: Some(next),
         },
-        Fed::NoMemory => {
+        LookBack::NoMemory => {
             seat.deposit(ring, job, None);
             gate.done(task);
             Gone {
@@ -144,7 +148,7 @@ fn go_on<W: Work, L: Labor<W>, G: Gate>(
                 waits: None,
             }
         }
-        Fed::In => {
+        LookBack::In => {
             let piece = op.finish(alloc, draft);
             seat.deposit(ring, job, piece);
             gate.done(task);

@@ -11,7 +11,7 @@ use saber_ring::needs_are_whole;
 /// k tasks' rows close, what is kept is exactly what those rows leave open, and the rows of each task that isn't
 /// assembled are whole: for every size of tasks and of the ring, and whatever seats did up to then, in any order.
 pub fn free_turns_are_at_rest<O: Operator, K: Sink>()
-    ensures { FreeTurnsAreAtRest O.plan O.is_of O.held O.has_taken K.written K.faults }
+    ensures { FreeTurnsAreAtRest O.plan O.is_of O.contents O.has_taken K.written K.faults }
 {
     first_of_first();
     first_tell_free();

@@ -1,7 +1,7 @@
 //! What is done with a task, and with a piece.
 ghost use Rattle.std.specs.Prelude.{◌≡◌, ℕ, false, None};
 ghost use Rattle.saber_ring.specs.Shows.{first_of_task};
-ghost use Rattle.saber_workers.specs.Labors.{IsOwn, Begins, CanFeed, Feeds, CanFinish, Finishes, IsNext, Absorbs};
+ghost use Rattle.saber_workers.specs.Labors.{IsOwn, Begins, CanLookBack, LooksBack, CanFinish, Finishes, IsNext, Absorbs};
 
 use saber_core::Work;
 use std::alloc::Global;
@@ -13,14 +13,14 @@ pub trait Labor<W: Work> {
     type Draft: Drop;
 
     // What it does is for these fixed data.
-    ghost suits: { Self → W.Told → Type 0 };
+    ghost suits: { Self → W.Data → Type 0 };
 
     // The draft of a task has its own block, and of those before it all up to this one.
-    ghost has_blocks: { Self → W.Told → ℕ → ℕ → Self.Draft → Type 0 };
+    ghost has_blocks: { Self → W.Data → ℕ → ℕ → Self.Draft → Type 0 };
 
     /// The first block that a task needs, as the task's own says.
     fn first(&self, own: &W::Rows) -> u64
-        ensures { (told : W.Told) (t : ℕ) → W.is_rows told t own.now → result ≡ first_of_task W.upto W.first told t };
+        ensures { (told : W.Data) (t : ℕ) → W.is_rows told t own.now → result ≡ first_of_task W.upto W.first told t };
 
     /// Begins a task's piece with the task's own block. None for want of memory.
     fn start(&self, alloc: Global, own: &W::Rows) -> Option<Self::Draft>
@@ -28,9 +28,9 @@ pub trait Labor<W: Work> {
         ensures { Begins W.upto W.first W.is_rows (suits self.now) (has_blocks self.now) own.now result };
 
     /// Takes in the next of the blocks before the task's own. False for want of memory.
-    fn feed(&self, alloc: Global, draft: &mut Self::Draft, block: &W::Rows) -> bool
-        requires { CanFeed W.upto W.first W.is_rows (suits self.now) (has_blocks self.now) draft.old block.now }
-        ensures { Feeds W.upto W.first W.is_rows (suits self.now) (has_blocks self.now) draft.old block.now result draft.new };
+    fn look_back(&self, alloc: Global, draft: &mut Self::Draft, block: &W::Rows) -> bool
+        requires { CanLookBack W.upto W.first W.is_rows (suits self.now) (has_blocks self.now) draft.old block.now }
+        ensures { LooksBack W.upto W.first W.is_rows (suits self.now) (has_blocks self.now) draft.old block.now result draft.new };
 
     /// The piece, once all blocks are in. None for want of memory.
     fn finish(&self, alloc: Global, draft: Self::Draft) -> Option<W::Piece>

@@ -1,15 +1,14 @@
 //! The operators of queries as what makes pieces, and the ordered assembly as their stage.
 ghost use Rattle.std.specs.Prelude.{◌≡◌, ℕ, false, None};
 ghost use Rattle.saber_ring.specs.Shows.{first_of_task};
-ghost use Rattle.saber_assembly.specs.declared.work.Told.{Told};
+ghost use Rattle.saber_assembly.specs.declared.work.RunData.{RunData};
 ghost use Rattle.saber_assembly.specs.Works.{first_tasks, first_needed, IsBlockOf, IsPieceOf};
 ghost use Rattle.saber_workers.specs.Labors.{IsOwn, Begins, CanFinish, Finishes};
-ghost use Rattle.saber_workers.specs.Queries.{Suits, HasBlocks, CanFeedBlock, FeedsBlock, IsNextPiece, AbsorbsPiece};
+ghost use Rattle.saber_workers.specs.Queries.{Suits, HasBlocks, CanLookBackOn, LooksBackOn, IsNextPiece, AbsorbsPiece};
 
 use crate::labor::Labor;
 use saber_assembly::{Absorbed, SaberWork, Stage};
-use saber_feeds::blocks_feed_tasks;
-use saber_fragment::{Block, Operator};
+use saber_fragment::{Block, Operator, drafts_look_back};
 use saber_io::{Pour, Sink};
 use std::alloc::Global;
 
@@ -20,9 +19,9 @@ fn take_in<O: Operator, K: Sink>(
     stage: &mut Stage<O::Store, K>,
     piece: Option<O::Piece>,
 ) -> bool
-    requires { IsNextPiece O.plan O.is_of O.held O.has_taken K.written K.faults op.now stage.old piece }
+    requires { IsNextPiece O.plan O.is_of O.contents O.has_taken K.written K.faults op.now stage.old piece }
     ensures none { piece ≡ None → result ≡ false }
-    ensures stage { AbsorbsPiece O.plan O.is_of O.held O.has_taken K.written K.faults op.now stage.old piece stage.new result }
+    ensures stage { AbsorbsPiece O.plan O.is_of O.contents O.has_taken K.written K.faults op.now stage.old piece stage.new result }
 {
     match stage.absorb(alloc, op, piece) {
         Absorbed::Done => true,
@@ -38,7 +37,7 @@ impl<O: Operator, K: Pour> Labor<SaberWork<O, K>> for O {
     ghost has_blocks = { HasBlocks O.plan O.has_seen };
 
     fn first(&self, own: &Block) -> u64
-        ensures { (told : Told O) (t : ℕ) → IsBlockOf O.plan told t own.now → result ≡ first_of_task first_tasks (first_needed O.plan) told t }
+        ensures { (told : RunData O) (t : ℕ) → IsBlockOf O.plan told t own.now → result ≡ first_of_task first_tasks (first_needed O.plan) told t }
     {
         own.first
     }
@@ -47,19 +46,19 @@ impl<O: Operator, K: Pour> Labor<SaberWork<O, K>> for O {
         requires { IsOwn first_tasks (IsBlockOf O.plan) (Suits self.now) own.now }
         ensures { Begins first_tasks (first_needed O.plan) (IsBlockOf O.plan) (Suits self.now) (HasBlocks O.plan O.has_seen self.now) own.now result }
     {
-        blocks_feed_tasks();
+        drafts_look_back();
         let Ok(draft) = Operator::start(self, alloc, own) else {
             return None;
         };
         Some(draft)
     }
 
-    fn feed(&self, alloc: Global, draft: &mut O::Draft, block: &Block) -> bool
-        requires { CanFeedBlock O.plan O.has_seen self.now draft.old block.now }
-        ensures { FeedsBlock O.plan O.has_seen self.now draft.old block.now result draft.new }
+    fn look_back(&self, alloc: Global, draft: &mut O::Draft, block: &Block) -> bool
+        requires { CanLookBackOn O.plan O.has_seen self.now draft.old block.now }
+        ensures { LooksBackOn O.plan O.has_seen self.now draft.old block.now result draft.new }
     {
-        blocks_feed_tasks();
-        let Ok(()) = Operator::feed(self, alloc, draft, block) else {
+        drafts_look_back();
+        let Ok(()) = Operator::look_back(self, alloc, draft, block) else {
             return false;
         };
         true
@@ -69,7 +68,7 @@ impl<O: Operator, K: Pour> Labor<SaberWork<O, K>> for O {
         requires { CanFinish first_tasks (Suits self.now) (HasBlocks O.plan O.has_seen self.now) draft }
         ensures { Finishes first_tasks (Suits self.now) (HasBlocks O.plan O.has_seen self.now) (IsPieceOf O.plan O.is_of) draft result }
     {
-        blocks_feed_tasks();
+        drafts_look_back();
         let Ok(piece) = Operator::finish(self, alloc, draft) else {
             return None;
         };
@@ -77,9 +76,9 @@ impl<O: Operator, K: Pour> Labor<SaberWork<O, K>> for O {
     }
 
     fn absorb(&self, alloc: Global, stage: &mut Stage<O::Store, K>, piece: Option<O::Piece>) -> bool
-        requires { IsNextPiece O.plan O.is_of O.held O.has_taken K.written K.faults self.now stage.old piece }
+        requires { IsNextPiece O.plan O.is_of O.contents O.has_taken K.written K.faults self.now stage.old piece }
         ensures none { piece ≡ None → result ≡ false }
-        ensures stage { AbsorbsPiece O.plan O.is_of O.held O.has_taken K.written K.faults self.now stage.old piece stage.new result }
+        ensures stage { AbsorbsPiece O.plan O.is_of O.contents O.has_taken K.written K.faults self.now stage.old piece stage.new result }
     {
         let goes = take_in::<O, K>(self, alloc, stage, piece);
         stage.pour();

@@ -1,6 +1,6 @@
 use Rattle.std.proofs.Common.{◌≡◌, ◌++◌, take}
 use Rattle.saber_plan.specs.Texts.{Behind}
-use Rattle.saber_cells.specs.Cells.{cells}
+use Rattle.saber_digits.specs.Cells.{cells}
 use Rattle.saber_changes.proofs.lines.write_cells.Given as goal
 
 abbrev pub invariant-loop-number : goal.invariant-loop-number

@@ -1,9 +1,9 @@
 use Rattle.std.proofs.Common.{◌≡◌, ℕ, [], ◌∙◌, refl, subst}
-use Rattle.saber_io.specs.Outside.{Told, appended-none}
+use Rattle.saber_io.specs.Outside.{FilesView, appended-none}
 use Rattle.saber_plan.specs.Trees.{Tree, tree_of}
 use Rattle.saber_words.specs.Commands.{AskedRun, asked_run}
 use Rattle.saber_words.specs.Chain.{AskedChain, asked_chain}
-use Rattle.saber_engine.specs.declared.ends.RunEnd.{RunEnd}
+use Rattle.saber_plan.specs.declared.ends.RunEnd.{RunEnd}
 use Rattle.saber_cli.specs.Outcomes.{IsOfChain, IsOfPlans}
 use Rattle.saber_cli.specs.Due.{contents_of, first_run, row_names}
 use Rattle.saber_cli.specs.Chained.{AsksChainRows, ChainsOver, CutTakesChain, HasPlans, HasReason, chain_sizes, not_run}
@@ -23,7 +23,7 @@ returns-in-Err-clause-chained g c =
     let o = c.in-Err.outcome in
     let w = g.K.Sink.written c.args.sink in
     let new = g.F.Files.told c.chain_plans.new.files in
-    some_map (λ (t : Told). HasReason t.contents a o) (λ t. ChainsOver t.contents (CutTakesChain a t new) a o 0 w w) _ (λ t h. not_run h refl refl) c.in-Err.ensures.reason
+    some_map (λ (t : FilesView). HasReason t.contents a o) (λ t. ChainsOver t.contents (CutTakesChain a t new) a o 0 w w) _ (λ t h. not_run h refl refl) c.in-Err.ensures.reason
 
 pub returns-in-Err-clause-kinds : goal.returns-in-Err-clause-kinds
 returns-in-Err-clause-kinds g c e = subst IsOfPlans e c.in-Err.ensures.kinds
@@ -49,10 +49,10 @@ returns-clause-chained g c =
     let leaves : RunEnd → ℕ → Type 0 = CutTakes p (chain_sizes a) names mid new in
     let runs = read_contents (λ files. ChainedIn p q (chain_sizes a) leaves (contents_of files names) w v o tasks) a.first a.second old mid c.in-Ok.ensures.read over_sizes in
     let told_on =
-    some_both (λ (t : Told). (e : RunEnd) (n : ℕ) → leaves e n → CutTakesChain a t new p e n) (λ t. ChainedIn p q (chain_sizes a) leaves (contents_of t.contents names) w v o tasks)
+    some_both (λ (t : FilesView). (e : RunEnd) (n : ℕ) → leaves e n → CutTakesChain a t new p e n) (λ t. ChainedIn p q (chain_sizes a) leaves (contents_of t.contents names) w v o tasks)
     (λ t. ChainedIn p q (chain_sizes a) (CutTakesChain a t new p) (contents_of t.contents names) w v o tasks) old
     (λ t f k. chained_on p q (chain_sizes a) leaves (CutTakesChain a t new p) (contents_of t.contents names) w v o tasks f k) (cut_takes a p old mid new c.in-Ok.ensures.read) runs in
-    some_both (λ (t : Told). HasPlans t.contents a p q) (λ t. ChainedIn p q (chain_sizes a) (CutTakesChain a t new p) (contents_of t.contents names) w v o tasks) (λ t. ChainsOver t.contents (CutTakesChain a t new) a o tasks w v) old
+    some_both (λ (t : FilesView). HasPlans t.contents a p q) (λ t. ChainedIn p q (chain_sizes a) (CutTakesChain a t new p) (contents_of t.contents names) w v o tasks) (λ t. ChainsOver t.contents (CutTakesChain a t new) a o tasks w v) old
     (λ t u k. chain_over t.contents (CutTakesChain a t new) a p q o tasks w v u c.in-Ok.ensures.chains c.in-Ok.ensures.like k) c.in-Ok.ensures.plans told_on
 
 pub returns-clause-kinds : goal.returns-clause-kinds
@@ -66,7 +66,7 @@ returns-clause-leaves g c =
     let o = c.chain_rows.result.outcome in
     let told = g.F.Files.told in
     let rows : asked_run c.first_run-rows.result ≡ first_run a = c.first_run-rows.ensures in
-    let due = some_map (λ (t : Told). HasPlans t.contents a p q) (λ t. AsksChainRows t.contents a) (told c.args.files.now) (λ t u. record { first = p; second = q; plans = u; chains = c.in-Ok.ensures.chains; like = c.in-Ok.ensures.like }) c.in-Ok.ensures.plans in
+    let due = some_map (λ (t : FilesView). HasPlans t.contents a p q) (λ t. AsksChainRows t.contents a) (told c.args.files.now) (λ t u. record { first = p; second = q; plans = u; chains = c.in-Ok.ensures.chains; like = c.in-Ok.ensures.like }) c.in-Ok.ensures.plans in
     chain_rows_leave a o _ _ _ due c.in-Ok.ensures.read (subst (λ (r : AskedRun). UsesChainRows (row_names r) o (told c.chain_plans.new.files) (told c.chain_rows.new.files)) rows c.chain_rows.ensures.uses)
 
 pub returns-clause-cause : goal.returns-clause-cause

@@ -1,5 +1,5 @@
 use Rattle.std.proofs.Common.{[], sym, subst}
-use Rattle.saber_io.specs.Outside.{Told, appended-none}
+use Rattle.saber_io.specs.Outside.{FilesView, appended-none}
 use Rattle.saber_words.specs.declared.commands.Command.TheVariants.{Check}
 use Rattle.saber_words.specs.Commands.{AskedCheck, check, asked}
 use Rattle.saber_cli.specs.Outcomes.{IsOfShow}
@@ -21,7 +21,7 @@ returns-in-Ok-clause-written g c =
     let show : Showed c.in-Ok.text.items o w.0 = subst (λ t. Showed t o w.0) c.deref.ensures.value w.2 in (
       w.0,
       w.1,
-      some_map (λ (t : Told). BeginsFile t.contents r.query c.in-Ok.text.items) (λ t. Gives t.contents (check r) o c.put_text.result.tasks w.0) _
+      some_map (λ (t : FilesView). BeginsFile t.contents r.query c.in-Ok.text.items) (λ t. Gives t.contents (check r) o c.put_text.result.tasks w.0) _
           (λ t b. subst (λ n. Gives t.contents (check r) o n w.0) (sym c.put_text.ensures.tasks) (gives_show c.laws.ensures t.contents r c.in-Ok.text.items o w.0 b show)) c.in-Ok.ensures.front,
     )
 
@@ -39,7 +39,7 @@ returns-in-Ok-clause-cause g c f = absurd (show_reads c.put_text.result.outcome 
 
 pub returns-in-Err-clause-written : goal.returns-in-Err-clause-written
 returns-in-Err-clause-written g c =
-    ([], appended-none _, for_any (λ (t : Told). Gives t.contents (asked (Check c.args.command.now)) c.in-Err.outcome 0 []) _ (λ t. gives_no_text c.laws.ensures t.contents (asked (Check c.args.command.now)) tt c.in-Err.outcome c.in-Err.ensures.kinds))
+    ([], appended-none _, for_any (λ (t : FilesView). Gives t.contents (asked (Check c.args.command.now)) c.in-Err.outcome 0 []) _ (λ t. gives_no_text c.laws.ensures t.contents (asked (Check c.args.command.now)) tt c.in-Err.outcome c.in-Err.ensures.kinds))
 
 pub returns-in-Err-clause-leaves : goal.returns-in-Err-clause-leaves
 returns-in-Err-clause-leaves g c = query_leaves _ [] (λ t. ⊥) c.in-Err.outcome _ _ c.in-Err.ensures.kinds c.in-Err.ensures.uses

@@ -3,7 +3,7 @@ use Rattle.saber_plan.specs.Sizes.{limits_of}
 use Rattle.saber_plan.specs.Trees.{Tree, tree_of}
 use Rattle.saber_words.specs.Demo.{asked_demo}
 use Rattle.saber_dispatch.specs.declared.inputs.Inputs.TheVariants.{One}
-use Rattle.saber_engine.specs.declared.ends.RunEnd.TheVariants.{AllRead, WriteFault}
+use Rattle.saber_plan.specs.declared.ends.RunEnd.TheVariants.{AllRead, WriteFault}
 use Rattle.saber_demo.specs.Rows.{generated}
 use Rattle.saber_cli.specs.Tells.{IsAnswer}
 use Rattle.saber_cli.proofs.DemoLemmas.{IsRunOf, end_is, run_gives, demo_read, whole_answer, written_is}

@@ -1,5 +1,5 @@
 use Rattle.std.proofs.Common.{sym, subst}
-use Rattle.saber_io.specs.Outside.{Told}
+use Rattle.saber_io.specs.Outside.{FilesView}
 use Rattle.saber_plan.specs.Trees.{Tree, tree_of}
 use Rattle.saber_words.specs.Chain.{AskedChain, asked_chain}
 use Rattle.saber_cli.specs.Chained.{HasReason, IsPlanned}
@@ -16,7 +16,7 @@ pub returns-in-Err-clause-reason : goal.returns-in-Err-clause-reason
 returns-in-Err-clause-reason g c =
     let a : AskedChain = asked_chain c.args.command.now in
     let o = c.in-Err.outcome in
-    some_map (λ (t : Told). LacksPlan t.contents a.first o) (λ t. HasReason t.contents a o) _ (λ t l. first_reason t.contents a o l) c.in-Err.ensures.lacks
+    some_map (λ (t : FilesView). LacksPlan t.contents a.first o) (λ t. HasReason t.contents a o) _ (λ t l. first_reason t.contents a o l) c.in-Err.ensures.lacks
 
 pub returns-in-Err-clause-kinds : goal.returns-in-Err-clause-kinds
 returns-in-Err-clause-kinds g c = first_kinds c.in-Err.outcome c.in-Err.ensures.kinds
@@ -31,7 +31,7 @@ returns-in-Err-query_plan-clause-leaves g c =
     let a : AskedChain = asked_chain c.args.command.now in
     let p : Tree = tree_of c.in-Ok.plan in
     let told = g.F.Files.told in
-    let first = some_map (λ (t : Told). IsPlanned t.contents a.first p) (λ t. (x : Tree) × IsPlanned t.contents a.first x) (told c.args.files.now) (λ t u. (p, u)) c.in-Ok.ensures.plan in
+    let first = some_map (λ (t : FilesView). IsPlanned t.contents a.first p) (λ t. (x : Tree) × IsPlanned t.contents a.first x) (told c.args.files.now) (λ t u. (p, u)) c.in-Ok.ensures.plan in
     subst (λ x. LeavesChain a x (told c.args.files.now) (told c.query_plan-2.new.files)) (sym c.as_second.ensures) (second_leaves a c.in-Err-query_plan.outcome _ _ _ c.in-Err-query_plan.ensures.kinds first c.in-Ok.ensures.uses c.in-Err-query_plan.ensures.uses)
 
 -- ---- both
@@ -46,7 +46,7 @@ returns-in-Some-clause-reason g c =
     let q : Tree = tree_of c.in-Ok-query_plan.plan in
     let o = c.in-Some.outcome in
     let second = used_contents (λ files. IsPlanned files a.second q) a.first _ _ c.in-Ok.ensures.uses c.in-Ok-query_plan.ensures.plan in
-    some_both (λ (t : Told). IsPlanned t.contents a.first p) (λ t. IsPlanned t.contents a.second q) (λ t. HasReason t.contents a o) _ (λ t u v. misfit_reason t.contents a p q c.file_count.result o (record { first = u; second = v }) c.file_count.ensures c.in-Some.ensures.some) c.in-Ok.ensures.plan second
+    some_both (λ (t : FilesView). IsPlanned t.contents a.first p) (λ t. IsPlanned t.contents a.second q) (λ t. HasReason t.contents a o) _ (λ t u v. misfit_reason t.contents a p q c.file_count.result o (record { first = u; second = v }) c.file_count.ensures c.in-Some.ensures.some) c.in-Ok.ensures.plan second
 
 pub returns-in-Some-clause-leaves : goal.returns-in-Some-clause-leaves
 returns-in-Some-clause-leaves g c =
@@ -54,5 +54,5 @@ returns-in-Some-clause-leaves g c =
     let p : Tree = tree_of c.in-Ok.plan in
     let q : Tree = tree_of c.in-Ok-query_plan.plan in
     let told = g.F.Files.told in
-    let first = some_map (λ (t : Told). IsPlanned t.contents a.first p) (λ t. (x : Tree) × IsPlanned t.contents a.first x) (told c.args.files.now) (λ t u. (p, u)) c.in-Ok.ensures.plan in
+    let first = some_map (λ (t : FilesView). IsPlanned t.contents a.first p) (λ t. (x : Tree) × IsPlanned t.contents a.first x) (told c.args.files.now) (λ t u. (p, u)) c.in-Ok.ensures.plan in
     misfit_leaves a p q c.file_count.result c.in-Some.outcome _ _ c.in-Some.ensures.some first (both_read a.first a.second _ _ _ c.in-Ok.ensures.uses c.in-Ok-query_plan.ensures.uses)

@@ -1,5 +1,5 @@
 use Rattle.std.proofs.Common.{[]}
-use Rattle.saber_io.specs.Outside.{Told, appended-none}
+use Rattle.saber_io.specs.Outside.{FilesView, appended-none}
 use Rattle.saber_plan.specs.Trees.{tree_of}
 use Rattle.saber_plan.specs.Sizes.{limits_of}
 use Rattle.saber_words.specs.Commands.{asked_run}
@@ -34,4 +34,4 @@ pub returns-in-Err-clause-written : goal.returns-in-Err-clause-written
 returns-in-Err-clause-written g c =
     let q = tree_of c.args.plan.now in
     let s = c.args.sizes.now in
-    ([], appended-none _, for_any (λ (t : Told). AnsweredIn q s.task s.ring (limits_of s) s.flush (contents_of t.contents (row_names (asked_run c.args.command.now))) c.in-Err.outcome 0 []) _ (λ t. no_answer c.laws.ensures q s.task s.ring (limits_of s) s.flush _ c.in-Err.outcome c.requires.checked c.in-Err.ensures.kinds))
+    ([], appended-none _, for_any (λ (t : FilesView). AnsweredIn q s.task s.ring (limits_of s) s.flush (contents_of t.contents (row_names (asked_run c.args.command.now))) c.in-Err.outcome 0 []) _ (λ t. no_answer c.laws.ensures q s.task s.ring (limits_of s) s.flush _ c.in-Err.outcome c.requires.checked c.in-Err.ensures.kinds))

@@ -1,5 +1,5 @@
 use Rattle.std.proofs.Common.{◌≡◌, ℕ, List, [], Some, Err, map, Bor, sym, ◌∙◌, ap, subst}
-use Rattle.saber_io.specs.Outside.{Told, appended-none}
+use Rattle.saber_io.specs.Outside.{FilesView, appended-none}
 use Rattle.saber_words.specs.declared.commands.Command.{Command}
 use Rattle.saber_words.specs.declared.commands.Command.TheVariants.{Run, Check}
 use Rattle.saber_words.specs.Commands.{run, demo, chain, asked, command_of}
@@ -25,7 +25,7 @@ returns-in-Err-clause-written g c =
     let ws : List (List ℕ) = map (λ (word : Bor (List ℕ)). word.now) c.args.words.now in (
       [],
       appended-none _,
-      λ n. for_any (λ (t : Told). Answers ws t.contents c.unread.result 0 []) _
+      λ n. for_any (λ (t : FilesView). Answers ws t.contents c.unread.result 0 []) _
           (λ t. subst (λ o. Answers ws t.contents o 0 []) (sym c.unread.ensures) (unread_answers c.laws.ensures ws t.contents c.in-Err.fault (λ e. c.in-Err.ensures.usage (ap Err e)))),
     )
 
@@ -36,7 +36,7 @@ returns-in-Run-clause-written g c =
     let is : command_of ws ≡ Some (asked (Run c.in-Run.run')) = c.in-Ok.ensures.taken ∙ ap (λ (k : Command). Some (asked k)) c.in-Run.is in (
       w.0,
       w.1,
-      λ n. some_map (λ (t : Told). Gives t.contents (asked (Run c.in-Run.run')) c.run_command.result.outcome c.run_command.result.tasks w.0) (λ t. Answers ws t.contents c.run_command.result.outcome c.run_command.result.tasks w.0) _
+      λ n. some_map (λ (t : FilesView). Gives t.contents (asked (Run c.in-Run.run')) c.run_command.result.outcome c.run_command.result.tasks w.0) (λ t. Answers ws t.contents c.run_command.result.outcome c.run_command.result.tasks w.0) _
           (λ t k. answers_of ws t.contents (asked (Run c.in-Run.run')) c.run_command.result.outcome c.run_command.result.tasks w.0 is k) w.2,
     )
 
@@ -47,7 +47,7 @@ returns-in-Check-clause-written g c =
     let is : command_of ws ≡ Some (asked (Check c.in-Check.check)) = c.in-Ok.ensures.taken ∙ ap (λ (k : Command). Some (asked k)) c.in-Check.is in (
       w.0,
       w.1,
-      λ n. some_map (λ (t : Told). Gives t.contents (asked (Check c.in-Check.check)) c.check_command.result.outcome c.check_command.result.tasks w.0) (λ t. Answers ws t.contents c.check_command.result.outcome c.check_command.result.tasks w.0) _
+      λ n. some_map (λ (t : FilesView). Gives t.contents (asked (Check c.in-Check.check)) c.check_command.result.outcome c.check_command.result.tasks w.0) (λ t. Answers ws t.contents c.check_command.result.outcome c.check_command.result.tasks w.0) _
           (λ t k. answers_of ws t.contents (asked (Check c.in-Check.check)) c.check_command.result.outcome c.check_command.result.tasks w.0 is k) w.2,
     )
 
@@ -84,7 +84,7 @@ returns-in-Demo-clause-written g c =
     let tasks = c.demo_command.result.tasks in
     let t = c.demo_command.ensures.told in
     let is : command_of ws ≡ Some (demo d) = c.in-Ok.ensures.taken ∙ ap (λ (k : Command). Some (asked k)) c.in-Demo.is in
-    (t.out, t.written, λ n. for_any (λ (x : Told). Answers ws x.contents o tasks t.out) _ (λ x. answers_of ws x.contents (demo d) o tasks t.out is (gives_told x.contents d o tasks t.out t.kinds t.puts t.tasks_are)))
+    (t.out, t.written, λ n. for_any (λ (x : FilesView). Answers ws x.contents o tasks t.out) _ (λ x. answers_of ws x.contents (demo d) o tasks t.out is (gives_told x.contents d o tasks t.out t.kinds t.puts t.tasks_are)))
 
 pub returns-in-Demo-clause-leaves : goal.returns-in-Demo-clause-leaves
 returns-in-Demo-clause-leaves g c a e n =

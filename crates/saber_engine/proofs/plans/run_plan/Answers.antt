@@ -2,10 +2,10 @@ use Rattle.std.proofs.Common.{◌≡◌, ℕ, List, [], sym, ◌∙◌, ap, subs
 use Rattle.std.proofs.Math.Path.{transport}
 use Rattle.std.specs.Prelude.{None, IsSome}
 use Rattle.saber_crew.specs.Runs.{RunsTo}
-use Rattle.saber_crew.specs.declared.feed.Over.TheVariants as over_by
+use Rattle.saber_crew.specs.declared.dispatch.Over.TheVariants as over_by
 use Rattle.saber_assembly.specs.Stages.{seen}
 use Rattle.saber_assembly.specs.Works.{IsTold, first_tasks, IsStageOf}
-use Rattle.saber_engine.specs.declared.ends.RunEnd.TheVariants.{NoMemory}
+use Rattle.saber_plan.specs.declared.ends.RunEnd.TheVariants.{NoMemory}
 use Rattle.saber_engine.specs.Endings.{end_of}
 use Rattle.saber_plan.specs.Sizes.{limits_of}
 use Rattle.saber_plan.specs.Trees.{Tree, tree_of}
@@ -42,7 +42,7 @@ run-ran-requires-clause-begins g c spans live =
     let counts : CountsRows keeper (plan op) [] = subst (λ z. CountsRows keeper z []) (sym c.requires.plan) c.in-Ok.ensures.counted in
     let fits : Fits (frame (plan op)) = subst (λ z. Fits (frame z)) (sym c.requires.plan) (c.checked_fit.ensures q c.requires.checked) in
     let is : HasGiven plan s left left faults faults cutter keeper None (first_told op s.task (wrote stage.sink) (failed stage.sink)) 0 = given_none plan op s left faults (wrote stage.sink) (failed stage.sink) cutter keeper nothing c.in-Ok.ensures.goes many c.in-Ok.ensures.kept counts in
-    begins plan g.O.Operator.held g.O.Operator.has_taken wrote failed op s.task stage c.no_tasks_no_rows.ensures fits c.requires.sizes.task.0 c.args.sink e.sink e.none e.runs e.keeps (HasGiven plan g.J.Begins.sizes g.J.Begins.lefts left g.J.Begins.faults faults cutter keeper end)
+    begins plan g.O.Operator.contents g.O.Operator.has_taken wrote failed op s.task stage c.no_tasks_no_rows.ensures fits c.requires.sizes.task.0 c.args.sink e.sink e.none e.runs e.keeps (HasGiven plan g.J.Begins.sizes g.J.Begins.lefts left g.J.Begins.faults faults cutter keeper end)
     (transport (λ i. HasGiven plan (sym b.0 i) (sym b.1 i) left (sym b.2 i) faults cutter keeper (sym c.in-Ok.ensures.end i) (first_told op s.task (wrote stage.sink) (failed stage.sink)) 0) is)
 
 pub returns-in-Ok-ran : goal.returns-in-Ok-ran
@@ -68,9 +68,9 @@ returns-in-Ok-ran g c =
     let b = c.requires.begins in
     let x = c.ended-in-Ok-ran.ensures in
     let ends = x.end ∙ ap (end_of stage.state fed.over) c.let_go-end.ensures in
-    let r : RunsTo (IsTold plan) first_tasks (IsStageOf plan (seen g.O.Operator.held wrote failed) g.O.Operator.has_taken) (HasGiven plan s had has before now cutter keeper end) (IsSome end) (first_told op s.task w f) stage fed =
-    transport (λ i. RunsTo (IsTold plan) first_tasks (IsStageOf plan (seen g.O.Operator.held wrote failed) g.O.Operator.has_taken) (HasGiven plan (b.0 i) (b.1 i) has (b.2 i) now cutter keeper end) (IsSome end) (first_told op s.task (wrote (e.sink i)) (failed (e.sink i))) stage fed) c.in-Ok-ran.ensures.ended in
-    let over = done c.first_of_first.ensures c.blocks_are_tasks.ensures c.faults_leave_whole_tasks.ensures plan g.O.Operator.held g.O.Operator.has_taken wrote failed op s w f had has before now cutter keeper end stage fed r in
+    let r : RunsTo (IsTold plan) first_tasks (IsStageOf plan (seen g.O.Operator.contents wrote failed) g.O.Operator.has_taken) (HasGiven plan s had has before now cutter keeper end) (IsSome end) (first_told op s.task w f) stage fed =
+    transport (λ i. RunsTo (IsTold plan) first_tasks (IsStageOf plan (seen g.O.Operator.contents wrote failed) g.O.Operator.has_taken) (HasGiven plan (b.0 i) (b.1 i) has (b.2 i) now cutter keeper end) (IsSome end) (first_told op s.task (wrote (e.sink i)) (failed (e.sink i))) stage fed) c.in-Ok-ran.ensures.ended in
+    let over = done c.first_of_first.ensures c.blocks_are_tasks.ensures c.faults_leave_whole_tasks.ensures plan g.O.Operator.contents g.O.Operator.has_taken wrote failed op s w f had has before now cutter keeper end stage fed r in
     let d : Done q s had has before now w f c.ended-in-Ok-ran.result.end c.ended-in-Ok-ran.result.tasks (wrote c.ended-in-Ok-ran.result.sink) (failed c.ended-in-Ok-ran.result.sink) =
     transport (λ i. Done (c.requires.plan i) s had has before now w f (sym ends i) (sym x.tasks i) (wrote (sym x.sink i)) (failed (sym x.sink i))) over in
     record {

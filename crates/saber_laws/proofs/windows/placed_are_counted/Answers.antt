@@ -1,4 +1,4 @@
-use Rattle.saber_plan.specs.RowFacts.{length-placed}
+use Rattle.saber_plan.specs.Facts.Rows.{length-placed}
 use Rattle.saber_laws.proofs.windows.placed_are_counted.Goals as goal
 
 pub returns : goal.returns

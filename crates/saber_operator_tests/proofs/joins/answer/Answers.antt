@@ -1,7 +1,7 @@
 use Rattle.std.proofs.Common.{sym, ◌∙◌, ap, refl, subst, arith}
 use Rattle.saber_plan.specs.Inputs.{going_on}
 use Rattle.saber_plan.specs.Windows.{no_rows, mark_of}
-use Rattle.saber_plan.specs.Given.{RowsFit}
+use Rattle.saber_plan.specs.GivenRows.{RowsFit}
 use Rattle.saber_plan.specs.Tasks.{kept_behind}
 use Rattle.saber_samples.specs.Filling.{fits_nil}
 use Rattle.saber_operator_tests.proofs.joins.answer.Goals as goal
@@ -15,7 +15,7 @@ loop-task-init g c =
       mark = sym (ap mark_of none);
       fits = subst (RowsFit q no_rows) (sym none) (fits_nil q no_rows (omega arith) (omega arith));
       keeps = record {
-        held = c.empty_store-store.ensures.held ∙ sym (c.no_rows_give_nothing.ensures q c.requires.windows).kept ∙ ap (λ l. kept_behind q (going_on l)) (sym none);
+        contents = c.empty_store-store.ensures.contents ∙ sym (c.no_rows_give_nothing.ensures q c.requires.windows).kept ∙ ap (λ l. kept_behind q (going_on l)) (sym none);
         taken = subst (λ l. g.O.Operator.has_taken c.args.operator.now c.empty_store-store.result (going_on l)) (sym none) c.empty_store-store.ensures.taken;
       };
     }

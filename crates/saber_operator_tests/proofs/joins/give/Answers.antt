@@ -5,14 +5,14 @@ use Rattle.saber_plan.specs.Trees.{Tree}
 use Rattle.saber_plan.specs.Inputs.{Input, arrived, going_on}
 use Rattle.saber_plan.specs.Answers.{frame}
 use Rattle.saber_plan.specs.Windows.{Fits, no_rows, mark_after}
-use Rattle.saber_plan.specs.Given.{RowsFit}
+use Rattle.saber_plan.specs.GivenRows.{RowsFit}
 use Rattle.saber_plan.specs.Tasks.{Kept, kept_behind, places_by}
 use Rattle.saber_plan.specs.Shares.{shares_here, handed_here}
 use Rattle.saber_fragment.specs.declared.blocks.Block.{Block}
 use Rattle.saber_fragment.specs.declared.blocks.Earlier.{Earlier}
-use Rattle.saber_fragment.specs.Drafts.{Sight, own_sight, fed, IsSightOf}
+use Rattle.saber_fragment.specs.Drafts.{Sight, own_sight, seen_back, IsSightOf}
 use Rattle.saber_fragment.specs.Stores.{Follows}
-use Rattle.saber_feeds.specs.TaskFacts.{with_task, end_of, at_last, task_sight, task_follows, task_leaves}
+use Rattle.saber_fragment.specs.TaskFacts.{with_task, end_of, at_last, task_sight, task_follows, task_leaves}
 use Rattle.saber_samples.specs.Standing.{ComesBehind, Keeps}
 use Rattle.saber_samples.specs.BlockFacts.{starts_behind}
 use Rattle.saber_operator_tests.proofs.AllBehind.{PartLaws, joined_shares, joined_handed}
@@ -31,7 +31,7 @@ module _ (laws : PartLaws) (q : Tree) (join : q.shape ≡ Join) (w : Fits (frame
   xs = behind.rows
 
   abbrev s : Sight
-  s = fed (fed (own_sight own) behind) (none_before own earlier none unused)
+  s = seen_back (seen_back (own_sight own) behind) (none_before own earlier none unused)
 
   -- what the draft has is what the task's arrivals are, and tells what these give
   sight : IsSightOf q s (with_task behind.rows own.rows own.ended) (length behind.rows) (end_of behind.rows own.rows own.ended)
@@ -44,15 +44,15 @@ module _ (laws : PartLaws) (q : Tree) (join : q.shape ≡ Join) (w : Fits (frame
       ((λ j. handed_here q (start j) (same xs none no_more j) own.rows own.ended) ∙ joined_handed q join xs own.rows own.ended)
 
   -- so the store can take in the piece
-  follows : (held : Kept) (taken : Input → Type 0) (of : Input → ℕ → ℕ → Type 0) → Keeps q held taken (going_on behind.rows) → ((r : Input) (x y : ℕ) → IsSightOf q s r x y → of r x y)
-      → Follows q held taken of (with_task behind.rows own.rows own.ended) (length behind.rows) (end_of behind.rows own.rows own.ended)
-  follows held taken of kept is_of = task_follows xs own.rows own.ended q w next.fits held taken of kept.held kept.taken (is_of _ _ _ sight)
+  follows : (contents : Kept) (taken : Input → Type 0) (of : Input → ℕ → ℕ → Type 0) → Keeps q contents taken (going_on behind.rows) → ((r : Input) (x y : ℕ) → IsSightOf q s r x y → of r x y)
+      → Follows q contents taken of (with_task behind.rows own.rows own.ended) (length behind.rows) (end_of behind.rows own.rows own.ended)
+  follows contents taken of kept is_of = task_follows xs own.rows own.ended q w next.fits contents taken of kept.contents kept.taken (is_of _ _ _ sight)
 
   -- and keeps then what the task leaves open
-  keeps : (new staying : Kept) (now : Input → Type 0) → new ≡ staying → staying ≡ kept_behind q (arrived (with_task behind.rows own.rows own.ended) (end_of behind.rows own.rows own.ended))
+  keeps : (new remainder : Kept) (now : Input → Type 0) → new ≡ remainder → remainder ≡ kept_behind q (arrived (with_task behind.rows own.rows own.ended) (end_of behind.rows own.rows own.ended))
       → now (arrived (with_task behind.rows own.rows own.ended) (end_of behind.rows own.rows own.ended)) → own.ended ≡ false → Keeps q new now (going_on (behind.rows ++ own.rows))
-  keeps new staying now dropped stays has on = record {
-    held = dropped ∙ stays ∙ task_leaves xs own.rows own.ended q ∙ ap (λ e. kept_behind q (with_task xs own.rows e)) on;
+  keeps new remainder now dropped stays has on = record {
+    contents = dropped ∙ stays ∙ task_leaves xs own.rows own.ended q ∙ ap (λ e. kept_behind q (with_task xs own.rows e)) on;
     taken = subst now (at_last xs own.rows own.ended ∙ ap (with_task xs own.rows) on) has;
   }
 
@@ -79,7 +79,7 @@ take_in-requires g c =
       with_task b.rows t.rows t.ended,
       length b.rows,
       end_of b.rows t.rows t.ended,
-      follows laws (g.O.Operator.plan op) c.requires.join c.requires.windows c.requires.unlisted b t c.requires.unplaced c.none.result c.new.result c.new-2.result c.new.ensures c.requires.first c.requires.next (g.O.Operator.held c.args.store.now)
+      follows laws (g.O.Operator.plan op) c.requires.join c.requires.windows c.requires.unlisted b t c.requires.unplaced c.none.result c.new.result c.new-2.result c.new.ensures c.requires.first c.requires.next (g.O.Operator.contents c.args.store.now)
           (g.O.Operator.has_taken op c.args.store.now) (g.O.Operator.is_of op c.in_ok-piece.piece) c.requires.kept c.in_ok-piece.ensures,
     )
 
@@ -89,11 +89,11 @@ returns g c goes =
     let q = g.O.Operator.plan op in
     let b = c.args.behind.now in
     let t = c.args.own.now in
-    let held = g.O.Operator.held c.args.store.now in
+    let contents = g.O.Operator.contents c.args.store.now in
     let has = g.O.Operator.has_taken op c.args.store.now in
     let of = g.O.Operator.is_of op c.in_ok-piece.piece in
     let laws : PartLaws = record { has_lines = c.part_has_lines.ensures; join = c.parts_join.ensures; within = c.parts_lie_within.ensures; unit = c.merge_has_unit.ensures } in
-    let next = follows laws q c.requires.join c.requires.windows c.requires.unlisted b t c.requires.unplaced c.none.result c.new.result c.new-2.result c.new.ensures c.requires.first c.requires.next held has of c.requires.kept c.in_ok-piece.ensures in
+    let next = follows laws q c.requires.join c.requires.windows c.requires.unlisted b t c.requires.unplaced c.none.result c.new.result c.new-2.result c.new.ensures c.requires.first c.requires.next contents has of c.requires.kept c.in_ok-piece.ensures in
     let took = c.in_ok-take_in.ensures in
     keeps laws q c.requires.join c.requires.windows c.requires.unlisted b t c.requires.unplaced c.none.result c.new.result c.new-2.result c.new.ensures c.requires.first c.requires.next
-    (g.O.Operator.held c.drop_closed.new.store) (g.O.Operator.staying c.take_in.new.store) (g.O.Operator.has_taken op c.drop_closed.new.store) c.drop_closed.ensures.held (took.stays _ _ _ next) (c.drop_closed.ensures.taken _ (took.taken _ _ _ next)) goes
+    (g.O.Operator.contents c.drop_closed.new.store) (g.O.Operator.remainder c.take_in.new.store) (g.O.Operator.has_taken op c.drop_closed.new.store) c.drop_closed.ensures.contents (took.stays _ _ _ next) (c.drop_closed.ensures.taken _ (took.taken _ _ _ next)) goes

@@ -4,8 +4,8 @@ use Rattle.saber_plan.specs.declared.rows.Row.{Row}
 use Rattle.saber_plan.specs.declared.windows.Mark.{Mark}
 use Rattle.saber_plan.specs.Trees.{Tree, tree_of}
 use Rattle.saber_plan.specs.Windows.{no_rows, mark_after}
-use Rattle.saber_plan.specs.Given.{RowsFit}
-use Rattle.saber_plan.specs.RowFacts.{fits_back}
+use Rattle.saber_plan.specs.GivenRows.{RowsFit}
+use Rattle.saber_plan.specs.Facts.Rows.{fits_back}
 use Rattle.saber_fragment.specs.Drafts.{CanStart}
 use Rattle.saber_samples.specs.Filling.{HasPairs, CanCome, IsBehind, fits_nil}
 use Rattle.saber_samples.specs.BlockFacts.{starts_alone}

@@ -1,7 +1,7 @@
 use Rattle.std.proofs.Common.{sym, ◌∙◌, ap, subst}
 use Rattle.saber_plan.specs.Inputs.{going_on}
 use Rattle.saber_plan.specs.Windows.{no_rows, mark_of}
-use Rattle.saber_plan.specs.Given.{RowsFit}
+use Rattle.saber_plan.specs.GivenRows.{RowsFit}
 use Rattle.saber_samples.specs.Standing.{Keeps}
 use Rattle.saber_samples.specs.BlockFacts.{none_before}
 use Rattle.saber_operator_tests.proofs.joins.take_task.Goals as goal
@@ -29,5 +29,5 @@ returns g c goes =
       first = i.first;
       mark = own.mark no_rows rows i.mark ∙ ap mark_of (sym more);
       fits = subst (RowsFit q no_rows) (sym more) (own.fit q no_rows rows c.requires.columns i.mark i.fits);
-      keeps = subst (λ l. Keeps q (g.O.Operator.held c.give.new.store) (g.O.Operator.has_taken op c.give.new.store) (going_on l)) (sym more) (c.in_ok-give.ensures (own.ended ∙ goes));
+      keeps = subst (λ l. Keeps q (g.O.Operator.contents c.give.new.store) (g.O.Operator.has_taken op c.give.new.store) (going_on l)) (sym more) (c.in_ok-give.ensures (own.ended ∙ goes));
     }

@@ -2,7 +2,7 @@ use Rattle.std.proofs.Common.{[], false, refl, sym, subst, arith}
 use Rattle.saber_plan.specs.declared.windows.Mark.{Mark}
 use Rattle.saber_plan.specs.declared.plans.Plan.{Plan}
 use Rattle.saber_plan.specs.Trees.{tree_of}
-use Rattle.saber_plan.specs.Given.{RowsFit}
+use Rattle.saber_plan.specs.GivenRows.{RowsFit}
 use Rattle.saber_fragment.specs.Drafts.{CanStart}
 use Rattle.saber_samples.specs.Filling.{fits_nil}
 use Rattle.saber_samples.specs.BlockFacts.{starts_alone}

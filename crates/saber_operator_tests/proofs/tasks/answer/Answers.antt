@@ -12,7 +12,7 @@ loop-task-init g c =
       counted = c.requires.counted;
       fits = fits_nil q no_rows (omega arith) (omega arith);
       stands = record { mark = refl; last = none_end [] no_rows c.none.result refl c.none.ensures.before c.none.ensures.rows };
-      keeps = record { held = c.empty_store-store.ensures.held ∙ sym (c.no_rows_give_nothing.ensures q c.requires.windows).kept; taken = c.empty_store-store.ensures.taken };
+      keeps = record { contents = c.empty_store-store.ensures.contents ∙ sym (c.no_rows_give_nothing.ensures q c.requires.windows).kept; taken = c.empty_store-store.ensures.taken };
     }
 
 pub loop-task-preserved : goal.loop-task-preserved

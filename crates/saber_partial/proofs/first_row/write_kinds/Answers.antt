@@ -2,7 +2,7 @@ use Rattle.std.proofs.Common.{◌≡◌, ◌+◌, ◌<◌, ◌++◌, [], ◌∷�
 use Rattle.std.proofs.lemmas.List.{append_assoc, drop_more, length-set, take_more_set}
 use mir.Val.{SFits}
 use mir.Syntax.{w128}
-use Rattle.saber_plan.specs.ListFacts.{all_front}
+use Rattle.saber_plan.specs.Facts.Lists.{all_front}
 use Rattle.saber_plan.specs.Parts.{summed, least, greatest, plain}
 use Rattle.saber_plan.specs.Bounds.{sum_bound}
 use Rattle.saber_plan.specs.Values.{value}

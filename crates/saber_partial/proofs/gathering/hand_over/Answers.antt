@@ -1,7 +1,7 @@
 use Rattle.std.proofs.Common.{◌≡◌, sym, subst, ◌∙◌, ap, ap₂}
 use Rattle.std.proofs.lemmas.Result.{on_ok_weaker}
 use Rattle.saber_plan.specs.Parts.{merge}
-use Rattle.saber_plan.specs.PartFacts.{merge-empty_right}
+use Rattle.saber_plan.specs.Facts.Parts.{merge-empty_right}
 use Rattle.saber_partial.specs.Tallies.{CanMerge}
 use Rattle.saber_partial.specs.MergeFacts.{can_none}
 use Rattle.saber_partial.specs.Young.{young_part}

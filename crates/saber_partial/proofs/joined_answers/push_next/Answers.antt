@@ -2,7 +2,7 @@ use Rattle.std.proofs.Common.{List, ℤ, sym, ap, ap₂, ◌∙◌, subst₂, ge
 use Rattle.std.proofs.lemmas.List.{drop_more}
 use Rattle.saber_plan.specs.Answers.{key_cmp}
 use Rattle.saber_plan.specs.Parts.{Numbers, join_numbers}
-use Rattle.saber_plan.specs.PartFacts.{exact}
+use Rattle.saber_plan.specs.Facts.Parts.{exact}
 use Rattle.saber_partial.specs.Flat.{entry_in}
 use Rattle.saber_partial.specs.Tallies.{CanJoin}
 use Rattle.saber_partial.proofs.Lined.{next_less, next_equal, next_greater}

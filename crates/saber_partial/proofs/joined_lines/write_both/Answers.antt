@@ -1,5 +1,5 @@
 use Rattle.std.proofs.Common.{◌++◌, ◌∙◌, ap}
-use Rattle.saber_cells.specs.Cells.{drafted}
+use Rattle.saber_digits.specs.Cells.{drafted}
 use Rattle.saber_partial.specs.Printing.{answers_of_both}
 use Rattle.saber_partial.proofs.Headed.{ended}
 use Rattle.saber_partial.proofs.joined_lines.write_both.Goals as goal

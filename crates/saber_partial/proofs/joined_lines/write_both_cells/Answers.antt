@@ -3,7 +3,7 @@ use Rattle.std.proofs.lemmas.List.{drop_all}
 use mir.Val.{SFits}
 use mir.Syntax.{w128}
 use Rattle.std.specs.Fmt.{signed_decimal}
-use Rattle.saber_cells.specs.Cells.{cells, drafted}
+use Rattle.saber_digits.specs.Cells.{cells, drafted}
 use Rattle.saber_plan.specs.Parts.{answers_of, join_numbers}
 use Rattle.saber_partial.specs.Flat.{entry_in}
 use Rattle.saber_partial.specs.Kinds.{SumsFit}

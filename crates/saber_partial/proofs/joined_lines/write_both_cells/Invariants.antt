@@ -1,7 +1,7 @@
 use Rattle.std.proofs.Common.{◌≡◌, ◌≤◌, ◌++◌, drop}
 use Rattle.saber_plan.specs.Parts.{answers_of, join_numbers}
 use Rattle.saber_plan.specs.Texts.{Behind}
-use Rattle.saber_cells.specs.Cells.{cells, drafted}
+use Rattle.saber_digits.specs.Cells.{cells, drafted}
 use Rattle.saber_partial.specs.Kinds.{SumsFit}
 use Rattle.saber_partial.specs.Printing.{left_of, CanPrint}
 use Rattle.saber_partial.specs.Tallies.{CanJoin}

@@ -1,7 +1,7 @@
 use Rattle.std.proofs.Common.{◌≡◌, ◌⊎◌, inl, inr, List, ℕ, [], ◌++◌, ap, ◌∙◌, subst, drop, arith}
 use Rattle.std.specs.Result.{IfOk}
 use Rattle.std.proofs.lemmas.List.{drop_all}
-use Rattle.saber_cells.specs.Cells.{drafted}
+use Rattle.saber_digits.specs.Cells.{drafted}
 use Rattle.saber_partial.proofs.Lined.{behind_both, lines_under, walked_lines}
 use Rattle.saber_partial.proofs.joined_lines.write_woven.Goals.{then-loop-i-test+else-j-len, else-loop-i-test}
 use Rattle.saber_partial.proofs.joined_lines.write_woven.Goals as goal

@@ -1,6 +1,6 @@
 use Rattle.std.proofs.Common.{◌≡◌, ◌++◌, ◌≤◌, ◌+◌, ◌-◌, length, drop, map}
 use Rattle.saber_plan.specs.Texts.{Behind}
-use Rattle.saber_cells.specs.Cells.{drafted}
+use Rattle.saber_digits.specs.Cells.{drafted}
 use Rattle.saber_partial.specs.Printing.{lines_for}
 use Rattle.saber_partial.specs.Sorted.{weave}
 use Rattle.saber_partial.proofs.joined_lines.write_woven.Given as goal

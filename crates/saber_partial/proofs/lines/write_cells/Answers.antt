@@ -3,7 +3,7 @@ use Rattle.std.proofs.lemmas.List.{drop_all}
 use mir.Val.{SFits}
 use mir.Syntax.{w128}
 use Rattle.std.specs.Fmt.{signed_decimal}
-use Rattle.saber_cells.specs.Cells.{cells, drafted}
+use Rattle.saber_digits.specs.Cells.{cells, drafted}
 use Rattle.saber_plan.specs.Parts.{answers_of}
 use Rattle.saber_partial.specs.Printing.{left_of, CanPrint}
 use Rattle.saber_partial.proofs.Lined.{behind_both, written_cell}

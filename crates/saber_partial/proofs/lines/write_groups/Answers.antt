@@ -1,7 +1,7 @@
 use Rattle.std.proofs.Common.{◌∙◌, ap, List, ℤ, get_or, arith}
 use Rattle.std.proofs.lemmas.List.{drop_more}
 use Rattle.saber_plan.specs.Parts.{Numbers}
-use Rattle.saber_cells.specs.Cells.{drafted}
+use Rattle.saber_digits.specs.Cells.{drafted}
 use Rattle.saber_partial.specs.Flat.{entry_in}
 use Rattle.saber_partial.proofs.Lined.{behind_both, written_one}
 use Rattle.saber_partial.proofs.lines.write_groups.Goals as goal

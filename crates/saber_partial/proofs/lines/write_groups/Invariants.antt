@@ -1,6 +1,6 @@
 use Rattle.std.proofs.Common.{◌≡◌, ◌≤◌, ◌++◌, map, drop}
 use Rattle.saber_plan.specs.Texts.{Behind}
-use Rattle.saber_cells.specs.Cells.{drafted}
+use Rattle.saber_digits.specs.Cells.{drafted}
 use Rattle.saber_partial.specs.Printing.{lines_for}
 use Rattle.saber_partial.proofs.lines.write_groups.Given as goal
 

@@ -1,6 +1,6 @@
 use Rattle.std.proofs.Common.{◌++◌, ◌∙◌, ap}
 use Rattle.saber_plan.specs.Parts.{answers_of}
-use Rattle.saber_cells.specs.Cells.{drafted}
+use Rattle.saber_digits.specs.Cells.{drafted}
 use Rattle.saber_partial.specs.Flat.{entry_in}
 use Rattle.saber_partial.proofs.Headed.{ended}
 use Rattle.saber_partial.proofs.lines.write_line.Goals as goal

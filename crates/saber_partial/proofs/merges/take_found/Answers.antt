@@ -5,7 +5,7 @@ use Rattle.std.proofs.Math.ListN.{set}
 use Rattle.saber_plan.specs.Answers.{key_cmp}
 use Rattle.saber_plan.specs.Merges.{joined}
 use Rattle.saber_plan.specs.Parts.{Part, Numbers, numbers, join_numbers, merge}
-use Rattle.saber_plan.specs.MapFacts.{rest_rises}
+use Rattle.saber_plan.specs.Facts.Maps.{rest_rises}
 use Rattle.saber_partial.specs.Flat.{entry_in}
 use Rattle.saber_partial.specs.Tallies.{CanJoin}
 use Rattle.saber_partial.specs.Sorted.{part_of, IsAt, JoinsFit, Rises}

@@ -1,7 +1,7 @@
 use Rattle.std.proofs.Common.{sym, ap, ◌∙◌, drop, subst, arith}
 use Rattle.std.proofs.lemmas.List.{drop_all}
 use Rattle.saber_plan.specs.Parts.{merge}
-use Rattle.saber_plan.specs.PartFacts.{merge-empty_right}
+use Rattle.saber_plan.specs.Facts.Parts.{merge-empty_right}
 use Rattle.saber_partial.specs.Sorted.{part_of, Rises}
 use Rattle.saber_partial.proofs.Rising.{can_all}
 use Rattle.saber_partial.proofs.Weaving.{weave_rises, weave_merge}

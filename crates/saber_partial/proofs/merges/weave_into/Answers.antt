@@ -4,7 +4,7 @@ use Rattle.std.specs.declared.cmp.Ordering.{Ordering}
 use Rattle.std.specs.declared.cmp.Ordering.TheVariants.{Less}
 use Rattle.saber_plan.specs.Answers.{key_cmp}
 use Rattle.saber_plan.specs.Parts.{Numbers, numbers, join_numbers}
-use Rattle.saber_plan.specs.PartFacts.{exact}
+use Rattle.saber_plan.specs.Facts.Parts.{exact}
 use Rattle.saber_partial.specs.Flat.{entry_in}
 use Rattle.saber_partial.specs.Tallies.{CanJoin}
 use Rattle.saber_partial.specs.Sorted.{weave, AllBelow}

@@ -1,7 +1,7 @@
 use Rattle.std.proofs.Common.{◌≡◌, IfOk, sym, subst, ◌∙◌, ap}
 use Rattle.saber_plan.specs.Trees.{tree_of}
 use Rattle.saber_plan.specs.Parts.{Part, merge, part_answers}
-use Rattle.saber_plan.specs.PartFacts.{merge-empty_right}
+use Rattle.saber_plan.specs.Facts.Parts.{merge-empty_right}
 use Rattle.saber_partial.proofs.piles.answers_of_both.Goals as goal
 
 pub returns-in_default-clause-ok : goal.returns-in_default-clause-ok

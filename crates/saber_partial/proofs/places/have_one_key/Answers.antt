@@ -1,5 +1,5 @@
 use Rattle.std.proofs.Common.{◌≡◌, sym, ◌∙◌, length, arith}
-use Rattle.saber_plan.specs.PartFacts.{exact}
+use Rattle.saber_plan.specs.Facts.Parts.{exact}
 use Rattle.saber_partial.proofs.Rising.{keys_alone}
 use Rattle.saber_partial.proofs.places.have_one_key.Goals as goal
 

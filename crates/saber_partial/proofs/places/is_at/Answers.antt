@@ -1,6 +1,6 @@
 use Rattle.std.proofs.Common.{sym, ◌∙◌, arith}
-use Rattle.saber_plan.specs.MapFacts.{equal_if}
-use Rattle.saber_plan.specs.PartFacts.{exact}
+use Rattle.saber_plan.specs.Facts.Maps.{equal_if}
+use Rattle.saber_plan.specs.Facts.Parts.{exact}
 use Rattle.saber_partial.proofs.places.is_at.Goals as goal
 
 pub returns-then-i-len : goal.returns-then-i-len

@@ -1,7 +1,7 @@
 use Rattle.std.proofs.Common.{◌+◌, ◌-◌, ◌/◌, ◌<◌, List, ℤ, length, sym, ap, ◌∙◌, arith}
 use Rattle.saber_plan.specs.Answers.{key_cmp}
 use Rattle.saber_plan.specs.Parts.{Numbers}
-use Rattle.saber_plan.specs.PartFacts.{exact}
+use Rattle.saber_plan.specs.Facts.Parts.{exact}
 use Rattle.saber_partial.specs.Young.{by_key}
 use Rattle.saber_partial.proofs.Picked.{length-by_key, order_long, told_key}
 use Rattle.saber_partial.proofs.Rising.{less_before, greater_behind}

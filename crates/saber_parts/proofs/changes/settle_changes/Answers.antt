@@ -1,6 +1,6 @@
 use Rattle.std.proofs.Common.{T, sym, ◌∙◌, ap, subst, nat_cmp, nat_lt, nat_le}
 use Rattle.std.specs.FinMap.{is_sorted, from_entries, entries, retain_keys}
-use Rattle.saber_plan.specs.TreeFacts.{sorted_seen}
+use Rattle.saber_plan.specs.Facts.Trees.{sorted_seen}
 use Rattle.saber_fragment.specs.Shown.{shares_of}
 use Rattle.saber_parts.specs.Stored.{parts_by, parts_from, CanTakeIn, ArePartsOf}
 use Rattle.saber_parts.specs.Changing.{Rises, Tells}

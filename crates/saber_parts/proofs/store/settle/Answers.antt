@@ -1,6 +1,6 @@
 use Rattle.std.proofs.Common.{◌≡◌, ◌++◌, T, refl, append_assoc, sym, ◌∙◌, ap, subst, nat_cmp, nat_lt}
 use Rattle.std.specs.FinMap.{is_sorted, from_entries, entries, retain_keys}
-use Rattle.saber_plan.specs.TreeFacts.{sorted_seen}
+use Rattle.saber_plan.specs.Facts.Trees.{sorted_seen}
 use Rattle.saber_fragment.specs.Shown.{windows_by, shares_of}
 use Rattle.saber_parts.specs.Stored.{parts_by, closed_of, CanTakeIn, ArePartsOf, lines_of}
 use Rattle.saber_parts.proofs.Continuing.{rising_now, can_take_in, closed_parts, taken_now_of, shown_joined, left_is, written_is}

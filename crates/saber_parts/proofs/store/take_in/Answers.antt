@@ -5,8 +5,8 @@ use Rattle.std.specs.FinMap.{get, insert, is_sorted, nat_cmp-IsAntisymmetric}
 use Rattle.std.specs.Vec.Iter.{into_iter_items}
 use Rattle.saber_plan.specs.Merges.{joined, both}
 use Rattle.saber_plan.specs.Parts.{merge}
-use Rattle.saber_plan.specs.MapFacts.{both-empty_right, rest_rises}
-use Rattle.saber_plan.specs.TreeFacts.{written, inserted, looked_up}
+use Rattle.saber_plan.specs.Facts.Maps.{both-empty_right, rest_rises}
+use Rattle.saber_plan.specs.Facts.Trees.{written, inserted, looked_up}
 use Rattle.saber_fragment.specs.Shown.{windows_by}
 use Rattle.saber_parts.specs.Stored.{CanTakeIn, parts_by}
 use Rattle.saber_parts.proofs.Storing.{part_rest, part_fits, part_here, all_given}

@@ -1,4 +1,4 @@
-use Rattle.saber_rows.proofs.Told.{rest_told}
+use Rattle.saber_rows.proofs.ReaderTexts.{rest_told}
 use Rattle.saber_rows.proofs.laws.readers_tell.Goals as goal
 
 pub returns : goal.returns

@@ -2,7 +2,7 @@ use Rattle.std.proofs.Common.{◌++◌, ◌∷◌, [], List, ℕ, map, ◌∙◌
 use Rattle.std.proofs.lemmas.List.{take_rest}
 use Rattle.saber_plan.specs.declared.plans.Item.{Item}
 use Rattle.saber_plan.specs.Answers.{item_value}
-use Rattle.saber_cells.specs.Cells.{cells}
+use Rattle.saber_digits.specs.Cells.{cells}
 use Rattle.saber_select.proofs.Lined.{items_line}
 use Rattle.saber_select.proofs.lines.write_line.Goals as goal
 

@@ -1,7 +1,7 @@
 use Rattle.std.proofs.Common.{rules, ◌≡◌, ◌+◌, ◌-◌, ◌^◌, ◌<◌, Some, drop, take, ℕ, pos, to_z, w64, ap, subst, ◌∙◌, arith}
 use Rattle.std.specs.List.{slice_get}
 use Rattle.saber_plan.specs.Windows.{mark_after}
-use Rattle.saber_window.proofs.RunFacts.{slice_get-drop, left_at, mark_at_once}
+use Rattle.saber_window.proofs.SliceFacts.{slice_get-drop, left_at, mark_at_once}
 use Rattle.saber_window.proofs.rows.mark_behind.Goals as goal
 
 -- the last row, among those from `from` on

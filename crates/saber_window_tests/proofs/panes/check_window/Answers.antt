@@ -1,7 +1,7 @@
 use Rattle.std.proofs.Common.{[], refl, sym, subst, arith}
 use Rattle.saber_plan.specs.Trees.{tree_of}
-use Rattle.saber_plan.specs.Given.{RowsFit}
-use Rattle.saber_plan.specs.RowFacts.{fits_back}
+use Rattle.saber_plan.specs.GivenRows.{RowsFit}
+use Rattle.saber_plan.specs.Facts.Rows.{fits_back}
 use Rattle.saber_plan.specs.Windows.{no_rows}
 use Rattle.saber_samples.specs.Filling.{fits_nil}
 use Rattle.saber_window_tests.proofs.PanesFrom.{near}

@@ -1,6 +1,6 @@
 use Rattle.std.proofs.Common.{◌++◌, ◌∷◌, [], ◌∙◌, ap, pos}
-use Rattle.saber_cells.specs.Cells.{cells}
-use Rattle.saber_cells.specs.CellFacts.{line_after}
+use Rattle.saber_digits.specs.Cells.{cells}
+use Rattle.saber_digits.specs.CellFacts.{line_after}
 use Rattle.saber_windowed.proofs.lines.write_line.Goals as goal
 
 pub returns-clause-ok : goal.returns-clause-ok

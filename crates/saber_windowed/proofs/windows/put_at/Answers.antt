@@ -2,7 +2,7 @@ use Rattle.std.proofs.Common.{◌≡◌, ◌++◌, ◌∷◌, [], ◌∙◌, Lis
 use Rattle.std.specs.Option.{option_copied_mut}
 use Rattle.std.specs.Cmp.{nat_cmp_total}
 use Rattle.std.specs.FinMap.{get, insert, nat_cmp-IsAntisymmetric}
-use Rattle.saber_plan.specs.TreeFacts.{written, inserted, looked_up}
+use Rattle.saber_plan.specs.Facts.Trees.{written, inserted, looked_up}
 use Rattle.saber_windowed.specs.Found.{Found, AllBelow}
 use Rattle.saber_windowed.specs.Open.{seen_windows}
 use Rattle.saber_windowed.proofs.windows.put_at.Goals as goal

@@ -11,8 +11,8 @@ returns-in-Some-clause-keeps g c n r start t kept e =
     let q = g.O.Operator.plan c.args.operator.now in
     let p = c.in-Some.piece in
     let of = g.O.Operator.is_of c.args.operator.now p in
-    let old = seen g.O.Operator.held g.K.Sink.written g.K.Sink.faults c.args.self.now in
-    let new = seen g.O.Operator.held g.K.Sink.written g.K.Sink.faults c.absorb_piece.new.self in
+    let old = seen g.O.Operator.contents g.K.Sink.written g.K.Sink.faults c.args.self.now in
+    let new = seen g.O.Operator.contents g.K.Sink.written g.K.Sink.faults c.absorb_piece.new.self in
     let x = cut n r old.k in let y = cut n r (old.k + 1) in
     let piece : IsPieceAt n r old.k of = subst (λ o. IfSome o (λ p. IsPieceAt n r old.k (g.O.Operator.is_of c.args.operator.now p))) c.in-Some.is e in
     let next : Follows q old.kept (g.O.Operator.has_taken c.args.operator.now c.args.self.now.store) of r x y =

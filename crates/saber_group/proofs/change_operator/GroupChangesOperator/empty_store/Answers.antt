@@ -6,10 +6,10 @@ use Rattle.saber_plan.specs.Inputs.{going_on}
 use Rattle.saber_group.specs.ChangeStores.{HasWalked}
 use Rattle.saber_group.proofs.change_operator.GroupChangesOperator.empty_store.Goals as goal
 
-pub returns-clause-held : goal.returns-clause-held
-returns-clause-held c = λ j. record { parts = c.no_runs.ensures.held j; lists = empty; answers = c.new.ensures.last j }
+pub returns-clause-contents : goal.returns-clause-contents
+returns-clause-contents c = λ j. record { parts = c.no_slices.ensures.contents j; lists = empty; answers = c.new.ensures.last j }
 
 pub returns-clause-taken : goal.returns-clause-taken
 returns-clause-taken c =
-    subst (λ (p : Plan). HasWalked (tree_of p) (going_on []) (record { runs = c.no_runs.result; walk = c.new.result })) c.self.view_is
-    (record { taken = c.no_runs.ensures.taken; next_is = c.new.ensures.next ∙ sym c.no_runs.ensures.next ∙ c.no_runs.ensures.taken.next_is })
+    subst (λ (p : Plan). HasWalked (tree_of p) (going_on []) (record { slices = c.no_slices.result; walk = c.new.result })) c.self.view_is
+    (record { taken = c.no_slices.ensures.taken; next_is = c.new.ensures.next ∙ sym c.no_slices.ensures.next ∙ c.no_slices.ensures.taken.next_is })

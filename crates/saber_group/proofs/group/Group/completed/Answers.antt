@@ -3,8 +3,8 @@ use Rattle.std.specs.List.{AllByRecursion, slice_get}
 use Rattle.saber_plan.specs.Trees.{tree_of}
 use Rattle.saber_plan.specs.Windows.{closed_count}
 use Rattle.saber_plan.specs.Answers.{frame}
-use Rattle.saber_plan.specs.RowFacts.{fits_front}
-use Rattle.saber_group.specs.declared.runs.Run.{Run}
+use Rattle.saber_plan.specs.Facts.Rows.{fits_front}
+use Rattle.saber_group.specs.declared.slices.Slice.{Slice}
 use Rattle.saber_group.proofs.Completed.{goes_behind, is_complete}
 use Rattle.saber_group.proofs.group.Group.completed.Goals as goal
 
@@ -19,8 +19,8 @@ open_behind-requires-clause-low g c =
     let closed = c.closed_below-closed.ensures in
     subst (λ n. n ≤ c.max-low.result) (closed ∙ ap (closed_count (frame (tree_of c.args.self.now))) c.requires.meets) (omega (arith, least))
 
-pub take_runs-requires : goal.take_runs-requires
-take_runs-requires g c =
+pub take_slices-requires : goal.take_slices-requires
+take_slices-requires g c =
     let q = tree_of c.args.self.now in
     let e = c.args.earlier.now in
     let b = c.args.batch.now in
@@ -33,33 +33,33 @@ take_runs-requires g c =
       0,
       length b.rows.now,
       goes_behind q e b.before b.rows.now b.ended c.requires.meets c.groups_join.ensures c.merge_is_associative.ensures c.closed_stay.ensures c.ends_close_more.ensures c.has_window.ensures.fits c.requires.fits
-          low c.args.high store.next store.runs.entries c.args.runs.items order c.requires.high c.in-Ok-open_behind.ensures.next c.in-Ok-open_behind.ensures.runs c.requires.runs,
+          low c.args.high store.next store.slices.entries c.args.slices.items order c.requires.high c.in-Ok-open_behind.ensures.next c.in-Ok-open_behind.ensures.slices c.requires.slices,
     )
 
-pub returns-in-Ok-take_runs-clause-gives : goal.returns-in-Ok-take_runs-clause-gives
-returns-in-Ok-take_runs-clause-gives g c old given end same =
+pub returns-in-Ok-take_slices-clause-gives : goal.returns-in-Ok-take_slices-clause-gives
+returns-in-Ok-take_slices-clause-gives g c old given end same =
     let q = tree_of c.args.self.now in
     let e = c.args.earlier.now in
     let b = c.args.batch.now in
-    let runs = c.args.runs.items in
+    let slices = c.args.slices.items in
     let low = c.max-low.result in
     let k = c.closing_end-count.result in
     let order : low ≤ c.args.high = let more = c.if-high-low.false in omega (arith, more) in
     let store = c.in-Ok-open_behind.open in
     let least = c.max-low.ensures ∙ (λ j. max (c.begun_below.ensures j) (c.closed_below-closed.ensures j)) in
     let goes = goes_behind q e b.before b.rows.now b.ended c.requires.meets c.groups_join.ensures c.merge_is_associative.ensures c.closed_stay.ensures c.ends_close_more.ensures c.has_window.ensures.fits c.requires.fits
-    low c.args.high store.next store.runs.entries runs order c.requires.high c.in-Ok-open_behind.ensures.next c.in-Ok-open_behind.ensures.runs c.requires.runs in
+    low c.args.high store.next store.slices.entries slices order c.requires.high c.in-Ok-open_behind.ensures.next c.in-Ok-open_behind.ensures.slices c.requires.slices in
     is_complete q e b.before b.rows.now b.ended c.requires.meets old given end c.parts_lie_within.ensures c.begun_are_counted.ensures c.groups_join.ensures c.merge_has_unit.ensures c.has_window.ensures.group c.has_window.ensures.fits same
-    low c.args.high (record { low = low; text = c.take_runs.new.out; «open» = c.take_runs.new.store }) runs k c.in-Ok.closing.items store.next c.new-text.result.items c.new-text.ensures.items order c.requires.high least refl c.in-Ok-open_behind.ensures.next c.requires.runs
+    low c.args.high (record { low = low; text = c.take_slices.new.out; «open» = c.take_slices.new.store }) slices k c.in-Ok.closing.items store.next c.new-text.result.items c.new-text.ensures.items order c.requires.high least refl c.in-Ok-open_behind.ensures.next c.requires.slices
     (c.in-Ok.ensures ∙ ap (take k) c.deref-2.ensures.value)
-    (subst (λ l. AllByRecursion (λ (r : Run). r.first ≤ low) (take k l)) c.deref.ensures.value c.closing_end-count.ensures.firsts)
-    (subst (λ l. (r : Run) → Some r ≡ slice_get l k → low ≤ r.first) c.deref.ensures.value c.closing_end-count.ensures.behind)
-    (c.in-Ok-take_runs.ensures.went_on e.before (e.rows ++ b.rows.now) (length e.rows) 0 (length b.rows.now) goes)
+    (subst (λ l. AllByRecursion (λ (r : Slice). r.first ≤ low) (take k l)) c.deref.ensures.value c.closing_end-count.ensures.firsts)
+    (subst (λ l. (r : Slice) → Some r ≡ slice_get l k → low ≤ r.first) c.deref.ensures.value c.closing_end-count.ensures.behind)
+    (c.in-Ok-take_slices.ensures.went_on e.before (e.rows ++ b.rows.now) (length e.rows) 0 (length b.rows.now) goes)
 
-pub returns-in-Ok-take_runs-clause-steps : goal.returns-in-Ok-take_runs-clause-steps
-returns-in-Ok-take_runs-clause-steps g c =
+pub returns-in-Ok-take_slices-clause-steps : goal.returns-in-Ok-take_slices-clause-steps
+returns-in-Ok-take_slices-clause-steps g c =
     let before = c.in-Ok-open_behind.ensures.steps in
     let owed = c.in-Ok-open_behind.ensures.owed in
     let next = c.in-Ok-open_behind.ensures.next in
-    let used = c.in-Ok-take_runs.ensures.steps in
+    let used = c.in-Ok-take_slices.ensures.steps in
     omega (arith, before, owed, next, used)

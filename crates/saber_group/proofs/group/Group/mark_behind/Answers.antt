@@ -1,6 +1,6 @@
 use Rattle.std.proofs.Common.{◌∙◌, arith}
 use Rattle.saber_plan.specs.Trees.{tree_of}
-use Rattle.saber_plan.specs.RowFacts.{left_small, few_rows}
+use Rattle.saber_plan.specs.Facts.Rows.{left_small, few_rows}
 use Rattle.saber_group.proofs.RowsTogether.{left_behind, mark_up_to}
 use Rattle.saber_group.proofs.group.Group.mark_behind.Goals as goal
 

@@ -4,7 +4,7 @@ use Rattle.saber_plan.specs.declared.plans.Plan.{Plan}
 use Rattle.saber_plan.specs.Trees.{tree_of}
 use Rattle.saber_plan.specs.Parts.{no_part, group_part, merge}
 use Rattle.saber_plan.specs.Values.{passes}
-use Rattle.saber_group.specs.RunParts.{with_row}
+use Rattle.saber_group.specs.SliceParts.{with_row}
 use Rattle.saber_group.proofs.group.Group.part_of_row.Goals as goal
 
 pub returns-then-counts : goal.returns-then-counts

@@ -5,7 +5,7 @@ use Rattle.saber_plan.specs.Trees.{tree_of}
 use Rattle.saber_sliding.specs.Entries.{whole, part_at}
 use Rattle.saber_sliding.specs.EntryFacts.{nothing_first}
 use Rattle.saber_changes.specs.Walks.{Walks}
-use Rattle.saber_group.specs.RunParts.{Holds}
+use Rattle.saber_group.specs.SliceParts.{Holds}
 use Rattle.saber_group.specs.ChangeStores.{answers_over}
 use Rattle.saber_group.proofs.Opened.{holds_drop, holds_later, whole_is}
 use Rattle.saber_group.proofs.Walked.{walk_nil, walk_step, walk_skip}
@@ -16,7 +16,7 @@ loop-self-init g c = record {
   up = omega arith;
   high = omega arith;
   walk = c.requires;
-  runs = λ m rows h. h;
+  slices = λ m rows h. h;
   text = λ m rows all h settled stands. walk_nil c.args.change (tree_of c.args.plan.now) m all c.args.walk.now c.args.self.now.next c.args.out.now.items c.requires stands;
   steps = omega arith;
 }
@@ -25,7 +25,7 @@ pub loop-self-preserved-in-Some : goal.loop-self-preserved-in-Some
 loop-self-preserved-in-Some g c =
     let q = tree_of c.args.plan.now in
     let n = c.loop-self.self.next in
-    let runs = c.loop-self.self.runs.entries in
+    let slices = c.loop-self.self.slices.entries in
     let rest = c.drop_to.new.self.entries in
     let dropped_is = c.drop_to.ensures.entries in
     let begun = c.loop-self.invariant.up in
@@ -39,11 +39,11 @@ loop-self-preserved-in-Some g c =
       up = omega (arith, begun);
       high = omega (arith, most, below);
       walk = c.in_ok-pass-in-Some.ensures.next;
-      runs = λ m rows h. holds_later q m rows n (n + 1) c.answers.new.self.entries (omega arith)
-          (subst (Holds q m rows n) (sym (c.in_ok-answers-in-Some.ensures.same ∙ dropped_is)) (holds_drop q m rows n runs (c.loop-self.invariant.runs m rows h)));
+      slices = λ m rows h. holds_later q m rows n (n + 1) c.answers.new.self.entries (omega arith)
+          (subst (Holds q m rows n) (sym (c.in_ok-answers-in-Some.ensures.same ∙ dropped_is)) (holds_drop q m rows n slices (c.loop-self.invariant.slices m rows h)));
       text = λ m rows all h settled stands. walk_step c.args.change q m all c.args.walk.now c.loop-self.walk c.pass.new.self n (whole rest) c.in_ok-answers-in-Some.answers c.args.out.now.items c.loop-self.out.items c.pass.new.out.items
           (omega (arith, first, begun)) c.loop-self.invariant.walk
-          (ap whole dropped_is ∙ whole_is q m rows n runs (c.loop-self.invariant.runs m rows h) ∙ settled n below)
+          (ap whole dropped_is ∙ whole_is q m rows n slices (c.loop-self.invariant.slices m rows h) ∙ settled n below)
           c.in_ok-answers-in-Some.ensures.ok (c.loop-self.invariant.text m rows all h settled stands) c.in_ok-pass-in-Some.ensures.ok;
       steps = omega (arith, used, dropped, asked);
     }
@@ -52,7 +52,7 @@ pub loop-self-preserved : goal.loop-self-preserved
 loop-self-preserved g c =
     let q = tree_of c.args.plan.now in
     let n = c.loop-self.self.next in
-    let runs = c.loop-self.self.runs.entries in
+    let slices = c.loop-self.self.slices.entries in
     let low = c.args.low in
     let rest = c.drop_to.new.self.entries in
     let begun = c.loop-self.invariant.up in
@@ -61,24 +61,24 @@ loop-self-preserved g c =
     let none : rest ≡ [] = nothing_first rest (sym c.in-None.ensures) in
     let used = c.loop-self.invariant.steps in
     let dropped = c.drop_to.ensures.owed in
-    let held = λ (m : Mark) (rows : List Row) (h : Holds q m rows c.args.self.now.next c.args.self.now.runs.entries). subst (Holds q m rows n) (sym c.drop_to.ensures.entries) (holds_drop q m rows n runs (c.loop-self.invariant.runs m rows h)) in
+    let contents = λ (m : Mark) (rows : List Row) (h : Holds q m rows c.args.self.now.next c.args.self.now.slices.entries). subst (Holds q m rows n) (sym c.drop_to.ensures.entries) (holds_drop q m rows n slices (c.loop-self.invariant.slices m rows h)) in
     record {
       up = omega (arith, begun, below);
       high = omega arith;
       walk = c.in_ok-reach-in-None.ensures.next;
-      runs = λ m rows h. holds_later q m rows n low rest (omega (arith, below)) (held m rows h);
+      slices = λ m rows h. holds_later q m rows n low rest (omega (arith, below)) (contents m rows h);
       text = λ m rows all h settled stands. walk_skip c.args.change q m all c.args.walk.now c.loop-self.walk c.reach.new.self n low c.args.out.now.items c.loop-self.out.items c.reach.new.out.items
           (omega (arith, first, begun)) (omega (arith, below)) c.loop-self.invariant.walk
-          (λ i p r. sym (settled i r) ∙ (held m rows h).at i p ∙ ap (λ es. part_at es i) none)
+          (λ i p r. sym (settled i r) ∙ (contents m rows h).at i p ∙ ap (λ es. part_at es i) none)
           (c.loop-self.invariant.text m rows all h settled stands) c.in_ok-reach-in-None.ensures.ok;
       steps = omega (arith, used, dropped, below);
     }
 
-pub returns-clause-runs : goal.returns-clause-runs
-returns-clause-runs g c =
+pub returns-clause-slices : goal.returns-clause-slices
+returns-clause-slices g c =
     let q = tree_of c.args.plan.now in
     let s = c.loop-self.self in
-    λ m rows h. subst (Holds q m rows s.next) (sym c.drop_to-2.ensures.entries) (holds_drop q m rows s.next s.runs.entries (c.loop-self.invariant.runs m rows h))
+    λ m rows h. subst (Holds q m rows s.next) (sym c.drop_to-2.ensures.entries) (holds_drop q m rows s.next s.slices.entries (c.loop-self.invariant.slices m rows h))
 
 pub returns-clause-text : goal.returns-clause-text
 returns-clause-text g c =

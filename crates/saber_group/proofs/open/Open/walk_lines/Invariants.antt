@@ -3,7 +3,7 @@ use Rattle.saber_plan.specs.declared.rows.Row.{Row}
 use Rattle.saber_plan.specs.declared.windows.Mark.{Mark}
 use Rattle.saber_plan.specs.Trees.{tree_of}
 use Rattle.saber_changes.specs.Walks.{Stands, Walks}
-use Rattle.saber_group.specs.RunParts.{part_of, Holds}
+use Rattle.saber_group.specs.SliceParts.{part_of, Holds}
 use Rattle.saber_group.specs.ChangeStores.{answers_over}
 use Rattle.saber_group.proofs.open.Open.walk_lines.Given as goal
 
@@ -12,12 +12,12 @@ invariant-loop-self g l = record {
   up : l.fn.self.next ≤ l.self.next;
   high : l.self.next ≤ max l.fn.self.next l.low;
   walk : l.walk.next ≡ l.self.next;
-  runs : (m : Mark) (rows : List Row) → Holds (tree_of l.fn.plan) m rows l.fn.self.next l.fn.self.runs.entries → Holds (tree_of l.fn.plan) m rows l.self.next l.self.runs.entries;
-  text : (m : Mark) (rows all : List Row) → Holds (tree_of l.fn.plan) m rows l.fn.self.next l.fn.self.runs.entries
+  slices : (m : Mark) (rows : List Row) → Holds (tree_of l.fn.plan) m rows l.fn.self.next l.fn.self.slices.entries → Holds (tree_of l.fn.plan) m rows l.self.next l.self.slices.entries;
+  text : (m : Mark) (rows all : List Row) → Holds (tree_of l.fn.plan) m rows l.fn.self.next l.fn.self.slices.entries
       → ((i : ℕ) → i < l.low → part_of (tree_of l.fn.plan) i m rows ≡ part_of (tree_of l.fn.plan) i m all)
       → Stands (answers_over (tree_of l.fn.plan) m all) l.fn.walk
       → Walks l.change (answers_over (tree_of l.fn.plan) m all) l.fn.walk l.walk l.self.next l.fn.out.items l.out.items;
-  steps : l.steps + l.self.runs.owed + l.fn.self.next ≤ l.fn.steps + l.fn.self.runs.owed + l.self.next;
+  steps : l.steps + l.self.slices.owed + l.fn.self.next ≤ l.fn.steps + l.fn.self.slices.owed + l.self.next;
 }
 
 abbrev pub decreases-loop-self : goal.decreases-loop-self

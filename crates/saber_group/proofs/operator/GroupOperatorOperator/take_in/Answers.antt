@@ -2,12 +2,12 @@ use Rattle.std.proofs.Common.{◌≡◌, ℕ, ◌++◌, sym, ◌∙◌, ap, subs
 use Rattle.saber_plan.specs.Trees.{Tree, tree_of}
 use Rattle.saber_plan.specs.Inputs.{Input, arrived}
 use Rattle.saber_plan.specs.Tasks.{by_windows, kept_behind, added}
-use Rattle.saber_plan.specs.KeptFacts.{alike_kept}
+use Rattle.saber_plan.specs.Facts.Kept.{alike_kept}
 use Rattle.saber_fragment.specs.Stores.{Follows}
-use Rattle.saber_group.specs.declared.run_stores.RunStore.{RunStore}
-use Rattle.saber_group.specs.RunPieces.{IsOf}
-use Rattle.saber_group.specs.RunStores.{held_in, TakenIn}
-use Rattle.saber_group.proofs.RunKeeping.{MarkLaws, held_is, added_is, old_rows, new_rows, comes, taken_after, text_after}
+use Rattle.saber_group.specs.declared.slice_stores.SliceStore.{SliceStore}
+use Rattle.saber_group.specs.SlicePieces.{IsOf}
+use Rattle.saber_group.specs.SliceStores.{held_in, TakenIn}
+use Rattle.saber_group.proofs.SliceKeeping.{MarkLaws, held_is, added_is, old_rows, new_rows, comes, taken_after, text_after}
 use Rattle.saber_group.proofs.operator.GroupOperatorOperator.take_in.Goals as goal
 
 pub take_uncounted-requires-clause-comes : goal.take_uncounted-requires-clause-comes
@@ -31,7 +31,7 @@ returns-clause-taken c =
     let laws : MarkLaws = record { follow = c.marks_follow.ensures; rise = c.closed_rise.ensures; close_more = c.ends_close_more.ensures } in
     let n = c.closed_below-closed.result in
     let n_is = c.closed_below-closed.ensures in
-    let new : RunStore = record { windows = c.take_uncounted.new.store; begun = c.begun_below-begun.result } in
+    let new : SliceStore = record { windows = c.take_uncounted.new.store; begun = c.begun_below-begun.result } in
     subst (λ (t : Tree). (r : Input) (x y : ℕ) → Follows t k (λ u. TakenIn t u s) (λ r x y. IsOf t r x y p) r x y → TakenIn t (arrived r y) new) (ap tree_of c.self.view_is) (λ r x y f.
     let went = c.in_ok-take_uncounted.ensures (old_rows q r x y s p k f) (new_rows q r x y s p k f) (arrived r y).ended (comes q r x y s p k f laws n n_is) in
     taken_after q r x y s p k f laws n n_is new c.begun_below-begun.ensures went.done_is went.holds)
@@ -45,7 +45,7 @@ returns-clause-stays c =
     let laws : MarkLaws = record { follow = c.marks_follow.ensures; rise = c.closed_rise.ensures; close_more = c.ends_close_more.ensures } in
     let n = c.closed_below-closed.result in
     let n_is = c.closed_below-closed.ensures in
-    let new : RunStore = record { windows = c.take_uncounted.new.store; begun = c.begun_below-begun.result } in
+    let new : SliceStore = record { windows = c.take_uncounted.new.store; begun = c.begun_below-begun.result } in
     subst (λ (t : Tree). (r : Input) (x y : ℕ) → Follows t k (λ u. TakenIn t u s) (λ r x y. IsOf t r x y p) r x y → by_windows (held_in new) ≡ kept_behind t (arrived r y)) (ap tree_of c.self.view_is) (λ r x y f.
     let went = c.in_ok-take_uncounted.ensures (old_rows q r x y s p k f) (new_rows q r x y s p k f) (arrived r y).ended (comes q r x y s p k f laws n n_is) in
     ap by_windows (held_is q c.has_window.ensures.group _ new (taken_after q r x y s p k f laws n n_is new c.begun_below-begun.ensures went.done_is went.holds))
@@ -65,5 +65,5 @@ returns-clause-text c =
     let went = c.in_ok-take_uncounted.ensures (old_rows q r x y s p k f) (new_rows q r x y s p k f) (arrived r y).ended (comes q r x y s p k f laws n n_is) in
     c.in_ok-extend_from_slice.ensures.items ∙ ap (λ l. before ++ l) (
     c.deref.ensures.value
-    ∙ text_after q r x y s p k f laws n n_is c.take_uncounted.new.store.runs.entries c.take_uncounted.new.store.next c.new-text.result.items c.take_uncounted.new.out.items c.new-text.ensures.items went
+    ∙ text_after q r x y s p k f laws n n_is c.take_uncounted.new.store.slices.entries c.take_uncounted.new.store.next c.new-text.result.items c.take_uncounted.new.out.items c.new-text.ensures.items went
     ∙ added_is q c.has_window.ensures.group c.part_has_lines.ensures c.self.invariant r x y))

@@ -3,7 +3,7 @@ use Rattle.std.proofs.lemmas.Option.{get_or_from_slice_get}
 use Rattle.saber_plan.specs.declared.windows.Mark.{Mark}
 use Rattle.saber_plan.specs.Trees.{tree_of}
 use Rattle.saber_plan.specs.Windows.{mark_after}
-use Rattle.saber_plan.specs.RowFacts.{left_small, right_small, mark_more}
+use Rattle.saber_plan.specs.Facts.Rows.{left_small, right_small, mark_more}
 use Rattle.saber_join.proofs.join.Join.last_before.Goals as goal
 
 pub step-requires-clause-left : goal.step-requires-clause-left

@@ -4,7 +4,7 @@ use Rattle.std.proofs.lemmas.List.{take_more}
 use Rattle.saber_plan.specs.Trees.{tree_of}
 use Rattle.saber_plan.specs.Windows.{step_mark}
 use Rattle.saber_plan.specs.Answers.{frame}
-use Rattle.saber_plan.specs.RowFacts.{left_small, right_small, mark_more, row_at}
+use Rattle.saber_plan.specs.Facts.Rows.{left_small, right_small, mark_more, row_at}
 use Rattle.saber_join.proofs.Holding.{no_lefts, no_rights, lefts_push, rights_push}
 use Rattle.saber_join.proofs.join.Join.note_rows.Goals as goal
 
@@ -16,8 +16,8 @@ loop-i-init c =
     record {
       lately = c.requires.lately;
       mark = refl;
-      lefts = sym (append-nil c.args.held.now.lefts) ∙ ap (λ l. c.args.held.now.lefts ++ l) (sym (no_lefts f t n c.args.before.now));
-      rights = sym (append-nil c.args.held.now.rights) ∙ ap (λ l. c.args.held.now.rights ++ l) (sym (no_rights f t n c.args.before.now));
+      lefts = sym (append-nil c.args.contents.now.lefts) ∙ ap (λ l. c.args.contents.now.lefts ++ l) (sym (no_lefts f t n c.args.before.now));
+      rights = sym (append-nil c.args.contents.now.rights) ∙ ap (λ l. c.args.contents.now.rights ++ l) (sym (no_rights f t n c.args.before.now));
       windows = refl;
     }
 
@@ -65,7 +65,7 @@ loop-i-preserved c =
     record {
       lately = c.note_row.ensures.lately;
       mark = c.step-mark.ensures ∙ ap (λ m. step_mark m r) h.mark ∙ sym (mark_more b rows k r below (sym at));
-      lefts = lefts_push f t n b (take k rows) (take (k + 1) rows) r c.loop-i.mark h.mark more c.args.held.now.lefts c.loop-i.held.lefts c.note_row.new.held.lefts h.lefts c.in_ok-note_row.ensures.lefts;
-      rights = rights_push f t n b (take k rows) (take (k + 1) rows) r c.loop-i.mark h.mark more c.args.held.now.rights c.loop-i.held.rights c.note_row.new.held.rights h.rights c.in_ok-note_row.ensures.rights;
+      lefts = lefts_push f t n b (take k rows) (take (k + 1) rows) r c.loop-i.mark h.mark more c.args.contents.now.lefts c.loop-i.contents.lefts c.note_row.new.contents.lefts h.lefts c.in_ok-note_row.ensures.lefts;
+      rights = rights_push f t n b (take k rows) (take (k + 1) rows) r c.loop-i.mark h.mark more c.args.contents.now.rights c.loop-i.contents.rights c.note_row.new.contents.rights h.rights c.in_ok-note_row.ensures.rights;
       windows = c.in_ok-note_row.ensures.windows ∙ h.windows;
     }

@@ -9,7 +9,7 @@ abbrev pub invariant-loop-i : goal.invariant-loop-i
 invariant-loop-i l = record {
   lately : l.lately ≡ frame (tree_of l.fn.self);
   mark : l.mark ≡ mark_after l.fn.before (take l.i l.rows);
-  lefts : l.held.lefts ≡ l.fn.held.lefts ++ lefts_of (frame (tree_of l.fn.self)) l.tie l.fn.closed (placed_after l.fn.before (take l.i l.rows));
-  rights : l.held.rights ≡ l.fn.held.rights ++ rights_of (frame (tree_of l.fn.self)) l.tie l.fn.closed (placed_after l.fn.before (take l.i l.rows));
-  windows : l.held.windows.entries ≡ l.fn.held.windows.entries;
+  lefts : l.contents.lefts ≡ l.fn.contents.lefts ++ lefts_of (frame (tree_of l.fn.self)) l.tie l.fn.closed (placed_after l.fn.before (take l.i l.rows));
+  rights : l.contents.rights ≡ l.fn.contents.rights ++ rights_of (frame (tree_of l.fn.self)) l.tie l.fn.closed (placed_after l.fn.before (take l.i l.rows));
+  windows : l.contents.windows.entries ≡ l.fn.contents.windows.entries;
 }

@@ -2,7 +2,7 @@ use Rattle.std.proofs.Common.{◌≡◌, ◌<◌, ◌+◌, ◌-◌, ◌/◌, len
 use Rattle.std.proofs.lemmas.Option.{get_or_from_slice_get}
 use Rattle.saber_plan.specs.Trees.{tree_of}
 use Rattle.saber_plan.specs.Answers.{frame}
-use Rattle.saber_plan.specs.RowFacts.{left_small, right_small}
+use Rattle.saber_plan.specs.Facts.Rows.{left_small, right_small}
 use Rattle.saber_join.proofs.Passing.{none_of_none, none_below}
 use Rattle.saber_join.proofs.join.Join.passed_over.Goals as goal
 

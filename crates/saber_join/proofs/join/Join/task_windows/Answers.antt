@@ -3,10 +3,10 @@ use Rattle.saber_plan.specs.declared.windows.Mark.{Mark}
 use Rattle.saber_plan.specs.Trees.{tree_of}
 use Rattle.saber_plan.specs.Windows.{mark_after, ending, closed_count, begun_count}
 use Rattle.saber_plan.specs.Answers.{frame}
-use Rattle.saber_plan.specs.Given.{RowsFit}
+use Rattle.saber_plan.specs.GivenRows.{RowsFit}
 use Rattle.saber_parts.specs.declared.bounds.Bounds.{Bounds}
 use Rattle.saber_join.specs.Open.{seen_parts, HoldsTask}
-use Rattle.saber_plan.specs.TreeFacts.{sorted_seen}
+use Rattle.saber_plan.specs.Facts.Trees.{sorted_seen}
 use Rattle.saber_join.proofs.Finishing.{Laws, AreBounds, of_task}
 use Rattle.saber_join.proofs.Passing.{ends_there, rest_fits, holds_all}
 use Rattle.saber_join.proofs.join.Join.task_windows.Goals as goal
@@ -61,5 +61,5 @@ returns c s seen whole =
     let parts = seen_parts es in
     let rest : HoldsTask q (closed_count (frame q) s.before) (mark_after s.first seen.passed) d.back d.rows parts = subst₂ (λ (m n : Mark). HoldsTask q (closed_count (frame q) n) m d.back d.rows parts) first seen.before c.in_ok-found.ensures.windows in
     let holds : HoldsTask q (closed_count (frame q) s.before) s.first (seen.passed ++ d.back) d.rows parts = holds_all laws.span q w.join w.fits (closed_count (frame q) s.before) s.first seen.passed d.back d.rows seen.none parts rest in
-    let held : HoldsTask q (closed_count (frame q) s.before) s.first s.back s.rows parts = subst₂ (λ l r. HoldsTask q (closed_count (frame q) s.before) s.first l r parts) (sym seen.back) seen.rows holds in
-    of_task laws q w.checked w.join w.windows w.fits s whole b given es (sorted_seen nat_cmp (λ k. k) (λ x. x) es c.len-count.ensures.ordered) (subst (λ m. HoldsTask q (closed_count (frame q) m) s.first s.back s.rows parts) whole.meets held)
+    let contents : HoldsTask q (closed_count (frame q) s.before) s.first s.back s.rows parts = subst₂ (λ l r. HoldsTask q (closed_count (frame q) s.before) s.first l r parts) (sym seen.back) seen.rows holds in
+    of_task laws q w.checked w.join w.windows w.fits s whole b given es (sorted_seen nat_cmp (λ k. k) (λ x. x) es c.len-count.ensures.ordered) (subst (λ m. HoldsTask q (closed_count (frame q) m) s.first s.back s.rows parts) whole.meets contents)

@@ -6,8 +6,8 @@ use Rattle.saber_plan.specs.declared.windows.Mark.{Mark}
 use Rattle.saber_plan.specs.Trees.{tree_of}
 use Rattle.saber_plan.specs.Windows.{step_mark, mark_after, placed_after, closed_count}
 use Rattle.saber_plan.specs.Answers.{frame}
-use Rattle.saber_plan.specs.Given.{RowsFit}
-use Rattle.saber_plan.specs.RowFacts.{left_small, right_small, mark_more, mark-append, row_at, fits_front, fits_back}
+use Rattle.saber_plan.specs.GivenRows.{RowsFit}
+use Rattle.saber_plan.specs.Facts.Rows.{left_small, right_small, mark_more, mark-append, row_at, fits_front, fits_back}
 use Rattle.saber_join.specs.Rows.{AllOn}
 use Rattle.saber_join.specs.Keeping.{lefts_of, rights_of}
 use Rattle.saber_join.specs.Open.{seen_parts, Takes, HoldsTask}
@@ -30,10 +30,10 @@ loop-i-init c =
     record {
       lately = c.note_rows.ensures.lately;
       mark = refl;
-      lefts = noted.lefts ∙ ap (λ l. l ++ lefts_of f t n (placed_after b back)) c.in_ok-held.ensures.lefts ∙ ap (λ l. lefts_of f t n (placed_after b l)) (sym (append-nil back));
-      rights = noted.rights ∙ ap (λ l. l ++ rights_of f t n (placed_after b back)) c.in_ok-held.ensures.rights ∙ ap (λ l. rights_of f t n (placed_after b l)) (sym (append-nil back));
-      parts = subst (λ l. HasParts q n (b.left + b.right + length back) b l (seen_parts c.note_rows.new.held.windows.entries)) (sym (append-nil back))
-          (none_yet c.no_rows_no_part.ensures q n b back c.note_rows.new.held.windows.entries (noted.windows ∙ c.in_ok-held.ensures.windows));
+      lefts = noted.lefts ∙ ap (λ l. l ++ lefts_of f t n (placed_after b back)) c.in_ok-contents.ensures.lefts ∙ ap (λ l. lefts_of f t n (placed_after b l)) (sym (append-nil back));
+      rights = noted.rights ∙ ap (λ l. l ++ rights_of f t n (placed_after b back)) c.in_ok-contents.ensures.rights ∙ ap (λ l. rights_of f t n (placed_after b l)) (sym (append-nil back));
+      parts = subst (λ l. HasParts q n (b.left + b.right + length back) b l (seen_parts c.note_rows.new.contents.windows.entries)) (sym (append-nil back))
+          (none_yet c.no_rows_no_part.ensures q n b back c.note_rows.new.contents.windows.entries (noted.windows ∙ c.in_ok-contents.ensures.windows));
     }
 
 pub take_row-requires-clause-left : goal.take_row-requires-clause-left
@@ -108,8 +108,8 @@ loop-i-preserved c =
     let mark = c.loop-i.mark in
     let h = c.loop-i.invariant in
     let took = c.in-Ok-take_row.ensures in
-    let m = seen_parts c.loop-i.held.windows.entries in
-    let w = seen_parts c.take_row.new.held.windows.entries in
+    let m = seen_parts c.loop-i.contents.windows.entries in
+    let w = seen_parts c.take_row.new.contents.windows.entries in
     let below : k < length rows = omega (arith, c.loop-i-test.true) in
     let at : get_or rows k r ≡ r = get_or_from_slice_get rows k r r (sym c.row-row.ensures) in
     let xs = back ++ take k rows in
@@ -121,8 +121,8 @@ loop-i-preserved c =
     record {
       lately = c.take_row.ensures.lately;
       mark = c.step-mark.ensures ∙ ap (λ m. step_mark m r) h.mark ∙ sym (mark_more c.args.after.now rows k r below (sym at));
-      lefts = lefts_push f t n b xs (back ++ take (k + 1) rows) r mark is more [] c.loop-i.held.lefts c.take_row.new.held.lefts h.lefts took.lefts;
-      rights = rights_push f t n b xs (back ++ take (k + 1) rows) r mark is more [] c.loop-i.held.rights c.take_row.new.held.rights h.rights took.rights;
+      lefts = lefts_push f t n b xs (back ++ take (k + 1) rows) r mark is more [] c.loop-i.contents.lefts c.take_row.new.contents.lefts h.lefts took.lefts;
+      rights = rights_push f t n b xs (back ++ take (k + 1) rows) r mark is more [] c.loop-i.contents.rights c.take_row.new.contents.rights h.rights took.rights;
       parts = subst (λ l. HasParts q n (b.left + b.right + length back) b l w) (sym more)
           (row_taken c.rows_span.ensures c.windows_get_pairs.ensures q c.has_windows.ensures.fits t c.tie-tie.ensures n (b.left + b.right + length back) b xs r late m w takes h.parts);
     }
@@ -135,7 +135,7 @@ returns-clause-windows c =
     let back = c.args.back.now in
     let rows = c.args.rows.now in
     let k = c.loop-i.i in
-    let m = seen_parts c.loop-i.held.windows.entries in
+    let m = seen_parts c.loop-i.contents.windows.entries in
     let all : take k rows ≡ rows = take_all k rows (omega (arith, c.loop-i-test.false)) in
     subst (λ es. HoldsTask q (closed_count (frame q) c.args.after.now) b back rows (seen_parts es)) (sym c.into_windows.ensures)
     (subst (λ n. HoldsTask q n b back rows m) c.closed_below-closed.ensures

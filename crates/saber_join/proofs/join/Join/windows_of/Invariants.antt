@@ -11,7 +11,7 @@ abbrev pub invariant-loop-i : goal.invariant-loop-i
 invariant-loop-i l = record {
   lately : l.lately ≡ frame (tree_of l.self);
   mark : l.mark ≡ mark_after l.fn.after (take l.i l.rows);
-  lefts : l.held.lefts ≡ lefts_of (frame (tree_of l.self)) l.tie l.closed (placed_after l.fn.before (l.back ++ take l.i l.rows));
-  rights : l.held.rights ≡ rights_of (frame (tree_of l.self)) l.tie l.closed (placed_after l.fn.before (l.back ++ take l.i l.rows));
-  parts : HasParts (tree_of l.self) l.closed (l.fn.before.left + l.fn.before.right + length l.back) l.fn.before (l.back ++ take l.i l.rows) (seen_parts l.held.windows.entries);
+  lefts : l.contents.lefts ≡ lefts_of (frame (tree_of l.self)) l.tie l.closed (placed_after l.fn.before (l.back ++ take l.i l.rows));
+  rights : l.contents.rights ≡ rights_of (frame (tree_of l.self)) l.tie l.closed (placed_after l.fn.before (l.back ++ take l.i l.rows));
+  parts : HasParts (tree_of l.self) l.closed (l.fn.before.left + l.fn.before.right + length l.back) l.fn.before (l.back ++ take l.i l.rows) (seen_parts l.contents.windows.entries);
 }

@@ -1,6 +1,6 @@
 use Rattle.std.proofs.Common.{◌++◌, sym, ◌∙◌, ap, map}
 use Rattle.saber_plan.specs.Answers.{key_cmp}
-use Rattle.saber_plan.specs.TreeFacts.{sorted_seen}
+use Rattle.saber_plan.specs.Facts.Trees.{sorted_seen}
 use Rattle.saber_join.specs.Found.{numbers_with, values_in}
 use Rattle.saber_join.proofs.Lined.{values_seen}
 use Rattle.saber_join.proofs.pairs.Pairs.answers.Goals as goal

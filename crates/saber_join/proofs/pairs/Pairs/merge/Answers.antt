@@ -2,12 +2,12 @@ use Rattle.std.proofs.Common.{◌≡◌, ◌∷◌, sym, ◌∙◌, ap, subst, T
 use Rattle.std.specs.FinMap.{insert, is_sorted}
 use Rattle.std.proofs.lemmas.Map.Iter.{rest_more, rest_all}
 use Rattle.saber_plan.specs.Answers.{key_cmp}
-use Rattle.saber_plan.specs.MapFacts.{rest_rises}
+use Rattle.saber_plan.specs.Facts.Maps.{rest_rises}
 use Rattle.saber_plan.specs.Parts.{merge}
 use Rattle.saber_join.specs.Found.{numbers_with, Apart, seen_entries, seen_pairs}
 use Rattle.saber_join.proofs.Keyed.{step_rest, step_apart}
-use Rattle.saber_plan.specs.PartFacts.{total, exact, merge-empty_right}
-use Rattle.saber_plan.specs.TreeFacts.{sorted_seen, inserted}
+use Rattle.saber_plan.specs.Facts.Parts.{total, exact, merge-empty_right}
+use Rattle.saber_plan.specs.Facts.Trees.{sorted_seen, inserted}
 use Rattle.saber_join.proofs.pairs.Pairs.merge.Goals as goal
 
 pub loop-places-init : goal.loop-places-init

@@ -2,8 +2,8 @@ use Rattle.std.proofs.Common.{◌∙◌, ap}
 use Rattle.std.specs.FinMap.{insert}
 use Rattle.saber_plan.specs.Answers.{key_cmp}
 use Rattle.saber_join.specs.Found.{numbers_with, seen_pairs}
-use Rattle.saber_plan.specs.PartFacts.{total, exact}
-use Rattle.saber_plan.specs.TreeFacts.{inserted}
+use Rattle.saber_plan.specs.Facts.Parts.{total, exact}
+use Rattle.saber_plan.specs.Facts.Trees.{inserted}
 use Rattle.saber_join.proofs.pairs.Pairs.put.Goals as goal
 
 pub returns : goal.returns

@@ -7,7 +7,7 @@ use Rattle.saber_plan.specs.Merges.{joined}
 use Rattle.saber_plan.specs.Parts.{Part, group_part, merge}
 use Rattle.saber_partial.specs.Tallies.{CanMerge}
 use Rattle.saber_panes.specs.Panes.{seen_panes, or_none}
-use Rattle.saber_plan.specs.PartFacts.{merge-empty_left}
+use Rattle.saber_plan.specs.Facts.Parts.{merge-empty_left}
 use Rattle.saber_panes.proofs.PaneMaps.{pane_at, pane_written, pane_inserted}
 use Rattle.saber_panes.proofs.panes.Panes.add_row.Goals as goal
 

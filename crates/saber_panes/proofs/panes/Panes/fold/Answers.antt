@@ -10,7 +10,7 @@ use Rattle.saber_plan.specs.Parts.{group_part, merge}
 use Rattle.saber_partial.specs.Tallies.{CanMerge}
 use Rattle.saber_panes.specs.Panes.{panes_in, pane_of, or_none, is_counted, counted, with_row_in}
 use Rattle.saber_panes.proofs.PaneFolding.{so_far, no_rows_yet, panes_more, longer, room_for_row, front_all, all_taken}
-use Rattle.saber_plan.specs.RowFacts.{mark_more, left_small, right_small}
+use Rattle.saber_plan.specs.Facts.Rows.{mark_more, left_small, right_small}
 use Rattle.saber_panes.proofs.panes.Panes.fold.Goals as goal
 
 pub loop-i-init : goal.loop-i-init

@@ -4,8 +4,8 @@ use Rattle.std.specs.FinMap.{is_sorted, nat_cmp-IsAntisymmetric}
 use Rattle.std.proofs.lemmas.Map.Iter.{rest_more, rest_all}
 use Rattle.saber_plan.specs.Merges.{both}
 use Rattle.saber_plan.specs.Parts.{merge}
-use Rattle.saber_plan.specs.MapFacts.{both-empty_right}
-use Rattle.saber_plan.specs.TreeFacts.{sorted_seen}
+use Rattle.saber_plan.specs.Facts.Maps.{both-empty_right}
+use Rattle.saber_plan.specs.Facts.Trees.{sorted_seen}
 use Rattle.saber_panes.specs.Panes.{seen_panes, CanTakeIn}
 use Rattle.saber_panes.proofs.PaneMaps.{seen_list, pane_here, taken}
 use Rattle.saber_panes.proofs.panes.Panes.take_in.Goals as goal

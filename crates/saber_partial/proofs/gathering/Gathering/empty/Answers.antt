@@ -1,6 +1,6 @@
 use Rattle.std.proofs.Common.{sym, subst, ◌∙◌, ap₂}
 use Rattle.saber_plan.specs.Parts.{Part, merge, no_part}
-use Rattle.saber_plan.specs.PartFacts.{merge-empty_left}
+use Rattle.saber_plan.specs.Facts.Parts.{merge-empty_left}
 use Rattle.saber_partial.specs.Tallies.{CanMerge}
 use Rattle.saber_partial.specs.MergeFacts.{none_can}
 use Rattle.saber_partial.specs.Young.{young_part}

@@ -1,6 +1,6 @@
 use Rattle.std.proofs.Common.{Result, Ok, Err, OnOk, sym, subst, ◌∙◌, ap, ap₂}
 use Rattle.saber_plan.specs.Parts.{Part, merge, no_part}
-use Rattle.saber_plan.specs.PartFacts.{merge-empty_left}
+use Rattle.saber_plan.specs.Facts.Parts.{merge-empty_left}
 use Rattle.saber_partial.specs.Piles.{Pile}
 use Rattle.saber_partial.specs.Tallies.{CanMerge}
 use Rattle.saber_partial.specs.MergeFacts.{can_none}

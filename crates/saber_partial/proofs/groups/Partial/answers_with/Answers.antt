@@ -3,7 +3,7 @@ use Rattle.saber_plan.specs.declared.plans.Item.{Item}
 use Rattle.saber_plan.specs.Answers as a
 use Rattle.saber_plan.specs.Trees.{tree_of}
 use Rattle.saber_plan.specs.Parts.{Part, merge, part_answers}
-use Rattle.saber_plan.specs.PartFacts.{merge-empty_left, merge-empty_right}
+use Rattle.saber_plan.specs.Facts.Parts.{merge-empty_left, merge-empty_right}
 use Rattle.saber_plan.specs.Tasks.{full}
 use Rattle.saber_partial.specs.Printing.{answers_under}
 use Rattle.saber_partial.specs.Sorted.{weave}

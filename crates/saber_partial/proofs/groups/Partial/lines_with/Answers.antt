@@ -3,7 +3,7 @@ use Rattle.std.specs.Result.{OnOk}
 use Rattle.saber_plan.specs.declared.plans.Item.{Item}
 use Rattle.saber_plan.specs.Trees.{tree_of}
 use Rattle.saber_plan.specs.Parts.{Part, Numbers, merge, part_lines}
-use Rattle.saber_plan.specs.PartFacts.{merge-empty_left, merge-empty_right}
+use Rattle.saber_plan.specs.Facts.Parts.{merge-empty_left, merge-empty_right}
 use Rattle.saber_plan.specs.Tasks.{full}
 use Rattle.saber_partial.specs.Printing.{lines_for, numbers_of}
 use Rattle.saber_partial.specs.Sorted.{weave}

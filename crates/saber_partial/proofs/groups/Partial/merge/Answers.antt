@@ -1,6 +1,6 @@
 use Rattle.std.proofs.Common.{◌∙◌, ap, sym}
 use Rattle.saber_plan.specs.Parts.{Part, merge}
-use Rattle.saber_plan.specs.PartFacts.{merge-empty_left}
+use Rattle.saber_plan.specs.Facts.Parts.{merge-empty_left}
 use Rattle.saber_partial.proofs.groups.Partial.merge.Goals as goal
 
 pub returns-then-is_empty : goal.returns-then-is_empty

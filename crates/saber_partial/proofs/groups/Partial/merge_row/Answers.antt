@@ -1,7 +1,7 @@
 use Rattle.std.proofs.Common.{◌≡◌, [], ◌∷◌, sym, ◌∙◌, ap, ap₂, subst, subst₂, Some, arith}
 use Rattle.std.specs.Result.{OnOk}
 use Rattle.saber_plan.specs.Parts.{Part, merge}
-use Rattle.saber_plan.specs.PartFacts.{merge-empty_left}
+use Rattle.saber_plan.specs.Facts.Parts.{merge-empty_left}
 use Rattle.saber_plan.specs.Tasks.{full}
 use Rattle.saber_partial.specs.declared.layout.Layout.{Layout}
 use Rattle.saber_partial.specs.Flat.{entry_in, IsRow}

@@ -1,6 +1,6 @@
 use Rattle.std.proofs.Common.{◌≡◌, sym, ◌∙◌, ap, subst, subst₂, Some, IfOk}
 use Rattle.saber_plan.specs.Parts.{Part, merge}
-use Rattle.saber_plan.specs.PartFacts.{merge-empty_left, merge-empty_right}
+use Rattle.saber_plan.specs.Facts.Parts.{merge-empty_left, merge-empty_right}
 use Rattle.saber_plan.specs.Tasks.{full}
 use Rattle.saber_partial.specs.Tallies.{CanMerge}
 use Rattle.saber_partial.proofs.Layouts.{one_layout, entry_in_full}

@@ -1,7 +1,7 @@
 use Rattle.std.proofs.Common.{[], ◌∷◌, sym, ◌∙◌, ap, subst}
 use Rattle.saber_plan.specs.Trees.{tree_of}
 use Rattle.saber_plan.specs.Parts.{Part, group_part, merge}
-use Rattle.saber_plan.specs.PartFacts.{merge-empty_left}
+use Rattle.saber_plan.specs.Facts.Parts.{merge-empty_left}
 use Rattle.saber_partial.specs.MergeFacts.{none_can}
 use Rattle.saber_partial.specs.Tallies.{CanMerge}
 use Rattle.saber_partial.proofs.groups.Partial.of_row.Goals as goal

@@ -54,13 +54,13 @@ loop-self-preserved g c =
     let none : rest ≡ [] = nothing_first rest (sym c.in-None.ensures) in
     let used = c.loop-self.invariant.steps in
     let dropped = c.drop_to.ensures.owed in
-    let held = λ (us : List Row) (h : Holds q us c.args.self.now.next c.args.self.now.parts.entries). subst (Holds q us n) (sym c.drop_to.ensures.entries) (holds_drop q us n es (c.loop-self.invariant.parts us h)) in
+    let contents = λ (us : List Row) (h : Holds q us c.args.self.now.next c.args.self.now.parts.entries). subst (Holds q us n) (sym c.drop_to.ensures.entries) (holds_drop q us n es (c.loop-self.invariant.parts us h)) in
     record {
       up = omega (arith, begun, below);
       high = omega arith;
       same = c.loop-self.invariant.same;
-      parts = λ us h. holds_later q us n low rest (omega (arith, below)) (held us h);
-      text = λ us h. text_skip q us c.args.self.now.next n low begun (omega (arith, below)) (λ i p r. (held us h).at i p ∙ ap (λ es. part_at es i) none)
+      parts = λ us h. holds_later q us n low rest (omega (arith, below)) (contents us h);
+      text = λ us h. text_skip q us c.args.self.now.next n low begun (omega (arith, below)) (λ i p r. (contents us h).at i p ∙ ap (λ es. part_at es i) none)
           c.args.out.now.items c.loop-self.out.items (c.loop-self.invariant.text us h);
       steps = omega (arith, used, dropped, below);
     }

@@ -4,8 +4,8 @@ use Rattle.std.proofs.lemmas.List.{length-take-le, map-append, take_all, take_mo
 use Rattle.std.specs.List.{slice_get, AllByRecursion}
 use Rattle.saber_plan.specs.declared.rows.Row.{Row}
 use Rattle.saber_plan.specs.Trees.{tree_of}
-use Rattle.saber_plan.specs.Given.{IsRowOf}
-use Rattle.saber_plan.specs.ListFacts.{all_at}
+use Rattle.saber_plan.specs.GivenRows.{IsRowOf}
+use Rattle.saber_plan.specs.Facts.Lists.{all_at}
 use Rattle.saber_partition.specs.declared.pieces.RowPiece.{RowPiece}
 use Rattle.saber_partition.specs.Pieces.{Made, IsMade, AreMade}
 use Rattle.saber_partition.specs.Stores.{made_of, HasPart}

@@ -25,7 +25,7 @@ invariant_of-self g c = let z = c.args.ring.now.sized in let v = c.args.self.now
     let j = its_piece g.W.Work.is_piece t c.args.piece c.in-Some.piece v.0.job c.in-Some.is c.requires.has in let i : ℕ = t % c.args.ring.now.size + 1 in
     let first = job_first v c.args.self.now.place.table_id.slots c.args.ring.now.size t i j.0 (ap (λ (k : TableId). k.slots) c.requires.own ∙ z.1) c.args.self.now.carried j.1 c.requires.idle.0 c.requires.idle.1 j.2 refl in
     let d = deposit_done v c.exchange-left.new.seat.me c.store.new.seat.me j.0 i (8 * t + 4) t false (Piece c.in-Some.piece) j.1 j.2 (ap (λ m. m.0) x.3) (ap (λ m. m.1) x.3 ∙ (λ k. (i, Piece c.in-Some.piece) ∷ rest (first k))) y.2 in
-    record { alive = ap (λ m. live m.0.base) d ∙ c.args.self.now.alive; calm = ap (λ m. is_filling m.0.lead) d ∙ c.args.self.now.calm; reads = ap (λ m. m.0.block) d ∙ c.args.self.now.reads; lent = ap (λ m. is_lent m.0.block m.0.job) d ∙ (λ i. is_lent {T = g.row.W-Told.Denot} (c.requires.idle.0 i) None); carried = none_carried v c.store.new.seat.me _ i _ t false c.requires.idle.0 c.requires.idle.1 d }
+    record { alive = ap (λ m. live m.0.base) d ∙ c.args.self.now.alive; calm = ap (λ m. is_filling m.0.lead) d ∙ c.args.self.now.calm; reads = ap (λ m. m.0.block) d ∙ c.args.self.now.reads; lent = ap (λ m. is_lent m.0.block m.0.job) d ∙ (λ i. is_lent {T = g.row.W-Data.Denot} (c.requires.idle.0 i) None); carried = none_carried v c.store.new.seat.me _ i _ t false c.requires.idle.0 c.requires.idle.1 d }
 
 pub store-requires-in-None : goal.store-requires-in-None
 store-requires-in-None g c = let z = c.args.ring.now.sized in let v = c.args.self.now.place.me in let t : ℕ = c.args.job.task in
@@ -43,4 +43,4 @@ invariant_of-self-in-None g c = let z = c.args.ring.now.sized in let v = c.args.
     let j = its_job g.W.Work.is_piece t c.args.piece v.0.job c.requires.has in let i : ℕ = t % c.args.ring.now.size + 1 in
     let first = job_first v c.args.self.now.place.table_id.slots c.args.ring.now.size t i j.0 (ap (λ (k : TableId). k.slots) c.requires.own ∙ z.1) c.args.self.now.carried j.1 c.requires.idle.0 c.requires.idle.1 j.2 refl in
     let d = deposit_done v v c.store-in-None.new.seat.me j.0 i (8 * t + 6) t true Empty j.1 j.2 refl first y.2 in
-    record { alive = ap (λ m. live m.0.base) d ∙ c.args.self.now.alive; calm = ap (λ m. is_filling m.0.lead) d ∙ c.args.self.now.calm; reads = ap (λ m. m.0.block) d ∙ c.args.self.now.reads; lent = ap (λ m. is_lent m.0.block m.0.job) d ∙ (λ i. is_lent {T = g.row.W-Told.Denot} (c.requires.idle.0 i) None); carried = none_carried v c.store-in-None.new.seat.me _ i _ t true c.requires.idle.0 c.requires.idle.1 d }
+    record { alive = ap (λ m. live m.0.base) d ∙ c.args.self.now.alive; calm = ap (λ m. is_filling m.0.lead) d ∙ c.args.self.now.calm; reads = ap (λ m. m.0.block) d ∙ c.args.self.now.reads; lent = ap (λ m. is_lent m.0.block m.0.job) d ∙ (λ i. is_lent {T = g.row.W-Data.Denot} (c.requires.idle.0 i) None); carried = none_carried v c.store-in-None.new.seat.me _ i _ t true c.requires.idle.0 c.requires.idle.1 d }

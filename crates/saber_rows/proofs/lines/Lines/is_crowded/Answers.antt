@@ -1,7 +1,7 @@
 use Rattle.std.proofs.Common.{◌≡◌, ◌∙◌, ap, sym, not, length, Some, arith}
 use Rattle.saber_plan.specs.Rows.{most_held, raised}
 use Rattle.saber_rows.specs.Judged.{is_ready_at}
-use Rattle.saber_rows.specs.Held.{least_of}
+use Rattle.saber_rows.specs.HeldRows.{least_of}
 use Rattle.saber_rows.specs.Reader.{reader_of}
 use Rattle.saber_rows.specs.Waiting.{rows_in}
 use Rattle.saber_rows.proofs.HeldRows.{few_crowds, full_crowds, all_wait}

@@ -1,5 +1,5 @@
 use Rattle.std.proofs.Common.{arith}
-use Rattle.saber_plan.specs.LineFacts.{judge_many, judge_long}
+use Rattle.saber_plan.specs.Facts.Lines.{judge_many, judge_long}
 use Rattle.saber_rows.proofs.lines.Lines.long_cause.Goals as goal
 
 pub returns-then-self : goal.returns-then-self

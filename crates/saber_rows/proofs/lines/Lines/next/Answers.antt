@@ -4,7 +4,7 @@ use Rattle.saber_rows.specs.Reader.{reader_of, gone}
 use Rattle.saber_rows.specs.Calls.{Moves, IsGiven, EndsBy, WantsMemory, given_by, last_after}
 use Rattle.saber_rows.specs.Turns.{HasEnough}
 use Rattle.saber_rows.proofs.Chains.{moved, none_given, stands}
-use Rattle.saber_rows.proofs.Told.{is_next, rest_told, of_given, refused_ends, stopped}
+use Rattle.saber_rows.proofs.ReaderTexts.{is_next, rest_told, of_given, refused_ends, stopped}
 use Rattle.saber_rows.proofs.lines.Lines.next.Goals as goal
 
 -- ---- a reader that stopped

@@ -4,7 +4,7 @@ use Rattle.saber_rows.specs.Reader.{reader_of, rest_over, gone}
 use Rattle.saber_rows.specs.Calls.{Moves, IsGiven, IsNext, EndsBy, WantsMemory, given_by}
 use Rattle.saber_rows.specs.FedTurns.{answer_in, given_in, kept_in, last_in}
 use Rattle.saber_rows.proofs.Chains.{moved, none_given, no_row, stands}
-use Rattle.saber_rows.proofs.Told.{is_next, rest_told, refused_ends, stopped, same_answer}
+use Rattle.saber_rows.proofs.ReaderTexts.{is_next, rest_told, refused_ends, stopped, same_answer}
 use Rattle.saber_rows.proofs.lines.Lines.next_fed.Goals as goal
 
 pub returns-in-Some-clause-moves : goal.returns-in-Some-clause-moves

@@ -1,7 +1,7 @@
 use Rattle.std.proofs.Common.{◌≡◌, ◌<◌, ◌+◌, map, Result, Ok, Err, OnOk, OnErr, ◌∙◌, ap, sym, subst, arith}
 use Rattle.std.specs.List.{AllByRecursion}
 use Rattle.saber_plan.specs.Rows.{stamp}
-use Rattle.saber_rows.specs.Held.{IsRanked}
+use Rattle.saber_rows.specs.HeldRows.{IsRanked}
 use Rattle.saber_rows.specs.declared.waiting.Rank.{Rank}
 use Rattle.saber_rows.proofs.Ranks.{put_in_time, put_all, before_more}
 use Rattle.saber_rows.proofs.waiting.Waiting.insert.Goals as goal

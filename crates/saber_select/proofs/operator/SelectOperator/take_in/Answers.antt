@@ -4,7 +4,7 @@ use Rattle.saber_plan.specs.Trees.{tree_of}
 use Rattle.saber_plan.specs.Inputs.{arrived}
 use Rattle.saber_plan.specs.Shares.{shares_between}
 use Rattle.saber_plan.specs.Tasks.{by_windows, unclosed, written_by, left_by}
-use Rattle.saber_plan.specs.KeptFacts.{plain_way, alike_added, alike_kept, alike_parts}
+use Rattle.saber_plan.specs.Facts.Kept.{plain_way, alike_added, alike_kept, alike_parts}
 use Rattle.saber_select.proofs.Texts.{text_written, none_left}
 use Rattle.saber_select.proofs.operator.SelectOperator.take_in.Goals as goal
 

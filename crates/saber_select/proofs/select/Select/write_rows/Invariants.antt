@@ -1,7 +1,7 @@
 use Rattle.std.proofs.Common.{◌≡◌, ◌++◌, drop}
 use Rattle.std.specs.List.{AllByRecursion}
 use Rattle.saber_plan.specs.Trees.{tree_of}
-use Rattle.saber_plan.specs.Given.{IsRowOf}
+use Rattle.saber_plan.specs.GivenRows.{IsRowOf}
 use Rattle.saber_plan.specs.Answers.{selected}
 use Rattle.saber_select.proofs.select.Select.write_rows.Given as goal
 

@@ -4,7 +4,7 @@ use Rattle.saber_plan.specs.Trees.{tree_of}
 use Rattle.saber_plan.specs.Inputs.{arrived}
 use Rattle.saber_plan.specs.Shares.{piece_in}
 use Rattle.saber_plan.specs.Tasks.{Parts, by_windows, unclosed, written_by, left_by}
-use Rattle.saber_plan.specs.KeptFacts.{alike_added, alike_kept, alike_parts}
+use Rattle.saber_plan.specs.Facts.Kept.{alike_added, alike_kept, alike_parts}
 use Rattle.saber_fragment.specs.Shown.{shares_of}
 use Rattle.saber_fragment.specs.Stores.{Continues}
 use Rattle.saber_parts.specs.Stored.{held_by}
@@ -17,7 +17,7 @@ take_in-requires c =
     let r = c.requires.0 in
     let x = c.requires.1 in
     let f = c.requires.3 in
-    let held : Parts = held_by part_of c.args.store.now in
+    let contents : Parts = held_by part_of c.args.store.now in
     subst (λ (p : Plan). Continues (tree_of p) (held_by part_of c.args.store.now) (shares_of part_of c.args.piece)) (sym c.self.view_is) (record {
       input = r;
       from = x;
@@ -25,7 +25,7 @@ take_in-requires c =
       windows = f.windows;
       fits = f.fits;
       rises = f.rises;
-      unclosed_is = alike_parts q c.prints_alike.ensures held (arrived r x) f.kept_is;
+      unclosed_is = alike_parts q c.prints_alike.ensures contents (arrived r x) f.kept_is;
       shares_are = f.of_is;
     })
 
@@ -34,10 +34,10 @@ returns-clause-text c r x y f =
     let q = tree_of c.args.self.now in
     let w = c.prints_alike.ensures in
     let out = c.args.out.now.items in
-    let held : Parts = held_by part_of c.args.store.now in
-    let kept : held ≡ unclosed q (arrived r x) = alike_parts q w held (arrived r x) f.kept_is in
-    c.in_ok-take_in.ensures.text ∙ ap (λ (p : Plan). out ++ written_by (tree_of p) held (piece_in (shares_of part_of c.args.piece))) c.self.view_is
-    ∙ ap (λ s. out ++ written_by q held (piece_in s)) f.of_is
+    let contents : Parts = held_by part_of c.args.store.now in
+    let kept : contents ≡ unclosed q (arrived r x) = alike_parts q w contents (arrived r x) f.kept_is in
+    c.in_ok-take_in.ensures.text ∙ ap (λ (p : Plan). out ++ written_by (tree_of p) contents (piece_in (shares_of part_of c.args.piece))) c.self.view_is
+    ∙ ap (λ s. out ++ written_by q contents (piece_in s)) f.of_is
     ∙ ap (λ l. out ++ l) (
     (λ j. written_by q (kept j) (c.shares_make_piece.ensures q r x y (record { fits = f.windows; ordered = f.fits.ordered; rises = f.rises }) j))
     ∙ sym (alike_added q w r x y ∙ c.pieces_print.ensures q f.windows r x y f.fits.ordered f.rises))
@@ -46,11 +46,11 @@ pub returns-clause-stays : goal.returns-clause-stays
 returns-clause-stays c r x y f =
     let q = tree_of c.args.self.now in
     let w = c.prints_alike.ensures in
-    let held : Parts = held_by part_of c.args.store.now in
-    let kept : held ≡ unclosed q (arrived r x) = alike_parts q w held (arrived r x) f.kept_is in
+    let contents : Parts = held_by part_of c.args.store.now in
+    let kept : contents ≡ unclosed q (arrived r x) = alike_parts q w contents (arrived r x) f.kept_is in
     ap by_windows (
-    c.in_ok-take_in.ensures.stays ∙ ap (λ (p : Plan). left_by (tree_of p) held (piece_in (shares_of part_of c.args.piece))) c.self.view_is
-    ∙ ap (λ s. left_by q held (piece_in s)) f.of_is
+    c.in_ok-take_in.ensures.stays ∙ ap (λ (p : Plan). left_by (tree_of p) contents (piece_in (shares_of part_of c.args.piece))) c.self.view_is
+    ∙ ap (λ s. left_by q contents (piece_in s)) f.of_is
     ∙ (λ j. left_by q (kept j) (c.shares_make_piece.ensures q r x y (record { fits = f.windows; ordered = f.fits.ordered; rises = f.rises }) j))
     ∙ sym (c.open_goes_on.ensures q f.windows r x y f.fits.ordered f.rises))
     ∙ sym (alike_kept q w (arrived r y))

@@ -1,7 +1,7 @@
 use Rattle.std.proofs.Common.{◌∙◌, nat_cmp}
 use Rattle.saber_plan.specs.Trees.{tree_of}
 use Rattle.saber_plan.specs.Windows.{mark_after, ending}
-use Rattle.saber_plan.specs.TreeFacts.{sorted_seen}
+use Rattle.saber_plan.specs.Facts.Trees.{sorted_seen}
 use Rattle.saber_fragment.specs.Shown.{windows_by}
 use Rattle.saber_parts.specs.declared.bounds.Bounds.{Bounds}
 use Rattle.saber_windowed.specs.Found.{part_of}

@@ -4,7 +4,7 @@ use Rattle.std.proofs.lemmas.List.{take_more, take_all}
 use Rattle.saber_plan.specs.declared.windows.Mark.{Mark}
 use Rattle.saber_plan.specs.Trees.{tree_of}
 use Rattle.saber_plan.specs.Windows.{step_mark}
-use Rattle.saber_plan.specs.RowFacts.{left_small, right_small, mark_more, row_at}
+use Rattle.saber_plan.specs.Facts.Rows.{left_small, right_small, mark_more, row_at}
 use Rattle.saber_windowed.specs.Open.{seen_windows, Takes, HoldsFrom}
 use Rattle.saber_windowed.proofs.Task.{none_yet, row_taken, all_earlier}
 use Rattle.saber_windowed.proofs.select.WindowedSelect.windows_of.Goals as goal

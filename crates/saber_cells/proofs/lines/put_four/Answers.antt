@@ -1,6 +1,0 @@
-use Rattle.std.proofs.Common.{arith, rules}
-use Rattle.saber_cells.proofs.Short.{put_list}
-use Rattle.saber_cells.proofs.lines.put_four.Goals as goal
-
-pub returns : goal.returns
-returns c k few = put_list c.args.line.now c.args.four c.args.at k (search rules) (omega (arith, c.told-line)) few

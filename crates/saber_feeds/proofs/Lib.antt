@@ -1,2 +1,0 @@
-mod Slicing
-mod Feeding

@@ -1,0 +1,18 @@
+use Rattle.std.proofs.Common.{refl, ◌∙◌}
+use Rattle.saber_plan.specs.Trees.{tree_of}
+use Rattle.saber_plan.specs.Windows.{no_rows}
+use Rattle.saber_group.proofs.Opened.{holds_nil}
+use Rattle.saber_group.proofs.SliceKeeping.{none_closed, none_begun, nothing_held}
+use Rattle.saber_group.proofs.group.Group.no_slices.Goals as goal
+
+pub returns-clause-contents : goal.returns-clause-contents
+returns-clause-contents c = nothing_held (record { windows = c.new.result; begun = 0 }) c.new.ensures.next refl
+
+pub returns-clause-taken : goal.returns-clause-taken
+returns-clause-taken c =
+    let q = tree_of c.args.self.now in
+    record {
+      holds = holds_nil c.no_rows_no_part.ensures q no_rows c.new.result.next c.new.result.slices.entries c.new.ensures.slices;
+      next_is = c.new.ensures.next ∙ none_closed q c.has_window.ensures.window;
+      begun_is = none_begun q c.has_window.ensures.window;
+    }

@@ -1,0 +1,144 @@
+// Rows that lie in the same windows.
+ghost use Rattle.std.specs.Prelude.{◌≡◌, ◌&&◌, ◌≤◌, ◌<◌, [], ◌∷◌, length, take, OnOk, IfOk};
+ghost use Rattle.saber_plan.specs.Values.{passes};
+ghost use Rattle.saber_plan.specs.Windows.{mark_after};
+ghost use Rattle.saber_plan.specs.Parts as p;
+ghost use Rattle.saber_plan.specs.Trees.{tree_of};
+ghost use Rattle.saber_plan.specs.GivenRows.{IsRowOf, RowsFit};
+ghost use Rattle.saber_partial.specs.Tallies.{CanMerge};
+ghost use Rattle.saber_group.specs.SliceParts.{IsSlice, with_row};
+
+use crate::batch::Batch;
+use crate::group::Group;
+use saber_flat::RowRef;
+use saber_laws::{
+    begun_stay, closed_stay, groups_have_one_window, merge_has_unit, merge_is_associative,
+    no_rows_no_part, rows_add_to_groups, rows_span,
+};
+use saber_partial::{Gathering, Partial, groups_are_of_rows, small_parts_merge};
+use saber_plan::{Mark, NoMemory};
+use saber_window::past_have_none;
+use std::alloc::Global;
+
+/// Some rows of a task, one after another, that lie in the windows from `first` up to `past` and in no
+/// other, with their part (SABER 2016: a pane). It is worked out once, and goes into each of these
+/// windows. Behind it comes row `end`.
+#[derive(Drop)]
+pub(crate) struct Slice {
+    pub(crate) first: u64,
+    pub(crate) past: u64,
+    pub(crate) end: usize,
+    pub(crate) part: Partial,
+}
+
+impl Slice {
+    /// The same with memory of its own.
+    pub(crate) fn copy(&self, alloc: Global) -> Result<Slice, NoMemory>
+        ensures { IfOk result (λ r. r ≡ self.now) }
+    {
+        Ok(Slice {
+            first: self.first,
+            past: self.past,
+            end: self.end,
+            part: self.part.copy(alloc)?,
+        })
+    }
+}
+
+impl Group<'_> {
+    // Whether a row counts: if it is wanted, and passes WHERE.
+    #[inline]
+    fn counts(&self, is_wanted: bool, row: &RowRef) -> bool
+        requires { IsRowOf (tree_of self.now) row.now }
+        ensures { result ≡ is_wanted && passes (tree_of self.now).predicate row.now.values [] }
+    {
+        is_wanted && self.passes(row)
+    }
+
+    // Adds a row to a part, if it counts.
+    fn add_row(
+        &self,
+        alloc: Global,
+        is_wanted: bool,
+        row: &RowRef,
+        part: &mut Gathering,
+    ) -> Result<(), NoMemory>
+        requires row { IsRowOf (tree_of self.now) row.now }
+        requires room { CanMerge part.old (p.group_part (tree_of self.now) (row.now.values ∷ [])) }
+        ensures { OnOk result (part.new ≡ with_row (tree_of self.now) is_wanted part.old row.now) }
+    {
+        groups_have_one_window();
+        if self.counts(is_wanted, row) {
+            part.add_row(alloc, &self.aggregates, row)?;
+        }
+        Ok(())
+    }
+
+    // The part of one row, if it counts.
+    fn part_of_row(&self, alloc: Global, is_wanted: bool, row: &RowRef) -> Result<Partial, NoMemory>
+        requires { IsRowOf (tree_of self.now) row.now }
+        ensures { IfOk result (λ part. part ≡ with_row (tree_of self.now) is_wanted p.no_part row.now) }
+    {
+        groups_have_one_window();
+        merge_has_unit();
+        if self.counts(is_wanted, row) {
+            return Partial::of_row(alloc, &self.aggregates, row);
+        }
+        Ok(Partial::empty(alloc))
+    }
+
+    /// The rows from row `from` on that lie in the windows of this one, before which `mark` stands. Where they end is worked out
+    /// first, so that none of them is asked for its windows. They are gathered in `part`, which has no group before and behind,
+    /// and whose memory serves one slice after another.
+    pub(crate) fn slice_from(
+        &self,
+        alloc: Global,
+        batch: &Batch,
+        from: usize,
+        mark: &Mark,
+        part: &mut Gathering,
+    ) -> Result<Slice, NoMemory>
+        requires fits { RowsFit (tree_of self.now) batch.now.before batch.now.rows.now }
+        requires there { from < length batch.now.rows.now }
+        requires mark { mark.now ≡ mark_after batch.now.before (take from batch.now.rows.now) }
+        requires none { part.old ≡ p.no_part }
+        ensures slice { IfOk result (λ r. IsSlice (tree_of self.now) batch.now.before batch.now.rows.now from r.end r.first r.past r.part) }
+        ensures more { IfOk result (λ r. from < r.end) }
+        ensures within { IfOk result (λ r. r.end ≤ length batch.now.rows.now) }
+        ensures none { OnOk result (part.new ≡ p.no_part) }
+    {
+        self.has_window();
+        begun_stay();
+        closed_stay();
+        groups_are_of_rows();
+        merge_has_unit();
+        merge_is_associative();
+        no_rows_no_part();
+        past_have_none();
+        rows_add_to_groups();
+        rows_span();
+        small_parts_merge();
+        let rows = batch.rows;
+        let row = rows.row(from);
+        let (first, past) = self.row_windows(&row, mark);
+        let end = self.slice_end(batch, from, mark);
+        let has_windows = first < past;
+        if end == from + 1 {
+            return Ok(Slice {
+                first,
+                past,
+                end,
+                part: self.part_of_row(alloc, has_windows, &row)?,
+            });
+        }
+        for i in from..end {
+            self.add_row(alloc, has_windows, &rows.row(i), part)?;
+        }
+        Ok(Slice {
+            first,
+            past,
+            end,
+            part: part.take_part(alloc)?,
+        })
+    }
+}

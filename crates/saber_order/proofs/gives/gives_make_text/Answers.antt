@@ -1,5 +1,0 @@
-use Rattle.saber_order.proofs.Joining.{gives_joined}
-use Rattle.saber_order.proofs.gives.gives_make_text.Goals as goal
-
-pub returns : goal.returns
-returns c = gives_joined c.laws_of_runs.ensures.order c.pieces_make_text.ensures
