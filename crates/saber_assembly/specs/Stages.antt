@@ -1,6 +1,6 @@
 -- The result stage as contracts see it, and where it stands after some tasks.
-use Rattle.std.specs.Prelude.{◌≡◌, ◌≤◌, ◌+◌, ℕ, List, Option, IfSome}
-use Rattle.saber_io.specs.Outside.{Rose, appended, AppendsPrefix}
+use Rattle.std.specs.Prelude.{◌≡◌, ◌≢◌, ◌≤◌, ◌+◌, ◌⊎◌, ℕ, List, [], Option, IfSome}
+use Rattle.saber_io.specs.Outside.{counted, Rose, appended, AppendsPrefix}
 use Rattle.saber_plan.specs.Inputs.{Input, arrived}
 use Rattle.saber_plan.specs.Trees.{Tree}
 use Rattle.saber_plan.specs.Answers.{text, frame}
@@ -58,6 +58,10 @@ pub record Keeps (q : Tree) (n : ℕ) (r : Input) (start : Start) (taken : Input
 abbrev pub IsPieceAt : ℕ → Input → ℕ → (Input → ℕ → ℕ → Type 0) → Type 0
 IsPieceAt n r k of = of r (cut n r k) (cut n r (k + 1))
 
+-- the stage's sink holds nothing back, or its other end had no room for more
+abbrev pub HasPoured : {S K : Type 0} → (K → List ℕ) → (K → Type 0) → Stage S K → Type 0
+HasPoured backlog had_no_room s = (backlog s.sink ≡ []) ⊎ had_no_room s.sink
+
 -- ---- a step of the stage, from s to t, by what its operator tells of stores and pieces
 
 module _ {O S P : Type 0} (plan : O → Tree) (contents : S → Kept) (taken : O → S → Input → Type 0) (is_of : O → P → Input → ℕ → ℕ → Type 0) (op : O) where
@@ -77,6 +81,14 @@ module _ {O S P : Type 0} (plan : O → Tree) (contents : S → Kept) (taken : O
     -- a prefix of it did
     abbrev pub AddsFront : (K → Option (List ℕ)) → Stage S K → Stage S K → P → Type 0
     AddsFront written s t p = Arrive s p (λ r x y. AppendsPrefix (written s.sink) (written t.sink) (added (plan op) r x y))
+
+    -- where the piece adds some text, there was one write more
+    abbrev pub WritesOnce : (K → ℕ) → Stage S K → Stage S K → P → Type 0
+    WritesOnce writes s t p = Arrive s p (λ r x y. added (plan op) r x y ≢ [] → writes t.sink ≡ counted (writes s.sink))
+
+    -- where it adds none, there was none
+    abbrev pub WritesNone : (K → ℕ) → Stage S K → Stage S K → P → Type 0
+    WritesNone writes s t p = Arrive s p (λ r x y. added (plan op) r x y ≡ [] → writes t.sink ≡ writes s.sink)
 
     -- what is to be kept behind the piece is kept
     abbrev pub LeavesKept : Stage S K → Stage S K → P → Type 0

@@ -11,17 +11,18 @@
 //! - Proved: a stage after k tasks (`After`, `specs/Stages.antt`) that absorbs the piece of task k
 //!   is one after k + 1, or is stopped at k with its cause. While it runs, the text of the first k
 //!   tasks' rows is written and what they leave open is kept; where a write failed, a front of the
-//!   next task's text is out too; where memory lacked, or the mark came, no more is. What it keeps
-//!   is one record (`Keeps`), which `specs/Works.antt` makes a part of the ring's rule; docs/RUN.md
-//!   ties it to the headline.
+//!   next task's text is out too; where memory lacked, or the mark came, no more is. What it
+//!   keeps is one record (`Keeps`), which `specs/Works.antt` makes a part of the ring's rule;
+//!   docs/RUN.md ties it to the headline.
+//! - Proved of the sink: by its count of writes, a task's text goes out in one write, and a task
+//!   without text makes none; behind `pour` it holds nothing back, or its other end had no room.
 //! - The law (`gives_make_text`, `specs/Gives.antt`) ties the core, which knows no windows, to the
 //!   definitions: for any number of slots and seats and every list of events, the pieces of the
 //!   tasks given, taken in in the order of the gives, make the text of the windows that those
 //!   tasks' rows close. It is of plans whose windows print their answers as they are, or rows
 //!   theirs.
 //! - Not claimed: that a stage goes on: want of memory may stop it at any task.
-//! - Limits: fewer than `2^62` tasks. A task's text goes out in one write, and none if it has no
-//!   byte.
+//! - Limits: fewer than `2^62` tasks.
 #![tactic(auto)]
 
 mod gives;

@@ -1,6 +1,6 @@
 // The result stage.
-ghost use Rattle.std.specs.Prelude.{◌≡◌, ◌≢◌, ◌≤◌, OnOk, Err};
-ghost use Rattle.saber_io.specs.Outside.{Rose, appended, AppendsPrefix};
+ghost use Rattle.std.specs.Prelude.{◌≡◌, ◌≢◌, ◌≤◌, [], OnOk, Err};
+ghost use Rattle.saber_io.specs.Outside.{counted, Rose, appended, AppendsPrefix};
 ghost use Rattle.saber_io.specs.declared.outside.WriteFault.{WriteFault};
 
 use saber_fragment::Operator;
@@ -43,6 +43,10 @@ fn write_text<K: Sink>(sink: &mut K, text: &[u8]) -> Result<(), WriteFault>
     ensures cause { result ≡ Err WriteFault.Failed → Rose (K.faults sink.old) (K.faults sink.new) }
     ensures good { result ≢ Err WriteFault.Failed → K.faults sink.new ≡ K.faults sink.old }
     ensures count { K.faults sink.old ≤ K.faults sink.new }
+    ensures one { result ≢ Err WriteFault.NoMemory → text.now ≢ [] → K.writes sink.new ≡ counted (K.writes sink.old) }
+    ensures no_text { text.now ≡ [] → K.writes sink.new ≡ K.writes sink.old }
+    ensures failed_one { result ≡ Err WriteFault.Failed → K.writes sink.new ≡ counted (K.writes sink.old) }
+    ensures none { result ≡ Err WriteFault.NoMemory → K.writes sink.new ≡ K.writes sink.old }
 {
     if text.is_empty() {
         return Ok(());
@@ -52,10 +56,10 @@ fn write_text<K: Sink>(sink: &mut K, text: &[u8]) -> Result<(), WriteFault>
 
 impl<S: Drop, K: Sink> Stage<S, K> {
     ghost use Rattle.std.specs.Prelude.{◌≡◌, ◌≢◌, ◌≤◌, ◌<◌, ◌^◌, ◌+◌, [], IfSome, IfNone};
-    ghost use Rattle.saber_io.specs.Outside.{Rose};
+    ghost use Rattle.saber_io.specs.Outside.{counted, Rose};
     ghost use Rattle.saber_plan.specs.Tasks.{nothing_kept};
     ghost use Rattle.saber_plan.specs.Inputs.{going_on};
-    ghost use Rattle.saber_assembly.specs.Stages.{CanAbsorb, AddsText, AddsFront, LeavesKept, TakesPiece, BeginsRuns, KeepsRuns};
+    ghost use Rattle.saber_assembly.specs.Stages.{CanAbsorb, AddsText, AddsFront, WritesOnce, WritesNone, LeavesKept, TakesPiece, BeginsRuns, KeepsRuns};
     ghost use Rattle.saber_assembly.specs.declared.stage.State.{State};
     ghost use Rattle.saber_assembly.specs.declared.stage.Absorbed.{Absorbed};
 
@@ -127,6 +131,10 @@ impl<S: Drop, K: Sink> Stage<S, K> {
         ensures good { self.new.state ≢ State.SinkFailed → K.faults self.new.sink ≡ K.faults self.old.sink }
         ensures memory { self.new.state ≡ State.NoMemory → K.written self.new.sink ≡ K.written self.old.sink }
         ensures count { K.faults self.old.sink ≤ K.faults self.new.sink }
+        ensures one { result ≡ Absorbed.Done → WritesOnce O.plan O.contents O.has_taken O.is_of operator.now K.writes self.old self.new piece }
+        ensures no_text { result ≡ Absorbed.Done → WritesNone O.plan O.contents O.has_taken O.is_of operator.now K.writes self.old self.new piece }
+        ensures failed_one { self.new.state ≡ State.SinkFailed → K.writes self.new.sink ≡ counted (K.writes self.old.sink) }
+        ensures no_write { self.new.state ≡ State.NoMemory → K.writes self.new.sink ≡ K.writes self.old.sink }
     {
         let mut text = Vec::new(alloc);
         match operator.take_in(alloc, &mut self.store, piece, &mut text) {
@@ -183,6 +191,12 @@ impl<S: Drop, K: Sink> Stage<S, K> {
         ensures memory { self.new.state ≡ State.NoMemory → K.written self.new.sink ≡ K.written self.old.sink }
         ensures count { K.faults self.old.sink ≤ K.faults self.new.sink }
 
+        // How many writes there were: one for a task that has text, also where it fails, and none for one without, nor where memory lacks.
+        ensures one { result ≡ Absorbed.Done → IfSome piece (λ p. WritesOnce O.plan O.contents O.has_taken O.is_of operator.now K.writes self.old self.new p) }
+        ensures no_text { result ≡ Absorbed.Done → IfSome piece (λ p. WritesNone O.plan O.contents O.has_taken O.is_of operator.now K.writes self.old self.new p) }
+        ensures failed_one { self.new.state ≡ State.SinkFailed → K.writes self.new.sink ≡ counted (K.writes self.old.sink) }
+        ensures no_write { self.new.state ≡ State.NoMemory → K.writes self.new.sink ≡ K.writes self.old.sink }
+
         // So a stage after k tasks, given the piece of task k, is one after k + 1, or stopped at k.
         ensures keeps { KeepsRuns O.plan O.contents O.has_taken K.written K.faults operator.now O.is_of self.old piece self.new }
     {
@@ -201,13 +215,15 @@ impl<S: Drop, K: Sink> Stage<S, K> {
 impl<S: Drop, K: Pour> Stage<S, K> {
     ghost use Rattle.std.specs.Prelude.{◌≡◌};
     ghost use Rattle.saber_plan.specs.Tasks.{Kept};
-    ghost use Rattle.saber_assembly.specs.Stages.{seen};
+    ghost use Rattle.saber_assembly.specs.Stages.{seen, HasPoured};
 
-    /// Has its sink let go of what that holds back. Nothing that is seen of the stage changes.
+    /// Has its sink let go of what that holds back, as far as there is room for it. Nothing that is seen of the stage changes.
     pub fn pour(&mut self)
+        ensures poured { HasPoured K.backlog K.had_no_room self.new }
         ensures store { self.new.store ≡ self.old.store }
         ensures tasks { self.new.k ≡ self.old.k }
         ensures state { self.new.state ≡ self.old.state }
+        ensures writes { K.writes self.new.sink ≡ K.writes self.old.sink }
         ensures seen { (contents : S → Kept) → seen contents K.written K.faults self.new ≡ seen contents K.written K.faults self.old }
     {
         self.sink.pour();

@@ -74,7 +74,7 @@ fn run_generated<G: Gate + Sync, R: Threads + Wait + Sync>(
     gate: &G,
 ) -> Answer
     requires { IsSized (asked (Command.Demo command.now)) }
-    ensures answer { IsTrue result.whole → IsAnswer (asked_demo command.now) result.text result.tasks }
+    ensures answer { IsTrue result.whole → IsAnswer (asked_demo command.now) result.text.written result.tasks }
     ensures few { result.tasks ≤ tasks_of_run (asked_demo command.now) }
 {
     demo_is_checked();
@@ -118,7 +118,7 @@ fn lacking<K>(sink: K, tasks: u64) -> Ran<K>
 
 // Writes the summary of an answer that is whole. The tasks that it tells are those of the run, also where memory lacks.
 fn tell<K: Sink>(alloc: Global, command: &Demo, answer: Answer, sink: K) -> Ran<K>
-    requires answer { IsTrue answer.whole → IsAnswer (asked_demo command.now) answer.text answer.tasks }
+    requires answer { IsTrue answer.whole → IsAnswer (asked_demo command.now) answer.text.written answer.tasks }
     requires few { answer.tasks ≤ tasks_of_run (asked_demo command.now) }
     ensures tasks { result.tasks ≡ answer.tasks }
     ensures told { TellsRun (asked_demo command.now) result.outcome result.tasks (K.written sink) (K.written result.sink) }

@@ -1,6 +1,6 @@
 // A text that goes out.
 ghost use Rattle.std.specs.Prelude.{◌≡◌, ◌≢◌, ℕ, List};
-ghost use Rattle.saber_io.specs.Outside.{Rose, appended};
+ghost use Rattle.saber_io.specs.Outside.{counted, Rose, appended};
 ghost use Rattle.saber_notes.specs.declared.outcome.Outcome.{Outcome};
 ghost use Rattle.saber_cli.specs.Puts.{IsOfPut, PutsText};
 
@@ -15,6 +15,8 @@ pub(crate) fn put<K: Sink>(text: &[u8], mut sink: K, tasks: u64) -> Ran<K>
     ensures tasks { result.tasks ≡ tasks }
     ensures write { result.outcome ≡ Outcome.WriteFault → Rose (K.faults sink) (K.faults result.sink) }
     ensures write_good { result.outcome ≢ Outcome.WriteFault → K.faults result.sink ≡ K.faults sink }
+    ensures one { result.outcome ≢ Outcome.NoMemory → K.writes result.sink ≡ counted (K.writes sink) }
+    ensures none { result.outcome ≡ Outcome.NoMemory → K.writes result.sink ≡ K.writes sink }
 {
     match sink.write_all(text) {
         Ok(()) => Ran {

@@ -3,4 +3,5 @@ pub mod Rows
 pub mod Feeds
 pub mod Summary
 pub mod Query
+pub mod TextSinks
 pub mod Laws

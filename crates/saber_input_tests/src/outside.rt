@@ -1,8 +1,8 @@
 // What no clause says: that calls succeed with ample memory, what worked rows expect, and the real outside.
 use saber_io::{
-    EndMark, Failed, Fed, Feed, Files, Gate, HoldGate, HostFiles, MemFeed, MemFile, MemFiles,
-    MemSink, MemSource, OpenFault, OpenGate, OrderGate, Plain, Pour, Sink, Source, StdSink,
-    WriteFault,
+    EndMark, Failed, Fed, Feed, Files, Gate, HoldGate, HostFiles, HostOuts, MemFail, MemFeed,
+    MemFile, MemFiles, MemOuts, MemSink, MemSource, OpenFault, OpenGate, OrderGate, Outs, Plain,
+    Pour, Sink, Source, StdSink, WriteFault,
 };
 use std::alloc::{AllocError, Global};
 use std::io;
@@ -319,6 +319,47 @@ fn writes_through_a_pipe(rt: HostRuntime) -> Result<(), Fail> {
     assert!(rt; count == 4);
     assert_told(&rt, &buf[..4], b"0,2\n");
     Ok(())
+}
+
+// Three creates, of which the second fails. Only the file named has the fails of its name: its second write lets one byte out.
+#[test]
+fn creates_in_memory(rt: HostRuntime) -> Result<(), Fail> {
+    let alloc = rt.alloc();
+    let fail = MemFail {
+        name: String::from_str(alloc, "b")?,
+        write: 2,
+        out: 1,
+    };
+    let mut outs = MemOuts::new(alloc, vec![in alloc; 2]?, vec![in alloc; fail]?);
+    let mut first = outs.create_file(alloc, "a")?;
+    assert!(rt; outs.create_file(alloc, "b").is_err());
+    let mut third = outs.create_file(alloc, "b")?;
+    assert!(rt; write_three(&mut first) == *b"+++");
+    assert!(rt; write_three(&mut third) == *b"+!+");
+    assert_told(&rt, first.bytes(), b"0,2\n1,2\n2,2\n3,2\n");
+    assert_told(&rt, third.bytes(), b"0,2\n13,2\n");
+    Ok(())
+}
+
+// How three writes to a file of this name end, through the bound; ? where it can't be created.
+fn write_created<U: Outs>(alloc: Global, outs: &mut U, name: &str) -> [u8; 3]
+where
+    U::Out: Drop,
+{
+    match outs.create_file(alloc, name) {
+        Ok(mut out) => write_three(&mut out),
+        Err(_) => *b"???",
+    }
+}
+
+// The real outside: a file in a folder that is not there can't be created, a device takes what is written, and one that is full takes nothing.
+#[test]
+fn creates_of_the_system(rt: HostRuntime) {
+    let alloc = rt.alloc();
+    let mut outs = HostOuts::new(rt);
+    assert!(rt; write_created(alloc, &mut outs, "/no/such/folder/a") == *b"???");
+    assert!(rt; write_created(alloc, &mut outs, "/dev/null") == *b"+++");
+    assert!(rt; write_created(alloc, &mut outs, "/dev/full") == *b"!!!");
 }
 
 fn passes<G: Gate + Sync>(gate: &G) {

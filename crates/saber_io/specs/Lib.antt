@@ -4,3 +4,4 @@ pub mod MemFeeds
 pub mod Memory
 pub mod Files
 pub mod Host
+pub mod Outs

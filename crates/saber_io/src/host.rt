@@ -3,7 +3,7 @@ ghost use Rattle.std.specs.Prelude.{◌≡◌, ◌≢◌, ◌<◌, ◌≤◌, If
 ghost use Rattle.std.specs.Io.KnownBytes.{Appends};
 ghost use Rattle.saber_io.specs.Outside.{counted, raised};
 
-use crate::{Failed, Files, OpenFault, Sink, Source, WriteFault};
+use crate::{CreateFault, Failed, Files, OpenFault, Outs, Sink, Source, WriteFault};
 use std::alloc::Global;
 use std::fs;
 use std::fs::File;
@@ -112,6 +112,7 @@ impl Files for HostFiles {
 pub struct StdSink<W: Write + Drop> {
     writer: W,
     faults: u64,
+    writes: u64,
 }
 
 impl<W: Write + Drop> Model for StdSink<W> {
@@ -119,15 +120,19 @@ impl<W: Write + Drop> Model for StdSink<W> {
 
     ghost Value = { WriterState W };
 
-    ghost view = { λ s. record { writer = s.writer; faults = s.faults } };
+    ghost view = { λ s. record { writer = s.writer; faults = s.faults; writes = s.writes } };
 }
 
 impl<W: Write + Drop> StdSink<W> {
     /// A sink that hands its pieces to this writer.
     pub fn new(writer: W) -> StdSink<W>
-        ensures { result ≡ record { writer = writer; faults = 0 } }
+        ensures { result ≡ record { writer = writer; faults = 0; writes = 0 } }
     {
-        StdSink { writer, faults: 0 }
+        StdSink {
+            writer,
+            faults: 0,
+            writes: 0,
+        }
     }
 }
 
@@ -138,6 +143,8 @@ impl<W: Write + Drop> Sink for StdSink<W> {
 
     ghost faults = { λ s. s.faults };
 
+    ghost writes = { λ s. s.writes };
+
     fn write_all(&mut self, piece: &[u8]) -> Result<(), WriteFault>
         // Where the writer tells what it holds, the whole piece has gone there.
         ensures whole { OnOk result (
@@ -145,12 +152,109 @@ impl<W: Write + Drop> Sink for StdSink<W> {
         ensures ok { OnOk result (self.new.faults ≡ self.old.faults) }
         ensures err { OnErr result (self.new.faults ≡ counted self.old.faults) }
         ensures memory { result ≢ Err WriteFault.NoMemory }
+        ensures one { self.new.writes ≡ counted self.old.writes }
         ensures count { self.old.faults ≤ self.new.faults }
     {
+        self.writes = self.writes.saturating_add(1);
         if self.writer.write_all(piece).is_ok() && self.writer.flush().is_ok() {
             return Ok(());
         }
         self.faults = self.faults.saturating_add(1);
         Err(WriteFault::Failed)
+    }
+}
+
+/// A file of the system that was created: a sink over it, which tells no content.
+#[derive(Drop)]
+pub struct FileSink {
+    sink: StdSink<File>,
+}
+
+impl Model for FileSink {
+    ghost use Rattle.saber_io.specs.Host.{Counts};
+
+    ghost Value = { Counts };
+
+    ghost view = { λ s. record { faults = s.sink.faults; writes = s.sink.writes } };
+}
+
+impl Sink for FileSink {
+    ghost use Rattle.std.specs.Prelude.{None};
+
+    ghost written = { λ _. None };
+
+    ghost faults = { λ s. s.faults };
+
+    ghost writes = { λ s. s.writes };
+
+    fn write_all(&mut self, piece: &[u8]) -> Result<(), WriteFault>
+        ensures ok { OnOk result (self.new.faults ≡ self.old.faults) }
+        ensures err { OnErr result (self.new.faults ≡ counted self.old.faults) }
+        ensures memory { result ≢ Err WriteFault.NoMemory }
+        ensures one { self.new.writes ≡ counted self.old.writes }
+        ensures count { self.old.faults ≤ self.new.faults }
+    {
+        self.sink.write_all(piece)
+    }
+}
+
+/// Files of the system that are created by their paths: what stood there is gone. They tell no name; each error that the system reports is a fault.
+#[derive(Drop)]
+pub struct HostOuts {
+    rt: HostRuntime,
+    creates: u64,
+    faults: u64,
+}
+
+impl Model for HostOuts {
+    ghost use Rattle.saber_io.specs.Host.{OutCounts};
+
+    ghost Value = { OutCounts };
+
+    ghost view = { λ o. record { creates = o.creates; faults = o.faults } };
+}
+
+impl HostOuts {
+    /// The files that the running program can create.
+    pub fn new(rt: HostRuntime) -> HostOuts
+        ensures { result ≡ record { creates = 0; faults = 0 } }
+    {
+        HostOuts {
+            rt,
+            creates: 0,
+            faults: 0,
+        }
+    }
+}
+
+impl Outs for HostOuts {
+    ghost use Rattle.std.specs.Prelude.{None};
+
+    type Out = FileSink;
+
+    ghost asked = { λ _. None };
+
+    ghost creates = { λ o. o.creates };
+
+    ghost faults = { λ o. o.faults };
+
+    fn create_file(&mut self, _alloc: Global, name: &str) -> Result<FileSink, CreateFault>
+        ensures fresh { IfOk result (λ out. out ≡ record { faults = 0; writes = 0 }) }
+        ensures ok { OnOk result (self.new.faults ≡ self.old.faults) }
+        ensures err { OnErr result (self.new.faults ≡ counted self.old.faults) }
+        ensures memory { result ≢ Err CreateFault.NoMemory }
+        ensures one { self.new.creates ≡ counted self.old.creates }
+        ensures count { self.old.faults ≤ self.new.faults }
+    {
+        self.creates = self.creates.saturating_add(1);
+        match fs::create(&self.rt, name) {
+            Ok(file) => Ok(FileSink {
+                sink: StdSink::new(file),
+            }),
+            Err(_) => {
+                self.faults = self.faults.saturating_add(1);
+                Err(CreateFault::Failed)
+            }
+        }
     }
 }

@@ -180,6 +180,8 @@ impl Sink for MemSink {
 
     ghost faults = { λ s. s.faults };
 
+    ghost writes = { λ s. s.writes };
+
     fn write_all(&mut self, piece: &[u8]) -> Result<(), WriteFault>
         ensures unlisted { OnOk result (IsNone (let_out self.old.fails (counted self.old.writes))) }
         ensures ok { OnOk result (self.new ≡ record self.old {

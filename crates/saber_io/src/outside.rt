@@ -2,7 +2,7 @@
 ghost use Rattle.std.specs.Prelude.{◌≡◌, ◌≢◌, ◌<◌, ◌≤◌, ℕ, List, Option, length, take, IfOk, OnOk, OnErr, Ok, Err};
 ghost use Rattle.saber_io.specs.declared.outside.OpenFault.{OpenFault};
 ghost use Rattle.saber_io.specs.declared.outside.WriteFault.{WriteFault};
-ghost use Rattle.saber_io.specs.Outside.{Rose, given, EndsEmpty, appended, AppendsPrefix, FilesView, asking, closing, raised, Opens};
+ghost use Rattle.saber_io.specs.Outside.{counted, Rose, given, EndsEmpty, appended, AppendsPrefix, FilesView, asking, closing, raised, Opens};
 
 use std::alloc::{AllocError, AllocFailed, Global};
 
@@ -76,13 +76,18 @@ pub trait Sink {
     /// How often a write has failed.
     ghost faults: { Self → ℕ };
 
-    /// Writes the whole piece. After Failed a part of it may be out, after NoMemory nothing of it is.
+    /// How many writes went out, those that failed among them.
+    ghost writes: { Self → ℕ };
+
+    /// Writes the whole piece. After Failed a part of it may be out, after NoMemory nothing of it is, and there was no write.
     fn write_all(&mut self, piece: &[u8]) -> Result<(), WriteFault>
         ensures ok { OnOk result (written self.new ≡ appended (written self.old) piece.now) }
         ensures good { result ≢ Err WriteFault.Failed → faults self.new ≡ faults self.old }
         ensures failed { result ≡ Err WriteFault.Failed →
             AppendsPrefix (written self.old) (written self.new) piece.now }
         ensures memory { result ≡ Err WriteFault.NoMemory → written self.new ≡ written self.old }
+        ensures one { result ≢ Err WriteFault.NoMemory → writes self.new ≡ counted (writes self.old) }
+        ensures none { result ≡ Err WriteFault.NoMemory → writes self.new ≡ writes self.old }
         ensures cause { result ≡ Err WriteFault.Failed → Rose (faults self.old) (faults self.new) }
         ensures count { faults self.old ≤ faults self.new };
 }

@@ -28,7 +28,7 @@ module _ {P : Type 0} {p : _} where
   abbrev pub MaySend : Outbox P p → Type 0
   MaySend o = KeepsTo (whole_of o) (sent_of o) (kept_of o)
 
-  -- at one moment of the call the pipe was full, of the last items that were sent
+  -- at one moment since the last send the pipe was full, of the last items that were sent
   abbrev pub WasFull : Outbox P p → Type 0
   WasFull o = Held 64 (HoldsLastOf (sent_of o))
 

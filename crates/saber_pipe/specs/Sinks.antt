@@ -1,5 +1,5 @@
 -- The end of a pipe that is written to, as its callers see it (this project's rule).
-use Rattle.std.specs.Prelude.{ℕ, List, ◌++◌}
+use Rattle.std.specs.Prelude.{ℕ, ◌-◌, ◌^◌, min, List, ◌++◌, length}
 use Rattle.saber_pipe.specs.declared.items.Item.{Item}
 use Rattle.saber_pipe.specs.declared.sink.PipeSink.{PipeSink}
 use Rattle.saber_pipe.specs.Order.{bytes_of}
@@ -18,10 +18,18 @@ module _ {R P : Type 0} {p : _} where
   abbrev pub written : PipeSink R P p → List ℕ
   written s = bytes_of (sent s ++ kept s)
 
+  -- the bytes of what it keeps
+  abbrev pub kept_bytes : PipeSink R P p → List ℕ
+  kept_bytes s = bytes_of (kept s)
+
   -- a sink of a pipe never fails
   abbrev pub faults_of : PipeSink R P p → ℕ
   faults_of s = 0
 
-  -- at one moment of the call the pipe was full, of the last items that were sent
+  -- a write is a piece that was taken to be sent
+  abbrev pub writes_of : PipeSink R P p → ℕ
+  writes_of s = min (length (sent s ++ kept s)) (2 ^ 64 - 1)
+
+  -- at one moment since its last send the pipe was full, of the last items that were sent
   abbrev pub HasBeenFull : PipeSink R P p → Type 0
   HasBeenFull s = WasFull s.outbox

@@ -29,7 +29,7 @@ pub struct Outbox<'a, P: PipeName> {
 }
 
 impl<'a, P: PipeName> Outbox<'a, P> {
-    ghost use Rattle.std.specs.Prelude.{◌≡◌, ◌↔◌, ◌++◌, ◌∷◌, [], true, false, Bool, Some, None, IfNone, IfOk, IfErr, OnOk, OnErr, IsTrue, option_to_list};
+    ghost use Rattle.std.specs.Prelude.{◌≡◌, ◌↔◌, ◌+◌, ◌++◌, ◌∷◌, [], length, true, false, Bool, Some, None, IfNone, IfOk, IfErr, OnOk, OnErr, IsTrue, option_to_list};
     ghost use Rattle.crossbeam_queue.specs.Passes.{view, IsPassOf, ruled_capacity};
     ghost use Rattle.saber_pipe.specs.declared.items.Item.TheVariants as item;
     ghost use Rattle.saber_pipe.specs.Order.{log, bytes_of};
@@ -55,8 +55,10 @@ impl<'a, P: PipeName> Outbox<'a, P> {
     }
 
     // Keeps one more piece.
+    #[tactic(auto, using(crate::proofs::Moves::one_kept))]
     pub(crate) fn keep(&mut self, alloc: Global, piece: &[u8]) -> Result<(), AllocError>
         ensures ok { OnOk result (bytes_of (sent_of self.new ++ kept_of self.new) ≡ bytes_of (sent_of self.old ++ kept_of self.old) ++ piece.now) }
+        ensures one { OnOk result (length (kept_of self.new) ≡ length (kept_of self.old) + 1) }
         ensures kept { OnErr result (kept_of self.new ≡ kept_of self.old) }
         ensures same { (sent_of self.new ≡ sent_of self.old) × (whole_of self.new ≡ whole_of self.old) }
     {

@@ -78,13 +78,16 @@ impl<'a, R: Wait, P: PipeName> PipeSink<'a, R, P> {
 impl<'a, R: Wait, P: PipeName> Sink for PipeSink<'a, R, P> {
     ghost use Rattle.std.specs.Prelude.{◌≡◌, ◌≢◌, ◌≤◌, ◌++◌, Some, OnOk, OnErr, Err};
     ghost use Rattle.saber_io.specs.declared.outside.WriteFault.{WriteFault};
-    ghost use Rattle.saber_io.specs.Outside.{Rose, appended, AppendsPrefix};
-    ghost use Rattle.saber_pipe.specs.Sinks.{sent, kept, written, faults_of};
+    ghost use Rattle.saber_io.specs.Outside.{counted, Rose, appended, AppendsPrefix};
+    ghost use Rattle.saber_pipe.specs.Sinks.{sent, kept, written, faults_of, writes_of};
 
     ghost written = { λ s. Some (written s) };
 
     ghost faults = { faults_of };
 
+    ghost writes = { writes_of };
+
+    #[tactic(auto, using(crate::proofs::Moves::one_write))]
     fn write_all(&mut self, piece: &[u8]) -> Result<(), WriteFault>
         ensures ok { OnOk result (Some (written self.new) ≡ appended (Some (written self.old)) piece.now) }
         ensures never { result ≢ Err WriteFault.Failed }
@@ -93,6 +96,8 @@ impl<'a, R: Wait, P: PipeName> Sink for PipeSink<'a, R, P> {
         ensures memory { result ≡ Err WriteFault.NoMemory → Some (written self.new) ≡ Some (written self.old) }
         ensures cause { result ≡ Err WriteFault.Failed → Rose (faults_of self.old) (faults_of self.new) }
         ensures count { faults_of self.old ≤ faults_of self.new }
+        ensures one { result ≢ Err WriteFault.NoMemory → writes_of self.new ≡ counted (writes_of self.old) }
+        ensures none { result ≡ Err WriteFault.NoMemory → writes_of self.new ≡ writes_of self.old }
         ensures kept { OnErr result (kept self.new ≡ kept self.old) }
         ensures sent { sent self.new ≡ sent self.old }
     {
@@ -105,13 +110,20 @@ impl<'a, R: Wait, P: PipeName> Sink for PipeSink<'a, R, P> {
 
 impl<'a, R: Wait, P: PipeName> Pour for PipeSink<'a, R, P> {
     ghost use Rattle.std.specs.Prelude.{◌≡◌, ◌++◌, [], ◌⊎◌, Some};
-    ghost use Rattle.saber_pipe.specs.Sinks.{sent, kept, written, faults_of, HasBeenFull};
+    ghost use Rattle.saber_pipe.specs.Sinks.{sent, kept, kept_bytes, written, faults_of, writes_of, HasBeenFull};
+
+    ghost backlog = { kept_bytes };
+
+    ghost had_no_room = { HasBeenFull };
 
     // Sends all that is kept, and waits for room. Where the sink is alone, it sends what there is room for, and never waits.
+    #[tactic(auto, using(crate::proofs::Moves::no_bytes_kept))]
     fn pour(&mut self)
         ensures written { Some (written self.new) ≡ Some (written self.old) }
         ensures count { faults_of self.new ≡ faults_of self.old }
+        ensures writes { writes_of self.new ≡ writes_of self.old }
         ensures all { sent self.new ++ kept self.new ≡ sent self.old ++ kept self.old }
+        ensures poured { (kept_bytes self.new ≡ []) ⊎ HasBeenFull self.new }
         ensures until { (kept self.new ≡ []) ⊎ HasBeenFull self.new }
     {
         let rt = self.rt;

@@ -2,6 +2,7 @@
 ghost use Rattle.std.specs.Prelude.{◌≡◌, ℕ, false, None};
 ghost use Rattle.saber_ring.specs.Shows.{first_of_task};
 ghost use Rattle.saber_assembly.specs.declared.work.RunData.{RunData};
+ghost use Rattle.saber_assembly.specs.Stages.{HasPoured};
 ghost use Rattle.saber_assembly.specs.Works.{first_tasks, first_needed, IsBlockOf, IsPieceOf};
 ghost use Rattle.saber_workers.specs.Labors.{IsOwn, Begins, CanFinish, Finishes};
 ghost use Rattle.saber_workers.specs.Queries.{Suits, HasBlocks, CanLookBackOn, LooksBackOn, IsNextPiece, AbsorbsPiece};
@@ -79,6 +80,8 @@ impl<O: Operator, K: Pour> Labor<SaberWork<O, K>> for O {
         requires { IsNextPiece O.plan O.is_of O.contents O.has_taken K.written K.faults self.now stage.old piece }
         ensures none { piece ≡ None → result ≡ false }
         ensures stage { AbsorbsPiece O.plan O.is_of O.contents O.has_taken K.written K.faults self.now stage.old piece stage.new result }
+        // And the sink was poured, also behind what stopped the stage.
+        ensures poured { HasPoured K.backlog K.had_no_room stage.new }
     {
         let goes = take_in::<O, K>(self, alloc, stage, piece);
         stage.pour();

@@ -1,10 +1,11 @@
 use Rattle.std.proofs.Common.{◌≡◌, refl, sym, ◌∙◌, ap, subst, arith}
 use Rattle.saber_plan.specs.Sizes.{limits_of}
-use Rattle.saber_plan.specs.Trees.{Tree, tree_of}
+use Rattle.saber_plan.specs.Trees.{tree_of}
 use Rattle.saber_words.specs.Demo.{asked_demo}
 use Rattle.saber_dispatch.specs.declared.inputs.Inputs.TheVariants.{One}
 use Rattle.saber_plan.specs.declared.ends.RunEnd.TheVariants.{AllRead, WriteFault}
 use Rattle.saber_demo.specs.Rows.{generated}
+use Rattle.saber_demo.specs.TextSinks.{TextState}
 use Rattle.saber_cli.specs.Tells.{IsAnswer}
 use Rattle.saber_cli.proofs.DemoLemmas.{IsRunOf, end_is, run_gives, demo_read, whole_answer, written_is}
 use Rattle.saber_cli.proofs.demo.run_generated.Goals as goal
@@ -36,5 +37,5 @@ returns-clause-answer g c whole =
     let run : IsRunOf d q s.task (limits_of s) s.flush c.new-rows.result = record { plan = c.in-Ok.ensures; task = z.task; lines = λ i. record { most = z.lines i; slack = z.slack i }; goes_on = z.flush; rows = rows } in
     let gives = run_gives c.generated_is_read.ensures d q s.task s.ring (limits_of s) s.flush c.new-rows.result end tasks ran.0 c.requires.few_generated run ran.2 in
     let all : end ≡ AllRead = c.is_whole.ensures.0 whole in
-    let out = written_is c.new-text.result c.engine-end.result.sink ran.0 c.new-text.ensures ran.1 in
+    let out = written_is c.new-text.result.written c.engine-end.result.sink.written ran.0 (ap (λ (t : TextState). t.written) c.new-text.ensures) ran.1 in
     subst (λ t. IsAnswer d t tasks) (sym out) (whole_answer c.rows_have_tasks.ensures d s.ring tasks end ran.0 c.requires.some_rows all gives)
