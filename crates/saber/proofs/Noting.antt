@@ -1,7 +1,7 @@
 -- What went to the notes, by what became of the note.
 use Rattle.std.proofs.Common.{◌≡◌, ◌≢◌, ℕ, List, length, Option, refl, sym, ◌∙◌, ap, arith}
 use Rattle.std.proofs.lemmas.List.{take_all}
-use Rattle.saber_io.specs.Outside.{AppendsPrefix, appended, appended-none}
+use Rattle.saber_plan.specs.Outputs.{AppendsPrefix, appended, appended-none}
 use Rattle.saber_words.specs.declared.commands.WordsFault.{WordsFault}
 use Rattle.saber_words.specs.declared.commands.WordsFault.TheVariants as fault
 use Rattle.saber_notes.specs.declared.outcome.Outcome.TheVariants.{Done}

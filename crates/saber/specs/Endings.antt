@@ -1,6 +1,6 @@
 -- How the process ends.
 use Rattle.std.specs.Prelude.{◌≡◌, ◌≢◌, ℕ, List, Option}
-use Rattle.saber_io.specs.Outside.{AppendsPrefix}
+use Rattle.saber_plan.specs.Outputs.{AppendsPrefix}
 use Rattle.saber_notes.specs.Notes.{status_of, note_of}
 use Rattle.saber_notes.specs.declared.outcome.Outcome.{Outcome}
 use Rattle.saber_notes.specs.declared.outcome.Outcome.TheVariants.{Done}

@@ -1,13 +1,13 @@
 -- A stage before its first task.
 use Rattle.std.proofs.Common.{◌≡◌, ℕ, [], sym, ◌∙◌, ap, subst}
-use Rattle.saber_io.specs.Outside.{appended, appended-none}
+use Rattle.saber_plan.specs.Outputs.{appended, appended-none}
 use Rattle.saber_plan.specs.Inputs.{Input, going_on}
 use Rattle.saber_plan.specs.Trees.{Tree}
 use Rattle.saber_plan.specs.Answers.{text}
 use Rattle.saber_plan.specs.Tasks.{upto, kept_behind, nothing_kept}
 use Rattle.saber_laws.specs.Pieces.{NoRowsGiveNothing, NoTasksNoRows}
-use Rattle.saber_assembly.specs.Stages.{StageView, Start, Tasks, After, Keeps}
-use Rattle.saber_assembly.specs.declared.stage.State.TheVariants.{Running}
+use Rattle.saber_plan.specs.Stages.{StageView, Start, Tasks, After, Keeps}
+use Rattle.saber_plan.specs.declared.stages.StageState.TheVariants.{Running}
 
 pub begins : NoRowsGiveNothing → NoTasksNoRows → (q : Tree) (n : ℕ) (r : Input) (start : Start) (taken : Input → Type 0) (s : StageView) → Tasks q n r → s.written ≡ start.written → s.faults ≡ start.faults → s.kept ≡ nothing_kept → s.k ≡ 0 → s.state ≡ Running → taken (going_on []) → Keeps q n r start taken s
 begins gives none q n r start taken s t written faults kept k run had =

@@ -1,6 +1,6 @@
 -- Prefixes of what is written.
 use Rattle.std.proofs.Common.{◌≡◌, ◌≢◌, ℕ, List, [], ◌++◌, Option, sym, ◌∙◌, ap, subst}
-use Rattle.saber_io.specs.Outside.{AppendsPrefix}
+use Rattle.saber_plan.specs.Outputs.{AppendsPrefix}
 
 -- a text that was empty before this much was added is this much
 pub all_added : (text out start adds : List ℕ) → text ≡ out → out ≡ start ++ adds → start ≡ [] → text ≡ adds

@@ -1,14 +1,14 @@
 -- One task more behind the stage.
 use Rattle.std.proofs.Common.{◌≡◌, ◌≢◌, ℕ, ◌≤◌, ◌+◌, ◌-◌, ◌^◌, min, List, ◌++◌, take, drop, Option, Some, None, refl, sym, ◌∙◌, ap, subst, arith, append_assoc, take-append-drop}
-use Rattle.saber_io.specs.Outside.{Rose, appended, AppendsPrefix}
+use Rattle.saber_plan.specs.Outputs.{Rose, appended, AppendsPrefix}
 use Rattle.saber_plan.specs.Trees.{Tree}
 use Rattle.saber_plan.specs.Answers.{text}
 use Rattle.saber_plan.specs.Tasks.{Kept, upto, kept_behind, cut, added}
 use Rattle.saber_plan.specs.Inputs.{Input, arrived}
 use Rattle.saber_laws.specs.Ends.{CutsRise}
 use Rattle.saber_laws.specs.Pieces.{TextGoesOn}
-use Rattle.saber_assembly.specs.Stages.{StageView, Start, Tasks, IsCutOff, After, Keeps}
-use Rattle.saber_assembly.specs.declared.stage.State.TheVariants.{Running, SinkFailed, NoMemory}
+use Rattle.saber_plan.specs.Stages.{StageView, Start, Tasks, IsCutOff, After, Keeps}
+use Rattle.saber_plan.specs.declared.stages.StageState.TheVariants.{Running, SinkFailed, NoMemory}
 use Rattle.saber_assembly.specs.declared.stage.Absorbed.{Absorbed}
 use Rattle.saber_assembly.specs.declared.stage.Absorbed.TheVariants.{Done, Stopped}
 

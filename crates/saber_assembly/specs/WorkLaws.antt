@@ -16,11 +16,12 @@ use Rattle.saber_laws.proofs.GrowLaws.{free-upto}
 use Rattle.saber_laws.proofs.FreeLaws.{free_at_most, free_rises}
 use Rattle.saber_fragment.specs.declared.blocks.Block.{Block}
 use Rattle.saber_fragment.specs.Stores.{Follows, CanTakeIn}
-use Rattle.saber_io.specs.Outside.{appended}
+use Rattle.saber_plan.specs.Outputs.{appended}
 use Rattle.saber_assembly.specs.declared.stage.Stage.{Stage}
-use Rattle.saber_assembly.specs.declared.stage.State.TheVariants.{Running}
+use Rattle.saber_plan.specs.declared.stages.StageState.TheVariants.{Running}
 use Rattle.saber_assembly.specs.declared.work.RunData.{RunData}
-use Rattle.saber_assembly.specs.Stages.{StageView, seen, Start, Tasks, After, Keeps, IsPieceAt}
+use Rattle.saber_assembly.specs.Stages.{seen, IsPieceAt}
+use Rattle.saber_plan.specs.Stages.{StageView, Start, Tasks, After, Keeps}
 use Rattle.saber_assembly.specs.Works.{IsTold, input_of, with_input, with_block, first_tasks, start_of, IsBlockOf, IsPieceOf, IsStageOf, first_needed}
 
 slice_size : {A : Type 0} (a b : ℕ) (l : List A) → length (slice_range l a b) ≡ min (b - a) (length l - a)

@@ -7,9 +7,10 @@ use Rattle.saber_plan.specs.Needs.{free}
 use Rattle.saber_fragment.specs.declared.blocks.Block.{Block}
 use Rattle.saber_fragment.specs.LookBack.{IsBlock}
 use Rattle.saber_assembly.specs.declared.stage.Stage.{Stage}
-use Rattle.saber_assembly.specs.declared.stage.State.TheVariants.{Running}
+use Rattle.saber_plan.specs.declared.stages.StageState.TheVariants.{Running}
 use Rattle.saber_assembly.specs.declared.work.RunData.{RunData}
-use Rattle.saber_assembly.specs.Stages.{StageView, Start, Tasks, Keeps, IsPieceAt}
+use Rattle.saber_assembly.specs.Stages.{IsPieceAt}
+use Rattle.saber_plan.specs.Stages.{StageView, Start, Tasks, Keeps}
 
 module _ {O : Type 0} where
   -- the input filled so far

@@ -8,8 +8,8 @@
 //! - Calls: `Stage::new` takes an operator and a sink; `absorb` takes the next task's piece, or the
 //!   mark of want of memory; `pour` has the sink let go of what it holds back; `into_sink` gives it
 //!   back.
-//! - Proved: a stage after k tasks (`After`, `specs/Stages.antt`) that absorbs the piece of task k
-//!   is one after k + 1, or is stopped at k with its cause. While it runs, the text of the first k
+//! - Proved: a stage after k tasks (`After` of `saber_plan`) that absorbs the piece of task k is
+//!   one after k + 1, or is stopped at k with its cause. While it runs, the text of the first k
 //!   tasks' rows is written and what they leave open is kept; where a write failed, a front of the
 //!   next task's text is out too; where memory lacked, or the mark came, no more is. What it
 //!   keeps is one record (`Keeps`), which `specs/Works.antt` makes a part of the ring's rule;
@@ -30,5 +30,5 @@ mod stage;
 mod work;
 
 pub use gives::gives_make_text;
-pub use stage::{Absorbed, Stage, State};
+pub use stage::{Absorbed, Stage};
 pub use work::{RunData, SaberWork};

@@ -1,23 +1,13 @@
 // The result stage.
 ghost use Rattle.std.specs.Prelude.{◌≡◌, ◌≢◌, ◌≤◌, [], OnOk, Err};
-ghost use Rattle.saber_io.specs.Outside.{counted, Rose, appended, AppendsPrefix};
+ghost use Rattle.saber_plan.specs.Outputs.{counted, Rose, appended, AppendsPrefix};
 ghost use Rattle.saber_io.specs.declared.outside.WriteFault.{WriteFault};
 
 use saber_fragment::Operator;
 use saber_io::{Pour, Sink, WriteFault};
 use saber_laws::{cuts_rise, no_rows_give_nothing, no_tasks_no_rows, text_goes_on};
+use saber_plan::StageState;
 use std::alloc::Global;
-
-/// Whether a stage goes on, or why it stopped.
-#[derive(Clone, Copy, Debug, PartialEq, Eq)]
-pub enum State {
-    /// It takes pieces in.
-    Running,
-    /// Its sink failed; what the task in hand adds may be out in part.
-    SinkFailed,
-    /// Memory lacked, here or where a piece was made.
-    NoMemory,
-}
 
 /// What became of a piece.
 #[derive(Clone, Copy, Debug, PartialEq, Eq)]
@@ -32,7 +22,7 @@ pub struct Stage<S, K> {
     sink: K,
     store: S,
     k: u64,
-    state: State,
+    state: StageState,
 }
 
 // Writes a text in one write, and none where it is empty.
@@ -56,11 +46,11 @@ fn write_text<K: Sink>(sink: &mut K, text: &[u8]) -> Result<(), WriteFault>
 
 impl<S: Drop, K: Sink> Stage<S, K> {
     ghost use Rattle.std.specs.Prelude.{◌≡◌, ◌≢◌, ◌≤◌, ◌<◌, ◌^◌, ◌+◌, [], IfSome, IfNone};
-    ghost use Rattle.saber_io.specs.Outside.{counted, Rose};
+    ghost use Rattle.saber_plan.specs.Outputs.{counted, Rose};
     ghost use Rattle.saber_plan.specs.Tasks.{nothing_kept};
     ghost use Rattle.saber_plan.specs.Inputs.{going_on};
     ghost use Rattle.saber_assembly.specs.Stages.{CanAbsorb, AddsText, AddsFront, WritesOnce, WritesNone, LeavesKept, TakesPiece, BeginsRuns, KeepsRuns};
-    ghost use Rattle.saber_assembly.specs.declared.stage.State.{State};
+    ghost use Rattle.saber_plan.specs.declared.stages.StageState.{StageState};
     ghost use Rattle.saber_assembly.specs.declared.stage.Absorbed.{Absorbed};
 
     /// A stage with no task behind it: of each run it keeps what stands before the first task. Takes no memory.
@@ -68,7 +58,7 @@ impl<S: Drop, K: Sink> Stage<S, K> {
         ensures sink { result.sink ≡ sink }
         ensures kept { O.contents result.store ≡ nothing_kept }
         ensures none { result.k ≡ 0 }
-        ensures runs { result.state ≡ State.Running }
+        ensures runs { result.state ≡ StageState.Running }
         ensures taken { O.has_taken operator.now result.store (going_on []) }
         ensures keeps { BeginsRuns O.plan O.contents O.has_taken K.written K.faults operator.now sink result }
     {
@@ -78,7 +68,7 @@ impl<S: Drop, K: Sink> Stage<S, K> {
             sink,
             store: operator.empty_store(alloc),
             k: 0,
-            state: State::Running,
+            state: StageState::Running,
         }
     }
 
@@ -103,7 +93,7 @@ impl<S: Drop, K: Sink> Stage<S, K> {
     }
 
     /// Whether it goes on, or why it stopped.
-    pub fn state(&self) -> State
+    pub fn state(&self) -> StageState
         ensures { result ≡ self.now.state }
     {
         self.state
@@ -116,30 +106,30 @@ impl<S: Drop, K: Sink> Stage<S, K> {
         operator: &O,
         piece: O::Piece,
     ) -> Absorbed
-        requires running { self.old.state ≡ State.Running }
+        requires running { self.old.state ≡ StageState.Running }
         requires few { self.old.k < 2 ^ 62 }
         requires next { CanAbsorb O.plan O.contents O.has_taken O.is_of operator.now self.old piece }
         ensures written { result ≡ Absorbed.Done → AddsText O.plan O.contents O.has_taken O.is_of operator.now K.written self.old self.new piece }
         ensures left { result ≡ Absorbed.Done → LeavesKept O.plan O.contents O.has_taken O.is_of operator.now self.old self.new piece }
         ensures rises { result ≡ Absorbed.Done → self.new.k ≡ self.old.k + 1 }
-        ensures runs { result ≡ Absorbed.Done → self.new.state ≡ State.Running }
+        ensures runs { result ≡ Absorbed.Done → self.new.state ≡ StageState.Running }
         ensures taken { result ≡ Absorbed.Done → TakesPiece O.plan O.contents O.has_taken O.is_of operator.now self.old self.new piece }
-        ensures stopped { result ≡ Absorbed.Stopped → self.new.state ≢ State.Running }
+        ensures stopped { result ≡ Absorbed.Stopped → self.new.state ≢ StageState.Running }
         ensures stays { result ≡ Absorbed.Stopped → self.new.k ≡ self.old.k }
-        ensures failed { self.new.state ≡ State.SinkFailed → AddsFront O.plan O.contents O.has_taken O.is_of operator.now K.written self.old self.new piece }
-        ensures cause { self.new.state ≡ State.SinkFailed → Rose (K.faults self.old.sink) (K.faults self.new.sink) }
-        ensures good { self.new.state ≢ State.SinkFailed → K.faults self.new.sink ≡ K.faults self.old.sink }
-        ensures memory { self.new.state ≡ State.NoMemory → K.written self.new.sink ≡ K.written self.old.sink }
+        ensures failed { self.new.state ≡ StageState.SinkFailed → AddsFront O.plan O.contents O.has_taken O.is_of operator.now K.written self.old self.new piece }
+        ensures cause { self.new.state ≡ StageState.SinkFailed → Rose (K.faults self.old.sink) (K.faults self.new.sink) }
+        ensures good { self.new.state ≢ StageState.SinkFailed → K.faults self.new.sink ≡ K.faults self.old.sink }
+        ensures memory { self.new.state ≡ StageState.NoMemory → K.written self.new.sink ≡ K.written self.old.sink }
         ensures count { K.faults self.old.sink ≤ K.faults self.new.sink }
         ensures one { result ≡ Absorbed.Done → WritesOnce O.plan O.contents O.has_taken O.is_of operator.now K.writes self.old self.new piece }
         ensures no_text { result ≡ Absorbed.Done → WritesNone O.plan O.contents O.has_taken O.is_of operator.now K.writes self.old self.new piece }
-        ensures failed_one { self.new.state ≡ State.SinkFailed → K.writes self.new.sink ≡ counted (K.writes self.old.sink) }
-        ensures no_write { self.new.state ≡ State.NoMemory → K.writes self.new.sink ≡ K.writes self.old.sink }
+        ensures failed_one { self.new.state ≡ StageState.SinkFailed → K.writes self.new.sink ≡ counted (K.writes self.old.sink) }
+        ensures no_write { self.new.state ≡ StageState.NoMemory → K.writes self.new.sink ≡ K.writes self.old.sink }
     {
         let mut text = Vec::new(alloc);
         match operator.take_in(alloc, &mut self.store, piece, &mut text) {
             Err(_) => {
-                self.state = State::NoMemory;
+                self.state = StageState::NoMemory;
                 Absorbed::Stopped
             }
             Ok(()) => match write_text(&mut self.sink, &text) {
@@ -149,11 +139,11 @@ impl<S: Drop, K: Sink> Stage<S, K> {
                     Absorbed::Done
                 }
                 Err(WriteFault::Failed) => {
-                    self.state = State::SinkFailed;
+                    self.state = StageState::SinkFailed;
                     Absorbed::Stopped
                 }
                 Err(WriteFault::NoMemory) => {
-                    self.state = State::NoMemory;
+                    self.state = StageState::NoMemory;
                     Absorbed::Stopped
                 }
             },
@@ -168,7 +158,7 @@ impl<S: Drop, K: Sink> Stage<S, K> {
         operator: &O,
         piece: Option<O::Piece>,
     ) -> Absorbed
-        requires running { self.old.state ≡ State.Running }
+        requires running { self.old.state ≡ StageState.Running }
         requires few { self.old.k < 2 ^ 62 }
         requires next { IfSome piece (λ p. CanAbsorb O.plan O.contents O.has_taken O.is_of operator.now self.old p) }
 
@@ -176,26 +166,26 @@ impl<S: Drop, K: Sink> Stage<S, K> {
         ensures written { result ≡ Absorbed.Done → IfSome piece (λ p. AddsText O.plan O.contents O.has_taken O.is_of operator.now K.written self.old self.new p) }
         ensures left { result ≡ Absorbed.Done → IfSome piece (λ p. LeavesKept O.plan O.contents O.has_taken O.is_of operator.now self.old self.new p) }
         ensures rises { result ≡ Absorbed.Done → self.new.k ≡ self.old.k + 1 }
-        ensures runs { result ≡ Absorbed.Done → self.new.state ≡ State.Running }
+        ensures runs { result ≡ Absorbed.Done → self.new.state ≡ StageState.Running }
 
         // And the store has taken in all up to the piece's end.
         ensures taken { result ≡ Absorbed.Done → IfSome piece (λ p. TakesPiece O.plan O.contents O.has_taken O.is_of operator.now self.old self.new p) }
 
         // What a stop leaves, and why it comes.
-        ensures stopped { result ≡ Absorbed.Stopped → self.new.state ≢ State.Running }
+        ensures stopped { result ≡ Absorbed.Stopped → self.new.state ≢ StageState.Running }
         ensures stays { result ≡ Absorbed.Stopped → self.new.k ≡ self.old.k }
-        ensures none { IfNone piece ((result ≡ Absorbed.Stopped) × (self.new.state ≡ State.NoMemory)) }
-        ensures failed { self.new.state ≡ State.SinkFailed → IfSome piece (λ p. AddsFront O.plan O.contents O.has_taken O.is_of operator.now K.written self.old self.new p) }
-        ensures cause { self.new.state ≡ State.SinkFailed → Rose (K.faults self.old.sink) (K.faults self.new.sink) }
-        ensures good { self.new.state ≢ State.SinkFailed → K.faults self.new.sink ≡ K.faults self.old.sink }
-        ensures memory { self.new.state ≡ State.NoMemory → K.written self.new.sink ≡ K.written self.old.sink }
+        ensures none { IfNone piece ((result ≡ Absorbed.Stopped) × (self.new.state ≡ StageState.NoMemory)) }
+        ensures failed { self.new.state ≡ StageState.SinkFailed → IfSome piece (λ p. AddsFront O.plan O.contents O.has_taken O.is_of operator.now K.written self.old self.new p) }
+        ensures cause { self.new.state ≡ StageState.SinkFailed → Rose (K.faults self.old.sink) (K.faults self.new.sink) }
+        ensures good { self.new.state ≢ StageState.SinkFailed → K.faults self.new.sink ≡ K.faults self.old.sink }
+        ensures memory { self.new.state ≡ StageState.NoMemory → K.written self.new.sink ≡ K.written self.old.sink }
         ensures count { K.faults self.old.sink ≤ K.faults self.new.sink }
 
         // How many writes there were: one for a task that has text, also where it fails, and none for one without, nor where memory lacks.
         ensures one { result ≡ Absorbed.Done → IfSome piece (λ p. WritesOnce O.plan O.contents O.has_taken O.is_of operator.now K.writes self.old self.new p) }
         ensures no_text { result ≡ Absorbed.Done → IfSome piece (λ p. WritesNone O.plan O.contents O.has_taken O.is_of operator.now K.writes self.old self.new p) }
-        ensures failed_one { self.new.state ≡ State.SinkFailed → K.writes self.new.sink ≡ counted (K.writes self.old.sink) }
-        ensures no_write { self.new.state ≡ State.NoMemory → K.writes self.new.sink ≡ K.writes self.old.sink }
+        ensures failed_one { self.new.state ≡ StageState.SinkFailed → K.writes self.new.sink ≡ counted (K.writes self.old.sink) }
+        ensures no_write { self.new.state ≡ StageState.NoMemory → K.writes self.new.sink ≡ K.writes self.old.sink }
 
         // So a stage after k tasks, given the piece of task k, is one after k + 1, or stopped at k.
         ensures keeps { KeepsRuns O.plan O.contents O.has_taken K.written K.faults operator.now O.is_of self.old piece self.new }
@@ -205,7 +195,7 @@ impl<S: Drop, K: Sink> Stage<S, K> {
         match piece {
             Some(piece) => self.absorb_piece(alloc, operator, piece),
             None => {
-                self.state = State::NoMemory;
+                self.state = StageState::NoMemory;
                 Absorbed::Stopped
             }
         }

@@ -3,7 +3,8 @@ use Rattle.std.proofs.Common.{◌≡◌, ◌≢◌, ◌≤◌, ℕ, ◌+◌, ◌
 use Rattle.std.proofs.Math.Path.{transport}
 use Rattle.std.specs.Option.{option_map_or}
 use Rattle.std.specs.Prelude.{Bool, Option, Some, None, IfSome, ◌/◌, false}
-use Rattle.saber_io.specs.Outside.{Rose, appended-none, given}
+use Rattle.saber_io.specs.Outside.{given}
+use Rattle.saber_plan.specs.Outputs.{Rose, appended-none}
 use Rattle.saber_io.specs.declared.feeds.EndMark.{EndMark}
 use Rattle.saber_io.specs.declared.feeds.EndMark.TheVariants as marks
 use Rattle.saber_plan.specs.declared.plans.Shape.{Shape}

@@ -1,6 +1,6 @@
 -- What a chain gives.
 use Rattle.std.specs.Prelude.{◌≡◌, ◌≢◌, ◌≤◌, ℕ, List, Option, IfSome, false}
-use Rattle.saber_io.specs.Outside.{Rose, appended}
+use Rattle.saber_plan.specs.Outputs.{Rose, appended}
 use Rattle.saber_plan.specs.declared.rows.Side.{Side}
 use Rattle.saber_plan.specs.declared.sizes.Sizes.{Sizes}
 use Rattle.saber_plan.specs.Sizes.{limits_of}

@@ -1,6 +1,6 @@
 // Both queries of a chain at once.
 ghost use Rattle.std.specs.Prelude.{◌≡◌, ◌≢◌, ◌≤◌, ℕ, List, [], length, false};
-ghost use Rattle.saber_io.specs.Outside.{Rose};
+ghost use Rattle.saber_plan.specs.Outputs.{Rose};
 ghost use Rattle.saber_pipe.specs.Pipes.{id_of, IsNew};
 ghost use Rattle.saber_pipe.specs.PipeFeeds.{taken, waiting};
 ghost use Rattle.saber_pipe.specs.Sinks.{written};

@@ -1,6 +1,6 @@
 // The second query of a chain, which reads from the pipe.
 ghost use Rattle.std.specs.Prelude.{◌≡◌, ◌≢◌, ◌≤◌, None, length};
-ghost use Rattle.saber_io.specs.Outside.{Rose};
+ghost use Rattle.saber_plan.specs.Outputs.{Rose};
 ghost use Rattle.saber_pipe.specs.PipeFeeds.{taken, waiting};
 ghost use Rattle.saber_pipe.specs.Relays.{taken_by, mark_in};
 ghost use Rattle.saber_plan.specs.Trees.{tree_of};

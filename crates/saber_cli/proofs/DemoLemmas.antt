@@ -2,7 +2,8 @@
 use Rattle.std.proofs.Common.{Bool, ⊎_elim, ◌++◌, ◌≡◌, ◌≤◌, ◌*◌, ◌^◌, min, inl, inr, ℕ, List, [], ◌∷◌, length, Option, Some, None, false, refl, sym, ◌∙◌, ap, subst, arith}
 use Rattle.std.proofs.Math.Path.{transport}
 use Rattle.std.proofs.lemmas.List.{take_all}
-use Rattle.saber_io.specs.Outside.{FilesView, appended, appended-none}
+use Rattle.saber_io.specs.Outside.{FilesView}
+use Rattle.saber_plan.specs.Outputs.{appended, appended-none}
 use Rattle.saber_plan.specs.declared.rows.Side.{Side}
 use Rattle.saber_plan.specs.declared.rows.Side.TheVariants as sides
 use Rattle.saber_plan.specs.declared.rows.Row.{Row}

@@ -1,7 +1,8 @@
 -- One file that is opened, read and given back.
 use Rattle.std.proofs.Common.{Result, Ok, Err, IfOk, IfErr, OnOk, refl, sym, ◌≡◌, ℕ, ◌<◌, ◌≤◌, List, take, Option, Some, None, IfSome, ◌∙◌, ap, subst, arith}
 use Rattle.std.proofs.lemmas.Bool.Decides.{nat_tests}
-use Rattle.saber_io.specs.Outside.{FilesView, asking, closing, raised, Rose, Opens}
+use Rattle.saber_io.specs.Outside.{FilesView, asking, closing, raised, Opens}
+use Rattle.saber_plan.specs.Outputs.{Rose}
 use Rattle.saber_notes.specs.declared.outcome.InputFile.{InputFile}
 use Rattle.saber_notes.specs.declared.outcome.InputFile.TheVariants.{Query, Left, Right, SecondQuery}
 use Rattle.saber_notes.specs.declared.outcome.Outcome.{Outcome}

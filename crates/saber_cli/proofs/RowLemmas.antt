@@ -3,7 +3,8 @@ use Rattle.std.proofs.Common.{Bool, ◌≡◌, ◌≤◌, ◌<◌, inl, inr, ℕ
 use Rattle.std.proofs.lemmas.List.{take_all}
 use Rattle.std.proofs.lemmas.Bool.Decides.{nat_tests}
 use Rattle.std.specs.Prelude.{option_to_list, option_and_then}
-use Rattle.saber_io.specs.Outside.{FilesView, Closed, Opens, OpensIn, Rose, asking, closing, content_in, counted, given, raised}
+use Rattle.saber_io.specs.Outside.{FilesView, Closed, Opens, OpensIn, asking, closing, content_in, given, raised}
+use Rattle.saber_plan.specs.Outputs.{Rose, counted}
 use Rattle.saber_plan.specs.declared.rows.Side.{Side}
 use Rattle.saber_plan.specs.declared.rows.Side.TheVariants as sides
 use Rattle.saber_plan.specs.Trees.{Tree}

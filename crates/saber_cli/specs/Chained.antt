@@ -1,6 +1,7 @@
 -- What a chain comes to: two queries, of which the second one's rows are the lines of the first.
 use Rattle.std.specs.Prelude.{Bool, ◌≡◌, ◌≢◌, ◌⊎◌, ℕ, List, [], ◌∷◌, ◌++◌, length, Option, Some, IfSome, true, false}
-use Rattle.saber_io.specs.Outside.{FilesView, Closed, appended, content_in}
+use Rattle.saber_io.specs.Outside.{FilesView, Closed, content_in}
+use Rattle.saber_plan.specs.Outputs.{appended}
 use Rattle.saber_plan.specs.declared.rows.Side.{Side}
 use Rattle.saber_plan.specs.declared.plans.Shape.TheVariants.{Join}
 use Rattle.saber_plan.specs.declared.sizes.Sizes.{Sizes}

@@ -1,6 +1,6 @@
 -- What `demo` comes to, whatever files there are.
 use Rattle.std.specs.Prelude.{◌≡◌, ℕ, List, Option}
-use Rattle.saber_io.specs.Outside.{appended}
+use Rattle.saber_plan.specs.Outputs.{appended}
 use Rattle.saber_plan.specs.Answers.{text}
 use Rattle.saber_words.specs.Demo.{AskedDemo}
 use Rattle.saber_demo.specs.Query.{demo_tree}

@@ -1,6 +1,7 @@
 -- What is done with a query's file: it is opened, read and given back.
 use Rattle.std.specs.Prelude.{◌≡◌, ◌<◌, ◌≤◌, ℕ, List, ◌++◌, length, Option, Some, IfSome, Result, Ok, Err}
-use Rattle.saber_io.specs.Outside.{FilesView, Closed, asking, closing, counted, content_in}
+use Rattle.saber_io.specs.Outside.{FilesView, Closed, asking, closing, content_in}
+use Rattle.saber_plan.specs.Outputs.{counted}
 use Rattle.saber_notes.specs.declared.outcome.InputFile.{InputFile}
 use Rattle.saber_notes.specs.declared.outcome.InputFile.TheVariants.{Query}
 use Rattle.saber_notes.specs.declared.outcome.Outcome.{Outcome}

@@ -1,6 +1,6 @@
 // A chain over sources that are open.
 ghost use Rattle.std.specs.Prelude.{◌≡◌, ◌≢◌, ℕ, List, length, false};
-ghost use Rattle.saber_io.specs.Outside.{Rose};
+ghost use Rattle.saber_plan.specs.Outputs.{Rose};
 ghost use Rattle.saber_plan.specs.Trees.{tree_of};
 ghost use Rattle.saber_plan.specs.Checked.{IsChecked};
 ghost use Rattle.saber_plan.specs.Sizes.{SizesFit};

@@ -1,6 +1,6 @@
 // The command `chain`: two queries over row files.
 ghost use Rattle.std.specs.Prelude.{◌≡◌, ◌≢◌, ℕ, List, length, false};
-ghost use Rattle.saber_io.specs.Outside.{Rose, appended};
+ghost use Rattle.saber_plan.specs.Outputs.{Rose, appended};
 ghost use Rattle.saber_plan.specs.Trees.{tree_of};
 ghost use Rattle.saber_plan.specs.Checked.{IsChecked};
 ghost use Rattle.saber_plan.specs.Sizes.{SizesFit};

@@ -1,6 +1,6 @@
 // Each command over its files.
 ghost use Rattle.std.specs.Prelude.{◌≡◌, ◌≢◌, ℕ, List, IfSome, length};
-ghost use Rattle.saber_io.specs.Outside.{Rose, appended};
+ghost use Rattle.saber_plan.specs.Outputs.{Rose, appended};
 ghost use Rattle.saber_words.specs.declared.commands.Command.{Command};
 ghost use Rattle.saber_words.specs.Commands.{asked, asked_run, AskedRun, run, IsSized};
 ghost use Rattle.saber_notes.specs.declared.outcome.Outcome.{Outcome};

@@ -1,6 +1,6 @@
 // The command `demo`: a run over generated rows, and the summary of its answer.
 ghost use Rattle.std.specs.Prelude.{◌≡◌, ◌≢◌, ◌≤◌, ◌^◌, ◌↔◌, false, IsTrue};
-ghost use Rattle.saber_io.specs.Outside.{Rose};
+ghost use Rattle.saber_plan.specs.Outputs.{Rose};
 ghost use Rattle.saber_plan.specs.Sizes.{SizesFit};
 ghost use Rattle.saber_words.specs.declared.commands.Command.{Command};
 ghost use Rattle.saber_words.specs.Commands.{asked, IsSized};

@@ -1,6 +1,6 @@
 // A text that goes out.
 ghost use Rattle.std.specs.Prelude.{◌≡◌, ◌≢◌, ℕ, List};
-ghost use Rattle.saber_io.specs.Outside.{counted, Rose, appended};
+ghost use Rattle.saber_plan.specs.Outputs.{counted, Rose, appended};
 ghost use Rattle.saber_notes.specs.declared.outcome.Outcome.{Outcome};
 ghost use Rattle.saber_cli.specs.Puts.{IsOfPut, PutsText};
 

@@ -1,6 +1,6 @@
 // The text of a command's query file.
 ghost use Rattle.std.specs.Prelude.{◌≡◌, IfOk, IfErr, IfSome};
-ghost use Rattle.saber_io.specs.Outside.{Rose};
+ghost use Rattle.saber_plan.specs.Outputs.{Rose};
 ghost use Rattle.saber_notes.specs.declared.outcome.InputFile.{InputFile};
 ghost use Rattle.saber_cli.specs.Outcomes.{IsClean, IsFileFault};
 ghost use Rattle.saber_cli.specs.Texts.{BeginsFile};

@@ -1,6 +1,6 @@
 // The plans of a chain's two queries.
 ghost use Rattle.std.specs.Prelude.{◌≡◌, ◌≢◌, ℕ, List, IfOk, IfErr, IfSome, None, length, true, false};
-ghost use Rattle.saber_io.specs.Outside.{Rose};
+ghost use Rattle.saber_plan.specs.Outputs.{Rose};
 ghost use Rattle.saber_plan.specs.Trees.{tree_of};
 ghost use Rattle.saber_plan.specs.Checked.{IsChecked};
 ghost use Rattle.saber_plan.specs.Windows.{has_windows};

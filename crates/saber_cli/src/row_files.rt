@@ -1,6 +1,7 @@
 // The row files of a run: one, or two.
 ghost use Rattle.std.specs.Prelude.{◌≡◌, ◌≤◌, [], length, IfOk, IfErr, IfSome, OnOk};
-ghost use Rattle.saber_io.specs.Outside.{Rose, Opens, asking};
+ghost use Rattle.saber_io.specs.Outside.{Opens, asking};
+ghost use Rattle.saber_plan.specs.Outputs.{Rose};
 ghost use Rattle.saber_engine.specs.Sources.{each_input};
 ghost use Rattle.saber_words.specs.Commands.{asked_run};
 ghost use Rattle.saber_notes.specs.declared.outcome.Outcome.{Outcome};

@@ -1,6 +1,6 @@
 // The command `check`: a query's own text.
 ghost use Rattle.std.specs.Prelude.{◌≡◌, ◌≢◌, ℕ, List, [], ◌∷◌, ◌++◌, IfOk, IfErr, OnOk};
-ghost use Rattle.saber_io.specs.Outside.{Rose, appended};
+ghost use Rattle.saber_plan.specs.Outputs.{Rose, appended};
 ghost use Rattle.saber_query.specs.Parsed.{IsParsed};
 ghost use Rattle.saber_query.specs.Trees.{query_of};
 ghost use Rattle.saber_query.specs.Words.{words};

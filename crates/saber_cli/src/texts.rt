@@ -1,6 +1,7 @@
 // The text of a query file, from its source.
 ghost use Rattle.std.specs.Prelude.{◌≡◌, ◌≤◌, ◌<◌, ◌+◌, ◌-◌, [], IfOk, IfErr, IfSome, OnOk, Ok, take, length};
-ghost use Rattle.saber_io.specs.Outside.{Rose, given};
+ghost use Rattle.saber_io.specs.Outside.{given};
+ghost use Rattle.saber_plan.specs.Outputs.{Rose};
 ghost use Rattle.saber_notes.specs.declared.outcome.InputFile.{InputFile};
 ghost use Rattle.saber_notes.specs.declared.outcome.Outcome.{Outcome};
 ghost use Rattle.saber_cli.specs.Texts.{read_limit, TakesFew};

@@ -1,6 +1,6 @@
 // The top call.
 ghost use Rattle.std.specs.Prelude.{◌≡◌, ◌≢◌, ◌≤◌, ℕ, List, None, Some, map};
-ghost use Rattle.saber_io.specs.Outside.{Rose, appended, AppendsPrefix};
+ghost use Rattle.saber_plan.specs.Outputs.{Rose, appended, AppendsPrefix};
 ghost use Rattle.saber_words.specs.Commands.{chain, command_of};
 ghost use Rattle.saber_words.specs.Chain.{AskedChain};
 ghost use Rattle.saber_notes.specs.Notes.{status_of, note_of};

@@ -1,6 +1,6 @@
 // The command that the words are, over its files.
 ghost use Rattle.std.specs.Prelude.{◌≡◌, ◌≢◌, ℕ, List, None, Some, map};
-ghost use Rattle.saber_io.specs.Outside.{Rose, appended};
+ghost use Rattle.saber_plan.specs.Outputs.{Rose, appended};
 ghost use Rattle.saber_words.specs.Commands.{chain, command_of};
 ghost use Rattle.saber_words.specs.Chain.{AskedChain};
 ghost use Rattle.saber_notes.specs.declared.outcome.Outcome.{Outcome};

@@ -15,7 +15,7 @@ use Rattle.saber_plan.specs.Needs.{free, task_rows}
 use Rattle.saber_fragment.specs.declared.blocks.Block.{Block}
 use Rattle.saber_fragment.specs.Drafts.{EndWith}
 use Rattle.saber_assembly.specs.declared.work.RunData.{RunData}
-use Rattle.saber_assembly.specs.Stages.{Tasks}
+use Rattle.saber_plan.specs.Stages.{Tasks}
 use Rattle.saber_assembly.specs.Works.{input_of, with_block}
 use Rattle.saber_dispatch.specs.Cutting.{Adds, IsNextBlock}
 use Rattle.saber_dispatch.specs.Keeping.{IsPlaced}

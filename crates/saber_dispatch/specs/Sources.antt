@@ -1,6 +1,6 @@
 -- The inputs of a query: sources of row files.
 use Rattle.std.specs.Prelude.{◌≤◌, ℕ, List, [], ◌∷◌, Option}
-use Rattle.saber_io.specs.Outside.{Rose}
+use Rattle.saber_plan.specs.Outputs.{Rose}
 use Rattle.saber_plan.specs.declared.rows.Side.{Side}
 use Rattle.saber_plan.specs.declared.rows.Side.TheVariants.{Left, Right}
 use Rattle.saber_dispatch.specs.declared.inputs.Inputs.{Inputs}

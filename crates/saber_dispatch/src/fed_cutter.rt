@@ -53,7 +53,7 @@ fn step_of(cut: Cut) -> Step
 impl FedCutter {
     ghost use Rattle.std.specs.Prelude.{◌≡◌, ◌≢◌, ◌≤◌, IfOk, OnErr, IfSome, Some, None, length};
     ghost use Rattle.saber_io.specs.declared.feeds.EndMark.TheVariants as marks;
-    ghost use Rattle.saber_io.specs.Outside.{Rose};
+    ghost use Rattle.saber_plan.specs.Outputs.{Rose};
     ghost use Rattle.saber_plan.specs.declared.rows.Side.{Side};
     ghost use Rattle.saber_plan.specs.declared.sizes.Sizes.{Sizes};
     ghost use Rattle.saber_plan.specs.Trees.{Tree, tree_of};

@@ -1,6 +1,6 @@
 // The rows of one block of a feed.
 ghost use Rattle.std.specs.Prelude.{◌≡◌, ◌≢◌, ◌≤◌, [], ◌∷◌, ◌++◌, length, OnOk};
-ghost use Rattle.saber_io.specs.Outside.{Rose};
+ghost use Rattle.saber_plan.specs.Outputs.{Rose};
 ghost use Rattle.saber_plan.specs.declared.rows.Side.{Side};
 ghost use Rattle.saber_dispatch.specs.declared.ends.End.{End};
 ghost use Rattle.saber_dispatch.specs.declared.fed_fill.Progress.{Progress};

@@ -1,6 +1,6 @@
 // The rows of a feed.
 ghost use Rattle.std.specs.Prelude.{◌≡◌, ◌≢◌, ◌≤◌};
-ghost use Rattle.saber_io.specs.Outside.{Rose};
+ghost use Rattle.saber_plan.specs.Outputs.{Rose};
 ghost use Rattle.saber_plan.specs.declared.rows.Side.{Side};
 ghost use Rattle.saber_rows.specs.Reader.{reader_of};
 ghost use Rattle.saber_dispatch.specs.declared.ends.End.{End};

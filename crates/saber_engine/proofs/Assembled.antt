@@ -2,7 +2,7 @@
 use Rattle.std.proofs.Common.{◌≡◌, ℕ, Bool, true, false, ◌+◌, ◌≤◌, List, ◌++◌, refl, sym, ◌∙◌, ap, arith}
 use Rattle.std.proofs.Math.Path.{transport}
 use Rattle.std.specs.Prelude.{Option}
-use Rattle.saber_io.specs.Outside.{appended}
+use Rattle.saber_plan.specs.Outputs.{appended}
 use Rattle.saber_plan.specs.Inputs.{Input}
 use Rattle.saber_plan.specs.Trees.{Tree}
 use Rattle.saber_plan.specs.Answers.{text}
@@ -10,10 +10,11 @@ use Rattle.saber_plan.specs.Tasks.{Kept, upto, kept_behind}
 use Rattle.saber_laws.specs.Cuts.{FirstOfFirst}
 use Rattle.saber_ring.specs.Shows.{extra}
 use Rattle.saber_assembly.specs.declared.stage.Stage.{Stage}
-use Rattle.saber_assembly.specs.declared.stage.State.{State}
-use Rattle.saber_assembly.specs.declared.stage.State.TheVariants.{Running, SinkFailed, NoMemory}
+use Rattle.saber_plan.specs.declared.stages.StageState.{StageState}
+use Rattle.saber_plan.specs.declared.stages.StageState.TheVariants.{Running, SinkFailed, NoMemory}
 use Rattle.saber_assembly.specs.declared.work.RunData.{RunData}
-use Rattle.saber_assembly.specs.Stages.{StageView, seen, Start, After}
+use Rattle.saber_assembly.specs.Stages.{seen}
+use Rattle.saber_plan.specs.Stages.{StageView, Start, After}
 use Rattle.saber_assembly.specs.Works.{IsTold, input_of, start_of, first_tasks, IsStageOf}
 use Rattle.saber_crew.specs.declared.dispatch.Dispatched.{Dispatched}
 use Rattle.saber_crew.specs.declared.dispatch.Over.TheVariants.{AllGiven}
@@ -21,7 +22,7 @@ use Rattle.saber_crew.specs.Runs.{RunsTo}
 use Rattle.saber_engine.specs.Supplying.{first_told}
 
 -- a stage by the input of the first tasks is one by all of it
-after_all : FirstOfFirst → (q : Tree) (n : ℕ) (r : Input) (start : Start) (j : ℕ) (s : StageView) (state : State) → s.k ≤ j → (state ≡ SinkFailed → s.k + 1 ≤ j) → After q n (upto n r j) start s state → After q n r start s state
+after_all : FirstOfFirst → (q : Tree) (n : ℕ) (r : Input) (start : Start) (j : ℕ) (s : StageView) (state : StageState) → s.k ≤ j → (state ≡ SinkFailed → s.k + 1 ≤ j) → After q n (upto n r j) start s state → After q n r start s state
 after_all first q n r start j s Running le next a =
     let same = first n r j s.k le in (a.0 ∙ ap (λ z. appended start.written (text q z)) same, a.1 ∙ ap (kept_behind q) same, a.2)
 after_all first q n r start j s SinkFailed le next a =

@@ -1,7 +1,7 @@
 -- What comes of a run, whatever gave its tasks.
 use Rattle.std.proofs.Common.{◌≡◌, ◌≢◌, ℕ, ◌+◌, ◌≤◌, List, [], ◌++◌, refl, sym, ◌∙◌, ap, subst, arith}
 use Rattle.std.specs.Prelude.{Option, Some, None}
-use Rattle.saber_io.specs.Outside.{Rose, appended}
+use Rattle.saber_plan.specs.Outputs.{Rose, appended}
 use Rattle.saber_plan.specs.declared.rows.Side.{Side}
 use Rattle.saber_plan.specs.declared.sizes.Sizes.{Sizes}
 use Rattle.saber_plan.specs.Inputs.{Input}
@@ -13,10 +13,11 @@ use Rattle.saber_plan.specs.Windows.{Fits}
 use Rattle.saber_laws.specs.Cuts.{FirstOfFirst}
 use Rattle.saber_laws.specs.Pieces.{NoRowsGiveNothing, NoTasksNoRows}
 use Rattle.saber_assembly.specs.declared.stage.Stage.{Stage}
-use Rattle.saber_assembly.specs.declared.stage.State.{State}
-use Rattle.saber_assembly.specs.declared.stage.State.TheVariants as states
+use Rattle.saber_plan.specs.declared.stages.StageState.{StageState}
+use Rattle.saber_plan.specs.declared.stages.StageState.TheVariants as states
 use Rattle.saber_assembly.specs.declared.work.RunData.{RunData}
-use Rattle.saber_assembly.specs.Stages.{seen, Start, After}
+use Rattle.saber_assembly.specs.Stages.{seen}
+use Rattle.saber_plan.specs.Stages.{Start, After}
 use Rattle.saber_plan.specs.Runs.{IsCut, Gives, Assembles, Reach, all_tasks, before_task, first_tasks as some_tasks, cut_off}
 use Rattle.saber_assembly.specs.Works.{IsTold, input_of as told_input, first_tasks, IsStageOf}
 use Rattle.saber_crew.specs.declared.dispatch.Dispatched.{Dispatched}
@@ -44,7 +45,7 @@ pub record GivenBy (s : Sizes) (c : Cutter) (end : Option End) (all : Input) (d 
 
 -- What a run comes to of which the blocks have this input: what went out, over rows of which they are the first tasks, and what the sink tells.
 -- Where they ended by a fault of reading, all of them are behind.
-pub record Came (q : Tree) (s : Sizes) (c : Cutter) (end : Option End) (all : Input) (state : State) (over : Over) (tasks : ℕ) (w written : Option (List ℕ)) (f faults : ℕ) : Type 0 where
+pub record Came (q : Tree) (s : Sizes) (c : Cutter) (end : Option End) (all : Input) (state : StageState) (over : Over) (tasks : ℕ) (w written : Option (List ℕ)) (f faults : ℕ) : Type 0 where
   pub out : List ℕ
   pub written_is : written ≡ appended w out
   pub gives : (rows : Read) → telling.AreTasks q s c all rows → Gives q s.task s.ring s.flush rows (end_of state over end) tasks out
@@ -78,7 +79,7 @@ module _ (first : FirstOfFirst) {O S K : Type 0} (plan : O → Tree) (contents :
   stands : After q s.task all start (seen contents wrote failed stage) stage.state
   stands = after first plan contents taken wrote failed op s.task w f IsGiven IsOver stage fed r
 
-  stands_so : (state : State) → stage.state ≡ state → After q s.task all start (seen contents wrote failed stage) state
+  stands_so : (state : StageState) → stage.state ≡ state → After q s.task all start (seen contents wrote failed stage) state
   stands_so state e = subst (After q s.task all start (seen contents wrote failed stage)) e stands
 
   whole_behind : stage.state ≡ states.Running → fed.over ≡ over_by.AllGiven → stage.k ≡ task_count s.task all
@@ -150,7 +151,7 @@ module _ (first : FirstOfFirst) {O S K : Type 0} (plan : O → Tree) (contents :
   abbrev Result_of : RunEnd → Type 0
   Result_of e = (out : List ℕ) × (wrote stage.sink ≡ appended w out) × ((rows : Read) → telling.AreTasks q s c all rows → Gives q s.task s.ring s.flush rows e stage.k out)
 
-  came : (state : State) → stage.state ≡ state → (over : Over) → fed.over ≡ over → (o : Option End) → end ≡ o → Result_of (end_of state over o)
+  came : (state : StageState) → stage.state ≡ state → (over : Over) → fed.over ≡ over → (o : Option End) → end ≡ o → Result_of (end_of state over o)
   came states.Running h over_by.AllGiven g None e = (so_far, (stands_so states.Running h).0, λ rows t. lacks rows t)
   came states.Running h over_by.AllGiven g (Some x) e = (so_far, (stands_so states.Running h).0, λ rows t. gave rows t (whole_behind h g) x (given.ended x e))
   came states.Running h over_by.Stopped g o e = (so_far, (stands_so states.Running h).0, λ rows t. lacks rows t)
@@ -158,12 +159,12 @@ module _ (first : FirstOfFirst) {O S K : Type 0} (plan : O → Tree) (contents :
   came states.SinkFailed h over g o e = let a = (stands_so states.SinkFailed h).0 in (a.out, a.written_is, λ rows t. fails rows t h a.out a.is_cut)
   came states.NoMemory h over g o e = (so_far, (stands_so states.NoMemory h).0, λ rows t. lacks rows t)
 
-  sink_good : (state : State) → stage.state ≡ state → end_of state fed.over end ≢ WriteFault → failed stage.sink ≡ f
+  sink_good : (state : StageState) → stage.state ≡ state → end_of state fed.over end ≢ WriteFault → failed stage.sink ≡ f
   sink_good states.Running h u = (stands_so states.Running h).2
   sink_good states.SinkFailed h u = absurd (u refl)
   sink_good states.NoMemory h u = (stands_so states.NoMemory h).1
 
-  sink_rises : (state : State) → stage.state ≡ state → f ≤ failed stage.sink
+  sink_rises : (state : StageState) → stage.state ≡ state → f ≤ failed stage.sink
   sink_rises states.Running h = let a = (stands_so states.Running h).2 in omega (arith, a)
   sink_rises states.SinkFailed h = (stands_so states.SinkFailed h).2
   sink_rises states.NoMemory h = let a = (stands_so states.NoMemory h).1 in omega (arith, a)

@@ -2,7 +2,7 @@
 use Rattle.std.proofs.Common.{◌≡◌, ◌≢◌, ℕ, ◌≤◌, Bool, true, false, List, [], ◌∷◌, refl, sym, ◌∙◌, subst, arith}
 use Rattle.std.specs.Prelude.{Option, Some, None, IsSome, if◌then◌else◌}
 use Rattle.std.specs.Int.{div_ceil}
-use Rattle.saber_io.specs.Outside.{Rose, appended, appended-none}
+use Rattle.saber_plan.specs.Outputs.{Rose, appended, appended-none}
 use Rattle.saber_io.specs.declared.feeds.EndMark.TheVariants as marks
 use Rattle.saber_plan.specs.Facts.Counts.{tasks_have_rows}
 use Rattle.saber_plan.specs.Sizes.{limits_of}
@@ -16,8 +16,8 @@ use Rattle.saber_plan.specs.Tasks.{Kept}
 use Rattle.saber_laws.specs.Cuts.{FirstOfFirst}
 use Rattle.saber_laws.specs.Pieces.{NoRowsGiveNothing, NoTasksNoRows}
 use Rattle.saber_assembly.specs.declared.stage.Stage.{Stage}
-use Rattle.saber_assembly.specs.declared.stage.State.{State}
-use Rattle.saber_assembly.specs.declared.stage.State.TheVariants as states
+use Rattle.saber_plan.specs.declared.stages.StageState.{StageState}
+use Rattle.saber_plan.specs.declared.stages.StageState.TheVariants as states
 use Rattle.saber_assembly.specs.Stages.{seen}
 use Rattle.saber_assembly.specs.Works.{IsTold, input_of as told_input, first_tasks, IsStageOf}
 use Rattle.saber_crew.specs.declared.dispatch.Dispatched.{Dispatched}
@@ -81,7 +81,7 @@ lack_not_all e = cc
 fault_not_all : WriteFault ≡ AllRead → ⊥
 fault_not_all e = cc
 
-by_all : (state : State) (over : Over) (end : Option End) → end_of state over end ≡ AllRead → end ≡ Some cut.AllRead
+by_all : (state : StageState) (over : Over) (end : Option End) → end_of state over end ≡ AllRead → end ≡ Some cut.AllRead
 by_all states.Running over_by.AllGiven end e = all_given end e
 by_all states.Running over_by.Stopped end e = absurd (lack_not_all e)
 by_all states.Running over_by.NoMemory end e = absurd (lack_not_all e)

@@ -2,8 +2,8 @@
 use Rattle.std.proofs.Common.{◌≡◌, ℕ, refl, ap, subst}
 use Rattle.std.specs.Prelude.{Option, Some, None}
 use Rattle.saber_plan.specs.declared.rows.Side.{Side}
-use Rattle.saber_assembly.specs.declared.stage.State.{State}
-use Rattle.saber_assembly.specs.declared.stage.State.TheVariants as states
+use Rattle.saber_plan.specs.declared.stages.StageState.{StageState}
+use Rattle.saber_plan.specs.declared.stages.StageState.TheVariants as states
 use Rattle.saber_crew.specs.declared.dispatch.Over.{Over}
 use Rattle.saber_crew.specs.declared.dispatch.Over.TheVariants as over_by
 use Rattle.saber_dispatch.specs.declared.ends.End.{End}
@@ -46,7 +46,7 @@ cut_not_before t e = cc
 
 -- ---- why an end is told
 
-pub record ByFault (state : State) (over : Over) (end : Option End) (side : Side) : Type 0 where
+pub record ByFault (state : StageState) (over : Over) (end : Option End) (side : Side) : Type 0 where
   pub runs : state ≡ states.Running
   pub given : over ≡ over_by.AllGiven
   pub ended : end ≡ Some (cut.ReadFault side)
@@ -59,7 +59,7 @@ fault_given (Some (cut.ReadFault s)) side e = let same : s ≡ side = cc in ap (
 fault_given (Some (cut.TooWide t n)) side e = absurd (let h = e in cc)
 fault_given (Some cut.NoMemory) side e = absurd (let h = e in cc)
 
-pub by_fault : (state : State) (over : Over) (end : Option End) (side : Side) → end_of state over end ≡ ReadFault side → ByFault state over end side
+pub by_fault : (state : StageState) (over : Over) (end : Option End) (side : Side) → end_of state over end ≡ ReadFault side → ByFault state over end side
 by_fault states.Running over_by.AllGiven end side e = record { runs = refl; given = refl; ended = fault_given end side e }
 by_fault states.Running over_by.Stopped end side e = absurd (let h = e in cc)
 by_fault states.Running over_by.NoMemory end side e = absurd (let h = e in cc)
@@ -77,7 +77,7 @@ given_not_write (Some cut.NoMemory) e = cc
 pub lack_not_write : NoMemory ≡ WriteFault → ⊥
 lack_not_write e = cc
 
-pub by_write : (state : State) (over : Over) (end : Option End) → end_of state over end ≡ WriteFault → state ≡ states.SinkFailed
+pub by_write : (state : StageState) (over : Over) (end : Option End) → end_of state over end ≡ WriteFault → state ≡ states.SinkFailed
 by_write states.Running over_by.AllGiven end e = absurd (given_not_write end e)
 by_write states.Running over_by.Stopped end e = absurd (lack_not_write e)
 by_write states.Running over_by.NoMemory end e = absurd (lack_not_write e)
@@ -85,7 +85,7 @@ by_write states.SinkFailed over end e = refl
 by_write states.NoMemory over end e = absurd (lack_not_write e)
 
 -- no side's fault ends a run with an answer of the rows and the ring alone
-pub clean_end : (state : State) (over : Over) (end : Option End) → IsClean (end_of state over end) → (side : Side) → end ≡ Some (cut.ReadFault side) → ⊥
+pub clean_end : (state : StageState) (over : Over) (end : Option End) → IsClean (end_of state over end) → (side : Side) → end ≡ Some (cut.ReadFault side) → ⊥
 clean_end states.Running over_by.AllGiven end h side e = subst (λ o. IsClean (given_end o)) e h
 clean_end states.Running over_by.Stopped end h side e = h
 clean_end states.Running over_by.NoMemory end h side e = h

@@ -1,7 +1,8 @@
 -- What a run gives, and of what it took.
 use Rattle.std.proofs.Common.{◌≡◌, ◌≢◌, ℕ, ◌≤◌, List, [], ◌∷◌, length, map, refl, ◌∙◌, ap, subst, arith}
 use Rattle.std.specs.Prelude.{Option, Some, None, IfSome, IsSome, option_map, option_and_then}
-use Rattle.saber_io.specs.Outside.{Rose, appended, given, appended-none}
+use Rattle.saber_io.specs.Outside.{given}
+use Rattle.saber_plan.specs.Outputs.{Rose, appended, appended-none}
 use Rattle.saber_plan.specs.Sizes.{FileLimits, limits_of}
 use Rattle.saber_plan.specs.declared.rows.Side.{Side}
 use Rattle.saber_plan.specs.declared.sizes.Sizes.{Sizes}

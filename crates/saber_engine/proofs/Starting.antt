@@ -12,9 +12,10 @@ use Rattle.saber_plan.specs.GivenRows.{RowsFit}
 use Rattle.saber_plan.specs.Tasks.{Kept}
 use Rattle.saber_laws.specs.Pieces.{NoTasksNoRows}
 use Rattle.saber_assembly.specs.declared.stage.Stage.{Stage}
-use Rattle.saber_assembly.specs.declared.stage.State.TheVariants.{Running}
+use Rattle.saber_plan.specs.declared.stages.StageState.TheVariants.{Running}
 use Rattle.saber_assembly.specs.declared.work.RunData.{RunData}
-use Rattle.saber_assembly.specs.Stages.{seen, Tasks, Keeps}
+use Rattle.saber_assembly.specs.Stages.{seen}
+use Rattle.saber_plan.specs.Stages.{Tasks, Keeps}
 use Rattle.saber_assembly.specs.Works.{IsTold, IsStageOf}
 use Rattle.saber_workers.specs.Queries.{Suits}
 use Rattle.saber_crew.specs.Runs.{BeginsRun}

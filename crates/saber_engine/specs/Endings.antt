@@ -1,7 +1,7 @@
 -- How a run ends, by its stage and its blocks.
 use Rattle.std.specs.Prelude.{◌≡◌, Bool, true, false, Option, Some, None}
-use Rattle.saber_assembly.specs.declared.stage.State.{State}
-use Rattle.saber_assembly.specs.declared.stage.State.TheVariants as states
+use Rattle.saber_plan.specs.declared.stages.StageState.{StageState}
+use Rattle.saber_plan.specs.declared.stages.StageState.TheVariants as states
 use Rattle.saber_crew.specs.declared.dispatch.Over.{Over}
 use Rattle.saber_crew.specs.declared.dispatch.Over.TheVariants as over_by
 use Rattle.saber_dispatch.specs.declared.ends.End.{End}
@@ -25,13 +25,13 @@ filled_end over_by.Stopped end = NoMemory
 filled_end over_by.NoMemory end = NoMemory
 
 -- the stage's comes first
-abbrev pub end_of : State → Over → Option End → RunEnd
+abbrev pub end_of : StageState → Over → Option End → RunEnd
 end_of states.Running over end = filled_end over end
 end_of states.SinkFailed over end = WriteFault
 end_of states.NoMemory over end = NoMemory
 
 -- the stage was stopped, by a write that failed or for want of memory
-abbrev pub is_stopped : State → Bool
+abbrev pub is_stopped : StageState → Bool
 is_stopped states.Running = false
 is_stopped states.SinkFailed = true
 is_stopped states.NoMemory = true

@@ -1,6 +1,6 @@
 -- What was given of a feed's rows, block after block.
 use Rattle.std.specs.Prelude.{◌≡◌, ◌≢◌, ◌≤◌, ℕ, List, Option, Some, None}
-use Rattle.saber_io.specs.Outside.{Rose}
+use Rattle.saber_plan.specs.Outputs.{Rose}
 use Rattle.saber_io.specs.declared.feeds.EndMark.{EndMark}
 use Rattle.saber_plan.specs.declared.rows.Side.{Side}
 use Rattle.saber_plan.specs.declared.sizes.Sizes.{Sizes}

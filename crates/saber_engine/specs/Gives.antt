@@ -1,6 +1,6 @@
 -- What a run leaves of its inputs and its sink.
 use Rattle.std.specs.Prelude.{◌≡◌, ◌≤◌, ◌/◌, ℕ, length, List, Option, IfSome}
-use Rattle.saber_io.specs.Outside.{appended}
+use Rattle.saber_plan.specs.Outputs.{appended}
 use Rattle.saber_plan.specs.declared.rows.Side.{Side}
 use Rattle.saber_plan.specs.declared.sizes.Sizes.{Sizes}
 use Rattle.saber_plan.specs.Sizes.{FileLimits, limits_of}

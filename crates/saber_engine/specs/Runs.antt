@@ -1,6 +1,6 @@
 -- What the run of a plan comes to, over its inputs and over a feed: the clauses of the engine's calls in one.
 use Rattle.std.specs.Prelude.{◌≡◌, ◌≢◌, ◌≤◌, ℕ, List, Option, Some}
-use Rattle.saber_io.specs.Outside.{Rose}
+use Rattle.saber_plan.specs.Outputs.{Rose}
 use Rattle.saber_io.specs.declared.feeds.EndMark.{EndMark}
 use Rattle.saber_io.specs.declared.feeds.EndMark.TheVariants as marks
 use Rattle.saber_plan.specs.declared.rows.Side.{Side}

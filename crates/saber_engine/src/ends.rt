@@ -2,11 +2,11 @@
 ghost use Rattle.std.specs.Prelude.{◌≡◌};
 ghost use Rattle.saber_engine.specs.Endings.{given_end, end_of, is_stopped, MayStop};
 
-use saber_assembly::{Stage, State};
+use saber_assembly::Stage;
 use saber_crew::Over;
 use saber_dispatch::End;
 use saber_io::Sink;
-use saber_plan::RunEnd;
+use saber_plan::{RunEnd, StageState};
 
 /// A run that ended, with its sink and the number of tasks that are assembled.
 #[derive(Drop)]
@@ -35,13 +35,13 @@ fn given_end(end: Option<End>) -> RunEnd
 }
 
 // How a run ends: as its stage stopped, else as its blocks ended.
-fn end_of(state: State, over: Over, end: Option<End>) -> RunEnd
+fn end_of(state: StageState, over: Over, end: Option<End>) -> RunEnd
     ensures { result ≡ end_of state over end }
 {
     match state {
-        State::SinkFailed => RunEnd::WriteFault,
-        State::NoMemory => RunEnd::NoMemory,
-        State::Running => match over {
+        StageState::SinkFailed => RunEnd::WriteFault,
+        StageState::NoMemory => RunEnd::NoMemory,
+        StageState::Running => match over {
             Over::AllGiven => given_end(end),
             Over::Stopped => RunEnd::NoMemory,
             Over::NoMemory => RunEnd::NoMemory,
@@ -50,13 +50,13 @@ fn end_of(state: State, over: Over, end: Option<End>) -> RunEnd
 }
 
 // Whether a stage in this state was stopped.
-fn is_stopped(state: State) -> bool
+fn is_stopped(state: StageState) -> bool
     ensures { result ≡ is_stopped state }
 {
     match state {
-        State::Running => false,
-        State::SinkFailed => true,
-        State::NoMemory => true,
+        StageState::Running => false,
+        StageState::SinkFailed => true,
+        StageState::NoMemory => true,
     }
 }
 

@@ -1,6 +1,6 @@
 // The engine: a checked plan over its inputs.
 ghost use Rattle.std.specs.Prelude.{◌≡◌, ◌≢◌, ◌≤◌, ℕ, List, length};
-ghost use Rattle.saber_io.specs.Outside.{Rose};
+ghost use Rattle.saber_plan.specs.Outputs.{Rose};
 ghost use Rattle.saber_plan.specs.declared.rows.Side.{Side};
 ghost use Rattle.saber_plan.specs.Trees.{tree_of};
 ghost use Rattle.saber_plan.specs.Checked.{IsChecked};

@@ -2,7 +2,8 @@
 use Rattle.std.specs.Prelude.{◌≡◌, ℕ, ◌-◌, min, List, [], ◌∷◌, ◌++◌, length, map, take, Option, Some, IsSomeAnd, option_map, unwrap_or, slice_get, ◌==◌}
 use Rattle.std.specs.List.{find}
 use Rattle.std.specs.Str.{bytes_eq}
-use Rattle.saber_io.specs.Outside.{counted, Closed, FilesView}
+use Rattle.saber_io.specs.Outside.{Closed, FilesView}
+use Rattle.saber_plan.specs.Outputs.{counted}
 
 -- a source: its bytes left, the most that each read gives by its number, the numbers of the reads that fail, how many reads were made, how many failed
 pub record SourceState : Type 0 where

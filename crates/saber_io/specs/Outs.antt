@@ -2,7 +2,7 @@
 use Rattle.std.specs.Prelude.{◌≡◌, ℕ, List, [], ◌∷◌, ◌++◌, map, filter, Option, option_map, IfSome, string_bytes}
 use Rattle.std.specs.Str.{bytes_eq}
 use Rattle.saber_io.specs.declared.mem_outs.MemFail.{MemFail}
-use Rattle.saber_io.specs.Outside.{counted}
+use Rattle.saber_plan.specs.Outputs.{counted}
 use Rattle.saber_io.specs.Memory.{SinkState}
 
 -- one name more was asked for

@@ -1,16 +1,8 @@
 -- What calls on sources, sinks and files do (this project's rule).
-use Rattle.std.specs.Prelude.{◌≡◌, ◌≤◌, ℕ, ◌+◌, ◌-◌, ◌^◌, min, List, [], ◌∷◌, ◌++◌, length, take, Option, Some, None, option_map, IfSome, if◌then◌else◌, ◌==◌}
-use Rattle.std.proofs.Common.{refl, sym, ap, append-nil}
+use Rattle.std.specs.Prelude.{◌≡◌, ℕ, List, [], ◌∷◌, ◌++◌, Option, Some, option_map, IfSome, if◌then◌else◌, ◌==◌}
 use Rattle.std.specs.List.{find}
 use Rattle.std.specs.Str.{bytes_eq}
-
--- a count after one more; at the last value of its type it stands still
-abbrev pub counted : ℕ → ℕ
-counted count = min (count + 1) (2 ^ 64 - 1)
-
--- a count of faults rose, or stands at its last value
-abbrev pub Rose : ℕ → ℕ → Type 0
-Rose old new = counted old ≤ new
+use Rattle.saber_plan.specs.Outputs.{counted}
 
 -- what was left: these bytes, and then what is left now
 abbrev pub given : List ℕ → Option (List ℕ) → Option (List ℕ)
@@ -19,19 +11,6 @@ given bytes rest = option_map (λ r. bytes ++ r) rest
 -- nothing was left, where it tells
 abbrev pub EndsEmpty : Option (List ℕ) → Type 0
 EndsEmpty left = IfSome left (λ bytes. bytes ≡ [])
-
--- what was written, and then the piece
-abbrev pub appended : Option (List ℕ) → List ℕ → Option (List ℕ)
-appended written piece = option_map (λ w. w ++ piece) written
-
--- no bytes change nothing (any proof may cite it)
-pub appended-none : (o : Option (List ℕ)) → o ≡ appended o []
-appended-none None = refl
-appended-none (Some w) = ap Some (sym (append-nil w))
-
--- a prefix of the piece has gone out
-abbrev pub AppendsPrefix : Option (List ℕ) → Option (List ℕ) → List ℕ → Type 0
-AppendsPrefix old new piece = (n : ℕ) × (n ≤ length piece) × (new ≡ appended old (take n piece))
 
 -- a source that was given back: what it had left, and its count of faults
 abbrev pub Closed : Type 0

@@ -1,7 +1,7 @@
 // Bytes that come while others are still at work on them.
 ghost use Rattle.std.specs.Prelude.{◌≡◌, ◌≤◌, ◌<◌, ℕ, List, Option, IfOk, OnOk, OnErr, length};
 ghost use Rattle.saber_io.specs.declared.feeds.EndMark.{EndMark};
-ghost use Rattle.saber_io.specs.Outside.{Rose};
+ghost use Rattle.saber_plan.specs.Outputs.{Rose};
 ghost use Rattle.saber_io.specs.Feeds.{Feeds, IsCut, Refills};
 
 use crate::Failed;

@@ -1,7 +1,8 @@
 // Files in memory. A source that is given back needs no memory, since its place among those given back was made when it was opened.
 ghost use Rattle.std.specs.Prelude.{◌≡◌, ◌≤◌, ◌+◌, ◌++◌, ◌∷◌, ◌<◌, ◌↔◌, ◌⊎◌, [], All, Some, None, Contains, IsErr, IfOk, IfSome, IfNone, OnOk, OnErr, OnSome, drop, take, length, find, map, option_copied, option_map, string_bytes};
 ghost use Rattle.std.specs.Str.{bytes_eq};
-ghost use Rattle.saber_io.specs.Outside.{counted, raised, OpensIn};
+ghost use Rattle.saber_io.specs.Outside.{raised, OpensIn};
+ghost use Rattle.saber_plan.specs.Outputs.{counted};
 ghost use Rattle.saber_io.specs.Memory.{read_size, file_named, opened, failed_open};
 
 use crate::memory::is_listed;

@@ -1,7 +1,8 @@
 // The real outside. Nothing is told of its bytes; each fault that it reports is counted.
 ghost use Rattle.std.specs.Prelude.{◌≡◌, ◌≢◌, ◌<◌, ◌≤◌, IfOk, OnOk, OnErr, length};
 ghost use Rattle.std.specs.Io.KnownBytes.{Appends};
-ghost use Rattle.saber_io.specs.Outside.{counted, raised};
+ghost use Rattle.saber_io.specs.Outside.{raised};
+ghost use Rattle.saber_plan.specs.Outputs.{counted};
 
 use crate::{CreateFault, Failed, Files, OpenFault, Outs, Sink, Source, WriteFault};
 use std::alloc::Global;

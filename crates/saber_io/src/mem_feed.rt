@@ -44,7 +44,7 @@ impl MemFeed {
 
 impl Feed for MemFeed {
     ghost use Rattle.std.specs.Prelude.{◌≡◌, ◌≤◌, ◌<◌, IfOk, OnOk, OnErr, length};
-    ghost use Rattle.saber_io.specs.Outside.{Rose};
+    ghost use Rattle.saber_plan.specs.Outputs.{Rose};
     ghost use Rattle.saber_io.specs.Feeds.{Feeds, IsCut, Refills};
     ghost use Rattle.saber_io.specs.MemFeeds.{taken_of, waiting_of, mark_of};
 

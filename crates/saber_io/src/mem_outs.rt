@@ -1,7 +1,7 @@
 // Files that are created in memory.
 ghost use Rattle.std.specs.Prelude.{◌≡◌, ◌≢◌, ◌≤◌, [], Contains, IfOk, OnOk};
 ghost use Rattle.saber_io.specs.declared.outs.CreateFault.{CreateFault};
-ghost use Rattle.saber_io.specs.Outside.{counted};
+ghost use Rattle.saber_plan.specs.Outputs.{counted};
 ghost use Rattle.saber_io.specs.Outs.{fails_of, created, one_asked, one_failed};
 
 use crate::memory::is_listed;
@@ -57,6 +57,8 @@ impl MemFail {
 }
 
 impl MemOuts {
+    ghost use Rattle.std.specs.Prelude.{map, string_bytes};
+
     /// Files of which none was created yet, and the writes to them that fail: of two with one name and number the first counts.
     pub fn new(alloc: Global, fails: Vec<u64>, writes: Vec<MemFail>) -> MemOuts
         ensures { result ≡ record {
@@ -74,6 +76,13 @@ impl MemOuts {
             faults: 0,
             asked: Vec::new(alloc),
         }
+    }
+
+    /// The names that were asked for, in order.
+    pub fn asked(&self) -> &[String]
+        ensures { map string_bytes result.now ≡ self.now.asked }
+    {
+        &self.asked
     }
 }
 

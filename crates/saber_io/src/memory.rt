@@ -1,6 +1,6 @@
 // Sources and sinks in memory, which fail where they are told to.
 ghost use Rattle.std.specs.Prelude.{◌≡◌, ◌≤◌, ◌+◌, ◌++◌, ◌<◌, ◌↔◌, [], All, Contains, IsTrue, IsErr, IsNone, IsSomeAnd, IfOk, OnOk, OnErr, drop, take, length};
-ghost use Rattle.saber_io.specs.Outside.{counted};
+ghost use Rattle.saber_plan.specs.Outputs.{counted};
 ghost use Rattle.saber_io.specs.Memory.{within_cut, read_size, let_out, CutsShort};
 
 use crate::{Failed, Sink, Source, WriteFault};

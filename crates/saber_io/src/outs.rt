@@ -1,7 +1,7 @@
 // Files that are created to be written to.
 ghost use Rattle.std.specs.Prelude.{◌≡◌, ◌≢◌, ◌≤◌, ℕ, List, Option, IfOk, Err};
 ghost use Rattle.saber_io.specs.declared.outs.CreateFault.{CreateFault};
-ghost use Rattle.saber_io.specs.Outside.{counted, Rose};
+ghost use Rattle.saber_plan.specs.Outputs.{counted, Rose};
 ghost use Rattle.saber_io.specs.Outs.{naming, HoldsNothing};
 
 use crate::Sink;
@@ -32,8 +32,8 @@ impl<T: Drop> From<AllocFailed<T>> for CreateFault {
 
 /// Files that are created by their names, to be written to.
 pub trait Outs {
-    /// A file that was created.
-    type Out: Sink;
+    /// A file that was created; another thread may write to it.
+    type Out: Sink + Send + Drop;
 
     /// The names that were asked for, in order, where it tells.
     ghost asked: { Self → Option (List (List ℕ)) };

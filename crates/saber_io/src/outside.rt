@@ -2,7 +2,8 @@
 ghost use Rattle.std.specs.Prelude.{◌≡◌, ◌≢◌, ◌<◌, ◌≤◌, ℕ, List, Option, length, take, IfOk, OnOk, OnErr, Ok, Err};
 ghost use Rattle.saber_io.specs.declared.outside.OpenFault.{OpenFault};
 ghost use Rattle.saber_io.specs.declared.outside.WriteFault.{WriteFault};
-ghost use Rattle.saber_io.specs.Outside.{counted, Rose, given, EndsEmpty, appended, AppendsPrefix, FilesView, asking, closing, raised, Opens};
+ghost use Rattle.saber_io.specs.Outside.{given, EndsEmpty, FilesView, asking, closing, raised, Opens};
+ghost use Rattle.saber_plan.specs.Outputs.{counted, Rose, appended, AppendsPrefix};
 
 use std::alloc::{AllocError, AllocFailed, Global};
 

@@ -3,7 +3,7 @@ ghost use Rattle.std.specs.Prelude.{◌≡◌, ◌≢◌, ◌≤◌, ◌+◌, �
 ghost use Rattle.saber_notes.specs.Notes.{query_text, line_text, side_text, file_text, note_text, note_of};
 ghost use Rattle.saber_notes.specs.Lines.{bytes_of};
 ghost use Rattle.saber_notes.specs.declared.note.Noted.{Noted};
-ghost use Rattle.saber_io.specs.Outside.{Rose, appended, AppendsPrefix};
+ghost use Rattle.saber_plan.specs.Outputs.{Rose, appended, AppendsPrefix};
 
 use crate::line::Line;
 use crate::outcome::{InputFile, Outcome};

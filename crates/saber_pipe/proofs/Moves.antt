@@ -1,7 +1,7 @@
 -- What the calls on the ends of a pipe come to.
 use Rattle.std.proofs.Common.{◌≡◌, ◌≢◌, ◌<◌, ℕ, ◌+◌, ◌-◌, ◌^◌, min, ◌⊎◌, inl, inr, ⊎_elim, List, [], ◌∷◌, ◌++◌, drop, length, sym, ap, ◌∙◌, arith, length-drop, length-append}
 use Rattle.std.proofs.lemmas.Grind.{flat_map-append}
-use Rattle.saber_io.specs.Outside.{counted}
+use Rattle.saber_plan.specs.Outputs.{counted}
 use Rattle.saber_pipe.specs.declared.items.Item.{Item}
 use Rattle.saber_pipe.specs.Order.{bytes_in, bytes_of}
 

@@ -133,7 +133,7 @@ impl<'a, R: Wait, P: PipeName> PipeFeed<'a, R, P> {
 
 impl<'a, R: Wait, P: PipeName> Feed for PipeFeed<'a, R, P> {
     ghost use Rattle.std.specs.Prelude.{◌≡◌, ◌<◌, ◌≤◌, length, IfOk, OnOk, OnErr};
-    ghost use Rattle.saber_io.specs.Outside.{Rose};
+    ghost use Rattle.saber_plan.specs.Outputs.{Rose};
     ghost use Rattle.saber_io.specs.Feeds.{Feeds, IsCut, Refills};
     ghost use Rattle.saber_pipe.specs.PipeFeeds.{got, known, taken, waiting, mark, faults_of, TakesOne};
 

@@ -85,7 +85,7 @@ impl<'a, R: Wait, P: PipeName> Relay<'a, R, P> {
 
 impl<'a, R: Wait, P: PipeName> Feed for Relay<'a, R, P> {
     ghost use Rattle.std.specs.Prelude.{◌≡◌, ◌<◌, ◌≤◌, length, IfOk, OnOk, OnErr};
-    ghost use Rattle.saber_io.specs.Outside.{Rose};
+    ghost use Rattle.saber_plan.specs.Outputs.{Rose};
     ghost use Rattle.saber_io.specs.Feeds.{Feeds, IsCut, Refills};
     ghost use Rattle.saber_pipe.specs.Backlogs.{Pours};
     ghost use Rattle.saber_pipe.specs.PipeFeeds.{got, TakesOne};

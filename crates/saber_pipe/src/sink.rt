@@ -78,7 +78,7 @@ impl<'a, R: Wait, P: PipeName> PipeSink<'a, R, P> {
 impl<'a, R: Wait, P: PipeName> Sink for PipeSink<'a, R, P> {
     ghost use Rattle.std.specs.Prelude.{◌≡◌, ◌≢◌, ◌≤◌, ◌++◌, Some, OnOk, OnErr, Err};
     ghost use Rattle.saber_io.specs.declared.outside.WriteFault.{WriteFault};
-    ghost use Rattle.saber_io.specs.Outside.{counted, Rose, appended, AppendsPrefix};
+    ghost use Rattle.saber_plan.specs.Outputs.{counted, Rose, appended, AppendsPrefix};
     ghost use Rattle.saber_pipe.specs.Sinks.{sent, kept, written, faults_of, writes_of};
 
     ghost written = { λ s. Some (written s) };

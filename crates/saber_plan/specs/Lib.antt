@@ -17,6 +17,8 @@ pub mod Sizes
 pub mod GivenRows
 pub mod Files
 pub mod Runs
+pub mod Outputs
+pub mod Stages
 pub mod Texts
 pub mod Facts
 pub mod Codes

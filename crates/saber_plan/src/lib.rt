@@ -4,10 +4,11 @@
 //!
 //! - Parts: `rows` (a row, and why a line is none), `ends` (the end of a run), `windows` (measure,
 //!   window, mark, kind), `expressions`, `predicates`, `plans` (a checked query), `sizes` (of a
-//!   run), `letting` (plans are let go by calls).
+//!   run), `stages` (how a result stage stands), `letting` (plans are let go by calls).
 //! - Definitions, the files of `specs/` in this order: `Rows`, `Inputs` (lines of files, their
 //!   rows, the merge of two), `Files`, `Windows`, `Values`, `Answers`, `Parts`, `Shares`, `Tasks`,
-//!   `Needs`, `Runs` (what goes out of a run, by its end). `Checked` is what every checked plan
+//!   `Needs`, `Runs` (what goes out of a run, by its end), `Outputs` and `Stages` (what a stage has
+//!   of a run). `Checked` is what every checked plan
 //!   keeps, `GivenRows` the rows that it can be given. The lemmas of `specs/Facts/` serve proofs;
 //!   no contract rests on them.
 //! - Calls: `Plan::new` takes a shape, streams, items, keys and a predicate; `overlap` a size and a
@@ -30,6 +31,7 @@ mod plans;
 mod predicates;
 mod rows;
 mod sizes;
+mod stages;
 mod windows;
 
 pub use ends::RunEnd;
@@ -38,6 +40,7 @@ pub use plans::{Item, Plan, Shape, Word};
 pub use predicates::{Cmp, Conj, Pred, Unit};
 pub use rows::{Row, RowCause, Side, Values};
 pub use sizes::Sizes;
+pub use stages::StageState;
 pub use windows::{Kind, Mark, Measure, Stream, Window, overlap};
 
 /// Want of memory, the one refusal that no input causes.

@@ -5,7 +5,7 @@ use Rattle.saber_plan.specs.declared.rows.Side.{Side}
 use Rattle.saber_plan.specs.declared.rows.Side.TheVariants.{Left, Right}
 use Rattle.saber_plan.specs.declared.windows.Mark.{Mark}
 use Rattle.saber_plan.specs.Rows.{Read, End, all_read, cut, bad, before, stamp, RowFits}
-use Rattle.saber_io.specs.Outside.{Rose}
+use Rattle.saber_plan.specs.Outputs.{Rose}
 use Rattle.saber_plan.specs.Windows.{no_rows, by_side, in_order, step_mark}
 use Rattle.saber_plan.specs.Inputs.{merged}
 use Rattle.saber_rows.specs.declared.ends.RowEnd.{RowEnd}

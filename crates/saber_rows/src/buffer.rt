@@ -23,7 +23,8 @@ pub(crate) const PIECE: usize = 4096;
 
 impl Buffer {
     ghost use Rattle.std.specs.Prelude.{◌≡◌, ◌≤◌, ◌+◌, [], length, drop, IfOk, OnOk, OnErr, Ok};
-    ghost use Rattle.saber_io.specs.Outside.{Rose, EndsEmpty};
+    ghost use Rattle.saber_io.specs.Outside.{EndsEmpty};
+    ghost use Rattle.saber_plan.specs.Outputs.{Rose};
     ghost use Rattle.saber_rows.specs.Buffer.{bytes_of, Gains};
 
     /// A buffer with nothing in it.

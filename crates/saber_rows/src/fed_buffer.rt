@@ -7,7 +7,7 @@ use saber_io::{Failed, Fed, Feed};
 
 impl Buffer {
     ghost use Rattle.std.specs.Prelude.{◌≡◌, ◌≤◌, length, IfOk, OnOk, OnErr, Some};
-    ghost use Rattle.saber_io.specs.Outside.{Rose};
+    ghost use Rattle.saber_plan.specs.Outputs.{Rose};
     ghost use Rattle.saber_io.specs.Feeds.{IsCut};
     ghost use Rattle.saber_rows.specs.Buffer.{bytes_of, Gains};
     ghost use Rattle.saber_rows.specs.FedSizes.{Tells};

@@ -9,7 +9,7 @@ use saber_plan::Row;
 impl Lines {
     ghost use Rattle.std.specs.Prelude.{◌≡◌, ◌≢◌, ◌≤◌, ◌<◌, List, [], Option, IfOk, IfSome, IfNone, Some, None, Ok, Err, option_map, length, true, false, ℕ};
     ghost use Rattle.saber_io.specs.declared.feeds.EndMark.{EndMark};
-    ghost use Rattle.saber_io.specs.Outside.{Rose};
+    ghost use Rattle.saber_plan.specs.Outputs.{Rose};
     ghost use Rattle.saber_io.specs.Feeds.{IsCut};
     ghost use Rattle.saber_plan.specs.Rows.{all_read, falls, RowFits, due};
     ghost use Rattle.saber_rows.specs.Buffer.{bytes_of};

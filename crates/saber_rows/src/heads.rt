@@ -55,7 +55,7 @@ fn put_copy(row: &Row, out: &mut RowBuilder) -> bool
 
 impl Head {
     ghost use Rattle.std.specs.Prelude.{◌≡◌, ◌≢◌, ◌≤◌, ℕ, ℤ, List, [], Option, None, IfSome, true, false};
-    ghost use Rattle.saber_io.specs.Outside.{Rose};
+    ghost use Rattle.saber_plan.specs.Outputs.{Rose};
     ghost use Rattle.saber_plan.specs.declared.rows.Side.{Side};
     ghost use Rattle.saber_rows.specs.declared.heads.Look.{Look};
     ghost use Rattle.saber_rows.specs.declared.ends.RowEnd.{RowEnd};

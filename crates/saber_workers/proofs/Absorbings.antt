@@ -1,19 +1,20 @@
 -- The ordered assembly's step, by the input filled so far.
 use Rattle.std.proofs.Common.{◌≡◌, ◌≢◌, ℕ, false, List, refl, sym, ◌∙◌, ap, subst}
 use Rattle.std.specs.Prelude.{Option, Some, None, IfSome, IfNone}
-use Rattle.saber_io.specs.Outside.{appended}
+use Rattle.saber_plan.specs.Outputs.{appended}
 use Rattle.saber_plan.specs.Inputs.{Input}
 use Rattle.saber_plan.specs.Trees.{Tree}
 use Rattle.saber_plan.specs.Answers.{text}
 use Rattle.saber_plan.specs.Tasks.{Kept, upto}
 use Rattle.saber_core.specs.Works.{IsPieceOrMark}
 use Rattle.saber_assembly.specs.declared.stage.Stage.{Stage}
-use Rattle.saber_assembly.specs.declared.stage.State.TheVariants.{Running, SinkFailed, NoMemory}
+use Rattle.saber_plan.specs.declared.stages.StageState.TheVariants.{Running, SinkFailed, NoMemory}
 use Rattle.saber_assembly.specs.declared.stage.Absorbed.{Absorbed}
 use Rattle.saber_assembly.specs.declared.stage.Absorbed.TheVariants.{Stopped}
 use Rattle.saber_fragment.specs.Stores.{CanTakeIn}
 use Rattle.saber_assembly.specs.declared.work.RunData.{RunData}
-use Rattle.saber_assembly.specs.Stages.{seen, Start, Tasks, After, Keeps, IsPieceAt}
+use Rattle.saber_assembly.specs.Stages.{seen, IsPieceAt}
+use Rattle.saber_plan.specs.Stages.{Start, Tasks, After, Keeps}
 use Rattle.saber_assembly.specs.Works.{input_of, first_tasks, start_of, IsPieceOf, IsStageOf}
 use Rattle.saber_assembly.specs.WorkLaws.{keeps_on, takes_next}
 use Rattle.saber_workers.specs.Queries.{Suits}

@@ -5,7 +5,7 @@ use Rattle.saber_plan.specs.Inputs.{Input}
 use Rattle.saber_plan.specs.Trees.{Tree}
 use Rattle.saber_assembly.specs.declared.stage.Stage.{Stage}
 use Rattle.saber_assembly.specs.declared.work.RunData.{RunData}
-use Rattle.saber_assembly.specs.Stages.{StageView, Keeps}
+use Rattle.saber_plan.specs.Stages.{StageView, Keeps}
 use Rattle.saber_assembly.specs.Works.{input_of, start_of, IsStageOf}
 use Rattle.saber_workers.specs.Labors.{GoesOn}
 

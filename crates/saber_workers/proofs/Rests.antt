@@ -3,7 +3,7 @@ use Rattle.std.proofs.Common.{◌^◌, ◌≡◌, ◌≤◌, ◌<◌, ℕ, ◌+�
 use mathlib.Core.Option.{some}
 use lib.ListN.{get_elem?}
 use Rattle.std.specs.Prelude.{Option}
-use Rattle.saber_io.specs.Outside.{appended}
+use Rattle.saber_plan.specs.Outputs.{appended}
 use Rattle.saber_plan.specs.Inputs.{Input}
 use Rattle.saber_plan.specs.Trees.{Tree}
 use Rattle.saber_plan.specs.Answers.{text}
@@ -17,10 +17,11 @@ use Rattle.saber_ring.specs.Shows as ring
 use Rattle.saber_ring.specs.Plays.{turn_behind}
 use Rattle.saber_ring.specs.Laws.{IsWhole, NeedsAreWhole}
 use Rattle.saber_assembly.specs.declared.stage.Stage.{Stage}
-use Rattle.saber_assembly.specs.declared.stage.State.{State}
-use Rattle.saber_assembly.specs.declared.stage.State.TheVariants.{Running, SinkFailed, NoMemory}
+use Rattle.saber_plan.specs.declared.stages.StageState.{StageState}
+use Rattle.saber_plan.specs.declared.stages.StageState.TheVariants.{Running, SinkFailed, NoMemory}
 use Rattle.saber_assembly.specs.declared.work.RunData.{RunData}
-use Rattle.saber_assembly.specs.Stages.{StageView, seen, Start, After}
+use Rattle.saber_assembly.specs.Stages.{seen}
+use Rattle.saber_plan.specs.Stages.{StageView, Start, After}
 use Rattle.saber_plan.specs.Runs.{IsCut}
 use Rattle.saber_assembly.specs.Works.{input_of, first_tasks, start_of, first_needed, IsTold, IsBlockOf, IsPieceOf, IsStageOf}
 use Rattle.saber_assembly.specs.WorkLaws.{keeps_on}
@@ -57,7 +58,7 @@ cut_on first q n r d k out le is =
       next_is = sym (ap (text q) next) ∙ is.next_is ∙ ap (λ z. text q z ++ (is.more ++ is.rest)) same;
     }
 
-after_on : FirstOfFirst → (q : Tree) (n : ℕ) (r : Input) (d : ℕ) (start : Start) (v : StageView) (x : State) → v.k + 1 ≤ d
+after_on : FirstOfFirst → (q : Tree) (n : ℕ) (r : Input) (d : ℕ) (start : Start) (v : StageView) (x : StageState) → v.k + 1 ≤ d
     → After q n (upto n r d) start v x → After q n r start v x
 after_on first q n r d start v Running le a =
     let same : upto n (upto n r d) v.k ≡ upto n r v.k = first n r d v.k (omega (arith, le)) in

@@ -2,7 +2,7 @@
 use Rattle.std.specs.Prelude.{◌^◌, ◌≡◌, ◌≢◌, ◌⊎◌, ◌≤◌, ◌<◌, ℕ, ◌+◌, ◌*◌, ◌%◌, List, Option, slice_index}
 use mathlib.Core.Option.{some}
 use lib.ListN.{get_elem?}
-use Rattle.saber_io.specs.Outside.{appended}
+use Rattle.saber_plan.specs.Outputs.{appended}
 use Rattle.saber_plan.specs.Inputs.{Input}
 use Rattle.saber_plan.specs.Trees.{Tree}
 use Rattle.saber_plan.specs.Answers.{text}
@@ -15,9 +15,10 @@ use Rattle.saber_ring.specs.Shows.{RingState}
 use Rattle.saber_ring.specs.Plays.{turn_behind}
 use Rattle.saber_ring.specs.Laws.{TableOf, IsTable, IsWithOne, block_of}
 use Rattle.saber_assembly.specs.declared.stage.Stage.{Stage}
-use Rattle.saber_assembly.specs.declared.stage.State.TheVariants.{Running}
+use Rattle.saber_plan.specs.declared.stages.StageState.TheVariants.{Running}
 use Rattle.saber_assembly.specs.declared.work.RunData.{RunData}
-use Rattle.saber_assembly.specs.Stages.{seen, After}
+use Rattle.saber_assembly.specs.Stages.{seen}
+use Rattle.saber_plan.specs.Stages.{After}
 use Rattle.saber_assembly.specs.Works.{input_of, first_tasks, start_of, first_needed, IsTold, IsBlockOf, IsPieceOf, IsStageOf}
 
 module _ {O P S K : Type 0} (plan : O → Tree) (is_of : O → P → Input → ℕ → ℕ → Type 0) (contents : S → Kept) (taken : O → S → Input → Type 0)

@@ -1,5 +1,6 @@
 use Rattle.std.proofs.Common.{◌≡◌, ℕ, [], ◌∙◌, refl, subst}
-use Rattle.saber_io.specs.Outside.{FilesView, appended-none}
+use Rattle.saber_io.specs.Outside.{FilesView}
+use Rattle.saber_plan.specs.Outputs.{appended-none}
 use Rattle.saber_plan.specs.Trees.{Tree, tree_of}
 use Rattle.saber_words.specs.Commands.{AskedRun, asked_run}
 use Rattle.saber_words.specs.Chain.{AskedChain, asked_chain}

@@ -1,5 +1,6 @@
 use Rattle.std.proofs.Common.{[], refl}
-use Rattle.saber_io.specs.Outside.{FilesView, appended-none}
+use Rattle.saber_io.specs.Outside.{FilesView}
+use Rattle.saber_plan.specs.Outputs.{appended-none}
 use Rattle.saber_plan.specs.Trees.{tree_of}
 use Rattle.saber_words.specs.Commands.{asked_run}
 use Rattle.saber_cli.specs.Due.{contents_of, row_names}

@@ -1,5 +1,6 @@
 use Rattle.std.proofs.Common.{[], sym, subst}
-use Rattle.saber_io.specs.Outside.{FilesView, appended-none}
+use Rattle.saber_io.specs.Outside.{FilesView}
+use Rattle.saber_plan.specs.Outputs.{appended-none}
 use Rattle.saber_words.specs.declared.commands.Command.TheVariants.{Check}
 use Rattle.saber_words.specs.Commands.{AskedCheck, check, asked}
 use Rattle.saber_cli.specs.Outcomes.{IsOfShow}

@@ -1,5 +1,6 @@
 use Rattle.std.proofs.Common.{◌≡◌, [], Some, IfSome, length, ◌∙◌, ap, sym, subst}
-use Rattle.saber_io.specs.Outside.{FilesView, appended-none}
+use Rattle.saber_io.specs.Outside.{FilesView}
+use Rattle.saber_plan.specs.Outputs.{appended-none}
 use Rattle.saber_check.specs.Texts.{HasPlan}
 use Rattle.saber_words.specs.declared.commands.Command.TheVariants.{Run}
 use Rattle.saber_words.specs.Commands.{AskedRun, run, asked, asked_run}

@@ -1,5 +1,6 @@
 use Rattle.std.proofs.Common.{◌≡◌, ℕ, List, [], Some, Err, map, Bor, sym, ◌∙◌, ap, subst}
-use Rattle.saber_io.specs.Outside.{FilesView, appended-none}
+use Rattle.saber_io.specs.Outside.{FilesView}
+use Rattle.saber_plan.specs.Outputs.{appended-none}
 use Rattle.saber_words.specs.declared.commands.Command.{Command}
 use Rattle.saber_words.specs.declared.commands.Command.TheVariants.{Run, Check}
 use Rattle.saber_words.specs.Commands.{run, demo, chain, asked, command_of}

@@ -1,7 +1,8 @@
 use Rattle.std.proofs.Common.{◌+◌, IfSome, subst, arith}
 use Rattle.saber_plan.specs.Tasks.{cut}
 use Rattle.saber_fragment.specs.Stores.{Follows}
-use Rattle.saber_assembly.specs.Stages.{seen, After, IsPieceAt}
+use Rattle.saber_assembly.specs.Stages.{seen, IsPieceAt}
+use Rattle.saber_plan.specs.Stages.{After}
 use Rattle.saber_assembly.proofs.Stepping.{stepped}
 use Rattle.saber_assembly.specs.WorkLaws.{follows}
 use Rattle.saber_assembly.proofs.stage.Stage.absorb.Goals as goal

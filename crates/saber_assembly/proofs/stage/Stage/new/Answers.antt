@@ -1,6 +1,6 @@
 use Rattle.std.proofs.Common.{refl}
 use Rattle.saber_assembly.specs.Stages.{seen}
-use Rattle.saber_assembly.specs.declared.stage.State.TheVariants.{Running}
+use Rattle.saber_plan.specs.declared.stages.StageState.TheVariants.{Running}
 use Rattle.saber_assembly.proofs.Beginning.{begins}
 use Rattle.saber_assembly.proofs.stage.Stage.new.Goals as goal
 
