@@ -13,6 +13,7 @@ pub mod BlockCuts
 pub mod BlockReads
 pub mod Closings
 pub mod EndBlocks
+pub mod EndsToCome
 pub mod Beginning
 pub mod TaskBlocks
 pub mod FedBlocks

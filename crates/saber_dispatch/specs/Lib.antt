@@ -12,3 +12,4 @@ pub mod FedFilling
 pub mod Feeding
 pub mod FeedLaws
 pub mod Serving
+pub mod Ending

@@ -14,6 +14,7 @@ ghost use Rattle.saber_dispatch.specs.Cutting.{Behind, LooksBack, IsFirstOf, May
 ghost use Rattle.saber_dispatch.specs.Readings.{reading_of};
 ghost use Rattle.saber_dispatch.specs.Serving.{AreCutAlike};
 ghost use Rattle.saber_dispatch.specs.Closing.{EndStays};
+ghost use Rattle.saber_dispatch.specs.Ending.{is_end_due, EndsEach};
 ghost use Rattle.saber_plan.specs.Trees.{tree_of};
 ghost use Rattle.saber_plan.specs.Checked.{IsChecked};
 ghost use Rattle.saber_plan.specs.Sizes.{SizesFit, limits_of};
@@ -253,6 +254,29 @@ impl Cutter {
         Cut::Block(Block {
             number,
             first,
+            earlier: Earlier::none(self.alloc, self.mark),
+            before: self.mark,
+            rows: Rows::new(self.alloc),
+            places: Vec::new(self.alloc),
+            ended: true,
+        })
+    }
+
+    /// The block of the input's end for queries that join no streams, whose blocks were cut without it: none where not all was read, or
+    /// no row came. It is the same for each of them for which the end counts, and the cutter stays.
+    pub fn end_block(&self) -> Option<Block>
+        ensures none { result ≡ None → is_end_due self.now ≡ false }
+        ensures due { IfSome result (λ b. is_end_due self.now ≡ true) }
+        ensures ends { IfSome result (EndsEach self.now) }
+    {
+        needs_stay();
+        let end = self.ended?;
+        if !is_due(true, self.number, end) {
+            return None;
+        }
+        Some(Block {
+            number: self.number,
+            first: self.number,
             earlier: Earlier::none(self.alloc, self.mark),
             before: self.mark,
             rows: Rows::new(self.alloc),

@@ -1,6 +1,13 @@
 mod Counts
 mod Passed
 mod Supplied
+mod Deals
+mod Serves
+mod Queues
+mod Finals
+mod LastTakes
+mod EachBegins
+mod EachEnds
 mod Assembled
 mod Reaches
 mod Comings

@@ -9,18 +9,12 @@ use Rattle.saber_fragment.specs.declared.blocks.Earlier.{Earlier}
 use Rattle.saber_fragment.specs.Drafts.{EndWith}
 use Rattle.saber_dispatch.specs.declared.keeper.Keeper.{Keeper}
 use Rattle.saber_dispatch.specs.Cutting.{Adds, IsNextBlock, and_block}
-use Rattle.saber_dispatch.specs.Keeping.{KeepsLast, CountsRows, OnlyAdded, IsPlaced, GivesLast, KeepsOn, PlacesNext}
+use Rattle.saber_dispatch.specs.Keeping.{KeepsLast, CountsRows, IsPlaced}
+pub use Rattle.saber_engine.specs.Dealing.{Passes}
 
 -- nothing is kept before the first block
 pub kept_none : (k : Keeper) → k.kept ≡ None → KeepsLast k []
 kept_none k none = subst (λ (o : Option Earlier). IfSome o (EndWith [])) (sym none) tt
-
--- what a call of the keeper says that passes a block on
-pub record Passes (old : Keeper) (b c : Block) (new : Keeper) : Type 0 where
-  pub same : OnlyAdded b c
-  pub gives : GivesLast old b c
-  pub keeps : KeepsOn old b new
-  pub places : PlacesNext old c new
 
 -- what a block adds is told by its own rows
 adds_same : (q : Tree) (s : Sizes) (r : Input) (b c : Block) (ended : Bool) → Adds q s r b ended → Adds q s r (record b { earlier = c.earlier; places = c.places }) ended

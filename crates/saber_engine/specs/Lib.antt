@@ -6,3 +6,6 @@ pub mod FedRuns
 pub mod FedSupplying
 pub mod Runs
 pub mod Ways
+pub mod Dealing
+pub mod Jobs
+pub mod LastTasks

@@ -3,3 +3,4 @@ pub mod SharingLaws
 pub mod Queries
 pub mod Labors
 pub mod Laws
+pub mod Alone

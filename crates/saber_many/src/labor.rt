@@ -18,8 +18,12 @@ pub struct Each<L> {
     pub list: Vec<L>,
 }
 
-// The piece of the task that has these rows. None for want of memory.
-fn make<W: Shareable, L: Labor<W>>(labor: &L, alloc: Global, own: &W::Rows) -> Option<W::Piece>
+/// The piece of the task that has these rows. None for want of memory.
+pub(crate) fn make<W: Shareable, L: Labor<W>>(
+    labor: &L,
+    alloc: Global,
+    own: &W::Rows,
+) -> Option<W::Piece>
     requires can { CanMake W.upto W.is_rows W.is_alone L.suits labor.now own.now }
     ensures makes { Makes W.upto W.is_rows W.is_alone L.suits W.is_piece labor.now own.now result }
 {

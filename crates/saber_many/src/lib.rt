@@ -1,12 +1,14 @@
 //! Several works on one ring: a list of works of one kind is a work that one crew does, task by task.
 //! Each has its own rows of a task, its own piece and its own stage, and one that stops lets the
-//! others go on. It is for runs of several queries over one input, which no command does yet.
+//! others go on. `engines` of `saber_engine` runs several queries over one input by it.
 //!
 //! - Parts: `shareable` (`Shareable`: a work no task of which needs rows but its own, as those of
 //!   queries of one stream), `work` (`Many`: the list as a work), `member` (`Member`: a stage, and
-//!   whether it goes on), `labor` (`Each`: a list of those who do the works), `laws`.
+//!   whether it goes on), `labor` (`Each`: a list of those who do the works), `alone` (one task of
+//!   one of them), `laws`.
 //! - Calls: `run` of `saber_crew`, with `Each` for the labor, a stage of members and a supply of
-//!   `Many`, which deals each work its rows. `each_runs` is a law and does nothing.
+//!   `Many`, which deals each work its rows. `do_task` does one more task of one work behind a run,
+//!   on the caller's thread. `each_runs` is a law and does nothing.
 //! - Proved: `Many` is a work and `Each` does it. For any supply of it, what a run leaves is, for
 //!   each of the works, what a run of that work alone leaves (`EachRuns`, `specs/Laws.antt`), over
 //!   its own base data and by its own stage, whatever stopped the others. A member that stopped is
@@ -16,12 +18,14 @@
 //! - Limits: one work at least. Any number of them.
 #![tactic(auto)]
 
+mod alone;
 mod labor;
 mod laws;
 mod member;
 mod shareable;
 mod work;
 
+pub use alone::do_task;
 pub use labor::Each;
 pub use laws::each_runs;
 pub use member::Member;

@@ -1,0 +1,101 @@
+// The operators of plans of one stream, of whichever kind.
+ghost use Rattle.std.specs.Prelude.{◌≡◌, length, IfOk, IsSome};
+ghost use Rattle.std.specs.List.{AllByRecursion, AllZip};
+ghost use Rattle.saber_plan.specs.declared.plans.Shape.TheVariants as shapes;
+ghost use Rattle.saber_plan.specs.Checked.{IsChecked};
+ghost use Rattle.saber_plan.specs.Trees.{tree_of};
+ghost use Rattle.saber_either.specs.Cases.{of_one};
+ghost use Rattle.saber_engine.specs.Jobs.{tree_in};
+
+use crate::jobs::Job;
+use crate::ways::{Way, way_of};
+use saber_either::OneOf;
+use saber_group::{GroupChanges, GroupOperator};
+use saber_partition::Partition;
+use saber_plan::{NoMemory, Plan, Shape};
+use saber_select::Select;
+use saber_windowed::{WindowedChanges, WindowedOperator};
+use std::alloc::Global;
+use std::collections::VecDeque;
+
+/// That of a selection under a stream word.
+type Windowed<'p> = OneOf<WindowedOperator<'p>, WindowedChanges<'p>>;
+
+/// That of a selection.
+type Selection<'p> = OneOf<Select<'p>, Windowed<'p>>;
+
+/// That of a group query.
+type Grouping<'p> = OneOf<Partition<'p>, OneOf<GroupOperator<'p>, GroupChanges<'p>>>;
+
+/// That of a query of one stream.
+pub(crate) type Single<'p> = OneOf<Selection<'p>, Grouping<'p>>;
+
+// The operator of a selection under a stream word.
+fn windowed_of(plan: &Plan) -> Windowed<'_>
+    requires checked { IsChecked (tree_of plan.now) }
+    requires select { (tree_of plan.now).shape ≡ shapes.Select }
+    requires word { IsSome (tree_of plan.now).word }
+    ensures { of_one tree_of tree_of result ≡ tree_of plan.now }
+{
+    match way_of(plan) {
+        Way::Alike => OneOf::First(WindowedOperator::new(plan)),
+        Way::ByList => unreachable!(),
+        Way::Changing(change) => OneOf::Second(WindowedChanges::new(plan, change)),
+    }
+}
+
+// The operator of a selection.
+fn selection_of(plan: &Plan) -> Selection<'_>
+    requires checked { IsChecked (tree_of plan.now) }
+    requires select { (tree_of plan.now).shape ≡ shapes.Select }
+    ensures { of_one tree_of (of_one tree_of tree_of) result ≡ tree_of plan.now }
+{
+    match plan.word() {
+        None => OneOf::First(Select::new(plan)),
+        Some(_) => OneOf::Second(windowed_of(plan)),
+    }
+}
+
+// The operator of a group query.
+fn grouping_of(plan: &Plan) -> Grouping<'_>
+    requires checked { IsChecked (tree_of plan.now) }
+    requires group { (tree_of plan.now).shape ≡ shapes.Group }
+    ensures { of_one tree_of (of_one tree_of tree_of) result ≡ tree_of plan.now }
+{
+    match way_of(plan) {
+        Way::Alike => OneOf::Second(OneOf::First(GroupOperator::new(plan))),
+        Way::ByList => OneOf::First(Partition::new(plan)),
+        Way::Changing(change) => OneOf::Second(OneOf::Second(GroupChanges::new(plan, change))),
+    }
+}
+
+/// The operator of a plan of one stream.
+pub(crate) fn operator_of(plan: &Plan) -> Single<'_>
+    requires checked { IsChecked (tree_of plan.now) }
+    requires one { length (tree_of plan.now).streams ≡ 1 }
+    ensures { of_one (of_one tree_of (of_one tree_of tree_of)) (of_one tree_of (of_one tree_of tree_of)) result ≡ tree_of plan.now }
+{
+    match plan.shape() {
+        Shape::Select => OneOf::First(selection_of(plan)),
+        Shape::Group => OneOf::Second(grouping_of(plan)),
+        Shape::Join => unreachable!(),
+    }
+}
+
+/// The operators of queries that share their input, in their order.
+pub(crate) fn operators_for<'p, K>(
+    alloc: Global,
+    jobs: &[Job<'p, K>],
+) -> Result<VecDeque<Single<'p>>, NoMemory>
+    requires checked { AllByRecursion (λ job. IsChecked (tree_in job)) jobs.now }
+    requires one { AllByRecursion (λ job. length (tree_in job).streams ≡ 1) jobs.now }
+    ensures { IfOk result (λ ops. AllZip (λ op job. of_one (of_one tree_of (of_one tree_of tree_of)) (of_one tree_of (of_one tree_of tree_of)) op ≡ tree_in job) ops.items jobs.now) }
+{
+    let Some((job, others)) = jobs.split_first() else {
+        return Ok(VecDeque::new(alloc));
+    };
+    let operator = operator_of(job.plan);
+    let mut operators = operators_for(alloc, others)?;
+    operators.push_front(operator)?;
+    Ok(operators)
+}
