@@ -1,2 +1,4 @@
 pub mod Notes
 pub mod Lines
+pub mod ManyNotes
+pub mod Reports

@@ -39,6 +39,13 @@ impl Line {
         self.text.push_str(digits.format(number));
     }
 
+    /// What is written, as a text.
+    pub(crate) fn as_str(&self) -> &str
+        ensures { result.now ≡ bytes_of self.now }
+    {
+        self.text.as_str()
+    }
+
     /// What is written.
     pub(crate) fn as_bytes(&self) -> &[u8]
         ensures { result.now ≡ bytes_of self.now }

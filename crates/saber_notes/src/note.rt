@@ -3,7 +3,7 @@ ghost use Rattle.std.specs.Prelude.{◌≡◌, ◌≢◌, ◌≤◌, ◌+◌, �
 ghost use Rattle.saber_notes.specs.Notes.{query_text, line_text, side_text, file_text, note_text, note_of};
 ghost use Rattle.saber_notes.specs.Lines.{bytes_of};
 ghost use Rattle.saber_notes.specs.declared.note.Noted.{Noted};
-ghost use Rattle.saber_plan.specs.Outputs.{Rose, appended, AppendsPrefix};
+ghost use Rattle.saber_plan.specs.Outputs.{Rose, appended, counted, AppendsPrefix};
 
 use crate::line::Line;
 use crate::outcome::{InputFile, Outcome};
@@ -210,6 +210,34 @@ fn add_outcome(line: &mut Line, outcome: Outcome)
     }
 }
 
+/// What a note says of an end, in a line of its own that begins with it.
+pub(crate) fn tail_line(outcome: Outcome) -> Line
+    ensures text { bytes_of result ≡ note_text outcome }
+    ensures short { length (bytes_of result) ≤ 100 }
+{
+    let mut line = Line::new();
+    add_outcome(&mut line, outcome);
+    line
+}
+
+/// Writes a note in one write.
+pub(crate) fn put_note<N: Sink>(notes: &mut N, text: &[u8]) -> Noted
+    ensures something { result ≢ Noted.Nothing }
+    ensures whole { result ≡ Noted.Whole → N.written notes.new ≡ appended (N.written notes.old) text.now }
+    ensures failed { result ≡ Noted.Failed → AppendsPrefix (N.written notes.old) (N.written notes.new) text.now }
+    ensures memory { result ≡ Noted.NoMemory → N.written notes.new ≡ N.written notes.old }
+    ensures cause { result ≡ Noted.Failed → Rose (N.faults notes.old) (N.faults notes.new) }
+    ensures good { result ≢ Noted.Failed → N.faults notes.new ≡ N.faults notes.old }
+    ensures one { result ≢ Noted.NoMemory → N.writes notes.new ≡ counted (N.writes notes.old) }
+    ensures count { N.faults notes.old ≤ N.faults notes.new }
+{
+    match notes.write_all(text) {
+        Ok(()) => Noted::Whole,
+        Err(WriteFault::Failed) => Noted::Failed,
+        Err(WriteFault::NoMemory) => Noted::NoMemory,
+    }
+}
+
 fn note_line(outcome: Outcome) -> Line
     ensures { bytes_of result ≡ note_of outcome }
 {
@@ -220,7 +248,8 @@ fn note_line(outcome: Outcome) -> Line
     line
 }
 
-/// Writes the note of an end in one write, from a buffer of a fixed size. A call that is done has none.
+/// Writes the note of an end in one write, from a buffer of a fixed size. A call that is done has
+/// none.
 pub fn write_note<N: Sink>(notes: &mut N, outcome: Outcome) -> Noted
     ensures nothing { outcome ≡ Outcome.Done → (result ≡ Noted.Nothing) × (notes.new ≡ notes.old) }
     ensures something { outcome ≢ Outcome.Done → result ≢ Noted.Nothing }
@@ -235,9 +264,5 @@ pub fn write_note<N: Sink>(notes: &mut N, outcome: Outcome) -> Noted
         return Noted::Nothing;
     }
     let line = note_line(outcome);
-    match notes.write_all(line.as_bytes()) {
-        Ok(()) => Noted::Whole,
-        Err(WriteFault::Failed) => Noted::Failed,
-        Err(WriteFault::NoMemory) => Noted::NoMemory,
-    }
+    put_note(notes, line.as_bytes())
 }

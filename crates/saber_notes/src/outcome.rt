@@ -37,8 +37,9 @@ pub enum Outcome {
         byte: u64,
         cause: Cause,
     },
-    /// The query of a chain that this file has is none for its place: the first one is a selection without a stream word, whose lines
-    /// have no number of a window, or has PARTITION BY, under which the numbers may fall; or the second one is a join.
+    /// The query of a chain that this file has is none for its place: the first one is a selection
+    /// without a stream word, whose lines have no number of a window, or has PARTITION BY, under
+    /// which the numbers may fall; or the second one is a join.
     Unchainable(InputFile),
     /// A line of a row file is refused; lines count from 1.
     LineRefused {

@@ -23,7 +23,7 @@ chain_words : (program : Text) (files : List Text) → command_of (program ∷ c
 unfolding walk_fault walked defaults_fault
 chain_words program files =
     by_walk program (codes "chain" ∷ files)
-    ∙ ap₂ answer (stopped_fault top (walk_from nothing_held) (codes "chain") [] files) (sym (walk_stopped top.rules names (walk_from nothing_held) (codes "chain") [] files))
+    ∙ ap₂ answer (stopped_fault names top (walk_from nothing_held) (codes "chain") [] files) (sym (walk_stopped top.rules names (walk_from nothing_held) (codes "chain") [] files))
     ∙ ap (λ (kinds : Kinds). taken_if kinds (chain_by (finished chain_level.rules (walk chain_level.rules [] nothing_held files).held)))
     (or_else_none (or_else (walk_fault chain_level [] (at nothing_held 1) files) (end_fault chain_level (walk chain_level.rules [] nothing_held files).held false [])))
 

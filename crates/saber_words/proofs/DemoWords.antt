@@ -26,7 +26,7 @@ demo_words : (program : Text) (words : List Text) → command_of (program ∷ co
 unfolding walk_fault walked defaults_fault
 demo_words program words =
     by_walk program (codes "demo" ∷ words)
-    ∙ ap₂ answer (stopped_fault top (walk_from nothing_held) (codes "demo") [] words) (sym (walk_stopped top.rules names (walk_from nothing_held) (codes "demo") [] words))
+    ∙ ap₂ answer (stopped_fault names top (walk_from nothing_held) (codes "demo") [] words) (sym (walk_stopped top.rules names (walk_from nothing_held) (codes "demo") [] words))
     ∙ ap (λ (kinds : Kinds). taken_if kinds (demo_by (finished demo_level.rules (walk demo_level.rules [] nothing_held words).held)))
     (or_else_none (or_else (walk_fault demo_level [] (at nothing_held 1) words) (end_fault demo_level (walk demo_level.rules [] nothing_held words).held false [])))
 

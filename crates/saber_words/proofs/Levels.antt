@@ -3,7 +3,7 @@ use Rattle.std.proofs.Common.{◌≡◌, ◌∙◌, refl, sym, ap, ap₂, Bool, 
 use Rattle.std.specs.List.{list_all}
 use Rattle.std.specs.Prelude.{option_and_then}
 use Rattle.clap.specs.Walk.{Held, Names, Row, Text, Walk, finished, nothing_held, settled, walk, walk_from, walked}
-use Rattle.clap.specs.Simple.{Shape, built, built_leaf, entered, inherited, names_of}
+use Rattle.clap.specs.Simple.{App, Shape, built, built_leaf, entered, inherited, names_of}
 use Rattle.clap.specs.Kinds.{Kinds, or_else}
 use Rattle.clap.specs.Faults.{check_fault, defaults_fault, entered_fault, settle_fault, walk_fault}
 use Rattle.clap.proofs.WalkLemmas.{both, walk_stopped}
@@ -26,18 +26,21 @@ top = (built saber_app).top
 abbrev pub names : Names
 names = names_of (built saber_app)
 
--- what the words are, by the faults and the end of the program's walk
+-- what the words of a program are, by the faults and the end of its walk
+abbrev pub answer_of : {X : Type 0} → App → (Text × List Row → Option X) → Kinds → Walk → Option X
+answer_of app by faults end =
+    taken_if (or_else faults (end_fault (built app).top end.held (is_some (entered (built app) end.stopped)) (entered_fault (built app) end.stopped)))
+    (option_and_then by (entered (built app) end.stopped))
+
 abbrev pub answer : Kinds → Walk → Option Asked
-answer faults end =
-    taken_if (or_else faults (end_fault top end.held (is_some (entered (built saber_app) end.stopped)) (entered_fault (built saber_app) end.stopped)))
-    (option_and_then asked_by (entered (built saber_app) end.stopped))
+answer = answer_of saber_app asked_by
 
 pub by_walk : (program : Text) (words : List Text) → command_of (program ∷ words) ≡ answer (walk_fault top names (walk_from nothing_held) words) (walk top.rules names nothing_held words)
 unfolding command_of is_taken
 by_walk program words = refl
 
 -- what a subcommand is, by the faults and the end of its walk
-abbrev pub leaf_answer : Shape → (List Row → Option Asked) → Kinds → Held → Option Asked
+abbrev pub leaf_answer : {X : Type 0} → Shape → (List Row → Option X) → Kinds → Held → Option X
 leaf_answer s by faults end = taken_if (or_else faults (end_fault s end false [])) (by (finished s.rules end))
 
 pub or_else_none : (kinds : Kinds) → or_else kinds [] ≡ kinds
@@ -45,10 +48,10 @@ or_else_none [] = refl
 or_else_none (kind ∷ kinds) = refl
 
 -- past the subcommand's name the words are left to it
-pub stopped_fault : (s : Shape) (w : Walk) (name : Text) (seen words : List Text) → walk_fault s names (record w { stopped = Some (name, seen) }) words ≡ []
+pub stopped_fault : (known : Names) (s : Shape) (w : Walk) (name : Text) (seen words : List Text) → walk_fault s known (record w { stopped = Some (name, seen) }) words ≡ []
 unfolding walk_fault walked
-stopped_fault s w name seen [] = refl
-stopped_fault s w name seen (x ∷ xs) = stopped_fault s w name (seen ++ x ∷ []) xs
+stopped_fault known s w name seen [] = refl
+stopped_fault known s w name seen (x ∷ xs) = stopped_fault known s w name (seen ++ x ∷ []) xs
 
 abbrev stopped_at : Text → List Text → Walk
 stopped_at name words = record (walk_from nothing_held) { stopped = Some (name, words) }
@@ -63,7 +66,7 @@ run_words : (program : Text) (files : List Text) → command_of (program ∷ cod
 unfolding walk_fault walked defaults_fault
 run_words program files =
     by_walk program (codes "run" ∷ files)
-    ∙ ap₂ answer (stopped_fault top (walk_from nothing_held) (codes "run") [] files) (sym (walk_stopped top.rules names (walk_from nothing_held) (codes "run") [] files))
+    ∙ ap₂ answer (stopped_fault names top (walk_from nothing_held) (codes "run") [] files) (sym (walk_stopped top.rules names (walk_from nothing_held) (codes "run") [] files))
     ∙ ap (λ (kinds : Kinds). taken_if kinds (run_by (finished run_level.rules (walk run_level.rules [] nothing_held files).held)))
     (or_else_none (or_else (walk_fault run_level [] (at nothing_held 1) files) (end_fault run_level (walk run_level.rules [] nothing_held files).held false [])))
 
@@ -77,7 +80,7 @@ check_words : (program : Text) (files : List Text) → command_of (program ∷ c
 unfolding walk_fault walked defaults_fault
 check_words program files =
     by_walk program (codes "check" ∷ files)
-    ∙ ap₂ answer (stopped_fault top (walk_from nothing_held) (codes "check") [] files) (sym (walk_stopped top.rules names (walk_from nothing_held) (codes "check") [] files))
+    ∙ ap₂ answer (stopped_fault names top (walk_from nothing_held) (codes "check") [] files) (sym (walk_stopped top.rules names (walk_from nothing_held) (codes "check") [] files))
     ∙ ap (λ (kinds : Kinds). taken_if kinds (check_by (finished check_level.rules (walk check_level.rules [] nothing_held files).held)))
     (or_else_none (or_else (walk_fault check_level [] (at nothing_held 1) files) (end_fault check_level (walk check_level.rules [] nothing_held files).held false [])))
 

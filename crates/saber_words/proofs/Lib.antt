@@ -1,4 +1,5 @@
 mod Cases
+mod ManyCases
 pub mod Apps
 pub mod Numerals
 pub mod Sizes
@@ -9,3 +10,5 @@ pub mod Levels
 pub mod OtherWords
 pub mod DemoWords
 pub mod ChainWords
+pub mod ManySizes
+pub mod ManyWords

@@ -5,21 +5,21 @@ use Rattle.std.specs.Str.{bytes_eq, chars}
 use Rattle.std.specs.Prelude.{slice_get}
 use Rattle.std.proofs.lemmas.Slice.Eq.{bytes_eq-Decides}
 use Rattle.clap.specs.Lexer.{long_of, short_of}
-use Rattle.clap.specs.Walk.{Text, after_flag, bundle_met, bundle_step, idle, long_or_other, nothing_held, plain, short_or_plain, subcommand_met, subcommand_or_other, trailing, walk, walk_from, walked}
+use Rattle.clap.specs.Walk.{Names, Text, after_flag, bundle_met, bundle_step, idle, long_or_other, nothing_held, plain, short_or_plain, subcommand_met, subcommand_or_other, trailing, walk, walk_from, walked}
 use Rattle.clap.specs.Kinds.{Kinds, or_else}
 use Rattle.clap.specs.Faults.{bundle_fault, bundle_step_fault, defaults_fault, flag_word_fault, flags_fault, other_fault, step_fault, turn_fault, walk_fault}
-use Rattle.saber_words.specs.Commands.{Asked, command_of, is_faultless}
+use Rattle.saber_words.specs.Commands.{command_of, is_faultless}
 use Rattle.saber_words.proofs.Parses.{taken_if}
 use Rattle.saber_words.proofs.FileNames.{at}
 use Rattle.saber_words.proofs.Levels.{answer, by_walk, names, top}
 
 -- words are refused where the first turn of the walk has a fault
-refused_at_once : (turn later ending : Kinds) (x : Option Asked) → is_faultless turn ≡ false → taken_if (or_else (or_else turn later) ending) x ≡ None
+pub refused_at_once : {X : Type 0} (turn later ending : Kinds) (x : Option X) → is_faultless turn ≡ false → taken_if (or_else (or_else turn later) ending) x ≡ None
 refused_at_once [] later ending x bad = cc
 refused_at_once (kind ∷ kinds) later ending x bad = refl
 
 -- no subcommand has another name
-other_name : (known word : Text) → (word ≡ known → ⊥) → bytes_eq known word ≡ false
+pub other_name : (known word : Text) → (word ≡ known → ⊥) → bytes_eq known word ≡ false
 other_name known word other = go (bytes_eq known word) (bytes_eq-Decides known word).0
   where
     go : (b : Bool) → (b ≡ true → known ≡ word) → b ≡ false
@@ -81,11 +81,11 @@ long_fails word None = short_fails word (short_of word)
 long_fails word (Some p) = refl
 
 -- the first turn has a fault, but for `--`
-first_fails : (word : Text) → (word ≡ codes "run" → ⊥) → (word ≡ codes "check" → ⊥) → (word ≡ codes "demo" → ⊥) → (word ≡ codes "chain" → ⊥) → bytes_eq word (45 ∷ 45 ∷ []) ≡ false
-    → is_faultless (turn_fault top names (at nothing_held 1) word) ≡ false
+pub first_fails : (known : Names) (word : Text) → subcommand_met known idle word ≡ None → bytes_eq word (45 ∷ 45 ∷ []) ≡ false
+    → is_faultless (turn_fault top known (at nothing_held 1) word) ≡ false
 unfolding by_name by_dashes by_long
-first_fails word run check demo chain dashes =
-    ap (λ (met : Option Text). is_faultless (by_name word met)) (none_met word run check demo chain)
+first_fails known word none dashes =
+    ap (λ (met : Option Text). is_faultless (by_name word met)) none
     ∙ ap (λ (b : Bool). is_faultless (by_dashes word b)) dashes
     ∙ long_fails word (long_of word)
 
@@ -105,4 +105,4 @@ command_of-other program word rest run check demo chain = go (bytes_eq word (45 
   where
     go : (b : Bool) → bytes_eq word (45 ∷ 45 ∷ []) ≡ b → command_of (program ∷ word ∷ rest) ≡ None
     go true is = dashes_fail program word rest ((bytes_eq-Decides word (45 ∷ 45 ∷ [])).0 is)
-    go false is = by_walk program (word ∷ rest) ∙ refused_at_once (turn_fault top names (at nothing_held 1) word) _ _ _ (first_fails word run check demo chain is)
+    go false is = by_walk program (word ∷ rest) ∙ refused_at_once (turn_fault top names (at nothing_held 1) word) _ _ _ (first_fails names word (none_met word run check demo chain) is)

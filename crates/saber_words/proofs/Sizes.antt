@@ -11,21 +11,21 @@ use Rattle.saber_words.specs.Flags.{flag_by}
 use Rattle.saber_words.proofs.Numerals.{number_bounds}
 
 -- a number is within the bounds of its option
-Within : Numeric → Option ℕ → Type 0
+pub Within : Numeric → Option ℕ → Type 0
 Within o found = (n : ℕ) → found ≡ Some n → (o.least ≤ n) × (n ≤ o.most)
 
 -- so those that were found are
-numbers_sized : (size cells count lines falls : Option ℕ) (n : Numbers) → Within task size → Within ring cells → Within threads count → Within max_lines lines → Within slack falls → numbers_with size cells count lines falls ≡ Some n
-    → (1 ≤ n.task) × (n.task ≤ 65536) × (1 ≤ n.ring) × (n.ring ≤ 1024) × (n.threads ≤ 64) × (1 ≤ n.most) × (n.most ≤ 2 ^ 40) × (n.slack ≤ 2 ^ 40)
+pub numbers_sized : (crew : Numeric) (size cells count lines falls : Option ℕ) (n : Numbers) → Within task size → Within ring cells → Within crew count → Within max_lines lines → Within slack falls → numbers_with size cells count lines falls ≡ Some n
+    → (1 ≤ n.task) × (n.task ≤ 65536) × (1 ≤ n.ring) × (n.ring ≤ 1024) × (n.threads ≤ crew.most) × (1 ≤ n.most) × (n.most ≤ 2 ^ 40) × (n.slack ≤ 2 ^ 40)
 unfolding Within
-numbers_sized None cells count lines falls n a b c d e is = cc
-numbers_sized (Some t) None count lines falls n a b c d e is = cc
-numbers_sized (Some t) (Some r) None lines falls n a b c d e is = cc
-numbers_sized (Some t) (Some r) (Some k) None falls n a b c d e is = cc
-numbers_sized (Some t) (Some r) (Some k) (Some m) None n a b c d e is = cc
-numbers_sized (Some t) (Some r) (Some k) (Some m) (Some u) n a b c d e is =
+numbers_sized crew None cells count lines falls n a b c d e is = cc
+numbers_sized crew (Some t) None count lines falls n a b c d e is = cc
+numbers_sized crew (Some t) (Some r) None lines falls n a b c d e is = cc
+numbers_sized crew (Some t) (Some r) (Some k) None falls n a b c d e is = cc
+numbers_sized crew (Some t) (Some r) (Some k) (Some m) None n a b c d e is = cc
+numbers_sized crew (Some t) (Some r) (Some k) (Some m) (Some u) n a b c d e is =
     let same : record { task = t; ring = r; threads = k; most = m; slack = u } ≡ n = cc in
-    let P : Numbers → Type 0 = λ n. (1 ≤ n.task) × (n.task ≤ 65536) × (1 ≤ n.ring) × (n.ring ≤ 1024) × (n.threads ≤ 64) × (1 ≤ n.most) × (n.most ≤ 2 ^ 40) × (n.slack ≤ 2 ^ 40) in
+    let P : Numbers → Type 0 = λ n. (1 ≤ n.task) × (n.task ≤ 65536) × (1 ≤ n.ring) × (n.ring ≤ 1024) × (n.threads ≤ crew.most) × (1 ≤ n.most) × (n.most ≤ 2 ^ 40) × (n.slack ≤ 2 ^ 40) in
     let x = a t refl in
     let y = b r refl in
     let z = c k refl in
@@ -74,12 +74,12 @@ demo_sized (Some s) (Some n) (Some t) (Some r) (Some k) c v w x y z is =
     let b = y r refl in
     subst IsSized same (record { small_seed = (v s refl).1; few_generated = (w n refl).1; some_rows = a.0; few_rows = a.1; some_cells = b.0; few_cells = b.1; few_threads = (z k refl).1 })
 
-bounds_of : (o : Numeric) (found : List Row) → Within o (number_by o found)
+pub bounds_of : (o : Numeric) (found : List Row) → Within o (number_by o found)
 unfolding Within
 bounds_of o found = number_bounds o found
 
 numbers_bounded : (found : List Row) (n : Numbers) → numbers_by found ≡ Some n → (1 ≤ n.task) × (n.task ≤ 65536) × (1 ≤ n.ring) × (n.ring ≤ 1024) × (n.threads ≤ 64) × (1 ≤ n.most) × (n.most ≤ 2 ^ 40) × (n.slack ≤ 2 ^ 40)
-numbers_bounded found n = numbers_sized (number_by task found) (number_by ring found) (number_by threads found) (number_by max_lines found) (number_by slack found) n (bounds_of task found) (bounds_of ring found) (bounds_of threads found) (bounds_of max_lines found) (bounds_of slack found)
+numbers_bounded found n = numbers_sized threads (number_by task found) (number_by ring found) (number_by threads found) (number_by max_lines found) (number_by slack found) n (bounds_of task found) (bounds_of ring found) (bounds_of threads found) (bounds_of max_lines found) (bounds_of slack found)
 
 asked_sized : (found : List Row) (is_run is_check is_demo is_chain : Bool) (c : Asked)
     → cond is_run (run_by found) (cond is_check (check_by found) (cond is_demo (demo_by found) (cond is_chain (chain_by found) None))) ≡ Some c → IsSized c

@@ -3,3 +3,4 @@ pub mod Numbers
 pub mod Flags
 pub mod Demo
 pub mod Chain
+pub mod Many

@@ -18,7 +18,8 @@ pub struct Run<'a> {
     pub threads: u32,
     /// How many lines a file may have, 1 to `2^40`. Where the words don't say, `2^40`.
     pub max_lines: u64,
-    /// By how much a timestamp of a file may be below one before it, 0 to `2^40`. Where the words don't say, 0.
+    /// By how much a timestamp of a file may be below one before it, 0 to `2^40`. Where the words
+    /// don't say, 0.
     pub slack: u64,
     /// Whether the end of the input closes the windows that are begun.
     pub flush: bool,
@@ -46,8 +47,8 @@ pub struct Demo {
     pub threads: u32,
 }
 
-/// To answer a query over its files, and a second one whose rows are the lines of the first one's answer: the
-/// number of a window is the time of such a row. Each text is the name of a file.
+/// To answer a query over its files, and a second one whose rows are the lines of the first one's
+/// answer: the number of a window is the time of such a row. Each text is the name of a file.
 #[derive(Clone, Copy, Debug, PartialEq, Eq)]
 pub struct Chain<'a> {
     /// The text of the first query.
@@ -68,6 +69,29 @@ pub struct Chain<'a> {
     pub max_lines: u64,
     /// By how much a timestamp of a file may be below one before it, as of a run.
     pub slack: u64,
+}
+
+/// To answer several queries of one stream over the rows of one file, each into a file of its own.
+/// Each text is the name of a file.
+#[derive(Drop)]
+pub struct Many<'a> {
+    /// The rows of the stream of each query's FROM.
+    pub left: &'a str,
+    /// The texts of the queries, of which there are 1 to 8.
+    pub queries: Vec<&'a str>,
+    /// How many rows a task has, as of a run.
+    pub task: u32,
+    /// How many cells the ring has, as of a run.
+    pub ring: u32,
+    /// How many threads work for each query beside the caller's, 0 to 8. Where the words don't
+    /// say, 2.
+    pub threads: u32,
+    /// How many lines the file may have, as of a run.
+    pub max_lines: u64,
+    /// By how much a timestamp of the file may be below one before it, as of a run.
+    pub slack: u64,
+    /// Whether the end of the input closes the windows that are begun.
+    pub flush: bool,
 }
 
 /// A command of the program.

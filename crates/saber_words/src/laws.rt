@@ -4,12 +4,13 @@ ghost use Rattle.std.specs.List.{list_all};
 ghost use Rattle.saber_words.specs.Commands.{chain_of, check_of, command_of, demo_of, is_file_name, run_of, chain, demo, run, AskedRun, HasSizes};
 ghost use Rattle.saber_words.specs.Chain.{AskedChain, HasChainSizes};
 ghost use Rattle.saber_words.specs.Demo.{AskedDemo, HasDemoSizes};
+ghost use Rattle.saber_words.specs.Many.{many_of, many_of_files, AskedMany, HasManySizes};
 
 /// A law with no code: what words of file names come to. The first word is the name of the program
-/// and may be any, and a word of more than one byte that begins with `-` is no file name. Such words
-/// give no option, so a run has tasks of 1,024 rows, files of at most `2^40` lines, whose timestamps
-/// don't fall, and an end of the input that closes no window; a chain has the same sizes; `demo` asks for no
-/// files, and its words are two numbers.
+/// and may be any, and a word of more than one byte that begins with `-` is no file name. Such
+/// words give no option, so a run has tasks of 1,024 rows, files of at most `2^40` lines, whose
+/// timestamps don't fall, and an end of the input that closes no window; a chain has the same
+/// sizes; `demo` asks for no files, and its words are two numbers.
 pub fn words_of_file_names()
     ensures empty { command_of [] ≡ None }
     ensures alone { (program : List ℕ) → command_of (program ∷ []) ≡ None }
@@ -26,11 +27,25 @@ pub fn words_of_file_names()
         → command_of (program ∷ name ∷ rest) ≡ None }
 {}
 
-/// A law with no code: whatever the words, the run that they ask for has 1 to 65,536 rows a task, and
-/// files of 1 to `2^40` lines at most, whose timestamps fall by at most `2^40`; and a run over generated rows
-/// at most `2^20` of them (this project's limits). A chain has the sizes of a run.
+/// A law with no code: whatever the words, the run that they ask for has 1 to 65,536 rows a task,
+/// and files of 1 to `2^40` lines at most, whose timestamps fall by at most `2^40`; and a run over
+/// generated rows at most `2^20` of them (this project's limits). A chain has the sizes of a run.
 pub fn sizes_of_words()
     ensures run { (words : List (List ℕ)) (r : AskedRun) → command_of words ≡ Some (run r) → HasSizes r }
     ensures demo { (words : List (List ℕ)) (d : AskedDemo) → command_of words ≡ Some (demo d) → HasDemoSizes d }
     ensures chain { (words : List (List ℕ)) (a : AskedChain) → command_of words ≡ Some (chain a) → HasChainSizes a }
+{}
+
+/// A law with no code: what words of `many` come to. File names alone are the left file and the
+/// files of one to eight queries, in this order, and words that name another command are never
+/// `many`. Whatever the words, each query has at most eight threads, and beside them the sizes of a
+/// run.
+pub fn words_of_many()
+    ensures empty { many_of [] ≡ None }
+    ensures alone { (program : List ℕ) → many_of (program ∷ []) ≡ None }
+    ensures files { (program : List ℕ) (files : List (List ℕ)) → list_all is_file_name files ≡ true
+        → many_of (program ∷ codes "many" ∷ files) ≡ many_of_files files }
+    ensures other { (program name : List ℕ) (rest : List (List ℕ)) → name ≢ codes "many"
+        → many_of (program ∷ name ∷ rest) ≡ None }
+    ensures sizes { (words : List (List ℕ)) (m : AskedMany) → many_of words ≡ Some m → HasManySizes m }
 {}

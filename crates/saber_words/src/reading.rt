@@ -32,7 +32,8 @@ pub fn read_words<'a>(alloc: Global, words: &'a [&'a str]) -> Result<Command<'a>
     }
 }
 
-fn fault(kind: ErrorKind) -> WordsFault
+// Why no command was read, by what `clap` says.
+pub(crate) fn fault(kind: ErrorKind) -> WordsFault
     ensures { (result ≡ WordsFault.NoMemory) ↔ (kind ≡ ErrorKind.OutOfMemory) }
 {
     match kind {

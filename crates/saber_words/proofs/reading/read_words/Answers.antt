@@ -10,7 +10,7 @@ use Rattle.saber_words.proofs.reading.read_words.Goals as goal
 pub returns-in-Ok : goal.returns-in-Ok
 returns-in-Ok c =
     let met = command_of-met _ _ c.in-Ok.matches c.in_ok-app.ensures c.in-Ok.ensures.kinds c.in-Ok.ensures.matches in
-    let read = read_of _ c.command.result _ met c.command.ensures in
+    let read = read_of asked _ c.command.result _ met c.command.ensures in
     let sized = IfOk-weaker (ok_or c.command.result Usage) _ _ (λ command taken. command_of-sized _ (asked command) taken) read.0 in
     rw c.ok_or.ensures.value (record { taken = read.0; sizes = sized; usage = read.1 })
 

@@ -1,13 +1,9 @@
 use Rattle.std.proofs.Common.{ap, true, [], ◌≡◌}
 use Rattle.std.proofs.lemmas.Result.{IfOk-weaker}
-use Rattle.clap.specs.Simple.{App, app_of}
+use Rattle.clap.specs.Simple.{app_of}
 use Rattle.saber_words.specs.Commands.{saber_shape}
-use Rattle.saber_words.proofs.Apps.{app_with_subcommand}
+use Rattle.saber_words.proofs.Apps.{app_with_subcommand, set_up}
 use Rattle.saber_words.proofs.reading.saber.Goals as goal
-
--- the settings of the program
-abbrev set_up : App → App
-set_up a = record a { top = record a.top { disable_help_flag = true; disable_help_subcommand = true; disable_version_flag = true; subcommand_required = true } }
 
 pub returns : goal.returns
 returns c =

@@ -1,0 +1,2 @@
+pub mod ReportLemmas
+mod WorkedNotes

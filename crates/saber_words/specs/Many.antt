@@ -1,0 +1,143 @@
+-- What `many` asks for, and which words are it.
+use Rattle.std.specs.Prelude.{◌≡◌, ◌≤◌, ◌^◌, ◌&&◌, nat_le, ℕ, List, [], ◌∷◌, ◌++◌, map, flat_map, length, Bool, false, Option, Some, None, if◌then◌else◌, codes, option_and_then, option_to_list}
+use Rattle.std.specs.Str.{bytes_eq}
+use Rattle.clap.specs.Walk.{Row, Text, first_of}
+use Rattle.clap.specs.Simple.{App, Shape, app_of, new_shape, subcommand_of}
+use Rattle.clap.specs.Faults.{fault_of}
+use Rattle.clap.specs.declared.builder.command.Command.{Command}
+use Rattle.clap.specs.declared.builder.command.Command.TheViews.{out-Command}
+use Rattle.saber_words.specs.Numbers.{Numeric, number_by, number_rule}
+use Rattle.saber_words.specs.Flags.{flag_by, flag_rule}
+use Rattle.saber_words.specs.Commands.{Numbers, numbers_with, required, optional, task, ring, max_lines, slack, saber_shape, is_faultless, usual_numbers}
+use Rattle.saber_words.specs.declared.commands.Many.{Many}
+
+-- runs of one to eight queries over the rows of one file, each by its name: in tasks of so many rows, on a ring of so many cells, by so many
+-- threads for each beside the caller's; over a file of at most so many lines, whose timestamps fall by at most so much, and whether the end of
+-- the input closes the windows that are begun
+pub record AskedMany : Type 0 where
+  pub left : Text
+  pub queries : List Text
+  pub task : ℕ
+  pub ring : ℕ
+  pub threads : ℕ
+  pub most : ℕ
+  pub slack : ℕ
+  pub flush : Bool
+
+abbrev pub asked_many : Many → AskedMany
+asked_many m = record {
+  left = m.left.now;
+  queries = map (λ query. query.now) m.queries.items;
+  task = m.task;
+  ring = m.ring;
+  threads = m.threads;
+  most = m.max_lines;
+  slack = m.slack;
+  flush = m.flush;
+}
+
+-- 1 to 8 queries, 1 to 65,536 rows of a task, 1 to 1,024 cells of the ring, at most 8 threads for each query, 1 to 2^40 lines of a file, and
+-- timestamps that fall by at most 2^40
+pub record HasManySizes (m : AskedMany) : Type 0 where
+  pub some_queries : 1 ≤ length m.queries
+  pub few_queries : length m.queries ≤ 8
+  pub some_rows : 1 ≤ m.task
+  pub few_rows : m.task ≤ 65536
+  pub some_cells : 1 ≤ m.ring
+  pub few_cells : m.ring ≤ 1024
+  pub few_threads : m.threads ≤ 8
+  pub some_lines : 1 ≤ m.most
+  pub few_lines : m.most ≤ 2 ^ 40
+  pub small_slack : m.slack ≤ 2 ^ 40
+
+-- ---- the table of commands (this project's rule)
+
+-- `--threads T`: the threads for each query
+abbrev pub few_threads : Numeric
+few_threads = record { name = codes "threads"; least = 0; most = 8; usual = codes "2" }
+
+-- the queries behind the first one
+abbrev pub others : List Text
+others = codes "second" ∷ codes "third" ∷ codes "fourth" ∷ codes "fifth" ∷ codes "sixth" ∷ codes "seventh" ∷ codes "eighth" ∷ []
+
+-- many LEFT QUERY.. [--task N] [--ring B] [--threads T] [--max-lines M] [--slack S] [--final]
+abbrev pub many_shape : Shape
+many_shape = record (new_shape (codes "many")) {
+  rules = required (codes "left") ∷ required (codes "first") ∷ map optional others
+      ++ (number_rule task ∷ number_rule ring ∷ number_rule few_threads ∷ number_rule max_lines ∷ number_rule slack
+      ∷ flag_rule (codes "final") ∷ []);
+}
+
+-- a program without global arguments, which is this one
+abbrev pub IsLocal : Command → App → Type 0
+IsLocal c a = (app_of c ≡ a) × ((out-Command c).has_globals ≡ false)
+
+-- with positionals of these names behind its arguments, each of which may be left out
+abbrev pub with_names : App → List Text → App
+with_names a names = record a { top = record a.top { rules = a.top.rules ++ map optional names } }
+
+-- the program with this command alone
+abbrev pub many_app : App
+many_app = record { top = saber_shape; subs = many_shape ∷ [] }
+
+-- ---- the words
+
+-- the queries that were named, in order
+abbrev pub queries_in : List Text → List Row → List Text
+queries_in ids rows = flat_map (λ id. option_to_list (first_of id rows)) ids
+
+abbrev pub queries_by : List Row → List Text
+queries_by = queries_in (codes "first" ∷ others)
+
+abbrev pub few_numbers_by : List Row → Option Numbers
+few_numbers_by rows = numbers_with (number_by task rows) (number_by ring rows) (number_by few_threads rows) (number_by max_lines rows) (number_by slack rows)
+
+-- what `many` asks for, by its file, its queries, the numbers of its options, and whether `--final` was given
+abbrev pub many_with : Option Text → List Text → Option Numbers → Bool → Option AskedMany
+many_with (Some left) (query ∷ more) (Some n) flush = Some (record {
+  left = left;
+  queries = query ∷ more;
+  task = n.task;
+  ring = n.ring;
+  threads = n.threads;
+  most = n.most;
+  slack = n.slack;
+  flush = flush;
+})
+many_with _ _ _ flush = None
+
+abbrev pub many_by : List Row → Option AskedMany
+many_by rows = many_with (first_of (codes "left") rows) (queries_by rows) (few_numbers_by rows) (flag_by (codes "final") rows)
+
+abbrev pub many_in : Text × List Row → Option AskedMany
+many_in s = if bytes_eq s.0 (codes "many") then many_by s.1 else None
+
+-- the runs that the words ask for, if they are `many`: `clap` finds no fault in them
+unfoldable pub many_of : List Text → Option AskedMany
+many_of words = if is_faultless (fault_of many_app words) then option_and_then many_in (subcommand_of many_app words) else None
+
+-- ---- the same for file names alone
+
+-- these queries over this file, where the words give no option: the end of the input closes nothing
+abbrev pub plain_many : Text → List Text → AskedMany
+plain_many left queries = record {
+  left = left;
+  queries = queries;
+  task = usual_numbers.task;
+  ring = usual_numbers.ring;
+  threads = usual_numbers.threads;
+  most = usual_numbers.most;
+  slack = usual_numbers.slack;
+  flush = false;
+}
+
+-- `many` wants a left file and the files of one to eight queries
+abbrev pub many_of_files : List Text → Option AskedMany
+many_of_files [] = None
+many_of_files (left ∷ queries) = if nat_le 1 (length queries) && nat_le (length queries) 8 then Some (plain_many left queries) else None
+
+-- ---- the files that are written
+
+-- of the query in the file of this name: that name with `.out` behind it
+abbrev pub out_name : Text → Text
+out_name query = query ++ codes ".out"

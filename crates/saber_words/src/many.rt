@@ -1,0 +1,202 @@
+//! The words of `many`.
+ghost use Rattle.std.specs.Prelude.{◌≡◌, ◌++◌, IfOk, Some, None, OnOk, map, option_map, option_and_then, option_to_list, string_bytes, false};
+ghost use Rattle.clap.specs.Walk.{first_of};
+ghost use Rattle.clap.specs.Words.{app_of, found_of, rows_of, shape_of, subcommand_rows_of};
+ghost use Rattle.clap.specs.Simple.{App};
+ghost use Rattle.clap.specs.declared.builder.command.Command.TheViews.{out-Command};
+ghost use Rattle.saber_words.specs.Commands.{numbers_of};
+ghost use Rattle.saber_words.specs.Numbers.{numeric_of};
+ghost use Rattle.saber_words.specs.Many.{asked_many, few_numbers_by, few_threads, many_app, many_by, many_in, many_of, many_shape, queries_in, many_with, out_name, with_names, IsLocal, HasManySizes};
+
+use crate::flags::{flag_arg, is_given};
+use crate::numbers::{NumberOption, RunSizes, max_lines, number, number_arg, ring, slack, task};
+use crate::reading::fault;
+use crate::{Many, WordsFault};
+use clap::{Arg, ArgMatches};
+use std::alloc::{AllocError, Global};
+
+/// What `many LEFT QUERY..` asks for, by the words of the command line, of which the first is the
+/// name of the program. The words are this command exactly where `clap` takes them for it (this
+/// project's rule). Every other refusal than for want of memory is `Usage`.
+pub fn read_many<'a>(alloc: Global, words: &'a [&'a str]) -> Result<Many<'a>, WordsFault>
+    ensures taken { IfOk result (λ many. many_of (map (λ word. word.now) words.entry.now) ≡ Some (asked_many many)) }
+    ensures sizes { IfOk result (λ many. HasManySizes (asked_many many)) }
+    ensures usage { result ≡ Err WordsFault.Usage → many_of (map (λ word. word.now) words.entry.now) ≡ None }
+{
+    let app = program(alloc)?;
+    match app.try_get_matches_from(words) {
+        Ok(matches) => asked(alloc, &matches)?.ok_or(WordsFault::Usage),
+        Err(error) => Err(fault(error.kind())),
+    }
+}
+
+/// The name of the file that a query of `many` writes to: the name of its own file with `.out`
+/// behind it (this project's rule).
+pub fn out_name(alloc: Global, query: &str) -> Result<String, AllocError>
+    ensures { IfOk result (λ name. string_bytes name ≡ out_name query.now) }
+{
+    let mut name = String::from_str(alloc, query)?;
+    name.push_str(".out")?;
+    Ok(name)
+}
+
+// The threads for each query.
+fn few_threads() -> NumberOption
+    ensures { numeric_of result ≡ few_threads }
+{
+    NumberOption {
+        name: "threads",
+        least: 0,
+        most: 8,
+        usual: "2",
+    }
+}
+
+// The program with this subcommand alone.
+fn program<'a>(alloc: Global) -> Result<clap::Command<'a>, AllocError>
+    ensures { IfOk result (λ app. app_of app ≡ many_app) }
+{
+    let many = many_app(alloc)?;
+    clap::Command::new(alloc, "saber")
+        .disable_help_flag(true)
+        .disable_help_subcommand(true)
+        .disable_version_flag(true)
+        .subcommand_required(true)
+        .subcommand(many)
+}
+
+// The subcommand, for `clap`.
+fn many_app<'a>(alloc: Global) -> Result<clap::Command<'a>, AllocError>
+    ensures { IfOk result (λ app. (shape_of app ≡ many_shape) × ((out-Command app).has_globals ≡ false)) }
+{
+    let left = Arg::new(alloc, "left").required(true);
+    let first = Arg::new(alloc, "first").required(true);
+    let others = [
+        "second", "third", "fourth", "fifth", "sixth", "seventh", "eighth",
+    ];
+    let app = clap::Command::new(alloc, "many").arg(left)?.arg(first)?;
+    with_names(alloc, app, others.as_slice())?
+        .arg(number_arg(alloc, task()))?
+        .arg(number_arg(alloc, ring()))?
+        .arg(number_arg(alloc, few_threads()))?
+        .arg(number_arg(alloc, max_lines()))?
+        .arg(number_arg(alloc, slack()))?
+        .arg(flag_arg(alloc, "final"))
+}
+
+// The command with positionals of these names too, each of which may be left out.
+fn with_names<'a>(
+    alloc: Global,
+    app: clap::Command<'a>,
+    names: &[&'static str],
+) -> Result<clap::Command<'a>, AllocError>
+    ensures { (a : App) → IsLocal app.entry a → IfOk result (λ new. IsLocal new (with_names a (map (λ name. name.now) names.now))) }
+{
+    let Some((name, rest)) = names.split_first() else {
+        return Ok(app);
+    };
+    let more = app.arg(Arg::new(alloc, *name))?;
+    with_names(alloc, more, rest)
+}
+
+// What the subcommand that was met asks for.
+fn asked<'a>(alloc: Global, matches: &ArgMatches<'a>) -> Result<Option<Many<'a>>, AllocError>
+    ensures { IfOk result (λ read. option_map asked_many read ≡ option_and_then many_in (subcommand_rows_of matches.now)) }
+{
+    let Some((name, values)) = matches.subcommand() else {
+        return Ok(None);
+    };
+    if name == "many" {
+        many(alloc, values)
+    } else {
+        Ok(None)
+    }
+}
+
+// What its words ask for.
+fn many<'a>(alloc: Global, values: &ArgMatches<'a>) -> Result<Option<Many<'a>>, AllocError>
+    ensures { IfOk result (λ read. option_map asked_many read ≡ many_by (rows_of (found_of values.now))) }
+{
+    let names = [
+        "first", "second", "third", "fourth", "fifth", "sixth", "seventh", "eighth",
+    ];
+    let mut queries = Vec::new(alloc);
+    take_queries(&mut queries, values, names.as_slice())?;
+    let flush = is_given(values, "final");
+    Ok(with(values.get_str("left"), queries, few_sizes(values), flush))
+}
+
+// These, where all that is wanted was found.
+fn with<'a>(
+    left: Option<&'a str>,
+    queries: Vec<&'a str>,
+    sizes: Option<RunSizes>,
+    flush: bool,
+) -> Option<Many<'a>>
+    ensures { option_map asked_many result ≡ many_with (option_map (λ name. name.now) left.entry) (map (λ query. query.now) queries.entry.items) (option_map numbers_of sizes) flush }
+{
+    let left = left?;
+    let sizes = sizes?;
+    if queries.is_empty() {
+        return None;
+    }
+    Some(Many {
+        left,
+        queries,
+        task: sizes.task,
+        ring: sizes.ring,
+        threads: sizes.threads,
+        max_lines: sizes.max_lines,
+        slack: sizes.slack,
+        flush,
+    })
+}
+
+// Puts the value of this positional behind the queries, if it was given.
+fn take_query<'a>(
+    queries: &mut Vec<&'a str>,
+    values: &ArgMatches<'a>,
+    name: &'static str,
+) -> Result<(), AllocError>
+    ensures { OnOk result (map (λ query. query.now) queries.new.items
+        ≡ map (λ query. query.now) queries.old.items ++ option_to_list (first_of name.now (rows_of (found_of values.now)))) }
+{
+    if let Some(query) = values.get_str(name) {
+        queries.push(query)?;
+    }
+    Ok(())
+}
+
+// Puts those of these positionals behind the queries.
+fn take_queries<'a>(
+    queries: &mut Vec<&'a str>,
+    values: &ArgMatches<'a>,
+    names: &[&'static str],
+) -> Result<(), AllocError>
+    ensures { OnOk result (map (λ query. query.now) queries.new.items
+        ≡ map (λ query. query.now) queries.old.items ++ queries_in (map (λ name. name.now) names.now) (rows_of (found_of values.now))) }
+{
+    let Some((name, rest)) = names.split_first() else {
+        return Ok(());
+    };
+    take_query(queries, values, *name)?;
+    take_queries(queries, values, rest)
+}
+
+// The numbers of the options that were asked for.
+fn few_sizes(values: &ArgMatches<'_>) -> Option<RunSizes>
+    ensures { option_map numbers_of result ≡ few_numbers_by (rows_of (found_of values.now)) }
+{
+    let rows = number(values, task())?;
+    let cells = number(values, ring())?;
+    let count = number(values, few_threads())?;
+    let lines = number(values, max_lines())?;
+    let slack = number(values, slack())?;
+    Some(RunSizes {
+        task: rows as u32,
+        ring: cells as u32,
+        threads: count as u32,
+        max_lines: lines,
+        slack,
+    })
+}
