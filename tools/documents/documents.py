@@ -1,8 +1,8 @@
 #!/usr/bin/env python3
 """documents.py, run at the top of the tree: whether each console example of README.md and docs/ is a case of documents.cases, with what comes of it.
 
-The gate tries the cases; this compares the documents with them, and `cat` and `head` of a file with the file. It prints a line for each example
-that is told otherwise, and ends with status 1 where there is one.
+The gate tries the cases; this compares the documents with them, `cat` and `head` of a file with the file, and `cat` of what `many` wrote with the parts
+of the case before. It prints a line for each example that is told otherwise, and ends with status 1 where there is one.
 """
 import glob, re, subprocess, sys
 
@@ -23,7 +23,7 @@ def said(lines, texts):
     return "".join(line[:-1] if line.endswith("\\") else line + "\n" for line in lines)
 
 def answers():
-    """What comes of each call, by its words: the answer and the note."""
+    """What comes of each call, by its words: the answer and the note. And what comes into each file, by its name."""
     texts, told, words = {}, {}, ""
     for head, lines in fields():
         if head.startswith("text "):
@@ -33,6 +33,8 @@ def answers():
             told[words] = ""
         elif head in ("out", "note"):
             told[words] += said(lines, texts)
+        elif head.startswith("out of "):
+            told[words.split()[int(head[7:]) + 2] + ".out"] = said(lines, texts)
     return told
 
 def examples(text):
@@ -45,8 +47,11 @@ def examples(text):
 told, wrong = answers(), 0
 for document in ["README.md", *sorted(glob.glob("docs/*.md"))]:
     for command, below in examples(open(document, encoding="utf-8").read()):
-        if command.startswith("./saber "):
+        command = command.removeprefix("cd examples && ")
+        if re.match(r"\.\.?/saber ", command):
             wanted = told.get(command)
+        elif re.match(r"cat( [\w/.]+\.out)+$", command):
+            wanted = "".join(told.get(name, "?") for name in command.split()[1:])
         elif re.match(r"(cat|head -\d+) [\w/. ]+$", command):
             wanted = subprocess.run(command.split(), capture_output=True, text=True).stdout
         else:

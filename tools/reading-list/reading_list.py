@@ -1,5 +1,5 @@
 #!/usr/bin/env python3
-"""reading_list.py [TREE [NAME ..]]: the definitions that the contract of the top call rests on, by crate and file.
+"""reading_list.py [TREE [NAME ..]]: the definitions that the contracts of `saber` and `top` rest on, by crate and file.
 
 By names and imports alone, so it is a list to read by, and no proof of anything: a name that a file imports and uses
 counts, in which sense soever. Names that are given are left out, with all that only they need.
@@ -54,8 +54,16 @@ def begun(line, current):
 
 @functools.lru_cache(maxsize=None)
 def definitions(path):
-    imports, blocks, current = {}, collections.OrderedDict(), None
+    imports, blocks, current, within = {}, collections.OrderedDict(), None, False
     for line in open(path).read().split("\n"):
+        # What stands in a `module _` is two spaces in.
+        if line.startswith("module _"):
+            current, within = None, True
+            continue
+        if line.strip():
+            within = within and line.startswith("  ")
+        if within:
+            line = line[2:]
         if line.startswith(("use ", "pub use ", "pub mod", "--")):
             imports.update(imported(line))
         elif not line.strip():
@@ -97,7 +105,8 @@ def visit(path, name, seen):
 def main():
     sys.setrecursionlimit(100000)
     seen, left_out = set(), set(sys.argv[2:])
-    for crate, module, names in GHOST_IMPORT.findall(open(f"{ROOT}/saber_cli/src/top.rt").read()):
+    calls = "".join(open(f"{ROOT}/{call}").read() for call in ("saber_cli/src/top.rt", "saber_top/src/call.rt"))
+    for crate, module, names in GHOST_IMPORT.findall(calls):
         path = file_of(crate, module)
         for name in (names.split(",") if path else []):
             if name.strip() not in left_out:

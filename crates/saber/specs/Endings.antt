@@ -1,13 +1,14 @@
 -- How the process ends.
 use Rattle.std.specs.Prelude.{◌≡◌, ◌≢◌, ℕ, List, Option}
 use Rattle.saber_plan.specs.Outputs.{AppendsPrefix}
-use Rattle.saber_notes.specs.Notes.{status_of, note_of}
 use Rattle.saber_notes.specs.declared.outcome.Outcome.{Outcome}
-use Rattle.saber_notes.specs.declared.outcome.Outcome.TheVariants.{Done}
+use Rattle.saber_top.specs.declared.ended.TopEnd.{TopEnd}
+use Rattle.saber_top.specs.Ends.{top_status, top_notes}
 
--- With the status of some outcome, and of the note that tells it the whole or a front; none of a good end.
+-- With the status of some end, and of the notes that tell it the whole or a front; nothing with status 0.
 pub record Ends (status : ℕ) (old new : Option (List ℕ)) : Type 0 where
-  pub outcome : Outcome
-  pub status_is : status ≡ status_of outcome
-  pub nothing : outcome ≡ Done → new ≡ old
-  pub note : outcome ≢ Done → AppendsPrefix old new (note_of outcome)
+  pub end : TopEnd
+  pub outcomes : List Outcome
+  pub status_is : status ≡ top_status end outcomes
+  pub nothing : status ≡ 0 → new ≡ old
+  pub notes : status ≢ 0 → AppendsPrefix old new (top_notes end outcomes)

@@ -1,11 +1,11 @@
 //! The program `saber`: the top call over real files, standard output and standard error.
-//! All else is in `saber_cli`; here are the words of the process, and the adapters of `saber_io`.
+//! All else is in `saber_top`; here are the words of the process, and the adapters of `saber_io`.
 //!
-//! - Call: `main` takes the runtime, and gives the status that `saber` tells. Words that the system
+//! - Call: `main` takes the runtime, and gives the status that `top` tells. Words that the system
 //!   can't hand over end it by `refuse_words`.
-//! - Proved: that it is safe, and that the status is that of an outcome, whose note went to the notes
-//!   whole or a front of it (`ended`). That `main`, which takes no clause, hands on standard output,
-//!   standard error and that status is to be read.
+//! - Proved: that it is safe, and that the status is that of an end, whose notes went out whole or a
+//!   front of them (`called`). That `main`, which takes no clause, hands on standard output, standard
+//!   error and that status is to be read.
 //! - Tested: `args`, `data`, `stdout` and `status` are one stored run, which the gate makes with two
 //!   compilers: it ends with a refused line, so the status isn't 0 and a note on standard output
 //!   would show.
@@ -13,8 +13,9 @@
 
 ghost use Rattle.saber.specs.Endings.{Ends};
 
-use saber_cli::{Ended, WordsFault, refuse_words, saber};
-use saber_io::{Files, HostFiles, OpenGate, Sink, StdSink};
+use saber_cli::{WordsFault, refuse_words};
+use saber_io::{Files, HostFiles, HostOuts, OpenGate, Outs, Sink, StdSink};
+use saber_top::{ended, top};
 use std::alloc::{AllocError, Global};
 use std::io::ErrorKind;
 use std::process::ExitCode;
@@ -59,11 +60,12 @@ fn refused<N: Sink>(fault: WordsFault, notes: &mut N) -> u8
 }
 
 // Does what the words ask for, and gives the status.
-fn run<F: Files, K: Sink + Send + Drop, N: Sink, R: Threads + Wait + Sync>(
+fn run<F: Files, U: Outs, K: Sink + Send + Drop, N: Sink, R: Threads + Wait + Sync>(
     rt: &R,
     alloc: Global,
     texts: &[String],
     files: &mut F,
+    outs: &mut U,
     sink: K,
     notes: &mut N,
 ) -> u8
@@ -73,7 +75,9 @@ where
 {
     match lent(alloc, texts) {
         Ok(words) => {
-            let Ended { status, .. } = saber(rt, alloc, &words, files, sink, notes, &OpenGate);
+            let ended::Top { status, .. } = top(
+                rt, alloc, &words, files, outs, sink, notes, &OpenGate,
+            );
             status
         }
         Err(fault) => refused(fault, notes),
@@ -81,11 +85,12 @@ where
 }
 
 // The same, with words that may not have been handed over.
-fn ended<F: Files, K: Sink + Send + Drop, N: Sink, R: Threads + Wait + Sync>(
+fn called<F: Files, U: Outs, K: Sink + Send + Drop, N: Sink, R: Threads + Wait + Sync>(
     rt: &R,
     alloc: Global,
     handed: Result<Vec<String>, WordsFault>,
     files: &mut F,
+    outs: &mut U,
     sink: K,
     notes: &mut N,
 ) -> u8
@@ -94,7 +99,7 @@ where
     ensures { Ends result (N.written notes.old) (N.written notes.new) }
 {
     match handed {
-        Ok(texts) => run(rt, alloc, &texts, files, sink, notes),
+        Ok(texts) => run(rt, alloc, &texts, files, outs, sink, notes),
         Err(fault) => refused(fault, notes),
     }
 }
@@ -102,8 +107,9 @@ where
 fn main(rt: HostRuntime) -> ExitCode {
     let alloc = rt.alloc();
     let mut files = HostFiles::new(rt);
+    let mut outs = HostOuts::new(rt);
     let sink = StdSink::new(rt.stdout());
     let mut notes = StdSink::new(rt.stderr());
     let handed = words(&rt, alloc);
-    ExitCode::from(ended(&rt, alloc, handed, &mut files, sink, &mut notes))
+    ExitCode::from(called(&rt, alloc, handed, &mut files, &mut outs, sink, &mut notes))
 }

@@ -15,3 +15,4 @@ pub mod PlanLemmas
 pub mod ChainLeaveLemmas
 pub mod ChainRunLemmas
 pub mod WorkedChain
+pub mod AloneLemmas

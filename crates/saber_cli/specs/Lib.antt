@@ -19,3 +19,4 @@ pub mod Tells
 pub mod Chained
 pub mod ChainLeaves
 pub mod Chaining
+pub mod Alone

@@ -38,7 +38,7 @@ fn file_of(side: Side) -> InputFile
 }
 
 /// How the call ends behind a run on a ring of so many cells.
-pub(crate) fn outcome_of(end: RunEnd, ring: u32) -> Outcome
+pub fn outcome_of(end: RunEnd, ring: u32) -> Outcome
     ensures { result ≡ ended_as ring end }
 {
     match end {

@@ -1,5 +1,5 @@
-//! The top call `saber`, from words and files to bytes, a status and a note.
-//! The program is `main` over it, and cases are tried on it. `top.rt` holds the theorem, one clause
+//! The call `saber`, from words and files to bytes, a status and a note. The program is over it by
+//! way of `top` of `saber_top`, which has one command more. `top.rt` holds the theorem, one clause
 //! a fact; docs/RULES.md ("What is promised of a call") has it in words, docs/RUN.md what it rests
 //! on.
 //!
@@ -10,7 +10,9 @@
 //!   (they are opened and given back), `answer` (the engine over them), `laws` (those that proofs
 //!   here rest on).
 //! - Calls: `saber` takes words, files, a sink and a sink for notes, and gives `Ended`;
-//!   `refuse_words` ends a call whose words the system can't hand over.
+//!   `refuse_words` ends a call whose words the system can't hand over. Parts of it that a call with
+//!   several queries has too: `query_plan`, `open_row`, `close_rows`, `outcome_of`, and the law
+//!   `runs_tell`.
 //! - Proved: what goes out, which files are asked for and given back, which status and note comes,
 //!   and that each has its cause. Of `specs/` open `Outcomes`, `Due`, `Answered`, `Chained` and
 //!   `Leaves` first.
@@ -37,6 +39,10 @@ mod texts;
 mod top;
 mod words;
 
+pub use answer::outcome_of;
+pub use laws::runs_tell;
+pub use query_plans::query_plan;
+pub use row_files::{close_rows, open_row};
 pub use saber_notes::{InputFile, Noted, Outcome};
 pub use saber_words::WordsFault;
 pub use top::{Ended, Refused, refuse_words, saber};

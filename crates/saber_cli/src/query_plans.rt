@@ -1,4 +1,4 @@
-// The plans of a chain's two queries.
+// The plan of a query's file, and the plans of a chain's two queries.
 ghost use Rattle.std.specs.Prelude.{◌≡◌, ◌≢◌, ℕ, List, IfOk, IfErr, IfSome, None, length, true, false};
 ghost use Rattle.saber_plan.specs.Outputs.{Rose};
 ghost use Rattle.saber_plan.specs.Trees.{tree_of};
@@ -27,8 +27,9 @@ use saber_plan::{Plan, Shape};
 use saber_words::Chain;
 use std::alloc::Global;
 
-// The plan of the query that a file has.
-fn query_plan<F: Files>(alloc: Global, files: &mut F, name: &str) -> Result<Plan, Outcome>
+/// Opens, reads and closes a query's file, and gives the plan of the query that it has. The
+/// outcomes that it answers are those of a command whose first query this is.
+pub fn query_plan<F: Files>(alloc: Global, files: &mut F, name: &str) -> Result<Plan, Outcome>
     ensures plan { IfOk result (λ plan. IfSome (F.told files.old) (λ t. IsPlanned t.contents name.now (tree_of plan))) }
     ensures checked { IfOk result (λ plan. IsChecked (tree_of plan)) }
     ensures lacks { IfErr result (λ o. IfSome (F.told files.old) (λ t. LacksPlan t.contents name.now o)) }
@@ -129,7 +130,8 @@ pub(crate) struct Plans {
     pub(crate) second: Plan,
 }
 
-/// Reads and checks the first query and then the second one, and whether they chain over the row files that are named.
+/// Reads and checks the first query and then the second one, and whether they chain over the row
+/// files that are named.
 pub(crate) fn chain_plans<F: Files>(
     alloc: Global,
     files: &mut F,

@@ -17,8 +17,8 @@ use saber_notes::{InputFile, Outcome};
 use saber_words::Run;
 use std::alloc::Global;
 
-// Opens one of them.
-fn open_row<F: Files>(
+/// Opens one of them, which the outcomes name so.
+pub fn open_row<F: Files>(
     alloc: Global,
     files: &mut F,
     name: &str,
@@ -39,7 +39,8 @@ fn open_row<F: Files>(
     }
 }
 
-/// Opens those that a command names, the left one first. If the right one can't be opened, the left one is given back.
+/// Opens those that a command names, the left one first. If the right one can't be opened, the left
+/// one is given back.
 pub(crate) fn open_rows<F: Files>(
     alloc: Global,
     files: &mut F,
@@ -69,7 +70,7 @@ pub(crate) fn open_rows<F: Files>(
 }
 
 /// Gives them back, in the order in which they were opened.
-pub(crate) fn close_rows<F: Files>(files: &mut F, inputs: Inputs<F::Src>)
+pub fn close_rows<F: Files>(files: &mut F, inputs: Inputs<F::Src>)
     ensures closed { F.told files.new ≡ using (F.told files.old) [] (each_input (source_back F.Src.left F.Src.faults) inputs) }
     ensures count { F.faults files.new ≡ raised_by (F.faults files.old) (each_input (source_back F.Src.left F.Src.faults) inputs) }
 {

@@ -6,9 +6,13 @@ mod cores;
 #[cfg(test)]
 mod crews;
 #[cfg(test)]
+mod many;
+#[cfg(test)]
 mod rings;
 #[cfg(test)]
 mod runs;
+#[cfg(test)]
+mod shared_runs;
 #[cfg(test)]
 mod texts;
 #[cfg(test)]

@@ -1,9 +1,10 @@
 //! Runs over sources in memory, by several threads, worked out by hand. What a run over files gives is data: `saber_cases`.
 ghost use Rattle.std.specs.Prelude.{◌≡◌, ◌≤◌, ◌^◌, None, length, IfOk};
 ghost use Rattle.saber_plan.specs.declared.plans.Shape.TheVariants as shapes;
+ghost use Rattle.saber_plan.specs.declared.rows.Side.TheVariants as sides;
 ghost use Rattle.saber_plan.specs.Trees.{tree_of};
 ghost use Rattle.saber_io.specs.MemFeeds.{taken_of, waiting_of};
-ghost use Rattle.saber_plan.specs.Checked.{IsChecked, WindowFits};
+ghost use Rattle.saber_plan.specs.Checked.{IsChecked, WindowFits, columns_on};
 
 use crate::texts::{assert_same, bytes_of, parts};
 use saber_engine::{Inputs, Ran, RunEnd, engine, engine_fed};
@@ -28,9 +29,10 @@ const RANGE: Window = Window {
 };
 
 // COUNT(*) over one stream of three columns.
-fn counts(alloc: Global, window: Window) -> Result<Plan, NoMemory>
+pub(crate) fn counts(alloc: Global, window: Window) -> Result<Plan, NoMemory>
     requires { WindowFits window }
-    ensures { IfOk result (λ p. IsChecked (tree_of p) × ((tree_of p).word ≡ None) × (length (tree_of p).streams ≡ 1)) }
+    ensures query { IfOk result (λ p. IsChecked (tree_of p) × ((tree_of p).word ≡ None) × (length (tree_of p).streams ≡ 1)) }
+    ensures columns { IfOk result (λ p. columns_on (tree_of p).streams sides.Left ≡ 3) }
 {
     let stream = Stream {
         columns: 3,
@@ -59,7 +61,7 @@ fn pairs(alloc: Global) -> Result<Plan, NoMemory>
     Ok(Plan::new(Shape::Join, streams, items, Vec::new(alloc), None))
 }
 
-fn sizes(task: u32, ring: u32, threads: u32, flush: bool) -> Sizes
+pub(crate) fn sizes(task: u32, ring: u32, threads: u32, flush: bool) -> Sizes
     ensures { result ≡ record { task = task; ring = ring; threads = threads; max_lines = 2 ^ 40; slack = 0; flush = flush } }
 {
     Sizes {
@@ -72,15 +74,20 @@ fn sizes(task: u32, ring: u32, threads: u32, flush: bool) -> Sizes
     }
 }
 
-fn source(alloc: Global, text: &str) -> Result<MemSource, NoMemory> {
+pub(crate) fn source(alloc: Global, text: &str) -> Result<MemSource, NoMemory> {
     let bytes = text.as_bytes().to_vec(alloc)?;
     Ok(MemSource::new(bytes, Vec::new(alloc), Vec::new(alloc)))
 }
 
 // The end of a run, its tasks, and what it wrote.
-fn told(alloc: Global, ran: &Ran<MemSink>) -> Result<String, NoMemory> {
-    let mut told = format!(in alloc; "{:?} {} ", ran.end, ran.tasks)?;
-    for byte in ran.sink.bytes() {
+pub(crate) fn told_of(
+    alloc: Global,
+    end: RunEnd,
+    tasks: u64,
+    bytes: &[u8],
+) -> Result<String, NoMemory> {
+    let mut told = format!(in alloc; "{:?} {} ", end, tasks)?;
+    for byte in bytes {
         told.push(if *byte == b'\n' {
             ';'
         } else {
@@ -88,6 +95,10 @@ fn told(alloc: Global, ran: &Ran<MemSink>) -> Result<String, NoMemory> {
         })?;
     }
     Ok(told)
+}
+
+fn told(alloc: Global, ran: &Ran<MemSink>) -> Result<String, NoMemory> {
+    told_of(alloc, ran.end, ran.tasks, ran.sink.bytes())
 }
 
 // Counts over one file, whose end is a task too, and pairs of two files, of which the fifth row needs those of all tasks before it.

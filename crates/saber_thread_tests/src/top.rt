@@ -11,7 +11,7 @@ use std::sync::Wait;
 use std::test::Fail;
 use std::thread::Threads;
 
-const COUNT: &str = "STREAM S(t,g,v); SELECT COUNT(*) FROM S [ROWS 2 SLIDE 2]";
+pub(crate) const COUNT: &str = "STREAM S(t,g,v); SELECT COUNT(*) FROM S [ROWS 2 SLIDE 2]";
 
 const SUMS: &str = "STREAM S(t,g,v); SELECT g, SUM(v) FROM S [ROWS 3 SLIDE 1] GROUP BY g";
 
@@ -29,7 +29,7 @@ fn file(alloc: Global, name: &str, bytes: Vec<u8>) -> Result<MemFile, AllocError
 }
 
 // A query q, another one p, and five rows l.
-fn files(alloc: Global, query: &str, second: &str) -> Result<MemFiles, AllocError> {
+pub(crate) fn files(alloc: Global, query: &str, second: &str) -> Result<MemFiles, AllocError> {
     let query = file(alloc, "q", query.as_bytes().to_vec(alloc)?)?;
     let second = file(alloc, "p", second.as_bytes().to_vec(alloc)?)?;
     let rows = file(alloc, "l", bytes_of(alloc, FIVE)?)?;
@@ -50,7 +50,7 @@ fn end<G: Gate + Sync, R: Threads + Wait + Sync>(
 }
 
 // Bytes of ASCII, with ; for a line end.
-fn tell(told: &mut String, bytes: &[u8]) -> Result<(), AllocError> {
+pub(crate) fn tell(told: &mut String, bytes: &[u8]) -> Result<(), AllocError> {
     for byte in bytes {
         told.push(if *byte == b'\n' {
             ';'
@@ -137,11 +137,11 @@ fn digit(text: &str) -> u64 {
 }
 
 // How often a task looks at a gate: where the caller works alone, nobody is waited for.
-fn limit(threads: &str) -> u64 {
+pub(crate) fn limit(threads: &str) -> u64 {
     if threads == "0" { 1_000 } else { 100_000_000 }
 }
 
-fn lateness(is_late: bool) -> &'static str {
+pub(crate) fn lateness(is_late: bool) -> &'static str {
     if is_late { "late" } else { "in time" }
 }
 

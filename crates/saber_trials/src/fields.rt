@@ -21,6 +21,9 @@ pub(crate) enum Key {
     Open,
     Write,
     NoteWrite,
+    /// The create that fails, and the write to a file that is created, by its name.
+    Create,
+    PartWrite,
     /// Values with each of which the case is tried.
     Each,
     /// The sizes that it is tried with.
@@ -34,6 +37,11 @@ pub(crate) enum Key {
     OutEnd,
     Note,
     Tasks,
+    /// How many parts there are, and what has to come of one, by its number.
+    Parts,
+    PartStatus,
+    PartOut,
+    PartTasks,
 }
 
 /// A field: its line, what it is about, of which file, and the lines of its text.
@@ -89,6 +97,7 @@ fn asked_key(head: &str) -> Option<Key> {
         "failing open" => Some(Key::Open),
         "failing write" => Some(Key::Write),
         "failing note" => Some(Key::NoteWrite),
+        "failing create" => Some(Key::Create),
         _ => None,
     }
 }
@@ -113,6 +122,7 @@ fn wanted_key(head: &str) -> Option<Key> {
         "out ends" => Some(Key::OutEnd),
         "note" => Some(Key::Note),
         "tasks" => Some(Key::Tasks),
+        "parts" => Some(Key::Parts),
         _ => None,
     }
 }
@@ -127,8 +137,25 @@ fn key_with_name(head: &str) -> Option<(Key, &str)> {
     if let Some(name) = head.strip_prefix("cuts of ") {
         return Some((Key::Cuts, name));
     }
-    head.strip_prefix("failing reads of ")
-        .map(|name| (Key::Reads, name))
+    if let Some(name) = head.strip_prefix("failing write of ") {
+        return Some((Key::PartWrite, name));
+    }
+    if let Some(name) = head.strip_prefix("failing reads of ") {
+        return Some((Key::Reads, name));
+    }
+    part_key(head)
+}
+
+// What has to come of a part.
+fn part_key(head: &str) -> Option<(Key, &str)> {
+    if let Some(number) = head.strip_prefix("status of ") {
+        return Some((Key::PartStatus, number));
+    }
+    if let Some(number) = head.strip_prefix("out of ") {
+        return Some((Key::PartOut, number));
+    }
+    head.strip_prefix("tasks of ")
+        .map(|number| (Key::PartTasks, number))
 }
 
 // The field that a line begins.

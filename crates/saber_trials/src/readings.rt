@@ -5,7 +5,7 @@ use crate::fields::{Field, Fields, Key};
 use crate::names::Names;
 use crate::refusals::{Cause, Refused};
 use crate::texts::{Space, part_of, text_of};
-use saber_io::MemFile;
+use saber_io::{MemFail, MemFile};
 use std::alloc::Global;
 
 /// The number that a word is.
@@ -102,6 +102,34 @@ pub(crate) fn writes(
         list.push(write_of(field)?)?;
     }
     Ok(list)
+}
+
+/// The number of the create that fails.
+pub(crate) fn creates(alloc: Global, fields: &Fields<'_>) -> Result<Vec<u64>, Refused> {
+    listed(alloc, fields, Key::Create, "")
+}
+
+/// The writes to files that are created that fail: the case's own, and then its section's.
+pub(crate) fn part_writes(alloc: Global, fields: &Fields<'_>) -> Result<Vec<MemFail>, Refused> {
+    let mut list = Vec::new(alloc);
+    push_part_writes(alloc, &fields.own, &mut list)?;
+    push_part_writes(alloc, &fields.shared, &mut list)?;
+    Ok(list)
+}
+
+fn push_part_writes(
+    alloc: Global,
+    some: &[Field<'_>],
+    list: &mut Vec<MemFail>,
+) -> Result<(), Refused> {
+    for field in some {
+        if field.key == Key::PartWrite {
+            let (write, out) = write_of(field)?;
+            let name = String::from_str(alloc, field.name)?;
+            list.push(MemFail { name, write, out })?;
+        }
+    }
+    Ok(())
 }
 
 fn write_of(field: &Field<'_>) -> Result<(u64, u64), Refused> {

@@ -1,48 +1,53 @@
 // One run of a case.
 use crate::fields::{Fields, Key};
 use crate::names::Names;
-use crate::readings::{files_of, opens, writes};
+use crate::readings::{creates, files_of, opens, part_writes, writes};
 use crate::refusals::Refused;
-use crate::wanted::Seen;
-use saber_cli::{Ended, Noted, saber};
-use saber_io::{Files, MemFiles, MemSink, OpenGate, Sink};
+use crate::wanted::{Seen, SeenPart};
+use saber_io::{Files, MemFiles, MemOuts, MemSink, OpenGate, Outs, Sink};
+use saber_notes::Noted;
+use saber_top::{PartList, ended, top};
 use std::alloc::{AllocError, Global};
 use std::sync::Wait;
 use std::thread::Threads;
 
 // What came of a call.
 #[derive(Drop)]
-struct Came<K> {
+struct Came<K, T> {
     status: u8,
     sink: K,
     tasks: u64,
     noted: Noted,
+    parts: PartList<T>,
 }
 
 // The call alone, over any files and sinks: what it promises is long, and no case needs it, so it is carried no further.
-fn top_call<F: Files, K: Sink + Send + Drop, N: Sink, R: Threads + Wait + Sync>(
+fn top_call<F: Files, U: Outs, K: Sink + Send + Drop, N: Sink, R: Threads + Wait + Sync>(
     rt: &R,
     alloc: Global,
     words: &[&str],
     files: &mut F,
+    outs: &mut U,
     sink: K,
     notes: &mut N,
-) -> Came<K>
+) -> Came<K, U::Out>
 where
     F::Src: Send + Drop,
 {
-    let Ended {
+    let ended::Top {
         status,
         sink,
         tasks,
         noted,
-        outcome: _,
-    } = saber(rt, alloc, words, files, sink, notes, &OpenGate);
+        end: _,
+        parts,
+    } = top(rt, alloc, words, files, outs, sink, notes, &OpenGate);
     Came {
         status,
         sink,
         tasks,
         noted,
+        parts,
     }
 }
 
@@ -59,16 +64,26 @@ pub(crate) fn run_once<R: Threads + Wait + Sync>(
     let mut files = MemFiles::new(alloc, listed, opens(alloc, fields)?);
     let sink = MemSink::new(alloc, writes(alloc, fields, Key::Write)?);
     let mut notes = MemSink::new(alloc, writes(alloc, fields, Key::NoteWrite)?);
-    let came = top_call(rt, alloc, words, &mut files, sink, &mut notes);
+    let mut outs = MemOuts::new(alloc, creates(alloc, fields)?, part_writes(alloc, fields)?);
+    let came = top_call(rt, alloc, words, &mut files, &mut outs, sink, &mut notes);
     Ok(seen(alloc, &came, &notes)?)
 }
 
-fn seen(alloc: Global, came: &Came<MemSink>, notes: &MemSink) -> Result<Seen, AllocError> {
+fn seen(alloc: Global, came: &Came<MemSink, MemSink>, notes: &MemSink) -> Result<Seen, AllocError> {
+    let mut parts = Vec::new(alloc);
+    for part in came.parts.as_slice() {
+        parts.push(SeenPart {
+            status: part.status,
+            out: part.out.bytes().to_vec(alloc)?,
+            tasks: part.tasks,
+        })?;
+    }
     Ok(Seen {
         status: came.status,
         out: came.sink.bytes().to_vec(alloc)?,
         note: notes.bytes().to_vec(alloc)?,
         noted: came.noted,
         tasks: came.tasks,
+        parts,
     })
 }

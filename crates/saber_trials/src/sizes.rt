@@ -84,7 +84,7 @@ fn tried<'a>(
 
 fn is_run(words: &[&str]) -> bool {
     match words.get(1) {
-        Some(word) => *word == "run" || *word == "chain" || *word == "demo",
+        Some(word) => { *word == "run" || *word == "chain" || *word == "demo" || *word == "many" }
         None => false,
     }
 }

@@ -4,7 +4,7 @@ use crate::names::Names;
 use crate::readings::{number, numbers};
 use crate::refusals::Refused;
 use crate::texts::text_of;
-use saber_cli::Noted;
+use saber_notes::Noted;
 use std::alloc::{AllocError, Global};
 
 /// What has to come of each run of a case.
@@ -18,6 +18,24 @@ pub(crate) struct Wanted {
     noted: Noted,
     // how many tasks are assembled, for each size of tasks; any number where there are none
     tasks: Vec<u64>,
+    // of each query of several
+    parts: Vec<WantedPart>,
+}
+
+/// What has to come of a part.
+#[derive(Drop)]
+struct WantedPart {
+    status: u64,
+    out: Vec<u8>,
+    tasks: Vec<u64>,
+}
+
+/// What came of a part.
+#[derive(Drop)]
+pub(crate) struct SeenPart {
+    pub(crate) status: u8,
+    pub(crate) out: Vec<u8>,
+    pub(crate) tasks: u64,
 }
 
 /// What came of a run.
@@ -28,6 +46,7 @@ pub(crate) struct Seen {
     pub(crate) note: Vec<u8>,
     pub(crate) noted: Noted,
     pub(crate) tasks: u64,
+    pub(crate) parts: Vec<SeenPart>,
 }
 
 impl Seen {
@@ -50,19 +69,103 @@ pub(crate) fn wanted_of(
         names,
         fields,
         if is_end { Key::OutEnd } else { Key::Out },
+        "",
     )?;
-    let tasks = match fields.find(Key::Tasks, "") {
-        Some(field) => numbers(alloc, field)?,
-        None => Vec::new(alloc),
-    };
+    let tasks = wanted_numbers(alloc, fields, Key::Tasks, "")?;
     Ok(Wanted {
         status,
         out,
         is_end,
-        note: wanted_text(alloc, names, fields, Key::Note)?,
+        note: wanted_text(alloc, names, fields, Key::Note, "")?,
         noted: noted_of(status, fields),
         tasks,
+        parts: wanted_parts(alloc, names, fields)?,
     })
+}
+
+fn wanted_numbers(
+    alloc: Global,
+    fields: &Fields<'_>,
+    key: Key,
+    name: &str,
+) -> Result<Vec<u64>, Refused> {
+    match fields.find(key, name) {
+        Some(field) => numbers(alloc, field),
+        None => Ok(Vec::new(alloc)),
+    }
+}
+
+// So many parts, which a run of several queries has alone.
+fn wanted_parts(
+    alloc: Global,
+    names: &Names,
+    fields: &Fields<'_>,
+) -> Result<Vec<WantedPart>, Refused> {
+    let mut parts = Vec::new(alloc);
+    let Some(field) = fields.find(Key::Parts, "") else {
+        return Ok(parts);
+    };
+    for index in 0..number(field, field.first())? {
+        parts.push(wanted_part(alloc, names, fields, index.saturating_add(1))?)?;
+    }
+    Ok(parts)
+}
+
+// The part of this number: status 0 and no bytes where a case says nothing else.
+fn wanted_part(
+    alloc: Global,
+    names: &Names,
+    fields: &Fields<'_>,
+    count: u64,
+) -> Result<WantedPart, Refused> {
+    let name = format!(in alloc; "{count}")?;
+    let status = match fields.find(Key::PartStatus, &name) {
+        Some(field) => number(field, field.first())?,
+        None => 0,
+    };
+    Ok(WantedPart {
+        status,
+        out: wanted_text(alloc, names, fields, Key::PartOut, &name)?,
+        tasks: wanted_numbers(alloc, fields, Key::PartTasks, &name)?,
+    })
+}
+
+// The number for the task size of this number: the last one holds for the rest.
+fn number_at(list: &[u64], size: usize) -> Option<u64> {
+    match list.get(size) {
+        Some(count) => Some(*count),
+        None => list.last().copied(),
+    }
+}
+
+impl WantedPart {
+    fn is_met(&self, seen: &SeenPart, size: usize) -> bool {
+        let tasks = number_at(&self.tasks, size).unwrap_or(seen.tasks);
+        u64::from(seen.status) == self.status
+            && seen.out.as_slice() == self.out.as_slice()
+            && seen.tasks == tasks
+    }
+
+    // Writes what isn't as it has to be of the part of this number.
+    fn tell(
+        &self,
+        seen: &SeenPart,
+        count: usize,
+        size: usize,
+        report: &mut String,
+    ) -> Result<(), AllocError> {
+        if self.is_met(seen, size) {
+            return Ok(());
+        }
+        let tasks = number_at(&self.tasks, size).unwrap_or(seen.tasks);
+        write!(
+            report,
+            "; part {count}: status {}, wanted {}",
+            seen.status, self.status
+        )?;
+        write!(report, ", tasks {}, wanted {tasks}", seen.tasks)?;
+        tell_text("out", &seen.out, &self.out, report)
+    }
 }
 
 fn wanted_text(
@@ -70,8 +173,9 @@ fn wanted_text(
     names: &Names,
     fields: &Fields<'_>,
     key: Key,
+    name: &str,
 ) -> Result<Vec<u8>, Refused> {
-    match fields.find(key, "") {
+    match fields.find(key, name) {
         Some(field) => text_of(alloc, names, &field.lines, field.line),
         None => Ok(Vec::new(alloc)),
     }
@@ -91,10 +195,20 @@ fn noted_of(status: u64, fields: &Fields<'_>) -> Noted {
 impl Wanted {
     // How many tasks have to be assembled with the task size of this number.
     fn tasks_at(&self, size: usize) -> Option<u64> {
-        match self.tasks.get(size) {
-            Some(tasks) => Some(*tasks),
-            None => self.tasks.last().copied(),
+        number_at(&self.tasks, size)
+    }
+
+    // Whether each part is as it has to be, and there are as many.
+    fn has_parts(&self, seen: &[SeenPart], size: usize) -> bool {
+        if seen.len() != self.parts.len() {
+            return false;
         }
+        for (wanted, part) in self.parts.iter().zip(seen.iter()) {
+            if !wanted.is_met(part, size) {
+                return false;
+            }
+        }
+        true
     }
 
     fn has_out(&self, out: &[u8]) -> bool {
@@ -113,6 +227,7 @@ impl Wanted {
             && seen.note.as_slice() == self.note.as_slice()
             && seen.noted == self.noted
             && seen.tasks == tasks
+            && self.has_parts(&seen.parts, size)
     }
 
     /// Writes what isn't as it has to be: what came, and what is wanted.
@@ -128,7 +243,28 @@ impl Wanted {
             tell_text("out", &seen.out, &self.out, report)?;
         }
         self.tell_noted(seen, report)?;
-        self.tell_tasks(seen, size, report)
+        self.tell_tasks(seen, size, report)?;
+        self.tell_parts(&seen.parts, size, report)
+    }
+
+    fn tell_parts(
+        &self,
+        seen: &[SeenPart],
+        size: usize,
+        report: &mut String,
+    ) -> Result<(), AllocError> {
+        if seen.len() != self.parts.len() {
+            write!(
+                report,
+                "; parts {}, wanted {}",
+                seen.len(),
+                self.parts.len()
+            )?;
+        }
+        for (index, (wanted, part)) in self.parts.iter().zip(seen.iter()).enumerate() {
+            wanted.tell(part, index.saturating_add(1), size, report)?;
+        }
+        Ok(())
     }
 
     fn tell_status(&self, seen: &Seen, report: &mut String) -> Result<(), AllocError> {

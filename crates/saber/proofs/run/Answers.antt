@@ -1,15 +1,18 @@
 use Rattle.std.proofs.Common.{ap}
-use Rattle.saber_notes.specs.Notes.{note_of}
+use Rattle.saber_top.specs.Ends.{top_notes}
+use Rattle.saber_top.specs.Shared.{outcomes_of, parts_in}
 use Rattle.saber.proofs.Noting.{went}
 use Rattle.saber.proofs.run.Goals as goal
 
 pub returns-in-Ok : goal.returns-in-Ok
 returns-in-Ok g c =
-    let says = c.saber-status.ensures in
-    let o = c.saber-status.result.outcome in
+    let says = c.top-status.ensures in
+    let end = c.top-status.result.end in
+    let outcomes = outcomes_of (parts_in c.top-status.result.parts) in
     record {
-      outcome = o;
+      end = end;
+      outcomes = outcomes;
       status_is = says.status;
       nothing = λ done. ap g.N.Sink.written (says.nothing done).1;
-      note = λ some. went c.saber-status.result.noted _ _ (note_of o) (says.something some) says.whole says.failed says.memory;
+      notes = λ some. went c.top-status.result.noted _ _ (top_notes end outcomes) (says.something some) says.whole says.failed says.memory;
     }

@@ -1,0 +1,40 @@
+-- What a part says of its query: what a run of that query alone would.
+use Rattle.std.specs.Prelude.{◌≡◌, ℕ, List, [], ◌∷◌, ◌++◌, length, Option, Some, IfSome}
+use Rattle.std.specs.List.{AllZip}
+use Rattle.saber_io.specs.Outside.{FilesView, Closed}
+use Rattle.saber_plan.specs.Trees.{Tree}
+use Rattle.saber_words.specs.Commands.{AskedRun, run}
+use Rattle.saber_words.specs.Many.{AskedMany}
+use Rattle.saber_notes.specs.declared.outcome.InputFile.TheVariants.{Left}
+use Rattle.saber_notes.specs.declared.outcome.Outcome.TheVariants.{ReadFault}
+use Rattle.saber_cli.specs.Due.{Contents, HasRun, asked_limits}
+use Rattle.saber_cli.specs.Gives.{Gives}
+use Rattle.saber_cli.specs.Taken.{TakesOf}
+use Rattle.saber_top.specs.declared.parts.Part.{Part}
+use Rattle.saber_top.specs.Commands.{alone}
+use Rattle.saber_top.specs.Shared.{Holds}
+
+-- The outcome has its cause, all that is due allows it, and what is due went out to the query's own file: all as the command `run` has it of this query
+-- over the same file with the same sizes, whatever became of the other queries.
+pub record AnswersAlone {T : Type 0} (written : T → Option (List ℕ)) (files : Contents) (r : AskedRun) (part : Part T) : Type 0 where
+  pub out : List ℕ
+  pub holds : Holds (written part.out) out
+  pub gives : Gives files (run r) part.outcome part.tasks out
+
+-- so it is of each query and its part, over files that tell
+abbrev pub EachAnswers : {T : Type 0} → (T → Option (List ℕ)) → AskedMany → Option FilesView → List (Part T) → Type 0
+EachAnswers written m told parts = IfSome told (λ t. AllZip (λ query part. AnswersAlone written t.contents (alone m query) part) m.queries parts)
+
+-- The left file's source was given back behind those of all queries, and of what was taken of it at least every whole task of the whole lines is assembled.
+pub record TakesLeft (m : AskedMany) (r : AskedRun) (tasks : ℕ) (old new : FilesView) : Type 0 where
+  pub plan : Tree
+  pub has_run : HasRun old.contents r plan
+  pub queries : List Closed
+  pub as_many : length queries ≡ length m.queries
+  pub left : Closed
+  pub closed : new.closed ≡ old.closed ++ queries ++ left ∷ []
+  pub takes : TakesOf plan r.task (asked_limits r) tasks old.contents (r.left ∷ []) (left ∷ [])
+
+-- so it is of a part that ends by a fault of reading, where files tell
+abbrev pub CutTakesLeft : {T : Type 0} → AskedMany → Option FilesView → Option FilesView → List ℕ → Part T → Type 0
+CutTakesLeft m old new query part = part.outcome ≡ ReadFault Left → IfSome old (λ t. (u : FilesView) × (new ≡ Some u) × TakesLeft m (alone m query) part.tasks t u)

@@ -1,0 +1,9 @@
+pub mod Commands
+pub mod Queries
+pub mod Shared
+pub mod ManyLeaves
+pub mod Made
+pub mod Alone
+pub mod Ends
+pub mod Others
+pub mod Comes
