@@ -16,12 +16,22 @@ use crate::spare::keep_freed;
 use saber_dispatch::Inputs;
 use saber_io::{Gate, Pour, Source};
 use saber_many::Each;
-use saber_plan::Sizes;
+use saber_plan::{NoMemory, Sizes};
 use std::alloc::Global;
 use std::collections::VecDeque;
 use std::marker::Brand;
 use std::sync::Wait;
+use std::sync::atomic::AtomicBool;
 use std::thread::Threads;
+
+// That none of so many queries has stopped.
+fn none_stopped(alloc: Global, count: usize) -> Result<Vec<AtomicBool>, NoMemory> {
+    let mut stopped = Vec::new(alloc);
+    for _ in 0..count {
+        stopped.push(AtomicBool::new(false))?;
+    }
+    Ok(stopped)
+}
 
 /// Runs checked plans of one stream, of as many columns, over one input that is read once, each into its own sink. A task is a task of all,
 /// and each has `sizes.threads` threads. One whose sink fails, or for which memory lacks, stops alone.
@@ -53,15 +63,22 @@ pub fn engines<'p, S: Source, K: Pour + Send, G: Gate + Sync, R: Threads + Wait 
         return Err(jobs);
     };
     let counts = Vec::from(told);
+    let Ok(stopped) = none_stopped(alloc, jobs.len()) else {
+        return Err(jobs);
+    };
     let Ok(operators) = operators_for(alloc, &jobs) else {
         return Err(jobs);
     };
     let each = Each {
         list: Vec::from(operators),
+        stopped,
     };
     let result = run_each::<S, Single<'p>, K, G, Brand, R>(
         rt, alloc, &each, &counts, jobs, inputs, sizes, gate,
     );
-    let Each { list: _list } = each;
+    let Each {
+        list: _list,
+        stopped: _stopped,
+    } = each;
     result
 }

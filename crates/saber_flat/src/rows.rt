@@ -91,9 +91,9 @@ impl Rows {
     pub fn copy(&self, alloc: Global) -> Result<Rows, NoMemory>
         ensures { IfOk result (λ rows. rows ≡ self.now) }
     {
-        let mut rows = Rows::new(alloc);
-        rows.extend(self)?;
-        Ok(rows)
+        let numbers = self.numbers.to_vec(alloc)?;
+        let places = self.places.to_vec(alloc)?;
+        Ok(Rows { numbers, places })
     }
 
     /// How many there are.

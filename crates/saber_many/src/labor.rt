@@ -12,10 +12,37 @@ use crate::work::Many;
 use saber_workers::Labor;
 use std::alloc::Global;
 use std::collections::VecDeque;
+use std::sync::atomic::{AtomicBool, Ordering};
 
 /// Who does the works of a list, each its own.
 pub struct Each<L> {
     pub list: Vec<L>,
+    /// Of each work, whether its stage has stopped: then no piece of it is made any more. Nothing else stands on it, so one that is missing
+    /// counts as false.
+    pub stopped: Vec<AtomicBool>,
+}
+
+// Whether the first of these works has stopped, as far as was told.
+fn has_stopped(stopped: &[AtomicBool]) -> bool {
+    match stopped.split_first() {
+        Some((first, _)) => first.load(Ordering::SeqCst),
+        None => false,
+    }
+}
+
+// Tells that the first of these works has stopped.
+fn tell_stopped(stopped: &[AtomicBool]) {
+    if let Some((first, _)) = stopped.split_first() {
+        first.store(true, Ordering::SeqCst);
+    }
+}
+
+// Of the works behind the first one.
+fn others_of(stopped: &[AtomicBool]) -> &[AtomicBool] {
+    match stopped.split_first() {
+        Some((_, others)) => others,
+        None => stopped,
+    }
 }
 
 /// The piece of the task that has these rows. None for want of memory.
@@ -33,9 +60,26 @@ pub(crate) fn make<W: Shareable, L: Labor<W>>(
     labor.finish(alloc, draft)
 }
 
+// The same, and none where its stage has stopped.
+fn make_one<W: Shareable, L: Labor<W>>(
+    labor: &L,
+    stopped: &[AtomicBool],
+    alloc: Global,
+    own: &W::Rows,
+) -> Option<W::Piece>
+    requires can { CanMake W.upto W.is_rows W.is_alone L.suits labor.now own.now }
+    ensures makes { Makes W.upto W.is_rows W.is_alone L.suits W.is_piece labor.now own.now result }
+{
+    if has_stopped(stopped) {
+        return None;
+    }
+    make::<W, L>(labor, alloc, own)
+}
+
 // The pieces of all, in their order, each of its own rows: those that have none here have the mark.
 fn make_each<W: Shareable, L: Labor<W>>(
     labors: &[L],
+    stopped: &[AtomicBool],
     alloc: Global,
     rows: &[W::Rows],
 ) -> VecDeque<Option<W::Piece>>
@@ -50,8 +94,8 @@ where
     let Some((own, rest)) = rows.split_first() else {
         return VecDeque::new(alloc);
     };
-    let mut pieces = make_each::<W, L>(others, alloc, rest);
-    let piece = make::<W, L>(labor, alloc, own);
+    let mut pieces = make_each::<W, L>(others, others_of(stopped), alloc, rest);
+    let piece = make_one::<W, L>(labor, stopped, alloc, own);
     match pieces.push_front(piece) {
         Ok(()) => pieces,
         Err(_) => VecDeque::new(alloc),
@@ -61,6 +105,7 @@ where
 // Takes a piece into a stage that goes on. True where it goes on then.
 fn absorb_one<W: Shareable, L: Labor<W>>(
     labor: &L,
+    stopped: &[AtomicBool],
     alloc: Global,
     member: &mut Member<W::Stage>,
     piece: Option<W::Piece>,
@@ -77,6 +122,9 @@ where
     }
     let goes = labor.absorb(alloc, &mut member.stage, piece);
     member.goes = goes;
+    if !goes {
+        tell_stopped(stopped);
+    }
     goes
 }
 
@@ -93,6 +141,7 @@ fn flat<P>(piece: Option<Option<P>>) -> Option<P>
 // Takes the pieces of all into their stages, in their order. True where one of them goes on then.
 fn absorb_each<W: Shareable, L: Labor<W>>(
     labors: &[L],
+    stopped: &[AtomicBool],
     alloc: Global,
     members: &mut [Member<W::Stage>],
     pieces: &mut VecDeque<Option<W::Piece>>,
@@ -111,8 +160,8 @@ where
         return false;
     };
     let piece = flat(pieces.pop_front());
-    let goes = absorb_one::<W, L>(labor, alloc, member, piece);
-    let more = absorb_each::<W, L>(others, alloc, rest, pieces);
+    let goes = absorb_one::<W, L>(labor, stopped, alloc, member, piece);
+    let more = absorb_each::<W, L>(others, others_of(stopped), alloc, rest, pieces);
     goes || more
 }
 
@@ -150,7 +199,7 @@ where
         requires { IsOwn (all_upto W.upto) (λ told t rows. AreRows W.is_rows W.is_alone told t rows.items) (AllSuit L.suits self.now.list.items) own.now }
         ensures { Begins (all_upto W.upto) (each_first W.first) (λ told t rows. AreRows W.is_rows W.is_alone told t rows.items) (AllSuit L.suits self.now.list.items) (λ told t u draft. ArePieces W.is_piece told t draft.items) own.now result }
     {
-        Some(make_each::<W, L>(&self.list, alloc, own))
+        Some(make_each::<W, L>(&self.list, &self.stopped, alloc, own))
     }
 
     fn look_back(
@@ -187,6 +236,6 @@ where
         ensures stage { Absorbs (all_upto W.upto) (λ told t pieces. ArePieces W.is_piece told t pieces.items) (λ told k stopped stages. AreStages W.upto W.is_stage told k stopped stages.items) (AllSuit L.suits self.now.list.items) stage.old piece stage.new result }
     {
         let mut pieces = or_none(alloc, piece);
-        absorb_each::<W, L>(&self.list, alloc, stage, &mut pieces)
+        absorb_each::<W, L>(&self.list, &self.stopped, alloc, stage, &mut pieces)
     }
 }

@@ -13,7 +13,8 @@
 //!   each of the works, what a run of that work alone leaves (`EachRuns`, `specs/Laws.antt`), over
 //!   its own base data and by its own stage, whatever stopped the others. A member that stopped is
 //!   passed over from then on; the list of stages stops where the last one has.
-//! - Not claimed: that no piece is made for a stage that stopped: workers make them until all have.
+//! - Not claimed: that no piece is made for a stage that stopped. A flag of each work tells workers
+//!   that it has; pieces that are under way are made, and its rows are dealt until all have stopped.
 //!   Where memory lacks for a list of pieces, others than the one that wanted it may have the mark.
 //! - Limits: one work at least. Any number of them.
 #![tactic(auto)]
