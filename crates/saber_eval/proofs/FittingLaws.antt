@@ -9,7 +9,7 @@ use Rattle.saber_eval.specs.Widths.{widths}
 use Rattle.saber_eval.specs.Fitting.{PlanFits, OneStreamFits, TwoStreamsFit}
 
 checked : (q : Tree) → IsChecked q → PlanFits q (columns_on q.streams)
-checked q h = record { predicate = h.predicate; items = h.items; keys = h.keys }
+checked q h = record { predicate = h.predicate; items = h.items; aggregates = h.aggregates; keys = h.keys }
 
 one_width : (s : Stream) (zs : List ℤ) → length zs ≡ s.columns → (side : Side) → columns_on (s ∷ []) side ≡ widths zs [] side
 one_width s zs e Left = sym e

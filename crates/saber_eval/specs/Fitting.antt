@@ -8,13 +8,14 @@ use Rattle.saber_plan.specs.declared.rows.Row.{Row}
 use Rattle.saber_plan.specs.declared.windows.Stream.{Stream}
 use Rattle.saber_plan.specs.Trees.{Tree}
 use Rattle.saber_plan.specs.Rows.{RowFits}
-use Rattle.saber_plan.specs.Checked.{named_columns, IsChecked, ItemFits, PredicateFits}
+use Rattle.saber_plan.specs.Checked.{group_width, AggregatesFit, IsChecked, ItemFits, PredicateFits}
 use Rattle.saber_eval.specs.Widths.{widths}
 
 -- a plan's parts, where the rows of each side have so many columns
 pub record PlanFits (q : Tree) (columns : Side → ℕ) : Type 0 where
   pub predicate : PredicateFits columns q.predicate
-  pub items : AllByRecursion (ItemFits q.shape columns (named_columns q)) q.items
+  pub items : AllByRecursion (ItemFits q.shape columns (group_width q)) q.items
+  pub aggregates : AggregatesFit q.shape columns q.partition q.aggregates
   pub keys : AllByRecursion (λ k. k < columns Left) q.keys
 
 -- a checked plan of one stream fits each row of that stream

@@ -17,9 +17,9 @@ use Rattle.saber_plan.specs.Trees.{Tree}
 use Rattle.saber_plan.specs.Values.{passes}
 use Rattle.saber_plan.specs.Inputs.{Input, arrived}
 use Rattle.saber_plan.specs.Windows.{Frame, unwindowed, one, two, has_windows, Fits, no_rows, mark_at, begun_count, closed, closed_count, Ordered, kind_of, from}
-use Rattle.saber_plan.specs.Answers.{key_cmp, entry_lines, by_shape, by_frame, frame, lines, lines_from, line, item_value, selected, window_text, plain_text, Change, window_answers, before_window, answer_lines, change_lines, change_text, list_of, substream, closed_by, closed_in_turn, closed_at_last, key_text, alike, by_list, by_change, way, by_way, text}
+use Rattle.saber_plan.specs.Answers.{key_cmp, entry_lines, by_shape, by_frame, frame, lines, lines_from, line, items_over, selected, window_text, plain_text, Change, window_answers, before_window, answer_lines, change_lines, change_text, list_of, substream, closed_by, closed_in_turn, closed_at_last, key_text, alike, by_list, by_change, way, by_way, text}
 use Rattle.saber_plan.specs.Merges.{join}
-use Rattle.saber_plan.specs.Parts.{Part, no_part, part, part_lines, answers_of, Numbers, join_numbers, merge}
+use Rattle.saber_plan.specs.Parts.{Part, no_part, part, part_lines, answered, Numbers, join_numbers, merge}
 use Rattle.saber_plan.specs.Shares.{full, numbered, is_complete, shares_between}
 use Rattle.saber_plan.specs.Tasks.{Parts, unclosed, last_answers, plain_added, change_added, list_added, added, piece_between, taken_in, written_by, left_by}
 use Rattle.saber_plan.specs.Facts.Maps.{get-both, both_empty_left, entries-empty}
@@ -64,7 +64,7 @@ full-merge p r = full-cases p r (len p == 0) (len r == 0) refl refl
 
 -- the lines of a part, also where it is empty
 full-lines : (q : Tree) (i : ℕ) (p : Part) (b : Bool) → (len p == 0) ≡ b → option_map_or (λ m. part_lines q i m) (cond b None (Some p)) [] ≡ part_lines q i p
-full-lines q i p true e = sym (ap (λ m. part_lines q i m) (full-none p e) ∙ ap (λ es. entry_lines i (map (λ e. (e.0, answers_of q.items e.1)) es)) (entries-empty key_cmp))
+full-lines q i p true e = sym (ap (λ m. part_lines q i m) (full-none p e) ∙ ap (λ es. entry_lines i (map (answered q.shape q.items) es)) (entries-empty key_cmp))
 full-lines q i p false e = refl
 
 -- ---- kinds by counts
@@ -303,7 +303,7 @@ module _ (q : Tree) (w : Fits (frame q)) (r : Input) (x y : ℕ) (o : Ordered no
   select_rows =
       let xs = r.rows in
       let p = λ (zs : List ℤ). passes q.predicate zs [] in
-      let g = λ (zs : List ℤ). line (map (item_value zs []) q.items) in
+      let g = λ (zs : List ℤ). line (items_over q.items zs []) in
       ap (selected q) (sym (slice-front xs y) ∙ slice-join xs 0 x y zero-le a ∙ ap (λ l. l ++ slice_range r.rows x y) (slice-front xs x))
       ∙ ap (λ l. flat_map g (filter p l)) (map-append (λ r. r.values) (take x xs) (slice_range r.rows x y))
       ∙ ap (flat_map g) (filter-append p (map (λ r. r.values) (take x xs)) (map (λ r. r.values) (slice_range r.rows x y)))

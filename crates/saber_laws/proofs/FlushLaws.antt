@@ -10,7 +10,7 @@ use Rattle.saber_plan.specs.Inputs.{arrived}
 use Rattle.saber_plan.specs.Windows.{has_windows, step_mark, mark_after, mark_of, ending, last_mark, closed_count, begun_count, past_count, kind_of, from}
 use Rattle.saber_plan.specs.Answers.{frame, entry_lines, key_cmp}
 use Rattle.saber_plan.specs.Facts.Maps.{entries-empty}
-use Rattle.saber_plan.specs.Parts.{Part, part_lines, answers_of}
+use Rattle.saber_plan.specs.Parts.{Part, part_lines, answered}
 use Rattle.saber_plan.specs.Shares.{full, part_here, is_closing, is_pending, is_opening, is_complete, of_kind, shares_here}
 use Rattle.saber_plan.specs.Tasks.{cut, row_tasks, task_count, unclosed}
 use Rattle.saber_laws.specs.Ends.{RowsDoNotEnd, OpenMarksCountRows, OpenInputsAreRows, EndsBeginNone, EndsCloseAll, FlushGivesNoPart, NothingOpenBehind, TasksMakeAll}
@@ -63,7 +63,7 @@ module _ (q : Tree) (m : Mark) (back : List Row) where
   no_kind wanted = numbered-none _ _ _ (λ i l h. chosen_none (wanted (kind_of (frame q) i a b)) _ (no_part_here i))
 
   no_lines : (i : ℕ) → part_lines q i (part_here q i m back []) ≡ []
-  no_lines i = ap (part_lines q i) (no_rows_here q i m back [] refl) ∙ ap (λ es. entry_lines i (map (λ e. (e.0, answers_of q.items e.1)) es)) (entries-empty key_cmp)
+  no_lines i = ap (part_lines q i) (no_rows_here q i m back [] refl) ∙ ap (λ es. entry_lines i (map (answered q.shape q.items) es)) (entries-empty key_cmp)
 
   nothing_of : (is : List ℕ) → flat_map (λ i. part_lines q i (part_here q i m back [])) is ≡ []
   nothing_of [] = refl

@@ -17,13 +17,12 @@ use Rattle.saber_plan.specs.declared.windows.Mark.{Mark}
 use Rattle.saber_plan.specs.declared.rows.Values.{Values}
 use Rattle.saber_plan.specs.declared.rows.Row.{Row}
 use Rattle.saber_plan.specs.Trees.{Tree}
-use Rattle.saber_plan.specs.Values.{value, passes}
+use Rattle.saber_plan.specs.Values.{passes}
 use Rattle.saber_plan.specs.Windows.{Placed, place, placed_after, step_mark, mark_after}
-use Rattle.saber_plan.specs.Answers.{Entry, key_cmp, pair_key, pairs_with, pairs, pair_answers, item_value, is_left, is_right}
+use Rattle.saber_plan.specs.Answers.{key_cmp, pair_key, pairs_with, pairs, pair_answers, is_left, is_right}
 use Rattle.saber_plan.specs.Merges.{join}
-use Rattle.saber_plan.specs.declared.plans.Item.{Item}
-use Rattle.saber_plan.specs.declared.plans.Item.TheVariants.{Count, Sum, Min, Max, Value}
-use Rattle.saber_plan.specs.Parts.{no_part, pair_part, later, Numbers, pair_numbers, summed, least, greatest, plain, shown, answers_of, answers_in, join_numbers, merge}
+use Rattle.saber_plan.specs.declared.plans.Shape.TheVariants.{Join}
+use Rattle.saber_plan.specs.Parts.{no_part, pair_part, later, Numbers, numbers_of_one, pair_numbers, answered, join_numbers, merge}
 use Rattle.saber_plan.specs.Facts.Lists.{Each, each-filter, kept, dropped, each-map, each-weaker, each-all, filter-flat_map, flat_map-same, flat_map-none, T_parts, and_T}
 use Rattle.saber_plan.specs.Facts.Maps.{get-both, join-none, entries-from_rising}
 use Rattle.saber_plan.specs.Facts.Parts.{total, exact}
@@ -181,29 +180,22 @@ entries-pair_part q xs r =
     let all_kept : filter (λ e. nat_le 0 (later e.0)) (pairs q (pair_numbers q) xs) ≡ pairs q (pair_numbers q) xs = kept (λ e. nat_le 0 (later e.0)) (pairs q (pair_numbers q) xs) (each-all _ (λ e. le-leb 0 (later e.0) (omega arith)) _) in
     ap (λ es. entries (from_entries {R = key_cmp} es)) all_kept ∙ entries-from_rising total exact (pairs q (pair_numbers q) xs) (sorted_pairs q xs r)
 
--- the numbers of a pair show its answers
-pub pair-shown : (is : List Item) (l r : List ℤ) → shown is 1 (map (λ e. value e l r) (summed is)) (map (λ e. value e l r) (least is)) (map (λ e. value e l r) (greatest is)) (map (λ e. value e l r) (plain is)) ≡ map (item_value l r) is
-pair-shown [] l r = refl
-pair-shown (Count ∷ is) l r = ap (λ t. pos 1 ∷ t) (pair-shown is l r)
-pair-shown (Sum e ∷ is) l r = ap (λ t. value e l r ∷ t) (pair-shown is l r)
-pair-shown (Min e ∷ is) l r = ap (λ t. value e l r ∷ t) (pair-shown is l r)
-pair-shown (Max e ∷ is) l r = ap (λ t. value e l r ∷ t) (pair-shown is l r)
-pair-shown (Value e ∷ is) l r = ap (λ t. value e l r ∷ t) (pair-shown is l r)
+-- the numbers of a pair, or of a row by itself, are its answers
+pub values-of_one : (zs : List ℤ) → map (λ v. v.value) (numbers_of_one zs).values ≡ zs
+values-of_one [] = refl
+values-of_one (z ∷ zs) = ap (λ l. z ∷ l) (values-of_one zs)
 
-abbrev pub answered : Tree → Numbered → Entry
-answered q e = (e.0, answers_of q.items e.1)
-
-answered-map : (q : Tree) (x : Placed) (ys : List Placed) → map (answered q) (map (λ y. (pair_key x y, pair_numbers q x y)) ys) ≡ map (λ y. (pair_key x y, pair_answers q x y)) ys
+answered-map : (q : Tree) (x : Placed) (ys : List Placed) → map (answered Join q.items) (map (λ y. (pair_key x y, pair_numbers q x y)) ys) ≡ map (λ y. (pair_key x y, pair_answers q x y)) ys
 answered-map q x [] = refl
-answered-map q x (y ∷ ys) = λ k. (pair_key x y, pair-shown q.items x.row.values y.row.values k) ∷ answered-map q x ys k
+answered-map q x (y ∷ ys) = λ k. (pair_key x y, values-of_one (pair_answers q x y) k) ∷ answered-map q x ys k
 
-answered-all : (q : Tree) (zs xs : List Placed) → map (answered q) (flat_map (λ x. pairs_with q (pair_numbers q) x zs) xs) ≡ flat_map (λ x. pairs_with q (pair_answers q) x zs) xs
+answered-all : (q : Tree) (zs xs : List Placed) → map (answered Join q.items) (flat_map (λ x. pairs_with q (pair_numbers q) x zs) xs) ≡ flat_map (λ x. pairs_with q (pair_answers q) x zs) xs
 answered-all q zs [] = refl
-answered-all q zs (x ∷ xs) = map-append (answered q) (pairs_with q (pair_numbers q) x zs) (flat_map (λ x. pairs_with q (pair_numbers q) x zs) xs) ∙ (λ k. answered-map q x (filter (λ y. passes q.predicate x.row.values y.row.values) zs) k ++ answered-all q zs xs k)
+answered-all q zs (x ∷ xs) = map-append (answered Join q.items) (pairs_with q (pair_numbers q) x zs) (flat_map (λ x. pairs_with q (pair_numbers q) x zs) xs) ∙ (λ k. answered-map q x (filter (λ y. passes q.predicate x.row.values y.row.values) zs) k ++ answered-all q zs xs k)
 
 -- the answers in a pair part are those of the pairs
-pub answers-pair_part : (q : Tree) (xs : List Placed) → Rising xs → answers_in q (pair_part q 0 xs) ≡ pairs q (pair_answers q) xs
-answers-pair_part q xs r = ap (map (answered q)) (entries-pair_part q xs r) ∙ answered-all q (filter is_right xs) (filter is_left xs)
+pub answers-pair_part : (q : Tree) (xs : List Placed) → Rising xs → map (answered Join q.items) (entries (pair_part q 0 xs)) ≡ pairs q (pair_answers q) xs
+answers-pair_part q xs r = ap (map (answered Join q.items)) (entries-pair_part q xs r) ∙ answered-all q (filter is_right xs) (filter is_left xs)
 
 -- ---- where placed rows stand
 

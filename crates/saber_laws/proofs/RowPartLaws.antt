@@ -7,16 +7,17 @@ use Rattle.std.specs.Option.{option_or}
 use Rattle.std.specs.Ordering.{eq_by_cmp, is_lt, ordering_then}
 use Rattle.std.specs.declared.cmp.Ordering.TheVariants.{Equal}
 use Rattle.std.specs.FinMap.{entries, find, is_sorted, get-from_entries, same_map}
+use Rattle.saber_plan.specs.declared.plans.Shape.TheVariants.{Select}
 use Rattle.saber_plan.specs.Trees.{Tree}
 use Rattle.saber_plan.specs.Values.{passes}
 use Rattle.saber_plan.specs.Windows.{Placed, place}
 use Rattle.saber_plan.specs.Answers.{key_cmp, row_key, row_answers, picked}
 use Rattle.saber_plan.specs.Merges.{join}
-use Rattle.saber_plan.specs.Parts.{no_part, row_part, later, row_numbers, answers_in, join_numbers, merge}
+use Rattle.saber_plan.specs.Parts.{no_part, row_part, later, row_numbers, answered, join_numbers, merge}
 use Rattle.saber_plan.specs.Facts.Lists.{Each, each-filter, each-map, each-weaker, and_T}
 use Rattle.saber_plan.specs.Facts.Maps.{get-both, join-none, equal_if, entries-from_rising}
 use Rattle.saber_plan.specs.Facts.Parts.{total, exact}
-use Rattle.saber_laws.proofs.PairLaws.{Numbered, Rising, rising-filter, int_less, below-map, answered, pair-shown}
+use Rattle.saber_laws.proofs.PairLaws.{Numbered, Rising, rising-filter, int_less, below-map, values-of_one}
 
 picked-append : (q : Tree) (us vs : List Placed) → picked q (row_numbers q) (us ++ vs) ≡ picked q (row_numbers q) us ++ picked q (row_numbers q) vs
 picked-append q us vs = ap (map (λ x. (row_key x, row_numbers q x))) (filter-append (λ x. passes q.predicate x.row.values []) us vs) ∙ map-append _ _ _
@@ -96,10 +97,10 @@ entries-row_part : (q : Tree) (xs : List Placed) → Rising xs → entries (row_
 unfolding row_part
 entries-row_part q xs r = entries-from_rising total exact (picked q (row_numbers q) xs) (sorted_rows q _ (rising-filter _ xs r))
 
-answered-rows : (q : Tree) (xs : List Placed) → map (answered q) (map (λ x. (row_key x, row_numbers q x)) xs) ≡ map (λ x. (row_key x, row_answers q x)) xs
+answered-rows : (q : Tree) (xs : List Placed) → map (answered Select q.items) (map (λ x. (row_key x, row_numbers q x)) xs) ≡ map (λ x. (row_key x, row_answers q x)) xs
 answered-rows q [] = refl
-answered-rows q (x ∷ xs) = λ k. (row_key x, pair-shown q.items x.row.values [] k) ∷ answered-rows q xs k
+answered-rows q (x ∷ xs) = λ k. (row_key x, values-of_one (row_answers q x) k) ∷ answered-rows q xs k
 
 -- the answers in such a part are those of the rows
-pub answers-row_part : (q : Tree) (xs : List Placed) → Rising xs → answers_in q (row_part q xs) ≡ picked q (row_answers q) xs
-answers-row_part q xs r = ap (map (answered q)) (entries-row_part q xs r) ∙ answered-rows q (filter (λ x. passes q.predicate x.row.values []) xs)
+pub answers-row_part : (q : Tree) (xs : List Placed) → Rising xs → map (answered Select q.items) (entries (row_part q xs)) ≡ picked q (row_answers q) xs
+answers-row_part q xs r = ap (map (answered Select q.items)) (entries-row_part q xs r) ∙ answered-rows q (filter (λ x. passes q.predicate x.row.values []) xs)

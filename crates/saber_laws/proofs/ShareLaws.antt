@@ -2,6 +2,7 @@
 use Rattle.std.proofs.Common.{◌≡◌, ℕ, ◌+◌, ◌≤◌, ◌<◌, List, [], ◌∷◌, ◌++◌, map, filter, length, take, slice_range, true, false, sym, ◌∙◌, ap, append-nil, length-take, length-take-le, le_refl, le_trans, zero-le, subst, arith}
 use Rattle.std.proofs.lemmas.List.{map-append}
 use Rattle.std.proofs.lemmas.List.Elements.{filter-append}
+use Rattle.std.specs.FinMap.{entries}
 use Rattle.saber_plan.specs.declared.rows.Row.{Row}
 use Rattle.saber_plan.specs.declared.plans.Shape.{Shape}
 use Rattle.saber_plan.specs.declared.plans.Shape.TheVariants.{Select, Group, Join}
@@ -9,7 +10,7 @@ use Rattle.saber_plan.specs.Trees.{Tree}
 use Rattle.saber_plan.specs.Values.{passes}
 use Rattle.saber_plan.specs.Windows.{Frame, no_rows, mark_of, has, begun, closed, Ordered, Placed, place, placed, inside}
 use Rattle.saber_plan.specs.Answers.{passing, picked, row_answers, groups, pairs, pair_answers, entries_in, entry_lines, by_shape, frame, lines, window_answers}
-use Rattle.saber_plan.specs.Parts.{no_part, part, part_lines, part_answers, answers_in, row_part, group_part, pair_part, merge}
+use Rattle.saber_plan.specs.Parts.{no_part, part, part_lines, part_answers, answers_in, answered, row_part, group_part, pair_part, merge}
 use Rattle.saber_plan.specs.Facts.Parts.{merge-empty_right}
 use Rattle.saber_laws.proofs.PartLaws.{group_part-append, group_part-empty, answers-group_part}
 use Rattle.saber_laws.proofs.RowLaws.{inside-join, inside-take, inside-not_begun, inside-closed, slice-placed, take-placed}
@@ -95,7 +96,7 @@ part-take q i xs x y n a b = λ j. by_shape q.shape (row_part q (inside-take (fr
 pub answers-part : (q : Tree) (i : ℕ) (xs : List Row) (y : ℕ) → answers_in q (part q i xs 0 y) ≡ entries_in q (inside (frame q) i xs 0 y)
 answers-part q i xs y =
     let rows = inside (frame q) i xs 0 y in
-    elim (q.shape) as (λ s. answers_in q (by_shape s (row_part q rows) (group_part q (passing q rows)) (pair_part q 0 rows)) ≡ by_shape s (picked q (row_answers q) rows) (groups q (passing q rows)) (pairs q (pair_answers q) rows)) [
+    elim (q.shape) as (λ s. map (answered s q.items) (entries (by_shape s (row_part q rows) (group_part q (passing q rows)) (pair_part q 0 rows))) ≡ by_shape s (picked q (row_answers q) rows) (groups q (passing q rows)) (pairs q (pair_answers q) rows)) [
       | Select ↦ answers-row_part q rows (inside_rising (frame q) i xs y)
       | Group ↦ answers-group_part q (passing q rows)
       | Join ↦ answers-pair_part q rows (inside_rising (frame q) i xs y)

@@ -1,7 +1,6 @@
 -- Worked answers of queries whose windows are closed by the end of the input.
 use Rattle.std.specs.Prelude.{◌≡◌, ℕ, List, [], ◌∷◌, map, true, false, None, codes, refl}
 use Rattle.std.specs.Fmt.{digits}
-use Rattle.saber_plan.specs.declared.plans.Item.TheVariants.{Count}
 use Rattle.saber_plan.specs.declared.windows.Measure.TheVariants as measures
 use Rattle.saber_plan.specs.Trees.{Tree}
 use Rattle.saber_plan.specs.Rows.{Read, rows, lines_of, fields_of, judge, read_by}
@@ -12,14 +11,14 @@ use Rattle.saber_plan.specs.Answers.{with_key, keys_of, lines, text}
 use Rattle.saber_plan.specs.Tasks.{run_input, cut, task_count, piece, piece_between}
 use Rattle.saber_plan.specs.Shares.{shares_between}
 use Rattle.saber_plan.specs.Needs.{first_open, free, wide}
-use Rattle.saber_plan.proofs.Cases.{left_of, right_of, joining, five_lines, grouped, sums_by_group}
+use Rattle.saber_plan.proofs.Cases.{left_of, right_of, joining, five_lines, counted, sums_by_group}
 
 -- the input of a run over one file, with its end
 abbrev to_end : Tree → List ℕ → Input
 to_end q bytes = run_input q true (rows (left_of 3) bytes)
 
 abbrev pairs : Tree
-pairs = grouped measures.Rows 2 2 (Count ∷ []) []
+pairs = counted measures.Rows 2 2
 
 -- the last row's window has only that row
 last_row : text pairs (to_end pairs five_lines) ≡ codes "0,2\n1,2\n2,1\n"
@@ -40,7 +39,7 @@ unfolding lines_of fields_of judge read_by value_at placed_after from with_key k
 last_groups = refl
 
 abbrev by_time : Tree
-by_time = grouped measures.Range 3 2 (Count ∷ []) []
+by_time = counted measures.Range 3 2
 
 last_times : text by_time (to_end by_time five_lines) ≡ codes "0,4\n1,2\n4,1\n"
 unfolding lines_of fields_of judge read_by value_at placed_after from with_key keys_of lines text digits

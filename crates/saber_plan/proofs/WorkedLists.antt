@@ -1,7 +1,7 @@
 -- Worked answers of queries with PARTITION BY.
 use Rattle.std.specs.Prelude.{◌≡◌, [], ◌∷◌, Some, true, codes, refl}
 use Rattle.std.specs.Fmt.{digits}
-use Rattle.saber_plan.specs.declared.plans.Item.TheVariants.{Count, Value, Sum}
+use Rattle.saber_plan.specs.declared.plans.Fold.TheVariants.{Sum, First}
 use Rattle.saber_plan.specs.declared.windows.Measure.TheVariants as measures
 use Rattle.saber_plan.specs.Trees.{Tree}
 use Rattle.saber_plan.specs.Rows.{rows, lines_of, fields_of, judge, read_by}
@@ -10,11 +10,11 @@ use Rattle.saber_plan.specs.Values.{value_at, test_holds, all_hold, some_holds}
 use Rattle.saber_plan.specs.Windows.{placed_after, from}
 use Rattle.saber_plan.specs.Answers.{with_key, keys_of, lines, closed_in_turn, text}
 use Rattle.saber_plan.specs.Tasks.{run_input, added, places, places_after}
-use Rattle.saber_plan.proofs.Cases.{left_of, five_lines, rows_in, column, grouped, above}
+use Rattle.saber_plan.proofs.Cases.{left_of, five_lines, rows_in, over, grouped, above}
 
 -- SELECT g, SUM(v) FROM S [PARTITION BY g ROWS 2 SLIDE 1]
 abbrev sums_of_lists : Tree
-sums_of_lists = record (grouped measures.Rows 2 1 (Value (column 1) ∷ Sum (column 2) ∷ []) []) { partition = 1 ∷ [] }
+sums_of_lists = record (grouped measures.Rows 2 1 [] (over First 1 ∷ over Sum 2 ∷ []) (1 ∷ 2 ∷ [])) { partition = 1 ∷ [] }
 
 -- windows are counted in each key list, and printed as rows close them
 each_list : text sums_of_lists (going_on (rows_in five_lines)) ≡ codes "0,1,30\n1,1,27\n0,2,6\n"
@@ -42,6 +42,6 @@ unfolding lines_of fields_of judge read_by places_after
 second_places = refl
 
 -- windows side by side, of two rows each
-lists_side_by_side : text (record (grouped measures.Rows 2 2 (Value (column 1) ∷ Count ∷ []) []) { partition = 1 ∷ [] }) (going_on (rows_in five_lines)) ≡ codes "0,1,2\n0,2,2\n"
+lists_side_by_side : text (record (grouped measures.Rows 2 2 [] (over First 1 ∷ []) (1 ∷ 0 ∷ [])) { partition = 1 ∷ [] }) (going_on (rows_in five_lines)) ≡ codes "0,1,2\n0,2,2\n"
 unfolding lines_of fields_of judge read_by value_at placed_after from with_key keys_of lines closed_in_turn text digits
 lists_side_by_side = refl

@@ -1,7 +1,6 @@
 -- Worked answers of queries with a stream word.
 use Rattle.std.specs.Prelude.{◌≡◌, [], ◌∷◌, Some, true, codes, refl, pos}
 use Rattle.std.specs.Fmt.{digits}
-use Rattle.saber_plan.specs.declared.plans.Item.TheVariants.{Count, Value}
 use Rattle.saber_plan.specs.declared.plans.Shape.TheVariants.{Select}
 use Rattle.saber_plan.specs.declared.plans.Word.{Word}
 use Rattle.saber_plan.specs.declared.plans.Word.TheVariants.{Rstream, Istream, Dstream}
@@ -13,11 +12,11 @@ use Rattle.saber_plan.specs.Values.{value_at}
 use Rattle.saber_plan.specs.Windows.{placed_after, from}
 use Rattle.saber_plan.specs.Answers.{with_key, keys_of, lines, text}
 use Rattle.saber_plan.specs.Tasks.{run_input, added, last_answers}
-use Rattle.saber_plan.proofs.Cases.{left_of, five_lines, rows_in, column, grouped}
+use Rattle.saber_plan.proofs.Cases.{left_of, five_lines, rows_in, grouped, counted}
 
 -- WORD (SELECT g FROM S [ROWS 3 SLIDE 1])
 abbrev groups_of_three : Word → Tree
-groups_of_three word = record (grouped measures.Rows 3 1 (Value (column 1) ∷ []) []) { shape = Select; word = Some word }
+groups_of_three word = record (grouped measures.Rows 3 1 [] [] (1 ∷ [])) { shape = Select; word = Some word }
 
 all_answers : text (groups_of_three Rstream) (going_on (rows_in five_lines)) ≡ codes "0,1\n0,1\n0,2\n1,1\n1,2\n1,1\n2,2\n2,1\n2,2\n"
 unfolding lines_of fields_of judge read_by value_at placed_after from lines text digits
@@ -32,7 +31,7 @@ unfolding lines_of fields_of judge read_by value_at placed_after from text digit
 lost_answers = refl
 
 -- DSTREAM (SELECT COUNT(*) FROM S [RANGE 3 SLIDE 2]): a window without a row loses what the one before it had
-lost_counts : text (record (grouped measures.Range 3 2 (Count ∷ []) []) { word = Some Dstream }) (going_on (rows_in five_lines)) ≡ codes "1,4\n2,2\n"
+lost_counts : text (record (counted measures.Range 3 2) { word = Some Dstream }) (going_on (rows_in five_lines)) ≡ codes "1,4\n2,2\n"
 unfolding lines_of fields_of judge read_by value_at placed_after from with_key keys_of text digits
 lost_counts = refl
 

@@ -13,8 +13,9 @@ use Rattle.saber_plan.specs.declared.plans.Shape.TheVariants.{Select, Group, Joi
 use Rattle.saber_plan.specs.declared.expressions.Product.{Product}
 use Rattle.saber_plan.specs.declared.plans.Word.{Word}
 use Rattle.saber_plan.specs.declared.plans.Word.TheVariants.{Rstream, Istream, Dstream}
-use Rattle.saber_plan.specs.declared.plans.Item.{Item}
-use Rattle.saber_plan.specs.declared.plans.Item.TheVariants.{Count, Sum, Min, Max, Value}
+use Rattle.saber_plan.specs.declared.plans.Fold.{Fold}
+use Rattle.saber_plan.specs.declared.plans.Fold.TheVariants.{Sum, Min, Max, First}
+use Rattle.saber_plan.specs.declared.plans.Aggregate.{Aggregate}
 use Rattle.saber_plan.specs.Trees.{Tree}
 use Rattle.saber_plan.specs.Values.{value, passes, column_of}
 use Rattle.saber_plan.specs.Inputs.{Input}
@@ -58,24 +59,37 @@ values_of e rows = map (λ zs. value e zs []) rows
 abbrev pub rows_of_key : List ℕ → List ℤ → List (List ℤ) → List (List ℤ)
 rows_of_key ks k rows = filter (λ zs. eq_by_cmp key_cmp k (key ks zs)) rows
 
--- an item over some rows; over none it is 0
+-- how the values of rows become one number
+abbrev pub earlier : ℤ → ℤ → ℤ
+earlier x y = x
+
+abbrev pub step : Fold → ℤ → ℤ → ℤ
+step Sum = ◌+ℤ◌
+step Min = int_min
+step Max = int_max
+step First = earlier
+
+-- over none it is 0
 abbrev pub first_by : (ℤ → ℤ → ℤ) → List ℤ → ℤ
 first_by f [] = pos 0
 first_by f (z ∷ zs) = fold f z zs
 
-abbrev pub earlier : ℤ → ℤ → ℤ
-earlier x y = x
+abbrev pub aggregate : List (List ℤ) → Aggregate → ℤ
+aggregate rows a = first_by (step a.fold) (values_of a.expr rows)
 
-abbrev pub item_answer : List (List ℤ) → Item → ℤ
-item_answer rows Count = pos (length rows)
-item_answer rows (Sum e) = fold ◌+ℤ◌ (pos 0) (values_of e rows)
-item_answer rows (Min e) = first_by int_min (values_of e rows)
-item_answer rows (Max e) = first_by int_max (values_of e rows)
-item_answer rows (Value e) = first_by earlier (values_of e rows)
+-- a group's numbers as a row: its key, how many rows it has, and its aggregates
+abbrev pub group_row : List ℤ → ℕ → List ℤ → List ℤ
+group_row k n zs = k ++ pos n ∷ zs
+
+-- the items of a group are over its numbers, others over a row or a pair of rows
+abbrev pub items_over : List (List Product) → List ℤ → List ℤ → List ℤ
+items_over is left right = map (λ e. value e left right) is
 
 -- the answers over the rows with a key
 abbrev pub answers : Tree → List (List ℤ) → List ℤ → List ℤ
-answers q rows k = map (item_answer (rows_of_key q.keys k rows)) q.items
+answers q rows k =
+    let us = rows_of_key q.keys k rows in
+    items_over q.items (group_row k (length us) (map (aggregate us) q.aggregates)) []
 
 -- each distinct key with its answers
 abbrev pub groups : Tree → List (List ℤ) → List Entry
@@ -86,14 +100,6 @@ abbrev pub passing : Tree → List Placed → List (List ℤ)
 passing q xs = filter (λ zs. passes q.predicate zs []) (map (λ x. x.row.values) xs)
 
 -- ---- pairs
-
--- an item of a pair, or of a row with itself
-abbrev pub item_value : List ℤ → List ℤ → Item → ℤ
-item_value left right Count = pos 1
-item_value left right (Sum e) = value e left right
-item_value left right (Min e) = value e left right
-item_value left right (Max e) = value e left right
-item_value left right (Value e) = value e left right
 
 abbrev pub is_left : Placed → Bool
 is_left x = by_side x.row.side true false
@@ -114,7 +120,7 @@ abbrev pub pairs : {X : Type 0} → Tree → (Placed → Placed → X) → List 
 pairs q g xs = flat_map (λ x. pairs_with q g x (filter is_right xs)) (filter is_left xs)
 
 abbrev pub pair_answers : Tree → Placed → Placed → List ℤ
-pair_answers q x y = map (item_value x.row.values y.row.values) q.items
+pair_answers q x y = items_over q.items x.row.values y.row.values
 
 -- ---- rows by themselves
 
@@ -127,7 +133,7 @@ abbrev pub picked : {X : Type 0} → Tree → (Placed → X) → List Placed →
 picked q g xs = map (λ x. (row_key x, g x)) (filter (λ x. passes q.predicate x.row.values []) xs)
 
 abbrev pub row_answers : Tree → Placed → List ℤ
-row_answers q x = map (item_value x.row.values []) q.items
+row_answers q x = items_over q.items x.row.values []
 
 -- ---- lines
 
@@ -149,7 +155,7 @@ lines q i xs = entry_lines i (entries_in q (inside (frame q) i xs 0 (length xs))
 
 -- the lines of rows by themselves, where no window is looked at
 abbrev pub selected : Tree → List Row → List ℕ
-selected q xs = flat_map (λ zs. line (map (item_value zs []) q.items)) (filter (λ zs. passes q.predicate zs []) (map (λ x. x.values) xs))
+selected q xs = flat_map (λ zs. line (items_over q.items zs [])) (filter (λ zs. passes q.predicate zs []) (map (λ x. x.values) xs))
 
 -- those of the windows from a up to b
 abbrev pub lines_from : Tree → List Row → ℕ → ℕ → List ℕ

@@ -1,5 +1,5 @@
 -- What the checks of a query promise of its plan. Windows, evaluation and the operators rest on it.
-use Rattle.std.specs.Prelude.{◌≡◌, ℕ, ◌^◌, ◌<◌, ◌≤◌, List, [], ◌∷◌, ◌++◌, length, Option, Some, None, IfSome, Contains, false}
+use Rattle.std.specs.Prelude.{◌≡◌, ℕ, ◌+◌, ◌^◌, ◌<◌, ◌≤◌, List, [], ◌∷◌, length, Option, Some, None, IfSome, Contains, false}
 use Rattle.std.specs.List.{AllByRecursion}
 use Rattle.saber_plan.specs.declared.rows.Side.{Side}
 use Rattle.saber_plan.specs.declared.rows.Side.TheVariants.{Left, Right}
@@ -9,8 +9,9 @@ use Rattle.saber_plan.specs.declared.windows.Stream.{Stream}
 use Rattle.saber_plan.specs.declared.expressions.Factor.{Factor}
 use Rattle.saber_plan.specs.declared.expressions.Factor.TheVariants.{Column, Constant}
 use Rattle.saber_plan.specs.declared.expressions.Product.{Product}
-use Rattle.saber_plan.specs.declared.plans.Item.{Item}
-use Rattle.saber_plan.specs.declared.plans.Item.TheVariants.{Count, Sum, Min, Max, Value}
+use Rattle.saber_plan.specs.declared.plans.Aggregate.{Aggregate}
+use Rattle.saber_plan.specs.declared.plans.Fold.{Fold}
+use Rattle.saber_plan.specs.declared.plans.Fold.TheVariants.{Sum, Min, Max, First}
 use Rattle.saber_plan.specs.declared.plans.Word.{Word}
 use Rattle.saber_plan.specs.declared.plans.Shape.{Shape}
 use Rattle.saber_plan.specs.declared.plans.Shape.TheVariants.{Select, Group, Join}
@@ -86,27 +87,41 @@ pub record ExprFits (columns : Side → ℕ) (e : List Product) : Type 0 where
   pub there : AllByRecursion (λ (p : Product). AllByRecursion (HasColumn columns) p.factors) e
   pub small : SumFits 0 e
 
--- ---- items
+-- ---- aggregates and items
+
+-- one column alone
+abbrev pub lone : ℕ → List Product
+lone k = record { minus = false; factors = Column Left k ∷ [] } ∷ []
 
 -- a single column, which is one of these
 abbrev pub IsKeyAmong : List ℕ → List Product → Type 0
-IsKeyAmong keys (p ∷ []) = (k : ℕ) × (p ≡ record { minus = false; factors = Column Left k ∷ [] }) × Contains keys k
-IsKeyAmong keys _ = ⊥
+IsKeyAmong keys e = (k : ℕ) × (e ≡ lone k) × Contains keys k
 
--- the columns that a group query's items may be by themselves: those of GROUP BY and PARTITION BY
-abbrev pub named_columns : Tree → List ℕ
-named_columns q = q.keys ++ q.partition
+-- what a sum adds of a row is small; what is taken of a first row alone is a column of PARTITION BY, which its other rows have too
+abbrev pub FoldFits : List ℕ → Fold → List Product → Type 0
+FoldFits partition Sum e = sum_bound 0 e ≤ 2 ^ 86
+FoldFits partition Min e = Unit {0}
+FoldFits partition Max e = Unit {0}
+FoldFits partition First e = IsKeyAmong partition e
 
--- what a shape's items may be: a group query's values are such columns, and no other query has aggregates
-abbrev pub ItemFits : Shape → (Side → ℕ) → List ℕ → Item → Type 0
-ItemFits Group columns keys Count = Unit {0}
-ItemFits Group columns keys (Sum e) = ExprFits columns e × (sum_bound 0 e ≤ 2 ^ 86)
-ItemFits Group columns keys (Min e) = ExprFits columns e
-ItemFits Group columns keys (Max e) = ExprFits columns e
-ItemFits Group columns keys (Value e) = ExprFits columns e × IsKeyAmong keys e
-ItemFits Select columns keys (Value e) = ExprFits columns e
-ItemFits Join columns keys (Value e) = ExprFits columns e
-ItemFits _ _ _ _ = ⊥
+abbrev pub AggregateFits : (Side → ℕ) → List ℕ → Aggregate → Type 0
+AggregateFits columns partition a = ExprFits columns a.expr × FoldFits partition a.fold a.expr
+
+-- a group query may have aggregates, and no other
+abbrev pub AggregatesFit : Shape → (Side → ℕ) → List ℕ → List Aggregate → Type 0
+AggregatesFit Group columns partition gs = AllByRecursion (AggregateFits columns partition) gs
+AggregatesFit Select columns partition gs = gs ≡ []
+AggregatesFit Join columns partition gs = gs ≡ []
+
+-- how many numbers a group has: the columns of its key, how many rows it has, and its aggregates
+abbrev pub group_width : Tree → ℕ
+group_width q = length q.keys + 1 + length q.aggregates
+
+-- a group query prints numbers of its groups as they are, and another query expressions over its rows
+abbrev pub ItemFits : Shape → (Side → ℕ) → ℕ → List Product → Type 0
+ItemFits Group columns width e = (k : ℕ) × (e ≡ lone k) × (k < width)
+ItemFits Select columns width e = ExprFits columns e
+ItemFits Join columns width e = ExprFits columns e
 
 -- ---- predicates
 
@@ -137,7 +152,9 @@ pub record IsChecked (q : Tree) : Type 0 where
   pub columns : ColumnsFit q.streams
   pub some_items : 1 ≤ length q.items
   pub few_items : length q.items ≤ 32
-  pub items : AllByRecursion (ItemFits q.shape (columns_on q.streams) (named_columns q)) q.items
+  pub items : AllByRecursion (ItemFits q.shape (columns_on q.streams) (group_width q)) q.items
+  pub few_aggregates : length q.aggregates ≤ 32
+  pub aggregates : AggregatesFit q.shape (columns_on q.streams) q.partition q.aggregates
   pub few_keys : length q.keys ≤ 8
   pub keys : AllByRecursion (λ k. k < columns_on q.streams Left) q.keys
   pub few_lists : length q.partition ≤ 8

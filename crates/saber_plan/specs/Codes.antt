@@ -1,25 +1,39 @@
 -- Codes of parts, so that a type may have one as its value.
-use Rattle.std.specs.Prelude.{ℕ, List, ℤ, refl}
+use Rattle.std.specs.Prelude.{◌≡◌, ℕ, zero, suc, List, ℤ, refl}
 use Rattle.std.specs.Coded.{Coded, code_by, coded×, coded_ℕ, coded_ℤ, coded_list}
 use Rattle.std.specs.FinMap.{code}
-use Rattle.saber_plan.specs.Parts.{Part, Numbers}
+use Rattle.saber_plan.specs.declared.plans.Fold.{Fold}
+use Rattle.saber_plan.specs.declared.plans.Fold.TheVariants.{Sum, Min, Max, First}
+use Rattle.saber_plan.specs.Parts.{Part, Number, Numbers}
 use Rattle.saber_plan.specs.Tasks.{Parts}
 
--- a part's numbers as pairs: the count, then the sums, the least and greatest values and those of the first row
-abbrev Lists : Type 0
-Lists = List ℤ × (List ℤ × (List ℤ × List ℤ))
+-- a fold by its number
+abbrev fold_code : Fold → ℕ
+fold_code Sum = 0
+fold_code Min = 1
+fold_code Max = 2
+fold_code First = 3
 
-abbrev coded_lists : Coded Lists
-coded_lists = let zs = coded_list coded_ℤ in coded× zs (coded× zs (coded× zs zs))
+abbrev fold_at : ℕ → Fold
+fold_at zero = Sum
+fold_at (suc zero) = Min
+fold_at (suc (suc zero)) = Max
+fold_at (suc (suc (suc n))) = First
 
-abbrev to_pairs : Numbers → ℕ × Lists
-to_pairs a = (a.count, (a.sums, (a.leasts, (a.greatests, a.firsts))))
+abbrev fold_back : (f : Fold) → fold_at (fold_code f) ≡ f
+fold_back Sum = refl
+fold_back Min = refl
+fold_back Max = refl
+fold_back First = refl
 
-abbrev from_pairs : ℕ × Lists → Numbers
-from_pairs p = record { count = p.0; sums = p.1.0; leasts = p.1.1.0; greatests = p.1.1.1.0; firsts = p.1.1.1.1 }
+abbrev pub coded_fold : Coded Fold
+coded_fold = code_by ℕ coded_ℕ fold_code fold_at fold_back
+
+abbrev pub coded_number : Coded Number
+coded_number = code_by (Fold × ℤ) (coded× coded_fold coded_ℤ) (λ v. (v.fold, v.value)) (λ p. record { fold = p.0; value = p.1 }) (λ _. refl)
 
 abbrev pub coded_numbers : Coded Numbers
-coded_numbers = code_by (ℕ × Lists) (coded× coded_ℕ coded_lists) to_pairs from_pairs (λ _. refl)
+coded_numbers = code_by (ℕ × List Number) (coded× coded_ℕ (coded_list coded_number)) (λ a. (a.count, a.values)) (λ p. record { count = p.0; values = p.1 }) (λ _. refl)
 
 abbrev pub coded_part : Coded Part
 coded_part = code (coded_list coded_ℤ) coded_numbers

@@ -1,116 +1,66 @@
 -- The parts of windows, and their merge.
-use Rattle.std.specs.Prelude.{ℕ, ◌+◌, max, drop, List, [], ◌∷◌, map, filter, fold, length, nat_le, nat_abs, ℤ, pos, ◌+ℤ◌}
-use Rattle.std.specs.Int.{int_min, int_max}
+use Rattle.std.specs.Prelude.{ℕ, ◌+◌, max, List, [], ◌∷◌, map, filter, fold, length, nat_le, nat_abs, Bool, true, false, if◌then◌else◌, ℤ}
 use Rattle.std.specs.FinMap.{FinMap, empty, entries, from_entries}
 use Rattle.saber_plan.specs.declared.rows.Row.{Row}
-use Rattle.saber_plan.specs.declared.plans.Item.{Item}
-use Rattle.saber_plan.specs.declared.plans.Item.TheVariants.{Count, Sum, Min, Max, Value}
+use Rattle.saber_plan.specs.declared.plans.Fold.{Fold}
+use Rattle.saber_plan.specs.declared.plans.Fold.TheVariants.{Sum, Min, Max, First}
+use Rattle.saber_plan.specs.declared.plans.Aggregate.{Aggregate}
+use Rattle.saber_plan.specs.declared.plans.Shape.{Shape}
 use Rattle.saber_plan.specs.declared.expressions.Product.{Product}
 use Rattle.saber_plan.specs.Trees.{Tree}
-use Rattle.saber_plan.specs.Values.{value}
 use Rattle.saber_plan.specs.Windows.{Placed, inside}
-use Rattle.saber_plan.specs.Answers.{Entry, Answers, key_cmp, key, passing, picked, pairs, values_of, first_by, rows_of_key, entry_lines, by_shape, frame, earlier}
+use Rattle.saber_plan.specs.Answers.{Entry, Answers, key_cmp, key, passing, picked, pairs, pair_answers, row_answers, aggregate, step, group_row, items_over, rows_of_key, entry_lines, by_shape, frame}
 use Rattle.saber_plan.specs.Merges.{both}
 
 -- ---- numbers
 
--- a count of rows, and sums, least and greatest values and the first row's values for the items that want them
+-- an aggregate over some rows, and how it goes on over later ones
+pub record Number : Type 0 where
+  pub fold : Fold
+  pub value : ℤ
+
+-- how many rows, and the aggregates over them
 pub record Numbers : Type 0 where
   pub count : ℕ
-  pub sums : List ℤ
-  pub leasts : List ℤ
-  pub greatests : List ℤ
-  pub firsts : List ℤ
-
-abbrev pub summed : List Item → List (List Product)
-summed [] = []
-summed (Count ∷ is) = summed is
-summed (Sum e ∷ is) = e ∷ summed is
-summed (Min e ∷ is) = summed is
-summed (Max e ∷ is) = summed is
-summed (Value e ∷ is) = summed is
-
-abbrev pub least : List Item → List (List Product)
-least [] = []
-least (Count ∷ is) = least is
-least (Sum e ∷ is) = least is
-least (Min e ∷ is) = e ∷ least is
-least (Max e ∷ is) = least is
-least (Value e ∷ is) = least is
-
-abbrev pub greatest : List Item → List (List Product)
-greatest [] = []
-greatest (Count ∷ is) = greatest is
-greatest (Sum e ∷ is) = greatest is
-greatest (Min e ∷ is) = greatest is
-greatest (Max e ∷ is) = e ∷ greatest is
-greatest (Value e ∷ is) = greatest is
-
-abbrev pub plain : List Item → List (List Product)
-plain [] = []
-plain (Count ∷ is) = plain is
-plain (Sum e ∷ is) = plain is
-plain (Min e ∷ is) = plain is
-plain (Max e ∷ is) = plain is
-plain (Value e ∷ is) = e ∷ plain is
+  pub values : List Number
 
 -- the numbers of some rows
-abbrev pub numbers : List Item → List (List ℤ) → Numbers
-numbers is rows = record {
-  count = length rows;
-  sums = map (λ e. fold ◌+ℤ◌ (pos 0) (values_of e rows)) (summed is);
-  leasts = map (λ e. first_by int_min (values_of e rows)) (least is);
-  greatests = map (λ e. first_by int_max (values_of e rows)) (greatest is);
-  firsts = map (λ e. first_by earlier (values_of e rows)) (plain is);
-}
+abbrev pub numbers : List Aggregate → List (List ℤ) → Numbers
+numbers gs rows = record { count = length rows; values = map (λ g. record { fold = g.fold; value = aggregate rows g }) gs }
 
--- those of a pair, by the values of its rows
-abbrev pub values_numbers : Tree → List ℤ → List ℤ → Numbers
-values_numbers q left right = record {
-  count = 1;
-  sums = map (λ e. value e left right) (summed q.items);
-  leasts = map (λ e. value e left right) (least q.items);
-  greatests = map (λ e. value e left right) (greatest q.items);
-  firsts = map (λ e. value e left right) (plain q.items);
-}
+-- those of a pair or of a row by itself, which no other rows change: the items over it
+abbrev pub numbers_of_one : List ℤ → Numbers
+numbers_of_one zs = record { count = 1; values = map (λ z. record { fold = First; value = z }) zs }
 
 abbrev pub pair_numbers : Tree → Placed → Placed → Numbers
-pair_numbers q x y = values_numbers q x.row.values y.row.values
+pair_numbers q x y = numbers_of_one (pair_answers q x y)
 
--- those of a row by itself
 abbrev pub row_numbers : Tree → Placed → Numbers
-row_numbers q x = values_numbers q x.row.values []
+row_numbers q x = numbers_of_one (row_answers q x)
 
-abbrev pub zip_by : (ℤ → ℤ → ℤ) → List ℤ → List ℤ → List ℤ
-zip_by f [] ys = []
-zip_by f (x ∷ xs) [] = []
-zip_by f (x ∷ xs) (y ∷ ys) = f x y ∷ zip_by f xs ys
+abbrev pub same_fold : Fold → Fold → Bool
+same_fold Sum Sum = true
+same_fold Min Min = true
+same_fold Max Max = true
+same_fold First First = true
+same_fold _ _ = false
+
+-- aggregates, and those of later rows: as far as they are alike, which those of one query are
+abbrev pub join_values : List Number → List Number → List Number
+join_values [] ys = []
+join_values (x ∷ xs) [] = []
+join_values (x ∷ xs) (y ∷ ys) =
+    if same_fold x.fold y.fold then record { fold = x.fold; value = step x.fold x.value y.value } ∷ join_values xs ys else []
 
 -- numbers, and those of later rows
 abbrev pub join_numbers : Numbers → Numbers → Numbers
-join_numbers a b = record {
-  count = a.count + b.count;
-  sums = zip_by ◌+ℤ◌ a.sums b.sums;
-  leasts = zip_by int_min a.leasts b.leasts;
-  greatests = zip_by int_max a.greatests b.greatests;
-  firsts = zip_by earlier a.firsts b.firsts;
-}
+join_numbers a b = record { count = a.count + b.count; values = join_values a.values b.values }
 
-abbrev pub first_number : List ℤ → ℤ
-first_number [] = pos 0
-first_number (z ∷ zs) = z
-
--- the answers to items, one after another
-abbrev pub shown : List Item → ℕ → List ℤ → List ℤ → List ℤ → List ℤ → List ℤ
-shown [] n ss ls gs fs = []
-shown (Count ∷ is) n ss ls gs fs = pos n ∷ shown is n ss ls gs fs
-shown (Sum e ∷ is) n ss ls gs fs = first_number ss ∷ shown is n (drop 1 ss) ls gs fs
-shown (Min e ∷ is) n ss ls gs fs = first_number ls ∷ shown is n ss (drop 1 ls) gs fs
-shown (Max e ∷ is) n ss ls gs fs = first_number gs ∷ shown is n ss ls (drop 1 gs) fs
-shown (Value e ∷ is) n ss ls gs fs = first_number fs ∷ shown is n ss ls gs (drop 1 fs)
-
-abbrev pub answers_of : List Item → Numbers → List ℤ
-answers_of is a = shown is a.count a.sums a.leasts a.greatests a.firsts
+-- the answers to items, of what has a key
+abbrev pub answers_of : Shape → List (List Product) → List ℤ → Numbers → List ℤ
+answers_of s is k a =
+    let zs = map (λ v. v.value) a.values in
+    by_shape s zs (items_over is (group_row k a.count zs) []) zs
 
 -- ---- parts
 
@@ -123,15 +73,18 @@ no_part = empty
 
 -- each key of the rows with the numbers of its rows
 unfoldable pub group_part : Tree → List (List ℤ) → Part
-group_part q rows = from_entries (map (λ k. (k, numbers q.items (rows_of_key q.keys k rows))) (map (key q.keys) rows))
+group_part q rows = from_entries (map (λ k. (k, numbers q.aggregates (rows_of_key q.keys k rows))) (map (key q.keys) rows))
 
 -- each row that passes, at its position
 unfoldable pub row_part : Tree → List Placed → Part
 row_part q xs = from_entries (picked q (row_numbers q) xs)
 
+abbrev pub answered : Shape → List (List Product) → List ℤ × Numbers → Entry
+answered s is e = (e.0, answers_of s is e.0 e.1)
+
 -- the lines of a part, as those of window i
 abbrev pub answers_in : Tree → Part → List Entry
-answers_in q p = map (λ e. (e.0, answers_of q.items e.1)) (entries p)
+answers_in q p = map (answered q.shape q.items) (entries p)
 
 -- without the window's number
 abbrev pub part_answers : Tree → Part → Answers

@@ -2,7 +2,7 @@
 use Rattle.std.specs.Prelude.{ℕ, List, [], ◌∷◌, Option, option_map}
 use Rattle.std.specs.Option.{option_map_or}
 use Rattle.saber_plan.specs.declared.predicates.Cmp.{Cmp}
-use Rattle.saber_plan.specs.declared.plans.Item.{Item}
+use Rattle.saber_plan.specs.declared.plans.Aggregate.{Aggregate}
 use Rattle.saber_plan.specs.declared.expressions.Product.{Product}
 use Rattle.saber_plan.specs.declared.plans.Shape.{Shape}
 use Rattle.saber_plan.specs.declared.plans.Word.{Word}
@@ -57,7 +57,8 @@ tests_of = fold-Pred Test Both Tests unit_step (λ c. joined c.units.items) (λ 
 pub record Tree : Type 0 where
   pub shape : Shape
   pub streams : List Stream
-  pub items : List Item
+  pub aggregates : List Aggregate
+  pub items : List (List Product)
   pub keys : List ℕ
   pub predicate : Option Tests
   pub partition : List ℕ
@@ -65,4 +66,4 @@ pub record Tree : Type 0 where
 
 -- a plan's tree
 abbrev pub tree_of : Plan → Tree
-tree_of p = record { shape = p.shape; streams = p.streams.items; items = p.items.items; keys = p.keys.items; predicate = option_map tests_of p.predicate; partition = option_map_or (λ v. v.items) p.partition []; word = p.word }
+tree_of p = record { shape = p.shape; streams = p.streams.items; aggregates = p.aggregates.items; items = p.items.items; keys = p.keys.items; predicate = option_map tests_of p.predicate; partition = option_map_or (λ v. v.items) p.partition []; word = p.word }

@@ -1,5 +1,6 @@
 // Expressions over whole numbers: flat lists of signed products.
-use crate::Side;
+use crate::{NoMemory, Side};
+use std::alloc::Global;
 use std::marker::Model;
 
 /// A column of a row, counted from 0, or a number.
@@ -65,13 +66,31 @@ impl Model for Expr {
 }
 
 impl Expr {
-    ghost use Rattle.std.specs.Prelude.{◌≡◌};
+    ghost use Rattle.std.specs.Prelude.{◌≡◌, IfOk};
+    ghost use Rattle.saber_plan.specs.Checked.{lone};
 
     /// The sum of these products.
     pub fn from_vec(products: Vec<Product>) -> Expr
         ensures { result ≡ products.items }
     {
         Expr { products }
+    }
+
+    /// A column of a left row alone, or a number of a group.
+    pub fn lone(alloc: Global, index: u32) -> Result<Expr, NoMemory>
+        ensures { IfOk result (λ e. e ≡ lone index) }
+    {
+        let mut factors = Vec::new(alloc);
+        factors.push(Factor::Column {
+            side: Side::Left,
+            index,
+        })?;
+        let mut products = Vec::new(alloc);
+        products.push(Product {
+            minus: false,
+            factors: Factors::from_vec(factors),
+        })?;
+        Ok(Expr::from_vec(products))
     }
 
     /// The products in order.

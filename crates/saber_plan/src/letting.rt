@@ -2,7 +2,7 @@
 // part go would stand in that function, once for each exit, and its proof would take them all in; and each crate that
 // lets one go would prove anew how its parts are let go. The bodies call `drop`, and so the drop of the type, where a value
 // that goes out of scope is taken apart in place.
-use crate::{Expr, Item, Plan, Pred, Unit};
+use crate::{Aggregate, Expr, Plan, Pred, Unit};
 
 impl Expr {
     /// Lets the expression go.
@@ -25,16 +25,10 @@ impl Pred {
     }
 }
 
-impl Item {
-    /// Lets the item go.
+impl Aggregate {
+    /// Lets the aggregate go.
     pub fn let_go(self) {
-        match self {
-            Item::Count => {}
-            Item::Sum(inner) => inner.let_go(),
-            Item::Min(inner) => inner.let_go(),
-            Item::Max(inner) => inner.let_go(),
-            Item::Value(inner) => inner.let_go(),
-        }
+        drop(self);
     }
 }
 

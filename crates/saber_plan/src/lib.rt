@@ -11,8 +11,8 @@
 //!   of a run). `Checked` is what every checked plan
 //!   keeps, `GivenRows` the rows that it can be given. The lemmas of `specs/Facts/` serve proofs;
 //!   no contract rests on them.
-//! - Calls: `Plan::new` takes a shape, streams, items, keys and a predicate; `overlap` a size and a
-//!   slide.
+//! - Calls: `Plan::new` takes a shape, streams, aggregates, items, keys and a predicate; `overlap` a
+//!   size and a slide.
 //! - Proved: plans, expressions and predicates give back what they were built from; `overlap` is
 //!   how many windows have a point, at most. In `proofs/` the `Worked*` are small cases worked out
 //!   by hand, with which the checker finds the definitions to agree.
@@ -36,7 +36,7 @@ mod windows;
 
 pub use ends::RunEnd;
 pub use expressions::{Expr, Factor, Factors, Product};
-pub use plans::{Item, Plan, Shape, Word};
+pub use plans::{Aggregate, Fold, Plan, Shape, Word};
 pub use predicates::{Cmp, Conj, Pred, Unit};
 pub use rows::{Row, RowCause, Side, Values};
 pub use sizes::Sizes;

@@ -9,14 +9,20 @@ pub enum Shape {
     Join,
 }
 
-/// What SELECT prints.
+/// How the values of rows become one number, and two such numbers one: their sum, the least, the greatest, the one that came first.
+#[derive(Clone, Copy, Debug, PartialEq, Eq)]
+pub enum Fold {
+    Sum,
+    Min,
+    Max,
+    First,
+}
+
+/// What a group gathers of its rows beside their count: the values of an expression over each, folded.
 #[derive(Drop)]
-pub enum Item {
-    Count,
-    Sum(Expr),
-    Min(Expr),
-    Max(Expr),
-    Value(Expr),
+pub struct Aggregate {
+    pub fold: Fold,
+    pub expr: Expr,
 }
 
 /// Which of the answers of its windows a query prints (CQL 2006: relation to stream): each window's, those that the window
@@ -28,14 +34,16 @@ pub enum Word {
     Dstream,
 }
 
-/// What is to be computed: the shape, the streams of FROM with their windows, the items of SELECT,
+/// What is to be computed: the shape, the streams of FROM with their windows, what groups gather, the items of SELECT,
 /// the columns of GROUP BY (counted from 0), the predicate of WHERE, and, where the query has them, the columns of
-/// PARTITION BY and its stream word. Contracts see it as a tree.
+/// PARTITION BY and its stream word. An item is an expression over a row, over a pair of rows, or over a group, whose
+/// numbers are the columns of its key, how many rows it has, and its aggregates. Contracts see it as a tree.
 #[derive(Drop)]
 pub struct Plan {
     shape: Shape,
     streams: Vec<Stream>,
-    items: Vec<Item>,
+    aggregates: Vec<Aggregate>,
+    items: Vec<Expr>,
     keys: Vec<u32>,
     predicate: Option<Pred>,
     partition: Option<Vec<u32>>,
@@ -51,15 +59,17 @@ impl Plan {
     pub fn new(
         shape: Shape,
         streams: Vec<Stream>,
-        items: Vec<Item>,
+        aggregates: Vec<Aggregate>,
+        items: Vec<Expr>,
         keys: Vec<u32>,
         predicate: Option<Pred>,
     ) -> Plan
-        ensures { tree_of result ≡ record { shape = shape; streams = streams.items; items = items.items; keys = keys.items; predicate = option_map tests_of predicate; partition = []; word = None } }
+        ensures { tree_of result ≡ record { shape = shape; streams = streams.items; aggregates = aggregates.items; items = items.items; keys = keys.items; predicate = option_map tests_of predicate; partition = []; word = None } }
     {
         Plan {
             shape,
             streams,
+            aggregates,
             items,
             keys,
             predicate,
@@ -75,6 +85,7 @@ impl Plan {
         let Plan {
             shape,
             streams,
+            aggregates,
             items,
             keys,
             predicate,
@@ -84,6 +95,7 @@ impl Plan {
         Plan {
             shape,
             streams,
+            aggregates,
             items,
             keys,
             predicate,
@@ -99,6 +111,7 @@ impl Plan {
         let Plan {
             shape,
             streams,
+            aggregates,
             items,
             keys,
             predicate,
@@ -108,6 +121,7 @@ impl Plan {
         Plan {
             shape,
             streams,
+            aggregates,
             items,
             keys,
             predicate,
@@ -130,8 +144,15 @@ impl Plan {
         &self.streams
     }
 
+    /// What a group gathers of its rows, beside their count.
+    pub fn aggregates(&self) -> &[Aggregate]
+        ensures { result.now ≡ (tree_of self.now).aggregates }
+    {
+        &self.aggregates
+    }
+
     /// The items of SELECT.
-    pub fn items(&self) -> &[Item]
+    pub fn items(&self) -> &[Expr]
         ensures { result.now ≡ (tree_of self.now).items }
     {
         &self.items
