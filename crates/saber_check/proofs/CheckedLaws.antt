@@ -1,5 +1,5 @@
 -- The plan of a query without a fault is sound.
-use Rattle.std.proofs.Common.{◌≡◌, ℕ, ◌+◌, List, [], ◌++◌, true, Option, Some, None, subst, arith}
+use Rattle.std.proofs.Common.{◌≡◌, ℕ, ◌+◌, List, [], ◌++◌, true, Option, Some, None, subst}
 use Rattle.std.specs.Option.{option_map_or}
 use Rattle.saber_plan.specs.Checked.{IsChecked}
 use Rattle.saber_query.specs.declared.tree.Source.{Source}
@@ -12,7 +12,7 @@ use Rattle.saber_check.specs.Faults.{decl_faults, item_faults, source_faults, se
 use Rattle.saber_check.specs.Plans.{plan_tree}
 use Rattle.saber_check.proofs.NoFaults.{before, behind}
 use Rattle.saber_check.proofs.ColumnLaws.{AreDeclared}
-use Rattle.saber_check.proofs.ItemLaws.{keys_law, few_items, items_fit}
+use Rattle.saber_check.proofs.ItemLaws.{keys_law, items_law}
 use Rattle.saber_check.proofs.ConditionLaws.{predicate_fits}
 use Rattle.saber_check.proofs.PartitionLaws.{partition_fits, lists_fit, word_fits}
 use Rattle.saber_check.proofs.StreamLaws.{source_passes, second_passes, streams_fit, columns_fit}
@@ -52,14 +52,17 @@ plan_checked q e =
     let d : AreDeclared q = record { first = (source_passes q (from_at q + 1) q.from h.first).declared; second = second_declared q (second_at q) q.second h.second } in
     let k = keys_law q (group_at q) d h.group in
     let l = lists_fit q (from_at q + 1) d h.first in
+    let m = items_law q (select_at q + 1) d h.items in
     record {
       streams = streams_fit q (from_at q + 1) (second_at q) h.first h.second;
       word = word_fits q (from_at q + 1) h.first;
       partition = partition_fits q (from_at q + 1) h.first;
       columns = columns_fit q 0 (from_at q + 1) (second_at q) 0 h.declarations h.first h.second;
-      some_items = omega arith;
-      few_items = few_items q (select_at q + 1) h.items;
-      items = items_fit q (select_at q + 1) d h.items;
+      some_items = m.some;
+      few_items = m.few;
+      items = m.fit;
+      few_aggregates = m.few_aggregates;
+      aggregates = m.aggregates;
       few_keys = k.few;
       keys = k.there;
       few_lists = l.0;

@@ -1,5 +1,5 @@
 -- The items and the keys of a query without a fault fit its shape.
-use Rattle.std.proofs.Common.{◌≡◌, ℕ, zero, suc, ◌+◌, ◌<◌, ◌≤◌, ◌⊎◌, inl, inr, List, [], ◌∷◌, ◌++◌, length, map, take, Contains, Bool, true, false, ◌&&◌, ◌||◌, not, ◌==◌, Option, Some, None, is_some, if◌then◌else◌, nat_lt, ◌^◌, refl, sym, ap, ◌∙◌, subst, arith}
+use Rattle.std.proofs.Common.{◌≡◌, ℕ, suc, ◌+◌, ◌<◌, ◌≤◌, ◌⊎◌, inl, inr, List, [], ◌∷◌, length, map, take, Contains, Bool, true, false, ◌&&◌, ◌||◌, not, ◌==◌, Option, Some, None, is_some, if◌then◌else◌, nat_lt, ◌^◌, refl, sym, ap, ◌∙◌, subst, arith}
 use Rattle.std.specs.Option.{option_map_or}
 use Rattle.std.specs.List.{AllByRecursion}
 use Rattle.std.proofs.lemmas.List.{length-map}
@@ -9,8 +9,9 @@ use Rattle.saber_plan.specs.declared.rows.Side.TheVariants.{Left, Right}
 use Rattle.saber_plan.specs.declared.expressions.Factor.TheVariants as plan
 use Rattle.saber_plan.specs.declared.expressions.Product.{Product}
 use Rattle.saber_plan.specs.declared.plans.Shape.TheVariants as shape
+use Rattle.saber_plan.specs.declared.plans.Fold.TheVariants as fold
 use Rattle.saber_plan.specs.Bounds.{sum_bound}
-use Rattle.saber_plan.specs.Checked.{columns_on, HasColumn, ExprFits, IsKeyAmong, ItemFits}
+use Rattle.saber_plan.specs.Checked.{columns_on, HasColumn, ExprFits, IsKeyAmong, AggregateFits, AggregatesFit, group_width, ItemFits}
 use Rattle.saber_query.specs.declared.fault.Cause.TheVariants as cause
 use Rattle.saber_query.specs.declared.tree.Column.{Column}
 use Rattle.saber_query.specs.declared.tree.Factor.{Factor}
@@ -23,15 +24,18 @@ use Rattle.saber_query.specs.declared.tree.Item.TheVariants.{Count, Sum, Min, Ma
 use Rattle.saber_query.specs.declared.tree.Source.{Source}
 use Rattle.saber_query.specs.declared.tree.Keys.{Keys}
 use Rattle.saber_query.specs.Trees.{Query}
+use Rattle.saber_check.specs.declared.outputs.Output.{Output}
+use Rattle.saber_check.specs.declared.outputs.Output.TheVariants as out
 use Rattle.saber_check.specs.Least.{each}
 use Rattle.saber_check.specs.Widths.{factor_width, prod_width, column_width, item_width}
 use Rattle.saber_check.specs.Names.{same, decls, declares}
 use Rattle.saber_check.specs.Bounds.{factors, prods, products, product_faults, sum_faults}
 use Rattle.saber_check.specs.Faults.{own_name, same_second, same_words, is_of_one, same_column, among_columns, column_faults, factor_faults, prod_faults, expr_faults, is_aggregate, any_aggregate, is_join, is_group, is_key, is_listed, partition_of, is_column_key, is_sum_wide, content_faults, item_faults, items, key_faults, keys_faults, group_faults, group_part_faults, keys}
-use Rattle.saber_check.specs.Plans.{is_left, place, plan_place, plan_side, plan_factor, plan_term, plan_expr, plan_item, plan_stream, plan_shape, places, plan_keys, plan_partition, streams}
+use Rattle.saber_check.specs.Plans.{is_left, place, plan_place, plan_side, plan_factor, plan_term, plan_expr, plan_stream, plan_shape, places, plan_keys, plan_partition, key_place, plan_value, plan_output, gathered, printed, plan_outputs, plan_aggregates, plan_items, plan_tree, streams}
 use Rattle.saber_check.proofs.NoFaults.{before, row_and, rows_and, first_part, other_parts, few, is_true, neither, not_both, same_names}
 use Rattle.saber_check.proofs.ColumnLaws.{AreDeclared, Found, found, left_there, column_there}
 use Rattle.saber_check.proofs.BoundLaws.{expr_law}
+use Rattle.saber_check.proofs.OutputLaws.{items_count, aggregates_count, key_inside, no_place}
 
 -- how many columns a side of the plan has
 abbrev pub sides : Query → Side → ℕ
@@ -181,116 +185,150 @@ listed_place : (q : Query) (c : Column) (o : Option Keys) → q.second ≡ None 
 listed_place q c None n e = cc
 listed_place q c (Some g) n e = among_places q c (keys g) n e
 
-in_front : (n : ℕ) (xs ys : List ℕ) → Contains xs n → Contains (xs ++ ys) n
-in_front n [] ys (k, h, e) = absurd (omega arith)
-in_front n (x ∷ xs) ys (zero, h, e) = (0, omega arith, e)
-in_front n (x ∷ xs) ys (suc k, h, e) = behind_one x n (xs ++ ys) (in_front n xs ys (k, omega arith, e))
-
-at_back : (n : ℕ) (xs ys : List ℕ) → Contains ys n → Contains (xs ++ ys) n
-at_back n [] ys h = h
-at_back n (x ∷ xs) ys h = behind_one x n (xs ++ ys) (at_back n xs ys h)
-
--- the places of the columns that an item may be by itself
-abbrev pub all_keys : Query → List ℕ
-all_keys q = plan_keys q ++ plan_partition q
-
-key_of : (q : Query) (c : Column) → q.second ≡ None → (is_listed q c q.group || is_listed q c (partition_of q.from)) ≡ true → Contains (all_keys q) (plan_place q c)
-key_of q c n e = elim (either (is_listed q c q.group) (is_listed q c (partition_of q.from)) e) [
-  | inl h ↦ in_front (plan_place q c) (plan_keys q) (plan_partition q) (listed_place q c q.group n h)
-  | inr h ↦ at_back (plan_place q c) (plan_keys q) (plan_partition q) (listed_place q c (partition_of q.from) n h)
+-- a column that is none of GROUP BY's is one of PARTITION BY's
+parted_place : (q : Query) (c : Column) → q.second ≡ None → (is_listed q c q.group || is_listed q c (partition_of q.from)) ≡ true → key_place q (f.Column c) ≡ None → Contains (plan_partition q) (plan_place q c)
+parted_place q c n e h = elim (either (is_listed q c q.group) (is_listed q c (partition_of q.from)) e) [
+  | inl k ↦ absurd (no_place (plan_place q c) (plan_keys q) h (listed_place q c q.group n k))
+  | inr k ↦ listed_place q c (partition_of q.from) n k
 ]
 
 -- an expression that is one factor
-single : (q : Query) (x : Factor) (i : ℕ) → q.second ≡ None → AreDeclared q → is_column_key q x ≡ true → factor_faults q i x ≡ [] → IsKeyAmong (all_keys q) (record { minus = false; factors = plan_factor q x ∷ [] } ∷ [])
+single : (q : Query) (x : Factor) (i : ℕ) → q.second ≡ None → AreDeclared q → is_column_key q x ≡ true → key_place q x ≡ None → factor_faults q i x ≡ [] →
+    IsKeyAmong (plan_partition q) (record { minus = false; factors = plan_factor q x ∷ [] } ∷ [])
 unfolding factor_faults
-single q (f.Column c) i n d t e =
+single q (f.Column c) i n d t h e =
     let l = left_alone q c n (found q i c d e) in
-    (plan_place q c, ap (λ (s : Side). record { minus = false; factors = plan.Column s (plan_place q c) ∷ [] }) l.0, key_of q c n t)
-single q (f.Number m) i n d t e = cc
-single q (f.Negative m) i n d t e = cc
+    (plan_place q c, ap (λ (s : Side). record { minus = false; factors = plan.Column s (plan_place q c) ∷ [] } ∷ []) l.0, parted_place q c n t h)
+single q (f.Number m) i n d t h e = cc
+single q (f.Negative m) i n d t h e = cc
 
-is_key_among : (q : Query) (i : ℕ) (e : Expr) → q.second ≡ None → AreDeclared q → is_key q e ≡ true → expr_faults q i e ≡ [] → IsKeyAmong (all_keys q) (plan_expr q e)
+parted_key : (q : Query) (i : ℕ) (e : Expr) → q.second ≡ None → AreDeclared q → is_key q e ≡ true → key_place q e.first.first ≡ None → expr_faults q i e ≡ [] → IsKeyAmong (plan_partition q) (plan_expr q e)
 unfolding expr_faults prod_faults
-is_key_among q i e n d t h =
+parted_key q i e n d t k h =
     let a = both (length e.more == 0 && length e.first.more == 0) (is_column_key q e.first.first) t in
     let b = both (length e.more == 0) (length e.first.more == 0) a.0 in
     let p = first_part prod_width (λ k. prod_faults q) 0 i e.first (prods e.more) (before (each prod_width (λ k. prod_faults q) 0 i (products e)) (sum_faults 0 i (products e)) h) in
     let x = first_part factor_width (λ k. factor_faults q) 0 i e.first.first e.first.more (before (each factor_width (λ k. factor_faults q) 0 i (factors e.first)) (product_faults 1 i (factors e.first)) p) in
-    let P : List Term → List Factor → Type 0 = λ ts xs. IsKeyAmong (all_keys q) (record { minus = false; factors = plan_factor q e.first.first ∷ map (plan_factor q) xs } ∷ map (plan_term q) ts) in
-    subst (λ ts. P ts e.first.more) (sym (empty e.more b.0)) (subst (P []) (sym (empty e.first.more b.1)) (single q e.first.first i n d a.1 x))
+    let P : List Term → List Factor → Type 0 = λ ts xs. IsKeyAmong (plan_partition q) (record { minus = false; factors = plan_factor q e.first.first ∷ map (plan_factor q) xs } ∷ map (plan_term q) ts) in
+    subst (λ ts. P ts e.first.more) (sym (empty e.more b.0)) (subst (P []) (sym (empty e.first.more b.1)) (single q e.first.first i n d a.1 k x))
 
--- ---- items
+-- ---- items over rows and pairs
 
--- a join's item
-joined : (q : Query) (k i : ℕ) (x : Item) → AreDeclared q → is_join q ≡ true → item_faults q k i x ≡ [] → ItemFits shape.Join (sides q) (all_keys q) (plan_item q x)
+valued : (q : Query) (k i : ℕ) (x : Item) → AreDeclared q → is_aggregate x ≡ false → item_faults q k i x ≡ [] → ExprFits (sides q) (plan_value q x)
 unfolding item_faults
-joined q k i x d j e =
-    let h = rows_and (k == 32) (is_join q && is_aggregate x) i i cause.TooMany cause.Shape (content_faults q i x) e in
-    by x (not_both (is_join q) (is_aggregate x) h.1 j) h.2
+valued q k i x d a e = by x a (rows_and (k == 32) (is_join q && is_aggregate x) i i cause.TooMany cause.Shape (content_faults q i x) e).2
   where
-    by : (x : Item) → is_aggregate x ≡ false → content_faults q i x ≡ [] → ItemFits shape.Join (sides q) (all_keys q) (plan_item q x)
+    by : (x : Item) → is_aggregate x ≡ false → content_faults q i x ≡ [] → ExprFits (sides q) (plan_value q x)
     by Count a c = cc
     by (Sum e) a c = cc
     by (Min e) a c = cc
     by (Max e) a c = cc
     by (Value e) a c = expr_fits q i e d (row_and (is_group q && not (is_key q e)) i cause.NotGrouped (expr_faults q i e) c).1
 
--- a group query's item
-grouped : (q : Query) (k i : ℕ) (x : Item) → AreDeclared q → q.second ≡ None → is_group q ≡ true → item_faults q k i x ≡ [] → ItemFits shape.Group (sides q) (all_keys q) (plan_item q x)
+all_valued : (q : Query) (k i : ℕ) (xs : List Item) → AreDeclared q → any_aggregate xs ≡ false → each item_width (item_faults q) k i xs ≡ [] → AllByRecursion (ExprFits (sides q)) (map (plan_value q) xs)
+all_valued q k i [] d a e = tt
+all_valued q k i (x ∷ xs) d a e =
+    let h = neither (is_aggregate x) (any_aggregate xs) a in
+    (valued q k i x d h.0 (first_part item_width (item_faults q) k i x xs e), all_valued q (k + 1) (i + item_width x + 1) xs d h.1 (other_parts item_width (item_faults q) k i x xs e))
+
+-- a join has no aggregate
+none_joined : (q : Query) (k i : ℕ) (xs : List Item) → is_join q ≡ true → each item_width (item_faults q) k i xs ≡ [] → any_aggregate xs ≡ false
+unfolding item_faults
+none_joined q k i [] j e = refl
+none_joined q k i (x ∷ xs) j e =
+    let h = rows_and (k == 32) (is_join q && is_aggregate x) i i cause.TooMany cause.Shape (content_faults q i x) (first_part item_width (item_faults q) k i x xs e) in
+    ap (λ (b : Bool). b || any_aggregate xs) (not_both (is_join q) (is_aggregate x) h.1 j) ∙ none_joined q (k + 1) (i + item_width x + 1) xs j (other_parts item_width (item_faults q) k i x xs e)
+
+-- ---- items over groups
+
+-- a place by itself is that of a column of the key or of the count, and an aggregate fits
+abbrev OutputFits : Query → Output → Type 0
+OutputFits q (out.Place k) = k ≤ length (plan_keys q)
+OutputFits q (out.Aggregate g) = AggregateFits (sides q) (plan_partition q) g
+
+-- a column that a group query prints
+named : (q : Query) (i : ℕ) (e : Expr) → AreDeclared q → q.second ≡ None → is_key q e ≡ true → expr_faults q i e ≡ [] → OutputFits q (plan_output q (Value e))
+named q i e d n t h = elim (key_place q e.first.first) as (λ (o : Option ℕ). key_place q e.first.first ≡ o → OutputFits q (option_map_or out.Place o (out.Aggregate (record { fold = fold.First; expr = plan_expr q e })))) [
+  | Some j ↦ λ k. omega (arith, key_inside q e.first.first j k)
+  | None ↦ λ k. (expr_fits q i e d h, parted_key q i e n d t k h)
+] refl
+
+grouped : (q : Query) (k i : ℕ) (x : Item) → AreDeclared q → q.second ≡ None → is_group q ≡ true → item_faults q k i x ≡ [] → OutputFits q (plan_output q x)
 unfolding item_faults
 grouped q k i x d n g e = by x (rows_and (k == 32) (is_join q && is_aggregate x) i i cause.TooMany cause.Shape (content_faults q i x) e).2
   where
-    by : (x : Item) → content_faults q i x ≡ [] → ItemFits shape.Group (sides q) (all_keys q) (plan_item q x)
-    by Count c = tt
+    by : (x : Item) → content_faults q i x ≡ [] → OutputFits q (plan_output q x)
+    by Count c = omega arith
     by (Sum e) c = let h = row_and (is_sum_wide e) i cause.SumTooWide (expr_faults q (i + 2) e) c in (expr_fits q (i + 2) e d h.1, sum_small q (i + 2) e h.1 h.0)
-    by (Min e) c = expr_fits q (i + 2) e d c
-    by (Max e) c = expr_fits q (i + 2) e d c
+    by (Min e) c = (expr_fits q (i + 2) e d c, tt)
+    by (Max e) c = (expr_fits q (i + 2) e d c, tt)
     by (Value e) c =
         let h = row_and (is_group q && not (is_key q e)) i cause.NotGrouped (expr_faults q i e) c in
-        (expr_fits q i e d h.1, is_key_among q i e n d (is_true (is_key q e) (not_both (is_group q) (not (is_key q e)) h.0 g)) h.1)
+        named q i e d n (is_true (is_key q e) (not_both (is_group q) (not (is_key q e)) h.0 g)) h.1
 
--- a selection's item
-selected : (q : Query) (k i : ℕ) (x : Item) → AreDeclared q → is_aggregate x ≡ false → item_faults q k i x ≡ [] → ItemFits shape.Select (sides q) (all_keys q) (plan_item q x)
-unfolding item_faults
-selected q k i x d a e = by x a (rows_and (k == 32) (is_join q && is_aggregate x) i i cause.TooMany cause.Shape (content_faults q i x) e).2
-  where
-    by : (x : Item) → is_aggregate x ≡ false → content_faults q i x ≡ [] → ItemFits shape.Select (sides q) (all_keys q) (plan_item q x)
-    by Count a c = cc
-    by (Sum e) a c = cc
-    by (Min e) a c = cc
-    by (Max e) a c = cc
-    by (Value e) a c = expr_fits q i e d (row_and (is_group q && not (is_key q e)) i cause.NotGrouped (expr_faults q i e) c).1
-
-all_joined : (q : Query) (k i : ℕ) (xs : List Item) → AreDeclared q → is_join q ≡ true → each item_width (item_faults q) k i xs ≡ [] → AllByRecursion (ItemFits shape.Join (sides q) (all_keys q)) (map (plan_item q) xs)
-all_joined q k i [] d j e = tt
-all_joined q k i (x ∷ xs) d j e = (joined q k i x d j (first_part item_width (item_faults q) k i x xs e), all_joined q (k + 1) (i + item_width x + 1) xs d j (other_parts item_width (item_faults q) k i x xs e))
-
-all_grouped : (q : Query) (k i : ℕ) (xs : List Item) → AreDeclared q → q.second ≡ None → is_group q ≡ true → each item_width (item_faults q) k i xs ≡ [] → AllByRecursion (ItemFits shape.Group (sides q) (all_keys q)) (map (plan_item q) xs)
+all_grouped : (q : Query) (k i : ℕ) (xs : List Item) → AreDeclared q → q.second ≡ None → is_group q ≡ true → each item_width (item_faults q) k i xs ≡ [] → AllByRecursion (OutputFits q) (map (plan_output q) xs)
 all_grouped q k i [] d n g e = tt
 all_grouped q k i (x ∷ xs) d n g e = (grouped q k i x d n g (first_part item_width (item_faults q) k i x xs e), all_grouped q (k + 1) (i + item_width x + 1) xs d n g (other_parts item_width (item_faults q) k i x xs e))
 
-all_selected : (q : Query) (k i : ℕ) (xs : List Item) → AreDeclared q → any_aggregate xs ≡ false → each item_width (item_faults q) k i xs ≡ [] → AllByRecursion (ItemFits shape.Select (sides q) (all_keys q)) (map (plan_item q) xs)
-all_selected q k i [] d a e = tt
-all_selected q k i (x ∷ xs) d a e =
-    let h = neither (is_aggregate x) (any_aggregate xs) a in
-    (selected q k i x d h.0 (first_part item_width (item_faults q) k i x xs e), all_selected q (k + 1) (i + item_width x + 1) xs d h.1 (other_parts item_width (item_faults q) k i x xs e))
+gathered_fit : (q : Query) (xs : List Output) → AllByRecursion (OutputFits q) xs → AllByRecursion (AggregateFits (sides q) (plan_partition q)) (gathered xs)
+gathered_fit q [] h = tt
+gathered_fit q (out.Place k ∷ xs) h = gathered_fit q xs h.1
+gathered_fit q (out.Aggregate g ∷ xs) h = (h.0, gathered_fit q xs h.1)
+
+printed_fit : (q : Query) (n width : ℕ) (xs : List Output) → length (plan_keys q) < n → n + length (gathered xs) ≤ width → AllByRecursion (OutputFits q) xs → AllByRecursion (ItemFits shape.Group (sides q) width) (printed n xs)
+printed_fit q n width [] r s h = tt
+printed_fit q n width (out.Place k ∷ xs) r s h = ((k, refl, omega (arith, h.0, r, s)), printed_fit q n width xs r s h.1)
+printed_fit q n width (out.Aggregate g ∷ xs) r s h = ((n, refl, omega (arith, s)), printed_fit q (n + 1) width xs (omega (arith, r)) (omega (arith, s)) h.1)
+
+-- ---- all
 
 thirty_third : (q : Query) (i : ℕ) (x : Item) → ¬ (item_faults q 32 i x ≡ [])
 unfolding item_faults
 thirty_third q i x e = cc
 
-pub few_items : (q : Query) (i : ℕ) → each item_width (item_faults q) 0 i (items q) ≡ [] → length (map (plan_item q) (items q)) ≤ 32
-few_items q i e = omega (arith, few item_width (item_faults q) 32 (thirty_third q) 0 i (items q) (omega arith) e, length-map (items q) (plan_item q))
+few_written : (q : Query) (i : ℕ) → each item_width (item_faults q) 0 i (items q) ≡ [] → length (items q) ≤ 32
+few_written q i e = omega (arith, few item_width (item_faults q) 32 (thirty_third q) 0 i (items q) (omega arith) e)
 
-pub items_fit : (q : Query) (i : ℕ) → AreDeclared q → each item_width (item_faults q) 0 i (items q) ≡ [] → AllByRecursion (ItemFits (plan_shape q) (sides q) (all_keys q)) (map (plan_item q) (items q))
-items_fit q i d e =
-    let P : Bool → Bool → Type 0 = λ j g. AllByRecursion (ItemFits (if j then shape.Join else (if g then shape.Group else shape.Select)) (sides q) (all_keys q)) (map (plan_item q) (items q)) in
-    elim (q.second) as (λ (o : Option Source). q.second ≡ o → P (is_join q) (is_group q)) [
-      | Some s ↦ λ h. let j : is_join q ≡ true = ap (λ (o : Option Source). is_some o) h in subst (λ b. P b (is_group q)) (sym j) (all_joined q 0 i (items q) d j e)
-      | None ↦ λ h.
-          let j : is_join q ≡ false = ap (λ (o : Option Source). is_some o) h in
-          subst (λ b. P b (is_group q)) (sym j) (elim (is_group q) as (λ (b : Bool). is_group q ≡ b → P false b) [
-            | true ↦ λ g. all_grouped q 0 i (items q) d h g e
-            | false ↦ λ g. all_selected q 0 i (items q) d (neither (any_aggregate (items q)) (is_some q.group) (not_both (not (is_join q)) (any_aggregate (items q) || is_some q.group) g (ap not j))).0 e
-          ] refl)
-    ] refl
+-- the items of a plan and its aggregates fit, where the query is a join or not, and has groups or not
+record ItemsFit (q : Query) (join group : Bool) : Type 0 where
+  items : AllByRecursion (ItemFits (if join then shape.Join else (if group then shape.Group else shape.Select)) (sides q) (length (plan_keys q) + 1 + length (if group then gathered (plan_outputs q) else [])))
+      (if group then printed (length (plan_keys q) + 1) (plan_outputs q) else map (plan_value q) (items q))
+  aggregates : AggregatesFit (if join then shape.Join else (if group then shape.Group else shape.Select)) (sides q) (plan_partition q) (if group then gathered (plan_outputs q) else [])
+
+-- an aggregate or GROUP BY
+abbrev groups : Query → Bool
+groups q = any_aggregate (items q) || is_some q.group
+
+all_fit : (q : Query) (i : ℕ) → AreDeclared q → each item_width (item_faults q) 0 i (items q) ≡ [] → ItemsFit q (is_join q) (is_group q)
+all_fit q i d e = elim (q.second) as (λ (o : Option Source). q.second ≡ o → ItemsFit q (is_some o) (not (is_some o) && groups q)) [
+  | Some s ↦ λ h.
+      let j : is_join q ≡ true = ap (λ (o : Option Source). is_some o) h in
+      record { items = all_valued q 0 i (items q) d (none_joined q 0 i (items q) j e) e; aggregates = refl }
+  | None ↦ λ h.
+      let j : is_join q ≡ false = ap (λ (o : Option Source). is_some o) h in
+      elim (groups q) as (λ (b : Bool). groups q ≡ b → ItemsFit q false b) [
+        | true ↦ λ g.
+            let a = all_grouped q 0 i (items q) d h (ap (λ (b : Bool). not b && groups q) j ∙ g) e in
+            record { items = printed_fit q (length (plan_keys q) + 1) _ (plan_outputs q) (omega arith) (omega arith) a; aggregates = gathered_fit q (plan_outputs q) a }
+        | false ↦ λ g. record { items = all_valued q 0 i (items q) d (neither (any_aggregate (items q)) (is_some q.group) g).0 e; aggregates = refl }
+      ] refl
+] refl
+
+-- what the items of a plan and its aggregates are
+pub record ItemsLaw (q : Query) : Type 0 where
+  pub some : 1 ≤ length (plan_items q)
+  pub few : length (plan_items q) ≤ 32
+  pub fit : AllByRecursion (ItemFits (plan_shape q) (sides q) (group_width (plan_tree q))) (plan_items q)
+  pub few_aggregates : length (plan_aggregates q) ≤ 32
+  pub aggregates : AggregatesFit (plan_shape q) (sides q) (plan_partition q) (plan_aggregates q)
+
+pub items_law : (q : Query) (i : ℕ) → AreDeclared q → each item_width (item_faults q) 0 i (items q) ≡ [] → ItemsLaw q
+items_law q i d e =
+    let h = all_fit q i d e in
+    record {
+      some = omega (arith, items_count q);
+      few = omega (arith, items_count q, few_written q i e);
+      fit = h.items;
+      few_aggregates = omega (arith, aggregates_count q, few_written q i e);
+      aggregates = h.aggregates;
+    }

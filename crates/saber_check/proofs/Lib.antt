@@ -4,6 +4,7 @@ pub mod Shapes
 pub mod WidthLaws
 pub mod FirstLaws
 pub mod PlanLemmas
+pub mod OutputLaws
 pub mod IndexLaws
 pub mod NoFaults
 pub mod StreamLaws

@@ -1,6 +1,7 @@
 -- The plan of a query that has no fault.
-use Rattle.std.specs.Prelude.{ℕ, ◌+◌, ◌-◌, ◌^◌, ◌≤◌, min, List, [], ◌∷◌, map, length, Bool, true, false, if◌then◌else◌, Option, option_map, option_to_list, pos, neg_ℤ}
+use Rattle.std.specs.Prelude.{ℕ, ◌+◌, ◌-◌, ◌^◌, ◌≤◌, min, List, [], ◌∷◌, map, length, Bool, true, false, ◌==◌, if◌then◌else◌, Option, None, option_map, option_to_list, pos, neg_ℤ}
 use Rattle.std.specs.Option.{option_map_or}
+use Rattle.std.specs.List.{position}
 use Rattle.saber_plan.specs.declared.rows.Side.{Side}
 use Rattle.saber_plan.specs.declared.rows.Side.TheVariants.{Left, Right}
 use Rattle.saber_plan.specs.declared.plans.Shape.{Shape}
@@ -10,8 +11,8 @@ use Rattle.saber_plan.specs.declared.plans.Word.TheVariants as word
 use Rattle.saber_plan.specs.declared.expressions.Factor.{Factor as Plan_factor}
 use Rattle.saber_plan.specs.declared.expressions.Factor.TheVariants as plan
 use Rattle.saber_plan.specs.declared.expressions.Product.{Product}
-use Rattle.saber_plan.specs.declared.plans.Item.{Item as Plan_item}
-use Rattle.saber_plan.specs.declared.plans.Item.TheVariants as item
+use Rattle.saber_plan.specs.declared.plans.Fold.TheVariants as fold
+use Rattle.saber_plan.specs.declared.plans.Aggregate.{Aggregate}
 use Rattle.saber_plan.specs.declared.windows.Measure.{Measure as Plan_measure}
 use Rattle.saber_plan.specs.declared.windows.Measure.TheVariants as measure
 use Rattle.saber_plan.specs.declared.windows.Window.{Window as Plan_window}
@@ -19,6 +20,7 @@ use Rattle.saber_plan.specs.declared.windows.Stream.{Stream}
 use Rattle.saber_plan.specs.declared.predicates.Cmp.{Cmp as Plan_cmp}
 use Rattle.saber_plan.specs.declared.predicates.Cmp.TheVariants as cmp
 use Rattle.saber_plan.specs.Trees as t
+use Rattle.saber_plan.specs.Checked.{lone}
 use Rattle.saber_query.specs.declared.tree.Decl.{Decl}
 use Rattle.saber_query.specs.declared.tree.Column.{Column}
 use Rattle.saber_query.specs.declared.tree.Factor.{Factor}
@@ -40,6 +42,8 @@ use Rattle.saber_query.specs.declared.tree.StreamWord.TheVariants.{Rstream, Istr
 use Rattle.saber_query.specs.declared.tree.Cmp.{Cmp}
 use Rattle.saber_query.specs.declared.tree.Cmp.TheVariants as c
 use Rattle.saber_query.specs.Trees.{Test, negated, enclosed, compare, Ands, no_more, and_also, Ors, no_other, or_else, Tests, Both, Query}
+use Rattle.saber_check.specs.declared.outputs.Output.{Output}
+use Rattle.saber_check.specs.declared.outputs.Output.TheVariants as out
 use Rattle.saber_check.specs.Names.{same, names, decls, in_first}
 use Rattle.saber_check.specs.Faults.{own_name, keys, partition_of, items, is_join, is_group, width}
 use Rattle.saber_check.specs.Bounds.{factors}
@@ -97,14 +101,6 @@ plan_term q t = plan_product q (is_minus t.adding) t.prod
 -- an expression is a flat list of signed products
 abbrev pub plan_expr : Query → Expr → List Product
 plan_expr q e = plan_product q false e.first ∷ map (plan_term q) e.more
-
--- items one for one
-abbrev pub plan_item : Query → Item → Plan_item
-plan_item q Count = item.Count
-plan_item q (Sum e) = item.Sum (plan_expr q e)
-plan_item q (Min e) = item.Min (plan_expr q e)
-plan_item q (Max e) = item.Max (plan_expr q e)
-plan_item q (Value e) = item.Value (plan_expr q e)
 
 -- rows or timestamps
 abbrev pub plan_measure : Measure → Plan_measure
@@ -170,6 +166,55 @@ plan_keys q = places q q.group
 abbrev pub plan_partition : Query → List ℕ
 plan_partition q = places q (partition_of q.from)
 
+-- ---- what is gathered and printed
+
+-- the expression of an item
+abbrev pub plan_value : Query → Item → List Product
+plan_value q Count = []
+plan_value q (Sum e) = plan_expr q e
+plan_value q (Min e) = plan_expr q e
+plan_value q (Max e) = plan_expr q e
+plan_value q (Value e) = plan_expr q e
+
+-- where a column stands among those of GROUP BY: its first place, if it is one of them
+abbrev pub key_place : Query → Factor → Option ℕ
+key_place q (f.Column c) = position (λ k. k == plan_place q c) (plan_keys q)
+key_place q (f.Number n) = None
+key_place q (f.Negative n) = None
+
+-- What an item of a group query prints. A group's numbers are the columns of its key, how many rows it has, and its aggregates. COUNT(*)
+-- and a column of GROUP BY are there by themselves; what else an item may be is gathered, a column of PARTITION BY from the first row.
+abbrev pub plan_output : Query → Item → Output
+plan_output q Count = out.Place (length (plan_keys q))
+plan_output q (Sum e) = out.Aggregate (record { fold = fold.Sum; expr = plan_expr q e })
+plan_output q (Min e) = out.Aggregate (record { fold = fold.Min; expr = plan_expr q e })
+plan_output q (Max e) = out.Aggregate (record { fold = fold.Max; expr = plan_expr q e })
+plan_output q (Value e) = option_map_or out.Place (key_place q e.first.first) (out.Aggregate (record { fold = fold.First; expr = plan_expr q e }))
+
+-- the aggregates among them, in order
+abbrev pub gathered : List Output → List Aggregate
+gathered [] = []
+gathered (out.Place k ∷ xs) = gathered xs
+gathered (out.Aggregate g ∷ xs) = g ∷ gathered xs
+
+-- the numbers that they print, where the first aggregate stands at n and each further one behind it
+abbrev pub printed : ℕ → List Output → List (List Product)
+printed n [] = []
+printed n (out.Place k ∷ xs) = lone k ∷ printed n xs
+printed n (out.Aggregate g ∷ xs) = lone n ∷ printed (n + 1) xs
+
+-- those of all items
+abbrev pub plan_outputs : Query → List Output
+plan_outputs q = map (plan_output q) (items q)
+
+-- a group query alone gathers
+abbrev pub plan_aggregates : Query → List Aggregate
+plan_aggregates q = if is_group q then gathered (plan_outputs q) else []
+
+-- and prints what its groups have; another query prints the values of its items
+abbrev pub plan_items : Query → List (List Product)
+plan_items q = if is_group q then printed (length (plan_keys q) + 1) (plan_outputs q) else map (plan_value q) (items q)
+
 -- words one for one
 abbrev pub plan_word : StreamWord → Word
 plan_word Rstream = word.Rstream
@@ -181,7 +226,8 @@ abbrev pub plan_tree : Query → t.Tree
 plan_tree q = record {
   shape = plan_shape q;
   streams = map (plan_stream q) (streams q);
-  items = map (plan_item q) (items q);
+  aggregates = plan_aggregates q;
+  items = plan_items q;
   keys = plan_keys q;
   predicate = option_map (plan_tests q) q.predicate;
   partition = plan_partition q;

@@ -3,8 +3,9 @@
 //! plan of one that passes is sound. The demo and the top call use it.
 //!
 //! - Parts: `names`, `shape` and `bounds` (tests), `fault` and `walk` (the first fault so far),
-//!   `conditions`, `parts` and `whole` (a walk over all words), `expressions`, `predicates` and
-//!   `plans` (the plan of a faultless query), `query` and `text` (the calls), `laws`.
+//!   `conditions`, `parts` and `whole` (a walk over all words), `expressions`, `predicates`,
+//!   `outputs` (what groups gather, and what is printed) and `plans` (the plan of a faultless
+//!   query), `query` and `text` (the calls), `laws`.
 //! - Calls: `check` takes a parsed `Query`, `plan_of` a text; both give a `Plan`, or the first
 //!   fault.
 //! - Proved: they give the query's own plan (`specs/Plans.antt`) exactly where it has no fault,
@@ -21,6 +22,7 @@ mod expressions;
 mod fault;
 mod laws;
 mod names;
+mod outputs;
 mod parts;
 mod plans;
 mod predicates;

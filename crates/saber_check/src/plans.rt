@@ -1,59 +1,19 @@
 // The plan of a query.
-ghost use Rattle.std.specs.Prelude.{◌≡◌, ◌+◌, ◌≤◌, ◌^◌, ◌∷◌, ◌++◌, [], map, option_map, length, IfOk, OnOk};
+ghost use Rattle.std.specs.Prelude.{◌≡◌, ◌+◌, ◌≤◌, ◌^◌, map, option_map, length, IfOk};
 ghost use Rattle.saber_plan.specs.Trees as t;
 ghost use Rattle.saber_query.specs.Trees.{tests_of, query_of};
 ghost use Rattle.saber_check.specs.Widths.{decl_width, span};
 ghost use Rattle.saber_check.specs.Names.{decls, names};
-ghost use Rattle.saber_check.specs.Faults.{items, keys, measure_keys};
-ghost use Rattle.saber_check.specs.Plans.{columns, plan_place, plan_item, plan_measure, plan_window, plan_stream, plan_shape, places, plan_keys, plan_partition, plan_word, plan_tests, plan_tree, streams, Small};
+ghost use Rattle.saber_check.specs.Faults.{keys, measure_keys};
+ghost use Rattle.saber_check.specs.Plans.{columns, plan_place, plan_measure, plan_window, plan_stream, plan_shape, places, plan_keys, plan_partition, plan_word, plan_tests, plan_tree, streams, Small};
 
-use crate::expressions::{expr, plan_place};
+use crate::expressions::plan_place;
+use crate::outputs::{Outputs, plan_outputs};
 use crate::predicates::plan_pred;
 use crate::shape::{is_group, is_join};
 use saber_plan::{NoMemory, Plan, Shape, Stream, Word};
-use saber_query::{Decl, Item, Keys, Measure, Name, Select, Source, StreamWord, Window};
+use saber_query::{Decl, Keys, Measure, Name, Select, Source, StreamWord, Window};
 use std::alloc::Global;
-
-fn item(alloc: Global, query: &Select, item: &Item) -> Result<saber_plan::Item, NoMemory>
-    requires { Small (query_of query.now) }
-    ensures { IfOk result (λ i. i ≡ plan_item (query_of query.now) item.now) }
-{
-    match item {
-        Item::Count => Ok(saber_plan::Item::Count),
-        Item::Sum(inner) => Ok(saber_plan::Item::Sum(expr(alloc, query, inner)?)),
-        Item::Min(inner) => Ok(saber_plan::Item::Min(expr(alloc, query, inner)?)),
-        Item::Max(inner) => Ok(saber_plan::Item::Max(expr(alloc, query, inner)?)),
-        Item::Value(inner) => Ok(saber_plan::Item::Value(expr(alloc, query, inner)?)),
-    }
-}
-
-// One item more.
-fn put_item(
-    list: &mut Vec<saber_plan::Item>,
-    alloc: Global,
-    query: &Select,
-    next: &Item,
-) -> Result<(), NoMemory>
-    requires { Small (query_of query.now) }
-    ensures { OnOk result (list.new.items ≡ list.old.items ++ plan_item (query_of query.now) next.now ∷ []) }
-{
-    list.push(item(alloc, query, next)?)?;
-    Ok(())
-}
-
-fn plan_items(alloc: Global, query: &Select) -> Result<Vec<saber_plan::Item>, NoMemory>
-    requires { Small (query_of query.now) }
-    ensures { IfOk result (λ v. v.items ≡ map (plan_item (query_of query.now))
-        (items (query_of query.now))) }
-{
-    let mut list = Vec::new(alloc);
-    put_item(&mut list, alloc, query, &query.item)?;
-    let others = query.items.as_slice();
-    for next in others {
-        put_item(&mut list, alloc, query, next)?;
-    }
-    Ok(list)
-}
 
 fn count(decl: &Decl) -> u32
     requires { decl_width decl.now ≤ 2 ^ 30 }
@@ -216,11 +176,13 @@ pub(crate) fn plan(alloc: Global, query: &Select) -> Result<Plan, NoMemory>
     ensures { IfOk result (λ p. t.tree_of p ≡ plan_tree (query_of query.now)) }
 {
     let streams = plan_streams(alloc, query)?;
-    let items = plan_items(alloc, query)?;
     let keys = plan_keys(alloc, query)?;
+    let Outputs { aggregates, items } = plan_outputs(alloc, query, &keys)?;
     let predicate = plan_where(alloc, query)?;
     let partition = plan_partition(alloc, query)?;
-    let plan = Plan::new(shape(query), streams, items, keys, predicate).partitioned(partition);
+    let plan = Plan::new(shape(query), streams, aggregates, items, keys, predicate).partitioned(
+        partition,
+    );
     match query.word {
         Some(word) => Ok(plan.streamed(plan_word(word))),
         None => Ok(plan),

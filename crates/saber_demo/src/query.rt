@@ -1,38 +1,31 @@
 // The query's plan.
 ghost use Rattle.std.specs.Prelude.{◌≡◌, IfOk};
 ghost use Rattle.saber_plan.specs.Trees.{tree_of};
-ghost use Rattle.saber_demo.specs.Query.{column, demo_tree};
+ghost use Rattle.saber_demo.specs.Query.{demo_tree};
 
-use saber_plan::{
-    Expr, Factor, Factors, Item, Measure, NoMemory, Plan, Product, Shape, Side, Stream, Window,
-};
+use saber_plan::{Aggregate, Expr, Fold, Measure, NoMemory, Plan, Shape, Stream, Window};
 use std::alloc::Global;
 
-// A column of the only stream by itself.
-fn column(alloc: Global, index: u32) -> Result<Expr, NoMemory>
-    ensures { IfOk result (λ e. e ≡ column index) }
+// SUM(v)
+fn aggregates(alloc: Global) -> Result<Vec<Aggregate>, NoMemory>
+    ensures { IfOk result (λ v. v.items ≡ demo_tree.aggregates) }
 {
-    let mut factors = Vec::new(alloc);
-    factors.push(Factor::Column {
-        side: Side::Left,
-        index,
+    let mut aggregates = Vec::new(alloc);
+    aggregates.push(Aggregate {
+        fold: Fold::Sum,
+        expr: Expr::lone(alloc, 2)?,
     })?;
-    let mut products = Vec::new(alloc);
-    products.push(Product {
-        minus: false,
-        factors: Factors::from_vec(factors),
-    })?;
-    Ok(Expr::from_vec(products))
+    Ok(aggregates)
 }
 
-// g, COUNT(*), SUM(v)
-fn items(alloc: Global) -> Result<Vec<Item>, NoMemory>
+// What a group has, in order: g, COUNT(*), SUM(v)
+fn items(alloc: Global) -> Result<Vec<Expr>, NoMemory>
     ensures { IfOk result (λ v. v.items ≡ demo_tree.items) }
 {
     let mut items = Vec::new(alloc);
-    items.push(Item::Value(column(alloc, 1)?))?;
-    items.push(Item::Count)?;
-    items.push(Item::Sum(column(alloc, 2)?))?;
+    items.push(Expr::lone(alloc, 0)?)?;
+    items.push(Expr::lone(alloc, 1)?)?;
+    items.push(Expr::lone(alloc, 2)?)?;
     Ok(items)
 }
 
@@ -57,8 +50,9 @@ pub fn demo_plan(alloc: Global) -> Result<Plan, NoMemory>
     ensures { IfOk result (λ p. tree_of p ≡ demo_tree) }
 {
     let streams = streams(alloc)?;
+    let aggregates = aggregates(alloc)?;
     let items = items(alloc)?;
     let mut keys = Vec::new(alloc);
     keys.push(1)?;
-    Ok(Plan::new(Shape::Group, streams, items, keys, None))
+    Ok(Plan::new(Shape::Group, streams, aggregates, items, keys, None))
 }

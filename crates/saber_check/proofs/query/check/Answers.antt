@@ -51,6 +51,9 @@ returns-in-Some-clause-fault c = fails c.args.query.now _ _ c.in-Some.fault (ap 
 pub returns-in_ok-plan-in-None-clause-faultless : goal.returns-in_ok-plan-in-None-clause-faultless
 returns-in_ok-plan-in-None-clause-faultless c = faultless c.args.query.now _ (ap query_of c.select-tree.ensures.value) c.in-None.ensures
 
+pub returns-in_ok-plan-in-None-clause-plan : goal.returns-in_ok-plan-in-None-clause-plan
+returns-in_ok-plan-in-None-clause-plan c = c.in_ok-plan-in-None.ensures ∙ ap (λ s. plan_tree (query_of s)) c.select-tree.ensures.value
+
 sound : (t : Tree) (q : Query) → t ≡ plan_tree q → None ≡ least (faults q) → IsChecked t
 sound t q e l = let P : Tree → Type 0 = λ u. IsChecked u in subst P (sym e) (plan_checked q (least_gives (faults q) (sym l)))
 
