@@ -14,7 +14,7 @@ use Rattle.saber_plan.specs.GivenRows.{RowsFit}
 use Rattle.saber_plan.specs.Windows.{Placed, mark_after, placed_after, has, begun_count, closed_count, from}
 use Rattle.saber_plan.specs.Answers.{frame, passing, key_cmp, entry_lines}
 use Rattle.saber_plan.specs.Facts.Maps.{entries-empty}
-use Rattle.saber_plan.specs.Parts.{Part, no_part, group_part, merge, part_lines, answers_of}
+use Rattle.saber_plan.specs.Parts.{Part, no_part, group_part, merge, part_lines, answered}
 use Rattle.saber_plan.specs.Facts.Rows.{mark-append, placed-append, few_rows}
 use Rattle.saber_plan.specs.Facts.Numbers.{flat_nil, flat_step, flat_skip, from_more}
 use Rattle.saber_laws.specs.Groups.{GroupsJoin}
@@ -31,7 +31,7 @@ use Rattle.saber_group.proofs.Opened.{has_room, holds_more}
 -- ---- the text of windows, one after another
 
 no_lines : (q : Tree) (i : ℕ) (p : Part) → p ≡ no_part → part_lines q i p ≡ []
-no_lines q i p e = ap (part_lines q i) e ∙ ap (λ es. entry_lines i (map (λ e. (e.0, answers_of q.items e.1)) es)) (entries-empty key_cmp)
+no_lines q i p e = ap (part_lines q i) e ∙ ap (λ es. entry_lines i (map (answered q.shape q.items) es)) (entries-empty key_cmp)
 
 pub text_nil : (q : Tree) (m : Mark) (rows : List Row) (a : ℕ) (out : List ℕ) → out ≡ out ++ lines_between q m rows a a
 text_nil q m rows a out = sym (ap (λ l. out ++ l) (sym (flat_nil (λ i. part_lines q i (part_of q i m rows)) a)) ∙ append-nil out)

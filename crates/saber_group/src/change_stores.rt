@@ -1,7 +1,9 @@
 // What is kept from task to task of a query that prints what windows gain or lose: the slices that
 // open windows have, and the walk over those that are closed.
 ghost use Rattle.std.specs.Prelude.{◌≡◌, ◌≤◌, ◌<◌, ◌+◌, ◌*◌, max, None, length, OnOk};
+ghost use Rattle.saber_plan.specs.declared.plans.Shape.TheVariants as shapes;
 ghost use Rattle.saber_plan.specs.Trees.{tree_of};
+ghost use Rattle.saber_plan.specs.Checked.{IsChecked};
 ghost use Rattle.saber_group.specs.SliceParts.{HoldStill};
 ghost use Rattle.saber_group.specs.SliceStores.{CanCome, CanGoOn};
 ghost use Rattle.saber_group.specs.ChangeStores.{HasPassed, HasWalkedOn, HasWalkedBy};
@@ -38,7 +40,9 @@ impl Open {
         out: &mut Vec<u8>,
         steps: &mut Steps<L>,
     ) -> Result<(), NoMemory>
-        requires { walk.old.next ≡ self.old.next }
+        requires checked { IsChecked (tree_of plan.now) }
+        requires group { (tree_of plan.now).shape ≡ shapes.Group }
+        requires walk { walk.old.next ≡ self.old.next }
         ensures next { OnOk result (self.new.next ≡ max self.old.next low) }
         ensures walk { OnOk result (walk.new.next ≡ self.new.next) }
         ensures slices { OnOk result (HoldStill (tree_of plan.now) self.old.next self.old.slices.entries self.new.next self.new.slices.entries) }

@@ -1,6 +1,8 @@
 // The windows that may have more rows.
 ghost use Rattle.std.specs.Prelude.{◌≡◌, ◌≤◌, ◌+◌, max, [], OnOk};
+ghost use Rattle.saber_plan.specs.declared.plans.Shape.TheVariants.{Group};
 ghost use Rattle.saber_plan.specs.Trees.{tree_of};
+ghost use Rattle.saber_plan.specs.Checked.{IsChecked};
 ghost use Rattle.saber_sliding.specs.Entries.{CanFollow};
 ghost use Rattle.saber_group.specs.SliceParts.{Entered, HoldStill, Printed};
 
@@ -58,6 +60,8 @@ impl Open {
         out: &mut Vec<u8>,
         steps: &mut Steps<L>,
     ) -> Result<(), NoMemory>
+        requires checked { IsChecked (tree_of plan.now) }
+        requires group { (tree_of plan.now).shape ≡ Group }
         ensures next { OnOk result (self.new.next ≡ max self.old.next low) }
         ensures slices { OnOk result (HoldStill (tree_of plan.now) self.old.next self.old.slices.entries self.new.next self.new.slices.entries) }
         ensures text { OnOk result (Printed (tree_of plan.now) self.old.next self.old.slices.entries low self.new.next out.old.items out.new.items) }

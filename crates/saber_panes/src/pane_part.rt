@@ -22,8 +22,8 @@ pub(crate) struct PanePart {
 }
 
 impl Model for PanePart {
+    ghost use Rattle.saber_plan.specs.Codes.{coded_part};
     ghost use Rattle.saber_plan.specs.Parts.{Part};
-    ghost use Rattle.saber_partial.specs.Tallies.{coded_part};
 
     ghost Value = { Part };
 

@@ -16,25 +16,25 @@ use Rattle.saber_partial.specs.Sorted.{part_of}
 use Rattle.saber_partial.specs.MergeFacts.{not_both}
 
 -- the part of one row
-pub one_part : (q : Tree) (zs : List ℤ) → group_part q (zs ∷ []) ≡ from_entries {R = key_cmp} ((key q.keys zs, numbers q.items (zs ∷ [])) ∷ [])
+pub one_part : (q : Tree) (zs : List ℤ) → group_part q (zs ∷ []) ≡ from_entries {R = key_cmp} ((key q.keys zs, numbers q.aggregates (zs ∷ [])) ∷ [])
 unfolding group_part
-one_part q zs = ap (λ b. from_entries {R = key_cmp} ((key q.keys zs, numbers q.items (cond b (zs ∷ []) [])) ∷ [])) (ap is_eq (tied_itself total (key q.keys zs)))
+one_part q zs = ap (λ b. from_entries {R = key_cmp} ((key q.keys zs, numbers q.aggregates (cond b (zs ∷ []) [])) ∷ [])) (ap is_eq (tied_itself total (key q.keys zs)))
 
 pub merge_one : (m : Part) (k : List ℤ) (v : Numbers) → insert m k (joined join_numbers (get m k) v) ≡ merge m (from_entries ((k, v) ∷ []))
 merge_one m k v = sym (merge-empty_right (insert m k (joined join_numbers (get m k) v))) ∙ take_one total exact join_numbers m k v [] refl
 
 -- put in at its key, joined with what was there
-pub add_at : (q : Tree) (m : Part) (zs : List ℤ) (k : List ℤ) (n : Numbers) → k ≡ key q.keys zs → n ≡ joined join_numbers (get m k) (numbers q.items (zs ∷ [])) → insert m k n ≡ merge m (group_part q (zs ∷ []))
-add_at q m zs k n h e = ap (insert m k) e ∙ ap (λ l. insert m l (joined join_numbers (get m l) (numbers q.items (zs ∷ [])))) h ∙ merge_one m (key q.keys zs) (numbers q.items (zs ∷ [])) ∙ ap (merge m) (sym (one_part q zs))
+pub add_at : (q : Tree) (m : Part) (zs : List ℤ) (k : List ℤ) (n : Numbers) → k ≡ key q.keys zs → n ≡ joined join_numbers (get m k) (numbers q.aggregates (zs ∷ [])) → insert m k n ≡ merge m (group_part q (zs ∷ []))
+add_at q m zs k n h e = ap (insert m k) e ∙ ap (λ l. insert m l (joined join_numbers (get m l) (numbers q.aggregates (zs ∷ [])))) h ∙ merge_one m (key q.keys zs) (numbers q.aggregates (zs ∷ [])) ∙ ap (merge m) (sym (one_part q zs))
 
 pub some_found : (x : List ℤ × Numbers) (es : List (List ℤ × Numbers)) → get (part_of (x ∷ es)) x.0 ≡ Some x.1
 some_found x es = get-from_entries total (x ∷ es) x.0 ∙ ap (λ r. cond (is_eq r) (Some x.1) (find key_cmp x.0 es)) (tied_itself total x.0)
 
 -- what is there can take in the numbers of the row, which are like them
-pub add_fits : (q : Tree) (m : Part) (zs : List ℤ) (k : List ℤ) → k ≡ key q.keys zs → CanMerge m (group_part q (zs ∷ [])) → FitsAt m k (numbers q.items (zs ∷ []))
+pub add_fits : (q : Tree) (m : Part) (zs : List ℤ) (k : List ℤ) → k ≡ key q.keys zs → CanMerge m (group_part q (zs ∷ [])) → FitsAt m k (numbers q.aggregates (zs ∷ []))
 add_fits q m zs k h c =
-    let one = ap (λ p. get p k) (one_part q zs ∙ ap (λ l. part_of ((l, numbers q.items (zs ∷ [])) ∷ [])) (sym h)) ∙ some_found (k, numbers q.items (zs ∷ [])) [] in
-    record { at = λ a g. c.at k a (numbers q.items (zs ∷ [])) g one; alike = λ j a g. c.alike j k a (numbers q.items (zs ∷ [])) g one }
+    let one = ap (λ p. get p k) (one_part q zs ∙ ap (λ l. part_of ((l, numbers q.aggregates (zs ∷ [])) ∷ [])) (sym h)) ∙ some_found (k, numbers q.aggregates (zs ∷ [])) [] in
+    record { at = λ a g. c.at k a (numbers q.aggregates (zs ∷ [])) g one; alike = λ j a g. c.alike j k a (numbers q.aggregates (zs ∷ [])) g one }
 
 some_case : (es : List (List ℤ × Numbers)) (b : Bool) → (len (part_of es) == 0) ≡ b → (length es ≡ 0 → ⊥) → cond b None (Some (part_of es)) ≡ Some (part_of es)
 some_case es false e h = refl

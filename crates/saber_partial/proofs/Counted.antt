@@ -5,67 +5,57 @@ use Rattle.std.specs.List.{AllByRecursion}
 use Rattle.std.specs.Ordering.{eq_by_cmp}
 use Rattle.std.specs.FinMap.{get, find, get-from_entries, get-empty}
 use Rattle.saber_plan.specs.declared.rows.Row.{Row}
-use Rattle.saber_plan.specs.declared.plans.Item.{Item}
+use Rattle.saber_plan.specs.declared.expressions.Product.{Product}
+use Rattle.saber_plan.specs.declared.plans.Aggregate.{Aggregate}
+use Rattle.saber_plan.specs.declared.plans.Fold.{Fold}
+use Rattle.saber_plan.specs.declared.plans.Fold.TheVariants.{First}
 use Rattle.saber_plan.specs.declared.plans.Shape.{Shape}
 use Rattle.saber_plan.specs.declared.plans.Shape.TheVariants.{Select, Group, Join}
 use Rattle.saber_plan.specs.Trees.{Tree}
 use Rattle.saber_plan.specs.Values.{passes}
 use Rattle.saber_plan.specs.Windows.{Placed, placed, no_rows, inside, has}
-use Rattle.saber_plan.specs.Answers.{frame, passing, pairs_with, pair_key, is_left, is_right, by_shape, key_cmp, key, rows_of_key, row_key}
-use Rattle.saber_plan.specs.Parts.{Part, no_part, Numbers, numbers, join_numbers, merge, group_part, pair_part, pair_numbers, summed, least, greatest, plain, part, row_part, row_numbers}
-use Rattle.saber_partial.specs.Tallies.{Alike, CanJoin, CanMerge}
-use Rattle.saber_partial.specs.PartLaws.{OfItems, OfRows}
+use Rattle.saber_plan.specs.Answers.{frame, passing, pairs_with, pair_key, is_left, is_right, by_shape, key_cmp, key, rows_of_key, row_key, items_over}
+use Rattle.saber_plan.specs.Parts.{Part, no_part, Numbers, numbers, join_numbers, merge, group_part, numbers_of_one, pair_part, pair_numbers, part, row_part, row_numbers}
+use Rattle.saber_partial.specs.Gathering.{plan_folds}
+use Rattle.saber_partial.specs.Tallies.{folds_of, Alike, CanJoin, CanMerge}
+use Rattle.saber_partial.specs.PartLaws.{OfAggregates, OfRows}
 use Rattle.saber_plan.specs.Merges.{join}
 use Rattle.saber_plan.specs.Facts.Maps.{equal_if, get-both}
 use Rattle.saber_plan.specs.Facts.Parts.{exact, total, get-group_part, numbers_if}
 use Rattle.saber_plan.specs.Facts.Lists.{few_pass}
 use Rattle.saber_plan.specs.Facts.Rows.{length-placed}
-use Rattle.saber_partial.specs.MergeFacts.{not_both, zip_long}
+use Rattle.saber_partial.specs.MergeFacts.{not_both, folds-join}
+use Rattle.saber_partial.proofs.Folded.{folds-row}
 
-can_join : (is : List Item) (a b : Numbers) → OfItems is a → OfItems is b → a.count + b.count ≤ 2 ^ 40 → CanJoin a b
-can_join is a b g h n = record {
-  counts = n;
-  sums = g.sums ∙ sym h.sums;
-  leasts = g.leasts ∙ sym h.leasts;
-  greatests = g.greatests ∙ sym h.greatests;
-  firsts = g.firsts ∙ sym h.firsts;
-}
+can_join : (fs : List Fold) (a b : Numbers) → folds_of a.values ≡ fs → folds_of b.values ≡ fs → a.count + b.count ≤ 2 ^ 40 → CanJoin a b
+can_join fs a b g h n = record { counts = n; folds = g ∙ sym h }
 
-are_alike : (is : List Item) (j k : List ℤ) (a b : Numbers) → length j ≡ length k → OfItems is a → OfItems is b → Alike j k a b
-are_alike is j k a b n g h = record {
-  keys = n;
-  sums = g.sums ∙ sym h.sums;
-  leasts = g.leasts ∙ sym h.leasts;
-  greatests = g.greatests ∙ sym h.greatests;
-  firsts = g.firsts ∙ sym h.firsts;
-}
+are_alike : (fs : List Fold) (j k : List ℤ) (a b : Numbers) → length j ≡ length k → folds_of a.values ≡ fs → folds_of b.values ≡ fs → Alike j k a b
+are_alike fs j k a b n g h = record { keys = n; folds = g ∙ sym h }
 
 -- ---- groups
 
-numbers_fit : (is : List Item) (rows : List (List ℤ)) → OfItems is (numbers is rows)
-numbers_fit is rows = record { sums = length-map (summed is) _; leasts = length-map (least is) _; greatests = length-map (greatest is) _; firsts = length-map (plain is) _ }
-
-numbers_there : (is : List Item) (us : List (List ℤ)) (a : Numbers) → numbers_if is us ≡ Some a → numbers is us ≡ a
-numbers_there is [] a e = cc
-numbers_there is (zs ∷ us) a e = ap (λ o. unwrap_or o a) e
+numbers_there : (gs : List Aggregate) (us : List (List ℤ)) (a : Numbers) → numbers_if gs us ≡ Some a → numbers gs us ≡ a
+numbers_there gs [] a e = cc
+numbers_there gs (zs ∷ us) a e = ap (λ o. unwrap_or o a) e
 
 -- where a key has numbers, it is that of a row
-key_case : (ks : List ℕ) (is : List Item) (k zs : List ℤ) (rows : List (List ℤ)) (a : Numbers) (b : Bool) → eq_by_cmp key_cmp k (key ks zs) ≡ b → (numbers_if is rows ≡ Some a → length k ≡ length ks)
-    → numbers_if is (cond b (zs ∷ rows) rows) ≡ Some a → length k ≡ length ks
-key_case ks is k zs rows a true t h e = ap length (exact k (key ks zs) (equal_if _ t)) ∙ length-map ks _
-key_case ks is k zs rows a false t h e = h e
+key_case : (ks : List ℕ) (gs : List Aggregate) (k zs : List ℤ) (rows : List (List ℤ)) (a : Numbers) (b : Bool) → eq_by_cmp key_cmp k (key ks zs) ≡ b → (numbers_if gs rows ≡ Some a → length k ≡ length ks)
+    → numbers_if gs (cond b (zs ∷ rows) rows) ≡ Some a → length k ≡ length ks
+key_case ks gs k zs rows a true t h e = ap length (exact k (key ks zs) (equal_if _ t)) ∙ length-map ks _
+key_case ks gs k zs rows a false t h e = h e
 
-key_long : (ks : List ℕ) (is : List Item) (k : List ℤ) (us : List (List ℤ)) (a : Numbers) → numbers_if is (rows_of_key ks k us) ≡ Some a → length k ≡ length ks
-key_long ks is k [] a e = cc
-key_long ks is k (zs ∷ us) a e = key_case ks is k zs (rows_of_key ks k us) a (eq_by_cmp key_cmp k (key ks zs)) refl (key_long ks is k us a) e
+key_long : (ks : List ℕ) (gs : List Aggregate) (k : List ℤ) (us : List (List ℤ)) (a : Numbers) → numbers_if gs (rows_of_key ks k us) ≡ Some a → length k ≡ length ks
+key_long ks gs k [] a e = cc
+key_long ks gs k (zs ∷ us) a e = key_case ks gs k zs (rows_of_key ks k us) a (eq_by_cmp key_cmp k (key ks zs)) refl (key_long ks gs k us a) e
 
 pub groups_of_rows : (q : Tree) (us : List (List ℤ)) → OfRows q (length us) (group_part q us)
 groups_of_rows q us = record {
   at = λ k a e.
       let low = few_pass (λ (zs : List ℤ). eq_by_cmp key_cmp k (key q.keys zs)) us in
-      let mine = numbers_there q.items (rows_of_key q.keys k us) a (sym (get-group_part q us k) ∙ e) in
-      subst (λ (x : Numbers). (x.count ≤ length us) × OfItems q.items x) mine (low, numbers_fit q.items (rows_of_key q.keys k us));
-  keys = λ k a e. key_long q.keys q.items k us a (sym (get-group_part q us k) ∙ e);
+      let mine = numbers_there q.aggregates (rows_of_key q.keys k us) a (sym (get-group_part q us k) ∙ e) in
+      subst (λ (x : Numbers). (x.count ≤ length us) × OfAggregates q.aggregates x) mine (low, folds-row q.aggregates (rows_of_key q.keys k us));
+  keys = λ k a e. key_long q.keys q.aggregates k us a (sym (get-group_part q us k) ∙ e);
 }
 
 pub none_of_rows : (q : Tree) → OfRows q 0 no_part
@@ -80,20 +70,15 @@ small_merge q m n a b g h l = record {
       let two = h.at k y f in
       let low = one.0 in
       let high = two.0 in
-      can_join q.items x y one.1 two.1 (omega (arith, l, low, high));
-  alike = λ j k x y e f. are_alike q.items j k x y (g.keys j x e ∙ sym (h.keys k y f)) (g.at j x e).1 (h.at k y f).1;
+      can_join (plan_folds q.aggregates) x y one.1 two.1 (omega (arith, l, low, high));
+  alike = λ j k x y e f. are_alike (plan_folds q.aggregates) j k x y (g.keys j x e ∙ sym (h.keys k y f)) (g.at j x e).1 (h.at k y f).1;
 }
 
-joined_fit : (is : List Item) (x y : Numbers) → OfItems is x → OfItems is y → OfItems is (join_numbers x y)
-joined_fit is x y g h = record {
-  sums = zip_long _ x.sums y.sums (g.sums ∙ sym h.sums) ∙ g.sums;
-  leasts = zip_long _ x.leasts y.leasts (g.leasts ∙ sym h.leasts) ∙ g.leasts;
-  greatests = zip_long _ x.greatests y.greatests (g.greatests ∙ sym h.greatests) ∙ g.greatests;
-  firsts = zip_long _ x.firsts y.firsts (g.firsts ∙ sym h.firsts) ∙ g.firsts;
-}
+joined_fit : (gs : List Aggregate) (x y : Numbers) → OfAggregates gs x → OfAggregates gs y → OfAggregates gs (join_numbers x y)
+joined_fit gs x y g h = folds-join x.values y.values (g ∙ sym h) ∙ g
 
 abbrev IsOf : Tree → ℕ → Numbers → Type 0
-IsOf q n x = (x.count ≤ n) × OfItems q.items x
+IsOf q n x = (x.count ≤ n) × OfAggregates q.aggregates x
 
 some_of : (x y : Numbers) → Some x ≡ Some y → x ≡ y
 some_of x y e = ap (λ o. unwrap_or o x) e
@@ -106,7 +91,7 @@ join_case q m n (Some x) (Some y) z g h e =
     let two = h y refl in
     let low = one.0 in
     let high = two.0 in
-    subst (IsOf q (m + n)) (some_of (join_numbers x y) z e) (omega (arith, low, high), joined_fit q.items x y one.1 two.1)
+    subst (IsOf q (m + n)) (some_of (join_numbers x y) z e) (omega (arith, low, high), joined_fit q.aggregates x y one.1 two.1)
 
 -- what a merge has under a key, one of the two has
 of_either : (A : Type 0) (o p : Option Numbers) (z : Numbers) → ((x : Numbers) → o ≡ Some x → A) → ((y : Numbers) → p ≡ Some y → A) → join join_numbers o p ≡ Some z → A
@@ -158,14 +143,21 @@ few_both xs x y z =
 
 -- ---- pairs
 
-pair_fits : (q : Tree) (x y : Placed) → OfItems q.items (pair_numbers q x y)
-pair_fits q x y = record { sums = length-map (summed q.items) _; leasts = length-map (least q.items) _; greatests = length-map (greatest q.items) _; firsts = length-map (plain q.items) _ }
+abbrev firsts : List (List Product) → List Fold
+firsts is = map (λ e. First) is
+
+all_first : (is : List (List Product)) (left right : List ℤ) → folds_of (numbers_of_one (items_over is left right)).values ≡ firsts is
+all_first [] left right = refl
+all_first (e ∷ is) left right = ap (λ l. First ∷ l) (all_first is left right)
+
+pair_fits : (q : Tree) (x y : Placed) → folds_of (pair_numbers q x y).values ≡ firsts q.items
+pair_fits q x y = all_first q.items x.row.values y.row.values
 
 -- a key of two numbers, and those of one pair
 record IsPair (q : Tree) (e : List ℤ × Numbers) : Type 0 where
   keys : length e.0 ≡ 2
   one : e.1.count ≡ 1
-  items : OfItems q.items e.1
+  items : folds_of e.1.values ≡ firsts q.items
 
 abbrev ArePairs : Tree → List (List ℤ × Numbers) → Type 0
 ArePairs q es = AllByRecursion (IsPair q) es
@@ -213,11 +205,11 @@ pairs_merge q x y xs ys = record {
   at = λ k a b e f.
       let g = pair_there q x xs k a e in
       let h = pair_there q y ys k b f in
-      can_join q.items a b g.items h.items (one_each a.count b.count g.one h.one);
+      can_join (firsts q.items) a b g.items h.items (one_each a.count b.count g.one h.one);
   alike = λ j k a b e f.
       let g = pair_there q x xs j a e in
       let h = pair_there q y ys k b f in
-      are_alike q.items j k a b (g.keys ∙ sym h.keys) g.items h.items;
+      are_alike (firsts q.items) j k a b (g.keys ∙ sym h.keys) g.items h.items;
 }
 
 -- ---- rows by themselves
@@ -226,10 +218,10 @@ pairs_merge q x y xs ys = record {
 record IsSingle (q : Tree) (e : List ℤ × Numbers) : Type 0 where
   keys : length e.0 ≡ 1
   one : e.1.count ≡ 1
-  items : OfItems q.items e.1
+  items : folds_of e.1.values ≡ firsts q.items
 
-row_fits : (q : Tree) (x : Placed) → OfItems q.items (row_numbers q x)
-row_fits q x = record { sums = length-map (summed q.items) _; leasts = length-map (least q.items) _; greatests = length-map (greatest q.items) _; firsts = length-map (plain q.items) _ }
+row_fits : (q : Tree) (x : Placed) → folds_of (row_numbers q x).values ≡ firsts q.items
+row_fits q x = all_first q.items x.row.values []
 
 singles : (q : Tree) (xs : List Placed) → AllByRecursion (IsSingle q) (map (λ x. (row_key x, row_numbers q x)) xs)
 singles q [] = tt
@@ -255,11 +247,11 @@ rows_merge q xs ys = record {
   at = λ k a b e f.
       let g = single_there q xs k a e in
       let h = single_there q ys k b f in
-      can_join q.items a b g.items h.items (one_each a.count b.count g.one h.one);
+      can_join (firsts q.items) a b g.items h.items (one_each a.count b.count g.one h.one);
   alike = λ j k a b e f.
       let g = single_there q xs j a e in
       let h = single_there q ys k b f in
-      are_alike q.items j k a b (g.keys ∙ sym h.keys) g.items h.items;
+      are_alike (firsts q.items) j k a b (g.keys ∙ sym h.keys) g.items h.items;
 }
 
 -- ---- parts

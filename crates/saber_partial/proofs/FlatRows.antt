@@ -10,6 +10,8 @@ use Rattle.std.specs.List.{insert, AllByRecursion}
 use Rattle.saber_plan.specs.Parts.{Numbers}
 use Rattle.saber_plan.specs.Facts.Lists.{all_front, all_back, all_append}
 use Rattle.saber_partial.specs.declared.layout.Layout.{Layout}
+use Rattle.saber_partial.proofs.Folded.{folds-with, length-with}
+use Rattle.saber_partial.proofs.RowNumbers.{behind_few, behind_long, count_there}
 use Rattle.saber_partial.specs.Flat.{Table, entry_in, rows_in, entries_in, HasLayout, HaveLayout, IsLayout, IsRow, AreRows}
 
 -- ---- rows
@@ -239,19 +241,14 @@ start_shown l n xs t i e h = subst (λ k. i ≤ k) (sym (ap (λ (x : Table). len
 -- each row has its layout
 pub row_layout : (l : Layout) (r : List ℤ) → IsLayout l → IsRow l r → HasLayout l (entry_in l r)
 row_layout l r k h =
-    let there = k.there in
-    let long = h.long in
-    let xs = drop (l.keys + 1) r in
-    let a = length-drop (l.keys + 1) r in
-    let b = length-drop l.sums xs in
-    let d = length-drop l.leasts (drop l.sums xs) in
-    let e = length-drop l.greatests (drop l.leasts (drop l.sums xs)) in
+    let there = count_there l r k h in
+    let few = behind_few l r k h in
+    let wide = behind_long l r k h in
+    let many = length-with l.folds (drop (l.keys + 1) r) few in
     record {
-      keys = length-take-le l.keys r (omega (arith, there, long));
-      sums = length-take-le l.sums xs (omega (arith, there, long, a));
-      leasts = length-take-le l.leasts (drop l.sums xs) (omega (arith, there, long, a, b));
-      greatests = length-take-le l.greatests (drop l.leasts (drop l.sums xs)) (omega (arith, there, long, a, b, d));
-      firsts = omega (arith, there, long, a, b, d, e);
+      keys = length-take-le l.keys r (omega (arith, there));
+      width = omega (arith, wide, many);
+      folds = folds-with l.folds (drop (l.keys + 1) r) ∙ ap (λ n. take n l.folds) (sym many);
     }
 
 rows_layout : (l : Layout) (rs : List (List ℤ)) → IsLayout l → AllByRecursion (IsRow l) rs → HaveLayout l (map (entry_in l) rs)

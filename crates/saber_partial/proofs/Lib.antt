@@ -1,9 +1,8 @@
 mod FlatRows
 mod Layouts
-pub mod Zips
-pub mod Sharing
+pub mod Folded
+pub mod Lone
 pub mod Sourced
-pub mod Gathered
 pub mod Headed
 pub mod RowNumbers
 pub mod Merging
@@ -11,7 +10,7 @@ pub mod Rising
 pub mod Weaving
 pub mod Adding
 pub mod Fitting
-pub mod Left
+pub mod Shown
 pub mod Listed
 pub mod Lined
 pub mod Counted

@@ -2,7 +2,7 @@
 use Rattle.std.proofs.Common.{◌≡◌, ℕ, zero, suc, ℤ, map, take, slice_index_or, slice_set, ◌≤◌, List, [], ◌∷◌, ◌++◌, length, Option, Some, None, MatchOption, Bor, refl, sym, ◌∙◌, ap, subst, length-append, arith}
 use Rattle.std.specs.Option.{option_copied}
 use Rattle.std.specs.List.{slice_get}
-use Rattle.saber_plan.specs.Parts.{Part, Numbers, answers_of, part_answers, part_lines, no_part, merge}
+use Rattle.saber_plan.specs.Parts.{Part, answered, part_answers, part_lines, no_part, merge}
 use Rattle.saber_plan.specs.Trees.{Tree}
 use Rattle.saber_plan.specs.Answers.{key_cmp, entry_lines}
 use Rattle.saber_plan.specs.Facts.Maps.{entries-empty}
@@ -83,7 +83,7 @@ only_part (p ∷ []) (Some b) h e = merge-empty_right p ∙ (let f : Some b.now 
 only_part (p ∷ q ∷ ps) o h e = absurd (omega (arith, h))
 
 pub lines-none : (q : Tree) (i : ℕ) → part_lines q i no_part ≡ []
-lines-none q i = ap (λ es. entry_lines i (map (λ (e : List ℤ × Numbers). (e.0, answers_of q.items e.1)) es)) (entries-empty key_cmp)
+lines-none q i = ap (λ es. entry_lines i (map (answered q.shape q.items) es)) (entries-empty key_cmp)
 
 pub answers-none : (q : Tree) → part_answers q no_part ≡ []
-answers-none q = ap (λ es. map (λ (e : List ℤ × List ℤ). e.1) (map (λ (e : List ℤ × Numbers). (e.0, answers_of q.items e.1)) es)) (entries-empty key_cmp)
+answers-none q = ap (λ es. map (λ (e : List ℤ × List ℤ). e.1) (map (answered q.shape q.items) es)) (entries-empty key_cmp)

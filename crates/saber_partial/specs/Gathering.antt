@@ -1,67 +1,60 @@
--- What items want to know of rows, kind by kind.
-use Rattle.std.specs.Prelude.{ℕ, ◌^◌, ◌≤◌, List, [], ◌++◌, map, take, drop, nat_abs, ℤ, ◌+ℤ◌, Option, Some, None}
-use Rattle.std.specs.Int.{int_min, int_max}
-use Rattle.saber_plan.specs.declared.plans.Item.{Item}
-use Rattle.saber_plan.specs.declared.plans.Item.TheVariants.{Count, Sum, Min, Max, Value}
+-- What aggregates want to know of rows, and how they take it in.
+use Rattle.std.specs.Prelude.{ℕ, ◌^◌, ◌≤◌, ◌<◌, List, [], ◌∷◌, length, map, get_or, ℤ, pos, ◌+ℤ◌, neg_ℤ, ◌≤ℤ◌, ◌<ℤ◌}
+use Rattle.saber_plan.specs.declared.plans.Fold.{Fold}
+use Rattle.saber_plan.specs.declared.plans.Fold.TheVariants.{Sum, Min, Max, First}
+use Rattle.saber_plan.specs.declared.plans.Aggregate.{Aggregate}
 use Rattle.saber_plan.specs.declared.expressions.Product.{Product}
 use Rattle.saber_plan.specs.Values.{value}
 use Rattle.saber_plan.specs.Bounds.{sum_bound}
 use Rattle.saber_plan.specs.Checked.{ExprFits}
-use Rattle.saber_plan.specs.Parts.{summed, least, greatest, zip_by}
+use Rattle.saber_plan.specs.Answers.{step}
+use Rattle.saber_plan.specs.Parts.{Number}
 use Rattle.saber_eval.specs.Widths.{widths}
-use Rattle.saber_partial.specs.Kinds.{joined_list}
-use Rattle.saber_partial.specs.declared.gather.Gather.{Gather}
-use Rattle.saber_partial.specs.declared.gather.Gather.TheVariants.{Sums, Leasts, Greatests}
+use Rattle.saber_partial.specs.Tallies.{SumWithin}
 
--- the expression of an item of one kind, if it is of that kind
-abbrev pub sum_of : Item → Option (List Product)
-sum_of (Sum e) = Some e
-sum_of _ = None
+-- how the aggregates of a plan go on
+abbrev pub plan_folds : List Aggregate → List Fold
+plan_folds gs = map (λ g. g.fold) gs
 
-abbrev pub least_of : Item → Option (List Product)
-least_of (Min e) = Some e
-least_of _ = None
+-- the values of their expressions over a row
+abbrev pub values_over : List ℤ → List Aggregate → List ℤ
+values_over zs gs = map (λ g. value g.expr zs []) gs
 
-abbrev pub greatest_of : Item → Option (List Product)
-greatest_of (Max e) = Some e
-greatest_of _ = None
+-- numbers, each with that of later rows
+abbrev pub stepped : List Fold → List ℤ → List ℤ → List ℤ
+stepped [] xs ys = []
+stepped (f ∷ fs) [] ys = []
+stepped (f ∷ fs) (x ∷ xs) [] = []
+stepped (f ∷ fs) (x ∷ xs) (y ∷ ys) = step f x y ∷ stepped fs xs ys
 
-abbrev pub plain_of : Item → Option (List Product)
-plain_of (Value e) = Some e
-plain_of _ = None
+-- a number of 128 bits
+abbrev pub Fits128 : ℤ → Type 0
+Fits128 z = (neg_ℤ (pos (2 ^ 127)) ≤ℤ z) × (z <ℤ pos (2 ^ 127))
 
--- the values of expressions over a row
-abbrev pub values_by : List ℤ → List (List Product) → List ℤ
-values_by zs es = map (λ e. value e zs []) es
+-- a number and that of later rows are one of 128 bits, as the least and the greatest are
+abbrev pub FitsStep : Fold → ℤ → ℤ → Type 0
+FitsStep Sum x y = Fits128 (x +ℤ y)
+FitsStep Min x y = Unit {0}
+FitsStep Max x y = Unit {0}
+FitsStep First x y = Unit {0}
 
--- numbers by kind, s sums and l least values and g greatest ones, with what the items come to over a row more
-abbrev pub with_values : ℕ → ℕ → ℕ → List ℤ → List ℤ → List Item → List ℤ
-with_values s l g xs zs is = joined_list s l g xs (values_by zs (summed is)) (values_by zs (least is)) (values_by zs (greatest is))
-
--- a sum grows by at most 2^86 a row
-abbrev pub IsSmall : Gather → ℤ → Type 0
-IsSmall Sums z = nat_abs z ≤ 2 ^ 86
-IsSmall _ z = Unit {0}
+abbrev pub StepsFit : List Fold → List ℤ → List ℤ → Type 0
+StepsFit fs xs ys = (k : ℕ) → k < length xs → FitsStep (get_or fs k Sum) (get_or xs k (pos 0)) (get_or ys k (pos 0))
 
 -- a sum of at most 2^40 rows has room for one row more
-abbrev pub HasRoom : Gather → ℤ → Type 0
-HasRoom Sums z = nat_abs z ≤ 2 ^ 126
-HasRoom _ z = Unit {0}
+abbrev pub HasRoom : Number → Type 0
+HasRoom v = SumWithin (2 ^ 126) v.fold v.value
 
--- a number with that of a later row
-abbrev pub combine : Gather → ℤ → ℤ → ℤ
-combine Sums = ◌+ℤ◌
-combine Leasts = int_min
-combine Greatests = int_max
+-- a row adds at most 2^86 to a sum
+abbrev pub IsSmall : Number → Type 0
+IsSmall v = SumWithin (2 ^ 86) v.fold v.value
 
--- numbers, of which those from k on are joined with others
-abbrev pub combined_from : Gather → List ℤ → ℕ → List ℤ → List ℤ
-combined_from g xs k ys = take k xs ++ zip_by (combine g) (drop k xs) ys
+abbrev pub AddsLittle : Fold → List Product → Type 0
+AddsLittle Sum e = sum_bound 0 e ≤ 2 ^ 86
+AddsLittle Min e = Unit {0}
+AddsLittle Max e = Unit {0}
+AddsLittle First e = Unit {0}
 
--- an item can be worked out over a row
-abbrev pub CanCount : List ℤ → Item → Type 0
-CanCount zs Count = Unit {0}
-CanCount zs (Sum e) = ExprFits (widths zs []) e × (sum_bound 0 e ≤ 2 ^ 86)
-CanCount zs (Min e) = ExprFits (widths zs []) e
-CanCount zs (Max e) = ExprFits (widths zs []) e
-CanCount zs (Value e) = ExprFits (widths zs []) e
+-- an aggregate can be worked out over a row
+abbrev pub CanCount : List ℤ → Aggregate → Type 0
+CanCount zs g = ExprFits (widths zs []) g.expr × AddsLittle g.fold g.expr

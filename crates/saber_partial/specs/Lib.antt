@@ -1,7 +1,6 @@
 pub mod Tallies
 pub mod Sorted
 pub mod Flat
-pub mod Kinds
 pub mod Gathering
 pub mod Sources
 pub mod Printing

@@ -1,64 +1,45 @@
 -- Facts on which parts can be merged, where three follow one another. Any proof may cite them.
-use Rattle.std.proofs.Common.{◌≡◌, ℕ, suc, ◌+◌, ◌^◌, ◌≤◌, List, [], ◌∷◌, length, ℤ, ◌+ℤ◌, Option, Some, None, refl, sym, ◌∙◌, ap, subst, subst₂, arith}
-use Rattle.std.specs.Int.{int_min, int_max}
+use Rattle.std.proofs.Common.{◌≡◌, ◌+◌, ◌^◌, ◌≤◌, List, [], ◌∷◌, length, drop, get_or, Bool, cond, ℤ, Option, Some, None, refl, sym, ◌∙◌, ap, subst, subst₂, arith}
 use Rattle.std.specs.FinMap.{get, get-empty}
-use Rattle.saber_plan.specs.Answers.{key_cmp, earlier}
+use Rattle.saber_plan.specs.declared.plans.Fold.{Fold}
+use Rattle.saber_plan.specs.Answers.{key_cmp, step}
 use Rattle.saber_plan.specs.Merges.{join}
 use Rattle.saber_plan.specs.Facts.Maps.{get-both}
-use Rattle.saber_plan.specs.Facts.Parts.{total}
-use Rattle.saber_plan.specs.Parts.{Part, Numbers, no_part, merge, join_numbers, zip_by}
-use Rattle.saber_partial.specs.Tallies.{Alike, CanJoin, CanMerge}
+use Rattle.saber_plan.specs.Facts.Parts.{total, same_self}
+use Rattle.saber_plan.specs.Parts.{Part, Number, Numbers, no_part, merge, same_fold, join_values, join_numbers}
+use Rattle.saber_partial.specs.Tallies.{folds_of, Alike, CanJoin, CanMerge}
 
 pub not_both : {A : Type 0} {o : Option A} {y : A} → o ≡ None → o ≡ Some y → ⊥
 not_both e h = cc
 
-pub zip_long : (f : ℤ → ℤ → ℤ) (xs ys : List ℤ) → length xs ≡ length ys → length (zip_by f xs ys) ≡ length xs
-zip_long f [] ys h = refl
-zip_long f (x ∷ xs) [] h = absurd (omega arith)
-zip_long f (x ∷ xs) (y ∷ ys) h = ap suc (zip_long f xs ys (omega arith))
+-- ---- aggregates that go on alike
 
--- ---- how many numbers of each kind
+-- those of a join are as those of both
+pub folds-join : (xs ys : List Number) → folds_of xs ≡ folds_of ys → folds_of (join_values xs ys) ≡ folds_of xs
+folds-join [] ys e = refl
+folds-join (x ∷ xs) [] e = absurd (let l = ap length e in omega (arith, l))
+folds-join (x ∷ xs) (y ∷ ys) e =
+    let joined = λ (b : Bool). folds_of (cond b (record { fold = x.fold; value = step x.fold x.value y.value } ∷ join_values xs ys) []) in
+    subst (λ g. joined (same_fold x.fold g) ≡ x.fold ∷ folds_of xs) (ap (λ l. get_or l 0 x.fold) e)
+    (ap joined (same_self x.fold) ∙ ap (λ l. x.fold ∷ l) (folds-join xs ys (ap (drop 1) e)))
 
-record Sizes : Type 0 where
-  sums : ℕ
-  leasts : ℕ
-  greatests : ℕ
-  firsts : ℕ
+abbrev folds : Numbers → List Fold
+folds a = folds_of a.values
 
-abbrev sizes : Numbers → Sizes
-sizes a = record { sums = length a.sums; leasts = length a.leasts; greatests = length a.greatests; firsts = length a.firsts }
+folds_joined : (x y : Numbers) → folds x ≡ folds y → folds (join_numbers x y) ≡ folds x
+folds_joined x y e = folds-join x.values y.values e
 
-sizes_joined : (x y : Numbers) → sizes x ≡ sizes y → sizes (join_numbers x y) ≡ sizes x
-sizes_joined x y e = λ i. record {
-  sums = zip_long ◌+ℤ◌ x.sums y.sums (ap (λ (s : Sizes). s.sums) e) i;
-  leasts = zip_long int_min x.leasts y.leasts (ap (λ (s : Sizes). s.leasts) e) i;
-  greatests = zip_long int_max x.greatests y.greatests (ap (λ (s : Sizes). s.greatests) e) i;
-  firsts = zip_long earlier x.firsts y.firsts (ap (λ (s : Sizes). s.firsts) e) i;
-}
+folds_alone : (x y : Numbers) → CanJoin x y → folds x ≡ folds y
+folds_alone x y h = h.folds
 
-sizes_join : (x y : Numbers) → CanJoin x y → sizes x ≡ sizes y
-sizes_join x y h = λ i. record { sums = h.sums i; leasts = h.leasts i; greatests = h.greatests i; firsts = h.firsts i }
+folds_alike : (j k : List ℤ) (x y : Numbers) → Alike j k x y → folds x ≡ folds y
+folds_alike j k x y h = h.folds
 
-sizes_alike : (j k : List ℤ) (x y : Numbers) → Alike j k x y → sizes x ≡ sizes y
-sizes_alike j k x y h = λ i. record { sums = h.sums i; leasts = h.leasts i; greatests = h.greatests i; firsts = h.firsts i }
+to_join : (x y : Numbers) → x.count + y.count ≤ 2 ^ 40 → folds x ≡ folds y → CanJoin x y
+to_join x y n e = record { counts = n; folds = e }
 
-to_join : (x y : Numbers) → x.count + y.count ≤ 2 ^ 40 → sizes x ≡ sizes y → CanJoin x y
-to_join x y n e = record {
-  counts = n;
-  sums = ap (λ (s : Sizes). s.sums) e;
-  leasts = ap (λ (s : Sizes). s.leasts) e;
-  greatests = ap (λ (s : Sizes). s.greatests) e;
-  firsts = ap (λ (s : Sizes). s.firsts) e;
-}
-
-to_alike : (j k : List ℤ) (x y : Numbers) → length j ≡ length k → sizes x ≡ sizes y → Alike j k x y
-to_alike j k x y n e = record {
-  keys = n;
-  sums = ap (λ (s : Sizes). s.sums) e;
-  leasts = ap (λ (s : Sizes). s.leasts) e;
-  greatests = ap (λ (s : Sizes). s.greatests) e;
-  firsts = ap (λ (s : Sizes). s.firsts) e;
-}
+to_alike : (j k : List ℤ) (x y : Numbers) → length j ≡ length k → folds x ≡ folds y → Alike j k x y
+to_alike j k x y n e = record { keys = n; folds = e }
 
 -- ---- what two parts have under a key, and under two keys
 
@@ -99,14 +80,14 @@ given a b k = get-both total join_numbers a b k
 
 -- ---- the first two are merged: so can be the last two
 
-front_sizes : (x y w : Numbers) → CanJoin x y → CanJoin (join_numbers x y) w → sizes y ≡ sizes w
-front_sizes x y w g h = let e = sizes_join x y g in sym e ∙ sym (sizes_joined x y e) ∙ sizes_join (join_numbers x y) w h
+front_folds : (x y w : Numbers) → CanJoin x y → CanJoin (join_numbers x y) w → folds y ≡ folds w
+front_folds x y w g h = let e = g.folds in sym e ∙ sym (folds_joined x y e) ∙ folds_alone (join_numbers x y) w h
 
 joins_behind : (o p q : Option Numbers) → Joins o p → Joins (with o p) q → Joins p q
 joins_behind None p q g h = h
 joins_behind (Some x) None q g h = tt
 joins_behind (Some x) (Some y) None g h = tt
-joins_behind (Some x) (Some y) (Some w) g h = let few : (x.count + y.count) + w.count ≤ 2 ^ 40 = h.counts in to_join y w (omega (arith, few)) (front_sizes x y w g h)
+joins_behind (Some x) (Some y) (Some w) g h = let few : (x.count + y.count) + w.count ≤ 2 ^ 40 = h.counts in to_join y w (omega (arith, few)) (front_folds x y w g h)
 
 joins_ahead : (o p q : Option Numbers) → Joins o p → Joins (with o p) q → Joins o (with p q)
 joins_ahead None p q g h = tt
@@ -115,27 +96,27 @@ joins_ahead (Some x) None (Some w) g h = h
 joins_ahead (Some x) (Some y) None g h = g
 joins_ahead (Some x) (Some y) (Some w) g h =
     let few : (x.count + y.count) + w.count ≤ 2 ^ 40 = h.counts in
-    to_join x (join_numbers y w) (omega (arith, few)) (sizes_join x y g ∙ sym (sizes_joined y w (front_sizes x y w g h)))
+    to_join x (join_numbers y w) (omega (arith, few)) (g.folds ∙ sym (folds_joined y w (front_folds x y w g h)))
 
 like_behind : (j k : List ℤ) (o p q : Option Numbers) → Joins o p → AreLike j k (with o p) q → AreLike j k p q
 like_behind j k None p q g h = h
 like_behind j k (Some x) None q g h = tt
 like_behind j k (Some x) (Some y) None g h = tt
-like_behind j k (Some x) (Some y) (Some w) g h = let e = sizes_join x y g in to_alike j k y w h.keys (sym e ∙ sym (sizes_joined x y e) ∙ sizes_alike j k (join_numbers x y) w h)
+like_behind j k (Some x) (Some y) (Some w) g h = let e = g.folds in to_alike j k y w h.keys (sym e ∙ sym (folds_joined x y e) ∙ folds_alike j k (join_numbers x y) w h)
 
 like_first : (j k : List ℤ) (o p q : Option Numbers) → Joins o p → AreLike j k (with o p) q → AreLike j k o q
 like_first j k None p q g h = tt
 like_first j k (Some x) None q g h = h
 like_first j k (Some x) (Some y) None g h = tt
-like_first j k (Some x) (Some y) (Some w) g h = to_alike j k x w h.keys (sym (sizes_joined x y (sizes_join x y g)) ∙ sizes_alike j k (join_numbers x y) w h)
+like_first j k (Some x) (Some y) (Some w) g h = to_alike j k x w h.keys (sym (folds_joined x y (g.folds)) ∙ folds_alike j k (join_numbers x y) w h)
 
 like_ahead : (j k : List ℤ) (o p q : Option Numbers) → AreLike j k o p → AreLike j k o q → AreLike j k o (with p q)
 like_ahead j k None p q g h = tt
 like_ahead j k (Some x) None q g h = h
 like_ahead j k (Some x) (Some y) None g h = g
 like_ahead j k (Some x) (Some y) (Some w) g h =
-    let e = sizes_alike j k x y g in
-    to_alike j k x (join_numbers y w) g.keys (e ∙ sym (sizes_joined y w (sym e ∙ sizes_alike j k x w h)))
+    let e = folds_alike j k x y g in
+    to_alike j k x (join_numbers y w) g.keys (e ∙ sym (folds_joined y w (sym e ∙ folds_alike j k x w h)))
 
 pub can_behind : (a b c : Part) → CanMerge a b → CanMerge (merge a b) c → CanMerge b c
 can_behind a b c g h = can_by b c
@@ -158,7 +139,7 @@ joins_first (Some x) None q g h = tt
 joins_first (Some x) (Some y) None g h = h
 joins_first (Some x) (Some y) (Some w) g h =
     let few : x.count + (y.count + w.count) ≤ 2 ^ 40 = h.counts in
-    to_join x y (omega (arith, few)) (sizes_join x (join_numbers y w) h ∙ sizes_joined y w (sizes_join y w g))
+    to_join x y (omega (arith, few)) (folds_alone x (join_numbers y w) h ∙ folds_joined y w (folds_alone y w g))
 
 joins_back : (o p q : Option Numbers) → Joins p q → Joins o (with p q) → Joins (with o p) q
 joins_back None p q g h = g
@@ -166,27 +147,27 @@ joins_back (Some x) None q g h = h
 joins_back (Some x) (Some y) None g h = tt
 joins_back (Some x) (Some y) (Some w) g h =
     let few : x.count + (y.count + w.count) ≤ 2 ^ 40 = h.counts in
-    let same = sizes_join y w g in
-    let e : sizes x ≡ sizes y = sizes_join x (join_numbers y w) h ∙ sizes_joined y w same in
-    to_join (join_numbers x y) w (omega (arith, few)) (sizes_joined x y e ∙ e ∙ same)
+    let same = folds_alone y w g in
+    let e : folds x ≡ folds y = folds_alone x (join_numbers y w) h ∙ folds_joined y w same in
+    to_join (join_numbers x y) w (omega (arith, few)) (folds_joined x y e ∙ e ∙ same)
 
 like_before : (j k : List ℤ) (o p q : Option Numbers) → Joins p q → AreLike j k o (with p q) → AreLike j k o p
 like_before j k None p q g h = tt
 like_before j k (Some x) None q g h = tt
 like_before j k (Some x) (Some y) None g h = h
-like_before j k (Some x) (Some y) (Some w) g h = to_alike j k x y h.keys (sizes_alike j k x (join_numbers y w) h ∙ sizes_joined y w (sizes_join y w g))
+like_before j k (Some x) (Some y) (Some w) g h = to_alike j k x y h.keys (folds_alike j k x (join_numbers y w) h ∙ folds_joined y w (folds_alone y w g))
 
 like_last : (j k : List ℤ) (o p q : Option Numbers) → Joins p q → AreLike j k o (with p q) → AreLike j k o q
 like_last j k None p q g h = tt
 like_last j k (Some x) None q g h = h
 like_last j k (Some x) (Some y) None g h = tt
-like_last j k (Some x) (Some y) (Some w) g h = let e = sizes_join y w g in to_alike j k x w h.keys (sizes_alike j k x (join_numbers y w) h ∙ sizes_joined y w e ∙ e)
+like_last j k (Some x) (Some y) (Some w) g h = let e = folds_alone y w g in to_alike j k x w h.keys (folds_alike j k x (join_numbers y w) h ∙ folds_joined y w e ∙ e)
 
 like_back : (j k : List ℤ) (o p q : Option Numbers) → Joins o p → AreLike j k o q → AreLike j k p q → AreLike j k (with o p) q
 like_back j k None p q c g h = h
 like_back j k (Some x) None q c g h = g
 like_back j k (Some x) (Some y) None c g h = tt
-like_back j k (Some x) (Some y) (Some w) c g h = to_alike j k (join_numbers x y) w g.keys (sizes_joined x y (sizes_join x y c) ∙ sizes_alike j k x w g)
+like_back j k (Some x) (Some y) (Some w) c g h = to_alike j k (join_numbers x y) w g.keys (folds_joined x y (folds_alone x y c) ∙ folds_alike j k x w g)
 
 pub can_first : (a b c : Part) → CanMerge b c → CanMerge a (merge b c) → CanMerge a b
 can_first a b c g h = can_by a b

@@ -1,23 +1,20 @@
 -- Laws that tie what adding and merging require to the rows and parts of a query.
-use Rattle.std.specs.Prelude.{◌≡◌, ℕ, ◌+◌, ◌-◌, ◌^◌, ◌≤◌, List, length, ℤ, Some}
+use Rattle.std.specs.Prelude.{◌≡◌, ℕ, ◌+◌, ◌-◌, ◌^◌, ◌≤◌, List, length, map, ℤ, Some}
 use Rattle.std.specs.FinMap.{get}
 use Rattle.saber_plan.specs.declared.rows.Row.{Row}
-use Rattle.saber_plan.specs.declared.plans.Item.{Item}
+use Rattle.saber_plan.specs.declared.plans.Aggregate.{Aggregate}
 use Rattle.saber_plan.specs.declared.plans.Shape.TheVariants.{Group}
 use Rattle.saber_plan.specs.Trees.{Tree}
-use Rattle.saber_plan.specs.Parts.{Part, Numbers, summed, least, greatest, plain, part, group_part, merge}
-use Rattle.saber_partial.specs.Tallies.{CanMerge}
+use Rattle.saber_plan.specs.Parts.{Part, Numbers, part, group_part, merge}
+use Rattle.saber_partial.specs.Tallies.{folds_of, CanMerge}
 
--- as many numbers of each kind as the items ask
-pub record OfItems (is : List Item) (a : Numbers) : Type 0 where
-  pub sums : length a.sums ≡ length (summed is)
-  pub leasts : length a.leasts ≡ length (least is)
-  pub greatests : length a.greatests ≡ length (greatest is)
-  pub firsts : length a.firsts ≡ length (plain is)
+-- aggregates that go on as those of a plan
+abbrev pub OfAggregates : List Aggregate → Numbers → Type 0
+OfAggregates gs a = folds_of a.values ≡ map (λ g. g.fold) gs
 
--- a part of a query over at most n rows: keys of its columns, and the numbers that its items ask, of at most n rows a key
+-- a part of a query over at most n rows: keys of its columns, and its aggregates, of at most n rows a key
 pub record OfRows (q : Tree) (n : ℕ) (m : Part) : Type 0 where
-  pub at : (k : List ℤ) (a : Numbers) → get m k ≡ Some a → (a.count ≤ n) × OfItems q.items a
+  pub at : (k : List ℤ) (a : Numbers) → get m k ≡ Some a → (a.count ≤ n) × OfAggregates q.aggregates a
   pub keys : (k : List ℤ) (a : Numbers) → get m k ≡ Some a → length k ≡ length q.keys
 
 -- so are the groups of n rows

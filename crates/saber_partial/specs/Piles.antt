@@ -1,8 +1,9 @@
 -- Parts that follow one another.
-use Rattle.std.specs.Prelude.{◌≡◌, ℕ, List, [], ◌∷◌, refl}
+use Rattle.std.specs.Prelude.{ℕ, List, [], ◌∷◌, refl}
 use Rattle.std.specs.Coded.{Coded, code_by, coded×, coded_ℕ}
 use Rattle.saber_plan.specs.Parts.{Part, no_part, merge}
-use Rattle.saber_partial.specs.Tallies.{coded_part, CanMerge}
+use Rattle.saber_plan.specs.Codes.{coded_part}
+use Rattle.saber_partial.specs.Tallies.{CanMerge}
 
 -- the merge of all of them
 abbrev pub piled : List Part → Part

@@ -6,7 +6,7 @@ use Rattle.saber_partial.specs.Sorted.{part_of, Rises}
 
 -- what stands where no entry does
 abbrev pub no_entry : List ℤ × Numbers
-no_entry = ([], record { count = 0; sums = []; leasts = []; greatests = []; firsts = [] })
+no_entry = ([], record { count = 0; values = [] })
 
 -- the entries at some places
 abbrev pub picked : List ℕ → List (List ℤ × Numbers) → List (List ℤ × Numbers)

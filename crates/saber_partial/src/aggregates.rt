@@ -1,23 +1,22 @@
 // What a plan asks of each row, worked out once.
-ghost use Rattle.std.specs.Prelude.{◌≡◌, length, take, map};
+ghost use Rattle.std.specs.Prelude.{◌≡◌, length};
 ghost use Rattle.saber_plan.specs.declared.plans.Shape.TheVariants.{Group};
 ghost use Rattle.saber_plan.specs.Trees.{tree_of};
 ghost use Rattle.saber_plan.specs.Checked.{IsChecked};
-ghost use Rattle.saber_partial.specs.Flat.{numbers_asked, IsLayout, Suits};
-ghost use Rattle.saber_partial.specs.Sources.{expression, all_asked};
+ghost use Rattle.saber_partial.specs.Flat.{IsLayout, Suits};
+ghost use Rattle.saber_partial.specs.Sources.{AreSources};
 
 use crate::layout::Layout;
-use crate::sources::{Kind, Source, put_kind};
-use saber_plan::{Item, Plan};
+use crate::sources::{Source, sources_of};
+use saber_plan::{Aggregate, Plan};
 use std::marker::Model;
 
-/// What a checked group query asks of each row, made once a plan: how the numbers of a group lie, and kind by kind where the values
-/// come from. So a row adds its values kind by kind, without a look at what the items are. Contracts see it as the plan.
+/// What a checked group query asks of each row, made once a plan: how the numbers of a group lie, and where the values come from.
+/// Contracts see it as the plan.
 #[derive(Drop)]
 pub struct Aggregates<'a> {
     plan: &'a Plan,
     layout: Layout,
-    // by kind: of sums, least values, greatest ones and first ones; behind them others of no meaning
     sources: [Source; 32],
 }
 
@@ -44,17 +43,11 @@ impl<'a> Aggregates<'a> {
         requires group { (tree_of plan.now).shape ≡ Group }
         ensures { result ≡ plan.now }
     {
-        let items = plan.items();
-        let layout = Layout::of_items(plan.keys().len(), items);
-        let mut sources = [Source::Item(0); 32];
-        let sums = put_kind(&mut sources, 0, Kind::Sums, items);
-        let leasts = put_kind(&mut sources, sums, Kind::Leasts, items);
-        let greatests = put_kind(&mut sources, leasts, Kind::Greatests, items);
-        put_kind(&mut sources, greatests, Kind::Firsts, items);
+        let aggregates = plan.aggregates();
         Aggregates {
             plan,
-            layout,
-            sources,
+            layout: Layout::of_aggregates(plan.keys().len(), aggregates),
+            sources: sources_of(aggregates),
         }
     }
 
@@ -66,28 +59,28 @@ impl<'a> Aggregates<'a> {
         self.plan.keys()
     }
 
-    /// The items.
+    /// The aggregates.
     #[inline]
-    pub(crate) fn items(&self) -> &[Item]
-        ensures { result.now ≡ (tree_of self.now).items }
+    pub(crate) fn list(&self) -> &[Aggregate]
+        ensures { result.now ≡ (tree_of self.now).aggregates }
     {
-        self.plan.items()
+        self.plan.aggregates()
     }
 
     /// How the numbers of a group lie.
     #[inline]
     pub(crate) fn layout(&self) -> Layout
-        ensures suits { Suits result (length (tree_of self.now).keys) (tree_of self.now).items }
+        ensures suits { Suits result (length (tree_of self.now).keys) (tree_of self.now).aggregates }
         ensures layout { IsLayout result }
     {
         let _plan = &self.plan;
         self.layout
     }
 
-    /// Where the values come from, kind by kind, before others of no meaning.
+    /// Where the values come from, before others of no meaning.
     #[inline]
     pub(crate) fn sources(&self) -> &[Source]
-        ensures { map (expression (tree_of self.now).items) (take (numbers_asked (tree_of self.now).items) result.now) ≡ all_asked (tree_of self.now).items }
+        ensures { AreSources (tree_of self.now).aggregates result.now }
     {
         let _plan = &self.plan;
         &self.sources

@@ -1,34 +1,29 @@
 // The answers of groups, as values.
-ghost use Rattle.std.specs.Prelude.{◌≡◌, ◌≤◌, ◌∷◌, ◌++◌, [], IfOk, OnOk, drop, length, map};
+ghost use Rattle.std.specs.Prelude.{◌≡◌, ◌≤◌, ◌∷◌, ◌++◌, [], IfOk, OnOk, drop, length};
+ghost use Rattle.std.specs.List.{AllByRecursion};
+ghost use Rattle.saber_plan.specs.declared.plans.Shape.TheVariants.{Group};
 ghost use Rattle.saber_plan.specs.Trees.{tree_of};
-ghost use Rattle.saber_plan.specs.Parts.{answers_of, part_answers};
-ghost use Rattle.saber_partial.specs.Flat.{entry_in, IsLayout, IsRow};
-ghost use Rattle.saber_partial.specs.Printing.{answers_under};
+ghost use Rattle.saber_plan.specs.Checked.{IsChecked};
+ghost use Rattle.saber_plan.specs.Answers.{items_over};
+ghost use Rattle.saber_plan.specs.Parts.{part_answers};
+ghost use Rattle.saber_partial.specs.Printing.{answers_under, IsLone};
 
 use crate::groups::Partial;
-use crate::layout::Layout;
+use crate::printed::number;
 use crate::table::Table;
-use crate::unprinted::Unprinted;
 use saber_changes::Answers;
-use saber_plan::{Item, NoMemory, Plan};
+use saber_plan::{Expr, NoMemory, Plan};
 use std::alloc::Global;
 
 // Puts the answers to the items, of one group, into an empty list.
 #[inline(always)]
-fn put_numbers(
-    line: &mut Vec<i128>,
-    items: &[Item],
-    layout: &Layout,
-    row: &[i128],
-) -> Result<(), NoMemory>
+fn put_numbers(line: &mut Vec<i128>, items: &[Expr], row: &[i128]) -> Result<(), NoMemory>
     requires none { line.old.items ≡ [] }
-    requires layout { IsLayout layout.now }
-    requires row { IsRow layout.now row.now }
-    ensures { OnOk result (line.new.items ≡ answers_of items.now (entry_in layout.now row.now).1) }
+    requires items { AllByRecursion IsLone items.now }
+    ensures { OnOk result (line.new.items ≡ items_over items.now row.now []) }
 {
-    let mut unprinted = Unprinted::of_layout(layout);
     for item in items {
-        line.push(unprinted.next(row, item))?;
+        line.push(number(row, item))?;
     }
     Ok(())
 }
@@ -38,16 +33,14 @@ fn put_numbers(
 pub(crate) fn push_group(
     answers: &mut Answers,
     line: &mut Vec<i128>,
-    items: &[Item],
-    layout: &Layout,
+    items: &[Expr],
     row: &[i128],
 ) -> Result<(), NoMemory>
-    requires layout { IsLayout layout.now }
-    requires row { IsRow layout.now row.now }
-    ensures { OnOk result (answers.new ≡ answers.old ++ answers_of items.now (entry_in layout.now row.now).1 ∷ []) }
+    requires { AllByRecursion IsLone items.now }
+    ensures { OnOk result (answers.new ≡ answers.old ++ items_over items.now row.now [] ∷ []) }
 {
     line.clear();
-    put_numbers(line, items, layout, row)?;
+    put_numbers(line, items, row)?;
     answers.push(line.as_slice())?;
     Ok(())
 }
@@ -56,21 +49,24 @@ pub(crate) fn push_group(
 pub(crate) fn push_groups(
     answers: &mut Answers,
     line: &mut Vec<i128>,
-    items: &[Item],
+    items: &[Expr],
     groups: &Table,
     from: usize,
 ) -> Result<(), NoMemory>
-    requires { from ≤ length groups.now.entries }
+    requires items { AllByRecursion IsLone items.now }
+    requires from { from ≤ length groups.now.entries }
     ensures { OnOk result (answers.new ≡ answers.old ++ answers_under items.now (drop from groups.now.entries)) }
 {
+    groups.has_one_layout();
     for i in from..groups.len() {
-        push_group(answers, line, items, groups.layout(), groups.row(i))?;
+        push_group(answers, line, items, groups.row(i))?;
     }
     Ok(())
 }
 
 // Those of all groups.
-fn answers_in(alloc: Global, items: &[Item], groups: &Table) -> Result<Answers, NoMemory>
+fn answers_in(alloc: Global, items: &[Expr], groups: &Table) -> Result<Answers, NoMemory>
+    requires { AllByRecursion IsLone items.now }
     ensures { IfOk result (λ a. a ≡ answers_under items.now groups.now.entries) }
 {
     let mut answers = Answers::with_room(alloc, groups.len(), items.len())?;
@@ -83,6 +79,8 @@ impl Partial {
     /// The answers to the plan's items, a line for each group in the order of keys, without the
     /// window's number. It fails only for want of memory.
     pub fn answers(&self, alloc: Global, plan: &Plan) -> Result<Answers, NoMemory>
+        requires checked { IsChecked (tree_of plan.now) }
+        requires group { (tree_of plan.now).shape ≡ Group }
         ensures { IfOk result (λ a. a ≡ part_answers (tree_of plan.now) self.now) }
     {
         answers_in(alloc, plan.items(), &self.groups)

@@ -1,27 +1,29 @@
-// Numbers of a first row, written kind by kind.
-ghost use Rattle.std.specs.Prelude.{◌≡◌, ◌++◌, length, map, take};
+// Aggregates of a first row.
+ghost use Rattle.std.specs.Prelude.{◌≡◌, length};
 ghost use Rattle.std.specs.List.{AllByRecursion};
-ghost use Rattle.saber_plan.specs.Parts.{summed, least, greatest, plain};
-ghost use Rattle.saber_partial.specs.declared.gather.Gather.TheVariants.{Sums};
-ghost use Rattle.saber_partial.specs.Flat.{numbers_asked};
-ghost use Rattle.saber_partial.specs.Gathering.{values_by, CanCount, IsSmall};
-ghost use Rattle.saber_partial.specs.Sources.{expression, all_asked};
+ghost use Rattle.saber_partial.specs.Flat.{with_folds};
+ghost use Rattle.saber_partial.specs.Gathering.{plan_folds, values_over, CanCount, IsSmall};
+ghost use Rattle.saber_partial.specs.Sources.{AreSources};
 
 use crate::sources::Source;
 use saber_flat::RowRef;
-use saber_plan::Item;
+use saber_plan::Aggregate;
 
-/// Writes the values over a first row over numbers by kind.
+/// Writes the values over a first row over as many numbers.
 #[inline]
-pub(crate) fn write_kinds(xs: &mut [i128], sources: &[Source], items: &[Item], row: &RowRef)
-    requires long { length xs.old ≡ numbers_asked items.now }
-    requires sources { map (expression items.now) (take (numbers_asked items.now) sources.now) ≡ all_asked items.now }
-    requires fit { AllByRecursion (CanCount row.now.values) items.now }
-    ensures all { xs.new ≡ values_by row.now.values (summed items.now) ++ (values_by row.now.values (least items.now)
-        ++ (values_by row.now.values (greatest items.now) ++ values_by row.now.values (plain items.now))) }
-    ensures small { AllByRecursion (IsSmall Sums) (values_by row.now.values (summed items.now)) }
+pub(crate) fn write_values(
+    xs: &mut [i128],
+    sources: &[Source],
+    aggregates: &[Aggregate],
+    row: &RowRef,
+)
+    requires long { length xs.old ≡ length aggregates.now }
+    requires sources { AreSources aggregates.now sources.now }
+    requires fit { AllByRecursion (CanCount row.now.values) aggregates.now }
+    ensures all { xs.new ≡ values_over row.now.values aggregates.now }
+    ensures small { AllByRecursion IsSmall (with_folds (plan_folds aggregates.now) (values_over row.now.values aggregates.now)) }
 {
     for k in 0..xs.len() {
-        xs[k] = sources[k].value(items, row);
+        xs[k] = sources[k].value(&aggregates[k].expr, row);
     }
 }

@@ -30,7 +30,8 @@ pub struct Gathering {
 
 impl Model for Gathering {
     ghost use Rattle.saber_plan.specs.Parts.{Part, merge};
-    ghost use Rattle.saber_partial.specs.Tallies.{coded_part, CanMerge};
+    ghost use Rattle.saber_plan.specs.Codes.{coded_part};
+    ghost use Rattle.saber_partial.specs.Tallies.{CanMerge};
     ghost use Rattle.saber_partial.specs.Young.{young_part, IsOrder};
 
     ghost Value = { Part };

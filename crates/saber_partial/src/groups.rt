@@ -21,10 +21,10 @@ use std::sync::ledger::Ledger;
 
 /// The partial answer of a group query over some rows of one window (SABER 2016: what a task gives
 /// for a window that does not lie whole in it). From key lists, in their order, to how many rows
-/// have the key, and to the sums, least and greatest values and first row's values that the items
-/// ask. A group has 1 to 2^40 rows, each of which adds at most 2^86 to a sum, so that 128 bits hold
-/// each sum (this project's rule). The groups lie in one list of numbers, by key, so that parts of the
-/// same keys merge in one walk over both. Contracts see it as a part, a finite map.
+/// have the key, and to the plan's aggregates over them. A group has 1 to 2^40 rows, each of which
+/// adds at most 2^86 to a sum, so that 128 bits hold each sum (this project's rule). The groups lie in
+/// one list of numbers, by key, so that parts of the same keys merge in one walk over both. Contracts
+/// see it as a part, a finite map.
 #[derive(Drop)]
 pub struct Partial {
     pub(crate) groups: Table,
@@ -32,7 +32,7 @@ pub struct Partial {
 
 impl Model for Partial {
     ghost use Rattle.saber_plan.specs.Parts.{Part};
-    ghost use Rattle.saber_partial.specs.Tallies.{coded_part};
+    ghost use Rattle.saber_plan.specs.Codes.{coded_part};
     ghost use Rattle.saber_partial.specs.Sorted.{part_of, Rises};
 
     ghost Value = { Part };
@@ -76,9 +76,9 @@ impl Partial {
         row: &RowRef,
     ) -> Result<(), NoMemory>
         requires keys { length key.now ≡ length (tree_of aggregates.now).keys }
-        requires fit { AllByRecursion (CanCount row.now.values) (tree_of aggregates.now).items }
+        requires fit { AllByRecursion (CanCount row.now.values) (tree_of aggregates.now).aggregates }
         requires none { self.old ≡ no_part }
-        ensures ok { OnOk result (self.new ≡ with_row self.old key.now (numbers (tree_of aggregates.now).items (row.now.values ∷ []))) }
+        ensures ok { OnOk result (self.new ≡ with_row self.old key.now (numbers (tree_of aggregates.now).aggregates (row.now.values ∷ []))) }
         ensures err { OnErr result (self.new ≡ self.old) }
     {
         let mut groups = Table::new(alloc, aggregates.layout());
@@ -96,9 +96,9 @@ impl Partial {
         row: &RowRef,
     ) -> Result<(), NoMemory>
         requires keys { length key.now ≡ length (tree_of aggregates.now).keys }
-        requires fit { AllByRecursion (CanCount row.now.values) (tree_of aggregates.now).items }
-        requires room { FitsAt self.old key.now (numbers (tree_of aggregates.now).items (row.now.values ∷ [])) }
-        ensures ok { OnOk result (self.new ≡ with_row self.old key.now (numbers (tree_of aggregates.now).items (row.now.values ∷ []))) }
+        requires fit { AllByRecursion (CanCount row.now.values) (tree_of aggregates.now).aggregates }
+        requires room { FitsAt self.old key.now (numbers (tree_of aggregates.now).aggregates (row.now.values ∷ [])) }
+        ensures ok { OnOk result (self.new ≡ with_row self.old key.now (numbers (tree_of aggregates.now).aggregates (row.now.values ∷ []))) }
         ensures err { OnErr result (self.new ≡ self.old) }
     {
         if self.is_empty() {

@@ -1,9 +1,13 @@
 // The answers of two parts together, without their merge.
 ghost use Rattle.std.specs.Prelude.{◌≡◌, ◌≤◌, ◌<◌, ◌+◌, ◌∷◌, ◌++◌, [], IfOk, OnOk, drop, length};
+ghost use Rattle.std.specs.List.{AllByRecursion};
+ghost use Rattle.saber_plan.specs.declared.plans.Shape.TheVariants.{Group};
 ghost use Rattle.saber_plan.specs.Trees.{tree_of};
+ghost use Rattle.saber_plan.specs.Checked.{IsChecked};
+ghost use Rattle.saber_plan.specs.Answers.{items_over};
 ghost use Rattle.saber_plan.specs.Parts.{merge, part_answers};
 ghost use Rattle.saber_partial.specs.Flat.{entry_in, IsLayout, IsRow};
-ghost use Rattle.saber_partial.specs.Printing.{answers_of_both, answers_under};
+ghost use Rattle.saber_partial.specs.Printing.{answers_under, joined_row, IsLone};
 ghost use Rattle.saber_partial.specs.Sorted.{weave, CanJoinAll};
 ghost use Rattle.saber_partial.specs.Tallies.{CanJoin, CanMerge};
 
@@ -11,10 +15,10 @@ use crate::answers::{push_group, push_groups};
 use crate::groups::Partial;
 use crate::layout::Layout;
 use crate::places::key_order;
+use crate::printed::number_of_both;
 use crate::table::Table;
-use crate::unprinted::Unprinted;
 use saber_changes::Answers;
-use saber_plan::{Item, NoMemory, Plan};
+use saber_plan::{Expr, NoMemory, Plan};
 use std::alloc::Global;
 use std::cmp::Ordering;
 
@@ -22,21 +26,21 @@ use std::cmp::Ordering;
 #[inline(always)]
 fn put_both(
     line: &mut Vec<i128>,
-    items: &[Item],
+    items: &[Expr],
     layout: &Layout,
     row: &[i128],
     later: &[i128],
 ) -> Result<(), NoMemory>
     requires none { line.old.items ≡ [] }
+    requires items { AllByRecursion IsLone items.now }
     requires layout { IsLayout layout.now }
     requires row { IsRow layout.now row.now }
     requires later { IsRow layout.now later.now }
     requires can { CanJoin (entry_in layout.now row.now).1 (entry_in layout.now later.now).1 }
-    ensures { OnOk result (line.new.items ≡ answers_of_both layout.now items.now row.now later.now) }
+    ensures { OnOk result (line.new.items ≡ items_over items.now (joined_row layout.now row.now later.now) []) }
 {
-    let mut unprinted = Unprinted::of_layout(layout);
     for item in items {
-        line.push(unprinted.next_of_both(row, later, item))?;
+        line.push(number_of_both(layout, row, later, item))?;
     }
     Ok(())
 }
@@ -46,16 +50,17 @@ fn put_both(
 fn push_both(
     answers: &mut Answers,
     line: &mut Vec<i128>,
-    items: &[Item],
+    items: &[Expr],
     layout: &Layout,
     row: &[i128],
     later: &[i128],
 ) -> Result<(), NoMemory>
+    requires items { AllByRecursion IsLone items.now }
     requires layout { IsLayout layout.now }
     requires row { IsRow layout.now row.now }
     requires later { IsRow layout.now later.now }
     requires can { CanJoin (entry_in layout.now row.now).1 (entry_in layout.now later.now).1 }
-    ensures { OnOk result (answers.new ≡ answers.old ++ answers_of_both layout.now items.now row.now later.now ∷ []) }
+    ensures { OnOk result (answers.new ≡ answers.old ++ items_over items.now (joined_row layout.now row.now later.now) [] ∷ []) }
 {
     line.clear();
     put_both(line, items, layout, row, later)?;
@@ -68,13 +73,14 @@ fn push_both(
 fn push_next(
     answers: &mut Answers,
     line: &mut Vec<i128>,
-    items: &[Item],
+    items: &[Expr],
     groups: &Table,
     i: usize,
     others: &Table,
     j: usize,
 ) -> Result<(usize, usize), NoMemory>
     requires alike { groups.now.layout ≡ others.now.layout }
+    requires items { AllByRecursion IsLone items.now }
     requires mine { i < length groups.now.entries }
     requires theirs { j < length others.now.entries }
     requires can { CanJoinAll groups.now.entries others.now.entries }
@@ -88,7 +94,7 @@ fn push_next(
     let layout = groups.layout();
     match key_order(groups.key(i), others.key(j)) {
         Ordering::Less => {
-            push_group(answers, line, items, layout, groups.row(i))?;
+            push_group(answers, line, items, groups.row(i))?;
             Ok((i + 1, j))
         }
         Ordering::Equal => {
@@ -96,7 +102,7 @@ fn push_next(
             Ok((i + 1, j + 1))
         }
         Ordering::Greater => {
-            push_group(answers, line, items, layout, others.row(j))?;
+            push_group(answers, line, items, others.row(j))?;
             Ok((i, j + 1))
         }
     }
@@ -106,11 +112,12 @@ fn push_next(
 fn push_woven(
     answers: &mut Answers,
     line: &mut Vec<i128>,
-    items: &[Item],
+    items: &[Expr],
     groups: &Table,
     others: &Table,
 ) -> Result<(), NoMemory>
     requires alike { groups.now.layout ≡ others.now.layout }
+    requires items { AllByRecursion IsLone items.now }
     requires can { CanJoinAll groups.now.entries others.now.entries }
     ensures { OnOk result (answers.new ≡ answers.old ++ answers_under items.now (weave groups.now.entries others.now.entries)) }
 {
@@ -129,11 +136,12 @@ fn push_woven(
 // Those of all groups of both.
 fn answers_woven(
     alloc: Global,
-    items: &[Item],
+    items: &[Expr],
     groups: &Table,
     others: &Table,
 ) -> Result<Answers, NoMemory>
     requires alike { groups.now.layout ≡ others.now.layout }
+    requires items { AllByRecursion IsLone items.now }
     requires can { CanJoinAll groups.now.entries others.now.entries }
     ensures { IfOk result (λ a. a ≡ answers_under items.now (weave groups.now.entries others.now.entries)) }
 {
@@ -153,7 +161,9 @@ impl Partial {
         later: &Partial,
         plan: &Plan,
     ) -> Result<Answers, NoMemory>
-        requires { CanMerge self.now later.now }
+        requires checked { IsChecked (tree_of plan.now) }
+        requires group { (tree_of plan.now).shape ≡ Group }
+        requires can { CanMerge self.now later.now }
         ensures { IfOk result (λ a. a ≡ part_answers (tree_of plan.now) (merge self.now later.now)) }
     {
         if later.is_empty() {

@@ -1,12 +1,15 @@
 // The lines of two parts together, without their merge.
-ghost use Rattle.std.specs.Prelude.{◌≡◌, ◌≤◌, ◌<◌, ◌+◌, ◌∷◌, ◌++◌, IfOk, OnOk, OnErr, drop, length, map, pos};
+ghost use Rattle.std.specs.Prelude.{◌≡◌, ◌≤◌, ◌<◌, ◌+◌, ◌∷◌, ◌++◌, [], IfOk, OnOk, OnErr, drop, length, pos};
+ghost use Rattle.std.specs.List.{AllByRecursion};
+ghost use Rattle.saber_plan.specs.declared.plans.Shape.TheVariants.{Group};
 ghost use Rattle.saber_plan.specs.Trees.{tree_of};
-ghost use Rattle.saber_plan.specs.Answers.{line};
+ghost use Rattle.saber_plan.specs.Checked.{IsChecked};
+ghost use Rattle.saber_plan.specs.Answers.{items_over, line};
 ghost use Rattle.saber_plan.specs.Parts.{merge, part_lines};
 ghost use Rattle.saber_plan.specs.Texts.{Behind};
 ghost use Rattle.saber_digits.specs.Cells.{cells, drafted};
 ghost use Rattle.saber_partial.specs.Flat.{entry_in, IsLayout, IsRow};
-ghost use Rattle.saber_partial.specs.Printing.{answers_of_both, lines_for, IsHeading};
+ghost use Rattle.saber_partial.specs.Printing.{joined_row, lines_for, IsHeading, IsLone};
 ghost use Rattle.saber_partial.specs.Sorted.{weave, CanJoinAll};
 ghost use Rattle.saber_partial.specs.Tallies.{CanJoin, CanMerge};
 
@@ -15,10 +18,10 @@ use crate::headings::Heading;
 use crate::layout::Layout;
 use crate::lines::{write_groups, write_line};
 use crate::places::key_order;
+use crate::printed::number_of_both;
 use crate::table::Table;
-use crate::unprinted::Unprinted;
 use saber_digits::{end_line, flush, put_cell, start_line};
-use saber_plan::{Item, NoMemory, Plan};
+use saber_plan::{Expr, NoMemory, Plan};
 use std::cmp::Ordering;
 
 #[inline(always)]
@@ -26,26 +29,25 @@ fn write_both_cells(
     out: &mut Vec<u8>,
     draft: &mut [u8; 128],
     start: usize,
-    items: &[Item],
+    items: &[Expr],
     layout: &Layout,
     row: &[i128],
     later: &[i128],
 ) -> Result<usize, NoMemory>
     requires start { start ≤ 121 }
+    requires items { AllByRecursion IsLone items.now }
     requires layout { IsLayout layout.now }
     requires row { IsRow layout.now row.now }
     requires later { IsRow layout.now later.now }
     requires can { CanJoin (entry_in layout.now row.now).1 (entry_in layout.now later.now).1 }
     ensures ok { IfOk result (λ end. drafted out.new.items draft.new end
-        ≡ drafted out.old.items draft.old start ++ cells (answers_of_both layout.now items.now row.now later.now)) }
+        ≡ drafted out.old.items draft.old start ++ cells (items_over items.now (joined_row layout.now row.now later.now) [])) }
     ensures room { IfOk result (λ end. end ≤ 121) }
     ensures behind { Behind out.old.items out.new.items }
 {
-    let mut unprinted = Unprinted::of_layout(layout);
     let mut at = start;
     for item in items {
-        let number = unprinted.next_of_both(row, later, item);
-        at = put_cell(out, draft, at, number)?;
+        at = put_cell(out, draft, at, number_of_both(layout, row, later, item))?;
     }
     Ok(at)
 }
@@ -57,19 +59,20 @@ fn write_both(
     draft: &mut [u8; 128],
     start: usize,
     heading: &Heading,
-    items: &[Item],
+    items: &[Expr],
     layout: &Layout,
     row: &[i128],
     later: &[i128],
 ) -> Result<usize, NoMemory>
     requires start { start ≤ 128 }
     requires heading { IsHeading heading.now }
+    requires items { AllByRecursion IsLone items.now }
     requires layout { IsLayout layout.now }
     requires row { IsRow layout.now row.now }
     requires later { IsRow layout.now later.now }
     requires can { CanJoin (entry_in layout.now row.now).1 (entry_in layout.now later.now).1 }
     ensures ok { IfOk result (λ end. drafted out.new.items draft.new end
-        ≡ drafted out.old.items draft.old start ++ line (pos heading.now.window ∷ answers_of_both layout.now items.now row.now later.now)) }
+        ≡ drafted out.old.items draft.old start ++ line (pos heading.now.window ∷ items_over items.now (joined_row layout.now row.now later.now) [])) }
     ensures room { IfOk result (λ end. end ≤ 128) }
     ensures behind { Behind out.old.items out.new.items }
 {
@@ -85,7 +88,7 @@ fn write_next(
     draft: &mut [u8; 128],
     at: usize,
     heading: &Heading,
-    items: &[Item],
+    items: &[Expr],
     groups: &Table,
     i: usize,
     others: &Table,
@@ -94,13 +97,14 @@ fn write_next(
     requires at { at ≤ 128 }
     requires alike { groups.now.layout ≡ others.now.layout }
     requires heading { IsHeading heading.now }
+    requires items { AllByRecursion IsLone items.now }
     requires mine { i < length groups.now.entries }
     requires theirs { j < length others.now.entries }
     requires can { CanJoinAll groups.now.entries others.now.entries }
     ensures ok { IfOk result (λ next. drafted out.new.items draft.new next.0
-        ++ lines_for heading.now.window items.now (map (λ g. g.1) (weave (drop next.1 groups.now.entries) (drop next.2 others.now.entries)))
+        ++ lines_for heading.now.window items.now (weave (drop next.1 groups.now.entries) (drop next.2 others.now.entries))
         ≡ drafted out.old.items draft.old at
-        ++ lines_for heading.now.window items.now (map (λ g. g.1) (weave (drop i groups.now.entries) (drop j others.now.entries)))) }
+        ++ lines_for heading.now.window items.now (weave (drop i groups.now.entries) (drop j others.now.entries))) }
     ensures room { IfOk result (λ next. next.0 ≤ 128) }
     ensures mine { IfOk result (λ next. next.1 ≤ length groups.now.entries) }
     ensures theirs { IfOk result (λ next. next.2 ≤ length others.now.entries) }
@@ -111,7 +115,7 @@ fn write_next(
     let layout = groups.layout();
     match key_order(groups.key(i), others.key(j)) {
         Ordering::Less => {
-            let end = write_line(out, draft, at, heading, items, layout, groups.row(i))?;
+            let end = write_line(out, draft, at, heading, items, groups.row(i))?;
             Ok((end, i + 1, j))
         }
         Ordering::Equal => {
@@ -121,7 +125,7 @@ fn write_next(
             Ok((end, i + 1, j + 1))
         }
         Ordering::Greater => {
-            let end = write_line(out, draft, at, heading, items, layout, others.row(j))?;
+            let end = write_line(out, draft, at, heading, items, others.row(j))?;
             Ok((end, i, j + 1))
         }
     }
@@ -132,15 +136,16 @@ fn write_woven(
     out: &mut Vec<u8>,
     draft: &mut [u8; 128],
     heading: &Heading,
-    items: &[Item],
+    items: &[Expr],
     groups: &Table,
     others: &Table,
 ) -> Result<usize, NoMemory>
     requires alike { groups.now.layout ≡ others.now.layout }
     requires heading { IsHeading heading.now }
+    requires items { AllByRecursion IsLone items.now }
     requires can { CanJoinAll groups.now.entries others.now.entries }
     ensures ok { IfOk result (λ end. drafted out.new.items draft.new end
-        ≡ drafted out.old.items draft.old 0 ++ lines_for heading.now.window items.now (map (λ g. g.1) (weave groups.now.entries others.now.entries))) }
+        ≡ drafted out.old.items draft.old 0 ++ lines_for heading.now.window items.now (weave groups.now.entries others.now.entries)) }
     ensures room { IfOk result (λ end. end ≤ 128) }
     ensures behind { Behind out.old.items out.new.items }
 {
@@ -161,13 +166,14 @@ fn write_woven(
 fn write_all_woven(
     out: &mut Vec<u8>,
     window: u64,
-    items: &[Item],
+    items: &[Expr],
     groups: &Table,
     others: &Table,
 ) -> Result<(), NoMemory>
     requires alike { groups.now.layout ≡ others.now.layout }
+    requires items { AllByRecursion IsLone items.now }
     requires can { CanJoinAll groups.now.entries others.now.entries }
-    ensures ok { OnOk result (out.new.items ≡ out.old.items ++ lines_for window items.now (map (λ g. g.1) (weave groups.now.entries others.now.entries))) }
+    ensures ok { OnOk result (out.new.items ≡ out.old.items ++ lines_for window items.now (weave groups.now.entries others.now.entries)) }
     ensures behind { Behind out.old.items out.new.items }
 {
     let heading = Heading::of_window(window);
@@ -186,7 +192,9 @@ impl Partial {
         window: u64,
         out: &mut Vec<u8>,
     ) -> Result<(), NoMemory>
-        requires { CanMerge self.now later.now }
+        requires checked { IsChecked (tree_of plan.now) }
+        requires group { (tree_of plan.now).shape ≡ Group }
+        requires can { CanMerge self.now later.now }
         ensures ok { OnOk result (out.new.items ≡ out.old.items ++ part_lines (tree_of plan.now) window (merge self.now later.now)) }
         ensures err { OnErr result (out.new.items ≡ out.old.items) }
     {

@@ -2,11 +2,11 @@
 //! The groups of a part are one list of numbers, by key. Panes, the two-stacks queue and groups use
 //! it.
 //!
-//! - Parts, from below: `layout`, `sources`, `aggregates` (what a plan asks of each row), `gather`,
+//! - Parts, from below: `layout`, `sources`, `aggregates` (what a plan asks of each row), `folds`,
 //!   `joins`, `first_row`, `later_row` and `tally` (numbers of one group), `table`, `places` and
 //!   `merges` (groups in one list), `groups` and `rows` (`Partial`), `row_parts` (`RowParts`: parts
 //!   of one row each, in one list), `row_merges` (one of them taken in), `young`, `piles` and
-//!   `gathering` (rows gathered, few groups at a time), `headings`, `unprinted`, `lines` and
+//!   `gathering` (rows gathered, few groups at a time), `headings`, `printed`, `lines` and
 //!   `joined_lines` (the text), `answers` and `joined_answers` (the same as values), `steps`
 //!   (merges counted), `laws` (by which callers meet what is required).
 //! - Calls: `Partial::add_row` takes a row, `merge` and `merge_from` the part of later rows, given
@@ -29,7 +29,7 @@
 mod aggregates;
 mod answers;
 mod first_row;
-mod gather;
+mod folds;
 mod gathering;
 mod groups;
 mod headings;
@@ -43,6 +43,7 @@ mod lines;
 mod merges;
 mod piles;
 mod places;
+mod printed;
 mod row_merges;
 mod row_parts;
 mod rows;
@@ -50,7 +51,6 @@ mod sources;
 mod steps;
 mod table;
 mod tally;
-mod unprinted;
 mod young;
 
 pub use aggregates::Aggregates;

@@ -1,43 +1,40 @@
 // The lines of groups.
-ghost use Rattle.std.specs.Prelude.{◌≡◌, ◌≤◌, ◌∷◌, ◌++◌, IfOk, OnOk, OnErr, drop, length, map, pos};
+ghost use Rattle.std.specs.Prelude.{◌≡◌, ◌≤◌, ◌∷◌, ◌++◌, [], IfOk, OnOk, OnErr, drop, length, pos};
+ghost use Rattle.std.specs.List.{AllByRecursion};
+ghost use Rattle.saber_plan.specs.declared.plans.Shape.TheVariants.{Group};
 ghost use Rattle.saber_plan.specs.Trees.{tree_of};
-ghost use Rattle.saber_plan.specs.Answers.{line};
-ghost use Rattle.saber_plan.specs.Parts.{answers_of, part_lines};
+ghost use Rattle.saber_plan.specs.Checked.{IsChecked};
+ghost use Rattle.saber_plan.specs.Answers.{items_over, line};
+ghost use Rattle.saber_plan.specs.Parts.{part_lines};
 ghost use Rattle.saber_plan.specs.Texts.{Behind};
 ghost use Rattle.saber_digits.specs.Cells.{cells, drafted};
-ghost use Rattle.saber_partial.specs.Flat.{entry_in, IsLayout, IsRow};
-ghost use Rattle.saber_partial.specs.Printing.{lines_for, IsHeading};
+ghost use Rattle.saber_partial.specs.Printing.{lines_for, IsHeading, IsLone};
 
 use crate::groups::Partial;
 use crate::headings::Heading;
-use crate::layout::Layout;
+use crate::printed::number;
 use crate::table::Table;
-use crate::unprinted::Unprinted;
 use saber_digits::{end_line, flush, put_cell, start_line};
-use saber_plan::{Item, NoMemory, Plan};
+use saber_plan::{Expr, NoMemory, Plan};
 
 #[inline(always)]
 fn write_cells(
     out: &mut Vec<u8>,
     draft: &mut [u8; 128],
     start: usize,
-    items: &[Item],
-    layout: &Layout,
+    items: &[Expr],
     row: &[i128],
 ) -> Result<usize, NoMemory>
     requires start { start ≤ 121 }
-    requires layout { IsLayout layout.now }
-    requires row { IsRow layout.now row.now }
+    requires items { AllByRecursion IsLone items.now }
     ensures ok { IfOk result (λ end. drafted out.new.items draft.new end
-        ≡ drafted out.old.items draft.old start ++ cells (answers_of items.now (entry_in layout.now row.now).1)) }
+        ≡ drafted out.old.items draft.old start ++ cells (items_over items.now row.now [])) }
     ensures room { IfOk result (λ end. end ≤ 121) }
     ensures behind { Behind out.old.items out.new.items }
 {
-    let mut unprinted = Unprinted::of_layout(layout);
     let mut at = start;
     for item in items {
-        let number = unprinted.next(row, item);
-        at = put_cell(out, draft, at, number)?;
+        at = put_cell(out, draft, at, number(row, item))?;
     }
     Ok(at)
 }
@@ -50,21 +47,19 @@ pub(crate) fn write_line(
     draft: &mut [u8; 128],
     start: usize,
     heading: &Heading,
-    items: &[Item],
-    layout: &Layout,
+    items: &[Expr],
     row: &[i128],
 ) -> Result<usize, NoMemory>
     requires start { start ≤ 128 }
     requires heading { IsHeading heading.now }
-    requires layout { IsLayout layout.now }
-    requires row { IsRow layout.now row.now }
+    requires items { AllByRecursion IsLone items.now }
     ensures ok { IfOk result (λ end. drafted out.new.items draft.new end
-        ≡ drafted out.old.items draft.old start ++ line (pos heading.now.window ∷ answers_of items.now (entry_in layout.now row.now).1)) }
+        ≡ drafted out.old.items draft.old start ++ line (pos heading.now.window ∷ items_over items.now row.now [])) }
     ensures room { IfOk result (λ end. end ≤ 128) }
     ensures behind { Behind out.old.items out.new.items }
 {
     let first = start_line(out, draft, start, &heading.text, heading.count)?;
-    let end = write_cells(out, draft, first, items, layout, row)?;
+    let end = write_cells(out, draft, first, items, row)?;
     Ok(end_line(draft, end))
 }
 
@@ -74,36 +69,31 @@ pub(crate) fn write_groups(
     draft: &mut [u8; 128],
     start: usize,
     heading: &Heading,
-    items: &[Item],
+    items: &[Expr],
     groups: &Table,
     from: usize,
 ) -> Result<usize, NoMemory>
     requires start { start ≤ 128 }
     requires heading { IsHeading heading.now }
+    requires items { AllByRecursion IsLone items.now }
     requires from { from ≤ length groups.now.entries }
     ensures ok { IfOk result (λ end. drafted out.new.items draft.new end
-        ≡ drafted out.old.items draft.old start ++ lines_for heading.now.window items.now (map (λ g. g.1) (drop from groups.now.entries))) }
+        ≡ drafted out.old.items draft.old start ++ lines_for heading.now.window items.now (drop from groups.now.entries)) }
     ensures room { IfOk result (λ end. end ≤ 128) }
     ensures behind { Behind out.old.items out.new.items }
 {
+    groups.has_one_layout();
     let mut at = start;
     for i in from..groups.len() {
-        at = write_line(
-            out,
-            draft,
-            at,
-            heading,
-            items,
-            groups.layout(),
-            groups.row(i),
-        )?;
+        at = write_line(out, draft, at, heading, items, groups.row(i))?;
     }
     Ok(at)
 }
 
 // The lines of all groups.
-fn write_all(out: &mut Vec<u8>, window: u64, items: &[Item], groups: &Table) -> Result<(), NoMemory>
-    ensures ok { OnOk result (out.new.items ≡ out.old.items ++ lines_for window items.now (map (λ g. g.1) groups.now.entries)) }
+fn write_all(out: &mut Vec<u8>, window: u64, items: &[Expr], groups: &Table) -> Result<(), NoMemory>
+    requires { AllByRecursion IsLone items.now }
+    ensures ok { OnOk result (out.new.items ≡ out.old.items ++ lines_for window items.now groups.now.entries) }
     ensures behind { Behind out.old.items out.new.items }
 {
     let heading = Heading::of_window(window);
@@ -117,6 +107,8 @@ impl Partial {
     /// number and the answers to the plan's items in decimal, with commas between, and LF (this
     /// project's rule). Where memory is wanting, `out` stays as it was.
     pub fn lines(&self, plan: &Plan, window: u64, out: &mut Vec<u8>) -> Result<(), NoMemory>
+        requires checked { IsChecked (tree_of plan.now) }
+        requires group { (tree_of plan.now).shape ≡ Group }
         ensures ok { OnOk result (out.new.items ≡ out.old.items ++ part_lines (tree_of plan.now) window self.now) }
         ensures err { OnErr result (out.new.items ≡ out.old.items) }
     {

@@ -1,5 +1,7 @@
 // Parts that follow one another, as few lists that fall in size.
 ghost use Rattle.std.specs.Prelude.{◌≡◌, ◌+◌, ◌<◌, ◌≤◌, ◌++◌, true, length, MatchOption, OnOk, OnErr, IfOk};
+ghost use Rattle.saber_plan.specs.declared.plans.Shape.TheVariants.{Group};
+ghost use Rattle.saber_plan.specs.Checked.{IsChecked};
 ghost use Rattle.saber_plan.specs.Parts.{merge, no_part, part_answers, part_lines};
 ghost use Rattle.saber_plan.specs.Trees.{tree_of};
 ghost use Rattle.saber_partial.specs.Tallies.{CanMerge};
@@ -142,6 +144,8 @@ fn write_behind<L: Ledger>(
     out: &mut Vec<u8>,
     steps: &mut Steps<L>,
 ) -> Result<(), NoMemory>
+    requires checked { IsChecked (tree_of plan.now) }
+    requires group { (tree_of plan.now).shape ≡ Group }
     requires one { length parts.now ≤ 1 }
     requires can { CanMerge first.now (piled parts.now) }
     ensures ok { OnOk result (out.new.items ≡ out.old.items ++ part_lines (tree_of plan.now) window (merge first.now (piled parts.now))) }
@@ -163,6 +167,8 @@ fn answers_of_both<L: Ledger>(
     plan: &Plan,
     steps: &mut Steps<L>,
 ) -> Result<Answers, NoMemory>
+    requires checked { IsChecked (tree_of plan.now) }
+    requires group { (tree_of plan.now).shape ≡ Group }
     requires one { length parts.now ≤ 1 }
     requires can { CanMerge first.now (piled parts.now) }
     ensures ok { IfOk result (λ a. a ≡ part_answers (tree_of plan.now) (merge first.now (piled parts.now))) }
@@ -406,6 +412,8 @@ impl Pile {
         out: &mut Vec<u8>,
         steps: &mut Steps<L>,
     ) -> Result<(), NoMemory>
+        requires checked { IsChecked (tree_of plan.now) }
+        requires group { (tree_of plan.now).shape ≡ Group }
         ensures ok { OnOk result (out.new.items ≡ out.old.items ++ part_lines (tree_of plan.now) window self.old.part) }
         ensures same { OnOk result (self.new.part ≡ self.old.part) }
         ensures err { OnErr result (out.new.items ≡ out.old.items) }
@@ -427,7 +435,9 @@ impl Pile {
         out: &mut Vec<u8>,
         steps: &mut Steps<L>,
     ) -> Result<(), NoMemory>
-        requires { CanMerge first.now self.old.part }
+        requires checked { IsChecked (tree_of plan.now) }
+        requires group { (tree_of plan.now).shape ≡ Group }
+        requires can { CanMerge first.now self.old.part }
         ensures ok { OnOk result (out.new.items ≡ out.old.items ++ part_lines (tree_of plan.now) window (merge first.now self.old.part)) }
         ensures same { OnOk result (self.new.part ≡ self.old.part) }
         ensures err { OnErr result (out.new.items ≡ out.old.items) }
@@ -444,6 +454,8 @@ impl Pile {
         plan: &Plan,
         steps: &mut Steps<L>,
     ) -> Result<Answers, NoMemory>
+        requires checked { IsChecked (tree_of plan.now) }
+        requires group { (tree_of plan.now).shape ≡ Group }
         ensures ok { IfOk result (λ a. a ≡ part_answers (tree_of plan.now) self.old.part) }
         ensures same { OnOk result (self.new.part ≡ self.old.part) }
         ensures steps { steps.new + self.new.pieces ≤ steps.old + self.old.pieces }
@@ -463,7 +475,9 @@ impl Pile {
         plan: &Plan,
         steps: &mut Steps<L>,
     ) -> Result<Answers, NoMemory>
-        requires { CanMerge first.now self.old.part }
+        requires checked { IsChecked (tree_of plan.now) }
+        requires group { (tree_of plan.now).shape ≡ Group }
+        requires can { CanMerge first.now self.old.part }
         ensures ok { IfOk result (λ a. a ≡ part_answers (tree_of plan.now) (merge first.now self.old.part)) }
         ensures same { OnOk result (self.new.part ≡ self.old.part) }
         ensures steps { steps.new + self.new.pieces ≤ steps.old + self.old.pieces + 1 }

@@ -31,7 +31,7 @@ impl<'a> Model for RowPart<'a> {
     ghost use Rattle.saber_plan.specs.Parts.{Part};
     ghost use Rattle.saber_partial.specs.Flat.{entry_in, IsLayout, IsRow};
     ghost use Rattle.saber_partial.specs.Sorted.{alone};
-    ghost use Rattle.saber_partial.specs.Tallies.{coded_part};
+    ghost use Rattle.saber_plan.specs.Codes.{coded_part};
 
     ghost Value = { Part };
 
@@ -54,7 +54,7 @@ impl Model for RowParts {
     ghost use Rattle.std.specs.Coded.{coded_list};
     ghost use Rattle.saber_plan.specs.Parts.{Part};
     ghost use Rattle.saber_partial.specs.Sorted.{alone};
-    ghost use Rattle.saber_partial.specs.Tallies.{coded_part};
+    ghost use Rattle.saber_plan.specs.Codes.{coded_part};
 
     ghost Value = { List Part };
 

@@ -101,7 +101,8 @@ impl Table {
 
     /// Each group lies in its row as the layout tells.
     pub(crate) fn has_one_layout(&self)
-        ensures { HaveLayout self.now.layout self.now.entries }
+        ensures layout { IsLayout self.now.layout }
+        ensures each { HaveLayout self.now.layout self.now.entries }
     {
         let _numbers = &self.numbers;
     }
@@ -168,11 +169,11 @@ impl Table {
     #[inline(always)]
     pub(crate) fn add_row(&mut self, i: usize, aggregates: &Aggregates, row: &RowRef)
         requires there { i < length self.old.entries }
-        requires fit { AllByRecursion (CanCount row.now.values) (tree_of aggregates.now).items }
-        requires can { (d : List ℤ × Numbers) → CanJoin (get_or self.old.entries i d).1 (numbers (tree_of aggregates.now).items (row.now.values ∷ [])) }
+        requires fit { AllByRecursion (CanCount row.now.values) (tree_of aggregates.now).aggregates }
+        requires can { (d : List ℤ × Numbers) → CanJoin (get_or self.old.entries i d).1 (numbers (tree_of aggregates.now).aggregates (row.now.values ∷ [])) }
         ensures layout { self.new.layout ≡ self.old.layout }
         ensures joined { (d : List ℤ × Numbers) → self.new.entries
-            ≡ set self.old.entries i ((get_or self.old.entries i d).0, join_numbers (get_or self.old.entries i d).1 (numbers (tree_of aggregates.now).items (row.now.values ∷ []))) }
+            ≡ set self.old.entries i ((get_or self.old.entries i d).0, join_numbers (get_or self.old.entries i d).1 (numbers (tree_of aggregates.now).aggregates (row.now.values ∷ []))) }
     {
         let start = i * self.layout.width;
         let end = start + self.layout.width;
@@ -238,10 +239,10 @@ impl Table {
         row: &RowRef,
     ) -> Result<(), NoMemory>
         requires there { i ≤ length self.old.entries }
-        requires suits { Suits self.old.layout (length key.now) (tree_of aggregates.now).items }
-        requires fit { AllByRecursion (CanCount row.now.values) (tree_of aggregates.now).items }
+        requires suits { Suits self.old.layout (length key.now) (tree_of aggregates.now).aggregates }
+        requires fit { AllByRecursion (CanCount row.now.values) (tree_of aggregates.now).aggregates }
         ensures layout { self.new.layout ≡ self.old.layout }
-        ensures ok { OnOk result (self.new.entries ≡ insert self.old.entries i (key.now, numbers (tree_of aggregates.now).items (row.now.values ∷ []))) }
+        ensures ok { OnOk result (self.new.entries ≡ insert self.old.entries i (key.now, numbers (tree_of aggregates.now).aggregates (row.now.values ∷ []))) }
         ensures err { OnErr result (self.new.entries ≡ self.old.entries) }
     {
         let start = i * self.layout.width;
@@ -265,10 +266,10 @@ impl Table {
         aggregates: &Aggregates,
         row: &RowRef,
     ) -> Result<(), NoMemory>
-        requires suits { Suits self.old.layout (length key.now) (tree_of aggregates.now).items }
-        requires fit { AllByRecursion (CanCount row.now.values) (tree_of aggregates.now).items }
+        requires suits { Suits self.old.layout (length key.now) (tree_of aggregates.now).aggregates }
+        requires fit { AllByRecursion (CanCount row.now.values) (tree_of aggregates.now).aggregates }
         ensures layout { self.new.layout ≡ self.old.layout }
-        ensures ok { OnOk result (self.new.entries ≡ self.old.entries ++ (key.now, numbers (tree_of aggregates.now).items (row.now.values ∷ [])) ∷ []) }
+        ensures ok { OnOk result (self.new.entries ≡ self.old.entries ++ (key.now, numbers (tree_of aggregates.now).aggregates (row.now.values ∷ [])) ∷ []) }
         ensures err { OnErr result (self.new.entries ≡ self.old.entries) }
     {
         let start = self.numbers.len();
@@ -307,8 +308,8 @@ impl Table {
 
     /// Where there is no group yet, the layout becomes that of the groups of a plan.
     pub(crate) fn suit(&mut self, aggregates: &Aggregates)
-        requires others { 0 < length self.old.entries → Suits self.old.layout (length (tree_of aggregates.now).keys) (tree_of aggregates.now).items }
-        ensures suits { Suits self.new.layout (length (tree_of aggregates.now).keys) (tree_of aggregates.now).items }
+        requires others { 0 < length self.old.entries → Suits self.old.layout (length (tree_of aggregates.now).keys) (tree_of aggregates.now).aggregates }
+        ensures suits { Suits self.new.layout (length (tree_of aggregates.now).keys) (tree_of aggregates.now).aggregates }
         ensures same { self.new.entries ≡ self.old.entries }
     {
         if self.len() == 0 {

@@ -8,9 +8,9 @@ ghost use Rattle.saber_partial.specs.Tallies.{CanJoin};
 ghost use Rattle.saber_partial.specs.Flat.{entry_in, IsLayout, IsRow, Suits};
 
 use crate::aggregates::Aggregates;
-use crate::first_row::write_kinds;
-use crate::joins::join_slices;
-use crate::later_row::add_kinds;
+use crate::first_row::write_values;
+use crate::joins::join_values;
+use crate::later_row::add_values;
 use crate::layout::Layout;
 use saber_flat::RowRef;
 
@@ -26,7 +26,7 @@ pub(crate) fn join_row(layout: &Layout, xs: &mut [i128], ys: &[i128])
 {
     let keys = layout.keys;
     xs[keys] += ys[keys];
-    join_slices(layout, &mut xs[keys + 1..], &ys[keys + 1..]);
+    join_values(&layout.folds, &mut xs[keys + 1..], &ys[keys + 1..]);
 }
 
 /// Counts one row more with the key. Each row asks it.
@@ -34,19 +34,18 @@ pub(crate) fn join_row(layout: &Layout, xs: &mut [i128], ys: &[i128])
 pub(crate) fn add_row(layout: &Layout, xs: &mut [i128], aggregates: &Aggregates, row: &RowRef)
     requires layout { IsLayout layout.now }
     requires mine { IsRow layout.now xs.old }
-    requires fit { AllByRecursion (CanCount row.now.values) (tree_of aggregates.now).items }
-    requires can { CanJoin (entry_in layout.now xs.old).1 (numbers (tree_of aggregates.now).items (row.now.values ∷ [])) }
+    requires fit { AllByRecursion (CanCount row.now.values) (tree_of aggregates.now).aggregates }
+    requires can { CanJoin (entry_in layout.now xs.old).1 (numbers (tree_of aggregates.now).aggregates (row.now.values ∷ [])) }
     ensures row { IsRow layout.now xs.new }
     ensures joined { entry_in layout.now xs.new
-        ≡ ((entry_in layout.now xs.old).0, join_numbers (entry_in layout.now xs.old).1 (numbers (tree_of aggregates.now).items (row.now.values ∷ []))) }
+        ≡ ((entry_in layout.now xs.old).0, join_numbers (entry_in layout.now xs.old).1 (numbers (tree_of aggregates.now).aggregates (row.now.values ∷ []))) }
 {
     let keys = layout.keys;
     xs[keys] += 1;
-    add_kinds(
-        layout,
+    add_values(
         &mut xs[keys + 1..],
         aggregates.sources(),
-        aggregates.items(),
+        aggregates.list(),
         row,
     );
 }
@@ -60,19 +59,19 @@ pub(crate) fn write_first(
     aggregates: &Aggregates,
     row: &RowRef,
 )
-    requires suits { Suits layout.now (length key.now) (tree_of aggregates.now).items }
+    requires suits { Suits layout.now (length key.now) (tree_of aggregates.now).aggregates }
     requires long { length xs.old ≡ layout.now.width }
-    requires fit { AllByRecursion (CanCount row.now.values) (tree_of aggregates.now).items }
+    requires fit { AllByRecursion (CanCount row.now.values) (tree_of aggregates.now).aggregates }
     ensures row { IsRow layout.now xs.new }
-    ensures first { entry_in layout.now xs.new ≡ (key.now, numbers (tree_of aggregates.now).items (row.now.values ∷ [])) }
+    ensures first { entry_in layout.now xs.new ≡ (key.now, numbers (tree_of aggregates.now).aggregates (row.now.values ∷ [])) }
 {
     let (front, behind) = xs.split_at_mut(layout.keys);
     front.copy_from_slice(key);
     behind[0] = 1;
-    write_kinds(
+    write_values(
         &mut behind[1..],
         aggregates.sources(),
-        aggregates.items(),
+        aggregates.list(),
         row,
     );
 }

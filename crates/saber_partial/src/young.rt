@@ -90,11 +90,11 @@ impl Young {
         requires few { length self.old.groups.entries < 128 }
         requires missing { IsGap (by_key self.old.order self.old.groups.entries) key.now i }
         requires keys { length key.now ≡ length (tree_of aggregates.now).keys }
-        requires fit { AllByRecursion (CanCount row.now.values) (tree_of aggregates.now).items }
-        requires room { FitsAt (young_part self.old.order self.old.groups.entries) key.now (numbers (tree_of aggregates.now).items (row.now.values ∷ [])) }
+        requires fit { AllByRecursion (CanCount row.now.values) (tree_of aggregates.now).aggregates }
+        requires room { FitsAt (young_part self.old.order self.old.groups.entries) key.now (numbers (tree_of aggregates.now).aggregates (row.now.values ∷ [])) }
         ensures order { IsOrder self.new.order self.new.groups.entries }
         ensures ok { OnOk result (young_part self.new.order self.new.groups.entries
-            ≡ with_row (young_part self.old.order self.old.groups.entries) key.now (numbers (tree_of aggregates.now).items (row.now.values ∷ []))) }
+            ≡ with_row (young_part self.old.order self.old.groups.entries) key.now (numbers (tree_of aggregates.now).aggregates (row.now.values ∷ []))) }
         ensures err { OnErr result (young_part self.new.order self.new.groups.entries ≡ young_part self.old.order self.old.groups.entries) }
     {
         let count = self.groups.len();
@@ -158,11 +158,11 @@ impl Young {
         requires keys { length columns.now ≤ 8 }
         requires columns { columns.now ≡ (tree_of aggregates.now).keys }
         requires there { AllByRecursion (λ k. k < length row.now.values) columns.now }
-        requires fit { AllByRecursion (CanCount row.now.values) (tree_of aggregates.now).items }
-        requires room { FitsAt (young_part self.old.order self.old.groups.entries) (key columns.now row.now.values) (numbers (tree_of aggregates.now).items (row.now.values ∷ [])) }
+        requires fit { AllByRecursion (CanCount row.now.values) (tree_of aggregates.now).aggregates }
+        requires room { FitsAt (young_part self.old.order self.old.groups.entries) (key columns.now row.now.values) (numbers (tree_of aggregates.now).aggregates (row.now.values ∷ [])) }
         ensures order { IsOrder self.new.order self.new.groups.entries }
         ensures ok { OnOk result (young_part self.new.order self.new.groups.entries
-            ≡ with_row (young_part self.old.order self.old.groups.entries) (key columns.now row.now.values) (numbers (tree_of aggregates.now).items (row.now.values ∷ []))) }
+            ≡ with_row (young_part self.old.order self.old.groups.entries) (key columns.now row.now.values) (numbers (tree_of aggregates.now).aggregates (row.now.values ∷ []))) }
         ensures err { OnErr result (young_part self.new.order self.new.groups.entries ≡ young_part self.old.order self.old.groups.entries) }
     {
         let mut list = ArrayVec::new();
@@ -183,11 +183,11 @@ impl Young {
         requires keys { length columns.now ≤ 8 }
         requires columns { columns.now ≡ (tree_of aggregates.now).keys }
         requires there { AllByRecursion (λ k. k < length row.now.values) columns.now }
-        requires fit { AllByRecursion (CanCount row.now.values) (tree_of aggregates.now).items }
-        requires room { FitsAt (young_part self.old.order self.old.groups.entries) (key columns.now row.now.values) (numbers (tree_of aggregates.now).items (row.now.values ∷ [])) }
+        requires fit { AllByRecursion (CanCount row.now.values) (tree_of aggregates.now).aggregates }
+        requires room { FitsAt (young_part self.old.order self.old.groups.entries) (key columns.now row.now.values) (numbers (tree_of aggregates.now).aggregates (row.now.values ∷ [])) }
         ensures order { IsOrder self.new.order self.new.groups.entries }
         ensures ok { OnOk result (young_part self.new.order self.new.groups.entries
-            ≡ with_row (young_part self.old.order self.old.groups.entries) (key columns.now row.now.values) (numbers (tree_of aggregates.now).items (row.now.values ∷ []))) }
+            ≡ with_row (young_part self.old.order self.old.groups.entries) (key columns.now row.now.values) (numbers (tree_of aggregates.now).aggregates (row.now.values ∷ []))) }
         ensures err { OnErr result (young_part self.new.order self.new.groups.entries ≡ young_part self.old.order self.old.groups.entries) }
     {
         let slot = slot_of(columns, row.values());

@@ -13,7 +13,7 @@ use Rattle.saber_plan.specs.Answers.{frame, passing, by_shape, key_cmp, entry_li
 use Rattle.saber_plan.specs.Facts.Maps.{entries-empty}
 use Rattle.saber_plan.specs.Facts.Lists.{few_pass}
 use Rattle.saber_plan.specs.Parts as p
-use Rattle.saber_plan.specs.Parts.{Part, part, no_part, group_part, pair_part, merge, part_lines, answers_of}
+use Rattle.saber_plan.specs.Parts.{Part, part, no_part, group_part, pair_part, merge, part_lines, answered}
 use Rattle.saber_plan.specs.Facts.Numbers.{flat_map-from, flat_nil, flat_step, flat_skip}
 use Rattle.saber_plan.specs.Facts.Rows.{placed-append, placed-one, length-placed, few_rows}
 use Rattle.saber_laws.specs.Groups.{GroupsJoin}
@@ -44,7 +44,7 @@ whole_is q us n es h = whole-dropped n es ∙ sym (h.at n (omega arith))
 -- ---- the text of windows, one after another
 
 no_lines : (q : Tree) (i : ℕ) (p : Part) → p ≡ no_part → part_lines q i p ≡ []
-no_lines q i p e = ap (part_lines q i) e ∙ ap (λ es. entry_lines i (map (λ e. (e.0, answers_of q.items e.1)) es)) (entries-empty key_cmp)
+no_lines q i p e = ap (part_lines q i) e ∙ ap (λ es. entry_lines i (map (answered q.shape q.items) es)) (entries-empty key_cmp)
 
 pub text_nil : (q : Tree) (us : List Row) (a : ℕ) (out : List ℕ) → out ≡ out ++ lines_between q us a a
 text_nil q us a out = sym (ap (λ l. out ++ l) (sym (flat_nil (λ i. part_lines q i (part_of q i us)) a)) ∙ append-nil out)

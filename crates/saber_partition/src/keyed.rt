@@ -3,7 +3,7 @@ ghost use Rattle.std.specs.Prelude.{◌≡◌, ◌≤◌, ◌+◌, max, [], List
 ghost use Rattle.saber_plan.specs.declared.rows.Row.{Row};
 ghost use Rattle.saber_plan.specs.Trees.{tree_of};
 ghost use Rattle.saber_sliding.specs.Entries.{CanFollow};
-ghost use Rattle.saber_partition.specs.Streams.{part_in, Came, Comes, Entered, HoldStill, Keeps, Printed};
+ghost use Rattle.saber_partition.specs.Streams.{part_in, Asks, Came, Comes, Entered, HoldStill, Keeps, Printed};
 
 use crate::laws::stream_laws;
 use saber_partial::{RowParts, Steps};
@@ -69,6 +69,7 @@ impl Keyed {
         out: &mut Vec<u8>,
         steps: &mut Steps<L>,
     ) -> Result<(), NoMemory>
+        requires { Asks (tree_of plan.now) }
         ensures next { OnOk result (self.new.next ≡ max self.old.next low) }
         ensures begun { OnOk result (self.new.begun ≡ self.old.begun) }
         ensures parts { OnOk result (HoldStill (tree_of plan.now) self.old.next self.old.parts.entries self.new.next self.new.parts.entries) }

@@ -118,6 +118,7 @@ fn close_list<L: Ledger>(
     out: &mut Vec<u8>,
     steps: &mut Steps<L>,
 ) -> Result<(), NoMemory>
+    requires { Asks (tree_of plan.now) }
     ensures { OnOk result (Printed (tree_of plan.now) kept.next kept.parts.entries (max kept.next kept.begun) out.old.items out.new.items) }
 {
     let mut own = kept;
@@ -141,7 +142,8 @@ fn close_all<L: Ledger>(
     out: &mut Vec<u8>,
     steps: &mut Steps<L>,
 ) -> Result<(), NoMemory>
-    ensures { OnOk result ((xs : List Row) → Asks (tree_of plan.now) → TakenAll (tree_of plan.now) xs (lists_of lists.entries)
+    requires { Asks (tree_of plan.now) }
+    ensures { OnOk result ((xs : List Row) → TakenAll (tree_of plan.now) xs (lists_of lists.entries)
         → out.new.items ≡ out.old.items ++ closed_at_last (tree_of plan.now) xs) }
 {
     stream_laws();
@@ -161,7 +163,8 @@ pub(crate) fn take_end<L: Ledger>(
     out: &mut Vec<u8>,
     steps: &mut Steps<L>,
 ) -> Result<(), NoMemory>
-    ensures { OnOk result ((xs : List Row) → Asks (tree_of plan.now) → TakenAll (tree_of plan.now) xs (lists_of lists.old.entries)
+    requires { Asks (tree_of plan.now) }
+    ensures { OnOk result ((xs : List Row) → TakenAll (tree_of plan.now) xs (lists_of lists.old.entries)
         → EndCame (tree_of plan.now) xs ended (lists_of lists.new.entries) out.old.items out.new.items) }
 {
     if !ended {

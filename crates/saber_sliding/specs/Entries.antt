@@ -2,8 +2,9 @@
 use Rattle.std.specs.Prelude.{◌≡◌, ℕ, Bool, true, false, List, [], ◌∷◌, ◌++◌, map, if◌then◌else◌, nat_le, nat_lt, Option, Some, None, ◌⊎◌, refl}
 use Rattle.std.specs.List.{AllByRecursion}
 use Rattle.std.specs.Coded.{Coded, code_by, coded×, coded_ℕ, coded_list}
+use Rattle.saber_plan.specs.Codes.{coded_part}
 use Rattle.saber_plan.specs.Parts.{Part, no_part, merge}
-use Rattle.saber_partial.specs.Tallies.{CanMerge, coded_part}
+use Rattle.saber_partial.specs.Tallies.{CanMerge}
 
 -- parts with their numbers
 abbrev pub Entries : Type 0

@@ -17,7 +17,7 @@
 //! - Not claimed: what a step costs: a part of many groups is longer to merge than one of few. That
 //!   `put` finds the last entry in the back: one that is summed up takes no more in. That an entry
 //!   that goes leaves its memory for the next one of a row.
-//! - Limits: those of `saber_partial`.
+//! - Limits: those of `saber_partial`, also for what is printed: of checked group queries.
 #![tactic(auto)]
 
 mod front;

@@ -1,5 +1,7 @@
 // Parts that follow one another, with the merge of all from any one on.
 ghost use Rattle.std.specs.Prelude.{◌≡◌, ◌+◌, ◌≤◌, [], ◌∷◌, ◌++◌, drop, length, false, OnOk, OnErr, IfOk};
+ghost use Rattle.saber_plan.specs.declared.plans.Shape.TheVariants.{Group};
+ghost use Rattle.saber_plan.specs.Checked.{IsChecked};
 ghost use Rattle.saber_plan.specs.Parts.{merge, no_part, part_answers, part_lines};
 ghost use Rattle.saber_plan.specs.Trees.{tree_of};
 ghost use Rattle.saber_partial.specs.Tallies.{CanMerge};
@@ -250,7 +252,9 @@ fn lines_settled<L: Ledger>(
     out: &mut Vec<u8>,
     steps: &mut Steps<L>,
 ) -> Result<(), NoMemory>
-    requires { IsSound late.old front.old.items back.old.items back_part.old.part }
+    requires checked { IsChecked (tree_of plan.now) }
+    requires group { (tree_of plan.now).shape ≡ Group }
+    requires sound { IsSound late.old front.old.items back.old.items back_part.old.part }
     ensures ok { OnOk result (out.new.items ≡ out.old.items ++ part_lines (tree_of plan.now) window (whole (seen front.old.items back.old.items back_part.old.part))) }
     ensures err { OnErr result (out.new.items ≡ out.old.items) }
     ensures sound { OnOk result (Sound front.new.items back.new.items back_part.new.part) }
@@ -276,7 +280,9 @@ fn answers_settled<L: Ledger>(
     plan: &Plan,
     steps: &mut Steps<L>,
 ) -> Result<Answers, NoMemory>
-    requires { IsSound late.old front.old.items back.old.items back_part.old.part }
+    requires checked { IsChecked (tree_of plan.now) }
+    requires group { (tree_of plan.now).shape ≡ Group }
+    requires sound { IsSound late.old front.old.items back.old.items back_part.old.part }
     ensures ok { IfOk result (λ a. a ≡ part_answers (tree_of plan.now) (whole (seen front.old.items back.old.items back_part.old.part))) }
     ensures sound { OnOk result (Sound front.new.items back.new.items back_part.new.part) }
     ensures late { OnOk result (late.new ≡ false) }
@@ -422,6 +428,8 @@ impl Sliding {
         out: &mut Vec<u8>,
         steps: &mut Steps<L>,
     ) -> Result<(), NoMemory>
+        requires checked { IsChecked (tree_of plan.now) }
+        requires group { (tree_of plan.now).shape ≡ Group }
         ensures ok { OnOk result (out.new.items ≡ out.old.items ++ part_lines (tree_of plan.now) window (whole self.old.entries)) }
         ensures same { OnOk result (self.new.entries ≡ self.old.entries) }
         ensures err { OnErr result (out.new.items ≡ out.old.items) }
@@ -456,6 +464,8 @@ impl Sliding {
         plan: &Plan,
         steps: &mut Steps<L>,
     ) -> Result<Answers, NoMemory>
+        requires checked { IsChecked (tree_of plan.now) }
+        requires group { (tree_of plan.now).shape ≡ Group }
         ensures ok { IfOk result (λ a. a ≡ part_answers (tree_of plan.now) (whole self.old.entries)) }
         ensures same { OnOk result (self.new.entries ≡ self.old.entries) }
         ensures steps { OnOk result (steps.new + self.new.owed ≤ steps.old + self.old.owed + 1) }

@@ -1,18 +1,20 @@
-use Rattle.std.proofs.Common.{◌∙◌, ap, List, ℤ, get_or, arith}
+use Rattle.std.proofs.Common.{◌∙◌, [], get_or, arith}
 use Rattle.std.proofs.lemmas.List.{drop_more}
-use Rattle.saber_plan.specs.Parts.{Numbers}
+use Rattle.saber_plan.specs.Answers.{items_over}
 use Rattle.saber_partial.specs.Flat.{entry_in}
-use Rattle.saber_partial.proofs.Listed.{put_one}
+use Rattle.saber_partial.proofs.Listed.{of_row, put_one}
 use Rattle.saber_partial.proofs.answers.push_groups.Goals as goal
 
 pub loop-i-preserved : goal.loop-i-preserved
 loop-i-preserved c =
     let es = c.args.groups.now.entries in
     let i = c.loop-i.i in
-    let x = entry_in c.layout.result.now c.row.result.now in
-    let is = ap (λ l. entry_in l c.row.result.now) c.layout.ensures.layout ∙ c.row.ensures.entry x in
+    let items = c.args.items.now in
+    let row = c.row.result.now in
+    let l = c.args.groups.now.layout in
+    let x = entry_in l row in
+    let is = of_row items l row (get_or es i x) c.has_one_layout.ensures.layout c.row.ensures.row (c.row.ensures.entry x) in
     let long = c.len-i-end.ensures in
     let test = c.loop-i-test.true in
     let next = drop_more es i x (omega (arith, long, test)) in
-    put_one c.args.items.now c.loop-i.answers c.push_group.new.answers x.1 (get_or es i x) _ _ (ap (λ (e : List ℤ × Numbers). e.1) is) next c.in_ok-push_group.ensures
-    ∙ c.loop-i.invariant
+    put_one items c.loop-i.answers c.push_group.new.answers (items_over items row []) (get_or es i x) _ _ is next c.in_ok-push_group.ensures ∙ c.loop-i.invariant

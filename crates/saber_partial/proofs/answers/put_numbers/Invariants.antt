@@ -1,10 +1,6 @@
-use Rattle.std.proofs.Common.{◌≡◌, ◌++◌, drop}
-use Rattle.saber_plan.specs.Parts.{answers_of}
-use Rattle.saber_partial.specs.Printing.{left_of, CanPrint}
+use Rattle.std.proofs.Common.{◌≡◌, ◌++◌, [], drop}
+use Rattle.saber_plan.specs.Answers.{items_over}
 use Rattle.saber_partial.proofs.answers.put_numbers.Given as goal
 
 abbrev pub invariant-loop-item : goal.invariant-loop-item
-invariant-loop-item l = record {
-  all : l.line.items ++ answers_of (drop l.item-index l.items) (left_of l.unprinted l.row) ≡ answers_of l.items (left_of l.initial.unprinted l.row);
-  can : CanPrint l.unprinted.ends l.row;
-}
+invariant-loop-item l = l.line.items ++ items_over (drop l.item-index l.items) l.row [] ≡ items_over l.items l.row []

@@ -1,12 +1,13 @@
-use Rattle.std.proofs.Common.{◌++◌, ◌∙◌, ap}
+use Rattle.std.proofs.Common.{◌++◌, [], ◌∙◌, ap}
+use Rattle.saber_plan.specs.Answers.{items_over}
 use Rattle.saber_digits.specs.Cells.{drafted}
-use Rattle.saber_partial.specs.Printing.{answers_of_both}
+use Rattle.saber_partial.specs.Printing.{joined_row}
 use Rattle.saber_partial.proofs.Headed.{ended}
 use Rattle.saber_partial.proofs.joined_lines.write_both.Goals as goal
 
 pub returns-clause-ok : goal.returns-clause-ok
 returns-clause-ok c =
-    let zs = answers_of_both c.args.layout.now c.args.items.now c.args.row.now c.args.later.now in
+    let zs = items_over c.args.items.now (joined_row c.args.layout.now c.args.row.now c.args.later.now) [] in
     let old = drafted c.args.out.now.items c.args.draft.now c.args.start in
     let first = drafted c.start_line.new.out.items c.start_line.new.line c.in_ok-first.first in
     ended old first c.write_both_cells.new.out.items c.write_both_cells.new.draft c.end_line.new.line c.args.heading.now.window c.in_ok-end.end c.end_line.result zs

@@ -2,7 +2,8 @@ use Rattle.std.proofs.Common.{◌≡◌, ◌⊎◌, inl, inr, List, ℕ, [], ◌
 use Rattle.std.specs.Result.{IfOk}
 use Rattle.std.proofs.lemmas.List.{drop_all}
 use Rattle.saber_digits.specs.Cells.{drafted}
-use Rattle.saber_partial.proofs.Lined.{behind_both, lines_under, walked_lines}
+use Rattle.saber_partial.specs.Printing.{lines_for}
+use Rattle.saber_partial.proofs.Lined.{behind_both, walked_lines}
 use Rattle.saber_partial.proofs.joined_lines.write_woven.Goals.{then-loop-i-test+else-j-len, else-loop-i-test}
 use Rattle.saber_partial.proofs.joined_lines.write_woven.Goals as goal
 
@@ -23,7 +24,7 @@ returns-clause-ok c =
     let fs = c.args.others.now.entries in
     let out = drafted c.loop-i.out.items c.loop-i.draft c.loop-i.at in
     let window = c.args.heading.now.window in
-    let lines = lines_under window c.args.items.now in
+    let lines = lines_for window c.args.items.now in
     let xs = drop c.loop-i.i es in
     let ys = drop c.loop-i.j fs in
     let long = c.len.ensures in

@@ -1,25 +1,28 @@
-use Rattle.std.proofs.Common.{◌∙◌, ◌++◌, ◌∷◌, [], ap, append-nil, refl, rules, subst, sym, to_z-of_z}
+use Rattle.std.proofs.Common.{◌∙◌, ◌++◌, ◌∷◌, [], ap, append-nil, refl, rules, sym, to_z-of_z}
 use Rattle.std.proofs.lemmas.List.{drop_all}
 use mir.Val.{SFits}
 use mir.Syntax.{w128}
 use Rattle.std.specs.Fmt.{signed_decimal}
 use Rattle.saber_digits.specs.Cells.{cells, drafted}
-use Rattle.saber_plan.specs.Parts.{answers_of}
-use Rattle.saber_partial.specs.Printing.{left_of, CanPrint}
+use Rattle.saber_plan.specs.Answers.{items_over}
+use Rattle.saber_plan.specs.Facts.Lists.{all_at}
+use Rattle.saber_partial.specs.Printing.{IsLone}
 use Rattle.saber_partial.proofs.Lined.{behind_both, written_cell}
 use Rattle.saber_partial.proofs.lines.write_cells.Goals as goal
 
+pub number-requires : goal.number-requires
+number-requires c = all_at IsLone c.args.items.now c.loop-item.item-index c.item-item.result c.loop-item-test.true c.item-item.is c.requires.items
+
 pub loop-item-preserved : goal.loop-item-preserved
 loop-item-preserved c =
-    let fits : SFits w128 c.next-number.result = search rules in
+    let fits : SFits w128 c.number.result = search rules in
     let before = drafted c.loop-item.out.items c.loop-item.draft c.loop-item.at in
     let cell = c.in_ok-at.ensures.ok ∙ ap (λ z. before ++ 44 ∷ signed_decimal z) (to_z-of_z fits) in
-    let written = written_cell c.args.items.now c.loop-item.item-index c.item-item.result _ _ c.next-number.result in
+    let written = written_cell c.args.items.now c.loop-item.item-index c.item-item.result c.args.row.now c.number.result in
     record {
-      all = written _ _ c.loop-item-test.true c.item-item.is c.next-number.ensures.number cell ∙ c.loop-item.invariant.all;
+      all = written _ _ c.loop-item-test.true c.item-item.is c.number.ensures cell ∙ c.loop-item.invariant.all;
       room = c.in_ok-at.ensures.room;
       behind = behind_both _ _ _ c.loop-item.invariant.behind c.put_cell.ensures.behind;
-      can = subst (λ e. CanPrint e c.args.row.now) (sym c.next-number.ensures.ends) c.loop-item.invariant.can;
     }
 
 pub loop-item-init : goal.loop-item-init
@@ -27,7 +30,6 @@ loop-item-init c = record {
   all = refl;
   room = c.requires.start;
   behind = record { more = []; all = sym (append-nil c.args.out.now.items) };
-  can = c.of_layout-unprinted.ensures.can c.args.row.now c.requires.row;
 }
 
 pub returns-in_err-at-clause-behind : goal.returns-in_err-at-clause-behind
@@ -35,11 +37,8 @@ returns-in_err-at-clause-behind c = behind_both _ _ _ c.loop-item.invariant.behi
 
 pub returns-clause-ok : goal.returns-clause-ok
 returns-clause-ok c =
-    let first = drafted c.args.out.now.items c.args.draft.now c.args.start in
     let last = drafted c.loop-item.out.items c.loop-item.draft c.loop-item.at in
-    let shown = ap (λ a. first ++ cells (answers_of c.args.items.now a)) (c.of_layout-unprinted.ensures.all c.args.row.now c.requires.row) in
     let none = drop_all c.loop-item.item-index c.args.items.now c.loop-item-test.false in
-    let left = left_of c.loop-item.unprinted c.args.row.now in
     sym (append-nil last)
-    ∙ ap (λ is. last ++ cells (answers_of is left)) (sym none)
-    ∙ c.loop-item.invariant.all ∙ shown
+    ∙ ap (λ is. last ++ cells (items_over is c.args.row.now [])) (sym none)
+    ∙ c.loop-item.invariant.all

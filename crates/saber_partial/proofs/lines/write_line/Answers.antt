@@ -1,13 +1,12 @@
-use Rattle.std.proofs.Common.{◌++◌, ◌∙◌, ap}
-use Rattle.saber_plan.specs.Parts.{answers_of}
+use Rattle.std.proofs.Common.{◌++◌, [], ◌∙◌, ap}
+use Rattle.saber_plan.specs.Answers.{items_over}
 use Rattle.saber_digits.specs.Cells.{drafted}
-use Rattle.saber_partial.specs.Flat.{entry_in}
 use Rattle.saber_partial.proofs.Headed.{ended}
 use Rattle.saber_partial.proofs.lines.write_line.Goals as goal
 
 pub returns-clause-ok : goal.returns-clause-ok
 returns-clause-ok c =
-    let zs = answers_of c.args.items.now (entry_in c.args.layout.now c.args.row.now).1 in
+    let zs = items_over c.args.items.now c.args.row.now [] in
     let old = drafted c.args.out.now.items c.args.draft.now c.args.start in
     let first = drafted c.start_line.new.out.items c.start_line.new.line c.in_ok-first.first in
     ended old first c.write_cells.new.out.items c.write_cells.new.draft c.end_line.new.line c.args.heading.now.window c.in_ok-end.end c.end_line.result zs

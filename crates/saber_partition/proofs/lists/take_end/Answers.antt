@@ -9,12 +9,12 @@ use Rattle.saber_partition.proofs.Coming.{end_open, end_closed}
 use Rattle.saber_partition.proofs.lists.take_end.Goals as goal
 
 pub returns-then-not-ended : goal.returns-then-not-ended
-returns-then-not-ended g c xs asks taken = end_open (tree_of c.args.plan.now) xs c.args.ended (lists_of c.args.lists.now.entries) c.args.out.now.items c.if-not-ended.true taken
+returns-then-not-ended g c xs taken = end_open (tree_of c.args.plan.now) xs c.args.ended (lists_of c.args.lists.now.entries) c.args.out.now.items c.if-not-ended.true taken
 
 pub returns : goal.returns
-returns g c xs asks taken =
+returns g c xs taken =
     let q = tree_of c.args.plan.now in
     end_closed q xs c.args.ended (lists_of c.replace-all.new.dest.entries) c.args.out.now.items c.close_all.new.out.items
     c.if-not-ended.false
     (ap (λ (m : BTreeMap (ArrayVec ℤ) Keyed). lists_of m.entries) c.replace-all.ensures.after ∙ ap lists_of c.new.ensures.empty)
-    (c.in_ok-close_all.ensures xs asks (subst (λ (m : BTreeMap (ArrayVec ℤ) Keyed). TakenAll q xs (lists_of m.entries)) (sym c.replace-all.ensures.value) taken))
+    (c.in_ok-close_all.ensures xs (subst (λ (m : BTreeMap (ArrayVec ℤ) Keyed). TakenAll q xs (lists_of m.entries)) (sym c.replace-all.ensures.value) taken))

@@ -15,9 +15,9 @@ pub loop-self-init : goal.loop-self-init
 loop-self-init g c = record {
   up = omega arith;
   high = omega arith;
-  walk = c.requires;
+  walk = c.requires.walk;
   slices = λ m rows h. h;
-  text = λ m rows all h settled stands. walk_nil c.args.change (tree_of c.args.plan.now) m all c.args.walk.now c.args.self.now.next c.args.out.now.items c.requires stands;
+  text = λ m rows all h settled stands. walk_nil c.args.change (tree_of c.args.plan.now) m all c.args.walk.now c.args.self.now.next c.args.out.now.items c.requires.walk stands;
   steps = omega arith;
 }
 
@@ -31,7 +31,7 @@ loop-self-preserved-in-Some g c =
     let begun = c.loop-self.invariant.up in
     let most = c.loop-self.invariant.high in
     let below = c.loop-self-test.true in
-    let first = c.requires in
+    let first = c.requires.walk in
     let used = c.loop-self.invariant.steps in
     let dropped = c.drop_to.ensures.owed in
     let asked = c.in_ok-answers-in-Some.ensures.steps in
@@ -57,7 +57,7 @@ loop-self-preserved g c =
     let rest = c.drop_to.new.self.entries in
     let begun = c.loop-self.invariant.up in
     let below = c.loop-self-test.true in
-    let first = c.requires in
+    let first = c.requires.walk in
     let none : rest ≡ [] = nothing_first rest (sym c.in-None.ensures) in
     let used = c.loop-self.invariant.steps in
     let dropped = c.drop_to.ensures.owed in

@@ -5,12 +5,12 @@ use Rattle.saber_plan.specs.Trees.{tree_of}
 use Rattle.saber_plan.specs.Answers.{key}
 use Rattle.saber_plan.specs.Merges.{joined}
 use Rattle.saber_plan.specs.Parts.{Part, numbers, join_numbers}
-use Rattle.saber_partial.proofs.Fitting.{items_count}
+use Rattle.saber_partial.proofs.Fitting.{aggregates_count}
 use Rattle.saber_partial.proofs.Adding.{add_at, add_fits}
 use Rattle.saber_partial.proofs.groups.Partial.add_by.Goals as goal
 
 pub add-requires-clause-fit : goal.add-requires-clause-fit
-add-requires-clause-fit c = items_count (tree_of c.args.aggregates.now) c.requires.checked c.requires.group c.args.row.now.values c.requires.row.count
+add-requires-clause-fit c = aggregates_count (tree_of c.args.aggregates.now) c.requires.checked c.requires.group c.args.row.now.values c.requires.row.count
 
 pub add-requires-clause-room : goal.add-requires-clause-room
 add-requires-clause-room c =
@@ -27,4 +27,4 @@ returns-clause-ok c =
     let m = c.args.self.now in
     let k = c.as_slice.result.now in
     let here : k ≡ key q.keys zs = c.as_slice.ensures.value ∙ c.push_key.ensures ∙ (λ i. c.new-list.ensures i ++ key (c.keys.ensures i) (c.values.ensures i)) in
-    subst (λ (x : Part). OnOk c.add.result (c.add.new.self ≡ x)) (add_at q m zs k (joined join_numbers (get m k) (numbers q.items (zs ∷ []))) here refl) c.add.ensures.ok
+    subst (λ (x : Part). OnOk c.add.result (c.add.new.self ≡ x)) (add_at q m zs k (joined join_numbers (get m k) (numbers q.aggregates (zs ∷ []))) here refl) c.add.ensures.ok

@@ -1,13 +1,15 @@
 use Rattle.std.proofs.Common.{◌≡◌, ◌∙◌, ap, ap₂, sym, subst, subst₂, List, Some, IfOk}
-use Rattle.saber_plan.specs.declared.plans.Item.{Item}
+use Rattle.std.specs.List.{AllByRecursion}
+use Rattle.saber_plan.specs.declared.expressions.Product.{Product}
 use Rattle.saber_plan.specs.Answers as a
 use Rattle.saber_plan.specs.Trees.{tree_of}
 use Rattle.saber_plan.specs.Parts.{Part, merge, part_answers}
 use Rattle.saber_plan.specs.Facts.Parts.{merge-empty_left, merge-empty_right}
 use Rattle.saber_plan.specs.Tasks.{full}
-use Rattle.saber_partial.specs.Printing.{answers_under}
+use Rattle.saber_partial.specs.Printing.{answers_under, IsLone}
 use Rattle.saber_partial.specs.Sorted.{weave}
 use Rattle.saber_partial.specs.Tallies.{CanMerge}
+use Rattle.saber_partial.proofs.Fitting.{items_are_lone}
 use Rattle.saber_partial.proofs.Layouts.{one_layout, entry_in_full}
 use Rattle.saber_partial.proofs.Listed.{part_listed}
 use Rattle.saber_partial.proofs.Rising.{can_all}
@@ -30,14 +32,19 @@ pub answers_woven-requires-clause-alike : goal.answers_woven-requires-clause-ali
 answers_woven-requires-clause-alike c =
     let es = c.self.inside.groups.entries in
     let fs = c.later.inside.groups.entries in
-    let both = subst₂ CanMerge (sym c.self.view_is) (sym c.later.view_is) c.requires in
+    let both = subst₂ CanMerge (sym c.self.view_is) (sym c.later.view_is) c.requires.can in
     let mine = entry_in_full es (subst (λ (p : Part). full p ≡ Some p) (sym c.self.view_is) (c.is_empty-2.ensures.some c.if-is_empty-2.false)) in
     let theirs = entry_in_full fs (subst (λ (p : Part). full p ≡ Some p) (sym c.later.view_is) (c.is_empty.ensures.some c.if-is_empty.false)) in
-    one_layout c.self.inside.groups.layout c.later.inside.groups.layout es fs c.has_one_layout.ensures c.has_one_layout-2.ensures c.self.invariant c.later.invariant both mine theirs
+    one_layout c.self.inside.groups.layout c.later.inside.groups.layout es fs c.has_one_layout.ensures.layout c.has_one_layout-2.ensures.layout
+    c.has_one_layout.ensures.each c.has_one_layout-2.ensures.each c.self.invariant c.later.invariant both mine theirs
+
+pub answers_woven-requires-clause-items : goal.answers_woven-requires-clause-items
+answers_woven-requires-clause-items c =
+    subst (AllByRecursion IsLone) (sym c.items.ensures) (items_are_lone (tree_of c.args.plan.now) c.requires.checked c.requires.group)
 
 pub answers_woven-requires-clause-can : goal.answers_woven-requires-clause-can
 answers_woven-requires-clause-can c =
-    let both = subst₂ CanMerge (sym c.self.view_is) (sym c.later.view_is) c.requires in
+    let both = subst₂ CanMerge (sym c.self.view_is) (sym c.later.view_is) c.requires.can in
     can_all c.self.inside.groups.entries c.later.inside.groups.entries c.self.invariant c.later.invariant (record { at = both.at })
 
 pub returns : goal.returns
@@ -46,5 +53,6 @@ returns c =
     let fs = c.later.inside.groups.entries in
     let q = tree_of c.args.plan.now in
     let part = weave_merge es fs c.self.invariant c.later.invariant ∙ ap₂ merge c.self.view_is c.later.view_is in
-    let all = ap (λ (is : List Item). answers_under is (weave es fs)) c.items.ensures ∙ part_listed q (weave es fs) (weave_rises es fs c.self.invariant c.later.invariant) ∙ ap (part_answers q) part in
+    let rises = weave_rises es fs c.self.invariant c.later.invariant in
+    let all = ap (λ (is : List (List Product)). answers_under is (weave es fs)) c.items.ensures ∙ part_listed q (weave es fs) c.requires.group rises ∙ ap (part_answers q) part in
     subst (λ (l : a.Answers). IfOk c.answers_woven.result (λ a. a ≡ l)) all c.answers_woven.ensures

@@ -24,7 +24,7 @@ take_in_row-requires-clause-row c =
     let r = c.part.inside.row.now in
     let both = subst₂ CanMerge (sym c.self.view_is) (sym c.part.view_is) c.requires in
     let some = entry_in_full s.entries (subst (λ (p : Part). full p ≡ Some p) (sym c.self.view_is) (c.is_empty.ensures.some c.if-is_empty.false)) in
-    let same = one_layout s.layout l s.entries (entry_in l r ∷ []) c.has_one_layout.ensures (row_layout l r c.part.invariant.0 c.part.invariant.1, tt) c.self.invariant tt both some (omega arith) in
+    let same = one_layout s.layout l s.entries (entry_in l r ∷ []) c.has_one_layout.ensures.layout c.part.invariant.0 c.has_one_layout.ensures.each (row_layout l r c.part.invariant.0 c.part.invariant.1, tt) c.self.invariant tt both some (omega arith) in
     subst (λ (k : Layout). IsRow k r) (sym same) c.part.invariant.1
 
 pub take_in_row-requires-clause-can : goal.take_in_row-requires-clause-can
@@ -34,7 +34,7 @@ take_in_row-requires-clause-can c =
     let r = c.part.inside.row.now in
     let both = subst₂ CanMerge (sym c.self.view_is) (sym c.part.view_is) c.requires in
     let some = entry_in_full s.entries (subst (λ (p : Part). full p ≡ Some p) (sym c.self.view_is) (c.is_empty.ensures.some c.if-is_empty.false)) in
-    let same = one_layout s.layout l s.entries (entry_in l r ∷ []) c.has_one_layout.ensures (row_layout l r c.part.invariant.0 c.part.invariant.1, tt) c.self.invariant tt both some (omega arith) in
+    let same = one_layout s.layout l s.entries (entry_in l r ∷ []) c.has_one_layout.ensures.layout c.part.invariant.0 c.has_one_layout.ensures.each (row_layout l r c.part.invariant.0 c.part.invariant.1, tt) c.self.invariant tt both some (omega arith) in
     subst (λ (k : Layout). JoinsFit (part_of s.entries) (alone (entry_in k r))) (sym same) (record { at = both.at })
 
 pub returns : goal.returns
@@ -44,6 +44,6 @@ returns c =
     let r = c.part.inside.row.now in
     let both = subst₂ CanMerge (sym c.self.view_is) (sym c.part.view_is) c.requires in
     let some = entry_in_full s.entries (subst (λ (p : Part). full p ≡ Some p) (sym c.self.view_is) (c.is_empty.ensures.some c.if-is_empty.false)) in
-    let same = one_layout s.layout l s.entries (entry_in l r ∷ []) c.has_one_layout.ensures (row_layout l r c.part.invariant.0 c.part.invariant.1, tt) c.self.invariant tt both some (omega arith) in
+    let same = one_layout s.layout l s.entries (entry_in l r ∷ []) c.has_one_layout.ensures.layout c.part.invariant.0 c.has_one_layout.ensures.each (row_layout l r c.part.invariant.0 c.part.invariant.1, tt) c.self.invariant tt both some (omega arith) in
     subst (λ (m : Part). OnOk c.take_in_row.result (part_of c.take_in_row.new.groups.entries ≡ m))
     (ap₂ merge c.self.view_is (ap (λ (k : Layout). alone (entry_in k r)) same ∙ c.part.view_is)) c.take_in_row.ensures.ok

@@ -13,7 +13,7 @@ merged-requires-clause-alike c =
     let both = subst₂ CanMerge (sym c.self.view_is) (sym c.other.view_is) c.requires in
     let mine = entry_in_full s.entries (subst (λ (p : Part). full p ≡ Some p) (sym c.self.view_is) (c.is_empty.ensures.some c.if-is_empty.false)) in
     let theirs = entry_in_full o.entries (subst (λ (p : Part). full p ≡ Some p) (sym c.other.view_is) (c.is_empty-2.ensures.some c.if-is_empty-2.false)) in
-    one_layout s.layout o.layout s.entries o.entries c.has_one_layout.ensures c.has_one_layout-2.ensures c.self.invariant c.other.invariant both mine theirs
+    one_layout s.layout o.layout s.entries o.entries c.has_one_layout.ensures.layout c.has_one_layout-2.ensures.layout c.has_one_layout.ensures.each c.has_one_layout-2.ensures.each c.self.invariant c.other.invariant both mine theirs
 
 pub merged-requires-clause-can : goal.merged-requires-clause-can
 merged-requires-clause-can c = let both = subst₂ CanMerge (sym c.self.view_is) (sym c.other.view_is) c.requires in record { at = both.at }

@@ -48,4 +48,4 @@ returns-clause-ok c =
     ap (entries_in l (t.len + 1)) new
     ∙ put_in l t.len i xs c.self.invariant low c.write_first.new.xs r.long
     ∙ ap (insert (entries_in l t.len xs) i) (c.write_first.ensures.first)
-    ∙ ap (λ (x : Table). insert x.entries i (c.args.key.now, numbers (tree_of c.args.aggregates.now).items (c.args.row.now.values ∷ []))) c.self.view_is
+    ∙ ap (λ (x : Table). insert x.entries i (c.args.key.now, numbers (tree_of c.args.aggregates.now).aggregates (c.args.row.now.values ∷ []))) c.self.view_is

@@ -33,4 +33,4 @@ returns-clause-ok c =
     ap (entries_in l (t.len + 1)) new
     ∙ seen_push l t.len t.numbers.items c.write_first.new.xs c.self.invariant r
     ∙ ap (λ e. entries_in l t.len t.numbers.items ++ e ∷ []) c.write_first.ensures.first
-    ∙ ap (λ (x : Table). x.entries ++ (c.args.key.now, numbers (tree_of c.args.aggregates.now).items (c.args.row.now.values ∷ [])) ∷ []) c.self.view_is
+    ∙ ap (λ (x : Table). x.entries ++ (c.args.key.now, numbers (tree_of c.args.aggregates.now).aggregates (c.args.row.now.values ∷ [])) ∷ []) c.self.view_is

@@ -11,7 +11,7 @@ pub add_row-requires-clause-can : goal.add_row-requires-clause-can
 add_row-requires-clause-can c = λ d.
     let es = c.args.self.now.groups.entries in
     let order = c.args.self.now.order in
-    let v = numbers (tree_of c.args.aggregates.now).items (c.args.row.now.values ∷ []) in
+    let v = numbers (tree_of c.args.aggregates.now).aggregates (c.args.row.now.values ∷ []) in
     let k = key c.args.columns.now c.args.row.now.values in
     let there = subst (λ zs. (e : List ℤ × Numbers) → (get_or es c.in-Ok.place e).0 ≡ key c.args.columns.now zs) c.values-2.ensures c.in-Ok.ensures.there in
     let w = c.requires.order.each c.in-Ok.place c.in-Ok.ensures.within in
@@ -22,7 +22,7 @@ pub returns-in-Ok-clause-order : goal.returns-in-Ok-clause-order
 returns-in-Ok-clause-order c =
     let es = c.args.self.now.groups.entries in
     let order = c.args.self.now.order in
-    let v = numbers (tree_of c.args.aggregates.now).items (c.args.row.now.values ∷ []) in
+    let v = numbers (tree_of c.args.aggregates.now).aggregates (c.args.row.now.values ∷ []) in
     let k = key c.args.columns.now c.args.row.now.values in
     let there = subst (λ zs. (e : List ℤ × Numbers) → (get_or es c.in-Ok.place e).0 ≡ key c.args.columns.now zs) c.values-2.ensures c.in-Ok.ensures.there in
     let w = c.requires.order.each c.in-Ok.place c.in-Ok.ensures.within in
@@ -33,7 +33,7 @@ pub returns-in-Ok-clause-ok : goal.returns-in-Ok-clause-ok
 returns-in-Ok-clause-ok c =
     let es = c.args.self.now.groups.entries in
     let order = c.args.self.now.order in
-    let v = numbers (tree_of c.args.aggregates.now).items (c.args.row.now.values ∷ []) in
+    let v = numbers (tree_of c.args.aggregates.now).aggregates (c.args.row.now.values ∷ []) in
     let k = key c.args.columns.now c.args.row.now.values in
     let there = subst (λ zs. (e : List ℤ × Numbers) → (get_or es c.in-Ok.place e).0 ≡ key c.args.columns.now zs) c.values-2.ensures c.in-Ok.ensures.there in
     let w = c.requires.order.each c.in-Ok.place c.in-Ok.ensures.within in

@@ -6,12 +6,12 @@ use Rattle.saber_plan.specs.Answers.{key}
 use Rattle.saber_plan.specs.Merges.{joined}
 use Rattle.saber_plan.specs.Parts.{Part, numbers, join_numbers}
 use Rattle.saber_partial.specs.Young.{young_part}
-use Rattle.saber_partial.proofs.Fitting.{items_count}
+use Rattle.saber_partial.proofs.Fitting.{aggregates_count}
 use Rattle.saber_partial.proofs.Adding.{add_at, add_fits}
 use Rattle.saber_partial.proofs.young.Young.add_row.Goals as goal
 
 pub add-requires-clause-fit : goal.add-requires-clause-fit
-add-requires-clause-fit c = items_count (tree_of c.args.aggregates.now) c.requires.checked c.requires.group c.args.row.now.values c.requires.row.count
+add-requires-clause-fit c = aggregates_count (tree_of c.args.aggregates.now) c.requires.checked c.requires.group c.args.row.now.values c.requires.row.count
 
 pub add-requires-clause-room : goal.add-requires-clause-room
 add-requires-clause-room c =
@@ -30,4 +30,4 @@ returns-clause-ok c =
     let k = key c.keys.result.now zs in
     let here : k ≡ key q.keys zs = ap (λ ks. key ks zs) c.keys.ensures in
     subst (λ (x : Part). OnOk c.add.result (young_part c.add.new.self.order c.add.new.self.groups.entries ≡ x))
-    (add_at q m zs k (joined join_numbers (get m k) (numbers q.items (zs ∷ []))) here refl) c.add.ensures.ok
+    (add_at q m zs k (joined join_numbers (get m k) (numbers q.aggregates (zs ∷ []))) here refl) c.add.ensures.ok

@@ -10,6 +10,11 @@ take_part-requires g c =
     let s = c.args.self.now in
     has_room c.stream_laws.ensures (tree_of c.args.plan.now) us r c.args.low c.args.past (part_in c.args.parts.now c.args.part) comes s.next s.parts.entries keeps.next_is keeps.holds
 
+pub close_lines-requires : goal.close_lines-requires
+close_lines-requires g c =
+    let (us, r, comes, keeps) = c.requires in
+    comes.asks
+
 pub returns-clause-came : goal.returns-clause-came
 returns-clause-came g c us r comes keeps =
     let q = tree_of c.args.plan.now in

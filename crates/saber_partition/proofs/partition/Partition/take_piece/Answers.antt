@@ -17,6 +17,9 @@ take_rows-requires-clause-come g c =
     let f = subst (λ (p : Plan). Follow (tree_of p) r x y ps c.args.piece.ended m) (sym c.self.view_is) given in
     (old_rows q asks r x y ps c.args.piece.ended m f, new_rows q asks r x y ps c.args.piece.ended m f, rows_come q asks r x y ps c.args.piece.ended m f)
 
+pub take_end-requires : goal.take_end-requires
+take_end-requires g c = subst (λ (p : Plan). Asks (tree_of p)) (sym c.self.view_is) c.asks.ensures
+
 pub returns : goal.returns
 returns g c r x y given =
     let q = tree_of c.self.inside.plan.now in
@@ -34,4 +37,4 @@ returns g c r x y given =
     let k = lists_of c.take_end.new.lists.entries in
     subst (λ (p : Plan). Followed (tree_of p) r x y k before after) c.self.view_is
     (followed q asks r x y ps ended m f c.ends_are_behind.ensures (lists_of c.take_rows.new.lists.entries) k before middle after came
-    (c.in_ok-take_end.ensures (old ++ new) asks came.taken))
+    (c.in_ok-take_end.ensures (old ++ new) came.taken))
