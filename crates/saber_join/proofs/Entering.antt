@@ -7,7 +7,7 @@ use Rattle.saber_join.specs.Found.{lines_for}
 use Rattle.saber_join.specs.Entries.{lines_if}
 
 pub no_lines : (w : Bool) (i : ℕ) (p : Part) → p ≡ no_part → lines_if w i p ≡ []
-no_lines true i p e = ap (λ r. lines_if true i r) e ∙ ap (λ es. lines_for i (map (λ e. e.1.firsts) es)) (entries-empty key_cmp)
+no_lines true i p e = ap (λ r. lines_if true i r) e ∙ ap (λ es. lines_for i (map (λ e. map (λ v. v.value) e.1.values) es)) (entries-empty key_cmp)
 no_lines false i p e = refl
 
 -- one window after the others

@@ -8,23 +8,20 @@ use Rattle.saber_plan.specs.declared.windows.Mark.{Mark}
 use Rattle.saber_plan.specs.declared.windows.Kind.{Kind}
 use Rattle.saber_plan.specs.declared.plans.Shape.TheVariants.{Join}
 use Rattle.saber_plan.specs.Trees.{Tree}
-use Rattle.saber_plan.specs.Windows.{Fits, mark_after, ending, has, closed_count, begun_count, kind_of, from, has_windows}
+use Rattle.saber_plan.specs.Windows.{Fits, mark_after, ending, closed_count, begun_count, kind_of, from, has_windows}
 use Rattle.saber_plan.specs.Answers.{by_shape, frame, selected}
 use Rattle.saber_plan.specs.Parts.{Part, no_part, part_lines}
 use Rattle.saber_plan.specs.Tasks.{full, is_complete}
 use Rattle.saber_plan.specs.Needs.{is_closing, is_pending, is_opening, of_kind, part_here}
-use Rattle.saber_plan.specs.Checked.{IsChecked}
 use Rattle.saber_plan.specs.Shares.{is_closed, shares_here, handed_here}
 use Rattle.saber_plan.specs.Facts.Rows.{Ordered-append}
 use Rattle.saber_laws.specs.Windows.{ClosedAreCounted, BegunAreCounted, BegunStay}
 use Rattle.saber_laws.specs.Ends.{EndsBeginNone}
 use Rattle.saber_laws.specs.Needs.{RowsSpan}
 use Rattle.saber_laws.specs.Parts.{NoRowsNoPart}
-use Rattle.saber_laws.specs.Pairs.{PairsAreInOrder}
 use Rattle.saber_laws.specs.Plans.{TwoWindows}
 use Rattle.saber_window.specs.Laws.{ClosedWithinBegun}
 use Rattle.saber_parts.specs.declared.bounds.Bounds.{Bounds}
-use Rattle.saber_join.specs.Found.{pair_lines}
 use Rattle.saber_join.specs.Open.{seen_parts, HoldsTask}
 use Rattle.saber_parts.specs.Kinds.{kind_in}
 use Rattle.saber_parts.specs.WindowFacts.{entry_is, kind_is, no_entry}
@@ -32,12 +29,11 @@ use Rattle.saber_parts.specs.Entries.{entry_if}
 use Rattle.saber_fragment.specs.Drafts.{Sight, IsWhole}
 use Rattle.saber_join.specs.Entries.{lines_if, entries_by, lines_by}
 use Rattle.saber_join.specs.Pieces.{AreOfTask}
-use Rattle.saber_join.proofs.Task.{part_is}
 use Rattle.saber_plan.specs.Facts.Numbers.{flat_map-from, flat_none, flat_filter, from_more, numbered_is}
 use Rattle.saber_join.proofs.Entering.{no_lines}
 use Rattle.saber_join.proofs.Spread.{seen, part_in, part_is_in, rise_all, spread}
 use Rattle.saber_join.proofs.Beginning.{none_begun}
-use Rattle.saber_join.proofs.Answering.{lines_of}
+use Rattle.saber_join.proofs.Answering.{lines_of_part}
 
 -- what is known of the bounds of a task
 pub record AreBounds (q : Tree) (a z : Mark) (b : Bounds) : Type 0 where
@@ -73,9 +69,8 @@ pub record Laws : Type 0 where
   pub begins : EndsBeginNone
   pub span : RowsSpan
   pub none : NoRowsNoPart
-  pub order : PairsAreInOrder
 
-module _ (laws : Laws) (q : Tree) (checked : IsChecked q) (e : q.shape ≡ Join) (w : TwoWindows q) (fits : Fits (frame q)) (s : Sight) (whole : IsWhole q s) (b : Bounds) (given : AreBounds q (mark_after s.first s.back) (ending s.ended (mark_after (mark_after s.first s.back) s.rows)) b)
+module _ (laws : Laws) (q : Tree) (e : q.shape ≡ Join) (w : TwoWindows q) (fits : Fits (frame q)) (s : Sight) (whole : IsWhole q s) (b : Bounds) (given : AreBounds q (mark_after s.first s.back) (ending s.ended (mark_after (mark_after s.first s.back) s.rows)) b)
     (es : List (ℕ × Part)) (sorted : T (is_sorted nat_cmp (seen es))) (holds : HoldsTask q (closed_count (frame q) (mark_after s.first s.back)) s.first s.back s.rows (seen_parts es)) where
   abbrev a : Mark
   a = mark_after s.first s.back
@@ -113,16 +108,13 @@ module _ (laws : Laws) (q : Tree) (checked : IsChecked q) (e : q.shape ≡ Join)
       ∙ flat_map-from _ (λ i. option_map_or (λ r. (i, r) ∷ []) (given_kind i) []) c (n - c) (λ i l r. (λ j. entry_if (wanted (kind i l r j)) i (at i)) ∙ entry_is (wanted (kind_of (frame q) i a z)) i (at i))
       ∙ sym (numbered_is given_kind c (n - c))
 
-  here_lines : (i : ℕ) → pair_lines i (at i) ≡ part_lines q i (at i)
-  here_lines i = subst (λ p. pair_lines i p ≡ part_lines q i p) (part_is q s.first s.back s.rows i e) (lines_of laws.order q checked e _ (has (frame q) i) s.first (s.back ++ s.rows) i)
-
   abbrev complete : ℕ → Bool
   complete i = is_complete (kind_of (frame q) i a z)
 
   lines_are : lines_by b es ≡ flat_map (λ i. part_lines q i (at i)) (filter complete (from c (n - c)))
   lines_are =
       by_number (λ i p. lines_if (is_complete (Some (kind_in b i))) i p) (λ i p. no_lines (is_complete (Some (kind_in b i))) i p) at c n within ends es sorted (λ i. part_is_in es i ∙ holds.at i)
-      ∙ flat_map-from _ (λ i. cond (complete i) (part_lines q i (at i)) []) c (n - c) (λ i l r j. cond (is_complete (kind i l r j)) (here_lines i j) [])
+      ∙ flat_map-from _ (λ i. cond (complete i) (part_lines q i (at i)) []) c (n - c) (λ i l r j. cond (is_complete (kind i l r j)) (lines_of_part q e i (at i) j) [])
       ∙ flat_filter (λ i. part_lines q i (at i)) complete (from c (n - c))
 
   -- so they are the task's, and what they hand on is what it hands on

@@ -1,17 +1,13 @@
 -- The pairs found of a window: entries of a tree map, and the part that they are.
-use Rattle.std.specs.Prelude.{◌≡◌, ℕ, List, [], ◌∷◌, flat_map, map, Vec, ℤ, pos, Some, None}
+use Rattle.std.specs.Prelude.{◌≡◌, ℕ, List, ◌∷◌, flat_map, map, Vec, ℤ, pos, Some, None}
 use Rattle.std.proofs.Common.{Global}
 use Rattle.std.specs.FinMap.{get, entries, from_entries}
 use Rattle.saber_plan.specs.Answers.{key_cmp, line}
-use Rattle.saber_plan.specs.Parts.{Part, Numbers}
-
--- the numbers of a pair, by the values of its items: a join has no aggregates
-abbrev pub numbers_with : List ℤ → Numbers
-numbers_with zs = record { count = 1; sums = []; leasts = []; greatests = []; firsts = zs }
+use Rattle.saber_plan.specs.Parts.{Part, Numbers, numbers_of_one}
 
 -- what entries of a tree map are
 abbrev pub seen_entries : List (List ℤ × Vec ℤ Global) → List (List ℤ × Numbers)
-seen_entries es = map (λ e. (e.0, numbers_with e.1.items)) es
+seen_entries es = map (λ e. (e.0, numbers_of_one e.1.items)) es
 
 abbrev pub seen_pairs : List (List ℤ × Vec ℤ Global) → Part
 seen_pairs es = from_entries {R = key_cmp} (seen_entries es)
@@ -26,7 +22,7 @@ lines_for i vs = flat_map (λ zs. line (pos i ∷ zs)) vs
 
 -- the values of each pair, in the order of the pairs
 abbrev pub values_in : Part → List (List ℤ)
-values_in p = map (λ e. e.1.firsts) (entries p)
+values_in p = map (λ e. map (λ v. v.value) e.1.values) (entries p)
 
 abbrev pub pair_lines : ℕ → Part → List ℕ
 pair_lines i p = lines_for i (values_in p)

@@ -2,7 +2,7 @@
 use crate::join::Join;
 use crate::pairs::Pairs;
 use saber_changes::Answers;
-use saber_laws::{no_rows_no_part, pairs_are_in_order};
+use saber_laws::no_rows_no_part;
 use saber_parts::Assembles;
 use saber_plan::NoMemory;
 use std::alloc::Global;
@@ -24,13 +24,11 @@ impl Assembles for Join<'_> {
 
     fn lines(&self, i: u64, part: &Pairs, out: &mut Vec<u8>) -> Result<(), NoMemory> {
         self.has_windows();
-        pairs_are_in_order();
         part.lines(i, out)
     }
 
     fn answers(&self, alloc: Global, part: &Pairs) -> Result<Answers, NoMemory> {
         self.has_windows();
-        pairs_are_in_order();
         let answers = part.answers(alloc)?;
         Ok(answers)
     }

@@ -1,5 +1,5 @@
 // What a task holds.
-ghost use Rattle.std.specs.Prelude.{◌≡◌, ◌<◌, ◌≤◌, [], length, true, OnOk, IfOk};
+ghost use Rattle.std.specs.Prelude.{◌≡◌, ◌<◌, [], length, true, OnOk, IfOk};
 ghost use Rattle.std.specs.List.{AllByRecursion};
 ghost use Rattle.saber_plan.specs.declared.rows.Side.TheVariants as sides;
 ghost use Rattle.saber_plan.specs.Trees.{tree_of};
@@ -8,7 +8,6 @@ ghost use Rattle.saber_plan.specs.Answers.{pair_key};
 ghost use Rattle.saber_plan.specs.GivenRows.{IsRowOf};
 ghost use Rattle.saber_join.specs.Rows.{IsOn, AllOn};
 ghost use Rattle.saber_join.specs.Shelves.{card_with, cards_at, lefts_with, rights_with};
-ghost use Rattle.saber_join.specs.Adding.{with_rights};
 ghost use Rattle.saber_join.specs.Open.{seen_parts, Changed, ChangedAt, MeetsAlike, MeetsLefts, MeetsRights, with_pair};
 
 use crate::join::Join;
@@ -52,7 +51,6 @@ fn put_at(
     ensures { OnOk result (ChangedAt (with_pair (tree_of join.now) left.now right.now window) window
         (seen_parts windows.old.entries) (seen_parts windows.new.entries)) }
 {
-    join.has_windows();
     let values = join.values(alloc, left.row(), right.row())?;
     match windows.get_mut(&window) {
         Some(pairs) => {

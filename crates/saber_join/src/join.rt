@@ -1,25 +1,26 @@
 // A join and its windows.
-ghost use Rattle.std.specs.Prelude.{◌≡◌, ◌++◌, [], ◌∷◌, ◌≤◌, ◌^◌, map, nat_lt, true, OnOk, IfOk};
+ghost use Rattle.std.specs.Prelude.{◌≡◌, ◌≤◌, ◌^◌, nat_lt, true, IfOk};
 ghost use Rattle.std.specs.List.{AllByRecursion};
 ghost use Rattle.saber_plan.specs.declared.rows.Side.TheVariants as sides;
 ghost use Rattle.saber_plan.specs.declared.plans.Shape.TheVariants as shapes;
 ghost use Rattle.saber_plan.specs.Trees.{tree_of};
 ghost use Rattle.saber_plan.specs.Values as v;
-ghost use Rattle.saber_plan.specs.Checked.{IsChecked};
+ghost use Rattle.saber_plan.specs.Checked.{ExprFits, IsChecked};
 ghost use Rattle.saber_plan.specs.Windows as w;
-ghost use Rattle.saber_plan.specs.Answers.{frame, item_value};
+ghost use Rattle.saber_plan.specs.Answers.{frame, items_over};
 ghost use Rattle.saber_plan.specs.Needs.{first_window, past_window};
 ghost use Rattle.saber_plan.specs.GivenRows.{IsRowOf};
 ghost use Rattle.saber_laws.specs.Plans.{TwoWindows};
+ghost use Rattle.saber_eval.specs.Widths.{widths};
 ghost use Rattle.saber_window.specs.Timed.{IsTimed};
-ghost use Rattle.saber_join.specs.Rows.{IsOn, CanShow};
+ghost use Rattle.saber_join.specs.Rows.{IsOn};
 ghost use Rattle.saber_join.specs.Ties.{CanTie, key_in};
 
 use crate::ties::{Tie, tie_in};
 use saber_eval::{holds2, two_streams_fit, value2};
 use saber_flat::RowRef;
 use saber_laws::{checked_fit, joins_have_two_windows};
-use saber_plan::{Item, Mark, NoMemory, Plan, Side, Stream};
+use saber_plan::{Expr, Mark, NoMemory, Plan, Side, Stream};
 use saber_window::{Lately, Windows, stamps_fit, step_mark};
 use std::alloc::Global;
 use std::marker::Model;
@@ -51,30 +52,19 @@ impl<'a> Model for Join<'a> {
     ghost invariant = { λ g. IsChecked (tree_of g.plan.now) × ((tree_of g.plan.now).shape ≡ shapes.Join) × (g.windows ≡ frame (tree_of g.plan.now)) };
 }
 
-// The value of an item over a pair. A join's items are expressions alone.
-fn item_value(item: &Item, left: &RowRef, right: &RowRef) -> i128
-    requires { CanShow left.now.values right.now.values item.now }
-    ensures { result ≡ item_value left.now.values right.now.values item.now }
-{
-    match item {
-        Item::Value(e) => value2(e, left, right),
-        Item::Count | Item::Sum(_) | Item::Min(_) | Item::Max(_) => unreachable!(),
-    }
-}
-
 // The values of items over a pair.
 fn item_values(
     alloc: Global,
-    items: &[Item],
+    items: &[Expr],
     left: &RowRef,
     right: &RowRef,
 ) -> Result<Vec<i128>, NoMemory>
-    requires { AllByRecursion (CanShow left.now.values right.now.values) items.now }
-    ensures { IfOk result (λ vs. vs.items ≡ map (item_value left.now.values right.now.values) items.now) }
+    requires { AllByRecursion (ExprFits (widths left.now.values right.now.values)) items.now }
+    ensures { IfOk result (λ vs. vs.items ≡ items_over items.now left.now.values right.now.values) }
 {
     let mut values = Vec::with_capacity(alloc, items.len())?;
     for item in items {
-        values.push(item_value(item, left, right))?;
+        values.push(value2(item, left, right))?;
     }
     Ok(values)
 }
@@ -113,10 +103,10 @@ impl<'a> Join<'a> {
     }
 
     // Its items can be worked out over a pair of rows of its streams.
-    fn can_show(&self, left: &RowRef, right: &RowRef)
+    fn items_fit(&self, left: &RowRef, right: &RowRef)
         requires left { IsOn (tree_of self.now) sides.Left left.now }
         requires right { IsOn (tree_of self.now) sides.Right right.now }
-        ensures { AllByRecursion (CanShow left.now.values right.now.values) (tree_of self.now).items }
+        ensures { AllByRecursion (ExprFits (widths left.now.values right.now.values)) (tree_of self.now).items }
     {
         self.has_windows();
         two_streams_fit();
@@ -172,9 +162,9 @@ impl<'a> Join<'a> {
     ) -> Result<Vec<i128>, NoMemory>
         requires left { IsOn (tree_of self.now) sides.Left left.now }
         requires right { IsOn (tree_of self.now) sides.Right right.now }
-        ensures { IfOk result (λ vs. vs.items ≡ map (item_value left.now.values right.now.values) (tree_of self.now).items) }
+        ensures { IfOk result (λ vs. vs.items ≡ items_over (tree_of self.now).items left.now.values right.now.values) }
     {
-        self.can_show(left, right);
+        self.items_fit(left, right);
         item_values(alloc, self.plan.items(), left, right)
     }
 

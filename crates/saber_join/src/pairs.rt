@@ -1,9 +1,9 @@
 // The pairs of one window.
 ghost use Rattle.std.specs.Prelude.{◌≡◌, true, false, Some, OnOk};
 ghost use Rattle.std.specs.FinMap.{insert};
-ghost use Rattle.saber_plan.specs.Parts.{no_part, merge};
+ghost use Rattle.saber_plan.specs.Parts.{no_part, numbers_of_one, merge};
 ghost use Rattle.saber_plan.specs.Tasks.{full};
-ghost use Rattle.saber_join.specs.Found.{numbers_with, Apart};
+ghost use Rattle.saber_join.specs.Found.{Apart};
 
 use saber_plan::NoMemory;
 use std::alloc::Global;
@@ -52,7 +52,7 @@ impl Pairs {
 
     /// One pair more, by the places of its rows and the values of its items.
     pub(crate) fn put(&mut self, places: [i64; 2], values: Vec<i128>) -> Result<(), NoMemory>
-        ensures { OnOk result (self.new ≡ insert self.old places (numbers_with values.items)) }
+        ensures { OnOk result (self.new ≡ insert self.old places (numbers_of_one values.items)) }
     {
         self.pairs.insert(places, values)?;
         Ok(())

@@ -6,8 +6,7 @@ use crate::join::Join;
 use crate::pairs::Pairs;
 use saber_fragment::Piece;
 use saber_laws::{
-    begun_are_counted, begun_stay, closed_are_counted, ends_begin_none, no_rows_no_part,
-    pairs_are_in_order, rows_span,
+    begun_are_counted, begun_stay, closed_are_counted, ends_begin_none, no_rows_no_part, rows_span,
 };
 use saber_parts::Bounds;
 use saber_plan::NoMemory;
@@ -42,7 +41,6 @@ impl Join<'_> {
         closed_within_begun();
         ends_begin_none();
         no_rows_no_part();
-        pairs_are_in_order();
         rows_span();
         let back = &draft.back;
         let rows = &draft.rows;

@@ -1,5 +1,5 @@
 -- What windows change, from the parts that were handed on and taken in.
-use Rattle.std.proofs.Common.{◌≡◌, ℕ, ◌+◌, ◌-◌, ◌≤◌, ◌<◌, List, [], ◌∷◌, ◌++◌, map, take, Bool, true, false, cond, nat_lt, nat_le, ◌==◌, T, Option, Some, None, ℤ, refl, sym, ◌∙◌, ap, subst, nat_cmp, arith}
+use Rattle.std.proofs.Common.{◌≡◌, ℕ, ◌+◌, ◌≤◌, ◌<◌, List, [], ◌∷◌, ◌++◌, map, take, Bool, true, false, cond, nat_lt, nat_le, ◌==◌, T, Option, Some, None, ℤ, refl, sym, ◌∙◌, ap, subst, nat_cmp, arith}
 use Rattle.std.proofs.lemmas.Bool.Decides.{nat_tests}
 use Rattle.std.proofs.lemmas.List.{nil_from_length}
 use Rattle.std.specs.List.{AllByRecursion}
@@ -10,12 +10,10 @@ use Rattle.std.specs.FinMap.Entries.{find_tied, below_all}
 use Rattle.saber_plan.specs.Trees.{Tree}
 use Rattle.saber_plan.specs.Inputs.{Input, arrived}
 use Rattle.saber_plan.specs.Merges.{both}
-use Rattle.saber_plan.specs.GivenRows.{IsPartOf}
 use Rattle.saber_plan.specs.Facts.Lists.{T_parts}
 use Rattle.saber_plan.specs.Facts.Maps.{equal_if, first_alone, rest_rises}
-use Rattle.saber_plan.specs.Windows.{from}
 use Rattle.saber_plan.specs.Answers.{Answers, window_answers, before_window, frame}
-use Rattle.saber_plan.specs.Parts.{Part, Numbers, part, part_answers, answers_of, merge}
+use Rattle.saber_plan.specs.Parts.{Part, Numbers, part, part_answers, answered, merge}
 use Rattle.saber_plan.specs.Tasks.{Parts, unclosed, closed_at, last_answers}
 use Rattle.saber_plan.specs.Shares.{Shares, full, entries_in, handed_between}
 use Rattle.saber_laws.specs.Shares.{Between, OpenPartsAre}
@@ -24,7 +22,7 @@ use Rattle.saber_laws.specs.Words.{AnswersAreOfParts, LastAnswersStay, HandedRis
 use Rattle.saber_changes.specs.declared.cancel.Change.{Change}
 use Rattle.saber_changes.specs.declared.walk.Walk.{Walk}
 use Rattle.saber_changes.specs.Walks.{Stands, Walks, changes_from}
-use Rattle.saber_parts.specs.Stored.{CanTakeIn, ArePartsOf}
+use Rattle.saber_parts.specs.Stored.{CanTakeIn}
 use Rattle.saber_parts.specs.Changing.{Rises, Tells, Hands, Handed}
 
 -- ---- entries whose numbers rise
@@ -85,7 +83,7 @@ zero_is n h = grind (arith, nat_tests)
 no_answers : (q : Tree) (p : Part) → full p ≡ None → part_answers q p ≡ []
 no_answers q p e =
     let none : entries p ≡ [] = nil_from_length _ (sym (len-entries p) ∙ zero_is (len p) (empty_case (len p == 0) p e)) in
-    ap (λ (es : List (List ℤ × Numbers)). map (λ (e : List ℤ × List ℤ). e.1) (map (λ (e : List ℤ × Numbers). (e.0, answers_of q.items e.1)) es)) none
+    ap (λ (es : List (List ℤ × Numbers)). map (λ (e : List ℤ × List ℤ). e.1) (map (answered q.shape q.items) es)) none
 
 module _ (q : Tree) (at : ℕ → Answers) (has : ℕ → Part) (told : (i : ℕ) → at i ≡ part_answers q (has i)) where
   tells : (b : ℕ) (es : Entries) (a : ℕ) → Rises a b es → ((i : ℕ) → a ≤ i → i < b → find nat_cmp i es ≡ full (has i)) → Tells q at a b es
@@ -100,8 +98,8 @@ module _ (q : Tree) (at : ℕ → Answers) (has : ℕ → Part) (told : (i : ℕ
 
 -- ---- taken in
 
-two_tests : (b c : Bool) (o : Option Part) (p : Part) → cond b (cond c o None) None ≡ Some p → (b ≡ true) × (c ≡ true) × (o ≡ Some p)
-two_tests true true o p e = (refl, refl, e)
+two_tests : (b c : Bool) (o : Option Part) (p : Part) → cond b (cond c o None) None ≡ Some p → (b ≡ true) × (c ≡ true)
+two_tests true true o p e = (refl, refl)
 two_tests true false o p e = cc
 two_tests false c o p e = cc
 
@@ -177,18 +175,6 @@ module _ (laws : Laws) (q : Tree) (m : Parts) (w : Walk) (s : Shares) (r : Input
   found : (i : ℕ) → find nat_cmp i (entries below) ≡ cond (nat_lt i s.closed) (cond (nat_le first i) (full (whole i)) None) None
   found i = sym (get-entries below i) ∙ get-retain_keys merged (λ i. nat_lt i s.closed) i (λ k e. ap (λ j. nat_lt j s.closed) (sym (nat_cmp-IsAntisymmetric i k e)))
       ∙ ap (λ o. cond (nat_lt i s.closed) o None) (merged_at i)
-
-  -- each closed window's part is that over all rows so far
-  pub closed_parts : ArePartsOf q (entries below)
-  closed_parts = each_has (λ i p. IsPartOf q p) (entries below) (entries_sorted below) (λ i p f. record {
-    window = i;
-    rows = r.rows;
-    from = 0;
-    to = y;
-    fits = h.fits;
-    rises = omega arith;
-    is = full_is (whole i) p (two_tests _ _ (full (whole i)) p (sym (found i) ∙ f)).2;
-  })
 
   order : w.next ≤ s.closed
   order = let low = laws.closes (frame q) h.windows r x y h.fits.ordered h.rises in let next = h.next_is in let past = closed_is in omega (arith, low, next, past)

@@ -1,5 +1,5 @@
 -- The entries below a number, and walks that go on.
-use Rattle.std.proofs.Common.{◌≡◌, ℕ, ◌+◌, ◌-◌, ◌≤◌, List, ◌++◌, filter, flat_map, nat_lt, not, sym, ◌∙◌, ap, append-nil, append_assoc, nat_cmp, arith}
+use Rattle.std.proofs.Common.{◌≡◌, ℕ, ◌-◌, ◌≤◌, List, ◌++◌, filter, flat_map, nat_lt, not, sym, ◌∙◌, ap, append-nil, append_assoc, nat_cmp, arith}
 use Rattle.std.proofs.lemmas.Bool.Decides.{nat_tests}
 use Rattle.std.proofs.lemmas.List.Concat.{flat_map-append}
 use Rattle.std.specs.Ordering.{is_le}

@@ -1,10 +1,9 @@
 -- The parts of a store, by window.
 use Rattle.std.specs.Prelude.{◌≡◌, ℕ, List, filter, flat_map, nat_le, nat_lt, Some}
-use Rattle.std.specs.List.{AllByRecursion}
 use Rattle.std.specs.Ordering.{nat_cmp}
 use Rattle.std.specs.FinMap.{get, from_entries}
 use Rattle.saber_plan.specs.Trees.{Tree}
-use Rattle.saber_plan.specs.GivenRows.{IsPartOf, AreNeighbors}
+use Rattle.saber_plan.specs.GivenRows.{AreNeighbors}
 use Rattle.saber_plan.specs.Parts.{Part, part_lines}
 use Rattle.saber_plan.specs.Tasks.{Parts, written_by, left_by}
 use Rattle.saber_plan.specs.Shares.{piece_in}
@@ -44,10 +43,6 @@ closed_of c es = filter (λ e. nat_lt e.0 c) es
 -- where both have a window, these are its parts over rows that follow one another
 pub record CanTakeIn (q : Tree) (m n : Parts) : Type 0 where
   pub at : (i : ℕ) (a b : Part) → get m i ≡ Some a → get n i ≡ Some b → AreNeighbors q a b
-
--- each is the part of its window over some rows
-abbrev pub ArePartsOf : Tree → List (ℕ × Part) → Type 0
-ArePartsOf q = AllByRecursion (λ (e : ℕ × Part). IsPartOf q e.1)
 
 -- the lines of windows, one after another
 abbrev pub lines_of : Tree → List (ℕ × Part) → List ℕ

@@ -2,7 +2,7 @@
 ghost use Rattle.std.specs.Prelude.{◌≡◌, ◌++◌, OnOk, OnErr, IfOk};
 ghost use Rattle.saber_plan.specs.Trees.{Tree};
 ghost use Rattle.saber_plan.specs.Parts.{Part, merge, part_lines, part_answers};
-ghost use Rattle.saber_plan.specs.GivenRows.{IsPartOf, AreNeighbors};
+ghost use Rattle.saber_plan.specs.GivenRows.{AreNeighbors};
 
 use saber_changes::Answers;
 use saber_plan::NoMemory;
@@ -27,12 +27,10 @@ pub trait Assembles {
 
     /// Appends the lines of window i, of which this is the whole part.
     fn lines(&self, i: u64, part: &Self::Part, out: &mut Vec<u8>) -> Result<(), NoMemory>
-        requires { IsPartOf (plan self.now) (shown part.now) }
         ensures ok { OnOk result (out.new.items ≡ out.old.items ++ part_lines (plan self.now) i (shown part.now)) }
         ensures err { OnErr result (out.new.items ≡ out.old.items) };
 
     /// The answers of a window, of which this is the whole part.
     fn answers(&self, alloc: Global, part: &Self::Part) -> Result<Answers, NoMemory>
-        requires { IsPartOf (plan self.now) (shown part.now) }
         ensures { IfOk result (λ a. a ≡ part_answers (plan self.now) (shown part.now)) };
 }

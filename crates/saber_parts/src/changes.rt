@@ -1,11 +1,11 @@
 // What closed windows gain or lose, from their parts.
-ghost use Rattle.std.specs.Prelude.{◌≡◌, ◌≤◌, ℕ, OnOk};
+ghost use Rattle.std.specs.Prelude.{◌≡◌, ℕ, OnOk};
 ghost use Rattle.saber_plan.specs.Answers as a;
 ghost use Rattle.saber_plan.specs.Inputs.{Input};
 ghost use Rattle.saber_plan.specs.Texts.{Behind};
 ghost use Rattle.saber_fragment.specs.Shown.{windows_by, shares_of};
 ghost use Rattle.saber_changes.specs.Walks.{Stands, Walks};
-ghost use Rattle.saber_parts.specs.Stored.{parts_by, parts_from, closed_of, ArePartsOf};
+ghost use Rattle.saber_parts.specs.Stored.{parts_by, parts_from, closed_of};
 ghost use Rattle.saber_parts.specs.Changing.{Rises, Tells, CanHand, Hands, Handed};
 
 use crate::Assembles;
@@ -30,8 +30,7 @@ pub(crate) fn walk_closed<A: Assembles>(
     walk: &mut Walk,
     out: &mut Vec<u8>,
 ) -> Result<(), NoMemory>
-    requires parts { ArePartsOf (A.plan by.now) (windows_by A.shown (closed_of closed_below parts.now.entries)) }
-    requires rises { Rises walk.old.next closed_below (windows_by A.shown (closed_of closed_below parts.now.entries)) }
+    requires { Rises walk.old.next closed_below (windows_by A.shown (closed_of closed_below parts.now.entries)) }
     ensures ok { OnOk result ((at : ℕ → a.Answers) → Stands at walk.old → Tells (A.plan by.now) at walk.old.next closed_below (windows_by A.shown (closed_of closed_below parts.now.entries))
         → Walks change at walk.old walk.new closed_below out.old.items out.new.items) }
     ensures next { OnOk result (walk.new.next ≡ closed_below) }

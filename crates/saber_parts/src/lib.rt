@@ -10,8 +10,8 @@
 //!   the same two, and appends what windows gain or lose.
 //! - Proved: the text grows by what the piece adds, and the parts that it leaves open are kept
 //!   (`specs/Stored.antt`). After want of memory the text is as before, and the store only safe to
-//!   let go. All that is asked of parts is that they come from rows (`IsPartOf`, `AreNeighbors` of
-//!   `saber_plan/specs/GivenRows.antt`).
+//!   let go. All that is asked of parts is that two that merge are of rows that follow one another
+//!   (`AreNeighbors` of `saber_plan/specs/GivenRows.antt`).
 //! - Limits: none but memory. A closed window's part stays until it is dropped.
 #![tactic(auto)]
 

@@ -6,14 +6,12 @@ ghost use Rattle.saber_plan.specs.Merges.{both};
 ghost use Rattle.saber_plan.specs.Parts.{merge};
 ghost use Rattle.saber_plan.specs.Texts.{Behind};
 ghost use Rattle.saber_fragment.specs.Shown.{windows_by, shares_of};
-ghost use Rattle.saber_parts.specs.Stored.{parts_by, parts_from, written_of, left_of, closed_of, CanTakeIn, ArePartsOf, lines_of};
+ghost use Rattle.saber_parts.specs.Stored.{parts_by, parts_from, written_of, left_of, closed_of, CanTakeIn, lines_of};
 ghost use Rattle.saber_fragment.specs.Stores.{Continues};
 
 use crate::Assembles;
 use saber_fragment::{Parts, Piece};
-use saber_laws::{
-    open_parts_are, piece_parts_are, shares_make_piece, shares_rise, taken_parts_are,
-};
+use saber_laws::{open_parts_are, piece_parts_are, shares_make_piece, shares_rise};
 use saber_plan::NoMemory;
 use std::alloc::Global;
 use std::collections::BTreeMap;
@@ -46,7 +44,6 @@ pub(crate) fn write_closed<A: Assembles>(
     closed_below: u64,
     out: &mut Vec<u8>,
 ) -> Result<(), NoMemory>
-    requires { ArePartsOf (A.plan by.now) (windows_by A.shown (closed_of closed_below parts.now.entries)) }
     ensures ok { OnOk result (out.new.items ≡ out.old.items ++ lines_of (A.plan by.now) (windows_by A.shown (closed_of closed_below parts.now.entries))) }
     ensures behind { Behind out.old.items out.new.items }
 {
@@ -87,7 +84,6 @@ pub(crate) fn settle<A: Assembles>(
     shares_rise();
     open_parts_are();
     piece_parts_are();
-    taken_parts_are();
     let closed_below = piece.closed_below;
     let lines = piece.complete_text;
     let parts = joined(piece.closing, piece.pending, piece.opening)?;

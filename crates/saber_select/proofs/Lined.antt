@@ -3,10 +3,10 @@ use Rattle.std.proofs.Common.{◌≡◌, List, [], ◌∷◌, ◌++◌, map, fil
 use Rattle.std.proofs.lemmas.List.{drop_more}
 use Rattle.std.specs.Fmt.{signed_decimal}
 use Rattle.saber_plan.specs.declared.rows.Row.{Row}
-use Rattle.saber_plan.specs.declared.plans.Item.{Item}
+use Rattle.saber_plan.specs.declared.expressions.Product.{Product}
 use Rattle.saber_plan.specs.Trees.{Tree}
-use Rattle.saber_plan.specs.Values.{passes}
-use Rattle.saber_plan.specs.Answers.{item_value, line, selected}
+use Rattle.saber_plan.specs.Values.{value, passes}
+use Rattle.saber_plan.specs.Answers.{items_over, line, selected}
 use Rattle.saber_select.specs.Printing.{row_text}
 use Rattle.saber_digits.specs.Cells.{cells}
 use Rattle.saber_digits.specs.CellFacts.{line_after}
@@ -14,14 +14,14 @@ use Rattle.saber_digits.specs.CellFacts.{line_after}
 -- the first row's line, and those of the others
 pub selected_next : (q : Tree) (x : Row) (xs : List Row) → selected q (x ∷ xs) ≡ row_text q x.values ++ selected q xs
 selected_next q x xs = elim (passes q.predicate x.values []) as (λ b.
-    flat_map (λ zs. line (map (item_value zs []) q.items)) (cond b (x.values ∷ filter (λ zs. passes q.predicate zs []) (map (λ y. y.values) xs)) (filter (λ zs. passes q.predicate zs []) (map (λ y. y.values) xs)))
-    ≡ cond b (line (map (item_value x.values []) q.items)) [] ++ selected q xs) [ true ↦ refl | false ↦ refl ]
+    flat_map (λ zs. line (items_over q.items zs [])) (cond b (x.values ∷ filter (λ zs. passes q.predicate zs []) (map (λ y. y.values) xs)) (filter (λ zs. passes q.predicate zs []) (map (λ y. y.values) xs)))
+    ≡ cond b (line (items_over q.items x.values [])) [] ++ selected q xs) [ true ↦ refl | false ↦ refl ]
 
 -- the line of a row, item by item
-pub items_line : (old : List ℕ) (zs : List ℤ) (is : List Item) (x : Item) → 1 ≤ length is → x ≡ get_or is 0 x
-    → ((old ++ signed_decimal (item_value zs [] x)) ++ cells (map (item_value zs []) (drop 1 is))) ++ 10 ∷ [] ≡ old ++ line (map (item_value zs []) is)
+pub items_line : (old : List ℕ) (zs : List ℤ) (is : List (List Product)) (x : List Product) → 1 ≤ length is → x ≡ get_or is 0 x
+    → ((old ++ signed_decimal (value x zs [])) ++ cells (items_over (drop 1 is) zs [])) ++ 10 ∷ [] ≡ old ++ line (items_over is zs [])
 items_line old zs [] x h e = absurd (omega arith)
-items_line old zs (i ∷ is) x h e = ap (λ y. ((old ++ signed_decimal (item_value zs [] y)) ++ cells (map (item_value zs []) is)) ++ 10 ∷ []) e ∙ line_after old (item_value zs [] i) (map (item_value zs []) is)
+items_line old zs (i ∷ is) x h e = ap (λ y. ((old ++ signed_decimal (value y zs [])) ++ cells (items_over is zs [])) ++ 10 ∷ []) e ∙ line_after old (value i zs []) (items_over is zs [])
 
 -- one row more of some rows is written
 pub row_written : (q : Tree) (out all more : List ℕ) (rows : List Row) (k : ℕ) (x : Row) → k < length rows → x ≡ get_or rows k x → out ++ selected q (drop k rows) ≡ all → more ≡ out ++ row_text q x.values → more ++ selected q (drop (k + 1) rows) ≡ all

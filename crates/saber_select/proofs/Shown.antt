@@ -1,16 +1,14 @@
 -- What a selection's plan says of its rows, and what a task of one gives.
-use Rattle.std.proofs.Common.{◌≡◌, ℕ, List, [], ◌∷◌, ◌-◌, filter, flat_map, Option, Bool, ℤ, true, false, cond, refl, sym, ◌∙◌, ap, subst, arith, subst₂}
+use Rattle.std.proofs.Common.{◌≡◌, ℕ, List, [], ◌-◌, filter, flat_map, Option, Bool, ℤ, true, false, cond, refl, sym, ◌∙◌, ap, subst, arith, subst₂}
 use Rattle.std.specs.List.{AllByRecursion}
 use Rattle.saber_plan.specs.declared.rows.Row.{Row}
 use Rattle.saber_plan.specs.declared.rows.Side.TheVariants.{Left}
 use Rattle.saber_plan.specs.declared.windows.Mark.{Mark}
 use Rattle.saber_plan.specs.declared.windows.Kind.{Kind}
-use Rattle.saber_plan.specs.declared.plans.Item.{Item}
-use Rattle.saber_plan.specs.declared.plans.Item.TheVariants.{Count, Sum, Min, Max, Value}
 use Rattle.saber_plan.specs.declared.plans.Shape.TheVariants.{Select}
 use Rattle.saber_plan.specs.Trees.{Tree}
 use Rattle.saber_plan.specs.Rows.{RowFits}
-use Rattle.saber_plan.specs.Checked.{named_columns, ItemFits, columns_on}
+use Rattle.saber_plan.specs.Checked.{ExprFits, ItemFits, group_width, columns_on}
 use Rattle.saber_plan.specs.GivenRows.{IsRowOf}
 use Rattle.saber_laws.specs.Plans.{NoWindow}
 use Rattle.saber_plan.specs.Windows.{Frame, unwindowed, has_windows, mark_after, ending, closed_count, begun_count, kind_of, from}
@@ -21,24 +19,12 @@ use Rattle.saber_plan.specs.Needs.{of_kind, piece_here, part_here, is_closing, i
 use Rattle.saber_plan.specs.Shares.{shares_here}
 use Rattle.saber_plan.specs.Facts.Rows.{is_left}
 use Rattle.saber_eval.specs.Widths.{widths}
-use Rattle.saber_select.specs.Printing.{CanShow}
 
 -- ---- items
 
-shown_case : (zs : List ℤ) (keys : List ℕ) (i : Item) → ItemFits Select (widths zs []) keys i → CanShow zs i
-shown_case zs keys Count h = h
-shown_case zs keys (Sum e) h = h
-shown_case zs keys (Min e) h = h
-shown_case zs keys (Max e) h = h
-shown_case zs keys (Value e) h = h
-
-all_shown : (zs : List ℤ) (keys : List ℕ) (is : List Item) → AllByRecursion (ItemFits Select (widths zs []) keys) is → AllByRecursion (CanShow zs) is
-all_shown zs keys [] h = tt
-all_shown zs keys (i ∷ is) h = (shown_case zs keys i h.0, all_shown zs keys is h.1)
-
 -- the items of a selection, by what a checked plan says of them
-pub items_shown : (q : Tree) (zs : List ℤ) → q.shape ≡ Select → AllByRecursion (ItemFits q.shape (widths zs []) (named_columns q)) q.items → AllByRecursion (CanShow zs) q.items
-items_shown q zs e h = all_shown zs (named_columns q) q.items (subst (λ s. AllByRecursion (ItemFits s (widths zs []) (named_columns q)) q.items) e h)
+pub items_fit : (q : Tree) (zs : List ℤ) → q.shape ≡ Select → AllByRecursion (ItemFits q.shape (widths zs []) (group_width q)) q.items → AllByRecursion (ExprFits (widths zs [])) q.items
+items_fit q zs e h = subst (λ s. AllByRecursion (ItemFits s (widths zs []) (group_width q)) q.items) e h
 
 -- ---- rows
 

@@ -4,11 +4,12 @@ ghost use Rattle.std.specs.List.{AllByRecursion};
 ghost use Rattle.saber_plan.specs.declared.plans.Shape.TheVariants as shapes;
 ghost use Rattle.saber_plan.specs.Trees.{tree_of};
 ghost use Rattle.saber_plan.specs.Values as v;
-ghost use Rattle.saber_plan.specs.Checked.{IsChecked, IsPlain};
+ghost use Rattle.saber_plan.specs.Checked.{ExprFits, IsChecked, IsPlain};
 ghost use Rattle.saber_plan.specs.GivenRows.{IsRowOf};
 ghost use Rattle.saber_plan.specs.Answers.{selected};
 ghost use Rattle.saber_laws.specs.Plans.{NoWindow};
-ghost use Rattle.saber_select.specs.Printing.{CanShow, row_text};
+ghost use Rattle.saber_eval.specs.Widths.{widths};
+ghost use Rattle.saber_select.specs.Printing.{row_text};
 
 use crate::lines::write_line;
 use saber_eval::{holds, one_stream_fits};
@@ -66,9 +67,9 @@ impl<'a> Select<'a> {
     }
 
     // Its items can be worked out over a row of its stream.
-    fn can_show(&self, row: &RowRef)
+    fn items_fit(&self, row: &RowRef)
         requires { IsRowOf (tree_of self.now) row.now }
-        ensures { AllByRecursion (CanShow row.now.values) (tree_of self.now).items }
+        ensures { AllByRecursion (ExprFits (widths row.now.values [])) (tree_of self.now).items }
     {
         let _plan = &self.plan;
         selections_have_no_window();
@@ -93,7 +94,7 @@ impl<'a> Select<'a> {
         requires { IsRowOf (tree_of self.now) row.now }
         ensures { OnOk result (out.new.items ≡ out.old.items ++ row_text (tree_of self.now) row.now.values) }
     {
-        self.can_show(row);
+        self.items_fit(row);
         if !self.passes(row) {
             return Ok(());
         }

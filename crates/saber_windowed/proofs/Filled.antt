@@ -6,14 +6,14 @@ use Rattle.std.specs.Ordering.{is_eq}
 use Rattle.std.specs.Option.{option_map_or}
 use Rattle.std.specs.FinMap.{get, find, len, empty_of_len, get-from_entries, get-empty}
 use Rattle.std.proofs.lemmas.Bool.{eqb-true}
-use Rattle.saber_plan.specs.Parts.{Part, no_part}
+use Rattle.saber_plan.specs.Parts.{Part, no_part, numbers_of_one}
 use Rattle.saber_plan.specs.Tasks.{full}
 use Rattle.saber_plan.specs.Answers.{key_cmp}
 use Rattle.saber_plan.specs.Facts.Parts.{total}
 use Rattle.saber_fragment.specs.Shown.{windows_by}
 use Rattle.saber_parts.specs.Entries.{entry}
 use Rattle.saber_parts.specs.WindowFacts.{none_kept}
-use Rattle.saber_windowed.specs.Found.{Found, numbers_with, entry_of, part_of}
+use Rattle.saber_windowed.specs.Found.{Found, entry_of, part_of}
 
 not_both : {A : Type 0} {o : Option A} {y : A} → o ≡ None → o ≡ Some y → ⊥
 not_both e h = cc
@@ -21,8 +21,8 @@ not_both e h = cc
 pub no_rows : part_of [] ≡ no_part
 no_rows = refl
 
-some_found : (e : Found) (es : List Found) → get (part_of (e ∷ es)) (entry_of e).0 ≡ Some (numbers_with e.1)
-some_found e es = get-from_entries total (map entry_of (e ∷ es)) (entry_of e).0 ∙ ap (λ b. cond (is_eq b) (Some (numbers_with e.1)) (find key_cmp (entry_of e).0 (map entry_of es))) (tied_itself total (entry_of e).0)
+some_found : (e : Found) (es : List Found) → get (part_of (e ∷ es)) (entry_of e).0 ≡ Some (numbers_of_one e.1)
+some_found e es = get-from_entries total (map entry_of (e ∷ es)) (entry_of e).0 ∙ ap (λ b. cond (is_eq b) (Some (numbers_of_one e.1)) (find key_cmp (entry_of e).0 (map entry_of es))) (tied_itself total (entry_of e).0)
 
 some_case : (es : List Found) (b : Bool) → (len (part_of es) == 0) ≡ b → es ≢ [] → cond b None (Some (part_of es)) ≡ Some (part_of es)
 some_case es false e h = refl

@@ -12,7 +12,6 @@ use Rattle.saber_plan.specs.Answers.{by_shape, frame, passing, selected}
 use Rattle.saber_plan.specs.Parts.{Part, row_part, group_part, pair_part, part_lines}
 use Rattle.saber_plan.specs.Tasks.{full, is_complete}
 use Rattle.saber_plan.specs.Needs.{is_closing, is_pending, is_opening, of_kind, part_here}
-use Rattle.saber_plan.specs.Checked.{IsChecked}
 use Rattle.saber_plan.specs.GivenRows.{RowsFit}
 use Rattle.saber_plan.specs.Shares.{is_closed, shares_here, handed_here}
 use Rattle.saber_plan.specs.Facts.Numbers.{flat_map-from, flat_filter, numbered_is}
@@ -29,11 +28,11 @@ use Rattle.saber_parts.specs.Entries.{entry_if}
 use Rattle.saber_windowed.specs.Found.{Found, part_of, values_in, lines_for}
 use Rattle.saber_windowed.specs.Open.{seen_windows, found_here, HoldsTask}
 use Rattle.saber_windowed.specs.Entries.{lines_if, entries_by, lines_by, Gave, HandedOn}
-use Rattle.saber_windowed.proofs.Finding.{rising-filter, placed_rising}
+use Rattle.saber_windowed.proofs.Finding.{rising-filter, placed_rising, found_rises}
 use Rattle.saber_windowed.proofs.Entering.{no_lines, no_entries}
 use Rattle.saber_windowed.proofs.Spread.{seen, rows_among_in, by_number}
 use Rattle.saber_windowed.proofs.Beginning.{none_begun}
-use Rattle.saber_windowed.proofs.Answering.{rows_part, lines_of_rows}
+use Rattle.saber_windowed.proofs.Answering.{rows_part, lines_of_part}
 
 -- what is known of the bounds of a task
 pub record AreBounds (q : Tree) (a z : Mark) (b : Bounds) : Type 0 where
@@ -49,7 +48,7 @@ pub record Laws : Type 0 where
   pub begins : EndsBeginNone
   pub span : RowsSpan
 
-module _ (laws : Laws) (q : Tree) (checked : IsChecked q) (e : q.shape ≡ Select) (w : OneWindow q) (fits : Fits (frame q)) (m : Mark) (rows : List Row) (ended : Bool) (h : RowsFit q m rows) (b : Bounds) (given : AreBounds q m (ending ended (mark_after m rows)) b)
+module _ (laws : Laws) (q : Tree) (e : q.shape ≡ Select) (w : OneWindow q) (fits : Fits (frame q)) (m : Mark) (rows : List Row) (ended : Bool) (h : RowsFit q m rows) (b : Bounds) (given : AreBounds q m (ending ended (mark_after m rows)) b)
     (es : List (ℕ × List Found)) (sorted : T (is_sorted nat_cmp (seen es))) (holds : HoldsTask q m rows (seen_windows es)) where
   abbrev z : Mark
   z = ending ended (mark_after m rows)
@@ -81,7 +80,7 @@ module _ (laws : Laws) (q : Tree) (checked : IsChecked q) (e : q.shape ≡ Selec
   unfolding part_here
   part_is i =
       let us = filter (has (frame q) i) (placed_after m rows) in
-      rows_part q checked e us ∙ sym (ap (λ s. by_shape s (row_part q us) (group_part q (passing q us)) (pair_part q (m.left + m.right + 0) us)) e)
+      rows_part q us ∙ sym (ap (λ s. by_shape s (row_part q us) (group_part q (passing q us)) (pair_part q (m.left + m.right + 0) us)) e)
 
   entries_are : (wanted : Option Kind → Bool) → entries_by wanted b es ≡ of_kind wanted (frame q) m z (λ i. part_here q i m [] rows)
   unfolding of_kind
@@ -92,7 +91,7 @@ module _ (laws : Laws) (q : Tree) (checked : IsChecked q) (e : q.shape ≡ Selec
       ∙ sym (numbered_is given_kind c (n - c))
 
   here_lines : (i : ℕ) → lines_for i (values_in (at i)) ≡ part_lines q i (part_here q i m [] rows)
-  here_lines i = lines_of_rows q checked e i (filter (has (frame q) i) (placed_after m rows)) (rising-filter (has (frame q) i) (placed_after m rows) (placed_rising m rows)) ∙ ap (part_lines q i) (part_is i)
+  here_lines i = lines_of_part q e i (at i) (found_rises q _ (rising-filter (has (frame q) i) (placed_after m rows) (placed_rising m rows))) ∙ ap (part_lines q i) (part_is i)
 
   abbrev complete : ℕ → Bool
   complete i = is_complete (kind_of (frame q) i m z)

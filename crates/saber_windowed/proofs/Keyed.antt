@@ -12,7 +12,7 @@ use Rattle.std.specs.FinMap.{entries, find, is_sorted, get-from_entries, same_ma
 use Rattle.std.specs.FinMap.Entries.{below_all}
 use Rattle.saber_plan.specs.Answers.{key_cmp}
 use Rattle.saber_plan.specs.Merges.{join}
-use Rattle.saber_plan.specs.Parts.{Numbers, join_numbers, merge}
+use Rattle.saber_plan.specs.Parts.{Numbers, numbers_of_one, join_numbers, merge}
 use Rattle.saber_plan.specs.Facts.Lists.{and_T}
 use Rattle.saber_plan.specs.Facts.Maps.{get-both, join-none, equal_if, entries-from_rising}
 use Rattle.saber_plan.specs.Facts.Parts.{total, exact}
@@ -45,11 +45,15 @@ place_of [] = 0
 place_of (z ∷ zs) = nat_abs z
 
 abbrev row_of : List ℤ × Numbers → Found
-row_of e = (place_of e.0, e.1.firsts)
+row_of e = (place_of e.0, map (λ v. v.value) e.1.values)
+
+pub values_back : (zs : List ℤ) → map (λ v. v.value) (numbers_of_one zs).values ≡ zs
+values_back [] = refl
+values_back (z ∷ zs) = ap (λ l. z ∷ l) (values_back zs)
 
 rows_back : (es : List Found) → map row_of (map entry_of es) ≡ es
 rows_back [] = refl
-rows_back (e ∷ es) = ap (λ l. e ∷ l) (rows_back es)
+rows_back (e ∷ es) = λ j. (e.0, values_back e.1 j) ∷ rows_back es j
 
 pub same_rows : (a b : List Found) → Rises a → Rises b → part_of a ≡ part_of b → a ≡ b
 same_rows a b h k e = sym (rows_back a) ∙ ap (map row_of) (sym (entries_part a h) ∙ ap entries e ∙ entries_part b k) ∙ rows_back b

@@ -1,7 +1,7 @@
 pub mod Spotting
 pub mod Filled
 pub mod Entering
-pub mod Showing
+pub mod Fitting
 pub mod Putting
 pub mod Finding
 pub mod Task

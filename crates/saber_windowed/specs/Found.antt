@@ -6,7 +6,7 @@ use Rattle.saber_plan.specs.Trees.{Tree}
 use Rattle.saber_plan.specs.Values.{passes}
 use Rattle.saber_plan.specs.Windows.{Placed, place}
 use Rattle.saber_plan.specs.Answers.{key_cmp, line, row_answers}
-use Rattle.saber_plan.specs.Parts.{Part, Numbers}
+use Rattle.saber_plan.specs.Parts.{Part, Numbers, numbers_of_one}
 
 -- a row's position among all rows, and the values of the items over it
 abbrev pub Found : Type 0
@@ -40,12 +40,8 @@ pub record Precedes (a b : List Found) : Type 0 where
 
 -- ---- the part that they are
 
--- the numbers of a row, by the values of its items: a selection has no aggregates
-abbrev pub numbers_with : List ℤ → Numbers
-numbers_with zs = record { count = 1; sums = []; leasts = []; greatests = []; firsts = zs }
-
 abbrev pub entry_of : Found → List ℤ × Numbers
-entry_of e = (pos e.0 ∷ [], numbers_with e.1)
+entry_of e = (pos e.0 ∷ [], numbers_of_one e.1)
 
 abbrev pub part_of : List Found → Part
 part_of es = from_entries {R = key_cmp} (map entry_of es)

@@ -1,6 +1,6 @@
 pub mod Found
 pub mod Spots
-pub mod Showing
+pub mod Words
 pub mod Open
 pub mod Entries
 pub mod Sights

@@ -1,20 +1,21 @@
 // A selection with a window, over its plan.
-ghost use Rattle.std.specs.Prelude.{◌≡◌, ◌≤◌, ◌^◌, [], map, OnOk};
+ghost use Rattle.std.specs.Prelude.{◌≡◌, ◌≤◌, ◌^◌, [], OnOk};
 ghost use Rattle.std.specs.List.{AllByRecursion};
 ghost use Rattle.saber_plan.specs.declared.plans.Shape.TheVariants as shapes;
 ghost use Rattle.saber_plan.specs.Trees.{tree_of};
 ghost use Rattle.saber_plan.specs.Values as v;
-ghost use Rattle.saber_plan.specs.Checked.{IsChecked};
+ghost use Rattle.saber_plan.specs.Checked.{ExprFits, IsChecked};
 ghost use Rattle.saber_plan.specs.Windows as w;
-ghost use Rattle.saber_plan.specs.Answers.{frame, item_value};
+ghost use Rattle.saber_plan.specs.Answers.{frame, items_over};
 ghost use Rattle.saber_plan.specs.GivenRows.{IsRowOf};
 ghost use Rattle.saber_laws.specs.Plans.{OneWindow};
-ghost use Rattle.saber_windowed.specs.Showing.{HasWord, CanShow};
+ghost use Rattle.saber_eval.specs.Widths.{widths};
+ghost use Rattle.saber_windowed.specs.Words.{HasWord};
 
 use saber_eval::{holds, one_stream_fits, value};
 use saber_flat::RowRef;
 use saber_laws::{checked_fit, words_have_one_window};
-use saber_plan::{Item, Mark, NoMemory, Plan};
+use saber_plan::{Expr, Mark, NoMemory, Plan};
 use saber_window::{Lately, Windows, stamps_fit, step_mark};
 use std::marker::Model;
 
@@ -35,7 +36,7 @@ impl<'a> Model for WindowedSelect<'a> {
     ghost use Rattle.saber_plan.specs.Answers.{frame};
     ghost use Rattle.saber_plan.specs.contracts.predicates.Pred as e;
     ghost use Rattle.std.specs.Coded.{codes};
-    ghost use Rattle.saber_windowed.specs.Showing.{HasWord};
+    ghost use Rattle.saber_windowed.specs.Words.{HasWord};
 
     ghost Value = { Plan };
 
@@ -46,25 +47,14 @@ impl<'a> Model for WindowedSelect<'a> {
     ghost invariant = { λ s. IsChecked (tree_of s.plan.now) × ((tree_of s.plan.now).shape ≡ shapes.Select) × (s.windows ≡ frame (tree_of s.plan.now)) × HasWord (tree_of s.plan.now) };
 }
 
-// The value of an item over a row. A selection's items are expressions alone.
-fn item_value(item: &Item, row: &RowRef) -> i128
-    requires { CanShow row.now.values item.now }
-    ensures { result ≡ item_value row.now.values [] item.now }
-{
-    match item {
-        Item::Value(e) => value(e, row),
-        Item::Count | Item::Sum(_) | Item::Min(_) | Item::Max(_) => unreachable!(),
-    }
-}
-
 // The values of items over a row, in place of those that `values` has.
-fn put_values(values: &mut Vec<i128>, items: &[Item], row: &RowRef) -> Result<(), NoMemory>
-    requires { AllByRecursion (CanShow row.now.values) items.now }
-    ensures { OnOk result (values.new.items ≡ map (item_value row.now.values []) items.now) }
+fn put_values(values: &mut Vec<i128>, items: &[Expr], row: &RowRef) -> Result<(), NoMemory>
+    requires { AllByRecursion (ExprFits (widths row.now.values [])) items.now }
+    ensures { OnOk result (values.new.items ≡ items_over items.now row.now.values []) }
 {
     values.clear();
     for item in items {
-        values.push(item_value(item, row))?;
+        values.push(value(item, row))?;
     }
     Ok(())
 }
@@ -96,9 +86,9 @@ impl<'a> WindowedSelect<'a> {
     }
 
     // Its items can be worked out over a row of its stream.
-    fn can_show(&self, row: &RowRef)
+    fn items_fit(&self, row: &RowRef)
         requires { IsRowOf (tree_of self.now) row.now }
-        ensures { AllByRecursion (CanShow row.now.values) (tree_of self.now).items }
+        ensures { AllByRecursion (ExprFits (widths row.now.values [])) (tree_of self.now).items }
     {
         self.has_window();
         one_stream_fits();
@@ -120,9 +110,9 @@ impl<'a> WindowedSelect<'a> {
     /// Works out the values of the items over a row, in place of those that `values` has.
     pub(crate) fn work_out(&self, row: &RowRef, values: &mut Vec<i128>) -> Result<(), NoMemory>
         requires { IsRowOf (tree_of self.now) row.now }
-        ensures { OnOk result (values.new.items ≡ map (item_value row.now.values []) (tree_of self.now).items) }
+        ensures { OnOk result (values.new.items ≡ items_over (tree_of self.now).items row.now.values []) }
     {
-        self.can_show(row);
+        self.items_fit(row);
         put_values(values, self.plan.items(), row)
     }
 

@@ -2,11 +2,11 @@ use Rattle.std.proofs.Common.{T, sym, ◌∙◌, ap, subst, nat_cmp, nat_lt, nat
 use Rattle.std.specs.FinMap.{is_sorted, from_entries, entries, retain_keys}
 use Rattle.saber_plan.specs.Facts.Trees.{sorted_seen}
 use Rattle.saber_fragment.specs.Shown.{shares_of}
-use Rattle.saber_parts.specs.Stored.{parts_by, parts_from, CanTakeIn, ArePartsOf}
+use Rattle.saber_parts.specs.Stored.{parts_by, parts_from, CanTakeIn}
 use Rattle.saber_parts.specs.Changing.{Rises, Tells}
 use Rattle.saber_parts.proofs.Continuing.{taken_now_of, shown_joined}
 use Rattle.saber_parts.proofs.Cutting.{cut_from, cut_below}
-use Rattle.saber_parts.proofs.Changed.{Laws, rising, can, closed_parts, closed_rise_on, stands, told, handed}
+use Rattle.saber_parts.proofs.Changed.{Laws, rising, can, closed_rise_on, stands, told, handed}
 use Rattle.saber_parts.proofs.changes.settle_changes.Goals as goal
 
 pub take_in-requires-clause-rising : goal.take_in-requires-clause-rising
@@ -27,20 +27,8 @@ take_in-requires-clause-fits g c =
     subst (λ l. CanTakeIn q m (from_entries {R = nat_cmp} l)) (sym (shown_joined shown c.args.piece c.in_ok-parts.parts.items c.in_ok-parts.ensures))
     (can laws q m c.args.walk.now s c.requires.0 c.requires.1 c.requires.2 c.requires.3)
 
-pub walk_closed-requires-clause-parts : goal.walk_closed-requires-clause-parts
-walk_closed-requires-clause-parts g c =
-    let shown = g.A.Assembles.shown in
-    let q = g.A.Assembles.plan c.args.by.now in
-    let m = parts_by shown c.args.store.now.entries in
-    let s = shares_of shown c.args.piece in
-    let es = c.take_in.new.store.entries in
-    let laws : Laws = record { answers = c.answers_are_of_parts.ensures; stay = c.last_answers_stay.ensures; rise = c.handed_rise.ensures; parts = c.handed_parts_are.ensures; taken = c.handed_is_taken_in.ensures; behind = c.open_behind.ensures; opens = c.open_parts_are.ensures; closes = c.closed_rise.ensures } in
-    let below = cut_below shown c.args.piece.closed_below _ es c.in_ok-take_in.ensures (sorted_seen nat_cmp (λ k. k) shown es c.len-count.ensures.ordered) in
-    subst (ArePartsOf q) (sym (below ∙ ap (λ l. entries (retain_keys (taken_now_of m l) (λ i. nat_lt i c.args.piece.closed_below))) (shown_joined shown c.args.piece c.in_ok-parts.parts.items c.in_ok-parts.ensures)))
-    (closed_parts laws q m c.args.walk.now s c.requires.0 c.requires.1 c.requires.2 c.requires.3)
-
-pub walk_closed-requires-clause-rises : goal.walk_closed-requires-clause-rises
-walk_closed-requires-clause-rises g c =
+pub walk_closed-requires : goal.walk_closed-requires
+walk_closed-requires g c =
     let shown = g.A.Assembles.shown in
     let q = g.A.Assembles.plan c.args.by.now in
     let m = parts_by shown c.args.store.now.entries in

@@ -1,7 +1,6 @@
 use Rattle.std.proofs.Common.{◌≡◌, ◌+◌, ◌++◌, [], append-nil, append_assoc, sym, ◌∙◌, ap, subst, arith}
 use Rattle.saber_fragment.specs.Shown.{windows_by}
 use Rattle.saber_changes.specs.Walks.{Walks}
-use Rattle.saber_parts.specs.Stored.{ArePartsOf}
 use Rattle.saber_parts.specs.Changing.{Rises, Tells}
 use Rattle.saber_parts.proofs.Ranged.{range_below, walks_none, walks_on}
 use Rattle.saber_parts.proofs.changes.walk_closed.Goals as goal
@@ -16,8 +15,7 @@ loop-window-init g c =
       can = tt;
       finite = tt;
       from = omega arith;
-      rises = subst (λ l. Rises w.next c.args.closed_below (windows_by shown l)) (sym given) c.requires.rises;
-      parts = subst (λ l. ArePartsOf q (windows_by shown l)) (sym given) c.requires.parts;
+      rises = subst (λ l. Rises w.next c.args.closed_below (windows_by shown l)) (sym given) c.requires;
       told = λ at s t. (subst (λ l. Tells q at w.next c.args.closed_below (windows_by shown l)) (sym given) t, walks_none c.args.change at w c.args.out.now.items s);
       behind = record { more = []; all = sym (append-nil c.args.out.now.items) };
     }
@@ -42,7 +40,6 @@ loop-window-preserved g c =
       finite = tt;
       from = omega (arith, low, first, next);
       rises = subst (λ n. Rises n c.args.closed_below rest) next rises.2;
-      parts = (subst (λ l. ArePartsOf q (windows_by shown l)) left i.parts).1;
       told = λ at s t.
           let before = i.told at s t in
           let tells = subst (λ l. Tells q at mid.next c.args.closed_below (windows_by shown l)) left before.0 in

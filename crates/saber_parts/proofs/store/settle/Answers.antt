@@ -1,9 +1,9 @@
-use Rattle.std.proofs.Common.{◌≡◌, ◌++◌, T, refl, append_assoc, sym, ◌∙◌, ap, subst, nat_cmp, nat_lt}
-use Rattle.std.specs.FinMap.{is_sorted, from_entries, entries, retain_keys}
+use Rattle.std.proofs.Common.{◌≡◌, ◌++◌, T, refl, append_assoc, sym, ◌∙◌, ap, subst, nat_cmp}
+use Rattle.std.specs.FinMap.{is_sorted, from_entries}
 use Rattle.saber_plan.specs.Facts.Trees.{sorted_seen}
 use Rattle.saber_fragment.specs.Shown.{windows_by, shares_of}
-use Rattle.saber_parts.specs.Stored.{parts_by, closed_of, CanTakeIn, ArePartsOf, lines_of}
-use Rattle.saber_parts.proofs.Continuing.{rising_now, can_take_in, closed_parts, taken_now_of, shown_joined, left_is, written_is}
+use Rattle.saber_parts.specs.Stored.{parts_by, closed_of, CanTakeIn, lines_of}
+use Rattle.saber_parts.proofs.Continuing.{rising_now, can_take_in, shown_joined, left_is, written_is}
 use Rattle.saber_parts.proofs.Cutting.{cut_from, cut_below}
 use Rattle.saber_parts.proofs.store.settle.Goals as goal
 
@@ -20,17 +20,6 @@ take_in-requires-clause-fits g c =
     let m = parts_by shown c.args.store.now.entries in
     let s = shares_of shown c.args.piece in
     subst (λ l. CanTakeIn q m (from_entries {R = nat_cmp} l)) (sym (shown_joined shown c.args.piece c.in_ok-parts.parts.items c.in_ok-parts.ensures)) (can_take_in c.shares_make_piece.ensures c.open_parts_are.ensures c.piece_parts_are.ensures q m s c.requires)
-
-pub write_closed-requires : goal.write_closed-requires
-write_closed-requires g c =
-    let shown = g.A.Assembles.shown in
-    let q = g.A.Assembles.plan c.args.by.now in
-    let m = parts_by shown c.args.store.now.entries in
-    let s = shares_of shown c.args.piece in
-    let es = c.take_in.new.store.entries in
-    let below = cut_below shown c.args.piece.closed_below _ es c.in_ok-take_in.ensures (sorted_seen nat_cmp (λ k. k) shown es c.len-count.ensures.ordered) in
-    subst (ArePartsOf q) (sym (below ∙ ap (λ l. entries (retain_keys (taken_now_of m l) (λ i. nat_lt i c.args.piece.closed_below))) (shown_joined shown c.args.piece c.in_ok-parts.parts.items c.in_ok-parts.ensures)))
-    (closed_parts c.shares_make_piece.ensures c.taken_parts_are.ensures q m s c.args.piece.closed_below c.requires)
 
 pub returns-clause-taken : goal.returns-clause-taken
 returns-clause-taken g c =

@@ -1,7 +1,7 @@
-use Rattle.std.proofs.Common.{◌++◌, [], append-nil, sym, ◌∙◌, ap, subst, append_assoc}
+use Rattle.std.proofs.Common.{◌++◌, [], append-nil, sym, ◌∙◌, ap, append_assoc}
 use Rattle.saber_plan.specs.Parts.{part_lines}
 use Rattle.saber_fragment.specs.Shown.{windows_by}
-use Rattle.saber_parts.specs.Stored.{ArePartsOf, lines_of}
+use Rattle.saber_parts.specs.Stored.{lines_of}
 use Rattle.saber_parts.proofs.Ranged.{range_below}
 use Rattle.saber_parts.proofs.store.write_closed.Goals as goal
 
@@ -15,7 +15,6 @@ loop-window-init g c =
       finite = tt;
       rest = ap (λ l. c.args.out.now.items ++ lines_of q (windows_by shown l)) given;
       behind = record { more = []; all = sym (append-nil c.args.out.now.items) };
-      parts = subst (λ l. ArePartsOf q (windows_by shown l)) (sym given) c.requires;
     }
 
 pub loop-window-preserved : goal.loop-window-preserved
@@ -32,5 +31,4 @@ loop-window-preserved g c =
       finite = tt;
       rest = ap (λ l. l ++ rest) c.in_ok-lines.ensures.ok ∙ append_assoc old here rest ∙ ap (λ l. old ++ lines_of q (windows_by shown l)) (sym left) ∙ i.rest;
       behind = record { more = i.behind.more ++ here; all = c.in_ok-lines.ensures.ok ∙ ap (λ l. l ++ here) i.behind.all ∙ append_assoc c.args.out.now.items i.behind.more here };
-      parts = (subst (λ l. ArePartsOf q (windows_by shown l)) left i.parts).1;
     }

@@ -4,4 +4,4 @@ use Rattle.saber_join.proofs.Answering.{answers_of_part}
 use Rattle.saber_join.proofs.assembles.JoinAssembles.answers.Goals as goal
 
 pub returns : goal.returns
-returns c = c.in_ok-answers.ensures ∙ answers_of_part c.pairs_are_in_order.ensures (tree_of c.args.self.now) c.has_windows.ensures.checked c.has_windows.ensures.join c.args.part.now c.requires
+returns c = c.in_ok-answers.ensures ∙ answers_of_part (tree_of c.args.self.now) c.has_windows.ensures.join c.args.part.now

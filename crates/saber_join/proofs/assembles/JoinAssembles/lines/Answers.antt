@@ -7,6 +7,5 @@ use Rattle.saber_join.proofs.assembles.JoinAssembles.lines.Goals as goal
 pub returns-clause-ok : goal.returns-clause-ok
 returns-clause-ok c =
     let q = tree_of c.args.self.now in
-    let w = c.has_windows.ensures in
     let out = c.args.out.now.items in
-    subst (λ t. OnOk c.lines.result (c.lines.new.out.items ≡ out ++ t)) (lines_of_part c.pairs_are_in_order.ensures q w.checked w.join c.args.i c.args.part.now c.requires) c.lines.ensures.ok
+    subst (λ t. OnOk c.lines.result (c.lines.new.out.items ≡ out ++ t)) (lines_of_part q c.has_windows.ensures.join c.args.i c.args.part.now) c.lines.ensures.ok

@@ -55,11 +55,10 @@ returns c s seen whole =
       begins = c.ends_begin_none.ensures;
       span = c.rows_span.ensures;
       none = c.no_rows_no_part.ensures;
-      order = c.pairs_are_in_order.ensures;
     } in
     let first : c.mark_before-first.result ≡ mark_after s.first seen.passed = c.mark_before-first.ensures (mark_after s.first seen.passed) (ends_there q d s seen whole) seen.last in
     let parts = seen_parts es in
     let rest : HoldsTask q (closed_count (frame q) s.before) (mark_after s.first seen.passed) d.back d.rows parts = subst₂ (λ (m n : Mark). HoldsTask q (closed_count (frame q) n) m d.back d.rows parts) first seen.before c.in_ok-found.ensures.windows in
     let holds : HoldsTask q (closed_count (frame q) s.before) s.first (seen.passed ++ d.back) d.rows parts = holds_all laws.span q w.join w.fits (closed_count (frame q) s.before) s.first seen.passed d.back d.rows seen.none parts rest in
     let contents : HoldsTask q (closed_count (frame q) s.before) s.first s.back s.rows parts = subst₂ (λ l r. HoldsTask q (closed_count (frame q) s.before) s.first l r parts) (sym seen.back) seen.rows holds in
-    of_task laws q w.checked w.join w.windows w.fits s whole b given es (sorted_seen nat_cmp (λ k. k) (λ x. x) es c.len-count.ensures.ordered) (subst (λ m. HoldsTask q (closed_count (frame q) m) s.first s.back s.rows parts) whole.meets contents)
+    of_task laws q w.join w.windows w.fits s whole b given es (sorted_seen nat_cmp (λ k. k) (λ x. x) es c.len-count.ensures.ordered) (subst (λ m. HoldsTask q (closed_count (frame q) m) s.first s.back s.rows parts) whole.meets contents)

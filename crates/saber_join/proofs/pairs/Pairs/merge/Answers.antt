@@ -3,8 +3,8 @@ use Rattle.std.specs.FinMap.{insert, is_sorted}
 use Rattle.std.proofs.lemmas.Map.Iter.{rest_more, rest_all}
 use Rattle.saber_plan.specs.Answers.{key_cmp}
 use Rattle.saber_plan.specs.Facts.Maps.{rest_rises}
-use Rattle.saber_plan.specs.Parts.{merge}
-use Rattle.saber_join.specs.Found.{numbers_with, Apart, seen_entries, seen_pairs}
+use Rattle.saber_plan.specs.Parts.{numbers_of_one, merge}
+use Rattle.saber_join.specs.Found.{Apart, seen_entries, seen_pairs}
 use Rattle.saber_join.proofs.Keyed.{step_rest, step_apart}
 use Rattle.saber_plan.specs.Facts.Parts.{total, exact, merge-empty_right}
 use Rattle.saber_plan.specs.Facts.Trees.{sorted_seen, inserted}
@@ -17,7 +17,7 @@ loop-places-init c =
       can = tt;
       finite = tt;
       rest = ap (λ l. merge (seen_pairs c.self.inside.pairs.entries) (seen_pairs l)) all ∙ ap₂ merge c.self.view_is c.later.view_is;
-      rising = subst (λ l. T (is_sorted key_cmp (seen_entries l))) (sym all) (sorted_seen key_cmp (λ k. k) (λ v. numbers_with v.items) c.later.inside.pairs.entries c.len-count.ensures.ordered);
+      rising = subst (λ l. T (is_sorted key_cmp (seen_entries l))) (sym all) (sorted_seen key_cmp (λ k. k) (λ v. numbers_of_one v.items) c.later.inside.pairs.entries c.len-count.ensures.ordered);
       apart = subst₂ Apart (sym c.self.view_is) (sym (ap seen_pairs all ∙ c.later.view_is)) c.requires;
     }
 
@@ -28,9 +28,9 @@ loop-places-preserved-in_ok-insert c =
     let k = c.in-Some.places in
     let v = c.in-Some.values in
     let m = seen_pairs es in
-    let b = numbers_with v.items in
+    let b = numbers_of_one v.items in
     let more = seen_entries c.next.new.self in
-    let new : seen_pairs c.insert.new.self.entries ≡ insert m k b = ap seen_pairs c.in_ok-insert.ensures.entries ∙ inserted key_cmp (λ k. k) (λ v. numbers_with v.items) total exact k v es in
+    let new : seen_pairs c.insert.new.self.entries ≡ insert m k b = ap seen_pairs c.in_ok-insert.ensures.entries ∙ inserted key_cmp (λ k. k) (λ v. numbers_of_one v.items) total exact k v es in
     let rises : T (is_sorted key_cmp ((k, b) ∷ more)) = subst (λ l. T (is_sorted key_cmp (seen_entries l))) left c.loop-places.invariant.rising in
     let apart : Apart m (seen_pairs ((k, v) ∷ c.next.new.self)) = subst (λ l. Apart m (seen_pairs l)) left c.loop-places.invariant.apart in
     record {
@@ -48,9 +48,9 @@ loop-places-preserved c =
     let k = c.in-Some.places in
     let v = c.in-Some.values in
     let m = seen_pairs es in
-    let b = numbers_with v.items in
+    let b = numbers_of_one v.items in
     let more = seen_entries c.next.new.self in
-    let new : seen_pairs c.insert.new.self.entries ≡ insert m k b = ap seen_pairs c.in_ok-insert.ensures.entries ∙ inserted key_cmp (λ k. k) (λ v. numbers_with v.items) total exact k v es in
+    let new : seen_pairs c.insert.new.self.entries ≡ insert m k b = ap seen_pairs c.in_ok-insert.ensures.entries ∙ inserted key_cmp (λ k. k) (λ v. numbers_of_one v.items) total exact k v es in
     let rises : T (is_sorted key_cmp ((k, b) ∷ more)) = subst (λ l. T (is_sorted key_cmp (seen_entries l))) left c.loop-places.invariant.rising in
     let apart : Apart m (seen_pairs ((k, v) ∷ c.next.new.self)) = subst (λ l. Apart m (seen_pairs l)) left c.loop-places.invariant.apart in
     record {

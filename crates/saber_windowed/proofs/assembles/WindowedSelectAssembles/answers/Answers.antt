@@ -4,4 +4,4 @@ use Rattle.saber_windowed.proofs.Answering.{answers_of_part}
 use Rattle.saber_windowed.proofs.assembles.WindowedSelectAssembles.answers.Goals as goal
 
 pub returns : goal.returns
-returns c = c.in_ok-answers.ensures ∙ answers_of_part (tree_of c.args.self.now) c.has_window.ensures.checked c.has_window.ensures.select c.args.part.now c.rises.ensures c.requires
+returns c = c.in_ok-answers.ensures ∙ answers_of_part (tree_of c.args.self.now) c.has_window.ensures.select c.args.part.now c.rises.ensures

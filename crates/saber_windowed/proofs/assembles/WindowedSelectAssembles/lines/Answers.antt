@@ -7,6 +7,5 @@ use Rattle.saber_windowed.proofs.assembles.WindowedSelectAssembles.lines.Goals a
 pub returns-clause-ok : goal.returns-clause-ok
 returns-clause-ok c =
     let q = tree_of c.args.self.now in
-    let w = c.has_window.ensures in
     let out = c.args.out.now.items in
-    subst (λ t. OnOk c.lines.result (c.lines.new.out.items ≡ out ++ t)) (lines_of_part q w.checked w.select c.args.i c.args.part.now c.rises.ensures c.requires) c.lines.ensures.ok
+    subst (λ t. OnOk c.lines.result (c.lines.new.out.items ≡ out ++ t)) (lines_of_part q c.has_window.ensures.select c.args.i c.args.part.now c.rises.ensures) c.lines.ensures.ok

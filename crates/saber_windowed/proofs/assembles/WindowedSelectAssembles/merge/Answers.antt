@@ -6,9 +6,9 @@ use Rattle.saber_windowed.proofs.Answering.{neighbors_precede}
 use Rattle.saber_windowed.proofs.assembles.WindowedSelectAssembles.merge.Goals as goal
 
 pub merge-requires : goal.merge-requires
-merge-requires c = neighbors_precede (tree_of c.args.self.now) c.has_window.ensures.checked c.has_window.ensures.select c.args.into.now c.args.from c.rises.ensures c.rises-2.ensures c.requires
+merge-requires c = neighbors_precede (tree_of c.args.self.now) c.has_window.ensures.select c.args.into.now c.args.from c.rises.ensures c.rises-2.ensures c.requires
 
 pub returns : goal.returns
 returns c =
     ap part_of c.in_ok-merge.ensures
-    ∙ parts_merge c.args.into.now c.args.from (neighbors_precede (tree_of c.args.self.now) c.has_window.ensures.checked c.has_window.ensures.select c.args.into.now c.args.from c.rises.ensures c.rises-2.ensures c.requires)
+    ∙ parts_merge c.args.into.now c.args.from (neighbors_precede (tree_of c.args.self.now) c.has_window.ensures.select c.args.into.now c.args.from c.rises.ensures c.rises-2.ensures c.requires)

@@ -32,4 +32,4 @@ returns c =
       lines = c.into_piece.ensures.text j;
       closed = c.into_piece.ensures.closed j;
     })
-    ∙ handed_are laws q w.checked w.select w.window w.fits own.before own.rows own.ended c.requires b given es (sorted_seen nat_cmp (λ k. k) (λ x. x) es c.len-count.ensures.ordered) c.in_ok-found.ensures.windows g.closing g.pending g.opening g.text.items c.in_ok-gathered.ensures
+    ∙ handed_are laws q w.select w.window w.fits own.before own.rows own.ended c.requires b given es (sorted_seen nat_cmp (λ k. k) (λ x. x) es c.len-count.ensures.ordered) c.in_ok-found.ensures.windows g.closing g.pending g.opening g.text.items c.in_ok-gathered.ensures

@@ -1,0 +1,29 @@
+-- What the plan of a selection with a window says of its rows and of its items.
+use Rattle.std.proofs.Common.{◌≡◌, List, [], ℤ, subst, subst₂}
+use Rattle.std.specs.List.{AllByRecursion}
+use Rattle.saber_plan.specs.declared.rows.Side.TheVariants.{Left}
+use Rattle.saber_plan.specs.declared.rows.Row.{Row}
+use Rattle.saber_plan.specs.declared.plans.Shape.TheVariants.{Select}
+use Rattle.saber_plan.specs.Trees.{Tree}
+use Rattle.saber_plan.specs.Rows.{RowFits}
+use Rattle.saber_plan.specs.Checked.{ExprFits, IsChecked, ItemFits, columns_on, group_width}
+use Rattle.saber_plan.specs.GivenRows.{IsRowOf}
+use Rattle.saber_plan.specs.Facts.Rows.{is_left}
+use Rattle.saber_eval.specs.Widths.{widths}
+use Rattle.saber_eval.specs.Fitting.{OneStreamFits, PlanFits}
+use Rattle.saber_laws.specs.Plans.{OneWindow}
+
+-- ---- rows
+
+-- a row of the one stream
+row_fits : (q : Tree) (w : OneWindow q) (r : Row) → IsRowOf q r → RowFits Left w.stream.columns r
+row_fits q w r h = subst₂ (λ side ss. RowFits side (columns_on ss side) r) (is_left q w.stream w.streams r h) w.streams h.fits
+
+-- which its plan fits
+pub plan_fits : OneStreamFits → (q : Tree) → IsChecked q → (w : OneWindow q) (r : Row) → IsRowOf q r → PlanFits q (widths r.values [])
+plan_fits fit q checked w r h = fit q w.stream r checked w.streams (row_fits q w r h)
+
+-- ---- items
+
+pub items_fit : (q : Tree) (zs : List ℤ) → q.shape ≡ Select → PlanFits q (widths zs []) → AllByRecursion (ExprFits (widths zs [])) q.items
+items_fit q zs e h = subst (λ s. AllByRecursion (ItemFits s (widths zs []) (group_width q)) q.items) e h.items
