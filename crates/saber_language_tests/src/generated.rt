@@ -39,7 +39,8 @@ fn a_summary(rt: HostRuntime) -> Result<(), Fail> {
 #[test]
 fn plan(rt: HostRuntime) -> Result<(), Fail> {
     let plan = demo_plan(rt.alloc())?;
-    assert!(rt; plan.shape() == Shape::Group && plan.items().len() == 3);
+    assert!(rt; plan.shape() == Shape::Group);
+    assert!(rt; plan.aggregates().len() == 1 && plan.items().len() == 3);
     assert!(rt; plan.keys() == [1].as_slice());
     plan.let_go();
     Ok(())

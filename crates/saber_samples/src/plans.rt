@@ -1,11 +1,13 @@
 // Plans.
 ghost use Rattle.std.specs.Prelude.{◌≡◌, ◌≤◌, ◌∷◌, [], IfOk};
 ghost use Rattle.saber_plan.specs.declared.plans.Shape.TheVariants as h;
-ghost use Rattle.saber_plan.specs.Checked.{Pairs, WindowFits};
+ghost use Rattle.saber_plan.specs.Checked.{lone, Pairs, WindowFits};
 ghost use Rattle.saber_plan.specs.Trees.{tree_of};
 ghost use Rattle.saber_samples.specs.Asking.{IsOfOne, IsJoinOf, HasStreams, with_window};
 
-use saber_plan::{Expr, Item, Measure, NoMemory, Plan, Shape, Stream, Window};
+use saber_plan::{
+    Expr, Factor, Factors, Measure, NoMemory, Plan, Product, Shape, Side, Stream, Window,
+};
 use std::alloc::Global;
 
 /// A window.
@@ -17,6 +19,23 @@ pub fn window(measure: Measure, size: u64, slide: u64) -> Window
         size,
         slide,
     }
+}
+
+// A group's number at this place.
+fn lone(alloc: Global, index: u32) -> Result<Expr, NoMemory>
+    ensures { IfOk result (λ e. e ≡ lone index) }
+{
+    let column = Factor::Column {
+        side: Side::Left,
+        index,
+    };
+    let factors = vec![in alloc; column]?;
+    let product = Product {
+        minus: false,
+        factors: Factors::from_vec(factors),
+    };
+    let products = vec![in alloc; product]?;
+    Ok(Expr::from_vec(products))
 }
 
 /// COUNT(*) over one stream of so many columns, in this window.
@@ -33,8 +52,15 @@ pub fn counts(alloc: Global, columns: u32, window: Window) -> Result<Plan, NoMem
         window: Some(window),
     };
     let streams = vec![in alloc; stream]?;
-    let items = vec![in alloc; Item::Count]?;
-    Ok(Plan::new(Shape::Group, streams, items, Vec::new(alloc), None))
+    let items = vec![in alloc; lone(alloc, 0)?]?;
+    Ok(Plan::new(
+        Shape::Group,
+        streams,
+        Vec::new(alloc),
+        items,
+        Vec::new(alloc),
+        None,
+    ))
 }
 
 /// The number of nothing, 0, for each pair of rows of two streams of so many columns, in one of these windows each.
@@ -57,6 +83,13 @@ pub fn pairs(alloc: Global, columns: u32, left: Window, right: Window) -> Result
         window: Some(right),
     };
     let streams = vec![in alloc; first, second]?;
-    let items = vec![in alloc; Item::Value(Expr::from_vec(Vec::new(alloc)))]?;
-    Ok(Plan::new(Shape::Join, streams, items, Vec::new(alloc), None))
+    let items = vec![in alloc; Expr::from_vec(Vec::new(alloc))]?;
+    Ok(Plan::new(
+        Shape::Join,
+        streams,
+        Vec::new(alloc),
+        items,
+        Vec::new(alloc),
+        None,
+    ))
 }

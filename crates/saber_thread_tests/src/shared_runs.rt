@@ -11,7 +11,7 @@ use crate::runs::{counts, sizes, source, told_of};
 use crate::texts::assert_same;
 use saber_engine::{Inputs, Job, Ran, engines};
 use saber_io::{MemSink, OpenGate, Plain};
-use saber_plan::{Expr, Item, Measure, NoMemory, Plan, Shape, Stream, Window};
+use saber_plan::{Expr, Measure, NoMemory, Plan, Shape, Stream, Window};
 use std::alloc::{AllocError, Global};
 use std::sync::Wait;
 use std::test::Fail;
@@ -34,8 +34,15 @@ fn zeros(alloc: Global) -> Result<Plan, NoMemory>
         window: None,
     };
     let streams = vec![in alloc; stream]?;
-    let items = vec![in alloc; Item::Value(Expr::from_vec(Vec::new(alloc)))]?;
-    Ok(Plan::new(Shape::Select, streams, items, Vec::new(alloc), None))
+    let items = vec![in alloc; Expr::from_vec(Vec::new(alloc))]?;
+    Ok(Plan::new(
+        Shape::Select,
+        streams,
+        Vec::new(alloc),
+        items,
+        Vec::new(alloc),
+        None,
+    ))
 }
 
 type Query<'p> = Job<'p, Plain<MemSink>>;

@@ -73,7 +73,8 @@ fn joined_lines(
     first: &Partial,
     second: &Partial,
 ) -> Result<Vec<u8>, NoMemory>
-    requires { CanMerge first.now second.now }
+    requires group { IsOfOne shapes.Group 3 plan.now }
+    requires can { CanMerge first.now second.now }
 {
     let mut out = Vec::new(alloc);
     first.lines_with(second, plan, 7, &mut out)?;
@@ -86,7 +87,8 @@ fn merged_lines(
     first: &Partial,
     second: &Partial,
 ) -> Result<Vec<u8>, NoMemory>
-    requires { CanMerge first.now second.now }
+    requires group { IsOfOne shapes.Group 3 plan.now }
+    requires can { CanMerge first.now second.now }
 {
     let mut out = Vec::new(alloc);
     first.merged(alloc, second)?.lines(plan, 7, &mut out)?;
@@ -99,7 +101,8 @@ fn lent_lines(
     first: &Partial,
     second: &Partial,
 ) -> Result<Vec<u8>, NoMemory>
-    requires { CanMerge first.now second.now }
+    requires group { IsOfOne shapes.Group 3 plan.now }
+    requires can { CanMerge first.now second.now }
 {
     let mut part = first.copy(alloc)?;
     part.merge_from(alloc, second)?;
@@ -114,7 +117,8 @@ fn given_lines(
     first: Partial,
     second: Partial,
 ) -> Result<Vec<u8>, NoMemory>
-    requires { CanMerge first second }
+    requires group { IsOfOne shapes.Group 3 plan.now }
+    requires can { CanMerge first second }
 {
     let mut part = first;
     part.merge(second)?;
@@ -129,7 +133,8 @@ fn answered_lines(
     first: &Partial,
     second: &Partial,
 ) -> Result<Vec<u8>, NoMemory>
-    requires { CanMerge first.now second.now }
+    requires group { IsOfOne shapes.Group 3 plan.now }
+    requires can { CanMerge first.now second.now }
 {
     let answers = first.merged(alloc, second)?.answers(alloc, plan)?;
     let mut out = Vec::new(alloc);
@@ -160,6 +165,7 @@ fn queued_lines<L: Ledger>(
     second: &Partial,
     blank: Blank,
 ) -> Result<(Vec<u8>, Vec<u8>), NoMemory>
+    requires group { IsOfOne shapes.Group 3 plan.now }
     requires can { CanMerge first.now second.now }
     requires name { blank.name ≡ L.name }
     requires parts { blank.parts ≡ L.parts }
@@ -183,7 +189,8 @@ fn check_queue(
     second: &Partial,
     wanted: &str,
 ) -> Result<(), NoMemory>
-    requires { CanMerge first.now second.now }
+    requires group { IsOfOne shapes.Group 3 plan.now }
+    requires can { CanMerge first.now second.now }
 {
     let (lines, others) = queued_lines::<Brand>(alloc, plan, first, second, Blank::new(1))?;
     assert_text(rt, lines, wanted);
@@ -199,7 +206,8 @@ fn check_parts(
     second: Partial,
     wanted: &str,
 ) -> Result<(), NoMemory>
-    requires { CanMerge first second }
+    requires group { IsOfOne shapes.Group 3 plan.now }
+    requires can { CanMerge first second }
 {
     assert_text(rt, joined_lines(alloc, plan, &first, &second)?, wanted);
     assert_text(rt, merged_lines(alloc, plan, &first, &second)?, wanted);
@@ -270,6 +278,10 @@ SELECT g, SUM(v), MIN(v), MAX(v), COUNT(*) FROM S [ROWS 3 SLIDE 3] GROUP BY g
 SELECT g, v, COUNT(*) FROM S [ROWS 3 SLIDE 3] GROUP BY g, v
 # The first group by the second column.
 0,2,7 1,1,9 2,2,-3 3,1,9 | 4,1,-9 5,2,7 = 7,1,-9,1;7,1,9,2;7,2,-3,1;7,2,7,2;
+
+SELECT SUM(v), g, COUNT(*), MIN(v) FROM S [ROWS 3 SLIDE 3] GROUP BY v, g
+# In another order than a group has its numbers, of whose key one column is printed.
+0,2,7 1,1,9 2,2,7 | 3,1,9 4,2,9 = 7,14,2,2,7;7,18,1,2,9;7,9,2,1,9;
 ";
 
 #[test]
@@ -315,7 +327,8 @@ fn lines_of_pile<L: Ledger>(
     pile: &mut Pile,
     steps: &mut Steps<L>,
 ) -> Result<Vec<u8>, NoMemory>
-    requires { CanMerge first.now pile.old.part }
+    requires group { IsOfOne shapes.Group 3 plan.now }
+    requires can { CanMerge first.now pile.old.part }
     ensures { OnOk result (pile.new.part ≡ pile.old.part) }
 {
     let mut out = Vec::new(alloc);
@@ -332,7 +345,8 @@ fn answers_of_pile<L: Ledger>(
     pile: &mut Pile,
     steps: &mut Steps<L>,
 ) -> Result<Vec<u8>, NoMemory>
-    requires { CanMerge first.now pile.old.part }
+    requires group { IsOfOne shapes.Group 3 plan.now }
+    requires can { CanMerge first.now pile.old.part }
 {
     let mut out = Vec::new(alloc);
     let both = pile.answers_behind(alloc, first, plan, steps)?;

@@ -23,7 +23,7 @@ run_each-result-requires-clause-share g c κs within =
     (columns, all_share tree_in columns c.args.jobs.items c.requires.checked c.requires.one alike)
 
 pub run_each-result-requires-send-O : goal.run_each-result-requires-send-O
-run_each-result-requires-send-O g c κs within = search (sendable, crosses, plan_sync) depth 40 fits 20000
+run_each-result-requires-send-O g c κs within = search (sendable, crosses, plan_sync) depth 52 fits 20000
 
 pub run_each-result-requires-sync-O : goal.run_each-result-requires-sync-O
-run_each-result-requires-sync-O g c κs within = search (sendable, crosses, plan_sync) depth 40 fits 20000
+run_each-result-requires-sync-O g c κs within = search (sendable, crosses, plan_sync) depth 52 fits 20000
