@@ -3,7 +3,7 @@
 //! plan of one that passes is sound. The demo and the top call use it.
 //!
 //! - Parts: `names`, `shape` and `bounds` (tests), `fault` and `walk` (the first fault so far),
-//!   `conditions`, `parts` and `whole` (a walk over all words), `expressions`, `predicates`,
+//!   `conditions`, `clauses` and `whole` (a walk over all words), `expressions`, `predicates`,
 //!   `outputs` (what groups gather, and what is printed) and `plans` (the plan of a faultless
 //!   query), `query` and `text` (the calls), `laws`.
 //! - Calls: `check` takes a parsed `Query`, `plan_of` a text; both give a `Plan`, or the first
@@ -17,13 +17,13 @@
 #![tactic(auto)]
 
 mod bounds;
+mod clauses;
 mod conditions;
 mod expressions;
 mod fault;
 mod laws;
 mod names;
 mod outputs;
-mod parts;
 mod plans;
 mod predicates;
 mod query;

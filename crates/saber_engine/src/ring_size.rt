@@ -27,7 +27,7 @@ pub(crate) fn ring_size(plan: &Plan, sizes: &Sizes) -> u32
     ensures all { length (tree_of plan.now).streams ≢ 1 → result ≡ sizes.now.ring }
 {
     if plan.streams().len() == 1 {
-        sizes.ring.min(NEAR + NEAR_A_THREAD * sizes.threads)
+        near_size(sizes, sizes.threads)
     } else {
         sizes.ring
     }

@@ -3,16 +3,15 @@ use Rattle.std.proofs.Common.{◌≡◌, ℕ, ◌+◌, ◌-◌, ◌/◌, ◌≤�
 use Rattle.std.specs.Option.{option_map_or}
 use Rattle.std.specs.Ordering.{nat_cmp}
 use Rattle.std.specs.FinMap.{empty, from_entries}
-use Rattle.std.proofs.lemmas.Bool.{lt-leb}
+use Rattle.std.proofs.lemmas.Bool.{le-leb}
 use Rattle.std.proofs.lemmas.List.{take_all}
 use Rattle.saber_plan.specs.declared.rows.Row.{Row}
 use Rattle.saber_plan.specs.declared.plans.Shape.TheVariants.{Group}
 use Rattle.saber_plan.specs.Trees.{Tree}
 use Rattle.saber_plan.specs.GivenRows.{RowsFit}
 use Rattle.saber_plan.specs.Inputs.{Input, arrived}
-use Rattle.saber_plan.specs.declared.windows.Measure.{Measure}
-use Rattle.saber_plan.specs.declared.windows.Measure.TheVariants.{Rows, Range}
-use Rattle.saber_plan.specs.Windows.{one, has_windows, no_rows, mark_of, mark_after, ending, mark_at, closed_count, begun_count, from}
+use Rattle.saber_plan.specs.Facts.Counts as counts
+use Rattle.saber_plan.specs.Windows.{Fits, has_windows, no_rows, mark_of, mark_after, ending, mark_at, closed_count, begun_count, from}
 use Rattle.saber_plan.specs.Answers.{by_shape, frame, lines, lines_from, selected, alike, way}
 use Rattle.saber_plan.specs.Facts.Kept.{alike_added}
 use Rattle.saber_plan.specs.Parts.{Part, part, part_lines}
@@ -128,23 +127,8 @@ module _ (q : Tree) (r : Input) (x y : ℕ) (s : SliceStore) (p : SlicePiece) (k
 
 -- ---- no rows
 
-no_count : (b : Bool) (n : ℕ) → b ≡ false → 0 ≡ cond b n 0
-no_count true n e = cc
-no_count false n e = refl
-
-no_closed : (measure : Measure) (slide size : ℕ) → 1 ≤ size → 0 ≡ closed_count (one measure slide size) no_rows
-no_closed Rows slide size h = no_count (nat_le size 0) ((0 - size) / slide + 1) (lt-leb size 0 h)
-no_closed Range slide size h = refl
-
-no_begun : (measure : Measure) (slide size : ℕ) → 0 ≡ begun_count (one measure slide size) no_rows
-no_begun Rows slide size = refl
-no_begun Range slide size = refl
-
 pub none_closed : (q : Tree) → OneWindow q → 0 ≡ closed_count (frame q) no_rows
-none_closed q w = subst (λ f. 0 ≡ closed_count f no_rows) (sym w.has_frame) (no_closed w.window.measure w.window.slide w.window.size w.fits.size.0)
-
-pub none_begun : (q : Tree) → OneWindow q → 0 ≡ begun_count (frame q) no_rows
-none_begun q w = subst (λ f. 0 ≡ begun_count f no_rows) (sym w.has_frame) (no_begun w.window.measure w.window.slide w.window.size)
+none_closed q w = sym (counts.none_closed (frame q) (subst Fits (sym w.has_frame) (le-leb 1 w.window.slide w.fits.slide.0, le-leb 1 w.window.size w.fits.size.0)))
 
 pub nothing_held : (s : SliceStore) → s.windows.next ≡ 0 → s.begun ≡ 0 → held_in s ≡ empty
 unfolding from

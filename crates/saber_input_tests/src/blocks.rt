@@ -5,7 +5,7 @@ ghost use Rattle.saber_plan.specs.declared.sizes.Sizes.{Sizes};
 ghost use Rattle.saber_plan.specs.Inputs.{Input};
 ghost use Rattle.saber_plan.specs.Sizes.{SizesFit};
 ghost use Rattle.saber_plan.specs.Trees.{Tree, tree_of};
-ghost use Rattle.saber_plan.specs.Checked.{lone, IsChecked, WindowFits};
+ghost use Rattle.saber_plan.specs.Checked.{IsChecked, WindowFits};
 ghost use Rattle.saber_dispatch.specs.Sources.{Lefts, each_input};
 ghost use Rattle.saber_dispatch.specs.Cutting.{Cuts};
 ghost use Rattle.saber_dispatch.specs.Keeping.{CountsRows};
@@ -16,9 +16,7 @@ use saber_dispatch::{Cut, Cutter, End, Inputs, Keeper};
 use saber_flat::Rows;
 use saber_fragment::Block;
 use saber_io::{MemSource, Source};
-use saber_plan::{
-    Expr, Factor, Factors, Measure, NoMemory, Plan, Product, Shape, Side, Sizes, Stream, Window,
-};
+use saber_plan::{Expr, Measure, NoMemory, Plan, Shape, Sizes, Stream, Window};
 use std::alloc::Global;
 use std::process::Abort;
 use std::test::Fail;
@@ -97,23 +95,6 @@ fn stream(window: Window) -> Stream
     }
 }
 
-// A group's number at this place.
-fn lone(alloc: Global, index: u32) -> Result<Expr, NoMemory>
-    ensures { IfOk result (λ e. e ≡ lone index) }
-{
-    let column = Factor::Column {
-        side: Side::Left,
-        index,
-    };
-    let factors = vec![in alloc; column]?;
-    let product = Product {
-        minus: false,
-        factors: Factors::from_vec(factors),
-    };
-    let products = vec![in alloc; product]?;
-    Ok(Expr::from_vec(products))
-}
-
 // Pairs the rows of both streams in each window.
 fn join(alloc: Global) -> Result<Plan, NoMemory>
     ensures checked { IfOk result (λ p. IsChecked (tree_of p)) }
@@ -138,7 +119,7 @@ fn counts(alloc: Global, window: Window) -> Result<Plan, NoMemory>
     ensures one { IfOk result (λ p. (a : Stream) × ((tree_of p).streams ≡ a ∷ [])) }
 {
     let streams = vec![in alloc; stream(window)]?;
-    let items = vec![in alloc; lone(alloc, 0)?]?;
+    let items = vec![in alloc; Expr::lone(alloc, 0)?]?;
     Ok(Plan::new(
         Shape::Group,
         streams,
@@ -167,7 +148,7 @@ pub(crate) fn keyed(alloc: Global) -> Result<Plan, NoMemory>
     ensures one { IfOk result (λ p. (a : Stream) × ((tree_of p).streams ≡ a ∷ [])) }
 {
     let streams = vec![in alloc; stream(OF_TWO_ROWS)]?;
-    let items = vec![in alloc; lone(alloc, 0)?]?;
+    let items = vec![in alloc; Expr::lone(alloc, 0)?]?;
     let columns = vec![in alloc; 1]?;
     let plan = Plan::new(
         Shape::Group,

@@ -15,6 +15,5 @@ pub mod Task
 pub mod Answering
 pub mod Parting
 pub mod Beginning
-pub mod Fresh
 pub mod Finishing
 pub mod Passing

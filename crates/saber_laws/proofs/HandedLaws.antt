@@ -1,5 +1,5 @@
 -- What is handed on of windows, and what is there once it is taken in.
-use Rattle.std.proofs.Common.{◌≡◌, ℕ, ◌+◌, ◌-◌, ◌≤◌, ◌<◌, max, [], ◌++◌, Bool, true, false, cond, nat_le, Option, None, T, refl, sym, ◌∙◌, ap, ap₂, subst, le_trans, zero-le, append-nil, ⊎_elim, arith, nat_cmp}
+use Rattle.std.proofs.Common.{◌≡◌, ℕ, ◌-◌, ◌≤◌, ◌<◌, max, [], ◌++◌, Bool, true, false, cond, nat_le, Option, None, T, refl, sym, ◌∙◌, ap, ap₂, subst, le_trans, zero-le, append-nil, ⊎_elim, arith, nat_cmp}
 use Rattle.std.proofs.lemmas.Bool.{le-ltb, le-leb, lt-leb, cases_lt}
 use Rattle.std.proofs.lemmas.Bool.Decides.{nat_tests}
 use Rattle.std.specs.Cmp.{nat_cmp_total}

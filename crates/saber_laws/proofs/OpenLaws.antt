@@ -1,25 +1,21 @@
 -- An open part is that of its window over the rows so far, and a part of a piece is that over the task's rows.
-use Rattle.std.proofs.Common.{◌≡◌, ℕ, ◌-◌, ◌≤◌, ◌<◌, length, take, Bool, true, false, cond, nat_le, ◌==◌, Option, Some, None, refl, sym, ◌∙◌, ap, ap₂, le_trans, zero-le, ⊎_elim, arith}
+use Rattle.std.proofs.Common.{◌≡◌, ℕ, ◌-◌, ◌≤◌, ◌<◌, length, take, Bool, true, false, cond, nat_le, ◌==◌, Some, None, sym, ◌∙◌, ap, le_trans, ⊎_elim, arith}
 use Rattle.std.proofs.lemmas.Bool.{le-ltb, le-leb, lt-leb, cases_lt}
 use Rattle.std.proofs.lemmas.Bool.Decides.{nat_tests}
-use Rattle.std.specs.Cmp.{nat_cmp_total}
 use Rattle.std.specs.FinMap.{len, get, len-empty}
 use Rattle.saber_plan.specs.Trees.{Tree}
 use Rattle.saber_plan.specs.Inputs.{Input, arrived}
 use Rattle.saber_plan.specs.Windows.{Fits, Ordered, no_rows, mark_at, closed_count, begun_count, kind_of}
 use Rattle.saber_plan.specs.Answers.{key_cmp, frame}
-use Rattle.saber_plan.specs.Merges.{join}
-use Rattle.saber_plan.specs.Parts.{Part, no_part, part, Numbers, merge}
+use Rattle.saber_plan.specs.Parts.{Part, no_part, part, Numbers}
 use Rattle.saber_plan.specs.Shares.{full}
 use Rattle.saber_plan.specs.Tasks.{unclosed, piece_between}
-use Rattle.saber_plan.specs.Facts.Maps.{get-both}
-use Rattle.saber_laws.specs.Shares.{Between, OpenPartsAre, PiecePartsAre, TakenPartsAre}
-use Rattle.saber_plan.specs.Facts.Parts.{merge-empty_left}
+use Rattle.saber_laws.specs.Shares.{Between, OpenPartsAre, PiecePartsAre}
 use Rattle.saber_laws.proofs.WindowLaws.{begun_is, closed_within_begun}
 use Rattle.saber_laws.proofs.NumberedLaws.{get_low, get_in, get_high}
 use Rattle.saber_laws.proofs.DirectLaws.{is_part, parts_between}
-use Rattle.saber_laws.proofs.EndLaws.{closed_rises, begun_rises, join_at, part_upto, part_not_begun}
-use Rattle.saber_laws.proofs.AssemblyLaws.{full-merge, count_kind, kind_is}
+use Rattle.saber_laws.proofs.EndLaws.{closed_rises, part_upto, part_not_begun}
+use Rattle.saber_laws.proofs.AssemblyLaws.{count_kind, kind_is}
 
 -- ---- a part that isn't empty is itself
 
@@ -44,10 +40,6 @@ no_part_low ca ga cb gb i l = grind (arith, nat_tests)
 
 no_part_high : (ca ga cb gb i : ℕ) → gb ≤ i → is_part (count_kind ca ga cb gb i) ≡ false
 no_part_high ca ga cb gb i l = grind (arith, nat_tests)
-
--- a window that is open before the rows has a part of them
-open_has_part : (ca ga cb gb i : ℕ) → ga ≤ gb → ca ≤ i → i < ga → is_part (count_kind ca ga cb gb i) ≡ true
-open_has_part ca ga cb gb i r l b = grind (arith, nat_tests)
 
 -- ---- the maps of parts, window by window
 
@@ -101,31 +93,3 @@ open_parts q r x y t i p e = kept_is (open_before q r x i) (part q i r.rows 0 x)
 
 pub piece_parts : PiecePartsAre
 piece_parts q r x y t i p e = kept_is (has_part q r x y i) (part q i r.rows x y) p (sym (piece_at q r x y t i) ∙ e)
-
--- ---- taking in
-
-none_taken : (o : Option Part) (s : Part) → o ≡ None → o ≡ Some s → ⊥
-none_taken o s n e = cc
-
-alone : (b : Bool) (p : Part) (o : Option Part) → p ≡ no_part → join merge (cond b (full p) None) o ≡ o
-alone true p o n = ap (λ m. join merge m o) (ap full n ∙ full_nothing)
-alone false p o n = refl
-
--- an open window gets the piece's part, and one that isn't begun before has that part alone
-taken_case : (ca ga cb gb i : ℕ) (p r s : Part) → ga ≤ gb → (ga ≤ i → p ≡ no_part) → join merge (cond (nat_le ca i) (full p) None) (cond (is_part (count_kind ca ga cb gb i)) (full r) None) ≡ Some s → s ≡ merge p r
-taken_case ca ga cb gb i p r s h n e = ⊎_elim
-    (λ l. absurd (none_taken (join merge (cond (nat_le ca i) (full p) None) (cond (is_part (count_kind ca ga cb gb i)) (full r) None)) s (ap₂ (λ b c. join merge (cond b (full p) None) (cond c (full r) None)) (lt-leb ca i l) (no_part_low ca ga cb gb i l)) e))
-    (λ l. ⊎_elim
-    (λ b. full_is (merge p r) s (full-merge p r ∙ sym (ap₂ (λ b c. join merge (cond b (full p) None) (cond c (full r) None)) (le-leb ca i l) (open_has_part ca ga cb gb i h l b)) ∙ e))
-    (λ b. kept_is (is_part (count_kind ca ga cb gb i)) r s (sym (alone (nat_le ca i) p (cond (is_part (count_kind ca ga cb gb i)) (full r) None) (n b)) ∙ e) ∙ sym (ap (λ m. merge m r) (n b) ∙ merge-empty_left r))
-    (cases_lt i ga))
-    (cases_lt i ca)
-
-pub taken_parts : TakenPartsAre
-taken_parts q r x y t i p e =
-    let f = frame q in
-    let a = mark_at r x in
-    let b = mark_at r y in
-    taken_case (closed_count f a) (begun_count f a) (closed_count f b) (begun_count f b) i (part q i r.rows 0 x) (part q i r.rows x y) p (begun_rises f t.fits r x y t.ordered t.rises) (part_before q t.fits r x i t.ordered)
-    (sym (get-both nat_cmp_total merge (unclosed q (arrived r x)) (piece_between q r x y).parts i ∙ ap₂ (join merge) (unclosed_at q t.fits r x i t.ordered) (piece_at q r x y t i)) ∙ e)
-    ∙ sym (join_at q i r.rows 0 x y zero-le t.rises)

@@ -2,7 +2,7 @@
 use Rattle.std.proofs.Common.{◌≡◌, ℕ, ◌≤◌, ◌<◌, max, List, [], ◌∷◌, ◌++◌, filter, flat_map, Bool, true, false, cond, nat_le, nat_lt, T, Option, Some, None, ℤ, refl, sym, ◌∙◌, ap, subst, append-nil, le_refl, arith}
 use Rattle.std.specs.Cmp.{tied_itself}
 use Rattle.std.specs.Ordering.{eq_by_cmp, is_lt}
-use Rattle.std.specs.FinMap.{get, insert, entries, from_entries, find, is_sorted, get-insert}
+use Rattle.std.specs.FinMap.{get, insert, from_entries, find, is_sorted, get-insert}
 use Rattle.std.specs.FinMap.Entries.{below_all}
 use Rattle.std.proofs.lemmas.Bool.{lt-leb, le-leb, false_from_ne_true}
 use Rattle.std.proofs.lemmas.Bool.Decides.{nat_tests}
@@ -19,10 +19,10 @@ use Rattle.saber_plan.specs.Answers.{key_cmp, pair_key, pairs_with, pairs, is_le
 use Rattle.saber_plan.specs.Merges.{joined}
 use Rattle.saber_plan.specs.Parts.{Part, Numbers, pair_numbers, pair_part, later, join_numbers, merge}
 use Rattle.saber_plan.specs.Pairing.{row_pairs, with_entries}
-use Rattle.saber_plan.specs.Facts.Maps.{equal_if, both-empty_right, entries-from_rising, not_below, take_one}
-use Rattle.saber_plan.specs.Facts.Lists.{Each, each-filter, each-map, each-weaker, each-all, kept, dropped, filter-flat_map, flat_map-same, flat_map-none, T_parts, and_T}
+use Rattle.saber_plan.specs.Facts.Maps.{equal_if, both-empty_right, not_below, take_one}
+use Rattle.saber_plan.specs.Facts.Lists.{Each, each-filter, each-map, each-weaker, each-all, kept, dropped, filter-flat_map, flat_map-same, flat_map-none, T_parts}
 use Rattle.saber_plan.specs.Facts.Parts.{total, exact}
-use Rattle.saber_laws.proofs.PairLaws.{Rising, rising-filter, Numbered, with-append, find_early, sorted_with, sorted_all, get-pair_part, pair_part-join, sorted_pairs}
+use Rattle.saber_laws.proofs.PairLaws.{Rising, rising-filter, Numbered, with-append, find_early, sorted_with, sorted_all, get-pair_part, pair_part-join}
 
 -- ---- late pairs
 
@@ -172,17 +172,3 @@ push_case q x i us r false e s g h = ap (pair_part q x) (append-nil _)
 pub window-push : (q : Tree) (x i : ℕ) (us : List Placed) (r : Placed) → Rising us → Each (λ y. place y < place r) us → x ≤ place r
     → pair_part q x (filter (has (frame q) i) (us ++ r ∷ [])) ≡ cond (has (frame q) i r) (with_entries (pair_part q x (filter (has (frame q) i) us)) (row_pairs q r (filter is_left (filter (has (frame q) i) us)) (filter is_right (filter (has (frame q) i) us)))) (pair_part q x (filter (has (frame q) i) us))
 window-push q x i us r s g h = ap (pair_part q x) (filter-append (has (frame q) i) us (r ∷ [])) ∙ push_case q x i us r _ refl s g h
-
--- ---- the entries of late pairs
-
-below_filter : (p : Numbered → Bool) (k : List ℤ) (es : List Numbered) → T (below_all key_cmp k es) → T (below_all key_cmp k (filter p es))
-below_filter p k [] h = tt
-below_filter p k (e ∷ es) h = let t = T_parts _ _ h in elim (p e) as (λ b. T (below_all key_cmp k (cond b (e ∷ filter p es) (filter p es)))) [ true ↦ and_T _ _ t.0 (below_filter p k es t.1) | false ↦ below_filter p k es t.1 ]
-
-sorted_filter : (p : Numbered → Bool) (es : List Numbered) → T (is_sorted key_cmp es) → T (is_sorted key_cmp (filter p es))
-sorted_filter p [] h = tt
-sorted_filter p (e ∷ es) h = let t = T_parts _ _ h in elim (p e) as (λ b. T (is_sorted key_cmp (cond b (e ∷ filter p es) (filter p es)))) [ true ↦ and_T _ _ (below_filter p e.0 es t.0) (sorted_filter p es t.1) | false ↦ sorted_filter p es t.1 ]
-
--- the entries of a part are its pairs, in order
-pub entries-late_pairs : (q : Tree) (n : ℕ) (us : List Placed) → Rising us → entries (pair_part q n us) ≡ filter (late n) (pairs q (pair_numbers q) us)
-entries-late_pairs q n us r = ap (λ m. entries m) (late_part q n us) ∙ entries-from_rising total exact _ (sorted_filter (late n) _ (sorted_pairs q us r))

@@ -6,20 +6,19 @@ use Rattle.std.proofs.lemmas.List.Elements.{filter-append}
 use Rattle.saber_plan.specs.Values.{passes}
 use Rattle.saber_plan.specs.declared.rows.Row.{Row}
 use Rattle.saber_plan.specs.declared.plans.Shape.TheVariants.{Group}
-use Rattle.saber_plan.specs.declared.windows.Measure.TheVariants.{Rows, Range}
 use Rattle.saber_plan.specs.Trees.{Tree}
 use Rattle.saber_plan.specs.Inputs.{Input, arrived, going_on}
-use Rattle.saber_plan.specs.Windows.{Frame, unwindowed, one, two, has_windows, Fits, no_rows, mark_of, last_mark, mark_at, begun, begun_count, closed_count, Ordered, kind_of, from, has, inside, Placed, placed_after}
+use Rattle.saber_plan.specs.Windows.{has_windows, Fits, no_rows, mark_of, last_mark, mark_at, begun, begun_count, closed_count, Ordered, kind_of, from, has, inside, Placed, placed_after}
 use Rattle.saber_plan.specs.Answers.{frame, lines, text, plain_text, by_shape, by_frame, passing, selected, keys_of, window_answers, before_window, change_lines, change_text, closed_in_turn, key_text, alike, by_list, by_change, way, by_way}
 use Rattle.saber_plan.specs.Parts.{Part, part, part_lines, row_part, group_part, pair_part, merge}
 use Rattle.saber_plan.specs.declared.windows.Kind.{Kind}
 use Rattle.saber_plan.specs.Shares.{full, numbered, is_complete, is_closing, is_pending, is_opening, of_kind, piece_in, shares_between}
 use Rattle.saber_plan.specs.Tasks.{cut, upto, unclosed, unclosed_by_list, last_answers, kept_behind, by_windows, nothing_kept, plain_added, change_added, list_added, added, take_in, joined_to, stage_at, PiecesMakeText, piece, piece_between, written_by, left_by}
+use Rattle.saber_plan.specs.Facts.Counts.{none_begun, none_closed}
 use Rattle.saber_plan.specs.Facts.Lists.{slice-take}
 use Rattle.saber_plan.specs.Facts.Parts.{merge-empty_left}
 use Rattle.saber_laws.proofs.PartLaws.{group_part-append}
 use Rattle.saber_laws.proofs.RowLaws.{slice-placed}
-use Rattle.saber_laws.proofs.WindowLaws.{closed_within_begun}
 use Rattle.saber_laws.proofs.ShareLaws.{passing-append, part-take, shaped}
 use Rattle.saber_laws.proofs.EndLaws.{join_at, part_not_begun, lines_upto, arrived_twice}
 use Rattle.saber_laws.proofs.TaskCutLaws.{cut_rises, no_cut}
@@ -54,16 +53,6 @@ stage_step q e w n r o start k = λ i. record {
 pub joined_is : (q : Tree) → way q ≡ alike → Fits (frame q) → (n : ℕ) (r : Input) → Ordered no_rows r.rows → (start : List ℕ) (k : ℕ) → joined_to q n r (stage_at q n r start 0) k ≡ stage_at q n r start k
 joined_is q e w n r o start zero = refl
 joined_is q e w n r o start (suc k) = ap (λ s. take_in q s (piece q n r k)) (joined_is q e w n r o start k) ∙ stage_step q e w n r o start k ∙ ap (stage_at q n r start) (sym (suc_is k))
-
-none_begun : (f : Frame) → begun_count f no_rows ≡ 0
-none_begun unwindowed = refl
-none_begun (one Rows s n) = refl
-none_begun (one Range s n) = refl
-none_begun (two Rows s n k) = refl
-none_begun (two Range s n k) = refl
-
-none_closed : (f : Frame) → Fits f → closed_count f no_rows ≡ 0
-none_closed f w = omega (arith, closed_within_begun f w no_rows, none_begun f)
 
 no_windows : (f : ℕ → List ℕ) (n : ℕ) → n ≡ 0 → flat_map f (from 0 n) ≡ []
 unfolding from

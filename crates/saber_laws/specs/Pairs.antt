@@ -1,12 +1,11 @@
--- Laws of the pairs of a join: one more row, and their order.
-use Rattle.std.specs.Prelude.{◌≡◌, ℕ, ◌≤◌, List, [], ◌∷◌, ◌++◌, filter, Bool, if◌then◌else◌, nat_le}
-use Rattle.std.specs.FinMap.{entries}
+-- Laws of the pairs of a join: one more row.
+use Rattle.std.specs.Prelude.{◌≡◌, ℕ, ◌≤◌, List, [], ◌∷◌, ◌++◌, filter, Bool, if◌then◌else◌}
 use Rattle.saber_plan.specs.declared.rows.Row.{Row}
 use Rattle.saber_plan.specs.declared.windows.Mark.{Mark}
 use Rattle.saber_plan.specs.Trees.{Tree}
 use Rattle.saber_plan.specs.Windows.{Placed, place, placed_after, mark_after, has}
-use Rattle.saber_plan.specs.Answers.{is_left, is_right, pairs, frame}
-use Rattle.saber_plan.specs.Parts.{Part, pair_numbers, pair_part, later}
+use Rattle.saber_plan.specs.Answers.{is_left, is_right, frame}
+use Rattle.saber_plan.specs.Parts.{Part, pair_part}
 use Rattle.saber_plan.specs.Pairing.{row_pairs, with_entries}
 
 -- a row after some rows that follow a mark
@@ -28,9 +27,3 @@ WindowsGetPairs = (q : Tree) (x i : ℕ) (m : Mark) (xs : List Row) (r : Row) �
     → pair_part q x (filter (has (frame q) i) (placed_after m (xs ++ r ∷ [])))
     ≡ (let chosen = filter (has (frame q) i) (placed_after m xs) in
     if has (frame q) i (after_rows m xs r) then with_row q x chosen (after_rows m xs r) else pair_part q x chosen)
-
--- the entries of a part are its pairs, in order
-abbrev pub PairsAreInOrder : Type 0
-PairsAreInOrder = (q : Tree) (x : ℕ) (chosen : Placed → Bool) (m : Mark) (xs : List Row)
-    → entries (pair_part q x (filter chosen (placed_after m xs)))
-    ≡ filter (λ e. nat_le x (later e.0)) (pairs q (pair_numbers q) (filter chosen (placed_after m xs)))

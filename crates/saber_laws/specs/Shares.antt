@@ -8,7 +8,7 @@ use Rattle.saber_plan.specs.Inputs.{Input, arrived}
 use Rattle.saber_plan.specs.Windows.{Fits, Ordered, no_rows, mark_at}
 use Rattle.saber_plan.specs.Answers.{frame}
 use Rattle.saber_plan.specs.Parts.{Part, part}
-use Rattle.saber_plan.specs.Tasks.{cut, unclosed, piece_between, taken_in}
+use Rattle.saber_plan.specs.Tasks.{cut, unclosed, piece_between}
 use Rattle.saber_plan.specs.Needs.{back_mark, back_rows, task_rows, task_ends}
 use Rattle.saber_plan.specs.Shares.{entries_in, piece_in, shares_here, shares_between, handed_here, handed_between}
 
@@ -51,8 +51,3 @@ OpenPartsAre = (q : Tree) (r : Input) (x y : ℕ) → Between q r x y → (i : �
 -- a part of a piece is that of its window over the task's rows
 abbrev pub PiecePartsAre : Type 0
 PiecePartsAre = (q : Tree) (r : Input) (x y : ℕ) → Between q r x y → (i : ℕ) (p : Part) → get (piece_between q r x y).parts i ≡ Some p → p ≡ part q i r.rows x y
-
--- and, once it is taken in, over all rows up to the task's end
-abbrev pub TakenPartsAre : Type 0
-TakenPartsAre = (q : Tree) (r : Input) (x y : ℕ) → Between q r x y → (i : ℕ) (p : Part)
-    → get (taken_in q (unclosed q (arrived r x)) (piece_between q r x y)) i ≡ Some p → p ≡ part q i r.rows 0 y

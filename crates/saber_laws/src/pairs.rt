@@ -1,5 +1,5 @@
 // Laws of the pairs of a join.
-ghost use Rattle.saber_laws.specs.Pairs.{RowsAddPairs, WindowsGetPairs, PairsAreInOrder};
+ghost use Rattle.saber_laws.specs.Pairs.{RowsAddPairs, WindowsGetPairs};
 
 /// A row after some rows adds its pairs with them to a part.
 pub fn rows_add_pairs()
@@ -9,9 +9,4 @@ pub fn rows_add_pairs()
 /// A row after some rows adds its pairs to each window that has it, and to no other.
 pub fn windows_get_pairs()
     ensures { WindowsGetPairs }
-{}
-
-/// The entries of a join's part are its pairs, in order.
-pub fn pairs_are_in_order()
-    ensures { PairsAreInOrder }
 {}

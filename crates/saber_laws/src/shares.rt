@@ -1,5 +1,5 @@
 // Laws of what a task gives, its parts apart by kind.
-ghost use Rattle.saber_laws.specs.Shares.{SharesMakePiece, SharesRise, SharesAreLocal, SharesNeedNoMore, HandedAreLocal, HandedNeedsNoMore, OpenPartsAre, PiecePartsAre, TakenPartsAre};
+ghost use Rattle.saber_laws.specs.Shares.{SharesMakePiece, SharesRise, SharesAreLocal, SharesNeedNoMore, HandedAreLocal, HandedNeedsNoMore, OpenPartsAre, PiecePartsAre};
 
 /// The parts of closing, pending and opening windows together are the piece.
 pub fn shares_make_piece()
@@ -39,9 +39,4 @@ pub fn open_parts_are()
 /// The parts of a piece are those of the task's rows.
 pub fn piece_parts_are()
     ensures { PiecePartsAre }
-{}
-
-/// The parts after a piece is taken in are those of all rows up to the task's end.
-pub fn taken_parts_are()
-    ensures { TakenPartsAre }
 {}

@@ -5,15 +5,34 @@ use Rattle.std.proofs.lemmas.Bool.{both_ways, leb-true, leb-false, le-leb, lt-le
 use Rattle.std.proofs.lemmas.Nat.{le-div}
 use Rattle.std.proofs.Math.Nat.{div-mul-le_self, div-lt_iff_lt-mul, le-div_iff_mul-le, div-mul_cancel, dvd-mul_left_of_dvd}
 use Rattle.saber_plan.specs.declared.rows.Row.{Row}
+use Rattle.saber_plan.specs.declared.rows.Side.{Side}
 use Rattle.saber_plan.specs.declared.rows.Side.TheVariants.{Left, Right}
+use Rattle.saber_plan.specs.declared.windows.Stream.{Stream}
 use Rattle.saber_plan.specs.declared.windows.Mark.{Mark}
 use Rattle.saber_plan.specs.declared.windows.Measure.{Measure}
 use Rattle.saber_plan.specs.declared.windows.Measure.TheVariants.{Rows, Range}
+use Rattle.saber_plan.specs.Checked.{columns_on}
+use Rattle.saber_plan.specs.GivenRows.{IsRowOf}
+use Rattle.saber_plan.specs.Trees.{Tree}
 use Rattle.saber_plan.specs.Rows.{stamp}
-use Rattle.saber_plan.specs.Windows.{time, placed_after, step_mark, by_side, spans, Ordered, in_order, can_follow}
+use Rattle.saber_window.specs.Points.{point}
+use Rattle.saber_plan.specs.Windows.{Placed, time, placed_after, step_mark, by_side, spans, Ordered, in_order, can_follow}
 use Rattle.saber_plan.specs.Facts.Lists.{Each, each-weaker}
 use Rattle.saber_panes.specs.Panes.{point_by}
 use Rattle.saber_panes.proofs.PaneWindows.{Rises, within}
+
+-- ---- the points of a group query's rows, which are of the one stream
+
+left_only : (s : Stream) (side : Side) → 1 ≤ columns_on (s ∷ []) side → side ≡ Left
+left_only s Left h = refl
+left_only s Right h = absurd (omega (arith, h))
+
+pub row_is_left : (q : Tree) (s : Stream) (r : Row) → q.streams ≡ s ∷ [] → IsRowOf q r → r.side ≡ Left
+row_is_left q s r e h = left_only s r.side (subst (λ ss. 1 ≤ columns_on ss r.side) e h.stream)
+
+pub point_of_left : (measure : Measure) (x : Placed) → x.row.side ≡ Left → point measure x ≡ point_by measure x
+point_of_left Rows x e = ap (λ s. by_side s x.before.left x.before.right) e
+point_of_left Range x e = refl
 
 -- ---- points don't fall
 

@@ -5,17 +5,16 @@ ghost use Rattle.saber_plan.specs.Trees.{tree_of};
 ghost use Rattle.saber_plan.specs.Answers.{frame};
 ghost use Rattle.saber_plan.specs.Checked.{IsChecked, WindowFits};
 ghost use Rattle.saber_plan.specs.GivenRows.{IsRowOf};
-ghost use Rattle.saber_plan.specs.Rows.{stamp};
 ghost use Rattle.saber_plan.specs.Values as v;
 ghost use Rattle.saber_plan.specs.Windows as w;
 ghost use Rattle.saber_plan.specs.Windows.{one};
-ghost use Rattle.saber_panes.specs.Panes.{divisor, first_pane, is_counted, pane_count, pane_of, point_by};
+ghost use Rattle.saber_panes.specs.Panes.{divisor, first_pane, is_counted, pane_count, pane_of};
 
 use saber_eval::{holds, one_stream_fits};
 use saber_flat::RowRef;
 use saber_laws::groups_have_one_window;
-use saber_plan::{Mark, Measure, Plan, Window};
-use saber_window::{Windows, stamps_fit, step_mark};
+use saber_plan::{Mark, Plan, Window};
+use saber_window::{Windows, point, stamps_fit, step_mark};
 use std::marker::Model;
 
 // The greatest common divisor, by Euclid's steps.
@@ -55,26 +54,6 @@ pub(crate) fn width_of(window: &Window) -> u64
     ensures some { 1 ≤ result }
 {
     divisor(window.size, window.slide)
-}
-
-// The timestamp of a row; 0 where it has none.
-fn stamp(row: &RowRef) -> u64
-    ensures { result ≡ stamp row.now.values }
-{
-    match row.values().first() {
-        Some(time) => time.unsigned_abs(),
-        None => 0,
-    }
-}
-
-// What sizes and slides count of a row.
-fn point(measure: Measure, row: &RowRef, before: &Mark) -> u64
-    ensures { result ≡ point_by measure (record { row = row.now; before = before.now }) }
-{
-    match measure {
-        Measure::Rows => before.left,
-        Measure::Range => stamp(row),
-    }
 }
 
 /// A group query's windows and how its points are cut into panes, worked out once a call. Contracts
@@ -126,9 +105,11 @@ impl<'a> Cuts<'a> {
 
     /// The pane of a row.
     pub(crate) fn pane_of(&self, row: &RowRef, before: &Mark) -> u64
+        requires { IsRowOf (tree_of self.now) row.now }
         ensures { result ≡ pane_of (frame (tree_of self.now)) (record { row = row.now; before = before.now }) }
     {
         let _plan = &self.plan;
+        groups_have_one_window();
         point(self.window.measure, row, before) / self.width
     }
 

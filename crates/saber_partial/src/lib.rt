@@ -3,7 +3,7 @@
 //! it.
 //!
 //! - Parts, from below: `layout`, `sources`, `aggregates` (what a plan asks of each row), `folds`,
-//!   `joins`, `first_row`, `later_row` and `tally` (numbers of one group), `table`, `places` and
+//!   `joined_values`, `first_row`, `later_row` and `tally` (numbers of one group), `table`, `places` and
 //!   `merges` (groups in one list), `groups` and `rows` (`Partial`), `row_parts` (`RowParts`: parts
 //!   of one row each, in one list), `row_merges` (one of them taken in), `young`, `piles` and
 //!   `gathering` (rows gathered, few groups at a time), `headings`, `printed`, `lines` and
@@ -35,7 +35,7 @@ mod groups;
 mod headings;
 mod joined_answers;
 mod joined_lines;
-mod joins;
+mod joined_values;
 mod later_row;
 mod laws;
 mod layout;

@@ -9,7 +9,7 @@ ghost use Rattle.saber_partial.specs.Flat.{entry_in, IsLayout, IsRow, Suits};
 
 use crate::aggregates::Aggregates;
 use crate::first_row::write_values;
-use crate::joins::join_values;
+use crate::joined_values::join_values;
 use crate::later_row::add_values;
 use crate::layout::Layout;
 use saber_flat::RowRef;

@@ -22,17 +22,7 @@ pub record RowsFit (q : Tree) (m : Mark) (xs : List Row) : Type 0 where
   pub left : (mark_after m xs).left ≤ 2 ^ 40
   pub right : (mark_after m xs).right ≤ 2 ^ 40
 
--- the part of a window over some of such rows
-pub record IsPartOf (q : Tree) (p : Part) : Type 0 where
-  pub window : ℕ
-  pub rows : List Row
-  pub from : ℕ
-  pub to : ℕ
-  pub fits : RowsFit q no_rows rows
-  pub rises : from ≤ to
-  pub is : p ≡ part q window rows from to
-
--- the parts of one window over rows that follow one another
+-- the parts of one window over such rows that follow one another
 pub record AreNeighbors (q : Tree) (a b : Part) : Type 0 where
   pub window : ℕ
   pub rows : List Row

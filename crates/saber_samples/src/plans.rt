@@ -1,13 +1,11 @@
 // Plans.
 ghost use Rattle.std.specs.Prelude.{◌≡◌, ◌≤◌, ◌∷◌, [], IfOk};
 ghost use Rattle.saber_plan.specs.declared.plans.Shape.TheVariants as h;
-ghost use Rattle.saber_plan.specs.Checked.{lone, Pairs, WindowFits};
+ghost use Rattle.saber_plan.specs.Checked.{Pairs, WindowFits};
 ghost use Rattle.saber_plan.specs.Trees.{tree_of};
 ghost use Rattle.saber_samples.specs.Asking.{IsOfOne, IsJoinOf, HasStreams, with_window};
 
-use saber_plan::{
-    Expr, Factor, Factors, Measure, NoMemory, Plan, Product, Shape, Side, Stream, Window,
-};
+use saber_plan::{Expr, Measure, NoMemory, Plan, Shape, Stream, Window};
 use std::alloc::Global;
 
 /// A window.
@@ -19,23 +17,6 @@ pub fn window(measure: Measure, size: u64, slide: u64) -> Window
         size,
         slide,
     }
-}
-
-// A group's number at this place.
-fn lone(alloc: Global, index: u32) -> Result<Expr, NoMemory>
-    ensures { IfOk result (λ e. e ≡ lone index) }
-{
-    let column = Factor::Column {
-        side: Side::Left,
-        index,
-    };
-    let factors = vec![in alloc; column]?;
-    let product = Product {
-        minus: false,
-        factors: Factors::from_vec(factors),
-    };
-    let products = vec![in alloc; product]?;
-    Ok(Expr::from_vec(products))
 }
 
 /// COUNT(*) over one stream of so many columns, in this window.
@@ -52,7 +33,7 @@ pub fn counts(alloc: Global, columns: u32, window: Window) -> Result<Plan, NoMem
         window: Some(window),
     };
     let streams = vec![in alloc; stream]?;
-    let items = vec![in alloc; lone(alloc, 0)?]?;
+    let items = vec![in alloc; Expr::lone(alloc, 0)?]?;
     Ok(Plan::new(
         Shape::Group,
         streams,

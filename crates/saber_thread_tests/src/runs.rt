@@ -4,14 +4,12 @@ ghost use Rattle.saber_plan.specs.declared.plans.Shape.TheVariants as shapes;
 ghost use Rattle.saber_plan.specs.declared.rows.Side.TheVariants as sides;
 ghost use Rattle.saber_plan.specs.Trees.{tree_of};
 ghost use Rattle.saber_io.specs.MemFeeds.{taken_of, waiting_of};
-ghost use Rattle.saber_plan.specs.Checked.{lone, IsChecked, WindowFits, columns_on};
+ghost use Rattle.saber_plan.specs.Checked.{IsChecked, WindowFits, columns_on};
 
 use crate::texts::{assert_same, bytes_of, parts};
 use saber_engine::{Inputs, Ran, RunEnd, engine, engine_fed};
 use saber_io::{EndMark, MemFeed, MemSink, MemSource, OpenGate};
-use saber_plan::{
-    Expr, Factor, Factors, Measure, NoMemory, Plan, Product, Shape, Side, Sizes, Stream, Window,
-};
+use saber_plan::{Expr, Measure, NoMemory, Plan, Shape, Sizes, Stream, Window};
 use std::alloc::Global;
 use std::process::Abort;
 use std::sync::Wait;
@@ -30,23 +28,6 @@ const RANGE: Window = Window {
     slide: 2,
 };
 
-// A group's number at this place.
-fn lone(alloc: Global, index: u32) -> Result<Expr, NoMemory>
-    ensures { IfOk result (λ e. e ≡ lone index) }
-{
-    let column = Factor::Column {
-        side: Side::Left,
-        index,
-    };
-    let factors = vec![in alloc; column]?;
-    let product = Product {
-        minus: false,
-        factors: Factors::from_vec(factors),
-    };
-    let products = vec![in alloc; product]?;
-    Ok(Expr::from_vec(products))
-}
-
 // COUNT(*) over one stream of three columns.
 pub(crate) fn counts(alloc: Global, window: Window) -> Result<Plan, NoMemory>
     requires { WindowFits window }
@@ -58,7 +39,7 @@ pub(crate) fn counts(alloc: Global, window: Window) -> Result<Plan, NoMemory>
         window: Some(window),
     };
     let streams = vec![in alloc; stream]?;
-    let items = vec![in alloc; lone(alloc, 0)?]?;
+    let items = vec![in alloc; Expr::lone(alloc, 0)?]?;
     Ok(Plan::new(
         Shape::Group,
         streams,

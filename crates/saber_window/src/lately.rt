@@ -8,7 +8,7 @@ ghost use Rattle.saber_plan.specs.Needs.{first_window, past_window};
 ghost use Rattle.saber_window.specs.Stretches.{IsStretch};
 
 use crate::counts::count_to;
-use crate::rows::point;
+use crate::marks::point;
 use crate::steps::next_other;
 use crate::windowed::{Windowed, windowed_of};
 use saber_flat::RowRef;

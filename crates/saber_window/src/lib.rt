@@ -1,8 +1,8 @@
 //! The arithmetic of windows: which have a point or a row, and how many are begun and closed.
 //! Panes, groups, joins and dispatch ask it for all that they do with windows.
 //!
-//! - Parts: `counts` and `points` (windows up to a point, and of one), `rows` (times, and marks
-//!   behind rows), `plans` (straight from a plan), `windowed` and `plan_windows` (`Windows`, made
+//! - Parts: `counts` and `points` (windows up to a point, and of one), `marks` (points of rows, and
+//!   marks behind them), `plans` (straight from a plan), `windowed` and `plan_windows` (`Windows`, made
 //!   once a task), `steps` and `slices` (where rows of the same windows end), `lately` (windows
 //!   kept till a row leaves them), `frees` (how far back a task looks), `tasks` (windows in
 //!   two tasks), `laws`.
@@ -22,10 +22,10 @@ mod counts;
 mod frees;
 mod lately;
 mod laws;
+mod marks;
 mod plan_windows;
 mod plans;
 mod points;
-mod rows;
 mod slices;
 mod steps;
 mod tasks;
@@ -34,8 +34,8 @@ mod windowed;
 pub use frees::free_of;
 pub use lately::Lately;
 pub use laws::{closed_within_begun, past_have_none, stamps_fit};
+pub use marks::{ending, mark_behind, point, step_mark};
 pub use plan_windows::Windows;
 pub use plans::{begun_below, closed_below, kind_of};
 pub use points::windows_of;
-pub use rows::{ending, mark_behind, step_mark};
 pub use tasks::may_lie_in_two;

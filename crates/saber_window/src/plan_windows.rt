@@ -11,8 +11,8 @@ ghost use Rattle.saber_window.specs.Together.{IsLeft, LieTogether};
 
 use crate::counts::{count_reached, count_to};
 use crate::laws::closed_within_begun;
+use crate::marks::point;
 use crate::points::{ends_by, spans};
-use crate::rows::point;
 use crate::slices::{rows_end, times_end};
 use crate::windowed::{Windowed, windowed_of};
 use saber_flat::{RowRef, Rows};

@@ -5,7 +5,7 @@ ghost use Rattle.saber_plan.specs.declared.windows.Measure.TheVariants as measur
 ghost use Rattle.saber_plan.specs.Windows.{one, Ordered};
 ghost use Rattle.saber_window.specs.Together.{IsBelow, IsLeft, LieTogether};
 
-use crate::rows::stamp;
+use crate::marks::stamp;
 use crate::steps::next_other;
 use saber_flat::Rows;
 use saber_plan::Mark;

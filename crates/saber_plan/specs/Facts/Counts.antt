@@ -1,5 +1,6 @@
--- Facts on how many tasks some rows make, and on how many rows a mark counts. Any proof may cite them.
-use Rattle.std.proofs.Common.{◌≡◌, ◌≤◌, ◌<◌, ℕ, ◌+◌, ◌*◌, length, List, [], ◌∷◌, ◌∙◌, arith}
+-- Facts on how many tasks some rows make, how many rows a mark counts, and what is closed before the first. Any proof may cite them.
+use Rattle.std.proofs.Common.{◌≡◌, ◌≤◌, ◌<◌, ℕ, ◌+◌, ◌*◌, length, List, [], ◌∷◌, ◌∙◌, arith, ◌-◌, ◌/◌, min, true, false, cond, nat_le, refl, ap}
+use Rattle.std.proofs.lemmas.Bool.Decides.{nat_tests}
 use Rattle.std.proofs.lemmas.Grind.{div_ceil_times}
 use Rattle.std.proofs.Math.Nat.{lt_of_mul-lt-mul_right, le-mul_of_pos_right}
 use Rattle.std.specs.Int.{div_ceil}
@@ -7,7 +8,8 @@ use Rattle.saber_plan.specs.declared.rows.Row.{Row}
 use Rattle.saber_plan.specs.declared.rows.Side.{Side}
 use Rattle.saber_plan.specs.declared.rows.Side.TheVariants.{Left, Right}
 use Rattle.saber_plan.specs.declared.windows.Mark.{Mark}
-use Rattle.saber_plan.specs.Windows.{step_mark, mark_after, by_side}
+use Rattle.saber_plan.specs.declared.windows.Measure.TheVariants.{Rows, Range}
+use Rattle.saber_plan.specs.Windows.{Frame, unwindowed, one, two, Fits, no_rows, closed_count, begun_count, count_to, step_mark, mark_after, by_side}
 
 -- so many whole tasks
 pub whole_tasks : (n k a : ℕ) → 1 ≤ n → a ≡ k * n → k ≡ div_ceil a n
@@ -55,3 +57,22 @@ mark_count m (x ∷ xs) = mark_count (step_mark m x) xs ∙ by_case x.side where
   by_case : (s : Side) → by_side s (m.left + 1) m.left + by_side s m.right (m.right + 1) + length xs ≡ m.left + m.right + length (x ∷ xs)
   by_case Left = omega arith
   by_case Right = omega arith
+
+-- ---- before the first row
+
+none_counted : (slide size : ℕ) → nat_le 1 size ≡ true → count_to slide size 0 ≡ 0
+none_counted slide size h = let far : nat_le size 0 ≡ false = grind (arith, nat_tests) in ap (λ b. cond b ((0 - size) / slide + 1) 0) far
+
+pub none_closed : (f : Frame) → Fits f → closed_count f no_rows ≡ 0
+none_closed unwindowed h = refl
+none_closed (one Rows slide size) h = none_counted slide size h.1
+none_closed (one Range slide size) h = refl
+none_closed (two Rows slide left right) h = λ j. min (none_counted slide left h.1 j) (none_counted slide right h.2 j)
+none_closed (two Range slide left right) h = refl
+
+pub none_begun : (f : Frame) → begun_count f no_rows ≡ 0
+none_begun unwindowed = refl
+none_begun (one Rows slide size) = refl
+none_begun (one Range slide size) = refl
+none_begun (two Rows slide left right) = refl
+none_begun (two Range slide left right) = refl

@@ -24,6 +24,7 @@ loop-item-preserved c =
 pub returns : goal.returns
 returns c =
     let line = c.loop-item.line.items in
+    let none = drop_all c.loop-item.item-index c.args.items.now c.loop-item-test.false in
     sym (append-nil line)
-    ∙ ap (λ is. line ++ items_over is (joined_row c.args.layout.now c.args.row.now c.args.later.now) []) (sym (drop_all c.loop-item.item-index c.args.items.now c.loop-item-test.false))
+    ∙ ap (λ is. line ++ items_over is (joined_row c.args.layout.now c.args.row.now c.args.later.now) []) (sym none)
     ∙ c.loop-item.invariant

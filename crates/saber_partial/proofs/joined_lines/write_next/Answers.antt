@@ -35,8 +35,9 @@ write_both-requires-clause-can c =
     let d = entry_in c.args.groups.now.layout c.row-row.result.now in
     let order = ap₂ key_cmp (sym (c.key.ensures d)) (sym (c.key-2.ensures d)) ∙ sym c.key_order.ensures ∙ c.in-Equal.is in
     let can = c.requires.can.at i j d d c.requires.mine c.requires.theirs (exact _ _ order) in
-    can_both c.layout-layout.result.now c.args.groups.now.layout c.args.others.now.layout c.row-row.result.now c.row-later.result.now (get_or es i d) (get_or fs j d)
-    c.layout-layout.ensures.layout c.requires.alike c.layout-layout.ensures.within c.row-row.ensures.row c.row-later.ensures.row (c.row-row.ensures.entry d) (c.row-later.ensures.entry d) can
+    can_both c.layout-layout.result.now c.args.groups.now.layout c.args.others.now.layout c.row-row.result.now c.row-later.result.now
+    (get_or es i d) (get_or fs j d) c.layout-layout.ensures.layout c.requires.alike c.layout-layout.ensures.within
+    c.row-row.ensures.row c.row-later.ensures.row (c.row-row.ensures.entry d) (c.row-later.ensures.entry d) can
 
 pub returns-in_ok-end-in-Equal-clause-ok : goal.returns-in_ok-end-in-Equal-clause-ok
 returns-in_ok-end-in-Equal-clause-ok c =
@@ -49,12 +50,14 @@ returns-in_ok-end-in-Equal-clause-ok c =
     let can = c.requires.can.at i j d d c.requires.mine c.requires.theirs (exact _ _ order) in
     let x = get_or es i d in
     let y = get_or fs j d in
-    let is = of_both c.layout-layout.result.now c.args.groups.now.layout c.args.others.now.layout c.row-row.result.now c.row-later.result.now (get_or es i d) (get_or fs j d)
-    c.layout-layout.ensures.layout c.requires.alike c.layout-layout.ensures.within c.row-row.ensures.row c.row-later.ensures.row (c.row-row.ensures.entry d) (c.row-later.ensures.entry d) can c.args.items.now in
+    let is = of_both c.layout-layout.result.now c.args.groups.now.layout c.args.others.now.layout c.row-row.result.now c.row-later.result.now
+    (get_or es i d) (get_or fs j d) c.layout-layout.ensures.layout c.requires.alike c.layout-layout.ensures.within
+    c.row-row.ensures.row c.row-later.ensures.row (c.row-row.ensures.entry d) (c.row-later.ensures.entry d) can c.args.items.now in
     let next = next_equal es fs i j x y (drop_more es i d c.requires.mine) (drop_more fs j d c.requires.theirs) order in
     let before = drafted c.args.out.now.items c.args.draft.now c.args.at in
     written_one c.args.heading.now.window c.args.items.now before (drafted c.write_both.new.out.items c.write_both.new.draft c.in_ok-end-in-Equal.end)
-    (items_over c.args.items.now (joined_row c.layout-layout.result.now c.row-row.result.now c.row-later.result.now) []) (x.0, join_numbers x.1 y.1) _ _ is next c.in_ok-end-in-Equal.ensures.ok
+    (items_over c.args.items.now (joined_row c.layout-layout.result.now c.row-row.result.now c.row-later.result.now) [])
+    (x.0, join_numbers x.1 y.1) _ _ is next c.in_ok-end-in-Equal.ensures.ok
 
 pub returns-in_ok-end-in-Greater-clause-ok : goal.returns-in_ok-end-in-Greater-clause-ok
 returns-in_ok-end-in-Greater-clause-ok c =

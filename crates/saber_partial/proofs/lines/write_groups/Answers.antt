@@ -22,7 +22,8 @@ loop-i-preserved c =
     let before = drafted c.loop-i.out.items c.loop-i.draft c.loop-i.at in
     let after = drafted c.write_line.new.out.items c.write_line.new.draft c.in_ok-at.at in
     record {
-      all = written_one c.args.heading.now.window items before after (items_over items row []) (get_or es i x) _ _ is next c.in_ok-at.ensures.ok ∙ c.loop-i.invariant.all;
+      all = written_one c.args.heading.now.window items before after (items_over items row []) (get_or es i x) _ _ is next c.in_ok-at.ensures.ok
+          ∙ c.loop-i.invariant.all;
       room = c.in_ok-at.ensures.room;
       behind = behind_both _ _ _ c.loop-i.invariant.behind c.write_line.ensures.behind;
     }

@@ -1,8 +1,10 @@
-use Rattle.std.proofs.Common.{refl, ◌∙◌}
+use Rattle.std.proofs.Common.{refl, sym, ◌∙◌}
 use Rattle.saber_plan.specs.Trees.{tree_of}
+use Rattle.saber_plan.specs.Answers.{frame}
+use Rattle.saber_plan.specs.Facts.Counts.{none_begun}
 use Rattle.saber_plan.specs.Windows.{no_rows}
 use Rattle.saber_group.proofs.Opened.{holds_nil}
-use Rattle.saber_group.proofs.SliceKeeping.{none_closed, none_begun, nothing_held}
+use Rattle.saber_group.proofs.SliceKeeping.{none_closed, nothing_held}
 use Rattle.saber_group.proofs.group.Group.no_slices.Goals as goal
 
 pub returns-clause-contents : goal.returns-clause-contents
@@ -14,5 +16,5 @@ returns-clause-taken c =
     record {
       holds = holds_nil c.no_rows_no_part.ensures q no_rows c.new.result.next c.new.result.slices.entries c.new.ensures.slices;
       next_is = c.new.ensures.next ∙ none_closed q c.has_window.ensures.window;
-      begun_is = none_begun q c.has_window.ensures.window;
+      begun_is = sym (none_begun (frame q));
     }

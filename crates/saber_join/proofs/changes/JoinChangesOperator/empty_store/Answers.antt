@@ -4,7 +4,7 @@ use Rattle.saber_plan.specs.Trees.{tree_of}
 use Rattle.saber_plan.specs.Answers.{frame}
 use Rattle.saber_plan.specs.Windows.{Fits}
 use Rattle.saber_parts.specs.Stored.{parts_by}
-use Rattle.saber_join.proofs.Fresh.{none_closed}
+use Rattle.saber_plan.specs.Facts.Counts.{none_closed}
 use Rattle.saber_join.proofs.changes.JoinChangesOperator.empty_store.Goals as goal
 
 pub returns-clause-contents : goal.returns-clause-contents

@@ -16,5 +16,6 @@ pub returns : goal.returns
 returns c =
     let es = c.self.inside.groups.entries in
     let q = tree_of c.args.plan.now in
-    let all = ap (λ (is : List (List Product)). answers_under is es) c.items.ensures ∙ part_listed q es c.requires.group c.self.invariant ∙ ap (part_answers q) c.self.view_is in
+    let all = ap (λ (is : List (List Product)). answers_under is es) c.items.ensures
+    ∙ part_listed q es c.requires.group c.self.invariant ∙ ap (part_answers q) c.self.view_is in
     subst (λ (l : a.Answers). IfOk c.answers_in.result (λ a. a ≡ l)) all c.answers_in.ensures

@@ -54,5 +54,6 @@ returns c =
     let q = tree_of c.args.plan.now in
     let part = weave_merge es fs c.self.invariant c.later.invariant ∙ ap₂ merge c.self.view_is c.later.view_is in
     let rises = weave_rises es fs c.self.invariant c.later.invariant in
-    let all = ap (λ (is : List (List Product)). answers_under is (weave es fs)) c.items.ensures ∙ part_listed q (weave es fs) c.requires.group rises ∙ ap (part_answers q) part in
+    let all = ap (λ (is : List (List Product)). answers_under is (weave es fs)) c.items.ensures
+    ∙ part_listed q (weave es fs) c.requires.group rises ∙ ap (part_answers q) part in
     subst (λ (l : a.Answers). IfOk c.answers_woven.result (λ a. a ≡ l)) all c.answers_woven.ensures

@@ -5,7 +5,7 @@ use mir.Syntax.{w128}
 use Rattle.saber_plan.specs.declared.plans.Fold.TheVariants.{Sum}
 use Rattle.saber_plan.specs.Answers.{step}
 use Rattle.saber_partial.proofs.Folded.{stepped_all, stepped_from, stepped_more}
-use Rattle.saber_partial.proofs.joins.join_values.Goals as goal
+use Rattle.saber_partial.proofs.joined_values.join_values.Goals as goal
 
 pub loop-k-preserved : goal.loop-k-preserved
 loop-k-preserved c =

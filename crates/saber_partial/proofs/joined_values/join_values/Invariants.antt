@@ -1,7 +1,7 @@
 use Rattle.std.proofs.Common.{◌≡◌, ℕ, ◌≤◌, length, get_or, pos}
 use Rattle.saber_partial.specs.Gathering.{stepped}
 use Rattle.saber_partial.proofs.Folded.{stepped_from}
-use Rattle.saber_partial.proofs.joins.join_values.Given as goal
+use Rattle.saber_partial.proofs.joined_values.join_values.Given as goal
 
 abbrev pub invariant-loop-k : goal.invariant-loop-k
 invariant-loop-k l = record {

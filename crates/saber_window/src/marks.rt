@@ -34,7 +34,7 @@ pub(crate) fn own(r: &RowRef, before: &Mark) -> u64
 
 /// Where a row lies among what sizes and slides count: its position, or its timestamp.
 #[inline]
-pub(crate) fn point(measure: Measure, r: &RowRef, before: &Mark) -> u64
+pub fn point(measure: Measure, r: &RowRef, before: &Mark) -> u64
     ensures point { result ≡ point measure (record { row = r.now; before = before.now }) }
     ensures small { before.now.left < 2 ^ 63 → before.now.right < 2 ^ 63 → result ≤ 2 ^ 63 }
 {

@@ -2,7 +2,7 @@ use Rattle.std.proofs.Common.{rules, ◌≡◌, ◌+◌, ◌-◌, ◌^◌, ◌<�
 use Rattle.std.specs.List.{slice_get}
 use Rattle.saber_plan.specs.Windows.{mark_after}
 use Rattle.saber_window.proofs.SliceFacts.{slice_get-drop, left_at, mark_at_once}
-use Rattle.saber_window.proofs.rows.mark_behind.Goals as goal
+use Rattle.saber_window.proofs.marks.mark_behind.Goals as goal
 
 -- the last row, among those from `from` on
 last_row : (c : goal.After-stamp-time) → Some c.row.result ≡ slice_get (drop c.args.from c.args.rows.now) (c.args.end - 1 - c.args.from)
