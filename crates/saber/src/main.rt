@@ -3,12 +3,12 @@
 //!
 //! - Call: `main` takes the runtime, and gives the status that `top` tells. Words that the system
 //!   can't hand over end it by `refuse_words`.
-//! - Proved: that it is safe, and that the status is that of an end, whose notes went out whole or a
-//!   front of them (`called`). That `main`, which takes no clause, hands on standard output, standard
-//!   error and that status is to be read.
-//! - Tested: `args`, `data`, `stdout` and `status` are one stored run, which the gate makes with two
-//!   compilers: it ends with a refused line, so the status isn't 0 and a note on standard output
-//!   would show.
+//! - Proved: that it is safe, and that the status is that of an end, whose notes went out whole or
+//!   a front of them (`called`). That `main`, which takes no clause, hands on standard output,
+//!   standard error and that status is to be read.
+//! - Tested: `args`, `data`, `stdout` and `status` are one stored run, which the gate makes with
+//!   two compilers: it ends with a refused line, so the status isn't 0 and a note on standard
+//!   output would show.
 #![tactic(auto)]
 
 ghost use Rattle.saber.specs.Endings.{Ends};

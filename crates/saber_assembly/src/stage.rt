@@ -16,8 +16,9 @@ pub enum Absorbed {
     Stopped,
 }
 
-/// The result stage: the sink, the operator's store, and how many tasks are behind it. `seen` is its view.
-/// Clauses name the store too, since an operator may know more of it than the parts of windows.
+/// The result stage: the sink, the operator's store, and how many tasks are behind it. `seen` is
+/// its view. Clauses name the store too, since an operator may know more of it than the parts of
+/// windows.
 pub struct Stage<S, K> {
     sink: K,
     store: S,
@@ -53,7 +54,8 @@ impl<S: Drop, K: Sink> Stage<S, K> {
     ghost use Rattle.saber_plan.specs.declared.stages.StageState.{StageState};
     ghost use Rattle.saber_assembly.specs.declared.stage.Absorbed.{Absorbed};
 
-    /// A stage with no task behind it: of each run it keeps what stands before the first task. Takes no memory.
+    /// A stage with no task behind it: of each run it keeps what stands before the first task.
+    /// Takes no memory.
     pub fn new<O: Operator<Store = S>>(alloc: Global, operator: &O, sink: K) -> Stage<S, K>
         ensures sink { result.sink ≡ sink }
         ensures kept { O.contents result.store ≡ nothing_kept }
@@ -151,7 +153,8 @@ impl<S: Drop, K: Sink> Stage<S, K> {
     }
 
     /// Takes in the piece of the next task, or the mark that memory lacked for it. Merge, text, one
-    /// write, then the closed parts go and the count rises; so want of memory leaves what was written.
+    /// write, then the closed parts go and the count rises; so want of memory leaves what was
+    /// written.
     pub fn absorb<O: Operator<Store = S>>(
         &mut self,
         alloc: Global,
@@ -181,7 +184,8 @@ impl<S: Drop, K: Sink> Stage<S, K> {
         ensures memory { self.new.state ≡ StageState.NoMemory → K.written self.new.sink ≡ K.written self.old.sink }
         ensures count { K.faults self.old.sink ≤ K.faults self.new.sink }
 
-        // How many writes there were: one for a task that has text, also where it fails, and none for one without, nor where memory lacks.
+        // How many writes there were: one for a task that has text, also where it fails, and none
+        // for one without, nor where memory lacks.
         ensures one { result ≡ Absorbed.Done → IfSome piece (λ p. WritesOnce O.plan O.contents O.has_taken O.is_of operator.now K.writes self.old self.new p) }
         ensures no_text { result ≡ Absorbed.Done → IfSome piece (λ p. WritesNone O.plan O.contents O.has_taken O.is_of operator.now K.writes self.old self.new p) }
         ensures failed_one { self.new.state ≡ StageState.SinkFailed → K.writes self.new.sink ≡ counted (K.writes self.old.sink) }
@@ -207,7 +211,8 @@ impl<S: Drop, K: Pour> Stage<S, K> {
     ghost use Rattle.saber_plan.specs.Tasks.{Kept};
     ghost use Rattle.saber_assembly.specs.Stages.{seen, HasPoured};
 
-    /// Has its sink let go of what that holds back, as far as there is room for it. Nothing that is seen of the stage changes.
+    /// Has its sink let go of what that holds back, as far as there is room for it. Nothing that is
+    /// seen of the stage changes.
     pub fn pour(&mut self)
         ensures poured { HasPoured K.backlog K.had_no_room self.new }
         ensures store { self.new.store ≡ self.old.store }

@@ -27,8 +27,8 @@ pub struct RunData<O> {
     pub ended: bool,
 }
 
-/// The work of a run with this operator and this sink. Rows are blocks, a piece is the operator's, and
-/// the stage is the ordered assembly.
+/// The work of a run with this operator and this sink. Rows are blocks, a piece is the operator's,
+/// and the stage is the ordered assembly.
 pub struct SaberWork<O, K> {
     operator: PhantomData<Mutex<O>>,
     sink: PhantomData<Mutex<K>>,

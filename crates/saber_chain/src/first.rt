@@ -20,7 +20,8 @@ use std::snapshot::Snapshot;
 use std::sync::Wait;
 use std::thread::{Promise, Threads};
 
-/// What comes back of the first query's run: its inputs, how it ended, and what the pipe has to know.
+/// What comes back of the first query's run: its inputs, how it ended, and what the pipe has to
+/// know.
 #[derive(Drop)]
 pub(crate) struct FirstRan<'a, S, P: PipeName> {
     pub(crate) ended: FirstEnd<S>,

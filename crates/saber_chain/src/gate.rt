@@ -1,7 +1,8 @@
 // The gate of the first query's tasks.
 use saber_io::Gate;
 
-// From where on the gate counts the tasks of the first query, so that it tells them from those of the second.
+// From where on the gate counts the tasks of the first query, so that it tells them from those of
+// the second.
 const FIRST: u64 = 1 << 43;
 
 /// The gate of a chain, as the first query's tasks pass it.

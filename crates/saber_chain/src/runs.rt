@@ -38,7 +38,8 @@ use std::sync::atomic::{AtomicBool, Ordering};
 use std::thread;
 use std::thread::Threads;
 
-// Runs both queries over a new pipe, which P names. `alone` is not set: the caller reads what the thread writes.
+// Runs both queries over a new pipe, which P names. `alone` is not set: the caller reads what the
+// thread writes.
 fn run_both<
     'a,
     S: Source + Send + Drop,
@@ -134,9 +135,11 @@ fn run_both<
     )
 }
 
-/// Runs two checked plans in a chain: the lines of the first are the rows of the second, the number of the window being the timestamp. The first runs in a
-/// thread of its own where one can be had, and what it writes goes through a pipe of 64 pieces. Tasks, ring and threads are those of each query; the limit of
-/// lines and the slack are the first one's. The first query's tasks pass the gate counted from 2^43 on.
+/// Runs two checked plans in a chain: the lines of the first are the rows of the second, the number
+/// of the window being the timestamp. The first runs in a thread of its own where one can be had,
+/// and what it writes goes through a pipe of 64 pieces. Tasks, ring and threads are those of each
+/// query; the limit of lines and the slack are the first one's. The first query's tasks pass the
+/// gate counted from 2^43 on.
 pub fn chain<
     S: Source + Send + Drop,
     K: Sink + Send + Drop,
@@ -170,12 +173,14 @@ pub fn chain<
     ensures reads { NoneFell (each_input S.faults inputs) (each_input S.faults result.inputs) }
     ensures never { result.first ≢ RunEnd.WriteFault }
 
-    // The second query reads to the end only where the first one's text is whole, and is cut off only where that is.
+    // The second query reads to the end only where the first one's text is whole, and is cut off
+    // only where that is.
     ensures all { result.second ≡ RunEnd.AllRead → IsWhole result.first }
     ensures cut { (side : Side) → result.second ≡ RunEnd.ReadFault side → IsShort result.first }
     ensures narrow { (task need : ℕ) → result.second ≢ RunEnd.TooWide task need }
 
-    // The second query's stage was stopped where a write failed, maybe where memory lacked, and at no other end.
+    // The second query's stage was stopped where a write failed, maybe where memory lacked, and at
+    // no other end.
     ensures stopped { MayStop result.second result.second_stopped }
 
     // A fault of writing is real, none is passed over, and the count doesn't fall.

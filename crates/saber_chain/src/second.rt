@@ -26,24 +26,24 @@ fn second_sizes(sizes: &Sizes) -> Sizes
     ensures { result ≡ second_sizes sizes.now }
 {
     Sizes {
-        task: sizes.task,
-        ring: sizes.ring,
-        threads: sizes.threads,
         max_lines: MOST_LINES,
         slack: 0,
         flush: false,
+        ..*sizes
     }
 }
 
-/// What comes back of the second query's run: how it ended, and the end of the pipe that it read from.
+/// What comes back of the second query's run: how it ended, and the end of the pipe that it read
+/// from.
 #[derive(Drop)]
 pub(crate) struct SecondRan<'a, K, R: Wait, P: PipeName> {
     pub(crate) ran: Ran<K>,
     pub(crate) relay: Relay<'a, R, P>,
 }
 
-/// Runs the second query over what comes through the pipe, and over what the first one left behind, if it has ended. Behind the end of its run it takes what
-/// still comes, up to the mark, so that the first query doesn't wait for room.
+/// Runs the second query over what comes through the pipe, and over what the first one left behind,
+/// if it has ended. Behind the end of its run it takes what still comes, up to the mark, so that
+/// the first query doesn't wait for room.
 pub(crate) fn run_second<'a, K: Sink + Send, G: Gate + Sync, P: PipeName, R: Threads + Wait + Sync>(
     rt: &R,
     alloc: Global,

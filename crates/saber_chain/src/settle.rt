@@ -18,7 +18,8 @@ pub(crate) struct FirstEnd<S> {
     pub(crate) tasks: u64,
 }
 
-/// The chain that both runs make. The second query has read a front of what the first one wrote, and all of it where it took the mark.
+/// The chain that both runs make. The second query has read a front of what the first one wrote,
+/// and all of it where it took the mark.
 pub(crate) fn settle<S, K, P: PipeName, R: Wait>(
     first: FirstEnd<S>,
     receipt: Receipt<P>,

@@ -7,8 +7,8 @@ use saber_plan::NoMemory;
 use std::alloc::Global;
 use std::marker::Model;
 
-/// The answers of one window, each a line without the window's number, seen as their list. Their numbers lie one behind another in one
-/// list, so that a line takes no memory of its own.
+/// The answers of one window, each a line without the window's number, seen as their list. Their
+/// numbers lie one behind another in one list, so that a line takes no memory of its own.
 #[derive(Drop)]
 pub struct Answers {
     numbers: Vec<i128>,
@@ -95,7 +95,8 @@ impl Answers {
         self.rising
     }
 
-    // Whether a line behind all others isn't below one of them, if none of them is below one before it.
+    // Whether a line behind all others isn't below one of them, if none of them is below one before
+    // it.
     #[inline]
     fn goes_on(&self, line: &[i128]) -> bool
         ensures { result ≡ true → Rises (self.now ++ line.now ∷ []) }

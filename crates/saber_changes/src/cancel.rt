@@ -20,7 +20,8 @@ pub enum Change {
     Lost,
 }
 
-// Writes the lines that cancel none, as those of a window, by counts of the others: lines in any order.
+// Writes the lines that cancel none, as those of a window, by counts of the others: lines in any
+// order.
 fn write_counted(
     alloc: Global,
     window: u64,
@@ -42,8 +43,9 @@ fn write_counted(
     Ok(())
 }
 
-/// Writes the lines that cancel none, as those of a window. Each in turn cancels one equal line that is still left of the others.
-/// Where the lines of both windows rise, it is one walk over both, without memory.
+/// Writes the lines that cancel none, as those of a window. Each in turn cancels one equal line
+/// that is still left of the others. Where the lines of both windows rise, it is one walk over
+/// both, without memory.
 pub(crate) fn write_uncancelled(
     alloc: Global,
     window: u64,

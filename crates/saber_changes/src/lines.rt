@@ -17,7 +17,8 @@ fn write_cells(out: &mut Vec<u8>, values: &[i128]) -> Result<(), NoMemory>
     Ok(())
 }
 
-/// Writes an answer as a line of a window: its number and the answer's numbers in decimal, with commas between, and LF.
+/// Writes an answer as a line of a window: its number and the answer's numbers in decimal, with
+/// commas between, and LF.
 pub(crate) fn write_line(out: &mut Vec<u8>, window: u64, values: &[i128]) -> Result<(), NoMemory>
     ensures ok { OnOk result (out.new.items ≡ out.old.items ++ line (pos window ∷ values.now)) }
     ensures behind { Behind out.old.items out.new.items }

@@ -24,7 +24,8 @@ fn begins_above(line: &[i128], other: &[i128]) -> bool
     }
 }
 
-/// Whether a line comes before another: number by number, and the shorter one first. Mostly the first numbers tell.
+/// Whether a line comes before another: number by number, and the shorter one first. Mostly the
+/// first numbers tell.
 #[inline]
 pub(crate) fn comes_before(line: &[i128], other: &[i128]) -> bool
     ensures { result ≡ is_below line.now other.now }
@@ -32,8 +33,8 @@ pub(crate) fn comes_before(line: &[i128], other: &[i128]) -> bool
     !begins_above(line, other) && line.cmp(other).is_lt()
 }
 
-// Passes those of the others from a place on that are below the line, and the one behind them if it is the same. Tells where it
-// stops, and whether the line is cancelled.
+// Passes those of the others from a place on that are below the line, and the one behind them if it
+// is the same. Tells where it stops, and whether the line is cancelled.
 #[inline]
 fn cancel(others: &Answers, from: usize, line: &[i128]) -> (usize, bool)
     requires { from ≤ length others.now }

@@ -9,7 +9,8 @@ use crate::cancel::{Change, write_change};
 use saber_plan::NoMemory;
 use std::alloc::Global;
 
-/// How far a walk over closed windows is: the number of the next window, and the answers of the one before it.
+/// How far a walk over closed windows is: the number of the next window, and the answers of the one
+/// before it.
 #[derive(Drop)]
 pub struct Walk {
     /// The first window that the walk hasn't passed.
@@ -30,7 +31,8 @@ impl Walk {
         }
     }
 
-    /// Passes the windows before this one, which have no answer, and appends what the first of them loses.
+    /// Passes the windows before this one, which have no answer, and appends what the first of them
+    /// loses.
     pub fn reach(
         &mut self,
         alloc: Global,
@@ -53,7 +55,8 @@ impl Walk {
         Ok(())
     }
 
-    /// Passes this window, which has these answers, and those before it, which have none, and appends what they gain or lose.
+    /// Passes this window, which has these answers, and those before it, which have none, and
+    /// appends what they gain or lose.
     pub fn pass(
         &mut self,
         alloc: Global,

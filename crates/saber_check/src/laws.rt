@@ -43,7 +43,8 @@ pub fn a_plan_is_checked()
     ensures { (text : List ℕ) (tree : Tree) → HasPlan text tree → IsChecked tree }
 {}
 
-/// A text longer than a query may be has the plan or the fault of its first 65,537 bytes, so that no more need be read.
+/// A text longer than a query may be has the plan or the fault of its first 65,537 bytes, so that
+/// no more need be read.
 pub fn a_front_tells_all()
     ensures plan { (text : List ℕ) (tree : Tree) →
         HasPlan (take 65537 text) tree → HasPlan text tree }

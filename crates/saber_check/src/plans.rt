@@ -4,13 +4,13 @@ ghost use Rattle.saber_plan.specs.Trees as t;
 ghost use Rattle.saber_query.specs.Trees.{tests_of, query_of};
 ghost use Rattle.saber_check.specs.Widths.{decl_width, span};
 ghost use Rattle.saber_check.specs.Names.{decls, names};
-ghost use Rattle.saber_check.specs.Faults.{keys, measure_keys};
+ghost use Rattle.saber_check.specs.Faults.{keys};
 ghost use Rattle.saber_check.specs.Plans.{columns, plan_place, plan_measure, plan_window, plan_stream, plan_shape, places, plan_keys, plan_partition, plan_word, plan_tests, plan_tree, streams, Small};
 
 use crate::expressions::plan_place;
 use crate::outputs::{Outputs, plan_outputs};
 use crate::predicates::plan_pred;
-use crate::shape::{is_group, is_join};
+use crate::shape::{is_group, is_join, partition_of};
 use saber_plan::{NoMemory, Plan, Shape, Stream, Word};
 use saber_query::{Decl, Keys, Measure, Name, Select, Source, StreamWord, Window};
 use std::alloc::Global;
@@ -116,23 +116,12 @@ fn places(alloc: Global, query: &Select, group: &Keys) -> Result<Vec<u32>, NoMem
     Ok(list)
 }
 
-fn measure_places(alloc: Global, query: &Select, measure: &Measure) -> Result<Vec<u32>, NoMemory>
-    requires { Small (query_of query.now) }
-    ensures { IfOk result (λ v. v.items ≡ places (query_of query.now) (measure_keys measure.now)) }
-{
-    match measure {
-        Measure::Rows => Ok(Vec::new(alloc)),
-        Measure::Range => Ok(Vec::new(alloc)),
-        Measure::Partition(keys) => places(alloc, query, keys),
-    }
-}
-
 fn plan_partition(alloc: Global, query: &Select) -> Result<Vec<u32>, NoMemory>
     requires { Small (query_of query.now) }
     ensures { IfOk result (λ v. v.items ≡ plan_partition (query_of query.now)) }
 {
-    match &query.from.window {
-        Some(window) => measure_places(alloc, query, &window.measure),
+    match partition_of(&query.from) {
+        Some(keys) => places(alloc, query, keys),
         None => Ok(Vec::new(alloc)),
     }
 }

@@ -13,8 +13,8 @@ use saber_plan::Plan;
 use saber_query::{Query, QueryFault};
 use std::alloc::Global;
 
-/// The plan of a query, or the first that is wrong with it, at the byte where its word begins. Where
-/// several things are wrong at one word, the order of `Cause` decides.
+/// The plan of a query, or the first that is wrong with it, at the byte where its word begins.
+/// Where several things are wrong at one word, the order of `Cause` decides.
 pub fn check(alloc: Global, query: &Query) -> Result<Plan, QueryFault>
     ensures parsed { IsParsed query.now.select query.now.starts }
     ensures faultless { IfOk result (λ p. IsFaultless (query_of query.now.select)) }

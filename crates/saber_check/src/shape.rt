@@ -1,6 +1,6 @@
 // What kind of query it is, and the tests of its parts.
 ghost use Rattle.std.specs.Prelude.{◌≡◌, ◌≤◌, ◌^◌, ◌&&◌, ◌||◌, not, is_some, false};
-ghost use Rattle.std.specs.Option.{option_map_or};
+ghost use Rattle.std.specs.Option.{option_map_or, option_copied};
 ghost use Rattle.saber_query.specs.Trees.{query_of};
 ghost use Rattle.saber_query.specs.declared.tree.Factor.TheVariants as f;
 ghost use Rattle.saber_check.specs.Faults.{any_aggregate, is_aggregate, is_join, is_group, is_selection, same_measure, is_apart, is_out, most_windows, is_overlapping, has_windows, may_partition, measure_keys, partition_of, is_range, own_name, is_of_one, same_second, same_words, same_column, among_columns, is_listed, is_column_key, is_key, keys};
@@ -71,23 +71,23 @@ pub(crate) fn may_partition(query: &Select) -> bool
     is_group(query) && !query.word.is_some()
 }
 
-fn is_by_keys(measure: &Measure) -> bool
-    ensures { result ≡ is_some (measure_keys measure.now) }
+fn measure_keys(measure: &Measure) -> Option<&Keys>
+    ensures { option_copied result ≡ measure_keys measure.now }
 {
     match measure {
-        Measure::Rows => false,
-        Measure::Range => false,
-        Measure::Partition(_) => true,
+        Measure::Rows => None,
+        Measure::Range => None,
+        Measure::Partition(keys) => Some(keys),
     }
 }
 
-/// The stream's window is one of rows that are alike in some columns.
-pub(crate) fn is_partitioned(source: &Source) -> bool
-    ensures { result ≡ is_some (partition_of source.now) }
+/// The columns by whose values the stream's rows are parted, if its window says so.
+pub(crate) fn partition_of(source: &Source) -> Option<&Keys>
+    ensures { option_copied result ≡ partition_of source.now }
 {
     match &source.window {
-        Some(window) => is_by_keys(&window.measure),
-        None => false,
+        Some(window) => measure_keys(&window.measure),
+        None => None,
     }
 }
 
@@ -109,7 +109,7 @@ pub(crate) fn is_bare(query: &Select, source: &Source) -> bool
 pub(crate) fn is_parted_amiss(query: &Select, source: &Source) -> bool
     ensures { result ≡ is_some (partition_of source.now) && not (may_partition (query_of query.now)) }
 {
-    is_partitioned(source) && !may_partition(query)
+    partition_of(source).is_some() && !may_partition(query)
 }
 
 fn is_range(measure: &Measure) -> bool
@@ -241,21 +241,11 @@ fn is_grouped(query: &Select, column: &Column) -> bool
     }
 }
 
-fn is_in_measure(query: &Select, column: &Column, measure: &Measure) -> bool
-    ensures { result ≡ is_listed (query_of query.now) column.now (measure_keys measure.now) }
-{
-    match measure {
-        Measure::Rows => false,
-        Measure::Range => false,
-        Measure::Partition(keys) => is_among_keys(query, column, keys),
-    }
-}
-
 fn is_parted(query: &Select, column: &Column) -> bool
     ensures { result ≡ is_listed (query_of query.now) column.now (partition_of query.now.from) }
 {
-    match &query.from.window {
-        Some(window) => is_in_measure(query, column, &window.measure),
+    match partition_of(&query.from) {
+        Some(keys) => is_among_keys(query, column, keys),
         None => false,
     }
 }

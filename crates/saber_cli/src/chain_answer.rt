@@ -22,7 +22,8 @@ use std::alloc::Global;
 use std::sync::Wait;
 use std::thread::Threads;
 
-/// How a chain ended, with its sources, its sink and the number of tasks of the second query that are assembled.
+/// How a chain ended, with its sources, its sink and the number of tasks of the second query that
+/// are assembled.
 pub(crate) struct RanBoth<S, K> {
     pub(crate) outcome: Outcome,
     pub(crate) inputs: Inputs<S>,
@@ -30,7 +31,8 @@ pub(crate) struct RanBoth<S, K> {
     pub(crate) tasks: u64,
 }
 
-// How the call ends behind a first query that ended so: with this outcome, where its text is whole, and else as the query did.
+// How the call ends behind a first query that ended so: with this outcome, where its text is whole,
+// and else as the query did.
 fn unless_cut(first: RunEnd, outcome: Outcome, ring: u32) -> Outcome
     ensures { result ≡ unless_cut ring first outcome }
 {
@@ -41,7 +43,8 @@ fn unless_cut(first: RunEnd, outcome: Outcome, ring: u32) -> Outcome
     }
 }
 
-// How the call ends where memory lacked for the second query, whose stage was stopped by that, or its rows ended so.
+// How the call ends where memory lacked for the second query, whose stage was stopped by that, or
+// its rows ended so.
 fn lacked_as(first: RunEnd, stopped: bool, ring: u32) -> Outcome
     ensures { result ≡ chained_as ring first RunEnd.NoMemory stopped }
 {
@@ -52,7 +55,8 @@ fn lacked_as(first: RunEnd, stopped: bool, ring: u32) -> Outcome
     }
 }
 
-// How the call ends behind both runs, each on a ring of so many cells, the second one with its stage stopped or not.
+// How the call ends behind both runs, each on a ring of so many cells, the second one with its
+// stage stopped or not.
 fn chained_as(first: RunEnd, second: RunEnd, stopped: bool, ring: u32) -> Outcome
     ensures { result ≡ chained_as ring first second stopped }
 {

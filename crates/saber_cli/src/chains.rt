@@ -59,7 +59,8 @@ fn chain_sizes(command: &Chain<'_>) -> Sizes
     }
 }
 
-// Opens the row files, as many as the first plan has streams, runs both plans, and gives the files back.
+// Opens the row files, as many as the first plan has streams, runs both plans, and gives the files
+// back.
 fn chain_rows<F: Files, K: Sink + Send + Drop, G: Gate + Sync, R: Threads + Wait + Sync>(
     rt: &R,
     alloc: Global,
@@ -114,7 +115,8 @@ where
     }
 }
 
-/// `chain`: reads and checks both queries, and answers the second one over the lines of the first, which it answers over its row files.
+/// `chain`: reads and checks both queries, and answers the second one over the lines of the first,
+/// which it answers over its row files.
 pub(crate) fn chain_command<
     F: Files,
     K: Sink + Send + Drop,

@@ -50,8 +50,8 @@ fn demo_sizes(command: &Demo) -> Sizes
     }
 }
 
-// Whether the run came to its end. Of generated rows none is refused, none can't be read, and no task is too wide; and no write into
-// memory fails.
+// Whether the run came to its end. Of generated rows none is refused, none can't be read, and no
+// task is too wide; and no write into memory fails.
 fn is_whole(end: RunEnd) -> bool
     requires { IsWholeOrLacks end }
     ensures { IsTrue result ↔ (end ≡ RunEnd.AllRead) }
@@ -116,7 +116,8 @@ fn lacking<K>(sink: K, tasks: u64) -> Ran<K>
     }
 }
 
-// Writes the summary of an answer that is whole. The tasks that it tells are those of the run, also where memory lacks.
+// Writes the summary of an answer that is whole. The tasks that it tells are those of the run, also
+// where memory lacks.
 fn tell<K: Sink>(alloc: Global, command: &Demo, answer: Answer, sink: K) -> Ran<K>
     requires answer { IsTrue answer.whole → IsAnswer (asked_demo command.now) answer.text.written answer.tasks }
     requires few { answer.tasks ≤ tasks_of_run (asked_demo command.now) }

@@ -10,9 +10,9 @@
 //!   (they are opened and given back), `answer` (the engine over them), `laws` (those that proofs
 //!   here rest on).
 //! - Calls: `saber` takes words, files, a sink and a sink for notes, and gives `Ended`;
-//!   `refuse_words` ends a call whose words the system can't hand over. Parts of it that a call with
-//!   several queries has too: `query_plan`, `open_row`, `close_rows`, `outcome_of`, and the law
-//!   `runs_tell`.
+//!   `refuse_words` ends a call whose words the system can't hand over. Parts of it that a call
+//!   with several queries has too: `query_plan`, `open_row`, `close_rows`, `outcome_of`, and the
+//!   law `runs_tell`.
 //! - Proved: what goes out, which files are asked for and given back, which status and note comes,
 //!   and that each has its cause. Of `specs/` open `Outcomes`, `Due`, `Answered`, `Chained` and
 //!   `Leaves` first.

@@ -11,7 +11,8 @@ use saber_io::{Files, OpenFault};
 use saber_notes::{InputFile, Outcome};
 use std::alloc::Global;
 
-/// Opens, reads and closes a query file. Of a text that is too long it reads one byte more than a query may have.
+/// Opens, reads and closes a query file. Of a text that is too long it reads one byte more than a
+/// query may have.
 pub(crate) fn query_text<F: Files>(
     alloc: Global,
     files: &mut F,

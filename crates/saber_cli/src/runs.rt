@@ -23,7 +23,8 @@ use std::alloc::Global;
 use std::sync::Wait;
 use std::thread::Threads;
 
-/// Opens the row files, as many as the plan has streams, answers the query over them, and gives them back.
+/// Opens the row files, as many as the plan has streams, answers the query over them, and gives
+/// them back.
 pub(crate) fn run_rows<F: Files, K: Sink + Send, G: Gate + Sync, R: Threads + Wait + Sync>(
     rt: &R,
     alloc: Global,

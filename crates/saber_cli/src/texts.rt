@@ -16,7 +16,8 @@ const READ_LIMIT: usize = 65_537;
 
 const PIECE: usize = 4096;
 
-// Reads the next piece behind a text, as long as it is not too long. Nothing more comes after a piece of no bytes.
+// Reads the next piece behind a text, as long as it is not too long. Nothing more comes after a
+// piece of no bytes.
 fn read_piece<S: Source>(text: &mut Vec<u8>, source: &mut S) -> Result<usize, Outcome>
     requires { length text.old.items < 65537 }
     ensures bytes { IfOk result (λ n. given text.old.items (S.left source.old) ≡ given text.new.items (S.left source.new)) }

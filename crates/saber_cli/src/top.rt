@@ -59,16 +59,19 @@ where
     F::Src: Send + Drop,
     ensures status { result.status ≡ status_of result.outcome }
 
-    // What goes out is the text of the first tasks' rows, the outcome has its cause, and is one that what is due allows. Of a chain see `chained`.
+    // What goes out is the text of the first tasks' rows, the outcome has its cause, and is one
+    // that what is due allows. Of a chain see `chained`.
     ensures answers { (out : List ℕ) × (K.written result.sink ≡ appended (K.written sink) out)
         × AnswersTold (map (λ word. word.now) words.now) (F.told files.old) result.outcome result.tasks out }
     ensures before { IsBeforeRun result.outcome → (result.tasks ≡ 0) × (result.sink ≡ sink) }
 
-    // A run over generated rows tells its summary, whatever files there are: of the seed and the number of rows alone.
+    // A run over generated rows tells its summary, whatever files there are: of the seed and the
+    // number of rows alone.
     ensures told { IfDemo (map (λ word. word.now) words.now) (λ d. TellsRun d result.outcome result.tasks (K.written sink) (K.written result.sink)) }
 
-    // A chain answers the second query over the lines of the first, and its outcome has its cause: in the texts, in how they fit, or in both runs. Behind a
-    // fault of reading those lines are of at least every whole task of what was taken of the row files.
+    // A chain answers the second query over the lines of the first, and its outcome has its cause:
+    // in the texts, in how they fit, or in both runs. Behind a fault of reading those lines are of
+    // at least every whole task of what was taken of the row files.
     ensures chained { IfChain (map (λ word. word.now) words.now)
         (λ a. AnswersChain a result.outcome result.tasks (F.told files.old) (F.told files.new) (K.written sink) (K.written result.sink)) }
     ensures second { IsOfSecond result.outcome → (a : AskedChain) × (command_of (map (λ word. word.now) words.now) ≡ Some (chain a)) }
@@ -78,21 +81,25 @@ where
         EndsUnread result.outcome result.tasks files.old files.new sink result.sink }
     ensures usage { result.outcome ≡ Outcome.Usage → command_of (map (λ word. word.now) words.now) ≡ None }
 
-    // A fault of the outside is real, and none is passed over: an answer of the words, the query, the rows and the ring alone comes
-    // only where no count of faults rose, and the sink's rose exactly where a fault of writing is told.
+    // A fault of the outside is real, and none is passed over: an answer of the words, the query,
+    // the rows and the ring alone comes only where no count of faults rose, and the sink's rose
+    // exactly where a fault of writing is told.
     ensures files { IsFileFault result.outcome → Rose (F.faults files.old) (F.faults files.new) }
     ensures files_good { IsClean result.outcome → F.faults files.new ≡ F.faults files.old }
     ensures sink { result.outcome ≡ Outcome.WriteFault → Rose (K.faults sink) (K.faults result.sink) }
     ensures sink_good { result.outcome ≢ Outcome.WriteFault → K.faults result.sink ≡ K.faults sink }
 
-    // Which files were asked for and given back: the row files only behind a query that has no fault and as many streams. Of a query's file
-    // no more is taken than tells that its text is too long.
+    // Which files were asked for and given back: the row files only behind a query that has no
+    // fault and as many streams. Of a query's file no more is taken than tells that its text is too
+    // long.
     ensures leaves { IfPlain (map (λ word. word.now) words.now) (λ c. LeavesTold c result.outcome (F.told files.old) (F.told files.new)) }
 
-    // Of a chain too: the second query's only behind a first one that has no fault, the row files only behind two that chain.
+    // Of a chain too: the second query's only behind a first one that has no fault, the row files
+    // only behind two that chain.
     ensures leaves_chain { IfChain (map (λ word. word.now) words.now) (λ a. LeavesChain a result.outcome (F.told files.old) (F.told files.new)) }
 
-    // A fault of reading leaves at least every whole task assembled of what was taken of the row files.
+    // A fault of reading leaves at least every whole task assembled of what was taken of the row
+    // files.
     ensures taken { IfRun (map (λ word. word.now) words.now) (λ r. TakesTold r result.outcome result.tasks (F.told files.old) (F.told files.new)) }
 
     // The note.
@@ -128,8 +135,8 @@ pub struct Refused {
     pub noted: Noted,
 }
 
-/// Ends a call whose words the system can't hand over: memory lacks for them, or one of them is no text,
-/// and so no word of a command. Nothing is opened, and nothing goes out but the note.
+/// Ends a call whose words the system can't hand over: memory lacks for them, or one of them is no
+/// text, and so no word of a command. Nothing is opened, and nothing goes out but the note.
 pub fn refuse_words<N: Sink>(fault: WordsFault, notes: &mut N) -> Refused
     ensures status { result.status ≡ status_of (unread fault) }
     ensures something { result.noted ≢ Noted.Nothing }

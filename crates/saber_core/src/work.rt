@@ -33,8 +33,8 @@ pub trait Work {
     // may stand for any piece.
     ghost is_piece: { Self.Data → ℕ → Self.Piece → Type 0 };
 
-    // The first task whose rows this one needs, by the data of the tasks before it. It needs those of
-    // all tasks from that one on to its own.
+    // The first task whose rows this one needs, by the data of the tasks before it. It needs those
+    // of all tasks from that one on to its own.
     ghost first: { Self.Data → ℕ → ℕ };
 
     // The stage has assembled the pieces of so many tasks, and is stopped or goes on. The data

@@ -56,8 +56,9 @@ where
     dispatched
 }
 
-/// A seat as a thread has it: of a ring, over fixed data, without job, turn and block. One join of two that
-/// lends two seats of one type is not understood by the borrow checker, so it is lent as what this says.
+/// A seat as a thread has it: of a ring, over fixed data, without job, turn and block. One join of
+/// two that lends two seats of one type is not understood by the borrow checker, so it is lent as
+/// what this says.
 pub(crate) trait Spare<W: Work>: Send {
     // Of this ring, with such fixed data.
     ghost is_spare: { Self → TableId → Option W.Data → Type 0 };
@@ -136,8 +137,8 @@ where
     }
 }
 
-/// Starts so many threads, fills the ring, sets `stop`, and takes the threads' seats in. Where a thread
-/// can't be made, its part comes last, and ends at once.
+/// Starts so many threads, fills the ring, sets `stop`, and takes the threads' seats in. Where a
+/// thread can't be made, its part comes last, and ends at once.
 pub(crate) fn crew<
     W: Work + Send + Sync,
     L: Labor<W> + Sync,

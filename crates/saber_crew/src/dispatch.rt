@@ -112,8 +112,8 @@ fn turn<W: Work, L: Labor<W>, G: Gate, R: Wait>(
     true
 }
 
-// Turns of work where the supply has nothing yet: one, and more where another thread saw the stage stopped,
-// until this one sees it too. False where the stage is stopped.
+// Turns of work where the supply has nothing yet: one, and more where another thread saw the stage
+// stopped, until this one sees it too. False where the stage is stopped.
 fn work_while_dry<W: Work, L: Labor<W>, G: Gate, R: Wait>(
     rt: &R,
     alloc: Global,
@@ -149,8 +149,8 @@ fn work_while_dry<W: Work, L: Labor<W>, G: Gate, R: Wait>(
     unreachable!()
 }
 
-// The rows of the next task, with turns of work while the supply has none yet. An error says why none
-// come any more: the supply is over, or the stage is stopped.
+// The rows of the next task, with turns of work while the supply has none yet. An error says why
+// none come any more: the supply is over, or the stage is stopped.
 fn next_rows<W: Work, L: Labor<W>, G: Gate, P: Supply<W>, R: Wait>(
     rt: &R,
     alloc: Global,
@@ -244,7 +244,8 @@ where
     unreachable!()
 }
 
-// A turn of work at once where no other thread works, so that rows are worked on while they are at hand.
+// A turn of work at once where no other thread works, so that rows are worked on while they are at
+// hand.
 fn work_along<W: Work, L: Labor<W>, G: Gate>(
     alloc: Global,
     seat: &mut Seat<W>,
@@ -317,8 +318,8 @@ where
     true
 }
 
-/// Fills all tasks of the supply, until the stage is stopped or memory is wanting. Where no other thread
-/// works, each is worked on as soon as it is filled.
+/// Fills all tasks of the supply, until the stage is stopped or memory is wanting. Where no other
+/// thread works, each is worked on as soon as it is filled.
 pub(crate) fn dispatch<W: Work, L: Labor<W>, G: Gate, P: Supply<W>, R: Wait>(
     rt: &R,
     alloc: Global,

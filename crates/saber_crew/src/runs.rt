@@ -15,8 +15,8 @@ use std::sync::Wait;
 use std::sync::atomic::AtomicBool;
 use std::thread::Threads;
 
-/// Does the tasks of this supply by so many threads beside the caller's, and gives the stage back. Where
-/// memory lacks for the ring, all is as it was.
+/// Does the tasks of this supply by so many threads beside the caller's, and gives the stage back.
+/// Where memory lacks for the ring, all is as it was.
 pub fn run<
     W: Work + Send + Sync,
     L: Labor<W> + Sync,

@@ -6,7 +6,8 @@ ghost use Rattle.saber_demo.specs.Query.{demo_query, demo_tree};
 
 use saber_laws::files_are_plain;
 
-/// The generated file is read as the generated rows, whatever the limit of lines, if it isn't below their number.
+/// The generated file is read as the generated rows, whatever the limit of lines, if it isn't below
+/// their number.
 pub fn generated_is_read()
     ensures { GeneratedIsRead }
 {

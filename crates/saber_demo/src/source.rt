@@ -41,7 +41,8 @@ fn step(state: u64) -> u64
     (state * 1_103_515_245 + 12_345) % 2_147_483_648
 }
 
-// Copies what fits of some bytes, from a place on, into the front of the buffer, and tells how many these are.
+// Copies what fits of some bytes, from a place on, into the front of the buffer, and tells how many
+// these are.
 #[tactic(auto, using(crate::proofs::Sources::part_and_rest))]
 fn give(bytes: &[u8], at: usize, buf: &mut [u8]) -> usize
     requires there { at ≤ length bytes.now }

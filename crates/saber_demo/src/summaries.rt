@@ -55,7 +55,8 @@ fn add_entry(out: &mut Vec<u8>, name: &str, number: u64) -> Result<(), NoMemory>
     Ok(())
 }
 
-/// Four lines on a text that so many rows gave: `rows`, `lines` and `bytes` with a number, and `last` with the last line, or `-`.
+/// Four lines on a text that so many rows gave: `rows`, `lines` and `bytes` with a number, and
+/// `last` with the last line, or `-`.
 pub fn summary(alloc: Global, rows: u64, text: &[u8]) -> Result<Vec<u8>, NoMemory>
     ensures { IfOk result (λ out. out.items ≡ summary rows text.now) }
 {

@@ -17,7 +17,8 @@ impl Cutter {
     ghost use Rattle.saber_dispatch.specs.Cutting.{CutTo};
     ghost use Rattle.saber_dispatch.specs.Closing.{Closes, ClosedBy};
 
-    /// The block of these rows, behind which no more come for this block, or what comes in its place.
+    /// The block of these rows, behind which no more come for this block, or what comes in its
+    /// place.
     pub(crate) fn close(&mut self, filled: Result<(), End>, before: Mark, rows: Rows) -> Cut
         requires { (q : Tree) × (s : Sizes) × (had : Lefts) × (has : Lefts) × (r : Input) × Closes q s had has self.old r filled before rows }
         ensures cuts { (q : Tree) (s : Sizes) (had has : Lefts) (r : Input) → Closes q s had has self.old r filled before rows

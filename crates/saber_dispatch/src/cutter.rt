@@ -37,9 +37,9 @@ use std::alloc::Global;
 // A block has room for so many columns a row at first; with more of them it grows.
 pub(crate) const USUAL_COLUMNS: usize = 4;
 
-/// Cuts the rows of a query's inputs into blocks, and keeps what tells how far back each task looks.
-/// It holds no rows. Contracts see it by `Cuts`: which tasks its blocks were. It is called with the same
-/// inputs each time.
+/// Cuts the rows of a query's inputs into blocks, and keeps what tells how far back each task
+/// looks. It holds no rows. Contracts see it by `Cuts`: which tasks its blocks were. It is called
+/// with the same inputs each time.
 #[derive(Drop)]
 pub struct Cutter {
     pub(crate) alloc: Global,
@@ -98,7 +98,8 @@ fn note(lasts: &mut Option<Lasts>, before: &Mark, rows: &Rows) -> Result<(), NoM
     }
 }
 
-// The end in place of a task that needs the blocks from this one on, where there is no room for so many.
+// The end in place of a task that needs the blocks from this one on, where there is no room for so
+// many.
 fn too_wide(task: u64, first: u64, room: u64) -> Option<End>
     requires within { first ≤ task }
     requires few { task ≤ 2 ^ 41 }
@@ -151,7 +152,8 @@ pub(crate) fn stops(filled: Result<(), End>, count: usize) -> Option<End>
     }
 }
 
-// Whether the block of the input's end is still to come behind so many blocks, where no more rows come.
+// Whether the block of the input's end is still to come behind so many blocks, where no more rows
+// come.
 fn is_due(flush: bool, count: u64, end: End) -> bool
     ensures { result ≡ is_due flush count end }
 {
@@ -165,9 +167,10 @@ fn is_due(flush: bool, count: u64, end: End) -> bool
 }
 
 impl Cutter {
-    /// A cutter of a checked plan's inputs, which has read nothing. A block has `sizes.task` rows, and no
-    /// task may need more than `sizes.ring` blocks, its own counted. With `sizes.flush` the end of the input
-    /// is a block too, where the query has windows. The memory of the readers' buffers is taken here.
+    /// A cutter of a checked plan's inputs, which has read nothing. A block has `sizes.task` rows,
+    /// and no task may need more than `sizes.ring` blocks, its own counted. With `sizes.flush` the
+    /// end of the input is a block too, where the query has windows. The memory of the readers'
+    /// buffers is taken here.
     pub fn new(alloc: Global, plan: &Plan, sizes: &Sizes) -> Result<Cutter, NoMemory>
         requires checked { IsChecked (tree_of plan.now) }
         requires sizes { SizesFit sizes.now }
@@ -262,8 +265,9 @@ impl Cutter {
         })
     }
 
-    /// The block of the input's end for queries that join no streams, whose blocks were cut without it: none where not all was read, or
-    /// no row came. It is the same for each of them for which the end counts, and the cutter stays.
+    /// The block of the input's end for queries that join no streams, whose blocks were cut without
+    /// it: none where not all was read, or no row came. It is the same for each of them for which
+    /// the end counts, and the cutter stays.
     pub fn end_block(&self) -> Option<Block>
         ensures none { result ≡ None → is_end_due self.now ≡ false }
         ensures due { IfSome result (λ b. is_end_due self.now ≡ true) }
@@ -285,7 +289,8 @@ impl Cutter {
         })
     }
 
-    /// Takes back the block that was given last, which wasn't passed on for want of memory: no more come then.
+    /// Takes back the block that was given last, which wasn't passed on for want of memory: no more
+    /// come then.
     pub fn take_back(&mut self, number: u64, ended: bool)
         ensures cuts { TakenBack number ended self.old self.new }
         ensures ended { self.new.ended ≡ Some End.NoMemory }
@@ -347,11 +352,12 @@ impl Cutter {
         }
     }
 
-    /// The next block: the rows of the next task, which are as many as the size says, or the last ones
-    /// before the end or a refused line; and, where that was asked for, a last one without rows for the end
-    /// of an input that had some. Rows that came before a failed read or want of memory are in no block. A
-    /// task that needs the rows of more tasks than there is room for is told in place of its block. After an
-    /// end each later call gives the same answer and reads nothing.
+    /// The next block: the rows of the next task, which are as many as the size says, or the last
+    /// ones before the end or a refused line; and, where that was asked for, a last one without
+    /// rows for the end of an input that had some. Rows that came before a failed read or want of
+    /// memory are in no block. A task that needs the rows of more tasks than there is room for is
+    /// told in place of its block. After an end each later call gives the same answer and reads
+    /// nothing.
     pub fn next_block<S: Source>(&mut self, inputs: &mut Inputs<S>) -> Cut
         requires cuts { (q : Tree) × (s : Sizes) × (had : Lefts) × (r : Input) × Cuts q s had (each_input S.left inputs.old) self.old r }
 
@@ -361,7 +367,8 @@ impl Cutter {
         // An end is given again.
         ensures again { IfSome (end_of self.old) (λ end. (result ≡ Cut.Ended end) × (self.new ≡ self.old) × (inputs.new ≡ inputs.old)) }
 
-        // A fault of reading comes first only in a call in which that side's count rose, and with no block; else all counts stay, and none falls.
+        // A fault of reading comes first only in a call in which that side's count rose, and with
+        // no block; else all counts stay, and none falls.
         ensures cause { end_of self.old ≡ None → ReadFaultsRose result (each_input S.faults inputs.old) (each_input S.faults inputs.new) }
         ensures sound { (b : Block) → result ≡ Cut.Block b → (side : Side) → end_of self.new ≢ Some (End.ReadFault side) }
         ensures good { ((side : Side) → result ≢ Cut.Ended (End.ReadFault side)) → each_input S.faults inputs.new ≡ each_input S.faults inputs.old }

@@ -19,9 +19,10 @@ pub(crate) struct Begun {
     pub(crate) rows: Rows,
 }
 
-/// Cuts the rows of a feed into blocks, for a query of one stream. A block that isn't whole is kept from
-/// call to call. Contracts see it by `CutsFed`: which tasks its blocks were, of what was taken of the feed
-/// so far. It is called with the same feed each time, and the feed may be refilled in between.
+/// Cuts the rows of a feed into blocks, for a query of one stream. A block that isn't whole is kept
+/// from call to call. Contracts see it by `CutsFed`: which tasks its blocks were, of what was taken
+/// of the feed so far. It is called with the same feed each time, and the feed may be refilled in
+/// between.
 #[derive(Drop)]
 pub struct FedCutter {
     pub(crate) cutter: Cutter,
@@ -66,9 +67,10 @@ impl FedCutter {
     ghost use Rattle.saber_dispatch.specs.Feeding.{Agrees, Begins, BeginsOn, CutsFed, CutsNothingFed, IsShort, IsWaiting, StepsFrom, TakenBackFed, WaitsIfFew, StepsOn, begun_count, fed_end_of};
     ghost use Rattle.saber_dispatch.specs.FedReadings.{NothingWaits, IsCutOff};
 
-    /// A cutter of a checked plan of one stream, which was given nothing. A block has `sizes.task` rows, and no
-    /// task may need more than `sizes.ring` blocks, its own counted. With `sizes.flush` the end of the feed
-    /// is a block too, where the query has windows. The memory of the reader's buffer is taken here.
+    /// A cutter of a checked plan of one stream, which was given nothing. A block has `sizes.task`
+    /// rows, and no task may need more than `sizes.ring` blocks, its own counted. With
+    /// `sizes.flush` the end of the feed is a block too, where the query has windows. The memory of
+    /// the reader's buffer is taken here.
     pub fn new(alloc: Global, plan: &Plan, sizes: &Sizes) -> Result<FedCutter, NoMemory>
         requires checked { IsChecked (tree_of plan.now) }
         requires one { length (tree_of plan.now).streams ≡ 1 }
@@ -168,13 +170,15 @@ impl FedCutter {
         }
     }
 
-    /// The next block, as `Cutter::next_block` gives it; or, where the rows of the next task aren't all there and the feed
-    /// has nothing as yet, that it is dry: what came is kept, and a call after a refill goes on with it.
-    /// After an end each later call gives the same answer and asks nothing.
+    /// The next block, as `Cutter::next_block` gives it; or, where the rows of the next task aren't
+    /// all there and the feed has nothing as yet, that it is dry: what came is kept, and a call
+    /// after a refill goes on with it. After an end each later call gives the same answer and asks
+    /// nothing.
     pub fn step<F: Feed>(&mut self, feed: &mut F) -> Step
         requires { (q : Tree) × (s : Sizes) × (r : Input) × CutsFed q s (F.taken feed.old) (F.waiting feed.old) (F.mark feed.old) self.old r }
 
-        // Whatever was given before, the block is the next task's, or the end has its cause; what is begun is kept.
+        // Whatever was given before, the block is the next task's, or the end has its cause; what
+        // is begun is kept.
         ensures cuts { StepsOn result (F.taken feed.old) (F.waiting feed.old) (F.waiting feed.new) (F.mark feed.old) self.old self.new }
 
         // Only a refill takes more of the feed.
@@ -186,11 +190,13 @@ impl FedCutter {
         // All is read only where the feed has ended.
         ensures all { result ≡ Step.Ended End.AllRead → F.mark feed.new ≡ Some marks.End }
 
-        // It is dry only where nothing waits and no mark was taken; and wherever the block isn't whole with all that waits, but for want of memory.
+        // It is dry only where nothing waits and no mark was taken; and wherever the block isn't
+        // whole with all that waits, but for want of memory.
         ensures dry { result ≡ Step.Dry → NothingWaits (F.waiting feed.new) (F.mark feed.new) }
         ensures short { IsShort (F.waiting feed.old) (F.mark feed.old) self.old → IsWaiting result }
 
-        // A fault of reading comes only where the feed was cut, first in a call in which its count rose, and with no block; else the count stays.
+        // A fault of reading comes only where the feed was cut, first in a call in which its count
+        // rose, and with no block; else the count stays.
         ensures cut { (side : Side) → result ≡ Step.Ended (End.ReadFault side) → IsCutOff (F.waiting feed.new) (F.mark feed.new) }
         ensures cause { fed_end_of self.old ≡ None → (side : Side) → result ≡ Step.Ended (End.ReadFault side) → Rose (F.faults feed.old) (F.faults feed.new) }
         ensures sound { (b : Block) → result ≡ Step.Block b → (side : Side) → fed_end_of self.new ≢ Some (End.ReadFault side) }

@@ -8,15 +8,17 @@ pub fn refills_keep()
     ensures { RefillsKeep }
 {}
 
-/// No block's task is too wide, and a task that is told in place of its block is the first one that is.
+/// No block's task is too wide, and a task that is told in place of its block is the first one that
+/// is.
 pub fn fed_blocks_are_near()
     ensures { FedBlocksAreNear }
 {
     blocks_are_near();
 }
 
-/// Whatever file goes on from what was taken of a feed, the blocks given so far are the first tasks of its
-/// input, in order; an end of all rows is the input's, and a task is too wide where it is the first such one.
+/// Whatever file goes on from what was taken of a feed, the blocks given so far are the first tasks
+/// of its input, in order; an end of all rows is the input's, and a task is too wide where it is
+/// the first such one.
 pub fn fed_blocks_are_tasks()
     ensures { FedBlocksAreTasks }
 {

@@ -51,8 +51,8 @@ fn next_of_feed<F: Feed>(lines: &mut Lines, feed: &mut F) -> Got
 }
 
 impl Reader {
-    /// The next row of a feed, which is the only input, or that nothing is there as yet, or why none comes. It is called with the same
-    /// feed each time.
+    /// The next row of a feed, which is the only input, or that nothing is there as yet, or why
+    /// none comes. It is called with the same feed each time.
     pub(crate) fn next_fed<F: Feed>(&mut self, feed: &mut F) -> Got
         requires { Suits (reading_of self.old) (only (F.waiting feed.old)) }
         ensures step { FedSteps result (reading_of self.old) (reading_of self.new) (only (F.waiting feed.old)) (only (F.waiting feed.new)) }

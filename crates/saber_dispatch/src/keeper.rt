@@ -1,4 +1,5 @@
-// What a query's blocks have beside their own rows: rows of the block before, and where rows stand among those of their key lists.
+// What a query's blocks have beside their own rows: rows of the block before, and where rows stand
+// among those of their key lists.
 ghost use Rattle.std.specs.Prelude.{◌≡◌, ◌++◌, [], None, List, IfOk, OnOk, IfSome};
 ghost use Rattle.saber_plan.specs.declared.rows.Row.{Row};
 ghost use Rattle.saber_plan.specs.Trees.{Tree, tree_of};
@@ -13,9 +14,10 @@ use saber_plan::{NoMemory, Plan, Shape, Sizes, Stream};
 use saber_window::may_lie_in_two;
 use std::alloc::Global;
 
-/// Gives the blocks of one query what they have beside their own rows. Each has a copy of the rows of the block before it, where that lets its
-/// task answer windows that lie in both: else they would be put together under the turn, by one thread at a time. With PARTITION BY each
-/// tells where its rows stand among those of their key lists. A cutter knows nothing of either.
+/// Gives the blocks of one query what they have beside their own rows. Each has a copy of the rows
+/// of the block before it, where that lets its task answer windows that lie in both: else they
+/// would be put together under the turn, by one thread at a time. With PARTITION BY each tells
+/// where its rows stand among those of their key lists. A cutter knows nothing of either.
 #[derive(Drop)]
 pub struct Keeper {
     pub(crate) alloc: Global,
@@ -38,8 +40,8 @@ fn has_such(streams: &[Stream], task: u32) -> bool {
     }
 }
 
-// Whether a query's tasks are to have the rows of the task before: with no thread beside the caller's nothing waits for the turn, and with
-// PARTITION BY no task answers a window by itself.
+// Whether a query's tasks are to have the rows of the task before: with no thread beside the
+// caller's nothing waits for the turn, and with PARTITION BY no task answers a window by itself.
 fn helps(plan: &Plan, sizes: &Sizes) -> bool {
     match plan.shape() {
         Shape::Select => false,
@@ -68,7 +70,8 @@ fn with_kept(block: Block, kept: Option<Earlier>, places: Vec<u64>) -> Block
 }
 
 impl Keeper {
-    /// For the blocks of a checked plan's tasks, of which none was given. Memory is taken for the columns of PARTITION BY.
+    /// For the blocks of a checked plan's tasks, of which none was given. Memory is taken for the
+    /// columns of PARTITION BY.
     pub fn new(alloc: Global, plan: &Plan, sizes: &Sizes) -> Result<Keeper, NoMemory>
         requires { IsChecked (tree_of plan.now) }
         ensures kept { IfOk result (λ k. k.kept ≡ None) }
@@ -99,9 +102,10 @@ impl Keeper {
         }
     }
 
-    /// The next block, with the rows of the one before it where they are kept, and with where its own stand among those of their key
-    /// lists where the plan has PARTITION BY: a key list that is new takes memory. Want of memory for a copy is no error: then the next
-    /// block has none of these rows.
+    /// The next block, with the rows of the one before it where they are kept, and with where its
+    /// own stand among those of their key lists where the plan has PARTITION BY: a key list that is
+    /// new takes memory. Want of memory for a copy is no error: then the next block has none of
+    /// these rows.
     pub fn pass_on(&mut self, block: Block) -> Result<Block, NoMemory>
         requires { (q : Tree) × (xs : List Row) × CountsRows self.old q xs × RowsFit q no_rows (xs ++ block.rows) }
         ensures same { IfOk result (OnlyAdded block) }

@@ -39,7 +39,8 @@ fn last_of_each(windows: &Windows, before: &Mark, rows: &Rows) -> Option<u64>
     last
 }
 
-// The same by the last of them, if that lies in a window by time: no row before it lies in a later one.
+// The same by the last of them, if that lies in a window by time: no row before it lies in a later
+// one.
 fn last_by_time(windows: &Windows, before: &Mark, rows: &Rows) -> Option<u64>
     requires left { before.now.left < 2 ^ 63 }
     requires right { before.now.right < 2 ^ 63 }

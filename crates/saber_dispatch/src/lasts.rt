@@ -12,8 +12,8 @@ use saber_plan::{Mark, NoMemory};
 use saber_window::{Windows, free_of};
 use std::collections::VecDeque;
 
-/// What is kept of the blocks before the next one, from the first that a task may still look back on:
-/// the greatest last window of each block's rows.
+/// What is kept of the blocks before the next one, from the first that a task may still look back
+/// on: the greatest last window of each block's rows.
 #[derive(Drop)]
 pub(crate) struct Lasts {
     pub(crate) windows: Windows,
@@ -22,8 +22,8 @@ pub(crate) struct Lasts {
 }
 
 impl Lasts {
-    /// The first block that the next task looks back on, where this mark stands before it. Earlier ones
-    /// are forgotten.
+    /// The first block that the next task looks back on, where this mark stands before it. Earlier
+    /// ones are forgotten.
     pub(crate) fn look_back(&mut self, mark: &Mark) -> u64
         requires { self.old.first < 2 ^ 42 }
         ensures first { result ≡ free_of self.old.first self.old.list.items (closed_count self.old.windows mark.now) }

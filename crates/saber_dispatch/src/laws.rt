@@ -7,15 +7,17 @@ use saber_fragment::Operator;
 use saber_laws::{all_are_first, merges_keep_first, needs_stay, whole_lines_are_first};
 use saber_rows::{merges_tell, readers_tell};
 
-/// No block's task is too wide, and a task that is told in place of its block is the first one that is.
+/// No block's task is too wide, and a task that is told in place of its block is the first one that
+/// is.
 pub fn blocks_are_near()
     ensures { BlocksAreNear }
 {
     needs_stay();
 }
 
-/// Over inputs that tell their bytes, the blocks given so far are the first tasks of the run's input, in
-/// order; an end of all rows is the input's, and a task is too wide where it is the first such one.
+/// Over inputs that tell their bytes, the blocks given so far are the first tasks of the run's
+/// input, in order; an end of all rows is the input's, and a task is too wide where it is the first
+/// such one.
 pub fn blocks_are_tasks()
     ensures { BlocksAreTasks }
 {
@@ -24,14 +26,14 @@ pub fn blocks_are_tasks()
     merges_tell();
 }
 
-/// A block that is given is the block of its task for the work of threads, and all that was filled then
-/// comes in the tasks up to it.
+/// A block that is given is the block of its task for the work of threads, and all that was filled
+/// then comes in the tasks up to it.
 pub fn blocks_are_supplied<O: Operator>()
     ensures { BlocksAreSupplied O.plan }
 {}
 
-/// After a failed read at least every whole task of the whole lines that were taken of each input is in a
-/// block.
+/// After a failed read at least every whole task of the whole lines that were taken of each input
+/// is in a block.
 pub fn faults_leave_whole_tasks()
     ensures { FaultsLeaveWholeTasks }
 {

@@ -1,6 +1,6 @@
-// What cuts rows into blocks is let go by calls. Where a function held a cutter at an exit of its own, the steps that let each
-// of its parts go would stand in that function, and its proof would take them all in; and each crate that lets one go would
-// prove anew how its parts are let go.
+// What cuts rows into blocks is let go by calls. Where a function held a cutter at an exit of its
+// own, the steps that let each of its parts go would stand in that function, and its proof would
+// take them all in; and each crate that lets one go would prove anew how its parts are let go.
 use crate::cutter::Cutter;
 use crate::fed_cutter::{Begun, FedCutter};
 use crate::keeper::Keeper;

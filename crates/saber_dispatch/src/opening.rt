@@ -78,7 +78,8 @@ pub(crate) fn lasts_for(alloc: Global, plan: &Plan) -> Option<Lasts>
     }
 }
 
-/// Whether the end of the input is a task of a checked plan: that is asked for, and the query has windows.
+/// Whether the end of the input is a task of a checked plan: that is asked for, and the query has
+/// windows.
 pub fn end_counts(plan: &Plan, sizes: &Sizes) -> bool
     requires { IsChecked (tree_of plan.now) }
     ensures { result ≡ end_counts (tree_of plan.now) sizes.now }

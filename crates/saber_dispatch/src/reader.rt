@@ -81,8 +81,8 @@ fn next_of_two<S: Source>(merge: &mut Merge, inputs: &mut Inputs<S>) -> Result<R
     }
 }
 
-// Appends the next rows of one input, up to so many, as far as they are held and need no second look, and steps the mark
-// over them: all are of one stream, so the last of them tells its time.
+// Appends the next rows of one input, up to so many, as far as they are held and need no second
+// look, and steps the mark over them: all are of one stream, so the last of them tells its time.
 #[inline(always)]
 fn take_of_one(lines: &mut Lines, mark: &mut Mark, out: &mut RowBuilder, most: usize) -> usize
     requires begun { out.old.begun ≡ [] }
@@ -127,8 +127,8 @@ fn mark_from(before: &Mark, out: &RowBuilder, from: usize) -> Mark
     mark
 }
 
-// Appends the next rows of two inputs, up to so many, as far as both sides hold theirs and they need no second look, and
-// steps the mark over them.
+// Appends the next rows of two inputs, up to so many, as far as both sides hold theirs and they
+// need no second look, and steps the mark over them.
 #[inline(always)]
 fn take_of_two(merge: &mut Merge, mark: &mut Mark, out: &mut RowBuilder, most: usize) -> usize
     requires begun { out.old.begun ≡ [] }
@@ -149,8 +149,8 @@ fn take_of_two(merge: &mut Merge, mark: &mut Mark, out: &mut RowBuilder, most: u
 }
 
 impl Reader {
-    /// Appends the next rows, up to so many, as far as the reader holds them and needs no second look at them, steps the
-    /// mark over them, and answers how many they are. No input is asked.
+    /// Appends the next rows, up to so many, as far as the reader holds them and needs no second
+    /// look at them, steps the mark over them, and answers how many they are. No input is asked.
     #[inline(always)]
     pub(crate) fn take_quick(&mut self, mark: &mut Mark, out: &mut RowBuilder, most: usize) -> usize
         requires begun { out.old.begun ≡ [] }

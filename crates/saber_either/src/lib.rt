@@ -5,8 +5,8 @@
 //!   operators is an `Operator`, whose drafts, pieces and stores are of the kind that it is of).
 //! - Calls: those of the trait. `take_in` drops the closed parts at once, so that `drop_closed` has
 //!   nothing to do.
-//! - Proved: for any two operators, all that the trait asks. The plan, what was seen and taken in, and
-//!   what a store holds are those of whichever it is; all that it holds behind a piece stays.
+//! - Proved: for any two operators, all that the trait asks. The plan, what was seen and taken in,
+//!   and what a store holds are those of whichever it is; all that it holds behind a piece stays.
 //! - Not claimed: anything of a draft, a piece or a store of the other kind. No call takes one.
 //! - Limits: two kinds. More of them are `OneOf` of `OneOf`.
 #![tactic(auto)]

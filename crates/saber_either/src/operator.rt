@@ -28,7 +28,8 @@ fn take_and_drop<O: Operator>(
     Ok(())
 }
 
-// What it holds is all that stays of it, since closed parts are dropped as soon as a piece is taken in.
+// What it holds is all that stays of it, since closed parts are dropped as soon as a piece is taken
+// in.
 impl<A: Operator, B: Operator> Operator for OneOf<A, B> {
     type Draft = OneOf<A::Draft, B::Draft>;
 

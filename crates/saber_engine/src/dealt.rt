@@ -20,7 +20,8 @@ use std::alloc::Global;
 use std::collections::VecDeque;
 use std::marker::PhantomData;
 
-/// The blocks of a run that began so, of which each query has its own, and how they ended, once they did.
+/// The blocks of a run that began so, of which each query has its own, and how they ended, once
+/// they did.
 pub(crate) struct Dealt<S, J> {
     pub(crate) alloc: Global,
     pub(crate) cutter: Cutter,
@@ -90,17 +91,13 @@ fn without_end(sizes: &Sizes) -> Sizes
     ensures { result ≡ without_end sizes.now }
 {
     Sizes {
-        task: sizes.task,
-        ring: sizes.ring,
-        threads: sizes.threads,
-        max_lines: sizes.max_lines,
-        slack: sizes.slack,
         flush: false,
+        ..*sizes
     }
 }
 
-// The cutter of the first plan, which serves all: the rows are the same for each, and nobody's windows look at it. The end of the input
-// is none of its blocks, since it isn't a task of each.
+// The cutter of the first plan, which serves all: the rows are the same for each, and nobody's
+// windows look at it. The end of the input is none of its blocks, since it isn't a task of each.
 fn cutter_for<K>(alloc: Global, jobs: &[Job<'_, K>], sizes: &Sizes) -> Result<Cutter, NoMemory>
     requires some { jobs.now ≢ [] }
     requires share { (columns : ℕ) × AllByRecursion (λ job. MayShare columns (tree_in job)) jobs.now }

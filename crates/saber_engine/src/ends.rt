@@ -14,7 +14,8 @@ pub struct Ran<K> {
     pub end: RunEnd,
     pub sink: K,
     pub tasks: u64,
-    /// Whether the stage stopped, by a write that failed or for want of memory: then this end came before that of the blocks.
+    /// Whether the stage stopped, by a write that failed or for want of memory: then this end came
+    /// before that of the blocks.
     pub stopped: bool,
 }
 

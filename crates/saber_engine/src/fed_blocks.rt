@@ -93,8 +93,8 @@ impl<F, J> FedBlocks<F, J> {
     }
 }
 
-// The next block, if it is there; else the feed is refilled. None where that brought something, so that the
-// block may be there now.
+// The next block, if it is there; else the feed is refilled. None where that brought something, so
+// that the block may be there now.
 fn try_next<F: Feed, J: BeginsFed, O: Operator>(
     blocks: &mut FedBlocks<F, J>,
     feed: &mut F,

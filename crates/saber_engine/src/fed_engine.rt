@@ -45,8 +45,8 @@ fn run_shape<F: Feed, K: Pour + Send, G: Gate + Sync, R: Threads + Wait + Sync>(
     }
 }
 
-/// Runs a checked plan of one stream over a feed, of which nothing was given yet. Where the feed has
-/// nothing as yet, this thread works with the others, and pauses where there is no work.
+/// Runs a checked plan of one stream over a feed, of which nothing was given yet. Where the feed
+/// has nothing as yet, this thread works with the others, and pauses where there is no work.
 pub fn engine_fed<F: Feed, K: Sink + Send, G: Gate + Sync, R: Threads + Wait + Sync>(
     rt: &R,
     alloc: Global,
@@ -61,8 +61,9 @@ pub fn engine_fed<F: Feed, K: Sink + Send, G: Gate + Sync, R: Threads + Wait + S
     requires sizes { SizesFit sizes.now }
     requires fresh { F.waiting feed.old ≡ F.taken feed.old }
 
-    // Over each file that goes on from what was taken of the feed, and is this where the feed ended: what goes out is the text of the
-    // first tasks' rows; with all read, or a line refused, of all tasks, and of those before one that is too wide for the ring.
+    // Over each file that goes on from what was taken of the feed, and is this where the feed
+    // ended: what goes out is the text of the first tasks' rows; with all read, or a line refused,
+    // of all tasks, and of those before one that is too wide for the ring.
     ensures gives { GivesFed (tree_of plan.now) sizes.now (F.taken feed.new) (F.mark feed.new) (K.written sink) (K.written result.sink) result.end result.tasks }
 
     // A feed that is cut off leaves at least every whole task assembled of what was taken.

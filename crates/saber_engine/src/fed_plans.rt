@@ -20,7 +20,8 @@ use std::marker::Brand;
 use std::sync::Wait;
 use std::thread::Threads;
 
-/// Runs the operator of a checked plan of one stream over a feed. `J` names what there was when it began.
+/// Runs the operator of a checked plan of one stream over a feed. `J` names what there was when it
+/// began.
 pub(crate) fn run_fed<
     F: Feed,
     O: Operator + Send + Sync,
@@ -70,12 +71,8 @@ where
         feed,
         stage,
         &Sizes {
-            task: sizes.task,
             ring: ring_size(plan, sizes),
-            threads: sizes.threads,
-            max_lines: sizes.max_lines,
-            slack: sizes.slack,
-            flush: sizes.flush,
+            ..*sizes
         },
     );
     let end = blocks.let_go();

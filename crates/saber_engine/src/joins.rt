@@ -22,7 +22,8 @@ use std::marker::Brand;
 use std::sync::Wait;
 use std::thread::Threads;
 
-// Each operator has a run of its own, since that it may be sent and shared is found where little else is known.
+// Each operator has a run of its own, since that it may be sent and shared is found where little
+// else is known.
 
 // One whose windows print their answers.
 fn run_alike<S: Source, K: Pour + Send, G: Gate + Sync, R: Threads + Wait + Sync>(

@@ -1,12 +1,12 @@
 //! A run of a plan over its inputs: cuts rows into tasks, has pieces made, assembles them in order.
 //! The chain and the top call run queries by it.
 //!
-//! - Parts: `ends` (how a run ends), `ring_size`, `spare` (memory stays with the
-//!   process), `blocks` and `plans` (a run of one operator), `ways` (how a plan answers),
-//!   `selections`, `groups` and `joins` (the operator of a plan, by its way), `run_engine` (a plan
-//!   over sources), `fed_blocks`, `fed_plans`, `fed_selections`, `fed_groups` and `fed_engine` (the
-//!   same over a feed); `jobs`, `dealt`, `kinds`, `last_task`, `shared_run` and `run_engines` (several
-//!   plans over one input).
+//! - Parts: `ends` (how a run ends), `ring_size`, `spare` (memory stays with the process), `blocks`
+//!   and `plans` (a run of one operator), `ways` (how a plan answers), `selections`, `groups` and
+//!   `joins` (the operator of a plan, by its way), `run_engine` (a plan over sources),
+//!   `fed_blocks`, `fed_plans`, `fed_selections`, `fed_groups` and `fed_engine` (the same over a
+//!   feed); `jobs`, `dealt`, `kinds`, `last_task`, `shared_run` and `run_engines` (several plans
+//!   over one input).
 //! - Calls: `engine` takes a checked plan, sources, a sink, sizes and a gate, and gives the sink
 //!   back with how the run ended and how many tasks are assembled; `engine_pouring` takes a sink
 //!   that may hold bytes back, `engine_fed` a feed in place of sources; `engines` takes several
@@ -18,7 +18,8 @@
 //!   the same holds for every file that goes on from what was taken (`specs/FedRuns.antt`). Of
 //!   several plans each has all that a run of it alone has.
 //! - Not claimed: time, progress of threads, or a cause for want of memory. Over one stream the
-//!   ring may have fewer cells than `--ring` says (`ring_size.rt`); no contract speaks of it.
+//!   ring may have fewer cells than `--ring` says (`ring_size.rt`); no public contract speaks of
+//!   it.
 //! - Limits: those of `Sizes`. A run waits for its threads.
 #![tactic(auto)]
 

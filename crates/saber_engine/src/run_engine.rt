@@ -46,10 +46,11 @@ fn run_shape<S: Source, K: Pour + Send, G: Gate + Sync, R: Threads + Wait + Sync
     }
 }
 
-/// Runs a checked plan over its inputs: cuts the rows into tasks of `sizes.task` rows, has the piece of
-/// each made by this thread and `sizes.threads` others round a ring of `sizes.ring` cells, and assembles
-/// the pieces in order; the text of each task goes out in one write. The sink may hold back what was
-/// written: it is told to let that go as each task is assembled.
+/// Runs a checked plan over its inputs: cuts the rows into tasks of `sizes.task` rows, has the
+/// piece of each made by this thread and `sizes.threads` others round a ring of at most
+/// `sizes.ring` cells, and assembles the pieces in order; the text of each task goes out in one
+/// write. The sink may hold back what was written: it is told to let that go as each task is
+/// assembled.
 pub fn engine_pouring<S: Source, K: Pour + Send, G: Gate + Sync, R: Threads + Wait + Sync>(
     rt: &R,
     alloc: Global,
@@ -63,8 +64,8 @@ pub fn engine_pouring<S: Source, K: Pour + Send, G: Gate + Sync, R: Threads + Wa
     requires inputs { length (each_input S.left inputs.old) ≡ length (tree_of plan.now).streams }
     requires sizes { SizesFit sizes.now }
 
-    // What goes out is the text of the first tasks' rows; with all read, or a line refused, of all tasks, and of those before one
-    // that is too wide for the ring.
+    // What goes out is the text of the first tasks' rows; with all read, or a line refused, of all
+    // tasks, and of those before one that is too wide for the ring.
     ensures gives { GivesTold (tree_of plan.now) sizes.now (told_by S.left inputs.old) (K.written sink) (K.written result.sink) result.end result.tasks }
 
     // A fault of reading leaves at least every whole task assembled of what was taken.
@@ -102,8 +103,8 @@ pub fn engine<S: Source, K: Sink + Send, G: Gate + Sync, R: Threads + Wait + Syn
     requires inputs { length (each_input S.left inputs.old) ≡ length (tree_of plan.now).streams }
     requires sizes { SizesFit sizes.now }
 
-    // What goes out is the text of the first tasks' rows; with all read, or a line refused, of all tasks, and of those before one
-    // that is too wide for the ring.
+    // What goes out is the text of the first tasks' rows; with all read, or a line refused, of all
+    // tasks, and of those before one that is too wide for the ring.
     ensures gives { GivesTold (tree_of plan.now) sizes.now (told_by S.left inputs.old) (K.written sink) (K.written result.sink) result.end result.tasks }
 
     // A fault of reading leaves at least every whole task assembled of what was taken.

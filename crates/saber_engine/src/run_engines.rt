@@ -33,9 +33,10 @@ fn none_stopped(alloc: Global, count: usize) -> Result<Vec<AtomicBool>, NoMemory
     Ok(stopped)
 }
 
-/// Runs checked plans of one stream, of as many columns, over one input that is read once, each into its own sink. A task is a task of all,
-/// and each has `sizes.threads` threads. One whose sink fails, or for which memory lacks, stops alone.
-/// With `sizes.flush` the end of the input is a task of those that have windows.
+/// Runs checked plans of one stream, of as many columns, over one input that is read once, each
+/// into its own sink. A task is a task of all, and each has `sizes.threads` threads. One whose sink
+/// fails, or for which memory lacks, stops alone. With `sizes.flush` the end of the input is a task
+/// of those that have windows.
 pub fn engines<'p, S: Source, K: Pour + Send, G: Gate + Sync, R: Threads + Wait + Sync>(
     rt: &R,
     alloc: Global,

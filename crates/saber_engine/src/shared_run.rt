@@ -38,12 +38,9 @@ fn sizes_for(sizes: &Sizes, count: usize) -> Sizes
 {
     let threads = (count * sizes.threads as usize) as u32;
     Sizes {
-        task: sizes.task,
         ring: near_size(sizes, threads),
         threads,
-        max_lines: sizes.max_lines,
-        slack: sizes.slack,
-        flush: sizes.flush,
+        ..*sizes
     }
 }
 
@@ -116,8 +113,9 @@ where
     }
 }
 
-/// Runs the operators of checked plans of one stream over one input that is read once, each into its own sink; `counts` tells of which
-/// the end of the input is a task. `J` names what there was when it began. Where memory lacks for what they have before they begin, the queries come back.
+/// Runs the operators of checked plans of one stream over one input that is read once, each into
+/// its own sink; `counts` tells of which the end of the input is a task. `J` names what there was
+/// when it began. Where memory lacks for what they have before they begin, the queries come back.
 pub(crate) fn run_each<
     'p,
     S: Source,

@@ -70,7 +70,8 @@ impl Rows {
         Ok(())
     }
 
-    /// Copies of these rows, behind the others: their numbers in one piece. After want of memory some of them are there.
+    /// Copies of these rows, behind the others: their numbers in one piece. After want of memory
+    /// some of them are there.
     pub fn extend(&mut self, rows: &Rows) -> Result<(), NoMemory>
         ensures { OnOk result (self.new ≡ self.old ++ rows.now) }
     {

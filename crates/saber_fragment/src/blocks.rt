@@ -3,8 +3,9 @@ use saber_flat::Rows;
 use saber_plan::Mark;
 use std::alloc::Global;
 
-/// Rows that stand right before a task's own, with the mark before them: those of the task before it, where they help, else none.
-/// They are a copy, so no other task's block has to be kept for them.
+/// Rows that stand right before a task's own, with the mark before them: those of the task before
+/// it, where they help, else none. They are a copy, so no other task's block has to be kept for
+/// them.
 #[derive(Drop)]
 pub struct Earlier {
     /// What stands before these rows.
@@ -42,7 +43,8 @@ pub struct Block {
     pub before: Mark,
     /// The task's own rows.
     pub rows: Rows,
-    /// Where each of them stands among all rows with its key list, where the query has PARTITION BY, else nothing.
+    /// Where each of them stands among all rows with its key list, where the query has PARTITION
+    /// BY, else nothing.
     pub places: Vec<u64>,
     /// Whether the input ends behind them: of the flush task alone, which has no rows.
     pub ended: bool,

@@ -6,8 +6,8 @@ use saber_laws::{
     tasks_look_back,
 };
 
-/// A draft of a task can look back on the blocks whose rows the task needs (SABER 2016), one after another,
-/// and what it then has is enough for the task's shares.
+/// A draft of a task can look back on the blocks whose rows the task needs (SABER 2016), one after
+/// another, and what it then has is enough for the task's shares.
 pub fn drafts_look_back()
     ensures { DraftsLookBack }
 {

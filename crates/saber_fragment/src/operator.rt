@@ -10,9 +10,9 @@ use crate::Block;
 use saber_plan::NoMemory;
 use std::alloc::Global;
 
-/// An operator of one plan (SABER 2016: its fragment function, which makes a piece of a task's rows,
-/// and its assembly function, which takes pieces in, in the order of their tasks). What it keeps in a
-/// draft, a piece or a store is its own matter.
+/// An operator of one plan (SABER 2016: its fragment function, which makes a piece of a task's
+/// rows, and its assembly function, which takes pieces in, in the order of their tasks). What it
+/// keeps in a draft, a piece or a store is its own matter.
 pub trait Operator {
     /// A task's piece in the making.
     type Draft: Drop;
@@ -29,7 +29,8 @@ pub trait Operator {
     /// How much of its task's input a draft has.
     ghost has_seen: { Self → Self.Draft → Sight → Type 0 };
 
-    /// What a store keeps: open parts by window, or by key list and window, and the answers of the last closed window.
+    /// What a store keeps: open parts by window, or by key list and window, and the answers of the
+    /// last closed window.
     ghost contents: { Self.Store → Kept };
 
     /// What stays of it, once the closed parts are dropped.
@@ -38,8 +39,9 @@ pub trait Operator {
     /// What a store knows of the input whose pieces it has taken in, beside what it keeps.
     ghost has_taken: { Self → Self.Store → Input → Type 0 };
 
-    /// A piece has what the arrivals of an input from one position up to another give. Of windows that print their answers as they are
-    /// that is their shares (`shares_between`), of others what is handed on (`handed_between`).
+    /// A piece has what the arrivals of an input from one position up to another give. Of windows
+    /// that print their answers as they are that is their shares (`shares_between`), of others what
+    /// is handed on (`handed_between`).
     ghost is_of: { Self → Self.Piece → Input → ℕ → ℕ → Type 0 };
 
     /// Begins a task's piece by the task's own block, of which it copies what it keeps.
@@ -47,8 +49,8 @@ pub trait Operator {
         requires { CanStart (plan self.now) own.now }
         ensures { IfOk result (λ d. has_seen self.now d (own_sight own.now)) };
 
-    /// Takes in one block more of those before the task's own, from `first` on, each once and rising.
-    /// After want of memory the draft is only safe to let go.
+    /// Takes in one block more of those before the task's own, from `first` on, each once and
+    /// rising. After want of memory the draft is only safe to let go.
     fn look_back(
         &self,
         alloc: Global,
@@ -59,7 +61,8 @@ pub trait Operator {
         ensures { OnOk result ((s : Sight) → has_seen self.now draft.old s → CanLookBack (plan self.now) s block.now
             → has_seen self.now draft.new (seen_back s block.now)) };
 
-    /// The piece, once all blocks before the task's own are in: that of the arrivals that the task's own rows are.
+    /// The piece, once all blocks before the task's own are in: that of the arrivals that the
+    /// task's own rows are.
     fn finish(&self, alloc: Global, draft: Self::Draft) -> Result<Self::Piece, NoMemory>
         requires { (s : Sight) × (has_seen self.now draft s) × IsWhole (plan self.now) s }
         ensures { IfOk result (λ p. (s : Sight) (r : Input) (x y : ℕ) → has_seen self.now draft s → IsWhole (plan self.now) s
@@ -70,9 +73,9 @@ pub trait Operator {
         ensures contents { contents result ≡ nothing_kept }
         ensures taken { has_taken self.now result (going_on []) };
 
-    /// Takes in the piece of the next task, and appends what its arrivals add to the text: what is printed of
-    /// the windows that are closed now, or of its rows. After want of
-    /// memory `out` is as before, and the store is only safe to let go.
+    /// Takes in the piece of the next task, and appends what its arrivals add to the text: what is
+    /// printed of the windows that are closed now, or of its rows. After want of memory `out` is as
+    /// before, and the store is only safe to let go.
     fn take_in(
         &self,
         alloc: Global,

@@ -12,9 +12,9 @@ use saber_plan::{Mark, NoMemory};
 use saber_window::ending;
 use std::alloc::Global;
 
-/// The slices of a task's rows, in order, with the mark behind the rows, which has the input's end if
-/// that comes there. Such a task answers no window itself: what its first one prints stands on the
-/// window before.
+/// The slices of a task's rows, in order, with the mark behind the rows, which has the input's end
+/// if that comes there. Such a task answers no window itself: what its first one prints stands on
+/// the window before.
 #[derive(Drop)]
 pub struct TaskSlices {
     pub(crate) slices: Vec<Slice>,

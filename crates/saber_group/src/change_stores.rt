@@ -19,8 +19,8 @@ use saber_plan::{NoMemory, Plan};
 use std::alloc::Global;
 use std::sync::ledger::{Blank, Ledger};
 
-/// The slices that windows have that aren't closed, and the walk over those that are: its next window
-/// is the first of the others.
+/// The slices that windows have that aren't closed, and the walk over those that are: its next
+/// window is the first of the others.
 #[derive(Drop)]
 pub struct WalkStore {
     pub(crate) slices: SliceStore,
@@ -71,9 +71,9 @@ impl Open {
 }
 
 impl Group<'_> {
-    /// Takes the next slices in, and appends what the windows below `closed` gain or lose. In merges,
-    /// slices and windows cost what they cost `take_slices`. After want of memory store, walk and text
-    /// are only safe.
+    /// Takes the next slices in, and appends what the windows below `closed` gain or lose. In
+    /// merges, slices and windows cost what they cost `take_slices`. After want of memory store,
+    /// walk and text are only safe.
     pub(crate) fn walk_slices<L: Ledger>(
         &self,
         alloc: Global,

@@ -1,4 +1,5 @@
-// What a task answers itself: the windows that lie whole in it and in the rows before it that its block has.
+// What a task answers itself: the windows that lie whole in it and in the rows before it that its
+// block has.
 ghost use Rattle.std.specs.Prelude.{◌≡◌, [], ◌+◌, ◌*◌, ◌≤◌, ◌++◌, Some, length, take, true, IfOk, IfSome, OnOk};
 ghost use Rattle.std.specs.List.{AllByRecursion, slice_get};
 ghost use Rattle.saber_plan.specs.Windows.{mark_after, ending, closed_count};
@@ -26,8 +27,9 @@ use saber_sliding::Front;
 use std::alloc::Global;
 use std::sync::ledger::Ledger;
 
-/// The text of the windows from `low` on that are done, each of which lies whole in a task and the rows before it that its block has
-/// (SABER 2016: complete, where it has none), and what is open behind them.
+/// The text of the windows from `low` on that are done, each of which lies whole in a task and the
+/// rows before it that its block has (SABER 2016: complete, where it has none), and what is open
+/// behind them.
 #[derive(Drop)]
 pub(crate) struct Complete {
     pub(crate) low: u64,
@@ -75,8 +77,9 @@ pub(crate) fn closing_end(slices: &[Slice], low: u64) -> usize
     slices.len()
 }
 
-// Whether a task gives so few of its slices as copies that a slice costs three steps at most: two in its own task's queue, and one more
-// as the task behind sums it up, or two for half of them in the store's.
+// Whether a task gives so few of its slices as copies that a slice costs three steps at most: two
+// in its own task's queue, and one more as the task behind sums it up, or two for half of them in
+// the store's.
 fn are_few(copies: usize, slices: usize, earlier: usize) -> bool
     ensures half { result ≡ true → 2 * copies ≤ slices }
 {
@@ -99,8 +102,8 @@ fn add_slice(front: &mut Front, low: u64, slice: Slice) -> Result<(), NoMemory>
 }
 
 impl Group<'_> {
-    // The queue of the windows from `low` on, with the rows before a task: one step for each of their slices, and none is owed. None of
-    // the windows below that they begin is closed by them.
+    // The queue of the windows from `low` on, with the rows before a task: one step for each of
+    // their slices, and none is owed. None of the windows below that they begin is closed by them.
     fn open_behind<L: Ledger>(
         &self,
         alloc: Global,
@@ -138,9 +141,11 @@ impl Group<'_> {
         })
     }
 
-    /// What a task answers itself, of its slices: the windows up to `high` that lie whole in it and these rows before it. It takes its
-    /// slices in as the store would, in as many steps, behind a queue of those rows. The windows that begin before have the slices that are
-    /// given back, which are copies. Where these would be too many, or no window lies whole, the slices are given back as they are.
+    /// What a task answers itself, of its slices: the windows up to `high` that lie whole in it and
+    /// these rows before it. It takes its slices in as the store would, in as many steps, behind a
+    /// queue of those rows. The windows that begin before have the slices that are given back,
+    /// which are copies. Where these would be too many, or no window lies whole, the slices are
+    /// given back as they are.
     pub(crate) fn completed<L: Ledger>(
         &self,
         alloc: Global,

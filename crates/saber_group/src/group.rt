@@ -15,8 +15,8 @@ use saber_plan::{Mark, Plan};
 use saber_window::Windows;
 use std::marker::Model;
 
-/// A checked group query and its windows, over its plan: what its operators have in common, whatever
-/// word stands before the query. Contracts see it as the plan.
+/// A checked group query and its windows, over its plan: what its operators have in common,
+/// whatever word stands before the query. Contracts see it as the plan.
 #[derive(Drop)]
 pub(crate) struct Group<'a> {
     pub(crate) plan: &'a Plan,

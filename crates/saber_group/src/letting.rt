@@ -1,5 +1,6 @@
-// Slices, and what has them, are let go by calls. Where a function held one at an exit of its own, the steps that let each of its
-// parts go would stand in that function, once for each exit, and its proof would take them all in.
+// Slices, and what has them, are let go by calls. Where a function held one at an exit of its own,
+// the steps that let each of its parts go would stand in that function, once for each exit, and its
+// proof would take them all in.
 use crate::complete::Complete;
 use crate::open::Open;
 use crate::slices::Slice;

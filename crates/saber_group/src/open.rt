@@ -12,8 +12,8 @@ use saber_sliding::Sliding;
 use std::alloc::Global;
 use std::sync::ledger::Ledger;
 
-/// The slices so far that window `next` or one behind it has, each with the first window that doesn't
-/// have it. The windows below `next` are done.
+/// The slices so far that window `next` or one behind it has, each with the first window that
+/// doesn't have it. The windows below `next` are done.
 #[derive(Drop)]
 pub(crate) struct Open {
     pub(crate) next: u64,
@@ -33,7 +33,8 @@ impl Open {
         }
     }
 
-    /// Adds the part of more rows, which lie in all windows from `next` up to `past`: two steps, now or later.
+    /// Adds the part of more rows, which lie in all windows from `next` up to `past`: two steps,
+    /// now or later.
     pub(crate) fn take_in<L: Ledger>(
         &mut self,
         alloc: Global,
@@ -52,7 +53,8 @@ impl Open {
         self.slices.push(alloc, past, part, steps)
     }
 
-    /// Appends the lines of the windows below `low`: one step for each, beside those owed. No later row lies in them.
+    /// Appends the lines of the windows below `low`: one step for each, beside those owed. No later
+    /// row lies in them.
     pub(crate) fn close_lines<L: Ledger>(
         &mut self,
         plan: &Plan,

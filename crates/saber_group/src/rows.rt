@@ -29,7 +29,8 @@ impl Group<'_> {
         }
     }
 
-    /// Where the rows end that lie in the same windows as row `from`, from there on, before which `mark` stands.
+    /// Where the rows end that lie in the same windows as row `from`, from there on, before which
+    /// `mark` stands.
     pub(crate) fn slice_end(&self, batch: &Batch, from: usize, mark: &Mark) -> usize
         requires fits { RowsFit (tree_of self.now) batch.now.before batch.now.rows.now }
         requires there { from < length batch.now.rows.now }

@@ -17,8 +17,9 @@ use saber_window::ending;
 use std::alloc::Global;
 use std::sync::ledger::{Blank, Ledger};
 
-/// The slices of a task's rows, in order, with the mark behind the rows, which has the input's end if that comes there. Where the task
-/// answers windows itself, the slices are those of the windows that it doesn't answer.
+/// The slices of a task's rows, in order, with the mark behind the rows, which has the input's end
+/// if that comes there. Where the task answers windows itself, the slices are those of the windows
+/// that it doesn't answer.
 #[derive(Drop)]
 pub struct SlicePiece {
     pub(crate) slices: Vec<Slice>,
@@ -26,8 +27,8 @@ pub struct SlicePiece {
     pub(crate) after: Mark,
 }
 
-// Where there is no slice yet, room for those of so many rows, if each is as long as the first, and for 1,025
-// at most.
+// Where there is no slice yet, room for those of so many rows, if each is as long as the first, and
+// for 1,025 at most.
 fn room_for_first(slices: &mut Vec<Slice>, rows: usize, first: usize) -> Result<(), NoMemory>
     requires { 1 ≤ first }
     ensures { slices.new.items ≡ slices.old.items }
@@ -94,8 +95,8 @@ impl Group<'_> {
         Ok((slices, mark))
     }
 
-    // Whether a task is to look at the rows before its own: where most of its slices are of windows that begin there, and it closes one for
-    // 32 of these rows at least.
+    // Whether a task is to look at the rows before its own: where most of its slices are of windows
+    // that begin there, and it closes one for 32 of these rows at least.
     fn looks_back(&self, earlier: &Earlier, before: &Mark, slices: &[Slice], high: u64) -> bool {
         let windows = high.saturating_sub(self.closed_below(before));
         closing_end(slices, self.begun_below(before)) > slices.len() / 2

@@ -38,9 +38,10 @@ impl Group<'_> {
         }
     }
 
-    /// Takes the next slices in, and appends the lines of the windows below `closed`. A slice costs two
-    /// steps, each now or later, and a window one, however many slices it has and however many windows have a slice: each
-    /// merge of two parts is a step. After want of memory store and text are only safe.
+    /// Takes the next slices in, and appends the lines of the windows below `closed`. A slice costs
+    /// two steps, each now or later, and a window one, however many slices it has and however many
+    /// windows have a slice: each merge of two parts is a step. After want of memory store and text
+    /// are only safe.
     pub(crate) fn take_slices<L: Ledger>(
         &self,
         alloc: Global,
@@ -65,8 +66,8 @@ impl Group<'_> {
         Ok(())
     }
 
-    // The piece of a task that answers windows itself: the store's windows get their last slices, and what the task leaves open is the
-    // store's then.
+    // The piece of a task that answers windows itself: the store's windows get their last slices,
+    // and what the task leaves open is the store's then.
     fn take_complete<L: Ledger>(
         &self,
         alloc: Global,
@@ -100,8 +101,8 @@ impl Group<'_> {
         Ok(())
     }
 
-    /// Takes the piece of the next task in, and appends the lines of the windows below `closed`. After want of memory store and text
-    /// are only safe.
+    /// Takes the piece of the next task in, and appends the lines of the windows below `closed`.
+    /// After want of memory store and text are only safe.
     pub(crate) fn take_piece<L: Ledger>(
         &self,
         alloc: Global,

@@ -20,9 +20,9 @@ use saber_plan::{Mark, NoMemory};
 use saber_window::past_have_none;
 use std::alloc::Global;
 
-/// Some rows of a task, one after another, that lie in the windows from `first` up to `past` and in no
-/// other, with their part (SABER 2016: a pane). It is worked out once, and goes into each of these
-/// windows. Behind it comes row `end`.
+/// Some rows of a task, one after another, that lie in the windows from `first` up to `past` and in
+/// no other, with their part (SABER 2016: a pane). It is worked out once, and goes into each of
+/// these windows. Behind it comes row `end`.
 #[derive(Drop)]
 pub(crate) struct Slice {
     pub(crate) first: u64,
@@ -87,9 +87,10 @@ impl Group<'_> {
         Ok(Partial::empty(alloc))
     }
 
-    /// The rows from row `from` on that lie in the windows of this one, before which `mark` stands. Where they end is worked out
-    /// first, so that none of them is asked for its windows. They are gathered in `part`, which has no group before and behind,
-    /// and whose memory serves one slice after another.
+    /// The rows from row `from` on that lie in the windows of this one, before which `mark` stands.
+    /// Where they end is worked out first, so that none of them is asked for its windows. They are
+    /// gathered in `part`, which has no group before and behind, and whose memory serves one slice
+    /// after another.
     pub(crate) fn slice_from(
         &self,
         alloc: Global,

@@ -21,12 +21,14 @@ use std::alloc::Global;
 use std::process::Abort;
 use std::test::Fail;
 
-// Rows of a task, slots of the ring, threads, and + where the end of the input is a block too; the file, or both with bars between. Then what is
-// seen: the first task that each block needs; the times of the rows; what stands before each block, of the left and of the right stream; the times
+// Rows of a task, slots of the ring, threads, and + where the end of the input is a block too; the
+// file, or both with bars between. Then what is seen: the first task that each block needs; the
+// times of the rows; what stands before each block, of the left and of the right stream; the times
 // of the rows before that it has; whether the last has the input's end; and how blocks end.
 
-// Pairs in windows of four seconds. A left row of time 0 lies in window 0, which the row of time 4 closes. The row of time 8 lies in a window that it
-// does not close. The rows before a refused line are blocks.
+// Pairs in windows of four seconds. A left row of time 0 lies in window 0, which the row of time 4
+// closes. The row of time 8 lies in a window that it does not close. The rows before a refused line
+// are blocks.
 const JOINS: &str = "\
 1 5 0 -|0,5;1,9;4,1;|0,7;3,6;8,0;|[0, 0, 0, 0, 0, 4] [0, 0, 1, 3, 4, 8] [0, 0, 1, 0, 1, 1, 2, 1, 2, 2, 3, 2] [] false Some(AllRead)
 2 5 0 -|0,5;1,9;4,1;|0,7;3,6;8,0;|[0, 0, 0] [0, 0, 1, 3, 4, 8] [0, 0, 1, 1, 2, 2] [] false Some(AllRead)
@@ -40,7 +42,8 @@ const JOINS: &str = "\
 1 5 0 +|0,5;1,9;4,1;|0,7;3,6;8,0;|[0, 0, 0, 0, 0, 4, 5] [0, 0, 1, 3, 4, 8] [0, 0, 1, 0, 1, 1, 2, 1, 2, 2, 3, 2, 3, 3] [] true Some(AllRead)
 ";
 
-// Counts in windows of four seconds, side by side. The second read fails behind five rows: two blocks are whole, and the fifth row is in none.
+// Counts in windows of four seconds, side by side. The second read fails behind five rows: two
+// blocks are whole, and the fifth row is in none.
 const GROUPS: &str = "\
 2 1 0 +|0,1;1,1;2,1;5,1;9,1;!|[0, 1] [0, 1, 2, 5] [0, 0, 2, 0] [] false Some(ReadFault { side: Left })
 2 1 0 +|0,5;1,9;4,1;|[0, 1, 2] [0, 1, 4] [0, 0, 2, 0, 3, 0] [] true Some(AllRead)
@@ -49,14 +52,15 @@ const GROUPS: &str = "\
 2 1 2 +|0,5;1,9;4,1;|[0, 1, 2] [0, 1, 4] [0, 0, 2, 0, 3, 0] [] true Some(AllRead)
 ";
 
-// The same in windows that overlap. Where threads share the work, a block has the rows of the one before.
+// The same in windows that overlap. Where threads share the work, a block has the rows of the one
+// before.
 const OVERLAPS: &str = "\
 2 1 2 +|0,5;1,9;4,1;|[0, 1, 2] [0, 1, 4] [0, 0, 2, 0, 3, 0] [0, 1, 4] true Some(AllRead)
 2 1 0 +|0,5;1,9;4,1;|[0, 1, 2] [0, 1, 4] [0, 0, 2, 0, 3, 0] [] true Some(AllRead)
 ";
 
-// Counts in windows of two rows of each key. Here is seen where each row stands among those of its key in all blocks, in place of what stands before
-// blocks and of the rows before that they have.
+// Counts in windows of two rows of each key. Here is seen where each row stands among those of its
+// key in all blocks, in place of what stands before blocks and of the rows before that they have.
 const KEYS: &str = "\
 1 1 0 -|0,7;1,8;1,7;2,7;2,8;3,7;|[0, 1, 2, 3, 4, 5] [0, 1, 1, 2, 2, 3] [0, 0, 1, 2, 1, 3] false Some(AllRead)
 2 1 0 +|0,7;1,8;1,7;2,7;2,8;3,7;|[0, 1, 2, 3] [0, 1, 1, 2, 2, 3] [0, 0, 1, 2, 1, 3] true Some(AllRead)

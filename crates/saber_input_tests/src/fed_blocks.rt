@@ -1,4 +1,5 @@
-//! Blocks of feeds whose bytes come by and by; the expected values are worked out by hand from the rules.
+//! Blocks of feeds whose bytes come by and by; the expected values are worked out by hand from the
+//! rules.
 ghost use Rattle.std.specs.Prelude.{◌≡◌, ◌≤◌, ◌^◌, length};
 ghost use Rattle.saber_plan.specs.declared.sizes.Sizes.{Sizes};
 ghost use Rattle.saber_plan.specs.Inputs.{Input};
@@ -19,9 +20,10 @@ use std::alloc::Global;
 use std::process::Abort;
 use std::test::Fail;
 
-// How many rows a task has, and + where the end is a block too; the bytes of a feed, with a ! where it is cut off; and what is seen: the
-// blocks' numbers, the times of their rows, and how they end. A block that isn't whole as the feed is cut off is given to none. The rows before
-// a line that is refused are a block, also where more might come.
+// How many rows a task has, and + where the end is a block too; the bytes of a feed, with a ! where
+// it is cut off; and what is seen: the blocks' numbers, the times of their rows, and how they end.
+// A block that isn't whole as the feed is cut off is given to none. The rows before a line that is
+// refused are a block, also where more might come.
 const ROWS: &str = "\
 2+|0,5;1,9;4,1;|[0, 1, 2] [0, 1, 4] Some(AllRead)
 2-|0,5;1,9;4,1|[0, 1] [0, 1, 4] Some(AllRead)

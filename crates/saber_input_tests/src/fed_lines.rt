@@ -1,4 +1,5 @@
-// Rows of a feed whose bytes come by and by; the expected values are worked out by hand from the rules of rows.
+// Rows of a feed whose bytes come by and by; the expected values are worked out by hand from the
+// rules of rows.
 ghost use Rattle.std.specs.Prelude.{◌≤◌};
 
 use crate::texts::{assert_same, bytes_of, fault_of, parts};
@@ -10,9 +11,10 @@ use std::fmt::Write;
 use std::process::Abort;
 use std::test::Fail;
 
-// How many seconds a row may come late, the bytes of a feed of three columns, and its rows and how they end. A last line needs no line end
-// where the feed ends, and is no line where it was cut (!). Rows wait for an earlier one, and go out in order of time once none can come, or a
-// line is refused.
+// How many seconds a row may come late, the bytes of a feed of three columns, and its rows and how
+// they end. A last line needs no line end where the feed ends, and is no line where it was cut (!).
+// Rows wait for an earlier one, and go out in order of time once none can come, or a line is
+// refused.
 const ROWS: &str = "\
 0|0,1,10;1,1,20;2,2,5;9,2,1;|[0, 1, 10][1, 1, 20][2, 2, 5][9, 2, 1].
 0|0,1,10;1,1,20;2,2,5;9,2,1|[0, 1, 10][1, 1, 20][2, 2, 5][9, 2, 1].
@@ -34,7 +36,8 @@ fn tell_end(told: &mut String, end: RowEnd) -> Result<bool, AllocError> {
     Ok(false)
 }
 
-// One call: tells a row or how they end, and takes what comes next where nothing is there. False behind an end.
+// One call: tells a row or how they end, and takes what comes next where nothing is there. False
+// behind an end.
 fn turn<F: Feed>(lines: &mut Lines, feed: &mut F, told: &mut String) -> Result<bool, AllocError> {
     match lines.next_fed(feed) {
         Ok(FedRow::Row(row)) => tell_row(told, &row),

@@ -37,7 +37,8 @@ fn built(alloc: Global, steps: &str) -> Result<Rows, NoMemory> {
     Ok(rows.finish())
 }
 
-// A row of one number, more than there is room for, and one of none; what is not closed is not among the rows.
+// A row of one number, more than there is room for, and one of none; what is not closed is not
+// among the rows.
 #[test]
 fn rows_are_built(rt: HostRuntime) -> Result<(), Fail> {
     let alloc = rt.alloc();

@@ -1,4 +1,5 @@
-// How much a reader of rows offers its source, and rows at the first look. What a file's rows are is data: the file `lines.cases` of `saber_cases`.
+// How much a reader of rows offers its source, and rows at the first look. What a file's rows are
+// is data: the file `lines.cases` of `saber_cases`.
 ghost use Rattle.saber_plan.specs.Outputs.{Rose};
 
 use crate::flat_rows;

@@ -1,5 +1,5 @@
-// Merged rows of two small files, as their order shows here alone; the expected values are worked out by hand from the rules. Ends of joins are data:
-// the file `joins.cases` of `saber_cases`.
+// Merged rows of two small files, as their order shows here alone; the expected values are worked
+// out by hand from the rules. Ends of joins are data: the file `joins.cases` of `saber_cases`.
 use crate::flat_rows;
 use crate::texts::assert_same;
 use saber_flat::RowBuilder;
@@ -67,7 +67,8 @@ fn rows_are_merged(rt: HostRuntime) -> Result<(), Fail> {
     Ok(())
 }
 
-// None before both sides hold some, then as many as are asked for, and none where a side holds no more.
+// None before both sides hold some, then as many as are asked for, and none where a side holds no
+// more.
 fn first_look<S: Source>(
     alloc: Global,
     merge: &mut Merge,

@@ -1,4 +1,5 @@
-// What no clause says: that calls succeed with ample memory, what worked rows expect, and the real outside.
+// What no clause says: that calls succeed with ample memory, what worked rows expect, and the real
+// outside.
 use saber_io::{
     EndMark, Failed, Fed, Feed, Files, Gate, HoldGate, HostFiles, HostOuts, MemFail, MemFeed,
     MemFile, MemFiles, MemOuts, MemSink, MemSource, OpenFault, OpenGate, OrderGate, Outs, Plain,
@@ -14,7 +15,8 @@ fn assert_told<R: Abort>(rt: &R, told: &[u8], wanted: &[u8]) {
     assert!(rt; told == wanted);
 }
 
-// What a read into four bytes gives, with a bar behind it, and ! if it fails. False where it gives nothing.
+// What a read into four bytes gives, with a bar behind it, and ! if it fails. False where it gives
+// nothing.
 fn tell_read<S: Source>(told: &mut Vec<u8>, source: &mut S) -> Result<bool, AllocError> {
     let mut buf = [7; 4];
     match source.read(&mut buf) {
@@ -84,7 +86,8 @@ pub(crate) fn tell_steps<F: Feed>(
     Ok(())
 }
 
-// Five bytes, three a refill: every second refill finds nothing, and the mark comes behind all bytes.
+// Five bytes, three a refill: every second refill finds nothing, and the mark comes behind all
+// bytes.
 #[test]
 fn bytes_come_by_and_by(rt: HostRuntime) -> Result<(), Fail> {
     let mut told = Vec::new(rt.alloc());
@@ -130,7 +133,8 @@ fn write_three<K: Sink>(sink: &mut K) -> [u8; 3] {
     [first, second, third]
 }
 
-// The second write fails after five of its eight bytes; an entry for a write that is not made changes nothing.
+// The second write fails after five of its eight bytes; an entry for a write that is not made
+// changes nothing.
 #[test]
 fn write_fails_after_five_bytes(rt: HostRuntime) -> Result<(), Fail> {
     let alloc = rt.alloc();
@@ -203,7 +207,8 @@ fn tell_files<F: Files>(
     Ok(())
 }
 
-// The second open fails, and a name that is not there; of two files with one name the first is opened.
+// The second open fails, and a name that is not there; of two files with one name the first is
+// opened.
 #[test]
 fn opens_in_memory(rt: HostRuntime) -> Result<(), Fail> {
     let alloc = rt.alloc();
@@ -239,7 +244,8 @@ fn sources_read_by_themselves(rt: HostRuntime) -> Result<(), Fail> {
     Ok(())
 }
 
-// The real outside: a name that is not there, a device that ends at once, one that never ends, and a folder, whose reads fail.
+// The real outside: a name that is not there, a device that ends at once, one that never ends, and
+// a folder, whose reads fail.
 #[test]
 fn opens_of_the_system(rt: HostRuntime) -> Result<(), Fail> {
     let alloc = rt.alloc();
@@ -254,7 +260,8 @@ fn opens_of_the_system(rt: HostRuntime) -> Result<(), Fail> {
     Ok(())
 }
 
-// A writer that takes two bytes at a time until it has so many, and then nothing. What it took is out once it is flushed.
+// A writer that takes two bytes at a time until it has so many, and then nothing. What it took is
+// out once it is flushed.
 #[derive(Drop)]
 struct Narrow {
     bytes: Vec<u8>,
@@ -298,7 +305,8 @@ fn write_narrow<R: Abort>(
     assert!(rt; narrow.out == out);
 }
 
-// A sink over a writer writes the whole piece, and fails where the writer takes nothing. A piece that is told as good is flushed.
+// A sink over a writer writes the whole piece, and fails where the writer takes nothing. A piece
+// that is told as good is flushed.
 #[test]
 fn writes_to_a_writer(rt: HostRuntime) {
     let alloc = rt.alloc();
@@ -308,7 +316,8 @@ fn writes_to_a_writer(rt: HostRuntime) {
     assert!(rt; out.write_all(b"") == Ok(()));
 }
 
-// A piece that is told as good has left the program: the other end of a pipe has it, while the sink is there.
+// A piece that is told as good has left the program: the other end of a pipe has it, while the sink
+// is there.
 #[test]
 fn writes_through_a_pipe(rt: HostRuntime) -> Result<(), Fail> {
     let (mut other_end, pipe) = io::pipe(&rt)?;
@@ -321,7 +330,8 @@ fn writes_through_a_pipe(rt: HostRuntime) -> Result<(), Fail> {
     Ok(())
 }
 
-// Three creates, of which the second fails. Only the file named has the fails of its name: its second write lets one byte out.
+// Three creates, of which the second fails. Only the file named has the fails of its name: its
+// second write lets one byte out.
 #[test]
 fn creates_in_memory(rt: HostRuntime) -> Result<(), Fail> {
     let alloc = rt.alloc();
@@ -352,7 +362,8 @@ where
     }
 }
 
-// The real outside: a file in a folder that is not there can't be created, a device takes what is written, and one that is full takes nothing.
+// The real outside: a file in a folder that is not there can't be created, a device takes what is
+// written, and one that is full takes nothing.
 #[test]
 fn creates_of_the_system(rt: HostRuntime) {
     let alloc = rt.alloc();

@@ -1,4 +1,5 @@
-// What no clause says: that calls succeed with ample memory, that bytes get through between threads, and that a writer that is alone never waits.
+// What no clause says: that calls succeed with ample memory, that bytes get through between
+// threads, and that a writer that is alone never waits.
 ghost use Rattle.std.specs.Prelude.{◌≡◌};
 ghost use Rattle.saber_pipe.specs.Pipes.{id_of, IsNew};
 
@@ -14,7 +15,8 @@ use std::test::Fail;
 use std::thread;
 use std::thread::Threads;
 
-// Both ends by turns in one thread: bytes that weren't poured don't come, and a piece is fed by parts, of two bytes here.
+// Both ends by turns in one thread: bytes that weren't poured don't come, and a piece is fed by
+// parts, of two bytes here.
 fn take_turns<R: Wait + Abort, P: PipeName>(rt: &R, alloc: Global, pipe: &mut Pipe)
     requires new { IsNew pipe.old }
     requires named { P.id ≡ id_of pipe.old }
@@ -56,7 +58,8 @@ fn write_lines<'a, R: Wait, P: PipeName>(
     Ok(sink.finish(mark))
 }
 
-// The bytes up to the mark, or as soon as there are so many; Failed behind a cut, or where memory is short.
+// The bytes up to the mark, or as soon as there are so many; Failed behind a cut, or where memory
+// is short.
 fn read_bytes<R: Wait, P: PipeName>(
     rt: &R,
     alloc: Global,
@@ -87,8 +90,8 @@ fn movable<T: Send>(value: T) -> T {
     value
 }
 
-// One thread writes more lines than the pipe has room for, and another reads so many bytes of them, and lets go of the rest. Where no thread can be had,
-// this one writes, and then reads.
+// One thread writes more lines than the pipe has room for, and another reads so many bytes of them,
+// and lets go of the rest. Where no thread can be had, this one writes, and then reads.
 fn run_both<R: Wait + Threads + Abort + Sync, P: PipeName + Send>(
     rt: &R,
     alloc: Global,
@@ -141,7 +144,8 @@ fn early_stop(rt: HostRuntime) -> Result<(), Fail> {
     Ok(())
 }
 
-// A writer that is alone writes more than the pipe has room for; then the same thread reads it, up to how it ended.
+// A writer that is alone writes more than the pipe has room for; then the same thread reads it, up
+// to how it ended.
 fn hand_over<R: Wait + Abort, P: PipeName>(
     rt: &R,
     alloc: Global,

@@ -21,7 +21,8 @@ pub enum Fed {
     NotYet,
 }
 
-/// Bytes that another end makes meanwhile. They are taken by `refill` into a buffer, and given by `feed` out of it.
+/// Bytes that another end makes meanwhile. They are taken by `refill` into a buffer, and given by
+/// `feed` out of it.
 pub trait Feed {
     /// The bytes that were taken so far.
     ghost taken: { Self → List ℕ };
@@ -35,7 +36,8 @@ pub trait Feed {
     /// How often it has told of a cut.
     ghost faults: { Self → ℕ };
 
-    /// Fills the front of the buffer with what waits, and answers with how many bytes. Where none wait, it tells the mark: Failed for Cut.
+    /// Fills the front of the buffer with what waits, and answers with how many bytes. Where none
+    /// wait, it tells the mark: Failed for Cut.
     fn feed(&mut self, buf: &mut [u8]) -> Result<Fed, Failed>
         requires { 0 < length buf.old }
         ensures ok { IfOk result (λ fed. Feeds (waiting self.old) (waiting self.new) (mark self.old) buf.new fed) }
@@ -45,7 +47,8 @@ pub trait Feed {
         ensures good { OnOk result (faults self.new ≡ faults self.old) }
         ensures count { faults self.old ≤ faults self.new };
 
-    /// Takes what comes next, where nothing waits. It may wait for others; false tells that nothing was there to take.
+    /// Takes what comes next, where nothing waits. It may wait for others; false tells that nothing
+    /// was there to take.
     fn refill(&mut self) -> bool
         ensures more { Refills (taken self.old) (taken self.new) (waiting self.old) (waiting self.new) (mark self.old) (mark self.new) result }
         ensures count { faults self.new ≡ faults self.old };

@@ -1,4 +1,5 @@
-// Files in memory. A source that is given back needs no memory, since its place among those given back was made when it was opened.
+// Files in memory. A source that is given back needs no memory, since its place among those given
+// back was made when it was opened.
 ghost use Rattle.std.specs.Prelude.{◌≡◌, ◌≤◌, ◌+◌, ◌++◌, ◌∷◌, ◌<◌, ◌↔◌, ◌⊎◌, [], All, Some, None, Contains, IsErr, IfOk, IfSome, IfNone, OnOk, OnErr, OnSome, drop, take, length, find, map, option_copied, option_map, string_bytes};
 ghost use Rattle.std.specs.Str.{bytes_eq};
 ghost use Rattle.saber_io.specs.Outside.{raised, OpensIn};
@@ -10,7 +11,8 @@ use crate::{Failed, Files, MemSource, OpenFault, Source};
 use std::alloc::{AllocError, Global};
 use std::marker::Model;
 
-/// A file in memory. Its sources give at most `cuts[j - 1]` bytes at read number j, and fail where j is one of `fails`. Reads are numbered from 1.
+/// A file in memory. Its sources give at most `cuts[j - 1]` bytes at read number j, and fail where
+/// j is one of `fails`. Reads are numbered from 1.
 #[derive(Drop)]
 pub struct MemFile {
     /// The name that opens it.
@@ -125,7 +127,8 @@ impl Source for MemOpened {
     }
 }
 
-/// Files in memory, whose open number j fails where j is one of `fails`. Opens are numbered from 1. It keeps which names were asked for and which sources were given back.
+/// Files in memory, whose open number j fails where j is one of `fails`. Opens are numbered from 1.
+/// It keeps which names were asked for and which sources were given back.
 #[derive(Drop)]
 pub struct MemFiles {
     files: Vec<MemFile>,
@@ -178,7 +181,8 @@ impl MemFiles {
         }
     }
 
-    // What the open with this number gives: nothing where the number is listed or no file has the name.
+    // What the open with this number gives: nothing where the number is listed or no file has the
+    // name.
     fn open_numbered(
         alloc: Global,
         files: &[MemFile],

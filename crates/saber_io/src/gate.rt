@@ -4,7 +4,8 @@ ghost use Rattle.std.specs.Prelude.{ℕ, ◌<◌, ◌≤◌, IfSome, vec_len};
 use std::sync::atomic::{AtomicBool, AtomicU64, Ordering};
 use std::thread::yield_now;
 
-/// Where a worker passes by with each task, so that a test can hold one worker back for another. It promises nothing.
+/// Where a worker passes by with each task, so that a test can hold one worker back for another. It
+/// promises nothing.
 pub trait Gate {
     /// Whoever claimed the task calls this before its fragment.
     fn pass(&self, task: u64);
@@ -23,8 +24,8 @@ impl Gate for OpenGate {
     fn done(&self, _task: u64) {}
 }
 
-/// A gate that holds one task back until another one is done, for so many looks at most. A test with it
-/// shows that both tasks are under way at once: on one thread the first would wait in vain.
+/// A gate that holds one task back until another one is done, for so many looks at most. A test
+/// with it shows that both tasks are under way at once: on one thread the first would wait in vain.
 #[derive(Drop)]
 pub struct HoldGate {
     first: u64,
@@ -46,7 +47,8 @@ impl HoldGate {
         }
     }
 
-    /// Whether the first task went on because it had looked so often, and not because the other was done.
+    /// Whether the first task went on because it had looked so often, and not because the other was
+    /// done.
     pub fn late(&self) -> bool {
         self.was_late.load(Ordering::SeqCst)
     }
@@ -73,9 +75,9 @@ impl Gate for HoldGate {
     }
 }
 
-/// A gate that lets tasks by in one order: each of them is held back until the one before it in the order
-/// is done, for so many looks at most. Other tasks pass. A test with it shows what comes of an order in
-/// which tasks are completed.
+/// A gate that lets tasks by in one order: each of them is held back until the one before it in the
+/// order is done, for so many looks at most. Other tasks pass. A test with it shows what comes of
+/// an order in which tasks are completed.
 #[derive(Drop)]
 pub struct OrderGate {
     order: Vec<u64>,
@@ -99,7 +101,8 @@ impl OrderGate {
         }
     }
 
-    /// Whether some task went on because it had looked so often, and not because the one before was done.
+    /// Whether some task went on because it had looked so often, and not because the one before was
+    /// done.
     pub fn late(&self) -> bool {
         self.was_late.load(Ordering::SeqCst)
     }

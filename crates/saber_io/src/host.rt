@@ -11,7 +11,8 @@ use std::fs::File;
 use std::io::{Read, Write};
 use std::marker::Model;
 
-/// A file of the system, read from its beginning. It tells no content; each error that the system reports is a fault.
+/// A file of the system, read from its beginning. It tells no content; each error that the system
+/// reports is a fault.
 #[derive(Drop)]
 pub struct FileSource {
     file: File,
@@ -50,7 +51,8 @@ impl Source for FileSource {
     }
 }
 
-/// Files of the system by their paths. They tell no content; each error that the system reports is a fault.
+/// Files of the system by their paths. They tell no content; each error that the system reports is
+/// a fault.
 #[derive(Drop)]
 pub struct HostFiles {
     rt: HostRuntime,
@@ -108,7 +110,9 @@ impl Files for HostFiles {
     }
 }
 
-/// A sink over a writer, as standard output or standard error. It tells no content; each error that the writer reports is a fault, and so is a writer that takes nothing of a piece that isn't empty.
+/// A sink over a writer, as standard output or standard error. It tells no content; each error that
+/// the writer reports is a fault, and so is a writer that takes nothing of a piece that isn't
+/// empty.
 #[derive(Drop)]
 pub struct StdSink<W: Write + Drop> {
     writer: W,
@@ -199,7 +203,8 @@ impl Sink for FileSink {
     }
 }
 
-/// Files of the system that are created by their paths: what stood there is gone. They tell no name; each error that the system reports is a fault.
+/// Files of the system that are created by their paths: what stood there is gone. They tell no
+/// name; each error that the system reports is a fault.
 #[derive(Drop)]
 pub struct HostOuts {
     rt: HostRuntime,

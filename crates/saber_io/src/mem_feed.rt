@@ -4,7 +4,8 @@ ghost use Rattle.std.specs.Prelude.{◌≤◌, vec_len};
 use crate::memory::give;
 use crate::{EndMark, Failed, Fed, Feed};
 
-/// A feed of these bytes and then a mark. Each refill takes so many bytes at most, and every second one finds nothing.
+/// A feed of these bytes and then a mark. Each refill takes so many bytes at most, and every second
+/// one finds nothing.
 #[derive(Drop)]
 pub struct MemFeed {
     bytes: Vec<u8>,

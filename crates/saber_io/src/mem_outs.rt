@@ -9,7 +9,8 @@ use crate::{CreateFault, MemSink, Outs};
 use std::alloc::{AllocError, Global};
 use std::marker::Model;
 
-/// A write that fails: the name of its file, its number there, and how many bytes it still lets out. Writes are numbered from 1.
+/// A write that fails: the name of its file, its number there, and how many bytes it still lets
+/// out. Writes are numbered from 1.
 #[derive(Drop)]
 pub struct MemFail {
     pub name: String,
@@ -17,8 +18,8 @@ pub struct MemFail {
     pub out: u64,
 }
 
-/// Files that are created in memory, whose create number j fails where j is one of `fails`. Creates are numbered from 1. It keeps which names were
-/// asked for.
+/// Files that are created in memory, whose create number j fails where j is one of `fails`. Creates
+/// are numbered from 1. It keeps which names were asked for.
 #[derive(Drop)]
 pub struct MemOuts {
     fails: Vec<u64>,
@@ -59,7 +60,8 @@ impl MemFail {
 impl MemOuts {
     ghost use Rattle.std.specs.Prelude.{map, string_bytes};
 
-    /// Files of which none was created yet, and the writes to them that fail: of two with one name and number the first counts.
+    /// Files of which none was created yet, and the writes to them that fail: of two with one name
+    /// and number the first counts.
     pub fn new(alloc: Global, fails: Vec<u64>, writes: Vec<MemFail>) -> MemOuts
         ensures { result ≡ record {
           fails = fails.items;

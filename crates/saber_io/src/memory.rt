@@ -7,7 +7,8 @@ use crate::{Failed, Sink, Source, WriteFault};
 use std::alloc::Global;
 use std::marker::Model;
 
-/// A source whose read number j gives at most `cuts[j - 1]` bytes, and fails where j is one of `fails`. Reads are numbered from 1.
+/// A source whose read number j gives at most `cuts[j - 1]` bytes, and fails where j is one of
+/// `fails`. Reads are numbered from 1.
 #[derive(Drop)]
 pub struct MemSource {
     bytes: Vec<u8>,
@@ -36,7 +37,8 @@ impl Model for MemSource {
 }
 
 impl MemSource {
-    /// A source of all these bytes, before its first read. Past the list of cuts a read gives all that fit.
+    /// A source of all these bytes, before its first read. Past the list of cuts a read gives all
+    /// that fit.
     pub fn new(bytes: Vec<u8>, cuts: Vec<u64>, fails: Vec<u64>) -> MemSource
         requires { All (λ c. 1 ≤ c) cuts.items }
         ensures { result ≡ record {
@@ -130,7 +132,8 @@ pub(crate) fn give(bytes: &[u8], at: usize, size: usize, buf: &mut [u8])
     buf[..size].copy_from_slice(&bytes[at..at + size]);
 }
 
-/// A sink whose write number j fails where `fails` has j, after so many bytes as stand beside it. Writes are numbered from 1.
+/// A sink whose write number j fails where `fails` has j, after so many bytes as stand beside it.
+/// Writes are numbered from 1.
 #[derive(Drop)]
 pub struct MemSink {
     bytes: Vec<u8>,
@@ -153,7 +156,8 @@ impl Model for MemSink {
 }
 
 impl MemSink {
-    /// A sink with nothing written. An entry of `fails` is the number of a write and how many bytes still go out; the first entry for a number counts.
+    /// A sink with nothing written. An entry of `fails` is the number of a write and how many bytes
+    /// still go out; the first entry for a number counts.
     pub fn new(alloc: Global, fails: Vec<(u64, u64)>) -> MemSink
         ensures { result ≡ record { written = []; fails = fails.items; writes = 0; faults = 0 } }
     {

@@ -44,7 +44,8 @@ pub trait Outs {
     /// How often one couldn't be created.
     ghost faults: { Self → ℕ };
 
-    /// Creates the file with this name, empty: what was there is gone. After NoMemory it wasn't asked for.
+    /// Creates the file with this name, empty: what was there is gone. After NoMemory it wasn't
+    /// asked for.
     fn create_file(&mut self, alloc: Global, name: &str) -> Result<Self::Out, CreateFault>
         ensures empty { IfOk result (λ out. HoldsNothing (Self.Out.written out)) }
         ensures fresh { IfOk result (λ out. Self.Out.faults out ≡ 0) }

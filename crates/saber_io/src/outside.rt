@@ -1,4 +1,6 @@
-// What the engine asks of the outside. Each object counts its faults, so that a caller can say that a fault is real. A count stands still at its type's last value, so 'the count rose' means that it rose or stands there.
+// What the engine asks of the outside. Each object counts its faults, so that a caller can say that
+// a fault is real. A count stands still at its type's last value, so 'the count rose' means that it
+// rose or stands there.
 ghost use Rattle.std.specs.Prelude.{◌≡◌, ◌≢◌, ◌<◌, ◌≤◌, ℕ, List, Option, length, take, IfOk, OnOk, OnErr, Ok, Err};
 ghost use Rattle.saber_io.specs.declared.outside.OpenFault.{OpenFault};
 ghost use Rattle.saber_io.specs.declared.outside.WriteFault.{WriteFault};
@@ -57,7 +59,8 @@ pub trait Source {
     /// How often a read has failed.
     ghost faults: { Self → ℕ };
 
-    /// Fills the front of the buffer, and answers with how many bytes. 0 is the end. After Failed a later read may go on.
+    /// Fills the front of the buffer, and answers with how many bytes. 0 is the end. After Failed a
+    /// later read may go on.
     fn read(&mut self, buf: &mut [u8]) -> Result<usize, Failed>
         requires { 0 < length buf.old }
         ensures within { IfOk result (λ n. n ≤ length buf.old) }
@@ -80,7 +83,8 @@ pub trait Sink {
     /// How many writes went out, those that failed among them.
     ghost writes: { Self → ℕ };
 
-    /// Writes the whole piece. After Failed a part of it may be out, after NoMemory nothing of it is, and there was no write.
+    /// Writes the whole piece. After Failed a part of it may be out, after NoMemory nothing of it
+    /// is, and there was no write.
     fn write_all(&mut self, piece: &[u8]) -> Result<(), WriteFault>
         ensures ok { OnOk result (written self.new ≡ appended (written self.old) piece.now) }
         ensures good { result ≢ Err WriteFault.Failed → faults self.new ≡ faults self.old }
@@ -98,7 +102,8 @@ pub trait Files {
     /// A file that is open, from its first byte on.
     type Src: Source;
 
-    /// The contents by name, the names that were asked for, and the sources that were given back, where it tells.
+    /// The contents by name, the names that were asked for, and the sources that were given back,
+    /// where it tells.
     ghost told: { Self → Option FilesView };
 
     /// How often an open has failed, and how many sources were given back with faults.

@@ -3,7 +3,8 @@ ghost use Rattle.std.specs.Prelude.{◌≡◌, ◌⊎◌, [], ℕ, List};
 
 use crate::{Sink, WriteFault};
 
-/// A sink that may hold back what was written, as one whose other end takes only so much at a time. What is held back counts as written.
+/// A sink that may hold back what was written, as one whose other end takes only so much at a time.
+/// What is held back counts as written.
 pub trait Pour: Sink {
     /// The bytes that it still holds back.
     ghost backlog: { Self → List ℕ };

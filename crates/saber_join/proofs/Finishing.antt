@@ -15,16 +15,16 @@ use Rattle.saber_plan.specs.Tasks.{full, is_complete}
 use Rattle.saber_plan.specs.Needs.{is_closing, is_pending, is_opening, of_kind, part_here}
 use Rattle.saber_plan.specs.Shares.{is_closed, shares_here, handed_here}
 use Rattle.saber_plan.specs.Facts.Rows.{Ordered-append}
-use Rattle.saber_laws.specs.Windows.{ClosedAreCounted, BegunAreCounted, BegunStay}
+use Rattle.saber_laws.specs.Windows.{BegunStay}
 use Rattle.saber_laws.specs.Ends.{EndsBeginNone}
 use Rattle.saber_laws.specs.Needs.{RowsSpan}
 use Rattle.saber_laws.specs.Parts.{NoRowsNoPart}
 use Rattle.saber_laws.specs.Plans.{TwoWindows}
 use Rattle.saber_window.specs.Laws.{ClosedWithinBegun}
-use Rattle.saber_parts.specs.declared.bounds.Bounds.{Bounds}
+use Rattle.saber_window.specs.declared.bounds.Bounds.{Bounds}
 use Rattle.saber_join.specs.Open.{seen_parts, HoldsTask}
-use Rattle.saber_parts.specs.Kinds.{kind_in}
-use Rattle.saber_parts.specs.WindowFacts.{entry_is, kind_is, no_entry}
+use Rattle.saber_window.specs.Kinds.{kind_in, AreBounds}
+use Rattle.saber_parts.specs.WindowFacts.{entry_is, no_entry}
 use Rattle.saber_parts.specs.Entries.{entry_if}
 use Rattle.saber_fragment.specs.Drafts.{Sight, IsWhole}
 use Rattle.saber_join.specs.Entries.{lines_if, entries_by, lines_by}
@@ -34,11 +34,6 @@ use Rattle.saber_join.proofs.Entering.{no_lines}
 use Rattle.saber_join.proofs.Spread.{seen, part_in, part_is_in, rise_all, spread}
 use Rattle.saber_join.proofs.Beginning.{none_begun}
 use Rattle.saber_join.proofs.Answering.{lines_of_part}
-
--- what is known of the bounds of a task
-pub record AreBounds (q : Tree) (a z : Mark) (b : Bounds) : Type 0 where
-  pub begun_before : b.begun_before ≡ begun_count (frame q) a
-  pub closed_after : b.closed_after ≡ closed_count (frame q) z
 
 low_case : (b : Bool) (p : Part) → p ≡ no_part → cond b no_part p ≡ no_part
 low_case true p h = refl
@@ -62,15 +57,13 @@ module _ {X : Type 0} (g : ℕ → Part → List X) (none : (i : ℕ) (p : Part)
 
 -- the laws that a task's end rests on
 pub record Laws : Type 0 where
-  pub closed_are : ClosedAreCounted
-  pub begun_are : BegunAreCounted
   pub stay : BegunStay
   pub within : ClosedWithinBegun
   pub begins : EndsBeginNone
   pub span : RowsSpan
   pub none : NoRowsNoPart
 
-module _ (laws : Laws) (q : Tree) (e : q.shape ≡ Join) (w : TwoWindows q) (fits : Fits (frame q)) (s : Sight) (whole : IsWhole q s) (b : Bounds) (given : AreBounds q (mark_after s.first s.back) (ending s.ended (mark_after (mark_after s.first s.back) s.rows)) b)
+module _ (laws : Laws) (q : Tree) (e : q.shape ≡ Join) (w : TwoWindows q) (fits : Fits (frame q)) (s : Sight) (whole : IsWhole q s) (b : Bounds) (given : AreBounds (frame q) (mark_after s.first s.back) (ending s.ended (mark_after (mark_after s.first s.back) s.rows)) b)
     (es : List (ℕ × Part)) (sorted : T (is_sorted nat_cmp (seen es))) (holds : HoldsTask q (closed_count (frame q) (mark_after s.first s.back)) s.first s.back s.rows (seen_parts es)) where
   abbrev a : Mark
   a = mark_after s.first s.back
@@ -98,7 +91,7 @@ module _ (laws : Laws) (q : Tree) (e : q.shape ≡ Join) (w : TwoWindows q) (fit
   ends i l = none_begun laws.span laws.stay laws.none q e w fits s.first s.back s.rows whole.fits i (subst (λ k. k ≤ i) (sym begins) l)
 
   kind : (i : ℕ) → c ≤ i → i < c + (n - c) → Some (kind_in b i) ≡ kind_of (frame q) i a z
-  kind i l r = let up = within in kind_is laws.closed_are laws.begun_are (frame q) fits a z b given.begun_before given.closed_after i l (omega (arith, l, r, up))
+  kind i l r = let up = within in given.kinds i l (omega (arith, l, r, up))
 
   entries_are : (wanted : Option Kind → Bool) → entries_by wanted b es ≡ of_kind wanted (frame q) a z at
   unfolding of_kind

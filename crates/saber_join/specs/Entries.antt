@@ -5,8 +5,8 @@ use Rattle.saber_plan.specs.Parts.{Part}
 use Rattle.saber_plan.specs.Tasks.{is_complete}
 use Rattle.saber_plan.specs.Needs.{is_closing, is_pending, is_opening}
 use Rattle.saber_plan.specs.Shares.{is_closed}
-use Rattle.saber_parts.specs.declared.bounds.Bounds.{Bounds}
-use Rattle.saber_parts.specs.Kinds.{kind_in}
+use Rattle.saber_window.specs.declared.bounds.Bounds.{Bounds}
+use Rattle.saber_window.specs.Kinds.{kind_in}
 use Rattle.saber_parts.specs.Entries.{entry_if}
 use Rattle.saber_join.specs.Found.{pair_lines}
 

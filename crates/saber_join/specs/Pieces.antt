@@ -5,7 +5,7 @@ use Rattle.saber_plan.specs.Parts.{Part}
 use Rattle.saber_plan.specs.Needs.{is_closing, is_pending, is_opening}
 use Rattle.saber_plan.specs.Shares.{Shares, is_closed, shares_here, handed_here}
 use Rattle.saber_fragment.specs.Drafts.{Sight}
-use Rattle.saber_parts.specs.declared.bounds.Bounds.{Bounds}
+use Rattle.saber_window.specs.declared.bounds.Bounds.{Bounds}
 use Rattle.saber_join.specs.Entries.{entries_by, lines_by}
 
 -- the shares that these windows give, each by its kind

@@ -58,8 +58,8 @@ pub(crate) fn mark_before(after: &Mark, last: Option<i64>, rows: &Rows) -> Mark
 }
 
 impl Join<'_> {
-    // How many rows in front reach no window from `closed` on. Only windows by time tell that by halves; of others none
-    // is counted.
+    // How many rows in front reach no window from `closed` on. Only windows by time tell that by
+    // halves; of others none is counted.
     fn passed_over(&self, closed: u64, before: &Mark, rows: &Rows) -> usize
         requires fits { RowsFit (tree_of self.now) before.now rows.now }
         ensures within { result ≤ length rows.now }
@@ -95,8 +95,8 @@ impl Join<'_> {
         self.step(before, &rows.row(from - 1)).last
     }
 
-    // Takes in the first block of which rows may be kept: those in front that reach no window which is open before the
-    // task's own rows are of no use to it.
+    // Takes in the first block of which rows may be kept: those in front that reach no window which
+    // is open before the task's own rows are of no use to it.
     fn begin_back(
         &self,
         alloc: Global,

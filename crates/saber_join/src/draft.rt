@@ -10,8 +10,8 @@ use saber_plan::{Mark, NoMemory};
 use std::alloc::Global;
 
 /// The rows of a join's task, and those that it looks back on so far, copied from their blocks, and
-/// whether the input ends behind the task. Rows in front that lie in no window which is open before the
-/// task's own aren't kept.
+/// whether the input ends behind the task. Rows in front that lie in no window which is open before
+/// the task's own aren't kept.
 #[derive(Drop)]
 pub struct JoinDraft {
     // the last timestamp before the rows that are looked back on

@@ -8,8 +8,9 @@ ghost use Rattle.saber_join.specs.Entries.{lines_if, Gave, HandedOn};
 
 use crate::pairs::Pairs;
 use saber_fragment::Parts;
-use saber_parts::{Bounds, Gathered};
+use saber_parts::Gathered;
 use saber_plan::{Kind, NoMemory};
+use saber_window::Bounds;
 use std::alloc::Global;
 use std::collections::BTreeMap;
 
@@ -67,7 +68,8 @@ pub(crate) fn gather(
     Ok(gathered)
 }
 
-// Puts in the pairs of the next window, where what is printed of it stands on the window before: as yet no line is written.
+// Puts in the pairs of the next window, where what is printed of it stands on the window before: as
+// yet no line is written.
 fn hand_on(
     onto: &mut Gathered<Pairs>,
     kind: Kind,

@@ -172,8 +172,8 @@ impl<'a> HeldRows<'a> {
         self.windows
     }
 
-    /// Lets all go. Where a function held this at an exit of its own, the steps that let each part go would stand in that
-    /// function, once for each exit, and its proof would take them all in.
+    /// Lets all go. Where a function held this at an exit of its own, the steps that let each part
+    /// go would stand in that function, once for each exit, and its proof would take them all in.
     pub(crate) fn let_go(self) {
         self.lefts.let_go();
         self.rights.let_go();
@@ -199,8 +199,8 @@ impl<'a> HeldRows<'a> {
         Ok(())
     }
 
-    /// Adds the pairs of a row of the task with the other side's rows before it that have its key, to
-    /// each window that both lie in.
+    /// Adds the pairs of a row of the task with the other side's rows before it that have its key,
+    /// to each window that both lie in.
     #[inline(always)]
     pub(crate) fn meet(
         &mut self,

@@ -12,6 +12,7 @@ ghost use Rattle.saber_plan.specs.Needs.{first_window, past_window};
 ghost use Rattle.saber_plan.specs.GivenRows.{IsRowOf};
 ghost use Rattle.saber_laws.specs.Plans.{TwoWindows};
 ghost use Rattle.saber_eval.specs.Widths.{widths};
+ghost use Rattle.saber_window.specs.Kinds.{AreBounds};
 ghost use Rattle.saber_window.specs.Timed.{IsTimed};
 ghost use Rattle.saber_join.specs.Rows.{IsOn};
 ghost use Rattle.saber_join.specs.Ties.{CanTie, key_in};
@@ -21,12 +22,12 @@ use saber_eval::{holds2, two_streams_fit, value2};
 use saber_flat::RowRef;
 use saber_laws::{checked_fit, joins_have_two_windows};
 use saber_plan::{Expr, Mark, NoMemory, Plan, Side, Stream};
-use saber_window::{Lately, Windows, stamps_fit, step_mark};
+use saber_window::{Bounds, Lately, Windows, stamps_fit, step_mark};
 use std::alloc::Global;
 use std::marker::Model;
 
-/// A checked join of two streams, over its plan, whatever its windows print. Contracts see it as the
-/// plan.
+/// A checked join of two streams, over its plan, whatever its windows print. Contracts see it as
+/// the plan.
 #[derive(Drop)]
 pub(crate) struct Join<'a> {
     plan: &'a Plan,
@@ -215,12 +216,12 @@ impl<'a> Join<'a> {
         self.windows.closed_below(mark)
     }
 
-    /// How many windows are begun by them.
-    pub(crate) fn begun_below(&self, mark: &Mark) -> u64
-        ensures { result ≡ w.begun_count (frame (tree_of self.now)) mark.now }
+    /// What windows are to a task of the rows after mark a, up to mark b.
+    pub(crate) fn bounds(&self, a: &Mark, b: &Mark) -> Bounds
+        ensures { AreBounds (frame (tree_of self.now)) a.now b.now result }
     {
         let _plan = &self.plan;
-        self.windows.begun_below(mark)
+        self.windows.bounds(a, b)
     }
 
     /// The mark after one more row.

@@ -12,8 +12,8 @@ use std::marker::Model;
 
 /// The pairs of a window over some rows (SABER 2016: what a task gives for a window that does not
 /// lie whole in it), each under the places of its left and its right row, with the values of the
-/// items. Places keep their order as signed numbers, being at most 2^41. Contracts see it as a part,
-/// a finite map.
+/// items. Places keep their order as signed numbers, being at most 2^41. Contracts see it as a
+/// part, a finite map.
 #[derive(Drop)]
 pub struct Pairs {
     pub(crate) pairs: BTreeMap<[i64; 2], Vec<i128>>,
@@ -58,8 +58,8 @@ impl Pairs {
         Ok(())
     }
 
-    /// Takes in the pairs of later rows, each of which is new. After want of memory it is only safe:
-    /// some are taken in and others not.
+    /// Takes in the pairs of later rows, each of which is new. After want of memory it is only
+    /// safe: some are taken in and others not.
     pub(crate) fn merge(&mut self, later: Pairs) -> Result<(), NoMemory>
         requires { Apart self.old later }
         ensures { OnOk result (self.new ≡ merge self.old later) }

@@ -5,12 +5,9 @@ use crate::gathered::{gather, handed_on};
 use crate::join::Join;
 use crate::pairs::Pairs;
 use saber_fragment::Piece;
-use saber_laws::{
-    begun_are_counted, begun_stay, closed_are_counted, ends_begin_none, no_rows_no_part, rows_span,
-};
-use saber_parts::Bounds;
+use saber_laws::{begun_stay, ends_begin_none, no_rows_no_part, rows_span};
 use saber_plan::NoMemory;
-use saber_window::{closed_within_begun, ending};
+use saber_window::{Bounds, closed_within_begun, ending};
 use std::alloc::Global;
 use std::collections::BTreeMap;
 
@@ -24,7 +21,8 @@ impl Join<'_> {
     ghost use Rattle.saber_join.specs.Sights.{HasSeen};
     ghost use Rattle.saber_join.specs.Pieces.{AreOfTask};
 
-    // The windows of a task whose blocks are all in, and how many are begun before it and closed after it.
+    // The windows of a task whose blocks are all in, and how many are begun before it and closed
+    // after it.
     fn task_windows(
         &self,
         alloc: Global,
@@ -35,9 +33,7 @@ impl Join<'_> {
             → AreOfTask (tree_of self.now) s f.0 f.1.entries) }
     {
         self.has_windows();
-        begun_are_counted();
         begun_stay();
-        closed_are_counted();
         closed_within_begun();
         ends_begin_none();
         no_rows_no_part();
@@ -48,10 +44,7 @@ impl Join<'_> {
         let first = mark_before(&before, draft.last, back);
         let found = self.windows_of(alloc, &first, &before, back, rows)?;
         let after = ending(draft.ended, &found.1);
-        let bounds = Bounds {
-            begun_before: self.begun_below(&before),
-            closed_after: self.closed_below(&after),
-        };
+        let bounds = self.bounds(&before, &after);
         // That its windows rise, which the proof needs, is told by the length.
         let _count = found.0.len();
         Ok((bounds, found.0))

@@ -7,8 +7,8 @@ use saber_flat::RowRef;
 use saber_plan::Mark;
 use std::marker::Model;
 
-/// A row, and how many rows of both sides came before it. Contracts see it as the row behind so many
-/// others.
+/// A row, and how many rows of both sides came before it. Contracts see it as the row behind so
+/// many others.
 #[derive(Drop)]
 pub(crate) struct Seen<'a> {
     row: RowRef<'a>,

@@ -23,8 +23,8 @@ pub(crate) struct Kept<'a> {
 }
 
 /// Rows in the order in which they came. Those whose keys lie in one bucket are linked, each to the
-/// last one before it, so that the rows with a key are found from the last one on. Contracts see it as
-/// the list of the rows.
+/// last one before it, so that the rows with a key are found from the last one on. Contracts see it
+/// as the list of the rows.
 #[derive(Drop)]
 pub(crate) struct Shelf<'a> {
     rows: Vec<Kept<'a>>,
@@ -61,8 +61,8 @@ fn mask_for(rows: usize) -> u64
     mask
 }
 
-// The bucket of a key: the upmost 16 bits of a product, in which all bits of the key have a part, so that keys in a row, or with
-// zeros at their ends, are spread over the buckets.
+// The bucket of a key: the upmost 16 bits of a product, in which all bits of the key have a part,
+// so that keys in a row, or with zeros at their ends, are spread over the buckets.
 fn bucket(key: i64, mask: u64) -> usize
     ensures bucket { result ≡ bucket_of mask key }
     ensures below { result ≤ mask }

@@ -14,8 +14,8 @@ use saber_flat::RowRef;
 use saber_plan::{Cmp, Expr, Factor, Pred, Side, Unit};
 use std::marker::Model;
 
-/// An expression over the rows of one side, and the number of its column, where it is one column alone: as most are, so that a row costs
-/// no walk through it. Contracts see it as the expression.
+/// An expression over the rows of one side, and the number of its column, where it is one column
+/// alone: as most are, so that a row costs no walk through it. Contracts see it as the expression.
 #[derive(Drop)]
 pub(crate) struct End<'a> {
     expr: &'a Expr,

@@ -114,8 +114,9 @@ impl Join<'_> {
         Ok(())
     }
 
-    /// The pairs of the windows of a task that aren't closed before it, and the mark behind its rows. The
-    /// mark `before` stands before the rows that are looked back on, and `after` behind them.
+    /// The pairs of the windows of a task that aren't closed before it, and the mark behind its
+    /// rows. The mark `before` stands before the rows that are looked back on, and `after` behind
+    /// them.
     pub(crate) fn windows_of(
         &self,
         alloc: Global,

@@ -1,5 +1,5 @@
-// The source, the summary and the plan of generated rows. What is wanted is worked out by hand from the rules; whole summaries are data: the file
-// `demo.cases` of `saber_cases`.
+// The source, the summary and the plan of generated rows. What is wanted is worked out by hand from
+// the rules; whole summaries are data: the file `demo.cases` of `saber_cases`.
 use saber_demo::{Generated, TextSink, demo_plan, summary};
 use saber_io::{Sink, Source};
 use saber_plan::Shape;

@@ -1,4 +1,5 @@
-// Notes with numbers that no case can have, worked out by hand from the rules. All other notes are data, of `saber_cases`.
+// Notes with numbers that no case can have, worked out by hand from the rules. All other notes are
+// data, of `saber_cases`.
 use saber_io::MemSink;
 use saber_notes::{Noted, Outcome, write_note};
 use saber_plan::RowCause;

@@ -1,5 +1,5 @@
-// Texts that are read and shown, and what the checks make of some, with ample memory. All other texts are data: the files `queries.cases` and
-// `checks.cases` of `saber_cases`.
+// Texts that are read and shown, and what the checks make of some, with ample memory. All other
+// texts are data: the files `queries.cases` and `checks.cases` of `saber_cases`.
 use saber_check::plan_of;
 use saber_plan::Plan;
 use saber_query::{QueryFault, parse};
@@ -10,7 +10,8 @@ use std::test::Fail;
 
 // ---- how texts are shown
 
-// A text, and behind the bar how it is shown. None of these passes the checks, so `check` shows none.
+// A text, and behind the bar how it is shown. None of these passes the checks, so `check` shows
+// none.
 const SHOWN: &str = "\
 stream S(t,g,v);stream R(t , w) ;select min(S.v*007-1), count(*) from S [Rows 2 slide 2], R [RANGE 7 SLIDE 03] where not (v > 5 or v <> -1) and w = w group by g, S.v;|STREAM S ( t , g , v ) ; STREAM R ( t , w ) ; SELECT MIN ( S . v * 7 - 1 ) , COUNT ( * ) FROM S [ ROWS 2 SLIDE 2 ] , R [ RANGE 7 SLIDE 3 ] WHERE NOT ( v > 5 OR v <> - 1 ) AND w = w GROUP BY g , S . v ;
 STREAM S(t);SELECT -9223372036854775808,SUM(t),MAX(t)FROM S WHERE t<1 OR t<=1 AND t>=1|STREAM S ( t ) ; SELECT - 9223372036854775808 , SUM ( t ) , MAX ( t ) FROM S WHERE t < 1 OR t <= 1 AND t >= 1
@@ -53,8 +54,9 @@ fn texts(rt: HostRuntime) -> Result<(), Fail> {
 
 // ---- what the checks make of them
 
-// A text, and behind the bar the byte and the cause of its first fault, or its plan: the shape, the streams, the columns of GROUP BY and of PARTITION
-// BY, and the stream word. A declaration of S takes 17 bytes with the space behind it, those of A and B 30; then the query begins.
+// A text, and behind the bar the byte and the cause of its first fault, or its plan: the shape, the
+// streams, the columns of GROUP BY and of PARTITION BY, and the stream word. A declaration of S
+// takes 17 bytes with the space behind it, those of A and B 30; then the query begins.
 const CHECKED: &str = "\
 STREAM S(t,g,v); SELECT g, SUM(v) FROM S [ROWS 3 SLIDE 1] GROUP BY g|Group [Stream { columns: 3, window: Some(Window { measure: Rows, size: 3, slide: 1 }) }] [1] [] None
 STREAM S(t,g,v); SELECT w FROM S|24 UnknownColumn

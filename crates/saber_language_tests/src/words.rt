@@ -1,5 +1,5 @@
-// How many threads words ask for, which no answer depends on, no word at all, and the words of `many`. All other words are data: the files
-// `options.cases` and `words.cases` of `saber_cases`.
+// How many threads words ask for, which no answer depends on, no word at all, and the words of
+// `many`. All other words are data: the files `options.cases` and `words.cases` of `saber_cases`.
 use saber_words::{Command, Many, WordsFault, out_name, read_many, read_words};
 use std::alloc::{AllocError, Global};
 use std::fmt::Write;
@@ -62,8 +62,9 @@ fn no_word(rt: HostRuntime) {
     assert!(rt; read_words(rt.alloc(), &[]) == Err(WordsFault::Usage));
 }
 
-// What is asked for: the file, the queries, and behind the colon the rows of a task, the cells of the ring, the threads of each query, the lines, the
-// slack and whether the end of the input closes windows; or that the words are not `many`. Behind the bar the words, with a space between.
+// What is asked for: the file, the queries, and behind the colon the rows of a task, the cells of
+// the ring, the threads of each query, the lines, the slack and whether the end of the input closes
+// windows; or that the words are not `many`. Behind the bar the words, with a space between.
 const ROWS_OF_MANY: &str = "\
 l a: 1024 64 2 1099511627776 0 false|saber many l a
 l a b: 1024 64 2 1099511627776 0 false|saber many l a b

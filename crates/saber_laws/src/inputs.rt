@@ -11,7 +11,8 @@ pub fn whole_rows_fit()
     ensures { WholeRowsFit }
 {}
 
-/// The rows of a file are its accepted rows, sorted by timestamp; those of one timestamp keep their order.
+/// The rows of a file are its accepted rows, sorted by timestamp; those of one timestamp keep their
+/// order.
 pub fn files_are_sorted()
     ensures { FilesAreSorted }
 {}

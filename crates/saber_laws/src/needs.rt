@@ -7,8 +7,8 @@ pub fn rows_span()
     ensures { RowsSpan }
 {}
 
-/// The rows that a task needs (the look-back of SABER 2016) are enough for the part of a window over
-/// its own rows.
+/// The rows that a task needs (the look-back of SABER 2016) are enough for the part of a window
+/// over its own rows.
 pub fn needs_make_parts()
     ensures { NeedsMakeParts }
 {}
@@ -28,8 +28,8 @@ pub fn rows_make_pieces()
     ensures { RowsMakePieces }
 {}
 
-/// The open parts of a piece are those of the windows that its rows close, of those that they lie in
-/// the middle of, and of those that they begin.
+/// The open parts of a piece are those of the windows that its rows close, of those that they lie
+/// in the middle of, and of those that they begin.
 pub fn parts_by_kind()
     ensures { PartsByKind }
 {}

@@ -2,8 +2,8 @@
 ghost use Rattle.saber_plan.specs.Tasks.{PiecesMakeText};
 ghost use Rattle.saber_laws.specs.Pieces.{PiecesStay, TextGoesOn, PiecesPrint, OpenGoesOn, NoRowsGiveNothing, TextGrows, NoTasksNoRows};
 
-/// Pieces taken in one after another, in the order of their tasks, make the text of the windows that
-/// their rows close, and leave the parts of those that stay open, for every task size.
+/// Pieces taken in one after another, in the order of their tasks, make the text of the windows
+/// that their rows close, and leave the parts of those that stay open, for every task size.
 pub fn pieces_make_text()
     ensures { PiecesMakeText }
 {}
@@ -18,7 +18,8 @@ pub fn text_goes_on()
     ensures { TextGoesOn }
 {}
 
-/// What is written for a piece is what its arrivals add, where windows print their answers as they are, or rows theirs.
+/// What is written for a piece is what its arrivals add, where windows print their answers as they
+/// are, or rows theirs.
 pub fn pieces_print()
     ensures { PiecesPrint }
 {}

@@ -6,8 +6,8 @@ use crate::shareable::Shareable;
 use saber_workers::Labor;
 use std::alloc::Global;
 
-/// Does the task of these rows, which needs no others, on the caller's thread: its piece, or the mark where memory lacks for that, is taken
-/// into the stage. True where the stage goes on then.
+/// Does the task of these rows, which needs no others, on the caller's thread: its piece, or the
+/// mark where memory lacks for that, is taken into the stage. True where the stage goes on then.
 pub fn do_task<W: Shareable, L: Labor<W>>(
     labor: &L,
     alloc: Global,

@@ -17,8 +17,8 @@ use std::sync::atomic::{AtomicBool, Ordering};
 /// Who does the works of a list, each its own.
 pub struct Each<L> {
     pub list: Vec<L>,
-    /// Of each work, whether its stage has stopped: then no piece of it is made any more. Nothing else stands on it, so one that is missing
-    /// counts as false.
+    /// Of each work, whether its stage has stopped: then no piece of it is made any more. Nothing
+    /// else stands on it, so one that is missing counts as false.
     pub stopped: Vec<AtomicBool>,
 }
 

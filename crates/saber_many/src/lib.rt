@@ -1,4 +1,4 @@
-//! Several works on one ring: a list of works of one kind is a work that one crew does, task by task.
+//! Several works on one ring: a list of works of one kind is a work that one crew does.
 //! Each has its own rows of a task, its own piece and its own stage, and one that stops lets the
 //! others go on. `engines` of `saber_engine` runs several queries over one input by it.
 //!
@@ -14,8 +14,9 @@
 //!   its own base data and by its own stage, whatever stopped the others. A member that stopped is
 //!   passed over from then on; the list of stages stops where the last one has.
 //! - Not claimed: that no piece is made for a stage that stopped. A flag of each work tells workers
-//!   that it has; pieces that are under way are made, and its rows are dealt until all have stopped.
-//!   Where memory lacks for a list of pieces, others than the one that wanted it may have the mark.
+//!   that it has; pieces that are under way are made, and its rows are dealt until all have
+//!   stopped. Where memory lacks for a list of pieces, others than the one that wanted it may have
+//!   the mark.
 //! - Limits: one work at least. Any number of them.
 #![tactic(auto)]
 

@@ -10,8 +10,9 @@ use std::collections::{LinkedList, VecDeque};
 use std::marker::PhantomData;
 use std::sync::Mutex;
 
-/// Several works of one kind as one work, of which there is one at least. The rows of a task are those of each, in their order; a piece has the
-/// piece of each, or the mark that memory lacked for it; the stage has that of each, and goes on while one of them does.
+/// Several works of one kind as one work, of which there is one at least. The rows of a task are
+/// those of each, in their order; a piece has the piece of each, or the mark that memory lacked for
+/// it; the stage has that of each, and goes on while one of them does.
 pub struct Many<W> {
     work: PhantomData<Mutex<W>>,
 }

@@ -1,4 +1,5 @@
-// Tasks of group queries, worked out by hand: plain ones, under each stream word, and with PARTITION BY.
+// Tasks of group queries, worked out by hand: plain ones, under each stream word, and with
+// PARTITION BY.
 ghost use Rattle.saber_plan.specs.declared.plans.Shape.TheVariants as shapes;
 ghost use Rattle.saber_samples.specs.Asking.{IsOfKeys, IsOfOne};
 
@@ -79,7 +80,8 @@ fn check_section(rt: &impl Abort, alloc: Global, section: &str) -> Result<(), No
     checked
 }
 
-// Queries, and behind each what its tasks add to the text and, behind a bar, what is open behind them.
+// Queries, and behind each what its tasks add to the text and, behind a bar, what is open behind
+// them.
 const TABLE: &str = "\
 SELECT g, SUM(v) FROM S [ROWS 3 SLIDE 1] GROUP BY g
 0,1,10 1,1,20 = |0,1,30;1,1,20;

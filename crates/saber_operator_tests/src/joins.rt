@@ -1,4 +1,5 @@
-// Pairs of windows, worked out by hand. Rows have two columns: a time and a number, x of stream A and y of stream B.
+// Pairs of windows, worked out by hand. Rows have two columns: a time and a number, x of stream A
+// and y of stream B.
 ghost use Rattle.std.specs.Prelude.{◌≡◌, ℕ, [], ◌++◌, IfOk, OnOk, false};
 ghost use Rattle.saber_plan.specs.declared.plans.Shape.TheVariants as h;
 ghost use Rattle.saber_plan.specs.GivenRows.{RowsFit};
@@ -86,8 +87,8 @@ fn write_windows(parts: Parts<Pairs>, out: &mut Vec<u8>) -> Result<(), NoMemory>
     Ok(())
 }
 
-// The windows that a task closes, that it goes on with and that it begins, the text of those that lie whole in it, and how many are
-// closed behind it.
+// The windows that a task closes, that it goes on with and that it begins, the text of those that
+// lie whole in it, and how many are closed behind it.
 fn shown(alloc: Global, piece: Piece<Pairs>) -> Result<Vec<u8>, NoMemory> {
     let mut out = Vec::new(alloc);
     write_windows(piece.closing, &mut out)?;
@@ -99,7 +100,8 @@ fn shown(alloc: Global, piece: Piece<Pairs>) -> Result<Vec<u8>, NoMemory> {
     Ok(out)
 }
 
-// Two blocks, the task and what it gives: `A,0,5 / B,0,7 / A,1,9 = |0 |||0`. The flush task, which has no rows, is `end`.
+// Two blocks, the task and what it gives: `A,0,5 / B,0,7 / A,1,9 = |0 |||0`. The flush task, which
+// has no rows, is `end`.
 fn check_piece(rt: &impl Abort, alloc: Global, plan: &Plan, line: &str) -> Result<(), NoMemory>
     requires join { IsJoinOf 2 plan.now }
     requires alike { way (tree_of plan.now) ≡ alike }
@@ -156,7 +158,8 @@ fn give<O: Operator>(
     Ok(())
 }
 
-// The next task, of these rows or the input's end, which looks back on a block of all rows before it; and the mark behind it.
+// The next task, of these rows or the input's end, which looks back on a block of all rows before
+// it; and the mark behind it.
 fn take_task<O: Operator>(
     alloc: Global,
     operator: &O,
@@ -181,8 +184,8 @@ fn take_task<O: Operator>(
     Ok(after)
 }
 
-// The text of these tasks and, behind a bar, what the flush task adds: the windows that they leave open. A store that kept the parts of
-// closed windows would write them again.
+// The text of these tasks and, behind a bar, what the flush task adds: the windows that they leave
+// open. A store that kept the parts of closed windows would write them again.
 fn answer<O: Operator>(
     rt: &impl Abort,
     alloc: Global,
@@ -293,7 +296,8 @@ fn check_section(rt: &impl Abort, alloc: Global, section: &str) -> Result<(), No
     checked
 }
 
-// Queries, and behind each what single tasks of it give, and what is written for tasks of one row, of two and of all.
+// Queries, and behind each what single tasks of it give, and what is written for tasks of one row,
+// of two and of all.
 const TABLE: &str = "\
 SELECT x, y FROM A [RANGE 4 SLIDE 4], B [RANGE 4 SLIDE 4] WHERE x < y
 # One task of all rows; tasks of two rows, each of which looks back on the rows before it and finds the pairs of its own alone; the flush
@@ -400,9 +404,9 @@ fn tasks_of_joins(rt: HostRuntime) -> Result<(), Fail> {
 
 // ---- partners that are found by key, and predicates that tie nothing
 
-// Window 0 has left numbers 5, 5 and 6, of times 0, 1 and 3, and right numbers 5, 7 and 5, of times 0, 1 and 2. Window 1 has left
-// number 7, of time 4, and right numbers 6 and 7, of times 5 and 6. The last row closes it. They come in one task, in tasks of three
-// rows and of one.
+// Window 0 has left numbers 5, 5 and 6, of times 0, 1 and 3, and right numbers 5, 7 and 5, of times
+// 0, 1 and 2. Window 1 has left number 7, of time 4, and right numbers 6 and 7, of times 5 and 6.
+// The last row closes it. They come in one task, in tasks of three rows and of one.
 const ALL: &str = "A,0,5 B,0,5 A,1,5 B,1,7 B,2,5 A,3,6 A,4,7 B,5,6 B,6,7 B,8,0";
 
 const THREES: &str = "A,0,5 B,0,5 A,1,5 | B,1,7 B,2,5 A,3,6 | A,4,7 B,5,6 B,6,7 | B,8,0";

@@ -1,5 +1,9 @@
-//! Tests of the operators, by their public calls, in a crate of its own so that each of those is proved once. A table is one text: sections,
-//! each with its query and a line for each case: what is given, `=`, and what is wanted, which was worked out by hand from the rules.
+//! Tests of the operators, by their public calls, in a crate of its own.
+//! A table is one text: sections, each with its query and a line for each case: what is given, `=`,
+//! and what is wanted, which was worked out by hand from the rules.
+//!
+//! - Parts: `groups`, `joins`, `selections` (without a window), `windowed` (with one); `tasks`,
+//!   `plans` and `texts` are what the tables are made of.
 #![tactic(auto)]
 
 #[cfg(test)]

@@ -1,5 +1,5 @@
-// Plans of queries that are told as texts. Stream S has three columns: a time t, a key g and a number v. Streams A and B have a time t, and a number x
-// or y.
+// Plans of queries that are told as texts. Stream S has three columns: a time t, a key g and a
+// number v. Streams A and B have a time t, and a number x or y.
 ghost use Rattle.std.specs.Prelude.{◌≡◌, [], None, Some, IfOk, IfSome};
 ghost use Rattle.saber_plan.specs.Answers.{alike, by_change, way, way_of};
 ghost use Rattle.saber_plan.specs.Checked.{IsChecked};

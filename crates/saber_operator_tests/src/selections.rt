@@ -43,7 +43,8 @@ fn select(
     piece(alloc, &Select::new(plan), &own)
 }
 
-// How many rows come before a task, the time of the last, the task's rows and its text: `1 0 | 1,1,20 = 1,39;`.
+// How many rows come before a task, the time of the last, the task's rows and its text: `1 0 |
+// 1,1,20 = 1,39;`.
 fn check_task(rt: &impl Abort, alloc: Global, plan: &Plan, line: &str) -> Result<(), NoMemory>
     requires { IsOfOne h.Select 3 plan.now }
 {

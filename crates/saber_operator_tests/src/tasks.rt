@@ -41,8 +41,8 @@ fn earlier_of(alloc: Global, looks_back: bool, last: Earlier, before: Mark) -> E
     }
 }
 
-// The block of the task behind some rows, of which it has the last, if it looks back; and what stands behind it. Its rows are counted by their keys,
-// where the query asks for that.
+// The block of the task behind some rows, of which it has the last, if it looks back; and what
+// stands behind it. Its rows are counted by their keys, where the query asks for that.
 fn next_block(
     alloc: Global,
     looks_back: bool,
@@ -111,8 +111,8 @@ fn give<O: Operator>(
     Ok(())
 }
 
-// What stands behind some tasks: how many of their rows have each key, where the query asks for that, the mark, and the rows that the next
-// block may have before its own.
+// What stands behind some tasks: how many of their rows have each key, where the query asks for
+// that, the mark, and the rows that the next block may have before its own.
 #[derive(Drop)]
 struct Past {
     counter: Option<Places>,
@@ -152,7 +152,8 @@ fn take_task<O: Operator>(
     })
 }
 
-// The text of these tasks and, behind a bar, what the flush task adds: the windows that they leave open.
+// The text of these tasks and, behind a bar, what the flush task adds: the windows that they leave
+// open.
 fn answer<O: Operator>(
     rt: &impl Abort,
     alloc: Global,

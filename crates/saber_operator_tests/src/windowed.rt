@@ -45,7 +45,8 @@ fn check_section(rt: &impl Abort, alloc: Global, section: &str) -> Result<(), No
     checked
 }
 
-// Queries, and behind each what its tasks add to the text and, behind a bar, what is open behind them.
+// Queries, and behind each what its tasks add to the text and, behind a bar, what is open behind
+// them.
 const TABLE: &str = "\
 RSTREAM (SELECT g FROM S [ROWS 3 SLIDE 1])
 # Keys 1, 1 and 2, then 1, 2 and 1, then 2, 1 and 2, each row in three windows.

@@ -3,15 +3,16 @@ ghost use Rattle.saber_panes.specs.PaneLaws.{DroppedPanesFit, DroppedPanesStay, 
 
 use saber_laws::{groups_join, merge_has_unit, merge_is_associative, no_rows_no_part, rows_span};
 
-/// The panes of some rows and of the rows behind them are taken in one after the other, wherever rows
-/// are cut.
+/// The panes of some rows and of the rows behind them are taken in one after the other, wherever
+/// rows are cut.
 pub fn panes_join()
     ensures { PanesJoin }
 {
     groups_join();
 }
 
-/// The merge of a window's panes is its part: what tasks keep by panes means what they keep by windows.
+/// The merge of a window's panes is its part: what tasks keep by panes means what they keep by
+/// windows.
 pub fn windows_are_panes()
     ensures { WindowsArePanes }
 {

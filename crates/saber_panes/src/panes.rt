@@ -24,8 +24,9 @@ use std::collections::BTreeMap;
 use std::marker::Model;
 use std::sync::ledger::Ledger;
 
-/// The parts of panes (SABER 2016, after Li et al. 2005): a row that lies in many windows goes into one
-/// pane, and a window merges its panes. Contracts see them as a finite map from pane numbers to parts.
+/// The parts of panes (SABER 2016, after Li et al. 2005): a row that lies in many windows goes into
+/// one pane, and a window merges its panes. Contracts see them as a finite map from pane numbers to
+/// parts.
 #[derive(Drop)]
 pub struct Panes {
     parts: BTreeMap<u64, PanePart>,
@@ -107,9 +108,9 @@ impl Panes {
         Ok(())
     }
 
-    /// Adds the rows of a task, behind the mark before them, each to its pane: at most one step for each row
-    /// that lies in a window and passes WHERE, however many windows have it. A row in no window has no
-    /// pane. After want of memory they are only safe.
+    /// Adds the rows of a task, behind the mark before them, each to its pane: at most one step for
+    /// each row that lies in a window and passes WHERE, however many windows have it. A row in no
+    /// window has no pane. After want of memory they are only safe.
     pub fn fold<L: Ledger>(
         &mut self,
         alloc: Global,
@@ -168,8 +169,9 @@ impl Panes {
         }
     }
 
-    /// Merges the panes of window i into a part: at most one step for each of them, and none for one that
-    /// isn't there, so that a gap costs nothing. After want of memory the part is only safe.
+    /// Merges the panes of window i into a part: at most one step for each of them, and none for
+    /// one that isn't there, so that a gap costs nothing. After want of memory the part is only
+    /// safe.
     pub fn window<L: Ledger>(
         &self,
         alloc: Global,

@@ -11,8 +11,8 @@ use crate::sources::{Source, sources_of};
 use saber_plan::{Aggregate, Plan};
 use std::marker::Model;
 
-/// What a checked group query asks of each row, made once a plan: how the numbers of a group lie, and where the values come from.
-/// Contracts see it as the plan.
+/// What a checked group query asks of each row, made once a plan: how the numbers of a group lie,
+/// and where the values come from. Contracts see it as the plan.
 #[derive(Drop)]
 pub struct Aggregates<'a> {
     plan: &'a Plan,

@@ -20,8 +20,9 @@ use std::alloc::Global;
 use std::marker::Model;
 use std::mem;
 
-/// The part of rows that come one after another. A row is taken into one of the latest groups, however many there are in all,
-/// and no group is moved for one whose key is new. Contracts see it as the part.
+/// The part of rows that come one after another. A row is taken into one of the latest groups,
+/// however many there are in all, and no group is moved for one whose key is new. Contracts see it
+/// as the part.
 #[derive(Drop)]
 pub struct Gathering {
     pile: Pile,
@@ -86,8 +87,8 @@ impl Gathering {
         }
     }
 
-    /// Adds a row of a group query's stream to the group of its key, as `Partial::add_row` does. After want of memory it
-    /// is only safe.
+    /// Adds a row of a group query's stream to the group of its key, as `Partial::add_row` does.
+    /// After want of memory it is only safe.
     #[inline]
     pub fn add_row(
         &mut self,
@@ -106,8 +107,8 @@ impl Gathering {
         self.young.add_row(aggregates, row)
     }
 
-    /// All in one part, after which there is no group. The memory for the latest groups stays, for others. After want of
-    /// memory it is only safe.
+    /// All in one part, after which there is no group. The memory for the latest groups stays, for
+    /// others. After want of memory it is only safe.
     pub fn take_part(&mut self, alloc: Global) -> Result<Partial, NoMemory>
         ensures part { IfOk result (λ p. p ≡ self.old) }
         ensures none { OnOk result (self.new ≡ no_part) }

@@ -22,9 +22,9 @@ use std::sync::ledger::Ledger;
 /// The partial answer of a group query over some rows of one window (SABER 2016: what a task gives
 /// for a window that does not lie whole in it). From key lists, in their order, to how many rows
 /// have the key, and to the plan's aggregates over them. A group has 1 to 2^40 rows, each of which
-/// adds at most 2^86 to a sum, so that 128 bits hold each sum (this project's rule). The groups lie in
-/// one list of numbers, by key, so that parts of the same keys merge in one walk over both. Contracts
-/// see it as a part, a finite map.
+/// adds at most 2^86 to a sum, so that 128 bits hold each sum (this project's rule). The groups lie
+/// in one list of numbers, by key, so that parts of the same keys merge in one walk over both.
+/// Contracts see it as a part, a finite map.
 #[derive(Drop)]
 pub struct Partial {
     pub(crate) groups: Table,
@@ -204,8 +204,8 @@ impl Partial {
         self.merge_from(alloc, other)
     }
 
-    /// The merge with what is known of later rows of the same plan, in memory of its own; both stay as
-    /// they are. It fails only for want of memory.
+    /// The merge with what is known of later rows of the same plan, in memory of its own; both stay
+    /// as they are. It fails only for want of memory.
     pub fn merged(&self, alloc: Global, other: &Partial) -> Result<Partial, NoMemory>
         requires { CanMerge self.now other.now }
         ensures { IfOk result (λ p. p ≡ merge self.now other.now) }

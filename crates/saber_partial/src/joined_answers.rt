@@ -68,7 +68,8 @@ fn push_both(
     Ok(())
 }
 
-// The answers of the group that comes next in a walk over both, of one or of both. Tells where the walk then is.
+// The answers of the group that comes next in a walk over both, of one or of both. Tells where the
+// walk then is.
 #[inline(always)]
 fn push_next(
     answers: &mut Answers,
@@ -153,8 +154,8 @@ fn answers_woven(
 }
 
 impl Partial {
-    /// The answers of the merge with what is known of later rows of the same plan, as `answers` gives them, without a list of
-    /// the merge.
+    /// The answers of the merge with what is known of later rows of the same plan, as `answers`
+    /// gives them, without a list of the merge.
     pub(crate) fn answers_with(
         &self,
         alloc: Global,

@@ -81,7 +81,8 @@ fn write_both(
     Ok(end_line(draft, end))
 }
 
-// The line of the group that comes next in a walk over both, of one or of both. Tells where the text and the walk then are.
+// The line of the group that comes next in a walk over both, of one or of both. Tells where the
+// text and the walk then are.
 #[inline(always)]
 fn write_next(
     out: &mut Vec<u8>,
@@ -183,8 +184,8 @@ fn write_all_woven(
 }
 
 impl Partial {
-    /// Writes the lines of the merge with what is known of later rows of the same plan, as `lines` does,
-    /// without a list of the merge. Where memory is wanting, `out` stays as it was.
+    /// Writes the lines of the merge with what is known of later rows of the same plan, as `lines`
+    /// does, without a list of the merge. Where memory is wanting, `out` stays as it was.
     pub fn lines_with(
         &self,
         later: &Partial,

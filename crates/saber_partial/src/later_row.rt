@@ -14,7 +14,8 @@ use crate::sources::Source;
 use saber_flat::RowRef;
 use saber_plan::{Aggregate, Fold};
 
-// Takes the value over a row into the number at k. That of a first row stays, and nothing is worked out for it.
+// Takes the value over a row into the number at k. That of a first row stays, and nothing is worked
+// out for it.
 #[inline(always)]
 fn add_value(xs: &mut [i128], k: usize, source: Source, aggregate: &Aggregate, row: &RowRef)
     requires there { k < length xs.old }

@@ -4,8 +4,8 @@ ghost use Rattle.saber_partial.specs.Flat.{IsLayout, Suits};
 
 use saber_plan::{Aggregate, Fold};
 
-/// How many numbers a row has: the columns of the key, one that counts rows, and the aggregates, and how each of those goes on over
-/// more rows. The groups of a part have one layout.
+/// How many numbers a row has: the columns of the key, one that counts rows, and the aggregates,
+/// and how each of those goes on over more rows. The groups of a part have one layout.
 #[derive(Clone, Copy)]
 pub(crate) struct Layout {
     pub(crate) keys: usize,

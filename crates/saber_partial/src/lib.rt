@@ -1,14 +1,14 @@
 //! Partial answers of groups: from key lists to counts, sums, least, greatest and first values.
-//! The groups of a part are one list of numbers, by key. Panes, the two-stacks queue and groups use
-//! it.
+//! The groups of a part are one list of numbers, by key. Panes, the two-stacks queue, and the
+//! operators of groups, with PARTITION BY and without, use it.
 //!
 //! - Parts, from below: `layout`, `sources`, `aggregates` (what a plan asks of each row), `folds`,
-//!   `joined_values`, `first_row`, `later_row` and `tally` (numbers of one group), `table`, `places` and
-//!   `merges` (groups in one list), `groups` and `rows` (`Partial`), `row_parts` (`RowParts`: parts
-//!   of one row each, in one list), `row_merges` (one of them taken in), `young`, `piles` and
-//!   `gathering` (rows gathered, few groups at a time), `headings`, `printed`, `lines` and
-//!   `joined_lines` (the text), `answers` and `joined_answers` (the same as values), `steps`
-//!   (merges counted), `laws` (by which callers meet what is required).
+//!   `joined_values`, `first_row`, `later_row` and `tally` (numbers of one group), `table`,
+//!   `places` and `merges` (groups in one list), `groups` and `rows` (`Partial`), `row_parts`
+//!   (`RowParts`: parts of one row each, in one list), `row_merges` (one of them taken in),
+//!   `young`, `piles` and `gathering` (rows gathered, few groups at a time), `headings`, `printed`,
+//!   `lines` and `joined_lines` (the text), `answers` and `joined_answers` (the same as values),
+//!   `steps` (merges counted), `laws` (by which callers meet what is required).
 //! - Calls: `Partial::add_row` takes a row, `merge` and `merge_from` the part of later rows, given
 //!   or lent, `lines` prints a window's part, `lines_with` two parts without their merge, `answers`
 //!   gives a part's answers as values; `RowParts::push` appends a row's part, `part` lends it, and

@@ -103,9 +103,9 @@ fn write_all(out: &mut Vec<u8>, window: u64, items: &[Expr], groups: &Table) -> 
 }
 
 impl Partial {
-    /// Writes the lines of the groups behind what `out` has: in the order of keys, each the window's
-    /// number and the answers to the plan's items in decimal, with commas between, and LF (this
-    /// project's rule). Where memory is wanting, `out` stays as it was.
+    /// Writes the lines of the groups behind what `out` has: in the order of keys, each the
+    /// window's number and the answers to the plan's items in decimal, with commas between, and LF
+    /// (this project's rule). Where memory is wanting, `out` stays as it was.
     pub fn lines(&self, plan: &Plan, window: u64, out: &mut Vec<u8>) -> Result<(), NoMemory>
         requires checked { IsChecked (tree_of plan.now) }
         requires group { (tree_of plan.now).shape ≡ Group }

@@ -37,8 +37,8 @@ fn join_one(groups: &mut Table, others: &Table)
     groups.join(0, others.row(0));
 }
 
-// Takes in the groups, from the first on, whose keys are there, in one walk over both, and says how many these are before
-// the first whose key isn't.
+// Takes in the groups, from the first on, whose keys are there, in one walk over both, and says how
+// many these are before the first whose key isn't.
 fn take_found(groups: &mut Table, others: &Table) -> usize
     requires alike { groups.old.layout ≡ others.now.layout }
     requires mine { Rises groups.old.entries }
@@ -63,7 +63,8 @@ fn take_found(groups: &mut Table, others: &Table) -> usize
     others.len()
 }
 
-// Appends the groups from one on whose keys are below this one, at once, and says where they end. The first of them is.
+// Appends the groups from one on whose keys are below this one, at once, and says where they end.
+// The first of them is.
 fn push_below(out: &mut Table, groups: &Table, from: usize, key: &[i128]) -> Result<usize, NoMemory>
     requires alike { out.old.layout ≡ groups.now.layout }
     requires there { from < length groups.now.entries }
@@ -94,8 +95,9 @@ fn push_joined(out: &mut Table, row: &[i128], later: &[i128]) -> Result<(), NoMe
     Ok(())
 }
 
-// Appends all groups of both by key, of the others those from one on, and those that both have joined, in one walk over both.
-// Groups of one that lie between two of the other are copied at once.
+// Appends all groups of both by key, of the others those from one on, and those that both have
+// joined, in one walk over both. Groups of one that lie between two of the other are copied at
+// once.
 fn weave_into(out: &mut Table, groups: &Table, others: &Table, from: usize) -> Result<(), NoMemory>
     requires layout { out.old.layout ≡ groups.now.layout }
     requires alike { groups.now.layout ≡ others.now.layout }
@@ -152,8 +154,8 @@ fn take_rest(alloc: Global, groups: &mut Table, others: &Table, from: usize) -> 
     Ok(())
 }
 
-// Takes in groups of later rows, by key: side by side where both have the same keys; in place while the keys of the fewer are
-// there; and the rest in a walk over both into a new list.
+// Takes in groups of later rows, by key: side by side where both have the same keys; in place while
+// the keys of the fewer are there; and the rest in a walk over both into a new list.
 #[inline(never)]
 fn take_in_some(alloc: Global, groups: &mut Table, others: &Table) -> Result<(), NoMemory>
     requires alike { groups.old.layout ≡ others.now.layout }
@@ -174,7 +176,8 @@ fn take_in_some(alloc: Global, groups: &mut Table, others: &Table) -> Result<(),
     take_rest(alloc, groups, others, found)
 }
 
-/// Takes in groups of later rows, by key. Where there is one group, and it is the same one, at once.
+/// Takes in groups of later rows, by key. Where there is one group, and it is the same one, at
+/// once.
 #[inline]
 pub(crate) fn take_in(alloc: Global, groups: &mut Table, others: &Table) -> Result<(), NoMemory>
     requires alike { groups.old.layout ≡ others.now.layout }
@@ -191,7 +194,8 @@ pub(crate) fn take_in(alloc: Global, groups: &mut Table, others: &Table) -> Resu
     take_in_some(alloc, groups, others)
 }
 
-/// Takes in one group of a later row, which lies in its row as all do here: into the group of its key, or as one more.
+/// Takes in one group of a later row, which lies in its row as all do here: into the group of its
+/// key, or as one more.
 #[inline]
 pub(crate) fn take_in_row(groups: &mut Table, row: &[i128]) -> Result<(), NoMemory>
     requires row { IsRow groups.old.layout row.now }

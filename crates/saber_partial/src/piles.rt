@@ -17,10 +17,11 @@ use std::alloc::Global;
 use std::marker::{Brand, Model};
 use std::sync::ledger::{Blank, Ledger};
 
-/// A part that is taken in piece by piece. The pieces are merged by twos as they come to be of like size, as a binary
-/// counter carries, so that a group is moved as often as the number of groups has halves, and not once for each piece.
-/// Contracts see the merge of all, and in how many pieces it lies: as a merge makes one piece of two, there are
-/// never more merges than pieces that were taken in.
+/// A part that is taken in piece by piece. The pieces are merged by twos as they come to be of like
+/// size, as a binary counter carries, so that a group is moved as often as the number of groups has
+/// halves, and not once for each piece. Contracts see the merge of all, and in how many pieces it
+/// lies: as a merge makes one piece of two, there are never more merges than pieces that were taken
+/// in.
 #[derive(Drop)]
 pub struct Pile {
     // from first to last
@@ -46,7 +47,8 @@ impl Model for Pile {
 // A part of fewer groups takes in what comes behind it at once, mostly without memory.
 const FEW: usize = 16;
 
-// Whether there are two parts at least, and the one before the last isn't twice as great as the last.
+// Whether there are two parts at least, and the one before the last isn't twice as great as the
+// last.
 fn are_like(parts: &[Partial]) -> bool
     ensures { result ≡ true → 2 ≤ length parts.now }
 {
@@ -181,7 +183,8 @@ fn answers_of_both<L: Ledger>(
     first.answers_with(alloc, part, plan)
 }
 
-// Whether the last part has few groups, or isn't twice as great as one of so many that comes behind it.
+// Whether the last part has few groups, or isn't twice as great as one of so many that comes behind
+// it.
 fn is_like_last(parts: &[Partial], groups: usize) -> bool
     ensures { result ≡ true → 1 ≤ length parts.now }
 {
@@ -350,8 +353,8 @@ impl Pile {
         self.parts.is_empty()
     }
 
-    /// Takes in what is known of later rows. Its steps are counted nowhere. After want of memory it is only safe, as with
-    /// `Partial::merge`.
+    /// Takes in what is known of later rows. Its steps are counted nowhere. After want of memory it
+    /// is only safe, as with `Partial::merge`.
     pub(crate) fn take_in(&mut self, part: Partial) -> Result<(), NoMemory>
         requires { CanMerge self.old.part part }
         ensures { OnOk result (self.new.part ≡ merge self.old.part part) }
@@ -362,8 +365,8 @@ impl Pile {
         put_behind::<Brand>(&mut self.parts, part, Blank::new(1))
     }
 
-    /// Takes in what is known of later rows, which is lent: one step, if each piece more counts for one. After want of memory it
-    /// is only safe, as with `Partial::merge`.
+    /// Takes in what is known of later rows, which is lent: one step, if each piece more counts for
+    /// one. After want of memory it is only safe, as with `Partial::merge`.
     #[inline(always)]
     pub fn take_from<L: Ledger>(
         &mut self,
@@ -403,8 +406,8 @@ impl Pile {
         join_all::<Brand>(alloc, self.parts, Blank::new(1))
     }
 
-    /// Writes the lines of all groups behind what `out` has: a step for each piece that is fewer. Where memory is wanting,
-    /// `out` stays as it was.
+    /// Writes the lines of all groups behind what `out` has: a step for each piece that is fewer.
+    /// Where memory is wanting, `out` stays as it was.
     pub fn lines<L: Ledger>(
         &mut self,
         plan: &Plan,
@@ -426,7 +429,8 @@ impl Pile {
         part.lines(plan, window, out)
     }
 
-    /// The same of a part before them and of all together: one step more, for they are merged as they are written.
+    /// The same of a part before them and of all together: one step more, for they are merged as
+    /// they are written.
     pub fn lines_behind<L: Ledger>(
         &mut self,
         first: &Partial,

@@ -66,8 +66,8 @@ fn begins_below(key: &[i128], other: &[i128]) -> bool
     }
 }
 
-/// Where a walk over the groups from one on stops, with groups alone behind it whose keys are less than this one. It passes
-/// those whose first number is less, so that a group costs it one look.
+/// Where a walk over the groups from one on stops, with groups alone behind it whose keys are less
+/// than this one. It passes those whose first number is less, so that a group costs it one look.
 #[inline(always)]
 pub(crate) fn reach(groups: &Table, from: usize, key: &[i128]) -> usize
     requires { from ≤ length groups.now.entries }

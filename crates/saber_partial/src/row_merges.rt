@@ -32,8 +32,8 @@ impl Partial {
         Ok(own)
     }
 
-    /// Takes in the part of a later row of the same plan, which is lent: one group, found by its key, and no memory where it is
-    /// there. Else as `merge_from`.
+    /// Takes in the part of a later row of the same plan, which is lent: one group, found by its
+    /// key, and no memory where it is there. Else as `merge_from`.
     #[inline]
     pub fn merge_row(&mut self, part: &RowPart) -> Result<(), NoMemory>
         requires { CanMerge self.old part.now }

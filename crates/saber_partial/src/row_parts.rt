@@ -20,7 +20,8 @@ use saber_plan::NoMemory;
 use std::alloc::Global;
 use std::marker::Model;
 
-/// The part of one row in a list of them, which is lent. Contracts see it as the part, which has one group.
+/// The part of one row in a list of them, which is lent. Contracts see it as the part, which has
+/// one group.
 #[derive(Drop)]
 pub struct RowPart<'a> {
     pub(crate) layout: &'a Layout,
@@ -42,8 +43,8 @@ impl<'a> Model for RowPart<'a> {
     ghost invariant = { λ r. IsLayout r.layout.now × IsRow r.layout.now r.row.now };
 }
 
-/// Parts of rows of one plan, each of one row, in order. All lie in one list of numbers, so that one more mostly takes no memory.
-/// Contracts see the parts.
+/// Parts of rows of one plan, each of one row, in order. All lie in one list of numbers, so that
+/// one more mostly takes no memory. Contracts see the parts.
 #[derive(Drop)]
 pub struct RowParts {
     groups: Table,
@@ -81,7 +82,8 @@ impl RowParts {
         self.groups.len()
     }
 
-    /// Appends the part of a row, whether or not the row passes WHERE. Where memory is wanting, nothing changes.
+    /// Appends the part of a row, whether or not the row passes WHERE. Where memory is wanting,
+    /// nothing changes.
     #[inline]
     pub fn push(&mut self, aggregates: &Aggregates, row: &RowRef) -> Result<(), NoMemory>
         requires checked { IsChecked (tree_of aggregates.now) }

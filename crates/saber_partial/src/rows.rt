@@ -33,7 +33,8 @@ impl Partial {
     /// Adds a row of a group query's stream to the group of its key (CQL 2006, GROUP BY; without
     /// one, all rows have the empty key), whether or not it passes WHERE: callers ask
     /// `saber_eval::holds` once a row. Only the first row of a group takes memory; where that is
-    /// wanting, nothing changes. What the plan asks is worked out anew. `groups_can_merge` and `small_parts_merge` meet `room`.
+    /// wanting, nothing changes. What the plan asks is worked out anew. `groups_can_merge` and
+    /// `small_parts_merge` meet `room`.
     pub fn add_row(&mut self, alloc: Global, plan: &Plan, row: &RowRef) -> Result<(), NoMemory>
         requires checked { IsChecked (tree_of plan.now) }
         requires group { (tree_of plan.now).shape ≡ Group }

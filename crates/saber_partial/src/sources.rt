@@ -10,8 +10,8 @@ use saber_eval::value;
 use saber_flat::RowRef;
 use saber_plan::{Aggregate, Expr, Factor, Side};
 
-/// Where the value of an expression over a row comes from: a column alone, as most are, so that a row costs no walk through
-/// the expression, or the whole of it.
+/// Where the value of an expression over a row comes from: a column alone, as most are, so that a
+/// row costs no walk through the expression, or the whole of it.
 #[derive(Clone, Copy)]
 pub(crate) enum Source {
     Column(u8),

@@ -4,8 +4,8 @@ ghost use Rattle.std.specs.Prelude.{◌≡◌, ◌+◌, ◌<◌};
 use std::marker::Model;
 use std::sync::ledger::{Blank, Book, Ledger, Share};
 
-/// How many steps were taken: a step is one row added to a part, or one part merged into another. It has
-/// no bytes, and `tick` alone changes it. Contracts see it as the number.
+/// How many steps were taken: a step is one row added to a part, or one part merged into another.
+/// It has no bytes, and `tick` alone changes it. Contracts see it as the number.
 #[derive(Drop)]
 pub struct Steps<L: Ledger> {
     book: Book<L>,

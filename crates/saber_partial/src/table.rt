@@ -17,8 +17,9 @@ use saber_plan::NoMemory;
 use std::alloc::Global;
 use std::marker::Model;
 
-/// Groups, each a row of numbers, one behind another in one list, so that a copy of many groups is one
-/// copy of memory, and a group takes no memory of its own. Contracts see the layout and an entry a row.
+/// Groups, each a row of numbers, one behind another in one list, so that a copy of many groups is
+/// one copy of memory, and a group takes no memory of its own. Contracts see the layout and an
+/// entry a row.
 #[derive(Drop)]
 pub(crate) struct Table {
     layout: Layout,
@@ -37,7 +38,8 @@ impl Model for Table {
     ghost invariant = { λ t. AreRows t.layout t.len t.numbers.items };
 }
 
-// Room for some numbers before another, or behind all. What stands there then is to be written over.
+// Room for some numbers before another, or behind all. What stands there then is to be written
+// over.
 #[inline]
 fn make_room(numbers: &mut Vec<i128>, start: usize, width: usize) -> Result<(), NoMemory>
     requires start { start ≤ length numbers.old.items }

@@ -24,8 +24,9 @@ use saber_flat::RowRef;
 use saber_plan::NoMemory;
 use std::alloc::Global;
 
-/// Groups of 128 keys at most. A new group comes behind all others, so that none is moved for it, and its place is put among
-/// the places by key. A hint tells most rows the place of their group at once. It may be wrong, and then the key is sought.
+/// Groups of 128 keys at most. A new group comes behind all others, so that none is moved for it,
+/// and its place is put among the places by key. A hint tells most rows the place of their group at
+/// once. It may be wrong, and then the key is sought.
 #[derive(Drop)]
 pub(crate) struct Young {
     // in the order in which their keys came
@@ -36,8 +37,8 @@ pub(crate) struct Young {
     pub(crate) hints: [u8; 128],
 }
 
-// A number for a key, by the row's number in its first column. The product spreads numbers that follow one another, and
-// those whose last bits are the same.
+// A number for a key, by the row's number in its first column. The product spreads numbers that
+// follow one another, and those whose last bits are the same.
 #[inline]
 fn slot_of(columns: &[u32], numbers: &[i64]) -> usize
     requires { AllByRecursion (λ k. k < length numbers.now) columns.now }

@@ -12,8 +12,8 @@ use saber_sliding::Sliding;
 use std::alloc::Global;
 use std::sync::ledger::Ledger;
 
-/// How many windows of the rows with a key list are closed and begun, and the parts that those between have, each with the first
-/// window that doesn't have it.
+/// How many windows of the rows with a key list are closed and begun, and the parts that those
+/// between have, each with the first window that doesn't have it.
 #[derive(Drop)]
 pub(crate) struct Keyed {
     pub(crate) next: u64,
@@ -35,8 +35,8 @@ impl Keyed {
         }
     }
 
-    // Puts the part of a row behind the others, in one entry with those of rows in the same windows: two steps, now or later. A row
-    // that doesn't pass has none.
+    // Puts the part of a row behind the others, in one entry with those of rows in the same
+    // windows: two steps, now or later. A row that doesn't pass has none.
     fn take_part<L: Ledger>(
         &mut self,
         alloc: Global,
@@ -94,8 +94,9 @@ impl Keyed {
         Ok(())
     }
 
-    /// Takes in the part of a row, behind which so many windows are closed and begun, and appends the lines of the window that it closes.
-    /// It costs two steps and one for the window, however many windows have the row.
+    /// Takes in the part of a row, behind which so many windows are closed and begun, and appends
+    /// the lines of the window that it closes. It costs two steps and one for the window, however
+    /// many windows have the row.
     pub(crate) fn take_row<L: Ledger>(
         &mut self,
         alloc: Global,

@@ -1,5 +1,6 @@
-// What a task works out of its rows, and what is kept of a key list, are let go by calls. Where a function held one at an exit of its
-// own, the steps that let each of its parts go would stand in that function, once for each exit, and its proof would take them all in.
+// What a task works out of its rows, and what is kept of a key list, are let go by calls. Where a
+// function held one at an exit of its own, the steps that let each of its parts go would stand in
+// that function, once for each exit, and its proof would take them all in.
 use crate::keyed::Keyed;
 use crate::pieces::RowPiece;
 

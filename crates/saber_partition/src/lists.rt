@@ -28,7 +28,8 @@ pub struct ListStore {
     pub(crate) lists: BTreeMap<ArrayVec<i64, 8>, Keyed>,
 }
 
-// The same as `take_row` of a key list that no row had before. It stands by itself, since what is made here would cost each row.
+// The same as `take_row` of a key list that no row had before. It stands by itself, since what is
+// made here would cost each row.
 #[inline(never)]
 fn take_first<L: Ledger>(
     alloc: Global,
@@ -62,7 +63,8 @@ fn take_first<L: Ledger>(
     Ok(())
 }
 
-/// Takes in a row, whose part lies among others, and appends the lines of the window that it closes.
+/// Takes in a row, whose part lies among others, and appends the lines of the window that it
+/// closes.
 pub(crate) fn take_row<L: Ledger>(
     alloc: Global,
     plan: &Plan,

@@ -6,7 +6,8 @@ ghost use Rattle.saber_partition.specs.Pieces.{mark_with};
 use saber_plan::Mark;
 use saber_window::Windows;
 
-/// How many windows are closed and begun behind a row that stands at this place among the rows with its key list.
+/// How many windows are closed and begun behind a row that stands at this place among the rows with
+/// its key list.
 pub(crate) fn numbers_behind(windows: &Windows, place: u64) -> (u64, u64)
     requires { place ≤ 2 ^ 40 }
     ensures low { result.0 ≡ closed_count windows.now (mark_with (place + 1)) }

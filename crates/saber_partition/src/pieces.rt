@@ -21,7 +21,8 @@ use saber_partial::RowParts;
 use saber_plan::NoMemory;
 use std::alloc::Global;
 
-/// A row's key list, where it stands among the rows with it, and where its part stands among those of the task, if it passes WHERE.
+/// A row's key list, where it stands among the rows with it, and where its part stands among those
+/// of the task, if it passes WHERE.
 #[derive(Drop)]
 pub(crate) struct RowPiece {
     pub(crate) list: ArrayVec<i64, 8>,
@@ -29,8 +30,8 @@ pub(crate) struct RowPiece {
     pub(crate) part: Option<usize>,
 }
 
-/// What a task gives: this of each of its rows, in order, the parts of all in one list, so that a row takes no memory of its own,
-/// and whether the input ends behind them.
+/// What a task gives: this of each of its rows, in order, the parts of all in one list, so that a
+/// row takes no memory of its own, and whether the input ends behind them.
 #[derive(Drop)]
 pub struct ListPiece {
     pub(crate) rows: Vec<RowPiece>,
@@ -127,7 +128,8 @@ impl Partition<'_> {
         })
     }
 
-    // Puts what rows give that stand at these places into an empty list, and their parts behind others.
+    // Puts what rows give that stand at these places into an empty list, and their parts behind
+    // others.
     fn put_pieces(
         &self,
         rows: &Rows,
@@ -150,7 +152,8 @@ impl Partition<'_> {
         Ok(())
     }
 
-    /// What a task's rows give that stand at these places, and their parts. Each row is looked at once.
+    /// What a task's rows give that stand at these places, and their parts. Each row is looked at
+    /// once.
     pub(crate) fn pieces_of(
         &self,
         alloc: Global,

@@ -1,6 +1,5 @@
 pub mod Stored
 pub mod Changing
 pub mod ChangeFacts
-pub mod Kinds
 pub mod Entries
 pub mod WindowFacts

@@ -13,8 +13,9 @@ use saber_plan::NoMemory;
 use std::alloc::Global;
 use std::collections::BTreeMap;
 
-/// The parts of windows, each under its window's number, and how far the walk over closed windows is, with the answers of the last
-/// of them. The parts of closed windows stay until they are dropped.
+/// The parts of windows, each under its window's number, and how far the walk over closed windows
+/// is, with the answers of the last of them. The parts of closed windows stay until they are
+/// dropped.
 #[derive(Drop)]
 pub struct ChangeStore<P> {
     /// The parts.
@@ -36,8 +37,8 @@ impl<P: Drop> ChangeStore<P> {
         }
     }
 
-    /// Takes in what the next task hands on, and appends what the windows that are closed now gain or lose. After want of memory
-    /// `out` is as before, and the store is only safe to let go.
+    /// Takes in what the next task hands on, and appends what the windows that are closed now gain
+    /// or lose. After want of memory `out` is as before, and the store is only safe to let go.
     pub fn take_in<A: Assembles<Part = P>>(
         &mut self,
         alloc: Global,

@@ -20,7 +20,8 @@ use saber_plan::NoMemory;
 use std::alloc::Global;
 use std::collections::BTreeMap;
 
-/// Walks over the windows that are closed, of which these are the whole parts, and appends what they change.
+/// Walks over the windows that are closed, of which these are the whole parts, and appends what
+/// they change.
 pub(crate) fn walk_closed<A: Assembles>(
     alloc: Global,
     by: &A,
@@ -44,8 +45,8 @@ pub(crate) fn walk_closed<A: Assembles>(
     Ok(())
 }
 
-/// Takes what is handed on into the open parts, and appends what the windows that are closed now gain or lose. Their parts are
-/// still there. After want of memory some of the text may be there.
+/// Takes what is handed on into the open parts, and appends what the windows that are closed now
+/// gain or lose. Their parts are still there. After want of memory some of the text may be there.
 pub(crate) fn settle_changes<A: Assembles>(
     alloc: Global,
     by: &A,

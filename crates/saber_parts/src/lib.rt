@@ -1,10 +1,9 @@
 //! Parts by window, for operators each of whose windows has a part of its own, and their stores.
 //! Joins and selections with a window use it. Groups keep slices in place of parts by window.
 //!
-//! - Parts: `bounds` (what a window is to a task), `gathered` (what a task's windows give, by
-//!   kind), `assembles` (the trait: how two parts merge, and how a whole one is printed), `store`,
-//!   `part_store`; `changes` and `change_store` (the same under ISTREAM and DSTREAM, with the walk
-//!   of `saber_changes`).
+//! - Parts: `gathered` (what a task's windows give, by kind), `assembles` (the trait: how two parts
+//!   merge, and how a whole one is printed), `store`, `part_store`; `changes` and `change_store`
+//!   (the same under ISTREAM and DSTREAM, with the walk of `saber_changes`).
 //! - Calls: `PartStore::take_in` takes an operator that `Assembles`, the next task's piece, and the
 //!   text to which it appends; `drop_closed` lets the parts of closed windows go. `ChangeStore` has
 //!   the same two, and appends what windows gain or lose.
@@ -16,7 +15,6 @@
 #![tactic(auto)]
 
 mod assembles;
-mod bounds;
 mod change_store;
 mod changes;
 mod gathered;
@@ -24,7 +22,6 @@ mod part_store;
 mod store;
 
 pub use assembles::Assembles;
-pub use bounds::Bounds;
 pub use change_store::ChangeStore;
 pub use gathered::Gathered;
 pub use part_store::PartStore;

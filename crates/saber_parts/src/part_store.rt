@@ -39,8 +39,8 @@ impl<P: Drop> PartStore<P> {
         }
     }
 
-    /// Takes in the piece of the next task, and appends what it adds to the text. After want of memory
-    /// `out` is as before, and the store is only safe to let go.
+    /// Takes in the piece of the next task, and appends what it adds to the text. After want of
+    /// memory `out` is as before, and the store is only safe to let go.
     pub fn take_in<A: Assembles<Part = P>>(
         &mut self,
         by: &A,

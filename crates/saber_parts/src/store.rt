@@ -67,8 +67,8 @@ pub(crate) fn joined<P: Drop>(
     Ok(parts)
 }
 
-/// Takes a piece into the open parts, and appends what it adds to the text. The parts of the windows
-/// that are closed now are still there. After want of memory some of the text may be there.
+/// Takes a piece into the open parts, and appends what it adds to the text. The parts of the
+/// windows that are closed now are still there. After want of memory some of the text may be there.
 pub(crate) fn settle<A: Assembles>(
     by: &A,
     store: &mut BTreeMap<u64, A::Part>,

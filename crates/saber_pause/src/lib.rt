@@ -26,8 +26,9 @@ const FIRST_SLEEP: u32 = 8_000;
 
 const DOUBLINGS: u32 = 6;
 
-/// How often in a row a thread found nothing to do. It lets others run at first, and then sleeps, longer each time: so a thread without work leaves its
-/// processor to others, and one whose work comes soon is awake. Nobody wakes it: no sleep is longer than half a millisecond.
+/// How often in a row a thread found nothing to do. It lets others run at first, and then sleeps,
+/// longer each time: so a thread without work leaves its processor to others, and one whose work
+/// comes soon is awake. Nobody wakes it: no sleep is longer than half a millisecond.
 #[derive(Drop)]
 pub struct Pause {
     // It isn't counted further than to the longest sleep.

@@ -10,7 +10,8 @@ use saber_pause::Pause;
 use std::sync::Wait;
 use std::sync::atomic::{AtomicBool, Ordering};
 
-// A flag that is set while a writer is alone. What it holds no clause can say; so it is a type parameter, and who tells that it was set has asked it.
+// A flag that is set while a writer is alone. What it holds no clause can say; so it is a type
+// parameter, and who tells that it was set has asked it.
 pub(crate) trait AloneFlag {
     ghost was_set: { Self → Type 0 };
 
@@ -102,8 +103,9 @@ impl<'a, P: PipeName> Backlog<'a, P> {
         }
     }
 
-    // Sends all, and waits for room while somebody reads. Where the writer is alone, it sends what there is room for, never waits, and takes
-    // `alone` back: who would read from now on finds it taken, and reads what is left too.
+    // Sends all, and waits for room while somebody reads. Where the writer is alone, it sends what
+    // there is room for, never waits, and takes `alone` back: who would read from now on finds it
+    // taken, and reads what is left too.
     pub(crate) fn send<R: Wait, A: AloneFlag>(self, rt: &R, alone: &A) -> Backlog<'a, P>
         ensures moved { Moved self.entry result }
         ensures poured { IsPoured result }

@@ -120,8 +120,8 @@ impl<'a, R: Wait, P: PipeName> PipeFeed<'a, R, P> {
         self.line.learn_as::<KeepsOrder>(&mut self.end);
     }
 
-    /// What both ends of a pipe come to: what was taken is a front of what was written, and all of it where a mark was taken, which is the one that was
-    /// sent.
+    /// What both ends of a pipe come to: what was taken is a front of what was written, and all of
+    /// it where a mark was taken, which is the one that was sent.
     pub fn settle(self, receipt: Receipt<P>)
         ensures { Settled (written_by receipt) (mark_by receipt) (taken self.entry) (mark self.entry) }
     {

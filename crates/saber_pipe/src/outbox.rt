@@ -120,7 +120,8 @@ impl<'a, P: PipeName> Outbox<'a, P> {
         unreachable!()
     }
 
-    // Sends how the bytes end, where nothing is kept. Where the pipe was full, it comes back as it was.
+    // Sends how the bytes end, where nothing is kept. Where the pipe was full, it comes back as it
+    // was.
     pub(crate) fn send_last<R: Wait>(
         self,
         rt: &R,

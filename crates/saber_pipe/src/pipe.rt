@@ -40,9 +40,10 @@ impl Pipe {
         })
     }
 
-    /// Lends both ends of a new pipe, which P names. `alone` is set while nobody reads: what is written then waits in the sink, and the writer never
-    /// waits for room. Who begins to read takes it (`swap`), and so does a writer that is done: where the reader finds it taken already, the writer's
-    /// backlog is its own to read.
+    /// Lends both ends of a new pipe, which P names. `alone` is set while nobody reads: what is
+    /// written then waits in the sink, and the writer never waits for room. Who begins to read
+    /// takes it (`swap`), and so does a writer that is done: where the reader finds it taken
+    /// already, the writer's backlog is its own to read.
     pub fn ends<'a, R: Wait, P: PipeName>(
         &'a mut self,
         rt: &'a R,

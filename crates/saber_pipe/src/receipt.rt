@@ -6,8 +6,8 @@ use crate::PipeName;
 use crate::rule::End;
 use std::marker::PhantomData;
 
-/// Tells all that was written to a sink, and how the bytes end. It is kept by who wants to know at the end that what was taken of the pipe is a front of
-/// that, or all of it.
+/// Tells all that was written to a sink, and how the bytes end. It is kept by who wants to know at
+/// the end that what was taken of the pipe is a front of that, or all of it.
 #[derive(Drop)]
 pub struct Receipt<P: PipeName> {
     pub(crate) end: End,

@@ -4,8 +4,8 @@ use saber_io::{Failed, Fed, Feed};
 use saber_pause::Pause;
 use std::sync::Wait;
 
-/// A feed of what comes through a pipe. Where the writer has already done its work on the same thread, the relay has its backlog too, and sends it on
-/// before it reads.
+/// A feed of what comes through a pipe. Where the writer has already done its work on the same
+/// thread, the relay has its backlog too, and sends it on before it reads.
 #[derive(Drop)]
 pub struct Relay<'a, R: Wait, P: PipeName> {
     feed: PipeFeed<'a, R, P>,
@@ -19,7 +19,8 @@ impl<'a, R: Wait, P: PipeName> Relay<'a, R, P> {
     ghost use Rattle.saber_pipe.specs.Receipts.{written_by, mark_by, Settled};
     ghost use Rattle.saber_pipe.specs.Relays.{feed_of, backlog_of, taken_by, waiting_in, mark_in, faults_in, KnowsSent, Drains};
 
-    /// Reads what another thread writes, where there is no backlog, or else what was written before.
+    /// Reads what another thread writes, where there is no backlog, or else what was written
+    /// before.
     pub fn new(feed: PipeFeed<'a, R, P>, backlog: Option<Backlog<'a, P>>) -> Relay<'a, R, P>
         ensures feed { feed_of result ≡ feed.entry }
         ensures backlog { backlog_of result ≡ backlog.entry }
@@ -27,7 +28,8 @@ impl<'a, R: Wait, P: PipeName> Relay<'a, R, P> {
         Relay { feed, backlog }
     }
 
-    // Sends on what there is room for, and lets the end that reads know what was sent. It never waits.
+    // Sends on what there is room for, and lets the end that reads know what was sent. It never
+    // waits.
     fn pour(&mut self)
         ensures pours { Pours (backlog_of self.old) (backlog_of self.new) }
         ensures feed { IsToldMore (feed_of self.old) (feed_of self.new) }
@@ -40,7 +42,8 @@ impl<'a, R: Wait, P: PipeName> Relay<'a, R, P> {
         self.backlog = Some(backlog.tell(&mut self.feed));
     }
 
-    /// Takes all that still comes, up to the mark, so that the writer doesn't wait for room that nobody makes. It waits for the writer.
+    /// Takes all that still comes, up to the mark, so that the writer doesn't wait for room that
+    /// nobody makes. It waits for the writer.
     pub fn drain(&mut self)
         ensures drains { Drains (taken_by self.old) (taken_by self.new) (mark_in self.old) (mark_in self.new) }
         ensures over { mark_in self.new ≢ None }
@@ -63,7 +66,8 @@ impl<'a, R: Wait, P: PipeName> Relay<'a, R, P> {
         unreachable!()
     }
 
-    /// Lets go of what a writer left on another thread. Since the mark was taken, nothing of it is still to be sent.
+    /// Lets go of what a writer left on another thread. Since the mark was taken, nothing of it is
+    /// still to be sent.
     pub fn dismiss(&mut self, backlog: Backlog<'_, P>)
         requires over { mark_in self.old ≢ None }
         ensures sent { to_send backlog.entry ≡ [] }
@@ -73,8 +77,8 @@ impl<'a, R: Wait, P: PipeName> Relay<'a, R, P> {
         self.feed.dismiss(backlog);
     }
 
-    /// What both ends of a pipe come to: what was taken is a front of what was written, and all of it where a mark was taken, which is the one that was
-    /// sent.
+    /// What both ends of a pipe come to: what was taken is a front of what was written, and all of
+    /// it where a mark was taken, which is the one that was sent.
     pub fn settle(self, receipt: Receipt<P>)
         ensures { Settled (written_by receipt) (mark_by receipt) (taken_by self.entry) (mark_in self.entry) }
     {

@@ -1,4 +1,5 @@
-// The rule of a pipe: what was sent is what was got, and then what the queue holds; and what was promised begins with what was sent.
+// The rule of a pipe: what was sent is what was got, and then what the queue holds; and what was
+// promised begins with what was sent.
 ghost use Rattle.std.specs.Prelude.{Option, None, List};
 ghost use Rattle.saber_pipe.specs.declared.items.Item.{Item};
 
@@ -8,8 +9,8 @@ use crossbeam_queue::{Pass, RuledArrayQueue};
 use std::collections::LinkedList;
 use std::marker::{Brand, PhantomData};
 
-// What a pass may do, what it has sent or knows to have been sent, what it has got, and all that is ever sent, once that was promised. No value of it is
-// made.
+// What a pass may do, what it has sent or knows to have been sent, what it has got, and all that is
+// ever sent, once that was promised. No value of it is made.
 pub struct Log {
     pub sends: bool,
     pub gets: bool,
@@ -77,7 +78,8 @@ impl Split<Log> for Tells {
     ghost right = { λ v. log false false v.sent [] v.whole };
 }
 
-// The end that gets takes in what another pass knows of what was sent and promised, and its leave to send.
+// The end that gets takes in what another pass knows of what was sent and promised, and its leave
+// to send.
 pub struct IsTold;
 
 impl Join<Log> for IsTold {
@@ -105,7 +107,8 @@ impl Lesson<Item, Log> for Sends {
     ghost fact = { λ v items. HoldsLastOf v.sent items };
 }
 
-// One more was got, and no mark before it. An empty queue tells that all was got that the end knows to have been sent.
+// One more was got, and no mark before it. An empty queue tells that all was got that the end knows
+// to have been sent.
 pub struct Gets;
 
 impl Outcome<Item, Log> for Gets {

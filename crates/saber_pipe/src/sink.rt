@@ -54,8 +54,9 @@ impl<'a, R: Wait, P: PipeName> PipeSink<'a, R, P> {
         }
     }
 
-    /// Ends what was written with this mark, once all that is kept was sent. It waits for room, unless the sink is alone: then what is still to
-    /// be sent is handed over to who reads the pipe.
+    /// Ends what was written with this mark, once all that is kept was sent. It waits for room,
+    /// unless the sink is alone: then what is still to be sent is handed over to who reads the
+    /// pipe.
     pub fn finish(self, mark: EndMark) -> (Receipt<P>, Backlog<'a, P>)
         ensures written { written_by result.0 ≡ written self.entry }
         ensures mark { mark_by result.0 ≡ Some mark }
@@ -116,7 +117,8 @@ impl<'a, R: Wait, P: PipeName> Pour for PipeSink<'a, R, P> {
 
     ghost had_no_room = { HasBeenFull };
 
-    // Sends all that is kept, and waits for room. Where the sink is alone, it sends what there is room for, and never waits.
+    // Sends all that is kept, and waits for room. Where the sink is alone, it sends what there is
+    // room for, and never waits.
     #[tactic(auto, using(crate::proofs::Moves::no_bytes_kept))]
     fn pour(&mut self)
         ensures written { Some (written self.new) ≡ Some (written self.old) }

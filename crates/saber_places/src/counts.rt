@@ -6,7 +6,8 @@ ghost use Rattle.saber_places.specs.Counts.{seen, count_of};
 use saber_plan::NoMemory;
 use std::collections::BTreeMap;
 
-/// Counts one more with this key, and answers how many there were. Memory is taken for a key that wasn't there; where it lacks, nothing is counted.
+/// Counts one more with this key, and answers how many there were. Memory is taken for a key that
+/// wasn't there; where it lacks, nothing is counted.
 pub(crate) fn count_one(
     counts: &mut BTreeMap<[i64; 8], u64>,
     key: [i64; 8],

@@ -17,7 +17,8 @@ fn number_at(columns: &[u32], numbers: &[i64], i: usize) -> i64
     }
 }
 
-/// The numbers of at most eight columns, and then zeros. It takes no memory, and tells key lists of as many columns apart.
+/// The numbers of at most eight columns, and then zeros. It takes no memory, and tells key lists of
+/// as many columns apart.
 #[inline(always)]
 pub(crate) fn key_of(columns: &[u32], numbers: &[i64]) -> [i64; 8]
     requires few { length columns.now ≤ 8 }

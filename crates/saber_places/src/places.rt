@@ -16,8 +16,9 @@ use saber_plan::{NoMemory, Plan};
 use std::alloc::Global;
 use std::collections::BTreeMap;
 
-/// How many rows so far have each key list of the columns of PARTITION BY, which are at most eight. A row of a key list that is known takes no memory.
-/// Contracts see it by `Counts`: which rows it has counted.
+/// How many rows so far have each key list of the columns of PARTITION BY, which are at most eight.
+/// A row of a key list that is known takes no memory. Contracts see it by `Counts`: which rows it
+/// has counted.
 #[derive(Drop)]
 pub struct Places {
     columns: Vec<u32>,
@@ -69,8 +70,8 @@ impl Places {
     }
 }
 
-/// Where rows behind those so far stand among all rows with their key lists, and counts them; nothing without PARTITION BY. After want of memory
-/// some of them are counted.
+/// Where rows behind those so far stand among all rows with their key lists, and counts them;
+/// nothing without PARTITION BY. After want of memory some of them are counted.
 pub fn places_of(
     counter: &mut Option<Places>,
     alloc: Global,

@@ -5,14 +5,16 @@
 //! - Parts: `rows` (a row, and why a line is none), `ends` (the end of a run), `windows` (measure,
 //!   window, mark, kind), `expressions`, `predicates`, `plans` (a checked query), `sizes` (of a
 //!   run), `stages` (how a result stage stands), `letting` (plans are let go by calls).
-//! - Definitions, the files of `specs/` in this order: `Rows`, `Inputs` (lines of files, their
-//!   rows, the merge of two), `Files`, `Windows`, `Values`, `Answers`, `Parts`, `Shares`, `Tasks`,
-//!   `Needs`, `Runs` (what goes out of a run, by its end), `Outputs` and `Stages` (what a stage has
-//!   of a run). `Checked` is what every checked plan
-//!   keeps, `GivenRows` the rows that it can be given. The lemmas of `specs/Facts/` serve proofs;
-//!   no contract rests on them.
-//! - Calls: `Plan::new` takes a shape, streams, aggregates, items, keys and a predicate; `overlap` a
-//!   size and a slide.
+//! - Definitions, the files of `specs/` in this order: `Trees` (plans as contracts see them),
+//!   `Rows`, `Inputs` (lines of files, their rows, the merge of two), `Sizes` and `Files` (limits
+//!   of a run and of its files), `Windows`, `Overlap`, `Values`, `Bounds` (how great values get),
+//!   `Answers`, `Parts` (with `Merges`), `Shares`, `Tasks`, `Needs`, `Runs` (what goes out of a
+//!   run, by its end), `Texts`, `Outputs` and `Stages` (what a stage has of a run). `Checked` is
+//!   what every checked plan keeps, `GivenRows` the rows that it can be given. `Pairing` and
+//!   `Codes` say the same of pairs and of parts as code works with them; the lemmas of
+//!   `specs/Facts/` serve proofs, and no contract rests on them.
+//! - Calls: `Plan::new` takes a shape, streams, aggregates, items, keys and a predicate; `overlap`
+//!   a size and a slide.
 //! - Proved: plans, expressions and predicates give back what they were built from; `overlap` is
 //!   how many windows have a point, at most. In `proofs/` the `Worked*` are small cases worked out
 //!   by hand, with which the checker finds the definitions to agree.

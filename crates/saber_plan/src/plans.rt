@@ -9,7 +9,8 @@ pub enum Shape {
     Join,
 }
 
-/// How the values of rows become one number, and two such numbers one: their sum, the least, the greatest, the one that came first.
+/// How the values of rows become one number, and two such numbers one: their sum, the least, the
+/// greatest, the one that came first.
 #[derive(Clone, Copy, Debug, PartialEq, Eq)]
 pub enum Fold {
     Sum,
@@ -18,15 +19,17 @@ pub enum Fold {
     First,
 }
 
-/// What a group gathers of its rows beside their count: the values of an expression over each, folded.
+/// What a group gathers of its rows beside their count: the values of an expression over each,
+/// folded.
 #[derive(Drop)]
 pub struct Aggregate {
     pub fold: Fold,
     pub expr: Expr,
 }
 
-/// Which of the answers of its windows a query prints (CQL 2006: relation to stream): each window's, those that the window
-/// before it didn't have, or those of the window before it that it hasn't.
+/// Which of the answers of its windows a query prints (CQL 2006: relation to stream): each
+/// window's, those that the window before it didn't have, or those of the window before it that it
+/// hasn't.
 #[derive(Clone, Copy, Debug, PartialEq, Eq)]
 pub enum Word {
     Rstream,
@@ -34,10 +37,11 @@ pub enum Word {
     Dstream,
 }
 
-/// What is to be computed: the shape, the streams of FROM with their windows, what groups gather, the items of SELECT,
-/// the columns of GROUP BY (counted from 0), the predicate of WHERE, and, where the query has them, the columns of
-/// PARTITION BY and its stream word. An item is an expression over a row, over a pair of rows, or over a group, whose
-/// numbers are the columns of its key, how many rows it has, and its aggregates. Contracts see it as a tree.
+/// What is to be computed: the shape, the streams of FROM with their windows, what groups gather,
+/// the items of SELECT, the columns of GROUP BY (counted from 0), the predicate of WHERE, and,
+/// where the query has them, the columns of PARTITION BY and its stream word. An item is an
+/// expression over a row, over a pair of rows, or over a group, whose numbers are the columns of
+/// its key, how many rows it has, and its aggregates. Contracts see it as a tree.
 #[derive(Drop)]
 pub struct Plan {
     shape: Shape,
@@ -55,7 +59,8 @@ impl Plan {
     ghost use Rattle.std.specs.Option.{option_map_or};
     ghost use Rattle.saber_plan.specs.Trees.{tree_of, tests_of};
 
-    /// The plan of these parts, without PARTITION BY and a stream word. The check of a query makes it.
+    /// The plan of these parts, without PARTITION BY and a stream word. The check of a query makes
+    /// it.
     pub fn new(
         shape: Shape,
         streams: Vec<Stream>,

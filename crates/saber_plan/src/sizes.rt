@@ -12,7 +12,8 @@ pub struct Sizes {
     pub threads: u32,
     /// Lines that a file may have, 1 to 2^40. The next one is refused.
     pub max_lines: u64,
-    /// By how much a timestamp may fall within a file, 0 to 2^40: its rows are put in order of time.
+    /// By how much a timestamp may fall within a file, 0 to 2^40: its rows are put in order of
+    /// time.
     pub slack: u64,
     /// Whether the end of the input closes every begun window.
     pub flush: bool,

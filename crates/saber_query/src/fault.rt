@@ -4,8 +4,9 @@ ghost use Rattle.saber_query.specs.declared.fault.QueryFault.TheVariants.{NoMemo
 
 use std::alloc::{AllocError, AllocFailed};
 
-/// What is wrong with a text or its query. The first five are of the text, found by `parse`, the others of the
-/// query that it means, found by the checks that follow. Where several begin at one word, the earlier here is told.
+/// What is wrong with a text or its query. The first five are of the text, found by `parse`, the
+/// others of the query that it means, found by the checks that follow. Where several begin at one
+/// word, the earlier here is told.
 #[derive(Clone, Copy, Debug, PartialEq, Eq)]
 pub enum Cause {
     /// More than 65,536 bytes.
@@ -47,7 +48,8 @@ pub enum Cause {
 pub enum QueryFault {
     /// Memory ran out.
     NoMemory,
-    /// The cause, and the byte where the token at fault begins, or the text's length where a token lacks.
+    /// The cause, and the byte where the token at fault begins, or the text's length where a token
+    /// lacks.
     At { byte: u64, cause: Cause },
 }
 

@@ -1,6 +1,7 @@
-// Trees are let go by calls. Where a function held one at an exit of its own, the steps that let each of its parts go would
-// stand in that function, once for each exit, and its proof would take them all in. The bodies call `drop`, and so the drop of
-// the type, where a value that goes out of scope is taken apart in place.
+// Trees are let go by calls. Where a function held one at an exit of its own, the steps that let
+// each of its parts go would stand in that function, once for each exit, and its proof would take
+// them all in. The bodies call `drop`, and so the drop of the type, where a value that goes out of
+// scope is taken apart in place.
 use crate::cursor::Tokens;
 use crate::token::{Name, Placed};
 use crate::tree::{

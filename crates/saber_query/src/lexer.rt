@@ -267,8 +267,8 @@ fn end(pending: Pending, out: &mut Vec<Placed>) -> Result<(), QueryFault>
     }
 }
 
-/// The tokens of a text with their places, by longest match; or the first byte that begins no token, or the first
-/// number above 2^63, whichever comes first.
+/// The tokens of a text with their places, by longest match; or the first byte that begins no
+/// token, or the first number above 2^63, whichever comes first.
 #[tactic(auto, unfolding(crate::specs::Lexing::lex_from))]
 pub(crate) fn lex(alloc: Global, text: &[u8]) -> Result<Vec<Placed>, QueryFault>
     ensures gives { LexGives (tokens_in result) (lexed text.now) }

@@ -34,7 +34,8 @@ impl Query {
         Query { select, starts }
     }
 
-    /// Lets the query go. Crates above call it, so that their proofs don't take in what is done with each part.
+    /// Lets the query go. Crates above call it, so that their proofs don't take in what is done
+    /// with each part.
     pub fn let_go(self) {
         self.select.let_go();
     }

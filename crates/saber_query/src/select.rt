@@ -283,7 +283,8 @@ fn select(alloc: Global, tokens: &mut Tokens, left: u32) -> Result<Select, Stop>
     })
 }
 
-/// The query that the tokens are the words of, else the first of them that doesn't fit, or goes too deep.
+/// The query that the tokens are the words of, else the first of them that doesn't fit, or goes too
+/// deep.
 pub(crate) fn query(alloc: Global, tokens: &mut Tokens) -> Result<Select, Stop>
     ensures { QueryGives result (coming tokens.old) (coming tokens.new) }
 {

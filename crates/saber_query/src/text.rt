@@ -52,7 +52,8 @@ fn tokens_of(alloc: Global, placed: Vec<Placed>) -> Result<Tokens, QueryFault>
     Ok(Tokens::from_deque(rest))
 }
 
-// The fault of a text at whose tokens the parser stopped: it stands where those that are left begin.
+// The fault of a text at whose tokens the parser stopped: it stands where those that are left
+// begin.
 fn stopped(text: &[u8], starts: &[u64], left: usize, stop: Stop) -> QueryFault
     requires { (ps : List Placed) × (rest : List Token) × (length text.now ≤ 65536)
         × (lexed text.now ≡ Ok ps) × (starts.now ≡ map byte_of ps) × (left ≡ length rest)
@@ -112,26 +113,22 @@ fn parse_placed(alloc: Global, text: &[u8], placed: Vec<Placed>) -> Result<Query
     }
 }
 
-/// The query that a text means, or its first fault: a text that is too long, else its first bad token, else the
-/// first token that the grammar doesn't allow there or that opens too much. Memory may run out at any time.
+/// The query that a text means, or its first fault: a text that is too long, else its first bad
+/// token, else the first token that the grammar doesn't allow there or that opens too much. Memory
+/// may run out at any time.
 ///
-/// The grammar is this project's profile of CQL 2006; braces repeat, square brackets without quotes are optional:
+/// The grammar is this project's profile of CQL 2006; braces repeat, square brackets without quotes
+/// are optional:
 ///
 /// ```text
-/// Query  = Decl { Decl } ( Select | Stream "(" Select ")" ) [ ";" ]
-/// Decl   = STREAM Name "(" Name { "," Name } ")" ";"
-/// Select = SELECT Item { "," Item } FROM From [ "," From ] [ WHERE Pred ] [ GROUP BY Col { "," Col } ]
-/// Item   = COUNT "(" "*" ")" | ( SUM | MIN | MAX ) "(" Expr ")" | Expr
-/// From   = Name [ "[" ( ROWS | RANGE | PARTITION BY Col { "," Col } ROWS ) Number SLIDE Number "]" ]
-/// Pred   = Conj { OR Conj }
-/// Conj   = Unit { AND Unit }
-/// Unit   = NOT Unit | "(" Pred ")" | Expr Cmp Expr
-/// Cmp    = "=" | "<>" | "<" | "<=" | ">" | ">="
-/// Expr   = Prod { ( "+" | "-" ) Prod }
-/// Prod   = Factor { "*" Factor }
-/// Factor = Col | Number | "-" Number
-/// Col    = Name [ "." Name ]
-/// Stream = RSTREAM | ISTREAM | DSTREAM
+/// Query  = Decl { Decl } ( Select | Stream "(" Select ")" ) [ ";" ] Decl   = STREAM Name "(" Name
+/// { "," Name } ")" ";" Select = SELECT Item { "," Item } FROM From [ "," From ] [ WHERE Pred ] [
+/// GROUP BY Col { "," Col } ] Item   = COUNT "(" "*" ")" | ( SUM | MIN | MAX ) "(" Expr ")" | Expr
+/// From   = Name [ "[" ( ROWS | RANGE | PARTITION BY Col { "," Col } ROWS ) Number SLIDE Number "]"
+/// ] Pred   = Conj { OR Conj } Conj   = Unit { AND Unit } Unit   = NOT Unit | "(" Pred ")" | Expr
+/// Cmp Expr Cmp    = "=" | "<>" | "<" | "<=" | ">" | ">=" Expr   = Prod { ( "+" | "-" ) Prod } Prod
+/// = Factor { "*" Factor } Factor = Col | Number | "-" Number Col    = Name [ "." Name ] Stream =
+/// RSTREAM | ISTREAM | DSTREAM
 /// ```
 pub fn parse(alloc: Global, text: &[u8]) -> Result<Query, QueryFault>
     ensures { ParseGives result text.now }

@@ -1,5 +1,6 @@
-// Queries as trees, with all that their words show: parentheses, qualified names and the last semicolon too.
-// Lists that hold at least one part are a first part and more, so that no empty one can be built.
+// Queries as trees, with all that their words show: parentheses, qualified names and the last
+// semicolon too. Lists that hold at least one part are a first part and more, so that no empty one
+// can be built.
 use crate::token::Name;
 use std::marker::Model;
 
@@ -121,7 +122,8 @@ pub enum Item {
     Value(Expr),
 }
 
-/// What a window is measured in: rows, ticks of the timestamp, or rows that are alike in some columns.
+/// What a window is measured in: rows, ticks of the timestamp, or rows that are alike in some
+/// columns.
 #[derive(Drop)]
 pub enum Measure {
     Rows,
@@ -129,8 +131,8 @@ pub enum Measure {
     Partition(Keys),
 }
 
-/// `[ROWS size SLIDE slide]`, `[RANGE size SLIDE slide]` or `[PARTITION BY columns ROWS size SLIDE slide]`, in any
-/// range that a number has.
+/// `[ROWS size SLIDE slide]`, `[RANGE size SLIDE slide]` or `[PARTITION BY columns ROWS size SLIDE
+/// slide]`, in any range that a number has.
 #[derive(Drop)]
 pub struct Window {
     pub measure: Measure,
@@ -323,8 +325,9 @@ impl Decls {
     }
 }
 
-/// The word before a SELECT in parentheses, which makes a stream of the answers of its windows: all of each window, those
-/// that the window before it lacks, or those of the window before it that it lacks.
+/// The word before a SELECT in parentheses, which makes a stream of the answers of its windows: all
+/// of each window, those that the window before it lacks, or those of the window before it that it
+/// lacks.
 #[derive(Clone, Copy, Debug, PartialEq, Eq)]
 pub enum StreamWord {
     Rstream,

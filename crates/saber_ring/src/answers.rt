@@ -1,4 +1,5 @@
-//! What the calls of a seat answer. Each refusal carries the word that the call's own last step found.
+//! What the calls of a seat answer. Each refusal carries the word that the call's own last step
+//! found.
 use crate::job::Job;
 use crate::turn::Turn;
 use saber_core::Work;
@@ -16,8 +17,8 @@ pub enum Place {
 pub enum Fill<W: Work> {
     /// The rows are at home, and the task is filled.
     Put,
-    /// The task's cell isn't idle for it, or its block is needed by a task that isn't assembled; the
-    /// rows come back.
+    /// The task's cell isn't idle for it, or its block is needed by a task that isn't assembled;
+    /// the rows come back.
     Full {
         place: Place,
         word: u64,

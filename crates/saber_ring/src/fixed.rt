@@ -33,8 +33,8 @@ impl<T, J: FixedData<T>> Play<u8, Option<T>> for Say<J> {
     ghost then = { λ s m n m'. m'.0 ≡ J.told };
 }
 
-// What J names, as the view of a token. A table is told its data when it is made, and this is how a name
-// becomes something that it can be told.
+// What J names, as the view of a token. A table is told its data when it is made, and this is how a
+// name becomes something that it can be told.
 pub(crate) fn told_by<T, J: FixedData<T>>(
     alloc: Global,
 ) -> Result<Snapshot<Seat<u8, Option<T>>>, NoMemory>

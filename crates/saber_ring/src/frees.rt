@@ -5,8 +5,8 @@ ghost use Rattle.saber_ring.specs.Freeing.{IsSlid, IsSameList};
 use std::alloc::AllocError as NoMemory;
 use std::collections::VecDeque;
 
-/// For the tasks from one on, in a row, the first block that each needs: its number is that of the first
-/// task whose rows it needs.
+/// For the tasks from one on, in a row, the first block that each needs: its number is that of the
+/// first task whose rows it needs.
 #[derive(Drop)]
 pub struct Frees {
     /// The first of the tasks.
@@ -23,8 +23,9 @@ impl Frees {
         self.list[(task - self.base) as usize]
     }
 
-    /// Tells the first block of one task more, and lets go of the tasks below `from`. So the list stays as
-    /// short as the ring where `from` follows the fills. For want of memory it is as it was.
+    /// Tells the first block of one task more, and lets go of the tasks below `from`. So the list
+    /// stays as short as the ring where `from` follows the fills. For want of memory it is as it
+    /// was.
     pub fn push(&mut self, next: u64, from: u64) -> Result<(), NoMemory>
         requires { from ≤ self.old.base + length self.old.list.items }
         ensures slid { OnOk result (IsSlid next from self.old self.new) }

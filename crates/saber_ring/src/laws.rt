@@ -1,6 +1,7 @@
-//! What the rule says of the core: each kind of step that is an event takes any table that keeps the rule to
-//! one whose core is the next one. The clauses range over all sizes, tables, seats and states of the ring;
-//! a seat's number in the core is its place among the views. Each other step leaves the core.
+//! What the rule says of the core: each kind of step that is an event takes any table that keeps
+//! the rule to one whose core is the next one. The clauses range over all sizes, tables, seats and
+//! states of the ring; a seat's number in the core is its place among the views. Each other step
+//! leaves the core.
 ghost use Rattle.saber_ring.specs.Laws.{ClaimIsItsEvent, DepositIsItsEvent, WinIsItsEvent, ReleaseIsItsEvent, TakeIsItsEvent, GiveIsItsEvent, FillIsItsEvent, LookIsNoEvent, BeginIsNoEvent, StoreIsNoEvent, ReadIsNoEvent, ReturnIsNoEvent, PutBackIsNoEvent, NeedsAreWhole, BlockWordsAre};
 
 use saber_core::Work;
@@ -70,9 +71,9 @@ pub fn a_put_back_is_no_event<W: Work>()
     ensures { PutBackIsNoEvent W.is_told W.upto W.first W.is_rows W.is_piece W.is_stage }
 {}
 
-/// Whenever the rule holds, each block from the first that the tasks not yet assembled need to the last one
-/// filled is at home with its own rows, or with one reader, whose job needs it. So the rows that a task
-/// needs are in the ring from its fill on until it is assembled.
+/// Whenever the rule holds, each block from the first that the tasks not yet assembled need to the
+/// last one filled is at home with its own rows, or with one reader, whose job needs it. So the
+/// rows that a task needs are in the ring from its fill on until it is assembled.
 pub fn needs_are_whole<W: Work>()
     ensures { NeedsAreWhole W.is_told W.upto W.first W.is_rows W.is_piece W.is_stage }
 {}

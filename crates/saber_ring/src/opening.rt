@@ -35,7 +35,8 @@ fn first_slots<R, P, S>(alloc: Global, size: u64, stage: S) -> Result<Vec<SlotVa
     Ok(slots)
 }
 
-// The words and the slots of a ring in which nothing was filled; the stage comes back where memory lacks.
+// The words and the slots of a ring in which nothing was filled; the stage comes back where memory
+// lacks.
 pub(crate) fn first_parts<R, P, S>(
     alloc: Global,
     size: u64,

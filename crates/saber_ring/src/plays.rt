@@ -1,5 +1,5 @@
-//! The kinds of steps on the table, and what each tells its seat. A step is one atomic operation on one
-//! word; `specs/Plays.antt` has what it says.
+//! The kinds of steps on the table, and what each tells its seat. A step is one atomic operation on
+//! one word; `specs/Plays.antt` has what it says.
 ghost use Rattle.std.specs.Prelude.{true, false, None};
 ghost use Rattle.saber_ring.specs.Seats.{parting, newcomer, joined};
 ghost use Rattle.saber_ring.specs.Plays.{sees_turn, sees_piece, sees_cell, sees_room, begins, stores, fills, sees_block, reads, returns_block, claims, deposits, wins, takes_piece, goes_on, releases, puts_back};

@@ -13,8 +13,8 @@ use saber_core::Work;
 use std::alloc::{AllocError as NoMemory, Global};
 
 /// The ring of slots by which threads hand rows, pieces and the stage to each other, each by single
-/// atomic steps. Word 0 is the word of the turn; the words of the cells come next, then those of the blocks. It is
-/// shared by reference; who steps does so with a [`Seat`] of this ring.
+/// atomic steps. Word 0 is the word of the turn; the words of the cells come next, then those of
+/// the blocks. It is shared by reference; who steps does so with a [`Seat`] of this ring.
 pub struct Ring<W: Work> {
     pub(crate) table: Table<
         SlotValue<W::Rows, W::Piece, W::Stage>,
@@ -32,9 +32,9 @@ pub struct Ring<W: Work> {
 impl<W: Work> Ring<W> {
     ghost use Rattle.saber_ring.specs.Closing.{IsLast, Finishes};
 
-    /// A ring of so many cells over a running stage that has assembled nothing, and its first seat. The
-    /// fixed data of the work are those that `J` names; from then on each view has them. This is the
-    /// only call that takes memory; where there is none, the stage comes back.
+    /// A ring of so many cells over a running stage that has assembled nothing, and its first seat.
+    /// The fixed data of the work are those that `J` names; from then on each view has them. This
+    /// is the only call that takes memory; where there is none, the stage comes back.
     pub fn new<J: FixedData<W::Data>>(
         alloc: Global,
         size: u32,
@@ -69,9 +69,9 @@ impl<W: Work> Ring<W> {
         self.size
     }
 
-    /// Ends the ring with its last seat, which is the first one once it has taken in all others, and
-    /// gives the stage that is at home. Rows that nobody claimed and pieces that nobody took are let
-    /// go; there are such only where the stage stopped, or where the caller left them.
+    /// Ends the ring with its last seat, which is the first one once it has taken in all others,
+    /// and gives the stage that is at home. Rows that nobody claimed and pieces that nobody took
+    /// are let go; there are such only where the stage stopped, or where the caller left them.
     pub fn finish(self, seat: Seat<W>) -> W::Stage
     where
         W::Rows: Drop,

@@ -20,8 +20,8 @@ use atomic_table::Seat as TableSeat;
 use saber_core::Work;
 use std::marker::PhantomData;
 
-// The phases that a call writes or waits for. The word of a cell is eight times the task, plus the phase;
-// idle is 0.
+// The phases that a call writes or waits for. The word of a cell is eight times the task, plus the
+// phase; idle is 0.
 
 const READY: u64 = 2;
 
@@ -43,10 +43,10 @@ pub(crate) const HOME: u64 = 2;
 
 const READING: u64 = 3;
 
-/// A thread's place at a ring: what it steps with, and what it knows and has done. No call waits or makes
-/// a second try; a refusal changes nothing but what the seat saw, and gives back what was handed in.
-/// A seat that is let go is missed at the end, where the first one has to take in all others, and harms
-/// nothing else.
+/// A thread's place at a ring: what it steps with, and what it knows and has done. No call waits or
+/// makes a second try; a refusal changes nothing but what the seat saw, and gives back what was
+/// handed in. A seat that is let go is missed at the end, where the first one has to take in all
+/// others, and harms nothing else.
 #[derive(Drop)]
 pub struct Seat<W: Work> {
     pub(crate) place: TableSeat<SlotValue<W::Rows, W::Piece, W::Stage>, View<W::Data>>,
@@ -63,9 +63,10 @@ impl<W: Work> Seat<W> {
     ghost use Rattle.saber_ring.specs.Plays.{is_stopped};
     ghost use Rattle.saber_ring.specs.Calls.{Claims, FillsNext, Covers, Fills, NeedsBlock, Reads, HasJobOf, HasRowsOut, PutsBack, MayDeposit, Deposits, Wins, HoldsTurn, IsGot, Takes, StageAfter, Gives, StageAt, Releases};
 
-    /// The first seat puts the rows of the next task into its block, without the turn, and makes the task
-    /// ready. Full exactly where the task's cell isn't idle for it, or, by the loaded word of the turn, a
-    /// task that isn't assembled may need the rows that lie there: then the rows come back.
+    /// The first seat puts the rows of the next task into its block, without the turn, and makes
+    /// the task ready. Full exactly where the task's cell isn't idle for it, or, by the loaded word
+    /// of the turn, a task that isn't assembled may need the rows that lie there: then the rows
+    /// come back.
     pub fn fill(&mut self, ring: &Ring<W>, t: u64, block: W::Rows, frees: &Frees) -> Fill<W>
     where
         W::Rows: Drop,
@@ -106,9 +107,9 @@ impl<W: Work> Seat<W> {
         Fill::Put
     }
 
-    /// A seat without job and turn takes a task to work on. Not exactly where it isn't ready. For the first
-    /// seat, while no other is out, that is exactly where it isn't filled or was claimed before. A word past
-    /// the ready one says that the task was filled.
+    /// A seat without job and turn takes a task to work on. Not exactly where it isn't ready. For
+    /// the first seat, while no other is out, that is exactly where it isn't filled or was claimed
+    /// before. A word past the ready one says that the task was filled.
     pub fn claim(&mut self, ring: &Ring<W>, t: u64) -> Claim<W>
         requires own { self.old.place.table_id ≡ ring.now.table.shared.table_id }
         requires idle { (self.old.place.me.0.job ≡ None) × (self.old.place.me.0.turn ≡ None) }
@@ -127,8 +128,9 @@ impl<W: Work> Seat<W> {
         Claim::Got(Job { task: t, work })
     }
 
-    /// A seat without the turn, and with no block out, takes a block that its job's task needs, for reading.
-    /// Held exactly where another seat reads it; never for the first seat while no other is out.
+    /// A seat without the turn, and with no block out, takes a block that its job's task needs, for
+    /// reading. Held exactly where another seat reads it; never for the first seat while no other
+    /// is out.
     pub fn read(&mut self, ring: &Ring<W>, job: &Job<W>, u: u64) -> Read<W>
         requires own { self.old.place.table_id ≡ ring.now.table.shared.table_id }
         requires idle { (self.old.place.me.0.block ≡ None) × (self.old.place.me.0.turn ≡ None) }
@@ -175,8 +177,8 @@ impl<W: Work> Seat<W> {
         self.block = None;
     }
 
-    /// A seat without the turn, and with no block out, hands in the piece of its job's task, or none: the
-    /// mark of want of memory.
+    /// A seat without the turn, and with no block out, hands in the piece of its job's task, or
+    /// none: the mark of want of memory.
     pub fn deposit(&mut self, ring: &Ring<W>, job: Job<W>, piece: Option<W::Piece>)
         requires own { self.old.place.table_id ≡ ring.now.table.shared.table_id }
         requires idle { (self.old.place.me.0.block ≡ None) × (self.old.place.me.0.turn ≡ None) }
@@ -199,8 +201,8 @@ impl<W: Work> Seat<W> {
         }
     }
 
-    /// A seat without the turn takes it, with the stage. Held exactly where it isn't free; the first seat,
-    /// while no other is out, always wins.
+    /// A seat without the turn takes it, with the stage. Held exactly where it isn't free; the
+    /// first seat, while no other is out, always wins.
     pub fn win(&mut self, ring: &Ring<W>) -> Win<W>
         requires own { self.old.place.table_id ≡ ring.now.table.shared.table_id }
         requires idle { self.old.place.me.0.turn ≡ None }
@@ -228,9 +230,9 @@ impl<W: Work> Seat<W> {
         })
     }
 
-    /// The holder of the turn takes what was handed in for the task after those behind the stage. NotYet
-    /// exactly where that task isn't done; also where it was taken by this turn, or the stage is stopped.
-    /// What its load found done, no other seat can take.
+    /// The holder of the turn takes what was handed in for the task after those behind the stage.
+    /// NotYet exactly where that task isn't done; also where it was taken by this turn, or the
+    /// stage is stopped. What its load found done, no other seat can take.
     pub fn take(&mut self, ring: &Ring<W>, turn: &mut Turn<W>) -> Take<W>
         requires own { self.old.place.table_id ≡ ring.now.table.shared.table_id }
         requires turn { HoldsTurn turn.old.behind turn.old.state self.old.place.me.0.turn }
@@ -269,8 +271,9 @@ impl<W: Work> Seat<W> {
         }
     }
 
-    /// The holder of the turn, which took a piece and whose stage has assembled it, gives the cell back, idle
-    /// for the task that has it next. That one may be filled before the turn is released.
+    /// The holder of the turn, which took a piece and whose stage has assembled it, gives the cell
+    /// back, idle for the task that has it next. That one may be filled before the turn is
+    /// released.
     pub fn give(&mut self, ring: &Ring<W>, turn: &mut Turn<W>)
         requires own { self.old.place.table_id ≡ ring.now.table.shared.table_id }
         requires turn { HoldsTurn turn.old.behind turn.old.state self.old.place.me.0.turn × (turn.old.state ≡ TookPiece) }
@@ -287,8 +290,9 @@ impl<W: Work> Seat<W> {
         turn.state = TurnState::Open;
     }
 
-    /// The holder gives the turn up, and the stage goes home. It runs where nothing is taken and not given,
-    /// and the turn wasn't won stopped; else it is stopped, and stays so. A stopped task's cell stays taken.
+    /// The holder gives the turn up, and the stage goes home. It runs where nothing is taken and
+    /// not given, and the turn wasn't won stopped; else it is stopped, and stays so. A stopped
+    /// task's cell stays taken.
     pub fn release(&mut self, ring: &Ring<W>, turn: Turn<W>)
         requires own { self.old.place.table_id ≡ ring.now.table.shared.table_id }
         requires turn { HoldsTurn turn.behind turn.state self.old.place.me.0.turn }

@@ -1,4 +1,5 @@
-//! What threads share or move may cross them: this crate's own build says so, not the first caller's.
+//! What threads share or move may cross them: this crate's own build says so, not the first
+//! caller's.
 use crate::job::Job;
 use crate::ring::Ring;
 use crate::seat::Seat;

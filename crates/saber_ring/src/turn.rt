@@ -4,8 +4,8 @@ ghost use Rattle.std.specs.Prelude.{◌^◌, ◌≡◌, ◌≤◌};
 use crate::view::TurnState;
 use saber_core::Work;
 
-/// The turn that a seat has won, and the stage. It ends by `Seat::release` alone, so that no stage is
-/// lost silently.
+/// The turn that a seat has won, and the stage. It ends by `Seat::release` alone, so that no stage
+/// is lost silently.
 pub struct Turn<W: Work> {
     pub(crate) behind: u64,
     pub(crate) stage: W::Stage,
@@ -25,8 +25,8 @@ impl<W: Work> Turn<W> {
         self.behind
     }
 
-    /// Whether a release now would be that of a stopped stage: the turn was won so, or a task is taken
-    /// and not given.
+    /// Whether a release now would be that of a stopped stage: the turn was won so, or a task is
+    /// taken and not given.
     pub fn is_stopped(&self) -> bool
         ensures { result ≡ is_stopped self.now.state }
     {

@@ -1,13 +1,13 @@
-//! What the rule of the ring is stated over: what a slot holds, and what a seat knows. No value of a
-//! view is ever made; a view is what contracts and the rule speak of.
+//! What the rule of the ring is stated over: what a slot holds, and what a seat knows. No value of
+//! a view is ever made; a view is what contracts and the rule speak of.
 use atomic_table::{Seat, TableRule};
 use saber_core::Work;
 use std::collections::LinkedList;
 use std::marker::PhantomData;
 use std::snapshot::Snapshot;
 
-/// What a slot holds while it is at home. The first slot is for the stage. A cell has a slot for the piece
-/// of its task, and a block one for its rows.
+/// What a slot holds while it is at home. The first slot is for the stage. A cell has a slot for
+/// the piece of its task, and a block one for its rows.
 pub enum SlotValue<R, P, S> {
     Empty,
     Rows(R),
@@ -90,8 +90,8 @@ pub struct View<T> {
     pub base: Option<T>,
     /// Only the first seat has it, the one from `Ring::new`.
     pub lead: Option<Lead<T>>,
-    /// The greatest number of assembled tasks that this seat, or one that it took in, found or stored in
-    /// the word of the turn.
+    /// The greatest number of assembled tasks that this seat, or one that it took in, found or
+    /// stored in the word of the turn.
     pub seen: u64,
     /// One of them found or stored there that the stage is stopped.
     pub stopped: bool,

@@ -21,7 +21,8 @@ impl Lines {
     ghost use Rattle.saber_rows.specs.FedTurns.{answer_in, given_in, kept_in, last_in, IsDry, IsCutOff, HasNothing, Waits, IsKnown};
     ghost use Rattle.saber_rows.specs.FedSteps.{StopsKnown, StaysDry};
 
-    // Takes some more of a feed, if something is there. No line feed is held, and no row can be given.
+    // Takes some more of a feed, if something is there. No line feed is held, and no row can be
+    // given.
     fn fill_fed<F: Feed>(&mut self, feed: &mut F) -> Option<Turn>
         requires over { self.old.over ≡ None }
         requires none { due (reader_of self.old).rules (reader_of self.old).place ≡ [] }
@@ -90,7 +91,8 @@ impl Lines {
         }
     }
 
-    // The next answer of a reader that has not stopped, by as many turns as it takes. None where nothing is there as yet.
+    // The next answer of a reader that has not stopped, by as many turns as it takes. None where
+    // nothing is there as yet.
     #[inline(never)]
     fn advance_fed<F: Feed>(&mut self, feed: &mut F) -> Option<Result<Option<Row>, RowEnd>>
         requires { self.old.stop ≡ None }
@@ -126,25 +128,29 @@ impl Lines {
         }
     }
 
-    /// The next row of a feed, as `next` gives it. Where no row can be given and nothing is there as yet it says so, and a later
-    /// call goes on. It is called with the same feed each time; once it saw its end it asks it no more.
+    /// The next row of a feed, as `next` gives it. Where no row can be given and nothing is there
+    /// as yet it says so, and a later call goes on. It is called with the same feed each time; once
+    /// it saw its end it asks it no more.
     pub fn next_fed<F: Feed>(&mut self, feed: &mut F) -> Result<FedRow, RowEnd>
         // An answer that ends the reader is kept, and given again.
         ensures again { IfSome (reader_of self.old).answer (λ answer. (answer_in result ≡ Some answer) × (self.new ≡ self.old) × (feed.new ≡ feed.old)) }
         ensures answer { (reader_of self.old).answer ≡ None → (reader_of self.new).answer ≡ kept_in (answer_in result) }
 
-        // What the call takes of what waits, and of the rows that are left, whatever bytes follow; and if none do.
+        // What the call takes of what waits, and of the rows that are left, whatever bytes follow;
+        // and if none do.
         ensures moves { Moves (given_in (answer_in result)) (reader_of self.old) (reader_of self.new) (Some (F.waiting feed.old)) (Some (F.waiting feed.new)) }
         ensures rest { rest_over (reader_of self.old) (Some (F.waiting feed.old))
             ≡ option_map (given_in (answer_in result)) (rest_over (reader_of self.new) (Some (F.waiting feed.new))) }
         ensures rules { (reader_of self.new).rules ≡ (reader_of self.old).rules }
         ensures stands { (F.taken feed.new ≡ F.taken feed.old) × (F.mark feed.new ≡ F.mark feed.old) }
 
-        // Nothing is there as yet exactly where what waits decides no answer, but for want of memory.
+        // Nothing is there as yet exactly where what waits decides no answer, but for want of
+        // memory.
         ensures dry { answer_in result ≡ None → IsDry (reader_of self.new) (F.waiting feed.new) (F.mark feed.old) }
         ensures waits { (reader_of self.old).answer ≡ None → HasNothing (reader_of self.old) (F.waiting feed.old) (F.mark feed.old) → Waits (answer_in result) }
 
-        // Which other answer comes: the first of the rest, but for a feed that was cut and want of memory.
+        // Which other answer comes: the first of the rest, but for a feed that was cut and want of
+        // memory.
         ensures next { (reader_of self.old).answer ≡ None
             → IfSome (answer_in result) (λ a. IfSome (rest_over (reader_of self.old) (Some (F.waiting feed.old))) (IsNext a)) }
         ensures none { (reader_of self.old).answer ≡ None → answer_in result ≡ Some (Ok None) → HasEnd all_read (reader_of self.new) }

@@ -9,7 +9,8 @@ use saber_flat::RowBuilder;
 use saber_io::Source;
 use saber_plan::{NoMemory, Row};
 
-/// A reader, and the row that it gave last, with whether that isn't passed on yet. The next row is written over it.
+/// A reader, and the row that it gave last, with whether that isn't passed on yet. The next row is
+/// written over it.
 #[derive(Drop)]
 pub(crate) struct Head {
     lines: Lines,
@@ -38,7 +39,8 @@ fn put_numbers(numbers: &[i64], out: &mut RowBuilder) -> Result<(), NoMemory>
     Ok(())
 }
 
-// Appends a copy of a row, and tells whether it did. Rows are short, so that it goes number by number.
+// Appends a copy of a row, and tells whether it did. Rows are short, so that it goes number by
+// number.
 #[inline(always)]
 fn put_copy(row: &Row, out: &mut RowBuilder) -> bool
     requires begun { out.old.begun ≡ [] }
@@ -75,8 +77,8 @@ impl Head {
         }
     }
 
-    /// Has the next row in front, and tells its timestamp, or why there is none. It reads only where no
-    /// row is in front.
+    /// Has the next row in front, and tells its timestamp, or why there is none. It reads only
+    /// where no row is in front.
     pub(crate) fn look<S: Source>(&mut self, source: &mut S) -> Look
         ensures looks { LooksAfterAny result (headed self.old) (headed self.new) (S.left source.old) (S.left source.new) }
         ensures again { IfSome (front_of (headed self.old)) (λ look. (result ≡ look) × (self.new ≡ self.old) × (source.new ≡ source.old)) }
@@ -101,8 +103,8 @@ impl Head {
         }
     }
 
-    /// Has the next row in front where the reader holds it and needs no second look at it, and tells its timestamp. The
-    /// source isn't asked.
+    /// Has the next row in front where the reader holds it and needs no second look at it, and
+    /// tells its timestamp. The source isn't asked.
     #[inline(always)]
     pub(crate) fn look_quick(&mut self) -> Option<u64>
         ensures none { result ≡ None → headed self.new ≡ headed self.old }

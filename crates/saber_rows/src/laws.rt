@@ -11,7 +11,8 @@ pub fn readers_stand()
     ensures { ReadersStand }
 {}
 
-/// Over a source that tells, what a reader had still to give is what its calls gave, and then what it has.
+/// Over a source that tells, what a reader had still to give is what its calls gave, and then what
+/// it has.
 pub fn readers_tell()
     ensures { ReadersTell }
 {}
@@ -31,7 +32,8 @@ pub fn mergers_stand()
     ensures { MergersStand }
 {}
 
-/// Over sources that tell, what a merge had still to give is what its calls gave, and then what it has.
+/// Over sources that tell, what a merge had still to give is what its calls gave, and then what it
+/// has.
 pub fn merges_tell()
     ensures { MergesTell }
 {}

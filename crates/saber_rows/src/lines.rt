@@ -22,9 +22,9 @@ use std::alloc::Global;
 // The most rows that may wait for others: this project's limit.
 const MOST_HELD: usize = 1048576;
 
-/// The rows of one side in order of time, from the bytes of a source. Contracts see a reader as a `Reader`, by
-/// `reader_of`. It is called with the same source each time: once it saw the end of a source it
-/// asks none again.
+/// The rows of one side in order of time, from the bytes of a source. Contracts see a reader as a
+/// `Reader`, by `reader_of`. It is called with the same source each time: once it saw the end of a
+/// source it asks none again.
 #[derive(Drop)]
 pub struct Lines {
     alloc: Global,
@@ -65,7 +65,8 @@ pub(crate) enum Turn {
     Stop(Stop),
 }
 
-// Rows that were taken at the first look: how many, the bytes of their lines, and the greatest timestamp and the last one behind them.
+// Rows that were taken at the first look: how many, the bytes of their lines, and the greatest
+// timestamp and the last one behind them.
 #[derive(Drop)]
 struct Run {
     taken: usize,
@@ -370,7 +371,8 @@ impl Lines {
         Some(row)
     }
 
-    // The row at the front, if it is a row at the first look, and there is no slack. The source is not asked.
+    // The row at the front, if it is a row at the first look, and there is no slack. The source is
+    // not asked.
     #[inline]
     pub(crate) fn quick_row(&mut self) -> Option<Row>
         ensures none { result ≡ None → self.new ≡ self.old }
@@ -405,8 +407,9 @@ impl Lines {
         }
     }
 
-    /// Writes the next row's numbers here, and tells its timestamp, if it is held and is a row at the first look, and there is
-    /// no slack. Where it is not, some of its numbers may be there. The source is not asked.
+    /// Writes the next row's numbers here, and tells its timestamp, if it is held and is a row at
+    /// the first look, and there is no slack. Where it is not, some of its numbers may be there.
+    /// The source is not asked.
     #[inline(always)]
     pub(crate) fn held_into(&mut self, values: &mut Values) -> Option<u64>
         requires empty { values.old ≡ [] }
@@ -465,8 +468,8 @@ impl Lines {
         run
     }
 
-    /// Appends the next rows, up to so many, as far as they are held whole and are rows at the first look, and there
-    /// is no slack. Answers how many they are. No source is asked.
+    /// Appends the next rows, up to so many, as far as they are held whole and are rows at the
+    /// first look, and there is no slack. Answers how many they are. No source is asked.
     #[inline(never)]
     pub fn take_quick(&mut self, out: &mut RowBuilder, most: usize) -> usize
         requires begun { out.old.begun ≡ [] }
@@ -547,7 +550,8 @@ impl Lines {
         ensures again { IfSome (reader_of self.old).answer (λ answer. (result ≡ answer) × (self.new ≡ self.old) × (source.new ≡ source.old)) }
         ensures answer { (reader_of self.old).answer ≡ None → (reader_of self.new).answer ≡ kept_by result }
 
-        // What the call takes of the source and of the rows that are left, whatever bytes follow; and over a source that tells them.
+        // What the call takes of the source and of the rows that are left, whatever bytes follow;
+        // and over a source that tells them.
         ensures moves { Moves (given_by result) (reader_of self.old) (reader_of self.new) (S.left source.old) (S.left source.new) }
         ensures rest { rest_over (reader_of self.old) (S.left source.old) ≡ option_map (given_by result) (rest_over (reader_of self.new) (S.left source.new)) }
         ensures rules { (reader_of self.new).rules ≡ (reader_of self.old).rules }

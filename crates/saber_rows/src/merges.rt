@@ -90,7 +90,8 @@ impl Merge {
         }
     }
 
-    // Appends the next row, if both sides hold theirs: the lesser, the left on a tie. Tells whether it did.
+    // Appends the next row, if both sides hold theirs: the lesser, the left on a tie. Tells whether
+    // it did.
     #[inline(always)]
     fn put_lesser(&mut self, out: &mut RowBuilder) -> bool
         requires begun { out.old.begun ≡ [] }
@@ -112,8 +113,8 @@ impl Merge {
         }
     }
 
-    /// Appends the next rows, up to so many, as far as both sides hold them whole and as rows at the first look, and
-    /// there is no slack. Answers how many they are. No source is asked.
+    /// Appends the next rows, up to so many, as far as both sides hold them whole and as rows at
+    /// the first look, and there is no slack. Answers how many they are. No source is asked.
     #[inline(never)]
     pub fn take_quick(&mut self, out: &mut RowBuilder, most: usize) -> usize
         requires begun { out.old.begun ≡ [] }
@@ -131,23 +132,25 @@ impl Merge {
         taken
     }
 
-    /// The next row by timestamp, the left on a tie, or `None` at the end of both. The left side is asked
-    /// first; a side that has a row in front isn't asked. An error names its side. It comes when that side's
-    /// next row is wanted, also where the other side has an earlier one. After an error or `None` each later
-    /// call gives the same answer and reads nothing.
+    /// The next row by timestamp, the left on a tie, or `None` at the end of both. The left side is
+    /// asked first; a side that has a row in front isn't asked. An error names its side. It comes
+    /// when that side's next row is wanted, also where the other side has an earlier one. After an
+    /// error or `None` each later call gives the same answer and reads nothing.
     pub fn next<S: Source>(
         &mut self,
         left: &mut S,
         right: &mut S,
     ) -> Result<Option<Row>, (Side, RowEnd)>
-        // What the call takes of the sources and of the rows that are left, whatever bytes follow, and why a row doesn't come.
+        // What the call takes of the sources and of the rows that are left, whatever bytes follow,
+        // and why a row doesn't come.
         ensures turn { MergeTurns result (merger_of self.old) (merger_of self.new) (S.left left.old) (S.left left.new) (S.left right.old) (S.left right.new) }
 
         // An answer that ends the merge is given again.
         ensures again { IfSome (merge_answer (merger_of self.old))
             (λ answer. (result ≡ answer) × (self.new ≡ self.old) × (left.new ≡ left.old) × (right.new ≡ right.old)) }
 
-        // A fault of reading comes first only in a call in which that side's count rose; else that count stays, and none falls.
+        // A fault of reading comes first only in a call in which that side's count rose; else that
+        // count stays, and none falls.
         ensures left_cause { FaultRose sides.Left (merger_of self.old) result (S.faults left.old) (S.faults left.new) }
         ensures right_cause { (m : Mark) → Passed m (merger_of self.old)
             → FaultRose sides.Right (merger_of self.old) result (S.faults right.old) (S.faults right.new) }
@@ -156,7 +159,8 @@ impl Merge {
         ensures left_count { S.faults left.old ≤ S.faults left.new }
         ensures right_count { S.faults right.old ≤ S.faults right.new }
 
-        // What is fixed of the sides stays, and a side is read only where it holds no line that decides its next row.
+        // What is fixed of the sides stays, and a side is read only where it holds no line that
+        // decides its next row.
         ensures left_rules { (merger_of self.new).left.reader.rules ≡ (merger_of self.old).left.reader.rules }
         ensures right_rules { (merger_of self.new).right.reader.rules ≡ (merger_of self.old).right.reader.rules }
         ensures left_reads { ¬ NeedsMore (merger_of self.old).left.reader → left.new ≡ left.old }

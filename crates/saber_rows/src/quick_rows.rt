@@ -67,8 +67,8 @@ fn digits_among(held: &[u8]) -> Option<(u64, usize, u8)>
     None
 }
 
-// Up to 18 digits at the front, how many they are, and the byte behind them. That the bytes which can be so are of a
-// length that is known makes it fast.
+// Up to 18 digits at the front, how many they are, and the byte behind them. That the bytes which
+// can be so are of a length that is known makes it fast.
 #[inline(always)]
 fn digits_in(held: &[u8]) -> Option<(u64, usize, u8)>
     ensures { IfSome result (λ r. EndDigits held.now r.0 r.1 r.2) }
@@ -79,7 +79,8 @@ fn digits_in(held: &[u8]) -> Option<(u64, usize, u8)>
     digits_among(held)
 }
 
-// The number at the front of up to 18 digits, how many bytes it is, and the byte behind it. The first column is a time.
+// The number at the front of up to 18 digits, how many bytes it is, and the byte behind it. The
+// first column is a time.
 #[inline(always)]
 fn field_in(held: &[u8], column: u32) -> Option<(i64, usize, u8)>
     ensures { IfSome result (λ r. EndsField held.now column r.0 r.1 r.2) }
@@ -134,8 +135,9 @@ fn feed_at(held: &[u8], end: usize, next: u8) -> Option<usize>
     None
 }
 
-/// Reads a whole row at the front, and tells its length, if it is one that needs no second look: without an
-/// error, and with at most 18 digits a field. Where it is not, some of its numbers may be there.
+/// Reads a whole row at the front, and tells its length, if it is one that needs no second look:
+/// without an error, and with at most 18 digits a field. Where it is not, some of its numbers may
+/// be there.
 #[inline(always)]
 pub(crate) fn row_in<N: Numbers>(columns: u32, held: &[u8], out: &mut N) -> Option<usize>
     requires empty { N.numbers out.old ≡ [] }
@@ -152,8 +154,8 @@ pub(crate) fn row_in<N: Numbers>(columns: u32, held: &[u8], out: &mut N) -> Opti
     feed_at(held, end, next)
 }
 
-/// Appends the row at the front, if it needs no second look and is not below this timestamp. Answers its length,
-/// and its own timestamp. Where it is not, nothing is appended.
+/// Appends the row at the front, if it needs no second look and is not below this timestamp.
+/// Answers its length, and its own timestamp. Where it is not, nothing is appended.
 #[inline(always)]
 pub(crate) fn put_row(
     side: Side,

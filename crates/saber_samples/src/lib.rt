@@ -6,8 +6,8 @@
 //! - Calls: `counts` and `pairs` give checked plans; `is_of_one`, `is_of_keys` and `is_join` tell
 //!   whether a plan can be given such rows; `keyed_block` and `sided_block` take a mark and a table
 //!   of rows, and give a block and the mark behind it.
-//! - Proved: each builder of a plan gives what it is asked for, and a plan is what it is told to be.
-//!   Of rows and blocks it is proved that they fit and can come behind the mark, and not which
+//! - Proved: each builder of a plan gives what it is asked for, and a plan is what it is told to
+//!   be. Of rows and blocks it is proved that they fit and can come behind the mark, and not which
 //!   numbers they have.
 //! - In `specs/` stand names for what tests say: `Asking` (queries), `Filling` (blocks), `Standing`
 //!   (stores).

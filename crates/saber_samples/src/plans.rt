@@ -44,7 +44,8 @@ pub fn counts(alloc: Global, columns: u32, window: Window) -> Result<Plan, NoMem
     ))
 }
 
-/// The number of nothing, 0, for each pair of rows of two streams of so many columns, in one of these windows each.
+/// The number of nothing, 0, for each pair of rows of two streams of so many columns, in one of
+/// these windows each.
 pub fn pairs(alloc: Global, columns: u32, left: Window, right: Window) -> Result<Plan, NoMemory>
     requires some { 1 ≤ columns }
     requires few { columns ≤ 32 }

@@ -5,8 +5,9 @@
 //! - Parts: `select` (`Select`, over its plan, and the rows of a task), `lines` (a row's line),
 //!   `operator` (the trait's calls, and `NoStore`).
 //! - Call: `Select::new` takes a checked plan; the rest is by the trait of `saber_fragment`.
-//! - Proved: `start` gives exactly the text of the task's own rows (`specs/Texts.antt`), `look_back` and
-//!   `finish` leave it, and `take_in` appends it. After want of memory the text is as before.
+//! - Proved: `start` gives exactly the text of the task's own rows (`specs/Texts.antt`),
+//!   `look_back` and `finish` leave it, and `take_in` appends it. After want of memory the text is
+//!   as before.
 //! - Limits: plans without a stream word, and so without a window.
 #![tactic(auto)]
 

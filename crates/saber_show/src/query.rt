@@ -89,8 +89,9 @@ fn text(alloc: Global, select: &Select) -> Result<Vec<u8>, NoMemory>
     Ok(out)
 }
 
-/// A query as a text: its words with one space between, keywords in capitals, numbers without leading zeros. It is
-/// read back as the same words, and so as the same tree, where it isn't longer than a query may be.
+/// A query as a text: its words with one space between, keywords in capitals, numbers without
+/// leading zeros. It is read back as the same words, and so as the same tree, where it isn't longer
+/// than a query may be.
 pub fn show(alloc: Global, query: &Query) -> Result<Vec<u8>, NoMemory>
     ensures text { IfOk result (λ v. v.items ≡ spelled (w.words (query_of query.now.select))) }
     ensures tokens { IfOk result (λ v. HasTokens v.items (w.words (query_of query.now.select))) }

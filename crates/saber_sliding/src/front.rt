@@ -10,8 +10,9 @@ use std::alloc::Global;
 use std::marker::Model;
 use std::sync::ledger::Ledger;
 
-/// Parts of rows that follow one another, each with the number of the first window that doesn't have it, before any of them is merged:
-/// where nothing is asked until all are there, they become a queue in one step for each. Contracts see the entries of that queue.
+/// Parts of rows that follow one another, each with the number of the first window that doesn't
+/// have it, before any of them is merged: where nothing is asked until all are there, they become a
+/// queue in one step for each. Contracts see the entries of that queue.
 #[derive(Drop)]
 pub struct Front {
     entries: Vec<(u64, Partial)>,

@@ -1,6 +1,6 @@
 //! A two-stacks queue of parts: from any one on, all are at hand merged, at few merges a part.
-//! The merges don't depend on how many windows a part lies in. The operator of groups keeps its
-//! slices in it.
+//! The merges don't depend on how many windows a part lies in. The operators of groups keep their
+//! slices in it, those with PARTITION BY a queue for each key.
 //!
 //! - Parts: `queue` (`Sliding`), `together` (rows that share an entry), `front` (`Front`: parts
 //!   that are to be summed up at once).

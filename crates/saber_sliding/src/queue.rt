@@ -16,14 +16,15 @@ use std::collections::VecDeque;
 use std::marker::Model;
 use std::sync::ledger::Ledger;
 
-/// Parts of rows that follow one another, each with the number of the first window that doesn't have it.
-/// It is a queue of two stacks (SABER 2016 names incremental computation over panes; the two stacks are
-/// those of Tangwongsan et al. 2015): the front one keeps merges of its entries to its end, the back one
-/// its entries' own parts and the merge of all. So a part is merged once where it comes, once where the
-/// back becomes the front, and once for each time that the whole is asked. The back becomes the front when
-/// something is asked or comes, and not as entries go: a queue that nobody asks again is never summed up. Contracts see the entries in
-/// order, each with the merge of its part and all behind it, and how many steps for them are still owed: each
-/// merge of two parts is a step.
+/// Parts of rows that follow one another, each with the number of the first window that doesn't
+/// have it. It is a queue of two stacks (SABER 2016 names incremental computation over panes; the
+/// two stacks are those of Tangwongsan et al. 2015): the front one keeps merges of its entries to
+/// its end, the back one its entries' own parts and the merge of all. So a part is merged once
+/// where it comes, once where the back becomes the front, and once for each time that the whole is
+/// asked. The back becomes the front when something is asked or comes, and not as entries go: a
+/// queue that nobody asks again is never summed up. Contracts see the entries in order, each with
+/// the merge of its part and all behind it, and how many steps for them are still owed: each merge
+/// of two parts is a step.
 #[derive(Drop)]
 pub struct Sliding {
     pub(crate) front: VecDeque<(u64, Partial)>,
@@ -66,7 +67,8 @@ fn merge_behind<L: Ledger>(
     }
 }
 
-// Turns entries with their own parts, but for the first `gone`, into ones with the merge from theirs on, one step for each at most.
+// Turns entries with their own parts, but for the first `gone`, into ones with the merge from
+// theirs on, one step for each at most.
 fn sum_up<L: Ledger>(
     alloc: Global,
     gone: usize,
@@ -90,8 +92,8 @@ fn sum_up<L: Ledger>(
     Ok(())
 }
 
-// The entries of the back but for the first `gone` become the front, which had none. The memory of both stays, with room for
-// as many entries in the back again, and one more.
+// The entries of the back but for the first `gone` become the front, which had none. The memory of
+// both stays, with room for as many entries in the back again, and one more.
 fn turn<L: Ledger>(
     alloc: Global,
     gone: usize,
@@ -118,7 +120,8 @@ fn turn<L: Ledger>(
     Ok(())
 }
 
-// The back becomes the front, where that is still to be done: one step for each of its entries at most.
+// The back becomes the front, where that is still to be done: one step for each of its entries at
+// most.
 fn settle<L: Ledger>(
     alloc: Global,
     late: &mut bool,
@@ -152,7 +155,8 @@ fn drop_one(front: &mut VecDeque<(u64, Partial)>, spare: &mut Option<Partial>)
     }
 }
 
-// Without the entries at the front that window i doesn't have. The memory of the last of them stays.
+// Without the entries at the front that window i doesn't have. The memory of the last of them
+// stays.
 fn drop_front(front: &mut VecDeque<(u64, Partial)>, spare: &mut Option<Partial>, i: u64)
     ensures { front.new.items ≡ dropped i front.old.items }
 {
@@ -194,7 +198,8 @@ fn drop_first(back: &mut Vec<(u64, Partial)>, spare: &mut Option<Partial>, gone:
     }
 }
 
-// One entry more with its own part, and the merge of all: one step, if each piece more counts for one.
+// One entry more with its own part, and the merge of all: one step, if each piece more counts for
+// one.
 fn put_behind<L: Ledger>(
     alloc: Global,
     back: &mut Vec<(u64, Partial)>,
@@ -350,7 +355,8 @@ impl Sliding {
         }
     }
 
-    /// A part of rows behind all others. It costs two steps, each now or later. After want of memory nothing is kept.
+    /// A part of rows behind all others. It costs two steps, each now or later. After want of
+    /// memory nothing is kept.
     #[inline(always)]
     pub fn push<L: Ledger>(
         &mut self,
@@ -418,8 +424,9 @@ impl Sliding {
         }
     }
 
-    /// Writes the lines of the merge of all parts behind what `out` has, in a walk over two lists of groups at
-    /// most: one step beside those owed. Where memory is wanting, `out` stays as it was.
+    /// Writes the lines of the merge of all parts behind what `out` has, in a walk over two lists
+    /// of groups at most: one step beside those owed. Where memory is wanting, `out` stays as it
+    /// was.
     #[inline(always)]
     pub fn lines<L: Ledger>(
         &mut self,

@@ -1,4 +1,5 @@
-// Parts of rows: those that the same windows have in one entry of the back, whose entries have their own parts.
+// Parts of rows: those that the same windows have in one entry of the back, whose entries have
+// their own parts.
 ghost use Rattle.std.specs.Prelude.{◌≡◌, ◌+◌, ◌≤◌, length, true, false, Some, OnOk};
 ghost use Rattle.saber_plan.specs.Parts.{merge};
 ghost use Rattle.saber_partial.specs.Tallies.{CanMerge};
@@ -79,8 +80,9 @@ impl Sliding {
         self.push(alloc, number, own, steps)
     }
 
-    /// The part of a row behind all others: where the last entry has this number and is kept with its own part, it goes into that; else
-    /// it becomes an entry, as with `push`. It costs two steps, each now or later. After want of memory it is only safe to let go.
+    /// The part of a row behind all others: where the last entry has this number and is kept with
+    /// its own part, it goes into that; else it becomes an entry, as with `push`. It costs two
+    /// steps, each now or later. After want of memory it is only safe to let go.
     pub fn put<L: Ledger>(
         &mut self,
         alloc: Global,

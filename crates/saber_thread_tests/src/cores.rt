@@ -7,12 +7,13 @@ use std::alloc::{AllocError, Global};
 use std::process::Abort;
 use std::test::Fail;
 
-// Slots and seats, the events, and what is read in the end: pieces assembled, tasks filled, the seat that has the turn, and the phases of tasks
-// 0 and 1. F fills; Cst and Dst claim and hand in task t by seat s, Mst hands in the mark; Ws, Ts, Gs and Rs win the turn, take, give
-// and release. An event with a ! behind it changes nothing.
+// Slots and seats, the events, and what is read in the end: pieces assembled, tasks filled, the
+// seat that has the turn, and the phases of tasks 0 and 1. F fills; Cst and Dst claim and hand in
+// task t by seat s, Mst hands in the mark; Ws, Ts, Gs and Rs win the turn, take, give and release.
+// An event with a ! behind it changes nothing.
 //
-// Pieces that are handed in out of order are given in order; a mark is never given, and stops the stage; a slot is filled again before the turn
-// is released.
+// Pieces that are handed in out of order are given in order; a mark is never given, and stops the
+// stage; a slot is filled again before the turn is released.
 const ROWS: &str = "\
 2 2|F F C00 C11 D11 W1 T1! R1 D00 W0 T0 G0 T0 G0 R0|2 2 None None None
 1 1|F C00 M00 W0 T0 G0! R0 W0 T0!|0 1 Some(0) Some(Taken { mark: true }) None

@@ -19,8 +19,8 @@ use std::sync::Wait;
 use std::test::Fail;
 use std::thread::Threads;
 
-// The rows of a task are its number, and it needs those of the two tasks before it. Its piece is a number, and
-// the stage notes the pieces in their order.
+// The rows of a task are its number, and it needs those of the two tasks before it. Its piece is a
+// number, and the stage notes the pieces in their order.
 struct Noting;
 
 impl Work for Noting {
@@ -63,7 +63,8 @@ impl FixedData<LinkedList<u64>> for Nothing {
     ghost told = { Some [] };
 }
 
-// A thousand times a task's own number, and the two numbers before it. There is room for so many pieces.
+// A thousand times a task's own number, and the two numbers before it. There is room for so many
+// pieces.
 #[derive(Drop)]
 struct Adding {
     room: usize,
@@ -165,7 +166,8 @@ fn sizes(ring: u32, threads: u32) -> Sizes
     }
 }
 
-// What the stage noted, and how many tasks there were where all were given: else that is up to the threads.
+// What the stage noted, and how many tasks there were where all were given: else that is up to the
+// threads.
 fn told(alloc: Global, pieces: &[u64], fed: &Dispatched) -> Result<String, AllocError> {
     if fed.over == Over::AllGiven {
         format!(in alloc; "{pieces:?} of {}", fed.tasks)
@@ -207,8 +209,8 @@ fn run_tasks<R: Threads + Wait + Sync>(
     }
 }
 
-// Room, tasks, and + where the supply is dry now and then; and what comes of it on each ring and by each number of threads. A stage that stops ends the
-// run.
+// Room, tasks, and + where the supply is dry now and then; and what comes of it on each ring and by
+// each number of threads. A stage that stops ends the run.
 const ROWS: &str = "\
 9 0 -|[] of 0
 9 1 -|[0] of 1

@@ -1,4 +1,5 @@
-//! Several queries over one input, at a gate that holds a task back until another is done. All other cases of `many` are data: `saber_cases`.
+//! Several queries over one input, at a gate that holds a task back until another is done. All
+//! other cases of `many` are data: `saber_cases`.
 use crate::texts::{assert_same, parts};
 use crate::top::{COUNT, files, lateness, limit, tell};
 use saber_io::{Gate, HoldGate, MemFiles, MemOuts, MemSink};
@@ -81,8 +82,8 @@ fn check_held<R: Threads + Wait + Abort + Sync>(
     Ok(())
 }
 
-// Two tasks of both queries are under way at once: the first one waits at the gate for the second one to be done. The caller alone would
-// wait in vain.
+// Two tasks of both queries are under way at once: the first one waits at the gate for the second
+// one to be done. The caller alone would wait in vain.
 #[test]
 fn tasks_of_several_at_once(rt: HostRuntime) -> Result<(), Fail> {
     for row in HELD.lines() {

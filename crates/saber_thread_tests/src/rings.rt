@@ -117,8 +117,8 @@ macro_rules! not_yet {
 
 mod rounds;
 
-// The rows of a task are a number. A task adds up its own and those of the two tasks before it, and the stage
-// what the tasks add. What is too great stops the stage.
+// The rows of a task are a number. A task adds up its own and those of the two tasks before it, and
+// the stage what the tasks add. What is too great stops the stage.
 struct Adding;
 
 impl Work for Adding {
@@ -200,7 +200,8 @@ fn sum_of(own: u64, back: u64, older: u64) -> Option<u64>
     sum.checked_add(older)
 }
 
-// Hands in what a task adds, by the three numbers that were read for it, or the mark where that is too great.
+// Hands in what a task adds, by the three numbers that were read for it, or the mark where that is
+// too great.
 fn hand_in(
     seat: &mut Seat<Adding>,
     ring: &Ring<Adding>,
@@ -405,7 +406,8 @@ fn is_stopped(rt: &impl Abort, seat: &mut Seat<Adding>, ring: &Ring<Adding>)
     seat.release(ring, turn);
 }
 
-// Words of a cell, of a block and of a turn; what each says, and its number: the task of a cell, the block, or how many tasks are assembled.
+// Words of a cell, of a block and of a turn; what each says, and its number: the task of a cell,
+// the block, or how many tasks are assembled.
 const WORDS: &str = "\
 cell 0|Idle 0
 cell 17|Filling 2

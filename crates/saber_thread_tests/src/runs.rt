@@ -1,4 +1,5 @@
-//! Runs over sources in memory, by several threads, worked out by hand. What a run over files gives is data: `saber_cases`.
+//! Runs over sources in memory, by several threads, worked out by hand. What a run over files gives
+//! is data: `saber_cases`.
 ghost use Rattle.std.specs.Prelude.{◌≡◌, ◌≤◌, ◌^◌, None, length, IfOk};
 ghost use Rattle.saber_plan.specs.declared.plans.Shape.TheVariants as shapes;
 ghost use Rattle.saber_plan.specs.declared.rows.Side.TheVariants as sides;
@@ -115,7 +116,8 @@ fn told(alloc: Global, ran: &Ran<MemSink>) -> Result<String, NoMemory> {
     told_of(alloc, ran.end, ran.tasks, ran.sink.bytes())
 }
 
-// Counts over one file, whose end is a task too, and pairs of two files, of which the fifth row needs those of all tasks before it.
+// Counts over one file, whose end is a task too, and pairs of two files, of which the fifth row
+// needs those of all tasks before it.
 fn run_one<R: Threads + Wait + Sync>(
     rt: &R,
     alloc: Global,
@@ -176,8 +178,9 @@ fn runs_over_files(rt: HostRuntime) -> Result<(), Fail> {
     Ok(())
 }
 
-// Windows of rows or of seconds, and + where the end is a task too; the bytes of a feed, with a ! where it is cut off; and what comes of it, in
-// tasks of two rows. The third line stands in a task that isn't whole, and the fourth has no end.
+// Windows of rows or of seconds, and + where the end is a task too; the bytes of a feed, with a !
+// where it is cut off; and what comes of it, in tasks of two rows. The third line stands in a task
+// that isn't whole, and the fourth has no end.
 const FEEDS: &str = "\
 rows -|0,1,10;1,1,20;2,2,5;2,1,7;9,2,1;|AllRead 3 0,2;1,2;
 range -|0,1,10;1,1,20;2,2,5;2,1,7;9,2,1;|AllRead 3 0,4;1,2;

@@ -1,5 +1,6 @@
-//! Three queries over one input that is read once, whose end is a task. The first one's sink fails at its second write, after a byte: it stops,
-//! and the others go on. The second has no windows, so the end is none of its tasks.
+//! Three queries over one input that is read once, whose end is a task. The first one's sink fails
+//! at its second write, after a byte: it stops, and the others go on. The second has no windows, so
+//! the end is none of its tasks.
 ghost use Rattle.std.specs.Prelude.{◌≡◌, ◌≢◌, ◌≤◌, [], length, IfOk};
 ghost use Rattle.std.specs.List.{AllByRecursion};
 ghost use Rattle.saber_plan.specs.declared.rows.Side.TheVariants as sides;

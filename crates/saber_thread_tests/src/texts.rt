@@ -1,4 +1,5 @@
-// Tables are texts, a row a line, with bars between its parts. In a part that is a file, ; stands for a line end.
+// Tables are texts, a row a line, with bars between its parts. In a part that is a file, ; stands
+// for a line end.
 use std::alloc::{AllocError, Global};
 use std::process::Abort;
 

@@ -1,5 +1,6 @@
-//! The top call with ample memory, words that the system can't hand over, and gates that hold a task back until another is done: threads really work
-//! at once, and tasks may be completed in any order. All other cases of the call are data: `saber_cases`.
+//! The top call with ample memory, words that the system can't hand over, and gates that hold a
+//! task back until another is done: threads really work at once, and tasks may be completed in any
+//! order. All other cases of the call are data: `saber_cases`.
 ghost use Rattle.std.specs.Prelude.{◌≤◌, IfOk, vec_len};
 
 use crate::texts::{assert_same, bytes_of, parts};
@@ -145,7 +146,8 @@ pub(crate) fn lateness(is_late: bool) -> &'static str {
     if is_late { "late" } else { "in time" }
 }
 
-// Threads, the task that waits and the one that it waits for, and whether it went on before that was done.
+// Threads, the task that waits and the one that it waits for, and whether it went on before that
+// was done.
 const HELD: &str = "\
 2|0|1|in time
 2|1|0|in time
@@ -168,8 +170,8 @@ fn check_held<R: Threads + Wait + Abort + Sync>(
     Ok(())
 }
 
-// Two tasks are under way at once: each of the first two waits at the gate for the other to be done. The caller alone would wait in
-// vain for the second one, and not for the first.
+// Two tasks are under way at once: each of the first two waits at the gate for the other to be
+// done. The caller alone would wait in vain for the second one, and not for the first.
 #[test]
 fn tasks_at_once(rt: HostRuntime) -> Result<(), Fail> {
     for row in HELD.lines() {
@@ -230,7 +232,8 @@ fn check_orders<R: Threads + Wait + Abort + Sync>(
     check_order(rt, alloc, order(alloc, first, second, third)?, "0", alone)
 }
 
-// Three tasks are completed in each of their orders, with three threads beside the caller's on a ring of three.
+// Three tasks are completed in each of their orders, with three threads beside the caller's on a
+// ring of three.
 #[test]
 fn each_order_of_completion(rt: HostRuntime) -> Result<(), Fail> {
     for row in ORDERS.lines() {
@@ -261,7 +264,8 @@ fn chain<G: Gate + Sync, R: Threads + Wait + Sync>(
     call(rt, alloc, &words, &mut files(alloc, SUMS, GREATEST)?, gate)
 }
 
-// The first query's last task waits until the second query's first one is done: so both queries of a chain run at once.
+// The first query's last task waits until the second query's first one is done: so both queries of
+// a chain run at once.
 #[test]
 fn both_run_at_once(rt: HostRuntime) -> Result<(), Fail> {
     let gate = HoldGate::new((1 << 43) + 4, 0, 100_000_000);

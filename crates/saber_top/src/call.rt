@@ -127,18 +127,20 @@ where
         EndsUnreadMany result.end files.old files.new outs.old outs.new }
     ensures usage { result.end ≡ TopEnd.Before Early.Usage → many_of (map (λ word. word.now) words.now) ≡ None }
 
-    // Either no query is run, for the first of all that is at fault, and there are no parts; or each has its part, in their order.
+    // Either no query is run, for the first of all that is at fault, and there are no parts; or
+    // each has its part, in their order.
     ensures early { IfMany (map (λ word. word.now) words.now) (λ m. IfBefore result.end (λ e. IfSome (F.told files.old) (λ t. EndsEarly t.contents m e))) }
     ensures none { IfBefore result.end (λ e. parts_in result.parts ≡ []) }
     ensures each { IfMany (map (λ word. word.now) words.now) (λ m. result.end ≡ TopEnd.Each → length (parts_in result.parts) ≡ length m.queries) }
 
-    // A part says what a run of its query alone says: what went out, how it ended and why. Behind a fault of reading at least every whole task of what was
-    // taken of the left file is assembled.
+    // A part says what a run of its query alone says: what went out, how it ended and why. Behind a
+    // fault of reading at least every whole task of what was taken of the left file is assembled.
     ensures answers { IfMany (map (λ word. word.now) words.now) (λ m. result.end ≡ TopEnd.Each → EachAnswers U.Out.written m (F.told files.old) (parts_in result.parts)) }
     ensures taken { IfMany (map (λ word. word.now) words.now)
         (λ m. result.end ≡ TopEnd.Each → AllZip (CutTakesLeft m (F.told files.old) (F.told files.new)) m.queries (parts_in result.parts)) }
 
-    // A fault of the outside is real, and none is passed over: of the files, of the files that are created, and of each of these alone.
+    // A fault of the outside is real, and none is passed over: of the files, of the files that are
+    // created, and of each of these alone.
     ensures files { EndsBy result.end IsFileEnd → Rose (F.faults files.old) (F.faults files.new) }
     ensures files_good { EndsBy result.end IsReadWell → F.faults files.new ≡ F.faults files.old }
     ensures reads { AllByRecursion (λ part. IsFileFault part.outcome → Rose (F.faults files.old) (F.faults files.new)) (parts_in result.parts) }
@@ -148,13 +150,15 @@ where
     ensures writes { AllByRecursion (λ part. part.outcome ≡ Outcome.WriteFault → Rose 0 (U.Out.faults part.out)) (parts_in result.parts) }
     ensures writes_good { AllByRecursion (λ part. part.outcome ≢ Outcome.WriteFault → U.Out.faults part.out ≡ 0) (parts_in result.parts) }
 
-    // Which files were asked for and given back: each query's only behind those that have plans, the left one only behind queries that can share it.
+    // Which files were asked for and given back: each query's only behind those that have plans,
+    // the left one only behind queries that can share it.
     ensures leaves { IfMany (map (λ word. word.now) words.now)
         (λ m. IfBefore result.end (λ e. LeavesManyTold m (EarlyFits (length m.queries) e) (F.told files.old) (F.told files.new))) }
     ensures leaves_each { IfMany (map (λ word. word.now) words.now) (λ m. result.end ≡ TopEnd.Each →
         LeavesManyTold m (RanFits (length m.queries) (outcomes_of (parts_in result.parts))) (F.told files.old) (F.told files.new)) }
 
-    // Which files were created, in the order of the queries: none before the left file is open, and those of all where they are run.
+    // Which files were created, in the order of the queries: none before the left file is open, and
+    // those of all where they are run.
     ensures made { IfMany (map (λ word. word.now) words.now)
         (λ m. IfBefore result.end (λ e. MadeFirst m.queries (EarlyMade 0 e) (U.asked outs.old) (U.asked outs.new))) }
     ensures made_each { IfMany (map (λ word. word.now) words.now) (λ m. result.end ≡ TopEnd.Each → U.asked outs.new ≡ naming_all (U.asked outs.old) (out_names m.queries)) }
@@ -163,7 +167,8 @@ where
     ensures statuses { AllByRecursion (λ part. part.status ≡ status_of part.outcome) (parts_in result.parts) }
     ensures status { result.status ≡ top_status result.end (outcomes_of (parts_in result.parts)) }
 
-    // The notes: a line for each status that isn't 0, in one write, so they are whole only where each line went out.
+    // The notes: a line for each status that isn't 0, in one write, so they are whole only where
+    // each line went out.
     ensures nothing { result.status ≡ 0 → (result.noted ≡ Noted.Nothing) × (notes.new ≡ notes.old) }
     ensures something { result.status ≢ 0 → result.noted ≢ Noted.Nothing }
     ensures whole { result.noted ≡ Noted.Whole → N.written notes.new ≡ appended (N.written notes.old) (top_notes result.end (outcomes_of (parts_in result.parts))) }

@@ -67,7 +67,8 @@ fn with_first(plan: Plan, plans: VecDeque<Plan>) -> Result<VecDeque<Plan>, Early
     }
 }
 
-// Reads and checks the queries that these files have, one after another, up to the first one at fault. So many others stand before them.
+// Reads and checks the queries that these files have, one after another, up to the first one at
+// fault. So many others stand before them.
 fn read_each<F: Files>(
     alloc: Global,
     files: &mut F,
@@ -122,7 +123,8 @@ fn has_stream(plan: &Plan, columns: u32) -> bool
     columns_of(plan) == columns
 }
 
-// The number of the first of these plans that has not one stream of so many columns. So many others stand before them.
+// The number of the first of these plans that has not one stream of so many columns. So many others
+// stand before them.
 fn first_unlike(plans: &[Plan], columns: u32, others: u64) -> Option<u64>
     requires { others + length plans.now < 2 ^ 64 }
     ensures share { result ≡ None → AllByRecursion (HasStream columns) (map tree_of plans.now) }

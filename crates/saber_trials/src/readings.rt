@@ -47,7 +47,8 @@ fn cuts(alloc: Global, field: &Field<'_>) -> Result<Vec<u64>, Refused>
     Ok(list)
 }
 
-// The cuts of a file of so many bytes: those that are named, or one size for all its reads, but where the numbers of reads count.
+// The cuts of a file of so many bytes: those that are named, or one size for all its reads, but
+// where the numbers of reads count.
 fn cuts_of(
     alloc: Global,
     fields: &Fields<'_>,
@@ -139,8 +140,8 @@ fn write_of(field: &Field<'_>) -> Result<(u64, u64), Refused> {
     Ok((number(field, write)?, number(field, after)?))
 }
 
-/// The files of a case. Those of its own stand first: they are opened in place of its section's. Each read gives at
-/// most `cut` bytes, where that isn't 0.
+/// The files of a case. Those of its own stand first: they are opened in place of its section's.
+/// Each read gives at most `cut` bytes, where that isn't 0.
 pub(crate) fn files_of(
     alloc: Global,
     names: &Names,

@@ -21,7 +21,8 @@ struct Came<K, T> {
     parts: PartList<T>,
 }
 
-// The call alone, over any files and sinks: what it promises is long, and no case needs it, so it is carried no further.
+// The call alone, over any files and sinks: what it promises is long, and no case needs it, so it
+// is carried no further.
 fn top_call<F: Files, U: Outs, K: Sink + Send + Drop, N: Sink, R: Threads + Wait + Sync>(
     rt: &R,
     alloc: Global,
@@ -51,7 +52,8 @@ where
     }
 }
 
-/// The call with these words, over the case's files and sinks, whose reads give at most `cut` bytes where that isn't 0.
+/// The call with these words, over the case's files and sinks, whose reads give at most `cut` bytes
+/// where that isn't 0.
 pub(crate) fn run_once<R: Threads + Wait + Sync>(
     rt: &R,
     alloc: Global,

@@ -4,7 +4,8 @@ use crate::readings::number;
 use crate::refusals::Refused;
 use std::alloc::{AllocError, Global};
 
-// Where a case and its section name none. The answer is the same for all. Reads give all that fit, or one byte each.
+// Where a case and its section name none. The answer is the same for all. Reads give all that fit,
+// or one byte each.
 const TASKS: &str = "1 2 5 65536";
 
 const RINGS: &str = "1 64";
@@ -58,7 +59,8 @@ fn cuts(alloc: Global, fields: &Fields<'_>) -> Result<Vec<u64>, Refused> {
     Ok(sizes)
 }
 
-// The sizes of one kind: those that are named, or the usual ones; none where the words have one, or are of no run.
+// The sizes of one kind: those that are named, or the usual ones; none where the words have one, or
+// are of no run.
 fn tried<'a>(
     alloc: Global,
     fields: &Fields<'a>,

@@ -1,4 +1,5 @@
-// What a text of a file of cases says, byte by byte: its escapes, its repetitions and the texts that it names.
+// What a text of a file of cases says, byte by byte: its escapes, its repetitions and the texts
+// that it names.
 use crate::names::Names;
 use crate::refusals::{Cause, Refused};
 use std::alloc::Global;

@@ -19,9 +19,9 @@ pub struct Counts {
     pub failed: u64,
 }
 
-/// Tries the cases of a file of this name and text. For each that fails a line of the report says what came in its first run that
-/// isn't as it has to be, and what is wanted. A file is refused at its first line that isn't as the format wants it; what stands before that
-/// was tried.
+/// Tries the cases of a file of this name and text. For each that fails a line of the report says
+/// what came in its first run that isn't as it has to be, and what is wanted. A file is refused at
+/// its first line that isn't as the format wants it; what stands before that was tried.
 pub fn try_cases<R: Threads + Wait + Sync>(
     rt: &R,
     alloc: Global,

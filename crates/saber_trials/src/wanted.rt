@@ -181,7 +181,8 @@ fn wanted_text(
     }
 }
 
-// What becomes of the note: there is none with status 0, and it is whole where its write doesn't fail.
+// What becomes of the note: there is none with status 0, and it is whole where its write doesn't
+// fail.
 fn noted_of(status: u64, fields: &Fields<'_>) -> Noted {
     if status == 0 {
         return Noted::Nothing;

@@ -1,4 +1,5 @@
 mod Lemmas
+mod KindLaws
 mod PastLaws
 mod Alike
 mod FreeSteps

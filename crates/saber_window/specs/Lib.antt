@@ -1,3 +1,4 @@
+pub mod Kinds
 pub mod Frames
 pub mod Points
 pub mod Laws

@@ -95,9 +95,9 @@ fn windows_at(slide: u64, size: u64, point: u64, stretch: &mut Stretch) -> (u64,
     windows_anew(slide, size, point, stretch)
 }
 
-/// The windows of a plan, with those of the row of each side that was asked for last: rows that come one
-/// after another mostly lie in the same ones, and then cost no division. Contracts see it as the
-/// plan's frame.
+/// The windows of a plan, with those of the row of each side that was asked for last: rows that
+/// come one after another mostly lie in the same ones, and then cost no division. Contracts see it
+/// as the plan's frame.
 #[derive(Drop)]
 pub struct Lately {
     windowed: Windowed,

@@ -12,8 +12,8 @@ pub fn closed_within_begun()
     closed_are_begun();
 }
 
-/// A window of one stream that ends at a row or before it has neither that row nor a later one, where
-/// timestamps do not fall.
+/// A window of one stream that ends at a row or before it has neither that row nor a later one,
+/// where timestamps do not fall.
 pub fn past_have_none()
     ensures { PastHaveNone }
 {

@@ -1,11 +1,12 @@
 //! The arithmetic of windows: which have a point or a row, and how many are begun and closed.
-//! Panes, groups, joins and dispatch ask it for all that they do with windows.
+//! Panes, the operators of groups, joins and windowed selections, and dispatch ask it for all that
+//! they do with windows.
 //!
 //! - Parts: `counts` and `points` (windows up to a point, and of one), `marks` (points of rows, and
-//!   marks behind them), `plans` (straight from a plan), `windowed` and `plan_windows` (`Windows`, made
-//!   once a task), `steps` and `slices` (where rows of the same windows end), `lately` (windows
-//!   kept till a row leaves them), `frees` (how far back a task looks), `tasks` (windows in
-//!   two tasks), `laws`.
+//!   marks behind them), `plans` (straight from a plan), `windowed` and `plan_windows` (`Windows`,
+//!   made once a task), `bounds` (what a window is to a task), `steps` and `slices` (where rows of
+//!   the same windows end), `lately` (windows kept till a row leaves them), `frees` (how far back a
+//!   task looks), `tasks` (windows in two tasks), `laws`.
 //! - Calls: `Windows::of_plan` takes a checked plan; of it `closed_below` and `begun_below` take a
 //!   mark and count windows, `row_windows` takes a row and the mark before it and gives the first
 //!   window that has it and the one behind the last, `slice_end` tells where a slice ends.
@@ -18,6 +19,7 @@
 //! - Limits: fewer than `2^63` rows a side; block numbers below `2^42` for `free_of`.
 #![tactic(auto)]
 
+mod bounds;
 mod counts;
 mod frees;
 mod lately;
@@ -31,6 +33,7 @@ mod steps;
 mod tasks;
 mod windowed;
 
+pub use bounds::Bounds;
 pub use frees::free_of;
 pub use lately::Lately;
 pub use laws::{closed_within_begun, past_have_none, stamps_fit};

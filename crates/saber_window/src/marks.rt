@@ -44,8 +44,8 @@ pub fn point(measure: Measure, r: &RowRef, before: &Mark) -> u64
     }
 }
 
-/// The mark after one more row: one row more on its side, and its timestamp as the last. A row that fits
-/// its stream has one that is low enough (`stamps_fit`).
+/// The mark after one more row: one row more on its side, and its timestamp as the last. A row that
+/// fits its stream has one that is low enough (`stamps_fit`).
 #[inline]
 pub fn step_mark(m: &Mark, r: &RowRef) -> Mark
     requires left { m.now.left < 2 ^ 63 }
@@ -70,7 +70,8 @@ pub fn step_mark(m: &Mark, r: &RowRef) -> Mark
     }
 }
 
-/// The mark after some rows of the left stream, from one up to another: the steps over all of them at once.
+/// The mark after some rows of the left stream, from one up to another: the steps over all of them
+/// at once.
 #[inline]
 pub fn mark_behind(m: &Mark, rows: &Rows, from: usize, end: usize) -> Mark
     requires more { from < end }

@@ -6,9 +6,11 @@ ghost use Rattle.saber_plan.specs.Answers.{frame};
 ghost use Rattle.saber_plan.specs.Checked.{IsChecked};
 ghost use Rattle.saber_plan.specs.Windows.{Fits, Ordered, begun, begun_count, closed, closed_count, has, kind_of, past_count};
 ghost use Rattle.saber_plan.specs.Needs.{first_window, last_window, past_window};
+ghost use Rattle.saber_window.specs.Kinds.{AreBounds};
 ghost use Rattle.saber_window.specs.Timed.{IsTimed};
 ghost use Rattle.saber_window.specs.Together.{IsLeft, LieTogether};
 
+use crate::bounds::Bounds;
 use crate::counts::{count_reached, count_to};
 use crate::laws::closed_within_begun;
 use crate::marks::point;
@@ -20,8 +22,8 @@ use saber_laws::{begun_are_counted, checked_fit, closed_are_counted};
 use saber_plan::{Kind, Mark, Measure, Plan, Side};
 use std::marker::Model;
 
-/// The windows of a checked plan: one slide, and the size of each stream's windows. It is made once for
-/// a task, so that a row costs no walk through the plan. Contracts see it as the plan's frame.
+/// The windows of a checked plan: one slide, and the size of each stream's windows. It is made once
+/// for a task, so that a row costs no walk through the plan. Contracts see it as the plan's frame.
 #[derive(Clone, Copy)]
 pub struct Windows {
     windowed: Windowed,
@@ -54,8 +56,8 @@ impl Windows {
         }
     }
 
-    /// Whether they are those of a join by time: which of them a row lies in is then told by its timestamp and its side, so
-    /// that of rows in order the last one tells of all.
+    /// Whether they are those of a join by time: which of them a row lies in is then told by its
+    /// timestamp and its side, so that of rows in order the last one tells of all.
     pub fn go_by_time(&self) -> bool
         ensures { result ≡ true → IsTimed self.now }
     {
@@ -153,6 +155,20 @@ impl Windows {
         }
     }
 
+    /// What windows are to a task of the rows after mark a, up to mark b: of each that isn't closed
+    /// at a and is begun at b, what part lies in the task.
+    pub fn bounds(&self, a: &Mark, b: &Mark) -> Bounds
+        ensures { AreBounds self.now a.now b.now result }
+    {
+        let _windowed = &self.windowed;
+        begun_are_counted();
+        closed_are_counted();
+        Bounds {
+            begun_before: self.begun_below(a),
+            closed_after: self.closed_below(b),
+        }
+    }
+
     /// What part of window i lies in a task's rows, as the function of this name.
     pub fn kind_of(&self, i: u64, a: &Mark, b: &Mark) -> Option<Kind>
         ensures kind { result ≡ kind_of self.now i a.now b.now }
@@ -161,23 +177,12 @@ impl Windows {
         if i < self.closed_below(a) || i >= self.begun_below(b) {
             return None;
         }
-        let begun_before = i < self.begun_below(a);
-        if i < self.closed_below(b) {
-            return Some(if begun_before {
-                Kind::Closing
-            } else {
-                Kind::Complete
-            });
-        }
-        Some(if begun_before {
-            Kind::Pending
-        } else {
-            Kind::Opening
-        })
+        Some(self.bounds(a, b).kind(i))
     }
 
-    /// The first window that has a row, where the mark tells of the rows before it. It has the row only if
-    /// it is below the one of `past_window`. It is 0 for a row of a stream that has no windows.
+    /// The first window that has a row, where the mark tells of the rows before it. It has the row
+    /// only if it is below the one of `past_window`. It is 0 for a row of a stream that has no
+    /// windows.
     #[inline]
     pub fn first_window(&self, r: &RowRef, before: &Mark) -> u64
         ensures { result ≡ first_window self.now (record { row = r.now; before = before.now }) }
@@ -204,8 +209,8 @@ impl Windows {
         }
     }
 
-    /// The window after the last one that has the row: how many windows begin at most there. Counts below
-    /// 2^63 leave room for it.
+    /// The window after the last one that has the row: how many windows begin at most there. Counts
+    /// below 2^63 leave room for it.
     #[inline]
     pub fn past_window(&self, r: &RowRef, before: &Mark) -> u64
         requires left { before.now.left < 2 ^ 63 }
@@ -266,8 +271,8 @@ impl Windows {
         (self.first_window(r, before), self.past_window(r, before))
     }
 
-    /// Where some rows end that lie in the same windows, from row `from` on. They are as many as there are, if
-    /// there is one stream. No row of them needs a division to tell its windows.
+    /// Where some rows end that lie in the same windows, from row `from` on. They are as many as
+    /// there are, if there is one stream. No row of them needs a division to tell its windows.
     pub fn slice_end(&self, rows: &Rows, from: usize, before: &Mark) -> usize
         requires there { from < length rows.now }
         requires small { before.now.left < 2 ^ 63 }
@@ -305,8 +310,8 @@ impl Windows {
         if first < past { Some(past - 1) } else { None }
     }
 
-    /// Window i ends at the row or before it: neither the row nor a later one of its stream is in it,
-    /// where timestamps do not fall (`past_have_none`).
+    /// Window i ends at the row or before it: neither the row nor a later one of its stream is in
+    /// it, where timestamps do not fall (`past_have_none`).
     #[inline]
     pub fn is_past(&self, i: u64, r: &RowRef, before: &Mark) -> bool
         ensures { result ≡ nat_lt i (first_window self.now (record { row = r.now; before = before.now })) }

@@ -35,7 +35,8 @@ fn is_below(until: u64, rows: &Rows, last: usize, ahead: usize) -> bool
     ahead < rows.len() - last && stamp(&rows.row(last + ahead)) < until
 }
 
-// A row behind such a one, or that row. It looks twice as far ahead each time, until that is too far, and then half as far.
+// A row behind such a one, or that row. It looks twice as far ahead each time, until that is too
+// far, and then half as far.
 fn last_below(until: u64, rows: &Rows, from: usize) -> usize
     requires { IsBelow until rows.now from }
     ensures from { from ≤ result }

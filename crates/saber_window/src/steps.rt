@@ -2,7 +2,8 @@
 ghost use Rattle.std.specs.Prelude.{◌^◌, ◌<◌, ◌≤◌};
 ghost use Rattle.saber_window.specs.Together.{CountsAlike};
 
-// The first point behind one at which more of first, first + slide, first + 2 * slide .. are reached.
+// The first point behind one at which more of first, first + slide, first + 2 * slide .. are
+// reached.
 #[inline]
 fn next_step(slide: u64, first: u64, far: u64) -> u64
     requires slide { 1 ≤ slide }

@@ -4,8 +4,8 @@ ghost use Rattle.saber_window.specs.Tasks.{may_lie_in_two};
 
 use saber_plan::{Measure, Window};
 
-/// Whether windows overlap, and many lie whole in two tasks of so many rows, one behind the other, and not in
-/// one. Of a window by time no number of rows tells that, and it is taken for granted.
+/// Whether windows overlap, and many lie whole in two tasks of so many rows, one behind the other,
+/// and not in one. Of a window by time no number of rows tells that, and it is taken for granted.
 pub fn may_lie_in_two(window: &Window, task: u32) -> bool
     ensures { result ≡ may_lie_in_two window.now task }
 {

@@ -63,7 +63,8 @@ fn walked(
     Ok(out)
 }
 
-// Windows that have answers, how many are closed, and what they gain and lose: `0: 4 4 | 1: 4 / 2 = 0,4;0,4; = 1,4;`.
+// Windows that have answers, how many are closed, and what they gain and lose: `0: 4 4 | 1: 4 / 2 =
+// 0,4;0,4; = 1,4;`.
 fn check_walk(rt: &impl Abort, alloc: Global, line: &str) -> Result<(), NoMemory> {
     let (given, wanted) = cut(rt, line, '=');
     let (windows, closed) = cut(rt, given, '/');

@@ -1,5 +1,9 @@
-//! Tests of what operators stand on, by its public calls: windows, parts and their panes, and what windows gain and lose. A table is one
-//! text, a line for each case: what is given, `=`, and what is wanted, which was worked out by hand from the rules.
+//! Tests of what operators stand on, by its public calls: windows, parts and what windows gain.
+//! A table is one text, a line for each case: what is given, `=`, and what is wanted, which was
+//! worked out by hand from the rules.
+//!
+//! - Parts: `windows`, `parts` (of groups), `panes`, `changes` (gained and lost); `plans` and
+//!   `texts` are what the tables are made of.
 #![tactic(auto)]
 
 #[cfg(test)]

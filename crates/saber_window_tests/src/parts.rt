@@ -389,7 +389,8 @@ fn check_pile(rt: &impl Abort, alloc: Global, plan: &Plan, line: &str) -> Result
     Ok(())
 }
 
-// Eight groups, and then two of their keys and one key more twice, are three lists. With four groups more all become one list.
+// Eight groups, and then two of their keys and one key more twice, are three lists. With four
+// groups more all become one list.
 const PILES: &str = "\
 0,5,1 0,90,1000 / 0,80,8 0,10,1 1,70,7 1,20,2 2,60,6 2,30,3 3,50,5 3,40,4 | 4,20,100 4,30,200 | 5,90,9 | 5,90,9 \
 = 0,5,1;0,10,1;0,20,102;0,30,203;0,40,4;0,50,5;0,60,6;0,70,7;0,80,8;0,90,1018;\

@@ -1,4 +1,5 @@
-// Plans of queries that are told as texts, over a stream S of three columns: a time t, a key g and a number v.
+// Plans of queries that are told as texts, over a stream S of three columns: a time t, a key g and
+// a number v.
 ghost use Rattle.std.specs.Prelude.{IfOk};
 ghost use Rattle.saber_plan.specs.declared.plans.Shape.TheVariants as shapes;
 ghost use Rattle.saber_plan.specs.Checked.{IsChecked};

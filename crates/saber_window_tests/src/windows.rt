@@ -197,7 +197,8 @@ fn great_windows_close(rt: HostRuntime) -> Result<(), Fail> {
     Ok(())
 }
 
-// A join closes a window when both of its streams do. Window 0 has the right rows 0 to 2, and window 4 the left row 4.
+// A join closes a window when both of its streams do. Window 0 has the right rows 0 to 2, and
+// window 4 the left row 4.
 #[test]
 fn both_streams_close_windows(rt: HostRuntime) -> Result<(), Fail> {
     let left = window(Measure::Rows, 2, 1);
@@ -370,7 +371,8 @@ fn check_rows_lately(
     Ok(())
 }
 
-// Left windows are 0 to 3, 4 to 7, 8 to 11, and right ones 0 to 5, 4 to 9, 8 to 13: rows of both sides, of which the last two go back.
+// Left windows are 0 to 3, 4 to 7, 8 to 11, and right ones 0 to 5, 4 to 9, 8 to 13: rows of both
+// sides, of which the last two go back.
 const LATELY: &str = "\
 A 5 = 1 2
 B 5 = 0 2

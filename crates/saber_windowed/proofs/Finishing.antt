@@ -15,15 +15,15 @@ use Rattle.saber_plan.specs.Needs.{is_closing, is_pending, is_opening, of_kind, 
 use Rattle.saber_plan.specs.GivenRows.{RowsFit}
 use Rattle.saber_plan.specs.Shares.{is_closed, shares_here, handed_here}
 use Rattle.saber_plan.specs.Facts.Numbers.{flat_map-from, flat_filter, numbered_is}
-use Rattle.saber_laws.specs.Windows.{ClosedAreCounted, BegunAreCounted, BegunStay}
+use Rattle.saber_laws.specs.Windows.{BegunStay}
 use Rattle.saber_laws.specs.Ends.{EndsBeginNone}
 use Rattle.saber_laws.specs.Needs.{RowsSpan}
 use Rattle.saber_laws.specs.Plans.{OneWindow}
 use Rattle.saber_window.specs.Laws.{ClosedWithinBegun}
 use Rattle.saber_fragment.specs.Shown.{windows_by}
-use Rattle.saber_parts.specs.declared.bounds.Bounds.{Bounds}
-use Rattle.saber_parts.specs.Kinds.{kind_in}
-use Rattle.saber_parts.specs.WindowFacts.{entry_is, kind_is}
+use Rattle.saber_window.specs.declared.bounds.Bounds.{Bounds}
+use Rattle.saber_window.specs.Kinds.{kind_in, AreBounds}
+use Rattle.saber_parts.specs.WindowFacts.{entry_is}
 use Rattle.saber_parts.specs.Entries.{entry_if}
 use Rattle.saber_windowed.specs.Found.{Found, part_of, values_in, lines_for}
 use Rattle.saber_windowed.specs.Open.{seen_windows, found_here, HoldsTask}
@@ -34,21 +34,14 @@ use Rattle.saber_windowed.proofs.Spread.{seen, rows_among_in, by_number}
 use Rattle.saber_windowed.proofs.Beginning.{none_begun}
 use Rattle.saber_windowed.proofs.Answering.{rows_part, lines_of_part}
 
--- what is known of the bounds of a task
-pub record AreBounds (q : Tree) (a z : Mark) (b : Bounds) : Type 0 where
-  pub begun_before : b.begun_before ≡ begun_count (frame q) a
-  pub closed_after : b.closed_after ≡ closed_count (frame q) z
-
 -- the laws that a task's end rests on
 pub record Laws : Type 0 where
-  pub closed_are : ClosedAreCounted
-  pub begun_are : BegunAreCounted
   pub stay : BegunStay
   pub within : ClosedWithinBegun
   pub begins : EndsBeginNone
   pub span : RowsSpan
 
-module _ (laws : Laws) (q : Tree) (e : q.shape ≡ Select) (w : OneWindow q) (fits : Fits (frame q)) (m : Mark) (rows : List Row) (ended : Bool) (h : RowsFit q m rows) (b : Bounds) (given : AreBounds q m (ending ended (mark_after m rows)) b)
+module _ (laws : Laws) (q : Tree) (e : q.shape ≡ Select) (w : OneWindow q) (fits : Fits (frame q)) (m : Mark) (rows : List Row) (ended : Bool) (h : RowsFit q m rows) (b : Bounds) (given : AreBounds (frame q) m (ending ended (mark_after m rows)) b)
     (es : List (ℕ × List Found)) (sorted : T (is_sorted nat_cmp (seen es))) (holds : HoldsTask q m rows (seen_windows es)) where
   abbrev z : Mark
   z = ending ended (mark_after m rows)
@@ -73,7 +66,7 @@ module _ (laws : Laws) (q : Tree) (e : q.shape ≡ Select) (w : OneWindow q) (fi
   ends i l = none_begun laws.span laws.stay q w fits m rows h.ordered i (subst (λ k. k ≤ i) (sym begins) l)
 
   kind : (i : ℕ) → c ≤ i → i < c + (n - c) → Some (kind_in b i) ≡ kind_of (frame q) i m z
-  kind i l r = let up = within in kind_is laws.closed_are laws.begun_are (frame q) fits m z b given.begun_before given.closed_after i l (omega (arith, l, r, up))
+  kind i l r = let up = within in given.kinds i l (omega (arith, l, r, up))
 
   -- the part of window i
   part_is : (i : ℕ) → part_of (at i) ≡ part_here q i m [] rows

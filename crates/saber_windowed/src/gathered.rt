@@ -10,8 +10,9 @@ ghost use Rattle.saber_windowed.specs.Entries.{lines_if, Gave, HandedOn};
 
 use crate::picked::Picked;
 use saber_fragment::Parts;
-use saber_parts::{Bounds, Gathered};
+use saber_parts::Gathered;
 use saber_plan::{Kind, NoMemory};
+use saber_window::Bounds;
 use std::alloc::Global;
 use std::collections::BTreeMap;
 

@@ -2,10 +2,11 @@
 ghost use Rattle.std.specs.Prelude.{◌≡◌, [], IfOk};
 ghost use Rattle.saber_plan.specs.Trees.{tree_of};
 ghost use Rattle.saber_plan.specs.Answers.{frame};
-ghost use Rattle.saber_plan.specs.Windows.{mark_after, ending, closed_count, begun_count};
+ghost use Rattle.saber_plan.specs.Windows.{mark_after, ending};
 ghost use Rattle.saber_plan.specs.GivenRows.{RowsFit};
 ghost use Rattle.saber_plan.specs.Shares.{shares_here, handed_here};
 ghost use Rattle.saber_fragment.specs.Shown.{shares_of};
+ghost use Rattle.saber_window.specs.Kinds.{AreBounds};
 ghost use Rattle.saber_windowed.specs.Found.{part_of};
 ghost use Rattle.saber_windowed.specs.Open.{seen_windows, HoldsTask};
 
@@ -13,10 +14,9 @@ use crate::gathered::{gather, handed_on};
 use crate::picked::Picked;
 use crate::select::WindowedSelect;
 use saber_fragment::{Block, Piece};
-use saber_laws::{begun_are_counted, begun_stay, closed_are_counted, ends_begin_none, rows_span};
-use saber_parts::Bounds;
+use saber_laws::{begun_stay, ends_begin_none, rows_span};
 use saber_plan::NoMemory;
-use saber_window::{closed_within_begun, ending};
+use saber_window::{Bounds, closed_within_begun, ending};
 use std::alloc::Global;
 use std::collections::BTreeMap;
 
@@ -30,17 +30,13 @@ impl WindowedSelect<'_> {
     ) -> Result<(BTreeMap<u64, Picked>, Bounds), NoMemory>
         requires { RowsFit (tree_of self.now) own.now.before own.now.rows }
         ensures windows { IfOk result (λ r. HoldsTask (tree_of self.now) own.now.before own.now.rows (seen_windows r.0.entries)) }
-        ensures begun { IfOk result (λ r. r.1.begun_before ≡ begun_count (frame (tree_of self.now)) own.now.before) }
-        ensures closed { IfOk result (λ r. r.1.closed_after
-            ≡ closed_count (frame (tree_of self.now)) (ending own.now.ended (mark_after own.now.before own.now.rows))) }
+        ensures bounds { IfOk result (λ r. AreBounds (frame (tree_of self.now)) own.now.before
+            (ending own.now.ended (mark_after own.now.before own.now.rows)) r.1) }
     {
         let before = own.before;
         let found = self.windows_of(alloc, &before, &own.rows)?;
         let after = ending(own.ended, &found.1);
-        let bounds = Bounds {
-            begun_before: self.begun_below(&before),
-            closed_after: self.closed_below(&after),
-        };
+        let bounds = self.bounds(&before, &after);
         Ok((found.0, bounds))
     }
 
@@ -50,9 +46,7 @@ impl WindowedSelect<'_> {
         ensures { IfOk result (λ p. shares_of part_of p ≡ shares_here (tree_of self.now) own.now.before [] own.now.rows own.now.ended) }
     {
         self.has_window();
-        begun_are_counted();
         begun_stay();
-        closed_are_counted();
         closed_within_begun();
         ends_begin_none();
         rows_span();
@@ -70,9 +64,7 @@ impl WindowedSelect<'_> {
         ensures { IfOk result (λ p. shares_of part_of p ≡ handed_here (tree_of self.now) own.now.before [] own.now.rows own.now.ended) }
     {
         self.has_window();
-        begun_are_counted();
         begun_stay();
-        closed_are_counted();
         closed_within_begun();
         ends_begin_none();
         rows_span();

@@ -10,13 +10,14 @@ ghost use Rattle.saber_plan.specs.Answers.{frame, items_over};
 ghost use Rattle.saber_plan.specs.GivenRows.{IsRowOf};
 ghost use Rattle.saber_laws.specs.Plans.{OneWindow};
 ghost use Rattle.saber_eval.specs.Widths.{widths};
+ghost use Rattle.saber_window.specs.Kinds.{AreBounds};
 ghost use Rattle.saber_windowed.specs.Words.{HasWord};
 
 use saber_eval::{holds, one_stream_fits, value};
 use saber_flat::RowRef;
 use saber_laws::{checked_fit, words_have_one_window};
 use saber_plan::{Expr, Mark, NoMemory, Plan};
-use saber_window::{Lately, Windows, stamps_fit, step_mark};
+use saber_window::{Bounds, Lately, Windows, stamps_fit, step_mark};
 use std::marker::Model;
 
 /// A checked selection with a stream word, over its plan: what each of its operators makes of rows.
@@ -132,12 +133,12 @@ impl<'a> WindowedSelect<'a> {
         self.windows.closed_below(mark)
     }
 
-    /// How many windows are begun by them.
-    pub(crate) fn begun_below(&self, mark: &Mark) -> u64
-        ensures { result ≡ w.begun_count (frame (tree_of self.now)) mark.now }
+    /// What windows are to a task of the rows after mark a, up to mark b.
+    pub(crate) fn bounds(&self, a: &Mark, b: &Mark) -> Bounds
+        ensures { AreBounds (frame (tree_of self.now)) a.now b.now result }
     {
         let _plan = &self.plan;
-        self.windows.begun_below(mark)
+        self.windows.bounds(a, b)
     }
 
     /// The mark after one more row.

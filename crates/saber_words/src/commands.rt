@@ -97,13 +97,15 @@ pub struct Many<'a> {
 /// A command of the program.
 #[derive(Clone, Copy, Debug, PartialEq, Eq)]
 pub enum Command<'a> {
-    /// `run QUERY LEFT [RIGHT] [--task N] [--ring B] [--threads T] [--max-lines M] [--slack S] [--final]`
+    /// `run QUERY LEFT [RIGHT] [--task N] [--ring B] [--threads T] [--max-lines M] [--slack S]
+    /// [--final]`
     Run(Run<'a>),
     /// `check QUERY`
     Check(Check<'a>),
     /// `demo SEED ROWS [--task N] [--ring B] [--threads T]`
     Demo(Demo),
-    /// `chain QUERY1 QUERY2 LEFT [RIGHT] [--task N] [--ring B] [--threads T] [--max-lines M] [--slack S]`
+    /// `chain QUERY1 QUERY2 LEFT [RIGHT] [--task N] [--ring B] [--threads T] [--max-lines M]
+    /// [--slack S]`
     Chain(Chain<'a>),
 }
 

@@ -16,8 +16,8 @@ use clap::{Arg, ArgMatches};
 use std::alloc::{AllocError, Global};
 
 /// The command that `words` ask for, of which the first is the name of the program. The words are a
-/// command exactly where `clap` takes them for the program's table of commands (this project's rule).
-/// Every other refusal than for want of memory is `Usage`.
+/// command exactly where `clap` takes them for the program's table of commands (this project's
+/// rule). Every other refusal than for want of memory is `Usage`.
 pub fn read_words<'a>(alloc: Global, words: &'a [&'a str]) -> Result<Command<'a>, WordsFault>
     ensures taken { IfOk result (λ command.
         command_of (map (λ word. word.now) words.entry.now) ≡ Some (asked command)) }

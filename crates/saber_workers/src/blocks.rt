@@ -100,7 +100,8 @@ fn look_back_all<W: Work, L: Labor<W>>(
     LookBack::In
 }
 
-/// What is in hand after some blocks were read, and the block that another seat reads, if that ended it.
+/// What is in hand after some blocks were read, and the block that another seat reads, if that
+/// ended it.
 pub(crate) struct Gone<W: Work, D> {
     pub(crate) held: InHand<W, D>,
     pub(crate) waits: Option<u64>,

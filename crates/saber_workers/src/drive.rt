@@ -76,7 +76,8 @@ fn drain<W: Work, L: Labor<W>>(
     while take_next(alloc, seat, ring, op, turn) {}
 }
 
-/// Wins the turn if it is free, absorbs what is there, and gives the turn back. True where the stage is stopped.
+/// Wins the turn if it is free, absorbs what is there, and gives the turn back. True where the
+/// stage is stopped.
 pub(crate) fn drive<W: Work, L: Labor<W>>(
     alloc: Global,
     seat: &mut Seat<W>,

@@ -25,8 +25,8 @@ impl<W: Work, D> InHand<W, D> {
     }
 }
 
-/// The next task to ask for, and the job in hand. A job that waits for a block which another seat reads
-/// stays in hand until a later turn.
+/// The next task to ask for, and the job in hand. A job that waits for a block which another seat
+/// reads stays in hand until a later turn.
 pub struct Hand<W: Work, D> {
     pub cursor: u64,
     pub(crate) held: InHand<W, D>,

@@ -6,8 +6,9 @@ ghost use Rattle.saber_workers.specs.Labors.{IsOwn, Begins, CanLookBack, LooksBa
 use saber_core::Work;
 use std::alloc::Global;
 
-/// What makes the pieces of a work's tasks, and takes them into its stage. A task's piece is made from
-/// the task's own block and then from those before it, from the first that it needs on, one by one.
+/// What makes the pieces of a work's tasks, and takes them into its stage. A task's piece is made
+/// from the task's own block and then from those before it, from the first that it needs on, one by
+/// one.
 pub trait Labor<W: Work> {
     /// A task's piece in the making.
     type Draft: Drop;
@@ -37,8 +38,8 @@ pub trait Labor<W: Work> {
         requires { CanFinish W.upto (suits self.now) (has_blocks self.now) draft }
         ensures { Finishes W.upto (suits self.now) (has_blocks self.now) W.is_piece draft result };
 
-    /// Takes a piece, or the mark of want of memory, into the stage. True where the stage goes on, with
-    /// one task more behind it.
+    /// Takes a piece, or the mark of want of memory, into the stage. True where the stage goes on,
+    /// with one task more behind it.
     fn absorb(&self, alloc: Global, stage: &mut W::Stage, piece: Option<W::Piece>) -> bool
         requires { IsNext W.upto W.is_piece W.is_stage (suits self.now) stage.old piece }
         ensures none { piece ≡ None → result ≡ false }

@@ -15,7 +15,8 @@ use saber_io::Gate;
 use saber_ring::{Ring, Seat};
 use std::alloc::Global;
 
-// One claim for each filled task. What is claimed has all its blocks at home, since no other seat is out.
+// One claim for each filled task. What is claimed has all its blocks at home, since no other seat
+// is out.
 fn claim_all<W: Work, L: Labor<W>, G: Gate>(
     alloc: Global,
     seat: &mut Seat<W>,

@@ -60,8 +60,8 @@ fn claim_next<W: Work, L: Labor<W>, G: Gate>(
     }
 }
 
-/// What a turn of work did: whether it claimed a task, the block that it waits for since another seat
-/// reads it, and whether it found or left the stage stopped.
+/// What a turn of work did: whether it claimed a task, the block that it waits for since another
+/// seat reads it, and whether it found or left the stage stopped.
 #[derive(Clone, Copy)]
 pub struct Turned {
     pub claimed: bool,
@@ -128,8 +128,8 @@ pub(crate) fn work_on<W: Work, L: Labor<W>, G: Gate>(
     }
 }
 
-/// One turn: claims a task where no job is in hand, reads what the job needs, as far as no other seat
-/// reads it, hands the piece in once all is there, and makes one try to drive the stage.
+/// One turn: claims a task where no job is in hand, reads what the job needs, as far as no other
+/// seat reads it, hands the piece in once all is there, and makes one try to drive the stage.
 pub fn turn_of_work<W: Work, L: Labor<W>, G: Gate>(
     alloc: Global,
     seat: &mut Seat<W>,

@@ -17,8 +17,8 @@ use std::alloc::Global;
 use std::sync::Wait;
 use std::sync::atomic::{AtomicBool, Ordering};
 
-// Waits where the turn found nothing to do: no task to claim, none that it could pass over, or a block
-// that another seat reads.
+// Waits where the turn found nothing to do: no task to claim, none that it could pass over, or a
+// block that another seat reads.
 fn pause<R: Wait>(rt: &R, idle: &mut Pause, turned: &Turned, has_moved: bool) {
     if turned.claimed && turned.held.is_none() || has_moved {
         idle.reset();
@@ -120,8 +120,8 @@ fn read_all<W: Work, L: Labor<W>, G: Gate, R: Wait>(
     unreachable!()
 }
 
-/// Turns of work by a seat until `stop` is set, and then what is left of the job in hand. Who finds the
-/// stage stopped sets it.
+/// Turns of work by a seat until `stop` is set, and then what is left of the job in hand. Who finds
+/// the stage stopped sets it.
 pub fn work_lent<W: Work, L: Labor<W>, G: Gate, R: Wait>(
     rt: &R,
     alloc: Global,

@@ -1,4 +1,5 @@
-// Seats round a ring, interleaved by hand. Each task needs the two before it. What more seats come to, the runs with threads show.
+// Seats round a ring, interleaved by hand. Each task needs the two before it. What more seats come
+// to, the runs with threads show.
 use super::{
     Adding, Nothing, advance, end, firsts, is_full, is_held, is_not_ready, is_stopped, put,
     take_next, work,
@@ -88,7 +89,8 @@ fn three_seats_add_up(rt: HostRuntime) -> Result<(), Fail> {
     Ok(())
 }
 
-// Both tasks need block 0, which is out with one of them as the other one hands in the mark: the stage stops for good.
+// Both tasks need block 0, which is out with one of them as the other one hands in the mark: the
+// stage stops for good.
 #[test]
 fn a_stop_comes_with_a_reader_out(rt: HostRuntime) -> Result<(), Fail> {
     let frees = firsts(&rt)?;

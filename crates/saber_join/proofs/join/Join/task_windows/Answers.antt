@@ -1,13 +1,14 @@
 use Rattle.std.proofs.Common.{◌≡◌, ◌++◌, ◌∙◌, ap, sym, subst, subst₂, nat_cmp}
 use Rattle.saber_plan.specs.declared.windows.Mark.{Mark}
 use Rattle.saber_plan.specs.Trees.{tree_of}
-use Rattle.saber_plan.specs.Windows.{mark_after, ending, closed_count, begun_count}
+use Rattle.saber_plan.specs.Windows.{mark_after, ending, closed_count}
 use Rattle.saber_plan.specs.Answers.{frame}
 use Rattle.saber_plan.specs.GivenRows.{RowsFit}
-use Rattle.saber_parts.specs.declared.bounds.Bounds.{Bounds}
+use Rattle.saber_window.specs.declared.bounds.Bounds.{Bounds}
+use Rattle.saber_window.specs.Kinds.{AreBounds}
 use Rattle.saber_join.specs.Open.{seen_parts, HoldsTask}
 use Rattle.saber_plan.specs.Facts.Trees.{sorted_seen}
-use Rattle.saber_join.proofs.Finishing.{Laws, AreBounds, of_task}
+use Rattle.saber_join.proofs.Finishing.{Laws, of_task}
 use Rattle.saber_join.proofs.Passing.{ends_there, rest_fits, holds_all}
 use Rattle.saber_join.proofs.join.Join.task_windows.Goals as goal
 
@@ -42,14 +43,9 @@ returns c s seen whole =
     let es = c.in_ok-found.found.0.entries in
     let before : d.before ≡ mark_after s.first s.back = seen.before ∙ whole.meets in
     let all : c.in_ok-found.found.1 ≡ mark_after (mark_after s.first s.back) s.rows = c.in_ok-found.ensures.last ∙ (λ j. mark_after (before j) (seen.rows j)) in
-    let b : Bounds = record { begun_before = c.begun_below.result; closed_after = c.closed_below.result } in
-    let given : AreBounds q (mark_after s.first s.back) (ending s.ended (mark_after (mark_after s.first s.back) s.rows)) b = record {
-      begun_before = c.begun_below.ensures ∙ ap (begun_count (frame q)) before;
-      closed_after = c.closed_below.ensures ∙ ap (closed_count (frame q)) (c.ending-after.ensures ∙ (λ j. ending (seen.ended j) (all j)));
-    } in
+    let b : Bounds = c.bounds-bounds.result in
+    let given : AreBounds (frame q) (mark_after s.first s.back) (ending s.ended (mark_after (mark_after s.first s.back) s.rows)) b = subst₂ (λ (m n : Mark). AreBounds (frame q) m n b) before (c.ending-after.ensures ∙ (λ j. ending (seen.ended j) (all j))) c.bounds-bounds.ensures in
     let laws : Laws = record {
-      closed_are = c.closed_are_counted.ensures;
-      begun_are = c.begun_are_counted.ensures;
       stay = c.begun_stay.ensures;
       within = c.closed_within_begun.ensures;
       begins = c.ends_begin_none.ensures;

@@ -1,11 +1,9 @@
 use Rattle.std.proofs.Common.{◌∙◌, nat_cmp}
 use Rattle.saber_plan.specs.Trees.{tree_of}
-use Rattle.saber_plan.specs.Windows.{mark_after, ending}
 use Rattle.saber_plan.specs.Facts.Trees.{sorted_seen}
 use Rattle.saber_fragment.specs.Shown.{windows_by}
-use Rattle.saber_parts.specs.declared.bounds.Bounds.{Bounds}
 use Rattle.saber_windowed.specs.Found.{part_of}
-use Rattle.saber_windowed.proofs.Finishing.{Laws, AreBounds, shares_are}
+use Rattle.saber_windowed.proofs.Finishing.{Laws, shares_are}
 use Rattle.saber_windowed.proofs.select.WindowedSelect.piece_of.Goals as goal
 
 pub returns : goal.returns
@@ -15,11 +13,7 @@ returns c =
     let w = c.has_window.ensures in
     let g = c.in_ok-gathered.gathered in
     let es = c.in_ok-found.found.0.entries in
-    let b : Bounds = c.in_ok-found.found.1 in
-    let given : AreBounds q own.before (ending own.ended (mark_after own.before own.rows)) b = record { begun_before = c.in_ok-found.ensures.begun; closed_after = c.in_ok-found.ensures.closed } in
     let laws : Laws = record {
-      closed_are = c.closed_are_counted.ensures;
-      begun_are = c.begun_are_counted.ensures;
       stay = c.begun_stay.ensures;
       within = c.closed_within_begun.ensures;
       begins = c.ends_begin_none.ensures;
@@ -32,4 +26,4 @@ returns c =
       lines = c.into_piece.ensures.text j;
       closed = c.into_piece.ensures.closed j;
     })
-    ∙ shares_are laws q w.select w.window w.fits own.before own.rows own.ended c.requires b given es (sorted_seen nat_cmp (λ k. k) (λ x. x) es c.len-count.ensures.ordered) c.in_ok-found.ensures.windows g.closing g.pending g.opening g.text.items c.in_ok-gathered.ensures
+    ∙ shares_are laws q w.select w.window w.fits own.before own.rows own.ended c.requires c.in_ok-found.found.1 c.in_ok-found.ensures.bounds es (sorted_seen nat_cmp (λ k. k) (λ x. x) es c.len-count.ensures.ordered) c.in_ok-found.ensures.windows g.closing g.pending g.opening g.text.items c.in_ok-gathered.ensures

@@ -1,7 +1,7 @@
 // What a window is to a task.
 use saber_plan::Kind;
 
-/// How many windows are begun before a task, and closed after it.
+/// How many windows are begun before a task, and closed after it (`Windows::bounds`).
 #[derive(Clone, Copy)]
 pub struct Bounds {
     /// Those that are begun before the task.
@@ -12,10 +12,10 @@ pub struct Bounds {
 
 impl Bounds {
     ghost use Rattle.std.specs.Prelude.{◌≡◌};
-    ghost use Rattle.saber_parts.specs.Kinds.{kind_in};
+    ghost use Rattle.saber_window.specs.Kinds.{kind_in};
 
-    /// What part of a window lies in the task, where that isn't closed before it (SABER 2016: the
-    /// kinds of fragments).
+    /// What part of a window lies in the task, where that isn't closed before it and is begun after
+    /// it (SABER 2016: the kinds of fragments).
     pub fn kind(&self, window: u64) -> Kind
         ensures { result ≡ kind_in self.now window }
     {
