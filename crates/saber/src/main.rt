@@ -42,7 +42,7 @@ fn fault(error: io::Error) -> WordsFault {
 }
 
 // The same words, lent.
-fn lent<'a>(alloc: Global, texts: &'a [String]) -> Result<Vec<&'a str>, WordsFault> {
+fn texts_of<'a>(alloc: Global, texts: &'a [String]) -> Result<Vec<&'a str>, WordsFault> {
     let mut words = Vec::new(alloc);
     for text in texts {
         if let Err(lacks) = words.push(text.as_str()) {
@@ -73,7 +73,7 @@ where
     F::Src: Send + Drop,
     ensures { Ends result (N.written notes.old) (N.written notes.new) }
 {
-    match lent(alloc, texts) {
+    match texts_of(alloc, texts) {
         Ok(words) => {
             let ended::Top { status, .. } = top(
                 rt, alloc, &words, files, outs, sink, notes, &OpenGate,

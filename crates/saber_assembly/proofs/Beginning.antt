@@ -1,6 +1,6 @@
 -- A stage before its first task.
 use Rattle.std.proofs.Common.{◌≡◌, ℕ, [], sym, ◌∙◌, ap, subst}
-use Rattle.saber_plan.specs.Outputs.{appended, appended-none}
+use Rattle.saber_plan.specs.Outputs.{appended_text, appended-none}
 use Rattle.saber_plan.specs.Inputs.{Input, going_on}
 use Rattle.saber_plan.specs.Trees.{Tree}
 use Rattle.saber_plan.specs.Answers.{text}
@@ -14,7 +14,7 @@ begins gives none q n r start taken s t written faults kept k run had =
     let no_rows : upto n r s.k ≡ going_on [] = ap (upto n r) k ∙ none n r in
     let nothing = gives q t.windows in
     let a : After q n r start s Running = (
-      written ∙ appended-none start.written ∙ ap (appended start.written) (sym (ap (text q) no_rows ∙ nothing.text)),
+      written ∙ appended-none start.written ∙ ap (appended_text start.written) (sym (ap (text q) no_rows ∙ nothing.text)),
       kept ∙ sym (ap (kept_behind q) no_rows ∙ nothing.kept),
       faults,
     ) in

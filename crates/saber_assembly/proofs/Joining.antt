@@ -6,7 +6,7 @@ use Rattle.saber_plan.specs.Inputs.{Input}
 use Rattle.saber_plan.specs.Trees.{Tree}
 use Rattle.saber_plan.specs.Tasks.{Stage, joined_to, PiecesMakeText}
 use Rattle.saber_core.specs.declared.events.Event.{Event}
-use Rattle.saber_core.specs.Machine.{fresh, given}
+use Rattle.saber_core.specs.Machine.{fresh, given_count}
 use Rattle.saber_core.specs.Runs.{state_after, IsOrderly}
 use Rattle.saber_assembly.specs.Gives.{joined_by, GivesMakeText}
 
@@ -30,6 +30,6 @@ joined_on q n r s (suc k) a =
 
 pub gives_joined : ((size seats : ℕ) (events : List Event) → IsOrderly (fresh size seats) events) → PiecesMakeText → GivesMakeText
 gives_joined orders make q e f n r o start size seats events =
-    let g = given (state_after (fresh size seats) events) in
+    let g = given_count (state_after (fresh size seats) events) in
     let s : Stage = record { written = start; parts = empty } in
     ap (joined_by q n r s) (orders size seats events).gives_in_order ∙ joined_on q n r s g 0 ∙ ap (joined_to q n r s) (from_zero g) ∙ make q e f n r o start g

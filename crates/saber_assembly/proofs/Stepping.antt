@@ -1,10 +1,10 @@
 -- One task more behind the stage.
 use Rattle.std.proofs.Common.{◌≡◌, ◌≢◌, ℕ, ◌≤◌, ◌+◌, ◌-◌, ◌^◌, min, List, ◌++◌, take, drop, Option, Some, None, refl, sym, ◌∙◌, ap, subst, arith, append_assoc, take-append-drop}
-use Rattle.saber_plan.specs.Outputs.{Rose, appended, AppendsPrefix}
+use Rattle.saber_plan.specs.Outputs.{Rose, appended_text, AppendsPrefix}
 use Rattle.saber_plan.specs.Trees.{Tree}
 use Rattle.saber_plan.specs.Answers.{text}
-use Rattle.saber_plan.specs.Tasks.{Kept, upto, kept_behind, cut, added}
-use Rattle.saber_plan.specs.Inputs.{Input, arrived}
+use Rattle.saber_plan.specs.Tasks.{Kept, upto, kept_behind, task_start, added_text}
+use Rattle.saber_plan.specs.Inputs.{Input, first_arrivals}
 use Rattle.saber_laws.specs.Ends.{CutsRise}
 use Rattle.saber_laws.specs.Pieces.{TextGoesOn}
 use Rattle.saber_plan.specs.Stages.{StageView, Start, Tasks, IsCutOff, After, Keeps}
@@ -12,7 +12,7 @@ use Rattle.saber_plan.specs.declared.stages.StageState.TheVariants.{Running, Sin
 use Rattle.saber_assembly.specs.declared.stage.Absorbed.{Absorbed}
 use Rattle.saber_assembly.specs.declared.stage.Absorbed.TheVariants.{Done, Stopped}
 
-appended_twice : (o : Option (List ℕ)) (xs ys : List ℕ) → appended (appended o xs) ys ≡ appended o (xs ++ ys)
+appended_twice : (o : Option (List ℕ)) (xs ys : List ℕ) → appended_text (appended_text o xs) ys ≡ appended_text o (xs ++ ys)
 appended_twice None xs ys = refl
 appended_twice (Some w) xs ys = ap Some (append_assoc w xs ys)
 
@@ -21,7 +21,7 @@ rose_since start old new h r = omega (arith, h, r)
 
 -- what the step made, and what the definitions say of it
 pub record Step (old new : StageView) (result : Absorbed) (more : List ℕ) (left : Kept) : Type 0 where
-  pub written : result ≡ Done → new.written ≡ appended old.written more
+  pub written : result ≡ Done → new.written ≡ appended_text old.written more
   pub leaves : result ≡ Done → new.kept ≡ left
   pub rises : result ≡ Done → new.k ≡ old.k + 1
   pub stopped : result ≡ Stopped → new.state ≢ Running
@@ -42,22 +42,22 @@ stopped_if Done h = absurd (h refl)
 stopped_if Stopped h = refl
 
 module _ (cuts : CutsRise) (goes : TextGoesOn) (q : Tree) (n : ℕ) (r : Input) (start : Start) (old new : StageView) (result : Absorbed)
-    (t : Tasks q n r) (a : After q n r start old Running) (h : Step old new result (added q r (cut n r old.k) (cut n r (old.k + 1))) (kept_behind q (upto n r (old.k + 1)))) where
+    (t : Tasks q n r) (a : After q n r start old Running) (h : Step old new result (added_text q r (task_start n r old.k) (task_start n r (old.k + 1))) (kept_behind q (upto n r (old.k + 1)))) where
   -- what the next task adds
   abbrev adds : List ℕ
-  adds = added q r (cut n r old.k) (cut n r (old.k + 1))
+  adds = added_text q r (task_start n r old.k) (task_start n r (old.k + 1))
 
-  rises : cut n r old.k ≤ cut n r (old.k + 1)
+  rises : task_start n r old.k ≤ task_start n r (old.k + 1)
   rises = cuts n r old.k (old.k + 1) (omega arith)
 
   step_text : text q (upto n r (old.k + 1)) ≡ text q (upto n r old.k) ++ adds
-  step_text = goes q t.windows r (cut n r old.k) (cut n r (old.k + 1)) t.fits.ordered rises
+  step_text = goes q t.windows r (task_start n r old.k) (task_start n r (old.k + 1)) t.fits.ordered rises
 
   runs_on : new.state ≡ Running → After q n r start new Running
   runs_on run =
       let d : result ≡ Done = done_if result (λ z. h.stopped z run) in
       let k : new.k ≡ old.k + 1 = h.rises d in (
-        h.written d ∙ ap (λ o. appended o adds) a.0 ∙ appended_twice start.written (text q (upto n r old.k)) adds ∙ ap (appended start.written) (sym step_text ∙ ap (λ j. text q (upto n r j)) (sym k)),
+        h.written d ∙ ap (λ o. appended_text o adds) a.0 ∙ appended_twice start.written (text q (upto n r old.k)) adds ∙ ap (appended_text start.written) (sym step_text ∙ ap (λ j. text q (upto n r j)) (sym k)),
         h.leaves d ∙ ap (λ j. kept_behind q (upto n r j)) (sym k),
         h.good (λ f. apart (sym run ∙ f)) ∙ a.2,
       )
@@ -69,7 +69,7 @@ module _ (cuts : CutsRise) (goes : TextGoesOn) (q : Tree) (n : ℕ) (r : Input) 
   cut_off k p =
       subst (λ j. IsCutOff q n r j start.written new.written) (sym k) (record {
         out = text q (upto n r old.k) ++ take p.0 adds;
-        written_is = p.2 ∙ ap (λ o. appended o (take p.0 adds)) a.0 ∙ appended_twice start.written (text q (upto n r old.k)) (take p.0 adds);
+        written_is = p.2 ∙ ap (λ o. appended_text o (take p.0 adds)) a.0 ∙ appended_twice start.written (text q (upto n r old.k)) (take p.0 adds);
         is_cut = record {
           more = take p.0 adds;
           rest = drop p.0 adds;
@@ -88,7 +88,7 @@ module _ (cuts : CutsRise) (goes : TextGoesOn) (q : Tree) (n : ℕ) (r : Input) 
       apart e = cc
 
   lacks : new.state ≡ NoMemory → After q n r start new NoMemory
-  lacks m = (h.memory m ∙ a.0 ∙ ap (λ j. appended start.written (text q (upto n r j))) (sym (not_done (λ r. apart (sym r ∙ m)))), h.good (λ f. unlike (sym m ∙ f)) ∙ a.2)
+  lacks m = (h.memory m ∙ a.0 ∙ ap (λ j. appended_text start.written (text q (upto n r j))) (sym (not_done (λ r. apart (sym r ∙ m)))), h.good (λ f. unlike (sym m ∙ f)) ∙ a.2)
     where
       apart : Running ≡ NoMemory → ⊥
       apart e = cc
@@ -100,7 +100,7 @@ module _ (cuts : CutsRise) (goes : TextGoesOn) (q : Tree) (n : ℕ) (r : Input) 
   stands : After q n r start new new.state
   stands = elim new.state as (λ z. new.state ≡ z → After q n r start new z) [ Running ↦ runs_on | SinkFailed ↦ fails | NoMemory ↦ lacks ] refl
 
-  pub stepped : (taken : Input → Type 0) → (result ≡ Done → taken (arrived r (cut n r (old.k + 1)))) → Keeps q n r start taken new
+  pub stepped : (taken : Input → Type 0) → (result ≡ Done → taken (first_arrivals r (task_start n r (old.k + 1)))) → Keeps q n r start taken new
   stepped taken f = record {
     after = stands;
     taken_is = λ run. let d : result ≡ Done = done_if result (λ z. h.stopped z run) in subst (λ j. taken (upto n r j)) (sym (h.rises d)) (f d);

@@ -7,7 +7,7 @@ use Rattle.saber_plan.specs.Windows.{Fits, Ordered, no_rows}
 use Rattle.saber_plan.specs.Answers.{frame, alike, way}
 use Rattle.saber_plan.specs.Tasks.{Stage, piece, take_in, stage_at}
 use Rattle.saber_core.specs.declared.events.Event.{Event}
-use Rattle.saber_core.specs.Machine.{fresh, given}
+use Rattle.saber_core.specs.Machine.{fresh, given_count}
 use Rattle.saber_core.specs.Runs.{state_after, gives}
 
 -- the pieces of these tasks, taken in one after another
@@ -19,4 +19,4 @@ joined_by q n r s tasks = fold (λ a t. take_in q a (piece q n r t)) s tasks
 abbrev pub GivesMakeText : Type 0
 GivesMakeText = (q : Tree) → way q ≡ alike → Fits (frame q) → (n : ℕ) (r : Input) → Ordered no_rows r.rows → (start : List ℕ) (size seats : ℕ) (events : List Event)
     → joined_by q n r (record { written = start; parts = empty }) (gives (fresh size seats) events)
-    ≡ stage_at q n r start (given (state_after (fresh size seats) events))
+    ≡ stage_at q n r start (given_count (state_after (fresh size seats) events))

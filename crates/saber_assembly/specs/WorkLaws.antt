@@ -8,7 +8,7 @@ use Rattle.std.proofs.Math.Nat.{mul-le-mul}
 use Rattle.saber_plan.specs.declared.rows.Row.{Row}
 use Rattle.saber_plan.specs.Inputs.{Input}
 use Rattle.saber_plan.specs.Trees.{Tree}
-use Rattle.saber_plan.specs.Tasks.{Kept, cut, upto, row_tasks, kept_behind}
+use Rattle.saber_plan.specs.Tasks.{Kept, task_start, upto, row_tasks, kept_behind}
 use Rattle.saber_plan.specs.Answers.{text}
 use Rattle.saber_plan.specs.Needs.{free, task_rows}
 use Rattle.saber_laws.proofs.TaskCutLaws.{upto-upto, cut_rises, rows_fit}
@@ -16,11 +16,11 @@ use Rattle.saber_laws.proofs.GrowLaws.{free-upto}
 use Rattle.saber_laws.proofs.FreeLaws.{free_at_most, free_rises}
 use Rattle.saber_fragment.specs.declared.blocks.Block.{Block}
 use Rattle.saber_fragment.specs.Stores.{Follows, CanTakeIn}
-use Rattle.saber_plan.specs.Outputs.{appended}
+use Rattle.saber_plan.specs.Outputs.{appended_text}
 use Rattle.saber_assembly.specs.declared.stage.Stage.{Stage}
 use Rattle.saber_plan.specs.declared.stages.StageState.TheVariants.{Running}
 use Rattle.saber_assembly.specs.declared.work.RunData.{RunData}
-use Rattle.saber_assembly.specs.Stages.{seen, IsPieceAt}
+use Rattle.saber_assembly.specs.Stages.{stage_view, IsPieceAt}
 use Rattle.saber_plan.specs.Stages.{StageView, Start, Tasks, After, Keeps}
 use Rattle.saber_assembly.specs.Works.{IsTold, input_of, with_input, with_block, first_tasks, start_of, IsBlockOf, IsPieceOf, IsStageOf, first_needed}
 
@@ -85,11 +85,11 @@ module _ (n : ℕ) (size : 1 ≤ n) (r r' : Input) (bs : List Row) (e : Bool) (d
   all_is : length r'.rows ≡ length r.rows + length bs
   all_is = ap length rows_are ∙ length-append r.rows bs
 
-  cut_is : cut n r' d ≡ length r.rows
+  cut_is : task_start n r' d ≡ length r.rows
   cut_is =
-      behind_cut (length r.rows) (length bs) (length r'.rows) (cut n r' d) (cut n r' (d + 1)) all_is
-      (ap length block ∙ slice_size (cut n r' d) (cut n r' (d + 1)) r'.rows)
-      (all_come r'.rows (cut n r' (d + 1)) (ap (λ (z : Input). z.rows) now))
+      behind_cut (length r.rows) (length bs) (length r'.rows) (task_start n r' d) (task_start n r' (d + 1)) all_is
+      (ap length block ∙ slice_size (task_start n r' d) (task_start n r' (d + 1)) r'.rows)
+      (all_come r'.rows (task_start n r' (d + 1)) (ap (λ (z : Input). z.rows) now))
       (not_past r'.ended (row_tasks n r') (length r'.rows) d (d * n) opens)
 
   not_ended : r.ended ≡ true → ⊥
@@ -112,8 +112,8 @@ module _ (n : ℕ) (size : 1 ≤ n) (r r' : Input) (bs : List Row) (e : Bool) (d
 
 -- the piece of task k follows what a stage after k tasks has taken in
 pub follows : (q : Tree) (n : ℕ) (r : Input) (start : Start) (s : StageView) (taken : Input → Type 0) (of : Input → ℕ → ℕ → Type 0)
-    → Tasks q n r → cut n r s.k ≤ cut n r (s.k + 1) → Keeps q n r start taken s → s.state ≡ Running → IsPieceAt n r s.k of
-    → Follows q s.kept taken of r (cut n r s.k) (cut n r (s.k + 1))
+    → Tasks q n r → task_start n r s.k ≤ task_start n r (s.k + 1) → Keeps q n r start taken s → s.state ≡ Running → IsPieceAt n r s.k of
+    → Follows q s.kept taken of r (task_start n r s.k) (task_start n r (s.k + 1))
 follows q n r start s taken of t up kept run p =
     let a : After q n r start s Running = subst (After q n r start s) run kept.after in
     record {
@@ -164,13 +164,13 @@ module _ {O : Type 0} (plan : O → Tree) where
 
   module _ {S K : Type 0} (contents : S → Kept) (taken : O → S → Input → Type 0) (written : K → Option (List ℕ)) (faults : K → ℕ) where
     -- what a stage that runs after k tasks keeps, it keeps by the rows of later tasks too
-    pub keeps_on : (told : RunData O) (k : ℕ) (s : Stage S K) → IsStageOf plan (seen contents written faults) taken (first_tasks told k) k false s
-        → Keeps (plan told.operator) told.size (input_of told) (start_of told) (taken told.operator s.store) (seen contents written faults s)
+    pub keeps_on : (told : RunData O) (k : ℕ) (s : Stage S K) → IsStageOf plan (stage_view contents written faults) taken (first_tasks told k) k false s
+        → Keeps (plan told.operator) told.size (input_of told) (start_of told) (taken told.operator s.store) (stage_view contents written faults s)
     keeps_on told k s is =
-        let q = plan told.operator in let n = told.size in let r = input_of told in let v = seen contents written faults s in
+        let q = plan told.operator in let n = told.size in let r = input_of told in let v = stage_view contents written faults s in
         let a : After q n (upto n r k) (start_of told) v Running = subst (After q n (upto n r k) (start_of told) v) (is.runs refl) is.keeps.after in
         let same : upto n (upto n r k) s.k ≡ upto n r s.k = upto-upto n r k s.k (subst (λ c. c ≤ k) (sym is.behind) (le_refl k)) in
-        let b : After q n r (start_of told) v Running = (a.0 ∙ ap (λ z. appended told.written (text q z)) same, a.1 ∙ ap (kept_behind q) same, a.2) in
+        let b : After q n r (start_of told) v Running = (a.0 ∙ ap (λ z. appended_text told.written (text q z)) same, a.1 ∙ ap (kept_behind q) same, a.2) in
         record {
           after = subst (After q n r (start_of told) v) (sym (is.runs refl)) b;
           taken_is = λ run. subst (taken told.operator s.store) same (is.keeps.taken_is run);
@@ -178,15 +178,15 @@ module _ {O : Type 0} (plan : O → Tree) where
 
     -- its store can take in the next task's piece
     pub takes_next : {P : Type 0} (is_of : O → P → Input → ℕ → ℕ → Type 0) (told : RunData O) (k : ℕ) (s : Stage S K) (p : P)
-        → IsStageOf plan (seen contents written faults) taken (first_tasks told k) k false s → IsPieceOf plan is_of told k p
+        → IsStageOf plan (stage_view contents written faults) taken (first_tasks told k) k false s → IsPieceOf plan is_of told k p
         → CanTakeIn (plan told.operator) (contents s.store) (taken told.operator s.store) (is_of told.operator p)
     takes_next is_of told k s p is of =
         let q = plan told.operator in let n = told.size in let r = input_of told in
         let piece : IsPieceAt n r s.k (is_of told.operator p) =
         subst (λ j. IsPieceAt n r j (is_of told.operator p)) (sym is.behind) of.piece in (
           r,
-          cut n r s.k,
-          cut n r (s.k + 1),
-          follows q n r (start_of told) (seen contents written faults s) (taken told.operator s.store) (is_of told.operator p) of.tasks
+          task_start n r s.k,
+          task_start n r (s.k + 1),
+          follows q n r (start_of told) (stage_view contents written faults s) (taken told.operator s.store) (is_of told.operator p) of.tasks
               (cut_rises n r s.k) (keeps_on told k s is) (is.runs refl) piece,
         )

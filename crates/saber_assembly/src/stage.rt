@@ -1,6 +1,6 @@
 // The result stage.
 ghost use Rattle.std.specs.Prelude.{◌≡◌, ◌≢◌, ◌≤◌, [], OnOk, Err};
-ghost use Rattle.saber_plan.specs.Outputs.{counted, Rose, appended, AppendsPrefix};
+ghost use Rattle.saber_plan.specs.Outputs.{raised_count, Rose, appended_text, AppendsPrefix};
 ghost use Rattle.saber_io.specs.declared.outside.WriteFault.{WriteFault};
 
 use saber_fragment::Operator;
@@ -16,8 +16,8 @@ pub enum Absorbed {
     Stopped,
 }
 
-/// The result stage: the sink, the operator's store, and how many tasks are behind it. `seen` is
-/// its view. Clauses name the store too, since an operator may know more of it than the parts of
+/// The result stage: the sink, the operator's store, and how many tasks are behind it. `stage_view`
+/// is its view. Clauses name the store too, since an operator may know more of it than the parts of
 /// windows.
 pub struct Stage<S, K> {
     sink: K,
@@ -28,15 +28,15 @@ pub struct Stage<S, K> {
 
 // Writes a text in one write, and none where it is empty.
 fn write_text<K: Sink>(sink: &mut K, text: &[u8]) -> Result<(), WriteFault>
-    ensures ok { OnOk result (K.written sink.new ≡ appended (K.written sink.old) text.now) }
+    ensures ok { OnOk result (K.written sink.new ≡ appended_text (K.written sink.old) text.now) }
     ensures failed { result ≡ Err WriteFault.Failed → AppendsPrefix (K.written sink.old) (K.written sink.new) text.now }
     ensures memory { result ≡ Err WriteFault.NoMemory → K.written sink.new ≡ K.written sink.old }
     ensures cause { result ≡ Err WriteFault.Failed → Rose (K.faults sink.old) (K.faults sink.new) }
     ensures good { result ≢ Err WriteFault.Failed → K.faults sink.new ≡ K.faults sink.old }
     ensures count { K.faults sink.old ≤ K.faults sink.new }
-    ensures one { result ≢ Err WriteFault.NoMemory → text.now ≢ [] → K.writes sink.new ≡ counted (K.writes sink.old) }
+    ensures one { result ≢ Err WriteFault.NoMemory → text.now ≢ [] → K.writes sink.new ≡ raised_count (K.writes sink.old) }
     ensures no_text { text.now ≡ [] → K.writes sink.new ≡ K.writes sink.old }
-    ensures failed_one { result ≡ Err WriteFault.Failed → K.writes sink.new ≡ counted (K.writes sink.old) }
+    ensures failed_one { result ≡ Err WriteFault.Failed → K.writes sink.new ≡ raised_count (K.writes sink.old) }
     ensures none { result ≡ Err WriteFault.NoMemory → K.writes sink.new ≡ K.writes sink.old }
 {
     if text.is_empty() {
@@ -47,7 +47,7 @@ fn write_text<K: Sink>(sink: &mut K, text: &[u8]) -> Result<(), WriteFault>
 
 impl<S: Drop, K: Sink> Stage<S, K> {
     ghost use Rattle.std.specs.Prelude.{◌≡◌, ◌≢◌, ◌≤◌, ◌<◌, ◌^◌, ◌+◌, [], IfSome, IfNone};
-    ghost use Rattle.saber_plan.specs.Outputs.{counted, Rose};
+    ghost use Rattle.saber_plan.specs.Outputs.{raised_count, Rose};
     ghost use Rattle.saber_plan.specs.Tasks.{nothing_kept};
     ghost use Rattle.saber_plan.specs.Inputs.{going_on};
     ghost use Rattle.saber_assembly.specs.Stages.{CanAbsorb, AddsText, AddsFront, WritesOnce, WritesNone, LeavesKept, TakesPiece, BeginsRuns, KeepsRuns};
@@ -125,7 +125,7 @@ impl<S: Drop, K: Sink> Stage<S, K> {
         ensures count { K.faults self.old.sink ≤ K.faults self.new.sink }
         ensures one { result ≡ Absorbed.Done → WritesOnce O.plan O.contents O.has_taken O.is_of operator.now K.writes self.old self.new piece }
         ensures no_text { result ≡ Absorbed.Done → WritesNone O.plan O.contents O.has_taken O.is_of operator.now K.writes self.old self.new piece }
-        ensures failed_one { self.new.state ≡ StageState.SinkFailed → K.writes self.new.sink ≡ counted (K.writes self.old.sink) }
+        ensures failed_one { self.new.state ≡ StageState.SinkFailed → K.writes self.new.sink ≡ raised_count (K.writes self.old.sink) }
         ensures no_write { self.new.state ≡ StageState.NoMemory → K.writes self.new.sink ≡ K.writes self.old.sink }
     {
         let mut text = Vec::new(alloc);
@@ -188,7 +188,7 @@ impl<S: Drop, K: Sink> Stage<S, K> {
         // for one without, nor where memory lacks.
         ensures one { result ≡ Absorbed.Done → IfSome piece (λ p. WritesOnce O.plan O.contents O.has_taken O.is_of operator.now K.writes self.old self.new p) }
         ensures no_text { result ≡ Absorbed.Done → IfSome piece (λ p. WritesNone O.plan O.contents O.has_taken O.is_of operator.now K.writes self.old self.new p) }
-        ensures failed_one { self.new.state ≡ StageState.SinkFailed → K.writes self.new.sink ≡ counted (K.writes self.old.sink) }
+        ensures failed_one { self.new.state ≡ StageState.SinkFailed → K.writes self.new.sink ≡ raised_count (K.writes self.old.sink) }
         ensures no_write { self.new.state ≡ StageState.NoMemory → K.writes self.new.sink ≡ K.writes self.old.sink }
 
         // So a stage after k tasks, given the piece of task k, is one after k + 1, or stopped at k.
@@ -209,7 +209,7 @@ impl<S: Drop, K: Sink> Stage<S, K> {
 impl<S: Drop, K: Pour> Stage<S, K> {
     ghost use Rattle.std.specs.Prelude.{◌≡◌};
     ghost use Rattle.saber_plan.specs.Tasks.{Kept};
-    ghost use Rattle.saber_assembly.specs.Stages.{seen, HasPoured};
+    ghost use Rattle.saber_assembly.specs.Stages.{stage_view, HasPoured};
 
     /// Has its sink let go of what that holds back, as far as there is room for it. Nothing that is
     /// seen of the stage changes.
@@ -219,7 +219,7 @@ impl<S: Drop, K: Pour> Stage<S, K> {
         ensures tasks { self.new.k ≡ self.old.k }
         ensures state { self.new.state ≡ self.old.state }
         ensures writes { K.writes self.new.sink ≡ K.writes self.old.sink }
-        ensures seen { (contents : S → Kept) → seen contents K.written K.faults self.new ≡ seen contents K.written K.faults self.old }
+        ensures seen { (contents : S → Kept) → stage_view contents K.written K.faults self.new ≡ stage_view contents K.written K.faults self.old }
     {
         self.sink.pour();
     }

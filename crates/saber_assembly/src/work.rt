@@ -1,5 +1,5 @@
 //! The work that threads do for a query.
-ghost use Rattle.saber_assembly.specs.Stages.{seen};
+ghost use Rattle.saber_assembly.specs.Stages.{stage_view};
 ghost use Rattle.saber_assembly.specs.Works.{IsTold, with_block, first_tasks, IsBlockOf, IsPieceOf, first_needed, IsStageOf};
 ghost use Rattle.saber_assembly.specs.WorkLaws.{block_keeps, tasks_again, tasks_whole, needed_early, needed_rises};
 
@@ -55,7 +55,7 @@ impl<O: Operator, K: Sink> Work for SaberWork<O, K> {
 
     ghost first = { first_needed O.plan };
 
-    ghost is_stage = { IsStageOf O.plan (seen O.contents K.written K.faults) O.has_taken };
+    ghost is_stage = { IsStageOf O.plan (stage_view O.contents K.written K.faults) O.has_taken };
 
     ghost keeps = { λ told d k rows. block_keeps O.plan told d k rows };
 

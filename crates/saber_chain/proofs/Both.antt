@@ -3,7 +3,7 @@ use Rattle.std.proofs.Common.{◌≡◌, ◌≢◌, ◌≤◌, ℕ, ◌+◌, ◌
 use Rattle.std.proofs.Math.Path.{transport}
 use Rattle.std.specs.Option.{option_map_or}
 use Rattle.std.specs.Prelude.{Bool, Option, Some, None, IfSome, ◌/◌, false}
-use Rattle.saber_io.specs.Outside.{given}
+use Rattle.saber_io.specs.Outside.{left_before}
 use Rattle.saber_plan.specs.Outputs.{Rose, appended-none}
 use Rattle.saber_io.specs.declared.feeds.EndMark.{EndMark}
 use Rattle.saber_io.specs.declared.feeds.EndMark.TheVariants as marks
@@ -158,7 +158,7 @@ no_pipe nothing none first second fits fits' s files had inputs sink = record {
   whole_text = λ w. absurd (let h : marks.Cut ≡ marks.End = w in cc);
 }
 
-given_none : (o : Option (List ℕ)) → o ≡ given [] o
+given_none : (o : Option (List ℕ)) → o ≡ left_before [] o
 given_none None = refl
 given_none (Some b) = refl
 

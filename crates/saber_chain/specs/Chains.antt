@@ -1,6 +1,6 @@
 -- What a chain gives.
 use Rattle.std.specs.Prelude.{◌≡◌, ◌≢◌, ◌≤◌, ℕ, List, Option, IfSome, false}
-use Rattle.saber_plan.specs.Outputs.{Rose, appended}
+use Rattle.saber_plan.specs.Outputs.{Rose, appended_text}
 use Rattle.saber_plan.specs.declared.rows.Side.{Side}
 use Rattle.saber_plan.specs.declared.sizes.Sizes.{Sizes}
 use Rattle.saber_plan.specs.Sizes.{limits_of}
@@ -23,7 +23,7 @@ use Rattle.saber_chain.specs.Seconds.{ReadsBetween}
 pub record Chains {S K : Type 0} (first second : Tree) (s : Sizes) (files : Option (List (List ℕ))) (had has : Option (List ℕ)) (c : Chained S K) : Type 0 where
   pub between : List ℕ
   pub out : List ℕ
-  pub written : has ≡ appended had out
+  pub written : has ≡ appended_text had out
   pub gives_first : IfSome files (λ fs. Gives first s.task s.ring false (input_of first (limits_of s) fs) c.first c.first_tasks between)
   pub gives_second : Gives second s.task s.ring false (rows_between second between) c.second c.tasks out
   pub whole_tasks : (side : Side) → c.second ≡ ReadFault side → TakesWhole second s.task between_limits c.tasks between

@@ -1,6 +1,6 @@
 -- What a run of the second query gives.
 use Rattle.std.specs.Prelude.{◌≡◌, ℕ, ◌^◌, List, Option, Some, false}
-use Rattle.saber_plan.specs.Outputs.{appended}
+use Rattle.saber_plan.specs.Outputs.{appended_text}
 use Rattle.saber_io.specs.declared.feeds.EndMark.{EndMark}
 use Rattle.saber_io.specs.declared.feeds.EndMark.TheVariants as marks
 use Rattle.saber_plan.specs.declared.rows.Side.{Side}
@@ -20,7 +20,7 @@ second_sizes s = record { task = s.task; ring = s.ring; threads = s.threads; max
 -- over what was taken of the first one's text: over every text that goes on from it, and is this where the mark says so
 pub record RunsSecond (q : Tree) (s : Sizes) (taken : List ℕ) (mark : Option EndMark) (had has : Option (List ℕ)) (end : RunEnd) (tasks : ℕ) : Type 0 where
   pub out : List ℕ
-  pub written : has ≡ appended had out
+  pub written : has ≡ appended_text had out
   pub gives : (all : List ℕ) → GoesOn taken mark all → Gives q s.task s.ring false (rows_between q all) end tasks out
   pub whole : (side : Side) → end ≡ ReadFault side → TakesWhole q s.task between_limits tasks taken
   pub all_read : end ≡ AllRead → mark ≡ Some marks.End
@@ -33,7 +33,7 @@ RunsSecondTo written q s taken mark sink ran = RunsSecond q s taken mark (writte
 -- over all of the first one's text, which ends so
 pub record ReadsBetween (q : Tree) (s : Sizes) (between : List ℕ) (mark : EndMark) (had has : Option (List ℕ)) (end : RunEnd) (tasks : ℕ) : Type 0 where
   pub out : List ℕ
-  pub written : has ≡ appended had out
+  pub written : has ≡ appended_text had out
   pub gives : Gives q s.task s.ring false (rows_between q between) end tasks out
   pub whole : (side : Side) → end ≡ ReadFault side → TakesWhole q s.task between_limits tasks between
   pub all_read : end ≡ AllRead → mark ≡ marks.End

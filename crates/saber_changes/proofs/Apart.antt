@@ -6,7 +6,7 @@ use Rattle.std.specs.List.{list_any}
 use Rattle.std.specs.Ordering.{is_eq, is_lt, ordering_reverse}
 use Rattle.std.specs.declared.cmp.Ordering.{Ordering}
 use Rattle.std.specs.declared.cmp.Ordering.TheVariants.{Less, Equal, Greater}
-use Rattle.saber_plan.specs.Answers.{Answers, key_cmp, same_line, without, uncancelled}
+use Rattle.saber_plan.specs.Answers.{Answers, key_cmp, same_line, without, uncancelled_answers}
 use Rattle.saber_plan.specs.Facts.Parts.{total, exact}
 use Rattle.saber_changes.specs.Rising.{is_below, NoneBelow, Rises, Reaches, begins_with}
 use Rattle.saber_changes.proofs.Cancelling.{same, itself}
@@ -46,17 +46,17 @@ differs : (k l o : List ℤ) → is_below o k ≡ true → is_below l k ≡ fals
 differs k l o low h false e = e
 differs k l o low h true e = absurd (both_ways _ (sym low ∙ subst (λ x. is_below x k ≡ false) (same l o e) h) refl)
 
-pub below_cancels_none : (k o : List ℤ) (ls os : Answers) → is_below o k ≡ true → NoneBelow k ls → uncancelled ls (o ∷ os) ≡ uncancelled ls os
+pub below_cancels_none : (k o : List ℤ) (ls os : Answers) → is_below o k ≡ true → NoneBelow k ls → uncancelled_answers ls (o ∷ os) ≡ uncancelled_answers ls os
 below_cancels_none k o [] os low h = refl
 below_cancels_none k o (l ∷ ls) os low h =
     let other = differs k l o low h.0 (same_line l o) refl in
-    (λ i. cond (other i || list_any (same_line l) os) (uncancelled ls (cond (other i) os (o ∷ without l os))) (l ∷ uncancelled ls (o ∷ os)))
+    (λ i. cond (other i || list_any (same_line l) os) (uncancelled_answers ls (cond (other i) os (o ∷ without l os))) (l ∷ uncancelled_answers ls (o ∷ os)))
     ∙ (λ i. cond (list_any (same_line l) os) (below_cancels_none k o ls (without l os) low h.1 i) (l ∷ below_cancels_none k o ls os low h.1 i))
 
 -- the first of the others cancels the line
-first_cancels : (k : List ℤ) (ks os : Answers) → begins_with k os ≡ true → uncancelled (k ∷ ks) os ≡ uncancelled ks (drop 1 os)
+first_cancels : (k : List ℤ) (ks os : Answers) → begins_with k os ≡ true → uncancelled_answers (k ∷ ks) os ≡ uncancelled_answers ks (drop 1 os)
 first_cancels k ks [] e = cc
-first_cancels k ks (o ∷ os) e = λ i. cond (e i || list_any (same_line k) os) (uncancelled ks (cond (e i) os (o ∷ without k os))) (k ∷ uncancelled ks (o ∷ os))
+first_cancels k ks (o ∷ os) e = λ i. cond (e i || list_any (same_line k) os) (uncancelled_answers ks (cond (e i) os (o ∷ without k os))) (k ∷ uncancelled_answers ks (o ∷ os))
 
 above : (k o : List ℤ) → is_below o k ≡ false → same_line k o ≡ false → is_below k o ≡ true
 above k o a b = from_order (key_cmp k o) refl
@@ -76,26 +76,26 @@ none_same k o (l ∷ ls) low h =
     differs_back true e = absurd (both_ways _ (sym low ∙ subst (λ x. is_below x o ≡ false) (sym (same k l e)) h.0) refl)
 
 -- or none of the others does
-none_cancels : (k : List ℤ) (ks os : Answers) → Reaches k os → Rises os → begins_with k os ≡ false → uncancelled (k ∷ ks) os ≡ k ∷ uncancelled ks os
+none_cancels : (k : List ℤ) (ks os : Answers) → Reaches k os → Rises os → begins_with k os ≡ false → uncancelled_answers (k ∷ ks) os ≡ k ∷ uncancelled_answers ks os
 none_cancels k ks [] h r e = refl
 none_cancels k ks (o ∷ os) h r e =
     let none : list_any (same_line k) (o ∷ os) ≡ false = (λ i. e i || list_any (same_line k) os) ∙ none_same k o os (above k o h e) r.0 in
-    λ i. cond (none i) (uncancelled ks (without k (o ∷ os))) (k ∷ uncancelled ks (o ∷ os))
+    λ i. cond (none i) (uncancelled_answers ks (without k (o ∷ os))) (k ∷ uncancelled_answers ks (o ∷ os))
 
 -- ---- by one look at the next of the others
 
 pub itself_and : (k : List ℤ) (ks : Answers) → NoneBelow k ks → NoneBelow k (k ∷ ks)
 itself_and k ks h = (not_itself k, h)
 
-pub equal_cancels : (k o : List ℤ) (ks os : Answers) → key_cmp o k ≡ Equal → uncancelled (k ∷ ks) (o ∷ os) ≡ uncancelled ks os
+pub equal_cancels : (k o : List ℤ) (ks os : Answers) → key_cmp o k ≡ Equal → uncancelled_answers (k ∷ ks) (o ∷ os) ≡ uncancelled_answers ks os
 equal_cancels k o ks os e = first_cancels k ks (o ∷ os) (subst (λ l. same_line k l ≡ true) (sym (exact o k e)) (itself k))
 
-pub greater_cancels_none : (k o : List ℤ) (ks all os : Answers) → all ≡ o ∷ os → key_cmp o k ≡ Greater → Rises all → uncancelled (k ∷ ks) all ≡ k ∷ uncancelled ks all
+pub greater_cancels_none : (k o : List ℤ) (ks all os : Answers) → all ≡ o ∷ os → key_cmp o k ≡ Greater → Rises all → uncancelled_answers (k ∷ ks) all ≡ k ∷ uncancelled_answers ks all
 greater_cancels_none k o ks all os n e r =
     none_cancels k ks all (subst (Reaches k) (sym n) (ap is_lt e)) r (ap (begins_with k) n ∙ ap is_eq (total.antisymm k o ∙ ap ordering_reverse e))
 
-pub none_left : (k : List ℤ) (ks os : Answers) → os ≡ [] → uncancelled (k ∷ ks) os ≡ k ∷ uncancelled ks os
-none_left k ks os e = ap (uncancelled (k ∷ ks)) e ∙ ap (λ l. k ∷ uncancelled ks l) (sym e)
+pub none_left : (k : List ℤ) (ks os : Answers) → os ≡ [] → uncancelled_answers (k ∷ ks) os ≡ k ∷ uncancelled_answers ks os
+none_left k ks os e = ap (uncancelled_answers (k ∷ ks)) e ∙ ap (λ l. k ∷ uncancelled_answers ks l) (sym e)
 
 -- ---- one line after another
 

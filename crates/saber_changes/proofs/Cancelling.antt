@@ -5,7 +5,7 @@ use Rattle.std.proofs.lemmas.List.{drop_more}
 use Rattle.std.specs.Cmp.{tied_itself}
 use Rattle.std.specs.Ordering.{is_eq}
 use Rattle.std.specs.List.{list_any}
-use Rattle.saber_plan.specs.Answers.{Answers, line, same_line, without, uncancelled, answer_lines}
+use Rattle.saber_plan.specs.Answers.{Answers, line, same_line, without, uncancelled_answers, answer_lines}
 use Rattle.saber_plan.specs.Facts.Maps.{equal_if}
 use Rattle.saber_plan.specs.Facts.Parts.{total, exact}
 use Rattle.saber_changes.specs.Counts.{times, one_less, by_counts}
@@ -55,7 +55,7 @@ without_is k l [] = none_less (same_line l k)
 without_is k l (m ∷ ms) = less_case k l m ms (same_line k m) refl (without_is k l ms)
 
 -- the definition, by counts
-pub counts_cancel : (ks others : Answers) → uncancelled ks others ≡ by_counts ks (λ k. times k others)
+pub counts_cancel : (ks others : Answers) → uncancelled_answers ks others ≡ by_counts ks (λ k. times k others)
 counts_cancel [] others = refl
 counts_cancel (k ∷ ks) others = λ i. cond (any_is k others i)
     ((counts_cancel ks (without k others) ∙ ap (by_counts ks) (λ j l. without_is k l others j)) i)

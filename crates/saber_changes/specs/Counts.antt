@@ -2,7 +2,7 @@
 use Rattle.std.specs.Prelude.{ℕ, suc, ◌-◌, List, [], ◌∷◌, map, if◌then◌else◌, nat_lt, ℤ, unwrap_or}
 use Rattle.std.proofs.Common.{Bor}
 use Rattle.std.specs.FinMap.{FinMap, get, from_entries}
-use Rattle.saber_plan.specs.Answers.{Answers, Change as Changing, key_cmp, same_line, gained, lost}
+use Rattle.saber_plan.specs.Answers.{Answers, Change as Changing, key_cmp, same_line, gains, losses}
 use Rattle.saber_changes.specs.declared.cancel.Change.{Change}
 use Rattle.saber_changes.specs.declared.cancel.Change.TheVariants.{Gained, Lost}
 
@@ -37,5 +37,5 @@ by_counts (k ∷ ks) n = if nat_lt 0 (n k) then by_counts ks (one_less n k) else
 
 -- what a change means
 abbrev pub change_of : Change → Changing
-change_of Gained = gained
-change_of Lost = lost
+change_of Gained = gains
+change_of Lost = losses

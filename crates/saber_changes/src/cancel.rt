@@ -1,6 +1,6 @@
 // What one window has that another hasn't.
 ghost use Rattle.std.specs.Prelude.{◌≡◌, ◌++◌, OnOk};
-ghost use Rattle.saber_plan.specs.Answers.{uncancelled, answer_lines};
+ghost use Rattle.saber_plan.specs.Answers.{uncancelled_answers, answer_lines};
 ghost use Rattle.saber_plan.specs.Texts.{Behind};
 ghost use Rattle.saber_changes.specs.Counts.{change_of};
 
@@ -29,7 +29,7 @@ fn write_counted(
     others: &Answers,
     out: &mut Vec<u8>,
 ) -> Result<(), NoMemory>
-    ensures ok { OnOk result (out.new.items ≡ out.old.items ++ answer_lines window (uncancelled answers.now others.now)) }
+    ensures ok { OnOk result (out.new.items ≡ out.old.items ++ answer_lines window (uncancelled_answers answers.now others.now)) }
     ensures behind { Behind out.old.items out.new.items }
 {
     let mut left = counted(alloc, others)?;
@@ -53,7 +53,7 @@ pub(crate) fn write_uncancelled(
     others: &Answers,
     out: &mut Vec<u8>,
 ) -> Result<(), NoMemory>
-    ensures ok { OnOk result (out.new.items ≡ out.old.items ++ answer_lines window (uncancelled answers.now others.now)) }
+    ensures ok { OnOk result (out.new.items ≡ out.old.items ++ answer_lines window (uncancelled_answers answers.now others.now)) }
     ensures behind { Behind out.old.items out.new.items }
 {
     if answers.rise() && others.rise() {

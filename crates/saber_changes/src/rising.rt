@@ -1,7 +1,7 @@
 // What one window has that another hasn't, where the lines of both rise.
 ghost use Rattle.std.specs.Prelude.{◌≡◌, ◌≤◌, ◌∷◌, ◌++◌, drop, length, true, false, OnOk};
 ghost use Rattle.saber_plan.specs.Answers as a;
-ghost use Rattle.saber_plan.specs.Answers.{uncancelled, answer_lines};
+ghost use Rattle.saber_plan.specs.Answers.{uncancelled_answers, answer_lines};
 ghost use Rattle.saber_plan.specs.Texts.{Behind};
 ghost use Rattle.saber_changes.specs.Rising.{is_below, NoneBelow, Rises};
 
@@ -39,9 +39,9 @@ pub(crate) fn comes_before(line: &[i128], other: &[i128]) -> bool
 fn cancel(others: &Answers, from: usize, line: &[i128]) -> (usize, bool)
     requires { from ≤ length others.now }
     ensures within { result.0 ≤ length others.now }
-    ensures cancelled { result.1 ≡ true → (ks : a.Answers) → NoneBelow line.now ks → uncancelled (line.now ∷ ks) (drop from others.now) ≡ uncancelled ks (drop result.0 others.now) }
+    ensures cancelled { result.1 ≡ true → (ks : a.Answers) → NoneBelow line.now ks → uncancelled_answers (line.now ∷ ks) (drop from others.now) ≡ uncancelled_answers ks (drop result.0 others.now) }
     ensures left { result.1 ≡ false → (ks : a.Answers) → NoneBelow line.now ks → Rises (drop from others.now)
-        → uncancelled (line.now ∷ ks) (drop from others.now) ≡ line.now ∷ uncancelled ks (drop result.0 others.now) }
+        → uncancelled_answers (line.now ∷ ks) (drop from others.now) ≡ line.now ∷ uncancelled_answers ks (drop result.0 others.now) }
     ensures rises { Rises (drop from others.now) → Rises (drop result.0 others.now) }
 {
     let mut place = from;
@@ -64,7 +64,7 @@ pub(crate) fn write_apart(
 ) -> Result<(), NoMemory>
     requires answers { Rises answers.now }
     requires others { Rises others.now }
-    ensures ok { OnOk result (out.new.items ≡ out.old.items ++ answer_lines window (uncancelled answers.now others.now)) }
+    ensures ok { OnOk result (out.new.items ≡ out.old.items ++ answer_lines window (uncancelled_answers answers.now others.now)) }
     ensures behind { Behind out.old.items out.new.items }
 {
     let mut at = 0;

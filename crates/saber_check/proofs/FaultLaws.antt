@@ -10,7 +10,7 @@ use Rattle.saber_query.specs.Trees.{query_of}
 use Rattle.saber_query.specs.Words.{words, Begins, IsSyntax, IsDeep}
 use Rattle.saber_query.specs.Real.{AllReal}
 use Rattle.saber_query.specs.Parsed.{Parsed}
-use Rattle.saber_query.specs.Lexing.{lexed}
+use Rattle.saber_query.specs.Lexing.{lexed_text}
 use Rattle.saber_query.specs.Reading.{token_of}
 use Rattle.saber_query.specs.Means.{MeansTree, TextFault, StopsAt, byte_of, first_byte}
 use Rattle.saber_check.specs.declared.fault.Fault.{Fault}
@@ -21,7 +21,7 @@ use Rattle.saber_check.proofs.TextLaws.{HaveOneTree, same_tokens, same_query, me
 
 -- the tokens of a text are real
 abbrev pub AreReal : Type 0
-AreReal = (text : List ℕ) (ps : List Placed) → lexed text ≡ Ok ps → (length ps ≤ length text) × AllReal (map token_of ps)
+AreReal = (text : List ℕ) (ps : List Placed) → lexed_text text ≡ Ok ps → (length ps ≤ length text) × AllReal (map token_of ps)
 
 -- one byte and one cause
 abbrev pub IsSame : ℕ → ℕ → Cause → Cause → Type 0
@@ -112,7 +112,7 @@ not_both before (t ∷ ts) h d = h.none 65 d.deeper
 
 data Wrong (c : Cause) (b : ℕ) (text : List ℕ) : Type 0 where
   long : c ≡ TooLong → 65536 < length text → b ≡ 65536 → Wrong c b text
-  no_tokens : length text ≤ 65536 → lexed text ≡ Err (At b c) → Wrong c b text
+  no_tokens : length text ≤ 65536 → lexed_text text ≡ Err (At b c) → Wrong c b text
   unfit : c ≡ Syntax → StopsAt (IsSyntax 64) text b → Wrong c b text
   deep : c ≡ Depth → StopsAt (IsDeep 64) text b → Wrong c b text
 
@@ -135,7 +135,7 @@ wrong ExprTooWide b text f = absurd f
 wrong SumTooWide b text f = absurd f
 
 -- two stops of one text are one
-same_stop : AreReal → (text : List ℕ) (xs ys us vs : List Placed) → lexed text ≡ Ok (xs ++ ys) → lexed text ≡ Ok (us ++ vs) → Stops (map token_of xs) (map token_of ys) → Stops (map token_of us) (map token_of vs) → (xs ≡ us) × (ys ≡ vs)
+same_stop : AreReal → (text : List ℕ) (xs ys us vs : List Placed) → lexed_text text ≡ Ok (xs ++ ys) → lexed_text text ≡ Ok (us ++ vs) → Stops (map token_of xs) (map token_of ys) → Stops (map token_of us) (map token_of vs) → (xs ≡ us) × (ys ≡ vs)
 same_stop real text xs ys us vs e f s z = stop_once xs ys us vs (real text (us ++ vs) f).1 (same_tokens text (xs ++ ys) (us ++ vs) e f) s z
 
 same_place : (text : List ℕ) (ys vs : List Placed) (b d : ℕ) → ys ≡ vs → b ≡ first_byte ys (length text) → d ≡ first_byte vs (length text) → b ≡ d
@@ -146,7 +146,7 @@ split_clash real text b d f g =
     let s = same_stop real text f.before f.rest g.before g.rest f.lexed g.lexed (syntax_stops (map token_of f.before) (map token_of f.rest) f.there) (deep_stops (map token_of g.before) (map token_of g.rest) g.there) in
     not_both (map token_of g.before) (map token_of g.rest) (subst (λ l. IsSyntax 64 (map token_of g.before) (map token_of l)) s.1 (subst (λ l. IsSyntax 64 (map token_of l) (map token_of f.rest)) s.0 f.there)) g.there
 
-lexed_clash : (text : List ℕ) (b : ℕ) (c : Cause) (ps : List Placed) → lexed text ≡ Err (At b c) → lexed text ≡ Ok ps → ⊥
+lexed_clash : (text : List ℕ) (b : ℕ) (c : Cause) (ps : List Placed) → lexed_text text ≡ Err (At b c) → lexed_text text ≡ Ok ps → ⊥
 lexed_clash text b c ps e f = cc
 
 one_wrong : AreReal → (text : List ℕ) (b d : ℕ) (c e : Cause) → Wrong c b text → Wrong e d text → IsSame b d c e

@@ -31,7 +31,7 @@ use Rattle.saber_check.specs.Widths.{factor_width, prod_width, column_width, ite
 use Rattle.saber_check.specs.Names.{same, decls, declares}
 use Rattle.saber_check.specs.Bounds.{factors, prods, products, product_faults, sum_faults}
 use Rattle.saber_check.specs.Faults.{own_name, same_second, same_words, is_of_one, same_column, among_columns, column_faults, factor_faults, prod_faults, expr_faults, is_aggregate, any_aggregate, is_join, is_group, is_key, is_listed, partition_of, is_column_key, is_sum_wide, content_faults, item_faults, items, key_faults, keys_faults, group_faults, group_part_faults, keys}
-use Rattle.saber_check.specs.Plans.{is_left, place, plan_place, plan_side, plan_factor, plan_term, plan_expr, plan_stream, plan_shape, places, plan_keys, plan_partition, key_place, plan_value, plan_output, gathered, printed, plan_outputs, plan_aggregates, plan_items, plan_tree, streams}
+use Rattle.saber_check.specs.Plans.{is_left, place, plan_place, plan_side, plan_factor, plan_term, plan_expr, plan_stream, plan_shape, places, plan_keys, plan_partition, key_place, plan_value, plan_output, gathered_aggregates, printed_numbers, plan_outputs, plan_aggregates, plan_items, plan_tree, streams}
 use Rattle.saber_check.proofs.NoFaults.{before, row_and, rows_and, first_part, other_parts, few, is_true, neither, not_both, same_names}
 use Rattle.saber_check.proofs.ColumnLaws.{AreDeclared, Found, found, left_there, column_there}
 use Rattle.saber_check.proofs.BoundLaws.{expr_law}
@@ -270,12 +270,12 @@ all_grouped : (q : Query) (k i : ℕ) (xs : List Item) → AreDeclared q → q.s
 all_grouped q k i [] d n g e = tt
 all_grouped q k i (x ∷ xs) d n g e = (grouped q k i x d n g (first_part item_width (item_faults q) k i x xs e), all_grouped q (k + 1) (i + item_width x + 1) xs d n g (other_parts item_width (item_faults q) k i x xs e))
 
-gathered_fit : (q : Query) (xs : List Output) → AllByRecursion (OutputFits q) xs → AllByRecursion (AggregateFits (sides q) (plan_partition q)) (gathered xs)
+gathered_fit : (q : Query) (xs : List Output) → AllByRecursion (OutputFits q) xs → AllByRecursion (AggregateFits (sides q) (plan_partition q)) (gathered_aggregates xs)
 gathered_fit q [] h = tt
 gathered_fit q (out.Place k ∷ xs) h = gathered_fit q xs h.1
 gathered_fit q (out.Aggregate g ∷ xs) h = (h.0, gathered_fit q xs h.1)
 
-printed_fit : (q : Query) (n width : ℕ) (xs : List Output) → length (plan_keys q) < n → n + length (gathered xs) ≤ width → AllByRecursion (OutputFits q) xs → AllByRecursion (ItemFits shape.Group (sides q) width) (printed n xs)
+printed_fit : (q : Query) (n width : ℕ) (xs : List Output) → length (plan_keys q) < n → n + length (gathered_aggregates xs) ≤ width → AllByRecursion (OutputFits q) xs → AllByRecursion (ItemFits shape.Group (sides q) width) (printed_numbers n xs)
 printed_fit q n width [] r s h = tt
 printed_fit q n width (out.Place k ∷ xs) r s h = ((k, refl, omega (arith, h.0, r, s)), printed_fit q n width xs r s h.1)
 printed_fit q n width (out.Aggregate g ∷ xs) r s h = ((n, refl, omega (arith, s)), printed_fit q (n + 1) width xs (omega (arith, r)) (omega (arith, s)) h.1)
@@ -291,9 +291,9 @@ few_written q i e = omega (arith, few item_width (item_faults q) 32 (thirty_thir
 
 -- the items of a plan and its aggregates fit, where the query is a join or not, and has groups or not
 record ItemsFit (q : Query) (join group : Bool) : Type 0 where
-  items : AllByRecursion (ItemFits (if join then shape.Join else (if group then shape.Group else shape.Select)) (sides q) (length (plan_keys q) + 1 + length (if group then gathered (plan_outputs q) else [])))
-      (if group then printed (length (plan_keys q) + 1) (plan_outputs q) else map (plan_value q) (items q))
-  aggregates : AggregatesFit (if join then shape.Join else (if group then shape.Group else shape.Select)) (sides q) (plan_partition q) (if group then gathered (plan_outputs q) else [])
+  items : AllByRecursion (ItemFits (if join then shape.Join else (if group then shape.Group else shape.Select)) (sides q) (length (plan_keys q) + 1 + length (if group then gathered_aggregates (plan_outputs q) else [])))
+      (if group then printed_numbers (length (plan_keys q) + 1) (plan_outputs q) else map (plan_value q) (items q))
+  aggregates : AggregatesFit (if join then shape.Join else (if group then shape.Group else shape.Select)) (sides q) (plan_partition q) (if group then gathered_aggregates (plan_outputs q) else [])
 
 -- an aggregate or GROUP BY
 abbrev groups : Query → Bool

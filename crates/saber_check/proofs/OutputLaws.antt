@@ -15,7 +15,7 @@ use Rattle.saber_check.specs.declared.outputs.Output.{Output}
 use Rattle.saber_check.specs.declared.outputs.Output.TheVariants as out
 use Rattle.saber_check.specs.Widths.{span, column_width, item_width, group_width}
 use Rattle.saber_check.specs.Faults.{items, is_group, keys}
-use Rattle.saber_check.specs.Plans.{plan_place, places, plan_keys, key_place, plan_value, plan_output, gathered, printed, plan_outputs, plan_aggregates, plan_items, Small}
+use Rattle.saber_check.specs.Plans.{plan_place, places, plan_keys, key_place, plan_value, plan_output, gathered_aggregates, printed_numbers, plan_outputs, plan_aggregates, plan_items, Small}
 use Rattle.saber_check.proofs.Lemmas.{drop_item}
 
 -- ---- how many there are
@@ -34,12 +34,12 @@ few_keys q h = omega (arith, h, keys_count q q.group)
 pub few_others : (q : Query) → Small q → length q.items ≤ 2 ^ 30
 few_others q h = omega (arith, h, span_count item_width q.items)
 
-gathered_count : (xs : List Output) → length (gathered xs) ≤ length xs
+gathered_count : (xs : List Output) → length (gathered_aggregates xs) ≤ length xs
 gathered_count [] = omega arith
 gathered_count (out.Place k ∷ xs) = omega (arith, gathered_count xs)
 gathered_count (out.Aggregate g ∷ xs) = omega (arith, gathered_count xs)
 
-printed_count : (n : ℕ) (xs : List Output) → length (printed n xs) ≡ length xs
+printed_count : (n : ℕ) (xs : List Output) → length (printed_numbers n xs) ≡ length xs
 printed_count n [] = refl
 printed_count n (out.Place k ∷ xs) = ap suc (printed_count n xs)
 printed_count n (out.Aggregate g ∷ xs) = ap suc (printed_count (n + 1) xs)
@@ -48,14 +48,14 @@ printed_count n (out.Aggregate g ∷ xs) = ap suc (printed_count (n + 1) xs)
 pub items_count : (q : Query) → length (plan_items q) ≡ length (items q)
 items_count q = by (is_group q)
   where
-    by : (b : Bool) → length (if b then printed (length (plan_keys q) + 1) (plan_outputs q) else map (plan_value q) (items q)) ≡ length (items q)
+    by : (b : Bool) → length (if b then printed_numbers (length (plan_keys q) + 1) (plan_outputs q) else map (plan_value q) (items q)) ≡ length (items q)
     by true = printed_count (length (plan_keys q) + 1) (plan_outputs q) ∙ length-map (items q) (plan_output q)
     by false = length-map (items q) (plan_value q)
 
 pub aggregates_count : (q : Query) → length (plan_aggregates q) ≤ length (items q)
 aggregates_count q = by (is_group q)
   where
-    by : (b : Bool) → length (if b then gathered (plan_outputs q) else []) ≤ length (items q)
+    by : (b : Bool) → length (if b then gathered_aggregates (plan_outputs q) else []) ≤ length (items q)
     by true = omega (arith, gathered_count (plan_outputs q), length-map (items q) (plan_output q))
     by false = omega arith
 
@@ -90,35 +90,35 @@ key_inside q (f.Negative n) j e = cc
 
 -- ---- the walk over the items
 
-gathered_more : (x : Output) (xs : List Output) → gathered (x ∷ xs) ≡ gathered (x ∷ []) ++ gathered xs
+gathered_more : (x : Output) (xs : List Output) → gathered_aggregates (x ∷ xs) ≡ gathered_aggregates (x ∷ []) ++ gathered_aggregates xs
 gathered_more (out.Place k) xs = refl
 gathered_more (out.Aggregate g) xs = refl
 
-printed_more : (n : ℕ) (x : Output) (xs : List Output) → printed n (x ∷ xs) ≡ printed n (x ∷ []) ++ printed (n + length (gathered (x ∷ []))) xs
-printed_more n (out.Place k) xs = let r : n ≡ n + 0 = omega arith in ap (λ m. printed n (out.Place k ∷ []) ++ printed m xs) r
+printed_more : (n : ℕ) (x : Output) (xs : List Output) → printed_numbers n (x ∷ xs) ≡ printed_numbers n (x ∷ []) ++ printed_numbers (n + length (gathered_aggregates (x ∷ []))) xs
+printed_more n (out.Place k) xs = let r : n ≡ n + 0 = omega arith in ap (λ m. printed_numbers n (out.Place k ∷ []) ++ printed_numbers m xs) r
 printed_more n (out.Aggregate g) xs = refl
 
 -- what is there of all outputs, where the rest is to come
 pub record Begun (first : ℕ) (gs : List Aggregate) (es : List (List Product)) (rest all : List Output) : Type 0 where
-  pub gathered : gs ++ gathered rest ≡ gathered all
-  pub printed : es ++ printed (first + length gs) rest ≡ printed first all
+  pub gathered : gs ++ gathered_aggregates rest ≡ gathered_aggregates all
+  pub printed : es ++ printed_numbers (first + length gs) rest ≡ printed_numbers first all
 
 begun : (first : ℕ) (all : List Output) → Begun first [] [] all all
-begun first all = let r : first + length {A = Aggregate} [] ≡ first = omega arith in record { gathered = refl; printed = ap (λ n. printed n all) r }
+begun first all = let r : first + length {A = Aggregate} [] ≡ first = omega arith in record { gathered = refl; printed = ap (λ n. printed_numbers n all) r }
 
 -- one output more
 further : (first : ℕ) (gs hs : List Aggregate) (es fs : List (List Product)) (x : Output) (rest all : List Output) → Begun first gs es (x ∷ rest) all →
-    hs ≡ gs ++ gathered (x ∷ []) → fs ≡ es ++ printed (first + length gs) (x ∷ []) → Begun first hs fs rest all
+    hs ≡ gs ++ gathered_aggregates (x ∷ []) → fs ≡ es ++ printed_numbers (first + length gs) (x ∷ []) → Begun first hs fs rest all
 further first gs hs es fs x rest all b h k =
     let n = first + length gs in
-    let l : first + length hs ≡ n + length (gathered (x ∷ [])) = omega (arith, ap length h, length-append gs (gathered (x ∷ []))) in
+    let l : first + length hs ≡ n + length (gathered_aggregates (x ∷ [])) = omega (arith, ap length h, length-append gs (gathered_aggregates (x ∷ []))) in
     record {
       gathered =
-          ap (λ ys. ys ++ gathered rest) h ∙ append_assoc gs (gathered (x ∷ [])) (gathered rest)
+          ap (λ ys. ys ++ gathered_aggregates rest) h ∙ append_assoc gs (gathered_aggregates (x ∷ [])) (gathered_aggregates rest)
           ∙ ap (λ ys. gs ++ ys) (sym (gathered_more x rest)) ∙ b.gathered;
       printed =
-          ap (λ m. fs ++ printed m rest) l ∙ ap (λ ys. ys ++ printed (n + length (gathered (x ∷ []))) rest) k
-          ∙ append_assoc es (printed n (x ∷ [])) (printed (n + length (gathered (x ∷ []))) rest)
+          ap (λ m. fs ++ printed_numbers m rest) l ∙ ap (λ ys. ys ++ printed_numbers (n + length (gathered_aggregates (x ∷ []))) rest) k
+          ∙ append_assoc es (printed_numbers n (x ∷ [])) (printed_numbers (n + length (gathered_aggregates (x ∷ []))) rest)
           ∙ ap (λ ys. es ++ ys) (sym (printed_more n x rest)) ∙ b.printed;
     }
 
@@ -128,24 +128,24 @@ pub record Walked (q : Query) (xs : List Item) (i first : ℕ) (gs : List Aggreg
   pub few : length gs ≤ i + 1
 
 pub walked_first : (q : Query) (xs : List Item) (first : ℕ) (gs hs : List Aggregate) (es fs : List (List Product)) → xs ≡ q.items → gs ≡ [] → es ≡ [] →
-    hs ≡ gs ++ gathered (plan_output q q.item ∷ []) → fs ≡ es ++ printed (first + length gs) (plan_output q q.item ∷ []) → Walked q xs 0 first hs fs
+    hs ≡ gs ++ gathered_aggregates (plan_output q q.item ∷ []) → fs ≡ es ++ printed_numbers (first + length gs) (plan_output q q.item ∷ []) → Walked q xs 0 first hs fs
 walked_first q xs first gs hs es fs e a b h k =
     let x = plan_output q q.item in
-    let h' : hs ≡ [] ++ gathered (x ∷ []) = h ∙ ap (λ ys. ys ++ gathered (x ∷ [])) a in
-    let k' : fs ≡ [] ++ printed (first + length {A = Aggregate} []) (x ∷ []) = k ∙ ap (λ ys. es ++ printed (first + length ys) (x ∷ [])) a ∙ ap (λ ys. ys ++ printed (first + 0) (x ∷ [])) b in
+    let h' : hs ≡ [] ++ gathered_aggregates (x ∷ []) = h ∙ ap (λ ys. ys ++ gathered_aggregates (x ∷ [])) a in
+    let k' : fs ≡ [] ++ printed_numbers (first + length {A = Aggregate} []) (x ∷ []) = k ∙ ap (λ ys. es ++ printed_numbers (first + length ys) (x ∷ [])) a ∙ ap (λ ys. ys ++ printed_numbers (first + 0) (x ∷ [])) b in
     let w = further first [] hs [] fs x (map (plan_output q) q.items) (plan_outputs q) (begun first (plan_outputs q)) h' k' in
     record { outputs = subst (λ ys. Begun first hs fs (map (plan_output q) ys) (plan_outputs q)) (sym e) w; few = omega (arith, ap length h', gathered_count (x ∷ [])) }
 
 pub walked_next : (q : Query) (xs : List Item) (i first : ℕ) (x : Item) (gs hs : List Aggregate) (es fs : List (List Product)) → i < length xs → x ≡ get_or xs i x → Walked q xs i first gs es →
-    hs ≡ gs ++ gathered (plan_output q x ∷ []) → fs ≡ es ++ printed (first + length gs) (plan_output q x ∷ []) → Walked q xs (i + 1) first hs fs
+    hs ≡ gs ++ gathered_aggregates (plan_output q x ∷ []) → fs ≡ es ++ printed_numbers (first + length gs) (plan_output q x ∷ []) → Walked q xs (i + 1) first hs fs
 walked_next q xs i first x gs hs es fs l e w h k =
     let o = subst (λ ys. Begun first gs es (map (plan_output q) ys) (plan_outputs q)) (drop_item xs i x l e) w.outputs in
     record {
       outputs = further first gs hs es fs (plan_output q x) (map (plan_output q) (drop (i + 1) xs)) (plan_outputs q) o h k;
-      few = omega (arith, ap length h, length-append gs (gathered (plan_output q x ∷ [])), gathered_count (plan_output q x ∷ []), w.few);
+      few = omega (arith, ap length h, length-append gs (gathered_aggregates (plan_output q x ∷ [])), gathered_count (plan_output q x ∷ []), w.few);
     }
 
-pub walked_all : (q : Query) (xs : List Item) (i first : ℕ) (gs : List Aggregate) (es : List (List Product)) → length xs ≤ i → Walked q xs i first gs es → (gs ≡ gathered (plan_outputs q)) × (es ≡ printed first (plan_outputs q))
+pub walked_all : (q : Query) (xs : List Item) (i first : ℕ) (gs : List Aggregate) (es : List (List Product)) → length xs ≤ i → Walked q xs i first gs es → (gs ≡ gathered_aggregates (plan_outputs q)) × (es ≡ printed_numbers first (plan_outputs q))
 walked_all q xs i first gs es l w =
     let o = subst (λ ys. Begun first gs es (map (plan_output q) ys) (plan_outputs q)) (drop_all i xs l) w.outputs in
     (sym (append-nil gs) ∙ o.gathered, sym (append-nil es) ∙ o.printed)

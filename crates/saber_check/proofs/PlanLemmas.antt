@@ -35,32 +35,32 @@ unit_plan q u = plan_test q (test_of u)
 abbrev pub conj_plan : Query → Conj → t.Both
 conj_plan q b = plan_both q (both_of b)
 
-pub units_plan : (q : Query) (us : List Unit_tree) → plan_ands q (ands_of (map test_of us)) ≡ t.joined (map (unit_plan q) us)
+pub units_plan : (q : Query) (us : List Unit_tree) → plan_ands q (ands_of (map test_of us)) ≡ t.joined_tests (map (unit_plan q) us)
 units_plan q [] = refl
 units_plan q (u ∷ us) = ap (λ x. t.both (unit_plan q u) x) (units_plan q us)
 
-pub conjs_plan : (q : Query) (bs : List Conj) → plan_ors q (ors_of (map both_of bs)) ≡ t.chosen (map (conj_plan q) bs)
+pub conjs_plan : (q : Query) (bs : List Conj) → plan_ors q (ors_of (map both_of bs)) ≡ t.chosen_tests (map (conj_plan q) bs)
 conjs_plan q [] = refl
 conjs_plan q (b ∷ bs) = ap (λ x. t.either (conj_plan q b) x) (conjs_plan q bs)
 
 pub conj_planned : (q : Query) (b : Both) (u : Unit_tree) (more us : List Unit_tree) (made : t.Both) (start list : List Plan_unit) (first : Plan_unit) (j : ℕ) →
-    b ≡ both_by (test_of u) (map test_of more) → us ≡ more → t.test_of first ≡ plan_test q (test_of u) → start ≡ first ∷ [] → made ≡ t.joined (map t.test_of list) → length us ≤ j →
+    b ≡ both_by (test_of u) (map test_of more) → us ≡ more → t.test_of first ≡ plan_test q (test_of u) → start ≡ first ∷ [] → made ≡ t.joined_tests (map t.test_of list) → length us ≤ j →
     map t.test_of list ++ map (unit_plan q) (drop j us) ≡ map t.test_of start ++ map (unit_plan q) us → made ≡ plan_both q b
 conj_planned q b u more us made start list first j s e f n m l v =
     let g = grown t.test_of (unit_plan q) list us j _ l v in
-    m ∙ ap t.joined g ∙ ap (λ xs. t.joined (map t.test_of xs ++ map (unit_plan q) us)) n
-    ∙ ap (λ x. t.both x (t.joined (map (unit_plan q) us))) f
-    ∙ ap (λ xs. t.both (unit_plan q u) (t.joined (map (unit_plan q) xs))) e
+    m ∙ ap t.joined_tests g ∙ ap (λ xs. t.joined_tests (map t.test_of xs ++ map (unit_plan q) us)) n
+    ∙ ap (λ x. t.both x (t.joined_tests (map (unit_plan q) us))) f
+    ∙ ap (λ xs. t.both (unit_plan q u) (t.joined_tests (map (unit_plan q) xs))) e
     ∙ ap (λ x. t.both (unit_plan q u) x) (sym (units_plan q more))
     ∙ sym (ap (plan_both q) s)
 
 pub pred_planned : (q : Query) (p : Tests) (b : Conj) (more bs : List Conj) (made : t.Tests) (start list : List Plan_conj) (first : Plan_conj) (j : ℕ) →
-    p ≡ tests_by (both_of b) (map both_of more) → bs ≡ more → t.both_of first ≡ plan_both q (both_of b) → start ≡ first ∷ [] → made ≡ t.chosen (map t.both_of list) → length bs ≤ j →
+    p ≡ tests_by (both_of b) (map both_of more) → bs ≡ more → t.both_of first ≡ plan_both q (both_of b) → start ≡ first ∷ [] → made ≡ t.chosen_tests (map t.both_of list) → length bs ≤ j →
     map t.both_of list ++ map (conj_plan q) (drop j bs) ≡ map t.both_of start ++ map (conj_plan q) bs → made ≡ plan_tests q p
 pred_planned q p b more bs made start list first j s e f n m l v =
     let g = grown t.both_of (conj_plan q) list bs j _ l v in
-    m ∙ ap t.chosen g ∙ ap (λ xs. t.chosen (map t.both_of xs ++ map (conj_plan q) bs)) n
-    ∙ ap (λ x. t.either x (t.chosen (map (conj_plan q) bs))) f
-    ∙ ap (λ xs. t.either (conj_plan q b) (t.chosen (map (conj_plan q) xs))) e
+    m ∙ ap t.chosen_tests g ∙ ap (λ xs. t.chosen_tests (map t.both_of xs ++ map (conj_plan q) bs)) n
+    ∙ ap (λ x. t.either x (t.chosen_tests (map (conj_plan q) bs))) f
+    ∙ ap (λ xs. t.either (conj_plan q b) (t.chosen_tests (map (conj_plan q) xs))) e
     ∙ ap (λ x. t.either (conj_plan q b) x) (sym (conjs_plan q more))
     ∙ sym (ap (plan_tests q) s)

@@ -10,7 +10,7 @@ use Rattle.saber_query.specs.Trees.{Query, query_of, depth}
 use Rattle.saber_query.specs.Words.{words, Begins, Unfit, IsDeep}
 use Rattle.saber_query.specs.Real.{AllReal}
 use Rattle.saber_query.specs.Parsed.{Parsed}
-use Rattle.saber_query.specs.Lexing.{lexed}
+use Rattle.saber_query.specs.Lexing.{lexed_text}
 use Rattle.saber_query.specs.Reading.{token_of}
 use Rattle.saber_query.specs.Means.{MeansTree, TextFault}
 use Rattle.saber_check.specs.Plans.{plan_tree}
@@ -22,7 +22,7 @@ abbrev pub HaveOneTree : Type 0
 HaveOneTree = (q r : Query) → words q ≡ words r → q ≡ r
 
 -- a text has one list of tokens
-pub same_tokens : (text : List ℕ) (a b : List Placed) → lexed text ≡ Ok a → lexed text ≡ Ok b → a ≡ b
+pub same_tokens : (text : List ℕ) (a b : List Placed) → lexed_text text ≡ Ok a → lexed_text text ≡ Ok b → a ≡ b
 same_tokens text a b e h = cc
 
 pub same_query : HaveOneTree → (text : List ℕ) (p r : Parsed) → MeansTree text p → MeansTree text r → query_of p.select ≡ query_of r.select
@@ -33,7 +33,7 @@ real_behind [] ys a = a
 real_behind (x ∷ xs) ys a = real_behind xs ys a.1
 
 -- the words of a tree that a text means are what comes before a stop and what comes after
-split_words : (text : List ℕ) (p : Parsed) (before rest : List Placed) → MeansTree text p → lexed text ≡ Ok (before ++ rest) → words (query_of p.select) ≡ map token_of before ++ map token_of rest
+split_words : (text : List ℕ) (p : Parsed) (before rest : List Placed) → MeansTree text p → lexed_text text ≡ Ok (before ++ rest) → words (query_of p.select) ≡ map token_of before ++ map token_of rest
 split_words text p before rest m e = m.words ∙ ap (map token_of) (same_tokens text m.placed (before ++ rest) m.lexed e) ∙ map-append token_of before rest
 
 -- so with the next token they begin a tree

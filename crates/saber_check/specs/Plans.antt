@@ -192,16 +192,16 @@ plan_output q (Max e) = out.Aggregate (record { fold = fold.Max; expr = plan_exp
 plan_output q (Value e) = option_map_or out.Place (key_place q e.first.first) (out.Aggregate (record { fold = fold.First; expr = plan_expr q e }))
 
 -- the aggregates among them, in order
-abbrev pub gathered : List Output → List Aggregate
-gathered [] = []
-gathered (out.Place k ∷ xs) = gathered xs
-gathered (out.Aggregate g ∷ xs) = g ∷ gathered xs
+abbrev pub gathered_aggregates : List Output → List Aggregate
+gathered_aggregates [] = []
+gathered_aggregates (out.Place k ∷ xs) = gathered_aggregates xs
+gathered_aggregates (out.Aggregate g ∷ xs) = g ∷ gathered_aggregates xs
 
 -- the numbers that they print, where the first aggregate stands at n and each further one behind it
-abbrev pub printed : ℕ → List Output → List (List Product)
-printed n [] = []
-printed n (out.Place k ∷ xs) = lone k ∷ printed n xs
-printed n (out.Aggregate g ∷ xs) = lone n ∷ printed (n + 1) xs
+abbrev pub printed_numbers : ℕ → List Output → List (List Product)
+printed_numbers n [] = []
+printed_numbers n (out.Place k ∷ xs) = lone k ∷ printed_numbers n xs
+printed_numbers n (out.Aggregate g ∷ xs) = lone n ∷ printed_numbers (n + 1) xs
 
 -- those of all items
 abbrev pub plan_outputs : Query → List Output
@@ -209,11 +209,11 @@ plan_outputs q = map (plan_output q) (items q)
 
 -- a group query alone gathers
 abbrev pub plan_aggregates : Query → List Aggregate
-plan_aggregates q = if is_group q then gathered (plan_outputs q) else []
+plan_aggregates q = if is_group q then gathered_aggregates (plan_outputs q) else []
 
 -- and prints what its groups have; another query prints the values of its items
 abbrev pub plan_items : Query → List (List Product)
-plan_items q = if is_group q then printed (length (plan_keys q) + 1) (plan_outputs q) else map (plan_value q) (items q)
+plan_items q = if is_group q then printed_numbers (length (plan_keys q) + 1) (plan_outputs q) else map (plan_value q) (items q)
 
 -- words one for one
 abbrev pub plan_word : StreamWord → Word

@@ -4,7 +4,7 @@ ghost use Rattle.std.specs.List.{position};
 ghost use Rattle.saber_query.specs.Trees.{query_of};
 ghost use Rattle.saber_check.specs.Faults.{items};
 ghost use Rattle.saber_check.specs.declared.outputs.Output.TheVariants as out;
-ghost use Rattle.saber_check.specs.Plans.{plan_expr, plan_value, key_place, plan_output, gathered, printed, plan_outputs, plan_aggregates, plan_items, plan_keys, Small};
+ghost use Rattle.saber_check.specs.Plans.{plan_expr, plan_value, key_place, plan_output, gathered_aggregates, printed_numbers, plan_outputs, plan_aggregates, plan_items, plan_keys, Small};
 
 use crate::expressions::{expr, plan_place};
 use crate::shape::is_group;
@@ -109,9 +109,9 @@ impl Outputs {
     // One output more, where the first aggregate stands at the place.
     fn put(&mut self, alloc: Global, first: u32, output: Output) -> Result<(), NoMemory>
         requires { first + length self.old.aggregates.items < 2 ^ 32 }
-        ensures aggregates { OnOk result (self.new.aggregates.items ≡ self.old.aggregates.items ++ gathered (output ∷ [])) }
+        ensures aggregates { OnOk result (self.new.aggregates.items ≡ self.old.aggregates.items ++ gathered_aggregates (output ∷ [])) }
         ensures items { OnOk result (self.new.items.items ≡ self.old.items.items
-            ++ printed (first + length self.old.aggregates.items) (output ∷ [])) }
+            ++ printed_numbers (first + length self.old.aggregates.items) (output ∷ [])) }
     {
         match output {
             Output::Place(place) => self.items.push(Expr::lone(alloc, place)?)?,
@@ -135,9 +135,9 @@ impl Outputs {
         requires small { Small (query_of query.now) }
         requires keys { keys.now ≡ plan_keys (query_of query.now) }
         requires room { length self.old.aggregates.items ≤ 2 ^ 30 }
-        ensures aggregates { OnOk result (self.new.aggregates.items ≡ self.old.aggregates.items ++ gathered (plan_output (query_of query.now) item.now ∷ [])) }
+        ensures aggregates { OnOk result (self.new.aggregates.items ≡ self.old.aggregates.items ++ gathered_aggregates (plan_output (query_of query.now) item.now ∷ [])) }
         ensures items { OnOk result (self.new.items.items ≡ self.old.items.items
-            ++ printed (length keys.now + 1 + length self.old.aggregates.items) (plan_output (query_of query.now) item.now ∷ [])) }
+            ++ printed_numbers (length keys.now + 1 + length self.old.aggregates.items) (plan_output (query_of query.now) item.now ∷ [])) }
     {
         let output = item_output(alloc, query, keys, item)?;
         self.put(alloc, keys.len() as u32 + 1, output)
@@ -147,8 +147,8 @@ impl Outputs {
 fn group_outputs(alloc: Global, query: &Select, keys: &[u32]) -> Result<Outputs, NoMemory>
     requires small { Small (query_of query.now) }
     requires keys { keys.now ≡ plan_keys (query_of query.now) }
-    ensures aggregates { IfOk result (λ o. o.aggregates.items ≡ gathered (plan_outputs (query_of query.now))) }
-    ensures items { IfOk result (λ o. o.items.items ≡ printed (length keys.now + 1) (plan_outputs (query_of query.now))) }
+    ensures aggregates { IfOk result (λ o. o.aggregates.items ≡ gathered_aggregates (plan_outputs (query_of query.now))) }
+    ensures items { IfOk result (λ o. o.items.items ≡ printed_numbers (length keys.now + 1) (plan_outputs (query_of query.now))) }
 {
     let mut outputs = Outputs {
         aggregates: Vec::new(alloc),

@@ -1,6 +1,6 @@
 -- What a chain leaves of its files, from what it did with each.
 use Rattle.std.proofs.Common.{◌≡◌, ◌<◌, ℕ, suc, List, [], ◌∷◌, ◌++◌, length, take, Option, Some, None, IfSome, refl, sym, ◌∙◌, ap, subst, arith, append-nil, append_assoc}
-use Rattle.saber_io.specs.Outside.{FilesView, Closed, asking, closing}
+use Rattle.saber_io.specs.Outside.{FilesView, Closed, after_asking, after_closing}
 use Rattle.saber_plan.specs.Trees.{Tree}
 use Rattle.saber_words.specs.Chain.{AskedChain}
 use Rattle.saber_words.specs.Commands.{chain}
@@ -11,7 +11,7 @@ use Rattle.saber_cli.specs.Outcomes.{IsClean, IsOfPlan, IsUnopened}
 use Rattle.saber_cli.specs.Uses.{Uses, unasked, unopened, used, IsOfQueryFile, IsOpened}
 use Rattle.saber_cli.specs.Due.{Contents, first_run, names_of, row_names}
 use Rattle.saber_cli.specs.Leaves.{AreOf, Matches}
-use Rattle.saber_cli.specs.RowFiles.{UsesRows, using}
+use Rattle.saber_cli.specs.RowFiles.{UsesRows, after_use}
 use Rattle.saber_cli.specs.Chained.{AsksChainRows, IsPlanned}
 use Rattle.saber_cli.specs.ChainLeaves.{LeavesBoth, LeavesChain, MatchesChain}
 use Rattle.saber_cli.specs.Chaining.{BothRead, IsMisfit, UsesChainRows, as_second}
@@ -76,8 +76,8 @@ plan_matches all NoMemory left faults h p f c = refl
 -- a first query that gave no plan
 pub first_leaves : (a : AskedChain) (o : Outcome) (old new : Option FilesView) → IsOfPlan o → Uses Query a.first o old new → LeavesChain a o old new
 first_leaves a o old new h (unasked e s) = subst (λ n. LeavesChain a o old n) (sym s) (none_asked a o old (subst (λ p. MatchesChain (length (names_of (chain a))) p 0 []) (sym e) refl))
-first_leaves a o old new h (unopened e s) = told_chain a o old new (λ t k. (_, s ∙ ap (λ p. asking p a.first) k, subst (λ p. LeavesBoth a p t (lost t a.first)) (sym e) (one_lost a t)))
-first_leaves a o old new h (used left faults f c i p s) = told_chain a o old new (λ t k. (_, s ∙ ap (λ q. closing (asking q a.first) left faults) k, one_back a o t left faults (is_of old t a.first left faults k i) (plan_matches (length (names_of (chain a))) o left faults h p f c)))
+first_leaves a o old new h (unopened e s) = told_chain a o old new (λ t k. (_, s ∙ ap (λ p. after_asking p a.first) k, subst (λ p. LeavesBoth a p t (lost t a.first)) (sym e) (one_lost a t)))
+first_leaves a o old new h (used left faults f c i p s) = told_chain a o old new (λ t k. (_, s ∙ ap (λ q. after_closing (after_asking q a.first) left faults) k, one_back a o t left faults (is_of old t a.first left faults k i) (plan_matches (length (names_of (chain a))) o left faults h p f c)))
 
 -- ---- the second query's file behind it
 
@@ -129,17 +129,17 @@ two_lost a t l z n g h = record {
 }
 
 -- behind a first query's source that had no faults
-behind_first : (a : AskedChain) (o : Outcome) (old mid new : Option FilesView) (l : Option (List ℕ)) (z : ℕ) → z ≡ 0 → IsOfTold old a.first l z → IfSome old (λ t. IsFirstPlanned a t.contents) → mid ≡ closing (asking old a.first) l z → IsOfPlan o → Uses Query a.second o mid new
+behind_first : (a : AskedChain) (o : Outcome) (old mid new : Option FilesView) (l : Option (List ℕ)) (z : ℕ) → z ≡ 0 → IsOfTold old a.first l z → IfSome old (λ t. IsFirstPlanned a t.contents) → mid ≡ after_closing (after_asking old a.first) l z → IsOfPlan o → Uses Query a.second o mid new
     → LeavesChain a (as_second o) old new
-behind_first a o old mid new l z n i g s h (unasked e s') = told_chain a (as_second o) old new (λ t k. (_, s' ∙ s ∙ ap (λ q. closing (asking q a.first) l z) k, subst (λ p. LeavesBoth a (as_second p) t (back t a.first l z)) (sym e) (one_back a NoMemory t l z (is_of old t a.first l z k i) refl)))
+behind_first a o old mid new l z n i g s h (unasked e s') = told_chain a (as_second o) old new (λ t k. (_, s' ∙ s ∙ ap (λ q. after_closing (after_asking q a.first) l z) k, subst (λ p. LeavesBoth a (as_second p) t (back t a.first l z)) (sym e) (one_back a NoMemory t l z (is_of old t a.first l z k i) refl)))
 behind_first a o old mid new l z n i g s h (unopened e s') = told_chain a (as_second o) old new (λ t k. (
   _,
-  s' ∙ ap (λ x. asking x a.second) (s ∙ ap (λ q. closing (asking q a.first) l z) k),
+  s' ∙ ap (λ x. after_asking x a.second) (s ∙ ap (λ q. after_closing (after_asking q a.first) l z) k),
   subst (λ p. LeavesBoth a (as_second p) t (lost (back t a.first l z) a.second)) (sym e) (two_lost a t l z n (subst (λ x. IfSome x (λ v. IsFirstPlanned a v.contents)) k g) (is_of old t a.first l z k i)),
 ))
-behind_first a o old mid new l z n i g s h (used left faults f c j p s') = told_chain a (as_second o) old new (λ t k. let m : mid ≡ Some (back t a.first l z) = s ∙ ap (λ q. closing (asking q a.first) l z) k in (
+behind_first a o old mid new l z n i g s h (used left faults f c j p s') = told_chain a (as_second o) old new (λ t k. let m : mid ≡ Some (back t a.first l z) = s ∙ ap (λ q. after_closing (after_asking q a.first) l z) k in (
   _,
-  s' ∙ ap (λ x. closing (asking x a.second) left faults) m,
+  s' ∙ ap (λ x. after_closing (after_asking x a.second) left faults) m,
   two_back a (as_second o) t l z left faults (subst (λ x. IfSome x (λ v. IsFirstPlanned a v.contents)) k g) (is_of old t a.first l z k i) (is_of mid (back t a.first l z) a.second left faults m j) (second_matches (length (names_of (chain a))) o l z left faults n h p f c),
 ))
 
@@ -151,18 +151,18 @@ second_leaves a o old mid new h g (used l z f c i p s) u = behind_first a o old 
 
 -- ---- both queries' files, read
 
-two_used : (old : Option FilesView) (first second : List ℕ) (one two : Closed) → closing (asking (closing (asking old first) one.0 one.1) second) two.0 two.1 ≡ using old (first ∷ second ∷ []) (one ∷ two ∷ [])
+two_used : (old : Option FilesView) (first second : List ℕ) (one two : Closed) → after_closing (after_asking (after_closing (after_asking old first) one.0 one.1) second) two.0 two.1 ≡ after_use old (first ∷ second ∷ []) (one ∷ two ∷ [])
 two_used None first second one two = refl
 two_used (Some t) first second one two = λ i. Some (record { contents = t.contents; asked = append_assoc t.asked (first ∷ []) (second ∷ []) i; closed = append_assoc t.closed (one ∷ []) (two ∷ []) i })
 
-both_used_by : (first second : List ℕ) (old mid new : Option FilesView) (l : Option (List ℕ)) (z : ℕ) (left : Option (List ℕ)) (faults : ℕ) → z ≡ 0 → faults ≡ 0 → IsOfTold old first l z → IsOfTold old second left faults → mid ≡ closing (asking old first) l z → new ≡ closing (asking mid second) left faults
+both_used_by : (first second : List ℕ) (old mid new : Option FilesView) (l : Option (List ℕ)) (z : ℕ) (left : Option (List ℕ)) (faults : ℕ) → z ≡ 0 → faults ≡ 0 → IsOfTold old first l z → IsOfTold old second left faults → mid ≡ after_closing (after_asking old first) l z → new ≡ after_closing (after_asking mid second) left faults
     → BothRead first second old new
 both_used_by first second old mid new l z left faults n m i j s s' = record {
   one = (l, z);
   two = (left, faults);
   one_good = n;
   two_good = m;
-  told = s' ∙ ap (λ x. closing (asking x second) left faults) s ∙ two_used old first second (l, z) (left, faults);
+  told = s' ∙ ap (λ x. after_closing (after_asking x second) left faults) s ∙ two_used old first second (l, z) (left, faults);
   one_of = i;
   two_of = j;
 }
@@ -194,7 +194,7 @@ misfit_matches all p q n NoMemory one two h z w = absurd h
 pub misfit_leaves : (a : AskedChain) (p q : Tree) (n : ℕ) (o : Outcome) (old new : Option FilesView) → IsMisfit p q n o → IfSome old (λ t. IsFirstPlanned a t.contents) → BothRead a.first a.second old new → LeavesChain a o old new
 misfit_leaves a p q n o old new h g b = told_chain a o old new (λ t k. (
   _,
-  b.told ∙ ap (λ x. using x (a.first ∷ a.second ∷ []) (b.one ∷ b.two ∷ [])) k,
+  b.told ∙ ap (λ x. after_use x (a.first ∷ a.second ∷ []) (b.one ∷ b.two ∷ [])) k,
   record {
     contents = refl;
     count = 2;
@@ -213,9 +213,9 @@ misfit_leaves a p q n o old new h g b = told_chain a o old new (λ t k. (
 
 -- row files that were asked for behind two queries that were read
 pub chain_rows_leave : (a : AskedChain) (o : Outcome) (old mid new : Option FilesView) → IfSome old (λ t. AsksChainRows t.contents a) → BothRead a.first a.second old mid → UsesChainRows (row_names (first_run a)) o mid new → LeavesChain a o old new
-chain_rows_leave a o old mid new g b u = told_chain a o old new (λ t k. let m = b.told ∙ ap (λ x. using x (a.first ∷ a.second ∷ []) (b.one ∷ b.two ∷ [])) k in let r : AsksChainRows t.contents a = subst (λ x. IfSome x (λ v. AsksChainRows v.contents a)) k g in (
+chain_rows_leave a o old mid new g b u = told_chain a o old new (λ t k. let m = b.told ∙ ap (λ x. after_use x (a.first ∷ a.second ∷ []) (b.one ∷ b.two ∷ [])) k in let r : AsksChainRows t.contents a = subst (λ x. IfSome x (λ v. AsksChainRows v.contents a)) k g in (
   _,
-  u.told ∙ ap (λ x. using x (take u.count (row_names (first_run a))) u.given_back) m,
+  u.told ∙ ap (λ x. after_use x (take u.count (row_names (first_run a))) u.given_back) m,
   record {
     contents = refl;
     count = suc (suc u.count);

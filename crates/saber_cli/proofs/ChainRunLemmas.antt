@@ -3,7 +3,7 @@ use Rattle.std.proofs.Common.{◌≡◌, ◌≢◌, ℕ, suc, List, [], ◌∷�
 use Rattle.std.proofs.lemmas.List.{take_all}
 use Rattle.std.specs.Prelude.{Bool, true, false}
 use Rattle.saber_io.specs.Outside.{FilesView, Closed}
-use Rattle.saber_plan.specs.Outputs.{Rose, appended}
+use Rattle.saber_plan.specs.Outputs.{Rose, appended_text}
 use Rattle.saber_io.specs.declared.feeds.EndMark.TheVariants as marks
 use Rattle.saber_plan.specs.declared.rows.Side.{Side}
 use Rattle.saber_plan.specs.declared.rows.Side.TheVariants as sides
@@ -36,7 +36,7 @@ use Rattle.saber_cli.specs.Unread.{unread}
 use Rattle.saber_cli.specs.Due.{Contents, IsLike, contents_of, first_run, row_names}
 use Rattle.saber_cli.specs.Endings.{chained_as, ended_as, file_on, unless_cut}
 use Rattle.saber_cli.specs.Leaves.{HadNoFaults}
-use Rattle.saber_cli.specs.RowFiles.{OpensAll, raised_by, using}
+use Rattle.saber_cli.specs.RowFiles.{OpensAll, raised_by, after_use}
 use Rattle.saber_cli.specs.Chained.{AnswersChain, AsksChainRows, ChainsOver, CutTakesChain, HasPlans, HasReason, IsAnswered, IsChainable, RunsChain, chain_sizes, not_run, both_run}
 use Rattle.saber_cli.specs.Taken.{TakesOf, TakesRows}
 use Rattle.saber_cli.specs.ChainLeaves.{HadFaultsAt, LeavesChain, MatchesChain}
@@ -215,7 +215,7 @@ runs_chain p q s leaves files had has o e is stops g whole never all cut narrow 
   cut = cut;
   narrow = narrow;
   whole = λ h. let w = chained_whole s.ring e.first e.second e.second_stopped cut narrow (subst IsAnswered is h) in
-      some_map (λ (fs : List (List ℕ)). g.out ≡ text_of_both p q (going_on (input_of p (limits_of s) fs).rows)) (λ fs. has ≡ appended had (text_of_both p q (going_on (input_of p (limits_of s) fs).rows))) files (λ fs k. g.written ∙ ap (appended had) k) (g.whole_text w.0 w.1);
+      some_map (λ (fs : List (List ℕ)). g.out ≡ text_of_both p q (going_on (input_of p (limits_of s) fs).rows)) (λ fs. has ≡ appended_text had (text_of_both p q (going_on (input_of p (limits_of s) fs).rows))) files (λ fs k. g.written ∙ ap (appended_text had) k) (g.whole_text w.0 w.1);
 }
 
 -- the same where more, or other things, are known of the first query's tasks
@@ -330,7 +330,7 @@ run_matches n NoMemory xs ys one two h p len y c r z w = omega (arith, len)
 
 module _ {S : Type 0} (left : S → Option (List ℕ)) (faults : S → ℕ) where
   pub chain_uses : (names : List (List ℕ)) (o : Outcome) (i j : Inputs S) (a b c : Option FilesView) → length (each_input left i) ≡ length names → IfSome a (λ t. OpensAll t.contents names (each_input left i)) → HadNoFaults (backs left faults i)
-      → b ≡ using a names [] → c ≡ using b [] (backs left faults j) → IsOfChain o → IsOpened o → (taken : List (List ℕ)) × GaveAll (each_input left i) taken (each_input left j)
+      → b ≡ after_use a names [] → c ≡ after_use b [] (backs left faults j) → IsOfChain o → IsOpened o → (taken : List (List ℕ)) × GaveAll (each_input left i) taken (each_input left j)
       → (IsClean o → each_input faults j ≡ each_input faults i) → ((side : Side) → o ≡ ReadFault (file_on side) → RoseAt side (each_input faults i) (each_input faults j)) → UsesChainRows names o a c
   chain_uses names o i j a b c number opens fresh asked closed kinds opened takes good read =
       let len : length (backs left faults j) ≡ length names = back_length left faults j ∙ sym (gave_length (each_input left i) (each_input left j) takes.0 takes.1) ∙ number in
@@ -339,7 +339,7 @@ module _ {S : Type 0} (left : S → Option (List ℕ)) (faults : S → ℕ) wher
         count = length names;
         few = omega arith;
         given_back = backs left faults j;
-        told = both_used a b c names (backs left faults j) asked closed ∙ ap (λ x. using a x (backs left faults j)) (sym (take_all (length names) names (omega arith)));
+        told = both_used a b c names (backs left faults j) asked closed ∙ ap (λ x. after_use a x (backs left faults j)) (sym (take_all (length names) names (omega arith)));
         are_of = of_told a names (each_input left i) takes.0 (backs left faults j) opens gave;
         matches = λ one two z w. run_matches (length names) o (backs left faults i) (backs left faults j) one two kinds opened len fresh (λ k. faults_of left faults j ∙ good k ∙ sym (faults_of left faults i))
             (λ side e. subst (λ x. RoseAt side x (map (λ s. s.1) (backs left faults j))) (sym (faults_of left faults i)) (subst (RoseAt side (each_input faults i)) (sym (faults_of left faults j)) (read side e))) z w;
@@ -351,7 +351,7 @@ module _ {S : Type 0} (left : S → Option (List ℕ)) (faults : S → ℕ) wher
 
   -- what both runs come to over open sources is what they come to over their files
   pub chain_runs : (p q : Tree) (s : Sizes) (names : List (List ℕ)) (had has : Option (List ℕ)) (o : Outcome) (tasks : ℕ) (i j : Inputs S) (a b c : Option FilesView) → IfSome a (λ t. OpensAll t.contents names (each_input left i))
-      → b ≡ using a names [] → c ≡ using b [] (backs left faults j) → RunsChain p q s (engine.LeavesWhole p s (each_input left i) (each_input left j)) (told_by left i) had has o tasks
+      → b ≡ after_use a names [] → c ≡ after_use b [] (backs left faults j) → RunsChain p q s (engine.LeavesWhole p s (each_input left i) (each_input left j)) (told_by left i) had has o tasks
       → ChainedTold p q s names a c had has o tasks
   chain_runs p q s names had has o tasks i j None b c opens asked closed h = tt
   chain_runs p q s names had has o tasks i j (Some t) b c opens asked closed h =
@@ -394,7 +394,7 @@ cut_takes a p None mid new b = tt
 cut_takes a p (Some t) mid new b = λ e n h side k.
     let w : TakesRows p a.task (limits_of (chain_sizes a)) n (row_names (first_run a)) mid new = h side k in (
       _,
-      w.told ∙ ap (λ o. using o (row_names (first_run a)) w.given_back) b.told,
+      w.told ∙ ap (λ o. after_use o (row_names (first_run a)) w.given_back) b.told,
       record {
         first_query = b.one;
         second_query = b.two;

@@ -3,7 +3,7 @@ use Rattle.std.proofs.Common.{Bool, ⊎_elim, ◌++◌, ◌≡◌, ◌≤◌, �
 use Rattle.std.proofs.Math.Path.{transport}
 use Rattle.std.proofs.lemmas.List.{take_all}
 use Rattle.saber_io.specs.Outside.{FilesView}
-use Rattle.saber_plan.specs.Outputs.{appended, appended-none}
+use Rattle.saber_plan.specs.Outputs.{appended_text, appended-none}
 use Rattle.saber_plan.specs.declared.rows.Side.{Side}
 use Rattle.saber_plan.specs.declared.rows.Side.TheVariants as sides
 use Rattle.saber_plan.specs.declared.rows.Row.{Row}
@@ -20,7 +20,7 @@ use Rattle.saber_words.specs.Demo.{AskedDemo}
 use Rattle.saber_words.specs.Commands.{Asked, demo, command_of}
 use Rattle.saber_words.specs.declared.commands.WordsFault.{WordsFault}
 use Rattle.saber_words.specs.declared.commands.WordsFault.TheVariants as fault
-use Rattle.saber_demo.specs.Rows.{demo_rows, generated}
+use Rattle.saber_demo.specs.Rows.{demo_rows, generated_file}
 use Rattle.saber_demo.specs.Query.{demo_tree}
 use Rattle.saber_demo.specs.Summary.{summary}
 use Rattle.saber_demo.specs.Laws.{GeneratedIsRead}
@@ -51,7 +51,7 @@ abbrev pub demo_limits : FileLimits
 demo_limits = record { most = 2 ^ 40; slack = 0 }
 
 -- the generated file is read whole
-pub read_of : GeneratedIsRead → (seed n : ℕ) → n ≤ 2 ^ 20 → input_of demo_tree demo_limits (generated seed n ∷ []) ≡ record { rows = demo_rows seed n; end = all_read }
+pub read_of : GeneratedIsRead → (seed n : ℕ) → n ≤ 2 ^ 20 → input_of demo_tree demo_limits (generated_file seed n ∷ []) ≡ record { rows = demo_rows seed n; end = all_read }
 read_of law seed n few = law seed n (2 ^ 40) few (omega arith)
 
 -- no task of it looks back
@@ -100,7 +100,7 @@ pub record IsRunOf (d : AskedDemo) (q : Tree) (n : ℕ) (limits : FileLimits) (f
   pub task : n ≡ d.task
   pub lines : limits ≡ demo_limits
   pub goes_on : flush ≡ false
-  pub rows : file ≡ generated d.seed d.rows
+  pub rows : file ≡ generated_file d.seed d.rows
 
 -- what it gives then
 pub run_gives : GeneratedIsRead → (d : AskedDemo) (q : Tree) (n ring : ℕ) (limits : FileLimits) (flush : Bool) (file : List ℕ) (e : RunEnd) (tasks : ℕ) (out : List ℕ) → d.rows ≤ 2 ^ 20 → IsRunOf d q n limits flush file
@@ -119,13 +119,13 @@ whole_answer law d ring tasks e out some is h =
     record { text_is = a.answers (λ e. cc) ∙ ap (text demo_tree) rows; tasks_are = all }
 
 -- what a sink has that had nothing
-pub written_is : (before after out : List ℕ) → before ≡ [] → Some after ≡ appended (Some before) out → after ≡ out
+pub written_is : (before after out : List ℕ) → before ≡ [] → Some after ≡ appended_text (Some before) out → after ≡ out
 written_is before after out none is = let same : after ≡ before ++ out = cc in same ∙ ap (λ l. l ++ out) none
 
 -- ---- what goes out
 
 -- the summary of an answer, whose writing came to this
-pub answer_told : (d : AskedDemo) (o : Outcome) (answer : List ℕ) (tasks told : ℕ) (old new : Option (List ℕ)) (text out : List ℕ) → IsAnswer d answer tasks → text ≡ summary d.rows answer → told ≡ tasks → new ≡ appended old out → PutsText text o out → IsOfPut o
+pub answer_told : (d : AskedDemo) (o : Outcome) (answer : List ℕ) (tasks told : ℕ) (old new : Option (List ℕ)) (text out : List ℕ) → IsAnswer d answer tasks → text ≡ summary d.rows answer → told ≡ tasks → new ≡ appended_text old out → PutsText text o out → IsOfPut o
     → TellsRun d o told old new
 answer_told d o answer tasks told old new text out a is same w p k = record {
   out = out;

@@ -1,7 +1,7 @@
 -- One file that is opened, read and given back.
 use Rattle.std.proofs.Common.{Result, Ok, Err, IfOk, IfErr, OnOk, refl, sym, ◌≡◌, ℕ, ◌<◌, ◌≤◌, List, take, Option, Some, None, IfSome, ◌∙◌, ap, subst, arith}
 use Rattle.std.proofs.lemmas.Bool.Decides.{nat_tests}
-use Rattle.saber_io.specs.Outside.{FilesView, asking, closing, raised, Opens}
+use Rattle.saber_io.specs.Outside.{FilesView, after_asking, after_closing, raised_faults, Opens}
 use Rattle.saber_plan.specs.Outputs.{Rose}
 use Rattle.saber_notes.specs.declared.outcome.InputFile.{InputFile}
 use Rattle.saber_notes.specs.declared.outcome.InputFile.TheVariants.{Query, Left, Right, SecondQuery}
@@ -23,8 +23,8 @@ opened_of (Some t) name had None faults o k = let clash : Some o.0 ≡ None = sy
 opened_of (Some t) name had (Some rest) faults o k = record { file = record { taken = k.0; rest = rest; there = o.1 ∙ sym o.2 ∙ k.2; left = refl }; few = k.1 }
 
 -- a file that was opened, and whose source was given back
-pub used_by : (file : InputFile) (name : List ℕ) (o : Outcome) (old mid new : Option FilesView) (left : Option (List ℕ)) (faults : ℕ) → (o ≡ ReadFault file → 0 < faults) → (IsClean o → faults ≡ 0) → IfSome old (λ t. IsOfQueryFile t.contents name (left, faults)) → IsOpened o → mid ≡ asking old name → new ≡ closing mid left faults → Uses file name o old new
-used_by file name o old mid new left faults read clean is_of opened asked closed = used left faults read clean is_of opened (closed ∙ ap (λ t. closing t left faults) asked)
+pub used_by : (file : InputFile) (name : List ℕ) (o : Outcome) (old mid new : Option FilesView) (left : Option (List ℕ)) (faults : ℕ) → (o ≡ ReadFault file → 0 < faults) → (IsClean o → faults ≡ 0) → IfSome old (λ t. IsOfQueryFile t.contents name (left, faults)) → IsOpened o → mid ≡ after_asking old name → new ≡ after_closing mid left faults → Uses file name o old new
+used_by file name o old mid new left faults read clean is_of opened asked closed = used left faults read clean is_of opened (closed ∙ ap (λ t. after_closing t left faults) asked)
 
 -- what was read of a source, or why there is nothing
 read_opened : (o : Outcome) → IsOfText o → IsOpened o
@@ -68,7 +68,7 @@ text_front bytes (Ok x) told name left o h = opened_front told name left (bytes 
 text_front bytes (Err e) told name left o h = tt
 
 pub text_used : {X : Type 0} (name : List ℕ) (r : Result X Outcome) (old mid new : Option FilesView) (left : Option (List ℕ)) (faults : ℕ) → IfErr r IsOfText → IfErr r (λ o. o ≡ ReadFault Query → 0 < faults) → OnOk r (faults ≡ 0) → IfSome old (λ t. IsOfQueryFile t.contents name (left, faults))
-    → mid ≡ asking old name → new ≡ closing mid left faults → Uses Query name (outcome_of r) old new
+    → mid ≡ after_asking old name → new ≡ after_closing mid left faults → Uses Query name (outcome_of r) old new
 text_used name (Ok x) old mid new left faults h k z i asked closed = used_by Query name Done old mid new left faults (λ e. cc) (λ c. z) i tt asked closed
 text_used name (Err o) old mid new left faults h k z i asked closed = used_by Query name o old mid new left faults k (λ c. absurd (text_not_clean o h c)) i (read_opened o h) asked closed
 
@@ -77,8 +77,8 @@ on_ok (Ok x) f h = f h
 on_ok (Err o) f h = tt
 
 -- no fault of a text, so none of its files
-pub text_good : {X : Type 0} (r : Result X Outcome) (a b c f : ℕ) → IfErr r IsOfText → OnOk r (f ≡ 0) → b ≡ a → c ≡ raised b f → IsClean (outcome_of r) → c ≡ a
-text_good (Ok x) a b c f h z e k n = k ∙ ap (raised b) z ∙ e
+pub text_good : {X : Type 0} (r : Result X Outcome) (a b c f : ℕ) → IfErr r IsOfText → OnOk r (f ≡ 0) → b ≡ a → c ≡ raised_faults b f → IsClean (outcome_of r) → c ≡ a
+text_good (Ok x) a b c f h z e k n = k ∙ ap (raised_faults b) z ∙ e
 text_good (Err o) a b c f h z e k n = absurd (text_not_clean o h n)
 
 -- a text's read fault is a fault of the files
@@ -129,11 +129,11 @@ pub keeps_more : (a b : ℕ) → a ≤ b → KeepsFaults a b
 keeps_more a b h = omega arith
 
 -- giving a source back loses no fault
-pub keeps_raised : (a b f c : ℕ) → a ≤ b → c ≡ raised b f → KeepsFaults a c
+pub keeps_raised : (a b f c : ℕ) → a ≤ b → c ≡ raised_faults b f → KeepsFaults a c
 keeps_raised a b f c h e = grind (arith, nat_tests)
 
 -- faults of a source are a fault of its files
-pub rose_raised : (a b f c : ℕ) → a ≤ b → 0 < f → c ≡ raised b f → Rose a c
+pub rose_raised : (a b f c : ℕ) → a ≤ b → 0 < f → c ≡ raised_faults b f → Rose a c
 rose_raised a b f c h k e = grind (arith, nat_tests)
 
 -- a count that rose from nothing is above nothing

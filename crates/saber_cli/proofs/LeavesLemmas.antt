@@ -1,6 +1,6 @@
 -- What a command leaves of its files, from what it did with each.
 use Rattle.std.proofs.Common.{◌≡◌, ◌<◌, ℕ, suc, List, [], ◌∷◌, ◌++◌, length, take, Option, Some, None, IfSome, refl, sym, ◌∙◌, ap, subst, arith, append-nil, append_assoc}
-use Rattle.saber_io.specs.Outside.{FilesView, asking, closing}
+use Rattle.saber_io.specs.Outside.{FilesView, after_asking, after_closing}
 use Rattle.saber_words.specs.Commands.{run, AskedRun}
 use Rattle.saber_notes.specs.declared.outcome.InputFile.TheVariants.{Query, Left, Right, SecondQuery}
 use Rattle.saber_notes.specs.declared.outcome.Outcome.{Outcome}
@@ -9,7 +9,7 @@ use Rattle.saber_cli.specs.Due.{AsksRows, row_names}
 use Rattle.saber_cli.specs.Outcomes.{IsOfShow}
 use Rattle.saber_cli.specs.Uses.{Uses, unasked, unopened, used, IsOfQueryFile, IsOpened, IsOfQuery}
 use Rattle.saber_cli.specs.Leaves.{AreOf, Leaves, LeavesTold, Matches}
-use Rattle.saber_cli.specs.RowFiles.{UsesRows, using}
+use Rattle.saber_cli.specs.RowFiles.{UsesRows, after_use}
 
 -- ---- told or not
 
@@ -66,15 +66,15 @@ query_matches all NoMemory left faults h p f = refl
 -- a query file that gave no text
 pub query_leaves : (name : List ℕ) (rest : List (List ℕ)) (G : FilesView → Type 0) (o : Outcome) (old new : Option FilesView) → IsOfQuery o → Uses Query name o old new → LeavesBy (name ∷ rest) G o old new
 query_leaves name rest G o old new h (unasked e s) = subst (λ n. LeavesBy (name ∷ rest) G o old n) (sym s) (none_left (name ∷ rest) G o old (subst (λ p. Matches (length (name ∷ rest)) p 0 []) (sym e) refl))
-query_leaves name rest G o old new h (unopened e s) = told_by (name ∷ rest) G o old new (λ t k. (_, s ∙ ap (λ p. asking p name) k, subst (λ p. Leaves (name ∷ rest) (G t) p t (record { contents = t.contents; asked = t.asked ++ name ∷ []; closed = t.closed })) (sym e) (one_open name rest (G t) t)))
-query_leaves name rest G o old new h (used left faults f c i p s) = told_by (name ∷ rest) G o old new (λ t k. (_, s ∙ ap (λ q. closing (asking q name) left faults) k, one_back name rest (G t) o t left faults (is_of old t name left faults k i) (query_matches (length (name ∷ rest)) o left faults h p f)))
+query_leaves name rest G o old new h (unopened e s) = told_by (name ∷ rest) G o old new (λ t k. (_, s ∙ ap (λ p. after_asking p name) k, subst (λ p. Leaves (name ∷ rest) (G t) p t (record { contents = t.contents; asked = t.asked ++ name ∷ []; closed = t.closed })) (sym e) (one_open name rest (G t) t)))
+query_leaves name rest G o old new h (used left faults f c i p s) = told_by (name ∷ rest) G o old new (λ t k. (_, s ∙ ap (λ q. after_closing (after_asking q name) left faults) k, one_back name rest (G t) o t left faults (is_of old t name left faults k i) (query_matches (length (name ∷ rest)) o left faults h p f)))
 
 -- a query file that was read, where nothing else is asked for
 after_query : (name : List ℕ) (rest : List (List ℕ)) (G : FilesView → Type 0) (o : Outcome) (old new : Option FilesView) → ((left : Option (List ℕ)) (faults : ℕ) → faults ≡ 0 → Matches (length (name ∷ rest)) o 1 ((left, faults) ∷ []))
     → Uses Query name Done old new → LeavesBy (name ∷ rest) G o old new
 after_query name rest G o old new m (unasked e s) = cc
 after_query name rest G o old new m (unopened e s) = cc
-after_query name rest G o old new m (used left faults f c i p s) = told_by (name ∷ rest) G o old new (λ t k. (_, s ∙ ap (λ q. closing (asking q name) left faults) k, one_back name rest (G t) o t left faults (is_of old t name left faults k i) (m left faults (c tt))))
+after_query name rest G o old new m (used left faults f c i p s) = told_by (name ∷ rest) G o old new (λ t k. (_, s ∙ ap (λ q. after_closing (after_asking q name) left faults) k, one_back name rest (G t) o t left faults (is_of old t name left faults k i) (m left faults (c tt))))
 
 -- outcomes of a run that end it behind its query's file
 abbrev pub IsRefused : Outcome → Type 0
@@ -122,11 +122,11 @@ show_leaves name G o old new h u = after_query name [] G o old new (show_matches
 -- ---- the query's file and then the row files
 
 -- a query's source that had no faults, and was given back before a row file was asked for
-behind_query : (query : List ℕ) (names : List (List ℕ)) (G : FilesView → Type 0) (o : Outcome) (old mid new : Option FilesView) (left : Option (List ℕ)) (faults : ℕ) → faults ≡ 0 → IsOfTold old query left faults → IfSome old G → mid ≡ closing (asking old query) left faults → UsesRows names o mid new
+behind_query : (query : List ℕ) (names : List (List ℕ)) (G : FilesView → Type 0) (o : Outcome) (old mid new : Option FilesView) (left : Option (List ℕ)) (faults : ℕ) → faults ≡ 0 → IsOfTold old query left faults → IfSome old G → mid ≡ after_closing (after_asking old query) left faults → UsesRows names o mid new
     → LeavesBy (query ∷ names) G o old new
-behind_query query names G o old mid new left faults z i g s u = told_by (query ∷ names) G o old new (λ t k. let m = s ∙ ap (λ x. closing (asking x query) left faults) k in (
+behind_query query names G o old mid new left faults z i g s u = told_by (query ∷ names) G o old new (λ t k. let m = s ∙ ap (λ x. after_closing (after_asking x query) left faults) k in (
   _,
-  u.told ∙ ap (λ x. using x (take u.count names) u.given_back) m,
+  u.told ∙ ap (λ x. after_use x (take u.count names) u.given_back) m,
   record {
     contents = refl;
     count = suc u.count;

@@ -3,8 +3,8 @@ use Rattle.std.proofs.Common.{Bool, ◌≡◌, ◌≤◌, ◌<◌, inl, inr, ℕ
 use Rattle.std.proofs.lemmas.List.{take_all}
 use Rattle.std.proofs.lemmas.Bool.Decides.{nat_tests}
 use Rattle.std.specs.Prelude.{option_to_list, option_and_then}
-use Rattle.saber_io.specs.Outside.{FilesView, Closed, Opens, OpensIn, asking, closing, content_in, given, raised}
-use Rattle.saber_plan.specs.Outputs.{Rose, counted}
+use Rattle.saber_io.specs.Outside.{FilesView, Closed, Opens, OpensIn, after_asking, after_closing, content_in, left_before, raised_faults}
+use Rattle.saber_plan.specs.Outputs.{Rose, raised_count}
 use Rattle.saber_plan.specs.declared.rows.Side.{Side}
 use Rattle.saber_plan.specs.declared.rows.Side.TheVariants as sides
 use Rattle.saber_plan.specs.Trees.{Tree}
@@ -24,18 +24,18 @@ use Rattle.saber_cli.specs.Answered.{Answered, AnsweredIn}
 use Rattle.saber_cli.specs.Due.{Contents, contents_of, row_names}
 use Rattle.saber_cli.specs.Uses.{IsOf, IsOpened, KeepsFaults}
 use Rattle.saber_cli.specs.Leaves.{AreOf, HadNoFaults, HadFaults, Matches}
-use Rattle.saber_cli.specs.RowFiles.{IsNotOpened, OpensAll, UsesRows, raised_by, source_back, using}
+use Rattle.saber_cli.specs.RowFiles.{IsNotOpened, OpensAll, UsesRows, raised_by, source_back, after_use}
 use Rattle.saber_cli.specs.Taken.{TakesOf, TakesRows}
 use Rattle.saber_cli.proofs.FileLemmas.{rose_some}
 
 -- ---- the right file was not opened
 
 -- two files were asked for, and the first was given back
-two_asked : (told : Option FilesView) (l name : List ℕ) (left : Option (List ℕ)) (faults : ℕ) → closing (asking (asking told l) name) left faults ≡ using told (l ∷ name ∷ []) ((left, faults) ∷ [])
+two_asked : (told : Option FilesView) (l name : List ℕ) (left : Option (List ℕ)) (faults : ℕ) → after_closing (after_asking (after_asking told l) name) left faults ≡ after_use told (l ∷ name ∷ []) ((left, faults) ∷ [])
 two_asked None l name left faults = refl
 two_asked (Some t) l name left faults = ap (λ x. Some (record { contents = t.contents; asked = x; closed = t.closed ++ (left, faults) ∷ [] })) (append_assoc t.asked (l ∷ []) (name ∷ []))
 
-one_asked : (told : Option FilesView) (l : List ℕ) (left : Option (List ℕ)) (faults : ℕ) → closing (asking told l) left faults ≡ using told (l ∷ []) ((left, faults) ∷ [])
+one_asked : (told : Option FilesView) (l : List ℕ) (left : Option (List ℕ)) (faults : ℕ) → after_closing (after_asking told l) left faults ≡ after_use told (l ∷ []) ((left, faults) ∷ [])
 one_asked None l left faults = refl
 one_asked (Some t) l left faults = refl
 
@@ -44,12 +44,12 @@ unread_of : (told : Option FilesView) (name : List ℕ) (left : Option (List ℕ
 unread_of None name left faults o = tt
 unread_of (Some t) name left faults o = (record { taken = []; rest = o.0; there = o.1; left = o.2 }, tt)
 
-back_of_two : (l name : List ℕ) (o : Outcome) (a b c d : Option FilesView) (left : Option (List ℕ)) (faults : ℕ) → Opens a l left → faults ≡ 0 → b ≡ asking a l → IsNotOpened Right name o b c → d ≡ closing c left faults → UsesRows (l ∷ name ∷ []) o a d
+back_of_two : (l name : List ℕ) (o : Outcome) (a b c d : Option FilesView) (left : Option (List ℕ)) (faults : ℕ) → Opens a l left → faults ≡ 0 → b ≡ after_asking a l → IsNotOpened Right name o b c → d ≡ after_closing c left faults → UsesRows (l ∷ name ∷ []) o a d
 back_of_two l name o a b c d left faults opens fresh asked (inl (k, n)) closed = subst (λ p. UsesRows (l ∷ name ∷ []) p a d) (sym k) (record {
   count = 2;
   few = omega arith;
   given_back = (left, faults) ∷ [];
-  told = closed ∙ ap (λ x. closing x left faults) n ∙ ap (λ x. closing (asking x name) left faults) asked ∙ two_asked a l name left faults;
+  told = closed ∙ ap (λ x. after_closing x left faults) n ∙ ap (λ x. after_closing (after_asking x name) left faults) asked ∙ two_asked a l name left faults;
   are_of = unread_of a l left faults opens;
   matches = λ query z. (refl, refl, (z, (fresh, tt)));
 })
@@ -57,12 +57,12 @@ back_of_two l name o a b c d left faults opens fresh asked (inr (k, n)) closed =
   count = 1;
   few = omega arith;
   given_back = (left, faults) ∷ [];
-  told = closed ∙ ap (λ x. closing x left faults) n ∙ ap (λ x. closing x left faults) asked ∙ one_asked a l left faults;
+  told = closed ∙ ap (λ x. after_closing x left faults) n ∙ ap (λ x. after_closing x left faults) asked ∙ one_asked a l left faults;
   are_of = unread_of a l left faults opens;
   matches = λ query z. refl;
 })
 
-pub right_unopened : (r : AskedRun) (name : List ℕ) (o : Outcome) (a b c d : Option FilesView) (left : Option (List ℕ)) (faults : ℕ) → r.right ≡ Some name → Opens a r.left left → faults ≡ 0 → b ≡ asking a r.left → IsNotOpened Right name o b c → d ≡ closing c left faults → UsesRows (row_names r) o a d
+pub right_unopened : (r : AskedRun) (name : List ℕ) (o : Outcome) (a b c d : Option FilesView) (left : Option (List ℕ)) (faults : ℕ) → r.right ≡ Some name → Opens a r.left left → faults ≡ 0 → b ≡ after_asking a r.left → IsNotOpened Right name o b c → d ≡ after_closing c left faults → UsesRows (row_names r) o a d
 right_unopened r name o a b c d left faults e opens fresh asked not closed = subst (λ x. UsesRows (r.left ∷ option_to_list x) o a d) (sym e) (back_of_two r.left name o a b c d left faults opens fresh asked not closed)
 
 -- ---- sources as they are given back
@@ -95,7 +95,7 @@ back_length left faults (One s) = refl
 back_length left faults (Two s t) = refl
 
 -- a source that was opened and read is of its file
-read_of : (contents : Contents) (name : List ℕ) (had has : Option (List ℕ)) (faults : ℕ) (taken : List ℕ) → OpensIn contents name had → had ≡ given taken has → IsOf contents name (has, faults)
+read_of : (contents : Contents) (name : List ℕ) (had has : Option (List ℕ)) (faults : ℕ) (taken : List ℕ) → OpensIn contents name had → had ≡ left_before taken has → IsOf contents name (has, faults)
 read_of contents name had None faults taken o e = let clash : Some o.0 ≡ None = sym o.2 ∙ e in cc
 read_of contents name had (Some rest) faults taken o e = record { taken = taken; rest = rest; there = o.1 ∙ sym o.2 ∙ e; left = refl }
 
@@ -133,28 +133,28 @@ faulty_right (x ∷ v ∷ xs) (y ∷ w ∷ ys) query z h r = record { source = w
 stays : (d : ℕ) (ys : List Closed) → d ≤ 2 ^ 64 - 1 → d ≤ raised_by d ys
 stays d [] h = omega arith
 stays d (y ∷ ys) h =
-    let more : d ≤ raised d y.1 = grind (arith, nat_tests) in
-    let small : raised d y.1 ≤ 2 ^ 64 - 1 = grind (arith, nat_tests) in
-    let rest : raised d y.1 ≤ raised_by (raised d y.1) ys = stays (raised d y.1) ys small in
+    let more : d ≤ raised_faults d y.1 = grind (arith, nat_tests) in
+    let small : raised_faults d y.1 ≤ 2 ^ 64 - 1 = grind (arith, nat_tests) in
+    let rest : raised_faults d y.1 ≤ raised_by (raised_faults d y.1) ys = stays (raised_faults d y.1) ys small in
     omega (arith, more, rest)
 
 pub keeps_by : (c : ℕ) (ys : List Closed) → KeepsFaults c (raised_by c ys)
 keeps_by c [] = omega arith
 keeps_by c (y ∷ ys) =
-    let one : KeepsFaults c (raised c y.1) = grind (arith, nat_tests) in
-    let rest : KeepsFaults (raised c y.1) (raised_by (raised c y.1) ys) = keeps_by (raised c y.1) ys in
+    let one : KeepsFaults c (raised_faults c y.1) = grind (arith, nat_tests) in
+    let rest : KeepsFaults (raised_faults c y.1) (raised_by (raised_faults c y.1) ys) = keeps_by (raised_faults c y.1) ys in
     omega (arith, one, rest)
 
 none_raised : (c : ℕ) (ys : List Closed) → HadNoFaults ys → raised_by c ys ≡ c
 none_raised c [] h = refl
-none_raised c (y ∷ ys) h = let same : raised c y.1 ≡ c = grind (arith, nat_tests, h.0) in ap (λ x. raised_by x ys) same ∙ none_raised c ys h.1
+none_raised c (y ∷ ys) h = let same : raised_faults c y.1 ≡ c = grind (arith, nat_tests, h.0) in ap (λ x. raised_by x ys) same ∙ none_raised c ys h.1
 
 -- behind a source that had faults
-rose_behind : (c f : ℕ) (ys : List Closed) → 0 < f → Rose c (raised_by (raised c f) ys)
+rose_behind : (c f : ℕ) (ys : List Closed) → 0 < f → Rose c (raised_by (raised_faults c f) ys)
 rose_behind c f ys h =
-    let up : raised c f ≡ counted c = grind (arith, nat_tests) in
-    let small : counted c ≤ 2 ^ 64 - 1 = omega arith in
-    subst (λ x. Rose c (raised_by x ys)) (sym up) (stays (counted c) ys small)
+    let up : raised_faults c f ≡ raised_count c = grind (arith, nat_tests) in
+    let small : raised_count c ≤ 2 ^ 64 - 1 = omega arith in
+    subst (λ x. Rose c (raised_by x ys)) (sym up) (stays (raised_count c) ys small)
 
 pub rose_left : (xs ys : List Closed) (c : ℕ) → HadNoFaults xs → RoseAt sides.Left (map (λ s. s.1) xs) (map (λ s. s.1) ys) → Rose c (raised_by c ys)
 rose_left [] ys c h r = absurd r
@@ -167,8 +167,8 @@ rose_right (x ∷ []) ys c h r = absurd r
 rose_right (x ∷ v ∷ xs) [] c h r = absurd r
 rose_right (x ∷ v ∷ xs) (y ∷ []) c h r = absurd r
 rose_right (x ∷ v ∷ xs) (y ∷ w ∷ ys) c h r =
-    let one : KeepsFaults c (raised c y.1) = grind (arith, nat_tests) in
-    let more : Rose (raised c y.1) (raised_by (raised (raised c y.1) w.1) ys) = rose_behind (raised c y.1) w.1 ys (rose_some v.1 w.1 h.1.0 r) in
+    let one : KeepsFaults c (raised_faults c y.1) = grind (arith, nat_tests) in
+    let more : Rose (raised_faults c y.1) (raised_by (raised_faults (raised_faults c y.1) w.1) ys) = rose_behind (raised_faults c y.1) w.1 ys (rose_some v.1 w.1 h.1.0 r) in
     omega (arith, one, more)
 
 run_matches : (n : ℕ) (o : Outcome) (xs ys : List Closed) (query : Closed) → IsOfRun o → IsOpened o → length ys ≡ n → HadNoFaults xs → (IsClean o → map (λ s. s.1) ys ≡ map (λ s. s.1) xs)
@@ -193,9 +193,9 @@ run_matches n NoMemory xs ys query h p len z c r q = omega (arith, len)
 -- ---- what files tell
 
 -- all names were asked for, and then all sources given back
-pub both_used : (a b c : Option FilesView) (names : List (List ℕ)) (back : List Closed) → b ≡ using a names [] → c ≡ using b [] back → c ≡ using a names back
-both_used None b c names back e f = f ∙ ap (λ x. using x [] back) e
-both_used (Some t) b c names back e f = f ∙ ap (λ x. using x [] back) e ∙ (λ i. Some (record { contents = t.contents; asked = append-nil (t.asked ++ names) i; closed = append-nil t.closed i ++ back }))
+pub both_used : (a b c : Option FilesView) (names : List (List ℕ)) (back : List Closed) → b ≡ after_use a names [] → c ≡ after_use b [] back → c ≡ after_use a names back
+both_used None b c names back e f = f ∙ ap (λ x. after_use x [] back) e
+both_used (Some t) b c names back e f = f ∙ ap (λ x. after_use x [] back) e ∙ (λ i. Some (record { contents = t.contents; asked = append-nil (t.asked ++ names) i; closed = append-nil t.closed i ++ back }))
 
 pub of_told : (told : Option FilesView) (names : List (List ℕ)) (hads : List (Option (List ℕ))) (taken : List (List ℕ)) (back : List Closed) → IfSome told (λ t. OpensAll t.contents names hads) → GaveAll hads taken (map (λ s. s.0) back)
     → IfSome told (λ t. AreOf 0 t.contents back names)
@@ -218,7 +218,7 @@ takes_told q n limits tasks names hads back (Some t) o w = subst (λ x. ReadsWho
 
 module _ {S : Type 0} (left : S → Option (List ℕ)) (faults : S → ℕ) where
   pub run_uses : (names : List (List ℕ)) (o : Outcome) (i j : Inputs S) (a b c : Option FilesView) → length (each_input left i) ≡ length names → IfSome a (λ t. OpensAll t.contents names (each_input left i)) → HadNoFaults (backs left faults i)
-      → b ≡ using a names [] → c ≡ using b [] (backs left faults j) → IsOfRun o → IsOpened o → (taken : List (List ℕ)) × GaveAll (each_input left i) taken (each_input left j)
+      → b ≡ after_use a names [] → c ≡ after_use b [] (backs left faults j) → IsOfRun o → IsOpened o → (taken : List (List ℕ)) × GaveAll (each_input left i) taken (each_input left j)
       → (IsClean o → each_input faults j ≡ each_input faults i) → ((side : Side) → o ≡ ReadFault (file_on side) → RoseAt side (each_input faults i) (each_input faults j)) → UsesRows names o a c
   run_uses names o i j a b c number opens fresh asked closed kinds opened takes good read =
       let len : length (backs left faults j) ≡ length names = back_length left faults j ∙ sym (gave_length (each_input left i) (each_input left j) takes.0 takes.1) ∙ number in
@@ -227,7 +227,7 @@ module _ {S : Type 0} (left : S → Option (List ℕ)) (faults : S → ℕ) wher
         count = length names;
         few = omega arith;
         given_back = backs left faults j;
-        told = both_used a b c names (backs left faults j) asked closed ∙ ap (λ x. using a x (backs left faults j)) (sym (take_all (length names) names (omega arith)));
+        told = both_used a b c names (backs left faults j) asked closed ∙ ap (λ x. after_use a x (backs left faults j)) (sym (take_all (length names) names (omega arith)));
         are_of = of_told a names (each_input left i) takes.0 (backs left faults j) opens gave;
         matches = λ query z. run_matches (length names) o (backs left faults i) (backs left faults j) query kinds opened len fresh (λ k. faults_of left faults j ∙ good k ∙ sym (faults_of left faults i))
             (λ side e. subst (λ x. RoseAt side x (map (λ s. s.1) (backs left faults j))) (sym (faults_of left faults i)) (subst (RoseAt side (each_input faults i)) (sym (faults_of left faults j)) (read side e))) z;
@@ -235,7 +235,7 @@ module _ {S : Type 0} (left : S → Option (List ℕ)) (faults : S → ℕ) wher
 
   -- ---- what was taken
 
-  pub run_takes : (q : Tree) (n : ℕ) (limits : FileLimits) (tasks : ℕ) (names : List (List ℕ)) (i j : Inputs S) (a b c : Option FilesView) → IfSome a (λ t. OpensAll t.contents names (each_input left i)) → b ≡ using a names [] → c ≡ using b [] (backs left faults j)
+  pub run_takes : (q : Tree) (n : ℕ) (limits : FileLimits) (tasks : ℕ) (names : List (List ℕ)) (i j : Inputs S) (a b c : Option FilesView) → IfSome a (λ t. OpensAll t.contents names (each_input left i)) → b ≡ after_use a names [] → c ≡ after_use b [] (backs left faults j)
       → ReadsWhole q n limits tasks (each_input left i) (each_input left j) → TakesRows q n limits tasks names a c
   run_takes q n limits tasks names i j a b c opens asked closed w = record {
     given_back = backs left faults j;

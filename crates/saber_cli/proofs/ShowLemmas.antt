@@ -10,10 +10,10 @@ use Rattle.saber_query.specs.declared.fault.QueryFault.TheVariants as fault
 use Rattle.saber_query.specs.Parsed.{Parsed}
 use Rattle.saber_query.specs.Trees.{query_of}
 use Rattle.saber_query.specs.Words.{words}
-use Rattle.saber_query.specs.Lexing.{lexed}
+use Rattle.saber_query.specs.Lexing.{lexed_text}
 use Rattle.saber_query.specs.Reading.{token_of}
 use Rattle.saber_query.specs.Means.{MeansTree}
-use Rattle.saber_query.specs.Spelling.{spelled}
+use Rattle.saber_query.specs.Spelling.{spelled_text}
 use Rattle.saber_check.specs.Plans.{plan_tree}
 use Rattle.saber_check.specs.Outcome.{IsFaultOf}
 use Rattle.saber_check.specs.Texts.{HasPlan, HasFault, fails_checks, IsFaultIn}
@@ -61,7 +61,7 @@ begun_shows ls files name text out b s = (b.whole, b.there, front_shows ls b.who
 shows_or_fault : Laws → (text out : List ℕ) (byte : ℕ) (cause : Cause) → Shows text out → HasFault text byte cause → ⊥
 shows_or_fault ls text out byte cause s f = ls.fault_or_plan text byte cause (plan_tree (query_of s.query.select)) f (plan_of_shows text out s)
 
-same_placed : (text : List ℕ) (a b : List Placed) → lexed text ≡ Ok a → lexed text ≡ Ok b → a ≡ b
+same_placed : (text : List ℕ) (a b : List Placed) → lexed_text text ≡ Ok a → lexed_text text ≡ Ok b → a ≡ b
 same_placed text a b e h = cc
 
 same_words : (text : List ℕ) (p r : Parsed) → MeansTree text p → MeansTree text r → words (query_of p.select) ≡ words (query_of r.select)
@@ -69,7 +69,7 @@ same_words text p r m n = m.words ∙ ap (map token_of) (same_placed text m.plac
 
 -- a text shows in one way
 one_text : (text out other : List ℕ) → Shows text out → Shows text other → out ≡ other
-one_text text out other s t = s.out_is ∙ ap (λ (ws : List Token). spelled ws ++ 10 ∷ []) (same_words text s.query t.query s.means t.means) ∙ sym t.out_is
+one_text text out other s t = s.out_is ∙ ap (λ (ws : List Token). spelled_text ws ++ 10 ∷ []) (same_words text s.query t.query s.means t.means) ∙ sym t.out_is
 
 -- ---- what is due for a check
 

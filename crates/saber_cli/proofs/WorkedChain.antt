@@ -1,6 +1,6 @@
 -- What the statements on a chain say, and what they refuse.
 use Rattle.std.proofs.Common.{◌≡◌, ◌⊎◌, inl, inr, ℕ, List, Option, Some, true, false, refl, sym, ◌∙◌, subst}
-use Rattle.saber_plan.specs.Outputs.{appended}
+use Rattle.saber_plan.specs.Outputs.{appended_text}
 use Rattle.saber_plan.specs.Inputs.{going_on}
 use Rattle.saber_plan.specs.Sizes.{limits_of}
 use Rattle.saber_plan.specs.Trees.{Tree}
@@ -67,7 +67,7 @@ first_fault_told ls files leaves a o tasks had has byte cause f (both_run r all 
 
 -- what is told as done was run, and the text of both went out
 done_is_text : (files : Contents) (leaves : Tree → RunEnd → ℕ → Type 0) (a : AskedChain) (tasks : ℕ) (had has : Option (List ℕ)) → ChainsOver files leaves a Done tasks had has
-    → (r : AsksChainRows files a) × (all : List (List ℕ)) × (contents_of files (row_names (first_run a)) ≡ Some all) × (has ≡ appended had (text_of_both r.first r.second (going_on (input_of r.first (limits_of (chain_sizes a)) all).rows)))
+    → (r : AsksChainRows files a) × (all : List (List ℕ)) × (contents_of files (row_names (first_run a)) ≡ Some all) × (has ≡ appended_text had (text_of_both r.first r.second (going_on (input_of r.first (limits_of (chain_sizes a)) all).rows)))
 done_is_text files leaves a tasks had has (not_run h t n) = absurd h
 done_is_text files leaves a tasks had has (both_run r all e k) = (r, all, e, k.whole tt)
 

@@ -1,7 +1,7 @@
 -- What a chain comes to: two queries, of which the second one's rows are the lines of the first.
 use Rattle.std.specs.Prelude.{Bool, ◌≡◌, ◌≢◌, ◌⊎◌, ℕ, List, [], ◌∷◌, ◌++◌, length, Option, Some, IfSome, true, false}
 use Rattle.saber_io.specs.Outside.{FilesView, Closed, content_in}
-use Rattle.saber_plan.specs.Outputs.{appended}
+use Rattle.saber_plan.specs.Outputs.{appended_text}
 use Rattle.saber_plan.specs.declared.rows.Side.{Side}
 use Rattle.saber_plan.specs.declared.plans.Shape.TheVariants.{Join}
 use Rattle.saber_plan.specs.declared.sizes.Sizes.{Sizes}
@@ -117,7 +117,7 @@ pub record RunsChain (p q : Tree) (s : Sizes) (leaves : RunEnd → ℕ → Type 
   pub outcome : o ≡ chained_as s.ring first second stopped
   pub between : List ℕ
   pub out : List ℕ
-  pub written : has ≡ appended had out
+  pub written : has ≡ appended_text had out
   pub gives_first : IfSome files (λ fs. Gives p s.task s.ring false (input_of p (limits_of s) fs) first first_tasks between)
   pub gives_second : Gives q s.task s.ring false (rows_between q between) second tasks out
   pub whole_tasks : (side : Side) → second ≡ ends.ReadFault side → TakesWhole q s.task between_limits tasks between
@@ -126,7 +126,7 @@ pub record RunsChain (p q : Tree) (s : Sizes) (leaves : RunEnd → ℕ → Type 
   pub all : second ≡ ends.AllRead → IsWhole first
   pub cut : (side : Side) → second ≡ ends.ReadFault side → IsShort first
   pub narrow : (task need : ℕ) → second ≢ ends.TooWide task need
-  pub whole : IsAnswered o → IfSome files (λ fs. has ≡ appended had (text_of_both p q (going_on (input_of p (limits_of s) fs).rows)))
+  pub whole : IsAnswered o → IfSome files (λ fs. has ≡ appended_text had (text_of_both p q (going_on (input_of p (limits_of s) fs).rows)))
 
 -- the sizes that are asked for
 abbrev pub chain_sizes : AskedChain → Sizes

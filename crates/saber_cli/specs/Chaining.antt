@@ -14,7 +14,7 @@ use Rattle.saber_notes.specs.declared.outcome.Outcome.TheVariants.{QueryFault, S
 use Rattle.saber_cli.specs.Outcomes.{IsUnopened}
 use Rattle.saber_cli.specs.Due.{Contents, IsFaulty, contents_of}
 use Rattle.saber_cli.specs.Leaves.{AreOf}
-use Rattle.saber_cli.specs.RowFiles.{using}
+use Rattle.saber_cli.specs.RowFiles.{after_use}
 use Rattle.saber_cli.specs.Uses.{IsOfQueryFile}
 use Rattle.saber_cli.specs.Taken.{TakesRows}
 use Rattle.saber_cli.specs.Chained.{MayBeFirst, MayNotBeFirst, IsChainable, RunsChain}
@@ -52,7 +52,7 @@ pub record BothRead (first second : List ℕ) (old new : Option FilesView) : Typ
   pub two : Closed
   pub one_good : one.1 ≡ 0
   pub two_good : two.1 ≡ 0
-  pub told : new ≡ using old (first ∷ second ∷ []) (one ∷ two ∷ [])
+  pub told : new ≡ after_use old (first ∷ second ∷ []) (one ∷ two ∷ [])
   pub one_of : IfSome old (λ t. IsOfQueryFile t.contents first one)
   pub two_of : IfSome old (λ t. IsOfQueryFile t.contents second two)
 
@@ -64,7 +64,7 @@ pub record UsesChainRows (names : List (List ℕ)) (o : Outcome) (old new : Opti
   pub count : ℕ
   pub few : count ≤ length names
   pub given_back : List Closed
-  pub told : new ≡ using old (take count names) given_back
+  pub told : new ≡ after_use old (take count names) given_back
   pub are_of : IfSome old (λ t. AreOf 0 t.contents given_back names)
   pub matches : (one two : Closed) → one.1 ≡ 0 → two.1 ≡ 0 → MatchesChain (suc (suc (length names))) o (suc (suc count)) (one ∷ two ∷ given_back)
 

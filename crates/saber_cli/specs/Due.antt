@@ -9,7 +9,7 @@ use Rattle.saber_query.specs.Parsed.{Parsed, IsParsed}
 use Rattle.saber_query.specs.Trees.{query_of}
 use Rattle.saber_query.specs.Words.{words}
 use Rattle.saber_query.specs.Means.{MeansTree}
-use Rattle.saber_query.specs.Spelling.{spelled}
+use Rattle.saber_query.specs.Spelling.{spelled_text}
 use Rattle.saber_check.specs.Outcome.{IsFaultless}
 use Rattle.saber_check.specs.Texts.{HasPlan, HasFault}
 use Rattle.saber_words.specs.Chain.{AskedChain}
@@ -105,7 +105,7 @@ pub record Shows (text out : List ℕ) : Type 0 where
   pub parsed : IsParsed query.select query.starts
   pub means : MeansTree text query
   pub faultless : IsFaultless (query_of query.select)
-  pub out_is : out ≡ spelled (words (query_of query.select)) ++ 10 ∷ []
+  pub out_is : out ≡ spelled_text (words (query_of query.select)) ++ 10 ∷ []
 
 -- the words ask for tasks of so many rows, such a ring, and whether the end closes windows
 pub record AsksFor (asked : AskedRun) (n ring : ℕ) (flush : Bool) : Type 0 where

@@ -11,7 +11,7 @@ use Rattle.saber_notes.specs.declared.outcome.Outcome.{Outcome}
 use Rattle.saber_notes.specs.declared.outcome.Outcome.TheVariants.{ReadFault}
 use Rattle.saber_cli.specs.Endings.{file_on}
 use Rattle.saber_cli.specs.Due.{Contents, HasRun, row_names, asked_limits}
-use Rattle.saber_cli.specs.RowFiles.{using}
+use Rattle.saber_cli.specs.RowFiles.{after_use}
 
 -- of the files with these names, and the sources that were given back of them: at least every whole task of the whole lines that were taken
 -- is assembled
@@ -21,7 +21,7 @@ TakesOf q n limits tasks contents names given_back = ReadsWhole q n limits tasks
 -- the files were opened and given back, and so much is assembled of them
 pub record TakesRows (q : Tree) (n : ℕ) (limits : FileLimits) (tasks : ℕ) (names : List (List ℕ)) (old new : Option FilesView) : Type 0 where
   pub given_back : List Closed
-  pub told : new ≡ using old names given_back
+  pub told : new ≡ after_use old names given_back
   pub takes : IfSome old (λ t. TakesOf q n limits tasks t.contents names given_back)
 
 -- a fault of reading leaves at least every whole task assembled of what was taken

@@ -1,6 +1,6 @@
 -- What `demo` comes to, whatever files there are.
 use Rattle.std.specs.Prelude.{◌≡◌, ℕ, List, Option}
-use Rattle.saber_plan.specs.Outputs.{appended}
+use Rattle.saber_plan.specs.Outputs.{appended_text}
 use Rattle.saber_plan.specs.Answers.{text}
 use Rattle.saber_words.specs.Demo.{AskedDemo}
 use Rattle.saber_demo.specs.Query.{demo_tree}
@@ -24,7 +24,7 @@ pub record IsAnswer (d : AskedDemo) (out : List ℕ) (tasks : ℕ) : Type 0 wher
 -- The summary of the run goes out whole, a prefix of it where the sink fails, else nothing.
 pub record TellsRun (d : AskedDemo) (o : Outcome) (tasks : ℕ) (old new : Option (List ℕ)) : Type 0 where
   pub out : List ℕ
-  pub written : new ≡ appended old out
+  pub written : new ≡ appended_text old out
   pub puts : PutsText (summary_of_run d.seed d.rows) o out
   pub tasks_are : HasTasks (tasks_of_run d) tasks o
   pub kinds : IsOfPut o

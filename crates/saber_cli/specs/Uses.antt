@@ -1,7 +1,7 @@
 -- What is done with a query's file: it is opened, read and given back.
 use Rattle.std.specs.Prelude.{◌≡◌, ◌<◌, ◌≤◌, ℕ, List, ◌++◌, length, Option, Some, IfSome, Result, Ok, Err}
-use Rattle.saber_io.specs.Outside.{FilesView, Closed, asking, closing, content_in}
-use Rattle.saber_plan.specs.Outputs.{counted}
+use Rattle.saber_io.specs.Outside.{FilesView, Closed, after_asking, after_closing, content_in}
+use Rattle.saber_plan.specs.Outputs.{raised_count}
 use Rattle.saber_notes.specs.declared.outcome.InputFile.{InputFile}
 use Rattle.saber_notes.specs.declared.outcome.InputFile.TheVariants.{Query}
 use Rattle.saber_notes.specs.declared.outcome.Outcome.{Outcome}
@@ -30,13 +30,13 @@ pub record IsOfQueryFile (contents : List (List ℕ × List ℕ)) (name : List �
 -- with an end of its contents: with faults where it could not be read, and with none where nothing failed.
 pub data Uses (file : InputFile) (name : List ℕ) (o : Outcome) (old new : Option FilesView) : Type 0 where
   unasked : o ≡ NoMemory → new ≡ old → Uses file name o old new
-  unopened : o ≡ OpenFault file → new ≡ asking old name → Uses file name o old new
+  unopened : o ≡ OpenFault file → new ≡ after_asking old name → Uses file name o old new
   used : (left : Option (List ℕ)) (faults : ℕ) → (o ≡ ReadFault file → 0 < faults) → (IsClean o → faults ≡ 0) →
-      IfSome old (λ t. IsOfQueryFile t.contents name (left, faults)) → IsOpened o → new ≡ closing (asking old name) left faults → Uses file name o old new
+      IfSome old (λ t. IsOfQueryFile t.contents name (left, faults)) → IsOpened o → new ≡ after_closing (after_asking old name) left faults → Uses file name o old new
 
 -- no fault is lost: a count that rose afterwards rose before too
 abbrev pub KeepsFaults : ℕ → ℕ → Type 0
-KeepsFaults old new = counted old ≤ counted new
+KeepsFaults old new = raised_count old ≤ raised_count new
 
 -- what a call that gave no value came to
 abbrev pub outcome_of : {X : Type 0} → Result X Outcome → Outcome

@@ -1,6 +1,6 @@
 // A run over sources that are open.
 ghost use Rattle.std.specs.Prelude.{◌≡◌, ◌≢◌, ℕ, List, IfSome, length};
-ghost use Rattle.saber_plan.specs.Outputs.{Rose, appended};
+ghost use Rattle.saber_plan.specs.Outputs.{Rose, appended_text};
 ghost use Rattle.saber_plan.specs.Trees.{tree_of};
 ghost use Rattle.saber_plan.specs.Checked.{IsChecked};
 ghost use Rattle.saber_plan.specs.Sizes.{SizesFit};
@@ -68,7 +68,7 @@ pub(crate) fn answer<S: Source, K: Sink + Send, G: Gate + Sync, R: Threads + Wai
     requires checked { IsChecked (tree_of plan.now) }
     requires inputs { length (each_input S.left inputs.old) ≡ length (tree_of plan.now).streams }
     requires sizes { SizesFit sizes.now }
-    ensures written { (out : List ℕ) × (K.written result.sink ≡ appended (K.written sink) out)
+    ensures written { (out : List ℕ) × (K.written result.sink ≡ appended_text (K.written sink) out)
         × IfSome (told_by S.left inputs.old) (λ all. AnsweredOver (tree_of plan.now) sizes.now all result.outcome result.tasks out) }
     ensures kinds { IsOfRun result.outcome }
     ensures opened { IsOpened result.outcome }

@@ -1,11 +1,11 @@
 // The command `chain`: two queries over row files.
 ghost use Rattle.std.specs.Prelude.{◌≡◌, ◌≢◌, ℕ, List, length, false};
-ghost use Rattle.saber_plan.specs.Outputs.{Rose, appended};
+ghost use Rattle.saber_plan.specs.Outputs.{Rose, appended_text};
 ghost use Rattle.saber_plan.specs.Trees.{tree_of};
 ghost use Rattle.saber_plan.specs.Checked.{IsChecked};
 ghost use Rattle.saber_plan.specs.Sizes.{SizesFit};
 ghost use Rattle.saber_words.specs.declared.commands.Command.{Command};
-ghost use Rattle.saber_words.specs.Commands.{asked, asked_run, IsSized};
+ghost use Rattle.saber_words.specs.Commands.{asked_command, asked_run, IsSized};
 ghost use Rattle.saber_words.specs.Chain.{asked_chain};
 ghost use Rattle.saber_notes.specs.declared.outcome.Outcome.{Outcome};
 ghost use Rattle.saber_cli.specs.Outcomes.{IsClean, IsFileFault, IsBeforeRun, IsOfChain};
@@ -45,7 +45,7 @@ fn first_run<'a>(command: &Chain<'a>) -> Run<'a>
 
 // The sizes that a command asks for, of each of its queries.
 fn chain_sizes(command: &Chain<'_>) -> Sizes
-    requires { IsSized (asked (Command.Chain command.now)) }
+    requires { IsSized (asked_command (Command.Chain command.now)) }
     ensures sizes { result ≡ chain_sizes (asked_chain command.now) }
     ensures fit { SizesFit result }
 {
@@ -80,7 +80,7 @@ where
     requires like { length (tree_of first.now).streams ≡ length (row_names (asked_run command.now)) }
     requires sizes { SizesFit sizes.now }
     requires open_end { sizes.now.flush ≡ false }
-    ensures written { (out : List ℕ) × (K.written result.sink ≡ appended (K.written sink) out) }
+    ensures written { (out : List ℕ) × (K.written result.sink ≡ appended_text (K.written sink) out) }
     ensures runs { ChainedTold (tree_of first.now) (tree_of second.now) sizes.now (row_names (asked_run command.now)) (F.told files.old) (F.told files.new)
         (K.written sink) (K.written result.sink) result.outcome result.tasks }
     ensures early { IsBeforeRun result.outcome → (result.tasks ≡ 0) × (result.sink ≡ sink) }
@@ -125,8 +125,8 @@ pub(crate) fn chain_command<
 >(rt: &R, alloc: Global, command: &Chain<'_>, files: &mut F, sink: K, gate: &G) -> Ran<K>
 where
     F::Src: Send + Drop,
-    requires sizes { IsSized (asked (Command.Chain command.now)) }
-    ensures written { (out : List ℕ) × (K.written result.sink ≡ appended (K.written sink) out) }
+    requires sizes { IsSized (asked_command (Command.Chain command.now)) }
+    ensures written { (out : List ℕ) × (K.written result.sink ≡ appended_text (K.written sink) out) }
     ensures chained { AnswersChain (asked_chain command.now) result.outcome result.tasks (F.told files.old) (F.told files.new) (K.written sink) (K.written result.sink) }
     ensures early { IsBeforeRun result.outcome → (result.tasks ≡ 0) × (result.sink ≡ sink) }
     ensures kinds { result.outcome ≢ Outcome.Usage }

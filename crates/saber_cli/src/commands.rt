@@ -1,8 +1,8 @@
 // Each command over its files.
 ghost use Rattle.std.specs.Prelude.{◌≡◌, ◌≢◌, ℕ, List, IfSome, length};
-ghost use Rattle.saber_plan.specs.Outputs.{Rose, appended};
+ghost use Rattle.saber_plan.specs.Outputs.{Rose, appended_text};
 ghost use Rattle.saber_words.specs.declared.commands.Command.{Command};
-ghost use Rattle.saber_words.specs.Commands.{asked, asked_run, AskedRun, run, IsSized};
+ghost use Rattle.saber_words.specs.Commands.{asked_command, asked_run, AskedRun, run, IsSized};
 ghost use Rattle.saber_notes.specs.declared.outcome.Outcome.{Outcome};
 ghost use Rattle.saber_cli.specs.Outcomes.{IsClean, IsFileFault, IsBeforeRun, IsOfSecond};
 ghost use Rattle.saber_cli.specs.Due.{row_names};
@@ -43,14 +43,14 @@ pub(crate) fn run_command<F: Files, K: Sink + Send, G: Gate + Sync, R: Threads +
     sink: K,
     gate: &G,
 ) -> Ran<K>
-    requires sizes { IsSized (asked (Command.Run command.now)) }
-    ensures written { (out : List ℕ) × (K.written result.sink ≡ appended (K.written sink) out)
-        × IfSome (F.told files.old) (λ t. Gives t.contents (asked (Command.Run command.now)) result.outcome result.tasks out) }
+    requires sizes { IsSized (asked_command (Command.Run command.now)) }
+    ensures written { (out : List ℕ) × (K.written result.sink ≡ appended_text (K.written sink) out)
+        × IfSome (F.told files.old) (λ t. Gives t.contents (asked_command (Command.Run command.now)) result.outcome result.tasks out) }
     ensures early { IsBeforeRun result.outcome → (result.tasks ≡ 0) × (result.sink ≡ sink) }
     ensures kinds { result.outcome ≢ Outcome.Usage }
     ensures alone { IsOfSecond result.outcome → ⊥ }
-    ensures leaves { LeavesTold (asked (Command.Run command.now)) result.outcome (F.told files.old) (F.told files.new) }
-    ensures taken { (r : AskedRun) → asked (Command.Run command.now) ≡ run r → TakesTold r result.outcome result.tasks (F.told files.old) (F.told files.new) }
+    ensures leaves { LeavesTold (asked_command (Command.Run command.now)) result.outcome (F.told files.old) (F.told files.new) }
+    ensures taken { (r : AskedRun) → asked_command (Command.Run command.now) ≡ run r → TakesTold r result.outcome result.tasks (F.told files.old) (F.told files.new) }
     ensures cause { IsFileFault result.outcome → Rose (F.faults files.old) (F.faults files.new) }
     ensures read_good { IsClean result.outcome → F.faults files.new ≡ F.faults files.old }
     ensures write { result.outcome ≡ Outcome.WriteFault → Rose (K.faults sink) (K.faults result.sink) }
@@ -100,12 +100,12 @@ pub(crate) fn check_command<F: Files, K: Sink>(
     files: &mut F,
     sink: K,
 ) -> Ran<K>
-    ensures written { (out : List ℕ) × (K.written result.sink ≡ appended (K.written sink) out)
-        × IfSome (F.told files.old) (λ t. Gives t.contents (asked (Command.Check command.now)) result.outcome result.tasks out) }
+    ensures written { (out : List ℕ) × (K.written result.sink ≡ appended_text (K.written sink) out)
+        × IfSome (F.told files.old) (λ t. Gives t.contents (asked_command (Command.Check command.now)) result.outcome result.tasks out) }
     ensures early { IsBeforeRun result.outcome → (result.tasks ≡ 0) × (result.sink ≡ sink) }
     ensures kinds { result.outcome ≢ Outcome.Usage }
     ensures alone { IsOfSecond result.outcome → ⊥ }
-    ensures leaves { LeavesTold (asked (Command.Check command.now)) result.outcome (F.told files.old) (F.told files.new) }
+    ensures leaves { LeavesTold (asked_command (Command.Check command.now)) result.outcome (F.told files.old) (F.told files.new) }
     ensures cause { IsFileFault result.outcome → Rose (F.faults files.old) (F.faults files.new) }
     ensures read_good { IsClean result.outcome → F.faults files.new ≡ F.faults files.old }
     ensures write { result.outcome ≡ Outcome.WriteFault → Rose (K.faults sink) (K.faults result.sink) }

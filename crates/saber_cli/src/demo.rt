@@ -3,7 +3,7 @@ ghost use Rattle.std.specs.Prelude.{◌≡◌, ◌≢◌, ◌≤◌, ◌^◌, �
 ghost use Rattle.saber_plan.specs.Outputs.{Rose};
 ghost use Rattle.saber_plan.specs.Sizes.{SizesFit};
 ghost use Rattle.saber_words.specs.declared.commands.Command.{Command};
-ghost use Rattle.saber_words.specs.Commands.{asked, IsSized};
+ghost use Rattle.saber_words.specs.Commands.{asked_command, IsSized};
 ghost use Rattle.saber_words.specs.Demo.{asked_demo};
 ghost use Rattle.saber_plan.specs.declared.ends.RunEnd.{RunEnd};
 ghost use Rattle.saber_notes.specs.declared.outcome.Outcome.{Outcome};
@@ -33,7 +33,7 @@ struct Answer {
 
 // The sizes that a command asks for. There are fewer rows than a file may have lines.
 fn demo_sizes(command: &Demo) -> Sizes
-    requires { IsSized (asked (Command.Demo command.now)) }
+    requires { IsSized (asked_command (Command.Demo command.now)) }
     ensures task { result.task ≡ command.now.task }
     ensures lines { result.max_lines ≡ 2 ^ 40 }
     ensures slack { result.slack ≡ 0 }
@@ -73,7 +73,7 @@ fn run_generated<G: Gate + Sync, R: Threads + Wait + Sync>(
     command: &Demo,
     gate: &G,
 ) -> Answer
-    requires { IsSized (asked (Command.Demo command.now)) }
+    requires { IsSized (asked_command (Command.Demo command.now)) }
     ensures answer { IsTrue result.whole → IsAnswer (asked_demo command.now) result.text.written result.tasks }
     ensures few { result.tasks ≤ tasks_of_run (asked_demo command.now) }
 {
@@ -148,7 +148,7 @@ pub(crate) fn demo_command<K: Sink, G: Gate + Sync, R: Threads + Wait + Sync>(
     sink: K,
     gate: &G,
 ) -> Ran<K>
-    requires { IsSized (asked (Command.Demo command.now)) }
+    requires { IsSized (asked_command (Command.Demo command.now)) }
     ensures told { TellsRun (asked_demo command.now) result.outcome result.tasks (K.written sink) (K.written result.sink) }
     ensures write { result.outcome ≡ Outcome.WriteFault → Rose (K.faults sink) (K.faults result.sink) }
     ensures write_good { result.outcome ≢ Outcome.WriteFault → K.faults result.sink ≡ K.faults sink }

@@ -1,6 +1,6 @@
 // A text that goes out.
 ghost use Rattle.std.specs.Prelude.{◌≡◌, ◌≢◌, ℕ, List};
-ghost use Rattle.saber_plan.specs.Outputs.{counted, Rose, appended};
+ghost use Rattle.saber_plan.specs.Outputs.{raised_count, Rose, appended_text};
 ghost use Rattle.saber_notes.specs.declared.outcome.Outcome.{Outcome};
 ghost use Rattle.saber_cli.specs.Puts.{IsOfPut, PutsText};
 
@@ -10,12 +10,12 @@ use saber_notes::Outcome;
 
 /// Writes a text, in one write, behind which so many tasks are assembled.
 pub(crate) fn put<K: Sink>(text: &[u8], mut sink: K, tasks: u64) -> Ran<K>
-    ensures written { (out : List ℕ) × (K.written result.sink ≡ appended (K.written sink) out) × PutsText text.now result.outcome out }
+    ensures written { (out : List ℕ) × (K.written result.sink ≡ appended_text (K.written sink) out) × PutsText text.now result.outcome out }
     ensures kinds { IsOfPut result.outcome }
     ensures tasks { result.tasks ≡ tasks }
     ensures write { result.outcome ≡ Outcome.WriteFault → Rose (K.faults sink) (K.faults result.sink) }
     ensures write_good { result.outcome ≢ Outcome.WriteFault → K.faults result.sink ≡ K.faults sink }
-    ensures one { result.outcome ≢ Outcome.NoMemory → K.writes result.sink ≡ counted (K.writes sink) }
+    ensures one { result.outcome ≢ Outcome.NoMemory → K.writes result.sink ≡ raised_count (K.writes sink) }
     ensures none { result.outcome ≡ Outcome.NoMemory → K.writes result.sink ≡ K.writes sink }
 {
     match sink.write_all(text) {

@@ -1,6 +1,6 @@
 // The row files of a run: one, or two.
 ghost use Rattle.std.specs.Prelude.{◌≡◌, ◌≤◌, [], length, IfOk, IfErr, IfSome, OnOk};
-ghost use Rattle.saber_io.specs.Outside.{Opens, asking};
+ghost use Rattle.saber_io.specs.Outside.{Opens, after_asking};
 ghost use Rattle.saber_plan.specs.Outputs.{Rose};
 ghost use Rattle.saber_engine.specs.Sources.{each_input};
 ghost use Rattle.saber_words.specs.Commands.{asked_run};
@@ -8,7 +8,7 @@ ghost use Rattle.saber_notes.specs.declared.outcome.Outcome.{Outcome};
 ghost use Rattle.saber_cli.specs.Due.{row_names};
 ghost use Rattle.saber_cli.specs.Outcomes.{IsFileFault, IsUnopened};
 ghost use Rattle.saber_cli.specs.Leaves.{HadNoFaults};
-ghost use Rattle.saber_cli.specs.RowFiles.{IsNotOpened, OpensAll, UsesRows, raised_by, source_back, using};
+ghost use Rattle.saber_cli.specs.RowFiles.{IsNotOpened, OpensAll, UsesRows, raised_by, source_back, after_use};
 ghost use Rattle.saber_cli.specs.Uses.{KeepsFaults};
 
 use saber_engine::Inputs;
@@ -27,7 +27,7 @@ pub fn open_row<F: Files>(
     ensures opens { IfOk result (λ src. Opens (F.told files.old) name.now (F.Src.left src)) }
     ensures fresh { IfOk result (λ src. F.Src.faults src ≡ 0) }
     ensures good { OnOk result (F.faults files.new ≡ F.faults files.old) }
-    ensures asked { OnOk result (F.told files.new ≡ asking (F.told files.old) name.now) }
+    ensures asked { OnOk result (F.told files.new ≡ after_asking (F.told files.old) name.now) }
     ensures refused { IfErr result (λ o. IsNotOpened file name.now o (F.told files.old) (F.told files.new)) }
     ensures cause { IfErr result (λ o. o ≡ Outcome.OpenFault file → Rose (F.faults files.old) (F.faults files.new)) }
     ensures count { F.faults files.old ≤ F.faults files.new }
@@ -50,7 +50,7 @@ pub(crate) fn open_rows<F: Files>(
     ensures opens { IfOk result (λ i. IfSome (F.told files.old) (λ t. OpensAll t.contents (row_names (asked_run command.now)) (each_input F.Src.left i))) }
     ensures fresh { IfOk result (λ i. HadNoFaults (each_input (source_back F.Src.left F.Src.faults) i)) }
     ensures good { OnOk result (F.faults files.new ≡ F.faults files.old) }
-    ensures asked { OnOk result (F.told files.new ≡ using (F.told files.old) (row_names (asked_run command.now)) []) }
+    ensures asked { OnOk result (F.told files.new ≡ after_use (F.told files.old) (row_names (asked_run command.now)) []) }
     ensures refused { IfErr result (λ o. UsesRows (row_names (asked_run command.now)) o (F.told files.old) (F.told files.new)) }
     ensures kinds { IfErr result IsUnopened }
     ensures cause { IfErr result (λ o. IsFileFault o → Rose (F.faults files.old) (F.faults files.new)) }
@@ -71,7 +71,7 @@ pub(crate) fn open_rows<F: Files>(
 
 /// Gives them back, in the order in which they were opened.
 pub fn close_rows<F: Files>(files: &mut F, inputs: Inputs<F::Src>)
-    ensures closed { F.told files.new ≡ using (F.told files.old) [] (each_input (source_back F.Src.left F.Src.faults) inputs) }
+    ensures closed { F.told files.new ≡ after_use (F.told files.old) [] (each_input (source_back F.Src.left F.Src.faults) inputs) }
     ensures count { F.faults files.new ≡ raised_by (F.faults files.old) (each_input (source_back F.Src.left F.Src.faults) inputs) }
 {
     match inputs {

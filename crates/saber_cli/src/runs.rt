@@ -1,6 +1,6 @@
 // A run over the row files of its query.
 ghost use Rattle.std.specs.Prelude.{◌≡◌, ◌≢◌, ℕ, List, length};
-ghost use Rattle.saber_plan.specs.Outputs.{Rose, appended};
+ghost use Rattle.saber_plan.specs.Outputs.{Rose, appended_text};
 ghost use Rattle.saber_plan.specs.Trees.{tree_of};
 ghost use Rattle.saber_plan.specs.Checked.{IsChecked};
 ghost use Rattle.saber_plan.specs.Sizes.{SizesFit};
@@ -38,7 +38,7 @@ pub(crate) fn run_rows<F: Files, K: Sink + Send, G: Gate + Sync, R: Threads + Wa
     requires checked { IsChecked (tree_of plan.now) }
     requires like { length (tree_of plan.now).streams ≡ length (row_names (asked_run command.now)) }
     requires sizes { SizesFit sizes.now }
-    ensures written { (out : List ℕ) × (K.written result.sink ≡ appended (K.written sink) out)
+    ensures written { (out : List ℕ) × (K.written result.sink ≡ appended_text (K.written sink) out)
         × AnsweredTold (tree_of plan.now) sizes.now (row_names (asked_run command.now)) (F.told files.old) result.outcome result.tasks out }
     ensures early { IsBeforeRun result.outcome → (result.tasks ≡ 0) × (result.sink ≡ sink) }
     ensures kinds { IsOfRun result.outcome }

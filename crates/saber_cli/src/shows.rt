@@ -1,10 +1,10 @@
 // The command `check`: a query's own text.
 ghost use Rattle.std.specs.Prelude.{◌≡◌, ◌≢◌, ℕ, List, [], ◌∷◌, ◌++◌, IfOk, IfErr, OnOk};
-ghost use Rattle.saber_plan.specs.Outputs.{Rose, appended};
+ghost use Rattle.saber_plan.specs.Outputs.{Rose, appended_text};
 ghost use Rattle.saber_query.specs.Parsed.{IsParsed};
 ghost use Rattle.saber_query.specs.Trees.{query_of};
 ghost use Rattle.saber_query.specs.Words.{words};
-ghost use Rattle.saber_query.specs.Spelling.{spelled};
+ghost use Rattle.saber_query.specs.Spelling.{spelled_text};
 ghost use Rattle.saber_check.specs.Outcome.{IsFaultless, IsFaultOf};
 ghost use Rattle.saber_check.specs.Texts.{IsFaultIn};
 ghost use Rattle.saber_notes.specs.declared.outcome.Outcome.{Outcome};
@@ -36,7 +36,7 @@ fn passes(alloc: Global, query: &Query) -> Result<(), QueryFault>
 
 // A query's own text, with a line feed.
 fn line(alloc: Global, query: &Query) -> Result<Vec<u8>, NoMemory>
-    ensures { IfOk result (λ out. out.items ≡ spelled (words (query_of query.now.select)) ++ 10 ∷ []) }
+    ensures { IfOk result (λ out. out.items ≡ spelled_text (words (query_of query.now.select)) ++ 10 ∷ []) }
 {
     let mut out = show(alloc, query)?;
     out.push(b'\n')?;
@@ -47,7 +47,7 @@ fn line(alloc: Global, query: &Query) -> Result<Vec<u8>, NoMemory>
 fn checked_line(alloc: Global, query: &Query) -> Result<Vec<u8>, QueryFault>
     ensures parsed { IsParsed query.now.select query.now.starts }
     ensures faultless { OnOk result (IsFaultless (query_of query.now.select)) }
-    ensures text { IfOk result (λ out. out.items ≡ spelled (words (query_of query.now.select)) ++ 10 ∷ []) }
+    ensures text { IfOk result (λ out. out.items ≡ spelled_text (words (query_of query.now.select)) ++ 10 ∷ []) }
     ensures fault { IfErr result (IsFaultOf query.now) }
 {
     passes(alloc, query)?;
@@ -81,7 +81,7 @@ fn shown(alloc: Global, text: &[u8]) -> Result<Vec<u8>, Outcome>
 
 /// Checks the text of a query and writes the query's own text, in one write.
 pub(crate) fn put_text<K: Sink>(alloc: Global, text: &[u8], sink: K) -> Ran<K>
-    ensures written { (out : List ℕ) × (K.written result.sink ≡ appended (K.written sink) out) × Showed text.now result.outcome out }
+    ensures written { (out : List ℕ) × (K.written result.sink ≡ appended_text (K.written sink) out) × Showed text.now result.outcome out }
     ensures tasks { result.tasks ≡ 0 }
     ensures early { IsQueryFault result.outcome → result.sink ≡ sink }
     ensures kinds { IsOfShow result.outcome }

@@ -2,7 +2,7 @@
 ghost use Rattle.std.specs.Prelude.{◌≡◌};
 ghost use Rattle.saber_plan.specs.Sizes.{SizesFit, limits_of};
 ghost use Rattle.saber_words.specs.declared.commands.Command.{Command};
-ghost use Rattle.saber_words.specs.Commands.{asked, asked_run, IsSized};
+ghost use Rattle.saber_words.specs.Commands.{asked_command, asked_run, IsSized};
 ghost use Rattle.saber_cli.specs.Due.{asked_limits};
 
 use saber_plan::Sizes;
@@ -10,7 +10,7 @@ use saber_words::Run;
 
 /// The sizes that a command asks for.
 pub(crate) fn sizes_of(run: &Run<'_>) -> Sizes
-    requires { IsSized (asked (Command.Run run.now)) }
+    requires { IsSized (asked_command (Command.Run run.now)) }
     ensures task { result.task ≡ run.now.task }
     ensures ring { result.ring ≡ run.now.ring }
     ensures limits { limits_of result ≡ asked_limits (asked_run run.now) }

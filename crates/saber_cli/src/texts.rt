@@ -1,6 +1,6 @@
 // The text of a query file, from its source.
 ghost use Rattle.std.specs.Prelude.{◌≡◌, ◌≤◌, ◌<◌, ◌+◌, ◌-◌, [], IfOk, IfErr, IfSome, OnOk, Ok, take, length};
-ghost use Rattle.saber_io.specs.Outside.{given};
+ghost use Rattle.saber_io.specs.Outside.{left_before};
 ghost use Rattle.saber_plan.specs.Outputs.{Rose};
 ghost use Rattle.saber_notes.specs.declared.outcome.InputFile.{InputFile};
 ghost use Rattle.saber_notes.specs.declared.outcome.Outcome.{Outcome};
@@ -20,7 +20,7 @@ const PIECE: usize = 4096;
 // piece of no bytes.
 fn read_piece<S: Source>(text: &mut Vec<u8>, source: &mut S) -> Result<usize, Outcome>
     requires { length text.old.items < 65537 }
-    ensures bytes { IfOk result (λ n. given text.old.items (S.left source.old) ≡ given text.new.items (S.left source.new)) }
+    ensures bytes { IfOk result (λ n. left_before text.old.items (S.left source.old) ≡ left_before text.new.items (S.left source.new)) }
     ensures grows { IfOk result (λ n. length text.new.items ≡ length text.old.items + n) }
     ensures short { IfOk result (λ n. length text.new.items ≤ 65537) }
     ensures end { result ≡ Ok 0 → IfSome (S.left source.new) (λ rest. rest ≡ []) }

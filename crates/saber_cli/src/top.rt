@@ -1,6 +1,6 @@
 // The top call.
 ghost use Rattle.std.specs.Prelude.{◌≡◌, ◌≢◌, ◌≤◌, ℕ, List, None, Some, map};
-ghost use Rattle.saber_plan.specs.Outputs.{Rose, appended, AppendsPrefix};
+ghost use Rattle.saber_plan.specs.Outputs.{Rose, appended_text, AppendsPrefix};
 ghost use Rattle.saber_words.specs.Commands.{chain, command_of};
 ghost use Rattle.saber_words.specs.Chain.{AskedChain};
 ghost use Rattle.saber_notes.specs.Notes.{status_of, note_of};
@@ -61,7 +61,7 @@ where
 
     // What goes out is the text of the first tasks' rows, the outcome has its cause, and is one
     // that what is due allows. Of a chain see `chained`.
-    ensures answers { (out : List ℕ) × (K.written result.sink ≡ appended (K.written sink) out)
+    ensures answers { (out : List ℕ) × (K.written result.sink ≡ appended_text (K.written sink) out)
         × AnswersTold (map (λ word. word.now) words.now) (F.told files.old) result.outcome result.tasks out }
     ensures before { IsBeforeRun result.outcome → (result.tasks ≡ 0) × (result.sink ≡ sink) }
 
@@ -105,7 +105,7 @@ where
     // The note.
     ensures nothing { result.outcome ≡ Outcome.Done → (result.noted ≡ Noted.Nothing) × (notes.new ≡ notes.old) }
     ensures something { result.outcome ≢ Outcome.Done → result.noted ≢ Noted.Nothing }
-    ensures whole { result.noted ≡ Noted.Whole → N.written notes.new ≡ appended (N.written notes.old) (note_of result.outcome) }
+    ensures whole { result.noted ≡ Noted.Whole → N.written notes.new ≡ appended_text (N.written notes.old) (note_of result.outcome) }
     ensures failed { result.noted ≡ Noted.Failed → AppendsPrefix (N.written notes.old) (N.written notes.new) (note_of result.outcome) }
     ensures memory { result.noted ≡ Noted.NoMemory → N.written notes.new ≡ N.written notes.old }
     ensures note { result.noted ≡ Noted.Failed → Rose (N.faults notes.old) (N.faults notes.new) }
@@ -140,7 +140,7 @@ pub struct Refused {
 pub fn refuse_words<N: Sink>(fault: WordsFault, notes: &mut N) -> Refused
     ensures status { result.status ≡ status_of (unread fault) }
     ensures something { result.noted ≢ Noted.Nothing }
-    ensures whole { result.noted ≡ Noted.Whole → N.written notes.new ≡ appended (N.written notes.old) (note_of (unread fault)) }
+    ensures whole { result.noted ≡ Noted.Whole → N.written notes.new ≡ appended_text (N.written notes.old) (note_of (unread fault)) }
     ensures failed { result.noted ≡ Noted.Failed → AppendsPrefix (N.written notes.old) (N.written notes.new) (note_of (unread fault)) }
     ensures memory { result.noted ≡ Noted.NoMemory → N.written notes.new ≡ N.written notes.old }
     ensures note { result.noted ≡ Noted.Failed → Rose (N.faults notes.old) (N.faults notes.new) }

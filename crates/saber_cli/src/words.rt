@@ -1,6 +1,6 @@
 // The command that the words are, over its files.
 ghost use Rattle.std.specs.Prelude.{◌≡◌, ◌≢◌, ℕ, List, None, Some, map};
-ghost use Rattle.saber_plan.specs.Outputs.{Rose, appended};
+ghost use Rattle.saber_plan.specs.Outputs.{Rose, appended_text};
 ghost use Rattle.saber_words.specs.Commands.{chain, command_of};
 ghost use Rattle.saber_words.specs.Chain.{AskedChain};
 ghost use Rattle.saber_notes.specs.declared.outcome.Outcome.{Outcome};
@@ -47,7 +47,7 @@ pub(crate) fn run_words<F: Files, K: Sink + Send + Drop, G: Gate + Sync, R: Thre
 ) -> Ran<K>
 where
     F::Src: Send + Drop,
-    ensures written { (out : List ℕ) × (K.written result.sink ≡ appended (K.written sink) out)
+    ensures written { (out : List ℕ) × (K.written result.sink ≡ appended_text (K.written sink) out)
         × AnswersTold (map (λ word. word.now) words.now) (F.told files.old) result.outcome result.tasks out }
     ensures chained { IfChain (map (λ word. word.now) words.now)
         (λ a. AnswersChain a result.outcome result.tasks (F.told files.old) (F.told files.new) (K.written sink) (K.written result.sink)) }

@@ -5,7 +5,7 @@ use Rattle.std.specs.VecDeque.{deque_capacity}
 use Rattle.saber_core.specs.declared.machine.Core.TheInside.{Inside}
 use Rattle.saber_core.specs.declared.events.Event.{Event}
 use Rattle.saber_core.specs.declared.events.Event.TheVariants.{Fill}
-use Rattle.saber_core.specs.Machine.{State, given, seat_of, is_seated, is_allowed, outcome, next}
+use Rattle.saber_core.specs.Machine.{State, given_count, seat_of, is_seated, is_allowed, outcome, next}
 use Rattle.saber_core.specs.Sound.{IsSound}
 use Rattle.saber_core.specs.Fields.{state_of, FieldsFit}
 use Rattle.saber_core.proofs.Sounds.{kept, sound_next}
@@ -22,7 +22,7 @@ keeps_fit core core' s e view fits seated allowed is size capacity =
     }
 
 -- a fill applies where there is a slot and a number
-pub may_fill : (s : State) → s.filled < given s + s.size → s.filled < 2 ^ 42 → is_allowed s Fill ≡ true
+pub may_fill : (s : State) → s.filled < given_count s + s.size → s.filled < 2 ^ 42 → is_allowed s Fill ≡ true
 may_fill s slot number = grind (arith, nat_tests)
 
 -- what a core shows after an event is sound

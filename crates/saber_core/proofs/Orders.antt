@@ -8,7 +8,7 @@ use Rattle.saber_core.specs.declared.events.TaskPhase.{TaskPhase}
 use Rattle.saber_core.specs.declared.events.TaskPhase.TheVariants.{Ready, Held, Done, Taken}
 use Rattle.saber_core.specs.declared.events.Event.{Event}
 use Rattle.saber_core.specs.declared.events.Event.TheVariants.{Fill, Claim, Deposit, Win, Take, Give, Release}
-use Rattle.saber_core.specs.Machine.{State, fresh, given, phase_at, is_done, is_holder, has_taken, is_taken_piece, is_marked, is_allowed, applies, outcome, next}
+use Rattle.saber_core.specs.Machine.{State, fresh, given_count, phase_at, is_done, is_holder, has_taken, is_taken_piece, is_marked, is_allowed, applies, outcome, next}
 use Rattle.saber_core.specs.Sound.{IsSound}
 use Rattle.saber_core.specs.Runs.{task_of, is_claim, is_deposit, is_take, is_give, tasks_of, gives, state_after, IsOrderly}
 use Rattle.saber_core.proofs.Phases.{both, ready_is, held_is, done_is, taken_piece_is, within, unfilled, phase_of, given_more, given_after, given_less, allowed_of, moved}
@@ -24,7 +24,7 @@ level (Some (Taken mark)) = 4
 
 -- how far a task has come: 0 before its fill, then by its phase, and 5 once it is given
 abbrev progress : State → ℕ → ℕ
-progress s task = if nat_lt task (given s) then 5 else level (phase_at s task)
+progress s task = if nat_lt task (given_count s) then 5 else level (phase_at s task)
 
 -- how far its task has come where an event applies that moves one
 abbrev rank_of : Event → Option ℕ
@@ -37,12 +37,12 @@ rank_of (Give seat) = Some 4
 rank_of (Release seat) = None
 
 -- the progress of a task that isn't given is by its phase
-progress_in : (s : State) (task : ℕ) (p : Option TaskPhase) → given s ≤ task → phase_at s task ≡ p → progress s task ≡ level p
-progress_in s task p le is = let past : nat_lt task (given s) ≡ false = grind (arith, nat_tests) in ap (λ (b : Bool). if b then 5 else level (phase_at s task)) past ∙ ap level is
+progress_in : (s : State) (task : ℕ) (p : Option TaskPhase) → given_count s ≤ task → phase_at s task ≡ p → progress s task ≡ level p
+progress_in s task p le is = let past : nat_lt task (given_count s) ≡ false = grind (arith, nat_tests) in ap (λ (b : Bool). if b then 5 else level (phase_at s task)) past ∙ ap level is
 
 -- that of a given task is the last
-progress_given : (s : State) (task : ℕ) → task < given s → progress s task ≡ 5
-progress_given s task lt = let past : nat_lt task (given s) ≡ true = grind (arith, nat_tests) in ap (λ (b : Bool). if b then 5 else level (phase_at s task)) past
+progress_given : (s : State) (task : ℕ) → task < given_count s → progress s task ≡ 5
+progress_given s task lt = let past : nat_lt task (given_count s) ≡ true = grind (arith, nat_tests) in ap (λ (b : Bool). if b then 5 else level (phase_at s task)) past
 
 module _ (s : State) (e : Event) (allowed : is_allowed s e ≡ true) (sound : IsSound s) where
   -- the event's task is in its new phase
@@ -53,7 +53,7 @@ module _ (s : State) (e : Event) (allowed : is_allowed s e ≡ true) (sound : Is
       (moved_cases (task_of s e) (task_of s e) (phase_at s (task_of s e)) (phase_at (outcome s e) (task_of s e)) (phase_of s e) (moved s e allowed sound.phases_count (task_of s e)))
 
   -- an event that gives none leaves the progress of its task at the old and the new phase
-  stands : (old : Option TaskPhase) → given_more e ≡ 0 → given s ≤ task_of s e → phase_at s (task_of s e) ≡ old → (progress s (task_of s e) ≡ level old) × (progress (outcome s e) (task_of s e) ≡ level (phase_of s e))
+  stands : (old : Option TaskPhase) → given_more e ≡ 0 → given_count s ≤ task_of s e → phase_at s (task_of s e) ≡ old → (progress s (task_of s e) ≡ level old) × (progress (outcome s e) (task_of s e) ≡ level (phase_of s e))
   stands old none_given le is = (progress_in s (task_of s e) old le is, progress_in (outcome s e) (task_of s e) (phase_of s e) (let g = given_after s e allowed in omega arith) here)
 
 -- an event that moves its task raises its progress by one
@@ -68,22 +68,22 @@ rises s (Deposit seat task mark) rank is h sound =
     let a = stands s (Deposit seat task mark) h sound (Some (Held seat)) refl (within s task (Held seat) held).0 held in let r : 2 ≡ rank = cc in (a.0 ∙ r, a.1 ∙ ap suc r)
 rises s (Win seat) rank is h sound = absurd (cc)
 rises s (Take seat) rank is h sound =
-    let done = done_is (phase_at s (given s)) (both (is_holder seat s.turn) (is_done (phase_at s (given s))) h).1 in
-    let a = stands s (Take seat) h sound (Some (Done (is_marked (phase_at s (given s))))) refl (omega arith) done in let r : 3 ≡ rank = cc in (a.0 ∙ r, a.1 ∙ ap suc r)
+    let done = done_is (phase_at s (given_count s)) (both (is_holder seat s.turn) (is_done (phase_at s (given_count s))) h).1 in
+    let a = stands s (Take seat) h sound (Some (Done (is_marked (phase_at s (given_count s))))) refl (omega arith) done in let r : 3 ≡ rank = cc in (a.0 ∙ r, a.1 ∙ ap suc r)
 rises s (Give seat) rank is h sound =
-    let taken = taken_piece_is (phase_at s (given s)) (both (is_holder seat s.turn && has_taken s.turn) (is_taken_piece (phase_at s (given s))) h).1 in
+    let taken = taken_piece_is (phase_at s (given_count s)) (both (is_holder seat s.turn && has_taken s.turn) (is_taken_piece (phase_at s (given_count s))) h).1 in
     let r : 4 ≡ rank = cc in (
-      progress_in s (given s) (Some (Taken false)) (omega arith) taken ∙ r,
-      progress_given (outcome s (Give seat)) (given s) (omega arith) ∙ ap suc r,
+      progress_in s (given_count s) (Some (Taken false)) (omega arith) taken ∙ r,
+      progress_given (outcome s (Give seat)) (given_count s) (omega arith) ∙ ap suc r,
     )
 rises s (Release seat) rank is h sound = absurd (cc)
 
 -- an event of one task leaves which others are given
-given_test : (s : State) (e : Event) (task : ℕ) → is_allowed s e ≡ true → task ≢ task_of s e → nat_lt task (given (outcome s e)) ≡ nat_lt task (given s)
+given_test : (s : State) (e : Event) (task : ℕ) → is_allowed s e ≡ true → task ≢ task_of s e → nat_lt task (given_count (outcome s e)) ≡ nat_lt task (given_count s)
 given_test s Fill task h other = refl
 given_test s (Claim seat k) task h other = refl
 given_test s (Deposit seat k mark) task h other = refl
-given_test s (Win seat) task h other = ap (nat_lt task) (let g = given_after s (Win seat) h in let same : given (outcome s (Win seat)) ≡ given s = omega arith in same)
+given_test s (Win seat) task h other = ap (nat_lt task) (let g = given_after s (Win seat) h in let same : given_count (outcome s (Win seat)) ≡ given_count s = omega arith in same)
 given_test s (Take seat) task h other = refl
 given_test s (Give seat) task h other = grind (arith, nat_tests)
 given_test s (Release seat) task h other = refl
@@ -100,10 +100,10 @@ own_forward : (s : State) (e : Event) → is_allowed s e ≡ true → IsSound s 
 own_forward s Fill h sound = let r = rises s Fill 0 refl h sound in omega arith
 own_forward s (Claim seat task) h sound = let r = rises s (Claim seat task) 1 refl h sound in omega arith
 own_forward s (Deposit seat task mark) h sound = let r = rises s (Deposit seat task mark) 2 refl h sound in omega arith
-own_forward s (Win seat) h sound = let r = stands s (Win seat) h sound (phase_at s (given s)) refl (omega arith) refl in omega arith
+own_forward s (Win seat) h sound = let r = stands s (Win seat) h sound (phase_at s (given_count s)) refl (omega arith) refl in omega arith
 own_forward s (Take seat) h sound = let r = rises s (Take seat) 3 refl h sound in omega arith
 own_forward s (Give seat) h sound = let r = rises s (Give seat) 4 refl h sound in omega arith
-own_forward s (Release seat) h sound = let r = stands s (Release seat) h sound (phase_at s (given s)) refl (omega arith) refl in omega arith
+own_forward s (Release seat) h sound = let r = stands s (Release seat) h sound (phase_at s (given_count s)) refl (omega arith) refl in omega arith
 
 -- no event takes any task back
 forward : (s : State) (e : Event) (task : ℕ) → IsSound s → progress s task ≤ progress (next s e) task
@@ -171,39 +171,39 @@ given_one : (e : Event) → is_give e ≡ true → given_more e ≡ 1
 given_one (Give seat) h = refl
 given_one _ h = absurd (cc)
 
-give_task : (s : State) (e : Event) → is_give e ≡ true → task_of s e ≡ given s
+give_task : (s : State) (e : Event) → is_give e ≡ true → task_of s e ≡ given_count s
 give_task s (Give seat) h = refl
 give_task s _ h = absurd (cc)
 
 -- an event that isn't a give that applies leaves that number
-given_stays : (s : State) (e : Event) → is_give e && applies s e ≡ false → given (next s e) ≡ given s
+given_stays : (s : State) (e : Event) → is_give e && applies s e ≡ false → given_count (next s e) ≡ given_count s
 given_stays s e none_given = go (applies s e) refl none_given
   where
     no_give : (b : Bool) → b && true ≡ false → b ≡ false
     no_give true h = h
     no_give false h = refl
 
-    go : (b : Bool) → applies s e ≡ b → is_give e && b ≡ false → given (if b then outcome s e else s) ≡ given s
-    go true app none_given = given_after s e (allowed_of s e app) ∙ (let m = given_less e (no_give (is_give e) none_given) in let same : given s + given_more e ≡ given s = omega arith in same)
+    go : (b : Bool) → applies s e ≡ b → is_give e && b ≡ false → given_count (if b then outcome s e else s) ≡ given_count s
+    go true app none_given = given_after s e (allowed_of s e app) ∙ (let m = given_less e (no_give (is_give e) none_given) in let same : given_count s + given_more e ≡ given_count s = omega arith in same)
     go false app none_given = refl
 
 -- what was given before and what one event and the later ones give are the first numbers, in order
-given_step : (e : Event) (events : List Event) (s : State) → range_with_len 0 (given (next s e)) ++ gives (next s e) events ≡ range_with_len 0 (given (state_after (next s e) events)) → range_with_len 0 (given s) ++ gives s (e ∷ events) ≡ range_with_len 0 (given (state_after s (e ∷ events)))
+given_step : (e : Event) (events : List Event) (s : State) → range_with_len 0 (given_count (next s e)) ++ gives (next s e) events ≡ range_with_len 0 (given_count (state_after (next s e) events)) → range_with_len 0 (given_count s) ++ gives s (e ∷ events) ≡ range_with_len 0 (given_count (state_after s (e ∷ events)))
 given_step e events s rest = go (is_give e && applies s e) refl
   where
-    go : (b : Bool) → is_give e && applies s e ≡ b → range_with_len 0 (given s) ++ (if b then task_of s e ∷ gives (next s e) events else gives (next s e) events) ≡ range_with_len 0 (given (state_after (next s e) events))
+    go : (b : Bool) → is_give e && applies s e ≡ b → range_with_len 0 (given_count s) ++ (if b then task_of s e ∷ gives (next s e) events else gives (next s e) events) ≡ range_with_len 0 (given_count (state_after (next s e) events))
     go true is =
         let a = both (is_give e) (applies s e) is in let at = give_task s e a.0 in
-        let more : given (next s e) ≡ given s + 1 = ap (λ (b : Bool). given (if b then outcome s e else s)) a.1 ∙ given_after s e (allowed_of s e a.1) ∙ ap (λ (n : ℕ). given s + n) (given_one e a.0) in
-        ap (λ (t : ℕ). range_with_len 0 (given s) ++ t ∷ gives (next s e) events) (at ∙ (let z : given s ≡ 0 + given s = omega arith in z))
-        ∙ sym (append_assoc (range_with_len 0 (given s)) ((0 + given s) ∷ []) (gives (next s e) events))
-        ∙ ap (λ (l : List ℕ). l ++ gives (next s e) events) (range_more 0 (given s) ∙ ap (range_with_len 0) (sym more))
+        let more : given_count (next s e) ≡ given_count s + 1 = ap (λ (b : Bool). given_count (if b then outcome s e else s)) a.1 ∙ given_after s e (allowed_of s e a.1) ∙ ap (λ (n : ℕ). given_count s + n) (given_one e a.0) in
+        ap (λ (t : ℕ). range_with_len 0 (given_count s) ++ t ∷ gives (next s e) events) (at ∙ (let z : given_count s ≡ 0 + given_count s = omega arith in z))
+        ∙ sym (append_assoc (range_with_len 0 (given_count s)) ((0 + given_count s) ∷ []) (gives (next s e) events))
+        ∙ ap (λ (l : List ℕ). l ++ gives (next s e) events) (range_more 0 (given_count s) ∙ ap (range_with_len 0) (sym more))
         ∙ rest
     go false is = ap (λ (n : ℕ). range_with_len 0 n ++ gives (next s e) events) (sym (given_stays s e is)) ∙ rest
 
 -- over all events
-given_in_order : (events : List Event) (s : State) → range_with_len 0 (given s) ++ gives s events ≡ range_with_len 0 (given (state_after s events))
-given_in_order [] s = append-nil (range_with_len 0 (given s))
+given_in_order : (events : List Event) (s : State) → range_with_len 0 (given_count s) ++ gives s events ≡ range_with_len 0 (given_count (state_after s events))
+given_in_order [] s = append-nil (range_with_len 0 (given_count s))
 given_in_order (e ∷ events) s = given_step e events s (given_in_order events (next s e))
 
 -- a task has come this far where it is claimed

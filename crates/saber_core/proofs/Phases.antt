@@ -8,7 +8,7 @@ use Rattle.saber_core.specs.declared.events.TaskPhase.TheVariants.{Ready, Held, 
 use Rattle.saber_core.specs.declared.events.Event.{Event}
 use Rattle.saber_core.specs.declared.events.Event.TheVariants.{Fill, Claim, Deposit, Win, Take, Give, Release}
 use Rattle.saber_core.specs.declared.machine.Holder.{Holder}
-use Rattle.saber_core.specs.Machine.{State, given, given_of, phase_at, is_ready, is_held_by, is_done, is_taken, is_taken_piece, is_marked, is_holder, is_seated, seat_of, is_allowed, applies, outcome}
+use Rattle.saber_core.specs.Machine.{State, given_count, given_of, phase_at, is_ready, is_held_by, is_done, is_taken, is_taken_piece, is_marked, is_holder, is_seated, seat_of, is_allowed, applies, outcome}
 use Rattle.saber_core.specs.Runs.{task_of, is_give}
 
 -- both tests pass
@@ -70,12 +70,12 @@ get_rest [] i = refl
 get_rest (x ∷ xs) i = refl
 
 -- a task with a phase is not given, and there is a place for its phase
-pub within : (s : State) (task : ℕ) (p : TaskPhase) → phase_at s task ≡ Some p → (given s ≤ task) × (task - given s < length s.phases)
-within s task p h = go (nat_lt task (given s)) refl h
+pub within : (s : State) (task : ℕ) (p : TaskPhase) → phase_at s task ≡ Some p → (given_count s ≤ task) × (task - given_count s < length s.phases)
+within s task p h = go (nat_lt task (given_count s)) refl h
   where
-    go : (b : Bool) → nat_lt task (given s) ≡ b → (if b then None else slice_get s.phases (task - given s)) ≡ Some p → (given s ≤ task) × (task - given s < length s.phases)
+    go : (b : Bool) → nat_lt task (given_count s) ≡ b → (if b then None else slice_get s.phases (task - given_count s)) ≡ Some p → (given_count s ≤ task) × (task - given_count s < length s.phases)
     go true is e = absurd (cc)
-    go false is e = ((let le : given s ≤ task = grind (arith, nat_tests) in le), slice_get_within s.phases (task - given s) p e)
+    go false is e = ((let le : given_count s ≤ task = grind (arith, nat_tests) in le), slice_get_within s.phases (task - given_count s) p e)
 
 -- what a list of phases, the first of them of the task g, says of a task
 abbrev pub look : ℕ → List TaskPhase → ℕ → Option TaskPhase
@@ -125,10 +125,10 @@ abbrev pub phase_of : State → Event → Option TaskPhase
 phase_of s Fill = Some Ready
 phase_of s (Claim seat task) = Some (Held seat)
 phase_of s (Deposit seat task mark) = Some (Done mark)
-phase_of s (Win seat) = phase_at s (given s)
-phase_of s (Take seat) = Some (Taken (is_marked (phase_at s (given s))))
+phase_of s (Win seat) = phase_at s (given_count s)
+phase_of s (Take seat) = Some (Taken (is_marked (phase_at s (given_count s))))
 phase_of s (Give seat) = None
-phase_of s (Release seat) = phase_at s (given s)
+phase_of s (Release seat) = phase_at s (given_count s)
 
 -- how many tasks an event gives
 abbrev pub given_more : Event → ℕ
@@ -136,7 +136,7 @@ given_more (Give seat) = 1
 given_more _ = 0
 
 -- only a give raises the number of given tasks
-pub given_after : (s : State) (e : Event) → is_allowed s e ≡ true → given (outcome s e) ≡ given s + given_more e
+pub given_after : (s : State) (e : Event) → is_allowed s e ≡ true → given_count (outcome s e) ≡ given_count s + given_more e
 given_after s Fill h = omega arith
 given_after s (Claim seat task) h = omega arith
 given_after s (Deposit seat task mark) h = omega arith
@@ -150,20 +150,20 @@ given_after s (Give seat) h = refl
 given_after s (Release seat) h = omega arith
 
 -- an event changes the phase of its own task alone
-pub moved : (s : State) (e : Event) → is_allowed s e ≡ true → given s + length s.phases ≡ s.filled → (task : ℕ) → phase_at (outcome s e) task ≡ (if task == task_of s e then phase_of s e else phase_at s task)
-moved s Fill h count task = look_more (given s) s.phases Ready s.filled task count
+pub moved : (s : State) (e : Event) → is_allowed s e ≡ true → given_count s + length s.phases ≡ s.filled → (task : ℕ) → phase_at (outcome s e) task ≡ (if task == task_of s e then phase_of s e else phase_at s task)
+moved s Fill h count task = look_more (given_count s) s.phases Ready s.filled task count
 moved s (Claim seat k) h count task =
-    let w = within s k Ready (ready_is (phase_at s k) h) in look_written (given s) s.phases k (k - given s) (Held seat) task (let le = w.0 in omega arith) w.1
+    let w = within s k Ready (ready_is (phase_at s k) h) in look_written (given_count s) s.phases k (k - given_count s) (Held seat) task (let le = w.0 in omega arith) w.1
 moved s (Deposit seat k mark) h count task =
-    let w = within s k (Held seat) (held_is seat (phase_at s k) h) in look_written (given s) s.phases k (k - given s) (Done mark) task (let le = w.0 in omega arith) w.1
+    let w = within s k (Held seat) (held_is seat (phase_at s k) h) in look_written (given_count s) s.phases k (k - given_count s) (Done mark) task (let le = w.0 in omega arith) w.1
 moved s (Win seat) h count task =
-    let same : given (outcome s (Win seat)) ≡ given s = (let e = given_after s (Win seat) h in omega arith) in
-    ap (λ (g : ℕ). look g s.phases task) same ∙ look_same (given s) s.phases (given s) task
+    let same : given_count (outcome s (Win seat)) ≡ given_count s = (let e = given_after s (Win seat) h in omega arith) in
+    ap (λ (g : ℕ). look g s.phases task) same ∙ look_same (given_count s) s.phases (given_count s) task
 moved s (Take seat) h count task =
-    let w = within s (given s) (Done (is_marked (phase_at s (given s)))) (done_is (phase_at s (given s)) (both (is_holder seat s.turn) (is_done (phase_at s (given s))) h).1) in
-    look_written (given s) s.phases (given s) 0 (Taken (is_marked (phase_at s (given s)))) task (omega arith) (let lt = w.1 in omega arith)
-moved s (Give seat) h count task = look_rest (given s) s.phases task
-moved s (Release seat) h count task = look_same (given s) s.phases (given s) task
+    let w = within s (given_count s) (Done (is_marked (phase_at s (given_count s)))) (done_is (phase_at s (given_count s)) (both (is_holder seat s.turn) (is_done (phase_at s (given_count s))) h).1) in
+    look_written (given_count s) s.phases (given_count s) 0 (Taken (is_marked (phase_at s (given_count s)))) task (omega arith) (let lt = w.1 in omega arith)
+moved s (Give seat) h count task = look_rest (given_count s) s.phases task
+moved s (Release seat) h count task = look_same (given_count s) s.phases (given_count s) task
 
 -- a phase that is taken is this one, with some mark
 pub taken_is : (p : Option TaskPhase) → is_taken p ≡ true → (mark : Bool) × (p ≡ Some (Taken mark))
@@ -174,12 +174,12 @@ taken_is (Some (Done m)) h = absurd (cc)
 taken_is (Some (Taken m)) h = (m, refl)
 
 -- the next task to be filled has no phase
-pub unfilled : (s : State) → given s + length s.phases ≡ s.filled → phase_at s s.filled ≡ None
-unfilled s count = go (nat_lt s.filled (given s)) refl
+pub unfilled : (s : State) → given_count s + length s.phases ≡ s.filled → phase_at s s.filled ≡ None
+unfilled s count = go (nat_lt s.filled (given_count s)) refl
   where
-    go : (b : Bool) → nat_lt s.filled (given s) ≡ b → (if b then None else slice_get s.phases (s.filled - given s)) ≡ None
+    go : (b : Bool) → nat_lt s.filled (given_count s) ≡ b → (if b then None else slice_get s.phases (s.filled - given_count s)) ≡ None
     go true is = refl
-    go false is = slice_get_past s.phases (s.filled - given s) (omega arith)
+    go false is = slice_get_past s.phases (s.filled - given_count s) (omega arith)
 
 -- an event that is no give gives none
 pub given_less : (e : Event) → is_give e ≡ false → given_more e ≡ 0

@@ -3,7 +3,7 @@ use Rattle.std.proofs.Common.{◌≡◌, ℕ, Bool, true, false, ◌+◌, ◌⊎
 use Rattle.std.specs.Prelude.{◌&&◌, if◌then◌else◌}
 use Rattle.saber_core.specs.declared.events.Event.{Event}
 use Rattle.saber_core.specs.declared.events.Event.TheVariants.{Fill, Claim, Deposit, Win, Take, Give, Release}
-use Rattle.saber_core.specs.Machine.{State, fresh, given, phase_at, is_taken, is_done, is_holder, has_taken, is_taken_piece, is_allowed, applies, outcome, next}
+use Rattle.saber_core.specs.Machine.{State, fresh, given_count, phase_at, is_taken, is_done, is_holder, has_taken, is_taken_piece, is_allowed, applies, outcome, next}
 use Rattle.saber_core.specs.Sound.{IsSound}
 use Rattle.saber_core.specs.Runs.{task_of, is_take, is_give, tasks_of, state_after, StaysStopped, StopsForGood}
 use Rattle.saber_core.proofs.Phases.{both, ready_is, held_is, done_is, unfilled, phase_of, given_more, given_after, given_less, allowed_of, moved}
@@ -12,29 +12,29 @@ use Rattle.saber_core.proofs.Sounds.{moved_cases, next_cases, sound_next, sound_
 -- the first task that isn't given is taken, and no holder of the turn has it
 record IsStopped (s : State) : Type 0 where
   sound : IsSound s
-  first_taken : is_taken (phase_at s (given s)) ≡ true
+  first_taken : is_taken (phase_at s (given_count s)) ≡ true
   none_held : has_taken s.turn ≡ false
 
 -- an event leaves the stop as it is
 record LeavesStop (s : State) (e : Event) (s' : State) : Type 0 where
-  given_same : given s' ≡ given s
-  phase_same : phase_at s' (given s) ≡ phase_at s (given s)
+  given_same : given_count s' ≡ given_count s
+  phase_same : phase_at s' (given_count s) ≡ phase_at s (given_count s)
   none_held : has_taken s'.turn ≡ false
 
 -- an event of another task, or of the turn alone, leaves the phase of the first that isn't given
-leaves_first : (s : State) (e : Event) → is_allowed s e ≡ true → IsSound s → phase_of s e ≡ phase_at s (task_of s e) ⊎ (is_taken (phase_at s (task_of s e)) ≡ false) → is_taken (phase_at s (given s)) ≡ true → phase_at (outcome s e) (given s) ≡ phase_at s (given s)
+leaves_first : (s : State) (e : Event) → is_allowed s e ≡ true → IsSound s → phase_of s e ≡ phase_at s (task_of s e) ⊎ (is_taken (phase_at s (task_of s e)) ≡ false) → is_taken (phase_at s (given_count s)) ≡ true → phase_at (outcome s e) (given_count s) ≡ phase_at s (given_count s)
 leaves_first s e h sound why first = ⊎_elim
-    (λ (x : (given s ≡ task_of s e) × (phase_at (outcome s e) (given s) ≡ phase_of s e)). ⊎_elim
+    (λ (x : (given_count s ≡ task_of s e) × (phase_at (outcome s e) (given_count s) ≡ phase_of s e)). ⊎_elim
     (λ (same : phase_of s e ≡ phase_at s (task_of s e)). x.1 ∙ same ∙ ap (phase_at s) (sym x.0))
     (λ (no : is_taken (phase_at s (task_of s e)) ≡ false). absurd (let c = ap (λ (t : ℕ). is_taken (phase_at s t)) x.0 in cc))
     why)
-    (λ (x : (given s ≢ task_of s e) × (phase_at (outcome s e) (given s) ≡ phase_at s (given s))). x.1)
-    (moved_cases (given s) (task_of s e) (phase_at s (given s)) (phase_at (outcome s e) (given s)) (phase_of s e) (moved s e h sound.phases_count (given s)))
+    (λ (x : (given_count s ≢ task_of s e) × (phase_at (outcome s e) (given_count s) ≡ phase_at s (given_count s))). x.1)
+    (moved_cases (given_count s) (task_of s e) (phase_at s (given_count s)) (phase_at (outcome s e) (given_count s)) (phase_of s e) (moved s e h sound.phases_count (given_count s)))
 
 -- then no take and no give applies
 stop_kinds : (s : State) (e : Event) → is_allowed s e ≡ true → IsStopped s → (is_take e ≡ false) × (is_give e ≡ false)
-stop_kinds s (Take seat) h stop = absurd (let done = ap is_taken (done_is (phase_at s (given s)) (both (is_holder seat s.turn) (is_done (phase_at s (given s))) h).1) in let taken = stop.first_taken in cc)
-stop_kinds s (Give seat) h stop = absurd (let has = both (is_holder seat s.turn) (has_taken s.turn) (both (is_holder seat s.turn && has_taken s.turn) (is_taken_piece (phase_at s (given s))) h).0 in let none = stop.none_held in cc)
+stop_kinds s (Take seat) h stop = absurd (let done = ap is_taken (done_is (phase_at s (given_count s)) (both (is_holder seat s.turn) (is_done (phase_at s (given_count s))) h).1) in let taken = stop.first_taken in cc)
+stop_kinds s (Give seat) h stop = absurd (let has = both (is_holder seat s.turn) (has_taken s.turn) (both (is_holder seat s.turn && has_taken s.turn) (is_taken_piece (phase_at s (given_count s))) h).0 in let none = stop.none_held in cc)
 stop_kinds s _ h stop = (refl, refl)
 
 -- each event that is left leaves its task's phase, or is about a task that isn't taken
@@ -61,7 +61,7 @@ stop_turn s (Release seat) h stop = refl
 stop_left : (s : State) (e : Event) → IsStopped s → LeavesStop s e (next s e)
 stop_left s e stop = next_cases (LeavesStop s e) s e
     (λ is. let h = allowed_of s e is in record {
-      given_same = given_after s e h ∙ (let more = given_less e (stop_kinds s e h stop).1 in let same : given s + given_more e ≡ given s = omega arith in same);
+      given_same = given_after s e h ∙ (let more = given_less e (stop_kinds s e h stop).1 in let same : given_count s + given_more e ≡ given_count s = omega arith in same);
       phase_same = leaves_first s e h stop.sound (stop_phase s e h stop) stop.first_taken;
       none_held = stop_turn s e h stop;
     })
@@ -94,7 +94,7 @@ none_of is_kind never (e ∷ events) s stop = ap (λ (b : Bool). if b then task_
     unmet false is = by_not (is_kind e)
 
 -- the first task that isn't given keeps its phase
-first_stays : (events : List Event) (s : State) → IsStopped s → phase_at (state_after s events) (given s) ≡ phase_at s (given s)
+first_stays : (events : List Event) (s : State) → IsStopped s → phase_at (state_after s events) (given_count s) ≡ phase_at s (given_count s)
 first_stays [] s stop = refl
 first_stays (e ∷ events) s stop = let left = stop_left s e stop in
     ap (phase_at (state_after (next s e) events)) (sym left.given_same) ∙ first_stays events (next s e) (stop_next s e stop) ∙ ap (phase_at (next s e)) left.given_same ∙ left.phase_same
@@ -115,7 +115,7 @@ release_stops s seat later sound is has =
     let same : next s (Release seat) ≡ outcome s (Release seat) = ap (λ (b : Bool). if b then outcome s (Release seat) else s) is in
     stays later (next s (Release seat)) (record {
       sound = sound_next s (Release seat) sound;
-      first_taken = ap (λ (z : State). is_taken (phase_at z (given z))) same ∙ sound.holder_taken has;
+      first_taken = ap (λ (z : State). is_taken (phase_at z (given_count z))) same ∙ sound.holder_taken has;
       none_held = ap (λ (z : State). has_taken z.turn) same;
     })
 

@@ -27,12 +27,12 @@ given_of assembled None = assembled
 given_of assembled (Some holder) = holder.given
 
 -- the same of a state; it is the number of the first task that isn't given
-abbrev pub given : State → ℕ
-given s = given_of s.assembled s.turn
+abbrev pub given_count : State → ℕ
+given_count s = given_of s.assembled s.turn
 
 -- the phase of a task, where it is filled and not given
 abbrev pub phase_at : State → ℕ → Option TaskPhase
-phase_at s task = if nat_lt task (given s) then None else slice_get s.phases (task - given s)
+phase_at s task = if nat_lt task (given_count s) then None else slice_get s.phases (task - given_count s)
 
 -- filled, and claimed by nobody
 abbrev pub is_ready : Option TaskPhase → Bool
@@ -91,12 +91,12 @@ is_seated seats (Some seat) = nat_lt seat seats
 
 -- what else an event needs: the first column of the table
 abbrev pub is_allowed : State → Event → Bool
-is_allowed s Fill = nat_lt s.filled (given s + s.size) && nat_lt s.filled (2 ^ 42)
+is_allowed s Fill = nat_lt s.filled (given_count s + s.size) && nat_lt s.filled (2 ^ 42)
 is_allowed s (Claim seat task) = is_ready (phase_at s task)
 is_allowed s (Deposit seat task mark) = is_held_by seat (phase_at s task)
 is_allowed s (Win seat) = is_none s.turn
-is_allowed s (Take seat) = is_holder seat s.turn && is_done (phase_at s (given s))
-is_allowed s (Give seat) = is_holder seat s.turn && has_taken s.turn && is_taken_piece (phase_at s (given s))
+is_allowed s (Take seat) = is_holder seat s.turn && is_done (phase_at s (given_count s))
+is_allowed s (Give seat) = is_holder seat s.turn && has_taken s.turn && is_taken_piece (phase_at s (given_count s))
 is_allowed s (Release seat) = is_holder seat s.turn
 
 -- where an event applies
@@ -105,7 +105,7 @@ applies s e = is_seated s.seats (seat_of e) && is_allowed s e
 
 -- the same state, but for the phase of one task
 abbrev pub with_phase : State → ℕ → TaskPhase → State
-with_phase s task phase = record s { phases = slice_set s.phases (task - given s) phase }
+with_phase s task phase = record s { phases = slice_set s.phases (task - given_count s) phase }
 
 -- the state after an event that applies: the second column. The first of the phases is that of the first task that isn't given
 abbrev pub outcome : State → Event → State
@@ -114,11 +114,11 @@ outcome s (Claim seat task) = with_phase s task (Held seat)
 outcome s (Deposit seat task mark) = with_phase s task (Done mark)
 outcome s (Win seat) = record s { turn = Some (record { seat = seat; given = s.assembled; taken = false }) }
 outcome s (Take seat) = record s {
-  turn = Some (record { seat = seat; given = given s; taken = true });
-  phases = slice_set s.phases 0 (Taken (is_marked (phase_at s (given s))));
+  turn = Some (record { seat = seat; given = given_count s; taken = true });
+  phases = slice_set s.phases 0 (Taken (is_marked (phase_at s (given_count s))));
 }
-outcome s (Give seat) = record s { turn = Some (record { seat = seat; given = given s + 1; taken = false }); phases = drop 1 s.phases }
-outcome s (Release seat) = record s { assembled = given s; turn = None }
+outcome s (Give seat) = record s { turn = Some (record { seat = seat; given = given_count s + 1; taken = false }); phases = drop 1 s.phases }
+outcome s (Release seat) = record s { assembled = given_count s; turn = None }
 
 -- an event that doesn't apply changes nothing
 abbrev pub next : State → Event → State

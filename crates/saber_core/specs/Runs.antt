@@ -3,7 +3,7 @@ use Rattle.std.specs.Prelude.{◌≡◌, ℕ, Bool, true, false, ◌&&◌, if◌
 use Rattle.std.specs.List.{IsDistinct, range_with_len}
 use Rattle.saber_core.specs.declared.events.Event.{Event}
 use Rattle.saber_core.specs.declared.events.Event.TheVariants.{Fill, Claim, Deposit, Win, Take, Give, Release}
-use Rattle.saber_core.specs.Machine.{State, given, phase_at, is_taken, has_taken, applies, next}
+use Rattle.saber_core.specs.Machine.{State, given_count, phase_at, is_taken, has_taken, applies, next}
 
 -- the state after all events
 abbrev pub state_after : State → List Event → State
@@ -15,10 +15,10 @@ abbrev pub task_of : State → Event → ℕ
 task_of s Fill = s.filled
 task_of s (Claim seat task) = task
 task_of s (Deposit seat task mark) = task
-task_of s (Win seat) = given s
-task_of s (Take seat) = given s
-task_of s (Give seat) = given s
-task_of s (Release seat) = given s
+task_of s (Win seat) = given_count s
+task_of s (Take seat) = given_count s
+task_of s (Give seat) = given_count s
+task_of s (Release seat) = given_count s
 
 -- which events are of a kind
 abbrev pub is_claim : Event → Bool
@@ -61,12 +61,12 @@ pub record IsOrderly (s : State) (events : List Event) : Type 0 where
   pub claims_once : IsDistinct nat_eq (claims s events)
   pub deposits_once : IsDistinct nat_eq (deposits s events)
   pub takes_once : IsDistinct nat_eq (takes s events)
-  pub gives_in_order : gives s events ≡ range_with_len 0 (given (state_after s events))
+  pub gives_in_order : gives s events ≡ range_with_len 0 (given_count (state_after s events))
 
 -- the first task that isn't given was taken and stays so, and no task is taken or given any more
 pub record StaysStopped (s : State) (events : List Event) : Type 0 where
-  pub is_taken : IsTrue (is_taken (phase_at s (given s)))
-  pub stays_taken : phase_at (state_after s events) (given s) ≡ phase_at s (given s)
+  pub is_taken : IsTrue (is_taken (phase_at s (given_count s)))
+  pub stays_taken : phase_at (state_after s events) (given_count s) ≡ phase_at s (given_count s)
   pub no_take : takes s events ≡ []
   pub no_give : gives s events ≡ []
 

@@ -1,6 +1,6 @@
 //! The machine of events.
 ghost use Rattle.std.specs.Prelude.{◌≡◌, ◌≤◌, ◌<◌, ◌↔◌, IfOk, IsSome, option_map};
-ghost use Rattle.saber_core.specs.Machine.{fresh, given, has_taken, is_holder, next, phase_at};
+ghost use Rattle.saber_core.specs.Machine.{fresh, given_count, has_taken, is_holder, next, phase_at};
 ghost use Rattle.saber_core.specs.Sound.{IsSound};
 
 use crate::events::{Event, TaskPhase};
@@ -77,9 +77,9 @@ impl Core {
     /// The phase of a task, where it is filled and not given back.
     pub fn phase(&self, task: u64) -> Option<TaskPhase>
         ensures phase { result ≡ phase_at self.now task }
-        ensures filled { IsSome result ↔ ((given self.now ≤ task) × (task < self.now.filled)) }
+        ensures filled { IsSome result ↔ ((given_count self.now ≤ task) × (task < self.now.filled)) }
     {
-        let given = self.given();
+        let given = self.given_count();
         if task < given {
             return None;
         }
@@ -115,8 +115,8 @@ impl Core {
     }
 
     // How many tasks were given back: the number of the first that wasn't.
-    fn given(&self) -> u64
-        ensures { result ≡ given self.now }
+    fn given_count(&self) -> u64
+        ensures { result ≡ given_count self.now }
     {
         match self.turn {
             Some(holder) => holder.given,
@@ -139,7 +139,7 @@ impl Core {
     fn fill(&mut self)
         ensures { self.new ≡ next self.old Event.Fill }
     {
-        if self.filled < self.given() + self.size as u64 && self.filled < TASK_LIMIT {
+        if self.filled < self.given_count() + self.size as u64 && self.filled < TASK_LIMIT {
             self.phases.push_back_reserved(TaskPhase::Ready);
             self.filled += 1;
         }
@@ -150,7 +150,7 @@ impl Core {
         ensures { self.new ≡ next self.old (Event.Claim seat task) }
     {
         if let Some(TaskPhase::Ready) = self.phase(task) {
-            let place = (task - self.given()) as usize;
+            let place = (task - self.given_count()) as usize;
             self.phases[place] = TaskPhase::Held { seat };
         }
     }
@@ -162,7 +162,7 @@ impl Core {
         if let Some(TaskPhase::Held { seat: holder }) = self.phase(task)
             && holder == seat
         {
-            let place = (task - self.given()) as usize;
+            let place = (task - self.given_count()) as usize;
             self.phases[place] = TaskPhase::Done { mark };
         }
     }
@@ -184,7 +184,7 @@ impl Core {
         requires { seat < self.old.seats }
         ensures { self.new ≡ next self.old (Event.Take seat) }
     {
-        let given = self.given();
+        let given = self.given_count();
         if self.is_holder(seat)
             && let Some(TaskPhase::Done { mark }) = self.phase(given)
         {
@@ -201,7 +201,7 @@ impl Core {
         requires { seat < self.old.seats }
         ensures { self.new ≡ next self.old (Event.Give seat) }
     {
-        let given = self.given();
+        let given = self.given_count();
         if self.is_holder(seat)
             && self.has_taken()
             && let Some(TaskPhase::Taken { mark: false }) = self.phase(given)
@@ -220,7 +220,7 @@ impl Core {
         ensures { self.new ≡ next self.old (Event.Release seat) }
     {
         if self.is_holder(seat) {
-            self.assembled = self.given();
+            self.assembled = self.given_count();
             self.turn = None;
         }
     }

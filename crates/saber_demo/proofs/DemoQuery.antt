@@ -9,7 +9,7 @@ use Rattle.saber_query.specs.declared.tree.Item.TheVariants.{Value, Count, Sum}
 use Rattle.saber_query.specs.declared.tree.Factor.TheVariants.{Column}
 use Rattle.saber_query.specs.declared.tree.Measure.TheVariants.{Range}
 use Rattle.saber_query.specs.Tokens.{keyword_among}
-use Rattle.saber_query.specs.Lexing.{lexed, begin, number_more, step, ended, lex_from}
+use Rattle.saber_query.specs.Lexing.{lexed_text, begin, number_more, step, last_token, lex_from}
 use Rattle.saber_query.specs.Trees.{query_of}
 use Rattle.saber_query.specs.Means.{MeansTree, byte_of}
 use Rattle.saber_query.specs.Parsed.{Parsed, IsParsed}
@@ -45,17 +45,17 @@ those (Err f) = []
 
 -- the tokens of its text
 abbrev tokens : List Placed
-tokens = those (lexed demo_query)
+tokens = those (lexed_text demo_query)
 
 abbrev demo_parsed : Parsed
 demo_parsed = record { select = demo_select; starts = map byte_of tokens }
 
 means : MeansTree demo_query demo_parsed
-unfolding begin number_more step ended lex_from keyword_among
+unfolding begin number_more step last_token lex_from keyword_among
 means = record { short = omega arith; placed = tokens; lexed = refl; words = refl; starts = refl; shallow = omega arith }
 
 parsed : IsParsed demo_select (map byte_of tokens)
-unfolding begin number_more step ended lex_from keyword_among
+unfolding begin number_more step last_token lex_from keyword_among
 parsed = record { each_word = refl; short = omega arith; real = search rules; shallow = omega arith }
 
 no_faults : faults (query_of demo_select) ≡ []

@@ -14,8 +14,8 @@ use Rattle.saber_plan.specs.declared.rows.RowCause.TheVariants.{TooManyLines, To
 use Rattle.saber_plan.specs.Rows.{Line, lines_of, without_cr, fields_of, is_digits, if_digits, number_of, bad_field, numbers, in_range, wide_field, falls, judge_numbers, judge_fields, judge, Judged, skipped, taken, refused, all_read, before, bad, Read, SideRules, most_held}
 use Rattle.saber_laws.specs.Inputs.{PlainFiles, plain_by, after_plain}
 use Rattle.saber_plan.specs.Windows.{from}
-use Rattle.saber_demo.specs.Generator.{state, drawn}
-use Rattle.saber_demo.specs.Rows.{row_of, row_line, generated}
+use Rattle.saber_demo.specs.Generator.{state, drawn_number}
+use Rattle.saber_demo.specs.Rows.{row_of, row_line, generated_file}
 use Rattle.saber_demo.specs.Laws.{GeneratedIsRead}
 use Rattle.saber_demo.proofs.LineLaws.{both_true, all_weaker, fed_line, HasNoComma, field_before, last_field}
 
@@ -226,11 +226,11 @@ file_read draw small most j (suc n) lines last number order some few =
 
 -- ---- the generated file
 
-drawn_small : (seed j : ℕ) → drawn seed j < 2 ^ 15
+drawn_small : (seed j : ℕ) → drawn_number seed j < 2 ^ 15
 unfolding state
 drawn_small seed j = let low : state seed (suc j) < 2 ^ 31 = omega arith in omega arith
 
 pub generated_read : PlainFiles → GeneratedIsRead
 unfolding NotLater
 generated_read plain_files seed n most few some =
-    plain_files (side most) (generated seed n) refl ∙ file_read (drawn seed) (drawn_small seed) most 0 n 0 None refl tt (omega arith) (omega arith)
+    plain_files (side most) (generated_file seed n) refl ∙ file_read (drawn_number seed) (drawn_small seed) most 0 n 0 None refl tt (omega arith) (omega arith)

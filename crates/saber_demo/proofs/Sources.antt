@@ -6,11 +6,11 @@ use Rattle.std.specs.List.{join_with_byte}
 use Rattle.std.specs.Fmt.{signed_decimal}
 use Rattle.saber_plan.specs.declared.rows.Row.{Row}
 use Rattle.saber_plan.specs.Windows.{from}
-use Rattle.saber_demo.specs.Generator.{state, step, upper, drawn}
-use Rattle.saber_demo.specs.Rows.{row_of, row_line, generated, lines_from}
+use Rattle.saber_demo.specs.Generator.{state, step, upper, drawn_number}
+use Rattle.saber_demo.specs.Rows.{row_of, row_line, generated_file, lines_from}
 
 -- n rows from row j on are those of the file
-lines_are : (seed j n : ℕ) → lines_from (state seed j) j n ≡ flat_map row_line (map (λ j. row_of j (drawn seed j)) (from j n))
+lines_are : (seed j n : ℕ) → lines_from (state seed j) j n ≡ flat_map row_line (map (λ j. row_of j (drawn_number seed j)) (from j n))
 unfolding lines_from state from
 lines_are seed j zero = refl
 lines_are seed j (suc n) =
@@ -19,7 +19,7 @@ lines_are seed j (suc n) =
     ap (λ l. row_line (row_of j (upper (step (state seed j)))) ++ l) (ap (λ x. lines_from x (j + 1) n) (sym next) ∙ rest)
 
 -- before the first row all is left
-pub all_left : (seed n : ℕ) → lines_from seed 0 n ≡ generated seed n
+pub all_left : (seed n : ℕ) → lines_from seed 0 n ≡ generated_file seed n
 unfolding state
 all_left seed n = lines_are seed 0 n
 

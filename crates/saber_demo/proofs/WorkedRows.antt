@@ -3,21 +3,21 @@ use Rattle.std.specs.Prelude.{◌≡◌, [], ◌∷◌, map, codes, refl}
 use Rattle.std.specs.Fmt.{digits}
 use Rattle.saber_plan.specs.Windows.{from}
 use Rattle.saber_plan.specs.Rows.{lines_of}
-use Rattle.saber_demo.specs.Generator.{state, drawn}
-use Rattle.saber_demo.specs.Rows.{generated}
+use Rattle.saber_demo.specs.Generator.{state, drawn_number}
+use Rattle.saber_demo.specs.Rows.{generated_file}
 use Rattle.saber_demo.specs.Summary.{summary}
 
 -- the numbers of the C standard's example for the seed 1
-first_draws : map (drawn 1) (from 0 8) ≡ 16838 ∷ 5758 ∷ 10113 ∷ 17515 ∷ 31051 ∷ 5627 ∷ 23010 ∷ 7419 ∷ []
+first_draws : map (drawn_number 1) (from 0 8) ≡ 16838 ∷ 5758 ∷ 10113 ∷ 17515 ∷ 31051 ∷ 5627 ∷ 23010 ∷ 7419 ∷ []
 unfolding state from
 first_draws = refl
 
-first_lines : generated 1 3 ≡ codes "0,2,16838\n1,2,5758\n2,1,10113\n"
+first_lines : generated_file 1 3 ≡ codes "0,2,16838\n1,2,5758\n2,1,10113\n"
 unfolding state from digits
 first_lines = refl
 
 -- the greatest seed
-greatest_seed : map (drawn 2147483647) (from 0 2) ≡ 15929 ∷ 4409 ∷ []
+greatest_seed : map (drawn_number 2147483647) (from 0 2) ≡ 15929 ∷ 4409 ∷ []
 unfolding state from
 greatest_seed = refl
 

@@ -15,5 +15,5 @@ abbrev pub upper : ℕ → ℕ
 upper x = x / 2 ^ 16
 
 -- what is drawn for row j
-abbrev pub drawn : ℕ → ℕ → ℕ
-drawn seed j = upper (state seed (suc j))
+abbrev pub drawn_number : ℕ → ℕ → ℕ
+drawn_number seed j = upper (state seed (suc j))

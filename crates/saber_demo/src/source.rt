@@ -1,7 +1,7 @@
 // The generated rows as a source.
 ghost use Rattle.std.specs.Prelude.{◌≡◌, ◌≤◌, ◌<◌, ◌+◌, ◌^◌, ◌++◌, [], drop, take, length};
 ghost use Rattle.saber_demo.specs.Generator.{step};
-ghost use Rattle.saber_demo.specs.Rows.{generated, lines_from};
+ghost use Rattle.saber_demo.specs.Rows.{generated_file, lines_from};
 
 use crate::lines::write_row;
 use arrayvec::ArrayString;
@@ -61,7 +61,7 @@ impl Generated {
     /// The first rows that a seed gives, before the first read.
     pub fn new(seed: u64, rows: u64) -> Generated
         requires { seed < 2 ^ 31 }
-        ensures { result ≡ generated seed rows }
+        ensures { result ≡ generated_file seed rows }
     {
         Generated {
             state: seed,

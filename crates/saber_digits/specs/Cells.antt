@@ -6,5 +6,5 @@ abbrev pub cells : List ℤ → List ℕ
 cells zs = flat_map (λ z. 44 ∷ signed_decimal z) zs
 
 -- a text, and behind it what stands before a place of an array
-abbrev pub drafted : List ℕ → List ℕ → ℕ → List ℕ
-drafted out line at = out ++ take at line
+abbrev pub drafted_text : List ℕ → List ℕ → ℕ → List ℕ
+drafted_text out line at = out ++ take at line

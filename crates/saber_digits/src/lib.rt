@@ -8,8 +8,8 @@
 //!   `flush` take an array and the place where the line so far ends in it; all but the last tell
 //!   where it ends then.
 //! - Proved: exactly the digits come. The list, and behind it what stands before the place in the
-//!   array (`drafted`, `specs/Cells.antt`), grows by the comma and number, by the line's start, or
-//!   by the LF. After want of memory the list still begins with what it had.
+//!   array (`drafted_text`, `specs/Cells.antt`), grows by the comma and number, by the line's start,
+//!   or by the LF. After want of memory the list still begins with what it had.
 //! - Not claimed: how often the list grows, and what stands in the array behind the place.
 //! - Limits: an array of 128 bytes, in which a line begins with at most 24; 128 bits a number.
 #![tactic(auto)]

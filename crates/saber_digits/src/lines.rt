@@ -2,7 +2,7 @@
 ghost use Rattle.std.specs.Prelude.{◌≡◌, ◌<◌, ◌+◌, ◌≤◌, ◌/◌, ◌%◌, ℕ, [], ◌∷◌, ◌++◌, take, decimal, OnOk, IfOk};
 ghost use Rattle.std.specs.Fmt.{signed_decimal};
 ghost use Rattle.saber_plan.specs.Texts.{Behind};
-ghost use Rattle.saber_digits.specs.Cells.{drafted};
+ghost use Rattle.saber_digits.specs.Cells.{drafted_text};
 
 use crate::numbers::pair;
 use itoa::Buffer;
@@ -149,7 +149,7 @@ pub fn flush(out: &mut Vec<u8>, line: &[u8; 128], at: usize) -> Result<(), NoMem
 #[inline(always)]
 fn with_room(out: &mut Vec<u8>, line: &[u8; 128], at: usize) -> Result<usize, NoMemory>
     requires { at ≤ 128 }
-    ensures ok { IfOk result (λ p. drafted out.new.items line.now p ≡ drafted out.old.items line.now at) }
+    ensures ok { IfOk result (λ p. drafted_text out.new.items line.now p ≡ drafted_text out.old.items line.now at) }
     ensures room { IfOk result (λ p. p ≤ 80) }
     ensures behind { Behind out.old.items out.new.items }
 {
@@ -197,7 +197,7 @@ pub fn put_cell(
     number: i128,
 ) -> Result<usize, NoMemory>
     requires { at ≤ 128 }
-    ensures ok { IfOk result (λ end. drafted out.new.items line.new end ≡ drafted out.old.items line.old at ++ 44 ∷ signed_decimal number) }
+    ensures ok { IfOk result (λ end. drafted_text out.new.items line.new end ≡ drafted_text out.old.items line.old at ++ 44 ∷ signed_decimal number) }
     ensures room { IfOk result (λ end. end ≤ 121) }
     ensures behind { Behind out.old.items out.new.items }
 {
@@ -217,7 +217,7 @@ pub fn start_line(
 ) -> Result<usize, NoMemory>
     requires at { at ≤ 128 }
     requires few { count ≤ 24 }
-    ensures ok { IfOk result (λ end. drafted out.new.items line.new end ≡ drafted out.old.items line.old at ++ take count text.now) }
+    ensures ok { IfOk result (λ end. drafted_text out.new.items line.new end ≡ drafted_text out.old.items line.old at ++ take count text.now) }
     ensures room { IfOk result (λ end. end ≤ 121) }
     ensures behind { Behind out.old.items out.new.items }
 {

@@ -6,12 +6,12 @@ use Rattle.std.proofs.lemmas.List.{take_all, take-append-le, drop-append-le, map
 use Rattle.std.proofs.Math.Seq.{take-append_seam, drop-append_seam}
 use Rattle.saber_plan.specs.declared.rows.Row.{Row}
 use Rattle.saber_plan.specs.declared.windows.Mark.{Mark}
-use Rattle.saber_plan.specs.Windows.{Frame, Ordered, no_rows, step_mark, mark_after, mark_of, placed, placed_after, closed_count, from}
+use Rattle.saber_plan.specs.Windows.{Frame, Ordered, no_rows, step_mark, mark_after, mark_of, placed_from_start, placed_after, closed_count, from}
 use Rattle.saber_plan.specs.Inputs.{going_on}
 use Rattle.saber_plan.specs.Answers.{frame}
 use Rattle.saber_plan.specs.Trees.{Tree}
 use Rattle.saber_plan.specs.GivenRows.{RowsFit}
-use Rattle.saber_plan.specs.Tasks.{cut, upto}
+use Rattle.saber_plan.specs.Tasks.{task_start, upto}
 use Rattle.saber_plan.specs.Needs.{free, last_of, free_of}
 use Rattle.saber_laws.specs.Needs.{LastsTellFree, TasksLookBack, TasksLookOn, NeedsStay}
 use Rattle.saber_dispatch.specs.declared.lasts.Lasts.{Lasts}
@@ -77,18 +77,18 @@ module _ (q : Tree) (n : ℕ) (xs : List Row) (t : ℕ) (before : Mark) (b : Beh
       let c : before.left + before.right ≡ length xs = ap (λ (m : Mark). m.left + m.right) b.mark ∙ mark_count no_rows xs ∙ omega arith in
       omega (arith, not_empty, c, b.left, b.right)
 
-  cut_here : cut n (going_on xs) t ≡ length xs
+  cut_here : task_start n (going_on xs) t ≡ length xs
   cut_here = let h = room in omega (arith, h)
 
-  take_here : take (cut n (going_on xs) t) xs ≡ xs
-  take_here = take_all (cut n (going_on xs) t) xs (omega (arith, cut_here))
+  take_here : take (task_start n (going_on xs) t) xs ≡ xs
+  take_here = take_all (task_start n (going_on xs) t) xs (omega (arith, cut_here))
 
   -- the free pointer by what is kept
   pub told : LastsTellFree → (l : Lasts) → KeepsLasts q n xs t l → free_of l.first l.list.items (closed_count l.windows before) ≡ free q n (going_on xs) t
   told law l k =
       ap (λ (f : Frame). free_of l.first l.list.items (closed_count f before)) k.windows
       ∙ ap (λ (m : Mark). free_of l.first l.list.items (closed_count (frame q) m)) (b.mark ∙ sym (ap mark_of take_here))
-      ∙ ap (λ ls. free_of l.first ls (closed_count (frame q) (mark_of (take (cut n (going_on xs) t) xs)))) k.list
+      ∙ ap (λ ls. free_of l.first ls (closed_count (frame q) (mark_of (take (task_start n (going_on xs) t) xs)))) k.list
       ∙ sym (law q b.windows n (going_on xs) t l.first b.ordered b.some k.join k.low k.at)
 
   -- and what is kept then
@@ -99,7 +99,7 @@ module _ (q : Tree) (n : ℕ) (xs : List Row) (t : ℕ) (before : Mark) (b : Beh
       let d : ℕ = r - old.first in
       let length_is : t - old.first ≡ (r - old.first) + (t - r) = omega (arith, k.low, k.at, free_is, within) in
       let at : old.first + (r - old.first) ≡ r = omega (arith, k.low, free_is) in
-      let g : ℕ → Option ℕ = λ u. last_of (frame q) (slice_range (placed xs) (cut n (going_on xs) u) (cut n (going_on xs) (u + 1))) in
+      let g : ℕ → Option ℕ = λ u. last_of (frame q) (slice_range (placed_from_start xs) (task_start n (going_on xs) u) (task_start n (going_on xs) (u + 1))) in
       let r_list : drop (r - old.first) old.list.items ≡ map g (from r (t - r)) =
       ap (drop (r - old.first)) k.list ∙ drop-map g (r - old.first) (from old.first (t - old.first)) ∙ ap (λ j. map g (drop (r - old.first) (from old.first j))) length_is
       ∙ ap (map g) (from_drop (r - old.first) old.first (t - r)) ∙ ap (λ a. map g (from a (t - r))) at in
@@ -120,13 +120,13 @@ module _ (q : Tree) (n : ℕ) (xs : List Row) (t : ℕ) (before : Mark) (b : Beh
     length_all : length (xs ++ rows) ≡ length xs + length rows
     length_all = length-append xs rows
 
-    cut_front : cut n (going_on (xs ++ rows)) t ≡ length xs
+    cut_front : task_start n (going_on (xs ++ rows)) t ≡ length xs
     cut_front = omega (arith, length_all, whole)
 
     next_times : (t + 1) * n ≡ t * n + n
     next_times = grind arith
 
-    cut_back : cut n (going_on (xs ++ rows)) (t + 1) ≡ length xs + length rows
+    cut_back : task_start n (going_on (xs ++ rows)) (t + 1) ≡ length xs + length rows
     cut_back = omega (arith, length_all, whole, next_times, few)
 
     upto_front : upto n (going_on (xs ++ rows)) t ≡ going_on xs
@@ -136,38 +136,38 @@ module _ (q : Tree) (n : ℕ) (xs : List Row) (t : ℕ) (before : Mark) (b : Beh
     pub free_stays : NeedsStay → free q n (going_on (xs ++ rows)) t ≡ free q n (going_on xs) t
     free_stays law = sym (law q n (going_on (xs ++ rows)) t t b.some (omega arith)).free_pointer ∙ ap (λ l. free q n l t) upto_front
 
-    all_placed : placed (xs ++ rows) ≡ placed xs ++ placed_after before rows
-    all_placed = placed_append no_rows xs rows ∙ ap (λ m. placed xs ++ placed_after m rows) (sym b.mark)
+    all_placed : placed_from_start (xs ++ rows) ≡ placed_from_start xs ++ placed_after before rows
+    all_placed = placed_append no_rows xs rows ∙ ap (λ m. placed_from_start xs ++ placed_after m rows) (sym b.mark)
 
-    early_cut : (ys : List Row) (u : ℕ) → u ≤ t → length xs ≤ length ys → cut n (going_on ys) u ≡ u * n
+    early_cut : (ys : List Row) (u : ℕ) → u ≤ t → length xs ≤ length ys → task_start n (going_on ys) u ≡ u * n
     early_cut ys u h k = let l : u * n ≤ t * n = mul-le-mul_right n h in omega (arith, l, whole, k)
 
-    early_block : (u : ℕ) → u < t → slice_range (placed (xs ++ rows)) (cut n (going_on (xs ++ rows)) u) (cut n (going_on (xs ++ rows)) (u + 1)) ≡ slice_range (placed xs) (cut n (going_on xs) u) (cut n (going_on xs) (u + 1))
+    early_block : (u : ℕ) → u < t → slice_range (placed_from_start (xs ++ rows)) (task_start n (going_on (xs ++ rows)) u) (task_start n (going_on (xs ++ rows)) (u + 1)) ≡ slice_range (placed_from_start xs) (task_start n (going_on xs) u) (task_start n (going_on xs) (u + 1))
     early_block u h =
         let all : length xs ≤ length (xs ++ rows) = omega (arith, length_all) in
-        let c : cut n (going_on (xs ++ rows)) u ≡ cut n (going_on xs) u = early_cut (xs ++ rows) u (omega (arith, h)) all ∙ sym (early_cut xs u (omega (arith, h)) (omega arith)) in
-        let d : cut n (going_on (xs ++ rows)) (u + 1) ≡ cut n (going_on xs) (u + 1) = early_cut (xs ++ rows) (u + 1) (omega (arith, h)) all ∙ sym (early_cut xs (u + 1) (omega (arith, h)) (omega arith)) in
+        let c : task_start n (going_on (xs ++ rows)) u ≡ task_start n (going_on xs) u = early_cut (xs ++ rows) u (omega (arith, h)) all ∙ sym (early_cut xs u (omega (arith, h)) (omega arith)) in
+        let d : task_start n (going_on (xs ++ rows)) (u + 1) ≡ task_start n (going_on xs) (u + 1) = early_cut (xs ++ rows) (u + 1) (omega (arith, h)) all ∙ sym (early_cut xs (u + 1) (omega (arith, h)) (omega arith)) in
         let l : u * n ≤ (u + 1) * n = mul-le-mul_right n (omega arith) in
-        let rises : cut n (going_on xs) u ≤ cut n (going_on xs) (u + 1) = omega (arith, l) in
-        let within : cut n (going_on xs) (u + 1) ≤ length (placed xs) = omega (arith, placed_length no_rows xs) in
-        ap (λ p. slice_range p (cut n (going_on (xs ++ rows)) u) (cut n (going_on (xs ++ rows)) (u + 1))) all_placed
-        ∙ ap (λ k. slice_range (placed xs ++ placed_after before rows) k (cut n (going_on (xs ++ rows)) (u + 1))) c
-        ∙ ap (slice_range (placed xs ++ placed_after before rows) (cut n (going_on xs) u)) d
-        ∙ slice_front (placed xs) (placed_after before rows) (cut n (going_on xs) u) (cut n (going_on xs) (u + 1)) rises within
+        let rises : task_start n (going_on xs) u ≤ task_start n (going_on xs) (u + 1) = omega (arith, l) in
+        let within : task_start n (going_on xs) (u + 1) ≤ length (placed_from_start xs) = omega (arith, placed_length no_rows xs) in
+        ap (λ p. slice_range p (task_start n (going_on (xs ++ rows)) u) (task_start n (going_on (xs ++ rows)) (u + 1))) all_placed
+        ∙ ap (λ k. slice_range (placed_from_start xs ++ placed_after before rows) k (task_start n (going_on (xs ++ rows)) (u + 1))) c
+        ∙ ap (slice_range (placed_from_start xs ++ placed_after before rows) (task_start n (going_on xs) u)) d
+        ∙ slice_front (placed_from_start xs) (placed_after before rows) (task_start n (going_on xs) u) (task_start n (going_on xs) (u + 1)) rises within
 
-    last_block : slice_range (placed (xs ++ rows)) (cut n (going_on (xs ++ rows)) t) (cut n (going_on (xs ++ rows)) (t + 1)) ≡ placed_after before rows
+    last_block : slice_range (placed_from_start (xs ++ rows)) (task_start n (going_on (xs ++ rows)) t) (task_start n (going_on (xs ++ rows)) (t + 1)) ≡ placed_after before rows
     last_block =
         let p = placed_length no_rows xs in
         let r = placed_length before rows in
-        ap (λ l. slice_range l (cut n (going_on (xs ++ rows)) t) (cut n (going_on (xs ++ rows)) (t + 1))) all_placed
-        ∙ slice_back (placed xs) (placed_after before rows) (cut n (going_on (xs ++ rows)) t) (cut n (going_on (xs ++ rows)) (t + 1)) (omega (arith, cut_front, p)) (omega (arith, cut_back, p, r))
+        ap (λ l. slice_range l (task_start n (going_on (xs ++ rows)) t) (task_start n (going_on (xs ++ rows)) (t + 1))) all_placed
+        ∙ slice_back (placed_from_start xs) (placed_after before rows) (task_start n (going_on (xs ++ rows)) t) (task_start n (going_on (xs ++ rows)) (t + 1)) (omega (arith, cut_front, p)) (omega (arith, cut_back, p, r))
 
     pub noted : TasksLookOn → NeedsStay → (old new : Lasts) → KeepsLasts q n xs t old → new.list.items ≡ old.list.items ++ last_of old.windows (placed_after before rows) ∷ [] → new.first ≡ old.first → new.windows ≡ old.windows → KeepsLasts q n (xs ++ rows) (t + 1) new
     noted on stay old new k list first windows =
         let f = frame q in
         let a : ℕ = old.first in
-        let g : ℕ → Option ℕ = λ u. last_of f (slice_range (placed xs) (cut n (going_on xs) u) (cut n (going_on xs) (u + 1))) in
-        let h : ℕ → Option ℕ = λ u. last_of f (slice_range (placed (xs ++ rows)) (cut n (going_on (xs ++ rows)) u) (cut n (going_on (xs ++ rows)) (u + 1))) in
+        let g : ℕ → Option ℕ = λ u. last_of f (slice_range (placed_from_start xs) (task_start n (going_on xs) u) (task_start n (going_on xs) (u + 1))) in
+        let h : ℕ → Option ℕ = λ u. last_of f (slice_range (placed_from_start (xs ++ rows)) (task_start n (going_on (xs ++ rows)) u) (task_start n (going_on (xs ++ rows)) (u + 1))) in
         let more : (t - old.first) + 1 ≡ (t + 1) - old.first = omega (arith, k.at) in
         let end : old.first + (t - old.first) ≡ t = omega (arith, k.at) in
         let early : map h (from old.first (t - old.first)) ≡ map g (from old.first (t - old.first)) = same_on h g old.first (t - old.first) (λ u l m. ap (last_of f) (early_block u (omega (arith, m, end)))) in

@@ -13,7 +13,7 @@ use Rattle.saber_rows.specs.declared.ends.RowEnd.{RowEnd}
 use Rattle.saber_rows.specs.declared.ends.RowEnd.TheVariants as ends
 use Rattle.saber_rows.specs.declared.ends.FedRow.{FedRow}
 use Rattle.saber_rows.specs.Reader as readers
-use Rattle.saber_rows.specs.Reader.{gone, HasEnd, NeedsMore}
+use Rattle.saber_rows.specs.Reader.{gone_count, HasEnd, NeedsMore}
 use Rattle.saber_rows.specs.Calls.{Moves, IsGiven, WantsMemory}
 use Rattle.saber_rows.specs.FedTurns.{answer_in, given_in, kept_in, last_in, IsKnown}
 use Rattle.saber_rows.specs.Heads.{bare, Called, EndedBy, SidePassed}
@@ -41,8 +41,8 @@ pub record FedCalled (x : Option (Result (Option Row) RowEnd)) (old new : reader
   pub memory : old.answer ≡ None → x ≡ Some (Err ends.NoMemory) → WantsMemory old.rules
   pub given : IfSome x (λ a. IfOk a (λ o. IfSome o (λ row. IsGiven row old new)))
   pub last : new.last ≡ last_in old.last x
-  pub stays : gone old ≤ gone new
-  pub counted : gone new ≤ new.rules.most
+  pub stays : gone_count old ≤ gone_count new
+  pub counted : gone_count new ≤ new.rules.most
 
 -- an answer that is an error is that error
 pub is_error : (result : Result FedRow RowEnd) (e : RowEnd) → answer_in result ≡ Some (Err e) → result ≡ Err e
@@ -73,7 +73,7 @@ module _ (old new : readers.Reader) (had has : Option (List ℕ)) where
   row_ordered (Ok None) h = tt
   row_ordered (Err e) h = tt
 
-  row_rises : (a : Answer) → IfOk a (λ o. IfSome o (λ row. IsGiven row old new)) → IfOk a (λ o. IfSome o (λ row. gone old < gone new))
+  row_rises : (a : Answer) → IfOk a (λ o. IfSome o (λ row. IsGiven row old new)) → IfOk a (λ o. IfSome o (λ row. gone_count old < gone_count new))
   row_rises (Ok (Some row)) h = h.rises
   row_rises (Ok None) h = tt
   row_rises (Err e) h = tt

@@ -9,7 +9,7 @@ use Rattle.saber_plan.specs.declared.rows.Side.TheVariants.{Left, Right}
 use Rattle.saber_plan.specs.declared.windows.Stream.{Stream}
 use Rattle.saber_plan.specs.declared.sizes.Sizes.{Sizes}
 use Rattle.saber_plan.specs.Rows.{Read, whole, rows, cut as unfinished}
-use Rattle.saber_plan.specs.Inputs.{Input, input, merged, going_on}
+use Rattle.saber_plan.specs.Inputs.{Input, input, merged_read, going_on}
 use Rattle.saber_plan.specs.Trees.{Tree}
 use Rattle.saber_plan.specs.Tasks.{upto}
 use Rattle.saber_laws.specs.Fronts.{IsFirstOf, AllAreFirst, WholeLinesAreFirst, MergesKeepFirst}
@@ -71,25 +71,25 @@ module _ (all_first : AllAreFirst) (lines_first : WholeLinesAreFirst) (merges_ke
       let l = whole (rules_on q limits Left) in
       let z = m.left.taken in
       let w = m.right.taken in
-      let all = rows_of (merged (l (z ++ [])) (rows (rules_on q limits Right) (w ++ []))) _ ys (m.rest true false [] [] (unended_can new.left.reader n.0.unended) (none_can new.right.reader)) (n.1 [] (none_can new.right.reader)) in
-      let f : IsFirstOf (merged (l z) (whole (rules_on q limits Right) w)) (merged (l z) (rows (rules_on q limits Right) (w ++ []))) = merges_keep _ _ _ _ (all_first (l z)) (lines_first (rules_on q limits Right) w []).at_end in
+      let all = rows_of (merged_read (l (z ++ [])) (rows (rules_on q limits Right) (w ++ []))) _ ys (m.rest true false [] [] (unended_can new.left.reader n.0.unended) (none_can new.right.reader)) (n.1 [] (none_can new.right.reader)) in
+      let f : IsFirstOf (merged_read (l z) (whole (rules_on q limits Right) w)) (merged_read (l z) (rows (rules_on q limits Right) (w ++ []))) = merges_keep _ _ _ _ (all_first (l z)) (lines_first (rules_on q limits Right) w []).at_end in
       record {
         taken = z ∷ w ∷ [];
         left = (m.left.left, (m.right.left, tt));
         more = f.rest;
-        front = f.first ∙ ap (λ u. (merged (l u) (rows (rules_on q limits Right) (w ++ []))).rows) (sym (append-nil z)) ∙ all;
+        front = f.first ∙ ap (λ u. (merged_read (l u) (rows (rules_on q limits Right) (w ++ []))).rows) (sym (append-nil z)) ∙ all;
       }
   two_taken q limits ys Right new had has had_right has_right n m =
       let r = whole (rules_on q limits Right) in
       let z = m.left.taken in
       let w = m.right.taken in
-      let all = rows_of (merged (rows (rules_on q limits Left) (z ++ [])) (r (w ++ []))) _ ys (m.rest false true [] [] (none_can new.left.reader) (unended_can new.right.reader n.0.unended)) (n.1 [] (none_can new.left.reader)) in
-      let f : IsFirstOf (merged (whole (rules_on q limits Left) z) (r w)) (merged (rows (rules_on q limits Left) (z ++ [])) (r w)) = merges_keep _ _ _ _ (lines_first (rules_on q limits Left) z []).at_end (all_first (r w)) in
+      let all = rows_of (merged_read (rows (rules_on q limits Left) (z ++ [])) (r (w ++ []))) _ ys (m.rest false true [] [] (none_can new.left.reader) (unended_can new.right.reader n.0.unended)) (n.1 [] (none_can new.left.reader)) in
+      let f : IsFirstOf (merged_read (whole (rules_on q limits Left) z) (r w)) (merged_read (rows (rules_on q limits Left) (z ++ [])) (r w)) = merges_keep _ _ _ _ (lines_first (rules_on q limits Left) z []).at_end (all_first (r w)) in
       record {
         taken = z ∷ w ∷ [];
         left = (m.left.left, (m.right.left, tt));
         more = f.rest;
-        front = f.first ∙ ap (λ u. (merged (rows (rules_on q limits Left) (z ++ [])) (r u)).rows) (sym (append-nil w)) ∙ all;
+        front = f.first ∙ ap (λ u. (merged_read (rows (rules_on q limits Left) (z ++ [])) (r u)).rows) (sym (append-nil w)) ∙ all;
       }
 
   -- ---- of either

@@ -7,7 +7,7 @@ use Rattle.std.proofs.lemmas.List.{take_all}
 use Rattle.std.proofs.Math.Nat.{lt_of_mul-lt-mul_right}
 use Rattle.std.proofs.Math.Seq.{take-append_seam}
 use Rattle.saber_plan.specs.declared.rows.Row.{Row}
-use Rattle.saber_plan.specs.Inputs.{Input, arrived, going_on}
+use Rattle.saber_plan.specs.Inputs.{Input, first_arrivals, going_on}
 use Rattle.saber_plan.specs.Trees.{Tree}
 use Rattle.saber_plan.specs.Windows.{from}
 use Rattle.saber_plan.specs.Tasks.{upto, row_tasks, task_count}
@@ -34,7 +34,7 @@ never true = refl
 never false = refl
 
 -- the arrivals up to a row's position are rows alone
-pub rows_first : (r : Input) (x : ℕ) → x ≤ length r.rows → arrived r x ≡ going_on (take x r.rows)
+pub rows_first : (r : Input) (x : ℕ) → x ≤ length r.rows → first_arrivals r x ≡ going_on (take x r.rows)
 rows_first r x h = λ i. record { rows = take x r.rows; ended = (ap (λ b. r.ended && b) (not_past (length r.rows) x h) ∙ never r.ended) i } where
   not_past : (l y : ℕ) → y ≤ l → nat_lt l y ≡ false
   not_past l y k = grind (arith, nat_tests, k)
@@ -49,12 +49,12 @@ end_cut c k l x h = grind (arith, nat_tests, h)
 
 -- the tasks with rows
 pub upto_rows : (n : ℕ) (r : Input) (k : ℕ) → k ≤ row_tasks n r → upto n r k ≡ going_on (take (min (k * n) (length r.rows)) r.rows)
-upto_rows n r k h = ap (arrived r) (row_cut r.ended (row_tasks n r) k (length r.rows) (k * n) h) ∙ rows_first r (min (k * n) (length r.rows)) (omega arith)
+upto_rows n r k h = ap (first_arrivals r) (row_cut r.ended (row_tasks n r) k (length r.rows) (k * n) h) ∙ rows_first r (min (k * n) (length r.rows)) (omega arith)
 
 -- all tasks
 pub upto_end : (n : ℕ) (xs : List Row) (k : ℕ) → row_tasks n (going_on xs) < k → upto n (record { rows = xs; ended = true }) k ≡ record { rows = xs; ended = true }
 upto_end n xs k h =
-    ap (arrived (record { rows = xs; ended = true })) (end_cut (row_tasks n (going_on xs)) k (length xs) (k * n) h)
+    ap (first_arrivals (record { rows = xs; ended = true })) (end_cut (row_tasks n (going_on xs)) k (length xs) (k * n) h)
     ∙ (λ i. record { rows = take_all (suc (length xs)) xs (omega arith) i; ended = below_next (length xs) i })
 
 -- all tasks of rows have them

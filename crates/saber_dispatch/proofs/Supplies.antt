@@ -9,8 +9,8 @@ use Rattle.saber_plan.specs.declared.windows.Mark.{Mark}
 use Rattle.saber_plan.specs.declared.sizes.Sizes.{Sizes}
 use Rattle.saber_plan.specs.Inputs.{Input, going_on}
 use Rattle.saber_plan.specs.Trees.{Tree}
-use Rattle.saber_plan.specs.Windows.{mark_after, step_mark, last_mark, ending}
-use Rattle.saber_plan.specs.Tasks.{cut, upto, row_tasks, task_count, places, places_by}
+use Rattle.saber_plan.specs.Windows.{mark_after, step_mark, last_mark, end_mark}
+use Rattle.saber_plan.specs.Tasks.{task_start, upto, row_tasks, task_count, places, places_by}
 use Rattle.saber_plan.specs.Needs.{free, task_rows}
 use Rattle.saber_fragment.specs.declared.blocks.Block.{Block}
 use Rattle.saber_fragment.specs.Drafts.{EndWith}
@@ -48,22 +48,22 @@ module _ (q : Tree) (s : Sizes) (xs : List Row) (b : Block) (some : 1 ≤ s.task
 
   stands_by : (e : Bool) → b.number ≡ row_tasks s.task (going_on xs) → Adds q s (going_on xs) b e → Stands q s.task xs b (record { rows = xs ++ b.rows; ended = e })
   stands_by false number a =
-      let here : cut s.task (going_on (xs ++ b.rows)) b.number ≡ length xs = omega (arith, length_all, a.whole) in
+      let here : task_start s.task (going_on (xs ++ b.rows)) b.number ≡ length xs = omega (arith, length_all, a.whole) in
       let all : length (xs ++ b.rows) ≤ (b.number + 1) * s.task = omega (arith, length_all, a.whole, a.few, next_times) in
-      let behind : length xs + length b.rows ≤ cut s.task (going_on (xs ++ b.rows)) (b.number + 1) = omega (arith, length_all, all) in
+      let behind : length xs + length b.rows ≤ task_start s.task (going_on (xs ++ b.rows)) (b.number + 1) = omega (arith, length_all, all) in
       record {
         front = upto_seam s.task xs b.rows false b.number some a.whole;
         whole = upto_all s.task (xs ++ b.rows) (b.number + 1) all;
-        rows = sym (slice_behind (cut s.task (going_on (xs ++ b.rows)) b.number) (cut s.task (going_on (xs ++ b.rows)) (b.number + 1)) here behind);
+        rows = sym (slice_behind (task_start s.task (going_on (xs ++ b.rows)) b.number) (task_start s.task (going_on (xs ++ b.rows)) (b.number + 1)) here behind);
       }
   stands_by true number a =
       let same : xs ++ b.rows ≡ xs = ap (λ l. xs ++ l) a.none ∙ append-nil xs in
       let h = div_ceil_times (length xs) s.task some in
       let room : length xs ≤ b.number * s.task = omega (arith, h.0, ap (λ j. j * s.task) number) in
       let ended : Input = record { rows = xs; ended = true } in
-      let at : cut s.task ended b.number ≡ length xs = row_cut true (row_tasks s.task ended) b.number (length xs) (b.number * s.task) (omega (arith, number)) ∙ omega (arith, room) in
+      let at : task_start s.task ended b.number ≡ length xs = row_cut true (row_tasks s.task ended) b.number (length xs) (b.number * s.task) (omega (arith, number)) ∙ omega (arith, room) in
       let none : task_rows s.task ended b.number ≡ [] =
-      ap (λ x. slice_range xs x (cut s.task ended (b.number + 1))) at ∙ ap (take (cut s.task ended (b.number + 1) - length xs)) (drop_all (length xs) xs (omega arith)) ∙ take_nothing (cut s.task ended (b.number + 1) - length xs) in
+      ap (λ x. slice_range xs x (task_start s.task ended (b.number + 1))) at ∙ ap (take (task_start s.task ended (b.number + 1) - length xs)) (drop_all (length xs) xs (omega arith)) ∙ take_nothing (task_start s.task ended (b.number + 1) - length xs) in
       let back : (l : List Row) → xs ≡ l → (upto s.task (record { rows = l; ended = true }) b.number ≡ going_on xs) × (upto s.task (record { rows = l; ended = true }) (b.number + 1) ≡ record { rows = l; ended = true }) × (b.rows ≡ task_rows s.task (record { rows = l; ended = true }) b.number) =
       λ l e. subst (λ m. (upto s.task (record { rows = m; ended = true }) b.number ≡ going_on xs) × (upto s.task (record { rows = m; ended = true }) (b.number + 1) ≡ record { rows = m; ended = true }) × (b.rows ≡ task_rows s.task (record { rows = m; ended = true }) b.number)) e
       (upto_rows s.task ended b.number (omega (arith, number)) ∙ ap going_on (take_all (min (b.number * s.task) (length xs)) xs (omega (arith, room))), upto_end s.task xs (b.number + 1) (omega (arith, number)), a.none ∙ sym none) in
@@ -74,7 +74,7 @@ same_places : (q : Tree) (ks : List ℕ) (xs : List Row) (x y : ℕ) → places_
 same_places q [] xs x y = refl
 same_places q (k ∷ ks) xs x y = refl
 
-no_end : (m : Mark) → ending false m ≡ m
+no_end : (m : Mark) → end_mark false m ≡ m
 no_end m = refl
 
 unended : (m : Mark) (xs : List Row) → m.ended ≡ false → (mark_after m xs).ended ≡ false
@@ -100,10 +100,10 @@ module _ {O : Type 0} (plan : O → Tree) (told : RunData O) (s : Sizes) (b : Bl
   stand : Stands q told.size told.rows b more
   stand = subst (λ n. Stands q n told.rows b more) (sym size) (subst (λ e. Stands q s.task told.rows b (record { rows = told.rows ++ b.rows; ended = e })) ends rows_stand)
 
-  stand_places : places_behind q q.partition told.rows b.rows ≡ places q more.rows (cut told.size more b.number) (cut told.size more (b.number + 1))
+  stand_places : places_behind q q.partition told.rows b.rows ≡ places q more.rows (task_start told.size more b.number) (task_start told.size more (b.number + 1))
   stand_places =
       (λ j. places_behind q q.partition (ap (λ (i : Input). i.rows) (sym stand.front) j) (stand.rows j))
-      ∙ same_places q q.partition more.rows (cut told.size more b.number) (cut told.size more (b.number + 1))
+      ∙ same_places q q.partition more.rows (task_start told.size more b.number) (task_start told.size more (b.number + 1))
 
   tasks : Tasks q told.size more
   tasks = record { windows = next.windows; fits = next.fits; size = subst (λ n. 1 ≤ n) (sym size) next.size }

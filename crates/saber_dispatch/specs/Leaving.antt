@@ -1,6 +1,6 @@
 -- What was taken of inputs of which a read failed.
 use Rattle.std.specs.Prelude.{◌≡◌, ◌≤◌, ◌*◌, ◌/◌, ℕ, length, List, [], ◌∷◌, Some}
-use Rattle.saber_io.specs.Outside.{given}
+use Rattle.saber_io.specs.Outside.{left_before}
 use Rattle.saber_plan.specs.declared.rows.Side.{Side}
 use Rattle.saber_plan.specs.declared.sizes.Sizes.{Sizes}
 use Rattle.saber_plan.specs.Inputs.{Input, going_on}
@@ -15,7 +15,7 @@ use Rattle.saber_plan.specs.Files.{whole_rows}
 -- these bytes were taken of each, in order
 abbrev pub GaveAll : Lefts → List (List ℕ) → Lefts → Type 0
 GaveAll [] [] [] = Unit {0}
-GaveAll (had ∷ hads) (taken ∷ more) (has ∷ hass) = (had ≡ given taken has) × GaveAll hads more hass
+GaveAll (had ∷ hads) (taken ∷ more) (has ∷ hass) = (had ≡ left_before taken has) × GaveAll hads more hass
 GaveAll _ _ _ = ⊥
 
 -- at least every whole task of the whole lines that were taken of each input is in a block

@@ -2,7 +2,7 @@
 use Rattle.std.proofs.Common.{◌≡◌, ℕ, Bool, true, false, ◌+◌, ◌≤◌, List, ◌++◌, refl, sym, ◌∙◌, ap, arith}
 use Rattle.std.proofs.Math.Path.{transport}
 use Rattle.std.specs.Prelude.{Option}
-use Rattle.saber_plan.specs.Outputs.{appended}
+use Rattle.saber_plan.specs.Outputs.{appended_text}
 use Rattle.saber_plan.specs.Inputs.{Input}
 use Rattle.saber_plan.specs.Trees.{Tree}
 use Rattle.saber_plan.specs.Answers.{text}
@@ -13,7 +13,7 @@ use Rattle.saber_assembly.specs.declared.stage.Stage.{Stage}
 use Rattle.saber_plan.specs.declared.stages.StageState.{StageState}
 use Rattle.saber_plan.specs.declared.stages.StageState.TheVariants.{Running, SinkFailed, NoMemory}
 use Rattle.saber_assembly.specs.declared.work.RunData.{RunData}
-use Rattle.saber_assembly.specs.Stages.{seen}
+use Rattle.saber_assembly.specs.Stages.{stage_view}
 use Rattle.saber_plan.specs.Stages.{StageView, Start, After}
 use Rattle.saber_assembly.specs.Works.{IsTold, input_of, start_of, first_tasks, IsStageOf}
 use Rattle.saber_crew.specs.declared.dispatch.Dispatched.{Dispatched}
@@ -24,7 +24,7 @@ use Rattle.saber_engine.specs.Supplying.{first_told}
 -- a stage by the input of the first tasks is one by all of it
 after_all : FirstOfFirst → (q : Tree) (n : ℕ) (r : Input) (start : Start) (j : ℕ) (s : StageView) (state : StageState) → s.k ≤ j → (state ≡ SinkFailed → s.k + 1 ≤ j) → After q n (upto n r j) start s state → After q n r start s state
 after_all first q n r start j s Running le next a =
-    let same = first n r j s.k le in (a.0 ∙ ap (λ z. appended start.written (text q z)) same, a.1 ∙ ap (kept_behind q) same, a.2)
+    let same = first n r j s.k le in (a.0 ∙ ap (λ z. appended_text start.written (text q z)) same, a.1 ∙ ap (kept_behind q) same, a.2)
 after_all first q n r start j s SinkFailed le next a =
     let same = first n r j s.k le in let more = first n r j (s.k + 1) (next refl) in let c = a.0.is_cut in (
       record {
@@ -40,13 +40,13 @@ after_all first q n r start j s SinkFailed le next a =
       a.1,
       a.2,
     )
-after_all first q n r start j s NoMemory le next a = (a.0 ∙ ap (λ z. appended start.written (text q z)) (first n r j s.k le), a.1)
+after_all first q n r start j s NoMemory le next a = (a.0 ∙ ap (λ z. appended_text start.written (text q z)) (first n r j s.k le), a.1)
 
 apart : Running ≡ SinkFailed → ⊥
 apart e = cc
 
 module _ (first : FirstOfFirst) {O S K : Type 0} (plan : O → Tree) (contents : S → Kept) (taken : O → S → Input → Type 0) (wrote : K → Option (List ℕ)) (failed : K → ℕ) (op : O) (n : ℕ) (w : Option (List ℕ)) (f : ℕ) (given : RunData O → ℕ → Type 0) (over : Type 0) (s : Stage S K) (fed : Dispatched)
-    (r : RunsTo (IsTold plan) first_tasks (IsStageOf plan (seen contents wrote failed) taken) given over (first_told op n w f) s fed) where
+    (r : RunsTo (IsTold plan) first_tasks (IsStageOf plan (stage_view contents wrote failed) taken) given over (first_told op n w f) s fed) where
   pub op_is : r.told.operator ≡ op
   op_is = ap (λ (z : RunData O). z.operator) r.base_is
 
@@ -65,9 +65,9 @@ module _ (first : FirstOfFirst) {O S K : Type 0} (plan : O → Tree) (contents :
   next_in true e h = let k = r.stage_is.behind in omega arith
 
   -- where the stage stands
-  pub after : After (plan op) n (input_of r.told) (record { written = w; faults = f }) (seen contents wrote failed s) s.state
+  pub after : After (plan op) n (input_of r.told) (record { written = w; faults = f }) (stage_view contents wrote failed s) s.state
   after =
-      let v = seen contents wrote failed s in let j : ℕ = r.k + extra r.stopped in
+      let v = stage_view contents wrote failed s in let j : ℕ = r.k + extra r.stopped in
       transport (λ i. After (plan (op_is i)) (size_is i) (input_of r.told) (start_is i) v s.state) (after_all first (plan r.told.operator) r.told.size (input_of r.told) (start_of r.told) j v s.state (few_in r.stopped) (next_in r.stopped refl) r.stage_is.keeps.after)
 
   pub few : s.k ≤ r.count

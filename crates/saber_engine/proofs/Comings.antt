@@ -1,7 +1,7 @@
 -- What comes of a run, whatever gave its tasks.
 use Rattle.std.proofs.Common.{◌≡◌, ◌≢◌, ℕ, ◌+◌, ◌≤◌, List, [], ◌++◌, refl, sym, ◌∙◌, ap, subst, arith}
 use Rattle.std.specs.Prelude.{Option, Some, None}
-use Rattle.saber_plan.specs.Outputs.{Rose, appended}
+use Rattle.saber_plan.specs.Outputs.{Rose, appended_text}
 use Rattle.saber_plan.specs.declared.rows.Side.{Side}
 use Rattle.saber_plan.specs.declared.sizes.Sizes.{Sizes}
 use Rattle.saber_plan.specs.Inputs.{Input}
@@ -16,7 +16,7 @@ use Rattle.saber_assembly.specs.declared.stage.Stage.{Stage}
 use Rattle.saber_plan.specs.declared.stages.StageState.{StageState}
 use Rattle.saber_plan.specs.declared.stages.StageState.TheVariants as states
 use Rattle.saber_assembly.specs.declared.work.RunData.{RunData}
-use Rattle.saber_assembly.specs.Stages.{seen}
+use Rattle.saber_assembly.specs.Stages.{stage_view}
 use Rattle.saber_plan.specs.Stages.{Start, After}
 use Rattle.saber_plan.specs.Runs.{IsCut, Gives, Assembles, Reach, all_tasks, before_task, first_tasks as some_tasks, cut_off}
 use Rattle.saber_assembly.specs.Works.{IsTold, input_of as told_input, first_tasks, IsStageOf}
@@ -47,7 +47,7 @@ pub record GivenBy (s : Sizes) (c : Cutter) (end : Option End) (all : Input) (d 
 -- Where they ended by a fault of reading, all of them are behind.
 pub record Came (q : Tree) (s : Sizes) (c : Cutter) (end : Option End) (all : Input) (state : StageState) (over : Over) (tasks : ℕ) (w written : Option (List ℕ)) (f faults : ℕ) : Type 0 where
   pub out : List ℕ
-  pub written_is : written ≡ appended w out
+  pub written_is : written ≡ appended_text w out
   pub gives : (rows : Read) → telling.AreTasks q s c all rows → Gives q s.task s.ring s.flush rows (end_of state over end) tasks out
   pub all_behind : (side : Side) → end_of state over end ≡ ReadFault side → tasks ≡ task_count s.task all
   pub write : end_of state over end ≡ WriteFault → Rose f faults
@@ -56,7 +56,7 @@ pub record Came (q : Tree) (s : Sizes) (c : Cutter) (end : Option End) (all : In
 
 module _ (first : FirstOfFirst) {O S K : Type 0} (plan : O → Tree) (contents : S → Kept) (taken : O → S → Input → Type 0) (wrote : K → Option (List ℕ)) (failed : K → ℕ)
     (op : O) (s : Sizes) (w : Option (List ℕ)) (f : ℕ) (IsGiven : RunData O → ℕ → Type 0) (IsOver : Type 0) (c : Cutter) (end : Option End) (stage : Stage S K) (fed : Dispatched)
-    (r : RunsTo (IsTold plan) first_tasks (IsStageOf plan (seen contents wrote failed) taken) IsGiven IsOver (first_told op s.task w f) stage fed)
+    (r : RunsTo (IsTold plan) first_tasks (IsStageOf plan (stage_view contents wrote failed) taken) IsGiven IsOver (first_told op s.task w f) stage fed)
     (given : GivenBy s c end (told_input r.told) r.count) where
   abbrev q : Tree
   q = plan op
@@ -76,11 +76,11 @@ module _ (first : FirstOfFirst) {O S K : Type 0} (plan : O → Tree) (contents :
   behind_next : stage.state ≡ states.SinkFailed → stage.k + 1 ≤ r.count
   behind_next = few_next first plan contents taken wrote failed op s.task w f IsGiven IsOver stage fed r
 
-  stands : After q s.task all start (seen contents wrote failed stage) stage.state
+  stands : After q s.task all start (stage_view contents wrote failed stage) stage.state
   stands = after first plan contents taken wrote failed op s.task w f IsGiven IsOver stage fed r
 
-  stands_so : (state : StageState) → stage.state ≡ state → After q s.task all start (seen contents wrote failed stage) state
-  stands_so state e = subst (After q s.task all start (seen contents wrote failed stage)) e stands
+  stands_so : (state : StageState) → stage.state ≡ state → After q s.task all start (stage_view contents wrote failed stage) state
+  stands_so state e = subst (After q s.task all start (stage_view contents wrote failed stage)) e stands
 
   whole_behind : stage.state ≡ states.Running → fed.over ≡ over_by.AllGiven → stage.k ≡ task_count s.task all
   whole_behind h e = (all_behind first plan contents taken wrote failed op s.task w f IsGiven IsOver stage fed r h e).0 ∙ count
@@ -149,7 +149,7 @@ module _ (first : FirstOfFirst) {O S K : Type 0} (plan : O → Tree) (contents :
     gave k cut.NoMemory e = lacks
 
   abbrev Result_of : RunEnd → Type 0
-  Result_of e = (out : List ℕ) × (wrote stage.sink ≡ appended w out) × ((rows : Read) → telling.AreTasks q s c all rows → Gives q s.task s.ring s.flush rows e stage.k out)
+  Result_of e = (out : List ℕ) × (wrote stage.sink ≡ appended_text w out) × ((rows : Read) → telling.AreTasks q s c all rows → Gives q s.task s.ring s.flush rows e stage.k out)
 
   came : (state : StageState) → stage.state ≡ state → (over : Over) → fed.over ≡ over → (o : Option End) → end ≡ o → Result_of (end_of state over o)
   came states.Running h over_by.AllGiven g None e = (so_far, (stands_so states.Running h).0, λ rows t. lacks rows t)

@@ -6,7 +6,7 @@ use Rattle.saber_plan.specs.Inputs.{Input}
 use Rattle.saber_plan.specs.Trees.{Tree}
 use Rattle.saber_plan.specs.Windows.{no_rows}
 use Rattle.saber_plan.specs.Facts.Counts.{one_task_more, tasks_have_rows, ceil_rises, mark_count}
-use Rattle.saber_plan.specs.Tasks.{cut, upto, row_tasks, task_count}
+use Rattle.saber_plan.specs.Tasks.{task_start, upto, row_tasks, task_count}
 use Rattle.saber_fragment.specs.declared.blocks.Block.{Block}
 use Rattle.saber_dispatch.specs.Sources.{NoneFell}
 use Rattle.saber_dispatch.specs.Cutting.{Adds, IsNextBlock, and_block}
@@ -25,7 +25,7 @@ count_case false x c k h = h
 -- the first tasks of an input are no more than all
 pub first_few : (n : ℕ) (r : Input) (k : ℕ) → 1 ≤ n → task_count n (upto n r k) ≤ task_count n r
 first_few n r k some =
-    let x = cut n r k in
+    let x = task_start n r k in
     count_case r.ended (nat_lt (length r.rows) x) (row_tasks n r) (row_tasks n (upto n r k)) (ceil_rises n (length (take x r.rows)) (length r.rows) some (omega (arith, length-take x r.rows)))
 
 -- ---- a block

@@ -14,7 +14,7 @@ use Rattle.saber_plan.specs.Windows.{Fits}
 use Rattle.saber_laws.specs.Pieces.{NoTasksNoRows}
 use Rattle.saber_assembly.specs.declared.stage.Stage.{Stage}
 use Rattle.saber_assembly.specs.declared.work.RunData.{RunData}
-use Rattle.saber_assembly.specs.Stages.{seen}
+use Rattle.saber_assembly.specs.Stages.{stage_view}
 use Rattle.saber_assembly.specs.Works.{IsTold, first_tasks, IsStageOf}
 use Rattle.saber_workers.specs.Queries.{Suits}
 use Rattle.saber_dispatch.specs.declared.cutter.Cutter.{Cutter}
@@ -42,7 +42,7 @@ not_none x xs e = cc
 pub record BeginsEach {O S K : Type 0} (plan : O → Tree) (contents : S → Kept) (taken : O → S → Input → Type 0) (wrote : K → Option (List ℕ)) (failed : K → ℕ)
     (s : Sizes) (had : Lefts) (before : List ℕ) (c : Cutter) (end : Option End) (ops : List O) (ks : List Keeper) (ms : List (Member (Stage S K))) (bs : List (RunData O)) : Type 0 where
   pub told_are : AllByRecursion (ToldAt (IsTold plan) (IsAlone plan) 0) bs
-  pub stages : AllZip (MemberAt first_tasks (IsStageOf plan (seen contents wrote failed) taken) 0) bs ms
+  pub stages : AllZip (MemberAt first_tasks (IsStageOf plan (stage_view contents wrote failed) taken) 0) bs ms
   pub suits : AllZip Suits ops bs
   pub given : AllZip (GivenOne plan s had had before before c end 0) ks bs
 
@@ -65,10 +65,10 @@ module _ (none : NoTasksNoRows) (checked_fits : (q : Tree) → IsChecked q → F
     given : HasGiven plan s had had before before c k end told 0
     given = subst (λ e. HasGiven plan s had had before before c k e told 0) (sym open_still) no_rows
 
-    pub begins_one : ToldAt (IsTold plan) (IsAlone plan) 0 told × MemberAt first_tasks (IsStageOf plan (seen contents wrote failed) taken) 0 told m × Suits op told × GivenOne plan s had had before before c end 0 k told
+    pub begins_one : ToldAt (IsTold plan) (IsAlone plan) 0 told × MemberAt first_tasks (IsStageOf plan (stage_view contents wrote failed) taken) 0 told m × Suits op told × GivenOne plan s had had before before c end 0 k told
     begins_one =
         let b = begins plan contents taken wrote failed op s.task m.stage none (checked_fits (plan op) mine.checked) fit.task.0 (sink a) stands.sink_is stands.none stands.runs stands.keeps (HasGiven plan s had had before before c k end) given in
-        ((b.0, alone), subst (λ g. GoesBy first_tasks (IsStageOf plan (seen contents wrote failed) taken) g told 0 m.stage) (sym stands.goes) b.1, b.2, (b.3, alone))
+        ((b.0, alone), subst (λ g. GoesBy first_tasks (IsStageOf plan (stage_view contents wrote failed) taken) g told 0 m.stage) (sym stands.goes) b.1, b.2, (b.3, alone))
 
   pub each_begins : (ops : List O) (qs : List A) (ks : List Keeper) (ms : List (Member (Stage S K))) → AllZip (λ op a. plan op ≡ tree a) ops qs → AllByRecursion (λ a. MayShare columns (tree a)) qs
       → AllByRecursion (λ a. CutsNothing (tree a) s c) qs → AllZip (λ a k. KeepsNone (tree a) k) qs ks → AllThree (λ op a m. Stands plan contents taken wrote failed op (sink a) m) ops qs ms
@@ -97,7 +97,7 @@ module _ (none : NoTasksNoRows) (checked_fits : (q : Tree) → IsChecked q → F
   -- what is asked of a run of all, by the data and sizes that it names
   abbrev pub BeginsAll : List O → List Keeper → List (Member (Stage S K)) → ℕ → Sizes → Lefts → List ℕ → Type 0
   BeginsAll ops ks ms n z l b =
-      AreTold (IsTold plan) (IsAlone plan) (bases n wrote failed ops ms) 0 × AreStages first_tasks (IsStageOf plan (seen contents wrote failed) taken) (bases n wrote failed ops ms) 0 false ms
+      AreTold (IsTold plan) (IsAlone plan) (bases n wrote failed ops ms) 0 × AreStages first_tasks (IsStageOf plan (stage_view contents wrote failed) taken) (bases n wrote failed ops ms) 0 false ms
       × AllSuit Suits ops (bases n wrote failed ops ms) × GivenEach plan z l had b before c end ks (bases n wrote failed ops ms) 0
 
   pub begins_all : (ops : List O) (qs : List A) (ks : List Keeper) (ms : List (Member (Stage S K))) → qs ≢ [] → AllZip (λ op a. plan op ≡ tree a) ops qs → AllByRecursion (λ a. MayShare columns (tree a)) qs

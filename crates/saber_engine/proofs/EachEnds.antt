@@ -18,7 +18,7 @@ use Rattle.saber_assembly.specs.declared.stage.Stage.{Stage}
 use Rattle.saber_plan.specs.declared.stages.StageState.{StageState}
 use Rattle.saber_plan.specs.declared.stages.StageState.TheVariants as states
 use Rattle.saber_assembly.specs.declared.work.RunData.{RunData}
-use Rattle.saber_assembly.specs.Stages.{seen}
+use Rattle.saber_assembly.specs.Stages.{stage_view}
 use Rattle.saber_assembly.specs.Works.{IsTold, IsStageOf, IsBlockOf, first_tasks, input_of as told_input, with_block}
 use Rattle.saber_workers.specs.Queries.{Suits}
 use Rattle.saber_crew.specs.declared.dispatch.Dispatched.{Dispatched}
@@ -104,7 +104,7 @@ same_end a b e = cc
 module _ (first : FirstOfFirst) (are : telling.BlocksAreTasks) (leave : FaultsLeaveWholeTasks) {O S K : Type 0} (plan : O → Tree) (law : BlocksAreSupplied plan) (contents : S → Kept) (taken : O → S → Input → Type 0) (wrote : K → Option (List ℕ)) (failed : K → ℕ)
     (s : Sizes) (had has : Lefts) (before now : List ℕ) (c : Cutter) (end : Option End) (fed : Dispatched) where
   abbrev is_stage : RunData O → ℕ → Bool → Stage S K → Type 0
-  is_stage = IsStageOf plan (seen contents wrote failed) taken
+  is_stage = IsStageOf plan (stage_view contents wrote failed) taken
 
   -- the run of one without the end of the input, whose blocks a keeper of its own passed on
   pub record RunsOne (base : RunData O) (stage : Stage S K) : Type 0 where

@@ -2,7 +2,7 @@
 use Rattle.std.proofs.Common.{◌≡◌, ◌≢◌, ℕ, ◌≤◌, Bool, true, false, List, [], ◌∷◌, refl, sym, ◌∙◌, subst, arith}
 use Rattle.std.specs.Prelude.{Option, Some, None, IsSome, if◌then◌else◌}
 use Rattle.std.specs.Int.{div_ceil}
-use Rattle.saber_plan.specs.Outputs.{Rose, appended, appended-none}
+use Rattle.saber_plan.specs.Outputs.{Rose, appended_text, appended-none}
 use Rattle.saber_io.specs.declared.feeds.EndMark.TheVariants as marks
 use Rattle.saber_plan.specs.Facts.Counts.{tasks_have_rows}
 use Rattle.saber_plan.specs.Sizes.{limits_of}
@@ -18,7 +18,7 @@ use Rattle.saber_laws.specs.Pieces.{NoRowsGiveNothing, NoTasksNoRows}
 use Rattle.saber_assembly.specs.declared.stage.Stage.{Stage}
 use Rattle.saber_plan.specs.declared.stages.StageState.{StageState}
 use Rattle.saber_plan.specs.declared.stages.StageState.TheVariants as states
-use Rattle.saber_assembly.specs.Stages.{seen}
+use Rattle.saber_assembly.specs.Stages.{stage_view}
 use Rattle.saber_assembly.specs.Works.{IsTold, input_of as told_input, first_tasks, IsStageOf}
 use Rattle.saber_crew.specs.declared.dispatch.Dispatched.{Dispatched}
 use Rattle.saber_crew.specs.declared.dispatch.Over.{Over}
@@ -101,7 +101,7 @@ told_is flush count (Some x) e h = by_case (is_due flush count x) h where
 -- over a feed, seen so at its end, with such a count of faults when the run began, and a sink that had written so much and had such a count
 pub record FedDone (q : Tree) (s : Sizes) (v : FeedView) (before : ℕ) (w : Option (List ℕ)) (f : ℕ) (end : RunEnd) (tasks : ℕ) (written : Option (List ℕ)) (faults : ℕ) : Type 0 where
   pub out : List ℕ
-  pub written_is : written ≡ appended w out
+  pub written_is : written ≡ appended_text w out
   pub gives : (all : List ℕ) → GoesOn v.taken v.mark all → Gives q s.task s.ring s.flush (input_of q (limits_of s) (all ∷ [])) end tasks out
   pub whole : (side : Side) → end ≡ ReadFault side → TakesWhole q s.task (limits_of s) tasks v.taken
   pub all : end ≡ AllRead → v.mark ≡ Some marks.End
@@ -115,7 +115,7 @@ pub record FedDone (q : Tree) (s : Sizes) (v : FeedView) (before : ℕ) (w : Opt
 
 module _ (first : FirstOfFirst) (are : FedBlocksAreTasks) (leave : CutsLeaveWholeTasks) {O S K : Type 0} (plan : O → Tree) (contents : S → Kept) (taken : O → S → Input → Type 0) (wrote : K → Option (List ℕ)) (failed : K → ℕ)
     (op : O) (s : Sizes) (some : 1 ≤ s.task) (w : Option (List ℕ)) (f : ℕ) (v : FeedView) (before : ℕ) (c : FedCutter) (k : Keeper) (end : Option End) (stage : Stage S K) (fed : Dispatched)
-    (r : RunsTo (IsTold plan) first_tasks (IsStageOf plan (seen contents wrote failed) taken) (HasFed plan s before v c k end) (IsSome end) (first_told op s.task w f) stage fed) where
+    (r : RunsTo (IsTold plan) first_tasks (IsStageOf plan (stage_view contents wrote failed) taken) (HasFed plan s before v c k end) (IsSome end) (first_told op s.task w f) stage fed) where
   abbrev q : Tree
   q = plan op
 

@@ -12,7 +12,7 @@ use Rattle.saber_ring.specs.Shows.{extra}
 use Rattle.saber_assembly.specs.declared.stage.Stage.{Stage}
 use Rattle.saber_plan.specs.declared.stages.StageState.TheVariants.{Running}
 use Rattle.saber_assembly.specs.declared.work.RunData.{RunData}
-use Rattle.saber_assembly.specs.Stages.{seen}
+use Rattle.saber_assembly.specs.Stages.{stage_view}
 use Rattle.saber_assembly.specs.Works.{IsTold, IsBlockOf, IsStageOf, first_tasks, input_of, with_block}
 use Rattle.saber_assembly.specs.WorkLaws.{block_keeps, tasks_whole}
 use Rattle.saber_workers.specs.Labors.{GoesOn}
@@ -139,7 +139,7 @@ given_so is_told upto is_stage given other ended over base stage fed r g on = re
 
 module _ {O S K : Type 0} (plan : O → Tree) (contents : S → Kept) (taken : O → S → Input → Type 0) (wrote : K → Option (List ℕ)) (failed : K → ℕ) where
   abbrev is_stage : RunData O → ℕ → Bool → Stage S K → Type 0
-  is_stage = IsStageOf plan (seen contents wrote failed) taken
+  is_stage = IsStageOf plan (stage_view contents wrote failed) taken
 
   module _ (given : RunData O → ℕ → Type 0) (ended : Type 0) (base : RunData O) (old : Stage S K) (fed : Dispatched) (r : RunsTo (IsTold plan) first_tasks is_stage given ended base old fed) (all : fed.over ≡ AllGiven) (runs : old.state ≡ Running) where
     goes_on : (x : Bool) → r.stopped ≡ x → x ≡ false

@@ -10,7 +10,7 @@ use Rattle.saber_plan.specs.Trees.{Tree}
 use Rattle.saber_fragment.specs.declared.blocks.Block.{Block}
 use Rattle.saber_assembly.specs.declared.stage.Stage.{Stage}
 use Rattle.saber_plan.specs.declared.stages.StageState.TheVariants.{Running}
-use Rattle.saber_assembly.specs.Stages.{seen}
+use Rattle.saber_assembly.specs.Stages.{stage_view}
 use Rattle.saber_assembly.specs.Works.{IsBlockOf, IsStageOf, first_tasks}
 use Rattle.saber_workers.specs.Queries.{Suits}
 use Rattle.saber_crew.specs.declared.dispatch.Over.TheVariants.{AllGiven, Stopped, NoMemory}
@@ -64,11 +64,11 @@ module _ {O S K : Type 0} (plan : O → Tree) (contents : S → Kept) (taken : O
         subst (λ o. Takes plan contents taken wrote failed counts op o old old) (sym is) stays
 
     module _ (on : counts ≡ true) (runs : old.state ≡ Running) where
-      pub can_do : CanTake plan contents taken wrote failed counts op block old → CanDo first_tasks (IsBlockOf plan) (IsStageOf plan (seen contents wrote failed) taken) (IsAlone plan) Suits op old b
+      pub can_do : CanTake plan contents taken wrote failed counts op block old → CanDo first_tasks (IsBlockOf plan) (IsStageOf plan (stage_view contents wrote failed) taken) (IsAlone plan) Suits op old b
       can_do h = let these : CanTake plan contents taken wrote failed counts op (Some b) old = subst (λ o. CanTake plan contents taken wrote failed counts op o old) is h in these on runs
 
       -- where it goes on
-      pub taken_so : (new : Stage S K) (goes : Bool) → Does first_tasks (IsBlockOf plan) (IsStageOf plan (seen contents wrote failed) taken) (IsAlone plan) Suits op old b new goes → Takes plan contents taken wrote failed counts op block old new
+      pub taken_so : (new : Stage S K) (goes : Bool) → Does first_tasks (IsBlockOf plan) (IsStageOf plan (stage_view contents wrote failed) taken) (IsAlone plan) Suits op old b new goes → Takes plan contents taken wrote failed counts op block old new
       taken_so new goes does =
           let takes : TakesBlock plan contents taken wrote failed counts op b old new = record { other = λ off. absurd (apart (sym off ∙ on)); stopped = λ stopped. absurd (stopped runs); takes = λ h k. (goes, does) } in
           subst (λ o. Takes plan contents taken wrote failed counts op o old new) (sym is) takes

@@ -1,8 +1,8 @@
 -- What a run gives, and of what it took.
 use Rattle.std.proofs.Common.{◌≡◌, ◌≢◌, ℕ, ◌≤◌, List, [], ◌∷◌, length, map, refl, ◌∙◌, ap, subst, arith}
 use Rattle.std.specs.Prelude.{Option, Some, None, IfSome, IsSome, option_map, option_and_then}
-use Rattle.saber_io.specs.Outside.{given}
-use Rattle.saber_plan.specs.Outputs.{Rose, appended, appended-none}
+use Rattle.saber_io.specs.Outside.{left_before}
+use Rattle.saber_plan.specs.Outputs.{Rose, appended_text, appended-none}
 use Rattle.saber_plan.specs.Sizes.{FileLimits, limits_of}
 use Rattle.saber_plan.specs.declared.rows.Side.{Side}
 use Rattle.saber_plan.specs.declared.sizes.Sizes.{Sizes}
@@ -16,7 +16,7 @@ use Rattle.saber_plan.specs.Tasks.{Kept}
 use Rattle.saber_laws.specs.Cuts.{FirstOfFirst}
 use Rattle.saber_laws.specs.Pieces.{NoRowsGiveNothing, NoTasksNoRows}
 use Rattle.saber_assembly.specs.declared.stage.Stage.{Stage}
-use Rattle.saber_assembly.specs.Stages.{seen}
+use Rattle.saber_assembly.specs.Stages.{stage_view}
 use Rattle.saber_assembly.specs.Works.{IsTold, input_of as told_input, first_tasks, IsStageOf}
 use Rattle.saber_crew.specs.declared.dispatch.Dispatched.{Dispatched}
 use Rattle.saber_crew.specs.Runs.{RunsTo}
@@ -49,7 +49,7 @@ use Rattle.saber_engine.proofs.Comings.{GivenBy, Came, came_to, gives_nothing}
 -- over inputs that had so much left and such counts of faults, and a sink that had written so much and had such a count
 pub record Done (q : Tree) (s : Sizes) (had has : Lefts) (before now : List ℕ) (w : Option (List ℕ)) (f : ℕ) (end : RunEnd) (tasks : ℕ) (written : Option (List ℕ)) (faults : ℕ) : Type 0 where
   pub out : List ℕ
-  pub written_is : written ≡ appended w out
+  pub written_is : written ≡ appended_text w out
   pub gives : (files : List (List ℕ)) → Suits (fresh q (limits_of s)) had → had ≡ map Some files → Gives q s.task s.ring s.flush (input_of q (limits_of s) files) end tasks out
   pub whole : (side : Side) → end ≡ ReadFault side → ReadsWhole q s.task (limits_of s) tasks had has
   pub read : (side : Side) → end ≡ ReadFault side → RoseAt side before now
@@ -61,7 +61,7 @@ pub record Done (q : Tree) (s : Sizes) (had has : Lefts) (before now : List ℕ)
 
 module _ (first : FirstOfFirst) (are : telling.BlocksAreTasks) (leave : FaultsLeaveWholeTasks) {O S K : Type 0} (plan : O → Tree) (contents : S → Kept) (taken : O → S → Input → Type 0) (wrote : K → Option (List ℕ)) (failed : K → ℕ)
     (op : O) (s : Sizes) (w : Option (List ℕ)) (f : ℕ) (had has : Lefts) (before now : List ℕ) (c : Cutter) (k : Keeper) (end : Option End) (stage : Stage S K) (fed : Dispatched)
-    (r : RunsTo (IsTold plan) first_tasks (IsStageOf plan (seen contents wrote failed) taken) (HasGiven plan s had has before now c k end) (IsSome end) (first_told op s.task w f) stage fed) where
+    (r : RunsTo (IsTold plan) first_tasks (IsStageOf plan (stage_view contents wrote failed) taken) (HasGiven plan s had has before now c k end) (IsSome end) (first_told op s.task w f) stage fed) where
   abbrev q : Tree
   q = plan op
 
@@ -165,7 +165,7 @@ took out left (Two x z) (Two y u) (one a) (one b) m = absurd m
 took out left (Two x z) (Two y u) (one a) (two b) m = absurd m
 took out left (Two x z) (Two y u) (two a) (one b) m = absurd m
 
-given_none : (o : Option (List ℕ)) → o ≡ given [] o
+given_none : (o : Option (List ℕ)) → o ≡ left_before [] o
 given_none None = refl
 given_none (Some b) = refl
 

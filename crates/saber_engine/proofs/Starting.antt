@@ -14,7 +14,7 @@ use Rattle.saber_laws.specs.Pieces.{NoTasksNoRows}
 use Rattle.saber_assembly.specs.declared.stage.Stage.{Stage}
 use Rattle.saber_plan.specs.declared.stages.StageState.TheVariants.{Running}
 use Rattle.saber_assembly.specs.declared.work.RunData.{RunData}
-use Rattle.saber_assembly.specs.Stages.{seen}
+use Rattle.saber_assembly.specs.Stages.{stage_view}
 use Rattle.saber_plan.specs.Stages.{Tasks, Keeps}
 use Rattle.saber_assembly.specs.Works.{IsTold, IsStageOf}
 use Rattle.saber_workers.specs.Queries.{Suits}
@@ -63,15 +63,15 @@ module _ {O S K : Type 0} (plan : O → Tree) (contents : S → Kept) (taken : O
 
   -- a run begins with a new stage
   pub begins : NoTasksNoRows → Fits (frame (plan op)) → 1 ≤ n → (sink : K) → stage.sink ≡ sink → stage.k ≡ 0 → stage.state ≡ Running
-      → ((m : ℕ) (r : Input) → Tasks (plan op) m r → Keeps (plan op) m r (record { written = wrote sink; faults = failed sink }) (taken op stage.store) (seen contents wrote failed stage))
+      → ((m : ℕ) (r : Input) → Tasks (plan op) m r → Keeps (plan op) m r (record { written = wrote sink; faults = failed sink }) (taken op stage.store) (stage_view contents wrote failed stage))
       → (given : RunData O → ℕ → Type 0) → given told 0
-      → BeginsRun (IsTold plan) (IsStageOf plan (seen contents wrote failed) taken) (Suits op) given stage (Some told)
+      → BeginsRun (IsTold plan) (IsStageOf plan (stage_view contents wrote failed) taken) (Suits op) given stage (Some told)
   begins none fits some sink sink_is no_task running keeps given is =
       let t : Tasks (plan op) n (going_on []) = record { windows = fits; fits = fits_none (plan op); size = some } in (
         record { tasks = t; whole = none n (going_on []) },
         record {
           behind = no_task;
-          keeps = subst (λ k. Keeps (plan op) n (going_on []) (record { written = wrote k; faults = failed k }) (taken op stage.store) (seen contents wrote failed stage)) (sym sink_is) (keeps n (going_on []) t);
+          keeps = subst (λ k. Keeps (plan op) n (going_on []) (record { written = wrote k; faults = failed k }) (taken op stage.store) (stage_view contents wrote failed stage)) (sym sink_is) (keeps n (going_on []) t);
           runs = λ _. running;
           stops = λ e. absurd (not_both e);
         },

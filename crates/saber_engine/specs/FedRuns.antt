@@ -1,6 +1,6 @@
 -- What a run over a feed gives.
 use Rattle.std.specs.Prelude.{◌≡◌, ◌≤◌, ◌/◌, ℕ, length, List, [], ◌∷◌, Option}
-use Rattle.saber_plan.specs.Outputs.{appended}
+use Rattle.saber_plan.specs.Outputs.{appended_text}
 use Rattle.saber_io.specs.declared.feeds.EndMark.{EndMark}
 use Rattle.saber_plan.specs.declared.rows.Side.{Side}
 use Rattle.saber_plan.specs.declared.sizes.Sizes.{Sizes}
@@ -20,7 +20,7 @@ pub record TakesWhole (q : Tree) (n : ℕ) (limits : FileLimits) (tasks : ℕ) (
 -- something goes out, and over each file that goes on from what was taken, and is this where the feed ended, it is this
 abbrev pub GivesFed : Tree → Sizes → List ℕ → Option EndMark → Option (List ℕ) → Option (List ℕ) → RunEnd → ℕ → Type 0
 GivesFed q s taken mark had has e tasks =
-    (out : List ℕ) × (has ≡ appended had out) × ((all : List ℕ) → GoesOn taken mark all → GivesOver q s (all ∷ []) e tasks out)
+    (out : List ℕ) × (has ≡ appended_text had out) × ((all : List ℕ) → GoesOn taken mark all → GivesOver q s (all ∷ []) e tasks out)
 
 -- a feed that is cut off leaves at least every whole task assembled
 abbrev pub CutLeavesWhole : Tree → Sizes → List ℕ → RunEnd → ℕ → Type 0

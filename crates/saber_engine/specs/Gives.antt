@@ -1,6 +1,6 @@
 -- What a run leaves of its inputs and its sink.
 use Rattle.std.specs.Prelude.{◌≡◌, ◌≤◌, ◌/◌, ℕ, length, List, Option, IfSome}
-use Rattle.saber_plan.specs.Outputs.{appended}
+use Rattle.saber_plan.specs.Outputs.{appended_text}
 use Rattle.saber_plan.specs.declared.rows.Side.{Side}
 use Rattle.saber_plan.specs.declared.sizes.Sizes.{Sizes}
 use Rattle.saber_plan.specs.Sizes.{FileLimits, limits_of}
@@ -20,7 +20,7 @@ pub record ReadsWhole (q : Tree) (n : ℕ) (limits : FileLimits) (tasks : ℕ) (
 
 -- something goes out, and over files that tell their bytes it is this
 abbrev pub GivesTold : Tree → Sizes → Option (List (List ℕ)) → Option (List ℕ) → Option (List ℕ) → RunEnd → ℕ → Type 0
-GivesTold q s told had has e tasks = (out : List ℕ) × (has ≡ appended had out) × IfSome told (λ files. GivesOver q s files e tasks out)
+GivesTold q s told had has e tasks = (out : List ℕ) × (has ≡ appended_text had out) × IfSome told (λ files. GivesOver q s files e tasks out)
 
 -- a fault of reading leaves at least every whole task assembled
 abbrev pub LeavesWhole : Tree → Sizes → List (Option (List ℕ)) → List (Option (List ℕ)) → RunEnd → ℕ → Type 0

@@ -8,7 +8,7 @@ use Rattle.saber_plan.specs.Trees.{Tree}
 use Rattle.saber_fragment.specs.declared.blocks.Block.{Block}
 use Rattle.saber_assembly.specs.declared.stage.Stage.{Stage}
 use Rattle.saber_plan.specs.declared.stages.StageState.TheVariants.{Running}
-use Rattle.saber_assembly.specs.Stages.{seen}
+use Rattle.saber_assembly.specs.Stages.{stage_view}
 use Rattle.saber_assembly.specs.Works.{IsBlockOf, IsStageOf, first_tasks}
 use Rattle.saber_workers.specs.Queries.{Suits}
 use Rattle.saber_crew.specs.declared.dispatch.Over.{Over}
@@ -35,13 +35,13 @@ module _ {O S K : Type 0} (plan : O → Tree) (contents : S → Kept) (has_taken
     -- where it is a task, and the stage goes on, it is the next one
     abbrev pub CanTake : Option Block → Stage S K → Type 0
     CanTake None stage = Unit {0}
-    CanTake (Some b) stage = counts ≡ true → stage.state ≡ Running → CanDo first_tasks (IsBlockOf plan) (IsStageOf plan (seen contents written faults) has_taken) (IsAlone plan) Suits op stage b
+    CanTake (Some b) stage = counts ≡ true → stage.state ≡ Running → CanDo first_tasks (IsBlockOf plan) (IsStageOf plan (stage_view contents written faults) has_taken) (IsAlone plan) Suits op stage b
 
     -- then it is behind the stage, or stopped it; and any other stage stays
     pub record TakesBlock (b : Block) (old new : Stage S K) : Type 0 where
       pub other : counts ≡ false → new ≡ old
       pub stopped : old.state ≢ Running → new ≡ old
-      pub takes : counts ≡ true → old.state ≡ Running → (goes : Bool) × Does first_tasks (IsBlockOf plan) (IsStageOf plan (seen contents written faults) has_taken) (IsAlone plan) Suits op old b new goes
+      pub takes : counts ≡ true → old.state ≡ Running → (goes : Bool) × Does first_tasks (IsBlockOf plan) (IsStageOf plan (stage_view contents written faults) has_taken) (IsAlone plan) Suits op old b new goes
 
     abbrev pub Takes : Option Block → Stage S K → Stage S K → Type 0
     Takes None old new = new ≡ old

@@ -49,8 +49,8 @@ pub record Standing : Type 0 where
   pub keeper : Keeper
   pub end : Option End
 
-abbrev pub standing : {S : Type 0} → (S → Option (List ℕ)) → (S → ℕ) → Inputs S → Cutter → Keeper → Option End → Standing
-standing left faults inputs cutter keeper end = record {
+abbrev pub standing_of : {S : Type 0} → (S → Option (List ℕ)) → (S → ℕ) → Inputs S → Cutter → Keeper → Option End → Standing
+standing_of left faults inputs cutter keeper end = record {
   lefts = each_input left inputs;
   faults = each_input faults inputs;
   cutter = cutter;

@@ -7,7 +7,7 @@ ghost use Rattle.saber_plan.specs.declared.sizes.Sizes.{Sizes};
 ghost use Rattle.saber_dispatch.specs.Cutting.{CutsNothing, end_of};
 ghost use Rattle.saber_dispatch.specs.Keeping.{CountsRows};
 ghost use Rattle.saber_dispatch.specs.Sources.{Lefts};
-ghost use Rattle.saber_engine.specs.Supplying.{standing, GivenAt, GivenSome, GivesNext};
+ghost use Rattle.saber_engine.specs.Supplying.{standing_of, GivenAt, GivenSome, GivesNext};
 
 use saber_assembly::SaberWork;
 use saber_crew::{Supplied, Supply};
@@ -94,15 +94,15 @@ impl<S, J> Blocks<S, J> {
 impl<S: Source, J: Begins, O: Operator, K: Sink> Supply<SaberWork<O, K>> for Blocks<S, J> {
     type From = Inputs<S>;
 
-    ghost has_given = { λ blocks from told d. GivenAt O.plan J.sizes J.lefts J.faults (standing S.left S.faults from blocks.cutter blocks.keeper blocks.end) told d };
+    ghost has_given = { λ blocks from told d. GivenAt O.plan J.sizes J.lefts J.faults (standing_of S.left S.faults from blocks.cutter blocks.keeper blocks.end) told d };
 
     ghost is_over = { λ blocks. IsSome blocks.end };
 
     fn next(&mut self, from: &mut Inputs<S>) -> Supplied<Block>
-        requires { GivenSome O.plan J.sizes J.lefts J.faults (standing S.left S.faults from.old self.old.cutter self.old.keeper self.old.end) }
+        requires { GivenSome O.plan J.sizes J.lefts J.faults (standing_of S.left S.faults from.old self.old.cutter self.old.keeper self.old.end) }
         ensures gives { GivesNext O.plan J.sizes J.lefts J.faults
-            (standing S.left S.faults from.old self.old.cutter self.old.keeper self.old.end)
-            (standing S.left S.faults from.new self.new.cutter self.new.keeper self.new.end) result }
+            (standing_of S.left S.faults from.old self.old.cutter self.old.keeper self.old.end)
+            (standing_of S.left S.faults from.new self.new.cutter self.new.keeper self.new.end) result }
         ensures over { result ≡ Supplied.Over → IsSome self.new.end }
 
         // Files have each block at once, or none any more.

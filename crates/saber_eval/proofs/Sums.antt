@@ -5,7 +5,7 @@ use Rattle.std.specs.List.{AllByRecursion}
 use Rattle.saber_plan.specs.declared.rows.Side.{Side}
 use Rattle.saber_plan.specs.declared.expressions.Factor.{Factor}
 use Rattle.saber_plan.specs.declared.expressions.Product.{Product}
-use Rattle.saber_plan.specs.Values.{factor_value, signed, product_value, value_at}
+use Rattle.saber_plan.specs.Values.{factor_value, signed_value, product_value, value_at}
 use Rattle.saber_plan.specs.Bounds.{bound_after, ProductFits, SumFits, sum_bound}
 use Rattle.saber_plan.specs.Checked.{HasColumn, ExprFits}
 
@@ -61,9 +61,9 @@ once : (z : ℤ) → pos 1 *ℤ z ≡ z
 once z = suc_ℤ-*ℤ (pos 0) z ∙ ap (λ y. y +ℤ z) (zero-*ℤ z) ∙ +ℤ_idl z
 
 -- the value of a product of one factor that isn't taken away
-factor_alone : (at : Side → ℕ → ℤ) (minus : Bool) (fs : List Factor) (g : Factor) → length fs ≡ 1 → minus ≡ false → factor_value at (get_or fs 0 g) ≡ signed minus (fold (λ z f. z *ℤ factor_value at f) (pos 1) fs)
+factor_alone : (at : Side → ℕ → ℤ) (minus : Bool) (fs : List Factor) (g : Factor) → length fs ≡ 1 → minus ≡ false → factor_value at (get_or fs 0 g) ≡ signed_value minus (fold (λ z f. z *ℤ factor_value at f) (pos 1) fs)
 factor_alone at minus [] g one plain = absurd (omega arith)
-factor_alone at minus (f ∷ []) g one plain = sym (once (factor_value at f)) ∙ ap (λ b. signed b (pos 1 *ℤ factor_value at f)) (sym plain)
+factor_alone at minus (f ∷ []) g one plain = sym (once (factor_value at f)) ∙ ap (λ b. signed_value b (pos 1 *ℤ factor_value at f)) (sym plain)
 factor_alone at minus (f ∷ f' ∷ fs) g one plain = absurd (omega arith)
 
 -- and of one such product

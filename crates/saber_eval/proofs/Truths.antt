@@ -8,7 +8,7 @@ use Rattle.saber_plan.specs.declared.predicates.Cmp.{Cmp}
 use Rattle.saber_plan.specs.declared.predicates.Pred.{Pred}
 use Rattle.saber_plan.specs.declared.predicates.Conj.{Conj}
 use Rattle.saber_plan.specs.declared.predicates.Unit.{Unit as Unit_tree, Not, Any, Compare, the_lemmas}
-use Rattle.saber_plan.specs.Trees.{Test, negated, one_of, compare, Both, no_more, both, Tests, no_other, either, joined, chosen, test_of, both_of, tests_of}
+use Rattle.saber_plan.specs.Trees.{Test, negated, one_of, compare, Both, no_more, both, Tests, no_other, either, joined_tests, chosen_tests, test_of, both_of, tests_of}
 use Rattle.saber_plan.specs.Values.{value_at, compares, test_holds, all_hold, some_holds}
 use Rattle.saber_plan.specs.Checked.{AllFit, SomeFit}
 
@@ -30,14 +30,14 @@ abbrev mutual
 module _ (at : Side → ℕ → ℤ) (columns : Side → ℕ) where
   -- the answer is that of the units that are left
   pub record Left_all (whole : Both) (rest : List Unit_tree) : Type 0 where
-    pub same : all_hold at (joined (map test_of rest)) ≡ all_hold at whole
-    pub fits : AllFit columns (joined (map test_of rest))
-    pub small : both_size (joined (map test_of rest)) ≤ both_size whole
+    pub same : all_hold at (joined_tests (map test_of rest)) ≡ all_hold at whole
+    pub fits : AllFit columns (joined_tests (map test_of rest))
+    pub small : both_size (joined_tests (map test_of rest)) ≤ both_size whole
 
   pub record Left_some (whole : Tests) (rest : List Conj) : Type 0 where
-    pub same : some_holds at (chosen (map both_of rest)) ≡ some_holds at whole
-    pub fits : SomeFit columns (chosen (map both_of rest))
-    pub small : tests_size (chosen (map both_of rest)) ≤ tests_size whole
+    pub same : some_holds at (chosen_tests (map both_of rest)) ≡ some_holds at whole
+    pub fits : SomeFit columns (chosen_tests (map both_of rest))
+    pub small : tests_size (chosen_tests (map both_of rest)) ≤ tests_size whole
 
   head_all : (whole : Both) (u : Unit_tree) (us : List Unit_tree) (i : ℕ) → i < length us → u ≡ get_or us i u → Left_all whole (drop i us) → Left_all whole (u ∷ drop (suc i) us)
   head_all whole u us i h e k = subst (λ x. Left_all whole (x ∷ drop (suc i) us)) (sym e) (subst (Left_all whole) (drop-cons us i u h) k)
@@ -49,7 +49,7 @@ module _ (at : Side → ℕ → ℤ) (columns : Side → ℕ) where
   all_cons : (whole : Both) (u : Unit_tree) (us : List Unit_tree) → test_holds at (test_of u) ≡ true → Left_all whole (u ∷ us) → Left_all whole us
   unfolding test_holds
   all_cons whole u us e k = record {
-    same = sym (ap (λ b. b && all_hold at (joined (map test_of us))) e) ∙ k.same;
+    same = sym (ap (λ b. b && all_hold at (joined_tests (map test_of us))) e) ∙ k.same;
     fits = k.fits.1;
     small = omega (arith, k.small);
   }
@@ -57,7 +57,7 @@ module _ (at : Side → ℕ → ℤ) (columns : Side → ℕ) where
   some_cons : (whole : Tests) (b : Conj) (bs : List Conj) → all_hold at (both_of b) ≡ false → Left_some whole (b ∷ bs) → Left_some whole bs
   unfolding test_holds
   some_cons whole b bs e k = record {
-    same = sym (ap (λ x. x || some_holds at (chosen (map both_of bs))) e) ∙ k.same;
+    same = sym (ap (λ x. x || some_holds at (chosen_tests (map both_of bs))) e) ∙ k.same;
     fits = k.fits.1;
     small = omega (arith, k.small);
   }
@@ -71,11 +71,11 @@ module _ (at : Side → ℕ → ℤ) (columns : Side → ℕ) where
   -- one that settles it
   false_cons : (whole : Both) (u : Unit_tree) (us : List Unit_tree) → test_holds at (test_of u) ≡ false → Left_all whole (u ∷ us) → false ≡ all_hold at whole
   unfolding test_holds
-  false_cons whole u us e k = sym (ap (λ b. b && all_hold at (joined (map test_of us))) e) ∙ k.same
+  false_cons whole u us e k = sym (ap (λ b. b && all_hold at (joined_tests (map test_of us))) e) ∙ k.same
 
   true_cons : (whole : Tests) (b : Conj) (bs : List Conj) → all_hold at (both_of b) ≡ true → Left_some whole (b ∷ bs) → true ≡ some_holds at whole
   unfolding test_holds
-  true_cons whole b bs e k = sym (ap (λ x. x || some_holds at (chosen (map both_of bs))) e) ∙ k.same
+  true_cons whole b bs e k = sym (ap (λ x. x || some_holds at (chosen_tests (map both_of bs))) e) ∙ k.same
 
   pub all_false : (whole : Both) (u : Unit_tree) (us : List Unit_tree) (i : ℕ) → i < length us → u ≡ get_or us i u → test_holds at (test_of u) ≡ false → Left_all whole (drop i us) → false ≡ all_hold at whole
   all_false whole u us i h e t k = false_cons whole u (drop (suc i) us) t (head_all whole u us i h e k)

@@ -2,7 +2,7 @@
 // the right.
 ghost use Rattle.std.specs.Prelude.{◌≡◌, ◌≤◌, ◌+◌, ◌^◌, ◌*◌, nat_abs, IfSome, fold, ◌*ℤ◌, ◌+ℤ◌, pos};
 ghost use Rattle.std.specs.List.{AllByRecursion};
-ghost use Rattle.saber_plan.specs.Values.{column_of, factor_value, signed, product_value, value_at};
+ghost use Rattle.saber_plan.specs.Values.{column_of, factor_value, signed_value, product_value, value_at};
 ghost use Rattle.saber_plan.specs.Bounds.{factor_bound, bound_after, ProductFits, sum_bound};
 ghost use Rattle.saber_plan.specs.Checked.{HasColumn, ExprFits};
 ghost use Rattle.saber_eval.specs.Widths.{widths};
@@ -66,7 +66,7 @@ fn product(factors: &[Factor], left: &[i64], right: &[i64]) -> i128
 
 fn with_sign(minus: bool, number: i128) -> i128
     requires { nat_abs number ≤ 2 ^ 126 }
-    ensures value { result ≡ signed minus number }
+    ensures value { result ≡ signed_value minus number }
     ensures bound { nat_abs result ≤ nat_abs number }
 {
     if minus { -number } else { number }

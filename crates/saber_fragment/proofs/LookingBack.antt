@@ -8,7 +8,7 @@ use Rattle.saber_plan.specs.Trees.{Tree}
 use Rattle.saber_plan.specs.Windows.{Fits, no_rows, mark_after}
 use Rattle.saber_plan.specs.Answers.{frame}
 use Rattle.saber_plan.specs.GivenRows.{RowsFit}
-use Rattle.saber_plan.specs.Tasks.{cut, upto, places}
+use Rattle.saber_plan.specs.Tasks.{task_start, upto, places}
 use Rattle.saber_plan.specs.Needs.{free, back_mark, task_mark, task_rows, task_ends}
 use Rattle.saber_plan.specs.Shares.{shares_here, handed_here}
 use Rattle.saber_laws.specs.Windows.{MarksGoOn}
@@ -46,7 +46,7 @@ module _ (cuts : CutsRise) (marks : MarksGoOn) (behind : NoneNeededBehind) (back
   f = free q n r t
 
   abbrev at : ℕ → ℕ
-  at u = cut n r u
+  at u = task_start n r u
 
   rises : (a b : ℕ) → a ≤ b → at a ≤ at b
   rises a b h = cuts n r a b h

@@ -5,8 +5,8 @@ use Rattle.std.proofs.lemmas.Bool.Decides.{nat_tests}
 use Rattle.saber_plan.specs.declared.rows.Row.{Row}
 use Rattle.saber_plan.specs.declared.windows.Mark.{Mark}
 use Rattle.saber_plan.specs.Trees.{Tree}
-use Rattle.saber_plan.specs.Inputs.{Input, arrived}
-use Rattle.saber_plan.specs.Windows.{no_rows, mark_after, mark_of, ending, mark_at, Ordered}
+use Rattle.saber_plan.specs.Inputs.{Input, first_arrivals}
+use Rattle.saber_plan.specs.Windows.{no_rows, mark_after, mark_of, end_mark, mark_at, Ordered}
 use Rattle.saber_plan.specs.GivenRows.{RowsFit}
 use Rattle.saber_plan.specs.Facts.Lists.{nothing_behind, slice-front, slice-join}
 use Rattle.saber_plan.specs.Facts.Rows.{mark-append, fits_front, fits_back, fits_take}
@@ -26,7 +26,7 @@ behind_case true l x h = ltb-true l x h
 behind_case false l x h = absurd (both_ways _ refl h)
 
 -- behind the end there is no row
-none_behind : (r : Input) (x y : ℕ) → (arrived r x).ended ≡ true → slice_range r.rows x y ≡ []
+none_behind : (r : Input) (x y : ℕ) → (first_arrivals r x).ended ≡ true → slice_range r.rows x y ≡ []
 none_behind r x y e =
     let far = behind_case r.ended (length r.rows) x e in
     nothing_behind r.rows x y (omega (arith, far))
@@ -36,25 +36,25 @@ earlier_case true l x y a h = grind (arith, nat_tests)
 earlier_case false l x y a h = refl
 
 -- where it has not come it did not come before
-pub not_before : (r : Input) (x y : ℕ) → x ≤ y → (arrived r y).ended ≡ false → (arrived r x).ended ≡ false
+pub not_before : (r : Input) (x y : ℕ) → x ≤ y → (first_arrivals r y).ended ≡ false → (first_arrivals r x).ended ≡ false
 not_before r x y a h = earlier_case r.ended (length r.rows) x y a h
 
 -- and the mark is that of the rows
-mark_open : (r : Input) (x : ℕ) → (arrived r x).ended ≡ false → mark_at r x ≡ mark_of (take x r.rows)
-mark_open r x e = ap (λ b. ending b (mark_of (take x r.rows))) e
+mark_open : (r : Input) (x : ℕ) → (first_arrivals r x).ended ≡ false → mark_at r x ≡ mark_of (take x r.rows)
+mark_open r x e = ap (λ b. end_mark b (mark_of (take x r.rows))) e
 
 -- the mark at a later position, up to which the end has not come
-pub mark_on : MarksGoOn → (r : Input) (x y : ℕ) → x ≤ y → (arrived r y).ended ≡ false → mark_at r y ≡ mark_after (mark_at r x) (slice_range r.rows x y)
+pub mark_on : MarksGoOn → (r : Input) (x y : ℕ) → x ≤ y → (first_arrivals r y).ended ≡ false → mark_at r y ≡ mark_after (mark_at r x) (slice_range r.rows x y)
 mark_on law r x y a e = mark_open r y e ∙ law r.rows x y a ∙ sym (ap (λ m. mark_after m (slice_range r.rows x y)) (mark_open r x (not_before r x y a e)))
 
-fits_none : (q : Tree) (b : Bool) (m : Mark) (xs : List Row) → xs ≡ [] → RowsFit q m xs → RowsFit q (ending b m) xs
+fits_none : (q : Tree) (b : Bool) (m : Mark) (xs : List Row) → xs ≡ [] → RowsFit q m xs → RowsFit q (end_mark b m) xs
 unfolding Ordered
-fits_none q b m xs e h = subst (λ l. RowsFit q m l → RowsFit q (ending b m) l) (sym e) (λ f. record { rows = tt; ordered = tt; left = f.left; right = f.right }) h
+fits_none q b m xs e h = subst (λ l. RowsFit q m l → RowsFit q (end_mark b m) l) (sym e) (λ f. record { rows = tt; ordered = tt; left = f.left; right = f.right }) h
 
 -- rows between positions can follow the mark at the first
 pub fits_between : (q : Tree) (r : Input) (x y : ℕ) → RowsFit q no_rows r.rows → RowsFit q (mark_at r x) (slice_range r.rows x y)
-fits_between q r x y h = elim ((arrived r x).ended) as (λ b. (arrived r x).ended ≡ b → RowsFit q (mark_at r x) (slice_range r.rows x y)) [
-  | true ↦ λ e. fits_none q (arrived r x).ended (mark_of (take x r.rows)) (slice_range r.rows x y) (none_behind r x y e) (fits_slice q r.rows x y h)
+fits_between q r x y h = elim ((first_arrivals r x).ended) as (λ b. (first_arrivals r x).ended ≡ b → RowsFit q (mark_at r x) (slice_range r.rows x y)) [
+  | true ↦ λ e. fits_none q (first_arrivals r x).ended (mark_of (take x r.rows)) (slice_range r.rows x y) (none_behind r x y e) (fits_slice q r.rows x y h)
   | false ↦ λ e. subst (λ m. RowsFit q m (slice_range r.rows x y)) (sym (mark_open r x e)) (fits_slice q r.rows x y h)
 ] refl
 
@@ -66,7 +66,7 @@ take_on xs x y h = sym (slice-front xs y) ∙ slice-join xs 0 x y (omega arith) 
 
 module _ (r : Input) (x : ℕ) (e : Earlier) (h : EndWith (take x r.rows) e) where
   -- the mark at the position is the one behind them
-  pub mark_behind : (arrived r x).ended ≡ false → mark_at r x ≡ mark_after e.before e.rows
+  pub mark_behind : (first_arrivals r x).ended ≡ false → mark_at r x ≡ mark_after e.before e.rows
   mark_behind opens = mark_open r x opens ∙ ap mark_of h.rows_are ∙ mark-append no_rows h.front e.rows ∙ sym (ap (λ m. mark_after m e.rows) h.before_is)
 
   -- and with the rows from there on they can follow those in front of them

@@ -2,7 +2,7 @@
 use Rattle.std.specs.Prelude.{◌≡◌, ◌≤◌, ℕ, List, [], ◌∷◌, ◌++◌, take, slice_range, Bool, false}
 use Rattle.saber_plan.specs.declared.rows.Row.{Row}
 use Rattle.saber_plan.specs.declared.windows.Mark.{Mark}
-use Rattle.saber_plan.specs.Inputs.{Input, arrived}
+use Rattle.saber_plan.specs.Inputs.{Input, first_arrivals}
 use Rattle.saber_plan.specs.Trees.{Tree}
 use Rattle.saber_plan.specs.Answers.{frame}
 use Rattle.saber_plan.specs.Windows.{Fits, no_rows, mark_of, mark_after, mark_at}
@@ -71,11 +71,11 @@ pub record IsSightOf (q : Tree) (s : Sight) (r : Input) (x y : ℕ) : Type 0 whe
   pub windows : Fits (frame q)
   pub fits : RowsFit q no_rows r.rows
   pub rises : x ≤ y
-  pub opens : (arrived r x).ended ≡ false
+  pub opens : (first_arrivals r x).ended ≡ false
   pub earlier_are : EndWith (take x r.rows) s.earlier
   pub before_is : s.before ≡ mark_at r x
   pub rows_are : s.rows ≡ slice_range r.rows x y
-  pub ended_is : s.ended ≡ (arrived r y).ended
+  pub ended_is : s.ended ≡ (first_arrivals r y).ended
   pub places_are : s.places ≡ places q r.rows x y
   pub gives : shares_here q s.first s.back s.rows s.ended ≡ shares_between q r x y
   pub hands : handed_here q s.first s.back s.rows s.ended ≡ handed_between q r x y

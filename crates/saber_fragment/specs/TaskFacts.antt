@@ -6,7 +6,7 @@ use Rattle.std.proofs.lemmas.Bool.{lt-ltb, le-ltb}
 use Rattle.saber_plan.specs.declared.rows.Row.{Row}
 use Rattle.saber_plan.specs.declared.windows.Mark.{Mark}
 use Rattle.saber_plan.specs.declared.plans.Shape.TheVariants.{Join}
-use Rattle.saber_plan.specs.Inputs.{Input, arrived, going_on}
+use Rattle.saber_plan.specs.Inputs.{Input, first_arrivals, going_on}
 use Rattle.saber_plan.specs.Trees.{Tree}
 use Rattle.saber_plan.specs.Answers.{frame}
 use Rattle.saber_plan.specs.Windows.{Fits, no_rows, mark_of, mark_at, last_mark}
@@ -48,10 +48,10 @@ module _ (xs ys : List Row) (ended : Bool) where
   long : length (xs ++ ys) ≡ length xs + length ys
   long = length-append xs ys
 
-  pub at_first : arrived (with_task xs ys ended) (length xs) ≡ going_on xs
+  pub at_first : first_arrivals (with_task xs ys ended) (length xs) ≡ going_on xs
   at_first = λ j. record { rows = take-append_seam xs ys j; ended = not_yet ended (length (xs ++ ys)) (length xs) (let l = long in omega (arith, l)) j }
 
-  pub at_last : arrived (with_task xs ys ended) (end_of xs ys ended) ≡ with_task xs ys ended
+  pub at_last : first_arrivals (with_task xs ys ended) (end_of xs ys ended) ≡ with_task xs ys ended
   at_last = λ j. record {
     rows = take_all (end_of xs ys ended) (xs ++ ys) (far ended (length (xs ++ ys)) (length xs) (length ys) long) j;
     ended = comes ended (length (xs ++ ys)) (end_of xs ys ended) (ap (λ n. n + cond ended 1 0) long) j;
@@ -68,7 +68,7 @@ module _ (xs ys : List Row) (ended : Bool) where
   local_shares local q w no_join m before fits =
       let r = with_task xs ys ended in
       let mark : m ≡ mark_at r (length xs) = before ∙ ap last_mark (sym at_first) in
-      let ends : ended ≡ (arrived r (end_of xs ys ended)).ended = ap (λ u. u.ended) (sym at_last) in
+      let ends : ended ≡ (first_arrivals r (end_of xs ys ended)).ended = ap (λ u. u.ended) (sym at_last) in
       (λ j. shares_here q (mark j) [] (sym own_rows j) (ends j))
       ∙ local q r (length xs) (end_of xs ys ended)
       (record { fits = w; ordered = fits.ordered; rises = reaches ended (length xs) (length ys) }) no_join
@@ -79,7 +79,7 @@ module _ (xs ys : List Row) (ended : Bool) where
   local_hands local q w no_join m before fits =
       let r = with_task xs ys ended in
       let mark : m ≡ mark_at r (length xs) = before ∙ ap last_mark (sym at_first) in
-      let ends : ended ≡ (arrived r (end_of xs ys ended)).ended = ap (λ u. u.ended) (sym at_last) in
+      let ends : ended ≡ (first_arrivals r (end_of xs ys ended)).ended = ap (λ u. u.ended) (sym at_last) in
       (λ j. handed_here q (mark j) [] (sym own_rows j) (ends j))
       ∙ local q r (length xs) (end_of xs ys ended)
       (record { fits = w; ordered = fits.ordered; rises = reaches ended (length xs) (length ys) }) no_join
@@ -119,5 +119,5 @@ module _ (xs ys : List Row) (ended : Bool) where
   }
 
   -- and then it keeps what is to be kept of both together
-  pub task_leaves : (q : Tree) → kept_behind q (arrived (with_task xs ys ended) (end_of xs ys ended)) ≡ kept_behind q (with_task xs ys ended)
+  pub task_leaves : (q : Tree) → kept_behind q (first_arrivals (with_task xs ys ended) (end_of xs ys ended)) ≡ kept_behind q (with_task xs ys ended)
   task_leaves q = ap (kept_behind q) at_last

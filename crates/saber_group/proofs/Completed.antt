@@ -6,7 +6,7 @@ use Rattle.saber_plan.specs.declared.rows.Row.{Row}
 use Rattle.saber_plan.specs.declared.windows.Mark.{Mark}
 use Rattle.saber_plan.specs.declared.plans.Shape.TheVariants.{Group}
 use Rattle.saber_plan.specs.Trees.{Tree}
-use Rattle.saber_plan.specs.Windows.{Fits, no_rows, mark_of, mark_after, ending, closed_count, begun_count}
+use Rattle.saber_plan.specs.Windows.{Fits, no_rows, mark_of, mark_after, end_mark, closed_count, begun_count}
 use Rattle.saber_plan.specs.Answers.{frame}
 use Rattle.saber_plan.specs.GivenRows.{RowsFit}
 use Rattle.saber_plan.specs.Parts.{Part, merge, part_lines}
@@ -79,7 +79,7 @@ module _ (q : Tree) (m : Mark) (rows : List Row) where
 module _ (q : Tree) (e : Earlier) (m : Mark) (rows : List Row) (ended : Bool) (meets : m ≡ mark_after e.before e.rows) where
   -- the queue over those can take the task's slices in
   pub goes_behind : GroupsJoin → MergeIsAssociative → ClosedStay → EndsCloseMore → Fits (frame q) → RowsFit q e.before (e.rows ++ rows) → (low high next : ℕ) (es : Entries) (rs : List Slice)
-      → low ≤ high → high ≡ closed_count (frame q) (ending ended (mark_after m rows)) → next ≡ low → Holds q e.before e.rows low es → SlicesFrom q m rows 0 rs
+      → low ≤ high → high ≡ closed_count (frame q) (end_mark ended (mark_after m rows)) → next ≡ low → Holds q e.before e.rows low es → SlicesFrom q m rows 0 rs
       → GoesOn q e.before (e.rows ++ rows) (length e.rows) 0 (length rows) next es rs high
   goes_behind join assoc stay more fits given low high next es rs up most first contents h =
       let a : Mark = mark_after e.before e.rows in
@@ -130,7 +130,7 @@ module _ (q : Tree) (e : Earlier) (m : Mark) (rows : List Row) (ended : Bool) (m
           }
 
       -- what the task answers is right behind them
-      pub is_complete : m ≡ mark_of old → (low high : ℕ) (c : Complete) (rs : List Slice) (k : ℕ) (closing : List Slice) (next : ℕ) (out : List ℕ) → out ≡ [] → low ≤ high → high ≡ closed_count (frame q) (ending ended (mark_after m rows))
+      pub is_complete : m ≡ mark_of old → (low high : ℕ) (c : Complete) (rs : List Slice) (k : ℕ) (closing : List Slice) (next : ℕ) (out : List ℕ) → out ≡ [] → low ≤ high → high ≡ closed_count (frame q) (end_mark ended (mark_after m rows))
           → low ≡ max (begun_count (frame q) e.before) (closed_count (frame q) m) → c.low ≡ low → next ≡ low → SlicesFrom q m rows 0 rs → closing ≡ take k rs → AllByRecursion (λ (r : Slice). r.first ≤ low) (take k rs)
           → ((r : Slice) → Some r ≡ slice_get rs k → low ≤ r.first) → WentOn q e.before (e.rows ++ rows) (length e.rows + length rows) next c.open.slices.entries high c.open.next out c.text.items → IsComplete q old rows ended closing c
       is_complete same low high c rs k closing next out empty up most least low_is next_is slices copies firsts first w =
@@ -148,6 +148,6 @@ module _ (q : Tree) (e : Earlier) (m : Mark) (rows : List Row) (ended : Bool) (m
             text_is = w.text ∙ (λ j. empty j ++ lines_between q e.before all (next_is j) high) ∙ own_text low high begun ∙ sym (λ j. lines_between q no_rows (old ++ rows) (low_is j) (done j));
             open_is = subst (λ n. Holds q no_rows (old ++ rows) n c.open.slices.entries) (sym done) (own_open high c.open.slices.entries (omega (arith, begun, up)) contents);
             closed_is = subst₂ (λ z n. closed_count (frame q) z ≤ n) same (sym low_is) (omega (arith, least));
-            high_is = done ∙ most ∙ ap (λ z. closed_count (frame q) (ending ended (mark_after z rows))) same;
+            high_is = done ∙ most ∙ ap (λ z. closed_count (frame q) (end_mark ended (mark_after z rows))) same;
             order = subst₂ (λ a b. a ≤ b) (sym low_is) (sym done) up;
           }

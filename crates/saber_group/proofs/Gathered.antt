@@ -11,14 +11,14 @@ use Rattle.saber_plan.specs.Parts.{Part}
 use Rattle.saber_laws.specs.Parts.{MergeHasUnit, NoRowsNoPart}
 use Rattle.saber_laws.specs.Windows.{ClosedStay}
 use Rattle.saber_partial.specs.PartLaws.{SmallPartsMerge}
-use Rattle.saber_sliding.specs.Entries.{Entries, pushed, CanFollow}
+use Rattle.saber_sliding.specs.Entries.{Entries, pushed_entries, CanFollow}
 use Rattle.saber_group.specs.declared.slices.Slice.{Slice}
 use Rattle.saber_group.specs.SliceParts.{closed_by, EnteredFrom, Holds}
 use Rattle.saber_group.specs.SlicePieces.{SlicesFrom}
 use Rattle.saber_group.proofs.Completing.{closed_within}
 use Rattle.saber_group.proofs.Opened.{holds_nil, has_room, holds_from}
 
-length_pushed : (es : Entries) (n : ℕ) (p : Part) → length (pushed es n p) ≡ length es + 1
+length_pushed : (es : Entries) (n : ℕ) (p : Part) → length (pushed_entries es n p) ≡ length es + 1
 length_pushed [] n p = refl
 length_pushed (e ∷ es) n p = let rest = length_pushed es n p in omega (arith, rest)
 

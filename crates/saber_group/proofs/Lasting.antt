@@ -9,8 +9,8 @@ use Rattle.saber_plan.specs.declared.plans.Shape.TheVariants.{Group}
 use Rattle.saber_plan.specs.Inputs.{going_on}
 use Rattle.saber_plan.specs.Trees.{Tree}
 use Rattle.saber_plan.specs.Values.{passes}
-use Rattle.saber_plan.specs.Windows.{Frame, one, Fits, Ordered, no_rows, mark_of, mark_after, mark_at, placed, placed_after, has, begun, begun_count}
-use Rattle.saber_plan.specs.Answers.{by_shape, frame, passing}
+use Rattle.saber_plan.specs.Windows.{Frame, one, Fits, Ordered, no_rows, mark_of, mark_after, mark_at, placed_from_start, placed_after, has, begun, begun_count}
+use Rattle.saber_plan.specs.Answers.{by_shape, frame, passing_values}
 use Rattle.saber_plan.specs.Parts.{Part, part, group_part, pair_part, no_part, merge, row_part}
 use Rattle.saber_plan.specs.Needs.{first_window}
 use Rattle.saber_plan.specs.GivenRows.{RowsFit}
@@ -29,7 +29,7 @@ cut_rows f i m xs k = ap (λ l. filter (has f i) (placed_after m l)) (sym (take-
 
 -- no row from there on
 part_ends : (q : Tree) (i : ℕ) (m : Mark) (xs : List Row) (k : ℕ) → filter (has (frame q) i) (placed_after (mark_after m (take k xs)) (drop k xs)) ≡ [] → part_of q i m (take k xs) ≡ part_of q i m xs
-part_ends q i m xs k e = ap (λ l. group_part q (passing q l)) (sym (append-nil _) ∙ ap (λ l. filter (has (frame q) i) (placed_after m (take k xs)) ++ l) (sym e) ∙ sym (cut_rows (frame q) i m xs k))
+part_ends q i m xs k e = ap (λ l. group_part q (passing_values q l)) (sym (append-nil _) ∙ ap (λ l. filter (has (frame q) i) (placed_after m (take k xs)) ++ l) (sym e) ∙ sym (cut_rows (frame q) i m xs k))
 
 pub part_nil : NoRowsNoPart → (q : Tree) (i : ℕ) (m : Mark) → no_part ≡ part_of q i m []
 unfolding placed_after
@@ -60,7 +60,7 @@ ends_here law q w u i m xs k x n o h e g l = part_ends q i m xs k (none_after la
 pub row_joins : RowsAddToGroups → (q : Tree) (i : ℕ) (m : Mark) (xs : List Row) (k : ℕ) (x : Row) (n : Mark) → k < length xs → x ≡ get_or xs k x → n ≡ mark_after m (take k xs)
     → part_of q i m (take (k + 1) xs) ≡ cond (has (frame q) i (record { row = x; before = n }) && passes q.predicate x.values []) (merge (part_of q i m (take k xs)) (group_part q (x.values ∷ []))) (part_of q i m (take k xs))
 row_joins law q i m xs k x n h e g =
-    ap (λ l. group_part q (passing q (filter (has (frame q) i) l))) (placed_more m xs k x h e) ∙ law q (placed_after m (take k xs)) i (record { row = x; before = mark_after m (take k xs) })
+    ap (λ l. group_part q (passing_values q (filter (has (frame q) i) l))) (placed_more m xs k x h e) ∙ law q (placed_after m (take k xs)) i (record { row = x; before = mark_after m (take k xs) })
     ∙ ap (λ (b : Mark). cond (has (frame q) i (record { row = x; before = b }) && passes q.predicate x.values []) (merge (part_of q i m (take k xs)) (group_part q (x.values ∷ []))) (part_of q i m (take k xs))) (sym g)
 
 -- fewer rows are few too
@@ -71,9 +71,9 @@ few_more q n k p h few = record { at = λ key a e. (le_trans (few.at key a e).0 
 pub part_whole : (q : Tree) → q.shape ≡ Group → (i : ℕ) (xs : List Row) → part q i xs 0 (length xs) ≡ part_of q i no_rows xs
 part_whole q e i xs =
     let long = length-placed no_rows xs in
-    let all : slice_range (placed xs) 0 (length xs) ≡ placed xs = take_all (length xs - 0) (placed xs) (omega (arith, long)) in
-    ap (λ s. by_shape s (row_part q (filter (has (frame q) i) (slice_range (placed xs) 0 (length xs)))) (group_part q (passing q (filter (has (frame q) i) (slice_range (placed xs) 0 (length xs))))) (pair_part q 0 (filter (has (frame q) i) (slice_range (placed xs) 0 (length xs))))) e
-    ∙ ap (λ l. group_part q (passing q (filter (has (frame q) i) l))) all
+    let all : slice_range (placed_from_start xs) 0 (length xs) ≡ placed_from_start xs = take_all (length xs - 0) (placed_from_start xs) (omega (arith, long)) in
+    ap (λ s. by_shape s (row_part q (filter (has (frame q) i) (slice_range (placed_from_start xs) 0 (length xs)))) (group_part q (passing_values q (filter (has (frame q) i) (slice_range (placed_from_start xs) 0 (length xs))))) (pair_part q 0 (filter (has (frame q) i) (slice_range (placed_from_start xs) 0 (length xs))))) e
+    ∙ ap (λ l. group_part q (passing_values q (filter (has (frame q) i) l))) all
 
 -- rows lie in no window that they don't begin
 pub none_begun_have : PartsLieWithin → BegunAreCounted → (q : Tree) → q.shape ≡ Group → Fits (frame q) → (xs : List Row) → Ordered no_rows xs → (i : ℕ) → begun_count (frame q) (mark_of xs) ≤ i → part_of q i no_rows xs ≡ no_part

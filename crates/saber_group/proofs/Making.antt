@@ -2,7 +2,7 @@
 use Rattle.std.proofs.Common.{◌≡◌, ℕ, ◌++◌, take, slice_range, Result, Ok, Err, IfOk, sym, ◌∙◌, ap, subst}
 use Rattle.saber_plan.specs.Inputs.{Input}
 use Rattle.saber_plan.specs.Trees.{Tree}
-use Rattle.saber_plan.specs.Windows.{no_rows, mark_of, mark_after, ending}
+use Rattle.saber_plan.specs.Windows.{no_rows, mark_of, mark_after, end_mark}
 use Rattle.saber_plan.specs.GivenRows.{RowsFit}
 use Rattle.saber_plan.specs.Facts.Rows.{fits_take}
 use Rattle.saber_fragment.specs.Drafts.{Sight, IsSightOf}
@@ -17,16 +17,16 @@ pub piece_is_of : MarksFollow → (q : Tree) (s : Sight) (r : Input) (x y : ℕ)
 piece_is_of follow q s r x y p made sight =
     let old = take x r.rows in
     let fits : RowsFit q no_rows (old ++ s.rows) = subst (λ l. RowsFit q no_rows (old ++ l)) (sym sight.rows_are) (subst (RowsFit q no_rows) (sym (rows_upto r.rows x y sight.rises)) (fits_take q no_rows r.rows y sight.fits)) in
-    let before : s.before ≡ mark_of old = sight.before_is ∙ ap (λ b. ending b (mark_of old)) sight.opens in
+    let before : s.before ≡ mark_of old = sight.before_is ∙ ap (λ b. end_mark b (mark_of old)) sight.opens in
     record {
       opens = sight.opens;
       given = subst (λ b. Given q old (slice_range r.rows x y) b p.slices.items p.complete) sight.ended_is
           (subst (λ l. Given q old l s.ended p.slices.items p.complete) sight.rows_are (made.gives old fits sight.earlier_are before));
-      after_is = made.after_is ∙ (λ j. ending (sight.ended_is j) (mark_after (sight.before_is j) (sight.rows_are j))) ∙ sym (follow r x y sight.rises);
+      after_is = made.after_is ∙ (λ j. end_mark (sight.ended_is j) (mark_after (sight.before_is j) (sight.rows_are j))) ∙ sym (follow r x y sight.rises);
     }
 
 -- and so are all its slices, where it answers no window itself
-pub slices_are_made : {E : Type 0} (q : Tree) (s : Sight) (r : Result TaskSlices E) → IfOk r (λ p. SlicesFrom q s.before s.rows 0 p.slices.items) → IfOk r (λ p. p.after ≡ ending s.ended (mark_after s.before s.rows))
+pub slices_are_made : {E : Type 0} (q : Tree) (s : Sight) (r : Result TaskSlices E) → IfOk r (λ p. SlicesFrom q s.before s.rows 0 p.slices.items) → IfOk r (λ p. p.after ≡ end_mark s.ended (mark_after s.before s.rows))
     → IfOk r (λ p. IsMade q s (piece_of p))
 slices_are_made q s (Ok p) slices after = record { gives = λ old fits end same. subst (λ m. SlicesFrom q m s.rows 0 p.slices.items) same slices; after_is = after }
 slices_are_made q s (Err e) slices after = tt

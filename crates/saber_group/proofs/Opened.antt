@@ -10,7 +10,7 @@ use Rattle.saber_plan.specs.Parts.{Part, no_part, merge}
 use Rattle.saber_laws.specs.Parts.{MergeHasUnit, NoRowsNoPart}
 use Rattle.saber_partial.specs.Tallies.{CanMerge}
 use Rattle.saber_partial.specs.PartLaws.{OfRows, SmallPartsMerge}
-use Rattle.saber_sliding.specs.Entries.{Entries, whole, pushed, dropped, part_at, CanFollow}
+use Rattle.saber_sliding.specs.Entries.{Entries, whole, pushed_entries, dropped_entries, part_at, CanFollow}
 use Rattle.saber_sliding.specs.EntryFacts.{all_map, all_dropped, all_pushed, part_at-dropped, whole-dropped, part_at-pushed, part_at-behind}
 use Rattle.saber_group.specs.SliceParts.{part_of, begun_by, Entered, EnteredFrom, IsSlice, Holds}
 use Rattle.saber_group.proofs.Lasting.{part_nil, few_more}
@@ -18,7 +18,7 @@ use Rattle.saber_group.proofs.Lasting.{part_nil, few_more}
 -- ---- windows that are done
 
 -- the slices of no window from there on are gone
-pub holds_drop : (q : Tree) (m : Mark) (rows : List Row) (n : ℕ) (es : Entries) → Holds q m rows n es → Holds q m rows n (dropped n es)
+pub holds_drop : (q : Tree) (m : Mark) (rows : List Row) (n : ℕ) (es : Entries) → Holds q m rows n es → Holds q m rows n (dropped_entries n es)
 holds_drop q m rows n es h = record {
   at = λ i l. h.at i l ∙ sym (part_at-dropped n i es l);
   begun = all_dropped (λ (e : ℕ × Part). e.0 ≤ begun_by q m rows) n es h.begun;
@@ -28,7 +28,7 @@ holds_drop q m rows n es h = record {
 pub holds_later : (q : Tree) (m : Mark) (rows : List Row) (n k : ℕ) (es : Entries) → n ≤ k → Holds q m rows n es → Holds q m rows k es
 holds_later q m rows n k es up h = record { at = λ i l. h.at i (le_trans up l); begun = h.begun; few = h.few }
 
-pub whole_is : (q : Tree) (m : Mark) (rows : List Row) (n : ℕ) (es : Entries) → Holds q m rows n es → whole (dropped n es) ≡ part_of q n m rows
+pub whole_is : (q : Tree) (m : Mark) (rows : List Row) (n : ℕ) (es : Entries) → Holds q m rows n es → whole (dropped_entries n es) ≡ part_of q n m rows
 whole_is q m rows n es h = whole-dropped n es ∙ sym (h.at n (omega arith))
 
 -- ---- more rows
@@ -89,7 +89,7 @@ module _ (q : Tree) (m : Mark) (rows : List Row) (x y first past : ℕ) (p : Par
         few = all_map (IsFew x) (IsFew y) es (λ e h. few_more q (length (take x rows)) (length (take y rows)) e.1 (omega (arith, up, long, longer)) h) contents.few;
       }
 
-  holds_pushed : MergeHasUnit → SmallPartsMerge → first ≤ next → x ≤ y → y ≤ length rows → length rows ≤ 2 ^ 40 → Holds q m (take y rows) next (pushed es past p)
+  holds_pushed : MergeHasUnit → SmallPartsMerge → first ≤ next → x ≤ y → y ≤ length rows → length rows ≤ 2 ^ 40 → Holds q m (take y rows) next (pushed_entries es past p)
   holds_pushed unit small low up within few =
       let long = length-take-le y rows (omega (arith, within)) in
       let begun = all_pushed (IsBegun x) (IsBegun y) es past p begun_more slice.ends contents.begun in
@@ -97,7 +97,7 @@ module _ (q : Tree) (m : Mark) (rows : List Row) (x y first past : ℕ) (p : Par
         at = λ i l. ⊎_elim
             (λ h. slice.inside i (le_trans low l) h ∙ ap (λ a. merge a p) (contents.at i l) ∙ sym (part_at-pushed unit es past p i h))
             (λ h. slice.behind i (le_trans low l) h ∙ contents.at i l ∙ part_at-behind es i (none_behind i h)
-            ∙ sym (part_at-behind (pushed es past p) i (all_pushed (λ e. e.0 ≤ past) (λ e. e.0 ≤ i) es past p (λ e g. le_trans g h) h ends_low)))
+            ∙ sym (part_at-behind (pushed_entries es past p) i (all_pushed (λ e. e.0 ≤ past) (λ e. e.0 ≤ i) es past p (λ e g. le_trans g h) h ends_low)))
             (cases_lt i past);
         begun = begun;
         few = all_pushed (IsFew x) (IsFew y) es past p (few_both small up within few) (few_more q (y - x) (length (take y rows)) p (omega (arith, up, long)) slice.few) contents.few;

@@ -9,13 +9,13 @@ use Rattle.saber_plan.specs.declared.rows.Row.{Row}
 use Rattle.saber_plan.specs.declared.plans.Shape.TheVariants.{Group}
 use Rattle.saber_plan.specs.Trees.{Tree}
 use Rattle.saber_plan.specs.GivenRows.{RowsFit}
-use Rattle.saber_plan.specs.Inputs.{Input, arrived}
+use Rattle.saber_plan.specs.Inputs.{Input, first_arrivals}
 use Rattle.saber_plan.specs.Facts.Counts as counts
-use Rattle.saber_plan.specs.Windows.{Fits, has_windows, no_rows, mark_of, mark_after, ending, mark_at, closed_count, begun_count, from}
-use Rattle.saber_plan.specs.Answers.{by_shape, frame, lines, lines_from, selected, alike, way}
+use Rattle.saber_plan.specs.Windows.{Fits, has_windows, no_rows, mark_of, mark_after, end_mark, mark_at, closed_count, begun_count, from}
+use Rattle.saber_plan.specs.Answers.{by_shape, frame, lines, lines_from, selected_lines, alike, way}
 use Rattle.saber_plan.specs.Facts.Kept.{alike_added}
 use Rattle.saber_plan.specs.Parts.{Part, part, part_lines}
-use Rattle.saber_plan.specs.Tasks.{full, numbered, unclosed, Kept, added}
+use Rattle.saber_plan.specs.Tasks.{full, numbered_list, unclosed, Kept, added_text}
 use Rattle.saber_laws.specs.Parts.{PartHasLines}
 use Rattle.saber_laws.specs.Marks.{MarksFollow, ClosedRise, EndsCloseMore}
 use Rattle.saber_laws.specs.Plans.{OneWindow}
@@ -41,12 +41,12 @@ module _ (q : Tree) (e : q.shape ≡ Group) where
 
   -- what windows print that more arrivals close
   pub added_is : PartHasLines → way q ≡ alike → (r : Input) (x y : ℕ)
-      → lines_between q no_rows (take y r.rows) (closed_count (frame q) (mark_at r x)) (closed_count (frame q) (mark_at r y)) ≡ added q r x y
+      → lines_between q no_rows (take y r.rows) (closed_count (frame q) (mark_at r x)) (closed_count (frame q) (mark_at r y)) ≡ added_text q r x y
   added_is law w r x y =
       let a = closed_count (frame q) (mark_at r x) in
       let b = closed_count (frame q) (mark_at r y) in
       sym (alike_added q w r x y
-      ∙ ap (λ s. by_shape s (cond (has_windows (frame q)) (lines_from q (take y r.rows) a b) (selected q (slice_range r.rows x y))) (lines_from q (take y r.rows) a b) (lines_from q (take y r.rows) a b)) e
+      ∙ ap (λ s. by_shape s (cond (has_windows (frame q)) (lines_from q (take y r.rows) a b) (selected_lines q (slice_range r.rows x y))) (lines_from q (take y r.rows) a b) (lines_from q (take y r.rows) a b)) e
       ∙ flat_map-from (λ i. lines q i (take y r.rows)) (λ i. part_lines q i (part_of q i no_rows (take y r.rows))) a (b - a) (λ i p l. line_is law i (take y r.rows)))
 
   -- the store's parts are the open ones
@@ -60,7 +60,7 @@ module _ (q : Tree) (e : q.shape ≡ Group) where
       ∙ flat_map-from (λ i. option_map_or (λ p. (i, p) ∷ []) (at i) []) (λ i. option_map_or (λ p. (i, p) ∷ []) (given i) []) s.windows.next (s.begun - s.windows.next)
       (λ i p l. ap (λ a. option_map_or (λ (m : Part). (i, m) ∷ []) (full a) []) (sym (t.holds.at i p) ∙ sym (part_whole q e i r.rows)))
       ∙ sym (numbered_is given s.windows.next (s.begun - s.windows.next))
-      ∙ (λ j. numbered (t.next_is j) (t.begun_is j - t.next_is j) given))
+      ∙ (λ j. numbered_list (t.next_is j) (t.begun_is j - t.next_is j) given))
 
 -- the laws of marks along an input and of its end
 pub record MarkLaws : Type 0 where
@@ -83,7 +83,7 @@ module _ (q : Tree) (r : Input) (x y : ℕ) (s : SliceStore) (p : SlicePiece) (k
 
   -- the mark before the piece is that of the rows
   mark_open : mark_at r x ≡ mark_of old_rows
-  mark_open = ap (λ b. ending b (mark_of old_rows)) f.of_is.opens
+  mark_open = ap (λ b. end_mark b (mark_of old_rows)) f.of_is.opens
 
   module _ (laws : MarkLaws) (closed : ℕ) (closed_is : closed ≡ closed_count (frame q) p.after) where
     pub closed_end : closed ≡ closed_count (frame q) (mark_at r y)
@@ -93,14 +93,14 @@ module _ (q : Tree) (r : Input) (x y : ℕ) (s : SliceStore) (p : SlicePiece) (k
     reaches_all : closed_by q no_rows (old_rows ++ new_rows) ≤ closed
     reaches_all =
         subst (λ n. closed_by q no_rows (old_rows ++ new_rows) ≤ n) (sym closed_end)
-        (subst (λ l. closed_by q no_rows l ≤ closed_count (frame q) (mark_at r y)) (sym all_rows) (laws.close_more (frame q) f.windows (arrived r y).ended (mark_of (take y r.rows))))
+        (subst (λ l. closed_by q no_rows l ≤ closed_count (frame q) (mark_at r y)) (sym all_rows) (laws.close_more (frame q) f.windows (first_arrivals r y).ended (mark_of (take y r.rows))))
 
-    end_is : closed ≡ closed_count (frame q) (ending (arrived r y).ended (mark_after (mark_of old_rows) new_rows))
+    end_is : closed ≡ closed_count (frame q) (end_mark (first_arrivals r y).ended (mark_after (mark_of old_rows) new_rows))
     end_is = closed_end
-        ∙ ap (λ l. closed_count (frame q) (ending (arrived r y).ended (mark_of l))) (sym all_rows)
-        ∙ ap (λ m. closed_count (frame q) (ending (arrived r y).ended m)) (mark-append no_rows old_rows new_rows)
+        ∙ ap (λ l. closed_count (frame q) (end_mark (first_arrivals r y).ended (mark_of l))) (sym all_rows)
+        ∙ ap (λ m. closed_count (frame q) (end_mark (first_arrivals r y).ended m)) (mark-append no_rows old_rows new_rows)
 
-    pub comes : Comes q old_rows new_rows (arrived r y).ended s.windows.next s.windows.slices.entries p.slices.items p.complete closed
+    pub comes : Comes q old_rows new_rows (first_arrivals r y).ended s.windows.next s.windows.slices.entries p.slices.items p.complete closed
     comes = record {
       holds = f.taken_is.holds;
       low = subst₂ (λ n o. n ≤ o) (sym f.taken_is.next_is) (sym closed_end) (laws.rise (frame q) f.windows r x y f.fits.ordered f.rises);
@@ -112,7 +112,7 @@ module _ (q : Tree) (r : Input) (x y : ℕ) (s : SliceStore) (p : SlicePiece) (k
     }
 
     pub taken_after : (new : SliceStore) → new.begun ≡ begun_count (frame q) p.after → new.windows.next ≡ closed
-        → Holds q no_rows (take (length (old_rows ++ new_rows)) (old_rows ++ new_rows)) closed new.windows.slices.entries → TakenIn q (arrived r y) new
+        → Holds q no_rows (take (length (old_rows ++ new_rows)) (old_rows ++ new_rows)) closed new.windows.slices.entries → TakenIn q (first_arrivals r y) new
     taken_after new begun done contents =
         let all = old_rows ++ new_rows in
         record {
@@ -132,4 +132,4 @@ none_closed q w = sym (counts.none_closed (frame q) (subst Fits (sym w.has_frame
 
 pub nothing_held : (s : SliceStore) → s.windows.next ≡ 0 → s.begun ≡ 0 → held_in s ≡ empty
 unfolding from
-nothing_held s n b = (λ j. from_entries {R = nat_cmp} (numbered (n j) (b j - n j) (λ i. full (part_at s.windows.slices.entries i))))
+nothing_held s n b = (λ j. from_entries {R = nat_cmp} (numbered_list (n j) (b j - n j) (λ i. full (part_at s.windows.slices.entries i))))

@@ -12,9 +12,9 @@ use Rattle.saber_plan.specs.Trees.{Tree}
 use Rattle.saber_plan.specs.Values.{passes}
 use Rattle.saber_plan.specs.GivenRows.{RowsFit}
 use Rattle.saber_plan.specs.Windows.{Placed, mark_after, placed_after, has, begun_count, closed_count, from}
-use Rattle.saber_plan.specs.Answers.{frame, passing, key_cmp, entry_lines}
+use Rattle.saber_plan.specs.Answers.{frame, passing_values, key_cmp, entry_lines}
 use Rattle.saber_plan.specs.Facts.Maps.{entries-empty}
-use Rattle.saber_plan.specs.Parts.{Part, no_part, group_part, merge, part_lines, answered}
+use Rattle.saber_plan.specs.Parts.{Part, no_part, group_part, merge, part_lines, group_answer}
 use Rattle.saber_plan.specs.Facts.Rows.{mark-append, placed-append, few_rows}
 use Rattle.saber_plan.specs.Facts.Numbers.{flat_nil, flat_step, flat_skip, from_more}
 use Rattle.saber_laws.specs.Groups.{GroupsJoin}
@@ -31,7 +31,7 @@ use Rattle.saber_group.proofs.Opened.{has_room, holds_more}
 -- ---- the text of windows, one after another
 
 no_lines : (q : Tree) (i : ℕ) (p : Part) → p ≡ no_part → part_lines q i p ≡ []
-no_lines q i p e = ap (part_lines q i) e ∙ ap (λ es. entry_lines i (map (answered q.shape q.items) es)) (entries-empty key_cmp)
+no_lines q i p e = ap (part_lines q i) e ∙ ap (λ es. entry_lines i (map (group_answer q.shape q.items) es)) (entries-empty key_cmp)
 
 pub text_nil : (q : Tree) (m : Mark) (rows : List Row) (a : ℕ) (out : List ℕ) → out ≡ out ++ lines_between q m rows a a
 text_nil q m rows a out = sym (ap (λ l. out ++ l) (sym (flat_nil (λ i. part_lines q i (part_of q i m rows)) a)) ∙ append-nil out)
@@ -65,16 +65,16 @@ module _ (q : Tree) (m : Mark) (old rows : List Row) where
   abbrev mark : Mark
   mark = mark_after m old
 
-  passing-append : (us vs : List Placed) → passing q (us ++ vs) ≡ passing q us ++ passing q vs
+  passing-append : (us vs : List Placed) → passing_values q (us ++ vs) ≡ passing_values q us ++ passing_values q vs
   passing-append us vs = ap (filter (λ zs. passes q.predicate zs [])) (map-append (λ x. x.row.values) us vs) ∙ filter-append (λ zs. passes q.predicate zs []) (map (λ x. x.row.values) us) (map (λ x. x.row.values) vs)
 
   -- a window's part is that of the old rows and that of the new ones
   pub part_behind : GroupsJoin → (i : ℕ) (xs : List Row) → part_of q i m (old ++ xs) ≡ merge (part_of q i m old) (part_of q i mark xs)
   part_behind join i xs =
-      ap (λ l. group_part q (passing q (filter (has (frame q) i) l))) (placed-append m old xs)
-      ∙ ap (λ l. group_part q (passing q l)) (filter-append (has (frame q) i) (placed_after m old) (placed_after mark xs))
+      ap (λ l. group_part q (passing_values q (filter (has (frame q) i) l))) (placed-append m old xs)
+      ∙ ap (λ l. group_part q (passing_values q l)) (filter-append (has (frame q) i) (placed_after m old) (placed_after mark xs))
       ∙ ap (group_part q) (passing-append (filter (has (frame q) i) (placed_after m old)) (filter (has (frame q) i) (placed_after mark xs)))
-      ∙ join q (passing q (filter (has (frame q) i) (placed_after m old))) (passing q (filter (has (frame q) i) (placed_after mark xs)))
+      ∙ join q (passing_values q (filter (has (frame q) i) (placed_after m old))) (passing_values q (filter (has (frame q) i) (placed_after mark xs)))
 
   pub part_cut : GroupsJoin → (i x : ℕ) → part_of q i m (take (length old + x) (old ++ rows)) ≡ merge (part_of q i m old) (part_of q i mark (take x rows))
   part_cut join i x = ap (part_of q i m) (take_behind old rows x) ∙ part_behind join i (take x rows)

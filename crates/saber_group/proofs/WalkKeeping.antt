@@ -5,11 +5,11 @@ use Rattle.std.proofs.lemmas.List.{take_all}
 use Rattle.saber_plan.specs.declared.rows.Row.{Row}
 use Rattle.saber_plan.specs.declared.plans.Shape.TheVariants.{Group}
 use Rattle.saber_plan.specs.Trees.{Tree}
-use Rattle.saber_plan.specs.Inputs.{Input, arrived}
+use Rattle.saber_plan.specs.Inputs.{Input, first_arrivals}
 use Rattle.saber_plan.specs.Windows.{no_rows, closed_count, begun_count}
 use Rattle.saber_plan.specs.Answers.{frame, window_answers, before_window, by_change, way, by_way}
 use Rattle.saber_plan.specs.Parts.{part_answers}
-use Rattle.saber_plan.specs.Tasks.{Kept, by_windows, unclosed, unclosed_by_list, closed_at, last_answers, kept_behind, plain_added, list_added, change_added, added}
+use Rattle.saber_plan.specs.Tasks.{Kept, by_windows, unclosed, unclosed_by_list, closed_at, last_answers, kept_behind, plain_added, list_added, change_added, added_text}
 use Rattle.saber_laws.specs.Words.{AnswersAreOfParts, LastAnswersStay}
 use Rattle.saber_fragment.specs.Stores.{Follows}
 use Rattle.saber_changes.specs.declared.cancel.Change.{Change}
@@ -26,8 +26,8 @@ use Rattle.saber_group.proofs.SliceKeeping.{MarkLaws, held_is, old_rows, new_row
 -- ---- what is added and kept, where windows print what they gain or lose
 
 module _ (q : Tree) (change : Change) (e : way q ≡ by_change (change_of change)) where
-  changed_added : (r : Input) (x y : ℕ) → added q r x y ≡ change_added (change_of change) q r x y
-  unfolding added
+  changed_added : (r : Input) (x y : ℕ) → added_text q r x y ≡ change_added (change_of change) q r x y
+  unfolding added_text
   changed_added r x y = ap (λ w. by_way w (plain_added q r x y) (list_added q r x y) (λ c. change_added c q r x y)) e
 
   changed_kept : (r : Input) → kept_behind q r ≡ record { parts = unclosed q r; lists = empty; answers = last_answers q r }
@@ -57,13 +57,13 @@ slices_follow q r x y s p f = record { windows = f.windows; fits = f.fits; rises
 pub can_walk : MarkLaws → (q t : Tree) → q ≡ t → (r : Input) (x y : ℕ) (s : WalkStore) (p : TaskSlices) (closed : ℕ) → closed ≡ closed_count (frame q) p.after → Goes t s p r x y → CanCome q s.slices.windows p.slices.items None closed
 can_walk laws q t same r x y s p closed closed_is g =
     let f = slices_follow q r x y s p (subst (λ (u : Tree). Goes u s p r x y) (sym same) g) in
-    (old_rows q r x y s.slices (piece_of p) (kept_in s) f, new_rows q r x y s.slices (piece_of p) (kept_in s) f, (arrived r y).ended, comes q r x y s.slices (piece_of p) (kept_in s) f laws closed closed_is)
+    (old_rows q r x y s.slices (piece_of p) (kept_in s) f, new_rows q r x y s.slices (piece_of p) (kept_in s) f, (first_arrivals r y).ended, comes q r x y s.slices (piece_of p) (kept_in s) f laws closed closed_is)
 
 -- what comes of it
 pub record Took (q : Tree) (r : Input) (x y : ℕ) (new : WalkStore) (text : List ℕ) : Type 0 where
-  pub adds : text ≡ added q r x y
-  pub stays : kept_in new ≡ kept_behind q (arrived r y)
-  pub taken : HasWalked q (arrived r y) new
+  pub adds : text ≡ added_text q r x y
+  pub stays : kept_in new ≡ kept_behind q (first_arrivals r y)
+  pub taken : HasWalked q (first_arrivals r y) new
 
 pub record WalkLaws : Type 0 where
   pub marks : MarkLaws
@@ -93,16 +93,16 @@ module _ (laws : WalkLaws) (q : Tree) (shape : q.shape ≡ Group) (change : Chan
     -- what is kept of the window before stands before the next one over these
     stands : Stands (answers_over q no_rows (old ++ rows)) s.walk
     stands =
-        ap (λ (k : Kept). k.answers) (f.kept_is ∙ changed_kept q change e (arrived r x)) ∙ sym (laws.stay q f.windows r x y f.fits.ordered f.rises)
+        ap (λ (k : Kept). k.answers) (f.kept_is ∙ changed_kept q change e (first_arrivals r x)) ∙ sym (laws.stay q f.windows r x y f.fits.ordered f.rises)
         ∙ (λ j. before_window (sym at_is j) (sym f.taken_is.next_is j))
 
     walked : WalkedOn change q no_rows (old ++ rows) (length (old ++ rows)) new.slices.windows.slices.entries closed new.slices.windows.next s.walk new.walk before after
-    walked = went old rows (arrived r y).ended (comes q r x y s.slices (piece_of p) (kept_in s) follows laws.marks closed closed_is) stands
+    walked = went old rows (first_arrivals r y).ended (comes q r x y s.slices (piece_of p) (kept_in s) follows laws.marks closed closed_is) stands
 
-    taken_is : TakenIn q (arrived r y) new.slices
+    taken_is : TakenIn q (first_arrivals r y) new.slices
     taken_is = taken_after q r x y s.slices (piece_of p) (kept_in s) follows laws.marks closed closed_is new.slices begun walked.done_is walked.holds
 
-    last_is : new.walk.last ≡ last_answers q (arrived r y)
+    last_is : new.walk.last ≡ last_answers q (first_arrivals r y)
     unfolding last_answers
     last_is = walked.walks.stands ∙ (λ j. before_window (at_is j) ((walked.next_is ∙ end_is) j))
 
@@ -114,7 +114,7 @@ module _ (laws : WalkLaws) (q : Tree) (shape : q.shape ≡ Group) (change : Chan
     took_here : Took q r x y new after
     took_here = record {
       adds = text_is ∙ sym (changed_added q change e r x y);
-      stays = (λ j. record { parts = held_is q shape (arrived r y) new.slices taken_is j; lists = empty; answers = last_is j }) ∙ sym (changed_kept q change e (arrived r y));
+      stays = (λ j. record { parts = held_is q shape (first_arrivals r y) new.slices taken_is j; lists = empty; answers = last_is j }) ∙ sym (changed_kept q change e (first_arrivals r y));
       taken = record { taken = taken_is; next_is = walked.next_is ∙ end_is };
     }
 

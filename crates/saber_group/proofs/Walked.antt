@@ -5,7 +5,7 @@ use Rattle.saber_plan.specs.declared.windows.Mark.{Mark}
 use Rattle.saber_plan.specs.Trees.{Tree}
 use Rattle.saber_plan.specs.Answers.{Answers, key_cmp}
 use Rattle.saber_plan.specs.Facts.Maps.{entries-empty}
-use Rattle.saber_plan.specs.Parts.{Part, Numbers, no_part, answered, part_answers}
+use Rattle.saber_plan.specs.Parts.{Part, Numbers, no_part, group_answer, part_answers}
 use Rattle.saber_plan.specs.Facts.Numbers.{flat_nil}
 use Rattle.saber_changes.specs.declared.cancel.Change.{Change}
 use Rattle.saber_changes.specs.declared.walk.Walk.{Walk}
@@ -17,7 +17,7 @@ use Rattle.saber_group.specs.ChangeStores.{answers_over}
 no_answers : (q : Tree) (p : Part) → p ≡ no_part → part_answers q p ≡ []
 no_answers q p e =
     ap (part_answers q) e
-    ∙ ap (λ (es : List (List ℤ × Numbers)). map (λ (e : List ℤ × List ℤ). e.1) (map (answered q.shape q.items) es)) (entries-empty key_cmp)
+    ∙ ap (λ (es : List (List ℤ × Numbers)). map (λ (e : List ℤ × List ℤ). e.1) (map (group_answer q.shape q.items) es)) (entries-empty key_cmp)
 
 module _ (change : Change) (q : Tree) (m : Mark) (all : List Row) where
   abbrev at : ℕ → Answers

@@ -6,14 +6,14 @@ use Rattle.saber_plan.specs.declared.windows.Mark.{Mark}
 use Rattle.saber_plan.specs.Trees.{Tree}
 use Rattle.saber_plan.specs.Values.{passes}
 use Rattle.saber_plan.specs.Windows.{mark_after, placed_after, has, closed_count, begun_count, from}
-use Rattle.saber_plan.specs.Answers.{frame, passing}
+use Rattle.saber_plan.specs.Answers.{frame, passing_values}
 use Rattle.saber_plan.specs.Parts.{Part, no_part, group_part, merge, part_lines}
 use Rattle.saber_partial.specs.PartLaws.{OfRows}
-use Rattle.saber_sliding.specs.Entries.{Entries, part_at, pushed}
+use Rattle.saber_sliding.specs.Entries.{Entries, part_at, pushed_entries}
 
 -- the part of window i over some rows
 abbrev pub part_of : Tree → ℕ → Mark → List Row → Part
-part_of q i m rows = group_part q (passing q (filter (has (frame q) i) (placed_after m rows)))
+part_of q i m rows = group_part q (passing_values q (filter (has (frame q) i) (placed_after m rows)))
 
 -- the lines of the windows from a up to b
 abbrev pub lines_between : Tree → Mark → List Row → ℕ → ℕ → List ℕ
@@ -46,7 +46,7 @@ with_row q is_wanted p row = if is_wanted && passes q.predicate row.values [] th
 
 -- a part has come behind others, unless it is empty
 abbrev pub Entered : Entries → ℕ → Part → Entries → Type 0
-Entered es n p fs = ((p ≡ no_part) × (fs ≡ es)) ⊎ (fs ≡ pushed es n p)
+Entered es n p fs = ((p ≡ no_part) × (fs ≡ es)) ⊎ (fs ≡ pushed_entries es n p)
 
 -- or unless no window from `low` on has its rows
 abbrev pub EnteredFrom : ℕ → Entries → ℕ → Part → Entries → Type 0

@@ -3,9 +3,9 @@ use Rattle.std.specs.Prelude.{◌≡◌, ℕ, ◌+◌, ◌*◌, ◌≤◌, ◌<�
 use Rattle.std.specs.List.{AllByRecursion}
 use Rattle.saber_plan.specs.declared.rows.Row.{Row}
 use Rattle.saber_plan.specs.declared.windows.Mark.{Mark}
-use Rattle.saber_plan.specs.Inputs.{Input, arrived}
+use Rattle.saber_plan.specs.Inputs.{Input, first_arrivals}
 use Rattle.saber_plan.specs.Trees.{Tree}
-use Rattle.saber_plan.specs.Windows.{no_rows, mark_of, mark_after, mark_at, ending, closed_count}
+use Rattle.saber_plan.specs.Windows.{no_rows, mark_of, mark_after, mark_at, end_mark, closed_count}
 use Rattle.saber_plan.specs.Answers.{frame}
 use Rattle.saber_plan.specs.GivenRows.{RowsFit}
 use Rattle.saber_fragment.specs.declared.blocks.Earlier.{Earlier}
@@ -34,7 +34,7 @@ pub record IsComplete (q : Tree) (old rows : List Row) (ended : Bool) (slices : 
   pub text_is : c.text.items ≡ lines_between q no_rows (old ++ rows) c.low c.open.next
   pub open_is : Holds q no_rows (old ++ rows) c.open.next c.open.slices.entries
   pub closed_is : closed_by q no_rows old ≤ c.low
-  pub high_is : c.open.next ≡ closed_count (frame q) (ending ended (mark_after (mark_of old) rows))
+  pub high_is : c.open.next ≡ closed_count (frame q) (end_mark ended (mark_after (mark_of old) rows))
   pub order : c.low ≤ c.open.next
 
 -- all slices of the rows, or what the task answers itself and the slices of the windows before
@@ -55,10 +55,10 @@ TaskSteps earlier slices (Some c) before after = after + c.open.slices.owed + c.
 -- the piece is made of a task's own block
 pub record IsMade (q : Tree) (s : Sight) (p : SlicePiece) : Type 0 where
   pub gives : Gives q s.earlier s.before s.rows s.ended p.slices.items p.complete
-  pub after_is : p.after ≡ ending s.ended (mark_after s.before s.rows)
+  pub after_is : p.after ≡ end_mark s.ended (mark_after s.before s.rows)
 
 -- the piece is that of the arrivals from position x up to position y, before which the input did not end
 pub record IsOf (q : Tree) (r : Input) (x y : ℕ) (p : SlicePiece) : Type 0 where
-  pub opens : (arrived r x).ended ≡ false
-  pub given : Given q (take x r.rows) (slice_range r.rows x y) (arrived r y).ended p.slices.items p.complete
+  pub opens : (first_arrivals r x).ended ≡ false
+  pub given : Given q (take x r.rows) (slice_range r.rows x y) (first_arrivals r y).ended p.slices.items p.complete
   pub after_is : p.after ≡ mark_at r y

@@ -8,9 +8,9 @@ use Rattle.saber_plan.specs.declared.windows.Mark.{Mark}
 use Rattle.saber_plan.specs.Trees.{Tree}
 use Rattle.saber_plan.specs.Inputs.{Input}
 use Rattle.saber_plan.specs.Answers.{frame}
-use Rattle.saber_plan.specs.Windows.{no_rows, mark_of, mark_after, ending, last_mark, closed_count, begun_count}
+use Rattle.saber_plan.specs.Windows.{no_rows, mark_of, mark_after, end_mark, last_mark, closed_count, begun_count}
 use Rattle.saber_plan.specs.GivenRows.{RowsFit}
-use Rattle.saber_plan.specs.Tasks.{Parts, full, numbered}
+use Rattle.saber_plan.specs.Tasks.{Parts, full, numbered_list}
 use Rattle.saber_sliding.specs.Entries.{Entries, part_at}
 use Rattle.saber_group.specs.declared.complete.Complete.{Complete}
 use Rattle.saber_group.specs.declared.open.Open.{Open}
@@ -21,7 +21,7 @@ use Rattle.saber_group.specs.SlicePieces.{Given}
 
 -- the parts of the windows that are begun and not closed
 abbrev pub held_in : SliceStore → Parts
-held_in s = from_entries {R = nat_cmp} (numbered s.windows.next (s.begun - s.windows.next) (λ i. full (part_at s.windows.slices.entries i)))
+held_in s = from_entries {R = nat_cmp} (numbered_list s.windows.next (s.begun - s.windows.next) (λ i. full (part_at s.windows.slices.entries i)))
 
 -- the store has taken in the pieces of this input, and no other
 pub record TakenIn (q : Tree) (r : Input) (s : SliceStore) : Type 0 where
@@ -70,7 +70,7 @@ pub record Comes (q : Tree) (old rows : List Row) (ended : Bool) (next : ℕ) (e
   pub low : next ≤ closed
   pub passed : next ≤ closed_by q no_rows old
   pub given : Given q old rows ended slices complete
-  pub closed_is : closed ≡ closed_count (frame q) (ending ended (mark_after (mark_of old) rows))
+  pub closed_is : closed ≡ closed_count (frame q) (end_mark ended (mark_after (mark_of old) rows))
   pub reaches : closed_by q no_rows (old ++ rows) ≤ closed
   pub fits : RowsFit q no_rows (old ++ rows)
 

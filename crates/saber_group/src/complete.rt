@@ -2,7 +2,7 @@
 // block has.
 ghost use Rattle.std.specs.Prelude.{◌≡◌, [], ◌+◌, ◌*◌, ◌≤◌, ◌++◌, Some, length, take, true, IfOk, IfSome, OnOk};
 ghost use Rattle.std.specs.List.{AllByRecursion, slice_get};
-ghost use Rattle.saber_plan.specs.Windows.{mark_after, ending, closed_count};
+ghost use Rattle.saber_plan.specs.Windows.{mark_after, end_mark, closed_count};
 ghost use Rattle.saber_plan.specs.Answers.{frame};
 ghost use Rattle.saber_plan.specs.Trees.{tree_of};
 ghost use Rattle.saber_plan.specs.GivenRows.{RowsFit};
@@ -158,7 +158,7 @@ impl Group<'_> {
         requires meets { batch.now.before ≡ mark_after earlier.now.before earlier.now.rows }
         requires fits { RowsFit (tree_of self.now) earlier.now.before (earlier.now.rows ++ batch.now.rows.now) }
         requires slices { SlicesFrom (tree_of self.now) batch.now.before batch.now.rows.now 0 slices.items }
-        requires high { high ≡ closed_count (frame (tree_of self.now)) (ending batch.now.ended (mark_after batch.now.before batch.now.rows.now)) }
+        requires high { high ≡ closed_count (frame (tree_of self.now)) (end_mark batch.now.ended (mark_after batch.now.before batch.now.rows.now)) }
         ensures gives { IfOk result (λ r. Gives (tree_of self.now) earlier.now batch.now.before batch.now.rows.now batch.now.ended r.0.items r.1) }
         ensures few { IfOk result (λ r. IfSome r.1 (λ c. 2 * length r.0.items ≤ length slices.items)) }
         ensures steps { IfOk result (λ r. TaskSteps (length earlier.now.rows) (length slices.items) r.1 steps.old steps.new) }

@@ -1,7 +1,7 @@
 // What a task gives: its slices.
 ghost use Rattle.std.specs.Prelude.{◌≡◌, ◌<◌, ◌≤◌, ◌++◌, ◌∷◌, [], length, IfOk, OnOk};
 ghost use Rattle.saber_plan.specs.Trees.{tree_of};
-ghost use Rattle.saber_plan.specs.Windows.{mark_after, ending};
+ghost use Rattle.saber_plan.specs.Windows.{mark_after, end_mark};
 ghost use Rattle.saber_plan.specs.GivenRows.{RowsFit};
 ghost use Rattle.saber_group.specs.SlicePieces.{Gives, SlicesFrom, TaskSteps};
 
@@ -13,7 +13,7 @@ use crate::slices::Slice;
 use saber_fragment::Earlier;
 use saber_partial::{Gathering, Steps};
 use saber_plan::{Mark, NoMemory};
-use saber_window::ending;
+use saber_window::end_mark;
 use std::alloc::Global;
 use std::sync::ledger::{Blank, Ledger};
 
@@ -115,11 +115,11 @@ impl Group<'_> {
         requires meets { batch.now.before ≡ mark_after earlier.now.before earlier.now.rows }
         requires all_fit { RowsFit (tree_of self.now) earlier.now.before (earlier.now.rows ++ batch.now.rows.now) }
         ensures gives { IfOk result (λ p. Gives (tree_of self.now) earlier.now batch.now.before batch.now.rows.now batch.now.ended p.slices.items p.complete) }
-        ensures after { IfOk result (λ p. p.after ≡ ending batch.now.ended (mark_after batch.now.before batch.now.rows.now)) }
+        ensures after { IfOk result (λ p. p.after ≡ end_mark batch.now.ended (mark_after batch.now.before batch.now.rows.now)) }
         ensures steps { IfOk result (λ p. TaskSteps (length earlier.now.rows) (length batch.now.rows.now) p.complete steps.old steps.new) }
     {
         let (slices, mark) = self.slices_of(alloc, batch)?;
-        let after = ending(batch.ended, &mark);
+        let after = end_mark(batch.ended, &mark);
         let high = self.closed_below(&after);
         let none = Earlier::none(alloc, batch.before);
         let (slices, complete) = if self.looks_back(earlier, &batch.before, &slices, high) {
@@ -149,7 +149,7 @@ impl Group<'_> {
         requires parts { blank.parts ≡ L.parts }
         requires some { 0 < blank.parts }
         ensures gives { IfOk result (λ p. Gives (tree_of self.now) earlier.now batch.now.before batch.now.rows.now batch.now.ended p.slices.items p.complete) }
-        ensures after { IfOk result (λ p. p.after ≡ ending batch.now.ended (mark_after batch.now.before batch.now.rows.now)) }
+        ensures after { IfOk result (λ p. p.after ≡ end_mark batch.now.ended (mark_after batch.now.before batch.now.rows.now)) }
     {
         let mut steps = Steps::<L>::new(blank);
         self.piece_of(alloc, earlier, batch, &mut steps)

@@ -21,7 +21,7 @@ use std::alloc::Global;
 use std::process::Abort;
 use std::test::Fail;
 
-// Rows of a task, slots of the ring, threads, and + where the end of the input is a block too; the
+// Rows of a task, cells of the ring, threads, and + where the end of the input is a block too; the
 // file, or both with bars between. Then what is seen: the first task that each block needs; the
 // times of the rows; what stands before each block, of the left and of the right stream; the times
 // of the rows before that it has; whether the last has the input's end; and how blocks end.

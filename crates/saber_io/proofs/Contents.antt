@@ -3,7 +3,7 @@ use Rattle.std.proofs.Common.{◌≡◌, ℕ, List, Option, Some, None, map, fin
 use Rattle.std.specs.Str.{bytes_eq}
 use Rattle.saber_io.specs.declared.files.MemFile.{MemFile}
 use Rattle.saber_io.specs.Outside.{content_in, OpensIn}
-use Rattle.saber_io.specs.Memory.{FileState, SourceState, file_named, opened, content_of}
+use Rattle.saber_io.specs.Memory.{FileState, SourceState, file_named, opened_file, content_of}
 use Rattle.saber_io.specs.Files.{file_of}
 use Rattle.saber_io.proofs.Finds.{find-map}
 
@@ -17,12 +17,12 @@ pub content_in-map : (files : List FileState) (name : List ℕ) → content_in (
 content_in-map files name = rw (find-map (λ e. bytes_eq e.0 name) content_of files) (bytes_of-content (file_named files name))
 
 -- a source that was opened over a file has left what the file has
-left-opened : (o : Option FileState) (source : SourceState) → option_map opened o ≡ Some source → (bytes : List ℕ) × (option_map (λ f. f.bytes) o ≡ Some bytes) × (Some source.left ≡ Some bytes)
+left-opened : (o : Option FileState) (source : SourceState) → option_map opened_file o ≡ Some source → (bytes : List ℕ) × (option_map (λ f. f.bytes) o ≡ Some bytes) × (Some source.left ≡ Some bytes)
 left-opened None source e = (source.left, ap (option_map (λ s. s.left)) e, refl)
 left-opened (Some f) source e = (f.bytes, refl, sym (ap (option_map (λ s. s.left)) e))
 
 -- a source over the first file of a name has left what is there under this name
-pub opens-first : (files : List FileState) (name : List ℕ) (source : SourceState) → option_map opened (file_named files name) ≡ Some source → OpensIn (map content_of files) name (Some source.left)
+pub opens-first : (files : List FileState) (name : List ℕ) (source : SourceState) → option_map opened_file (file_named files name) ≡ Some source → OpensIn (map content_of files) name (Some source.left)
 opens-first files name source e =
     let found = left-opened (file_named files name) source e in
     (found.0, content_in-map files name ∙ found.1, found.2)

@@ -3,7 +3,7 @@ use Rattle.std.specs.Prelude.{◌≡◌, ℕ, ◌-◌, min, List, [], ◌∷◌,
 use Rattle.std.specs.List.{find}
 use Rattle.std.specs.Str.{bytes_eq}
 use Rattle.saber_io.specs.Outside.{Closed, FilesView}
-use Rattle.saber_plan.specs.Outputs.{counted}
+use Rattle.saber_plan.specs.Outputs.{raised_count}
 
 -- a source: its bytes left, the most that each read gives by its number, the numbers of the reads that fail, how many reads were made, how many failed
 pub record SourceState : Type 0 where
@@ -19,7 +19,7 @@ within_cut cuts number size = min (unwrap_or (slice_get cuts (number - 1)) size)
 
 -- how many bytes the next read gives into a buffer of this size, if it doesn't fail
 abbrev pub read_size : SourceState → ℕ → ℕ
-read_size source size = within_cut source.cuts (counted source.reads) (min (length source.left) size)
+read_size source size = within_cut source.cuts (raised_count source.reads) (min (length source.left) size)
 
 -- a sink: its bytes, the numbers of the writes that fail with the bytes that each still lets out, how many writes were made, how many failed
 pub record SinkState : Type 0 where
@@ -34,10 +34,10 @@ let_out fails number = option_map (λ f. f.1) (find (λ f. f.0 == number) fails)
 
 -- a sink whose next write failed: the write is counted, and of this piece only what its fault lets out is written
 abbrev pub CutsShort : SinkState → SinkState → List ℕ → Type 0
-CutsShort old new piece = IsSomeAnd (let_out old.fails (counted old.writes)) (λ out. new ≡ record old {
+CutsShort old new piece = IsSomeAnd (let_out old.fails (raised_count old.writes)) (λ out. new ≡ record old {
   written = old.written ++ take out piece;
-  writes = counted old.writes;
-  faults = counted old.faults;
+  writes = raised_count old.writes;
+  faults = raised_count old.faults;
 })
 
 -- a file: its name and bytes, and the cuts and fails of the source that it gives
@@ -63,14 +63,14 @@ file_named files name = find (λ f. bytes_eq f.name name) files
 -- files whose next open failed: the open is counted, and this name was asked for
 abbrev pub failed_open : FilesState → List ℕ → FilesState
 failed_open files name = record files {
-  opens = counted files.opens;
-  faults = counted files.faults;
+  opens = raised_count files.opens;
+  faults = raised_count files.faults;
   asked = files.asked ++ name ∷ [];
 }
 
 -- a file's source before its first read
-abbrev pub opened : FileState → SourceState
-opened file = record { left = file.bytes; cuts = file.cuts; fails = file.fails; reads = 0; faults = 0 }
+abbrev pub opened_file : FileState → SourceState
+opened_file file = record { left = file.bytes; cuts = file.cuts; fails = file.fails; reads = 0; faults = 0 }
 
 -- a file as the outside tells of it
 abbrev pub content_of : FileState → List ℕ × List ℕ

@@ -2,12 +2,12 @@
 use Rattle.std.specs.Prelude.{◌≡◌, ℕ, List, [], ◌∷◌, ◌++◌, map, filter, Option, option_map, IfSome, string_bytes}
 use Rattle.std.specs.Str.{bytes_eq}
 use Rattle.saber_io.specs.declared.mem_outs.MemFail.{MemFail}
-use Rattle.saber_plan.specs.Outputs.{counted}
+use Rattle.saber_plan.specs.Outputs.{raised_count}
 use Rattle.saber_io.specs.Memory.{SinkState}
 
 -- one name more was asked for
-abbrev pub naming : Option (List (List ℕ)) → List ℕ → Option (List (List ℕ))
-naming asked name = option_map (λ names. names ++ name ∷ []) asked
+abbrev pub after_naming : Option (List (List ℕ)) → List ℕ → Option (List (List ℕ))
+after_naming asked name = option_map (λ names. names ++ name ∷ []) asked
 
 -- nothing is written, where it tells
 abbrev pub HoldsNothing : Option (List ℕ) → Type 0
@@ -27,13 +27,13 @@ abbrev pub fails_of : List MemFail → List ℕ → List (ℕ × ℕ)
 fails_of writes name = map (λ f. (f.write, f.out)) (filter (λ f. bytes_eq (string_bytes f.name) name) writes)
 
 -- such a file, before its first write
-abbrev pub created : OutsState → List ℕ → SinkState
-created outs name = record { written = []; fails = fails_of outs.writes name; writes = 0; faults = 0 }
+abbrev pub created_file : OutsState → List ℕ → SinkState
+created_file outs name = record { written = []; fails = fails_of outs.writes name; writes = 0; faults = 0 }
 
 -- files of which one more was asked for
 abbrev pub one_asked : OutsState → List ℕ → OutsState
-one_asked outs name = record outs { creates = counted outs.creates; asked = outs.asked ++ name ∷ [] }
+one_asked outs name = record outs { creates = raised_count outs.creates; asked = outs.asked ++ name ∷ [] }
 
 -- and it couldn't be created
 abbrev pub one_failed : OutsState → List ℕ → OutsState
-one_failed outs name = record (one_asked outs name) { faults = counted outs.faults }
+one_failed outs name = record (one_asked outs name) { faults = raised_count outs.faults }

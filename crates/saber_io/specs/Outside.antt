@@ -2,11 +2,11 @@
 use Rattle.std.specs.Prelude.{◌≡◌, ℕ, List, [], ◌∷◌, ◌++◌, Option, Some, option_map, IfSome, if◌then◌else◌, ◌==◌}
 use Rattle.std.specs.List.{find}
 use Rattle.std.specs.Str.{bytes_eq}
-use Rattle.saber_plan.specs.Outputs.{counted}
+use Rattle.saber_plan.specs.Outputs.{raised_count}
 
 -- what was left: these bytes, and then what is left now
-abbrev pub given : List ℕ → Option (List ℕ) → Option (List ℕ)
-given bytes rest = option_map (λ r. bytes ++ r) rest
+abbrev pub left_before : List ℕ → Option (List ℕ) → Option (List ℕ)
+left_before bytes rest = option_map (λ r. bytes ++ r) rest
 
 -- nothing was left, where it tells
 abbrev pub EndsEmpty : Option (List ℕ) → Type 0
@@ -27,16 +27,16 @@ abbrev pub content_in : List (List ℕ × List ℕ) → List ℕ → Option (Lis
 content_in contents name = option_map (λ e. e.1) (find (λ e. bytes_eq e.0 name) contents)
 
 -- a name was asked for
-abbrev pub asking : Option FilesView → List ℕ → Option FilesView
-asking told name = option_map (λ t. record { contents = t.contents; asked = t.asked ++ name ∷ []; closed = t.closed }) told
+abbrev pub after_asking : Option FilesView → List ℕ → Option FilesView
+after_asking told name = option_map (λ t. record { contents = t.contents; asked = t.asked ++ name ∷ []; closed = t.closed }) told
 
 -- a source with so much left and so many faults was given back
-abbrev pub closing : Option FilesView → Option (List ℕ) → ℕ → Option FilesView
-closing told left faults = option_map (λ t. record { contents = t.contents; asked = t.asked; closed = t.closed ++ (left, faults) ∷ [] }) told
+abbrev pub after_closing : Option FilesView → Option (List ℕ) → ℕ → Option FilesView
+after_closing told left faults = option_map (λ t. record { contents = t.contents; asked = t.asked; closed = t.closed ++ (left, faults) ∷ [] }) told
 
 -- the count after a source with these faults was given back
-abbrev pub raised : ℕ → ℕ → ℕ
-raised count faults = if faults == 0 then count else counted count
+abbrev pub raised_faults : ℕ → ℕ → ℕ
+raised_faults count faults = if faults == 0 then count else raised_count count
 
 -- a source that was opened has left what is there under the name
 abbrev pub OpensIn : List (List ℕ × List ℕ) → List ℕ → Option (List ℕ) → Type 0

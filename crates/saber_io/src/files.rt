@@ -2,9 +2,9 @@
 // back was made when it was opened.
 ghost use Rattle.std.specs.Prelude.{◌≡◌, ◌≤◌, ◌+◌, ◌++◌, ◌∷◌, ◌<◌, ◌↔◌, ◌⊎◌, [], All, Some, None, Contains, IsErr, IfOk, IfSome, IfNone, OnOk, OnErr, OnSome, drop, take, length, find, map, option_copied, option_map, string_bytes};
 ghost use Rattle.std.specs.Str.{bytes_eq};
-ghost use Rattle.saber_io.specs.Outside.{raised, OpensIn};
-ghost use Rattle.saber_plan.specs.Outputs.{counted};
-ghost use Rattle.saber_io.specs.Memory.{read_size, file_named, opened, failed_open};
+ghost use Rattle.saber_io.specs.Outside.{raised_faults, OpensIn};
+ghost use Rattle.saber_plan.specs.Outputs.{raised_count};
+ghost use Rattle.saber_io.specs.Memory.{read_size, file_named, opened_file, failed_open};
 
 use crate::memory::is_listed;
 use crate::{Failed, Files, MemSource, OpenFault, Source};
@@ -38,7 +38,7 @@ impl MemFile {
 
     // A source over a copy of the file.
     fn source(&self, alloc: Global) -> Result<MemSource, AllocError>
-        ensures { IfOk result (λ s. s ≡ opened (file_of self.now)) }
+        ensures { IfOk result (λ s. s ≡ opened_file (file_of self.now)) }
     {
         let bytes = self.bytes.to_vec(alloc)?;
         let cuts = self.cuts.to_vec(alloc)?;
@@ -53,7 +53,7 @@ impl MemFile {
         name: &str,
     ) -> Result<Option<MemOpened>, AllocError>
         ensures { IfOk result (λ o.
-            option_map opened (file_named (map file_of files.now) name.now) ≡ o) }
+            option_map opened_file (file_named (map file_of files.now) name.now) ≡ o) }
     {
         match MemFile::named(files, name) {
             None => Ok(None),
@@ -110,15 +110,15 @@ impl Source for MemOpened {
 
     fn read(&mut self, buf: &mut [u8]) -> Result<usize, Failed>
         requires { 0 < length buf.old }
-        ensures fails { IsErr result ↔ Contains self.old.fails (counted self.old.reads) }
+        ensures fails { IsErr result ↔ Contains self.old.fails (raised_count self.old.reads) }
         ensures size { IfOk result (λ n. n ≡ read_size self.old (length buf.old)) }
         ensures bytes { IfOk result (λ n. self.old.left ≡ take n buf.new ++ self.new.left) }
         ensures behind { IfOk result (λ n. drop n buf.new ≡ drop n buf.old) }
         ensures end { result ≡ Ok 0 → self.old.left ≡ [] }
         ensures ok { OnOk result (self.new ≡
-            record self.old { left = self.new.left; reads = counted self.old.reads }) }
+            record self.old { left = self.new.left; reads = raised_count self.old.reads }) }
         ensures err { OnErr result (self.new ≡
-            record self.old { reads = counted self.old.reads; faults = counted self.old.faults }) }
+            record self.old { reads = raised_count self.old.reads; faults = raised_count self.old.faults }) }
         ensures untouched { OnErr result (buf.new ≡ buf.old) }
         ensures count { self.old.faults ≤ self.new.faults }
     {
@@ -194,7 +194,7 @@ impl MemFiles {
             Contains fails.now number ⊎ (file_named (map file_of files.now) name.now ≡ None))) }
         ensures unlisted { IfOk result (λ o. OnSome o (¬ Contains fails.now number)) }
         ensures opened { IfOk result (λ o. IfSome o (λ s.
-            option_map opened (file_named (map file_of files.now) name.now) ≡ Some s)) }
+            option_map opened_file (file_named (map file_of files.now) name.now) ≡ Some s)) }
     {
         if is_listed(fails, number) {
             return Ok(None);
@@ -214,13 +214,13 @@ impl Files for MemFiles {
 
     fn open_file(&mut self, alloc: Global, name: &str) -> Result<MemOpened, OpenFault>
         ensures cause { result ≡ Err OpenFault.Failed →
-            Contains self.old.fails (counted self.old.opens)
+            Contains self.old.fails (raised_count self.old.opens)
             ⊎ (file_named self.old.files name.now ≡ None) }
-        ensures unlisted { OnOk result (¬ Contains self.old.fails (counted self.old.opens)) }
+        ensures unlisted { OnOk result (¬ Contains self.old.fails (raised_count self.old.opens)) }
         ensures opened { IfOk result (λ src.
-            option_map opened (file_named self.old.files name.now) ≡ Some src) }
+            option_map opened_file (file_named self.old.files name.now) ≡ Some src) }
         ensures ok { OnOk result (self.new ≡ record self.old {
-          opens = counted self.old.opens;
+          opens = raised_count self.old.opens;
           asked = self.old.asked ++ name.now ∷ [];
         }) }
         ensures failed { result ≡ Err OpenFault.Failed → self.new ≡ failed_open self.old name.now }
@@ -245,7 +245,7 @@ impl Files for MemFiles {
 
     fn close_file(&mut self, src: MemOpened)
         ensures { self.new ≡ record self.old {
-          faults = raised self.old.faults src.faults;
+          faults = raised_faults self.old.faults src.faults;
           closed = self.old.closed ++ src ∷ [];
         } }
     {

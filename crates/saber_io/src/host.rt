@@ -1,8 +1,8 @@
 // The real outside. Nothing is told of its bytes; each fault that it reports is counted.
 ghost use Rattle.std.specs.Prelude.{◌≡◌, ◌≢◌, ◌<◌, ◌≤◌, IfOk, OnOk, OnErr, length};
 ghost use Rattle.std.specs.Io.KnownBytes.{Appends};
-ghost use Rattle.saber_io.specs.Outside.{raised};
-ghost use Rattle.saber_plan.specs.Outputs.{counted};
+ghost use Rattle.saber_io.specs.Outside.{raised_faults};
+ghost use Rattle.saber_plan.specs.Outputs.{raised_count};
 
 use crate::{CreateFault, Failed, Files, OpenFault, Outs, Sink, Source, WriteFault};
 use std::alloc::Global;
@@ -38,7 +38,7 @@ impl Source for FileSource {
         requires { 0 < length buf.old }
         ensures within { IfOk result (λ n. n ≤ length buf.old) }
         ensures ok { OnOk result (self.new ≡ self.old) }
-        ensures err { OnErr result (self.new ≡ counted self.old) }
+        ensures err { OnErr result (self.new ≡ raised_count self.old) }
         ensures count { self.old ≤ self.new }
     {
         match self.file.read(buf) {
@@ -88,7 +88,7 @@ impl Files for HostFiles {
     fn open_file(&mut self, _alloc: Global, name: &str) -> Result<FileSource, OpenFault>
         ensures fresh { IfOk result (λ src. src ≡ 0) }
         ensures ok { OnOk result (self.new ≡ self.old) }
-        ensures err { OnErr result (self.new ≡ counted self.old) }
+        ensures err { OnErr result (self.new ≡ raised_count self.old) }
         ensures memory { result ≢ Err OpenFault.NoMemory }
         ensures count { self.old ≤ self.new }
     {
@@ -102,7 +102,7 @@ impl Files for HostFiles {
     }
 
     fn close_file(&mut self, src: FileSource)
-        ensures { self.new ≡ raised self.old src }
+        ensures { self.new ≡ raised_faults self.old src }
     {
         if src.faults > 0 {
             self.faults = self.faults.saturating_add(1);
@@ -155,9 +155,9 @@ impl<W: Write + Drop> Sink for StdSink<W> {
         ensures whole { OnOk result (
             Appends (W.contents self.old.writer) (W.contents self.new.writer) piece.now) }
         ensures ok { OnOk result (self.new.faults ≡ self.old.faults) }
-        ensures err { OnErr result (self.new.faults ≡ counted self.old.faults) }
+        ensures err { OnErr result (self.new.faults ≡ raised_count self.old.faults) }
         ensures memory { result ≢ Err WriteFault.NoMemory }
-        ensures one { self.new.writes ≡ counted self.old.writes }
+        ensures one { self.new.writes ≡ raised_count self.old.writes }
         ensures count { self.old.faults ≤ self.new.faults }
     {
         self.writes = self.writes.saturating_add(1);
@@ -194,9 +194,9 @@ impl Sink for FileSink {
 
     fn write_all(&mut self, piece: &[u8]) -> Result<(), WriteFault>
         ensures ok { OnOk result (self.new.faults ≡ self.old.faults) }
-        ensures err { OnErr result (self.new.faults ≡ counted self.old.faults) }
+        ensures err { OnErr result (self.new.faults ≡ raised_count self.old.faults) }
         ensures memory { result ≢ Err WriteFault.NoMemory }
-        ensures one { self.new.writes ≡ counted self.old.writes }
+        ensures one { self.new.writes ≡ raised_count self.old.writes }
         ensures count { self.old.faults ≤ self.new.faults }
     {
         self.sink.write_all(piece)
@@ -247,9 +247,9 @@ impl Outs for HostOuts {
     fn create_file(&mut self, _alloc: Global, name: &str) -> Result<FileSink, CreateFault>
         ensures fresh { IfOk result (λ out. out ≡ record { faults = 0; writes = 0 }) }
         ensures ok { OnOk result (self.new.faults ≡ self.old.faults) }
-        ensures err { OnErr result (self.new.faults ≡ counted self.old.faults) }
+        ensures err { OnErr result (self.new.faults ≡ raised_count self.old.faults) }
         ensures memory { result ≢ Err CreateFault.NoMemory }
-        ensures one { self.new.creates ≡ counted self.old.creates }
+        ensures one { self.new.creates ≡ raised_count self.old.creates }
         ensures count { self.old.faults ≤ self.new.faults }
     {
         self.creates = self.creates.saturating_add(1);

@@ -1,8 +1,8 @@
 // Files that are created in memory.
 ghost use Rattle.std.specs.Prelude.{◌≡◌, ◌≢◌, ◌≤◌, [], Contains, IfOk, OnOk};
 ghost use Rattle.saber_io.specs.declared.outs.CreateFault.{CreateFault};
-ghost use Rattle.saber_plan.specs.Outputs.{counted};
-ghost use Rattle.saber_io.specs.Outs.{fails_of, created, one_asked, one_failed};
+ghost use Rattle.saber_plan.specs.Outputs.{raised_count};
+ghost use Rattle.saber_io.specs.Outs.{fails_of, created_file, one_asked, one_failed};
 
 use crate::memory::is_listed;
 use crate::{CreateFault, MemSink, Outs};
@@ -100,9 +100,9 @@ impl Outs for MemOuts {
     ghost faults = { λ o. o.faults };
 
     fn create_file(&mut self, alloc: Global, name: &str) -> Result<MemSink, CreateFault>
-        ensures listed { result ≡ Err CreateFault.Failed → Contains self.old.fails (counted self.old.creates) }
-        ensures unlisted { OnOk result (¬ Contains self.old.fails (counted self.old.creates)) }
-        ensures created { IfOk result (λ out. out ≡ created self.old name.now) }
+        ensures listed { result ≡ Err CreateFault.Failed → Contains self.old.fails (raised_count self.old.creates) }
+        ensures unlisted { OnOk result (¬ Contains self.old.fails (raised_count self.old.creates)) }
+        ensures created { IfOk result (λ out. out ≡ created_file self.old name.now) }
         ensures ok { OnOk result (self.new ≡ one_asked self.old name.now) }
         ensures failed { result ≡ Err CreateFault.Failed → self.new ≡ one_failed self.old name.now }
         ensures memory { result ≡ Err CreateFault.NoMemory → self.new ≡ self.old }

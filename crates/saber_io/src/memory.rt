@@ -1,6 +1,6 @@
 // Sources and sinks in memory, which fail where they are told to.
 ghost use Rattle.std.specs.Prelude.{◌≡◌, ◌≤◌, ◌+◌, ◌++◌, ◌<◌, ◌↔◌, [], All, Contains, IsTrue, IsErr, IsNone, IsSomeAnd, IfOk, OnOk, OnErr, drop, take, length};
-ghost use Rattle.saber_plan.specs.Outputs.{counted};
+ghost use Rattle.saber_plan.specs.Outputs.{raised_count};
 ghost use Rattle.saber_io.specs.Memory.{within_cut, read_size, let_out, CutsShort};
 
 use crate::{Failed, Sink, Source, WriteFault};
@@ -76,15 +76,15 @@ impl Source for MemSource {
 
     fn read(&mut self, buf: &mut [u8]) -> Result<usize, Failed>
         requires { 0 < length buf.old }
-        ensures fails { IsErr result ↔ Contains self.old.fails (counted self.old.reads) }
+        ensures fails { IsErr result ↔ Contains self.old.fails (raised_count self.old.reads) }
         ensures size { IfOk result (λ n. n ≡ read_size self.old (length buf.old)) }
         ensures bytes { IfOk result (λ n. self.old.left ≡ take n buf.new ++ self.new.left) }
         ensures behind { IfOk result (λ n. drop n buf.new ≡ drop n buf.old) }
         ensures end { result ≡ Ok 0 → self.old.left ≡ [] }
         ensures ok { OnOk result (self.new ≡
-            record self.old { left = self.new.left; reads = counted self.old.reads }) }
+            record self.old { left = self.new.left; reads = raised_count self.old.reads }) }
         ensures err { OnErr result (self.new ≡
-            record self.old { reads = counted self.old.reads; faults = counted self.old.faults }) }
+            record self.old { reads = raised_count self.old.reads; faults = raised_count self.old.faults }) }
         ensures untouched { OnErr result (buf.new ≡ buf.old) }
         ensures count { self.old.faults ≤ self.new.faults }
     {
@@ -187,10 +187,10 @@ impl Sink for MemSink {
     ghost writes = { λ s. s.writes };
 
     fn write_all(&mut self, piece: &[u8]) -> Result<(), WriteFault>
-        ensures unlisted { OnOk result (IsNone (let_out self.old.fails (counted self.old.writes))) }
+        ensures unlisted { OnOk result (IsNone (let_out self.old.fails (raised_count self.old.writes))) }
         ensures ok { OnOk result (self.new ≡ record self.old {
           written = self.old.written ++ piece.now;
-          writes = counted self.old.writes;
+          writes = raised_count self.old.writes;
         }) }
         ensures failed { result ≡ Err WriteFault.Failed → CutsShort self.old self.new piece.now }
         ensures memory { result ≡ Err WriteFault.NoMemory → self.new ≡ self.old }

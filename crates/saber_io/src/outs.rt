@@ -1,8 +1,8 @@
 // Files that are created to be written to.
 ghost use Rattle.std.specs.Prelude.{◌≡◌, ◌≢◌, ◌≤◌, ℕ, List, Option, IfOk, Err};
 ghost use Rattle.saber_io.specs.declared.outs.CreateFault.{CreateFault};
-ghost use Rattle.saber_plan.specs.Outputs.{counted, Rose};
-ghost use Rattle.saber_io.specs.Outs.{naming, HoldsNothing};
+ghost use Rattle.saber_plan.specs.Outputs.{raised_count, Rose};
+ghost use Rattle.saber_io.specs.Outs.{after_naming, HoldsNothing};
 
 use crate::Sink;
 use std::alloc::{AllocError, AllocFailed, Global};
@@ -50,8 +50,8 @@ pub trait Outs {
         ensures empty { IfOk result (λ out. HoldsNothing (Self.Out.written out)) }
         ensures fresh { IfOk result (λ out. Self.Out.faults out ≡ 0) }
         ensures unwritten { IfOk result (λ out. Self.Out.writes out ≡ 0) }
-        ensures asked { result ≢ Err CreateFault.NoMemory → asked self.new ≡ naming (asked self.old) name.now }
-        ensures one { result ≢ Err CreateFault.NoMemory → creates self.new ≡ counted (creates self.old) }
+        ensures asked { result ≢ Err CreateFault.NoMemory → asked self.new ≡ after_naming (asked self.old) name.now }
+        ensures one { result ≢ Err CreateFault.NoMemory → creates self.new ≡ raised_count (creates self.old) }
         ensures unasked { result ≡ Err CreateFault.NoMemory → asked self.new ≡ asked self.old }
         ensures none { result ≡ Err CreateFault.NoMemory → creates self.new ≡ creates self.old }
         ensures cause { result ≡ Err CreateFault.Failed → Rose (faults self.old) (faults self.new) }

@@ -4,8 +4,8 @@
 ghost use Rattle.std.specs.Prelude.{◌≡◌, ◌≢◌, ◌<◌, ◌≤◌, ℕ, List, Option, length, take, IfOk, OnOk, OnErr, Ok, Err};
 ghost use Rattle.saber_io.specs.declared.outside.OpenFault.{OpenFault};
 ghost use Rattle.saber_io.specs.declared.outside.WriteFault.{WriteFault};
-ghost use Rattle.saber_io.specs.Outside.{given, EndsEmpty, FilesView, asking, closing, raised, Opens};
-ghost use Rattle.saber_plan.specs.Outputs.{counted, Rose, appended, AppendsPrefix};
+ghost use Rattle.saber_io.specs.Outside.{left_before, EndsEmpty, FilesView, after_asking, after_closing, raised_faults, Opens};
+ghost use Rattle.saber_plan.specs.Outputs.{raised_count, Rose, appended_text, AppendsPrefix};
 
 use std::alloc::{AllocError, AllocFailed, Global};
 
@@ -64,7 +64,7 @@ pub trait Source {
     fn read(&mut self, buf: &mut [u8]) -> Result<usize, Failed>
         requires { 0 < length buf.old }
         ensures within { IfOk result (λ n. n ≤ length buf.old) }
-        ensures bytes { IfOk result (λ n. left self.old ≡ given (take n buf.new) (left self.new)) }
+        ensures bytes { IfOk result (λ n. left self.old ≡ left_before (take n buf.new) (left self.new)) }
         ensures end { result ≡ Ok 0 → EndsEmpty (left self.old) }
         ensures good { OnOk result (faults self.new ≡ faults self.old) }
         ensures stands { OnErr result (left self.new ≡ left self.old) }
@@ -86,12 +86,12 @@ pub trait Sink {
     /// Writes the whole piece. After Failed a part of it may be out, after NoMemory nothing of it
     /// is, and there was no write.
     fn write_all(&mut self, piece: &[u8]) -> Result<(), WriteFault>
-        ensures ok { OnOk result (written self.new ≡ appended (written self.old) piece.now) }
+        ensures ok { OnOk result (written self.new ≡ appended_text (written self.old) piece.now) }
         ensures good { result ≢ Err WriteFault.Failed → faults self.new ≡ faults self.old }
         ensures failed { result ≡ Err WriteFault.Failed →
             AppendsPrefix (written self.old) (written self.new) piece.now }
         ensures memory { result ≡ Err WriteFault.NoMemory → written self.new ≡ written self.old }
-        ensures one { result ≢ Err WriteFault.NoMemory → writes self.new ≡ counted (writes self.old) }
+        ensures one { result ≢ Err WriteFault.NoMemory → writes self.new ≡ raised_count (writes self.old) }
         ensures none { result ≡ Err WriteFault.NoMemory → writes self.new ≡ writes self.old }
         ensures cause { result ≡ Err WriteFault.Failed → Rose (faults self.old) (faults self.new) }
         ensures count { faults self.old ≤ faults self.new };
@@ -115,7 +115,7 @@ pub trait Files {
         ensures fresh { IfOk result (λ src. Self.Src.faults src ≡ 0) }
         ensures good { OnOk result (faults self.new ≡ faults self.old) }
         ensures asked { result ≢ Err OpenFault.NoMemory →
-            told self.new ≡ asking (told self.old) name.now }
+            told self.new ≡ after_asking (told self.old) name.now }
         ensures memory { result ≡ Err OpenFault.NoMemory →
             (told self.new ≡ told self.old) × (faults self.new ≡ faults self.old) }
         ensures cause { result ≡ Err OpenFault.Failed → Rose (faults self.old) (faults self.new) }
@@ -124,6 +124,6 @@ pub trait Files {
     /// Takes a source back. It needs no memory.
     fn close_file(&mut self, src: Self::Src)
         ensures closed { told self.new ≡
-            closing (told self.old) (Self.Src.left src) (Self.Src.faults src) }
-        ensures count { faults self.new ≡ raised (faults self.old) (Self.Src.faults src) };
+            after_closing (told self.old) (Self.Src.left src) (Self.Src.faults src) }
+        ensures count { faults self.new ≡ raised_faults (faults self.old) (Self.Src.faults src) };
 }

@@ -8,8 +8,8 @@ use Rattle.saber_plan.specs.declared.windows.Mark.{Mark}
 use Rattle.saber_plan.specs.declared.windows.Kind.{Kind}
 use Rattle.saber_plan.specs.declared.plans.Shape.TheVariants.{Join}
 use Rattle.saber_plan.specs.Trees.{Tree}
-use Rattle.saber_plan.specs.Windows.{Fits, mark_after, ending, closed_count, begun_count, kind_of, from, has_windows}
-use Rattle.saber_plan.specs.Answers.{by_shape, frame, selected}
+use Rattle.saber_plan.specs.Windows.{Fits, mark_after, end_mark, closed_count, begun_count, kind_of, from, has_windows}
+use Rattle.saber_plan.specs.Answers.{by_shape, frame, selected_lines}
 use Rattle.saber_plan.specs.Parts.{Part, no_part, part_lines}
 use Rattle.saber_plan.specs.Tasks.{full, is_complete}
 use Rattle.saber_plan.specs.Needs.{is_closing, is_pending, is_opening, of_kind, part_here}
@@ -63,19 +63,19 @@ pub record Laws : Type 0 where
   pub span : RowsSpan
   pub none : NoRowsNoPart
 
-module _ (laws : Laws) (q : Tree) (e : q.shape ≡ Join) (w : TwoWindows q) (fits : Fits (frame q)) (s : Sight) (whole : IsWhole q s) (b : Bounds) (given : AreBounds (frame q) (mark_after s.first s.back) (ending s.ended (mark_after (mark_after s.first s.back) s.rows)) b)
+module _ (laws : Laws) (q : Tree) (e : q.shape ≡ Join) (w : TwoWindows q) (fits : Fits (frame q)) (s : Sight) (whole : IsWhole q s) (b : Bounds) (given : AreBounds (frame q) (mark_after s.first s.back) (end_mark s.ended (mark_after (mark_after s.first s.back) s.rows)) b)
     (es : List (ℕ × Part)) (sorted : T (is_sorted nat_cmp (seen es))) (holds : HoldsTask q (closed_count (frame q) (mark_after s.first s.back)) s.first s.back s.rows (seen_parts es)) where
   abbrev a : Mark
   a = mark_after s.first s.back
 
   abbrev z : Mark
-  z = ending s.ended (mark_after (mark_after s.first s.back) s.rows)
+  z = end_mark s.ended (mark_after (mark_after s.first s.back) s.rows)
 
   abbrev c : ℕ
   c = closed_count (frame q) (mark_after s.first s.back)
 
   abbrev n : ℕ
-  n = begun_count (frame q) (ending s.ended (mark_after (mark_after s.first s.back) s.rows))
+  n = begun_count (frame q) (end_mark s.ended (mark_after (mark_after s.first s.back) s.rows))
 
   -- the end begins none of them
   begins : begun_count (frame q) (mark_after (mark_after s.first s.back) s.rows) ≡ n
@@ -120,7 +120,7 @@ module _ (laws : Laws) (q : Tree) (e : q.shape ≡ Join) (w : TwoWindows q) (fit
           closing = entries_are is_closing j;
           pending = entries_are is_pending j;
           opening = entries_are is_opening j;
-          lines = (lines_are ∙ ap (λ k. by_shape k (cond (has_windows (frame q)) all (selected q s.rows)) all all) (sym e)) j;
+          lines = (lines_are ∙ ap (λ k. by_shape k (cond (has_windows (frame q)) all (selected_lines q s.rows)) all all) (sym e)) j;
           closed = given.closed_after j;
         });
         hand = (λ j. record {

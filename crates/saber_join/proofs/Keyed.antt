@@ -5,7 +5,7 @@ use Rattle.std.specs.Ordering.{eq_by_cmp, is_eq}
 use Rattle.std.specs.FinMap.{get, insert, from_entries, find, is_sorted, get-from_entries, get-insert}
 use Rattle.std.specs.FinMap.Entries.{find_tied}
 use Rattle.saber_plan.specs.Answers.{key_cmp}
-use Rattle.saber_plan.specs.Merges.{joined}
+use Rattle.saber_plan.specs.Merges.{joined_value}
 use Rattle.saber_plan.specs.Facts.Maps.{equal_if, take_one, first_alone}
 use Rattle.saber_plan.specs.Facts.Parts.{total, exact}
 use Rattle.saber_plan.specs.Parts.{Part, Numbers, join_numbers, merge}
@@ -23,7 +23,7 @@ first_new m k b es h = h.at k b (get-from_entries total ((k, b) ∷ es) k ∙ ap
 
 -- put in, it leaves the others to merge
 pub step_rest : (m : Part) (k : List ℤ) (b : Numbers) (es : List (List ℤ × Numbers)) → Apart m (made ((k, b) ∷ es)) → T (is_sorted key_cmp ((k, b) ∷ es)) → merge (insert m k b) (made es) ≡ merge m (made ((k, b) ∷ es))
-step_rest m k b es h s = ap (λ o. merge (insert m k (joined join_numbers o b)) (made es)) (sym (first_new m k b es h)) ∙ take_one total exact join_numbers m k b es (first_alone key_cmp (k, b) es s)
+step_rest m k b es h s = ap (λ o. merge (insert m k (joined_value join_numbers o b)) (made es)) (sym (first_new m k b es h)) ∙ take_one total exact join_numbers m k b es (first_alone key_cmp (k, b) es s)
 
 apart_case : (m : Part) (k : List ℤ) (b : Numbers) (es : List (List ℤ × Numbers)) (q : List ℤ) (y : Numbers) (t : Bool) → (t ≡ true → find key_cmp q es ≡ None) → Apart m (made ((k, b) ∷ es))
     → eq_by_cmp key_cmp q k ≡ t → find key_cmp q es ≡ Some y → cond t (Some b) (get m q) ≡ None

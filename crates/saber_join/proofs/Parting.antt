@@ -7,7 +7,7 @@ use Rattle.saber_plan.specs.declared.windows.Mark.{Mark}
 use Rattle.saber_plan.specs.declared.plans.Shape.TheVariants.{Join}
 use Rattle.saber_plan.specs.Trees.{Tree}
 use Rattle.saber_plan.specs.Windows.{Placed, place, has, inside, no_rows, placed_after, step_mark}
-use Rattle.saber_plan.specs.Answers.{key_cmp, pairs, frame, by_shape, passing}
+use Rattle.saber_plan.specs.Answers.{key_cmp, pairs, frame, by_shape, passing_values}
 use Rattle.saber_plan.specs.Parts.{Part, Numbers, part, row_part, group_part, pair_numbers, pair_part, later}
 use Rattle.saber_plan.specs.GivenRows.{AreNeighbors}
 use Rattle.saber_plan.specs.Facts.Lists.{Each, each-filter}
@@ -50,7 +50,7 @@ inside_is q i xs y = let same : y - 0 ≡ y = omega arith in ap (λ n. filter (h
 
 -- a join's part has the pairs of the rows so far
 part_of_pairs : (q : Tree) → q.shape ≡ Join → (i : ℕ) (xs : List Row) (x y : ℕ) → part q i xs x y ≡ pair_part q x (filter (has (frame q) i) (placed_after no_rows (take y xs)))
-part_of_pairs q e i xs x y = ap (λ s. by_shape s (row_part q (inside (frame q) i xs x y)) (group_part q (passing q (inside (frame q) i xs x y))) (pair_part q x (inside (frame q) i xs 0 y))) e ∙ ap (pair_part q x) (inside_is q i xs y)
+part_of_pairs q e i xs x y = ap (λ s. by_shape s (row_part q (inside (frame q) i xs x y)) (group_part q (passing_values q (inside (frame q) i xs x y))) (pair_part q x (inside (frame q) i xs 0 y))) e ∙ ap (pair_part q x) (inside_is q i xs y)
 
 first_rows : (xs : List Row) (z : ℕ) → Each (λ (r : Placed). place r < z) (placed_after no_rows (take z xs))
 first_rows xs z = let few = length-take z xs in placed_below no_rows (take z xs) z (omega (arith, few))

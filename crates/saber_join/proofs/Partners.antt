@@ -15,12 +15,12 @@ use Rattle.saber_plan.specs.Parts.{Part, Numbers, pair_numbers}
 use Rattle.saber_plan.specs.Pairing.{row_pairs, with_entries}
 use Rattle.saber_plan.specs.Facts.Lists.{Each, each-all}
 use Rattle.saber_laws.specs.Needs.{RowsSpan}
-use Rattle.saber_join.specs.Standing.{standing}
+use Rattle.saber_join.specs.Standing.{standing_row}
 use Rattle.saber_join.specs.Shelves.{Card, card_of, meets}
 use Rattle.saber_join.specs.Ties.{Ends, CanTie, key_in}
 use Rattle.saber_join.specs.Keeping.{lies_from, cards_of, lefts_of, rights_of}
 use Rattle.saber_join.specs.Adding.{with_rights, with_lefts}
-use Rattle.saber_join.specs.Open.{lies_in, rows_in, meeting}
+use Rattle.saber_join.specs.Open.{lies_in, rows_in, meeting_part}
 use Rattle.saber_join.proofs.Tying.{one_key}
 
 -- ---- filters of filters
@@ -110,15 +110,15 @@ module _ (span : RowsSpan) (f : Frame) (fits : Fits f) (t : Option Ends) (c i : 
   from_there : (x : Placed) → lies_from f c x ≡ false → has f i x ≡ false
   from_there x e = span f fits i x ∙ from_case (first_window f x) c (past_window f x) i up e
 
-  pub near : (vs : List Placed) → rows_in i (filter (meets k low) (cards_of f t c vs)) ≡ map standing (filter (has_key t k) (filter (has f i) vs))
+  pub near : (vs : List Placed) → rows_in i (filter (meets k low) (cards_of f t c vs)) ≡ map standing_row (filter (has_key t k) (filter (has f i) vs))
   near vs =
       let zs = filter (lies_from f c) vs in
       let seen = map (λ (e : Card). e.seen) in
       ap (λ es. seen (filter (lies_in i) es)) (filter_map (meets k low) at zs)
       ∙ ap seen (filter_map (lies_in i) at (filter (λ x. meets k low (at x)) zs))
       ∙ map_map (λ (e : Card). e.seen) at (filter (λ x. lies_in i (at x)) (filter (λ x. meets k low (at x)) zs))
-      ∙ (λ j. map standing (filter (λ x. lies x j) (filter (λ x. meets k low (at x)) zs)))
-      ∙ ap (map standing) (filter_like (has f i) (λ x. meets k low (at x)) (has_key t k) alike zs
+      ∙ (λ j. map standing_row (filter (λ x. lies x j) (filter (λ x. meets k low (at x)) zs)))
+      ∙ ap (map standing_row) (filter_like (has f i) (λ x. meets k low (at x)) (has_key t k) alike zs
       ∙ filter_swap (has f i) (has_key t k) zs
       ∙ ap (filter (has_key t k)) (filter_key (has f i) (lies_from f c) vs (each-all _ from_there vs)))
 
@@ -127,19 +127,19 @@ module _ (span : RowsSpan) (f : Frame) (fits : Fits f) (t : Option Ends) (c i : 
 abbrev entry_by : Tree → Placed → Placed → Placed → List ℤ × Numbers
 entry_by q z x y = (pair_key z y, pair_numbers q x y)
 
-place_stands : (x : Placed) → place (standing x) ≡ place x
+place_stands : (x : Placed) → place (standing_row x) ≡ place x
 place_stands x = omega arith
 
-stand_case : (q : Tree) (x y : Placed) (us : List Placed) (vs : List Placed) (b : Bool) → map (entry_by q (standing x) x) us ≡ map (entry_by q x x) vs
-    → map (entry_by q (standing x) x) (cond b (standing y ∷ us) us) ≡ map (entry_by q x x) (cond b (y ∷ vs) vs)
+stand_case : (q : Tree) (x y : Placed) (us : List Placed) (vs : List Placed) (b : Bool) → map (entry_by q (standing_row x) x) us ≡ map (entry_by q x x) vs
+    → map (entry_by q (standing_row x) x) (cond b (standing_row y ∷ us) us) ≡ map (entry_by q x x) (cond b (y ∷ vs) vs)
 stand_case q x y us vs true h = λ j. (pos (place_stands x j) ∷ pos (place_stands y j) ∷ [], pair_numbers q x y) ∷ h j
 stand_case q x y us vs false h = h
 
-stand_pairs : (q : Tree) (x : Placed) (ys : List Placed) → pairs_with q (pair_numbers q) (standing x) (map standing ys) ≡ pairs_with q (pair_numbers q) x ys
+stand_pairs : (q : Tree) (x : Placed) (ys : List Placed) → pairs_with q (pair_numbers q) (standing_row x) (map standing_row ys) ≡ pairs_with q (pair_numbers q) x ys
 stand_pairs q x [] = refl
-stand_pairs q x (y ∷ ys) = stand_case q x y (filter (λ y. passes q.predicate x.row.values y.row.values) (map standing ys)) (filter (λ y. passes q.predicate x.row.values y.row.values) ys) (passes q.predicate x.row.values y.row.values) (stand_pairs q x ys)
+stand_pairs q x (y ∷ ys) = stand_case q x y (filter (λ y. passes q.predicate x.row.values y.row.values) (map standing_row ys)) (filter (λ y. passes q.predicate x.row.values y.row.values) ys) (passes q.predicate x.row.values y.row.values) (stand_pairs q x ys)
 
-stand_lefts : (q : Tree) (y : Placed) (xs : List Placed) → flat_map (λ x. pairs_with q (pair_numbers q) x (standing y ∷ [])) (map standing xs) ≡ flat_map (λ x. pairs_with q (pair_numbers q) x (y ∷ [])) xs
+stand_lefts : (q : Tree) (y : Placed) (xs : List Placed) → flat_map (λ x. pairs_with q (pair_numbers q) x (standing_row y ∷ [])) (map standing_row xs) ≡ flat_map (λ x. pairs_with q (pair_numbers q) x (y ∷ [])) xs
 stand_lefts q y [] = refl
 stand_lefts q y (x ∷ xs) = λ j. stand_pairs q x (y ∷ []) j ++ stand_lefts q y xs j
 
@@ -172,14 +172,14 @@ module _ (q : Tree) (t : Option Ends) (tie : CanTie q.predicate t) where
     -- what a row is paired with in a window that has it: the rows of the other side there
     side_case : (s : Side) (v : Values) (m : Mark) (p : Part) (us : List Placed) → (let x : Placed = record { row = record { side = s; values = v }; before = m } in
         let near = filter (meets (key_in t x.row) low) in
-        meeting q (standing x) (near (lefts_of (frame q) t c us)) (near (rights_of (frame q) t c us)) i p
+        meeting_part q (standing_row x) (near (lefts_of (frame q) t c us)) (near (rights_of (frame q) t c us)) i p
         ≡ (let ys = filter (has (frame q) i) us in with_entries p (row_pairs q x (filter is_left ys) (filter is_right ys))))
     unfolding with_rights with_lefts
     side_case Left v m p us =
         let x : Placed = record { row = record { side = Left; values = v }; before = m } in
         let k = key_in t x.row in
         let ys = filter (has (frame q) i) us in
-        ap (with_entries p) (ap (pairs_with q (pair_numbers q) (standing x)) (near span (frame q) fits t c i up k low far (filter is_right us))
+        ap (with_entries p) (ap (pairs_with q (pair_numbers q) (standing_row x)) (near span (frame q) fits t c i up k low far (filter is_right us))
         ∙ stand_pairs q x (filter (has_key t k) (filter (has (frame q) i) (filter is_right us)))
         ∙ ap (λ l. pairs_with q (pair_numbers q) x (filter (has_key t k) l)) (filter_swap (has (frame q) i) is_right us)
         ∙ ap (map (entry_by q x x)) (filter_key (λ y. passes q.predicate v y.row.values) (has_key t k) (filter is_right ys) (each_kept is_right _ (λ y e. none_left x y refl (is_on_right y.row.side e)) ys)))
@@ -188,12 +188,12 @@ module _ (q : Tree) (t : Option Ends) (tie : CanTie q.predicate t) where
         let k = key_in t x.row in
         let ys = filter (has (frame q) i) us in
         let g = λ (y : Placed). pairs_with q (pair_numbers q) y (x ∷ []) in
-        ap (with_entries p) (ap (flat_map (λ y. pairs_with q (pair_numbers q) y (standing x ∷ []))) (near span (frame q) fits t c i up k low far (filter is_left us))
+        ap (with_entries p) (ap (flat_map (λ y. pairs_with q (pair_numbers q) y (standing_row x ∷ []))) (near span (frame q) fits t c i up k low far (filter is_left us))
         ∙ stand_lefts q x (filter (has_key t k) (filter (has (frame q) i) (filter is_left us)))
         ∙ ap (λ l. flat_map g (filter (has_key t k) l)) (filter_swap (has (frame q) i) is_left us)
         ∙ flat_key g (has_key t k) (filter is_left ys) (each_kept is_left _ (λ y e l. ap (λ b. map (entry_by q y y) (cond b (x ∷ []) [])) (none_right y x (is_on_left y.row.side e) refl l)) ys))
 
     pub partners_met : (x : Placed) (p : Part) (us : List Placed) → (let near = filter (meets (key_in t x.row) low) in
-        meeting q (standing x) (near (lefts_of (frame q) t c us)) (near (rights_of (frame q) t c us)) i p
+        meeting_part q (standing_row x) (near (lefts_of (frame q) t c us)) (near (rights_of (frame q) t c us)) i p
         ≡ (let ys = filter (has (frame q) i) us in with_entries p (row_pairs q x (filter is_left ys) (filter is_right ys))))
     partners_met x p us = side_case x.row.side x.row.values x.before p us

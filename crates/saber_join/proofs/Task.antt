@@ -7,18 +7,18 @@ use Rattle.saber_plan.specs.declared.rows.Row.{Row}
 use Rattle.saber_plan.specs.declared.windows.Mark.{Mark}
 use Rattle.saber_plan.specs.Trees.{Tree}
 use Rattle.saber_plan.specs.Windows.{Fits, Placed, place, has, mark_after, placed_after}
-use Rattle.saber_plan.specs.Answers.{frame, by_shape, passing}
+use Rattle.saber_plan.specs.Answers.{frame, by_shape, passing_values}
 use Rattle.saber_plan.specs.Parts.{Part, no_part, pair_part, group_part, row_part}
 use Rattle.saber_plan.specs.Needs.{part_here, first_window, past_window}
 use Rattle.saber_plan.specs.Facts.Lists.{each-filter}
 use Rattle.saber_laws.specs.Needs.{RowsSpan}
 use Rattle.saber_laws.specs.Pairs.{WindowsGetPairs, after_rows, with_row}
 use Rattle.saber_laws.specs.Parts.{NoRowsNoPart}
-use Rattle.saber_join.specs.Standing.{standing}
+use Rattle.saber_join.specs.Standing.{standing_row}
 use Rattle.saber_join.specs.Shelves.{meets}
 use Rattle.saber_join.specs.Ties.{Ends, CanTie, key_in}
 use Rattle.saber_join.specs.Keeping.{lefts_of, rights_of}
-use Rattle.saber_join.specs.Open.{Windows, pairs_in, seen_parts, meeting, Takes, HoldsTask}
+use Rattle.saber_join.specs.Open.{Windows, pairs_in, seen_parts, meeting_part, Takes, HoldsTask}
 use Rattle.saber_join.proofs.Partners.{partners_met}
 use Rattle.saber_join.proofs.Holding.{behind, behind_after, placed_below, pair_part-none}
 
@@ -70,7 +70,7 @@ module _ (span : RowsSpan) (get : WindowsGetPairs) (q : Tree) (fits : Fits (fram
   chosen i = filter (has (frame q) i) (placed_after b xs)
 
   abbrev changed : ℕ → Part → Part
-  changed i p = meeting q (standing (after_rows b xs r)) (filter (meets (key_in t r) (max (first_window (frame q) (after_rows b xs r)) c)) (lefts_of (frame q) t c (placed_after b xs))) (filter (meets (key_in t r) (max (first_window (frame q) (after_rows b xs r)) c)) (rights_of (frame q) t c (placed_after b xs))) i p
+  changed i p = meeting_part q (standing_row (after_rows b xs r)) (filter (meets (key_in t r) (max (first_window (frame q) (after_rows b xs r)) c)) (lefts_of (frame q) t c (placed_after b xs))) (filter (meets (key_in t r) (max (first_window (frame q) (after_rows b xs r)) c)) (rights_of (frame q) t c (placed_after b xs))) i p
 
   behind_them : n ≤ place (after_rows b xs r)
   behind_them = let here = behind_after b xs in omega (arith, here, late)
@@ -96,7 +96,7 @@ module _ (span : RowsSpan) (get : WindowsGetPairs) (q : Tree) (fits : Fits (fram
 
 pub part_is : (q : Tree) (b : Mark) (back rows : List Row) (i : ℕ) → q.shape ≡ Join → pair_part q (b.left + b.right + length back) (filter (has (frame q) i) (placed_after b (back ++ rows))) ≡ part_here q i b back rows
 unfolding part_here
-part_is q b back rows i e = sym (ap (λ s. by_shape s (row_part q (filter (has (frame q) i) (placed_after (mark_after b back) rows))) (group_part q (passing q (filter (has (frame q) i) (placed_after (mark_after b back) rows)))) (pair_part q (b.left + b.right + length back) (filter (has (frame q) i) (placed_after b (back ++ rows))))) e)
+part_is q b back rows i e = sym (ap (λ s. by_shape s (row_part q (filter (has (frame q) i) (placed_after (mark_after b back) rows))) (group_part q (passing_values q (filter (has (frame q) i) (placed_after (mark_after b back) rows)))) (pair_part q (b.left + b.right + length back) (filter (has (frame q) i) (placed_after b (back ++ rows))))) e)
 
 pub task_held : (q : Tree) (c : ℕ) (b : Mark) (back rows : List Row) (m : Windows) → q.shape ≡ Join → HasParts q c (b.left + b.right + length back) b (back ++ rows) m → HoldsTask q c b back rows m
 task_held q c b back rows m s h = record { at = λ i. h.at i ∙ ap (λ p. cond (nat_lt i c) no_part p) (part_is q b back rows i s) }

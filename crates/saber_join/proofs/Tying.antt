@@ -16,8 +16,8 @@ use Rattle.saber_plan.specs.declared.expressions.Expr.{Expr}
 use Rattle.saber_plan.specs.declared.predicates.Cmp.{Cmp}
 use Rattle.saber_plan.specs.declared.predicates.Conj.{Conj}
 use Rattle.saber_plan.specs.declared.predicates.Unit.{Unit as Unit_tree, Compare, the_lemmas}
-use Rattle.saber_plan.specs.Trees.{Tree, Test, compare, Both, Tests, no_other, either, joined, chosen, test_of, both_of}
-use Rattle.saber_plan.specs.Values.{value, value_at, column_of, factor_value, product_value, signed, test_holds, all_hold, passes}
+use Rattle.saber_plan.specs.Trees.{Tree, Test, compare, Both, Tests, no_other, either, joined_tests, chosen_tests, test_of, both_of}
+use Rattle.saber_plan.specs.Values.{value, value_at, column_of, factor_value, product_value, signed_value, test_holds, all_hold, passes}
 use Rattle.saber_plan.specs.Checked.{HasColumn, ExprFits, TestFits, AllFit, PredicateFits, columns_on}
 use Rattle.saber_plan.specs.GivenRows.{IsRowOf}
 use Rattle.saber_eval.specs.Widths.{widths}
@@ -41,7 +41,7 @@ module _ (s : Side) (at to : Side → ℕ → ℤ) (same : (f : Factor) → IsOf
 
   same_products : (z : ℤ) (ps : List Product) → Over s ps → fold (λ z p. z +ℤ product_value at p) z ps ≡ fold (λ z p. z +ℤ product_value to p) z ps
   same_products z [] h = refl
-  same_products z (p ∷ ps) h = ap (λ v. fold (λ z p. z +ℤ product_value at p) (z +ℤ signed p.minus v) ps) (same_factors (pos 1) p.factors h.0) ∙ same_products (z +ℤ product_value to p) ps h.1
+  same_products z (p ∷ ps) h = ap (λ v. fold (λ z p. z +ℤ product_value at p) (z +ℤ signed_value p.minus v) ps) (same_factors (pos 1) p.factors h.0) ∙ same_products (z +ℤ product_value to p) ps h.1
 
   same_value : (ps : List Product) → Over s ps → value_at at ps ≡ value_at to ps
   unfolding value_at
@@ -117,18 +117,18 @@ fewer e h f t = record {
   right_fits = λ columns a. t.right_fits columns (f columns a);
 }
 
-hold_at : (at : Side → ℕ → ℤ) (ts : List Test) (i : ℕ) (d : Test) → i < length ts → all_hold at (joined ts) ≡ true → test_holds at (get_or ts i d) ≡ true
+hold_at : (at : Side → ℕ → ℤ) (ts : List Test) (i : ℕ) (d : Test) → i < length ts → all_hold at (joined_tests ts) ≡ true → test_holds at (get_or ts i d) ≡ true
 unfolding test_holds
 hold_at at [] i d l h = absurd (omega arith)
-hold_at at (t ∷ ts) zero d l h = (and_parts (test_holds at t) (all_hold at (joined ts)) h).0
-hold_at at (t ∷ ts) (suc i) d l h = hold_at at ts i d (omega arith) (and_parts (test_holds at t) (all_hold at (joined ts)) h).1
+hold_at at (t ∷ ts) zero d l h = (and_parts (test_holds at t) (all_hold at (joined_tests ts)) h).0
+hold_at at (t ∷ ts) (suc i) d l h = hold_at at ts i d (omega arith) (and_parts (test_holds at t) (all_hold at (joined_tests ts)) h).1
 
-fit_at : (columns : Side → ℕ) (ts : List Test) (i : ℕ) (d : Test) → i < length ts → AllFit columns (joined ts) → TestFits columns (get_or ts i d)
+fit_at : (columns : Side → ℕ) (ts : List Test) (i : ℕ) (d : Test) → i < length ts → AllFit columns (joined_tests ts) → TestFits columns (get_or ts i d)
 fit_at columns [] i d l h = absurd (omega arith)
 fit_at columns (t ∷ ts) zero d l h = h.0
 fit_at columns (t ∷ ts) (suc i) d l h = fit_at columns ts i d (omega arith) h.1
 
-pub ties_among : (us : List Unit_tree) (i : ℕ) (u : Unit_tree) (e : Ends) → i < length us → u ≡ get_or us i u → TiesTest (test_of u) e → TiesAll (joined (map test_of us)) e
+pub ties_among : (us : List Unit_tree) (i : ℕ) (u : Unit_tree) (e : Ends) → i < length us → u ≡ get_or us i u → TiesTest (test_of u) e → TiesAll (joined_tests (map test_of us)) e
 ties_among us i u e l same t =
     let there : i < length (map test_of us) = subst (λ n. i < n) (sym (length-map us test_of)) l in
     let it : get_or (map test_of us) i (test_of u) ≡ test_of u = get_or-map test_of us i u (test_of u) l ∙ ap test_of (sym same) in
@@ -148,7 +148,7 @@ ties_where b e t = fewer e (λ xs ys h. or_none (all_hold (column_of xs ys) b) h
 pub compare_shape : (x : Expr) (c : Cmp) (y : Expr) → test_of (Compare x c y) ≡ compare x c y
 compare_shape x c y = search (rules, the_lemmas)
 
-pub where_one : (cs : List Conj) (b : Conj) → length cs ≡ 1 → b ≡ get_or cs 0 b → chosen (map both_of cs) ≡ either (both_of b) no_other
+pub where_one : (cs : List Conj) (b : Conj) → length cs ≡ 1 → b ≡ get_or cs 0 b → chosen_tests (map both_of cs) ≡ either (both_of b) no_other
 where_one [] b l e = absurd (omega (arith, l))
 where_one (c ∷ []) b l e = ap (λ x. either (both_of x) no_other) (sym e)
 where_one (c ∷ d ∷ cs) b l e = absurd (omega (arith, l))

@@ -10,7 +10,7 @@ use Rattle.saber_plan.specs.Parts.{Part, no_part}
 use Rattle.saber_plan.specs.Needs.{part_here, first_window, past_window}
 use Rattle.saber_plan.specs.Windows.{Placed, by_side, closed_count}
 use Rattle.saber_join.specs.Shelves.{Card, meets}
-use Rattle.saber_join.specs.Standing.{standing}
+use Rattle.saber_join.specs.Standing.{standing_row}
 use Rattle.saber_join.specs.Ties.{Ends, key_in}
 use Rattle.saber_join.specs.Adding.{with_rights, with_lefts}
 
@@ -47,8 +47,8 @@ abbrev pub meeting_lefts : Tree → Placed → List Card → ℕ → Part → Pa
 meeting_lefts q y es i p = with_lefts q p y (rows_in i es)
 
 -- and of a row with those of the other side
-abbrev pub meeting : Tree → Placed → List Card → List Card → ℕ → Part → Part
-meeting q x lefts rights i p = by_side x.row.side (meeting_rights q x rights i p) (meeting_lefts q x lefts i p)
+abbrev pub meeting_part : Tree → Placed → List Card → List Card → ℕ → Part → Part
+meeting_part q x lefts rights i p = by_side x.row.side (meeting_rights q x rights i p) (meeting_lefts q x lefts i p)
 
 -- the windows from first up to past, by number with their pairs, have met so: a left row these right rows, a right row these left rows
 abbrev pub MeetsRights : Tree → Placed → List Card → ℕ → ℕ → List (ℕ × Part) → List (ℕ × Part) → Type 0
@@ -60,14 +60,14 @@ MeetsLefts q y es first past old new = Changed (meeting_lefts q y es) first past
 -- and a row those of the other side that have its key
 abbrev pub MeetsAlike : Tree → Placed → ℤ → ℕ → ℕ → List Card → List Card → List (ℕ × Part) → List (ℕ × Part) → Type 0
 MeetsAlike q x k first past lefts rights old new =
-    Changed (meeting q x (filter (meets k first) lefts) (filter (meets k first) rights)) first past (seen_parts old) (seen_parts new)
+    Changed (meeting_part q x (filter (meets k first) lefts) (filter (meets k first) rights)) first past (seen_parts old) (seen_parts new)
 
 -- a row of the task has met those of the other side so far that have its key
 abbrev pub Takes : Tree → Option Ends → ℕ → Placed → List Card → List Card → Windows → Windows → Type 0
 Takes q t c x lefts rights m n =
     let first = max (first_window (frame q) x) c in
     let near = filter (meets (key_in t x.row) first) in
-    Changed (meeting q (standing x) (near lefts) (near rights)) first (past_window (frame q) x) m n
+    Changed (meeting_part q (standing_row x) (near lefts) (near rights)) first (past_window (frame q) x) m n
 
 -- with one pair
 abbrev pub with_pair : Tree → Placed → Placed → ℕ → Part → Part

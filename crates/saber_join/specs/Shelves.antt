@@ -6,7 +6,7 @@ use Rattle.std.specs.List.{AllByRecursion}
 use Rattle.saber_plan.specs.declared.rows.Side.TheVariants.{Left}
 use Rattle.saber_plan.specs.Windows.{Placed, Frame, by_side}
 use Rattle.saber_plan.specs.Needs.{first_window, past_window}
-use Rattle.saber_join.specs.Standing.{standing, behind_rows}
+use Rattle.saber_join.specs.Standing.{standing_row, behind_rows}
 use Rattle.saber_join.specs.Ties.{Ends, key_in}
 
 -- a row with its key, and the windows that it lies in: those from `first` up to `past`
@@ -18,7 +18,7 @@ pub record Card : Type 0 where
 
 -- the card of a row, where windows below c don't count
 abbrev pub card_of : Frame → Option Ends → ℕ → Placed → Card
-card_of f t c x = record { seen = standing x; key = key_in t x.row; first = max (first_window f x) c; past = past_window f x }
+card_of f t c x = record { seen = standing_row x; key = key_in t x.row; first = max (first_window f x) c; past = past_window f x }
 
 -- the same, where all is known
 abbrev pub card_with : ℤ → ℕ → ℕ → Placed → Card

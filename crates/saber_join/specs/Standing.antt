@@ -6,5 +6,5 @@ use Rattle.saber_plan.specs.Windows.{Placed, place}
 abbrev pub behind_rows : ℕ → Mark
 behind_rows n = record { left = n; right = 0; last = None; ended = false }
 
-abbrev pub standing : Placed → Placed
-standing x = record { row = x.row; before = behind_rows (place x) }
+abbrev pub standing_row : Placed → Placed
+standing_row x = record { row = x.row; before = behind_rows (place x) }

@@ -7,7 +7,7 @@ use crate::pairs::Pairs;
 use saber_fragment::Piece;
 use saber_laws::{begun_stay, ends_begin_none, no_rows_no_part, rows_span};
 use saber_plan::NoMemory;
-use saber_window::{Bounds, closed_within_begun, ending};
+use saber_window::{Bounds, closed_within_begun, end_mark};
 use std::alloc::Global;
 use std::collections::BTreeMap;
 
@@ -43,7 +43,7 @@ impl Join<'_> {
         let before = draft.before;
         let first = mark_before(&before, draft.last, back);
         let found = self.windows_of(alloc, &first, &before, back, rows)?;
-        let after = ending(draft.ended, &found.1);
+        let after = end_mark(draft.ended, &found.1);
         let bounds = self.bounds(&before, &after);
         // That its windows rise, which the proof needs, is told by the length.
         let _count = found.0.len();

@@ -1,7 +1,7 @@
 // Rows of a task, and of its look-back.
 ghost use Rattle.std.specs.Prelude.{◌≡◌, ◌+◌, ◌^◌, ◌<◌, pos};
 ghost use Rattle.saber_plan.specs.Windows.{place};
-ghost use Rattle.saber_join.specs.Standing.{standing};
+ghost use Rattle.saber_join.specs.Standing.{standing_row};
 
 use saber_flat::RowRef;
 use saber_plan::Mark;
@@ -31,7 +31,7 @@ impl<'a> Seen<'a> {
     /// A row with the mark before it, of which its place alone is kept.
     pub(crate) fn new(row: &RowRef<'a>, before: Mark) -> Seen<'a>
         requires { before.left + before.right < 2 ^ 62 }
-        ensures { result ≡ standing (record { row = row.now; before = before }) }
+        ensures { result ≡ standing_row (record { row = row.now; before = before }) }
     {
         Seen {
             row: row.again(),

@@ -3,7 +3,7 @@ ghost use Rattle.std.specs.Prelude.{◌≡◌, true, map, IfSome, Some};
 ghost use Rattle.std.specs.List.{AllByRecursion};
 ghost use Rattle.saber_plan.specs.declared.rows.Side.TheVariants as sides;
 ghost use Rattle.saber_plan.specs.declared.predicates.Cmp.TheVariants as cmps;
-ghost use Rattle.saber_plan.specs.Trees.{test_of, tests_of, joined, compare};
+ghost use Rattle.saber_plan.specs.Trees.{test_of, tests_of, joined_tests, compare};
 ghost use Rattle.saber_plan.specs.Values.{value};
 ghost use Rattle.saber_plan.specs.Checked.{ExprFits};
 ghost use Rattle.saber_eval.specs.Widths.{widths};
@@ -182,7 +182,7 @@ fn tie_by(unit: &Unit) -> Option<Tie<'_>>
 
 // What the first of these units that ties anything ties.
 fn tie_among(units: &[Unit]) -> Option<Tie<'_>>
-    ensures { IfSome result (λ t. TiesAll (joined (map test_of units.now)) t) }
+    ensures { IfSome result (λ t. TiesAll (joined_tests (map test_of units.now)) t) }
 {
     for unit in units {
         if let Some(tie) = tie_by(unit) {

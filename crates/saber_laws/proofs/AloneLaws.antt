@@ -1,6 +1,6 @@
 -- What rows make by themselves, where nothing is looked back on.
 use Rattle.std.proofs.Common.{slice_range, sym, ◌∙◌, ap, le_refl}
-use Rattle.saber_plan.specs.Inputs.{arrived}
+use Rattle.saber_plan.specs.Inputs.{first_arrivals}
 use Rattle.saber_plan.specs.Windows.{mark_at}
 use Rattle.saber_plan.specs.Needs.{part_here, piece_here}
 use Rattle.saber_laws.specs.Needs.{RowsMakeParts, RowsMakePieces}
@@ -14,5 +14,5 @@ part_alone q w shape r x y o a i =
 
 pub piece_alone : RowsMakePieces
 piece_alone q w shape r x y o a =
-    ap (λ l. piece_here q (mark_at r x) l (slice_range r.rows x y) (arrived r y).ended) (sym (nothing_between r.rows x))
+    ap (λ l. piece_here q (mark_at r x) l (slice_range r.rows x y) (first_arrivals r y).ended) (sym (nothing_between r.rows x))
     ∙ piece_here_is q w r x x y o (le_refl x) a (λ e. absurd (shape e)) (λ e. e)

@@ -15,13 +15,13 @@ use Rattle.saber_plan.specs.declared.windows.Kind.TheVariants.{Opening, Closing,
 use Rattle.saber_plan.specs.declared.plans.Shape.TheVariants.{Select, Group, Join}
 use Rattle.saber_plan.specs.Trees.{Tree}
 use Rattle.saber_plan.specs.Values.{passes}
-use Rattle.saber_plan.specs.Inputs.{Input, arrived}
+use Rattle.saber_plan.specs.Inputs.{Input, first_arrivals}
 use Rattle.saber_plan.specs.Windows.{Frame, unwindowed, one, two, has_windows, Fits, no_rows, mark_at, begun_count, closed, closed_count, Ordered, kind_of, from}
-use Rattle.saber_plan.specs.Answers.{key_cmp, entry_lines, by_shape, by_frame, frame, lines, lines_from, line, items_over, selected, window_text, plain_text, Change, window_answers, before_window, answer_lines, change_lines, change_text, list_of, substream, closed_by, closed_in_turn, closed_at_last, key_text, alike, by_list, by_change, way, by_way, text}
+use Rattle.saber_plan.specs.Answers.{key_cmp, entry_lines, by_shape, by_frame, frame, lines, lines_from, line, items_over, selected_lines, window_text, plain_text, Change, window_answers, before_window, answer_lines, change_lines, change_text, list_of, substream, closed_by, closed_in_turn, closed_at_last, key_text, alike, by_list, by_change, way, by_way, text}
 use Rattle.saber_plan.specs.Merges.{join}
-use Rattle.saber_plan.specs.Parts.{Part, no_part, part, part_lines, answered, Numbers, join_numbers, merge}
-use Rattle.saber_plan.specs.Shares.{full, numbered, is_complete, shares_between}
-use Rattle.saber_plan.specs.Tasks.{Parts, unclosed, last_answers, plain_added, change_added, list_added, added, piece_between, taken_in, written_by, left_by}
+use Rattle.saber_plan.specs.Parts.{Part, no_part, part, part_lines, group_answer, Numbers, join_numbers, merge}
+use Rattle.saber_plan.specs.Shares.{full, numbered_list, is_complete, shares_between}
+use Rattle.saber_plan.specs.Tasks.{Parts, unclosed, last_answers, plain_added, change_added, list_added, added_text, piece_between, taken_in, written_by, left_by}
 use Rattle.saber_plan.specs.Facts.Maps.{get-both, both_empty_left, entries-empty}
 use Rattle.saber_plan.specs.Facts.Lists.{slice-join, slice-front, nothing_behind}
 use Rattle.saber_plan.specs.Facts.Parts.{total, exact, merge-empty_left, merge-empty_right}
@@ -64,7 +64,7 @@ full-merge p r = full-cases p r (len p == 0) (len r == 0) refl refl
 
 -- the lines of a part, also where it is empty
 full-lines : (q : Tree) (i : ℕ) (p : Part) (b : Bool) → (len p == 0) ≡ b → option_map_or (λ m. part_lines q i m) (cond b None (Some p)) [] ≡ part_lines q i p
-full-lines q i p true e = sym (ap (λ m. part_lines q i m) (full-none p e) ∙ ap (λ es. entry_lines i (map (answered q.shape q.items) es)) (entries-empty key_cmp))
+full-lines q i p true e = sym (ap (λ m. part_lines q i m) (full-none p e) ∙ ap (λ es. entry_lines i (map (group_answer q.shape q.items) es)) (entries-empty key_cmp))
 full-lines q i p false e = refl
 
 -- ---- kinds by counts
@@ -96,7 +96,7 @@ part_or_complete ca ga cb gb i h1 h2 p = grind (arith, nat_tests)
 part-beyond : (q : Tree) → Fits (frame q) → (i : ℕ) (r : Input) (y : ℕ) → Ordered no_rows r.rows → begun_count (frame q) (mark_at r y) ≤ i → part q i r.rows 0 y ≡ no_part
 part-beyond q w i r y o h = part_not_begun q i r y o (sym (begun_is (frame q) w i (mark_at r y)) ∙ le-ltb i _ h)
 
-unclosed_at : (q : Tree) → Fits (frame q) → (r : Input) (y i : ℕ) → Ordered no_rows r.rows → closed_count (frame q) (mark_at r y) ≤ i → get (unclosed q (arrived r y)) i ≡ full (part q i r.rows 0 y)
+unclosed_at : (q : Tree) → Fits (frame q) → (r : Input) (y i : ℕ) → Ordered no_rows r.rows → closed_count (frame q) (mark_at r y) ≤ i → get (unclosed q (first_arrivals r y)) i ≡ full (part q i r.rows 0 y)
 unfolding unclosed
 unclosed_at q w r y i o l =
     let c = closed_count (frame q) (mark_at r y) in
@@ -105,7 +105,7 @@ unclosed_at q w r y i o l =
     ⊎_elim (λ b. get_in i c (g - c) f l (omega (arith, l, b)) ∙ ap full (part_upto q i r.rows y))
     (λ b. get_high i c (g - c) f (omega (arith, l, b, closed_within_begun (frame q) w (mark_at r y))) ∙ sym (full-of_empty _ (part-beyond q w i r y o b))) (cases_lt i g)
 
-unclosed_low : (q : Tree) (r : Input) (y i : ℕ) → i < closed_count (frame q) (mark_at r y) → get (unclosed q (arrived r y)) i ≡ None
+unclosed_low : (q : Tree) (r : Input) (y i : ℕ) → i < closed_count (frame q) (mark_at r y) → get (unclosed q (first_arrivals r y)) i ≡ None
 unfolding unclosed
 unclosed_low q r y i l = get_low i _ _ _ l
 
@@ -178,9 +178,9 @@ module _ (q : Tree) (w : Fits (frame q)) (r : Input) (x y : ℕ) (o : Ordered no
   ga_gb = begun_rises (frame q) w r x y o a
 
   -- after the merge each window that isn't closed at x and whose part isn't whole in the piece has its part
-  merged_at : (i : ℕ) → ca ≤ i → (i < gb → is_part (kind_of (frame q) i (mark_at r x) (mark_at r y)) ≡ true) → get (taken_in q (unclosed q (arrived r x)) (piece_between q r x y)) i ≡ full (part q i r.rows 0 y)
+  merged_at : (i : ℕ) → ca ≤ i → (i < gb → is_part (kind_of (frame q) i (mark_at r x) (mark_at r y)) ≡ true) → get (taken_in q (unclosed q (first_arrivals r x)) (piece_between q r x y)) i ≡ full (part q i r.rows 0 y)
   merged_at i l part_here =
-      get-both nat_cmp_total merge (unclosed q (arrived r x)) (piece_between q r x y).parts i
+      get-both nat_cmp_total merge (unclosed q (first_arrivals r x)) (piece_between q r x y).parts i
       ∙ ap (λ p. join merge p (get (piece_between q r x y).parts i)) (unclosed_at q w r x i o l)
       ∙ ⊎_elim
       (λ b. ap (join merge (full (part q i r.rows 0 x))) (piece_in q r x y i l b ∙ ap (λ c. cond c (full (part q i r.rows x y)) None) (part_here b))
@@ -189,16 +189,16 @@ module _ (q : Tree) (w : Fits (frame q)) (r : Input) (x y : ℕ) (o : Ordered no
       ∙ sym (full-of_empty _ (part-beyond q w i r y o b)))
       (cases_lt i gb)
 
-  merged_low : (i : ℕ) → i < ca → get (taken_in q (unclosed q (arrived r x)) (piece_between q r x y)) i ≡ None
-  merged_low i l = get-both nat_cmp_total merge (unclosed q (arrived r x)) (piece_between q r x y).parts i ∙ ap₂ (join merge) (unclosed_low q r x i l) (piece_low q r x y i l)
+  merged_low : (i : ℕ) → i < ca → get (taken_in q (unclosed q (first_arrivals r x)) (piece_between q r x y)) i ≡ None
+  merged_low i l = get-both nat_cmp_total merge (unclosed q (first_arrivals r x)) (piece_between q r x y).parts i ∙ ap₂ (join merge) (unclosed_low q r x i l) (piece_low q r x y i l)
 
   kind_here : (i : ℕ) → kind_of (frame q) i (mark_at r x) (mark_at r y) ≡ count_kind ca ga cb gb i
   kind_here i = kind_is (frame q) w i (mark_at r x) (mark_at r y)
 
   -- a window that lies whole in the piece has nothing in the merge
-  merged_whole : (i : ℕ) → ga ≤ i → i < cb → get (taken_in q (unclosed q (arrived r x)) (piece_between q r x y)) i ≡ None
+  merged_whole : (i : ℕ) → ga ≤ i → i < cb → get (taken_in q (unclosed q (first_arrivals r x)) (piece_between q r x y)) i ≡ None
   merged_whole i b l =
-      get-both nat_cmp_total merge (unclosed q (arrived r x)) (piece_between q r x y).parts i
+      get-both nat_cmp_total merge (unclosed q (first_arrivals r x)) (piece_between q r x y).parts i
       ∙ ap₂ (join merge) (unclosed_at q w r x i o (le_trans ca_ga b) ∙ full-of_empty _ (part-beyond q w i r x o b))
       (piece_in q r x y i (le_trans ca_ga b) (lt_of_lt_of_le l cb_gb) ∙ ap (λ k. cond (is_part k) (full (part q i r.rows x y)) None) (kind_here i ∙ complete_here ca ga cb gb i ca_ga b l cb_gb))
 
@@ -206,14 +206,14 @@ module _ (q : Tree) (w : Fits (frame q)) (r : Input) (x y : ℕ) (o : Ordered no
   kept_at p i m = get-retain_keys m p i (λ k e. ap p (sym (nat_cmp-IsAntisymmetric i k e)))
 
   -- what stays open is what the rows up to y leave open
-  pub open_law : left_by q (unclosed q (arrived r x)) (piece_between q r x y) ≡ unclosed q (arrived r y)
+  pub open_law : left_by q (unclosed q (first_arrivals r x)) (piece_between q r x y) ≡ unclosed q (first_arrivals r y)
   unfolding left_by
   open_law = same_map nat_cmp_total nat_cmp-IsAntisymmetric _ _ (λ i.
-      kept_at (λ k. nat_le (piece_between q r x y).closed k) i (taken_in q (unclosed q (arrived r x)) (piece_between q r x y))
-      ∙ ap (λ c. cond (nat_le c i) (get (taken_in q (unclosed q (arrived r x)) (piece_between q r x y)) i) None) (piece_closed q r x y)
+      kept_at (λ k. nat_le (piece_between q r x y).closed k) i (taken_in q (unclosed q (first_arrivals r x)) (piece_between q r x y))
+      ∙ ap (λ c. cond (nat_le c i) (get (taken_in q (unclosed q (first_arrivals r x)) (piece_between q r x y)) i) None) (piece_closed q r x y)
       ∙ ⊎_elim
-      (λ l. ap (λ b. cond b (get (taken_in q (unclosed q (arrived r x)) (piece_between q r x y)) i) None) (lt-leb cb i l) ∙ sym (unclosed_low q r y i l))
-      (λ l. ap (λ b. cond b (get (taken_in q (unclosed q (arrived r x)) (piece_between q r x y)) i) None) (le-leb cb i l)
+      (λ l. ap (λ b. cond b (get (taken_in q (unclosed q (first_arrivals r x)) (piece_between q r x y)) i) None) (lt-leb cb i l) ∙ sym (unclosed_low q r y i l))
+      (λ l. ap (λ b. cond b (get (taken_in q (unclosed q (first_arrivals r x)) (piece_between q r x y)) i) None) (le-leb cb i l)
       ∙ merged_at i (le_trans ca_cb l) (λ b. ap is_part (kind_here i) ∙ open_here ca ga cb gb i ca_cb l b)
       ∙ sym (unclosed_at q w r y i o l))
       (cases_lt i cb))
@@ -227,11 +227,11 @@ module _ (q : Tree) (w : Fits (frame q)) (r : Input) (x y : ℕ) (o : Ordered no
   ca_mid : ca ≤ mid
   ca_mid = omega (arith, ca_cb, ca_ga)
 
-  closing_parts : retain_keys (taken_in q (unclosed q (arrived r x)) (piece_between q r x y)) (λ i. nat_lt i (piece_between q r x y).closed) ≡ from_entries (numbered ca (mid - ca) (λ i. full (part q i r.rows 0 y)))
+  closing_parts : retain_keys (taken_in q (unclosed q (first_arrivals r x)) (piece_between q r x y)) (λ i. nat_lt i (piece_between q r x y).closed) ≡ from_entries (numbered_list ca (mid - ca) (λ i. full (part q i r.rows 0 y)))
   closing_parts = same_map nat_cmp_total nat_cmp-IsAntisymmetric _ _ (λ i.
-      let merged = get (taken_in q (unclosed q (arrived r x)) (piece_between q r x y)) i in
+      let merged = get (taken_in q (unclosed q (first_arrivals r x)) (piece_between q r x y)) i in
       let f = λ (k : ℕ). full (part q k r.rows 0 y) in
-      kept_at (λ k. nat_lt k (piece_between q r x y).closed) i (taken_in q (unclosed q (arrived r x)) (piece_between q r x y))
+      kept_at (λ k. nat_lt k (piece_between q r x y).closed) i (taken_in q (unclosed q (first_arrivals r x)) (piece_between q r x y))
       ∙ ap (λ c. cond (nat_lt i c) merged None) (piece_closed q r x y)
       ∙ ⊎_elim
       (λ l. ap (λ b. cond b merged None) (lt-ltb i cb l) ∙ ⊎_elim
@@ -247,7 +247,7 @@ module _ (q : Tree) (w : Fits (frame q)) (r : Input) (x y : ℕ) (o : Ordered no
   lines_at : (i : ℕ) → option_map_or (λ m. part_lines q i m) (full (part q i r.rows 0 y)) [] ≡ lines q i (take y r.rows)
   lines_at i = full-lines q i (part q i r.rows 0 y) _ refl ∙ sym (lines_upto q i r.rows y)
 
-  closing_lines : flat_map (λ e. part_lines q e.0 e.1) (entries (retain_keys (taken_in q (unclosed q (arrived r x)) (piece_between q r x y)) (λ i. nat_lt i (piece_between q r x y).closed))) ≡ flat_map (λ i. lines q i (take y r.rows)) (from ca (mid - ca))
+  closing_lines : flat_map (λ e. part_lines q e.0 e.1) (entries (retain_keys (taken_in q (unclosed q (first_arrivals r x)) (piece_between q r x y)) (λ i. nat_lt i (piece_between q r x y).closed))) ≡ flat_map (λ i. lines q i (take y r.rows)) (from ca (mid - ca))
   closing_lines =
       let f = λ (k : ℕ). full (part q k r.rows 0 y) in
       ap (λ m. flat_map (λ e. part_lines q e.0 e.1) (entries m)) closing_parts
@@ -296,27 +296,27 @@ module _ (q : Tree) (w : Fits (frame q)) (r : Input) (x y : ℕ) (o : Ordered no
   closed_before : (i : ℕ) → i < ca → closed (frame q) i (mark_at r x) ≡ true
   closed_before i l = sym (closed_is (frame q) w i (mark_at r x)) ∙ lt-ltb i ca l
 
-  window_lines : window_text q (arrived r y) ≡ window_text q (arrived r x) ++ lines_from q (take y r.rows) ca cb
+  window_lines : window_text q (first_arrivals r y) ≡ window_text q (first_arrivals r x) ++ lines_from q (take y r.rows) ca cb
   window_lines = more_closed lines_y (λ i. lines q i (take x r.rows)) (λ i l. lines_stay q i r x y o a (closed_before i l))
 
-  select_rows : selected q (take y r.rows) ≡ selected q (take x r.rows) ++ selected q (slice_range r.rows x y)
+  select_rows : selected_lines q (take y r.rows) ≡ selected_lines q (take x r.rows) ++ selected_lines q (slice_range r.rows x y)
   select_rows =
       let xs = r.rows in
       let p = λ (zs : List ℤ). passes q.predicate zs [] in
       let g = λ (zs : List ℤ). line (items_over q.items zs []) in
-      ap (selected q) (sym (slice-front xs y) ∙ slice-join xs 0 x y zero-le a ∙ ap (λ l. l ++ slice_range r.rows x y) (slice-front xs x))
+      ap (selected_lines q) (sym (slice-front xs y) ∙ slice-join xs 0 x y zero-le a ∙ ap (λ l. l ++ slice_range r.rows x y) (slice-front xs x))
       ∙ ap (λ l. flat_map g (filter p l)) (map-append (λ r. r.values) (take x xs) (slice_range r.rows x y))
       ∙ ap (flat_map g) (filter-append p (map (λ r. r.values) (take x xs)) (map (λ r. r.values) (slice_range r.rows x y)))
       ∙ flat_map-append g (filter p (map (λ r. r.values) (take x xs))) (filter p (map (λ r. r.values) (slice_range r.rows x y)))
 
   -- ---- what is added to the text of windows, or of rows
 
-  plain_law : plain_text q (arrived r y) ≡ plain_text q (arrived r x) ++ plain_added q r x y
-  plain_law = elim q.shape as (λ s. by_shape s (cond (has_windows (frame q)) (window_text q (arrived r y)) (selected q (take y r.rows))) (window_text q (arrived r y)) (window_text q (arrived r y))
-      ≡ by_shape s (cond (has_windows (frame q)) (window_text q (arrived r x)) (selected q (take x r.rows))) (window_text q (arrived r x)) (window_text q (arrived r x))
-      ++ by_shape s (cond (has_windows (frame q)) (lines_from q (take y r.rows) ca cb) (selected q (slice_range r.rows x y))) (lines_from q (take y r.rows) ca cb) (lines_from q (take y r.rows) ca cb)) [
-        | Select ↦ elim (has_windows (frame q)) as (λ b. cond b (window_text q (arrived r y)) (selected q (take y r.rows))
-            ≡ cond b (window_text q (arrived r x)) (selected q (take x r.rows)) ++ cond b (lines_from q (take y r.rows) ca cb) (selected q (slice_range r.rows x y))) [ true ↦ window_lines | false ↦ select_rows ]
+  plain_law : plain_text q (first_arrivals r y) ≡ plain_text q (first_arrivals r x) ++ plain_added q r x y
+  plain_law = elim q.shape as (λ s. by_shape s (cond (has_windows (frame q)) (window_text q (first_arrivals r y)) (selected_lines q (take y r.rows))) (window_text q (first_arrivals r y)) (window_text q (first_arrivals r y))
+      ≡ by_shape s (cond (has_windows (frame q)) (window_text q (first_arrivals r x)) (selected_lines q (take x r.rows))) (window_text q (first_arrivals r x)) (window_text q (first_arrivals r x))
+      ++ by_shape s (cond (has_windows (frame q)) (lines_from q (take y r.rows) ca cb) (selected_lines q (slice_range r.rows x y))) (lines_from q (take y r.rows) ca cb) (lines_from q (take y r.rows) ca cb)) [
+        | Select ↦ elim (has_windows (frame q)) as (λ b. cond b (window_text q (first_arrivals r y)) (selected_lines q (take y r.rows))
+            ≡ cond b (window_text q (first_arrivals r x)) (selected_lines q (take x r.rows)) ++ cond b (lines_from q (take y r.rows) ca cb) (selected_lines q (slice_range r.rows x y))) [ true ↦ window_lines | false ↦ select_rows ]
         | Group ↦ window_lines
         | Join ↦ window_lines
       ]
@@ -329,23 +329,23 @@ module _ (q : Tree) (w : Fits (frame q)) (r : Input) (x y : ℕ) (o : Ordered no
       let few : mid - ca ≡ 0 = omega (arith, none) in
       ap (λ n. flat_map lines_y (from ca n)) few
 
-  printed_case : (b : Bool) → has_windows (frame q) ≡ b → cond b (lines_from q (take y r.rows) ca cb) (selected q (slice_range r.rows x y))
-      ≡ flat_map lines_y (from ca (mid - ca)) ++ cond b (whole_lines q r x y) (selected q (slice_range r.rows x y))
+  printed_case : (b : Bool) → has_windows (frame q) ≡ b → cond b (lines_from q (take y r.rows) ca cb) (selected_lines q (slice_range r.rows x y))
+      ≡ flat_map lines_y (from ca (mid - ca)) ++ cond b (whole_lines q r x y) (selected_lines q (slice_range r.rows x y))
   printed_case true e = closed_lines
-  printed_case false e = sym (ap (λ l. l ++ selected q (slice_range r.rows x y)) (none_closing e))
+  printed_case false e = sym (ap (λ l. l ++ selected_lines q (slice_range r.rows x y)) (none_closing e))
 
-  printed : plain_added q r x y ≡ flat_map lines_y (from ca (mid - ca)) ++ by_frame q (selected q (slice_range r.rows x y)) (whole_lines q r x y)
-  printed = elim q.shape as (λ s. by_shape s (cond (has_windows (frame q)) (lines_from q (take y r.rows) ca cb) (selected q (slice_range r.rows x y))) (lines_from q (take y r.rows) ca cb) (lines_from q (take y r.rows) ca cb)
-      ≡ flat_map lines_y (from ca (mid - ca)) ++ by_shape s (cond (has_windows (frame q)) (whole_lines q r x y) (selected q (slice_range r.rows x y))) (whole_lines q r x y) (whole_lines q r x y)) [
+  printed : plain_added q r x y ≡ flat_map lines_y (from ca (mid - ca)) ++ by_frame q (selected_lines q (slice_range r.rows x y)) (whole_lines q r x y)
+  printed = elim q.shape as (λ s. by_shape s (cond (has_windows (frame q)) (lines_from q (take y r.rows) ca cb) (selected_lines q (slice_range r.rows x y))) (lines_from q (take y r.rows) ca cb) (lines_from q (take y r.rows) ca cb)
+      ≡ flat_map lines_y (from ca (mid - ca)) ++ by_shape s (cond (has_windows (frame q)) (whole_lines q r x y) (selected_lines q (slice_range r.rows x y))) (whole_lines q r x y) (whole_lines q r x y)) [
         | Select ↦ printed_case (has_windows (frame q)) refl
         | Group ↦ closed_lines
         | Join ↦ closed_lines
       ]
 
   -- the piece's lines are those of the windows that are closed, or of the rows
-  pub written_law : plain_added q r x y ≡ written_by q (unclosed q (arrived r x)) (piece_between q r x y)
+  pub written_law : plain_added q r x y ≡ written_by q (unclosed q (first_arrivals r x)) (piece_between q r x y)
   unfolding written_by piece_between shares_between
-  written_law = printed ∙ ap (λ l. l ++ by_frame q (selected q (slice_range r.rows x y)) (whole_lines q r x y)) (sym closing_lines)
+  written_law = printed ∙ ap (λ l. l ++ by_frame q (selected_lines q (slice_range r.rows x y)) (whole_lines q r x y)) (sym closing_lines)
 
   -- ---- what windows gain or lose
 
@@ -354,11 +354,11 @@ module _ (q : Tree) (w : Fits (frame q)) (r : Input) (x y : ℕ) (o : Ordered no
   before_stays (suc i) l = answers_stay q i r x y o a (closed_before i (omega (arith, l)))
 
   -- what was kept is what stands before the first window that is closed now
-  pub last_stays : before_window (λ k. window_answers q k (take y r.rows)) ca ≡ last_answers q (arrived r x)
+  pub last_stays : before_window (λ k. window_answers q k (take y r.rows)) ca ≡ last_answers q (first_arrivals r x)
   unfolding last_answers
   last_stays = before_stays ca (le_refl ca)
 
-  change_law : (c : Change) → change_text c q (arrived r y) ≡ change_text c q (arrived r x) ++ change_added c q r x y
+  change_law : (c : Change) → change_text c q (first_arrivals r y) ≡ change_text c q (first_arrivals r x) ++ change_added c q r x y
   change_law c = more_closed (change_lines c q (take y r.rows)) (change_lines c q (take x r.rows))
       (λ i l j. answer_lines i (c (before_stays i (omega (arith, l)) j) (answers_stay q i r x y o a (closed_before i l) j)))
 
@@ -377,44 +377,44 @@ module _ (q : Tree) (w : Fits (frame q)) (r : Input) (x y : ℕ) (o : Ordered no
   turns = ap (closed_in_turn q []) (sym (slice-front r.rows y) ∙ slice-join r.rows 0 x y zero-le a ∙ ap (λ l. l ++ slice_range r.rows x y) (slice-front r.rows x))
       ∙ in_turn-append q [] (take x r.rows) (slice_range r.rows x y)
 
-  last_case : (b : Bool) → (arrived r y).ended ≡ b → cond b (closed_at_last q (take y r.rows)) [] ≡ cond b (closed_at_last q r.rows) []
+  last_case : (b : Bool) → (first_arrivals r y).ended ≡ b → cond b (closed_at_last q (take y r.rows)) [] ≡ cond b (closed_at_last q r.rows) []
   last_case true e = ap (closed_at_last q) (take_all y r.rows (let far = end_behind r y e in omega (arith, far)))
   last_case false e = refl
 
-  none_between : (arrived r x).ended ≡ true → slice_range r.rows x y ≡ []
+  none_between : (first_arrivals r x).ended ≡ true → slice_range r.rows x y ≡ []
   none_between e = nothing_behind r.rows x y (let far = end_behind r x e in omega (arith, far))
 
-  no_turn : (arrived r x).ended ≡ true → turn_xy ≡ []
+  no_turn : (first_arrivals r x).ended ≡ true → turn_xy ≡ []
   unfolding closed_in_turn
   no_turn e = ap (closed_in_turn q (take x r.rows)) (none_between e)
 
-  all_came : (arrived r x).ended ≡ true → take y r.rows ≡ take x r.rows
+  all_came : (first_arrivals r x).ended ≡ true → take y r.rows ≡ take x r.rows
   all_came e =
       let far = end_behind r x e in
       take_all y r.rows (omega (arith, far, a)) ∙ sym (take_all x r.rows (omega (arith, far)))
 
-  list_case : (b : Bool) → (arrived r x).ended ≡ b
-      → turn_y ++ cond (arrived r y).ended (closed_at_last q (take y r.rows)) []
-      ≡ (turn_x ++ cond b (closed_at_last q (take x r.rows)) []) ++ (turn_xy ++ cond (not b && (arrived r y).ended) (closed_at_last q r.rows) [])
+  list_case : (b : Bool) → (first_arrivals r x).ended ≡ b
+      → turn_y ++ cond (first_arrivals r y).ended (closed_at_last q (take y r.rows)) []
+      ≡ (turn_x ++ cond b (closed_at_last q (take x r.rows)) []) ++ (turn_xy ++ cond (not b && (first_arrivals r y).ended) (closed_at_last q r.rows) [])
   list_case true e =
       let all : turn_y ≡ turn_x = ap (closed_in_turn q []) (all_came e) in
       (λ j. all j ++ cond (stays_ended r x y a e j) (closed_at_last q (all_came e j)) [])
       ∙ sym (append-nil (turn_x ++ closed_at_last q (take x r.rows)))
       ∙ sym (ap (λ l. (turn_x ++ closed_at_last q (take x r.rows)) ++ (l ++ [])) (no_turn e))
   list_case false e =
-      ap (λ l. l ++ cond (arrived r y).ended (closed_at_last q (take y r.rows)) []) turns
-      ∙ append_assoc turn_x turn_xy (cond (arrived r y).ended (closed_at_last q (take y r.rows)) [])
-      ∙ ap (λ l. turn_x ++ (turn_xy ++ l)) (last_case (arrived r y).ended refl)
-      ∙ sym (ap (λ l. l ++ (turn_xy ++ cond (arrived r y).ended (closed_at_last q r.rows) [])) (append-nil turn_x))
+      ap (λ l. l ++ cond (first_arrivals r y).ended (closed_at_last q (take y r.rows)) []) turns
+      ∙ append_assoc turn_x turn_xy (cond (first_arrivals r y).ended (closed_at_last q (take y r.rows)) [])
+      ∙ ap (λ l. turn_x ++ (turn_xy ++ l)) (last_case (first_arrivals r y).ended refl)
+      ∙ sym (ap (λ l. l ++ (turn_xy ++ cond (first_arrivals r y).ended (closed_at_last q r.rows) [])) (append-nil turn_x))
 
-  list_law : key_text q (arrived r y) ≡ key_text q (arrived r x) ++ list_added q r x y
-  list_law = list_case (arrived r x).ended refl
+  list_law : key_text q (first_arrivals r y) ≡ key_text q (first_arrivals r x) ++ list_added q r x y
+  list_law = list_case (first_arrivals r x).ended refl
 
   -- ---- the text up to y is that up to x, and then what is added
-  pub text_law : text q (arrived r y) ≡ text q (arrived r x) ++ added q r x y
-  unfolding text added
-  text_law = elim (way q) as (λ u. by_way u (plain_text q (arrived r y)) (key_text q (arrived r y)) (λ c. change_text c q (arrived r y))
-      ≡ by_way u (plain_text q (arrived r x)) (key_text q (arrived r x)) (λ c. change_text c q (arrived r x))
+  pub text_law : text q (first_arrivals r y) ≡ text q (first_arrivals r x) ++ added_text q r x y
+  unfolding text added_text
+  text_law = elim (way q) as (λ u. by_way u (plain_text q (first_arrivals r y)) (key_text q (first_arrivals r y)) (λ c. change_text c q (first_arrivals r y))
+      ≡ by_way u (plain_text q (first_arrivals r x)) (key_text q (first_arrivals r x)) (λ c. change_text c q (first_arrivals r x))
       ++ by_way u (plain_added q r x y) (list_added q r x y) (λ c. change_added c q r x y)) [
         | alike ↦ plain_law
         | by_list ↦ list_law

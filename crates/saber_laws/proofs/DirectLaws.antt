@@ -11,10 +11,10 @@ use Rattle.saber_plan.specs.declared.windows.Kind.{Kind}
 use Rattle.saber_plan.specs.declared.windows.Kind.TheVariants.{Opening, Closing, Pending, Complete}
 use Rattle.saber_plan.specs.Trees.{Tree}
 use Rattle.saber_plan.specs.Inputs.{Input}
-use Rattle.saber_plan.specs.Windows.{Frame, mark_after, ending, mark_at, closed_count, begun_count, kind_of}
+use Rattle.saber_plan.specs.Windows.{Frame, mark_after, end_mark, mark_at, closed_count, begun_count, kind_of}
 use Rattle.saber_plan.specs.Answers.{frame}
 use Rattle.saber_plan.specs.Parts.{Part, part}
-use Rattle.saber_plan.specs.Shares.{full, numbered, is_closing, is_pending, is_opening, of_kind, part_here, shares_here, shares_between, Parts}
+use Rattle.saber_plan.specs.Shares.{full, numbered_list, is_closing, is_pending, is_opening, of_kind, part_here, shares_here, shares_between, Parts}
 use Rattle.saber_plan.specs.Tasks.{piece_between}
 use Rattle.saber_plan.specs.Needs.{piece_here}
 use Rattle.saber_laws.proofs.NumberedLaws.{find_low, find_in, find_high}
@@ -48,7 +48,7 @@ found_in i [] ys = refl
 found_in i (x ∷ xs) ys = found_case (eq_by_cmp nat_cmp i x.0) x.1 _ _ _ (found_in i xs ys)
 
 three_lists : (i a n : ℕ) (f g h u : ℕ → Option Part) → ((i : ℕ) → option_or (f i) (option_or (g i) (h i)) ≡ u i)
-    → option_or (find nat_cmp i (numbered a n f)) (option_or (find nat_cmp i (numbered a n g)) (find nat_cmp i (numbered a n h))) ≡ find nat_cmp i (numbered a n u)
+    → option_or (find nat_cmp i (numbered_list a n f)) (option_or (find nat_cmp i (numbered_list a n g)) (find nat_cmp i (numbered_list a n h))) ≡ find nat_cmp i (numbered_list a n u)
 three_lists i a n f g h u same =
     let all = λ (c d e : Option Part). option_or c (option_or d e) in
     ⊎_elim
@@ -61,7 +61,7 @@ three_lists i a n f g h u same =
 
 -- the parts that aren't empty of the windows that aren't complete
 abbrev pub direct_parts : Frame → Mark → Mark → (ℕ → Part) → Parts
-direct_parts f a b at = from_entries {R = nat_cmp} (numbered (closed_count f a) (begun_count f b - closed_count f a) (λ i. cond (is_part (kind_of f i a b)) (full (at i)) None))
+direct_parts f a b at = from_entries {R = nat_cmp} (numbered_list (closed_count f a) (begun_count f b - closed_count f a) (λ i. cond (is_part (kind_of f i a b)) (full (at i)) None))
 
 kinds_make : (f : Frame) (a b : Mark) (at : ℕ → Part) → from_entries {R = nat_cmp} (of_kind is_closing f a b at ++ (of_kind is_pending f a b at ++ of_kind is_opening f a b at)) ≡ direct_parts f a b at
 unfolding of_kind
@@ -69,20 +69,20 @@ kinds_make f a b at =
     let c = closed_count f a in
     let n = begun_count f b - closed_count f a in
     let by = λ (wanted : Option Kind → Bool) (i : ℕ). cond (wanted (kind_of f i a b)) (full (at i)) None in
-    let cs = numbered c n (by is_closing) in
-    let ps = numbered c n (by is_pending) in
-    let os = numbered c n (by is_opening) in
+    let cs = numbered_list c n (by is_closing) in
+    let ps = numbered_list c n (by is_pending) in
+    let os = numbered_list c n (by is_opening) in
     same_map nat_cmp_total nat_cmp-IsAntisymmetric _ _ (λ i.
     get-from_entries nat_cmp_total (cs ++ (ps ++ os)) i
     ∙ found_in i cs (ps ++ os) ∙ ap (option_or (find nat_cmp i cs)) (found_in i ps os)
     ∙ three_lists i c n (by is_closing) (by is_pending) (by is_opening) (by is_part) (λ k. one_of (kind_of f k a b) (full (at k)))
-    ∙ sym (get-from_entries nat_cmp_total (numbered c n (by is_part)) i))
+    ∙ sym (get-from_entries nat_cmp_total (numbered_list c n (by is_part)) i))
 
 pub parts_between : (q : Tree) (r : Input) (x y : ℕ) → (piece_between q r x y).parts ≡ direct_parts (frame q) (mark_at r x) (mark_at r y) (λ i. part q i r.rows x y)
 unfolding piece_between shares_between
 parts_between q r x y = kinds_make (frame q) (mark_at r x) (mark_at r y) (λ i. part q i r.rows x y)
 
 pub parts_here : (q : Tree) (m : Mark) (back rows : List Row) (ended : Bool)
-    → (piece_here q m back rows ended).parts ≡ direct_parts (frame q) (mark_after m back) (ending ended (mark_after (mark_after m back) rows)) (λ i. part_here q i m back rows)
+    → (piece_here q m back rows ended).parts ≡ direct_parts (frame q) (mark_after m back) (end_mark ended (mark_after (mark_after m back) rows)) (λ i. part_here q i m back rows)
 unfolding piece_here shares_here
-parts_here q m back rows ended = kinds_make (frame q) (mark_after m back) (ending ended (mark_after (mark_after m back) rows)) (λ i. part_here q i m back rows)
+parts_here q m back rows ended = kinds_make (frame q) (mark_after m back) (end_mark ended (mark_after (mark_after m back) rows)) (λ i. part_here q i m back rows)

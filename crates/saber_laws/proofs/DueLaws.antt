@@ -3,7 +3,7 @@ use Rattle.std.proofs.Common.{◌≡◌, ℕ, ◌+◌, List, [], ◌∷◌, ◌+
 use Rattle.std.proofs.lemmas.Bool.Decides.{nat_tests}
 use Rattle.saber_plan.specs.declared.rows.Row.{Row}
 use Rattle.saber_plan.specs.declared.rows.RowCause.TheVariants.{TimeOrder, TooManyHeld}
-use Rattle.saber_plan.specs.Rows.{stamp, Line, Read, SideRules, Place, Judged, skipped, taken, refused, judge, judge_at, timed, late, crowds, is_due, due, raised, in_time, accept, without_cr, is_known, no_more, after_line, read_by}
+use Rattle.saber_plan.specs.Rows.{stamp, Line, Read, SideRules, Place, Judged, skipped, taken, refused, judge, judge_at, timed_line, late, crowds, is_due, due, raised_time, in_time, accept, without_cr, is_known, no_more, after_line, read_by}
 use Rattle.saber_laws.proofs.FileLaws.{From, from_in_time, not_negative, due_stays, not_before}
 use Rattle.saber_laws.proofs.InputLaws.{Begins}
 
@@ -39,7 +39,7 @@ module _ (slack : ℕ) (high : Option ℕ) (r : Row) (timely : late slack high r
   now = is_due slack high
 
   abbrev then : Row → Bool
-  then = is_due slack (Some (raised high (stamp r.values)))
+  then = is_due slack (Some (raised_time high (stamp r.values)))
 
   more_by : (x : Row) (xs : List Row) → Begins (filter now xs) (filter then (in_time r xs)) → From (stamp x.values) xs → (b : Bool) → now x ≡ b
       → Begins (cond b (x ∷ filter now xs) (filter now xs)) (filter then (cond (nat_lt (stamp r.values) (stamp x.values)) (r ∷ x ∷ xs) (x ∷ in_time r xs)))
@@ -73,7 +73,7 @@ module _ (s : SideRules) where
     | false ↦ begins_through (due s p) (due s (accept s p zs)) (rest (accept s p zs)).rows (due_more s.slack p.high (record { side = s.side; values = zs }) l 0 p.accepted f) (go (accept s p zs) (accepted_from p zs f))
   ]
 
-  after_first : (p : Place) (j : Judged) (rest : Place → Read) → GoesOn rest → From 0 p.accepted → Begins (due s p) (after_line s p (timed s p j) rest).rows
+  after_first : (p : Place) (j : Judged) (rest : Place → Read) → GoesOn rest → From 0 p.accepted → Begins (due s p) (after_line s p (timed_line s p j) rest).rows
   after_first p skipped rest go f = go (record { lines = p.lines + 1; high = p.high; accepted = p.accepted }) f
   after_first p (taken zs) rest go f = taken_first p zs rest go f (late s.slack p.high zs) refl
   after_first p (refused c) rest go f = due_begin s.slack p.high 0 p.accepted f

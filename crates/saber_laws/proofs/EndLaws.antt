@@ -6,9 +6,9 @@ use Rattle.std.proofs.lemmas.Bool.Decides.{nat_tests}
 use Rattle.saber_plan.specs.declared.rows.Row.{Row}
 use Rattle.saber_plan.specs.declared.windows.Mark.{Mark}
 use Rattle.saber_plan.specs.Trees.{Tree}
-use Rattle.saber_plan.specs.Inputs.{Input, arrived}
-use Rattle.saber_plan.specs.Windows.{Frame, Fits, no_rows, step_mark, mark_after, mark_of, ending, mark_at, begun, closed, begun_count, closed_count, has, Ordered, place, placed_after, placed, inside}
-use Rattle.saber_plan.specs.Answers.{by_shape, frame, lines, window_answers, passing}
+use Rattle.saber_plan.specs.Inputs.{Input, first_arrivals}
+use Rattle.saber_plan.specs.Windows.{Frame, Fits, no_rows, step_mark, mark_after, mark_of, end_mark, mark_at, begun, closed, begun_count, closed_count, has, Ordered, place, placed_after, placed_from_start, inside}
+use Rattle.saber_plan.specs.Answers.{by_shape, frame, lines, window_answers, passing_values}
 use Rattle.saber_plan.specs.Parts.{no_part, part, part_lines, part_answers, row_part, group_part, pair_part, join_numbers, merge}
 use Rattle.saber_plan.specs.Facts.Lists.{Each, each-filter, slice-join, slice-front, nothing_behind}
 use Rattle.saber_plan.specs.Facts.Maps.{both_empty_right}
@@ -24,11 +24,11 @@ use Rattle.saber_laws.proofs.ShareLaws.{part-join, part-not_begun, part-closed, 
 -- ---- the marks of an input
 
 -- rows behind a mark, with the end or without
-pub after_ending : (e : Bool) (m : Mark) (xs : List Row) → mark_after (ending e m) xs ≡ ending e (mark_after m xs)
+pub after_ending : (e : Bool) (m : Mark) (xs : List Row) → mark_after (end_mark e m) xs ≡ end_mark e (mark_after m xs)
 after_ending e m [] = refl
 after_ending e m (x ∷ xs) = after_ending e (step_mark m x) xs
 
-ending_again : (d e : Bool) (m : Mark) → (d ≡ true → e ≡ true) → ending e (ending d m) ≡ ending e m
+ending_again : (d e : Bool) (m : Mark) → (d ≡ true → e ≡ true) → end_mark e (end_mark d m) ≡ end_mark e m
 ending_again d true m h = refl
 ending_again true false m h = absurd (both_ways _ refl (h refl))
 ending_again false false m h = refl
@@ -38,7 +38,7 @@ ended_case true l x y a h = grind (arith, nat_tests)
 ended_case false l x y a h = h
 
 -- an end that has come is there at each later position
-pub stays_ended : (r : Input) (x y : ℕ) → x ≤ y → (arrived r x).ended ≡ true → (arrived r y).ended ≡ true
+pub stays_ended : (r : Input) (x y : ℕ) → x ≤ y → (first_arrivals r x).ended ≡ true → (first_arrivals r y).ended ≡ true
 stays_ended r x y a h = ended_case r.ended (length r.rows) x y a h
 
 behind_case : (b : Bool) (l x : ℕ) → (b && nat_lt l x) ≡ true → l < x
@@ -46,24 +46,24 @@ behind_case true l x h = ltb-true l x h
 behind_case false l x h = absurd (both_ways _ refl h)
 
 -- and stands behind all rows
-pub end_behind : (r : Input) (x : ℕ) → (arrived r x).ended ≡ true → length r.rows < x
+pub end_behind : (r : Input) (x : ℕ) → (first_arrivals r x).ended ≡ true → length r.rows < x
 end_behind r x h = behind_case r.ended (length r.rows) x h
 
 -- where it has not come, the mark is that of the rows
-pub mark_open : (r : Input) (x : ℕ) → (arrived r x).ended ≡ false → mark_at r x ≡ mark_of (take x r.rows)
-mark_open r x e = ap (λ b. ending b (mark_of (take x r.rows))) e
+pub mark_open : (r : Input) (x : ℕ) → (first_arrivals r x).ended ≡ false → mark_at r x ≡ mark_of (take x r.rows)
+mark_open r x e = ap (λ b. end_mark b (mark_of (take x r.rows))) e
 
 pub rows_on : (xs : List Row) (x y : ℕ) → x ≤ y → mark_of (take y xs) ≡ mark_after (mark_of (take x xs)) (slice_range xs x y)
 rows_on xs x y a = ap mark_of (sym (slice-front xs y) ∙ slice-join xs 0 x y zero-le a ∙ ap (λ l. l ++ slice_range xs x y) (slice-front xs x)) ∙ mark-append no_rows (take x xs) (slice_range xs x y)
 
 -- the mark at a later position follows from that at an earlier one
-pub mark_on : (r : Input) (x y : ℕ) → x ≤ y → mark_at r y ≡ ending (arrived r y).ended (mark_after (mark_at r x) (slice_range r.rows x y))
+pub mark_on : (r : Input) (x y : ℕ) → x ≤ y → mark_at r y ≡ end_mark (first_arrivals r y).ended (mark_after (mark_at r x) (slice_range r.rows x y))
 mark_on r x y a =
-    let d = (arrived r x).ended in
-    let e = (arrived r y).ended in
+    let d = (first_arrivals r x).ended in
+    let e = (first_arrivals r y).ended in
     let m = mark_of (take x r.rows) in
     let between = slice_range r.rows x y in
-    ap (ending e) (rows_on r.rows x y a) ∙ sym (ending_again d e (mark_after m between) (stays_ended r x y a)) ∙ sym (ap (ending e) (after_ending d m between))
+    ap (end_mark e) (rows_on r.rows x y a) ∙ sym (ending_again d e (mark_after m between) (stays_ended r x y a)) ∙ sym (ap (end_mark e) (after_ending d m between))
 
 same_end : (d e : Bool) → (d ≡ true → e ≡ true) → (e ≡ true → d ≡ true) → d ≡ e
 same_end true e f g = sym (f refl)
@@ -71,18 +71,18 @@ same_end false true f g = g refl
 same_end false false f g = refl
 
 -- where the end came before, the rows alone make it
-pub mark_next : (r : Input) (x y : ℕ) → x ≤ y → ((arrived r y).ended ≡ true → (arrived r x).ended ≡ true) → mark_after (mark_at r x) (slice_range r.rows x y) ≡ mark_at r y
+pub mark_next : (r : Input) (x y : ℕ) → x ≤ y → ((first_arrivals r y).ended ≡ true → (first_arrivals r x).ended ≡ true) → mark_after (mark_at r x) (slice_range r.rows x y) ≡ mark_at r y
 mark_next r x y a k =
     let between = slice_range r.rows x y in
     let m = mark_of (take x r.rows) in
-    after_ending (arrived r x).ended m between ∙ ap (λ b. ending b (mark_after m between)) (same_end _ _ (stays_ended r x y a) k) ∙ sym (ap (ending (arrived r y).ended) (rows_on r.rows x y a))
+    after_ending (first_arrivals r x).ended m between ∙ ap (λ b. end_mark b (mark_after m between)) (same_end _ _ (stays_ended r x y a) k) ∙ sym (ap (end_mark (first_arrivals r y).ended) (rows_on r.rows x y a))
 
 open_case : (b : Bool) (l x : ℕ) → x ≤ l → (b && nat_lt l x) ≡ false
 open_case true l x h = grind (arith, nat_tests)
 open_case false l x h = refl
 
 -- it has not come at a position of a row
-pub open_at : (r : Input) (x : ℕ) → x ≤ length r.rows → (arrived r x).ended ≡ false
+pub open_at : (r : Input) (x : ℕ) → x ≤ length r.rows → (first_arrivals r x).ended ≡ false
 open_at r x h = open_case r.ended (length r.rows) x h
 
 ordered_none : (m : Mark) (xs : List Row) → xs ≡ [] → Ordered m xs
@@ -91,7 +91,7 @@ ordered_none m xs e = subst (Ordered m) (sym e) tt
 
 -- the rows from there on follow it
 pub ordered_on : (r : Input) (x y : ℕ) → Ordered no_rows r.rows → Ordered (mark_at r x) (slice_range r.rows x y)
-ordered_on r x y o = elim ((arrived r x).ended) as (λ b. (arrived r x).ended ≡ b → Ordered (mark_at r x) (slice_range r.rows x y)) [
+ordered_on r x y o = elim ((first_arrivals r x).ended) as (λ b. (first_arrivals r x).ended ≡ b → Ordered (mark_at r x) (slice_range r.rows x y)) [
   | true ↦ λ e. ordered_none (mark_at r x) _ (nothing_behind r.rows x y (let far = end_behind r x e in omega arith))
   | false ↦ λ e. subst (λ m. Ordered m (slice_range r.rows x y)) (sym (mark_open r x e)) (Ordered-slice x y r.rows o)
 ] refl
@@ -101,8 +101,8 @@ unfolding placed_after
 placed_none m n xs e = ap (placed_after m) e ∙ sym (ap (placed_after n) e)
 
 -- and are placed behind it
-pub placed_on : (r : Input) (x y : ℕ) → slice_range (placed r.rows) x y ≡ placed_after (mark_at r x) (slice_range r.rows x y)
-placed_on r x y = slice-placed r.rows x y ∙ (elim ((arrived r x).ended) as (λ b. (arrived r x).ended ≡ b → placed_after (mark_of (take x r.rows)) (slice_range r.rows x y) ≡ placed_after (mark_at r x) (slice_range r.rows x y)) [
+pub placed_on : (r : Input) (x y : ℕ) → slice_range (placed_from_start r.rows) x y ≡ placed_after (mark_at r x) (slice_range r.rows x y)
+placed_on r x y = slice-placed r.rows x y ∙ (elim ((first_arrivals r x).ended) as (λ b. (first_arrivals r x).ended ≡ b → placed_after (mark_of (take x r.rows)) (slice_range r.rows x y) ≡ placed_after (mark_at r x) (slice_range r.rows x y)) [
   | true ↦ λ e. placed_none _ _ _ (nothing_behind r.rows x y (let far = end_behind r x e in omega arith))
   | false ↦ λ e. ap (λ m. placed_after m (slice_range r.rows x y)) (sym (mark_open r x e))
 ] refl)
@@ -111,14 +111,14 @@ placed_on r x y = slice-placed r.rows x y ∙ (elim ((arrived r x).ended) as (λ
 
 pub closed_rises : (f : Frame) → Fits f → (r : Input) (x y : ℕ) → Ordered no_rows r.rows → x ≤ y → closed_count f (mark_at r x) ≤ closed_count f (mark_at r y)
 closed_rises f w r x y o a = subst (λ m. closed_count f (mark_at r x) ≤ closed_count f m) (sym (mark_on r x y a))
-    (le_trans (closed_count_rises f w (mark_at r x) (slice_range r.rows x y) (ordered_on r x y o)) (closed_count_ending f w (arrived r y).ended (mark_after (mark_at r x) (slice_range r.rows x y))))
+    (le_trans (closed_count_rises f w (mark_at r x) (slice_range r.rows x y) (ordered_on r x y o)) (closed_count_ending f w (first_arrivals r y).ended (mark_after (mark_at r x) (slice_range r.rows x y))))
 
 pub begun_rises : (f : Frame) → Fits f → (r : Input) (x y : ℕ) → Ordered no_rows r.rows → x ≤ y → begun_count f (mark_at r x) ≤ begun_count f (mark_at r y)
-begun_rises f w r x y o a = subst (λ m. begun_count f (mark_at r x) ≤ m) (sym (ap (begun_count f) (mark_on r x y a) ∙ begun_count_ending f (arrived r y).ended (mark_after (mark_at r x) (slice_range r.rows x y))))
+begun_rises f w r x y o a = subst (λ m. begun_count f (mark_at r x) ≤ m) (sym (ap (begun_count f) (mark_on r x y a) ∙ begun_count_ending f (first_arrivals r y).ended (mark_after (mark_at r x) (slice_range r.rows x y))))
     (begun_count_rises f w (mark_at r x) (slice_range r.rows x y) (ordered_on r x y o))
 
 pub closed_on : (f : Frame) → Fits f → (i : ℕ) (r : Input) (x y : ℕ) → Ordered no_rows r.rows → x ≤ y → closed f i (mark_at r x) ≡ true → closed f i (mark_at r y) ≡ true
-closed_on f w i r x y o a h = ap (closed f i) (mark_on r x y a) ∙ closed_ending f w i (arrived r y).ended (mark_after (mark_at r x) (slice_range r.rows x y)) (closed_after f i (mark_at r x) (slice_range r.rows x y) (ordered_on r x y o) h)
+closed_on f w i r x y o a h = ap (closed f i) (mark_on r x y a) ∙ closed_ending f w i (first_arrivals r y).ended (mark_after (mark_at r x) (slice_range r.rows x y)) (closed_after f i (mark_at r x) (slice_range r.rows x y) (ordered_on r x y o) h)
 
 -- ---- parts, at whatever positions
 
@@ -131,18 +131,18 @@ slice_whole l x y z h k = take_all (y - x) (drop x l) (left_over l x y h) ∙ sy
 -- past the last row there is no more
 pub part_whole : (q : Tree) (i : ℕ) (xs : List Row) (x y z : ℕ) → length xs ≤ y → length xs ≤ z → part q i xs x y ≡ part q i xs x z
 part_whole q i xs x y z h k =
-    let all : length (placed xs) ≡ length xs = length-placed no_rows xs in
-    let rows = λ (v : ℕ). slice_whole (placed xs) v y z (omega arith) (omega arith) in
-    λ j. by_shape q.shape (row_part q (filter (has (frame q) i) (rows x j))) (group_part q (passing q (filter (has (frame q) i) (rows x j)))) (pair_part q x (filter (has (frame q) i) (rows 0 j)))
+    let all : length (placed_from_start xs) ≡ length xs = length-placed no_rows xs in
+    let rows = λ (v : ℕ). slice_whole (placed_from_start xs) v y z (omega arith) (omega arith) in
+    λ j. by_shape q.shape (row_part q (filter (has (frame q) i) (rows x j))) (group_part q (passing_values q (filter (has (frame q) i) (rows x j)))) (pair_part q x (filter (has (frame q) i) (rows 0 j)))
 
 inside_before : (f : Frame) (i : ℕ) (xs : List Row) (x y : ℕ) → length xs ≤ x → Each (λ p. place p < x) (inside f i xs 0 y)
-inside_before f i xs x y h = each-filter (λ p. place p < x) (has f i) (slice_range (placed xs) 0 y) (subst (Each (λ p. place p < x)) (sym (slice-front (placed xs) y ∙ take-placed y no_rows xs)) (placed_below no_rows (take y xs) x (let few = length-take y xs in omega arith)))
+inside_before f i xs x y h = each-filter (λ p. place p < x) (has f i) (slice_range (placed_from_start xs) 0 y) (subst (Each (λ p. place p < x)) (sym (slice-front (placed_from_start xs) y ∙ take-placed y no_rows xs)) (placed_below no_rows (take y xs) x (let few = length-take y xs in omega arith)))
 
 pub part_behind : (q : Tree) (i : ℕ) (xs : List Row) (x y : ℕ) → length xs ≤ x → part q i xs x y ≡ no_part
 part_behind q i xs x y h =
-    let all : length (placed xs) ≡ length xs = length-placed no_rows xs in
-    let none = ap (filter (has (frame q) i)) (nothing_behind (placed xs) x y (omega arith)) in
-    shaped q.shape _ _ _ no_part (ap (row_part q) none ∙ row_part-nil q) (ap (λ l. group_part q (passing q l)) none ∙ group_part-empty q) (pair_part-none q x _ (inside_before (frame q) i xs x y h))
+    let all : length (placed_from_start xs) ≡ length xs = length-placed no_rows xs in
+    let none = ap (filter (has (frame q) i)) (nothing_behind (placed_from_start xs) x y (omega arith)) in
+    shaped q.shape _ _ _ no_part (ap (row_part q) none ∙ row_part-nil q) (ap (λ l. group_part q (passing_values q l)) none ∙ group_part-empty q) (pair_part-none q x _ (inside_before (frame q) i xs x y h))
 
 -- parts join at each position
 pub join_at : (q : Tree) (i : ℕ) (xs : List Row) (x y z : ℕ) → x ≤ y → y ≤ z → part q i xs x z ≡ merge (part q i xs x y) (part q i xs y z)
@@ -163,7 +163,7 @@ lines_upto q i xs y = lines-part q i (take y xs) ∙ ap (part_lines q i) (part_u
 
 -- a closed window gets nothing more
 pub part_closed : (q : Tree) (i : ℕ) (r : Input) (x y : ℕ) → Ordered no_rows r.rows → x ≤ y → closed (frame q) i (mark_at r x) ≡ true → part q i r.rows x y ≡ no_part
-part_closed q i r x y o a h = elim ((arrived r x).ended) as (λ b. (arrived r x).ended ≡ b → part q i r.rows x y ≡ no_part) [
+part_closed q i r x y o a h = elim ((first_arrivals r x).ended) as (λ b. (first_arrivals r x).ended ≡ b → part q i r.rows x y ≡ no_part) [
   | true ↦ λ e. part_behind q i r.rows x y (let far = end_behind r x e in omega arith)
   | false ↦ λ e. part-closed q i r.rows x y o a (sym (ap (closed (frame q) i) (mark_open r x e)) ∙ h)
 ] refl
@@ -180,7 +180,7 @@ answers_stay q i r x y o a h = answers_upto q i r.rows y ∙ ap (part_answers q)
 
 -- one that isn't begun has nothing yet
 pub part_not_begun : (q : Tree) (i : ℕ) (r : Input) (y : ℕ) → Ordered no_rows r.rows → begun (frame q) i (mark_at r y) ≡ false → part q i r.rows 0 y ≡ no_part
-part_not_begun q i r y o h = part-not_begun q i r.rows y o (sym (begun_ending (frame q) i (arrived r y).ended (mark_of (take y r.rows))) ∙ h)
+part_not_begun q i r y o h = part-not_begun q i r.rows y o (sym (begun_ending (frame q) i (first_arrivals r y).ended (mark_of (take y r.rows))) ∙ h)
 
 pub not_begun_part : (q : Tree) (i : ℕ) (r : Input) (x y : ℕ) → Ordered no_rows r.rows → x ≤ y → begun (frame q) i (mark_at r y) ≡ false → part q i r.rows x y ≡ no_part
 not_begun_part q i r x y o a b = both_empty_right total join_numbers exact (part q i r.rows 0 x) (part q i r.rows x y) (sym (join_at q i r.rows 0 x y zero-le a) ∙ part_not_begun q i r y o b)
@@ -191,5 +191,5 @@ cut_end : (b : Bool) (l x n : ℕ) → x ≤ n → (b && nat_lt l n) && nat_lt (
 cut_end true l x n a = grind (arith, nat_tests)
 cut_end false l x n a = refl
 
-pub arrived_twice : (r : Input) (x n : ℕ) → x ≤ n → arrived (arrived r n) x ≡ arrived r x
-arrived_twice r x n a = λ j. record { rows = take-take x n r.rows a j; ended = (ap (λ l. (arrived r n).ended && nat_lt l x) (length-take n r.rows) ∙ cut_end r.ended (length r.rows) x n a) j }
+pub arrived_twice : (r : Input) (x n : ℕ) → x ≤ n → first_arrivals (first_arrivals r n) x ≡ first_arrivals r x
+arrived_twice r x n a = λ j. record { rows = take-take x n r.rows a j; ended = (ap (λ l. (first_arrivals r n).ended && nat_lt l x) (length-take n r.rows) ∙ cut_end r.ended (length r.rows) x n a) j }

@@ -7,7 +7,7 @@ use Rattle.std.proofs.lemmas.Bool.Decides.{nat_tests}
 use Rattle.saber_plan.specs.declared.rows.Row.{Row}
 use Rattle.saber_plan.specs.declared.rows.RowCause.TheVariants.{TooManyLines, TooLong, FieldCount, TimeOrder, TooManyHeld}
 use Rattle.saber_plan.specs.declared.windows.Mark.{Mark}
-use Rattle.saber_plan.specs.Rows.{RowFits, stamp, Line, Read, before, SideRules, Place, Judged, skipped, taken, refused, judge, judge_fields, judge_numbers, timed, late, falls, crowds, is_due, due, raised, in_time, accept, without_cr, bad_field, fields_of, wide_field, numbers, is_known, no_more, after_line, read_by, lines_of, start, all_read, cut, bad}
+use Rattle.saber_plan.specs.Rows.{RowFits, stamp, Line, Read, before, SideRules, Place, Judged, skipped, taken, refused, judge, judge_fields, judge_numbers, timed_line, late, falls, crowds, is_due, due, raised_time, in_time, accept, without_cr, bad_field, fields_of, wide_field, numbers, is_known, no_more, after_line, read_by, lines_of, start, all_read, cut, bad}
 use Rattle.saber_plan.specs.Windows.{no_rows, step_mark, in_order, Ordered}
 use Rattle.saber_laws.specs.Inputs.{FileRows, FileRowsFit, WholeRowsFit, PlainFiles, PlainWholes, plain_by, plain_end, after_plain}
 
@@ -156,7 +156,7 @@ held_more s p zs k h = let row : Row = record { side = s.side; values = zs } in 
 abbrev Goes : SideRules → (Place → Read) → Type 0
 Goes s rest = (q : Place) → Held s q → Good s (rest q).rows
 
-after_good : (s : SideRules) (p : Place) (j : Judged) (rest : Place → Read) → ((zs : List ℤ) → j ≡ taken zs → Kept s.columns s.most (p.lines + 1) zs) → Goes s rest → Held s p → Good s (after_line s p (timed s p j) rest).rows
+after_good : (s : SideRules) (p : Place) (j : Judged) (rest : Place → Read) → ((zs : List ℤ) → j ≡ taken zs → Kept s.columns s.most (p.lines + 1) zs) → Goes s rest → Held s p → Good s (after_line s p (timed_line s p j) rest).rows
 after_good s p skipped rest k go h = go (record { lines = p.lines + 1; high = p.high; accepted = p.accepted }) (record { good = h.good; lined = omega (arith, h.lined) })
 after_good s p (refused c) rest k go h = h.good
 after_good s p (taken zs) rest k go h = elim (late s.slack p.high zs) as (λ b. Good s (after_line s p (cond b (refused TimeOrder) (cond (crowds s p zs) (refused TooManyHeld) (taken zs))) rest).rows) [
@@ -172,7 +172,7 @@ unfolding read_by
 read_good partial s [] p h = good_end partial s p h
 read_good partial s (l ∷ ls) p h =
     let j = judge s.columns s.most (p.lines + 1) (without_cr l.content) in
-    elim (partial && not (is_known l)) as (λ b. Good s (cond {A = Read} b (no_more partial s p) (after_line s p (timed s p j) (read_by partial s ls))).rows) [
+    elim (partial && not (is_known l)) as (λ b. Good s (cond {A = Read} b (no_more partial s p) (after_line s p (timed_line s p j) (read_by partial s ls))).rows) [
       | true ↦ good_end partial s p h
       | false ↦ after_good s p j (read_by partial s ls) (λ zs e. judge_kept s.columns s.most (p.lines + 1) (without_cr l.content) zs e) (λ q k. read_good partial s ls q k) h
     ]
@@ -194,11 +194,11 @@ whole_fit s bytes = file_fits true s (lines_of bytes)
 abbrev AllDue : SideRules → Option ℕ → List Row → Type 0
 AllDue s high xs = AllByRecursion (λ (x : Row). is_due s.slack high x ≡ true) xs
 
-pub due_stays : (slack : ℕ) (high : Option ℕ) (t : ℕ) (x : Row) → is_due slack high x ≡ true → is_due slack (Some (raised high t)) x ≡ true
+pub due_stays : (slack : ℕ) (high : Option ℕ) (t : ℕ) (x : Row) → is_due slack high x ≡ true → is_due slack (Some (raised_time high t)) x ≡ true
 due_stays slack None t x e = cc
 due_stays slack (Some h) t x e = grind (arith, nat_tests)
 
-all_stay : (s : SideRules) (high : Option ℕ) (t : ℕ) (xs : List Row) → AllDue s high xs → AllDue s (Some (raised high t)) xs
+all_stay : (s : SideRules) (high : Option ℕ) (t : ℕ) (xs : List Row) → AllDue s high xs → AllDue s (Some (raised_time high t)) xs
 all_stay s high t [] h = tt
 all_stay s high t (x ∷ xs) h = (due_stays s.slack high t x h.0, all_stay s high t xs h.1)
 
@@ -219,7 +219,7 @@ behind_all : (s : SideRules) (high : Option ℕ) (r : Row) (xs : List Row) → l
 behind_all s high r [] l h = refl
 behind_all s high r (x ∷ xs) l h = ap (λ b. cond b (r ∷ x ∷ xs) (x ∷ in_time r xs)) (not_before s.slack high r.values x l h.0) ∙ ap (λ ys. x ∷ ys) (behind_all s high r xs l h.1)
 
-at_once : (slack : ℕ) (high : Option ℕ) (t : ℕ) → slack ≡ 0 → nat_le (t + slack) (raised high t) ≡ true
+at_once : (slack : ℕ) (high : Option ℕ) (t : ℕ) → slack ≡ 0 → nat_le (t + slack) (raised_time high t) ≡ true
 at_once slack None t e = grind (arith, nat_tests)
 at_once slack (Some h) t e = grind (arith, nat_tests)
 
@@ -227,7 +227,7 @@ late_falls : (slack : ℕ) (high : Option ℕ) (zs : List ℤ) → slack ≡ 0 �
 late_falls slack None zs e = refl
 late_falls slack (Some h) zs e = let same : stamp zs + slack ≡ stamp zs = omega (arith, e) in ap (λ n. nat_lt n h) same
 
-raised_last : (high : Option ℕ) (zs : List ℤ) → falls high zs ≡ false → raised high (stamp zs) ≡ stamp zs
+raised_last : (high : Option ℕ) (zs : List ℤ) → falls high zs ≡ false → raised_time high (stamp zs) ≡ stamp zs
 raised_last None zs e = refl
 raised_last (Some h) zs e = grind (arith, nat_tests)
 
@@ -246,9 +246,9 @@ module _ (s : SideRules) (none : s.slack ≡ 0) where
   abbrev Plain : (Place → Read) → (ℕ → Option ℕ → Read) → Type 0
   Plain rest plain = (q : Place) → AllDue s q.high q.accepted → rest q ≡ onto q.accepted (plain q.lines q.high)
 
-  all_more : (p : Place) (zs : List ℤ) → late s.slack p.high zs ≡ false → AllDue s p.high p.accepted → AllDue s (Some (raised p.high (stamp zs))) (in_time (record { side = s.side; values = zs }) p.accepted)
+  all_more : (p : Place) (zs : List ℤ) → late s.slack p.high zs ≡ false → AllDue s p.high p.accepted → AllDue s (Some (raised_time p.high (stamp zs))) (in_time (record { side = s.side; values = zs }) p.accepted)
   all_more p zs l h =
-      all_in_time (λ (x : Row). is_due s.slack (Some (raised p.high (stamp zs))) x ≡ true) (record { side = s.side; values = zs }) p.accepted (at_once s.slack p.high (stamp zs) none) (all_stay s p.high (stamp zs) p.accepted h)
+      all_in_time (λ (x : Row). is_due s.slack (Some (raised_time p.high (stamp zs))) x ≡ true) (record { side = s.side; values = zs }) p.accepted (at_once s.slack p.high (stamp zs) none) (all_stay s p.high (stamp zs) p.accepted h)
 
   taken_plain : (p : Place) (zs : List ℤ) (rest : Place → Read) (plain : ℕ → Option ℕ → Read) → Plain rest plain → AllDue s p.high p.accepted → (b : Bool) → falls p.high zs ≡ b
       → after_line s p (cond b (refused TimeOrder) (cond (crowds s p zs) (refused TooManyHeld) (taken zs))) rest
@@ -258,14 +258,14 @@ module _ (s : SideRules) (none : s.slack ≡ 0) where
       let row : Row = record { side = s.side; values = zs } in
       let l : late s.slack p.high zs ≡ false = late_falls s.slack p.high zs none ∙ e in
       let more = all_more p zs l h in
-      ap (λ ws. after_line s p (cond (nat_lt s.room (length ws)) (refused TooManyHeld) (taken zs)) rest) (none_wait s (Some (raised p.high (stamp zs))) (in_time row p.accepted) more)
+      ap (λ ws. after_line s p (cond (nat_lt s.room (length ws)) (refused TooManyHeld) (taken zs)) rest) (none_wait s (Some (raised_time p.high (stamp zs))) (in_time row p.accepted) more)
       ∙ ap (λ b. after_line s p (cond b (refused TooManyHeld) (taken zs)) rest) (none_below s.room)
       ∙ go (accept s p zs) more
-      ∙ ap (λ xs. onto xs (plain (p.lines + 1) (Some (raised p.high (stamp zs))))) (behind_all s p.high row p.accepted l h)
+      ∙ ap (λ xs. onto xs (plain (p.lines + 1) (Some (raised_time p.high (stamp zs))))) (behind_all s p.high row p.accepted l h)
       ∙ ap (λ t. onto (p.accepted ++ (row ∷ [])) (plain (p.lines + 1) (Some t))) (raised_last p.high zs e)
       ∙ ap (λ xs. record { rows = xs; end = (plain (p.lines + 1) (Some (stamp zs))).end }) (append_assoc p.accepted (row ∷ []) (plain (p.lines + 1) (Some (stamp zs))).rows)
 
-  after_same : (p : Place) (j : Judged) (rest : Place → Read) (plain : ℕ → Option ℕ → Read) → Plain rest plain → AllDue s p.high p.accepted → after_line s p (timed s p j) rest ≡ onto p.accepted (after_plain s p.lines p.high j plain)
+  after_same : (p : Place) (j : Judged) (rest : Place → Read) (plain : ℕ → Option ℕ → Read) → Plain rest plain → AllDue s p.high p.accepted → after_line s p (timed_line s p j) rest ≡ onto p.accepted (after_plain s p.lines p.high j plain)
   after_same p skipped rest plain go h = go (record { lines = p.lines + 1; high = p.high; accepted = p.accepted }) h
   after_same p (refused c) rest plain go h = ap (λ xs. record { rows = xs; end = bad s.side (p.lines + 1) c }) (sym (append-nil p.accepted))
   after_same p (taken zs) rest plain go h =
@@ -277,7 +277,7 @@ module _ (s : SideRules) (none : s.slack ≡ 0) where
   read_plain partial [] p h = end_onto partial s p h
   read_plain partial (l ∷ ls) p h =
       let j = judge s.columns s.most (p.lines + 1) (without_cr l.content) in
-      elim (partial && not (is_known l)) as (λ b. cond {A = Read} b (no_more partial s p) (after_line s p (timed s p j) (read_by partial s ls)) ≡ onto p.accepted (cond b (plain_end partial) (after_plain s p.lines p.high j (plain_by partial s ls)))) [
+      elim (partial && not (is_known l)) as (λ b. cond {A = Read} b (no_more partial s p) (after_line s p (timed_line s p j) (read_by partial s ls)) ≡ onto p.accepted (cond b (plain_end partial) (after_plain s p.lines p.high j (plain_by partial s ls)))) [
         | true ↦ end_onto partial s p h
         | false ↦ after_same p j (read_by partial s ls) (plain_by partial s ls) (λ q k. read_plain partial ls q k) h
       ]

@@ -6,13 +6,13 @@ use Rattle.saber_plan.specs.declared.rows.Row.{Row}
 use Rattle.saber_plan.specs.declared.windows.Mark.{Mark}
 use Rattle.saber_plan.specs.declared.windows.Kind.{Kind}
 use Rattle.saber_plan.specs.Trees.{Tree}
-use Rattle.saber_plan.specs.Inputs.{arrived}
-use Rattle.saber_plan.specs.Windows.{has_windows, step_mark, mark_after, mark_of, ending, last_mark, closed_count, begun_count, past_count, kind_of, from}
+use Rattle.saber_plan.specs.Inputs.{first_arrivals}
+use Rattle.saber_plan.specs.Windows.{has_windows, step_mark, mark_after, mark_of, end_mark, last_mark, closed_count, begun_count, past_count, kind_of, from}
 use Rattle.saber_plan.specs.Answers.{frame, entry_lines, key_cmp}
 use Rattle.saber_plan.specs.Facts.Maps.{entries-empty}
-use Rattle.saber_plan.specs.Parts.{Part, part_lines, answered}
+use Rattle.saber_plan.specs.Parts.{Part, part_lines, group_answer}
 use Rattle.saber_plan.specs.Shares.{full, part_here, is_closing, is_pending, is_opening, is_complete, of_kind, shares_here}
-use Rattle.saber_plan.specs.Tasks.{cut, row_tasks, task_count, unclosed}
+use Rattle.saber_plan.specs.Tasks.{task_start, row_tasks, task_count, unclosed}
 use Rattle.saber_laws.specs.Ends.{RowsDoNotEnd, OpenMarksCountRows, OpenInputsAreRows, EndsBeginNone, EndsCloseAll, FlushGivesNoPart, NothingOpenBehind, TasksMakeAll}
 use Rattle.saber_laws.proofs.WindowLaws.{closed_past, begun_ending, begun_count_ending}
 use Rattle.saber_laws.proofs.AssemblyLaws.{full-of_empty}
@@ -53,7 +53,7 @@ module _ (q : Tree) (m : Mark) (back : List Row) where
   a = mark_after m back
 
   abbrev b : Mark
-  b = ending true (mark_after a [])
+  b = end_mark true (mark_after a [])
 
   no_part_here : (i : ℕ) → full (part_here q i m back []) ≡ None
   no_part_here i = full-of_empty _ (no_rows_here q i m back [] refl)
@@ -63,7 +63,7 @@ module _ (q : Tree) (m : Mark) (back : List Row) where
   no_kind wanted = numbered-none _ _ _ (λ i l h. chosen_none (wanted (kind_of (frame q) i a b)) _ (no_part_here i))
 
   no_lines : (i : ℕ) → part_lines q i (part_here q i m back []) ≡ []
-  no_lines i = ap (part_lines q i) (no_rows_here q i m back [] refl) ∙ ap (λ es. entry_lines i (map (answered q.shape q.items) es)) (entries-empty key_cmp)
+  no_lines i = ap (part_lines q i) (no_rows_here q i m back [] refl) ∙ ap (λ es. entry_lines i (map (group_answer q.shape q.items) es)) (entries-empty key_cmp)
 
   nothing_of : (is : List ℕ) → flat_map (λ i. part_lines q i (part_here q i m back [])) is ≡ []
   nothing_of [] = refl
@@ -116,5 +116,5 @@ pub tasks_make_all : TasksMakeAll
 tasks_make_all n r h =
     let l = length r.rows in
     let b = r.ended in
-    let at : cut n r (task_count n r) ≡ cond b (suc l) l = all_case b (row_tasks n r) l (task_count n r * n) (enough b (row_tasks n r) n l (rows_fit l n h)) (task_count n r) refl in
-    ap (arrived r) at ∙ (λ j. record { rows = take_all (cond b (suc l) l) r.rows (long_enough b l) j; ended = whole_case b l j })
+    let at : task_start n r (task_count n r) ≡ cond b (suc l) l = all_case b (row_tasks n r) l (task_count n r * n) (enough b (row_tasks n r) n l (rows_fit l n h)) (task_count n r) refl in
+    ap (first_arrivals r) at ∙ (λ j. record { rows = take_all (cond b (suc l) l) r.rows (long_enough b l) j; ended = whole_case b l j })

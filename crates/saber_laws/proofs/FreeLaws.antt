@@ -3,14 +3,14 @@ use Rattle.std.proofs.Common.{◌≡◌, ℕ, suc, ◌+◌, ◌-◌, ◌*◌, �
 use Rattle.std.proofs.Math.Nat.{le-div_iff_mul-le}
 use Rattle.std.specs.List.{list_any}
 use Rattle.std.specs.Option.{option_map_or}
-use Rattle.saber_plan.specs.Inputs.{Input, arrived}
+use Rattle.saber_plan.specs.Inputs.{Input, first_arrivals}
 use Rattle.std.proofs.lemmas.Bool.{le-leb, leb-true, cases_lt, both_ways, false_from_ne_true}
 use Rattle.saber_plan.specs.declared.plans.Shape.TheVariants.{Select, Group, Join}
 use Rattle.saber_plan.specs.Trees.{Tree}
-use Rattle.saber_plan.specs.Windows.{Frame, Fits, no_rows, mark_of, last_mark, mark_at, Ordered, Placed, place, placed_after, placed, has, closed_count, begun_count, past_count, from}
+use Rattle.saber_plan.specs.Windows.{Frame, Fits, no_rows, mark_of, last_mark, mark_at, Ordered, Placed, place, placed_after, placed_from_start, has, closed_count, begun_count, past_count, from}
 use Rattle.saber_plan.specs.Answers.{by_shape, frame}
 use Rattle.saber_plan.specs.Parts.{part}
-use Rattle.saber_plan.specs.Tasks.{cut, upto, piece}
+use Rattle.saber_plan.specs.Tasks.{task_start, upto, piece}
 use Rattle.saber_plan.specs.Needs.{lies_open, first_place, first_open, free, part_here, piece_here, back_rows, task_rows, task_ends, back_mark}
 use Rattle.saber_laws.proofs.RowLaws.{slice-placed, Ordered-take, take-placed}
 use Rattle.saber_plan.specs.Facts.Lists.{Each, each-weaker, slice-join, slice-front, nothing_behind}
@@ -71,33 +71,33 @@ open_before f w r x y o a p b h =
     lies_at f w (mark_at r x) p b l.window (false_from_ne_true _ (λ e. both_ways _ l.unclosed (closed_on f w l.window r x y o a e))) l.holds
 
 -- rows from a position on
-pub slice_from : (r : Input) (x y : ℕ) → Each (λ p. x ≤ place p) (slice_range (placed r.rows) x y)
+pub slice_from : (r : Input) (x y : ℕ) → Each (λ p. x ≤ place p) (slice_range (placed_from_start r.rows) x y)
 slice_from r x y = ⊎_elim
-    (λ l. let all = length-placed no_rows r.rows in subst (Each (λ (p : Placed). x ≤ place p)) (sym (nothing_behind (placed r.rows) x y (omega arith))) tt)
+    (λ l. let all = length-placed no_rows r.rows in subst (Each (λ (p : Placed). x ≤ place p)) (sym (nothing_behind (placed_from_start r.rows) x y (omega arith))) tt)
     (λ l. subst (Each (λ (p : Placed). x ≤ place p)) (sym (slice-placed r.rows x y)) (subst (λ n. Each (λ (p : Placed). n ≤ place p) (placed_after (mark_of (take x r.rows)) (slice_range r.rows x y))) (behind_take r.rows x l) (placed_from (mark_of (take x r.rows)) (slice_range r.rows x y))))
     (cases_lt (length r.rows) x)
 
 -- the first open row moves on
-first_moves : (f : Frame) → Fits f → (r : Input) (x y p : ℕ) → Ordered no_rows r.rows → x ≤ y → p < x → first_open f (arrived r y) ≡ Some p → By p (first_open f (arrived r x))
+first_moves : (f : Frame) → Fits f → (r : Input) (x y p : ℕ) → Ordered no_rows r.rows → x ≤ y → p < x → first_open f (first_arrivals r y) ≡ Some p → By p (first_open f (first_arrivals r x))
 unfolding first_open
 first_moves f w r x y p o a l e =
     let xs = r.rows in
-    let split : placed (take y xs) ≡ placed (take x xs) ++ slice_range (placed xs) x y =
-    sym (take-placed y no_rows xs) ∙ sym (slice-front (placed xs) y) ∙ slice-join (placed xs) 0 x y (omega arith) a ∙ ap (λ t. t ++ slice_range (placed xs) x y) (slice-front (placed xs) x ∙ take-placed x no_rows xs) in
-    let low : Each (λ (z : Placed). place z < x) (placed (take x xs)) = placed_below no_rows (take x xs) x (omega (arith, length-take x xs)) in
-    by_first (lies_open f (mark_at r y)) (lies_open f (mark_at r x)) x p (placed (take x xs)) (slice_range (placed xs) x y)
+    let split : placed_from_start (take y xs) ≡ placed_from_start (take x xs) ++ slice_range (placed_from_start xs) x y =
+    sym (take-placed y no_rows xs) ∙ sym (slice-front (placed_from_start xs) y) ∙ slice-join (placed_from_start xs) 0 x y (omega arith) a ∙ ap (λ t. t ++ slice_range (placed_from_start xs) x y) (slice-front (placed_from_start xs) x ∙ take-placed x no_rows xs) in
+    let low : Each (λ (z : Placed). place z < x) (placed_from_start (take x xs)) = placed_below no_rows (take x xs) x (omega (arith, length-take x xs)) in
+    by_first (lies_open f (mark_at r y)) (lies_open f (mark_at r x)) x p (placed_from_start (take x xs)) (slice_range (placed_from_start xs) x y)
     (subst Rising split (placed_rising no_rows (take y xs))) low (slice_from r x y)
-    (each-weaker _ _ (λ z b. open_before f w r x y o a z b) _ (input_begun f (arrived r x) (Ordered-take no_rows x xs o))) l
+    (each-weaker _ _ (λ z b. open_before f w r x y o a z b) _ (input_begun f (first_arrivals r x) (Ordered-take no_rows x xs o))) l
     (ap (λ t. first_place (filter (lies_open f (mark_at r y)) t)) (sym split) ∙ e)
 
 -- it is a row before the position
-first_before : (f : Frame) (r : Input) (x p : ℕ) → first_open f (arrived r x) ≡ Some p → p < x
+first_before : (f : Frame) (r : Input) (x p : ℕ) → first_open f (first_arrivals r x) ≡ Some p → p < x
 unfolding first_open
-first_before f r x p e = first_below (lies_open f (mark_at r x)) x (placed (take x r.rows)) (placed_below no_rows (take x r.rows) x (omega (arith, length-take x r.rows))) p e
+first_before f r x p e = first_below (lies_open f (mark_at r x)) x (placed_from_start (take x r.rows)) (placed_below no_rows (take x r.rows) x (omega (arith, length-take x r.rows))) p e
 
-first_within : (f : Frame) (r : Input) (x p : ℕ) → first_open f (arrived r x) ≡ Some p → p < length r.rows
+first_within : (f : Frame) (r : Input) (x p : ℕ) → first_open f (first_arrivals r x) ≡ Some p → p < length r.rows
 unfolding first_open
-first_within f r x p e = first_below (lies_open f (mark_at r x)) (length r.rows) (placed (take x r.rows)) (placed_below no_rows (take x r.rows) (length r.rows) (omega (arith, length-take x r.rows))) p e
+first_within f r x p e = first_below (lies_open f (mark_at r x)) (length r.rows) (placed_from_start (take x r.rows)) (placed_below no_rows (take x r.rows) (length r.rows) (omega (arith, length-take x r.rows))) p e
 
 none_open : (l : Placed → Bool) (ps : List Placed) → ((x : Placed) → l x ≡ false) → first_place (filter l ps) ≡ None
 none_open l [] h = refl
@@ -110,7 +110,7 @@ no_window p a n e = ap (λ k. list_any p (from a k)) e
 -- behind the end nothing is open
 nothing_open : (f : Frame) (r : Input) → r.ended ≡ true → first_open f r ≡ None
 unfolding first_open
-nothing_open f r e = none_open (lies_open f (last_mark r)) (placed r.rows) (λ x.
+nothing_open f r e = none_open (lies_open f (last_mark r)) (placed_from_start r.rows) (λ x.
     let all : closed_count f (last_mark r) ≡ begun_count f (last_mark r) = ap (λ b. cond (b || (mark_of r.rows).ended) (begun_count f (last_mark r)) (past_count f (last_mark r))) e in
     no_window (λ i. has f i x) (closed_count f (last_mark r)) (begun_count f (last_mark r) - closed_count f (last_mark r)) (omega (arith, all)))
 
@@ -119,11 +119,11 @@ nothing_open f r e = none_open (lies_open f (last_mark r)) (placed r.rows) (λ x
 abbrev pub free_by : ℕ → ℕ → Option ℕ → ℕ
 free_by n t o = option_map_or (λ p. p / n) o t
 
-free_low : (n : ℕ) (r : Input) (t : ℕ) (o : Option ℕ) → 1 ≤ n → ((p : ℕ) → o ≡ Some p → (p < cut n r t) × (p < length r.rows)) → free_by n t o ≤ t
+free_low : (n : ℕ) (r : Input) (t : ℕ) (o : Option ℕ) → 1 ≤ n → ((p : ℕ) → o ≡ Some p → (p < task_start n r t) × (p < length r.rows)) → free_by n t o ≤ t
 free_low n r t None h f = le_refl t
 free_low n r t (Some p) h f = let there = f p refl in let below = div_below p n t h (row_before n r t p h there.0 there.1) in omega arith
 
-first_there : (f : Frame) (r : Input) (x p : ℕ) → first_open f (arrived r x) ≡ Some p → (p < x) × (p < length r.rows)
+first_there : (f : Frame) (r : Input) (x p : ℕ) → first_open f (first_arrivals r x) ≡ Some p → (p < x) × (p < length r.rows)
 first_there f r x p e = (first_before f r x p e, first_within f r x p e)
 
 -- a task looks back, and not forward
@@ -132,19 +132,19 @@ free_at_most q n r t h =
     elim (q.shape) as (λ s. by_shape s t t (free_by n t (first_open (frame q) (upto n r t))) ≤ t) [
       | Select ↦ le_refl t
       | Group ↦ le_refl t
-      | Join ↦ free_low n r t _ h (λ p e. first_there (frame q) r (cut n r t) p e)
+      | Join ↦ free_low n r t _ h (λ p e. first_there (frame q) r (task_start n r t) p e)
     ]
 
 by_rise : (n t : ℕ) (o : Option ℕ) (p : ℕ) → 1 ≤ n → By p o → free_by n t o ≤ p / n
 by_rise n t None p h b = cc
 by_rise n t (Some r) p h b = div_rises r p n h (leb-true r p b)
 
-rise_case : (n : ℕ) (r : Input) (t : ℕ) (o u : Option ℕ) → 1 ≤ n → free_by n t o ≤ t → ((p : ℕ) → u ≡ Some p → p < length r.rows) → ((p : ℕ) → u ≡ Some p → p < cut n r t → By p o) → free_by n t o ≤ free_by n (t + 1) u
+rise_case : (n : ℕ) (r : Input) (t : ℕ) (o u : Option ℕ) → 1 ≤ n → free_by n t o ≤ t → ((p : ℕ) → u ≡ Some p → p < length r.rows) → ((p : ℕ) → u ≡ Some p → p < task_start n r t → By p o) → free_by n t o ≤ free_by n (t + 1) u
 rise_case n r t o None h l f g = omega arith
 rise_case n r t o (Some p) h l f g = ⊎_elim
     (λ b. by_rise n t o p h (g p refl b))
     (λ b. le_trans l (div_from p n t h (row_from n r t p b (f p refl))))
-    (cases_lt p (cut n r t))
+    (cases_lt p (task_start n r t))
 
 -- and a later task looks no further back
 pub free_rises : (q : Tree) → Fits (frame q) → (n : ℕ) (r : Input) (t : ℕ) → Ordered no_rows r.rows → 1 ≤ n → free q n r t ≤ free q n r (t + 1)
@@ -153,22 +153,22 @@ free_rises q w n r t o h =
       | Select ↦ omega arith
       | Group ↦ omega arith
       | Join ↦ rise_case n r t (first_open (frame q) (upto n r t)) (first_open (frame q) (upto n r (t + 1))) h
-          (free_low n r t _ h (λ p e. first_there (frame q) r (cut n r t) p e))
-          (λ p e. first_within (frame q) r (cut n r (t + 1)) p e)
-          (λ p e l. first_moves (frame q) w r (cut n r t) (cut n r (t + 1)) p o (cut_rises n r t) l e)
+          (free_low n r t _ h (λ p e. first_there (frame q) r (task_start n r t) p e))
+          (λ p e. first_within (frame q) r (task_start n r (t + 1)) p e)
+          (λ p e l. first_moves (frame q) w r (task_start n r t) (task_start n r (t + 1)) p o (cut_rises n r t) l e)
     ]
 
 -- ---- the rows of a task's need are enough
 
-not_past_case : (n : ℕ) (r : Input) (t : ℕ) (o : Option ℕ) → 1 ≤ n → ((p : ℕ) → o ≡ Some p → p < length r.rows) → Not_past (cut n r (free_by n t o)) o
+not_past_case : (n : ℕ) (r : Input) (t : ℕ) (o : Option ℕ) → 1 ≤ n → ((p : ℕ) → o ≡ Some p → p < length r.rows) → Not_past (task_start n r (free_by n t o)) o
 not_past_case n r t None h f = refl
 not_past_case n r t (Some p) h f = le-leb _ _ (cut_by n r (p / n) p h (at_most p n h) (f p refl))
 
 pub free_join : (q : Tree) (n : ℕ) (r : Input) (t : ℕ) → q.shape ≡ Join → free q n r t ≡ free_by n t (first_open (frame q) (upto n r t))
 free_join q n r t e = ap (λ s. by_shape s t t (free_by n t (first_open (frame q) (upto n r t)))) e
 
-pub free_not_past : (q : Tree) (n : ℕ) (r : Input) (t : ℕ) → 1 ≤ n → q.shape ≡ Join → Not_past (cut n r (free q n r t)) (first_open (frame q) (upto n r t))
-free_not_past q n r t h e = subst (λ k. Not_past (cut n r k) (first_open (frame q) (upto n r t))) (sym (free_join q n r t e)) (not_past_case n r t _ h (λ p g. first_within (frame q) r (cut n r t) p g))
+pub free_not_past : (q : Tree) (n : ℕ) (r : Input) (t : ℕ) → 1 ≤ n → q.shape ≡ Join → Not_past (task_start n r (free q n r t)) (first_open (frame q) (upto n r t))
+free_not_past q n r t h e = subst (λ k. Not_past (task_start n r k) (first_open (frame q) (upto n r t))) (sym (free_join q n r t e)) (not_past_case n r t _ h (λ p g. first_within (frame q) r (task_start n r t) p g))
 
 -- a task behind the end needs no row
 pub free_end : (q : Tree) (n : ℕ) (r : Input) (t : ℕ) → (upto n r t).ended ≡ true → free q n r t ≡ t
@@ -183,9 +183,9 @@ pub free_ended : (q : Tree) (n : ℕ) (r : Input) (t : ℕ) → (upto n r t).end
 free_ended q n r t e = ap (λ k. (upto n r k).ended) (free_end q n r t e) ∙ e
 
 -- the part of task t is that of its need's rows alone
-pub need_part : (q : Tree) → Fits (frame q) → (n : ℕ) (r : Input) (t : ℕ) → Ordered no_rows r.rows → 1 ≤ n → (i : ℕ) → part_here q i (back_mark q n r t) (back_rows q n r t) (task_rows n r t) ≡ part q i r.rows (cut n r t) (cut n r (t + 1))
-need_part q w n r t o h i = part_here_is q w r (cut n r (free q n r t)) (cut n r t) (cut n r (t + 1)) o (cut_keeps n r _ t (free_at_most q n r t h)) (cut_rises n r t) (free_not_past q n r t h) i
+pub need_part : (q : Tree) → Fits (frame q) → (n : ℕ) (r : Input) (t : ℕ) → Ordered no_rows r.rows → 1 ≤ n → (i : ℕ) → part_here q i (back_mark q n r t) (back_rows q n r t) (task_rows n r t) ≡ part q i r.rows (task_start n r t) (task_start n r (t + 1))
+need_part q w n r t o h i = part_here_is q w r (task_start n r (free q n r t)) (task_start n r t) (task_start n r (t + 1)) o (cut_keeps n r _ t (free_at_most q n r t h)) (cut_rises n r t) (free_not_past q n r t h) i
 
 -- and so is its piece
 pub need_piece : (q : Tree) → Fits (frame q) → (n : ℕ) (r : Input) (t : ℕ) → Ordered no_rows r.rows → 1 ≤ n → piece_here q (back_mark q n r t) (back_rows q n r t) (task_rows n r t) (task_ends n r t) ≡ piece q n r t
-need_piece q w n r t o h = piece_here_is q w r (cut n r (free q n r t)) (cut n r t) (cut n r (t + 1)) o (cut_keeps n r _ t (free_at_most q n r t h)) (cut_rises n r t) (free_not_past q n r t h) (free_ended q n r t)
+need_piece q w n r t o h = piece_here_is q w r (task_start n r (free q n r t)) (task_start n r t) (task_start n r (t + 1)) o (cut_keeps n r _ t (free_at_most q n r t h)) (cut_rises n r t) (free_not_past q n r t h) (free_ended q n r t)

@@ -2,7 +2,7 @@
 use Rattle.std.proofs.Common.{◌≡◌, ℕ, ◌+◌, ◌<◌, ◌≤◌, List, [], ◌∷◌, ◌++◌, length, Bool, true, false, cond, not, ◌&&◌, ◌==◌, nat_lt, nat_le, ◌⊎◌, inl, inr, ⊎_elim, refl, sym, ◌∙◌, ap, subst, append-nil, arith}
 use Rattle.saber_plan.specs.declared.rows.Row.{Row}
 use Rattle.saber_plan.specs.declared.rows.RowCause.TheVariants.{TooManyLines, TooLong}
-use Rattle.saber_plan.specs.Rows.{Line, onto_line, lines_of, End, cut, bad, Read, before, stamp, SideRules, Place, start, Judged, skipped, taken, refused, judge_at, timed, accept, without_cr, is_known, no_more, after_line, read_by}
+use Rattle.saber_plan.specs.Rows.{Line, onto_line, lines_of, End, cut, bad, Read, before, stamp, SideRules, Place, start, Judged, skipped, taken, refused, judge_at, timed_line, accept, without_cr, is_known, no_more, after_line, read_by}
 use Rattle.saber_plan.specs.Facts.Lines.{length-without_cr, judged_long, long_known, long_open}
 use Rattle.saber_plan.specs.Inputs.{holds_up, alone, merged_rows}
 use Rattle.saber_laws.specs.Fronts.{IsFirstOf, AllAreFirst, WholeLinesAreFirst, MergesKeepFirst, InputsKeepFirst}
@@ -106,7 +106,7 @@ module _ (partial : Bool) (s : SideRules) where
   long_read : (partly : Bool) (l : Line) (ls : List Line) (p : Place) → 4097 < length l.content → read_by partly s (l ∷ ls) p ≡ record { rows = p.accepted; end = bad s.side (p.lines + 1) (cond (nat_lt s.most (p.lines + 1)) TooManyLines TooLong) }
   long_read partly l ls p h =
       known partly l ls p (long_known partly l h)
-      ∙ ap (λ j. after_line s p (timed s p j) (read_by partly s ls)) (judged_long s.columns s.most (p.lines + 1) (without_cr l.content) (omega (arith, length-without_cr l.content, h)))
+      ∙ ap (λ j. after_line s p (timed_line s p j) (read_by partly s ls)) (judged_long s.columns s.most (p.lines + 1) (without_cr l.content) (omega (arith, length-without_cr l.content, h)))
 
   open_line : (l : Line) (ls ms : List Line) (p : Place) → GoesOn l ms → From 0 p.accepted → (c : Bool) → is_known l ≡ c → SoFar (read_by true s (l ∷ ls) p) (read_by partial s ms p)
   open_line l ls ms p g k false e = cut_here (l ∷ ls) ms p (unknown l ls p e) k

@@ -6,13 +6,13 @@ use Rattle.std.specs.Cmp.{nat_cmp_total}
 use Rattle.std.specs.FinMap.{get, from_entries, is_sorted, entries_sorted}
 use Rattle.saber_plan.specs.declared.windows.Kind.{Kind}
 use Rattle.saber_plan.specs.Trees.{Tree}
-use Rattle.saber_plan.specs.Inputs.{Input, arrived}
+use Rattle.saber_plan.specs.Inputs.{Input, first_arrivals}
 use Rattle.saber_plan.specs.Windows.{mark_at, closed_count, begun_count}
 use Rattle.saber_plan.specs.Answers.{frame}
 use Rattle.saber_plan.specs.Merges.{join}
 use Rattle.saber_plan.specs.Facts.Maps.{get-both}
 use Rattle.saber_plan.specs.Parts.{Part, part, merge}
-use Rattle.saber_plan.specs.Shares.{full, numbered, is_closed, is_pending, is_opening, of_kind, entries_in, handed_between}
+use Rattle.saber_plan.specs.Shares.{full, numbered_list, is_closed, is_pending, is_opening, of_kind, entries_in, handed_between}
 use Rattle.saber_plan.specs.Tasks.{unclosed}
 use Rattle.saber_laws.specs.Shares.{Between}
 use Rattle.saber_laws.specs.Words.{HandedRise, HandedPartsAre, HandedIsTakenIn, OpenBehind}
@@ -55,31 +55,31 @@ module _ (ca ga cb gb : ℕ) (ca_cb : ca ≤ cb) (ga_gb : ga ≤ gb) (ca_ga : ca
     abbrev chosen : (Option Kind → Bool) → ℕ → Option Part
     chosen wanted i = cond (wanted (kind i)) (at i) None
 
-    all_chosen : (wanted : Option Kind → Bool) (a b : ℕ) → ((i : ℕ) → a ≤ i → i < b → wanted (kind i) ≡ true) → numbered a (b - a) (chosen wanted) ≡ numbered a (b - a) at
+    all_chosen : (wanted : Option Kind → Bool) (a b : ℕ) → ((i : ℕ) → a ≤ i → i < b → wanted (kind i) ≡ true) → numbered_list a (b - a) (chosen wanted) ≡ numbered_list a (b - a) at
     all_chosen wanted a b h = numbered-same a (b - a) (chosen wanted) at (λ i l k. ap (λ c. cond c (at i) None) (h i l (omega (arith, l, k))))
 
-    none_chosen : (wanted : Option Kind → Bool) (a b : ℕ) → ((i : ℕ) → a ≤ i → i < b → wanted (kind i) ≡ false) → numbered a (b - a) (chosen wanted) ≡ []
+    none_chosen : (wanted : Option Kind → Bool) (a b : ℕ) → ((i : ℕ) → a ≤ i → i < b → wanted (kind i) ≡ false) → numbered_list a (b - a) (chosen wanted) ≡ []
     none_chosen wanted a b h = numbered-none a (b - a) (chosen wanted) (λ i l k. ap (λ c. cond c (at i) None) (h i l (omega (arith, l, k))))
 
-    cut : (f : ℕ → Option Part) → numbered ca (gb - ca) f ≡ numbered ca (cb - ca) f ++ (numbered cb (max cb ga - cb) f ++ numbered (max cb ga) (gb - max cb ga) f)
+    cut : (f : ℕ → Option Part) → numbered_list ca (gb - ca) f ≡ numbered_list ca (cb - ca) f ++ (numbered_list cb (max cb ga - cb) f ++ numbered_list (max cb ga) (gb - max cb ga) f)
     cut f = numbered-three ca cb (max cb ga) gb f (omega arith) (omega arith) (omega arith)
 
-    closed_are : numbered ca (gb - ca) (chosen is_closed) ≡ numbered ca (cb - ca) at
+    closed_are : numbered_list ca (gb - ca) (chosen is_closed) ≡ numbered_list ca (cb - ca) at
     closed_are = cut (chosen is_closed)
         ∙ (λ j. all_chosen is_closed ca cb (λ i l b. closed_first i l b) j ++ (none_chosen is_closed cb (max cb ga) (λ i l b. no_closed i l) j ++ none_chosen is_closed (max cb ga) gb (λ i l b. no_closed i (omega (arith, l))) j))
         ∙ append-nil _
 
-    pending_are : numbered ca (gb - ca) (chosen is_pending) ≡ numbered cb (max cb ga - cb) at
+    pending_are : numbered_list ca (gb - ca) (chosen is_pending) ≡ numbered_list cb (max cb ga - cb) at
     pending_are = cut (chosen is_pending)
         ∙ (λ j. none_chosen is_pending ca cb (λ i l b. no_pending_before i b) j ++ (all_chosen is_pending cb (max cb ga) (λ i l b. pending_among i l b) j ++ none_chosen is_pending (max cb ga) gb (λ i l b. no_pending_behind i l) j))
         ∙ append-nil _
 
-    opening_are : numbered ca (gb - ca) (chosen is_opening) ≡ numbered (max cb ga) (gb - max cb ga) at
+    opening_are : numbered_list ca (gb - ca) (chosen is_opening) ≡ numbered_list (max cb ga) (gb - max cb ga) at
     opening_are = cut (chosen is_opening)
         ∙ (λ j. none_chosen is_opening ca cb (λ i l b. no_opening i (omega (arith, b))) j ++ (none_chosen is_opening cb (max cb ga) (λ i l b. no_opening i b) j ++ all_chosen is_opening (max cb ga) gb (λ i l b. opening_last i l b) j))
 
     -- the three lists, one after another, are that of all windows
-    three_are : numbered ca (gb - ca) (chosen is_closed) ++ (numbered ca (gb - ca) (chosen is_pending) ++ numbered ca (gb - ca) (chosen is_opening)) ≡ numbered ca (gb - ca) at
+    three_are : numbered_list ca (gb - ca) (chosen is_closed) ++ (numbered_list ca (gb - ca) (chosen is_pending) ++ numbered_list ca (gb - ca) (chosen is_opening)) ≡ numbered_list ca (gb - ca) at
     three_are = (λ j. closed_are j ++ (pending_are j ++ opening_are j)) ∙ sym (cut at)
 
 -- ---- what is handed on
@@ -98,14 +98,14 @@ module _ (q : Tree) (r : Input) (x y : ℕ) (t : Between q r x y) where
   rising = le_trans (closed_rises (frame q) t.fits r x y t.ordered t.rises) (closed_within_begun (frame q) t.fits (mark_at r y))
 
   -- each window's part, if it isn't empty
-  handed_are : entries_in (handed_between q r x y) ≡ numbered first (past - first) at
+  handed_are : entries_in (handed_between q r x y) ≡ numbered_list first (past - first) at
   unfolding handed_between of_kind
   handed_are =
       let f = frame q in
       let a = mark_at r x in
       let b = mark_at r y in
       let counted = λ (i : ℕ). kind_is f t.fits i a b in
-      let by = λ (wanted : Option Kind → Bool) (kinds : ℕ → Option Kind). numbered first (past - first) (λ i. cond (wanted (kinds i)) (at i) None) in
+      let by = λ (wanted : Option Kind → Bool) (kinds : ℕ → Option Kind). numbered_list first (past - first) (λ i. cond (wanted (kinds i)) (at i) None) in
       (λ j. by is_closed (λ i. counted i j) ++ (by is_pending (λ i. counted i j) ++ by is_opening (λ i. counted i j)))
       ∙ three_are first (begun_count f a) (closed_count f b) past (closed_rises f t.fits r x y t.ordered t.rises) (begun_rises f t.fits r x y t.ordered t.rises) (closed_within_begun f t.fits a) (closed_within_begun f t.fits b) at
 
@@ -131,14 +131,14 @@ pub handed_rise : HandedRise
 handed_rise q r x y t =
     let c = first q r x y t in
     let n = past q r x y t - first q r x y t in
-    subst (λ es. T (is_sorted nat_cmp es)) (entries-numbered c n (at q r x y t) ∙ sym (handed_are q r x y t)) (entries_sorted (from_entries {R = nat_cmp} (numbered c n (at q r x y t))))
+    subst (λ es. T (is_sorted nat_cmp es)) (entries-numbered c n (at q r x y t) ∙ sym (handed_are q r x y t)) (entries_sorted (from_entries {R = nat_cmp} (numbered_list c n (at q r x y t))))
 
 pub handed_parts : HandedPartsAre
 handed_parts q r x y t i p e = kept_is (nat_le (first q r x y t) i) (part q i r.rows x y) p (sym (handed_at q r x y t i) ∙ e)
 
 pub taken_handed : HandedIsTakenIn
 taken_handed q r x y t i =
-    get-both nat_cmp_total merge (unclosed q (arrived r x)) (from_entries {R = nat_cmp} (entries_in (handed_between q r x y))) i
+    get-both nat_cmp_total merge (unclosed q (first_arrivals r x)) (from_entries {R = nat_cmp} (entries_in (handed_between q r x y))) i
     ∙ ap₂ (join merge) (unclosed_at q t.fits r x i t.ordered) (handed_at q r x y t i)
     ∙ joined_case q r x y t (nat_le (first q r x y t) i) i
 

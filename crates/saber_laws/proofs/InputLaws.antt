@@ -11,7 +11,7 @@ use Rattle.saber_plan.specs.Rows.{End, all_read, cut, bad, Read, before, stamp}
 use Rattle.saber_laws.proofs.WindowLaws.{goes_on}
 use Rattle.saber_plan.specs.Windows.{by_side, step_mark, mark_after, in_order, can_follow, Ordered, placed_after, own, from}
 use Rattle.saber_plan.specs.Answers.{is_left, is_right}
-use Rattle.saber_plan.specs.Inputs.{holds_up, alone, merged_rows, merged}
+use Rattle.saber_plan.specs.Inputs.{holds_up, alone, merged_rows, merged_read}
 use Rattle.saber_laws.specs.Inputs.{on}
 use Rattle.saber_plan.specs.Facts.Lists.{Each}
 use Rattle.saber_plan.specs.Facts.Rows.{Ordered-none}
@@ -62,7 +62,7 @@ ordered_both e d xs ys = both_sides (λ us vs. (m : Mark) → Ordered m us → O
     (λ x us y vs left right m o p. ordered_step e d x us y vs m o p left right _ refl) xs ys
 
 -- the timestamps of the merge do not fall, where those of each side do not
-pub merged_ordered : (l r : Read) (m : Mark) → Ordered m l.rows → Ordered m r.rows → Ordered m (merged l r).rows
+pub merged_ordered : (l r : Read) (m : Mark) → Ordered m l.rows → Ordered m r.rows → Ordered m (merged_read l r).rows
 merged_ordered l r m o p = ordered_both l.end r.end l.rows r.rows m o p
 
 -- ---- each side's rows
@@ -139,10 +139,10 @@ right_begins e d xs ys = both_sides (λ us vs. All_of Left us → All_of Right v
     (λ x us y vs left right h k. right_step e d x us y vs h.0 k.0 (left h.1 k) (right h k.1) _) xs ys
 
 -- the rows of either side in the merge are the first of its rows
-pub merged_left : (l r : Read) → All_of Left l.rows → All_of Right r.rows → Begins (filter (on Left) (merged l r).rows) l.rows
+pub merged_left : (l r : Read) → All_of Left l.rows → All_of Right r.rows → Begins (filter (on Left) (merged_read l r).rows) l.rows
 merged_left l r h k = left_begins l.end r.end l.rows r.rows h k
 
-pub merged_right : (l r : Read) → All_of Left l.rows → All_of Right r.rows → Begins (filter (on Right) (merged l r).rows) r.rows
+pub merged_right : (l r : Read) → All_of Left l.rows → All_of Right r.rows → Begins (filter (on Right) (merged_read l r).rows) r.rows
 merged_right l r h k = right_begins l.end r.end l.rows r.rows h k
 
 -- ---- where it ends
@@ -188,7 +188,7 @@ whole_both e d xs ys = both_sides (λ us vs. All_of Left us → All_of Right vs 
     (λ x us y vs left right h k g. whole_step e d x us y vs h.0 k.0 (left h.1 k) (right h k.1) _ g) xs ys
 
 -- a merge that is read to its end has all rows of both sides, which are read to their ends
-pub merged_whole : (l r : Read) → All_of Left l.rows → All_of Right r.rows → (merged l r).end ≡ all_read → Whole (merged l r) l.end r.end l.rows r.rows
+pub merged_whole : (l r : Read) → All_of Left l.rows → All_of Right r.rows → (merged_read l r).end ≡ all_read → Whole (merged_read l r) l.end r.end l.rows r.rows
 merged_whole l r h k g = whole_both l.end r.end l.rows r.rows h k g
 
 -- ---- one row of a merge, by the heads of both sides

@@ -6,11 +6,11 @@ use Rattle.std.specs.Ordering.{nat_cmp}
 use Rattle.std.specs.FinMap.{get, from_entries, same_map, nat_cmp-IsAntisymmetric}
 use Rattle.saber_plan.specs.declared.windows.Kind.{Kind}
 use Rattle.saber_plan.specs.declared.windows.Kind.TheVariants.{Opening, Closing, Pending, Complete}
-use Rattle.saber_plan.specs.Windows.{mark_after, ending, closed_count, begun_count, kind_of}
+use Rattle.saber_plan.specs.Windows.{mark_after, end_mark, closed_count, begun_count, kind_of}
 use Rattle.saber_plan.specs.Answers.{frame}
 use Rattle.saber_plan.specs.Merges.{join, both}
 use Rattle.saber_plan.specs.Parts.{Part, merge}
-use Rattle.saber_plan.specs.Shares.{full, numbered, part_here, is_closing, is_pending, is_opening, of_kind}
+use Rattle.saber_plan.specs.Shares.{full, numbered_list, part_here, is_closing, is_pending, is_opening, of_kind}
 use Rattle.saber_plan.specs.Needs.{closing_here, pending_here, opening_here}
 use Rattle.saber_laws.specs.Needs.{PartsByKind, KindsAreTakenIn}
 use Rattle.saber_plan.specs.Facts.Maps.{join-none, get-both, both-assoc}
@@ -28,9 +28,9 @@ one_kind (Some Complete) p = refl
 
 -- maps over the same numbers in a row, number by number
 three_maps : (a n : ℕ) (f g h u : ℕ → Option Part) → ((i : ℕ) → join merge (join merge (f i) (g i)) (h i) ≡ u i)
-    → from_entries {R = nat_cmp} (numbered a n u) ≡ both merge (both merge (from_entries {R = nat_cmp} (numbered a n f)) (from_entries {R = nat_cmp} (numbered a n g))) (from_entries {R = nat_cmp} (numbered a n h))
+    → from_entries {R = nat_cmp} (numbered_list a n u) ≡ both merge (both merge (from_entries {R = nat_cmp} (numbered_list a n f)) (from_entries {R = nat_cmp} (numbered_list a n g))) (from_entries {R = nat_cmp} (numbered_list a n h))
 three_maps a n f g h u same = same_map nat_cmp_total nat_cmp-IsAntisymmetric _ _ (λ i.
-    let of = λ (v : ℕ → Option Part). get (from_entries {R = nat_cmp} (numbered a n v)) i in
+    let of = λ (v : ℕ → Option Part). get (from_entries {R = nat_cmp} (numbered_list a n v)) i in
     let all = λ (c d e : Option Part). join merge (join merge c d) e in
     ⊎_elim
     (λ l. get_low i a n u l ∙ sym (λ j. all (get_low i a n f l j) (get_low i a n g l j) (get_low i a n h l j)))
@@ -39,15 +39,15 @@ three_maps a n f g h u same = same_map nat_cmp_total nat_cmp-IsAntisymmetric _ _
     (λ k. get_high i a n u k ∙ sym (λ j. all (get_high i a n f k j) (get_high i a n g k j) (get_high i a n h k j)))
     (cases_lt i (a + n)))
     (cases_lt i a)
-    ∙ sym (get-both nat_cmp_total merge (both merge (from_entries {R = nat_cmp} (numbered a n f)) (from_entries {R = nat_cmp} (numbered a n g))) (from_entries {R = nat_cmp} (numbered a n h)) i
-    ∙ ap (λ o. join merge o (of h)) (get-both nat_cmp_total merge (from_entries {R = nat_cmp} (numbered a n f)) (from_entries {R = nat_cmp} (numbered a n g)) i)))
+    ∙ sym (get-both nat_cmp_total merge (both merge (from_entries {R = nat_cmp} (numbered_list a n f)) (from_entries {R = nat_cmp} (numbered_list a n g))) (from_entries {R = nat_cmp} (numbered_list a n h)) i
+    ∙ ap (λ o. join merge o (of h)) (get-both nat_cmp_total merge (from_entries {R = nat_cmp} (numbered_list a n f)) (from_entries {R = nat_cmp} (numbered_list a n g)) i)))
 
 pub parts_by_kind : PartsByKind
 unfolding of_kind
 parts_by_kind q m back rows ended =
     let f = frame q in
     let a = mark_after m back in
-    let b = ending ended (mark_after a rows) in
+    let b = end_mark ended (mark_after a rows) in
     let p = λ (i : ℕ). full (part_here q i m back rows) in
     parts_here q m back rows ended
     ∙ three_maps (closed_count f a) (begun_count f b - closed_count f a) (λ i. cond (is_closing (kind_of f i a b)) (p i) None) (λ i. cond (is_pending (kind_of f i a b)) (p i) None) (λ i. cond (is_opening (kind_of f i a b)) (p i) None) (λ i. cond (is_part (kind_of f i a b)) (p i) None)

@@ -7,9 +7,9 @@ use Rattle.saber_plan.specs.declared.windows.Mark.{Mark}
 use Rattle.saber_plan.specs.declared.plans.Shape.TheVariants.{Join}
 use Rattle.saber_plan.specs.Trees.{Tree}
 use Rattle.saber_plan.specs.Inputs.{Input}
-use Rattle.saber_plan.specs.Windows.{Frame, Fits, no_rows, Ordered, Placed, place, placed, closed_count, from}
+use Rattle.saber_plan.specs.Windows.{Frame, Fits, no_rows, Ordered, Placed, place, placed_from_start, closed_count, from}
 use Rattle.saber_plan.specs.Answers.{frame}
-use Rattle.saber_plan.specs.Tasks.{cut, upto}
+use Rattle.saber_plan.specs.Tasks.{task_start, upto}
 use Rattle.saber_plan.specs.Needs.{first_window, past_window, last_window, lies_open, first_place, first_open, free, later_of, last_of, reaches, free_of, block_lasts, task_mark}
 use Rattle.std.proofs.lemmas.List.Elements.{filter-append}
 use Rattle.saber_laws.proofs.WindowLaws.{closed_is}
@@ -99,13 +99,13 @@ each-drop P (suc n) (x ∷ xs) h = each-drop P n xs h.1
 each-slice : (P : Placed → Type 0) (xs : List Placed) (x y n : ℕ) → x ≤ y → y ≤ n → Each P (take n xs) → Each P (slice_range xs x y)
 each-slice P xs x y n a b h = subst (Each P) (slice-take xs x y n a b) (each-take P (y - x) (drop x (take n xs)) (each-drop P x (take n xs) h))
 
-slice_below : (xs : List Row) (x y : ℕ) → x ≤ y → Each (λ r. place r < y) (slice_range (placed xs) x y)
-slice_below xs x y a = each-slice (λ r. place r < y) (placed xs) x y y a (le_refl y) (subst (Each (λ (r : Placed). place r < y)) (sym (take-placed y no_rows xs)) (placed_below no_rows (take y xs) y (omega (arith, length-take y xs))))
+slice_below : (xs : List Row) (x y : ℕ) → x ≤ y → Each (λ r. place r < y) (slice_range (placed_from_start xs) x y)
+slice_below xs x y a = each-slice (λ r. place r < y) (placed_from_start xs) x y y a (le_refl y) (subst (Each (λ (r : Placed). place r < y)) (sym (take-placed y no_rows xs)) (placed_below no_rows (take y xs) y (omega (arith, length-take y xs))))
 
-slice_within : (xs : List Row) (x y : ℕ) → x ≤ y → Each (λ r. place r < length xs) (slice_range (placed xs) x y)
-slice_within xs x y a = each-slice (λ r. place r < length xs) (placed xs) x y y a (le_refl y) (subst (Each (λ (r : Placed). place r < length xs)) (sym (take-placed y no_rows xs)) (placed_below no_rows (take y xs) (length xs) (omega (arith, length-take y xs))))
+slice_within : (xs : List Row) (x y : ℕ) → x ≤ y → Each (λ r. place r < length xs) (slice_range (placed_from_start xs) x y)
+slice_within xs x y a = each-slice (λ r. place r < length xs) (placed_from_start xs) x y y a (le_refl y) (subst (Each (λ (r : Placed). place r < length xs)) (sym (take-placed y no_rows xs)) (placed_below no_rows (take y xs) (length xs) (omega (arith, length-take y xs))))
 
-block_of : (n : ℕ) (r : Input) (u p : ℕ) → 1 ≤ n → cut n r u ≤ p → p < cut n r (u + 1) → p < length r.rows → p / n ≡ u
+block_of : (n : ℕ) (r : Input) (u p : ℕ) → 1 ≤ n → task_start n r u ≤ p → p < task_start n r (u + 1) → p < length r.rows → p / n ≡ u
 block_of n r u p h a b c =
     let low : u ≤ p / n = div_from p n u h (row_from n r u p a c) in
     let high : p / n < u + 1 = div_below p n (u + 1) h (row_before n r (u + 1) p h b c) in
@@ -122,38 +122,38 @@ module _ (f : Frame) (w : Fits f) (n : ℕ) (r : Input) (t : ℕ) (o : Ordered n
   abbrev opened : Placed → Bool
   opened x = lies_open f mark x
 
-  told : (x y : ℕ) → x ≤ y → y ≤ cut n r t → Told opened f (closed_count f mark) (slice_range (placed r.rows) x y)
-  told x y a b = each-slice _ (placed r.rows) x y (cut n r t) a b (subst (Told opened f (closed_count f mark)) (sym (take-placed (cut n r t) no_rows r.rows)) (each-weaker _ _ (λ z k. lies_open_is f w mark z k) _ (input_begun f (upto n r t) (Ordered-take no_rows (cut n r t) r.rows o))))
+  told : (x y : ℕ) → x ≤ y → y ≤ task_start n r t → Told opened f (closed_count f mark) (slice_range (placed_from_start r.rows) x y)
+  told x y a b = each-slice _ (placed_from_start r.rows) x y (task_start n r t) a b (subst (Told opened f (closed_count f mark)) (sym (take-placed (task_start n r t) no_rows r.rows)) (each-weaker _ _ (λ z k. lies_open_is f w mark z k) _ (input_begun f (upto n r t) (Ordered-take no_rows (task_start n r t) r.rows o))))
 
-  block_case : (u k : ℕ) → (suc u + k ≡ t) → free_by n t (first_place (filter opened (slice_range (placed r.rows) (cut n r (u + 1)) (cut n r t)))) ≡ free_of (u + 1) (block_lasts f n r (u + 1) k) (closed_count f mark)
-      → (b : Bool) → reaches (last_of f (slice_range (placed r.rows) (cut n r u) (cut n r (u + 1)))) (closed_count f mark) ≡ b
-      → free_by n t (first_place (filter opened (slice_range (placed r.rows) (cut n r u) (cut n r (u + 1)) ++ slice_range (placed r.rows) (cut n r (u + 1)) (cut n r t)))) ≡ cond b u (free_of (u + 1) (block_lasts f n r (u + 1) k) (closed_count f mark))
+  block_case : (u k : ℕ) → (suc u + k ≡ t) → free_by n t (first_place (filter opened (slice_range (placed_from_start r.rows) (task_start n r (u + 1)) (task_start n r t)))) ≡ free_of (u + 1) (block_lasts f n r (u + 1) k) (closed_count f mark)
+      → (b : Bool) → reaches (last_of f (slice_range (placed_from_start r.rows) (task_start n r u) (task_start n r (u + 1)))) (closed_count f mark) ≡ b
+      → free_by n t (first_place (filter opened (slice_range (placed_from_start r.rows) (task_start n r u) (task_start n r (u + 1)) ++ slice_range (placed_from_start r.rows) (task_start n r (u + 1)) (task_start n r t)))) ≡ cond b u (free_of (u + 1) (block_lasts f n r (u + 1) k) (closed_count f mark))
   block_case u k e rest true g =
-      let block = slice_range (placed r.rows) (cut n r u) (cut n r (u + 1)) in
-      let later = slice_range (placed r.rows) (cut n r (u + 1)) (cut n r t) in
-      let within : cut n r (u + 1) ≤ cut n r t = cut_keeps n r (u + 1) t (omega arith) in
-      let here = block_some opened f (closed_count f mark) block (told (cut n r u) (cut n r (u + 1)) (cut_rises n r u) within) g in
-      let low = first_from opened (cut n r u) block (slice_from r (cut n r u) (cut n r (u + 1))) here.place_of here.is in
-      let high = first_below opened (cut n r (u + 1)) block (slice_below r.rows (cut n r u) (cut n r (u + 1)) (cut_rises n r u)) here.place_of here.is in
-      let there = first_below opened (length r.rows) block (slice_within r.rows (cut n r u) (cut n r (u + 1)) (cut_rises n r u)) here.place_of here.is in
+      let block = slice_range (placed_from_start r.rows) (task_start n r u) (task_start n r (u + 1)) in
+      let later = slice_range (placed_from_start r.rows) (task_start n r (u + 1)) (task_start n r t) in
+      let within : task_start n r (u + 1) ≤ task_start n r t = cut_keeps n r (u + 1) t (omega arith) in
+      let here = block_some opened f (closed_count f mark) block (told (task_start n r u) (task_start n r (u + 1)) (cut_rises n r u) within) g in
+      let low = first_from opened (task_start n r u) block (slice_from r (task_start n r u) (task_start n r (u + 1))) here.place_of here.is in
+      let high = first_below opened (task_start n r (u + 1)) block (slice_below r.rows (task_start n r u) (task_start n r (u + 1)) (cut_rises n r u)) here.place_of here.is in
+      let there = first_below opened (length r.rows) block (slice_within r.rows (task_start n r u) (task_start n r (u + 1)) (cut_rises n r u)) here.place_of here.is in
       ap (free_by n t) (first_on opened block later here.place_of here.is) ∙ block_of n r u here.place_of h low high there
   block_case u k e rest false g =
-      let block = slice_range (placed r.rows) (cut n r u) (cut n r (u + 1)) in
-      let later = slice_range (placed r.rows) (cut n r (u + 1)) (cut n r t) in
-      let within : cut n r (u + 1) ≤ cut n r t = cut_keeps n r (u + 1) t (omega arith) in
-      ap (λ l. free_by n t (first_place l)) (filter-append opened block later ∙ ap (λ l. l ++ filter opened later) (block_none opened f (closed_count f mark) block (told (cut n r u) (cut n r (u + 1)) (cut_rises n r u) within) g)) ∙ rest
+      let block = slice_range (placed_from_start r.rows) (task_start n r u) (task_start n r (u + 1)) in
+      let later = slice_range (placed_from_start r.rows) (task_start n r (u + 1)) (task_start n r t) in
+      let within : task_start n r (u + 1) ≤ task_start n r t = cut_keeps n r (u + 1) t (omega arith) in
+      ap (λ l. free_by n t (first_place l)) (filter-append opened block later ∙ ap (λ l. l ++ filter opened later) (block_none opened f (closed_count f mark) block (told (task_start n r u) (task_start n r (u + 1)) (cut_rises n r u) within) g)) ∙ rest
 
-  by_blocks : (k u : ℕ) → u + k ≡ t → free_by n t (first_place (filter opened (slice_range (placed r.rows) (cut n r u) (cut n r t)))) ≡ free_of u (block_lasts f n r u k) (closed_count f mark)
+  by_blocks : (k u : ℕ) → u + k ≡ t → free_by n t (first_place (filter opened (slice_range (placed_from_start r.rows) (task_start n r u) (task_start n r t)))) ≡ free_of u (block_lasts f n r u k) (closed_count f mark)
   unfolding free_of from
   by_blocks zero u e =
       let same : u ≡ t = omega arith in
-      let nothing : cut n r t - cut n r u ≡ 0 = ap (λ v. cut n r v - cut n r u) (sym same) ∙ sub_self (cut n r u) in
-      let none : slice_range (placed r.rows) (cut n r u) (cut n r t) ≡ [] = ap (λ d. take d (drop (cut n r u) (placed r.rows))) nothing in
+      let nothing : task_start n r t - task_start n r u ≡ 0 = ap (λ v. task_start n r v - task_start n r u) (sym same) ∙ sub_self (task_start n r u) in
+      let none : slice_range (placed_from_start r.rows) (task_start n r u) (task_start n r t) ≡ [] = ap (λ d. take d (drop (task_start n r u) (placed_from_start r.rows))) nothing in
       ap (λ l. free_by n t (first_place (filter opened l))) none ∙ sym same
   by_blocks (suc k) u e =
       let next : (u + 1) + k ≡ t = omega arith in
-      let within : cut n r (u + 1) ≤ cut n r t = cut_keeps n r (u + 1) t (omega arith) in
-      ap (λ l. free_by n t (first_place (filter opened l))) (slice-join (placed r.rows) (cut n r u) (cut n r (u + 1)) (cut n r t) (cut_rises n r u) within)
+      let within : task_start n r (u + 1) ≤ task_start n r t = cut_keeps n r (u + 1) t (omega arith) in
+      ap (λ l. free_by n t (first_place (filter opened l))) (slice-join (placed_from_start r.rows) (task_start n r u) (task_start n r (u + 1)) (task_start n r t) (cut_rises n r u) within)
       ∙ block_case u k (omega arith) (by_blocks k (u + 1) next) _ refl
 
 -- the free pointer is what the last windows of the blocks from an earlier one on say
@@ -163,14 +163,14 @@ unfolding first_open
 free_by_lasts q w n r t first o h e l b =
     let f = frame q in
     let m = task_mark n r t in
-    let all : placed (take (cut n r t) r.rows) ≡ slice_range (placed r.rows) 0 (cut n r first) ++ slice_range (placed r.rows) (cut n r first) (cut n r t) =
-    sym (slice-front (placed r.rows) (cut n r t) ∙ take-placed (cut n r t) no_rows r.rows) ∙ slice-join (placed r.rows) 0 (cut n r first) (cut n r t) zero-le (cut_keeps n r first t b) in
-    let whole : slice_range (placed r.rows) 0 (cut n r t) ≡ placed (take (cut n r t) r.rows) = slice-front (placed r.rows) (cut n r t) ∙ take-placed (cut n r t) no_rows r.rows in
-    let early = none_early (lies_open f m) (cut n r (free q n r t)) (placed (take (cut n r t) r.rows)) (placed_rising no_rows (take (cut n r t) r.rows)) (free_not_past q n r t h e) in
-    let front_early : Each (λ (z : Placed). place z < cut n r (free q n r t) → lies_open f m z ≡ false) (slice_range (placed r.rows) 0 (cut n r first)) =
-    each-slice _ (placed r.rows) 0 (cut n r first) (cut n r t) zero-le (cut_keeps n r first t b) (subst (Each _) (sym (take-placed (cut n r t) no_rows r.rows)) early) in
-    let none : filter (lies_open f m) (slice_range (placed r.rows) 0 (cut n r first)) ≡ [] =
-    dropped (lies_open f m) _ (each-weaker _ _ (λ z p. p.0 (lt_of_lt_of_le p.1 (cut_keeps n r first (free q n r t) l))) _ (each-both _ _ _ front_early (slice_below r.rows 0 (cut n r first) zero-le))) in
+    let all : placed_from_start (take (task_start n r t) r.rows) ≡ slice_range (placed_from_start r.rows) 0 (task_start n r first) ++ slice_range (placed_from_start r.rows) (task_start n r first) (task_start n r t) =
+    sym (slice-front (placed_from_start r.rows) (task_start n r t) ∙ take-placed (task_start n r t) no_rows r.rows) ∙ slice-join (placed_from_start r.rows) 0 (task_start n r first) (task_start n r t) zero-le (cut_keeps n r first t b) in
+    let whole : slice_range (placed_from_start r.rows) 0 (task_start n r t) ≡ placed_from_start (take (task_start n r t) r.rows) = slice-front (placed_from_start r.rows) (task_start n r t) ∙ take-placed (task_start n r t) no_rows r.rows in
+    let early = none_early (lies_open f m) (task_start n r (free q n r t)) (placed_from_start (take (task_start n r t) r.rows)) (placed_rising no_rows (take (task_start n r t) r.rows)) (free_not_past q n r t h e) in
+    let front_early : Each (λ (z : Placed). place z < task_start n r (free q n r t) → lies_open f m z ≡ false) (slice_range (placed_from_start r.rows) 0 (task_start n r first)) =
+    each-slice _ (placed_from_start r.rows) 0 (task_start n r first) (task_start n r t) zero-le (cut_keeps n r first t b) (subst (Each _) (sym (take-placed (task_start n r t) no_rows r.rows)) early) in
+    let none : filter (lies_open f m) (slice_range (placed_from_start r.rows) 0 (task_start n r first)) ≡ [] =
+    dropped (lies_open f m) _ (each-weaker _ _ (λ z p. p.0 (lt_of_lt_of_le p.1 (cut_keeps n r first (free q n r t) l))) _ (each-both _ _ _ front_early (slice_below r.rows 0 (task_start n r first) zero-le))) in
     free_join q n r t e
-    ∙ ap (λ k. free_by n t (first_place k)) (ap (filter (lies_open f m)) all ∙ filter-append (lies_open f m) (slice_range (placed r.rows) 0 (cut n r first)) (slice_range (placed r.rows) (cut n r first) (cut n r t)) ∙ ap (λ k. k ++ filter (lies_open f m) (slice_range (placed r.rows) (cut n r first) (cut n r t))) none)
+    ∙ ap (λ k. free_by n t (first_place k)) (ap (filter (lies_open f m)) all ∙ filter-append (lies_open f m) (slice_range (placed_from_start r.rows) 0 (task_start n r first)) (slice_range (placed_from_start r.rows) (task_start n r first) (task_start n r t)) ∙ ap (λ k. k ++ filter (lies_open f m) (slice_range (placed_from_start r.rows) (task_start n r first) (task_start n r t))) none)
     ∙ by_blocks f w n r t o h (t - first) first (omega arith)

@@ -1,8 +1,8 @@
 -- Which rows tell what a task gives, its parts apart by kind.
 use Rattle.std.proofs.Common.{◌+◌, slice_range, sym, ◌∙◌, ap, le_refl}
-use Rattle.saber_plan.specs.Inputs.{arrived}
+use Rattle.saber_plan.specs.Inputs.{first_arrivals}
 use Rattle.saber_plan.specs.Windows.{mark_at}
-use Rattle.saber_plan.specs.Tasks.{cut}
+use Rattle.saber_plan.specs.Tasks.{task_start}
 use Rattle.saber_plan.specs.Needs.{free}
 use Rattle.saber_plan.specs.Shares.{shares_here, handed_here}
 use Rattle.saber_laws.specs.Shares.{SharesAreLocal, SharesNeedNoMore, HandedAreLocal, HandedNeedsNoMore}
@@ -13,16 +13,16 @@ use Rattle.saber_laws.proofs.FreeLaws.{free_at_most, free_not_past, free_ended}
 
 pub local : SharesAreLocal
 local q r x y b shape =
-    ap (λ l. shares_here q (mark_at r x) l (slice_range r.rows x y) (arrived r y).ended) (sym (nothing_between r.rows x))
+    ap (λ l. shares_here q (mark_at r x) l (slice_range r.rows x y) (first_arrivals r y).ended) (sym (nothing_between r.rows x))
     ∙ shares_here_is q b.fits r x x y b.ordered (le_refl x) b.rises (λ e. absurd (shape e)) (λ e. e)
 
 pub hand_local : HandedAreLocal
 hand_local q r x y b shape =
-    ap (λ l. handed_here q (mark_at r x) l (slice_range r.rows x y) (arrived r y).ended) (sym (nothing_between r.rows x))
+    ap (λ l. handed_here q (mark_at r x) l (slice_range r.rows x y) (first_arrivals r y).ended) (sym (nothing_between r.rows x))
     ∙ handed_here_is q b.fits r x x y b.ordered (le_refl x) b.rises (λ e. absurd (shape e)) (λ e. e)
 
 pub hand_no_more : HandedNeedsNoMore
-hand_no_more q n r t h w o = handed_here_is q w r (cut n r (free q n r t)) (cut n r t) (cut n r (t + 1)) o (cut_keeps n r (free q n r t) t (free_at_most q n r t h)) (cut_rises n r t) (free_not_past q n r t h) (free_ended q n r t)
+hand_no_more q n r t h w o = handed_here_is q w r (task_start n r (free q n r t)) (task_start n r t) (task_start n r (t + 1)) o (cut_keeps n r (free q n r t) t (free_at_most q n r t h)) (cut_rises n r t) (free_not_past q n r t h) (free_ended q n r t)
 
 pub need_no_more : SharesNeedNoMore
-need_no_more q n r t h w o = shares_here_is q w r (cut n r (free q n r t)) (cut n r t) (cut n r (t + 1)) o (cut_keeps n r (free q n r t) t (free_at_most q n r t h)) (cut_rises n r t) (free_not_past q n r t h) (free_ended q n r t)
+need_no_more q n r t h w o = shares_here_is q w r (task_start n r (free q n r t)) (task_start n r t) (task_start n r (t + 1)) o (cut_keeps n r (free q n r t) t (free_at_most q n r t h)) (cut_rises n r t) (free_not_past q n r t h) (free_ended q n r t)

@@ -14,9 +14,9 @@ use Rattle.saber_plan.specs.declared.windows.Measure.TheVariants.{Rows, Range}
 use Rattle.saber_plan.specs.declared.windows.Kind.TheVariants.{Opening, Closing, Pending, Complete}
 use Rattle.saber_plan.specs.Rows.{stamp}
 use Rattle.saber_plan.specs.Trees.{Tree}
-use Rattle.saber_plan.specs.Inputs.{Input, arrived, going_on}
-use Rattle.saber_plan.specs.Windows.{Frame, unwindowed, one, two, Fits, by_side, no_rows, step_mark, mark_after, mark_of, ending, last_mark, mark_at, Ordered, Placed, place, placed_after, placed, has, begun, closed, begun_count, closed_count, kind_of, inside, from}
-use Rattle.saber_plan.specs.Answers.{by_shape, by_frame, frame, passing, selected, lines}
+use Rattle.saber_plan.specs.Inputs.{Input, first_arrivals, going_on}
+use Rattle.saber_plan.specs.Windows.{Frame, unwindowed, one, two, Fits, by_side, no_rows, step_mark, mark_after, mark_of, end_mark, last_mark, mark_at, Ordered, Placed, place, placed_after, placed_from_start, has, begun, closed, begun_count, closed_count, kind_of, inside, from}
+use Rattle.saber_plan.specs.Answers.{by_shape, by_frame, frame, passing_values, selected_lines, lines}
 use Rattle.saber_plan.specs.Parts.{no_part, part, row_part, group_part, pair_part, part_lines}
 use Rattle.saber_plan.specs.Shares.{is_complete, is_closed, is_closing, is_pending, is_opening, of_kind, part_here, shares_here, shares_between, handed_here, handed_between, piece_in}
 use Rattle.saber_plan.specs.Tasks.{piece_between}
@@ -110,7 +110,7 @@ rows_begun f m [] o = tt
 rows_begun f m (x ∷ xs) o = (λ i h. begun_after f i (step_mark m x) xs o.1 (begins f i m x.side x.values h), rows_begun f (step_mark m x) xs o.1)
 
 -- and by an input of them
-pub input_begun : (f : Frame) (r : Input) → Ordered no_rows r.rows → Each (Begun_by f (last_mark r)) (placed r.rows)
+pub input_begun : (f : Frame) (r : Input) → Ordered no_rows r.rows → Each (Begun_by f (last_mark r)) (placed_from_start r.rows)
 input_begun f r o = each-weaker _ _ (λ x b i h. begun_ending f i r.ended (mark_of r.rows) ∙ b i h) _ (rows_begun f no_rows r.rows o)
 
 -- ---- the first of them
@@ -140,16 +140,16 @@ each-both P Q [] h k = tt
 each-both P Q (x ∷ xs) h k = ((h.0, k.0), each-both P Q xs h.1 k.1)
 
 -- rows before the first open one are in no window that is not closed
-pub none_before : (f : Frame) → Fits f → (i : ℕ) (r : Input) (s : ℕ) → Ordered no_rows r.rows → Not_past s (first_open f r) → closed f i (last_mark r) ≡ false → filter (has f i) (placed (take s r.rows)) ≡ []
+pub none_before : (f : Frame) → Fits f → (i : ℕ) (r : Input) (s : ℕ) → Ordered no_rows r.rows → Not_past s (first_open f r) → closed f i (last_mark r) ≡ false → filter (has f i) (placed_from_start (take s r.rows)) ≡ []
 unfolding first_open
 none_before f w i r s o h c =
     let xs = r.rows in
     let l = lies_open f (last_mark r) in
-    let early = none_early l s (placed xs) (placed_rising no_rows xs) h in
-    let all : Each (λ (x : Placed). (place x < s → l x ≡ false) × Begun_by f (last_mark r) x) (placed xs) = each-both _ _ (placed xs) early (input_begun f r o) in
-    let front : Each (λ (x : Placed). (place x < s → l x ≡ false) × Begun_by f (last_mark r) x) (placed (take s xs)) = subst (Each _) (take-placed s no_rows xs) (each-take _ s (placed xs) all) in
-    let low : Each (λ (x : Placed). place x < s) (placed (take s xs)) = placed_below no_rows (take s xs) s (omega (arith, length-take s xs)) in
-    dropped (has f i) (placed (take s xs)) (each-weaker _ _ (λ x p. false_from_ne_true _ (λ e. both_ways _ (p.0.0 p.1) (lies_at f w (last_mark r) x p.0.1 i c e))) _ (each-both _ _ (placed (take s xs)) front low))
+    let early = none_early l s (placed_from_start xs) (placed_rising no_rows xs) h in
+    let all : Each (λ (x : Placed). (place x < s → l x ≡ false) × Begun_by f (last_mark r) x) (placed_from_start xs) = each-both _ _ (placed_from_start xs) early (input_begun f r o) in
+    let front : Each (λ (x : Placed). (place x < s → l x ≡ false) × Begun_by f (last_mark r) x) (placed_from_start (take s xs)) = subst (Each _) (take-placed s no_rows xs) (each-take _ s (placed_from_start xs) all) in
+    let low : Each (λ (x : Placed). place x < s) (placed_from_start (take s xs)) = placed_below no_rows (take s xs) s (omega (arith, length-take s xs)) in
+    dropped (has f i) (placed_from_start (take s xs)) (each-weaker _ _ (λ x p. false_from_ne_true _ (λ e. both_ways _ (p.0.0 p.1) (lies_at f w (last_mark r) x p.0.1 i c e))) _ (each-both _ _ (placed_from_start (take s xs)) front low))
 
 -- ---- the part over a task's rows, from them and the rows looked back on
 
@@ -191,7 +191,7 @@ module _ (q : Tree) (w : Fits (frame q)) (xs : List Row) (s x y : ℕ) (o : Orde
   -- those of one that isn't have no row before s
   open_pairs : (i : ℕ) → Not_past s (first_open (frame q) (going_on (take x xs))) → closed (frame q) i (mark_of (take x xs)) ≡ false → pair_part q x (inside (frame q) i xs s y) ≡ pair_part q x (inside (frame q) i xs 0 y)
   open_pairs i n c =
-      let none : inside (frame q) i xs 0 s ≡ [] = ap (filter (has (frame q) i)) (slice-front (placed xs) s ∙ take-placed s no_rows xs ∙ ap (λ l. placed l) (sym (take-take s x xs d))) ∙ none_before (frame q) w i (going_on (take x xs)) s (Ordered-take no_rows x xs o) n c in
+      let none : inside (frame q) i xs 0 s ≡ [] = ap (filter (has (frame q) i)) (slice-front (placed_from_start xs) s ∙ take-placed s no_rows xs ∙ ap (λ l. placed_from_start l) (sym (take-take s x xs d))) ∙ none_before (frame q) w i (going_on (take x xs)) s (Ordered-take no_rows x xs o) n c in
       sym (ap (pair_part q x) (inside-join (frame q) i xs 0 s y zero-le (le_trans d a) ∙ ap (λ l. l ++ inside (frame q) i xs s y) none))
 
   pairs_case : (i : ℕ) → Not_past s (first_open (frame q) (going_on (take x xs))) → (b : Bool) → closed (frame q) i (mark_of (take x xs)) ≡ b → pair_part q x (inside (frame q) i xs s y) ≡ pair_part q x (inside (frame q) i xs 0 y)
@@ -207,11 +207,11 @@ module _ (q : Tree) (w : Fits (frame q)) (xs : List Row) (s x y : ℕ) (o : Orde
   rows_here n i =
       elim (q.shape) as (λ t. (t ≡ Join → Not_past s (first_open (frame q) (going_on (take x xs)))) → by_shape t
       (row_part q (filter (has (frame q) i) (placed_after (mark_after (mark_of (take s xs)) (slice_range xs s x)) (slice_range xs x y))))
-      (group_part q (passing q (filter (has (frame q) i) (placed_after (mark_after (mark_of (take s xs)) (slice_range xs s x)) (slice_range xs x y)))))
+      (group_part q (passing_values q (filter (has (frame q) i) (placed_after (mark_after (mark_of (take s xs)) (slice_range xs s x)) (slice_range xs x y)))))
       (pair_part q ((mark_of (take s xs)).left + (mark_of (take s xs)).right + length (slice_range xs s x)) (filter (has (frame q) i) (placed_after (mark_of (take s xs)) (slice_range xs s x ++ slice_range xs x y))))
-      ≡ by_shape t (row_part q (inside (frame q) i xs x y)) (group_part q (passing q (inside (frame q) i xs x y))) (pair_part q x (inside (frame q) i xs 0 y))) [
+      ≡ by_shape t (row_part q (inside (frame q) i xs x y)) (group_part q (passing_values q (inside (frame q) i xs x y))) (pair_part q x (inside (frame q) i xs 0 y))) [
         | Select ↦ λ n. ap (row_part q) (group_rows i)
-        | Group ↦ λ n. ap (λ l. group_part q (passing q l)) (group_rows i)
+        | Group ↦ λ n. ap (λ l. group_part q (passing_values q l)) (group_rows i)
         | Join ↦ λ n. ap (λ p. pair_part q p (filter (has (frame q) i) (placed_after (mark_of (take s xs)) (slice_range xs s x ++ slice_range xs x y)))) back_place ∙ ap (pair_part q x) (back_inside i) ∙ pairs_case i (n refl) _ refl
       ] n
 
@@ -232,14 +232,14 @@ module _ (q : Tree) (w : Fits (frame q)) (r : Input) (s x y : ℕ) (o : Ordered 
   abbrev rows : List Row
   rows = slice_range r.rows x y
 
-  among_rows : (q.shape ≡ Join → Not_past s (first_open (frame q) (arrived r x))) → x ≤ length r.rows → (i : ℕ) → part_here q i (mark_at r s) back rows ≡ part q i r.rows x y
+  among_rows : (q.shape ≡ Join → Not_past s (first_open (frame q) (first_arrivals r x))) → x ≤ length r.rows → (i : ℕ) → part_here q i (mark_at r s) back rows ≡ part q i r.rows x y
   among_rows n h i =
-      let here : arrived r x ≡ going_on (take x r.rows) = λ j. record { rows = take x r.rows; ended = open_at r x h j } in
+      let here : first_arrivals r x ≡ going_on (take x r.rows) = λ j. record { rows = take x r.rows; ended = open_at r x h j } in
       ap (λ m. part_here q i m back rows) (mark_open r s (open_at r s (le_trans d h)))
       ∙ rows_here q w r.rows s x y o d a h (λ e. subst (λ u. Not_past s (first_open (frame q) u)) here (n e)) i
 
   -- the part is the same, from rows s to x and x to y alone, where no row before s lies in a window that is open at x
-  pub part_here_is : (q.shape ≡ Join → Not_past s (first_open (frame q) (arrived r x))) → (i : ℕ) → part_here q i (mark_at r s) back rows ≡ part q i r.rows x y
+  pub part_here_is : (q.shape ≡ Join → Not_past s (first_open (frame q) (first_arrivals r x))) → (i : ℕ) → part_here q i (mark_at r s) back rows ≡ part q i r.rows x y
   part_here_is n i = ⊎_elim
       (λ l. no_rows_here q i (mark_at r s) back rows (nothing_behind r.rows x y (omega arith)) ∙ sym (part_behind q i r.rows x y (omega arith)))
       (λ l. among_rows n l i)
@@ -251,36 +251,36 @@ module _ (q : Tree) (w : Fits (frame q)) (r : Input) (s x y : ℕ) (o : Ordered 
   complete_not_begun i m n e = kind_case (closed (frame q) i m) (begun (frame q) i n) (closed (frame q) i n) (begun (frame q) i m) e
 
   -- what is given is the same, from those rows alone
-  pub shares_here_is : (q.shape ≡ Join → Not_past s (first_open (frame q) (arrived r x))) → ((arrived r x).ended ≡ true → (arrived r s).ended ≡ true) → shares_here q (mark_at r s) (slice_range r.rows s x) (slice_range r.rows x y) (arrived r y).ended ≡ shares_between q r x y
+  pub shares_here_is : (q.shape ≡ Join → Not_past s (first_open (frame q) (first_arrivals r x))) → ((first_arrivals r x).ended ≡ true → (first_arrivals r s).ended ≡ true) → shares_here q (mark_at r s) (slice_range r.rows s x) (slice_range r.rows x y) (first_arrivals r y).ended ≡ shares_between q r x y
   unfolding shares_here shares_between
   shares_here_is n k =
       let f = frame q in
       let m = mark_at r x in
       let u = mark_at r y in
       let ma : mark_after (mark_at r s) back ≡ m = mark_next r s x d k in
-      let mb : ending (arrived r y).ended (mark_after (mark_after (mark_at r s) back) rows) ≡ u = ap (λ b. ending (arrived r y).ended (mark_after b rows)) ma ∙ sym (mark_on r x y a) in
+      let mb : end_mark (first_arrivals r y).ended (mark_after (mark_after (mark_at r s) back) rows) ≡ u = ap (λ b. end_mark (first_arrivals r y).ended (mark_after b rows)) ma ∙ sym (mark_on r x y a) in
       let here = λ (i : ℕ). part_here q i (mark_at r s) back rows in
       let whole_numbers = λ (b c : Mark). filter (λ i. is_complete (kind_of f i b c)) (from (closed_count f b) (begun_count f c - closed_count f b)) in
       let whole = λ (b c : Mark). flat_map (λ i. part_lines q i (here i)) (whole_numbers b c) in
       let same : whole m u ≡ flat_map (λ i. lines q i (take y r.rows)) (whole_numbers m u) =
       kept_lines (λ i. part_lines q i (here i)) (λ i. lines q i (take y r.rows)) (λ i. is_complete (kind_of f i m u))
       (λ i e. ap (part_lines q i) (part_here_is n i) ∙ sym (lines-whole q i r x y o a (complete_not_begun i m u e))) _ in
-      let all : whole (mark_after (mark_at r s) back) (ending (arrived r y).ended (mark_after (mark_after (mark_at r s) back) rows)) ≡ flat_map (λ i. lines q i (take y r.rows)) (whole_numbers m u) = (λ j. whole (ma j) (mb j)) ∙ same in
+      let all : whole (mark_after (mark_at r s) back) (end_mark (first_arrivals r y).ended (mark_after (mark_after (mark_at r s) back) rows)) ≡ flat_map (λ i. lines q i (take y r.rows)) (whole_numbers m u) = (λ j. whole (ma j) (mb j)) ∙ same in
       λ j. record {
         closing = of_kind is_closing f (ma j) (mb j) (λ i. part_here_is n i j);
         pending = of_kind is_pending f (ma j) (mb j) (λ i. part_here_is n i j);
         opening = of_kind is_opening f (ma j) (mb j) (λ i. part_here_is n i j);
-        lines = by_frame q (selected q rows) (all j);
+        lines = by_frame q (selected_lines q rows) (all j);
         closed = closed_count f (mb j);
       }
 
   -- and so is what is handed on
-  pub handed_here_is : (q.shape ≡ Join → Not_past s (first_open (frame q) (arrived r x))) → ((arrived r x).ended ≡ true → (arrived r s).ended ≡ true) → handed_here q (mark_at r s) (slice_range r.rows s x) (slice_range r.rows x y) (arrived r y).ended ≡ handed_between q r x y
+  pub handed_here_is : (q.shape ≡ Join → Not_past s (first_open (frame q) (first_arrivals r x))) → ((first_arrivals r x).ended ≡ true → (first_arrivals r s).ended ≡ true) → handed_here q (mark_at r s) (slice_range r.rows s x) (slice_range r.rows x y) (first_arrivals r y).ended ≡ handed_between q r x y
   unfolding handed_here handed_between
   handed_here_is n k =
       let f = frame q in
       let ma : mark_after (mark_at r s) back ≡ mark_at r x = mark_next r s x d k in
-      let mb : ending (arrived r y).ended (mark_after (mark_after (mark_at r s) back) rows) ≡ mark_at r y = ap (λ b. ending (arrived r y).ended (mark_after b rows)) ma ∙ sym (mark_on r x y a) in
+      let mb : end_mark (first_arrivals r y).ended (mark_after (mark_after (mark_at r s) back) rows) ≡ mark_at r y = ap (λ b. end_mark (first_arrivals r y).ended (mark_after b rows)) ma ∙ sym (mark_on r x y a) in
       λ j. record {
         closing = of_kind is_closed f (ma j) (mb j) (λ i. part_here_is n i j);
         pending = of_kind is_pending f (ma j) (mb j) (λ i. part_here_is n i j);
@@ -290,6 +290,6 @@ module _ (q : Tree) (w : Fits (frame q)) (r : Input) (s x y : ℕ) (o : Ordered 
       }
 
   -- and so is the piece
-  pub piece_here_is : (q.shape ≡ Join → Not_past s (first_open (frame q) (arrived r x))) → ((arrived r x).ended ≡ true → (arrived r s).ended ≡ true) → piece_here q (mark_at r s) (slice_range r.rows s x) (slice_range r.rows x y) (arrived r y).ended ≡ piece_between q r x y
+  pub piece_here_is : (q.shape ≡ Join → Not_past s (first_open (frame q) (first_arrivals r x))) → ((first_arrivals r x).ended ≡ true → (first_arrivals r s).ended ≡ true) → piece_here q (mark_at r s) (slice_range r.rows s x) (slice_range r.rows x y) (first_arrivals r y).ended ≡ piece_between q r x y
   unfolding piece_here piece_between
   piece_here_is n k = ap piece_in (shares_here_is n k)

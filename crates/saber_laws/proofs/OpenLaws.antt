@@ -4,7 +4,7 @@ use Rattle.std.proofs.lemmas.Bool.{le-ltb, le-leb, lt-leb, cases_lt}
 use Rattle.std.proofs.lemmas.Bool.Decides.{nat_tests}
 use Rattle.std.specs.FinMap.{len, get, len-empty}
 use Rattle.saber_plan.specs.Trees.{Tree}
-use Rattle.saber_plan.specs.Inputs.{Input, arrived}
+use Rattle.saber_plan.specs.Inputs.{Input, first_arrivals}
 use Rattle.saber_plan.specs.Windows.{Fits, Ordered, no_rows, mark_at, closed_count, begun_count, kind_of}
 use Rattle.saber_plan.specs.Answers.{key_cmp, frame}
 use Rattle.saber_plan.specs.Parts.{Part, no_part, part, Numbers}
@@ -49,7 +49,7 @@ open_before q r x i = nat_le (closed_count (frame q) (mark_at r x)) i
 part_before : (q : Tree) → Fits (frame q) → (r : Input) (x i : ℕ) → Ordered no_rows r.rows → begun_count (frame q) (mark_at r x) ≤ i → part q i r.rows 0 x ≡ no_part
 part_before q w r x i o h = part_not_begun q i r x o (sym (begun_is (frame q) w i (mark_at r x)) ∙ le-ltb i _ h)
 
-pub unclosed_at : (q : Tree) → Fits (frame q) → (r : Input) (x i : ℕ) → Ordered no_rows r.rows → get (unclosed q (arrived r x)) i ≡ cond (open_before q r x i) (full (part q i r.rows 0 x)) None
+pub unclosed_at : (q : Tree) → Fits (frame q) → (r : Input) (x i : ℕ) → Ordered no_rows r.rows → get (unclosed q (first_arrivals r x)) i ≡ cond (open_before q r x i) (full (part q i r.rows 0 x)) None
 unfolding unclosed
 unclosed_at q w r x i o =
     let c = closed_count (frame q) (mark_at r x) in

@@ -22,7 +22,7 @@ use Rattle.saber_plan.specs.Windows.{Placed, place, placed_after, step_mark, mar
 use Rattle.saber_plan.specs.Answers.{key_cmp, pair_key, pairs_with, pairs, pair_answers, is_left, is_right}
 use Rattle.saber_plan.specs.Merges.{join}
 use Rattle.saber_plan.specs.declared.plans.Shape.TheVariants.{Join}
-use Rattle.saber_plan.specs.Parts.{no_part, pair_part, later, Numbers, numbers_of_one, pair_numbers, answered, join_numbers, merge}
+use Rattle.saber_plan.specs.Parts.{no_part, pair_part, later, Numbers, numbers_of_one, pair_numbers, group_answer, join_numbers, merge}
 use Rattle.saber_plan.specs.Facts.Lists.{Each, each-filter, kept, dropped, each-map, each-weaker, each-all, filter-flat_map, flat_map-same, flat_map-none, T_parts, and_T}
 use Rattle.saber_plan.specs.Facts.Maps.{get-both, join-none, entries-from_rising}
 use Rattle.saber_plan.specs.Facts.Parts.{total, exact}
@@ -185,17 +185,17 @@ pub values-of_one : (zs : List ℤ) → map (λ v. v.value) (numbers_of_one zs).
 values-of_one [] = refl
 values-of_one (z ∷ zs) = ap (λ l. z ∷ l) (values-of_one zs)
 
-answered-map : (q : Tree) (x : Placed) (ys : List Placed) → map (answered Join q.items) (map (λ y. (pair_key x y, pair_numbers q x y)) ys) ≡ map (λ y. (pair_key x y, pair_answers q x y)) ys
+answered-map : (q : Tree) (x : Placed) (ys : List Placed) → map (group_answer Join q.items) (map (λ y. (pair_key x y, pair_numbers q x y)) ys) ≡ map (λ y. (pair_key x y, pair_answers q x y)) ys
 answered-map q x [] = refl
 answered-map q x (y ∷ ys) = λ k. (pair_key x y, values-of_one (pair_answers q x y) k) ∷ answered-map q x ys k
 
-answered-all : (q : Tree) (zs xs : List Placed) → map (answered Join q.items) (flat_map (λ x. pairs_with q (pair_numbers q) x zs) xs) ≡ flat_map (λ x. pairs_with q (pair_answers q) x zs) xs
+answered-all : (q : Tree) (zs xs : List Placed) → map (group_answer Join q.items) (flat_map (λ x. pairs_with q (pair_numbers q) x zs) xs) ≡ flat_map (λ x. pairs_with q (pair_answers q) x zs) xs
 answered-all q zs [] = refl
-answered-all q zs (x ∷ xs) = map-append (answered Join q.items) (pairs_with q (pair_numbers q) x zs) (flat_map (λ x. pairs_with q (pair_numbers q) x zs) xs) ∙ (λ k. answered-map q x (filter (λ y. passes q.predicate x.row.values y.row.values) zs) k ++ answered-all q zs xs k)
+answered-all q zs (x ∷ xs) = map-append (group_answer Join q.items) (pairs_with q (pair_numbers q) x zs) (flat_map (λ x. pairs_with q (pair_numbers q) x zs) xs) ∙ (λ k. answered-map q x (filter (λ y. passes q.predicate x.row.values y.row.values) zs) k ++ answered-all q zs xs k)
 
 -- the answers in a pair part are those of the pairs
-pub answers-pair_part : (q : Tree) (xs : List Placed) → Rising xs → map (answered Join q.items) (entries (pair_part q 0 xs)) ≡ pairs q (pair_answers q) xs
-answers-pair_part q xs r = ap (map (answered Join q.items)) (entries-pair_part q xs r) ∙ answered-all q (filter is_right xs) (filter is_left xs)
+pub answers-pair_part : (q : Tree) (xs : List Placed) → Rising xs → map (group_answer Join q.items) (entries (pair_part q 0 xs)) ≡ pairs q (pair_answers q) xs
+answers-pair_part q xs r = ap (map (group_answer Join q.items)) (entries-pair_part q xs r) ∙ answered-all q (filter is_right xs) (filter is_left xs)
 
 -- ---- where placed rows stand
 

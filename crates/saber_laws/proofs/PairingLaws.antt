@@ -16,7 +16,7 @@ use Rattle.saber_plan.specs.Trees.{Tree}
 use Rattle.saber_plan.specs.Values.{passes}
 use Rattle.saber_plan.specs.Windows.{Placed, place, has}
 use Rattle.saber_plan.specs.Answers.{key_cmp, pair_key, pairs_with, pairs, is_left, is_right, frame}
-use Rattle.saber_plan.specs.Merges.{joined}
+use Rattle.saber_plan.specs.Merges.{joined_value}
 use Rattle.saber_plan.specs.Parts.{Part, Numbers, pair_numbers, pair_part, later, join_numbers, merge}
 use Rattle.saber_plan.specs.Pairing.{row_pairs, with_entries}
 use Rattle.saber_plan.specs.Facts.Maps.{equal_if, both-empty_right, not_below, take_one}
@@ -109,7 +109,7 @@ with_is_merge m [] s f = sym (both-empty_right total join_numbers exact m)
 with_is_merge m (e ∷ es) s f =
     let p = T_parts _ _ s in
     with_is_merge (insert m e.0 e.1) es p.1 (fresh_after m e.0 e.1 es p.0 f.1)
-    ∙ ap (λ o. merge (insert m e.0 (joined join_numbers o e.1)) (from_entries es)) (sym f.0)
+    ∙ ap (λ o. merge (insert m e.0 (joined_value join_numbers o e.1)) (from_entries es)) (sym f.0)
     ∙ take_one total exact join_numbers m e.0 e.1 es (not_below key_cmp e.0 es p.0)
 
 -- ---- one more row

@@ -19,8 +19,8 @@ use Rattle.saber_plan.specs.Trees.{Tree}
 use Rattle.saber_plan.specs.Values.{value}
 use Rattle.saber_plan.specs.Answers.{key_cmp, with_key, keys_of, key, rows_of_key, answers, aggregate, step, first_by, group_row, items_over, values_of, groups}
 use Rattle.saber_plan.specs.Merges.{join}
-use Rattle.saber_plan.specs.Parts.{Part, no_part, group_part, Numbers, Number, numbers, same_fold, join_values, join_numbers, answers_of, answered, merge}
-use Rattle.saber_plan.specs.Facts.Parts.{total, exact, same_self, same_is, numbers_if, keyed, get-group_part}
+use Rattle.saber_plan.specs.Parts.{Part, no_part, group_part, Numbers, Number, numbers, same_fold, join_values, join_numbers, answers_of, group_answer, merge}
+use Rattle.saber_plan.specs.Facts.Parts.{total, exact, same_self, same_is, numbers_if, keyed_list, get-group_part}
 use Rattle.saber_plan.specs.Facts.Maps.{get-both, both-assoc, entries-empty}
 
 -- ---- the join of numbers
@@ -136,32 +136,32 @@ group_part-append q xs ys = same_map total exact _ _ (λ k.
 
 -- ---- its entries
 
-put_keyed : {X : Type 0} (g : List ℤ → X) (k : List ℤ) (ls : List (List ℤ)) → put key_cmp k (g k) (keyed g ls) ≡ keyed g (with_key k ls)
+put_keyed : {X : Type 0} (g : List ℤ → X) (k : List ℤ) (ls : List (List ℤ)) → put key_cmp k (g k) (keyed_list g ls) ≡ keyed_list g (with_key k ls)
 unfolding with_key
 put_keyed g k [] = refl
 put_keyed g k (l ∷ ls) =
-    elim (key_cmp k l) as (λ r. key_cmp k l ≡ r → by_order r ((k, g k) ∷ (l, g l) ∷ keyed g ls) ((l, g k) ∷ keyed g ls) ((l, g l) ∷ put key_cmp k (g k) (keyed g ls)) ≡ keyed g (match_ordering r (k ∷ l ∷ ls) (l ∷ ls) (l ∷ with_key k ls))) [
+    elim (key_cmp k l) as (λ r. key_cmp k l ≡ r → by_order r ((k, g k) ∷ (l, g l) ∷ keyed_list g ls) ((l, g k) ∷ keyed_list g ls) ((l, g l) ∷ put key_cmp k (g k) (keyed_list g ls)) ≡ keyed_list g (match_ordering r (k ∷ l ∷ ls) (l ∷ ls) (l ∷ with_key k ls))) [
       | Less ↦ λ e. refl
-      | Equal ↦ λ e i. (l, g (exact k l e i)) ∷ keyed g ls
+      | Equal ↦ λ e i. (l, g (exact k l e i)) ∷ keyed_list g ls
       | Greater ↦ λ e i. (l, g l) ∷ put_keyed g k ls i
     ] refl
 
-entries_keyed : {X : Type 0} (g : List ℤ → X) (ks : List (List ℤ)) → entries (from_entries {R = key_cmp} (keyed g ks)) ≡ keyed g (keys_of ks)
+entries_keyed : {X : Type 0} (g : List ℤ → X) (ks : List (List ℤ)) → entries (from_entries {R = key_cmp} (keyed_list g ks)) ≡ keyed_list g (keys_of ks)
 unfolding keys_of
 entries_keyed g [] = entries-empty key_cmp
-entries_keyed g (k ∷ ks) = entries-insert total (from_entries {R = key_cmp} (keyed g ks)) k (g k) ∙ ap (put key_cmp k (g k)) (entries_keyed g ks) ∙ put_keyed g k (keys_of ks)
+entries_keyed g (k ∷ ks) = entries-insert total (from_entries {R = key_cmp} (keyed_list g ks)) k (g k) ∙ ap (put key_cmp k (g k)) (entries_keyed g ks) ∙ put_keyed g k (keys_of ks)
 
 answered_keyed : (is : List (List Product)) (g : List ℤ → Numbers) (h : List ℤ → List ℤ) → ((k : List ℤ) → answers_of Group is k (g k) ≡ h k) → (ks : List (List ℤ))
-    → map (answered Group is) (keyed g ks) ≡ keyed h ks
+    → map (group_answer Group is) (keyed_list g ks) ≡ keyed_list h ks
 answered_keyed is g h e [] = refl
 answered_keyed is g h e (k ∷ ks) = λ j. (k, e k j) ∷ answered_keyed is g h e ks j
 
 -- the answers in a group part are the groups
-pub answers-group_part : (q : Tree) (rows : List (List ℤ)) → map (answered Group q.items) (entries (group_part q rows)) ≡ groups q rows
+pub answers-group_part : (q : Tree) (rows : List (List ℤ)) → map (group_answer Group q.items) (entries (group_part q rows)) ≡ groups q rows
 unfolding group_part
 answers-group_part q rows =
     let of_key = λ (k : List ℤ). numbers q.aggregates (rows_of_key q.keys k rows) in
-    ap (map (answered Group q.items)) (entries_keyed of_key (map (key q.keys) rows))
+    ap (map (group_answer Group q.items)) (entries_keyed of_key (map (key q.keys) rows))
     ∙ answered_keyed q.items of_key (answers q rows)
     (λ k. let us = rows_of_key q.keys k rows in ap (λ zs. items_over q.items (group_row k (length us) zs) []) (values-over q.aggregates us))
     (keys_of (map (key q.keys) rows))

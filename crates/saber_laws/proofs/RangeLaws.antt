@@ -9,9 +9,9 @@ use Rattle.std.specs.FinMap.{get, from_entries, same_map, nat_cmp-IsAntisymmetri
 use Rattle.saber_plan.specs.declared.rows.Row.{Row}
 use Rattle.saber_plan.specs.declared.windows.Mark.{Mark}
 use Rattle.saber_plan.specs.declared.windows.Kind.{Kind}
-use Rattle.saber_plan.specs.Windows.{Frame, Fits, Ordered, mark_after, ending, closed_count, begun_count, kind_of, from}
+use Rattle.saber_plan.specs.Windows.{Frame, Fits, Ordered, mark_after, end_mark, closed_count, begun_count, kind_of, from}
 use Rattle.saber_plan.specs.Parts.{Part}
-use Rattle.saber_plan.specs.Tasks.{full, numbered, is_complete}
+use Rattle.saber_plan.specs.Tasks.{full, numbered_list, is_complete}
 use Rattle.saber_plan.specs.Needs.{is_closing, is_pending, is_opening, of_kind, parts_of}
 use Rattle.saber_laws.specs.Kinds.{KindRanges, KindsAreRanges}
 use Rattle.saber_laws.proofs.WindowLaws.{closed_count_rises, begun_count_rises, closed_within_begun, closed_count_ending, begun_count_ending}
@@ -29,7 +29,7 @@ record Picks (p : ℕ → Bool) (a n c m : ℕ) : Type 0 where
   among : (i : ℕ) → c ≤ i → i < c + m → p i ≡ true
   behind : (i : ℕ) → c + m ≤ i → i < a + n → p i ≡ false
 
-picked_case : {X : Type 0} (a n c m i : ℕ) (p : ℕ → Bool) (f : ℕ → Option X) → Picks p a n c m → a ≤ i → i < a + n → cond (p i) (f i) None ≡ get (from_entries {R = nat_cmp} (numbered c m f)) i
+picked_case : {X : Type 0} (a n c m i : ℕ) (p : ℕ → Bool) (f : ℕ → Option X) → Picks p a n c m → a ≤ i → i < a + n → cond (p i) (f i) None ≡ get (from_entries {R = nat_cmp} (numbered_list c m f)) i
 picked_case a n c m i p f k l b = ⊎_elim
     (λ g. ap (λ t. cond t (f i) None) (k.before i l g) ∙ sym (get_low i c m f g))
     (λ g. ⊎_elim
@@ -38,7 +38,7 @@ picked_case a n c m i p f k l b = ⊎_elim
     (cases_lt i (c + m)))
     (cases_lt i c)
 
-picked_map : {X : Type 0} (a n c m : ℕ) (p : ℕ → Bool) (f : ℕ → Option X) → Picks p a n c m → from_entries {R = nat_cmp} (numbered a n (λ i. cond (p i) (f i) None)) ≡ from_entries {R = nat_cmp} (numbered c m f)
+picked_map : {X : Type 0} (a n c m : ℕ) (p : ℕ → Bool) (f : ℕ → Option X) → Picks p a n c m → from_entries {R = nat_cmp} (numbered_list a n (λ i. cond (p i) (f i) None)) ≡ from_entries {R = nat_cmp} (numbered_list c m f)
 picked_map a n c m p f k = same_map nat_cmp_total nat_cmp-IsAntisymmetric _ _ (λ i.
     let low = k.low in
     let high = k.high in
@@ -137,17 +137,17 @@ module _ (ca ga cb gb : ℕ) (ca_cb : ca ≤ cb) (ga_gb : ga ≤ gb) (ca_ga : ca
 
 module _ (f : Frame) (w : Fits f) (m : Mark) (rows : List Row) (ended : Bool) (o : Ordered m rows) where
   abbrev ends : Mark
-  ends = ending ended (mark_after m rows)
+  ends = end_mark ended (mark_after m rows)
 
   counted : (i : ℕ) → kind_of f i m ends ≡ count_kind (closed_count f m) (begun_count f m) (closed_count f ends) (begun_count f ends) i
   counted i = kind_is f w i m ends
 
   -- the parts of one kind, where its windows are these
   ranged : (wanted : Option Kind → Bool) (c n : ℕ) → Picks (λ i. wanted (count_kind (closed_count f m) (begun_count f m) (closed_count f ends) (begun_count f ends) i)) (closed_count f m) (begun_count f ends - closed_count f m) c n
-      → (part : ℕ → Part) → parts_of wanted f m ends part ≡ from_entries (numbered c n (λ i. full (part i)))
+      → (part : ℕ → Part) → parts_of wanted f m ends part ≡ from_entries (numbered_list c n (λ i. full (part i)))
   unfolding of_kind
   ranged wanted c n k part =
-      (λ j. from_entries (numbered (closed_count f m) (begun_count f ends - closed_count f m) (λ i. cond (wanted (counted i j)) (full (part i)) None)))
+      (λ j. from_entries (numbered_list (closed_count f m) (begun_count f ends - closed_count f m) (λ i. cond (wanted (counted i j)) (full (part i)) None)))
       ∙ picked_map (closed_count f m) (begun_count f ends - closed_count f m) c n _ (λ i. full (part i)) k
 
   kind_ranges : KindRanges f m ends

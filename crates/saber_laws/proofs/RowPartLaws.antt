@@ -11,15 +11,15 @@ use Rattle.saber_plan.specs.declared.plans.Shape.TheVariants.{Select}
 use Rattle.saber_plan.specs.Trees.{Tree}
 use Rattle.saber_plan.specs.Values.{passes}
 use Rattle.saber_plan.specs.Windows.{Placed, place}
-use Rattle.saber_plan.specs.Answers.{key_cmp, row_key, row_answers, picked}
+use Rattle.saber_plan.specs.Answers.{key_cmp, row_key, row_answers, picked_rows}
 use Rattle.saber_plan.specs.Merges.{join}
-use Rattle.saber_plan.specs.Parts.{no_part, row_part, later, row_numbers, answered, join_numbers, merge}
+use Rattle.saber_plan.specs.Parts.{no_part, row_part, later, row_numbers, group_answer, join_numbers, merge}
 use Rattle.saber_plan.specs.Facts.Lists.{Each, each-filter, each-map, each-weaker, and_T}
 use Rattle.saber_plan.specs.Facts.Maps.{get-both, join-none, equal_if, entries-from_rising}
 use Rattle.saber_plan.specs.Facts.Parts.{total, exact}
 use Rattle.saber_laws.proofs.PairLaws.{Numbered, Rising, rising-filter, int_less, below-map, values-of_one}
 
-picked-append : (q : Tree) (us vs : List Placed) → picked q (row_numbers q) (us ++ vs) ≡ picked q (row_numbers q) us ++ picked q (row_numbers q) vs
+picked-append : (q : Tree) (us vs : List Placed) → picked_rows q (row_numbers q) (us ++ vs) ≡ picked_rows q (row_numbers q) us ++ picked_rows q (row_numbers q) vs
 picked-append q us vs = ap (map (λ x. (row_key x, row_numbers q x))) (filter-append (λ x. passes q.predicate x.row.values []) us vs) ∙ map-append _ _ _
 
 -- ---- a key that is found in one of two lists
@@ -66,16 +66,16 @@ from_on a y h = le-leb _ _ (omega (arith, h))
 pub row_part-join : (q : Tree) (y : ℕ) (us vs : List Placed) → Each (λ r. place r < y) us → Each (λ r. y ≤ place r) vs → row_part q (us ++ vs) ≡ merge (row_part q us) (row_part q vs)
 unfolding row_part
 row_part-join q y us vs g h =
-    let low : Each (λ (e : Numbered). nat_lt (later e.0) y ≡ true) (picked q (row_numbers q) us) =
+    let low : Each (λ (e : Numbered). nat_lt (later e.0) y ≡ true) (picked_rows q (row_numbers q) us) =
     each-map _ _ _ (each-filter _ (λ x. passes q.predicate x.row.values []) us (each-weaker _ _ (λ x p. below (place x) y p) us g)) in
-    let high : Each (λ (e : Numbered). nat_le y (later e.0) ≡ true) (picked q (row_numbers q) vs) =
+    let high : Each (λ (e : Numbered). nat_le y (later e.0) ≡ true) (picked_rows q (row_numbers q) vs) =
     each-map _ _ _ (each-filter _ (λ x. passes q.predicate x.row.values []) vs (each-weaker _ _ (λ x p. from_on (place x) y p) vs h)) in
     same_map total exact _ _ (λ k.
-    get-from_entries total (picked q (row_numbers q) (us ++ vs)) k
+    get-from_entries total (picked_rows q (row_numbers q) (us ++ vs)) k
     ∙ ap (find key_cmp k) (picked-append q us vs)
-    ∙ in_either y k (picked q (row_numbers q) us) (picked q (row_numbers q) vs) low high
+    ∙ in_either y k (picked_rows q (row_numbers q) us) (picked_rows q (row_numbers q) vs) low high
     ∙ sym (get-both total join_numbers (row_part q us) (row_part q vs) k
-    ∙ (λ i. join join_numbers (get-from_entries total (picked q (row_numbers q) us) k i) (get-from_entries total (picked q (row_numbers q) vs) k i))))
+    ∙ (λ i. join join_numbers (get-from_entries total (picked_rows q (row_numbers q) us) k i) (get-from_entries total (picked_rows q (row_numbers q) vs) k i))))
 
 pub row_part-nil : (q : Tree) → row_part q [] ≡ no_part
 unfolding row_part
@@ -93,14 +93,14 @@ sorted_rows : (q : Tree) (xs : List Placed) → Rising xs → T (is_sorted key_c
 sorted_rows q [] r = tt
 sorted_rows q (x ∷ xs) r = and_T _ _ (below-map (row_key x) (row_entry q) xs (each-weaker _ _ (λ y h. one_less (place x) (place y) h) xs r.0)) (sorted_rows q xs r.1)
 
-entries-row_part : (q : Tree) (xs : List Placed) → Rising xs → entries (row_part q xs) ≡ picked q (row_numbers q) xs
+entries-row_part : (q : Tree) (xs : List Placed) → Rising xs → entries (row_part q xs) ≡ picked_rows q (row_numbers q) xs
 unfolding row_part
-entries-row_part q xs r = entries-from_rising total exact (picked q (row_numbers q) xs) (sorted_rows q _ (rising-filter _ xs r))
+entries-row_part q xs r = entries-from_rising total exact (picked_rows q (row_numbers q) xs) (sorted_rows q _ (rising-filter _ xs r))
 
-answered-rows : (q : Tree) (xs : List Placed) → map (answered Select q.items) (map (λ x. (row_key x, row_numbers q x)) xs) ≡ map (λ x. (row_key x, row_answers q x)) xs
+answered-rows : (q : Tree) (xs : List Placed) → map (group_answer Select q.items) (map (λ x. (row_key x, row_numbers q x)) xs) ≡ map (λ x. (row_key x, row_answers q x)) xs
 answered-rows q [] = refl
 answered-rows q (x ∷ xs) = λ k. (row_key x, values-of_one (row_answers q x) k) ∷ answered-rows q xs k
 
 -- the answers in such a part are those of the rows
-pub answers-row_part : (q : Tree) (xs : List Placed) → Rising xs → map (answered Select q.items) (entries (row_part q xs)) ≡ picked q (row_answers q) xs
-answers-row_part q xs r = ap (map (answered Select q.items)) (entries-row_part q xs r) ∙ answered-rows q (filter (λ x. passes q.predicate x.row.values []) xs)
+pub answers-row_part : (q : Tree) (xs : List Placed) → Rising xs → map (group_answer Select q.items) (entries (row_part q xs)) ≡ picked_rows q (row_answers q) xs
+answers-row_part q xs r = ap (map (group_answer Select q.items)) (entries-row_part q xs r) ∙ answered-rows q (filter (λ x. passes q.predicate x.row.values []) xs)

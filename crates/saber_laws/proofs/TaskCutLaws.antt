@@ -4,8 +4,8 @@ use Rattle.std.specs.Int.{div_ceil}
 use Rattle.std.proofs.lemmas.Grind.{div_ceil_times}
 use Rattle.std.proofs.lemmas.Bool.Decides.{nat_tests}
 use Rattle.std.proofs.lemmas.Bool.{cases_lt}
-use Rattle.saber_plan.specs.Inputs.{Input, arrived, going_on}
-use Rattle.saber_plan.specs.Tasks.{cut, upto, row_tasks}
+use Rattle.saber_plan.specs.Inputs.{Input, first_arrivals, going_on}
+use Rattle.saber_plan.specs.Tasks.{task_start, upto, row_tasks}
 use Rattle.saber_laws.proofs.EndLaws.{arrived_twice}
 
 keeps_case : (b : Bool) (c l k t x y : ℕ) → k ≤ t → x ≤ y → cond (b && nat_lt c k) (suc l) (min x l) ≤ cond (b && nat_lt c t) (suc l) (min y l)
@@ -16,10 +16,10 @@ keeps_case true c l k t x y a d = ⊎_elim
 keeps_case false c l k t x y a d = omega arith
 
 -- a later task begins no earlier
-pub cut_keeps : (n : ℕ) (r : Input) (k t : ℕ) → k ≤ t → cut n r k ≤ cut n r t
+pub cut_keeps : (n : ℕ) (r : Input) (k t : ℕ) → k ≤ t → task_start n r k ≤ task_start n r t
 cut_keeps n r k t a = let more : k * n ≤ t * n = grind arith in keeps_case r.ended (row_tasks n r) (length r.rows) k t (k * n) (t * n) a more
 
-pub cut_rises : (n : ℕ) (r : Input) (k : ℕ) → cut n r k ≤ cut n r (k + 1)
+pub cut_rises : (n : ℕ) (r : Input) (k : ℕ) → task_start n r k ≤ task_start n r (k + 1)
 cut_rises n r k = cut_keeps n r k (k + 1) (omega arith)
 
 none_case : (b : Bool) (c l x : ℕ) → x ≡ 0 → cond (b && nat_lt c 0) (suc l) (min x l) ≡ 0
@@ -30,12 +30,12 @@ no_end : (b : Bool) (l : ℕ) → (b && nat_lt l 0) ≡ false
 no_end true l = grind (arith, nat_tests)
 no_end false l = refl
 
-pub nothing_arrived : (r : Input) → arrived r 0 ≡ going_on []
+pub nothing_arrived : (r : Input) → first_arrivals r 0 ≡ going_on []
 nothing_arrived r = λ j. record { rows = []; ended = no_end r.ended (length r.rows) j }
 
 -- no task has arrivals
 pub no_cut : (n : ℕ) (r : Input) → upto n r 0 ≡ going_on []
-no_cut n r = let none : 0 * n ≡ 0 = omega arith in ap (arrived r) (none_case r.ended (row_tasks n r) (length r.rows) (0 * n) none) ∙ nothing_arrived r
+no_cut n r = let none : 0 * n ≡ 0 = omega arith in ap (first_arrivals r) (none_case r.ended (row_tasks n r) (length r.rows) (0 * n) none) ∙ nothing_arrived r
 
 -- the tasks with rows have all rows
 pub rows_fit : (l n : ℕ) → 1 ≤ n → l ≤ div_ceil l n * n
@@ -55,7 +55,7 @@ all_rows n r k h l =
     le_trans all more
 
 -- a row before task k
-pub row_before : (n : ℕ) (r : Input) (k p : ℕ) → 1 ≤ n → p < cut n r k → p < length r.rows → p < k * n
+pub row_before : (n : ℕ) (r : Input) (k p : ℕ) → 1 ≤ n → p < task_start n r k → p < length r.rows → p < k * n
 row_before n r k p h = before_case r.ended (row_tasks n r) (length r.rows) k (k * n) p (all_rows n r k h)
 
 from_case : (b : Bool) (c l k x p : ℕ) → cond (b && nat_lt c k) (suc l) (min x l) ≤ p → p < l → x ≤ p
@@ -63,14 +63,14 @@ from_case true c l k x p h g = ⊎_elim (λ e. grind (arith, nat_tests)) (λ e. 
 from_case false c l k x p h g = omega arith
 
 -- a row of task k or of a later one
-pub row_from : (n : ℕ) (r : Input) (k p : ℕ) → cut n r k ≤ p → p < length r.rows → k * n ≤ p
+pub row_from : (n : ℕ) (r : Input) (k p : ℕ) → task_start n r k ≤ p → p < length r.rows → k * n ≤ p
 row_from n r k p = from_case r.ended (row_tasks n r) (length r.rows) k (k * n) p
 
 cut_case : (b : Bool) (c l k x p : ℕ) → (c < k → l ≤ x) → x ≤ p → p < l → cond (b && nat_lt c k) (suc l) (min x l) ≤ p
 cut_case true c l k x p f h g = ⊎_elim (λ e. let all = f e in absurd (omega arith)) (λ e. grind (arith, nat_tests)) (cases_lt c k)
 cut_case false c l k x p f h g = omega arith
 
-pub cut_by : (n : ℕ) (r : Input) (k p : ℕ) → 1 ≤ n → k * n ≤ p → p < length r.rows → cut n r k ≤ p
+pub cut_by : (n : ℕ) (r : Input) (k p : ℕ) → 1 ≤ n → k * n ≤ p → p < length r.rows → task_start n r k ≤ p
 cut_by n r k p h = cut_case r.ended (row_tasks n r) (length r.rows) k (k * n) p (all_rows n r k h)
 
 -- ---- an input that is cut where a task begins
@@ -91,8 +91,8 @@ twice_case true c c2 l l2 at t d x y e f g a h = ⊎_elim
 twice_case false c c2 l l2 at t d x y e f g a h = omega (arith, e, f)
 
 -- earlier tasks begin there where they did
-pub cut-upto : (n : ℕ) (r : Input) (d t : ℕ) → t ≤ d → cut n (upto n r d) t ≡ cut n r t
-cut-upto n r d t a = twice_case r.ended (row_tasks n r) (row_tasks n (upto n r d)) (length r.rows) (length (upto n r d).rows) (cut n r d) t d (t * n) (d * n) refl (length-take (cut n r d) r.rows) (λ e. ap (λ l. div_ceil l n) e) a (times t d n a)
+pub cut-upto : (n : ℕ) (r : Input) (d t : ℕ) → t ≤ d → task_start n (upto n r d) t ≡ task_start n r t
+cut-upto n r d t a = twice_case r.ended (row_tasks n r) (row_tasks n (upto n r d)) (length r.rows) (length (upto n r d).rows) (task_start n r d) t d (t * n) (d * n) refl (length-take (task_start n r d) r.rows) (λ e. ap (λ l. div_ceil l n) e) a (times t d n a)
 
 pub upto-upto : (n : ℕ) (r : Input) (d t : ℕ) → t ≤ d → upto n (upto n r d) t ≡ upto n r t
-upto-upto n r d t a = ap (arrived (upto n r d)) (cut-upto n r d t a) ∙ arrived_twice r (cut n r t) (cut n r d) (cut_keeps n r t d a)
+upto-upto n r d t a = ap (first_arrivals (upto n r d)) (cut-upto n r d t a) ∙ arrived_twice r (task_start n r t) (task_start n r d) (cut_keeps n r t d a)

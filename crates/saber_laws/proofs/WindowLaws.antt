@@ -10,13 +10,13 @@ use Rattle.saber_plan.specs.declared.rows.Values.{Values}
 use Rattle.saber_plan.specs.declared.windows.Mark.{Mark}
 use Rattle.saber_plan.specs.declared.windows.Measure.TheVariants.{Rows, Range}
 use Rattle.saber_plan.specs.Rows.{stamp}
-use Rattle.saber_plan.specs.Windows.{Frame, unwindowed, one, two, Fits, count_to, count_reached, reached, in_order, can_follow, ending, spans, step_mark, mark_after, has, begun, past, closed, begun_count, past_count, closed_count, Ordered, Placed, placed_after}
+use Rattle.saber_plan.specs.Windows.{Frame, unwindowed, one, two, Fits, count_to, count_reached, is_reached, in_order, can_follow, end_mark, spans, step_mark, mark_after, has, begun, past, closed, begun_count, past_count, closed_count, Ordered, Placed, placed_after}
 
 -- the windows below the count are those that are reached
 pub count_to_is : (slide first far i : ℕ) → nat_le 1 slide ≡ true → nat_lt i (count_to slide first far) ≡ nat_le (i * slide + first) far
 count_to_is slide first far i h =
-    let reached = le-div_iff_mul-le {k = slide} {x = i} {y = far - first} (leb-true 1 slide h) in
-    grind (arith, nat_tests, reached.0, reached.1)
+    let is_reached = le-div_iff_mul-le {k = slide} {x = i} {y = far - first} (leb-true 1 slide h) in
+    grind (arith, nat_tests, is_reached.0, is_reached.1)
 
 count_from_one : (slide far i : ℕ) → nat_le 1 slide ≡ true → nat_lt i (count_to slide 1 far) ≡ nat_lt (i * slide) far
 count_from_one slide far i h = count_to_is slide 1 far i h ∙ grind (arith, nat_tests)
@@ -24,11 +24,11 @@ count_from_one slide far i h = count_to_is slide 1 far i h ∙ grind (arith, nat
 count_from_zero : (slide far i : ℕ) → nat_le 1 slide ≡ true → nat_lt i (count_to slide 0 far) ≡ nat_le (i * slide) far
 count_from_zero slide far i h = count_to_is slide 0 far i h ∙ grind (arith, nat_tests)
 
-count_reached_is : (slide first : ℕ) (last : Option ℤ) (i : ℕ) → nat_le 1 slide ≡ true → nat_lt i (count_reached slide first last) ≡ reached last (i * slide + first)
+count_reached_is : (slide first : ℕ) (last : Option ℤ) (i : ℕ) → nat_le 1 slide ≡ true → nat_lt i (count_reached slide first last) ≡ is_reached last (i * slide + first)
 count_reached_is slide first None i h = grind (arith, nat_tests)
 count_reached_is slide first (Some z) i h = count_to_is slide first (nat_abs z) i h
 
-reached_from_zero : (slide : ℕ) (last : Option ℤ) (i : ℕ) → nat_le 1 slide ≡ true → nat_lt i (count_reached slide 0 last) ≡ reached last (i * slide)
+reached_from_zero : (slide : ℕ) (last : Option ℤ) (i : ℕ) → nat_le 1 slide ≡ true → nat_lt i (count_reached slide 0 last) ≡ is_reached last (i * slide)
 reached_from_zero slide None i h = grind (arith, nat_tests)
 reached_from_zero slide (Some z) i h = count_from_zero slide (nat_abs z) i h
 
@@ -101,7 +101,7 @@ begins (two Rows k n r) i m Right v h = grind (arith, nat_tests)
 begins (two Range k n r) i m Left v h = grind (arith, nat_tests)
 begins (two Range k n r) i m Right v h = grind (arith, nat_tests)
 
-reached_on : (o : Option ℤ) (t p : ℕ) → reached o t ≡ true → in_order o p ≡ true → nat_le t p ≡ true
+reached_on : (o : Option ℤ) (t p : ℕ) → is_reached o t ≡ true → in_order o p ≡ true → nat_le t p ≡ true
 reached_on None t p h e = cc
 reached_on (Some z) t p h e = grind (arith, nat_tests)
 
@@ -137,7 +137,7 @@ past_has_not (two Rows k n r) i m Right v e h = grind (arith, nat_tests)
 past_has_not (two Range k n r) i m Left v e h = let far = reached_on m.last _ _ h e in grind (arith, nat_tests)
 past_has_not (two Range k n r) i m Right v e h = let far = reached_on m.last _ _ h e in grind (arith, nat_tests)
 
-reached_less : (o : Option ℤ) (t u : ℕ) → t ≤ u → reached o u ≡ true → reached o t ≡ true
+reached_less : (o : Option ℤ) (t u : ℕ) → t ≤ u → is_reached o u ≡ true → is_reached o t ≡ true
 reached_less None t u l h = h
 reached_less (Some z) t u l h = grind (arith, nat_tests)
 
@@ -204,14 +204,14 @@ pub begun_count_rises : (f : Frame) → Fits f → (m : Mark) (xs : List Row) �
 begun_count_rises f w m xs o = le_by_below _ _ (λ i h. begun_is f w i (mark_after m xs) ∙ begun_after f i m xs o (sym (begun_is f w i m) ∙ h))
 
 -- the end of the input begins nothing
-pub begun_ending : (f : Frame) (i : ℕ) (e : Bool) (m : Mark) → begun f i (ending e m) ≡ begun f i m
+pub begun_ending : (f : Frame) (i : ℕ) (e : Bool) (m : Mark) → begun f i (end_mark e m) ≡ begun f i m
 begun_ending unwindowed i e m = refl
 begun_ending (one Rows k n) i e m = refl
 begun_ending (one Range k n) i e m = refl
 begun_ending (two Rows k n r) i e m = refl
 begun_ending (two Range k n r) i e m = refl
 
-pub begun_count_ending : (f : Frame) (e : Bool) (m : Mark) → begun_count f (ending e m) ≡ begun_count f m
+pub begun_count_ending : (f : Frame) (e : Bool) (m : Mark) → begun_count f (end_mark e m) ≡ begun_count f m
 begun_count_ending unwindowed e m = refl
 begun_count_ending (one Rows k n) e m = refl
 begun_count_ending (one Range k n) e m = refl
@@ -219,7 +219,7 @@ begun_count_ending (two Rows k n r) e m = refl
 begun_count_ending (two Range k n r) e m = refl
 
 -- and leaves closed what is
-pub closed_ending : (f : Frame) → Fits f → (i : ℕ) (e : Bool) (m : Mark) → closed f i m ≡ true → closed f i (ending e m) ≡ true
+pub closed_ending : (f : Frame) → Fits f → (i : ℕ) (e : Bool) (m : Mark) → closed f i m ≡ true → closed f i (end_mark e m) ≡ true
 closed_ending f w i true m h = begun_ending f i true m ∙ closed_begun f w i m h
 closed_ending f w i false m h = h
 
@@ -227,5 +227,5 @@ closed_ending f w i false m h = h
 pub closed_within_begun : (f : Frame) → Fits f → (m : Mark) → closed_count f m ≤ begun_count f m
 closed_within_begun f w m = le_by_below _ _ (λ i h. begun_is f w i m ∙ closed_begun f w i m (sym (closed_is f w i m) ∙ h))
 
-pub closed_count_ending : (f : Frame) → Fits f → (e : Bool) (m : Mark) → closed_count f m ≤ closed_count f (ending e m)
-closed_count_ending f w e m = le_by_below _ _ (λ i h. closed_is f w i (ending e m) ∙ closed_ending f w i e m (sym (closed_is f w i m) ∙ h))
+pub closed_count_ending : (f : Frame) → Fits f → (e : Bool) (m : Mark) → closed_count f m ≤ closed_count f (end_mark e m)
+closed_count_ending f w e m = le_by_below _ _ (λ i h. closed_is f w i (end_mark e m) ∙ closed_ending f w i e m (sym (closed_is f w i m) ∙ h))

@@ -1,5 +1,5 @@
 -- The answers of windows, and what changes between them.
-use Rattle.saber_plan.specs.Answers.{gained, lost, answer_lines}
+use Rattle.saber_plan.specs.Answers.{gains, losses, answer_lines}
 use Rattle.saber_laws.specs.Words.{AnswersAreOfParts, ClosedAnswersStay, LastAnswersStay, NoAnswersNoChange}
 use Rattle.saber_laws.proofs.EndLaws.{answers_upto, answers_stay}
 use Rattle.saber_laws.proofs.AssemblyLaws.{last_stays}
@@ -14,4 +14,4 @@ pub kept_stay : LastAnswersStay
 kept_stay q w r x y o a = last_stays q w r x y o a
 
 pub no_change : NoAnswersNoChange
-no_change q xs i before now = record { gains = λ j. answer_lines i (gained (before j) (now j)); loses = λ j. answer_lines i (lost (before j) (now j)) }
+no_change q xs i before now = record { gains = λ j. answer_lines i (gains (before j) (now j)); loses = λ j. answer_lines i (losses (before j) (now j)) }

@@ -6,9 +6,9 @@ use Rattle.saber_plan.specs.declared.rows.Row.{Row}
 use Rattle.saber_plan.specs.declared.windows.Mark.{Mark}
 use Rattle.saber_plan.specs.Trees.{Tree}
 use Rattle.saber_plan.specs.Inputs.{Input, going_on}
-use Rattle.saber_plan.specs.Windows.{Frame, mark_after, mark_of, ending, mark_at, begun, past, closed, begun_count, past_count, closed_count}
+use Rattle.saber_plan.specs.Windows.{Frame, mark_after, mark_of, end_mark, mark_at, begun, past, closed, begun_count, past_count, closed_count}
 use Rattle.saber_plan.specs.Answers.{frame}
-use Rattle.saber_plan.specs.Tasks.{cut, upto, task_count, unclosed}
+use Rattle.saber_plan.specs.Tasks.{task_start, upto, task_count, unclosed}
 use Rattle.saber_plan.specs.Needs.{free}
 use Rattle.saber_plan.specs.Shares.{Shares, shares_here}
 
@@ -29,7 +29,7 @@ OpenMarksCountRows = (f : Frame) (m : Mark) → m.ended ≡ false → IsOpen f m
 -- of an input that goes on, marks and tasks are those of its rows alone
 pub record IsByRows (n : ℕ) (xs : List Row) : Type 0 where
   pub marks : (x : ℕ) → mark_at (going_on xs) x ≡ mark_of (take x xs)
-  pub cuts : (k : ℕ) → cut n (going_on xs) k ≡ min (k * n) (length xs)
+  pub cuts : (k : ℕ) → task_start n (going_on xs) k ≡ min (k * n) (length xs)
   pub tasks : (k : ℕ) → upto n (going_on xs) k ≡ going_on (take (min (k * n) (length xs)) xs)
   pub count : task_count n (going_on xs) ≡ div_ceil (length xs) n
 
@@ -40,15 +40,15 @@ OpenInputsAreRows = (n : ℕ) (xs : List Row) → IsByRows n xs
 
 -- the end begins no window
 pub record BeginsNone (f : Frame) (ended : Bool) (m : Mark) : Type 0 where
-  pub tests : (i : ℕ) → begun f i (ending ended m) ≡ begun f i m
-  pub counts : begun_count f (ending ended m) ≡ begun_count f m
+  pub tests : (i : ℕ) → begun f i (end_mark ended m) ≡ begun f i m
+  pub counts : begun_count f (end_mark ended m) ≡ begun_count f m
 
 abbrev pub EndsBeginNone : Type 0
 EndsBeginNone = (f : Frame) (ended : Bool) (m : Mark) → BeginsNone f ended m
 
 -- and closes those that are begun
 abbrev pub EndsCloseAll : Type 0
-EndsCloseAll = (f : Frame) (m : Mark) → closed_count f (ending true m) ≡ begun_count f m
+EndsCloseAll = (f : Frame) (m : Mark) → closed_count f (end_mark true m) ≡ begun_count f m
 
 -- what a task without rows gives at the end of the input: no part and no line, and the begun windows are closed
 abbrev pub flush_shares : Tree → Mark → Shares
@@ -67,7 +67,7 @@ NoneNeededBehind = (q : Tree) (n : ℕ) (r : Input) (t : ℕ) → (upto n r t).e
 
 -- a later task begins no earlier
 abbrev pub CutsRise : Type 0
-CutsRise = (n : ℕ) (r : Input) (k t : ℕ) → k ≤ t → cut n r k ≤ cut n r t
+CutsRise = (n : ℕ) (r : Input) (k t : ℕ) → k ≤ t → task_start n r k ≤ task_start n r t
 
 -- all tasks together have the whole input
 abbrev pub TasksMakeAll : Type 0

@@ -2,7 +2,7 @@
 use Rattle.std.specs.Prelude.{◌≡◌, ℕ, List, [], ◌∷◌, ◌++◌, ◌⊎◌}
 use Rattle.saber_plan.specs.declared.rows.Row.{Row}
 use Rattle.saber_plan.specs.Rows.{Read, SideRules, cut, rows, whole}
-use Rattle.saber_plan.specs.Inputs.{merged, input}
+use Rattle.saber_plan.specs.Inputs.{merged_read, input}
 
 -- the first rows of a read: more may come behind them, or they are all of it
 pub record IsFirstOf (a b : Read) : Type 0 where
@@ -24,7 +24,7 @@ WholeLinesAreFirst = (s : SideRules) (bytes more : List ℕ) → FirstLines s by
 
 -- the merge of the first rows of two reads are the first of their merge
 abbrev pub MergesKeepFirst : Type 0
-MergesKeepFirst = (l r l' r' : Read) → IsFirstOf l l' → IsFirstOf r r' → IsFirstOf (merged l r) (merged l' r')
+MergesKeepFirst = (l r l' r' : Read) → IsFirstOf l l' → IsFirstOf r r' → IsFirstOf (merged_read l r) (merged_read l' r')
 
 -- reads, each with the first rows of another
 abbrev pub EachIsFirst : List Read → List Read → Type 0

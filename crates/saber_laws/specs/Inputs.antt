@@ -9,7 +9,7 @@ use Rattle.saber_plan.specs.Rows.{Place, start, accept, judge_at, SideRules, Row
 use Rattle.saber_plan.specs.declared.rows.RowCause.TheVariants.{TimeOrder}
 use Rattle.saber_plan.specs.Windows.{by_side, no_rows, mark_after, Ordered, placed_after, own, from}
 use Rattle.saber_plan.specs.Answers.{is_left, is_right}
-use Rattle.saber_plan.specs.Inputs.{holds_up, merged_rows, merged}
+use Rattle.saber_plan.specs.Inputs.{holds_up, merged_rows, merged_read}
 
 -- ---- the rows of a file
 
@@ -82,7 +82,7 @@ AllOn s = AllByRecursion (λ r. r.side ≡ s)
 
 -- the timestamps of the merge do not fall, where those of each side do not
 abbrev pub MergesAreOrdered : Type 0
-MergesAreOrdered = (l r : Read) (m : Mark) → Ordered m l.rows → Ordered m r.rows → Ordered m (merged l r).rows
+MergesAreOrdered = (l r : Read) (m : Mark) → Ordered m l.rows → Ordered m r.rows → Ordered m (merged_read l r).rows
 
 -- a row that fits its own side, of so many columns on either
 abbrev pub FitsItsSide : ℕ → ℕ → Row → Type 0
@@ -91,15 +91,15 @@ FitsItsSide left right r = RowFits r.side (by_side r.side left right) r
 -- its rows are rows of both sides, and no more
 abbrev pub MergesFit : Type 0
 MergesFit = (l r : Read) (left right : ℕ) → AllByRecursion (RowFits Left left) l.rows → AllByRecursion (RowFits Right right) r.rows
-    → AllByRecursion (FitsItsSide left right) (merged l r).rows
+    → AllByRecursion (FitsItsSide left right) (merged_read l r).rows
 
 abbrev pub MergesAreShort : Type 0
-MergesAreShort = (l r : Read) → length (merged l r).rows ≤ length l.rows + length r.rows
+MergesAreShort = (l r : Read) → length (merged_read l r).rows ≤ length l.rows + length r.rows
 
 -- those of either side are the first of that side's
 pub record SidesBegin (l r : Read) : Type 0 where
-  pub left : (rest : List Row) × (filter (on Left) (merged l r).rows ++ rest ≡ l.rows)
-  pub right : (rest : List Row) × (filter (on Right) (merged l r).rows ++ rest ≡ r.rows)
+  pub left : (rest : List Row) × (filter (on Left) (merged_read l r).rows ++ rest ≡ l.rows)
+  pub right : (rest : List Row) × (filter (on Right) (merged_read l r).rows ++ rest ≡ r.rows)
 
 abbrev pub MergesBegin : Type 0
 MergesBegin = (l r : Read) → AllOn Left l.rows → AllOn Right r.rows → SidesBegin l r
@@ -108,11 +108,11 @@ MergesBegin = (l r : Read) → AllOn Left l.rows → AllOn Right r.rows → Side
 pub record SidesEnd (l r : Read) : Type 0 where
   pub left_end : l.end ≡ all_read
   pub right_end : r.end ≡ all_read
-  pub left_rows : filter (on Left) (merged l r).rows ≡ l.rows
-  pub right_rows : filter (on Right) (merged l r).rows ≡ r.rows
+  pub left_rows : filter (on Left) (merged_read l r).rows ≡ l.rows
+  pub right_rows : filter (on Right) (merged_read l r).rows ≡ r.rows
 
 abbrev pub MergesEnd : Type 0
-MergesEnd = (l r : Read) → AllOn Left l.rows → AllOn Right r.rows → (merged l r).end ≡ all_read → SidesEnd l r
+MergesEnd = (l r : Read) → AllOn Left l.rows → AllOn Right r.rows → (merged_read l r).end ≡ all_read → SidesEnd l r
 
 -- the head of lesser timestamp, the left on a tie, and then the merge of what is left
 abbrev pub lesser_first : Row → List Row → End → Row → List Row → End → Read

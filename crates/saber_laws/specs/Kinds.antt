@@ -3,14 +3,14 @@ use Rattle.std.specs.Prelude.{◌≡◌, ℕ, ◌-◌, min, max, List, filter, B
 use Rattle.std.specs.FinMap.{from_entries}
 use Rattle.saber_plan.specs.declared.rows.Row.{Row}
 use Rattle.saber_plan.specs.declared.windows.Mark.{Mark}
-use Rattle.saber_plan.specs.Windows.{Frame, Fits, Ordered, mark_after, ending, closed_count, begun_count, kind_of, from}
+use Rattle.saber_plan.specs.Windows.{Frame, Fits, Ordered, mark_after, end_mark, closed_count, begun_count, kind_of, from}
 use Rattle.saber_plan.specs.Parts.{Part}
-use Rattle.saber_plan.specs.Tasks.{full, numbered, Parts, is_complete}
+use Rattle.saber_plan.specs.Tasks.{full, numbered_list, Parts, is_complete}
 use Rattle.saber_plan.specs.Needs.{is_closing, is_pending, is_opening, parts_of}
 
 -- the parts that aren't empty of the windows from one number up to another
 abbrev pub parts_from : ℕ → ℕ → (ℕ → Part) → Parts
-parts_from low high part = from_entries (numbered low (high - low) (λ i. full (part i)))
+parts_from low high part = from_entries (numbered_list low (high - low) (λ i. full (part i)))
 
 -- From mark a up to mark b the windows that are not closed at a and begun at b are those from closed(a) up to begun(b).
 -- Closing ones end at closed(b) or at begun(a), pending ones go from closed(b) up to begun(a),
@@ -23,4 +23,4 @@ pub record KindRanges (f : Frame) (a b : Mark) : Type 0 where
       ≡ from (begun_count f a) (closed_count f b - begun_count f a)
 
 abbrev pub KindsAreRanges : Type 0
-KindsAreRanges = (f : Frame) → Fits f → (m : Mark) (rows : List Row) (ended : Bool) → Ordered m rows → KindRanges f m (ending ended (mark_after m rows))
+KindsAreRanges = (f : Frame) → Fits f → (m : Mark) (rows : List Row) (ended : Bool) → Ordered m rows → KindRanges f m (end_mark ended (mark_after m rows))

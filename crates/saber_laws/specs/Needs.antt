@@ -4,12 +4,12 @@ use Rattle.saber_plan.specs.declared.rows.Row.{Row}
 use Rattle.saber_plan.specs.declared.windows.Mark.{Mark}
 use Rattle.saber_plan.specs.declared.plans.Shape.TheVariants.{Join}
 use Rattle.saber_plan.specs.Trees.{Tree}
-use Rattle.saber_plan.specs.Inputs.{Input, arrived}
+use Rattle.saber_plan.specs.Inputs.{Input, first_arrivals}
 use Rattle.saber_plan.specs.Windows.{Frame, Fits, Ordered, no_rows, mark_at, Placed, has, closed_count}
 use Rattle.saber_plan.specs.Answers.{frame}
 use Rattle.saber_plan.specs.Merges.{both}
 use Rattle.saber_plan.specs.Parts.{part, merge}
-use Rattle.saber_plan.specs.Tasks.{cut, upto, task_count, piece, piece_between, Parts}
+use Rattle.saber_plan.specs.Tasks.{task_start, upto, task_count, piece, piece_between, Parts}
 use Rattle.saber_plan.specs.Needs.{first_window, past_window, free, need, wide, part_here, piece_here, closing_here, pending_here, opening_here, back_rows, task_rows, task_ends, task_mark, back_mark, free_of, block_lasts}
 
 -- a window has a row exactly where its number is one from the row's first window up to the one after its last
@@ -21,7 +21,7 @@ RowsSpan = (f : Frame) → Fits f → (i : ℕ) (x : Placed) → has f i x ≡ (
 -- for the part of a window over the task's rows
 abbrev pub NeedsMakeParts : Type 0
 NeedsMakeParts = (q : Tree) → Fits (frame q) → (n : ℕ) (r : Input) (t : ℕ) → Ordered no_rows r.rows → 1 ≤ n → (i : ℕ)
-    → part_here q i (back_mark q n r t) (back_rows q n r t) (task_rows n r t) ≡ part q i r.rows (cut n r t) (cut n r (t + 1))
+    → part_here q i (back_mark q n r t) (back_rows q n r t) (task_rows n r t) ≡ part q i r.rows (task_start n r t) (task_start n r (t + 1))
 
 -- and for its piece
 abbrev pub NeedsMakePieces : Type 0
@@ -35,7 +35,7 @@ RowsMakeParts = (q : Tree) → Fits (frame q) → q.shape ≢ Join → (r : Inpu
 
 abbrev pub RowsMakePieces : Type 0
 RowsMakePieces = (q : Tree) → Fits (frame q) → q.shape ≢ Join → (r : Input) (x y : ℕ) → Ordered no_rows r.rows → x ≤ y
-    → piece_here q (mark_at r x) [] (slice_range r.rows x y) (arrived r y).ended ≡ piece_between q r x y
+    → piece_here q (mark_at r x) [] (slice_range r.rows x y) (first_arrivals r y).ended ≡ piece_between q r x y
 
 -- ---- the open parts of a piece, by kind
 
@@ -71,7 +71,7 @@ LastsTellFree = (q : Tree) → Fits (frame q) → (n : ℕ) (r : Input) (t first
 
 -- what task t looks back on is there before later tasks are: after the first d tasks, with t at most d
 pub record NeedKept (q : Tree) (n : ℕ) (r : Input) (d t : ℕ) : Type 0 where
-  pub begins : cut n (upto n r d) t ≡ cut n r t
+  pub begins : task_start n (upto n r d) t ≡ task_start n r t
   pub free_pointer : free q n (upto n r d) t ≡ free q n r t
   pub mark : back_mark q n (upto n r d) t ≡ back_mark q n r t
   pub rows : back_rows q n (upto n r d) t ≡ back_rows q n r t

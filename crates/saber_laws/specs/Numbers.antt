@@ -4,7 +4,7 @@ use Rattle.std.specs.Ordering.{nat_cmp}
 use Rattle.std.specs.FinMap.{get, entries, from_entries}
 use Rattle.saber_plan.specs.Windows.{from}
 use Rattle.saber_plan.specs.Parts.{Part}
-use Rattle.saber_plan.specs.Tasks.{numbered}
+use Rattle.saber_plan.specs.Tasks.{numbered_list}
 
 -- some numbers, and more from where they end
 abbrev pub NumbersFollow : Type 0
@@ -16,10 +16,10 @@ TextsAgree = (f g : ℕ → List ℕ) (a n : ℕ) → ((i : ℕ) → a ≤ i →
 
 -- a map of the parts of windows in a row: what it has for each window, and that its entries are in order
 pub record NumberedMap (a n : ℕ) (f : ℕ → Option Part) : Type 0 where
-  pub below : (i : ℕ) → i < a → get (from_entries {R = nat_cmp} (numbered a n f)) i ≡ None
-  pub among : (i : ℕ) → a ≤ i → i < a + n → get (from_entries {R = nat_cmp} (numbered a n f)) i ≡ f i
-  pub behind : (i : ℕ) → a + n ≤ i → get (from_entries {R = nat_cmp} (numbered a n f)) i ≡ None
-  pub listed : entries (from_entries {R = nat_cmp} (numbered a n f)) ≡ numbered a n f
+  pub below : (i : ℕ) → i < a → get (from_entries {R = nat_cmp} (numbered_list a n f)) i ≡ None
+  pub among : (i : ℕ) → a ≤ i → i < a + n → get (from_entries {R = nat_cmp} (numbered_list a n f)) i ≡ f i
+  pub behind : (i : ℕ) → a + n ≤ i → get (from_entries {R = nat_cmp} (numbered_list a n f)) i ≡ None
+  pub listed : entries (from_entries {R = nat_cmp} (numbered_list a n f)) ≡ numbered_list a n f
 
 abbrev pub NumberedMapsGive : Type 0
 NumberedMapsGive = (a n : ℕ) (f : ℕ → Option Part) → NumberedMap a n f

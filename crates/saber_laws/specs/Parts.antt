@@ -5,7 +5,7 @@ use Rattle.saber_plan.specs.declared.rows.Row.{Row}
 use Rattle.saber_plan.specs.Trees.{Tree}
 use Rattle.saber_plan.specs.Inputs.{Input}
 use Rattle.saber_plan.specs.Windows.{Ordered, no_rows, mark_at, closed, begun, Placed, has}
-use Rattle.saber_plan.specs.Answers.{lines, frame, passing}
+use Rattle.saber_plan.specs.Answers.{lines, frame, passing_values}
 use Rattle.saber_plan.specs.Values.{passes}
 use Rattle.saber_plan.specs.Merges.{join, both}
 use Rattle.saber_plan.specs.Parts.{Part, part, no_part, merge, join_numbers, part_lines, group_part, pair_part}
@@ -66,6 +66,6 @@ PartsLieWithin = (q : Tree) (i : ℕ) (r : Input) (x y : ℕ) → Ordered no_row
 -- a row that passes is merged into each window that has it, and into no other
 abbrev pub RowsAddToGroups : Type 0
 RowsAddToGroups = (q : Tree) (us : List Placed) (i : ℕ) (r : Placed)
-    → group_part q (passing q (filter (has (frame q) i) (us ++ r ∷ [])))
-    ≡ (let part = group_part q (passing q (filter (has (frame q) i) us)) in
+    → group_part q (passing_values q (filter (has (frame q) i) (us ++ r ∷ [])))
+    ≡ (let part = group_part q (passing_values q (filter (has (frame q) i) us)) in
     if has (frame q) i r && passes q.predicate r.row.values [] then merge part (group_part q (r.row.values ∷ [])) else part)

@@ -4,9 +4,9 @@ use Rattle.std.specs.Ordering.{nat_cmp}
 use Rattle.std.specs.FinMap.{get, from_entries, is_sorted}
 use Rattle.saber_plan.specs.declared.rows.Row.{Row}
 use Rattle.saber_plan.specs.Trees.{Tree}
-use Rattle.saber_plan.specs.Inputs.{Input, arrived}
+use Rattle.saber_plan.specs.Inputs.{Input, first_arrivals}
 use Rattle.saber_plan.specs.Windows.{Fits, Ordered, no_rows, mark_at, closed}
-use Rattle.saber_plan.specs.Answers.{frame, window_answers, before_window, gained, lost, change_lines}
+use Rattle.saber_plan.specs.Answers.{frame, window_answers, before_window, gains, losses, change_lines}
 use Rattle.saber_plan.specs.Merges.{both}
 use Rattle.saber_plan.specs.Parts.{Part, part, part_answers, merge}
 use Rattle.saber_plan.specs.Shares.{full, entries_in, handed_between}
@@ -25,12 +25,12 @@ ClosedAnswersStay = (q : Tree) (i : ℕ) (r : Input) (x y : ℕ) → Ordered no_
 -- so what is kept stands before the first window that later arrivals close
 abbrev pub LastAnswersStay : Type 0
 LastAnswersStay = (q : Tree) → Fits (frame q) → (r : Input) (x y : ℕ) → Ordered no_rows r.rows → x ≤ y
-    → before_window (λ i. window_answers q i (take y r.rows)) (closed_at q r x) ≡ last_answers q (arrived r x)
+    → before_window (λ i. window_answers q i (take y r.rows)) (closed_at q r x) ≡ last_answers q (first_arrivals r x)
 
 -- where neither a window nor the one before it has an answer, nothing is printed
 pub record NothingChanges (q : Tree) (xs : List Row) (i : ℕ) : Type 0 where
-  pub gains : change_lines gained q xs i ≡ []
-  pub loses : change_lines lost q xs i ≡ []
+  pub gains : change_lines gains q xs i ≡ []
+  pub loses : change_lines losses q xs i ≡ []
 
 abbrev pub NoAnswersNoChange : Type 0
 NoAnswersNoChange = (q : Tree) (xs : List Row) (i : ℕ) → before_window (λ j. window_answers q j xs) i ≡ [] → window_answers q i xs ≡ [] → NothingChanges q xs i
@@ -49,10 +49,10 @@ HandedPartsAre = (q : Tree) (r : Input) (x y : ℕ) → Between q r x y → (i :
 -- once it is taken in, each window that isn't closed before has its part over all rows so far, unless that is empty
 abbrev pub HandedIsTakenIn : Type 0
 HandedIsTakenIn = (q : Tree) (r : Input) (x y : ℕ) → Between q r x y → (i : ℕ)
-    → get (both merge (unclosed q (arrived r x)) (from_entries {R = nat_cmp} (entries_in (handed_between q r x y)))) i
+    → get (both merge (unclosed q (first_arrivals r x)) (from_entries {R = nat_cmp} (entries_in (handed_between q r x y)))) i
     ≡ (if nat_le (closed_at q r x) i then full (part q i r.rows 0 y) else None)
 
 -- and so have the open parts, of the windows that aren't closed
 abbrev pub OpenBehind : Type 0
 OpenBehind = (q : Tree) → Fits (frame q) → (r : Input) (y i : ℕ) → Ordered no_rows r.rows
-    → get (unclosed q (arrived r y)) i ≡ (if nat_le (closed_at q r y) i then full (part q i r.rows 0 y) else None)
+    → get (unclosed q (first_arrivals r y)) i ≡ (if nat_le (closed_at q r y) i then full (part q i r.rows 0 y) else None)

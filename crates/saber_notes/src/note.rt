@@ -3,7 +3,7 @@ ghost use Rattle.std.specs.Prelude.{◌≡◌, ◌≢◌, ◌≤◌, ◌+◌, �
 ghost use Rattle.saber_notes.specs.Notes.{query_text, line_text, side_text, file_text, note_text, note_of};
 ghost use Rattle.saber_notes.specs.Lines.{bytes_of};
 ghost use Rattle.saber_notes.specs.declared.note.Noted.{Noted};
-ghost use Rattle.saber_plan.specs.Outputs.{Rose, appended, counted, AppendsPrefix};
+ghost use Rattle.saber_plan.specs.Outputs.{Rose, appended_text, raised_count, AppendsPrefix};
 
 use crate::line::Line;
 use crate::outcome::{InputFile, Outcome};
@@ -70,7 +70,7 @@ fn file_text(file: InputFile) -> &'static str
     }
 }
 
-fn add_line_cause(line: &mut Line, cause: RowCause)
+fn add_line_text(line: &mut Line, cause: RowCause)
     requires { length (bytes_of line.old) ≤ 64 }
     ensures bytes { bytes_of line.new ≡ bytes_of line.old ++ line_text cause }
     ensures short { length (bytes_of line.new) ≤ length (bytes_of line.old) + 40 }
@@ -143,7 +143,7 @@ fn add_chain_refused(line: &mut Line, number: u64, cause: RowCause)
     line.add("chain line ");
     line.add_number(number);
     line.add(": ");
-    add_line_cause(line, cause);
+    add_line_text(line, cause);
 }
 
 fn add_line_refused(line: &mut Line, side: Side, number: u64, cause: RowCause)
@@ -155,7 +155,7 @@ fn add_line_refused(line: &mut Line, side: Side, number: u64, cause: RowCause)
     line.add(" line ");
     line.add_number(number);
     line.add(": ");
-    add_line_cause(line, cause);
+    add_line_text(line, cause);
 }
 
 // A number behind a text.
@@ -223,12 +223,12 @@ pub(crate) fn tail_line(outcome: Outcome) -> Line
 /// Writes a note in one write.
 pub(crate) fn put_note<N: Sink>(notes: &mut N, text: &[u8]) -> Noted
     ensures something { result ≢ Noted.Nothing }
-    ensures whole { result ≡ Noted.Whole → N.written notes.new ≡ appended (N.written notes.old) text.now }
+    ensures whole { result ≡ Noted.Whole → N.written notes.new ≡ appended_text (N.written notes.old) text.now }
     ensures failed { result ≡ Noted.Failed → AppendsPrefix (N.written notes.old) (N.written notes.new) text.now }
     ensures memory { result ≡ Noted.NoMemory → N.written notes.new ≡ N.written notes.old }
     ensures cause { result ≡ Noted.Failed → Rose (N.faults notes.old) (N.faults notes.new) }
     ensures good { result ≢ Noted.Failed → N.faults notes.new ≡ N.faults notes.old }
-    ensures one { result ≢ Noted.NoMemory → N.writes notes.new ≡ counted (N.writes notes.old) }
+    ensures one { result ≢ Noted.NoMemory → N.writes notes.new ≡ raised_count (N.writes notes.old) }
     ensures count { N.faults notes.old ≤ N.faults notes.new }
 {
     match notes.write_all(text) {
@@ -253,7 +253,7 @@ fn note_line(outcome: Outcome) -> Line
 pub fn write_note<N: Sink>(notes: &mut N, outcome: Outcome) -> Noted
     ensures nothing { outcome ≡ Outcome.Done → (result ≡ Noted.Nothing) × (notes.new ≡ notes.old) }
     ensures something { outcome ≢ Outcome.Done → result ≢ Noted.Nothing }
-    ensures whole { result ≡ Noted.Whole → N.written notes.new ≡ appended (N.written notes.old) (note_of outcome) }
+    ensures whole { result ≡ Noted.Whole → N.written notes.new ≡ appended_text (N.written notes.old) (note_of outcome) }
     ensures failed { result ≡ Noted.Failed → AppendsPrefix (N.written notes.old) (N.written notes.new) (note_of outcome) }
     ensures memory { result ≡ Noted.NoMemory → N.written notes.new ≡ N.written notes.old }
     ensures cause { result ≡ Noted.Failed → Rose (N.faults notes.old) (N.faults notes.new) }

@@ -2,7 +2,7 @@
 ghost use Rattle.std.specs.Prelude.{◌≡◌, ◌≢◌, ◌≤◌};
 ghost use Rattle.saber_notes.specs.ManyNotes.{early_note};
 ghost use Rattle.saber_notes.specs.declared.note.Noted.{Noted};
-ghost use Rattle.saber_plan.specs.Outputs.{Rose, appended, counted, AppendsPrefix};
+ghost use Rattle.saber_plan.specs.Outputs.{Rose, appended_text, raised_count, AppendsPrefix};
 
 use crate::early::Early;
 use crate::note::{Noted, put_note, tail_line};
@@ -26,7 +26,7 @@ impl Report {
     ghost use Rattle.saber_notes.specs.Reports.{notes_in};
     ghost use Rattle.saber_notes.specs.declared.outcome.Outcome.{Outcome};
     ghost use Rattle.saber_notes.specs.declared.note.Noted.{Noted};
-    ghost use Rattle.saber_plan.specs.Outputs.{Rose, appended, counted, AppendsPrefix};
+    ghost use Rattle.saber_plan.specs.Outputs.{Rose, appended_text, raised_count, AppendsPrefix};
 
     /// No line yet.
     pub fn new() -> Report
@@ -128,12 +128,12 @@ impl Report {
     pub fn write<N: Sink>(&self, notes: &mut N) -> Noted
         ensures nothing { notes_in self.now ≡ [] → (result ≡ Noted.Nothing) × (notes.new ≡ notes.old) }
         ensures something { notes_in self.now ≢ [] → result ≢ Noted.Nothing }
-        ensures whole { result ≡ Noted.Whole → N.written notes.new ≡ appended (N.written notes.old) (notes_in self.now) }
+        ensures whole { result ≡ Noted.Whole → N.written notes.new ≡ appended_text (N.written notes.old) (notes_in self.now) }
         ensures failed { result ≡ Noted.Failed → AppendsPrefix (N.written notes.old) (N.written notes.new) (notes_in self.now) }
         ensures memory { result ≡ Noted.NoMemory → N.written notes.new ≡ N.written notes.old }
         ensures cause { result ≡ Noted.Failed → Rose (N.faults notes.old) (N.faults notes.new) }
         ensures good { result ≢ Noted.Failed → N.faults notes.new ≡ N.faults notes.old }
-        ensures one { result ≢ Noted.Nothing → result ≢ Noted.NoMemory → N.writes notes.new ≡ counted (N.writes notes.old) }
+        ensures one { result ≢ Noted.Nothing → result ≢ Noted.NoMemory → N.writes notes.new ≡ raised_count (N.writes notes.old) }
         ensures count { N.faults notes.old ≤ N.faults notes.new }
     {
         if self.text.is_empty() {
@@ -147,12 +147,12 @@ impl Report {
 /// buffer of a fixed size.
 pub fn write_early<N: Sink>(notes: &mut N, early: Early) -> Noted
     ensures something { result ≢ Noted.Nothing }
-    ensures whole { result ≡ Noted.Whole → N.written notes.new ≡ appended (N.written notes.old) (early_note early) }
+    ensures whole { result ≡ Noted.Whole → N.written notes.new ≡ appended_text (N.written notes.old) (early_note early) }
     ensures failed { result ≡ Noted.Failed → AppendsPrefix (N.written notes.old) (N.written notes.new) (early_note early) }
     ensures memory { result ≡ Noted.NoMemory → N.written notes.new ≡ N.written notes.old }
     ensures cause { result ≡ Noted.Failed → Rose (N.faults notes.old) (N.faults notes.new) }
     ensures good { result ≢ Noted.Failed → N.faults notes.new ≡ N.faults notes.old }
-    ensures one { result ≢ Noted.NoMemory → N.writes notes.new ≡ counted (N.writes notes.old) }
+    ensures one { result ≢ Noted.NoMemory → N.writes notes.new ≡ raised_count (N.writes notes.old) }
     ensures count { N.faults notes.old ≤ N.faults notes.new }
 {
     let mut report = Report::new();

@@ -7,8 +7,8 @@ use Rattle.saber_plan.specs.declared.windows.Kind.TheVariants.{Opening, Closing,
 use Rattle.saber_plan.specs.declared.plans.Shape.TheVariants.{Join}
 use Rattle.saber_plan.specs.Trees.{Tree}
 use Rattle.saber_plan.specs.Inputs.{Input}
-use Rattle.saber_plan.specs.Windows.{no_rows, mark_after, step_mark, mark_at, last_mark, ending, placed_after, inside, has, begun, closed_count, begun_count, kind_of, from, Ordered}
-use Rattle.saber_plan.specs.Answers.{by_shape, by_frame, frame, lines, passing, selected}
+use Rattle.saber_plan.specs.Windows.{no_rows, mark_after, step_mark, mark_at, last_mark, end_mark, placed_after, inside, has, begun, closed_count, begun_count, kind_of, from, Ordered}
+use Rattle.saber_plan.specs.Answers.{by_shape, by_frame, frame, lines, passing_values, selected_lines}
 use Rattle.saber_plan.specs.Parts.{part, merge, row_part, group_part, pair_part, part_lines}
 use Rattle.saber_plan.specs.Tasks.{is_complete}
 use Rattle.saber_plan.specs.Needs.{of_kind, part_here, is_closing, is_pending, is_opening}
@@ -31,11 +31,11 @@ inside_is q i xs y = let same : y - 0 ≡ y = omega arith in ap (λ n. filter (h
 
 -- a join's part has the pairs of the rows so far
 part_of_pairs : (q : Tree) → q.shape ≡ Join → (i : ℕ) (xs : List Row) (x y : ℕ) → part q i xs x y ≡ pair_part q x (filter (has (frame q) i) (placed_after no_rows (take y xs)))
-part_of_pairs q e i xs x y = ap (λ s. by_shape s (row_part q (inside (frame q) i xs x y)) (group_part q (passing q (inside (frame q) i xs x y))) (pair_part q x (inside (frame q) i xs 0 y))) e ∙ ap (pair_part q x) (inside_is q i xs y)
+part_of_pairs q e i xs x y = ap (λ s. by_shape s (row_part q (inside (frame q) i xs x y)) (group_part q (passing_values q (inside (frame q) i xs x y))) (pair_part q x (inside (frame q) i xs 0 y))) e ∙ ap (pair_part q x) (inside_is q i xs y)
 
 part_is : (q : Tree) (b : Mark) (back rows : List Row) (i : ℕ) → q.shape ≡ Join → pair_part q (b.left + b.right + length back) (filter (has (frame q) i) (placed_after b (back ++ rows))) ≡ part_here q i b back rows
 unfolding part_here
-part_is q b back rows i e = sym (ap (λ s. by_shape s (row_part q (filter (has (frame q) i) (placed_after (mark_after b back) rows))) (group_part q (passing q (filter (has (frame q) i) (placed_after (mark_after b back) rows)))) (pair_part q (b.left + b.right + length back) (filter (has (frame q) i) (placed_after b (back ++ rows))))) e)
+part_is q b back rows i e = sym (ap (λ s. by_shape s (row_part q (filter (has (frame q) i) (placed_after (mark_after b back) rows))) (group_part q (passing_values q (filter (has (frame q) i) (placed_after (mark_after b back) rows)))) (pair_part q (b.left + b.right + length back) (filter (has (frame q) i) (placed_after b (back ++ rows))))) e)
 
 -- ---- windows that lie whole in a task
 
@@ -75,8 +75,8 @@ module _ (q : Tree) (e : q.shape ≡ Join) (xs ys : List Row) (ended : Bool) whe
   before_is : mark_after no_rows xs ≡ mark_at all start
   before_is = ap last_mark (sym (at_first xs ys ended))
 
-  after_is : ending ended (mark_after (mark_after no_rows xs) ys) ≡ mark_at all stop
-  after_is = ap (ending ended) (sym (mark-append no_rows xs ys)) ∙ ap last_mark (sym (at_last xs ys ended))
+  after_is : end_mark ended (mark_after (mark_after no_rows xs) ys) ≡ mark_at all stop
+  after_is = ap (end_mark ended) (sym (mark-append no_rows xs ys)) ∙ ap last_mark (sym (at_last xs ys ended))
 
   -- the parts are those of the task's rows
   part_joined : (i : ℕ) → part_here q i no_rows xs ys ≡ part q i (xs ++ ys) start stop
@@ -131,6 +131,6 @@ module _ (q : Tree) (e : q.shape ≡ Join) (xs ys : List Row) (ended : Bool) whe
         closing = of_kind is_closing (frame q) (before_is j) (after_is j) (λ i. part_joined i j);
         pending = of_kind is_pending (frame q) (before_is j) (after_is j) (λ i. part_joined i j);
         opening = of_kind is_opening (frame q) (before_is j) (after_is j) (λ i. part_joined i j);
-        lines = ((λ k. by_frame q (selected q (sym (own_rows xs ys ended) k)) (text (before_is k) (after_is k))) ∙ ap (λ w. by_frame q (selected q (slice_range (xs ++ ys) start stop)) w) (whole_joined laws ordered numbers)) j;
+        lines = ((λ k. by_frame q (selected_lines q (sym (own_rows xs ys ended) k)) (text (before_is k) (after_is k))) ∙ ap (λ w. by_frame q (selected_lines q (slice_range (xs ++ ys) start stop)) w) (whole_joined laws ordered numbers)) j;
         closed = closed_count (frame q) (after_is j);
       }

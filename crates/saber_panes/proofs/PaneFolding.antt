@@ -18,7 +18,7 @@ use Rattle.saber_laws.specs.Groups.{GroupsJoin}
 use Rattle.saber_laws.specs.Parts.{MergeIsAssociative}
 use Rattle.saber_partial.specs.Tallies.{CanMerge}
 use Rattle.saber_partial.specs.PartLaws.{OfRows}
-use Rattle.saber_panes.specs.Panes.{panes_in, pane_of, in_pane, is_counted, counted, or_none, with_part, with_row_in, PanesOf, RowsRoom}
+use Rattle.saber_panes.specs.Panes.{panes_in, pane_of, in_pane, is_counted, counted_rows, or_none, with_part, with_row_in, PanesOf, RowsRoom}
 use Rattle.saber_partial.proofs.Counted.{groups_of_rows, none_of_rows, more_rows, small_merge, small_stay}
 use Rattle.saber_plan.specs.Facts.Rows.{placed_more}
 use Rattle.saber_plan.specs.Facts.Parts.{if_any}
@@ -45,13 +45,13 @@ with_case q m x true = with_one m (pane_of (frame q) x) (group_part q (x.row.val
 with_case q m x false = sym (ap (both merge m) (panes-none q) ∙ both-empty_right nat_cmp_total merge nat_cmp-IsAntisymmetric m)
 
 -- a row more is its pane taken in
-pub with_row_is : (q : Tree) (m : Parts) (x : Placed) → with_row_in q m x ≡ both merge m (panes_in q (counted q (x ∷ [])))
+pub with_row_is : (q : Tree) (m : Parts) (x : Placed) → with_row_in q m x ≡ both merge m (panes_in q (counted_rows q (x ∷ [])))
 with_row_is q m x = with_case q m x (is_counted q x)
 
 -- ---- the rows so far
 
 abbrev pub so_far : Tree → Mark → List Row → ℕ → List Placed
-so_far q m xs k = counted q (placed_after m (take k xs))
+so_far q m xs k = counted_rows q (placed_after m (take k xs))
 
 pub no_rows_yet : (q : Tree) (b : Mark) (xs : List Row) (m : Parts) → m ≡ both merge m (panes_in q (so_far q b xs 0))
 unfolding placed_after
@@ -61,29 +61,29 @@ module _ (q : Tree) (m : Mark) (xs : List Row) (k : ℕ) (x : Row) (here : k < l
   abbrev at : Placed
   at = record { row = x; before = mark_after m (take k xs) }
 
-  pub one_more : so_far q m xs (k + 1) ≡ so_far q m xs k ++ counted q (record { row = x; before = mark_after m (take k xs) } ∷ [])
-  one_more = ap (counted q) (placed_more m xs k x here is) ∙ filter-append (is_counted q) (placed_after m (take k xs)) (at ∷ [])
+  pub one_more : so_far q m xs (k + 1) ≡ so_far q m xs k ++ counted_rows q (record { row = x; before = mark_after m (take k xs) } ∷ [])
+  one_more = ap (counted_rows q) (placed_more m xs k x here is) ∙ filter-append (is_counted q) (placed_after m (take k xs)) (at ∷ [])
 
   pub panes_more : (law : GroupsJoin) (assoc : MergeIsAssociative) (old : Parts)
       → with_row_in q (both merge old (panes_in q (so_far q m xs k))) (record { row = x; before = mark_after m (take k xs) }) ≡ both merge old (panes_in q (so_far q m xs (k + 1)))
   panes_more law assoc old =
       with_row_is q (both merge old (panes_in q (so_far q m xs k))) at
-      ∙ both-assoc nat_cmp_total merge nat_cmp-IsAntisymmetric assoc old (panes_in q (so_far q m xs k)) (panes_in q (counted q (at ∷ [])))
-      ∙ ap (both merge old) (sym (panes-append law q (so_far q m xs k) (counted q (at ∷ []))) ∙ ap (panes_in q) (sym one_more))
+      ∙ both-assoc nat_cmp_total merge nat_cmp-IsAntisymmetric assoc old (panes_in q (so_far q m xs k)) (panes_in q (counted_rows q (at ∷ [])))
+      ∙ ap (both merge old) (sym (panes-append law q (so_far q m xs k) (counted_rows q (at ∷ []))) ∙ ap (panes_in q) (sym one_more))
 
-  pub longer : length (so_far q m xs (k + 1)) ≡ length (so_far q m xs k) + length (counted q (record { row = x; before = mark_after m (take k xs) } ∷ []))
-  longer = ap length one_more ∙ length-append (so_far q m xs k) (counted q (at ∷ []))
+  pub longer : length (so_far q m xs (k + 1)) ≡ length (so_far q m xs k) + length (counted_rows q (record { row = x; before = mark_after m (take k xs) } ∷ []))
+  longer = ap length one_more ∙ length-append (so_far q m xs k) (counted_rows q (at ∷ []))
 
 -- the rows of the first k are among all
-pub front_all : (q : Tree) (m : Mark) (xs : List Row) (k : ℕ) → length (so_far q m xs k) ≤ length (counted q (placed_after m xs))
+pub front_all : (q : Tree) (m : Mark) (xs : List Row) (k : ℕ) → length (so_far q m xs k) ≤ length (counted_rows q (placed_after m xs))
 front_all q m xs k =
-    let rest = counted q (placed_after (mark_after m (take k xs)) (drop k xs)) in
-    let whole : counted q (placed_after m xs) ≡ so_far q m xs k ++ rest = ap (λ l. counted q (placed_after m l)) (sym (take-append-drop k xs)) ∙ counted-append q m (take k xs) (drop k xs) in
+    let rest = counted_rows q (placed_after (mark_after m (take k xs)) (drop k xs)) in
+    let whole : counted_rows q (placed_after m xs) ≡ so_far q m xs k ++ rest = ap (λ l. counted_rows q (placed_after m l)) (sym (take-append-drop k xs)) ∙ counted-append q m (take k xs) (drop k xs) in
     let long = ap length whole ∙ length-append (so_far q m xs k) rest in
     omega (arith, long)
 
-pub all_taken : (q : Tree) (m : Mark) (xs : List Row) (k : ℕ) → length xs ≤ k → so_far q m xs k ≡ counted q (placed_after m xs)
-all_taken q m xs k l = ap (λ ys. counted q (placed_after m ys)) (take_all k xs l)
+pub all_taken : (q : Tree) (m : Mark) (xs : List Row) (k : ℕ) → length xs ≤ k → so_far q m xs k ≡ counted_rows q (placed_after m xs)
+all_taken q m xs k l = ap (λ ys. counted_rows q (placed_after m ys)) (take_all k xs l)
 
 -- ---- that there is room
 
@@ -107,21 +107,21 @@ of_join q n k (Some a) (Some b) g h = small_stay q n k a b (g a refl) (h b refl)
 pub of_both : (q : Tree) (c d : ℕ → ℕ) (m n : Parts) → PanesOf q c m → PanesOf q d n → (j : ℕ) → OfRows q (c j + d j) (or_none (get (both merge m n) j))
 of_both q c d m n g h j = subst (λ o. OfRows q (c j + d j) (or_none o)) (sym (get-both nat_cmp_total merge m n j)) (of_join q (c j) (d j) (get m j) (get n j) (g.at j) (h.at j))
 
-counted_one : (q : Tree) (x : Placed) → is_counted q x ≡ true → counted q (x ∷ []) ≡ x ∷ []
+counted_one : (q : Tree) (x : Placed) → is_counted q x ≡ true → counted_rows q (x ∷ []) ≡ x ∷ []
 counted_one q x e = ap (λ b. cond b (x ∷ []) []) e
 
 in_one : (q : Tree) (x : Placed) → length (in_pane q (pane_of (frame q) x) (x ∷ [])) ≡ 1
 in_one q x = ap (λ b. length (cond b (x ∷ []) [])) (itself_there (pane_of (frame q) x))
 
 -- the rows of the first k are among all
-front_short : (q : Tree) (j : ℕ) (m : Mark) (xs : List Row) (k : ℕ) → length (in_pane q j (so_far q m xs k)) ≤ length (in_pane q j (counted q (placed_after m xs)))
+front_short : (q : Tree) (j : ℕ) (m : Mark) (xs : List Row) (k : ℕ) → length (in_pane q j (so_far q m xs k)) ≤ length (in_pane q j (counted_rows q (placed_after m xs)))
 front_short q j m xs k =
-    let rest = counted q (placed_after (mark_after m (take k xs)) (drop k xs)) in
-    let whole : counted q (placed_after m xs) ≡ so_far q m xs k ++ rest = ap (λ l. counted q (placed_after m l)) (sym (take-append-drop k xs)) ∙ counted-append q m (take k xs) (drop k xs) in
+    let rest = counted_rows q (placed_after (mark_after m (take k xs)) (drop k xs)) in
+    let whole : counted_rows q (placed_after m xs) ≡ so_far q m xs k ++ rest = ap (λ l. counted_rows q (placed_after m l)) (sym (take-append-drop k xs)) ∙ counted-append q m (take k xs) (drop k xs) in
     let long = ap (λ l. length (in_pane q j l)) whole ∙ ap length (filter-append (λ (x : Placed). j == pane_of (frame q) x) (so_far q m xs k) rest) ∙ length-append (in_pane q j (so_far q m xs k)) (in_pane q j rest) in
     omega (arith, long)
 
-pub room_for_row : (q : Tree) (m : Mark) (xs : List Row) (k : ℕ) (x : Row) → k < length xs → x ≡ get_or xs k x → (old : Parts) → RowsRoom q old (counted q (placed_after m xs))
+pub room_for_row : (q : Tree) (m : Mark) (xs : List Row) (k : ℕ) (x : Row) → k < length xs → x ≡ get_or xs k x → (old : Parts) → RowsRoom q old (counted_rows q (placed_after m xs))
     → is_counted q (record { row = x; before = mark_after m (take k xs) }) ≡ true
     → CanMerge (or_none (get (both merge old (panes_in q (so_far q m xs k))) (pane_of (frame q) (record { row = x; before = mark_after m (take k xs) })))) (group_part q (x.values ∷ []))
 room_for_row q m xs k x here is old room e =

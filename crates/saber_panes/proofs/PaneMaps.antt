@@ -12,7 +12,7 @@ use Rattle.std.specs.Option.{IsSome}
 use Rattle.std.specs.List.{slice_get}
 use Rattle.std.specs.FinMap.{get, insert, from_entries, find, is_sorted, retain_keys, get-from_entries, get-insert, get-retain_keys, same_map, nat_cmp-IsAntisymmetric}
 use Rattle.std.specs.FinMap.Entries.{find_tied}
-use Rattle.saber_plan.specs.Merges.{joined, both}
+use Rattle.saber_plan.specs.Merges.{joined_value, both}
 use Rattle.saber_plan.specs.Parts.{Part, merge}
 use Rattle.saber_plan.specs.Tasks.{Parts}
 use Rattle.saber_plan.specs.Facts.Maps.{equal_if, take_one, first_alone, rest_rises}
@@ -39,7 +39,7 @@ pane_inserted k v es = inserted nat_cmp (λ k. k) (λ x. x) nat_cmp_total nat_cm
 abbrev pub made : List (ℕ × Part) → Parts
 made es = from_entries {R = nat_cmp} es
 
-pub pane_rest : (m : Parts) (k : ℕ) (b n : Part) (es : List (ℕ × Part)) → n ≡ joined merge (get m k) b → T (is_sorted nat_cmp ((k, b) ∷ es)) → both merge (insert m k n) (made es) ≡ both merge m (made ((k, b) ∷ es))
+pub pane_rest : (m : Parts) (k : ℕ) (b n : Part) (es : List (ℕ × Part)) → n ≡ joined_value merge (get m k) b → T (is_sorted nat_cmp ((k, b) ∷ es)) → both merge (insert m k n) (made es) ≡ both merge m (made ((k, b) ∷ es))
 pane_rest m k b n es e s = ap (λ x. both merge (insert m k x) (made es)) e ∙ take_one nat_cmp_total nat_cmp-IsAntisymmetric merge m k b es (first_alone nat_cmp (k, b) es s)
 
 not_there : {o : Option Part} {y : Part} → o ≡ None → o ≡ Some y → ⊥
@@ -64,16 +64,16 @@ abbrev pub seen_list : List (ℕ × Part) → List (ℕ × Part)
 seen_list es = map (λ e. (e.0, e.1)) es
 
 -- the next pane taken in, and what is left
-module _ (m : Parts) (next all : List (ℕ × Part)) (k : ℕ) (b : Part) (after whole : Parts) (left : all ≡ (k, b) ∷ next) (new : after ≡ insert m k (joined merge (get m k) b))
+module _ (m : Parts) (next all : List (ℕ × Part)) (k : ℕ) (b : Part) (after whole : Parts) (left : all ≡ (k, b) ∷ next) (new : after ≡ insert m k (joined_value merge (get m k) b))
     (rest : both merge m (seen_panes all) ≡ whole) (rising : T (is_sorted nat_cmp (seen_list all))) (fits : CanTakeIn m (seen_panes all)) where
   rises : T (is_sorted nat_cmp ((k, b) ∷ seen_list next))
   rises = subst (λ l. T (is_sorted nat_cmp (seen_list l))) left rising
 
   taken_rest : both merge after (seen_panes next) ≡ whole
-  taken_rest = ap (λ x. both merge x (seen_panes next)) new ∙ pane_rest m k b (joined merge (get m k) b) (seen_list next) refl rises ∙ ap (λ l. both merge m (seen_panes l)) (sym left) ∙ rest
+  taken_rest = ap (λ x. both merge x (seen_panes next)) new ∙ pane_rest m k b (joined_value merge (get m k) b) (seen_list next) refl rises ∙ ap (λ l. both merge m (seen_panes l)) (sym left) ∙ rest
 
   taken_fits : CanTakeIn after (seen_panes next)
-  taken_fits = subst (λ x. CanTakeIn x (seen_panes next)) (sym new) (pane_fits m k b (joined merge (get m k) b) (seen_list next) rises (subst (λ l. CanTakeIn m (seen_panes l)) left fits))
+  taken_fits = subst (λ x. CanTakeIn x (seen_panes next)) (sym new) (pane_fits m k b (joined_value merge (get m k) b) (seen_list next) rises (subst (λ l. CanTakeIn m (seen_panes l)) left fits))
 
   pub taken : (both merge after (seen_panes next) ≡ whole) × T (is_sorted nat_cmp (seen_list next)) × CanTakeIn after (seen_panes next)
   taken = (taken_rest, rest_rises nat_cmp (k, b) (seen_list next) rises, taken_fits)

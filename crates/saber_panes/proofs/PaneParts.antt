@@ -9,16 +9,16 @@ use Rattle.saber_plan.specs.declared.windows.Measure.TheVariants.{Rows, Range}
 use Rattle.saber_plan.specs.declared.plans.Shape.TheVariants.{Group}
 use Rattle.saber_plan.specs.Trees.{Tree}
 use Rattle.saber_plan.specs.Values.{passes}
-use Rattle.saber_plan.specs.Windows.{one, Fits, Placed, time, own, placed, no_rows, has, spans, by_side, count_to, Ordered, inside}
+use Rattle.saber_plan.specs.Windows.{one, Fits, Placed, time, own, placed_from_start, no_rows, has, spans, by_side, count_to, Ordered, inside}
 use Rattle.saber_plan.specs.Needs.{first_window, past_window}
-use Rattle.saber_plan.specs.Answers.{frame, passing, by_shape}
+use Rattle.saber_plan.specs.Answers.{frame, passing_values, by_shape}
 use Rattle.saber_plan.specs.Parts.{no_part, group_part, pair_part, part, row_part}
 use Rattle.saber_plan.specs.Facts.Rows.{length-placed}
 use Rattle.saber_laws.specs.Groups.{GroupsJoin}
 use Rattle.saber_laws.specs.Parts.{MergeHasUnit, MergeIsAssociative}
 use Rattle.saber_laws.specs.Needs.{RowsSpan}
 use Rattle.saber_laws.specs.Plans.{OneWindow}
-use Rattle.saber_panes.specs.Panes.{divisor, panes_here, pane_of, point_by, first_pane, pane_count, is_counted, counted, window_part}
+use Rattle.saber_panes.specs.Panes.{divisor, panes_here, pane_of, point_by, first_pane, pane_count, is_counted, counted_rows, window_part}
 use Rattle.saber_panes.proofs.Divisors.{is_divisor, divisor_some}
 use Rattle.saber_panes.proofs.PaneRows.{values_in}
 use Rattle.saber_panes.proofs.PaneWindows.{Rises, rises-filter, within, window_rows}
@@ -65,8 +65,8 @@ module _ (span : RowsSpan) (slide size : ℕ) (some : 1 ≤ size) (i : ℕ) (x :
 
 -- ---- all rows
 
-all_placed : (xs : List Row) → slice_range (placed xs) 0 (length xs) ≡ placed xs
-all_placed xs = let e = length-placed no_rows xs in take_all (length xs - 0) (placed xs) (omega (arith, e))
+all_placed : (xs : List Row) → slice_range (placed_from_start xs) 0 (length xs) ≡ placed_from_start xs
+all_placed xs = let e = length-placed no_rows xs in take_all (length xs - 0) (placed_from_start xs) (omega (arith, e))
 
 module _ (span : RowsSpan) (q : Tree) (o : OneWindow q) (i : ℕ) where
   fits_one : Fits (one o.window.measure o.window.slide o.window.size)
@@ -76,20 +76,20 @@ module _ (span : RowsSpan) (q : Tree) (o : OneWindow q) (i : ℕ) where
   agree x = subst (λ f. ((nat_lt (first_window f x) (past_window f x) && passes q.predicate x.row.values []) && within (pane_of f) (first_pane f i) (pane_count f) x) ≡ (has f i x && passes q.predicate x.row.values [])) (sym o.has_frame)
       (agree_one span o.window.slide o.window.size o.fits.size.0 i x (passes q.predicate x.row.values []) o.window.measure fits_one)
 
-  same_rows : (ps : List Placed) → values_in (filter (within (pane_of (frame q)) (first_pane (frame q) i) (pane_count (frame q))) (counted q ps)) ≡ passing q (filter (has (frame q) i) ps)
+  same_rows : (ps : List Placed) → values_in (filter (within (pane_of (frame q)) (first_pane (frame q) i) (pane_count (frame q))) (counted_rows q ps)) ≡ passing_values q (filter (has (frame q) i) ps)
   same_rows ps =
       ap values_in (filter-filter (is_counted q) (within (pane_of (frame q)) (first_pane (frame q) i) (pane_count (frame q))) ps ∙ ap (λ t. filter t ps) (λ j x. agree x j))
       ∙ sym (filter-map (λ (x : Placed). x.row.values) (λ zs. passes q.predicate zs []) (filter (has (frame q) i) ps)
       ∙ ap values_in (filter-filter (has (frame q) i) (λ x. passes q.predicate x.row.values []) ps))
 
-  panes_dont_fall : (xs : List Row) → Ordered no_rows xs → Rises (pane_of (frame q)) (counted q (placed xs))
+  panes_dont_fall : (xs : List Row) → Ordered no_rows xs → Rises (pane_of (frame q)) (counted_rows q (placed_from_start xs))
   panes_dont_fall xs r =
       let low = divisor_some o.window.size o.window.slide o.fits.size.0 in
-      let rise = panes_rise (point_by o.window.measure) (divisor o.window.size o.window.slide) (omega (arith, low)) (placed xs) (points_rise o.window.measure no_rows xs r) in
-      rises-filter (pane_of (frame q)) (is_counted q) (placed xs) (subst (λ f. Rises (pane_of f) (placed xs)) (sym o.has_frame) rise)
+      let rise = panes_rise (point_by o.window.measure) (divisor o.window.size o.window.slide) (omega (arith, low)) (placed_from_start xs) (points_rise o.window.measure no_rows xs r) in
+      rises-filter (pane_of (frame q)) (is_counted q) (placed_from_start xs) (subst (λ f. Rises (pane_of f) (placed_from_start xs)) (sym o.has_frame) rise)
 
   pub window_is : (law : GroupsJoin) (unit : MergeHasUnit) (assoc : MergeIsAssociative) → group_part q [] ≡ no_part → q.shape ≡ Group → (xs : List Row) → Ordered no_rows xs → window_part (frame q) i (panes_here q no_rows xs) ≡ part q i xs 0 (length xs)
   window_is law unit assoc none g xs r =
-      window_rows law unit assoc q none (counted q (placed xs)) (panes_dont_fall xs r) (first_pane (frame q) i) (pane_count (frame q))
-      ∙ ap (group_part q) (same_rows (placed xs) ∙ ap (λ l. passing q (filter (has (frame q) i) l)) (sym (all_placed xs)))
-      ∙ sym (ap (λ s. by_shape s (row_part q (inside (frame q) i xs 0 (length xs))) (group_part q (passing q (inside (frame q) i xs 0 (length xs)))) (pair_part q 0 (inside (frame q) i xs 0 (length xs)))) g)
+      window_rows law unit assoc q none (counted_rows q (placed_from_start xs)) (panes_dont_fall xs r) (first_pane (frame q) i) (pane_count (frame q))
+      ∙ ap (group_part q) (same_rows (placed_from_start xs) ∙ ap (λ l. passing_values q (filter (has (frame q) i) l)) (sym (all_placed xs)))
+      ∙ sym (ap (λ s. by_shape s (row_part q (inside (frame q) i xs 0 (length xs))) (group_part q (passing_values q (inside (frame q) i xs 0 (length xs)))) (pair_part q 0 (inside (frame q) i xs 0 (length xs)))) g)

@@ -13,23 +13,23 @@ use Rattle.saber_plan.specs.Parts.{Part, no_part, merge}
 use Rattle.saber_plan.specs.Tasks.{Parts}
 use Rattle.saber_plan.specs.Facts.Lists.{few_pass}
 use Rattle.saber_plan.specs.Facts.Rows.{length-placed}
-use Rattle.saber_panes.specs.Panes.{panes_here, pane_of, in_pane, is_counted, counted, or_none, first_pane, pane_count, window_part, PanesOf, CanTakeIn, RowsRoom, WindowRoom}
+use Rattle.saber_panes.specs.Panes.{panes_here, pane_of, in_pane, is_counted, counted_rows, or_none, first_pane, pane_count, window_part, PanesOf, CanTakeIn, RowsRoom, WindowRoom}
 use Rattle.saber_partial.proofs.Counted.{none_of_rows, small_merge}
 use Rattle.saber_panes.proofs.PaneWindows.{within}
 use Rattle.saber_panes.proofs.PaneMerging.{from-none, from-first, sum_first}
 use Rattle.saber_panes.proofs.PaneFolding.{panes_of_rows}
 
-few_in : (q : Tree) (j : ℕ) (m : Mark) (xs : List Row) → length (in_pane q j (counted q (placed_after m xs))) ≤ length xs
+few_in : (q : Tree) (j : ℕ) (m : Mark) (xs : List Row) → length (in_pane q j (counted_rows q (placed_after m xs))) ≤ length xs
 few_in q j m xs =
-    let a = few_pass (λ (x : Placed). j == pane_of (frame q) x) (counted q (placed_after m xs)) in
+    let a = few_pass (λ (x : Placed). j == pane_of (frame q) x) (counted_rows q (placed_after m xs)) in
     let b = few_pass (is_counted q) (placed_after m xs) in
     let c = length-placed m xs in
     omega (arith, a, b, c)
 
-pub rows_room : (q : Tree) (m : Mark) (xs ys : List Row) → length xs + length ys ≤ 2 ^ 40 → RowsRoom q (panes_here q m xs) (counted q (placed_after (mark_after m xs) ys))
+pub rows_room : (q : Tree) (m : Mark) (xs ys : List Row) → length xs + length ys ≤ 2 ^ 40 → RowsRoom q (panes_here q m xs) (counted_rows q (placed_after (mark_after m xs) ys))
 rows_room q m xs ys l = record {
-  has = λ j. length (in_pane q j (counted q (placed_after m xs)));
-  panes = panes_of_rows q (counted q (placed_after m xs));
+  has = λ j. length (in_pane q j (counted_rows q (placed_after m xs)));
+  panes = panes_of_rows q (counted_rows q (placed_after m xs));
   few = λ j. let a = few_in q j m xs in let b = few_in q j (mark_after m xs) ys in omega (arith, a, b, l);
 }
 
@@ -39,8 +39,8 @@ can_join q m xs ys l = record {
       let n = mark_after m xs in
       let low = few_in q j m xs in
       let high = few_in q j n ys in
-      small_merge q (length (in_pane q j (counted q (placed_after m xs)))) (length (in_pane q j (counted q (placed_after n ys)))) a b
-      ((panes_of_rows q (counted q (placed_after m xs))).at j a e) ((panes_of_rows q (counted q (placed_after n ys))).at j b f) (omega (arith, low, high, l));
+      small_merge q (length (in_pane q j (counted_rows q (placed_after m xs)))) (length (in_pane q j (counted_rows q (placed_after n ys)))) a b
+      ((panes_of_rows q (counted_rows q (placed_after m xs))).at j a e) ((panes_of_rows q (counted_rows q (placed_after n ys))).at j b f) (omega (arith, low, high, l));
 }
 
 -- ---- the rows of a window's panes are no more than all

@@ -18,7 +18,7 @@ use Rattle.saber_plan.specs.Facts.Maps.{get-both}
 use Rattle.saber_plan.specs.Facts.Rows.{placed-append}
 use Rattle.saber_plan.specs.Facts.Parts.{if_any}
 use Rattle.saber_laws.specs.Groups.{GroupsJoin}
-use Rattle.saber_panes.specs.Panes.{panes_in, panes_here, pane_of, pane_part, in_pane, is_counted, counted, or_none}
+use Rattle.saber_panes.specs.Panes.{panes_in, panes_here, pane_of, pane_part, in_pane, is_counted, counted_rows, or_none}
 
 -- ---- numbers as keys
 
@@ -64,8 +64,8 @@ panes-append law q us vs = same_map nat_cmp_total nat_cmp-IsAntisymmetric _ _ (�
     ∙ any-append law q (in_pane q k us) (in_pane q k vs)
     ∙ sym (get-both nat_cmp_total merge (panes_in q us) (panes_in q vs) k ∙ ap₂ (join merge) (get-panes q us k) (get-panes q vs k)))
 
-pub counted-append : (q : Tree) (m : Mark) (xs ys : List Row) → counted q (placed_after m (xs ++ ys)) ≡ counted q (placed_after m xs) ++ counted q (placed_after (mark_after m xs) ys)
-counted-append q m xs ys = ap (counted q) (placed-append m xs ys) ∙ filter-append (is_counted q) (placed_after m xs) (placed_after (mark_after m xs) ys)
+pub counted-append : (q : Tree) (m : Mark) (xs ys : List Row) → counted_rows q (placed_after m (xs ++ ys)) ≡ counted_rows q (placed_after m xs) ++ counted_rows q (placed_after (mark_after m xs) ys)
+counted-append q m xs ys = ap (counted_rows q) (placed-append m xs ys) ∙ filter-append (is_counted q) (placed_after m xs) (placed_after (mark_after m xs) ys)
 
 pub rows_join : (law : GroupsJoin) (q : Tree) (m : Mark) (xs ys : List Row) → panes_here q m (xs ++ ys) ≡ both merge (panes_here q m xs) (panes_here q (mark_after m xs) ys)
-rows_join law q m xs ys = ap (panes_in q) (counted-append q m xs ys) ∙ panes-append law q (counted q (placed_after m xs)) (counted q (placed_after (mark_after m xs) ys))
+rows_join law q m xs ys = ap (panes_in q) (counted-append q m xs ys) ∙ panes-append law q (counted_rows q (placed_after m xs)) (counted_rows q (placed_after (mark_after m xs) ys))

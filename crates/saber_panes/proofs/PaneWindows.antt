@@ -12,21 +12,21 @@ use Rattle.saber_plan.specs.Parts.{Part, no_part, group_part, merge}
 use Rattle.saber_plan.specs.Tasks.{Parts}
 use Rattle.saber_laws.specs.Groups.{GroupsJoin}
 use Rattle.saber_laws.specs.Parts.{MergeHasUnit, MergeIsAssociative}
-use Rattle.saber_panes.specs.Panes.{panes_in, pane_of, in_pane, or_none, merged}
+use Rattle.saber_panes.specs.Panes.{panes_in, pane_of, in_pane, or_none, merged_panes}
 use Rattle.saber_panes.proofs.PaneRows.{pane_or_none, values_in}
 
 -- ---- panes in a row
 
 -- merged behind something, they are merged with it
-pub merged_behind : (unit : MergeHasUnit) (assoc : MergeIsAssociative) (m : Parts) (a : Part) (js : List ℕ) → fold (λ p j. merge p (or_none (get m j))) a js ≡ merge a (merged m js)
+pub merged_behind : (unit : MergeHasUnit) (assoc : MergeIsAssociative) (m : Parts) (a : Part) (js : List ℕ) → fold (λ p j. merge p (or_none (get m j))) a js ≡ merge a (merged_panes m js)
 merged_behind unit assoc m a [] = sym (unit a).1
 merged_behind unit assoc m a (j ∷ js) =
     let p = or_none (get m j) in
-    merged_behind unit assoc m (merge a p) js ∙ assoc a p (merged m js)
-    ∙ ap (merge a) (sym (merged_behind unit assoc m (merge no_part p) js ∙ ap (λ x. merge x (merged m js)) (unit p).0))
+    merged_behind unit assoc m (merge a p) js ∙ assoc a p (merged_panes m js)
+    ∙ ap (merge a) (sym (merged_behind unit assoc m (merge no_part p) js ∙ ap (λ x. merge x (merged_panes m js)) (unit p).0))
 
-pub merged_first : (unit : MergeHasUnit) (assoc : MergeIsAssociative) (m : Parts) (j : ℕ) (js : List ℕ) → merged m (j ∷ js) ≡ merge (or_none (get m j)) (merged m js)
-merged_first unit assoc m j js = merged_behind unit assoc m (merge no_part (or_none (get m j))) js ∙ ap (λ x. merge x (merged m js)) (unit (or_none (get m j))).0
+pub merged_first : (unit : MergeHasUnit) (assoc : MergeIsAssociative) (m : Parts) (j : ℕ) (js : List ℕ) → merged_panes m (j ∷ js) ≡ merge (or_none (get m j)) (merged_panes m js)
+merged_first unit assoc m j js = merged_behind unit assoc m (merge no_part (or_none (get m j))) js ∙ ap (λ x. merge x (merged_panes m js)) (unit (or_none (get m j))).0
 
 -- ---- rows whose panes don't fall
 
@@ -67,7 +67,7 @@ module _ {X : Type 0} (p : X → ℕ) where
 
 -- the panes of such rows, merged, are the groups of those that lie in them
 pub window_rows : (law : GroupsJoin) (unit : MergeHasUnit) (assoc : MergeIsAssociative) (q : Tree) → group_part q [] ≡ no_part → (us : List Placed) → Rises (pane_of (frame q)) us → (a n : ℕ)
-    → merged (panes_in q us) (from a n) ≡ group_part q (values_in (filter (within (pane_of (frame q)) a n) us))
+    → merged_panes (panes_in q us) (from a n) ≡ group_part q (values_in (filter (within (pane_of (frame q)) a n) us))
 unfolding from
 window_rows law unit assoc q none us h a zero = sym none ∙ ap (λ l. group_part q (values_in l)) (sym (none_within (pane_of (frame q)) a us))
 window_rows law unit assoc q none us h a (suc n) =

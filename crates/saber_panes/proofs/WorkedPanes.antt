@@ -11,7 +11,7 @@ use Rattle.saber_plan.specs.Trees.{Tree}
 use Rattle.saber_plan.specs.Checked.{lone}
 use Rattle.saber_plan.specs.Windows.{no_rows, placed_after, from}
 use Rattle.saber_plan.specs.Answers.{frame}
-use Rattle.saber_panes.specs.Panes.{pane_of, first_pane, pane_count, counted}
+use Rattle.saber_panes.specs.Panes.{pane_of, first_pane, pane_count, counted_rows}
 
 abbrev five : List Row
 five = record { side = Left; values = pos 0 ∷ pos 1 ∷ pos 10 ∷ [] } ∷ record { side = Left; values = pos 1 ∷ pos 1 ∷ pos 20 ∷ [] } ∷ record { side = Left; values = pos 2 ∷ pos 2 ∷ pos 5 ∷ [] }
@@ -38,14 +38,14 @@ over_all measure size slide = over measure size slide [] [] (0 ∷ [])
 abbrev counts : Tree
 counts = over_all Rows 4 2
 
-rows_are_steps : length (counted counts (placed_after no_rows five)) ≡ 5
+rows_are_steps : length (counted_rows counts (placed_after no_rows five)) ≡ 5
 unfolding placed_after
 rows_are_steps = refl
 
 window_of_two : pane_count (frame counts) ≡ 2
 window_of_two = refl
 
-panes_by_two : map (pane_of (frame counts)) (counted counts (placed_after no_rows five)) ≡ 0 ∷ 0 ∷ 1 ∷ 1 ∷ 2 ∷ []
+panes_by_two : map (pane_of (frame counts)) (counted_rows counts (placed_after no_rows five)) ≡ 0 ∷ 0 ∷ 1 ∷ 1 ∷ 2 ∷ []
 unfolding placed_after
 panes_by_two = refl
 
@@ -53,7 +53,7 @@ panes_by_two = refl
 abbrev sums : Tree
 sums = over Rows 3 1 (1 ∷ []) (record { fold = Sum; expr = lone 2 } ∷ []) (0 ∷ 2 ∷ [])
 
-rows_are_steps_again : length (counted sums (placed_after no_rows five)) ≡ 5
+rows_are_steps_again : length (counted_rows sums (placed_after no_rows five)) ≡ 5
 unfolding placed_after
 rows_are_steps_again = refl
 
@@ -62,12 +62,12 @@ unfolding from
 window_of_three = refl
 
 -- ROWS 1 SLIDE 3: the rows between lie in no window, and have no pane
-rows_between : map (pane_of (frame (over_all Rows 1 3))) (counted (over_all Rows 1 3) (placed_after no_rows five)) ≡ 0 ∷ 3 ∷ []
+rows_between : map (pane_of (frame (over_all Rows 1 3))) (counted_rows (over_all Rows 1 3) (placed_after no_rows five)) ≡ 0 ∷ 3 ∷ []
 unfolding placed_after
 rows_between = refl
 
 -- RANGE 6 SLIDE 4: panes of two seconds, three to a window
-panes_of_time : map (pane_of (frame (over_all Range 6 4))) (counted (over_all Range 6 4) (placed_after no_rows five)) ≡ 0 ∷ 0 ∷ 1 ∷ 1 ∷ 4 ∷ []
+panes_of_time : map (pane_of (frame (over_all Range 6 4))) (counted_rows (over_all Range 6 4) (placed_after no_rows five)) ≡ 0 ∷ 0 ∷ 1 ∷ 1 ∷ 4 ∷ []
 unfolding placed_after
 panes_of_time = refl
 

@@ -11,7 +11,7 @@ use Rattle.saber_plan.specs.Parts.{no_part, part, merge}
 use Rattle.saber_plan.specs.Tasks.{Parts}
 use Rattle.std.specs.FinMap.{retain_keys}
 use Rattle.saber_laws.specs.Plans.{OneWindow}
-use Rattle.saber_panes.specs.Panes.{panes_here, panes_in, in_pane, counted, first_pane, window_part, PanesOf, CanTakeIn, RowsRoom, WindowRoom}
+use Rattle.saber_panes.specs.Panes.{panes_here, panes_in, in_pane, counted_rows, first_pane, window_part, PanesOf, CanTakeIn, RowsRoom, WindowRoom}
 
 -- the panes of rows and of rows after them are taken in one after the other
 abbrev pub PanesJoin : Type 0
@@ -31,7 +31,7 @@ PanesAreOfRows = (q : Tree) (us : List Placed) → PanesOf q (λ j. length (in_p
 abbrev pub RowsHaveRoom : Type 0
 RowsHaveRoom =
     (q : Tree) (m : Mark) (xs ys : List Row) → length xs + length ys ≤ 2 ^ 40
-    → RowsRoom q (panes_here q m xs) (counted q (placed_after (mark_after m xs) ys))
+    → RowsRoom q (panes_here q m xs) (counted_rows q (placed_after (mark_after m xs) ys))
 
 -- and the panes of these
 abbrev pub PanesCanJoin : Type 0

@@ -15,7 +15,7 @@ use Rattle.saber_plan.specs.Values.{passes}
 use Rattle.saber_plan.specs.Windows.{Frame, unwindowed, one, two, Placed, time, placed_after, from}
 use Rattle.saber_plan.specs.Needs.{first_window, past_window}
 use Rattle.saber_plan.specs.Answers.{frame}
-use Rattle.saber_plan.specs.Merges.{joined}
+use Rattle.saber_plan.specs.Merges.{joined_value}
 use Rattle.saber_plan.specs.Parts.{Part, no_part, group_part, merge}
 use Rattle.saber_plan.specs.Tasks.{Parts}
 use Rattle.saber_partial.specs.Tallies.{CanMerge}
@@ -65,8 +65,8 @@ pane_count (two measure slide left right) = 0
 abbrev pub is_counted : Tree → Placed → Bool
 is_counted q x = nat_lt (first_window (frame q) x) (past_window (frame q) x) && passes q.predicate x.row.values []
 
-abbrev pub counted : Tree → List Placed → List Placed
-counted q us = filter (is_counted q) us
+abbrev pub counted_rows : Tree → List Placed → List Placed
+counted_rows q us = filter (is_counted q) us
 
 -- those of a pane
 abbrev pub in_pane : Tree → ℕ → List Placed → List Placed
@@ -81,7 +81,7 @@ panes_in q us = from_entries {R = nat_cmp} (map (λ j. (j, pane_part q j us)) (m
 
 -- those of rows behind a mark
 abbrev pub panes_here : Tree → Mark → List Row → Parts
-panes_here q m xs = panes_in q (counted q (placed_after m xs))
+panes_here q m xs = panes_in q (counted_rows q (placed_after m xs))
 
 -- ---- a window of panes
 
@@ -90,12 +90,12 @@ or_none None = no_part
 or_none (Some p) = p
 
 -- some panes in a row, merged
-abbrev pub merged : Parts → List ℕ → Part
-merged m js = fold (λ p j. merge p (or_none (get m j))) no_part js
+abbrev pub merged_panes : Parts → List ℕ → Part
+merged_panes m js = fold (λ p j. merge p (or_none (get m j))) no_part js
 
 -- what a window's panes come to
 abbrev pub window_part : Frame → ℕ → Parts → Part
-window_part f i m = merged m (from (first_pane f i) (pane_count f))
+window_part f i m = merged_panes m (from (first_pane f i) (pane_count f))
 
 -- ---- what may be taken in
 
@@ -109,7 +109,7 @@ joined_at m j = get m j
 
 -- panes with a part more
 abbrev pub with_part : Parts → ℕ → Part → Parts
-with_part m j p = insert m j (joined merge (get m j) p)
+with_part m j p = insert m j (joined_value merge (get m j) p)
 
 -- and with a row more, if it is counted
 abbrev pub with_row_in : Tree → Parts → Placed → Parts

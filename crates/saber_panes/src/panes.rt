@@ -11,7 +11,7 @@ ghost use Rattle.saber_plan.specs.Merges.{both};
 ghost use Rattle.saber_plan.specs.Parts.{Part, group_part, merge};
 ghost use Rattle.saber_plan.specs.Values as v;
 ghost use Rattle.saber_partial.specs.Tallies.{CanMerge};
-ghost use Rattle.saber_panes.specs.Panes.{counted, first_pane, is_counted, joined_at, or_none, pane_count, pane_of, panes_here, window_part, with_part, with_row_in, CanTakeIn, HasRowRoom, RowsRoom, WindowRoom};
+ghost use Rattle.saber_panes.specs.Panes.{counted_rows, first_pane, is_counted, joined_at, or_none, pane_count, pane_of, panes_here, window_part, with_part, with_row_in, CanTakeIn, HasRowRoom, RowsRoom, WindowRoom};
 
 use crate::cuts::Cuts;
 use crate::pane_part::PanePart;
@@ -99,7 +99,7 @@ impl Panes {
         requires right { before.now.right ≤ 2 ^ 40 }
         requires room { HasRowRoom (tree_of plan.now) self.old (record { row = row.now; before = before.now }) }
         ensures ok { OnOk result (self.new ≡ with_row_in (tree_of plan.now) self.old (record { row = row.now; before = before.now })) }
-        ensures steps { steps.new ≤ steps.old + length (counted (tree_of plan.now) (record { row = row.now; before = before.now } ∷ [])) }
+        ensures steps { steps.new ≤ steps.old + length (counted_rows (tree_of plan.now) (record { row = row.now; before = before.now } ∷ [])) }
     {
         if cuts.is_counted(row, before) {
             let pane = cuts.pane_of(row, before);
@@ -122,9 +122,9 @@ impl Panes {
         requires checked { IsChecked (tree_of p.now) }
         requires group { (tree_of p.now).shape ≡ Group }
         requires rows { RowsFit (tree_of p.now) before.now rows.now }
-        requires room { RowsRoom (tree_of p.now) self.old (counted (tree_of p.now) (placed_after before.now rows.now)) }
+        requires room { RowsRoom (tree_of p.now) self.old (counted_rows (tree_of p.now) (placed_after before.now rows.now)) }
         ensures ok { OnOk result (self.new ≡ both merge self.old (panes_here (tree_of p.now) before.now rows.now)) }
-        ensures steps { steps.new ≤ steps.old + length (counted (tree_of p.now) (placed_after before.now rows.now)) }
+        ensures steps { steps.new ≤ steps.old + length (counted_rows (tree_of p.now) (placed_after before.now rows.now)) }
     {
         groups_join();
         merge_is_associative();

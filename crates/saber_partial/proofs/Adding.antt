@@ -7,7 +7,7 @@ use Rattle.std.proofs.lemmas.Bool.{eqb-true}
 use Rattle.saber_plan.specs.Tasks.{full}
 use Rattle.saber_plan.specs.Trees.{Tree}
 use Rattle.saber_plan.specs.Answers.{key_cmp, key}
-use Rattle.saber_plan.specs.Merges.{joined}
+use Rattle.saber_plan.specs.Merges.{joined_value}
 use Rattle.saber_plan.specs.Parts.{Part, Numbers, numbers, join_numbers, group_part, merge}
 use Rattle.saber_plan.specs.Facts.Parts.{total, exact, merge-empty_right}
 use Rattle.saber_plan.specs.Facts.Maps.{take_one}
@@ -20,12 +20,12 @@ pub one_part : (q : Tree) (zs : List ℤ) → group_part q (zs ∷ []) ≡ from_
 unfolding group_part
 one_part q zs = ap (λ b. from_entries {R = key_cmp} ((key q.keys zs, numbers q.aggregates (cond b (zs ∷ []) [])) ∷ [])) (ap is_eq (tied_itself total (key q.keys zs)))
 
-pub merge_one : (m : Part) (k : List ℤ) (v : Numbers) → insert m k (joined join_numbers (get m k) v) ≡ merge m (from_entries ((k, v) ∷ []))
-merge_one m k v = sym (merge-empty_right (insert m k (joined join_numbers (get m k) v))) ∙ take_one total exact join_numbers m k v [] refl
+pub merge_one : (m : Part) (k : List ℤ) (v : Numbers) → insert m k (joined_value join_numbers (get m k) v) ≡ merge m (from_entries ((k, v) ∷ []))
+merge_one m k v = sym (merge-empty_right (insert m k (joined_value join_numbers (get m k) v))) ∙ take_one total exact join_numbers m k v [] refl
 
 -- put in at its key, joined with what was there
-pub add_at : (q : Tree) (m : Part) (zs : List ℤ) (k : List ℤ) (n : Numbers) → k ≡ key q.keys zs → n ≡ joined join_numbers (get m k) (numbers q.aggregates (zs ∷ [])) → insert m k n ≡ merge m (group_part q (zs ∷ []))
-add_at q m zs k n h e = ap (insert m k) e ∙ ap (λ l. insert m l (joined join_numbers (get m l) (numbers q.aggregates (zs ∷ [])))) h ∙ merge_one m (key q.keys zs) (numbers q.aggregates (zs ∷ [])) ∙ ap (merge m) (sym (one_part q zs))
+pub add_at : (q : Tree) (m : Part) (zs : List ℤ) (k : List ℤ) (n : Numbers) → k ≡ key q.keys zs → n ≡ joined_value join_numbers (get m k) (numbers q.aggregates (zs ∷ [])) → insert m k n ≡ merge m (group_part q (zs ∷ []))
+add_at q m zs k n h e = ap (insert m k) e ∙ ap (λ l. insert m l (joined_value join_numbers (get m l) (numbers q.aggregates (zs ∷ [])))) h ∙ merge_one m (key q.keys zs) (numbers q.aggregates (zs ∷ [])) ∙ ap (merge m) (sym (one_part q zs))
 
 pub some_found : (x : List ℤ × Numbers) (es : List (List ℤ × Numbers)) → get (part_of (x ∷ es)) x.0 ≡ Some x.1
 some_found x es = get-from_entries total (x ∷ es) x.0 ∙ ap (λ r. cond (is_eq r) (Some x.1) (find key_cmp x.0 es)) (tied_itself total x.0)

@@ -13,8 +13,8 @@ use Rattle.saber_plan.specs.declared.plans.Shape.{Shape}
 use Rattle.saber_plan.specs.declared.plans.Shape.TheVariants.{Select, Group, Join}
 use Rattle.saber_plan.specs.Trees.{Tree}
 use Rattle.saber_plan.specs.Values.{passes}
-use Rattle.saber_plan.specs.Windows.{Placed, placed, no_rows, inside, has}
-use Rattle.saber_plan.specs.Answers.{frame, passing, pairs_with, pair_key, is_left, is_right, by_shape, key_cmp, key, rows_of_key, row_key, items_over}
+use Rattle.saber_plan.specs.Windows.{Placed, placed_from_start, no_rows, inside, has}
+use Rattle.saber_plan.specs.Answers.{frame, passing_values, pairs_with, pair_key, is_left, is_right, by_shape, key_cmp, key, rows_of_key, row_key, items_over}
 use Rattle.saber_plan.specs.Parts.{Part, no_part, Numbers, numbers, join_numbers, merge, group_part, numbers_of_one, pair_part, pair_numbers, part, row_part, row_numbers}
 use Rattle.saber_partial.specs.Gathering.{plan_folds}
 use Rattle.saber_partial.specs.Tallies.{folds_of, Alike, CanJoin, CanMerge}
@@ -109,31 +109,31 @@ groups_merge q us vs n = small_merge q (length us) (length vs) (group_part q us)
 
 -- ---- rows of windows
 
-few_passing : (q : Tree) (i : ℕ) (xs : List Row) (x y : ℕ) → length (passing q (inside (frame q) i xs x y)) ≤ length (slice_range (placed xs) x y)
+few_passing : (q : Tree) (i : ℕ) (xs : List Row) (x y : ℕ) → length (passing_values q (inside (frame q) i xs x y)) ≤ length (slice_range (placed_from_start xs) x y)
 few_passing q i xs x y =
     let ps = inside (frame q) i xs x y in
     let a = few_pass (λ (zs : List ℤ). passes q.predicate zs []) (map (λ (p : Placed). p.row.values) ps) in
     let b = length-map ps (λ (p : Placed). p.row.values) in
-    let c = few_pass (has (frame q) i) (slice_range (placed xs) x y) in
+    let c = few_pass (has (frame q) i) (slice_range (placed_from_start xs) x y) in
     omega (arith, a, b, c)
 
-range_long : (xs : List Row) (x y : ℕ) → length (slice_range (placed xs) x y) ≤ y - x
-range_long xs x y = let a = length-take (y - x) (drop x (placed xs)) in omega (arith, a)
+range_long : (xs : List Row) (x y : ℕ) → length (slice_range (placed_from_start xs) x y) ≤ y - x
+range_long xs x y = let a = length-take (y - x) (drop x (placed_from_start xs)) in omega (arith, a)
 
 pub more_rows : (q : Tree) (m n : ℕ) (a : Part) → m ≤ n → OfRows q m a → OfRows q n a
 more_rows q m n a l g = record { at = λ k x e. let w = g.at k x e in let low = w.0 in (omega (arith, l, low), w.1); keys = g.keys }
 
 pub parts_of_rows : (q : Tree) (i : ℕ) (xs : List Row) (x y : ℕ) → q.shape ≡ Group → OfRows q (y - x) (part q i xs x y)
 parts_of_rows q i xs x y g =
-    let us = passing q (inside (frame q) i xs x y) in
+    let us = passing_values q (inside (frame q) i xs x y) in
     let few = few_passing q i xs x y in
     let low = range_long xs x y in
     subst (λ s. OfRows q (y - x) (by_shape s (row_part q (inside (frame q) i xs x y)) (group_part q us) (pair_part q x (inside (frame q) i xs 0 y)))) (sym g)
     (more_rows q (length us) (y - x) (group_part q us) (omega (arith, few, low)) (groups_of_rows q us))
 
-few_both : (xs : List Row) (x y z : ℕ) → length (slice_range (placed xs) x y) + length (slice_range (placed xs) y z) ≤ length xs
+few_both : (xs : List Row) (x y z : ℕ) → length (slice_range (placed_from_start xs) x y) + length (slice_range (placed_from_start xs) y z) ≤ length xs
 few_both xs x y z =
-    let ps = placed xs in
+    let ps = placed_from_start xs in
     let a = length-drop x ps in
     let b = length-drop y ps in
     let c = length-take (y - x) (drop x ps) in
@@ -268,5 +268,5 @@ parts_merge q i xs x y z n =
     let all = few_both xs x y z in
     shape_case q.shape _ _ _ _ _ _
     (rows_merge q (inside (frame q) i xs x y) (inside (frame q) i xs y z))
-    (groups_merge q (passing q (inside (frame q) i xs x y)) (passing q (inside (frame q) i xs y z)) (omega (arith, n, low, high, all)))
+    (groups_merge q (passing_values q (inside (frame q) i xs x y)) (passing_values q (inside (frame q) i xs y z)) (omega (arith, n, low, high, all)))
     (pairs_merge q x y (inside (frame q) i xs 0 y) (inside (frame q) i xs 0 z))

@@ -11,7 +11,7 @@ use Rattle.saber_plan.specs.Values.{value}
 use Rattle.saber_plan.specs.Facts.Parts.{same_self, same_is}
 use Rattle.saber_plan.specs.Parts.{Number, Numbers, numbers, same_fold, join_values, join_numbers}
 use Rattle.saber_partial.specs.Flat.{with_folds}
-use Rattle.saber_partial.specs.Gathering.{plan_folds, values_over, stepped, Fits128, FitsStep, StepsFit, HasRoom, IsSmall}
+use Rattle.saber_partial.specs.Gathering.{plan_folds, values_over, stepped_numbers, Fits128, FitsStep, StepsFit, HasRoom, IsSmall}
 use Rattle.saber_partial.specs.Tallies.{folds_of, SumWithin, IsTally, CanJoin}
 
 abbrev pub number : Fold → ℤ → Number
@@ -19,7 +19,7 @@ number f z = record { fold = f; value = z }
 
 -- ---- lists of numbers
 
-pub length-stepped : (fs : List Fold) (xs ys : List ℤ) → length xs ≤ length fs → length xs ≡ length ys → length (stepped fs xs ys) ≡ length xs
+pub length-stepped : (fs : List Fold) (xs ys : List ℤ) → length xs ≤ length fs → length xs ≡ length ys → length (stepped_numbers fs xs ys) ≡ length xs
 length-stepped [] [] ys h e = refl
 length-stepped [] (x ∷ xs) ys h e = absurd (omega (arith, h))
 length-stepped (f ∷ fs) [] ys h e = refl
@@ -53,7 +53,7 @@ with-front (suc n) [] xs h = refl
 with-front (suc n) (f ∷ fs) [] h = refl
 with-front (suc n) (f ∷ fs) (x ∷ xs) h = ap (λ l. number f x ∷ l) (with-front n fs xs (omega (arith, h)))
 
-pub stepped-front : (n : ℕ) (fs : List Fold) (xs ys : List ℤ) → length xs ≤ n → stepped (take n fs) xs ys ≡ stepped fs xs ys
+pub stepped-front : (n : ℕ) (fs : List Fold) (xs ys : List ℤ) → length xs ≤ n → stepped_numbers (take n fs) xs ys ≡ stepped_numbers fs xs ys
 stepped-front zero [] xs ys h = refl
 stepped-front zero (f ∷ fs) [] ys h = refl
 stepped-front zero (f ∷ fs) (x ∷ xs) ys h = absurd (omega (arith, h))
@@ -63,7 +63,7 @@ stepped-front (suc n) (f ∷ fs) (x ∷ xs) [] h = refl
 stepped-front (suc n) (f ∷ fs) (x ∷ xs) (y ∷ ys) h = ap (λ l. step f x y ∷ l) (stepped-front n fs xs ys (omega (arith, h)))
 
 -- numbers joined one by one are those of the joined lists
-pub with-stepped : (fs : List Fold) (xs ys : List ℤ) → with_folds fs (stepped fs xs ys) ≡ join_values (with_folds fs xs) (with_folds fs ys)
+pub with-stepped : (fs : List Fold) (xs ys : List ℤ) → with_folds fs (stepped_numbers fs xs ys) ≡ join_values (with_folds fs xs) (with_folds fs ys)
 with-stepped [] xs ys = refl
 with-stepped (f ∷ fs) [] ys = refl
 with-stepped (f ∷ fs) (x ∷ xs) [] = refl
@@ -71,26 +71,26 @@ with-stepped (f ∷ fs) (x ∷ xs) (y ∷ ys) =
     ap (λ l. number f (step f x y) ∷ l) (with-stepped fs xs ys)
     ∙ sym (ap (λ b. cond b (number f (step f x y) ∷ join_values (with_folds fs xs) (with_folds fs ys)) []) (same_self f))
 
-stepped_nil : (fs : List Fold) (ys : List ℤ) → stepped fs [] ys ≡ []
+stepped_nil : (fs : List Fold) (ys : List ℤ) → stepped_numbers fs [] ys ≡ []
 stepped_nil [] ys = refl
 stepped_nil (f ∷ fs) ys = refl
 
 -- what is joined so far, and the rest as it will be
 abbrev pub stepped_from : List Fold → List ℤ → List ℤ → ℕ → List ℤ
-stepped_from fs xs ys k = take k xs ++ stepped (drop k fs) (drop k xs) (drop k ys)
+stepped_from fs xs ys k = take k xs ++ stepped_numbers (drop k fs) (drop k xs) (drop k ys)
 
 pub stepped_all : (fs : List Fold) (xs ys : List ℤ) (k : ℕ) → length xs ≤ k → stepped_from fs xs ys k ≡ xs
 stepped_all fs xs ys k h =
-    (λ i. take_all k xs h i ++ stepped (drop k fs) (drop_all k xs h i) (drop k ys)) ∙ ap (λ l. xs ++ l) (stepped_nil (drop k fs) (drop k ys)) ∙ append-nil xs
+    (λ i. take_all k xs h i ++ stepped_numbers (drop k fs) (drop_all k xs h i) (drop k ys)) ∙ ap (λ l. xs ++ l) (stepped_nil (drop k fs) (drop k ys)) ∙ append-nil xs
 
 pub stepped_more : (fs : List Fold) (xs ys : List ℤ) (k : ℕ) (z : ℤ) → k < length xs → length xs ≤ length fs → length xs ≡ length ys
     → z ≡ step (get_or fs k Sum) (get_or xs k (pos 0)) (get_or ys k (pos 0)) → stepped_from fs (set xs k z) ys (k + 1) ≡ stepped_from fs xs ys k
 stepped_more fs xs ys k z low many long e =
-    let rest = stepped (drop (k + 1) fs) (drop (k + 1) xs) (drop (k + 1) ys) in
-    (λ i. take_more_set xs k z low i ++ stepped (drop (k + 1) fs) (drop-set-lt (k + 1) xs k z (omega arith) i) (drop (k + 1) ys))
+    let rest = stepped_numbers (drop (k + 1) fs) (drop (k + 1) xs) (drop (k + 1) ys) in
+    (λ i. take_more_set xs k z low i ++ stepped_numbers (drop (k + 1) fs) (drop-set-lt (k + 1) xs k z (omega arith) i) (drop (k + 1) ys))
     ∙ append_assoc (take k xs) (z ∷ []) rest
     ∙ ap (λ v. take k xs ++ (v ∷ rest)) e
-    ∙ sym (λ i. take k xs ++ stepped (drop_more fs k Sum (omega (arith, low, many)) i) (drop_more xs k (pos 0) low i) (drop_more ys k (pos 0) (omega (arith, low, long)) i))
+    ∙ sym (λ i. take k xs ++ stepped_numbers (drop_more fs k Sum (omega (arith, low, many)) i) (drop_more xs k (pos 0) low i) (drop_more ys k (pos 0) (omega (arith, low, long)) i))
 
 -- ---- the numbers of one row
 

@@ -4,7 +4,7 @@ use Rattle.std.proofs.lemmas.Fmt.{length-decimal-le}
 use Rattle.std.proofs.lemmas.List.{length-take-le}
 use Rattle.std.specs.Fmt.{decimal}
 use Rattle.saber_plan.specs.Answers.{line}
-use Rattle.saber_digits.specs.Cells.{cells, drafted}
+use Rattle.saber_digits.specs.Cells.{cells, drafted_text}
 use Rattle.saber_digits.specs.CellFacts.{line_after}
 
 -- a number of 64 bits has few digits
@@ -16,8 +16,8 @@ few_digits n k xs whole high low h =
     omega (arith, long, same, most)
 
 -- a line that ends in an array: what was there, its number and its cells, and LF
-pub ended : (old first out : List ℕ) (before draft : List ℕ) (n end last : ℕ) (zs : List ℤ) → first ≡ old ++ decimal n → drafted out before end ≡ first ++ cells zs
-    → take last draft ≡ take end before ++ 10 ∷ [] → drafted out draft last ≡ old ++ line (pos n ∷ zs)
+pub ended : (old first out : List ℕ) (before draft : List ℕ) (n end last : ℕ) (zs : List ℤ) → first ≡ old ++ decimal n → drafted_text out before end ≡ first ++ cells zs
+    → take last draft ≡ take end before ++ 10 ∷ [] → drafted_text out draft last ≡ old ++ line (pos n ∷ zs)
 ended old first out before draft n end last zs start shown written =
     ap (λ l. out ++ l) written ∙ sym (append_assoc out (take end before) (10 ∷ []))
     ∙ ap (λ l. l ++ 10 ∷ []) (shown ∙ ap (λ l. l ++ cells zs) start) ∙ line_after old (pos n) zs

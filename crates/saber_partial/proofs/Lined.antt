@@ -9,7 +9,7 @@ use Rattle.saber_plan.specs.declared.plans.Shape.TheVariants.{Group}
 use Rattle.saber_plan.specs.Answers.{key_cmp, line, entry_lines, items_over}
 use Rattle.saber_plan.specs.Facts.Maps.{entries-from_rising}
 use Rattle.saber_plan.specs.Facts.Parts.{total, exact}
-use Rattle.saber_plan.specs.Parts.{Numbers, answered, answers_of, join_numbers, part_lines}
+use Rattle.saber_plan.specs.Parts.{Numbers, group_answer, answers_of, join_numbers, part_lines}
 use Rattle.saber_plan.specs.Texts.{Behind}
 use Rattle.saber_plan.specs.Trees.{Tree}
 use Rattle.saber_plan.specs.Values.{value}
@@ -18,7 +18,7 @@ use Rattle.saber_partial.specs.Sorted.{part_of, weave, Rises}
 use Rattle.saber_partial.proofs.Listed.{next_asked}
 use Rattle.saber_partial.proofs.Weaving.{weave_none, weave_less, weave_equal, weave_greater}
 
-entry_each : (i : ℕ) (is : List (List Product)) (es : List (List ℤ × Numbers)) → lines_for i is es ≡ entry_lines i (map (answered Group is) es)
+entry_each : (i : ℕ) (is : List (List Product)) (es : List (List ℤ × Numbers)) → lines_for i is es ≡ entry_lines i (map (group_answer Group is) es)
 entry_each i is [] = refl
 entry_each i is (e ∷ es) = ap (λ l. line (pos i ∷ answers_of Group is e.0 e.1) ++ l) (entry_each i is es)
 
@@ -26,7 +26,7 @@ entry_each i is (e ∷ es) = ap (λ l. line (pos i ∷ answers_of Group is e.0 e
 pub part_lined : (q : Tree) (i : ℕ) (es : List (List ℤ × Numbers)) → q.shape ≡ Group → Rises es → lines_for i q.items es ≡ part_lines q i (part_of es)
 part_lined q i es g s =
     entry_each i q.items es
-    ∙ sym (ap₂ (λ (shape : Shape) l. entry_lines i (map (answered shape q.items) l)) g (entries-from_rising total exact es s))
+    ∙ sym (ap₂ (λ (shape : Shape) l. entry_lines i (map (group_answer shape q.items) l)) g (entries-from_rising total exact es s))
 
 -- a walk that wrote a line has the others to write
 pub written_one : (i : ℕ) (is : List (List Product)) (out new : List ℕ) (zs : List ℤ) (e : List ℤ × Numbers) (xs ys : List (List ℤ × Numbers))

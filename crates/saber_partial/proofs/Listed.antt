@@ -7,7 +7,7 @@ use Rattle.saber_plan.specs.declared.plans.Shape.TheVariants.{Group}
 use Rattle.saber_plan.specs.Answers.{items_over}
 use Rattle.saber_plan.specs.Facts.Maps.{entries-from_rising}
 use Rattle.saber_plan.specs.Facts.Parts.{total, exact}
-use Rattle.saber_plan.specs.Parts.{Numbers, answered, answers_of, join_numbers, part_answers}
+use Rattle.saber_plan.specs.Parts.{Numbers, group_answer, answers_of, join_numbers, part_answers}
 use Rattle.saber_plan.specs.Trees.{Tree}
 use Rattle.saber_plan.specs.Values.{value}
 use Rattle.saber_partial.specs.declared.layout.Layout.{Layout}
@@ -21,8 +21,8 @@ use Rattle.saber_partial.proofs.Weaving.{weave_none}
 -- the answers of a part that is a list by key
 pub part_listed : (q : Tree) (es : List (List ℤ × Numbers)) → q.shape ≡ Group → Rises es → answers_under q.items es ≡ part_answers q (part_of es)
 part_listed q es g s = sym (
-    ap (λ l. map (λ (e : List ℤ × List ℤ). e.1) (map (answered q.shape q.items) l)) (entries-from_rising total exact es s)
-    ∙ map-map (λ (e : List ℤ × List ℤ). e.1) (answered q.shape q.items) es
+    ap (λ l. map (λ (e : List ℤ × List ℤ). e.1) (map (group_answer q.shape q.items) l)) (entries-from_rising total exact es s)
+    ∙ map-map (λ (e : List ℤ × List ℤ). e.1) (group_answer q.shape q.items) es
     ∙ ap (λ shape. map (λ (e : List ℤ × Numbers). answers_of shape q.items e.0 e.1) es) g)
 
 -- the answers of the group that a row is

@@ -11,7 +11,7 @@ use Rattle.saber_plan.specs.Facts.Maps.{equal_if, take_one, first_alone}
 use Rattle.saber_partial.specs.Tallies.{CanJoin}
 use Rattle.saber_partial.specs.MergeFacts.{not_both}
 use Rattle.saber_partial.specs.Sorted.{JoinsFit}
-use Rattle.saber_plan.specs.Merges.{joined}
+use Rattle.saber_plan.specs.Merges.{joined_value}
 
 -- what holds at both ends
 pub either : {T E : Type 0} (r : Result T E) (P Q R : Type 0) → OnOk r P → OnErr r Q → (P → R) → (Q → R) → R
@@ -22,7 +22,7 @@ either (Err x) P Q R p q f g = g q
 abbrev made : List (List ℤ × Numbers) → Part
 made es = from_entries {R = key_cmp} es
 
-pub step_rest : (m : Part) (k : List ℤ) (b n : Numbers) (es : List (List ℤ × Numbers)) → n ≡ joined join_numbers (get m k) b → T (is_sorted key_cmp ((k, b) ∷ es)) → merge (insert m k n) (made es) ≡ merge m (made ((k, b) ∷ es))
+pub step_rest : (m : Part) (k : List ℤ) (b n : Numbers) (es : List (List ℤ × Numbers)) → n ≡ joined_value join_numbers (get m k) b → T (is_sorted key_cmp ((k, b) ∷ es)) → merge (insert m k n) (made es) ≡ merge m (made ((k, b) ∷ es))
 step_rest m k b n es e s = ap (λ x. merge (insert m k x) (made es)) e ∙ take_one total exact join_numbers m k b es (first_alone key_cmp (k, b) es s)
 
 fits_case : (m : Part) (k : List ℤ) (b n : Numbers) (es : List (List ℤ × Numbers)) (q : List ℤ) (x y : Numbers) (t : Bool) → (t ≡ true → find key_cmp q es ≡ None) → JoinsFit m (made ((k, b) ∷ es))

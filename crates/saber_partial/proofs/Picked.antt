@@ -17,7 +17,7 @@ use Rattle.saber_partial.specs.declared.layout.Layout.{Layout}
 use Rattle.saber_partial.specs.Flat.{HasLayout, HaveLayout}
 use Rattle.saber_partial.specs.Sorted.{IsAt, IsGap}
 use Rattle.saber_partial.specs.Tallies.{CanJoin, FitsAt, with_row}
-use Rattle.saber_partial.specs.Young.{no_entry, picked, by_key, young_part, IsOrder}
+use Rattle.saber_partial.specs.Young.{no_entry, picked_entries, by_key, young_part, IsOrder}
 use Rattle.saber_partial.proofs.Rising.{apart, read_at, wrote_rises, wrote_part, filled_rises, filled_part}
 
 lt_or : (j k : ℕ) → (j < k) ⊎ (k ≤ j)
@@ -88,14 +88,14 @@ one_place order es j k o l m e =
 
 -- ---- written over
 
-picked_away : (ps : List ℕ) (es : List (List ℤ × Numbers)) (p : ℕ) (x : List ℤ × Numbers) → ((k : ℕ) → k < length ps → get_or ps k 0 ≡ p → ⊥) → picked ps (set es p x) ≡ picked ps es
+picked_away : (ps : List ℕ) (es : List (List ℤ × Numbers)) (p : ℕ) (x : List ℤ × Numbers) → ((k : ℕ) → k < length ps → get_or ps k 0 ≡ p → ⊥) → picked_entries ps (set es p x) ≡ picked_entries ps es
 picked_away [] es p x h = refl
 picked_away (q ∷ ps) es p x h =
     ap₂ (λ (y : List ℤ × Numbers) (ys : List (List ℤ × Numbers)). y ∷ ys) (get_or-set_other es p q x no_entry (λ e. h 0 (omega arith) e))
     (picked_away ps es p x (λ k l e. h (suc k) (omega (arith, l)) e))
 
 picked_set : (ps : List ℕ) (es : List (List ℤ × Numbers)) (p j : ℕ) (x : List ℤ × Numbers) → j < length ps → get_or ps j 0 ≡ p → p < length es
-    → ((k : ℕ) → k < length ps → get_or ps k 0 ≡ p → k ≡ j) → picked ps (set es p x) ≡ set (picked ps es) j x
+    → ((k : ℕ) → k < length ps → get_or ps k 0 ≡ p → k ≡ j) → picked_entries ps (set es p x) ≡ set (picked_entries ps es) j x
 picked_set [] es p j x l e m h = absurd (omega (arith, l))
 picked_set (q ∷ ps) es p zero x l e m h =
     ap₂ (λ (y : List ℤ × Numbers) (ys : List (List ℤ × Numbers)). y ∷ ys) (ap (λ r. get_or (set es p x) r no_entry) e ∙ get_or-set_same es p x no_entry m)
@@ -120,8 +120,8 @@ module _ (order : List ℕ) (es gs : List (List ℤ × Numbers)) (k : List ℤ) 
       let front = length-take-le (length es) order long in
       let x : List ℤ × Numbers = ((get_or es p no_entry).0, join_numbers (get_or es p no_entry).1 v) in
       let here : get_or es p no_entry ≡ get_or (by_key order es) j no_entry = ap (λ q. get_or es q no_entry) (sym told) ∙ sym (by_key_at order es long j no_entry low) in
-      ap (λ n. picked (take n order) gs) same_long
-      ∙ ap (picked (take (length es) order)) new
+      ap (λ n. picked_entries (take n order) gs) same_long
+      ∙ ap (picked_entries (take (length es) order)) new
       ∙ picked_set (take (length es) order) es p j x (omega (arith, front, low)) (get_or-take (length es) order j 0 low ∙ told)
       (subst (λ q. q < length es) told (place_within order es long j low o.within))
       (λ i l e. let m : i < length es = omega (arith, front, l) in one_place order es i j o m low (sym (get_or-take (length es) order i 0 m) ∙ e ∙ sym told))
@@ -141,7 +141,7 @@ module _ (order : List ℕ) (es gs : List (List ℤ × Numbers)) (k : List ℤ) 
 
 -- ---- one more
 
-picked_more : (ps : List ℕ) (es : List (List ℤ × Numbers)) (x : List ℤ × Numbers) → AllByRecursion (λ p. p < length es) ps → picked ps (es ++ x ∷ []) ≡ picked ps es
+picked_more : (ps : List ℕ) (es : List (List ℤ × Numbers)) (x : List ℤ × Numbers) → AllByRecursion (λ p. p < length es) ps → picked_entries ps (es ++ x ∷ []) ≡ picked_entries ps es
 picked_more [] es x h = refl
 picked_more (p ∷ ps) es x h = ap₂ (λ (y : List ℤ × Numbers) (ys : List (List ℤ × Numbers)). y ∷ ys) (get_or_append_left es (x ∷ []) no_entry p h.0) (picked_more ps es x h.1)
 
@@ -177,8 +177,8 @@ module _ (old new : List ℕ) (es gs : List (List ℤ × Numbers)) (k : List ℤ
 
   put_by_key : by_key new gs ≡ insert (by_key old es) i (k, v)
   put_by_key =
-      ap (λ m. picked (take m new) gs) one_more
-      ∙ ap₂ picked put more
+      ap (λ m. picked_entries (take m new) gs) one_more
+      ∙ ap₂ picked_entries put more
       ∙ map_insert (λ p. get_or (es ++ (k, v) ∷ []) p no_entry) (take (length es) old) i (length es)
       ∙ ap₂ (λ (l : List (List ℤ × Numbers)) (y : List ℤ × Numbers). insert l i y) (picked_more (take (length es) old) es (k, v) o.within) (get_or_push es (k, v) no_entry (length es) refl)
 
@@ -218,7 +218,7 @@ module _ (old new : List ℕ) (es gs : List (List ℤ × Numbers)) (k : List ℤ
 
 -- ---- layouts
 
-pub picked_layout : (l : Layout) (ps : List ℕ) (es : List (List ℤ × Numbers)) → HaveLayout l es → AllByRecursion (λ p. p < length es) ps → HaveLayout l (picked ps es)
+pub picked_layout : (l : Layout) (ps : List ℕ) (es : List (List ℤ × Numbers)) → HaveLayout l es → AllByRecursion (λ p. p < length es) ps → HaveLayout l (picked_entries ps es)
 picked_layout l [] es h w = tt
 picked_layout l (p ∷ ps) es h w = (all_at (HasLayout l) es p (get_or es p no_entry) w.0 (get_or_default es p no_entry (get_or es p no_entry) w.0) h, picked_layout l ps es h w.1)
 

@@ -2,7 +2,7 @@
 use Rattle.std.proofs.Common.{◌≡◌, ℕ, zero, suc, ℤ, map, take, slice_index_or, slice_set, ◌≤◌, List, [], ◌∷◌, ◌++◌, length, Option, Some, None, MatchOption, Bor, refl, sym, ◌∙◌, ap, subst, length-append, arith}
 use Rattle.std.specs.Option.{option_copied}
 use Rattle.std.specs.List.{slice_get}
-use Rattle.saber_plan.specs.Parts.{Part, answered, part_answers, part_lines, no_part, merge}
+use Rattle.saber_plan.specs.Parts.{Part, group_answer, part_answers, part_lines, no_part, merge}
 use Rattle.saber_plan.specs.Trees.{Tree}
 use Rattle.saber_plan.specs.Answers.{key_cmp, entry_lines}
 use Rattle.saber_plan.specs.Facts.Maps.{entries-empty}
@@ -10,25 +10,25 @@ use Rattle.saber_plan.specs.Facts.Parts.{merge-empty_left, merge-empty_right}
 use Rattle.saber_laws.specs.Parts.{MergeIsAssociative}
 use Rattle.saber_partial.specs.Tallies.{CanMerge}
 use Rattle.saber_partial.specs.MergeFacts.{can_ahead, can_back, can_behind, can_first, can_none, none_can}
-use Rattle.saber_partial.specs.Piles.{piled, CanPile}
+use Rattle.saber_partial.specs.Piles.{piled_part, CanPile}
 
 -- ---- one part more
 
-pub piled-push : MergeIsAssociative → (ps : List Part) (p : Part) → piled (ps ++ p ∷ []) ≡ merge (piled ps) p
+pub piled-push : MergeIsAssociative → (ps : List Part) (p : Part) → piled_part (ps ++ p ∷ []) ≡ merge (piled_part ps) p
 piled-push assoc [] p = merge-empty_right p ∙ sym (merge-empty_left p)
-piled-push assoc (q ∷ ps) p = ap (merge q) (piled-push assoc ps p) ∙ sym (assoc q (piled ps) p)
+piled-push assoc (q ∷ ps) p = ap (merge q) (piled-push assoc ps p) ∙ sym (assoc q (piled_part ps) p)
 
-pub can_push : MergeIsAssociative → (ps : List Part) (p : Part) → CanPile ps → CanMerge (piled ps) p → CanPile (ps ++ p ∷ [])
+pub can_push : MergeIsAssociative → (ps : List Part) (p : Part) → CanPile ps → CanMerge (piled_part ps) p → CanPile (ps ++ p ∷ [])
 can_push assoc [] p h g = (can_none p, tt)
 can_push assoc (q ∷ ps) p h g =
-    (subst (CanMerge q) (sym (piled-push assoc ps p)) (can_ahead q (piled ps) p h.0 g), can_push assoc ps p h.1 (can_behind q (piled ps) p h.0 g))
+    (subst (CanMerge q) (sym (piled-push assoc ps p)) (can_ahead q (piled_part ps) p h.0 g), can_push assoc ps p h.1 (can_behind q (piled_part ps) p h.0 g))
 
-pub can_pop : MergeIsAssociative → (ps : List Part) (p : Part) → CanPile (ps ++ p ∷ []) → CanPile ps × CanMerge (piled ps) p
+pub can_pop : MergeIsAssociative → (ps : List Part) (p : Part) → CanPile (ps ++ p ∷ []) → CanPile ps × CanMerge (piled_part ps) p
 can_pop assoc [] p h = (tt, none_can p)
 can_pop assoc (q ∷ ps) p h =
     let behind = can_pop assoc ps p h.1 in
     let all = subst (CanMerge q) (piled-push assoc ps p) h.0 in
-    ((can_first q (piled ps) p behind.1 all, behind.0), can_back q (piled ps) p behind.1 all)
+    ((can_first q (piled_part ps) p behind.1 all, behind.0), can_back q (piled_part ps) p behind.1 all)
 
 -- ---- the last of some parts takes in what comes behind it
 
@@ -36,18 +36,18 @@ pub record Joined (old rest : List Part) (a b : Part) : Type 0 where
   pub rest_can : CanPile rest
   pub two : CanMerge a b
   pub can : CanPile (rest ++ merge a b ∷ [])
-  pub all : piled (rest ++ merge a b ∷ []) ≡ merge (piled old) b
+  pub all : piled_part (rest ++ merge a b ∷ []) ≡ merge (piled_part old) b
 
-pub joined : MergeIsAssociative → (old rest : List Part) (a b : Part) → old ≡ rest ++ a ∷ [] → CanPile old → CanMerge (piled old) b → Joined old rest a b
+pub joined : MergeIsAssociative → (old rest : List Part) (a b : Part) → old ≡ rest ++ a ∷ [] → CanPile old → CanMerge (piled_part old) b → Joined old rest a b
 joined assoc old rest a b e h g =
     let front = can_pop assoc rest a (subst CanPile e h) in
-    let one = ap piled e ∙ piled-push assoc rest a in
+    let one = ap piled_part e ∙ piled-push assoc rest a in
     let both = subst (λ m. CanMerge m b) one g in
     record {
       rest_can = front.0;
-      two = can_behind (piled rest) a b front.1 both;
-      can = can_push assoc rest (merge a b) front.0 (can_ahead (piled rest) a b front.1 both);
-      all = piled-push assoc rest (merge a b) ∙ sym (assoc (piled rest) a b) ∙ ap (λ m. merge m b) (sym one);
+      two = can_behind (piled_part rest) a b front.1 both;
+      can = can_push assoc rest (merge a b) front.0 (can_ahead (piled_part rest) a b front.1 both);
+      all = piled-push assoc rest (merge a b) ∙ sym (assoc (piled_part rest) a b) ∙ ap (λ m. merge m b) (sym one);
     }
 
 -- the last of some, and another in its place
@@ -71,11 +71,11 @@ last_two assoc old mid rest a b d e h = let front = can_pop assoc mid b (subst C
 
 -- ---- one part alone
 
-pub last_alone : (ps rest : List Part) (p : Part) → ps ≡ rest ++ p ∷ [] → length ps ≤ 1 → piled ps ≡ p
-last_alone ps [] p e h = ap piled e ∙ merge-empty_right p
+pub last_alone : (ps rest : List Part) (p : Part) → ps ≡ rest ++ p ∷ [] → length ps ≤ 1 → piled_part ps ≡ p
+last_alone ps [] p e h = ap piled_part e ∙ merge-empty_right p
 last_alone ps (q ∷ rest) p e h = absurd (let long = ap length e in let more = length-append rest (p ∷ []) in omega (arith, h, long, more))
 
-pub only_part : (ps : List Part) (o : Option (Bor Part)) → length ps ≤ 1 → option_copied o ≡ slice_get ps 0 → MatchOption o (piled ps ≡ no_part) (λ p. piled ps ≡ p.now)
+pub only_part : (ps : List Part) (o : Option (Bor Part)) → length ps ≤ 1 → option_copied o ≡ slice_get ps 0 → MatchOption o (piled_part ps ≡ no_part) (λ p. piled_part ps ≡ p.now)
 only_part [] None h e = refl
 only_part [] (Some b) h e = absurd (let f : Some b.now ≡ None = e in cc)
 only_part (p ∷ []) None h e = absurd (let f : None ≡ Some p = e in cc)
@@ -83,7 +83,7 @@ only_part (p ∷ []) (Some b) h e = merge-empty_right p ∙ (let f : Some b.now 
 only_part (p ∷ q ∷ ps) o h e = absurd (omega (arith, h))
 
 pub lines-none : (q : Tree) (i : ℕ) → part_lines q i no_part ≡ []
-lines-none q i = ap (λ es. entry_lines i (map (answered q.shape q.items) es)) (entries-empty key_cmp)
+lines-none q i = ap (λ es. entry_lines i (map (group_answer q.shape q.items) es)) (entries-empty key_cmp)
 
 pub answers-none : (q : Tree) → part_answers q no_part ≡ []
-answers-none q = ap (λ es. map (λ (e : List ℤ × List ℤ). e.1) (map (answered q.shape q.items) es)) (entries-empty key_cmp)
+answers-none q = ap (λ es. map (λ (e : List ℤ × List ℤ). e.1) (map (group_answer q.shape q.items) es)) (entries-empty key_cmp)

@@ -14,7 +14,7 @@ use Rattle.std.specs.FinMap as finite
 use Rattle.std.specs.FinMap.Entries.{below_all, by_order, find-put, find_tied, is_sorted-put}
 use Rattle.saber_plan.specs.Answers.{key_cmp}
 use Rattle.saber_plan.specs.Parts.{Numbers, join_numbers}
-use Rattle.saber_plan.specs.Merges.{joined}
+use Rattle.saber_plan.specs.Merges.{joined_value}
 use Rattle.saber_plan.specs.Facts.Lists.{T_parts}
 use Rattle.saber_plan.specs.Facts.Maps.{equal_if, first_alone, rest_rises}
 use Rattle.saber_plan.specs.Facts.Parts.{total, exact}
@@ -184,7 +184,7 @@ module _ (es gs : List (List ℤ × Numbers)) (k : List ℤ) (i : ℕ) (d : List
 
   pub wrote_part : part_of gs ≡ with_row (part_of es) k v
   wrote_part = ap part_of wrote ∙ put_part k (join_numbers (get_or es i d).1 v) es
-      ∙ ap (λ o. finite.insert (part_of es) k (joined join_numbers o v)) (sym (read_at es k i d s h))
+      ∙ ap (λ o. finite.insert (part_of es) k (joined_value join_numbers o v)) (sym (read_at es k i d s h))
 
 -- a new entry
 module _ (es gs : List (List ℤ × Numbers)) (k : List ℤ) (i : ℕ) (v : Numbers) (s : Rises es) (h : IsGap es k i) (new : gs ≡ insert es i (k, v)) where
@@ -195,4 +195,4 @@ module _ (es gs : List (List ℤ × Numbers)) (k : List ℤ) (i : ℕ) (v : Numb
   filled_rises = subst Rises (sym filled) (put_rises k v es s)
 
   pub filled_part : part_of gs ≡ with_row (part_of es) k v
-  filled_part = ap part_of filled ∙ put_part k v es ∙ ap (λ o. finite.insert (part_of es) k (joined join_numbers o v)) (sym (get_gap es k i h))
+  filled_part = ap part_of filled ∙ put_part k v es ∙ ap (λ o. finite.insert (part_of es) k (joined_value join_numbers o v)) (sym (get_gap es k i h))

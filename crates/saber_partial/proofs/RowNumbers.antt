@@ -11,7 +11,7 @@ use Rattle.saber_plan.specs.declared.plans.Fold.TheVariants.{Sum}
 use Rattle.saber_plan.specs.Answers.{group_row}
 use Rattle.saber_plan.specs.Parts.{Number, Numbers, numbers, join_numbers}
 use Rattle.saber_partial.specs.declared.layout.Layout.{Layout}
-use Rattle.saber_partial.specs.Gathering.{plan_folds, values_over, stepped, HasRoom, IsSmall}
+use Rattle.saber_partial.specs.Gathering.{plan_folds, values_over, stepped_numbers, HasRoom, IsSmall}
 use Rattle.saber_partial.specs.Tallies.{IsTally, CanJoin}
 use Rattle.saber_partial.specs.Flat.{entry_in, with_folds, IsLayout, IsRow, Suits}
 use Rattle.saber_partial.specs.Printing.{joined_row}
@@ -117,7 +117,7 @@ module _ (l : Layout) (xs ys : List ℤ) (n : ℕ) (k : IsLayout l) (r : IsRow l
   later = record { count = n; values = with_folds l.folds ys }
 
   abbrev pub joined_behind_count : List ℤ
-  joined_behind_count = stepped l.folds (drop (l.keys + 1) xs) ys
+  joined_behind_count = stepped_numbers l.folds (drop (l.keys + 1) xs) ys
 
   abbrev count : ℤ
   count = get_or xs l.keys (pos 0)
@@ -165,8 +165,8 @@ module _ (l : Layout) (xs ys : List ℤ) (k : IsLayout l) (r : IsRow l xs) (s : 
   pub as_long : length (drop (l.keys + 1) xs) ≡ length (drop (l.keys + 1) ys)
   as_long = let a = behind_long l xs k r in let b = behind_long l ys k s in omega (arith, a, b)
 
-  count_is : joined_row l xs ys ≡ take l.keys xs ++ ((get_or xs l.keys (pos 0) +ℤ pos (nat_abs (get_or ys l.keys (pos 0)))) ∷ stepped l.folds (drop (l.keys + 1) xs) (drop (l.keys + 1) ys))
-  count_is = ap (λ z. take l.keys xs ++ ((get_or xs l.keys (pos 0) +ℤ z) ∷ stepped l.folds (drop (l.keys + 1) xs) (drop (l.keys + 1) ys))) (sym s.count)
+  count_is : joined_row l xs ys ≡ take l.keys xs ++ ((get_or xs l.keys (pos 0) +ℤ pos (nat_abs (get_or ys l.keys (pos 0)))) ∷ stepped_numbers l.folds (drop (l.keys + 1) xs) (drop (l.keys + 1) ys))
+  count_is = ap (λ z. take l.keys xs ++ ((get_or xs l.keys (pos 0) +ℤ z) ∷ stepped_numbers l.folds (drop (l.keys + 1) xs) (drop (l.keys + 1) ys))) (sym s.count)
 
   pub both_entry : entry_in l (joined_row l xs ys) ≡ ((entry_in l xs).0, join_numbers (entry_in l xs).1 (entry_in l ys).1)
   both_entry = ap (entry_in l) count_is ∙ joined_entry l xs (drop (l.keys + 1) ys) (nat_abs (get_or ys l.keys (pos 0))) k r as_long s.tally c
@@ -203,8 +203,8 @@ module _ (l : Layout) (gs : List Aggregate) (zs : List ℤ) (e : take (length gs
   pub plan_numbers : numbers gs (zs ∷ []) ≡ record { count = 1; values = with_folds l.folds (values_over zs gs) }
   plan_numbers = one_row gs zs ∙ ap (λ (vs : List Number). record { count = 1; values = vs }) plan_with
 
-  pub plan_stepped : (xs : List ℤ) → length xs ≤ length gs → stepped (plan_folds gs) xs (values_over zs gs) ≡ stepped l.folds xs (values_over zs gs)
-  plan_stepped xs h = ap (λ fs. stepped fs xs (values_over zs gs)) (sym e) ∙ stepped-front (length gs) l.folds xs (values_over zs gs) h
+  pub plan_stepped : (xs : List ℤ) → length xs ≤ length gs → stepped_numbers (plan_folds gs) xs (values_over zs gs) ≡ stepped_numbers l.folds xs (values_over zs gs)
+  plan_stepped xs h = ap (λ fs. stepped_numbers fs xs (values_over zs gs)) (sym e) ∙ stepped-front (length gs) l.folds xs (values_over zs gs) h
 
   pub plan_tally : AllByRecursion IsSmall (with_folds (plan_folds gs) (values_over zs gs)) → IsTally (record { count = 1; values = with_folds l.folds (values_over zs gs) })
   plan_tally small = row_is_tally l.folds (values_over zs gs) (subst (AllByRecursion IsSmall) plan_with small)

@@ -8,7 +8,7 @@ use Rattle.saber_plan.specs.Answers.{step}
 use Rattle.saber_plan.specs.Checked.{lone}
 use Rattle.saber_plan.specs.Values.{value}
 use Rattle.saber_partial.specs.declared.layout.Layout.{Layout}
-use Rattle.saber_partial.specs.Gathering.{stepped, FitsStep}
+use Rattle.saber_partial.specs.Gathering.{stepped_numbers, FitsStep}
 use Rattle.saber_partial.specs.Tallies.{CanJoin}
 use Rattle.saber_partial.specs.Flat.{entry_in, IsLayout, IsRow}
 use Rattle.saber_partial.specs.Printing.{joined_row}
@@ -21,7 +21,7 @@ pub worth : (e : List Product) (k : ℕ) (zs : List ℤ) → e ≡ lone k → ge
 worth e k zs h = sym (ap (λ x. value x zs []) h ∙ lone_value k zs)
 
 get_or-stepped : (fs : List Fold) (xs ys : List ℤ) (i : ℕ) → i < length xs → length xs ≤ length fs → length xs ≡ length ys
-    → get_or (stepped fs xs ys) i (pos 0) ≡ step (get_or fs i Sum) (get_or xs i (pos 0)) (get_or ys i (pos 0))
+    → get_or (stepped_numbers fs xs ys) i (pos 0) ≡ step (get_or fs i Sum) (get_or xs i (pos 0)) (get_or ys i (pos 0))
 get_or-stepped fs [] ys i h k e = absurd (omega (arith, h))
 get_or-stepped [] (x ∷ xs) ys i h k e = absurd (omega (arith, k))
 get_or-stepped (f ∷ fs) (x ∷ xs) [] i h k e = absurd (omega (arith, e))
@@ -33,7 +33,7 @@ module _ (l : Layout) (xs ys : List ℤ) (k : IsLayout l) (r : IsRow l xs) (s : 
   count = get_or xs l.keys (pos 0) +ℤ get_or ys l.keys (pos 0)
 
   abbrev behind : List ℤ
-  behind = stepped l.folds (drop (l.keys + 1) xs) (drop (l.keys + 1) ys)
+  behind = stepped_numbers l.folds (drop (l.keys + 1) xs) (drop (l.keys + 1) ys)
 
   front : length (take l.keys xs) ≡ l.keys
   front = let a = count_there l xs k r in length-take-le l.keys xs (omega (arith, a))

@@ -21,11 +21,11 @@ abbrev pub values_over : List ℤ → List Aggregate → List ℤ
 values_over zs gs = map (λ g. value g.expr zs []) gs
 
 -- numbers, each with that of later rows
-abbrev pub stepped : List Fold → List ℤ → List ℤ → List ℤ
-stepped [] xs ys = []
-stepped (f ∷ fs) [] ys = []
-stepped (f ∷ fs) (x ∷ xs) [] = []
-stepped (f ∷ fs) (x ∷ xs) (y ∷ ys) = step f x y ∷ stepped fs xs ys
+abbrev pub stepped_numbers : List Fold → List ℤ → List ℤ → List ℤ
+stepped_numbers [] xs ys = []
+stepped_numbers (f ∷ fs) [] ys = []
+stepped_numbers (f ∷ fs) (x ∷ xs) [] = []
+stepped_numbers (f ∷ fs) (x ∷ xs) (y ∷ ys) = step f x y ∷ stepped_numbers fs xs ys
 
 -- a number of 128 bits
 abbrev pub Fits128 : ℤ → Type 0

@@ -6,14 +6,14 @@ use Rattle.saber_plan.specs.Codes.{coded_part}
 use Rattle.saber_partial.specs.Tallies.{CanMerge}
 
 -- the merge of all of them
-abbrev pub piled : List Part → Part
-piled [] = no_part
-piled (p ∷ ps) = merge p (piled ps)
+abbrev pub piled_part : List Part → Part
+piled_part [] = no_part
+piled_part (p ∷ ps) = merge p (piled_part ps)
 
 -- each can take in those behind it
 abbrev pub CanPile : List Part → Type 0
 CanPile [] = Unit {0}
-CanPile (p ∷ ps) = CanMerge p (piled ps) × CanPile ps
+CanPile (p ∷ ps) = CanMerge p (piled_part ps) × CanPile ps
 
 -- a part, and in how many pieces it lies
 pub record Pile : Type 0 where

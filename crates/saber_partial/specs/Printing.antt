@@ -8,7 +8,7 @@ use Rattle.saber_plan.specs.Checked.{lone}
 use Rattle.saber_plan.specs.Parts.{Numbers, answers_of}
 use Rattle.saber_partial.specs.declared.headings.Heading.{Heading}
 use Rattle.saber_partial.specs.declared.layout.Layout.{Layout}
-use Rattle.saber_partial.specs.Gathering.{stepped}
+use Rattle.saber_partial.specs.Gathering.{stepped_numbers}
 
 -- an item is one number of a group alone
 abbrev pub IsLone : List Product → Type 0
@@ -25,7 +25,7 @@ lines_for i is es = flat_map (λ e. line (pos i ∷ answers_of Group is e.0 e.1)
 -- a row of a group, with what later rows of it have
 abbrev pub joined_row : Layout → List ℤ → List ℤ → List ℤ
 joined_row l xs ys =
-    take l.keys xs ++ (get_or xs l.keys (pos 0) +ℤ get_or ys l.keys (pos 0)) ∷ stepped l.folds (drop (l.keys + 1) xs) (drop (l.keys + 1) ys)
+    take l.keys xs ++ (get_or xs l.keys (pos 0) +ℤ get_or ys l.keys (pos 0)) ∷ stepped_numbers l.folds (drop (l.keys + 1) xs) (drop (l.keys + 1) ys)
 
 -- the text of a window's number
 pub record IsHeading (h : Heading) : Type 0 where

@@ -5,7 +5,7 @@ use Rattle.std.specs.FinMap.{get, insert}
 use Rattle.saber_plan.specs.declared.plans.Fold.{Fold}
 use Rattle.saber_plan.specs.declared.plans.Fold.TheVariants.{Sum, Min, Max, First}
 use Rattle.saber_plan.specs.Parts.{Part, Number, Numbers, join_numbers}
-use Rattle.saber_plan.specs.Merges.{joined}
+use Rattle.saber_plan.specs.Merges.{joined_value}
 
 -- how aggregates go on, in their order
 abbrev pub folds_of : List Number → List Fold
@@ -41,7 +41,7 @@ pub record CanMerge (m n : Part) : Type 0 where
 
 -- a part with the numbers of one row under its key
 abbrev pub with_row : Part → List ℤ → Numbers → Part
-with_row m k v = insert m k (joined join_numbers (get m k) v)
+with_row m k v = insert m k (joined_value join_numbers (get m k) v)
 
 -- what stands under a key can take the numbers in, and all numbers there are like them
 pub record FitsAt (m : Part) (k : List ℤ) (v : Numbers) : Type 0 where

@@ -9,12 +9,12 @@ abbrev pub no_entry : List ℤ × Numbers
 no_entry = ([], record { count = 0; values = [] })
 
 -- the entries at some places
-abbrev pub picked : List ℕ → List (List ℤ × Numbers) → List (List ℤ × Numbers)
-picked ps es = map (λ p. get_or es p no_entry) ps
+abbrev pub picked_entries : List ℕ → List (List ℤ × Numbers) → List (List ℤ × Numbers)
+picked_entries ps es = map (λ p. get_or es p no_entry) ps
 
 -- the entries by key, whose places the front of a list tells
 abbrev pub by_key : List ℕ → List (List ℤ × Numbers) → List (List ℤ × Numbers)
-by_key order es = picked (take (length es) order) es
+by_key order es = picked_entries (take (length es) order) es
 
 -- their part
 abbrev pub young_part : List ℕ → List (List ℤ × Numbers) → Part

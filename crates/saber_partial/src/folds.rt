@@ -7,7 +7,7 @@ use saber_plan::Fold;
 
 /// A number, with that of later rows taken in.
 #[inline(always)]
-pub(crate) fn stepped(fold: Fold, x: i128, y: i128) -> i128
+pub(crate) fn step(fold: Fold, x: i128, y: i128) -> i128
     requires { FitsStep fold x y }
     ensures { result ≡ step fold x y }
 {

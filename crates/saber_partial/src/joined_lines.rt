@@ -7,7 +7,7 @@ ghost use Rattle.saber_plan.specs.Checked.{IsChecked};
 ghost use Rattle.saber_plan.specs.Answers.{items_over, line};
 ghost use Rattle.saber_plan.specs.Parts.{merge, part_lines};
 ghost use Rattle.saber_plan.specs.Texts.{Behind};
-ghost use Rattle.saber_digits.specs.Cells.{cells, drafted};
+ghost use Rattle.saber_digits.specs.Cells.{cells, drafted_text};
 ghost use Rattle.saber_partial.specs.Flat.{entry_in, IsLayout, IsRow};
 ghost use Rattle.saber_partial.specs.Printing.{joined_row, lines_for, IsHeading, IsLone};
 ghost use Rattle.saber_partial.specs.Sorted.{weave, CanJoinAll};
@@ -40,8 +40,8 @@ fn write_both_cells(
     requires row { IsRow layout.now row.now }
     requires later { IsRow layout.now later.now }
     requires can { CanJoin (entry_in layout.now row.now).1 (entry_in layout.now later.now).1 }
-    ensures ok { IfOk result (λ end. drafted out.new.items draft.new end
-        ≡ drafted out.old.items draft.old start ++ cells (items_over items.now (joined_row layout.now row.now later.now) [])) }
+    ensures ok { IfOk result (λ end. drafted_text out.new.items draft.new end
+        ≡ drafted_text out.old.items draft.old start ++ cells (items_over items.now (joined_row layout.now row.now later.now) [])) }
     ensures room { IfOk result (λ end. end ≤ 121) }
     ensures behind { Behind out.old.items out.new.items }
 {
@@ -71,8 +71,8 @@ fn write_both(
     requires row { IsRow layout.now row.now }
     requires later { IsRow layout.now later.now }
     requires can { CanJoin (entry_in layout.now row.now).1 (entry_in layout.now later.now).1 }
-    ensures ok { IfOk result (λ end. drafted out.new.items draft.new end
-        ≡ drafted out.old.items draft.old start ++ line (pos heading.now.window ∷ items_over items.now (joined_row layout.now row.now later.now) [])) }
+    ensures ok { IfOk result (λ end. drafted_text out.new.items draft.new end
+        ≡ drafted_text out.old.items draft.old start ++ line (pos heading.now.window ∷ items_over items.now (joined_row layout.now row.now later.now) [])) }
     ensures room { IfOk result (λ end. end ≤ 128) }
     ensures behind { Behind out.old.items out.new.items }
 {
@@ -102,9 +102,9 @@ fn write_next(
     requires mine { i < length groups.now.entries }
     requires theirs { j < length others.now.entries }
     requires can { CanJoinAll groups.now.entries others.now.entries }
-    ensures ok { IfOk result (λ next. drafted out.new.items draft.new next.0
+    ensures ok { IfOk result (λ next. drafted_text out.new.items draft.new next.0
         ++ lines_for heading.now.window items.now (weave (drop next.1 groups.now.entries) (drop next.2 others.now.entries))
-        ≡ drafted out.old.items draft.old at
+        ≡ drafted_text out.old.items draft.old at
         ++ lines_for heading.now.window items.now (weave (drop i groups.now.entries) (drop j others.now.entries))) }
     ensures room { IfOk result (λ next. next.0 ≤ 128) }
     ensures mine { IfOk result (λ next. next.1 ≤ length groups.now.entries) }
@@ -145,8 +145,8 @@ fn write_woven(
     requires heading { IsHeading heading.now }
     requires items { AllByRecursion IsLone items.now }
     requires can { CanJoinAll groups.now.entries others.now.entries }
-    ensures ok { IfOk result (λ end. drafted out.new.items draft.new end
-        ≡ drafted out.old.items draft.old 0 ++ lines_for heading.now.window items.now (weave groups.now.entries others.now.entries)) }
+    ensures ok { IfOk result (λ end. drafted_text out.new.items draft.new end
+        ≡ drafted_text out.old.items draft.old 0 ++ lines_for heading.now.window items.now (weave groups.now.entries others.now.entries)) }
     ensures room { IfOk result (λ end. end ≤ 128) }
     ensures behind { Behind out.old.items out.new.items }
 {

@@ -5,11 +5,11 @@ ghost use Rattle.std.specs.List.{AllByRecursion};
 ghost use Rattle.saber_plan.specs.Answers.{step};
 ghost use Rattle.saber_plan.specs.Values.{value};
 ghost use Rattle.saber_partial.specs.Flat.{with_folds};
-ghost use Rattle.saber_partial.specs.Gathering.{plan_folds, stepped, values_over, CanCount, HasRoom, IsSmall};
+ghost use Rattle.saber_partial.specs.Gathering.{plan_folds, stepped_numbers, values_over, CanCount, HasRoom, IsSmall};
 ghost use Rattle.saber_partial.specs.Sources.{AreSources, IsSource};
 ghost use Rattle.saber_partial.specs.Tallies.{SumWithin};
 
-use crate::folds::stepped;
+use crate::folds::step;
 use crate::sources::Source;
 use saber_flat::RowRef;
 use saber_plan::{Aggregate, Fold};
@@ -29,7 +29,7 @@ fn add_value(xs: &mut [i128], k: usize, source: Source, aggregate: &Aggregate, r
         Fold::First => return,
         Fold::Sum | Fold::Min | Fold::Max => {}
     }
-    xs[k] = stepped(aggregate.fold, xs[k], source.value(&aggregate.expr, row));
+    xs[k] = step(aggregate.fold, xs[k], source.value(&aggregate.expr, row));
 }
 
 /// Takes the values over one row more into as many numbers.
@@ -44,7 +44,7 @@ pub(crate) fn add_values(
     requires sources { AreSources aggregates.now sources.now }
     requires fit { AllByRecursion (CanCount row.now.values) aggregates.now }
     requires room { AllByRecursion HasRoom (with_folds (plan_folds aggregates.now) xs.old) }
-    ensures all { xs.new ≡ stepped (plan_folds aggregates.now) xs.old (values_over row.now.values aggregates.now) }
+    ensures all { xs.new ≡ stepped_numbers (plan_folds aggregates.now) xs.old (values_over row.now.values aggregates.now) }
     ensures small { AllByRecursion IsSmall (with_folds (plan_folds aggregates.now) (values_over row.now.values aggregates.now)) }
 {
     for k in 0..xs.len() {

@@ -7,7 +7,7 @@ ghost use Rattle.saber_plan.specs.Checked.{IsChecked};
 ghost use Rattle.saber_plan.specs.Answers.{items_over, line};
 ghost use Rattle.saber_plan.specs.Parts.{part_lines};
 ghost use Rattle.saber_plan.specs.Texts.{Behind};
-ghost use Rattle.saber_digits.specs.Cells.{cells, drafted};
+ghost use Rattle.saber_digits.specs.Cells.{cells, drafted_text};
 ghost use Rattle.saber_partial.specs.Printing.{lines_for, IsHeading, IsLone};
 
 use crate::groups::Partial;
@@ -27,8 +27,8 @@ fn write_cells(
 ) -> Result<usize, NoMemory>
     requires start { start ≤ 121 }
     requires items { AllByRecursion IsLone items.now }
-    ensures ok { IfOk result (λ end. drafted out.new.items draft.new end
-        ≡ drafted out.old.items draft.old start ++ cells (items_over items.now row.now [])) }
+    ensures ok { IfOk result (λ end. drafted_text out.new.items draft.new end
+        ≡ drafted_text out.old.items draft.old start ++ cells (items_over items.now row.now [])) }
     ensures room { IfOk result (λ end. end ≤ 121) }
     ensures behind { Behind out.old.items out.new.items }
 {
@@ -53,8 +53,8 @@ pub(crate) fn write_line(
     requires start { start ≤ 128 }
     requires heading { IsHeading heading.now }
     requires items { AllByRecursion IsLone items.now }
-    ensures ok { IfOk result (λ end. drafted out.new.items draft.new end
-        ≡ drafted out.old.items draft.old start ++ line (pos heading.now.window ∷ items_over items.now row.now [])) }
+    ensures ok { IfOk result (λ end. drafted_text out.new.items draft.new end
+        ≡ drafted_text out.old.items draft.old start ++ line (pos heading.now.window ∷ items_over items.now row.now [])) }
     ensures room { IfOk result (λ end. end ≤ 128) }
     ensures behind { Behind out.old.items out.new.items }
 {
@@ -77,8 +77,8 @@ pub(crate) fn write_groups(
     requires heading { IsHeading heading.now }
     requires items { AllByRecursion IsLone items.now }
     requires from { from ≤ length groups.now.entries }
-    ensures ok { IfOk result (λ end. drafted out.new.items draft.new end
-        ≡ drafted out.old.items draft.old start ++ lines_for heading.now.window items.now (drop from groups.now.entries)) }
+    ensures ok { IfOk result (λ end. drafted_text out.new.items draft.new end
+        ≡ drafted_text out.old.items draft.old start ++ lines_for heading.now.window items.now (drop from groups.now.entries)) }
     ensures room { IfOk result (λ end. end ≤ 128) }
     ensures behind { Behind out.old.items out.new.items }
 {

@@ -5,7 +5,7 @@ ghost use Rattle.saber_plan.specs.Checked.{IsChecked};
 ghost use Rattle.saber_plan.specs.Parts.{merge, no_part, part_answers, part_lines};
 ghost use Rattle.saber_plan.specs.Trees.{tree_of};
 ghost use Rattle.saber_partial.specs.Tallies.{CanMerge};
-ghost use Rattle.saber_partial.specs.Piles.{piled, CanPile};
+ghost use Rattle.saber_partial.specs.Piles.{piled_part, CanPile};
 
 use crate::groups::Partial;
 use crate::row_parts::RowPart;
@@ -33,13 +33,13 @@ pub struct Pile {
 impl Model for Pile {
     ghost use Rattle.std.specs.Prelude.{length};
     ghost use Rattle.saber_partial.specs.Piles as piles;
-    ghost use Rattle.saber_partial.specs.Piles.{coded_pile, piled, CanPile};
+    ghost use Rattle.saber_partial.specs.Piles.{coded_pile, piled_part, CanPile};
 
     ghost Value = { piles.Pile };
 
     ghost coded = { coded_pile };
 
-    ghost view = { λ p. record { part = piled p.parts.items; pieces = length p.parts.items } };
+    ghost view = { λ p. record { part = piled_part p.parts.items; pieces = length p.parts.items } };
 
     ghost invariant = { λ p. CanPile p.parts.items };
 }
@@ -65,8 +65,8 @@ fn merge_behind<L: Ledger>(
 ) -> Result<(), NoMemory>
     requires some { 1 ≤ length parts.old.items }
     requires can { CanPile parts.old.items }
-    requires room { CanMerge (piled parts.old.items) part.now }
-    ensures all { OnOk result (piled parts.new.items ≡ merge (piled parts.old.items) part.now) }
+    requires room { CanMerge (piled_part parts.old.items) part.now }
+    ensures all { OnOk result (piled_part parts.new.items ≡ merge (piled_part parts.old.items) part.now) }
     ensures can { CanPile parts.new.items }
     ensures fewer { length parts.new.items ≤ length parts.old.items }
     ensures steps { steps.new ≤ steps.old + 1 }
@@ -89,7 +89,7 @@ fn merge_behind<L: Ledger>(
 fn merge_last<L: Ledger>(parts: &mut Vec<Partial>, steps: &mut Steps<L>) -> Result<(), NoMemory>
     requires two { 2 ≤ length parts.old.items }
     requires can { CanPile parts.old.items }
-    ensures same { OnOk result (piled parts.new.items ≡ piled parts.old.items) }
+    ensures same { OnOk result (piled_part parts.new.items ≡ piled_part parts.old.items) }
     ensures fewer { length parts.new.items + 1 ≤ length parts.old.items }
     ensures can { CanPile parts.new.items }
     ensures steps { steps.new ≤ steps.old + 1 }
@@ -105,7 +105,7 @@ fn merge_last<L: Ledger>(parts: &mut Vec<Partial>, steps: &mut Steps<L>) -> Resu
 // Merges the last two while they are of like size: at most a step for each part that is fewer.
 fn carry<L: Ledger>(parts: &mut Vec<Partial>, steps: &mut Steps<L>) -> Result<(), NoMemory>
     requires { CanPile parts.old.items }
-    ensures same { OnOk result (piled parts.new.items ≡ piled parts.old.items) }
+    ensures same { OnOk result (piled_part parts.new.items ≡ piled_part parts.old.items) }
     ensures can { CanPile parts.new.items }
     ensures steps { steps.new + length parts.new.items ≤ steps.old + length parts.old.items }
 {
@@ -118,7 +118,7 @@ fn carry<L: Ledger>(parts: &mut Vec<Partial>, steps: &mut Steps<L>) -> Result<()
 // Merges all into one: at most a step for each part that is fewer.
 fn settle<L: Ledger>(parts: &mut Vec<Partial>, steps: &mut Steps<L>) -> Result<(), NoMemory>
     requires { CanPile parts.old.items }
-    ensures same { OnOk result (piled parts.new.items ≡ piled parts.old.items) }
+    ensures same { OnOk result (piled_part parts.new.items ≡ piled_part parts.old.items) }
     ensures one { OnOk result (length parts.new.items ≤ 1) }
     ensures can { CanPile parts.new.items }
     ensures steps { steps.new + length parts.new.items ≤ steps.old + length parts.old.items }
@@ -132,7 +132,7 @@ fn settle<L: Ledger>(parts: &mut Vec<Partial>, steps: &mut Steps<L>) -> Result<(
 // The part that is all, if there is one.
 fn only(parts: &[Partial]) -> Option<&Partial>
     requires { length parts.now ≤ 1 }
-    ensures { MatchOption result (piled parts.now ≡ no_part) (λ part. piled parts.now ≡ part.now) }
+    ensures { MatchOption result (piled_part parts.now ≡ no_part) (λ part. piled_part parts.now ≡ part.now) }
 {
     parts.first()
 }
@@ -149,8 +149,8 @@ fn write_behind<L: Ledger>(
     requires checked { IsChecked (tree_of plan.now) }
     requires group { (tree_of plan.now).shape ≡ Group }
     requires one { length parts.now ≤ 1 }
-    requires can { CanMerge first.now (piled parts.now) }
-    ensures ok { OnOk result (out.new.items ≡ out.old.items ++ part_lines (tree_of plan.now) window (merge first.now (piled parts.now))) }
+    requires can { CanMerge first.now (piled_part parts.now) }
+    ensures ok { OnOk result (out.new.items ≡ out.old.items ++ part_lines (tree_of plan.now) window (merge first.now (piled_part parts.now))) }
     ensures err { OnErr result (out.new.items ≡ out.old.items) }
     ensures steps { steps.new ≤ steps.old + 1 }
 {
@@ -172,8 +172,8 @@ fn answers_of_both<L: Ledger>(
     requires checked { IsChecked (tree_of plan.now) }
     requires group { (tree_of plan.now).shape ≡ Group }
     requires one { length parts.now ≤ 1 }
-    requires can { CanMerge first.now (piled parts.now) }
-    ensures ok { IfOk result (λ a. a ≡ part_answers (tree_of plan.now) (merge first.now (piled parts.now))) }
+    requires can { CanMerge first.now (piled_part parts.now) }
+    ensures ok { IfOk result (λ a. a ≡ part_answers (tree_of plan.now) (merge first.now (piled_part parts.now))) }
     ensures steps { steps.new ≤ steps.old + 1 }
 {
     let Some(part) = only(parts) else {
@@ -202,8 +202,8 @@ fn merge_row_behind<L: Ledger>(
 ) -> Result<(), NoMemory>
     requires some { 1 ≤ length parts.old.items }
     requires can { CanPile parts.old.items }
-    requires room { CanMerge (piled parts.old.items) part.now }
-    ensures all { OnOk result (piled parts.new.items ≡ merge (piled parts.old.items) part.now) }
+    requires room { CanMerge (piled_part parts.old.items) part.now }
+    ensures all { OnOk result (piled_part parts.new.items ≡ merge (piled_part parts.old.items) part.now) }
     ensures can { CanPile parts.new.items }
     ensures fewer { length parts.new.items ≤ length parts.old.items }
     ensures steps { steps.new ≤ steps.old + 1 }
@@ -231,8 +231,8 @@ fn put_row<L: Ledger>(
     steps: &mut Steps<L>,
 ) -> Result<(), NoMemory>
     requires can { CanPile parts.old.items }
-    requires room { CanMerge (piled parts.old.items) part.now }
-    ensures all { OnOk result (piled parts.new.items ≡ merge (piled parts.old.items) part.now) }
+    requires room { CanMerge (piled_part parts.old.items) part.now }
+    ensures all { OnOk result (piled_part parts.new.items ≡ merge (piled_part parts.old.items) part.now) }
     ensures can { CanPile parts.new.items }
     ensures steps { steps.new + length parts.new.items ≤ steps.old + length parts.old.items + 1 }
 {
@@ -254,8 +254,8 @@ fn put_copy<L: Ledger>(
     steps: &mut Steps<L>,
 ) -> Result<(), NoMemory>
     requires can { CanPile parts.old.items }
-    requires room { CanMerge (piled parts.old.items) part.now }
-    ensures all { OnOk result (piled parts.new.items ≡ merge (piled parts.old.items) part.now) }
+    requires room { CanMerge (piled_part parts.old.items) part.now }
+    ensures all { OnOk result (piled_part parts.new.items ≡ merge (piled_part parts.old.items) part.now) }
     ensures can { CanPile parts.new.items }
     ensures steps { steps.new + length parts.new.items ≤ steps.old + length parts.old.items + 1 }
 {
@@ -275,7 +275,7 @@ fn take_all<L: Ledger>(
     steps: &mut Steps<L>,
 ) -> Result<Partial, NoMemory>
     requires { CanPile parts.old.items }
-    ensures { IfOk result (λ p. p ≡ piled parts.old.items) }
+    ensures { IfOk result (λ p. p ≡ piled_part parts.old.items) }
 {
     settle(parts, steps)?;
     match parts.pop() {
@@ -294,7 +294,7 @@ fn join_all<L: Ledger>(
     requires name { blank.name ≡ L.name }
     requires parts { blank.parts ≡ L.parts }
     requires some { 0 < blank.parts }
-    ensures { IfOk result (λ p. p ≡ piled parts.items) }
+    ensures { IfOk result (λ p. p ≡ piled_part parts.items) }
 {
     let mut steps = Steps::<L>::new(blank);
     let mut all = parts;
@@ -308,11 +308,11 @@ fn put_behind<L: Ledger>(
     blank: Blank,
 ) -> Result<(), NoMemory>
     requires can { CanPile parts.old.items }
-    requires room { CanMerge (piled parts.old.items) part }
+    requires room { CanMerge (piled_part parts.old.items) part }
     requires name { blank.name ≡ L.name }
     requires parts { blank.parts ≡ L.parts }
     requires some { 0 < blank.parts }
-    ensures all { OnOk result (piled parts.new.items ≡ merge (piled parts.old.items) part) }
+    ensures all { OnOk result (piled_part parts.new.items ≡ merge (piled_part parts.old.items) part) }
     ensures can { CanPile parts.new.items }
 {
     merge_is_associative();

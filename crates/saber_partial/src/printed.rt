@@ -6,7 +6,7 @@ ghost use Rattle.saber_partial.specs.Flat.{entry_in, IsLayout, IsRow};
 ghost use Rattle.saber_partial.specs.Printing.{joined_row, IsLone};
 ghost use Rattle.saber_partial.specs.Tallies.{CanJoin};
 
-use crate::folds::stepped;
+use crate::folds::step;
 use crate::layout::Layout;
 use saber_plan::{Expr, Factor};
 
@@ -55,5 +55,5 @@ pub(crate) fn number_of_both(layout: &Layout, row: &[i128], later: &[i128], item
     if place == count {
         return row[place] + later[place];
     }
-    stepped(layout.folds[place - count - 1], row[place], later[place])
+    step(layout.folds[place - count - 1], row[place], later[place])
 }

@@ -15,10 +15,10 @@ use Rattle.saber_plan.specs.Inputs.{going_on}
 use Rattle.saber_plan.specs.Windows.{no_rows, mark_of, last_mark, past_count, begun_count, closed_count}
 use Rattle.saber_plan.specs.Answers.{frame, key_cmp, with_key, keys_of, list_of, substream, lists_in, past_in, closed_at_last}
 use Rattle.saber_plan.specs.Parts.{Part, part}
-use Rattle.saber_plan.specs.Facts.Parts.{total, exact, keyed}
+use Rattle.saber_plan.specs.Facts.Parts.{total, exact, keyed_list}
 use Rattle.saber_plan.specs.Facts.Maps.{equal_if, entries-empty}
 use Rattle.saber_plan.specs.Facts.Numbers.{flat_map-from, numbered_is}
-use Rattle.saber_plan.specs.Tasks.{full, numbered, Parts, list_input, unclosed, unclosed_by_list}
+use Rattle.saber_plan.specs.Tasks.{full, numbered_list, Parts, list_input, unclosed, unclosed_by_list}
 use Rattle.saber_laws.specs.Parts.{NoRowsNoPart}
 use Rattle.saber_sliding.specs.Entries.{part_at}
 use Rattle.saber_partition.specs.Streams.{Asks, Keeps}
@@ -89,10 +89,10 @@ abbrev some_at : {X : Type 0} → List Row → X → Option X
 some_at [] x = None
 some_at (r ∷ rs) x = Some x
 
-find_list : {X : Type 0} (g : List ℤ → X) (q : Tree) (k : List ℤ) (xs : List Row) → find key_cmp k (keyed g (map (list_of q) xs)) ≡ some_at (substream q k xs) (g k)
+find_list : {X : Type 0} (g : List ℤ → X) (q : Tree) (k : List ℤ) (xs : List Row) → find key_cmp k (keyed_list g (map (list_of q) xs)) ≡ some_at (substream q k xs) (g k)
 find_list g q k [] = refl
 find_list g q k (r ∷ xs) =
-    elim (eq_by_cmp key_cmp k (list_of q r)) as (λ b. eq_by_cmp key_cmp k (list_of q r) ≡ b → cond b (Some (g (list_of q r))) (find key_cmp k (keyed g (map (list_of q) xs))) ≡ some_at (cond b (r ∷ substream q k xs) (substream q k xs)) (g k)) [
+    elim (eq_by_cmp key_cmp k (list_of q r)) as (λ b. eq_by_cmp key_cmp k (list_of q r) ≡ b → cond b (Some (g (list_of q r))) (find key_cmp k (keyed_list g (map (list_of q) xs))) ≡ some_at (cond b (r ∷ substream q k xs) (substream q k xs)) (g k)) [
       | true ↦ λ e. ap (λ l. Some (g l)) (sym (same_key k (list_of q r) e))
       | false ↦ λ e. find_list g q k xs
     ] refl
@@ -102,26 +102,26 @@ is_own q us None e = ap (λ l. some_at l nothing) e
 is_own q [] (Some o) e = absurd (omega (arith, e.0))
 is_own q (u ∷ us) (Some o) e = refl
 
-map_is : (q : Tree) (xs : List Row) (m : Lists) → TakenAll q xs m → m ≡ from_entries {R = key_cmp} (keyed (own_at m) (map (list_of q) xs))
-map_is q xs m t = same_map total exact _ _ (λ k. sym (get-from_entries total (keyed (own_at m) (map (list_of q) xs)) k ∙ find_list (own_at m) q k xs ∙ is_own q (substream q k xs) (get m k) (t k)))
+map_is : (q : Tree) (xs : List Row) (m : Lists) → TakenAll q xs m → m ≡ from_entries {R = key_cmp} (keyed_list (own_at m) (map (list_of q) xs))
+map_is q xs m t = same_map total exact _ _ (λ k. sym (get-from_entries total (keyed_list (own_at m) (map (list_of q) xs)) k ∙ find_list (own_at m) q k xs ∙ is_own q (substream q k xs) (get m k) (t k)))
 
-put_keyed : {X : Type 0} (g : List ℤ → X) (k : List ℤ) (ls : List (List ℤ)) → put key_cmp k (g k) (keyed g ls) ≡ keyed g (with_key k ls)
+put_keyed : {X : Type 0} (g : List ℤ → X) (k : List ℤ) (ls : List (List ℤ)) → put key_cmp k (g k) (keyed_list g ls) ≡ keyed_list g (with_key k ls)
 unfolding with_key
 put_keyed g k [] = refl
 put_keyed g k (l ∷ ls) =
-    elim (key_cmp k l) as (λ r. key_cmp k l ≡ r → by_order r ((k, g k) ∷ (l, g l) ∷ keyed g ls) ((l, g k) ∷ keyed g ls) ((l, g l) ∷ put key_cmp k (g k) (keyed g ls)) ≡ keyed g (match_ordering r (k ∷ l ∷ ls) (l ∷ ls) (l ∷ with_key k ls))) [
+    elim (key_cmp k l) as (λ r. key_cmp k l ≡ r → by_order r ((k, g k) ∷ (l, g l) ∷ keyed_list g ls) ((l, g k) ∷ keyed_list g ls) ((l, g l) ∷ put key_cmp k (g k) (keyed_list g ls)) ≡ keyed_list g (match_ordering r (k ∷ l ∷ ls) (l ∷ ls) (l ∷ with_key k ls))) [
       | Less ↦ λ e. refl
-      | Equal ↦ λ e i. (l, g (exact k l e i)) ∷ keyed g ls
+      | Equal ↦ λ e i. (l, g (exact k l e i)) ∷ keyed_list g ls
       | Greater ↦ λ e i. (l, g l) ∷ put_keyed g k ls i
     ] refl
 
-entries_keyed : {X : Type 0} (g : List ℤ → X) (ks : List (List ℤ)) → entries (from_entries {R = key_cmp} (keyed g ks)) ≡ keyed g (keys_of ks)
+entries_keyed : {X : Type 0} (g : List ℤ → X) (ks : List (List ℤ)) → entries (from_entries {R = key_cmp} (keyed_list g ks)) ≡ keyed_list g (keys_of ks)
 unfolding keys_of
 entries_keyed g [] = entries-empty key_cmp
-entries_keyed g (k ∷ ks) = entries-insert total (from_entries {R = key_cmp} (keyed g ks)) k (g k) ∙ ap (put key_cmp k (g k)) (entries_keyed g ks) ∙ put_keyed g k (keys_of ks)
+entries_keyed g (k ∷ ks) = entries-insert total (from_entries {R = key_cmp} (keyed_list g ks)) k (g k) ∙ ap (put key_cmp k (g k)) (entries_keyed g ks) ∙ put_keyed g k (keys_of ks)
 
 -- its entries are those of the key lists of the rows, rising
-pub entries_are : (q : Tree) (xs : List Row) (m : Lists) → TakenAll q xs m → entries m ≡ keyed (own_at m) (lists_in q xs)
+pub entries_are : (q : Tree) (xs : List Row) (m : Lists) → TakenAll q xs m → entries m ≡ keyed_list (own_at m) (lists_in q xs)
 entries_are q xs m t = ap entries (map_is q xs m t) ∙ entries_keyed (own_at m) (map (list_of q) xs)
 
 -- ---- the open parts
@@ -139,9 +139,9 @@ held_own q e us o t =
     ∙ flat_map-from (λ i. option_map_or (λ p. (i, p) ∷ []) (at i) []) (λ i. option_map_or (λ p. (i, p) ∷ []) (given i) []) o.next (o.begun - o.next)
     (λ i p l. ap (λ a. option_map_or (λ (m : Part). (i, m) ∷ []) (full a) []) (sym (t.holds.at i p) ∙ part_is_whole q e i us))
     ∙ sym (numbered_is given o.next (o.begun - o.next))
-    ∙ (λ j. numbered ((t.next_is ∙ closed_is q us) j) (t.begun_is j - (t.next_is ∙ closed_is q us) j) given))
+    ∙ (λ j. numbered_list ((t.next_is ∙ closed_is q us) j) (t.begun_is j - (t.next_is ∙ closed_is q us) j) given))
 
-map_keyed : {X : Type 0} (f : X → Parts) (g : List ℤ → X) (h : List ℤ → Parts) → ((k : List ℤ) → f (g k) ≡ h k) → (ks : List (List ℤ)) → map {B = List ℤ × Parts} (λ e. (e.0, f e.1)) (keyed g ks) ≡ keyed h ks
+map_keyed : {X : Type 0} (f : X → Parts) (g : List ℤ → X) (h : List ℤ → Parts) → ((k : List ℤ) → f (g k) ≡ h k) → (ks : List (List ℤ)) → map {B = List ℤ × Parts} (λ e. (e.0, f e.1)) (keyed_list g ks) ≡ keyed_list h ks
 map_keyed f g h e [] = refl
 map_keyed f g h e (k ∷ ks) = λ j. (k, e k j) ∷ map_keyed f g h e ks j
 
@@ -161,7 +161,7 @@ nothing_held = ap (λ es. from_entries {R = key_cmp} (filter is_some (map (λ e.
 
 -- ---- the end
 
-flat_keyed : {X : Type 0} (f : List ℤ → List ℕ) (g : List ℤ → X) (ks : List (List ℤ)) → flat_map (λ e. f e.0) (keyed g ks) ≡ flat_map f ks
+flat_keyed : {X : Type 0} (f : List ℤ → List ℕ) (g : List ℤ → X) (ks : List (List ℤ)) → flat_map (λ e. f e.0) (keyed_list g ks) ≡ flat_map f ks
 flat_keyed f g [] = refl
 flat_keyed f g (k ∷ ks) = ap (λ l. f k ++ l) (flat_keyed f g ks)
 
@@ -169,7 +169,7 @@ flat_keyed f g (k ∷ ks) = ap (λ l. f k ++ l) (flat_keyed f g ks)
 pub last_is : (q : Tree) (xs : List Row) (m : Lists) → TakenAll q xs m → flat_map (λ e. last_lines q (substream q e.0 xs)) (entries m) ≡ closed_at_last q xs
 last_is q xs m t = ap (flat_map (λ e. last_lines q (substream q e.0 xs))) (entries_are q xs m t) ∙ flat_keyed (λ k. last_lines q (substream q k xs)) (own_at m) (lists_in q xs)
 
-all_keyed : {X : Type 0} (P : List ℤ × X → Type 0) (g : List ℤ → X) → ((k : List ℤ) → P (k, g k)) → (ks : List (List ℤ)) → AllByRecursion P (keyed g ks)
+all_keyed : {X : Type 0} (P : List ℤ × X → Type 0) (g : List ℤ → X) → ((k : List ℤ) → P (k, g k)) → (ks : List (List ℤ)) → AllByRecursion P (keyed_list g ks)
 all_keyed P g h [] = tt
 all_keyed P g h (k ∷ ks) = (h k, all_keyed P g h ks)
 

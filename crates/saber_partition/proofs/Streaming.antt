@@ -8,19 +8,19 @@ use Rattle.saber_plan.specs.declared.rows.Row.{Row}
 use Rattle.saber_plan.specs.declared.plans.Shape.TheVariants.{Group}
 use Rattle.saber_plan.specs.Trees.{Tree}
 use Rattle.saber_plan.specs.Values.{passes}
-use Rattle.saber_plan.specs.Windows.{Placed, no_rows, mark_of, placed, placed_after, has}
-use Rattle.saber_plan.specs.Answers.{frame, passing, by_shape, key_cmp, entry_lines, lines, lines_from, past_in, begun_in}
+use Rattle.saber_plan.specs.Windows.{Placed, no_rows, mark_of, placed_from_start, placed_after, has}
+use Rattle.saber_plan.specs.Answers.{frame, passing_values, by_shape, key_cmp, entry_lines, lines, lines_from, past_in, begun_in}
 use Rattle.saber_plan.specs.Facts.Maps.{entries-empty}
 use Rattle.saber_plan.specs.Facts.Lists.{few_pass}
 use Rattle.saber_plan.specs.Parts as p
-use Rattle.saber_plan.specs.Parts.{Part, part, no_part, group_part, pair_part, merge, part_lines, answered}
+use Rattle.saber_plan.specs.Parts.{Part, part, no_part, group_part, pair_part, merge, part_lines, group_answer}
 use Rattle.saber_plan.specs.Facts.Numbers.{flat_map-from, flat_nil, flat_step, flat_skip}
 use Rattle.saber_plan.specs.Facts.Rows.{placed-append, placed-one, length-placed, few_rows}
 use Rattle.saber_laws.specs.Groups.{GroupsJoin}
 use Rattle.saber_laws.specs.Parts.{NoRowsNoPart, PartHasLines}
 use Rattle.saber_partial.specs.Tallies.{CanMerge}
 use Rattle.saber_partial.specs.PartLaws.{OfRows}
-use Rattle.saber_sliding.specs.Entries.{Entries, whole, dropped, part_at, CanFollow, Put}
+use Rattle.saber_sliding.specs.Entries.{Entries, whole, dropped_entries, part_at, CanFollow, Put}
 use Rattle.saber_sliding.specs.EntryFacts.{all_map, all_dropped, all_put, part_at-dropped, whole-dropped, part_at-put, part_at-behind}
 use Rattle.saber_partition.specs.Streams.{part_of, lines_between, row_part, Entered, Holds, HoldStill, Printed, Comes, Came, StreamLaws}
 use Rattle.saber_partition.proofs.Counting.{has_is, past_rises, begun_rises, lt_true, lt_false}
@@ -28,7 +28,7 @@ use Rattle.saber_partition.proofs.Counting.{has_is, past_rises, begun_rises, lt_
 -- ---- windows that are done
 
 -- the entries of no window from there on are gone
-pub holds_drop : (q : Tree) (us : List Row) (n : ℕ) (es : Entries) → Holds q us n es → Holds q us n (dropped n es)
+pub holds_drop : (q : Tree) (us : List Row) (n : ℕ) (es : Entries) → Holds q us n es → Holds q us n (dropped_entries n es)
 holds_drop q us n es h = record {
   at = λ i l. h.at i l ∙ sym (part_at-dropped n i es l);
   begun = all_dropped (λ (e : ℕ × Part). e.0 ≤ begun_in q us) n es h.begun;
@@ -38,13 +38,13 @@ holds_drop q us n es h = record {
 pub holds_later : (q : Tree) (us : List Row) (n k : ℕ) (es : Entries) → n ≤ k → Holds q us n es → Holds q us k es
 holds_later q us n k es up h = record { at = λ i l. h.at i (le_trans up l); begun = h.begun; few = h.few }
 
-pub whole_is : (q : Tree) (us : List Row) (n : ℕ) (es : Entries) → Holds q us n es → whole (dropped n es) ≡ part_of q n us
+pub whole_is : (q : Tree) (us : List Row) (n : ℕ) (es : Entries) → Holds q us n es → whole (dropped_entries n es) ≡ part_of q n us
 whole_is q us n es h = whole-dropped n es ∙ sym (h.at n (omega arith))
 
 -- ---- the text of windows, one after another
 
 no_lines : (q : Tree) (i : ℕ) (p : Part) → p ≡ no_part → part_lines q i p ≡ []
-no_lines q i p e = ap (part_lines q i) e ∙ ap (λ es. entry_lines i (map (answered q.shape q.items) es)) (entries-empty key_cmp)
+no_lines q i p e = ap (part_lines q i) e ∙ ap (λ es. entry_lines i (map (group_answer q.shape q.items) es)) (entries-empty key_cmp)
 
 pub text_nil : (q : Tree) (us : List Row) (a : ℕ) (out : List ℕ) → out ≡ out ++ lines_between q us a a
 text_nil q us a out = sym (ap (λ l. out ++ l) (sym (flat_nil (λ i. part_lines q i (part_of q i us)) a)) ∙ append-nil out)
@@ -62,9 +62,9 @@ text_skip q us a n k up more none start out t =
 part_whole : (q : Tree) → q.shape ≡ Group → (i : ℕ) (us : List Row) → part q i us 0 (length us) ≡ part_of q i us
 part_whole q e i us =
     let long = length-placed no_rows us in
-    let all : slice_range (placed us) 0 (length us) ≡ placed us = take_all (length us - 0) (placed us) (omega (arith, long)) in
-    ap (λ s. by_shape s (p.row_part q (filter (has (frame q) i) (slice_range (placed us) 0 (length us)))) (group_part q (passing q (filter (has (frame q) i) (slice_range (placed us) 0 (length us))))) (pair_part q 0 (filter (has (frame q) i) (slice_range (placed us) 0 (length us))))) e
-    ∙ ap (λ l. group_part q (passing q (filter (has (frame q) i) l))) all
+    let all : slice_range (placed_from_start us) 0 (length us) ≡ placed_from_start us = take_all (length us - 0) (placed_from_start us) (omega (arith, long)) in
+    ap (λ s. by_shape s (p.row_part q (filter (has (frame q) i) (slice_range (placed_from_start us) 0 (length us)))) (group_part q (passing_values q (filter (has (frame q) i) (slice_range (placed_from_start us) 0 (length us))))) (pair_part q 0 (filter (has (frame q) i) (slice_range (placed_from_start us) 0 (length us))))) e
+    ∙ ap (λ l. group_part q (passing_values q (filter (has (frame q) i) l))) all
 
 -- the lines of windows are those of their parts
 pub lines_are : PartHasLines → (q : Tree) → q.shape ≡ Group → (us : List Row) (a b : ℕ) → lines_from q us a b ≡ lines_between q us a b
@@ -85,22 +85,22 @@ holds_nothing none q n es e = subst (Holds q [] n) (sym e) (record { at = λ i l
 few_more : (q : Tree) (n k : ℕ) (m : Part) → n ≤ k → OfRows q n m → OfRows q k m
 few_more q n k m h few = record { at = λ key a e. (le_trans (few.at key a e).0 h, (few.at key a e).1); keys = few.keys }
 
-one_case : NoRowsNoPart → (q : Tree) (x : Placed) (b : Bool) → group_part q (passing q (cond b (x ∷ []) [])) ≡ cond b (row_part q x.row) no_part
+one_case : NoRowsNoPart → (q : Tree) (x : Placed) (b : Bool) → group_part q (passing_values q (cond b (x ∷ []) [])) ≡ cond b (row_part q x.row) no_part
 one_case none q x true = refl
 one_case none q x false = (none q).of_groups
 
-passing-append : (q : Tree) (us vs : List Placed) → passing q (us ++ vs) ≡ passing q us ++ passing q vs
+passing-append : (q : Tree) (us vs : List Placed) → passing_values q (us ++ vs) ≡ passing_values q us ++ passing_values q vs
 passing-append q us vs = ap (filter (λ zs. passes q.predicate zs [])) (map-append (λ x. x.row.values) us vs) ∙ filter-append (λ zs. passes q.predicate zs []) (map (λ x. x.row.values) us) (map (λ x. x.row.values) vs)
 
 part_next : GroupsJoin → NoRowsNoPart → (q : Tree) (i : ℕ) (us : List Row) (r : Row)
     → part_of q i (us ++ r ∷ []) ≡ merge (part_of q i us) (cond (has (frame q) i (record { row = r; before = mark_of us })) (row_part q r) no_part)
 part_next join none q i us r =
     let x : Placed = record { row = r; before = mark_of us } in
-    let here = filter (has (frame q) i) (placed us) in
-    ap (λ l. group_part q (passing q (filter (has (frame q) i) l))) (placed-append no_rows us (r ∷ []) ∙ ap (λ l. placed us ++ l) (placed-one (mark_of us) r))
-    ∙ ap (λ l. group_part q (passing q l)) (filter-append (has (frame q) i) (placed us) (x ∷ []))
+    let here = filter (has (frame q) i) (placed_from_start us) in
+    ap (λ l. group_part q (passing_values q (filter (has (frame q) i) l))) (placed-append no_rows us (r ∷ []) ∙ ap (λ l. placed_from_start us ++ l) (placed-one (mark_of us) r))
+    ∙ ap (λ l. group_part q (passing_values q l)) (filter-append (has (frame q) i) (placed_from_start us) (x ∷ []))
     ∙ ap (group_part q) (passing-append q here (cond (has (frame q) i x) (x ∷ []) []))
-    ∙ join q (passing q here) (passing q (cond (has (frame q) i x) (x ∷ []) []))
+    ∙ join q (passing_values q here) (passing_values q (cond (has (frame q) i x) (x ∷ []) []))
     ∙ ap (merge (part_of q i us)) (one_case none q x (has (frame q) i x))
 
 module _ (laws : StreamLaws) (q : Tree) (us : List Row) (r : Row) (low past : ℕ) (m : Part) (c : Comes q us r low past m) where

@@ -4,13 +4,13 @@ use Rattle.std.proofs.lemmas.List.{take_all}
 use Rattle.std.specs.FinMap.{empty}
 use Rattle.saber_plan.specs.declared.rows.Row.{Row}
 use Rattle.saber_plan.specs.Trees.{Tree}
-use Rattle.saber_plan.specs.Inputs.{Input, arrived}
+use Rattle.saber_plan.specs.Inputs.{Input, first_arrivals}
 use Rattle.saber_plan.specs.GivenRows.{RowsFit}
 use Rattle.saber_plan.specs.Windows.{no_rows}
 use Rattle.saber_plan.specs.Answers.{by_way, closed_in_turn, closed_at_last}
 use Rattle.saber_plan.specs.Facts.Lists.{slice-front, slice-join}
 use Rattle.saber_plan.specs.Facts.Rows.{fits_take}
-use Rattle.saber_plan.specs.Tasks.{by_windows, unclosed, unclosed_by_list, last_answers, kept_behind, plain_added, list_added, change_added, added, places_after, places_by}
+use Rattle.saber_plan.specs.Tasks.{by_windows, unclosed, unclosed_by_list, last_answers, kept_behind, plain_added, list_added, change_added, added_text, places_after, places_by}
 use Rattle.saber_laws.specs.Lists.{NoListOpenBehind}
 use Rattle.saber_laws.specs.Marks.{EndsAreBehind}
 use Rattle.saber_laws.specs.Parts.{NoRowsNoPart}
@@ -79,14 +79,14 @@ module _ (q : Tree) (a : Asks q) (r : Input) (x y : ℕ) (ps : List Made) (ended
     taken = subst (λ b. TakenBy b q old_rows m) f.of_is.opens f.taken;
   }
 
-  end_rows : EndsAreBehind → (b : Bool) → b ≡ (arrived r y).ended → cond b (closed_at_last q (take y r.rows)) [] ≡ cond b (closed_at_last q r.rows) []
+  end_rows : EndsAreBehind → (b : Bool) → b ≡ (first_arrivals r y).ended → cond b (closed_at_last q (take y r.rows)) [] ≡ cond b (closed_at_last q r.rows) []
   end_rows law true e = ap (closed_at_last q) (take_all y r.rows (let far = law r y (sym e) in omega (arith, far)))
   end_rows law false e = refl
 
   -- the rows are in, and then the end
   pub followed : EndsAreBehind → (n k : Lists) (before middle after : List ℕ) → RowsCame q old_rows new_rows n before middle → EndCame q (old_rows ++ new_rows) ended k middle after → Followed q r x y k before after
   followed law n k before middle after rows end =
-      let open_then : not (arrived r x).ended && (arrived r y).ended ≡ ended = ap (λ b. not b && (arrived r y).ended) f.of_is.opens ∙ sym f.of_is.ended_is in
+      let open_then : not (first_arrivals r x).ended && (first_arrivals r y).ended ≡ ended = ap (λ b. not b && (first_arrivals r y).ended) f.of_is.opens ∙ sym f.of_is.ended_is in
       let turned = closed_in_turn q old_rows new_rows in
       record {
         taken = subst₂ (λ b l. TakenBy b q l k) f.of_is.ended_is all_rows end.taken;
@@ -99,8 +99,8 @@ module _ (q : Tree) (a : Asks q) (r : Input) (x y : ℕ) (ps : List Made) (ended
 
 -- ---- what the trait says
 
-pub list_adds : (q : Tree) → Asks q → (r : Input) (x y : ℕ) → added q r x y ≡ list_added q r x y
-unfolding added
+pub list_adds : (q : Tree) → Asks q → (r : Input) (x y : ℕ) → added_text q r x y ≡ list_added q r x y
+unfolding added_text
 list_adds q a r x y = ap (λ w. by_way w (plain_added q r x y) (list_added q r x y) (λ c. change_added c q r x y)) a.has_lists
 
 list_keeps : (q : Tree) → Asks q → (r : Input) → kept_behind q r ≡ record { parts = empty; lists = unclosed_by_list q r; answers = [] }

@@ -6,7 +6,7 @@ use Rattle.saber_plan.specs.declared.rows.Row.{Row}
 use Rattle.saber_plan.specs.Trees.{Tree}
 use Rattle.saber_plan.specs.Inputs.{Input}
 use Rattle.saber_plan.specs.Answers.{key_cmp, substream, past_in, begun_in, lines_from}
-use Rattle.saber_plan.specs.Tasks.{full, numbered, Parts, ListParts, Kept}
+use Rattle.saber_plan.specs.Tasks.{full, numbered_list, Parts, ListParts, Kept}
 use Rattle.saber_sliding.specs.Entries.{Entries, part_at}
 use Rattle.saber_partition.specs.Streams.{Keeps}
 
@@ -42,7 +42,7 @@ TakenIn q r m = TakenBy r.ended q r.rows m
 -- ---- the open parts
 
 abbrev pub held_parts : Own → Parts
-held_parts o = from_entries {R = nat_cmp} (numbered o.next (o.begun - o.next) (λ i. full (part_at o.entries i)))
+held_parts o = from_entries {R = nat_cmp} (numbered_list o.next (o.begun - o.next) (λ i. full (part_at o.entries i)))
 
 abbrev pub held_lists : Lists → ListParts
 held_lists m = from_entries (filter (λ e. not (len e.1 == 0)) (map (λ e. (e.0, held_parts e.1)) (entries m)))

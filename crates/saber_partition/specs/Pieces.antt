@@ -3,7 +3,7 @@ use Rattle.std.specs.Prelude.{◌≡◌, ℕ, ◌<◌, ◌≤◌, List, [], ◌�
 use Rattle.saber_plan.specs.declared.rows.Row.{Row}
 use Rattle.saber_plan.specs.declared.windows.Mark.{Mark}
 use Rattle.saber_plan.specs.Trees.{Tree}
-use Rattle.saber_plan.specs.Inputs.{Input, arrived}
+use Rattle.saber_plan.specs.Inputs.{Input, first_arrivals}
 use Rattle.saber_plan.specs.GivenRows.{RowsFit}
 use Rattle.saber_plan.specs.Windows.{no_rows}
 use Rattle.saber_plan.specs.Answers.{list_of, substream, closed_by, closed_in_turn, closed_at_last}
@@ -59,9 +59,9 @@ ArePieces q xs (r ∷ rs) (p ∷ ps) = IsMade q r (length (substream q (list_of 
 
 -- the piece is that of the arrivals from position x up to y, before which the input did not end
 pub record IsOf (q : Tree) (r : Input) (x y : ℕ) (ps : List Made) (ended : Bool) : Type 0 where
-  pub opens : (arrived r x).ended ≡ false
+  pub opens : (first_arrivals r x).ended ≡ false
   pub rows_are : ArePieces q (take x r.rows) (slice_range r.rows x y) ps
-  pub ended_is : ended ≡ (arrived r y).ended
+  pub ended_is : ended ≡ (first_arrivals r y).ended
 
 -- ---- what is taken in
 
@@ -103,10 +103,10 @@ pub record HasSeen (q : Tree) (s : Sight) (ps : List Made) (ended : Bool) : Type
 pub record Follow (q : Tree) (r : Input) (x y : ℕ) (ps : List Made) (ended : Bool) (m : Lists) : Type 0 where
   pub fits : RowsFit q no_rows r.rows
   pub rises : x ≤ y
-  pub taken : TakenIn q (arrived r x) m
+  pub taken : TakenIn q (first_arrivals r x) m
   pub of_is : IsOf q r x y ps ended
 
 -- they are taken in too
 pub record Followed (q : Tree) (r : Input) (x y : ℕ) (m : Lists) (before after : List ℕ) : Type 0 where
-  pub taken : TakenIn q (arrived r y) m
+  pub taken : TakenIn q (first_arrivals r y) m
   pub text : after ≡ before ++ list_added q r x y

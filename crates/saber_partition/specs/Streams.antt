@@ -8,8 +8,8 @@ use Rattle.saber_plan.specs.Trees.{Tree}
 use Rattle.saber_plan.specs.Values.{passes}
 use Rattle.saber_plan.specs.Checked.{IsChecked}
 use Rattle.saber_plan.specs.GivenRows.{RowsFit}
-use Rattle.saber_plan.specs.Windows.{Fits, no_rows, placed, has, from}
-use Rattle.saber_plan.specs.Answers.{frame, passing, by_list, way, past_in, begun_in, closed_by}
+use Rattle.saber_plan.specs.Windows.{Fits, no_rows, placed_from_start, has, from}
+use Rattle.saber_plan.specs.Answers.{frame, passing_values, by_list, way, past_in, begun_in, closed_by}
 use Rattle.saber_plan.specs.Parts.{Part, no_part, group_part, part_lines}
 use Rattle.saber_laws.specs.Groups.{GroupsJoin}
 use Rattle.saber_laws.specs.Lists.{StreamsAreCounted, SubstreamsFit, TurnsGoOn}
@@ -34,7 +34,7 @@ pub record Asks (q : Tree) : Type 0 where
 
 -- the part of window i
 abbrev pub part_of : Tree → ℕ → List Row → Part
-part_of q i us = group_part q (passing q (filter (has (frame q) i) (placed us)))
+part_of q i us = group_part q (passing_values q (filter (has (frame q) i) (placed_from_start us)))
 
 -- the lines of the windows from a up to b
 abbrev pub lines_between : Tree → List Row → ℕ → ℕ → List ℕ

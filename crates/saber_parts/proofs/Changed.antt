@@ -8,12 +8,12 @@ use Rattle.std.specs.Ordering.{eq_by_cmp, is_eq, is_lt}
 use Rattle.std.specs.FinMap.{len, get, entries, from_entries, find, is_sorted, retain_keys, same_map, entries_sorted, len-entries, get-entries, get-retain_keys, nat_cmp-IsAntisymmetric}
 use Rattle.std.specs.FinMap.Entries.{find_tied, below_all}
 use Rattle.saber_plan.specs.Trees.{Tree}
-use Rattle.saber_plan.specs.Inputs.{Input, arrived}
+use Rattle.saber_plan.specs.Inputs.{Input, first_arrivals}
 use Rattle.saber_plan.specs.Merges.{both}
 use Rattle.saber_plan.specs.Facts.Lists.{T_parts}
 use Rattle.saber_plan.specs.Facts.Maps.{equal_if, first_alone, rest_rises}
 use Rattle.saber_plan.specs.Answers.{Answers, window_answers, before_window, frame}
-use Rattle.saber_plan.specs.Parts.{Part, Numbers, part, part_answers, answered, merge}
+use Rattle.saber_plan.specs.Parts.{Part, Numbers, part, part_answers, group_answer, merge}
 use Rattle.saber_plan.specs.Tasks.{Parts, unclosed, closed_at, last_answers}
 use Rattle.saber_plan.specs.Shares.{Shares, full, entries_in, handed_between}
 use Rattle.saber_laws.specs.Shares.{Between, OpenPartsAre}
@@ -83,7 +83,7 @@ zero_is n h = grind (arith, nat_tests)
 no_answers : (q : Tree) (p : Part) → full p ≡ None → part_answers q p ≡ []
 no_answers q p e =
     let none : entries p ≡ [] = nil_from_length _ (sym (len-entries p) ∙ zero_is (len p) (empty_case (len p == 0) p e)) in
-    ap (λ (es : List (List ℤ × Numbers)). map (λ (e : List ℤ × List ℤ). e.1) (map (answered q.shape q.items) es)) none
+    ap (λ (es : List (List ℤ × Numbers)). map (λ (e : List ℤ × List ℤ). e.1) (map (group_answer q.shape q.items) es)) none
 
 module _ (q : Tree) (at : ℕ → Answers) (has : ℕ → Part) (told : (i : ℕ) → at i ≡ part_answers q (has i)) where
   tells : (b : ℕ) (es : Entries) (a : ℕ) → Rises a b es → ((i : ℕ) → a ≤ i → i < b → find nat_cmp i es ≡ full (has i)) → Tells q at a b es
@@ -199,7 +199,7 @@ module _ (laws : Laws) (q : Tree) (m : Parts) (w : Walk) (s : Shares) (r : Input
       let next = h.next_is in
       found i ∙ ap (λ b. cond b (cond (nat_le first i) (full (whole i)) None) None) (is_below i s.closed u) ∙ ap (λ b. cond b (full (whole i)) None) (is_from first i (omega (arith, l, next))))
 
-  open_at : (i : ℕ) → get (retain_keys merged (λ i. nat_le s.closed i)) i ≡ get (unclosed q (arrived r y)) i
+  open_at : (i : ℕ) → get (retain_keys merged (λ i. nat_le s.closed i)) i ≡ get (unclosed q (first_arrivals r y)) i
   open_at i =
       let low = laws.closes (frame q) h.windows r x y h.fits.ordered h.rises in
       get-retain_keys merged (λ i. nat_le s.closed i) i (λ k e. ap (nat_le s.closed) (sym (nat_cmp-IsAntisymmetric i k e)))

@@ -7,7 +7,7 @@ use Rattle.std.specs.FinMap.Entries.{find_tied}
 use Rattle.std.proofs.lemmas.List.{nil_from_length}
 use Rattle.std.specs.Vec.Iter.{into_iter_len, into_iter_items}
 use Rattle.std.specs.declared.vec.IntoIter.{IntoIter}
-use Rattle.saber_plan.specs.Merges.{joined, both}
+use Rattle.saber_plan.specs.Merges.{joined_value, both}
 use Rattle.saber_plan.specs.Trees.{Tree}
 use Rattle.saber_plan.specs.Parts.{Part, merge}
 use Rattle.saber_plan.specs.Tasks.{Parts}
@@ -18,7 +18,7 @@ use Rattle.saber_parts.specs.Stored.{CanTakeIn}
 abbrev made : List (ℕ × Part) → Parts
 made es = from_entries {R = nat_cmp} es
 
-pub part_rest : (m : Parts) (k : ℕ) (b n : Part) (es : List (ℕ × Part)) → n ≡ joined merge (get m k) b → T (is_sorted nat_cmp ((k, b) ∷ es)) → both merge (insert m k n) (made es) ≡ both merge m (made ((k, b) ∷ es))
+pub part_rest : (m : Parts) (k : ℕ) (b n : Part) (es : List (ℕ × Part)) → n ≡ joined_value merge (get m k) b → T (is_sorted nat_cmp ((k, b) ∷ es)) → both merge (insert m k n) (made es) ≡ both merge m (made ((k, b) ∷ es))
 part_rest m k b n es e s = ap (λ x. both merge (insert m k x) (made es)) e ∙ take_one nat_cmp_total nat_cmp-IsAntisymmetric merge m k b es (first_alone nat_cmp (k, b) es s)
 
 not_there : {o : Option Part} {y : Part} → o ≡ None → o ≡ Some y → ⊥

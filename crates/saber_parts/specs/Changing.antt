@@ -1,7 +1,7 @@
 -- Stores of queries that print what windows gain or lose.
 use Rattle.std.specs.Prelude.{◌≡◌, ℕ, ◌+◌, ◌≤◌, ◌<◌, List, [], ◌∷◌, ◌++◌}
 use Rattle.saber_plan.specs.Trees.{Tree}
-use Rattle.saber_plan.specs.Inputs.{Input, arrived}
+use Rattle.saber_plan.specs.Inputs.{Input, first_arrivals}
 use Rattle.saber_plan.specs.Windows.{Fits, no_rows}
 use Rattle.saber_plan.specs.GivenRows.{RowsFit}
 use Rattle.saber_plan.specs.Answers.{Answers, frame}
@@ -28,9 +28,9 @@ pub record Hands (q : Tree) (parts : Parts) (walk : Walk) (s : Shares) (r : Inpu
   pub windows : Fits (frame q)
   pub fits : RowsFit q no_rows r.rows
   pub rises : x ≤ y
-  pub unclosed_is : parts ≡ unclosed q (arrived r x)
+  pub unclosed_is : parts ≡ unclosed q (first_arrivals r x)
   pub next_is : walk.next ≡ closed_at q r x
-  pub last_is : walk.last ≡ last_answers q (arrived r x)
+  pub last_is : walk.last ≡ last_answers q (first_arrivals r x)
   pub handed_is : s ≡ handed_between q r x y
 
 -- there are such arrivals
@@ -40,6 +40,6 @@ CanHand q parts walk s = (r : Input) × (x : ℕ) × (y : ℕ) × Hands q parts 
 -- the text has what they change, and the store stands behind them
 pub record Handed (change : Change) (q : Tree) (parts : Parts) (walk : Walk) (before after : List ℕ) (r : Input) (x y : ℕ) : Type 0 where
   pub text : after ≡ before ++ change_added (change_of change) q r x y
-  pub stays : parts ≡ unclosed q (arrived r y)
+  pub stays : parts ≡ unclosed q (first_arrivals r y)
   pub next : walk.next ≡ closed_at q r y
-  pub last : walk.last ≡ last_answers q (arrived r y)
+  pub last : walk.last ≡ last_answers q (first_arrivals r y)

@@ -1,7 +1,7 @@
 -- What the calls on the ends of a pipe come to.
 use Rattle.std.proofs.Common.{◌≡◌, ◌≢◌, ◌<◌, ℕ, ◌+◌, ◌-◌, ◌^◌, min, ◌⊎◌, inl, inr, ⊎_elim, List, [], ◌∷◌, ◌++◌, drop, length, sym, ap, ◌∙◌, arith, length-drop, length-append}
 use Rattle.std.proofs.lemmas.Grind.{flat_map-append}
-use Rattle.saber_plan.specs.Outputs.{counted}
+use Rattle.saber_plan.specs.Outputs.{raised_count}
 use Rattle.saber_pipe.specs.declared.items.Item.{Item}
 use Rattle.saber_pipe.specs.Order.{bytes_in, bytes_of}
 
@@ -25,11 +25,11 @@ one_kept first rest new x e =
 more_counted : (a b b' : ℕ) → b' ≡ b + 1 → min (a + b') (2 ^ 64 - 1) ≡ min (min (a + b) (2 ^ 64 - 1) + 1) (2 ^ 64 - 1)
 more_counted a b b' e = omega (arith, e)
 
-pub one_write : (sent sent' kept kept' : List Item) → sent' ≡ sent → length kept' ≡ length kept + 1 → min (length (sent' ++ kept')) (2 ^ 64 - 1) ≡ counted (min (length (sent ++ kept)) (2 ^ 64 - 1))
+pub one_write : (sent sent' kept kept' : List Item) → sent' ≡ sent → length kept' ≡ length kept + 1 → min (length (sent' ++ kept')) (2 ^ 64 - 1) ≡ raised_count (min (length (sent ++ kept)) (2 ^ 64 - 1))
 one_write sent sent' kept kept' same one =
     ap (λ n. min n (2 ^ 64 - 1)) (length-append sent' kept' ∙ ap (λ l. length l + length kept') same)
     ∙ more_counted (length sent) (length kept) (length kept') one
-    ∙ ap (λ n. counted (min n (2 ^ 64 - 1))) (sym (length-append sent kept))
+    ∙ ap (λ n. raised_count (min n (2 ^ 64 - 1))) (sym (length-append sent kept))
 
 -- short of the end something is left
 pub some_left : (at : ℕ) (xs : List ℕ) → at < length xs → drop at xs ≢ []

@@ -79,7 +79,7 @@ impl<'a, R: Wait, P: PipeName> PipeSink<'a, R, P> {
 impl<'a, R: Wait, P: PipeName> Sink for PipeSink<'a, R, P> {
     ghost use Rattle.std.specs.Prelude.{◌≡◌, ◌≢◌, ◌≤◌, ◌++◌, Some, OnOk, OnErr, Err};
     ghost use Rattle.saber_io.specs.declared.outside.WriteFault.{WriteFault};
-    ghost use Rattle.saber_plan.specs.Outputs.{counted, Rose, appended, AppendsPrefix};
+    ghost use Rattle.saber_plan.specs.Outputs.{raised_count, Rose, appended_text, AppendsPrefix};
     ghost use Rattle.saber_pipe.specs.Sinks.{sent, kept, written, faults_of, writes_of};
 
     ghost written = { λ s. Some (written s) };
@@ -90,14 +90,14 @@ impl<'a, R: Wait, P: PipeName> Sink for PipeSink<'a, R, P> {
 
     #[tactic(auto, using(crate::proofs::Moves::one_write))]
     fn write_all(&mut self, piece: &[u8]) -> Result<(), WriteFault>
-        ensures ok { OnOk result (Some (written self.new) ≡ appended (Some (written self.old)) piece.now) }
+        ensures ok { OnOk result (Some (written self.new) ≡ appended_text (Some (written self.old)) piece.now) }
         ensures never { result ≢ Err WriteFault.Failed }
         ensures failed { result ≡ Err WriteFault.Failed →
             AppendsPrefix (Some (written self.old)) (Some (written self.new)) piece.now }
         ensures memory { result ≡ Err WriteFault.NoMemory → Some (written self.new) ≡ Some (written self.old) }
         ensures cause { result ≡ Err WriteFault.Failed → Rose (faults_of self.old) (faults_of self.new) }
         ensures count { faults_of self.old ≤ faults_of self.new }
-        ensures one { result ≢ Err WriteFault.NoMemory → writes_of self.new ≡ counted (writes_of self.old) }
+        ensures one { result ≢ Err WriteFault.NoMemory → writes_of self.new ≡ raised_count (writes_of self.old) }
         ensures none { result ≡ Err WriteFault.NoMemory → writes_of self.new ≡ writes_of self.old }
         ensures kept { OnErr result (kept self.new ≡ kept self.old) }
         ensures sent { sent self.new ≡ sent self.old }

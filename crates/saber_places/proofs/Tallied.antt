@@ -7,16 +7,16 @@ use Rattle.std.specs.FinMap.{get, insert, get-insert}
 use Rattle.saber_plan.specs.Answers.{key_cmp}
 use Rattle.saber_plan.specs.Facts.Parts.{total, exact}
 use Rattle.saber_plan.specs.Facts.Trees.{written, inserted, looked_up}
-use Rattle.saber_places.specs.Counts.{Tallies, seen, count_of}
+use Rattle.saber_places.specs.Counts.{Tallies, seen_tallies, count_of}
 
-pub tally_at : (k : List ℤ) (es : List (List ℤ × ℕ)) (o : Option ℕ) → lookup (is_at (λ a. key_cmp k a)) es ≡ o → get (seen es) k ≡ o
+pub tally_at : (k : List ℤ) (es : List (List ℤ × ℕ)) (o : Option ℕ) → lookup (is_at (λ a. key_cmp k a)) es ≡ o → get (seen_tallies es) k ≡ o
 tally_at k es None f = sym (looked_up key_cmp (λ k. k) (λ x. x) total exact k es) ∙ ap (option_map (λ (x : ℕ). x)) f
 tally_at k es (Some x) f = sym (looked_up key_cmp (λ k. k) (λ x. x) total exact k es) ∙ ap (option_map (λ (x : ℕ). x)) f
 
-pub tally_written : (k : List ℤ) (w v : ℕ) (es : List (List ℤ × ℕ)) → lookup (is_at (λ a. key_cmp k a)) es ≡ Some v → seen (set_value (is_at (λ a. key_cmp k a)) es w) ≡ insert (seen es) k w
+pub tally_written : (k : List ℤ) (w v : ℕ) (es : List (List ℤ × ℕ)) → lookup (is_at (λ a. key_cmp k a)) es ≡ Some v → seen_tallies (set_value (is_at (λ a. key_cmp k a)) es w) ≡ insert (seen_tallies es) k w
 tally_written k w v es f = written key_cmp (λ k. k) (λ x. x) total exact k w v es f
 
-pub tally_inserted : (k : List ℤ) (v : ℕ) (es : List (List ℤ × ℕ)) → seen (insert_entry key_cmp es k v) ≡ insert (seen es) k v
+pub tally_inserted : (k : List ℤ) (v : ℕ) (es : List (List ℤ × ℕ)) → seen_tallies (insert_entry key_cmp es k v) ≡ insert (seen_tallies es) k v
 tally_inserted k v es = inserted key_cmp (λ k. k) (λ x. x) total exact k v es
 
 by_test : (b : Bool) (n : ℕ) (o : Option ℕ) → unwrap_or (cond b (Some n) o) 0 ≡ cond b n (unwrap_or o 0)

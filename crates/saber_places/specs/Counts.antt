@@ -7,8 +7,8 @@ use Rattle.saber_plan.specs.Answers.{key_cmp}
 abbrev pub Tallies : Type 0
 Tallies = FinMap key_cmp ℕ
 
-abbrev pub seen : List (List ℤ × ℕ) → Tallies
-seen es = from_entries {R = key_cmp} (map (λ e. (e.0, e.1)) es)
+abbrev pub seen_tallies : List (List ℤ × ℕ) → Tallies
+seen_tallies es = from_entries {R = key_cmp} (map (λ e. (e.0, e.1)) es)
 
 -- how often: never, where it isn't there
 abbrev pub count_of : Tallies → List ℤ → ℕ

@@ -2,7 +2,7 @@
 use Rattle.std.specs.Prelude.{ℕ, zero, suc, List, [], ◌∷◌, ℤ, pos}
 
 -- so many numbers: those of the list, and then zeros
-unfoldable pub filled : ℕ → List ℤ → List ℤ
-filled zero ks = ks
-filled (suc n) [] = pos 0 ∷ filled n []
-filled (suc n) (k ∷ ks) = k ∷ filled n ks
+unfoldable pub filled_key : ℕ → List ℤ → List ℤ
+filled_key zero ks = ks
+filled_key (suc n) [] = pos 0 ∷ filled_key n []
+filled_key (suc n) (k ∷ ks) = k ∷ filled_key n ks

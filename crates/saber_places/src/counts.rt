@@ -1,7 +1,7 @@
 // How many rows have each key.
 ghost use Rattle.std.specs.Prelude.{◌≡◌, ◌<◌, ◌+◌, ◌^◌, IfOk, OnOk};
 ghost use Rattle.std.specs.FinMap.{insert};
-ghost use Rattle.saber_places.specs.Counts.{seen, count_of};
+ghost use Rattle.saber_places.specs.Counts.{seen_tallies, count_of};
 
 use saber_plan::NoMemory;
 use std::collections::BTreeMap;
@@ -12,9 +12,9 @@ pub(crate) fn count_one(
     counts: &mut BTreeMap<[i64; 8], u64>,
     key: [i64; 8],
 ) -> Result<u64, NoMemory>
-    requires { count_of (seen counts.old.entries) key < 2 ^ 63 }
-    ensures was { IfOk result (λ n. n ≡ count_of (seen counts.old.entries) key) }
-    ensures counted { OnOk result (seen counts.new.entries ≡ insert (seen counts.old.entries) key (count_of (seen counts.old.entries) key + 1)) }
+    requires { count_of (seen_tallies counts.old.entries) key < 2 ^ 63 }
+    ensures was { IfOk result (λ n. n ≡ count_of (seen_tallies counts.old.entries) key) }
+    ensures counted { OnOk result (seen_tallies counts.new.entries ≡ insert (seen_tallies counts.old.entries) key (count_of (seen_tallies counts.old.entries) key + 1)) }
 {
     match counts.get_mut(&key) {
         Some(count) => {

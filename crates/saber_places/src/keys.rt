@@ -2,7 +2,7 @@
 ghost use Rattle.std.specs.Prelude.{◌≡◌, ◌<◌, ◌≤◌, length, get_or, pos};
 ghost use Rattle.std.specs.List.{AllByRecursion};
 ghost use Rattle.saber_plan.specs.Answers.{key};
-ghost use Rattle.saber_places.specs.Keys.{filled};
+ghost use Rattle.saber_places.specs.Keys.{filled_key};
 
 // Number i of the key list, or 0 where it has fewer.
 #[inline(always)]
@@ -23,7 +23,7 @@ fn number_at(columns: &[u32], numbers: &[i64], i: usize) -> i64
 pub(crate) fn key_of(columns: &[u32], numbers: &[i64]) -> [i64; 8]
     requires few { length columns.now ≤ 8 }
     requires there { AllByRecursion (λ k. k < length numbers.now) columns.now }
-    ensures { result ≡ filled 8 (key columns.now numbers.now) }
+    ensures { result ≡ filled_key 8 (key columns.now numbers.now) }
 {
     [
         number_at(columns, numbers, 0),

@@ -8,7 +8,7 @@ use Rattle.saber_plan.specs.Inputs.{Input, input, merged_rows}
 use Rattle.saber_plan.specs.Values.{value_at, test_holds, all_hold, some_holds}
 use Rattle.saber_plan.specs.Windows.{placed_after, from}
 use Rattle.saber_plan.specs.Answers.{with_key, keys_of, lines, text}
-use Rattle.saber_plan.specs.Tasks.{run_input, cut, task_count, piece, piece_between}
+use Rattle.saber_plan.specs.Tasks.{run_input, task_start, task_count, piece, piece_between}
 use Rattle.saber_plan.specs.Shares.{shares_between}
 use Rattle.saber_plan.specs.Needs.{first_open, free, wide}
 use Rattle.saber_plan.proofs.Cases.{left_of, right_of, joining, five_lines, counted, sums_by_group}
@@ -30,7 +30,7 @@ one_task_more : task_count 2 (to_end pairs five_lines) ≡ 4
 unfolding lines_of fields_of judge read_by
 one_task_more = refl
 
-cuts : map (cut 2 (to_end pairs five_lines)) (from 0 6) ≡ 0 ∷ 2 ∷ 4 ∷ 5 ∷ 6 ∷ 6 ∷ []
+cuts : map (task_start 2 (to_end pairs five_lines)) (from 0 6) ≡ 0 ∷ 2 ∷ 4 ∷ 5 ∷ 6 ∷ 6 ∷ []
 unfolding lines_of fields_of judge read_by from
 cuts = refl
 

@@ -9,7 +9,7 @@ use Rattle.saber_plan.specs.Inputs.{going_on}
 use Rattle.saber_plan.specs.Values.{value_at, test_holds, all_hold, some_holds}
 use Rattle.saber_plan.specs.Windows.{placed_after, from}
 use Rattle.saber_plan.specs.Answers.{with_key, keys_of, lines, closed_in_turn, text}
-use Rattle.saber_plan.specs.Tasks.{run_input, added, places, places_after}
+use Rattle.saber_plan.specs.Tasks.{run_input, added_text, places, places_after}
 use Rattle.saber_plan.proofs.Cases.{left_of, five_lines, rows_in, over, grouped, above}
 
 -- SELECT g, SUM(v) FROM S [PARTITION BY g ROWS 2 SLIDE 1]
@@ -32,8 +32,8 @@ unfolding lines_of fields_of judge read_by value_at placed_after from with_key k
 lists_before_filter = refl
 
 -- the second task of two rows adds what its rows close
-second_task : added sums_of_lists (going_on (rows_in five_lines)) 2 4 ≡ codes "1,1,27\n"
-unfolding lines_of fields_of judge read_by value_at placed_after from with_key keys_of lines closed_in_turn added digits
+second_task : added_text sums_of_lists (going_on (rows_in five_lines)) 2 4 ≡ codes "1,1,27\n"
+unfolding lines_of fields_of judge read_by value_at placed_after from with_key keys_of lines closed_in_turn added_text digits
 second_task = refl
 
 -- where its rows stand in their substreams

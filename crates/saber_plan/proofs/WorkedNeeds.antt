@@ -7,7 +7,7 @@ use Rattle.saber_plan.specs.Trees.{Tree}
 use Rattle.saber_plan.specs.Rows.{rows, lines_of, fields_of, judge, read_by}
 use Rattle.saber_plan.specs.Inputs.{input, going_on, merged_rows}
 use Rattle.saber_plan.specs.Values.{value_at, test_holds, all_hold, some_holds}
-use Rattle.saber_plan.specs.Windows.{Placed, one, placed_after, placed, from, kind_of, no_rows}
+use Rattle.saber_plan.specs.Windows.{Placed, one, placed_after, placed_from_start, from, kind_of, no_rows}
 use Rattle.saber_plan.specs.Answers.{frame, is_left}
 use Rattle.saber_plan.specs.Needs.{first_window, past_window, last_window, first_open, free, need, wide, block_lasts, free_of, is_closing, is_pending, is_opening}
 use Rattle.saber_plan.specs.Pairing.{row_pairs}
@@ -25,16 +25,16 @@ by_time = joining measures.Range 4 4 4
 abbrev by_rows : Tree
 by_rows = joining measures.Rows 2 1 2
 
-first_by_time : map (first_window (frame by_time)) (placed merged) ≡ 0 ∷ 0 ∷ 0 ∷ 0 ∷ 1 ∷ 2 ∷ []
+first_by_time : map (first_window (frame by_time)) (placed_from_start merged) ≡ 0 ∷ 0 ∷ 0 ∷ 0 ∷ 1 ∷ 2 ∷ []
 unfolding lines_of fields_of judge read_by merged_rows placed_after
 first_by_time = refl
 
-past_by_time : map (past_window (frame by_time)) (placed merged) ≡ 1 ∷ 1 ∷ 1 ∷ 1 ∷ 2 ∷ 3 ∷ []
+past_by_time : map (past_window (frame by_time)) (placed_from_start merged) ≡ 1 ∷ 1 ∷ 1 ∷ 1 ∷ 2 ∷ 3 ∷ []
 unfolding lines_of fields_of judge read_by merged_rows placed_after
 past_by_time = refl
 
 -- the second right row lies in no window
-last_by_rows : map (last_window (frame by_rows)) (placed merged) ≡ Some 0 ∷ Some 0 ∷ Some 0 ∷ None ∷ Some 1 ∷ Some 1 ∷ []
+last_by_rows : map (last_window (frame by_rows)) (placed_from_start merged) ≡ Some 0 ∷ Some 0 ∷ Some 0 ∷ None ∷ Some 1 ∷ Some 1 ∷ []
 unfolding lines_of fields_of judge read_by merged_rows placed_after
 last_by_rows = refl
 
@@ -107,6 +107,6 @@ abbrev pairs_of_fourth : List Placed → List (List ℤ)
 pairs_of_fourth (a ∷ b ∷ c ∷ d ∷ xs) = keys_of_pairs d (a ∷ b ∷ c ∷ [])
 pairs_of_fourth xs = []
 
-one_more_row : pairs_of_fourth (placed merged) ≡ (pos 0 ∷ pos 3 ∷ []) ∷ []
+one_more_row : pairs_of_fourth (placed_from_start merged) ≡ (pos 0 ∷ pos 3 ∷ []) ∷ []
 unfolding lines_of fields_of judge read_by merged_rows placed_after value_at test_holds all_hold some_holds
 one_more_row = refl

@@ -11,7 +11,7 @@ use Rattle.saber_plan.specs.Inputs.{going_on}
 use Rattle.saber_plan.specs.Values.{value_at}
 use Rattle.saber_plan.specs.Windows.{placed_after, from}
 use Rattle.saber_plan.specs.Answers.{with_key, keys_of, lines, text}
-use Rattle.saber_plan.specs.Tasks.{run_input, added, last_answers}
+use Rattle.saber_plan.specs.Tasks.{run_input, added_text, last_answers}
 use Rattle.saber_plan.proofs.Cases.{left_of, five_lines, rows_in, grouped, counted}
 
 -- WORD (SELECT g FROM S [ROWS 3 SLIDE 1])
@@ -36,8 +36,8 @@ unfolding lines_of fields_of judge read_by value_at placed_after from with_key k
 lost_counts = refl
 
 -- the third task of two rows adds what window 2 gains over window 1, of which the answers are kept
-last_task : added (groups_of_three Istream) (going_on (rows_in five_lines)) 4 5 ≡ codes "2,2\n"
-unfolding lines_of fields_of judge read_by value_at placed_after from added digits
+last_task : added_text (groups_of_three Istream) (going_on (rows_in five_lines)) 4 5 ≡ codes "2,2\n"
+unfolding lines_of fields_of judge read_by value_at placed_after from added_text digits
 last_task = refl
 
 kept_answers : last_answers (groups_of_three Istream) (going_on (rows_in (codes "0,1,10\n1,1,20\n2,2,5\n2,1,7\n"))) ≡ (pos 1 ∷ []) ∷ (pos 2 ∷ []) ∷ (pos 1 ∷ []) ∷ []

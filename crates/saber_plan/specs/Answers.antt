@@ -96,8 +96,8 @@ abbrev pub groups : Tree → List (List ℤ) → List Entry
 groups q rows = map (λ k. (k, answers q rows k)) (keys_of (map (key q.keys) rows))
 
 -- the values of the rows that pass
-abbrev pub passing : Tree → List Placed → List (List ℤ)
-passing q xs = filter (λ zs. passes q.predicate zs []) (map (λ x. x.row.values) xs)
+abbrev pub passing_values : Tree → List Placed → List (List ℤ)
+passing_values q xs = filter (λ zs. passes q.predicate zs []) (map (λ x. x.row.values) xs)
 
 -- ---- pairs
 
@@ -129,8 +129,8 @@ abbrev pub row_key : Placed → List ℤ
 row_key x = pos (place x) ∷ []
 
 -- the rows that pass, and what g says of each
-abbrev pub picked : {X : Type 0} → Tree → (Placed → X) → List Placed → List (List ℤ × X)
-picked q g xs = map (λ x. (row_key x, g x)) (filter (λ x. passes q.predicate x.row.values []) xs)
+abbrev pub picked_rows : {X : Type 0} → Tree → (Placed → X) → List Placed → List (List ℤ × X)
+picked_rows q g xs = map (λ x. (row_key x, g x)) (filter (λ x. passes q.predicate x.row.values []) xs)
 
 abbrev pub row_answers : Tree → Placed → List ℤ
 row_answers q x = items_over q.items x.row.values []
@@ -144,7 +144,7 @@ by_shape Join x y z = z
 
 -- what some rows of one window give: themselves, groups, or pairs
 abbrev pub entries_in : Tree → List Placed → List Entry
-entries_in q xs = by_shape q.shape (picked q (row_answers q) xs) (groups q (passing q xs)) (pairs q (pair_answers q) xs)
+entries_in q xs = by_shape q.shape (picked_rows q (row_answers q) xs) (groups q (passing_values q xs)) (pairs q (pair_answers q) xs)
 
 abbrev pub frame : Tree → Frame
 frame q = frame_of q.streams
@@ -154,8 +154,8 @@ unfoldable pub lines : Tree → ℕ → List Row → List ℕ
 lines q i xs = entry_lines i (entries_in q (inside (frame q) i xs 0 (length xs)))
 
 -- the lines of rows by themselves, where no window is looked at
-abbrev pub selected : Tree → List Row → List ℕ
-selected q xs = flat_map (λ zs. line (items_over q.items zs [])) (filter (λ zs. passes q.predicate zs []) (map (λ x. x.values) xs))
+abbrev pub selected_lines : Tree → List Row → List ℕ
+selected_lines q xs = flat_map (λ zs. line (items_over q.items zs [])) (filter (λ zs. passes q.predicate zs []) (map (λ x. x.values) xs))
 
 -- those of the windows from a up to b
 abbrev pub lines_from : Tree → List Row → ℕ → ℕ → List ℕ
@@ -169,7 +169,7 @@ abbrev pub by_frame : {X : Type 0} → Tree → X → X → X
 by_frame q rows windows = by_shape q.shape (if has_windows (frame q) then windows else rows) windows windows
 
 abbrev pub plain_text : Tree → Input → List ℕ
-plain_text q r = by_frame q (selected q r.rows) (window_text q r)
+plain_text q r = by_frame q (selected_lines q r.rows) (window_text q r)
 
 -- ---- what a window has that the one before it hasn't (CQL 2006: ISTREAM, DSTREAM)
 
@@ -194,19 +194,19 @@ without k [] = []
 without k (l ∷ ls) = if same_line k l then ls else l ∷ without k ls
 
 -- the lines that cancel none: each in turn cancels one equal line that is still left of the others
-abbrev pub uncancelled : Answers → Answers → Answers
-uncancelled [] others = []
-uncancelled (k ∷ ks) others = if list_any (same_line k) others then uncancelled ks (without k others) else k ∷ uncancelled ks others
+abbrev pub uncancelled_answers : Answers → Answers → Answers
+uncancelled_answers [] others = []
+uncancelled_answers (k ∷ ks) others = if list_any (same_line k) others then uncancelled_answers ks (without k others) else k ∷ uncancelled_answers ks others
 
 -- what is printed of a window, from the answers of the one before and its own
 abbrev pub Change : Type 0
 Change = Answers → Answers → Answers
 
-abbrev pub gained : Change
-gained before now = uncancelled now before
+abbrev pub gains : Change
+gains before now = uncancelled_answers now before
 
-abbrev pub lost : Change
-lost before now = uncancelled before now
+abbrev pub losses : Change
+losses before now = uncancelled_answers before now
 
 abbrev pub answer_lines : ℕ → Answers → List ℕ
 answer_lines i ls = flat_map (λ zs. line (pos i ∷ zs)) ls
@@ -268,8 +268,8 @@ abbrev pub way_of : List ℕ → Option Word → Way
 way_of (k ∷ ks) word = by_list
 way_of [] None = alike
 way_of [] (Some Rstream) = alike
-way_of [] (Some Istream) = by_change gained
-way_of [] (Some Dstream) = by_change lost
+way_of [] (Some Istream) = by_change gains
+way_of [] (Some Dstream) = by_change losses
 
 abbrev pub way : Tree → Way
 way q = way_of q.partition q.word

@@ -24,14 +24,14 @@ unfoldable pub merged_rows : List Row → End → List Row → End → Read
 merged_rows [] e ys d = alone e ys d
 merged_rows (x ∷ xs) e ys d = among x xs e (λ zs. merged_rows xs e zs d) ys d
 
-abbrev pub merged : Read → Read → Read
-merged l r = merged_rows l.rows l.end r.rows r.end
+abbrev pub merged_read : Read → Read → Read
+merged_read l r = merged_rows l.rows l.end r.rows r.end
 
 -- the rows of a query's sources, and where they end
 abbrev pub input : List Read → Read
 input [] = record { rows = []; end = all_read }
 input (l ∷ []) = l
-input (l ∷ r ∷ rs) = merged l r
+input (l ∷ r ∷ rs) = merged_read l r
 
 -- ---- the end of the input
 
@@ -44,8 +44,8 @@ abbrev pub arrivals : Input → ℕ
 arrivals r = if r.ended then suc (length r.rows) else length r.rows
 
 -- the first x arrivals
-abbrev pub arrived : Input → ℕ → Input
-arrived r x = record { rows = take x r.rows; ended = r.ended && nat_lt (length r.rows) x }
+abbrev pub first_arrivals : Input → ℕ → Input
+first_arrivals r x = record { rows = take x r.rows; ended = r.ended && nat_lt (length r.rows) x }
 
 -- rows behind which more may come
 abbrev pub going_on : List Row → Input

@@ -10,10 +10,10 @@ use Rattle.saber_plan.specs.declared.windows.Measure.TheVariants.{Rows, Range}
 use Rattle.saber_plan.specs.declared.windows.Kind.{Kind}
 use Rattle.saber_plan.specs.Trees.{Tree}
 use Rattle.saber_plan.specs.Inputs.{Input}
-use Rattle.saber_plan.specs.Windows.{Frame, unwindowed, one, two, Placed, place, own, time, placed, has, mark_after, ending, last_mark, mark_at, by_side, count_to, closed_count, begun_count, from}
+use Rattle.saber_plan.specs.Windows.{Frame, unwindowed, one, two, Placed, place, own, time, placed_from_start, has, mark_after, end_mark, last_mark, mark_at, by_side, count_to, closed_count, begun_count, from}
 use Rattle.saber_plan.specs.Answers.{by_shape, frame}
 use Rattle.saber_plan.specs.Parts.{Part}
-use Rattle.saber_plan.specs.Tasks.{cut, upto, task_count}
+use Rattle.saber_plan.specs.Tasks.{task_start, upto, task_count}
 use Rattle.saber_plan.specs.Shares.{Parts, Piece, piece_in, shares_here}
 pub use Rattle.saber_plan.specs.Shares.{is_closing, is_pending, is_opening}
 unfoldable pub use Rattle.saber_plan.specs.Shares.{of_kind, part_here}
@@ -51,7 +51,7 @@ first_place (x ∷ xs) = Some (place x)
 
 -- the position of the first row that lies in a window not closed by this input
 unfoldable pub first_open : Frame → Input → Option ℕ
-first_open f r = first_place (filter (lies_open f (last_mark r)) (placed r.rows))
+first_open f r = first_place (filter (lies_open f (last_mark r)) (placed_from_start r.rows))
 
 -- The task of the first row before task t that lies in a window which the rows before task t do not close; t, if there is none.
 -- A query that joins no streams needs no row before its task's.
@@ -86,7 +86,7 @@ parts_of wanted f a b part = from_entries (of_kind wanted f a b part)
 abbrev kind_here : (Option Kind → Bool) → Tree → Mark → List Row → List Row → Bool → Parts
 kind_here wanted q m back rows ended =
     let a = mark_after m back in
-    parts_of wanted (frame q) a (ending ended (mark_after a rows)) (λ i. part_here q i m back rows)
+    parts_of wanted (frame q) a (end_mark ended (mark_after a rows)) (λ i. part_here q i m back rows)
 
 -- of windows that the rows close and did not begin, of those that they neither begin nor close, and of those that they begin and do not close
 abbrev pub closing_here : Tree → Mark → List Row → List Row → Bool → Parts
@@ -106,10 +106,10 @@ task_mark n r t = last_mark (upto n r t)
 
 -- the rows of the tasks from free(t) up to task t, and those of task t
 abbrev pub back_rows : Tree → ℕ → Input → ℕ → List Row
-back_rows q n r t = slice_range r.rows (cut n r (free q n r t)) (cut n r t)
+back_rows q n r t = slice_range r.rows (task_start n r (free q n r t)) (task_start n r t)
 
 abbrev pub task_rows : ℕ → Input → ℕ → List Row
-task_rows n r t = slice_range r.rows (cut n r t) (cut n r (t + 1))
+task_rows n r t = slice_range r.rows (task_start n r t) (task_start n r (t + 1))
 
 -- whether the input ends behind task t
 abbrev pub task_ends : ℕ → Input → ℕ → Bool
@@ -117,7 +117,7 @@ task_ends n r t = (upto n r (t + 1)).ended
 
 -- the mark before the rows that task t needs
 abbrev pub back_mark : Tree → ℕ → Input → ℕ → Mark
-back_mark q n r t = mark_at r (cut n r (free q n r t))
+back_mark q n r t = mark_at r (task_start n r (free q n r t))
 
 -- ---- the free pointer by the last windows of blocks
 
@@ -143,4 +143,4 @@ free_of first (l ∷ ls) closed = if reaches l closed then first else free_of (f
 
 -- the greatest last windows of k blocks of n rows
 abbrev pub block_lasts : Frame → ℕ → Input → ℕ → ℕ → List (Option ℕ)
-block_lasts f n r first k = map (λ u. last_of f (slice_range (placed r.rows) (cut n r u) (cut n r (u + 1)))) (from first k)
+block_lasts f n r first k = map (λ u. last_of f (slice_range (placed_from_start r.rows) (task_start n r u) (task_start n r (u + 1)))) (from first k)

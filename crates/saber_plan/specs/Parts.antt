@@ -9,7 +9,7 @@ use Rattle.saber_plan.specs.declared.plans.Shape.{Shape}
 use Rattle.saber_plan.specs.declared.expressions.Product.{Product}
 use Rattle.saber_plan.specs.Trees.{Tree}
 use Rattle.saber_plan.specs.Windows.{Placed, inside}
-use Rattle.saber_plan.specs.Answers.{Entry, Answers, key_cmp, key, passing, picked, pairs, pair_answers, row_answers, aggregate, step, group_row, items_over, rows_of_key, entry_lines, by_shape, frame}
+use Rattle.saber_plan.specs.Answers.{Entry, Answers, key_cmp, key, passing_values, picked_rows, pairs, pair_answers, row_answers, aggregate, step, group_row, items_over, rows_of_key, entry_lines, by_shape, frame}
 use Rattle.saber_plan.specs.Merges.{both}
 
 -- ---- numbers
@@ -77,14 +77,14 @@ group_part q rows = from_entries (map (λ k. (k, numbers q.aggregates (rows_of_k
 
 -- each row that passes, at its position
 unfoldable pub row_part : Tree → List Placed → Part
-row_part q xs = from_entries (picked q (row_numbers q) xs)
+row_part q xs = from_entries (picked_rows q (row_numbers q) xs)
 
-abbrev pub answered : Shape → List (List Product) → List ℤ × Numbers → Entry
-answered s is e = (e.0, answers_of s is e.0 e.1)
+abbrev pub group_answer : Shape → List (List Product) → List ℤ × Numbers → Entry
+group_answer s is e = (e.0, answers_of s is e.0 e.1)
 
 -- the lines of a part, as those of window i
 abbrev pub answers_in : Tree → Part → List Entry
-answers_in q p = map (answered q.shape q.items) (entries p)
+answers_in q p = map (group_answer q.shape q.items) (entries p)
 
 -- without the window's number
 abbrev pub part_answers : Tree → Part → Answers
@@ -105,7 +105,7 @@ pair_part q x xs = from_entries (filter (λ e. nat_le x (later e.0)) (pairs q (p
 abbrev pub part : Tree → ℕ → List Row → ℕ → ℕ → Part
 part q i xs x y = by_shape q.shape
     (row_part q (inside (frame q) i xs x y))
-    (group_part q (passing q (inside (frame q) i xs x y)))
+    (group_part q (passing_values q (inside (frame q) i xs x y)))
     (pair_part q x (inside (frame q) i xs 0 y))
 
 -- ---- the merge

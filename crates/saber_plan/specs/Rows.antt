@@ -141,9 +141,9 @@ abbrev pub start : Place
 start = record { lines = 0; high = None; accepted = [] }
 
 -- the greatest timestamp, with one more
-abbrev pub raised : Option ℕ → ℕ → ℕ
-raised None t = t
-raised (Some high) t = max high t
+abbrev pub raised_time : Option ℕ → ℕ → ℕ
+raised_time None t = t
+raised_time (Some high) t = max high t
 
 -- below the greatest timestamp by more than the slack
 abbrev pub late : ℕ → Option ℕ → List ℤ → Bool
@@ -162,28 +162,28 @@ in_time r (x ∷ xs) = if nat_lt (stamp r.values) (stamp x.values) then r ∷ x 
 
 -- one row more
 abbrev pub accept : SideRules → Place → List ℤ → Place
-accept s p zs = record { lines = p.lines + 1; high = Some (raised p.high (stamp zs)); accepted = in_time (record { side = s.side; values = zs }) p.accepted }
+accept s p zs = record { lines = p.lines + 1; high = Some (raised_time p.high (stamp zs)); accepted = in_time (record { side = s.side; values = zs }) p.accepted }
 
 abbrev pub due : SideRules → Place → List Row
 due s p = filter (is_due s.slack p.high) p.accepted
 
 -- those that are not due
-abbrev pub waiting : SideRules → Place → List Row
-waiting s p = filter (λ r. not (is_due s.slack p.high r)) p.accepted
+abbrev pub waiting_rows : SideRules → Place → List Row
+waiting_rows s p = filter (λ r. not (is_due s.slack p.high r)) p.accepted
 
 -- with one row more, more rows would wait than there is room for
 abbrev pub crowds : SideRules → Place → List ℤ → Bool
-crowds s p zs = nat_lt s.room (length (waiting s (accept s p zs)))
+crowds s p zs = nat_lt s.room (length (waiting_rows s (accept s p zs)))
 
 -- a judged line at its place: a row must not be late, and there must be room for it
-abbrev pub timed : SideRules → Place → Judged → Judged
-timed s p skipped = skipped
-timed s p (taken zs) = if late s.slack p.high zs then refused TimeOrder else (if crowds s p zs then refused TooManyHeld else taken zs)
-timed s p (refused c) = refused c
+abbrev pub timed_line : SideRules → Place → Judged → Judged
+timed_line s p skipped = skipped
+timed_line s p (taken zs) = if late s.slack p.high zs then refused TimeOrder else (if crowds s p zs then refused TooManyHeld else taken zs)
+timed_line s p (refused c) = refused c
 
 -- the next line, with this content
 abbrev pub judge_at : SideRules → Place → List ℕ → Judged
-judge_at s p content = timed s p (judge s.columns s.most (p.lines + 1) content)
+judge_at s p content = timed_line s p (judge s.columns s.most (p.lines + 1) content)
 
 -- what follows a line, from what the lines after it give; before a line that is refused stand all accepted rows
 abbrev pub after_line : SideRules → Place → Judged → (Place → Read) → Read

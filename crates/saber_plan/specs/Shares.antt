@@ -9,8 +9,8 @@ use Rattle.saber_plan.specs.declared.windows.Kind.{Kind}
 use Rattle.saber_plan.specs.declared.windows.Kind.TheVariants.{Opening, Closing, Pending, Complete}
 use Rattle.saber_plan.specs.Trees.{Tree}
 use Rattle.saber_plan.specs.Inputs.{Input}
-use Rattle.saber_plan.specs.Windows.{Frame, has, placed_after, mark_after, ending, mark_at, closed_count, begun_count, kind_of, from}
-use Rattle.saber_plan.specs.Answers.{by_shape, by_frame, frame, lines, passing, selected}
+use Rattle.saber_plan.specs.Windows.{Frame, has, placed_after, mark_after, end_mark, mark_at, closed_count, begun_count, kind_of, from}
+use Rattle.saber_plan.specs.Answers.{by_shape, by_frame, frame, lines, passing_values, selected_lines}
 use Rattle.saber_plan.specs.Parts.{Part, part, row_part, group_part, pair_part, part_lines}
 
 -- ---- parts by window
@@ -20,8 +20,8 @@ abbrev pub full : Part → Option Part
 full p = if len p == 0 then None else Some p
 
 -- those of the numbers from a, n of them, that have something
-abbrev pub numbered : {X : Type 0} → ℕ → ℕ → (ℕ → Option X) → List (ℕ × X)
-numbered a n f = filter_map (λ i. option_map (λ x. (i, x)) (f i)) (from a n)
+abbrev pub numbered_list : {X : Type 0} → ℕ → ℕ → (ℕ → Option X) → List (ℕ × X)
+numbered_list a n f = filter_map (λ i. option_map (λ x. (i, x)) (f i)) (from a n)
 
 abbrev pub Parts : Type 0
 Parts = FinMap nat_cmp Part
@@ -69,7 +69,7 @@ unfoldable pub of_kind : (Option Kind → Bool) → Frame → Mark → Mark → 
 of_kind wanted f a b part =
     let c = closed_count f a in
     let g = begun_count f b in
-    numbered c (g - c) (λ i. if wanted (kind_of f i a b) then full (part i) else None)
+    numbered_list c (g - c) (λ i. if wanted (kind_of f i a b) then full (part i) else None)
 
 -- the windows that lie whole in those rows
 abbrev complete : Frame → Mark → Mark → List ℕ
@@ -110,29 +110,29 @@ handed_by q a b part = record {
 unfoldable pub part_here : Tree → ℕ → Mark → List Row → List Row → Part
 part_here q i m back rows = by_shape q.shape
     (row_part q (filter (has (frame q) i) (placed_after (mark_after m back) rows)))
-    (group_part q (passing q (filter (has (frame q) i) (placed_after (mark_after m back) rows))))
+    (group_part q (passing_values q (filter (has (frame q) i) (placed_after (mark_after m back) rows))))
     (pair_part q (m.left + m.right + length back) (filter (has (frame q) i) (placed_after m (back ++ rows))))
 
 -- from a task's rows and those that it looks back on, behind a mark, and whether the input ends behind them
 unfoldable pub shares_here : Tree → Mark → List Row → List Row → Bool → Shares
 shares_here q m back rows ended =
     let a = mark_after m back in
-    let b = ending ended (mark_after a rows) in
+    let b = end_mark ended (mark_after a rows) in
     let part_of = λ (i : ℕ). part_here q i m back rows in
-    shares_by q a b part_of (λ i. part_lines q i (part_of i)) (selected q rows)
+    shares_by q a b part_of (λ i. part_lines q i (part_of i)) (selected_lines q rows)
 
 -- from the whole input, from position x up to y
 unfoldable pub shares_between : Tree → Input → ℕ → ℕ → Shares
 shares_between q r x y =
     let part_between = λ (i : ℕ). part q i r.rows x y in
     let lines_upto = λ (i : ℕ). lines q i (take y r.rows) in
-    shares_by q (mark_at r x) (mark_at r y) part_between lines_upto (selected q (slice_range r.rows x y))
+    shares_by q (mark_at r x) (mark_at r y) part_between lines_upto (selected_lines q (slice_range r.rows x y))
 
 -- and what is handed on
 unfoldable pub handed_here : Tree → Mark → List Row → List Row → Bool → Shares
 handed_here q m back rows ended =
     let a = mark_after m back in
-    handed_by q a (ending ended (mark_after a rows)) (λ i. part_here q i m back rows)
+    handed_by q a (end_mark ended (mark_after a rows)) (λ i. part_here q i m back rows)
 
 unfoldable pub handed_between : Tree → Input → ℕ → ℕ → Shares
 handed_between q r x y = handed_by q (mark_at r x) (mark_at r y) (λ i. part q i r.rows x y)

@@ -2,7 +2,7 @@
 use Rattle.std.specs.Prelude.{◌≤◌, ◌^◌, ℕ}
 use Rattle.saber_plan.specs.declared.sizes.Sizes.{Sizes}
 
--- a task has 1 to 65,536 rows, the ring 1 to 1,024 slots; up to 64 threads work beside the caller; a file
+-- a task has 1 to 65,536 rows, the ring 1 to 1,024 cells; up to 64 threads work beside the caller; a file
 -- has 1 to 2^40 lines, and timestamps that fall by at most 2^40
 pub record SizesFit (s : Sizes) : Type 0 where
   pub task : (1 ≤ s.task) × (s.task ≤ 2 ^ 16)

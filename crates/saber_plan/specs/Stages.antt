@@ -6,7 +6,7 @@ use Rattle.saber_plan.specs.Answers.{text, frame}
 use Rattle.saber_plan.specs.GivenRows.{RowsFit}
 use Rattle.saber_plan.specs.Windows.{Fits, no_rows}
 use Rattle.saber_plan.specs.Tasks.{Kept, upto, kept_behind}
-use Rattle.saber_plan.specs.Outputs.{Rose, appended}
+use Rattle.saber_plan.specs.Outputs.{Rose, appended_text}
 use Rattle.saber_plan.specs.Runs.{IsCut}
 use Rattle.saber_plan.specs.declared.stages.StageState.{StageState}
 use Rattle.saber_plan.specs.declared.stages.StageState.TheVariants.{Running, SinkFailed, NoMemory}
@@ -33,15 +33,15 @@ pub record Start : Type 0 where
 -- that much is written, where the sink tells
 pub record IsCutOff (q : Tree) (n : ℕ) (r : Input) (k : ℕ) (start written : Option (List ℕ)) : Type 0 where
   pub out : List ℕ
-  pub written_is : written ≡ appended start out
+  pub written_is : written ≡ appended_text start out
   pub is_cut : IsCut q n r k out
 
 -- The stage has k tasks of n rows behind it: while it runs, the text of their rows is written, and what is to be kept of them is kept;
 -- where the sink failed, a prefix of the next task's text is out too, and the count of faults rose, which it else did not; where memory lacked, nothing more is out.
 abbrev pub After : Tree → ℕ → Input → Start → StageView → StageState → Type 0
-After q n r start s Running = (s.written ≡ appended start.written (text q (upto n r s.k))) × (s.kept ≡ kept_behind q (upto n r s.k)) × (s.faults ≡ start.faults)
+After q n r start s Running = (s.written ≡ appended_text start.written (text q (upto n r s.k))) × (s.kept ≡ kept_behind q (upto n r s.k)) × (s.faults ≡ start.faults)
 After q n r start s SinkFailed = IsCutOff q n r s.k start.written s.written × Rose start.faults s.faults × (start.faults ≤ s.faults)
-After q n r start s NoMemory = (s.written ≡ appended start.written (text q (upto n r s.k))) × (s.faults ≡ start.faults)
+After q n r start s NoMemory = (s.written ≡ appended_text start.written (text q (upto n r s.k))) × (s.faults ≡ start.faults)
 
 -- What the stage keeps of a run: where it stands, and while it goes on what its store knows of the input of the tasks behind it.
 pub record Keeps (q : Tree) (n : ℕ) (r : Input) (start : Start) (taken : Input → Type 0) (s : StageView) : Type 0 where

@@ -5,13 +5,13 @@ use Rattle.std.specs.FinMap.{FinMap, len, empty, entries, from_entries, retain_k
 use Rattle.saber_plan.specs.declared.rows.Row.{Row}
 use Rattle.saber_plan.specs.Trees.{Tree}
 use Rattle.saber_plan.specs.Rows.{Read, End, all_read, cut as unfinished, bad}
-use Rattle.saber_plan.specs.Inputs.{Input, arrived}
+use Rattle.saber_plan.specs.Inputs.{Input, first_arrivals}
 use Rattle.saber_plan.specs.Windows.{has_windows, Fits, Ordered, no_rows, last_mark, mark_at, closed_count, begun_count, from}
-use Rattle.saber_plan.specs.Answers.{text, frame, key_cmp, Answers, Change, window_answers, before_window, change_lines, lines_from, selected, by_frame, list_of, lists_in, substream, closed_in_turn, closed_at_last, alike, way, by_way}
+use Rattle.saber_plan.specs.Answers.{text, frame, key_cmp, Answers, Change, window_answers, before_window, change_lines, lines_from, selected_lines, by_frame, list_of, lists_in, substream, closed_in_turn, closed_at_last, alike, way, by_way}
 use Rattle.saber_plan.specs.Merges.{both}
 use Rattle.saber_plan.specs.Parts.{part, part_lines, merge}
 use Rattle.saber_plan.specs.Shares.{shares_between, piece_in}
-pub use Rattle.saber_plan.specs.Shares.{full, numbered, Parts, is_complete, Piece}
+pub use Rattle.saber_plan.specs.Shares.{full, numbered_list, Parts, is_complete, Piece}
 
 -- ---- tasks of n rows
 
@@ -25,12 +25,12 @@ abbrev pub row_tasks : ℕ → Input → ℕ
 row_tasks n r = div_ceil (length r.rows) n
 
 -- Where task k begins. The input's end is the only arrival of a task behind those with rows: the flush task.
-abbrev pub cut : ℕ → Input → ℕ → ℕ
-cut n r k = if r.ended && nat_lt (row_tasks n r) k then suc (length r.rows) else min (k * n) (length r.rows)
+abbrev pub task_start : ℕ → Input → ℕ → ℕ
+task_start n r k = if r.ended && nat_lt (row_tasks n r) k then suc (length r.rows) else min (k * n) (length r.rows)
 
 -- the arrivals of the tasks before task k
 abbrev pub upto : ℕ → Input → ℕ → Input
-upto n r k = arrived r (cut n r k)
+upto n r k = first_arrivals r (task_start n r k)
 
 -- how many tasks there are
 abbrev pub task_count : ℕ → Input → ℕ
@@ -46,7 +46,7 @@ run_input q flush read = record { rows = read.rows; ended = flush && is_all_read
 unfoldable pub unclosed : Tree → Input → Parts
 unclosed q r =
     let m = last_mark r in
-    from_entries (numbered (closed_count (frame q) m) (begun_count (frame q) m - closed_count (frame q) m) (λ i. full (part q i r.rows 0 (length r.rows))))
+    from_entries (numbered_list (closed_count (frame q) m) (begun_count (frame q) m - closed_count (frame q) m) (λ i. full (part q i r.rows 0 (length r.rows))))
 
 -- those of each key list that has some, where its rows are a stream by themselves
 abbrev pub ListParts : Type 0
@@ -88,7 +88,7 @@ closed_at q r x = closed_count (frame q) (mark_at r x)
 
 -- the lines of the windows that they close, or of their rows
 abbrev pub plain_added : Tree → Input → ℕ → ℕ → List ℕ
-plain_added q r x y = by_frame q (selected q (slice_range r.rows x y)) (lines_from q (take y r.rows) (closed_at q r x) (closed_at q r y))
+plain_added q r x y = by_frame q (selected_lines q (slice_range r.rows x y)) (lines_from q (take y r.rows) (closed_at q r x) (closed_at q r y))
 
 -- what those windows gain or lose
 abbrev pub change_added : Change → Tree → Input → ℕ → ℕ → List ℕ
@@ -98,10 +98,10 @@ change_added change q r x y = flat_map (change_lines change q (take y r.rows)) (
 abbrev pub list_added : Tree → Input → ℕ → ℕ → List ℕ
 list_added q r x y =
     closed_in_turn q (take x r.rows) (slice_range r.rows x y)
-    ++ (if not (arrived r x).ended && (arrived r y).ended then closed_at_last q r.rows else [])
+    ++ (if not (first_arrivals r x).ended && (first_arrivals r y).ended then closed_at_last q r.rows else [])
 
-unfoldable pub added : Tree → Input → ℕ → ℕ → List ℕ
-added q r x y = by_way (way q) (plain_added q r x y) (list_added q r x y) (λ change. change_added change q r x y)
+unfoldable pub added_text : Tree → Input → ℕ → ℕ → List ℕ
+added_text q r x y = by_way (way q) (plain_added q r x y) (list_added q r x y) (λ change. change_added change q r x y)
 
 -- ---- where rows stand in their substreams
 
@@ -125,7 +125,7 @@ piece_between q r x y = piece_in (shares_between q r x y)
 
 -- what task t gives
 abbrev pub piece : Tree → ℕ → Input → ℕ → Piece
-piece q n r t = piece_between q r (cut n r t) (cut n r (t + 1))
+piece q n r t = piece_between q r (task_start n r t) (task_start n r (t + 1))
 
 -- ---- assembly
 

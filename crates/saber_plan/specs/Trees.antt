@@ -30,13 +30,13 @@ mutual
     no_other : Tests
     either : Both → Tests → Tests
 
-abbrev pub joined : List Test → Both
-joined [] = no_more
-joined (t ∷ ts) = both t (joined ts)
+abbrev pub joined_tests : List Test → Both
+joined_tests [] = no_more
+joined_tests (t ∷ ts) = both t (joined_tests ts)
 
-abbrev pub chosen : List Both → Tests
-chosen [] = no_other
-chosen (b ∷ bs) = either b (chosen bs)
+abbrev pub chosen_tests : List Both → Tests
+chosen_tests [] = no_other
+chosen_tests (b ∷ bs) = either b (chosen_tests bs)
 
 abbrev unit_step : Unit-F Test Both Tests → Test
 unit_step (open_unit.Not t) = negated t.value
@@ -45,14 +45,14 @@ unit_step (open_unit.Compare x c y) = compare x c y
 
 -- a unit's tree, and that of units joined by AND
 abbrev pub test_of : Unit_tree → Test
-test_of = fold-Unit Test Both Tests unit_step (λ c. joined c.units.items) (λ p. chosen p.conjs.items)
+test_of = fold-Unit Test Both Tests unit_step (λ c. joined_tests c.units.items) (λ p. chosen_tests p.conjs.items)
 
 abbrev pub both_of : Conj → Both
-both_of = fold-Conj Test Both Tests unit_step (λ c. joined c.units.items) (λ p. chosen p.conjs.items)
+both_of = fold-Conj Test Both Tests unit_step (λ c. joined_tests c.units.items) (λ p. chosen_tests p.conjs.items)
 
 -- a predicate's tree
 abbrev pub tests_of : Pred → Tests
-tests_of = fold-Pred Test Both Tests unit_step (λ c. joined c.units.items) (λ p. chosen p.conjs.items)
+tests_of = fold-Pred Test Both Tests unit_step (λ c. joined_tests c.units.items) (λ p. chosen_tests p.conjs.items)
 
 pub record Tree : Type 0 where
   pub shape : Shape

@@ -18,11 +18,11 @@ abbrev pub factor_value : (Side → ℕ → ℤ) → Factor → ℤ
 factor_value at (Column side k) = at side k
 factor_value at (Constant z) = z
 
-abbrev pub signed : Bool → ℤ → ℤ
-signed minus z = if minus then neg_ℤ z else z
+abbrev pub signed_value : Bool → ℤ → ℤ
+signed_value minus z = if minus then neg_ℤ z else z
 
 abbrev pub product_value : (Side → ℕ → ℤ) → Product → ℤ
-product_value at p = signed p.minus (fold (λ z f. z *ℤ factor_value at f) (pos 1) p.factors)
+product_value at p = signed_value p.minus (fold (λ z f. z *ℤ factor_value at f) (pos 1) p.factors)
 
 -- the value of an expression
 unfoldable pub value_at : (Side → ℕ → ℤ) → List Product → ℤ

@@ -11,7 +11,7 @@ use Rattle.saber_plan.specs.declared.windows.Mark.{Mark}
 use Rattle.saber_plan.specs.declared.windows.Kind.{Kind}
 use Rattle.saber_plan.specs.declared.windows.Kind.TheVariants.{Opening, Closing, Pending, Complete}
 use Rattle.saber_plan.specs.Rows.{stamp}
-use Rattle.saber_plan.specs.Inputs.{Input, arrived}
+use Rattle.saber_plan.specs.Inputs.{Input, first_arrivals}
 
 abbrev pub by_side : {X : Type 0} → Side → X → X → X
 by_side Left x y = x
@@ -53,20 +53,20 @@ abbrev pub mark_of : List Row → Mark
 mark_of xs = mark_after no_rows xs
 
 -- the same, with the input's end here if it comes here
-abbrev pub ending : Bool → Mark → Mark
-ending e m = record { left = m.left; right = m.right; last = m.last; ended = e || m.ended }
+abbrev pub end_mark : Bool → Mark → Mark
+end_mark e m = record { left = m.left; right = m.right; last = m.last; ended = e || m.ended }
 
 -- what is behind an input, and behind its first x arrivals
 abbrev pub last_mark : Input → Mark
-last_mark r = ending r.ended (mark_of r.rows)
+last_mark r = end_mark r.ended (mark_of r.rows)
 
 abbrev pub mark_at : Input → ℕ → Mark
-mark_at r x = last_mark (arrived r x)
+mark_at r x = last_mark (first_arrivals r x)
 
 -- the last timestamp is at least t
-abbrev pub reached : Option ℤ → ℕ → Bool
-reached None t = false
-reached (Some z) t = nat_le t (nat_abs z)
+abbrev pub is_reached : Option ℤ → ℕ → Bool
+is_reached None t = false
+is_reached (Some z) t = nat_le t (nat_abs z)
 
 -- a row does not come before the last one
 abbrev pub in_order : Option ℤ → ℕ → Bool
@@ -115,28 +115,28 @@ unfoldable pub placed_after : Mark → List Row → List Placed
 placed_after m [] = []
 placed_after m (x ∷ xs) = record { row = x; before = m } ∷ placed_after (step_mark m x) xs
 
-abbrev pub placed : List Row → List Placed
-placed xs = placed_after no_rows xs
+abbrev pub placed_from_start : List Row → List Placed
+placed_from_start xs = placed_after no_rows xs
 
 -- the rows from position x up to y that lie in window i of their side
 abbrev pub inside : Frame → ℕ → List Row → ℕ → ℕ → List Placed
-inside f i xs x y = filter (has f i) (slice_range (placed xs) x y)
+inside f i xs x y = filter (has f i) (slice_range (placed_from_start xs) x y)
 
 -- window i is begun by rows with this mark
 abbrev pub begun : Frame → ℕ → Mark → Bool
 begun unwindowed i m = false
 begun (one Rows slide size) i m = nat_lt (i * slide) m.left
-begun (one Range slide size) i m = reached m.last (i * slide)
+begun (one Range slide size) i m = is_reached m.last (i * slide)
 begun (two Rows slide left right) i m = nat_lt (i * slide) m.left || nat_lt (i * slide) m.right
-begun (two Range slide left right) i m = reached m.last (i * slide)
+begun (two Range slide left right) i m = is_reached m.last (i * slide)
 
 -- its rows are past: all of them came, or a row behind them
 abbrev pub past : Frame → ℕ → Mark → Bool
 past unwindowed i m = false
 past (one Rows slide size) i m = nat_le (i * slide + size) m.left
-past (one Range slide size) i m = reached m.last (i * slide + size)
+past (one Range slide size) i m = is_reached m.last (i * slide + size)
 past (two Rows slide left right) i m = nat_le (i * slide + left) m.left && nat_le (i * slide + right) m.right
-past (two Range slide left right) i m = reached m.last (i * slide + max left right)
+past (two Range slide left right) i m = is_reached m.last (i * slide + max left right)
 
 -- it is closed: its rows are past, or it was begun when the input ended
 abbrev pub closed : Frame → ℕ → Mark → Bool

@@ -64,18 +64,18 @@ impl Unit {
 
 impl Conj {
     ghost use Rattle.std.specs.Prelude.{◌≡◌, map};
-    ghost use Rattle.saber_plan.specs.Trees.{test_of, both_of, joined};
+    ghost use Rattle.saber_plan.specs.Trees.{test_of, both_of, joined_tests};
 
     /// These units, joined by AND.
     pub fn from_vec(units: Vec<Unit>) -> Conj
-        ensures { both_of result ≡ joined (map test_of units.items) }
+        ensures { both_of result ≡ joined_tests (map test_of units.items) }
     {
         Conj { units }
     }
 
     /// The units in order.
     pub fn as_slice(&self) -> &[Unit]
-        ensures { joined (map test_of result.now) ≡ both_of self.now }
+        ensures { joined_tests (map test_of result.now) ≡ both_of self.now }
     {
         &self.units
     }
@@ -83,18 +83,18 @@ impl Conj {
 
 impl Pred {
     ghost use Rattle.std.specs.Prelude.{◌≡◌, map};
-    ghost use Rattle.saber_plan.specs.Trees.{both_of, tests_of, chosen};
+    ghost use Rattle.saber_plan.specs.Trees.{both_of, tests_of, chosen_tests};
 
     /// These, joined by OR.
     pub fn from_vec(conjs: Vec<Conj>) -> Pred
-        ensures { tests_of result ≡ chosen (map both_of conjs.items) }
+        ensures { tests_of result ≡ chosen_tests (map both_of conjs.items) }
     {
         Pred { conjs }
     }
 
     /// What OR joins, in order.
     pub fn as_slice(&self) -> &[Conj]
-        ensures { chosen (map both_of result.now) ≡ tests_of self.now }
+        ensures { chosen_tests (map both_of result.now) ≡ tests_of self.now }
     {
         &self.conjs
     }

@@ -6,7 +6,7 @@
 pub struct Sizes {
     /// Rows of a task, 1 to 65,536.
     pub task: u32,
-    /// Slots of the ring, 1 to 1,024: so many tasks at most are on their way at once.
+    /// Cells of the ring, 1 to 1,024: so many tasks at most are on their way at once.
     pub ring: u32,
     /// Threads that are started beside the caller's, 0 to 64.
     pub threads: u32,

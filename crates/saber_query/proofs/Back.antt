@@ -15,7 +15,7 @@ use Rattle.saber_query.specs.declared.tree.Cmp.TheVariants as c
 use Rattle.saber_query.specs.declared.tree.Decl.{Decl}
 use Rattle.saber_query.specs.Trees.{negated, enclosed, compare, no_more, and_also, no_other, or_else, Asked, Query, where_depth, depth}
 use Rattle.saber_query.specs.Words.{expr_words, cmp_sign, measure_words, item_words, items_words, decl_words, decls_words, source_words, second_source_words, where_words, last_words, words, names_words, column_words, columns_words, stream_keyword, asked_words, body_words}
-use Rattle.saber_query.specs.Machine.{Symbol, declared, chosen, worded, start, open_sign, close_sign, star_sign, from_word, slide_word, close_bracket, a_name, a_number, comparison, measure, factor, more_column, more_factors, more_terms, item, more_items, unit, more_ands, more_ors, a_window, a_where, a_semicolon, rows_word, select_word, by_word, semicolon_sign, decl, more_decls, more_names, source, a_second, column, more_columns, a_group, body, Push, takes, too_deep, refuses, push, may_lack, all_may_lack, pushed, move}
+use Rattle.saber_query.specs.Machine.{Symbol, declaration_symbols, select_symbols, word_symbols, start, open_sign, close_sign, star_sign, from_word, slide_word, close_bracket, a_name, a_number, comparison, measure, factor, more_column, more_factors, more_terms, item, more_items, unit, more_ands, more_ors, a_window, a_where, a_semicolon, rows_word, select_word, by_word, semicolon_sign, decl, more_decls, more_names, source, a_second, column, more_columns, a_group, body, Push, takes, too_deep, refuses, push, may_lack, all_may_lack, push_result, move}
 use Rattle.saber_query.specs.Tokens.{keyword_among}
 use Rattle.saber_query.specs.Real.{IsReal, AllReal}
 use Rattle.saber_query.specs.Parts.{Part, part_words, Means}
@@ -61,7 +61,7 @@ unit_from d t xs ts m =
     to_unit d xs (t ∷ ts) (to_expr ys (t ∷ ts) (back_factor t (more_factors ∷ more_terms ∷ ys) ts m))
 
 -- a declaration in front
-to_decl : (xs : List Symbol) (ts : List Token) → Means (declared ++ xs) ts → (d : Decl) × (r : List Token) × (Word k.Stream ∷ ts ≡ decl_words d ++ r) × Means xs r
+to_decl : (xs : List Symbol) (ts : List Token) → Means (declaration_symbols ++ xs) ts → (d : Decl) × (r : List Token) × (Word k.Stream ∷ ts ≡ decl_words d ++ r) × Means xs r
 to_decl xs ts (n, r1, e1, (u, r2, e2, (f, r3, e3, (ns, r4, e4, (v, r5, e5, (w, r6, e6, m)))))) = (
   record { name = n; first = f; more = ns },
   r6,
@@ -74,7 +74,7 @@ append_nil [] = refl
 append_nil (t ∷ ts) = ap (λ z. t ∷ z) (append_nil ts)
 
 -- what is asked in front
-to_asked : (d : ℕ) (xs : List Symbol) (ts : List Token) → Means (chosen d ++ xs) ts → (a : Asked) × (r : List Token) × (where_depth a.predicate ≤ d) × (Word k.Select ∷ ts ≡ asked_words a ++ r) × Means xs r
+to_asked : (d : ℕ) (xs : List Symbol) (ts : List Token) → Means (select_symbols d ++ xs) ts → (a : Asked) × (r : List Token) × (where_depth a.predicate ≤ d) × (Word k.Select ∷ ts ≡ asked_words a ++ r) × Means xs r
 to_asked d xs ts (i, r1, e1, (j, r2, e2, (u, r3, e3, (f, r4, e4, (o, r5, e5, ((p, h), r6, e6, (g, r7, e7, m))))))) = (
   record { item = i; items = j; from = f; second = o; predicate = p; group = g },
   r7,
@@ -84,12 +84,12 @@ to_asked d xs ts (i, r1, e1, (j, r2, e2, (u, r3, e3, (f, r4, e4, (o, r5, e5, ((p
   m,
 )
 
-to_bare : (d : ℕ) (xs : List Symbol) (ts : List Token) → Means (chosen d ++ xs) ts → Means (body d ∷ xs) (Word k.Select ∷ ts)
+to_bare : (d : ℕ) (xs : List Symbol) (ts : List Token) → Means (select_symbols d ++ xs) ts → Means (body d ∷ xs) (Word k.Select ∷ ts)
 to_bare d xs ts m =
     let (a, r, h, e, m') = to_asked d xs ts m in
     ((None, a, h), r, e ∙ ap (λ z. z ++ r) (sym (append_nil (asked_words a))), m')
 
-to_worded : (w : StreamWord) (d : ℕ) (xs : List Symbol) (ts : List Token) → Means (worded d ++ xs) ts → Means (body d ∷ xs) (Word (stream_keyword w) ∷ ts)
+to_worded : (w : StreamWord) (d : ℕ) (xs : List Symbol) (ts : List Token) → Means (word_symbols d ++ xs) ts → Means (body d ∷ xs) (Word (stream_keyword w) ∷ ts)
 to_worded w d xs ts (u, r1, e1, (v, r2, e2, m)) =
     let (a, r, h, e, (u', r', e', m')) = to_asked d (close_sign ∷ xs) r2 m in
     ((Some w, a, h), r', ap (λ z. Word (stream_keyword w) ∷ z) (e1 ∙ ap (λ z. Mark s.Open ∷ z) (join r1 (asked_words a) r (Mark s.Close ∷ []) r' (e2 ∙ e) e')), m')
@@ -199,7 +199,7 @@ Behind too_deep ts = ⊥
 Behind refuses ts = ⊥
 
 back_pushed : (x : Symbol) (xs : List Symbol) (us ts : List Token) (p : Push) (lacks : Bool) (other : Push) → (Onto p xs ts → Means (x ∷ xs) us) → (lacks ≡ true → Behind other ts → Means (x ∷ xs) us) →
-    Behind (pushed p lacks xs other) ts → Means (x ∷ xs) us
+    Behind (push_result p lacks xs other) ts → Means (x ∷ xs) us
 back_pushed x xs us ts (takes ys) lacks other f g h = f h
 back_pushed x xs us ts too_deep lacks other f g h = absurd h
 back_pushed x xs us ts refuses true other f g h = g refl h

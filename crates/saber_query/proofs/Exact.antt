@@ -8,7 +8,7 @@ use Rattle.saber_query.specs.Trees.{Query, depth}
 use Rattle.saber_query.specs.Real.{AllReal}
 use Rattle.saber_query.specs.Words.{words, Begins, Unfit, Opens, IsSyntax, IsDeep}
 use Rattle.saber_query.specs.Reading.{StopsWith}
-use Rattle.saber_query.specs.Machine.{Symbol, open_sign, close_sign, star_sign, from_word, slide_word, close_bracket, a_name, a_number, comparison, measure, factor, more_column, more_factors, more_terms, item, more_items, unit, more_ands, more_ors, a_window, a_where, a_semicolon, rows_word, select_word, by_word, semicolon_sign, decl, more_decls, more_names, source, a_second, column, more_columns, a_group, body, Push, takes, too_deep, refuses, push, may_lack, all_may_lack, pushed, move, Fate, fits, stops, deepens, moved, fate, start}
+use Rattle.saber_query.specs.Machine.{Symbol, open_sign, close_sign, star_sign, from_word, slide_word, close_bracket, a_name, a_number, comparison, measure, factor, more_column, more_factors, more_terms, item, more_items, unit, more_ands, more_ors, a_window, a_where, a_semicolon, rows_word, select_word, by_word, semicolon_sign, decl, more_decls, more_names, source, a_second, column, more_columns, a_group, body, Push, takes, too_deep, refuses, push, may_lack, all_may_lack, push_result, move, Fate, fits, stops, deepens, fate_after, fate, start}
 use Rattle.saber_query.specs.Parts.{Means}
 use Rattle.saber_query.proofs.Back.{Behind, back_move, some_words, all_lack, to_query}
 use Rattle.saber_query.proofs.Forth.{words_fit}
@@ -208,16 +208,16 @@ map_append : (xs ys : List Symbol) → map deeper (xs ++ ys) ≡ map deeper xs +
 map_append [] ys = refl
 map_append (x ∷ xs) ys = ap (λ z. deeper x ∷ z) (map_append xs ys)
 
-deeper_pushed : (p p' : Push) (lacks : Bool) (xs : List Symbol) (o o' : Push) → Deepened p p' → Deepened o o' → Deepened (pushed p lacks xs o) (pushed p' lacks (map deeper xs) o')
-deeper_pushed (takes ys) p' lacks xs o o' e h = ap (λ q. pushed q lacks (map deeper xs) o') e ∙ ap takes (sym (map_append ys xs))
-deeper_pushed too_deep p' lacks xs o o' (zs, e) h = (zs ++ map deeper xs, ap (λ q. pushed q lacks (map deeper xs) o') e)
-deeper_pushed refuses p' true xs o o' e h = let P : Push → Type 0 = λ q. Deepened o (pushed q true (map deeper xs) o') in subst P (sym e) h
-deeper_pushed refuses p' false xs o o' e h = ap (λ q. pushed q false (map deeper xs) o') e
+deeper_pushed : (p p' : Push) (lacks : Bool) (xs : List Symbol) (o o' : Push) → Deepened p p' → Deepened o o' → Deepened (push_result p lacks xs o) (push_result p' lacks (map deeper xs) o')
+deeper_pushed (takes ys) p' lacks xs o o' e h = ap (λ q. push_result q lacks (map deeper xs) o') e ∙ ap takes (sym (map_append ys xs))
+deeper_pushed too_deep p' lacks xs o o' (zs, e) h = (zs ++ map deeper xs, ap (λ q. push_result q lacks (map deeper xs) o') e)
+deeper_pushed refuses p' true xs o o' e h = let P : Push → Type 0 = λ q. Deepened o (push_result q true (map deeper xs) o') in subst P (sym e) h
+deeper_pushed refuses p' false xs o o' e h = ap (λ q. push_result q false (map deeper xs) o') e
 
 deeper_move : (xs : List Symbol) (t : Token) → Deepened (move xs t) (move (map deeper xs) t)
 deeper_move [] t = refl
 deeper_move (x ∷ xs) t =
-    let P : Bool → Type 0 = λ b. Deepened (pushed (push x t) (may_lack x) xs (move xs t)) (pushed (push (deeper x) t) b (map deeper xs) (move (map deeper xs) t)) in
+    let P : Bool → Type 0 = λ b. Deepened (push_result (push x t) (may_lack x) xs (move xs t)) (push_result (push (deeper x) t) b (map deeper xs) (move (map deeper xs) t)) in
     subst P (sym (deeper_lacks x)) (deeper_pushed (push x t) (push (deeper x) t) (may_lack x) xs (move xs t) (move (map deeper xs) t) (deeper_push x t) (deeper_move xs t))
 
 -- ---- what goes too deep
@@ -270,7 +270,7 @@ push_opens (a_where d) t e = absurd (where_stays d t e)
 push_opens (body d) t e = absurd (body_stays d t e)
 push_opens x t e = plain_stays x t refl e
 
-pushed_opens : (p : Push) (lacks : Bool) (xs : List Symbol) (o : Push) (t : Token) → (p ≡ too_deep → Opens t) → (o ≡ too_deep → Opens t) → pushed p lacks xs o ≡ too_deep → Opens t
+pushed_opens : (p : Push) (lacks : Bool) (xs : List Symbol) (o : Push) (t : Token) → (p ≡ too_deep → Opens t) → (o ≡ too_deep → Opens t) → push_result p lacks xs o ≡ too_deep → Opens t
 pushed_opens (takes ys) lacks xs o t f g e = cc
 pushed_opens too_deep lacks xs o t f g e = f refl
 pushed_opens refuses true xs o t f g e = g e
@@ -332,7 +332,7 @@ go xs xs' ys t taken e path n =
     let e' = raised_takes n xs xs' t e in
     record {
       back = λ z m. back_move (raised n xs) t (taken ++ z) (let P : Push → Type 0 = λ p. Behind p (taken ++ z) in subst P (sym e') ((path n).back z m));
-      same = λ z. ap (λ p. moved p (t ∷ (taken ++ z)) (λ us. fate us (taken ++ z))) e' ∙ (path n).same z;
+      same = λ z. ap (λ p. fate_after p (t ∷ (taken ++ z)) (λ us. fate us (taken ++ z))) e' ∙ (path n).same z;
     }
 
 abbrev AtEnd : Bool → List Symbol → List Token → Type 0
@@ -374,7 +374,7 @@ walk [] xs = at_end (all_may_lack xs) refl where
   at_end true e = all_lack xs e
   at_end false e = record { taken = []; ys = xs; split = refl; path = stay xs; at = e }
 walk (t ∷ ts) xs = by_move (λ ys. walk ts ys) (move xs t) refl where
-  by_move : ((ys : List Symbol) → Walk ys ts (fate ys ts)) → (p : Push) → move xs t ≡ p → Walk xs (t ∷ ts) (moved p (t ∷ ts) (λ us. fate us ts))
+  by_move : ((ys : List Symbol) → Walk ys ts (fate ys ts)) → (p : Push) → move xs t ≡ p → Walk xs (t ∷ ts) (fate_after p (t ∷ ts) (λ us. fate us ts))
   by_move next (takes xs') e = extend xs xs' t ts (fate xs' ts) e (next xs')
   by_move next too_deep e = record { taken = []; ys = xs; split = refl; path = stay xs; at = e }
   by_move next refuses e = record { taken = []; ys = xs; split = refl; path = stay xs; at = e }
@@ -408,11 +408,11 @@ deepens_not_fits w r e e' = cc
 
 stops_by : (xs : List Symbol) (t : Token) (ts : List Token) → move xs t ≡ refuses → fate xs (t ∷ ts) ≡ stops (t ∷ ts)
 unfolding fate
-stops_by xs t ts e = ap (λ p. moved p (t ∷ ts) (λ us. fate us ts)) e
+stops_by xs t ts e = ap (λ p. fate_after p (t ∷ ts) (λ us. fate us ts)) e
 
 deepens_by : (xs : List Symbol) (t : Token) (ts : List Token) → move xs t ≡ too_deep → fate xs (t ∷ ts) ≡ deepens (t ∷ ts)
 unfolding fate
-deepens_by xs t ts e = ap (λ p. moved p (t ∷ ts) (λ us. fate us ts)) e
+deepens_by xs t ts e = ap (λ p. fate_after p (t ∷ ts) (λ us. fate us ts)) e
 
 stops_at_end : (xs : List Symbol) → all_may_lack xs ≡ false → fate xs [] ≡ stops []
 unfolding fate

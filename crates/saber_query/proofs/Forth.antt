@@ -27,14 +27,14 @@ use Rattle.saber_query.specs.declared.tree.Cmp.{Cmp}
 use Rattle.saber_query.specs.declared.tree.Cmp.TheVariants as c
 use Rattle.saber_query.specs.Trees.{Test, negated, enclosed, compare, Ands, no_more, and_also, Ors, no_other, or_else, Tests, Asked, Query, test_depth, ands_depth, ors_depth, where_depth, depth}
 use Rattle.saber_query.specs.Words.{second_words, factor_words, factors_words, prod_words, adding_sign, terms_words, expr_words, item_words, items_words, measure_words, window_words, cmp_sign, test_words, ands_words, ors_words, where_words, last_words, words, names_words, decl_words, decls_words, source_words, second_source_words, column_words, columns_words, group_words, opened_words, shut_words}
-use Rattle.saber_query.specs.Machine.{Symbol, close_sign, from_word, slide_word, close_bracket, a_number, comparison, measure, factor, more_column, more_factors, more_terms, item, more_items, unit, more_ands, more_ors, a_window, a_where, a_semicolon, rows_word, semicolon_sign, decl, more_decls, more_names, source, a_second, column, more_columns, a_group, body, chosen, refuses, may_lack, all_may_lack, pushed, move, fits, stops, moved, fate, start}
+use Rattle.saber_query.specs.Machine.{Symbol, close_sign, from_word, slide_word, close_bracket, a_number, comparison, measure, factor, more_column, more_factors, more_terms, item, more_items, unit, more_ands, more_ors, a_window, a_where, a_semicolon, rows_word, semicolon_sign, decl, more_decls, more_names, source, a_second, column, more_columns, a_group, body, select_symbols, refuses, may_lack, all_may_lack, push_result, move, fits, stops, fate_after, fate, start}
 
 pub skipped : (x : Symbol) (xs : List Symbol) (ts : List Token) → may_lack x ≡ true → Refuses x ts → fate (x ∷ xs) ts ≡ fate xs ts
 unfolding fate
 skipped x xs [] e h = ap (λ b. cond (b && all_may_lack xs) fits (stops [])) e
 skipped x xs (t ∷ ts) e h =
-    ap (λ p. moved (pushed p (may_lack x) xs (move xs t)) (t ∷ ts) (λ ys. fate ys ts)) h
-    ∙ ap (λ b. moved (cond b (move xs t) refuses) (t ∷ ts) (λ ys. fate ys ts)) e
+    ap (λ p. fate_after (push_result p (may_lack x) xs (move xs t)) (t ∷ ts) (λ ys. fate ys ts)) h
+    ∙ ap (λ b. fate_after (cond b (move xs t) refuses) (t ∷ ts) (λ ys. fate ys ts)) e
 
 -- nothing of an expression goes on
 pub record EndsExpr (ts : List Token) : Type 0 where
@@ -344,7 +344,7 @@ unfolding fate
 taken_from xs ts = refl
 
 asked_law : (a : Asked) (d : ℕ) (xs : List Symbol) (ts : List Token) → where_depth a.predicate ≤ d → EndsAsked ts →
-    fate (chosen d ++ xs) (item_words a.item ++ (items_words a.items ++ Word k.From ∷ (source_words a.from ++ (second_source_words a.second ++ (where_words a.predicate ++ (group_words a.group ++ ts)))))) ≡ fate xs ts
+    fate (select_symbols d ++ xs) (item_words a.item ++ (items_words a.items ++ Word k.From ∷ (source_words a.from ++ (second_source_words a.second ++ (where_words a.predicate ++ (group_words a.group ++ ts)))))) ≡ fate xs ts
 asked_law a d xs ts g h =
     let t = tail_ends a.group ts h in
     let (w, u) = where_ends a.predicate _ t in
@@ -361,7 +361,7 @@ abbrev shuts : Option StreamWord → List Symbol
 shuts None = []
 shuts (Some w) = close_sign ∷ []
 
-opened_law : (o : Option StreamWord) (d : ℕ) (xs : List Symbol) (ts : List Token) → fate (body d ∷ xs) (opened_words o ++ Word k.Select ∷ ts) ≡ fate (chosen d ++ (shuts o ++ xs)) ts
+opened_law : (o : Option StreamWord) (d : ℕ) (xs : List Symbol) (ts : List Token) → fate (body d ∷ xs) (opened_words o ++ Word k.Select ∷ ts) ≡ fate (select_symbols d ++ (shuts o ++ xs)) ts
 unfolding fate
 opened_law None d xs ts = refl
 opened_law (Some Rstream) d xs ts = refl

@@ -17,8 +17,8 @@ use Rattle.saber_query.specs.declared.fault.QueryFault.{QueryFault}
 use Rattle.saber_query.specs.Tokens.{text_of, sign_text, keyword_among, word_or, word_of}
 use Rattle.saber_query.specs.Reading.{token_of}
 use Rattle.saber_query.specs.Real.{all_name_bytes, is_name_text, IsReal, AllReal}
-use Rattle.saber_query.specs.Lexing.{is_letter, is_name_byte, placed, Step, goes, begin, number_more, step, ended, onto, follow, lex_from}
-use Rattle.saber_query.specs.Spelling.{spell, spaced, spelled, HasTokens}
+use Rattle.saber_query.specs.Lexing.{is_letter, is_name_byte, placed_token, Step, goes, begin, number_more, step, last_token, onto, follow, lex_from}
+use Rattle.saber_query.specs.Spelling.{spell, spaced_text, spelled_text, HasTokens}
 
 abbrev Answer : Type 0
 Answer = Result (List Placed) QueryFault
@@ -36,35 +36,35 @@ Apart (b ∷ bs) = b ≡ 32
 abbrev Ends : Pending → Placed → Type 0
 Ends q t = (m : ℕ) (rest : List ℕ) → Apart rest → lex_from m q rest ≡ onto (t ∷ []) (lex_from m p.Nothing rest)
 
-name_ends : (at : ℕ) (bs : List ℕ) → Ends (p.Name at bs) (placed at (word_of bs))
-unfolding lex_from step begin ended
+name_ends : (at : ℕ) (bs : List ℕ) → Ends (p.Name at bs) (placed_token at (word_of bs))
+unfolding lex_from step begin last_token
 name_ends at bs m [] h = refl
 name_ends at bs m (b ∷ rest) h = by_space m b rest h where
-  by_space : (m b : ℕ) (rest : List ℕ) → b ≡ 32 → lex_from m (p.Name at bs) (b ∷ rest) ≡ onto (placed at (word_of bs) ∷ []) (lex_from m p.Nothing (b ∷ rest))
+  by_space : (m b : ℕ) (rest : List ℕ) → b ≡ 32 → lex_from m (p.Name at bs) (b ∷ rest) ≡ onto (placed_token at (word_of bs) ∷ []) (lex_from m p.Nothing (b ∷ rest))
   by_space m b rest h =
-      let P : ℕ → Type 0 = λ c. lex_from m (p.Name at bs) (c ∷ rest) ≡ onto (placed at (word_of bs) ∷ []) (lex_from m p.Nothing (c ∷ rest)) in
-      subst P (sym h) (ap (onto (placed at (word_of bs) ∷ [])) (sym (onto_nil (lex_from (m + 1) p.Nothing rest))))
+      let P : ℕ → Type 0 = λ c. lex_from m (p.Name at bs) (c ∷ rest) ≡ onto (placed_token at (word_of bs) ∷ []) (lex_from m p.Nothing (c ∷ rest)) in
+      subst P (sym h) (ap (onto (placed_token at (word_of bs) ∷ [])) (sym (onto_nil (lex_from (m + 1) p.Nothing rest))))
 
-number_ends : (at n : ℕ) → Ends (p.Number at n) (placed at (Number n))
-unfolding lex_from step begin ended
+number_ends : (at n : ℕ) → Ends (p.Number at n) (placed_token at (Number n))
+unfolding lex_from step begin last_token
 number_ends at n m [] h = refl
 number_ends at n m (b ∷ rest) h =
-    let P : ℕ → Type 0 = λ c. lex_from m (p.Number at n) (c ∷ rest) ≡ onto (placed at (Number n) ∷ []) (lex_from m p.Nothing (c ∷ rest)) in
-    subst P (sym h) (ap (onto (placed at (Number n) ∷ [])) (sym (onto_nil (lex_from (m + 1) p.Nothing rest))))
+    let P : ℕ → Type 0 = λ c. lex_from m (p.Number at n) (c ∷ rest) ≡ onto (placed_token at (Number n) ∷ []) (lex_from m p.Nothing (c ∷ rest)) in
+    subst P (sym h) (ap (onto (placed_token at (Number n) ∷ [])) (sym (onto_nil (lex_from (m + 1) p.Nothing rest))))
 
-less_ends : (at : ℕ) → Ends (p.Angle at false) (placed at (Mark s.Less))
-unfolding lex_from step begin ended
+less_ends : (at : ℕ) → Ends (p.Angle at false) (placed_token at (Mark s.Less))
+unfolding lex_from step begin last_token
 less_ends at m [] h = refl
 less_ends at m (b ∷ rest) h =
-    let P : ℕ → Type 0 = λ c. lex_from m (p.Angle at false) (c ∷ rest) ≡ onto (placed at (Mark s.Less) ∷ []) (lex_from m p.Nothing (c ∷ rest)) in
-    subst P (sym h) (ap (onto (placed at (Mark s.Less) ∷ [])) (sym (onto_nil (lex_from (m + 1) p.Nothing rest))))
+    let P : ℕ → Type 0 = λ c. lex_from m (p.Angle at false) (c ∷ rest) ≡ onto (placed_token at (Mark s.Less) ∷ []) (lex_from m p.Nothing (c ∷ rest)) in
+    subst P (sym h) (ap (onto (placed_token at (Mark s.Less) ∷ [])) (sym (onto_nil (lex_from (m + 1) p.Nothing rest))))
 
-greater_ends : (at : ℕ) → Ends (p.Angle at true) (placed at (Mark s.Greater))
-unfolding lex_from step begin ended
+greater_ends : (at : ℕ) → Ends (p.Angle at true) (placed_token at (Mark s.Greater))
+unfolding lex_from step begin last_token
 greater_ends at m [] h = refl
 greater_ends at m (b ∷ rest) h =
-    let P : ℕ → Type 0 = λ c. lex_from m (p.Angle at true) (c ∷ rest) ≡ onto (placed at (Mark s.Greater) ∷ []) (lex_from m p.Nothing (c ∷ rest)) in
-    subst P (sym h) (ap (onto (placed at (Mark s.Greater) ∷ [])) (sym (onto_nil (lex_from (m + 1) p.Nothing rest))))
+    let P : ℕ → Type 0 = λ c. lex_from m (p.Angle at true) (c ∷ rest) ≡ onto (placed_token at (Mark s.Greater) ∷ []) (lex_from m p.Nothing (c ∷ rest)) in
+    subst P (sym h) (ap (onto (placed_token at (Mark s.Greater) ∷ [])) (sym (onto_nil (lex_from (m + 1) p.Nothing rest))))
 
 -- ---- names and keywords
 
@@ -108,7 +108,7 @@ name_leads (b ∷ bs) at cs h m rest =
 
 -- the bytes are this token, before a space and at the end
 abbrev Lexes : List ℕ → Token → Type 0
-Lexes bs t = (m : ℕ) (rest : List ℕ) → Apart rest → (n : ℕ) × (lex_from m p.Nothing (bs ++ rest) ≡ onto (placed m t ∷ []) (lex_from n p.Nothing rest))
+Lexes bs t = (m : ℕ) (rest : List ℕ) → Apart rest → (n : ℕ) × (lex_from m p.Nothing (bs ++ rest) ≡ onto (placed_token m t ∷ []) (lex_from n p.Nothing rest))
 
 name_lexes : (bs : List ℕ) → is_name_text bs ≡ true → Lexes bs (word_of bs)
 name_lexes [] h m rest a = cc
@@ -200,9 +200,9 @@ sign_lexes s.Star m rest a = (m + 1, refl)
 sign_lexes s.Plus m rest a = (m + 1, refl)
 sign_lexes s.Minus m rest a = (m + 1, refl)
 sign_lexes s.Equal m rest a = (m + 1, refl)
-sign_lexes s.Unequal m rest a = (m + 1 + 1, onto_nil (onto (placed m (Mark s.Unequal) ∷ []) (lex_from (m + 1 + 1) p.Nothing rest)))
-sign_lexes s.AtMost m rest a = (m + 1 + 1, onto_nil (onto (placed m (Mark s.AtMost) ∷ []) (lex_from (m + 1 + 1) p.Nothing rest)))
-sign_lexes s.AtLeast m rest a = (m + 1 + 1, onto_nil (onto (placed m (Mark s.AtLeast) ∷ []) (lex_from (m + 1 + 1) p.Nothing rest)))
+sign_lexes s.Unequal m rest a = (m + 1 + 1, onto_nil (onto (placed_token m (Mark s.Unequal) ∷ []) (lex_from (m + 1 + 1) p.Nothing rest)))
+sign_lexes s.AtMost m rest a = (m + 1 + 1, onto_nil (onto (placed_token m (Mark s.AtMost) ∷ []) (lex_from (m + 1 + 1) p.Nothing rest)))
+sign_lexes s.AtLeast m rest a = (m + 1 + 1, onto_nil (onto (placed_token m (Mark s.AtLeast) ∷ []) (lex_from (m + 1 + 1) p.Nothing rest)))
 sign_lexes s.Less m rest a = (m + 1, onto_nil (lex_from (m + 1) (p.Angle m false) rest) ∙ less_ends m (m + 1) rest a)
 sign_lexes s.Greater m rest a = (m + 1, onto_nil (lex_from (m + 1) (p.Angle m true) rest) ∙ greater_ends m (m + 1) rest a)
 
@@ -215,7 +215,7 @@ token_lexes (Number n) h = number_lexes n h
 
 -- ---- many tokens
 
-apart : (ts : List Token) → Apart (spaced ts)
+apart : (ts : List Token) → Apart (spaced_text ts)
 apart [] = tt
 apart (t ∷ ts) = refl
 
@@ -227,22 +227,22 @@ unfolding lex_from step begin
 space_step m bs = onto_nil (lex_from (m + 1) p.Nothing bs)
 
 at_end : (m : ℕ) → lex_from m p.Nothing [] ≡ Ok []
-unfolding lex_from ended
+unfolding lex_from last_token
 at_end m = refl
 
-first_then : (t : Token) (ts : List Token) → IsReal t → LexesAll (spaced ts) ts → LexesAll (spell t ++ spaced ts) (t ∷ ts)
+first_then : (t : Token) (ts : List Token) → IsReal t → LexesAll (spaced_text ts) ts → LexesAll (spell t ++ spaced_text ts) (t ∷ ts)
 first_then t ts h go m =
-    let (n, e) = token_lexes t h m (spaced ts) (apart ts) in
+    let (n, e) = token_lexes t h m (spaced_text ts) (apart ts) in
     let (ps, e', e'') = go n in
-    (placed m t ∷ ps, e ∙ ap (onto (placed m t ∷ [])) e', ap (λ z. t ∷ z) e'')
+    (placed_token m t ∷ ps, e ∙ ap (onto (placed_token m t ∷ [])) e', ap (λ z. t ∷ z) e'')
 
-spaced_lexes : (ts : List Token) → AllReal ts → LexesAll (spaced ts) ts
+spaced_lexes : (ts : List Token) → AllReal ts → LexesAll (spaced_text ts) ts
 spaced_lexes [] h m = ([], at_end m, refl)
 spaced_lexes (t ∷ ts) (h, h') m =
     let (ps, e, e') = first_then t ts h (spaced_lexes ts h') (m + 1) in
-    (ps, space_step m (spell t ++ spaced ts) ∙ e, e')
+    (ps, space_step m (spell t ++ spaced_text ts) ∙ e, e')
 
-pub spelled_lexes : (ts : List Token) → AllReal ts → HasTokens (spelled ts) ts
+pub spelled_lexes : (ts : List Token) → AllReal ts → HasTokens (spelled_text ts) ts
 spelled_lexes [] h = record { placed = []; lexed = at_end 0; same = refl }
 spelled_lexes (t ∷ ts) (h, h') =
     let (ps, e, e') = first_then t ts h (spaced_lexes ts h') 0 in

@@ -14,7 +14,7 @@ use Rattle.saber_query.specs.declared.fault.Cause.TheVariants.{BadByte, NumberRa
 use Rattle.saber_query.specs.declared.fault.QueryFault.TheVariants.{At}
 use Rattle.saber_query.specs.Tokens.{sign_text}
 use Rattle.saber_query.specs.Real.{is_name_text, all_name_bytes}
-use Rattle.saber_query.specs.Lexing.{is_letter, is_name_byte, is_space, single, double, angle, placed, Step, goes, fails, after, if_single, begin, number_more, if_double, step, ended, onto, follow, lex_from, lexed}
+use Rattle.saber_query.specs.Lexing.{is_letter, is_name_byte, is_space, single, double, angle, placed_token, Step, goes, fails, after, if_single, begin, number_more, if_double, step, last_token, onto, follow, lex_from, lexed_text}
 use Rattle.saber_query.specs.Longest.{Answer, all_digits, is_number_text, Lexeme, a_name, a_number, a_sign, token_in, IsWithin, IsLongest, BeginsNone, Matches, at_end, passed, taken, too_great, bad}
 use Rattle.saber_query.proofs.RealLemmas.{by_test}
 
@@ -225,7 +225,7 @@ follow_after t (goes ts q) rest = onto_onto t ts (rest q)
 follow_after t (fails f) rest = refl
 
 -- a token is taken, and the rest is read from behind it
-take : (start at : ℕ) (bs rest : List ℕ) (l : Lexeme bs) (r : Answer) → IsLongest bs rest → IsWithin bs l → start + length bs ≡ at → Matches at rest r → Matches start (bs ++ rest) (onto (placed start (token_in bs l) ∷ []) r)
+take : (start at : ℕ) (bs rest : List ℕ) (l : Lexeme bs) (r : Answer) → IsLongest bs rest → IsWithin bs l → start + length bs ≡ at → Matches at rest r → Matches start (bs ++ rest) (onto (placed_token start (token_in bs l) ∷ []) r)
 take start at bs rest l r longest within e m = taken start bs rest l r longest within (subst (λ n. Matches n rest r) (sym e) m)
 
 value_one : (b : ℕ) → is_ascii_digit b ≡ true → digits_value 10 (b ∷ []) ≡ b - 48
@@ -269,11 +269,11 @@ record From (text : List ℕ) : Type 0 where
   angled : (at start : ℕ) (greater : Bool) → start + 1 ≡ at → Matches start (angle_byte greater ∷ text) (lex_from at (p.Angle start greater) text)
 
 from_end : From []
-unfolding lex_from ended
+unfolding lex_from last_token
 from_end = record {
   fresh = λ at. at_end at;
   name = λ at start bs h e. take start at bs [] (a_name h) (Ok []) (longest_end bs) tt e (at_end at);
-  number = λ at start n ds h e v small. subst (λ m. Matches start (ds ++ []) (Ok (placed start (Number m) ∷ []))) v (take start at ds [] (a_number h) (Ok []) (longest_end ds) (omega arith) e (at_end at));
+  number = λ at start n ds h e v small. subst (λ m. Matches start (ds ++ []) (Ok (placed_token start (Number m) ∷ []))) v (take start at ds [] (a_number h) (Ok []) (longest_end ds) (omega arith) e (at_end at));
   angled = λ at start greater e. take start at (angle_byte greater ∷ []) [] (a_sign (angle greater) (angle_text greater)) (Ok []) (longest_end (angle_byte greater ∷ [])) tt e (at_end at);
 }
 
@@ -320,7 +320,7 @@ from_more b rest f = record {
       (λ w. let high : 2 ^ 63 < 10 * n + (b - 48) = grind (arith, nat_tests) in
       let Q : List ℕ → Type 0 = λ xs. Matches start xs (Err (At start NumberRange)) in
       subst Q (append_assoc ds (b ∷ []) rest) (great rest start (ds ++ b ∷ []) (number_text_more ds b k h) (omega (arith, more, v)))))
-      (λ k. let Q : ℕ → Type 0 = λ m. Matches start (ds ++ b ∷ rest) (follow (after (placed start (Number m)) (begin at b)) (λ q. lex_from (at + 1) q rest)) in
+      (λ k. let Q : ℕ → Type 0 = λ m. Matches start (ds ++ b ∷ rest) (follow (after (placed_token start (Number m)) (begin at b)) (λ q. lex_from (at + 1) q rest)) in
       subst Q v (behind start at ds b (a_number h) (longest_before ds b rest (number_stops ds b h k)) (omega arith) e));
   angled = λ at start greater e. sign_more at start greater e (double greater b) refl;
 }
@@ -329,10 +329,10 @@ from_more b rest f = record {
     longer start at bs c e = omega (arith, length-append bs (c ∷ []))
 
     -- the token is taken before this byte
-    behind : (start at : ℕ) (bs : List ℕ) (c : ℕ) (l : Lexeme bs) → IsLongest bs (b ∷ rest) → IsWithin bs l → start + length bs ≡ at → Matches start (bs ++ b ∷ rest) (follow (after (placed start (token_in bs l)) (begin at b)) (λ q. lex_from (at + 1) q rest))
+    behind : (start at : ℕ) (bs : List ℕ) (c : ℕ) (l : Lexeme bs) → IsLongest bs (b ∷ rest) → IsWithin bs l → start + length bs ≡ at → Matches start (bs ++ b ∷ rest) (follow (after (placed_token start (token_in bs l)) (begin at b)) (λ q. lex_from (at + 1) q rest))
     behind start at bs c l longest within e =
         let k = begin at b in
-        subst (Matches start (bs ++ b ∷ rest)) (sym (follow_after (placed start (token_in bs l)) k (λ q. lex_from (at + 1) q rest)))
+        subst (Matches start (bs ++ b ∷ rest)) (sym (follow_after (placed_token start (token_in bs l)) k (λ q. lex_from (at + 1) q rest)))
         (take start at bs (b ∷ rest) l (follow k (λ q. lex_from (at + 1) q rest)) longest within e (begun at b rest f))
 
     sign_more : (at start : ℕ) (greater : Bool) → start + 1 ≡ at → (o : Option Sign) → double greater b ≡ o → Matches start (angle_byte greater ∷ b ∷ rest) (follow (if_double at start greater b o) (λ q. lex_from (at + 1) q rest))
@@ -343,7 +343,7 @@ from : (text : List ℕ) → From text
 from [] = from_end
 from (b ∷ rest) = from_more b rest (from rest)
 
-pub read : (text : List ℕ) → Matches 0 text (lexed text)
+pub read : (text : List ℕ) → Matches 0 text (lexed_text text)
 read text = (from text).fresh 0
 
 -- ---- there is one way
@@ -413,7 +413,7 @@ not_within bs (a_sign t h) w g k = number_no_sign bs t g h
 data Way (at : ℕ) (text : List ℕ) (r : Answer) : Type 0 where
   to_end : text ≡ [] → r ≡ Ok [] → Way at text r
   by_space : (b : ℕ) (rest : List ℕ) → text ≡ b ∷ rest → is_space b ≡ true → Matches (at + 1) rest r → Way at text r
-  by_token : (bs rest : List ℕ) (l : Lexeme bs) (later : Answer) → text ≡ bs ++ rest → r ≡ onto (placed at (token_in bs l) ∷ []) later → IsLongest bs rest → IsWithin bs l → Matches (at + length bs) rest later → Way at text r
+  by_token : (bs rest : List ℕ) (l : Lexeme bs) (later : Answer) → text ≡ bs ++ rest → r ≡ onto (placed_token at (token_in bs l) ∷ []) later → IsLongest bs rest → IsWithin bs l → Matches (at + length bs) rest later → Way at text r
   by_great : (bs rest : List ℕ) → text ≡ bs ++ rest → r ≡ Err (At at NumberRange) → is_number_text bs ≡ true → IsLongest bs rest → 2 ^ 63 < digits_value 10 bs → Way at text r
   by_bad : (b : ℕ) (rest : List ℕ) → text ≡ b ∷ rest → r ≡ Err (At at BadByte) → is_space b ≡ false → BeginsNone (b ∷ rest) → Way at text r
 
@@ -450,7 +450,7 @@ space_same at b text r r' s next (by_token bs rest l later e e' h w m) = no_spac
 space_same at b text r r' s next (by_great bs rest e e' n h g) = no_space_front b text bs rest s (a_number n) e
 space_same at b text r r' s next (by_bad c rest e e' h g) = let same : b ≡ c = ap head e in true_false (is_space b) s (ap is_space same ∙ h)
 
-token_same : (at : ℕ) (us vs : List ℕ) (l : Lexeme us) (r r' : Answer) → IsLongest us vs → IsWithin us l → ((x : Answer) → Matches (at + length us) vs x → r ≡ x) → Way at (us ++ vs) r' → onto (placed at (token_in us l) ∷ []) r ≡ r'
+token_same : (at : ℕ) (us vs : List ℕ) (l : Lexeme us) (r r' : Answer) → IsLongest us vs → IsWithin us l → ((x : Answer) → Matches (at + length us) vs x → r ≡ x) → Way at (us ++ vs) r' → onto (placed_token at (token_in us l) ∷ []) r ≡ r'
 token_same at us vs l r r' longest within next (to_end e e') = no_front us vs l (sym e)
 token_same at us vs l r r' longest within next (by_space c rest e h m) = no_space_front c rest us vs h l (sym e)
 token_same at us vs l r r' longest within next (by_token bs rest k later e e' h w m) =
@@ -459,7 +459,7 @@ token_same at us vs l r r' longest within next (by_token bs rest k later e e' h 
     let m' : Matches (at + length us) vs later = subst (λ z. Matches (at + length us) z later) (sym behind) (subst P (sym front) m) in
     let Q : List ℕ → Type 0 = λ xs. (j : Lexeme xs) → token_in us l ≡ token_in xs j in
     let same : token_in us l ≡ token_in bs k = subst Q front (one_token us l) k in
-    ap (λ z. onto (placed at z ∷ []) r) same ∙ ap (onto (placed at (token_in bs k) ∷ [])) (next later m') ∙ sym e'
+    ap (λ z. onto (placed_token at z ∷ []) r) same ∙ ap (onto (placed_token at (token_in bs k) ∷ [])) (next later m') ∙ sym e'
 token_same at us vs l r r' longest within next (by_great bs rest e e' n h g) =
     let (front, behind) = one_front us vs bs rest l (a_number n) longest h e in
     not_within us l within (subst (λ z. is_number_text z ≡ true) (sym front) n) (subst (λ z. 2 ^ 63 < digits_value 10 z) (sym front) g)
@@ -488,5 +488,5 @@ one_way n text r (taken at bs rest l later longest within m) r' m' = token_same 
 one_way n text r (too_great at bs rest h longest g) r' m' = great_same at bs rest r' h longest g (way at (bs ++ rest) r' m')
 one_way n text r (bad at b rest h g) r' m' = bad_same at b rest r' h g (way at (b ∷ rest) r' m')
 
-pub reads_longest : (text : List ℕ) (r : Answer) → (lexed text ≡ r) ↔ Matches 0 text r
-reads_longest text r = (λ e. subst (Matches 0 text) e (read text), λ m. one_way 0 text (lexed text) (read text) r m)
+pub reads_longest : (text : List ℕ) (r : Answer) → (lexed_text text ≡ r) ↔ Matches 0 text r
+reads_longest text r = (λ e. subst (Matches 0 text) e (read text), λ m. one_way 0 text (lexed_text text) (read text) r m)

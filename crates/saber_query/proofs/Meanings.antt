@@ -21,7 +21,7 @@ use Rattle.saber_query.specs.Words.{IsSyntax, IsDeep, words}
 use Rattle.saber_query.specs.Trees.{query_of, depth}
 use Rattle.saber_query.specs.Parsed.{Parsed, IsParsed}
 use Rattle.saber_query.specs.Means.{MeansTree, TextFault, byte_of}
-use Rattle.saber_query.specs.Lexing.{is_letter, is_name_byte, is_space, single, double, angle, placed, Step, goes, fails, after, if_single, begin, number_more, if_double, step, onto, follow, lex_from, lexed}
+use Rattle.saber_query.specs.Lexing.{is_letter, is_name_byte, is_space, single, double, angle, placed_token, Step, goes, fails, after, if_single, begin, number_more, if_double, step, onto, follow, lex_from, lexed_text}
 use Rattle.saber_query.proofs.RealLemmas.{by_test, lexed_fine}
 use Rattle.saber_query.proofs.Back.{to_query}
 use Rattle.saber_query.proofs.Exact.{Walk, walk, syntax_found, deep_found}
@@ -61,14 +61,14 @@ unfolding number_more
 number_bad start n = by_test (nat_le n (2 ^ 63)) FailsBadly _ _ (λ _. tt) (λ _. tt)
 
 double_bad : (at start : ℕ) (greater : Bool) (b : ℕ) (o : Option Sign) → FailsBadly (if_double at start greater b o)
-double_bad at start greater b None = after_bad (placed start (Mark (angle greater))) (begin at b) (begin_bad at b)
+double_bad at start greater b None = after_bad (placed_token start (Mark (angle greater))) (begin at b) (begin_bad at b)
 double_bad at start greater b (Some sign) = tt
 
 step_bad : (at : ℕ) (q : Pending) (b : ℕ) → FailsBadly (step at q b)
 unfolding step
 step_bad at p.Nothing b = begin_bad at b
-step_bad at (p.Name start bs) b = by_test (is_name_byte b) FailsBadly _ _ (λ _. tt) (λ _. after_bad (placed start (word_of bs)) (begin at b) (begin_bad at b))
-step_bad at (p.Number start n) b = by_test (is_ascii_digit b) FailsBadly _ _ (λ _. number_bad start (10 * n + (b - 48))) (λ _. after_bad (placed start (Number n)) (begin at b) (begin_bad at b))
+step_bad at (p.Name start bs) b = by_test (is_name_byte b) FailsBadly _ _ (λ _. tt) (λ _. after_bad (placed_token start (word_of bs)) (begin at b) (begin_bad at b))
+step_bad at (p.Number start n) b = by_test (is_ascii_digit b) FailsBadly _ _ (λ _. number_bad start (10 * n + (b - 48))) (λ _. after_bad (placed_token start (Number n)) (begin at b) (begin_bad at b))
 step_bad at (p.Angle start greater) b = double_bad at start greater b (double greater b)
 
 abbrev IsBadly : Result (List Placed) QueryFault → Type 0
@@ -93,7 +93,7 @@ lex_bad (b ∷ bs) at q = follow_bad (step at q b) _ (step_bad at q b) (λ r. le
 abbrev IsTold : List ℕ → Type 0
 IsTold text = ((q : Parsed) × IsParsed q.select q.starts × MeansTree text q) ⊎ ((byte : ℕ) × (cause : Cause) × TextFault cause byte text)
 
-by_fate : (text : List ℕ) (ps : List Placed) → length text ≤ 65536 → lexed text ≡ Ok ps → (w : Fate) → Walk (start 64) (map token_of ps) w → IsTold text
+by_fate : (text : List ℕ) (ps : List Placed) → length text ≤ 65536 → lexed_text text ≡ Ok ps → (w : Fate) → Walk (start 64) (map token_of ps) w → IsTold text
 by_fate text ps short lex fits m =
     let (q, shallow, is) = to_query 64 (map token_of ps) m in
     let few : length (words q) ≤ 65536 = omega (arith, (lexed_fine text ps lex).0, ap length is, length-map ps token_of) in
@@ -112,7 +112,7 @@ by_fate text ps short lex (deepens rest) w =
     let byte = byte_at (map byte_of ps) (length rest) (length text) in
     inr (byte, Depth, stops_at (IsDeep 64) text (map token_of ps) rest ps (map byte_of ps) (length rest) byte short lex refl refl (deep_found 64 (map token_of ps) rest w) refl refl)
 
-by_tokens : (text : List ℕ) → length text ≤ 65536 → (r : Result (List Placed) QueryFault) → lexed text ≡ r → IsBadly r → IsTold text
+by_tokens : (text : List ℕ) → length text ≤ 65536 → (r : Result (List Placed) QueryFault) → lexed_text text ≡ r → IsBadly r → IsTold text
 by_tokens text short (Ok ps) lex h = by_fate text ps short lex (fate (start 64) (map token_of ps)) (walk (map token_of ps) (start 64))
 by_tokens text short (Err NoMemory) lex h = absurd h
 by_tokens text short (Err (At b c)) lex h = inr (b, c, lex_fails (At b c) text short h lex)
@@ -124,7 +124,7 @@ is_long : (n : ℕ) → nat_le n 65536 ≡ false → 65536 < n
 is_long n e = grind (arith, nat_tests)
 
 by_length : (text : List ℕ) (b : Bool) → nat_le (length text) 65536 ≡ b → IsTold text
-by_length text true e = by_tokens text (is_short (length text) e) (lexed text) refl (lex_bad text 0 p.Nothing)
+by_length text true e = by_tokens text (is_short (length text) e) (lexed_text text) refl (lex_bad text 0 p.Nothing)
 by_length text false e = inr (65536, TooLong, (is_long (length text) e, refl))
 
 pub told : (text : List ℕ) → IsTold text

@@ -22,7 +22,7 @@ use Rattle.saber_query.specs.Trees.{Test, Both, test_depth, ands_depth, ors_dept
 use Rattle.saber_query.specs.declared.tree.Unit.{Unit as Unit_tree}
 use Rattle.saber_query.specs.declared.tree.Conj.{Conj}
 use Rattle.std.specs.Result.{IfOk, IfErr}
-use Rattle.saber_query.specs.Machine.{Symbol, open_sign, close_sign, star_sign, from_word, slide_word, close_bracket, a_name, a_number, comparison, measure, factor, more_column, more_factors, more_terms, item, more_items, unit, more_ands, more_ors, a_window, a_where, a_semicolon, rows_word, select_word, by_word, semicolon_sign, decl, more_decls, more_names, source, a_second, column, more_columns, a_group, body, selects, worded, takes, refuses, push, may_lack, all_may_lack, pushed, move, fits, stops, deepens, moved, fate}
+use Rattle.saber_query.specs.Machine.{Symbol, open_sign, close_sign, star_sign, from_word, slide_word, close_bracket, a_name, a_number, comparison, measure, factor, more_column, more_factors, more_terms, item, more_items, unit, more_ands, more_ors, a_window, a_where, a_semicolon, rows_word, select_word, by_word, semicolon_sign, decl, more_decls, more_names, source, a_second, column, more_columns, a_group, body, selects, word_symbols, takes, refuses, push, may_lack, all_may_lack, push_result, move, fits, stops, deepens, fate_after, fate}
 use Rattle.saber_query.specs.Reading.{Expected, StartsWith, starts_name, starts_number, Reads, Parses}
 use Rattle.saber_query.proofs.Forth.{skipped}
 use Rattle.saber_query.specs.Reading.{Refuses, IsTerminal, Took, StartsWithNoStreamWord}
@@ -30,7 +30,7 @@ use Rattle.saber_query.specs.Reading.{Refuses, IsTerminal, Took, StartsWithNoStr
 -- a symbol that takes a token
 pub shift : (x : Symbol) (zs : List Symbol) (t : Token) (old mid : List Token) → push x t ≡ takes zs → old ≡ t ∷ mid → (ys : List Symbol) → fate (x ∷ ys) old ≡ fate (zs ++ ys) mid
 unfolding fate
-shift x zs t old mid e h ys = ap (fate (x ∷ ys)) h ∙ ap (λ p. moved (pushed p (may_lack x) ys (move ys t)) (t ∷ mid) (λ us. fate us mid)) e
+shift x zs t old mid e h ys = ap (fate (x ∷ ys)) h ∙ ap (λ p. fate_after (push_result p (may_lack x) ys (move ys t)) (t ∷ mid) (λ us. fate us mid)) e
 
 -- a fault is the same behind what was read
 pub failed : {T U : Type 0} (xs zs : List Symbol) (g : U → List Token) (f : T → List Token) (e : Stop) (old mid new : List Token) →
@@ -73,8 +73,8 @@ refused_here : (x : Symbol) (old : List Token) → may_lack x ≡ false → Refu
 unfolding fate
 refused_here x [] e h ys = ap (λ b. cond (b && all_may_lack ys) fits (stops [])) e
 refused_here x (t ∷ ts) e h ys =
-    ap (λ p. moved (pushed p (may_lack x) ys (move ys t)) (t ∷ ts) (λ us. fate us ts)) h
-    ∙ ap (λ b. moved (cond b (move ys t) refuses) (t ∷ ts) (λ us. fate us ts)) e
+    ap (λ p. fate_after (push_result p (may_lack x) ys (move ys t)) (t ∷ ts) (λ us. fate us ts)) h
+    ∙ ap (λ b. fate_after (cond b (move ys t) refuses) (t ∷ ts) (λ us. fate us ts)) e
 
 pub refuse : (x : Symbol) (old new : List Token) → may_lack x ≡ false → Refuses x old → new ≡ old → (ys : List Symbol) → fate (x ∷ ys) old ≡ stops new
 refuse x old new h h' e ys = refused_here x old h h' ys ∙ ap stops (sym e)
@@ -466,7 +466,7 @@ pub as_body_fails : {T U : Type 0} (d : ℕ) (g : U → List Token) (f : T → L
 as_body_fails d g f e old mid new eq h p = failed (body d ∷ []) (selects d) g f e old mid new (λ ys. body_as d old h ys ∙ ap (fate (selects d ++ ys)) (sym eq)) p
 
 -- and behind a word
-pub word_takes : (w : StreamWord) (d : ℕ) → push (body d) (Word (stream_keyword w)) ≡ takes (worded d)
+pub word_takes : (w : StreamWord) (d : ℕ) → push (body d) (Word (stream_keyword w)) ≡ takes (word_symbols d)
 word_takes Rstream d = refl
 word_takes Istream d = refl
 word_takes Dstream d = refl

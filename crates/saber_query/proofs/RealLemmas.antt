@@ -13,7 +13,7 @@ use Rattle.saber_query.specs.declared.fault.QueryFault.{QueryFault}
 use Rattle.saber_query.specs.Tokens.{keyword_of, word_or, word_of}
 use Rattle.saber_query.specs.Reading.{token_of}
 use Rattle.saber_query.specs.Real.{all_name_bytes, is_name_text, IsReal, AllReal}
-use Rattle.saber_query.specs.Lexing.{is_letter, is_name_byte, is_space, single, double, angle, placed, Step, goes, fails, after, if_single, begin, number_more, if_double, step, ended, onto, follow, lex_from, lexed}
+use Rattle.saber_query.specs.Lexing.{is_letter, is_name_byte, is_space, single, double, angle, placed_token, Step, goes, fails, after, if_single, begin, number_more, if_double, step, last_token, onto, follow, lex_from, lexed_text}
 
 pub by_test : (c : Bool) (P : Step → Type 0) (x y : Step) → (c ≡ true → P x) → (c ≡ false → P y) → P (cond c x y)
 by_test true P x y f g = f refl
@@ -89,7 +89,7 @@ word_real bs h = real (keyword_of bs) refl where
   real (Some w) e = tt
 
 double_fine : (at start : ℕ) (greater : Bool) (b : ℕ) (o : Option Sign) → Fine 2 (if_double at start greater b o)
-double_fine at start greater b None = after_fine (placed start (Mark (angle greater))) (begin at b) tt (begin_fine at b)
+double_fine at start greater b None = after_fine (placed_token start (Mark (angle greater))) (begin at b) tt (begin_fine at b)
 double_fine at start greater b (Some sign) = (omega arith, (tt, tt), tt)
 
 more : (s : Step) → Fine 1 s → Fine 2 s
@@ -100,9 +100,9 @@ step_fine : (at : ℕ) (q : Pending) (b : ℕ) → IsPart q → Fine (weight q +
 unfolding step
 step_fine at p.Nothing b h = begin_fine at b
 step_fine at (p.Name start bs) b h =
-    by_test (is_name_byte b) (Fine 2) _ _ (λ e. (omega arith, tt, name_more bs b e h)) (λ _. after_fine (placed start (word_of bs)) (begin at b) (word_real bs h) (begin_fine at b))
+    by_test (is_name_byte b) (Fine 2) _ _ (λ e. (omega arith, tt, name_more bs b e h)) (λ _. after_fine (placed_token start (word_of bs)) (begin at b) (word_real bs h) (begin_fine at b))
 step_fine at (p.Number start n) b h =
-    by_test (is_ascii_digit b) (Fine 2) _ _ (λ _. number_fine start (10 * n + (b - 48))) (λ _. after_fine (placed start (Number n)) (begin at b) h (begin_fine at b))
+    by_test (is_ascii_digit b) (Fine 2) _ _ (λ _. number_fine start (10 * n + (b - 48))) (λ _. after_fine (placed_token start (Number n)) (begin at b) h (begin_fine at b))
 step_fine at (p.Angle start greater) b h = double_fine at start greater b (double greater b)
 
 -- so many real tokens
@@ -110,8 +110,8 @@ abbrev Tokens_fine : ℕ → Result (List Placed) QueryFault → Type 0
 Tokens_fine w (Ok ts) = (length ts ≤ w) × AllReal (map token_of ts)
 Tokens_fine w (Err f) = Unit {0}
 
-ended_fine : (q : Pending) → IsPart q → Tokens_fine (weight q + 0) (Ok (ended q))
-unfolding ended
+ended_fine : (q : Pending) → IsPart q → Tokens_fine (weight q + 0) (Ok (last_token q))
+unfolding last_token
 ended_fine p.Nothing h = (omega arith, tt)
 ended_fine (p.Name start bs) h = (omega arith, (word_real bs h, tt))
 ended_fine (p.Number start n) h = (omega arith, (h, tt))
@@ -134,9 +134,9 @@ unfolding lex_from
 lex_fine [] at q h = ended_fine q h
 lex_fine (b ∷ bs) at q h = follow_fine (weight q) (length bs) (step at q b) _ (step_fine at q b h) (λ r g. lex_fine bs (at + 1) r g)
 
-pub lexed_fine : (text : List ℕ) (ps : List Placed) → lexed text ≡ Ok ps → (length ps ≤ length text) × AllReal (map token_of ps)
+pub lexed_fine : (text : List ℕ) (ps : List Placed) → lexed_text text ≡ Ok ps → (length ps ≤ length text) × AllReal (map token_of ps)
 lexed_fine text ps e =
-    let Q : ℕ → Type 0 = λ n. Tokens_fine n (lexed text) in
+    let Q : ℕ → Type 0 = λ n. Tokens_fine n (lexed_text text) in
     let h : 0 + length text ≡ length text = omega arith in
     let P : Result (List Placed) QueryFault → Type 0 = Tokens_fine (length text) in
     subst P e (subst Q h (lex_fine text 0 p.Nothing tt))

@@ -8,7 +8,7 @@ use Rattle.saber_query.specs.declared.fault.Cause.TheVariants.{TooLong, BadByte,
 use Rattle.saber_query.specs.declared.fault.QueryFault.{QueryFault}
 use Rattle.saber_query.specs.declared.fault.QueryFault.TheVariants.{NoMemory, At}
 use Rattle.saber_query.specs.Small.{IsLexFault, byte_at}
-use Rattle.saber_query.specs.Lexing.{lexed, LexGives}
+use Rattle.saber_query.specs.Lexing.{lexed_text, LexGives}
 use Rattle.saber_query.specs.Means.{ParseGives, StopsAt, byte_of, first_byte}
 use Rattle.saber_query.specs.Reading.{token_of, StopsWith}
 use Rattle.saber_query.specs.declared.tree.Select.{Select}
@@ -18,7 +18,7 @@ use Rattle.saber_query.specs.Real.{AllReal}
 use Rattle.saber_query.specs.Parsed.{IsParsed}
 use Rattle.saber_query.proofs.RealLemmas.{lexed_fine}
 
-pub lex_fails : (e : QueryFault) (text : List ℕ) → length text ≤ 65536 → IsLexFault e → LexGives (Err e) (lexed text) → ParseGives (Err e) text
+pub lex_fails : (e : QueryFault) (text : List ℕ) → length text ≤ 65536 → IsLexFault e → LexGives (Err e) (lexed_text text) → ParseGives (Err e) text
 lex_fails NoMemory text h f g = tt
 lex_fails (At b BadByte) text h f g = (h, g)
 lex_fails (At b NumberRange) text h f g = (h, g)
@@ -84,7 +84,7 @@ byte_counted bs (p ∷ rs) end =
     ∙ ap (λ i. slice_index_or (map byte_of (bs ++ p ∷ rs)) i 0) e
     ∙ byte_there bs rs p
 
-pub stops_at : (Stops : List Token → List Token → Type 0) (text : List ℕ) (ts rest : List Token) (ps : List Placed) (starts : List ℕ) (left byte : ℕ) → length text ≤ 65536 → lexed text ≡ Ok ps → ts ≡ map token_of ps → starts ≡ map byte_of ps →
+pub stops_at : (Stops : List Token → List Token → Type 0) (text : List ℕ) (ts rest : List Token) (ps : List Placed) (starts : List ℕ) (left byte : ℕ) → length text ≤ 65536 → lexed_text text ≡ Ok ps → ts ≡ map token_of ps → starts ≡ map byte_of ps →
     StopsWith Stops ts rest → left ≡ length rest → byte ≡ byte_at starts left (length text) → StopsAt Stops text byte
 stops_at Stops text ts rest ps starts left byte short lex e e' (before, split, h) l b =
     let k = parted ps before rest (sym e ∙ split) in
@@ -97,7 +97,7 @@ stops_at Stops text ts rest ps starts left byte short lex e e' (before, split, h
       place = b ∙ ap (λ z. byte_at z left (length text)) (e' ∙ ap (map byte_of) k.whole) ∙ ap (λ n. byte_at (map byte_of (k.first ++ k.second)) n (length text)) (l ∙ ap length (sym k.seconds) ∙ mapped k.second) ∙ byte_counted k.first k.second (length text);
     }
 
-pub parsed_by : (text : List ℕ) (ps : List Placed) (ts : List Token) (starts : List ℕ) (q : Select) → length text ≤ 65536 → lexed text ≡ Ok ps → ts ≡ map token_of ps → starts ≡ map byte_of ps →
+pub parsed_by : (text : List ℕ) (ps : List Placed) (ts : List Token) (starts : List ℕ) (q : Select) → length text ≤ 65536 → lexed_text text ≡ Ok ps → ts ≡ map token_of ps → starts ≡ map byte_of ps →
     words (query_of q) ≡ ts → depth (query_of q) ≤ 64 → IsParsed q starts
 parsed_by text ps ts starts q h lex e e' w d =
     let (few, real) = lexed_fine text ps lex in

@@ -51,8 +51,8 @@ abbrev pub angle : Bool → Sign
 angle false = s.Less
 angle true = s.Greater
 
-abbrev pub placed : ℕ → Token → Placed
-placed at t = record { byte = at; token = t }
+abbrev pub placed_token : ℕ → Token → Placed
+placed_token at t = record { byte = at; token = t }
 
 -- what a byte leads to: the tokens that end by it, and what is pending behind it
 pub data Step : Type 0 where
@@ -64,7 +64,7 @@ after t (goes ts q) = goes (t ∷ ts) q
 after t (fails f) = fails f
 
 abbrev pub if_single : ℕ → Option Sign → Step
-if_single at (Some sign) = goes (placed at (Mark sign) ∷ []) p.Nothing
+if_single at (Some sign) = goes (placed_token at (Mark sign) ∷ []) p.Nothing
 if_single at None = fails (At at BadByte)
 
 -- a byte that begins a token, or is a space
@@ -82,22 +82,22 @@ unfoldable pub number_more : ℕ → ℕ → Step
 number_more start n = if nat_le n (2 ^ 63) then goes [] (p.Number start n) else fails (At start NumberRange)
 
 abbrev pub if_double : ℕ → ℕ → Bool → ℕ → Option Sign → Step
-if_double at start greater b (Some sign) = goes (placed start (Mark sign) ∷ []) p.Nothing
-if_double at start greater b None = after (placed start (Mark (angle greater))) (begin at b)
+if_double at start greater b (Some sign) = goes (placed_token start (Mark sign) ∷ []) p.Nothing
+if_double at start greater b None = after (placed_token start (Mark (angle greater))) (begin at b)
 
 -- a byte behind what is pending
 unfoldable pub step : ℕ → Pending → ℕ → Step
 step at p.Nothing b = begin at b
-step at (p.Name start bs) b = if is_name_byte b then goes [] (p.Name start (bs ++ b ∷ [])) else after (placed start (word_of bs)) (begin at b)
-step at (p.Number start n) b = if is_ascii_digit b then number_more start (10 * n + (b - 48)) else after (placed start (Number n)) (begin at b)
+step at (p.Name start bs) b = if is_name_byte b then goes [] (p.Name start (bs ++ b ∷ [])) else after (placed_token start (word_of bs)) (begin at b)
+step at (p.Number start n) b = if is_ascii_digit b then number_more start (10 * n + (b - 48)) else after (placed_token start (Number n)) (begin at b)
 step at (p.Angle start greater) b = if_double at start greater b (double greater b)
 
 -- the token that ends with the text
-unfoldable pub ended : Pending → List Placed
-ended p.Nothing = []
-ended (p.Name start bs) = placed start (word_of bs) ∷ []
-ended (p.Number start n) = placed start (Number n) ∷ []
-ended (p.Angle start greater) = placed start (Mark (angle greater)) ∷ []
+unfoldable pub last_token : Pending → List Placed
+last_token p.Nothing = []
+last_token (p.Name start bs) = placed_token start (word_of bs) ∷ []
+last_token (p.Number start n) = placed_token start (Number n) ∷ []
+last_token (p.Angle start greater) = placed_token start (Mark (angle greater)) ∷ []
 
 -- the tokens that end before, in front of those of the rest
 abbrev pub onto : List Placed → Result (List Placed) QueryFault → Result (List Placed) QueryFault
@@ -110,13 +110,13 @@ follow (fails f) rest = Err f
 
 -- the tokens of a text from a place on
 unfoldable pub lex_from : ℕ → Pending → List ℕ → Result (List Placed) QueryFault
-lex_from at q [] = Ok (ended q)
+lex_from at q [] = Ok (last_token q)
 lex_from at q (b ∷ bs) = follow (step at q b) (λ r. lex_from (at + 1) r bs)
 
 -- The tokens of a text, or the first that is bad. The longest match wins: a name takes all letters, digits and _ that come, a number
 -- all digits, < and > the = or > that makes a sign of two; so what is pending ends only where the next byte can't go on with it.
-abbrev pub lexed : List ℕ → Result (List Placed) QueryFault
-lexed text = lex_from 0 p.Nothing text
+abbrev pub lexed_text : List ℕ → Result (List Placed) QueryFault
+lexed_text text = lex_from 0 p.Nothing text
 
 -- what a step of the code comes to
 abbrev pub StepGives : Result Pending QueryFault → List Placed → List Placed → Step → Type 0

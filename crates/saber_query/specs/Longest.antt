@@ -11,7 +11,7 @@ use Rattle.saber_query.specs.declared.fault.QueryFault.{QueryFault}
 use Rattle.saber_query.specs.declared.fault.QueryFault.TheVariants.{At}
 use Rattle.saber_query.specs.Tokens.{word_of, sign_text}
 use Rattle.saber_query.specs.Real.{is_name_text}
-use Rattle.saber_query.specs.Lexing.{is_space, placed, onto}
+use Rattle.saber_query.specs.Lexing.{is_space, placed_token, onto}
 
 abbrev pub all_digits : List ℕ → Bool
 all_digits [] = true
@@ -58,7 +58,7 @@ pub data Matches : ℕ → List ℕ → Answer → Type 0 where
   at_end : (at : ℕ) → Matches at [] (Ok [])
   passed : (at b : ℕ) (rest : List ℕ) (r : Answer) → is_space b ≡ true → Matches (at + 1) rest r → Matches at (b ∷ rest) r
   taken : (at : ℕ) (bs rest : List ℕ) (l : Lexeme bs) (r : Answer) → IsLongest bs rest → IsWithin bs l → Matches (at + length bs) rest r →
-      Matches at (bs ++ rest) (onto (placed at (token_in bs l) ∷ []) r)
+      Matches at (bs ++ rest) (onto (placed_token at (token_in bs l) ∷ []) r)
   too_great : (at : ℕ) (bs rest : List ℕ) → is_number_text bs ≡ true → IsLongest bs rest → 2 ^ 63 < digits_value 10 bs →
       Matches at (bs ++ rest) (Err (At at NumberRange))
   bad : (at b : ℕ) (rest : List ℕ) → is_space b ≡ false → BeginsNone (b ∷ rest) → Matches at (b ∷ rest) (Err (At at BadByte))

@@ -19,8 +19,8 @@ use Rattle.saber_query.specs.Machine.{Symbol, stops, deepens, fate, push, takes,
 abbrev pub token_of : Placed → Token
 token_of p = p.token
 
-abbrev pub coming : Tokens → List Token
-coming t = map token_of t.rest.items
+abbrev pub coming_tokens : Tokens → List Token
+coming_tokens t = map token_of t.rest.items
 
 abbrev pub StartsWith : Token → List Token → Type 0
 StartsWith w [] = ⊥

@@ -4,7 +4,7 @@ use Rattle.saber_query.specs.declared.token.Token.{Token}
 use Rattle.saber_query.specs.declared.token.Token.TheVariants.{Word, Mark, Named, Number}
 use Rattle.saber_query.specs.declared.token.Placed.{Placed}
 use Rattle.saber_query.specs.Tokens.{text_of, sign_text}
-use Rattle.saber_query.specs.Lexing.{lexed}
+use Rattle.saber_query.specs.Lexing.{lexed_text}
 use Rattle.saber_query.specs.Reading.{token_of}
 
 -- a token's text: keywords in capitals, numbers in decimal without leading zeros
@@ -15,17 +15,17 @@ spell (Named n) = n
 spell (Number n) = decimal n
 
 -- each token with a space before
-abbrev pub spaced : List Token → List ℕ
-spaced [] = []
-spaced (t ∷ ts) = 32 ∷ (spell t ++ spaced ts)
+abbrev pub spaced_text : List Token → List ℕ
+spaced_text [] = []
+spaced_text (t ∷ ts) = 32 ∷ (spell t ++ spaced_text ts)
 
 -- tokens with one space between
-abbrev pub spelled : List Token → List ℕ
-spelled [] = []
-spelled (t ∷ ts) = spell t ++ spaced ts
+abbrev pub spelled_text : List Token → List ℕ
+spelled_text [] = []
+spelled_text (t ∷ ts) = spell t ++ spaced_text ts
 
 -- the text has these tokens, wherever they begin
 pub record HasTokens (text : List ℕ) (ts : List Token) : Type 0 where
   pub placed : List Placed
-  pub lexed : lexed text ≡ Ok placed
+  pub lexed : lexed_text text ≡ Ok placed
   pub same : map token_of placed ≡ ts

@@ -5,7 +5,7 @@ ghost use Rattle.saber_query.specs.declared.token.Token.TheVariants.{Word};
 ghost use Rattle.saber_query.specs.declared.tree.Keys.{Keys};
 ghost use Rattle.saber_query.specs.Machine as m;
 ghost use Rattle.saber_query.specs.Words.{measure_words, window_words, source_words, second_source_words, column_words, columns_words, by_words, group_words};
-ghost use Rattle.saber_query.specs.Reading.{coming, Parses};
+ghost use Rattle.saber_query.specs.Reading.{coming_tokens, Parses};
 
 use crate::cursor::Tokens;
 use crate::expression::{number, second_name};
@@ -15,7 +15,7 @@ use crate::tree::{Column, Columns, Keys, Measure, Source, Window};
 use std::alloc::Global;
 
 fn measure(alloc: Global, tokens: &mut Tokens) -> Result<Measure, Stop>
-    ensures { Parses (m.measure ∷ []) measure_words result (coming tokens.old) (coming tokens.new) }
+    ensures { Parses (m.measure ∷ []) measure_words result (coming_tokens tokens.old) (coming_tokens tokens.new) }
 {
     if tokens.take_word(Keyword::Rows) {
         return Ok(Measure::Rows);
@@ -30,7 +30,7 @@ fn measure(alloc: Global, tokens: &mut Tokens) -> Result<Measure, Stop>
 }
 
 fn window(alloc: Global, tokens: &mut Tokens) -> Result<Option<Window>, Stop>
-    ensures { Parses (m.a_window ∷ []) window_words result (coming tokens.old) (coming tokens.new) }
+    ensures { Parses (m.a_window ∷ []) window_words result (coming_tokens tokens.old) (coming_tokens tokens.new) }
 {
     if !tokens.take_mark(Sign::OpenBracket) {
         return Ok(None);
@@ -48,7 +48,7 @@ fn window(alloc: Global, tokens: &mut Tokens) -> Result<Option<Window>, Stop>
 }
 
 pub(crate) fn source(alloc: Global, tokens: &mut Tokens) -> Result<Source, Stop>
-    ensures { Parses (m.source ∷ []) source_words result (coming tokens.old) (coming tokens.new) }
+    ensures { Parses (m.source ∷ []) source_words result (coming_tokens tokens.old) (coming_tokens tokens.new) }
 {
     let Some(name) = tokens.take_name() else {
         return Err(Stop::Syntax);
@@ -63,8 +63,8 @@ pub(crate) fn source(alloc: Global, tokens: &mut Tokens) -> Result<Source, Stop>
 }
 
 pub(crate) fn second(alloc: Global, tokens: &mut Tokens) -> Result<Option<Source>, Stop>
-    ensures { Parses (m.a_second ∷ []) second_source_words result (coming tokens.old)
-        (coming tokens.new) }
+    ensures { Parses (m.a_second ∷ []) second_source_words result (coming_tokens tokens.old)
+        (coming_tokens tokens.new) }
 {
     if !tokens.take_mark(Sign::Comma) {
         return Ok(None);
@@ -74,7 +74,7 @@ pub(crate) fn second(alloc: Global, tokens: &mut Tokens) -> Result<Option<Source
 }
 
 fn column(tokens: &mut Tokens) -> Result<Column, Stop>
-    ensures { Parses (m.column ∷ []) column_words result (coming tokens.old) (coming tokens.new) }
+    ensures { Parses (m.column ∷ []) column_words result (coming_tokens tokens.old) (coming_tokens tokens.new) }
 {
     let Some(first) = tokens.take_name() else {
         return Err(Stop::Syntax);
@@ -89,8 +89,8 @@ fn column(tokens: &mut Tokens) -> Result<Column, Stop>
 }
 
 fn columns(alloc: Global, tokens: &mut Tokens) -> Result<Columns, Stop>
-    ensures { Parses (m.more_columns ∷ []) columns_words result (coming tokens.old)
-        (coming tokens.new) }
+    ensures { Parses (m.more_columns ∷ []) columns_words result (coming_tokens tokens.old)
+        (coming_tokens tokens.new) }
 {
     let mut items = Vec::new(alloc);
     while tokens.take_mark(Sign::Comma) {
@@ -102,7 +102,7 @@ fn columns(alloc: Global, tokens: &mut Tokens) -> Result<Columns, Stop>
 // BY and its columns.
 fn by_columns(alloc: Global, tokens: &mut Tokens) -> Result<Keys, Stop>
     ensures { Parses (m.by_word ∷ m.column ∷ m.more_columns ∷ []) by_words result
-        (coming tokens.old) (coming tokens.new) }
+        (coming_tokens tokens.old) (coming_tokens tokens.new) }
 {
     tokens.expect_word(Keyword::By)?;
     let first = column(tokens)?;
@@ -118,8 +118,8 @@ fn by_columns(alloc: Global, tokens: &mut Tokens) -> Result<Keys, Stop>
 // What follows PARTITION, before the size.
 fn partition(alloc: Global, tokens: &mut Tokens) -> Result<Keys, Stop>
     ensures { Parses (m.by_word ∷ m.column ∷ m.more_columns ∷ m.rows_word ∷ [])
-        (λ (g : Keys). by_words g ++ Word Rows ∷ []) result (coming tokens.old)
-        (coming tokens.new) }
+        (λ (g : Keys). by_words g ++ Word Rows ∷ []) result (coming_tokens tokens.old)
+        (coming_tokens tokens.new) }
 {
     let keys = by_columns(alloc, tokens)?;
     match tokens.expect_word(Keyword::Rows) {
@@ -132,7 +132,7 @@ fn partition(alloc: Global, tokens: &mut Tokens) -> Result<Keys, Stop>
 }
 
 pub(crate) fn group(alloc: Global, tokens: &mut Tokens) -> Result<Option<Keys>, Stop>
-    ensures { Parses (m.a_group ∷ []) group_words result (coming tokens.old) (coming tokens.new) }
+    ensures { Parses (m.a_group ∷ []) group_words result (coming_tokens tokens.old) (coming_tokens tokens.new) }
 {
     if !tokens.take_word(Keyword::Group) {
         return Ok(None);

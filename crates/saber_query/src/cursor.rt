@@ -2,7 +2,7 @@
 ghost use Rattle.std.specs.Prelude.{◌≡◌, ◌<◌, length, OnSome, IsTrue, ◌↔◌, ◌∷◌, [], map};
 ghost use Rattle.saber_query.specs.declared.token.Token.TheVariants.{Word, Mark};
 ghost use Rattle.saber_query.specs.Machine.{Symbol};
-ghost use Rattle.saber_query.specs.Reading.{coming, token_of, Took, TookName, TookNumber, TookAdding, TookCmp, TookStreamWord, Expected, IsTerminal, Parses, StartsWith, starts_name, starts_number};
+ghost use Rattle.saber_query.specs.Reading.{coming_tokens, token_of, Took, TookName, TookNumber, TookAdding, TookCmp, TookStreamWord, Expected, IsTerminal, Parses, StartsWith, starts_name, starts_number};
 
 use crate::stop::Stop;
 use crate::token::{Keyword, Name, Placed, Sign, Token};
@@ -16,7 +16,7 @@ pub(crate) struct Tokens {
 
 impl Tokens {
     pub(crate) fn at_mark(&self, sign: Sign) -> bool
-        ensures { IsTrue result ↔ StartsWith (Mark sign) (coming self.now) }
+        ensures { IsTrue result ↔ StartsWith (Mark sign) (coming_tokens self.now) }
     {
         match self.rest.front() {
             Some(placed) => match placed.token {
@@ -28,7 +28,7 @@ impl Tokens {
     }
 
     pub(crate) fn at_word(&self, keyword: Keyword) -> bool
-        ensures { IsTrue result ↔ StartsWith (Word keyword) (coming self.now) }
+        ensures { IsTrue result ↔ StartsWith (Word keyword) (coming_tokens self.now) }
     {
         match self.rest.front() {
             Some(placed) => match placed.token {
@@ -40,7 +40,7 @@ impl Tokens {
     }
 
     pub(crate) fn take_mark(&mut self, sign: Sign) -> bool
-        ensures took { Took (Mark sign) result (coming self.old) (coming self.new) }
+        ensures took { Took (Mark sign) result (coming_tokens self.old) (coming_tokens self.new) }
     {
         let there = self.at_mark(sign);
         if there {
@@ -50,7 +50,7 @@ impl Tokens {
     }
 
     pub(crate) fn take_word(&mut self, keyword: Keyword) -> bool
-        ensures took { Took (Word keyword) result (coming self.old) (coming self.new) }
+        ensures took { Took (Word keyword) result (coming_tokens self.old) (coming_tokens self.new) }
     {
         let there = self.at_word(keyword);
         if there {
@@ -60,7 +60,7 @@ impl Tokens {
     }
 
     fn at_name(&self) -> bool
-        ensures { result ≡ starts_name (coming self.now) }
+        ensures { result ≡ starts_name (coming_tokens self.now) }
     {
         match self.rest.front() {
             Some(placed) => matches!(&placed.token, Token::Named(_)),
@@ -69,7 +69,7 @@ impl Tokens {
     }
 
     fn at_number(&self) -> bool
-        ensures { result ≡ starts_number (coming self.now) }
+        ensures { result ≡ starts_number (coming_tokens self.now) }
     {
         match self.rest.front() {
             Some(placed) => matches!(&placed.token, Token::Number(_)),
@@ -78,7 +78,7 @@ impl Tokens {
     }
 
     pub(crate) fn take_name(&mut self) -> Option<Name>
-        ensures took { TookName result (coming self.old) (coming self.new) }
+        ensures took { TookName result (coming_tokens self.old) (coming_tokens self.new) }
     {
         if !self.at_name() {
             return None;
@@ -95,7 +95,7 @@ impl Tokens {
     }
 
     pub(crate) fn take_number(&mut self) -> Option<u64>
-        ensures took { TookNumber result (coming self.old) (coming self.new) }
+        ensures took { TookNumber result (coming_tokens self.old) (coming_tokens self.new) }
     {
         if !self.at_number() {
             return None;
@@ -112,7 +112,7 @@ impl Tokens {
     }
 
     pub(crate) fn take_adding(&mut self) -> Option<Adding>
-        ensures took { TookAdding result (coming self.old) (coming self.new) }
+        ensures took { TookAdding result (coming_tokens self.old) (coming_tokens self.new) }
     {
         if self.take_mark(Sign::Plus) {
             return Some(Adding::Plus);
@@ -124,7 +124,7 @@ impl Tokens {
     }
 
     pub(crate) fn take_cmp(&mut self) -> Option<Cmp>
-        ensures took { TookCmp result (coming self.old) (coming self.new) }
+        ensures took { TookCmp result (coming_tokens self.old) (coming_tokens self.new) }
     {
         if self.take_mark(Sign::Equal) {
             return Some(Cmp::Equal);
@@ -148,7 +148,7 @@ impl Tokens {
     }
 
     pub(crate) fn take_stream_word(&mut self) -> Option<StreamWord>
-        ensures took { TookStreamWord result (coming self.old) (coming self.new) }
+        ensures took { TookStreamWord result (coming_tokens self.old) (coming_tokens self.new) }
     {
         if self.take_word(Keyword::Rstream) {
             return Some(StreamWord::Rstream);
@@ -163,9 +163,9 @@ impl Tokens {
     }
 
     pub(crate) fn expect_mark(&mut self, sign: Sign) -> Result<(), Stop>
-        ensures took { Expected (Mark sign) result (coming self.old) (coming self.new) }
+        ensures took { Expected (Mark sign) result (coming_tokens self.old) (coming_tokens self.new) }
         ensures parses { (x : Symbol) → IsTerminal x (Mark sign) → Parses (x ∷ [])
-            (λ (u : Unit {0}). Mark sign ∷ []) result (coming self.old) (coming self.new) }
+            (λ (u : Unit {0}). Mark sign ∷ []) result (coming_tokens self.old) (coming_tokens self.new) }
     {
         if !self.take_mark(sign) {
             return Err(Stop::Syntax);
@@ -175,7 +175,7 @@ impl Tokens {
 
     pub(crate) fn expect_word(&mut self, keyword: Keyword) -> Result<(), Stop>
         ensures parses { (x : Symbol) → IsTerminal x (Word keyword) → Parses (x ∷ [])
-            (λ (u : Unit {0}). Word keyword ∷ []) result (coming self.old) (coming self.new) }
+            (λ (u : Unit {0}). Word keyword ∷ []) result (coming_tokens self.old) (coming_tokens self.new) }
     {
         if !self.take_word(keyword) {
             return Err(Stop::Syntax);
@@ -184,20 +184,20 @@ impl Tokens {
     }
 
     pub(crate) fn is_empty(&self) -> bool
-        ensures { IsTrue result ↔ (coming self.now ≡ []) }
+        ensures { IsTrue result ↔ (coming_tokens self.now ≡ []) }
     {
         self.rest.is_empty()
     }
 
     pub(crate) fn from_deque(rest: VecDeque<Placed>) -> Tokens
-        ensures { coming result ≡ map token_of rest.items }
+        ensures { coming_tokens result ≡ map token_of rest.items }
     {
         Tokens { rest }
     }
 
     /// How many tokens are left.
     pub(crate) fn len(&self) -> usize
-        ensures { result ≡ length (coming self.now) }
+        ensures { result ≡ length (coming_tokens self.now) }
     {
         self.rest.len()
     }

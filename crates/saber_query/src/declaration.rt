@@ -6,7 +6,7 @@ ghost use Rattle.saber_query.specs.declared.token.Token.TheVariants.{Mark, Named
 ghost use Rattle.saber_query.specs.declared.tree.Decl.{Decl};
 ghost use Rattle.saber_query.specs.Machine as m;
 ghost use Rattle.saber_query.specs.Words.{names_words, declared_words, decl_words, decls_words};
-ghost use Rattle.saber_query.specs.Reading.{coming, Parses};
+ghost use Rattle.saber_query.specs.Reading.{coming_tokens, Parses};
 
 use crate::cursor::Tokens;
 use crate::expression::name;
@@ -16,7 +16,7 @@ use crate::tree::{Decl, Decls, Names};
 use std::alloc::Global;
 
 fn names(alloc: Global, tokens: &mut Tokens) -> Result<Names, Stop>
-    ensures { Parses (m.more_names ∷ []) names_words result (coming tokens.old) (coming tokens.new) }
+    ensures { Parses (m.more_names ∷ []) names_words result (coming_tokens tokens.old) (coming_tokens tokens.new) }
 {
     let mut items = Vec::new(alloc);
     while tokens.take_mark(Sign::Comma) {
@@ -28,7 +28,7 @@ fn names(alloc: Global, tokens: &mut Tokens) -> Result<Names, Stop>
 // The name of a stream, and the parenthesis behind it.
 fn stream(tokens: &mut Tokens) -> Result<Name, Stop>
     ensures { Parses (m.a_name ∷ m.open_sign ∷ []) (λ (n : List ℕ). Named n ∷ Mark Open ∷ [])
-        result (coming tokens.old) (coming tokens.new) }
+        result (coming_tokens tokens.old) (coming_tokens tokens.new) }
 {
     let stream = name(tokens)?;
     match tokens.expect_mark(Sign::Open) {
@@ -49,7 +49,7 @@ struct Listed {
 
 fn columns(alloc: Global, tokens: &mut Tokens) -> Result<Listed, Stop>
     ensures { Parses (m.a_name ∷ m.more_names ∷ []) (λ (l : Listed). Named l.first ∷ names_words l.more)
-        result (coming tokens.old) (coming tokens.new) }
+        result (coming_tokens tokens.old) (coming_tokens tokens.new) }
 {
     let first = name(tokens)?;
     match names(alloc, tokens) {
@@ -65,7 +65,7 @@ fn columns(alloc: Global, tokens: &mut Tokens) -> Result<Listed, Stop>
 fn opened(alloc: Global, tokens: &mut Tokens) -> Result<Decl, Stop>
     ensures { Parses (m.a_name ∷ m.open_sign ∷ m.a_name ∷ m.more_names ∷ [])
         (λ (d : Decl). Named d.name ∷ Mark Open ∷ Named d.first ∷ names_words d.more)
-        result (coming tokens.old) (coming tokens.new) }
+        result (coming_tokens tokens.old) (coming_tokens tokens.new) }
 {
     let name = stream(tokens)?;
     match columns(alloc, tokens) {
@@ -84,8 +84,8 @@ fn opened(alloc: Global, tokens: &mut Tokens) -> Result<Decl, Stop>
 // The marks behind the last column.
 fn close(tokens: &mut Tokens) -> Result<(), Stop>
     ensures { Parses (m.close_sign ∷ m.semicolon_sign ∷ [])
-        (λ (u : Unit {0}). Mark Close ∷ Mark Semicolon ∷ []) result (coming tokens.old)
-        (coming tokens.new) }
+        (λ (u : Unit {0}). Mark Close ∷ Mark Semicolon ∷ []) result (coming_tokens tokens.old)
+        (coming_tokens tokens.new) }
 {
     tokens.expect_mark(Sign::Close)?;
     tokens.expect_mark(Sign::Semicolon)
@@ -93,7 +93,7 @@ fn close(tokens: &mut Tokens) -> Result<(), Stop>
 
 // What follows STREAM.
 fn declared(alloc: Global, tokens: &mut Tokens) -> Result<Decl, Stop>
-    ensures { Parses m.declared declared_words result (coming tokens.old) (coming tokens.new) }
+    ensures { Parses m.declaration_symbols declared_words result (coming_tokens tokens.old) (coming_tokens tokens.new) }
 {
     let decl = opened(alloc, tokens)?;
     match close(tokens) {
@@ -106,7 +106,7 @@ fn declared(alloc: Global, tokens: &mut Tokens) -> Result<Decl, Stop>
 }
 
 pub(crate) fn decl(alloc: Global, tokens: &mut Tokens) -> Result<Decl, Stop>
-    ensures { Parses (m.decl ∷ []) decl_words result (coming tokens.old) (coming tokens.new) }
+    ensures { Parses (m.decl ∷ []) decl_words result (coming_tokens tokens.old) (coming_tokens tokens.new) }
 {
     if !tokens.take_word(Keyword::Stream) {
         return Err(Stop::Syntax);
@@ -115,7 +115,7 @@ pub(crate) fn decl(alloc: Global, tokens: &mut Tokens) -> Result<Decl, Stop>
 }
 
 pub(crate) fn decls(alloc: Global, tokens: &mut Tokens) -> Result<Decls, Stop>
-    ensures { Parses (m.more_decls ∷ []) decls_words result (coming tokens.old) (coming tokens.new) }
+    ensures { Parses (m.more_decls ∷ []) decls_words result (coming_tokens tokens.old) (coming_tokens tokens.new) }
 {
     let mut items = Vec::new(alloc);
     while tokens.take_word(Keyword::Stream) {

@@ -1,6 +1,6 @@
 // The tokens of a text.
 ghost use Rattle.std.specs.Prelude.{◌≡◌, ◌≤◌, ◌<◌, ◌+◌, ◌++◌, ◌∷◌, [], ◌^◌, ◌*◌, ◌-◌, length, IfOk, IfErr, OnOk, OnErr, Err};
-ghost use Rattle.saber_query.specs.Lexing.{is_letter, is_name_byte, is_space, single, double, angle, begin, placed, step, number_more, ended, lexed, StepGives, LexGives, tokens_in};
+ghost use Rattle.saber_query.specs.Lexing.{is_letter, is_name_byte, is_space, single, double, angle, begin, placed_token, step, number_more, last_token, lexed_text, StepGives, LexGives, tokens_in};
 ghost use Rattle.saber_query.specs.declared.fault.QueryFault.TheVariants.{NoMemory};
 ghost use Rattle.saber_query.specs.declared.lexer.Pending.TheVariants as p;
 ghost use Rattle.saber_query.specs.Small.{IsSmall, IsLexFault};
@@ -73,7 +73,7 @@ fn angle(greater: bool) -> Sign
 }
 
 fn put(out: &mut Vec<Placed>, byte: u64, token: Token) -> Result<(), QueryFault>
-    ensures ok { OnOk result (out.new.items ≡ out.old.items ++ placed byte token ∷ []) }
+    ensures ok { OnOk result (out.new.items ≡ out.old.items ++ placed_token byte token ∷ []) }
     ensures err { OnErr result (result ≡ Err QueryFault.NoMemory) }
 {
     out.push(Placed { byte, token })?;
@@ -254,9 +254,9 @@ fn step(
     }
 }
 
-#[tactic(auto, unfolding(crate::specs::Lexing::ended))]
+#[tactic(auto, unfolding(crate::specs::Lexing::last_token))]
 fn end(pending: Pending, out: &mut Vec<Placed>) -> Result<(), QueryFault>
-    ensures ok { OnOk result (out.new.items ≡ out.old.items ++ ended pending) }
+    ensures ok { OnOk result (out.new.items ≡ out.old.items ++ last_token pending) }
     ensures err { OnErr result (result ≡ Err QueryFault.NoMemory) }
 {
     match pending {
@@ -271,7 +271,7 @@ fn end(pending: Pending, out: &mut Vec<Placed>) -> Result<(), QueryFault>
 /// token, or the first number above 2^63, whichever comes first.
 #[tactic(auto, unfolding(crate::specs::Lexing::lex_from))]
 pub(crate) fn lex(alloc: Global, text: &[u8]) -> Result<Vec<Placed>, QueryFault>
-    ensures gives { LexGives (tokens_in result) (lexed text.now) }
+    ensures gives { LexGives (tokens_in result) (lexed_text text.now) }
     ensures causes { IfErr result IsLexFault }
 {
     let mut out = Vec::new(alloc);

@@ -11,7 +11,7 @@ ghost use Rattle.saber_query.specs.declared.tree.Pred.{Pred};
 ghost use Rattle.saber_query.specs.Machine as m;
 ghost use Rattle.saber_query.specs.Words.{cmp_sign, test_words, tests_words, both_words, units_words, conjs_words};
 ghost use Rattle.saber_query.specs.Trees.{test_of, both_of, tests_of, test_depth, both_depth, tests_depth, compare, negated, enclosed_by, both_by, tests_by, units_depth, conjs_depth};
-ghost use Rattle.saber_query.specs.Reading.{coming, Parses, StartsWith};
+ghost use Rattle.saber_query.specs.Reading.{coming_tokens, Parses, StartsWith};
 
 use crate::cursor::Tokens;
 use crate::expression::expr;
@@ -22,7 +22,7 @@ use std::alloc::Global;
 
 fn comparison(tokens: &mut Tokens) -> Result<Cmp, Stop>
     ensures { Parses (m.comparison ∷ []) (λ (c : Cmp). Mark (cmp_sign c) ∷ []) result
-        (coming tokens.old) (coming tokens.new) }
+        (coming_tokens tokens.old) (coming_tokens tokens.new) }
 {
     match tokens.take_cmp() {
         Some(cmp) => Ok(cmp),
@@ -64,10 +64,10 @@ fn chosen(first: Conj, more: Vec<Conj>) -> Pred
 
 // A comparison: a unit that doesn't begin with NOT or a parenthesis.
 fn compare(alloc: Global, tokens: &mut Tokens) -> Result<Unit, Stop>
-    requires not { ¬ (StartsWith (Word Not) (coming tokens.old)) }
-    requires open { ¬ (StartsWith (Mark Open) (coming tokens.old)) }
+    requires not { ¬ (StartsWith (Word Not) (coming_tokens tokens.old)) }
+    requires open { ¬ (StartsWith (Mark Open) (coming_tokens tokens.old)) }
     ensures parses { (d : ℕ) → Parses (m.unit d ∷ []) (λ (u : Unit_tree). test_words (test_of u)) result
-        (coming tokens.old) (coming tokens.new) }
+        (coming_tokens tokens.old) (coming_tokens tokens.new) }
     ensures depth { IfOk result (λ u. test_depth (test_of u) ≡ 0) }
 {
     let left = expr(alloc, tokens)?;
@@ -90,7 +90,7 @@ fn compare(alloc: Global, tokens: &mut Tokens) -> Result<Unit, Stop>
 // A unit where nothing more may be opened.
 fn shallow(alloc: Global, tokens: &mut Tokens) -> Result<Unit, Stop>
     ensures parses { Parses (m.unit 0 ∷ []) (λ (u : Unit_tree). test_words (test_of u)) result
-        (coming tokens.old) (coming tokens.new) }
+        (coming_tokens tokens.old) (coming_tokens tokens.new) }
     ensures depth { IfOk result (λ u. test_depth (test_of u) ≡ 0) }
 {
     if tokens.at_word(Keyword::Not) {
@@ -105,7 +105,7 @@ fn shallow(alloc: Global, tokens: &mut Tokens) -> Result<Unit, Stop>
 #[cycle(parser)]
 fn unit(alloc: Global, tokens: &mut Tokens, left: u32) -> Result<Unit, Stop>
     ensures parses { Parses (m.unit left ∷ []) (λ (u : Unit_tree). test_words (test_of u)) result
-        (coming tokens.old) (coming tokens.new) }
+        (coming_tokens tokens.old) (coming_tokens tokens.new) }
     ensures depth { IfOk result (λ u. test_depth (test_of u) ≤ left) }
 {
     if left == 0 {
@@ -130,8 +130,8 @@ fn unit(alloc: Global, tokens: &mut Tokens, left: u32) -> Result<Unit, Stop>
 
 #[cycle(parser)]
 fn units(alloc: Global, tokens: &mut Tokens, left: u32) -> Result<Vec<Unit>, Stop>
-    ensures parses { Parses (m.more_ands left ∷ []) units_words result (coming tokens.old)
-        (coming tokens.new) }
+    ensures parses { Parses (m.more_ands left ∷ []) units_words result (coming_tokens tokens.old)
+        (coming_tokens tokens.new) }
     ensures depth { IfOk result (λ us. units_depth us ≤ left) }
 {
     let mut more = Vec::new(alloc);
@@ -144,7 +144,7 @@ fn units(alloc: Global, tokens: &mut Tokens, left: u32) -> Result<Vec<Unit>, Sto
 #[cycle(parser)]
 fn conj(alloc: Global, tokens: &mut Tokens, left: u32) -> Result<Conj, Stop>
     ensures parses { Parses (m.unit left ∷ m.more_ands left ∷ []) (λ (c : Conj). both_words (both_of c))
-        result (coming tokens.old) (coming tokens.new) }
+        result (coming_tokens tokens.old) (coming_tokens tokens.new) }
     ensures depth { IfOk result (λ c. both_depth (both_of c) ≤ left) }
 {
     let first = unit(alloc, tokens, left)?;
@@ -159,7 +159,7 @@ fn conj(alloc: Global, tokens: &mut Tokens, left: u32) -> Result<Conj, Stop>
 
 #[cycle(parser)]
 fn conjs(alloc: Global, tokens: &mut Tokens, left: u32) -> Result<Vec<Conj>, Stop>
-    ensures parses { Parses (m.more_ors left ∷ []) conjs_words result (coming tokens.old) (coming tokens.new) }
+    ensures parses { Parses (m.more_ors left ∷ []) conjs_words result (coming_tokens tokens.old) (coming_tokens tokens.new) }
     ensures depth { IfOk result (λ cs. conjs_depth cs ≤ left) }
 {
     let mut more = Vec::new(alloc);
@@ -172,8 +172,8 @@ fn conjs(alloc: Global, tokens: &mut Tokens, left: u32) -> Result<Vec<Conj>, Sto
 #[cycle(parser)]
 pub(crate) fn pred(alloc: Global, tokens: &mut Tokens, left: u32) -> Result<Pred, Stop>
     ensures parses { Parses (m.unit left ∷ m.more_ands left ∷ m.more_ors left ∷ [])
-        (λ (p : Pred). tests_words (tests_of p)) result (coming tokens.old)
-        (coming tokens.new) }
+        (λ (p : Pred). tests_words (tests_of p)) result (coming_tokens tokens.old)
+        (coming_tokens tokens.new) }
     ensures depth { IfOk result (λ p. tests_depth (tests_of p) ≤ left) }
 {
     let first = conj(alloc, tokens, left)?;

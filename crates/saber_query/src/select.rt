@@ -11,7 +11,7 @@ ghost use Rattle.saber_query.specs.declared.select.Chosen.{Chosen};
 ghost use Rattle.saber_query.specs.Machine as m;
 ghost use Rattle.saber_query.specs.Words.{argument_words, item_words, items_words, where_words, last_words, words, outputs_words, streams_words, words_of_ends, asked_words, asked_of, words_of_body};
 ghost use Rattle.saber_query.specs.Trees.{tests_of, where_depth, depth, query_of};
-ghost use Rattle.saber_query.specs.Reading.{coming, Parses, QueryGives};
+ghost use Rattle.saber_query.specs.Reading.{coming_tokens, Parses, QueryGives};
 
 use crate::clauses::{group, second, source};
 use crate::cursor::Tokens;
@@ -28,7 +28,7 @@ use std::alloc::Global;
 fn all_rows(tokens: &mut Tokens) -> Result<(), Stop>
     ensures { Parses (m.open_sign ∷ m.star_sign ∷ m.close_sign ∷ [])
         (λ (u : Unit {0}). Mark Open ∷ Mark Star ∷ Mark Close ∷ []) result
-        (coming tokens.old) (coming tokens.new) }
+        (coming_tokens tokens.old) (coming_tokens tokens.new) }
 {
     tokens.expect_mark(Sign::Open)?;
     tokens.expect_mark(Sign::Star)?;
@@ -38,7 +38,7 @@ fn all_rows(tokens: &mut Tokens) -> Result<(), Stop>
 // What follows SUM, MIN or MAX.
 fn argument(alloc: Global, tokens: &mut Tokens) -> Result<Expr, Stop>
     ensures { Parses (m.open_sign ∷ m.factor ∷ m.more_factors ∷ m.more_terms ∷ m.close_sign ∷ [])
-        argument_words result (coming tokens.old) (coming tokens.new) }
+        argument_words result (coming_tokens tokens.old) (coming_tokens tokens.new) }
 {
     tokens.expect_mark(Sign::Open)?;
     let argument = expr(alloc, tokens)?;
@@ -52,7 +52,7 @@ fn argument(alloc: Global, tokens: &mut Tokens) -> Result<Expr, Stop>
 }
 
 fn item(alloc: Global, tokens: &mut Tokens) -> Result<Item, Stop>
-    ensures { Parses (m.item ∷ []) item_words result (coming tokens.old) (coming tokens.new) }
+    ensures { Parses (m.item ∷ []) item_words result (coming_tokens tokens.old) (coming_tokens tokens.new) }
 {
     if tokens.take_word(Keyword::Count) {
         all_rows(tokens)?;
@@ -71,7 +71,7 @@ fn item(alloc: Global, tokens: &mut Tokens) -> Result<Item, Stop>
 }
 
 fn items(alloc: Global, tokens: &mut Tokens) -> Result<Items, Stop>
-    ensures { Parses (m.more_items ∷ []) items_words result (coming tokens.old) (coming tokens.new) }
+    ensures { Parses (m.more_items ∷ []) items_words result (coming_tokens tokens.old) (coming_tokens tokens.new) }
 {
     let mut items = Vec::new(alloc);
     while tokens.take_mark(Sign::Comma) {
@@ -81,15 +81,15 @@ fn items(alloc: Global, tokens: &mut Tokens) -> Result<Items, Stop>
 }
 
 fn semicolon(tokens: &mut Tokens) -> bool
-    ensures { Parses (m.a_semicolon ∷ []) last_words (Ok result) (coming tokens.old)
-        (coming tokens.new) }
+    ensures { Parses (m.a_semicolon ∷ []) last_words (Ok result) (coming_tokens tokens.old)
+        (coming_tokens tokens.new) }
 {
     tokens.take_mark(Sign::Semicolon)
 }
 
 fn condition(alloc: Global, tokens: &mut Tokens, left: u32) -> Result<Option<Pred>, Stop>
     ensures parses { Parses (m.a_where left ∷ []) (λ p. where_words (option_map tests_of p)) result
-        (coming tokens.old) (coming tokens.new) }
+        (coming_tokens tokens.old) (coming_tokens tokens.new) }
     ensures depth { IfOk result (λ p. where_depth (option_map tests_of p) ≤ left) }
 {
     if !tokens.take_word(Keyword::Where) {
@@ -107,8 +107,8 @@ struct Outputs {
 
 fn take_outputs(alloc: Global, tokens: &mut Tokens) -> Result<Outputs, Stop>
     ensures { Parses (m.select_word ∷ m.item ∷ m.more_items ∷ [])
-        (λ (o : Outputs). outputs_words o.item o.items) result (coming tokens.old)
-        (coming tokens.new) }
+        (λ (o : Outputs). outputs_words o.item o.items) result (coming_tokens tokens.old)
+        (coming_tokens tokens.new) }
 {
     tokens.expect_word(Keyword::Select)?;
     let item = item(alloc, tokens)?;
@@ -130,8 +130,8 @@ struct Streams {
 
 fn take_streams(alloc: Global, tokens: &mut Tokens) -> Result<Streams, Stop>
     ensures { Parses (m.from_word ∷ m.source ∷ m.a_second ∷ [])
-        (λ (s : Streams). streams_words s.from s.second) result (coming tokens.old)
-        (coming tokens.new) }
+        (λ (s : Streams). streams_words s.from s.second) result (coming_tokens tokens.old)
+        (coming_tokens tokens.new) }
 {
     tokens.expect_word(Keyword::From)?;
     let from = source(alloc, tokens)?;
@@ -148,7 +148,7 @@ struct Ends {
 
 fn take_ends(alloc: Global, tokens: &mut Tokens, left: u32) -> Result<Ends, Stop>
     ensures parses { Parses (m.a_where left ∷ m.a_group ∷ []) words_of_ends result
-        (coming tokens.old) (coming tokens.new) }
+        (coming_tokens tokens.old) (coming_tokens tokens.new) }
     ensures depth { IfOk result (λ e. where_depth (option_map tests_of e.predicate) ≤ left) }
 {
     let predicate = condition(alloc, tokens, left)?;
@@ -176,7 +176,7 @@ fn let_chosen_go(chosen: Chosen) {
 
 fn take_chosen(alloc: Global, tokens: &mut Tokens, left: u32) -> Result<Chosen, Stop>
     ensures parses { Parses (m.selects left) (λ (c : Chosen). asked_words (asked_of c)) result
-        (coming tokens.old) (coming tokens.new) }
+        (coming_tokens tokens.old) (coming_tokens tokens.new) }
     ensures depth { IfOk result (λ c. where_depth (option_map tests_of c.ends.predicate) ≤ left) }
 {
     let outputs = take_outputs(alloc, tokens)?;
@@ -210,9 +210,9 @@ struct Body {
 
 // What stands in parentheses behind a word.
 fn in_parentheses(alloc: Global, tokens: &mut Tokens, left: u32) -> Result<Chosen, Stop>
-    ensures parses { Parses (m.worded left)
+    ensures parses { Parses (m.word_symbols left)
         (λ (c : Chosen). Mark Open ∷ (asked_words (asked_of c) ++ Mark Close ∷ [])) result
-        (coming tokens.old) (coming tokens.new) }
+        (coming_tokens tokens.old) (coming_tokens tokens.new) }
     ensures depth { IfOk result (λ c. where_depth (option_map tests_of c.ends.predicate) ≤ left) }
 {
     tokens.expect_mark(Sign::Open)?;
@@ -227,8 +227,8 @@ fn in_parentheses(alloc: Global, tokens: &mut Tokens, left: u32) -> Result<Chose
 }
 
 fn take_body(alloc: Global, tokens: &mut Tokens, left: u32) -> Result<Body, Stop>
-    ensures parses { Parses (m.body left ∷ []) words_of_body result (coming tokens.old)
-        (coming tokens.new) }
+    ensures parses { Parses (m.body left ∷ []) words_of_body result (coming_tokens tokens.old)
+        (coming_tokens tokens.new) }
     ensures depth { IfOk result (λ b. where_depth (option_map tests_of b.chosen.ends.predicate)
         ≤ left) }
 {
@@ -244,8 +244,8 @@ fn take_body(alloc: Global, tokens: &mut Tokens, left: u32) -> Result<Body, Stop
 }
 
 fn select(alloc: Global, tokens: &mut Tokens, left: u32) -> Result<Select, Stop>
-    ensures parses { Parses (m.start left) (λ q. words (query_of q)) result (coming tokens.old)
-        (coming tokens.new) }
+    ensures parses { Parses (m.start left) (λ q. words (query_of q)) result (coming_tokens tokens.old)
+        (coming_tokens tokens.new) }
     ensures depth { IfOk result (λ q. depth (query_of q) ≤ left) }
 {
     let decl = decl(alloc, tokens)?;
@@ -286,7 +286,7 @@ fn select(alloc: Global, tokens: &mut Tokens, left: u32) -> Result<Select, Stop>
 /// The query that the tokens are the words of, else the first of them that doesn't fit, or goes too
 /// deep.
 pub(crate) fn query(alloc: Global, tokens: &mut Tokens) -> Result<Select, Stop>
-    ensures { QueryGives result (coming tokens.old) (coming tokens.new) }
+    ensures { QueryGives result (coming_tokens tokens.old) (coming_tokens tokens.new) }
 {
     let query = select(alloc, tokens, 64)?;
     if !tokens.is_empty() {

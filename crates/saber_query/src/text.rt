@@ -3,8 +3,8 @@ ghost use Rattle.std.specs.Prelude.{◌≡◌, ◌≤◌, ◌++◌, List, length
 ghost use Rattle.saber_query.specs.declared.token.Placed.{Placed};
 ghost use Rattle.saber_query.specs.declared.token.Token.{Token};
 ghost use Rattle.saber_query.specs.declared.fault.QueryFault.TheVariants.{NoMemory};
-ghost use Rattle.saber_query.specs.Reading.{coming, token_of, QueryGives};
-ghost use Rattle.saber_query.specs.Lexing.{lexed};
+ghost use Rattle.saber_query.specs.Reading.{coming_tokens, token_of, QueryGives};
+ghost use Rattle.saber_query.specs.Lexing.{lexed_text};
 ghost use Rattle.saber_query.specs.Means.{byte_of, ParseGives};
 ghost use Rattle.saber_query.specs.Small.{byte_at};
 
@@ -42,7 +42,7 @@ fn starts_of(alloc: Global, placed: &[Placed]) -> Result<Vec<u64>, QueryFault>
 }
 
 fn tokens_of(alloc: Global, placed: Vec<Placed>) -> Result<Tokens, QueryFault>
-    ensures ok { IfOk result (λ t. coming t ≡ map token_of placed.items) }
+    ensures ok { IfOk result (λ t. coming_tokens t ≡ map token_of placed.items) }
     ensures err { IfErr result (λ e. e ≡ NoMemory) }
 {
     let mut rest = VecDeque::new(alloc);
@@ -56,7 +56,7 @@ fn tokens_of(alloc: Global, placed: Vec<Placed>) -> Result<Tokens, QueryFault>
 // begin.
 fn stopped(text: &[u8], starts: &[u64], left: usize, stop: Stop) -> QueryFault
     requires { (ps : List Placed) × (rest : List Token) × (length text.now ≤ 65536)
-        × (lexed text.now ≡ Ok ps) × (starts.now ≡ map byte_of ps) × (left ≡ length rest)
+        × (lexed_text text.now ≡ Ok ps) × (starts.now ≡ map byte_of ps) × (left ≡ length rest)
         × QueryGives (Err stop) (map token_of ps) rest }
     ensures { ParseGives (Err result) text.now }
 {
@@ -81,8 +81,8 @@ fn parse_tokens(
     mut tokens: Tokens,
     starts: Vec<u64>,
 ) -> Result<Query, QueryFault>
-    requires { (ps : List Placed) × (length text.now ≤ 65536) × (lexed text.now ≡ Ok ps)
-        × (coming tokens ≡ map token_of ps) × (starts.items ≡ map byte_of ps) }
+    requires { (ps : List Placed) × (length text.now ≤ 65536) × (lexed_text text.now ≡ Ok ps)
+        × (coming_tokens tokens ≡ map token_of ps) × (starts.items ≡ map byte_of ps) }
     ensures { ParseGives result text.now }
 {
     let parsed = query(alloc, &mut tokens);
@@ -97,7 +97,7 @@ fn parse_tokens(
 // The query of a text's tokens with their places.
 fn parse_placed(alloc: Global, text: &[u8], placed: Vec<Placed>) -> Result<Query, QueryFault>
     requires short { length text.now ≤ 65536 }
-    requires lexed { lexed text.now ≡ Ok placed.items }
+    requires lexed { lexed_text text.now ≡ Ok placed.items }
     ensures { ParseGives result text.now }
 {
     let starts = match starts_of(alloc, &placed) {
@@ -121,14 +121,21 @@ fn parse_placed(alloc: Global, text: &[u8], placed: Vec<Placed>) -> Result<Query
 /// are optional:
 ///
 /// ```text
-/// Query  = Decl { Decl } ( Select | Stream "(" Select ")" ) [ ";" ] Decl   = STREAM Name "(" Name
-/// { "," Name } ")" ";" Select = SELECT Item { "," Item } FROM From [ "," From ] [ WHERE Pred ] [
-/// GROUP BY Col { "," Col } ] Item   = COUNT "(" "*" ")" | ( SUM | MIN | MAX ) "(" Expr ")" | Expr
-/// From   = Name [ "[" ( ROWS | RANGE | PARTITION BY Col { "," Col } ROWS ) Number SLIDE Number "]"
-/// ] Pred   = Conj { OR Conj } Conj   = Unit { AND Unit } Unit   = NOT Unit | "(" Pred ")" | Expr
-/// Cmp Expr Cmp    = "=" | "<>" | "<" | "<=" | ">" | ">=" Expr   = Prod { ( "+" | "-" ) Prod } Prod
-/// = Factor { "*" Factor } Factor = Col | Number | "-" Number Col    = Name [ "." Name ] Stream =
-/// RSTREAM | ISTREAM | DSTREAM
+/// Query  = Decl { Decl } ( Select | Word "(" Select ")" ) [ ";" ]
+/// Word   = RSTREAM | ISTREAM | DSTREAM
+/// Decl   = STREAM Name "(" Name { "," Name } ")" ";"
+/// Select = SELECT Item { "," Item } FROM From [ "," From ] [ WHERE Pred ] [ GROUP BY Col { "," Col } ]
+/// Item   = COUNT "(" "*" ")" | ( SUM | MIN | MAX ) "(" Expr ")" | Expr
+/// From   = Name [ "[" ( ROWS | RANGE | Keys ROWS ) Number SLIDE Number "]" ]
+/// Keys   = PARTITION BY Col { "," Col }
+/// Pred   = Conj { OR Conj }
+/// Conj   = Unit { AND Unit }
+/// Unit   = NOT Unit | "(" Pred ")" | Expr Cmp Expr
+/// Cmp    = "=" | "<>" | "<" | "<=" | ">" | ">="
+/// Expr   = Prod { ( "+" | "-" ) Prod }
+/// Prod   = Factor { "*" Factor }
+/// Factor = Col | Number | "-" Number
+/// Col    = Name [ "." Name ]
 /// ```
 pub fn parse(alloc: Global, text: &[u8]) -> Result<Query, QueryFault>
     ensures { ParseGives result text.now }

@@ -6,7 +6,7 @@ use Rattle.saber_core.specs.declared.events.TaskPhase.TheVariants.{Ready, Held, 
 use Rattle.saber_core.specs.declared.events.Event.{Event}
 use Rattle.saber_core.specs.Machine as core
 use Rattle.saber_core.specs.declared.events.Event.TheVariants as event
-use Rattle.saber_core.specs.Machine.{given_of, given, phase_at, is_ready, is_held_by, is_done, is_taken_piece, is_marked, is_holder, has_taken, seat_of, is_seated, is_allowed, outcome, next}
+use Rattle.saber_core.specs.Machine.{given_of, given_count, phase_at, is_ready, is_held_by, is_done, is_taken_piece, is_marked, is_holder, has_taken, seat_of, is_seated, is_allowed, outcome, next}
 use Rattle.saber_ring.specs.declared.view.TurnState.{TurnState}
 use Rattle.saber_ring.specs.Shows.{RingPhase, ready, held, done, taken, past, number_of, turn_word, extra, Fits, HasJob, HasTurn, RingTurn, free, won_by, RingState}
 use Rattle.saber_ring.specs.Cores.{core_phase, phases_from, is_taking, holder_of, core_of}
@@ -61,7 +61,7 @@ module _ {T : Type 0} (size n : ℕ) (b : RingState T) where
   Tied (free x) = b.assembled ≡ b.given
   Tied (won_by j p) = Unit {0}
 
-  pub given_core : Tied b.turn → given (core_of size n b) ≡ b.given
+  pub given_core : Tied b.turn → given_count (core_of size n b) ≡ b.given
   given_core tied = go b.turn tied
     where
       go : (x : RingTurn) → Tied x → given_of b.assembled (holder_of b.given x) ≡ b.given
@@ -76,7 +76,7 @@ module _ {T : Type 0} (size n : ℕ) (b : RingState T) where
       (phases_get b.phase b.given (b.filled - b.given) (t - b.given) (omega arith) ∙ ap (λ (z : ℕ). Some (core_phase (b.phase z))) (let e : b.given + (t - b.given) ≡ t = omega arith in e)))
 
   -- the phase of the first task that isn't given
-  first_phase : Tied b.turn → b.given < b.filled → phase_at (core_of size n b) (given (core_of size n b)) ≡ Some (core_phase (b.phase b.given))
+  first_phase : Tied b.turn → b.given < b.filled → phase_at (core_of size n b) (given_count (core_of size n b)) ≡ Some (core_phase (b.phase b.given))
   first_phase tied lt = ap (phase_at (core_of size n b)) (given_core tied) ∙ phase_core b.given tied (le_refl b.given) lt
 
   seated : (id : ℕ) → id < n → nat_lt id n ≡ true
@@ -124,7 +124,7 @@ module _ {T : Type 0} (size n : ℕ) (b : RingState T) where
   core_take id m seat lt is phase =
       let tied : Tied b.turn = subst Tied (sym is) tt in let first = first_phase tied lt ∙ ap (λ (z : RingPhase). Some (core_phase z)) phase in
       let put_is = phases_put b.phase b.given (taken m) b.given (b.filled - b.given) 0 (omega arith) (omega arith) in
-      let found : is_done (phase_at (core_of size n b) (given (core_of size n b))) ≡ true = ap is_done first in
+      let found : is_done (phase_at (core_of size n b) (given_count (core_of size n b))) ≡ true = ap is_done first in
       (λ i. record (core_of size n b) {
         turn = Some (record { seat = id; given = sym (given_core tied) i; taken = takes m i });
         phases = (put_is ∙ ap (λ z. set (phases_from b.phase b.given (b.filled - b.given)) 0 (Taken (is_marked z))) (sym first)) i;
@@ -141,7 +141,7 @@ module _ {T : Type 0} (size n : ℕ) (b : RingState T) where
   core_give id seat lt is phase =
       let tied : Tied b.turn = subst Tied (sym is) tt in let first = first_phase tied lt ∙ ap (λ (z : RingPhase). Some (core_phase z)) phase in
       let took : has_taken (core_of size n b).turn ≡ true = ap (λ (z : RingTurn). has_taken (holder_of b.given z)) is in
-      let piece : is_taken_piece (phase_at (core_of size n b) (given (core_of size n b))) ≡ true = ap is_taken_piece first in
+      let piece : is_taken_piece (phase_at (core_of size n b) (given_count (core_of size n b))) ≡ true = ap is_taken_piece first in
       let fewer : b.filled - b.given ≡ suc (b.filled - (b.given + 1)) = omega arith in
       let rest_is = phases_same b.phase (put b.phase b.given past) (b.given + 1) (b.filled - (b.given + 1)) (λ u a z. put_else b.phase b.given past u (λ e. omega arith)) ∙ sym (ap (λ (z : ℕ). drop 1 (phases_from b.phase b.given z)) fewer) in
       (λ i. record (core_of size n b) { turn = Some (record { seat = id; given = sym (given_core tied) i + 1; taken = false }); phases = rest_is i })
@@ -152,7 +152,7 @@ module _ {T : Type 0} (size n : ℕ) (b : RingState T) where
       → core_of size n (record { assembled = b.assembled; given = b.given; filled = b.filled + 1; turn = b.turn; lead = b.lead; out = b.out; told = told'; fill = Waiting; phase = put b.phase b.filled ready; block = b.block }) ≡ next (core_of size n b) event.Fill
   core_fill told' tied le room end =
       let f : ℕ = b.filled - b.given in
-      let near : nat_lt b.filled (given (core_of size n b) + size) ≡ true = (let a : nat_lt b.filled (b.given + size) ≡ true = grind (arith, nat_tests) in ap (λ (z : ℕ). nat_lt b.filled (z + size)) (given_core tied) ∙ a) in
+      let near : nat_lt b.filled (given_count (core_of size n b) + size) ≡ true = (let a : nat_lt b.filled (b.given + size) ≡ true = grind (arith, nat_tests) in ap (λ (z : ℕ). nat_lt b.filled (z + size)) (given_core tied) ∙ a) in
       let below : nat_lt b.filled (2 ^ 42) ≡ true = grind (arith, nat_tests) in
       let more : phases_from (put b.phase b.filled ready) b.given (b.filled + 1 - b.given) ≡ phases_from b.phase b.given f ++ Ready ∷ [] =
       ap (phases_from (put b.phase b.filled ready) b.given) (let e : b.filled + 1 - b.given ≡ suc f = omega arith in e) ∙ phases_more (put b.phase b.filled ready) b.given f

@@ -18,7 +18,7 @@ use Rattle.saber_ring.specs.declared.view.TurnState.TheVariants.{Open, TookPiece
 use Rattle.saber_ring.specs.declared.view.Entry.TheVariants.{Claim, Deposit, Take, Give}
 use Rattle.saber_ring.specs.declared.view.View.{View}
 use Rattle.saber_ring.specs.declared.view.Lead.{Lead}
-use Rattle.saber_ring.specs.Shows.{RingPhase, idle, ready, held, done, taken, past, RingTurn, free, won_by, turn_word, halted, TakenBy, RingState, Fits, TurnFits, extra, RingBlock, blank, coming, kept, read_by, BlockFits, BlockHome, told_with, oldest, HasJob, HasTurn, HasLead, AtHome, EmptyBut, IsLive, live, total, StageHome, ShowsAs, Shows, times, same, claims_of, deposits_of, takes_of, gives_of}
+use Rattle.saber_ring.specs.Shows.{RingPhase, idle, ready, held, done, taken, past, RingTurn, free, won_by, turn_word, is_halted, TakenBy, RingState, Fits, TurnFits, extra, RingBlock, blank, coming, kept, read_by, BlockFits, BlockHome, told_with, oldest, HasJob, HasTurn, HasLead, AtHome, EmptyBut, IsLive, live, total, StageHome, ShowsAs, Shows, times, same, claims_of, deposits_of, takes_of, gives_of}
 use Rattle.saber_ring.proofs.Puts.{total_at, total_set}
 use Rattle.saber_ring.proofs.PhaseFacts.{false_true, waiting_begun, window_has}
 use Rattle.saber_ring.proofs.Alone.{Alone, spent, all_alive, own_all}
@@ -146,7 +146,7 @@ module _ {T R P S : Type 0} (is_told : T → ℕ → Type 0) (upto : T → ℕ �
   ends s b id v l sh a no_turn =
       let f = turn_free s b id v l sh a no_turn in let h = subst (StageHome is_told upto needs is_rows is_piece is_stage size s b) f.1 sh.home.stage in
       let kn = sh.shape.each_seat id v a.0 in let lead = subst (HasLead upto b id) a.1 kn.lead in let mine = kn.seen in let r = subst (TurnFits b (length s.views)) f.1 sh.shape.turn_fits in
-      (h.0, h.1, (f.0, subst (λ (z : T). is_stage (upto z (b.given + extra f.0)) b.given f.0 h.0) (sym lead.1) h.2, each_once s b id v l sh a, (let w = behind_filled s b sh f.0 f.1 in let q = lead.2 in omega arith), leaves_at s b id v l sh a f.0 f.1, (let z = r.0 in let y = mine.0 in omega arith), λ e. sym (ap halted f.1) ∙ mine.1 e))
+      (h.0, h.1, (f.0, subst (λ (z : T). is_stage (upto z (b.given + extra f.0)) b.given f.0 h.0) (sym lead.1) h.2, each_once s b id v l sh a, (let w = behind_filled s b sh f.0 f.1 in let q = lead.2 in omega arith), leaves_at s b id v l sh a f.0 f.1, (let z = r.0 in let y = mine.0 in omega arith), λ e. sym (ap is_halted f.1) ∙ mine.1 e))
 
   -- no other seat has a job
   pub no_jobs : (s : St) (b : RingState T) (id : ℕ) (v : View T) (l : Lead T) → As s b → Alone is_told upto needs is_rows is_piece is_stage size s b id v l → v.job ≡ None → (u j : ℕ) → b.phase u ≡ held j → ⊥

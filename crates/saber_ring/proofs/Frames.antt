@@ -16,7 +16,7 @@ use Rattle.saber_ring.specs.declared.view.View.{View}
 use Rattle.saber_ring.specs.declared.view.Lead.{Lead}
 use Rattle.saber_ring.specs.declared.view.HeldTask.{HeldTask}
 use Rattle.saber_ring.specs.declared.view.HeldTurn.{HeldTurn}
-use Rattle.saber_ring.specs.Shows.{RingPhase, idle, ready, held, done, taken, past, number_of, RingTurn, free, won_by, turn_word, halted, read_by, RingState, Fits, TurnFits, extra, knows_next, HasJob, HasBlock, HasTurn, HasFound, HasLead, HasBase, IsLive, live, total, Knows, Shape, AtHome, StageHome, EmptyBut, Home}
+use Rattle.saber_ring.specs.Shows.{RingPhase, idle, ready, held, done, taken, past, number_of, RingTurn, free, won_by, turn_word, is_halted, read_by, RingState, Fits, TurnFits, extra, knows_next, HasJob, HasBlock, HasTurn, HasFound, HasLead, HasBase, IsLive, live, total, Knows, Shape, AtHome, StageHome, EmptyBut, Home}
 use Rattle.saber_ring.proofs.Puts.{total_set}
 
 -- two places in one window have two cells
@@ -81,7 +81,7 @@ module _ {T : Type 0} (upto : T → ℕ → T) (b b' : RingState T) (j : ℕ) wh
       go (Some x) e h = h ∙ sym (told 0 (omega arith))
 
   -- what another seat knows stays so
-  pub knows_stay : (v : View T) → BlockOn → ToldOn → JobOn → TurnOn → b'.lead ≡ b.lead → (j ≡ b.lead → (b'.told ≡ b.told) × (b'.filled ≡ b.filled) × (b'.out ≡ b.out) × (b'.fill ≡ b.fill)) → b.assembled ≤ b'.assembled → (halted b.turn ≡ true → halted b'.turn ≡ true) → Knows upto b j v → Knows upto b' j v
+  pub knows_stay : (v : View T) → BlockOn → ToldOn → JobOn → TurnOn → b'.lead ≡ b.lead → (j ≡ b.lead → (b'.told ≡ b.told) × (b'.filled ≡ b.filled) × (b'.out ≡ b.out) × (b'.fill ≡ b.fill)) → b.assembled ≤ b'.assembled → (is_halted b.turn ≡ true → is_halted b'.turn ≡ true) → Knows upto b j v → Knows upto b' j v
   knows_stay v blocks told job turn lead is_lead later halts k = record {
     job = job_stays v.job told job k.job;
     turn = turn_stays v.turn told turn k.turn;

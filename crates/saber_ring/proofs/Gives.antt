@@ -13,7 +13,7 @@ use Rattle.saber_ring.specs.declared.view.TurnState.TheVariants.{Open, TookPiece
 use Rattle.saber_ring.specs.declared.view.Entry.TheVariants.{Give}
 use Rattle.saber_ring.specs.declared.view.View.{View}
 use Rattle.saber_ring.specs.declared.view.HeldTurn.{HeldTurn}
-use Rattle.saber_ring.specs.Shows.{RingPhase, idle, ready, held, done, taken, past, number_of, won_by, turn_word, halted, RingState, Fits, TurnFits, knows_next, IsLive, AtHome, ShowsAs, Shows, due, same, claims_of, deposits_of, takes_of, gives_of}
+use Rattle.saber_ring.specs.Shows.{RingPhase, idle, ready, held, done, taken, past, number_of, won_by, turn_word, is_halted, RingState, Fits, TurnFits, knows_next, IsLive, AtHome, ShowsAs, Shows, due, same, claims_of, deposits_of, takes_of, gives_of}
 use Rattle.saber_ring.specs.Plays.{went_on, goes_on}
 use Rattle.saber_ring.proofs.BlockFrames.{blocks_low, cell_low}
 use Rattle.saber_ring.proofs.Puts.{put, at_put, put_else, at_length}
@@ -65,7 +65,7 @@ module _ {T R P S : Type 0} (is_told : T → ℕ → Type 0) (upto : T → ℕ �
       let cell' : i ≡ t % size + 1 = cell ∙ ap (λ (z : ℕ). z + 1) (sym (add-mod_right g size)) in
       let near : i < length s.homes = (let q = mod-lt g k.some_cell in let z = k.homes_wide in omega arith) in
       let window : (u : ℕ) → u ≢ t → b'.given ≤ u → u < b'.given + size → (b.given ≤ u) × (u < b.given + size) × (b'.phase u ≡ b.phase u) = λ u ne a z. ((omega arith), (omega arith), put_else b.phase g past u (λ e. omega arith)) in
-      let not_held : (j : ℕ) → b.phase g ≢ held j = λ j e. taken_held false j (sym phase ∙ e) in let last : b.filled ≢ g = λ e. omega arith in let runs : halted b.turn ≡ true → ⊥ = λ e. false_true (sym (ap halted turn_now) ∙ e) in
+      let not_held : (j : ℕ) → b.phase g ≢ held j = λ j e. taken_held false j (sym phase ∙ e) in let last : b.filled ≢ g = λ e. omega arith in let runs : is_halted b.turn ≡ true → ⊥ = λ e. false_true (sym (ap is_halted turn_now) ∙ e) in
       record {
         shape = cell_step is_told upto needs is_rows is_piece is_stage size s b b' (set s.homes i (some Empty)) id t i x me.0 w k at refl refl cell' (is ∙ (omega arith) ∙ ap (λ (z : RingPhase). 8 * t + number_of z) (sym now)) (length-set s.homes i (some Empty)) (omega arith) (omega arith) window
             ((let z = k.assembled_given in omega arith), (omega arith), (omega arith), k.filled_end, k.told) refl

@@ -11,7 +11,7 @@ use Rattle.saber_ring.specs.declared.view.TurnState.TheVariants.{Open, TookPiece
 use Rattle.saber_ring.specs.declared.view.View.{View}
 use Rattle.saber_ring.specs.declared.view.Lead.{Lead}
 use Rattle.saber_ring.proofs.PhaseFacts.{false_true, or_says}
-use Rattle.saber_ring.specs.Shows.{taken, RingTurn, free, won_by, halted, RingState, Fits, TurnFits, HasJob, HasTurn, HasLead, IsLive, live, total, Knows, Counts, ShowsAs, Shows, times, same}
+use Rattle.saber_ring.specs.Shows.{taken, RingTurn, free, won_by, is_halted, RingState, Fits, TurnFits, HasJob, HasTurn, HasLead, IsLive, live, total, Knows, Counts, ShowsAs, Shows, times, same}
 use Rattle.saber_ring.proofs.Puts.{at_length, at_end, total_at, total_set, total_append}
 use Rattle.saber_ring.proofs.BlockFrames.{blocks_stay, no_reader}
 use Rattle.saber_ring.proofs.Moves.{held_below, state_room}
@@ -148,7 +148,7 @@ module _ {T R P S : Type 0} (is_told : T → ℕ → Type 0) (upto : T → ℕ �
         turn = mine.turn;
         block = mine.block;
         lead = subst (λ (o : Option (Lead T)). HasLead upto b' id (less_out o)) (sym is_lead) (lead.0, lead.1, lead.2, ap (λ (z : ℕ). z - 1) lead.3, lead.4);
-        seen = (max-le mine.seen.0 theirs.seen.0, or_says v.stopped w.stopped (halted b.turn) mine.seen.1 theirs.seen.1);
+        seen = (max-le mine.seen.0 theirs.seen.0, or_says v.stopped w.stopped (is_halted b.turn) mine.seen.1 theirs.seen.1);
         found = mine.found;
         base = live_base upto b b' id v both (λ _ _. refl) alive refl mine.base;
       })

@@ -12,7 +12,7 @@ use Rattle.saber_ring.specs.declared.view.TurnState.{TurnState}
 use Rattle.saber_ring.specs.declared.view.TurnState.TheVariants.{Open, TookPiece, TookMark, WonStopped, Leaving}
 use Rattle.saber_ring.specs.declared.view.View.{View}
 use Rattle.saber_ring.specs.declared.view.HeldTurn.{HeldTurn}
-use Rattle.saber_ring.specs.Shows.{RingPhase, taken, number_of, free, won_by, turn_word, halted, TakenBy, RingState, Fits, IsTaken, TurnFits, extra, knows_next, IsLive, AtHome, ShowsAs, Shows, same}
+use Rattle.saber_ring.specs.Shows.{RingPhase, taken, number_of, free, won_by, turn_word, is_halted, TakenBy, RingState, Fits, IsTaken, TurnFits, extra, knows_next, IsLive, AtHome, ShowsAs, Shows, same}
 use Rattle.saber_ring.specs.Plays.{leaving, is_stopped, without_turn, releases, puts_back}
 use Rattle.saber_ring.proofs.BlockFrames.{blocks_low, cell_low}
 use Rattle.saber_ring.proofs.Puts.{at_length}
@@ -78,7 +78,7 @@ module _ {T R P S : Type 0} (is_told : T → ℕ → Type 0) (upto : T → ℕ �
       let k = sh.shape in let mine = k.each_seat id me.0 at in let has = holds_turn is_told upto needs is_rows is_piece is_stage size s b sh id me.0 h at is_turn in let y : Bool = is_stopped h.state in let here = at_length s.views id me.0 at in
       let w : View T = without_turn me.0 x h in let b' : RingState T = record b { assembled = b.given; turn = free y } in
       let s' : St = record { words = set s.words 0 x; homes = set s.homes 0 (some (Stage st)); views = set s.views id w } in
-      let halts : halted b.turn ≡ true → y ≡ true = λ e. halts_stopped id h.state (sym (ap halted has.0) ∙ e) in
+      let halts : is_halted b.turn ≡ true → y ≡ true = λ e. halts_stopped id h.state (sym (ap is_halted has.0) ∙ e) in
       let near : 0 < length s.homes = (let z = k.homes_wide in omega arith) in
       record {
         shape = turn_step is_told upto needs is_rows is_piece is_stage size s b b' (set s.homes 0 (some (Stage st))) id x me.0 w k at refl refl (length-set s.homes 0 (some (Stage st))) refl refl (le_refl b.given, k.given_filled, k.filled_room, k.filled_end, k.told) refl
@@ -122,7 +122,7 @@ module _ {T R P S : Type 0} (is_told : T → ℕ → Type 0) (upto : T → ℕ �
       let hi : g < g + size = (let p = k.some_cell in omega arith) in let homes' : List (maybe.Option (SlotValue R P S)) = set s.homes i (some Empty) in let s' : St = record { words = set s.words i n; homes = homes'; views = set s.views id w } in
       let near : i < length s.homes = (let q = mod-lt g k.some_cell in let z = k.homes_wide in omega arith) in
       let window : (u : ℕ) → u ≢ g → g ≤ u → u < g + size → (g ≤ u) × (u < g + size) × (b.phase u ≡ b.phase u) = λ u ne a z. (a, z, refl) in
-      let runs : halted b.turn ≡ true → ⊥ = λ e. false_true (sym (ap halted turn_now) ∙ e) in
+      let runs : is_halted b.turn ≡ true → ⊥ = λ e. false_true (sym (ap is_halted turn_now) ∙ e) in
       let same_mark : (m : Bool) → b.phase g ≡ taken m → m ≡ false = λ m e. taken_same m false (sym e ∙ phase) in
       record {
         shape = cell_step is_told upto needs is_rows is_piece is_stage size s b b' homes' id g i n me.0 w k at refl refl cell' (ap (λ (z : ℕ). get_or s.words z 0) cell' ∙ k.each_word g (le_refl g) hi) (length-set s.homes i (some Empty)) (le_refl g) hi window

@@ -14,7 +14,7 @@ use Rattle.saber_ring.specs.declared.view.TurnState.TheVariants.{Open, TookPiece
 use Rattle.saber_ring.specs.declared.view.Entry.TheVariants.{Deposit, Take}
 use Rattle.saber_ring.specs.declared.view.View.{View}
 use Rattle.saber_ring.specs.declared.view.HeldTurn.{HeldTurn}
-use Rattle.saber_ring.specs.Shows.{RingPhase, held, done, taken, number_of, won_by, turn_word, halted, TakenBy, RingState, Fits, TurnFits, knows_next, HasFound, IsLive, AtHome, ShowsAs, Shows, due, same, times, claims_of, deposits_of, takes_of, gives_of}
+use Rattle.saber_ring.specs.Shows.{RingPhase, held, done, taken, number_of, won_by, turn_word, is_halted, TakenBy, RingState, Fits, TurnFits, knows_next, HasFound, IsLive, AtHome, ShowsAs, Shows, due, same, times, claims_of, deposits_of, takes_of, gives_of}
 use Rattle.saber_ring.specs.Plays.{looked, taken_state, with_take, takes_piece, IsDeposited}
 use Rattle.saber_ring.proofs.BlockFrames.{blocks_low, cell_low}
 use Rattle.saber_ring.proofs.Puts.{put, at_put, put_here, put_else, at_length}
@@ -77,7 +77,7 @@ module _ {T R P S : Type 0} (is_told : T → ℕ → Type 0) (upto : T → ℕ �
       let now : put b.phase t (taken m) t ≡ taken m = put_here b.phase t (taken m) in
       let window : (u : ℕ) → u ≢ t → b'.given ≤ u → u < b'.given + size → (b.given ≤ u) × (u < b.given + size) × (b'.phase u ≡ b.phase u) = λ u ne a z. (a, z, put_else b.phase t (taken m) u ne) in
       let not_held : (j : ℕ) → b.phase t ≢ held j = λ j e. done_held m j (sym phase ∙ e) in
-      let runs : halted b.turn ≡ true → ⊥ = λ e. false_true (sym (ap halted turn_now) ∙ e) in
+      let runs : is_halted b.turn ≡ true → ⊥ = λ e. false_true (sym (ap is_halted turn_now) ∙ e) in
       let last : b.filled ≢ t = λ e. (let l = room.1 in omega arith) in
       record {
         shape = cell_step is_told upto needs is_rows is_piece is_stage size s b b' homes' id t i x me.0 w k at refl refl cell (is ∙ ap (λ (z : RingPhase). 8 * t + number_of z) (sym now)) wide (le_refl t) hi window (ordered is_told upto needs is_rows is_piece is_stage size s b k) refl

@@ -12,7 +12,7 @@ use Rattle.saber_ring.specs.declared.view.TurnState.{TurnState}
 use Rattle.saber_ring.specs.declared.view.TurnState.TheVariants.{Open, TookPiece, TookMark, WonStopped, Leaving}
 use Rattle.saber_ring.specs.declared.view.View.{View}
 use Rattle.saber_ring.specs.declared.view.HeldTurn.{HeldTurn}
-use Rattle.saber_ring.specs.Shows.{RingPhase, done, number_of, RingTurn, free, won_by, turn_word, halted, Sees, TakenBy, RingState, Fits, IsTaken, TurnFits, extra, knows_next, first_of_task, HasLead, HasTurn, IsLive, StageHome, ShowsAs, Shows, same}
+use Rattle.saber_ring.specs.Shows.{RingPhase, done, number_of, RingTurn, free, won_by, turn_word, is_halted, Sees, TakenBy, RingState, Fits, IsTaken, TurnFits, extra, knows_next, first_of_task, HasLead, HasTurn, IsLive, StageHome, ShowsAs, Shows, same}
 use Rattle.saber_ring.specs.Plays.{looked_turn, turn_behind, state_shown, is_stopped, with_turn, wins, sees_turn, sees_room, Leaves}
 use Rattle.saber_ring.proofs.Puts.{at_length}
 use Rattle.saber_ring.proofs.PhaseFacts.{false_true, or_says, done_taken, free_won_by, won_by_same}
@@ -57,7 +57,7 @@ pub next_is : (y : Bool) → knows_next (won_state y) ≡ extra y
 next_is false = refl
 next_is true = refl
 
-pub stop_shows : (k : ℕ) (x : RingTurn) → k ≤ 2 ^ 42 → is_stopped (state_shown (turn_word k x)) ≡ halted x
+pub stop_shows : (k : ℕ) (x : RingTurn) → k ≤ 2 ^ 42 → is_stopped (state_shown (turn_word k x)) ≡ is_halted x
 stop_shows k (free y) le = ap is_stopped (state_is k y le) ∙ stopped_is y
 stop_shows k (won_by j Open) le = let e : state_shown (2 * k + 1) ≡ Open = grind (arith, nat_tests) in ap is_stopped e
 stop_shows k (won_by j TookPiece) le = let e : state_shown (2 * k + 1) ≡ Open = grind (arith, nat_tests) in ap is_stopped e
@@ -65,11 +65,11 @@ stop_shows k (won_by j TookMark) le = let e : state_shown (2 * k + 1) ≡ Open =
 stop_shows k (won_by j Leaving) le = let e : state_shown (2 * k + 1) ≡ Open = grind (arith, nat_tests) in ap is_stopped e
 stop_shows k (won_by j WonStopped) le = let e : state_shown (2 * k + 1 + 2 ^ 62) ≡ WonStopped = grind (arith, nat_tests) in ap is_stopped e
 
-state_halts : (id : ℕ) (y : Bool) → halted (won_by id (won_state y)) ≡ y
+state_halts : (id : ℕ) (y : Bool) → is_halted (won_by id (won_state y)) ≡ y
 state_halts id false = refl
 state_halts id true = refl
 
-pub halts_stopped : (id : ℕ) (g : TurnState) → halted (won_by id g) ≡ true → is_stopped g ≡ true
+pub halts_stopped : (id : ℕ) (g : TurnState) → is_halted (won_by id g) ≡ true → is_stopped g ≡ true
 halts_stopped id Open e = absurd (false_true e)
 halts_stopped id TookPiece e = refl
 halts_stopped id TookMark e = refl
@@ -109,8 +109,8 @@ module _ {T R P S : Type 0} (is_told : T → ℕ → Type 0) (upto : T → ℕ �
   pub word_sees : (s : St) (b : RingState T) (sh : As s b) (id : ℕ) (v : View T) → get_elem? s.views id ≡ some v → (v.seen ≤ turn_behind (get_or s.words 0 0)) × (v.stopped ≡ true → is_stopped (state_shown (get_or s.words 0 0)) ≡ true) × Sees b (turn_behind (get_or s.words 0 0)) (v.stopped || is_stopped (state_shown (get_or s.words 0 0)))
   word_sees s b sh id v at =
       let n : ℕ = get_or s.words 0 0 in let le = small_assembled s b sh in let k : turn_behind n ≡ b.assembled = ap turn_behind sh.shape.turn_is ∙ behind_of b.assembled b.turn le in
-      let x : is_stopped (state_shown n) ≡ halted b.turn = ap (λ (z : ℕ). is_stopped (state_shown z)) sh.shape.turn_is ∙ stop_shows b.assembled b.turn le in let mine = (sh.shape.each_seat id v at).seen in let seen = mine.0 in
-      ((omega arith), (λ e. x ∙ mine.1 e), ((omega arith), or_says v.stopped (is_stopped (state_shown n)) (halted b.turn) mine.1 (λ e. sym x ∙ e)))
+      let x : is_stopped (state_shown n) ≡ is_halted b.turn = ap (λ (z : ℕ). is_stopped (state_shown z)) sh.shape.turn_is ∙ stop_shows b.assembled b.turn le in let mine = (sh.shape.each_seat id v at).seen in let seen = mine.0 in
+      ((omega arith), (λ e. x ∙ mine.1 e), ((omega arith), or_says v.stopped (is_stopped (state_shown n)) (is_halted b.turn) mine.1 (λ e. sym x ∙ e)))
 
   -- a load of the turn word
   pub sees_the_turn : (slots id : ℕ) (me : M) → Allows Rule slots id me 0 (λ n. n) (sees_turn (step slots 0 0 0 none) me)
@@ -171,7 +171,7 @@ module _ {T R P S : Type 0} (is_told : T → ℕ → Type 0) (upto : T → ℕ �
       let b' : RingState T = record b { turn = won_by id (won_state y) } in let here = at_length s.views id me.0 at in
       let before : (i : ℕ) (p : TurnState) → b.turn ≡ won_by i p → i ≡ id = λ i p e. absurd (free_won_by y i p (sym is_free ∙ e)) in
       let after : (i : ℕ) (p : TurnState) → b'.turn ≡ won_by i p → i ≡ id = λ i p e. sym (won_by_same id i (won_state y) p e).0 in
-      let halts : halted b.turn ≡ true → halted (won_by id (won_state y)) ≡ true = λ e. state_halts id y ∙ sym (ap halted is_free) ∙ e in
+      let halts : is_halted b.turn ≡ true → is_halted (won_by id (won_state y)) ≡ true = λ e. state_halts id y ∙ sym (ap is_halted is_free) ∙ e in
       let s' : St = record { words = set s.words 0 x; homes = set s.homes 0 none; views = set s.views id w } in (
         h.0,
         h.2,
@@ -187,7 +187,7 @@ module _ {T R P S : Type 0} (is_told : T → ℕ → Type 0) (upto : T → ℕ �
                 turn = (refl, rest.0, ap (λ (z : ℕ). upto b.told (b.given + z)) (sym (next_is y)));
                 block = mine.block;
                 lead = mine.lead;
-                seen = (le_refl b.assembled, or_says me.0.stopped (is_stopped (won_state y)) (halted (won_by id (won_state y))) (λ e. halts (mine.seen.1 e)) (λ e. state_halts id y ∙ sym (stopped_is y) ∙ e));
+                seen = (le_refl b.assembled, or_says me.0.stopped (is_stopped (won_state y)) (is_halted (won_by id (won_state y))) (λ e. halts (mine.seen.1 e)) (λ e. state_halts id y ∙ sym (stopped_is y) ∙ e));
                 found = λ opened m e. absurd (won_find b.assembled n y m (k.turn_is ∙ ap (turn_word b.assembled) is_free) opened e);
                 base = live_base upto b b' id me.0 w (λ _ _. refl) alive refl mine.base;
               }

@@ -94,10 +94,10 @@ TakenBy m (won_by j Leaving) = m ≡ false
 TakenBy m (won_by j WonStopped) = Unit {0}
 
 -- the stage is stopped for good, at home or with the holder of the turn
-abbrev pub halted : RingTurn → Bool
-halted (free x) = x
-halted (won_by j WonStopped) = true
-halted (won_by j _) = false
+abbrev pub is_halted : RingTurn → Bool
+is_halted (free x) = x
+is_halted (won_by j WonStopped) = true
+is_halted (won_by j _) = false
 
 -- what the words show, in plain terms. assembled: the tasks behind the stage when the turn was last free; given: the tasks given back;
 -- filled: the tasks filled; lead: the place of the first seat; out: the number of other live seats; told: the data of the filled tasks;
@@ -169,7 +169,7 @@ extra true = 1
 
 -- what a seat saw in the word of the turn: no fewer tasks are behind the stage, and a stopped stage stays so
 abbrev pub Sees : {T : Type 0} → RingState T → ℕ → Bool → Type 0
-Sees b seen stopped = (seen ≤ b.assembled) × (stopped ≡ true → halted b.turn ≡ true)
+Sees b seen stopped = (seen ≤ b.assembled) × (stopped ≡ true → is_halted b.turn ≡ true)
 
 module _ {T : Type 0} (upto : T → ℕ → T) (b : RingState T) (j : ℕ) where
   -- the job in a seat's view is the task that it holds, and it holds no other

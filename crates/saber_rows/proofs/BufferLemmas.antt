@@ -2,7 +2,7 @@
 use Rattle.std.proofs.Common.{◌≡◌, ℕ, ◌+◌, ◌-◌, ◌≤◌, List, ◌++◌, length, take, drop, slice_range, sym, ◌∙◌, ap, arith, length-take, length-drop, append_assoc, Option}
 use Rattle.std.proofs.Math.Seq.{take-append-add}
 use Rattle.std.proofs.lemmas.List.{append-nil, take-append-le, drop-append-le, drop-take, drop-drop, take-take, length-take-le}
-use Rattle.saber_io.specs.Outside.{given}
+use Rattle.saber_io.specs.Outside.{left_before}
 use Rattle.saber_rows.specs.Buffer.{Gains}
 
 pub consumed : (xs : List ℕ) (at end n : ℕ) → n ≤ length (slice_range xs at end) → slice_range xs (at + n) end ≡ drop n (slice_range xs at end)
@@ -44,7 +44,7 @@ module _ (buf piece rest tail : List ℕ) (at end len : ℕ) (h : at ≤ end) (k
   pub kept : end ≤ len → slice_range (take len ((take end buf ++ (piece ++ rest)) ++ tail)) at end ≡ slice_range buf at end
   kept l = ap (slice_range (take len ((take end buf ++ (piece ++ rest)) ++ tail)) at) (omega arith) ∙ written_in 0 (omega arith) (omega arith) ∙ append-nil (slice_range buf at end)
 
-  pub gained : (n : ℕ) (old : List ℕ) (had has : Option (List ℕ)) → n ≤ length piece → end + n ≤ len → slice_range buf at end ≡ old → had ≡ given (take n piece) has → Gains n old (slice_range (take len ((take end buf ++ (piece ++ rest)) ++ tail)) at (end + n)) had has
+  pub gained : (n : ℕ) (old : List ℕ) (had has : Option (List ℕ)) → n ≤ length piece → end + n ≤ len → slice_range buf at end ≡ old → had ≡ left_before (take n piece) has → Gains n old (slice_range (take len ((take end buf ++ (piece ++ rest)) ++ tail)) at (end + n)) had has
   gained n old had has m l same left = record {
     taken = take n piece;
     count = length-take-le n piece m;

@@ -1,6 +1,6 @@
 -- Turns of a reader, one after another.
 use Rattle.std.proofs.Common.{◌≡◌, ℕ, List, [], ◌++◌, Bool, true, false, Option, Some, None, MatchOption, Result, IfOk, IfSome, refl, sym, ◌∙◌, ap, subst, append_assoc, arith, length-append}
-use Rattle.saber_io.specs.Outside.{given, EndsEmpty}
+use Rattle.saber_io.specs.Outside.{left_before, EndsEmpty}
 use Rattle.saber_plan.specs.Rows.{Read, End, before, due, lines_of}
 use Rattle.saber_plan.specs.declared.rows.Row.{Row}
 use Rattle.saber_rows.specs.declared.lines.Turn.{Turn}
@@ -47,7 +47,7 @@ enough_line (turns.Stop s) old new g h = tt
 
 -- ---- two moves are one
 
-given_append : (xs ys : List ℕ) (o : Option (List ℕ)) → given xs (given ys o) ≡ given (xs ++ ys) o
+given_append : (xs ys : List ℕ) (o : Option (List ℕ)) → left_before xs (left_before ys o) ≡ left_before (xs ++ ys) o
 given_append xs ys None = refl
 given_append xs ys (Some zs) = ap Some (sym (append_assoc xs ys zs))
 
@@ -59,14 +59,14 @@ module _ {f : Read → Read} (a b c : Reader) (h1 h2 h3 : Option (List ℕ)) (fi
   -- the end is seen in the first or in the second
   seen_in : (out : Read → Read) → Moves out b c h2 h3 → (e : Bool) → b.ended ≡ e → a.ended ≡ false → c.ended ≡ true → EndsEmpty h3
   seen_in out next true e unended ended =
-      let back : h2 ≡ h3 = next.left ∙ ap (λ t. given t h3) (next.still e).0 ∙ sym (given_none h3) in
+      let back : h2 ≡ h3 = next.left ∙ ap (λ t. left_before t h3) (next.still e).0 ∙ sym (given_none h3) in
       subst EndsEmpty back (first.seen unended e)
   seen_in out next false e unended ended = next.seen e ended
 
   pub chain : (out : Read → Read) → Moves out b c h2 h3 → Moves (λ read. f (out read)) a c h1 h3
   chain out next = record {
     taken = first.taken ++ next.taken;
-    left = first.left ∙ ap (given first.taken) next.left ∙ given_append first.taken next.taken h3;
+    left = first.left ∙ ap (left_before first.taken) next.left ∙ given_append first.taken next.taken h3;
     done = first.done ++ next.done;
     count = omega (arith, first.count, next.count, length-append first.done next.done);
     lines = λ z follow. ap (λ t. lines_of (a.held ++ t)) (append_assoc first.taken next.taken z) ∙ first.lines (next.taken ++ z) (followed false next.taken z next.still follow)

@@ -3,7 +3,7 @@ use Rattle.std.proofs.Common.{◌≡◌, inl, inr, ℕ, ◌≤◌, List, [], ◌
 use Rattle.std.proofs.lemmas.List.{append-nil}
 use Rattle.saber_io.specs.declared.feeds.Fed.{Fed}
 use Rattle.saber_io.specs.declared.feeds.EndMark.{EndMark}
-use Rattle.saber_io.specs.Outside.{given}
+use Rattle.saber_io.specs.Outside.{left_before}
 use Rattle.saber_io.specs.Feeds.{Feeds}
 use Rattle.saber_plan.specs.declared.rows.Row.{Row}
 use Rattle.saber_plan.specs.Rows.{Read, End, cut, bad, before, lines_of, read_by}
@@ -25,7 +25,7 @@ use Rattle.saber_rows.specs.Turns.{LineGives}
 -- ---- what a feed gave
 
 -- as what a source gives
-pub fed_given : (fed : Fed) (w w' : List ℕ) (mark : Option EndMark) (buf : List ℕ) → Feeds w w' mark buf fed → Some w ≡ given (take (size_of fed) buf) (Some w')
+pub fed_given : (fed : Fed) (w w' : List ℕ) (mark : Option EndMark) (buf : List ℕ) → Feeds w w' mark buf fed → Some w ≡ left_before (take (size_of fed) buf) (Some w')
 fed_given (Fed.Bytes n) w w' mark buf h = ap Some h.2
 fed_given Fed.End w w' mark buf h = ap Some (h.0.0 ∙ sym h.0.1)
 fed_given Fed.NotYet w w' mark buf h = ap Some (h.0.0 ∙ sym h.0.1)

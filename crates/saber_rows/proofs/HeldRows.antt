@@ -3,7 +3,7 @@ use Rattle.std.proofs.Common.{◌≡◌, ℕ, ◌+◌, ◌<◌, ◌≤◌, min, 
 use Rattle.std.specs.List.{AllByRecursion}
 use Rattle.std.proofs.lemmas.Bool.Decides.{nat_tests}
 use Rattle.saber_plan.specs.declared.rows.Row.{Row}
-use Rattle.saber_plan.specs.Rows.{SideRules, Place, stamp, falls, late, is_due, due, waiting, raised, in_time, crowds}
+use Rattle.saber_plan.specs.Rows.{SideRules, Place, stamp, falls, late, is_due, due, waiting_rows, raised_time, in_time, crowds}
 use Rattle.saber_rows.specs.Judged.{is_ready_at}
 use Rattle.saber_rows.specs.HeldRows.{InTime, first_stamp, least_of}
 
@@ -37,7 +37,7 @@ in_time_stays last r (x ∷ xs) f h = stays_by last r x xs f h (λ e. in_time_st
 
 -- ---- rows that are due
 
-pub due_stays : (slack : ℕ) (high : Option ℕ) (t u : ℕ) → is_ready_at slack high u ≡ true → is_ready_at slack (Some (raised high t)) u ≡ true
+pub due_stays : (slack : ℕ) (high : Option ℕ) (t u : ℕ) → is_ready_at slack high u ≡ true → is_ready_at slack (Some (raised_time high t)) u ≡ true
 due_stays slack None t u e = cc
 due_stays slack (Some h) t u e = grind (arith, nat_tests)
 
@@ -68,7 +68,7 @@ module _ (f : Row → Bool) where
   ]
 
 -- where no row is due all wait
-pub all_wait : (s : SideRules) (p : Place) → due s p ≡ [] → length p.accepted ≡ length (waiting s p)
+pub all_wait : (s : SideRules) (p : Place) → due s p ≡ [] → length p.accepted ≡ length (waiting_rows s p)
 all_wait s p e = let all = split_length (is_due s.slack p.high) p.accepted in let none = ap length e in omega (arith, all, none)
 
 abbrev not_due : ℕ → ℕ → Row → Bool
@@ -125,14 +125,14 @@ module _ (slack h room : ℕ) where
 pub few_crowds : (s : SideRules) (p : Place) (zs : List ℤ) → length p.accepted < s.room → crowds s p zs ≡ false
 few_crowds s p zs h =
     let row : Row = record { side = s.side; values = zs } in
-    is_not_above s.room _ (omega (arith, few_filtered (λ r. not (is_due s.slack (Some (raised p.high (stamp zs))) r)) (in_time row p.accepted), length-in_time row p.accepted, h))
+    is_not_above s.room _ (omega (arith, few_filtered (λ r. not (is_due s.slack (Some (raised_time p.high (stamp zs))) r)) (in_time row p.accepted), length-in_time row p.accepted, h))
 
 full_by : (slack h room : ℕ) (last : Option ℕ) (r : Row) (xs : List Row) → InTime last xs → length xs ≡ room → nat_lt room (length (filter (not_due slack h) (in_time r xs))) ≡ not (nat_le (least_of xs (stamp r.values) + slack) h)
 full_by slack h room last r [] i n = crowded_none slack h room r (sym n)
 full_by slack h room last r (x ∷ xs) i n = crowded_some slack h room last r x xs i (omega (arith, n))
 
-pub full_crowds : (s : SideRules) (p : Place) (last : Option ℕ) (zs : List ℤ) → InTime last p.accepted → length p.accepted ≡ s.room → crowds s p zs ≡ not (is_ready_at s.slack (Some (raised p.high (stamp zs))) (least_of p.accepted (stamp zs)))
-full_crowds s p last zs i n = full_by s.slack (raised p.high (stamp zs)) s.room last (record { side = s.side; values = zs }) p.accepted i n
+pub full_crowds : (s : SideRules) (p : Place) (last : Option ℕ) (zs : List ℤ) → InTime last p.accepted → length p.accepted ≡ s.room → crowds s p zs ≡ not (is_ready_at s.slack (Some (raised_time p.high (stamp zs))) (least_of p.accepted (stamp zs)))
+full_crowds s p last zs i n = full_by s.slack (raised_time p.high (stamp zs)) s.room last (record { side = s.side; values = zs }) p.accepted i n
 
 -- ---- where the first is not due none is
 

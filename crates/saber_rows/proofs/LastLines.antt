@@ -2,7 +2,7 @@
 use Rattle.std.proofs.Common.{◌≡◌, ℕ, ◌+◌, ◌<◌, ◌≤◌, length, arith, List, [], ◌∷◌, ◌++◌, Bool, true, false, None, refl, ◌∙◌, ap}
 use Rattle.std.proofs.lemmas.List.{take_all, drop_all}
 use Rattle.saber_plan.specs.declared.rows.RowCause.{RowCause}
-use Rattle.saber_plan.specs.Rows.{Line, all_read, refused, judge, timed, after_line, read_by, lines_of, onto_line, without_cr, bad}
+use Rattle.saber_plan.specs.Rows.{Line, all_read, refused, judge, timed_line, after_line, read_by, lines_of, onto_line, without_cr, bad}
 use Rattle.saber_plan.specs.Facts.Lines.{length-without_cr, long_known}
 use Rattle.saber_rows.specs.LineFeeds.{onto_lines, HasNoFeed}
 use Rattle.saber_rows.specs.Reader.{Reader}
@@ -47,4 +47,4 @@ long_done r c over long feed judged = knows r (bad r.rules.side (r.place.lines +
   by_held partial z (b ∷ bs) h =
       let (l, rest, e, k) = onto_first b bs (lines_of z) in
       ap (λ ls. read_by partial r.rules ls r.place) e ∙ read_cons partial r.rules l rest r.place (long_known partial l (omega (arith, k)))
-      ∙ ap (λ j. after_line r.rules r.place (timed r.rules r.place j) (read_by partial r.rules rest)) (judged (without_cr l.content) (omega (arith, length-without_cr l.content, k)))
+      ∙ ap (λ j. after_line r.rules r.place (timed_line r.rules r.place j) (read_by partial r.rules rest)) (judged (without_cr l.content) (omega (arith, length-without_cr l.content, k)))

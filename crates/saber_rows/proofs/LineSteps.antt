@@ -4,7 +4,7 @@ use Rattle.std.proofs.lemmas.Bool.Decides.{nat_tests}
 use Rattle.saber_plan.specs.declared.rows.Row.{Row}
 use Rattle.saber_plan.specs.declared.rows.RowCause.{RowCause}
 use Rattle.saber_plan.specs.declared.rows.RowCause.TheVariants.{TimeOrder, TooManyHeld}
-use Rattle.saber_plan.specs.Rows.{Line, SideRules, Place, End, Judged, skipped, taken, refused, judge_at, timed, late, crowds, raised, waiting, stamp, is_due, is_known, no_more, accept, in_time, after_line, read_by, lines_of, without_cr, before, bad}
+use Rattle.saber_plan.specs.Rows.{Line, SideRules, Place, End, Judged, skipped, taken, refused, judge_at, timed_line, late, crowds, raised_time, waiting_rows, stamp, is_due, is_known, no_more, accept, in_time, after_line, read_by, lines_of, without_cr, before, bad}
 use Rattle.saber_rows.specs.Reader.{Reader, rest_by, rest_of, CanFollow}
 use Rattle.saber_rows.specs.Turns.{first_judged, Fronts, IsLastIf, IsFirstReady, Steps, same}
 use Rattle.saber_rows.specs.QuickRows.{IsRowAt}
@@ -111,19 +111,19 @@ module _ (old : Reader) (over : old.over ≡ None) (whole : Bool) (n with_end : 
 
 -- ---- without slack a row is due as soon as it is there
 
-due_at_once : (slack : ℕ) (high : Option ℕ) (t : ℕ) → slack ≡ 0 → nat_le (t + slack) (raised high t) ≡ true
+due_at_once : (slack : ℕ) (high : Option ℕ) (t : ℕ) → slack ≡ 0 → nat_le (t + slack) (raised_time high t) ≡ true
 due_at_once slack None t e = grind (arith, nat_tests)
 due_at_once slack (Some h) t e = grind (arith, nat_tests)
 
 none_crowds : (s : SideRules) (p : Place) (zs : List ℤ) → s.slack ≡ 0 → p.accepted ≡ [] → crowds s p zs ≡ false
 none_crowds s p zs e none =
-    ap (λ xs. nat_lt s.room (length (waiting s (record { lines = p.lines + 1; high = Some (raised p.high (stamp zs)); accepted = in_time (record { side = s.side; values = zs }) xs })))) none
+    ap (λ xs. nat_lt s.room (length (waiting_rows s (record { lines = p.lines + 1; high = Some (raised_time p.high (stamp zs)); accepted = in_time (record { side = s.side; values = zs }) xs })))) none
     ∙ ap (λ b. nat_lt s.room (length (cond {A = List Row} (not b) (record { side = s.side; values = zs } ∷ []) []))) (due_at_once s.slack p.high (stamp zs) e)
     ∙ is_not_above s.room 0 (omega arith)
 
 -- the place behind a row that was given at once
 abbrev pub passed_by : Place → List ℤ → Place
-passed_by p zs = record { lines = p.lines + 1; high = Some (raised p.high (stamp zs)); accepted = p.accepted }
+passed_by p zs = record { lines = p.lines + 1; high = Some (raised_time p.high (stamp zs)); accepted = p.accepted }
 
 module _ (old : Reader) (over : old.over ≡ None) (slack : old.rules.slack ≡ 0) (none : old.place.accepted ≡ []) where
   pub takes_at_once : (whole : Bool) (n with_end : ℕ) (fronts : Fronts whole old.held n with_end) (last : IsLastIf whole old) (held : List ℕ) (zs : List ℤ) (given : Option ℕ) → held ≡ drop with_end old.held → taken zs ≡ first_judged old n
@@ -131,13 +131,13 @@ module _ (old : Reader) (over : old.over ≡ None) (slack : old.rules.slack ≡ 
   takes_at_once whole n with_end fronts last held zs given eh ej =
       let row : Row = record { side = old.rules.side; values = zs } in
       takes old over whole n with_end fronts last held zs (passed_by old.place zs) given eh ej refl
-      (ap (λ xs. record { lines = old.place.lines + 1; high = Some (raised old.place.high (stamp zs)); accepted = in_time row xs }) none ∙ ap (λ xs. record { lines = old.place.lines + 1; high = Some (raised old.place.high (stamp zs)); accepted = row ∷ xs }) (sym none))
+      (ap (λ xs. record { lines = old.place.lines + 1; high = Some (raised_time old.place.high (stamp zs)); accepted = in_time row xs }) none ∙ ap (λ xs. record { lines = old.place.lines + 1; high = Some (raised_time old.place.high (stamp zs)); accepted = row ∷ xs }) (sym none))
       (due_at_once old.rules.slack old.place.high (stamp zs) slack)
 
   -- a line of numbers in their ranges that is not late is taken
   pub row_judged : (n : ℕ) (vs : List ℤ) → IsRowAt old.rules.columns old.held vs n → old.place.lines + 1 ≤ old.rules.most → late old.rules.slack old.place.high vs ≡ false → taken vs ≡ first_judged old n
   row_judged n vs row most in_time =
-      sym (ap (timed old.rules old.place) (judged_row old.rules.columns old.rules.most (old.place.lines + 1) (without_cr (take n old.held)) vs most row.row)
+      sym (ap (timed_line old.rules old.place) (judged_row old.rules.columns old.rules.most (old.place.lines + 1) (without_cr (take n old.held)) vs most row.row)
       ∙ ap (λ b. cond b (refused TimeOrder) (cond (crowds old.rules old.place vs) (refused TooManyHeld) (taken vs))) in_time
       ∙ ap (λ b. cond b (refused TooManyHeld) (taken vs)) (none_crowds old.rules old.place vs slack none))
 

@@ -1,6 +1,6 @@
 -- Calls of a merge, one after another, and over sources that tell.
 use Rattle.std.proofs.Common.{◌≡◌, ℕ, List, [], ◌++◌, Bool, true, false, Option, Some, None, option_map, Ok, Err, refl, sym, ◌∙◌, ap, subst, append_assoc}
-use Rattle.saber_io.specs.Outside.{given, EndsEmpty}
+use Rattle.saber_io.specs.Outside.{left_before, EndsEmpty}
 use Rattle.saber_plan.specs.Rows.{Read}
 use Rattle.saber_rows.specs.Reader.{Reader, to_come}
 use Rattle.saber_rows.specs.Heads.{Headed, Takes}
@@ -47,13 +47,13 @@ module _ (f : Read → Read) (a b : Merger) (h1 h2 k1 k2 : Option (List ℕ)) (m
       ∙ ap (merger_rest false false a (m.left.taken ++ to_come b.left.reader z)) (comes a.right.reader b.right.reader k1 k2 m.right w g)
       ∙ m.rest false false (to_come b.left.reader z) (to_come b.right.reader w) (can_come b.left.reader z) (can_come b.right.reader w)
 
-  by_told : (l r : Option (List ℕ)) → h2 ≡ l → k2 ≡ r → merger_over a (given m.left.taken l) (given m.right.taken r) ≡ option_map f (merger_over b l r)
+  by_told : (l r : Option (List ℕ)) → h2 ≡ l → k2 ≡ r → merger_over a (left_before m.left.taken l) (left_before m.right.taken r) ≡ option_map f (merger_over b l r)
   by_told None r e g = refl
   by_told (Some z) None e g = refl
   by_told (Some z) (Some w) e g = ap Some (both_tell z w e g)
 
 pub tell : MergesTell
-tell f a b h1 h2 k1 k2 m = ap (λ l. merger_over a l k1) m.left.left ∙ ap (merger_over a (given m.left.taken h2)) m.right.left ∙ by_told f a b h1 h2 k1 k2 m h2 k2 refl refl
+tell f a b h1 h2 k1 k2 m = ap (λ l. merger_over a l k1) m.left.left ∙ ap (merger_over a (left_before m.left.taken h2)) m.right.left ∙ by_told f a b h1 h2 k1 k2 m h2 k2 refl refl
 
 -- a call of a reader alone is a look, after which the row in front is passed on
 pub pass : LinesPass

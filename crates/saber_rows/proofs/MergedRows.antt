@@ -4,7 +4,7 @@ use Rattle.saber_plan.specs.declared.rows.Row.{Row}
 use Rattle.saber_plan.specs.declared.rows.Side.TheVariants.{Left, Right}
 use Rattle.saber_plan.specs.declared.windows.Mark.{Mark}
 use Rattle.saber_plan.specs.Rows.{stamp}
-use Rattle.saber_plan.specs.Inputs.{merged}
+use Rattle.saber_plan.specs.Inputs.{merged_read}
 use Rattle.saber_laws.specs.Inputs.{MergeTurns}
 use Rattle.saber_rows.specs.declared.ends.RowEnd.{RowEnd}
 use Rattle.saber_rows.specs.declared.heads.Look.{Look}
@@ -12,7 +12,7 @@ use Rattle.saber_rows.specs.declared.heads.Look.TheVariants.{Found, Ended, Faile
 use Rattle.saber_rows.specs.Reader.{Reader}
 use Rattle.saber_rows.specs.Calls.{HoldsNext}
 use Rattle.saber_rows.specs.Heads.{Headed, bare, side_rest, front_of, Called, Looks, LooksAfterAny}
-use Rattle.saber_rows.specs.Merging.{Merger, settled, Passed, MergeTurn}
+use Rattle.saber_rows.specs.Merging.{Merger, settled_answer, Passed, MergeTurn}
 use Rattle.saber_rows.specs.MergedRows.{PutsFront, StillGives, MergeStands, MergesOne, MergesRows}
 use Rattle.saber_rows.proofs.Fronts.{stand, looks}
 use Rattle.saber_rows.proofs.MergedTurns.{front_is, none_some, found_fails, unfailed_yet, on_left, on_right, lesser_left, lesser_right}
@@ -48,13 +48,13 @@ fetched row old new ahead none h left side last count p = looks old new left lef
 abbrev pub LooksQuick : ℕ → Headed → Headed → Type 0
 LooksQuick n old new = (left : Option (List ℕ)) → LooksAfterAny (Found n) old new left left
 
-found_open : (n : ℕ) (r : Option Look) → ((e : RowEnd) → r ≢ Some (Failed e)) → settled (Some (Found n)) r ≡ None
+found_open : (n : ℕ) (r : Option Look) → ((e : RowEnd) → r ≢ Some (Failed e)) → settled_answer (Some (Found n)) r ≡ None
 found_open n None h = refl
 found_open n (Some (Found k)) h = refl
 found_open n (Some Ended) h = refl
 found_open n (Some (Failed e)) h = absurd (h e refl)
 
-right_found_open : (n : ℕ) (f r : Option Look) → settled f r ≡ None → settled f (Some (Found n)) ≡ None
+right_found_open : (n : ℕ) (f r : Option Look) → settled_answer f r ≡ None → settled_answer f (Some (Found n)) ≡ None
 right_found_open n None r h = refl
 right_found_open n (Some (Found k)) r h = refl
 right_found_open n (Some Ended) r h = refl
@@ -72,9 +72,9 @@ module _ (n : ℕ) (a b o : Headed) (look : LooksQuick n a b) (rules : b.reader.
       let k : (l : Option (List ℕ)) → Looks (Found n) Left m.last m.left a b l l = λ l. look l Left m.last m.left p.left in
       let front : front_of b ≡ Some (Found n) = front_is (Found n) b (k None).finds in
       record {
-        moves = λ l r. record { left = (k l).takes; right = stand o.reader r; rest = λ c d z w f g. ap (λ x. merged x (side_rest d o w)) ((k l).rest c z f) };
+        moves = λ l r. record { left = (k l).takes; right = stand o.reader r; rest = λ c d z w f g. ap (λ x. merged_read x (side_rest d o w)) ((k l).rest c z f) };
         passed = record { left = (k None).passed; right = p.right; held = λ h e. absurd (none_some (front_of b) (Found n) h front) };
-        goes = λ h. ap (λ x. settled x (front_of o)) front ∙ found_open n (front_of o) (unfailed_yet (front_of a) (front_of o) h p.held);
+        goes = λ h. ap (λ x. settled_answer x (front_of o)) front ∙ found_open n (front_of o) (unfailed_yet (front_of a) (front_of o) h p.held);
       }
 
   pub left_stands : MergeStands left_before left_after
@@ -92,9 +92,9 @@ module _ (n : ℕ) (o a b : Headed) (look : LooksQuick n a b) (rules : b.reader.
       let k : (l : Option (List ℕ)) → Looks (Found n) Right m.last m.right a b l l = λ l. look l Right m.last m.right p.right in
       let front : front_of b ≡ Some (Found n) = front_is (Found n) b (k None).finds in
       record {
-        moves = λ l r. record { left = stand o.reader l; right = (k r).takes; rest = λ c d z w f g. ap (merged (side_rest c o z)) ((k r).rest d w g) };
+        moves = λ l r. record { left = stand o.reader l; right = (k r).takes; rest = λ c d z w f g. ap (merged_read (side_rest c o z)) ((k r).rest d w g) };
         passed = record { left = p.left; right = (k None).passed; held = λ h e. found_fails n e (front_of b) front };
-        goes = λ h. ap (settled (front_of o)) front ∙ right_found_open n (front_of o) (front_of a) h;
+        goes = λ h. ap (settled_answer (front_of o)) front ∙ right_found_open n (front_of o) (front_of a) h;
       }
 
   pub right_stands : MergeStands right_before right_after

@@ -1,46 +1,46 @@
 -- What a merge does, by what stands in front of its sides.
 use Rattle.std.proofs.Common.{◌≡◌, ◌≢◌, ◌≤◌, ℕ, ◌+◌, List, [], ◌∷◌, ◌++◌, length, Bool, true, false, cond, nat_le, is_some, Option, Some, None, Result, Ok, Err, IfSome, ℤ, pos, option_map, refl, sym, ◌∙◌, ap, subst, arith, append_assoc, length-append}
 use Rattle.std.proofs.lemmas.Bool.Decides.{nat_tests}
-use Rattle.saber_io.specs.Outside.{given, EndsEmpty}
+use Rattle.saber_io.specs.Outside.{left_before, EndsEmpty}
 use Rattle.saber_plan.specs.declared.rows.Row.{Row}
 use Rattle.saber_plan.specs.declared.rows.Side.{Side}
 use Rattle.saber_plan.specs.declared.rows.Side.TheVariants.{Left, Right}
 use Rattle.saber_plan.specs.declared.windows.Mark.{Mark}
 use Rattle.saber_plan.specs.Rows.{Read, End, all_read, cut, bad, before, stamp, falls, RowFits, lines_of}
 use Rattle.saber_plan.specs.Windows.{by_side, in_order, step_mark}
-use Rattle.saber_plan.specs.Inputs.{holds_up, merged}
+use Rattle.saber_plan.specs.Inputs.{holds_up, merged_read}
 use Rattle.saber_laws.specs.Inputs.{MergeTurns}
 use Rattle.saber_rows.specs.declared.ends.RowEnd.{RowEnd}
 use Rattle.saber_rows.specs.declared.ends.RowEnd.TheVariants.{ReadFault, NoMemory, Bad}
 use Rattle.saber_rows.specs.declared.heads.Look.{Look}
 use Rattle.saber_rows.specs.declared.heads.Look.TheVariants.{Found, Ended, Failed}
-use Rattle.saber_rows.specs.Reader.{Reader, rest_of, gone, CanFollow, nothing}
+use Rattle.saber_rows.specs.Reader.{Reader, rest_of, gone_count, CanFollow, nothing}
 use Rattle.saber_rows.specs.Heads.{Headed, bare, look_of, led_by, side_rest, front_of, Finds, Takes, IsAhead, SidePassed, ComesAfter, Looks}
-use Rattle.saber_rows.specs.Merging.{Merger, merger_rest, MergeAnswer, settled, merge_answer, MergeMoves, StopsBy, Passed, MergeTurn}
+use Rattle.saber_rows.specs.Merging.{Merger, merger_rest, MergeAnswer, settled_answer, merge_answer, MergeMoves, StopsBy, Passed, MergeTurn}
 use Rattle.saber_rows.proofs.ReadSteps.{given_none, true_not_false}
 use Rattle.saber_rows.proofs.Fronts.{stand}
 
 -- ---- merged rows, by what is in front
 
-none_left : MergeTurns → (r : Read) → merged (nothing all_read) r ≡ r
+none_left : MergeTurns → (r : Read) → merged_read (nothing all_read) r ≡ r
 none_left law r = law.left_ended r.end r.rows
 
-none_right : MergeTurns → (l : Read) → merged l (nothing all_read) ≡ l
+none_right : MergeTurns → (l : Read) → merged_read l (nothing all_read) ≡ l
 none_right law l = by_rows l.rows l.end where
-  by_end : (e : End) → merged (nothing e) (nothing all_read) ≡ nothing e
+  by_end : (e : End) → merged_read (nothing e) (nothing all_read) ≡ nothing e
   by_end all_read = law.left_ended all_read []
   by_end cut = law.left_stops cut all_read [] refl
   by_end (bad s n c) = law.left_stops (bad s n c) all_read [] refl
 
-  by_rows : (xs : List Row) (e : End) → merged (record { rows = xs; end = e }) (nothing all_read) ≡ record { rows = xs; end = e }
+  by_rows : (xs : List Row) (e : End) → merged_read (record { rows = xs; end = e }) (nothing all_read) ≡ record { rows = xs; end = e }
   by_rows [] e = by_end e
   by_rows (x ∷ xs) e = law.right_ended x xs e
 
-takes_left : MergeTurns → (l r : Read) (x y : Row) → nat_le (stamp x.values) (stamp y.values) ≡ true → merged (before x l) (before y r) ≡ before x (merged l (before y r))
-takes_left law l r x y e = law.takes x l.rows l.end y r.rows r.end ∙ ap (λ b. cond b (before x (merged l (before y r))) (before y (merged (before x l) r))) e
+takes_left : MergeTurns → (l r : Read) (x y : Row) → nat_le (stamp x.values) (stamp y.values) ≡ true → merged_read (before x l) (before y r) ≡ before x (merged_read l (before y r))
+takes_left law l r x y e = law.takes x l.rows l.end y r.rows r.end ∙ ap (λ b. cond b (before x (merged_read l (before y r))) (before y (merged_read (before x l) r))) e
 
-takes_right : MergeTurns → (l r : Read) (x y : Row) → nat_le (stamp x.values) (stamp y.values) ≡ false → merged (before x l) (before y r) ≡ before y (merged (before x l) r)
-takes_right law l r x y e = law.takes x l.rows l.end y r.rows r.end ∙ ap (λ b. cond b (before x (merged l (before y r))) (before y (merged (before x l) r))) e
+takes_right : MergeTurns → (l r : Read) (x y : Row) → nat_le (stamp x.values) (stamp y.values) ≡ false → merged_read (before x l) (before y r) ≡ before y (merged_read (before x l) r)
+takes_right law l r x y e = law.takes x l.rows l.end y r.rows r.end ∙ ap (λ b. cond b (before x (merged_read l (before y r))) (before y (merged_read (before x l) r))) e
 
 -- ---- sides
 
@@ -102,7 +102,7 @@ module _ (s : Side) (last : Option ℤ) (count : ℕ) (h : Headed) (p : SidePass
   -- its row goes
   pub goes : SidePassed s (Some (pos (stamp x.values))) (count + 1) (bare h.reader)
   goes =
-      let c : count + 1 ≤ gone h.reader = subst (λ o. count + cond (is_some o) 1 0 ≤ gone h.reader) e p.counted in
+      let c : count + 1 ≤ gone_count h.reader = subst (λ o. count + cond (is_some o) 1 0 ≤ gone_count h.reader) e p.counted in
       record { is_side = p.is_side; front = tt; sure = p.sure; order = λ f zs k. after_it h.reader.last zs is_ahead.last k; counted = omega (arith, c); few = p.few }
 
   -- the other side's row goes, and this one's is not before it
@@ -151,29 +151,29 @@ module _ (law : MergeTurns) (m : Mark) (old : Merger) (had hadr : Option (List �
   pub both_ended : Finds Ended old.left → Finds Ended old.right → MergeTurn m (Ok None) old old had had hadr hadr
   both_ended f g = record {
     moves = still_moves;
-    ends = λ z w a b. ap (λ l. merged l (side_rest false old.right w)) (ended_rest false old.left z f a) ∙ none_left law (side_rest false old.right w) ∙ ended_rest false old.right w g b;
+    ends = λ z w a b. ap (λ l. merged_read l (side_rest false old.right w)) (ended_rest false old.left z f a) ∙ none_left law (side_rest false old.right w) ∙ ended_rest false old.right w g b;
     passed = p;
-    kept = ap (λ o. settled o (front_of old.right)) (front_is Ended old.left f) ∙ ap (settled (Some Ended)) (front_is Ended old.right g);
+    kept = ap (λ o. settled_answer o (front_of old.right)) (front_is Ended old.left f) ∙ ap (settled_answer (Some Ended)) (front_is Ended old.right g);
   }
 
   stops_left : (e : RowEnd) → Finds (Failed e) old.left → StopsBy Left e old
-  stops_left (Bad n c) f = λ z w a b. ap (λ l. merged l (side_rest false old.right w)) (refused_rest Left n c old.left z p.left.is_side f a) ∙ law.left_stops (bad Left n c) (side_rest false old.right w).end (side_rest false old.right w).rows refl
-  stops_left ReadFault f = (f.2, λ w b. ap (λ l. merged l (side_rest false old.right w)) (cut_rest old.left f) ∙ law.left_stops cut (side_rest false old.right w).end (side_rest false old.right w).rows refl)
+  stops_left (Bad n c) f = λ z w a b. ap (λ l. merged_read l (side_rest false old.right w)) (refused_rest Left n c old.left z p.left.is_side f a) ∙ law.left_stops (bad Left n c) (side_rest false old.right w).end (side_rest false old.right w).rows refl
+  stops_left ReadFault f = (f.2, λ w b. ap (λ l. merged_read l (side_rest false old.right w)) (cut_rest old.left f) ∙ law.left_stops cut (side_rest false old.right w).end (side_rest false old.right w).rows refl)
   stops_left NoMemory f = f.2
 
   pub left_fails : (e : RowEnd) → Finds (Failed e) old.left → MergeTurn m (Err (Left, e)) old old had had hadr hadr
-  left_fails e f = record { moves = still_moves; ends = stops_left e f; passed = p; kept = ap (λ o. settled o (front_of old.right)) (front_is (Failed e) old.left f) }
+  left_fails e f = record { moves = still_moves; ends = stops_left e f; passed = p; kept = ap (λ o. settled_answer o (front_of old.right)) (front_is (Failed e) old.left f) }
 
   -- a left side that has a row or is at its end is held up by the right one
-  held_row : (n : ℕ) → Finds (Found n) old.left → (d : End) → holds_up d ≡ true → (q : Bool) (z : List ℕ) → merged (side_rest q old.left z) (nothing d) ≡ nothing d
-  held_row n (x, e, s) d h q z = ap (λ l. merged l (nothing d)) (row_rest q old.left z x e) ∙ law.right_stops x (rest_of q old.left.reader z).rows (rest_of q old.left.reader z).end d h
+  held_row : (n : ℕ) → Finds (Found n) old.left → (d : End) → holds_up d ≡ true → (q : Bool) (z : List ℕ) → merged_read (side_rest q old.left z) (nothing d) ≡ nothing d
+  held_row n (x, e, s) d h q z = ap (λ l. merged_read l (nothing d)) (row_rest q old.left z x e) ∙ law.right_stops x (rest_of q old.left.reader z).rows (rest_of q old.left.reader z).end d h
 
-  held_end : Finds Ended old.left → (d : End) → (z : List ℕ) → CanFollow false old.left.reader z → merged (side_rest false old.left z) (nothing d) ≡ nothing d
-  held_end f d z a = ap (λ l. merged l (nothing d)) (ended_rest false old.left z f a) ∙ none_left law (nothing d)
+  held_end : Finds Ended old.left → (d : End) → (z : List ℕ) → CanFollow false old.left.reader z → merged_read (side_rest false old.left z) (nothing d) ≡ nothing d
+  held_end f d z a = ap (λ l. merged_read l (nothing d)) (ended_rest false old.left z f a) ∙ none_left law (nothing d)
 
-  stops_right : (e : RowEnd) → Finds (Failed e) old.right → ((d : End) → holds_up d ≡ true → (z : List ℕ) → CanFollow false old.left.reader z → merged (side_rest false old.left z) (nothing d) ≡ nothing d) → StopsBy Right e old
-  stops_right (Bad n c) f held = λ z w a b. ap (merged (side_rest false old.left z)) (refused_rest Right n c old.right w p.right.is_side f b) ∙ held (bad Right n c) refl z a
-  stops_right ReadFault f held = (f.2, λ z a. ap (merged (side_rest false old.left z)) (cut_rest old.right f) ∙ held cut refl z a)
+  stops_right : (e : RowEnd) → Finds (Failed e) old.right → ((d : End) → holds_up d ≡ true → (z : List ℕ) → CanFollow false old.left.reader z → merged_read (side_rest false old.left z) (nothing d) ≡ nothing d) → StopsBy Right e old
+  stops_right (Bad n c) f held = λ z w a b. ap (merged_read (side_rest false old.left z)) (refused_rest Right n c old.right w p.right.is_side f b) ∙ held (bad Right n c) refl z a
+  stops_right ReadFault f held = (f.2, λ z a. ap (merged_read (side_rest false old.left z)) (cut_rest old.right f) ∙ held cut refl z a)
   stops_right NoMemory f held = f.2
 
   pub right_fails_row : (n : ℕ) (e : RowEnd) → Finds (Found n) old.left → Finds (Failed e) old.right → MergeTurn m (Err (Right, e)) old old had had hadr hadr
@@ -181,7 +181,7 @@ module _ (law : MergeTurns) (m : Mark) (old : Merger) (had hadr : Option (List �
     moves = still_moves;
     ends = stops_right e g (λ d h z a. held_row n f d h false z);
     passed = p;
-    kept = ap (λ o. settled o (front_of old.right)) (front_is (Found n) old.left f) ∙ ap (settled (Some (Found n))) (front_is (Failed e) old.right g);
+    kept = ap (λ o. settled_answer o (front_of old.right)) (front_is (Found n) old.left f) ∙ ap (settled_answer (Some (Found n))) (front_is (Failed e) old.right g);
   }
 
   pub right_fails_end : (e : RowEnd) → Finds Ended old.left → Finds (Failed e) old.right → MergeTurn m (Err (Right, e)) old old had had hadr hadr
@@ -189,7 +189,7 @@ module _ (law : MergeTurns) (m : Mark) (old : Merger) (had hadr : Option (List �
     moves = still_moves;
     ends = stops_right e g (λ d h z a. held_end f d z a);
     passed = p;
-    kept = ap (λ o. settled o (front_of old.right)) (front_is Ended old.left f) ∙ ap (settled (Some Ended)) (front_is (Failed e) old.right g);
+    kept = ap (λ o. settled_answer o (front_of old.right)) (front_is Ended old.left f) ∙ ap (settled_answer (Some Ended)) (front_is (Failed e) old.right g);
   }
 
   -- ---- a row
@@ -201,13 +201,13 @@ module _ (law : MergeTurns) (m : Mark) (old : Merger) (had hadr : Option (List �
   right_gone = record { left = old.left; right = bare old.right.reader }
 
   settled_left : (x : Row) → IsAhead x old.left.reader → merge_answer left_gone ≡ None
-  settled_left x a = ap (λ o. settled o (front_of old.right)) (front_gone old.left x a)
+  settled_left x a = ap (λ o. settled_answer o (front_of old.right)) (front_gone old.left x a)
 
   settled_row : (n : ℕ) (x : Row) → Finds (Found n) old.left → IsAhead x old.right.reader → merge_answer right_gone ≡ None
-  settled_row n x f a = ap (λ o. settled o (front_of (bare old.right.reader))) (front_is (Found n) old.left f) ∙ ap (settled (Some (Found n))) (front_gone old.right x a)
+  settled_row n x f a = ap (λ o. settled_answer o (front_of (bare old.right.reader))) (front_is (Found n) old.left f) ∙ ap (settled_answer (Some (Found n))) (front_gone old.right x a)
 
   settled_end : (x : Row) → Finds Ended old.left → IsAhead x old.right.reader → merge_answer right_gone ≡ None
-  settled_end x f a = ap (λ o. settled o (front_of (bare old.right.reader))) (front_is Ended old.left f) ∙ ap (settled (Some Ended)) (front_gone old.right x a)
+  settled_end x f a = ap (λ o. settled_answer o (front_of (bare old.right.reader))) (front_is Ended old.left f) ∙ ap (settled_answer (Some Ended)) (front_gone old.right x a)
 
   left_row : (x : Row) (e : old.left.ahead ≡ Some x) → SidePassed Right (Some (pos (stamp x.values))) m.right old.right
       → ((a b : Bool) (z w : List ℕ) → CanFollow a old.left.reader z → CanFollow b old.right.reader w → merger_rest a b old z w ≡ before x (merger_rest a b left_gone z w))
@@ -259,8 +259,8 @@ module _ (law : MergeTurns) (m : Mark) (old : Merger) (had hadr : Option (List �
       let less : nat_le (stamp x.values) (stamp y.values) ≡ true = subst (λ i. nat_le i (stamp y.values) ≡ true) s (subst (λ i. nat_le n i ≡ true) t h) in
       subst (λ o. MergeTurn m (Ok o) old left_gone had had hadr hadr) (sym e)
       (left_row x e (stays_row Right m.last m.right old.right p.right y f (stamp x.values) less)
-      (λ a b z w c d. ap (λ l. merged l (side_rest b old.right w)) (row_rest a old.left z x e) ∙ ap (merged (before x (rest_of a old.left.reader z))) (row_rest b old.right w y f)
-      ∙ takes_left law (rest_of a old.left.reader z) (rest_of b old.right.reader w) x y less ∙ ap (λ r. before x (merged (rest_of a old.left.reader z) r)) (sym (row_rest b old.right w y f)))
+      (λ a b z w c d. ap (λ l. merged_read l (side_rest b old.right w)) (row_rest a old.left z x e) ∙ ap (merged_read (before x (rest_of a old.left.reader z))) (row_rest b old.right w y f)
+      ∙ takes_left law (rest_of a old.left.reader z) (rest_of b old.right.reader w) x y less ∙ ap (λ r. before x (merged_read (rest_of a old.left.reader z) r)) (sym (row_rest b old.right w y f)))
       (λ j g. found_fails k j (front_of old.right) (front_is (Found k) old.right (y, f, t)) g))
 
   later_left : (a b : ℕ) → nat_le a b ≡ false → nat_le b a ≡ true
@@ -271,8 +271,8 @@ module _ (law : MergeTurns) (m : Mark) (old : Merger) (had hadr : Option (List �
       let less : nat_le (stamp x.values) (stamp y.values) ≡ false = subst (λ i. nat_le i (stamp y.values) ≡ false) s (subst (λ i. nat_le n i ≡ false) t h) in
       subst (λ o. MergeTurn m (Ok o) old right_gone had had hadr hadr) (sym f)
       (right_row y f (stays_row Left m.last m.left old.left p.left x e (stamp y.values) (later_left _ _ less))
-      (λ a b z w c d. ap (λ l. merged l (side_rest b old.right w)) (row_rest a old.left z x e) ∙ ap (merged (before x (rest_of a old.left.reader z))) (row_rest b old.right w y f)
-      ∙ takes_right law (rest_of a old.left.reader z) (rest_of b old.right.reader w) x y less ∙ ap (λ l. before y (merged l (rest_of b old.right.reader w))) (sym (row_rest a old.left z x e)))
+      (λ a b z w c d. ap (λ l. merged_read l (side_rest b old.right w)) (row_rest a old.left z x e) ∙ ap (merged_read (before x (rest_of a old.left.reader z))) (row_rest b old.right w y f)
+      ∙ takes_right law (rest_of a old.left.reader z) (rest_of b old.right.reader w) x y less ∙ ap (λ l. before y (merged_read l (rest_of b old.right.reader w))) (sym (row_rest a old.left z x e)))
       (settled_row n y (x, e, s) (is_ahead Right m.last m.right old.right p.right y f)))
 
   -- one is at its end
@@ -280,21 +280,21 @@ module _ (law : MergeTurns) (m : Mark) (old : Merger) (had hadr : Option (List �
   only_left n (x, e, s) g =
       subst (λ o. MergeTurn m (Ok o) old left_gone had had hadr hadr) (sym e)
       (left_row x e (stays_ended Right m.last (Some (pos (stamp x.values))) m.right old.right p.right g)
-      (λ a b z w c d. ap (merged (side_rest a old.left z)) (ended_rest b old.right w g d) ∙ none_right law (side_rest a old.left z) ∙ row_rest a old.left z x e
-      ∙ ap (before x) (sym (none_right law (rest_of a old.left.reader z)) ∙ ap (merged (rest_of a old.left.reader z)) (sym (ended_rest b old.right w g d))))
+      (λ a b z w c d. ap (merged_read (side_rest a old.left z)) (ended_rest b old.right w g d) ∙ none_right law (side_rest a old.left z) ∙ row_rest a old.left z x e
+      ∙ ap (before x) (sym (none_right law (rest_of a old.left.reader z)) ∙ ap (merged_read (rest_of a old.left.reader z)) (sym (ended_rest b old.right w g d))))
       (λ j h. ended_fails j (front_of old.right) (front_is Ended old.right g) h))
 
   pub only_right : (k : ℕ) → Finds Ended old.left → Finds (Found k) old.right → MergeTurn m (Ok old.right.ahead) old right_gone had had hadr hadr
   only_right k g (y, f, t) =
       subst (λ o. MergeTurn m (Ok o) old right_gone had had hadr hadr) (sym f)
       (right_row y f (stays_ended Left m.last (Some (pos (stamp y.values))) m.left old.left p.left g)
-      (λ a b z w c d. ap (λ l. merged l (side_rest b old.right w)) (ended_rest a old.left z g c) ∙ none_left law (side_rest b old.right w) ∙ row_rest b old.right w y f
-      ∙ ap (before y) (sym (none_left law (rest_of b old.right.reader w)) ∙ ap (λ l. merged l (rest_of b old.right.reader w)) (sym (ended_rest a old.left z g c))))
+      (λ a b z w c d. ap (λ l. merged_read l (side_rest b old.right w)) (ended_rest a old.left z g c) ∙ none_left law (side_rest b old.right w) ∙ row_rest b old.right w y f
+      ∙ ap (before y) (sym (none_left law (rest_of b old.right.reader w)) ∙ ap (λ l. merged_read l (rest_of b old.right.reader w)) (sym (ended_rest a old.left z g c))))
       (settled_end y g (is_ahead Right m.last m.right old.right p.right y f)))
 
 -- ---- one after another
 
-pub given_append : (xs ys : List ℕ) (o : Option (List ℕ)) → given xs (given ys o) ≡ given (xs ++ ys) o
+pub given_append : (xs ys : List ℕ) (o : Option (List ℕ)) → left_before xs (left_before ys o) ≡ left_before (xs ++ ys) o
 given_append xs ys None = refl
 given_append xs ys (Some zs) = ap Some (sym (append_assoc xs ys zs))
 
@@ -306,7 +306,7 @@ module _ (a b c : Reader) (h1 h2 h3 : Option (List ℕ)) (first : Takes a b h1 h
   -- the end is seen in the first or in the second
   pub seen_in : (e : Bool) → b.ended ≡ e → a.ended ≡ false → c.ended ≡ true → EndsEmpty h3
   seen_in true e unended ended =
-      let back : h2 ≡ h3 = next.left ∙ ap (λ t. given t h3) (next.still e).0 ∙ sym (given_none h3) in
+      let back : h2 ≡ h3 = next.left ∙ ap (λ t. left_before t h3) (next.still e).0 ∙ sym (given_none h3) in
       subst EndsEmpty back (first.seen unended e)
   seen_in false e unended ended = next.seen e ended
 
@@ -316,7 +316,7 @@ module _ (a b c : Reader) (h1 h2 h3 : Option (List ℕ)) (first : Takes a b h1 h
   abbrev pub takes_on : Takes a c h1 h3
   takes_on = record {
     taken = first.taken ++ next.taken;
-    left = first.left ∙ ap (given first.taken) next.left ∙ given_append first.taken next.taken h3;
+    left = first.left ∙ ap (left_before first.taken) next.left ∙ given_append first.taken next.taken h3;
     done = first.done ++ next.done;
     count = counts;
     lines = λ z follow. ap (λ t. lines_of (a.held ++ t)) (append_assoc first.taken next.taken z) ∙ first.lines (next.taken ++ z) (followed false z follow)
@@ -333,8 +333,8 @@ module _ (m : Mark) (answer : MergeAnswer) (l : Look) (a b other : Headed) (new 
       left = t.moves.left;
       right = takes_on a.reader b.reader new.right.reader h1 h2 h3 k.takes t.moves.right;
       rest = λ p q z w f g.
-          ap (λ y. merged (side_rest p other (t.moves.left.taken ++ z)) (side_rest q a y)) (append_assoc k.takes.taken t.moves.right.taken w)
-          ∙ ap (merged (side_rest p other (t.moves.left.taken ++ z))) (k.rest q (t.moves.right.taken ++ w) (followed a.reader b.reader new.right.reader h1 h2 h3 k.takes t.moves.right q w g))
+          ap (λ y. merged_read (side_rest p other (t.moves.left.taken ++ z)) (side_rest q a y)) (append_assoc k.takes.taken t.moves.right.taken w)
+          ∙ ap (merged_read (side_rest p other (t.moves.left.taken ++ z))) (k.rest q (t.moves.right.taken ++ w) (followed a.reader b.reader new.right.reader h1 h2 h3 k.takes t.moves.right q w g))
           ∙ t.moves.rest p q z w f g;
     };
     ends = t.ends;
@@ -348,8 +348,8 @@ module _ (m : Mark) (answer : MergeAnswer) (l : Look) (a b other : Headed) (new 
       left = takes_on a.reader b.reader new.left.reader h1 h2 h3 k.takes t.moves.left;
       right = t.moves.right;
       rest = λ p q z w f g.
-          ap (λ y. merged (side_rest p a y) (side_rest q other (t.moves.right.taken ++ w))) (append_assoc k.takes.taken t.moves.left.taken z)
-          ∙ ap (λ r. merged r (side_rest q other (t.moves.right.taken ++ w))) (k.rest p (t.moves.left.taken ++ z) (followed a.reader b.reader new.left.reader h1 h2 h3 k.takes t.moves.left p z f))
+          ap (λ y. merged_read (side_rest p a y) (side_rest q other (t.moves.right.taken ++ w))) (append_assoc k.takes.taken t.moves.left.taken z)
+          ∙ ap (λ r. merged_read r (side_rest q other (t.moves.right.taken ++ w))) (k.rest p (t.moves.left.taken ++ z) (followed a.reader b.reader new.left.reader h1 h2 h3 k.takes t.moves.left p z f))
           ∙ t.moves.rest p q z w f g;
     };
     ends = t.ends;
@@ -359,12 +359,12 @@ module _ (m : Mark) (answer : MergeAnswer) (l : Look) (a b other : Headed) (new 
 
 -- ---- a fault that comes first
 
-settled_fails : (l : Look) (e : RowEnd) → settled (Some l) (Some (Failed e)) ≢ None
+settled_fails : (l : Look) (e : RowEnd) → settled_answer (Some l) (Some (Failed e)) ≢ None
 settled_fails (Found n) e h = cc
 settled_fails Ended e h = cc
 settled_fails (Failed x) e h = cc
 
 -- where the merge hasn't ended, its right side hasn't failed before
-pub unfailed_yet : (f r : Option Look) → settled f r ≡ None → (f ≡ None → (e : RowEnd) → r ≢ Some (Failed e)) → (e : RowEnd) → r ≢ Some (Failed e)
+pub unfailed_yet : (f r : Option Look) → settled_answer f r ≡ None → (f ≡ None → (e : RowEnd) → r ≢ Some (Failed e)) → (e : RowEnd) → r ≢ Some (Failed e)
 unfailed_yet None r h held e g = held refl e g
-unfailed_yet (Some l) r h held e g = settled_fails l e (subst (λ x. settled (Some l) x ≡ None) g h)
+unfailed_yet (Some l) r h held e g = settled_fails l e (subst (λ x. settled_answer (Some l) x ≡ None) g h)

@@ -1,7 +1,7 @@
 -- A row in one pass is the next one that the reader gives, and so are rows one after another.
 use Rattle.std.proofs.Common.{◌≡◌, ℕ, suc, ◌+◌, ◌≤◌, List, [], take, drop, drop-drop, length-drop, false, Option, Some, None, Ok, ℤ, refl, sym, ◌∙◌, ap, subst, arith}
 use Rattle.saber_plan.specs.declared.rows.Row.{Row}
-use Rattle.saber_plan.specs.Rows.{before, stamp, late, raised, without_cr}
+use Rattle.saber_plan.specs.Rows.{before, stamp, late, raised_time, without_cr}
 use Rattle.saber_rows.specs.declared.ends.Behind.{Behind}
 use Rattle.saber_rows.specs.declared.lines.Run.{Run}
 use Rattle.saber_rows.specs.QuickRows.{IsRowAt, IsPut}
@@ -18,7 +18,7 @@ use Rattle.saber_rows.proofs.ReaderTexts.{is_next}
 -- without slack, where no end is known
 module _ (r : Reader) (over : Option Behind) (sound : Sound r.rules r.place r.last over) (none : over ≡ None) (unknown : r.over ≡ None) (slack : r.rules.slack ≡ 0)
     (n : ℕ) (vs : List ℤ) (row : IsRowAt r.rules.columns r.held vs n) (most : r.place.lines + 1 ≤ r.rules.most) (in_time : late r.rules.slack r.place.high vs ≡ false)
-    (t h : ℕ) (own : t ≡ stamp vs) (high : h ≡ raised r.place.high (stamp vs)) (held : List ℕ) (rest : held ≡ drop (n + 1) r.held) where
+    (t h : ℕ) (own : t ≡ stamp vs) (high : h ≡ raised_time r.place.high (stamp vs)) (held : List ℕ) (rest : held ≡ drop (n + 1) r.held) where
   abbrev pub its_row : Row
   its_row = record { side = r.rules.side; values = vs }
 

@@ -1,7 +1,7 @@
 -- A reader reads, or doesn't.
 use Rattle.std.proofs.Common.{◌≡◌, ℕ, List, [], ◌∷◌, ◌++◌, ◌≤◌, length, Bool, true, false, not, cond, Option, Some, None, refl, sym, ◌∙◌, ap, append_assoc, arith}
 use Rattle.std.proofs.lemmas.List.{append-nil}
-use Rattle.saber_io.specs.Outside.{given, EndsEmpty}
+use Rattle.saber_io.specs.Outside.{left_before, EndsEmpty}
 use Rattle.saber_plan.specs.Rows.{SideRules, Place, lines_of, onto_line, read_by, cut, due, no_more, after_line, judge_at, without_cr}
 use Rattle.saber_rows.specs.Buffer.{Gains}
 use Rattle.saber_rows.specs.LineFeeds.{onto_lines, HasNoFeed}
@@ -11,7 +11,7 @@ use Rattle.saber_rows.specs.Turns.{Steps, same, HasEnough}
 use Rattle.saber_rows.proofs.HeldRows.{is_not_above}
 
 -- a source gave nothing
-pub given_none : (o : Option (List ℕ)) → o ≡ given [] o
+pub given_none : (o : Option (List ℕ)) → o ≡ left_before [] o
 given_none None = refl
 given_none (Some bytes) = refl
 
@@ -74,7 +74,7 @@ none_taken : (xs : List ℕ) → length xs ≡ 0 → xs ≡ []
 none_taken [] e = refl
 none_taken (x ∷ xs) e = absurd (omega arith)
 
-empty_left : (had has : Option (List ℕ)) → had ≡ given [] has → EndsEmpty had → EndsEmpty has
+empty_left : (had has : Option (List ℕ)) → had ≡ left_before [] has → EndsEmpty had → EndsEmpty has
 empty_left had None e h = tt
 empty_left None (Some z) e h = cc
 empty_left (Some y) (Some z) e h = let same : Some y ≡ Some z = e in let yz : y ≡ z = cc in sym yz ∙ h
@@ -91,8 +91,8 @@ saw_end r held had has n zero unended g empty = record {
   still = λ ended. true_not_false r.ended unended ended;
   seen = λ _ _. empty_left had has left empty;
 } where
-  left : had ≡ given [] has
-  left = g.left ∙ ap (λ t. given t has) (none_taken g.taken (g.count ∙ zero))
+  left : had ≡ left_before [] has
+  left = g.left ∙ ap (λ t. left_before t has) (none_taken g.taken (g.count ∙ zero))
 
   kept : held ≡ r.held
   kept = g.behind ∙ ap (λ t. r.held ++ t) (none_taken g.taken (g.count ∙ zero)) ∙ append-nil r.held

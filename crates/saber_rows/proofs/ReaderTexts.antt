@@ -1,6 +1,6 @@
 -- Readers over sources that tell what they have left.
 use Rattle.std.proofs.Common.{◌≡◌, ℕ, List, [], ◌++◌, Bool, true, false, cond, Option, Some, None, Result, Ok, Err, IfOk, IfSome, refl, sym, ◌∙◌, ap, subst, option_map}
-use Rattle.saber_io.specs.Outside.{given, EndsEmpty}
+use Rattle.saber_io.specs.Outside.{left_before, EndsEmpty}
 use Rattle.saber_plan.specs.Rows.{Read, bad}
 use Rattle.saber_plan.specs.declared.rows.Row.{Row}
 use Rattle.saber_plan.specs.declared.rows.Side.{Side}
@@ -43,7 +43,7 @@ module _ (out : Read → Read) (old new : Reader) (had has : Option (List ℕ)) 
   comes z there true e = after_end z e
   comes z there false e = before_end z there e new.ended refl
 
-  by_left : (o : Option (List ℕ)) → has ≡ o → rest_over old (given m.taken o) ≡ option_map out (rest_over new o)
+  by_left : (o : Option (List ℕ)) → has ≡ o → rest_over old (left_before m.taken o) ≡ option_map out (rest_over new o)
   by_left None there = refl
   by_left (Some z) there = ap Some (comes z there old.ended refl)
 

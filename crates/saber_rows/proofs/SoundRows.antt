@@ -2,7 +2,7 @@
 use Rattle.std.proofs.Common.{◌≡◌, ℕ, ◌+◌, ◌<◌, ◌≤◌, filter, length, List, [], ◌∷◌, true, false, not, cond, nat_lt, nat_le, Option, Some, None, option_map, ℤ, refl, sym, ◌∙◌, ap, subst, arith}
 use Rattle.std.proofs.lemmas.Bool.Decides.{nat_tests}
 use Rattle.saber_plan.specs.declared.rows.Row.{Row}
-use Rattle.saber_plan.specs.Rows.{SideRules, Place, End, stamp, falls, late, is_due, waiting, raised, accept, RowFits}
+use Rattle.saber_plan.specs.Rows.{SideRules, Place, End, stamp, falls, late, is_due, waiting_rows, raised_time, accept, RowFits}
 use Rattle.saber_rows.specs.Reader.{Reader, end_behind}
 use Rattle.saber_rows.specs.Calls.{IsGiven}
 use Rattle.saber_rows.specs.Sound.{Sound, WasDue}
@@ -35,7 +35,7 @@ module _ (s : SideRules) (p : Place) (last : Option ℕ) (over : Option Behind) 
   pub follows_last : (zs : List ℤ) → over ≡ None → late s.slack p.high zs ≡ false → falls last zs ≡ false
   follows_last zs e l = not_falling last zs (h.was_due e) l
 
-  still_due : (o : Option ℕ) (t : ℕ) → WasDue s.slack p.high o → WasDue s.slack (Some (raised p.high t)) o
+  still_due : (o : Option ℕ) (t : ℕ) → WasDue s.slack p.high o → WasDue s.slack (Some (raised_time p.high t)) o
   still_due None t w = tt
   still_due (Some u) t w = due_stays s.slack p.high t u w
 
@@ -47,13 +47,13 @@ module _ (s : SideRules) (p : Place) (last : Option ℕ) (over : Option Behind) 
   sound_held zs slack e a = let row : Row = record { side = s.side; values = zs } in record {
     fit = all-in_time (RowFits s.side s.columns) row p.accepted a.fits h.fit;
     in_time = in_time_stays last row p.accepted (follows_last zs e a.in_time) h.in_time;
-    few = has_room s.room (length (waiting s (accept s p zs))) a.has_room;
+    few = has_room s.room (length (waiting_rows s (accept s p zs))) a.has_room;
     lined = omega (arith, h.lined, length-in_time row p.accepted);
     none = λ z. absurd (omega (arith, z, slack));
     was_due = λ n. still_due last (stamp zs) (h.was_due n);
   }
 
-  at_once : (slack t : ℕ) (high : Option ℕ) → slack ≡ 0 → nat_le (t + slack) (raised high t) ≡ true
+  at_once : (slack t : ℕ) (high : Option ℕ) → slack ≡ 0 → nat_le (t + slack) (raised_time high t) ≡ true
   at_once slack t None e = grind (arith, nat_tests)
   at_once slack t (Some g) e = grind (arith, nat_tests)
 
@@ -62,7 +62,7 @@ module _ (s : SideRules) (p : Place) (last : Option ℕ) (over : Option Behind) 
   sound_at_once zs t own slack =
       let none : p.accepted ≡ [] = none_held p.accepted (h.none slack) in
       subst (λ u. Sound s (passed_by p zs) (Some u) over) (sym own)
-      (subst (λ xs. Sound s (record { lines = p.lines + 1; high = Some (raised p.high (stamp zs)); accepted = xs }) (Some (stamp zs)) over) (sym none) (record {
+      (subst (λ xs. Sound s (record { lines = p.lines + 1; high = Some (raised_time p.high (stamp zs)); accepted = xs }) (Some (stamp zs)) over) (sym none) (record {
         fit = tt;
         in_time = tt;
         few = omega arith;

@@ -4,8 +4,8 @@ use Rattle.std.proofs.lemmas.Bool.Decides.{nat_tests}
 use Rattle.saber_plan.specs.declared.rows.Row.{Row}
 use Rattle.saber_plan.specs.declared.rows.RowCause.{RowCause}
 use Rattle.saber_plan.specs.declared.rows.RowCause.TheVariants.{TooManyLines, TooLong, FieldCount, TimeOrder, TooManyHeld}
-use Rattle.saber_plan.specs.Rows.{SideRules, Place, late, crowds, timed, judge_at, Judged, skipped, taken, refused, judge, judge_fields, judge_numbers, bad_field, wide_field, fields_of, numbers, falls, RowFits}
-use Rattle.saber_rows.specs.Reader.{Reader, gone}
+use Rattle.saber_plan.specs.Rows.{SideRules, Place, late, crowds, timed_line, judge_at, Judged, skipped, taken, refused, judge, judge_fields, judge_numbers, bad_field, wide_field, fields_of, numbers, falls, RowFits}
+use Rattle.saber_rows.specs.Reader.{Reader, gone_count}
 use Rattle.saber_rows.specs.Calls.{IsGiven}
 use Rattle.saber_rows.specs.QuickRows.{IsRow}
 
@@ -88,7 +88,7 @@ timed_by s p zs ns true c l k e = absurd cc
 timed_by s p zs ns false true l k e = absurd cc
 timed_by s p zs ns false false l k e = (taken_same zs ns e, l, k)
 
-timed_taken : (s : SideRules) (p : Place) (zs : List ℤ) (j : Judged) → taken zs ≡ timed s p j → (taken zs ≡ j) × (late s.slack p.high zs ≡ false) × (crowds s p zs ≡ false)
+timed_taken : (s : SideRules) (p : Place) (zs : List ℤ) (j : Judged) → taken zs ≡ timed_line s p j → (taken zs ≡ j) × (late s.slack p.high zs ≡ false) × (crowds s p zs ≡ false)
 timed_taken s p zs skipped e = absurd cc
 timed_taken s p zs (refused c) e = absurd cc
 timed_taken s p zs (taken ns) e =
@@ -102,7 +102,7 @@ accepted s p content zs e =
     record { fits = record { own = refl; count = a.count; range = a.range }; in_time = t.1; has_room = t.2 }
 
 -- a row given after turns that gave none
-pub given_since : (row : Row) (a b c : Reader) → b.rules ≡ a.rules → b.last ≡ a.last → gone a ≤ gone b → IsGiven row b c → IsGiven row a c
+pub given_since : (row : Row) (a b c : Reader) → b.rules ≡ a.rules → b.last ≡ a.last → gone_count a ≤ gone_count b → IsGiven row b c → IsGiven row a c
 given_since row a b c rules last lines g = record {
   fits = subst (λ r. RowFits r.side r.columns row) rules g.fits;
   ordered = subst (λ l. falls l row.values ≡ false) last g.ordered;

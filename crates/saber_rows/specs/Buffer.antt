@@ -1,6 +1,6 @@
 -- What a buffer holds, and what a read adds to it.
 use Rattle.std.specs.Prelude.{◌≡◌, ℕ, List, ◌++◌, length, slice_range, Option}
-use Rattle.saber_io.specs.Outside.{given}
+use Rattle.saber_io.specs.Outside.{left_before}
 use Rattle.saber_rows.specs.declared.buffer.Buffer.{Buffer}
 
 -- the bytes that are held
@@ -12,4 +12,4 @@ pub record Gains (n : ℕ) (old new : List ℕ) (had has : Option (List ℕ)) : 
   pub taken : List ℕ
   pub count : length taken ≡ n
   pub behind : new ≡ old ++ taken
-  pub left : had ≡ given taken has
+  pub left : had ≡ left_before taken has

@@ -2,10 +2,10 @@
 use Rattle.std.specs.Prelude.{◌≡◌, ◌<◌, ◌≤◌, ◌⊎◌, ℕ, zero, suc, ◌+◌, length, List, [], ◌∷◌, ◌++◌, Bool, true, false, Option, Some, None, IfSome, Result, Ok, Err}
 use Rattle.saber_plan.specs.declared.rows.Row.{Row}
 use Rattle.saber_plan.specs.Rows.{SideRules, Line, Read, End, all_read, cut, bad, lines_of, before, stamp, falls, RowFits}
-use Rattle.saber_io.specs.Outside.{given, EndsEmpty}
+use Rattle.saber_io.specs.Outside.{left_before, EndsEmpty}
 use Rattle.saber_rows.specs.declared.ends.RowEnd.{RowEnd}
 use Rattle.saber_rows.specs.declared.ends.RowEnd.TheVariants.{ReadFault, NoMemory, Bad}
-use Rattle.saber_rows.specs.Reader.{Reader, gone, rest_of, rest_over, CanFollow, HasEnd, NeedsMore}
+use Rattle.saber_rows.specs.Reader.{Reader, gone_count, rest_of, rest_over, CanFollow, HasEnd, NeedsMore}
 
 -- an answer's row and then these
 abbrev pub given_by : Result (Option Row) RowEnd → Read → Read
@@ -31,7 +31,7 @@ last_after last (Err e) = last
 -- A reader that saw the end takes nothing; one that sees it now has a source with nothing left.
 pub record Moves (out : Read → Read) (old new : Reader) (had has : Option (List ℕ)) : Type 0 where
   pub taken : List ℕ
-  pub left : had ≡ given taken has
+  pub left : had ≡ left_before taken has
   pub done : List Line
   pub count : new.place.lines ≡ old.place.lines + length done
   pub lines : (z : List ℕ) → CanFollow false new z → lines_of (old.held ++ (taken ++ z)) ≡ done ++ lines_of (new.held ++ z)
@@ -44,7 +44,7 @@ pub record IsGiven (row : Row) (old new : Reader) : Type 0 where
   pub fits : RowFits old.rules.side old.rules.columns row
   pub ordered : falls old.last row.values ≡ false
   pub last : new.last ≡ Some (stamp row.values)
-  pub rises : gone old < gone new
+  pub rises : gone_count old < gone_count new
 
 -- rows of more than eight columns, or rows that are held, take memory
 abbrev pub WantsMemory : SideRules → Type 0
@@ -79,7 +79,7 @@ pub record HoldsNext (row : Row) (old new : Reader) : Type 0 where
   pub moves : (left : Option (List ℕ)) → Moves (before row) old new left left
   pub next : (left : Option (List ℕ)) → IfSome (rest_over old left) (IsNext (Ok (Some row)))
   pub given : IsGiven row old new
-  pub counted : gone new ≤ new.rules.most
+  pub counted : gone_count new ≤ new.rules.most
   pub rules : new.rules ≡ old.rules
   pub answer : new.answer ≡ None
 

@@ -1,6 +1,6 @@
 -- A reader with the row that is held in front of it, as contracts see them.
 use Rattle.std.specs.Prelude.{◌≡◌, ◌≤◌, ◌<◌, ℕ, ◌+◌, length, List, ◌++◌, [], Bool, true, false, if◌then◌else◌, is_some, IfSome, IfOk, Option, Some, None, option_map, Result, Ok, Err, ℤ, pos}
-use Rattle.saber_io.specs.Outside.{given, EndsEmpty}
+use Rattle.saber_io.specs.Outside.{left_before, EndsEmpty}
 use Rattle.saber_plan.specs.declared.rows.Row.{Row}
 use Rattle.saber_plan.specs.declared.rows.Side.{Side}
 use Rattle.saber_plan.specs.Rows.{Line, Read, lines_of, before, stamp, falls, RowFits, all_read}
@@ -9,7 +9,7 @@ use Rattle.saber_rows.specs.declared.ends.RowEnd.{RowEnd}
 use Rattle.saber_rows.specs.declared.heads.Head.{Head}
 use Rattle.saber_rows.specs.declared.heads.Look.{Look}
 use Rattle.saber_rows.specs.declared.heads.Look.TheVariants.{Found, Ended, Failed}
-use Rattle.saber_rows.specs.Reader.{Reader, reader_of, rest_of, gone, CanFollow, HasEnd, EndsRefused, NeedsMore}
+use Rattle.saber_rows.specs.Reader.{Reader, reader_of, rest_of, gone_count, CanFollow, HasEnd, EndsRefused, NeedsMore}
 use Rattle.saber_rows.specs.Calls.{Moves, EndsBy, WantsMemory, given_by, kept_by, last_after}
 use Rattle.saber_rows.specs.declared.ends.RowEnd.TheVariants.{ReadFault, NoMemory}
 
@@ -18,8 +18,8 @@ pub record Headed : Type 0 where
   pub reader : Reader
   pub ahead : Option Row
 
-abbrev pub headed : Head → Headed
-headed h = record { reader = reader_of h.lines; ahead = if h.full then Some h.row else None }
+abbrev pub head_view : Head → Headed
+head_view h = record { reader = reader_of h.lines; ahead = if h.full then Some h.row else None }
 
 -- with no row in front
 abbrev pub bare : Reader → Headed
@@ -58,7 +58,7 @@ Finds (Failed e) h = (h.ahead ≡ None) × (h.reader.answer ≡ Some (Err e)) ×
 -- The reader took these bytes from its source, and is done with these lines: as `Moves` of a reader, without the rows.
 pub record Takes (old new : Reader) (had has : Option (List ℕ)) : Type 0 where
   pub taken : List ℕ
-  pub left : had ≡ given taken has
+  pub left : had ≡ left_before taken has
   pub done : List Line
   pub count : new.place.lines ≡ old.place.lines + length done
   pub lines : (z : List ℕ) → CanFollow false new z → lines_of (old.held ++ (taken ++ z)) ≡ done ++ lines_of (new.held ++ z)
@@ -91,8 +91,8 @@ pub record SidePassed (side : Side) (last : Option ℤ) (count : ℕ) (h : Heade
   pub front : IfSome h.ahead (λ row. IsAhead row h.reader)
   pub sure : IfSome h.reader.answer (λ answer. EndedBy answer h.reader)
   pub order : ComesAfter last h.ahead h.reader
-  pub counted : count + (if is_some h.ahead then 1 else 0) ≤ gone h.reader
-  pub few : gone h.reader ≤ h.reader.rules.most
+  pub counted : count + (if is_some h.ahead then 1 else 0) ≤ gone_count h.reader
+  pub few : gone_count h.reader ≤ h.reader.rules.most
 
 -- what a look does: the side has still to give what it had
 pub record Looks (look : Look) (side : Side) (last : Option ℤ) (count : ℕ) (old new : Headed) (had has : Option (List ℕ)) : Type 0 where
@@ -122,9 +122,9 @@ pub record Called (result : Result (Option Row) RowEnd) (old new : Reader) (had 
   pub fits : IfOk result (λ o. IfSome o (RowFits old.rules.side old.rules.columns))
   pub ordered : IfOk result (λ o. IfSome o (λ row. falls old.last row.values ≡ false))
   pub last : new.last ≡ last_after old.last result
-  pub rises : IfOk result (λ o. IfSome o (λ row. gone old < gone new))
-  pub stays : gone old ≤ gone new
-  pub counted : gone new ≤ new.rules.most
+  pub rises : IfOk result (λ o. IfSome o (λ row. gone_count old < gone_count new))
+  pub stays : gone_count old ≤ gone_count new
+  pub counted : gone_count new ≤ new.rules.most
 
 -- a row of a side that was passed on at once: it fits the reader's side, and is not before the last one
 pub record LineRow (side : Side) (last : Option ℤ) (count : ℕ) (row : Row) (r : Reader) : Type 0 where

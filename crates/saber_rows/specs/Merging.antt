@@ -7,7 +7,7 @@ use Rattle.saber_plan.specs.declared.windows.Mark.{Mark}
 use Rattle.saber_plan.specs.Rows.{Read, End, all_read, cut, bad, before, stamp, RowFits}
 use Rattle.saber_plan.specs.Outputs.{Rose}
 use Rattle.saber_plan.specs.Windows.{no_rows, by_side, in_order, step_mark}
-use Rattle.saber_plan.specs.Inputs.{merged}
+use Rattle.saber_plan.specs.Inputs.{merged_read}
 use Rattle.saber_rows.specs.declared.ends.RowEnd.{RowEnd}
 use Rattle.saber_rows.specs.declared.ends.RowEnd.TheVariants.{ReadFault, NoMemory, Bad}
 use Rattle.saber_rows.specs.declared.heads.Look.{Look}
@@ -15,7 +15,7 @@ use Rattle.saber_rows.specs.declared.heads.Look.TheVariants.{Found, Ended, Faile
 use Rattle.saber_rows.specs.declared.merges.Merge.{Merge}
 use Rattle.saber_rows.specs.Reader.{Reader, CanFollow, to_come, nothing, NeedsMore}
 use Rattle.saber_rows.specs.Calls.{WantsMemory}
-use Rattle.saber_rows.specs.Heads.{Headed, headed, bare, side_rest, front_of, Finds, Takes, SidePassed}
+use Rattle.saber_rows.specs.Heads.{Headed, head_view, bare, side_rest, front_of, Finds, Takes, SidePassed}
 
 -- both sides, each with the row in front of it
 pub record Merger : Type 0 where
@@ -23,7 +23,7 @@ pub record Merger : Type 0 where
   pub right : Headed
 
 abbrev pub merger_of : Merge → Merger
-merger_of m = record { left = headed m.left; right = headed m.right }
+merger_of m = record { left = head_view m.left; right = head_view m.right }
 
 -- before its first call
 abbrev pub new_merger : Reader → Reader → Merger
@@ -31,7 +31,7 @@ new_merger l r = record { left = bare l; right = bare r }
 
 -- What a merge has still to give if these bytes follow on its sides: by the definition of merged rows, of what each side has still to give.
 abbrev pub merger_rest : Bool → Bool → Merger → List ℕ → List ℕ → Read
-merger_rest p q m z w = merged (side_rest p m.left z) (side_rest q m.right w)
+merger_rest p q m z w = merged_read (side_rest p m.left z) (side_rest q m.right w)
 
 -- the same over sources that tell what they have left
 abbrev pub merger_over : Merger → Option (List ℕ) → Option (List ℕ) → Option Read
@@ -56,21 +56,21 @@ merge_kept (Ok None) = Some (Ok None)
 merge_kept (Err e) = Some (Err e)
 
 -- what stands in front of the sides decides the answer without the sources, and no row comes: the left side is asked first
-abbrev pub settled : Option Look → Option Look → Option MergeAnswer
-settled None r = None
-settled (Some (Failed e)) r = Some (Err (Left, e))
-settled (Some (Found n)) None = None
-settled (Some (Found n)) (Some (Found k)) = None
-settled (Some (Found n)) (Some Ended) = None
-settled (Some (Found n)) (Some (Failed e)) = Some (Err (Right, e))
-settled (Some Ended) None = None
-settled (Some Ended) (Some (Found k)) = None
-settled (Some Ended) (Some Ended) = Some (Ok None)
-settled (Some Ended) (Some (Failed e)) = Some (Err (Right, e))
+abbrev pub settled_answer : Option Look → Option Look → Option MergeAnswer
+settled_answer None r = None
+settled_answer (Some (Failed e)) r = Some (Err (Left, e))
+settled_answer (Some (Found n)) None = None
+settled_answer (Some (Found n)) (Some (Found k)) = None
+settled_answer (Some (Found n)) (Some Ended) = None
+settled_answer (Some (Found n)) (Some (Failed e)) = Some (Err (Right, e))
+settled_answer (Some Ended) None = None
+settled_answer (Some Ended) (Some (Found k)) = None
+settled_answer (Some Ended) (Some Ended) = Some (Ok None)
+settled_answer (Some Ended) (Some (Failed e)) = Some (Err (Right, e))
 
 -- the answer that ended the merge
 abbrev pub merge_answer : Merger → Option MergeAnswer
-merge_answer m = settled (front_of m.left) (front_of m.right)
+merge_answer m = settled_answer (front_of m.left) (front_of m.right)
 
 -- ---- what a call does
 

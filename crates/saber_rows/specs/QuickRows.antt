@@ -3,7 +3,7 @@ use Rattle.std.specs.Prelude.{◌≡◌, ◌≤◌, ◌<◌, ℕ, ◌+◌, ◌^�
 use Rattle.std.specs.List.{list_all}
 use Rattle.std.specs.Char.{is_ascii_digit}
 use Rattle.std.specs.Str.Parse.{digits_value}
-use Rattle.saber_plan.specs.Rows.{number_of, in_range, fields_of, bad_field, numbers, wide_field, without_cr, late, stamp, raised}
+use Rattle.saber_plan.specs.Rows.{number_of, in_range, fields_of, bad_field, numbers, wide_field, without_cr, late, stamp, raised_time}
 use Rattle.saber_plan.specs.declared.rows.Row.{Row}
 use Rattle.saber_plan.specs.declared.rows.Side.{Side}
 use Rattle.saber_rows.specs.LineFeeds.{IsLine}
@@ -81,4 +81,4 @@ pub record IsPut (side : Side) (columns : ℕ) (held : List ℕ) (high : Option 
   pub row : IsRowAt columns held values n
   pub in_time : late 0 high values ≡ false
   pub own : time ≡ stamp values
-  pub highest : time ≡ raised high (stamp values)
+  pub highest : time ≡ raised_time high (stamp values)

@@ -93,8 +93,8 @@ abbrev pub EndsRefused : {A : Type 0} → Result A RowEnd → Side → Reader �
 EndsRefused result side r = (line : ℕ) (cause : RowCause) → result ≡ Err (Bad line cause) → HasEnd (bad side line cause) r
 
 -- how many lines are behind that give no row any more
-abbrev pub gone : Reader → ℕ
-gone r = r.place.lines - length r.place.accepted
+abbrev pub gone_count : Reader → ℕ
+gone_count r = r.place.lines - length r.place.accepted
 
 -- no row that the reader holds is due, it holds no line that makes one due or is refused, and it did not see the end
 pub record NeedsMore (r : Reader) : Type 0 where

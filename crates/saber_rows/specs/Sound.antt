@@ -6,7 +6,7 @@ use mathlib.Core.Bool.{Bool-set}
 use Rattle.saber_plan.specs.declared.rows.Row.{Row}
 use Rattle.saber_plan.specs.declared.rows.Side.{Side}
 use Rattle.std.specs.List.{AllByRecursion}
-use Rattle.saber_plan.specs.Rows.{stamp, most_held, SideRules, Place, RowFits, waiting}
+use Rattle.saber_plan.specs.Rows.{stamp, most_held, SideRules, Place, RowFits, waiting_rows}
 use Rattle.saber_rows.specs.Judged.{is_ready_at}
 use Rattle.saber_rows.specs.HeldRows.{InTime}
 use Rattle.saber_rows.specs.declared.ends.Behind.{Behind}
@@ -36,7 +36,7 @@ WasDue slack high last = IfSome last (λ t. is_ready_at slack high t ≡ true)
 pub record Sound (s : SideRules) (p : Place) (last : Option ℕ) (over : Option Behind) : Type 0 where
   pub fit : AllByRecursion (RowFits s.side s.columns) p.accepted
   pub in_time : InTime last p.accepted
-  pub few : length (waiting s p) ≤ s.room
+  pub few : length (waiting_rows s p) ≤ s.room
   pub lined : length p.accepted ≤ p.lines
   pub none : s.slack ≡ 0 → length p.accepted ≡ 0
   pub was_due : over ≡ None → WasDue s.slack p.high last

@@ -9,7 +9,7 @@ use Rattle.saber_rows.specs.declared.ends.Behind.{Behind}
 use Rattle.saber_rows.specs.declared.lines.Run.{Run}
 use Rattle.saber_rows.specs.declared.lines.Turn.{Turn}
 use Rattle.saber_rows.specs.declared.lines.Turn.TheVariants as turns
-use Rattle.saber_rows.specs.Reader.{Reader, gone, rest_of, CanFollow, NeedsMore, answer_of}
+use Rattle.saber_rows.specs.Reader.{Reader, gone_count, rest_of, CanFollow, NeedsMore, answer_of}
 use Rattle.saber_rows.specs.Calls.{Moves, IsGiven, EndsBy, TakesRows}
 use Rattle.saber_rows.specs.Sound.{Sound}
 
@@ -75,7 +75,7 @@ TurnGives (turns.Stop s) old new had has = (new ≡ old) × (has ≡ had) × End
 -- what a turn does to the place of a reader
 abbrev pub PlaceMoves : Turn → Reader → Reader → Type 0
 PlaceMoves (turns.Row row) old new = IsGiven row old new
-PlaceMoves turns.Again old new = (new.last ≡ old.last) × (gone old ≤ gone new)
+PlaceMoves turns.Again old new = (new.last ≡ old.last) × (gone_count old ≤ gone_count new)
 PlaceMoves (turns.Stop s) old new = Unit {0}
 
 -- what is left to do: lines, room for bytes, the end of the source, and the end of its rows

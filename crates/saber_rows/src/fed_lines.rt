@@ -14,7 +14,7 @@ impl Lines {
     ghost use Rattle.saber_plan.specs.Rows.{all_read, falls, RowFits, due};
     ghost use Rattle.saber_rows.specs.Buffer.{bytes_of};
     ghost use Rattle.saber_rows.specs.LineFeeds.{HasNoFeed};
-    ghost use Rattle.saber_rows.specs.Reader.{reader_of, rest_of, rest_over, gone, HasEnd, EndsRefused, NeedsMore};
+    ghost use Rattle.saber_rows.specs.Reader.{reader_of, rest_of, rest_over, gone_count, HasEnd, EndsRefused, NeedsMore};
     ghost use Rattle.saber_rows.specs.Calls.{Moves, given_by, kept_by, last_after, IsGiven, EndsBy, IsNext, WantsMemory};
     ghost use Rattle.saber_rows.specs.Turns.{TurnGives, PlaceMoves, work_left, IfAgain, IfFault, IfNoFault, HasEnough};
     ghost use Rattle.saber_rows.specs.declared.ends.RowEnd.{RowEnd};
@@ -101,7 +101,7 @@ impl Lines {
         ensures ends { IfSome result (λ a. EndsBy a (reader_of self.new)) }
         ensures known { IfSome result (λ a. IsKnown a (reader_of self.new)) }
         ensures dry { IfNone result (IsDry (reader_of self.new) (F.waiting feed.new) (F.mark feed.old)) }
-        ensures stays { gone (reader_of self.old) ≤ gone (reader_of self.new) }
+        ensures stays { gone_count (reader_of self.old) ≤ gone_count (reader_of self.new) }
         ensures last { (reader_of self.new).last ≡ last_in (reader_of self.old).last result }
         ensures rules { (reader_of self.new).rules ≡ (reader_of self.old).rules }
         ensures answer { (reader_of self.new).answer ≡ kept_in result }
@@ -170,8 +170,8 @@ impl Lines {
         // A row is as `next` gives it.
         ensures given { IfSome (answer_in result) (λ a. IfOk a (λ o. IfSome o (λ row. IsGiven row (reader_of self.old) (reader_of self.new)))) }
         ensures last { (reader_of self.new).last ≡ last_in (reader_of self.old).last (answer_in result) }
-        ensures stays { gone (reader_of self.old) ≤ gone (reader_of self.new) }
-        ensures counted { gone (reader_of self.new) ≤ (reader_of self.new).rules.most }
+        ensures stays { gone_count (reader_of self.old) ≤ gone_count (reader_of self.new) }
+        ensures counted { gone_count (reader_of self.new) ≤ (reader_of self.new).rules.most }
 
         // It asks only where it can give no row, and holds no line that decides the answer.
         ensures reads { ¬ NeedsMore (reader_of self.old) → feed.new ≡ feed.old }

@@ -62,12 +62,12 @@ impl Head {
     ghost use Rattle.saber_rows.specs.declared.heads.Look.{Look};
     ghost use Rattle.saber_rows.specs.declared.ends.RowEnd.{RowEnd};
     ghost use Rattle.saber_rows.specs.Reader.{reader_of, NeedsMore};
-    ghost use Rattle.saber_rows.specs.Heads.{headed, bare, LooksAfterAny, front_of};
+    ghost use Rattle.saber_rows.specs.Heads.{head_view, bare, LooksAfterAny, front_of};
     ghost use Rattle.saber_rows.specs.MergedRows.{PutsFront};
 
     /// A reader with no row in front of it.
     pub(crate) fn new(lines: Lines) -> Head
-        ensures { headed result ≡ bare (reader_of lines) }
+        ensures { head_view result ≡ bare (reader_of lines) }
     {
         let row = lines.no_row();
         Head {
@@ -80,13 +80,13 @@ impl Head {
     /// Has the next row in front, and tells its timestamp, or why there is none. It reads only
     /// where no row is in front.
     pub(crate) fn look<S: Source>(&mut self, source: &mut S) -> Look
-        ensures looks { LooksAfterAny result (headed self.old) (headed self.new) (S.left source.old) (S.left source.new) }
-        ensures again { IfSome (front_of (headed self.old)) (λ look. (result ≡ look) × (self.new ≡ self.old) × (source.new ≡ source.old)) }
-        ensures rules { (headed self.new).reader.rules ≡ (headed self.old).reader.rules }
-        ensures cause { front_of (headed self.old) ≡ None → result ≡ Look.Failed RowEnd.ReadFault → Rose (S.faults source.old) (S.faults source.new) }
+        ensures looks { LooksAfterAny result (head_view self.old) (head_view self.new) (S.left source.old) (S.left source.new) }
+        ensures again { IfSome (front_of (head_view self.old)) (λ look. (result ≡ look) × (self.new ≡ self.old) × (source.new ≡ source.old)) }
+        ensures rules { (head_view self.new).reader.rules ≡ (head_view self.old).reader.rules }
+        ensures cause { front_of (head_view self.old) ≡ None → result ≡ Look.Failed RowEnd.ReadFault → Rose (S.faults source.old) (S.faults source.new) }
         ensures good { result ≢ Look.Failed RowEnd.ReadFault → S.faults source.new ≡ S.faults source.old }
         ensures count { S.faults source.old ≤ S.faults source.new }
-        ensures reads { ¬ NeedsMore (headed self.old).reader → source.new ≡ source.old }
+        ensures reads { ¬ NeedsMore (head_view self.old).reader → source.new ≡ source.old }
     {
         if self.full {
             return Look::Found(stamp_of(self.row.values.as_slice()));
@@ -107,9 +107,9 @@ impl Head {
     /// tells its timestamp. The source isn't asked.
     #[inline(always)]
     pub(crate) fn look_quick(&mut self) -> Option<u64>
-        ensures none { result ≡ None → headed self.new ≡ headed self.old }
-        ensures some { IfSome result (λ stamp. (left : Option (List ℕ)) → LooksAfterAny (Look.Found stamp) (headed self.old) (headed self.new) left left) }
-        ensures rules { (headed self.new).reader.rules ≡ (headed self.old).reader.rules }
+        ensures none { result ≡ None → head_view self.new ≡ head_view self.old }
+        ensures some { IfSome result (λ stamp. (left : Option (List ℕ)) → LooksAfterAny (Look.Found stamp) (head_view self.old) (head_view self.new) left left) }
+        ensures rules { (head_view self.new).reader.rules ≡ (head_view self.old).reader.rules }
     {
         if self.full {
             return Some(stamp_of(self.row.values.as_slice()));
@@ -121,9 +121,9 @@ impl Head {
     #[inline(always)]
     fn fetch_quick(&mut self) -> Option<u64>
         requires { self.old.full ≡ false }
-        ensures none { result ≡ None → headed self.new ≡ headed self.old }
-        ensures some { IfSome result (λ stamp. (left : Option (List ℕ)) → LooksAfterAny (Look.Found stamp) (headed self.old) (headed self.new) left left) }
-        ensures rules { (headed self.new).reader.rules ≡ (headed self.old).reader.rules }
+        ensures none { result ≡ None → head_view self.new ≡ head_view self.old }
+        ensures some { IfSome result (λ stamp. (left : Option (List ℕ)) → LooksAfterAny (Look.Found stamp) (head_view self.old) (head_view self.new) left left) }
+        ensures rules { (head_view self.new).reader.rules ≡ (head_view self.old).reader.rules }
     {
         self.row = self.lines.no_row();
         let stamp = self.lines.held_into(&mut self.row.values)?;
@@ -136,8 +136,8 @@ impl Head {
     pub(crate) fn put(&mut self, out: &mut RowBuilder) -> bool
         requires begun { out.old.begun ≡ [] }
         ensures begun { out.new.begun ≡ [] }
-        ensures put { result ≡ true → PutsFront (headed self.old) (headed self.new) out.old.rows out.new.rows }
-        ensures kept { result ≡ false → (headed self.new ≡ headed self.old) × (out.new.rows ≡ out.old.rows) }
+        ensures put { result ≡ true → PutsFront (head_view self.old) (head_view self.new) out.old.rows out.new.rows }
+        ensures kept { result ≡ false → (head_view self.new ≡ head_view self.old) × (out.new.rows ≡ out.old.rows) }
     {
         if !self.full || !put_copy(&self.row, out) {
             return false;
@@ -148,8 +148,8 @@ impl Head {
 
     /// Passes on the row in front.
     pub(crate) fn take(&mut self) -> Option<Row>
-        ensures row { result ≡ (headed self.old).ahead }
-        ensures rest { headed self.new ≡ bare (headed self.old).reader }
+        ensures row { result ≡ (head_view self.old).ahead }
+        ensures rest { head_view self.new ≡ bare (head_view self.old).reader }
     {
         if !self.full {
             return None;

@@ -1,6 +1,6 @@
 // One line by itself.
 ghost use Rattle.std.specs.Prelude.{◌≡◌, ◌≤◌, ◌<◌, ℤ, List, IfOk, OnErr, false, length};
-ghost use Rattle.saber_plan.specs.Rows.{without_cr, stamp, stamp as stamp_in, raised, late, judge, judge_numbers, judge_fields, bad_field, fields_of, wide_field, numbers};
+ghost use Rattle.saber_plan.specs.Rows.{without_cr, stamp, stamp as stamp_in, raised_time, late, judge, judge_numbers, judge_fields, bad_field, fields_of, wide_field, numbers};
 ghost use Rattle.saber_rows.specs.Judged.{judged_of, IfCounted, is_ready_at};
 
 use crate::fields::{count_fields, first_bad, values_of};
@@ -42,7 +42,7 @@ pub(crate) fn stamp_of(values: &[i64]) -> u64
 /// The greatest timestamp, with one more.
 #[inline]
 pub(crate) fn raise(high: Option<u64>, stamp: u64) -> u64
-    ensures { result ≡ raised high stamp }
+    ensures { result ≡ raised_time high stamp }
 {
     match high {
         None => stamp,
@@ -68,7 +68,7 @@ pub(crate) fn is_late(slack: u64, high: Option<u64>, values: &[i64]) -> bool
 #[inline(always)]
 pub(crate) fn is_below(high: Option<u64>, stamp: u64) -> bool
     ensures late { (values : List ℤ) → stamp ≡ stamp_in values → result ≡ late 0 high values }
-    ensures highest { result ≡ false → raised high stamp ≡ stamp }
+    ensures highest { result ≡ false → raised_time high stamp ≡ stamp }
 {
     match high {
         None => false,

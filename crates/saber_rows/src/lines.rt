@@ -78,10 +78,10 @@ struct Run {
 impl Lines {
     ghost use Rattle.std.specs.Prelude.{◌≡◌, ◌≢◌, ◌≤◌, ◌^◌, ◌<◌, ◌+◌, [], ℕ, ℤ, List, Option, if◌then◌else◌, IfOk, IfSome, OnErr, OnSome, Some, None, Ok, Err, option_map, length, true, false};
     ghost use Rattle.saber_plan.specs.Outputs.{Rose};
-    ghost use Rattle.saber_plan.specs.Rows.{SideRules, rows, whole, all_read, before, falls, RowFits, stamp as stamp_in, skipped, taken, refused, judge, crowds, timed, due};
+    ghost use Rattle.saber_plan.specs.Rows.{SideRules, rows, whole, all_read, before, falls, RowFits, stamp as stamp_in, skipped, taken, refused, judge, crowds, timed_line, due};
     ghost use Rattle.saber_rows.specs.Judged.{judged_of, IfCounted};
     ghost use Rattle.saber_rows.specs.LineFeeds.{end_of, HasNoFeed};
-    ghost use Rattle.saber_rows.specs.Reader.{reader_of, new_reader, rest_of, rest_over, gone, HasEnd, EndsRefused, NeedsMore};
+    ghost use Rattle.saber_rows.specs.Reader.{reader_of, new_reader, rest_of, rest_over, gone_count, HasEnd, EndsRefused, NeedsMore};
     ghost use Rattle.saber_rows.specs.Calls.{HoldsNext, TakesRows, Moves, given_by, kept_by, last_after, IsGiven, EndsBy, IsNext, WantsMemory};
     ghost use Rattle.saber_rows.specs.Turns.{Steps, Runs, Fronts, IsLastIf, first_judged, LineGives, TurnGives, PlaceMoves, Stops, work_left, IfAgain, IfFault, IfNoFault, HasEnough, NoneReady, IsReady};
 
@@ -160,7 +160,7 @@ impl Lines {
     // What a row is at its place.
     fn time(&self, values: Values) -> Judged
         requires none { due (reader_of self.now).rules (reader_of self.now).place ≡ [] }
-        ensures judged { judged_of result ≡ timed (reader_of self.now).rules (reader_of self.now).place (taken values) }
+        ensures judged { judged_of result ≡ timed_line (reader_of self.now).rules (reader_of self.now).place (taken values) }
     {
         if is_late(self.slack, self.high, values.as_slice()) {
             return Judged::Refused(RowCause::TimeOrder);
@@ -522,7 +522,7 @@ impl Lines {
         ensures moves { Moves (given_by result) (reader_of self.old) (reader_of self.new) (S.left source.old) (S.left source.new) }
         ensures given { IfOk result (λ o. IfSome o (λ row. IsGiven row (reader_of self.old) (reader_of self.new))) }
         ensures ends { EndsBy result (reader_of self.new) }
-        ensures stays { gone (reader_of self.old) ≤ gone (reader_of self.new) }
+        ensures stays { gone_count (reader_of self.old) ≤ gone_count (reader_of self.new) }
         ensures last { (reader_of self.new).last ≡ last_after (reader_of self.old).last result }
         ensures rules { (reader_of self.new).rules ≡ (reader_of self.old).rules }
         ensures answer { (reader_of self.new).answer ≡ kept_by result }
@@ -575,9 +575,9 @@ impl Lines {
         ensures last { (reader_of self.new).last ≡ last_after (reader_of self.old).last result }
 
         // So a side has at most as many rows as its limit of lines.
-        ensures rises { IfOk result (λ o. IfSome o (λ row. gone (reader_of self.old) < gone (reader_of self.new))) }
-        ensures stays { gone (reader_of self.old) ≤ gone (reader_of self.new) }
-        ensures counted { gone (reader_of self.new) ≤ (reader_of self.new).rules.most }
+        ensures rises { IfOk result (λ o. IfSome o (λ row. gone_count (reader_of self.old) < gone_count (reader_of self.new))) }
+        ensures stays { gone_count (reader_of self.old) ≤ gone_count (reader_of self.new) }
+        ensures counted { gone_count (reader_of self.new) ≤ (reader_of self.new).rules.most }
 
         // It reads only where it can give no row, and holds no line that decides the answer.
         ensures reads { ¬ NeedsMore (reader_of self.old) → source.new ≡ source.old }

@@ -22,8 +22,8 @@ impl Merge {
     ghost use Rattle.saber_rows.specs.declared.ends.RowEnd.{RowEnd};
     ghost use Rattle.saber_rows.specs.declared.heads.Look.{Look};
     ghost use Rattle.saber_rows.specs.Reader.{reader_of, NeedsMore};
-    ghost use Rattle.saber_rows.specs.Heads.{headed, front_of};
-    ghost use Rattle.saber_rows.specs.Merging.{merger_of, new_merger, settled, merge_answer, Passed, StartsPassed, MergeTurns, RightTurns};
+    ghost use Rattle.saber_rows.specs.Heads.{head_view, front_of};
+    ghost use Rattle.saber_rows.specs.Merging.{merger_of, new_merger, settled_answer, merge_answer, Passed, StartsPassed, MergeTurns, RightTurns};
     ghost use Rattle.saber_rows.specs.MergedRows.{MergesOne, MergeStands, TakesMerged};
     ghost use Rattle.saber_rows.specs.Merging.{FaultRose, RightFaultRose};
 
@@ -41,7 +41,7 @@ impl Merge {
     // The next row, where the left side is read to its end: the right side's.
     fn right_row<S: Source>(&mut self, right: &mut S) -> Result<Option<Row>, (Side, RowEnd)>
         ensures turn { RightTurns Look.Ended result (merger_of self.old) (merger_of self.new) (S.left right.old) (S.left right.new) }
-        ensures again { IfSome (settled (Some Look.Ended) (front_of (merger_of self.old).right))
+        ensures again { IfSome (settled_answer (Some Look.Ended) (front_of (merger_of self.old).right))
             (λ answer. (result ≡ answer) × (self.new ≡ self.old) × (right.new ≡ right.old)) }
         ensures left { (e : RowEnd) → result ≢ Err (sides.Left, e) }
         ensures cause { RightFaultRose (merger_of self.old) result (S.faults right.old) (S.faults right.new) }
@@ -66,7 +66,7 @@ impl Merge {
         right: &mut S,
     ) -> Result<Option<Row>, (Side, RowEnd)>
         ensures turn { RightTurns (Look.Found stamp) result (merger_of self.old) (merger_of self.new) (S.left right.old) (S.left right.new) }
-        ensures again { IfSome (settled (Some (Look.Found stamp)) (front_of (merger_of self.old).right))
+        ensures again { IfSome (settled_answer (Some (Look.Found stamp)) (front_of (merger_of self.old).right))
             (λ answer. (result ≡ answer) × (self.new ≡ self.old) × (right.new ≡ right.old)) }
         ensures left { (e : RowEnd) → result ≢ Err (sides.Left, e) }
         ensures cause { RightFaultRose (merger_of self.old) result (S.faults right.old) (S.faults right.new) }

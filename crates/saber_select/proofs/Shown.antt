@@ -11,10 +11,10 @@ use Rattle.saber_plan.specs.Rows.{RowFits}
 use Rattle.saber_plan.specs.Checked.{ExprFits, ItemFits, group_width, columns_on}
 use Rattle.saber_plan.specs.GivenRows.{IsRowOf}
 use Rattle.saber_laws.specs.Plans.{NoWindow}
-use Rattle.saber_plan.specs.Windows.{Frame, unwindowed, has_windows, mark_after, ending, closed_count, begun_count, kind_of, from}
-use Rattle.saber_plan.specs.Answers.{by_shape, frame, selected}
+use Rattle.saber_plan.specs.Windows.{Frame, unwindowed, has_windows, mark_after, end_mark, closed_count, begun_count, kind_of, from}
+use Rattle.saber_plan.specs.Answers.{by_shape, frame, selected_lines}
 use Rattle.saber_plan.specs.Parts.{Part, part_lines}
-use Rattle.saber_plan.specs.Tasks.{numbered, is_complete}
+use Rattle.saber_plan.specs.Tasks.{numbered_list, is_complete}
 use Rattle.saber_plan.specs.Needs.{of_kind, piece_here, part_here, is_closing, is_pending, is_opening}
 use Rattle.saber_plan.specs.Shares.{shares_here}
 use Rattle.saber_plan.specs.Facts.Rows.{is_left}
@@ -34,9 +34,9 @@ row_fits q w r h = subst₂ (λ side ss. RowFits side (columns_on ss side) r) (i
 
 -- ---- what a task gives
 
-none_from : (c : ℕ) (f : ℕ → Option Part) → [] ≡ numbered c (0 - c) f
+none_from : (c : ℕ) (f : ℕ → Option Part) → [] ≡ numbered_list c (0 - c) f
 unfolding from
-none_from c f = let none : 0 - c ≡ 0 = omega arith in sym (ap (λ n. numbered c n f) none)
+none_from c f = let none : 0 - c ≡ 0 = omega arith in sym (ap (λ n. numbered_list c n f) none)
 
 none_closed : (m : Mark) → 0 ≡ closed_count unwindowed m
 none_closed m = elim (m.ended) as (λ b. 0 ≡ cond b 0 0) [ true ↦ refl | false ↦ refl ]
@@ -46,11 +46,11 @@ unfolding of_kind
 none_of_kind wanted f a b p e = subst (λ g. [] ≡ of_kind wanted g a b p) (sym e) (none_from (closed_count unwindowed a) _)
 
 -- its text, and no window's part
-pub shares_are : (q : Tree) (m : Mark) (back rows : List Row) (ended : Bool) → q.shape ≡ Select → frame q ≡ unwindowed → record { closing = []; pending = []; opening = []; lines = selected q rows; closed = 0 } ≡ shares_here q m back rows ended
+pub shares_are : (q : Tree) (m : Mark) (back rows : List Row) (ended : Bool) → q.shape ≡ Select → frame q ≡ unwindowed → record { closing = []; pending = []; opening = []; lines = selected_lines q rows; closed = 0 } ≡ shares_here q m back rows ended
 unfolding shares_here piece_here
 shares_are q m back rows ended e f =
     let a = mark_after m back in
-    let b = ending ended (mark_after a rows) in
+    let b = end_mark ended (mark_after a rows) in
     let p : ℕ → Part = λ i. part_here q i m back rows in
     let c = closed_count (frame q) a in
     let complete : List ℕ = flat_map (λ i. part_lines q i (p i)) (filter (λ i. is_complete (kind_of (frame q) i a b)) (from c (begun_count (frame q) b - c))) in
@@ -58,6 +58,6 @@ shares_are q m back rows ended e f =
       closing = none_of_kind is_closing (frame q) a b p f j;
       pending = none_of_kind is_pending (frame q) a b p f j;
       opening = none_of_kind is_opening (frame q) a b p f j;
-      lines = (ap (λ g. cond (has_windows g) complete (selected q rows)) (sym f) ∙ ap (λ s. by_shape s (cond (has_windows (frame q)) complete (selected q rows)) complete complete) (sym e)) j;
+      lines = (ap (λ g. cond (has_windows g) complete (selected_lines q rows)) (sym f) ∙ ap (λ s. by_shape s (cond (has_windows (frame q)) complete (selected_lines q rows)) complete complete) (sym e)) j;
       closed = (none_closed b ∙ ap (λ g. closed_count g b) (sym f)) j;
     }

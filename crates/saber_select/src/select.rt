@@ -6,7 +6,7 @@ ghost use Rattle.saber_plan.specs.Trees.{tree_of};
 ghost use Rattle.saber_plan.specs.Values as v;
 ghost use Rattle.saber_plan.specs.Checked.{ExprFits, IsChecked, IsPlain};
 ghost use Rattle.saber_plan.specs.GivenRows.{IsRowOf};
-ghost use Rattle.saber_plan.specs.Answers.{selected};
+ghost use Rattle.saber_plan.specs.Answers.{selected_lines};
 ghost use Rattle.saber_laws.specs.Plans.{NoWindow};
 ghost use Rattle.saber_eval.specs.Widths.{widths};
 ghost use Rattle.saber_select.specs.Printing.{row_text};
@@ -104,7 +104,7 @@ impl<'a> Select<'a> {
     /// Writes the lines of the rows that pass, in the order of the rows, behind what `out` has.
     pub(crate) fn write_rows(&self, rows: &Rows, out: &mut Vec<u8>) -> Result<(), NoMemory>
         requires { AllByRecursion (IsRowOf (tree_of self.now)) rows.now }
-        ensures { OnOk result (out.new.items ≡ out.old.items ++ selected (tree_of self.now) rows.now) }
+        ensures { OnOk result (out.new.items ≡ out.old.items ++ selected_lines (tree_of self.now) rows.now) }
     {
         for i in 0..rows.len() {
             self.write_row(&rows.row(i), out)?;

@@ -11,7 +11,7 @@ use Rattle.saber_query.specs.Trees.{query_of}
 use Rattle.saber_query.specs.Words.{words}
 use Rattle.saber_query.specs.Real.{AllReal}
 use Rattle.saber_query.specs.Parsed.{Parsed, IsParsed}
-use Rattle.saber_query.specs.Spelling.{spelled, HasTokens}
+use Rattle.saber_query.specs.Spelling.{spelled_text, HasTokens}
 use Rattle.saber_show.specs.Rest.{rest_words}
 
 pub on_ok : {A E P Q : Type 0} (r : Result A E) → (P → Q) → OnOk r P → OnOk r Q
@@ -21,10 +21,10 @@ on_ok (Err e) f h = h
 pub rest_is : (q : Select) → Word k.Stream ∷ rest_words q ≡ words (query_of q)
 rest_is q = simp append_assoc
 
-pub read_back : (p : Parsed) (q : Select) (r : Result (Vec ℕ Global) AllocError) → q ≡ p.select → IsParsed p.select p.starts → ((ts : List Token) → AllReal ts → HasTokens (spelled ts) ts) →
-    IfOk r (λ v. v.items ≡ spelled (words (query_of q))) → IfOk r (λ v. HasTokens v.items (words (query_of p.select)))
+pub read_back : (p : Parsed) (q : Select) (r : Result (Vec ℕ Global) AllocError) → q ≡ p.select → IsParsed p.select p.starts → ((ts : List Token) → AllReal ts → HasTokens (spelled_text ts) ts) →
+    IfOk r (λ v. v.items ≡ spelled_text (words (query_of q))) → IfOk r (λ v. HasTokens v.items (words (query_of p.select)))
 read_back p q (Ok v) e h law g =
     let ts = words (query_of p.select) in
     let P : List ℕ → Type 0 = λ x. HasTokens x ts in
-    subst P (sym (g ∙ ap (λ x. spelled (words (query_of x))) e)) (law ts h.real)
+    subst P (sym (g ∙ ap (λ x. spelled_text (words (query_of x))) e)) (law ts h.real)
 read_back p q (Err x) e h law g = tt

@@ -1,7 +1,7 @@
 // The text of expressions.
 ghost use Rattle.std.specs.Prelude.{◌≡◌, ◌++◌, ◌∷◌, [], OnOk};
 ghost use Rattle.saber_query.specs.declared.token.Token.TheVariants.{Mark};
-ghost use Rattle.saber_query.specs.Spelling.{spaced};
+ghost use Rattle.saber_query.specs.Spelling.{spaced_text};
 ghost use Rattle.saber_query.specs.Words as w;
 
 use crate::spell::{mark, name, number};
@@ -10,7 +10,7 @@ use std::alloc::{AllocError as NoMemory, Global};
 
 #[tactic(auto, using(crate::proofs::SpellLemmas::joining))]
 pub(crate) fn column(out: &mut Vec<u8>, column: &Column) -> Result<(), NoMemory>
-    ensures { OnOk result (out.new.items ≡ out.old.items ++ spaced (w.column_words column.now)) }
+    ensures { OnOk result (out.new.items ≡ out.old.items ++ spaced_text (w.column_words column.now)) }
 {
     name(out, &column.first)?;
     if let Some(second) = &column.second {
@@ -22,7 +22,7 @@ pub(crate) fn column(out: &mut Vec<u8>, column: &Column) -> Result<(), NoMemory>
 
 #[tactic(auto, using(crate::proofs::SpellLemmas::joining))]
 fn factor(alloc: Global, out: &mut Vec<u8>, factor: &Factor) -> Result<(), NoMemory>
-    ensures { OnOk result (out.new.items ≡ out.old.items ++ spaced (w.factor_words factor.now)) }
+    ensures { OnOk result (out.new.items ≡ out.old.items ++ spaced_text (w.factor_words factor.now)) }
 {
     match factor {
         Factor::Column(inner) => column(out, inner),
@@ -36,7 +36,7 @@ fn factor(alloc: Global, out: &mut Vec<u8>, factor: &Factor) -> Result<(), NoMem
 
 #[tactic(auto, using(crate::proofs::SpellLemmas::joining))]
 fn factors(alloc: Global, out: &mut Vec<u8>, others: &[Factor]) -> Result<(), NoMemory>
-    ensures { OnOk result (out.new.items ≡ out.old.items ++ spaced (w.factors_words others.now)) }
+    ensures { OnOk result (out.new.items ≡ out.old.items ++ spaced_text (w.factors_words others.now)) }
 {
     for other in others {
         mark(out, Sign::Star)?;
@@ -47,7 +47,7 @@ fn factors(alloc: Global, out: &mut Vec<u8>, others: &[Factor]) -> Result<(), No
 
 #[tactic(auto, using(crate::proofs::SpellLemmas::joining))]
 fn prod(alloc: Global, out: &mut Vec<u8>, prod: &Prod) -> Result<(), NoMemory>
-    ensures { OnOk result (out.new.items ≡ out.old.items ++ spaced (w.prod_words prod.now)) }
+    ensures { OnOk result (out.new.items ≡ out.old.items ++ spaced_text (w.prod_words prod.now)) }
 {
     factor(alloc, out, &prod.first)?;
     factors(alloc, out, prod.more.as_slice())
@@ -55,7 +55,7 @@ fn prod(alloc: Global, out: &mut Vec<u8>, prod: &Prod) -> Result<(), NoMemory>
 
 #[tactic(auto, using(crate::proofs::SpellLemmas::joining))]
 fn adding(out: &mut Vec<u8>, adding: Adding) -> Result<(), NoMemory>
-    ensures { OnOk result (out.new.items ≡ out.old.items ++ spaced (Mark (w.adding_sign adding) ∷ [])) }
+    ensures { OnOk result (out.new.items ≡ out.old.items ++ spaced_text (Mark (w.adding_sign adding) ∷ [])) }
 {
     match adding {
         Adding::Plus => mark(out, Sign::Plus),
@@ -65,7 +65,7 @@ fn adding(out: &mut Vec<u8>, adding: Adding) -> Result<(), NoMemory>
 
 #[tactic(auto, using(crate::proofs::SpellLemmas::joining))]
 fn terms(alloc: Global, out: &mut Vec<u8>, terms: &[Term]) -> Result<(), NoMemory>
-    ensures { OnOk result (out.new.items ≡ out.old.items ++ spaced (w.terms_words terms.now)) }
+    ensures { OnOk result (out.new.items ≡ out.old.items ++ spaced_text (w.terms_words terms.now)) }
 {
     for term in terms {
         adding(out, term.adding)?;
@@ -76,7 +76,7 @@ fn terms(alloc: Global, out: &mut Vec<u8>, terms: &[Term]) -> Result<(), NoMemor
 
 #[tactic(auto, using(crate::proofs::SpellLemmas::joining))]
 pub(crate) fn expr(alloc: Global, out: &mut Vec<u8>, expr: &Expr) -> Result<(), NoMemory>
-    ensures { OnOk result (out.new.items ≡ out.old.items ++ spaced (w.expr_words expr.now)) }
+    ensures { OnOk result (out.new.items ≡ out.old.items ++ spaced_text (w.expr_words expr.now)) }
 {
     prod(alloc, out, &expr.first)?;
     terms(alloc, out, expr.more.as_slice())

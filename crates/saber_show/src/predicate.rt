@@ -1,7 +1,7 @@
 // The text of predicates.
 ghost use Rattle.std.specs.Prelude.{◌≡◌, ◌++◌, ◌∷◌, [], OnOk, option_map};
 ghost use Rattle.saber_query.specs.declared.token.Token.TheVariants.{Mark};
-ghost use Rattle.saber_query.specs.Spelling.{spaced};
+ghost use Rattle.saber_query.specs.Spelling.{spaced_text};
 ghost use Rattle.saber_query.specs.Words as w;
 ghost use Rattle.saber_query.specs.Trees.{test_of, both_of, tests_of};
 
@@ -12,7 +12,7 @@ use std::alloc::{AllocError as NoMemory, Global};
 
 #[tactic(auto, using(crate::proofs::SpellLemmas::joining))]
 fn cmp(out: &mut Vec<u8>, cmp: Cmp) -> Result<(), NoMemory>
-    ensures { OnOk result (out.new.items ≡ out.old.items ++ spaced (Mark (w.cmp_sign cmp) ∷ [])) }
+    ensures { OnOk result (out.new.items ≡ out.old.items ++ spaced_text (Mark (w.cmp_sign cmp) ∷ [])) }
 {
     match cmp {
         Cmp::Equal => mark(out, Sign::Equal),
@@ -32,7 +32,7 @@ fn compared(
     between: Cmp,
     right: &Expr,
 ) -> Result<(), NoMemory>
-    ensures { OnOk result (out.new.items ≡ out.old.items ++ spaced
+    ensures { OnOk result (out.new.items ≡ out.old.items ++ spaced_text
         (w.expr_words left.now ++ Mark (w.cmp_sign between) ∷ w.expr_words right.now)) }
 {
     expr(alloc, out, left)?;
@@ -43,7 +43,7 @@ fn compared(
 #[cycle(pred)]
 #[tactic(auto, using(crate::proofs::SpellLemmas::walking))]
 fn unit(alloc: Global, out: &mut Vec<u8>, tree: &Unit) -> Result<(), NoMemory>
-    ensures { OnOk result (out.new.items ≡ out.old.items ++ spaced (w.test_words (test_of tree.now))) }
+    ensures { OnOk result (out.new.items ≡ out.old.items ++ spaced_text (w.test_words (test_of tree.now))) }
 {
     match tree {
         Unit::Not(inner) => {
@@ -62,7 +62,7 @@ fn unit(alloc: Global, out: &mut Vec<u8>, tree: &Unit) -> Result<(), NoMemory>
 #[cycle(pred)]
 #[tactic(auto, using(crate::proofs::SpellLemmas::walking))]
 fn conj(alloc: Global, out: &mut Vec<u8>, tree: &Conj) -> Result<(), NoMemory>
-    ensures { OnOk result (out.new.items ≡ out.old.items ++ spaced (w.both_words (both_of tree.now))) }
+    ensures { OnOk result (out.new.items ≡ out.old.items ++ spaced_text (w.both_words (both_of tree.now))) }
 {
     unit(alloc, out, &tree.first)?;
     for next in &tree.more {
@@ -75,7 +75,7 @@ fn conj(alloc: Global, out: &mut Vec<u8>, tree: &Conj) -> Result<(), NoMemory>
 #[cycle(pred)]
 #[tactic(auto, using(crate::proofs::SpellLemmas::walking))]
 fn pred(alloc: Global, out: &mut Vec<u8>, tree: &Pred) -> Result<(), NoMemory>
-    ensures { OnOk result (out.new.items ≡ out.old.items ++ spaced
+    ensures { OnOk result (out.new.items ≡ out.old.items ++ spaced_text
         (w.tests_words (tests_of tree.now))) }
 {
     conj(alloc, out, &tree.first)?;
@@ -92,7 +92,7 @@ pub(crate) fn condition(
     out: &mut Vec<u8>,
     condition: &Option<Pred>,
 ) -> Result<(), NoMemory>
-    ensures { OnOk result (out.new.items ≡ out.old.items ++ spaced
+    ensures { OnOk result (out.new.items ≡ out.old.items ++ spaced_text
         (w.where_words (option_map tests_of condition.now))) }
 {
     if let Some(inner) = condition {

@@ -1,6 +1,6 @@
 // The text of what stands from SELECT on.
 ghost use Rattle.std.specs.Prelude.{◌≡◌, ◌++◌, ◌∷◌, [], OnOk};
-ghost use Rattle.saber_query.specs.Spelling.{spaced};
+ghost use Rattle.saber_query.specs.Spelling.{spaced_text};
 ghost use Rattle.saber_query.specs.declared.tree.Item.TheVariants.{Count};
 ghost use Rattle.saber_query.specs.Words as w;
 
@@ -11,7 +11,7 @@ use std::alloc::{AllocError as NoMemory, Global};
 
 #[tactic(auto, using(crate::proofs::SpellLemmas::joining))]
 fn argument(alloc: Global, out: &mut Vec<u8>, argument: &Expr) -> Result<(), NoMemory>
-    ensures { OnOk result (out.new.items ≡ out.old.items ++ spaced (w.argument_words argument.now)) }
+    ensures { OnOk result (out.new.items ≡ out.old.items ++ spaced_text (w.argument_words argument.now)) }
 {
     mark(out, Sign::Open)?;
     expr(alloc, out, argument)?;
@@ -20,7 +20,7 @@ fn argument(alloc: Global, out: &mut Vec<u8>, argument: &Expr) -> Result<(), NoM
 
 #[tactic(auto, using(crate::proofs::SpellLemmas::joining))]
 fn all_rows(out: &mut Vec<u8>) -> Result<(), NoMemory>
-    ensures { OnOk result (out.new.items ≡ out.old.items ++ spaced (w.item_words Count)) }
+    ensures { OnOk result (out.new.items ≡ out.old.items ++ spaced_text (w.item_words Count)) }
 {
     word(out, Keyword::Count)?;
     mark(out, Sign::Open)?;
@@ -30,7 +30,7 @@ fn all_rows(out: &mut Vec<u8>) -> Result<(), NoMemory>
 
 #[tactic(auto, using(crate::proofs::SpellLemmas::joining))]
 pub(crate) fn item(alloc: Global, out: &mut Vec<u8>, item: &Item) -> Result<(), NoMemory>
-    ensures { OnOk result (out.new.items ≡ out.old.items ++ spaced (w.item_words item.now)) }
+    ensures { OnOk result (out.new.items ≡ out.old.items ++ spaced_text (w.item_words item.now)) }
 {
     match item {
         Item::Count => all_rows(out),
@@ -52,7 +52,7 @@ pub(crate) fn item(alloc: Global, out: &mut Vec<u8>, item: &Item) -> Result<(), 
 
 #[tactic(auto, using(crate::proofs::SpellLemmas::joining))]
 pub(crate) fn items(alloc: Global, out: &mut Vec<u8>, others: &[Item]) -> Result<(), NoMemory>
-    ensures { OnOk result (out.new.items ≡ out.old.items ++ spaced (w.items_words others.now)) }
+    ensures { OnOk result (out.new.items ≡ out.old.items ++ spaced_text (w.items_words others.now)) }
 {
     for other in others {
         mark(out, Sign::Comma)?;
@@ -63,7 +63,7 @@ pub(crate) fn items(alloc: Global, out: &mut Vec<u8>, others: &[Item]) -> Result
 
 #[tactic(auto, using(crate::proofs::SpellLemmas::joining))]
 fn columns(out: &mut Vec<u8>, others: &[Column]) -> Result<(), NoMemory>
-    ensures { OnOk result (out.new.items ≡ out.old.items ++ spaced (w.columns_words others.now)) }
+    ensures { OnOk result (out.new.items ≡ out.old.items ++ spaced_text (w.columns_words others.now)) }
 {
     for other in others {
         mark(out, Sign::Comma)?;
@@ -74,7 +74,7 @@ fn columns(out: &mut Vec<u8>, others: &[Column]) -> Result<(), NoMemory>
 
 #[tactic(auto, using(crate::proofs::SpellLemmas::joining))]
 fn by_columns(out: &mut Vec<u8>, keys: &Keys) -> Result<(), NoMemory>
-    ensures { OnOk result (out.new.items ≡ out.old.items ++ spaced (w.by_words keys.now)) }
+    ensures { OnOk result (out.new.items ≡ out.old.items ++ spaced_text (w.by_words keys.now)) }
 {
     word(out, Keyword::By)?;
     column(out, &keys.first)?;
@@ -83,7 +83,7 @@ fn by_columns(out: &mut Vec<u8>, keys: &Keys) -> Result<(), NoMemory>
 
 #[tactic(auto, using(crate::proofs::SpellLemmas::joining))]
 fn measure(out: &mut Vec<u8>, measure: &Measure) -> Result<(), NoMemory>
-    ensures { OnOk result (out.new.items ≡ out.old.items ++ spaced (w.measure_words measure.now)) }
+    ensures { OnOk result (out.new.items ≡ out.old.items ++ spaced_text (w.measure_words measure.now)) }
 {
     match measure {
         Measure::Rows => word(out, Keyword::Rows),
@@ -98,7 +98,7 @@ fn measure(out: &mut Vec<u8>, measure: &Measure) -> Result<(), NoMemory>
 
 #[tactic(auto, using(crate::proofs::SpellLemmas::joining))]
 fn window(alloc: Global, out: &mut Vec<u8>, window: &Option<Window>) -> Result<(), NoMemory>
-    ensures { OnOk result (out.new.items ≡ out.old.items ++ spaced (w.window_words window.now)) }
+    ensures { OnOk result (out.new.items ≡ out.old.items ++ spaced_text (w.window_words window.now)) }
 {
     if let Some(inner) = window {
         mark(out, Sign::OpenBracket)?;
@@ -113,7 +113,7 @@ fn window(alloc: Global, out: &mut Vec<u8>, window: &Option<Window>) -> Result<(
 
 #[tactic(auto, using(crate::proofs::SpellLemmas::joining))]
 pub(crate) fn source(alloc: Global, out: &mut Vec<u8>, source: &Source) -> Result<(), NoMemory>
-    ensures { OnOk result (out.new.items ≡ out.old.items ++ spaced (w.source_words source.now)) }
+    ensures { OnOk result (out.new.items ≡ out.old.items ++ spaced_text (w.source_words source.now)) }
 {
     name(out, &source.name)?;
     window(alloc, out, &source.window)
@@ -125,7 +125,7 @@ pub(crate) fn second(
     out: &mut Vec<u8>,
     second: &Option<Source>,
 ) -> Result<(), NoMemory>
-    ensures { OnOk result (out.new.items ≡ out.old.items ++ spaced (w.second_source_words second.now)) }
+    ensures { OnOk result (out.new.items ≡ out.old.items ++ spaced_text (w.second_source_words second.now)) }
 {
     if let Some(inner) = second {
         mark(out, Sign::Comma)?;
@@ -136,7 +136,7 @@ pub(crate) fn second(
 
 #[tactic(auto, using(crate::proofs::SpellLemmas::joining))]
 pub(crate) fn group(out: &mut Vec<u8>, group: &Option<Keys>) -> Result<(), NoMemory>
-    ensures { OnOk result (out.new.items ≡ out.old.items ++ spaced (w.group_words group.now)) }
+    ensures { OnOk result (out.new.items ≡ out.old.items ++ spaced_text (w.group_words group.now)) }
 {
     if let Some(keys) = group {
         word(out, Keyword::Group)?;
@@ -157,7 +157,7 @@ fn stream_keyword(word: StreamWord) -> Keyword
 
 #[tactic(auto, using(crate::proofs::SpellLemmas::joining))]
 pub(crate) fn opened(out: &mut Vec<u8>, stream: Option<StreamWord>) -> Result<(), NoMemory>
-    ensures { OnOk result (out.new.items ≡ out.old.items ++ spaced (w.opened_words stream)) }
+    ensures { OnOk result (out.new.items ≡ out.old.items ++ spaced_text (w.opened_words stream)) }
 {
     if let Some(inner) = stream {
         word(out, stream_keyword(inner))?;
@@ -168,7 +168,7 @@ pub(crate) fn opened(out: &mut Vec<u8>, stream: Option<StreamWord>) -> Result<()
 
 #[tactic(auto, using(crate::proofs::SpellLemmas::joining))]
 pub(crate) fn shut(out: &mut Vec<u8>, stream: Option<StreamWord>) -> Result<(), NoMemory>
-    ensures { OnOk result (out.new.items ≡ out.old.items ++ spaced (w.shut_words stream)) }
+    ensures { OnOk result (out.new.items ≡ out.old.items ++ spaced_text (w.shut_words stream)) }
 {
     if stream.is_some() {
         mark(out, Sign::Close)?;

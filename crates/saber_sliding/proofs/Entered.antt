@@ -5,7 +5,7 @@ use Rattle.std.proofs.lemmas.List.{length-map}
 use Rattle.saber_plan.specs.Parts.{Part, no_part, merge}
 use Rattle.saber_laws.specs.Parts.{MergeHasUnit, MergeIsAssociative}
 use Rattle.saber_partial.specs.Tallies.{CanMerge}
-use Rattle.saber_sliding.specs.Entries.{Entries, whole, followed, pushed, dropped, merged, suffixes, seen, CanFollow, Chained, Sound, IsSound}
+use Rattle.saber_sliding.specs.Entries.{Entries, whole, followed_entries, pushed_entries, dropped_entries, merged_part, suffixes, queue_entries, CanFollow, Chained, Sound, IsSound}
 use Rattle.saber_sliding.specs.EntryFacts.{all_dropped}
 use Rattle.saber_partial.specs.MergeFacts.{can_ahead, can_none, none_can}
 
@@ -16,69 +16,69 @@ pub length-suffixes : (es : Entries) → length (suffixes es) ≡ length es
 length-suffixes [] = refl
 length-suffixes (e ∷ es) = let rest = length-suffixes es in omega (arith, rest)
 
-pub whole_merged : (es : Entries) → whole (suffixes es) ≡ merged es
+pub whole_merged : (es : Entries) → whole (suffixes es) ≡ merged_part es
 whole_merged [] = refl
 whole_merged (e ∷ es) = refl
 
 -- ---- one more
 
-merged-push : MergeHasUnit → MergeIsAssociative → (n : ℕ) (p : Part) (es : Entries) → merged (es ++ last n p) ≡ merge (merged es) p
+merged-push : MergeHasUnit → MergeIsAssociative → (n : ℕ) (p : Part) (es : Entries) → merged_part (es ++ last n p) ≡ merge (merged_part es) p
 merged-push unit assoc n p [] = (unit p).1 ∙ sym (unit p).0
-merged-push unit assoc n p (e ∷ es) = ap (merge e.1) (merged-push unit assoc n p es) ∙ sym (assoc e.1 (merged es) p)
+merged-push unit assoc n p (e ∷ es) = ap (merge e.1) (merged-push unit assoc n p es) ∙ sym (assoc e.1 (merged_part es) p)
 
-pub followed_twice : MergeIsAssociative → (m p : Part) (es : Entries) → followed (merge m p) es ≡ followed p (followed m es)
+pub followed_twice : MergeIsAssociative → (m p : Part) (es : Entries) → followed_entries (merge m p) es ≡ followed_entries p (followed_entries m es)
 followed_twice assoc m p [] = refl
 followed_twice assoc m p (e ∷ es) = λ i. (e.0, sym (assoc e.1 m p) i) ∷ followed_twice assoc m p es i
 
-pub suffixes-push : MergeHasUnit → MergeIsAssociative → (n : ℕ) (p : Part) (es : Entries) → suffixes (es ++ last n p) ≡ followed p (suffixes es) ++ last n p
+pub suffixes-push : MergeHasUnit → MergeIsAssociative → (n : ℕ) (p : Part) (es : Entries) → suffixes (es ++ last n p) ≡ followed_entries p (suffixes es) ++ last n p
 suffixes-push unit assoc n p [] = λ i. (n, (unit p).1 i) ∷ []
-suffixes-push unit assoc n p (e ∷ es) = λ i. (e.0, (ap (merge e.1) (merged-push unit assoc n p es) ∙ sym (assoc e.1 (merged es) p)) i) ∷ suffixes-push unit assoc n p es i
+suffixes-push unit assoc n p (e ∷ es) = λ i. (e.0, (ap (merge e.1) (merged-push unit assoc n p es) ∙ sym (assoc e.1 (merged_part es) p)) i) ∷ suffixes-push unit assoc n p es i
 
-pub followed-append : (p : Part) (es fs : Entries) → followed p (es ++ fs) ≡ followed p es ++ followed p fs
+pub followed-append : (p : Part) (es fs : Entries) → followed_entries p (es ++ fs) ≡ followed_entries p es ++ followed_entries p fs
 followed-append p [] fs = refl
 followed-append p (e ∷ es) fs = ap (λ l. (e.0, merge e.1 p) ∷ l) (followed-append p es fs)
 
-pub seen-push : MergeHasUnit → MergeIsAssociative → (front back : Entries) (b : Part) (n : ℕ) (p : Part) → seen front (back ++ last n p) (merge b p) ≡ pushed (seen front back b) n p
+pub seen-push : MergeHasUnit → MergeIsAssociative → (front back : Entries) (b : Part) (n : ℕ) (p : Part) → queue_entries front (back ++ last n p) (merge b p) ≡ pushed_entries (queue_entries front back b) n p
 seen-push unit assoc front back b n p =
     (λ i. followed_twice assoc b p front i ++ suffixes-push unit assoc n p back i)
-    ∙ sym (append_assoc (followed p (followed b front)) (followed p (suffixes back)) (last n p))
-    ∙ ap (λ l. l ++ last n p) (sym (followed-append p (followed b front) (suffixes back)))
+    ∙ sym (append_assoc (followed_entries p (followed_entries b front)) (followed_entries p (suffixes back)) (last n p))
+    ∙ ap (λ l. l ++ last n p) (sym (followed-append p (followed_entries b front) (suffixes back)))
 
-pub follow_back : (p b : Part) (front es : Entries) → CanFollow p (followed b front ++ es) → CanFollow p es
+pub follow_back : (p b : Part) (front es : Entries) → CanFollow p (followed_entries b front ++ es) → CanFollow p es
 follow_back p b [] es h = h
 follow_back p b (e ∷ front) es h = follow_back p b front es h.1
 
-pub joins-push : (b p : Part) (front es : Entries) → CanFollow b front → CanFollow p (followed b front ++ es) → CanFollow (merge b p) front
+pub joins-push : (b p : Part) (front es : Entries) → CanFollow b front → CanFollow p (followed_entries b front ++ es) → CanFollow (merge b p) front
 joins-push b p [] es g h = tt
 joins-push b p (e ∷ front) es g h = (can_ahead e.1 b p g.0 h.0, joins-push b p front es g.1 h.1)
 
 pub chained-push : MergeHasUnit → MergeIsAssociative → (n : ℕ) (p : Part) (es : Entries) → Chained es → CanFollow p (suffixes es) → Chained (es ++ last n p)
 chained-push unit assoc n p [] g h = (can_none p, tt)
 chained-push unit assoc n p (e ∷ es) g h =
-    (subst (CanMerge e.1) (sym (merged-push unit assoc n p es)) (can_ahead e.1 (merged es) p g.0 h.0), chained-push unit assoc n p es g.1 h.1)
+    (subst (CanMerge e.1) (sym (merged-push unit assoc n p es)) (can_ahead e.1 (merged_part es) p g.0 h.0), chained-push unit assoc n p es g.1 h.1)
 
-pub sound-push : MergeHasUnit → MergeIsAssociative → (front back : Entries) (b : Part) (n : ℕ) (p : Part) → Sound front back b → CanFollow p (seen front back b) → Sound front (back ++ last n p) (merge b p)
+pub sound-push : MergeHasUnit → MergeIsAssociative → (front back : Entries) (b : Part) (n : ℕ) (p : Part) → Sound front back b → CanFollow p (queue_entries front back b) → Sound front (back ++ last n p) (merge b p)
 sound-push unit assoc front back b n p s h = record {
   merge_is = ap (λ m. merge m p) s.merge_is ∙ sym (merged-push unit assoc n p back);
   chained = chained-push unit assoc n p back s.chained (follow_back p b front (suffixes back) h);
   joins = joins-push b p front (suffixes back) s.joins h;
 }
 
-first_can : (p : Part) (es : Entries) → CanFollow p (suffixes es) → CanMerge (merged es) p
+first_can : (p : Part) (es : Entries) → CanFollow p (suffixes es) → CanMerge (merged_part es) p
 first_can p [] h = none_can p
 first_can p (e ∷ es) h = h.0
 
-pub back_can : (front back : Entries) (b p : Part) → Sound front back b → CanFollow p (seen front back b) → CanMerge b p
+pub back_can : (front back : Entries) (b p : Part) → Sound front back b → CanFollow p (queue_entries front back b) → CanMerge b p
 back_can front back b p s h = subst (λ m. CanMerge m p) (sym s.merge_is) (first_can p back (follow_back p b front (suffixes back) h))
 
 -- ---- the back becomes the front
 
-followed_none : MergeHasUnit → (es : Entries) → followed no_part es ≡ es
+followed_none : MergeHasUnit → (es : Entries) → followed_entries no_part es ≡ es
 followed_none unit [] = refl
 followed_none unit (e ∷ es) = λ i. (e.0, (unit e.1).1 i) ∷ followed_none unit es i
 
-pub seen_turned : MergeHasUnit → (es : Entries) → seen es [] no_part ≡ es
-seen_turned unit es = append-nil (followed no_part es) ∙ followed_none unit es
+pub seen_turned : MergeHasUnit → (es : Entries) → queue_entries es [] no_part ≡ es
+seen_turned unit es = append-nil (followed_entries no_part es) ∙ followed_none unit es
 
 pub sound_turned : (es : Entries) → Sound es [] no_part
 sound_turned es = record { merge_is = refl; chained = tt; joins = any es } where
@@ -108,8 +108,8 @@ chained_drop (suc n) (e ∷ es) h = chained_drop n es h.1
 pub chained_left : (late : Bool) (front back : Entries) (p : Part) (n : ℕ) → IsSound late front back p → Chained (drop n back)
 chained_left late front back p n h = chained_drop n back (chained_any late front back p h)
 
-pub seen_late : (front back : Entries) (p : Part) → front ≡ [] → seen front back p ≡ suffixes back
-seen_late front back p e = ap (λ f. seen f back p) e
+pub seen_late : (front back : Entries) (p : Part) → front ≡ [] → queue_entries front back p ≡ suffixes back
+seen_late front back p e = ap (λ f. queue_entries f back p) e
 
 -- ---- summing up
 
@@ -122,7 +122,7 @@ pub record Turned (all back front : Entries) : Type 0 where
 pub turned_nil : (all front : Entries) → front ≡ [] → Turned all all front
 turned_nil all front e = record { rest = []; all_is = sym (append-nil all); front_is = e }
 
-pub chained_at : (es : Entries) (e : ℕ × Part) (fs : Entries) → Chained (es ++ e ∷ fs) → CanMerge e.1 (merged fs)
+pub chained_at : (es : Entries) (e : ℕ × Part) (fs : Entries) → Chained (es ++ e ∷ fs) → CanMerge e.1 (merged_part fs)
 chained_at [] e fs h = h.0
 chained_at (d ∷ es) e fs h = chained_at es e fs h.1
 
@@ -147,55 +147,55 @@ pub nothing : (front : Entries) → length front ≤ 0 → front ≡ []
 nothing [] h = refl
 nothing (e ∷ front) h = absurd (omega (arith, h))
 
-pub whole_alone : (front back : Entries) (b : Part) → Sound front back b → length front ≤ 0 → b ≡ whole (seen front back b)
-whole_alone front back b s h = s.merge_is ∙ sym (whole_merged back) ∙ ap (λ f. whole (seen f back b)) (sym (nothing front h))
+pub whole_alone : (front back : Entries) (b : Part) → Sound front back b → length front ≤ 0 → b ≡ whole (queue_entries front back b)
+whole_alone front back b s h = s.merge_is ∙ sym (whole_merged back) ∙ ap (λ f. whole (queue_entries f back b)) (sym (nothing front h))
 
 -- with entries at the front, it is the first of them and the back behind it
-pub whole_ahead : (front back : Entries) (b : Part) (e : ℕ × Part) → 0 < length front → e ≡ get_or front 0 e → whole (seen front back b) ≡ merge e.1 b
+pub whole_ahead : (front back : Entries) (b : Part) (e : ℕ × Part) → 0 < length front → e ≡ get_or front 0 e → whole (queue_entries front back b) ≡ merge e.1 b
 whole_ahead [] back b e h at = absurd (omega (arith, h))
 whole_ahead (f ∷ front) back b e h at = ap (λ (d : ℕ × Part). merge d.1 b) (sym at)
 
 -- ---- those at the front go
 
-dropped_followed : (i : ℕ) (p : Part) (es : Entries) → dropped i (followed p es) ≡ followed p (dropped i es)
+dropped_followed : (i : ℕ) (p : Part) (es : Entries) → dropped_entries i (followed_entries p es) ≡ followed_entries p (dropped_entries i es)
 dropped_followed i p [] = refl
-dropped_followed i p (e ∷ es) = elim (nat_le e.0 i) as (λ b. cond b (dropped i (followed p es)) (followed p (e ∷ es)) ≡ followed p (cond b (dropped i es) (e ∷ es))) [ true ↦ dropped_followed i p es | false ↦ refl ]
+dropped_followed i p (e ∷ es) = elim (nat_le e.0 i) as (λ b. cond b (dropped_entries i (followed_entries p es)) (followed_entries p (e ∷ es)) ≡ followed_entries p (cond b (dropped_entries i es) (e ∷ es))) [ true ↦ dropped_followed i p es | false ↦ refl ]
 
-dropped_suffixes : (i : ℕ) (es : Entries) → dropped i (suffixes es) ≡ suffixes (dropped i es)
+dropped_suffixes : (i : ℕ) (es : Entries) → dropped_entries i (suffixes es) ≡ suffixes (dropped_entries i es)
 dropped_suffixes i [] = refl
-dropped_suffixes i (e ∷ es) = elim (nat_le e.0 i) as (λ b. cond b (dropped i (suffixes es)) (suffixes (e ∷ es)) ≡ suffixes (cond b (dropped i es) (e ∷ es))) [ true ↦ dropped_suffixes i es | false ↦ refl ]
+dropped_suffixes i (e ∷ es) = elim (nat_le e.0 i) as (λ b. cond b (dropped_entries i (suffixes es)) (suffixes (e ∷ es)) ≡ suffixes (cond b (dropped_entries i es) (e ∷ es))) [ true ↦ dropped_suffixes i es | false ↦ refl ]
 
-some_left : (i : ℕ) (es fs : Entries) → 0 < length (dropped i es) → dropped i (es ++ fs) ≡ dropped i es ++ fs
+some_left : (i : ℕ) (es fs : Entries) → 0 < length (dropped_entries i es) → dropped_entries i (es ++ fs) ≡ dropped_entries i es ++ fs
 some_left i [] fs h = absurd (omega (arith, h))
 some_left i (e ∷ es) fs h =
-    elim (nat_le e.0 i) as (λ b. 0 < length (cond b (dropped i es) (e ∷ es)) → cond b (dropped i (es ++ fs)) (e ∷ es ++ fs) ≡ cond b (dropped i es) (e ∷ es) ++ fs) [ true ↦ λ l. some_left i es fs l | false ↦ λ l. refl ] h
+    elim (nat_le e.0 i) as (λ b. 0 < length (cond b (dropped_entries i es) (e ∷ es)) → cond b (dropped_entries i (es ++ fs)) (e ∷ es ++ fs) ≡ cond b (dropped_entries i es) (e ∷ es) ++ fs) [ true ↦ λ l. some_left i es fs l | false ↦ λ l. refl ] h
 
-none_left : (i : ℕ) (es fs : Entries) → dropped i es ≡ [] → dropped i (es ++ fs) ≡ dropped i fs
+none_left : (i : ℕ) (es fs : Entries) → dropped_entries i es ≡ [] → dropped_entries i (es ++ fs) ≡ dropped_entries i fs
 none_left i [] fs h = refl
 none_left i (e ∷ es) fs h =
-    elim (nat_le e.0 i) as (λ b. cond b (dropped i es) (e ∷ es) ≡ [] → cond b (dropped i (es ++ fs)) (e ∷ es ++ fs) ≡ dropped i fs) [ true ↦ λ l. none_left i es fs l | false ↦ λ l. cc ] h
+    elim (nat_le e.0 i) as (λ b. cond b (dropped_entries i es) (e ∷ es) ≡ [] → cond b (dropped_entries i (es ++ fs)) (e ∷ es ++ fs) ≡ dropped_entries i fs) [ true ↦ λ l. none_left i es fs l | false ↦ λ l. cc ] h
 
-sound_dropped : (i : ℕ) (front back : Entries) (p : Part) → Sound front back p → Sound (dropped i front) back p
+sound_dropped : (i : ℕ) (front back : Entries) (p : Part) → Sound front back p → Sound (dropped_entries i front) back p
 sound_dropped i front back p s = record { merge_is = s.merge_is; chained = s.chained; joins = all_dropped (λ (e : ℕ × Part). CanMerge e.1 p) i front s.joins }
 
-pub still_sound : (late : Bool) (i : ℕ) (front back : Entries) (p : Part) → IsSound late front back p → IsSound late (dropped i front) back p
-still_sound true i front back p h = (ap (dropped i) h.0, h.1)
+pub still_sound : (late : Bool) (i : ℕ) (front back : Entries) (p : Part) → IsSound late front back p → IsSound late (dropped_entries i front) back p
+still_sound true i front back p h = (ap (dropped_entries i) h.0, h.1)
 still_sound false i front back p h = sound_dropped i front back p h
 
 -- some of the front stay
-pub seen_some : (i : ℕ) (front back : Entries) (p : Part) → 0 < length (dropped i front) → seen (dropped i front) back p ≡ dropped i (seen front back p)
+pub seen_some : (i : ℕ) (front back : Entries) (p : Part) → 0 < length (dropped_entries i front) → queue_entries (dropped_entries i front) back p ≡ dropped_entries i (queue_entries front back p)
 seen_some i front back p h =
-    let long : length (followed p (dropped i front)) ≡ length (dropped i front) = length-map (dropped i front) (λ (e : ℕ × Part). (e.0, merge e.1 p)) in
+    let long : length (followed_entries p (dropped_entries i front)) ≡ length (dropped_entries i front) = length-map (dropped_entries i front) (λ (e : ℕ × Part). (e.0, merge e.1 p)) in
     ap (λ l. l ++ suffixes back) (sym (dropped_followed i p front))
-    ∙ sym (some_left i (followed p front) (suffixes back) (subst (λ l. 0 < length l) (sym (dropped_followed i p front)) (omega (arith, h, long))))
+    ∙ sym (some_left i (followed_entries p front) (suffixes back) (subst (λ l. 0 < length l) (sym (dropped_followed i p front)) (omega (arith, h, long))))
 
 -- none does
-pub seen_none : (i : ℕ) (front back : Entries) (p : Part) → dropped i front ≡ [] → suffixes (dropped i back) ≡ dropped i (seen front back p)
-seen_none i front back p h = sym (dropped_suffixes i back) ∙ sym (none_left i (followed p front) (suffixes back) (dropped_followed i p front ∙ ap (followed p) h))
+pub seen_none : (i : ℕ) (front back : Entries) (p : Part) → dropped_entries i front ≡ [] → suffixes (dropped_entries i back) ≡ dropped_entries i (queue_entries front back p)
+seen_none i front back p h = sym (dropped_suffixes i back) ∙ sym (none_left i (followed_entries p front) (suffixes back) (dropped_followed i p front ∙ ap (followed_entries p) h))
 
 -- the back is the front now
-pub seen_turned_all : MergeHasUnit → (new old es : Entries) (p : Part) → new ≡ es → old ≡ [] → p ≡ no_part → seen new old p ≡ es
-seen_turned_all unit new old es p n o e = (λ i. seen (n i) (o i) (e i)) ∙ seen_turned unit es
+pub seen_turned_all : MergeHasUnit → (new old es : Entries) (p : Part) → new ≡ es → old ≡ [] → p ≡ no_part → queue_entries new old p ≡ es
+seen_turned_all unit new old es p n o e = (λ i. queue_entries (n i) (o i) (e i)) ∙ seen_turned unit es
 
 pub sound_turned_all : (new old : Entries) (p : Part) → old ≡ [] → p ≡ no_part → Sound new old p
 sound_turned_all new old p o e = subst₂ (Sound new) (sym o) (sym e) (sound_turned new)

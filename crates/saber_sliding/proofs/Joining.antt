@@ -6,35 +6,35 @@ use Rattle.saber_plan.specs.Parts.{Part, merge}
 use Rattle.saber_laws.specs.Parts.{MergeHasUnit, MergeIsAssociative}
 use Rattle.saber_partial.specs.Tallies.{CanMerge}
 use Rattle.saber_partial.specs.MergeFacts.{can_ahead, can_none}
-use Rattle.saber_sliding.specs.Entries.{Entries, followed, last_number, merged, suffixes, joined, seen, CanFollow, Chained, Sound, IsSound}
+use Rattle.saber_sliding.specs.Entries.{Entries, followed_entries, last_number, merged_part, suffixes, joined_entries, queue_entries, CanFollow, Chained, Sound, IsSound}
 use Rattle.saber_sliding.proofs.Entered.{followed_twice, followed-append, follow_back, joins-push, back_can, seen_late}
 
 -- ---- what they come to
 
-merged-joined : MergeHasUnit → MergeIsAssociative → (p : Part) (es : Entries) → 1 ≤ length es → merged (joined p es) ≡ merge (merged es) p
+merged-joined : MergeHasUnit → MergeIsAssociative → (p : Part) (es : Entries) → 1 ≤ length es → merged_part (joined_entries p es) ≡ merge (merged_part es) p
 merged-joined unit assoc p [] h = absurd (omega (arith, h))
 merged-joined unit assoc p (e ∷ []) h = (unit (merge e.1 p)).1 ∙ ap (λ m. merge m p) (sym (unit e.1).1)
-merged-joined unit assoc p (e ∷ f ∷ es) h = ap (merge e.1) (merged-joined unit assoc p (f ∷ es) (omega arith)) ∙ sym (assoc e.1 (merged (f ∷ es)) p)
+merged-joined unit assoc p (e ∷ f ∷ es) h = ap (merge e.1) (merged-joined unit assoc p (f ∷ es) (omega arith)) ∙ sym (assoc e.1 (merged_part (f ∷ es)) p)
 
-suffixes-joined : MergeHasUnit → MergeIsAssociative → (p : Part) (es : Entries) → suffixes (joined p es) ≡ followed p (suffixes es)
+suffixes-joined : MergeHasUnit → MergeIsAssociative → (p : Part) (es : Entries) → suffixes (joined_entries p es) ≡ followed_entries p (suffixes es)
 suffixes-joined unit assoc p [] = refl
 suffixes-joined unit assoc p (e ∷ []) = λ i. (e.0, merged-joined unit assoc p (e ∷ []) (omega arith) i) ∷ []
 suffixes-joined unit assoc p (e ∷ f ∷ es) = λ i. (e.0, merged-joined unit assoc p (e ∷ f ∷ es) (omega arith) i) ∷ suffixes-joined unit assoc p (f ∷ es) i
 
-seen-joined : MergeHasUnit → MergeIsAssociative → (front back : Entries) (b p : Part) → seen front (joined p back) (merge b p) ≡ followed p (seen front back b)
+seen-joined : MergeHasUnit → MergeIsAssociative → (front back : Entries) (b p : Part) → queue_entries front (joined_entries p back) (merge b p) ≡ followed_entries p (queue_entries front back b)
 seen-joined unit assoc front back b p =
     (λ i. followed_twice assoc b p front i ++ suffixes-joined unit assoc p back i)
-    ∙ sym (followed-append p (followed b front) (suffixes back))
+    ∙ sym (followed-append p (followed_entries b front) (suffixes back))
 
 -- ---- what stays
 
-chained-joined : MergeHasUnit → MergeIsAssociative → (p : Part) (es : Entries) → Chained es → CanFollow p (suffixes es) → Chained (joined p es)
+chained-joined : MergeHasUnit → MergeIsAssociative → (p : Part) (es : Entries) → Chained es → CanFollow p (suffixes es) → Chained (joined_entries p es)
 chained-joined unit assoc p [] g h = tt
 chained-joined unit assoc p (e ∷ []) g h = (can_none (merge e.1 p), tt)
 chained-joined unit assoc p (e ∷ f ∷ es) g h =
-    (subst (CanMerge e.1) (sym (merged-joined unit assoc p (f ∷ es) (omega arith))) (can_ahead e.1 (merged (f ∷ es)) p g.0 h.0), chained-joined unit assoc p (f ∷ es) g.1 h.1)
+    (subst (CanMerge e.1) (sym (merged-joined unit assoc p (f ∷ es) (omega arith))) (can_ahead e.1 (merged_part (f ∷ es)) p g.0 h.0), chained-joined unit assoc p (f ∷ es) g.1 h.1)
 
-sound-joined : MergeHasUnit → MergeIsAssociative → (front back : Entries) (b p : Part) → 1 ≤ length back → Sound front back b → CanFollow p (seen front back b) → Sound front (joined p back) (merge b p)
+sound-joined : MergeHasUnit → MergeIsAssociative → (front back : Entries) (b p : Part) → 1 ≤ length back → Sound front back b → CanFollow p (queue_entries front back b) → Sound front (joined_entries p back) (merge b p)
 sound-joined unit assoc front back b p some s h = record {
   merge_is = ap (λ m. merge m p) s.merge_is ∙ sym (merged-joined unit assoc p back some);
   chained = chained-joined unit assoc p back s.chained (follow_back p b front (suffixes back) h);
@@ -43,21 +43,21 @@ sound-joined unit assoc front back b p some s h = record {
 
 -- ---- where the back may still be to become the front
 
-pub joined_can : (late : Bool) (front back : Entries) (b p : Part) → IsSound late front back b → CanFollow p (seen front back b) → late ≡ false → CanMerge b p
+pub joined_can : (late : Bool) (front back : Entries) (b p : Part) → IsSound late front back b → CanFollow p (queue_entries front back b) → late ≡ false → CanMerge b p
 joined_can true front back b p h g e = absurd (false≢true (sym e))
 joined_can false front back b p h g e = back_can front back b p h g
 
-pub joined_room : (front back : Entries) (b p : Part) → CanFollow p (seen front back b) → CanFollow p (suffixes back)
+pub joined_room : (front back : Entries) (b p : Part) → CanFollow p (queue_entries front back b) → CanFollow p (suffixes back)
 joined_room front back b p h = follow_back p b front (suffixes back) h
 
-pub joined_sound : MergeHasUnit → MergeIsAssociative → (late : Bool) (front back : Entries) (b c p : Part) → 1 ≤ length back → IsSound late front back b → CanFollow p (seen front back b) → (late ≡ false → c ≡ merge b p) → IsSound late front (joined p back) c
+pub joined_sound : MergeHasUnit → MergeIsAssociative → (late : Bool) (front back : Entries) (b c p : Part) → 1 ≤ length back → IsSound late front back b → CanFollow p (queue_entries front back b) → (late ≡ false → c ≡ merge b p) → IsSound late front (joined_entries p back) c
 joined_sound unit assoc true front back b c p some h g e = (h.0, chained-joined unit assoc p back h.1 (joined_room front back b p g))
-joined_sound unit assoc false front back b c p some h g e = subst (Sound front (joined p back)) (sym (e refl)) (sound-joined unit assoc front back b p some h g)
+joined_sound unit assoc false front back b c p some h g e = subst (Sound front (joined_entries p back)) (sym (e refl)) (sound-joined unit assoc front back b p some h g)
 
-pub joined_seen : MergeHasUnit → MergeIsAssociative → (late : Bool) (front back : Entries) (b c p : Part) → IsSound late front back b → (late ≡ false → c ≡ merge b p) → seen front (joined p back) c ≡ followed p (seen front back b)
+pub joined_seen : MergeHasUnit → MergeIsAssociative → (late : Bool) (front back : Entries) (b c p : Part) → IsSound late front back b → (late ≡ false → c ≡ merge b p) → queue_entries front (joined_entries p back) c ≡ followed_entries p (queue_entries front back b)
 joined_seen unit assoc true front back b c p h e =
-    seen_late front (joined p back) c h.0 ∙ suffixes-joined unit assoc p back ∙ ap (followed p) (sym (seen_late front back b h.0))
-joined_seen unit assoc false front back b c p h e = ap (seen front (joined p back)) (e refl) ∙ seen-joined unit assoc front back b p
+    seen_late front (joined_entries p back) c h.0 ∙ suffixes-joined unit assoc p back ∙ ap (followed_entries p) (sym (seen_late front back b h.0))
+joined_seen unit assoc false front back b c p h e = ap (queue_entries front (joined_entries p back)) (e refl) ∙ seen-joined unit assoc front back b p
 
 -- ---- the last entry
 
@@ -78,8 +78,8 @@ last_append : (es fs : Entries) (n : ℕ) → last_number fs ≡ Some n → last
 last_append [] fs n e = e
 last_append (d ∷ es) fs n e = last_behind d (es ++ fs) n (last_append es fs n e)
 
-pub last_seen : (front back : Entries) (b : Part) (n : ℕ) → last_number back ≡ Some n → last_number (seen front back b) ≡ Some n
-last_seen front back b n e = last_append (followed b front) (suffixes back) n (last_suffix back n e)
+pub last_seen : (front back : Entries) (b : Part) (n : ℕ) → last_number back ≡ Some n → last_number (queue_entries front back b) ≡ Some n
+last_seen front back b n e = last_append (followed_entries b front) (suffixes back) n (last_suffix back n e)
 
 -- it stands at the last place
 pub last_at : (es : Entries) (i : ℕ) (d : ℕ × Part) → length es ≡ suc i → Some d ≡ slice_get es i → last_number es ≡ Some d.0
@@ -98,7 +98,7 @@ last_can unit (c ∷ f ∷ es) zero d p h e g = absurd (omega (arith, h))
 last_can unit (c ∷ f ∷ es) (suc i) d p h e g = last_can unit (f ∷ es) i d p (omega (arith, h)) e g.1
 
 -- and another is put in its place
-pub last_set : (es : Entries) (i : ℕ) (d : ℕ × Part) (p : Part) → length es ≡ suc i → d ≡ slice_index_or es i d → slice_set es i (d.0, merge d.1 p) ≡ joined p es
+pub last_set : (es : Entries) (i : ℕ) (d : ℕ × Part) (p : Part) → length es ≡ suc i → d ≡ slice_index_or es i d → slice_set es i (d.0, merge d.1 p) ≡ joined_entries p es
 last_set [] i d p h e = absurd (omega (arith, h))
 last_set (c ∷ []) zero d p h e = λ i. ((e i).0, merge (e i).1 p) ∷ []
 last_set (c ∷ []) (suc i) d p h e = absurd (omega (arith, h))

@@ -29,17 +29,17 @@ whole [] = no_part
 whole (e ∷ es) = e.1
 
 -- a part behind them all
-abbrev pub followed : Part → Entries → Entries
-followed p es = map (λ e. (e.0, merge e.1 p)) es
+abbrev pub followed_entries : Part → Entries → Entries
+followed_entries p es = map (λ e. (e.0, merge e.1 p)) es
 
 -- one entry more
-abbrev pub pushed : Entries → ℕ → Part → Entries
-pushed es n p = followed p es ++ (n, p) ∷ []
+abbrev pub pushed_entries : Entries → ℕ → Part → Entries
+pushed_entries es n p = followed_entries p es ++ (n, p) ∷ []
 
 -- without those at the front that window i doesn't have
-abbrev pub dropped : ℕ → Entries → Entries
-dropped i [] = []
-dropped i (e ∷ es) = if nat_le e.0 i then dropped i es else e ∷ es
+abbrev pub dropped_entries : ℕ → Entries → Entries
+dropped_entries i [] = []
+dropped_entries i (e ∷ es) = if nat_le e.0 i then dropped_entries i es else e ∷ es
 
 -- the number of the first entry
 abbrev pub first_number : Entries → Option ℕ
@@ -54,7 +54,7 @@ last_number (e ∷ f ∷ es) = last_number (f ∷ es)
 
 -- a part has come behind them all, as one entry more or into the last one, which has its number
 abbrev pub Put : Entries → ℕ → Part → Entries → Type 0
-Put es n p fs = (fs ≡ pushed es n p) ⊎ ((last_number es ≡ Some n) × (fs ≡ followed p es))
+Put es n p fs = (fs ≡ pushed_entries es n p) ⊎ ((last_number es ≡ Some n) × (fs ≡ followed_entries p es))
 
 -- what window i has: the first entry that it has, and all behind it
 abbrev pub part_at : Entries → ℕ → Part
@@ -67,28 +67,28 @@ CanFollow p = AllByRecursion (λ (e : ℕ × Part). CanMerge e.1 p)
 
 -- ---- what is kept: parts by themselves, and how they are seen
 
-abbrev pub merged : Entries → Part
-merged [] = no_part
-merged (e ∷ es) = merge e.1 (merged es)
+abbrev pub merged_part : Entries → Part
+merged_part [] = no_part
+merged_part (e ∷ es) = merge e.1 (merged_part es)
 
 abbrev pub suffixes : Entries → Entries
 suffixes [] = []
-suffixes (e ∷ es) = (e.0, merge e.1 (merged es)) ∷ suffixes es
+suffixes (e ∷ es) = (e.0, merge e.1 (merged_part es)) ∷ suffixes es
 
 -- the last of them with a part behind it
-abbrev pub joined : Part → Entries → Entries
-joined p [] = []
-joined p (e ∷ []) = (e.0, merge e.1 p) ∷ []
-joined p (e ∷ f ∷ es) = e ∷ joined p (f ∷ es)
+abbrev pub joined_entries : Part → Entries → Entries
+joined_entries p [] = []
+joined_entries p (e ∷ []) = (e.0, merge e.1 p) ∷ []
+joined_entries p (e ∷ f ∷ es) = e ∷ joined_entries p (f ∷ es)
 
 -- each can take in those behind it
 abbrev pub Chained : Entries → Type 0
 Chained [] = Unit {0}
-Chained (e ∷ es) = CanMerge e.1 (merged es) × Chained es
+Chained (e ∷ es) = CanMerge e.1 (merged_part es) × Chained es
 
 -- The entries of `back` have their own parts, whose merge is p. Those of `front`, before them, have the merge from theirs on to the end of `front`.
 pub record Sound (front back : Entries) (p : Part) : Type 0 where
-  pub merge_is : p ≡ merged back
+  pub merge_is : p ≡ merged_part back
   pub chained : Chained back
   pub joins : CanFollow p front
 
@@ -98,5 +98,5 @@ IsSound false front back p = Sound front back p
 IsSound true front back p = (front ≡ []) × Chained back
 
 -- both as they are seen
-abbrev pub seen : Entries → Entries → Part → Entries
-seen front back p = followed p front ++ suffixes back
+abbrev pub queue_entries : Entries → Entries → Part → Entries
+queue_entries front back p = followed_entries p front ++ suffixes back

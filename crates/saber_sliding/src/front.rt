@@ -1,6 +1,6 @@
 // Parts that are to be summed up at once.
 ghost use Rattle.std.specs.Prelude.{◌≡◌, ◌+◌, ◌≤◌, [], length, OnOk, IfOk};
-ghost use Rattle.saber_sliding.specs.Entries.{pushed, CanFollow, Entries};
+ghost use Rattle.saber_sliding.specs.Entries.{pushed_entries, CanFollow, Entries};
 
 use crate::queue::Sliding;
 use saber_laws::{merge_has_unit, merge_is_associative};
@@ -43,7 +43,7 @@ impl Front {
     /// A part of rows behind all others.
     pub fn push(&mut self, number: u64, part: Partial) -> Result<(), NoMemory>
         requires { CanFollow part self.old }
-        ensures { OnOk result (self.new ≡ pushed self.old number part) }
+        ensures { OnOk result (self.new ≡ pushed_entries self.old number part) }
     {
         merge_has_unit();
         merge_is_associative();

@@ -5,7 +5,7 @@ ghost use Rattle.saber_plan.specs.Checked.{IsChecked};
 ghost use Rattle.saber_plan.specs.Parts.{merge, no_part, part_answers, part_lines};
 ghost use Rattle.saber_plan.specs.Trees.{tree_of};
 ghost use Rattle.saber_partial.specs.Tallies.{CanMerge};
-ghost use Rattle.saber_sliding.specs.Entries.{dropped, first_number, pushed, seen, suffixes, whole, CanFollow, Chained, IsSound, Sound};
+ghost use Rattle.saber_sliding.specs.Entries.{dropped_entries, first_number, pushed_entries, queue_entries, suffixes, whole, CanFollow, Chained, IsSound, Sound};
 
 use saber_changes::Answers;
 use saber_laws::{merge_has_unit, merge_is_associative};
@@ -38,13 +38,13 @@ pub struct Sliding {
 
 impl Model for Sliding {
     ghost use Rattle.std.specs.Prelude.{◌+◌, length};
-    ghost use Rattle.saber_sliding.specs.Entries.{coded_queue, seen, Queue, IsSound};
+    ghost use Rattle.saber_sliding.specs.Entries.{coded_queue, queue_entries, Queue, IsSound};
 
     ghost Value = { Queue };
 
     ghost coded = { coded_queue };
 
-    ghost view = { λ s. record { entries = seen s.front.items s.back.items s.back_part.part; owed = length s.back.items + s.back_part.pieces } };
+    ghost view = { λ s. record { entries = queue_entries s.front.items s.back.items s.back_part.part; owed = length s.back.items + s.back_part.pieces } };
 
     ghost invariant = { λ s. IsSound s.late s.front.items s.back.items s.back_part.part };
 }
@@ -133,7 +133,7 @@ fn settle<L: Ledger>(
     requires { IsSound late.old front.old.items back.old.items back_part.old.part }
     ensures sound { OnOk result (Sound front.new.items back.new.items back_part.new.part) }
     ensures late { OnOk result (late.new ≡ false) }
-    ensures entries { OnOk result (seen front.new.items back.new.items back_part.new.part ≡ seen front.old.items back.old.items back_part.old.part) }
+    ensures entries { OnOk result (queue_entries front.new.items back.new.items back_part.new.part ≡ queue_entries front.old.items back.old.items back_part.old.part) }
     ensures steps { OnOk result (steps.new + (length back.new.items + back_part.new.pieces) ≤ steps.old + (length back.old.items + back_part.old.pieces)) }
 {
     merge_has_unit();
@@ -158,7 +158,7 @@ fn drop_one(front: &mut VecDeque<(u64, Partial)>, spare: &mut Option<Partial>)
 // Without the entries at the front that window i doesn't have. The memory of the last of them
 // stays.
 fn drop_front(front: &mut VecDeque<(u64, Partial)>, spare: &mut Option<Partial>, i: u64)
-    ensures { front.new.items ≡ dropped i front.old.items }
+    ensures { front.new.items ≡ dropped_entries i front.old.items }
 {
     loop {
         match front.front() {
@@ -175,7 +175,7 @@ fn drop_front(front: &mut VecDeque<(u64, Partial)>, spare: &mut Option<Partial>,
 
 // How many entries, from the first on, window i doesn't have.
 fn count_gone(back: &[(u64, Partial)], i: u64) -> usize
-    ensures gone { drop result back.now ≡ dropped i back.now }
+    ensures gone { drop result back.now ≡ dropped_entries i back.now }
     ensures within { result ≤ length back.now }
 {
     for gone in 0..back.len() {
@@ -232,10 +232,10 @@ fn put_settled<L: Ledger>(
     steps: &mut Steps<L>,
 ) -> Result<(), NoMemory>
     requires sound { IsSound late.old front.old.items back.old.items back_part.old.part }
-    requires room { CanFollow part (seen front.old.items back.old.items back_part.old.part) }
+    requires room { CanFollow part (queue_entries front.old.items back.old.items back_part.old.part) }
     ensures sound { OnOk result (Sound front.new.items back.new.items back_part.new.part) }
     ensures late { OnOk result (late.new ≡ false) }
-    ensures entries { OnOk result (seen front.new.items back.new.items back_part.new.part ≡ pushed (seen front.old.items back.old.items back_part.old.part) number part) }
+    ensures entries { OnOk result (queue_entries front.new.items back.new.items back_part.new.part ≡ pushed_entries (queue_entries front.old.items back.old.items back_part.old.part) number part) }
     ensures steps { OnOk result (steps.new + (length back.new.items + back_part.new.pieces) ≤ steps.old + (length back.old.items + back_part.old.pieces) + 2) }
 {
     merge_has_unit();
@@ -260,11 +260,11 @@ fn lines_settled<L: Ledger>(
     requires checked { IsChecked (tree_of plan.now) }
     requires group { (tree_of plan.now).shape ≡ Group }
     requires sound { IsSound late.old front.old.items back.old.items back_part.old.part }
-    ensures ok { OnOk result (out.new.items ≡ out.old.items ++ part_lines (tree_of plan.now) window (whole (seen front.old.items back.old.items back_part.old.part))) }
+    ensures ok { OnOk result (out.new.items ≡ out.old.items ++ part_lines (tree_of plan.now) window (whole (queue_entries front.old.items back.old.items back_part.old.part))) }
     ensures err { OnErr result (out.new.items ≡ out.old.items) }
     ensures sound { OnOk result (Sound front.new.items back.new.items back_part.new.part) }
     ensures late { OnOk result (late.new ≡ false) }
-    ensures entries { OnOk result (seen front.new.items back.new.items back_part.new.part ≡ seen front.old.items back.old.items back_part.old.part) }
+    ensures entries { OnOk result (queue_entries front.new.items back.new.items back_part.new.part ≡ queue_entries front.old.items back.old.items back_part.old.part) }
     ensures steps { OnOk result (steps.new + (length back.new.items + back_part.new.pieces) ≤ steps.old + (length back.old.items + back_part.old.pieces) + 1) }
 {
     merge_has_unit();
@@ -288,10 +288,10 @@ fn answers_settled<L: Ledger>(
     requires checked { IsChecked (tree_of plan.now) }
     requires group { (tree_of plan.now).shape ≡ Group }
     requires sound { IsSound late.old front.old.items back.old.items back_part.old.part }
-    ensures ok { IfOk result (λ a. a ≡ part_answers (tree_of plan.now) (whole (seen front.old.items back.old.items back_part.old.part))) }
+    ensures ok { IfOk result (λ a. a ≡ part_answers (tree_of plan.now) (whole (queue_entries front.old.items back.old.items back_part.old.part))) }
     ensures sound { OnOk result (Sound front.new.items back.new.items back_part.new.part) }
     ensures late { OnOk result (late.new ≡ false) }
-    ensures entries { OnOk result (seen front.new.items back.new.items back_part.new.part ≡ seen front.old.items back.old.items back_part.old.part) }
+    ensures entries { OnOk result (queue_entries front.new.items back.new.items back_part.new.part ≡ queue_entries front.old.items back.old.items back_part.old.part) }
     ensures steps { OnOk result (steps.new + (length back.new.items + back_part.new.pieces) ≤ steps.old + (length back.old.items + back_part.old.pieces) + 1) }
 {
     merge_has_unit();
@@ -366,7 +366,7 @@ impl Sliding {
         steps: &mut Steps<L>,
     ) -> Result<(), NoMemory>
         requires { CanFollow part self.old.entries }
-        ensures entries { OnOk result (self.new.entries ≡ pushed self.old.entries number part) }
+        ensures entries { OnOk result (self.new.entries ≡ pushed_entries self.old.entries number part) }
         ensures steps { OnOk result (steps.new + self.new.owed ≤ steps.old + self.old.owed + 2) }
     {
         merge_has_unit();
@@ -392,7 +392,7 @@ impl Sliding {
     // The same as `drop_to` where the first entry goes.
     #[inline(never)]
     fn drop_some(&mut self, i: u64)
-        ensures entries { self.new.entries ≡ dropped i self.old.entries }
+        ensures entries { self.new.entries ≡ dropped_entries i self.old.entries }
         ensures owed { self.new.owed ≤ self.old.owed }
     {
         drop_front(&mut self.front, &mut self.spare, i);
@@ -411,7 +411,7 @@ impl Sliding {
     /// Drops the entries at the front that window i doesn't have. Takes no memory and no step.
     #[inline]
     pub fn drop_to(&mut self, i: u64)
-        ensures entries { self.new.entries ≡ dropped i self.old.entries }
+        ensures entries { self.new.entries ≡ dropped_entries i self.old.entries }
         ensures owed { self.new.owed ≤ self.old.owed }
     {
         match self.first_number() {

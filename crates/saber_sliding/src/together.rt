@@ -3,7 +3,7 @@
 ghost use Rattle.std.specs.Prelude.{◌≡◌, ◌+◌, ◌≤◌, length, true, false, Some, OnOk};
 ghost use Rattle.saber_plan.specs.Parts.{merge};
 ghost use Rattle.saber_partial.specs.Tallies.{CanMerge};
-ghost use Rattle.saber_sliding.specs.Entries.{joined, last_number, pushed, suffixes, CanFollow, Put};
+ghost use Rattle.saber_sliding.specs.Entries.{joined_entries, last_number, pushed_entries, suffixes, CanFollow, Put};
 
 use crate::queue::Sliding;
 use saber_laws::{merge_has_unit, merge_is_associative};
@@ -29,7 +29,7 @@ fn join_last<L: Ledger>(
     steps: &mut Steps<L>,
 ) -> Result<(), NoMemory>
     requires { CanFollow part.now (suffixes back.old.items) }
-    ensures back { OnOk result (back.new.items ≡ joined part.now back.old.items) }
+    ensures back { OnOk result (back.new.items ≡ joined_entries part.now back.old.items) }
     ensures same { length back.new.items ≡ length back.old.items }
     ensures steps { steps.new ≤ steps.old + 1 }
 {
@@ -52,7 +52,7 @@ fn join_behind<L: Ledger>(
 ) -> Result<(), NoMemory>
     requires room { CanFollow part.now (suffixes back.old.items) }
     requires can { late ≡ false → CanMerge back_part.old.part part.now }
-    ensures back { OnOk result (back.new.items ≡ joined part.now back.old.items) }
+    ensures back { OnOk result (back.new.items ≡ joined_entries part.now back.old.items) }
     ensures part { OnOk result (late ≡ false → back_part.new.part ≡ merge back_part.old.part part.now) }
     ensures steps { OnOk result (steps.new + (length back.new.items + back_part.new.pieces) ≤ steps.old + (length back.old.items + back_part.old.pieces) + 2) }
 {
@@ -73,7 +73,7 @@ impl Sliding {
         steps: &mut Steps<L>,
     ) -> Result<(), NoMemory>
         requires { CanFollow part.now self.old.entries }
-        ensures entries { OnOk result (self.new.entries ≡ pushed self.old.entries number part.now) }
+        ensures entries { OnOk result (self.new.entries ≡ pushed_entries self.old.entries number part.now) }
         ensures steps { OnOk result (steps.new + self.new.owed ≤ steps.old + self.old.owed + 2) }
     {
         let own = Partial::of_row_in(alloc, &mut self.spare, part)?;

@@ -3,8 +3,8 @@ use Rattle.std.proofs.Common.{◌≡◌, ◌<◌, ℕ, List, [], ◌∷◌, ◌+
 use Rattle.std.proofs.lemmas.Bool.Decides.{nat_tests}
 use Rattle.std.specs.Prelude.{option_and_then}
 use Rattle.std.specs.List.{AllByRecursion, AllZip}
-use Rattle.saber_io.specs.Outside.{FilesView, Closed, Opens, asking, given, raised}
-use Rattle.saber_plan.specs.Outputs.{Rose, counted}
+use Rattle.saber_io.specs.Outside.{FilesView, Closed, Opens, after_asking, left_before, raised_faults}
+use Rattle.saber_plan.specs.Outputs.{Rose, raised_count}
 use Rattle.saber_plan.specs.declared.plans.Plan.{Plan}
 use Rattle.saber_plan.specs.declared.rows.Side.{Side}
 use Rattle.saber_plan.specs.declared.rows.Side.TheVariants as sides
@@ -30,7 +30,7 @@ use Rattle.saber_cli.specs.Outcomes.{IsClean, IsFileFault}
 use Rattle.saber_cli.specs.Due.{contents_of}
 use Rattle.saber_cli.specs.Endings.{ended_as, file_on}
 use Rattle.saber_cli.specs.Leaves.{AreOf}
-use Rattle.saber_cli.specs.RowFiles.{IsNotOpened, raised_by, source_back, using}
+use Rattle.saber_cli.specs.RowFiles.{IsNotOpened, raised_by, source_back, after_use}
 use Rattle.saber_cli.specs.Taken.{TakesOf}
 use Rattle.saber_top.specs.declared.parts.Part.{Part}
 use Rattle.saber_top.specs.Ends.{IsCreateEnd, IsFileEnd, IsReadWell}
@@ -73,21 +73,21 @@ faulty_by ring ends.NoMemory k = absurd k
 -- ---- the file
 
 -- it was asked for, and its source given back
-pub used_one : (a b c : Option FilesView) (name : List ℕ) (back : Closed) → b ≡ asking a name → c ≡ using b [] (back ∷ []) → c ≡ using a (name ∷ []) (back ∷ [])
-used_one None b c name back e f = f ∙ ap (λ x. using x [] (back ∷ [])) e
-used_one (Some t) b c name back e f = f ∙ ap (λ x. using x [] (back ∷ [])) e ∙ (λ i. Some (record { contents = t.contents; asked = append-nil (t.asked ++ name ∷ []) i; closed = t.closed ++ back ∷ [] }))
+pub used_one : (a b c : Option FilesView) (name : List ℕ) (back : Closed) → b ≡ after_asking a name → c ≡ after_use b [] (back ∷ []) → c ≡ after_use a (name ∷ []) (back ∷ [])
+used_one None b c name back e f = f ∙ ap (λ x. after_use x [] (back ∷ [])) e
+used_one (Some t) b c name back e f = f ∙ ap (λ x. after_use x [] (back ∷ [])) e ∙ (λ i. Some (record { contents = t.contents; asked = append-nil (t.asked ++ name ∷ []) i; closed = t.closed ++ back ∷ [] }))
 
 -- a source that was opened and read is of its file
-is_of : (told : Option FilesView) (name : List ℕ) (had has : Option (List ℕ)) (faults : ℕ) (taken : List ℕ) → Opens told name had → had ≡ given taken has → IfSome told (λ t. AreOf 0 t.contents ((has, faults) ∷ []) (name ∷ []))
+is_of : (told : Option FilesView) (name : List ℕ) (had has : Option (List ℕ)) (faults : ℕ) (taken : List ℕ) → Opens told name had → had ≡ left_before taken has → IfSome told (λ t. AreOf 0 t.contents ((has, faults) ∷ []) (name ∷ []))
 is_of None name had has faults taken o e = tt
 is_of (Some t) name had None faults taken o e = let clash : Some o.0 ≡ None = sym o.2 ∙ e in cc
 is_of (Some t) name had (Some rest) faults taken o e = (record { taken = taken; rest = rest; there = o.1 ∙ sym o.2 ∙ e; left = refl }, tt)
 
 -- the files' own count
-raised_some : (c f : ℕ) → 0 < f → Rose c (raised c f)
-raised_some c f h = let up : raised c f ≡ counted c = grind (arith, nat_tests) in subst (Rose c) (sym up) (omega arith)
+raised_some : (c f : ℕ) → 0 < f → Rose c (raised_faults c f)
+raised_some c f h = let up : raised_faults c f ≡ raised_count c = grind (arith, nat_tests) in subst (Rose c) (sym up) (omega arith)
 
-pub raised_none : (c f : ℕ) → f ≡ 0 → raised c f ≡ c
+pub raised_none : (c f : ℕ) → f ≡ 0 → raised_faults c f ≡ c
 raised_none c f h = grind (arith, nat_tests, h)
 
 -- ---- of one part
@@ -125,7 +125,7 @@ module _ {S T : Type 0} (left : S → Option (List ℕ)) (faults : S → ℕ) (w
   fits_all (plan ∷ plans) [] r z = absurd r
   fits_all (plan ∷ plans) (part ∷ parts) r z = (fits_one (tree_of plan) part r.0 z, fits_all plans parts r.1 z)
 
-  reads_one : (q : Tree) (part : Part T) (c : ℕ) → Runs q part → faults src ≡ 0 → IsFileFault part.outcome → Rose c (raised c (faults now))
+  reads_one : (q : Tree) (part : Part T) (c : ℕ) → Runs q part → faults src ≡ 0 → IsFileFault part.outcome → Rose c (raised_faults c (faults now))
   reads_one q part c r z k =
       let f = faulty_by sizes.ring r.end (subst IsFileFault r.tells.outcome_is k) in
       raised_some c (faults now) (rose_now r.end z r.read f.0 f.1)
@@ -147,7 +147,7 @@ module _ {S T : Type 0} (left : S → Option (List ℕ)) (faults : S → ℕ) (w
   -- ---- the file of this name, before, open, and after
 
   module _ (name : List ℕ) (a b c : Option FilesView) where
-    pub left_used : (ends_of : List Outcome) → Opens a name (left src) → b ≡ asking a name → c ≡ using b [] (back ∷ []) → (taken : List (List ℕ)) × GaveAll (each_input left (One src)) taken (each_input left (One now)) → AllByRecursion (LeftFits back) ends_of
+    pub left_used : (ends_of : List Outcome) → Opens a name (left src) → b ≡ after_asking a name → c ≡ after_use b [] (back ∷ []) → (taken : List (List ℕ)) × GaveAll (each_input left (One src)) taken (each_input left (One now)) → AllByRecursion (LeftFits back) ends_of
         → UsesLeft name (LeftRan ends_of) a c
     left_used ends_of o asked closed g fits = record {
       count = 1;
@@ -162,7 +162,7 @@ module _ {S T : Type 0} (left : S → Option (List ℕ)) (faults : S → ℕ) (w
         first_taken [] g = absurd g
         first_taken (t ∷ ts) g = t
 
-        gave_first : (taken : List (List ℕ)) (g : GaveAll (each_input left (One src)) taken (each_input left (One now))) → left src ≡ given (first_taken taken g) (left now)
+        gave_first : (taken : List (List ℕ)) (g : GaveAll (each_input left (One src)) taken (each_input left (One now))) → left src ≡ left_before (first_taken taken g) (left now)
         gave_first [] g = absurd g
         gave_first (t ∷ ts) g = g.0
 
@@ -178,7 +178,7 @@ module _ {S T : Type 0} (left : S → Option (List ℕ)) (faults : S → ℕ) (w
     takes_file q tasks None o w = tt
     takes_file q tasks (Some t) o w = subst (λ x. ReadsWhole q sizes.task (limits_of sizes) tasks (x ∷ []) (left now ∷ [])) (o.2 ∙ sym o.1) w
 
-    over_one : (q : Tree) (part : Part T) → Opens a name (left src) → b ≡ asking a name → c ≡ using b [] (back ∷ []) → Runs q part → RunsOver written failed q sizes name a c part
+    over_one : (q : Tree) (part : Part T) → Opens a name (left src) → b ≡ after_asking a name → c ≡ after_use b [] (back ∷ []) → Runs q part → RunsOver written failed q sizes name a c part
     over_one q part o asked closed r = record {
       end = r.end;
       out = r.out;
@@ -192,7 +192,7 @@ module _ {S T : Type 0} (left : S → Option (List ℕ)) (faults : S → ℕ) (w
       };
     }
 
-    pub over_all : (plans : List Plan) (parts : List (Part T)) → Opens a name (left src) → b ≡ asking a name → c ≡ using b [] (back ∷ []) → AllZip (λ plan part. Runs (tree_of plan) part) plans parts
+    pub over_all : (plans : List Plan) (parts : List (Part T)) → Opens a name (left src) → b ≡ after_asking a name → c ≡ after_use b [] (back ∷ []) → AllZip (λ plan part. Runs (tree_of plan) part) plans parts
         → AllZip (λ plan part. RunsOver written failed (tree_of plan) sizes name a c part) plans parts
     over_all [] [] o asked closed r = tt
     over_all [] (part ∷ parts) o asked closed r = absurd r
@@ -227,7 +227,7 @@ untouched_fits LeftUnopened source k z = absurd k
 untouched_fits (CreateFault number) source k z = record { asked_for = refl; all = refl; good = (z, tt) }
 untouched_fits early.NoMemory source k z = refl
 
-pub left_untouched : (e : Early) (name : List ℕ) (left : Option (List ℕ)) (faults : ℕ) (a b c : Option FilesView) → IsOfCreate e → Opens a name left → faults ≡ 0 → b ≡ asking a name → c ≡ using b [] ((left, faults) ∷ []) → UsesLeft name (LeftAlone e) a c
+pub left_untouched : (e : Early) (name : List ℕ) (left : Option (List ℕ)) (faults : ℕ) (a b c : Option FilesView) → IsOfCreate e → Opens a name left → faults ≡ 0 → b ≡ after_asking a name → c ≡ after_use b [] ((left, faults) ∷ []) → UsesLeft name (LeftAlone e) a c
 left_untouched e name left faults a b c k o z asked closed = record {
   count = 1;
   few = omega arith;

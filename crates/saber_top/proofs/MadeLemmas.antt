@@ -2,7 +2,7 @@
 use Rattle.std.proofs.Common.{◌≡◌, ◌≤◌, inl, inr, ℕ, suc, ◌+◌, List, [], ◌∷◌, length, take, Option, Some, None, refl, sym, ◌∙◌, ap, subst, arith, append-nil, append_assoc}
 use Rattle.std.proofs.lemmas.List.{take_all}
 use Rattle.std.specs.Prelude.{Result, Ok, Err}
-use Rattle.saber_io.specs.Outs.{naming}
+use Rattle.saber_io.specs.Outs.{after_naming}
 use Rattle.saber_io.specs.declared.outs.CreateFault.{CreateFault as Refusal}
 use Rattle.saber_io.specs.declared.outs.CreateFault.TheVariants as fault
 use Rattle.saber_notes.specs.declared.early.Early.{Early}
@@ -18,7 +18,7 @@ not_both (Err fault.Failed) e f = cc
 not_both (Err fault.NoMemory) e f = cc
 
 -- one name and then others
-one_more : (old : Option (List (List ℕ))) (name : List ℕ) (names : List (List ℕ)) → naming_all (naming old name) names ≡ naming_all old (name ∷ names)
+one_more : (old : Option (List (List ℕ))) (name : List ℕ) (names : List (List ℕ)) → naming_all (after_naming old name) names ≡ naming_all old (name ∷ names)
 one_more None name names = refl
 one_more (Some asked) name names = ap Some (append_assoc asked (name ∷ []) names)
 
@@ -26,12 +26,12 @@ pub no_more : (old : Option (List (List ℕ))) → old ≡ naming_all old []
 no_more None = refl
 no_more (Some asked) = ap Some (sym (append-nil asked))
 
-just_one : (old : Option (List (List ℕ))) (name : List ℕ) → naming old name ≡ naming_all old (name ∷ [])
+just_one : (old : Option (List (List ℕ))) (name : List ℕ) → after_naming old name ≡ naming_all old (name ∷ [])
 just_one None name = refl
 just_one (Some asked) name = refl
 
 -- all, behind the first
-pub all_made : (query : List ℕ) (queries : List (List ℕ)) (old mid new : Option (List (List ℕ))) → mid ≡ naming old (out_name query) → new ≡ naming_all mid (out_names queries) → new ≡ naming_all old (out_names (query ∷ queries))
+pub all_made : (query : List ℕ) (queries : List (List ℕ)) (old mid new : Option (List (List ℕ))) → mid ≡ after_naming old (out_name query) → new ≡ naming_all mid (out_names queries) → new ≡ naming_all old (out_names (query ∷ queries))
 all_made query queries old mid new e f = f ∙ ap (λ x. naming_all x (out_names queries)) e ∙ one_more old (out_name query) (out_names queries)
 
 pub none_made : (old : Option (List (List ℕ))) → old ≡ naming_all old (out_names [])
@@ -75,7 +75,7 @@ later_matches others count LeftUnopened k h = absurd k
 later_matches others count (CreateFault number) k h = (h.0 ∙ omega arith, omega arith)
 later_matches others count NoMemory k h = tt
 
-pub later_not : (others : ℕ) (query : List ℕ) (queries : List (List ℕ)) (e : Early) (old mid new : Option (List (List ℕ))) → IsOfCreate e → mid ≡ naming old (out_name query) → MadeFirst queries (EarlyMade (others + 1) e) mid new → MadeFirst (query ∷ queries) (EarlyMade others e) old new
+pub later_not : (others : ℕ) (query : List ℕ) (queries : List (List ℕ)) (e : Early) (old mid new : Option (List (List ℕ))) → IsOfCreate e → mid ≡ after_naming old (out_name query) → MadeFirst queries (EarlyMade (others + 1) e) mid new → MadeFirst (query ∷ queries) (EarlyMade others e) old new
 later_not others query queries e old mid new k m h = record {
   count = suc h.count;
   few = omega (arith, h.few);

@@ -26,7 +26,7 @@ use Rattle.saber_cli.specs.Due.{Contents, HasRun, contents_of}
 use Rattle.saber_cli.specs.Endings.{ended_as}
 use Rattle.saber_cli.specs.Gives.{Gives}
 use Rattle.saber_cli.specs.Leaves.{AreOf, HadNoFaults}
-use Rattle.saber_cli.specs.RowFiles.{using}
+use Rattle.saber_cli.specs.RowFiles.{after_use}
 use Rattle.saber_cli.specs.Taken.{TakesOf}
 use Rattle.saber_top.specs.declared.ended.TopEnd.TheVariants.{Before, Each}
 use Rattle.saber_top.specs.declared.parts.Part.{Part}
@@ -93,7 +93,7 @@ left_leaves m mine whole plans old mid new f p share all u = told_leaves m whole
     let planned : ArePlanned t.contents m.queries plans = told_at (λ v. ArePlanned v.contents m.queries plans) old t k p in
     let used = used_twice old mid new m.queries (take u.count (m.left ∷ [])) all.given_back u.given_back all.told u.told in (
       _,
-      used ∙ ap (λ o. using o (m.queries ++ take u.count (m.left ∷ [])) (all.given_back ++ u.given_back)) k,
+      used ∙ ap (λ o. after_use o (m.queries ++ take u.count (m.left ∷ [])) (all.given_back ++ u.given_back)) k,
       record {
         contents = refl;
         count = length m.queries + u.count;
@@ -164,7 +164,7 @@ shared_no_usage names e old new u k = subst (λ x. SharedFits names x u.count u.
 pub shared_leaves : (m : AskedMany) (e : Early) (old new : Option FilesView) → UsesFirst m.queries (SharedFits m.queries e) old new → LeavesManyTold m (EarlyFits (length m.queries) e) old new
 shared_leaves m e old new u = told_leaves m (EarlyFits (length m.queries) e) old new (λ t k. (
   _,
-  u.told ∙ ap (λ o. using o (take u.count m.queries) u.given_back) k,
+  u.told ∙ ap (λ o. after_use o (take u.count m.queries) u.given_back) k,
   record {
     contents = refl;
     count = u.count;
@@ -244,7 +244,7 @@ module _ {T : Type 0} (written : T → Option (List ℕ)) (failed : T → ℕ) (
       some_told None e = tt
       some_told (Some t) e =
           let u : FilesView = record { contents = t.contents; asked = t.asked ++ m.queries; closed = t.closed ++ all.given_back } in
-          let mid_is : mid ≡ Some u = all.told ∙ ap (λ x. using x m.queries all.given_back) e in
+          let mid_is : mid ≡ Some u = all.told ∙ ap (λ x. after_use x m.queries all.given_back) e in
           let there : IsThere t.contents m.left = told_at (λ v. IsThere v.contents m.left) mid u mid_is left in
           answers_each tell t u m.queries plans parts (first_columns (map tree_of plans)) there.0 mid_is refl (told_at (λ v. ArePlanned v.contents m.queries (map tree_of plans)) old t e p) share (ap (option_and_then (λ bytes. Some (bytes ∷ []))) there.1) r
 
@@ -256,7 +256,7 @@ module _ {T : Type 0} (written : T → Option (List ℕ)) (failed : T → ℕ) (
       some_told (Some t) e =
           let one = r.taken sides.Left (read_by m.ring r.end sides.Left (sym r.tells.outcome_is ∙ k)) in (
             _,
-            used_twice old mid new m.queries (m.left ∷ []) all.given_back (one.source ∷ []) all.told one.told ∙ ap (λ x. using x (m.queries ++ m.left ∷ []) (all.given_back ++ one.source ∷ [])) e,
+            used_twice old mid new m.queries (m.left ∷ []) all.given_back (one.source ∷ []) all.told one.told ∙ ap (λ x. after_use x (m.queries ++ m.left ∷ []) (all.given_back ++ one.source ∷ [])) e,
             record {
               plan = q;
               has_run = has_run t.contents m query q (subst (λ x. IfSome x (λ v. IsPlanned v.contents query q)) e p);

@@ -1,7 +1,7 @@
 -- From the runs of several plans over one input to the parts that tell them.
 use Rattle.std.proofs.Common.{◌≡◌, ◌≢◌, ℕ, suc, List, [], ◌∷◌, ◌++◌, length, map, Option, Some, None, IfSome, refl, sym, ◌∙◌, ap, subst, arith}
 use Rattle.std.specs.List.{AllByRecursion, AllZip}
-use Rattle.saber_plan.specs.Outputs.{Rose, appended}
+use Rattle.saber_plan.specs.Outputs.{Rose, appended_text}
 use Rattle.saber_io.specs.Outs.{HoldsNothing}
 use Rattle.saber_io.specs.declared.pours.Plain.{Plain}
 use Rattle.saber_plan.specs.declared.plans.Plan.{Plan}
@@ -65,7 +65,7 @@ module _ {T : Type 0} (written : T → Option (List ℕ)) (failed : T → ℕ) w
 -- ---- parts
 
 -- what went out, into a file that had nothing
-holds_so : (had has : Option (List ℕ)) (out : List ℕ) → HoldsNothing had → has ≡ appended had out → Holds has out
+holds_so : (had has : Option (List ℕ)) (out : List ℕ) → HoldsNothing had → has ≡ appended_text had out → Holds has out
 holds_so None has out h e = subst (λ x. Holds x out) (sym e) tt
 holds_so (Some bytes) has out h e = subst (λ x. Holds x out) (sym e) (ap (λ x. x ++ out) h)
 

@@ -2,7 +2,7 @@
 use Rattle.std.proofs.Common.{◌≡◌, ℕ, zero, suc, ◌+◌, List, [], ◌∷◌, ◌++◌, length, take, Option, Some, None, IfSome, refl, sym, ◌∙◌, ap, subst, arith, append-nil, append_assoc}
 use Rattle.std.proofs.lemmas.List.{take_all}
 use Rattle.std.specs.Prelude.{Result, Ok, Err, IfOk, IfErr, OnOk}
-use Rattle.saber_io.specs.Outside.{FilesView, Closed, asking, closing}
+use Rattle.saber_io.specs.Outside.{FilesView, Closed, after_asking, after_closing}
 use Rattle.saber_plan.specs.declared.windows.Stream.{Stream}
 use Rattle.saber_plan.specs.declared.rows.Side.TheVariants as sides
 use Rattle.saber_plan.specs.Checked.{columns_on}
@@ -17,7 +17,7 @@ use Rattle.saber_cli.specs.Outcomes.{IsOfPlan}
 use Rattle.saber_cli.specs.Due.{Contents}
 use Rattle.saber_cli.specs.Uses.{Uses, unasked, unopened, used, IsOfQueryFile}
 use Rattle.saber_cli.specs.Leaves.{AreOf}
-use Rattle.saber_cli.specs.RowFiles.{using}
+use Rattle.saber_cli.specs.RowFiles.{after_use}
 use Rattle.saber_cli.specs.Chained.{IsPlanned}
 use Rattle.saber_cli.specs.Chaining.{LacksPlan}
 use Rattle.saber_top.specs.Queries.{ArePlanned, HasStream, IsReached, IsFirstUnlike, LackPlans, LackShared, as_early}
@@ -54,16 +54,16 @@ no_items [] e = refl
 no_items (x ∷ xs) e = absurd (omega (arith, e))
 
 -- used files have the contents that they had
-pub kept : (P : Contents → Type 0) (names : List (List ℕ)) (back : List Closed) (old new : Option FilesView) → new ≡ using old names back → IfSome new (λ u. P u.contents) → IfSome old (λ t. P t.contents)
+pub kept : (P : Contents → Type 0) (names : List (List ℕ)) (back : List Closed) (old new : Option FilesView) → new ≡ after_use old names back → IfSome new (λ u. P u.contents) → IfSome old (λ t. P t.contents)
 kept P names back None new e h = tt
 kept P names back (Some t) new e h = subst (λ o. IfSome o (λ u. P u.contents)) e h
 
 -- they were used once and once more
-pub used_twice : (old mid new : Option FilesView) (names others : List (List ℕ)) (back more : List Closed) → mid ≡ using old names back → new ≡ using mid others more → new ≡ using old (names ++ others) (back ++ more)
-used_twice None mid new names others back more e f = f ∙ ap (λ o. using o others more) e
-used_twice (Some t) mid new names others back more e f = f ∙ ap (λ o. using o others more) e ∙ (λ i. Some (record { contents = t.contents; asked = append_assoc t.asked names others i; closed = append_assoc t.closed back more i }))
+pub used_twice : (old mid new : Option FilesView) (names others : List (List ℕ)) (back more : List Closed) → mid ≡ after_use old names back → new ≡ after_use mid others more → new ≡ after_use old (names ++ others) (back ++ more)
+used_twice None mid new names others back more e f = f ∙ ap (λ o. after_use o others more) e
+used_twice (Some t) mid new names others back more e f = f ∙ ap (λ o. after_use o others more) e ∙ (λ i. Some (record { contents = t.contents; asked = append_assoc t.asked names others i; closed = append_assoc t.closed back more i }))
 
-pub unused : (old : Option FilesView) → old ≡ using old [] []
+pub unused : (old : Option FilesView) → old ≡ after_use old [] []
 unused None = refl
 unused (Some t) = λ i. Some (record { contents = t.contents; asked = sym (append-nil t.asked) i; closed = sym (append-nil t.closed) i })
 
@@ -73,14 +73,14 @@ unused (Some t) = λ i. Some (record { contents = t.contents; asked = sym (appen
 pub record ReadsOne (name : List ℕ) (old new : Option FilesView) : Type 0 where
   pub source : Closed
   pub good : source.1 ≡ 0
-  pub told : new ≡ using old (name ∷ []) (source ∷ [])
+  pub told : new ≡ after_use old (name ∷ []) (source ∷ [])
   pub is_of : IfSome old (λ t. IsOfQueryFile t.contents name source)
 
-one_back : (old : Option FilesView) (name : List ℕ) (left : Option (List ℕ)) (faults : ℕ) → closing (asking old name) left faults ≡ using old (name ∷ []) ((left, faults) ∷ [])
+one_back : (old : Option FilesView) (name : List ℕ) (left : Option (List ℕ)) (faults : ℕ) → after_closing (after_asking old name) left faults ≡ after_use old (name ∷ []) ((left, faults) ∷ [])
 one_back None name left faults = refl
 one_back (Some t) name left faults = refl
 
-pub one_lost : (old : Option FilesView) (name : List ℕ) → asking old name ≡ using old (name ∷ []) []
+pub one_lost : (old : Option FilesView) (name : List ℕ) → after_asking old name ≡ after_use old (name ∷ []) []
 one_lost None name = refl
 one_lost (Some t) name = λ i. Some (record { contents = t.contents; asked = t.asked ++ name ∷ []; closed = sym (append-nil t.closed) i })
 
@@ -142,7 +142,7 @@ before_one : (files : Contents) (names : List (List ℕ)) → PlannedBefore file
 before_one files names zero h = ([], tt)
 before_one files names (suc n) h = absurd (omega (arith, h))
 
-lost_one : (others number : ℕ) (name : List ℕ) (names : List (List ℕ)) (old new : Option FilesView) → others + 1 ≡ number → new ≡ asking old name → UsesFirst (name ∷ names) (LackFits others (QueryUnopened number)) old new
+lost_one : (others number : ℕ) (name : List ℕ) (names : List (List ℕ)) (old new : Option FilesView) → others + 1 ≡ number → new ≡ after_asking old name → UsesFirst (name ∷ names) (LackFits others (QueryUnopened number)) old new
 lost_one others number name names old new e s = record {
   count = 1;
   few = omega arith;
@@ -153,7 +153,7 @@ lost_one others number name names old new e s = record {
   matches = (e, refl, tt);
 }
 
-back_one : (others : ℕ) (e : Early) (name : List ℕ) (names : List (List ℕ)) (left : Option (List ℕ)) (faults : ℕ) (old new : Option FilesView) → IfSome old (λ t. IsOfQueryFile t.contents name (left, faults)) → new ≡ closing (asking old name) left faults
+back_one : (others : ℕ) (e : Early) (name : List ℕ) (names : List (List ℕ)) (left : Option (List ℕ)) (faults : ℕ) (old new : Option FilesView) → IfSome old (λ t. IsOfQueryFile t.contents name (left, faults)) → new ≡ after_closing (after_asking old name) left faults
     → LackFits others e 1 ((left, faults) ∷ []) → UsesFirst (name ∷ names) (LackFits others e) old new
 back_one others e name names left faults old new i s m = record {
   count = 1;
@@ -257,7 +257,7 @@ lacking others names plans old new p all = record {
   count = length names;
   few = omega arith;
   given_back = all.given_back;
-  told = all.told ∙ ap (λ x. using old x all.given_back) (sym (take_all (length names) names (omega arith)));
+  told = all.told ∙ ap (λ x. after_use old x all.given_back) (sym (take_all (length names) names (omega arith)));
   are_of = all.are_of;
   behind = some_map (λ (t : FilesView). ArePlanned t.contents names plans) (λ t. PlannedBefore t.contents (length names) names) old (λ t h n l. planned_front t.contents n names plans h) p;
   matches = all.as_many;
@@ -322,7 +322,7 @@ unlike_used names plans number old new p all = record {
   count = length names;
   few = omega arith;
   given_back = all.given_back;
-  told = all.told ∙ ap (λ x. using old x all.given_back) (sym (take_all (length names) names (omega arith)));
+  told = all.told ∙ ap (λ x. after_use old x all.given_back) (sym (take_all (length names) names (omega arith)));
   are_of = all.are_of;
   behind = some_map (λ (t : FilesView). ArePlanned t.contents names plans) (λ t. PlannedBefore t.contents (length names) names) old (λ t h n l. planned_front t.contents n names plans h) p;
   matches = record { asked_for = refl; all = all.as_many; good = all.good };

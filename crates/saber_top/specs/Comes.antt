@@ -2,7 +2,7 @@
 use Rattle.std.specs.Prelude.{◌≡◌, ◌≢◌, ℕ, List, [], length, Option, IfSome}
 use Rattle.std.specs.List.{AllByRecursion, AllZip}
 use Rattle.saber_io.specs.Outside.{FilesView}
-use Rattle.saber_plan.specs.Outputs.{Rose, appended, AppendsPrefix}
+use Rattle.saber_plan.specs.Outputs.{Rose, appended_text, AppendsPrefix}
 use Rattle.saber_words.specs.Many.{AskedMany}
 use Rattle.saber_notes.specs.Notes.{status_of}
 use Rattle.saber_notes.specs.declared.note.Noted.{Noted}
@@ -59,7 +59,7 @@ module _ {N : Type 0} (written : N → Option (List ℕ)) (faults : N → ℕ) w
   pub record TellsNotes (old new : N) (status : ℕ) (noted : Noted) (text : List ℕ) : Type 0 where
     pub nothing : status ≡ 0 → (noted ≡ noted_as.Nothing) × (new ≡ old)
     pub something : status ≢ 0 → noted ≢ noted_as.Nothing
-    pub whole : noted ≡ noted_as.Whole → written new ≡ appended (written old) text
+    pub whole : noted ≡ noted_as.Whole → written new ≡ appended_text (written old) text
     pub failed : noted ≡ noted_as.Failed → AppendsPrefix (written old) (written new) text
     pub memory : noted ≡ noted_as.NoMemory → written new ≡ written old
     pub note : noted ≡ noted_as.Failed → Rose (faults old) (faults new)

@@ -1,6 +1,6 @@
 -- The files that the answers go to: which were asked for.
 use Rattle.std.specs.Prelude.{◌≡◌, ◌≤◌, ◌⊎◌, ℕ, ◌+◌, List, ◌++◌, length, take, Option, option_map}
-use Rattle.saber_io.specs.Outs.{HoldsNothing, naming}
+use Rattle.saber_io.specs.Outs.{HoldsNothing, after_naming}
 use Rattle.saber_io.specs.declared.pours.Plain.{Plain}
 use Rattle.saber_plan.specs.declared.plans.Plan.{Plan}
 use Rattle.saber_plan.specs.Trees.{tree_of}
@@ -41,7 +41,7 @@ pub record MadeFirst (queries : List (List ℕ)) (fits : ℕ → Type 0) (old ne
 
 -- one was not created, of a query of this number and name
 abbrev pub IsNotCreated : ℕ → List ℕ → Early → Option (List (List ℕ)) → Option (List (List ℕ)) → Type 0
-IsNotCreated number query e old new = ((e ≡ CreateFault number) × (new ≡ naming old (out_name query))) ⊎ ((e ≡ NoMemory) × (new ≡ old))
+IsNotCreated number query e old new = ((e ≡ CreateFault number) × (new ≡ after_naming old (out_name query))) ⊎ ((e ≡ NoMemory) × (new ≡ old))
 
 -- why not all were created
 abbrev pub IsOfCreate : Early → Type 0

@@ -12,7 +12,7 @@ use Rattle.saber_notes.specs.declared.outcome.Outcome.TheVariants.{ReadFault}
 use Rattle.saber_cli.specs.Due.{Contents}
 use Rattle.saber_cli.specs.Leaves.{AreGivenBack, AreOf, HadNoFaults}
 use Rattle.saber_cli.specs.Outcomes.{IsClean}
-use Rattle.saber_cli.specs.RowFiles.{using}
+use Rattle.saber_cli.specs.RowFiles.{after_use}
 use Rattle.saber_top.specs.Commands.{many_names}
 use Rattle.saber_top.specs.Queries.{ArePlanned, AreShared}
 
@@ -83,7 +83,7 @@ LeavesManyTold m fits old new = IfSome old (λ t. (u : FilesView) × (new ≡ So
 -- The queries' files were asked for and given back, and nothing failed.
 pub record AllRead (names : List (List ℕ)) (old new : Option FilesView) : Type 0 where
   pub given_back : List Closed
-  pub told : new ≡ using old names given_back
+  pub told : new ≡ after_use old names given_back
   pub as_many : length given_back ≡ length names
   pub good : HadNoFaults given_back
   pub are_of : IfSome old (λ t. AreOf (length names) t.contents given_back names)
@@ -106,7 +106,7 @@ pub record UsesFirst (names : List (List ℕ)) (fits : ℕ → List Closed → T
   pub count : ℕ
   pub few : count ≤ length names
   pub given_back : List Closed
-  pub told : new ≡ using old (take count names) given_back
+  pub told : new ≡ after_use old (take count names) given_back
   pub are_of : IfSome old (λ t. AreOf (length names) t.contents given_back names)
   pub behind : IfSome old (λ t. PlannedBefore t.contents count names)
   pub matches : fits count given_back
@@ -116,7 +116,7 @@ pub record UsesLeft (name : List ℕ) (fits : ℕ → List Closed → Type 0) (o
   pub count : ℕ
   pub few : count ≤ 1
   pub given_back : List Closed
-  pub told : new ≡ using old (take count (name ∷ [])) given_back
+  pub told : new ≡ after_use old (take count (name ∷ [])) given_back
   pub are_of : IfSome old (λ t. AreOf 0 t.contents given_back (name ∷ []))
   pub matches : fits count given_back
 

@@ -1,7 +1,7 @@
 -- What `saber` says of a call, all its clauses in one.
 use Rattle.std.specs.Prelude.{◌≡◌, ◌≢◌, ℕ, List, [], None, Some, Option}
 use Rattle.saber_io.specs.Outside.{FilesView}
-use Rattle.saber_plan.specs.Outputs.{Rose, appended, AppendsPrefix}
+use Rattle.saber_plan.specs.Outputs.{Rose, appended_text, AppendsPrefix}
 use Rattle.saber_words.specs.Commands.{chain, command_of}
 use Rattle.saber_words.specs.Chain.{AskedChain}
 use Rattle.saber_notes.specs.Notes.{status_of, note_of}
@@ -25,7 +25,7 @@ module _ {F K N : Type 0} (told : F → Option FilesView) (faults : F → ℕ) (
   -- Of these words, over files and notes that stood so before and stand so now, with this sink, the call ended so. Each field is the clause of its name.
   pub record SaysSaber (words : List (List ℕ)) (old new : F) (sink : K) (notes_old notes_new : N) (e : Ended K) : Type 0 where
     pub status : e.status ≡ status_of e.outcome
-    pub answers : (out : List ℕ) × (written e.sink ≡ appended (written sink) out) × AnswersTold words (told old) e.outcome e.tasks out
+    pub answers : (out : List ℕ) × (written e.sink ≡ appended_text (written sink) out) × AnswersTold words (told old) e.outcome e.tasks out
     pub before : IsBeforeRun e.outcome → (e.tasks ≡ 0) × (e.sink ≡ sink)
     pub demo : IfDemo words (λ d. TellsRun d e.outcome e.tasks (written sink) (written e.sink))
     pub chained : IfChain words (λ a. AnswersChain a e.outcome e.tasks (told old) (told new) (written sink) (written e.sink))
@@ -41,7 +41,7 @@ module _ {F K N : Type 0} (told : F → Option FilesView) (faults : F → ℕ) (
     pub taken : IfRun words (λ r. TakesTold r e.outcome e.tasks (told old) (told new))
     pub nothing : e.outcome ≡ Done → (e.noted ≡ noted_as.Nothing) × (notes_new ≡ notes_old)
     pub something : e.outcome ≢ Done → e.noted ≢ noted_as.Nothing
-    pub whole : e.noted ≡ noted_as.Whole → noted_text notes_new ≡ appended (noted_text notes_old) (note_of e.outcome)
+    pub whole : e.noted ≡ noted_as.Whole → noted_text notes_new ≡ appended_text (noted_text notes_old) (note_of e.outcome)
     pub cut : e.noted ≡ noted_as.Failed → AppendsPrefix (noted_text notes_old) (noted_text notes_new) (note_of e.outcome)
     pub memory : e.noted ≡ noted_as.NoMemory → noted_text notes_new ≡ noted_text notes_old
     pub note : e.noted ≡ noted_as.Failed → Rose (note_faults notes_old) (note_faults notes_new)

@@ -18,7 +18,7 @@ use Rattle.saber_notes.specs.Notes.{status_of}
 use Rattle.saber_notes.specs.declared.outcome.Outcome.{Outcome}
 use Rattle.saber_cli.specs.Due.{contents_of}
 use Rattle.saber_cli.specs.Endings.{ended_as}
-use Rattle.saber_cli.specs.RowFiles.{using}
+use Rattle.saber_cli.specs.RowFiles.{after_use}
 use Rattle.saber_cli.specs.Taken.{TakesOf}
 use Rattle.saber_top.specs.declared.parts.Part.{Part}
 use Rattle.saber_top.specs.declared.parts.PartList.{PartList}
@@ -70,7 +70,7 @@ module _ {S T : Type 0} (left : S → Option (List ℕ)) (faults : S → ℕ) (w
 -- the file of this name was opened and given back, and at least every whole task of the whole lines that were taken of it is assembled
 pub record TakesOne (q : Tree) (s : Sizes) (tasks : ℕ) (name : List ℕ) (old new : Option FilesView) : Type 0 where
   pub source : Closed
-  pub told : new ≡ using old (name ∷ []) (source ∷ [])
+  pub told : new ≡ after_use old (name ∷ []) (source ∷ [])
   pub takes : IfSome old (λ t. TakesOf q s.task (limits_of s) tasks t.contents (name ∷ []) (source ∷ []))
 
 module _ {T : Type 0} (written : T → Option (List ℕ)) (failed : T → ℕ) where

@@ -1,7 +1,7 @@
 // The top call.
 ghost use Rattle.std.specs.Prelude.{◌≡◌, ◌≢◌, ℕ, [], length, None, IfSome, map, true, false};
 ghost use Rattle.std.specs.List.{AllByRecursion, AllZip};
-ghost use Rattle.saber_plan.specs.Outputs.{Rose, appended, AppendsPrefix};
+ghost use Rattle.saber_plan.specs.Outputs.{Rose, appended_text, AppendsPrefix};
 ghost use Rattle.saber_words.specs.Many.{many_of};
 ghost use Rattle.saber_notes.specs.Notes.{status_of};
 ghost use Rattle.saber_notes.specs.declared.early.Early.{Early};
@@ -171,7 +171,7 @@ where
     // each line went out.
     ensures nothing { result.status ≡ 0 → (result.noted ≡ Noted.Nothing) × (notes.new ≡ notes.old) }
     ensures something { result.status ≢ 0 → result.noted ≢ Noted.Nothing }
-    ensures whole { result.noted ≡ Noted.Whole → N.written notes.new ≡ appended (N.written notes.old) (top_notes result.end (outcomes_of (parts_in result.parts))) }
+    ensures whole { result.noted ≡ Noted.Whole → N.written notes.new ≡ appended_text (N.written notes.old) (top_notes result.end (outcomes_of (parts_in result.parts))) }
     ensures failed { result.noted ≡ Noted.Failed → AppendsPrefix (N.written notes.old) (N.written notes.new) (top_notes result.end (outcomes_of (parts_in result.parts))) }
     ensures memory { result.noted ≡ Noted.NoMemory → N.written notes.new ≡ N.written notes.old }
     ensures note { result.noted ≡ Noted.Failed → Rose (N.faults notes.old) (N.faults notes.new) }

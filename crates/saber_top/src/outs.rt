@@ -2,7 +2,7 @@
 ghost use Rattle.std.specs.Prelude.{◌≡◌, ◌<◌, ◌+◌, ◌^◌, ◌∷◌, IfOk, IfErr, OnOk, length, map};
 ghost use Rattle.std.specs.List.{AllZip};
 ghost use Rattle.saber_plan.specs.Outputs.{Rose};
-ghost use Rattle.saber_io.specs.Outs.{naming};
+ghost use Rattle.saber_io.specs.Outs.{after_naming};
 ghost use Rattle.saber_notes.specs.declared.early.Early.{Early};
 ghost use Rattle.saber_words.specs.Many.{out_name};
 ghost use Rattle.saber_top.specs.Commands.{out_names};
@@ -25,7 +25,7 @@ fn create_out<U: Outs>(
     number: u64,
 ) -> Result<U::Out, Early>
     ensures new { IfOk result (IsNew U.Out.written U.Out.faults) }
-    ensures asked { OnOk result (U.asked outs.new ≡ naming (U.asked outs.old) (out_name query.now)) }
+    ensures asked { OnOk result (U.asked outs.new ≡ after_naming (U.asked outs.old) (out_name query.now)) }
     ensures refused { IfErr result (λ e. IsNotCreated number query.now e (U.asked outs.old) (U.asked outs.new)) }
     ensures cause { IfErr result (λ e. IsCreateEnd e → Rose (U.faults outs.old) (U.faults outs.new)) }
     ensures good { OnOk result (U.faults outs.new ≡ U.faults outs.old) }

@@ -11,7 +11,7 @@ use Rattle.saber_plan.specs.declared.windows.Mark.{Mark}
 use Rattle.saber_plan.specs.declared.windows.Measure.{Measure}
 use Rattle.saber_plan.specs.declared.windows.Measure.TheVariants.{Rows, Range}
 use Rattle.saber_plan.specs.Rows.{stamp}
-use Rattle.saber_plan.specs.Windows.{Frame, one, Ordered, in_order, can_follow, reached, step_mark, past, has, Placed, placed_after}
+use Rattle.saber_plan.specs.Windows.{Frame, one, Ordered, in_order, can_follow, is_reached, step_mark, past, has, Placed, placed_after}
 use Rattle.saber_plan.specs.Needs.{first_window}
 use Rattle.saber_window.specs.Laws.{PastHaveNone}
 
@@ -21,7 +21,7 @@ at m s v = record { row = record { side = s; values = v }; before = m }
 abbrev then : Mark → Side → Values → Mark
 then m s v = step_mark m (record { side = s; values = v })
 
-reached_on : (o : Option ℤ) (t p : ℕ) → reached o t ≡ true → in_order o p ≡ true → nat_le t p ≡ true
+reached_on : (o : Option ℤ) (t p : ℕ) → is_reached o t ≡ true → in_order o p ≡ true → nat_le t p ≡ true
 reached_on None t p h e = cc
 reached_on (Some z) t p h e = grind (arith, nat_tests)
 

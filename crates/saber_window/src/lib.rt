@@ -37,7 +37,7 @@ pub use bounds::Bounds;
 pub use frees::free_of;
 pub use lately::Lately;
 pub use laws::{closed_within_begun, past_have_none, stamps_fit};
-pub use marks::{ending, mark_behind, point, step_mark};
+pub use marks::{end_mark, mark_behind, point, step_mark};
 pub use plan_windows::Windows;
 pub use plans::{begun_below, closed_below, kind_of};
 pub use points::windows_of;

@@ -2,7 +2,7 @@
 ghost use Rattle.std.specs.Prelude.{◌≡◌, ◌+◌, ◌-◌, ◌^◌, ◌<◌, ◌≤◌, length, take, drop};
 ghost use Rattle.std.specs.List.{AllByRecursion};
 ghost use Rattle.saber_plan.specs.Rows.{stamp};
-ghost use Rattle.saber_plan.specs.Windows.{by_side, mark_after, step_mark, ending};
+ghost use Rattle.saber_plan.specs.Windows.{by_side, mark_after, step_mark, end_mark};
 ghost use Rattle.saber_window.specs.Points.{point};
 ghost use Rattle.saber_window.specs.Together.{IsLeft};
 
@@ -91,8 +91,8 @@ pub fn mark_behind(m: &Mark, rows: &Rows, from: usize, end: usize) -> Mark
 
 /// The mark with the input's end behind it, if it comes here: there the begun windows are closed.
 #[inline]
-pub fn ending(ended: bool, m: &Mark) -> Mark
-    ensures { result ≡ ending ended m.now }
+pub fn end_mark(ended: bool, m: &Mark) -> Mark
+    ensures { result ≡ end_mark ended m.now }
 {
     Mark {
         left: m.left,

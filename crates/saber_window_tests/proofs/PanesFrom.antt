@@ -10,13 +10,13 @@ use Rattle.saber_plan.specs.Answers.{frame}
 use Rattle.saber_plan.specs.Facts.Lists.{few_pass}
 use Rattle.saber_plan.specs.Facts.Rows.{length-placed}
 use Rattle.saber_laws.specs.Plans.{OneWindow}
-use Rattle.saber_panes.specs.Panes.{divisor, first_pane, pane_count, panes_in, panes_here, counted, is_counted}
+use Rattle.saber_panes.specs.Panes.{divisor, first_pane, pane_count, panes_in, panes_here, counted_rows, is_counted}
 
 pub no_panes : (q : Tree) (m : Mark) → panes_here q m [] ≡ empty
 unfolding placed_after panes_in
 no_panes q m = refl
 
-pub few_counted : (q : Tree) (xs : List Row) → length xs ≤ 200 → length (counted q (placed_after no_rows xs)) ≤ 2 ^ 40
+pub few_counted : (q : Tree) (xs : List Row) → length xs ≤ 200 → length (counted_rows q (placed_after no_rows xs)) ≤ 2 ^ 40
 few_counted q xs few =
     let pass = few_pass (is_counted q) (placed_after no_rows xs) in
     let long = length-placed no_rows xs in

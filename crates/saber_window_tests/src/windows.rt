@@ -12,7 +12,7 @@ use saber_flat::{RowRef, Rows};
 use saber_plan::{Kind, Mark, Measure, NoMemory, Plan, Row, Side, Values, Window};
 use saber_samples::{counts, pairs, window};
 use saber_window::{
-    Lately, Windows, begun_below, closed_below, ending, free_of, kind_of, mark_behind, step_mark,
+    Lately, Windows, begun_below, closed_below, end_mark, free_of, kind_of, mark_behind, step_mark,
     windows_of,
 };
 use std::alloc::Global;
@@ -158,8 +158,8 @@ fn check_end_of_threes(rt: &impl Abort, plan: &Plan)
     requires { IsChecked (tree_of plan.now) }
 {
     let before = mark(5, 0, Some(9));
-    assert!(rt; ending(false, &before) == before);
-    let at_end = ending(true, &before);
+    assert!(rt; end_mark(false, &before) == before);
+    let at_end = end_mark(true, &before);
     let found = (closed_below(plan, &at_end), begun_below(plan, &at_end));
     assert!(rt; found == (5, 5));
     check_kinds(

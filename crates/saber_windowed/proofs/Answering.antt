@@ -11,8 +11,8 @@ use Rattle.saber_plan.specs.declared.plans.Shape.TheVariants.{Select}
 use Rattle.saber_plan.specs.Trees.{Tree}
 use Rattle.saber_plan.specs.Values.{passes}
 use Rattle.saber_plan.specs.Windows.{Placed, place, has, inside, placed_after, step_mark, mark_after, mark_of, no_rows}
-use Rattle.saber_plan.specs.Answers.{Entry, key_cmp, line, frame, by_shape, passing}
-use Rattle.saber_plan.specs.Parts.{part, row_part, group_part, pair_part, part_lines, part_answers, answers_in, answered}
+use Rattle.saber_plan.specs.Answers.{Entry, key_cmp, line, frame, by_shape, passing_values}
+use Rattle.saber_plan.specs.Parts.{part, row_part, group_part, pair_part, part_lines, part_answers, answers_in, group_answer}
 use Rattle.saber_plan.specs.GivenRows.{AreNeighbors}
 use Rattle.saber_plan.specs.Facts.Lists.{each-filter}
 use Rattle.saber_windowed.specs.Found.{Found, found_row, found_of, Rises, Precedes, entry_of, part_of, values_in, lines_for}
@@ -27,13 +27,13 @@ rows_part q us = ap (from_entries {R = key_cmp}) (map-map entry_of (found_row q)
 
 -- ---- what is printed of it
 
-answered_rows : (is : List (List Product)) (es : List Found) → values_in es ≡ map (λ (e : Entry). e.1) (map (answered Select is) (map entry_of es))
+answered_rows : (is : List (List Product)) (es : List Found) → values_in es ≡ map (λ (e : Entry). e.1) (map (group_answer Select is) (map entry_of es))
 answered_rows is [] = refl
 answered_rows is (e ∷ es) = λ j. sym (values_back e.1) j ∷ answered_rows is es j
 
 -- the answers and the lines of rows that rise are those of their part
 pub answers_of_part : (q : Tree) → q.shape ≡ Select → (es : List Found) → Rises es → values_in es ≡ part_answers q (part_of es)
-answers_of_part q e es r = answered_rows q.items es ∙ (λ j. map (λ (e : Entry). e.1) (map (answered (sym e j) q.items) (sym (entries_part es r) j)))
+answers_of_part q e es r = answered_rows q.items es ∙ (λ j. map (λ (e : Entry). e.1) (map (group_answer (sym e j) q.items) (sym (entries_part es r) j)))
 
 pub lines_of_part : (q : Tree) → q.shape ≡ Select → (i : ℕ) (es : List Found) → Rises es → lines_for i (values_in es) ≡ part_lines q i (part_of es)
 lines_of_part q e i es r = ap (lines_for i) (answers_of_part q e es r) ∙ flat_map-map (λ zs. line (pos i ∷ zs)) (λ (e : Entry). e.1) (answers_in q (part_of es))
@@ -64,7 +64,7 @@ between_rises q i xs x y = rising-filter (has (frame q) i) _ (placed_rising (mar
 
 part_is : (q : Tree) → q.shape ≡ Select → (i : ℕ) (xs : List Row) (x y : ℕ) → part q i xs x y ≡ part_of (found_of q (rows_between q i xs x y))
 part_is q e i xs x y =
-    ap (λ s. by_shape s (row_part q (inside (frame q) i xs x y)) (group_part q (passing q (inside (frame q) i xs x y))) (pair_part q x (inside (frame q) i xs 0 y))) e
+    ap (λ s. by_shape s (row_part q (inside (frame q) i xs x y)) (group_part q (passing_values q (inside (frame q) i xs x y))) (pair_part q x (inside (frame q) i xs 0 y))) e
     ∙ ap (row_part q) (inside_is q i xs x y) ∙ sym (rows_part q (rows_between q i xs x y))
 
 -- rows whose part is that of a window are those found of it

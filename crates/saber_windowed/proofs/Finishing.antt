@@ -7,8 +7,8 @@ use Rattle.saber_plan.specs.declared.windows.Mark.{Mark}
 use Rattle.saber_plan.specs.declared.windows.Kind.{Kind}
 use Rattle.saber_plan.specs.declared.plans.Shape.TheVariants.{Select}
 use Rattle.saber_plan.specs.Trees.{Tree}
-use Rattle.saber_plan.specs.Windows.{Frame, Fits, mark_after, ending, has, placed_after, closed_count, begun_count, kind_of, from, has_windows}
-use Rattle.saber_plan.specs.Answers.{by_shape, frame, passing, selected}
+use Rattle.saber_plan.specs.Windows.{Frame, Fits, mark_after, end_mark, has, placed_after, closed_count, begun_count, kind_of, from, has_windows}
+use Rattle.saber_plan.specs.Answers.{by_shape, frame, passing_values, selected_lines}
 use Rattle.saber_plan.specs.Parts.{Part, row_part, group_part, pair_part, part_lines}
 use Rattle.saber_plan.specs.Tasks.{full, is_complete}
 use Rattle.saber_plan.specs.Needs.{is_closing, is_pending, is_opening, of_kind, part_here}
@@ -41,16 +41,16 @@ pub record Laws : Type 0 where
   pub begins : EndsBeginNone
   pub span : RowsSpan
 
-module _ (laws : Laws) (q : Tree) (e : q.shape ≡ Select) (w : OneWindow q) (fits : Fits (frame q)) (m : Mark) (rows : List Row) (ended : Bool) (h : RowsFit q m rows) (b : Bounds) (given : AreBounds (frame q) m (ending ended (mark_after m rows)) b)
+module _ (laws : Laws) (q : Tree) (e : q.shape ≡ Select) (w : OneWindow q) (fits : Fits (frame q)) (m : Mark) (rows : List Row) (ended : Bool) (h : RowsFit q m rows) (b : Bounds) (given : AreBounds (frame q) m (end_mark ended (mark_after m rows)) b)
     (es : List (ℕ × List Found)) (sorted : T (is_sorted nat_cmp (seen es))) (holds : HoldsTask q m rows (seen_windows es)) where
   abbrev z : Mark
-  z = ending ended (mark_after m rows)
+  z = end_mark ended (mark_after m rows)
 
   abbrev c : ℕ
   c = closed_count (frame q) m
 
   abbrev n : ℕ
-  n = begun_count (frame q) (ending ended (mark_after m rows))
+  n = begun_count (frame q) (end_mark ended (mark_after m rows))
 
   -- the end begins none of them
   begins : begun_count (frame q) (mark_after m rows) ≡ n
@@ -73,7 +73,7 @@ module _ (laws : Laws) (q : Tree) (e : q.shape ≡ Select) (w : OneWindow q) (fi
   unfolding part_here
   part_is i =
       let us = filter (has (frame q) i) (placed_after m rows) in
-      rows_part q us ∙ sym (ap (λ s. by_shape s (row_part q us) (group_part q (passing q us)) (pair_part q (m.left + m.right + 0) us)) e)
+      rows_part q us ∙ sym (ap (λ s. by_shape s (row_part q us) (group_part q (passing_values q us)) (pair_part q (m.left + m.right + 0) us)) e)
 
   entries_are : (wanted : Option Kind → Bool) → entries_by wanted b es ≡ of_kind wanted (frame q) m z (λ i. part_here q i m [] rows)
   unfolding of_kind
@@ -104,8 +104,8 @@ module _ (laws : Laws) (q : Tree) (e : q.shape ≡ Select) (w : OneWindow q) (fi
         closing = (gave.closing ∙ entries_are is_closing) j;
         pending = (gave.pending ∙ entries_are is_pending) j;
         opening = (gave.opening ∙ entries_are is_opening) j;
-        lines = (gave.lines ∙ lines_are ∙ sym (ap (λ (f : Frame). cond (has_windows f) whole (selected q rows)) w.has_frame)
-            ∙ ap (λ s. by_shape s (cond (has_windows (frame q)) whole (selected q rows)) whole whole) (sym e)) j;
+        lines = (gave.lines ∙ lines_are ∙ sym (ap (λ (f : Frame). cond (has_windows f) whole (selected_lines q rows)) w.has_frame)
+            ∙ ap (λ s. by_shape s (cond (has_windows (frame q)) whole (selected_lines q rows)) whole whole) (sym e)) j;
         closed = given.closed_after j;
       }
 

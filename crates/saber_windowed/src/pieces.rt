@@ -2,7 +2,7 @@
 ghost use Rattle.std.specs.Prelude.{◌≡◌, [], IfOk};
 ghost use Rattle.saber_plan.specs.Trees.{tree_of};
 ghost use Rattle.saber_plan.specs.Answers.{frame};
-ghost use Rattle.saber_plan.specs.Windows.{mark_after, ending};
+ghost use Rattle.saber_plan.specs.Windows.{mark_after, end_mark};
 ghost use Rattle.saber_plan.specs.GivenRows.{RowsFit};
 ghost use Rattle.saber_plan.specs.Shares.{shares_here, handed_here};
 ghost use Rattle.saber_fragment.specs.Shown.{shares_of};
@@ -16,7 +16,7 @@ use crate::select::WindowedSelect;
 use saber_fragment::{Block, Piece};
 use saber_laws::{begun_stay, ends_begin_none, rows_span};
 use saber_plan::NoMemory;
-use saber_window::{Bounds, closed_within_begun, ending};
+use saber_window::{Bounds, closed_within_begun, end_mark};
 use std::alloc::Global;
 use std::collections::BTreeMap;
 
@@ -31,11 +31,11 @@ impl WindowedSelect<'_> {
         requires { RowsFit (tree_of self.now) own.now.before own.now.rows }
         ensures windows { IfOk result (λ r. HoldsTask (tree_of self.now) own.now.before own.now.rows (seen_windows r.0.entries)) }
         ensures bounds { IfOk result (λ r. AreBounds (frame (tree_of self.now)) own.now.before
-            (ending own.now.ended (mark_after own.now.before own.now.rows)) r.1) }
+            (end_mark own.now.ended (mark_after own.now.before own.now.rows)) r.1) }
     {
         let before = own.before;
         let found = self.windows_of(alloc, &before, &own.rows)?;
-        let after = ending(own.ended, &found.1);
+        let after = end_mark(own.ended, &found.1);
         let bounds = self.bounds(&before, &after);
         Ok((found.0, bounds))
     }

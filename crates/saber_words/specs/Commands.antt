@@ -55,17 +55,17 @@ asked_run r = record {
   flush = r.flush;
 }
 
-abbrev pub asked : Command → Asked
-asked (command.Run r) = run (asked_run r)
-asked (command.Check c) = check (record { query = c.query.now })
-asked (command.Demo d) = demo (asked_demo d)
-asked (command.Chain a) = chain (asked_chain a)
+abbrev pub asked_command : Command → Asked
+asked_command (command.Run r) = run (asked_run r)
+asked_command (command.Check c) = check (record { query = c.query.now })
+asked_command (command.Demo d) = demo (asked_demo d)
+asked_command (command.Chain a) = chain (asked_chain a)
 
 -- ---- the table of commands (this project's rule)
 
 -- a positional that has to be given
-abbrev pub required : Text → Rule
-required id = record (new_rule id) { required = true }
+abbrev pub required_rule : Text → Rule
+required_rule id = record (new_rule id) { required = true }
 
 -- and one that may be left out
 abbrev pub optional : Text → Rule
@@ -94,14 +94,14 @@ slack = record { name = codes "slack"; least = 0; most = 2 ^ 40; usual = codes "
 -- run QUERY LEFT [RIGHT] [--task N] [--ring B] [--threads T] [--max-lines M] [--slack S] [--final]
 abbrev pub run_shape : Shape
 run_shape = record (new_shape (codes "run")) {
-  rules = required (codes "query") ∷ required (codes "left") ∷ optional (codes "right")
+  rules = required_rule (codes "query") ∷ required_rule (codes "left") ∷ optional (codes "right")
       ∷ number_rule task ∷ number_rule ring ∷ number_rule threads ∷ number_rule max_lines ∷ number_rule slack
       ∷ flag_rule (codes "final") ∷ [];
 }
 
 -- check QUERY
 abbrev pub check_shape : Shape
-check_shape = record (new_shape (codes "check")) { rules = required (codes "query") ∷ [] }
+check_shape = record (new_shape (codes "check")) { rules = required_rule (codes "query") ∷ [] }
 
 -- demo SEED ROWS [--task N] [--ring B] [--threads T]
 abbrev pub demo_shape : Shape
@@ -112,7 +112,7 @@ demo_shape = record (new_shape (codes "demo")) {
 -- chain QUERY1 QUERY2 LEFT [RIGHT] [--task N] [--ring B] [--threads T] [--max-lines M] [--slack S]
 abbrev pub chain_shape : Shape
 chain_shape = record (new_shape (codes "chain")) {
-  rules = required (codes "first") ∷ required (codes "second") ∷ required (codes "left") ∷ optional (codes "right")
+  rules = required_rule (codes "first") ∷ required_rule (codes "second") ∷ required_rule (codes "left") ∷ optional (codes "right")
       ∷ number_rule task ∷ number_rule ring ∷ number_rule threads ∷ number_rule max_lines ∷ number_rule slack ∷ [];
 }
 

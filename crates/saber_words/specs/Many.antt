@@ -8,7 +8,7 @@ use Rattle.clap.specs.declared.builder.command.Command.{Command}
 use Rattle.clap.specs.declared.builder.command.Command.TheViews.{out-Command}
 use Rattle.saber_words.specs.Numbers.{Numeric, number_by, number_rule}
 use Rattle.saber_words.specs.Flags.{flag_by, flag_rule}
-use Rattle.saber_words.specs.Commands.{Numbers, numbers_with, required, optional, task, ring, max_lines, slack, saber_shape, is_faultless, usual_numbers}
+use Rattle.saber_words.specs.Commands.{Numbers, numbers_with, required_rule, optional, task, ring, max_lines, slack, saber_shape, is_faultless, usual_numbers}
 use Rattle.saber_words.specs.declared.commands.Many.{Many}
 
 -- runs of one to eight queries over the rows of one file, each by its name: in tasks of so many rows, on a ring of so many cells, by so many
@@ -63,7 +63,7 @@ others = codes "second" ∷ codes "third" ∷ codes "fourth" ∷ codes "fifth" �
 -- many LEFT QUERY.. [--task N] [--ring B] [--threads T] [--max-lines M] [--slack S] [--final]
 abbrev pub many_shape : Shape
 many_shape = record (new_shape (codes "many")) {
-  rules = required (codes "left") ∷ required (codes "first") ∷ map optional others
+  rules = required_rule (codes "left") ∷ required_rule (codes "first") ∷ map optional others
       ++ (number_rule task ∷ number_rule ring ∷ number_rule few_threads ∷ number_rule max_lines ∷ number_rule slack
       ∷ flag_rule (codes "final") ∷ []);
 }

@@ -2,7 +2,7 @@
 ghost use Rattle.std.specs.Prelude.{◌≡◌, IfOk, option_map, false};
 ghost use Rattle.clap.specs.Words.{found_of, rows_of, shape_of};
 ghost use Rattle.clap.specs.declared.builder.command.Command.TheViews.{out-Command};
-ghost use Rattle.saber_words.specs.Commands.{asked, chain_by, chain_shape};
+ghost use Rattle.saber_words.specs.Commands.{asked_command, chain_by, chain_shape};
 
 use crate::numbers::{max_lines, number_arg, ring, sizes, slack, task, threads};
 use crate::{Chain, Command};
@@ -32,7 +32,7 @@ pub(crate) fn chain_app<'a>(alloc: Global) -> Result<clap::Command<'a>, AllocErr
 
 /// What its words ask for.
 pub(crate) fn chain<'a>(values: &ArgMatches<'a>) -> Option<Command<'a>>
-    ensures { option_map asked result ≡ chain_by (rows_of (found_of values.now)) }
+    ensures { option_map asked_command result ≡ chain_by (rows_of (found_of values.now)) }
 {
     let first = values.get_str("first")?;
     let second = values.get_str("second")?;

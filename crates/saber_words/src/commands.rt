@@ -12,7 +12,7 @@ pub struct Run<'a> {
     pub right: Option<&'a str>,
     /// How many rows a task has, 1 to 65,536. Where the words don't say, 1,024.
     pub task: u32,
-    /// How many cells the ring has, 1 to 1,024. Where the words don't say, 64.
+    /// How many cells the ring has at most, 1 to 1,024. Where the words don't say, 64.
     pub ring: u32,
     /// How many threads work beside the caller's, 0 to 64. Where the words don't say, 2.
     pub threads: u32,
@@ -41,7 +41,7 @@ pub struct Demo {
     pub rows: u32,
     /// How many rows a task has, as of a run.
     pub task: u32,
-    /// How many cells the ring has, as of a run.
+    /// How many cells the ring has at most, as of a run.
     pub ring: u32,
     /// How many threads work beside the caller's, as of a run.
     pub threads: u32,
@@ -61,7 +61,7 @@ pub struct Chain<'a> {
     pub right: Option<&'a str>,
     /// How many rows a task of each query has, as of a run.
     pub task: u32,
-    /// How many cells the ring of each has, as of a run.
+    /// How many cells the ring of each has at most, as of a run.
     pub ring: u32,
     /// How many threads work for each, as of a run.
     pub threads: u32,
@@ -81,7 +81,7 @@ pub struct Many<'a> {
     pub queries: Vec<&'a str>,
     /// How many rows a task has, as of a run.
     pub task: u32,
-    /// How many cells the ring has, as of a run.
+    /// How many cells the ring has at most, as of a run.
     pub ring: u32,
     /// How many threads work for each query beside the caller's, 0 to 8. Where the words don't
     /// say, 2.

@@ -4,7 +4,7 @@ ghost use Rattle.clap.specs.Words.{found_of, rows_of, rule_of, shape_of};
 ghost use Rattle.clap.specs.declared.builder.command.Command.TheViews.{out-Command};
 ghost use Rattle.saber_words.specs.Numbers.{numeric_of};
 ghost use Rattle.saber_words.specs.Demo.{positional_rule, rows, seed};
-ghost use Rattle.saber_words.specs.Commands.{asked, demo_by, demo_shape};
+ghost use Rattle.saber_words.specs.Commands.{asked_command, demo_by, demo_shape};
 
 use crate::numbers::{NumberOption, number, number_arg, ring, task, threads};
 use crate::{Command, Demo};
@@ -61,7 +61,7 @@ pub(crate) fn demo_app<'a>(alloc: Global) -> Result<clap::Command<'a>, AllocErro
 
 /// What its words ask for.
 pub(crate) fn demo<'a>(values: &ArgMatches<'a>) -> Option<Command<'a>>
-    ensures { option_map asked result ≡ demo_by (rows_of (found_of values.now)) }
+    ensures { option_map asked_command result ≡ demo_by (rows_of (found_of values.now)) }
 {
     let first = number(values, seed())?;
     let second = number(values, rows())?;

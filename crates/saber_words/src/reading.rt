@@ -3,7 +3,7 @@ ghost use Rattle.std.specs.Prelude.{◌≡◌, IfOk, Some, None, map, option_map
 ghost use Rattle.std.specs.Prelude.{◌↔◌, false};
 ghost use Rattle.clap.specs.Words.{app_of, found_of, rows_of, shape_of, subcommand_rows_of};
 ghost use Rattle.clap.specs.declared.builder.command.Command.TheViews.{out-Command};
-ghost use Rattle.saber_words.specs.Commands.{asked, asked_by, check_by, check_shape, command_of};
+ghost use Rattle.saber_words.specs.Commands.{asked_command, asked_by, check_by, check_shape, command_of};
 ghost use Rattle.saber_words.specs.Commands.{run_by, run_shape, saber_app, IsSized};
 
 use crate::chain::{chain, chain_app};
@@ -20,8 +20,8 @@ use std::alloc::{AllocError, Global};
 /// rule). Every other refusal than for want of memory is `Usage`.
 pub fn read_words<'a>(alloc: Global, words: &'a [&'a str]) -> Result<Command<'a>, WordsFault>
     ensures taken { IfOk result (λ command.
-        command_of (map (λ word. word.now) words.entry.now) ≡ Some (asked command)) }
-    ensures sizes { IfOk result (λ command. IsSized (asked command)) }
+        command_of (map (λ word. word.now) words.entry.now) ≡ Some (asked_command command)) }
+    ensures sizes { IfOk result (λ command. IsSized (asked_command command)) }
     ensures usage { result ≡ Err WordsFault.Usage
         → command_of (map (λ word. word.now) words.entry.now) ≡ None }
 {
@@ -91,7 +91,7 @@ fn check_app<'a>(alloc: Global) -> Result<clap::Command<'a>, AllocError>
 
 // What the subcommand that was met asks for.
 fn command<'a>(matches: &ArgMatches<'a>) -> Option<Command<'a>>
-    ensures { option_map asked result ≡ option_and_then asked_by (subcommand_rows_of matches.now) }
+    ensures { option_map asked_command result ≡ option_and_then asked_by (subcommand_rows_of matches.now) }
 {
     let (name, values) = matches.subcommand()?;
     match name {
@@ -104,7 +104,7 @@ fn command<'a>(matches: &ArgMatches<'a>) -> Option<Command<'a>>
 }
 
 fn run<'a>(values: &ArgMatches<'a>) -> Option<Command<'a>>
-    ensures { option_map asked result ≡ run_by (rows_of (found_of values.now)) }
+    ensures { option_map asked_command result ≡ run_by (rows_of (found_of values.now)) }
 {
     let query = values.get_str("query")?;
     let left = values.get_str("left")?;
@@ -125,7 +125,7 @@ fn run<'a>(values: &ArgMatches<'a>) -> Option<Command<'a>>
 }
 
 fn check<'a>(values: &ArgMatches<'a>) -> Option<Command<'a>>
-    ensures { option_map asked result ≡ check_by (rows_of (found_of values.now)) }
+    ensures { option_map asked_command result ≡ check_by (rows_of (found_of values.now)) }
 {
     let query = values.get_str("query")?;
     Some(Command::Check(Check { query }))

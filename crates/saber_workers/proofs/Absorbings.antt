@@ -1,7 +1,7 @@
 -- The ordered assembly's step, by the input filled so far.
 use Rattle.std.proofs.Common.{◌≡◌, ◌≢◌, ℕ, false, List, refl, sym, ◌∙◌, ap, subst}
 use Rattle.std.specs.Prelude.{Option, Some, None, IfSome, IfNone}
-use Rattle.saber_plan.specs.Outputs.{appended}
+use Rattle.saber_plan.specs.Outputs.{appended_text}
 use Rattle.saber_plan.specs.Inputs.{Input}
 use Rattle.saber_plan.specs.Trees.{Tree}
 use Rattle.saber_plan.specs.Answers.{text}
@@ -13,7 +13,7 @@ use Rattle.saber_assembly.specs.declared.stage.Absorbed.{Absorbed}
 use Rattle.saber_assembly.specs.declared.stage.Absorbed.TheVariants.{Stopped}
 use Rattle.saber_fragment.specs.Stores.{CanTakeIn}
 use Rattle.saber_assembly.specs.declared.work.RunData.{RunData}
-use Rattle.saber_assembly.specs.Stages.{seen, IsPieceAt}
+use Rattle.saber_assembly.specs.Stages.{stage_view, IsPieceAt}
 use Rattle.saber_plan.specs.Stages.{Start, Tasks, After, Keeps}
 use Rattle.saber_assembly.specs.Works.{input_of, first_tasks, start_of, IsPieceOf, IsStageOf}
 use Rattle.saber_assembly.specs.WorkLaws.{keeps_on, takes_next}
@@ -26,9 +26,9 @@ unlike : NoMemory ≡ SinkFailed → ⊥
 unlike e = cc
 
 module _ {O P S K : Type 0} (plan : O → Tree) (is_of : O → P → Input → ℕ → ℕ → Type 0) (contents : S → Kept) (taken : O → S → Input → Type 0) (written : K → Option (List ℕ)) (faults : K → ℕ)
-    (op : O) (told : RunData O) (k : ℕ) (old new : Stage S K) (suits : Suits op told) (is : IsStageOf plan (seen contents written faults) taken (first_tasks told k) k false old) where
+    (op : O) (told : RunData O) (k : ℕ) (old new : Stage S K) (suits : Suits op told) (is : IsStageOf plan (stage_view contents written faults) taken (first_tasks told k) k false old) where
   abbrev KeepsAt : O → ℕ → Input → Start → Stage S K → Type 0
-  KeepsAt z n r start s = Keeps (plan z) n r start (taken z s.store) (seen contents written faults s)
+  KeepsAt z n r start s = Keeps (plan z) n r start (taken z s.store) (stage_view contents written faults s)
 
   -- what the assembly says of its stage afterwards
   abbrev pub SaysAfter : Option P → Type 0
@@ -50,9 +50,9 @@ module _ {O P S K : Type 0} (plan : O → Tree) (is_of : O → P → Input → �
   with_mark : new.state ≡ NoMemory → written new.sink ≡ written old.sink → faults new.sink ≡ faults old.sink → new.k ≡ old.k → KeepsAt told.operator told.size (input_of told) (start_of told) new
   with_mark lacks same alike stays =
       let q = plan told.operator in let n : ℕ = told.size in let r : Input = input_of told in
-      let was : After q n r (start_of told) (seen contents written faults old) Running = subst (After q n r (start_of told) (seen contents written faults old)) (is.runs refl) (keeps_on plan contents taken written faults told k old is).after in
+      let was : After q n r (start_of told) (stage_view contents written faults old) Running = subst (After q n r (start_of told) (stage_view contents written faults old)) (is.runs refl) (keeps_on plan contents taken written faults told k old is).after in
       record {
-        after = subst (After q n r (start_of told) (seen contents written faults new)) (sym lacks) (same ∙ was.0 ∙ ap (λ j. appended told.written (text q (upto n r j))) (sym stays), alike ∙ was.2);
+        after = subst (After q n r (start_of told) (stage_view contents written faults new)) (sym lacks) (same ∙ was.0 ∙ ap (λ j. appended_text told.written (text q (upto n r j))) (sym stays), alike ∙ was.2);
         taken_is = λ run. absurd (apart (sym lacks ∙ run));
       }
 

@@ -3,7 +3,7 @@ use Rattle.std.proofs.Common.{◌≡◌, ℕ, ◌+◌, ◌≤◌, sym, ◌∙◌
 use Rattle.saber_plan.specs.Inputs.{Input}
 use Rattle.saber_plan.specs.Trees.{Tree}
 use Rattle.saber_plan.specs.Windows.{last_mark}
-use Rattle.saber_plan.specs.Tasks.{cut}
+use Rattle.saber_plan.specs.Tasks.{task_start}
 use Rattle.saber_plan.specs.Needs.{free}
 use Rattle.saber_laws.proofs.TaskCutLaws.{upto-upto}
 use Rattle.saber_laws.proofs.GrowLaws.{free-upto, task_rows-upto, places-upto}
@@ -76,12 +76,12 @@ module _ {O D : Type 0} (plan : O → Tree) (has_seen : O → D → Sight → Ty
     is_whole = subst (λ z. IsWhole (plan z) (sight has.earlier t)) suits ((sees_all has.tasks).ends has.earlier)
 
     -- it has seen the task's arrivals
-    pub is_sight : IsSightOf (plan op) (sight has.earlier t) (input_of told) (cut told.size (input_of told) t) (cut told.size (input_of told) (t + 1))
-    is_sight = subst (λ z. IsSightOf (plan z) (sight has.earlier t) (input_of told) (cut told.size (input_of told) t) (cut told.size (input_of told) (t + 1))) suits
+    pub is_sight : IsSightOf (plan op) (sight has.earlier t) (input_of told) (task_start told.size (input_of told) t) (task_start told.size (input_of told) (t + 1))
+    is_sight = subst (λ z. IsSightOf (plan z) (sight has.earlier t) (input_of told) (task_start told.size (input_of told) t) (task_start told.size (input_of told) (t + 1))) suits
         ((sees_all has.tasks).gives has.earlier has.opens has.earlier_are)
 
-    pub finished : {P : Type 0} (is_of : O → P → Input → ℕ → ℕ → Type 0) (p : P) → is_of op p (input_of told) (cut told.size (input_of told) t) (cut told.size (input_of told) (t + 1)) → IsPieceOf plan is_of told t p
+    pub finished : {P : Type 0} (is_of : O → P → Input → ℕ → ℕ → Type 0) (p : P) → is_of op p (input_of told) (task_start told.size (input_of told) t) (task_start told.size (input_of told) (t + 1)) → IsPieceOf plan is_of told t p
     finished is_of p of = record {
       tasks = has.tasks;
-      piece = subst (λ z. is_of z p (input_of told) (cut told.size (input_of told) t) (cut told.size (input_of told) (t + 1))) (sym suits) of;
+      piece = subst (λ z. is_of z p (input_of told) (task_start told.size (input_of told) t) (task_start told.size (input_of told) (t + 1))) (sym suits) of;
     }

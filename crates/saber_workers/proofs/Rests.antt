@@ -3,7 +3,7 @@ use Rattle.std.proofs.Common.{◌^◌, ◌≡◌, ◌≤◌, ◌<◌, ℕ, ◌+�
 use mathlib.Core.Option.{some}
 use lib.ListN.{get_elem?}
 use Rattle.std.specs.Prelude.{Option}
-use Rattle.saber_plan.specs.Outputs.{appended}
+use Rattle.saber_plan.specs.Outputs.{appended_text}
 use Rattle.saber_plan.specs.Inputs.{Input}
 use Rattle.saber_plan.specs.Trees.{Tree}
 use Rattle.saber_plan.specs.Answers.{text}
@@ -20,7 +20,7 @@ use Rattle.saber_assembly.specs.declared.stage.Stage.{Stage}
 use Rattle.saber_plan.specs.declared.stages.StageState.{StageState}
 use Rattle.saber_plan.specs.declared.stages.StageState.TheVariants.{Running, SinkFailed, NoMemory}
 use Rattle.saber_assembly.specs.declared.work.RunData.{RunData}
-use Rattle.saber_assembly.specs.Stages.{seen}
+use Rattle.saber_assembly.specs.Stages.{stage_view}
 use Rattle.saber_plan.specs.Stages.{StageView, Start, After}
 use Rattle.saber_plan.specs.Runs.{IsCut}
 use Rattle.saber_assembly.specs.Works.{input_of, first_tasks, start_of, first_needed, IsTold, IsBlockOf, IsPieceOf, IsStageOf}
@@ -62,16 +62,16 @@ after_on : FirstOfFirst → (q : Tree) (n : ℕ) (r : Input) (d : ℕ) (start : 
     → After q n (upto n r d) start v x → After q n r start v x
 after_on first q n r d start v Running le a =
     let same : upto n (upto n r d) v.k ≡ upto n r v.k = first n r d v.k (omega (arith, le)) in
-    (a.0 ∙ ap (λ z. appended start.written (text q z)) same, a.1 ∙ ap (kept_behind q) same, a.2)
+    (a.0 ∙ ap (λ z. appended_text start.written (text q z)) same, a.1 ∙ ap (kept_behind q) same, a.2)
 after_on first q n r d start v SinkFailed le a =
     (record { out = a.0.out; written_is = a.0.written_is; is_cut = cut_on first q n r d v.k a.0.out le a.0.is_cut }, a.1, a.2)
 after_on first q n r d start v NoMemory le a =
     let same : upto n (upto n r d) v.k ≡ upto n r v.k = first n r d v.k (omega (arith, le)) in
-    (a.0 ∙ ap (λ z. appended start.written (text q z)) same, a.1)
+    (a.0 ∙ ap (λ z. appended_text start.written (text q z)) same, a.1)
 
 module _ {O P S K : Type 0} (plan : O → Tree) (is_of : O → P → Input → ℕ → ℕ → Type 0) (contents : S → Kept) (taken : O → S → Input → Type 0)
     (written : K → Option (List ℕ)) (faults : K → ℕ)
-    (whole : NeedsAreWhole (IsTold plan) first_tasks (first_needed plan) (IsBlockOf plan) (IsPieceOf plan is_of) (IsStageOf plan (seen contents written faults) taken))
+    (whole : NeedsAreWhole (IsTold plan) first_tasks (first_needed plan) (IsBlockOf plan) (IsPieceOf plan is_of) (IsStageOf plan (stage_view contents written faults) taken))
     (first : FirstOfFirst) (free_is : FirstTellFree)
     (size : ℕ) (s : QueryTable plan is_of contents taken written faults) (b : RingState (RunData O)) (sh : KeepsRule plan is_of contents taken written faults size s b) where
   abbrev q : Tree
@@ -84,7 +84,7 @@ module _ {O P S K : Type 0} (plan : O → Tree) (is_of : O → P → Input → �
   r = input_of b.told
 
   abbrev StageAt : RunData O → ℕ → Bool → Stage S K → Type 0
-  StageAt = IsStageOf plan (seen contents written faults) taken
+  StageAt = IsStageOf plan (stage_view contents written faults) taken
 
   -- what the ring says of a block, in the words of queries
   block_whole : (u : ℕ) → IsWhole (IsTold plan) first_tasks (first_needed plan) (IsBlockOf plan) (IsPieceOf plan is_of) StageAt size s b u
@@ -113,14 +113,14 @@ module _ {O P S K : Type 0} (plan : O → Tree) (is_of : O → P → Input → �
       → StageAt (first_tasks b.told (b.assembled + extra y)) b.assembled y st → FirstAreOut plan is_of contents taken written faults size s b b.assembled
   with_stage false is st at has =
       let kept = keeps_on plan contents taken written faults b.told b.assembled st (subst (λ d. StageAt (first_tasks b.told d) b.assembled false st) (none_more b.assembled) has) in
-      let v : StageView = seen contents written faults st in
+      let v : StageView = stage_view contents written faults st in
       let a : After q n r (start_of b.told) v Running = subst (After q n r (start_of b.told) v) (has.runs refl) kept.after in
       record {
         shown = shown false is;
         stage = st;
         at_home = at;
         behind = has.behind;
-        sink = λ run. a.0 ∙ ap (λ j. appended b.told.written (text q (upto n r j))) has.behind;
+        sink = λ run. a.0 ∙ ap (λ j. appended_text b.told.written (text q (upto n r j))) has.behind;
         kept = λ run. a.1 ∙ ap (λ j. kept_behind q (upto n r j)) has.behind;
         good = λ run. a.2;
         stopped = λ stop. kept.after;
@@ -130,7 +130,7 @@ module _ {O P S K : Type 0} (plan : O → Tree) (is_of : O → P → Input → �
         tasks = tasks;
       }
   with_stage true is st at has =
-      let v : StageView = seen contents written faults st in
+      let v : StageView = stage_view contents written faults st in
       record {
         shown = shown true is;
         stage = st;

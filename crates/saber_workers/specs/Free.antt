@@ -2,7 +2,7 @@
 use Rattle.std.specs.Prelude.{◌^◌, ◌≡◌, ◌≢◌, ◌⊎◌, ◌≤◌, ◌<◌, ℕ, ◌+◌, ◌*◌, ◌%◌, List, Option, slice_index}
 use mathlib.Core.Option.{some}
 use lib.ListN.{get_elem?}
-use Rattle.saber_plan.specs.Outputs.{appended}
+use Rattle.saber_plan.specs.Outputs.{appended_text}
 use Rattle.saber_plan.specs.Inputs.{Input}
 use Rattle.saber_plan.specs.Trees.{Tree}
 use Rattle.saber_plan.specs.Answers.{text}
@@ -17,7 +17,7 @@ use Rattle.saber_ring.specs.Laws.{TableOf, IsTable, IsWithOne, block_of}
 use Rattle.saber_assembly.specs.declared.stage.Stage.{Stage}
 use Rattle.saber_plan.specs.declared.stages.StageState.TheVariants.{Running}
 use Rattle.saber_assembly.specs.declared.work.RunData.{RunData}
-use Rattle.saber_assembly.specs.Stages.{seen}
+use Rattle.saber_assembly.specs.Stages.{stage_view}
 use Rattle.saber_plan.specs.Stages.{After}
 use Rattle.saber_assembly.specs.Works.{input_of, first_tasks, start_of, first_needed, IsTold, IsBlockOf, IsPieceOf, IsStageOf}
 
@@ -25,12 +25,12 @@ module _ {O P S K : Type 0} (plan : O → Tree) (is_of : O → P → Input → �
     (written : K → Option (List ℕ)) (faults : K → ℕ) where
   -- the tables of the rings of queries
   abbrev pub QueryTable : Type 0
-  QueryTable = TableOf (IsTold plan) first_tasks (first_needed plan) (IsBlockOf plan) (IsPieceOf plan is_of) (IsStageOf plan (seen contents written faults) taken)
+  QueryTable = TableOf (IsTold plan) first_tasks (first_needed plan) (IsBlockOf plan) (IsPieceOf plan is_of) (IsStageOf plan (stage_view contents written faults) taken)
 
   -- the table keeps the ring's rule, over the work of a query, and shows this state
   abbrev pub KeepsRule : ℕ → QueryTable → RingState (RunData O) → Type 0
   KeepsRule size s b =
-      IsTable (IsTold plan) first_tasks (first_needed plan) (IsBlockOf plan) (IsPieceOf plan is_of) (IsStageOf plan (seen contents written faults) taken) size s b
+      IsTable (IsTold plan) first_tasks (first_needed plan) (IsBlockOf plan) (IsPieceOf plan is_of) (IsStageOf plan (stage_view contents written faults) taken) size s b
 
   module _ (size : ℕ) (s : QueryTable) (b : RingState (RunData O)) where
     -- what was asked, in tasks of so many rows, and the input filled so far
@@ -54,7 +54,7 @@ module _ {O P S K : Type 0} (plan : O → Tree) (is_of : O → P → Input → �
     abbrev pub AreWhole : ℕ → Type 0
     AreWhole u =
         HasRows u
-        ⊎ IsWithOne (IsTold plan) first_tasks (first_needed plan) (IsBlockOf plan) (IsPieceOf plan is_of) (IsStageOf plan (seen contents written faults) taken) size s b u
+        ⊎ IsWithOne (IsTold plan) first_tasks (first_needed plan) (IsBlockOf plan) (IsPieceOf plan is_of) (IsStageOf plan (stage_view contents written faults) taken) size s b u
 
     -- With k tasks assembled, of n rows each: the stage is at home, and while it runs the sink has exactly what it had at the start and
     -- then the text of the first k tasks' rows, and what is kept is exactly what is to be kept behind them; a stopped one wrote as `After`
@@ -65,10 +65,10 @@ module _ {O P S K : Type 0} (plan : O → Tree) (is_of : O → P → Input → �
       pub stage : Stage S K
       pub at_home : get_elem? s.homes 0 ≡ some (some (slot.Stage stage))
       pub behind : stage.k ≡ k
-      pub sink : stage.state ≡ Running → written stage.sink ≡ appended b.told.written (text q (upto n r k))
+      pub sink : stage.state ≡ Running → written stage.sink ≡ appended_text b.told.written (text q (upto n r k))
       pub kept : stage.state ≡ Running → contents stage.store ≡ kept_behind q (upto n r k)
       pub good : stage.state ≡ Running → faults stage.sink ≡ b.told.faults
-      pub stopped : stage.state ≢ Running → After q n r (start_of b.told) (seen contents written faults stage) stage.state
+      pub stopped : stage.state ≢ Running → After q n r (start_of b.told) (stage_view contents written faults stage) stage.state
       pub runs : stage.state ≡ Running → slice_index s.words 0 ≡ 2 * k
       pub stops : stage.state ≢ Running → slice_index s.words 0 ≡ 2 * k + 2 ^ 62
       pub blocks : (u : ℕ) → free q n r k ≤ u → u < b.filled → AreWhole u

@@ -2,14 +2,14 @@
 use Rattle.std.specs.Prelude.{◌≡◌, ℕ, Bool, false, List, take, Option}
 use Rattle.saber_plan.specs.Inputs.{Input}
 use Rattle.saber_plan.specs.Trees.{Tree}
-use Rattle.saber_plan.specs.Tasks.{Kept, cut, upto}
+use Rattle.saber_plan.specs.Tasks.{Kept, task_start, upto}
 use Rattle.saber_fragment.specs.declared.blocks.Block.{Block}
 use Rattle.saber_fragment.specs.declared.blocks.Earlier.{Earlier}
 use Rattle.saber_fragment.specs.Drafts.{EndWith, Sight}
 use Rattle.saber_fragment.specs.LookBack.{sight_to}
 use Rattle.saber_assembly.specs.declared.stage.Stage.{Stage}
 use Rattle.saber_assembly.specs.declared.work.RunData.{RunData}
-use Rattle.saber_assembly.specs.Stages.{seen}
+use Rattle.saber_assembly.specs.Stages.{stage_view}
 use Rattle.saber_assembly.specs.Works.{first_tasks, first_needed, input_of, AreTasks, IsBlockOf, IsPieceOf, IsStageOf}
 use Rattle.saber_workers.specs.Labors.{CanLookBack, LooksBack, IsNext, Absorbs}
 
@@ -24,7 +24,7 @@ module _ {O D : Type 0} (plan : O → Tree) (has_seen : O → D → Sight → Ty
     pub tasks : AreTasks plan told
     pub opens : (upto told.size (input_of told) t).ended ≡ false
     pub earlier : Earlier
-    pub earlier_are : EndWith (take (cut told.size (input_of told) t) told.rows) earlier
+    pub earlier_are : EndWith (take (task_start told.size (input_of told) t) told.rows) earlier
     pub seen : has_seen op draft (sight_to (plan told.operator) told.size (input_of told) t earlier u)
 
   module _ (op : O) where
@@ -41,9 +41,9 @@ module _ {O S K P : Type 0} (plan : O → Tree) (is_of : O → P → Input → �
   -- the piece is of the task that comes next to the stage, which runs
   abbrev pub IsNextPiece : Stage S K → Option P → Type 0
   IsNextPiece stage piece =
-      IsNext first_tasks (IsPieceOf plan is_of) (IsStageOf plan (seen contents written faults) taken) (Suits op) stage piece
+      IsNext first_tasks (IsPieceOf plan is_of) (IsStageOf plan (stage_view contents written faults) taken) (Suits op) stage piece
 
   -- the stage goes on by the piece, or is stopped
   abbrev pub AbsorbsPiece : Stage S K → Option P → Stage S K → Bool → Type 0
   AbsorbsPiece old piece new goes =
-      Absorbs first_tasks (IsPieceOf plan is_of) (IsStageOf plan (seen contents written faults) taken) (Suits op) old piece new goes
+      Absorbs first_tasks (IsPieceOf plan is_of) (IsStageOf plan (stage_view contents written faults) taken) (Suits op) old piece new goes

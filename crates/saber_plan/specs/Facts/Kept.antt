@@ -5,7 +5,7 @@ use Rattle.saber_plan.specs.Trees.{Tree}
 use Rattle.saber_plan.specs.Inputs.{Input}
 use Rattle.saber_plan.specs.Checked.{IsPlain}
 use Rattle.saber_plan.specs.Answers.{alike, way_of, way, by_way, plain_text, key_text, change_text, text}
-use Rattle.saber_plan.specs.Tasks.{Parts, Kept, by_windows, unclosed, unclosed_by_list, last_answers, kept_behind, plain_added, list_added, change_added, added}
+use Rattle.saber_plan.specs.Tasks.{Parts, Kept, by_windows, unclosed, unclosed_by_list, last_answers, kept_behind, plain_added, list_added, change_added, added_text}
 
 -- such a plan's windows print their answers as they are, or its rows theirs
 pub plain_way : (q : Tree) → IsPlain q → way q ≡ alike
@@ -16,8 +16,8 @@ module _ (q : Tree) (e : way q ≡ alike) where
   unfolding text
   alike_text r = ap (λ w. by_way w (plain_text q r) (key_text q r) (λ c. change_text c q r)) e
 
-  pub alike_added : (r : Input) (x y : ℕ) → added q r x y ≡ plain_added q r x y
-  unfolding added
+  pub alike_added : (r : Input) (x y : ℕ) → added_text q r x y ≡ plain_added q r x y
+  unfolding added_text
   alike_added r x y = ap (λ w. by_way w (plain_added q r x y) (list_added q r x y) (λ c. change_added c q r x y)) e
 
   pub alike_kept : (r : Input) → kept_behind q r ≡ by_windows (unclosed q r)

@@ -6,7 +6,7 @@ use Rattle.std.specs.declared.cmp.Ordering.TheVariants.{Less, Equal, Greater}
 use Rattle.std.specs.Ordering.{eq_by_cmp, is_eq, is_lt}
 use Rattle.std.specs.FinMap.{FinMap, empty, get, insert, entries, from_entries, find, is_sorted, from_sorted, entries-from_sorted, get-from_sorted, len-entries, len-empty, get-empty, get-entries, get-from_entries, get-insert, get_tied, same_map, IsAntisymmetric}
 use Rattle.std.specs.FinMap.Entries.{find_tied, below_all}
-use Rattle.saber_plan.specs.Merges.{join, joined, both}
+use Rattle.saber_plan.specs.Merges.{join, joined_value, both}
 use Rattle.saber_plan.specs.Facts.Lists.{T_parts}
 
 pub equal_if : (o : Ordering) → is_eq o ≡ true → o ≡ Equal
@@ -33,7 +33,7 @@ module _ {X : Type 0} (f : X → X → X) where
   join-none None = refl
   join-none (Some x) = refl
 
-  pub join-some : (o : Option X) (y : X) → join f o (Some y) ≡ Some (joined f o y)
+  pub join-some : (o : Option X) (y : X) → join f o (Some y) ≡ Some (joined_value f o y)
   join-some None y = refl
   join-some (Some x) y = refl
 
@@ -49,13 +49,13 @@ module _ {K X : Type 0} {R : K → K → Ordering} (o : IsTotalOrder R) (f : X �
   tied m k l t = get_tied o m k l (equal_if _ t)
 
   found : (m : FinMap R X) (k : K) (b : Bool) (e : K × X) (rest : Option X) → (b ≡ true → get m e.0 ≡ get m k) →
-      cond b (Some (joined f (get m e.0) e.1)) (join f (get m k) rest) ≡ join f (get m k) (cond b (Some e.1) rest)
-  found m k true e rest t = ap (λ p. Some (joined f p e.1)) (t refl) ∙ sym (join-some f (get m k) e.1)
+      cond b (Some (joined_value f (get m e.0) e.1)) (join f (get m k) rest) ≡ join f (get m k) (cond b (Some e.1) rest)
+  found m k true e rest t = ap (λ p. Some (joined_value f p e.1)) (t refl) ∙ sym (join-some f (get m k) e.1)
   found m k false e rest t = refl
 
-  find_both : (m : FinMap R X) (k : K) (es : List (K × X)) → find R k (map (λ e. (e.0, joined f (get m e.0) e.1)) es ++ entries m) ≡ join f (get m k) (find R k es)
+  find_both : (m : FinMap R X) (k : K) (es : List (K × X)) → find R k (map (λ e. (e.0, joined_value f (get m e.0) e.1)) es ++ entries m) ≡ join f (get m k) (find R k es)
   find_both m k [] = sym (get-entries m k) ∙ sym (join-none f (get m k))
-  find_both m k (e ∷ es) = ap (cond (eq_by_cmp R k e.0) (Some (joined f (get m e.0) e.1))) (find_both m k es) ∙ found m k (eq_by_cmp R k e.0) e _ (tied m k e.0)
+  find_both m k (e ∷ es) = ap (cond (eq_by_cmp R k e.0) (Some (joined_value f (get m e.0) e.1))) (find_both m k es) ∙ found m k (eq_by_cmp R k e.0) e _ (tied m k e.0)
 
   pub get-both : (m n : FinMap R X) (k : K) → get (both f m n) k ≡ join f (get m k) (get n k)
   get-both m n k = get-from_entries o _ k ∙ find_both m k (entries n) ∙ ap (join f (get m k)) (sym (get-entries n k))
@@ -113,16 +113,16 @@ module _ {K X : Type 0} (R : K → K → Ordering) where
 
 module _ {K X : Type 0} {R : K → K → Ordering} (o : IsTotalOrder R) (same : IsAntisymmetric R) (f : X → X → X) where
   take_case : (m : FinMap R X) (k q : K) (v : X) (b : Bool) (rest : Option X) → (b ≡ true → get m q ≡ get m k) → (b ≡ true → rest ≡ None)
-      → join f (cond b (Some (joined f (get m k) v)) (get m q)) rest ≡ join f (get m q) (cond b (Some v) rest)
+      → join f (cond b (Some (joined_value f (get m k) v)) (get m q)) rest ≡ join f (get m q) (cond b (Some v) rest)
   take_case m k q v true rest tied none =
-      ap (join f (Some (joined f (get m k) v))) (none refl) ∙ ap (λ p. Some (joined f p v)) (sym (tied refl)) ∙ sym (join-some f (get m q) v)
+      ap (join f (Some (joined_value f (get m k) v))) (none refl) ∙ ap (λ p. Some (joined_value f p v)) (sym (tied refl)) ∙ sym (join-some f (get m q) v)
   take_case m k q v false rest tied none = refl
 
   -- a first entry, whose key doesn't come again, is taken in before the rest
   pub take_one : (m : FinMap R X) (k : K) (v : X) (es : List (K × X)) → find R k es ≡ None
-      → both f (insert m k (joined f (get m k) v)) (from_entries es) ≡ both f m (from_entries ((k, v) ∷ es))
+      → both f (insert m k (joined_value f (get m k) v)) (from_entries es) ≡ both f m (from_entries ((k, v) ∷ es))
   take_one m k v es none = same_map o same _ _ (λ q.
-      get-both o f (insert m k (joined f (get m k) v)) (from_entries es) q
-      ∙ ap₂ (join f) (get-insert o m k (joined f (get m k) v) q) (get-from_entries o es q)
+      get-both o f (insert m k (joined_value f (get m k) v)) (from_entries es) q
+      ∙ ap₂ (join f) (get-insert o m k (joined_value f (get m k) v) q) (get-from_entries o es q)
       ∙ take_case m k q v (eq_by_cmp R q k) (find R q es) (λ e. sym (get_tied o m q k (equal_if _ e))) (λ e. sym (find_tied R o q k (equal_if _ e) es) ∙ none)
       ∙ sym (get-both o f m (from_entries ((k, v) ∷ es)) q ∙ ap (join f (get m q)) (get-from_entries o ((k, v) ∷ es) q)))

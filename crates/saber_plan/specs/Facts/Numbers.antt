@@ -4,7 +4,7 @@ use Rattle.std.proofs.lemmas.List.Concat.{flat_map-append}
 use Rattle.std.specs.List.{filter_map, cons_option}
 use Rattle.std.specs.Option.{option_map_or}
 use Rattle.saber_plan.specs.Windows.{from}
-use Rattle.saber_plan.specs.Tasks.{numbered}
+use Rattle.saber_plan.specs.Tasks.{numbered_list}
 
 pub from-append : (a m n : ℕ) → from a (m + n) ≡ from a m ++ from (a + m) n
 unfolding from
@@ -84,5 +84,5 @@ module _ {X : Type 0} where
   listed f [] = refl
   listed f (i ∷ is) = entry_case f i is (f i) (listed f is)
 
-  pub numbered_is : (f : ℕ → Option X) (a n : ℕ) → numbered a n f ≡ flat_map (λ i. option_map_or (λ x. pair i x ∷ []) (f i) []) (from a n)
+  pub numbered_is : (f : ℕ → Option X) (a n : ℕ) → numbered_list a n f ≡ flat_map (λ i. option_map_or (λ x. pair i x ∷ []) (f i) []) (from a n)
   numbered_is f a n = listed f (from a n)

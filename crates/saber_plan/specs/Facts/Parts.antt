@@ -63,8 +63,8 @@ numbers_if gs [] = None
 numbers_if gs (r ∷ rs) = Some (numbers gs (r ∷ rs))
 
 -- a list of keys, each with what g gives
-abbrev pub keyed : {X : Type 0} → (List ℤ → X) → List (List ℤ) → List (List ℤ × X)
-keyed g ks = map (λ k. (k, g k)) ks
+abbrev pub keyed_list : {X : Type 0} → (List ℤ → X) → List (List ℤ) → List (List ℤ × X)
+keyed_list g ks = map (λ k. (k, g k)) ks
 
 same_key : (k l : List ℤ) → eq_by_cmp key_cmp k l ≡ true → k ≡ l
 same_key k l e = exact k l (equal_if _ e)
@@ -74,11 +74,11 @@ if_any [] b = None
 if_any (x ∷ xs) b = Some b
 
 find_keyed : {X : Type 0} (ks : List ℕ) (k : List ℤ) (g : List ℤ → X) (rows : List (List ℤ))
-    → find key_cmp k (keyed g (map (key ks) rows)) ≡ if_any (rows_of_key ks k rows) (g k)
+    → find key_cmp k (keyed_list g (map (key ks) rows)) ≡ if_any (rows_of_key ks k rows) (g k)
 find_keyed ks k g [] = refl
 find_keyed ks k g (r ∷ rows) =
     elim (eq_by_cmp key_cmp k (key ks r)) as (λ b. eq_by_cmp key_cmp k (key ks r) ≡ b
-    → cond b (Some (g (key ks r))) (find key_cmp k (keyed g (map (key ks) rows)))
+    → cond b (Some (g (key ks r))) (find key_cmp k (keyed_list g (map (key ks) rows)))
     ≡ if_any (cond b (r ∷ rows_of_key ks k rows) (rows_of_key ks k rows)) (g k)) [
       | true ↦ λ e. ap (λ l. Some (g l)) (sym (same_key _ _ e))
       | false ↦ λ e. find_keyed ks k g rows

@@ -1,7 +1,7 @@
 use Rattle.std.proofs.Common.{◌+◌, ◌∷◌, drop, sym, ◌∙◌, ap, subst, arith}
 use Rattle.std.proofs.lemmas.List.{drop_all}
 use Rattle.std.specs.Ordering.{is_lt}
-use Rattle.saber_plan.specs.Answers.{uncancelled}
+use Rattle.saber_plan.specs.Answers.{uncancelled_answers}
 use Rattle.saber_changes.specs.Rising.{Rises}
 use Rattle.saber_changes.proofs.Cancelling.{next_line}
 use Rattle.saber_changes.proofs.Apart.{below_cancels_none, itself_and, equal_cancels, greater_cancels_none, none_left}
@@ -18,7 +18,7 @@ loop-place-preserved c =
     let old = c.loop-place.invariant in
     record {
       within = omega (arith, long, test);
-      same = λ ks h. old.same ks h ∙ ap (uncancelled ks) next ∙ below_cancels_none k o ks (drop (c.loop-place.place + 1) others) (ap is_lt (sym c.cmp.ensures ∙ c.in-Less.is)) h;
+      same = λ ks h. old.same ks h ∙ ap (uncancelled_answers ks) next ∙ below_cancels_none k o ks (drop (c.loop-place.place + 1) others) (ap is_lt (sym c.cmp.ensures ∙ c.in-Less.is)) h;
       rises = λ r. (subst Rises next (old.rises r)).1;
     }
 
@@ -30,7 +30,7 @@ returns-in-Equal-clause-cancelled c = λ t ks h.
     let long = c.len.ensures in
     let test = c.loop-place-test.true in
     let next = next_line others c.loop-place.place o (omega (arith, long, test)) (c.line.ensures o) in
-    c.loop-place.invariant.same (k ∷ ks) (itself_and k ks h) ∙ ap (uncancelled (k ∷ ks)) next ∙ equal_cancels k o ks (drop (c.loop-place.place + 1) others) (sym c.cmp.ensures ∙ c.in-Equal.is)
+    c.loop-place.invariant.same (k ∷ ks) (itself_and k ks h) ∙ ap (uncancelled_answers (k ∷ ks)) next ∙ equal_cancels k o ks (drop (c.loop-place.place + 1) others) (sym c.cmp.ensures ∙ c.in-Equal.is)
 
 pub returns-in-Equal-clause-rises : goal.returns-in-Equal-clause-rises
 returns-in-Equal-clause-rises c = λ r.

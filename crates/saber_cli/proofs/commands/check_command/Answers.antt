@@ -2,7 +2,7 @@ use Rattle.std.proofs.Common.{[], sym, subst}
 use Rattle.saber_io.specs.Outside.{FilesView}
 use Rattle.saber_plan.specs.Outputs.{appended-none}
 use Rattle.saber_words.specs.declared.commands.Command.TheVariants.{Check}
-use Rattle.saber_words.specs.Commands.{AskedCheck, check, asked}
+use Rattle.saber_words.specs.Commands.{AskedCheck, check, asked_command}
 use Rattle.saber_cli.specs.Outcomes.{IsOfShow}
 use Rattle.saber_cli.specs.Texts.{BeginsFile}
 use Rattle.saber_cli.specs.Shown.{Showed}
@@ -40,7 +40,7 @@ returns-in-Ok-clause-cause g c f = absurd (show_reads c.put_text.result.outcome 
 
 pub returns-in-Err-clause-written : goal.returns-in-Err-clause-written
 returns-in-Err-clause-written g c =
-    ([], appended-none _, for_any (λ (t : FilesView). Gives t.contents (asked (Check c.args.command.now)) c.in-Err.outcome 0 []) _ (λ t. gives_no_text c.laws.ensures t.contents (asked (Check c.args.command.now)) tt c.in-Err.outcome c.in-Err.ensures.kinds))
+    ([], appended-none _, for_any (λ (t : FilesView). Gives t.contents (asked_command (Check c.args.command.now)) c.in-Err.outcome 0 []) _ (λ t. gives_no_text c.laws.ensures t.contents (asked_command (Check c.args.command.now)) tt c.in-Err.outcome c.in-Err.ensures.kinds))
 
 pub returns-in-Err-clause-leaves : goal.returns-in-Err-clause-leaves
 returns-in-Err-clause-leaves g c = query_leaves _ [] (λ t. ⊥) c.in-Err.outcome _ _ c.in-Err.ensures.kinds c.in-Err.ensures.uses

@@ -3,7 +3,7 @@ use Rattle.saber_io.specs.Outside.{FilesView}
 use Rattle.saber_plan.specs.Outputs.{appended-none}
 use Rattle.saber_check.specs.Texts.{HasPlan}
 use Rattle.saber_words.specs.declared.commands.Command.TheVariants.{Run}
-use Rattle.saber_words.specs.Commands.{AskedRun, run, asked, asked_run}
+use Rattle.saber_words.specs.Commands.{AskedRun, run, asked_command, asked_run}
 use Rattle.saber_notes.specs.declared.outcome.Outcome.TheVariants.{FileCount}
 use Rattle.saber_cli.specs.Texts.{BeginsFile}
 use Rattle.saber_cli.specs.Answered.{AnsweredIn}
@@ -21,7 +21,7 @@ use Rattle.saber_cli.proofs.commands.run_command.Goals as goal
 
 pub returns-in-Err-clause-written : goal.returns-in-Err-clause-written
 returns-in-Err-clause-written g c =
-    ([], appended-none _, for_any (λ (t : FilesView). Gives t.contents (asked (Run c.args.command.now)) c.in-Err.outcome 0 []) _ (λ t. gives_no_text c.laws.ensures t.contents (asked (Run c.args.command.now)) tt c.in-Err.outcome c.in-Err.ensures.kinds))
+    ([], appended-none _, for_any (λ (t : FilesView). Gives t.contents (asked_command (Run c.args.command.now)) c.in-Err.outcome 0 []) _ (λ t. gives_no_text c.laws.ensures t.contents (asked_command (Run c.args.command.now)) tt c.in-Err.outcome c.in-Err.ensures.kinds))
 
 pub returns-in-Err-clause-leaves : goal.returns-in-Err-clause-leaves
 returns-in-Err-clause-leaves g c = query_leaves _ _ (λ t. AsksRows t.contents (run (asked_run c.args.command.now))) c.in-Err.outcome _ _ c.in-Err.ensures.kinds c.in-Err.ensures.uses

@@ -4,7 +4,7 @@ use Rattle.saber_plan.specs.Trees.{tree_of}
 use Rattle.saber_words.specs.Demo.{asked_demo}
 use Rattle.saber_dispatch.specs.declared.inputs.Inputs.TheVariants.{One}
 use Rattle.saber_plan.specs.declared.ends.RunEnd.TheVariants.{AllRead, WriteFault}
-use Rattle.saber_demo.specs.Rows.{generated}
+use Rattle.saber_demo.specs.Rows.{generated_file}
 use Rattle.saber_demo.specs.TextSinks.{TextState}
 use Rattle.saber_cli.specs.Tells.{IsAnswer}
 use Rattle.saber_cli.proofs.DemoLemmas.{IsRunOf, end_is, run_gives, demo_read, whole_answer, written_is}
@@ -18,7 +18,7 @@ is_whole-requires g c =
     let z = c.demo_sizes-sizes.ensures in
     let ran = c.engine-end.ensures.gives in
     let end = c.engine-end.result.end in
-    let rows : c.new-rows.result ≡ generated d.seed d.rows = c.new-rows.ensures ∙ (λ i. generated (c.from.ensures i) (c.from-2.ensures i)) in
+    let rows : c.new-rows.result ≡ generated_file d.seed d.rows = c.new-rows.ensures ∙ (λ i. generated_file (c.from.ensures i) (c.from-2.ensures i)) in
     let run : IsRunOf d q s.task (limits_of s) s.flush c.new-rows.result = record { plan = c.in-Ok.ensures; task = z.task; lines = λ i. record { most = z.lines i; slack = z.slack i }; goes_on = z.flush; rows = rows } in
     let gives = run_gives c.generated_is_read.ensures d q s.task s.ring (limits_of s) s.flush c.new-rows.result end c.engine-end.result.tasks ran.0 c.requires.few_generated run ran.2 in
     let no_write : end ≡ WriteFault → ⊥ = λ e. absurd (omega (arith, c.engine-end.ensures.write e)) in
@@ -33,7 +33,7 @@ returns-clause-answer g c whole =
     let ran = c.engine-end.ensures.gives in
     let end = c.engine-end.result.end in
     let tasks = c.engine-end.result.tasks in
-    let rows : c.new-rows.result ≡ generated d.seed d.rows = c.new-rows.ensures ∙ (λ i. generated (c.from.ensures i) (c.from-2.ensures i)) in
+    let rows : c.new-rows.result ≡ generated_file d.seed d.rows = c.new-rows.ensures ∙ (λ i. generated_file (c.from.ensures i) (c.from-2.ensures i)) in
     let run : IsRunOf d q s.task (limits_of s) s.flush c.new-rows.result = record { plan = c.in-Ok.ensures; task = z.task; lines = λ i. record { most = z.lines i; slack = z.slack i }; goes_on = z.flush; rows = rows } in
     let gives = run_gives c.generated_is_read.ensures d q s.task s.ring (limits_of s) s.flush c.new-rows.result end tasks ran.0 c.requires.few_generated run ran.2 in
     let all : end ≡ AllRead = c.is_whole.ensures.0 whole in

@@ -3,7 +3,7 @@ use Rattle.saber_query.specs.declared.fault.QueryFault.{QueryFault}
 use Rattle.saber_query.specs.Trees.{query_of}
 use Rattle.saber_query.specs.Words.{words}
 use Rattle.saber_query.specs.Parsed.{Parsed, IsParsed}
-use Rattle.saber_query.specs.Spelling.{spelled}
+use Rattle.saber_query.specs.Spelling.{spelled_text}
 use Rattle.saber_query.specs.Means.{MeansTree}
 use Rattle.saber_check.specs.Outcome.{IsFaultless, IsFaultOf}
 use Rattle.saber_check.specs.Texts.{IsFaultIn}
@@ -12,7 +12,7 @@ use Rattle.saber_cli.proofs.ShowLemmas.{check_fault}
 use Rattle.saber_cli.proofs.shows.line_of.Goals as goal
 
 -- the line of a query that passes its checks shows the text that means it
-shows_line : {T : Type 0} (items : T → List ℕ) (text : List ℕ) (p : Parsed) (r : Result T QueryFault) → IsParsed p.select p.starts → MeansTree text p → OnOk r (IsFaultless (query_of p.select)) → IfOk r (λ out. items out ≡ spelled (words (query_of p.select)) ++ 10 ∷ []) → IfOk r (λ out. Shows text (items out))
+shows_line : {T : Type 0} (items : T → List ℕ) (text : List ℕ) (p : Parsed) (r : Result T QueryFault) → IsParsed p.select p.starts → MeansTree text p → OnOk r (IsFaultless (query_of p.select)) → IfOk r (λ out. items out ≡ spelled_text (words (query_of p.select)) ++ 10 ∷ []) → IfOk r (λ out. Shows text (items out))
 shows_line items text p (Ok out) i m n e = record { query = p; parsed = i; means = m; faultless = n; out_is = e }
 shows_line items text p (Err f) i m n e = tt
 

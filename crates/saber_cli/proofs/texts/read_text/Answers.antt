@@ -1,5 +1,5 @@
 use Rattle.std.proofs.Common.{◌++◌, ◌∙◌, ◌≤◌, length, ap, Ok, arith, length-append}
-use Rattle.saber_io.specs.Outside.{given}
+use Rattle.saber_io.specs.Outside.{left_before}
 use Rattle.saber_cli.proofs.TextLemmas.{front-full, front-ended, given_more}
 use Rattle.saber_cli.proofs.texts.read_text.Goals as goal
 
@@ -20,4 +20,4 @@ returns-in_err-n-clause-takes g c =
     let text = c.loop-text.text.items in
     let t = c.read_piece.ensures.takes in
     let few : length (text ++ t.0) ≤ 65537 = let sum = length-append text t.0 in let room = t.1 in let had = c.loop-text.invariant.short in omega (arith, sum, room, had) in
-    (text ++ t.0, few, c.loop-text.invariant.read ∙ ap (given text) t.2 ∙ given_more text t.0 _)
+    (text ++ t.0, few, c.loop-text.invariant.read ∙ ap (left_before text) t.2 ∙ given_more text t.0 _)

@@ -3,7 +3,7 @@ use Rattle.saber_io.specs.Outside.{FilesView}
 use Rattle.saber_plan.specs.Outputs.{appended-none}
 use Rattle.saber_words.specs.declared.commands.Command.{Command}
 use Rattle.saber_words.specs.declared.commands.Command.TheVariants.{Run, Check}
-use Rattle.saber_words.specs.Commands.{run, demo, chain, asked, command_of}
+use Rattle.saber_words.specs.Commands.{run, demo, chain, asked_command, command_of}
 use Rattle.saber_words.specs.Chain.{asked_chain}
 use Rattle.saber_words.specs.Demo.{asked_demo}
 use Rattle.saber_cli.specs.Gives.{Gives, Answers}
@@ -34,22 +34,22 @@ pub returns-in-Run-clause-written : goal.returns-in-Run-clause-written
 returns-in-Run-clause-written g c =
     let ws : List (List ℕ) = map (λ (word : Bor (List ℕ)). word.now) c.args.words.now in
     let w = c.run_command.ensures.written in
-    let is : command_of ws ≡ Some (asked (Run c.in-Run.run')) = c.in-Ok.ensures.taken ∙ ap (λ (k : Command). Some (asked k)) c.in-Run.is in (
+    let is : command_of ws ≡ Some (asked_command (Run c.in-Run.run')) = c.in-Ok.ensures.taken ∙ ap (λ (k : Command). Some (asked_command k)) c.in-Run.is in (
       w.0,
       w.1,
-      λ n. some_map (λ (t : FilesView). Gives t.contents (asked (Run c.in-Run.run')) c.run_command.result.outcome c.run_command.result.tasks w.0) (λ t. Answers ws t.contents c.run_command.result.outcome c.run_command.result.tasks w.0) _
-          (λ t k. answers_of ws t.contents (asked (Run c.in-Run.run')) c.run_command.result.outcome c.run_command.result.tasks w.0 is k) w.2,
+      λ n. some_map (λ (t : FilesView). Gives t.contents (asked_command (Run c.in-Run.run')) c.run_command.result.outcome c.run_command.result.tasks w.0) (λ t. Answers ws t.contents c.run_command.result.outcome c.run_command.result.tasks w.0) _
+          (λ t k. answers_of ws t.contents (asked_command (Run c.in-Run.run')) c.run_command.result.outcome c.run_command.result.tasks w.0 is k) w.2,
     )
 
 pub returns-in-Check-clause-written : goal.returns-in-Check-clause-written
 returns-in-Check-clause-written g c =
     let ws : List (List ℕ) = map (λ (word : Bor (List ℕ)). word.now) c.args.words.now in
     let w = c.check_command.ensures.written in
-    let is : command_of ws ≡ Some (asked (Check c.in-Check.check)) = c.in-Ok.ensures.taken ∙ ap (λ (k : Command). Some (asked k)) c.in-Check.is in (
+    let is : command_of ws ≡ Some (asked_command (Check c.in-Check.check)) = c.in-Ok.ensures.taken ∙ ap (λ (k : Command). Some (asked_command k)) c.in-Check.is in (
       w.0,
       w.1,
-      λ n. some_map (λ (t : FilesView). Gives t.contents (asked (Check c.in-Check.check)) c.check_command.result.outcome c.check_command.result.tasks w.0) (λ t. Answers ws t.contents c.check_command.result.outcome c.check_command.result.tasks w.0) _
-          (λ t k. answers_of ws t.contents (asked (Check c.in-Check.check)) c.check_command.result.outcome c.check_command.result.tasks w.0 is k) w.2,
+      λ n. some_map (λ (t : FilesView). Gives t.contents (asked_command (Check c.in-Check.check)) c.check_command.result.outcome c.check_command.result.tasks w.0) (λ t. Answers ws t.contents c.check_command.result.outcome c.check_command.result.tasks w.0) _
+          (λ t k. answers_of ws t.contents (asked_command (Check c.in-Check.check)) c.check_command.result.outcome c.check_command.result.tasks w.0 is k) w.2,
     )
 
 pub returns-in-Err-clause-taken : goal.returns-in-Err-clause-taken
@@ -58,17 +58,17 @@ returns-in-Err-clause-taken g c r e side k = absurd (unread_not_read c.in-Err.fa
 pub returns-in-Run-clause-taken : goal.returns-in-Run-clause-taken
 returns-in-Run-clause-taken g c r e =
     let ws : List (List ℕ) = map (λ (word : Bor (List ℕ)). word.now) c.args.words.now in
-    let is : command_of ws ≡ Some (asked (Run c.in-Run.run')) = c.in-Ok.ensures.taken ∙ ap (λ (k : Command). Some (asked k)) c.in-Run.is in
-    let both : Some (asked (Run c.in-Run.run')) ≡ Some (run r) = sym is ∙ e in
-    let same : asked (Run c.in-Run.run') ≡ run r = cc in
+    let is : command_of ws ≡ Some (asked_command (Run c.in-Run.run')) = c.in-Ok.ensures.taken ∙ ap (λ (k : Command). Some (asked_command k)) c.in-Run.is in
+    let both : Some (asked_command (Run c.in-Run.run')) ≡ Some (run r) = sym is ∙ e in
+    let same : asked_command (Run c.in-Run.run') ≡ run r = cc in
     c.run_command.ensures.taken r same
 
 pub returns-in-Check-clause-taken : goal.returns-in-Check-clause-taken
 returns-in-Check-clause-taken g c r e =
     let ws : List (List ℕ) = map (λ (word : Bor (List ℕ)). word.now) c.args.words.now in
-    let is : command_of ws ≡ Some (asked (Check c.in-Check.check)) = c.in-Ok.ensures.taken ∙ ap (λ (k : Command). Some (asked k)) c.in-Check.is in
-    let both : Some (asked (Check c.in-Check.check)) ≡ Some (run r) = sym is ∙ e in
-    let same : asked (Check c.in-Check.check) ≡ run r = cc in
+    let is : command_of ws ≡ Some (asked_command (Check c.in-Check.check)) = c.in-Ok.ensures.taken ∙ ap (λ (k : Command). Some (asked_command k)) c.in-Check.is in
+    let both : Some (asked_command (Check c.in-Check.check)) ≡ Some (run r) = sym is ∙ e in
+    let same : asked_command (Check c.in-Check.check) ≡ run r = cc in
     cc
 
 pub returns-in-Err-clause-told : goal.returns-in-Err-clause-told
@@ -84,14 +84,14 @@ returns-in-Demo-clause-written g c =
     let o = c.demo_command.result.outcome in
     let tasks = c.demo_command.result.tasks in
     let t = c.demo_command.ensures.told in
-    let is : command_of ws ≡ Some (demo d) = c.in-Ok.ensures.taken ∙ ap (λ (k : Command). Some (asked k)) c.in-Demo.is in
+    let is : command_of ws ≡ Some (demo d) = c.in-Ok.ensures.taken ∙ ap (λ (k : Command). Some (asked_command k)) c.in-Demo.is in
     (t.out, t.written, λ n. for_any (λ (x : FilesView). Answers ws x.contents o tasks t.out) _ (λ x. answers_of ws x.contents (demo d) o tasks t.out is (gives_told x.contents d o tasks t.out t.kinds t.puts t.tasks_are)))
 
 pub returns-in-Demo-clause-leaves : goal.returns-in-Demo-clause-leaves
 returns-in-Demo-clause-leaves g c a e n =
     let ws : List (List ℕ) = map (λ (word : Bor (List ℕ)). word.now) c.args.words.now in
     let d = asked_demo c.in-Demo.demo in
-    let is : command_of ws ≡ Some (demo d) = c.in-Ok.ensures.taken ∙ ap (λ (k : Command). Some (asked k)) c.in-Demo.is in
+    let is : command_of ws ≡ Some (demo d) = c.in-Ok.ensures.taken ∙ ap (λ (k : Command). Some (asked_command k)) c.in-Demo.is in
     let both : Some a ≡ Some (demo d) = sym e ∙ is in
     let same : a ≡ demo d = cc in
     tell_leaves a d c.demo_command.result.outcome _ same c.demo_command.ensures.told.kinds
@@ -130,13 +130,13 @@ pub returns-in-Demo-clause-second : goal.returns-in-Demo-clause-second
 returns-in-Demo-clause-second g c k = absurd (put_alone c.demo_command.result.outcome c.demo_command.ensures.told.kinds k)
 
 pub returns-in-Chain-clause-second : goal.returns-in-Chain-clause-second
-returns-in-Chain-clause-second g c k = (asked_chain c.in-Chain.chain, c.in-Ok.ensures.taken ∙ ap (λ (x : Command). Some (asked x)) c.in-Chain.is)
+returns-in-Chain-clause-second g c k = (asked_chain c.in-Chain.chain, c.in-Ok.ensures.taken ∙ ap (λ (x : Command). Some (asked_command x)) c.in-Chain.is)
 
 pub returns-in-Chain-clause-written : goal.returns-in-Chain-clause-written
 returns-in-Chain-clause-written g c =
     let ws : List (List ℕ) = map (λ (word : Bor (List ℕ)). word.now) c.args.words.now in
     let a = asked_chain c.in-Chain.chain in
-    let is : command_of ws ≡ Some (chain a) = c.in-Ok.ensures.taken ∙ ap (λ (x : Command). Some (asked x)) c.in-Chain.is in
+    let is : command_of ws ≡ Some (chain a) = c.in-Ok.ensures.taken ∙ ap (λ (x : Command). Some (asked_command x)) c.in-Chain.is in
     let w = c.chain_command.ensures.written in
     (w.0, w.1, λ n. absurd (n a is))
 
@@ -144,7 +144,7 @@ pub returns-in-Chain-clause-chained : goal.returns-in-Chain-clause-chained
 returns-in-Chain-clause-chained g c a e =
     let ws : List (List ℕ) = map (λ (word : Bor (List ℕ)). word.now) c.args.words.now in
     let b = asked_chain c.in-Chain.chain in
-    let is : command_of ws ≡ Some (chain b) = c.in-Ok.ensures.taken ∙ ap (λ (x : Command). Some (asked x)) c.in-Chain.is in
+    let is : command_of ws ≡ Some (chain b) = c.in-Ok.ensures.taken ∙ ap (λ (x : Command). Some (asked_command x)) c.in-Chain.is in
     let both : Some (chain b) ≡ Some (chain a) = sym is ∙ e in
     let same : b ≡ a = cc in
     subst (λ x. AnswersChain x c.chain_command.result.outcome c.chain_command.result.tasks (g.F.Files.told c.args.files.now) (g.F.Files.told c.chain_command.new.files) (g.K.Sink.written c.args.sink) (g.K.Sink.written c.chain_command.result.sink)) same c.chain_command.ensures.chained
@@ -153,7 +153,7 @@ pub returns-in-Chain-clause-leaves_chain : goal.returns-in-Chain-clause-leaves_c
 returns-in-Chain-clause-leaves_chain g c a e =
     let ws : List (List ℕ) = map (λ (word : Bor (List ℕ)). word.now) c.args.words.now in
     let b = asked_chain c.in-Chain.chain in
-    let is : command_of ws ≡ Some (chain b) = c.in-Ok.ensures.taken ∙ ap (λ (x : Command). Some (asked x)) c.in-Chain.is in
+    let is : command_of ws ≡ Some (chain b) = c.in-Ok.ensures.taken ∙ ap (λ (x : Command). Some (asked_command x)) c.in-Chain.is in
     let both : Some (chain b) ≡ Some (chain a) = sym is ∙ e in
     let same : b ≡ a = cc in
     subst (λ x. LeavesChain x c.chain_command.result.outcome (g.F.Files.told c.args.files.now) (g.F.Files.told c.chain_command.new.files)) same c.chain_command.ensures.leaves
@@ -162,7 +162,7 @@ pub returns-in-Chain-clause-leaves : goal.returns-in-Chain-clause-leaves
 returns-in-Chain-clause-leaves g c a e n =
     let ws : List (List ℕ) = map (λ (word : Bor (List ℕ)). word.now) c.args.words.now in
     let b = asked_chain c.in-Chain.chain in
-    let is : command_of ws ≡ Some (chain b) = c.in-Ok.ensures.taken ∙ ap (λ (x : Command). Some (asked x)) c.in-Chain.is in
+    let is : command_of ws ≡ Some (chain b) = c.in-Ok.ensures.taken ∙ ap (λ (x : Command). Some (asked_command x)) c.in-Chain.is in
     let both : Some a ≡ Some (chain b) = sym e ∙ is in
     let same : a ≡ chain b = cc in
     absurd (subst IsPlain same n)

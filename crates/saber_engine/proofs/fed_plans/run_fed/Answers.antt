@@ -3,7 +3,7 @@ use Rattle.std.proofs.Math.Path.{transport}
 use Rattle.std.specs.Prelude.{None, IsSome}
 use Rattle.saber_crew.specs.Runs.{RunsTo}
 use Rattle.saber_crew.specs.declared.dispatch.Over.TheVariants as over_by
-use Rattle.saber_assembly.specs.Stages.{seen}
+use Rattle.saber_assembly.specs.Stages.{stage_view}
 use Rattle.saber_assembly.specs.Works.{IsTold, first_tasks, IsStageOf}
 use Rattle.saber_plan.specs.Trees.{Tree, tree_of}
 use Rattle.saber_plan.specs.Answers.{frame}
@@ -62,8 +62,8 @@ returns-in-Ok-ran g c =
     let b = c.requires.begins in
     let x = c.ended-in-Ok-ran.ensures in
     let ends = x.end ∙ ap (end_of stage.state fed.over) c.let_go-end.ensures in
-    let r : RunsTo (IsTold plan) first_tasks (IsStageOf plan (seen g.O.Operator.contents wrote failed) g.O.Operator.has_taken) (HasFed plan s before v cutter keeper end) (IsSome end) (first_told op s.task w f) stage fed =
-    transport (λ i. RunsTo (IsTold plan) first_tasks (IsStageOf plan (seen g.O.Operator.contents wrote failed) g.O.Operator.has_taken) (HasFed plan (b.0 i) (b.1 i) v cutter keeper end) (IsSome end) (first_told op s.task (wrote (e.sink i)) (failed (e.sink i))) stage fed) c.in-Ok-ran.ensures.ended in
+    let r : RunsTo (IsTold plan) first_tasks (IsStageOf plan (stage_view g.O.Operator.contents wrote failed) g.O.Operator.has_taken) (HasFed plan s before v cutter keeper end) (IsSome end) (first_told op s.task w f) stage fed =
+    transport (λ i. RunsTo (IsTold plan) first_tasks (IsStageOf plan (stage_view g.O.Operator.contents wrote failed) g.O.Operator.has_taken) (HasFed plan (b.0 i) (b.1 i) v cutter keeper end) (IsSome end) (first_told op s.task (wrote (e.sink i)) (failed (e.sink i))) stage fed) c.in-Ok-ran.ensures.ended in
     let over = fed_done c.first_of_first.ensures c.fed_blocks_are_tasks.ensures c.cuts_leave_whole_tasks.ensures plan g.O.Operator.contents g.O.Operator.has_taken wrote failed op s c.requires.sizes.task.0 w f v before cutter keeper end stage fed r in
     let d : FedDone q s v before w f c.ended-in-Ok-ran.result.end c.ended-in-Ok-ran.result.tasks (wrote c.ended-in-Ok-ran.result.sink) (failed c.ended-in-Ok-ran.result.sink) =
     transport (λ i. FedDone (c.requires.plan i) s v before w f (sym ends i) (sym x.tasks i) (wrote (sym x.sink i)) (failed (sym x.sink i))) over in

@@ -2,7 +2,7 @@ use Rattle.std.proofs.Common.{◌≡◌, ℕ, List, [], ◌++◌, length, false,
 use Rattle.saber_plan.specs.declared.rows.Row.{Row}
 use Rattle.saber_plan.specs.declared.plans.Shape.TheVariants.{Join}
 use Rattle.saber_plan.specs.Trees.{Tree}
-use Rattle.saber_plan.specs.Inputs.{Input, arrived, going_on}
+use Rattle.saber_plan.specs.Inputs.{Input, first_arrivals, going_on}
 use Rattle.saber_plan.specs.Answers.{frame}
 use Rattle.saber_plan.specs.Windows.{Fits, no_rows, mark_after}
 use Rattle.saber_plan.specs.GivenRows.{RowsFit}
@@ -49,8 +49,8 @@ module _ (laws : PartLaws) (q : Tree) (join : q.shape ≡ Join) (w : Fits (frame
   follows contents taken of kept is_of = task_follows xs own.rows own.ended q w next.fits contents taken of kept.contents kept.taken (is_of _ _ _ sight)
 
   -- and keeps then what the task leaves open
-  keeps : (new remainder : Kept) (now : Input → Type 0) → new ≡ remainder → remainder ≡ kept_behind q (arrived (with_task behind.rows own.rows own.ended) (end_of behind.rows own.rows own.ended))
-      → now (arrived (with_task behind.rows own.rows own.ended) (end_of behind.rows own.rows own.ended)) → own.ended ≡ false → Keeps q new now (going_on (behind.rows ++ own.rows))
+  keeps : (new remainder : Kept) (now : Input → Type 0) → new ≡ remainder → remainder ≡ kept_behind q (first_arrivals (with_task behind.rows own.rows own.ended) (end_of behind.rows own.rows own.ended))
+      → now (first_arrivals (with_task behind.rows own.rows own.ended) (end_of behind.rows own.rows own.ended)) → own.ended ≡ false → Keeps q new now (going_on (behind.rows ++ own.rows))
   keeps new remainder now dropped stays has on = record {
     contents = dropped ∙ stays ∙ task_leaves xs own.rows own.ended q ∙ ap (λ e. kept_behind q (with_task xs own.rows e)) on;
     taken = subst now (at_last xs own.rows own.ended ∙ ap (with_task xs own.rows) on) has;

@@ -3,7 +3,7 @@ use Rattle.std.proofs.lemmas.List.{drop_all}
 use mir.Val.{SFits}
 use mir.Syntax.{w128}
 use Rattle.std.specs.Fmt.{signed_decimal}
-use Rattle.saber_digits.specs.Cells.{cells, drafted}
+use Rattle.saber_digits.specs.Cells.{cells, drafted_text}
 use Rattle.saber_plan.specs.Answers.{items_over}
 use Rattle.saber_plan.specs.Facts.Lists.{all_at}
 use Rattle.saber_partial.specs.Printing.{joined_row, IsLone}
@@ -17,7 +17,7 @@ number_of_both-requires-clause-item c =
 pub loop-item-preserved : goal.loop-item-preserved
 loop-item-preserved c =
     let fits : SFits w128 c.number_of_both.result = search rules in
-    let before = drafted c.loop-item.out.items c.loop-item.draft c.loop-item.at in
+    let before = drafted_text c.loop-item.out.items c.loop-item.draft c.loop-item.at in
     let cell = c.in_ok-at.ensures.ok ∙ ap (λ z. before ++ 44 ∷ signed_decimal z) (to_z-of_z fits) in
     let both = joined_row c.args.layout.now c.args.row.now c.args.later.now in
     let written = written_cell c.args.items.now c.loop-item.item-index c.item-item.result both c.number_of_both.result in
@@ -39,7 +39,7 @@ returns-in_err-at-clause-behind c = behind_both _ _ _ c.loop-item.invariant.behi
 
 pub returns-clause-ok : goal.returns-clause-ok
 returns-clause-ok c =
-    let last = drafted c.loop-item.out.items c.loop-item.draft c.loop-item.at in
+    let last = drafted_text c.loop-item.out.items c.loop-item.draft c.loop-item.at in
     let none = drop_all c.loop-item.item-index c.args.items.now c.loop-item-test.false in
     sym (append-nil last)
     ∙ ap (λ is. last ++ cells (items_over is (joined_row c.args.layout.now c.args.row.now c.args.later.now) [])) (sym none)

@@ -17,13 +17,13 @@ loop-k-preserved c =
     let test = c.loop-k-test.true in
     let long = inv.long in
     let many = c.requires.folds in
-    let z = c.stepped.result in
+    let z = c.step.result in
     let fits : SFits w128 z = search rules in
     let mine : SFits w128 (get_or xs k (pos 0)) = search rules in
     let theirs : SFits w128 (get_or ys k (pos 0)) = search rules in
     let more : stepped_from fs (set xs k z) ys (k + 1) ≡ stepped_from fs xs ys k =
     stepped_more fs xs ys k z (omega (arith, test, long)) (omega (arith, many, long)) (long ∙ c.requires.long)
-    (c.stepped.ensures ∙ ap₂ (step (get_or fs k Sum)) (to_z-of_z mine) (to_z-of_z theirs)) in
+    (c.step.ensures ∙ ap₂ (step (get_or fs k Sum)) (to_z-of_z mine) (to_z-of_z theirs)) in
     record {
       long = length-set xs k _ ∙ long;
       left = λ j h. get_or-set_other xs k j _ (pos 0) (λ e. omega (arith, h, e)) ∙ inv.left j (omega (arith, h));

@@ -1,7 +1,7 @@
 use Rattle.std.proofs.Common.{◌∙◌, [], get_or, arith}
 use Rattle.std.proofs.lemmas.List.{drop_more}
 use Rattle.saber_plan.specs.Answers.{items_over}
-use Rattle.saber_digits.specs.Cells.{drafted}
+use Rattle.saber_digits.specs.Cells.{drafted_text}
 use Rattle.saber_partial.specs.Flat.{entry_in}
 use Rattle.saber_partial.proofs.Lined.{behind_both, written_one}
 use Rattle.saber_partial.proofs.Listed.{of_row}
@@ -19,8 +19,8 @@ loop-i-preserved c =
     let long = c.len-i-end.ensures in
     let test = c.loop-i-test.true in
     let next = drop_more es i x (omega (arith, long, test)) in
-    let before = drafted c.loop-i.out.items c.loop-i.draft c.loop-i.at in
-    let after = drafted c.write_line.new.out.items c.write_line.new.draft c.in_ok-at.at in
+    let before = drafted_text c.loop-i.out.items c.loop-i.draft c.loop-i.at in
+    let after = drafted_text c.write_line.new.out.items c.write_line.new.draft c.in_ok-at.at in
     record {
       all = written_one c.args.heading.now.window items before after (items_over items row []) (get_or es i x) _ _ is next c.in_ok-at.ensures.ok
           ∙ c.loop-i.invariant.all;

@@ -3,7 +3,7 @@ use Rattle.std.specs.FinMap.{get}
 use Rattle.std.proofs.lemmas.List.{drop_more, length-set}
 use Rattle.std.proofs.Math.ListN.{set}
 use Rattle.saber_plan.specs.Answers.{key_cmp}
-use Rattle.saber_plan.specs.Merges.{joined}
+use Rattle.saber_plan.specs.Merges.{joined_value}
 use Rattle.saber_plan.specs.Parts.{Part, Numbers, numbers, join_numbers, merge}
 use Rattle.saber_plan.specs.Facts.Maps.{rest_rises}
 use Rattle.saber_partial.specs.Flat.{entry_in}
@@ -46,7 +46,7 @@ loop-j-preserved c =
     let written = c.join.ensures.joined d ∙ ap (λ (e : List ℤ × Numbers). set gs at ((get_or gs at d).0, join_numbers (get_or gs at d).1 e.1)) is in
     let long = ap length written ∙ length-set gs at _ in
     let new = wrote_part gs c.join.new.self.entries f.0 at d f.1 kept.mine here written in
-    let n = joined join_numbers (get m f.0) f.1 in
+    let n = joined_value join_numbers (get m f.0) f.1 in
     let rises = subst Rises left kept.theirs in
     let can = subst (λ l. JoinsFit m (part_of l)) left kept.can in
     record {

@@ -1,10 +1,10 @@
 use Rattle.std.proofs.Common.{◌≡◌, ◌+◌, ◌≤◌, length}
-use Rattle.saber_partial.specs.Piles.{piled, CanPile}
+use Rattle.saber_partial.specs.Piles.{piled_part, CanPile}
 use Rattle.saber_partial.proofs.piles.carry.Given as goal
 
 abbrev pub invariant-loop-parts : goal.invariant-loop-parts
 invariant-loop-parts g l = record {
-  same : piled l.parts.items ≡ piled l.fn.parts.items;
+  same : piled_part l.parts.items ≡ piled_part l.fn.parts.items;
   can : CanPile l.parts.items;
   steps : l.steps + length l.parts.items ≤ l.fn.steps + length l.fn.parts.items;
 }

@@ -1,6 +1,6 @@
 use Rattle.std.proofs.Common.{◌∷◌, [], length, length-append, sym, subst, ◌∙◌, ap, arith}
 use Rattle.std.proofs.lemmas.Result.{on_ok_weaker}
-use Rattle.saber_partial.specs.Piles.{piled, CanPile}
+use Rattle.saber_partial.specs.Piles.{piled_part, CanPile}
 use Rattle.saber_partial.proofs.PileFacts.{piled-push, can_pop}
 use Rattle.saber_partial.proofs.piles.merge_last.Goals as goal
 
@@ -19,7 +19,7 @@ merge_behind-requires-clause-room g c = (can_pop c.merge_is_associative.ensures 
 
 pub returns-clause-same : goal.returns-clause-same
 returns-clause-same g c =
-    let old = ap piled c.in-Some.ensures.items ∙ piled-push c.merge_is_associative.ensures c.pop.new.self.items c.in-Some.last in
+    let old = ap piled_part c.in-Some.ensures.items ∙ piled-push c.merge_is_associative.ensures c.pop.new.self.items c.in-Some.last in
     on_ok_weaker c.merge_behind.result (λ e. e ∙ sym old) c.merge_behind.ensures.all
 
 pub returns-clause-fewer : goal.returns-clause-fewer

@@ -1,13 +1,13 @@
 use Rattle.std.proofs.Common.{List, ◌++◌, ◌∷◌, [], sym, subst, ◌∙◌, ap}
 use Rattle.saber_plan.specs.Parts.{Part}
-use Rattle.saber_partial.specs.Piles.{piled, CanPile}
+use Rattle.saber_partial.specs.Piles.{piled_part, CanPile}
 use Rattle.saber_partial.proofs.PileFacts.{piled-push, can_push}
 use Rattle.saber_partial.proofs.piles.put_copy.Goals as goal
 
 pub returns-clause-all : goal.returns-clause-all
 returns-clause-all g c =
     let old = c.args.parts.now.items in
-    ap piled c.in_ok-push.ensures.items ∙ ap (λ (p : Part). piled (old ++ p ∷ [])) c.in_ok-copy_in.ensures ∙ piled-push c.merge_is_associative.ensures old c.args.part.now
+    ap piled_part c.in_ok-push.ensures.items ∙ ap (λ (p : Part). piled_part (old ++ p ∷ [])) c.in_ok-copy_in.ensures ∙ piled-push c.merge_is_associative.ensures old c.args.part.now
 
 pub returns-clause-can : goal.returns-clause-can
 returns-clause-can g c =

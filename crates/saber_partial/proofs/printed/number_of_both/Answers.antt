@@ -45,8 +45,8 @@ returns-then-place-count-2 c =
     ∙ ap (λ j. get_or (joined_row l xs ys) j (pos 0)) (sym same)
     ∙ worth c.args.item.now i (joined_row l xs ys) c.place_of-place.ensures
 
-pub stepped-requires : goal.stepped-requires
-stepped-requires c =
+pub step-requires : goal.step-requires
+step-requires c =
     let l = c.args.layout.now in
     let xs = c.args.row.now in
     let ys = c.args.later.now in
@@ -70,8 +70,8 @@ returns c =
     let d = c.if-place-count-2.false in
     let mine : SFits w128 (get_or xs i (pos 0)) = search rules in
     let theirs : SFits w128 (get_or ys i (pos 0)) = search rules in
-    let fits : SFits w128 c.stepped.result = search rules in
-    to_z-of_z fits ∙ c.stepped.ensures
+    let fits : SFits w128 c.step.result = search rules in
+    to_z-of_z fits ∙ c.step.ensures
     ∙ ap₂ (step (get_or l.folds (i - l.keys - 1) Sum)) (to_z-of_z mine) (to_z-of_z theirs)
     ∙ value_of_both l xs ys c.requires.layout c.requires.mine c.requires.theirs c.requires.can i (omega (arith, b, d)) (omega (arith, a))
     ∙ worth c.args.item.now i (joined_row l xs ys) c.place_of-place.ensures

@@ -4,7 +4,7 @@ use Rattle.saber_plan.specs.declared.plans.Aggregate.{Aggregate}
 use Rattle.saber_plan.specs.Trees.{tree_of}
 use Rattle.saber_plan.specs.Parts.{Numbers, join_numbers}
 use Rattle.saber_partial.specs.Flat.{entry_in, with_folds}
-use Rattle.saber_partial.specs.Gathering.{plan_folds, stepped, values_over, HasRoom, IsSmall}
+use Rattle.saber_partial.specs.Gathering.{plan_folds, stepped_numbers, values_over, HasRoom, IsSmall}
 use Rattle.saber_partial.specs.Tallies.{CanJoin}
 use Rattle.saber_partial.proofs.Folded.{length-over, sums_have_room}
 use Rattle.saber_partial.proofs.RowNumbers.{behind_many, behind_write, entry_after, folds_are, plan_numbers, plan_room, plan_stepped, plan_tally, row_after, sum_held}
@@ -36,7 +36,7 @@ returns-clause-row c =
     let many = behind_many l xs gs zs c.requires.layout c.requires.mine c.requires.can in
     let folds = folds_are l xs gs zs c.requires.layout c.requires.mine c.requires.can in
     let small = subst (λ (a : List Aggregate). AllByRecursion IsSmall (with_folds (plan_folds a) (values_over zs a))) c.list.ensures c.add_values.ensures.small in
-    let new = c.add_values.ensures.all ∙ ap₂ (λ (a : List Aggregate) (b : List ℤ). stepped (plan_folds a) b (values_over zs a)) c.list.ensures (behind_write xs l.keys _)
+    let new = c.add_values.ensures.all ∙ ap₂ (λ (a : List Aggregate) (b : List ℤ). stepped_numbers (plan_folds a) b (values_over zs a)) c.list.ensures (behind_write xs l.keys _)
     ∙ plan_stepped l gs zs folds rest (omega (arith, many)) in
     row_after l xs (values_over zs gs) 1 c.requires.layout c.requires.mine (many ∙ sym (length-over zs gs)) (plan_tally l gs zs folds small)
     (subst (CanJoin (entry_in l xs).1) (plan_numbers l gs zs folds) c.requires.can) _ c.add_values.new.xs
@@ -52,7 +52,7 @@ returns-clause-joined c =
     let many = behind_many l xs gs zs c.requires.layout c.requires.mine c.requires.can in
     let folds = folds_are l xs gs zs c.requires.layout c.requires.mine c.requires.can in
     let small = subst (λ (a : List Aggregate). AllByRecursion IsSmall (with_folds (plan_folds a) (values_over zs a))) c.list.ensures c.add_values.ensures.small in
-    let new = c.add_values.ensures.all ∙ ap₂ (λ (a : List Aggregate) (b : List ℤ). stepped (plan_folds a) b (values_over zs a)) c.list.ensures (behind_write xs l.keys _)
+    let new = c.add_values.ensures.all ∙ ap₂ (λ (a : List Aggregate) (b : List ℤ). stepped_numbers (plan_folds a) b (values_over zs a)) c.list.ensures (behind_write xs l.keys _)
     ∙ plan_stepped l gs zs folds rest (omega (arith, many)) in
     entry_after l xs (values_over zs gs) 1 c.requires.layout c.requires.mine (many ∙ sym (length-over zs gs)) (plan_tally l gs zs folds small)
     (subst (CanJoin (entry_in l xs).1) (plan_numbers l gs zs folds) c.requires.can) _ c.add_values.new.xs

@@ -1,6 +1,6 @@
 use Rattle.std.proofs.Common.{◌+◌, ◌≤◌, List, ℤ, drop, length, get_or, nat_abs, pos, sym, ◌∙◌, ap, ap₂, subst, subst₂, arith}
 use Rattle.std.proofs.lemmas.Slice.{between_to_end}
-use Rattle.saber_partial.specs.Gathering.{stepped, StepsFit}
+use Rattle.saber_partial.specs.Gathering.{stepped_numbers, StepsFit}
 use Rattle.saber_partial.proofs.Folded.{steps_fit}
 use Rattle.saber_partial.proofs.RowNumbers.{as_long, behind_few, behind_write, entry_after, row_after, sum_held}
 use Rattle.saber_partial.proofs.tally.join_row.Goals as goal
@@ -38,7 +38,7 @@ returns-clause-row c =
     row_after l xs (drop (l.keys + 1) ys) (nat_abs (get_or ys l.keys (pos 0))) c.requires.layout c.requires.mine
     (as_long l xs ys c.requires.layout c.requires.mine c.requires.theirs c.requires.can) c.requires.theirs.tally c.requires.can _ c.join_values.new.xs
     (sum_held (get_or xs l.keys (pos 0)) (get_or ys l.keys (pos 0)) c.requires.mine.count c.requires.theirs.count c.requires.can.counts)
-    (c.join_values.ensures ∙ ap₂ (stepped l.folds) (behind_write xs l.keys _) (between_to_end ys (l.keys + 1) (length ys) (omega arith)))
+    (c.join_values.ensures ∙ ap₂ (stepped_numbers l.folds) (behind_write xs l.keys _) (between_to_end ys (l.keys + 1) (length ys) (omega arith)))
 
 pub returns-clause-joined : goal.returns-clause-joined
 returns-clause-joined c =
@@ -48,4 +48,4 @@ returns-clause-joined c =
     entry_after l xs (drop (l.keys + 1) ys) (nat_abs (get_or ys l.keys (pos 0))) c.requires.layout c.requires.mine
     (as_long l xs ys c.requires.layout c.requires.mine c.requires.theirs c.requires.can) c.requires.theirs.tally c.requires.can _ c.join_values.new.xs
     (sum_held (get_or xs l.keys (pos 0)) (get_or ys l.keys (pos 0)) c.requires.mine.count c.requires.theirs.count c.requires.can.counts)
-    (c.join_values.ensures ∙ ap₂ (stepped l.folds) (behind_write xs l.keys _) (between_to_end ys (l.keys + 1) (length ys) (omega arith)))
+    (c.join_values.ensures ∙ ap₂ (stepped_numbers l.folds) (behind_write xs l.keys _) (between_to_end ys (l.keys + 1) (length ys) (omega arith)))

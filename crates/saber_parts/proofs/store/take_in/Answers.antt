@@ -3,7 +3,7 @@ use Rattle.std.specs.Option.{option_copied_mut}
 use Rattle.std.specs.Cmp.{nat_cmp_total}
 use Rattle.std.specs.FinMap.{get, insert, is_sorted, nat_cmp-IsAntisymmetric}
 use Rattle.std.specs.Vec.Iter.{into_iter_items}
-use Rattle.saber_plan.specs.Merges.{joined, both}
+use Rattle.saber_plan.specs.Merges.{joined_value, both}
 use Rattle.saber_plan.specs.Parts.{merge}
 use Rattle.saber_plan.specs.Facts.Maps.{both-empty_right, rest_rises}
 use Rattle.saber_plan.specs.Facts.Trees.{written, inserted, looked_up}
@@ -51,7 +51,7 @@ loop-window-preserved-in-Continue-1 g c =
     let found = sym c.get_mut.ensures.value ∙ ap option_copied_mut c.in-Some-get_mut.is in
     let here : get m k ≡ Some (shown c.in-Some-get_mut.mine.now) = sym (looked_up nat_cmp (λ k. k) shown nat_cmp_total nat_cmp-IsAntisymmetric k es) ∙ ap (option_map shown) found in
     let new : parts_by shown (c.get_mut.follows.lender raw).entries ≡ insert m k n = ap (parts_by shown) (c.get_mut.follows.holds raw).0 ∙ written nat_cmp (λ k. k) shown nat_cmp_total nat_cmp-IsAntisymmetric k raw c.in-Some-get_mut.mine.now es found in
-    let sum : n ≡ joined merge (get m k) (shown c.in-Some.part) = c.in_ok-merge-in-Some-get_mut.ensures ∙ sym (ap (λ o. joined merge o (shown c.in-Some.part)) here) in
+    let sum : n ≡ joined_value merge (get m k) (shown c.in-Some.part) = c.in_ok-merge-in-Some-get_mut.ensures ∙ sym (ap (λ o. joined_value merge o (shown c.in-Some.part)) here) in
     let rising = subst (λ l. T (is_sorted nat_cmp (windows_by shown l))) left c.loop-window.invariant.rising in
     let fits = subst (λ l. CanTakeIn q m (parts_by shown l)) left c.loop-window.invariant.fits in
     let after = into_iter_items c.next.new.self in
@@ -77,7 +77,7 @@ loop-window-preserved g c =
     let found = sym c.get_mut.ensures.value ∙ ap option_copied_mut c.in-None-get_mut.is in
     let here : get m k ≡ None = sym (looked_up nat_cmp (λ k. k) shown nat_cmp_total nat_cmp-IsAntisymmetric k es) ∙ ap (option_map shown) found in
     let new : parts_by shown c.insert.new.self.entries ≡ insert m k n = ap (parts_by shown) c.in_ok-insert-in-None-get_mut.ensures.entries ∙ inserted nat_cmp (λ k. k) shown nat_cmp_total nat_cmp-IsAntisymmetric k raw c.get_mut.follows.lender-at-none.entries ∙ ap (λ l. insert (parts_by shown l) k n) (λ i. (c.get_mut.follows.holds-at-none i).entries) in
-    let sum : n ≡ joined merge (get m k) n = sym (ap (λ o. joined merge o n) here) in
+    let sum : n ≡ joined_value merge (get m k) n = sym (ap (λ o. joined_value merge o n) here) in
     let rising = subst (λ l. T (is_sorted nat_cmp (windows_by shown l))) left c.loop-window.invariant.rising in
     let fits = subst (λ l. CanTakeIn q m (parts_by shown l)) left c.loop-window.invariant.fits in
     let after = into_iter_items c.next.new.self in

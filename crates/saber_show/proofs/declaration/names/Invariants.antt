@@ -1,7 +1,7 @@
 use Rattle.std.proofs.Common.{◌≡◌, ◌++◌, drop}
 use Rattle.saber_query.specs.Words.{names_words}
-use Rattle.saber_query.specs.Spelling.{spaced}
+use Rattle.saber_query.specs.Spelling.{spaced_text}
 use Rattle.saber_show.proofs.declaration.names.Given as goal
 
 abbrev pub invariant-loop-other : goal.invariant-loop-other
-invariant-loop-other l = l.out.items ++ spaced (names_words (drop l.other-index l.others)) ≡ l.initial.out.items ++ spaced (names_words l.others)
+invariant-loop-other l = l.out.items ++ spaced_text (names_words (drop l.other-index l.others)) ≡ l.initial.out.items ++ spaced_text (names_words l.others)

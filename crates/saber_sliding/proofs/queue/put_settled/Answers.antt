@@ -1,5 +1,5 @@
 use Rattle.std.proofs.Common.{[], ◌∷◌, ◌++◌, subst, sym, ◌∙◌, ap}
-use Rattle.saber_sliding.specs.Entries.{pushed, seen, CanFollow, Sound}
+use Rattle.saber_sliding.specs.Entries.{pushed_entries, queue_entries, CanFollow, Sound}
 use Rattle.saber_sliding.proofs.Entered.{back_can, seen-push, sound-push}
 use Rattle.saber_sliding.proofs.queue.put_settled.Goals as goal
 
@@ -19,6 +19,6 @@ returns-clause-sound g c =
 pub returns-clause-entries : goal.returns-clause-entries
 returns-clause-entries g c =
     let s = c.settle.new in
-    (λ i. seen s.front.items (c.in_ok-put_behind.ensures.back i) (c.in_ok-put_behind.ensures.part i))
+    (λ i. queue_entries s.front.items (c.in_ok-put_behind.ensures.back i) (c.in_ok-put_behind.ensures.part i))
     ∙ seen-push c.merge_has_unit.ensures c.merge_is_associative.ensures s.front.items s.back.items s.back_part.part c.args.number c.args.part
-    ∙ ap (λ es. pushed es c.args.number c.args.part) c.in_ok-settle.ensures.entries
+    ∙ ap (λ es. pushed_entries es c.args.number c.args.part) c.in_ok-settle.ensures.entries

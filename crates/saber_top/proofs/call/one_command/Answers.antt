@@ -1,5 +1,5 @@
 use Rattle.std.proofs.Common.{◌≡◌, ◌≢◌, ◌∙◌, refl, sym, ap, subst}
-use Rattle.saber_plan.specs.Outputs.{Rose, appended, AppendsPrefix}
+use Rattle.saber_plan.specs.Outputs.{Rose, appended_text, AppendsPrefix}
 use Rattle.saber_notes.specs.Notes.{status_of}
 use Rattle.saber_notes.specs.declared.note.Noted.TheVariants.{Nothing, Whole, Failed}
 use Rattle.saber_notes.specs.declared.outcome.Outcome.TheVariants.{WriteFault}
@@ -73,7 +73,7 @@ returns-clause-notes g c =
     record {
       nothing = λ z. says.nothing (done_alone o (sym says.status ∙ z));
       something = λ n. says.something (λ e. n (says.status ∙ ap status_of e));
-      whole = λ w. says.whole w ∙ ap (appended _) (told_note o (λ e. let clash : Nothing ≡ Whole = sym (says.nothing e).0 ∙ w in cc));
+      whole = λ w. says.whole w ∙ ap (appended_text _) (told_note o (λ e. let clash : Nothing ≡ Whole = sym (says.nothing e).0 ∙ w in cc));
       failed = λ w. subst (AppendsPrefix _ _) (told_note o (λ e. let clash : Nothing ≡ Failed = sym (says.nothing e).0 ∙ w in cc)) (says.failed w);
       memory = says.memory;
       note = says.note;

@@ -5,7 +5,7 @@ use Rattle.saber_plan.specs.Trees.{tree_of}
 use Rattle.saber_dispatch.specs.declared.inputs.Inputs.TheVariants.{One}
 use Rattle.saber_engine.specs.Sources.{each_input, GaveAll}
 use Rattle.saber_cli.specs.Outcomes.{IsClean, IsFileFault}
-use Rattle.saber_cli.specs.RowFiles.{raised_by, source_back, using}
+use Rattle.saber_cli.specs.RowFiles.{raised_by, source_back, after_use}
 use Rattle.saber_top.specs.Shared.{RunsPart, outcomes_of, parts_in}
 use Rattle.saber_top.proofs.LeftLemmas.{create_no_file, create_of_left, fits_all, left_there, left_unopened, left_untouched, left_used, of_one, over_all, reads_all, raised_none, reads_good_all, unopened_file, unopened_kinds, unopened_made, unopened_no_create, unopened_unwell}
 use Rattle.saber_top.proofs.left.run_left.Goals as goal
@@ -52,7 +52,7 @@ returns-in-Ok-run_source-clause-parts g c =
     let parts = parts_in c.in-Ok-run_source.parts in
     let one = of_one left src c.run_source.new.inputs c.in-Ok-run_source.ensures.takes in
     let runs = subst (λ i. AllZip (λ plan part. RunsPart left faults written failed (tree_of plan) sizes (One src) i part) plans parts) one.1 c.in-Ok-run_source.ensures.parts in
-    let closed : new ≡ using b [] (source_back left faults one.0 ∷ []) = subst (λ i. new ≡ using b [] (each_input (source_back left faults) i)) one.1 c.close_rows.ensures.closed in
+    let closed : new ≡ after_use b [] (source_back left faults one.0 ∷ []) = subst (λ i. new ≡ after_use b [] (each_input (source_back left faults) i)) one.1 c.close_rows.ensures.closed in
     over_all left faults written failed sizes src one.0 name a b new plans parts c.in-Ok.ensures.opens c.in-Ok.ensures.asked closed runs
 
 pub returns-in-Ok-run_source-clause-there : goal.returns-in-Ok-run_source-clause-there
@@ -75,7 +75,7 @@ returns-in-Ok-run_source-clause-used g c =
     let parts = parts_in c.in-Ok-run_source.parts in
     let one = of_one left src c.run_source.new.inputs c.in-Ok-run_source.ensures.takes in
     let runs = subst (λ i. AllZip (λ plan part. RunsPart left faults written failed (tree_of plan) sizes (One src) i part) plans parts) one.1 c.in-Ok-run_source.ensures.parts in
-    let closed : new ≡ using b [] (source_back left faults one.0 ∷ []) = subst (λ i. new ≡ using b [] (each_input (source_back left faults) i)) one.1 c.close_rows.ensures.closed in
+    let closed : new ≡ after_use b [] (source_back left faults one.0 ∷ []) = subst (λ i. new ≡ after_use b [] (each_input (source_back left faults) i)) one.1 c.close_rows.ensures.closed in
     let taken = subst (λ i. (taken : List (List ℕ)) × GaveAll (each_input left (One src)) taken (each_input left i)) one.1 c.in-Ok-run_source.ensures.takes in
     left_used left faults written failed sizes src one.0 name a b new (outcomes_of parts) c.in-Ok.ensures.opens c.in-Ok.ensures.asked closed taken (fits_all left faults written failed sizes src one.0 plans parts runs c.in-Ok.ensures.fresh)
 
@@ -145,7 +145,7 @@ returns-in-Err-run_source-clause-uses g c =
     let b = told c.open_row.new.files in
     let new = told c.close_rows-in-Err-run_source.new.files in
     let name = c.args.left.now in
-    let closed : new ≡ using b [] (source_back left faults src ∷ []) = subst (λ i. new ≡ using b [] (each_input (source_back left faults) i)) c.in-Err-run_source.ensures.untouched c.close_rows-in-Err-run_source.ensures.closed in
+    let closed : new ≡ after_use b [] (source_back left faults src ∷ []) = subst (λ i. new ≡ after_use b [] (each_input (source_back left faults) i)) c.in-Err-run_source.ensures.untouched c.close_rows-in-Err-run_source.ensures.closed in
     left_untouched c.in-Err-run_source.early name (left src) (faults src) a b new c.in-Err-run_source.ensures.kinds c.in-Ok.ensures.opens c.in-Ok.ensures.fresh c.in-Ok.ensures.asked closed
 
 pub returns-in-Err-run_source-clause-file : goal.returns-in-Err-run_source-clause-file

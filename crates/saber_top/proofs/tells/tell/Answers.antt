@@ -1,5 +1,5 @@
 use Rattle.std.proofs.Common.{◌≡◌, ◌∙◌, ◌++◌, sym, ap, subst}
-use Rattle.saber_plan.specs.Outputs.{AppendsPrefix, appended}
+use Rattle.saber_plan.specs.Outputs.{AppendsPrefix, appended_text}
 use Rattle.saber_notes.specs.ManyNotes.{early_note, early_status, first_status, lines_from, query_lines}
 use Rattle.saber_notes.specs.Reports.{notes_in}
 use Rattle.saber_top.specs.Comes.{TellsNotes}
@@ -35,7 +35,7 @@ returns-in-Each g c =
     let tells : TellsNotes g.N.Sink.written g.N.Sink.faults c.args.notes.now c.write.new.notes (first_status os) c.write.result (query_lines os) = record {
       nothing = λ z. says.nothing (text ∙ quiet 1 os z);
       something = λ n. says.something (λ e. loud 1 os n (sym text ∙ e));
-      whole = λ w. says.whole w ∙ ap (appended old) text;
+      whole = λ w. says.whole w ∙ ap (appended_text old) text;
       failed = λ w. subst (AppendsPrefix old new) text (says.failed w);
       memory = says.memory;
       note = says.cause;

@@ -1,7 +1,7 @@
 use Rattle.std.proofs.Common.{◌++◌, sym, subst₂, length-append, arith}
 use Rattle.saber_plan.specs.Trees.{tree_of}
 use Rattle.saber_plan.specs.Windows.{no_rows, placed_after}
-use Rattle.saber_panes.specs.Panes.{panes_here, counted, WindowRoom}
+use Rattle.saber_panes.specs.Panes.{panes_here, counted_rows, WindowRoom}
 use Rattle.saber_window_tests.proofs.PanesFrom.{few_counted}
 use Rattle.saber_window_tests.proofs.panes.lines_of_window.Goals as goal
 
@@ -9,7 +9,7 @@ pub window-requires-clause-room : goal.window-requires-clause-room
 window-requires-clause-room g c =
     let q = tree_of c.args.plan.now in
     let rows = c.args.one.now ++ c.args.two.now in
-    let us = counted q (placed_after no_rows rows) in
+    let us = counted_rows q (placed_after no_rows rows) in
     let long = length-append c.args.one.now c.args.two.now in
     let few = c.requires.few_first in
     let more = c.requires.few_second in

@@ -3,7 +3,7 @@ use Rattle.saber_plan.specs.Merges.{both}
 use Rattle.saber_plan.specs.Parts.{merge}
 use Rattle.saber_plan.specs.Trees.{tree_of}
 use Rattle.saber_plan.specs.Windows.{placed_after}
-use Rattle.saber_panes.specs.Panes.{panes_here, counted, RowsRoom}
+use Rattle.saber_panes.specs.Panes.{panes_here, counted_rows, RowsRoom}
 use Rattle.saber_window_tests.proofs.PanesFrom.{no_panes}
 use Rattle.saber_window_tests.proofs.panes.panes_of.Goals as goal
 
@@ -13,7 +13,7 @@ fold-requires-clause-room g c =
     let m = c.args.before.now in
     let rows = c.args.rows.now in
     let few = c.requires.few in
-    subst (λ p. RowsRoom q p (counted q (placed_after m rows))) (no_panes q m ∙ sym c.empty-panes.ensures) (c.rows_have_room.ensures q m [] rows (omega (arith, few)))
+    subst (λ p. RowsRoom q p (counted_rows q (placed_after m rows))) (no_panes q m ∙ sym c.empty-panes.ensures) (c.rows_have_room.ensures q m [] rows (omega (arith, few)))
 
 pub returns : goal.returns
 returns g c =

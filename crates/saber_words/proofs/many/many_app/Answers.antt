@@ -3,7 +3,7 @@ use Rattle.std.proofs.lemmas.Result.{IfOk-weaker}
 use Rattle.clap.specs.Walk.{Rule, Text, rule_of}
 use Rattle.clap.specs.Simple.{App, new_app, with_rule}
 use Rattle.clap.specs.declared.builder.arg.Arg.{Arg}
-use Rattle.saber_words.specs.Commands.{max_lines, required, ring, slack, task}
+use Rattle.saber_words.specs.Commands.{max_lines, required_rule, ring, slack, task}
 use Rattle.saber_words.specs.Numbers.{number_rule}
 use Rattle.saber_words.specs.Flags.{flag_rule}
 use Rattle.saber_words.specs.Many.{IsLocal, few_threads, others, with_names}
@@ -20,12 +20,12 @@ globally a = a.global
 
 -- the command with its file and the first query
 abbrev one_query : App
-one_query = with_rule (with_rule (new_app (codes "many")) (required (codes "left"))) (required (codes "first"))
+one_query = with_rule (with_rule (new_app (codes "many")) (required_rule (codes "left"))) (required_rule (codes "first"))
 
 pub returns : goal.returns
 returns c =
-    let left : rule_of c.required-left.result ≡ required (codes "left") = ap rule_of c.required-left.ensures ∙ ap needed c.new.ensures.rule in
-    let first : rule_of c.required-first.result ≡ required (codes "first") = ap rule_of c.required-first.ensures ∙ ap needed c.new-2.ensures.rule in
+    let left : rule_of c.required-left.result ≡ required_rule (codes "left") = ap rule_of c.required-left.ensures ∙ ap needed c.new.ensures.rule in
+    let first : rule_of c.required-first.result ≡ required_rule (codes "first") = ap rule_of c.required-first.ensures ∙ ap needed c.new-2.ensures.rule in
     let rows : rule_of c.number_arg.result ≡ number_rule task = c.number_arg.ensures.rule ∙ ap number_rule c.task.ensures in
     let cells : rule_of c.number_arg-2.result ≡ number_rule ring = c.number_arg-2.ensures.rule ∙ ap number_rule c.ring.ensures in
     let count : rule_of c.number_arg-3.result ≡ number_rule few_threads = c.number_arg-3.ensures.rule ∙ ap number_rule c.few_threads.ensures in

@@ -3,7 +3,7 @@ use Rattle.std.proofs.lemmas.Result.{IfOk-weaker}
 use Rattle.clap.specs.Walk.{Rule, rule_of}
 use Rattle.clap.specs.Simple.{App}
 use Rattle.clap.specs.declared.builder.arg.Arg.{Arg}
-use Rattle.saber_words.specs.Commands.{max_lines, optional, required, ring, slack, task, threads}
+use Rattle.saber_words.specs.Commands.{max_lines, optional, required_rule, ring, slack, task, threads}
 use Rattle.saber_words.specs.Numbers.{number_rule}
 use Rattle.saber_words.specs.Flags.{flag_rule}
 use Rattle.saber_words.proofs.Apps.{local_with_arg}
@@ -11,8 +11,8 @@ use Rattle.saber_words.proofs.reading.run_app.Goals as goal
 
 pub returns : goal.returns
 returns c =
-    let query : rule_of c.required-query.result ≡ required (codes "query") = ap rule_of c.required-query.ensures ∙ ap (λ (r : Rule). record r { required = true }) c.new.ensures.rule in
-    let left : rule_of c.required-left.result ≡ required (codes "left") = ap rule_of c.required-left.ensures ∙ ap (λ (r : Rule). record r { required = true }) c.new-2.ensures.rule in
+    let query : rule_of c.required-query.result ≡ required_rule (codes "query") = ap rule_of c.required-query.ensures ∙ ap (λ (r : Rule). record r { required = true }) c.new.ensures.rule in
+    let left : rule_of c.required-left.result ≡ required_rule (codes "left") = ap rule_of c.required-left.ensures ∙ ap (λ (r : Rule). record r { required = true }) c.new-2.ensures.rule in
     let right : rule_of c.new-right.result ≡ optional (codes "right") = c.new-right.ensures.rule in
     let rows : rule_of c.number_arg.result ≡ number_rule task = c.number_arg.ensures.rule ∙ ap number_rule c.task.ensures in
     let cells : rule_of c.number_arg-2.result ≡ number_rule ring = c.number_arg-2.ensures.rule ∙ ap number_rule c.ring.ensures in

@@ -1,7 +1,7 @@
 use Rattle.std.proofs.Common.{◌+◌, IfSome, subst, arith}
-use Rattle.saber_plan.specs.Tasks.{cut}
+use Rattle.saber_plan.specs.Tasks.{task_start}
 use Rattle.saber_fragment.specs.Stores.{Follows}
-use Rattle.saber_assembly.specs.Stages.{seen, IsPieceAt}
+use Rattle.saber_assembly.specs.Stages.{stage_view, IsPieceAt}
 use Rattle.saber_plan.specs.Stages.{After}
 use Rattle.saber_assembly.proofs.Stepping.{stepped}
 use Rattle.saber_assembly.specs.WorkLaws.{follows}
@@ -12,9 +12,9 @@ returns-in-Some-clause-keeps g c n r start t kept e =
     let q = g.O.Operator.plan c.args.operator.now in
     let p = c.in-Some.piece in
     let of = g.O.Operator.is_of c.args.operator.now p in
-    let old = seen g.O.Operator.contents g.K.Sink.written g.K.Sink.faults c.args.self.now in
-    let new = seen g.O.Operator.contents g.K.Sink.written g.K.Sink.faults c.absorb_piece.new.self in
-    let x = cut n r old.k in let y = cut n r (old.k + 1) in
+    let old = stage_view g.O.Operator.contents g.K.Sink.written g.K.Sink.faults c.args.self.now in
+    let new = stage_view g.O.Operator.contents g.K.Sink.written g.K.Sink.faults c.absorb_piece.new.self in
+    let x = task_start n r old.k in let y = task_start n r (old.k + 1) in
     let piece : IsPieceAt n r old.k of = subst (λ o. IfSome o (λ p. IsPieceAt n r old.k (g.O.Operator.is_of c.args.operator.now p))) c.in-Some.is e in
     let next : Follows q old.kept (g.O.Operator.has_taken c.args.operator.now c.args.self.now.store) of r x y =
     follows q n r start old (g.O.Operator.has_taken c.args.operator.now c.args.self.now.store) of t (c.cuts_rise.ensures n r old.k (old.k + 1) (omega arith)) kept c.requires.running piece in

@@ -1,7 +1,7 @@
 use Rattle.std.proofs.Common.{◌≡◌, ℕ, ◌++◌, sym, ◌∙◌, ap, subst}
 use Rattle.saber_plan.specs.Trees.{Tree, tree_of}
-use Rattle.saber_plan.specs.Inputs.{Input, arrived}
-use Rattle.saber_plan.specs.Tasks.{by_windows, kept_behind, added}
+use Rattle.saber_plan.specs.Inputs.{Input, first_arrivals}
+use Rattle.saber_plan.specs.Tasks.{by_windows, kept_behind, added_text}
 use Rattle.saber_plan.specs.Facts.Kept.{alike_kept}
 use Rattle.saber_fragment.specs.Stores.{Follows}
 use Rattle.saber_group.specs.declared.slice_stores.SliceStore.{SliceStore}
@@ -20,7 +20,7 @@ take_uncounted-requires-clause-comes c =
     let f : Follows q k (λ u. TakenIn q u s) (λ r x y. IsOf q r x y p) r x y =
     subst (λ (t : Tree). Follows t k (λ u. TakenIn t u s) (λ r x y. IsOf t r x y p) r x y) (sym (ap tree_of c.self.view_is)) g in
     let laws : MarkLaws = record { follow = c.marks_follow.ensures; rise = c.closed_rise.ensures; close_more = c.ends_close_more.ensures } in
-    (old_rows q r x y s p k f, new_rows q r x y s p k f, (arrived r y).ended, comes q r x y s p k f laws c.closed_below-closed.result c.closed_below-closed.ensures)
+    (old_rows q r x y s p k f, new_rows q r x y s p k f, (first_arrivals r y).ended, comes q r x y s p k f laws c.closed_below-closed.result c.closed_below-closed.ensures)
 
 pub returns-clause-taken : goal.returns-clause-taken
 returns-clause-taken c =
@@ -32,8 +32,8 @@ returns-clause-taken c =
     let n = c.closed_below-closed.result in
     let n_is = c.closed_below-closed.ensures in
     let new : SliceStore = record { windows = c.take_uncounted.new.store; begun = c.begun_below-begun.result } in
-    subst (λ (t : Tree). (r : Input) (x y : ℕ) → Follows t k (λ u. TakenIn t u s) (λ r x y. IsOf t r x y p) r x y → TakenIn t (arrived r y) new) (ap tree_of c.self.view_is) (λ r x y f.
-    let went = c.in_ok-take_uncounted.ensures (old_rows q r x y s p k f) (new_rows q r x y s p k f) (arrived r y).ended (comes q r x y s p k f laws n n_is) in
+    subst (λ (t : Tree). (r : Input) (x y : ℕ) → Follows t k (λ u. TakenIn t u s) (λ r x y. IsOf t r x y p) r x y → TakenIn t (first_arrivals r y) new) (ap tree_of c.self.view_is) (λ r x y f.
+    let went = c.in_ok-take_uncounted.ensures (old_rows q r x y s p k f) (new_rows q r x y s p k f) (first_arrivals r y).ended (comes q r x y s p k f laws n n_is) in
     taken_after q r x y s p k f laws n n_is new c.begun_below-begun.ensures went.done_is went.holds)
 
 pub returns-clause-stays : goal.returns-clause-stays
@@ -46,10 +46,10 @@ returns-clause-stays c =
     let n = c.closed_below-closed.result in
     let n_is = c.closed_below-closed.ensures in
     let new : SliceStore = record { windows = c.take_uncounted.new.store; begun = c.begun_below-begun.result } in
-    subst (λ (t : Tree). (r : Input) (x y : ℕ) → Follows t k (λ u. TakenIn t u s) (λ r x y. IsOf t r x y p) r x y → by_windows (held_in new) ≡ kept_behind t (arrived r y)) (ap tree_of c.self.view_is) (λ r x y f.
-    let went = c.in_ok-take_uncounted.ensures (old_rows q r x y s p k f) (new_rows q r x y s p k f) (arrived r y).ended (comes q r x y s p k f laws n n_is) in
+    subst (λ (t : Tree). (r : Input) (x y : ℕ) → Follows t k (λ u. TakenIn t u s) (λ r x y. IsOf t r x y p) r x y → by_windows (held_in new) ≡ kept_behind t (first_arrivals r y)) (ap tree_of c.self.view_is) (λ r x y f.
+    let went = c.in_ok-take_uncounted.ensures (old_rows q r x y s p k f) (new_rows q r x y s p k f) (first_arrivals r y).ended (comes q r x y s p k f laws n n_is) in
     ap by_windows (held_is q c.has_window.ensures.group _ new (taken_after q r x y s p k f laws n n_is new c.begun_below-begun.ensures went.done_is went.holds))
-    ∙ sym (alike_kept q c.self.invariant (arrived r y)))
+    ∙ sym (alike_kept q c.self.invariant (first_arrivals r y)))
 
 pub returns-clause-text : goal.returns-clause-text
 returns-clause-text c =
@@ -61,8 +61,8 @@ returns-clause-text c =
     let n = c.closed_below-closed.result in
     let n_is = c.closed_below-closed.ensures in
     let before = c.args.out.now.items in
-    subst (λ (t : Tree). (r : Input) (x y : ℕ) → Follows t k (λ u. TakenIn t u s) (λ r x y. IsOf t r x y p) r x y → c.extend_from_slice.new.self.items ≡ before ++ added t r x y) (ap tree_of c.self.view_is) (λ r x y f.
-    let went = c.in_ok-take_uncounted.ensures (old_rows q r x y s p k f) (new_rows q r x y s p k f) (arrived r y).ended (comes q r x y s p k f laws n n_is) in
+    subst (λ (t : Tree). (r : Input) (x y : ℕ) → Follows t k (λ u. TakenIn t u s) (λ r x y. IsOf t r x y p) r x y → c.extend_from_slice.new.self.items ≡ before ++ added_text t r x y) (ap tree_of c.self.view_is) (λ r x y f.
+    let went = c.in_ok-take_uncounted.ensures (old_rows q r x y s p k f) (new_rows q r x y s p k f) (first_arrivals r y).ended (comes q r x y s p k f laws n n_is) in
     c.in_ok-extend_from_slice.ensures.items ∙ ap (λ l. before ++ l) (
     c.deref.ensures.value
     ∙ text_after q r x y s p k f laws n n_is c.take_uncounted.new.store.slices.entries c.take_uncounted.new.store.next c.new-text.result.items c.take_uncounted.new.out.items c.new-text.ensures.items went

@@ -1,7 +1,7 @@
 use Rattle.std.proofs.Common.{◌≡◌, ◌++◌, ◌∙◌, ap, sym, subst, subst₂, nat_cmp}
 use Rattle.saber_plan.specs.declared.windows.Mark.{Mark}
 use Rattle.saber_plan.specs.Trees.{tree_of}
-use Rattle.saber_plan.specs.Windows.{mark_after, ending, closed_count}
+use Rattle.saber_plan.specs.Windows.{mark_after, end_mark, closed_count}
 use Rattle.saber_plan.specs.Answers.{frame}
 use Rattle.saber_plan.specs.GivenRows.{RowsFit}
 use Rattle.saber_window.specs.declared.bounds.Bounds.{Bounds}
@@ -44,7 +44,7 @@ returns c s seen whole =
     let before : d.before ≡ mark_after s.first s.back = seen.before ∙ whole.meets in
     let all : c.in_ok-found.found.1 ≡ mark_after (mark_after s.first s.back) s.rows = c.in_ok-found.ensures.last ∙ (λ j. mark_after (before j) (seen.rows j)) in
     let b : Bounds = c.bounds-bounds.result in
-    let given : AreBounds (frame q) (mark_after s.first s.back) (ending s.ended (mark_after (mark_after s.first s.back) s.rows)) b = subst₂ (λ (m n : Mark). AreBounds (frame q) m n b) before (c.ending-after.ensures ∙ (λ j. ending (seen.ended j) (all j))) c.bounds-bounds.ensures in
+    let given : AreBounds (frame q) (mark_after s.first s.back) (end_mark s.ended (mark_after (mark_after s.first s.back) s.rows)) b = subst₂ (λ (m n : Mark). AreBounds (frame q) m n b) before (c.end_mark-after.ensures ∙ (λ j. end_mark (seen.ended j) (all j))) c.bounds-bounds.ensures in
     let laws : Laws = record {
       stay = c.begun_stay.ensures;
       within = c.closed_within_begun.ensures;

@@ -1,6 +1,6 @@
 use Rattle.std.proofs.Common.{◌≡◌, ◌∙◌, ◌++◌, ap, sym, subst}
 use Rattle.saber_plan.specs.Trees.{tree_of}
-use Rattle.saber_plan.specs.Inputs.{arrived}
+use Rattle.saber_plan.specs.Inputs.{first_arrivals}
 use Rattle.saber_plan.specs.Answers.{way, alike}
 use Rattle.saber_plan.specs.Shares.{piece_in}
 use Rattle.saber_plan.specs.Tasks.{Parts, by_windows, unclosed, written_by, left_by}
@@ -26,7 +26,7 @@ take_in-requires c =
       windows = f.windows;
       fits = f.fits;
       rises = f.rises;
-      unclosed_is = alike_parts q w contents (arrived r x) f.kept_is;
+      unclosed_is = alike_parts q w contents (first_arrivals r x) f.kept_is;
       shares_are = f.of_is;
     } in
     subst (λ p. Continues (tree_of p) contents s) (sym c.self.view_is) goes_on
@@ -37,7 +37,7 @@ returns-clause-text c r x y f =
     let w = subst (λ p. way (tree_of p) ≡ alike) c.self.view_is c.self.invariant in
     let contents : Parts = held_by (λ part. part) c.args.store.now in
     let s = shares_of (λ part. part) c.args.piece in
-    let kept : contents ≡ unclosed q (arrived r x) = alike_parts q w contents (arrived r x) f.kept_is in
+    let kept : contents ≡ unclosed q (first_arrivals r x) = alike_parts q w contents (first_arrivals r x) f.kept_is in
     subst (λ p. c.take_in.new.out.items ≡ c.args.out.now.items ++ written_by (tree_of p) contents (piece_in s)) c.self.view_is c.in_ok-take_in.ensures.text
     ∙ ap (λ s. c.args.out.now.items ++ written_by q contents (piece_in s)) f.of_is
     ∙ ap (λ l. c.args.out.now.items ++ l) (
@@ -50,10 +50,10 @@ returns-clause-stays c r x y f =
     let w = subst (λ p. way (tree_of p) ≡ alike) c.self.view_is c.self.invariant in
     let contents : Parts = held_by (λ part. part) c.args.store.now in
     let s = shares_of (λ part. part) c.args.piece in
-    let kept : contents ≡ unclosed q (arrived r x) = alike_parts q w contents (arrived r x) f.kept_is in
+    let kept : contents ≡ unclosed q (first_arrivals r x) = alike_parts q w contents (first_arrivals r x) f.kept_is in
     ap by_windows (
     subst (λ p. remainder_by (λ part. part) c.take_in.new.self ≡ left_by (tree_of p) contents (piece_in s)) c.self.view_is c.in_ok-take_in.ensures.stays
     ∙ ap (λ s. left_by q contents (piece_in s)) f.of_is
     ∙ (λ j. left_by q (kept j) (c.shares_make_piece.ensures q r x y (record { fits = f.windows; ordered = f.fits.ordered; rises = f.rises }) j))
     ∙ sym (c.open_goes_on.ensures q f.windows r x y f.fits.ordered f.rises))
-    ∙ sym (alike_kept q w (arrived r y))
+    ∙ sym (alike_kept q w (first_arrivals r y))

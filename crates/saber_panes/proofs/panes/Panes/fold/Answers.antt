@@ -8,7 +8,7 @@ use Rattle.saber_plan.specs.Answers.{frame}
 use Rattle.saber_plan.specs.Merges.{both}
 use Rattle.saber_plan.specs.Parts.{group_part, merge}
 use Rattle.saber_partial.specs.Tallies.{CanMerge}
-use Rattle.saber_panes.specs.Panes.{panes_in, pane_of, or_none, is_counted, counted, with_row_in}
+use Rattle.saber_panes.specs.Panes.{panes_in, pane_of, or_none, is_counted, counted_rows, with_row_in}
 use Rattle.saber_panes.proofs.PaneFolding.{so_far, no_rows_yet, panes_more, longer, room_for_row, front_all, all_taken}
 use Rattle.saber_plan.specs.Facts.Rows.{mark_more, left_small, right_small}
 use Rattle.saber_panes.proofs.panes.Panes.fold.Goals as goal
@@ -44,7 +44,7 @@ returns-in_err-fold_row-clause-steps g c =
     let x = c.row-row.result in
     let below = subst (λ n. c.loop-i.i < n) c.len-i-end.ensures c.loop-i-test.true in
     let there = sym (get_or_from_slice_get c.args.rows.now c.loop-i.i x x (sym c.row-row.ensures)) in
-    let one = ap (λ m. length (counted q (record { row = x; before = m } ∷ []))) c.loop-i.invariant.mark in
+    let one = ap (λ m. length (counted_rows q (record { row = x; before = m } ∷ []))) c.loop-i.invariant.mark in
     let more = longer q b xs k x below there in
     let front = front_all q b xs (k + 1) in
     let low = c.loop-i.invariant.steps in
@@ -71,7 +71,7 @@ loop-i-preserved g c =
       panes = c.in_ok-fold_row.ensures.ok ∙ ap₂ (λ s m. with_row_in q s (record { row = x; before = m })) c.loop-i.invariant.panes c.loop-i.invariant.mark
           ∙ panes_more q b xs k x below there c.groups_join.ensures c.merge_is_associative.ensures c.args.self.now;
       steps =
-          let one = ap (λ m. length (counted q (record { row = x; before = m } ∷ []))) c.loop-i.invariant.mark in
+          let one = ap (λ m. length (counted_rows q (record { row = x; before = m } ∷ []))) c.loop-i.invariant.mark in
           let more = longer q b xs k x below there in
           let low = c.loop-i.invariant.steps in
           let step = c.fold_row.ensures.steps in

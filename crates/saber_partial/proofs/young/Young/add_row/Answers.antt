@@ -3,7 +3,7 @@ use Rattle.std.specs.Result.{OnOk}
 use Rattle.std.specs.FinMap.{get}
 use Rattle.saber_plan.specs.Trees.{tree_of}
 use Rattle.saber_plan.specs.Answers.{key}
-use Rattle.saber_plan.specs.Merges.{joined}
+use Rattle.saber_plan.specs.Merges.{joined_value}
 use Rattle.saber_plan.specs.Parts.{Part, numbers, join_numbers}
 use Rattle.saber_partial.specs.Young.{young_part}
 use Rattle.saber_partial.proofs.Fitting.{aggregates_count}
@@ -30,4 +30,4 @@ returns-clause-ok c =
     let k = key c.keys.result.now zs in
     let here : k ≡ key q.keys zs = ap (λ ks. key ks zs) c.keys.ensures in
     subst (λ (x : Part). OnOk c.add.result (young_part c.add.new.self.order c.add.new.self.groups.entries ≡ x))
-    (add_at q m zs k (joined join_numbers (get m k) (numbers q.aggregates (zs ∷ []))) here refl) c.add.ensures.ok
+    (add_at q m zs k (joined_value join_numbers (get m k) (numbers q.aggregates (zs ∷ []))) here refl) c.add.ensures.ok

@@ -1,6 +1,6 @@
 use Rattle.std.proofs.Common.{◌++◌, sym, ◌∙◌, ap}
 use Rattle.saber_plan.specs.Trees.{tree_of}
-use Rattle.saber_plan.specs.Inputs.{arrived}
+use Rattle.saber_plan.specs.Inputs.{first_arrivals}
 use Rattle.saber_plan.specs.Tasks.{list_added}
 use Rattle.saber_partition.specs.Stores.{lists_of}
 use Rattle.saber_partition.proofs.Taking.{list_adds, keeps_rightly}
@@ -16,7 +16,7 @@ returns-clause-taken c r x y f = (c.in_ok-take_piece.ensures r x y (record { fit
 
 pub returns-clause-stays : goal.returns-clause-stays
 returns-clause-stays c r x y f =
-    keeps_rightly c.no_list_open_behind.ensures c.stream_laws.ensures.none (tree_of c.args.self.now) c.asks.ensures (arrived r y) (lists_of c.take_piece.new.store.lists.entries)
+    keeps_rightly c.no_list_open_behind.ensures c.stream_laws.ensures.none (tree_of c.args.self.now) c.asks.ensures (first_arrivals r y) (lists_of c.take_piece.new.store.lists.entries)
     (c.in_ok-take_piece.ensures r x y (record { fits = f.fits; rises = f.rises; taken = f.taken_is; of_is = f.of_is })).taken
 
 pub returns-clause-text : goal.returns-clause-text

@@ -1,5 +1,5 @@
 use Rattle.std.proofs.Common.{arith, ap, sym, ◌∙◌, ◌≤◌, ◌+◌, ◌-◌, Some, take, length, length-take, slice_range}
-use Rattle.saber_io.specs.Outside.{given}
+use Rattle.saber_io.specs.Outside.{left_before}
 use Rattle.saber_rows.proofs.BufferLemmas.{gained, kept}
 use Rattle.saber_rows.proofs.FedReads.{resized, fed_given, fed_fits, fed_tells}
 use Rattle.saber_rows.proofs.buffer.Buffer.fill_fed.Goals as goal
@@ -18,7 +18,7 @@ returns-in-Ok-clause-bytes g c =
     let fits = fed_fits c.in-Ok.fed _ _ _ c.feed.new.buf c.in-Ok.ensures.ok in
     let few : n ≤ length c.feed.new.buf = omega (arith, fits, c.size_fed.ensures) in
     let room : n ≤ 4096 = omega (arith, few, c.feed.auto.buf, length-take (h.end + 4096 - h.end) c.deref_mut.result.now) in
-    let left = fed_given c.in-Ok.fed _ _ _ c.feed.new.buf c.in-Ok.ensures.ok ∙ ap (λ n. given (take n c.feed.new.buf) (Some (g.F.Feed.waiting c.feed.new.self))) (sym c.size_fed.ensures) in
+    let left = fed_given c.in-Ok.fed _ _ _ c.feed.new.buf c.in-Ok.ensures.ok ∙ ap (λ n. left_before (take n c.feed.new.buf) (Some (g.F.Feed.waiting c.feed.new.self))) (sym c.size_fed.ensures) in
     resized _ _ _ _ _ _ c.size_fed.ensures
     (gained c.deref_mut.result.now c.feed.new.buf _ _ h.at h.end h.buf.len h.ordered inside n _ _ _ few (omega (arith, h.sized, c.make_room.ensures.room, room)) (ap (λ b. slice_range b h.at h.end) c.deref_mut.ensures.value ∙ c.make_room.ensures.same) left)
 

@@ -2,7 +2,7 @@ use Rattle.std.proofs.Common.{◌≡◌, Some, sym, ap, subst}
 use Rattle.saber_plan.specs.declared.rows.Row.{Row}
 use Rattle.saber_rows.specs.Reader.{reader_of}
 use Rattle.saber_rows.specs.Calls.{HoldsNext}
-use Rattle.saber_rows.specs.Heads.{headed}
+use Rattle.saber_rows.specs.Heads.{head_view}
 use Rattle.saber_rows.proofs.Fronts.{none_in_front}
 use Rattle.saber_rows.proofs.MergedRows.{LooksQuick, fetched}
 use Rattle.saber_rows.proofs.heads.Head.fetch_quick.Goals as goal
@@ -16,5 +16,5 @@ returns-clause-some c =
     let row : Row = record { side = c.no_row.result.side; values = vs } in
     let side : row.side ≡ h.lines.side = ap (λ (r : Row). r.side) c.no_row.ensures in
     let holds : HoldsNext row old new = subst (λ s. HoldsNext (record { side = s; values = vs }) old new) (sym side) c.in_ok-stamp.ensures.some in
-    subst (λ n. LooksQuick n (headed h) (record { reader = new; ahead = Some row })) (sym c.in_ok-stamp.ensures.own)
-    (fetched row old new (headed h).ahead (none_in_front h.full h.row c.requires) holds)
+    subst (λ n. LooksQuick n (head_view h) (record { reader = new; ahead = Some row })) (sym c.in_ok-stamp.ensures.own)
+    (fetched row old new (head_view h).ahead (none_in_front h.full h.row c.requires) holds)

@@ -2,7 +2,7 @@ use Rattle.std.proofs.Common.{◌≡◌, Some, None, Ok, Err, sym, ◌∙◌, ap
 use Rattle.saber_plan.specs.Rows.{stamp}
 use Rattle.saber_rows.specs.Reader.{reader_of}
 use Rattle.saber_rows.specs.declared.heads.Look.TheVariants.{Found, Ended, Failed}
-use Rattle.saber_rows.specs.Heads.{Called, headed, Looks}
+use Rattle.saber_rows.specs.Heads.{Called, head_view, Looks}
 use Rattle.saber_rows.proofs.Fronts.{if_some, in_front, none_in_front, looks, stays}
 use Rattle.saber_rows.proofs.heads.Head.look.Goals as goal
 
@@ -10,8 +10,8 @@ pub returns-then-self-clause-looks : goal.returns-then-self-clause-looks
 returns-then-self-clause-looks g c side last count p =
     let h = c.args.self.now in
     let same : c.stamp_of.result ≡ stamp h.row.values = c.stamp_of.ensures ∙ ap stamp c.as_slice.ensures in
-    subst (λ n. Looks (Found n) side last count (headed h) (headed h) (g.S.Source.left c.args.source.now) (g.S.Source.left c.args.source.now)) (sym same)
-    (stays h.row (headed h) side last count (g.S.Source.left c.args.source.now) (in_front h.full h.row c.if-self.true) p)
+    subst (λ n. Looks (Found n) side last count (head_view h) (head_view h) (g.S.Source.left c.args.source.now) (g.S.Source.left c.args.source.now)) (sym same)
+    (stays h.row (head_view h) side last count (g.S.Source.left c.args.source.now) (in_front h.full h.row c.if-self.true) p)
 
 pub returns-in-Ok-Some-clause-looks : goal.returns-in-Ok-Some-clause-looks
 returns-in-Ok-Some-clause-looks g c side last count p =
@@ -40,8 +40,8 @@ returns-in-Ok-Some-clause-looks g c side last count p =
     } in
     let row = c.in-Ok-Some.row in
     let same : c.stamp_of-stamp.result ≡ stamp row.values = c.stamp_of-stamp.ensures ∙ ap stamp c.as_slice-in-Ok-Some.ensures in
-    subst (λ k. Looks (Found k) side last count (headed c.args.self.now) (record { reader = new; ahead = Some row }) had has) (sym same)
-    (looks old new had has side last count (headed c.args.self.now).ahead none p c.next.result (Ok (Some row)) (c.in-Ok-Some.is ∙ ap Ok c.in-Ok-Some.field-0-is) called)
+    subst (λ k. Looks (Found k) side last count (head_view c.args.self.now) (record { reader = new; ahead = Some row }) had has) (sym same)
+    (looks old new had has side last count (head_view c.args.self.now).ahead none p c.next.result (Ok (Some row)) (c.in-Ok-Some.is ∙ ap Ok c.in-Ok-Some.field-0-is) called)
 
 pub returns-in-Ok-None-clause-looks : goal.returns-in-Ok-None-clause-looks
 returns-in-Ok-None-clause-looks g c side last count p =
@@ -68,8 +68,8 @@ returns-in-Ok-None-clause-looks g c side last count p =
       stays = n.stays;
       counted = n.counted;
     } in
-    subst (λ o. Looks Ended side last count (headed c.args.self.now) (record { reader = new; ahead = o }) had has) (sym none)
-    (looks old new had has side last count (headed c.args.self.now).ahead none p c.next.result (Ok None) (c.in-Ok-None.is ∙ ap Ok c.in-Ok-None.field-0-is) called)
+    subst (λ o. Looks Ended side last count (head_view c.args.self.now) (record { reader = new; ahead = o }) had has) (sym none)
+    (looks old new had has side last count (head_view c.args.self.now).ahead none p c.next.result (Ok None) (c.in-Ok-None.is ∙ ap Ok c.in-Ok-None.field-0-is) called)
 
 pub returns-in-Err-clause-looks : goal.returns-in-Err-clause-looks
 returns-in-Err-clause-looks g c side last count p =
@@ -96,5 +96,5 @@ returns-in-Err-clause-looks g c side last count p =
       stays = n.stays;
       counted = n.counted;
     } in
-    subst (λ o. Looks (Failed c.in-Err.end) side last count (headed c.args.self.now) (record { reader = new; ahead = o }) had has) (sym none)
-    (looks old new had has side last count (headed c.args.self.now).ahead none p c.next.result (Err c.in-Err.end) c.in-Err.is called)
+    subst (λ o. Looks (Failed c.in-Err.end) side last count (head_view c.args.self.now) (record { reader = new; ahead = o }) had has) (sym none)
+    (looks old new had has side last count (head_view c.args.self.now).ahead none p c.next.result (Err c.in-Err.end) c.in-Err.is called)

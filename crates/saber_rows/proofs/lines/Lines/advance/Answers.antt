@@ -1,6 +1,6 @@
 use Rattle.std.proofs.Common.{arith, refl, ◌∙◌, ap, option_map}
 use Rattle.saber_plan.specs.Rows.{before}
-use Rattle.saber_rows.specs.Reader.{reader_of, gone, answer_of}
+use Rattle.saber_rows.specs.Reader.{reader_of, gone_count, answer_of}
 use Rattle.saber_rows.specs.Turns.{same}
 use Rattle.saber_rows.proofs.Chains.{chain, stopped_moves, stopped_ends, kept_stop, last_stop, no_row, stands}
 use Rattle.saber_rows.proofs.TakenRows.{given_since}
@@ -55,7 +55,7 @@ pub returns-in-Stop-clause-last : goal.returns-in-Stop-clause-last
 returns-in-Stop-clause-last g c = rw c.answer.ensures (ap (λ r. r.last) c.in-Stop.ensures.gives.0 ∙ c.loop-row.invariant.last ∙ last_stop c.in-Stop.stop _)
 
 pub returns-in-Stop-clause-stays : goal.returns-in-Stop-clause-stays
-returns-in-Stop-clause-stays g c = omega (arith, c.loop-row.invariant.rises, ap gone c.in-Stop.ensures.gives.0)
+returns-in-Stop-clause-stays g c = omega (arith, c.loop-row.invariant.rises, ap gone_count c.in-Stop.ensures.gives.0)
 
 pub returns-in-Row-clause-stays : goal.returns-in-Row-clause-stays
 returns-in-Row-clause-stays g c = omega (arith, c.loop-row.invariant.rises, c.in-Row.ensures.place.rises)

@@ -1,5 +1,5 @@
 use Rattle.std.proofs.Common.{◌≡◌, ◌≤◌, None}
-use Rattle.saber_rows.specs.Reader.{reader_of, gone}
+use Rattle.saber_rows.specs.Reader.{reader_of, gone_count}
 use Rattle.saber_rows.specs.Calls.{Moves}
 use Rattle.saber_rows.specs.Turns.{same, work_left, HasEnough}
 use Rattle.saber_rows.proofs.lines.Lines.advance.Given as goal
@@ -12,7 +12,7 @@ invariant-loop-row g l = record {
   good : g.S.Source.faults l.source ≡ g.S.Source.faults l.initial.source;
   rules : (reader_of l.self).rules ≡ (reader_of l.initial.self).rules;
   last : (reader_of l.self).last ≡ (reader_of l.initial.self).last;
-  rises : gone (reader_of l.initial.self) ≤ gone (reader_of l.self);
+  rises : gone_count (reader_of l.initial.self) ≤ gone_count (reader_of l.self);
   reads : HasEnough (reader_of l.initial.self) → (l.source ≡ l.initial.source) × HasEnough (reader_of l.self);
 }
 

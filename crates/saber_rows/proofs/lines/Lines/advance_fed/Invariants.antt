@@ -1,6 +1,6 @@
 use Rattle.std.proofs.Common.{◌≡◌, ◌≤◌, Some, None, true, false}
 use Rattle.saber_io.specs.declared.feeds.EndMark.{EndMark}
-use Rattle.saber_rows.specs.Reader.{reader_of, gone}
+use Rattle.saber_rows.specs.Reader.{reader_of, gone_count}
 use Rattle.saber_rows.specs.Calls.{Moves}
 use Rattle.saber_rows.specs.Turns.{same, work_left, HasEnough}
 use Rattle.saber_rows.proofs.lines.Lines.advance_fed.Given as goal
@@ -16,7 +16,7 @@ invariant-loop-turn g l = record {
   rules : (reader_of l.self).rules ≡ (reader_of l.initial.self).rules;
   last : (reader_of l.self).last ≡ (reader_of l.initial.self).last;
   marked : (reader_of l.initial.self).ended ≡ false → (reader_of l.self).ended ≡ true → g.F.Feed.mark l.initial.feed ≡ Some EndMark.End;
-  rises : gone (reader_of l.initial.self) ≤ gone (reader_of l.self);
+  rises : gone_count (reader_of l.initial.self) ≤ gone_count (reader_of l.self);
   reads : HasEnough (reader_of l.initial.self) → (l.feed ≡ l.initial.feed) × HasEnough (reader_of l.self);
 }
 

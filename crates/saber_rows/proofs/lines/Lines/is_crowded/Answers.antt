@@ -1,5 +1,5 @@
 use Rattle.std.proofs.Common.{◌≡◌, ◌∙◌, ap, sym, not, length, Some, arith}
-use Rattle.saber_plan.specs.Rows.{most_held, raised}
+use Rattle.saber_plan.specs.Rows.{most_held, raised_time}
 use Rattle.saber_rows.specs.Judged.{is_ready_at}
 use Rattle.saber_rows.specs.HeldRows.{least_of}
 use Rattle.saber_rows.specs.Reader.{reader_of}
@@ -18,5 +18,5 @@ returns c values same =
     let full : length (rows_in c.args.self.now.waiting) ≡ most_held = omega (arith, all, c.args.self.now.sound.few, c.len.ensures, c.if-len-lt-MOST_HELD.false) in
     ap not c.is_ready.ensures
     ∙ (λ i. not (is_ready_at r.rules.slack (Some (c.raise.ensures i)) (c.least-least.ensures i)))
-    ∙ ap (λ t. not (is_ready_at r.rules.slack (Some (raised r.place.high t)) (least_of r.place.accepted t))) same
+    ∙ ap (λ t. not (is_ready_at r.rules.slack (Some (raised_time r.place.high t)) (least_of r.place.accepted t))) same
     ∙ sym (full_crowds r.rules r.place r.last values c.args.self.now.sound.in_time full)

@@ -1,6 +1,6 @@
 use Rattle.std.proofs.Common.{◌≡◌, ◌≤◌, ◌<◌, sym, ◌∙◌, ap, subst, false, Ok, Some, IfOk, IfSome}
 use Rattle.saber_plan.specs.Rows.{before, falls, RowFits}
-use Rattle.saber_rows.specs.Reader.{reader_of, gone}
+use Rattle.saber_rows.specs.Reader.{reader_of, gone_count}
 use Rattle.saber_rows.specs.Calls.{Moves, IsGiven, EndsBy, WantsMemory, given_by, last_after}
 use Rattle.saber_rows.specs.Turns.{HasEnough}
 use Rattle.saber_rows.proofs.Chains.{moved, none_given, stands}
@@ -89,8 +89,8 @@ returns-in-None-clause-rises g c =
     let old = reader_of c.quick_row.new.self in
     let new = reader_of c.advance.new.self in
     let same : c.quick_row.new.self ≡ c.args.self.now = c.quick_row.ensures.none c.in-None.is in
-    subst (λ s. IfOk c.advance.result (λ o. IfSome o (λ row. gone (reader_of s) < gone new))) same
-    (of_given (λ row. IsGiven row old new) (λ row. gone old < gone new) c.advance.result (λ row given. given.rises) c.advance.ensures.given)
+    subst (λ s. IfOk c.advance.result (λ o. IfSome o (λ row. gone_count (reader_of s) < gone_count new))) same
+    (of_given (λ row. IsGiven row old new) (λ row. gone_count old < gone_count new) c.advance.result (λ row given. given.rises) c.advance.ensures.given)
 
 pub returns-in-None-clause-last : goal.returns-in-None-clause-last
 returns-in-None-clause-last g c =
@@ -100,7 +100,7 @@ returns-in-None-clause-last g c =
 pub returns-in-None-clause-stays : goal.returns-in-None-clause-stays
 returns-in-None-clause-stays g c =
     let same : c.quick_row.new.self ≡ c.args.self.now = c.quick_row.ensures.none c.in-None.is in
-    subst (λ s. gone (reader_of s) ≤ gone (reader_of c.advance.new.self)) same c.advance.ensures.stays
+    subst (λ s. gone_count (reader_of s) ≤ gone_count (reader_of c.advance.new.self)) same c.advance.ensures.stays
 
 pub returns-in-None-clause-reads : goal.returns-in-None-clause-reads
 returns-in-None-clause-reads g c h =

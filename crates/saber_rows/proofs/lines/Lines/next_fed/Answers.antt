@@ -1,6 +1,6 @@
 use Rattle.std.proofs.Common.{◌≡◌, ◌≤◌, ◌∙◌, rules, sym, ap, subst, Ok, Some, None, IfOk, IfSome}
 use Rattle.saber_plan.specs.Rows.{before}
-use Rattle.saber_rows.specs.Reader.{reader_of, rest_over, gone}
+use Rattle.saber_rows.specs.Reader.{reader_of, rest_over, gone_count}
 use Rattle.saber_rows.specs.Calls.{Moves, IsGiven, IsNext, EndsBy, WantsMemory, given_by}
 use Rattle.saber_rows.specs.FedTurns.{answer_in, given_in, kept_in, last_in}
 use Rattle.saber_rows.proofs.Chains.{moved, none_given, no_row, stands}
@@ -149,7 +149,7 @@ pub returns-in-Some-advance_fed-clause-stays : goal.returns-in-Some-advance_fed-
 returns-in-Some-advance_fed-clause-stays g c =
     let none : c.quick_row.result ≡ None = search rules in
     let same : c.quick_row.new.self ≡ c.args.self.now = c.quick_row.ensures.none none in
-    subst (λ s. gone (reader_of s) ≤ gone (reader_of c.advance_fed.new.self)) same c.advance_fed.ensures.stays
+    subst (λ s. gone_count (reader_of s) ≤ gone_count (reader_of c.advance_fed.new.self)) same c.advance_fed.ensures.stays
 
 pub returns-in-Some-advance_fed-clause-last : goal.returns-in-Some-advance_fed-clause-last
 returns-in-Some-advance_fed-clause-last g c =

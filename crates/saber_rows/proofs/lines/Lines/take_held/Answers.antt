@@ -1,9 +1,9 @@
 use Rattle.std.proofs.Common.{◌≡◌, ◌≤◌, ◌+◌, ◌-◌, length, ◌∙◌, ap, sym, rules, refl, subst, drop, Some, take, arith}
 use Rattle.saber_plan.specs.declared.rows.Row.{Row}
-use Rattle.saber_plan.specs.Rows.{stamp, without_cr, raised, in_time, accept}
+use Rattle.saber_plan.specs.Rows.{stamp, without_cr, raised_time, in_time, accept}
 use Rattle.saber_rows.specs.Buffer.{bytes_of}
 use Rattle.saber_rows.specs.LineFeeds.{end_of}
-use Rattle.saber_rows.specs.Reader.{reader_of, gone, end_behind}
+use Rattle.saber_rows.specs.Reader.{reader_of, gone_count, end_behind}
 use Rattle.saber_rows.specs.Waiting.{rows_in}
 use Rattle.saber_rows.specs.Sound.{Sound}
 use Rattle.saber_rows.proofs.LineSteps.{holds, less_left}
@@ -17,7 +17,7 @@ place_same : (c : goal.After-raise) → record { lines = c.args.self.now.lines +
 place_same c =
     let r = reader_of c.args.self.now in
     let own : c.stamp_of-stamp.result ≡ stamp c.args.values = c.stamp_of-stamp.ensures ∙ ap stamp c.as_slice.ensures in
-    let high : c.raise.result ≡ raised r.place.high (stamp c.args.values) = c.raise.ensures ∙ ap (raised r.place.high) own in
+    let high : c.raise.result ≡ raised_time r.place.high (stamp c.args.values) = c.raise.ensures ∙ ap (raised_time r.place.high) own in
     let put : rows_in c.insert.new.self ≡ in_time (record { side = r.rules.side; values = c.args.values }) r.place.accepted = search rules in
     λ i. record { lines = r.place.lines + 1; high = Some (high i); accepted = put i }
 
@@ -28,7 +28,7 @@ invariant_of-self-2-clause-sound c =
     (sound_held r.rules r.place r.last c.args.self.now.over c.args.self.now.sound c.args.values c.requires.slack c.requires.over (accepted r.rules r.place (without_cr (take c.args.n r.held)) c.args.values c.requires.judged))
 
 -- a row that is held is not gone
-holds_none : (c : goal.After-raise) → gone (reader_of c.args.self.now) ≤ (c.args.self.now.lines + 1) - length (rows_in c.insert.new.self)
+holds_none : (c : goal.After-raise) → gone_count (reader_of c.args.self.now) ≤ (c.args.self.now.lines + 1) - length (rows_in c.insert.new.self)
 holds_none c =
     let r = reader_of c.args.self.now in
     let row : Row = record { side = r.rules.side; values = c.args.values } in

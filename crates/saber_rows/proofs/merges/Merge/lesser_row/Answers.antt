@@ -2,16 +2,16 @@ use Rattle.std.proofs.Common.{◌≡◌, Ok, nat_le, true, false, sym, subst, ar
 use Rattle.std.proofs.lemmas.Bool.Decides.{nat_tests}
 use Rattle.saber_plan.specs.declared.rows.Side.TheVariants.{Right}
 use Rattle.saber_rows.specs.declared.heads.Look.TheVariants.{Found, Ended, Failed}
-use Rattle.saber_rows.specs.Heads.{headed, bare, front_of, Looks}
+use Rattle.saber_rows.specs.Heads.{head_view, bare, front_of, Looks}
 use Rattle.saber_rows.specs.Merging.{MergeTurn}
 use Rattle.saber_rows.proofs.MergedTurns.{lesser_left, lesser_right, only_left, right_fails_row, on_right, none_some, front_is}
 use Rattle.saber_rows.proofs.merges.Merge.lesser_row.Goals as goal
 
 pub returns-then-stamp-other-clause-turn : goal.returns-then-stamp-other-clause-turn
 returns-then-stamp-other-clause-turn g c m had p f =
-    let left = headed c.args.self.now.left in
-    let a = headed c.args.self.now.right in
-    let b = headed c.look.new.self in
+    let left = head_view c.args.self.now.left in
+    let a = head_view c.args.self.now.right in
+    let b = head_view c.look.new.self in
     let h1 = g.S.Source.left c.args.right.now in
     let h2 = g.S.Source.left c.look.new.source in
     let k : Looks (Found c.in-Found.other) Right m.last m.right a b h1 h2 = subst (λ l. Looks l Right m.last m.right a b h1 h2) c.in-Found.is (c.look.ensures.looks Right m.last m.right p.right) in
@@ -23,9 +23,9 @@ returns-then-stamp-other-clause-turn g c m had p f =
 
 pub returns-else-stamp-other-clause-turn : goal.returns-else-stamp-other-clause-turn
 returns-else-stamp-other-clause-turn g c m had p f =
-    let left = headed c.args.self.now.left in
-    let a = headed c.args.self.now.right in
-    let b = headed c.look.new.self in
+    let left = head_view c.args.self.now.left in
+    let a = head_view c.args.self.now.right in
+    let b = head_view c.look.new.self in
     let h1 = g.S.Source.left c.args.right.now in
     let h2 = g.S.Source.left c.look.new.source in
     let k : Looks (Found c.in-Found.other) Right m.last m.right a b h1 h2 = subst (λ l. Looks l Right m.last m.right a b h1 h2) c.in-Found.is (c.look.ensures.looks Right m.last m.right p.right) in
@@ -37,9 +37,9 @@ returns-else-stamp-other-clause-turn g c m had p f =
 
 pub returns-in-Ended-clause-turn : goal.returns-in-Ended-clause-turn
 returns-in-Ended-clause-turn g c m had p f =
-    let left = headed c.args.self.now.left in
-    let a = headed c.args.self.now.right in
-    let b = headed c.look.new.self in
+    let left = head_view c.args.self.now.left in
+    let a = head_view c.args.self.now.right in
+    let b = head_view c.look.new.self in
     let h1 = g.S.Source.left c.args.right.now in
     let h2 = g.S.Source.left c.look.new.source in
     let k : Looks Ended Right m.last m.right a b h1 h2 = subst (λ l. Looks l Right m.last m.right a b h1 h2) c.in-Ended.is (c.look.ensures.looks Right m.last m.right p.right) in
@@ -50,9 +50,9 @@ returns-in-Ended-clause-turn g c m had p f =
 
 pub returns-in-Failed-clause-turn : goal.returns-in-Failed-clause-turn
 returns-in-Failed-clause-turn g c m had p f =
-    let left = headed c.args.self.now.left in
-    let a = headed c.args.self.now.right in
-    let b = headed c.look.new.self in
+    let left = head_view c.args.self.now.left in
+    let a = head_view c.args.self.now.right in
+    let b = head_view c.look.new.self in
     let h1 = g.S.Source.left c.args.right.now in
     let h2 = g.S.Source.left c.look.new.source in
     let e = c.in-Failed.end in

@@ -1,16 +1,16 @@
 use Rattle.std.proofs.Common.{Ok, sym, subst}
 use Rattle.saber_plan.specs.declared.rows.Side.TheVariants.{Right}
 use Rattle.saber_rows.specs.declared.heads.Look.TheVariants.{Found, Ended, Failed}
-use Rattle.saber_rows.specs.Heads.{headed, bare, front_of, Looks}
+use Rattle.saber_rows.specs.Heads.{head_view, bare, front_of, Looks}
 use Rattle.saber_rows.specs.Merging.{MergeTurn}
 use Rattle.saber_rows.proofs.MergedTurns.{only_right, both_ended, right_fails_end, on_right, none_some, front_is}
 use Rattle.saber_rows.proofs.merges.Merge.right_row.Goals as goal
 
 pub returns-in-Found-clause-turn : goal.returns-in-Found-clause-turn
 returns-in-Found-clause-turn g c m had p f =
-    let left = headed c.args.self.now.left in
-    let a = headed c.args.self.now.right in
-    let b = headed c.look.new.self in
+    let left = head_view c.args.self.now.left in
+    let a = head_view c.args.self.now.right in
+    let b = head_view c.look.new.self in
     let h1 = g.S.Source.left c.args.right.now in
     let h2 = g.S.Source.left c.look.new.source in
     let k : Looks (Found c.in-Found.field-0) Right m.last m.right a b h1 h2 = subst (λ l. Looks l Right m.last m.right a b h1 h2) c.in-Found.is (c.look.ensures.looks Right m.last m.right p.right) in
@@ -21,9 +21,9 @@ returns-in-Found-clause-turn g c m had p f =
 
 pub returns-in-Ended-clause-turn : goal.returns-in-Ended-clause-turn
 returns-in-Ended-clause-turn g c m had p f =
-    let left = headed c.args.self.now.left in
-    let a = headed c.args.self.now.right in
-    let b = headed c.look.new.self in
+    let left = head_view c.args.self.now.left in
+    let a = head_view c.args.self.now.right in
+    let b = head_view c.look.new.self in
     let h1 = g.S.Source.left c.args.right.now in
     let h2 = g.S.Source.left c.look.new.source in
     let k : Looks Ended Right m.last m.right a b h1 h2 = subst (λ l. Looks l Right m.last m.right a b h1 h2) c.in-Ended.is (c.look.ensures.looks Right m.last m.right p.right) in
@@ -31,9 +31,9 @@ returns-in-Ended-clause-turn g c m had p f =
 
 pub returns-in-Failed-clause-turn : goal.returns-in-Failed-clause-turn
 returns-in-Failed-clause-turn g c m had p f =
-    let left = headed c.args.self.now.left in
-    let a = headed c.args.self.now.right in
-    let b = headed c.look.new.self in
+    let left = head_view c.args.self.now.left in
+    let a = head_view c.args.self.now.right in
+    let b = head_view c.look.new.self in
     let h1 = g.S.Source.left c.args.right.now in
     let h2 = g.S.Source.left c.look.new.source in
     let e = c.in-Failed.end in

@@ -1,7 +1,7 @@
 use Rattle.std.proofs.Common.{◌≡◌, ◌∙◌, ◌++◌, ap, sym}
 use Rattle.std.specs.FinMap.{empty}
 use Rattle.saber_plan.specs.Trees.{tree_of}
-use Rattle.saber_plan.specs.Inputs.{arrived}
+use Rattle.saber_plan.specs.Inputs.{first_arrivals}
 use Rattle.saber_plan.specs.Shares.{shares_between}
 use Rattle.saber_plan.specs.Tasks.{by_windows, unclosed, written_by, left_by}
 use Rattle.saber_plan.specs.Facts.Kept.{plain_way, alike_added, alike_kept, alike_parts}
@@ -13,7 +13,7 @@ returns-clause-text c r x y f =
     let q = tree_of c.args.self.now in
     let text = c.args.piece in
     let w = plain_way q c.has_no_window.ensures.plain in
-    let kept : empty ≡ unclosed q (arrived r x) = alike_parts q w empty (arrived r x) f.kept_is in
+    let kept : empty ≡ unclosed q (first_arrivals r x) = alike_parts q w empty (first_arrivals r x) f.kept_is in
     c.in_ok-extend_from_slice.ensures.items ∙ ap (λ l. c.args.out.now.items ++ l) (
     c.as_slice.ensures ∙ text_written q text (shares_between q r x y) f.of_is
     ∙ (λ j. written_by q (kept j) (c.shares_make_piece.ensures q r x y (record { fits = f.windows; ordered = f.fits.ordered; rises = f.rises }) j))
@@ -23,9 +23,9 @@ pub returns-clause-stays : goal.returns-clause-stays
 returns-clause-stays c r x y f =
     let q = tree_of c.args.self.now in
     let w = plain_way q c.has_no_window.ensures.plain in
-    let kept : empty ≡ unclosed q (arrived r x) = alike_parts q w empty (arrived r x) f.kept_is in
+    let kept : empty ≡ unclosed q (first_arrivals r x) = alike_parts q w empty (first_arrivals r x) f.kept_is in
     ap by_windows (
     none_left q c.args.piece (shares_between q r x y) f.of_is
     ∙ (λ j. left_by q (kept j) (c.shares_make_piece.ensures q r x y (record { fits = f.windows; ordered = f.fits.ordered; rises = f.rises }) j))
     ∙ sym (c.open_goes_on.ensures q f.windows r x y f.fits.ordered f.rises))
-    ∙ sym (alike_kept q w (arrived r y))
+    ∙ sym (alike_kept q w (first_arrivals r y))

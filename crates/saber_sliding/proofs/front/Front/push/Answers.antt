@@ -1,5 +1,5 @@
 use Rattle.std.proofs.Common.{subst, sym, ◌∙◌, ap}
-use Rattle.saber_sliding.specs.Entries.{suffixes, pushed, CanFollow, Chained}
+use Rattle.saber_sliding.specs.Entries.{suffixes, pushed_entries, CanFollow, Chained}
 use Rattle.saber_sliding.proofs.Entered.{suffixes-push, chained-push}
 use Rattle.saber_sliding.proofs.front.Front.push.Goals as goal
 
@@ -13,4 +13,4 @@ pub returns : goal.returns
 returns c =
     let es = c.self.inside.entries.items in
     ap suffixes c.in_ok-push.ensures.items ∙ suffixes-push c.merge_has_unit.ensures c.merge_is_associative.ensures c.args.number c.args.part es
-    ∙ ap (λ l. pushed l c.args.number c.args.part) c.self.view_is
+    ∙ ap (λ l. pushed_entries l c.args.number c.args.part) c.self.view_is

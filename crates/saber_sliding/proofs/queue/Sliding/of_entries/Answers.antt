@@ -1,5 +1,5 @@
 use Rattle.std.proofs.Common.{[], sym, ◌∙◌, subst}
-use Rattle.saber_sliding.specs.Entries.{seen, Sound}
+use Rattle.saber_sliding.specs.Entries.{queue_entries, Sound}
 use Rattle.saber_sliding.proofs.Entered.{seen_turned, sound_turned}
 use Rattle.saber_sliding.proofs.queue.Sliding.of_entries.Goals as goal
 
@@ -11,4 +11,4 @@ invariant_of-result g c =
 pub returns-clause-entries : goal.returns-clause-entries
 returns-clause-entries g c =
     let front = c.sum_up.new.front.items in
-    (λ i. seen front (c.new.ensures.items i) (c.empty.ensures.part i)) ∙ seen_turned c.merge_has_unit.ensures front ∙ c.in_ok-sum_up.ensures.front
+    (λ i. queue_entries front (c.new.ensures.items i) (c.empty.ensures.part i)) ∙ seen_turned c.merge_has_unit.ensures front ∙ c.in_ok-sum_up.ensures.front

@@ -1,5 +1,5 @@
 use Rattle.std.proofs.Common.{◌≡◌, Some, inr, subst, sym, ◌∙◌, ap}
-use Rattle.saber_sliding.specs.Entries.{followed, last_number, seen, CanFollow, IsSound, Queue}
+use Rattle.saber_sliding.specs.Entries.{followed_entries, last_number, queue_entries, CanFollow, IsSound, Queue}
 use Rattle.saber_sliding.proofs.Joining.{joined_can, joined_room, joined_seen, joined_sound, last_seen, some_back}
 use Rattle.saber_sliding.proofs.queue.Sliding.put.Goals as goal
 
@@ -30,7 +30,7 @@ returns-in-Ok-clause-entries g c =
     let ends = subst (λ l. last_number l ≡ Some c.args.number) c.deref.ensures.value (c.ends_with.ensures c.if-not-ends_with.false) in
     inr (
       subst (λ (q : Queue). last_number q.entries ≡ Some c.args.number) c.self.view_is (last_seen s.front.items s.back.items s.back_part.part c.args.number ends),
-      ap (λ l. seen s.front.items l n.back_part.part) c.in-Ok.ensures.back
+      ap (λ l. queue_entries s.front.items l n.back_part.part) c.in-Ok.ensures.back
           ∙ joined_seen c.merge_has_unit.ensures c.merge_is_associative.ensures s.late s.front.items s.back.items s.back_part.part n.back_part.part c.args.part.now c.self.invariant c.in-Ok.ensures.part
-          ∙ ap (λ (q : Queue). followed c.args.part.now q.entries) c.self.view_is,
+          ∙ ap (λ (q : Queue). followed_entries c.args.part.now q.entries) c.self.view_is,
     )

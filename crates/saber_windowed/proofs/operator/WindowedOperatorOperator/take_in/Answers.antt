@@ -1,7 +1,7 @@
 use Rattle.std.proofs.Common.{◌≡◌, ◌∙◌, ◌++◌, ap, sym, subst}
 use Rattle.saber_plan.specs.declared.plans.Plan.{Plan}
 use Rattle.saber_plan.specs.Trees.{tree_of}
-use Rattle.saber_plan.specs.Inputs.{arrived}
+use Rattle.saber_plan.specs.Inputs.{first_arrivals}
 use Rattle.saber_plan.specs.Shares.{piece_in}
 use Rattle.saber_plan.specs.Tasks.{Parts, by_windows, unclosed, written_by, left_by}
 use Rattle.saber_plan.specs.Facts.Kept.{alike_added, alike_kept, alike_parts}
@@ -25,7 +25,7 @@ take_in-requires c =
       windows = f.windows;
       fits = f.fits;
       rises = f.rises;
-      unclosed_is = alike_parts q c.prints_alike.ensures contents (arrived r x) f.kept_is;
+      unclosed_is = alike_parts q c.prints_alike.ensures contents (first_arrivals r x) f.kept_is;
       shares_are = f.of_is;
     })
 
@@ -35,7 +35,7 @@ returns-clause-text c r x y f =
     let w = c.prints_alike.ensures in
     let out = c.args.out.now.items in
     let contents : Parts = held_by part_of c.args.store.now in
-    let kept : contents ≡ unclosed q (arrived r x) = alike_parts q w contents (arrived r x) f.kept_is in
+    let kept : contents ≡ unclosed q (first_arrivals r x) = alike_parts q w contents (first_arrivals r x) f.kept_is in
     c.in_ok-take_in.ensures.text ∙ ap (λ (p : Plan). out ++ written_by (tree_of p) contents (piece_in (shares_of part_of c.args.piece))) c.self.view_is
     ∙ ap (λ s. out ++ written_by q contents (piece_in s)) f.of_is
     ∙ ap (λ l. out ++ l) (
@@ -47,10 +47,10 @@ returns-clause-stays c r x y f =
     let q = tree_of c.args.self.now in
     let w = c.prints_alike.ensures in
     let contents : Parts = held_by part_of c.args.store.now in
-    let kept : contents ≡ unclosed q (arrived r x) = alike_parts q w contents (arrived r x) f.kept_is in
+    let kept : contents ≡ unclosed q (first_arrivals r x) = alike_parts q w contents (first_arrivals r x) f.kept_is in
     ap by_windows (
     c.in_ok-take_in.ensures.stays ∙ ap (λ (p : Plan). left_by (tree_of p) contents (piece_in (shares_of part_of c.args.piece))) c.self.view_is
     ∙ ap (λ s. left_by q contents (piece_in s)) f.of_is
     ∙ (λ j. left_by q (kept j) (c.shares_make_piece.ensures q r x y (record { fits = f.windows; ordered = f.fits.ordered; rises = f.rises }) j))
     ∙ sym (c.open_goes_on.ensures q f.windows r x y f.fits.ordered f.rises))
-    ∙ sym (alike_kept q w (arrived r y))
+    ∙ sym (alike_kept q w (first_arrivals r y))

@@ -1,5 +1,5 @@
 use Rattle.std.proofs.Common.{◌+◌}
-use Rattle.saber_plan.specs.Tasks.{cut}
+use Rattle.saber_plan.specs.Tasks.{task_start}
 use Rattle.saber_fragment.specs.LookBack.{sight_to}
 use Rattle.saber_assembly.specs.Works.{input_of}
 use Rattle.saber_workers.proofs.LookBacks.{is_whole, is_sight, finished}
@@ -15,5 +15,5 @@ returns g c told t suits has =
     let q = g.O.Operator.plan in let seen = g.O.Operator.has_seen in let op = c.args.self.now in let look_back = c.drafts_look_back.ensures in
     let n = told.size in let r = input_of told in let d = c.args.draft in
     finished q seen look_back op told t suits d has g.O.Operator.is_of c.in-Ok.piece
-    (c.in-Ok.ensures (sight_to (q told.operator) n r t has.earlier t) r (cut n r t) (cut n r (t + 1)) has.seen
+    (c.in-Ok.ensures (sight_to (q told.operator) n r t has.earlier t) r (task_start n r t) (task_start n r (t + 1)) has.seen
     (is_whole q seen look_back op told t suits d has) (is_sight q seen look_back op told t suits d has))
