@@ -1,12 +1,13 @@
 #!/usr/bin/env python3
-"""gate_times.py [WORDS ..]: runs `rt ci WORDS ..` where it is called, and then prints what each crate cost, worst first.
+"""gate_times.py: runs the whole gate where it is called, every proof from nothing, and then prints what each crate cost, worst first.
 
-Of each crate: its proof, the proof of its tests, what its edits begin and end with, and one edit of so many, in processor seconds; what
-all of it came to; and the most memory that one of its checks had, in GB. `gate_times.py --anew` measures the whole gate, alone on
-the machine: with what earlier runs kept, only what is proved anew is seen. It asks the system once a second, so a check's last second
-may be missing.
+Of each crate: its proof, the proof of its tests, all checks of its edits with how many edits there are, and what that comes to, in
+processor seconds; the most memory that one of its checks had, in GB; and by the clock of the run, in seconds, when its proof began and
+ended. Run it alone on the machine. Where the kit keeps what earlier runs proved, the gate is `rt ci --anew`, else `rt ci`. It asks the
+system once a second, so a check's last second may be missing.
 """
 import collections
+import glob
 import os
 import re
 import subprocess
@@ -16,6 +17,7 @@ import time
 TICK = os.sysconf("SC_CLK_TCK")
 # How often memory is looked at, in seconds: it takes the system some time for a large process.
 MEMORY_EVERY = 10
+KINDS = ("proof", "tests", "edits")
 
 
 def read(path):
@@ -44,9 +46,22 @@ def task_of(pid):
     crate = words[words.index("--crate-name") + 1]
     if "--test" in words:
         return crate, "tests"
-    if "--incremental" in words:
-        return crate, "seed" if words[words.index("--incremental") + 1].endswith("/seed") else "edit"
-    return crate, "proof"
+    # an edit is checked in a copy of the crate, over what the checks of the edits before it kept, or alone
+    return crate, "edits" if "--incremental" in words or is_copy(pid) else "proof"
+
+
+def is_copy(pid):
+    """Tells whether a process works in the copy that `rt` makes of a crate to try an edit."""
+    try:
+        return os.path.basename(os.readlink(f"/proc/{pid}/cwd")).startswith("rt-edit-")
+    except OSError:
+        return False
+
+
+def anew():
+    """Returns the word by which this kit's gate takes nothing from earlier runs, if it has one."""
+    help = subprocess.run(["rt", "help"], stdout=subprocess.PIPE, stderr=subprocess.STDOUT, text=True, errors="replace").stdout
+    return ["--anew"] if "--anew" in help else []
 
 
 def tree(pid, found):
@@ -67,9 +82,9 @@ class Times:
     """What the checks of a run took so far, by process."""
 
     def __init__(self):
-        self.task, self.seconds, self.memory, self.looks = {}, {}, {}, 0
+        self.task, self.seconds, self.memory, self.clock, self.looks = {}, {}, {}, {}, 0
 
-    def look(self, top):
+    def look(self, top, now):
         found, self.looks = processes(), self.looks + 1
         # (a number is given anew once its process has ended)
         name = lambda pid: (pid, found[pid][1])
@@ -82,30 +97,35 @@ class Times:
                 self.task[check] = task
                 own = tree(pid, found)
                 self.seconds[check] = max(self.seconds.get(check, 0), sum(found[it][2] for it in own))
+                self.clock[check] = self.clock.get(check, (now,))[0], now
                 if self.looks % MEMORY_EVERY == 1:
                     self.memory[check] = max(self.memory.get(check, 0), memory_of(own))
 
     def table(self):
-        taken, peak = collections.defaultdict(list), collections.defaultdict(float)
+        taken, peak, proved = collections.defaultdict(float), collections.defaultdict(float), {}
         for check, (crate, kind) in self.task.items():
-            taken[crate, kind].append(self.seconds[check])
+            taken[crate, kind] += self.seconds[check]
             peak[crate] = max(peak[crate], self.memory.get(check, 0))
-        whole = {it: sum(sum(taken[it, kind]) for kind in ("proof", "tests", "seed", "edit")) for it in peak}
-        yield "| Crate | proof | tests | seed | edits | one edit | sum | GB |"
-        yield "|---|--:|--:|--:|--:|--:|--:|--:|"
+            if kind == "proof":
+                begun, ended = proved.get(crate, self.clock[check])
+                proved[crate] = min(begun, self.clock[check][0]), max(ended, self.clock[check][1])
+        whole = {it: sum(taken[it, kind] for kind in KINDS) for it in peak}
+        yield "| Crate | proof | tests | edits | of them | sum | GB | from | to |"
+        yield "|---|--:|--:|--:|--:|--:|--:|--:|--:|"
         for crate in sorted(whole, key=whole.get, reverse=True):
-            proof, tests, seed = (round(sum(taken[crate, it])) for it in ("proof", "tests", "seed"))
-            edits = taken[crate, "edit"]
-            one = round(sum(edits) / len(edits)) if edits else 0
-            yield f"| {crate} | {proof} | {tests} | {seed} | {len(edits)} | {one} | {round(whole[crate])} | {peak[crate]:.1f} |"
-        yield f"| all | | | | | | {round(sum(whole.values()))} | |"
+            proof, tests, edits = (round(taken[crate, it]) for it in KINDS)
+            begun, ended = proved.get(crate, (0, 0))
+            number = len(glob.glob(f"crates/{crate}/must-fail/*.edit"))
+            yield f"| {crate} | {proof} | {tests} | {edits} | {number} | {round(whole[crate])} | {peak[crate]:.1f} | {round(begun)} | {round(ended)} |"
+        proof, tests, edits = (round(sum(taken[crate, it] for crate in peak)) for it in KINDS)
+        yield f"| all | {proof} | {tests} | {edits} | | {round(sum(whole.values()))} | | | |"
 
 
 def main():
     times, begun = Times(), time.monotonic()
-    run = subprocess.Popen(["rt", "ci", *sys.argv[1:]])
+    run = subprocess.Popen(["rt", "ci", *anew()])
     while run.poll() is None:
-        times.look(run.pid)
+        times.look(run.pid, time.monotonic() - begun)
         time.sleep(1)
     print(*times.table(), sep="\n")
     print(f"{round(time.monotonic() - begun)} s by the clock, {len(os.sched_getaffinity(0))} processors")
