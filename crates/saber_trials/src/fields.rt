@@ -24,6 +24,9 @@ pub(crate) enum Key {
     /// The create that fails, and the write to a file that is created, by its name.
     Create,
     PartWrite,
+    /// The gate that holds tasks back, and how often a task looks at it at most.
+    Gate,
+    Limit,
     /// Values with each of which the case is tried.
     Each,
     /// The sizes that it is tried with.
@@ -37,6 +40,7 @@ pub(crate) enum Key {
     OutEnd,
     Note,
     Tasks,
+    Late,
     /// How many parts there are, and what has to come of one, by its number.
     Parts,
     PartStatus,
@@ -98,6 +102,8 @@ fn asked_key(head: &str) -> Option<Key> {
         "failing write" => Some(Key::Write),
         "failing note" => Some(Key::NoteWrite),
         "failing create" => Some(Key::Create),
+        "gate" => Some(Key::Gate),
+        "limit" => Some(Key::Limit),
         _ => None,
     }
 }
@@ -122,6 +128,7 @@ fn wanted_key(head: &str) -> Option<Key> {
         "out ends" => Some(Key::OutEnd),
         "note" => Some(Key::Note),
         "tasks" => Some(Key::Tasks),
+        "late" => Some(Key::Late),
         "parts" => Some(Key::Parts),
         _ => None,
     }

@@ -1,8 +1,8 @@
 //! Files of cases: what is asked of the top call over files in memory, and what has to come of it.
-//! The program `saber_cases` tries them, and tests of threads use it. docs/CASES.md has the format.
+//! The program `saber_cases` tries them. docs/CASES.md has the format.
 //!
 //! - Parts: `refusals` (why a file is refused), `fields`, `names`, `texts`, `readings` (what its
-//!   lines say), `sizes` and `wanted` (of a case), `runs` (one run), `trials` (the call).
+//!   lines say), `sizes`, `gates` and `wanted` (of a case), `runs` (one run), `trials` (the call).
 //! - Call: `try_cases` takes a file's name and text and a report, to which it adds a line for each
 //!   case that fails, and gives how many cases there were, how many runs, and how many cases
 //!   failed.
@@ -13,6 +13,7 @@
 #![tactic(auto)]
 
 mod fields;
+mod gates;
 mod names;
 mod readings;
 mod refusals;

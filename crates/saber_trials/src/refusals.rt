@@ -23,6 +23,10 @@ pub enum Cause {
     Unclosed,
     /// A number that can't be read, or a count of repetitions above two million.
     BadNumber,
+    /// A gate that is neither a hold nor an order, or lateness that is neither yes nor no.
+    UnknownWord,
+    /// An order of more than 64 tasks.
+    LongOrder,
     /// Words or a file's name that are no UTF-8.
     NotUtf8,
     /// A case without words.
@@ -41,6 +45,8 @@ impl fmt::Display for Cause {
             Cause::UnknownText => "unknown text",
             Cause::Unclosed => "repetition or name not closed",
             Cause::BadNumber => "bad number",
+            Cause::UnknownWord => "unknown word",
+            Cause::LongOrder => "order of more than 64 tasks",
             Cause::NotUtf8 => "not UTF-8",
             Cause::NoWords => "no words",
         };

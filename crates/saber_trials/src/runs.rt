@@ -1,10 +1,11 @@
 // One run of a case.
 use crate::fields::{Fields, Key};
+use crate::gates::{CaseGate, gate_of};
 use crate::names::Names;
 use crate::readings::{creates, files_of, opens, part_writes, writes};
 use crate::refusals::Refused;
 use crate::wanted::{Seen, SeenPart};
-use saber_io::{Files, MemFiles, MemOuts, MemSink, OpenGate, Outs, Sink};
+use saber_io::{Files, Gate, MemFiles, MemOuts, MemSink, Outs, Sink};
 use saber_notes::Noted;
 use saber_top::{PartList, ended, top};
 use std::alloc::{AllocError, Global};
@@ -23,7 +24,14 @@ struct Came<K, T> {
 
 // The call alone, over any files and sinks: what it promises is long, and no case needs it, so it
 // is carried no further.
-fn top_call<F: Files, U: Outs, K: Sink + Send + Drop, N: Sink, R: Threads + Wait + Sync>(
+fn top_call<
+    F: Files,
+    U: Outs,
+    K: Sink + Send + Drop,
+    N: Sink,
+    G: Gate + Sync,
+    R: Threads + Wait + Sync,
+>(
     rt: &R,
     alloc: Global,
     words: &[&str],
@@ -31,6 +39,7 @@ fn top_call<F: Files, U: Outs, K: Sink + Send + Drop, N: Sink, R: Threads + Wait
     outs: &mut U,
     sink: K,
     notes: &mut N,
+    gate: &G,
 ) -> Came<K, U::Out>
 where
     F::Src: Send + Drop,
@@ -42,7 +51,7 @@ where
         noted,
         end: _,
         parts,
-    } = top(rt, alloc, words, files, outs, sink, notes, &OpenGate);
+    } = top(rt, alloc, words, files, outs, sink, notes, gate);
     Came {
         status,
         sink,
@@ -52,8 +61,8 @@ where
     }
 }
 
-/// The call with these words, over the case's files and sinks, whose reads give at most `cut` bytes
-/// where that isn't 0.
+/// The call with these words, over the case's files and sinks and at its gate. Reads give at most
+/// `cut` bytes where that isn't 0.
 pub(crate) fn run_once<R: Threads + Wait + Sync>(
     rt: &R,
     alloc: Global,
@@ -62,16 +71,42 @@ pub(crate) fn run_once<R: Threads + Wait + Sync>(
     words: &[&str],
     cut: u64,
 ) -> Result<Seen, Refused> {
-    let listed = files_of(alloc, names, fields, cut)?;
-    let mut files = MemFiles::new(alloc, listed, opens(alloc, fields)?);
-    let sink = MemSink::new(alloc, writes(alloc, fields, Key::Write)?);
-    let mut notes = MemSink::new(alloc, writes(alloc, fields, Key::NoteWrite)?);
-    let mut outs = MemOuts::new(alloc, creates(alloc, fields)?, part_writes(alloc, fields)?);
-    let came = top_call(rt, alloc, words, &mut files, &mut outs, sink, &mut notes);
-    Ok(seen(alloc, &came, &notes)?)
+    let gate = gate_of(alloc, fields)?;
+    let seen = run_at(rt, alloc, names, fields, words, cut, &gate);
+    gate.let_go();
+    seen
 }
 
-fn seen(alloc: Global, came: &Came<MemSink, MemSink>, notes: &MemSink) -> Result<Seen, AllocError> {
+// The same at this gate.
+fn run_at<R: Threads + Wait + Sync>(
+    rt: &R,
+    alloc: Global,
+    names: &Names,
+    fields: &Fields<'_>,
+    words: &[&str],
+    cut: u64,
+    gate: &CaseGate,
+) -> Result<Seen, Refused> {
+    let writes_of_out = writes(alloc, fields, Key::Write)?;
+    let writes_of_note = writes(alloc, fields, Key::NoteWrite)?;
+    let failing_opens = opens(alloc, fields)?;
+    let mut outs = MemOuts::new(alloc, creates(alloc, fields)?, part_writes(alloc, fields)?);
+    let listed = files_of(alloc, names, fields, cut)?;
+    let mut files = MemFiles::new(alloc, listed, failing_opens);
+    let sink = MemSink::new(alloc, writes_of_out);
+    let mut notes = MemSink::new(alloc, writes_of_note);
+    let came = top_call(
+        rt, alloc, words, &mut files, &mut outs, sink, &mut notes, gate,
+    );
+    Ok(seen(alloc, &came, &notes, gate.is_late())?)
+}
+
+fn seen(
+    alloc: Global,
+    came: &Came<MemSink, MemSink>,
+    notes: &MemSink,
+    is_late: bool,
+) -> Result<Seen, AllocError> {
     let mut parts = Vec::new(alloc);
     for part in came.parts.as_slice() {
         parts.push(SeenPart {
@@ -86,6 +121,7 @@ fn seen(alloc: Global, came: &Came<MemSink, MemSink>, notes: &MemSink) -> Result
         note: notes.bytes().to_vec(alloc)?,
         noted: came.noted,
         tasks: came.tasks,
+        is_late,
         parts,
     })
 }

@@ -2,7 +2,7 @@
 use crate::fields::{Fields, Key};
 use crate::names::Names;
 use crate::readings::{number, numbers};
-use crate::refusals::Refused;
+use crate::refusals::{Cause, Refused};
 use crate::texts::text_of;
 use saber_notes::Noted;
 use std::alloc::{AllocError, Global};
@@ -18,6 +18,8 @@ pub(crate) struct Wanted {
     noted: Noted,
     // how many tasks are assembled, for each size of tasks; any number where there are none
     tasks: Vec<u64>,
+    // whether a task went on before the one that its gate has it wait for
+    is_late: bool,
     // of each query of several
     parts: Vec<WantedPart>,
 }
@@ -46,6 +48,7 @@ pub(crate) struct Seen {
     pub(crate) note: Vec<u8>,
     pub(crate) noted: Noted,
     pub(crate) tasks: u64,
+    pub(crate) is_late: bool,
     pub(crate) parts: Vec<SeenPart>,
 }
 
@@ -63,6 +66,7 @@ pub(crate) fn wanted_of(
         Some(field) => number(field, field.first())?,
         None => 0,
     };
+    let is_late = wanted_lateness(fields)?;
     let is_end = fields.find(Key::OutEnd, "").is_some();
     let out = wanted_text(
         alloc,
@@ -79,8 +83,21 @@ pub(crate) fn wanted_of(
         note: wanted_text(alloc, names, fields, Key::Note, "")?,
         noted: noted_of(status, fields),
         tasks,
+        is_late,
         parts: wanted_parts(alloc, names, fields)?,
     })
+}
+
+// Tasks come in time where nothing else is said.
+fn wanted_lateness(fields: &Fields<'_>) -> Result<bool, Refused> {
+    let Some(field) = fields.find(Key::Late, "") else {
+        return Ok(false);
+    };
+    match field.first() {
+        "yes" => Ok(true),
+        "no" => Ok(false),
+        _ => Err(field.refused(Cause::UnknownWord)),
+    }
 }
 
 fn wanted_numbers(
@@ -228,6 +245,7 @@ impl Wanted {
             && seen.note.as_slice() == self.note.as_slice()
             && seen.noted == self.noted
             && seen.tasks == tasks
+            && seen.is_late == self.is_late
             && self.has_parts(&seen.parts, size)
     }
 
@@ -245,6 +263,7 @@ impl Wanted {
         }
         self.tell_noted(seen, report)?;
         self.tell_tasks(seen, size, report)?;
+        self.tell_lateness(seen, report)?;
         self.tell_parts(&seen.parts, size, report)
     }
 
@@ -290,7 +309,19 @@ impl Wanted {
         Ok(())
     }
 
+    fn tell_lateness(&self, seen: &Seen, report: &mut String) -> Result<(), AllocError> {
+        if seen.is_late != self.is_late {
+            let came = lateness(seen.is_late);
+            write!(report, "; {came}, wanted {}", lateness(self.is_late))?;
+        }
+        Ok(())
+    }
+
     pub(crate) fn let_go(self) {}
+}
+
+fn lateness(is_late: bool) -> &'static str {
+    if is_late { "late" } else { "in time" }
 }
 
 // Tells a text that is another one than is wanted.

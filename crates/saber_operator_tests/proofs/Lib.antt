@@ -1,2 +1,0 @@
-mod Back
-mod AllBehind

@@ -1,4 +1,0 @@
-pub mod Asking
-pub mod Filling
-pub mod Standing
-pub mod BlockFacts

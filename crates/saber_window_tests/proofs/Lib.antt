@@ -1,3 +1,0 @@
-mod InOrder
-mod PartFacts
-mod PanesFrom

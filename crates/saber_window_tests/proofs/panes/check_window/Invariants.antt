@@ -1,4 +1,0 @@
-use Rattle.saber_window_tests.proofs.panes.check_window.Given as goal
-
-abbrev pub ghosts-lines_of_window : goal.ghosts-lines_of_window
-ghosts-lines_of_window g a = record { name = a.blank.name; parts = a.blank.parts }
