@@ -3,3 +3,4 @@ pub mod Sounds
 pub mod Orders
 pub mod Stops
 pub mod Fits
+mod Worked

@@ -6,3 +6,4 @@ mod WorkedNeeds
 mod WorkedEnds
 mod WorkedLists
 mod WorkedWords
+mod WorkedKinds
