@@ -71,6 +71,9 @@ out ends: ,2|0 of 2 <>
 out: 0,3|1 of 1 <f line 15: all: saber run q l --task 1 --ring 4 --threads 0; out \"0,2\\n\", wanted \"0,3\\n\">
 out: 0,2/tasks: 2|1 of 2 <f line 15: all: saber run q l --task 2 --ring 4 --threads 0; tasks 1, wanted 2>
 file l: 0/note: saber: left line 1: field count|1 of 1 <f line 15: all: saber run q l --task 1 --ring 4 --threads 0; status 4, wanted 0; noted Whole, wanted Nothing>
+out: 0,2/gate: hold 0 1/limit: 9/late: yes|0 of 2 <>
+out: 0,2/gate: hold 1 0/limit: 9/late: no|0 of 2 <>
+out: 0,2/gate: order 1 0/limit: 9|1 of 1 <f line 15: all: saber run q l --task 1 --ring 4 --threads 0; late, wanted in time>
 each: 0,1 \\x78/file l: \\{2 \\<each>\\n}\\/out: 0,2|1 of 3 <f line 15: all: saber run q l --task 1 --ring 4 --threads 0; status 4, wanted 0; note \"saber: left line 1: field count\\n\", wanted \"\"; out \"\", wanted \"0,2\\n\"; noted Whole, wanted Nothing>
 ";
 
@@ -103,6 +106,11 @@ section: a/words: \\xff//case: b|line 2: not UTF-8
 section: a/words: s/cuts of l: 0/file l: 1/case: b|line 3: bad number
 section: a/words: s/status: x/case: b|line 3: bad number
 section: a/words: s/failing write: 1/case: b|line 3: bad number
+section: a/words: s/gate: open/case: b|line 3: unknown word
+section: a/words: s/gate: hold 0/case: b|line 3: bad number
+section: a/words: s/gate: order 0 x/case: b|line 3: bad number
+section: a/words: s/gate: order 0 0 0 0 0 0 0 0 0 0 0 0 0 0 0 0 0 0 0 0 0 0 0 0 0 0 0 0 0 0 0 0 0 0 0 0 0 0 0 0 0 0 0 0 0 0 0 0 0 0 0 0 0 0 0 0 0 0 0 0 0 0 0 0 0/case: b|line 3: order of more than 64 tasks
+section: a/words: s/late: perhaps/case: b|line 3: unknown word
 ";
 
 #[test]

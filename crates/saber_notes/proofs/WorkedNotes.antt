@@ -1,12 +1,14 @@
--- Notes of several queries, worked out.
+-- Notes worked out: of several queries, and with great numbers.
 use Rattle.std.proofs.Common.{◌≡◌, List, ℕ, [], ◌∷◌, ◌++◌, arith, codes, refl, ap, ap₂}
 use Rattle.std.proofs.lemmas.Fmt.{decimal_digit}
+use Rattle.std.specs.Fmt.{digits}
 use Rattle.saber_plan.specs.declared.rows.Side.TheVariants as sides
 use Rattle.saber_plan.specs.declared.rows.RowCause.TheVariants as rows
 use Rattle.saber_query.specs.declared.fault.Cause.TheVariants as causes
 use Rattle.saber_notes.specs.declared.outcome.Outcome.TheVariants as ends
 use Rattle.saber_notes.specs.declared.outcome.InputFile.TheVariants as files
 use Rattle.saber_notes.specs.declared.early.Early.TheVariants.{QueryUnopened, QueryUnread, QueryFault, Unshareable, LeftUnopened, CreateFault, NoMemory}
+use Rattle.saber_notes.specs.Notes.{note_of}
 use Rattle.saber_notes.specs.ManyNotes.{early_note, early_status, first_status, query_lines}
 
 -- a line on a query, behind these digits of its number
@@ -64,3 +66,19 @@ all_done = refl
 -- the first status that isn't 0, not the greatest
 first_counts : first_status (ends.Done ∷ ends.ReadFault files.Left ∷ ends.WriteFault ∷ []) ≡ 5
 first_counts = refl
+
+-- ---- numbers that no case can have
+
+past_all_lines : note_of (ends.ChainLineRefused 1099511627777 rows.TooManyLines) ≡ codes "saber: chain line 1099511627777: too many lines" ++ 10 ∷ []
+unfolding digits
+past_all_lines = refl
+
+greatest_field : note_of (ends.ChainLineRefused 18446744073709551615 (rows.BadNumber 4294967295))
+    ≡ codes "saber: chain line 18446744073709551615: bad number in field 4294967295" ++ 10 ∷ []
+unfolding digits
+greatest_field = refl
+
+last_byte : note_of (ends.SecondQueryFault 18446744073709551615 causes.ExprTooWide)
+    ≡ codes "saber: second query byte 18446744073709551615: expression too wide" ++ 10 ∷ []
+unfolding digits
+last_byte = refl
