@@ -3,4 +3,5 @@ pub mod Numbers
 pub mod Flags
 pub mod Demo
 pub mod Chain
+pub mod Table
 pub mod Many

@@ -1,11 +1,9 @@
 -- What `many` asks for, and which words are it.
-use Rattle.std.specs.Prelude.{◌≡◌, ◌≤◌, ◌^◌, ◌&&◌, nat_le, ℕ, List, [], ◌∷◌, ◌++◌, map, flat_map, length, Bool, false, Option, Some, None, if◌then◌else◌, codes, option_and_then, option_to_list}
+use Rattle.std.specs.Prelude.{◌≤◌, ◌^◌, ◌&&◌, nat_le, ℕ, List, [], ◌∷◌, ◌++◌, map, flat_map, length, Bool, false, Option, Some, None, if◌then◌else◌, codes, option_and_then, option_to_list}
 use Rattle.std.specs.Str.{bytes_eq}
 use Rattle.clap.specs.Walk.{Row, Text, first_of}
-use Rattle.clap.specs.Simple.{App, Shape, app_of, new_shape, subcommand_of}
+use Rattle.clap.specs.Simple.{App, Shape, new_shape, subcommand_of}
 use Rattle.clap.specs.Faults.{fault_of}
-use Rattle.clap.specs.declared.builder.command.Command.{Command}
-use Rattle.clap.specs.declared.builder.command.Command.TheViews.{out-Command}
 use Rattle.saber_words.specs.Numbers.{Numeric, number_by, number_rule}
 use Rattle.saber_words.specs.Flags.{flag_by, flag_rule}
 use Rattle.saber_words.specs.Commands.{Numbers, numbers_with, required_rule, optional, task, ring, max_lines, slack, saber_shape, is_faultless, usual_numbers}
@@ -67,14 +65,6 @@ many_shape = record (new_shape (codes "many")) {
       ++ (number_rule task ∷ number_rule ring ∷ number_rule few_threads ∷ number_rule max_lines ∷ number_rule slack
       ∷ flag_rule (codes "final") ∷ []);
 }
-
--- a program without global arguments, which is this one
-abbrev pub IsLocal : Command → App → Type 0
-IsLocal c a = (app_of c ≡ a) × ((out-Command c).has_globals ≡ false)
-
--- with positionals of these names behind its arguments, each of which may be left out
-abbrev pub with_names : App → List Text → App
-with_names a names = record a { top = record a.top { rules = a.top.rules ++ map optional names } }
 
 -- the program with this command alone
 abbrev pub many_app : App

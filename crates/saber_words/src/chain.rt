@@ -1,33 +1,31 @@
 //! The words of `chain`.
-ghost use Rattle.std.specs.Prelude.{◌≡◌, IfOk, option_map, false};
-ghost use Rattle.clap.specs.Words.{found_of, rows_of, shape_of};
-ghost use Rattle.clap.specs.declared.builder.command.Command.TheViews.{out-Command};
+ghost use Rattle.std.specs.Prelude.{◌≡◌, IfOk, option_map};
+ghost use Rattle.clap.specs.Words.{found_of, rows_of};
 ghost use Rattle.saber_words.specs.Commands.{asked_command, chain_by, chain_shape};
+ghost use Rattle.saber_words.specs.Table.{HasShape};
 
-use crate::numbers::{max_lines, number_arg, ring, sizes, slack, task, threads};
+use crate::numbers::{max_lines, ring, sizes, slack, task, threads};
+use crate::table::{Argument, subcommand};
 use crate::{Chain, Command};
-use clap::{Arg, ArgMatches};
+use clap::ArgMatches;
 use std::alloc::{AllocError, Global};
 
 /// The subcommand, for `clap`.
 pub(crate) fn chain_app<'a>(alloc: Global) -> Result<clap::Command<'a>, AllocError>
-    ensures { IfOk result (λ app. (shape_of app ≡ chain_shape)
-        × ((out-Command app).has_globals ≡ false)) }
+    ensures { IfOk result (HasShape chain_shape) }
 {
-    let first = Arg::new(alloc, "first").required(true);
-    let second = Arg::new(alloc, "second").required(true);
-    let left = Arg::new(alloc, "left").required(true);
-    let right = Arg::new(alloc, "right");
-    clap::Command::new(alloc, "chain")
-        .arg(first)?
-        .arg(second)?
-        .arg(left)?
-        .arg(right)?
-        .arg(number_arg(alloc, task()))?
-        .arg(number_arg(alloc, ring()))?
-        .arg(number_arg(alloc, threads()))?
-        .arg(number_arg(alloc, max_lines()))?
-        .arg(number_arg(alloc, slack()))
+    let arguments = [
+        Argument::Needed("first"),
+        Argument::Needed("second"),
+        Argument::Needed("left"),
+        Argument::Optional("right"),
+        Argument::Number(task()),
+        Argument::Number(ring()),
+        Argument::Number(threads()),
+        Argument::Number(max_lines()),
+        Argument::Number(slack()),
+    ];
+    subcommand(alloc, "chain", arguments.as_slice())
 }
 
 /// What its words ask for.

@@ -1,15 +1,15 @@
 //! The words of `demo`.
-ghost use Rattle.std.specs.Prelude.{◌≡◌, IfOk, option_map, false};
-ghost use Rattle.clap.specs.Words.{found_of, rows_of, rule_of, shape_of};
-ghost use Rattle.clap.specs.declared.builder.command.Command.TheViews.{out-Command};
+ghost use Rattle.std.specs.Prelude.{◌≡◌, IfOk, option_map};
+ghost use Rattle.clap.specs.Words.{found_of, rows_of};
 ghost use Rattle.saber_words.specs.Numbers.{numeric_of};
-ghost use Rattle.saber_words.specs.Demo.{positional_rule, rows, seed};
+ghost use Rattle.saber_words.specs.Demo.{rows, seed};
 ghost use Rattle.saber_words.specs.Commands.{asked_command, demo_by, demo_shape};
+ghost use Rattle.saber_words.specs.Table.{HasShape};
 
-use crate::numbers::{NumberOption, number, number_arg, ring, task, threads};
+use crate::numbers::{NumberOption, number, ring, task, threads};
+use crate::table::{Argument, subcommand};
 use crate::{Command, Demo};
-use clap::builder::ValueParser;
-use clap::{Arg, ArgMatches};
+use clap::ArgMatches;
 use std::alloc::{AllocError, Global};
 
 // What the generator begins with.
@@ -36,27 +36,18 @@ fn rows() -> NumberOption
     }
 }
 
-// The positional of one number, for `clap`.
-fn positional<'a>(alloc: Global, option: NumberOption) -> Arg<'a>
-    ensures rule { rule_of result ≡ positional_rule (numeric_of option) }
-    ensures local { result.global ≡ false }
-{
-    Arg::new(alloc, option.name)
-        .required(true)
-        .value_parser(ValueParser::unsigned(option.least, option.most))
-}
-
 /// The subcommand, for `clap`.
 pub(crate) fn demo_app<'a>(alloc: Global) -> Result<clap::Command<'a>, AllocError>
-    ensures { IfOk result (λ app. (shape_of app ≡ demo_shape)
-        × ((out-Command app).has_globals ≡ false)) }
+    ensures { IfOk result (HasShape demo_shape) }
 {
-    clap::Command::new(alloc, "demo")
-        .arg(positional(alloc, seed()))?
-        .arg(positional(alloc, rows()))?
-        .arg(number_arg(alloc, task()))?
-        .arg(number_arg(alloc, ring()))?
-        .arg(number_arg(alloc, threads()))
+    let arguments = [
+        Argument::Numeral(seed()),
+        Argument::Numeral(rows()),
+        Argument::Number(task()),
+        Argument::Number(ring()),
+        Argument::Number(threads()),
+    ];
+    subcommand(alloc, "demo", arguments.as_slice())
 }
 
 /// What its words ask for.

@@ -1,8 +1,9 @@
 //! The words of the command line: which are a command of `saber`, and what it asks for.
 //! The top call reads its words by it; the kit's `clap` does the work.
 //!
-//! - Parts: `commands` (what may be asked for), `flags` and `numbers` (options), `chain`, `demo`
-//!   and `many` (their words), `reading` (the call, and the words of `run` and `check`), `laws`.
+//! - Parts: `commands` (what may be asked for), `flags` and `numbers` (options), `table`
+//!   (subcommands, for `clap`), `chain`, `demo` and `many` (their words), `reading` (the call, and
+//!   the words of `run` and `check`), `laws`.
 //! - Call: `read_words` takes the words, the program's name first, and gives a `Command`, or a
 //!   `WordsFault`: no command, or want of memory. A wish for help is no command. `read_many` does
 //!   the same for `many`, which `read_words` takes for no command; `out_name` is the name of the
@@ -24,6 +25,7 @@ mod laws;
 mod many;
 mod numbers;
 mod reading;
+mod table;
 
 pub use commands::{Chain, Check, Command, Demo, Many, Run, WordsFault};
 pub use laws::{sizes_of_words, words_of_file_names, words_of_many};

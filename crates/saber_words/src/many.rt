@@ -1,18 +1,18 @@
 //! The words of `many`.
-ghost use Rattle.std.specs.Prelude.{◌≡◌, ◌++◌, IfOk, Some, None, OnOk, map, option_map, option_and_then, option_to_list, string_bytes, false};
+ghost use Rattle.std.specs.Prelude.{◌≡◌, ◌++◌, IfOk, Some, None, OnOk, map, option_map, option_and_then, option_to_list, string_bytes};
 ghost use Rattle.clap.specs.Walk.{first_of};
-ghost use Rattle.clap.specs.Words.{app_of, found_of, rows_of, shape_of, subcommand_rows_of};
-ghost use Rattle.clap.specs.Simple.{App};
-ghost use Rattle.clap.specs.declared.builder.command.Command.TheViews.{out-Command};
+ghost use Rattle.clap.specs.Words.{app_of, found_of, rows_of, subcommand_rows_of};
 ghost use Rattle.saber_words.specs.Commands.{numbers_of};
 ghost use Rattle.saber_words.specs.Numbers.{numeric_of};
-ghost use Rattle.saber_words.specs.Many.{asked_many, few_numbers_by, few_threads, many_app, many_by, many_in, many_of, many_shape, queries_in, many_with, out_name, with_names, IsLocal, HasManySizes};
+ghost use Rattle.saber_words.specs.Table.{HasShape};
+ghost use Rattle.saber_words.specs.Many.{asked_many, few_numbers_by, few_threads, many_app, many_by, many_in, many_of, many_shape, queries_in, many_with, out_name, HasManySizes};
 
-use crate::flags::{flag_arg, is_given};
-use crate::numbers::{NumberOption, RunSizes, max_lines, number, number_arg, ring, slack, task};
+use crate::flags::is_given;
+use crate::numbers::{NumberOption, RunSizes, max_lines, number, ring, slack, task};
 use crate::reading::fault;
+use crate::table::{Argument, bare_saber, subcommand, with_subcommand};
 use crate::{Many, WordsFault};
-use clap::{Arg, ArgMatches};
+use clap::ArgMatches;
 use std::alloc::{AllocError, Global};
 
 /// What `many LEFT QUERY..` asks for, by the words of the command line, of which the first is the
@@ -56,47 +56,31 @@ fn few_threads() -> NumberOption
 fn program<'a>(alloc: Global) -> Result<clap::Command<'a>, AllocError>
     ensures { IfOk result (λ app. app_of app ≡ many_app) }
 {
-    let many = many_app(alloc)?;
-    clap::Command::new(alloc, "saber")
-        .disable_help_flag(true)
-        .disable_help_subcommand(true)
-        .disable_version_flag(true)
-        .subcommand_required(true)
-        .subcommand(many)
+    with_subcommand(bare_saber(alloc), many_app(alloc))
 }
 
 // The subcommand, for `clap`.
 fn many_app<'a>(alloc: Global) -> Result<clap::Command<'a>, AllocError>
-    ensures { IfOk result (λ app. (shape_of app ≡ many_shape) × ((out-Command app).has_globals ≡ false)) }
+    ensures { IfOk result (HasShape many_shape) }
 {
-    let left = Arg::new(alloc, "left").required(true);
-    let first = Arg::new(alloc, "first").required(true);
-    let others = [
-        "second", "third", "fourth", "fifth", "sixth", "seventh", "eighth",
+    let arguments = [
+        Argument::Needed("left"),
+        Argument::Needed("first"),
+        Argument::Optional("second"),
+        Argument::Optional("third"),
+        Argument::Optional("fourth"),
+        Argument::Optional("fifth"),
+        Argument::Optional("sixth"),
+        Argument::Optional("seventh"),
+        Argument::Optional("eighth"),
+        Argument::Number(task()),
+        Argument::Number(ring()),
+        Argument::Number(few_threads()),
+        Argument::Number(max_lines()),
+        Argument::Number(slack()),
+        Argument::Flag("final"),
     ];
-    let app = clap::Command::new(alloc, "many").arg(left)?.arg(first)?;
-    with_names(alloc, app, others.as_slice())?
-        .arg(number_arg(alloc, task()))?
-        .arg(number_arg(alloc, ring()))?
-        .arg(number_arg(alloc, few_threads()))?
-        .arg(number_arg(alloc, max_lines()))?
-        .arg(number_arg(alloc, slack()))?
-        .arg(flag_arg(alloc, "final"))
-}
-
-// The command with positionals of these names too, each of which may be left out.
-fn with_names<'a>(
-    alloc: Global,
-    app: clap::Command<'a>,
-    names: &[&'static str],
-) -> Result<clap::Command<'a>, AllocError>
-    ensures { (a : App) → IsLocal app.entry a → IfOk result (λ new. IsLocal new (with_names a (map (λ name. name.now) names.now))) }
-{
-    let Some((name, rest)) = names.split_first() else {
-        return Ok(app);
-    };
-    let more = app.arg(Arg::new(alloc, *name))?;
-    with_names(alloc, more, rest)
+    subcommand(alloc, "many", arguments.as_slice())
 }
 
 // What the subcommand that was met asks for.

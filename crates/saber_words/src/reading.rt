@@ -1,18 +1,19 @@
 //! The reading of the words, by `clap`.
 ghost use Rattle.std.specs.Prelude.{◌≡◌, IfOk, Some, None, map, option_map, option_and_then};
-ghost use Rattle.std.specs.Prelude.{◌↔◌, false};
-ghost use Rattle.clap.specs.Words.{app_of, found_of, rows_of, shape_of, subcommand_rows_of};
-ghost use Rattle.clap.specs.declared.builder.command.Command.TheViews.{out-Command};
+ghost use Rattle.std.specs.Prelude.{◌↔◌};
+ghost use Rattle.clap.specs.Words.{app_of, found_of, rows_of, subcommand_rows_of};
 ghost use Rattle.saber_words.specs.Commands.{asked_command, asked_by, check_by, check_shape, command_of};
 ghost use Rattle.saber_words.specs.Commands.{run_by, run_shape, saber_app, IsSized};
+ghost use Rattle.saber_words.specs.Table.{HasShape};
 
 use crate::chain::{chain, chain_app};
 use crate::demo::{demo, demo_app};
-use crate::flags::{flag_arg, is_given};
-use crate::numbers::{max_lines, number_arg, ring, sizes, slack, task, threads};
+use crate::flags::is_given;
+use crate::numbers::{max_lines, ring, sizes, slack, task, threads};
+use crate::table::{Argument, bare_saber, subcommand, with_subcommand};
 use crate::{Check, Command, Run, WordsFault};
+use clap::ArgMatches;
 use clap::error::ErrorKind;
-use clap::{Arg, ArgMatches};
 use std::alloc::{AllocError, Global};
 
 /// The command that `words` ask for, of which the first is the name of the program. The words are a
@@ -42,51 +43,38 @@ pub(crate) fn fault(kind: ErrorKind) -> WordsFault
     }
 }
 
-// The program with its subcommands. It has neither a flag nor a subcommand for help or the version,
-// so words that ask for these are as unknown as any other.
+// The program with its subcommands.
 fn saber<'a>(alloc: Global) -> Result<clap::Command<'a>, AllocError>
     ensures { IfOk result (λ app. app_of app ≡ saber_app) }
 {
-    let run = run_app(alloc)?;
-    let check = check_app(alloc)?;
-    let demo = demo_app(alloc)?;
-    let chain = chain_app(alloc)?;
-    clap::Command::new(alloc, "saber")
-        .disable_help_flag(true)
-        .disable_help_subcommand(true)
-        .disable_version_flag(true)
-        .subcommand_required(true)
-        .subcommand(run)?
-        .subcommand(check)?
-        .subcommand(demo)?
-        .subcommand(chain)
+    let one = with_subcommand(bare_saber(alloc), run_app(alloc))?;
+    let two = with_subcommand(one, check_app(alloc))?;
+    let three = with_subcommand(two, demo_app(alloc))?;
+    with_subcommand(three, chain_app(alloc))
 }
 
 fn run_app<'a>(alloc: Global) -> Result<clap::Command<'a>, AllocError>
-    ensures { IfOk result (λ app. (shape_of app ≡ run_shape)
-        × ((out-Command app).has_globals ≡ false)) }
+    ensures { IfOk result (HasShape run_shape) }
 {
-    let query = Arg::new(alloc, "query").required(true);
-    let left = Arg::new(alloc, "left").required(true);
-    let right = Arg::new(alloc, "right");
-    clap::Command::new(alloc, "run")
-        .arg(query)?
-        .arg(left)?
-        .arg(right)?
-        .arg(number_arg(alloc, task()))?
-        .arg(number_arg(alloc, ring()))?
-        .arg(number_arg(alloc, threads()))?
-        .arg(number_arg(alloc, max_lines()))?
-        .arg(number_arg(alloc, slack()))?
-        .arg(flag_arg(alloc, "final"))
+    let arguments = [
+        Argument::Needed("query"),
+        Argument::Needed("left"),
+        Argument::Optional("right"),
+        Argument::Number(task()),
+        Argument::Number(ring()),
+        Argument::Number(threads()),
+        Argument::Number(max_lines()),
+        Argument::Number(slack()),
+        Argument::Flag("final"),
+    ];
+    subcommand(alloc, "run", arguments.as_slice())
 }
 
 fn check_app<'a>(alloc: Global) -> Result<clap::Command<'a>, AllocError>
-    ensures { IfOk result (λ app. (shape_of app ≡ check_shape)
-        × ((out-Command app).has_globals ≡ false)) }
+    ensures { IfOk result (HasShape check_shape) }
 {
-    let query = Arg::new(alloc, "query").required(true);
-    clap::Command::new(alloc, "check").arg(query)
+    let arguments = [Argument::Needed("query")];
+    subcommand(alloc, "check", arguments.as_slice())
 }
 
 // What the subcommand that was met asks for.

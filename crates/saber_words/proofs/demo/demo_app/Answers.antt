@@ -1,24 +1,16 @@
-use Rattle.std.proofs.Common.{ap, ◌≡◌, ◌∙◌}
-use Rattle.std.proofs.lemmas.Result.{IfOk-weaker}
-use Rattle.clap.specs.Walk.{rule_of}
-use Rattle.clap.specs.Simple.{App}
-use Rattle.saber_words.specs.Commands.{ring, task, threads}
-use Rattle.saber_words.specs.Numbers.{number_rule}
-use Rattle.saber_words.specs.Demo.{positional_rule, rows, seed}
-use Rattle.saber_words.proofs.Apps.{local_with_arg}
+use Rattle.std.proofs.Common.{IfOk, [], ◌∷◌, codes, subst}
+use Rattle.clap.specs.Simple.{Shape, new_shape}
+use Rattle.saber_words.specs.Numbers.{Numeric, number_rule}
+use Rattle.saber_words.specs.Demo.{positional_rule}
+use Rattle.saber_words.specs.Table.{HasShape}
+use Rattle.saber_words.proofs.Apps.{same_five}
 use Rattle.saber_words.proofs.demo.demo_app.Goals as goal
+
+-- the subcommand with these numbers
+abbrev demo_with : Numeric → Numeric → Numeric → Numeric → Numeric → Shape
+demo_with a b c d e = record (new_shape (codes "demo")) { rules = positional_rule a ∷ positional_rule b ∷ number_rule c ∷ number_rule d ∷ number_rule e ∷ [] }
 
 pub returns : goal.returns
 returns c =
-    let first : rule_of c.positional.result ≡ positional_rule seed = c.positional.ensures.rule ∙ ap positional_rule c.seed.ensures in
-    let second : rule_of c.positional-2.result ≡ positional_rule rows = c.positional-2.ensures.rule ∙ ap positional_rule c.rows.ensures in
-    let size : rule_of c.number_arg.result ≡ number_rule task = c.number_arg.ensures.rule ∙ ap number_rule c.task.ensures in
-    let cells : rule_of c.number_arg-2.result ≡ number_rule ring = c.number_arg-2.ensures.rule ∙ ap number_rule c.ring.ensures in
-    let count : rule_of c.number_arg-3.result ≡ number_rule threads = c.number_arg-3.ensures.rule ∙ ap number_rule c.threads.ensures in
-    let one = local_with_arg c.new.result c.in_ok-arg.field-0 c.positional.result _ _ c.in_ok-arg.ensures (c.new.ensures.app, c.new.ensures.local) c.positional.ensures.local first in
-    let two = local_with_arg c.in_ok-arg.field-0 c.in_ok-arg-2.field-0 c.positional-2.result _ _ c.in_ok-arg-2.ensures one c.positional-2.ensures.local second in
-    let three = local_with_arg c.in_ok-arg-2.field-0 c.in_ok-arg-3.field-0 c.number_arg.result _ _ c.in_ok-arg-3.ensures two c.number_arg.ensures.local size in
-    let four = local_with_arg c.in_ok-arg-3.field-0 c.in_ok-arg-4.field-0 c.number_arg-2.result _ _ c.in_ok-arg-4.ensures three c.number_arg-2.ensures.local cells in
-    IfOk-weaker c.arg-5.result _ _ (λ app added.
-    let whole = local_with_arg c.in_ok-arg-4.field-0 app c.number_arg-3.result _ _ added four c.number_arg-3.ensures.local count in
-    (ap (λ (a : App). a.top) whole.0, whole.1)) c.arg-5.ensures
+    let same = same_five demo_with c.seed.ensures c.rows.ensures c.task.ensures c.ring.ensures c.threads.ensures in
+    subst (λ (s : Shape). IfOk c.subcommand.result (HasShape s)) same (rw c.as_slice.ensures at c.subcommand.ensures)

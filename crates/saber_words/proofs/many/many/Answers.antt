@@ -4,8 +4,7 @@ use Rattle.clap.specs.Walk.{Text, first_of}
 use Rattle.clap.specs.Words.{found_of, rows_of}
 use Rattle.saber_words.specs.Commands.{Numbers, numbers_of}
 use Rattle.saber_words.specs.Many.{many_with, queries_by, queries_in}
-use Rattle.saber_words.proofs.Apps.{texts}
-use Rattle.saber_words.proofs.Values.{first_of-rows}
+use Rattle.saber_words.proofs.Values.{first_of-rows, texts}
 use Rattle.saber_words.proofs.many.many.Goals as goal
 
 pub returns : goal.returns

@@ -1,16 +1,23 @@
-use Rattle.std.proofs.Common.{ap, true, [], ◌≡◌}
+use Rattle.std.proofs.Common.{ap, ◌≡◌, ◌∙◌}
 use Rattle.std.proofs.lemmas.Result.{IfOk-weaker}
-use Rattle.clap.specs.Simple.{app_of}
-use Rattle.saber_words.specs.Commands.{saber_shape}
-use Rattle.saber_words.proofs.Apps.{app_with_subcommand, set_up}
+use Rattle.clap.specs.Simple.{App, app_of, with_subcommand}
+use Rattle.saber_words.specs.Commands.{chain_shape, check_shape, demo_shape, run_shape}
+use Rattle.saber_words.specs.Table.{bare_saber}
 use Rattle.saber_words.proofs.reading.saber.Goals as goal
+
+-- with these subcommands
+abbrev one : App
+one = with_subcommand bare_saber run_shape
+
+abbrev two : App
+two = with_subcommand one check_shape
+
+abbrev three : App
+three = with_subcommand two demo_shape
 
 pub returns : goal.returns
 returns c =
-    let top : app_of c.subcommand_required.result ≡ record { top = record saber_shape { is_leaf = true }; subs = [] } =
-    rw (c.subcommand_required.ensures, c.disable_version_flag.ensures, c.disable_help_subcommand.ensures, c.disable_help_flag.ensures) (ap set_up c.new.ensures.app) in
-    let one = app_with_subcommand c.subcommand_required.result c.in_ok-run.run' c.in_ok-subcommand.field-0 _ _ c.in_ok-subcommand.ensures top c.in_ok-run.ensures in
-    let two = app_with_subcommand c.in_ok-subcommand.field-0 c.in_ok-check.check c.in_ok-subcommand-2.field-0 _ _ c.in_ok-subcommand-2.ensures one c.in_ok-check.ensures in
-    let three = app_with_subcommand c.in_ok-subcommand-2.field-0 c.in_ok-demo.demo c.in_ok-subcommand-3.field-0 _ _ c.in_ok-subcommand-3.ensures two c.in_ok-demo.ensures in
-    IfOk-weaker c.subcommand-4.result _ _ (λ app added.
-    app_with_subcommand c.in_ok-subcommand-3.field-0 c.in_ok-chain.chain app _ _ added three c.in_ok-chain.ensures) c.subcommand-4.ensures
+    let first : app_of c.in_ok-one.one ≡ one = c.in_ok-one.ensures run_shape c.run_app.ensures ∙ ap (λ (a : App). with_subcommand a run_shape) c.bare_saber.ensures in
+    let second : app_of c.in_ok-two.two ≡ two = c.in_ok-two.ensures check_shape c.check_app.ensures ∙ ap (λ (a : App). with_subcommand a check_shape) first in
+    let third : app_of c.in_ok-three.three ≡ three = c.in_ok-three.ensures demo_shape c.demo_app.ensures ∙ ap (λ (a : App). with_subcommand a demo_shape) second in
+    IfOk-weaker c.with_subcommand-4.result _ _ (λ app added. added ∙ ap (λ (a : App). with_subcommand a chain_shape) third) (c.with_subcommand-4.ensures chain_shape c.chain_app.ensures)

@@ -1,5 +1,0 @@
-use Rattle.std.proofs.Common.{length}
-use Rattle.saber_words.proofs.many.+with_names.Given as goal
-
-abbrev pub decreases-with_names : goal.decreases-with_names
-decreases-with_names l = length l.names.now
