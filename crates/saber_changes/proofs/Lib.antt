@@ -1,4 +1,5 @@
 mod Apart
+mod Appended
 mod Cancelling
 mod Spanned
 mod Tallied
