@@ -1,10 +1,10 @@
 -- Numbers below 1,000 as the table has them, and bytes written one behind another.
-use Rattle.std.proofs.Common.{◌≡◌, ℕ, zero, suc, ◌+◌, ◌-◌, ◌*◌, ◌/◌, ◌%◌, ◌^◌, ◌≤◌, ◌<◌, Bool, true, ◌&&◌, T, eqb, List, [], ◌∷◌, ◌++◌, length, length-set, get_or, take, set, inl, inr, refl, subst, append-nil, eq-zero-or-pos, eqb→eq, sym, ◌∙◌, ap, append_assoc, arith}
+use Rattle.std.proofs.Common.{◌≡◌, ℕ, zero, suc, ◌+◌, ◌-◌, ◌*◌, ◌/◌, ◌%◌, ◌^◌, ◌≤◌, ◌<◌, Bool, true, false, ◌&&◌, T, eqb, List, [], ◌∷◌, ◌++◌, length, length-set, get_or, take, drop, set, inl, inr, refl, subst, append-nil, eq-zero-or-pos, eqb→eq, sym, ◌∙◌, ap, append_assoc, arith}
 use lib.Ieee.Fits.{and_l, and_r}
 use Rattle.std.proofs.lemmas.Fmt.{decimal_digit, decimal_step}
 use borrow.Rule.Slice.PartMut.{put_mid}
 use Rattle.std.proofs.Math.Seq.{take-append-add}
-use Rattle.std.proofs.lemmas.List.{length-take-le, take-set-le, take-take}
+use Rattle.std.proofs.lemmas.List.{get_or-drop, length-take-le, take-set-le, take-take}
 use Rattle.std.proofs.lemmas.Slice.{take-put_mid}
 use Rattle.std.proofs.lemmas.Grind.{take-set_at}
 use Rattle.std.specs.Fmt.{decimal}
@@ -18,20 +18,57 @@ byte n k = get_or SHORT (n * 4 + k) 0
 abbrev pub four_of : ℕ → List ℕ
 four_of n = get_or SHORT (n * 4) 0 ∷ byte n 1 ∷ byte n 2 ∷ byte n 3 ∷ []
 
--- tests of the table: numbers of one digit, of two and of three
-abbrev are_one : ℕ → Bool
-are_one zero = true
-are_one (suc n) = (eqb (get_or SHORT (n * 4) 0) (48 + n) && eqb (byte n 3) 49) && are_one n
+-- a test of four bytes of the table and the number that they are of
+abbrev Test : Type 0
+Test = ℕ → ℕ → ℕ → ℕ → ℕ → Bool
 
-abbrev are_two : ℕ → Bool
-are_two zero = true
-are_two (suc m) = ((eqb (get_or SHORT ((m + 10) * 4) 0) (48 + (m + 10) / 10) && eqb (byte (m + 10) 1) (48 + (m + 10) % 10)) && eqb (byte (m + 10) 3) 50) && are_two m
+-- one walk over the table: the test of each number from n on, four bytes behind those of the one before
+abbrev are_all : Test → ℕ → ℕ → List ℕ → Bool
+are_all test zero n bytes = true
+are_all test (suc m) n (a ∷ b ∷ d ∷ e ∷ bytes) = test n a b d e && are_all test m (n + 1) bytes
+are_all test (suc m) n _ = false
 
-abbrev are_three : ℕ → Bool
-are_three zero = true
-are_three (suc m) =
-    (((eqb (get_or SHORT ((m + 100) * 4) 0) (48 + (m + 100) / 100) && eqb (byte (m + 100) 1) (48 + (m + 100) % 100 / 10)) && eqb (byte (m + 100) 2) (48 + (m + 100) % 100 % 10)) && eqb (byte (m + 100) 3) 51)
-    && are_three m
+-- the test of the number whose bytes are the first of these
+abbrev IsAt : Test → ℕ → List ℕ → Type 0
+IsAt test n bytes = T (test n (get_or bytes 0 0) (get_or bytes 1 0) (get_or bytes 2 0) (get_or bytes 3 0))
+
+each : (test : Test) (count n : ℕ) (bytes : List ℕ) → T (are_all test count n bytes) → (k : ℕ) → k < count → IsAt test (n + k) (drop (k * 4) bytes)
+each test zero n bytes all k less = absurd (omega (arith, less))
+each test (suc m) n [] all k less = absurd all
+each test (suc m) n (a ∷ []) all k less = absurd all
+each test (suc m) n (a ∷ b ∷ []) all k less = absurd all
+each test (suc m) n (a ∷ b ∷ d ∷ []) all k less = absurd all
+each test (suc m) n (a ∷ b ∷ d ∷ e ∷ bytes) all zero less =
+    let here : n ≡ n + zero = omega arith in
+    subst (λ i. IsAt test i (a ∷ b ∷ d ∷ e ∷ bytes)) here (and_l _ (are_all test m (n + 1) bytes) all)
+each test (suc m) n (a ∷ b ∷ d ∷ e ∷ bytes) all (suc k) less =
+    let next : n + 1 + k ≡ n + suc k = omega arith in
+    let place : suc (suc (suc (suc (k * 4)))) ≡ suc k * 4 = omega arith in
+    let there = each test m (n + 1) bytes (and_r _ (are_all test m (n + 1) bytes) all) k (omega (arith, less)) in
+    subst (λ p. IsAt test (n + suc k) (drop p (a ∷ b ∷ d ∷ e ∷ bytes))) place (subst (λ i. IsAt test i (drop (k * 4) bytes)) next there)
+
+-- the test of a number of the table, by its place there
+at_byte : (test : Test) (n first k : ℕ) → first + k ≡ n → IsAt test n (drop (k * 4) (drop (first * 4) SHORT)) → T (test n (get_or SHORT (n * 4) 0) (byte n 1) (byte n 2) (byte n 3))
+at_byte test n first k is there =
+    let step : (j : ℕ) → get_or (drop (k * 4) (drop (first * 4) SHORT)) j 0 ≡ get_or SHORT (n * 4 + j) 0 = λ j.
+    let place : first * 4 + (k * 4 + j) ≡ n * 4 + j = omega arith in
+    get_or-drop (k * 4) (drop (first * 4) SHORT) j 0 ∙ get_or-drop (first * 4) SHORT (k * 4 + j) 0 ∙ ap (λ p. get_or SHORT p 0) place in
+    let front : n * 4 + 0 ≡ n * 4 = omega arith in
+    let bytes = drop (k * 4) (drop (first * 4) SHORT) in
+    subst (λ x. T (test n x (byte n 1) (byte n 2) (byte n 3))) (step 0 ∙ ap (λ p. get_or SHORT p 0) front)
+    (subst (λ x. T (test n (get_or bytes 0 0) x (byte n 2) (byte n 3))) (step 1)
+    (subst (λ x. T (test n (get_or bytes 0 0) (get_or bytes 1 0) x (byte n 3))) (step 2)
+    (subst (λ x. T (test n (get_or bytes 0 0) (get_or bytes 1 0) (get_or bytes 2 0) x)) (step 3) there)))
+
+-- tests of numbers of one digit, of two and of three
+abbrev is_one : Test
+is_one n a b d e = eqb a (48 + n) && eqb e 49
+
+abbrev is_two : Test
+is_two n a b d e = (eqb a (48 + n / 10) && eqb b (48 + n % 10)) && eqb e 50
+
+abbrev is_three : Test
+is_three n a b d e = ((eqb a (48 + n / 100) && eqb b (48 + n % 100 / 10)) && eqb d (48 + n % 100 % 10)) && eqb e 51
 
 -- what the table has of a number
 pub record Short (n : ℕ) : Type 0 where
@@ -59,50 +96,37 @@ three_digits n low high first second third last = record {
   digits = rw (first, second, third, decimal_pair n low (omega arith), decimal_digit (n / 100) (omega arith)) refl;
 }
 
-short_one : (m n : ℕ) → T (are_one m) → m ≤ 10 → n < m → Short n
-short_one zero n t low h = absurd (omega arith)
-short_one (suc m) n t low h =
-    elim (eq-zero-or-pos (m - n)) [
-      | inl z ↦ let e : n ≡ m = omega arith in
-          let a = and_l _ (are_one m) t in
-          subst Short (sym e) (one_digit m low (eqb→eq _ _ (and_l _ _ a)) (eqb→eq _ _ (and_r _ _ a)))
-      | inr g ↦ short_one m n (and_r _ (are_one m) t) (omega arith) (omega arith)
-    ]
+short_one : (n : ℕ) → n < 10 → Short n
+short_one n high =
+    let there = each is_one 10 0 (drop (0 * 4) SHORT) tt n high in
+    let same : 0 + n ≡ n = omega arith in
+    let a = at_byte is_one n 0 n same (subst (λ i. IsAt is_one i (drop (n * 4) (drop (0 * 4) SHORT))) same there) in
+    one_digit n high (eqb→eq _ _ (and_l _ _ a)) (eqb→eq _ _ (and_r _ _ a))
 
-short_two : (m n : ℕ) → T (are_two m) → m ≤ 90 → n < m → Short (n + 10)
-short_two zero n t low h = absurd (omega arith)
-short_two (suc m) n t low h =
-    elim (eq-zero-or-pos (m - n)) [
-      | inl z ↦ let e : n + 10 ≡ m + 10 = omega arith in
-          let least : 10 ≤ m + 10 = omega arith in
-          let most : m + 10 < 100 = omega arith in
-          let a = and_l _ (are_two m) t in
-          let b = and_l _ _ a in
-          subst Short (sym e) (two_digits (m + 10) least most (eqb→eq _ _ (and_l _ _ b)) (eqb→eq _ _ (and_r _ _ b)) (eqb→eq _ _ (and_r _ _ a)))
-      | inr g ↦ short_two m n (and_r _ (are_two m) t) (omega arith) (omega arith)
-    ]
+short_two : (n : ℕ) → 10 ≤ n → n < 100 → Short n
+short_two n low high =
+    let same : 10 + (n - 10) ≡ n = omega arith in
+    let there = each is_two 90 10 (drop (10 * 4) SHORT) tt (n - 10) (omega arith) in
+    let a = at_byte is_two n 10 (n - 10) same (subst (λ i. IsAt is_two i (drop ((n - 10) * 4) (drop (10 * 4) SHORT))) same there) in
+    let b = and_l _ _ a in
+    two_digits n low high (eqb→eq _ _ (and_l _ _ b)) (eqb→eq _ _ (and_r _ _ b)) (eqb→eq _ _ (and_r _ _ a))
 
-short_three : (m n : ℕ) → T (are_three m) → m ≤ 900 → n < m → Short (n + 100)
-short_three zero n t low h = absurd (omega arith)
-short_three (suc m) n t low h =
-    elim (eq-zero-or-pos (m - n)) [
-      | inl z ↦ let e : n + 100 ≡ m + 100 = omega arith in
-          let least : 100 ≤ m + 100 = omega arith in
-          let most : m + 100 < 1000 = omega arith in
-          let a = and_l _ (are_three m) t in
-          let b = and_l _ _ a in
-          let d = and_l _ _ b in
-          subst Short (sym e) (three_digits (m + 100) least most (eqb→eq _ _ (and_l _ _ d)) (eqb→eq _ _ (and_r _ _ d)) (eqb→eq _ _ (and_r _ _ b)) (eqb→eq _ _ (and_r _ _ a)))
-      | inr g ↦ short_three m n (and_r _ (are_three m) t) (omega arith) (omega arith)
-    ]
+short_three : (n : ℕ) → 100 ≤ n → n < 1000 → Short n
+short_three n low high =
+    let same : 100 + (n - 100) ≡ n = omega arith in
+    let there = each is_three 900 100 (drop (100 * 4) SHORT) tt (n - 100) (omega arith) in
+    let a = at_byte is_three n 100 (n - 100) same (subst (λ i. IsAt is_three i (drop ((n - 100) * 4) (drop (100 * 4) SHORT))) same there) in
+    let b = and_l _ _ a in
+    let d = and_l _ _ b in
+    three_digits n low high (eqb→eq _ _ (and_l _ _ d)) (eqb→eq _ _ (and_r _ _ d)) (eqb→eq _ _ (and_r _ _ b)) (eqb→eq _ _ (and_r _ _ a))
 
 pub short_at : (n : ℕ) → n < 1000 → Short n
 short_at n h =
     elim (eq-zero-or-pos (n - 9)) [
-      | inl z ↦ short_one 10 n tt (omega arith) (omega arith)
+      | inl z ↦ short_one n (omega arith)
       | inr g ↦ elim (eq-zero-or-pos (n - 99)) [
-        | inl z ↦ let e : n ≡ (n - 10) + 10 = omega arith in subst Short (sym e) (short_two 90 (n - 10) tt (omega arith) (omega arith))
-        | inr g' ↦ let e : n ≡ (n - 100) + 100 = omega arith in subst Short (sym e) (short_three 900 (n - 100) tt (omega arith) (omega arith))
+        | inl z ↦ short_two n (omega arith) (omega arith)
+        | inr g' ↦ short_three n (omega arith) (omega arith)
       ]
     ]
 
