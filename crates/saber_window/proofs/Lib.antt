@@ -1,6 +1,7 @@
-mod Lemmas
+mod Counted
+pub mod Stamps
 mod KindLaws
-mod PastLaws
+pub mod PastLaws
 mod Alike
 mod FreeSteps
 mod SliceFacts

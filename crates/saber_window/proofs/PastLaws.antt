@@ -2,7 +2,7 @@
 use Rattle.std.proofs.Common.{◌≡◌, ℕ, List, [], ◌∷◌, filter, Bool, true, false, cond, not, ◌&&◌, nat_lt, nat_le, Option, Some, None, ℤ, refl, sym, ◌∙◌, ap, arith}
 use Rattle.std.proofs.lemmas.Bool.{ltb-true}
 use Rattle.std.proofs.lemmas.Bool.Decides.{nat_tests}
-use Rattle.saber_laws.specs.Windows.{CountsAreExact}
+use Rattle.saber_laws.proofs.WindowLaws.{count_to_is as counts_are_exact}
 use Rattle.saber_plan.specs.declared.rows.Side.{Side}
 use Rattle.saber_plan.specs.declared.rows.Side.TheVariants.{Left, Right}
 use Rattle.saber_plan.specs.declared.rows.Row.{Row}
@@ -57,20 +57,20 @@ past_have_no_row measure k n i m (x ∷ xs) o h =
     without (one measure k n) i m x xs (has_not measure k n i m x.side x.values (in_order_by m (stamp x.values) o.0) h) (past_have_no_row measure k n i (step_mark m x) xs o.1 (past_on measure k n i m x.side x.values (in_order_by m (stamp x.values) o.0) h))
 
 -- a window that ends at a row or before it is past behind that row
-closes : CountsAreExact → (measure : Measure) (slide size i : ℕ) → nat_le 1 slide ≡ true → (m : Mark) (s : Side) (v : Values) → nat_lt i (first_window (one measure slide size) (at m s v)) ≡ true → past (one measure slide size) i (then m s v) ≡ true
-closes exact Rows k n i w m Left v h = let e = exact k n m.left i w in grind (arith, nat_tests, e)
-closes exact Rows k n i w m Right v h = absurd (omega (arith, ltb-true i 0 h))
-closes exact Range k n i w m Left v h = sym (exact k n (stamp v) i w) ∙ h
-closes exact Range k n i w m Right v h = absurd (omega (arith, ltb-true i 0 h))
+closes : (measure : Measure) (slide size i : ℕ) → nat_le 1 slide ≡ true → (m : Mark) (s : Side) (v : Values) → nat_lt i (first_window (one measure slide size) (at m s v)) ≡ true → past (one measure slide size) i (then m s v) ≡ true
+closes Rows k n i w m Left v h = let e = counts_are_exact k n m.left i w in grind (arith, nat_tests, e)
+closes Rows k n i w m Right v h = absurd (omega (arith, ltb-true i 0 h))
+closes Range k n i w m Left v h = sym (counts_are_exact k n (stamp v) i w) ∙ h
+closes Range k n i w m Right v h = absurd (omega (arith, ltb-true i 0 h))
 
 -- and has not the row
-ended : CountsAreExact → (measure : Measure) (slide size i : ℕ) → nat_le 1 slide ≡ true → (m : Mark) (s : Side) (v : Values) → nat_lt i (first_window (one measure slide size) (at m s v)) ≡ true → has (one measure slide size) i (at m s v) ≡ false
-ended exact Rows k n i w m Left v h = let e = exact k n m.left i w in grind (arith, nat_tests, e)
-ended exact Rows k n i w m Right v h = refl
-ended exact Range k n i w m Left v h = let e = exact k n (stamp v) i w in grind (arith, nat_tests, e)
-ended exact Range k n i w m Right v h = refl
+ended : (measure : Measure) (slide size i : ℕ) → nat_le 1 slide ≡ true → (m : Mark) (s : Side) (v : Values) → nat_lt i (first_window (one measure slide size) (at m s v)) ≡ true → has (one measure slide size) i (at m s v) ≡ false
+ended Rows k n i w m Left v h = let e = counts_are_exact k n m.left i w in grind (arith, nat_tests, e)
+ended Rows k n i w m Right v h = refl
+ended Range k n i w m Left v h = let e = counts_are_exact k n (stamp v) i w in grind (arith, nat_tests, e)
+ended Range k n i w m Right v h = refl
 
-pub past_have_none : CountsAreExact → PastHaveNone
+pub past_have_none : PastHaveNone
 unfolding Ordered
-past_have_none exact measure k n w i m x xs o h =
-    without (one measure k n) i m x xs (ended exact measure k n i w.0 m x.side x.values h) (past_have_no_row measure k n i (step_mark m x) xs o.1 (closes exact measure k n i w.0 m x.side x.values h))
+past_have_none measure k n w i m x xs o h =
+    without (one measure k n) i m x xs (ended measure k n i w.0 m x.side x.values h) (past_have_no_row measure k n i (step_mark m x) xs o.1 (closes measure k n i w.0 m x.side x.values h))

@@ -12,7 +12,6 @@ use crate::marks::point;
 use crate::steps::next_other;
 use crate::windowed::{Windowed, windowed_of};
 use saber_flat::RowRef;
-use saber_laws::checked_fit;
 use saber_plan::{Mark, Plan, Side};
 use std::marker::Model;
 
@@ -119,11 +118,11 @@ impl Model for Lately {
 
 impl Lately {
     /// The windows of a checked plan, none of which was asked for yet.
+    #[tactic(auto, using(saber_laws::proofs::CheckedLaws::checked_fits))]
     pub fn of_plan(p: &Plan) -> Lately
         requires { IsChecked (tree_of p.now) }
         ensures frame { result ≡ frame (tree_of p.now) }
     {
-        checked_fit();
         Lately {
             windowed: windowed_of(p.streams()),
             left: no_stretch(),

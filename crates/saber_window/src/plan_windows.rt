@@ -12,13 +12,11 @@ ghost use Rattle.saber_window.specs.Together.{IsLeft, LieTogether};
 
 use crate::bounds::Bounds;
 use crate::counts::{count_reached, count_to};
-use crate::laws::closed_within_begun;
 use crate::marks::point;
 use crate::points::{ends_by, spans};
 use crate::slices::{rows_end, times_end};
 use crate::windowed::{Windowed, windowed_of};
 use saber_flat::{RowRef, Rows};
-use saber_laws::{begun_are_counted, checked_fit, closed_are_counted};
 use saber_plan::{Kind, Mark, Measure, Plan, Side};
 use std::marker::Model;
 
@@ -45,12 +43,12 @@ impl Model for Windows {
 
 impl Windows {
     /// The windows of a checked plan.
+    #[tactic(auto, using(saber_laws::proofs::CheckedLaws::checked_fits))]
     pub fn of_plan(p: &Plan) -> Windows
         requires { IsChecked (tree_of p.now) }
         ensures frame { result ≡ frame (tree_of p.now) }
         ensures fits { Fits result }
     {
-        checked_fit();
         Windows {
             windowed: windowed_of(p.streams()),
         }
@@ -111,23 +109,22 @@ impl Windows {
     }
 
     /// How many windows are closed behind this mark, as the function of this name.
+    #[tactic(auto, using(saber_laws::proofs::WindowLaws::closed_is, saber_laws::proofs::WindowLaws::closed_within_begun))]
     pub fn closed_below(&self, m: &Mark) -> u64
         ensures count { result ≡ closed_count self.now m.now }
         ensures closed { (i : ℕ) → nat_lt i result ≡ closed self.now i m.now }
         ensures begun { result ≤ begun_count self.now m.now }
     {
         let _windowed = &self.windowed;
-        closed_are_counted();
-        closed_within_begun();
         self.count_closed(m)
     }
 
     /// How many windows are begun by them, as the function of this name.
+    #[tactic(auto, using(crate::proofs::Counted::begun_by))]
     pub fn begun_below(&self, m: &Mark) -> u64
         ensures count { result ≡ begun_count self.now m.now }
         ensures begun { (i : ℕ) → nat_lt i result ≡ begun self.now i m.now }
     {
-        begun_are_counted();
         match self.windowed {
             Windowed::Neither => 0,
             Windowed::One {
@@ -161,8 +158,6 @@ impl Windows {
         ensures { AreBounds self.now a.now b.now result }
     {
         let _windowed = &self.windowed;
-        begun_are_counted();
-        closed_are_counted();
         Bounds {
             begun_before: self.begun_below(a),
             closed_after: self.closed_below(b),

@@ -6,4 +6,4 @@ use Rattle.saber_window.proofs.plan_windows.Windows.bounds.Goals as goal
 pub returns : goal.returns
 returns c =
     let fits = subst Fits c.self.view_is c.self.invariant in
-    are_bounds c.closed_are_counted.ensures c.begun_are_counted.ensures c.args.self.now fits c.args.a.now c.args.b.now _ c.begun_below.ensures.count c.closed_below.ensures.count
+    are_bounds c.args.self.now fits c.args.a.now c.args.b.now _ c.begun_below.ensures.count c.closed_below.ensures.count
