@@ -11,16 +11,15 @@ use Rattle.saber_plan.specs.GivenRows.{RowsFit}
 use Rattle.saber_plan.specs.Tasks.{task_start, upto, places}
 use Rattle.saber_plan.specs.Needs.{free, back_mark, task_mark, task_rows, task_ends}
 use Rattle.saber_plan.specs.Shares.{shares_here, handed_here}
-use Rattle.saber_laws.specs.Windows.{MarksGoOn}
-use Rattle.saber_laws.specs.Ends.{CutsRise, NoneNeededBehind}
-use Rattle.saber_laws.specs.Needs.{TasksLookBack}
-use Rattle.saber_laws.specs.Shares.{SharesNeedNoMore, HandedNeedsNoMore}
 use Rattle.saber_fragment.specs.declared.blocks.Block.{Block}
 use Rattle.saber_fragment.specs.declared.blocks.Earlier.{Earlier}
 use Rattle.saber_fragment.specs.Drafts.{EndWith, CanStart, Sight, own_sight, begins, seen_back, CanLookBack, IsWhole, IsSightOf}
 use Rattle.saber_fragment.specs.LookBack.{IsBlock, sight_to, SeesAll}
 use Rattle.saber_plan.specs.Facts.Lists.{slice-join, nothing_between}
 use Rattle.saber_fragment.proofs.Slicing.{fits_between, not_before, mark_on, mark_behind, fits_behind}
+use Rattle.saber_laws.proofs.TaskCutLaws.{cut_keeps as cuts_rise}
+use Rattle.saber_laws.proofs.LocalLaws.{hand_no_more as handed_needs_no_more, need_no_more as shares_need_no_more}
+use Rattle.saber_laws.proofs.FreeLaws.{free_end as none_needed_behind, free_at_most as tasks_look_back}
 
 -- where rows begin, of which there are none with the first block
 starts_at : (l : List Row) (c : Bool) (t m b : Mark) → (c ≡ true → l ≡ []) → b ≡ mark_after m l → begins l (cond c t m) b ≡ m
@@ -41,7 +40,7 @@ last_case : (c : Bool) (t m : Mark) → (c ≡ true → t ≡ m) → cond c t m 
 last_case true t m h = h refl
 last_case false t m h = refl
 
-module _ (cuts : CutsRise) (marks : MarksGoOn) (behind : NoneNeededBehind) (back : TasksLookBack) (need : SharesNeedNoMore) (hand : HandedNeedsNoMore) (q : Tree) (n : ℕ) (r : Input) (t : ℕ) (size : 1 ≤ n) (windows : Fits (frame q)) (fits : RowsFit q no_rows r.rows) where
+module _ (q : Tree) (n : ℕ) (r : Input) (t : ℕ) (size : 1 ≤ n) (windows : Fits (frame q)) (fits : RowsFit q no_rows r.rows) where
   abbrev f : ℕ
   f = free q n r t
 
@@ -49,10 +48,10 @@ module _ (cuts : CutsRise) (marks : MarksGoOn) (behind : NoneNeededBehind) (back
   at u = task_start n r u
 
   rises : (a b : ℕ) → a ≤ b → at a ≤ at b
-  rises a b h = cuts n r a b h
+  rises a b h = cuts_rise n r a b h
 
   looks_back : f ≤ t
-  looks_back = back q n r t size
+  looks_back = tasks_look_back q n r t size
 
   next_up : t ≤ t + 1
   next_up = omega arith
@@ -61,9 +60,9 @@ module _ (cuts : CutsRise) (marks : MarksGoOn) (behind : NoneNeededBehind) (back
   mark_to : (u : ℕ) → f ≤ u → u ≤ t → task_mark n r u ≡ mark_after (back_mark q n r t) (slice_range r.rows (at f) (at u))
   mark_to u h l = elim ((upto n r t).ended) as (λ b. (upto n r t).ended ≡ b → task_mark n r u ≡ mark_after (back_mark q n r t) (slice_range r.rows (at f) (at u))) [
     | true ↦ λ e.
-        let same : u ≡ f = let none = behind q n r t e in omega (arith, none, h, l) in
+        let same : u ≡ f = let none = none_needed_behind q n r t e in omega (arith, none, h, l) in
         ap (task_mark n r) same ∙ sym (ap (λ l. mark_after (back_mark q n r t) l) (ap (λ k. slice_range r.rows (at f) (at k)) same ∙ nothing_between r.rows (at f)))
-    | false ↦ λ e. mark_on marks r (at f) (at u) (rises f u h) (not_before r (at u) (at t) (rises u t l) e)
+    | false ↦ λ e. mark_on r (at f) (at u) (rises f u h) (not_before r (at u) (at t) (rises u t l) e)
   ] refl
 
   own_rises : at t ≤ at (t + 1)
@@ -158,8 +157,8 @@ module _ (cuts : CutsRise) (marks : MarksGoOn) (behind : NoneNeededBehind) (back
       rows_are = refl;
       ended_is = refl;
       places_are = refl;
-      hands = ap (λ m. handed_here q m (slice_range r.rows (at f) (at t)) (task_rows n r t) (task_ends n r t)) whole_first ∙ hand q n r t size windows fits.ordered;
-      gives = ap (λ m. shares_here q m (slice_range r.rows (at f) (at t)) (task_rows n r t) (task_ends n r t)) whole_first ∙ need q n r t size windows fits.ordered;
+      hands = ap (λ m. handed_here q m (slice_range r.rows (at f) (at t)) (task_rows n r t) (task_ends n r t)) whole_first ∙ handed_needs_no_more q n r t size windows fits.ordered;
+      gives = ap (λ m. shares_here q m (slice_range r.rows (at f) (at t)) (task_rows n r t) (task_ends n r t)) whole_first ∙ shares_need_no_more q n r t size windows fits.ordered;
     }
 
   pub sees_all : SeesAll q n r t

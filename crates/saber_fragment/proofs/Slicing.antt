@@ -10,9 +10,9 @@ use Rattle.saber_plan.specs.Windows.{no_rows, mark_after, mark_of, end_mark, mar
 use Rattle.saber_plan.specs.GivenRows.{RowsFit}
 use Rattle.saber_plan.specs.Facts.Lists.{nothing_behind, slice-front, slice-join}
 use Rattle.saber_plan.specs.Facts.Rows.{mark-append, fits_front, fits_back, fits_take}
-use Rattle.saber_laws.specs.Windows.{MarksGoOn}
 use Rattle.saber_fragment.specs.declared.blocks.Earlier.{Earlier}
 use Rattle.saber_fragment.specs.Drafts.{EndWith}
+use Rattle.saber_laws.proofs.EndLaws.{rows_on as marks_go_on}
 
 fits_slice : (q : Tree) (xs : List Row) (x y : ℕ) → RowsFit q no_rows xs → RowsFit q (mark_of (take x xs)) (slice_range xs x y)
 fits_slice q xs x y h =
@@ -44,8 +44,8 @@ mark_open : (r : Input) (x : ℕ) → (first_arrivals r x).ended ≡ false → m
 mark_open r x e = ap (λ b. end_mark b (mark_of (take x r.rows))) e
 
 -- the mark at a later position, up to which the end has not come
-pub mark_on : MarksGoOn → (r : Input) (x y : ℕ) → x ≤ y → (first_arrivals r y).ended ≡ false → mark_at r y ≡ mark_after (mark_at r x) (slice_range r.rows x y)
-mark_on law r x y a e = mark_open r y e ∙ law r.rows x y a ∙ sym (ap (λ m. mark_after m (slice_range r.rows x y)) (mark_open r x (not_before r x y a e)))
+pub mark_on : (r : Input) (x y : ℕ) → x ≤ y → (first_arrivals r y).ended ≡ false → mark_at r y ≡ mark_after (mark_at r x) (slice_range r.rows x y)
+mark_on r x y a e = mark_open r y e ∙ marks_go_on r.rows x y a ∙ sym (ap (λ m. mark_after m (slice_range r.rows x y)) (mark_open r x (not_before r x y a e)))
 
 fits_none : (q : Tree) (b : Bool) (m : Mark) (xs : List Row) → xs ≡ [] → RowsFit q m xs → RowsFit q (end_mark b m) xs
 unfolding Ordered
