@@ -1,5 +1,5 @@
 -- What a selection's plan says of its rows, and what a task of one gives.
-use Rattle.std.proofs.Common.{◌≡◌, ℕ, List, [], ◌-◌, filter, flat_map, Option, Bool, ℤ, true, false, cond, refl, sym, ◌∙◌, ap, subst, arith, subst₂}
+use Rattle.std.proofs.Common.{◌≡◌, ℕ, List, [], ◌-◌, filter, flat_map, Option, Bool, true, false, cond, refl, sym, ◌∙◌, ap, subst, arith, subst₂}
 use Rattle.std.specs.List.{AllByRecursion}
 use Rattle.saber_plan.specs.declared.rows.Row.{Row}
 use Rattle.saber_plan.specs.declared.rows.Side.TheVariants.{Left}
@@ -8,9 +8,10 @@ use Rattle.saber_plan.specs.declared.windows.Kind.{Kind}
 use Rattle.saber_plan.specs.declared.plans.Shape.TheVariants.{Select}
 use Rattle.saber_plan.specs.Trees.{Tree}
 use Rattle.saber_plan.specs.Rows.{RowFits}
-use Rattle.saber_plan.specs.Checked.{ExprFits, ItemFits, group_width, columns_on}
+use Rattle.saber_plan.specs.Checked.{ExprFits, IsChecked, IsPlain, ItemFits, group_width, columns_on}
 use Rattle.saber_plan.specs.GivenRows.{IsRowOf}
 use Rattle.saber_laws.specs.Plans.{NoWindow}
+use Rattle.saber_laws.proofs.CheckedLaws.{selection_has_none}
 use Rattle.saber_plan.specs.Windows.{Frame, unwindowed, has_windows, mark_after, end_mark, closed_count, begun_count, kind_of, from}
 use Rattle.saber_plan.specs.Answers.{by_shape, frame, selected_lines}
 use Rattle.saber_plan.specs.Parts.{Part, part_lines}
@@ -19,18 +20,28 @@ use Rattle.saber_plan.specs.Needs.{of_kind, piece_here, part_here, is_closing, i
 use Rattle.saber_plan.specs.Shares.{shares_here}
 use Rattle.saber_plan.specs.Facts.Rows.{is_left}
 use Rattle.saber_eval.specs.Widths.{widths}
-
--- ---- items
-
--- the items of a selection, by what a checked plan says of them
-pub items_fit : (q : Tree) (zs : List ℤ) → q.shape ≡ Select → AllByRecursion (ItemFits q.shape (widths zs []) (group_width q)) q.items → AllByRecursion (ExprFits (widths zs [])) q.items
-items_fit q zs e h = subst (λ s. AllByRecursion (ItemFits s (widths zs []) (group_width q)) q.items) e h
+use Rattle.saber_eval.specs.Fitting.{PlanFits}
+use Rattle.saber_eval.proofs.FittingLaws.{one_stream}
 
 -- ---- rows
 
+-- what its operator keeps
+abbrev pub IsSelection : Tree → Type 0
+IsSelection q = IsChecked q × (q.shape ≡ Select) × IsPlain q
+
 -- a row of the one stream
-pub row_fits : (q : Tree) (w : NoWindow q) (r : Row) → IsRowOf q r → RowFits Left w.stream.columns r
+row_fits : (q : Tree) (w : NoWindow q) (r : Row) → IsRowOf q r → RowFits Left w.stream.columns r
 row_fits q w r h = subst₂ (λ side ss. RowFits side (columns_on ss side) r) (is_left q w.stream w.streams r h) w.streams h.fits
+
+-- the plan fits it
+pub plan_fits : (q : Tree) (r : Row) → IsChecked q → q.shape ≡ Select → IsPlain q → IsRowOf q r → PlanFits q (widths r.values [])
+plan_fits q r checked select plain h =
+    let w = selection_has_none q checked select plain.no_word in
+    one_stream q w.stream r checked w.streams (row_fits q w r h)
+
+-- and so do the items
+pub items_fit : (q : Tree) (r : Row) → IsChecked q → q.shape ≡ Select → IsPlain q → IsRowOf q r → AllByRecursion (ExprFits (widths r.values [])) q.items
+items_fit q r checked select plain h = subst (λ s. AllByRecursion (ItemFits s (widths r.values []) (group_width q)) q.items) select (plan_fits q r checked select plain h).items
 
 -- ---- what a task gives
 
@@ -46,9 +57,10 @@ unfolding of_kind
 none_of_kind wanted f a b p e = subst (λ g. [] ≡ of_kind wanted g a b p) (sym e) (none_from (closed_count unwindowed a) _)
 
 -- its text, and no window's part
-pub shares_are : (q : Tree) (m : Mark) (back rows : List Row) (ended : Bool) → q.shape ≡ Select → frame q ≡ unwindowed → record { closing = []; pending = []; opening = []; lines = selected_lines q rows; closed = 0 } ≡ shares_here q m back rows ended
+pub shares_are : (q : Tree) (m : Mark) (back rows : List Row) (ended : Bool) → IsChecked q → q.shape ≡ Select → IsPlain q → record { closing = []; pending = []; opening = []; lines = selected_lines q rows; closed = 0 } ≡ shares_here q m back rows ended
 unfolding shares_here piece_here
-shares_are q m back rows ended e f =
+shares_are q m back rows ended checked e plain =
+    let f = (selection_has_none q checked e plain.no_word).has_frame in
     let a = mark_after m back in
     let b = end_mark ended (mark_after a rows) in
     let p : ℕ → Part = λ i. part_here q i m back rows in

@@ -4,17 +4,14 @@ ghost use Rattle.std.specs.List.{AllByRecursion};
 ghost use Rattle.saber_plan.specs.declared.plans.Shape.TheVariants as shapes;
 ghost use Rattle.saber_plan.specs.Trees.{tree_of};
 ghost use Rattle.saber_plan.specs.Values as v;
-ghost use Rattle.saber_plan.specs.Checked.{ExprFits, IsChecked, IsPlain};
+ghost use Rattle.saber_plan.specs.Checked.{IsChecked, IsPlain};
 ghost use Rattle.saber_plan.specs.GivenRows.{IsRowOf};
 ghost use Rattle.saber_plan.specs.Answers.{selected_lines};
-ghost use Rattle.saber_laws.specs.Plans.{NoWindow};
-ghost use Rattle.saber_eval.specs.Widths.{widths};
 ghost use Rattle.saber_select.specs.Printing.{row_text};
 
 use crate::lines::write_line;
-use saber_eval::{holds, one_stream_fits};
+use saber_eval::holds;
 use saber_flat::{RowRef, Rows};
-use saber_laws::selections_have_no_window;
 use saber_plan::{NoMemory, Plan};
 use std::marker::Model;
 
@@ -24,7 +21,7 @@ use std::marker::Model;
 /// as the plan.
 #[derive(Drop)]
 pub struct Select<'a> {
-    plan: &'a Plan,
+    pub(crate) plan: &'a Plan,
 }
 
 impl<'a> Model for Select<'a> {
@@ -56,33 +53,12 @@ impl<'a> Select<'a> {
         Select { plan }
     }
 
-    /// It selects rows, and its stream has no window.
-    pub(crate) fn has_no_window(&self)
-        ensures select { (tree_of self.now).shape ≡ shapes.Select }
-        ensures plain { IsPlain (tree_of self.now) }
-        ensures window { NoWindow (tree_of self.now) }
-    {
-        let _plan = &self.plan;
-        selections_have_no_window();
-    }
-
-    // Its items can be worked out over a row of its stream.
-    fn items_fit(&self, row: &RowRef)
-        requires { IsRowOf (tree_of self.now) row.now }
-        ensures { AllByRecursion (ExprFits (widths row.now.values [])) (tree_of self.now).items }
-    {
-        let _plan = &self.plan;
-        selections_have_no_window();
-        one_stream_fits();
-    }
-
     // Whether a row passes WHERE.
+    #[tactic(auto, using(crate::proofs::Shown::plan_fits))]
     fn passes(&self, row: &RowRef) -> bool
         requires { IsRowOf (tree_of self.now) row.now }
         ensures { result ≡ v.passes (tree_of self.now).predicate row.now.values [] }
     {
-        selections_have_no_window();
-        one_stream_fits();
         match self.plan.predicate() {
             Some(predicate) => holds(predicate, row),
             None => true,
@@ -90,11 +66,11 @@ impl<'a> Select<'a> {
     }
 
     // A row's line, if the row passes.
+    #[tactic(auto, using(crate::proofs::Shown::items_fit))]
     fn write_row(&self, row: &RowRef, out: &mut Vec<u8>) -> Result<(), NoMemory>
         requires { IsRowOf (tree_of self.now) row.now }
         ensures { OnOk result (out.new.items ≡ out.old.items ++ row_text (tree_of self.now) row.now.values) }
     {
-        self.items_fit(row);
         if !self.passes(row) {
             return Ok(());
         }
