@@ -12,8 +12,8 @@ use Rattle.saber_plan.specs.Trees.{Tree}
 use Rattle.saber_plan.specs.Windows.{one, Fits, Ordered, Placed, step_mark, mark_after, placed_after, has, begun_count, count_to}
 use Rattle.saber_plan.specs.Answers.{frame}
 use Rattle.saber_plan.specs.Needs.{first_window, past_window}
-use Rattle.saber_laws.specs.Needs.{RowsSpan}
-use Rattle.saber_laws.specs.Windows.{BegunStay}
+use Rattle.saber_laws.proofs.NeedLaws.{has_is as rows_span}
+use Rattle.saber_laws.proofs.WindowLaws.{begun_count_rises as begun_stay}
 use Rattle.saber_laws.specs.Plans.{OneWindow}
 use Rattle.saber_windowed.specs.Found.{found_of}
 use Rattle.saber_windowed.specs.Open.{found_here}
@@ -38,15 +38,15 @@ past_begun q w m x = subst (λ f. past_window f (record { row = x; before = m })
 behind_all : (first past i : ℕ) → past ≤ i → (nat_le first i && nat_lt i past) ≡ false
 behind_all first past i h = grind (arith, nat_tests)
 
-no_row : RowsSpan → BegunStay → (q : Tree) → OneWindow q → Fits (frame q) → (i : ℕ) (m : Mark) (xs : List Row) → Ordered m xs → begun_count (frame q) (mark_after m xs) ≤ i → filter (has (frame q) i) (placed_after m xs) ≡ []
+no_row : (q : Tree) → OneWindow q → Fits (frame q) → (i : ℕ) (m : Mark) (xs : List Row) → Ordered m xs → begun_count (frame q) (mark_after m xs) ≤ i → filter (has (frame q) i) (placed_after m xs) ≡ []
 unfolding placed_after Ordered
-no_row span stay q w fits i m [] o h = refl
-no_row span stay q w fits i m (x ∷ xs) o h =
+no_row q w fits i m [] o h = refl
+no_row q w fits i m (x ∷ xs) o h =
     let f = frame q in
     let y : Placed = record { row = x; before = m } in
-    let past = le_trans (past_begun q w m x) (le_trans (stay f fits (step_mark m x) xs o.1) h) in
-    ap (λ b. cond b (y ∷ filter (has f i) (placed_after (step_mark m x) xs)) (filter (has f i) (placed_after (step_mark m x) xs))) (span f fits i y ∙ behind_all (first_window f y) (past_window f y) i past)
-    ∙ no_row span stay q w fits i (step_mark m x) xs o.1 h
+    let past = le_trans (past_begun q w m x) (le_trans (begun_stay f fits (step_mark m x) xs o.1) h) in
+    ap (λ b. cond b (y ∷ filter (has f i) (placed_after (step_mark m x) xs)) (filter (has f i) (placed_after (step_mark m x) xs))) (rows_span f fits i y ∙ behind_all (first_window f y) (past_window f y) i past)
+    ∙ no_row q w fits i (step_mark m x) xs o.1 h
 
-pub none_begun : RowsSpan → BegunStay → (q : Tree) → OneWindow q → Fits (frame q) → (m : Mark) (xs : List Row) → Ordered m xs → (i : ℕ) → begun_count (frame q) (mark_after m xs) ≤ i → found_here q m xs i ≡ []
-none_begun span stay q w fits m xs o i l = ap (found_of q) (no_row span stay q w fits i m xs o l)
+pub none_begun : (q : Tree) → OneWindow q → Fits (frame q) → (m : Mark) (xs : List Row) → Ordered m xs → (i : ℕ) → begun_count (frame q) (mark_after m xs) ≤ i → found_here q m xs i ≡ []
+none_begun q w fits m xs o i l = ap (found_of q) (no_row q w fits i m xs o l)

@@ -12,19 +12,20 @@ use Rattle.saber_plan.specs.Answers.{by_shape, frame, passing_values, selected_l
 use Rattle.saber_plan.specs.Parts.{Part, row_part, group_part, pair_part, part_lines}
 use Rattle.saber_plan.specs.Tasks.{full, is_complete}
 use Rattle.saber_plan.specs.Needs.{is_closing, is_pending, is_opening, of_kind, part_here}
+use Rattle.saber_plan.specs.Checked.{IsChecked}
 use Rattle.saber_plan.specs.GivenRows.{RowsFit}
 use Rattle.saber_plan.specs.Shares.{is_closed, shares_here, handed_here}
 use Rattle.saber_plan.specs.Facts.Numbers.{flat_map-from, flat_filter, numbered_is}
-use Rattle.saber_laws.specs.Windows.{BegunStay}
-use Rattle.saber_laws.specs.Ends.{EndsBeginNone}
-use Rattle.saber_laws.specs.Needs.{RowsSpan}
 use Rattle.saber_laws.specs.Plans.{OneWindow}
-use Rattle.saber_window.specs.Laws.{ClosedWithinBegun}
+use Rattle.saber_laws.proofs.CheckedLaws.{checked_fits as checked_fit, words_have_one as words_have_one_window}
+use Rattle.saber_laws.proofs.FlushLaws.{begin_none as ends_begin_none}
+use Rattle.saber_laws.proofs.WindowLaws.{begun_count_rises as begun_stay, closed_within_begun}
 use Rattle.saber_fragment.specs.Shown.{windows_by}
 use Rattle.saber_window.specs.declared.bounds.Bounds.{Bounds}
 use Rattle.saber_window.specs.Kinds.{kind_in, AreBounds}
 use Rattle.saber_parts.specs.WindowFacts.{entry_is}
 use Rattle.saber_parts.specs.Entries.{entry_if}
+use Rattle.saber_windowed.specs.Words.{HasWord}
 use Rattle.saber_windowed.specs.Found.{Found, part_of, values_in, lines_for}
 use Rattle.saber_windowed.specs.Open.{seen_windows, found_here, HoldsTask}
 use Rattle.saber_windowed.specs.Entries.{lines_if, entries_by, lines_by, Gave, HandedOn}
@@ -34,15 +35,18 @@ use Rattle.saber_windowed.proofs.Spread.{seen, rows_among_in, by_number}
 use Rattle.saber_windowed.proofs.Beginning.{none_begun}
 use Rattle.saber_windowed.proofs.Answering.{rows_part, lines_of_part}
 
--- the laws that a task's end rests on
-pub record Laws : Type 0 where
-  pub stay : BegunStay
-  pub within : ClosedWithinBegun
-  pub begins : EndsBeginNone
-  pub span : RowsSpan
+-- what the operator of a selection with a stream word keeps
+abbrev pub IsWindowed : Tree → Type 0
+IsWindowed q = IsChecked q × (q.shape ≡ Select) × HasWord q
 
-module _ (laws : Laws) (q : Tree) (e : q.shape ≡ Select) (w : OneWindow q) (fits : Fits (frame q)) (m : Mark) (rows : List Row) (ended : Bool) (h : RowsFit q m rows) (b : Bounds) (given : AreBounds (frame q) m (end_mark ended (mark_after m rows)) b)
+module _ (q : Tree) (checked : IsChecked q) (e : q.shape ≡ Select) (has_word : HasWord q) (m : Mark) (rows : List Row) (ended : Bool) (h : RowsFit q m rows) (b : Bounds) (given : AreBounds (frame q) m (end_mark ended (mark_after m rows)) b)
     (es : List (ℕ × List Found)) (sorted : T (is_sorted nat_cmp (seen es))) (holds : HoldsTask q m rows (seen_windows es)) where
+  w : OneWindow q
+  w = words_have_one_window q has_word.word checked e has_word.is
+
+  fits : Fits (frame q)
+  fits = checked_fit q checked
+
   abbrev z : Mark
   z = end_mark ended (mark_after m rows)
 
@@ -54,16 +58,16 @@ module _ (laws : Laws) (q : Tree) (e : q.shape ≡ Select) (w : OneWindow q) (fi
 
   -- the end begins none of them
   begins : begun_count (frame q) (mark_after m rows) ≡ n
-  begins = sym (laws.begins (frame q) ended (mark_after m rows)).counts
+  begins = sym (ends_begin_none (frame q) ended (mark_after m rows)).counts
 
   abbrev at : ℕ → List Found
   at i = found_here q m rows i
 
   within : c ≤ n
-  within = subst (λ k. c ≤ k) begins (le_trans (laws.within (frame q) fits m) (laws.stay (frame q) fits m rows h.ordered))
+  within = subst (λ k. c ≤ k) begins (le_trans (closed_within_begun (frame q) fits m) (begun_stay (frame q) fits m rows h.ordered))
 
   ends : (i : ℕ) → n ≤ i → at i ≡ []
-  ends i l = none_begun laws.span laws.stay q w fits m rows h.ordered i (subst (λ k. k ≤ i) (sym begins) l)
+  ends i l = none_begun q w fits m rows h.ordered i (subst (λ k. k ≤ i) (sym begins) l)
 
   kind : (i : ℕ) → c ≤ i → i < c + (n - c) → Some (kind_in b i) ≡ kind_of (frame q) i m z
   kind i l r = let up = within in given.kinds i l (omega (arith, l, r, up))

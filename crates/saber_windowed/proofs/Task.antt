@@ -11,7 +11,7 @@ use Rattle.saber_plan.specs.Answers.{frame}
 use Rattle.saber_plan.specs.Needs.{first_window, past_window}
 use Rattle.saber_plan.specs.Facts.Lists.{each-filter}
 use Rattle.saber_plan.specs.Facts.Rows.{placed-append, placed-one}
-use Rattle.saber_laws.specs.Needs.{RowsSpan}
+use Rattle.saber_laws.proofs.NeedLaws.{has_is as rows_span}
 use Rattle.saber_laws.specs.Pairs.{after_rows}
 use Rattle.saber_windowed.specs.Found.{Found, found_of, AllBelow}
 use Rattle.saber_windowed.specs.Open.{Windows, seen_windows, rows_in, AllEarlier, Takes, found_here, HoldsFrom}
@@ -55,7 +55,7 @@ low_case c i first past h = grind (arith, nat_tests)
 high_case : (c i first past : ℕ) → nat_lt i c ≡ false → (nat_le (max first c) i && nat_lt i past) ≡ (nat_le first i && nat_lt i past)
 high_case c i first past h = grind (arith, nat_tests)
 
-module _ (span : RowsSpan) (q : Tree) (fits : Fits (frame q)) (c : ℕ) (b : Mark) (xs : List Row) (r : Row) (m n : Windows) (takes : Takes q c (after_rows b xs r) m n) where
+module _ (q : Tree) (fits : Fits (frame q)) (c : ℕ) (b : Mark) (xs : List Row) (r : Row) (m n : Windows) (takes : Takes q c (after_rows b xs r) m n) where
   abbrev x : Placed
   x = after_rows b xs r
 
@@ -66,7 +66,7 @@ module _ (span : RowsSpan) (q : Tree) (fits : Fits (frame q)) (c : ℕ) (b : Mar
   step_case i true e h = takes.at i ∙ ap (λ d. cond d (rows_in m i ++ new) (rows_in m i)) (low_case c i (first_window (frame q) x) (past_window (frame q) x) e) ∙ h
   step_case i false e h =
       takes.at i
-      ∙ ap (λ d. cond d (rows_in m i ++ new) (rows_in m i)) (high_case c i (first_window (frame q) x) (past_window (frame q) x) e ∙ sym (span (frame q) fits i x))
+      ∙ ap (λ d. cond d (rows_in m i ++ new) (rows_in m i)) (high_case c i (first_window (frame q) x) (past_window (frame q) x) e ∙ sym (rows_span (frame q) fits i x))
       ∙ ap (λ l. cond (has (frame q) i x) (l ++ new) l) h
       ∙ sym (here_push q b xs r i)
 

@@ -17,7 +17,7 @@ impl Assembles for WindowedSelect<'_> {
     ghost shown = { part_of };
 
     fn merge(&self, into: &mut Picked, from: Picked) -> Result<(), NoMemory> {
-        self.has_window();
+        let _plan = &self.plan;
         into.rises();
         from.rises();
         into.merge(from)?;
@@ -25,13 +25,13 @@ impl Assembles for WindowedSelect<'_> {
     }
 
     fn lines(&self, i: u64, part: &Picked, out: &mut Vec<u8>) -> Result<(), NoMemory> {
-        self.has_window();
+        let _plan = &self.plan;
         part.rises();
         part.lines(i, out)
     }
 
     fn answers(&self, alloc: Global, part: &Picked) -> Result<Answers, NoMemory> {
-        self.has_window();
+        let _plan = &self.plan;
         part.rises();
         let answers = part.answers(alloc)?;
         Ok(answers)

@@ -10,7 +10,6 @@ use crate::picked::Picked;
 use crate::select::WindowedSelect;
 use saber_changes::Change;
 use saber_fragment::{Block, Operator, Piece};
-use saber_laws::handed_are_local;
 use saber_parts::ChangeStore;
 use saber_plan::{NoMemory, Plan};
 use std::alloc::Global;
@@ -99,13 +98,12 @@ impl Operator for WindowedChanges<'_> {
     }
 
     fn finish(&self, _alloc: Global, draft: Piece<Picked>) -> Result<Piece<Picked>, NoMemory> {
-        self.select.has_window();
-        handed_are_local();
+        let _plan = &self.select.plan;
         Ok(draft)
     }
 
     fn empty_store(&self, alloc: Global) -> ChangeStore<Picked> {
-        self.select.has_window();
+        let _plan = &self.select.plan;
         ChangeStore::new(alloc)
     }
 

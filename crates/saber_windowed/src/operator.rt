@@ -8,7 +8,6 @@ ghost use Rattle.saber_plan.specs.Checked.{IsChecked};
 use crate::picked::Picked;
 use crate::select::WindowedSelect;
 use saber_fragment::{Block, Operator, Piece};
-use saber_laws::{open_goes_on, pieces_print, shares_are_local, shares_make_piece};
 use saber_parts::PartStore;
 use saber_plan::{NoMemory, Plan};
 use std::alloc::Global;
@@ -22,10 +21,10 @@ pub struct WindowedOperator<'a> {
 }
 
 impl<'a> Model for WindowedOperator<'a> {
-    ghost use Rattle.std.specs.Prelude.{◌≡◌, Some};
-    ghost use Rattle.saber_plan.specs.declared.plans.Word.TheVariants as words;
+    ghost use Rattle.std.specs.Prelude.{◌≡◌};
     ghost use Rattle.saber_plan.specs.declared.plans.Plan.{Plan};
     ghost use Rattle.saber_plan.specs.Trees.{tree_of};
+    ghost use Rattle.saber_plan.specs.Answers.{alike, way};
     ghost use Rattle.saber_plan.specs.contracts.predicates.Pred as e;
     ghost use Rattle.std.specs.Coded.{codes};
 
@@ -35,12 +34,10 @@ impl<'a> Model for WindowedOperator<'a> {
 
     ghost view = { λ o. o.select };
 
-    ghost invariant = { λ o. (tree_of o.select).word ≡ Some words.Rstream };
+    ghost invariant = { λ o. way (tree_of o.select) ≡ alike };
 }
 
 impl<'a> WindowedOperator<'a> {
-    ghost use Rattle.saber_plan.specs.Answers.{alike, way};
-
     /// The operator of this plan. Takes no memory.
     pub fn new(plan: &'a Plan) -> WindowedOperator<'a>
         requires checked { IsChecked (tree_of plan.now) }
@@ -51,13 +48,6 @@ impl<'a> WindowedOperator<'a> {
         WindowedOperator {
             select: WindowedSelect::new(plan),
         }
-    }
-
-    // Its windows print their answers as they are.
-    fn prints_alike(&self)
-        ensures { way (tree_of self.now) ≡ alike }
-    {
-        self.select.has_window();
     }
 }
 
@@ -102,8 +92,7 @@ impl Operator for WindowedOperator<'_> {
     }
 
     fn finish(&self, _alloc: Global, draft: Piece<Picked>) -> Result<Piece<Picked>, NoMemory> {
-        self.select.has_window();
-        shares_are_local();
+        let _plan = &self.select.plan;
         Ok(draft)
     }
 
@@ -118,10 +107,6 @@ impl Operator for WindowedOperator<'_> {
         piece: Piece<Picked>,
         out: &mut Vec<u8>,
     ) -> Result<(), NoMemory> {
-        self.prints_alike();
-        open_goes_on();
-        pieces_print();
-        shares_make_piece();
         store.take_in(&self.select, piece, out)?;
         Ok(())
     }

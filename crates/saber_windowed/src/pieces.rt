@@ -14,9 +14,8 @@ use crate::gathered::{gather, handed_on};
 use crate::picked::Picked;
 use crate::select::WindowedSelect;
 use saber_fragment::{Block, Piece};
-use saber_laws::{begun_stay, ends_begin_none, rows_span};
 use saber_plan::NoMemory;
-use saber_window::{Bounds, closed_within_begun, end_mark};
+use saber_window::{Bounds, end_mark};
 use std::alloc::Global;
 use std::collections::BTreeMap;
 
@@ -45,11 +44,7 @@ impl WindowedSelect<'_> {
         requires { RowsFit (tree_of self.now) own.now.before own.now.rows }
         ensures { IfOk result (λ p. shares_of part_of p ≡ shares_here (tree_of self.now) own.now.before [] own.now.rows own.now.ended) }
     {
-        self.has_window();
-        begun_stay();
-        closed_within_begun();
-        ends_begin_none();
-        rows_span();
+        let _plan = &self.plan;
         let found = self.found_of(alloc, own)?;
         let bounds = found.1;
         // That its windows rise, which the proof needs, is told by the length.
@@ -63,11 +58,7 @@ impl WindowedSelect<'_> {
         requires { RowsFit (tree_of self.now) own.now.before own.now.rows }
         ensures { IfOk result (λ p. shares_of part_of p ≡ handed_here (tree_of self.now) own.now.before [] own.now.rows own.now.ended) }
     {
-        self.has_window();
-        begun_stay();
-        closed_within_begun();
-        ends_begin_none();
-        rows_span();
+        let _plan = &self.plan;
         let found = self.found_of(alloc, own)?;
         let bounds = found.1;
         // That its windows rise, which the proof needs, is told by the length.

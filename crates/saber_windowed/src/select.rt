@@ -8,23 +8,21 @@ ghost use Rattle.saber_plan.specs.Checked.{ExprFits, IsChecked};
 ghost use Rattle.saber_plan.specs.Windows as w;
 ghost use Rattle.saber_plan.specs.Answers.{frame, items_over};
 ghost use Rattle.saber_plan.specs.GivenRows.{IsRowOf};
-ghost use Rattle.saber_laws.specs.Plans.{OneWindow};
 ghost use Rattle.saber_eval.specs.Widths.{widths};
 ghost use Rattle.saber_window.specs.Kinds.{AreBounds};
 ghost use Rattle.saber_windowed.specs.Words.{HasWord};
 
-use saber_eval::{holds, one_stream_fits, value};
+use saber_eval::{holds, value};
 use saber_flat::RowRef;
-use saber_laws::{checked_fit, words_have_one_window};
 use saber_plan::{Expr, Mark, NoMemory, Plan};
-use saber_window::{Bounds, Lately, Windows, stamps_fit, step_mark};
+use saber_window::{Bounds, Lately, Windows, step_mark};
 use std::marker::Model;
 
 /// A checked selection with a stream word, over its plan: what each of its operators makes of rows.
 /// Contracts see it as the plan.
 #[derive(Drop)]
 pub(crate) struct WindowedSelect<'a> {
-    plan: &'a Plan,
+    pub(crate) plan: &'a Plan,
     windows: Windows,
 }
 
@@ -74,34 +72,12 @@ impl<'a> WindowedSelect<'a> {
         }
     }
 
-    /// It selects rows of one stream, which has a window that fits.
-    pub(crate) fn has_window(&self)
-        ensures checked { IsChecked (tree_of self.now) }
-        ensures select { (tree_of self.now).shape ≡ shapes.Select }
-        ensures window { OneWindow (tree_of self.now) }
-        ensures fits { w.Fits (frame (tree_of self.now)) }
-    {
-        let _plan = &self.plan;
-        words_have_one_window();
-        checked_fit();
-    }
-
-    // Its items can be worked out over a row of its stream.
-    fn items_fit(&self, row: &RowRef)
-        requires { IsRowOf (tree_of self.now) row.now }
-        ensures { AllByRecursion (ExprFits (widths row.now.values [])) (tree_of self.now).items }
-    {
-        self.has_window();
-        one_stream_fits();
-    }
-
     /// Whether a row passes WHERE.
+    #[tactic(auto, using(crate::proofs::Fitting::plan_fits))]
     pub(crate) fn passes(&self, row: &RowRef) -> bool
         requires { IsRowOf (tree_of self.now) row.now }
         ensures { result ≡ v.passes (tree_of self.now).predicate row.now.values [] }
     {
-        self.has_window();
-        one_stream_fits();
         match self.plan.predicate() {
             Some(predicate) => holds(predicate, row),
             None => true,
@@ -109,11 +85,11 @@ impl<'a> WindowedSelect<'a> {
     }
 
     /// Works out the values of the items over a row, in place of those that `values` has.
+    #[tactic(auto, using(crate::proofs::Fitting::items_fit))]
     pub(crate) fn work_out(&self, row: &RowRef, values: &mut Vec<i128>) -> Result<(), NoMemory>
         requires { IsRowOf (tree_of self.now) row.now }
         ensures { OnOk result (values.new.items ≡ items_over (tree_of self.now).items row.now.values []) }
     {
-        self.items_fit(row);
         put_values(values, self.plan.items(), row)
     }
 
@@ -121,7 +97,6 @@ impl<'a> WindowedSelect<'a> {
     pub(crate) fn lately(&self) -> Lately
         ensures { result ≡ frame (tree_of self.now) }
     {
-        self.has_window();
         Lately::of_plan(self.plan)
     }
 
@@ -142,13 +117,13 @@ impl<'a> WindowedSelect<'a> {
     }
 
     /// The mark after one more row.
+    #[tactic(auto, using(saber_window::proofs::Stamps::stamps_fit))]
     pub(crate) fn step(&self, before: &Mark, row: &RowRef) -> Mark
         requires row { IsRowOf (tree_of self.now) row.now }
         requires left { before.now.left ≤ 2 ^ 40 }
         requires right { before.now.right ≤ 2 ^ 40 }
         ensures { result ≡ w.step_mark before.now row.now }
     {
-        stamps_fit();
         step_mark(before, row)
     }
 }

@@ -10,7 +10,6 @@ ghost use Rattle.saber_windowed.specs.Open.{seen_windows, rows_in, AllEarlier, P
 use crate::picked::Picked;
 use crate::select::WindowedSelect;
 use saber_flat::{RowRef, Rows};
-use saber_laws::rows_span;
 use saber_plan::{Mark, NoMemory};
 use saber_window::Lately;
 use std::alloc::Global;
@@ -103,8 +102,7 @@ impl WindowedSelect<'_> {
         ensures windows { IfOk result (λ r. HoldsTask (tree_of self.now) before.now rows.now (seen_windows r.0.entries)) }
         ensures last { IfOk result (λ r. r.1 ≡ mark_after before.now rows.now) }
     {
-        self.has_window();
-        rows_span();
+        let _plan = &self.plan;
         let mut windows = BTreeMap::new(alloc);
         let mut values = Vec::new(alloc);
         let closed = self.closed_below(before);

@@ -1,4 +1,4 @@
-use Rattle.std.proofs.Common.{◌≡◌, subst}
+use Rattle.std.proofs.Common.{◌≡◌, ◌∙◌, ap, subst}
 use Rattle.saber_plan.specs.declared.plans.Plan.{Plan}
 use Rattle.saber_plan.specs.declared.plans.Shape.TheVariants.{Select}
 use Rattle.saber_plan.specs.Trees.{tree_of}
@@ -9,5 +9,5 @@ use Rattle.saber_windowed.proofs.operator.WindowedOperatorOperator.finish.Goals 
 
 pub returns : goal.returns
 returns c s r x y seen whole of =
-    let select = subst (λ (p : Plan). (tree_of p).shape ≡ Select) c.self.view_is c.has_window.ensures.select in
-    gives_between c.shares_are_local.ensures (tree_of c.args.self.now) select (shares_of part_of c.args.draft) s r x y seen of
+    let select = subst (λ (p : Plan). (tree_of p).shape ≡ Select) (ap (λ b. b.select) c.self-inside.view_is ∙ c.self.view_is) c.self-inside.invariant.1 in
+    gives_between (tree_of c.args.self.now) select (shares_of part_of c.args.draft) s r x y seen of

@@ -2,11 +2,14 @@ use Rattle.std.proofs.Common.{◌≡◌, ◌<◌, ◌+◌, ◌∙◌, ◌++◌, 
 use Rattle.std.proofs.lemmas.Option.{get_or_from_slice_get}
 use Rattle.std.proofs.lemmas.List.{take_more, take_all}
 use Rattle.saber_plan.specs.declared.windows.Mark.{Mark}
+use Rattle.saber_plan.specs.declared.plans.Plan.{Plan}
 use Rattle.saber_plan.specs.Trees.{tree_of}
+use Rattle.saber_plan.specs.Checked.{IsChecked}
 use Rattle.saber_plan.specs.Windows.{step_mark}
 use Rattle.saber_plan.specs.Facts.Rows.{left_small, right_small, mark_more, row_at}
 use Rattle.saber_windowed.specs.Open.{seen_windows, Takes, HoldsFrom}
 use Rattle.saber_windowed.proofs.Task.{none_yet, row_taken, all_earlier}
+use Rattle.saber_laws.proofs.CheckedLaws.{checked_fits as checked_fit}
 use Rattle.saber_windowed.proofs.select.WindowedSelect.windows_of.Goals as goal
 
 pub loop-i-init : goal.loop-i-init
@@ -63,11 +66,12 @@ loop-i-preserved c =
     let below : k < length rows = omega (arith, c.loop-i-test.true) in
     let at : get_or rows k r ≡ r = get_or_from_slice_get rows k r r (sym c.row-row.ensures) in
     let more : take (k + 1) rows ≡ take k rows ++ r ∷ [] = take_more rows k r below ∙ ap (λ z. take k rows ++ z ∷ []) at in
+    let fits = checked_fit q (subst (λ (p : Plan). IsChecked (tree_of p)) c.self.view_is c.self.invariant.0) in
     let takes = subst (λ (a : Mark). Takes q n (record { row = r; before = a }) old new) h.mark c.in_ok-take_row.ensures.windows in
     record {
       lately = c.take_row.ensures.lately;
       mark = c.step-mark.ensures ∙ ap (λ m. step_mark m r) h.mark ∙ sym (mark_more b rows k r below (sym at));
-      rows = subst (λ l. HoldsFrom q n b l new) (sym more) (row_taken c.rows_span.ensures q c.has_window.ensures.fits n b (take k rows) r old new takes h.rows);
+      rows = subst (λ l. HoldsFrom q n b l new) (sym more) (row_taken q fits n b (take k rows) r old new takes h.rows);
     }
 
 pub returns-clause-windows : goal.returns-clause-windows
