@@ -16,11 +16,11 @@ use Rattle.saber_plan.specs.Parts.{no_part, pair_part}
 use Rattle.saber_plan.specs.Needs.{first_window, past_window, part_here}
 use Rattle.saber_plan.specs.GivenRows.{RowsFit}
 use Rattle.saber_plan.specs.Facts.Rows.{mark-append}
-use Rattle.saber_laws.specs.Parts.{NoRowsNoPart}
-use Rattle.saber_laws.specs.Needs.{RowsSpan}
-use Rattle.saber_laws.specs.Windows.{BegunStay}
 use Rattle.saber_laws.specs.Plans.{TwoWindows}
 use Rattle.saber_join.proofs.Task.{part_is}
+use Rattle.saber_laws.proofs.WindowLaws.{begun_count_rises as begun_stay}
+use Rattle.saber_laws.proofs.CutLaws.{no_rows_no_part}
+use Rattle.saber_laws.proofs.NeedLaws.{has_is as rows_span}
 
 count_next : (slide p : ℕ) → count_to slide 0 p ≡ count_to slide 1 (p + 1)
 count_next slide p =
@@ -48,18 +48,18 @@ past_begun q w m x = subst (λ f. past_window f (record { row = x; before = m })
 behind_all : (first past i : ℕ) → past ≤ i → (nat_le first i && nat_lt i past) ≡ false
 behind_all first past i h = grind (arith, nat_tests)
 
-no_row : RowsSpan → BegunStay → (q : Tree) → TwoWindows q → Fits (frame q) → (i : ℕ) (m : Mark) (xs : List Row) → Ordered m xs → begun_count (frame q) (mark_after m xs) ≤ i → filter (has (frame q) i) (placed_after m xs) ≡ []
+no_row : (q : Tree) → TwoWindows q → Fits (frame q) → (i : ℕ) (m : Mark) (xs : List Row) → Ordered m xs → begun_count (frame q) (mark_after m xs) ≤ i → filter (has (frame q) i) (placed_after m xs) ≡ []
 unfolding placed_after Ordered
-no_row span stay q w fits i m [] o h = refl
-no_row span stay q w fits i m (x ∷ xs) o h =
+no_row q w fits i m [] o h = refl
+no_row q w fits i m (x ∷ xs) o h =
     let f = frame q in
     let y : Placed = record { row = x; before = m } in
-    let past = le_trans (past_begun q w m x) (le_trans (stay f fits (step_mark m x) xs o.1) h) in
-    ap (λ b. cond b (y ∷ filter (has f i) (placed_after (step_mark m x) xs)) (filter (has f i) (placed_after (step_mark m x) xs))) (span f fits i y ∙ behind_all (first_window f y) (past_window f y) i past)
-    ∙ no_row span stay q w fits i (step_mark m x) xs o.1 h
+    let past = le_trans (past_begun q w m x) (le_trans (begun_stay f fits (step_mark m x) xs o.1) h) in
+    ap (λ b. cond b (y ∷ filter (has f i) (placed_after (step_mark m x) xs)) (filter (has f i) (placed_after (step_mark m x) xs))) (rows_span f fits i y ∙ behind_all (first_window f y) (past_window f y) i past)
+    ∙ no_row q w fits i (step_mark m x) xs o.1 h
 
-pub none_begun : RowsSpan → BegunStay → NoRowsNoPart → (q : Tree) → q.shape ≡ Join → TwoWindows q → Fits (frame q) → (m : Mark) (back rows : List Row) → RowsFit q m (back ++ rows) → (i : ℕ) → begun_count (frame q) (mark_after (mark_after m back) rows) ≤ i → part_here q i m back rows ≡ no_part
-none_begun span stay none q e w fits m back rows h i l =
+pub none_begun : (q : Tree) → q.shape ≡ Join → TwoWindows q → Fits (frame q) → (m : Mark) (back rows : List Row) → RowsFit q m (back ++ rows) → (i : ℕ) → begun_count (frame q) (mark_after (mark_after m back) rows) ≤ i → part_here q i m back rows ≡ no_part
+none_begun q e w fits m back rows h i l =
     sym (part_is q m back rows i e)
-    ∙ ap (pair_part q (m.left + m.right + length back)) (no_row span stay q w fits i m (back ++ rows) h.ordered (subst (λ n. begun_count (frame q) n ≤ i) (sym (mark-append m back rows)) l))
-    ∙ (none q).of_pairs (m.left + m.right + length back)
+    ∙ ap (pair_part q (m.left + m.right + length back)) (no_row q w fits i m (back ++ rows) h.ordered (subst (λ n. begun_count (frame q) n ≤ i) (sym (mark-append m back rows)) l))
+    ∙ (no_rows_no_part q).of_pairs (m.left + m.right + length back)

@@ -9,18 +9,14 @@ use Rattle.saber_plan.specs.declared.windows.Kind.{Kind}
 use Rattle.saber_plan.specs.declared.plans.Shape.TheVariants.{Join}
 use Rattle.saber_plan.specs.Trees.{Tree}
 use Rattle.saber_plan.specs.Windows.{Fits, mark_after, end_mark, closed_count, begun_count, kind_of, from, has_windows}
+use Rattle.saber_plan.specs.Checked.{IsChecked}
 use Rattle.saber_plan.specs.Answers.{by_shape, frame, selected_lines}
 use Rattle.saber_plan.specs.Parts.{Part, no_part, part_lines}
 use Rattle.saber_plan.specs.Tasks.{full, is_complete}
 use Rattle.saber_plan.specs.Needs.{is_closing, is_pending, is_opening, of_kind, part_here}
 use Rattle.saber_plan.specs.Shares.{is_closed, shares_here, handed_here}
 use Rattle.saber_plan.specs.Facts.Rows.{Ordered-append}
-use Rattle.saber_laws.specs.Windows.{BegunStay}
-use Rattle.saber_laws.specs.Ends.{EndsBeginNone}
-use Rattle.saber_laws.specs.Needs.{RowsSpan}
-use Rattle.saber_laws.specs.Parts.{NoRowsNoPart}
 use Rattle.saber_laws.specs.Plans.{TwoWindows}
-use Rattle.saber_window.specs.Laws.{ClosedWithinBegun}
 use Rattle.saber_window.specs.declared.bounds.Bounds.{Bounds}
 use Rattle.saber_join.specs.Open.{seen_parts, HoldsTask}
 use Rattle.saber_window.specs.Kinds.{kind_in, AreBounds}
@@ -34,6 +30,9 @@ use Rattle.saber_join.proofs.Entering.{no_lines}
 use Rattle.saber_join.proofs.Spread.{seen, part_in, part_is_in, rise_all, spread}
 use Rattle.saber_join.proofs.Beginning.{none_begun}
 use Rattle.saber_join.proofs.Answering.{lines_of_part}
+use Rattle.saber_laws.proofs.CheckedLaws.{checked_fits as checked_fit, join_has_two as joins_have_two_windows}
+use Rattle.saber_laws.proofs.WindowLaws.{begun_count_rises as begun_stay, closed_within_begun}
+use Rattle.saber_laws.proofs.FlushLaws.{begin_none as ends_begin_none}
 
 low_case : (b : Bool) (p : Part) → p ≡ no_part → cond b no_part p ≡ no_part
 low_case true p h = refl
@@ -55,16 +54,14 @@ module _ {X : Type 0} (g : ℕ → Part → List X) (none : (i : ℕ) (p : Part)
       ∙ (λ j. flat_none (λ i. g i (held_at i)) 0 c (λ i l r. none i (held_at i) (ap (λ b. cond b no_part (at i)) (lt-ltb i c (omega (arith, r))))) j ++ flat_map (λ i. g i (held_at i)) (from c (n - c)))
       ∙ flat_map-from (λ i. g i (held_at i)) (λ i. g i (at i)) c (n - c) (λ i l r. ap (λ b. g i (cond b no_part (at i))) (le-ltb i c l))
 
--- the laws that a task's end rests on
-pub record Laws : Type 0 where
-  pub stay : BegunStay
-  pub within : ClosedWithinBegun
-  pub begins : EndsBeginNone
-  pub span : RowsSpan
-  pub none : NoRowsNoPart
-
-module _ (laws : Laws) (q : Tree) (e : q.shape ≡ Join) (w : TwoWindows q) (fits : Fits (frame q)) (s : Sight) (whole : IsWhole q s) (b : Bounds) (given : AreBounds (frame q) (mark_after s.first s.back) (end_mark s.ended (mark_after (mark_after s.first s.back) s.rows)) b)
+module _ (q : Tree) (checked : IsChecked q) (e : q.shape ≡ Join) (s : Sight) (whole : IsWhole q s) (b : Bounds) (given : AreBounds (frame q) (mark_after s.first s.back) (end_mark s.ended (mark_after (mark_after s.first s.back) s.rows)) b)
     (es : List (ℕ × Part)) (sorted : T (is_sorted nat_cmp (seen es))) (holds : HoldsTask q (closed_count (frame q) (mark_after s.first s.back)) s.first s.back s.rows (seen_parts es)) where
+  w : TwoWindows q
+  w = joins_have_two_windows q checked e
+
+  fits : Fits (frame q)
+  fits = checked_fit q checked
+
   abbrev a : Mark
   a = mark_after s.first s.back
 
@@ -79,16 +76,16 @@ module _ (laws : Laws) (q : Tree) (e : q.shape ≡ Join) (w : TwoWindows q) (fit
 
   -- the end begins none of them
   begins : begun_count (frame q) (mark_after (mark_after s.first s.back) s.rows) ≡ n
-  begins = sym (laws.begins (frame q) s.ended (mark_after (mark_after s.first s.back) s.rows)).counts
+  begins = sym (ends_begin_none (frame q) s.ended (mark_after (mark_after s.first s.back) s.rows)).counts
 
   abbrev at : ℕ → Part
   at i = part_here q i s.first s.back s.rows
 
   within : c ≤ n
-  within = subst (λ k. c ≤ k) begins (le_trans (laws.within (frame q) fits a) (laws.stay (frame q) fits a s.rows (Ordered-append s.first s.back s.rows whole.fits.ordered).1))
+  within = subst (λ k. c ≤ k) begins (le_trans (closed_within_begun (frame q) fits a) (begun_stay (frame q) fits a s.rows (Ordered-append s.first s.back s.rows whole.fits.ordered).1))
 
   ends : (i : ℕ) → n ≤ i → at i ≡ no_part
-  ends i l = none_begun laws.span laws.stay laws.none q e w fits s.first s.back s.rows whole.fits i (subst (λ k. k ≤ i) (sym begins) l)
+  ends i l = none_begun q e w fits s.first s.back s.rows whole.fits i (subst (λ k. k ≤ i) (sym begins) l)
 
   kind : (i : ℕ) → c ≤ i → i < c + (n - c) → Some (kind_in b i) ≡ kind_of (frame q) i a z
   kind i l r = let up = within in given.kinds i l (omega (arith, l, r, up))

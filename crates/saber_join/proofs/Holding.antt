@@ -19,11 +19,11 @@ use Rattle.saber_plan.specs.Parts.{Numbers, no_part, pair_numbers, pair_part, la
 use Rattle.saber_plan.specs.Facts.Lists.{Each, each-filter, each-map, each-weaker, dropped}
 use Rattle.saber_plan.specs.Facts.Rows.{placed-append, placed-one, fits_front}
 use Rattle.saber_laws.specs.Pairs.{after_rows}
-use Rattle.saber_laws.specs.Parts.{NoRowsNoPart}
 use Rattle.saber_join.specs.Rows.{IsOn, AllOn}
 use Rattle.saber_join.specs.Shelves.{Card, card_of}
 use Rattle.saber_join.specs.Ties.{Ends}
 use Rattle.saber_join.specs.Keeping.{lies_from, cards_of, lefts_of, rights_of}
+use Rattle.saber_laws.proofs.CutLaws.{no_rows_no_part}
 
 pub placed_push : (m : Mark) (xs : List Row) (r : Row) → placed_after m (xs ++ r ∷ []) ≡ placed_after m xs ++ after_rows m xs r ∷ []
 placed_push m xs r = placed-append m xs (r ∷ []) ∙ ap (λ l. placed_after m xs ++ l) (placed-one (mark_after m xs) r)
@@ -135,8 +135,8 @@ pub each-flat_map : {A B : Type 0} (P : B → Type 0) (f : A → List B) (xs : L
 each-flat_map P f [] h = tt
 each-flat_map P f (x ∷ xs) h = each-append P (f x) (flat_map f xs) h.0 (each-flat_map P f xs h.1)
 
-pub pair_part-none : NoRowsNoPart → (q : Tree) (n : ℕ) (us : List Placed) → Each (λ r. place r < n) us → pair_part q n us ≡ no_part
+pub pair_part-none : (q : Tree) (n : ℕ) (us : List Placed) → Each (λ r. place r < n) us → pair_part q n us ≡ no_part
 unfolding pair_part
-pair_part-none none q n us h =
+pair_part-none q n us h =
     ap (λ l. from_entries {R = key_cmp} l) (dropped (late n) (pairs q (pair_numbers q) us) (each-flat_map (λ e. late n e ≡ false) _ (filter is_left us) (each-weaker _ _ (λ x p. none_late q n x (filter is_right us) p (each-filter _ is_right us h)) (filter is_left us) (each-filter _ is_left us h))))
-    ∙ (none q).of_pairs n
+    ∙ (no_rows_no_part q).of_pairs n

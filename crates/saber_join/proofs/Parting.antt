@@ -12,7 +12,6 @@ use Rattle.saber_plan.specs.Parts.{Part, Numbers, part, row_part, group_part, pa
 use Rattle.saber_plan.specs.GivenRows.{AreNeighbors}
 use Rattle.saber_plan.specs.Facts.Lists.{Each, each-filter}
 use Rattle.saber_plan.specs.Facts.Parts.{total, exact}
-use Rattle.saber_laws.specs.Parts.{NoRowsNoPart}
 use Rattle.saber_join.specs.Found.{Apart}
 use Rattle.saber_join.proofs.Keyed.{not_both}
 use Rattle.saber_join.proofs.Holding.{placed_below, pair_part-none}
@@ -29,11 +28,11 @@ always_none : (b : Bool) → cond {A = Option Numbers} b None None ≡ None
 always_none true = refl
 always_none false = refl
 
-apart : NoRowsNoPart → (q : Tree) (x z : ℕ) (us vs : List Placed) → Each (λ r. place r < z) us → Apart (pair_part q x us) (pair_part q z vs)
-apart none q x z us vs h = record {
+apart : (q : Tree) (x z : ℕ) (us vs : List Placed) → Each (λ r. place r < z) us → Apart (pair_part q x us) (pair_part q z vs)
+apart q x z us vs h = record {
   at = λ k v g.
       let late = late_key (nat_le z (later k)) (find key_cmp k (pairs q (pair_numbers q) vs)) v (sym (get-pair_part q z vs k) ∙ g) in
-      let out : find key_cmp k (pairs q (pair_numbers q) us) ≡ None = sym (get-pair_part q z us k ∙ ap (λ b. cond b (find key_cmp k (pairs q (pair_numbers q) us)) None) late) ∙ ap (λ p. get p k) (pair_part-none none q z us h) ∙ get-empty key_cmp k in
+      let out : find key_cmp k (pairs q (pair_numbers q) us) ≡ None = sym (get-pair_part q z us k ∙ ap (λ b. cond b (find key_cmp k (pairs q (pair_numbers q) us)) None) late) ∙ ap (λ p. get p k) (pair_part-none q z us h) ∙ get-empty key_cmp k in
       get-pair_part q x us k ∙ ap (λ o. cond (nat_le x (later k)) o None) out ∙ always_none (nat_le x (later k));
 }
 
@@ -55,7 +54,7 @@ part_of_pairs q e i xs x y = ap (λ s. by_shape s (row_part q (inside (frame q) 
 first_rows : (xs : List Row) (z : ℕ) → Each (λ (r : Placed). place r < z) (placed_after no_rows (take z xs))
 first_rows xs z = let few = length-take z xs in placed_below no_rows (take z xs) z (omega (arith, few))
 
-pub neighbors_apart : NoRowsNoPart → (q : Tree) → q.shape ≡ Join → (a b : Part) → AreNeighbors q a b → Apart a b
-neighbors_apart none q e a b n =
+pub neighbors_apart : (q : Tree) → q.shape ≡ Join → (a b : Part) → AreNeighbors q a b → Apart a b
+neighbors_apart q e a b n =
     subst₂ Apart (sym (n.first ∙ part_of_pairs q e n.window n.rows n.from n.seam)) (sym (n.second ∙ part_of_pairs q e n.window n.rows n.seam n.to))
-    (apart none q n.from n.seam _ _ (each-filter _ (has (frame q) n.window) (placed_after no_rows (take n.seam n.rows)) (first_rows n.rows n.seam)))
+    (apart q n.from n.seam _ _ (each-filter _ (has (frame q) n.window) (placed_after no_rows (take n.seam n.rows)) (first_rows n.rows n.seam)))

@@ -14,7 +14,6 @@ use Rattle.saber_plan.specs.Answers.{is_left, is_right, pair_key, pairs_with, fr
 use Rattle.saber_plan.specs.Parts.{Part, Numbers, pair_numbers}
 use Rattle.saber_plan.specs.Pairing.{row_pairs, with_entries}
 use Rattle.saber_plan.specs.Facts.Lists.{Each, each-all}
-use Rattle.saber_laws.specs.Needs.{RowsSpan}
 use Rattle.saber_join.specs.Standing.{standing_row}
 use Rattle.saber_join.specs.Shelves.{Card, card_of, meets}
 use Rattle.saber_join.specs.Ties.{Ends, CanTie, key_in}
@@ -22,6 +21,7 @@ use Rattle.saber_join.specs.Keeping.{lies_from, cards_of, lefts_of, rights_of}
 use Rattle.saber_join.specs.Adding.{with_rights, with_lefts}
 use Rattle.saber_join.specs.Open.{lies_in, rows_in, meeting_part}
 use Rattle.saber_join.proofs.Tying.{one_key}
+use Rattle.saber_laws.proofs.NeedLaws.{has_is as rows_span}
 
 -- ---- filters of filters
 
@@ -97,18 +97,18 @@ meets_case false first past low i l h = refl
 from_case : (first c past i : ℕ) → c ≤ i → nat_lt (max first c) past ≡ false → (nat_le first i && nat_lt i past) ≡ false
 from_case first c past i h e = grind (arith, nat_tests)
 
-module _ (span : RowsSpan) (f : Frame) (fits : Fits f) (t : Option Ends) (c i : ℕ) (up : c ≤ i) (k : ℤ) (low : ℕ) (far : low ≤ i) where
+module _ (f : Frame) (fits : Fits f) (t : Option Ends) (c i : ℕ) (up : c ≤ i) (k : ℤ) (low : ℕ) (far : low ≤ i) where
   abbrev at : Placed → Card
   at x = card_of f t c x
 
   lies : (x : Placed) → lies_in i (at x) ≡ has f i x
-  lies x = in_case (first_window f x) c (past_window f x) i up ∙ sym (span f fits i x)
+  lies x = in_case (first_window f x) c (past_window f x) i up ∙ sym (rows_span f fits i x)
 
   alike : (x : Placed) → has f i x ≡ true → meets k low (at x) ≡ has_key t k x
-  alike x h = meets_case (int_eq (key_in t x.row) k) (first_window f x) (past_window f x) low i far (sym (span f fits i x) ∙ h)
+  alike x h = meets_case (int_eq (key_in t x.row) k) (first_window f x) (past_window f x) low i far (sym (rows_span f fits i x) ∙ h)
 
   from_there : (x : Placed) → lies_from f c x ≡ false → has f i x ≡ false
-  from_there x e = span f fits i x ∙ from_case (first_window f x) c (past_window f x) i up e
+  from_there x e = rows_span f fits i x ∙ from_case (first_window f x) c (past_window f x) i up e
 
   pub near : (vs : List Placed) → rows_in i (filter (meets k low) (cards_of f t c vs)) ≡ map standing_row (filter (has_key t k) (filter (has f i) vs))
   near vs =
@@ -168,7 +168,7 @@ module _ (q : Tree) (t : Option Ends) (tie : CanTie q.predicate t) where
   none_right : (x y : Placed) → x.row.side ≡ Left → y.row.side ≡ Right → has_key t (key_in t y.row) x ≡ false → passes q.predicate x.row.values y.row.values ≡ false
   none_right x y a b = not_true _ _ (λ h. (Decides-int_eq (key_in t x.row) (key_in t y.row)).1 (one_key q.predicate t tie x.row y.row a b h))
 
-  module _ (span : RowsSpan) (fits : Fits (frame q)) (c i : ℕ) (up : c ≤ i) (low : ℕ) (far : low ≤ i) where
+  module _ (fits : Fits (frame q)) (c i : ℕ) (up : c ≤ i) (low : ℕ) (far : low ≤ i) where
     -- what a row is paired with in a window that has it: the rows of the other side there
     side_case : (s : Side) (v : Values) (m : Mark) (p : Part) (us : List Placed) → (let x : Placed = record { row = record { side = s; values = v }; before = m } in
         let near = filter (meets (key_in t x.row) low) in
@@ -179,7 +179,7 @@ module _ (q : Tree) (t : Option Ends) (tie : CanTie q.predicate t) where
         let x : Placed = record { row = record { side = Left; values = v }; before = m } in
         let k = key_in t x.row in
         let ys = filter (has (frame q) i) us in
-        ap (with_entries p) (ap (pairs_with q (pair_numbers q) (standing_row x)) (near span (frame q) fits t c i up k low far (filter is_right us))
+        ap (with_entries p) (ap (pairs_with q (pair_numbers q) (standing_row x)) (near (frame q) fits t c i up k low far (filter is_right us))
         ∙ stand_pairs q x (filter (has_key t k) (filter (has (frame q) i) (filter is_right us)))
         ∙ ap (λ l. pairs_with q (pair_numbers q) x (filter (has_key t k) l)) (filter_swap (has (frame q) i) is_right us)
         ∙ ap (map (entry_by q x x)) (filter_key (λ y. passes q.predicate v y.row.values) (has_key t k) (filter is_right ys) (each_kept is_right _ (λ y e. none_left x y refl (is_on_right y.row.side e)) ys)))
@@ -188,7 +188,7 @@ module _ (q : Tree) (t : Option Ends) (tie : CanTie q.predicate t) where
         let k = key_in t x.row in
         let ys = filter (has (frame q) i) us in
         let g = λ (y : Placed). pairs_with q (pair_numbers q) y (x ∷ []) in
-        ap (with_entries p) (ap (flat_map (λ y. pairs_with q (pair_numbers q) y (standing_row x ∷ []))) (near span (frame q) fits t c i up k low far (filter is_left us))
+        ap (with_entries p) (ap (flat_map (λ y. pairs_with q (pair_numbers q) y (standing_row x ∷ []))) (near (frame q) fits t c i up k low far (filter is_left us))
         ∙ stand_lefts q x (filter (has_key t k) (filter (has (frame q) i) (filter is_left us)))
         ∙ ap (λ l. flat_map g (filter (has_key t k) l)) (filter_swap (has (frame q) i) is_left us)
         ∙ flat_key g (has_key t k) (filter is_left ys) (each_kept is_left _ (λ y e l. ap (λ b. map (entry_by q y y) (cond b (x ∷ []) [])) (none_right y x (is_on_left y.row.side e) refl l)) ys))

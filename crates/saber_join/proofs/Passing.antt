@@ -17,8 +17,6 @@ use Rattle.saber_plan.specs.Needs.{part_here, first_window, past_window}
 use Rattle.saber_plan.specs.GivenRows.{RowsFit}
 use Rattle.saber_plan.specs.Facts.Lists.{dropped, each-weaker}
 use Rattle.saber_plan.specs.Facts.Rows.{mark-append, mark_more, placed-append, Ordered-append, fits_front, fits_back}
-use Rattle.saber_laws.specs.Needs.{RowsSpan}
-use Rattle.saber_laws.specs.Windows.{BegunStay}
 use Rattle.saber_fragment.specs.declared.blocks.Block.{Block}
 use Rattle.saber_fragment.specs.Drafts.{Sight, begins, seen_back, CanLookBack, IsWhole}
 use Rattle.saber_join.specs.declared.draft.JoinDraft.{JoinDraft}
@@ -28,6 +26,8 @@ use Rattle.saber_join.specs.Open.{Windows, HoldsTask}
 use Rattle.saber_join.specs.Sights.{HasSeen}
 use Rattle.saber_join.proofs.Holding.{behind_after, each-append}
 use Rattle.saber_join.proofs.Task.{part_is, not_low}
+use Rattle.saber_laws.proofs.WindowLaws.{begun_count_rises as begun_stay}
+use Rattle.saber_laws.proofs.NeedLaws.{has_is as rows_span}
 
 -- ---- by time, no row before one that lies in no window from c on lies in one
 
@@ -43,11 +43,11 @@ not_far c first past h = grind (arith, nat_tests)
 not_above : (c past : ℕ) → nat_lt c past ≡ false → past ≤ c
 not_above c past h = grind (arith, nat_tests)
 
-module _ (stay : BegunStay) (f : Frame) (t : IsTimed f) (fits : Fits f) (c : ℕ) (n : Mark) (y : Row) (low : past_window f (record { row = y; before = n }) ≤ c) where
+module _ (f : Frame) (t : IsTimed f) (fits : Fits f) (c : ℕ) (n : Mark) (y : Row) (low : past_window f (record { row = y; before = n }) ≤ c) where
   before_last : (m : Mark) (x : Row) (xs : List Row) → Ordered (step_mark m x) (xs ++ y ∷ []) → past_window f (record { row = x; before = m }) ≤ c
   before_last m x xs o =
       let ends : begun_count f (mark_after (step_mark m x) (xs ++ y ∷ [])) ≡ past_window f (record { row = y; before = n }) = ap (begun_count f) (mark-append (step_mark m x) xs (y ∷ [])) ∙ sym (begun_is f t (mark_after (step_mark m x) xs) n y) in
-      le_trans (subst₂ (λ a b. a ≤ b) (sym (begun_is f t m m x)) ends (stay f fits (step_mark m x) (xs ++ y ∷ []) o)) low
+      le_trans (subst₂ (λ a b. a ≤ b) (sym (begun_is f t m m x)) ends (begun_stay f fits (step_mark m x) (xs ++ y ∷ []) o)) low
 
   none_upto : (m : Mark) (xs : List Row) → Ordered m (xs ++ y ∷ []) → NoneLies f c (placed_after m (xs ++ y ∷ []))
   unfolding placed_after Ordered
@@ -58,11 +58,11 @@ module _ (stay : BegunStay) (f : Frame) (t : IsTimed f) (fits : Fits f) (c : ℕ
       let one : Placed = record { row = x; before = m } in
       (not_far c (first_window f one) (past_window f one) (before_last m x xs o.1), none_upto (step_mark m x) xs o.1)
 
-pub none_below : BegunStay → (f : Frame) → IsTimed f → Fits f → (c : ℕ) (m n : Mark) (xs : List Row) (k : ℕ) (r : Row) → k < length xs → get_or xs k r ≡ r → Ordered m xs → nat_lt c (past_window f (record { row = r; before = n })) ≡ false → NoneLies f c (placed_after m (take (k + 1) xs))
-none_below stay f t fits c m n xs k r h e o past =
+pub none_below : (f : Frame) → IsTimed f → Fits f → (c : ℕ) (m n : Mark) (xs : List Row) (k : ℕ) (r : Row) → k < length xs → get_or xs k r ≡ r → Ordered m xs → nat_lt c (past_window f (record { row = r; before = n })) ≡ false → NoneLies f c (placed_after m (take (k + 1) xs))
+none_below f t fits c m n xs k r h e o past =
     let is : take (k + 1) xs ≡ take k xs ++ r ∷ [] = take_more xs k r h ∙ ap (λ x. take k xs ++ x ∷ []) e in
     let front : Ordered m (take (k + 1) xs) = (Ordered-append m (take (k + 1) xs) (drop (k + 1) xs) (subst (Ordered m) (sym (take-append-drop (k + 1) xs)) o)).0 in
-    subst (λ l. NoneLies f c (placed_after m l)) (sym is) (none_upto stay f t fits c n r (not_above c _ past) m (take k xs) (subst (Ordered m) is front))
+    subst (λ l. NoneLies f c (placed_after m l)) (sym is) (none_upto f t fits c n r (not_above c _ past) m (take k xs) (subst (Ordered m) is front))
 
 pub none_at_first : (q : Tree) (m n : Mark) → NoneLies (frame q) (closed_count (frame q) m) (placed_after n [])
 unfolding placed_after
@@ -84,14 +84,14 @@ drop_at xs k r h e = at xs k h ∙ (let one : suc k ≡ k + 1 = omega arith in �
 not_in : (c i first past : ℕ) → c ≤ i → nat_lt (max first c) past ≡ false → (nat_le first i && nat_lt i past) ≡ false
 not_in c i first past l h = grind (arith, nat_tests)
 
-none_has : RowsSpan → (f : Frame) → Fits f → (c i : ℕ) → c ≤ i → (us : List Placed) → NoneLies f c us → filter (has f i) us ≡ []
-none_has span f fits c i l us h = dropped (has f i) us (each-weaker (λ x. lies_from f c x ≡ false) (λ x. has f i x ≡ false) (λ x e. span f fits i x ∙ not_in c i (first_window f x) (past_window f x) l e) us h)
+none_has : (f : Frame) → Fits f → (c i : ℕ) → c ≤ i → (us : List Placed) → NoneLies f c us → filter (has f i) us ≡ []
+none_has f fits c i l us h = dropped (has f i) us (each-weaker (λ x. lies_from f c x ≡ false) (λ x. has f i x ≡ false) (λ x e. rows_span f fits i x ∙ not_in c i (first_window f x) (past_window f x) l e) us h)
 
 low_same : (b : Bool) (p r : Part) → (b ≡ false → p ≡ r) → cond b no_part p ≡ cond b no_part r
 low_same true p r h = refl
 low_same false p r h = h refl
 
-module _ (span : RowsSpan) (q : Tree) (e : q.shape ≡ Join) (fits : Fits (frame q)) (c : ℕ) (m : Mark) (us back rows : List Row) (none : NoneLies (frame q) c (placed_after m us)) where
+module _ (q : Tree) (e : q.shape ≡ Join) (fits : Fits (frame q)) (c : ℕ) (m : Mark) (us back rows : List Row) (none : NoneLies (frame q) c (placed_after m us)) where
   chosen : (i : ℕ) → c ≤ i → filter (has (frame q) i) (placed_after m ((us ++ back) ++ rows)) ≡ filter (has (frame q) i) (placed_after (mark_after m us) (back ++ rows))
   chosen i l =
       let p = has (frame q) i in
@@ -99,7 +99,7 @@ module _ (span : RowsSpan) (q : Tree) (e : q.shape ≡ Join) (fits : Fits (frame
       ap (λ xs. filter p (placed_after m xs)) (append_assoc us back rows)
       ∙ ap (filter p) (placed-append m us (back ++ rows))
       ∙ filter-append p (placed_after m us) rest
-      ∙ ap (λ xs. xs ++ filter p rest) (none_has span (frame q) fits c i l (placed_after m us) none)
+      ∙ ap (λ xs. xs ++ filter p rest) (none_has (frame q) fits c i l (placed_after m us) none)
 
   counts : m.left + m.right + length (us ++ back) ≡ (mark_after m us).left + (mark_after m us).right + length back
   counts = let long = length-append us back in let on = behind_after m us in omega (arith, long, on)

@@ -11,9 +11,7 @@ use Rattle.saber_plan.specs.Answers.{frame, by_shape, passing_values}
 use Rattle.saber_plan.specs.Parts.{Part, no_part, pair_part, group_part, row_part}
 use Rattle.saber_plan.specs.Needs.{part_here, first_window, past_window}
 use Rattle.saber_plan.specs.Facts.Lists.{each-filter}
-use Rattle.saber_laws.specs.Needs.{RowsSpan}
-use Rattle.saber_laws.specs.Pairs.{WindowsGetPairs, after_rows, with_row}
-use Rattle.saber_laws.specs.Parts.{NoRowsNoPart}
+use Rattle.saber_laws.specs.Pairs.{after_rows, with_row}
 use Rattle.saber_join.specs.Standing.{standing_row}
 use Rattle.saber_join.specs.Shelves.{meets}
 use Rattle.saber_join.specs.Ties.{Ends, CanTie, key_in}
@@ -21,6 +19,8 @@ use Rattle.saber_join.specs.Keeping.{lefts_of, rights_of}
 use Rattle.saber_join.specs.Open.{Windows, pairs_in, seen_parts, meeting_part, Takes, HoldsTask}
 use Rattle.saber_join.proofs.Partners.{partners_met}
 use Rattle.saber_join.proofs.Holding.{behind, behind_after, placed_below, pair_part-none}
+use Rattle.saber_laws.proofs.NeedLaws.{has_is as rows_span}
+use Rattle.saber_laws.proofs.RowPairLaws.{window_gets as windows_get_pairs}
 
 -- ---- the parts of windows after some rows, of which those from position n on are the task's
 
@@ -35,12 +35,12 @@ both_none true p e = refl
 both_none false p e = sym e
 
 -- none before the task's rows
-pub none_yet : NoRowsNoPart → (q : Tree) (c : ℕ) (b : Mark) (back : List Row) (es : List (ℕ × Part)) → es ≡ [] → HasParts q c (b.left + b.right + length back) b back (seen_parts es)
-none_yet none q c b back es e = record {
+pub none_yet : (q : Tree) (c : ℕ) (b : Mark) (back : List Row) (es : List (ℕ × Part)) → es ≡ [] → HasParts q c (b.left + b.right + length back) b back (seen_parts es)
+none_yet q c b back es e = record {
   at = λ i.
       let n = b.left + b.right + length back in
       ap (λ l. pairs_in (seen_parts l) i) e ∙ ap (λ o. unwrap_or o no_part) (get-empty nat_cmp i)
-      ∙ both_none (nat_lt i c) _ (pair_part-none none q n (filter (has (frame q) i) (placed_after b back)) (each-filter _ (has (frame q) i) (placed_after b back) (placed_below b back n (omega arith))));
+      ∙ both_none (nat_lt i c) _ (pair_part-none q n (filter (has (frame q) i) (placed_after b back)) (each-filter _ (has (frame q) i) (placed_after b back) (placed_below b back n (omega arith))));
 }
 
 low_case : (c i first past : ℕ) → nat_lt i c ≡ true → (nat_le (max first c) i && nat_lt i past) ≡ false
@@ -55,7 +55,7 @@ not_low c i h = grind (arith, nat_tests)
 begun : (c i first past : ℕ) → c ≤ i → (nat_le first i && nat_lt i past) ≡ true → max first c ≤ i
 begun c i first past l h = grind (arith, nat_tests)
 
-module _ (span : RowsSpan) (get : WindowsGetPairs) (q : Tree) (fits : Fits (frame q)) (t : Option Ends) (tie : CanTie q.predicate t) (c n : ℕ) (b : Mark) (xs : List Row) (r : Row) (late : n ≤ behind b + length xs) (m k : Windows)
+module _ (q : Tree) (fits : Fits (frame q)) (t : Option Ends) (tie : CanTie q.predicate t) (c n : ℕ) (b : Mark) (xs : List Row) (r : Row) (late : n ≤ behind b + length xs) (m k : Windows)
     (takes : Takes q t c (after_rows b xs r) (lefts_of (frame q) t c (placed_after b xs)) (rights_of (frame q) t c (placed_after b xs)) m k) where
   abbrev x : Placed
   x = after_rows b xs r
@@ -77,17 +77,17 @@ module _ (span : RowsSpan) (get : WindowsGetPairs) (q : Tree) (fits : Fits (fram
 
   -- a window that has the row gets its pairs
   has_case : (i : ℕ) → c ≤ i → (h : Bool) → has (frame q) i (after_rows b xs r) ≡ h → cond h (changed i (pair_part q n (chosen i))) (pair_part q n (chosen i)) ≡ cond h (with_row q n (chosen i) (after_rows b xs r)) (pair_part q n (chosen i))
-  has_case i up true e = partners_met q t tie span fits c i up (max first c) (begun c i first past up (sym (span (frame q) fits i (after_rows b xs r)) ∙ e)) (after_rows b xs r) (pair_part q n (chosen i)) (placed_after b xs)
+  has_case i up true e = partners_met q t tie fits c i up (max first c) (begun c i first past up (sym (rows_span (frame q) fits i (after_rows b xs r)) ∙ e)) (after_rows b xs r) (pair_part q n (chosen i)) (placed_after b xs)
   has_case i up false e = refl
 
   step_case : (i : ℕ) (low : Bool) → nat_lt i c ≡ low → pairs_in m i ≡ cond low no_part (pair_part q n (chosen i)) → pairs_in k i ≡ cond low no_part (pair_part q n (filter (has (frame q) i) (placed_after b (xs ++ r ∷ []))))
   step_case i true e h = takes.at i ∙ ap (λ d. cond d (changed i (pairs_in m i)) (pairs_in m i)) (low_case c i first past e) ∙ h
   step_case i false e h =
       takes.at i
-      ∙ ap (λ d. cond d (changed i (pairs_in m i)) (pairs_in m i)) (high_case c i first past e ∙ sym (span (frame q) fits i (after_rows b xs r)))
+      ∙ ap (λ d. cond d (changed i (pairs_in m i)) (pairs_in m i)) (high_case c i first past e ∙ sym (rows_span (frame q) fits i (after_rows b xs r)))
       ∙ ap (λ p. cond (has (frame q) i (after_rows b xs r)) (changed i p) p) h
       ∙ has_case i (not_low c i e) (has (frame q) i (after_rows b xs r)) refl
-      ∙ sym (get q n i b xs r behind_them)
+      ∙ sym (windows_get_pairs q n i b xs r behind_them)
 
   pub row_taken : HasParts q c n b xs m → HasParts q c n b (xs ++ r ∷ []) k
   row_taken h = record { at = λ i. step_case i (nat_lt i c) refl (h.at i) }

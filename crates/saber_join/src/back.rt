@@ -13,7 +13,6 @@ use crate::draft::JoinDraft;
 use crate::join::Join;
 use saber_flat::Rows;
 use saber_fragment::Block;
-use saber_laws::begun_stay;
 use saber_plan::{Mark, NoMemory, Side};
 use std::alloc::Global;
 
@@ -65,8 +64,7 @@ impl Join<'_> {
         ensures within { result ≤ length rows.now }
         ensures none { NoneLies (frame (tree_of self.now)) closed (placed_after before.now (take result rows.now)) }
     {
-        self.has_windows();
-        begun_stay();
+        let _plan = &self.plan;
         if !self.goes_by_time() {
             return 0;
         }

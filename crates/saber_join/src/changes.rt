@@ -102,7 +102,7 @@ impl Operator for JoinChanges<'_> {
     }
 
     fn empty_store(&self, alloc: Global) -> ChangeStore<Pairs> {
-        self.join.has_windows();
+        let _plan = &self.join.plan;
         ChangeStore::new(alloc)
     }
 

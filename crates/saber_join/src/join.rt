@@ -10,7 +10,6 @@ ghost use Rattle.saber_plan.specs.Windows as w;
 ghost use Rattle.saber_plan.specs.Answers.{frame, items_over};
 ghost use Rattle.saber_plan.specs.Needs.{first_window, past_window};
 ghost use Rattle.saber_plan.specs.GivenRows.{IsRowOf};
-ghost use Rattle.saber_laws.specs.Plans.{TwoWindows};
 ghost use Rattle.saber_eval.specs.Widths.{widths};
 ghost use Rattle.saber_window.specs.Kinds.{AreBounds};
 ghost use Rattle.saber_window.specs.Timed.{IsTimed};
@@ -18,11 +17,10 @@ ghost use Rattle.saber_join.specs.Rows.{IsOn};
 ghost use Rattle.saber_join.specs.Ties.{CanTie, key_in};
 
 use crate::ties::{Tie, tie_in};
-use saber_eval::{holds2, two_streams_fit, value2};
+use saber_eval::{holds2, value2};
 use saber_flat::RowRef;
-use saber_laws::{checked_fit, joins_have_two_windows};
 use saber_plan::{Expr, Mark, NoMemory, Plan, Side, Stream};
-use saber_window::{Bounds, Lately, Windows, stamps_fit, step_mark};
+use saber_window::{Bounds, Lately, Windows, step_mark};
 use std::alloc::Global;
 use std::marker::Model;
 
@@ -30,7 +28,7 @@ use std::marker::Model;
 /// the plan.
 #[derive(Drop)]
 pub(crate) struct Join<'a> {
-    plan: &'a Plan,
+    pub(crate) plan: &'a Plan,
     windows: Windows,
 }
 
@@ -83,18 +81,6 @@ impl<'a> Join<'a> {
         }
     }
 
-    /// It joins two streams, and both have windows, which fit.
-    pub(crate) fn has_windows(&self)
-        ensures checked { IsChecked (tree_of self.now) }
-        ensures join { (tree_of self.now).shape ≡ shapes.Join }
-        ensures windows { TwoWindows (tree_of self.now) }
-        ensures fits { w.Fits (frame (tree_of self.now)) }
-    {
-        let _plan = &self.plan;
-        joins_have_two_windows();
-        checked_fit();
-    }
-
     /// Whether its windows go by time.
     pub(crate) fn goes_by_time(&self) -> bool
         ensures { result ≡ true → IsTimed (frame (tree_of self.now)) }
@@ -103,24 +89,13 @@ impl<'a> Join<'a> {
         self.windows.go_by_time()
     }
 
-    // Its items can be worked out over a pair of rows of its streams.
-    fn items_fit(&self, left: &RowRef, right: &RowRef)
-        requires left { IsOn (tree_of self.now) sides.Left left.now }
-        requires right { IsOn (tree_of self.now) sides.Right right.now }
-        ensures { AllByRecursion (ExprFits (widths left.now.values right.now.values)) (tree_of self.now).items }
-    {
-        self.has_windows();
-        two_streams_fit();
-    }
-
     /// Whether a pair of rows passes WHERE.
+    #[tactic(auto, using(crate::proofs::Sides::plan_fits))]
     pub(crate) fn passes(&self, left: &RowRef, right: &RowRef) -> bool
         requires left { IsOn (tree_of self.now) sides.Left left.now }
         requires right { IsOn (tree_of self.now) sides.Right right.now }
         ensures { result ≡ v.passes (tree_of self.now).predicate left.now.values right.now.values }
     {
-        self.has_windows();
-        two_streams_fit();
         match self.plan.predicate() {
             Some(predicate) => holds2(predicate, left, right),
             None => true,
@@ -144,7 +119,7 @@ impl<'a> Join<'a> {
         requires row { IsRowOf (tree_of self.now) row.now }
         ensures { result ≡ key_in tie.now row.now }
     {
-        self.has_windows();
+        let _plan = &self.plan;
         match tie {
             Some(tie) => match row.side() {
                 Side::Left => tie.left.key(row),
@@ -155,6 +130,7 @@ impl<'a> Join<'a> {
     }
 
     /// The values of the items over a pair of rows.
+    #[tactic(auto, using(crate::proofs::Sides::items_fit))]
     pub(crate) fn values(
         &self,
         alloc: Global,
@@ -165,7 +141,6 @@ impl<'a> Join<'a> {
         requires right { IsOn (tree_of self.now) sides.Right right.now }
         ensures { IfOk result (λ vs. vs.items ≡ items_over (tree_of self.now).items left.now.values right.now.values) }
     {
-        self.items_fit(left, right);
         item_values(alloc, self.plan.items(), left, right)
     }
 
@@ -180,7 +155,6 @@ impl<'a> Join<'a> {
     pub(crate) fn lately(&self) -> Lately
         ensures { result ≡ frame (tree_of self.now) }
     {
-        self.has_windows();
         Lately::of_plan(self.plan)
     }
 
@@ -225,13 +199,13 @@ impl<'a> Join<'a> {
     }
 
     /// The mark after one more row.
+    #[tactic(auto, using(saber_window::proofs::Stamps::stamps_fit))]
     pub(crate) fn step(&self, before: &Mark, row: &RowRef) -> Mark
         requires row { IsRowOf (tree_of self.now) row.now }
         requires left { before.now.left ≤ 2 ^ 40 }
         requires right { before.now.right ≤ 2 ^ 40 }
         ensures { result ≡ w.step_mark before.now row.now }
     {
-        stamps_fit();
         step_mark(before, row)
     }
 }

@@ -9,7 +9,6 @@ use crate::draft::JoinDraft;
 use crate::join::Join;
 use crate::pairs::Pairs;
 use saber_fragment::{Block, Operator, Piece};
-use saber_laws::{open_goes_on, pieces_print, shares_make_piece};
 use saber_parts::PartStore;
 use saber_plan::{NoMemory, Plan};
 use std::alloc::Global;
@@ -110,9 +109,6 @@ impl Operator for JoinOperator<'_> {
         piece: Piece<Pairs>,
         out: &mut Vec<u8>,
     ) -> Result<(), NoMemory> {
-        open_goes_on();
-        pieces_print();
-        shares_make_piece();
         store.take_in(&self.join, piece, out)?;
         Ok(())
     }

@@ -5,9 +5,8 @@ use crate::gathered::{gather, handed_on};
 use crate::join::Join;
 use crate::pairs::Pairs;
 use saber_fragment::Piece;
-use saber_laws::{begun_stay, ends_begin_none, no_rows_no_part, rows_span};
 use saber_plan::NoMemory;
-use saber_window::{Bounds, closed_within_begun, end_mark};
+use saber_window::{Bounds, end_mark};
 use std::alloc::Global;
 use std::collections::BTreeMap;
 
@@ -32,12 +31,7 @@ impl Join<'_> {
         ensures { IfOk result (λ f. (s : Sight) → HasSeen (tree_of self.now) draft.now s → IsWhole (tree_of self.now) s
             → AreOfTask (tree_of self.now) s f.0 f.1.entries) }
     {
-        self.has_windows();
-        begun_stay();
-        closed_within_begun();
-        ends_begin_none();
-        no_rows_no_part();
-        rows_span();
+        let _plan = &self.plan;
         let back = &draft.back;
         let rows = &draft.rows;
         let before = draft.before;

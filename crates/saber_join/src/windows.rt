@@ -16,7 +16,6 @@ use crate::pairs::Pairs;
 use crate::seen::Seen;
 use crate::ties::Tie;
 use saber_flat::{RowRef, Rows};
-use saber_laws::{no_rows_no_part, rows_span, windows_get_pairs};
 use saber_plan::{Mark, NoMemory};
 use saber_window::Lately;
 use std::alloc::Global;
@@ -130,10 +129,7 @@ impl Join<'_> {
         ensures windows { IfOk result (λ r. HoldsOpen (tree_of self.now) after.now before.now back.now rows.now (seen_parts r.0.entries)) }
         ensures last { IfOk result (λ r. r.1 ≡ mark_after after.now rows.now) }
     {
-        self.has_windows();
-        no_rows_no_part();
-        rows_span();
-        windows_get_pairs();
+        let _plan = &self.plan;
         let mut contents = HeldRows::new(alloc, rows.len() / 2 + rows.len() / 4)?;
         let closed = self.closed_below(after);
         let tie = self.tie();

@@ -1,8 +1,11 @@
-use Rattle.std.proofs.Common.{◌≡◌, ◌<◌, ◌+◌, ◌-◌, ◌/◌, length, get_or, sym, ◌∙◌, refl, arith}
+use Rattle.std.proofs.Common.{◌≡◌, subst, ◌<◌, ◌+◌, ◌-◌, ◌/◌, length, get_or, sym, ◌∙◌, refl, arith}
 use Rattle.std.proofs.lemmas.Option.{get_or_from_slice_get}
+use Rattle.saber_plan.specs.declared.plans.Plan.{Plan}
 use Rattle.saber_plan.specs.Trees.{tree_of}
 use Rattle.saber_plan.specs.Answers.{frame}
+use Rattle.saber_plan.specs.Checked.{IsChecked}
 use Rattle.saber_plan.specs.Facts.Rows.{left_small, right_small}
+use Rattle.saber_laws.proofs.CheckedLaws.{checked_fits as checked_fit}
 use Rattle.saber_join.proofs.Passing.{none_of_none, none_below}
 use Rattle.saber_join.proofs.join.Join.passed_over.Goals as goal
 
@@ -36,5 +39,5 @@ loop-low-preserved c =
     record {
       order = omega (arith, test);
       within = h.within;
-      none = none_below c.begun_stay.ensures (frame q) (c.goes_by_time.ensures c.if-not-goes_by_time.false) c.has_windows.ensures.fits c.args.closed m m rows middle r below at c.requires.fits.ordered (sym c.reaches.ensures ∙ c.if-reaches.false);
+      none = none_below (frame q) (c.goes_by_time.ensures c.if-not-goes_by_time.false) (checked_fit q (subst (λ (p : Plan). IsChecked (tree_of p)) c.self.view_is c.self.invariant.0)) c.args.closed m m rows middle r below at c.requires.fits.ordered (sym c.reaches.ensures ∙ c.if-reaches.false);
     }

@@ -3,14 +3,18 @@ use Rattle.std.proofs.lemmas.Option.{get_or_from_slice_get}
 use Rattle.std.proofs.lemmas.List.{take_more, take_all}
 use Rattle.saber_plan.specs.declared.rows.Side.TheVariants as sides
 use Rattle.saber_plan.specs.declared.windows.Mark.{Mark}
+use Rattle.saber_plan.specs.declared.plans.Plan.{Plan}
+use Rattle.saber_plan.specs.declared.plans.Shape.TheVariants.{Join}
 use Rattle.saber_plan.specs.Trees.{tree_of}
 use Rattle.saber_plan.specs.Windows.{step_mark, mark_after, placed_after, closed_count}
 use Rattle.saber_plan.specs.Answers.{frame}
+use Rattle.saber_plan.specs.Checked.{IsChecked}
 use Rattle.saber_plan.specs.GivenRows.{RowsFit}
 use Rattle.saber_plan.specs.Facts.Rows.{left_small, right_small, mark_more, mark-append, row_at, fits_front, fits_back}
 use Rattle.saber_join.specs.Rows.{AllOn}
 use Rattle.saber_join.specs.Keeping.{lefts_of, rights_of}
 use Rattle.saber_join.specs.Open.{seen_parts, Takes, HoldsTask}
+use Rattle.saber_laws.proofs.CheckedLaws.{checked_fits as checked_fit}
 use Rattle.saber_join.proofs.Holding.{behind, lefts_push, rights_push, lefts_on, rights_on, fits_so_far}
 use Rattle.saber_join.proofs.Task.{HasParts, none_yet, row_taken, task_held}
 use Rattle.saber_join.proofs.join.Join.windows_of.Goals as goal
@@ -33,7 +37,7 @@ loop-i-init c =
       lefts = noted.lefts ∙ ap (λ l. l ++ lefts_of f t n (placed_after b back)) c.in_ok-contents.ensures.lefts ∙ ap (λ l. lefts_of f t n (placed_after b l)) (sym (append-nil back));
       rights = noted.rights ∙ ap (λ l. l ++ rights_of f t n (placed_after b back)) c.in_ok-contents.ensures.rights ∙ ap (λ l. rights_of f t n (placed_after b l)) (sym (append-nil back));
       parts = subst (λ l. HasParts q n (b.left + b.right + length back) b l (seen_parts c.note_rows.new.contents.windows.entries)) (sym (append-nil back))
-          (none_yet c.no_rows_no_part.ensures q n b back c.note_rows.new.contents.windows.entries (noted.windows ∙ c.in_ok-contents.ensures.windows));
+          (none_yet q n b back c.note_rows.new.contents.windows.entries (noted.windows ∙ c.in_ok-contents.ensures.windows));
     }
 
 pub take_row-requires-clause-left : goal.take_row-requires-clause-left
@@ -124,7 +128,7 @@ loop-i-preserved c =
       lefts = lefts_push f t n b xs (back ++ take (k + 1) rows) r mark is more [] c.loop-i.contents.lefts c.take_row.new.contents.lefts h.lefts took.lefts;
       rights = rights_push f t n b xs (back ++ take (k + 1) rows) r mark is more [] c.loop-i.contents.rights c.take_row.new.contents.rights h.rights took.rights;
       parts = subst (λ l. HasParts q n (b.left + b.right + length back) b l w) (sym more)
-          (row_taken c.rows_span.ensures c.windows_get_pairs.ensures q c.has_windows.ensures.fits t c.tie-tie.ensures n (b.left + b.right + length back) b xs r late m w takes h.parts);
+          (row_taken q (checked_fit q (subst (λ (p : Plan). IsChecked (tree_of p)) c.self.view_is c.self.invariant.0)) t c.tie-tie.ensures n (b.left + b.right + length back) b xs r late m w takes h.parts);
     }
 
 pub returns-clause-windows : goal.returns-clause-windows
@@ -139,4 +143,4 @@ returns-clause-windows c =
     let all : take k rows ≡ rows = take_all k rows (omega (arith, c.loop-i-test.false)) in
     subst (λ es. HoldsTask q (closed_count (frame q) c.args.after.now) b back rows (seen_parts es)) (sym c.into_windows.ensures)
     (subst (λ n. HoldsTask q n b back rows m) c.closed_below-closed.ensures
-    (task_held q n b back rows m c.has_windows.ensures.join (subst (λ l. HasParts q n (b.left + b.right + length back) b (back ++ l) m) all c.loop-i.invariant.parts)))
+    (task_held q n b back rows m (subst (λ (p : Plan). (tree_of p).shape ≡ Join) c.self.view_is c.self.invariant.1) (subst (λ l. HasParts q n (b.left + b.right + length back) b (back ++ l) m) all c.loop-i.invariant.parts)))

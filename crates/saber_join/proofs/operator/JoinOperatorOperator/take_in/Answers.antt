@@ -8,6 +8,8 @@ use Rattle.saber_plan.specs.Facts.Kept.{alike_added, alike_kept, alike_parts}
 use Rattle.saber_fragment.specs.Shown.{shares_of}
 use Rattle.saber_fragment.specs.Stores.{Continues}
 use Rattle.saber_parts.specs.Stored.{held_by, remainder_by}
+use Rattle.saber_laws.proofs.StepLaws.{open_step as open_goes_on, pieces_print}
+use Rattle.saber_laws.proofs.SharesLaws.{make_piece as shares_make_piece}
 use Rattle.saber_join.proofs.operator.JoinOperatorOperator.take_in.Goals as goal
 
 pub take_in-requires : goal.take_in-requires
@@ -41,8 +43,8 @@ returns-clause-text c r x y f =
     subst (λ p. c.take_in.new.out.items ≡ c.args.out.now.items ++ written_by (tree_of p) contents (piece_in s)) c.self.view_is c.in_ok-take_in.ensures.text
     ∙ ap (λ s. c.args.out.now.items ++ written_by q contents (piece_in s)) f.of_is
     ∙ ap (λ l. c.args.out.now.items ++ l) (
-    (λ j. written_by q (kept j) (c.shares_make_piece.ensures q r x y (record { fits = f.windows; ordered = f.fits.ordered; rises = f.rises }) j))
-    ∙ sym (alike_added q w r x y ∙ c.pieces_print.ensures q f.windows r x y f.fits.ordered f.rises))
+    (λ j. written_by q (kept j) (shares_make_piece q r x y (record { fits = f.windows; ordered = f.fits.ordered; rises = f.rises }) j))
+    ∙ sym (alike_added q w r x y ∙ pieces_print q f.windows r x y f.fits.ordered f.rises))
 
 pub returns-clause-stays : goal.returns-clause-stays
 returns-clause-stays c r x y f =
@@ -54,6 +56,6 @@ returns-clause-stays c r x y f =
     ap by_windows (
     subst (λ p. remainder_by (λ part. part) c.take_in.new.self ≡ left_by (tree_of p) contents (piece_in s)) c.self.view_is c.in_ok-take_in.ensures.stays
     ∙ ap (λ s. left_by q contents (piece_in s)) f.of_is
-    ∙ (λ j. left_by q (kept j) (c.shares_make_piece.ensures q r x y (record { fits = f.windows; ordered = f.fits.ordered; rises = f.rises }) j))
-    ∙ sym (c.open_goes_on.ensures q f.windows r x y f.fits.ordered f.rises))
+    ∙ (λ j. left_by q (kept j) (shares_make_piece q r x y (record { fits = f.windows; ordered = f.fits.ordered; rises = f.rises }) j))
+    ∙ sym (open_goes_on q f.windows r x y f.fits.ordered f.rises))
     ∙ sym (alike_kept q w (first_arrivals r y))
