@@ -16,9 +16,11 @@ use Rattle.saber_plan.specs.Answers.{Answers, window_answers, before_window, fra
 use Rattle.saber_plan.specs.Parts.{Part, Numbers, part, part_answers, group_answer, merge}
 use Rattle.saber_plan.specs.Tasks.{Parts, unclosed, closed_at, last_answers}
 use Rattle.saber_plan.specs.Shares.{Shares, full, entries_in, handed_between}
-use Rattle.saber_laws.specs.Shares.{Between, OpenPartsAre}
-use Rattle.saber_laws.specs.Marks.{ClosedRise}
-use Rattle.saber_laws.specs.Words.{AnswersAreOfParts, LastAnswersStay, HandedRise, HandedPartsAre, HandedIsTakenIn, OpenBehind}
+use Rattle.saber_laws.specs.Shares.{Between}
+use Rattle.saber_laws.proofs.OpenLaws.{open_parts}
+use Rattle.saber_laws.proofs.EndLaws.{closed_rises}
+use Rattle.saber_laws.proofs.WordLaws.{of_parts, kept_stay}
+use Rattle.saber_laws.proofs.HandedLaws.{handed_rise, handed_parts, taken_handed, open_behind}
 use Rattle.saber_changes.specs.declared.cancel.Change.{Change}
 use Rattle.saber_changes.specs.declared.walk.Walk.{Walk}
 use Rattle.saber_changes.specs.Walks.{Stands, Walks, changes_from}
@@ -120,22 +122,12 @@ later_case : (b c : Bool) (o : Option Part) → (b ≡ true → c ≡ true) → 
 later_case true c o h = ap (λ t. cond t o None) (h refl)
 later_case false c o h = refl
 
-pub record Laws : Type 0 where
-  pub answers : AnswersAreOfParts
-  pub stay : LastAnswersStay
-  pub rise : HandedRise
-  pub parts : HandedPartsAre
-  pub taken : HandedIsTakenIn
-  pub behind : OpenBehind
-  pub opens : OpenPartsAre
-  pub closes : ClosedRise
-
-module _ (laws : Laws) (q : Tree) (m : Parts) (w : Walk) (s : Shares) (r : Input) (x y : ℕ) (h : Hands q m w s r x y) where
+module _ (q : Tree) (m : Parts) (w : Walk) (s : Shares) (r : Input) (x y : ℕ) (h : Hands q m w s r x y) where
   between : Between q r x y
   between = record { fits = h.windows; ordered = h.fits.ordered; rises = h.rises }
 
   pub rising : T (is_sorted nat_cmp (entries_in s))
-  rising = subst (λ t. T (is_sorted nat_cmp (entries_in t))) (sym h.handed_is) (laws.rise q r x y between)
+  rising = subst (λ t. T (is_sorted nat_cmp (entries_in t))) (sym h.handed_is) (handed_rise q r x y between)
 
   pub can : CanTakeIn q m (from_entries (entries_in s))
   can = record {
@@ -148,8 +140,8 @@ module _ (laws : Laws) (q : Tree) (m : Parts) (w : Walk) (s : Shares) (r : Input
       fits = h.fits;
       rises = omega arith;
       rises_on = h.rises;
-      first = laws.opens q r x y between i a (sym (ap (λ (n : Parts). get n i) h.unclosed_is) ∙ f);
-      second = laws.parts q r x y between i b (sym (ap (λ t. get (from_entries {R = nat_cmp} (entries_in t)) i) h.handed_is) ∙ g);
+      first = open_parts q r x y between i a (sym (ap (λ (n : Parts). get n i) h.unclosed_is) ∙ f);
+      second = handed_parts q r x y between i b (sym (ap (λ t. get (from_entries {R = nat_cmp} (entries_in t)) i) h.handed_is) ∙ g);
     };
   }
 
@@ -160,7 +152,7 @@ module _ (laws : Laws) (q : Tree) (m : Parts) (w : Walk) (s : Shares) (r : Input
   whole i = part q i r.rows 0 y
 
   merged_at : (i : ℕ) → get merged i ≡ cond (nat_le (closed_at q r x) i) (full (whole i)) None
-  merged_at i = (λ j. get (both merge (h.unclosed_is j) (from_entries {R = nat_cmp} (entries_in (h.handed_is j)))) i) ∙ laws.taken q r x y between i
+  merged_at i = (λ j. get (both merge (h.unclosed_is j) (from_entries {R = nat_cmp} (entries_in (h.handed_is j)))) i) ∙ taken_handed q r x y between i
 
   closed_is : s.closed ≡ closed_at q r y
   unfolding handed_between
@@ -177,7 +169,7 @@ module _ (laws : Laws) (q : Tree) (m : Parts) (w : Walk) (s : Shares) (r : Input
       ∙ ap (λ o. cond (nat_lt i s.closed) o None) (merged_at i)
 
   order : w.next ≤ s.closed
-  order = let low = laws.closes (frame q) h.windows r x y h.fits.ordered h.rises in let next = h.next_is in let past = closed_is in omega (arith, low, next, past)
+  order = let low = closed_rises (frame q) h.windows r x y h.fits.ordered h.rises in let next = h.next_is in let past = closed_is in omega (arith, low, next, past)
 
   pub closed_rise_on : Rises w.next s.closed (entries below)
   closed_rise_on = rise_from w.next s.closed (entries below) order (entries_sorted below)
@@ -192,21 +184,21 @@ module _ (laws : Laws) (q : Tree) (m : Parts) (w : Walk) (s : Shares) (r : Input
   at i = window_answers q i (take y r.rows)
 
   pub stands : Stands at w
-  stands = h.last_is ∙ sym (laws.stay q h.windows r x y h.fits.ordered h.rises) ∙ ap (before_window at) (sym h.next_is)
+  stands = h.last_is ∙ sym (kept_stay q h.windows r x y h.fits.ordered h.rises) ∙ ap (before_window at) (sym h.next_is)
 
   pub told : Tells q at w.next s.closed (entries below)
-  told = tells q at whole (λ i. laws.answers q i r.rows y) s.closed (entries below) w.next closed_rise_on (λ i l u.
+  told = tells q at whole (λ i. of_parts q i r.rows y) s.closed (entries below) w.next closed_rise_on (λ i l u.
       let next = h.next_is in
       found i ∙ ap (λ b. cond b (cond (nat_le first i) (full (whole i)) None) None) (is_below i s.closed u) ∙ ap (λ b. cond b (full (whole i)) None) (is_from first i (omega (arith, l, next))))
 
   open_at : (i : ℕ) → get (retain_keys merged (λ i. nat_le s.closed i)) i ≡ get (unclosed q (first_arrivals r y)) i
   open_at i =
-      let low = laws.closes (frame q) h.windows r x y h.fits.ordered h.rises in
+      let low = closed_rises (frame q) h.windows r x y h.fits.ordered h.rises in
       get-retain_keys merged (λ i. nat_le s.closed i) i (λ k e. ap (nat_le s.closed) (sym (nat_cmp-IsAntisymmetric i k e)))
       ∙ ap (λ o. cond (nat_le s.closed i) o None) (merged_at i)
       ∙ ap (λ c. cond (nat_le c i) (cond (nat_le first i) (full (whole i)) None) None) closed_is
       ∙ later_case (nat_le (closed_at q r y) i) (nat_le first i) (full (whole i)) (λ t. let high = from_is (closed_at q r y) i t in is_from first i (omega (arith, low, high)))
-      ∙ sym (laws.behind q h.windows r y i h.fits.ordered)
+      ∙ sym (open_behind q h.windows r y i h.fits.ordered)
 
   -- all that comes of it
   pub handed : (change : Change) (new : Walk) (left : Parts) (before after : List ℕ) → left ≡ retain_keys merged (λ i. nat_le s.closed i) → new.next ≡ s.closed

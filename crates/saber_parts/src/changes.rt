@@ -12,10 +12,6 @@ use crate::Assembles;
 use crate::store::{joined, take_in};
 use saber_changes::{Change, Walk};
 use saber_fragment::Piece;
-use saber_laws::{
-    answers_are_of_parts, closed_rise, handed_is_taken_in, handed_parts_are, handed_rise,
-    last_answers_stay, open_behind, open_parts_are,
-};
 use saber_plan::NoMemory;
 use std::alloc::Global;
 use std::collections::BTreeMap;
@@ -61,14 +57,6 @@ pub(crate) fn settle_changes<A: Assembles>(
         → Handed change (A.plan by.now) (parts_from A.shown walk.new.next store.new.entries) walk.new out.old.items out.new.items r x y) }
     ensures behind { Behind out.old.items out.new.items }
 {
-    answers_are_of_parts();
-    closed_rise();
-    handed_is_taken_in();
-    handed_parts_are();
-    handed_rise();
-    last_answers_stay();
-    open_behind();
-    open_parts_are();
     let closed_below = piece.closed_below;
     let parts = joined(piece.closing, piece.pending, piece.opening)?;
     take_in(by, store, parts)?;

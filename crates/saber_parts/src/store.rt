@@ -11,7 +11,6 @@ ghost use Rattle.saber_fragment.specs.Stores.{Continues};
 
 use crate::Assembles;
 use saber_fragment::{Parts, Piece};
-use saber_laws::{open_parts_are, piece_parts_are, shares_make_piece, shares_rise};
 use saber_plan::NoMemory;
 use std::alloc::Global;
 use std::collections::BTreeMap;
@@ -80,10 +79,6 @@ pub(crate) fn settle<A: Assembles>(
     ensures text { OnOk result (out.new.items ≡ out.old.items ++ written_of A.shown (A.plan by.now) store.old.entries piece) }
     ensures behind { Behind out.old.items out.new.items }
 {
-    shares_make_piece();
-    shares_rise();
-    open_parts_are();
-    piece_parts_are();
     let closed_below = piece.closed_below;
     let lines = piece.complete_text;
     let parts = joined(piece.closing, piece.pending, piece.opening)?;

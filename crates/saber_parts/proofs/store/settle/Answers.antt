@@ -11,7 +11,7 @@ pub take_in-requires-clause-rising : goal.take_in-requires-clause-rising
 take_in-requires-clause-rising g c =
     let shown = g.A.Assembles.shown in
     let s = shares_of shown c.args.piece in
-    subst (λ l. T (is_sorted nat_cmp l)) (sym (shown_joined shown c.args.piece c.in_ok-parts.parts.items c.in_ok-parts.ensures)) (rising_now c.shares_rise.ensures (g.A.Assembles.plan c.args.by.now) (parts_by shown c.args.store.now.entries) s c.requires)
+    subst (λ l. T (is_sorted nat_cmp l)) (sym (shown_joined shown c.args.piece c.in_ok-parts.parts.items c.in_ok-parts.ensures)) (rising_now (g.A.Assembles.plan c.args.by.now) (parts_by shown c.args.store.now.entries) s c.requires)
 
 pub take_in-requires-clause-fits : goal.take_in-requires-clause-fits
 take_in-requires-clause-fits g c =
@@ -19,7 +19,7 @@ take_in-requires-clause-fits g c =
     let q = g.A.Assembles.plan c.args.by.now in
     let m = parts_by shown c.args.store.now.entries in
     let s = shares_of shown c.args.piece in
-    subst (λ l. CanTakeIn q m (from_entries {R = nat_cmp} l)) (sym (shown_joined shown c.args.piece c.in_ok-parts.parts.items c.in_ok-parts.ensures)) (can_take_in c.shares_make_piece.ensures c.open_parts_are.ensures c.piece_parts_are.ensures q m s c.requires)
+    subst (λ l. CanTakeIn q m (from_entries {R = nat_cmp} l)) (sym (shown_joined shown c.args.piece c.in_ok-parts.parts.items c.in_ok-parts.ensures)) (can_take_in q m s c.requires)
 
 pub returns-clause-taken : goal.returns-clause-taken
 returns-clause-taken g c =
