@@ -229,6 +229,7 @@ pub(crate) fn put_note<N: Sink>(notes: &mut N, text: &[u8]) -> Noted
     ensures cause { result ≡ Noted.Failed → Rose (N.faults notes.old) (N.faults notes.new) }
     ensures good { result ≢ Noted.Failed → N.faults notes.new ≡ N.faults notes.old }
     ensures one { result ≢ Noted.NoMemory → N.writes notes.new ≡ raised_count (N.writes notes.old) }
+    ensures none { result ≡ Noted.NoMemory → N.writes notes.new ≡ N.writes notes.old }
     ensures count { N.faults notes.old ≤ N.faults notes.new }
 {
     match notes.write_all(text) {
@@ -258,6 +259,8 @@ pub fn write_note<N: Sink>(notes: &mut N, outcome: Outcome) -> Noted
     ensures memory { result ≡ Noted.NoMemory → N.written notes.new ≡ N.written notes.old }
     ensures cause { result ≡ Noted.Failed → Rose (N.faults notes.old) (N.faults notes.new) }
     ensures good { result ≢ Noted.Failed → N.faults notes.new ≡ N.faults notes.old }
+    ensures one { outcome ≢ Outcome.Done → result ≢ Noted.NoMemory → N.writes notes.new ≡ raised_count (N.writes notes.old) }
+    ensures none { result ≡ Noted.NoMemory → N.writes notes.new ≡ N.writes notes.old }
     ensures count { N.faults notes.old ≤ N.faults notes.new }
 {
     if outcome == Outcome::Done {
