@@ -15,6 +15,7 @@ pub(crate) fn sizes_of(run: &Run<'_>) -> Sizes
     ensures ring { result.ring ≡ run.now.ring }
     ensures limits { limits_of result ≡ asked_limits (asked_run run.now) }
     ensures flush { result.flush ≡ run.now.flush }
+    ensures threads { result.threads ≡ run.now.threads }
     ensures fit { SizesFit result }
 {
     Sizes {

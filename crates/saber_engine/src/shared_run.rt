@@ -35,6 +35,7 @@ fn sizes_for(sizes: &Sizes, count: usize) -> Sizes
     requires threads { count * sizes.now.threads ≤ 64 }
     ensures task { result.task ≡ sizes.now.task }
     ensures ring { (0 < result.ring) × (result.ring ≤ 1024) }
+    ensures threads { result.threads ≡ count * sizes.now.threads }
 {
     let threads = (count * sizes.threads as usize) as u32;
     Sizes {
