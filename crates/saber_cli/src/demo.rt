@@ -35,6 +35,8 @@ struct Answer {
 fn demo_sizes(command: &Demo) -> Sizes
     requires { IsSized (asked_command (Command.Demo command.now)) }
     ensures task { result.task ≡ command.now.task }
+    ensures ring { result.ring ≡ command.now.ring }
+    ensures threads { result.threads ≡ command.now.threads }
     ensures lines { result.max_lines ≡ 2 ^ 40 }
     ensures slack { result.slack ≡ 0 }
     ensures flush { result.flush ≡ false }
