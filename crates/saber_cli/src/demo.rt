@@ -1,6 +1,6 @@
 // The command `demo`: a run over generated rows, and the summary of its answer.
 ghost use Rattle.std.specs.Prelude.{◌≡◌, ◌≢◌, ◌≤◌, ◌^◌, ◌↔◌, false, IsTrue};
-ghost use Rattle.saber_plan.specs.Outputs.{Rose};
+ghost use Rattle.saber_plan.specs.Outputs.{raised_count, Rose};
 ghost use Rattle.saber_plan.specs.Sizes.{SizesFit};
 ghost use Rattle.saber_words.specs.declared.commands.Command.{Command};
 ghost use Rattle.saber_words.specs.Commands.{asked_command, IsSized};
@@ -127,6 +127,8 @@ fn tell<K: Sink>(alloc: Global, command: &Demo, answer: Answer, sink: K) -> Ran<
     ensures told { TellsRun (asked_demo command.now) result.outcome result.tasks (K.written sink) (K.written result.sink) }
     ensures write { result.outcome ≡ Outcome.WriteFault → Rose (K.faults sink) (K.faults result.sink) }
     ensures write_good { result.outcome ≢ Outcome.WriteFault → K.faults result.sink ≡ K.faults sink }
+    ensures one { result.outcome ≡ Outcome.Done → K.writes result.sink ≡ raised_count (K.writes sink) }
+    ensures one_cut { result.outcome ≡ Outcome.WriteFault → K.writes result.sink ≡ raised_count (K.writes sink) }
 {
     let Answer {
         text: answered,
@@ -154,6 +156,8 @@ pub(crate) fn demo_command<K: Sink, G: Gate + Sync, R: Threads + Wait + Sync>(
     ensures told { TellsRun (asked_demo command.now) result.outcome result.tasks (K.written sink) (K.written result.sink) }
     ensures write { result.outcome ≡ Outcome.WriteFault → Rose (K.faults sink) (K.faults result.sink) }
     ensures write_good { result.outcome ≢ Outcome.WriteFault → K.faults result.sink ≡ K.faults sink }
+    ensures one { result.outcome ≡ Outcome.Done → K.writes result.sink ≡ raised_count (K.writes sink) }
+    ensures one_cut { result.outcome ≡ Outcome.WriteFault → K.writes result.sink ≡ raised_count (K.writes sink) }
 {
     let answer = run_generated(rt, alloc, command, gate);
     tell(alloc, command, answer, sink)

@@ -1,6 +1,6 @@
 // The command `check`: a query's own text.
 ghost use Rattle.std.specs.Prelude.{◌≡◌, ◌≢◌, ℕ, List, [], ◌∷◌, ◌++◌, IfOk, IfErr, OnOk};
-ghost use Rattle.saber_plan.specs.Outputs.{Rose, appended_text};
+ghost use Rattle.saber_plan.specs.Outputs.{raised_count, Rose, appended_text};
 ghost use Rattle.saber_query.specs.Parsed.{IsParsed};
 ghost use Rattle.saber_query.specs.Trees.{query_of};
 ghost use Rattle.saber_query.specs.Words.{words};
@@ -87,6 +87,8 @@ pub(crate) fn put_text<K: Sink>(alloc: Global, text: &[u8], sink: K) -> Ran<K>
     ensures kinds { IsOfShow result.outcome }
     ensures write { result.outcome ≡ Outcome.WriteFault → Rose (K.faults sink) (K.faults result.sink) }
     ensures write_good { result.outcome ≢ Outcome.WriteFault → K.faults result.sink ≡ K.faults sink }
+    ensures one { result.outcome ≡ Outcome.Done → K.writes result.sink ≡ raised_count (K.writes sink) }
+    ensures one_cut { result.outcome ≡ Outcome.WriteFault → K.writes result.sink ≡ raised_count (K.writes sink) }
 {
     let out = match shown(alloc, text) {
         Ok(out) => out,

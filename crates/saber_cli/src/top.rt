@@ -1,6 +1,6 @@
 // The top call.
 ghost use Rattle.std.specs.Prelude.{◌≡◌, ◌≢◌, ◌≤◌, ℕ, List, None, Some, map};
-ghost use Rattle.saber_plan.specs.Outputs.{Rose, appended_text, AppendsPrefix};
+ghost use Rattle.saber_plan.specs.Outputs.{Rose, appended_text, raised_count, AppendsPrefix};
 ghost use Rattle.saber_words.specs.Commands.{chain, command_of};
 ghost use Rattle.saber_words.specs.Chain.{AskedChain};
 ghost use Rattle.saber_notes.specs.Notes.{status_of, note_of};
@@ -110,6 +110,8 @@ where
     ensures memory { result.noted ≡ Noted.NoMemory → N.written notes.new ≡ N.written notes.old }
     ensures note { result.noted ≡ Noted.Failed → Rose (N.faults notes.old) (N.faults notes.new) }
     ensures note_good { result.noted ≢ Noted.Failed → N.faults notes.new ≡ N.faults notes.old }
+    ensures one { result.outcome ≢ Outcome.Done → result.noted ≢ Noted.NoMemory → N.writes notes.new ≡ raised_count (N.writes notes.old) }
+    ensures none { result.noted ≡ Noted.NoMemory → N.writes notes.new ≡ N.writes notes.old }
 {
     let Ran {
         outcome,
