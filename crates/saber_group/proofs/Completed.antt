@@ -14,10 +14,6 @@ use Rattle.saber_plan.specs.Facts.Rows.{mark-append, fits_front, fits_back}
 use Rattle.saber_plan.specs.Facts.Numbers.{flat_map-from}
 use Rattle.saber_fragment.specs.declared.blocks.Earlier.{Earlier}
 use Rattle.saber_fragment.specs.Drafts.{EndWith}
-use Rattle.saber_laws.specs.Groups.{GroupsJoin}
-use Rattle.saber_laws.specs.Parts.{MergeHasUnit, MergeIsAssociative, PartsLieWithin}
-use Rattle.saber_laws.specs.Windows.{BegunAreCounted, ClosedStay}
-use Rattle.saber_laws.specs.Marks.{EndsCloseMore}
 use Rattle.saber_partial.specs.PartLaws.{OfRows}
 use Rattle.saber_sliding.specs.Entries.{Entries}
 use Rattle.saber_sliding.specs.EntryFacts.{all_map}
@@ -29,6 +25,8 @@ use Rattle.saber_group.specs.SliceStores.{GoesOn, WentOn}
 use Rattle.saber_group.proofs.Completing.{closed_within}
 use Rattle.saber_group.proofs.Lasting.{few_more, none_begun_have}
 use Rattle.saber_group.proofs.SlicesTaken.{lifted, no_more, no_row, part_behind, long_both}
+use Rattle.saber_laws.proofs.WindowLaws.{closed_count_ending as ends_close_more}
+use Rattle.saber_plan.specs.Facts.Parts.{merge-empty_left}
 
 -- ---- how many steps they take
 
@@ -70,26 +68,26 @@ module _ (q : Tree) (m : Mark) (rows : List Row) where
   -- ---- the slices, as a store takes them in
 
   -- all windows before a slice's first are closed by the rows
-  pub firsts_low : ClosedStay → Fits (frame q) → RowsFit q m rows → (n : ℕ) → closed_by q m rows ≤ n → (x : ℕ) (rs : List Slice) (y : ℕ) → SlicesTo q m rows x rs y → AllByRecursion (λ (r : Slice). r.first ≤ n) rs
-  firsts_low stay fits given n up x [] y h = tt
-  firsts_low stay fits given n up x (r ∷ rs) y h = (le_trans h.0.closes (le_trans (closed_within stay q fits m rows r.end given) up), firsts_low stay fits given n up r.end rs y h.1.1.1)
+  pub firsts_low : Fits (frame q) → RowsFit q m rows → (n : ℕ) → closed_by q m rows ≤ n → (x : ℕ) (rs : List Slice) (y : ℕ) → SlicesTo q m rows x rs y → AllByRecursion (λ (r : Slice). r.first ≤ n) rs
+  firsts_low fits given n up x [] y h = tt
+  firsts_low fits given n up x (r ∷ rs) y h = (le_trans h.0.closes (le_trans (closed_within q fits m rows r.end given) up), firsts_low fits given n up r.end rs y h.1.1.1)
 
 -- ---- behind the rows before a task that its block has
 
 module _ (q : Tree) (e : Earlier) (m : Mark) (rows : List Row) (ended : Bool) (meets : m ≡ mark_after e.before e.rows) where
   -- the queue over those can take the task's slices in
-  pub goes_behind : GroupsJoin → MergeIsAssociative → ClosedStay → EndsCloseMore → Fits (frame q) → RowsFit q e.before (e.rows ++ rows) → (low high next : ℕ) (es : Entries) (rs : List Slice)
+  pub goes_behind : Fits (frame q) → RowsFit q e.before (e.rows ++ rows) → (low high next : ℕ) (es : Entries) (rs : List Slice)
       → low ≤ high → high ≡ closed_count (frame q) (end_mark ended (mark_after m rows)) → next ≡ low → Holds q e.before e.rows low es → SlicesFrom q m rows 0 rs
       → GoesOn q e.before (e.rows ++ rows) (length e.rows) 0 (length rows) next es rs high
-  goes_behind join assoc stay more fits given low high next es rs up most first contents h =
+  goes_behind fits given low high next es rs up most first contents h =
       let a : Mark = mark_after e.before e.rows in
       let own : SlicesFrom q a rows 0 rs = subst (λ z. SlicesFrom q z rows 0 rs) meets h in
-      let closed : closed_by q a rows ≤ high = subst₂ (λ z n. closed_by q z rows ≤ n) meets (sym most) (more (frame q) fits ended (mark_after m rows)) in
+      let closed : closed_by q a rows ≤ high = subst₂ (λ z n. closed_by q z rows ≤ n) meets (sym most) (ends_close_more (frame q) fits ended (mark_after m rows)) in
       record {
         holds = subst₂ (λ l n. Holds q e.before l n es) (sym (no_row q e.before e.rows rows)) (sym first) contents;
         low = subst (λ n. n ≤ high) (sym first) up;
-        slices_are = lifted q e.before e.rows rows join assoc 0 rs (length rows) own;
-        firsts = firsts_low q a rows stay fits (fits_back q e.before e.rows rows given) high closed 0 rs (length rows) own;
+        slices_are = lifted q e.before e.rows rows 0 rs (length rows) own;
+        firsts = firsts_low q a rows fits (fits_back q e.before e.rows rows given) high closed 0 rs (length rows) own;
         settled = no_more q e.before e.rows rows high;
         fits = given;
       }
@@ -103,14 +101,14 @@ module _ (q : Tree) (e : Earlier) (m : Mark) (rows : List Row) (ended : Bool) (m
     front_fits : RowsFit q no_rows end.front
     front_fits = fits_front q no_rows end.front e.rows (subst (RowsFit q no_rows) end.rows_are (fits_front q no_rows old rows given))
 
-    module _ (within : PartsLieWithin) (counted : BegunAreCounted) (join : GroupsJoin) (unit : MergeHasUnit) (shape : q.shape ≡ Group) (fits : Fits (frame q)) where
+    module _ (shape : q.shape ≡ Group) (fits : Fits (frame q)) where
       -- the windows that begin with the rows that the block has, or behind, have no others
       own_part : (i : ℕ) → begun_count (frame q) e.before ≤ i → part_of q i e.before (e.rows ++ rows) ≡ part_of q i no_rows (old ++ rows)
       own_part i l =
-          let none = none_begun_have within counted q shape fits end.front front_fits.ordered i (subst (λ a. begun_count (frame q) a ≤ i) end.before_is l) in
+          let none = none_begun_have q shape fits end.front front_fits.ordered i (subst (λ a. begun_count (frame q) a ≤ i) end.before_is l) in
           let own = part_of q i (mark_of end.front) (e.rows ++ rows) in
           ap (λ a. part_of q i a (e.rows ++ rows)) end.before_is
-          ∙ sym (ap (part_of q i no_rows) all_are ∙ part_behind q no_rows end.front (e.rows ++ rows) join i (e.rows ++ rows) ∙ ap (λ p. merge p own) none ∙ (unit own).0)
+          ∙ sym (ap (part_of q i no_rows) all_are ∙ part_behind q no_rows end.front (e.rows ++ rows) i (e.rows ++ rows) ∙ ap (λ p. merge p own) none ∙ (merge-empty_left own))
 
       own_text : (low high : ℕ) → begun_count (frame q) e.before ≤ low → lines_between q e.before (e.rows ++ rows) low high ≡ lines_between q no_rows (old ++ rows) low high
       own_text low high l =

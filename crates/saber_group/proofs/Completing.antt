@@ -17,9 +17,9 @@ use Rattle.saber_plan.specs.Answers.{frame}
 use Rattle.saber_plan.specs.Needs.{first_window, past_window}
 use Rattle.saber_plan.specs.GivenRows.{IsRowOf, RowsFit}
 use Rattle.saber_plan.specs.Facts.Rows.{mark-append, mark_more, fits_drop, row_at, is_left}
-use Rattle.saber_laws.specs.Windows.{BegunStay, ClosedStay}
 use Rattle.saber_laws.specs.Plans.{OneWindow}
 use Rattle.saber_group.specs.SliceParts.{begun_by, closed_by}
+use Rattle.saber_laws.proofs.WindowLaws.{begun_count_rises as begun_stay, closed_count_rises as closed_stay}
 
 -- ---- the windows of one row
 
@@ -40,18 +40,18 @@ pub past_begun : (q : Tree) → OneWindow q → (m : Mark) (x : Row) → IsRowOf
 past_begun q w m x h = subst (λ f. past_window f (record { row = x; before = m }) ≡ begun_count f (step_mark m x)) (sym w.has_frame) (begins w.window.measure w.window.slide w.window.size m x.side x.values (is_left q w.stream w.streams x h))
 
 -- rows begin no more windows than all of them
-pub begun_within : BegunStay → (q : Tree) → Fits (frame q) → (m : Mark) (xs : List Row) (k : ℕ) → RowsFit q m xs → begun_by q m (take k xs) ≤ begun_by q m xs
-begun_within stay q fits m xs k h =
+pub begun_within : (q : Tree) → Fits (frame q) → (m : Mark) (xs : List Row) (k : ℕ) → RowsFit q m xs → begun_by q m (take k xs) ≤ begun_by q m xs
+begun_within q fits m xs k h =
     subst (λ (n : Mark). begun_by q m (take k xs) ≤ begun_count (frame q) n) (sym (mark-append m (take k xs) (drop k xs)) ∙ ap (mark_after m) (take-append-drop k xs))
-    (stay (frame q) fits (mark_after m (take k xs)) (drop k xs) (fits_drop q m xs k h).ordered)
+    (begun_stay (frame q) fits (mark_after m (take k xs)) (drop k xs) (fits_drop q m xs k h).ordered)
 
 -- no window behind the row's last is begun
-pub past_high : BegunStay → (q : Tree) → OneWindow q → Fits (frame q) → (m : Mark) (xs : List Row) (k : ℕ) (x : Row) (a : Mark) → RowsFit q m xs → k < length xs → x ≡ get_or xs k x → a ≡ mark_after m (take k xs)
+pub past_high : (q : Tree) → OneWindow q → Fits (frame q) → (m : Mark) (xs : List Row) (k : ℕ) (x : Row) (a : Mark) → RowsFit q m xs → k < length xs → x ≡ get_or xs k x → a ≡ mark_after m (take k xs)
     → past_window (frame q) (record { row = x; before = a }) ≤ begun_count (frame q) (mark_after m xs)
-past_high stay q w fits m xs k x a h l e g =
+past_high q w fits m xs k x a h l e g =
     let one = past_begun q w a x (row_at q m xs k x l e h) in
     let next : step_mark a x ≡ mark_after m (take (k + 1) xs) = ap (λ b. step_mark b x) g ∙ sym (mark_more m xs k x l e) in
-    subst (λ n. n ≤ begun_by q m xs) (sym (one ∙ ap (begun_count (frame q)) next)) (begun_within stay q fits m xs (k + 1) h)
+    subst (λ n. n ≤ begun_by q m xs) (sym (one ∙ ap (begun_count (frame q)) next)) (begun_within q fits m xs (k + 1) h)
 
 -- ---- the windows before a row's first are closed by it
 
@@ -93,14 +93,14 @@ firsts measure k n m Right v h e = cc
 first_closed : (q : Tree) (w : OneWindow q) → 1 ≤ w.window.slide → (m : Mark) (x : Row) → IsRowOf q x → first_window (frame q) (record { row = x; before = m }) ≤ closed_count (frame q) (step_mark m x)
 first_closed q w low m x h = subst (λ f. first_window f (record { row = x; before = m }) ≤ closed_count f (step_mark m x)) (sym w.has_frame) (firsts w.window.measure w.window.slide w.window.size m x.side x.values low (is_left q w.stream w.streams x h))
 
-pub closed_within : ClosedStay → (q : Tree) → Fits (frame q) → (m : Mark) (xs : List Row) (k : ℕ) → RowsFit q m xs → closed_by q m (take k xs) ≤ closed_by q m xs
-closed_within stay q fits m xs k h =
+pub closed_within : (q : Tree) → Fits (frame q) → (m : Mark) (xs : List Row) (k : ℕ) → RowsFit q m xs → closed_by q m (take k xs) ≤ closed_by q m xs
+closed_within q fits m xs k h =
     subst (λ (n : Mark). closed_by q m (take k xs) ≤ closed_count (frame q) n) (sym (mark-append m (take k xs) (drop k xs)) ∙ ap (mark_after m) (take-append-drop k xs))
-    (stay (frame q) fits (mark_after m (take k xs)) (drop k xs) (fits_drop q m xs k h).ordered)
+    (closed_stay (frame q) fits (mark_after m (take k xs)) (drop k xs) (fits_drop q m xs k h).ordered)
 
-pub first_low : ClosedStay → (q : Tree) (w : OneWindow q) → 1 ≤ w.window.slide → Fits (frame q) → (m : Mark) (xs : List Row) (k : ℕ) (x : Row) (a : Mark) → RowsFit q m xs → k < length xs → x ≡ get_or xs k x → a ≡ mark_after m (take k xs)
+pub first_low : (q : Tree) (w : OneWindow q) → 1 ≤ w.window.slide → Fits (frame q) → (m : Mark) (xs : List Row) (k : ℕ) (x : Row) (a : Mark) → RowsFit q m xs → k < length xs → x ≡ get_or xs k x → a ≡ mark_after m (take k xs)
     → first_window (frame q) (record { row = x; before = a }) ≤ closed_by q m xs
-first_low stay q w low fits m xs k x a h l e g =
+first_low q w low fits m xs k x a h l e g =
     let next : step_mark a x ≡ mark_after m (take (k + 1) xs) = ap (λ b. step_mark b x) g ∙ sym (mark_more m xs k x l e) in
     le_trans (subst (λ (n : Mark). first_window (frame q) (record { row = x; before = a }) ≤ closed_count (frame q) n) next (first_closed q w low a x (row_at q m xs k x l e h)))
-    (closed_within stay q fits m xs (k + 1) h)
+    (closed_within q fits m xs (k + 1) h)

@@ -8,9 +8,6 @@ use Rattle.saber_plan.specs.Windows.{Fits}
 use Rattle.saber_plan.specs.Answers.{frame}
 use Rattle.saber_plan.specs.GivenRows.{RowsFit}
 use Rattle.saber_plan.specs.Parts.{Part}
-use Rattle.saber_laws.specs.Parts.{MergeHasUnit, NoRowsNoPart}
-use Rattle.saber_laws.specs.Windows.{ClosedStay}
-use Rattle.saber_partial.specs.PartLaws.{SmallPartsMerge}
 use Rattle.saber_sliding.specs.Entries.{Entries, pushed_entries, CanFollow}
 use Rattle.saber_group.specs.declared.slices.Slice.{Slice}
 use Rattle.saber_group.specs.SliceParts.{closed_by, EnteredFrom, Holds}
@@ -35,10 +32,10 @@ pub record Gathered (q : Tree) (m : Mark) (rows : List Row) (low : ℕ) (left : 
   pub few : length es ≤ x
   pub left_are : SlicesFrom q m rows x left
 
-pub gathered_nil : NoRowsNoPart → (q : Tree) (m : Mark) (rows : List Row) (low : ℕ) (slices left : List Slice) (es : Entries) → left ≡ slices → es ≡ [] → SlicesFrom q m rows 0 slices → Gathered q m rows low left es
-gathered_nil none q m rows low slices left es all empty h = record {
+pub gathered_nil : (q : Tree) (m : Mark) (rows : List Row) (low : ℕ) (slices left : List Slice) (es : Entries) → left ≡ slices → es ≡ [] → SlicesFrom q m rows 0 slices → Gathered q m rows low left es
+gathered_nil q m rows low slices left es all empty h = record {
   x = 0;
-  holds = holds_nil none q m low es empty;
+  holds = holds_nil q m low es empty;
   few = let long = ap length empty in omega (arith, long);
   left_are = subst (SlicesFrom q m rows 0) (sym all) h;
 }
@@ -47,14 +44,14 @@ module _ (q : Tree) (m : Mark) (rows : List Row) (low : ℕ) (slice : Slice) (le
   up : g.x ≤ slice.end
   up = let more = g.left_are.1.0 in omega (arith, more)
 
-  pub gathered_can : SmallPartsMerge → CanFollow slice.part es
-  gathered_can small = has_room q m rows g.x slice.end slice.first slice.past slice.part g.left_are.0 low es g.holds small up g.left_are.1.1.0 few
+  pub gathered_can : CanFollow slice.part es
+  gathered_can = has_room q m rows g.x slice.end slice.first slice.past slice.part g.left_are.0 low es g.holds up g.left_are.1.1.0 few
 
-  pub gathered_more : MergeHasUnit → SmallPartsMerge → ClosedStay → Fits (frame q) → RowsFit q m rows → closed_by q m rows ≤ low → (fs : Entries) → EnteredFrom low es slice.past slice.part fs → Gathered q m rows low left fs
-  gathered_more unit small stay fits given closed fs entered = record {
+  pub gathered_more : Fits (frame q) → RowsFit q m rows → closed_by q m rows ≤ low → (fs : Entries) → EnteredFrom low es slice.past slice.part fs → Gathered q m rows low left fs
+  gathered_more fits given closed fs entered = record {
     x = slice.end;
-    holds = holds_from q m rows g.x slice.end slice.first slice.past slice.part g.left_are.0 low es g.holds unit small fs
-        (le_trans g.left_are.0.closes (le_trans (closed_within stay q fits m rows slice.end given) closed)) up g.left_are.1.1.0 few entered;
+    holds = holds_from q m rows g.x slice.end slice.first slice.past slice.part g.left_are.0 low es g.holds fs
+        (le_trans g.left_are.0.closes (le_trans (closed_within q fits m rows slice.end given) closed)) up g.left_are.1.1.0 few entered;
     few = let one = one_more low es slice.past slice.part fs entered in let more = g.left_are.1.0 in let before = g.few in omega (arith, one, more, before);
     left_are = g.left_are.1.1.1;
   }

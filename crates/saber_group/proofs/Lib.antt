@@ -1,3 +1,4 @@
+mod GroupPlans
 pub mod Lasting
 pub mod Opened
 pub mod Completing

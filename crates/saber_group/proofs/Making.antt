@@ -6,15 +6,15 @@ use Rattle.saber_plan.specs.Windows.{no_rows, mark_of, mark_after, end_mark}
 use Rattle.saber_plan.specs.GivenRows.{RowsFit}
 use Rattle.saber_plan.specs.Facts.Rows.{fits_take}
 use Rattle.saber_fragment.specs.Drafts.{Sight, IsSightOf}
-use Rattle.saber_laws.specs.Marks.{MarksFollow}
 use Rattle.saber_group.specs.declared.slice_pieces.SlicePiece.{SlicePiece}
 use Rattle.saber_group.specs.declared.change_pieces.TaskSlices.{TaskSlices}
 use Rattle.saber_group.specs.SlicePieces.{Given, SlicesFrom, IsMade, IsOf}
 use Rattle.saber_group.specs.ChangeStores.{piece_of}
 use Rattle.saber_group.proofs.SliceKeeping.{rows_upto}
+use Rattle.saber_laws.proofs.EndLaws.{mark_on as marks_follow}
 
-pub piece_is_of : MarksFollow → (q : Tree) (s : Sight) (r : Input) (x y : ℕ) (p : SlicePiece) → IsMade q s p → IsSightOf q s r x y → IsOf q r x y p
-piece_is_of follow q s r x y p made sight =
+pub piece_is_of : (q : Tree) (s : Sight) (r : Input) (x y : ℕ) (p : SlicePiece) → IsMade q s p → IsSightOf q s r x y → IsOf q r x y p
+piece_is_of q s r x y p made sight =
     let old = take x r.rows in
     let fits : RowsFit q no_rows (old ++ s.rows) = subst (λ l. RowsFit q no_rows (old ++ l)) (sym sight.rows_are) (subst (RowsFit q no_rows) (sym (rows_upto r.rows x y sight.rises)) (fits_take q no_rows r.rows y sight.fits)) in
     let before : s.before ≡ mark_of old = sight.before_is ∙ ap (λ b. end_mark b (mark_of old)) sight.opens in
@@ -22,7 +22,7 @@ piece_is_of follow q s r x y p made sight =
       opens = sight.opens;
       given = subst (λ b. Given q old (slice_range r.rows x y) b p.slices.items p.complete) sight.ended_is
           (subst (λ l. Given q old l s.ended p.slices.items p.complete) sight.rows_are (made.gives old fits sight.earlier_are before));
-      after_is = made.after_is ∙ (λ j. end_mark (sight.ended_is j) (mark_after (sight.before_is j) (sight.rows_are j))) ∙ sym (follow r x y sight.rises);
+      after_is = made.after_is ∙ (λ j. end_mark (sight.ended_is j) (mark_after (sight.before_is j) (sight.rows_are j))) ∙ sym (marks_follow r x y sight.rises);
     }
 
 -- and so are all its slices, where it answers no window itself

@@ -7,13 +7,14 @@ use Rattle.saber_plan.specs.declared.rows.Row.{Row}
 use Rattle.saber_plan.specs.declared.windows.Mark.{Mark}
 use Rattle.saber_plan.specs.Trees.{Tree}
 use Rattle.saber_plan.specs.Parts.{Part, no_part, merge}
-use Rattle.saber_laws.specs.Parts.{MergeHasUnit, NoRowsNoPart}
 use Rattle.saber_partial.specs.Tallies.{CanMerge}
-use Rattle.saber_partial.specs.PartLaws.{OfRows, SmallPartsMerge}
+use Rattle.saber_partial.specs.PartLaws.{OfRows}
+use Rattle.saber_partial.proofs.Counted.{small_merge, small_stay}
 use Rattle.saber_sliding.specs.Entries.{Entries, whole, pushed_entries, dropped_entries, part_at, CanFollow}
 use Rattle.saber_sliding.specs.EntryFacts.{all_map, all_dropped, all_pushed, part_at-dropped, whole-dropped, part_at-pushed, part_at-behind}
 use Rattle.saber_group.specs.SliceParts.{part_of, begun_by, Entered, EnteredFrom, IsSlice, Holds}
 use Rattle.saber_group.proofs.Lasting.{part_nil, few_more}
+use Rattle.saber_plan.specs.Facts.Parts.{merge-empty_right}
 
 -- ---- windows that are done
 
@@ -33,8 +34,8 @@ whole_is q m rows n es h = whole-dropped n es ∙ sym (h.at n (omega arith))
 
 -- ---- more rows
 
-pub holds_nil : NoRowsNoPart → (q : Tree) (m : Mark) (n : ℕ) (es : Entries) → es ≡ [] → Holds q m [] n es
-holds_nil none q m n es e = subst (Holds q m [] n) (sym e) (record { at = λ i l. sym (part_nil none q i m); begun = tt; few = tt })
+pub holds_nil : (q : Tree) (m : Mark) (n : ℕ) (es : Entries) → es ≡ [] → Holds q m [] n es
+holds_nil q m n es e = subst (Holds q m [] n) (sym e) (record { at = λ i l. sym (part_nil q i m); begun = tt; few = tt })
 
 module _ (q : Tree) (m : Mark) (rows : List Row) (x y first past : ℕ) (p : Part) (slice : IsSlice q m rows x y first past p) (next : ℕ) (es : Entries) (contents : Holds q m (take x rows) next es) where
   abbrev IsBegun : ℕ → ℕ × Part → Type 0
@@ -44,10 +45,10 @@ module _ (q : Tree) (m : Mark) (rows : List Row) (x y first past : ℕ) (p : Par
   IsFew k e = OfRows q (length (take k rows)) e.1
 
   -- the slice can go behind each of them
-  pub has_room : SmallPartsMerge → x ≤ y → y ≤ length rows → length rows ≤ 2 ^ 40 → CanFollow p es
-  has_room small up within few =
+  pub has_room : x ≤ y → y ≤ length rows → length rows ≤ 2 ^ 40 → CanFollow p es
+  has_room up within few =
       let long = length-take-le x rows (omega (arith, up, within)) in
-      all_map (IsFew x) (λ e. CanMerge e.1 p) es (λ e h. (small q (length (take x rows)) (y - x) e.1 p h slice.few (omega (arith, up, within, few, long))).0) contents.few
+      all_map (IsFew x) (λ e. CanMerge e.1 p) es (λ e h. small_merge q (length (take x rows)) (y - x) e.1 p h slice.few (omega (arith, up, within, few, long))) contents.few
 
   ends_low : AllByRecursion (λ (e : ℕ × Part). e.0 ≤ past) es
   ends_low = all_map (IsBegun x) (λ e. e.0 ≤ past) es (λ e h. le_trans h slice.begins) contents.begun
@@ -58,20 +59,20 @@ module _ (q : Tree) (m : Mark) (rows : List Row) (x y first past : ℕ) (p : Par
   begun_more : (e : ℕ × Part) → IsBegun x e → IsBegun y e
   begun_more e h = le_trans h (le_trans slice.begins slice.ends)
 
-  few_both : SmallPartsMerge → x ≤ y → y ≤ length rows → length rows ≤ 2 ^ 40 → (e : ℕ × Part) → IsFew x e → IsFew y (e.0, merge e.1 p)
-  few_both small up within few e h =
+  few_both : x ≤ y → y ≤ length rows → length rows ≤ 2 ^ 40 → (e : ℕ × Part) → IsFew x e → IsFew y (e.0, merge e.1 p)
+  few_both up within few e h =
       let long = length-take-le x rows (omega (arith, up, within)) in
       let longer = length-take-le y rows (omega (arith, within)) in
       let sum : length (take x rows) + (y - x) ≡ length (take y rows) = omega (arith, up, within, long, longer) in
-      subst (λ n. OfRows q n (merge e.1 p)) sum (small q (length (take x rows)) (y - x) e.1 p h slice.few (omega (arith, up, within, few, long))).1
+      subst (λ n. OfRows q n (merge e.1 p)) sum (small_stay q (length (take x rows)) (y - x) e.1 p h slice.few)
 
-  holds_same : MergeHasUnit → first ≤ next → x ≤ y → y ≤ length rows → p ≡ no_part → Holds q m (take y rows) next es
-  holds_same unit low up within none =
+  holds_same : first ≤ next → x ≤ y → y ≤ length rows → p ≡ no_part → Holds q m (take y rows) next es
+  holds_same low up within none =
       let long = length-take-le x rows (omega (arith, up, within)) in
       let longer = length-take-le y rows (omega (arith, within)) in
       record {
         at = λ i l. ⊎_elim
-            (λ h. slice.inside i (le_trans low l) h ∙ (λ j. merge (contents.at i l j) (none j)) ∙ (unit (part_at es i)).1)
+            (λ h. slice.inside i (le_trans low l) h ∙ (λ j. merge (contents.at i l j) (none j)) ∙ (merge-empty_right (part_at es i)))
             (λ h. slice.behind i (le_trans low l) h ∙ contents.at i l)
             (cases_lt i past);
         begun = all_map (IsBegun x) (IsBegun y) es begun_more contents.begun;
@@ -89,24 +90,24 @@ module _ (q : Tree) (m : Mark) (rows : List Row) (x y first past : ℕ) (p : Par
         few = all_map (IsFew x) (IsFew y) es (λ e h. few_more q (length (take x rows)) (length (take y rows)) e.1 (omega (arith, up, long, longer)) h) contents.few;
       }
 
-  holds_pushed : MergeHasUnit → SmallPartsMerge → first ≤ next → x ≤ y → y ≤ length rows → length rows ≤ 2 ^ 40 → Holds q m (take y rows) next (pushed_entries es past p)
-  holds_pushed unit small low up within few =
+  holds_pushed : first ≤ next → x ≤ y → y ≤ length rows → length rows ≤ 2 ^ 40 → Holds q m (take y rows) next (pushed_entries es past p)
+  holds_pushed low up within few =
       let long = length-take-le y rows (omega (arith, within)) in
       let begun = all_pushed (IsBegun x) (IsBegun y) es past p begun_more slice.ends contents.begun in
       record {
         at = λ i l. ⊎_elim
-            (λ h. slice.inside i (le_trans low l) h ∙ ap (λ a. merge a p) (contents.at i l) ∙ sym (part_at-pushed unit es past p i h))
+            (λ h. slice.inside i (le_trans low l) h ∙ ap (λ a. merge a p) (contents.at i l) ∙ sym (part_at-pushed es past p i h))
             (λ h. slice.behind i (le_trans low l) h ∙ contents.at i l ∙ part_at-behind es i (none_behind i h)
             ∙ sym (part_at-behind (pushed_entries es past p) i (all_pushed (λ e. e.0 ≤ past) (λ e. e.0 ≤ i) es past p (λ e g. le_trans g h) h ends_low)))
             (cases_lt i past);
         begun = begun;
-        few = all_pushed (IsFew x) (IsFew y) es past p (few_both small up within few) (few_more q (y - x) (length (take y rows)) p (omega (arith, up, long)) slice.few) contents.few;
+        few = all_pushed (IsFew x) (IsFew y) es past p (few_both up within few) (few_more q (y - x) (length (take y rows)) p (omega (arith, up, long)) slice.few) contents.few;
       }
 
-  pub holds_more : MergeHasUnit → SmallPartsMerge → (fs : Entries) (new : ℕ) → new ≡ next → first ≤ next → x ≤ y → y ≤ length rows → length rows ≤ 2 ^ 40 → Entered es past p fs → Holds q m (take y rows) new fs
-  holds_more unit small fs new same low up within few (inl e) = subst (λ n. Holds q m (take y rows) n fs) (sym same) (subst (Holds q m (take y rows) next) (sym e.1) (holds_same unit low up within e.0))
-  holds_more unit small fs new same low up within few (inr e) = subst (λ n. Holds q m (take y rows) n fs) (sym same) (subst (Holds q m (take y rows) next) (sym e) (holds_pushed unit small low up within few))
+  pub holds_more : (fs : Entries) (new : ℕ) → new ≡ next → first ≤ next → x ≤ y → y ≤ length rows → length rows ≤ 2 ^ 40 → Entered es past p fs → Holds q m (take y rows) new fs
+  holds_more fs new same low up within few (inl e) = subst (λ n. Holds q m (take y rows) n fs) (sym same) (subst (Holds q m (take y rows) next) (sym e.1) (holds_same low up within e.0))
+  holds_more fs new same low up within few (inr e) = subst (λ n. Holds q m (take y rows) n fs) (sym same) (subst (Holds q m (take y rows) next) (sym e) (holds_pushed low up within few))
 
-  pub holds_from : MergeHasUnit → SmallPartsMerge → (fs : Entries) → first ≤ next → x ≤ y → y ≤ length rows → length rows ≤ 2 ^ 40 → EnteredFrom next es past p fs → Holds q m (take y rows) next fs
-  holds_from unit small fs low up within few (inl e) = subst (Holds q m (take y rows) next) (sym e.1) (holds_past e.0 up within)
-  holds_from unit small fs low up within few (inr e) = holds_more unit small fs next refl low up within few e
+  pub holds_from : (fs : Entries) → first ≤ next → x ≤ y → y ≤ length rows → length rows ≤ 2 ^ 40 → EnteredFrom next es past p fs → Holds q m (take y rows) next fs
+  holds_from fs low up within few (inl e) = subst (Holds q m (take y rows) next) (sym e.1) (holds_past e.0 up within)
+  holds_from fs low up within few (inr e) = holds_more fs next refl low up within few e

@@ -6,9 +6,6 @@ use Rattle.saber_plan.specs.Trees.{Tree}
 use Rattle.saber_plan.specs.Windows.{Fits, no_rows, mark_of, closed_count}
 use Rattle.saber_plan.specs.Answers.{frame}
 use Rattle.saber_plan.specs.Facts.Rows.{mark-append, fits_back}
-use Rattle.saber_laws.specs.Groups.{GroupsJoin}
-use Rattle.saber_laws.specs.Parts.{MergeIsAssociative}
-use Rattle.saber_laws.specs.Windows.{ClosedStay}
 use Rattle.saber_sliding.specs.Entries.{Entries}
 use Rattle.saber_group.specs.declared.complete.Complete.{Complete}
 use Rattle.saber_group.specs.declared.slices.Slice.{Slice}
@@ -21,14 +18,14 @@ pub came : (q : Tree) (old rows : List Row) (next : ℕ) (new : Entries) (closed
 came q old rows next new closed done before after = subst (λ z. WentOn q no_rows (old ++ rows) z next new closed done before after) (sym (long_both old rows))
 
 -- all slices at once
-pub go_all : GroupsJoin → MergeIsAssociative → ClosedStay → (q : Tree) → Fits (frame q) → (old rows : List Row) (ended : Bool) (next : ℕ) (es : Entries) (slices : List Slice) (closed : ℕ) → Comes q old rows ended next es slices None closed
+pub go_all : (q : Tree) → Fits (frame q) → (old rows : List Row) (ended : Bool) (next : ℕ) (es : Entries) (slices : List Slice) (closed : ℕ) → Comes q old rows ended next es slices None closed
     → GoesOn q no_rows (old ++ rows) (length old) 0 (length rows) next es slices closed
-go_all join assoc stay q fits old rows ended next es slices closed g =
+go_all q fits old rows ended next es slices closed g =
     record {
       holds = subst (λ l. Holds q no_rows l next es) (sym (no_row q no_rows old rows)) g.holds;
       low = g.low;
-      slices_are = lifted q no_rows old rows join assoc 0 slices (length rows) g.given;
-      firsts = firsts_low q (mark_of old) rows stay fits (fits_back q no_rows old rows g.fits) closed (subst (λ n. n ≤ closed) (ap (closed_count (frame q)) (mark-append no_rows old rows)) g.reaches) 0 slices (length rows) g.given;
+      slices_are = lifted q no_rows old rows 0 slices (length rows) g.given;
+      firsts = firsts_low q (mark_of old) rows fits (fits_back q no_rows old rows g.fits) closed (subst (λ n. n ≤ closed) (ap (closed_count (frame q)) (mark-append no_rows old rows)) g.reaches) 0 slices (length rows) g.given;
       settled = no_more q no_rows old rows closed;
       fits = g.fits;
     }
@@ -40,13 +37,13 @@ module _ (q : Tree) (old rows : List Row) (ended : Bool) (next : ℕ) (es : Entr
   low = le_trans g.passed g.given.closed_is
 
   -- the windows below its own get their last slices
-  pub go_closing : GroupsJoin → MergeIsAssociative → GoesOn q no_rows (old ++ rows) (length old) 0 g.given.x next es slices c.low
-  go_closing join assoc = record {
+  pub go_closing : GoesOn q no_rows (old ++ rows) (length old) 0 g.given.x next es slices c.low
+  go_closing = record {
     holds = subst (λ l. Holds q no_rows l next es) (sym (no_row q no_rows old rows)) g.holds;
     low = low;
-    slices_are = lifted q no_rows old rows join assoc 0 slices g.given.x g.given.closing_are;
+    slices_are = lifted q no_rows old rows 0 slices g.given.x g.given.closing_are;
     firsts = g.given.firsts;
-    settled = settled_all q no_rows old rows join assoc g.given.x c.low g.given.below;
+    settled = settled_all q no_rows old rows g.given.x c.low g.given.below;
     fits = g.fits;
   }
 

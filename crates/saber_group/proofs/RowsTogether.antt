@@ -11,17 +11,17 @@ use Rattle.saber_plan.specs.GivenRows.{IsRowOf, RowsFit}
 use Rattle.saber_plan.specs.Facts.Lists.{all_weaker}
 use Rattle.saber_plan.specs.Facts.Rows.{mark-append, fits_drop, is_left}
 use Rattle.saber_laws.specs.Plans.{OneWindow}
-use Rattle.saber_window.specs.Laws.{StampsFit}
 use Rattle.saber_window.specs.Together.{IsLeft, LieTogether}
+use Rattle.saber_window.proofs.Stamps.{stamps_fit}
 
-row_left : StampsFit → (q : Tree) → OneWindow q → (r : Row) → IsRowOf q r → IsLeft r
-row_left stamps q w r h =
-    let small = stamps r.side _ r h.fits in
+row_left : (q : Tree) → OneWindow q → (r : Row) → IsRowOf q r → IsLeft r
+row_left q w r h =
+    let small = stamps_fit r.side _ r h.fits in
     record { side = is_left q w.stream w.streams r h; time = omega (arith, small) }
 
 -- the rows from one on are of the left stream, and in order
-pub left_behind : StampsFit → (q : Tree) → OneWindow q → (m : Mark) (xs : List Row) (k : ℕ) → RowsFit q m xs → AllByRecursion IsLeft (drop k xs)
-left_behind stamps q w m xs k h = all_weaker (IsRowOf q) IsLeft (row_left stamps q w) (drop k xs) (fits_drop q m xs k h).rows
+pub left_behind : (q : Tree) → OneWindow q → (m : Mark) (xs : List Row) (k : ℕ) → RowsFit q m xs → AllByRecursion IsLeft (drop k xs)
+left_behind q w m xs k h = all_weaker (IsRowOf q) IsLeft (row_left q w) (drop k xs) (fits_drop q m xs k h).rows
 
 pub order_behind : (q : Tree) (m n : Mark) (xs : List Row) (k : ℕ) → RowsFit q m xs → n ≡ mark_after m (take k xs) → Ordered n (drop k xs)
 order_behind q m n xs k h e = subst (λ (a : Mark). Ordered a (drop k xs)) (sym e) (fits_drop q m xs k h).ordered

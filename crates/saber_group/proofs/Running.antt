@@ -17,15 +17,16 @@ use Rattle.saber_plan.specs.Parts.{Part, group_part, no_part, merge}
 use Rattle.saber_plan.specs.Needs.{first_window, past_window}
 use Rattle.saber_plan.specs.GivenRows.{RowsFit}
 use Rattle.saber_plan.specs.Facts.Rows.{fits_front, fits_take, fits_drop}
-use Rattle.saber_laws.specs.Parts.{RowsAddToGroups, MergeIsAssociative, MergeHasUnit}
-use Rattle.saber_laws.specs.Needs.{RowsSpan}
-use Rattle.saber_laws.specs.Windows.{BegunStay, ClosedStay}
 use Rattle.saber_laws.specs.Plans.{OneWindow}
-use Rattle.saber_window.specs.Laws.{PastHaveNone}
-use Rattle.saber_partial.specs.PartLaws.{OfRows, GroupsAreOfRows, SmallPartsMerge}
+use Rattle.saber_partial.specs.PartLaws.{OfRows}
 use Rattle.saber_group.specs.SliceParts.{part_of, begun_by, closed_by, IsSlice}
 use Rattle.saber_group.proofs.Lasting.{row_joins, ends_here, few_more}
 use Rattle.saber_group.proofs.Completing.{count_low, past_begun, past_high, first_low}
+use Rattle.saber_laws.proofs.WindowLaws.{begun_count_rises as begun_stay}
+use Rattle.saber_partial.proofs.Counted.{groups_of_rows as groups_are_of_rows, small_stay}
+use Rattle.saber_laws.proofs.PartLaws.{merge-assoc as merge_is_associative}
+use Rattle.saber_laws.proofs.NeedLaws.{has_is as rows_span}
+use Rattle.saber_plan.specs.Facts.Parts.{merge-empty_right}
 
 -- ---- what the first row of a slice tells
 
@@ -44,26 +45,26 @@ first_below : (measure : Measure) (slide size : ℕ) (x : Placed) → 1 ≤ slid
 first_below Rows slide size x h = low_by x.row.side (count_to slide size (own x)) (count_to slide 0 (own x)) (count_low slide size (own x) h)
 first_below Range slide size x h = low_by x.row.side (count_to slide size (time x)) (count_to slide 0 (time x)) (count_low slide size (time x) h)
 
-pub starts_at : PastHaveNone → BegunStay → ClosedStay → (q : Tree) → OneWindow q → Fits (frame q) → (m : Mark) (rows : List Row) (k : ℕ) (x : Row) (a : Mark) (first past : ℕ) → RowsFit q m rows → k < length rows → x ≡ get_or rows k x → a ≡ mark_after m (take k rows)
+pub starts_at : (q : Tree) → OneWindow q → Fits (frame q) → (m : Mark) (rows : List Row) (k : ℕ) (x : Row) (a : Mark) (first past : ℕ) → RowsFit q m rows → k < length rows → x ≡ get_or rows k x → a ≡ mark_after m (take k rows)
     → first ≡ first_window (frame q) (record { row = x; before = a }) → past ≡ past_window (frame q) (record { row = x; before = a }) → Starts q m rows k first past
-starts_at none stay lasts q w fits m rows k x a first past given here is mark f l =
+starts_at q w fits m rows k x a first past given here is mark f l =
     let at : Placed = record { row = x; before = a } in
     let cut : drop k rows ≡ x ∷ drop (k + 1) rows = drop_more rows k x here ∙ ap (λ y. y ∷ drop (k + 1) rows) (sym is) in
     let one_row : RowsFit q a (x ∷ []) = fits_front q a (x ∷ []) (drop (k + 1) rows) (subst₂ (RowsFit q) (sym mark) cut (fits_drop q m rows k given)) in
     record {
-      below = λ i h. ends_here none q w fits i m rows k x a given here is mark (lt-ltb i (first_window (frame q) at) (subst (λ n. i < n) f h));
+      below = λ i h. ends_here q w fits i m rows k x a given here is mark (lt-ltb i (first_window (frame q) at) (subst (λ n. i < n) f h));
       order = subst₂ (λ n o. n ≤ o) (sym f) (sym l) (subst (λ g. first_window g at ≤ past_window g at) (sym w.has_frame) (first_below w.window.measure w.window.slide w.window.size at w.fits.slide.0));
-      begins = subst₂ (λ n o. n ≤ o) (ap (begun_count (frame q)) mark) (sym (l ∙ past_begun q w a x one_row.rows.0)) (stay (frame q) fits a (x ∷ []) one_row.ordered);
+      begins = subst₂ (λ n o. n ≤ o) (ap (begun_count (frame q)) mark) (sym (l ∙ past_begun q w a x one_row.rows.0)) (begun_stay (frame q) fits a (x ∷ []) one_row.ordered);
       closes = λ n h r.
           let long = length-take-le n rows r in
           let same : take k (take n rows) ≡ take k rows = take-take k n rows (omega (arith, h)) in
           subst (λ o. o ≤ closed_by q m (take n rows)) (sym f)
-          (first_low lasts q w w.fits.slide.0 fits m (take n rows) k x a (fits_take q m rows n given) (omega (arith, long, h)) (is ∙ sym (get_or-take n rows k x h)) (mark ∙ ap (mark_after m) (sym same)));
+          (first_low q w w.fits.slide.0 fits m (take n rows) k x a (fits_take q m rows n given) (omega (arith, long, h)) (is ∙ sym (get_or-take n rows k x h)) (mark ∙ ap (mark_after m) (sym same)));
       ends = λ n h r.
           let long = length-take-le n rows r in
           let same : take k (take n rows) ≡ take k rows = take-take k n rows (omega (arith, h)) in
           subst (λ o. o ≤ begun_by q m (take n rows)) (sym l)
-          (past_high stay q w fits m (take n rows) k x a (fits_take q m rows n given) (omega (arith, long, h)) (is ∙ sym (get_or-take n rows k x h)) (mark ∙ ap (mark_after m) (sym same)));
+          (past_high q w fits m (take n rows) k x a (fits_take q m rows n given) (omega (arith, long, h)) (is ∙ sym (get_or-take n rows k x h)) (mark ∙ ap (mark_after m) (sym same)));
     }
 
 -- ---- one row more
@@ -79,32 +80,32 @@ pub record SliceTo (q : Tree) (m : Mark) (rows : List Row) (k e first past : ℕ
   pub before : (i : ℕ) → i < first → part_of q i m (take e rows) ≡ part_of q i m (take k rows)
   pub few : OfRows q (e - k) p
 
-pub slice_nil : MergeHasUnit → GroupsAreOfRows → (q : Tree) (m : Mark) (rows : List Row) (k first past : ℕ) (p : Part) → group_part q [] ≡ no_part → p ≡ no_part → SliceTo q m rows k k first past p
-slice_nil unit of_rows q m rows k first past p none e =
+pub slice_nil : (q : Tree) (m : Mark) (rows : List Row) (k first past : ℕ) (p : Part) → group_part q [] ≡ no_part → p ≡ no_part → SliceTo q m rows k k first past p
+slice_nil q m rows k first past p none e =
     let nil : k - k ≡ 0 = omega arith in
     record {
-      inside = λ i l h. sym (ap (merge (part_of q i m (take k rows))) e ∙ (unit (part_of q i m (take k rows))).1);
+      inside = λ i l h. sym (ap (merge (part_of q i m (take k rows))) e ∙ (merge-empty_right (part_of q i m (take k rows))));
       behind = λ i l h. refl;
       before = λ i h. refl;
-      few = subst (OfRows q (k - k)) (sym e) (subst (λ n. OfRows q n no_part) (sym nil) (subst (OfRows q 0) none (of_rows q [])));
+      few = subst (OfRows q (k - k)) (sym e) (subst (λ n. OfRows q n no_part) (sym nil) (subst (OfRows q 0) none (groups_are_of_rows q [])));
     }
 
-merge_case : MergeIsAssociative → (a p g : Part) (b : Bool) (r : Part) → r ≡ cond b (merge (merge a p) g) (merge a p) → r ≡ merge a (cond b (merge p g) p)
-merge_case assoc a p g true r e = e ∙ assoc a p g
-merge_case assoc a p g false r e = e
+merge_case : (a p g : Part) (b : Bool) (r : Part) → r ≡ cond b (merge (merge a p) g) (merge a p) → r ≡ merge a (cond b (merge p g) p)
+merge_case a p g true r e = e ∙ merge_is_associative a p g
+merge_case a p g false r e = e
 
-few_case : SmallPartsMerge → GroupsAreOfRows → (q : Tree) (x : Row) (n : ℕ) (p : Part) (b : Bool) → n + 1 ≤ 2 ^ 40 → OfRows q n p → OfRows q (n + 1) (cond b (merge p (group_part q (x.values ∷ []))) p)
-few_case small of_rows q x n p true h few = (small q n 1 p (group_part q (x.values ∷ [])) few (of_rows q (x.values ∷ [])) h).1
-few_case small of_rows q x n p false h few = few_more q n (n + 1) p (omega arith) few
+few_case : (q : Tree) (x : Row) (n : ℕ) (p : Part) (b : Bool) → n + 1 ≤ 2 ^ 40 → OfRows q n p → OfRows q (n + 1) (cond b (merge p (group_part q (x.values ∷ []))) p)
+few_case q x n p true h few = small_stay q n 1 p (group_part q (x.values ∷ [])) few (groups_are_of_rows q (x.values ∷ []))
+few_case q x n p false h few = few_more q n (n + 1) p (omega arith) few
 
-pub slice_more : RowsAddToGroups → RowsSpan → MergeIsAssociative → SmallPartsMerge → GroupsAreOfRows → (q : Tree) → Fits (frame q) → (m : Mark) (rows : List Row) (k e first past : ℕ) (p : Part) (x : Row) (a : Mark)
+pub slice_more : (q : Tree) → Fits (frame q) → (m : Mark) (rows : List Row) (k e first past : ℕ) (p : Part) (x : Row) (a : Mark)
     → k ≤ e → e < length rows → length rows ≤ 2 ^ 40 → x ≡ get_or rows e x → a ≡ mark_after m (take e rows)
     → first ≡ first_window (frame q) (record { row = x; before = a }) → past ≡ past_window (frame q) (record { row = x; before = a })
     → SliceTo q m rows k e first past p → SliceTo q m rows k (e + 1) first past (with_row q (nat_lt first past) x p)
-slice_more add span assoc small of_rows q fits m rows k e first past p x a low here few is mark f l slice =
+slice_more q fits m rows k e first past p x a low here few is mark f l slice =
     let at : Placed = record { row = x; before = a } in
-    let lies = λ (i : ℕ). span (frame q) fits i at ∙ (λ j. nat_le (sym f j) i && nat_lt i (sym l j)) in
-    let step = λ (i : ℕ). row_joins add q i m rows e x a here is mark in
+    let lies = λ (i : ℕ). rows_span (frame q) fits i at ∙ (λ j. nat_le (sym f j) i && nat_lt i (sym l j)) in
+    let step = λ (i : ℕ). row_joins q i m rows e x a here is mark in
     let next : (e - k) + 1 ≡ e + 1 - k = omega (arith, low) in
     record {
       inside = λ i h r.
@@ -112,7 +113,7 @@ slice_more add span assoc small of_rows q fits m rows k e first past p x a low h
           let wanted : nat_lt first past ≡ true = lt-ltb first past (omega (arith, h, r)) in
           let b = passes q.predicate x.values [] in
           let g = group_part q (x.values ∷ []) in
-          merge_case assoc (part_of q i m (take k rows)) p g b (part_of q i m (take (e + 1) rows))
+          merge_case (part_of q i m (take k rows)) p g b (part_of q i m (take (e + 1) rows))
           (step i ∙ (λ j. cond (has_row j && b) (merge (slice.inside i h r j) g) (slice.inside i h r j)))
           ∙ ap (λ w. merge (part_of q i m (take k rows)) (cond (w && b) (merge p g) p)) (sym wanted);
       behind = λ i h r.
@@ -122,7 +123,7 @@ slice_more add span assoc small of_rows q fits m rows k e first past p x a low h
           let past_it : nat_le first i ≡ false = grind (arith, nat_tests) in
           let has_none : has (frame q) i at ≡ false = lies i ∙ ap (λ t. t && nat_lt i past) past_it in
           step i ∙ ap (λ w. cond (w && passes q.predicate x.values []) (merge (part_of q i m (take e rows)) (group_part q (x.values ∷ []))) (part_of q i m (take e rows))) has_none ∙ slice.before i h;
-      few = subst (λ n. OfRows q n (with_row q (nat_lt first past) x p)) next (few_case small of_rows q x (e - k) p (nat_lt first past && passes q.predicate x.values []) (omega (arith, low, here, few)) slice.few);
+      few = subst (λ n. OfRows q n (with_row q (nat_lt first past) x p)) next (few_case q x (e - k) p (nat_lt first past && passes q.predicate x.values []) (omega (arith, low, here, few)) slice.few);
     }
 
 -- ---- the whole slice

@@ -1,5 +1,5 @@
 -- A store of slices, and the open parts and the text that it stands for.
-use Rattle.std.proofs.Common.{◌≡◌, ℕ, ◌+◌, ◌-◌, ◌/◌, ◌≤◌, List, [], ◌∷◌, ◌++◌, length, take, slice_range, Bool, true, false, cond, nat_le, refl, sym, ◌∙◌, ap, subst, arith, subst₂, le_refl}
+use Rattle.std.proofs.Common.{◌≡◌, ℕ, ◌-◌, ◌≤◌, List, [], ◌∷◌, ◌++◌, length, take, slice_range, cond, sym, ◌∙◌, ap, subst, arith, subst₂, le_refl}
 use Rattle.std.specs.Option.{option_map_or}
 use Rattle.std.specs.Ordering.{nat_cmp}
 use Rattle.std.specs.FinMap.{empty, from_entries}
@@ -16,8 +16,6 @@ use Rattle.saber_plan.specs.Answers.{by_shape, frame, lines, lines_from, selecte
 use Rattle.saber_plan.specs.Facts.Kept.{alike_added}
 use Rattle.saber_plan.specs.Parts.{Part, part, part_lines}
 use Rattle.saber_plan.specs.Tasks.{full, numbered_list, unclosed, Kept, added_text}
-use Rattle.saber_laws.specs.Parts.{PartHasLines}
-use Rattle.saber_laws.specs.Marks.{MarksFollow, ClosedRise, EndsCloseMore}
 use Rattle.saber_laws.specs.Plans.{OneWindow}
 use Rattle.saber_plan.specs.Facts.Lists.{slice-front, slice-join}
 use Rattle.saber_plan.specs.Facts.Rows.{fits_take, mark-append}
@@ -30,24 +28,27 @@ use Rattle.saber_group.specs.SlicePieces.{IsOf}
 use Rattle.saber_group.specs.SliceStores.{held_in, TakenIn, Comes, Came}
 use Rattle.saber_fragment.specs.Stores.{Follows}
 use Rattle.saber_group.proofs.Lasting.{part_whole}
+use Rattle.saber_laws.proofs.EndLaws.{closed_rises as closed_rise}
+use Rattle.saber_laws.proofs.WindowLaws.{closed_count_ending as ends_close_more}
+use Rattle.saber_laws.proofs.ShareLaws.{lines-part as part_has_lines}
 
 -- the rows up to a position, and those from it up to another
 pub rows_upto : (xs : List Row) (x y : ℕ) → x ≤ y → take x xs ++ slice_range xs x y ≡ take y xs
 rows_upto xs x y up = sym (sym (slice-front xs y) ∙ slice-join xs 0 x y (omega arith) up ∙ ap (λ l. l ++ slice_range xs x y) (slice-front xs x))
 
 module _ (q : Tree) (e : q.shape ≡ Group) where
-  line_is : PartHasLines → (i : ℕ) (xs : List Row) → lines q i xs ≡ part_lines q i (part_of q i no_rows xs)
-  line_is law i xs = law q i xs ∙ ap (part_lines q i) (part_whole q e i xs)
+  line_is : (i : ℕ) (xs : List Row) → lines q i xs ≡ part_lines q i (part_of q i no_rows xs)
+  line_is i xs = part_has_lines q i xs ∙ ap (part_lines q i) (part_whole q e i xs)
 
   -- what windows print that more arrivals close
-  pub added_is : PartHasLines → way q ≡ alike → (r : Input) (x y : ℕ)
+  pub added_is : way q ≡ alike → (r : Input) (x y : ℕ)
       → lines_between q no_rows (take y r.rows) (closed_count (frame q) (mark_at r x)) (closed_count (frame q) (mark_at r y)) ≡ added_text q r x y
-  added_is law w r x y =
+  added_is w r x y =
       let a = closed_count (frame q) (mark_at r x) in
       let b = closed_count (frame q) (mark_at r y) in
       sym (alike_added q w r x y
       ∙ ap (λ s. by_shape s (cond (has_windows (frame q)) (lines_from q (take y r.rows) a b) (selected_lines q (slice_range r.rows x y))) (lines_from q (take y r.rows) a b) (lines_from q (take y r.rows) a b)) e
-      ∙ flat_map-from (λ i. lines q i (take y r.rows)) (λ i. part_lines q i (part_of q i no_rows (take y r.rows))) a (b - a) (λ i p l. line_is law i (take y r.rows)))
+      ∙ flat_map-from (λ i. lines q i (take y r.rows)) (λ i. part_lines q i (part_of q i no_rows (take y r.rows))) a (b - a) (λ i p l. line_is i (take y r.rows)))
 
   -- the store's parts are the open ones
   pub held_is : (r : Input) (s : SliceStore) → TakenIn q r s → held_in s ≡ unclosed q r
@@ -61,12 +62,6 @@ module _ (q : Tree) (e : q.shape ≡ Group) where
       (λ i p l. ap (λ a. option_map_or (λ (m : Part). (i, m) ∷ []) (full a) []) (sym (t.holds.at i p) ∙ sym (part_whole q e i r.rows)))
       ∙ sym (numbered_is given s.windows.next (s.begun - s.windows.next))
       ∙ (λ j. numbered_list (t.next_is j) (t.begun_is j - t.next_is j) given))
-
--- the laws of marks along an input and of its end
-pub record MarkLaws : Type 0 where
-  pub follow : MarksFollow
-  pub rise : ClosedRise
-  pub close_more : EndsCloseMore
 
 module _ (q : Tree) (r : Input) (x y : ℕ) (s : SliceStore) (p : SlicePiece) (kept : Kept) (f : Follows q kept (λ u. TakenIn q u s) (λ r x y. IsOf q r x y p) r x y) where
   abbrev pub old_rows : List Row
@@ -85,7 +80,7 @@ module _ (q : Tree) (r : Input) (x y : ℕ) (s : SliceStore) (p : SlicePiece) (k
   mark_open : mark_at r x ≡ mark_of old_rows
   mark_open = ap (λ b. end_mark b (mark_of old_rows)) f.of_is.opens
 
-  module _ (laws : MarkLaws) (closed : ℕ) (closed_is : closed ≡ closed_count (frame q) p.after) where
+  module _ (closed : ℕ) (closed_is : closed ≡ closed_count (frame q) p.after) where
     pub closed_end : closed ≡ closed_count (frame q) (mark_at r y)
     closed_end = closed_is ∙ ap (closed_count (frame q)) f.of_is.after_is
 
@@ -93,7 +88,7 @@ module _ (q : Tree) (r : Input) (x y : ℕ) (s : SliceStore) (p : SlicePiece) (k
     reaches_all : closed_by q no_rows (old_rows ++ new_rows) ≤ closed
     reaches_all =
         subst (λ n. closed_by q no_rows (old_rows ++ new_rows) ≤ n) (sym closed_end)
-        (subst (λ l. closed_by q no_rows l ≤ closed_count (frame q) (mark_at r y)) (sym all_rows) (laws.close_more (frame q) f.windows (first_arrivals r y).ended (mark_of (take y r.rows))))
+        (subst (λ l. closed_by q no_rows l ≤ closed_count (frame q) (mark_at r y)) (sym all_rows) (ends_close_more (frame q) f.windows (first_arrivals r y).ended (mark_of (take y r.rows))))
 
     end_is : closed ≡ closed_count (frame q) (end_mark (first_arrivals r y).ended (mark_after (mark_of old_rows) new_rows))
     end_is = closed_end
@@ -103,7 +98,7 @@ module _ (q : Tree) (r : Input) (x y : ℕ) (s : SliceStore) (p : SlicePiece) (k
     pub comes : Comes q old_rows new_rows (first_arrivals r y).ended s.windows.next s.windows.slices.entries p.slices.items p.complete closed
     comes = record {
       holds = f.taken_is.holds;
-      low = subst₂ (λ n o. n ≤ o) (sym f.taken_is.next_is) (sym closed_end) (laws.rise (frame q) f.windows r x y f.fits.ordered f.rises);
+      low = subst₂ (λ n o. n ≤ o) (sym f.taken_is.next_is) (sym closed_end) (closed_rise (frame q) f.windows r x y f.fits.ordered f.rises);
       passed = subst (λ n. n ≤ closed_by q no_rows old_rows) (sym (f.taken_is.next_is ∙ ap (closed_count (frame q)) mark_open)) (le_refl (closed_by q no_rows old_rows));
       given = f.of_is.given;
       closed_is = end_is;

@@ -17,16 +17,15 @@ use Rattle.saber_plan.specs.Facts.Maps.{entries-empty}
 use Rattle.saber_plan.specs.Parts.{Part, no_part, group_part, merge, part_lines, group_answer}
 use Rattle.saber_plan.specs.Facts.Rows.{mark-append, placed-append, few_rows}
 use Rattle.saber_plan.specs.Facts.Numbers.{flat_nil, flat_step, flat_skip, from_more}
-use Rattle.saber_laws.specs.Groups.{GroupsJoin}
-use Rattle.saber_laws.specs.Parts.{MergeHasUnit, MergeIsAssociative}
 use Rattle.saber_laws.specs.Plans.{OneWindow}
-use Rattle.saber_partial.specs.PartLaws.{OfRows, SmallPartsMerge}
+use Rattle.saber_partial.specs.PartLaws.{OfRows}
 use Rattle.saber_group.specs.SliceParts.{part_of, begun_by, closed_by, lines_between, Entered, IsSlice, Holds, Settled}
 use Rattle.saber_sliding.specs.Entries.{Entries, CanFollow}
 use Rattle.saber_group.specs.declared.slices.Slice.{Slice}
 use Rattle.saber_group.specs.SlicePieces.{SlicesTo}
 use Rattle.saber_group.specs.SliceStores.{SlicesAt, GoesOn}
 use Rattle.saber_group.proofs.Opened.{has_room, holds_more}
+use Rattle.saber_laws.proofs.PartLaws.{group_part-append as groups_join, merge-assoc as merge_is_associative}
 
 -- ---- the text of windows, one after another
 
@@ -69,15 +68,15 @@ module _ (q : Tree) (m : Mark) (old rows : List Row) where
   passing-append us vs = ap (filter (λ zs. passes q.predicate zs [])) (map-append (λ x. x.row.values) us vs) ∙ filter-append (λ zs. passes q.predicate zs []) (map (λ x. x.row.values) us) (map (λ x. x.row.values) vs)
 
   -- a window's part is that of the old rows and that of the new ones
-  pub part_behind : GroupsJoin → (i : ℕ) (xs : List Row) → part_of q i m (old ++ xs) ≡ merge (part_of q i m old) (part_of q i mark xs)
-  part_behind join i xs =
+  pub part_behind : (i : ℕ) (xs : List Row) → part_of q i m (old ++ xs) ≡ merge (part_of q i m old) (part_of q i mark xs)
+  part_behind i xs =
       ap (λ l. group_part q (passing_values q (filter (has (frame q) i) l))) (placed-append m old xs)
       ∙ ap (λ l. group_part q (passing_values q l)) (filter-append (has (frame q) i) (placed_after m old) (placed_after mark xs))
       ∙ ap (group_part q) (passing-append (filter (has (frame q) i) (placed_after m old)) (filter (has (frame q) i) (placed_after mark xs)))
-      ∙ join q (passing_values q (filter (has (frame q) i) (placed_after m old))) (passing_values q (filter (has (frame q) i) (placed_after mark xs)))
+      ∙ groups_join q (passing_values q (filter (has (frame q) i) (placed_after m old))) (passing_values q (filter (has (frame q) i) (placed_after mark xs)))
 
-  pub part_cut : GroupsJoin → (i x : ℕ) → part_of q i m (take (length old + x) (old ++ rows)) ≡ merge (part_of q i m old) (part_of q i mark (take x rows))
-  part_cut join i x = ap (part_of q i m) (take_behind old rows x) ∙ part_behind join i (take x rows)
+  pub part_cut : (i x : ℕ) → part_of q i m (take (length old + x) (old ++ rows)) ≡ merge (part_of q i m old) (part_of q i mark (take x rows))
+  part_cut i x = ap (part_of q i m) (take_behind old rows x) ∙ part_behind i (take x rows)
 
   begun_cut : (x : ℕ) → begun_by q m (take (length old + x) (old ++ rows)) ≡ begun_by q mark (take x rows)
   begun_cut x = ap (begun_by q m) (take_behind old rows x) ∙ ap (begun_count (frame q)) (mark-append m old (take x rows))
@@ -86,14 +85,14 @@ module _ (q : Tree) (m : Mark) (old rows : List Row) where
   closed_cut x = ap (closed_by q m) (take_behind old rows x) ∙ ap (closed_count (frame q)) (mark-append m old (take x rows))
 
   -- a slice of the new rows is one of all
-  pub slice_behind : GroupsJoin → MergeIsAssociative → (x y first past : ℕ) (p : Part) → IsSlice q mark rows x y first past p → IsSlice q m (old ++ rows) (length old + x) (length old + y) first past p
-  slice_behind join assoc x y first past p slice =
+  pub slice_behind : (x y first past : ℕ) (p : Part) → IsSlice q mark rows x y first past p → IsSlice q m (old ++ rows) (length old + x) (length old + y) first past p
+  slice_behind x y first past p slice =
       let same : y - x ≡ (length old + y) - (length old + x) = omega arith in
       record {
-        inside = λ i l h. part_cut join i y ∙ ap (merge (part_of q i m old)) (slice.inside i l h) ∙ sym (assoc (part_of q i m old) (part_of q i mark (take x rows)) p) ∙ ap (λ a. merge a p) (sym (part_cut join i x));
-        behind = λ i l h. part_cut join i y ∙ ap (merge (part_of q i m old)) (slice.behind i l h) ∙ sym (part_cut join i x);
-        below = λ i h. part_cut join i x ∙ ap (merge (part_of q i m old)) (slice.below i h) ∙ sym (part_behind join i rows);
-        before = λ i h. part_cut join i y ∙ ap (merge (part_of q i m old)) (slice.before i h) ∙ sym (part_cut join i x);
+        inside = λ i l h. part_cut i y ∙ ap (merge (part_of q i m old)) (slice.inside i l h) ∙ sym (merge_is_associative (part_of q i m old) (part_of q i mark (take x rows)) p) ∙ ap (λ a. merge a p) (sym (part_cut i x));
+        behind = λ i l h. part_cut i y ∙ ap (merge (part_of q i m old)) (slice.behind i l h) ∙ sym (part_cut i x);
+        below = λ i h. part_cut i x ∙ ap (merge (part_of q i m old)) (slice.below i h) ∙ sym (part_behind i rows);
+        before = λ i h. part_cut i y ∙ ap (merge (part_of q i m old)) (slice.before i h) ∙ sym (part_cut i x);
         few = subst (λ n. OfRows q n p) same slice.few;
         order = slice.order;
         closes = subst (λ n. first ≤ n) (sym (closed_cut y)) slice.closes;
@@ -103,17 +102,16 @@ module _ (q : Tree) (m : Mark) (old rows : List Row) where
 
   -- ---- the slices of the new rows, as slices of all
 
-  module _ (join : GroupsJoin) (assoc : MergeIsAssociative) where
-    pub lifted : (x : ℕ) (rs : List Slice) (y : ℕ) → SlicesTo q mark rows x rs y → SlicesAt q m (old ++ rows) (length old) x rs y
-    lifted x [] y h = h
-    lifted x (r ∷ rs) y h =
-        let within = h.1.1.0 in
-        let long = long_both old rows in
-        (slice_behind join assoc x r.end r.first r.past r.part h.0, (h.1.0, (omega (arith, within, long), lifted r.end rs y h.1.1.1)))
+  pub lifted : (x : ℕ) (rs : List Slice) (y : ℕ) → SlicesTo q mark rows x rs y → SlicesAt q m (old ++ rows) (length old) x rs y
+  lifted x [] y h = h
+  lifted x (r ∷ rs) y h =
+      let within = h.1.1.0 in
+      let long = long_both old rows in
+      (slice_behind x r.end r.first r.past r.part h.0, (h.1.0, (omega (arith, within, long), lifted r.end rs y h.1.1.1)))
 
-    -- windows that get nothing more from the new rows get nothing more of all
-    pub settled_all : (x n : ℕ) → Settled q mark (take x rows) rows n → Settled q m (take (length old + x) (old ++ rows)) (old ++ rows) n
-    settled_all x n h = λ i l. part_cut join i x ∙ ap (merge (part_of q i m old)) (h i l) ∙ sym (part_behind join i rows)
+  -- windows that get nothing more from the new rows get nothing more of all
+  pub settled_all : (x n : ℕ) → Settled q mark (take x rows) rows n → Settled q m (take (length old + x) (old ++ rows)) (old ++ rows) n
+  settled_all x n h = λ i l. part_cut i x ∙ ap (merge (part_of q i m old)) (h i l) ∙ sym (part_behind i rows)
 
   all_rows : take (length old + length rows) (old ++ rows) ≡ old ++ rows
   all_rows = let long = long_both old rows in take_all (length old + length rows) (old ++ rows) (omega (arith, long))
@@ -156,19 +154,18 @@ module _ (q : Tree) (w : OneWindow q) (m : Mark) (all : List Row) (o y start nex
   pub along_below : (i : ℕ) → i < slice.first → part_of q i m (take (o + a.x) all) ≡ part_of q i m all
   along_below = a.left_are.0.below
 
-  pub along_can : SmallPartsMerge → (later : ℕ) (fs : Entries) → Holds q m (take (o + a.x) all) later fs → CanFollow slice.part fs
-  along_can small later fs contents =
-      has_room q m all (o + a.x) (o + slice.end) slice.first slice.past slice.part a.left_are.0 later fs contents small low_end a.left_are.1.1.0 few
+  pub along_can : (later : ℕ) (fs : Entries) → Holds q m (take (o + a.x) all) later fs → CanFollow slice.part fs
+  along_can later fs contents =
+      has_room q m all (o + a.x) (o + slice.end) slice.first slice.past slice.part a.left_are.0 later fs contents low_end a.left_are.1.1.0 few
 
-  pub along_more : MergeHasUnit → SmallPartsMerge
-      → (later new : ℕ) (fs gs : Entries) → later ≡ max next slice.first → new ≡ later → Holds q m (take (o + a.x) all) later fs → Entered fs slice.past slice.part gs → Along q m all o y start new gs left closed
-  along_more unit small later new fs gs most same contents entered =
+  pub along_more : (later new : ℕ) (fs gs : Entries) → later ≡ max next slice.first → new ≡ later → Holds q m (take (o + a.x) all) later fs → Entered fs slice.past slice.part gs → Along q m all o y start new gs left closed
+  along_more later new fs gs most same contents entered =
       let up = a.low in
       let high = a.high in
       let first = a.firsts.0 in
       record {
         x = slice.end;
-        holds = holds_more q m all (o + a.x) (o + slice.end) slice.first slice.past slice.part a.left_are.0 later fs contents unit small gs new same (omega (arith, most)) low_end a.left_are.1.1.0 few entered;
+        holds = holds_more q m all (o + a.x) (o + slice.end) slice.first slice.past slice.part a.left_are.0 later fs contents gs new same (omega (arith, most)) low_end a.left_are.1.1.0 few entered;
         low = omega (arith, up, most, same);
         high = omega (arith, high, first, most, same);
         left_are = a.left_are.1.1.1;

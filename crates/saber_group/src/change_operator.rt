@@ -6,9 +6,6 @@ use crate::change_stores::WalkStore;
 use crate::changes::GroupChanges;
 use saber_changes::Walk;
 use saber_fragment::{Block, Operator};
-use saber_laws::{
-    answers_are_of_parts, closed_rise, ends_close_more, last_answers_stay, marks_follow,
-};
 use saber_plan::NoMemory;
 use std::alloc::Global;
 use std::marker::Brand;
@@ -57,7 +54,6 @@ impl Operator for GroupChanges<'_> {
     }
 
     fn finish(&self, _alloc: Global, draft: TaskSlices) -> Result<TaskSlices, NoMemory> {
-        marks_follow();
         Ok(draft)
     }
 
@@ -76,12 +72,6 @@ impl Operator for GroupChanges<'_> {
         piece: TaskSlices,
         out: &mut Vec<u8>,
     ) -> Result<(), NoMemory> {
-        self.group.has_window();
-        answers_are_of_parts();
-        closed_rise();
-        ends_close_more();
-        last_answers_stay();
-        marks_follow();
         let closed = self.group.closed_below(&piece.after);
         let begun = self.group.begun_below(&piece.after);
         let mut text = Vec::new(alloc);

@@ -13,8 +13,7 @@ use crate::open::Open;
 use crate::slice_stores::SliceStore;
 use crate::slices::Slice;
 use saber_changes::{Change, Walk};
-use saber_laws::{closed_stay, groups_join, merge_has_unit, merge_is_associative};
-use saber_partial::{Steps, small_parts_merge};
+use saber_partial::Steps;
 use saber_plan::{NoMemory, Plan};
 use std::alloc::Global;
 use std::sync::ledger::{Blank, Ledger};
@@ -90,9 +89,7 @@ impl Group<'_> {
         ensures walked_on { OnOk result (HasWalkedOn change (tree_of self.now) store.old walk.old slices.items closed store.new walk.new out.old.items out.new.items) }
         ensures steps { OnOk result (steps.new + store.new.slices.owed + store.old.next ≤ steps.old + store.old.slices.owed + 2 * length slices.items + store.new.next) }
     {
-        self.has_window();
-        merge_has_unit();
-        small_parts_merge();
+        let _plan = &self.plan;
         for slice in slices {
             store.walk_lines(alloc, self.plan, change, slice.first, walk, out, steps)?;
             store.take_in(alloc, slice.past, slice.part, steps)?;
@@ -119,10 +116,7 @@ impl Group<'_> {
         ensures walked_by { OnOk result (HasWalkedBy change (tree_of self.now) store.old walk.old slices.items closed store.new walk.new out.old.items out.new.items) }
         ensures steps { OnOk result (steps.new + store.new.slices.owed + store.old.next ≤ steps.old + store.old.slices.owed + 2 * length slices.items + store.new.next) }
     {
-        self.has_window();
-        closed_stay();
-        groups_join();
-        merge_is_associative();
+        let _plan = &self.plan;
         self.walk_slices(alloc, change, store, walk, slices, closed, out, steps)
     }
 

@@ -23,6 +23,7 @@ impl<'a> Model for GroupChanges<'a> {
     ghost use Rattle.std.specs.Prelude.{◌≡◌};
     ghost use Rattle.std.specs.Coded.{codes};
     ghost use Rattle.saber_plan.specs.declared.plans.Plan.{Plan};
+    ghost use Rattle.saber_plan.specs.declared.plans.Shape.TheVariants as shapes;
     ghost use Rattle.saber_plan.specs.Trees.{tree_of};
     ghost use Rattle.saber_plan.specs.Answers.{by_change, way};
     ghost use Rattle.saber_plan.specs.contracts.predicates.Pred as e;
@@ -34,7 +35,7 @@ impl<'a> Model for GroupChanges<'a> {
 
     ghost view = { λ g. g.group };
 
-    ghost invariant = { λ g. way (tree_of g.group) ≡ by_change (change_of g.change) };
+    ghost invariant = { λ g. (way (tree_of g.group) ≡ by_change (change_of g.change)) × ((tree_of g.group).shape ≡ shapes.Group) };
 }
 
 impl<'a> GroupChanges<'a> {

@@ -17,11 +17,7 @@ use crate::letting::let_slices_go;
 use crate::open::Open;
 use crate::slices::Slice;
 use saber_fragment::Earlier;
-use saber_laws::{
-    begun_are_counted, closed_stay, ends_close_more, groups_join, merge_has_unit,
-    merge_is_associative, no_rows_no_part, parts_lie_within,
-};
-use saber_partial::{Steps, small_parts_merge};
+use saber_partial::Steps;
 use saber_plan::NoMemory;
 use saber_sliding::Front;
 use std::alloc::Global;
@@ -118,12 +114,7 @@ impl Group<'_> {
         ensures owed { IfOk result (λ o. o.slices.owed ≡ 0) }
         ensures steps { OnOk result (steps.new ≤ steps.old + length earlier.now.rows.now) }
     {
-        self.has_window();
-        closed_stay();
-        merge_has_unit();
-        merge_is_associative();
-        no_rows_no_part();
-        small_parts_merge();
+        let _plan = &self.plan;
         let (slices, _) = self.slices_of(alloc, earlier)?;
         let mut front = Front::empty(alloc);
         for slice in slices {
@@ -163,14 +154,7 @@ impl Group<'_> {
         ensures few { IfOk result (λ r. IfSome r.1 (λ c. 2 * length r.0.items ≤ length slices.items)) }
         ensures steps { IfOk result (λ r. TaskSteps (length earlier.now.rows) (length slices.items) r.1 steps.old steps.new) }
     {
-        self.has_window();
-        begun_are_counted();
-        closed_stay();
-        ends_close_more();
-        groups_join();
-        merge_has_unit();
-        merge_is_associative();
-        parts_lie_within();
+        let _plan = &self.plan;
         let closed = self.closed_below(&batch.before);
         let low = self.begun_below(&earlier.before).max(closed);
         let count = closing_end(&slices, low);

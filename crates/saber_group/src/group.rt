@@ -3,13 +3,11 @@ ghost use Rattle.std.specs.Prelude.{◌≡◌, ◌≤◌, ◌^◌};
 ghost use Rattle.saber_plan.specs.declared.plans.Shape.TheVariants as shapes;
 ghost use Rattle.saber_plan.specs.Trees.{tree_of};
 ghost use Rattle.saber_plan.specs.Checked.{IsChecked};
-ghost use Rattle.saber_plan.specs.Windows.{Fits, closed_count, begun_count};
+ghost use Rattle.saber_plan.specs.Windows.{closed_count, begun_count};
 ghost use Rattle.saber_plan.specs.Answers.{frame};
 ghost use Rattle.saber_plan.specs.Needs.{first_window, past_window};
-ghost use Rattle.saber_laws.specs.Plans.{OneWindow};
 
 use saber_flat::RowRef;
-use saber_laws::{checked_fit, groups_have_one_window};
 use saber_partial::Aggregates;
 use saber_plan::{Mark, Plan};
 use saber_window::Windows;
@@ -55,17 +53,6 @@ impl<'a> Group<'a> {
             windows: Windows::of_plan(plan),
             aggregates: Aggregates::of_plan(plan),
         }
-    }
-
-    /// It groups rows, and its stream has a window, which fits.
-    pub(crate) fn has_window(&self)
-        ensures group { (tree_of self.now).shape ≡ shapes.Group }
-        ensures window { OneWindow (tree_of self.now) }
-        ensures fits { Fits (frame (tree_of self.now)) }
-    {
-        let _plan = &self.plan;
-        groups_have_one_window();
-        checked_fit();
     }
 
     /// The row lies in the windows from the one up to the other, and in no other.

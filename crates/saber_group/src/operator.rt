@@ -11,7 +11,6 @@ use crate::group::Group;
 use crate::slice_pieces::SlicePiece;
 use crate::slice_stores::SliceStore;
 use saber_fragment::{Block, Operator};
-use saber_laws::{closed_rise, ends_close_more, marks_follow, part_has_lines};
 use saber_plan::{NoMemory, Plan};
 use std::alloc::Global;
 use std::marker::{Brand, Model};
@@ -100,7 +99,6 @@ impl Operator for GroupOperator<'_> {
     }
 
     fn finish(&self, _alloc: Global, draft: SlicePiece) -> Result<SlicePiece, NoMemory> {
-        marks_follow();
         Ok(draft)
     }
 
@@ -116,11 +114,7 @@ impl Operator for GroupOperator<'_> {
         piece: SlicePiece,
         out: &mut Vec<u8>,
     ) -> Result<(), NoMemory> {
-        self.group.has_window();
-        closed_rise();
-        ends_close_more();
-        marks_follow();
-        part_has_lines();
+        let _plan = &self.group.plan;
         let closed = self.group.closed_below(&piece.after);
         let begun = self.group.begun_below(&piece.after);
         let mut text = Vec::new(alloc);

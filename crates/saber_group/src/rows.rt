@@ -9,20 +9,18 @@ ghost use Rattle.saber_window.specs.Together.{LieTogether};
 
 use crate::batch::Batch;
 use crate::group::Group;
-use saber_eval::{holds, one_stream_fits};
+use saber_eval::holds;
 use saber_flat::RowRef;
-use saber_laws::groups_have_one_window;
 use saber_plan::Mark;
-use saber_window::{mark_behind, stamps_fit};
+use saber_window::mark_behind;
 
 impl Group<'_> {
     /// Whether a row passes WHERE.
+    #[tactic(auto, using(crate::proofs::GroupPlans::plan_fits))]
     pub(crate) fn passes(&self, row: &RowRef) -> bool
         requires { IsRowOf (tree_of self.now) row.now }
         ensures { result ≡ v.passes (tree_of self.now).predicate row.now.values [] }
     {
-        groups_have_one_window();
-        one_stream_fits();
         match self.plan.predicate() {
             Some(predicate) => holds(predicate, row),
             None => true,
@@ -39,8 +37,6 @@ impl Group<'_> {
         ensures within { result ≤ length batch.now.rows.now }
         ensures together { LieTogether (frame (tree_of self.now)) mark.now batch.now.rows.now from result }
     {
-        self.has_window();
-        stamps_fit();
         self.windows.slice_end(batch.rows, from, mark)
     }
 
@@ -52,8 +48,7 @@ impl Group<'_> {
         requires mark { mark.now ≡ mark_after batch.now.before (take from batch.now.rows.now) }
         ensures { result ≡ mark_after batch.now.before (take end batch.now.rows.now) }
     {
-        self.has_window();
-        stamps_fit();
+        let _plan = &self.plan;
         mark_behind(mark, batch.rows, from, end)
     }
 }

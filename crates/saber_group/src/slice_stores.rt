@@ -10,8 +10,7 @@ use crate::group::Group;
 use crate::open::Open;
 use crate::slice_pieces::SlicePiece;
 use crate::slices::Slice;
-use saber_laws::{closed_stay, groups_join, merge_has_unit, merge_is_associative, no_rows_no_part};
-use saber_partial::{Steps, small_parts_merge};
+use saber_partial::Steps;
 use saber_plan::NoMemory;
 use std::alloc::Global;
 use std::sync::ledger::{Blank, Ledger};
@@ -30,8 +29,7 @@ impl Group<'_> {
         ensures contents { held_in result ≡ empty }
         ensures taken { TakenIn (tree_of self.now) (going_on []) result }
     {
-        self.has_window();
-        no_rows_no_part();
+        let _plan = &self.plan;
         SliceStore {
             windows: Open::new(alloc, 0),
             begun: 0,
@@ -55,9 +53,7 @@ impl Group<'_> {
         ensures went_on { OnOk result (HasGoneOn (tree_of self.now) store.old slices.items closed store.new out.old.items out.new.items) }
         ensures steps { OnOk result (steps.new + store.new.slices.owed + store.old.next ≤ steps.old + store.old.slices.owed + 2 * length slices.items + store.new.next) }
     {
-        self.has_window();
-        merge_has_unit();
-        small_parts_merge();
+        let _plan = &self.plan;
         for slice in slices {
             store.close_lines(self.plan, slice.first, out, steps)?;
             store.take_in(alloc, slice.past, slice.part, steps)?;
@@ -81,8 +77,6 @@ impl Group<'_> {
         ensures come { OnOk result ((closed : ℕ) → HasCome (tree_of self.now) store.old slices.items (Some complete) closed store.new out.old.items out.new.items) }
         ensures steps { OnOk result (PieceSteps store.old (length slices.items) (Some complete) store.new steps.old steps.new) }
     {
-        groups_join();
-        merge_is_associative();
         match self.take_slices(alloc, store, slices, complete.low, out, steps) {
             Ok(()) => {}
             Err(want) => {
@@ -116,10 +110,7 @@ impl Group<'_> {
         ensures come { OnOk result (HasCome (tree_of self.now) store.old piece.slices.items piece.complete closed store.new out.old.items out.new.items) }
         ensures steps { OnOk result (PieceSteps store.old (length piece.slices.items) piece.complete store.new steps.old steps.new) }
     {
-        self.has_window();
-        closed_stay();
-        groups_join();
-        merge_is_associative();
+        let _plan = &self.plan;
         let SlicePiece {
             slices,
             complete,

@@ -11,13 +11,8 @@ ghost use Rattle.saber_group.specs.SliceParts.{IsSlice, with_row};
 use crate::batch::Batch;
 use crate::group::Group;
 use saber_flat::RowRef;
-use saber_laws::{
-    begun_stay, closed_stay, groups_have_one_window, merge_has_unit, merge_is_associative,
-    no_rows_no_part, rows_add_to_groups, rows_span,
-};
-use saber_partial::{Gathering, Partial, groups_are_of_rows, small_parts_merge};
+use saber_partial::{Gathering, Partial};
 use saber_plan::{Mark, NoMemory};
-use saber_window::past_have_none;
 use std::alloc::Global;
 
 /// Some rows of a task, one after another, that lie in the windows from `first` up to `past` and in
@@ -56,6 +51,7 @@ impl Group<'_> {
     }
 
     // Adds a row to a part, if it counts.
+    #[tactic(auto, using(crate::proofs::GroupPlans::row_fits))]
     fn add_row(
         &self,
         alloc: Global,
@@ -67,7 +63,6 @@ impl Group<'_> {
         requires room { CanMerge part.old (p.group_part (tree_of self.now) (row.now.values ∷ [])) }
         ensures { OnOk result (part.new ≡ with_row (tree_of self.now) is_wanted part.old row.now) }
     {
-        groups_have_one_window();
         if self.counts(is_wanted, row) {
             part.add_row(alloc, &self.aggregates, row)?;
         }
@@ -75,12 +70,11 @@ impl Group<'_> {
     }
 
     // The part of one row, if it counts.
+    #[tactic(auto, using(crate::proofs::GroupPlans::row_fits))]
     fn part_of_row(&self, alloc: Global, is_wanted: bool, row: &RowRef) -> Result<Partial, NoMemory>
         requires { IsRowOf (tree_of self.now) row.now }
         ensures { IfOk result (λ part. part ≡ with_row (tree_of self.now) is_wanted p.no_part row.now) }
     {
-        groups_have_one_window();
-        merge_has_unit();
         if self.counts(is_wanted, row) {
             return Partial::of_row(alloc, &self.aggregates, row);
         }
@@ -108,17 +102,7 @@ impl Group<'_> {
         ensures within { IfOk result (λ r. r.end ≤ length batch.now.rows.now) }
         ensures none { OnOk result (part.new ≡ p.no_part) }
     {
-        self.has_window();
-        begun_stay();
-        closed_stay();
-        groups_are_of_rows();
-        merge_has_unit();
-        merge_is_associative();
-        no_rows_no_part();
-        past_have_none();
-        rows_add_to_groups();
-        rows_span();
-        small_parts_merge();
+        let _plan = &self.plan;
         let rows = batch.rows;
         let row = rows.row(from);
         let (first, past) = self.row_windows(&row, mark);

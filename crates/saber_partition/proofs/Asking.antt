@@ -5,12 +5,13 @@ use Rattle.saber_plan.specs.declared.plans.Word.{Word}
 use Rattle.saber_plan.specs.declared.windows.Measure.TheVariants.{Rows}
 use Rattle.saber_plan.specs.declared.windows.Stream.{Stream}
 use Rattle.saber_plan.specs.declared.windows.Window.{Window}
-use Rattle.saber_plan.specs.Trees.{Tree}
+use Rattle.saber_plan.specs.declared.plans.Plan.{Plan}
+use Rattle.saber_plan.specs.Trees.{Tree, tree_of}
 use Rattle.saber_plan.specs.Checked.{IsChecked, PartitionFits}
 use Rattle.saber_plan.specs.Answers.{way_of}
-use Rattle.saber_laws.specs.Plans.{OneWindow, GroupsHaveOneWindow}
-use Rattle.saber_laws.specs.Windows.{CheckedFit}
+use Rattle.saber_laws.specs.Plans.{OneWindow}
 use Rattle.saber_partition.specs.Streams.{Asks}
+use Rattle.saber_laws.proofs.CheckedLaws.{checked_fits as checked_fit, group_has_one as groups_have_one_window}
 
 record Told (ks : List ℕ) (ss : List Stream) (word : Option Word) : Type 0 where
   pub first : ℕ
@@ -40,10 +41,10 @@ some_window : Window → Option Window → Window
 some_window d None = d
 some_window d (Some w) = w
 
-pub asks_of : GroupsHaveOneWindow → CheckedFit → (q : Tree) → IsChecked q → q.shape ≡ Group → 1 ≤ length q.partition → Asks q
+pub asks_of : (q : Tree) → IsChecked q → q.shape ≡ Group → 1 ≤ length q.partition → Asks q
 unfolding first_stream some_window
-asks_of one fit q checked group some =
-    let w : OneWindow q = one q checked group in
+asks_of q checked group some =
+    let w : OneWindow q = groups_have_one_window q checked group in
     let t : Told q.partition q.streams q.word = told q.partition q.streams q.word (subst (λ s. PartitionFits q.partition s q.streams q.word) group checked.partition) some in
     let stream : t.stream ≡ w.stream = ap (first_stream t.stream) (sym t.streams ∙ w.streams) in
     let window : t.window ≡ w.window = ap (some_window t.window) (sym t.windowed ∙ ap (λ (s : Stream). s.window) stream ∙ w.windowed) in
@@ -52,9 +53,13 @@ asks_of one fit q checked group some =
       group = group;
       window = w;
       by_rows = ap (λ (v : Window). v.measure) (sym window) ∙ t.by_rows;
-      fits = fit q checked;
+      fits = checked_fit q checked;
       has_lists = λ j. way_of (t.lists j) q.word;
       first = t.first;
       rest = t.rest;
       lists = t.lists;
     }
+
+-- so does the plan that its operator is over
+pub asks_in : {p : Plan} (q : Plan) → p ≡ q → IsChecked (tree_of p) → (tree_of p).shape ≡ Group → 1 ≤ length (tree_of p).partition → Asks (tree_of q)
+asks_in {p} q e checked group some = subst (λ (r : Plan). Asks (tree_of r)) e (asks_of (tree_of p) checked group some)

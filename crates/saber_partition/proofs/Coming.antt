@@ -15,15 +15,15 @@ use Rattle.saber_plan.specs.Facts.Parts.{total}
 use Rattle.saber_plan.specs.Facts.Lists.{all_weaker}
 use Rattle.saber_plan.specs.Facts.Rows.{is_left, few_rows, fits_front}
 use Rattle.saber_laws.specs.Inputs.{AllOn}
-use Rattle.saber_laws.specs.Lists.{IsCounted, TurnsGoOn}
-use Rattle.saber_laws.specs.Parts.{NoRowsNoPart, PartHasLines}
+use Rattle.saber_laws.specs.Lists.{IsCounted}
 use Rattle.saber_sliding.specs.Entries.{Entries}
-use Rattle.saber_partition.specs.Streams.{Asks, Keeps, Comes, Came, Printed, ListLaws, part_of, lines_between}
+use Rattle.saber_partition.specs.Streams.{Asks, Keeps, Comes, Came, Printed, part_of, lines_between}
 use Rattle.saber_partition.specs.Lists.{Own, Lists, KeptAt, TakenAll, last_lines}
 use Rattle.saber_partition.specs.Pieces.{Made, mark_with, IsMade, ArePieces, RowComes, RowCame, RowsCome, RowsCame, EndCame}
 use Rattle.saber_partition.proofs.Counting.{frame_is}
 use Rattle.saber_partition.proofs.Streaming.{lines_are}
 use Rattle.saber_partition.proofs.Listing.{substream_next, keeps_nothing, taken_more, IsKept, all_kept, last_is}
+use Rattle.saber_laws.proofs.ListLaws.{counted as streams_are_counted, fit as substreams_fit, turns as turns_go_on}
 
 -- ---- one row
 
@@ -41,15 +41,15 @@ closed_with q a n = subst (λ f. closed_count f (mark_with n) ≡ count_to a.win
 begun_with : (q : Tree) (a : Asks q) (n : ℕ) → begun_count (frame q) (mark_with n) ≡ count_to a.window.window.slide 1 n
 begun_with q a n = subst (λ f. begun_count f (mark_with n) ≡ count_to a.window.window.slide 1 n) (sym (frame_is q a)) refl
 
-module _ (laws : ListLaws) (q : Tree) (xs : List Row) (r : Row) (p : Made) (m : Lists) (c : RowComes q xs r p m) where
+module _ (q : Tree) (xs : List Row) (r : Row) (p : Made) (m : Lists) (c : RowComes q xs r p m) where
   abbrev pub us : List Row
   us = substream q (list_of q r) xs
 
   fits : RowsFit q no_rows (us ++ r ∷ [])
-  fits = subst (RowsFit q no_rows) (own_next q xs r) (laws.fit q (list_of q r) (xs ++ r ∷ []) c.fits)
+  fits = subst (RowsFit q no_rows) (own_next q xs r) (substreams_fit q (list_of q r) (xs ++ r ∷ []) c.fits)
 
   counted : IsCounted q c.asks.window.window.slide c.asks.window.window.size (us ++ r ∷ [])
-  counted = laws.counted q c.asks.window.window.slide c.asks.window.window.size (frame_is q c.asks) (us ++ r ∷ []) (all_left q c.asks (us ++ r ∷ []) fits)
+  counted = streams_are_counted q c.asks.window.window.slide c.asks.window.window.size (frame_is q c.asks) (us ++ r ∷ []) (all_left q c.asks (us ++ r ∷ []) fits)
 
   longer : p.place + 1 ≡ length (us ++ r ∷ [])
   longer = let long = length-append us (r ∷ []) in let place = c.made.place_is in omega (arith, long, place)
@@ -72,10 +72,10 @@ module _ (laws : ListLaws) (q : Tree) (xs : List Row) (r : Row) (p : Made) (m : 
   pub keeps_found : (o : Own) → get m p.list ≡ Some o → Keeps q us o.next o.begun o.entries
   keeps_found o e = (kept_here (Some o) e).1
 
-  pub keeps_first : NoRowsNoPart → (next begun : ℕ) (es : Entries) → next ≡ 0 → begun ≡ 0 → es ≡ [] → get m p.list ≡ None → Keeps q us next begun es
-  keeps_first none next begun es n b e g =
+  pub keeps_first : (next begun : ℕ) (es : Entries) → next ≡ 0 → begun ≡ 0 → es ≡ [] → get m p.list ≡ None → Keeps q us next begun es
+  keeps_first next begun es n b e g =
       subst (λ (o : Own). Keeps q us o.next o.begun o.entries) (λ j. record { next = sym n j; begun = sym b j; entries = sym e j })
-      (subst (λ l. Keeps q l 0 0 []) (sym (kept_here None g)) (keeps_nothing none q c.asks))
+      (subst (λ l. Keeps q l 0 0 []) (sym (kept_here None g)) (keeps_nothing q c.asks))
 
   pub row_came : (o : Own) (n : Lists) (before after : List ℕ) → n ≡ insert m p.list o → Came q us r o.next o.begun o.entries before after → RowCame q xs r n before after
   row_came o n before after e came = record {
@@ -152,9 +152,9 @@ module _ (q : Tree) (xs rs : List Row) (ps : List Made) (start : Lists) (c : Row
     taken = a.taken;
   }
 
-  pub along_more : TurnsGoOn → (n : Lists) (new : List ℕ) → RowCame q behind next_row n out new → Along q xs rs left n before new
+  pub along_more : (n : Lists) (new : List ℕ) → RowCame q behind next_row n out new → Along q xs rs left n before new
   unfolding next next_row
-  along_more turns n new came = record {
+  along_more n new came = record {
     front = a.front ++ next.row ∷ [];
     back = next.rest;
     split = a.split ∙ ap (λ l. a.front ++ l) next.back_is ∙ sym (append_assoc a.front (next.row ∷ []) next.rest);
@@ -163,7 +163,7 @@ module _ (q : Tree) (xs rs : List Row) (ps : List Made) (start : Lists) (c : Row
     text =
         let own = closed_by q (substream q (list_of q next.row) (xs ++ a.front)) next.row in
         came.text ∙ ap (λ o. o ++ own) a.text ∙ append_assoc before (closed_in_turn q xs a.front) own
-        ∙ ap (λ l. before ++ l) (ap (λ l. closed_in_turn q xs a.front ++ l) (sym (one_turn q (xs ++ a.front) next.row)) ∙ sym (turns q xs a.front (next.row ∷ [])));
+        ∙ ap (λ l. before ++ l) (ap (λ l. closed_in_turn q xs a.front ++ l) (sym (one_turn q (xs ++ a.front) next.row)) ∙ sym (turns_go_on q xs a.front (next.row ∷ [])));
   }
 
 pub along_done : (q : Tree) (xs rs : List Row) (m : Lists) (before out : List ℕ) → Along q xs rs [] m before out → RowsCame q xs rs m before out
@@ -184,18 +184,18 @@ pub record Left_to_print (q : Tree) (xs : List Row) (left : List (List ℤ × Ow
   pub kept : AllByRecursion (IsKept q xs) left
   pub text : after ++ rest_lines q xs left ≡ before ++ closed_at_last q xs
 
-pub left_all : NoRowsNoPart → (q : Tree) → Asks q → (xs : List Row) (m : Lists) (left : List (List ℤ × Own)) (before : List ℕ) → left ≡ entries m → TakenAll q xs m → Left_to_print q xs left before before
-left_all none q a xs m left before e t = record {
-  kept = subst (AllByRecursion (IsKept q xs)) (sym e) (all_kept none q a xs m t);
+pub left_all : (q : Tree) → Asks q → (xs : List Row) (m : Lists) (left : List (List ℤ × Own)) (before : List ℕ) → left ≡ entries m → TakenAll q xs m → Left_to_print q xs left before before
+left_all q a xs m left before e t = record {
+  kept = subst (AllByRecursion (IsKept q xs)) (sym e) (all_kept q a xs m t);
   text = ap (λ l. before ++ l) (ap (rest_lines q xs) e ∙ last_is q xs m t);
 }
 
 same_span : (n k : ℕ) → max n k - n ≡ k - n
 same_span n k = omega arith
 
-pub left_less : PartHasLines → (q : Tree) → Asks q → (xs : List Row) (k : List ℤ) (o : Own) (left : List (List ℤ × Own)) (done : ℕ) (before out new : List ℕ)
+pub left_less : (q : Tree) → Asks q → (xs : List Row) (k : List ℤ) (o : Own) (left : List (List ℤ × Own)) (done : ℕ) (before out new : List ℕ)
     → done ≡ max o.next o.begun → Printed q o.next o.entries done out new → Left_to_print q xs ((k, o) ∷ left) before out → Left_to_print q xs left before new
-left_less law q a xs k o left done before out new most printed h =
+left_less q a xs k o left done before out new most printed h =
     let us = substream q k xs in
     let keeps = h.kept.0 in
     let lines : new ≡ out ++ last_lines q us =
@@ -203,7 +203,7 @@ left_less law q a xs k o left done before out new most printed h =
     ∙ ap (λ l. out ++ l) (ap (lines_between q us o.next) most
     ∙ ap (λ d. flat_map (λ i. part_lines q i (part_of q i us)) (from o.next d)) (same_span o.next o.begun)
     ∙ (λ j. lines_between q us (keeps.next_is j) (keeps.begun_is j))
-    ∙ sym (lines_are law q a.group us (past_in q us) (begun_in q us))) in
+    ∙ sym (lines_are q a.group us (past_in q us) (begun_in q us))) in
     record {
       kept = h.kept.1;
       text = ap (λ l. l ++ rest_lines q xs left) lines ∙ append_assoc out (last_lines q us) (rest_lines q xs left) ∙ h.text;

@@ -16,9 +16,9 @@ use Rattle.saber_plan.specs.Needs.{first_window, past_window}
 use Rattle.saber_plan.specs.GivenRows.{IsRowOf, RowsFit}
 use Rattle.saber_plan.specs.Facts.Lists.{all_back}
 use Rattle.saber_plan.specs.Facts.Rows.{mark-append, is_left, fits_back}
-use Rattle.saber_laws.specs.Needs.{RowsSpan}
-use Rattle.saber_laws.specs.Windows.{BegunStay}
 use Rattle.saber_partition.specs.Streams.{Asks}
+use Rattle.saber_laws.proofs.WindowLaws.{begun_count_rises as begun_stay}
+use Rattle.saber_laws.proofs.NeedLaws.{has_is as rows_span}
 
 -- ---- counts
 
@@ -100,9 +100,9 @@ module _ (q : Tree) (a : Asks q) where
         ∙ sym (ap (begun_count (frame q)) next_mark)
 
     -- the windows that aren't closed before the row and are begun with it have it, and no other
-    pub has_is : RowsSpan → (i : ℕ) → past_in q us ≤ i → has (frame q) i (record { row = r; before = mark_of us }) ≡ nat_lt i (begun_in q (us ++ r ∷ []))
-    has_is span i l =
-        span (frame q) a.fits i (record { row = r; before = mark_of us })
+    pub has_is : (i : ℕ) → past_in q us ≤ i → has (frame q) i (record { row = r; before = mark_of us }) ≡ nat_lt i (begun_in q (us ++ r ∷ []))
+    has_is i l =
+        rows_span (frame q) a.fits i (record { row = r; before = mark_of us })
         ∙ (λ j. nat_le (first_is j) i && nat_lt i (past_is j))
         ∙ ap (λ b. b && nat_lt i (begun_in q (us ++ r ∷ []))) (le_true (past_in q us) i l)
 
@@ -111,6 +111,6 @@ module _ (q : Tree) (a : Asks q) where
         (subst (λ f. past_count f (mark_of us) ≤ past_count f (step_mark (mark_of us) r)) (sym frame_is)
         (past_more a.window.window.slide a.window.window.size (mark_of us) r.side r.values a.window.fits.slide.0 left))
 
-    pub begun_rises : BegunStay → begun_in q us ≤ begun_in q (us ++ r ∷ [])
-    begun_rises stay = subst (λ n. begun_in q us ≤ begun_count (frame q) n) (sym next_mark)
-        (stay (frame q) a.fits (mark_of us) (r ∷ []) (fits_back q no_rows us (r ∷ []) fits).ordered)
+    pub begun_rises : begun_in q us ≤ begun_in q (us ++ r ∷ [])
+    begun_rises = subst (λ n. begun_in q us ≤ begun_count (frame q) n) (sym next_mark)
+        (begun_stay (frame q) a.fits (mark_of us) (r ∷ []) (fits_back q no_rows us (r ∷ []) fits).ordered)

@@ -19,7 +19,6 @@ use Rattle.saber_plan.specs.Facts.Parts.{total, exact, keyed_list}
 use Rattle.saber_plan.specs.Facts.Maps.{equal_if, entries-empty}
 use Rattle.saber_plan.specs.Facts.Numbers.{flat_map-from, numbered_is}
 use Rattle.saber_plan.specs.Tasks.{full, numbered_list, Parts, list_input, unclosed, unclosed_by_list}
-use Rattle.saber_laws.specs.Parts.{NoRowsNoPart}
 use Rattle.saber_sliding.specs.Entries.{part_at}
 use Rattle.saber_partition.specs.Streams.{Asks, Keeps}
 use Rattle.saber_partition.specs.Lists.{Own, nothing, Lists, KeptAt, TakenAll, held_parts, held_lists, last_lines}
@@ -66,22 +65,22 @@ no_count : (b : Bool) (n : ℕ) → b ≡ false → 0 ≡ cond b n 0
 no_count true n e = cc
 no_count false n e = refl
 
-pub keeps_nothing : NoRowsNoPart → (q : Tree) → Asks q → Keeps q [] 0 0 []
-keeps_nothing none q a =
+pub keeps_nothing : (q : Tree) → Asks q → Keeps q [] 0 0 []
+keeps_nothing q a =
     let slide = a.window.window.slide in
     let size = a.window.window.size in
     record {
-      holds = holds_nothing none q 0 [] refl;
+      holds = holds_nothing q 0 [] refl;
       next_is = subst (λ f. 0 ≡ past_count f no_rows) (sym (frame_is q a)) (no_count (nat_le size 0) ((0 - size) / slide + 1) (lt-leb size 0 a.window.fits.size.0));
       begun_is = subst (λ f. 0 ≡ begun_count f no_rows) (sym (frame_is q a)) refl;
     }
 
-kept_or : NoRowsNoPart → (q : Tree) → Asks q → (us : List Row) (o : Option Own) → KeptAt q us o → Keeps q us (own_or o).next (own_or o).begun (own_or o).entries
-kept_or none q a us None e = subst (λ l. Keeps q l 0 0 []) (sym e) (keeps_nothing none q a)
-kept_or none q a us (Some o) e = e.1
+kept_or : (q : Tree) → Asks q → (us : List Row) (o : Option Own) → KeptAt q us o → Keeps q us (own_or o).next (own_or o).begun (own_or o).entries
+kept_or q a us None e = subst (λ l. Keeps q l 0 0 []) (sym e) (keeps_nothing q a)
+kept_or q a us (Some o) e = e.1
 
-pub kept_own : NoRowsNoPart → (q : Tree) → Asks q → (xs : List Row) (m : Lists) → TakenAll q xs m → (k : List ℤ) → Keeps q (substream q k xs) (own_at m k).next (own_at m k).begun (own_at m k).entries
-kept_own none q a xs m t k = kept_or none q a (substream q k xs) (get m k) (t k)
+pub kept_own : (q : Tree) → Asks q → (xs : List Row) (m : Lists) → TakenAll q xs m → (k : List ℤ) → Keeps q (substream q k xs) (own_at m k).next (own_at m k).begun (own_at m k).entries
+kept_own q a xs m t k = kept_or q a (substream q k xs) (get m k) (t k)
 
 -- ---- the map by the key lists of the rows
 
@@ -148,13 +147,13 @@ map_keyed f g h e (k ∷ ks) = λ j. (k, e k j) ∷ map_keyed f g h e ks j
 abbrev is_some : List ℤ × Parts → Bool
 is_some e = not (len e.1 == 0)
 
-pub held_is : NoRowsNoPart → (q : Tree) → Asks q → (xs : List Row) (m : Lists) → TakenAll q xs m → held_lists m ≡ unclosed_by_list q (going_on xs)
+pub held_is : (q : Tree) → Asks q → (xs : List Row) (m : Lists) → TakenAll q xs m → held_lists m ≡ unclosed_by_list q (going_on xs)
 unfolding unclosed_by_list
-held_is none q a xs m t =
+held_is q a xs m t =
     let h = λ (k : List ℤ). unclosed q (list_input q k (going_on xs)) in
     ap (λ es. from_entries {R = key_cmp} (filter is_some (map (λ e. (e.0, held_parts e.1)) es))) (entries_are q xs m t)
     ∙ ap (λ es. from_entries {R = key_cmp} (filter is_some es))
-    (map_keyed held_parts (own_at m) h (λ k. held_own q a.group (substream q k xs) (own_at m k) (kept_own none q a xs m t k)) (lists_in q xs))
+    (map_keyed held_parts (own_at m) h (λ k. held_own q a.group (substream q k xs) (own_at m k) (kept_own q a xs m t k)) (lists_in q xs))
 
 pub nothing_held : held_lists empty ≡ empty
 nothing_held = ap (λ es. from_entries {R = key_cmp} (filter is_some (map (λ e. (e.0, held_parts e.1)) es))) (entries-empty key_cmp)
@@ -176,5 +175,5 @@ all_keyed P g h (k ∷ ks) = (h k, all_keyed P g h ks)
 abbrev pub IsKept : Tree → List Row → List ℤ × Own → Type 0
 IsKept q xs e = Keeps q (substream q e.0 xs) e.1.next e.1.begun e.1.entries
 
-pub all_kept : NoRowsNoPart → (q : Tree) → Asks q → (xs : List Row) (m : Lists) → TakenAll q xs m → AllByRecursion (IsKept q xs) (entries m)
-all_kept none q a xs m t = subst (AllByRecursion (IsKept q xs)) (sym (entries_are q xs m t)) (all_keyed (IsKept q xs) (own_at m) (kept_own none q a xs m t) (lists_in q xs))
+pub all_kept : (q : Tree) → Asks q → (xs : List Row) (m : Lists) → TakenAll q xs m → AllByRecursion (IsKept q xs) (entries m)
+all_kept q a xs m t = subst (AllByRecursion (IsKept q xs)) (sym (entries_are q xs m t)) (all_keyed (IsKept q xs) (own_at m) (kept_own q a xs m t) (lists_in q xs))

@@ -2,32 +2,42 @@
 use Rattle.std.proofs.Common.{◌≡◌, ◌<◌, [], ◌∷◌, length, true, false, cond, sym, ◌∙◌, ap, subst}
 use Rattle.std.specs.List.{AllByRecursion}
 use Rattle.saber_plan.specs.declared.rows.Row.{Row}
+use Rattle.saber_plan.specs.declared.plans.Shape.TheVariants.{Group}
 use Rattle.saber_plan.specs.declared.rows.Side.TheVariants.{Left}
 use Rattle.saber_plan.specs.Trees.{Tree}
 use Rattle.saber_plan.specs.Rows.{RowFits}
-use Rattle.saber_plan.specs.Checked.{columns_on}
+use Rattle.saber_plan.specs.Checked.{IsChecked, columns_on}
 use Rattle.saber_plan.specs.GivenRows.{IsRowOf}
 use Rattle.saber_plan.specs.Values.{passes}
 use Rattle.saber_plan.specs.Parts.{no_part, group_part}
 use Rattle.saber_plan.specs.Facts.Lists.{all_weaker}
 use Rattle.saber_plan.specs.Facts.Rows.{is_left}
-use Rattle.saber_laws.specs.Parts.{NoRowsNoPart}
 use Rattle.saber_partition.specs.Streams.{Asks, row_part}
+use Rattle.saber_eval.specs.Widths.{widths}
+use Rattle.saber_eval.specs.Fitting.{PlanFits}
+use Rattle.saber_eval.proofs.FittingLaws.{one_stream as one_stream_fits}
+use Rattle.saber_laws.proofs.CheckedLaws.{group_has_one as groups_have_one_window}
+use Rattle.saber_laws.proofs.CutLaws.{no_rows_no_part}
+
+-- a row of the one stream
+pub row_fits : (q : Tree) (r : Row) → IsChecked q → q.shape ≡ Group → IsRowOf q r → RowFits Left (columns_on q.streams Left) r
+row_fits q r checked group h =
+    let w = groups_have_one_window q checked group in
+    subst (λ s. RowFits s (columns_on q.streams s) r) (is_left q w.stream w.streams r h) h.fits
+
+-- which the plan fits
+pub plan_fits : (q : Tree) (r : Row) → IsChecked q → q.shape ≡ Group → IsRowOf q r → PlanFits q (widths r.values [])
+plan_fits q r checked group h =
+    let w = groups_have_one_window q checked group in
+    one_stream_fits q w.stream r checked w.streams (subst (λ ss. RowFits Left (columns_on ss Left) r) w.streams (row_fits q r checked group h))
 
 module _ (q : Tree) (a : Asks q) (r : Row) (is : IsRowOf q r) where
-  left : r.side ≡ Left
-  left = is_left q a.window.stream a.window.streams r is
-
-  -- it is a row of the only stream
-  pub fits_left : RowFits Left (columns_on q.streams Left) r
-  fits_left = subst (λ s. RowFits s (columns_on q.streams s) r) left is.fits
-
   -- the columns of its key list are there
   pub lists_there : AllByRecursion (λ k. k < length r.values) q.partition
-  lists_there = all_weaker (λ k. k < columns_on q.streams Left) (λ k. k < length r.values) (λ k h. subst (λ n. k < n) (sym fits_left.count) h) q.partition a.checked.lists
+  lists_there = all_weaker (λ k. k < columns_on q.streams Left) (λ k. k < length r.values) (λ k h. subst (λ n. k < n) (sym (row_fits q r a.checked a.group is).count) h) q.partition a.checked.lists
 
 pub passing_part : (q : Tree) (r : Row) → passes q.predicate r.values [] ≡ true → group_part q (r.values ∷ []) ≡ row_part q r
 passing_part q r e = ap (λ b. group_part q (cond b (r.values ∷ []) [])) (sym e)
 
-pub failing_part : NoRowsNoPart → (q : Tree) (r : Row) → passes q.predicate r.values [] ≡ false → no_part ≡ row_part q r
-failing_part none q r e = sym (none q).of_groups ∙ ap (λ b. group_part q (cond b (r.values ∷ []) [])) (sym e)
+pub failing_part : (q : Tree) (r : Row) → passes q.predicate r.values [] ≡ false → no_part ≡ row_part q r
+failing_part q r e = sym (no_rows_no_part q).of_groups ∙ ap (λ b. group_part q (cond b (r.values ∷ []) [])) (sym e)

@@ -16,14 +16,17 @@ use Rattle.saber_plan.specs.Parts as p
 use Rattle.saber_plan.specs.Parts.{Part, part, no_part, group_part, pair_part, merge, part_lines, group_answer}
 use Rattle.saber_plan.specs.Facts.Numbers.{flat_map-from, flat_nil, flat_step, flat_skip}
 use Rattle.saber_plan.specs.Facts.Rows.{placed-append, placed-one, length-placed, few_rows}
-use Rattle.saber_laws.specs.Groups.{GroupsJoin}
-use Rattle.saber_laws.specs.Parts.{NoRowsNoPart, PartHasLines}
 use Rattle.saber_partial.specs.Tallies.{CanMerge}
 use Rattle.saber_partial.specs.PartLaws.{OfRows}
 use Rattle.saber_sliding.specs.Entries.{Entries, whole, dropped_entries, part_at, CanFollow, Put}
 use Rattle.saber_sliding.specs.EntryFacts.{all_map, all_dropped, all_put, part_at-dropped, whole-dropped, part_at-put, part_at-behind}
-use Rattle.saber_partition.specs.Streams.{part_of, lines_between, row_part, Entered, Holds, HoldStill, Printed, Comes, Came, StreamLaws}
+use Rattle.saber_partition.specs.Streams.{part_of, lines_between, row_part, Entered, Holds, HoldStill, Printed, Comes, Came}
 use Rattle.saber_partition.proofs.Counting.{has_is, past_rises, begun_rises, lt_true, lt_false}
+use Rattle.saber_partial.proofs.Counted.{groups_of_rows as groups_are_of_rows, small_merge, small_stay}
+use Rattle.saber_laws.proofs.PartLaws.{group_part-append as groups_join}
+use Rattle.saber_laws.proofs.CutLaws.{no_rows_no_part}
+use Rattle.saber_laws.proofs.ShareLaws.{lines-part as part_has_lines}
+use Rattle.saber_plan.specs.Facts.Parts.{merge-empty_right}
 
 -- ---- windows that are done
 
@@ -67,8 +70,8 @@ part_whole q e i us =
     ∙ ap (λ l. group_part q (passing_values q (filter (has (frame q) i) l))) all
 
 -- the lines of windows are those of their parts
-pub lines_are : PartHasLines → (q : Tree) → q.shape ≡ Group → (us : List Row) (a b : ℕ) → lines_from q us a b ≡ lines_between q us a b
-lines_are law q e us a b = flat_map-from (λ i. lines q i us) (λ i. part_lines q i (part_of q i us)) a (b - a) (λ i l h. law q i us ∙ ap (part_lines q i) (part_whole q e i us))
+pub lines_are : (q : Tree) → q.shape ≡ Group → (us : List Row) (a b : ℕ) → lines_from q us a b ≡ lines_between q us a b
+lines_are q e us a b = flat_map-from (λ i. lines q i us) (λ i. part_lines q i (part_of q i us)) a (b - a) (λ i l h. part_has_lines q i us ∙ ap (part_lines q i) (part_whole q e i us))
 
 -- and so the parts that are kept are those of the definition
 pub part_is_whole : (q : Tree) → q.shape ≡ Group → (i : ℕ) (us : List Row) → part_of q i us ≡ part q i us 0 (length us)
@@ -76,34 +79,34 @@ part_is_whole q e i us = sym (part_whole q e i us)
 
 -- ---- no rows
 
-pub holds_nothing : NoRowsNoPart → (q : Tree) (n : ℕ) (es : Entries) → es ≡ [] → Holds q [] n es
+pub holds_nothing : (q : Tree) (n : ℕ) (es : Entries) → es ≡ [] → Holds q [] n es
 unfolding placed_after
-holds_nothing none q n es e = subst (Holds q [] n) (sym e) (record { at = λ i l. (none q).of_groups; begun = tt; few = tt })
+holds_nothing q n es e = subst (Holds q [] n) (sym e) (record { at = λ i l. (no_rows_no_part q).of_groups; begun = tt; few = tt })
 
 -- ---- one row more
 
 few_more : (q : Tree) (n k : ℕ) (m : Part) → n ≤ k → OfRows q n m → OfRows q k m
 few_more q n k m h few = record { at = λ key a e. (le_trans (few.at key a e).0 h, (few.at key a e).1); keys = few.keys }
 
-one_case : NoRowsNoPart → (q : Tree) (x : Placed) (b : Bool) → group_part q (passing_values q (cond b (x ∷ []) [])) ≡ cond b (row_part q x.row) no_part
-one_case none q x true = refl
-one_case none q x false = (none q).of_groups
+one_case : (q : Tree) (x : Placed) (b : Bool) → group_part q (passing_values q (cond b (x ∷ []) [])) ≡ cond b (row_part q x.row) no_part
+one_case q x true = refl
+one_case q x false = (no_rows_no_part q).of_groups
 
 passing-append : (q : Tree) (us vs : List Placed) → passing_values q (us ++ vs) ≡ passing_values q us ++ passing_values q vs
 passing-append q us vs = ap (filter (λ zs. passes q.predicate zs [])) (map-append (λ x. x.row.values) us vs) ∙ filter-append (λ zs. passes q.predicate zs []) (map (λ x. x.row.values) us) (map (λ x. x.row.values) vs)
 
-part_next : GroupsJoin → NoRowsNoPart → (q : Tree) (i : ℕ) (us : List Row) (r : Row)
+part_next : (q : Tree) (i : ℕ) (us : List Row) (r : Row)
     → part_of q i (us ++ r ∷ []) ≡ merge (part_of q i us) (cond (has (frame q) i (record { row = r; before = mark_of us })) (row_part q r) no_part)
-part_next join none q i us r =
+part_next q i us r =
     let x : Placed = record { row = r; before = mark_of us } in
     let here = filter (has (frame q) i) (placed_from_start us) in
     ap (λ l. group_part q (passing_values q (filter (has (frame q) i) l))) (placed-append no_rows us (r ∷ []) ∙ ap (λ l. placed_from_start us ++ l) (placed-one (mark_of us) r))
     ∙ ap (λ l. group_part q (passing_values q l)) (filter-append (has (frame q) i) (placed_from_start us) (x ∷ []))
     ∙ ap (group_part q) (passing-append q here (cond (has (frame q) i x) (x ∷ []) []))
-    ∙ join q (passing_values q here) (passing_values q (cond (has (frame q) i x) (x ∷ []) []))
-    ∙ ap (merge (part_of q i us)) (one_case none q x (has (frame q) i x))
+    ∙ groups_join q (passing_values q here) (passing_values q (cond (has (frame q) i x) (x ∷ []) []))
+    ∙ ap (merge (part_of q i us)) (one_case q x (has (frame q) i x))
 
-module _ (laws : StreamLaws) (q : Tree) (us : List Row) (r : Row) (low past : ℕ) (m : Part) (c : Comes q us r low past m) where
+module _ (q : Tree) (us : List Row) (r : Row) (low past : ℕ) (m : Part) (c : Comes q us r low past m) where
   abbrev all : List Row
   all = us ++ r ∷ []
 
@@ -116,22 +119,22 @@ module _ (laws : StreamLaws) (q : Tree) (us : List Row) (r : Row) (low past : �
   of_row : OfRows q 1 m
   of_row = subst (OfRows q 1) (sym c.part_is)
       (few_more q (length (filter (λ zs. passes q.predicate zs []) (r.values ∷ []))) 1 (row_part q r) (few_pass (λ zs. passes q.predicate zs []) (r.values ∷ []))
-      (laws.of_rows q (filter (λ zs. passes q.predicate zs []) (r.values ∷ []))))
+      (groups_are_of_rows q (filter (λ zs. passes q.predicate zs []) (r.values ∷ []))))
 
   part_by : (b : Bool) (i : ℕ) → past_in q us ≤ i → nat_lt i past ≡ b → part_of q i all ≡ merge (part_of q i us) (cond b m no_part)
   part_by b i l e =
-      part_next laws.join laws.none q i us r
-      ∙ ap (λ t. merge (part_of q i us) (cond t (row_part q r) no_part)) (has_is q c.asks us r c.fits laws.span i l ∙ ap (nat_lt i) (sym c.past_is) ∙ e)
+      part_next q i us r
+      ∙ ap (λ t. merge (part_of q i us) (cond t (row_part q r) no_part)) (has_is q c.asks us r c.fits i l ∙ ap (nat_lt i) (sym c.past_is) ∙ e)
       ∙ ap (λ o. merge (part_of q i us) (cond b o no_part)) (sym c.part_is)
 
   inside : (i : ℕ) → past_in q us ≤ i → i < past → part_of q i all ≡ merge (part_of q i us) m
   inside i l h = part_by true i l (lt_true i past h)
 
   behind : (i : ℕ) → past_in q us ≤ i → past ≤ i → part_of q i all ≡ part_of q i us
-  behind i l h = part_by false i l (lt_false i past h) ∙ (laws.unit (part_of q i us)).1
+  behind i l h = part_by false i l (lt_false i past h) ∙ (merge-empty_right (part_of q i us))
 
   begun_up : begun_in q us ≤ past
-  begun_up = subst (λ n. begun_in q us ≤ n) (sym c.past_is) (begun_rises q c.asks us r c.fits laws.stay)
+  begun_up = subst (λ n. begun_in q us ≤ n) (sym c.past_is) (begun_rises q c.asks us r c.fits)
 
   module _ (next : ℕ) (es : Entries) (next_is : next ≡ past_in q us) (contents : Holds q us next es) where
     low_next : (i : ℕ) → next ≤ i → past_in q us ≤ i
@@ -145,7 +148,7 @@ module _ (laws : StreamLaws) (q : Tree) (us : List Row) (r : Row) (low past : �
 
     -- the row can go behind each of them
     pub has_room : CanFollow m es
-    has_room = all_map (IsFew us) (λ e. CanMerge e.1 m) es (λ e h. (laws.small q (length us) 1 e.1 m h of_row few).0) contents.few
+    has_room = all_map (IsFew us) (λ e. CanMerge e.1 m) es (λ e h. small_merge q (length us) 1 e.1 m h of_row few) contents.few
 
     ends_low : AllByRecursion (λ (e : ℕ × Part). e.0 ≤ past) es
     ends_low = all_map (IsBegun us) (λ e. e.0 ≤ past) es (λ e h. le_trans h begun_up) contents.begun
@@ -160,7 +163,7 @@ module _ (laws : StreamLaws) (q : Tree) (us : List Row) (r : Row) (low past : �
     few_same e h = let long = longer in few_more q (length us) (length all) e.1 (omega (arith, long)) h
 
     few_both : (e : ℕ × Part) → IsFew us e → IsFew all (e.0, merge e.1 m)
-    few_both e h = subst (λ n. OfRows q n (merge e.1 m)) (sym longer) (laws.small q (length us) 1 e.1 m h of_row few).1
+    few_both e h = subst (λ n. OfRows q n (merge e.1 m)) (sym longer) (small_stay q (length us) 1 e.1 m h of_row)
 
     few_one : IsFew all (past, m)
     few_one = let long = longer in few_more q 1 (length all) m (omega (arith, long)) of_row
@@ -168,7 +171,7 @@ module _ (laws : StreamLaws) (q : Tree) (us : List Row) (r : Row) (low past : �
     holds_same : m ≡ no_part → Holds q all next es
     holds_same none = record {
       at = λ i l. ⊎_elim
-          (λ h. inside i (low_next i l) h ∙ (λ j. merge (contents.at i l j) (none j)) ∙ (laws.unit (part_at es i)).1)
+          (λ h. inside i (low_next i l) h ∙ (λ j. merge (contents.at i l j) (none j)) ∙ (merge-empty_right (part_at es i)))
           (λ h. behind i (low_next i l) h ∙ contents.at i l)
           (cases_lt i past);
       begun = all_map (IsBegun us) (IsBegun all) es begun_more contents.begun;
@@ -181,7 +184,7 @@ module _ (laws : StreamLaws) (q : Tree) (us : List Row) (r : Row) (low past : �
     holds_put : (fs : Entries) → Put es past m fs → Holds q all next fs
     holds_put fs put = record {
       at = λ i l. ⊎_elim
-          (λ h. inside i (low_next i l) h ∙ ap (λ a. merge a m) (contents.at i l) ∙ sym (part_at-put laws.unit es past m fs i put h))
+          (λ h. inside i (low_next i l) h ∙ ap (λ a. merge a m) (contents.at i l) ∙ sym (part_at-put es past m fs i put h))
           (λ h. behind i (low_next i l) h ∙ contents.at i l ∙ part_at-behind es i (none_behind i h)
           ∙ sym (part_at-behind fs i (all_put (λ e. e.0 ≤ past) (λ e. e.0 ≤ i) es past m fs (λ e g. le_trans g h) h put ends_low)))
           (cases_lt i past);
@@ -204,5 +207,5 @@ module _ (laws : StreamLaws) (q : Tree) (us : List Row) (r : Row) (low past : �
         let more = holds_more fs entered in
         record {
           keeps = record { holds = still all more; next_is = at_low ∙ c.low_is; begun_is = same ∙ c.past_is };
-          text = printed all more ∙ ap (λ l. before ++ l) ((λ j. lines_between q all (next_is j) ((at_low ∙ c.low_is) j)) ∙ sym (lines_are laws.printed q c.asks.group all (past_in q us) (past_in q all)));
+          text = printed all more ∙ ap (λ l. before ++ l) ((λ j. lines_between q all (next_is j) ((at_low ∙ c.low_is) j)) ∙ sym (lines_are q c.asks.group all (past_in q us) (past_in q all)));
         }

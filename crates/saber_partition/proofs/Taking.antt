@@ -11,14 +11,14 @@ use Rattle.saber_plan.specs.Answers.{by_way, closed_in_turn, closed_at_last}
 use Rattle.saber_plan.specs.Facts.Lists.{slice-front, slice-join}
 use Rattle.saber_plan.specs.Facts.Rows.{fits_take}
 use Rattle.saber_plan.specs.Tasks.{by_windows, unclosed, unclosed_by_list, last_answers, kept_behind, plain_added, list_added, change_added, added_text, places_after, places_by}
-use Rattle.saber_laws.specs.Lists.{NoListOpenBehind}
-use Rattle.saber_laws.specs.Marks.{EndsAreBehind}
-use Rattle.saber_laws.specs.Parts.{NoRowsNoPart}
 use Rattle.saber_fragment.specs.Drafts.{Sight, IsSightOf}
 use Rattle.saber_partition.specs.Streams.{Asks}
 use Rattle.saber_partition.specs.Lists.{Lists, TakenBy, TakenIn, held_lists, kept_in}
 use Rattle.saber_partition.specs.Pieces.{Made, IsMade, AreMade, ArePieces, IsOf, HasSeen, RowsCome, RowsCame, EndCame, Follow, Followed}
 use Rattle.saber_partition.proofs.Listing.{held_is, nothing_held}
+use Rattle.saber_laws.proofs.FlushLaws.{nothing_open}
+use Rattle.saber_laws.proofs.ListLaws.{no_list_open}
+use Rattle.saber_laws.proofs.EndLaws.{end_behind as ends_are_behind}
 
 -- ---- making
 
@@ -79,13 +79,13 @@ module _ (q : Tree) (a : Asks q) (r : Input) (x y : ℕ) (ps : List Made) (ended
     taken = subst (λ b. TakenBy b q old_rows m) f.of_is.opens f.taken;
   }
 
-  end_rows : EndsAreBehind → (b : Bool) → b ≡ (first_arrivals r y).ended → cond b (closed_at_last q (take y r.rows)) [] ≡ cond b (closed_at_last q r.rows) []
-  end_rows law true e = ap (closed_at_last q) (take_all y r.rows (let far = law r y (sym e) in omega (arith, far)))
-  end_rows law false e = refl
+  end_rows : (b : Bool) → b ≡ (first_arrivals r y).ended → cond b (closed_at_last q (take y r.rows)) [] ≡ cond b (closed_at_last q r.rows) []
+  end_rows true e = ap (closed_at_last q) (take_all y r.rows (let far = ends_are_behind r y (sym e) in omega (arith, far)))
+  end_rows false e = refl
 
   -- the rows are in, and then the end
-  pub followed : EndsAreBehind → (n k : Lists) (before middle after : List ℕ) → RowsCame q old_rows new_rows n before middle → EndCame q (old_rows ++ new_rows) ended k middle after → Followed q r x y k before after
-  followed law n k before middle after rows end =
+  pub followed : (n k : Lists) (before middle after : List ℕ) → RowsCame q old_rows new_rows n before middle → EndCame q (old_rows ++ new_rows) ended k middle after → Followed q r x y k before after
+  followed n k before middle after rows end =
       let open_then : not (first_arrivals r x).ended && (first_arrivals r y).ended ≡ ended = ap (λ b. not b && (first_arrivals r y).ended) f.of_is.opens ∙ sym f.of_is.ended_is in
       let turned = closed_in_turn q old_rows new_rows in
       record {
@@ -93,7 +93,7 @@ module _ (q : Tree) (a : Asks q) (r : Input) (x y : ℕ) (ps : List Made) (ended
         text = end.text ∙ ap (λ o. o ++ cond ended (closed_at_last q (old_rows ++ new_rows)) []) rows.text
             ∙ append_assoc before turned (cond ended (closed_at_last q (old_rows ++ new_rows)) [])
             ∙ ap (λ l. before ++ (turned ++ l))
-            (ap (λ xs. cond ended (closed_at_last q xs) []) all_rows ∙ end_rows law ended f.of_is.ended_is
+            (ap (λ xs. cond ended (closed_at_last q xs) []) all_rows ∙ end_rows ended f.of_is.ended_is
             ∙ ap (λ b. cond b (closed_at_last q r.rows) []) (sym open_then));
       }
 
@@ -108,9 +108,9 @@ unfolding kept_behind
 list_keeps q a r = ap (λ w. by_way w (by_windows (unclosed q r)) (record { parts = empty; lists = unclosed_by_list q r; answers = [] })
     (λ c. record { parts = unclosed q r; lists = empty; answers = last_answers q r })) a.has_lists
 
-held_by : NoListOpenBehind → NoRowsNoPart → (q : Tree) → Asks q → (b : Bool) (xs : List Row) (m : Lists) → TakenBy b q xs m → held_lists m ≡ unclosed_by_list q (record { rows = xs; ended = b })
-held_by behind none q a true xs m t = ap held_lists t ∙ nothing_held ∙ sym (behind q (record { rows = xs; ended = true }) refl)
-held_by behind none q a false xs m t = held_is none q a xs m t
+held_by : (q : Tree) → Asks q → (b : Bool) (xs : List Row) (m : Lists) → TakenBy b q xs m → held_lists m ≡ unclosed_by_list q (record { rows = xs; ended = b })
+held_by q a true xs m t = ap held_lists t ∙ nothing_held ∙ sym (no_list_open nothing_open q (record { rows = xs; ended = true }) refl)
+held_by q a false xs m t = held_is q a xs m t
 
-pub keeps_rightly : NoListOpenBehind → NoRowsNoPart → (q : Tree) → Asks q → (r : Input) (m : Lists) → TakenIn q r m → kept_in m ≡ kept_behind q r
-keeps_rightly behind none q a r m t = ap (λ ls. record { parts = empty; lists = ls; answers = [] }) (held_by behind none q a r.ended r.rows m t) ∙ sym (list_keeps q a r)
+pub keeps_rightly : (q : Tree) → Asks q → (r : Input) (m : Lists) → TakenIn q r m → kept_in m ≡ kept_behind q r
+keeps_rightly q a r m t = ap (λ ls. record { parts = empty; lists = ls; answers = [] }) (held_by q a r.ended r.rows m t) ∙ sym (list_keeps q a r)

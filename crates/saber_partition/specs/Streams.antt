@@ -11,13 +11,8 @@ use Rattle.saber_plan.specs.GivenRows.{RowsFit}
 use Rattle.saber_plan.specs.Windows.{Fits, no_rows, placed_from_start, has, from}
 use Rattle.saber_plan.specs.Answers.{frame, passing_values, by_list, way, past_in, begun_in, closed_by}
 use Rattle.saber_plan.specs.Parts.{Part, no_part, group_part, part_lines}
-use Rattle.saber_laws.specs.Groups.{GroupsJoin}
-use Rattle.saber_laws.specs.Lists.{StreamsAreCounted, SubstreamsFit, TurnsGoOn}
-use Rattle.saber_laws.specs.Needs.{RowsSpan}
-use Rattle.saber_laws.specs.Parts.{MergeHasUnit, NoRowsNoPart, PartHasLines}
 use Rattle.saber_laws.specs.Plans.{OneWindow}
-use Rattle.saber_laws.specs.Windows.{BegunStay}
-use Rattle.saber_partial.specs.PartLaws.{OfRows, GroupsAreOfRows, SmallPartsMerge}
+use Rattle.saber_partial.specs.PartLaws.{OfRows}
 use Rattle.saber_sliding.specs.Entries.{Entries, part_at, Put}
 
 -- a group query with PARTITION BY
@@ -85,20 +80,3 @@ pub record Comes (q : Tree) (us : List Row) (r : Row) (low past : ℕ) (p : Part
 pub record Came (q : Tree) (us : List Row) (r : Row) (next begun : ℕ) (es : Entries) (before after : List ℕ) : Type 0 where
   pub keeps : Keeps q (us ++ r ∷ []) next begun es
   pub text : after ≡ before ++ closed_by q us r
-
--- ---- what all this rests on
-
-pub record StreamLaws : Type 0 where
-  pub join : GroupsJoin
-  pub unit : MergeHasUnit
-  pub none : NoRowsNoPart
-  pub span : RowsSpan
-  pub stay : BegunStay
-  pub small : SmallPartsMerge
-  pub of_rows : GroupsAreOfRows
-  pub printed : PartHasLines
-
-pub record ListLaws : Type 0 where
-  pub counted : StreamsAreCounted
-  pub fit : SubstreamsFit
-  pub turns : TurnsGoOn

@@ -5,7 +5,6 @@ ghost use Rattle.saber_plan.specs.Trees.{tree_of};
 ghost use Rattle.saber_sliding.specs.Entries.{CanFollow};
 ghost use Rattle.saber_partition.specs.Streams.{part_in, Asks, Came, Comes, Entered, HoldStill, Keeps, Printed};
 
-use crate::laws::stream_laws;
 use saber_partial::{RowParts, Steps};
 use saber_plan::{NoMemory, Plan};
 use saber_sliding::Sliding;
@@ -115,7 +114,6 @@ impl Keyed {
             → Came (tree_of plan.now) us r self.new.next self.new.begun self.new.parts.entries out.old.items out.new.items) }
         ensures steps { OnOk result (steps.new + self.new.parts.owed + self.old.next ≤ steps.old + self.old.parts.owed + 2 + self.new.next) }
     {
-        stream_laws();
         self.take_part(alloc, past, parts, part, steps)?;
         self.close_lines(plan, low, out, steps)?;
         Ok(())

@@ -6,7 +6,7 @@
 //! - Parts, from below: `numbers` (windows by a row's place), `keyed` (one key: a queue of parts),
 //!   `partition` (`Partition`, over its plan), `pieces` (what a task makes of its rows), `lists`
 //!   (all keys, row by row, and the end), `operator` (the trait's calls), `letting` (values let go
-//!   by calls), `laws`.
+//!   by calls).
 //! - Call: `Partition::new` takes a checked plan with PARTITION BY; the rest is by the trait of
 //!   `saber_fragment`.
 //! - Proved: a piece has the key, the place and the part of each of the task's rows, in order
@@ -22,7 +22,6 @@
 #![tactic(auto)]
 
 mod keyed;
-mod laws;
 mod letting;
 mod lists;
 mod numbers;

@@ -10,7 +10,6 @@ ghost use Rattle.saber_partition.specs.Pieces.{EndCame, RowCame, RowComes, RowsC
 ghost use Rattle.saber_partition.specs.Stores.{lists_of, made_of};
 
 use crate::keyed::Keyed;
-use crate::laws::{list_laws, stream_laws};
 use crate::numbers::numbers_behind;
 use crate::pieces::RowPiece;
 use arrayvec::ArrayVec;
@@ -47,8 +46,6 @@ fn take_first<L: Ledger>(
     ensures { OnOk result ((xs : List Row) (r : Row) → RowComes (tree_of plan.now) xs r (made_of parts.now row) (lists_of lists.old.entries)
         → RowCame (tree_of plan.now) xs r (lists_of lists.new.entries) out.old.items out.new.items) }
 {
-    stream_laws();
-    list_laws();
     let RowPiece { list, place, part } = row;
     let (low, past) = numbers_behind(windows, place);
     let mut own = Keyed::of_none(alloc);
@@ -80,7 +77,6 @@ pub(crate) fn take_row<L: Ledger>(
     ensures { OnOk result ((xs : List Row) (r : Row) → RowComes (tree_of plan.now) xs r (made_of parts.now row) (lists_of lists.old.entries)
         → RowCame (tree_of plan.now) xs r (lists_of lists.new.entries) out.old.items out.new.items) }
 {
-    list_laws();
     match lists.get_mut(&row.list) {
         Some(own) => {
             let (low, past) = numbers_behind(windows, row.place);
@@ -106,7 +102,6 @@ pub(crate) fn take_rows<L: Ledger>(
     ensures { OnOk result ((xs rs : List Row) → RowsCome (tree_of plan.now) xs rs (map (made_of parts.now) rows.items) (lists_of lists.old.entries)
         → RowsCame (tree_of plan.now) xs rs (lists_of lists.new.entries) out.old.items out.new.items) }
 {
-    list_laws();
     for row in rows {
         take_row(alloc, plan, windows, lists, row, parts, out, steps)?;
     }
@@ -148,7 +143,6 @@ fn close_all<L: Ledger>(
     ensures { OnOk result ((xs : List Row) → TakenAll (tree_of plan.now) xs (lists_of lists.entries)
         → out.new.items ≡ out.old.items ++ closed_at_last (tree_of plan.now) xs) }
 {
-    stream_laws();
     let _count = lists.len();
     for (list, kept) in lists {
         close_list(plan, kept, out, steps)?;

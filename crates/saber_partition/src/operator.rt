@@ -5,12 +5,10 @@ ghost use Rattle.saber_plan.specs.Inputs.{Input};
 ghost use Rattle.saber_partition.specs.Pieces.{Follow, Followed};
 ghost use Rattle.saber_partition.specs.Stores.{lists_of, made_of};
 
-use crate::laws::stream_laws;
 use crate::lists::{ListStore, take_end, take_rows};
 use crate::partition::Partition;
 use crate::pieces::ListPiece;
 use saber_fragment::{Block, Operator};
-use saber_laws::{ends_are_behind, no_list_open_behind};
 use saber_partial::Steps;
 use saber_plan::NoMemory;
 use std::alloc::Global;
@@ -35,8 +33,6 @@ impl Partition<'_> {
         ensures { OnOk result ((r : Input) (x y : ℕ) → Follow (tree_of self.now) r x y (map (made_of piece.parts) piece.rows.items) piece.ended (lists_of store.old.lists.entries)
             → Followed (tree_of self.now) r x y (lists_of store.new.lists.entries) out.old.items out.new.items) }
     {
-        self.asks();
-        ends_are_behind();
         let ListPiece { rows, parts, ended } = piece;
         let mut steps = Steps::<L>::new(blank);
         take_rows(
@@ -99,7 +95,7 @@ impl Operator for Partition<'_> {
     }
 
     fn finish(&self, _alloc: Global, draft: ListPiece) -> Result<ListPiece, NoMemory> {
-        self.asks();
+        let _plan = &self.plan;
         Ok(draft)
     }
 
@@ -117,9 +113,7 @@ impl Operator for Partition<'_> {
         piece: ListPiece,
         out: &mut Vec<u8>,
     ) -> Result<(), NoMemory> {
-        self.asks();
-        no_list_open_behind();
-        stream_laws();
+        let _plan = &self.plan;
         let mut text = Vec::new(alloc);
         self.take_piece::<Brand>(alloc, store, piece, &mut text, Blank::new(1))?;
         out.extend_from_slice(&text)?;

@@ -2,9 +2,7 @@
 ghost use Rattle.std.specs.Prelude.{◌≡◌, ◌≤◌, length};
 ghost use Rattle.saber_plan.specs.Trees.{tree_of};
 ghost use Rattle.saber_plan.specs.Checked.{IsChecked};
-ghost use Rattle.saber_partition.specs.Streams.{Asks};
 
-use saber_laws::{checked_fit, groups_have_one_window};
 use saber_partial::Aggregates;
 use saber_plan::Plan;
 use saber_window::Windows;
@@ -52,14 +50,5 @@ impl<'a> Partition<'a> {
             windows: Windows::of_plan(plan),
             aggregates: Aggregates::of_plan(plan),
         }
-    }
-
-    /// It groups the rows of each key list, over windows by rows.
-    pub(crate) fn asks(&self)
-        ensures { Asks (tree_of self.now) }
-    {
-        let _plan = &self.plan;
-        groups_have_one_window();
-        checked_fit();
     }
 }

@@ -14,9 +14,8 @@ ghost use Rattle.saber_partition.specs.Stores.{made_of, HasPart};
 use crate::letting::let_rows_go;
 use crate::partition::Partition;
 use arrayvec::ArrayVec;
-use saber_eval::{holds, one_stream_fits};
+use saber_eval::holds;
 use saber_flat::{RowRef, Rows};
-use saber_laws::{groups_have_one_window, no_rows_no_part};
 use saber_partial::RowParts;
 use saber_plan::NoMemory;
 use std::alloc::Global;
@@ -62,13 +61,11 @@ fn place_at(places: &[u64], i: usize) -> u64
 
 impl Partition<'_> {
     // Whether a row passes WHERE.
+    #[tactic(auto, using(crate::proofs::Rowing::plan_fits))]
     fn passes(&self, row: &RowRef) -> bool
         requires { IsRowOf (tree_of self.now) row.now }
         ensures { result ≡ v.passes (tree_of self.now).predicate row.now.values l.[] }
     {
-        self.asks();
-        groups_have_one_window();
-        one_stream_fits();
         match self.plan.predicate() {
             Some(predicate) => holds(predicate, row),
             None => true,
@@ -76,6 +73,7 @@ impl Partition<'_> {
     }
 
     // Appends the part of a row to those of others, if the row passes, and says where it stands.
+    #[tactic(auto, using(crate::proofs::Rowing::row_fits, crate::proofs::Rowing::failing_part))]
     fn push_part(&self, row: &RowRef, parts: &mut RowParts) -> Result<Option<usize>, NoMemory>
         requires row { IsRowOf (tree_of self.now) row.now }
         requires others { AllByRecursion (OfRows (tree_of self.now) 1) parts.old }
@@ -84,9 +82,6 @@ impl Partition<'_> {
         ensures there { IfOk result (λ at. IsPlace parts.new at) }
         ensures part { IfOk result (λ at. part_in parts.new at ≡ row_part (tree_of self.now) row.now) }
     {
-        self.asks();
-        groups_have_one_window();
-        no_rows_no_part();
         if !self.passes(row) {
             return Ok(None);
         }
@@ -100,7 +95,6 @@ impl Partition<'_> {
         requires { IsRowOf (tree_of self.now) row.now }
         ensures { result.items ≡ list_of (tree_of self.now) row.now }
     {
-        self.asks();
         let mut list = ArrayVec::new();
         push_list(&mut list, self.plan.partition(), row.values());
         list

@@ -3,11 +3,15 @@ use Rattle.std.proofs.Common.{◌≡◌, ℕ, zero, suc, drop, ◌≤◌, ◌<�
 use Rattle.std.proofs.lemmas.Bool.{false≢true}
 use Rattle.std.proofs.lemmas.List.{length-map}
 use Rattle.saber_plan.specs.Parts.{Part, no_part, merge}
-use Rattle.saber_laws.specs.Parts.{MergeHasUnit, MergeIsAssociative}
+use Rattle.saber_plan.specs.Facts.Parts.{merge-empty_left, merge-empty_right}
+use Rattle.saber_laws.proofs.PartLaws.{merge-assoc}
 use Rattle.saber_partial.specs.Tallies.{CanMerge}
 use Rattle.saber_sliding.specs.Entries.{Entries, whole, followed_entries, pushed_entries, dropped_entries, merged_part, suffixes, queue_entries, CanFollow, Chained, Sound, IsSound}
 use Rattle.saber_sliding.specs.EntryFacts.{all_dropped}
 use Rattle.saber_partial.specs.MergeFacts.{can_ahead, can_none, none_can}
+
+-- the empty part changes nothing
+pub ruleset units = (merge-empty_left, merge-empty_right)
 
 abbrev last : ℕ → Part → Entries
 last n p = (n, p) ∷ []
@@ -22,25 +26,25 @@ whole_merged (e ∷ es) = refl
 
 -- ---- one more
 
-merged-push : MergeHasUnit → MergeIsAssociative → (n : ℕ) (p : Part) (es : Entries) → merged_part (es ++ last n p) ≡ merge (merged_part es) p
-merged-push unit assoc n p [] = (unit p).1 ∙ sym (unit p).0
-merged-push unit assoc n p (e ∷ es) = ap (merge e.1) (merged-push unit assoc n p es) ∙ sym (assoc e.1 (merged_part es) p)
+merged-push : (n : ℕ) (p : Part) (es : Entries) → merged_part (es ++ last n p) ≡ merge (merged_part es) p
+merged-push n p [] = merge-empty_right p ∙ sym (merge-empty_left p)
+merged-push n p (e ∷ es) = ap (merge e.1) (merged-push n p es) ∙ sym (merge-assoc e.1 (merged_part es) p)
 
-pub followed_twice : MergeIsAssociative → (m p : Part) (es : Entries) → followed_entries (merge m p) es ≡ followed_entries p (followed_entries m es)
-followed_twice assoc m p [] = refl
-followed_twice assoc m p (e ∷ es) = λ i. (e.0, sym (assoc e.1 m p) i) ∷ followed_twice assoc m p es i
+pub followed_twice : (m p : Part) (es : Entries) → followed_entries (merge m p) es ≡ followed_entries p (followed_entries m es)
+followed_twice m p [] = refl
+followed_twice m p (e ∷ es) = λ i. (e.0, sym (merge-assoc e.1 m p) i) ∷ followed_twice m p es i
 
-pub suffixes-push : MergeHasUnit → MergeIsAssociative → (n : ℕ) (p : Part) (es : Entries) → suffixes (es ++ last n p) ≡ followed_entries p (suffixes es) ++ last n p
-suffixes-push unit assoc n p [] = λ i. (n, (unit p).1 i) ∷ []
-suffixes-push unit assoc n p (e ∷ es) = λ i. (e.0, (ap (merge e.1) (merged-push unit assoc n p es) ∙ sym (assoc e.1 (merged_part es) p)) i) ∷ suffixes-push unit assoc n p es i
+pub suffixes-push : (n : ℕ) (p : Part) (es : Entries) → suffixes (es ++ last n p) ≡ followed_entries p (suffixes es) ++ last n p
+suffixes-push n p [] = λ i. (n, (merge-empty_right p) i) ∷ []
+suffixes-push n p (e ∷ es) = λ i. (e.0, (ap (merge e.1) (merged-push n p es) ∙ sym (merge-assoc e.1 (merged_part es) p)) i) ∷ suffixes-push n p es i
 
 pub followed-append : (p : Part) (es fs : Entries) → followed_entries p (es ++ fs) ≡ followed_entries p es ++ followed_entries p fs
 followed-append p [] fs = refl
 followed-append p (e ∷ es) fs = ap (λ l. (e.0, merge e.1 p) ∷ l) (followed-append p es fs)
 
-pub seen-push : MergeHasUnit → MergeIsAssociative → (front back : Entries) (b : Part) (n : ℕ) (p : Part) → queue_entries front (back ++ last n p) (merge b p) ≡ pushed_entries (queue_entries front back b) n p
-seen-push unit assoc front back b n p =
-    (λ i. followed_twice assoc b p front i ++ suffixes-push unit assoc n p back i)
+pub seen-push : (front back : Entries) (b : Part) (n : ℕ) (p : Part) → queue_entries front (back ++ last n p) (merge b p) ≡ pushed_entries (queue_entries front back b) n p
+seen-push front back b n p =
+    (λ i. followed_twice b p front i ++ suffixes-push n p back i)
     ∙ sym (append_assoc (followed_entries p (followed_entries b front)) (followed_entries p (suffixes back)) (last n p))
     ∙ ap (λ l. l ++ last n p) (sym (followed-append p (followed_entries b front) (suffixes back)))
 
@@ -52,15 +56,15 @@ pub joins-push : (b p : Part) (front es : Entries) → CanFollow b front → Can
 joins-push b p [] es g h = tt
 joins-push b p (e ∷ front) es g h = (can_ahead e.1 b p g.0 h.0, joins-push b p front es g.1 h.1)
 
-pub chained-push : MergeHasUnit → MergeIsAssociative → (n : ℕ) (p : Part) (es : Entries) → Chained es → CanFollow p (suffixes es) → Chained (es ++ last n p)
-chained-push unit assoc n p [] g h = (can_none p, tt)
-chained-push unit assoc n p (e ∷ es) g h =
-    (subst (CanMerge e.1) (sym (merged-push unit assoc n p es)) (can_ahead e.1 (merged_part es) p g.0 h.0), chained-push unit assoc n p es g.1 h.1)
+pub chained-push : (n : ℕ) (p : Part) (es : Entries) → Chained es → CanFollow p (suffixes es) → Chained (es ++ last n p)
+chained-push n p [] g h = (can_none p, tt)
+chained-push n p (e ∷ es) g h =
+    (subst (CanMerge e.1) (sym (merged-push n p es)) (can_ahead e.1 (merged_part es) p g.0 h.0), chained-push n p es g.1 h.1)
 
-pub sound-push : MergeHasUnit → MergeIsAssociative → (front back : Entries) (b : Part) (n : ℕ) (p : Part) → Sound front back b → CanFollow p (queue_entries front back b) → Sound front (back ++ last n p) (merge b p)
-sound-push unit assoc front back b n p s h = record {
-  merge_is = ap (λ m. merge m p) s.merge_is ∙ sym (merged-push unit assoc n p back);
-  chained = chained-push unit assoc n p back s.chained (follow_back p b front (suffixes back) h);
+pub sound-push : (front back : Entries) (b : Part) (n : ℕ) (p : Part) → Sound front back b → CanFollow p (queue_entries front back b) → Sound front (back ++ last n p) (merge b p)
+sound-push front back b n p s h = record {
+  merge_is = ap (λ m. merge m p) s.merge_is ∙ sym (merged-push n p back);
+  chained = chained-push n p back s.chained (follow_back p b front (suffixes back) h);
   joins = joins-push b p front (suffixes back) s.joins h;
 }
 
@@ -73,12 +77,12 @@ back_can front back b p s h = subst (λ m. CanMerge m p) (sym s.merge_is) (first
 
 -- ---- the back becomes the front
 
-followed_none : MergeHasUnit → (es : Entries) → followed_entries no_part es ≡ es
-followed_none unit [] = refl
-followed_none unit (e ∷ es) = λ i. (e.0, (unit e.1).1 i) ∷ followed_none unit es i
+followed_none : (es : Entries) → followed_entries no_part es ≡ es
+followed_none [] = refl
+followed_none (e ∷ es) = λ i. (e.0, (merge-empty_right e.1) i) ∷ followed_none es i
 
-pub seen_turned : MergeHasUnit → (es : Entries) → queue_entries es [] no_part ≡ es
-seen_turned unit es = append-nil (followed_entries no_part es) ∙ followed_none unit es
+pub seen_turned : (es : Entries) → queue_entries es [] no_part ≡ es
+seen_turned es = append-nil (followed_entries no_part es) ∙ followed_none es
 
 pub sound_turned : (es : Entries) → Sound es [] no_part
 sound_turned es = record { merge_is = refl; chained = tt; joins = any es } where
@@ -194,8 +198,8 @@ pub seen_none : (i : ℕ) (front back : Entries) (p : Part) → dropped_entries 
 seen_none i front back p h = sym (dropped_suffixes i back) ∙ sym (none_left i (followed_entries p front) (suffixes back) (dropped_followed i p front ∙ ap (followed_entries p) h))
 
 -- the back is the front now
-pub seen_turned_all : MergeHasUnit → (new old es : Entries) (p : Part) → new ≡ es → old ≡ [] → p ≡ no_part → queue_entries new old p ≡ es
-seen_turned_all unit new old es p n o e = (λ i. queue_entries (n i) (o i) (e i)) ∙ seen_turned unit es
+pub seen_turned_all : (new old es : Entries) (p : Part) → new ≡ es → old ≡ [] → p ≡ no_part → queue_entries new old p ≡ es
+seen_turned_all new old es p n o e = (λ i. queue_entries (n i) (o i) (e i)) ∙ seen_turned es
 
 pub sound_turned_all : (new old : Entries) (p : Part) → old ≡ [] → p ≡ no_part → Sound new old p
 sound_turned_all new old p o e = subst₂ (Sound new) (sym o) (sym e) (sound_turned new)

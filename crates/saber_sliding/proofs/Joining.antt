@@ -3,7 +3,8 @@ use Rattle.std.proofs.Common.{◌≡◌, ℕ, zero, suc, ◌≤◌, [], ◌∷�
 use Rattle.std.specs.List.{slice_get}
 use Rattle.std.proofs.lemmas.Bool.{false≢true}
 use Rattle.saber_plan.specs.Parts.{Part, merge}
-use Rattle.saber_laws.specs.Parts.{MergeHasUnit, MergeIsAssociative}
+use Rattle.saber_plan.specs.Facts.Parts.{merge-empty_right}
+use Rattle.saber_laws.proofs.PartLaws.{merge-assoc}
 use Rattle.saber_partial.specs.Tallies.{CanMerge}
 use Rattle.saber_partial.specs.MergeFacts.{can_ahead, can_none}
 use Rattle.saber_sliding.specs.Entries.{Entries, followed_entries, last_number, merged_part, suffixes, joined_entries, queue_entries, CanFollow, Chained, Sound, IsSound}
@@ -11,33 +12,33 @@ use Rattle.saber_sliding.proofs.Entered.{followed_twice, followed-append, follow
 
 -- ---- what they come to
 
-merged-joined : MergeHasUnit → MergeIsAssociative → (p : Part) (es : Entries) → 1 ≤ length es → merged_part (joined_entries p es) ≡ merge (merged_part es) p
-merged-joined unit assoc p [] h = absurd (omega (arith, h))
-merged-joined unit assoc p (e ∷ []) h = (unit (merge e.1 p)).1 ∙ ap (λ m. merge m p) (sym (unit e.1).1)
-merged-joined unit assoc p (e ∷ f ∷ es) h = ap (merge e.1) (merged-joined unit assoc p (f ∷ es) (omega arith)) ∙ sym (assoc e.1 (merged_part (f ∷ es)) p)
+merged-joined : (p : Part) (es : Entries) → 1 ≤ length es → merged_part (joined_entries p es) ≡ merge (merged_part es) p
+merged-joined p [] h = absurd (omega (arith, h))
+merged-joined p (e ∷ []) h = merge-empty_right (merge e.1 p) ∙ ap (λ m. merge m p) (sym (merge-empty_right e.1))
+merged-joined p (e ∷ f ∷ es) h = ap (merge e.1) (merged-joined p (f ∷ es) (omega arith)) ∙ sym (merge-assoc e.1 (merged_part (f ∷ es)) p)
 
-suffixes-joined : MergeHasUnit → MergeIsAssociative → (p : Part) (es : Entries) → suffixes (joined_entries p es) ≡ followed_entries p (suffixes es)
-suffixes-joined unit assoc p [] = refl
-suffixes-joined unit assoc p (e ∷ []) = λ i. (e.0, merged-joined unit assoc p (e ∷ []) (omega arith) i) ∷ []
-suffixes-joined unit assoc p (e ∷ f ∷ es) = λ i. (e.0, merged-joined unit assoc p (e ∷ f ∷ es) (omega arith) i) ∷ suffixes-joined unit assoc p (f ∷ es) i
+suffixes-joined : (p : Part) (es : Entries) → suffixes (joined_entries p es) ≡ followed_entries p (suffixes es)
+suffixes-joined p [] = refl
+suffixes-joined p (e ∷ []) = λ i. (e.0, merged-joined p (e ∷ []) (omega arith) i) ∷ []
+suffixes-joined p (e ∷ f ∷ es) = λ i. (e.0, merged-joined p (e ∷ f ∷ es) (omega arith) i) ∷ suffixes-joined p (f ∷ es) i
 
-seen-joined : MergeHasUnit → MergeIsAssociative → (front back : Entries) (b p : Part) → queue_entries front (joined_entries p back) (merge b p) ≡ followed_entries p (queue_entries front back b)
-seen-joined unit assoc front back b p =
-    (λ i. followed_twice assoc b p front i ++ suffixes-joined unit assoc p back i)
+seen-joined : (front back : Entries) (b p : Part) → queue_entries front (joined_entries p back) (merge b p) ≡ followed_entries p (queue_entries front back b)
+seen-joined front back b p =
+    (λ i. followed_twice b p front i ++ suffixes-joined p back i)
     ∙ sym (followed-append p (followed_entries b front) (suffixes back))
 
 -- ---- what stays
 
-chained-joined : MergeHasUnit → MergeIsAssociative → (p : Part) (es : Entries) → Chained es → CanFollow p (suffixes es) → Chained (joined_entries p es)
-chained-joined unit assoc p [] g h = tt
-chained-joined unit assoc p (e ∷ []) g h = (can_none (merge e.1 p), tt)
-chained-joined unit assoc p (e ∷ f ∷ es) g h =
-    (subst (CanMerge e.1) (sym (merged-joined unit assoc p (f ∷ es) (omega arith))) (can_ahead e.1 (merged_part (f ∷ es)) p g.0 h.0), chained-joined unit assoc p (f ∷ es) g.1 h.1)
+chained-joined : (p : Part) (es : Entries) → Chained es → CanFollow p (suffixes es) → Chained (joined_entries p es)
+chained-joined p [] g h = tt
+chained-joined p (e ∷ []) g h = (can_none (merge e.1 p), tt)
+chained-joined p (e ∷ f ∷ es) g h =
+    (subst (CanMerge e.1) (sym (merged-joined p (f ∷ es) (omega arith))) (can_ahead e.1 (merged_part (f ∷ es)) p g.0 h.0), chained-joined p (f ∷ es) g.1 h.1)
 
-sound-joined : MergeHasUnit → MergeIsAssociative → (front back : Entries) (b p : Part) → 1 ≤ length back → Sound front back b → CanFollow p (queue_entries front back b) → Sound front (joined_entries p back) (merge b p)
-sound-joined unit assoc front back b p some s h = record {
-  merge_is = ap (λ m. merge m p) s.merge_is ∙ sym (merged-joined unit assoc p back some);
-  chained = chained-joined unit assoc p back s.chained (follow_back p b front (suffixes back) h);
+sound-joined : (front back : Entries) (b p : Part) → 1 ≤ length back → Sound front back b → CanFollow p (queue_entries front back b) → Sound front (joined_entries p back) (merge b p)
+sound-joined front back b p some s h = record {
+  merge_is = ap (λ m. merge m p) s.merge_is ∙ sym (merged-joined p back some);
+  chained = chained-joined p back s.chained (follow_back p b front (suffixes back) h);
   joins = joins-push b p front (suffixes back) s.joins h;
 }
 
@@ -50,14 +51,14 @@ joined_can false front back b p h g e = back_can front back b p h g
 pub joined_room : (front back : Entries) (b p : Part) → CanFollow p (queue_entries front back b) → CanFollow p (suffixes back)
 joined_room front back b p h = follow_back p b front (suffixes back) h
 
-pub joined_sound : MergeHasUnit → MergeIsAssociative → (late : Bool) (front back : Entries) (b c p : Part) → 1 ≤ length back → IsSound late front back b → CanFollow p (queue_entries front back b) → (late ≡ false → c ≡ merge b p) → IsSound late front (joined_entries p back) c
-joined_sound unit assoc true front back b c p some h g e = (h.0, chained-joined unit assoc p back h.1 (joined_room front back b p g))
-joined_sound unit assoc false front back b c p some h g e = subst (Sound front (joined_entries p back)) (sym (e refl)) (sound-joined unit assoc front back b p some h g)
+pub joined_sound : (late : Bool) (front back : Entries) (b c p : Part) → 1 ≤ length back → IsSound late front back b → CanFollow p (queue_entries front back b) → (late ≡ false → c ≡ merge b p) → IsSound late front (joined_entries p back) c
+joined_sound true front back b c p some h g e = (h.0, chained-joined p back h.1 (joined_room front back b p g))
+joined_sound false front back b c p some h g e = subst (Sound front (joined_entries p back)) (sym (e refl)) (sound-joined front back b p some h g)
 
-pub joined_seen : MergeHasUnit → MergeIsAssociative → (late : Bool) (front back : Entries) (b c p : Part) → IsSound late front back b → (late ≡ false → c ≡ merge b p) → queue_entries front (joined_entries p back) c ≡ followed_entries p (queue_entries front back b)
-joined_seen unit assoc true front back b c p h e =
-    seen_late front (joined_entries p back) c h.0 ∙ suffixes-joined unit assoc p back ∙ ap (followed_entries p) (sym (seen_late front back b h.0))
-joined_seen unit assoc false front back b c p h e = ap (queue_entries front (joined_entries p back)) (e refl) ∙ seen-joined unit assoc front back b p
+pub joined_seen : (late : Bool) (front back : Entries) (b c p : Part) → IsSound late front back b → (late ≡ false → c ≡ merge b p) → queue_entries front (joined_entries p back) c ≡ followed_entries p (queue_entries front back b)
+joined_seen true front back b c p h e =
+    seen_late front (joined_entries p back) c h.0 ∙ suffixes-joined p back ∙ ap (followed_entries p) (sym (seen_late front back b h.0))
+joined_seen false front back b c p h e = ap (queue_entries front (joined_entries p back)) (e refl) ∙ seen-joined front back b p
 
 -- ---- the last entry
 
@@ -90,12 +91,12 @@ last_at (c ∷ f ∷ es) zero d h e = absurd (omega (arith, h))
 last_at (c ∷ f ∷ es) (suc i) d h e = last_at (f ∷ es) i d (omega (arith, h)) e
 
 -- can take in what can come behind all
-pub last_can : MergeHasUnit → (es : Entries) (i : ℕ) (d : ℕ × Part) (p : Part) → length es ≡ suc i → d ≡ slice_index_or es i d → CanFollow p (suffixes es) → CanMerge d.1 p
-last_can unit [] i d p h e g = absurd (omega (arith, h))
-last_can unit (c ∷ []) zero d p h e g = subst (λ m. CanMerge m p) ((unit c.1).1 ∙ (λ i. (sym e i).1)) g.0
-last_can unit (c ∷ []) (suc i) d p h e g = absurd (omega (arith, h))
-last_can unit (c ∷ f ∷ es) zero d p h e g = absurd (omega (arith, h))
-last_can unit (c ∷ f ∷ es) (suc i) d p h e g = last_can unit (f ∷ es) i d p (omega (arith, h)) e g.1
+pub last_can : (es : Entries) (i : ℕ) (d : ℕ × Part) (p : Part) → length es ≡ suc i → d ≡ slice_index_or es i d → CanFollow p (suffixes es) → CanMerge d.1 p
+last_can [] i d p h e g = absurd (omega (arith, h))
+last_can (c ∷ []) zero d p h e g = subst (λ m. CanMerge m p) (merge-empty_right c.1 ∙ (λ i. (sym e i).1)) g.0
+last_can (c ∷ []) (suc i) d p h e g = absurd (omega (arith, h))
+last_can (c ∷ f ∷ es) zero d p h e g = absurd (omega (arith, h))
+last_can (c ∷ f ∷ es) (suc i) d p h e g = last_can (f ∷ es) i d p (omega (arith, h)) e g.1
 
 -- and another is put in its place
 pub last_set : (es : Entries) (i : ℕ) (d : ℕ × Part) (p : Part) → length es ≡ suc i → d ≡ slice_index_or es i d → slice_set es i (d.0, merge d.1 p) ≡ joined_entries p es

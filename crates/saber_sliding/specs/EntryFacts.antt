@@ -4,7 +4,7 @@ use Rattle.std.specs.List.{AllByRecursion}
 use Rattle.std.proofs.lemmas.Bool.{lt-ltb, le-ltb}
 use Rattle.std.proofs.lemmas.Bool.Decides.{nat_tests}
 use Rattle.saber_plan.specs.Parts.{Part, no_part, merge}
-use Rattle.saber_laws.specs.Parts.{MergeHasUnit}
+use Rattle.saber_plan.specs.Facts.Parts.{merge-empty_left}
 use Rattle.saber_sliding.specs.Entries.{Entries, whole, followed_entries, pushed_entries, dropped_entries, first_number, last_number, part_at, Put}
 
 -- ---- facts on each entry
@@ -69,9 +69,9 @@ at_pushed true a p x y e = refl
 at_pushed false a p x y e = e
 
 -- a window that has the new entry has it behind what it had
-pub part_at-pushed : MergeHasUnit → (es : Entries) (n : ℕ) (p : Part) (i : ℕ) → i < n → part_at (pushed_entries es n p) i ≡ merge (part_at es i) p
-part_at-pushed unit [] n p i h = ap (λ b. cond b p no_part) (lt-ltb i n h) ∙ sym (unit p).0
-part_at-pushed unit (e ∷ es) n p i h = at_pushed (nat_lt i e.0) e.1 p (part_at (pushed_entries es n p) i) (part_at es i) (part_at-pushed unit es n p i h)
+pub part_at-pushed : (es : Entries) (n : ℕ) (p : Part) (i : ℕ) → i < n → part_at (pushed_entries es n p) i ≡ merge (part_at es i) p
+part_at-pushed [] n p i h = ap (λ b. cond b p no_part) (lt-ltb i n h) ∙ sym (merge-empty_left p)
+part_at-pushed (e ∷ es) n p i h = at_pushed (nat_lt i e.0) e.1 p (part_at (pushed_entries es n p) i) (part_at es i) (part_at-pushed es n p i h)
 
 -- and so has one that has the last entry, where it goes into that
 part_at-followed : (es : Entries) (n : ℕ) (p : Part) (i : ℕ) → last_number es ≡ Some n → i < n → part_at (followed_entries p es) i ≡ merge (part_at es i) p
@@ -82,9 +82,9 @@ part_at-followed (d ∷ []) n p i e h =
     ap (λ b. cond b (merge d.1 p) no_part) there ∙ ap (λ b. merge (cond b d.1 no_part) p) (sym there)
 part_at-followed (d ∷ f ∷ es) n p i e h = at_pushed (nat_lt i d.0) d.1 p (part_at (followed_entries p (f ∷ es)) i) (part_at (f ∷ es) i) (part_at-followed (f ∷ es) n p i e h)
 
-pub part_at-put : MergeHasUnit → (es : Entries) (n : ℕ) (p : Part) (fs : Entries) (i : ℕ) → Put es n p fs → i < n → part_at fs i ≡ merge (part_at es i) p
-part_at-put unit es n p fs i (inl e) h = ap (λ l. part_at l i) e ∙ part_at-pushed unit es n p i h
-part_at-put unit es n p fs i (inr e) h = ap (λ l. part_at l i) e.1 ∙ part_at-followed es n p i e.0 h
+pub part_at-put : (es : Entries) (n : ℕ) (p : Part) (fs : Entries) (i : ℕ) → Put es n p fs → i < n → part_at fs i ≡ merge (part_at es i) p
+part_at-put es n p fs i (inl e) h = ap (λ l. part_at l i) e ∙ part_at-pushed es n p i h
+part_at-put es n p fs i (inr e) h = ap (λ l. part_at l i) e.1 ∙ part_at-followed es n p i e.0 h
 
 -- a window behind all of them has none
 pub part_at-behind : (es : Entries) (i : ℕ) → AllByRecursion (λ (e : ℕ × Part). e.0 ≤ i) es → part_at es i ≡ no_part

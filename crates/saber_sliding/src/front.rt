@@ -3,7 +3,6 @@ ghost use Rattle.std.specs.Prelude.{◌≡◌, ◌+◌, ◌≤◌, [], length, O
 ghost use Rattle.saber_sliding.specs.Entries.{pushed_entries, CanFollow, Entries};
 
 use crate::queue::Sliding;
-use saber_laws::{merge_has_unit, merge_is_associative};
 use saber_partial::{Partial, Steps};
 use saber_plan::NoMemory;
 use std::alloc::Global;
@@ -45,8 +44,6 @@ impl Front {
         requires { CanFollow part self.old }
         ensures { OnOk result (self.new ≡ pushed_entries self.old number part) }
     {
-        merge_has_unit();
-        merge_is_associative();
         self.entries.push((number, part))?;
         Ok(())
     }
@@ -64,7 +61,6 @@ impl Front {
         ensures owed { IfOk result (λ s. s.owed ≡ 0) }
         ensures steps { OnOk result (steps.new ≤ steps.old + length self) }
     {
-        merge_has_unit();
         Sliding::of_entries(alloc, self.entries, steps)
     }
 }

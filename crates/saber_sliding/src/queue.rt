@@ -8,7 +8,6 @@ ghost use Rattle.saber_partial.specs.Tallies.{CanMerge};
 ghost use Rattle.saber_sliding.specs.Entries.{dropped_entries, first_number, pushed_entries, queue_entries, suffixes, whole, CanFollow, Chained, IsSound, Sound};
 
 use saber_changes::Answers;
-use saber_laws::{merge_has_unit, merge_is_associative};
 use saber_partial::{Partial, Pile, Steps};
 use saber_plan::{NoMemory, Plan};
 use std::alloc::Global;
@@ -50,6 +49,7 @@ impl Model for Sliding {
 }
 
 // A part, and the merge of all that stand behind it: one step at most.
+#[tactic(auto, using(crate::proofs::Entered::units))]
 fn merge_behind<L: Ledger>(
     alloc: Global,
     part: &mut Partial,
@@ -60,7 +60,6 @@ fn merge_behind<L: Ledger>(
     ensures part { OnOk result (part.new ≡ merge part.old (whole front.now.items)) }
     ensures steps { steps.new ≤ steps.old + 1 }
 {
-    merge_has_unit();
     match front.front() {
         Some(next) => part.merge_counted(alloc, &next.1, steps),
         None => Ok(()),
@@ -136,7 +135,6 @@ fn settle<L: Ledger>(
     ensures entries { OnOk result (queue_entries front.new.items back.new.items back_part.new.part ≡ queue_entries front.old.items back.old.items back_part.old.part) }
     ensures steps { OnOk result (steps.new + (length back.new.items + back_part.new.pieces) ≤ steps.old + (length back.old.items + back_part.old.pieces)) }
 {
-    merge_has_unit();
     if !*late {
         return Ok(());
     }
@@ -238,8 +236,6 @@ fn put_settled<L: Ledger>(
     ensures entries { OnOk result (queue_entries front.new.items back.new.items back_part.new.part ≡ pushed_entries (queue_entries front.old.items back.old.items back_part.old.part) number part) }
     ensures steps { OnOk result (steps.new + (length back.new.items + back_part.new.pieces) ≤ steps.old + (length back.old.items + back_part.old.pieces) + 2) }
 {
-    merge_has_unit();
-    merge_is_associative();
     settle(alloc, late, front, back, back_part, steps)?;
     put_behind(alloc, back, back_part, number, part, steps)?;
     Ok(())
@@ -267,7 +263,6 @@ fn lines_settled<L: Ledger>(
     ensures entries { OnOk result (queue_entries front.new.items back.new.items back_part.new.part ≡ queue_entries front.old.items back.old.items back_part.old.part) }
     ensures steps { OnOk result (steps.new + (length back.new.items + back_part.new.pieces) ≤ steps.old + (length back.old.items + back_part.old.pieces) + 1) }
 {
-    merge_has_unit();
     settle(alloc, late, front, back, back_part, steps)?;
     match front.front() {
         Some(first) => back_part.lines_behind(&first.1, plan, window, out, steps),
@@ -294,7 +289,6 @@ fn answers_settled<L: Ledger>(
     ensures entries { OnOk result (queue_entries front.new.items back.new.items back_part.new.part ≡ queue_entries front.old.items back.old.items back_part.old.part) }
     ensures steps { OnOk result (steps.new + (length back.new.items + back_part.new.pieces) ≤ steps.old + (length back.old.items + back_part.old.pieces) + 1) }
 {
-    merge_has_unit();
     settle(alloc, late, front, back, back_part, steps)?;
     match front.front() {
         Some(first) => back_part.answers_behind(alloc, &first.1, plan, steps),
@@ -328,7 +322,6 @@ impl Sliding {
         ensures owed { IfOk result (λ s. s.owed ≡ 0) }
         ensures steps { OnOk result (steps.new ≤ steps.old + length entries.items) }
     {
-        merge_has_unit();
         let mut back = entries;
         let mut front = VecDeque::new(alloc);
         front.try_reserve_exact(back.len())?;
@@ -369,8 +362,6 @@ impl Sliding {
         ensures entries { OnOk result (self.new.entries ≡ pushed_entries self.old.entries number part) }
         ensures steps { OnOk result (steps.new + self.new.owed ≤ steps.old + self.old.owed + 2) }
     {
-        merge_has_unit();
-        merge_is_associative();
         match put_settled(
             alloc,
             &mut self.late,
@@ -442,7 +433,6 @@ impl Sliding {
         ensures err { OnErr result (out.new.items ≡ out.old.items) }
         ensures steps { OnOk result (steps.new + self.new.owed ≤ steps.old + self.old.owed + 1) }
     {
-        merge_has_unit();
         let alloc = *self.back.allocator();
         let written = lines_settled(
             alloc,
@@ -477,7 +467,6 @@ impl Sliding {
         ensures same { OnOk result (self.new.entries ≡ self.old.entries) }
         ensures steps { OnOk result (steps.new + self.new.owed ≤ steps.old + self.old.owed + 1) }
     {
-        merge_has_unit();
         let alloc = *self.back.allocator();
         let all = answers_settled(
             alloc,

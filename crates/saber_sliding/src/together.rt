@@ -6,7 +6,6 @@ ghost use Rattle.saber_partial.specs.Tallies.{CanMerge};
 ghost use Rattle.saber_sliding.specs.Entries.{joined_entries, last_number, pushed_entries, suffixes, CanFollow, Put};
 
 use crate::queue::Sliding;
-use saber_laws::{merge_has_unit, merge_is_associative};
 use saber_partial::{Partial, Pile, RowPart, Steps};
 use saber_plan::NoMemory;
 use std::alloc::Global;
@@ -33,7 +32,6 @@ fn join_last<L: Ledger>(
     ensures same { length back.new.items ≡ length back.old.items }
     ensures steps { steps.new ≤ steps.old + 1 }
 {
-    merge_has_unit();
     let Some(last) = back.last_mut() else {
         return Ok(());
     };
@@ -94,8 +92,6 @@ impl Sliding {
         ensures entries { OnOk result (Put self.old.entries number part.now self.new.entries) }
         ensures steps { OnOk result (steps.new + self.new.owed ≤ steps.old + self.old.owed + 2) }
     {
-        merge_has_unit();
-        merge_is_associative();
         if !ends_with(&self.back, number) {
             return self.push_row(alloc, number, part, steps);
         }

@@ -16,7 +16,7 @@ loop-list-init g c =
     record {
       can = tt;
       finite = tt;
-      left = λ xs taken. left_all c.stream_laws.ensures.none q c.requires xs (lists_of es) (seen_list c.into_iter-list-iterator.result) c.args.out.now.items (ap seen_list all ∙ sym (entries_seen es c.len-count.ensures.ordered)) taken;
+      left = λ xs taken. left_all q c.requires xs (lists_of es) (seen_list c.into_iter-list-iterator.result) c.args.out.now.items (ap seen_list all ∙ sym (entries_seen es c.len-count.ensures.ordered)) taken;
     }
 
 pub loop-list-preserved : goal.loop-list-preserved
@@ -28,7 +28,7 @@ loop-list-preserved g c =
     record {
       can = tt;
       finite = tt;
-      left = λ xs taken. left_less c.stream_laws.ensures.printed q c.requires xs c.in-Some.list.items (own_of c.in-Some.kept) (seen_list c.next.new.self) (max c.in-Some.kept.next c.in-Some.kept.begun) before out c.close_list.new.out.items
+      left = λ xs taken. left_less q c.requires xs c.in-Some.list.items (own_of c.in-Some.kept) (seen_list c.next.new.self) (max c.in-Some.kept.next c.in-Some.kept.begun) before out c.close_list.new.out.items
           refl c.in_ok-close_list.ensures
           (subst (λ (l : List (ArrayVec ℤ × Keyed)). Left_to_print q xs (seen_list l) before out) rest (c.loop-list.invariant.left xs taken));
     }

@@ -11,7 +11,7 @@ use Rattle.saber_partition.proofs.lists.take_first.Goals as goal
 pub numbers_behind-low-requires : goal.numbers_behind-low-requires
 numbers_behind-low-requires g c =
     let (xs, r, comes) = c.requires.comes in
-    place_small c.list_laws.ensures (tree_of c.args.plan.now) xs r (made_of c.args.parts.now c.args.row) (lists_of c.args.lists.now.entries) comes
+    place_small (tree_of c.args.plan.now) xs r (made_of c.args.parts.now c.args.row) (lists_of c.args.lists.now.entries) comes
 
 pub take_row-requires : goal.take_row-requires
 take_row-requires g c =
@@ -22,10 +22,10 @@ take_row-requires g c =
     let n = c.numbers_behind-low in
     let after = mark_with (c.args.row.place + 1) in
     let own = c.of_none-own.result in (
-      us c.list_laws.ensures q xs r p m comes,
+      us q xs r p m comes,
       r,
-      row_comes c.list_laws.ensures q xs r p m comes n.result.0 n.result.1 (n.ensures.low ∙ ap (λ f. closed_count f after) c.requires.windows) (n.ensures.past ∙ ap (λ f. begun_count f after) c.requires.windows),
-      keeps_first c.list_laws.ensures q xs r p m comes c.stream_laws.ensures.none own.next own.begun own.parts.entries c.of_none-own.ensures.next c.of_none-own.ensures.begun c.of_none-own.ensures.parts c.requires.missing,
+      row_comes q xs r p m comes n.result.0 n.result.1 (n.ensures.low ∙ ap (λ f. closed_count f after) c.requires.windows) (n.ensures.past ∙ ap (λ f. begun_count f after) c.requires.windows),
+      keeps_first q xs r p m comes own.next own.begun own.parts.entries c.of_none-own.ensures.next c.of_none-own.ensures.begun c.of_none-own.ensures.parts c.requires.missing,
     )
 
 pub returns : goal.returns
@@ -40,7 +40,7 @@ returns g c xs r comes =
     let first = c.of_none-own in
     let own = c.take_row.new.self in
     let new : lists_of c.insert.new.self.entries ≡ insert m k.items (own_of own) = ap lists_of c.in_ok-insert.ensures.entries ∙ list_inserted k own es in
-    row_came c.list_laws.ensures q xs r p m comes (own_of own) (lists_of c.insert.new.self.entries) c.args.out.now.items c.take_row.new.out.items new
-    (c.in-Ok.ensures.came (us c.list_laws.ensures q xs r p m comes) r
-    (row_comes c.list_laws.ensures q xs r p m comes n.result.0 n.result.1 (n.ensures.low ∙ ap (λ f. closed_count f after) c.requires.windows) (n.ensures.past ∙ ap (λ f. begun_count f after) c.requires.windows))
-    (keeps_first c.list_laws.ensures q xs r p m comes c.stream_laws.ensures.none first.result.next first.result.begun first.result.parts.entries first.ensures.next first.ensures.begun first.ensures.parts c.requires.missing))
+    row_came q xs r p m comes (own_of own) (lists_of c.insert.new.self.entries) c.args.out.now.items c.take_row.new.out.items new
+    (c.in-Ok.ensures.came (us q xs r p m comes) r
+    (row_comes q xs r p m comes n.result.0 n.result.1 (n.ensures.low ∙ ap (λ f. closed_count f after) c.requires.windows) (n.ensures.past ∙ ap (λ f. begun_count f after) c.requires.windows))
+    (keeps_first q xs r p m comes first.result.next first.result.begun first.result.parts.entries first.ensures.next first.ensures.begun first.ensures.parts c.requires.missing))

@@ -13,7 +13,7 @@ use Rattle.saber_partition.proofs.lists.take_row.Goals as goal
 pub numbers_behind-low-requires : goal.numbers_behind-low-requires
 numbers_behind-low-requires g c =
     let (xs, r, comes) = c.requires.comes in
-    place_small c.list_laws.ensures (tree_of c.args.plan.now) xs r (made_of c.args.parts.now c.args.row) (lists_of c.args.lists.now.entries) comes
+    place_small (tree_of c.args.plan.now) xs r (made_of c.args.parts.now c.args.row) (lists_of c.args.lists.now.entries) comes
 
 pub take_row-requires : goal.take_row-requires
 take_row-requires g c =
@@ -24,10 +24,10 @@ take_row-requires g c =
     let n = c.numbers_behind-low in
     let after = mark_with (c.args.row.place + 1) in
     let here = list_at c.args.row.list c.args.lists.now.entries (Some c.in-Some.own.now) (sym c.get_mut.ensures.value ∙ ap option_copied_mut c.in-Some.is) in (
-      us c.list_laws.ensures q xs r p m comes,
+      us q xs r p m comes,
       r,
-      row_comes c.list_laws.ensures q xs r p m comes n.result.0 n.result.1 (n.ensures.low ∙ ap (λ f. closed_count f after) c.requires.windows) (n.ensures.past ∙ ap (λ f. begun_count f after) c.requires.windows),
-      keeps_found c.list_laws.ensures q xs r p m comes (own_of c.in-Some.own.now) here,
+      row_comes q xs r p m comes n.result.0 n.result.1 (n.ensures.low ∙ ap (λ f. closed_count f after) c.requires.windows) (n.ensures.past ∙ ap (λ f. begun_count f after) c.requires.windows),
+      keeps_found q xs r p m comes (own_of c.in-Some.own.now) here,
     )
 
 pub take_first-requires-clause-missing : goal.take_first-requires-clause-missing
@@ -50,8 +50,8 @@ returns-in-Some g c =
     let here = list_at k es (Some c.in-Some.own.now) found in
     let new : lists_of (c.get_mut.follows.lender own).entries ≡ insert m k.items (own_of own) = ap lists_of (c.get_mut.follows.holds own).0 ∙ list_written k own c.in-Some.own.now es found in
     on_ok_weaker c.take_row.result (λ came xs r comes.
-    row_came c.list_laws.ensures q xs r p m comes (own_of own) (lists_of (c.get_mut.follows.lender own).entries) c.args.out.now.items c.take_row.new.out.items new
-    (came (us c.list_laws.ensures q xs r p m comes) r
-    (row_comes c.list_laws.ensures q xs r p m comes n.result.0 n.result.1 (n.ensures.low ∙ ap (λ f. closed_count f after) c.requires.windows) (n.ensures.past ∙ ap (λ f. begun_count f after) c.requires.windows))
-    (keeps_found c.list_laws.ensures q xs r p m comes (own_of c.in-Some.own.now) here)))
+    row_came q xs r p m comes (own_of own) (lists_of (c.get_mut.follows.lender own).entries) c.args.out.now.items c.take_row.new.out.items new
+    (came (us q xs r p m comes) r
+    (row_comes q xs r p m comes n.result.0 n.result.1 (n.ensures.low ∙ ap (λ f. closed_count f after) c.requires.windows) (n.ensures.past ∙ ap (λ f. begun_count f after) c.requires.windows))
+    (keeps_found q xs r p m comes (own_of c.in-Some.own.now) here)))
     c.take_row.ensures.came

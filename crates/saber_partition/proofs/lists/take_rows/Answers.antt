@@ -46,7 +46,7 @@ loop-row-preserved g c =
       finite = tt;
       along = λ xs rs come.
           let a = subst (λ (l : List RowPiece). Along q xs rs (map (made_of c.args.parts.now) l) m before out) c.in-Some.ensures.steps.0 (c.loop-row.invariant.along xs rs come) in
-          along_more q xs rs ps start come p left m before out a c.list_laws.ensures.turns (lists_of c.take_row.new.lists.entries) c.take_row.new.out.items
+          along_more q xs rs ps start come p left m before out a (lists_of c.take_row.new.lists.entries) c.take_row.new.out.items
           (c.in_ok-take_row.ensures (behind q xs rs ps start come p left m before out a) (next_row q xs rs ps start come p left m before out a) (along_can q xs rs ps start come p left m before out a));
     }
 

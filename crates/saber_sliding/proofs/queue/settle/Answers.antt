@@ -13,5 +13,5 @@ returns-clause-entries g c =
     let p = c.args.back_part.now.part in
     let none = late_none c.args.late.now front back p c.if-not-late.false c.requires in
     let new = c.turn.new in
-    seen_turned_all c.merge_has_unit.ensures new.front.items new.back.items (suffixes back) new.back_part.part c.in_ok-turn.ensures.front c.in_ok-turn.ensures.back c.in_ok-turn.ensures.part
+    seen_turned_all new.front.items new.back.items (suffixes back) new.back_part.part c.in_ok-turn.ensures.front c.in_ok-turn.ensures.back c.in_ok-turn.ensures.part
     ∙ sym (seen_late front back p none.0)

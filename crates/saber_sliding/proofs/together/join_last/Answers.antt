@@ -11,7 +11,7 @@ merge_row-requires g c =
     let some = c.in-Some.ensures.item in
     let same = c.args.back.now.ok.0 in
     let long : length es ≡ suc i = omega (arith, some, same) in
-    last_can c.merge_has_unit.ensures es i c.in-Some.last.now c.args.part.now long c.in-Some.ensures.value c.requires
+    last_can es i c.in-Some.last.now c.args.part.now long c.in-Some.ensures.value c.requires
 
 pub returns-clause-back : goal.returns-clause-back
 returns-clause-back g c =

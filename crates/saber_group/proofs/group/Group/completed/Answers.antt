@@ -6,6 +6,7 @@ use Rattle.saber_plan.specs.Answers.{frame}
 use Rattle.saber_plan.specs.Facts.Rows.{fits_front}
 use Rattle.saber_group.specs.declared.slices.Slice.{Slice}
 use Rattle.saber_group.proofs.Completed.{goes_behind, is_complete}
+use Rattle.saber_group.proofs.GroupPlans.{has_window}
 use Rattle.saber_group.proofs.group.Group.completed.Goals as goal
 
 pub open_behind-requires-clause-fits : goal.open_behind-requires-clause-fits
@@ -32,7 +33,7 @@ take_slices-requires g c =
       length e.rows,
       0,
       length b.rows.now,
-      goes_behind q e b.before b.rows.now b.ended c.requires.meets c.groups_join.ensures c.merge_is_associative.ensures c.closed_stay.ensures c.ends_close_more.ensures c.has_window.ensures.fits c.requires.fits
+      goes_behind q e b.before b.rows.now b.ended c.requires.meets (has_window c.args.self.now c.self.view_is c.self.invariant.0 c.self.invariant.1).fits c.requires.fits
           low c.args.high store.next store.slices.entries c.args.slices.items order c.requires.high c.in-Ok-open_behind.ensures.next c.in-Ok-open_behind.ensures.slices c.requires.slices,
     )
 
@@ -47,9 +48,9 @@ returns-in-Ok-take_slices-clause-gives g c old given end same =
     let order : low ≤ c.args.high = let more = c.if-high-low.false in omega (arith, more) in
     let store = c.in-Ok-open_behind.open in
     let least = c.max-low.ensures ∙ (λ j. max (c.begun_below.ensures j) (c.closed_below-closed.ensures j)) in
-    let goes = goes_behind q e b.before b.rows.now b.ended c.requires.meets c.groups_join.ensures c.merge_is_associative.ensures c.closed_stay.ensures c.ends_close_more.ensures c.has_window.ensures.fits c.requires.fits
+    let goes = goes_behind q e b.before b.rows.now b.ended c.requires.meets (has_window c.args.self.now c.self.view_is c.self.invariant.0 c.self.invariant.1).fits c.requires.fits
     low c.args.high store.next store.slices.entries slices order c.requires.high c.in-Ok-open_behind.ensures.next c.in-Ok-open_behind.ensures.slices c.requires.slices in
-    is_complete q e b.before b.rows.now b.ended c.requires.meets old given end c.parts_lie_within.ensures c.begun_are_counted.ensures c.groups_join.ensures c.merge_has_unit.ensures c.has_window.ensures.group c.has_window.ensures.fits same
+    is_complete q e b.before b.rows.now b.ended c.requires.meets old given end (has_window c.args.self.now c.self.view_is c.self.invariant.0 c.self.invariant.1).group (has_window c.args.self.now c.self.view_is c.self.invariant.0 c.self.invariant.1).fits same
     low c.args.high (record { low = low; text = c.take_slices.new.out; «open» = c.take_slices.new.store }) slices k c.in-Ok.closing.items store.next c.new-text.result.items c.new-text.ensures.items order c.requires.high least refl c.in-Ok-open_behind.ensures.next c.requires.slices
     (c.in-Ok.ensures ∙ ap (take k) c.deref-2.ensures.value)
     (subst (λ l. AllByRecursion (λ (r : Slice). r.first ≤ low) (take k l)) c.deref.ensures.value c.closing_end-count.ensures.firsts)

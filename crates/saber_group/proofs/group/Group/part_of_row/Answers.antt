@@ -5,6 +5,7 @@ use Rattle.saber_plan.specs.Trees.{tree_of}
 use Rattle.saber_plan.specs.Parts.{no_part, group_part, merge}
 use Rattle.saber_plan.specs.Values.{passes}
 use Rattle.saber_group.specs.SliceParts.{with_row}
+use Rattle.saber_plan.specs.Facts.Parts.{merge-empty_left}
 use Rattle.saber_group.proofs.group.Group.part_of_row.Goals as goal
 
 pub returns-then-counts : goal.returns-then-counts
@@ -14,7 +15,7 @@ returns-then-counts c =
     let one = group_part q (row.values ∷ []) in
     let same : c.self.inside.aggregates ≡ c.args.self.now = c.self.invariant.3 ∙ c.self.view_is in
     let both : c.args.is_wanted && passes q.predicate row.values [] ≡ true = sym c.counts.ensures ∙ c.if-counts.true in
-    let part : one ≡ with_row q c.args.is_wanted no_part row = sym (c.merge_has_unit.ensures one).0 ∙ ap (λ b. cond b (merge no_part one) no_part) (sym both) in
+    let part : one ≡ with_row q c.args.is_wanted no_part row = sym (merge-empty_left one) ∙ ap (λ b. cond b (merge no_part one) no_part) (sym both) in
     IfOk-weaker c.of_row.result (λ p. p ≡ group_part (tree_of c.self.inside.aggregates) (row.values ∷ [])) (λ p. p ≡ with_row q c.args.is_wanted no_part row)
     (λ p h. h ∙ ap (λ (s : Plan). group_part (tree_of s) (row.values ∷ [])) same ∙ part) c.of_row.ensures
 

@@ -6,6 +6,7 @@ use Rattle.saber_plan.specs.Answers.{frame}
 use Rattle.saber_plan.specs.Facts.Rows.{left_small}
 use Rattle.saber_window.specs.Together.{LieTogether}
 use Rattle.saber_group.proofs.RowsTogether.{left_behind, order_behind}
+use Rattle.saber_group.proofs.GroupPlans.{has_window}
 use Rattle.saber_group.proofs.group.Group.slice_end.Goals as goal
 
 pub slice_end-requires-clause-small : goal.slice_end-requires-clause-small
@@ -17,7 +18,7 @@ slice_end-requires-clause-small c =
 pub slice_end-requires-clause-left : goal.slice_end-requires-clause-left
 slice_end-requires-clause-left c =
     let b = c.args.batch.now in
-    left_behind c.stamps_fit.ensures (tree_of c.args.self.now) c.has_window.ensures.window b.before b.rows.now c.args.from c.requires.fits
+    left_behind (tree_of c.args.self.now) (has_window c.args.self.now c.self.view_is c.self.invariant.0 c.self.invariant.1).window b.before b.rows.now c.args.from c.requires.fits
 
 pub slice_end-requires-clause-order : goal.slice_end-requires-clause-order
 slice_end-requires-clause-order c =

@@ -9,6 +9,9 @@ use Rattle.saber_plan.specs.Facts.Rows.{left_small, right_small, few_rows, row_a
 use Rattle.saber_group.specs.SliceParts.{IsSlice}
 use Rattle.saber_group.proofs.RowsTogether.{lies}
 use Rattle.saber_group.proofs.Running.{SliceTo, starts_at, slice_nil, slice_more, slice_is}
+use Rattle.saber_partial.proofs.Counted.{groups_of_rows as groups_are_of_rows, small_merge}
+use Rattle.saber_laws.proofs.CutLaws.{no_rows_no_part}
+use Rattle.saber_group.proofs.GroupPlans.{has_window}
 use Rattle.saber_group.proofs.group.Group.slice_from.Goals as goal
 
 is_row : (rows : List Row) (k : ℕ) (x : Row) → Some x ≡ slice_get rows k → x ≡ get_or rows k x
@@ -26,7 +29,7 @@ loop-i-init c =
     let b = c.args.batch.now in
     record {
       low = omega arith;
-      slice = slice_nil c.merge_has_unit.ensures c.groups_are_of_rows.ensures q b.before b.rows.now c.args.from c.row_windows-first.result.0 c.row_windows-first.result.1 c.args.part.now (c.no_rows_no_part.ensures q).of_groups c.requires.none;
+      slice = slice_nil q b.before b.rows.now c.args.from c.row_windows-first.result.0 c.row_windows-first.result.1 c.args.part.now (no_rows_no_part q).of_groups c.requires.none;
     }
 
 pub add_row-requires-clause-row : goal.add_row-requires-clause-row
@@ -41,8 +44,8 @@ add_row-requires-clause-room c =
     let b = c.args.batch.now in
     let x = c.row.result in
     let within = c.slice_end-end.ensures.within in
-    let few = few_rows q c.has_window.ensures.window.stream c.has_window.ensures.window.streams b.before b.rows.now c.requires.fits in
-    (c.small_parts_merge.ensures q (c.loop-i.i - c.args.from) 1 c.loop-i.part (group_part q (x.values ∷ [])) c.loop-i.invariant.slice.few (c.groups_are_of_rows.ensures q (x.values ∷ [])) (omega (arith, within, few, c.loop-i-test.true))).0
+    let few = few_rows q (has_window c.args.self.now c.self.view_is c.self.invariant.0 c.self.invariant.1).window.stream (has_window c.args.self.now c.self.view_is c.self.invariant.0 c.self.invariant.1).window.streams b.before b.rows.now c.requires.fits in
+    small_merge q (c.loop-i.i - c.args.from) 1 c.loop-i.part (group_part q (x.values ∷ [])) c.loop-i.invariant.slice.few (groups_are_of_rows q (x.values ∷ [])) (omega (arith, within, few, c.loop-i-test.true))
 
 pub loop-i-preserved : goal.loop-i-preserved
 loop-i-preserved c =
@@ -59,8 +62,8 @@ loop-i-preserved c =
     record {
       low = omega (arith, low);
       slice = subst (SliceTo q b.before b.rows.now c.args.from (i + 1) w.0 w.1) (sym c.in_ok-add_row.ensures)
-          (slice_more c.rows_add_to_groups.ensures c.rows_span.ensures c.merge_is_associative.ensures c.small_parts_merge.ensures c.groups_are_of_rows.ensures q c.has_window.ensures.fits b.before b.rows.now c.args.from i w.0 w.1 c.loop-i.part x (mark_after b.before (take i b.rows.now))
-          low (omega (arith, below, within)) (few_rows q c.has_window.ensures.window.stream c.has_window.ensures.window.streams b.before b.rows.now c.requires.fits) (is_row b.rows.now i x c.row.ensures) refl lie.begins lie.ends c.loop-i.invariant.slice);
+          (slice_more q (has_window c.args.self.now c.self.view_is c.self.invariant.0 c.self.invariant.1).fits b.before b.rows.now c.args.from i w.0 w.1 c.loop-i.part x (mark_after b.before (take i b.rows.now))
+          low (omega (arith, below, within)) (few_rows q (has_window c.args.self.now c.self.view_is c.self.invariant.0 c.self.invariant.1).window.stream (has_window c.args.self.now c.self.view_is c.self.invariant.0 c.self.invariant.1).window.streams b.before b.rows.now c.requires.fits) (is_row b.rows.now i x c.row.ensures) refl lie.begins lie.ends c.loop-i.invariant.slice);
     }
 
 pub returns-clause-slice : goal.returns-clause-slice
@@ -72,7 +75,7 @@ returns-clause-slice c =
     let all : c.loop-i.i ≡ end = omega arith in
     subst (IsSlice q b.before b.rows.now c.args.from end w.0 w.1) (sym c.in_ok-take_part.ensures.part)
     (slice_is q b.before b.rows.now c.args.from end w.0 w.1 c.loop-i.part
-    (starts_at c.past_have_none.ensures c.begun_stay.ensures c.closed_stay.ensures q c.has_window.ensures.window c.has_window.ensures.fits b.before b.rows.now c.args.from c.row-row.result c.args.mark.now w.0 w.1
+    (starts_at q (has_window c.args.self.now c.self.view_is c.self.invariant.0 c.self.invariant.1).window (has_window c.args.self.now c.self.view_is c.self.invariant.0 c.self.invariant.1).fits b.before b.rows.now c.args.from c.row-row.result c.args.mark.now w.0 w.1
     c.requires.fits c.requires.there (is_row b.rows.now c.args.from c.row-row.result c.row-row.ensures) c.requires.mark c.row_windows-first.ensures.first c.row_windows-first.ensures.past)
     c.slice_end-end.ensures.more c.slice_end-end.ensures.within (subst (λ n. SliceTo q b.before b.rows.now c.args.from n w.0 w.1 c.loop-i.part) all c.loop-i.invariant.slice))
 
@@ -84,13 +87,13 @@ returns-then-end-from-clause-slice c =
     let w = c.row_windows-first.result in
     let x = c.row-row.result in
     let end = c.slice_end-end.result in
-    let win = c.has_window.ensures.window in
+    let win = (has_window c.args.self.now c.self.view_is c.self.invariant.0 c.self.invariant.1).window in
     let is = is_row b.rows.now k x c.row-row.ensures in
-    let none = slice_nil c.merge_has_unit.ensures c.groups_are_of_rows.ensures q b.before b.rows.now k w.0 w.1 no_part (c.no_rows_no_part.ensures q).of_groups refl in
-    let one = slice_more c.rows_add_to_groups.ensures c.rows_span.ensures c.merge_is_associative.ensures c.small_parts_merge.ensures c.groups_are_of_rows.ensures q c.has_window.ensures.fits b.before b.rows.now k k w.0 w.1 no_part x c.args.mark.now
+    let none = slice_nil q b.before b.rows.now k w.0 w.1 no_part (no_rows_no_part q).of_groups refl in
+    let one = slice_more q (has_window c.args.self.now c.self.view_is c.self.invariant.0 c.self.invariant.1).fits b.before b.rows.now k k w.0 w.1 no_part x c.args.mark.now
     (omega arith) c.requires.there (few_rows q win.stream win.streams b.before b.rows.now c.requires.fits) is c.requires.mark c.row_windows-first.ensures.first c.row_windows-first.ensures.past none in
     slice_is q b.before b.rows.now k end w.0 w.1 c.in_ok-part_of_row.field-0
-    (starts_at c.past_have_none.ensures c.begun_stay.ensures c.closed_stay.ensures q win c.has_window.ensures.fits b.before b.rows.now k x c.args.mark.now w.0 w.1
+    (starts_at q win (has_window c.args.self.now c.self.view_is c.self.invariant.0 c.self.invariant.1).fits b.before b.rows.now k x c.args.mark.now w.0 w.1
     c.requires.fits c.requires.there is c.requires.mark c.row_windows-first.ensures.first c.row_windows-first.ensures.past)
     c.slice_end-end.ensures.more c.slice_end-end.ensures.within
     (subst₂ (λ n p. SliceTo q b.before b.rows.now k n w.0 w.1 p) (sym c.if-end-from.true) (sym c.in_ok-part_of_row.ensures) one)

@@ -5,6 +5,7 @@ use Rattle.saber_plan.specs.Windows.{no_rows}
 use Rattle.saber_group.specs.declared.complete.Complete.{Complete}
 use Rattle.saber_group.specs.SliceStores.{Comes, PieceSteps}
 use Rattle.saber_group.proofs.PiecesTaken.{go_all, came}
+use Rattle.saber_group.proofs.GroupPlans.{has_window}
 use Rattle.saber_group.proofs.group.Group.take_piece.Goals as goal
 
 pub take_slices-requires : goal.take_slices-requires
@@ -18,7 +19,7 @@ take_slices-requires g c =
       length old,
       0,
       length rows,
-      go_all c.groups_join.ensures c.merge_is_associative.ensures c.closed_stay.ensures q c.has_window.ensures.fits old rows ended s.next s.slices.entries slices c.args.closed
+      go_all q (has_window c.args.self.now c.self.view_is c.self.invariant.0 c.self.invariant.1).fits old rows ended s.next s.slices.entries slices c.args.closed
           (subst (λ (o : Option Complete). Comes q old rows ended s.next s.slices.entries slices o c.args.closed) c.in-None.is h),
     )
 
@@ -27,10 +28,8 @@ returns-in-None-clause-come h c =
     let q = tree_of c.args.self.now in
     let s = c.args.store.now in
     let slices = c.args.piece.slices.items in
-    let join = c.groups_join.ensures in
-    let assoc = c.merge_is_associative.ensures in
     on_ok_weaker c.take_slices.result (λ went old rows ended g.
-    let all = go_all join assoc c.closed_stay.ensures q c.has_window.ensures.fits old rows ended s.next s.slices.entries slices c.args.closed (subst (λ (o : Option Complete). Comes q old rows ended s.next s.slices.entries slices o c.args.closed) c.in-None.is g) in
+    let all = go_all q (has_window c.args.self.now c.self.view_is c.self.invariant.0 c.self.invariant.1).fits old rows ended s.next s.slices.entries slices c.args.closed (subst (λ (o : Option Complete). Comes q old rows ended s.next s.slices.entries slices o c.args.closed) c.in-None.is g) in
     came q old rows s.next c.take_slices.new.store.slices.entries c.args.closed c.take_slices.new.store.next c.args.out.now.items c.take_slices.new.out.items (went no_rows (old ++ rows) (length old) 0 (length rows) all)) c.take_slices.ensures.went_on
 
 pub returns-in-Some-clause-come : goal.returns-in-Some-clause-come

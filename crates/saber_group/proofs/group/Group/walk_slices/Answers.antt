@@ -8,6 +8,7 @@ use Rattle.saber_group.specs.SliceParts.{Holds, HoldStill}
 use Rattle.saber_group.specs.ChangeStores.{answers_over, HasPassed}
 use Rattle.saber_group.proofs.SlicesTaken.{Along, along_nil, along_below, along_can, along_more, along_holds, along_done, all_given}
 use Rattle.saber_group.proofs.Walked.{walk_nil}
+use Rattle.saber_group.proofs.GroupPlans.{has_window}
 use Rattle.saber_group.proofs.group.Group.walk_slices.Goals as goal
 
 pub loop-slice-init : goal.loop-slice-init
@@ -34,13 +35,13 @@ take_in-requires g c =
     let left = c.in-Some.ensures.steps.0 in
     let a = subst (λ l. Along q m xs o y c.args.store.now.next s.next s.slices.entries l c.args.closed) left (c.loop-slice.invariant.along m xs o x y given) in
     let contents = subst (λ (p : Plan). HoldStill (tree_of p) s.next s.slices.entries new.next new.slices.entries) c.self.view_is c.in_ok-walk_lines.ensures.slices in
-    along_can q c.has_window.ensures.window m xs o y c.args.store.now.next s.next s.slices.entries r (into_iter_items c.next.new.self) c.args.closed given.fits a
-    c.small_parts_merge.ensures new.next new.slices.entries (contents m (take (o + a.x) xs) a.holds)
+    along_can q (has_window c.args.self.now c.self.view_is c.self.invariant.0 c.self.invariant.1).window m xs o y c.args.store.now.next s.next s.slices.entries r (into_iter_items c.next.new.self) c.args.closed given.fits a
+    new.next new.slices.entries (contents m (take (o + a.x) xs) a.holds)
 
 pub loop-slice-preserved : goal.loop-slice-preserved
 loop-slice-preserved g c =
     let q = tree_of c.args.self.now in
-    let w = c.has_window.ensures.window in
+    let w = (has_window c.args.self.now c.self.view_is c.self.invariant.0 c.self.invariant.1).window in
     let s = c.loop-slice.store in
     let start = c.args.store.now.next in
     let new = c.walk_lines.new.self in
@@ -62,7 +63,7 @@ loop-slice-preserved g c =
       along = λ m xs o x y given.
           let a = subst (λ l. Along q m xs o y start s.next s.slices.entries l c.args.closed) left (c.loop-slice.invariant.along m xs o x y given) in
           along_more q w m xs o y start s.next s.slices.entries r rest c.args.closed given.fits a
-          c.merge_has_unit.ensures c.small_parts_merge.ensures new.next c.take_in.new.self.next new.slices.entries c.take_in.new.self.slices.entries
+          new.next c.take_in.new.self.next new.slices.entries c.take_in.new.self.slices.entries
           most same (contents m (take (o + a.x) xs) a.holds) c.in_ok-take_in.ensures.slices;
       walks = λ m xs o x y given stands.
           let a = subst (λ l. Along q m xs o y start s.next s.slices.entries l c.args.closed) left (c.loop-slice.invariant.along m xs o x y given) in

@@ -8,7 +8,7 @@ pub take_part-requires : goal.take_part-requires
 take_part-requires g c =
     let (us, r, comes, keeps) = c.requires in
     let s = c.args.self.now in
-    has_room c.stream_laws.ensures (tree_of c.args.plan.now) us r c.args.low c.args.past (part_in c.args.parts.now c.args.part) comes s.next s.parts.entries keeps.next_is keeps.holds
+    has_room (tree_of c.args.plan.now) us r c.args.low c.args.past (part_in c.args.parts.now c.args.part) comes s.next s.parts.entries keeps.next_is keeps.holds
 
 pub close_lines-requires : goal.close_lines-requires
 close_lines-requires g c =
@@ -24,7 +24,7 @@ returns-clause-came g c us r comes keeps =
     let same = c.in_ok-take_part.ensures.next in
     let old = c.args.out.now.items in
     let new = c.close_lines.new.out.items in
-    came c.stream_laws.ensures q us r c.args.low c.args.past (part_in c.args.parts.now c.args.part) comes s.next s.parts.entries keeps.next_is keeps.holds
+    came q us r c.args.low c.args.past (part_in c.args.parts.now c.args.part) comes s.next s.parts.entries keeps.next_is keeps.holds
     m.parts.entries n.parts.entries n.next n.begun old new
     c.in_ok-take_part.ensures.parts
     (subst (λ (k : ℕ). HoldStill q k m.parts.entries n.next n.parts.entries) same c.in_ok-close_lines.ensures.parts)

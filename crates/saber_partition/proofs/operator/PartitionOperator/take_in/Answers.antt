@@ -4,6 +4,7 @@ use Rattle.saber_plan.specs.Inputs.{first_arrivals}
 use Rattle.saber_plan.specs.Tasks.{list_added}
 use Rattle.saber_partition.specs.Stores.{lists_of}
 use Rattle.saber_partition.proofs.Taking.{list_adds, keeps_rightly}
+use Rattle.saber_partition.proofs.Asking.{asks_in}
 use Rattle.saber_partition.proofs.operator.PartitionOperator.take_in.Goals as goal
 
 pub take_piece-requires-clause-follow : goal.take_piece-requires-clause-follow
@@ -16,7 +17,7 @@ returns-clause-taken c r x y f = (c.in_ok-take_piece.ensures r x y (record { fit
 
 pub returns-clause-stays : goal.returns-clause-stays
 returns-clause-stays c r x y f =
-    keeps_rightly c.no_list_open_behind.ensures c.stream_laws.ensures.none (tree_of c.args.self.now) c.asks.ensures (first_arrivals r y) (lists_of c.take_piece.new.store.lists.entries)
+    keeps_rightly (tree_of c.args.self.now) (asks_in c.args.self.now c.self.view_is c.self.invariant.0 c.self.invariant.1 c.self.invariant.4) (first_arrivals r y) (lists_of c.take_piece.new.store.lists.entries)
     (c.in_ok-take_piece.ensures r x y (record { fits = f.fits; rises = f.rises; taken = f.taken_is; of_is = f.of_is })).taken
 
 pub returns-clause-text : goal.returns-clause-text
@@ -26,4 +27,4 @@ returns-clause-text c r x y f =
     c.deref.ensures.value
     ∙ (c.in_ok-take_piece.ensures r x y (record { fits = f.fits; rises = f.rises; taken = f.taken_is; of_is = f.of_is })).text
     ∙ ap (λ l. l ++ list_added q r x y) c.new-text.ensures.items
-    ∙ sym (list_adds q c.asks.ensures r x y))
+    ∙ sym (list_adds q (asks_in c.args.self.now c.self.view_is c.self.invariant.0 c.self.invariant.1 c.self.invariant.4) r x y))

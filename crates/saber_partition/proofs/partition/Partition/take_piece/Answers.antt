@@ -1,16 +1,16 @@
 use Rattle.std.proofs.Common.{map, ◌++◌, sym, subst}
 use Rattle.saber_plan.specs.declared.plans.Plan.{Plan}
 use Rattle.saber_plan.specs.Trees.{tree_of}
-use Rattle.saber_partition.specs.Streams.{Asks}
 use Rattle.saber_partition.specs.Pieces.{Follow, Followed}
 use Rattle.saber_partition.specs.Stores.{lists_of, made_of}
 use Rattle.saber_partition.proofs.Taking.{old_rows, new_rows, rows_come, followed}
+use Rattle.saber_partition.proofs.Asking.{asks_of}
 use Rattle.saber_partition.proofs.partition.Partition.take_piece.Goals as goal
 
 pub take_rows-requires-clause-come : goal.take_rows-requires-clause-come
 take_rows-requires-clause-come g c =
     let q = tree_of c.self.inside.plan.now in
-    let asks = subst (λ (p : Plan). Asks (tree_of p)) (sym c.self.view_is) c.asks.ensures in
+    let asks = asks_of (tree_of c.self.inside.plan.now) c.self.invariant.0 c.self.invariant.1 c.self.invariant.4 in
     let ps = map (made_of c.args.piece.parts) c.args.piece.rows.items in
     let m = lists_of c.args.store.now.lists.entries in
     let (r, x, y, given) = c.requires.follow in
@@ -18,12 +18,12 @@ take_rows-requires-clause-come g c =
     (old_rows q asks r x y ps c.args.piece.ended m f, new_rows q asks r x y ps c.args.piece.ended m f, rows_come q asks r x y ps c.args.piece.ended m f)
 
 pub take_end-requires : goal.take_end-requires
-take_end-requires g c = subst (λ (p : Plan). Asks (tree_of p)) (sym c.self.view_is) c.asks.ensures
+take_end-requires g c = asks_of (tree_of c.self.inside.plan.now) c.self.invariant.0 c.self.invariant.1 c.self.invariant.4
 
 pub returns : goal.returns
 returns g c r x y given =
     let q = tree_of c.self.inside.plan.now in
-    let asks = subst (λ (p : Plan). Asks (tree_of p)) (sym c.self.view_is) c.asks.ensures in
+    let asks = asks_of (tree_of c.self.inside.plan.now) c.self.invariant.0 c.self.invariant.1 c.self.invariant.4 in
     let ps = map (made_of c.args.piece.parts) c.args.piece.rows.items in
     let ended = c.args.piece.ended in
     let m = lists_of c.args.store.now.lists.entries in
@@ -36,5 +36,5 @@ returns g c r x y given =
     let after = c.take_end.new.out.items in
     let k = lists_of c.take_end.new.lists.entries in
     subst (λ (p : Plan). Followed (tree_of p) r x y k before after) c.self.view_is
-    (followed q asks r x y ps ended m f c.ends_are_behind.ensures (lists_of c.take_rows.new.lists.entries) k before middle after came
+    (followed q asks r x y ps ended m f (lists_of c.take_rows.new.lists.entries) k before middle after came
     (c.in_ok-take_end.ensures (old ++ new) came.taken))

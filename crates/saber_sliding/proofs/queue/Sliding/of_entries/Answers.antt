@@ -11,4 +11,4 @@ invariant_of-result g c =
 pub returns-clause-entries : goal.returns-clause-entries
 returns-clause-entries g c =
     let front = c.sum_up.new.front.items in
-    (λ i. queue_entries front (c.new.ensures.items i) (c.empty.ensures.part i)) ∙ seen_turned c.merge_has_unit.ensures front ∙ c.in_ok-sum_up.ensures.front
+    (λ i. queue_entries front (c.new.ensures.items i) (c.empty.ensures.part i)) ∙ seen_turned front ∙ c.in_ok-sum_up.ensures.front

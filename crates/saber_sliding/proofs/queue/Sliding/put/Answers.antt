@@ -20,7 +20,7 @@ invariant_of-self g c =
     let n = c.join_behind.new in
     let ends = subst (λ l. last_number l ≡ Some c.args.number) c.deref.ensures.value (c.ends_with.ensures c.if-not-ends_with.false) in
     subst (λ l. IsSound s.late s.front.items l n.back_part.part) (sym c.in-Ok.ensures.back)
-    (joined_sound c.merge_has_unit.ensures c.merge_is_associative.ensures s.late s.front.items s.back.items s.back_part.part n.back_part.part c.args.part.now (some_back s.back.items c.args.number ends)
+    (joined_sound s.late s.front.items s.back.items s.back_part.part n.back_part.part c.args.part.now (some_back s.back.items c.args.number ends)
     c.self.invariant (subst (λ (q : Queue). CanFollow c.args.part.now q.entries) (sym c.self.view_is) c.requires) c.in-Ok.ensures.part)
 
 pub returns-in-Ok-clause-entries : goal.returns-in-Ok-clause-entries
@@ -31,6 +31,6 @@ returns-in-Ok-clause-entries g c =
     inr (
       subst (λ (q : Queue). last_number q.entries ≡ Some c.args.number) c.self.view_is (last_seen s.front.items s.back.items s.back_part.part c.args.number ends),
       ap (λ l. queue_entries s.front.items l n.back_part.part) c.in-Ok.ensures.back
-          ∙ joined_seen c.merge_has_unit.ensures c.merge_is_associative.ensures s.late s.front.items s.back.items s.back_part.part n.back_part.part c.args.part.now c.self.invariant c.in-Ok.ensures.part
+          ∙ joined_seen s.late s.front.items s.back.items s.back_part.part n.back_part.part c.args.part.now c.self.invariant c.in-Ok.ensures.part
           ∙ ap (λ (q : Queue). followed_entries c.args.part.now q.entries) c.self.view_is,
     )
