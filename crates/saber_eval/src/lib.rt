@@ -1,15 +1,15 @@
 //! Values of expressions and truth of predicates, over one row or over a pair of rows.
 //! Panes, partial answers, groups, joins and selections ask for them row by row.
 //!
-//! - Parts: `lib` (the calls), `values` (expressions), `predicates` (WHERE), `laws`.
+//! - Parts: `lib` (the calls), `values` (expressions), `predicates` (WHERE).
 //! - Calls: `value` and `holds` take an expression or a predicate and a row of the one stream,
 //!   `value2` and `holds2` a left and a right row; they give a number of 128 bits, or whether WHERE
 //!   holds.
 //! - Proved: they are the definitions of `saber_plan/specs/Values.antt`, without an error and
 //!   without memory. No value passes its expression's bound, nor `2^126`, and no step overflows.
 //! - What they require, that each column is there and nothing overflows, the check of a query has
-//!   made sure of: `one_stream_fits` and `two_streams_fit` hand it on to each row, or pair, of the
-//!   streams.
+//!   made sure of: `one_stream` and `two_streams` of `proofs/FittingLaws.antt` hand it on to each
+//!   row, or pair, of the streams, in proofs above.
 //! - Limits: none of their own. Columns count from 0, and column 0 is the time.
 #![tactic(auto)]
 
@@ -20,11 +20,9 @@ ghost use Rattle.saber_plan.specs.Bounds.{sum_bound};
 ghost use Rattle.saber_plan.specs.Checked.{ExprFits, SomeFit};
 ghost use Rattle.saber_eval.specs.Widths.{widths};
 
-mod laws;
 mod predicates;
 mod values;
 
-pub use laws::{one_stream_fits, two_streams_fit};
 use saber_flat::RowRef;
 use saber_plan::{Expr, Pred};
 

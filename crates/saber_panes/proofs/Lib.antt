@@ -1,3 +1,4 @@
+mod Fitting
 mod Divisors
 mod PaneMaps
 mod WorkedPanes

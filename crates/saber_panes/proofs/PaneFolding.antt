@@ -14,8 +14,6 @@ use Rattle.saber_plan.specs.Merges.{join, both}
 use Rattle.saber_plan.specs.Parts.{Part, no_part, group_part, merge}
 use Rattle.saber_plan.specs.Tasks.{Parts}
 use Rattle.saber_plan.specs.Facts.Maps.{get-both, both-assoc, both-empty_right, take_one}
-use Rattle.saber_laws.specs.Groups.{GroupsJoin}
-use Rattle.saber_laws.specs.Parts.{MergeIsAssociative}
 use Rattle.saber_partial.specs.Tallies.{CanMerge}
 use Rattle.saber_partial.specs.PartLaws.{OfRows}
 use Rattle.saber_panes.specs.Panes.{panes_in, pane_of, in_pane, is_counted, counted_rows, or_none, with_part, with_row_in, PanesOf, RowsRoom}
@@ -23,6 +21,7 @@ use Rattle.saber_partial.proofs.Counted.{groups_of_rows, none_of_rows, more_rows
 use Rattle.saber_plan.specs.Facts.Rows.{placed_more}
 use Rattle.saber_plan.specs.Facts.Parts.{if_any}
 use Rattle.saber_panes.proofs.PaneRows.{values_in, get-panes, panes-append, counted-append}
+use Rattle.saber_laws.proofs.PartLaws.{merge-assoc as merge_is_associative}
 
 -- ---- one row
 
@@ -64,12 +63,12 @@ module _ (q : Tree) (m : Mark) (xs : List Row) (k : ℕ) (x : Row) (here : k < l
   pub one_more : so_far q m xs (k + 1) ≡ so_far q m xs k ++ counted_rows q (record { row = x; before = mark_after m (take k xs) } ∷ [])
   one_more = ap (counted_rows q) (placed_more m xs k x here is) ∙ filter-append (is_counted q) (placed_after m (take k xs)) (at ∷ [])
 
-  pub panes_more : (law : GroupsJoin) (assoc : MergeIsAssociative) (old : Parts)
+  pub panes_more : (old : Parts)
       → with_row_in q (both merge old (panes_in q (so_far q m xs k))) (record { row = x; before = mark_after m (take k xs) }) ≡ both merge old (panes_in q (so_far q m xs (k + 1)))
-  panes_more law assoc old =
+  panes_more old =
       with_row_is q (both merge old (panes_in q (so_far q m xs k))) at
-      ∙ both-assoc nat_cmp_total merge nat_cmp-IsAntisymmetric assoc old (panes_in q (so_far q m xs k)) (panes_in q (counted_rows q (at ∷ [])))
-      ∙ ap (both merge old) (sym (panes-append law q (so_far q m xs k) (counted_rows q (at ∷ []))) ∙ ap (panes_in q) (sym one_more))
+      ∙ both-assoc nat_cmp_total merge nat_cmp-IsAntisymmetric merge_is_associative old (panes_in q (so_far q m xs k)) (panes_in q (counted_rows q (at ∷ [])))
+      ∙ ap (both merge old) (sym (panes-append q (so_far q m xs k) (counted_rows q (at ∷ []))) ∙ ap (panes_in q) (sym one_more))
 
   pub longer : length (so_far q m xs (k + 1)) ≡ length (so_far q m xs k) + length (counted_rows q (record { row = x; before = mark_after m (take k xs) } ∷ []))
   longer = ap length one_more ∙ length-append (so_far q m xs k) (counted_rows q (at ∷ []))

@@ -14,15 +14,13 @@ use Rattle.saber_plan.specs.Needs.{first_window, past_window}
 use Rattle.saber_plan.specs.Answers.{frame, passing_values, by_shape}
 use Rattle.saber_plan.specs.Parts.{no_part, group_part, pair_part, part, row_part}
 use Rattle.saber_plan.specs.Facts.Rows.{length-placed}
-use Rattle.saber_laws.specs.Groups.{GroupsJoin}
-use Rattle.saber_laws.specs.Parts.{MergeHasUnit, MergeIsAssociative}
-use Rattle.saber_laws.specs.Needs.{RowsSpan}
 use Rattle.saber_laws.specs.Plans.{OneWindow}
 use Rattle.saber_panes.specs.Panes.{divisor, panes_here, pane_of, point_by, first_pane, pane_count, is_counted, counted_rows, window_part}
 use Rattle.saber_panes.proofs.Divisors.{is_divisor, divisor_some}
 use Rattle.saber_panes.proofs.PaneRows.{values_in}
 use Rattle.saber_panes.proofs.PaneWindows.{Rises, rises-filter, within, window_rows}
 use Rattle.saber_panes.proofs.PanePoints.{points_rise, panes_rise, spans_panes, filter-filter, filter-map}
+use Rattle.saber_laws.proofs.NeedLaws.{has_is as rows_span}
 
 -- ---- a row of a window's panes is one of the window
 
@@ -39,7 +37,7 @@ agree_case lo hi i p w true e f = (let lies : nat_lt lo hi ≡ true = grind (ari
 agree_case lo hi i p w false e f = ap (λ b. (nat_lt lo hi && p) && b) f ∙ pass_none (nat_lt lo hi && p)
 
 -- its test, in the frame of one stream
-module _ (span : RowsSpan) (slide size : ℕ) (some : 1 ≤ size) (i : ℕ) (x : Placed) (p : Bool) where
+module _ (slide size : ℕ) (some : 1 ≤ size) (i : ℕ) (x : Placed) (p : Bool) where
   d : ℕ
   d = divisor size slide
 
@@ -49,7 +47,7 @@ module _ (span : RowsSpan) (slide size : ℕ) (some : 1 ≤ size) (i : ℕ) (x :
       let g = is_divisor size slide in
       let low = divisor_some size slide some in
       let cut = spans_panes (divisor size slide) slide size i n (omega (arith, low)) g.1 g.0 in
-      agree_case (first_window (one measure slide size) x) (past_window (one measure slide size) x) i p _ (has (one measure slide size) i x) (span (one measure slide size) fits i x)
+      agree_case (first_window (one measure slide size) x) (past_window (one measure slide size) x) i p _ (has (one measure slide size) i x) (rows_span (one measure slide size) fits i x)
       (ap (λ k. within (λ n. n / divisor size slide) (i * slide / divisor size slide) (size / divisor size slide) k) h ∙ sym cut ∙ sym e)
 
   agree_one : (measure : Measure) → Fits (one measure slide size)
@@ -68,13 +66,13 @@ module _ (span : RowsSpan) (slide size : ℕ) (some : 1 ≤ size) (i : ℕ) (x :
 all_placed : (xs : List Row) → slice_range (placed_from_start xs) 0 (length xs) ≡ placed_from_start xs
 all_placed xs = let e = length-placed no_rows xs in take_all (length xs - 0) (placed_from_start xs) (omega (arith, e))
 
-module _ (span : RowsSpan) (q : Tree) (o : OneWindow q) (i : ℕ) where
+module _ (q : Tree) (o : OneWindow q) (i : ℕ) where
   fits_one : Fits (one o.window.measure o.window.slide o.window.size)
   fits_one = let a = o.fits.slide.0 in let b = o.fits.size.0 in (grind (arith, nat_tests), grind (arith, nat_tests))
 
   agree : (x : Placed) → (is_counted q x && within (pane_of (frame q)) (first_pane (frame q) i) (pane_count (frame q)) x) ≡ (has (frame q) i x && passes q.predicate x.row.values [])
   agree x = subst (λ f. ((nat_lt (first_window f x) (past_window f x) && passes q.predicate x.row.values []) && within (pane_of f) (first_pane f i) (pane_count f) x) ≡ (has f i x && passes q.predicate x.row.values [])) (sym o.has_frame)
-      (agree_one span o.window.slide o.window.size o.fits.size.0 i x (passes q.predicate x.row.values []) o.window.measure fits_one)
+      (agree_one o.window.slide o.window.size o.fits.size.0 i x (passes q.predicate x.row.values []) o.window.measure fits_one)
 
   same_rows : (ps : List Placed) → values_in (filter (within (pane_of (frame q)) (first_pane (frame q) i) (pane_count (frame q))) (counted_rows q ps)) ≡ passing_values q (filter (has (frame q) i) ps)
   same_rows ps =
@@ -88,8 +86,8 @@ module _ (span : RowsSpan) (q : Tree) (o : OneWindow q) (i : ℕ) where
       let rise = panes_rise (point_by o.window.measure) (divisor o.window.size o.window.slide) (omega (arith, low)) (placed_from_start xs) (points_rise o.window.measure no_rows xs r) in
       rises-filter (pane_of (frame q)) (is_counted q) (placed_from_start xs) (subst (λ f. Rises (pane_of f) (placed_from_start xs)) (sym o.has_frame) rise)
 
-  pub window_is : (law : GroupsJoin) (unit : MergeHasUnit) (assoc : MergeIsAssociative) → group_part q [] ≡ no_part → q.shape ≡ Group → (xs : List Row) → Ordered no_rows xs → window_part (frame q) i (panes_here q no_rows xs) ≡ part q i xs 0 (length xs)
-  window_is law unit assoc none g xs r =
-      window_rows law unit assoc q none (counted_rows q (placed_from_start xs)) (panes_dont_fall xs r) (first_pane (frame q) i) (pane_count (frame q))
+  pub window_is : group_part q [] ≡ no_part → q.shape ≡ Group → (xs : List Row) → Ordered no_rows xs → window_part (frame q) i (panes_here q no_rows xs) ≡ part q i xs 0 (length xs)
+  window_is none g xs r =
+      window_rows q none (counted_rows q (placed_from_start xs)) (panes_dont_fall xs r) (first_pane (frame q) i) (pane_count (frame q))
       ∙ ap (group_part q) (same_rows (placed_from_start xs) ∙ ap (λ l. passing_values q (filter (has (frame q) i) l)) (sym (all_placed xs)))
       ∙ sym (ap (λ s. by_shape s (row_part q (inside (frame q) i xs 0 (length xs))) (group_part q (passing_values q (inside (frame q) i xs 0 (length xs)))) (pair_part q 0 (inside (frame q) i xs 0 (length xs)))) g)

@@ -17,8 +17,8 @@ use Rattle.saber_plan.specs.Parts.{Part, no_part, group_part, merge}
 use Rattle.saber_plan.specs.Facts.Maps.{get-both}
 use Rattle.saber_plan.specs.Facts.Rows.{placed-append}
 use Rattle.saber_plan.specs.Facts.Parts.{if_any}
-use Rattle.saber_laws.specs.Groups.{GroupsJoin}
 use Rattle.saber_panes.specs.Panes.{panes_in, panes_here, pane_of, pane_part, in_pane, is_counted, counted_rows, or_none}
+use Rattle.saber_laws.proofs.PartLaws.{group_part-append as groups_join}
 
 -- ---- numbers as keys
 
@@ -52,20 +52,20 @@ pane_or_none q e us j = ap or_none (get-panes q us j) ∙ any_or_none q (in_pane
 
 -- ---- more rows
 
-any-append : (law : GroupsJoin) (q : Tree) (us vs : List Placed) → if_any (us ++ vs) (group_part q (values_in (us ++ vs))) ≡ join merge (if_any us (group_part q (values_in us))) (if_any vs (group_part q (values_in vs)))
-any-append law q [] vs = refl
-any-append law q (u ∷ us) [] = ap (λ l. Some (group_part q (values_in l))) (append-nil (u ∷ us))
-any-append law q (u ∷ us) (v ∷ vs) = ap Some (ap (group_part q) (map-append (λ (x : Placed). x.row.values) (u ∷ us) (v ∷ vs)) ∙ law q (values_in (u ∷ us)) (values_in (v ∷ vs)))
+any-append : (q : Tree) (us vs : List Placed) → if_any (us ++ vs) (group_part q (values_in (us ++ vs))) ≡ join merge (if_any us (group_part q (values_in us))) (if_any vs (group_part q (values_in vs)))
+any-append q [] vs = refl
+any-append q (u ∷ us) [] = ap (λ l. Some (group_part q (values_in l))) (append-nil (u ∷ us))
+any-append q (u ∷ us) (v ∷ vs) = ap Some (ap (group_part q) (map-append (λ (x : Placed). x.row.values) (u ∷ us) (v ∷ vs)) ∙ groups_join q (values_in (u ∷ us)) (values_in (v ∷ vs)))
 
-pub panes-append : (law : GroupsJoin) (q : Tree) (us vs : List Placed) → panes_in q (us ++ vs) ≡ both merge (panes_in q us) (panes_in q vs)
-panes-append law q us vs = same_map nat_cmp_total nat_cmp-IsAntisymmetric _ _ (λ k.
+pub panes-append : (q : Tree) (us vs : List Placed) → panes_in q (us ++ vs) ≡ both merge (panes_in q us) (panes_in q vs)
+panes-append q us vs = same_map nat_cmp_total nat_cmp-IsAntisymmetric _ _ (λ k.
     get-panes q (us ++ vs) k
     ∙ ap (λ l. if_any l (group_part q (values_in l))) (filter-append (λ (x : Placed). k == pane_of (frame q) x) us vs)
-    ∙ any-append law q (in_pane q k us) (in_pane q k vs)
+    ∙ any-append q (in_pane q k us) (in_pane q k vs)
     ∙ sym (get-both nat_cmp_total merge (panes_in q us) (panes_in q vs) k ∙ ap₂ (join merge) (get-panes q us k) (get-panes q vs k)))
 
 pub counted-append : (q : Tree) (m : Mark) (xs ys : List Row) → counted_rows q (placed_after m (xs ++ ys)) ≡ counted_rows q (placed_after m xs) ++ counted_rows q (placed_after (mark_after m xs) ys)
 counted-append q m xs ys = ap (counted_rows q) (placed-append m xs ys) ∙ filter-append (is_counted q) (placed_after m xs) (placed_after (mark_after m xs) ys)
 
-pub rows_join : (law : GroupsJoin) (q : Tree) (m : Mark) (xs ys : List Row) → panes_here q m (xs ++ ys) ≡ both merge (panes_here q m xs) (panes_here q (mark_after m xs) ys)
-rows_join law q m xs ys = ap (panes_in q) (counted-append q m xs ys) ∙ panes-append law q (counted_rows q (placed_after m xs)) (counted_rows q (placed_after (mark_after m xs) ys))
+pub rows_join : (q : Tree) (m : Mark) (xs ys : List Row) → panes_here q m (xs ++ ys) ≡ both merge (panes_here q m xs) (panes_here q (mark_after m xs) ys)
+rows_join q m xs ys = ap (panes_in q) (counted-append q m xs ys) ∙ panes-append q (counted_rows q (placed_after m xs)) (counted_rows q (placed_after (mark_after m xs) ys))

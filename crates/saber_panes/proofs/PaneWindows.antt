@@ -10,23 +10,23 @@ use Rattle.saber_plan.specs.Answers.{frame}
 use Rattle.saber_plan.specs.Facts.Lists.{Each, each-filter, each-weaker, dropped}
 use Rattle.saber_plan.specs.Parts.{Part, no_part, group_part, merge}
 use Rattle.saber_plan.specs.Tasks.{Parts}
-use Rattle.saber_laws.specs.Groups.{GroupsJoin}
-use Rattle.saber_laws.specs.Parts.{MergeHasUnit, MergeIsAssociative}
 use Rattle.saber_panes.specs.Panes.{panes_in, pane_of, in_pane, or_none, merged_panes}
 use Rattle.saber_panes.proofs.PaneRows.{pane_or_none, values_in}
+use Rattle.saber_laws.proofs.PartLaws.{group_part-append as groups_join, merge-assoc as merge_is_associative}
+use Rattle.saber_plan.specs.Facts.Parts.{merge-empty_left, merge-empty_right}
 
 -- ---- panes in a row
 
 -- merged behind something, they are merged with it
-pub merged_behind : (unit : MergeHasUnit) (assoc : MergeIsAssociative) (m : Parts) (a : Part) (js : List ℕ) → fold (λ p j. merge p (or_none (get m j))) a js ≡ merge a (merged_panes m js)
-merged_behind unit assoc m a [] = sym (unit a).1
-merged_behind unit assoc m a (j ∷ js) =
+pub merged_behind : (m : Parts) (a : Part) (js : List ℕ) → fold (λ p j. merge p (or_none (get m j))) a js ≡ merge a (merged_panes m js)
+merged_behind m a [] = sym (merge-empty_right a)
+merged_behind m a (j ∷ js) =
     let p = or_none (get m j) in
-    merged_behind unit assoc m (merge a p) js ∙ assoc a p (merged_panes m js)
-    ∙ ap (merge a) (sym (merged_behind unit assoc m (merge no_part p) js ∙ ap (λ x. merge x (merged_panes m js)) (unit p).0))
+    merged_behind m (merge a p) js ∙ merge_is_associative a p (merged_panes m js)
+    ∙ ap (merge a) (sym (merged_behind m (merge no_part p) js ∙ ap (λ x. merge x (merged_panes m js)) (merge-empty_left p)))
 
-pub merged_first : (unit : MergeHasUnit) (assoc : MergeIsAssociative) (m : Parts) (j : ℕ) (js : List ℕ) → merged_panes m (j ∷ js) ≡ merge (or_none (get m j)) (merged_panes m js)
-merged_first unit assoc m j js = merged_behind unit assoc m (merge no_part (or_none (get m j))) js ∙ ap (λ x. merge x (merged_panes m js)) (unit (or_none (get m j))).0
+pub merged_first : (m : Parts) (j : ℕ) (js : List ℕ) → merged_panes m (j ∷ js) ≡ merge (or_none (get m j)) (merged_panes m js)
+merged_first m j js = merged_behind m (merge no_part (or_none (get m j))) js ∙ ap (λ x. merge x (merged_panes m js)) (merge-empty_left (or_none (get m j)))
 
 -- ---- rows whose panes don't fall
 
@@ -66,14 +66,14 @@ module _ {X : Type 0} (p : X → ℕ) where
       ∙ split_case x (filter (within a (suc n)) xs) (filter (λ x. a == p x) xs) (filter (within (a + 1) n) xs) (a == p x) (within (a + 1) n x) (λ e. grind (arith, nat_tests)) (λ e. none_here a x xs h.0 refl (grind (arith, nat_tests))) (split_within a n xs h.1)
 
 -- the panes of such rows, merged, are the groups of those that lie in them
-pub window_rows : (law : GroupsJoin) (unit : MergeHasUnit) (assoc : MergeIsAssociative) (q : Tree) → group_part q [] ≡ no_part → (us : List Placed) → Rises (pane_of (frame q)) us → (a n : ℕ)
+pub window_rows : (q : Tree) → group_part q [] ≡ no_part → (us : List Placed) → Rises (pane_of (frame q)) us → (a n : ℕ)
     → merged_panes (panes_in q us) (from a n) ≡ group_part q (values_in (filter (within (pane_of (frame q)) a n) us))
 unfolding from
-window_rows law unit assoc q none us h a zero = sym none ∙ ap (λ l. group_part q (values_in l)) (sym (none_within (pane_of (frame q)) a us))
-window_rows law unit assoc q none us h a (suc n) =
+window_rows q none us h a zero = sym none ∙ ap (λ l. group_part q (values_in l)) (sym (none_within (pane_of (frame q)) a us))
+window_rows q none us h a (suc n) =
     let rest = filter (within (pane_of (frame q)) (a + 1) n) us in
-    merged_first unit assoc (panes_in q us) a (from (a + 1) n)
-    ∙ ap₂ merge (pane_or_none q none us a) (window_rows law unit assoc q none us h (a + 1) n)
-    ∙ sym (law q (values_in (in_pane q a us)) (values_in rest))
+    merged_first (panes_in q us) a (from (a + 1) n)
+    ∙ ap₂ merge (pane_or_none q none us a) (window_rows q none us h (a + 1) n)
+    ∙ sym (groups_join q (values_in (in_pane q a us)) (values_in rest))
     ∙ ap (group_part q) (sym (map-append (λ (x : Placed). x.row.values) (in_pane q a us) rest))
     ∙ ap (λ l. group_part q (values_in l)) (sym (split_within (pane_of (frame q)) a n us h))

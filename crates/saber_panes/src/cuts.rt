@@ -10,11 +10,10 @@ ghost use Rattle.saber_plan.specs.Windows as w;
 ghost use Rattle.saber_plan.specs.Windows.{one};
 ghost use Rattle.saber_panes.specs.Panes.{divisor, first_pane, is_counted, pane_count, pane_of};
 
-use saber_eval::{holds, one_stream_fits};
+use saber_eval::holds;
 use saber_flat::RowRef;
-use saber_laws::groups_have_one_window;
 use saber_plan::{Mark, Plan, Window};
-use saber_window::{Windows, point, stamps_fit, step_mark};
+use saber_window::{Windows, point, step_mark};
 use std::marker::Model;
 
 // The greatest common divisor, by Euclid's steps.
@@ -32,13 +31,13 @@ fn divisor(a: u64, b: u64) -> u64
 }
 
 /// The window of a group query's stream.
+#[tactic(auto, using(saber_laws::proofs::CheckedLaws::group_has_one))]
 pub(crate) fn window_of(plan: &Plan) -> Window
     requires checked { IsChecked (tree_of plan.now) }
     requires group { (tree_of plan.now).shape ≡ Group }
     ensures frame { frame (tree_of plan.now) ≡ one result.measure result.slide result.size }
     ensures fits { WindowFits result }
 {
-    groups_have_one_window();
     if let [stream, ..] = plan.streams() {
         if let Some(window) = stream.window {
             return window;
@@ -109,7 +108,6 @@ impl<'a> Cuts<'a> {
         ensures { result ≡ pane_of (frame (tree_of self.now)) (record { row = row.now; before = before.now }) }
     {
         let _plan = &self.plan;
-        groups_have_one_window();
         point(self.window.measure, row, before) / self.width
     }
 
@@ -125,12 +123,11 @@ impl<'a> Cuts<'a> {
     }
 
     // Whether a row passes WHERE.
+    #[tactic(auto, using(crate::proofs::Fitting::plan_fits))]
     fn passes(&self, row: &RowRef) -> bool
         requires { IsRowOf (tree_of self.now) row.now }
         ensures { result ≡ v.passes (tree_of self.now).predicate row.now.values [] }
     {
-        groups_have_one_window();
-        one_stream_fits();
         match self.plan.predicate() {
             Some(predicate) => holds(predicate, row),
             None => true,
@@ -150,13 +147,13 @@ impl<'a> Cuts<'a> {
     }
 
     /// The mark after one more row.
+    #[tactic(auto, using(saber_window::proofs::Stamps::stamps_fit))]
     pub(crate) fn step(&self, before: &Mark, row: &RowRef) -> Mark
         requires row { IsRowOf (tree_of self.now) row.now }
         requires left { before.now.left ≤ 2 ^ 40 }
         requires right { before.now.right ≤ 2 ^ 40 }
         ensures { result ≡ w.step_mark before.now row.now }
     {
-        stamps_fit();
         step_mark(before, row)
     }
 }

@@ -1,27 +1,17 @@
 // Laws of panes.
 ghost use Rattle.saber_panes.specs.PaneLaws.{DroppedPanesFit, DroppedPanesStay, PanesAreOfRows, PanesCanJoin, PanesJoin, RowsHaveRoom, WindowsArePanes, WindowsHaveRoom};
 
-use saber_laws::{groups_join, merge_has_unit, merge_is_associative, no_rows_no_part, rows_span};
-
 /// The panes of some rows and of the rows behind them are taken in one after the other, wherever
 /// rows are cut.
 pub fn panes_join()
     ensures { PanesJoin }
-{
-    groups_join();
-}
+{}
 
 /// The merge of a window's panes is its part: what tasks keep by panes means what they keep by
 /// windows.
 pub fn windows_are_panes()
     ensures { WindowsArePanes }
-{
-    groups_join();
-    merge_has_unit();
-    merge_is_associative();
-    no_rows_no_part();
-    rows_span();
-}
+{}
 
 /// Each pane of rows is a part over the rows that lie in it.
 pub fn panes_are_of_rows()

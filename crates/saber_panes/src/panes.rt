@@ -16,7 +16,6 @@ ghost use Rattle.saber_panes.specs.Panes.{counted_rows, first_pane, is_counted, 
 use crate::cuts::Cuts;
 use crate::pane_part::PanePart;
 use saber_flat::{RowRef, Rows};
-use saber_laws::{groups_join, merge_has_unit, merge_is_associative};
 use saber_partial::{Partial, Steps};
 use saber_plan::{Mark, NoMemory, Plan};
 use std::alloc::Global;
@@ -126,8 +125,6 @@ impl Panes {
         ensures ok { OnOk result (self.new ≡ both merge self.old (panes_here (tree_of p.now) before.now rows.now)) }
         ensures steps { steps.new ≤ steps.old + length (counted_rows (tree_of p.now) (placed_after before.now rows.now)) }
     {
-        groups_join();
-        merge_is_associative();
         let cuts = Cuts::new(p);
         let mut mark = *before;
         for i in 0..rows.len() {
@@ -150,7 +147,6 @@ impl Panes {
         ensures ok { OnOk result (out.new ≡ merge out.old (or_none (joined_at self.now pane))) }
         ensures steps { steps.new ≤ steps.old + 1 }
     {
-        merge_has_unit();
         match self.parts.get(&pane) {
             Some(part) => part.merge_into(alloc, out, steps),
             None => Ok(()),
@@ -187,8 +183,6 @@ impl Panes {
         ensures ok { OnOk result (out.new ≡ merge out.old (window_part (frame (tree_of p.now)) i self.now)) }
         ensures steps { steps.new ≤ steps.old + pane_count (frame (tree_of p.now)) }
     {
-        merge_has_unit();
-        merge_is_associative();
         let cuts = Cuts::new(p);
         let (first, past) = cuts.panes_of(i);
         let mut next = first;

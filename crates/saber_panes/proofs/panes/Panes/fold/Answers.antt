@@ -69,7 +69,7 @@ loop-i-preserved g c =
     record {
       mark = c.step-mark.ensures ∙ ap (λ m. step_mark m x) c.loop-i.invariant.mark ∙ sym (mark_more b xs k x below there);
       panes = c.in_ok-fold_row.ensures.ok ∙ ap₂ (λ s m. with_row_in q s (record { row = x; before = m })) c.loop-i.invariant.panes c.loop-i.invariant.mark
-          ∙ panes_more q b xs k x below there c.groups_join.ensures c.merge_is_associative.ensures c.args.self.now;
+          ∙ panes_more q b xs k x below there c.args.self.now;
       steps =
           let one = ap (λ m. length (counted_rows q (record { row = x; before = m } ∷ []))) c.loop-i.invariant.mark in
           let more = longer q b xs k x below there in

@@ -6,6 +6,7 @@ use Rattle.saber_plan.specs.Parts.{merge}
 use Rattle.saber_partial.specs.Tallies.{CanMerge}
 use Rattle.saber_panes.specs.Panes.{or_none}
 use Rattle.saber_panes.proofs.PaneMaps.{pane_at}
+use Rattle.saber_plan.specs.Facts.Parts.{merge-empty_right}
 use Rattle.saber_panes.proofs.panes.Panes.merge_pane.Goals as goal
 
 pub merge_into-requires : goal.merge_into-requires
@@ -21,4 +22,4 @@ returns-in-Some-clause-ok g c =
 pub returns-in-None-clause-ok : goal.returns-in-None-clause-ok
 returns-in-None-clause-ok g c =
     let none = ap (λ m. get m c.args.pane) (sym c.self.view_is) ∙ pane_at c.args.pane c.self.inside.parts.entries None (sym c.get.ensures.value ∙ ap option_copied c.in-None.is) in
-    sym (c.merge_has_unit.ensures c.args.out.now).1 ∙ ap (merge c.args.out.now) (sym (ap or_none none))
+    sym (merge-empty_right c.args.out.now) ∙ ap (merge c.args.out.now) (sym (ap or_none none))

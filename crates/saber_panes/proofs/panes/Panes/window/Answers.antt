@@ -18,7 +18,7 @@ loop-pane-init g c =
     record {
       low = omega arith;
       high = omega (arith, first, past);
-      part = none_merged c.merge_has_unit.ensures c.args.self.now c.args.out.now a ∙ ap (λ n. merge c.args.out.now (merged_panes c.args.self.now (from a n))) (sym none);
+      part = none_merged c.args.self.now c.args.out.now a ∙ ap (λ n. merge c.args.out.now (merged_panes c.args.self.now (from a n))) (sym none);
       steps = omega arith;
     }
 
@@ -41,9 +41,9 @@ merge_pane-requires g c =
     let there : fp + n ≡ pane = omega (arith, is, low, above) in
     let k = c.loop-pane.next - first in
     let gap : k + (c.in-Some.pane - c.loop-pane.next) ≡ n = omega (arith, low, above) in
-    let none = none_between c.merge_has_unit.ensures c.merge_is_associative.ensures m p first k (pane - c.loop-pane.next) (λ j l r. here.2 j (omega (arith, l, low)) (omega (arith, r, low, above))) in
+    let none = none_between m p first k (pane - c.loop-pane.next) (λ j l r. here.2 j (omega (arith, l, low)) (omega (arith, r, low, above))) in
     let so_far = c.loop-pane.invariant.part ∙ none ∙ ap (λ d. merge p (merged_panes m (from first d))) gap ∙ ap (λ a. merge p (merged_panes m (from a n))) is in
-    let room = room_for_pane c.merge_has_unit.ensures c.merge_is_associative.ensures q c.args.i m p c.requires.room n within in
+    let room = room_for_pane q c.args.i m p c.requires.room n within in
     subst (λ (x : Part). CanMerge x (or_none (get m pane))) (sym so_far) (subst (λ j. CanMerge (merge p (merged_panes m (from fp n))) (or_none (get m j))) there room)
 
 pub loop-pane-preserved : goal.loop-pane-preserved
@@ -63,13 +63,13 @@ loop-pane-preserved g c =
     let next : n + 1 ≡ pane + 1 - first = omega (arith, low, above) in
     let k = c.loop-pane.next - first in
     let gap : k + (c.in-Some.pane - c.loop-pane.next) ≡ n = omega (arith, low, above) in
-    let none = none_between c.merge_has_unit.ensures c.merge_is_associative.ensures m p first k (pane - c.loop-pane.next) (λ j l r. here.2 j (omega (arith, l, low)) (omega (arith, r, low, above))) in
+    let none = none_between m p first k (pane - c.loop-pane.next) (λ j l r. here.2 j (omega (arith, l, low)) (omega (arith, r, low, above))) in
     let so_far = c.loop-pane.invariant.part ∙ none ∙ ap (λ d. merge p (merged_panes m (from first d))) gap in
     record {
       low = omega (arith, low, above);
       high = omega (arith, below);
       part = c.in_ok-merge_pane-in-Some.ensures.ok ∙ ap (λ x. merge x (or_none (get m pane))) so_far ∙ ap (λ j. merge (merge p (merged_panes m (from first n))) (or_none (get m j))) there
-          ∙ one_merged c.merge_is_associative.ensures m p first n ∙ ap (λ k. merge p (merged_panes m (from first k))) next;
+          ∙ one_merged m p first n ∙ ap (λ k. merge p (merged_panes m (from first k))) next;
       steps = omega (arith, low, above, used, step);
     }
 
@@ -84,6 +84,6 @@ returns-in-None-clause-ok g c =
     let is : first ≡ first_pane (frame q) c.args.i = c.panes_of-first.ensures.first ∙ ap (λ p. first_pane (frame (tree_of p)) c.args.i) c.new-cuts.ensures in
     let past : c.panes_of-first.result.1 ≡ first_pane (frame q) c.args.i + pane_count (frame q) = c.panes_of-first.ensures.past ∙ ap (λ p. first_pane (frame (tree_of p)) c.args.i + pane_count (frame (tree_of p))) c.new-cuts.ensures in
     let k = c.loop-pane.next - first in
-    let none = none_between c.merge_has_unit.ensures c.merge_is_associative.ensures m p first k (c.panes_of-first.result.1 - c.loop-pane.next) (λ j l r. c.in-None.ensures.none j (omega (arith, l, low)) (omega (arith, r, low, high))) in
+    let none = none_between m p first k (c.panes_of-first.result.1 - c.loop-pane.next) (λ j l r. c.in-None.ensures.none j (omega (arith, l, low)) (omega (arith, r, low, high))) in
     let all : k + (c.panes_of-first.result.1 - c.loop-pane.next) ≡ pane_count (frame q) = omega (arith, is, past, low, high) in
     c.loop-pane.invariant.part ∙ none ∙ ap (λ d. merge p (merged_panes m (from first d))) all ∙ ap (λ a. merge p (merged_panes m (from a (pane_count (frame q))))) is
