@@ -5,12 +5,12 @@ use Rattle.saber_plan.specs.Trees.{Tree}
 use Rattle.saber_plan.specs.Answers.{text}
 use Rattle.saber_plan.specs.Tasks.{Kept, upto, kept_behind, task_start, added_text}
 use Rattle.saber_plan.specs.Inputs.{Input, first_arrivals}
-use Rattle.saber_laws.specs.Ends.{CutsRise}
-use Rattle.saber_laws.specs.Pieces.{TextGoesOn}
 use Rattle.saber_plan.specs.Stages.{StageView, Start, Tasks, IsCutOff, After, Keeps}
 use Rattle.saber_plan.specs.declared.stages.StageState.TheVariants.{Running, SinkFailed, NoMemory}
 use Rattle.saber_assembly.specs.declared.stage.Absorbed.{Absorbed}
 use Rattle.saber_assembly.specs.declared.stage.Absorbed.TheVariants.{Done, Stopped}
+use Rattle.saber_laws.proofs.TaskCutLaws.{cut_keeps as cuts_rise}
+use Rattle.saber_laws.proofs.StepLaws.{text_step as text_goes_on}
 
 appended_twice : (o : Option (List ℕ)) (xs ys : List ℕ) → appended_text (appended_text o xs) ys ≡ appended_text o (xs ++ ys)
 appended_twice None xs ys = refl
@@ -41,17 +41,17 @@ stopped_if : (r : Absorbed) → (r ≡ Done → ⊥) → r ≡ Stopped
 stopped_if Done h = absurd (h refl)
 stopped_if Stopped h = refl
 
-module _ (cuts : CutsRise) (goes : TextGoesOn) (q : Tree) (n : ℕ) (r : Input) (start : Start) (old new : StageView) (result : Absorbed)
+module _ (q : Tree) (n : ℕ) (r : Input) (start : Start) (old new : StageView) (result : Absorbed)
     (t : Tasks q n r) (a : After q n r start old Running) (h : Step old new result (added_text q r (task_start n r old.k) (task_start n r (old.k + 1))) (kept_behind q (upto n r (old.k + 1)))) where
   -- what the next task adds
   abbrev adds : List ℕ
   adds = added_text q r (task_start n r old.k) (task_start n r (old.k + 1))
 
   rises : task_start n r old.k ≤ task_start n r (old.k + 1)
-  rises = cuts n r old.k (old.k + 1) (omega arith)
+  rises = cuts_rise n r old.k (old.k + 1) (omega arith)
 
   step_text : text q (upto n r (old.k + 1)) ≡ text q (upto n r old.k) ++ adds
-  step_text = goes q t.windows r (task_start n r old.k) (task_start n r (old.k + 1)) t.fits.ordered rises
+  step_text = text_goes_on q t.windows r (task_start n r old.k) (task_start n r (old.k + 1)) t.fits.ordered rises
 
   runs_on : new.state ≡ Running → After q n r start new Running
   runs_on run =

@@ -2,7 +2,6 @@
 ghost use Rattle.saber_assembly.specs.Gives.{GivesMakeText};
 
 use saber_core::laws_of_runs;
-use saber_laws::pieces_make_text;
 
 /// Whatever happens to a core, for any number of slots and seats and over every list of events: the
 /// pieces of the tasks that were given, taken in one after another in the order of the gives, make
@@ -12,5 +11,4 @@ pub fn gives_make_text()
     ensures { GivesMakeText }
 {
     laws_of_runs();
-    pieces_make_text();
 }

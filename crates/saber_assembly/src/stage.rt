@@ -5,7 +5,6 @@ ghost use Rattle.saber_io.specs.declared.outside.WriteFault.{WriteFault};
 
 use saber_fragment::Operator;
 use saber_io::{Pour, Sink, WriteFault};
-use saber_laws::{cuts_rise, no_rows_give_nothing, no_tasks_no_rows, text_goes_on};
 use saber_plan::StageState;
 use std::alloc::Global;
 
@@ -64,8 +63,6 @@ impl<S: Drop, K: Sink> Stage<S, K> {
         ensures taken { O.has_taken operator.now result.store (going_on []) }
         ensures keeps { BeginsRuns O.plan O.contents O.has_taken K.written K.faults operator.now sink result }
     {
-        no_rows_give_nothing();
-        no_tasks_no_rows();
         Stage {
             sink,
             store: operator.empty_store(alloc),
@@ -194,8 +191,6 @@ impl<S: Drop, K: Sink> Stage<S, K> {
         // So a stage after k tasks, given the piece of task k, is one after k + 1, or stopped at k.
         ensures keeps { KeepsRuns O.plan O.contents O.has_taken K.written K.faults operator.now O.is_of self.old piece self.new }
     {
-        cuts_rise();
-        text_goes_on();
         match piece {
             Some(piece) => self.absorb_piece(alloc, operator, piece),
             None => {

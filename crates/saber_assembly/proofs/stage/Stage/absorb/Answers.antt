@@ -5,6 +5,7 @@ use Rattle.saber_assembly.specs.Stages.{stage_view, IsPieceAt}
 use Rattle.saber_plan.specs.Stages.{After}
 use Rattle.saber_assembly.proofs.Stepping.{stepped}
 use Rattle.saber_assembly.specs.WorkLaws.{follows}
+use Rattle.saber_laws.proofs.TaskCutLaws.{cut_keeps as cuts_rise}
 use Rattle.saber_assembly.proofs.stage.Stage.absorb.Goals as goal
 
 pub returns-in-Some-clause-keeps : goal.returns-in-Some-clause-keeps
@@ -17,8 +18,8 @@ returns-in-Some-clause-keeps g c n r start t kept e =
     let x = task_start n r old.k in let y = task_start n r (old.k + 1) in
     let piece : IsPieceAt n r old.k of = subst (λ o. IfSome o (λ p. IsPieceAt n r old.k (g.O.Operator.is_of c.args.operator.now p))) c.in-Some.is e in
     let next : Follows q old.kept (g.O.Operator.has_taken c.args.operator.now c.args.self.now.store) of r x y =
-    follows q n r start old (g.O.Operator.has_taken c.args.operator.now c.args.self.now.store) of t (c.cuts_rise.ensures n r old.k (old.k + 1) (omega arith)) kept c.requires.running piece in
-    stepped c.cuts_rise.ensures c.text_goes_on.ensures q n r start old new c.absorb_piece.result t
+    follows q n r start old (g.O.Operator.has_taken c.args.operator.now c.args.self.now.store) of t (cuts_rise n r old.k (old.k + 1) (omega arith)) kept c.requires.running piece in
+    stepped q n r start old new c.absorb_piece.result t
     (subst (After q n r start old) c.requires.running kept.after)
     (record {
       written = λ d. c.absorb_piece.ensures.written d r x y next;
