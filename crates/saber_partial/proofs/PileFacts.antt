@@ -7,27 +7,27 @@ use Rattle.saber_plan.specs.Trees.{Tree}
 use Rattle.saber_plan.specs.Answers.{key_cmp, entry_lines}
 use Rattle.saber_plan.specs.Facts.Maps.{entries-empty}
 use Rattle.saber_plan.specs.Facts.Parts.{merge-empty_left, merge-empty_right}
-use Rattle.saber_laws.specs.Parts.{MergeIsAssociative}
 use Rattle.saber_partial.specs.Tallies.{CanMerge}
 use Rattle.saber_partial.specs.MergeFacts.{can_ahead, can_back, can_behind, can_first, can_none, none_can}
 use Rattle.saber_partial.specs.Piles.{piled_part, CanPile}
+use Rattle.saber_laws.proofs.PartLaws.{merge-assoc as merge_is_associative}
 
 -- ---- one part more
 
-pub piled-push : MergeIsAssociative → (ps : List Part) (p : Part) → piled_part (ps ++ p ∷ []) ≡ merge (piled_part ps) p
-piled-push assoc [] p = merge-empty_right p ∙ sym (merge-empty_left p)
-piled-push assoc (q ∷ ps) p = ap (merge q) (piled-push assoc ps p) ∙ sym (assoc q (piled_part ps) p)
+pub piled-push : (ps : List Part) (p : Part) → piled_part (ps ++ p ∷ []) ≡ merge (piled_part ps) p
+piled-push [] p = merge-empty_right p ∙ sym (merge-empty_left p)
+piled-push (q ∷ ps) p = ap (merge q) (piled-push ps p) ∙ sym (merge_is_associative q (piled_part ps) p)
 
-pub can_push : MergeIsAssociative → (ps : List Part) (p : Part) → CanPile ps → CanMerge (piled_part ps) p → CanPile (ps ++ p ∷ [])
-can_push assoc [] p h g = (can_none p, tt)
-can_push assoc (q ∷ ps) p h g =
-    (subst (CanMerge q) (sym (piled-push assoc ps p)) (can_ahead q (piled_part ps) p h.0 g), can_push assoc ps p h.1 (can_behind q (piled_part ps) p h.0 g))
+pub can_push : (ps : List Part) (p : Part) → CanPile ps → CanMerge (piled_part ps) p → CanPile (ps ++ p ∷ [])
+can_push [] p h g = (can_none p, tt)
+can_push (q ∷ ps) p h g =
+    (subst (CanMerge q) (sym (piled-push ps p)) (can_ahead q (piled_part ps) p h.0 g), can_push ps p h.1 (can_behind q (piled_part ps) p h.0 g))
 
-pub can_pop : MergeIsAssociative → (ps : List Part) (p : Part) → CanPile (ps ++ p ∷ []) → CanPile ps × CanMerge (piled_part ps) p
-can_pop assoc [] p h = (tt, none_can p)
-can_pop assoc (q ∷ ps) p h =
-    let behind = can_pop assoc ps p h.1 in
-    let all = subst (CanMerge q) (piled-push assoc ps p) h.0 in
+pub can_pop : (ps : List Part) (p : Part) → CanPile (ps ++ p ∷ []) → CanPile ps × CanMerge (piled_part ps) p
+can_pop [] p h = (tt, none_can p)
+can_pop (q ∷ ps) p h =
+    let behind = can_pop ps p h.1 in
+    let all = subst (CanMerge q) (piled-push ps p) h.0 in
     ((can_first q (piled_part ps) p behind.1 all, behind.0), can_back q (piled_part ps) p behind.1 all)
 
 -- ---- the last of some parts takes in what comes behind it
@@ -38,16 +38,16 @@ pub record Joined (old rest : List Part) (a b : Part) : Type 0 where
   pub can : CanPile (rest ++ merge a b ∷ [])
   pub all : piled_part (rest ++ merge a b ∷ []) ≡ merge (piled_part old) b
 
-pub joined : MergeIsAssociative → (old rest : List Part) (a b : Part) → old ≡ rest ++ a ∷ [] → CanPile old → CanMerge (piled_part old) b → Joined old rest a b
-joined assoc old rest a b e h g =
-    let front = can_pop assoc rest a (subst CanPile e h) in
-    let one = ap piled_part e ∙ piled-push assoc rest a in
+pub joined : (old rest : List Part) (a b : Part) → old ≡ rest ++ a ∷ [] → CanPile old → CanMerge (piled_part old) b → Joined old rest a b
+joined old rest a b e h g =
+    let front = can_pop rest a (subst CanPile e h) in
+    let one = ap piled_part e ∙ piled-push rest a in
     let both = subst (λ m. CanMerge m b) one g in
     record {
       rest_can = front.0;
       two = can_behind (piled_part rest) a b front.1 both;
-      can = can_push assoc rest (merge a b) front.0 (can_ahead (piled_part rest) a b front.1 both);
-      all = piled-push assoc rest (merge a b) ∙ sym (assoc (piled_part rest) a b) ∙ ap (λ m. merge m b) (sym one);
+      can = can_push rest (merge a b) front.0 (can_ahead (piled_part rest) a b front.1 both);
+      all = piled-push rest (merge a b) ∙ sym (merge_is_associative (piled_part rest) a b) ∙ ap (λ m. merge m b) (sym one);
     }
 
 -- the last of some, and another in its place
@@ -66,8 +66,8 @@ last_set (p ∷ q ∷ ps) zero a h = absurd (omega (arith, h))
 last_set (p ∷ q ∷ ps) (suc i) a h = ap (λ l. p ∷ l) (last_set (q ∷ ps) i a (omega (arith, h)))
 
 -- the last two become one
-pub last_two : MergeIsAssociative → (old mid rest : List Part) (a b : Part) → old ≡ mid ++ b ∷ [] → mid ≡ rest ++ a ∷ [] → CanPile old → Joined mid rest a b
-last_two assoc old mid rest a b d e h = let front = can_pop assoc mid b (subst CanPile d h) in joined assoc mid rest a b e front.0 front.1
+pub last_two : (old mid rest : List Part) (a b : Part) → old ≡ mid ++ b ∷ [] → mid ≡ rest ++ a ∷ [] → CanPile old → Joined mid rest a b
+last_two old mid rest a b d e h = let front = can_pop mid b (subst CanPile d h) in joined mid rest a b e front.0 front.1
 
 -- ---- one part alone
 

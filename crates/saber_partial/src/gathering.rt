@@ -14,7 +14,6 @@ use crate::groups::Partial;
 use crate::piles::Pile;
 use crate::young::Young;
 use saber_flat::RowRef;
-use saber_laws::merge_is_associative;
 use saber_plan::NoMemory;
 use std::alloc::Global;
 use std::marker::Model;
@@ -102,7 +101,6 @@ impl Gathering {
         requires room { CanMerge self.old (group_part (tree_of aggregates.now) (row.now.values ∷ [])) }
         ensures { OnOk result (self.new ≡ merge self.old (group_part (tree_of aggregates.now) (row.now.values ∷ []))) }
     {
-        merge_is_associative();
         make_room(alloc, &mut self.pile, &mut self.young)?;
         self.young.add_row(aggregates, row)
     }

@@ -11,7 +11,6 @@ use crate::groups::Partial;
 use crate::row_parts::RowPart;
 use crate::steps::Steps;
 use saber_changes::Answers;
-use saber_laws::merge_is_associative;
 use saber_plan::{NoMemory, Plan};
 use std::alloc::Global;
 use std::marker::{Brand, Model};
@@ -71,7 +70,6 @@ fn merge_behind<L: Ledger>(
     ensures fewer { length parts.new.items ≤ length parts.old.items }
     ensures steps { steps.new ≤ steps.old + 1 }
 {
-    merge_is_associative();
     let Some(last) = parts.last_mut() else {
         return Ok(());
     };
@@ -94,7 +92,6 @@ fn merge_last<L: Ledger>(parts: &mut Vec<Partial>, steps: &mut Steps<L>) -> Resu
     ensures can { CanPile parts.new.items }
     ensures steps { steps.new ≤ steps.old + 1 }
 {
-    merge_is_associative();
     let alloc = *parts.allocator();
     let Some(last) = parts.pop() else {
         return Ok(());
@@ -208,7 +205,6 @@ fn merge_row_behind<L: Ledger>(
     ensures fewer { length parts.new.items ≤ length parts.old.items }
     ensures steps { steps.new ≤ steps.old + 1 }
 {
-    merge_is_associative();
     let Some(last) = parts.last_mut() else {
         return Ok(());
     };
@@ -236,7 +232,6 @@ fn put_row<L: Ledger>(
     ensures can { CanPile parts.new.items }
     ensures steps { steps.new + length parts.new.items ≤ steps.old + length parts.old.items + 1 }
 {
-    merge_is_associative();
     if is_like_last(parts, 1) {
         merge_row_behind(parts, part, steps)?;
         return carry(parts, steps);
@@ -259,7 +254,6 @@ fn put_copy<L: Ledger>(
     ensures can { CanPile parts.new.items }
     ensures steps { steps.new + length parts.new.items ≤ steps.old + length parts.old.items + 1 }
 {
-    merge_is_associative();
     if is_like_last(parts, part.len()) {
         merge_behind(alloc, parts, part, steps)?;
         return carry(parts, steps);
@@ -315,7 +309,6 @@ fn put_behind<L: Ledger>(
     ensures all { OnOk result (piled_part parts.new.items ≡ merge (piled_part parts.old.items) part) }
     ensures can { CanPile parts.new.items }
 {
-    merge_is_associative();
     let mut steps = Steps::<L>::new(blank);
     parts.push(part)?;
     carry(parts, &mut steps)

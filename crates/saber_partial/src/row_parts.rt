@@ -10,7 +10,6 @@ ghost use Rattle.saber_plan.specs.Parts.{group_part, no_part};
 ghost use Rattle.saber_partial.specs.PartLaws.{OfRows};
 
 use crate::aggregates::Aggregates;
-use crate::laws::groups_are_of_rows;
 use crate::layout::Layout;
 use crate::rows::push_key;
 use crate::table::Table;
@@ -94,7 +93,6 @@ impl RowParts {
         ensures ok { OnOk result (self.new ≡ self.old ++ group_part (tree_of aggregates.now) (row.now.values ∷ []) ∷ []) }
         ensures err { OnErr result (self.new ≡ self.old) }
     {
-        groups_are_of_rows();
         let mut list = ArrayVec::new();
         push_key(&mut list, aggregates.keys(), row.values());
         self.groups.has_one_layout();

@@ -11,7 +11,7 @@ merge_from-requires g c =
     let some = c.requires.some in
     let same = c.args.parts.now.ok.0 in
     let long : length ps ≡ suc i = omega (arith, some, same) in
-    (joined c.merge_is_associative.ensures ps (take i ps) c.in-Some.last.now c.args.part.now (last_is ps i c.in-Some.last.now long c.in-Some.ensures.value) c.requires.can c.requires.room).two
+    (joined ps (take i ps) c.in-Some.last.now c.args.part.now (last_is ps i c.in-Some.last.now long c.in-Some.ensures.value) c.requires.can c.requires.room).two
 
 pub returns-in-Ok-clause-all : goal.returns-in-Ok-clause-all
 returns-in-Ok-clause-all g c =
@@ -20,7 +20,7 @@ returns-in-Ok-clause-all g c =
     let some = c.requires.some in
     let same = c.args.parts.now.ok.0 in
     let long : length ps ≡ suc i = omega (arith, some, same) in
-    let j = joined c.merge_is_associative.ensures ps (take i ps) c.in-Some.last.now c.args.part.now (last_is ps i c.in-Some.last.now long c.in-Some.ensures.value) c.requires.can c.requires.room in
+    let j = joined ps (take i ps) c.in-Some.last.now c.args.part.now (last_is ps i c.in-Some.last.now long c.in-Some.ensures.value) c.requires.can c.requires.room in
     ap piled_part (last_set ps i c.merge_from.new.self long ∙ ap (λ (p : Part). take i ps ++ p ∷ []) c.in-Ok.ensures) ∙ j.all
 
 pub returns-in-Ok-clause-can : goal.returns-in-Ok-clause-can
@@ -30,5 +30,5 @@ returns-in-Ok-clause-can g c =
     let some = c.requires.some in
     let same = c.args.parts.now.ok.0 in
     let long : length ps ≡ suc i = omega (arith, some, same) in
-    let j = joined c.merge_is_associative.ensures ps (take i ps) c.in-Some.last.now c.args.part.now (last_is ps i c.in-Some.last.now long c.in-Some.ensures.value) c.requires.can c.requires.room in
+    let j = joined ps (take i ps) c.in-Some.last.now c.args.part.now (last_is ps i c.in-Some.last.now long c.in-Some.ensures.value) c.requires.can c.requires.room in
     subst CanPile (sym (last_set ps i c.merge_from.new.self long ∙ ap (λ (p : Part). take i ps ++ p ∷ []) c.in-Ok.ensures)) j.can

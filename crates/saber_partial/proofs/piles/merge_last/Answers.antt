@@ -12,14 +12,14 @@ merge_behind-requires-clause-some g c =
     omega (arith, two, all, more)
 
 pub merge_behind-requires-clause-can : goal.merge_behind-requires-clause-can
-merge_behind-requires-clause-can g c = (can_pop c.merge_is_associative.ensures c.pop.new.self.items c.in-Some.last (subst CanPile c.in-Some.ensures.items c.requires.can)).0
+merge_behind-requires-clause-can g c = (can_pop c.pop.new.self.items c.in-Some.last (subst CanPile c.in-Some.ensures.items c.requires.can)).0
 
 pub merge_behind-requires-clause-room : goal.merge_behind-requires-clause-room
-merge_behind-requires-clause-room g c = (can_pop c.merge_is_associative.ensures c.pop.new.self.items c.in-Some.last (subst CanPile c.in-Some.ensures.items c.requires.can)).1
+merge_behind-requires-clause-room g c = (can_pop c.pop.new.self.items c.in-Some.last (subst CanPile c.in-Some.ensures.items c.requires.can)).1
 
 pub returns-clause-same : goal.returns-clause-same
 returns-clause-same g c =
-    let old = ap piled_part c.in-Some.ensures.items ∙ piled-push c.merge_is_associative.ensures c.pop.new.self.items c.in-Some.last in
+    let old = ap piled_part c.in-Some.ensures.items ∙ piled-push c.pop.new.self.items c.in-Some.last in
     on_ok_weaker c.merge_behind.result (λ e. e ∙ sym old) c.merge_behind.ensures.all
 
 pub returns-clause-fewer : goal.returns-clause-fewer

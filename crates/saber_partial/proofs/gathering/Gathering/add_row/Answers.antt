@@ -6,6 +6,7 @@ use Rattle.saber_partial.specs.Tallies.{CanMerge}
 use Rattle.saber_partial.specs.MergeFacts.{can_ahead, can_behind}
 use Rattle.saber_partial.specs.Young.{young_part}
 use Rattle.saber_partial.proofs.Merging.{either}
+use Rattle.saber_laws.proofs.PartLaws.{merge-assoc as merge_is_associative}
 use Rattle.saber_partial.proofs.gathering.Gathering.add_row.Goals as goal
 
 pub add_row-requires-clause-room : goal.add_row-requires-clause-room
@@ -34,4 +35,4 @@ returns c =
     let more = young_part c.add_row.new.self.order c.add_row.new.self.groups.entries in
     let one = group_part (tree_of c.args.aggregates.now) (c.args.row.now.values ∷ []) in
     on_ok_weaker c.add_row.result (λ (e : more ≡ merge young one).
-    ap (merge m.pile.part) e ∙ sym (c.merge_is_associative.ensures m.pile.part young one) ∙ ap (λ (p : Part). merge p one) (c.in_ok-make_room.ensures.same ∙ c.self.view_is)) c.add_row.ensures.ok
+    ap (merge m.pile.part) e ∙ sym (merge_is_associative m.pile.part young one) ∙ ap (λ (p : Part). merge p one) (c.in_ok-make_room.ensures.same ∙ c.self.view_is)) c.add_row.ensures.ok

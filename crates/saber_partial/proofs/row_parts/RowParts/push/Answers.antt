@@ -9,6 +9,7 @@ use Rattle.saber_partial.specs.Sorted.{alone}
 use Rattle.saber_partial.proofs.Fitting.{aggregates_count}
 use Rattle.saber_partial.proofs.Merging.{either}
 use Rattle.saber_partial.proofs.RowParted.{all_more, of_rows_suit, row_more}
+use Rattle.saber_partial.proofs.Counted.{groups_of_rows as groups_are_of_rows}
 use Rattle.saber_partial.proofs.row_parts.RowParts.push.Goals as goal
 
 pub suit-requires : goal.suit-requires
@@ -31,7 +32,7 @@ returns-clause-all c =
     let here : k ≡ key q.keys zs = c.as_slice.ensures.value ∙ c.push_key.ensures ∙ (λ i. c.new-list.ensures i ++ key (c.keys.ensures i) (c.values.ensures i)) in
     either c.push_first.result (fs ≡ ds ++ (k, numbers q.aggregates (zs ∷ [])) ∷ []) (fs ≡ ds) (AllByRecursion (OfRows q 1) (map alone fs)) c.push_first.ensures.ok c.push_first.ensures.err
     (λ new. subst (AllByRecursion (OfRows q 1)) (sym (row_more q zs k es ds fs c.args.self.now here c.self.view_is c.suit.ensures.same new))
-    (all_more (OfRows q 1) c.args.self.now (group_part q (zs ∷ [])) c.requires.others (c.groups_are_of_rows.ensures q (zs ∷ []))))
+    (all_more (OfRows q 1) c.args.self.now (group_part q (zs ∷ [])) c.requires.others (groups_are_of_rows q (zs ∷ []))))
     (λ same. subst (AllByRecursion (OfRows q 1)) (sym (ap (map alone) (same ∙ c.suit.ensures.same) ∙ c.self.view_is)) c.requires.others)
 
 pub returns-clause-ok : goal.returns-clause-ok
