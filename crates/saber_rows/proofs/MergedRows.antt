@@ -5,7 +5,6 @@ use Rattle.saber_plan.specs.declared.rows.Side.TheVariants.{Left, Right}
 use Rattle.saber_plan.specs.declared.windows.Mark.{Mark}
 use Rattle.saber_plan.specs.Rows.{stamp}
 use Rattle.saber_plan.specs.Inputs.{merged_read}
-use Rattle.saber_laws.specs.Inputs.{MergeTurns}
 use Rattle.saber_rows.specs.declared.ends.RowEnd.{RowEnd}
 use Rattle.saber_rows.specs.declared.heads.Look.{Look}
 use Rattle.saber_rows.specs.declared.heads.Look.TheVariants.{Found, Ended, Failed}
@@ -125,7 +124,7 @@ right_none n a b c d look rules e = subst (λ h. MergeStands (record { left = a;
 
 -- ---- both sides hold theirs
 
-module _ (law : MergeTurns) (n k : ℕ) (a b c d : Headed) (left : LooksQuick n a b) (left_rules : b.reader.rules ≡ a.reader.rules) (right : LooksQuick k c d) (right_rules : d.reader.rules ≡ c.reader.rules) (had has : List Row) where
+module _ (n k : ℕ) (a b c d : Headed) (left : LooksQuick n a b) (left_rules : b.reader.rules ≡ a.reader.rules) (right : LooksQuick k c d) (right_rules : d.reader.rules ≡ c.reader.rules) (had has : List Row) where
   abbrev both_before : Merger
   both_before = record { left = a; right = c }
 
@@ -154,7 +153,7 @@ module _ (law : MergeTurns) (n k : ℕ) (a b c d : Headed) (left : LooksQuick n 
     turn = λ l r m q. turned m l r (Some p.row) (record { left = new; right = d }) q (λ s.
         subst (λ h. MergeTurn m (Ok (Some p.row)) both_after (record { left = h; right = d }) l l r r) (sym p.rest)
         (subst (λ o. MergeTurn m (Ok o) both_after (record { left = bare b.reader; right = d }) l l r r) p.front
-        (lesser_left law m both_after l r s n k (left l Left m.last m.left q.left).finds (right r Right m.last m.right q.right).finds less)));
+        (lesser_left m both_after l r s n k (left l Left m.last m.left q.left).finds (right r Right m.last m.right q.right).finds less)));
     left_rules = ap (λ (h : Headed). h.reader.rules) p.rest ∙ left_rules;
     right_rules = right_rules;
   }
@@ -166,7 +165,7 @@ module _ (law : MergeTurns) (n k : ℕ) (a b c d : Headed) (left : LooksQuick n 
     turn = λ l r m q. turned m l r (Some p.row) (record { left = b; right = new }) q (λ s.
         subst (λ h. MergeTurn m (Ok (Some p.row)) both_after (record { left = b; right = h }) l l r r) (sym p.rest)
         (subst (λ o. MergeTurn m (Ok o) both_after (record { left = b; right = bare d.reader }) l l r r) p.front
-        (lesser_right law m both_after l r s n k (left l Left m.last m.left q.left).finds (right r Right m.last m.right q.right).finds more)));
+        (lesser_right m both_after l r s n k (left l Left m.last m.left q.left).finds (right r Right m.last m.right q.right).finds more)));
     left_rules = left_rules;
     right_rules = ap (λ (h : Headed). h.reader.rules) p.rest ∙ right_rules;
   }

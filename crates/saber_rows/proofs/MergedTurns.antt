@@ -9,7 +9,6 @@ use Rattle.saber_plan.specs.declared.windows.Mark.{Mark}
 use Rattle.saber_plan.specs.Rows.{Read, End, all_read, cut, bad, before, stamp, falls, RowFits, lines_of}
 use Rattle.saber_plan.specs.Windows.{by_side, in_order, step_mark}
 use Rattle.saber_plan.specs.Inputs.{holds_up, merged_read}
-use Rattle.saber_laws.specs.Inputs.{MergeTurns}
 use Rattle.saber_rows.specs.declared.ends.RowEnd.{RowEnd}
 use Rattle.saber_rows.specs.declared.ends.RowEnd.TheVariants.{ReadFault, NoMemory, Bad}
 use Rattle.saber_rows.specs.declared.heads.Look.{Look}
@@ -19,28 +18,29 @@ use Rattle.saber_rows.specs.Heads.{Headed, bare, look_of, led_by, side_rest, fro
 use Rattle.saber_rows.specs.Merging.{Merger, merger_rest, MergeAnswer, settled_answer, merge_answer, MergeMoves, StopsBy, Passed, MergeTurn}
 use Rattle.saber_rows.proofs.ReadSteps.{given_none, true_not_false}
 use Rattle.saber_rows.proofs.Fronts.{stand}
+use Rattle.saber_laws.proofs.MergedLaws.{merged_turns as merges_turn}
 
 -- ---- merged rows, by what is in front
 
-none_left : MergeTurns → (r : Read) → merged_read (nothing all_read) r ≡ r
-none_left law r = law.left_ended r.end r.rows
+none_left : (r : Read) → merged_read (nothing all_read) r ≡ r
+none_left r = merges_turn.left_ended r.end r.rows
 
-none_right : MergeTurns → (l : Read) → merged_read l (nothing all_read) ≡ l
-none_right law l = by_rows l.rows l.end where
+none_right : (l : Read) → merged_read l (nothing all_read) ≡ l
+none_right l = by_rows l.rows l.end where
   by_end : (e : End) → merged_read (nothing e) (nothing all_read) ≡ nothing e
-  by_end all_read = law.left_ended all_read []
-  by_end cut = law.left_stops cut all_read [] refl
-  by_end (bad s n c) = law.left_stops (bad s n c) all_read [] refl
+  by_end all_read = merges_turn.left_ended all_read []
+  by_end cut = merges_turn.left_stops cut all_read [] refl
+  by_end (bad s n c) = merges_turn.left_stops (bad s n c) all_read [] refl
 
   by_rows : (xs : List Row) (e : End) → merged_read (record { rows = xs; end = e }) (nothing all_read) ≡ record { rows = xs; end = e }
   by_rows [] e = by_end e
-  by_rows (x ∷ xs) e = law.right_ended x xs e
+  by_rows (x ∷ xs) e = merges_turn.right_ended x xs e
 
-takes_left : MergeTurns → (l r : Read) (x y : Row) → nat_le (stamp x.values) (stamp y.values) ≡ true → merged_read (before x l) (before y r) ≡ before x (merged_read l (before y r))
-takes_left law l r x y e = law.takes x l.rows l.end y r.rows r.end ∙ ap (λ b. cond b (before x (merged_read l (before y r))) (before y (merged_read (before x l) r))) e
+takes_left : (l r : Read) (x y : Row) → nat_le (stamp x.values) (stamp y.values) ≡ true → merged_read (before x l) (before y r) ≡ before x (merged_read l (before y r))
+takes_left l r x y e = merges_turn.takes x l.rows l.end y r.rows r.end ∙ ap (λ b. cond b (before x (merged_read l (before y r))) (before y (merged_read (before x l) r))) e
 
-takes_right : MergeTurns → (l r : Read) (x y : Row) → nat_le (stamp x.values) (stamp y.values) ≡ false → merged_read (before x l) (before y r) ≡ before y (merged_read (before x l) r)
-takes_right law l r x y e = law.takes x l.rows l.end y r.rows r.end ∙ ap (λ b. cond b (before x (merged_read l (before y r))) (before y (merged_read (before x l) r))) e
+takes_right : (l r : Read) (x y : Row) → nat_le (stamp x.values) (stamp y.values) ≡ false → merged_read (before x l) (before y r) ≡ before y (merged_read (before x l) r)
+takes_right l r x y e = merges_turn.takes x l.rows l.end y r.rows r.end ∙ ap (λ b. cond b (before x (merged_read l (before y r))) (before y (merged_read (before x l) r))) e
 
 -- ---- sides
 
@@ -141,7 +141,7 @@ fits_side x h s l r a e c =
 
 -- ---- turns
 
-module _ (law : MergeTurns) (m : Mark) (old : Merger) (had hadr : Option (List ℕ)) (p : Passed m old) where
+module _ (m : Mark) (old : Merger) (had hadr : Option (List ℕ)) (p : Passed m old) where
   -- nothing moves
   abbrev pub still_moves : MergeMoves (λ rest. rest) old old had had hadr hadr
   still_moves = record { left = stand old.left.reader had; right = stand old.right.reader hadr; rest = λ a b z w f g. refl }
@@ -151,14 +151,14 @@ module _ (law : MergeTurns) (m : Mark) (old : Merger) (had hadr : Option (List �
   pub both_ended : Finds Ended old.left → Finds Ended old.right → MergeTurn m (Ok None) old old had had hadr hadr
   both_ended f g = record {
     moves = still_moves;
-    ends = λ z w a b. ap (λ l. merged_read l (side_rest false old.right w)) (ended_rest false old.left z f a) ∙ none_left law (side_rest false old.right w) ∙ ended_rest false old.right w g b;
+    ends = λ z w a b. ap (λ l. merged_read l (side_rest false old.right w)) (ended_rest false old.left z f a) ∙ none_left (side_rest false old.right w) ∙ ended_rest false old.right w g b;
     passed = p;
     kept = ap (λ o. settled_answer o (front_of old.right)) (front_is Ended old.left f) ∙ ap (settled_answer (Some Ended)) (front_is Ended old.right g);
   }
 
   stops_left : (e : RowEnd) → Finds (Failed e) old.left → StopsBy Left e old
-  stops_left (Bad n c) f = λ z w a b. ap (λ l. merged_read l (side_rest false old.right w)) (refused_rest Left n c old.left z p.left.is_side f a) ∙ law.left_stops (bad Left n c) (side_rest false old.right w).end (side_rest false old.right w).rows refl
-  stops_left ReadFault f = (f.2, λ w b. ap (λ l. merged_read l (side_rest false old.right w)) (cut_rest old.left f) ∙ law.left_stops cut (side_rest false old.right w).end (side_rest false old.right w).rows refl)
+  stops_left (Bad n c) f = λ z w a b. ap (λ l. merged_read l (side_rest false old.right w)) (refused_rest Left n c old.left z p.left.is_side f a) ∙ merges_turn.left_stops (bad Left n c) (side_rest false old.right w).end (side_rest false old.right w).rows refl
+  stops_left ReadFault f = (f.2, λ w b. ap (λ l. merged_read l (side_rest false old.right w)) (cut_rest old.left f) ∙ merges_turn.left_stops cut (side_rest false old.right w).end (side_rest false old.right w).rows refl)
   stops_left NoMemory f = f.2
 
   pub left_fails : (e : RowEnd) → Finds (Failed e) old.left → MergeTurn m (Err (Left, e)) old old had had hadr hadr
@@ -166,10 +166,10 @@ module _ (law : MergeTurns) (m : Mark) (old : Merger) (had hadr : Option (List �
 
   -- a left side that has a row or is at its end is held up by the right one
   held_row : (n : ℕ) → Finds (Found n) old.left → (d : End) → holds_up d ≡ true → (q : Bool) (z : List ℕ) → merged_read (side_rest q old.left z) (nothing d) ≡ nothing d
-  held_row n (x, e, s) d h q z = ap (λ l. merged_read l (nothing d)) (row_rest q old.left z x e) ∙ law.right_stops x (rest_of q old.left.reader z).rows (rest_of q old.left.reader z).end d h
+  held_row n (x, e, s) d h q z = ap (λ l. merged_read l (nothing d)) (row_rest q old.left z x e) ∙ merges_turn.right_stops x (rest_of q old.left.reader z).rows (rest_of q old.left.reader z).end d h
 
   held_end : Finds Ended old.left → (d : End) → (z : List ℕ) → CanFollow false old.left.reader z → merged_read (side_rest false old.left z) (nothing d) ≡ nothing d
-  held_end f d z a = ap (λ l. merged_read l (nothing d)) (ended_rest false old.left z f a) ∙ none_left law (nothing d)
+  held_end f d z a = ap (λ l. merged_read l (nothing d)) (ended_rest false old.left z f a) ∙ none_left (nothing d)
 
   stops_right : (e : RowEnd) → Finds (Failed e) old.right → ((d : End) → holds_up d ≡ true → (z : List ℕ) → CanFollow false old.left.reader z → merged_read (side_rest false old.left z) (nothing d) ≡ nothing d) → StopsBy Right e old
   stops_right (Bad n c) f held = λ z w a b. ap (merged_read (side_rest false old.left z)) (refused_rest Right n c old.right w p.right.is_side f b) ∙ held (bad Right n c) refl z a
@@ -260,7 +260,7 @@ module _ (law : MergeTurns) (m : Mark) (old : Merger) (had hadr : Option (List �
       subst (λ o. MergeTurn m (Ok o) old left_gone had had hadr hadr) (sym e)
       (left_row x e (stays_row Right m.last m.right old.right p.right y f (stamp x.values) less)
       (λ a b z w c d. ap (λ l. merged_read l (side_rest b old.right w)) (row_rest a old.left z x e) ∙ ap (merged_read (before x (rest_of a old.left.reader z))) (row_rest b old.right w y f)
-      ∙ takes_left law (rest_of a old.left.reader z) (rest_of b old.right.reader w) x y less ∙ ap (λ r. before x (merged_read (rest_of a old.left.reader z) r)) (sym (row_rest b old.right w y f)))
+      ∙ takes_left (rest_of a old.left.reader z) (rest_of b old.right.reader w) x y less ∙ ap (λ r. before x (merged_read (rest_of a old.left.reader z) r)) (sym (row_rest b old.right w y f)))
       (λ j g. found_fails k j (front_of old.right) (front_is (Found k) old.right (y, f, t)) g))
 
   later_left : (a b : ℕ) → nat_le a b ≡ false → nat_le b a ≡ true
@@ -272,7 +272,7 @@ module _ (law : MergeTurns) (m : Mark) (old : Merger) (had hadr : Option (List �
       subst (λ o. MergeTurn m (Ok o) old right_gone had had hadr hadr) (sym f)
       (right_row y f (stays_row Left m.last m.left old.left p.left x e (stamp y.values) (later_left _ _ less))
       (λ a b z w c d. ap (λ l. merged_read l (side_rest b old.right w)) (row_rest a old.left z x e) ∙ ap (merged_read (before x (rest_of a old.left.reader z))) (row_rest b old.right w y f)
-      ∙ takes_right law (rest_of a old.left.reader z) (rest_of b old.right.reader w) x y less ∙ ap (λ l. before y (merged_read l (rest_of b old.right.reader w))) (sym (row_rest a old.left z x e)))
+      ∙ takes_right (rest_of a old.left.reader z) (rest_of b old.right.reader w) x y less ∙ ap (λ l. before y (merged_read l (rest_of b old.right.reader w))) (sym (row_rest a old.left z x e)))
       (settled_row n y (x, e, s) (is_ahead Right m.last m.right old.right p.right y f)))
 
   -- one is at its end
@@ -280,16 +280,16 @@ module _ (law : MergeTurns) (m : Mark) (old : Merger) (had hadr : Option (List �
   only_left n (x, e, s) g =
       subst (λ o. MergeTurn m (Ok o) old left_gone had had hadr hadr) (sym e)
       (left_row x e (stays_ended Right m.last (Some (pos (stamp x.values))) m.right old.right p.right g)
-      (λ a b z w c d. ap (merged_read (side_rest a old.left z)) (ended_rest b old.right w g d) ∙ none_right law (side_rest a old.left z) ∙ row_rest a old.left z x e
-      ∙ ap (before x) (sym (none_right law (rest_of a old.left.reader z)) ∙ ap (merged_read (rest_of a old.left.reader z)) (sym (ended_rest b old.right w g d))))
+      (λ a b z w c d. ap (merged_read (side_rest a old.left z)) (ended_rest b old.right w g d) ∙ none_right (side_rest a old.left z) ∙ row_rest a old.left z x e
+      ∙ ap (before x) (sym (none_right (rest_of a old.left.reader z)) ∙ ap (merged_read (rest_of a old.left.reader z)) (sym (ended_rest b old.right w g d))))
       (λ j h. ended_fails j (front_of old.right) (front_is Ended old.right g) h))
 
   pub only_right : (k : ℕ) → Finds Ended old.left → Finds (Found k) old.right → MergeTurn m (Ok old.right.ahead) old right_gone had had hadr hadr
   only_right k g (y, f, t) =
       subst (λ o. MergeTurn m (Ok o) old right_gone had had hadr hadr) (sym f)
       (right_row y f (stays_ended Left m.last (Some (pos (stamp y.values))) m.left old.left p.left g)
-      (λ a b z w c d. ap (λ l. merged_read l (side_rest b old.right w)) (ended_rest a old.left z g c) ∙ none_left law (side_rest b old.right w) ∙ row_rest b old.right w y f
-      ∙ ap (before y) (sym (none_left law (rest_of b old.right.reader w)) ∙ ap (λ l. merged_read l (rest_of b old.right.reader w)) (sym (ended_rest a old.left z g c))))
+      (λ a b z w c d. ap (λ l. merged_read l (side_rest b old.right w)) (ended_rest a old.left z g c) ∙ none_left (side_rest b old.right w) ∙ row_rest b old.right w y f
+      ∙ ap (before y) (sym (none_left (rest_of b old.right.reader w)) ∙ ap (λ l. merged_read l (rest_of b old.right.reader w)) (sym (ended_rest a old.left z g c))))
       (settled_end y g (is_ahead Right m.last m.right old.right p.right y f)))
 
 -- ---- one after another

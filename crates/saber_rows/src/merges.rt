@@ -4,7 +4,6 @@ use crate::heads::{Head, Look};
 use crate::lines::Lines;
 use saber_flat::RowBuilder;
 use saber_io::Source;
-use saber_laws::merges_turn;
 use saber_plan::{Row, Side};
 
 /// The merged rows of two sides, from the bytes of two sources. Contracts see it as a `Merger`, by
@@ -51,7 +50,6 @@ impl Merge {
         ensures count { S.faults right.old ≤ S.faults right.new }
         ensures reads { ¬ NeedsMore (merger_of self.old).right.reader → right.new ≡ right.old }
     {
-        merges_turn();
         match self.right.look(right) {
             Look::Found(_) => Ok(self.right.take()),
             Look::Ended => Ok(None),
@@ -76,7 +74,6 @@ impl Merge {
         ensures count { S.faults right.old ≤ S.faults right.new }
         ensures reads { ¬ NeedsMore (merger_of self.old).right.reader → right.new ≡ right.old }
     {
-        merges_turn();
         match self.right.look(right) {
             Look::Found(other) => {
                 if stamp <= other {
@@ -99,7 +96,6 @@ impl Merge {
         ensures one { result ≡ true → MergesOne (merger_of self.old) (merger_of self.new) out.old.rows out.new.rows }
         ensures none { result ≡ false → MergeStands (merger_of self.old) (merger_of self.new) × (out.new.rows ≡ out.old.rows) }
     {
-        merges_turn();
         let Some(time) = self.left.look_quick() else {
             return false;
         };
@@ -166,7 +162,6 @@ impl Merge {
         ensures left_reads { ¬ NeedsMore (merger_of self.old).left.reader → left.new ≡ left.old }
         ensures right_reads { ¬ NeedsMore (merger_of self.old).right.reader → right.new ≡ right.old }
     {
-        merges_turn();
         match self.left.look(left) {
             Look::Found(stamp) => self.lesser_row(stamp, right),
             Look::Ended => self.right_row(right),

@@ -16,7 +16,7 @@ returns-then-stamp-other-clause-turn g c m had p f =
     let h2 = g.S.Source.left c.look.new.source in
     let k : Looks (Found c.in-Found.other) Right m.last m.right a b h1 h2 = subst (λ l. Looks l Right m.last m.right a b h1 h2) c.in-Found.is (c.look.ensures.looks Right m.last m.right p.right) in
     let e : nat_le c.args.stamp c.in-Found.other ≡ true = grind (arith, nat_tests) in
-    let t = lesser_left c.merges_turn.ensures m (record { left = left; right = b }) had h2 (record { left = p.left; right = k.passed; held = λ h e n. none_some (front_of left) (Found c.args.stamp) h (front_is (Found c.args.stamp) left f) }) c.args.stamp c.in-Found.other f k.finds e in
+    let t = lesser_left m (record { left = left; right = b }) had h2 (record { left = p.left; right = k.passed; held = λ h e n. none_some (front_of left) (Found c.args.stamp) h (front_is (Found c.args.stamp) left f) }) c.args.stamp c.in-Found.other f k.finds e in
     on_right m _ (Found c.in-Found.other) a b left _ h1 h2 h2 had had k
     (subst (λ h. MergeTurn m (Ok c.take.result) (record { left = left; right = b }) (record { left = h; right = b }) had had h2 h2) (sym c.take.ensures.rest)
     (subst (λ r. MergeTurn m (Ok r) (record { left = left; right = b }) (record { left = bare left.reader; right = b }) had had h2 h2) (sym c.take.ensures.row) t))
@@ -30,7 +30,7 @@ returns-else-stamp-other-clause-turn g c m had p f =
     let h2 = g.S.Source.left c.look.new.source in
     let k : Looks (Found c.in-Found.other) Right m.last m.right a b h1 h2 = subst (λ l. Looks l Right m.last m.right a b h1 h2) c.in-Found.is (c.look.ensures.looks Right m.last m.right p.right) in
     let e : nat_le c.args.stamp c.in-Found.other ≡ false = grind (arith, nat_tests) in
-    let t = lesser_right c.merges_turn.ensures m (record { left = left; right = b }) had h2 (record { left = p.left; right = k.passed; held = λ h e n. none_some (front_of left) (Found c.args.stamp) h (front_is (Found c.args.stamp) left f) }) c.args.stamp c.in-Found.other f k.finds e in
+    let t = lesser_right m (record { left = left; right = b }) had h2 (record { left = p.left; right = k.passed; held = λ h e n. none_some (front_of left) (Found c.args.stamp) h (front_is (Found c.args.stamp) left f) }) c.args.stamp c.in-Found.other f k.finds e in
     on_right m _ (Found c.in-Found.other) a b left _ h1 h2 h2 had had k
     (subst (λ h. MergeTurn m (Ok c.take-else-stamp-other.result) (record { left = left; right = b }) (record { left = left; right = h }) had had h2 h2) (sym c.take-else-stamp-other.ensures.rest)
     (subst (λ r. MergeTurn m (Ok r) (record { left = left; right = b }) (record { left = left; right = bare b.reader }) had had h2 h2) (sym c.take-else-stamp-other.ensures.row) t))
@@ -43,7 +43,7 @@ returns-in-Ended-clause-turn g c m had p f =
     let h1 = g.S.Source.left c.args.right.now in
     let h2 = g.S.Source.left c.look.new.source in
     let k : Looks Ended Right m.last m.right a b h1 h2 = subst (λ l. Looks l Right m.last m.right a b h1 h2) c.in-Ended.is (c.look.ensures.looks Right m.last m.right p.right) in
-    let t = only_left c.merges_turn.ensures m (record { left = left; right = b }) had h2 (record { left = p.left; right = k.passed; held = λ h e n. none_some (front_of left) (Found c.args.stamp) h (front_is (Found c.args.stamp) left f) }) c.args.stamp f k.finds in
+    let t = only_left m (record { left = left; right = b }) had h2 (record { left = p.left; right = k.passed; held = λ h e n. none_some (front_of left) (Found c.args.stamp) h (front_is (Found c.args.stamp) left f) }) c.args.stamp f k.finds in
     on_right m _ Ended a b left _ h1 h2 h2 had had k
     (subst (λ h. MergeTurn m (Ok c.take-in-Ended.result) (record { left = left; right = b }) (record { left = h; right = b }) had had h2 h2) (sym c.take-in-Ended.ensures.rest)
     (subst (λ r. MergeTurn m (Ok r) (record { left = left; right = b }) (record { left = bare left.reader; right = b }) had had h2 h2) (sym c.take-in-Ended.ensures.row) t))
@@ -57,4 +57,4 @@ returns-in-Failed-clause-turn g c m had p f =
     let h2 = g.S.Source.left c.look.new.source in
     let e = c.in-Failed.end in
     let k : Looks (Failed e) Right m.last m.right a b h1 h2 = subst (λ l. Looks l Right m.last m.right a b h1 h2) c.in-Failed.is (c.look.ensures.looks Right m.last m.right p.right) in
-    on_right m _ (Failed e) a b left _ h1 h2 h2 had had k (right_fails_row c.merges_turn.ensures m (record { left = left; right = b }) had h2 (record { left = p.left; right = k.passed; held = λ h e n. none_some (front_of left) (Found c.args.stamp) h (front_is (Found c.args.stamp) left f) }) c.args.stamp e f k.finds)
+    on_right m _ (Failed e) a b left _ h1 h2 h2 had had k (right_fails_row m (record { left = left; right = b }) had h2 (record { left = p.left; right = k.passed; held = λ h e n. none_some (front_of left) (Found c.args.stamp) h (front_is (Found c.args.stamp) left f) }) c.args.stamp e f k.finds)

@@ -35,7 +35,7 @@ returns-in-Failed-clause-turn g c m p =
     let e = c.in-Failed.end in
     let hr = g.S.Source.left c.args.right.now in
     let k : Looks (Failed e) Left m.last m.left a b h1 h2 = subst (λ l. Looks l Left m.last m.left a b h1 h2) c.in-Failed.is (c.look.ensures.looks Left m.last m.left p.left) in
-    on_left m _ (Failed e) a b right _ h1 h2 h2 hr hr k (left_fails c.merges_turn.ensures m (record { left = b; right = right }) h2 hr (record { left = k.passed; right = p.right; held = λ h i n. none_some (front_of b) (Failed e) h (front_is (Failed e) b k.finds) }) e k.finds)
+    on_left m _ (Failed e) a b right _ h1 h2 h2 hr hr k (left_fails m (record { left = b; right = right }) h2 hr (record { left = k.passed; right = p.right; held = λ h i n. none_some (front_of b) (Failed e) h (front_is (Failed e) b k.finds) }) e k.finds)
 
 pub returns-in-Found-clause-right_cause : goal.returns-in-Found-clause-right_cause
 returns-in-Found-clause-right_cause g c m p h = c.lesser_row.ensures.cause (unfailed_yet (front_of (head_view c.args.self.now.left)) (front_of (head_view c.args.self.now.right)) h p.held)

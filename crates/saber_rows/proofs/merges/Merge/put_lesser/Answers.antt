@@ -14,13 +14,13 @@ returns-in_default-look_quick-clause-none c e =
 pub returns-then-time-other-clause-one : goal.returns-then-time-other-clause-one
 returns-then-time-other-clause-one c e =
     let less : nat_le c.in-Some.time c.in-Some-look_quick.other ≡ true = grind (arith, nat_tests, c.if-time-other.true) in
-    puts_left c.merges_turn.ensures c.in-Some.time c.in-Some-look_quick.other (head_view c.args.self.now.left) (head_view c.look_quick.new.self) (head_view c.args.self.now.right) (head_view c.look_quick-2.new.self)
+    puts_left c.in-Some.time c.in-Some-look_quick.other (head_view c.args.self.now.left) (head_view c.look_quick.new.self) (head_view c.args.self.now.right) (head_view c.look_quick-2.new.self)
     c.in-Some.ensures.some c.look_quick.ensures.rules c.in-Some-look_quick.ensures.some c.look_quick-2.ensures.rules c.args.out.now.rows c.put.new.out.rows less (head_view c.put.new.self) (c.put.ensures.put e)
 
 pub returns-then-time-other-clause-none : goal.returns-then-time-other-clause-none
 returns-then-time-other-clause-none c e =
     let k = c.put.ensures.kept e in (
-      kept_left c.merges_turn.ensures c.in-Some.time c.in-Some-look_quick.other (head_view c.args.self.now.left) (head_view c.look_quick.new.self) (head_view c.args.self.now.right) (head_view c.look_quick-2.new.self)
+      kept_left c.in-Some.time c.in-Some-look_quick.other (head_view c.args.self.now.left) (head_view c.look_quick.new.self) (head_view c.args.self.now.right) (head_view c.look_quick-2.new.self)
           c.in-Some.ensures.some c.look_quick.ensures.rules c.in-Some-look_quick.ensures.some c.look_quick-2.ensures.rules c.args.out.now.rows c.put.new.out.rows (head_view c.put.new.self) k.0,
       k.1,
     )
@@ -28,13 +28,13 @@ returns-then-time-other-clause-none c e =
 pub returns-else-time-other-clause-one : goal.returns-else-time-other-clause-one
 returns-else-time-other-clause-one c e =
     let more : nat_le c.in-Some.time c.in-Some-look_quick.other ≡ false = grind (arith, nat_tests, c.if-time-other.false) in
-    puts_right c.merges_turn.ensures c.in-Some.time c.in-Some-look_quick.other (head_view c.args.self.now.left) (head_view c.look_quick.new.self) (head_view c.args.self.now.right) (head_view c.look_quick-2.new.self)
+    puts_right c.in-Some.time c.in-Some-look_quick.other (head_view c.args.self.now.left) (head_view c.look_quick.new.self) (head_view c.args.self.now.right) (head_view c.look_quick-2.new.self)
     c.in-Some.ensures.some c.look_quick.ensures.rules c.in-Some-look_quick.ensures.some c.look_quick-2.ensures.rules c.args.out.now.rows c.put-else-time-other.new.out.rows more (head_view c.put-else-time-other.new.self) (c.put-else-time-other.ensures.put e)
 
 pub returns-else-time-other-clause-none : goal.returns-else-time-other-clause-none
 returns-else-time-other-clause-none c e =
     let k = c.put-else-time-other.ensures.kept e in (
-      kept_right c.merges_turn.ensures c.in-Some.time c.in-Some-look_quick.other (head_view c.args.self.now.left) (head_view c.look_quick.new.self) (head_view c.args.self.now.right) (head_view c.look_quick-2.new.self)
+      kept_right c.in-Some.time c.in-Some-look_quick.other (head_view c.args.self.now.left) (head_view c.look_quick.new.self) (head_view c.args.self.now.right) (head_view c.look_quick-2.new.self)
           c.in-Some.ensures.some c.look_quick.ensures.rules c.in-Some-look_quick.ensures.some c.look_quick-2.ensures.rules c.args.out.now.rows c.put-else-time-other.new.out.rows (head_view c.put-else-time-other.new.self) k.0,
       k.1,
     )

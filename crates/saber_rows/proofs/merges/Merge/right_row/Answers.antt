@@ -14,7 +14,7 @@ returns-in-Found-clause-turn g c m had p f =
     let h1 = g.S.Source.left c.args.right.now in
     let h2 = g.S.Source.left c.look.new.source in
     let k : Looks (Found c.in-Found.field-0) Right m.last m.right a b h1 h2 = subst (λ l. Looks l Right m.last m.right a b h1 h2) c.in-Found.is (c.look.ensures.looks Right m.last m.right p.right) in
-    let t = only_right c.merges_turn.ensures m (record { left = left; right = b }) had h2 (record { left = p.left; right = k.passed; held = λ h e n. none_some (front_of left) Ended h (front_is Ended left f) }) c.in-Found.field-0 f k.finds in
+    let t = only_right m (record { left = left; right = b }) had h2 (record { left = p.left; right = k.passed; held = λ h e n. none_some (front_of left) Ended h (front_is Ended left f) }) c.in-Found.field-0 f k.finds in
     on_right m _ (Found c.in-Found.field-0) a b left _ h1 h2 h2 had had k
     (subst (λ h. MergeTurn m (Ok c.take.result) (record { left = left; right = b }) (record { left = left; right = h }) had had h2 h2) (sym c.take.ensures.rest)
     (subst (λ r. MergeTurn m (Ok r) (record { left = left; right = b }) (record { left = left; right = bare b.reader }) had had h2 h2) (sym c.take.ensures.row) t))
@@ -27,7 +27,7 @@ returns-in-Ended-clause-turn g c m had p f =
     let h1 = g.S.Source.left c.args.right.now in
     let h2 = g.S.Source.left c.look.new.source in
     let k : Looks Ended Right m.last m.right a b h1 h2 = subst (λ l. Looks l Right m.last m.right a b h1 h2) c.in-Ended.is (c.look.ensures.looks Right m.last m.right p.right) in
-    on_right m _ Ended a b left _ h1 h2 h2 had had k (both_ended c.merges_turn.ensures m (record { left = left; right = b }) had h2 (record { left = p.left; right = k.passed; held = λ h e n. none_some (front_of left) Ended h (front_is Ended left f) }) f k.finds)
+    on_right m _ Ended a b left _ h1 h2 h2 had had k (both_ended m (record { left = left; right = b }) had h2 (record { left = p.left; right = k.passed; held = λ h e n. none_some (front_of left) Ended h (front_is Ended left f) }) f k.finds)
 
 pub returns-in-Failed-clause-turn : goal.returns-in-Failed-clause-turn
 returns-in-Failed-clause-turn g c m had p f =
@@ -38,4 +38,4 @@ returns-in-Failed-clause-turn g c m had p f =
     let h2 = g.S.Source.left c.look.new.source in
     let e = c.in-Failed.end in
     let k : Looks (Failed e) Right m.last m.right a b h1 h2 = subst (λ l. Looks l Right m.last m.right a b h1 h2) c.in-Failed.is (c.look.ensures.looks Right m.last m.right p.right) in
-    on_right m _ (Failed e) a b left _ h1 h2 h2 had had k (right_fails_end c.merges_turn.ensures m (record { left = left; right = b }) had h2 (record { left = p.left; right = k.passed; held = λ h e n. none_some (front_of left) Ended h (front_is Ended left f) }) e f k.finds)
+    on_right m _ (Failed e) a b left _ h1 h2 h2 had had k (right_fails_end m (record { left = left; right = b }) had h2 (record { left = p.left; right = k.passed; held = λ h e n. none_some (front_of left) Ended h (front_is Ended left f) }) e f k.finds)
