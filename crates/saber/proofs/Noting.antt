@@ -2,23 +2,8 @@
 use Rattle.std.proofs.Common.{◌≡◌, ◌≢◌, ℕ, List, length, Option, refl, sym, ◌∙◌, ap, arith}
 use Rattle.std.proofs.lemmas.List.{take_all}
 use Rattle.saber_plan.specs.Outputs.{AppendsPrefix, appended_text, appended-none}
-use Rattle.saber_words.specs.declared.commands.WordsFault.{WordsFault}
-use Rattle.saber_words.specs.declared.commands.WordsFault.TheVariants as fault
-use Rattle.saber_notes.specs.Notes.{note_of, status_of}
 use Rattle.saber_notes.specs.declared.note.Noted.{Noted}
 use Rattle.saber_notes.specs.declared.note.Noted.TheVariants.{Nothing, Whole, Failed, NoMemory}
-use Rattle.saber_cli.specs.Unread.{unread}
-use Rattle.saber_top.specs.Ends.{one_note}
-
--- words that can't be handed over are no good end
-pub some_status : (f : WordsFault) → status_of (unread f) ≡ 0 → ⊥
-some_status fault.Usage e = omega (arith, e)
-some_status fault.NoMemory e = omega (arith, e)
-
--- the note tells it
-pub told_note : (f : WordsFault) → note_of (unread f) ≡ one_note (unread f)
-told_note fault.Usage = refl
-told_note fault.NoMemory = refl
 
 pub went : (noted : Noted) (old new : Option (List ℕ)) (note : List ℕ) → noted ≢ Nothing → (noted ≡ Whole → new ≡ appended_text old note) → (noted ≡ Failed → AppendsPrefix old new note)
     → (noted ≡ NoMemory → new ≡ old) → AppendsPrefix old new note

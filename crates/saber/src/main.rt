@@ -3,15 +3,19 @@
 //!
 //! - Call: `main` takes the runtime, and gives the status that `top` tells. Words that the system
 //!   can't hand over end it by `refuse_words`.
-//! - Proved: that it is safe, and that the status is that of an end, whose notes went out whole or
-//!   a front of them (`called`). That `main`, which takes no clause, hands on standard output,
-//!   standard error and that status is to be read.
+//! - Proved: that it is safe; that the words go on as they are, in their order (`texts_of`); and
+//!   that all comes of them which `top` says, over these files and sinks, or the status and the
+//!   note tell why the system couldn't hand the words over (`called`). That `main`, which takes no
+//!   clause, hands on the process's words, standard output, standard error and that status is to be
+//!   read.
 //! - Tested: `args`, `data`, `stdout` and `status` are one stored run, which the gate makes with
 //!   two compilers: it ends with a refused line, so the status isn't 0 and a note on standard
 //!   output would show.
 #![tactic(auto)]
 
-ghost use Rattle.saber.specs.Endings.{Ends};
+ghost use Rattle.std.specs.Prelude.{◌≡◌, IfOk, IfErr, map, string_bytes};
+ghost use Rattle.saber_words.specs.declared.commands.WordsFault.{WordsFault};
+ghost use Rattle.saber.specs.Endings.{IsOfTop, Refuses};
 
 use saber_cli::{WordsFault, refuse_words};
 use saber_io::{Files, HostFiles, HostOuts, OpenGate, Outs, Sink, StdSink};
@@ -42,7 +46,10 @@ fn fault(error: io::Error) -> WordsFault {
 }
 
 // The same words, lent.
-fn texts_of<'a>(alloc: Global, texts: &'a [String]) -> Result<Vec<&'a str>, WordsFault> {
+fn texts_of<'a>(alloc: Global, texts: &'a [String]) -> Result<Vec<&'a str>, WordsFault>
+    ensures words { IfOk result (λ words. map (λ word. word.now) words.items ≡ map string_bytes texts.now) }
+    ensures lacks { IfErr result (λ fault. fault ≡ WordsFault.NoMemory) }
+{
     let mut words = Vec::new(alloc);
     for text in texts {
         if let Err(lacks) = words.push(text.as_str()) {
@@ -54,7 +61,7 @@ fn texts_of<'a>(alloc: Global, texts: &'a [String]) -> Result<Vec<&'a str>, Word
 
 // Ends a call whose words can't be handed over, and gives the status.
 fn refused<N: Sink>(fault: WordsFault, notes: &mut N) -> u8
-    ensures { Ends result (N.written notes.old) (N.written notes.new) }
+    ensures { Refuses fault result (N.written notes.old) (N.written notes.new) }
 {
     refuse_words(fault, notes).status
 }
@@ -71,7 +78,7 @@ fn run<F: Files, U: Outs, K: Sink + Send + Drop, N: Sink, R: Threads + Wait + Sy
 ) -> u8
 where
     F::Src: Send + Drop,
-    ensures { Ends result (N.written notes.old) (N.written notes.new) }
+    ensures { IsOfTop F.told F.faults K.written K.faults N.written N.faults U.asked U.Out.written (map string_bytes texts.now) files.old files.new outs.old outs.new sink notes.old notes.new result }
 {
     match texts_of(alloc, texts) {
         Ok(words) => {
@@ -96,7 +103,9 @@ fn called<F: Files, U: Outs, K: Sink + Send + Drop, N: Sink, R: Threads + Wait +
 ) -> u8
 where
     F::Src: Send + Drop,
-    ensures { Ends result (N.written notes.old) (N.written notes.new) }
+    ensures top { IfOk handed (λ texts. IsOfTop F.told F.faults K.written K.faults N.written N.faults U.asked U.Out.written (map string_bytes texts.items) files.old files.new outs.old outs.new sink notes.old notes.new result) }
+    ensures refused { IfErr handed (λ fault. Refuses fault result (N.written notes.old) (N.written notes.new)) }
+    ensures unread { IfErr handed (λ fault. (files.new ≡ files.old) × (outs.new ≡ outs.old)) }
 {
     match handed {
         Ok(texts) => run(rt, alloc, &texts, files, outs, sink, notes),
