@@ -5,7 +5,7 @@ use crate::names::Names;
 use crate::readings::{creates, files_of, opens, part_writes, writes};
 use crate::refusals::Refused;
 use crate::wanted::{Seen, SeenPart};
-use saber_io::{Files, Gate, MemFiles, MemOuts, MemSink, Outs, Sink};
+use saber_io::{Files, MemFiles, MemOuts, MemSink, Outs, Sink};
 use saber_notes::Noted;
 use saber_top::{PartList, ended, top};
 use std::alloc::{AllocError, Global};
@@ -24,14 +24,7 @@ struct Came<K, T> {
 
 // The call alone, over any files and sinks: what it promises is long, and no case needs it, so it
 // is carried no further.
-fn top_call<
-    F: Files,
-    U: Outs,
-    K: Sink + Send + Drop,
-    N: Sink,
-    G: Gate + Sync,
-    R: Threads + Wait + Sync,
->(
+fn top_call<F: Files, U: Outs, K: Sink + Send + Drop, N: Sink, R: Threads + Wait + Sync>(
     rt: &R,
     alloc: Global,
     words: &[&str],
@@ -39,7 +32,7 @@ fn top_call<
     outs: &mut U,
     sink: K,
     notes: &mut N,
-    gate: &G,
+    gate: &CaseGate,
 ) -> Came<K, U::Out>
 where
     F::Src: Send + Drop,
@@ -90,15 +83,45 @@ fn run_at<R: Threads + Wait + Sync>(
     let writes_of_out = writes(alloc, fields, Key::Write)?;
     let writes_of_note = writes(alloc, fields, Key::NoteWrite)?;
     let failing_opens = opens(alloc, fields)?;
-    let mut outs = MemOuts::new(alloc, creates(alloc, fields)?, part_writes(alloc, fields)?);
+    let failing_creates = creates(alloc, fields)?;
+    let writes_of_parts = part_writes(alloc, fields)?;
     let listed = files_of(alloc, names, fields, cut)?;
-    let mut files = MemFiles::new(alloc, listed, failing_opens);
-    let sink = MemSink::new(alloc, writes_of_out);
-    let mut notes = MemSink::new(alloc, writes_of_note);
+    let outside = Outside {
+        files: MemFiles::new(alloc, listed, failing_opens),
+        outs: MemOuts::new(alloc, failing_creates, writes_of_parts),
+        sink: MemSink::new(alloc, writes_of_out),
+        notes: MemSink::new(alloc, writes_of_note),
+    };
+    Ok(run_over(rt, alloc, words, outside, gate)?)
+}
+
+// What a run is over.
+#[derive(Drop)]
+struct Outside {
+    files: MemFiles,
+    outs: MemOuts,
+    sink: MemSink,
+    notes: MemSink,
+}
+
+// The call over them, which has one end: what goes with them stands in it once.
+fn run_over<R: Threads + Wait + Sync>(
+    rt: &R,
+    alloc: Global,
+    words: &[&str],
+    outside: Outside,
+    gate: &CaseGate,
+) -> Result<Seen, AllocError> {
+    let Outside {
+        mut files,
+        mut outs,
+        sink,
+        mut notes,
+    } = outside;
     let came = top_call(
         rt, alloc, words, &mut files, &mut outs, sink, &mut notes, gate,
     );
-    Ok(seen(alloc, &came, &notes, gate.is_late())?)
+    seen(alloc, &came, &notes, gate.is_late())
 }
 
 fn seen(
