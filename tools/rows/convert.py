@@ -1,0 +1,122 @@
+"""`saber rows`: rows of a file with a header, as they come."""
+import csv
+import os
+
+import raw
+from faults import FILE, ROW, Fault, file_fault
+from fields import Fields
+from layout import Layout
+from texts import Texts
+
+NEVER_LATE = 2**63
+
+
+class Late:
+    """The side file of rows that came too late: the header and the records as they were, and how many."""
+
+    def __init__(self, path, slack, apart):
+        self.path, self.slack, self.count, self.lines, self.file = path, slack, 0, [], None
+        for other in apart:
+            if path and os.path.exists(other) and os.path.exists(path) and os.path.samefile(path, other):
+                raise Fault(FILE, f"{path}: is read, so it can't be written too")
+
+    def begin(self, header, delimiter):
+        """Writes the header."""
+        self.delimiter = delimiter
+        try:
+            self.file = open(self.path, "w", newline="", **raw.ENCODING) if self.path else None
+        except OSError as error:
+            raise file_fault(self.path, error) from None
+        self.lines.append(raw.csv_line(header, delimiter))
+
+    def put(self, record):
+        """Puts a record aside."""
+        self.count += 1
+        self.lines.append(raw.csv_line(record, self.delimiter))
+
+    def flush(self):
+        """Writes what is put aside."""
+        if self.lines and self.file:
+            try:
+                self.file.write("".join(self.lines))
+                self.file.flush()
+            except OSError as error:
+                raise file_fault(self.path, error) from None
+            self.lines.clear()
+
+    def told(self):
+        """What is told at the end, where rows were put aside."""
+        rows = "1 row is" if self.count == 1 else f"{self.count} rows are"
+        return f"{rows} later than {self.slack} and in {self.path}" if self.count else ""
+
+
+class Conversion:
+    """Rows of one file: what is written goes out before each read."""
+
+    def __init__(self, path, source, slack, late):
+        self.fields = Fields(path)
+        self.table = Texts(self.fields.texts) if self.fields.has_texts() else None
+        self.file, self.name = raw.opened(None if source == "-" else source)
+        self.slack, self.output = slack, raw.Output()
+        self.late = Late(late, slack or 0, [self.name, path, self.fields.texts])
+        self.reader = raw.records(self.file, self.name, self.fields.delimiter, self.flush)
+
+    def flush(self):
+        """Writes all that is due."""
+        self.late.flush()
+        self.output.flush()
+
+    def header(self):
+        """The first record."""
+        for record in self.reader:
+            if record:
+                return record
+        raise Fault(ROW, f"{self.name} line 1: no header")
+
+    def run(self):
+        """Writes the rows; what was right before a fault is written before it is told."""
+        try:
+            self.take_all()
+        finally:
+            self.flush()
+
+    def take_all(self):
+        """Goes through the file."""
+        header = self.header()
+        layout = Layout(self.fields, header, self.table, self.name)
+        self.late.begin(header, self.fields.delimiter)
+        self.take_records(layout, self.reader.line_num)
+
+    def take_records(self, layout, line):
+        """Adds the row of each record; `line` is where the record before it ended."""
+        row, add, reader = layout.row, self.output.add, self.reader
+        slack = NEVER_LATE if self.slack is None else self.slack
+        greatest = 0
+        try:
+            for record in reader:
+                try:
+                    time, text = row(record)
+                except ValueError:
+                    if record:
+                        raise self.refused(line, layout.fault(record)) from None
+                else:
+                    if time >= greatest - slack:
+                        add(text)
+                    else:
+                        self.too_late(record, line, greatest - time)
+                    if time > greatest:
+                        greatest = time
+                line = reader.line_num
+        except csv.Error as error:
+            raise self.refused(line, f": {error}") from None
+
+    def refused(self, line, why):
+        """The fault of the record behind this line."""
+        return Fault(ROW, f"{self.name} line {line + 1}{why}")
+
+    def too_late(self, record, line, by):
+        """A row that is later than the slack goes aside, or ends the run."""
+        if not self.late.path:
+            why = f": its time is {by} below the greatest before it; --slack {by} takes it, --late FILE puts it aside"
+            raise self.refused(line, why)
+        self.late.put(record)
