@@ -15,7 +15,8 @@ class Late:
     """The side file of rows that came too late: the header and the records as they were, and how many."""
 
     def __init__(self, path, slack, apart):
-        self.path, self.slack, self.count, self.lines, self.file = path, slack, 0, [], None
+        self.path, self.slack, self.delimiter = path, slack, ","
+        self.count, self.lines, self.file = 0, [], None
         for other in apart:
             if path and os.path.exists(other) and os.path.exists(path) and os.path.samefile(path, other):
                 raise Fault(FILE, f"{path}: is read, so it can't be written too")
@@ -56,10 +57,11 @@ class Conversion:
     def __init__(self, path, source, slack, late):
         self.fields = Fields(path)
         self.table = Texts(self.fields.texts) if self.fields.has_texts() else None
-        self.file, self.name = raw.opened(None if source == "-" else source)
+        file, self.name = raw.opened(None if source == "-" else source)
         self.slack, self.output = slack, raw.Output()
         self.late = Late(late, slack or 0, [self.name, path, self.fields.texts])
-        self.reader = raw.records(self.file, self.name, self.fields.delimiter, self.flush)
+        parts = raw.texts(raw.pieces(file, self.name, self.flush), self.name)
+        self.reader = raw.records(parts, self.fields.delimiter)
 
     def flush(self):
         """Writes all that is due."""
@@ -117,6 +119,6 @@ class Conversion:
     def too_late(self, record, line, by):
         """A row that is later than the slack goes aside, or ends the run."""
         if not self.late.path:
-            why = f": its time is {by} below the greatest before it; --slack {by} takes it, --late FILE puts it aside"
+            why = f": {by} below the greatest time: --slack {by}, or --late FILE"
             raise self.refused(line, why)
         self.late.put(record)

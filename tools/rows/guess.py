@@ -2,6 +2,7 @@
 import csv
 import os
 import re
+from itertools import chain
 
 import cells
 import raw
@@ -26,10 +27,10 @@ def delimiter_of(header):
 def sample(name):
     """The delimiter of a file, its header and its first rows."""
     file, name = raw.opened(name)
-    first = next(raw.texts(raw.pieces(file, name), name), "")
+    parts = raw.texts(raw.pieces(file, name), name)
+    first = next(parts, "")
     delimiter = delimiter_of(first.partition("\n")[0])
-    os.lseek(file, 0, os.SEEK_SET)
-    records, found = raw.records(file, name, delimiter), []
+    records, found = raw.records(chain([first], parts), delimiter), []
     try:
         for record in records:
             found += [record] if record else []
@@ -140,7 +141,7 @@ def lines(path):
     found = columns_of(header, rows)
     kept, left = found[:MOST_COLUMNS], found[MOST_COLUMNS:]
     yield f"# STREAM {stream_name(path)}({', '.join(column[0] for column in kept)});"
-    yield f"# A guess by {len(rows)} rows. The first column is the time. Leave out what no query needs."
+    yield f"# A guess by {len(rows)} row{'s' * (len(rows) != 1)}. The first column is the time. Leave out what no query needs."
     if not kept[0][2].startswith("time"):
         yield "# No column looks like a time: put the line of the one that is the time first."
     if any("in UTC" in kind for _, _, kind, _ in kept):

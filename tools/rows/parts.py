@@ -8,11 +8,15 @@ from faults import FIELDS, Fault
 
 @dataclass
 class Part:
-    """What is shown of an answer's line: the number at a place; or a mean, of the numbers at two places."""
+    """What is shown of an answer's line: the number at a place; or a mean, of the numbers at two places.
+
+    `called` is the aggregate, where it is one's.
+    """
 
     name: str
     kind: kinds.Kind
     place: int = 0
+    called: str = ""
     mean: tuple = ()
 
 
@@ -27,7 +31,7 @@ def of_window(window, kind):
 def of_item(item, look):
     """The field of an item of SELECT, where `look` gives the kind of a column."""
     if item == ["COUNT", "(", "*", ")"]:
-        return Part("count", kinds.INT)
+        return Part("count", kinds.INT, called="COUNT")
     called = item[0] if item[1:2] == ["("] else ""
     inside = item[2:-1] if called else item
     kind = kinds.of_tree(expressions.parse(" ".join(inside)), look)
@@ -36,7 +40,7 @@ def of_item(item, look):
     text = " ".join(inside).replace(" . ", ".")
     if called:
         text = f"{called.lower()}({text})" if " " in text else f"{called.lower()}_{text}"
-    return Part(text, kind)
+    return Part(text, kind, called=called)
 
 
 def of_query(query, kinds_of):
@@ -79,7 +83,7 @@ def with_means(found):
     for place, part in enumerate(found):
         made.append(part)
         for total, count in ((place - 1, place), (place, place - 1)):
-            if place and found[count].name == "count" and found[total].name.startswith(("sum_", "sum(")):
+            if place and found[total].called == "SUM" and found[count].called == "COUNT":
                 name = "mean" + found[total].name.removeprefix("sum")
                 made.append(Part(name, found[total].kind, mean=(total, count)))
     return made

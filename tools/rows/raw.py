@@ -59,9 +59,8 @@ def texts(parts, name):
         yield part.decode(**ENCODING)
 
 
-def records(file, name, delimiter, before=lambda: None):
-    """A reader of CSV over a file, which gives each record as soon as its line is there."""
-    parts = texts(pieces(file, name, before), name)
+def records(parts, delimiter):
+    """A reader of the records of CSV in pieces of text, which gives each as soon as its line is there."""
     return csv.reader(chain.from_iterable(map(io.StringIO, parts)), delimiter=delimiter, strict=True)
 
 

@@ -45,13 +45,16 @@ class Texts(dict):
             got = it.read()
         if got and not got.endswith(b"\n"):
             raise Fault(FILE, f"{self.path}: the last line has no end")
-        for record in csv.reader(io.StringIO(got.decode(**ENCODING), newline="\n"), strict=True):
-            self.line += 1
-            self.take(record)
+        try:
+            for record in csv.reader(io.StringIO(got.decode(**ENCODING), newline="\n"), strict=True):
+                self.take(record)
+        except csv.Error as error:
+            raise Fault(FILE, f"{self.path}: text {self.line + 1}: {error}") from None
         self.taken += len(got)
 
     def take(self, record):
         """Takes in a line of the file."""
+        self.line += 1
         if len(record) != 2 or not (record[0].isascii() and record[0].isdigit()):
             raise Fault(FILE, f"{self.path}: text {self.line} is no line NUMBER,TEXT")
         number, text = int(record[0][:30]), record[1]

@@ -5,7 +5,7 @@ import select
 import time
 
 import raw
-from faults import WORDS, Fault
+from faults import WORDS, Fault, file_fault
 from kinds import DIGITS
 
 EVERY = re.compile(r"([0-9]{1,18})(s|ms|us|ns)?").fullmatch
@@ -43,7 +43,10 @@ class Ticker:
 
     def take(self):
         """Passes on what whole rows there are; whether there may be more."""
-        got = os.read(0, raw.AT_ONCE)
+        try:
+            got = os.read(0, raw.AT_ONCE)
+        except OSError as error:
+            raise file_fault("standard input", error) from None
         whole, feed, self.rest = (self.rest + got).rpartition(b"\n")
         self.time = greatest(whole, self.time)
         self.put(whole + feed)

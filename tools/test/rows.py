@@ -427,24 +427,37 @@ class Recipes(Folder):
     """The blocks of docs/RECIPES.md and docs/ROWS.md."""
 
     def test_recipes(self):
-        """Each command of a block with `console` prints what stands below it."""
+        """Each command of a block with `console` prints what stands below it; `x=..` holds for those behind it."""
         for page in ("RECIPES.md", "ROWS.md"):
-            shutil.copytree(os.path.join(TOP, "examples"), os.path.join(self.folder, page))
+            wrote = shutil.ignore_patterns("*.texts", "*.out")
+            shutil.copytree(os.path.join(TOP, "examples"), os.path.join(self.folder, page, "examples"), ignore=wrote)
             with open(os.path.join(TOP, "docs", page), encoding="utf-8") as file:
-                text = file.read()
-            for block in re.findall(r"^```console\n(.*?)^```", text, re.M | re.S):
-                for part in re.split(r"^\$ ", block, flags=re.M)[1:]:
-                    command, told = split_command(part)
-                    with self.subTest(command):
-                        ran = self.shell(command, page)
-                        self.assertEqual((ran.stdout + ran.stderr).decode(), told)
+                blocks = re.findall(r"^```console\n(.*?)^```", file.read(), re.M | re.S)
+            self.assertGreater(len(blocks), 1)
+            for block in blocks:
+                self.try_block(block, page)
+
+    def try_block(self, block, page):
+        """Each command of a block; files of /tmp are in this folder."""
+        names = ""
+        for part in re.split(r"^\$ ", block, flags=re.M)[1:]:
+            command, told = split_command(part)
+            with self.subTest(command):
+                ran = self.shell((names + command).replace("/tmp/", f"{self.folder}/"), page)
+                found = (ran.stdout + ran.stderr).decode().replace(f"{self.folder}/", "/tmp/")
+                self.assertEqual(found, told)
+            if re.match(r"\w+=", command):
+                names += command
 
 
 def split_command(part):
     """A command, with the lines that it goes on in, and what stands below it."""
     lines = part.splitlines(keepends=True)
-    end = next(number for number, line in enumerate(lines) if not line.endswith(("\\\n", "|\n")))
-    return "".join(lines[:end + 1]), "".join(lines[end + 1:])
+    for end in range(1, len(lines)):
+        command = "".join(lines[:end])
+        if not command.endswith(("\\\n", "|\n")) and command.count("'") % 2 == 0:
+            return command, "".join(lines[end:])
+    return part, ""
 
 
 if __name__ == "__main__":
