@@ -141,7 +141,8 @@ def lines(path):
     found = columns_of(header, rows)
     kept, left = found[:MOST_COLUMNS], found[MOST_COLUMNS:]
     yield f"# STREAM {stream_name(path)}({', '.join(column[0] for column in kept)});"
-    yield f"# A guess by {len(rows)} row{'s' * (len(rows) != 1)}. The first column is the time. Leave out what no query needs."
+    number = f"{len(rows)} row{'s' * (len(rows) != 1)}"
+    yield f"# A guess by {number}. The first column is the time. Leave out what no query needs."
     if not kept[0][2].startswith("time"):
         yield "# No column looks like a time: put the line of the one that is the time first."
     if any("in UTC" in kind for _, _, kind, _ in kept):

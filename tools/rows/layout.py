@@ -111,9 +111,9 @@ class Layout:
         try:
             self.row(record)
         except Unfit as why:
-            column = self.fields.columns[why.number]
+            column, reason = self.fields.columns[why.number], cells.why_not(why.value, bounds(why.number)[0])
             value = shown(record[self.places[column.header]]) if column.header else str(why.value)[:40]
-            return f", column {column.header or column.name}: {value} is {cells.why_not(why.value, bounds(why.number)[0])}"
+            return f", column {column.header or column.name}: {value} is {reason}"
         return ": no row"
 
 

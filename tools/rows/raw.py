@@ -66,7 +66,10 @@ def records(parts, delimiter):
 
 def csv_line(cells, delimiter=","):
     """A line of CSV."""
-    return delimiter.join(quoted(cell, delimiter) for cell in cells) + "\n"
+    line = delimiter.join(cells)
+    if QUOTED(line) or line.count(delimiter) != len(cells) - 1:
+        line = delimiter.join(quoted(cell, delimiter) for cell in cells)
+    return (line or '""') + "\n"
 
 
 def quoted(cell, delimiter):

@@ -1,11 +1,12 @@
 """What a number of an answer stands for, as text; and lines of CSV, JSON, a table, bars."""
+import functools
 import json
 import shutil
 
 import times
 from raw import csv_line
 
-MEAN_DIGITS = 3
+MEAN_DIGITS, KEPT = 3, 4096
 BAR_SIGNS = {False: "#", True: "-"}
 
 
@@ -28,10 +29,12 @@ def mean(total, count, digits):
 def of_kind(kind, table):
     """A function from a number of this kind to its text, where `table` gives the texts of a file."""
     if kind.name == "time":
-        return lambda number: times.written(number * kind.each, kind.unit, kind.zone)
+        return functools.lru_cache(KEPT)(lambda number: times.written(number * kind.each, kind.unit, kind.zone))
     if kind.name == "text":
         return table(kind.texts).text
-    return lambda number: decimal(number * kind.each, kind.digits)
+    if kind.digits or kind.each != 1:
+        return lambda number: decimal(number * kind.each, kind.digits)
+    return str
 
 
 def of_part(part, table):
@@ -39,8 +42,8 @@ def of_part(part, table):
     if part.mean:
         total, count = part.mean
         return lambda numbers: mean(numbers[total], numbers[count], part.kind.digits)
-    show = of_kind(part.kind, table)
-    return lambda numbers: show(numbers[part.place])
+    show, place = of_kind(part.kind, table), part.place
+    return lambda numbers: show(numbers[place])
 
 
 def is_number(part):

@@ -422,6 +422,120 @@ class BesideSqlite(Folder):
         self.assertEqual(sorted(self.lines(run % "come" + " | saber answers f come")), sorted(wanted))
 
 
+    def cards_files(self):
+        """Authorisations of cards and their clearings, as raw files and as tables."""
+        random_, second, given, cleared = random.Random(3), 0, [], []
+        for number in range(1500):
+            second += random_.randrange(240)
+            card, country = f"card {random_.randrange(80)}", random_.choice("DE DE DE DE FR PL".split())
+            cents = random_.choice([999, 1250, random_.randrange(1, 90000)])
+            given.append((number, second, f"a/{number}", card, country, cents))
+            if random_.random() < 0.9:
+                paid = cents if random_.random() < 0.9 else cents + random_.randrange(1, 300)
+                cleared.append((second + random_.randrange(80000), f"a/{number}", paid))
+        cleared.sort()
+        euro = "{0}.{1:02}".format
+        self.write("given.csv", "time|id|card|country|amount\n" + "".join(
+            f"{stamp(at)}|{name}|{card}|{country}|{euro(*divmod(cents, 100))}\n" for _, at, name, card, country, cents in given))
+        self.write("cleared.csv", "id,paid,time\n" + "".join(
+            f"{name},{euro(*divmod(paid, 100))},{stamp(at)}\n" for at, name, paid in cleared))
+        self.write("given.f", "texts t\ndelimiter |\nt = time time s\nid = id text\ncard = card text\n"
+                   "country = country text\ncents = amount scale 2\n")
+        self.write("cleared.f", "texts t\nt = time time s\nid = id text\npaid = paid scale 2\n")
+        base = self.base("place, second, id, card, country, cents", given)
+        base.execute("CREATE TABLE c (second, id, paid)")
+        base.executemany("INSERT INTO c VALUES (?, ?, ?)", cleared)
+        entries = sorted([(at, name, cents, "") for _, at, name, _, _, cents in given] +
+                         [(at, name, "", paid) for at, name, paid in cleared])
+        self.write("both.csv", "time,id,given,paid\n" + "".join(
+            f"{stamp(at)},{name},{cents},{paid}\n" for at, name, cents, paid in entries))
+        self.write("both.f", "t = time time s\nid = id text\ngiven = given int else 0\npaid = paid int else 0\n")
+        return base
+
+    @needs_program
+    def test_cards(self):
+        """Amounts that differ, two countries in an hour, the same amount twice, what isn't cleared."""
+        base = self.cards_files()
+        declared = "STREAM A(t, id, card, country, cents); "
+        self.write("differ", declared + "STREAM C(t, id, paid); SELECT A.id, cents, paid FROM A [RANGE 86400 SLIDE 86400], "
+                   "C [RANGE 86400 SLIDE 86400] WHERE A.id = C.id AND cents <> paid")
+        day = "strftime('%Y-%m-%dT00:00:00Z', 1795824000 + {0}.second, 'unixepoch')"
+        euro = "printf('%d.%02d', {0} / 100, {0} % 100)"
+        wanted = base.execute(f"""SELECT {day.format('r')}, r.id, {euro.format('cents')}, {euro.format('paid')} FROM r, c
+            WHERE r.id = c.id AND cents <> paid AND r.second / 86400 = c.second / 86400""").fetchall()
+        found = self.lines("saber run differ <(saber rows given.f given.csv) <(saber rows cleared.f cleared.csv) --final "
+                           "--task 65536 | saber answers given.f differ --right cleared.f")
+        self.assertEqual((sorted(found), len(wanted) > 20), (sorted(wanted), True))
+        self.write("countries", declared + "SELECT card, country FROM A [RANGE 3600 SLIDE 3600] GROUP BY card, country")
+        self.write("count", "STREAM W(hour, card, country); SELECT card, COUNT(*) FROM W [RANGE 1 SLIDE 1] GROUP BY card")
+        self.write("two", "STREAM W(hour, card, n); SELECT hour, card, n FROM W WHERE n > 1")
+        hour = "strftime('%Y-%m-%dT%H:00:00Z', 1795824000 + second, 'unixepoch')"
+        wanted = base.execute(f"""SELECT {hour}, card, CAST(COUNT(DISTINCT country) AS TEXT) FROM r GROUP BY 1, 2
+            HAVING COUNT(DISTINCT country) > 1""").fetchall()
+        found = self.lines("saber rows given.f given.csv | saber run countries /dev/stdin --final | saber run count /dev/stdin "
+                           "--final | saber run two /dev/stdin | saber answers given.f countries count two")
+        self.assertEqual((sorted(found), len(wanted) > 20), (sorted(wanted), True))
+        self.write("twice", "STREAM A(t, id, card, country, cents); STREAM B(t, id, card, country, cents); SELECT A.id, B.id, "
+                   "A.card FROM A [RANGE 7200 SLIDE 7200], B [RANGE 7200 SLIDE 7200] WHERE A.card = B.card "
+                   "AND A.cents = B.cents AND A.id <> B.id")
+        wanted = base.execute("""SELECT a.id, b.id, a.card FROM r AS a, r AS b WHERE a.card = b.card AND a.cents = b.cents
+            AND a.place <> b.place AND a.second / 7200 = b.second / 7200""").fetchall()
+        found = self.lines("saber rows given.f given.csv >rows; saber run twice rows rows --final | saber answers given.f twice")
+        self.assertEqual((sorted(line[1:] for line in found), len(wanted) > 5), (sorted(wanted), True))
+        self.write("sums", "STREAM E(t, id, given, paid); SELECT id, SUM(given), SUM(paid) FROM E [RANGE 86400 SLIDE 86400] GROUP BY id")
+        self.write("open", "STREAM D(day, id, given, paid); SELECT day, id, given, paid FROM D WHERE given <> paid")
+        wanted = base.execute(f"""SELECT {day.format('e')}, id, CAST(SUM(given) AS TEXT), CAST(SUM(paid) AS TEXT) FROM (
+            SELECT second, id, cents AS given, 0 AS paid FROM r UNION ALL SELECT second, id, 0, paid FROM c) AS e
+            GROUP BY 1, 2 HAVING SUM(given) <> SUM(paid)""").fetchall()
+        found = self.lines("saber rows both.f both.csv | saber run sums /dev/stdin --final | saber run open /dev/stdin | "
+                           "saber answers both.f sums open")
+        self.assertEqual((sorted(found), len(wanted) > 100), (sorted(wanted), True))
+
+    def trades_files(self):
+        """Trades in nanoseconds, as a raw file and as a table."""
+        random_, time_, trades = random.Random(4), 0, []
+        for place in range(4000):
+            time_ += random_.randrange(60_000_000)
+            trades.append((place, time_ // 10**6, f"S{random_.randrange(12)}", random_.randrange(100, 99999), random_.randrange(1, 500)))
+        self.write("raw.csv", "ts,symbol,price,size\n" + "".join(
+            f"{stamp(ms // 1000)[:-1]}.{ms % 1000:03}{random_.randrange(10**6):06}Z,{symbol},{cents // 100}.{cents % 100:02},{size}\n"
+            for _, ms, symbol, cents, size in trades))
+        self.write("f", "ms = ts time ms\nsymbol = symbol text\nprice = price scale 2\nn = size int\nvalue = price * n\n")
+        return self.base("place, ms, symbol, cents, size", trades)
+
+    @needs_program
+    def test_trades(self):
+        """Means of twenty ticks, prices by volume of a minute each second, extremes of many rows at each row; the same by tasks."""
+        base = self.trades_files()
+        declared = "STREAM T(ms, symbol, price, n, value); "
+        self.write("mean", declared + "SELECT symbol, SUM(price), COUNT(*) FROM T [PARTITION BY symbol ROWS 20 SLIDE 1]")
+        wanted = base.execute("""SELECT i - 19, symbol, cents, 20 FROM (SELECT symbol, ROW_NUMBER() OVER w - 1 AS i,
+            SUM(cents) OVER (w ROWS 19 PRECEDING) AS cents FROM r WINDOW w AS (PARTITION BY symbol ORDER BY place))
+            WHERE i >= 19""").fetchall()
+        found = self.lines("saber rows f raw.csv | saber run mean /dev/stdin | saber answers f mean")
+        self.assertEqual(sorted((int(i), symbol, round(float(total) * 100), int(n)) for i, symbol, total, n, _ in found), sorted(wanted))
+        self.assertTrue(all(round(float(mean) * 2000) == round(float(total) * 100) for _, _, total, _, mean in found))
+        self.write("volume", declared + "SELECT symbol, SUM(value), SUM(n) FROM T [RANGE 60000 SLIDE 1000] GROUP BY symbol")
+        wanted = base.execute("""WITH RECURSIVE w(i) AS (SELECT 1795823000 UNION ALL SELECT i + 1 FROM w WHERE i < 1795825000)
+            SELECT strftime('%Y-%m-%dT%H:%M:%S.000Z', i, 'unixepoch'), symbol, SUM(cents * size), SUM(size) FROM w, r
+            WHERE 1795824000000 + ms >= i * 1000 AND 1795824000000 + ms < i * 1000 + 60000
+            AND i * 1000 + 60000 <= 1795824000000 + (SELECT MAX(ms) FROM r) GROUP BY 1, 2""").fetchall()
+        found = self.lines("saber rows f raw.csv | saber run volume /dev/stdin | saber answers f volume")
+        self.assertEqual(sorted((at, symbol, round(float(value) * 100), int(n)) for at, symbol, value, n in found), sorted(wanted))
+        self.write("extremes", declared + "SELECT MIN(price), MAX(price), MAX(ms) FROM T [ROWS 512 SLIDE 1]")
+        prices, times = zip(*base.execute("SELECT cents, ms FROM r ORDER BY place").fetchall())
+        # The greatest value of a window of sqlite3 3.40.1 is wrong where its first row leaves, so these are worked out here.
+        wanted = [(i, min(prices[i:i + 512]), max(prices[i:i + 512]), f"{stamp(ms // 1000)[:-1]}.{ms % 1000:03}Z")
+                  for i, ms in enumerate(times[511:])]
+        found = self.lines("saber rows f raw.csv | saber run extremes /dev/stdin | saber answers f extremes")
+        self.assertEqual([(int(i), round(float(low) * 100), round(float(high) * 100), at) for i, low, high, at in found], wanted)
+        self.answer("saber rows f raw.csv >rows")
+        for query in ("mean", "volume", "extremes"):
+            one = self.answer(f"saber run {query} rows --task 1 --threads 0")
+            for words in ("--task 7 --threads 2", "--task 1024 --threads 8", "--task 65536 --threads 1"):
+                self.assertEqual(self.answer(f"saber run {query} rows {words}"), one)
+
+
 @needs_program
 class Recipes(Folder):
     """The blocks of docs/RECIPES.md and docs/ROWS.md."""
