@@ -22,7 +22,7 @@ NAME = re.compile(r"[A-Za-z_][A-Za-z0-9_]*").fullmatch
 KEYWORDS = set("""STREAM SELECT FROM WHERE GROUP BY AND OR NOT ROWS RANGE SLIDE COUNT SUM MIN MAX
 PARTITION RSTREAM ISTREAM DSTREAM""".split())
 COMMENT = re.compile(r'("(?:[^"]|"")*")|(?:^|\s)#.*')
-COLUMN = re.compile(r"\s*(\S+)\s*=\s*(.+)")
+COLUMN = re.compile(r"([^\s=]+)\s*=\s*(.+)")
 CELL = re.compile(
     r'(?P<header>"(?:[^"]|"")+"|\S+)\s+(?:int|(?P<text>text)|scale\s+(?P<scale>\d+)'
     r"|time\s+(?P<unit>s|ms|us|ns)(?:\s+in\s+(?P<zone>\S+))?)(?:\s+else\s+(?P<empty>\S+))?")
@@ -72,16 +72,15 @@ class Fields:
 
     def take(self, number, line):
         """Takes in a line that has no comment any more."""
-        word, _, rest = line.partition(" ")
-        column = COLUMN.fullmatch(line)
+        column, (word, rest) = COLUMN.fullmatch(line), (line.split(None, 1) + ["", ""])[:2]
         if column:
-            self.take_column(number, column[1], column[2].strip())
-        elif word == "delimiter" and len(DELIMITERS.get(rest.strip(), rest.strip())) == 1:
-            self.delimiter = DELIMITERS.get(rest.strip(), rest.strip())
-        elif line == "decimal comma":
+            self.take_column(number, column[1], column[2])
+        elif word == "delimiter" and len(DELIMITERS.get(rest, rest)) == 1 and rest != '"':
+            self.delimiter = DELIMITERS.get(rest, rest)
+        elif (word, rest) == ("decimal", "comma"):
             self.comma = True
         elif word == "texts" and rest:
-            self.texts = os.path.join(os.path.dirname(self.path), rest.strip())
+            self.texts = os.path.join(os.path.dirname(self.path), rest)
         elif line:
             raise Wrong("neither NAME = .., delimiter, decimal comma, nor texts FILE")
 

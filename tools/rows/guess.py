@@ -14,8 +14,7 @@ from kinds import DIGITS
 MOST_ROWS, MOST_GUESSED_SCALE = 1000, 9
 LEADING = re.compile(r"\s*[+-]?0[0-9]").match
 FRACTION = re.compile(r":[0-9]{2}[.,]([0-9]+)").search
-YEARS = (631152000, 4102444800)
-NAMES = {",": "", "\t": "delimiter tab", " ": "delimiter space"}
+YEARS, TAB = (631152000, 4102444800), "\t"
 
 
 def delimiter_of(header):
@@ -148,7 +147,7 @@ def lines(path):
     if any("in UTC" in kind for _, _, kind, _ in kept):
         yield "# Times have no offset: `in UTC` is a guess, write `in` and the zone whose clock it is."
     if delimiter != ",":
-        yield NAMES.get(delimiter, f"delimiter {delimiter}")
+        yield f"delimiter {'tab' if delimiter == TAB else delimiter}"
     if comma_decimals(kept, header, rows):
         yield "decimal comma"
     for column in kept:

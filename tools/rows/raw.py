@@ -5,10 +5,10 @@ import os
 import re
 from itertools import chain
 
-from faults import ROW, Closed, Fault, WRITE, file_fault
+from faults import FILE, ROW, WRITE, Closed, Fault, file_fault
 
 ENCODING = {"encoding": "utf-8", "errors": "surrogateescape"}
-AT_ONCE = 1 << 18
+AT_ONCE, MOST_LINE = 1 << 18, 1 << 24
 QUOTED = re.compile(r'["\r\n]').search
 NO_TEXT = {
     b"\xff\xfe": "UTF-16: make it UTF-8 by iconv -f utf-16",
@@ -28,20 +28,27 @@ def opened(name):
         raise file_fault(name, error) from None
 
 
+def some_of(file, name):
+    """What a read of a file gives: nothing at its end."""
+    try:
+        return os.read(file, AT_ONCE)
+    except OSError as error:
+        raise file_fault(name, error) from None
+
+
 def pieces(file, name, before=lambda: None):
     """What a file has, in pieces of whole lines as they come; `before` is called before each read."""
     rest = b""
     while True:
         before()
-        try:
-            got = os.read(file, AT_ONCE)
-        except OSError as error:
-            raise file_fault(name, error) from None
+        got = some_of(file, name)
         if not got:
             break
         whole, feed, rest = (rest + got).rpartition(b"\n")
         if feed:
             yield whole + feed
+        if len(rest) > MOST_LINE:
+            raise Fault(ROW, f"{name}: a line of more than {MOST_LINE} bytes")
     if rest:
         yield rest
 
@@ -100,7 +107,11 @@ class Output:
 def of_bytes(name, most):
     """The bytes of a file, which may have so many."""
     file, name = opened(name)
-    found = b"".join(part for part in pieces(file, name))
+    found = got = some_of(file, name)
+    while got and len(found) <= most:
+        got = some_of(file, name)
+        found += got
+    os.close(file)
     if len(found) > most:
         raise Fault(FILE, f"{name}: more than {most} bytes")
     return found

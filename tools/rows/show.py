@@ -119,8 +119,7 @@ class Bars(Table):
 
     def lines(self, rows, first):
         """The lines of some rows, the first ones with a header."""
-        numbers = [part_number for _, part_number in rows]
-        values = [number[self.part.place] for number in numbers]
+        values = [numbers[self.part.place] for _, numbers in rows]
         self.most = max([self.most, *map(abs, values)])
         lines = [line[:-1] for line in super().lines(rows, first)]
         room = max(shutil.get_terminal_size().columns - sum(self.widths) - 2 * len(self.widths) - 1, 10)

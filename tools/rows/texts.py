@@ -35,6 +35,8 @@ class Texts(dict):
         try:
             fcntl.flock(file, fcntl.LOCK_SH)
             self.read_on(file)
+        except OSError as error:
+            raise file_fault(self.path, error) from None
         finally:
             os.close(file)
 
@@ -95,9 +97,3 @@ class Texts(dict):
             self.learn()
         return self.of_number.get(number, str(number))
 
-
-def of_path(tables, path):
-    """The table of a path, one for each."""
-    if path not in tables:
-        tables[path] = Texts(path)
-    return tables[path]

@@ -541,12 +541,12 @@ class Recipes(Folder):
     """The blocks of docs/RECIPES.md and docs/ROWS.md."""
 
     def test_recipes(self):
-        """Each command of a block with `console` prints what stands below it; `x=..` holds for those behind it."""
+        """Each command of a session prints what stands below it; `x=..` holds for those behind it."""
         for page in ("RECIPES.md", "ROWS.md"):
             wrote = shutil.ignore_patterns("*.texts", "*.out")
             shutil.copytree(os.path.join(TOP, "examples"), os.path.join(self.folder, page, "examples"), ignore=wrote)
             with open(os.path.join(TOP, "docs", page), encoding="utf-8") as file:
-                blocks = re.findall(r"^```console\n(.*?)^```", file.read(), re.M | re.S)
+                blocks = re.findall(r"^```shell-session\n(.*?)^```", file.read(), re.M | re.S)
             self.assertGreater(len(blocks), 1)
             for block in blocks:
                 self.try_block(block, page)
