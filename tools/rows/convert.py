@@ -70,10 +70,12 @@ class Conversion:
 
     def header(self):
         """The first record."""
-        for record in self.reader:
-            if record:
-                return record
-        raise Fault(ROW, f"{self.name} line 1: no header")
+        try:
+            return next(filter(None, self.reader))
+        except csv.Error as error:
+            raise self.refused(0, f": {raw.why_no_csv(error)}") from None
+        except StopIteration:
+            raise self.refused(0, ": no header") from None
 
     def run(self):
         """Writes the rows; what was right before a fault is written before it is told."""
@@ -110,7 +112,7 @@ class Conversion:
                         greatest = time
                 line = reader.line_num
         except csv.Error as error:
-            raise self.refused(line, f": {error}") from None
+            raise self.refused(line, f": {raw.why_no_csv(error)}") from None
 
     def refused(self, line, why):
         """The fault of the record behind this line."""

@@ -36,7 +36,7 @@ def sample(name):
             if len(found) > MOST_ROWS:
                 break
     except csv.Error as error:
-        raise Fault(ROW, f"{name} line {records.line_num}: {error}") from None
+        raise Fault(ROW, f"{name} line {records.line_num}: {raw.why_no_csv(error)}") from None
     if not found:
         raise Fault(ROW, f"{name} line 1: no header")
     return delimiter, found[0], [record for record in found[1:] if len(record) == len(found[0])]

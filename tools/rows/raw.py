@@ -8,8 +8,14 @@ from itertools import chain
 from faults import FILE, ROW, WRITE, Closed, Fault, file_fault
 
 ENCODING = {"encoding": "utf-8", "errors": "surrogateescape"}
-AT_ONCE, MOST_LINE = 1 << 18, 1 << 24
+AT_ONCE, MOST_LINE = 1 << 18, 1 << 22
 QUOTED = re.compile(r'["\r\n]').search
+NO_CSV = {
+    "new-line character": "a return (CR) without a line feed behind it",
+    "end of data": "a quote that isn't closed",
+    "expected after": "something behind a closing quote",
+    "field limit": "a cell of more than 131,072 characters",
+}
 NO_TEXT = {
     b"\xff\xfe": "UTF-16: make it UTF-8 by iconv -f utf-16",
     b"\xfe\xff": "UTF-16: make it UTF-8 by iconv -f utf-16",
@@ -69,6 +75,11 @@ def texts(parts, name):
 def records(parts, delimiter):
     """A reader of the records of CSV in pieces of text, which gives each as soon as its line is there."""
     return csv.reader(chain.from_iterable(map(io.StringIO, parts)), delimiter=delimiter, strict=True)
+
+
+def why_no_csv(error):
+    """Why a record is no CSV, in words that all versions of Python share."""
+    return next((why for part, why in NO_CSV.items() if part in str(error)), str(error))
 
 
 def csv_line(cells, delimiter=","):

@@ -9,7 +9,7 @@ import io
 import os
 
 from faults import FILE, Fault, file_fault
-from raw import ENCODING, csv_line
+from raw import ENCODING, csv_line, why_no_csv
 
 
 class Texts(dict):
@@ -51,7 +51,7 @@ class Texts(dict):
             for record in csv.reader(io.StringIO(got.decode(**ENCODING), newline="\n"), strict=True):
                 self.take(record)
         except csv.Error as error:
-            raise Fault(FILE, f"{self.path}: text {self.line + 1}: {error}") from None
+            raise Fault(FILE, f"{self.path}: text {self.line + 1}: {why_no_csv(error)}") from None
         self.taken += len(got)
 
     def take(self, record):
