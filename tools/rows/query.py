@@ -24,7 +24,7 @@ class Query:
 
 def program():
     """The path of saber: what SABER_PROGRAM says, else the wrapper beside this tree, else what PATH has."""
-    wrapper = os.path.join(HERE, "..", "..", "saber")
+    wrapper = os.path.join(os.path.dirname(os.path.dirname(HERE)), "saber")
     found = os.environ.get("SABER_PROGRAM") or (wrapper if os.path.isfile(wrapper) else shutil.which("saber"))
     if not found:
         raise Fault(FILE, "no program saber: neither SABER_PROGRAM, nor beside this tree, nor on PATH")

@@ -7,6 +7,7 @@ stand files that are generated, answers beside those of sqlite3, live pipes, and
 import csv
 import io
 import os
+import pty
 import random
 import re
 import shutil
@@ -256,6 +257,25 @@ class Live(Folder):
             if number == 1:
                 self.assertEqual(running.stdout.readline(), b"from,m,count\n")
             self.assertEqual(running.stdout.readline(), b"1970-01-01T00:00:%02dZ,a,1\n" % (10 * number - 10))
+
+    @needs_program
+    def test_in_a_terminal(self):
+        """A table is written in a terminal, soon, while more may come."""
+        self.write("f", "t = t time s\nn = n int\n")
+        self.write("q", "STREAM S(t, n); SELECT SUM(n), COUNT(*) FROM S [RANGE 10 SLIDE 10]")
+        ours, theirs = pty.openpty()
+        self.addCleanup(os.close, ours)
+        running = subprocess.Popen(["bin/saber", "answers", "f", "q"], cwd=self.folder, env=self.environment,
+                                   stdin=subprocess.PIPE, stdout=theirs)
+        os.close(theirs)
+        self.addCleanup(lambda: [running.stdin.close(), running.wait(60)])
+        for lines, wanted in ((b"0,5,2\n1,1234567,1\n", 3), (b"2,7,7\n", 1)):
+            running.stdin.write(lines)
+            running.stdin.flush()
+            found = b""
+            while found.count(b"\n") < wanted:
+                found += os.read(ours, 1000)
+        self.assertEqual(found.decode(), "1970-01-01T00:00:20Z        7      7        1.000\r\n")
 
     def test_nobody_reads(self):
         """A closed pipe ends quietly."""
