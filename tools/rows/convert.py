@@ -11,15 +11,25 @@ from texts import Texts
 NEVER_LATE = 2**63
 
 
+def is_one_of(path, others):
+    """Whether there is a file of this name that is one of others, which are names and descriptors."""
+    for other in others:
+        try:
+            if os.path.isfile(path) and os.path.samefile(path, other):
+                return True
+        except OSError:
+            continue
+    return False
+
+
 class Late:
     """The side file of rows that came too late: the header and the records as they were, and how many."""
 
     def __init__(self, path, slack, apart):
         self.path, self.slack, self.delimiter = path, slack, ","
         self.count, self.lines, self.file = 0, [], None
-        for other in apart:
-            if path and os.path.exists(other) and os.path.exists(path) and os.path.samefile(path, other):
-                raise Fault(FILE, f"{path}: is read, so it can't be written too")
+        if path is not None and is_one_of(path, apart):
+            raise Fault(FILE, f"{path}: is read or written already, so rows that are late can't go there")
 
     def begin(self, header, delimiter):
         """Writes the header."""
@@ -59,7 +69,7 @@ class Conversion:
         self.table = Texts(self.fields.texts) if self.fields.has_texts() else None
         file, self.name = raw.opened(None if source == "-" else source)
         self.slack, self.output = slack, raw.Output()
-        self.late = Late(late, slack or 0, [self.name, path, self.fields.texts])
+        self.late = Late(late, slack or 0, [file, 1, path, self.fields.texts])
         parts = raw.texts(raw.pieces(file, self.name, self.flush), self.name)
         self.reader = raw.records(parts, self.fields.delimiter)
 
