@@ -39,10 +39,10 @@ def decimal_reader(digits, comma):
 
     def read(cell):
         before, _, behind = cell.partition(point)
-        if behind.isdecimal() and len(behind) <= digits and cell.isascii() and "_" not in before:
+        if behind.isdecimal() and cell.isascii() and "_" not in before:
             try:
                 return int(before + behind + zeros[len(behind)])
-            except ValueError:
+            except (ValueError, IndexError):
                 pass
         return other(cell)
 

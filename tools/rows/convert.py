@@ -3,12 +3,11 @@ import csv
 import os
 
 import raw
+from cells import MOST_TIME
 from faults import FILE, ROW, Fault, file_fault
 from fields import Fields
 from layout import Layout
 from texts import Texts
-
-NEVER_LATE = 2**63
 
 
 def is_one_of(path, others):
@@ -104,8 +103,8 @@ class Conversion:
     def take_records(self, layout, line):
         """Adds the row of each record; `line` is where the record before it ended."""
         row, add, reader = layout.row, self.output.add, self.reader
-        slack = NEVER_LATE if self.slack is None else self.slack
-        greatest = 0
+        slack = MOST_TIME if self.slack is None else self.slack
+        greatest, least = 0, -slack
         try:
             for record in reader:
                 try:
@@ -114,12 +113,12 @@ class Conversion:
                     if record:
                         raise self.refused(line, layout.fault(record)) from None
                 else:
-                    if time >= greatest - slack:
+                    if time > greatest:
+                        greatest, least = time, time - slack
+                    if time >= least:
                         add(text)
                     else:
                         self.too_late(record, line, greatest - time)
-                    if time > greatest:
-                        greatest = time
                 line = reader.line_num
         except csv.Error as error:
             raise self.refused(line, f": {raw.why_no_csv(error)}") from None
