@@ -130,6 +130,7 @@ BAD_BYTE = [
     (r"^@ #", "a query has no comments: take the text behind # out"),
     (r"^@ \{", "this looks like JSON, and a query is wanted here: {usage}"),
     (r"^@ [\"']?\w", "these look like rows, and a query is wanted here: {usage}"),
+    (r"^(?!STREAM|SELECT|[RID]STREAM|CREATE|WITH|INSERT)[^@]+@", "a query begins with the declaration of its stream: STREAM S(time, a, b);"),
     (r"@ //|@ /\*", "a query has no comments: take the text out"),
     (r"@ #", "a query has no comments: take the text behind # out"),
     (r"(TUMBLE|HOP|SESSION)\w* \(.*@ |INTERVAL @ ['\"]", "windows stand behind their stream, in the unit of the file's times: FROM S [RANGE 60 SLIDE 60]"),

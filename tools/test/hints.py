@@ -193,7 +193,7 @@ class Bearing(InFolder):
     def test_any_place_of_any_text(self):
         draw = random.Random(1)
         names = [name for name, data in FILES if name.endswith(".cql") and data is not None and len(data) < 1000]
-        for _ in range(1500):
+        for _ in range(600):
             name = draw.choice(names)
             with open(name, "rb") as file:
                 size = len(file.read())
@@ -205,7 +205,7 @@ class Bearing(InFolder):
         parts = [b"SELECT ", b"STREAM ", b"FROM ", b"[", b"]", b"(", b",", b";", b"'", b"1", b".", b"x ", b"\n", b"\r", b"\xff", b"\0", b"-", b"@"]
         causes = [f"query byte 7: {cause}" for cause in slips.TABLES]
         causes += [f"left line 1: {cause}{' in field 1' * (cause in ('bad number', 'range'))}" for cause in lines.PLAIN]
-        for _ in range(1500):
+        for _ in range(600):
             data = b"".join(draw.choices(parts, k=draw.randint(0, 30)))
             with open("any", "wb") as file:
                 file.write(data)
@@ -216,7 +216,7 @@ class Bearing(InFolder):
         draw = random.Random(3)
         words = ["run", "many", "chain", "check", "demo", "q", "--task", "--task=", "--final", "--", "-", "-x", "1", "", "--slack=5", "é", "\n"]
         usage = "saber: usage: saber run QUERY LEFT [RIGHT] | check QUERY | demo SEED ROWS"
-        for _ in range(3000):
+        for _ in range(1000):
             given = draw.choices(words, k=draw.randint(0, 6))
             self.assertTrue(explain.explained(usage, given, PAGE), given)
 
