@@ -52,11 +52,14 @@ def of_line_between(call, note):
 def reason(name):
     """Why a file can't be opened or read, as the system says."""
     try:
-        kind = os.stat(name)
-        if places.is_regular(name):
-            with open(name, "rb") as file:
-                file.read(1)
-        return os.strerror(errno.EISDIR) if os.path.isdir(name) else "it can be read now" if kind else ""
+        os.stat(name)
+        if os.path.isdir(name):
+            return os.strerror(errno.EISDIR)
+        if not places.is_regular(name):
+            return "it is no regular file, so it isn't tried again"
+        with open(name, "rb") as file:
+            file.read(1)
+        return "it can be read now"
     except OSError as error:
         return error.strerror
     except ValueError:
@@ -139,7 +142,7 @@ def told(call, note):
 
 def explained(note, given, page):
     """The lines on a whole note, those that are alike once."""
-    call = words.Call(words.Page(page), given)
+    call = words.Call(page, given)
     parts = []
     for line in note.splitlines():
         part = told(call, line)
@@ -151,7 +154,7 @@ def explained(note, given, page):
 def main():
     try:
         page = next(places.front(name, PAGE).decode() for name in PAGES if places.is_regular(name))
-        found = explained(sys.argv[2], sys.argv[3:], page)
+        found = explained(sys.argv[2], sys.argv[3:], words.Page(page))
         sys.stderr.write("".join(f"  {line}\n" for line in found))
     except (Exception, KeyboardInterrupt):
         if os.environ.get("SABER_HINTS") == "debug":

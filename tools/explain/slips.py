@@ -37,7 +37,7 @@ SYNTAX = [
     (r"SELECT (ALL|TOP) @ ", "there is no {before}"),
     (r"\w \. @ \*", "there is no {owner}.*: name each column"),
     (r"COUNT \( @ DISTINCT\b", "there is no DISTINCT: GROUP BY the column, and count the lines by a second query (saber chain)"),
-    (r"\bDISTINCT @ |@ DISTINCT\b", "there is no DISTINCT: GROUP BY the columns answers each of their values once"),
+    (r"\bDISTINCT @ |@ DISTINCT\b", "there is no DISTINCT: GROUP BY the columns answers each of their values once in a window"),
     (r"COUNT \( @ ", "there are no nulls, so rows alone are counted: COUNT(*)"),
     (r"COUNT @ ", "COUNT is a keyword: as an item it is COUNT(*), and no column has this name"),
     (r"(?P<word>SUM|MIN|MAX) \( @ \*", "{word} wants a column: only COUNT takes *"),
@@ -172,9 +172,9 @@ SHAPE = [
 ]
 
 NOT_GROUPED = [
-    (r"@ (- )?\d+ (,|FROM)", "in a query with an aggregate or GROUP BY an item is a column of GROUP BY, and no number"),
-    (r"@ (?P<item>\w+( \. \w+)?) (,|FROM)", "{item} is no column of GROUP BY: add it there, or put it inside SUM, MIN or MAX"),
-    (r"@ ", "in a query with an aggregate or GROUP BY an item is a column of GROUP BY, without arithmetic"),
+    (r"@ (- )?\d+ (,|FROM)", "in a query with an aggregate or GROUP BY an item is an aggregate or a column of GROUP BY, and no number"),
+    (r"@ (?P<item>\w+( \. \w+)?) (,|FROM)", "{item} is no column of GROUP BY or PARTITION BY: add it to GROUP BY, or put it inside SUM, MIN or MAX"),
+    (r"@ ", "in a query with an aggregate or GROUP BY an item is an aggregate or a column of GROUP BY, without arithmetic"),
 ]
 
 DUPLICATE = [

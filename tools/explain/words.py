@@ -30,6 +30,7 @@ class Page:
     def __init__(self, text):
         rows = text.splitlines()
         self.text = text
+        self.commands = re.findall(r"^  ([a-z]+)\b", text.partition("\nOptions")[0], re.M)
         self.usages = {found[1]: found[2].strip() for found in map(COMMAND.match, rows) if found and found[1] in ROLES}
         self.options = {found[1]: found[3] if found[2] else "" for found in map(OPTION.match, rows) if found}
 
@@ -117,12 +118,14 @@ class Call:
 
 def wrong_command(call):
     """What is wrong where the first word is no command."""
-    commands = ", ".join(call.page.usages)
+    commands = ", ".join(call.page.commands)
     if not call.words:
         return f"a command is missing: {commands}"
     first = call.words[0]
     if first.startswith("-"):
         return f"a command stands first, then its options: {commands}"
+    if first in call.page.commands:
+        return f"{first} is a command of the wrapper `saber`, and not of the program alone"
     if os.path.exists(first):
         return f"{first} is a file, and a command stands before it: saber run {' '.join(call.words)}"
     return f"there is no command '{first}', as it is written: {commands}"

@@ -10,7 +10,7 @@ Version: {version}
 Architecture: {machine}
 Maintainer: the maintainers of saber <saber@localhost>
 Installed-Size: {size}
-Depends: libc6 (>= {needs}), python3
+Depends: libc6 (>= {needs}), python3 (>= 3.9)
 Section: utils
 Priority: optional
 Description: windowed queries over streams of whole numbers

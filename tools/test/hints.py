@@ -22,6 +22,7 @@ import explain
 import grammar
 import lines
 import slips
+import words
 
 PROGRAM = os.environ.get("SABER_PROGRAM", "")
 
@@ -54,13 +55,20 @@ class Case:
             self.status, self.recorded = int(status), bool(recorded)
 
 
+def filled(line):
+    """A line that is said, with what the page of help says in place of {commands}, {usage COMMAND} and {options COMMAND}."""
+    line = line.replace("{commands}", ", ".join(PAGE.commands))
+    line = re.sub(r"\{usage (\w+)\}", lambda it: PAGE.usage(it[1]), line)
+    return re.sub(r"\{options (\w+)\}", lambda it: " ".join(PAGE.takes(it[1])), line)
+
+
 def cases_of(name):
     """The files and the cases of a file of cases, whose head tells its form."""
     files, cases = [], []
     for line in read(name).splitlines():
         head, _, value = line.partition(": ")
         if line.startswith("  "):
-            cases[-1].said.append(line[2:])
+            cases[-1].said.append(filled(line[2:]))
         elif head.startswith("file "):
             _, file, *times = head.split(" ")
             files.append((file, unescaped(value) * int(times[0] if times else 1)))
@@ -73,7 +81,7 @@ def cases_of(name):
     return files, cases
 
 
-PAGE = read(f"{TOP}/docs/help.txt")
+PAGE = words.Page(read(f"{TOP}/docs/help.txt"))
 FILES, CASES = cases_of(f"{HERE}/hints.cases")
 
 
@@ -214,10 +222,10 @@ class Bearing(InFolder):
 
     def test_any_words(self):
         draw = random.Random(3)
-        words = ["run", "many", "chain", "check", "demo", "q", "--task", "--task=", "--final", "--", "-", "-x", "1", "", "--slack=5", "é", "\n"]
+        some = ["run", "many", "chain", "check", "demo", "q", "--task", "--task=", "--final", "--", "-", "-x", "1", "", "--slack=5", "é", "\n"]
         usage = "saber: usage: saber run QUERY LEFT [RIGHT] | check QUERY | demo SEED ROWS"
         for _ in range(1000):
-            given = draw.choices(words, k=draw.randint(0, 6))
+            given = draw.choices(some, k=draw.randint(0, 6))
             self.assertTrue(explain.explained(usage, given, PAGE), given)
 
     def test_a_long_text_of_one_kind(self):
@@ -235,10 +243,10 @@ class Bearing(InFolder):
         told = explain.explained(f"saber: query byte {len(text) - 1}: syntax", ["check", "deep.cql"], PAGE)
         self.assertIn("x stands where the grammar has AND  OR  or )", told)
 
-    def run_explain(self, *words, memory=None):
+    def run_explain(self, *given, memory=None):
         limit = f"ulimit -v {memory}; " if memory else ""
         command = f'{limit}exec python3 "$@"'
-        ran = subprocess.run(["bash", "-c", command, "_", f"{EXPLAIN}/explain.py", *words], stdin=subprocess.DEVNULL, capture_output=True, timeout=120, check=False)
+        ran = subprocess.run(["bash", "-c", command, "_", f"{EXPLAIN}/explain.py", *given], stdin=subprocess.DEVNULL, capture_output=True, timeout=120, check=False)
         self.assertEqual((ran.returncode, ran.stdout), (0, b""))
         return ran.stderr.decode()
 
@@ -246,8 +254,8 @@ class Bearing(InFolder):
         self.assertEqual(self.run_explain("4", "saber: left line 1: bad number in field 1", "run", "ok.cql", "h.csv").splitlines()[0], "  h.csv, line 1:")
 
     def test_nothing_is_said_of_what_is_not_known(self):
-        for words in [[], ["4"], ["70", ""], ["130", "Killed", "run"], ["4", "saber: left line 1: other cause", "run", "ok.cql", "s.csv"]]:
-            self.assertEqual(self.run_explain(*words), "", words)
+        for given in [[], ["4"], ["70", ""], ["130", "Killed", "run"], ["4", "saber: left line 1: other cause", "run", "ok.cql", "s.csv"]]:
+            self.assertEqual(self.run_explain(*given), "", given)
 
     def test_a_pipe_is_not_read(self):
         self.assertIn("can't be read again", self.run_explain("3", "saber: query byte 3: syntax", "run", "pipe.cql", "s.csv"))
