@@ -8,6 +8,8 @@ import slips
 LIMIT = 65536
 # Patterns are looked for among so many tokens before and behind the byte, of each so many letters.
 BEFORE, BEHIND, LETTERS = 400, 60, 100
+# A word in capitals of a pattern, but for one that goes on.
+WORD = re.compile(r"(?<![\\\w])((?:\[RID\])?[A-Z][A-Z_]+)(?!\\w|\w)")
 
 
 class Query:
@@ -92,11 +94,17 @@ def values(query, usage):
 WORKED = {"undeclared": undeclared, "lies": lies}
 
 
+def read(pattern):
+    """A pattern of the tables as a regular expression."""
+    pattern = WORD.sub(r"\\b\1\\b", pattern)
+    return pattern.replace("{keyword}", rf"(?:{'|'.join(sorted(grammar.KEYWORDS))})\b")
+
+
 def sentence(query, cause, usage):
     """The sentence of the first pattern of the cause's table that is found."""
     marked = query.marked()
     for pattern, told in slips.TABLES.get(cause, []):
-        found = re.search(pattern.replace("{keyword}", "|".join(sorted(grammar.KEYWORDS))), marked, re.I | re.S)
+        found = re.search(read(pattern), marked, re.I | re.S)
         if found:
             worked = {name: work(query) for name, work in WORKED.items() if f"{{{name}}}" in told}
             named = {name: word.replace(" . ", ".") for name, word in found.groupdict("").items()}

@@ -21,6 +21,7 @@ sys.path.insert(0, EXPLAIN)
 import explain
 import grammar
 import lines
+import queries
 import slips
 import words
 
@@ -190,9 +191,17 @@ class Tables(unittest.TestCase):
         self.assertGreater(count, 80)
 
     def test_each_pattern_can_be_read(self):
-        for table in [*slips.TABLES.values(), lines.LINES, lines.FIELDS, lines.RANGES]:
+        for table in slips.TABLES.values():
             for pattern, _ in table:
-                re.compile(pattern.replace("{keyword}", "x"))
+                re.compile(queries.read(pattern))
+        for table in [lines.LINES, lines.FIELDS, lines.RANGES]:
+            for pattern, _ in table:
+                re.compile(pattern)
+
+    def test_a_word_in_capitals_is_a_whole_token(self):
+        read = queries.read("(SUM|MIN) @ |[RID]STREAM @ |VAR\\w* @ |(?!{keyword})X @")
+        for text, wanted in [("SUM @ ", True), ("CHECKSUM @ ", False), ("RSTREAM @ ", True), ("XRSTREAM @ ", False), ("VARIANCE @ ", True)]:
+            self.assertEqual(bool(re.search(read, text)), wanted, text)
 
 
 class Bearing(InFolder):
