@@ -68,7 +68,7 @@ def reason(name):
 
 def of_file(call, note):
     name = call.file(note["role"], note["place"])
-    told = [f"{places.plain(name)[:places.WIDTH]}: {reason(name)}"]
+    told = [f"{name[:places.WIDTH]}: {reason(name)}"]
     if name == "-":
         told.append("standard input is named /dev/stdin")
     if re.search(r"\b(STREAM|SELECT)\b", name, re.I) and " " in name:
@@ -148,7 +148,7 @@ def explained(note, given, page):
         part = told(call, line)
         if part not in parts:
             parts.append(part)
-    return [line for part in parts for line in part]
+    return [places.plain(line) for part in parts for line in part]
 
 
 def main():

@@ -135,11 +135,11 @@ class Refused:
         if self.number == 1 and not any(re.fullmatch(r"\s*[\"']?[-+]?[\d.]+[\"']?\s*", it) for it in self.fields) and re.match(r"\s*[\"']?[^\W\d]", self.text):
             return [HEADER]
         text = self.fields[field - 1]
-        return [f"{self.field_told(field)} is '{places.plain(text)[:places.WIDTH]}'", first_found(FIELDS, text)]
+        return [f"{self.field_told(field)} is '{text[:places.WIDTH]}'", first_found(FIELDS, text)]
 
     def out_of_range(self, field):
         text = self.fields[field - 1]
-        return [f"{self.field_told(field)} is {places.plain(text)[:places.WIDTH]}", first_found(RANGES, f"{field} {text}")]
+        return [f"{self.field_told(field)} is {text[:places.WIDTH]}", first_found(RANGES, f"{field} {text}")]
 
     def field_told(self, field):
         return f"field {field} ({self.columns[field - 1]})" if field <= len(self.columns) else f"field {field}"
@@ -215,7 +215,8 @@ def told(name, number, cause, query, side):
     binary = refused.as_plain_text()
     judged = [binary] if binary else JUDGED[kind](refused, int(field or 0))
     shown = places.decoded(refused.content[:4 * places.WIDTH])[:places.WIDTH]
-    return [f"{places.plain(name)}, line {number}:", *(["  " + shown] if shown.strip() else []), *(it.replace("{name}", shlex.quote(places.plain(name))) for it in judged)]
+    place = [f"{name}, line {number}:"] + ["  " + shown] * bool(shown.strip())
+    return place + [it.replace("{name}", shlex.quote(name)) for it in judged]
 
 
 def told_between(cause, first, second):

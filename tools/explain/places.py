@@ -43,7 +43,7 @@ def shown(name, text, byte):
     column = len(decoded(text[start:byte]))
     cut = max(0, column - BEFORE) if len(line) > WIDTH else 0
     number = text.count(b"\n", 0, byte) + 1
-    place = f"{plain(name)}, line {number}, column {column + 1}:"
+    place = f"{name}, line {number}, column {column + 1}:"
     return [place, "  " + line[cut:cut + WIDTH], "  " + " " * (column - cut) + "^"] if line.strip() else [place]
 
 

@@ -46,7 +46,7 @@ class Case:
 
     def take(self, name, value):
         if name == "words":
-            self.words = shlex.split(value)
+            self.words = [unescaped(it).decode() for it in shlex.split(value)]
         elif name == "to":
             self.to = value
         elif name == "note":
@@ -71,7 +71,7 @@ def cases_of(name):
         if line.startswith("  "):
             cases[-1].said.append(filled(line[2:]))
         elif head.startswith("file "):
-            _, file, *times = head.split(" ")
+            _, file, *times = shlex.split(head)
             files.append((file, unescaped(value) * int(times[0] if times else 1)))
         elif head == "pipe":
             files.append((value, None))
