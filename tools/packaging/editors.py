@@ -39,8 +39,8 @@ def options_of(command):
 
 
 def valued():
-    """The options that a value follows."""
-    return sorted({it for line in help_lines() for it in re.findall(r"(--[a-z-]+) [A-Z]", line)})
+    """The options that a number follows."""
+    return sorted(re.findall(r"^  (--[a-z-]+) [A-Z]", places.text_of("docs/help.txt"), re.M))
 
 
 COMPLETION = """\

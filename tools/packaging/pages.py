@@ -1,4 +1,5 @@
 """The pages of `man`: saber(1), made of docs/help.txt and examples and ends of the documents, and saber-query(7), made of docs/LANGUAGE.md."""
+import os
 import re
 
 import markdown
@@ -13,6 +14,7 @@ FILES = [
     ("PREFIX/share/saber/BUILD", "what it was built of, whether it is proved, and its sha256"),
     ("PREFIX/share/doc/saber", "documents and examples"),
 ]
+ROWS = "tools/rows/help.txt"
 # The commands that have an example each.
 SHOWN = ["run", "chain", "many"]
 
@@ -59,6 +61,13 @@ def exit_status():
     return [line for status, told in causes.items() for line in (".TP", f".B {status}", inline("; ".join(told)))]
 
 
+def of_rows():
+    """The page of help of what stands beside the program, where the repository has it."""
+    if not os.path.exists(f"{places.TOP}/{ROWS}"):
+        return []
+    return [".SH ROWS, ANSWERS, TICK", *markdown.as_code(places.text_of(ROWS).splitlines()[2:])]
+
+
 def saber():
     commands, options, rest = parts_of_help()
     language = markdown.blocks(places.text_of("docs/LANGUAGE.md"))
@@ -67,7 +76,7 @@ def saber():
         ".SH SYNOPSIS", ".B saber", ".I COMMAND ..",
         ".SH COMMANDS", *[line for it in commands for line in entry(it)],
         ".SH OPTIONS", "Each with its range and what holds without it.", *[line for it in options for line in entry(it)],
-        ".SH OPERANDS", *map(typed, rest),
+        ".SH OPERANDS", *map(typed, rest), *of_rows(),
         ".SH EXAMPLES", "The files are those of PREFIX/share/doc/saber.", *[line for it in SHOWN for line in first_example(language, it)],
         ".SH EXIT STATUS", *exit_status(),
         ".SH ENVIRONMENT", *[line for name, does in ENVIRONMENT for line in (".TP", f".B {name}", typed(does))],

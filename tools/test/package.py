@@ -220,7 +220,7 @@ class Pages(unittest.TestCase):
             for name, page in [("saber.1", pages.saber()), ("saber-query.7", pages.saber_query())]:
                 with open(f"{folder}/{name}", "w", encoding="utf-8") as file:
                     file.write(page)
-                ran = subprocess.run(["groff", "-man", "-ww", "-Tutf8", f"{folder}/{name}"], capture_output=True, text=True, check=False)
+                ran = subprocess.run(["groff", "-Kutf8", "-man", "-ww", "-Tutf8", f"{folder}/{name}"], capture_output=True, text=True, check=False)
                 self.assertEqual((ran.returncode, ran.stderr), (0, ""))
                 self.assertNotIn("`", ran.stdout)
 
