@@ -222,7 +222,7 @@ class Pages(unittest.TestCase):
                     file.write(page)
                 ran = subprocess.run(["groff", "-Kutf8", "-man", "-ww", "-Tutf8", f"{folder}/{name}"], capture_output=True, text=True, check=False)
                 self.assertEqual((ran.returncode, ran.stderr), (0, ""))
-                self.assertNotIn("`", ran.stdout)
+        self.assertNotIn("`", pages.saber_query())
 
 
 class Editors(unittest.TestCase):
