@@ -30,7 +30,8 @@ def of_count(call, note):
     query = call.file("query")
     text = places.front(query, queries.LIMIT)
     named = f" ({', '.join(queries.Query(text).sources())})" if text else ""
-    return [f"streams in FROM of {query}: {note['streams']}{named}; files of rows that are given: {note['files']}", f"usage: {call.page.usage(call.command)}"]
+    counts = f"streams in FROM of {query}: {note['streams']}{named}; files of rows that are given: {note['files']}"
+    return [counts, f"usage: {call.page.usage(call.command)}"]
 
 
 def of_query(call, note):

@@ -68,6 +68,8 @@ FIELDS = [
     (r"^\w*[^\x00-\x7f]\w*$", "a number is the digits 0 to 9 alone; each text is given a number before (saber rows)"),
     (r"", "there are no texts: give each a number before (saber rows does it)"),
 ]
+# A number as it may be written in a file that isn't one of rows.
+NUMBER = re.compile(r"\s*[\"']?[-+]?[\d.]+[\"']?\s*")
 HEADER = "the first line looks like a header: give the file as <(tail -n +2 {name}) (saber rows reads headers)"
 
 RANGES = [
@@ -121,6 +123,10 @@ class Refused:
                     return told
         return ""
 
+    def is_header(self):
+        """Whether it begins with a name, and no field is a number."""
+        return re.match(r"\s*[\"']?[^\W\d]", self.text) and not any(NUMBER.fullmatch(it) for it in self.fields)
+
     def count_told(self):
         """The number of fields that are there and that are wanted."""
         have, want = len(self.fields), len(self.columns)
@@ -132,7 +138,7 @@ class Refused:
         return [self.count_told(), *([told] if told else [])]
 
     def wrong_number(self, field):
-        if self.number == 1 and not any(re.fullmatch(r"\s*[\"']?[-+]?[\d.]+[\"']?\s*", it) for it in self.fields) and re.match(r"\s*[\"']?[^\W\d]", self.text):
+        if self.number == 1 and self.is_header():
             return [HEADER]
         text = self.fields[field - 1]
         return [f"{self.field_told(field)} is '{text[:places.WIDTH]}'", first_found(FIELDS, text)]
@@ -146,7 +152,7 @@ class Refused:
 
     def too_long(self, _):
         length = len(self.content)
-        return [f"it has {'more than ' * (length >= LOOKED_AT)}{length} bytes, {LONGEST} at most: is it text with line feeds?"]
+        return [f"it has {'more than ' * (length >= LOOKED_AT)}{length:,} bytes, {LONGEST:,} at most: is it text with line feeds?"]
 
     def too_late(self, _):
         own, need, late, count, whole = lateness(self.name, self.number)
@@ -226,7 +232,8 @@ def told_between(cause, first, second):
     text = places.front(first, LIMIT + 1) if first else None
     if kind == "field count" and text is not None and columns:
         items = [item.replace(" ", "") for item in Query(text).items()]
-        return [f"the lines between have {len(items) + 1} fields, the window's number and {', '.join(items)}; {stream} has {len(columns)} columns: {', '.join(columns)}"]
+        have = f"the lines between have {len(items) + 1} fields, the window's number and {', '.join(items)}"
+        return [f"{have}; {stream} has {len(columns)} columns: {', '.join(columns)}"]
     if kind == "range":
         return ["a value of the first query's answer isn't a 64-bit integer, as a SUM needn't be: ask for it in a larger unit"]
     return [PLAIN[kind]]

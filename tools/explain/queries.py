@@ -86,7 +86,8 @@ def values(query, usage):
     one, two = [*query.sources(), "", ""][:2]
     behind = ["", "", *query.words[:query.place]]
     return {
-        "at": query.at(), "before": behind[-1], "owner": behind[-2], "usage": usage, "from_one": one, "from_two": two, "declared": streams_told(query),
+        "at": query.at(), "before": behind[-1], "owner": behind[-2], "usage": usage,
+        "from_one": one, "from_two": two, "declared": streams_told(query),
     }
 
 

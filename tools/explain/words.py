@@ -95,8 +95,9 @@ class Call:
         """What is wrong with an option and its value, if something is."""
         takes = self.page.takes(self.command)
         if option not in takes:
-            other = [it for it in ROLES if it in self.page.usages and option in self.page.takes(it)]
-            return f"{self.command} takes no {option}" + (f"; these do: {', '.join(other)}" if other else f": it takes {' '.join(takes) or 'no option'}")
+            others = [it for it in self.page.usages if option in self.page.takes(it)]
+            told = f"; these do: {', '.join(others)}" if others else f": it takes {' '.join(takes) or 'no option'}"
+            return f"{self.command} takes no {option}{told}"
         if option in self.options:
             return f"{option} stands there twice"
         if option == "--final":

@@ -241,9 +241,9 @@ class Bearing(InFolder):
         for part in ["FROM ", "STREAM x (", "SELECT a , ", "( ", "x", "1 ", ", ", "[ ROWS 1 ", "- ", "\n", "WHERE ( "]:
             with open("long.cql", "w", encoding="utf-8") as file:
                 file.write("STREAM S(t); " + part * (60000 // len(part)))
-            for byte in (13, 30000):
-                self.assertTrue(explain.explained(f"saber: query byte {byte}: bad byte", ["run", "long.cql", "s.csv"], PAGE), part)
-                self.assertTrue(explain.explained(f"saber: query byte {byte}: unknown column", ["run", "long.cql", "s.csv"], PAGE), part)
+            for byte, cause in [(13, "bad byte"), (30000, "unknown column"), (30000, "syntax")]:
+                note = f"saber: query byte {byte}: {cause}"
+                self.assertTrue(explain.explained(note, ["run", "long.cql", "s.csv"], PAGE), (part, cause))
 
     def test_a_deep_condition(self):
         text = "STREAM S(t); SELECT t FROM S WHERE " + "(" * 64 + "t = 1" + ")" * 40 + " x"
@@ -255,12 +255,14 @@ class Bearing(InFolder):
     def run_explain(self, *given, memory=None):
         limit = f"ulimit -v {memory}; " if memory else ""
         command = f'{limit}exec python3 "$@"'
-        ran = subprocess.run(["bash", "-c", command, "_", f"{EXPLAIN}/explain.py", *given], stdin=subprocess.DEVNULL, capture_output=True, timeout=120, check=False)
+        called = ["bash", "-c", command, "_", f"{EXPLAIN}/explain.py", *given]
+        ran = subprocess.run(called, stdin=subprocess.DEVNULL, capture_output=True, timeout=120, check=False)
         self.assertEqual((ran.returncode, ran.stdout), (0, b""))
         return ran.stderr.decode()
 
     def test_as_a_program(self):
-        self.assertEqual(self.run_explain("4", "saber: left line 1: bad number in field 1", "run", "ok.cql", "h.csv").splitlines()[0], "  h.csv, line 1:")
+        told = self.run_explain("4", "saber: left line 1: bad number in field 1", "run", "ok.cql", "h.csv")
+        self.assertEqual(told.splitlines()[0], "  h.csv, line 1:")
 
     def test_nothing_is_said_of_what_is_not_known(self):
         for given in [[], ["4"], ["70", ""], ["130", "Killed", "run"], ["4", "saber: left line 1: other cause", "run", "ok.cql", "s.csv"]]:
@@ -274,11 +276,11 @@ class Bearing(InFolder):
     def test_a_large_file_is_not_held(self):
         with open("large.csv", "wb") as file:
             file.write(b"5,1,1\n3,1,1\n")
-            file.truncate(1 << 29)
-        told = self.run_explain("4", "saber: left line 2: time order", "run", "ok.cql", "large.csv", memory=300_000)
+            file.truncate(1 << 28)
+        told = self.run_explain("4", "saber: left line 2: time order", "run", "ok.cql", "large.csv", memory=200_000)
         self.assertIn("its time is 2 below the greatest", told)
-        told = self.run_explain("4", "saber: left line 3: too long", "run", "ok.cql", "large.csv", memory=300_000)
-        self.assertIn("more than 1048576 bytes", told)
+        told = self.run_explain("4", "saber: left line 3: too long", "run", "ok.cql", "large.csv", memory=200_000)
+        self.assertIn("more than 1,048,576 bytes", told)
 
 
 if __name__ == "__main__":

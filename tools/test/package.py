@@ -134,7 +134,8 @@ class Archives(Packed):
             self.assertIn(f"proved: {proved}\n", programs.told(f"{folder}/saber"))
 
     def test_no_program(self):
-        ran = subprocess.run([f"{TOP}/tools/package", "deb", f"{self.folder}/none", "--program", "/nowhere"], capture_output=True, text=True, check=False)
+        called = [f"{TOP}/tools/package", "deb", f"{self.folder}/none", "--program", "/nowhere"]
+        ran = subprocess.run(called, capture_output=True, text=True, check=False)
         self.assertEqual((ran.returncode, ran.stderr), (1, "package: there is no program /nowhere\n"))
 
     def test_a_prefix_without_permission(self):
