@@ -1,0 +1,57 @@
+"""build.py WORDS..: prints the program of the repository's sources, which it compiles first where there is none.
+
+Words that are no command are refused before that, as the program does: with its note, and here with the page of the command.
+"""
+import subprocess
+import sys
+import time
+
+import builds
+import compiling
+import pages
+import places
+import prove
+import quick
+import words
+
+
+def refuse(given):
+    """Tells of words that are no command."""
+    sys.stderr.write(words.USAGE)
+    sys.stderr.flush()
+    places.explain(2, words.USAGE, given)
+    return pages.refuse(given[0] if given else "")
+
+
+def compiled(wanted, kit_name, seen):
+    """Compiles the program, or proves it where that fails."""
+    try:
+        return quick.compile_program(wanted, kit_name, seen)
+    except (compiling.NotCompiled, subprocess.CalledProcessError, OSError) as why:
+        if isinstance(why, OSError) and why.filename == "rt":
+            raise
+        first = next((line for line in str(why).splitlines() if line.strip()), type(why).__name__)
+        places.say(f"that failed ({first[:100]}): proving and building instead, twenty to forty minutes")
+        return prove.prove(wanted, kit_name, seen)
+
+
+def main():
+    given = sys.argv[1:]
+    seen, wanted, kit_name = time.time(), builds.stamp(), builds.kit()
+    slot = builds.find(wanted, kit_name)
+    if not slot and not words.is_command(given):
+        return refuse(given)
+    if not slot:
+        with builds.alone():
+            slot = builds.find(wanted, kit_name)
+            program = builds.choose(slot, seen) if slot else compiled(wanted, kit_name, seen)
+    else:
+        program = builds.choose(slot, seen)
+    if not program:
+        return places.NOT_BUILT
+    print(program)
+    return 0
+
+
+if __name__ == "__main__":
+    sys.exit(places.build(main))
