@@ -10,6 +10,7 @@ import subprocess
 import sys
 import time
 import unittest
+from concurrent.futures import ThreadPoolExecutor
 
 HERE = os.path.dirname(os.path.abspath(__file__))
 TOP = os.path.dirname(os.path.dirname(HERE))
@@ -38,7 +39,9 @@ def try_topic(name):
 
 
 def call_topic(name, program):
-    """Tries a topic in a process of its own, and returns how many passed and failed."""
+    """Tries a topic in a process of its own, and returns how many passed and failed, and what is said of it."""
+    if not os.path.exists(f"{HERE}/{name}.py"):
+        return 0, 0, f"{name}: not here"
     begun = time.monotonic()
     command = [sys.executable, "-B", __file__, "--in-process", name]
     ran = subprocess.run(command, env={**os.environ, "SABER_PROGRAM": program}, cwd=TOP, stdin=subprocess.DEVNULL, capture_output=True, text=True, check=False)
@@ -47,12 +50,8 @@ def call_topic(name, program):
     if ran.returncode or len(counts) != 2:
         lines, counts = [*lines, last], ["0", "1"]
     passed, failed = map(int, counts)
-    if failed:
-        print(ran.stderr, end="")
-    for line in lines:
-        print(line)
-    print(f"{name}: {passed} passed, {failed} failed, {time.monotonic() - begun:.0f} s", flush=True)
-    return passed, failed
+    told = [ran.stderr.rstrip("\n")] * (failed > 0) + [*lines, f"{name}: {passed} passed, {failed} failed, {time.monotonic() - begun:.0f} s"]
+    return passed, failed, "\n".join(told)
 
 
 def built():
@@ -73,12 +72,12 @@ def main():
         return try_topic(given.in_process)
     program = os.path.abspath(given.program or os.environ.get("SABER_PROGRAM") or built())
     sums = [0, 0]
-    for name in given.topics or TOPICS:
-        if not os.path.exists(f"{HERE}/{name}.py"):
-            print(f"{name}: not here")
-            continue
-        for place, count in enumerate(call_topic(name, program)):
-            sums[place] += count
+    names = given.topics or TOPICS
+    with ThreadPoolExecutor(min(len(os.sched_getaffinity(0)), 3)) as pool:
+        for passed, failed, told in pool.map(lambda name: call_topic(name, program), names):
+            print(told, flush=True)
+            sums[0] += passed
+            sums[1] += failed
     print(f"{sums[0]} passed, {sums[1]} failed")
     return 1 if sums[1] else 0
 

@@ -14,6 +14,7 @@ import prove
 import quick
 import words
 
+LOG = f"{builds.TARGET}/quick.log"
 
 def refuse(given):
     """Tells of words that are no command."""
@@ -30,9 +31,12 @@ def compiled(wanted, kit_name, seen):
     except (compiling.NotCompiled, subprocess.CalledProcessError, OSError) as why:
         if isinstance(why, OSError) and why.filename == "rt":
             raise
-        first = next((line for line in str(why).splitlines() if line.strip()), type(why).__name__)
-        places.say(f"that failed ({first[:100]}): proving and building instead, twenty to forty minutes")
-        return prove.prove(wanted, kit_name, seen)
+        told = str(why).strip() or type(why).__name__
+        with open(LOG, "w", encoding="utf-8", errors="replace") as log:
+            log.write(f"{told}\n")
+        places.say(f"that failed ({told.splitlines()[0][:100]}, see {LOG}): all is proved and built instead, in twenty to forty minutes")
+        with builds.alone("proved"):
+            return prove.prove(wanted, kit_name, seen)
 
 
 def main():
@@ -42,7 +46,7 @@ def main():
     if not slot and not words.is_command(given):
         return refuse(given)
     if not slot:
-        with builds.alone():
+        with builds.alone("quick"):
             slot = builds.find(wanted, kit_name)
             program = builds.choose(slot, seen) if slot else compiled(wanted, kit_name, seen)
     else:

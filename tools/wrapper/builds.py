@@ -118,18 +118,18 @@ def put(slot, program, wanted, kit_name, seen):
     with open(f"{folder}/BUILD.new", "w", encoding="utf-8") as file:
         file.writelines(f"{key}: {value}\n" for key, value in told.items())
     os.replace(f"{folder}/BUILD.new", f"{folder}/BUILD")
-    return choose(slot, seen)
+    return choose(find(wanted, kit_name) or slot, seen)
 
 
 @contextlib.contextmanager
-def alone():
-    """Holds the lock of all builds of this repository; a build beside it waits."""
+def alone(slot):
+    """Holds the lock of the builds of a slot; a build beside it waits."""
     os.makedirs(TARGET, exist_ok=True)
-    with open(f"{TARGET}/lock", "w", encoding="utf-8") as file:
+    with open(f"{TARGET}/{slot}.lock", "w", encoding="utf-8") as file:
         try:
             fcntl.flock(file, fcntl.LOCK_EX | fcntl.LOCK_NB)
         except BlockingIOError:
-            places.say("waiting for another build of this repository")
+            places.say("waiting for another call that builds the same")
             fcntl.flock(file, fcntl.LOCK_EX)
         yield
 

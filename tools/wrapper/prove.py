@@ -96,7 +96,7 @@ def prove(wanted, kit_name, seen):
 def main():
     """Proves what isn't proved yet."""
     seen, wanted, kit_name = time.time(), builds.stamp(), builds.kit()
-    with builds.alone():
+    with builds.alone("proved"):
         if builds.is_of(f"{builds.TARGET}/proved", wanted, kit_name):
             builds.choose("proved", seen)
             places.say("all crates are proved, and the program is built of them")

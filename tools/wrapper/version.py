@@ -8,7 +8,7 @@ import places
 
 def told(build, program):
     """What is said of a program by its file BUILD."""
-    how = "proved" if build.get("proved") == "yes" else "not proved"
+    how = "proved" if build.get("proved") == "yes" else "compiled without proof"
     parts = [how, *[it for it in (build.get("kit"), f"commit {build['commit']}" if "commit" in build else "") if it]]
     wanted = build.get("hash")
     if wanted and wanted != hash_of(program):

@@ -67,8 +67,8 @@ def main(program, given):
     note = note_of(child, line)
     status = child.wait()
     line.hide()
-    sys.stderr.buffer.write(note)
-    sys.stderr.flush()
+    with contextlib.suppress(OSError):
+        os.write(2, note)
     if status < 0:
         places.end_by(-status)
     if status:
