@@ -31,12 +31,25 @@ def regular(names):
         return []
 
 
+def is_for_a_person():
+    """Whether a line can be shown, and is to be."""
+    return os.isatty(2) and os.environ.get("TERM") != "dumb" and os.environ.get("SABER_PROGRESS") != "0"
+
+
+def is_in_front():
+    """Whether the terminal is this call's now: a line of a job behind others would stand among theirs."""
+    try:
+        return os.tcgetpgrp(2) == os.getpgrp()
+    except OSError:
+        return False
+
+
 class Progress:
     """The line of a process: none, where it reads no regular files or no person reads the line."""
 
     def __init__(self, process, names):
         self.process, self.begun, self.shown, self.at = process, time.monotonic(), False, -1
-        self.files = regular(names) if os.isatty(2) and os.environ.get("SABER_PROGRESS") != "0" else []
+        self.files = regular(names) if is_for_a_person() else []
         self.due = self.begun + FIRST
 
     def wait(self):
@@ -67,7 +80,7 @@ class Progress:
         except OSError:
             return
         read = [min(found.get(it.same, 0), it.size) for it in self.files]
-        if sum(read) != self.at and os.tcgetpgrp(2) == os.getpgrp():
+        if sum(read) != self.at and is_in_front():
             self.at = sum(read)
             self.show(read)
 

@@ -61,7 +61,11 @@ def note_of(child, line):
 def main(program, given):
     children = []
     wait_through_signals(children)
-    child = subprocess.Popen([program, *given], stderr=subprocess.PIPE, close_fds=False)
+    try:
+        child = subprocess.Popen([program, *given], stderr=subprocess.PIPE, close_fds=False)
+    except OSError as error:
+        places.say(f"{program}: {error.strerror}")
+        return places.NOT_BUILT
     children.append(child)
     line = progress.Progress(child.pid, named(given))
     note = note_of(child, line)
