@@ -63,7 +63,7 @@ class Terminal(unittest.TestCase):
             if time.monotonic() < end:
                 time.sleep(seconds / 200)
         ran.stdout.close()
-        status = ran.wait(timeout=30)
+        status = ran.wait(timeout=120)
         self.look(0.2)
         return status, b"".join(answer)
 
@@ -93,25 +93,25 @@ class Terminal(unittest.TestCase):
         os.mkfifo(f"{self.place.at}/pipe")
         with subprocess.Popen(["cp", "rows.csv", "pipe"], cwd=self.place.at) as feeding:
             status, answer = self.read_slowly(self.begin("run", "q.cql", "pipe"), 3)
-            feeding.wait(timeout=30)
+            feeding.wait(timeout=120)
         self.assertEqual((status, answer, self.shown), (0, self.rows(), b""))
 
     def test_not_of_a_short_run(self):
         ran = self.begin("run", "q.cql", "few.csv")
-        answer, _ = ran.communicate(timeout=30)
+        answer, _ = ran.communicate(timeout=120)
         self.look(0.2)
         self.assertEqual((ran.returncode, answer, self.shown), (0, b"0,1\n1,2\n", b""))
 
     def test_not_among_an_answer(self):
         ran = self.begin("run", "q.cql", "few.csv", stdout=self.slave)
-        ran.wait(timeout=30)
+        ran.wait(timeout=120)
         self.look(0.2)
         os.close(self.slave)
         self.assertEqual(self.shown, b"0,1\r\n1,2\r\n")
 
     def test_a_note_comes_first(self):
         ran = self.begin("run", "q.cql", "bad.csv")
-        answer, _ = ran.communicate(timeout=30)
+        answer, _ = ran.communicate(timeout=120)
         self.look(0.2)
         self.assertEqual((ran.returncode, answer), (4, b"0,1\n"))
         self.assertTrue(self.shown.startswith(b"saber: left line 2: bad number in field 2\r\n"), self.shown)
@@ -126,7 +126,7 @@ class Terminal(unittest.TestCase):
         return ran, feeding
 
     def ended(self, ran, feeding):
-        status = ran.wait(timeout=30)
+        status = ran.wait(timeout=120)
         ran.stdout.close()
         # The program is gone too: nobody reads.
         with self.assertRaises(BrokenPipeError):

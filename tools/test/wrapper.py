@@ -66,7 +66,7 @@ class Wrapper(unittest.TestCase):
             self.place.write(name, text)
 
     def bare(self, *given, **how):
-        return subprocess.run([self.place.bare, *given], cwd=self.place.at, capture_output=True, check=False, timeout=60, **{"stdin": subprocess.DEVNULL, **how})
+        return subprocess.run([self.place.bare, *given], cwd=self.place.at, capture_output=True, check=False, timeout=180, **{"stdin": subprocess.DEVNULL, **how})
 
     def outs(self):
         """What `many` wrote, which is taken away."""

@@ -2,6 +2,7 @@
 
 Words that are no command are refused before that, as the program does: with its note, and here with the page of the command.
 """
+import errno
 import subprocess
 import sys
 import time
@@ -15,6 +16,9 @@ import quick
 import words
 
 LOG = f"{builds.TARGET}/quick.log"
+# What is wrong with the tree or the machine, and not with the way of compiling.
+CANNOT_WRITE = (errno.ENOSPC, errno.EDQUOT, errno.EROFS, errno.EACCES, errno.EPERM)
+
 
 def refuse(given):
     """Tells of words that are no command."""
@@ -24,12 +28,18 @@ def refuse(given):
     return pages.refuse(given[0] if given else "")
 
 
+def found(wanted, kit_name, seen):
+    """The program of these sources, if there is one."""
+    slot = builds.find(wanted, kit_name)
+    return builds.choose(slot, seen) if slot else None
+
+
 def compiled(wanted, kit_name, seen):
     """Compiles the program, or proves it where that fails."""
     try:
         return quick.compile_program(wanted, kit_name, seen)
     except (compiling.NotCompiled, subprocess.CalledProcessError, OSError) as why:
-        if isinstance(why, OSError) and why.filename == "rt":
+        if isinstance(why, OSError) and (why.filename == "rt" or why.errno in CANNOT_WRITE):
             raise
         told = str(why).strip() or type(why).__name__
         with open(LOG, "w", encoding="utf-8", errors="replace") as log:
@@ -42,15 +52,13 @@ def compiled(wanted, kit_name, seen):
 def main():
     given = sys.argv[1:]
     seen, wanted, kit_name = time.time(), builds.stamp(), builds.kit()
-    slot = builds.find(wanted, kit_name)
-    if not slot and not words.is_command(given):
+    program = found(wanted, kit_name, seen)
+    if not program and not words.is_command(given):
         return refuse(given)
-    if not slot:
+    if not program:
         with builds.alone("quick"):
-            slot = builds.find(wanted, kit_name)
-            program = builds.choose(slot, seen) if slot else compiled(wanted, kit_name, seen)
-    else:
-        program = builds.choose(slot, seen)
+            # Another call may have built it meanwhile.
+            program = found(wanted, kit_name, seen) or compiled(wanted, kit_name, seen)
     if not program:
         return places.NOT_BUILT
     print(program)
