@@ -38,6 +38,9 @@ def compiled(wanted, kit_name, seen):
     """Compiles the program, or proves it where that fails."""
     try:
         return quick.compile_program(wanted, kit_name, seen)
+    except compiling.Ended as why:
+        places.say(f"the program can't be built: {why}; is memory short?")
+        return None
     except (compiling.NotCompiled, subprocess.CalledProcessError, OSError) as why:
         if isinstance(why, OSError) and (why.filename == "rt" or why.errno in CANNOT_WRITE):
             raise
