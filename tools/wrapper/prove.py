@@ -60,7 +60,7 @@ def check(below, jobs, log):
 
 def check_and_build(below):
     """Proves all crates and builds the program. Tells what went wrong, and returns whether nothing did."""
-    with open(LOG, "w", encoding="utf-8") as log:
+    with open(LOG, "w", encoding="utf-8", buffering=1) as log:
         status, killed = check(below, at_once(), log)
         if status and killed:
             places.say("a check lacked memory: what is left is proved one at a time")
