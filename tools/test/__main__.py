@@ -6,6 +6,7 @@ where there is none. What a machine lacks for a test is told by a line. The last
 """
 import argparse
 import os
+import signal
 import subprocess
 import sys
 import time
@@ -14,6 +15,8 @@ from concurrent.futures import ThreadPoolExecutor
 
 HERE = os.path.dirname(os.path.abspath(__file__))
 TOP = os.path.dirname(os.path.dirname(HERE))
+# A topic that takes longer has failed, in seconds.
+MOST = 900
 TOPICS = ["judged_words", "wrapper", "building", "terminal", "cases", "documents", "hints", "package", "rows"]
 
 
@@ -44,13 +47,20 @@ def call_topic(name, program):
         return 0, 0, f"{name}: not here"
     begun = time.monotonic()
     command = [sys.executable, "-B", __file__, "--in-process", name]
-    ran = subprocess.run(command, env={**os.environ, "SABER_PROGRAM": program}, cwd=TOP, stdin=subprocess.DEVNULL, capture_output=True, text=True, check=False)
-    *lines, last = ran.stdout.splitlines() or [""]
+    given = {"env": {**os.environ, "SABER_PROGRAM": program}, "cwd": TOP, "stdin": subprocess.DEVNULL, "text": True, "errors": "replace"}
+    ran = subprocess.Popen(command, stdout=subprocess.PIPE, stderr=subprocess.PIPE, start_new_session=True, **given)
+    try:
+        out, complained = ran.communicate(timeout=MOST)
+    except subprocess.TimeoutExpired:
+        os.killpg(ran.pid, signal.SIGKILL)
+        out, complained = "", f"it had not ended after {MOST} s"
+        ran.wait()
+    *lines, last = out.splitlines() or [""]
     counts = last.split()
     if ran.returncode or len(counts) != 2:
         lines, counts = [*lines, last], ["0", "1"]
     passed, failed = map(int, counts)
-    told = [ran.stderr.rstrip("\n")] * (failed > 0) + [*lines, f"{name}: {passed} passed, {failed} failed, {time.monotonic() - begun:.0f} s"]
+    told = [complained.rstrip("\n")] * (failed > 0) + [*lines, f"{name}: {passed} passed, {failed} failed, {time.monotonic() - begun:.0f} s"]
     return passed, failed, "\n".join(told)
 
 
