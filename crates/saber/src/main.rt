@@ -4,7 +4,7 @@
 //! - Call: `main` takes the runtime, and gives the status that `top` tells. Words that the system
 //!   can't hand over end it by `refuse_words`.
 //! - Proved: that it is safe; that the words go on as they are, in their order (`texts_of`); and
-//!   that all comes of them which `top` says, over these files and sinks, or the status and the
+//!   that what comes of them is what `top` says of answers, files and notes, or the status and the
 //!   note tell why the system couldn't hand the words over (`called`). That `main`, which takes no
 //!   clause, hands on the process's words, standard output, standard error and that status is to be
 //!   read.
