@@ -7,8 +7,8 @@ use Rattle.saber_plan.specs.Answers.{text}
 use Rattle.saber_plan.specs.Tasks.{upto, kept_behind, nothing_kept}
 use Rattle.saber_plan.specs.Stages.{StageView, Start, Tasks, After, Keeps}
 use Rattle.saber_plan.specs.declared.stages.StageState.TheVariants.{Running}
-use Rattle.saber_laws.proofs.StepLaws.{none_gives_nothing as no_rows_give_nothing}
-use Rattle.saber_laws.proofs.TaskCutLaws.{no_cut as no_tasks_no_rows}
+use Rattle.saber_laws.proofs.StepLaws.{no_rows_give_nothing}
+use Rattle.saber_laws.proofs.TaskCutLaws.{no_tasks_no_rows}
 
 pub begins : (q : Tree) (n : ℕ) (r : Input) (start : Start) (taken : Input → Type 0) (s : StageView) → Tasks q n r → s.written ≡ start.written → s.faults ≡ start.faults → s.kept ≡ nothing_kept → s.k ≡ 0 → s.state ≡ Running → taken (going_on []) → Keeps q n r start taken s
 begins q n r start taken s t written faults kept k run had =

@@ -5,11 +5,11 @@ use Rattle.std.specs.FinMap.{empty}
 use Rattle.saber_plan.specs.Inputs.{Input}
 use Rattle.saber_plan.specs.Trees.{Tree}
 use Rattle.saber_plan.specs.Tasks.{Stage, joined_to}
-use Rattle.saber_core.specs.declared.events.Event.{Event}
 use Rattle.saber_core.specs.Machine.{fresh, given_count}
-use Rattle.saber_core.specs.Runs.{state_after, IsOrderly}
+use Rattle.saber_core.specs.Runs.{state_after}
+use Rattle.saber_core.proofs.Orders.{orderly}
 use Rattle.saber_assembly.specs.Gives.{joined_by, GivesMakeText}
-use Rattle.saber_laws.proofs.TaskLaws.{pieces_law as pieces_make_text}
+use Rattle.saber_laws.proofs.TaskLaws.{pieces_make_text}
 
 next_is : (a : ℕ) → a + 1 ≡ suc a
 next_is a = omega arith
@@ -29,8 +29,8 @@ joined_on q n r s zero a = ap (joined_to q n r s) (none_is a)
 joined_on q n r s (suc k) a =
     ap (λ b. joined_by q n r b (range_with_len (a + 1) k)) (sym (ap (joined_to q n r s) (next_is a))) ∙ joined_on q n r s k (a + 1) ∙ ap (joined_to q n r s) (more_is a k)
 
-pub gives_joined : ((size seats : ℕ) (events : List Event) → IsOrderly (fresh size seats) events) → GivesMakeText
-gives_joined orders q e f n r o start size seats events =
+pub gives_make_text : GivesMakeText
+gives_make_text q e f n r o start size seats events =
     let g = given_count (state_after (fresh size seats) events) in
     let s : Stage = record { written = start; parts = empty } in
-    ap (joined_by q n r s) (orders size seats events).gives_in_order ∙ joined_on q n r s g 0 ∙ ap (joined_to q n r s) (from_zero g) ∙ pieces_make_text q e f n r o start g
+    ap (joined_by q n r s) (orderly size seats events).gives_in_order ∙ joined_on q n r s g 0 ∙ ap (joined_to q n r s) (from_zero g) ∙ pieces_make_text q e f n r o start g

@@ -9,8 +9,8 @@ use Rattle.saber_plan.specs.Stages.{StageView, Start, Tasks, IsCutOff, After, Ke
 use Rattle.saber_plan.specs.declared.stages.StageState.TheVariants.{Running, SinkFailed, NoMemory}
 use Rattle.saber_assembly.specs.declared.stage.Absorbed.{Absorbed}
 use Rattle.saber_assembly.specs.declared.stage.Absorbed.TheVariants.{Done, Stopped}
-use Rattle.saber_laws.proofs.TaskCutLaws.{cut_keeps as cuts_rise}
-use Rattle.saber_laws.proofs.StepLaws.{text_step as text_goes_on}
+use Rattle.saber_laws.proofs.TaskCutLaws.{cuts_rise}
+use Rattle.saber_laws.proofs.StepLaws.{text_goes_on}
 
 appended_twice : (o : Option (List ℕ)) (xs ys : List ℕ) → appended_text (appended_text o xs) ys ≡ appended_text o (xs ++ ys)
 appended_twice None xs ys = refl

@@ -11,9 +11,9 @@ use Rattle.saber_plan.specs.Trees.{Tree}
 use Rattle.saber_plan.specs.Tasks.{Kept, task_start, upto, row_tasks, kept_behind}
 use Rattle.saber_plan.specs.Answers.{text}
 use Rattle.saber_plan.specs.Needs.{free, task_rows}
-use Rattle.saber_laws.proofs.TaskCutLaws.{upto-upto, cut_rises, rows_fit}
-use Rattle.saber_laws.proofs.GrowLaws.{free-upto}
-use Rattle.saber_laws.proofs.FreeLaws.{free_at_most, free_rises}
+use Rattle.saber_laws.proofs.TaskCutLaws.{first_of_first, cut_rises, rows_fit}
+use Rattle.saber_laws.proofs.GrowLaws.{first_tell_free}
+use Rattle.saber_laws.proofs.FreeLaws.{tasks_look_back, tasks_look_on}
 use Rattle.saber_fragment.specs.declared.blocks.Block.{Block}
 use Rattle.saber_fragment.specs.Stores.{Follows, CanTakeIn}
 use Rattle.saber_plan.specs.Outputs.{appended_text}
@@ -131,18 +131,18 @@ module _ {O : Type 0} (plan : O → Tree) where
   block_keeps told d k b was now is le =
       let n : ℕ = told.size in let r : Input = input_of told in let r' : Input = input_of (with_block told b) in
       ap (with_input told)
-      (sym (upto-upto n r' d k le)
+      (sym (first_of_first n r' d k le)
       ∙ ap (λ z. upto n z k) (came_before n now.tasks.size r r' b.rows b.ended d was.whole refl refl now.whole is.block.rows is.opens))
 
   pub tasks_again : (told : RunData O) (d j k : ℕ) → IsTold plan told d → k ≤ j → j ≤ d → first_tasks (first_tasks told j) k ≡ first_tasks told k
-  tasks_again told d j k was le within = ap (with_input told) (upto-upto told.size (input_of told) j k le)
+  tasks_again told d j k was le within = ap (with_input told) (first_of_first told.size (input_of told) j k le)
 
   pub tasks_whole : (told : RunData O) (d : ℕ) → IsTold plan told d → first_tasks told d ≡ told
   tasks_whole told d was = ap (with_input told) was.whole
 
   -- no task needs rows of a later one first
   pub needed_early : (told : RunData O) (d t : ℕ) → IsTold plan told d → t ≤ d → first_needed plan (first_tasks told t) t ≤ t
-  needed_early told d t was le = free_at_most (plan told.operator) told.size (upto told.size (input_of told) t) t was.tasks.size
+  needed_early told d t was le = tasks_look_back (plan told.operator) told.size (upto told.size (input_of told) t) t was.tasks.size
 
   -- nor does a task need fewer of the first rows than one before it
   steps_up : (told : RunData O) (d j m : ℕ) → IsTold plan told d → first_needed plan told j ≤ first_needed plan told (m + j)
@@ -150,15 +150,15 @@ module _ {O : Type 0} (plan : O → Tree) where
   steps_up told d j (suc m) was =
       le_trans (steps_up told d j m was)
       (subst (λ k. first_needed plan told (m + j) ≤ first_needed plan told k) (next_is m j)
-      (free_rises (plan told.operator) was.tasks.windows told.size (input_of told) (m + j) was.tasks.fits.ordered was.tasks.size))
+      (tasks_look_on (plan told.operator) was.tasks.windows told.size (input_of told) (m + j) was.tasks.fits.ordered was.tasks.size))
 
   pub needed_rises : (told : RunData O) (d j k : ℕ) → IsTold plan told d → j ≤ k → k ≤ d
       → first_needed plan (first_tasks told j) j ≤ first_needed plan (first_tasks told k) k
   needed_rises told d j k was le within =
       let q = plan told.operator in let n = told.size in let r = input_of told in
       let up : free q n r j ≤ free q n r k = subst (λ c. free q n r j ≤ free q n r c) (back_up j k le) (steps_up told d j (k - j) was) in
-      subst (λ c. c ≤ free q n (upto n r k) k) (sym (free-upto q n r j j (le_refl j)))
-      (subst (λ c. free q n r j ≤ c) (sym (free-upto q n r k k (le_refl k))) up)
+      subst (λ c. c ≤ free q n (upto n r k) k) (sym (first_tell_free q n r j j (le_refl j)))
+      (subst (λ c. free q n r j ≤ c) (sym (first_tell_free q n r k k (le_refl k))) up)
 
   -- ---- the stage
 
@@ -169,7 +169,7 @@ module _ {O : Type 0} (plan : O → Tree) where
     keeps_on told k s is =
         let q = plan told.operator in let n = told.size in let r = input_of told in let v = stage_view contents written faults s in
         let a : After q n (upto n r k) (start_of told) v Running = subst (After q n (upto n r k) (start_of told) v) (is.runs refl) is.keeps.after in
-        let same : upto n (upto n r k) s.k ≡ upto n r s.k = upto-upto n r k s.k (subst (λ c. c ≤ k) (sym is.behind) (le_refl k)) in
+        let same : upto n (upto n r k) s.k ≡ upto n r s.k = first_of_first n r k s.k (subst (λ c. c ≤ k) (sym is.behind) (le_refl k)) in
         let b : After q n r (start_of told) v Running = (a.0 ∙ ap (λ z. appended_text told.written (text q z)) same, a.1 ∙ ap (kept_behind q) same, a.2) in
         record {
           after = subst (After q n r (start_of told) v) (sym (is.runs refl)) b;

@@ -17,9 +17,9 @@ use Rattle.saber_fragment.specs.Drafts.{EndWith, CanStart, Sight, own_sight, beg
 use Rattle.saber_fragment.specs.LookBack.{IsBlock, sight_to, SeesAll}
 use Rattle.saber_plan.specs.Facts.Lists.{slice-join, nothing_between}
 use Rattle.saber_fragment.proofs.Slicing.{fits_between, not_before, mark_on, mark_behind, fits_behind}
-use Rattle.saber_laws.proofs.TaskCutLaws.{cut_keeps as cuts_rise}
-use Rattle.saber_laws.proofs.LocalLaws.{hand_no_more as handed_needs_no_more, need_no_more as shares_need_no_more}
-use Rattle.saber_laws.proofs.FreeLaws.{free_end as none_needed_behind, free_at_most as tasks_look_back}
+use Rattle.saber_laws.proofs.TaskCutLaws.{cuts_rise}
+use Rattle.saber_laws.proofs.LocalLaws.{handed_needs_no_more, shares_need_no_more}
+use Rattle.saber_laws.proofs.FreeLaws.{none_needed_behind, tasks_look_back}
 
 -- where rows begin, of which there are none with the first block
 starts_at : (l : List Row) (c : Bool) (t m b : Mark) → (c ≡ true → l ≡ []) → b ≡ mark_after m l → begins l (cond c t m) b ≡ m
@@ -161,5 +161,5 @@ module _ (q : Tree) (n : ℕ) (r : Input) (t : ℕ) (size : 1 ≤ n) (windows : 
       gives = ap (λ m. shares_here q m (slice_range r.rows (at f) (at t)) (task_rows n r t) (task_ends n r t)) whole_first ∙ shares_need_no_more q n r t size windows fits.ordered;
     }
 
-  pub sees_all : SeesAll q n r t
-  sees_all = record { starts = started; begins = begun; can = can_look_back; goes_on = one_more; ends = ended; gives = given }
+  pub drafts_look_back : SeesAll q n r t
+  drafts_look_back = record { starts = started; begins = begun; can = can_look_back; goes_on = one_more; ends = ended; gives = given }

@@ -12,7 +12,7 @@ use Rattle.saber_plan.specs.Facts.Lists.{nothing_behind, slice-front, slice-join
 use Rattle.saber_plan.specs.Facts.Rows.{mark-append, fits_front, fits_back, fits_take}
 use Rattle.saber_fragment.specs.declared.blocks.Earlier.{Earlier}
 use Rattle.saber_fragment.specs.Drafts.{EndWith}
-use Rattle.saber_laws.proofs.EndLaws.{rows_on as marks_go_on}
+use Rattle.saber_laws.proofs.EndLaws.{marks_go_on}
 
 fits_slice : (q : Tree) (xs : List Row) (x y : ℕ) → RowsFit q no_rows xs → RowsFit q (mark_of (take x xs)) (slice_range xs x y)
 fits_slice q xs x y h =

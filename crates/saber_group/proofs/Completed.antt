@@ -25,7 +25,7 @@ use Rattle.saber_group.specs.SliceStores.{GoesOn, WentOn}
 use Rattle.saber_group.proofs.Completing.{closed_within}
 use Rattle.saber_group.proofs.Lasting.{few_more, none_begun_have}
 use Rattle.saber_group.proofs.SlicesTaken.{lifted, no_more, no_row, part_behind, long_both}
-use Rattle.saber_laws.proofs.WindowLaws.{closed_count_ending as ends_close_more}
+use Rattle.saber_laws.proofs.WindowLaws.{ends_close_more}
 use Rattle.saber_plan.specs.Facts.Parts.{merge-empty_left}
 
 -- ---- how many steps they take

@@ -19,7 +19,7 @@ use Rattle.saber_plan.specs.GivenRows.{IsRowOf, RowsFit}
 use Rattle.saber_plan.specs.Facts.Rows.{mark-append, mark_more, fits_drop, row_at, is_left}
 use Rattle.saber_laws.specs.Plans.{OneWindow}
 use Rattle.saber_group.specs.SliceParts.{begun_by, closed_by}
-use Rattle.saber_laws.proofs.WindowLaws.{begun_count_rises as begun_stay, closed_count_rises as closed_stay}
+use Rattle.saber_laws.proofs.WindowLaws.{begun_stay, closed_stay}
 
 -- ---- the windows of one row
 

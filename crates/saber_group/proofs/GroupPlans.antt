@@ -12,7 +12,7 @@ use Rattle.saber_plan.specs.Checked.{IsChecked, columns_on}
 use Rattle.saber_plan.specs.GivenRows.{IsRowOf}
 use Rattle.saber_plan.specs.Facts.Rows.{is_left}
 use Rattle.saber_laws.specs.Plans.{OneWindow}
-use Rattle.saber_laws.proofs.CheckedLaws.{checked_fits as checked_fit, group_has_one as groups_have_one_window}
+use Rattle.saber_laws.proofs.CheckedLaws.{checked_fit, groups_have_one_window}
 use Rattle.saber_eval.specs.Widths.{widths}
 use Rattle.saber_eval.specs.Fitting.{PlanFits}
 use Rattle.saber_eval.proofs.FittingLaws.{one_stream as one_stream_fits}

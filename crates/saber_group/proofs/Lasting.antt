@@ -18,10 +18,10 @@ use Rattle.saber_plan.specs.Facts.Rows.{length-placed, placed-append, placed_mor
 use Rattle.saber_laws.specs.Plans.{OneWindow}
 use Rattle.saber_partial.specs.PartLaws.{OfRows}
 use Rattle.saber_group.specs.SliceParts.{part_of}
-use Rattle.saber_laws.proofs.WindowLaws.{begun_is as begun_are_counted}
-use Rattle.saber_laws.proofs.CutLaws.{no_rows_no_part, parts_within as parts_lie_within}
+use Rattle.saber_laws.proofs.WindowLaws.{begun_are_counted}
+use Rattle.saber_laws.proofs.CutLaws.{no_rows_no_part, parts_lie_within}
 use Rattle.saber_window.proofs.PastLaws.{past_have_none}
-use Rattle.saber_laws.proofs.TaskLaws.{tallied-push as rows_add_to_groups}
+use Rattle.saber_laws.proofs.TaskLaws.{rows_add_to_groups}
 
 -- ---- rows cut at a row
 

@@ -11,7 +11,7 @@ use Rattle.saber_group.specs.declared.change_pieces.TaskSlices.{TaskSlices}
 use Rattle.saber_group.specs.SlicePieces.{Given, SlicesFrom, IsMade, IsOf}
 use Rattle.saber_group.specs.ChangeStores.{piece_of}
 use Rattle.saber_group.proofs.SliceKeeping.{rows_upto}
-use Rattle.saber_laws.proofs.EndLaws.{mark_on as marks_follow}
+use Rattle.saber_laws.proofs.EndLaws.{marks_follow}
 
 pub piece_is_of : (q : Tree) (s : Sight) (r : Input) (x y : ℕ) (p : SlicePiece) → IsMade q s p → IsSightOf q s r x y → IsOf q r x y p
 piece_is_of q s r x y p made sight =

@@ -22,10 +22,10 @@ use Rattle.saber_partial.specs.PartLaws.{OfRows}
 use Rattle.saber_group.specs.SliceParts.{part_of, begun_by, closed_by, IsSlice}
 use Rattle.saber_group.proofs.Lasting.{row_joins, ends_here, few_more}
 use Rattle.saber_group.proofs.Completing.{count_low, past_begun, past_high, first_low}
-use Rattle.saber_laws.proofs.WindowLaws.{begun_count_rises as begun_stay}
-use Rattle.saber_partial.proofs.Counted.{groups_of_rows as groups_are_of_rows, small_stay}
-use Rattle.saber_laws.proofs.PartLaws.{merge-assoc as merge_is_associative}
-use Rattle.saber_laws.proofs.NeedLaws.{has_is as rows_span}
+use Rattle.saber_laws.proofs.WindowLaws.{begun_stay}
+use Rattle.saber_partial.proofs.Counted.{groups_are_of_rows, small_stay}
+use Rattle.saber_laws.proofs.PartLaws.{merge_is_associative}
+use Rattle.saber_laws.proofs.NeedLaws.{rows_span}
 use Rattle.saber_plan.specs.Facts.Parts.{merge-empty_right}
 
 -- ---- what the first row of a slice tells

@@ -28,9 +28,9 @@ use Rattle.saber_group.specs.SlicePieces.{IsOf}
 use Rattle.saber_group.specs.SliceStores.{held_in, TakenIn, Comes, Came}
 use Rattle.saber_fragment.specs.Stores.{Follows}
 use Rattle.saber_group.proofs.Lasting.{part_whole}
-use Rattle.saber_laws.proofs.EndLaws.{closed_rises as closed_rise}
-use Rattle.saber_laws.proofs.WindowLaws.{closed_count_ending as ends_close_more}
-use Rattle.saber_laws.proofs.ShareLaws.{lines-part as part_has_lines}
+use Rattle.saber_laws.proofs.EndLaws.{closed_rise}
+use Rattle.saber_laws.proofs.WindowLaws.{ends_close_more}
+use Rattle.saber_laws.proofs.ShareLaws.{part_has_lines}
 
 -- the rows up to a position, and those from it up to another
 pub rows_upto : (xs : List Row) (x y : ℕ) → x ≤ y → take x xs ++ slice_range xs x y ≡ take y xs

@@ -25,7 +25,7 @@ use Rattle.saber_group.specs.declared.slices.Slice.{Slice}
 use Rattle.saber_group.specs.SlicePieces.{SlicesTo}
 use Rattle.saber_group.specs.SliceStores.{SlicesAt, GoesOn}
 use Rattle.saber_group.proofs.Opened.{has_room, holds_more}
-use Rattle.saber_laws.proofs.PartLaws.{group_part-append as groups_join, merge-assoc as merge_is_associative}
+use Rattle.saber_laws.proofs.PartLaws.{groups_join, merge_is_associative}
 
 -- ---- the text of windows, one after another
 

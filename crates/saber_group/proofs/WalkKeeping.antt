@@ -21,7 +21,7 @@ use Rattle.saber_group.specs.SliceStores.{TakenIn, CanCome}
 use Rattle.saber_group.specs.ChangeStores.{answers_over, kept_in, piece_of, HasWalked, HasWalkedBy, WalkedOn}
 use Rattle.saber_group.proofs.Lasting.{part_whole}
 use Rattle.saber_group.proofs.SliceKeeping.{held_is, old_rows, new_rows, all_rows, closed_end, comes, taken_after}
-use Rattle.saber_laws.proofs.WordLaws.{of_parts as answers_are_of_parts, kept_stay as last_answers_stay}
+use Rattle.saber_laws.proofs.WordLaws.{answers_are_of_parts, last_answers_stay}
 
 -- ---- what is added and kept, where windows print what they gain or lose
 

@@ -18,9 +18,9 @@ use Rattle.saber_plan.specs.GivenRows.{RowsFit}
 use Rattle.saber_plan.specs.Facts.Rows.{mark-append}
 use Rattle.saber_laws.specs.Plans.{TwoWindows}
 use Rattle.saber_join.proofs.Task.{part_is}
-use Rattle.saber_laws.proofs.WindowLaws.{begun_count_rises as begun_stay}
+use Rattle.saber_laws.proofs.WindowLaws.{begun_stay}
 use Rattle.saber_laws.proofs.CutLaws.{no_rows_no_part}
-use Rattle.saber_laws.proofs.NeedLaws.{has_is as rows_span}
+use Rattle.saber_laws.proofs.NeedLaws.{rows_span}
 
 count_next : (slide p : ℕ) → count_to slide 0 p ≡ count_to slide 1 (p + 1)
 count_next slide p =

@@ -30,9 +30,9 @@ use Rattle.saber_join.proofs.Entering.{no_lines}
 use Rattle.saber_join.proofs.Spread.{seen, part_in, part_is_in, rise_all, spread}
 use Rattle.saber_join.proofs.Beginning.{none_begun}
 use Rattle.saber_join.proofs.Answering.{lines_of_part}
-use Rattle.saber_laws.proofs.CheckedLaws.{checked_fits as checked_fit, join_has_two as joins_have_two_windows}
-use Rattle.saber_laws.proofs.WindowLaws.{begun_count_rises as begun_stay, closed_within_begun}
-use Rattle.saber_laws.proofs.FlushLaws.{begin_none as ends_begin_none}
+use Rattle.saber_laws.proofs.CheckedLaws.{checked_fit, joins_have_two_windows}
+use Rattle.saber_laws.proofs.WindowLaws.{begun_stay, closed_within_begun}
+use Rattle.saber_laws.proofs.FlushLaws.{ends_begin_none}
 
 low_case : (b : Bool) (p : Part) → p ≡ no_part → cond b no_part p ≡ no_part
 low_case true p h = refl

@@ -21,7 +21,7 @@ use Rattle.saber_join.specs.Keeping.{lies_from, cards_of, lefts_of, rights_of}
 use Rattle.saber_join.specs.Adding.{with_rights, with_lefts}
 use Rattle.saber_join.specs.Open.{lies_in, rows_in, meeting_part}
 use Rattle.saber_join.proofs.Tying.{one_key}
-use Rattle.saber_laws.proofs.NeedLaws.{has_is as rows_span}
+use Rattle.saber_laws.proofs.NeedLaws.{rows_span}
 
 -- ---- filters of filters
 

@@ -26,8 +26,8 @@ use Rattle.saber_join.specs.Open.{Windows, HoldsTask}
 use Rattle.saber_join.specs.Sights.{HasSeen}
 use Rattle.saber_join.proofs.Holding.{behind_after, each-append}
 use Rattle.saber_join.proofs.Task.{part_is, not_low}
-use Rattle.saber_laws.proofs.WindowLaws.{begun_count_rises as begun_stay}
-use Rattle.saber_laws.proofs.NeedLaws.{has_is as rows_span}
+use Rattle.saber_laws.proofs.WindowLaws.{begun_stay}
+use Rattle.saber_laws.proofs.NeedLaws.{rows_span}
 
 -- ---- by time, no row before one that lies in no window from c on lies in one
 

@@ -11,7 +11,7 @@ use Rattle.saber_eval.specs.Widths.{widths}
 use Rattle.saber_eval.specs.Fitting.{PlanFits}
 use Rattle.saber_eval.proofs.FittingLaws.{two_streams as two_streams_fit}
 use Rattle.saber_laws.specs.Plans.{TwoWindows}
-use Rattle.saber_laws.proofs.CheckedLaws.{join_has_two as joins_have_two_windows}
+use Rattle.saber_laws.proofs.CheckedLaws.{joins_have_two_windows}
 use Rattle.saber_join.specs.Rows.{IsOn}
 
 -- ---- rows

@@ -19,8 +19,8 @@ use Rattle.saber_join.specs.Keeping.{lefts_of, rights_of}
 use Rattle.saber_join.specs.Open.{Windows, pairs_in, seen_parts, meeting_part, Takes, HoldsTask}
 use Rattle.saber_join.proofs.Partners.{partners_met}
 use Rattle.saber_join.proofs.Holding.{behind, behind_after, placed_below, pair_part-none}
-use Rattle.saber_laws.proofs.NeedLaws.{has_is as rows_span}
-use Rattle.saber_laws.proofs.RowPairLaws.{window_gets as windows_get_pairs}
+use Rattle.saber_laws.proofs.NeedLaws.{rows_span}
+use Rattle.saber_laws.proofs.RowPairLaws.{windows_get_pairs}
 
 -- ---- the parts of windows after some rows, of which those from position n on are the task's
 

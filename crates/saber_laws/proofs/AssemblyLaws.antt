@@ -26,10 +26,10 @@ use Rattle.saber_plan.specs.Facts.Maps.{get-both, both_empty_left, entries-empty
 use Rattle.saber_plan.specs.Facts.Lists.{slice-join, slice-front, nothing_behind}
 use Rattle.saber_plan.specs.Facts.Parts.{total, exact, merge-empty_left, merge-empty_right}
 use Rattle.saber_laws.proofs.DirectLaws.{is_part, parts_between}
-use Rattle.saber_laws.proofs.WindowLaws.{closed_is, begun_is, closed_within_begun}
+use Rattle.saber_laws.proofs.WindowLaws.{closed_are_counted, begun_are_counted, closed_within_begun}
 use Rattle.saber_plan.specs.Facts.Numbers.{from-append}
 use Rattle.saber_laws.proofs.NumberedLaws.{get_low, get_high, get_in, entries-numbered, flat_map-numbered, flat_map-from, filter_all, filter_none}
-use Rattle.saber_laws.proofs.EndLaws.{stays_ended, end_behind, closed_rises, begun_rises, join_at, part_upto, part_not_begun, lines_upto, lines_stay, answers_stay}
+use Rattle.saber_laws.proofs.EndLaws.{stays_ended, ends_are_behind, closed_rise, begun_rise, parts_join, part_upto, part_not_begun, lines_upto, closed_lines_stay, answers_stay}
 
 -- ---- parts that aren't empty
 
@@ -59,8 +59,8 @@ full-cases p r false true e g = ap (λ m. full (merge p m)) (full-none r g) ∙ 
 full-cases p r false false e g = merge_some p r (len (merge p r) == 0) e refl
 
 -- merging what isn't empty
-pub full-merge : (p r : Part) → full (merge p r) ≡ join merge (full p) (full r)
-full-merge p r = full-cases p r (len p == 0) (len r == 0) refl refl
+pub full_merges : (p r : Part) → full (merge p r) ≡ join merge (full p) (full r)
+full_merges p r = full-cases p r (len p == 0) (len r == 0) refl refl
 
 -- the lines of a part, also where it is empty
 full-lines : (q : Tree) (i : ℕ) (p : Part) (b : Bool) → (len p == 0) ≡ b → option_map_or (λ m. part_lines q i m) (cond b None (Some p)) [] ≡ part_lines q i p
@@ -74,7 +74,7 @@ abbrev pub count_kind : ℕ → ℕ → ℕ → ℕ → ℕ → Option Kind
 count_kind ca ga cb gb i = cond (nat_lt i ca) None (cond (nat_lt i gb) (Some (cond (nat_lt i cb) (cond (nat_lt i ga) Closing Complete) (cond (nat_lt i ga) Pending Opening))) None)
 
 pub kind_is : (f : Frame) → Fits f → (i : ℕ) (a b : Mark) → kind_of f i a b ≡ count_kind (closed_count f a) (begun_count f a) (closed_count f b) (begun_count f b) i
-kind_is f w i a b = sym (λ j. cond (closed_is f w i a j) None (cond (begun_is f w i b j) (Some (cond (closed_is f w i b j) (cond (begun_is f w i a j) Closing Complete) (cond (begun_is f w i a j) Pending Opening))) None))
+kind_is f w i a b = sym (λ j. cond (closed_are_counted f w i a j) None (cond (begun_are_counted f w i b j) (Some (cond (closed_are_counted f w i b j) (cond (begun_are_counted f w i a j) Closing Complete) (cond (begun_are_counted f w i a j) Pending Opening))) None))
 
 closing_here : (ca ga cb gb i : ℕ) → ca ≤ i → i < ga → i < cb → cb ≤ gb → count_kind ca ga cb gb i ≡ Some Closing
 closing_here ca ga cb gb i h1 h2 h3 h4 = grind (arith, nat_tests)
@@ -88,13 +88,10 @@ open_here ca ga cb gb i h1 h2 h3 = grind (arith, nat_tests)
 open_not_complete : (ca ga cb gb i : ℕ) → ca ≤ cb → cb ≤ i → i < gb → is_complete (count_kind ca ga cb gb i) ≡ false
 open_not_complete ca ga cb gb i h1 h2 h3 = grind (arith, nat_tests)
 
-part_or_complete : (ca ga cb gb i : ℕ) → ca ≤ i → i < gb → (p : Option Part) → cond (not (is_complete (count_kind ca ga cb gb i))) p None ≡ cond (is_part (count_kind ca ga cb gb i)) p None
-part_or_complete ca ga cb gb i h1 h2 p = grind (arith, nat_tests)
-
 -- ---- what a window has in the open parts and in a piece
 
 part-beyond : (q : Tree) → Fits (frame q) → (i : ℕ) (r : Input) (y : ℕ) → Ordered no_rows r.rows → begun_count (frame q) (mark_at r y) ≤ i → part q i r.rows 0 y ≡ no_part
-part-beyond q w i r y o h = part_not_begun q i r y o (sym (begun_is (frame q) w i (mark_at r y)) ∙ le-ltb i _ h)
+part-beyond q w i r y o h = part_not_begun q i r y o (sym (begun_are_counted (frame q) w i (mark_at r y)) ∙ le-ltb i _ h)
 
 unclosed_at : (q : Tree) → Fits (frame q) → (r : Input) (y i : ℕ) → Ordered no_rows r.rows → closed_count (frame q) (mark_at r y) ≤ i → get (unclosed q (first_arrivals r y)) i ≡ full (part q i r.rows 0 y)
 unfolding unclosed
@@ -166,7 +163,7 @@ module _ (q : Tree) (w : Fits (frame q)) (r : Input) (x y : ℕ) (o : Ordered no
   gb = begun_count (frame q) (mark_at r y)
 
   ca_cb : ca ≤ cb
-  ca_cb = closed_rises (frame q) w r x y o a
+  ca_cb = closed_rise (frame q) w r x y o a
 
   ca_ga : ca ≤ ga
   ca_ga = closed_within_begun (frame q) w (mark_at r x)
@@ -175,7 +172,7 @@ module _ (q : Tree) (w : Fits (frame q)) (r : Input) (x y : ℕ) (o : Ordered no
   cb_gb = closed_within_begun (frame q) w (mark_at r y)
 
   ga_gb : ga ≤ gb
-  ga_gb = begun_rises (frame q) w r x y o a
+  ga_gb = begun_rise (frame q) w r x y o a
 
   -- after the merge each window that isn't closed at x and whose part isn't whole in the piece has its part
   merged_at : (i : ℕ) → ca ≤ i → (i < gb → is_part (kind_of (frame q) i (mark_at r x) (mark_at r y)) ≡ true) → get (taken_in q (unclosed q (first_arrivals r x)) (piece_between q r x y)) i ≡ full (part q i r.rows 0 y)
@@ -184,7 +181,7 @@ module _ (q : Tree) (w : Fits (frame q)) (r : Input) (x y : ℕ) (o : Ordered no
       ∙ ap (λ p. join merge p (get (piece_between q r x y).parts i)) (unclosed_at q w r x i o l)
       ∙ ⊎_elim
       (λ b. ap (join merge (full (part q i r.rows 0 x))) (piece_in q r x y i l b ∙ ap (λ c. cond c (full (part q i r.rows x y)) None) (part_here b))
-      ∙ sym (full-merge (part q i r.rows 0 x) (part q i r.rows x y)) ∙ ap full (sym (join_at q i r.rows 0 x y zero-le a)))
+      ∙ sym (full_merges (part q i r.rows 0 x) (part q i r.rows x y)) ∙ ap full (sym (parts_join q i r.rows 0 x y zero-le a)))
       (λ b. ap₂ (join merge) (full-of_empty _ (part-beyond q w i r x o (le_trans ga_gb b))) (piece_high q r x y i (le_trans ca_cb cb_gb) b)
       ∙ sym (full-of_empty _ (part-beyond q w i r y o b)))
       (cases_lt i gb)
@@ -294,10 +291,10 @@ module _ (q : Tree) (w : Fits (frame q)) (r : Input) (x y : ℕ) (o : Ordered no
       ∙ ap (λ l. l ++ flat_map f (from ca (cb - ca))) (flat_map-from f g 0 ca (λ i l b. same i (omega (arith, b))))
 
   closed_before : (i : ℕ) → i < ca → closed (frame q) i (mark_at r x) ≡ true
-  closed_before i l = sym (closed_is (frame q) w i (mark_at r x)) ∙ lt-ltb i ca l
+  closed_before i l = sym (closed_are_counted (frame q) w i (mark_at r x)) ∙ lt-ltb i ca l
 
   window_lines : window_text q (first_arrivals r y) ≡ window_text q (first_arrivals r x) ++ lines_from q (take y r.rows) ca cb
-  window_lines = more_closed lines_y (λ i. lines q i (take x r.rows)) (λ i l. lines_stay q i r x y o a (closed_before i l))
+  window_lines = more_closed lines_y (λ i. lines q i (take x r.rows)) (λ i l. closed_lines_stay q i r x y o a (closed_before i l))
 
   select_rows : selected_lines q (take y r.rows) ≡ selected_lines q (take x r.rows) ++ selected_lines q (slice_range r.rows x y)
   select_rows =
@@ -378,11 +375,11 @@ module _ (q : Tree) (w : Fits (frame q)) (r : Input) (x y : ℕ) (o : Ordered no
       ∙ in_turn-append q [] (take x r.rows) (slice_range r.rows x y)
 
   last_case : (b : Bool) → (first_arrivals r y).ended ≡ b → cond b (closed_at_last q (take y r.rows)) [] ≡ cond b (closed_at_last q r.rows) []
-  last_case true e = ap (closed_at_last q) (take_all y r.rows (let far = end_behind r y e in omega (arith, far)))
+  last_case true e = ap (closed_at_last q) (take_all y r.rows (let far = ends_are_behind r y e in omega (arith, far)))
   last_case false e = refl
 
   none_between : (first_arrivals r x).ended ≡ true → slice_range r.rows x y ≡ []
-  none_between e = nothing_behind r.rows x y (let far = end_behind r x e in omega (arith, far))
+  none_between e = nothing_behind r.rows x y (let far = ends_are_behind r x e in omega (arith, far))
 
   no_turn : (first_arrivals r x).ended ≡ true → turn_xy ≡ []
   unfolding closed_in_turn
@@ -390,7 +387,7 @@ module _ (q : Tree) (w : Fits (frame q)) (r : Input) (x y : ℕ) (o : Ordered no
 
   all_came : (first_arrivals r x).ended ≡ true → take y r.rows ≡ take x r.rows
   all_came e =
-      let far = end_behind r x e in
+      let far = ends_are_behind r x e in
       take_all y r.rows (omega (arith, far, a)) ∙ sym (take_all x r.rows (omega (arith, far)))
 
   list_case : (b : Bool) → (first_arrivals r x).ended ≡ b

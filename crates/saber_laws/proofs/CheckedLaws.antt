@@ -37,8 +37,8 @@ streams_fit Join (s ∷ t ∷ []) (v, w, e, f, g, k, p) =
 streams_fit Join (s ∷ t ∷ u ∷ us) h = absurd h
 
 -- sizes and slides are at least 1
-pub checked_fits : (q : Tree) → IsChecked q → Fits (frame q)
-checked_fits q h = streams_fit q.shape q.streams h.streams
+pub checked_fit : (q : Tree) → IsChecked q → Fits (frame q)
+checked_fit q h = streams_fit q.shape q.streams h.streams
 
 -- ---- which windows they are
 
@@ -75,14 +75,14 @@ join_case q (s ∷ t ∷ []) e (v, w, g, k, f, l, p) = record {
 }
 join_case q (s ∷ t ∷ u ∷ us) e h = absurd h
 
-pub selection_has_none : SelectionsHaveNoWindow
-selection_has_none q h e n = select_case q q.streams refl (subst (λ s. StreamsFit s q.streams) e h.streams) (subst₂ (λ s o. WordFits s q.streams o) e n h.word)
+pub selections_have_no_window : SelectionsHaveNoWindow
+selections_have_no_window q h e n = select_case q q.streams refl (subst (λ s. StreamsFit s q.streams) e h.streams) (subst₂ (λ s o. WordFits s q.streams o) e n h.word)
 
-pub words_have_one : WordsHaveOneWindow
-words_have_one q word h e n = word_case q q.streams word refl (subst (λ s. StreamsFit s q.streams) e h.streams) (subst₂ (λ s o. WordFits s q.streams o) e n h.word)
+pub words_have_one_window : WordsHaveOneWindow
+words_have_one_window q word h e n = word_case q q.streams word refl (subst (λ s. StreamsFit s q.streams) e h.streams) (subst₂ (λ s o. WordFits s q.streams o) e n h.word)
 
-pub group_has_one : GroupsHaveOneWindow
-group_has_one q h e = group_case q q.streams refl (subst (λ s. StreamsFit s q.streams) e h.streams)
+pub groups_have_one_window : GroupsHaveOneWindow
+groups_have_one_window q h e = group_case q q.streams refl (subst (λ s. StreamsFit s q.streams) e h.streams)
 
-pub join_has_two : JoinsHaveTwoWindows
-join_has_two q h e = join_case q q.streams refl (subst (λ s. StreamsFit s q.streams) e h.streams)
+pub joins_have_two_windows : JoinsHaveTwoWindows
+joins_have_two_windows q h e = join_case q q.streams refl (subst (λ s. StreamsFit s q.streams) e h.streams)

@@ -5,18 +5,16 @@ use Rattle.std.specs.Option.{option_or}
 use Rattle.std.specs.Cmp.{nat_cmp_total}
 use Rattle.std.specs.Ordering.{nat_cmp, eq_by_cmp}
 use Rattle.std.specs.FinMap.{find, from_entries, get-from_entries, same_map, nat_cmp-IsAntisymmetric}
-use Rattle.saber_plan.specs.declared.rows.Row.{Row}
 use Rattle.saber_plan.specs.declared.windows.Mark.{Mark}
 use Rattle.saber_plan.specs.declared.windows.Kind.{Kind}
 use Rattle.saber_plan.specs.declared.windows.Kind.TheVariants.{Opening, Closing, Pending, Complete}
 use Rattle.saber_plan.specs.Trees.{Tree}
 use Rattle.saber_plan.specs.Inputs.{Input}
-use Rattle.saber_plan.specs.Windows.{Frame, mark_after, end_mark, mark_at, closed_count, begun_count, kind_of}
+use Rattle.saber_plan.specs.Windows.{Frame, mark_at, closed_count, begun_count, kind_of}
 use Rattle.saber_plan.specs.Answers.{frame}
 use Rattle.saber_plan.specs.Parts.{Part, part}
-use Rattle.saber_plan.specs.Shares.{full, numbered_list, is_closing, is_pending, is_opening, of_kind, part_here, shares_here, shares_between, Parts}
+use Rattle.saber_plan.specs.Shares.{full, numbered_list, is_closing, is_pending, is_opening, of_kind, shares_between, Parts}
 use Rattle.saber_plan.specs.Tasks.{piece_between}
-use Rattle.saber_plan.specs.Needs.{piece_here}
 use Rattle.saber_laws.proofs.NumberedLaws.{find_low, find_in, find_high}
 
 -- a window of which the rows have some part, and not the whole
@@ -81,8 +79,3 @@ kinds_make f a b at =
 pub parts_between : (q : Tree) (r : Input) (x y : ℕ) → (piece_between q r x y).parts ≡ direct_parts (frame q) (mark_at r x) (mark_at r y) (λ i. part q i r.rows x y)
 unfolding piece_between shares_between
 parts_between q r x y = kinds_make (frame q) (mark_at r x) (mark_at r y) (λ i. part q i r.rows x y)
-
-pub parts_here : (q : Tree) (m : Mark) (back rows : List Row) (ended : Bool)
-    → (piece_here q m back rows ended).parts ≡ direct_parts (frame q) (mark_after m back) (end_mark ended (mark_after (mark_after m back) rows)) (λ i. part_here q i m back rows)
-unfolding piece_here shares_here
-parts_here q m back rows ended = kinds_make (frame q) (mark_after m back) (end_mark ended (mark_after (mark_after m back) rows)) (λ i. part_here q i m back rows)

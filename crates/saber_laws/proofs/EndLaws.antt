@@ -7,19 +7,19 @@ use Rattle.saber_plan.specs.declared.rows.Row.{Row}
 use Rattle.saber_plan.specs.declared.windows.Mark.{Mark}
 use Rattle.saber_plan.specs.Trees.{Tree}
 use Rattle.saber_plan.specs.Inputs.{Input, first_arrivals}
-use Rattle.saber_plan.specs.Windows.{Frame, Fits, no_rows, step_mark, mark_after, mark_of, end_mark, mark_at, begun, closed, begun_count, closed_count, has, Ordered, place, placed_after, placed_from_start, inside}
+use Rattle.saber_plan.specs.Windows.{Frame, Fits, no_rows, step_mark, mark_after, mark_of, end_mark, mark_at, begun, closed, begun_count, closed_count, has, Ordered, place, placed_from_start, inside}
 use Rattle.saber_plan.specs.Answers.{by_shape, frame, lines, window_answers, passing_values}
 use Rattle.saber_plan.specs.Parts.{no_part, part, part_lines, part_answers, row_part, group_part, pair_part, join_numbers, merge}
 use Rattle.saber_plan.specs.Facts.Lists.{Each, each-filter, slice-join, slice-front, nothing_behind}
 use Rattle.saber_plan.specs.Facts.Maps.{both_empty_right}
 use Rattle.saber_plan.specs.Facts.Parts.{total, exact, merge-empty_right}
 use Rattle.saber_plan.specs.Facts.Rows.{mark-append, length-placed}
-use Rattle.saber_laws.proofs.WindowLaws.{begun_ending, begun_count_ending, closed_ending, closed_count_ending, closed_count_rises, begun_count_rises, closed_after}
-use Rattle.saber_laws.proofs.RowLaws.{take-placed, slice-placed, Ordered-slice}
+use Rattle.saber_laws.proofs.WindowLaws.{begun_ending, begun_count_ending, closed_ending, ends_close_more, closed_stay, begun_stay, closed_after}
+use Rattle.saber_laws.proofs.RowLaws.{take-placed, Ordered-slice}
 use Rattle.saber_laws.proofs.PartLaws.{group_part-empty}
 use Rattle.saber_laws.proofs.PairLaws.{pair_part-none, placed_below}
 use Rattle.saber_laws.proofs.RowPartLaws.{row_part-nil}
-use Rattle.saber_laws.proofs.ShareLaws.{part-join, part-not_begun, part-closed, part-take, lines-part, answers_whole, shaped}
+use Rattle.saber_laws.proofs.ShareLaws.{part-join, part-not_begun, part-closed, part-take, part_has_lines, answers_whole, shaped}
 
 -- ---- the marks of an input
 
@@ -46,24 +46,24 @@ behind_case true l x h = ltb-true l x h
 behind_case false l x h = absurd (both_ways _ refl h)
 
 -- and stands behind all rows
-pub end_behind : (r : Input) (x : ℕ) → (first_arrivals r x).ended ≡ true → length r.rows < x
-end_behind r x h = behind_case r.ended (length r.rows) x h
+pub ends_are_behind : (r : Input) (x : ℕ) → (first_arrivals r x).ended ≡ true → length r.rows < x
+ends_are_behind r x h = behind_case r.ended (length r.rows) x h
 
 -- where it has not come, the mark is that of the rows
-pub mark_open : (r : Input) (x : ℕ) → (first_arrivals r x).ended ≡ false → mark_at r x ≡ mark_of (take x r.rows)
-mark_open r x e = ap (λ b. end_mark b (mark_of (take x r.rows))) e
+pub marks_are_of_rows : (r : Input) (x : ℕ) → (first_arrivals r x).ended ≡ false → mark_at r x ≡ mark_of (take x r.rows)
+marks_are_of_rows r x e = ap (λ b. end_mark b (mark_of (take x r.rows))) e
 
-pub rows_on : (xs : List Row) (x y : ℕ) → x ≤ y → mark_of (take y xs) ≡ mark_after (mark_of (take x xs)) (slice_range xs x y)
-rows_on xs x y a = ap mark_of (sym (slice-front xs y) ∙ slice-join xs 0 x y zero-le a ∙ ap (λ l. l ++ slice_range xs x y) (slice-front xs x)) ∙ mark-append no_rows (take x xs) (slice_range xs x y)
+pub marks_go_on : (xs : List Row) (x y : ℕ) → x ≤ y → mark_of (take y xs) ≡ mark_after (mark_of (take x xs)) (slice_range xs x y)
+marks_go_on xs x y a = ap mark_of (sym (slice-front xs y) ∙ slice-join xs 0 x y zero-le a ∙ ap (λ l. l ++ slice_range xs x y) (slice-front xs x)) ∙ mark-append no_rows (take x xs) (slice_range xs x y)
 
 -- the mark at a later position follows from that at an earlier one
-pub mark_on : (r : Input) (x y : ℕ) → x ≤ y → mark_at r y ≡ end_mark (first_arrivals r y).ended (mark_after (mark_at r x) (slice_range r.rows x y))
-mark_on r x y a =
+pub marks_follow : (r : Input) (x y : ℕ) → x ≤ y → mark_at r y ≡ end_mark (first_arrivals r y).ended (mark_after (mark_at r x) (slice_range r.rows x y))
+marks_follow r x y a =
     let d = (first_arrivals r x).ended in
     let e = (first_arrivals r y).ended in
     let m = mark_of (take x r.rows) in
     let between = slice_range r.rows x y in
-    ap (end_mark e) (rows_on r.rows x y a) ∙ sym (ending_again d e (mark_after m between) (stays_ended r x y a)) ∙ sym (ap (end_mark e) (after_ending d m between))
+    ap (end_mark e) (marks_go_on r.rows x y a) ∙ sym (ending_again d e (mark_after m between) (stays_ended r x y a)) ∙ sym (ap (end_mark e) (after_ending d m between))
 
 same_end : (d e : Bool) → (d ≡ true → e ≡ true) → (e ≡ true → d ≡ true) → d ≡ e
 same_end true e f g = sym (f refl)
@@ -75,7 +75,7 @@ pub mark_next : (r : Input) (x y : ℕ) → x ≤ y → ((first_arrivals r y).en
 mark_next r x y a k =
     let between = slice_range r.rows x y in
     let m = mark_of (take x r.rows) in
-    after_ending (first_arrivals r x).ended m between ∙ ap (λ b. end_mark b (mark_after m between)) (same_end _ _ (stays_ended r x y a) k) ∙ sym (ap (end_mark (first_arrivals r y).ended) (rows_on r.rows x y a))
+    after_ending (first_arrivals r x).ended m between ∙ ap (λ b. end_mark b (mark_after m between)) (same_end _ _ (stays_ended r x y a) k) ∙ sym (ap (end_mark (first_arrivals r y).ended) (marks_go_on r.rows x y a))
 
 open_case : (b : Bool) (l x : ℕ) → x ≤ l → (b && nat_lt l x) ≡ false
 open_case true l x h = grind (arith, nat_tests)
@@ -92,33 +92,22 @@ ordered_none m xs e = subst (Ordered m) (sym e) tt
 -- the rows from there on follow it
 pub ordered_on : (r : Input) (x y : ℕ) → Ordered no_rows r.rows → Ordered (mark_at r x) (slice_range r.rows x y)
 ordered_on r x y o = elim ((first_arrivals r x).ended) as (λ b. (first_arrivals r x).ended ≡ b → Ordered (mark_at r x) (slice_range r.rows x y)) [
-  | true ↦ λ e. ordered_none (mark_at r x) _ (nothing_behind r.rows x y (let far = end_behind r x e in omega arith))
-  | false ↦ λ e. subst (λ m. Ordered m (slice_range r.rows x y)) (sym (mark_open r x e)) (Ordered-slice x y r.rows o)
+  | true ↦ λ e. ordered_none (mark_at r x) _ (nothing_behind r.rows x y (let far = ends_are_behind r x e in omega arith))
+  | false ↦ λ e. subst (λ m. Ordered m (slice_range r.rows x y)) (sym (marks_are_of_rows r x e)) (Ordered-slice x y r.rows o)
 ] refl
-
-placed_none : (m n : Mark) (xs : List Row) → xs ≡ [] → placed_after m xs ≡ placed_after n xs
-unfolding placed_after
-placed_none m n xs e = ap (placed_after m) e ∙ sym (ap (placed_after n) e)
-
--- and are placed behind it
-pub placed_on : (r : Input) (x y : ℕ) → slice_range (placed_from_start r.rows) x y ≡ placed_after (mark_at r x) (slice_range r.rows x y)
-placed_on r x y = slice-placed r.rows x y ∙ (elim ((first_arrivals r x).ended) as (λ b. (first_arrivals r x).ended ≡ b → placed_after (mark_of (take x r.rows)) (slice_range r.rows x y) ≡ placed_after (mark_at r x) (slice_range r.rows x y)) [
-  | true ↦ λ e. placed_none _ _ _ (nothing_behind r.rows x y (let far = end_behind r x e in omega arith))
-  | false ↦ λ e. ap (λ m. placed_after m (slice_range r.rows x y)) (sym (mark_open r x e))
-] refl)
 
 -- ---- the counts along an input
 
-pub closed_rises : (f : Frame) → Fits f → (r : Input) (x y : ℕ) → Ordered no_rows r.rows → x ≤ y → closed_count f (mark_at r x) ≤ closed_count f (mark_at r y)
-closed_rises f w r x y o a = subst (λ m. closed_count f (mark_at r x) ≤ closed_count f m) (sym (mark_on r x y a))
-    (le_trans (closed_count_rises f w (mark_at r x) (slice_range r.rows x y) (ordered_on r x y o)) (closed_count_ending f w (first_arrivals r y).ended (mark_after (mark_at r x) (slice_range r.rows x y))))
+pub closed_rise : (f : Frame) → Fits f → (r : Input) (x y : ℕ) → Ordered no_rows r.rows → x ≤ y → closed_count f (mark_at r x) ≤ closed_count f (mark_at r y)
+closed_rise f w r x y o a = subst (λ m. closed_count f (mark_at r x) ≤ closed_count f m) (sym (marks_follow r x y a))
+    (le_trans (closed_stay f w (mark_at r x) (slice_range r.rows x y) (ordered_on r x y o)) (ends_close_more f w (first_arrivals r y).ended (mark_after (mark_at r x) (slice_range r.rows x y))))
 
-pub begun_rises : (f : Frame) → Fits f → (r : Input) (x y : ℕ) → Ordered no_rows r.rows → x ≤ y → begun_count f (mark_at r x) ≤ begun_count f (mark_at r y)
-begun_rises f w r x y o a = subst (λ m. begun_count f (mark_at r x) ≤ m) (sym (ap (begun_count f) (mark_on r x y a) ∙ begun_count_ending f (first_arrivals r y).ended (mark_after (mark_at r x) (slice_range r.rows x y))))
-    (begun_count_rises f w (mark_at r x) (slice_range r.rows x y) (ordered_on r x y o))
+pub begun_rise : (f : Frame) → Fits f → (r : Input) (x y : ℕ) → Ordered no_rows r.rows → x ≤ y → begun_count f (mark_at r x) ≤ begun_count f (mark_at r y)
+begun_rise f w r x y o a = subst (λ m. begun_count f (mark_at r x) ≤ m) (sym (ap (begun_count f) (marks_follow r x y a) ∙ begun_count_ending f (first_arrivals r y).ended (mark_after (mark_at r x) (slice_range r.rows x y))))
+    (begun_stay f w (mark_at r x) (slice_range r.rows x y) (ordered_on r x y o))
 
 pub closed_on : (f : Frame) → Fits f → (i : ℕ) (r : Input) (x y : ℕ) → Ordered no_rows r.rows → x ≤ y → closed f i (mark_at r x) ≡ true → closed f i (mark_at r y) ≡ true
-closed_on f w i r x y o a h = ap (closed f i) (mark_on r x y a) ∙ closed_ending f w i (first_arrivals r y).ended (mark_after (mark_at r x) (slice_range r.rows x y)) (closed_after f i (mark_at r x) (slice_range r.rows x y) (ordered_on r x y o) h)
+closed_on f w i r x y o a h = ap (closed f i) (marks_follow r x y a) ∙ closed_ending f w i (first_arrivals r y).ended (mark_after (mark_at r x) (slice_range r.rows x y)) (closed_after f i (mark_at r x) (slice_range r.rows x y) (ordered_on r x y o) h)
 
 -- ---- parts, at whatever positions
 
@@ -145,8 +134,8 @@ part_behind q i xs x y h =
     shaped q.shape _ _ _ no_part (ap (row_part q) none ∙ row_part-nil q) (ap (λ l. group_part q (passing_values q l)) none ∙ group_part-empty q) (pair_part-none q x _ (inside_before (frame q) i xs x y h))
 
 -- parts join at each position
-pub join_at : (q : Tree) (i : ℕ) (xs : List Row) (x y z : ℕ) → x ≤ y → y ≤ z → part q i xs x z ≡ merge (part q i xs x y) (part q i xs y z)
-join_at q i xs x y z a b = ⊎_elim
+pub parts_join : (q : Tree) (i : ℕ) (xs : List Row) (x y z : ℕ) → x ≤ y → y ≤ z → part q i xs x z ≡ merge (part q i xs x y) (part q i xs y z)
+parts_join q i xs x y z a b = ⊎_elim
     (λ l. part_whole q i xs x z y (omega arith) (omega arith) ∙ sym (merge-empty_right (part q i xs x y)) ∙ sym (ap (merge (part q i xs x y)) (part_behind q i xs y z (omega arith))))
     (λ l. part-join q i xs x y z a b l)
     (cases_lt (length xs) y)
@@ -159,31 +148,31 @@ part_upto q i xs y =
 
 -- and its lines are the window's
 pub lines_upto : (q : Tree) (i : ℕ) (xs : List Row) (y : ℕ) → lines q i (take y xs) ≡ part_lines q i (part q i xs 0 y)
-lines_upto q i xs y = lines-part q i (take y xs) ∙ ap (part_lines q i) (part_upto q i xs y)
+lines_upto q i xs y = part_has_lines q i (take y xs) ∙ ap (part_lines q i) (part_upto q i xs y)
 
 -- a closed window gets nothing more
 pub part_closed : (q : Tree) (i : ℕ) (r : Input) (x y : ℕ) → Ordered no_rows r.rows → x ≤ y → closed (frame q) i (mark_at r x) ≡ true → part q i r.rows x y ≡ no_part
 part_closed q i r x y o a h = elim ((first_arrivals r x).ended) as (λ b. (first_arrivals r x).ended ≡ b → part q i r.rows x y ≡ no_part) [
-  | true ↦ λ e. part_behind q i r.rows x y (let far = end_behind r x e in omega arith)
-  | false ↦ λ e. part-closed q i r.rows x y o a (sym (ap (closed (frame q) i) (mark_open r x e)) ∙ h)
+  | true ↦ λ e. part_behind q i r.rows x y (let far = ends_are_behind r x e in omega arith)
+  | false ↦ λ e. part-closed q i r.rows x y o a (sym (ap (closed (frame q) i) (marks_are_of_rows r x e)) ∙ h)
 ] refl
 
-pub lines_stay : (q : Tree) (i : ℕ) (r : Input) (x y : ℕ) → Ordered no_rows r.rows → x ≤ y → closed (frame q) i (mark_at r x) ≡ true → lines q i (take y r.rows) ≡ lines q i (take x r.rows)
-lines_stay q i r x y o a h = lines_upto q i r.rows y ∙ ap (part_lines q i) (join_at q i r.rows 0 x y zero-le a ∙ ap (merge (part q i r.rows 0 x)) (part_closed q i r x y o a h) ∙ merge-empty_right (part q i r.rows 0 x)) ∙ sym (lines_upto q i r.rows x)
+pub closed_lines_stay : (q : Tree) (i : ℕ) (r : Input) (x y : ℕ) → Ordered no_rows r.rows → x ≤ y → closed (frame q) i (mark_at r x) ≡ true → lines q i (take y r.rows) ≡ lines q i (take x r.rows)
+closed_lines_stay q i r x y o a h = lines_upto q i r.rows y ∙ ap (part_lines q i) (parts_join q i r.rows 0 x y zero-le a ∙ ap (merge (part q i r.rows 0 x)) (part_closed q i r x y o a h) ∙ merge-empty_right (part q i r.rows 0 x)) ∙ sym (lines_upto q i r.rows x)
 
 -- and so do its answers
 pub answers_upto : (q : Tree) (i : ℕ) (xs : List Row) (y : ℕ) → window_answers q i (take y xs) ≡ part_answers q (part q i xs 0 y)
 answers_upto q i xs y = answers_whole q i (take y xs) ∙ ap (part_answers q) (part_upto q i xs y)
 
 pub answers_stay : (q : Tree) (i : ℕ) (r : Input) (x y : ℕ) → Ordered no_rows r.rows → x ≤ y → closed (frame q) i (mark_at r x) ≡ true → window_answers q i (take y r.rows) ≡ window_answers q i (take x r.rows)
-answers_stay q i r x y o a h = answers_upto q i r.rows y ∙ ap (part_answers q) (join_at q i r.rows 0 x y zero-le a ∙ ap (merge (part q i r.rows 0 x)) (part_closed q i r x y o a h) ∙ merge-empty_right (part q i r.rows 0 x)) ∙ sym (answers_upto q i r.rows x)
+answers_stay q i r x y o a h = answers_upto q i r.rows y ∙ ap (part_answers q) (parts_join q i r.rows 0 x y zero-le a ∙ ap (merge (part q i r.rows 0 x)) (part_closed q i r x y o a h) ∙ merge-empty_right (part q i r.rows 0 x)) ∙ sym (answers_upto q i r.rows x)
 
 -- one that isn't begun has nothing yet
 pub part_not_begun : (q : Tree) (i : ℕ) (r : Input) (y : ℕ) → Ordered no_rows r.rows → begun (frame q) i (mark_at r y) ≡ false → part q i r.rows 0 y ≡ no_part
 part_not_begun q i r y o h = part-not_begun q i r.rows y o (sym (begun_ending (frame q) i (first_arrivals r y).ended (mark_of (take y r.rows))) ∙ h)
 
 pub not_begun_part : (q : Tree) (i : ℕ) (r : Input) (x y : ℕ) → Ordered no_rows r.rows → x ≤ y → begun (frame q) i (mark_at r y) ≡ false → part q i r.rows x y ≡ no_part
-not_begun_part q i r x y o a b = both_empty_right total join_numbers exact (part q i r.rows 0 x) (part q i r.rows x y) (sym (join_at q i r.rows 0 x y zero-le a) ∙ part_not_begun q i r y o b)
+not_begun_part q i r x y o a b = both_empty_right total join_numbers exact (part q i r.rows 0 x) (part q i r.rows x y) (sym (parts_join q i r.rows 0 x y zero-le a) ∙ part_not_begun q i r y o b)
 
 -- ---- an input cut twice
 

@@ -9,7 +9,7 @@ use Rattle.saber_plan.specs.declared.rows.RowCause.TheVariants.{TooManyLines, To
 use Rattle.saber_plan.specs.declared.windows.Mark.{Mark}
 use Rattle.saber_plan.specs.Rows.{RowFits, stamp, Line, Read, before, SideRules, Place, Judged, skipped, taken, refused, judge, judge_fields, judge_numbers, timed_line, late, falls, crowds, is_due, due, raised_time, in_time, accept, without_cr, bad_field, fields_of, wide_field, numbers, is_known, no_more, after_line, read_by, lines_of, start, all_read, cut, bad}
 use Rattle.saber_plan.specs.Windows.{no_rows, step_mark, in_order, Ordered}
-use Rattle.saber_laws.specs.Inputs.{FileRows, FileRowsFit, WholeRowsFit, PlainFiles, PlainWholes, plain_by, plain_end, after_plain}
+use Rattle.saber_laws.specs.Inputs.{FileRows, FileRowsFit, PlainFiles, plain_by, plain_end, after_plain}
 
 -- ---- a line that is taken
 
@@ -182,11 +182,8 @@ file_fits partial s ls =
     let g = read_good partial s ls start (record { good = record { fit = tt; from = tt; few = omega arith }; lined = omega arith }) in
     record { fit = g.fit; ordered = from_ordered no_rows 0 (read_by partial s ls start).rows refl (λ u k. refl) g.from; few = g.few }
 
-pub rows_fit : FileRowsFit
-rows_fit s bytes = file_fits false s (lines_of bytes)
-
-pub whole_fit : WholeRowsFit
-whole_fit s bytes = file_fits true s (lines_of bytes)
+pub file_rows_fit : FileRowsFit
+file_rows_fit s bytes = file_fits false s (lines_of bytes)
 
 -- ---- without slack
 
@@ -282,8 +279,5 @@ module _ (s : SideRules) (none : s.slack ≡ 0) where
         | false ↦ after_same p j (read_by partial s ls) (plain_by partial s ls) (λ q k. read_plain partial ls q k) h
       ]
 
-pub plain_files : PlainFiles
-plain_files s bytes none = read_plain s none false (lines_of bytes) start tt
-
-pub plain_wholes : PlainWholes
-plain_wholes s bytes none = read_plain s none true (lines_of bytes) start tt
+pub files_are_plain : PlainFiles
+files_are_plain s bytes none = read_plain s none false (lines_of bytes) start tt

@@ -9,16 +9,15 @@ use Rattle.saber_plan.specs.declared.plans.Shape.TheVariants.{Select, Group, Joi
 use Rattle.saber_plan.specs.Trees.{Tree}
 use Rattle.saber_plan.specs.Windows.{Frame, Fits, no_rows, mark_of, last_mark, mark_at, Ordered, Placed, place, placed_after, placed_from_start, has, closed_count, begun_count, past_count, from}
 use Rattle.saber_plan.specs.Answers.{by_shape, frame}
-use Rattle.saber_plan.specs.Parts.{part}
 use Rattle.saber_plan.specs.Tasks.{task_start, upto, piece}
-use Rattle.saber_plan.specs.Needs.{lies_open, first_place, first_open, free, part_here, piece_here, back_rows, task_rows, task_ends, back_mark}
+use Rattle.saber_plan.specs.Needs.{lies_open, first_place, first_open, free, piece_here, back_rows, task_rows, task_ends, back_mark}
 use Rattle.saber_laws.proofs.RowLaws.{slice-placed, Ordered-take, take-placed}
 use Rattle.saber_plan.specs.Facts.Lists.{Each, each-weaker, slice-join, slice-front, nothing_behind}
 use Rattle.saber_plan.specs.Facts.Rows.{length-placed}
 use Rattle.saber_laws.proofs.PairLaws.{Rising, placed_from, placed_below, placed_rising}
 use Rattle.saber_laws.proofs.EndLaws.{closed_on}
-use Rattle.saber_laws.proofs.TaskCutLaws.{cut_rises, cut_keeps, row_before, row_from, cut_by}
-use Rattle.saber_laws.proofs.NeedLaws.{lies_found, lies_at, Begun_by, input_begun, Not_past, behind_take, part_here_is, piece_here_is}
+use Rattle.saber_laws.proofs.TaskCutLaws.{cut_rises, cuts_rise, row_before, row_from, cut_by}
+use Rattle.saber_laws.proofs.NeedLaws.{lies_found, lies_at, Begun_by, input_begun, Not_past, behind_take, piece_here_is}
 
 -- ---- division
 
@@ -127,8 +126,8 @@ first_there : (f : Frame) (r : Input) (x p : ℕ) → first_open f (first_arriva
 first_there f r x p e = (first_before f r x p e, first_within f r x p e)
 
 -- a task looks back, and not forward
-pub free_at_most : (q : Tree) (n : ℕ) (r : Input) (t : ℕ) → 1 ≤ n → free q n r t ≤ t
-free_at_most q n r t h =
+pub tasks_look_back : (q : Tree) (n : ℕ) (r : Input) (t : ℕ) → 1 ≤ n → free q n r t ≤ t
+tasks_look_back q n r t h =
     elim (q.shape) as (λ s. by_shape s t t (free_by n t (first_open (frame q) (upto n r t))) ≤ t) [
       | Select ↦ le_refl t
       | Group ↦ le_refl t
@@ -147,8 +146,8 @@ rise_case n r t o (Some p) h l f g = ⊎_elim
     (cases_lt p (task_start n r t))
 
 -- and a later task looks no further back
-pub free_rises : (q : Tree) → Fits (frame q) → (n : ℕ) (r : Input) (t : ℕ) → Ordered no_rows r.rows → 1 ≤ n → free q n r t ≤ free q n r (t + 1)
-free_rises q w n r t o h =
+pub tasks_look_on : (q : Tree) → Fits (frame q) → (n : ℕ) (r : Input) (t : ℕ) → Ordered no_rows r.rows → 1 ≤ n → free q n r t ≤ free q n r (t + 1)
+tasks_look_on q w n r t o h =
     elim (q.shape) as (λ s. by_shape s t t (free_by n t (first_open (frame q) (upto n r t))) ≤ by_shape s (t + 1) (t + 1) (free_by n (t + 1) (first_open (frame q) (upto n r (t + 1))))) [
       | Select ↦ omega arith
       | Group ↦ omega arith
@@ -171,8 +170,8 @@ pub free_not_past : (q : Tree) (n : ℕ) (r : Input) (t : ℕ) → 1 ≤ n → q
 free_not_past q n r t h e = subst (λ k. Not_past (task_start n r k) (first_open (frame q) (upto n r t))) (sym (free_join q n r t e)) (not_past_case n r t _ h (λ p g. first_within (frame q) r (task_start n r t) p g))
 
 -- a task behind the end needs no row
-pub free_end : (q : Tree) (n : ℕ) (r : Input) (t : ℕ) → (upto n r t).ended ≡ true → free q n r t ≡ t
-free_end q n r t e =
+pub none_needed_behind : (q : Tree) (n : ℕ) (r : Input) (t : ℕ) → (upto n r t).ended ≡ true → free q n r t ≡ t
+none_needed_behind q n r t e =
     elim (q.shape) as (λ s. by_shape s t t (free_by n t (first_open (frame q) (upto n r t))) ≡ t) [
       | Select ↦ refl
       | Group ↦ refl
@@ -180,12 +179,8 @@ free_end q n r t e =
     ]
 
 pub free_ended : (q : Tree) (n : ℕ) (r : Input) (t : ℕ) → (upto n r t).ended ≡ true → (upto n r (free q n r t)).ended ≡ true
-free_ended q n r t e = ap (λ k. (upto n r k).ended) (free_end q n r t e) ∙ e
-
--- the part of task t is that of its need's rows alone
-pub need_part : (q : Tree) → Fits (frame q) → (n : ℕ) (r : Input) (t : ℕ) → Ordered no_rows r.rows → 1 ≤ n → (i : ℕ) → part_here q i (back_mark q n r t) (back_rows q n r t) (task_rows n r t) ≡ part q i r.rows (task_start n r t) (task_start n r (t + 1))
-need_part q w n r t o h i = part_here_is q w r (task_start n r (free q n r t)) (task_start n r t) (task_start n r (t + 1)) o (cut_keeps n r _ t (free_at_most q n r t h)) (cut_rises n r t) (free_not_past q n r t h) i
+free_ended q n r t e = ap (λ k. (upto n r k).ended) (none_needed_behind q n r t e) ∙ e
 
 -- and so is its piece
-pub need_piece : (q : Tree) → Fits (frame q) → (n : ℕ) (r : Input) (t : ℕ) → Ordered no_rows r.rows → 1 ≤ n → piece_here q (back_mark q n r t) (back_rows q n r t) (task_rows n r t) (task_ends n r t) ≡ piece q n r t
-need_piece q w n r t o h = piece_here_is q w r (task_start n r (free q n r t)) (task_start n r t) (task_start n r (t + 1)) o (cut_keeps n r _ t (free_at_most q n r t h)) (cut_rises n r t) (free_not_past q n r t h) (free_ended q n r t)
+pub needs_make_pieces : (q : Tree) → Fits (frame q) → (n : ℕ) (r : Input) (t : ℕ) → Ordered no_rows r.rows → 1 ≤ n → piece_here q (back_mark q n r t) (back_rows q n r t) (task_rows n r t) (task_ends n r t) ≡ piece q n r t
+needs_make_pieces q w n r t o h = piece_here_is q w r (task_start n r (free q n r t)) (task_start n r t) (task_start n r (t + 1)) o (cuts_rise n r _ t (tasks_look_back q n r t h)) (cut_rises n r t) (free_not_past q n r t h) (free_ended q n r t)

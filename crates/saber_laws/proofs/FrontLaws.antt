@@ -5,7 +5,7 @@ use Rattle.saber_plan.specs.declared.rows.RowCause.TheVariants.{TooManyLines, To
 use Rattle.saber_plan.specs.Rows.{Line, onto_line, lines_of, End, cut, bad, Read, before, stamp, SideRules, Place, start, Judged, skipped, taken, refused, judge_at, timed_line, accept, without_cr, is_known, no_more, after_line, read_by}
 use Rattle.saber_plan.specs.Facts.Lines.{length-without_cr, judged_long, long_known, long_open}
 use Rattle.saber_plan.specs.Inputs.{holds_up, alone, merged_rows}
-use Rattle.saber_laws.specs.Fronts.{IsFirstOf, AllAreFirst, WholeLinesAreFirst, MergesKeepFirst, InputsKeepFirst}
+use Rattle.saber_laws.specs.Fronts.{IsFirstOf, AllAreFirst, WholeLinesAreFirst, MergesKeepFirst}
 use Rattle.saber_laws.proofs.FileLaws.{From}
 use Rattle.saber_laws.proofs.DueLaws.{accepted_from, due_first}
 use Rattle.saber_laws.proofs.InputLaws.{both_sides, Begins}
@@ -22,8 +22,8 @@ first_of a b = ⊎_elim
     (λ c. record { rest = c.1.0; first = c.1.1; ends = inl c.0 })
     (λ e. record { rest = []; first = append-nil a.rows ∙ ap (λ (r : Read). r.rows) e; ends = inr e })
 
-pub all_first : AllAreFirst
-all_first a = first_of a a (inr refl)
+pub all_are_first : AllAreFirst
+all_are_first a = first_of a a (inr refl)
 
 -- where nothing is known yet
 nothing_yet : (b : Read) → SoFar (record { rows = []; end = cut }) b
@@ -125,8 +125,8 @@ module _ (partial : Bool) (s : SideRules) where
       (λ g. subst (λ m. SoFar (read_by true s (l ∷ ls) p) (read_by partial s m p)) (sym g.1) (same_line l ls g.0 p (λ q f. reads_go ls g.0 q g.2 f) k (is_known l) refl))
       h
 
-pub whole_first : WholeLinesAreFirst
-whole_first s bytes more = record {
+pub whole_lines_are_first : WholeLinesAreFirst
+whole_lines_are_first s bytes more = record {
   at_end = first_of _ _ (reads_go false s (lines_of bytes) (lines_of (bytes ++ more)) start (lines_go bytes more) tt);
   going_on = first_of _ _ (reads_go true s (lines_of bytes) (lines_of (bytes ++ more)) start (lines_go bytes more) tt);
 }
@@ -192,14 +192,5 @@ both_rows e d e' d' x xs y ys left right us vs h k =
 merge_goes : (e d e' d' : End) (xs ys : List Row) → MergeGoes e d e' d' xs ys
 merge_goes e d e' d' = both_sides (MergeGoes e d e' d') (no_left e d e' d') (no_right e d e' d') (both_rows e d e' d')
 
-pub merges_first : MergesKeepFirst
-merges_first l r l' r' h k = first_of _ _ (merge_goes l.end r.end l'.end r'.end l.rows r.rows l'.rows r'.rows (so_far l l' h) (so_far r r' k))
-
-pub inputs_first : InputsKeepFirst
-inputs_first [] [] h = all_first _
-inputs_first [] (b ∷ bs) h = absurd h
-inputs_first (a ∷ ls) [] h = absurd h
-inputs_first (a ∷ []) (b ∷ []) h = h.0
-inputs_first (a ∷ []) (b ∷ d ∷ bs) h = absurd h.1
-inputs_first (a ∷ c ∷ ls) (b ∷ []) h = absurd h.1
-inputs_first (a ∷ c ∷ ls) (b ∷ d ∷ bs) h = merges_first a c b d h.0 h.1.0
+pub merges_keep_first : MergesKeepFirst
+merges_keep_first l r l' r' h k = first_of _ _ (merge_goes l.end r.end l'.end r'.end l.rows r.rows l'.rows r'.rows (so_far l l' h) (so_far r r' k))

@@ -5,33 +5,32 @@ use Rattle.saber_plan.specs.Inputs.{Input}
 use Rattle.saber_plan.specs.Trees.{Tree}
 use Rattle.saber_plan.specs.Windows.{last_mark}
 use Rattle.saber_plan.specs.Answers.{by_shape, frame}
-use Rattle.saber_plan.specs.Tasks.{task_start, upto, places, piece, piece_between}
+use Rattle.saber_plan.specs.Tasks.{task_start, upto, places}
 use Rattle.saber_plan.specs.Needs.{first_open, free, back_rows, task_rows, back_mark}
 use Rattle.saber_plan.specs.Facts.Lists.{slice-take}
-use Rattle.saber_laws.proofs.TaskLaws.{piece-take}
-use Rattle.saber_laws.proofs.ListLaws.{stay}
-use Rattle.saber_laws.proofs.TaskCutLaws.{cut_rises, cut_keeps, cut-upto, upto-upto}
-use Rattle.saber_laws.specs.Needs.{NeedsStay, TasksStay}
-use Rattle.saber_laws.proofs.FreeLaws.{free_at_most}
+use Rattle.saber_laws.proofs.ListLaws.{places_stay}
+use Rattle.saber_laws.proofs.TaskCutLaws.{cut_rises, cuts_rise, cut-upto, first_of_first}
+use Rattle.saber_laws.specs.Needs.{NeedsStay}
+use Rattle.saber_laws.proofs.FreeLaws.{tasks_look_back}
 
-pub free-upto : (q : Tree) (n : ℕ) (r : Input) (d t : ℕ) → t ≤ d → free q n (upto n r d) t ≡ free q n r t
-free-upto q n r d t l = ap (λ u. by_shape q.shape t t (option_map_or (λ p. p / n) (first_open (frame q) u) t)) (upto-upto n r d t l)
+pub first_tell_free : (q : Tree) (n : ℕ) (r : Input) (d t : ℕ) → t ≤ d → free q n (upto n r d) t ≡ free q n r t
+first_tell_free q n r d t l = ap (λ u. by_shape q.shape t t (option_map_or (λ p. p / n) (first_open (frame q) u) t)) (first_of_first n r d t l)
 
 pub back_mark-upto : (q : Tree) (n : ℕ) (r : Input) (d t : ℕ) → 1 ≤ n → t ≤ d → back_mark q n (upto n r d) t ≡ back_mark q n r t
-back_mark-upto q n r d t h l = ap (λ f. last_mark (upto n (upto n r d) f)) (free-upto q n r d t l) ∙ ap last_mark (upto-upto n r d (free q n r t) (le_trans (free_at_most q n r t h) l))
+back_mark-upto q n r d t h l = ap (λ f. last_mark (upto n (upto n r d) f)) (first_tell_free q n r d t l) ∙ ap last_mark (first_of_first n r d (free q n r t) (le_trans (tasks_look_back q n r t h) l))
 
 pub back_rows-upto : (q : Tree) (n : ℕ) (r : Input) (d t : ℕ) → 1 ≤ n → t ≤ d → back_rows q n (upto n r d) t ≡ back_rows q n r t
 back_rows-upto q n r d t h l =
-    let back = free_at_most q n r t h in
-    ap (λ f. slice_range (upto n r d).rows (task_start n (upto n r d) f) (task_start n (upto n r d) t)) (free-upto q n r d t l)
+    let back = tasks_look_back q n r t h in
+    ap (λ f. slice_range (upto n r d).rows (task_start n (upto n r d) f) (task_start n (upto n r d) t)) (first_tell_free q n r d t l)
     ∙ ap₂ (slice_range (upto n r d).rows) (cut-upto n r d (free q n r t) (le_trans back l)) (cut-upto n r d t l)
-    ∙ slice-take r.rows (task_start n r (free q n r t)) (task_start n r t) (task_start n r d) (cut_keeps n r (free q n r t) t back) (cut_keeps n r t d l)
+    ∙ slice-take r.rows (task_start n r (free q n r t)) (task_start n r t) (task_start n r d) (cuts_rise n r (free q n r t) t back) (cuts_rise n r t d l)
 
 pub task_rows-upto : (n : ℕ) (r : Input) (d t : ℕ) → t + 1 ≤ d → task_rows n (upto n r d) t ≡ task_rows n r t
 task_rows-upto n r d t l =
     let less : t ≤ d = omega arith in
     ap₂ (slice_range (upto n r d).rows) (cut-upto n r d t less) (cut-upto n r d (t + 1) l)
-    ∙ slice-take r.rows (task_start n r t) (task_start n r (t + 1)) (task_start n r d) (cut_rises n r t) (cut_keeps n r (t + 1) d l)
+    ∙ slice-take r.rows (task_start n r t) (task_start n r (t + 1)) (task_start n r d) (cut_rises n r t) (cuts_rise n r (t + 1) d l)
 
 -- where its rows stand in their substreams
 pub places-upto : (q : Tree) (n : ℕ) (r : Input) (d t : ℕ) → t + 1 ≤ d
@@ -39,16 +38,7 @@ pub places-upto : (q : Tree) (n : ℕ) (r : Input) (d t : ℕ) → t + 1 ≤ d
 places-upto q n r d t l =
     let less : t ≤ d = omega arith in
     ap₂ (places q (upto n r d).rows) (cut-upto n r d t less) (cut-upto n r d (t + 1) l)
-    ∙ stay q r.rows (task_start n r t) (task_start n r (t + 1)) (task_start n r d) (cut_rises n r t) (cut_keeps n r (t + 1) d l)
+    ∙ places_stay q r.rows (task_start n r t) (task_start n r (t + 1)) (task_start n r d) (cut_rises n r t) (cuts_rise n r (t + 1) d l)
 
-pub piece-upto : (q : Tree) (n : ℕ) (r : Input) (d t : ℕ) → t + 1 ≤ d → piece q n (upto n r d) t ≡ piece q n r t
-piece-upto q n r d t l =
-    let less : t ≤ d = omega arith in
-    ap₂ (piece_between q (upto n r d)) (cut-upto n r d t less) (cut-upto n r d (t + 1) l)
-    ∙ piece-take q r (task_start n r t) (task_start n r (t + 1)) (task_start n r d) (cut_rises n r t) (cut_keeps n r (t + 1) d l)
-
-pub need_kept : NeedsStay
-need_kept q n r d t h l = record { begins = cut-upto n r d t l; free_pointer = free-upto q n r d t l; mark = back_mark-upto q n r d t h l; rows = back_rows-upto q n r d t h l }
-
-pub task_kept : TasksStay
-task_kept q n r d t l = record { rows = task_rows-upto n r d t l; ends = ap (λ (u : Input). u.ended) (upto-upto n r d (t + 1) l); given = piece-upto q n r d t l }
+pub needs_stay : NeedsStay
+needs_stay q n r d t h l = record { begins = cut-upto n r d t l; free_pointer = first_tell_free q n r d t l; mark = back_mark-upto q n r d t h l; rows = back_rows-upto q n r d t h l }

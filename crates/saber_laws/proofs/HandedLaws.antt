@@ -16,10 +16,10 @@ use Rattle.saber_plan.specs.Shares.{full, numbered_list, is_closed, is_pending, 
 use Rattle.saber_plan.specs.Tasks.{unclosed}
 use Rattle.saber_laws.specs.Shares.{Between}
 use Rattle.saber_laws.specs.Words.{HandedRise, HandedPartsAre, HandedIsTakenIn, OpenBehind}
-use Rattle.saber_laws.proofs.WindowLaws.{begun_is, closed_within_begun}
+use Rattle.saber_laws.proofs.WindowLaws.{begun_are_counted, closed_within_begun}
 use Rattle.saber_laws.proofs.NumberedLaws.{entries-numbered, get_low, get_in, get_high}
-use Rattle.saber_laws.proofs.AssemblyLaws.{count_kind, kind_is, full-merge}
-use Rattle.saber_laws.proofs.EndLaws.{closed_rises, begun_rises, join_at, not_begun_part}
+use Rattle.saber_laws.proofs.AssemblyLaws.{count_kind, kind_is, full_merges}
+use Rattle.saber_laws.proofs.EndLaws.{closed_rise, begun_rise, parts_join, not_begun_part}
 use Rattle.saber_laws.proofs.SharesLaws.{numbered-none, numbered-same, numbered-three}
 use Rattle.saber_laws.proofs.OpenLaws.{unclosed_at, full_nothing, kept_is}
 
@@ -95,7 +95,7 @@ module _ (q : Tree) (r : Input) (x y : ℕ) (t : Between q r x y) where
   at i = full (part q i r.rows x y)
 
   rising : first ≤ past
-  rising = le_trans (closed_rises (frame q) t.fits r x y t.ordered t.rises) (closed_within_begun (frame q) t.fits (mark_at r y))
+  rising = le_trans (closed_rise (frame q) t.fits r x y t.ordered t.rises) (closed_within_begun (frame q) t.fits (mark_at r y))
 
   -- each window's part, if it isn't empty
   handed_are : entries_in (handed_between q r x y) ≡ numbered_list first (past - first) at
@@ -107,7 +107,7 @@ module _ (q : Tree) (r : Input) (x y : ℕ) (t : Between q r x y) where
       let counted = λ (i : ℕ). kind_is f t.fits i a b in
       let by = λ (wanted : Option Kind → Bool) (kinds : ℕ → Option Kind). numbered_list first (past - first) (λ i. cond (wanted (kinds i)) (at i) None) in
       (λ j. by is_closed (λ i. counted i j) ++ (by is_pending (λ i. counted i j) ++ by is_opening (λ i. counted i j)))
-      ∙ three_are first (begun_count f a) (closed_count f b) past (closed_rises f t.fits r x y t.ordered t.rises) (begun_rises f t.fits r x y t.ordered t.rises) (closed_within_begun f t.fits a) (closed_within_begun f t.fits b) at
+      ∙ three_are first (begun_count f a) (closed_count f b) past (closed_rise f t.fits r x y t.ordered t.rises) (begun_rise f t.fits r x y t.ordered t.rises) (closed_within_begun f t.fits a) (closed_within_begun f t.fits b) at
 
   handed_at : (i : ℕ) → get (from_entries {R = nat_cmp} (entries_in (handed_between q r x y))) i ≡ cond (nat_le first i) (at i) None
   handed_at i =
@@ -118,13 +118,13 @@ module _ (q : Tree) (r : Input) (x y : ℕ) (t : Between q r x y) where
       (λ l. ⊎_elim
       (λ h. get_in i first (past - first) at l (omega (arith, l, h)))
       (λ h. get_high i first (past - first) at (omega (arith, h, up))
-      ∙ sym (ap full (not_begun_part q i r x y t.ordered t.rises (sym (begun_is (frame q) t.fits i (mark_at r y)) ∙ le-ltb i _ h)) ∙ full_nothing))
+      ∙ sym (ap full (not_begun_part q i r x y t.ordered t.rises (sym (begun_are_counted (frame q) t.fits i (mark_at r y)) ∙ le-ltb i _ h)) ∙ full_nothing))
       (cases_lt i past)
       ∙ sym (ap (λ b. cond b (at i) None) (le-leb first i l)))
       (cases_lt i first)
 
   joined_case : (b : Bool) (i : ℕ) → join merge (cond b (full (part q i r.rows 0 x)) None) (cond b (at i) None) ≡ cond b (full (part q i r.rows 0 y)) None
-  joined_case true i = sym (full-merge (part q i r.rows 0 x) (part q i r.rows x y)) ∙ ap full (sym (join_at q i r.rows 0 x y zero-le t.rises))
+  joined_case true i = sym (full_merges (part q i r.rows 0 x) (part q i r.rows x y)) ∙ ap full (sym (parts_join q i r.rows 0 x y zero-le t.rises))
   joined_case false i = refl
 
 pub handed_rise : HandedRise
@@ -133,11 +133,11 @@ handed_rise q r x y t =
     let n = past q r x y t - first q r x y t in
     subst (λ es. T (is_sorted nat_cmp es)) (entries-numbered c n (at q r x y t) ∙ sym (handed_are q r x y t)) (entries_sorted (from_entries {R = nat_cmp} (numbered_list c n (at q r x y t))))
 
-pub handed_parts : HandedPartsAre
-handed_parts q r x y t i p e = kept_is (nat_le (first q r x y t) i) (part q i r.rows x y) p (sym (handed_at q r x y t i) ∙ e)
+pub handed_parts_are : HandedPartsAre
+handed_parts_are q r x y t i p e = kept_is (nat_le (first q r x y t) i) (part q i r.rows x y) p (sym (handed_at q r x y t i) ∙ e)
 
-pub taken_handed : HandedIsTakenIn
-taken_handed q r x y t i =
+pub handed_is_taken_in : HandedIsTakenIn
+handed_is_taken_in q r x y t i =
     get-both nat_cmp_total merge (unclosed q (first_arrivals r x)) (from_entries {R = nat_cmp} (entries_in (handed_between q r x y))) i
     ∙ ap₂ (join merge) (unclosed_at q t.fits r x i t.ordered) (handed_at q r x y t i)
     ∙ joined_case q r x y t (nat_le (first q r x y t) i) i

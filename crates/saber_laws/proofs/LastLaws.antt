@@ -12,12 +12,12 @@ use Rattle.saber_plan.specs.Answers.{frame}
 use Rattle.saber_plan.specs.Tasks.{task_start, upto}
 use Rattle.saber_plan.specs.Needs.{first_window, past_window, last_window, lies_open, first_place, first_open, free, later_of, last_of, reaches, free_of, block_lasts, task_mark}
 use Rattle.std.proofs.lemmas.List.Elements.{filter-append}
-use Rattle.saber_laws.proofs.WindowLaws.{closed_is}
+use Rattle.saber_laws.proofs.WindowLaws.{closed_are_counted}
 use Rattle.saber_laws.proofs.RowLaws.{take-placed, Ordered-take}
 use Rattle.saber_plan.specs.Facts.Lists.{Each, each-weaker, dropped, slice-join, slice-front, slice-take}
 use Rattle.saber_laws.proofs.PairLaws.{placed_below, placed_rising}
-use Rattle.saber_laws.proofs.TaskCutLaws.{cut_rises, cut_keeps, row_before, row_from}
-use Rattle.saber_laws.proofs.NeedLaws.{has_is, lies_found, lies_at, Begun_by, input_begun, each-take, each-both, none_early}
+use Rattle.saber_laws.proofs.TaskCutLaws.{cut_rises, cuts_rise, row_before, row_from}
+use Rattle.saber_laws.proofs.NeedLaws.{rows_span, lies_found, lies_at, Begun_by, input_begun, each-take, each-both, none_early}
 use Rattle.saber_laws.proofs.FreeLaws.{div_from, div_below, first_from, first_below, free_by, free_join, free_not_past, slice_from}
 
 same_tests : (a b : Bool) → (a ≡ true → b ≡ true) → (b ≡ true → a ≡ true) → a ≡ b
@@ -43,11 +43,11 @@ pub lies_open_is : (f : Frame) → Fits f → (m : Mark) (x : Placed) → Begun_
 lies_open_is f w m x b = same_tests (lies_open f m x) (reaches (last_window f x) (closed_count f m))
     (λ h.
     let l = lies_found f w m x h in
-    let low : closed_count f m ≤ l.window = ⊎_elim (λ (k : l.window < closed_count f m). absurd (both_ways _ l.unclosed (sym (closed_is f w l.window m) ∙ lt-ltb _ _ k))) (λ k. k) (cases_lt l.window (closed_count f m)) in
-    last_case (closed_count f m) (first_window f x) (past_window f x) l.window low (sym (has_is f w l.window x) ∙ l.holds))
+    let low : closed_count f m ≤ l.window = ⊎_elim (λ (k : l.window < closed_count f m). absurd (both_ways _ l.unclosed (sym (closed_are_counted f w l.window m) ∙ lt-ltb _ _ k))) (λ k. k) (cases_lt l.window (closed_count f m)) in
+    last_case (closed_count f m) (first_window f x) (past_window f x) l.window low (sym (rows_span f w l.window x) ∙ l.holds))
     (λ h.
     let l = last_there (closed_count f m) (first_window f x) (past_window f x) _ refl h in
-    lies_at f w m x b (past_window f x - 1) (sym (closed_is f w (past_window f x - 1) m) ∙ le-ltb (past_window f x - 1) (closed_count f m) l.far) (has_is f w (past_window f x - 1) x ∙ l.there))
+    lies_at f w m x b (past_window f x - 1) (sym (closed_are_counted f w (past_window f x - 1) m) ∙ le-ltb (past_window f x - 1) (closed_count f m) l.far) (rows_span f w (past_window f x - 1) x ∙ l.there))
 
 -- ---- blocks
 
@@ -131,7 +131,7 @@ module _ (f : Frame) (w : Fits f) (n : ℕ) (r : Input) (t : ℕ) (o : Ordered n
   block_case u k e rest true g =
       let block = slice_range (placed_from_start r.rows) (task_start n r u) (task_start n r (u + 1)) in
       let later = slice_range (placed_from_start r.rows) (task_start n r (u + 1)) (task_start n r t) in
-      let within : task_start n r (u + 1) ≤ task_start n r t = cut_keeps n r (u + 1) t (omega arith) in
+      let within : task_start n r (u + 1) ≤ task_start n r t = cuts_rise n r (u + 1) t (omega arith) in
       let here = block_some opened f (closed_count f mark) block (told (task_start n r u) (task_start n r (u + 1)) (cut_rises n r u) within) g in
       let low = first_from opened (task_start n r u) block (slice_from r (task_start n r u) (task_start n r (u + 1))) here.place_of here.is in
       let high = first_below opened (task_start n r (u + 1)) block (slice_below r.rows (task_start n r u) (task_start n r (u + 1)) (cut_rises n r u)) here.place_of here.is in
@@ -140,7 +140,7 @@ module _ (f : Frame) (w : Fits f) (n : ℕ) (r : Input) (t : ℕ) (o : Ordered n
   block_case u k e rest false g =
       let block = slice_range (placed_from_start r.rows) (task_start n r u) (task_start n r (u + 1)) in
       let later = slice_range (placed_from_start r.rows) (task_start n r (u + 1)) (task_start n r t) in
-      let within : task_start n r (u + 1) ≤ task_start n r t = cut_keeps n r (u + 1) t (omega arith) in
+      let within : task_start n r (u + 1) ≤ task_start n r t = cuts_rise n r (u + 1) t (omega arith) in
       ap (λ l. free_by n t (first_place l)) (filter-append opened block later ∙ ap (λ l. l ++ filter opened later) (block_none opened f (closed_count f mark) block (told (task_start n r u) (task_start n r (u + 1)) (cut_rises n r u) within) g)) ∙ rest
 
   by_blocks : (k u : ℕ) → u + k ≡ t → free_by n t (first_place (filter opened (slice_range (placed_from_start r.rows) (task_start n r u) (task_start n r t)))) ≡ free_of u (block_lasts f n r u k) (closed_count f mark)
@@ -152,25 +152,25 @@ module _ (f : Frame) (w : Fits f) (n : ℕ) (r : Input) (t : ℕ) (o : Ordered n
       ap (λ l. free_by n t (first_place (filter opened l))) none ∙ sym same
   by_blocks (suc k) u e =
       let next : (u + 1) + k ≡ t = omega arith in
-      let within : task_start n r (u + 1) ≤ task_start n r t = cut_keeps n r (u + 1) t (omega arith) in
+      let within : task_start n r (u + 1) ≤ task_start n r t = cuts_rise n r (u + 1) t (omega arith) in
       ap (λ l. free_by n t (first_place (filter opened l))) (slice-join (placed_from_start r.rows) (task_start n r u) (task_start n r (u + 1)) (task_start n r t) (cut_rises n r u) within)
       ∙ block_case u k (omega arith) (by_blocks k (u + 1) next) _ refl
 
 -- the free pointer is what the last windows of the blocks from an earlier one on say
-pub free_by_lasts : (q : Tree) → Fits (frame q) → (n : ℕ) (r : Input) (t first : ℕ) → Ordered no_rows r.rows → 1 ≤ n → q.shape ≡ Join → first ≤ free q n r t → first ≤ t
+pub lasts_tell_free : (q : Tree) → Fits (frame q) → (n : ℕ) (r : Input) (t first : ℕ) → Ordered no_rows r.rows → 1 ≤ n → q.shape ≡ Join → first ≤ free q n r t → first ≤ t
     → free q n r t ≡ free_of first (block_lasts (frame q) n r first (t - first)) (closed_count (frame q) (task_mark n r t))
 unfolding first_open
-free_by_lasts q w n r t first o h e l b =
+lasts_tell_free q w n r t first o h e l b =
     let f = frame q in
     let m = task_mark n r t in
     let all : placed_from_start (take (task_start n r t) r.rows) ≡ slice_range (placed_from_start r.rows) 0 (task_start n r first) ++ slice_range (placed_from_start r.rows) (task_start n r first) (task_start n r t) =
-    sym (slice-front (placed_from_start r.rows) (task_start n r t) ∙ take-placed (task_start n r t) no_rows r.rows) ∙ slice-join (placed_from_start r.rows) 0 (task_start n r first) (task_start n r t) zero-le (cut_keeps n r first t b) in
+    sym (slice-front (placed_from_start r.rows) (task_start n r t) ∙ take-placed (task_start n r t) no_rows r.rows) ∙ slice-join (placed_from_start r.rows) 0 (task_start n r first) (task_start n r t) zero-le (cuts_rise n r first t b) in
     let whole : slice_range (placed_from_start r.rows) 0 (task_start n r t) ≡ placed_from_start (take (task_start n r t) r.rows) = slice-front (placed_from_start r.rows) (task_start n r t) ∙ take-placed (task_start n r t) no_rows r.rows in
     let early = none_early (lies_open f m) (task_start n r (free q n r t)) (placed_from_start (take (task_start n r t) r.rows)) (placed_rising no_rows (take (task_start n r t) r.rows)) (free_not_past q n r t h e) in
     let front_early : Each (λ (z : Placed). place z < task_start n r (free q n r t) → lies_open f m z ≡ false) (slice_range (placed_from_start r.rows) 0 (task_start n r first)) =
-    each-slice _ (placed_from_start r.rows) 0 (task_start n r first) (task_start n r t) zero-le (cut_keeps n r first t b) (subst (Each _) (sym (take-placed (task_start n r t) no_rows r.rows)) early) in
+    each-slice _ (placed_from_start r.rows) 0 (task_start n r first) (task_start n r t) zero-le (cuts_rise n r first t b) (subst (Each _) (sym (take-placed (task_start n r t) no_rows r.rows)) early) in
     let none : filter (lies_open f m) (slice_range (placed_from_start r.rows) 0 (task_start n r first)) ≡ [] =
-    dropped (lies_open f m) _ (each-weaker _ _ (λ z p. p.0 (lt_of_lt_of_le p.1 (cut_keeps n r first (free q n r t) l))) _ (each-both _ _ _ front_early (slice_below r.rows 0 (task_start n r first) zero-le))) in
+    dropped (lies_open f m) _ (each-weaker _ _ (λ z p. p.0 (lt_of_lt_of_le p.1 (cuts_rise n r first (free q n r t) l))) _ (each-both _ _ _ front_early (slice_below r.rows 0 (task_start n r first) zero-le))) in
     free_join q n r t e
     ∙ ap (λ k. free_by n t (first_place k)) (ap (filter (lies_open f m)) all ∙ filter-append (lies_open f m) (slice_range (placed_from_start r.rows) 0 (task_start n r first)) (slice_range (placed_from_start r.rows) (task_start n r first) (task_start n r t)) ∙ ap (λ k. k ++ filter (lies_open f m) (slice_range (placed_from_start r.rows) (task_start n r first) (task_start n r t))) none)
     ∙ by_blocks f w n r t o h (t - first) first (omega arith)

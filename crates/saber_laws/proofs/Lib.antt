@@ -19,14 +19,10 @@ pub mod GrowLaws
 pub mod LastLaws
 pub mod PairingLaws
 pub mod InputLaws
-pub mod AloneLaws
-pub mod KindLaws
 pub mod StepLaws
 pub mod MergedLaws
 pub mod RowPairLaws
-pub mod RangeLaws
 pub mod CutLaws
-pub mod NumberedMapLaws
 pub mod SharesLaws
 pub mod LocalLaws
 pub mod OpenLaws

@@ -21,30 +21,30 @@ use Rattle.saber_plan.specs.Parts.{no_part, part, row_part, group_part, pair_par
 use Rattle.saber_plan.specs.Shares.{is_complete, is_closed, is_closing, is_pending, is_opening, of_kind, part_here, shares_here, shares_between, handed_here, handed_between, piece_in}
 use Rattle.saber_plan.specs.Tasks.{piece_between}
 use Rattle.saber_plan.specs.Needs.{first_window, past_window, lies_open, first_place, first_open, piece_here}
-use Rattle.saber_laws.proofs.WindowLaws.{spans_is, closed_is, begun_is, begins, begun_after, begun_ending}
+use Rattle.saber_laws.proofs.WindowLaws.{points_span, closed_are_counted, begun_are_counted, begins, begun_after, begun_ending}
 use Rattle.saber_laws.proofs.RowLaws.{slice-placed, take-placed, inside-join, inside-closed, Ordered-take}
 use Rattle.saber_plan.specs.Facts.Lists.{Each, each-filter, each-weaker, dropped, slice-join, slice-front, nothing_behind}
 use Rattle.saber_laws.proofs.PairLaws.{Rising, pair_part-none, placed_below, placed_rising, behind, behind_after}
 use Rattle.saber_laws.proofs.ShareLaws.{inside_below, shaped}
 use Rattle.saber_laws.proofs.PartLaws.{group_part-empty}
 use Rattle.saber_laws.proofs.RowPartLaws.{row_part-nil}
-use Rattle.saber_laws.proofs.EndLaws.{rows_on, mark_on, mark_next, mark_open, open_at, part_behind}
+use Rattle.saber_laws.proofs.EndLaws.{marks_go_on, marks_follow, mark_next, marks_are_of_rows, open_at, part_behind}
 use Rattle.saber_laws.proofs.TaskLaws.{lines-whole}
 
 -- ---- the windows of a row
 
 has_case : (f : Frame) → Fits f → (i : ℕ) (s : Side) (v : Values) (m : Mark) → has f i (record { row = record { side = s; values = v }; before = m }) ≡ (nat_le (first_window f (record { row = record { side = s; values = v }; before = m })) i && nat_lt i (past_window f (record { row = record { side = s; values = v }; before = m })))
 has_case unwindowed w i s v m = grind (arith, nat_tests)
-has_case (one Rows k n) w i Left v m = spans_is k n i m.left w.0
+has_case (one Rows k n) w i Left v m = points_span k n i m.left w.0
 has_case (one Rows k n) w i Right v m = grind (arith, nat_tests)
-has_case (one Range k n) w i Left v m = spans_is k n i (stamp v) w.0
+has_case (one Range k n) w i Left v m = points_span k n i (stamp v) w.0
 has_case (one Range k n) w i Right v m = grind (arith, nat_tests)
-has_case (two Rows k n r) w i s v m = spans_is k (by_side s n r) i (by_side s m.left m.right) w.0
-has_case (two Range k n r) w i s v m = spans_is k (by_side s n r) i (stamp v) w.0
+has_case (two Rows k n r) w i s v m = points_span k (by_side s n r) i (by_side s m.left m.right) w.0
+has_case (two Range k n r) w i s v m = points_span k (by_side s n r) i (stamp v) w.0
 
 -- a window has a row exactly where its number lies between two counts
-pub has_is : (f : Frame) → Fits f → (i : ℕ) (x : Placed) → has f i x ≡ (nat_le (first_window f x) i && nat_lt i (past_window f x))
-has_is f w i x = has_case f w i x.row.side x.row.values x.before
+pub rows_span : (f : Frame) → Fits f → (i : ℕ) (x : Placed) → has f i x ≡ (nat_le (first_window f x) i && nat_lt i (past_window f x))
+rows_span f w i x = has_case f w i x.row.side x.row.values x.before
 
 -- ---- tests over numbers in a row
 
@@ -88,7 +88,7 @@ pub record Lies (f : Frame) (m : Mark) (x : Placed) : Type 0 where
 pub lies_found : (f : Frame) → Fits f → (m : Mark) (x : Placed) → lies_open f m x ≡ true → Lies f m x
 lies_found f w m x h =
     let e = any_found (λ i. has f i x) (closed_count f m) (begun_count f m - closed_count f m) h in
-    record { window = e.number; unclosed = sym (closed_is f w e.number m) ∙ le-ltb e.number _ e.low; holds = e.passes }
+    record { window = e.number; unclosed = sym (closed_are_counted f w e.number m) ∙ le-ltb e.number _ e.low; holds = e.passes }
 
 -- a window that has the row is begun by rows with the mark
 abbrev pub Begun_by : Frame → Mark → Placed → Type 0
@@ -99,8 +99,8 @@ not_below i c h = ⊎_elim (λ l. absurd (both_ways _ h (lt-ltb i c l))) (λ l. 
 
 pub lies_at : (f : Frame) → Fits f → (m : Mark) (x : Placed) → Begun_by f m x → (i : ℕ) → closed f i m ≡ false → has f i x ≡ true → lies_open f m x ≡ true
 lies_at f w m x b i c h =
-    let low : closed_count f m ≤ i = not_below i _ (closed_is f w i m ∙ c) in
-    let high : i < begun_count f m = ltb-true i _ (begun_is f w i m ∙ b i h) in
+    let low : closed_count f m ≤ i = not_below i _ (closed_are_counted f w i m ∙ c) in
+    let high : i < begun_count f m = ltb-true i _ (begun_are_counted f w i m ∙ b i h) in
     any_at (λ k. has f k x) (closed_count f m) (begun_count f m - closed_count f m) i low (omega arith) h
 
 -- the windows of rows are begun by them
@@ -175,7 +175,7 @@ kept_lines f g p e (i ∷ is) = kept_case f g p e i is (p i) refl (kept_lines f 
 -- a cut of positions s, x, y of some rows
 module _ (q : Tree) (w : Fits (frame q)) (xs : List Row) (s x y : ℕ) (o : Ordered no_rows xs) (d : s ≤ x) (a : x ≤ y) (h : x ≤ length xs) where
   back_place : (mark_of (take s xs)).left + (mark_of (take s xs)).right + length (slice_range xs s x) ≡ x
-  back_place = sym (behind_after (mark_of (take s xs)) (slice_range xs s x)) ∙ ap behind (sym (rows_on xs s x d)) ∙ behind_take xs x h
+  back_place = sym (behind_after (mark_of (take s xs)) (slice_range xs s x)) ∙ ap behind (sym (marks_go_on xs s x d)) ∙ behind_take xs x h
 
   back_inside : (i : ℕ) → filter (has (frame q) i) (placed_after (mark_of (take s xs)) (slice_range xs s x ++ slice_range xs x y)) ≡ inside (frame q) i xs s y
   back_inside i = ap (λ l. filter (has (frame q) i) (placed_after (mark_of (take s xs)) l)) (sym (slice-join xs s x y d a)) ∙ ap (filter (has (frame q) i)) (sym (slice-placed xs s y))
@@ -199,7 +199,7 @@ module _ (q : Tree) (w : Fits (frame q)) (xs : List Row) (s x y : ℕ) (o : Orde
   pairs_case i n false c = open_pairs i n c
 
   group_rows : (i : ℕ) → filter (has (frame q) i) (placed_after (mark_after (mark_of (take s xs)) (slice_range xs s x)) (slice_range xs x y)) ≡ inside (frame q) i xs x y
-  group_rows i = ap (λ m. filter (has (frame q) i) (placed_after m (slice_range xs x y))) (sym (rows_on xs s x d)) ∙ ap (filter (has (frame q) i)) (sym (slice-placed xs x y))
+  group_rows i = ap (λ m. filter (has (frame q) i) (placed_after m (slice_range xs x y))) (sym (marks_go_on xs s x d)) ∙ ap (filter (has (frame q) i)) (sym (slice-placed xs x y))
 
   -- the part is the same, from rows s to x and x to y alone, where no row before s lies in a window that is open at x
   rows_here : (q.shape ≡ Join → Not_past s (first_open (frame q) (going_on (take x xs)))) → (i : ℕ) → part_here q i (mark_of (take s xs)) (slice_range xs s x) (slice_range xs x y) ≡ part q i xs x y
@@ -235,7 +235,7 @@ module _ (q : Tree) (w : Fits (frame q)) (r : Input) (s x y : ℕ) (o : Ordered 
   among_rows : (q.shape ≡ Join → Not_past s (first_open (frame q) (first_arrivals r x))) → x ≤ length r.rows → (i : ℕ) → part_here q i (mark_at r s) back rows ≡ part q i r.rows x y
   among_rows n h i =
       let here : first_arrivals r x ≡ going_on (take x r.rows) = λ j. record { rows = take x r.rows; ended = open_at r x h j } in
-      ap (λ m. part_here q i m back rows) (mark_open r s (open_at r s (le_trans d h)))
+      ap (λ m. part_here q i m back rows) (marks_are_of_rows r s (open_at r s (le_trans d h)))
       ∙ rows_here q w r.rows s x y o d a h (λ e. subst (λ u. Not_past s (first_open (frame q) u)) here (n e)) i
 
   -- the part is the same, from rows s to x and x to y alone, where no row before s lies in a window that is open at x
@@ -258,7 +258,7 @@ module _ (q : Tree) (w : Fits (frame q)) (r : Input) (s x y : ℕ) (o : Ordered 
       let m = mark_at r x in
       let u = mark_at r y in
       let ma : mark_after (mark_at r s) back ≡ m = mark_next r s x d k in
-      let mb : end_mark (first_arrivals r y).ended (mark_after (mark_after (mark_at r s) back) rows) ≡ u = ap (λ b. end_mark (first_arrivals r y).ended (mark_after b rows)) ma ∙ sym (mark_on r x y a) in
+      let mb : end_mark (first_arrivals r y).ended (mark_after (mark_after (mark_at r s) back) rows) ≡ u = ap (λ b. end_mark (first_arrivals r y).ended (mark_after b rows)) ma ∙ sym (marks_follow r x y a) in
       let here = λ (i : ℕ). part_here q i (mark_at r s) back rows in
       let whole_numbers = λ (b c : Mark). filter (λ i. is_complete (kind_of f i b c)) (from (closed_count f b) (begun_count f c - closed_count f b)) in
       let whole = λ (b c : Mark). flat_map (λ i. part_lines q i (here i)) (whole_numbers b c) in
@@ -280,7 +280,7 @@ module _ (q : Tree) (w : Fits (frame q)) (r : Input) (s x y : ℕ) (o : Ordered 
   handed_here_is n k =
       let f = frame q in
       let ma : mark_after (mark_at r s) back ≡ mark_at r x = mark_next r s x d k in
-      let mb : end_mark (first_arrivals r y).ended (mark_after (mark_after (mark_at r s) back) rows) ≡ mark_at r y = ap (λ b. end_mark (first_arrivals r y).ended (mark_after b rows)) ma ∙ sym (mark_on r x y a) in
+      let mb : end_mark (first_arrivals r y).ended (mark_after (mark_after (mark_at r s) back) rows) ≡ mark_at r y = ap (λ b. end_mark (first_arrivals r y).ended (mark_after b rows)) ma ∙ sym (marks_follow r x y a) in
       λ j. record {
         closing = of_kind is_closed f (ma j) (mb j) (λ i. part_here_is n i j);
         pending = of_kind is_pending f (ma j) (mb j) (λ i. part_here_is n i j);

@@ -24,10 +24,6 @@ number_less : (a b : ℕ) → a < b → nat_cmp a b ≡ Less
 number_less a b h = grind (arith, nat_tests)
 
 module _ {X : Type 0} where
-  -- a number's own entry, before the others
-  onto : ℕ → Option X → List (ℕ × X) → List (ℕ × X)
-  onto a o rest = cons_option (option_map (λ x. (a, x)) o) rest
-
   find_here : (i a : ℕ) (o : Option X) (rest : List (ℕ × X)) → i ≡ a → find nat_cmp i rest ≡ None → find nat_cmp i (cons_option (option_map (λ x. (a, x)) o) rest) ≡ o
   find_here i a None rest e n = n
   find_here i a (Some x) rest e n = ap (λ b. cond b (Some x) (find nat_cmp i rest)) (same_number i a e)

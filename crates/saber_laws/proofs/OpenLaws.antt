@@ -11,10 +11,10 @@ use Rattle.saber_plan.specs.Parts.{Part, no_part, part, Numbers}
 use Rattle.saber_plan.specs.Shares.{full}
 use Rattle.saber_plan.specs.Tasks.{unclosed, piece_between}
 use Rattle.saber_laws.specs.Shares.{Between, OpenPartsAre, PiecePartsAre}
-use Rattle.saber_laws.proofs.WindowLaws.{begun_is, closed_within_begun}
+use Rattle.saber_laws.proofs.WindowLaws.{begun_are_counted, closed_within_begun}
 use Rattle.saber_laws.proofs.NumberedLaws.{get_low, get_in, get_high}
 use Rattle.saber_laws.proofs.DirectLaws.{is_part, parts_between}
-use Rattle.saber_laws.proofs.EndLaws.{closed_rises, part_upto, part_not_begun}
+use Rattle.saber_laws.proofs.EndLaws.{closed_rise, part_upto, part_not_begun}
 use Rattle.saber_laws.proofs.AssemblyLaws.{count_kind, kind_is}
 
 -- ---- a part that isn't empty is itself
@@ -47,7 +47,7 @@ abbrev open_before : Tree → Input → ℕ → ℕ → Bool
 open_before q r x i = nat_le (closed_count (frame q) (mark_at r x)) i
 
 part_before : (q : Tree) → Fits (frame q) → (r : Input) (x i : ℕ) → Ordered no_rows r.rows → begun_count (frame q) (mark_at r x) ≤ i → part q i r.rows 0 x ≡ no_part
-part_before q w r x i o h = part_not_begun q i r x o (sym (begun_is (frame q) w i (mark_at r x)) ∙ le-ltb i _ h)
+part_before q w r x i o h = part_not_begun q i r x o (sym (begun_are_counted (frame q) w i (mark_at r x)) ∙ le-ltb i _ h)
 
 pub unclosed_at : (q : Tree) → Fits (frame q) → (r : Input) (x i : ℕ) → Ordered no_rows r.rows → get (unclosed q (first_arrivals r x)) i ≡ cond (open_before q r x i) (full (part q i r.rows 0 x)) None
 unfolding unclosed
@@ -76,7 +76,7 @@ piece_at q r x y t i =
     let b = mark_at r y in
     let c = closed_count f a in
     let g = begun_count f b in
-    let c_g : c ≤ g = le_trans (closed_rises f t.fits r x y t.ordered t.rises) (closed_within_begun f t.fits b) in
+    let c_g : c ≤ g = le_trans (closed_rise f t.fits r x y t.ordered t.rises) (closed_within_begun f t.fits b) in
     let at = λ (k : ℕ). cond (is_part (kind_of f k a b)) (full (part q k r.rows x y)) None in
     let there = λ (k : Bool). cond k (full (part q i r.rows x y)) None in
     ap (λ m. get m i) (parts_between q r x y)
@@ -88,8 +88,8 @@ piece_at q r x y t i =
     (cases_lt i g))
     (cases_lt i c)
 
-pub open_parts : OpenPartsAre
-open_parts q r x y t i p e = kept_is (open_before q r x i) (part q i r.rows 0 x) p (sym (unclosed_at q t.fits r x i t.ordered) ∙ e)
+pub open_parts_are : OpenPartsAre
+open_parts_are q r x y t i p e = kept_is (open_before q r x i) (part q i r.rows 0 x) p (sym (unclosed_at q t.fits r x i t.ordered) ∙ e)
 
-pub piece_parts : PiecePartsAre
-piece_parts q r x y t i p e = kept_is (has_part q r x y i) (part q i r.rows x y) p (sym (piece_at q r x y t i) ∙ e)
+pub piece_parts_are : PiecePartsAre
+piece_parts_are q r x y t i p e = kept_is (has_part q r x y i) (part q i r.rows x y) p (sym (piece_at q r x y t i) ∙ e)

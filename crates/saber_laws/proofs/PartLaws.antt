@@ -81,8 +81,8 @@ join_numbers_assoc a b c =
     λ k. record { count = counts k; values = join_values_assoc a.values b.values c.values k }
 
 -- merge is associative, and the empty part is its unit
-pub merge-assoc : (a b c : Part) → merge (merge a b) c ≡ merge a (merge b c)
-merge-assoc a b c = both-assoc total join_numbers exact join_numbers_assoc a b c
+pub merge_is_associative : (a b c : Part) → merge (merge a b) c ≡ merge a (merge b c)
+merge_is_associative a b c = both-assoc total join_numbers exact join_numbers_assoc a b c
 
 -- ---- answers over two lists of rows
 
@@ -129,8 +129,8 @@ values-over (g ∷ gs) rows = ap (λ l. aggregate rows g ∷ l) (values-over gs 
 -- ---- a key of the group part
 
 -- the part of two lists of rows is the merge of the parts of each
-pub group_part-append : (q : Tree) (xs ys : List (List ℤ)) → group_part q (xs ++ ys) ≡ merge (group_part q xs) (group_part q ys)
-group_part-append q xs ys = same_map total exact _ _ (λ k.
+pub groups_join : (q : Tree) (xs ys : List (List ℤ)) → group_part q (xs ++ ys) ≡ merge (group_part q xs) (group_part q ys)
+groups_join q xs ys = same_map total exact _ _ (λ k.
     get-group_part q (xs ++ ys) k ∙ ap (numbers_if q.aggregates) (filter-append (λ zs. eq_by_cmp key_cmp k (key q.keys zs)) xs ys) ∙ numbers_if-append q.aggregates (rows_of_key q.keys k xs) (rows_of_key q.keys k ys)
     ∙ sym (get-both total join_numbers (group_part q xs) (group_part q ys) k ∙ ap (λ o. join join_numbers o (get (group_part q ys) k)) (get-group_part q xs k) ∙ ap (join join_numbers (numbers_if q.aggregates (rows_of_key q.keys k xs))) (get-group_part q ys k)))
 

@@ -5,21 +5,18 @@ use Rattle.saber_plan.specs.declared.windows.Mark.{Mark}
 use Rattle.saber_plan.specs.Windows.{place, placed_after, mark_after, has}
 use Rattle.saber_plan.specs.Answers.{frame}
 use Rattle.saber_plan.specs.Parts.{pair_part}
-use Rattle.saber_laws.specs.Pairs.{after_rows, RowsAddPairs, WindowsGetPairs}
-use Rattle.saber_plan.specs.Facts.Lists.{Each, each-filter}
+use Rattle.saber_laws.specs.Pairs.{after_rows, WindowsGetPairs}
+use Rattle.saber_plan.specs.Facts.Lists.{Each}
 use Rattle.saber_plan.specs.Facts.Rows.{placed-append}
-use Rattle.saber_laws.proofs.PairLaws.{rising-filter, placed_below, placed_rising, behind, behind_after}
-use Rattle.saber_laws.proofs.PairingLaws.{pair_part-push, window-push}
+use Rattle.saber_laws.proofs.PairLaws.{placed_below, placed_rising, behind, behind_after}
+use Rattle.saber_laws.proofs.PairingLaws.{window-push}
 
 all_earlier : (m : Mark) (xs : List Row) (r : Row) → Each (λ y. place y < place (after_rows m xs r)) (placed_after m xs)
 all_earlier m xs r = let all = behind_after m xs in placed_below m xs (behind (mark_after m xs)) (omega (arith, all))
-
-pub row_adds : RowsAddPairs
-row_adds q x chosen m xs r h = pair_part-push q x (filter chosen (placed_after m xs)) (after_rows m xs r) (rising-filter chosen _ (placed_rising m xs)) (each-filter _ chosen _ (all_earlier m xs r)) h
 
 one_more : (m : Mark) (xs : List Row) (r : Row) → placed_after m (xs ++ r ∷ []) ≡ placed_after m xs ++ after_rows m xs r ∷ []
 unfolding placed_after
 one_more m xs r = placed-append m xs (r ∷ [])
 
-pub window_gets : WindowsGetPairs
-window_gets q x i m xs r h = ap (λ l. pair_part q x (filter (has (frame q) i) l)) (one_more m xs r) ∙ window-push q x i (placed_after m xs) (after_rows m xs r) (placed_rising m xs) (all_earlier m xs r) h
+pub windows_get_pairs : WindowsGetPairs
+windows_get_pairs q x i m xs r h = ap (λ l. pair_part q x (filter (has (frame q) i) l)) (one_more m xs r) ∙ window-push q x i (placed_after m xs) (after_rows m xs r) (placed_rising m xs) (all_earlier m xs r) h

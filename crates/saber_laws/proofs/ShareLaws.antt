@@ -1,5 +1,5 @@
 -- The parts of windows over positions of one list of rows.
-use Rattle.std.proofs.Common.{◌≡◌, ℕ, ◌+◌, ◌≤◌, ◌<◌, List, [], ◌∷◌, ◌++◌, map, filter, length, take, slice_range, true, false, sym, ◌∙◌, ap, append-nil, length-take, length-take-le, le_refl, le_trans, zero-le, subst, arith}
+use Rattle.std.proofs.Common.{◌≡◌, ℕ, ◌+◌, ◌≤◌, ◌<◌, List, [], ◌∷◌, ◌++◌, map, filter, length, take, slice_range, true, false, sym, ◌∙◌, ap, append-nil, length-take, length-take-le, zero-le, subst, arith}
 use Rattle.std.proofs.lemmas.List.{map-append}
 use Rattle.std.proofs.lemmas.List.Elements.{filter-append}
 use Rattle.std.specs.FinMap.{entries}
@@ -11,8 +11,7 @@ use Rattle.saber_plan.specs.Values.{passes}
 use Rattle.saber_plan.specs.Windows.{Frame, no_rows, mark_of, has, begun, closed, Ordered, Placed, place, placed_from_start, inside}
 use Rattle.saber_plan.specs.Answers.{passing_values, picked_rows, row_answers, groups, pairs, pair_answers, entries_in, entry_lines, by_shape, frame, lines, window_answers}
 use Rattle.saber_plan.specs.Parts.{no_part, part, part_lines, part_answers, answers_in, group_answer, row_part, group_part, pair_part, merge}
-use Rattle.saber_plan.specs.Facts.Parts.{merge-empty_right}
-use Rattle.saber_laws.proofs.PartLaws.{group_part-append, group_part-empty, answers-group_part}
+use Rattle.saber_laws.proofs.PartLaws.{groups_join, group_part-empty, answers-group_part}
 use Rattle.saber_laws.proofs.RowLaws.{inside-join, inside-take, inside-not_begun, inside-closed, slice-placed, take-placed}
 use Rattle.saber_laws.proofs.RowPartLaws.{row_part-join, row_part-nil, answers-row_part}
 use Rattle.saber_plan.specs.Facts.Lists.{Each, each-filter, each-weaker, slice-front}
@@ -52,7 +51,7 @@ pub part-join : (q : Tree) (i : ℕ) (xs : List Row) (x y z : ℕ) → x ≤ y �
 part-join q i xs x y z a b h =
     let f = frame q in
     let group : group_part q (passing_values q (inside f i xs x z)) ≡ merge (group_part q (passing_values q (inside f i xs x y))) (group_part q (passing_values q (inside f i xs y z))) =
-    ap (λ l. group_part q (passing_values q l)) (inside-join f i xs x y z a b) ∙ ap (group_part q) (passing-append q (inside f i xs x y) (inside f i xs y z)) ∙ group_part-append q (passing_values q (inside f i xs x y)) (passing_values q (inside f i xs y z)) in
+    ap (λ l. group_part q (passing_values q l)) (inside-join f i xs x y z a b) ∙ ap (group_part q) (passing-append q (inside f i xs x y) (inside f i xs y z)) ∙ groups_join q (passing_values q (inside f i xs x y)) (passing_values q (inside f i xs y z)) in
     let rows : row_part q (inside f i xs x z) ≡ merge (row_part q (inside f i xs x y)) (row_part q (inside f i xs y z)) =
     ap (row_part q) (inside-join f i xs x y z a b) ∙ row_part-join q y (inside f i xs x y) (inside f i xs y z) (inside_under f i xs x y a) (inside_from f i xs y z h) in
     let cut : inside f i xs 0 z ≡ inside f i xs 0 y ++ inside f i xs y z = inside-join f i xs 0 y z (omega arith) b in
@@ -103,22 +102,10 @@ answers-part q i xs y =
     ]
 
 -- a window's lines are those of its part
-pub lines-part : (q : Tree) (i : ℕ) (xs : List Row) → lines q i xs ≡ part_lines q i (part q i xs 0 (length xs))
+pub part_has_lines : (q : Tree) (i : ℕ) (xs : List Row) → lines q i xs ≡ part_lines q i (part q i xs 0 (length xs))
 unfolding lines
-lines-part q i xs = ap (entry_lines i) (sym (answers-part q i xs (length xs)))
+part_has_lines q i xs = ap (entry_lines i) (sym (answers-part q i xs (length xs)))
 
 -- and so are its answers
 pub answers_whole : (q : Tree) (i : ℕ) (xs : List Row) → window_answers q i xs ≡ part_answers q (part q i xs 0 (length xs))
 answers_whole q i xs = ap (map (λ e. e.1)) (sym (answers-part q i xs (length xs)))
-
--- the lines of a window over the first y rows
-pub lines-upto : (q : Tree) (i : ℕ) (xs : List Row) (y : ℕ) → y ≤ length xs → lines q i (take y xs) ≡ part_lines q i (part q i xs 0 y)
-lines-upto q i xs y h = lines-part q i (take y xs) ∙ ap (λ n. part_lines q i (part q i (take y xs) 0 n)) (length-take-le y xs h) ∙ ap (λ p. part_lines q i p) (part-take q i xs 0 y y zero-le (le_refl y))
-
--- the part of a closed window stays
-pub part-stays : (q : Tree) (i : ℕ) (xs : List Row) (x y : ℕ) → Ordered no_rows xs → x ≤ y → x ≤ length xs → closed (frame q) i (mark_of (take x xs)) ≡ true → part q i xs 0 y ≡ part q i xs 0 x
-part-stays q i xs x y o a h c = part-join q i xs 0 x y zero-le a h ∙ ap (merge (part q i xs 0 x)) (part-closed q i xs x y o a c) ∙ merge-empty_right (part q i xs 0 x)
-
--- and so do its lines
-pub lines-stay : (q : Tree) (i : ℕ) (xs : List Row) (x y : ℕ) → Ordered no_rows xs → x ≤ y → y ≤ length xs → closed (frame q) i (mark_of (take x xs)) ≡ true → lines q i (take y xs) ≡ lines q i (take x xs)
-lines-stay q i xs x y o a h c = lines-upto q i xs y h ∙ ap (λ p. part_lines q i p) (part-stays q i xs x y o a (le_trans a h) c) ∙ sym (lines-upto q i xs x (le_trans a h))

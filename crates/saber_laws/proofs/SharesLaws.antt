@@ -19,7 +19,7 @@ use Rattle.saber_laws.proofs.DirectLaws.{is_part}
 use Rattle.saber_plan.specs.Facts.Numbers.{from-append}
 use Rattle.saber_laws.proofs.NumberedLaws.{entries-numbered}
 use Rattle.saber_laws.proofs.AssemblyLaws.{count_kind, kind_is}
-use Rattle.saber_laws.proofs.EndLaws.{closed_rises, begun_rises}
+use Rattle.saber_laws.proofs.EndLaws.{closed_rise, begun_rise}
 
 -- ---- numbers in a row
 
@@ -124,15 +124,15 @@ entries_are q r x y t =
     let counted = λ (i : ℕ). kind_is f t.fits i a b in
     let by = λ (wanted : Option Kind → Bool) (kinds : ℕ → Option Kind). numbered_list (closed_count f a) n (λ i. cond (wanted (kinds i)) (at i) None) in
     (λ j. by is_closing (λ i. counted i j) ++ (by is_pending (λ i. counted i j) ++ by is_opening (λ i. counted i j)))
-    ∙ three_are (closed_count f a) (begun_count f a) (closed_count f b) (begun_count f b) (closed_rises f t.fits r x y t.ordered t.rises) (begun_rises f t.fits r x y t.ordered t.rises) (closed_within_begun f t.fits a) (closed_within_begun f t.fits b) at
+    ∙ three_are (closed_count f a) (begun_count f a) (closed_count f b) (begun_count f b) (closed_rise f t.fits r x y t.ordered t.rises) (begun_rise f t.fits r x y t.ordered t.rises) (closed_within_begun f t.fits a) (closed_within_begun f t.fits b) at
     ∙ sym (λ j. by is_part (λ i. counted i j))
 
-pub make_piece : SharesMakePiece
+pub shares_make_piece : SharesMakePiece
 unfolding piece_between
-make_piece q r x y t = refl
+shares_make_piece q r x y t = refl
 
-pub rise : SharesRise
-rise q r x y t =
+pub shares_rise : SharesRise
+shares_rise q r x y t =
     let a = mark_at r x in
     let b = mark_at r y in
     let own : open_entries q r x y ≡ entries_in (shares_between q r x y) = sym (entries_are q r x y t) in

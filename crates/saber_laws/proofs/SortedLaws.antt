@@ -65,5 +65,5 @@ module _ (s : SideRules) (t : ℕ) where
   read_sorted [] p h = none_more p
   read_sorted (l ∷ ls) p h = after_sorted p (judge_at s p (without_cr l.content)) (read_by false s ls) (accepted_in s ls) (λ q k. read_sorted ls q k) h
 
-pub sorted_files : FilesAreSorted
-sorted_files s bytes t = read_sorted s t (lines_of bytes) start tt
+pub files_are_sorted : FilesAreSorted
+files_are_sorted s bytes t = read_sorted s t (lines_of bytes) start tt

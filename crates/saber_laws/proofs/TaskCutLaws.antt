@@ -6,6 +6,7 @@ use Rattle.std.proofs.lemmas.Bool.Decides.{nat_tests}
 use Rattle.std.proofs.lemmas.Bool.{cases_lt}
 use Rattle.saber_plan.specs.Inputs.{Input, first_arrivals, going_on}
 use Rattle.saber_plan.specs.Tasks.{task_start, upto, row_tasks}
+use Rattle.saber_laws.specs.Cuts.{RowsHaveTasks}
 use Rattle.saber_laws.proofs.EndLaws.{arrived_twice}
 
 keeps_case : (b : Bool) (c l k t x y : ℕ) → k ≤ t → x ≤ y → cond (b && nat_lt c k) (suc l) (min x l) ≤ cond (b && nat_lt c t) (suc l) (min y l)
@@ -16,11 +17,11 @@ keeps_case true c l k t x y a d = ⊎_elim
 keeps_case false c l k t x y a d = omega arith
 
 -- a later task begins no earlier
-pub cut_keeps : (n : ℕ) (r : Input) (k t : ℕ) → k ≤ t → task_start n r k ≤ task_start n r t
-cut_keeps n r k t a = let more : k * n ≤ t * n = grind arith in keeps_case r.ended (row_tasks n r) (length r.rows) k t (k * n) (t * n) a more
+pub cuts_rise : (n : ℕ) (r : Input) (k t : ℕ) → k ≤ t → task_start n r k ≤ task_start n r t
+cuts_rise n r k t a = let more : k * n ≤ t * n = grind arith in keeps_case r.ended (row_tasks n r) (length r.rows) k t (k * n) (t * n) a more
 
 pub cut_rises : (n : ℕ) (r : Input) (k : ℕ) → task_start n r k ≤ task_start n r (k + 1)
-cut_rises n r k = cut_keeps n r k (k + 1) (omega arith)
+cut_rises n r k = cuts_rise n r k (k + 1) (omega arith)
 
 none_case : (b : Bool) (c l x : ℕ) → x ≡ 0 → cond (b && nat_lt c 0) (suc l) (min x l) ≡ 0
 none_case true c l x e = grind (arith, nat_tests)
@@ -34,12 +35,15 @@ pub nothing_arrived : (r : Input) → first_arrivals r 0 ≡ going_on []
 nothing_arrived r = λ j. record { rows = []; ended = no_end r.ended (length r.rows) j }
 
 -- no task has arrivals
-pub no_cut : (n : ℕ) (r : Input) → upto n r 0 ≡ going_on []
-no_cut n r = let none : 0 * n ≡ 0 = omega arith in ap (first_arrivals r) (none_case r.ended (row_tasks n r) (length r.rows) (0 * n) none) ∙ nothing_arrived r
+pub no_tasks_no_rows : (n : ℕ) (r : Input) → upto n r 0 ≡ going_on []
+no_tasks_no_rows n r = let none : 0 * n ≡ 0 = omega arith in ap (first_arrivals r) (none_case r.ended (row_tasks n r) (length r.rows) (0 * n) none) ∙ nothing_arrived r
 
 -- the tasks with rows have all rows
 pub rows_fit : (l n : ℕ) → 1 ≤ n → l ≤ div_ceil l n * n
 rows_fit l n h = (div_ceil_times l n h).0
+
+pub rows_have_tasks : RowsHaveTasks
+rows_have_tasks n r h = rows_fit (length r.rows) n h
 
 before_case : (b : Bool) (c l k x p : ℕ) → (c < k → l ≤ x) → p < cond (b && nat_lt c k) (suc l) (min x l) → p < l → p < x
 before_case true c l k x p f h g = ⊎_elim (λ e. let all = f e in omega arith) (λ e. grind (arith, nat_tests)) (cases_lt c k)
@@ -94,5 +98,5 @@ twice_case false c c2 l l2 at t d x y e f g a h = omega (arith, e, f)
 pub cut-upto : (n : ℕ) (r : Input) (d t : ℕ) → t ≤ d → task_start n (upto n r d) t ≡ task_start n r t
 cut-upto n r d t a = twice_case r.ended (row_tasks n r) (row_tasks n (upto n r d)) (length r.rows) (length (upto n r d).rows) (task_start n r d) t d (t * n) (d * n) refl (length-take (task_start n r d) r.rows) (λ e. ap (λ l. div_ceil l n) e) a (times t d n a)
 
-pub upto-upto : (n : ℕ) (r : Input) (d t : ℕ) → t ≤ d → upto n (upto n r d) t ≡ upto n r t
-upto-upto n r d t a = ap (first_arrivals (upto n r d)) (cut-upto n r d t a) ∙ arrived_twice r (task_start n r t) (task_start n r d) (cut_keeps n r t d a)
+pub first_of_first : (n : ℕ) (r : Input) (d t : ℕ) → t ≤ d → upto n (upto n r d) t ≡ upto n r t
+first_of_first n r d t a = ap (first_arrivals (upto n r d)) (cut-upto n r d t a) ∙ arrived_twice r (task_start n r t) (task_start n r d) (cuts_rise n r t d a)

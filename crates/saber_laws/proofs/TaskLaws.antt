@@ -1,27 +1,22 @@
 -- The laws of assembly, task by task.
-use Rattle.std.proofs.Common.{◌≡◌, ℕ, zero, suc, ◌+◌, ◌-◌, ◌≤◌, List, [], ◌∷◌, ◌++◌, filter, flat_map, take, slice_range, Bool, true, false, cond, ◌&&◌, Option, refl, sym, ◌∙◌, ap, append_assoc, append-nil, le_trans, zero-le, arith}
+use Rattle.std.proofs.Common.{◌≡◌, ℕ, zero, suc, ◌+◌, ◌-◌, ◌≤◌, List, [], ◌∷◌, ◌++◌, filter, flat_map, take, Bool, true, false, cond, ◌&&◌, Option, refl, sym, ◌∙◌, ap, append_assoc, append-nil, zero-le, arith}
 use Rattle.std.specs.FinMap.{empty, from_entries}
 use Rattle.std.specs.Ordering.{nat_cmp}
 use Rattle.std.proofs.lemmas.List.Elements.{filter-append}
 use Rattle.saber_plan.specs.Values.{passes}
-use Rattle.saber_plan.specs.declared.rows.Row.{Row}
-use Rattle.saber_plan.specs.declared.plans.Shape.TheVariants.{Group}
 use Rattle.saber_plan.specs.Trees.{Tree}
 use Rattle.saber_plan.specs.Inputs.{Input, first_arrivals, going_on}
-use Rattle.saber_plan.specs.Windows.{has_windows, Fits, no_rows, mark_of, last_mark, mark_at, begun, begun_count, closed_count, Ordered, kind_of, from, has, inside, Placed, placed_after}
-use Rattle.saber_plan.specs.Answers.{frame, lines, text, plain_text, by_shape, by_frame, passing_values, selected_lines, keys_of, window_answers, before_window, change_lines, change_text, closed_in_turn, key_text, alike, by_list, by_change, way, by_way}
-use Rattle.saber_plan.specs.Parts.{Part, part, part_lines, row_part, group_part, pair_part, merge}
-use Rattle.saber_plan.specs.declared.windows.Kind.{Kind}
-use Rattle.saber_plan.specs.Shares.{full, numbered_list, is_complete, is_closing, is_pending, is_opening, of_kind, piece_in, shares_between}
+use Rattle.saber_plan.specs.Windows.{has_windows, Fits, no_rows, mark_at, begun, Ordered, from, has, Placed}
+use Rattle.saber_plan.specs.Answers.{frame, lines, text, plain_text, passing_values, keys_of, window_answers, before_window, change_lines, change_text, closed_in_turn, key_text, alike, by_list, by_change, way, by_way}
+use Rattle.saber_plan.specs.Parts.{Part, part, part_lines, group_part, merge}
+use Rattle.saber_plan.specs.Shares.{full, numbered_list}
 use Rattle.saber_plan.specs.Tasks.{task_start, upto, unclosed, unclosed_by_list, last_answers, kept_behind, by_windows, nothing_kept, plain_added, change_added, list_added, added_text, take_in, joined_to, stage_at, PiecesMakeText, piece, piece_between, written_by, left_by}
 use Rattle.saber_plan.specs.Facts.Counts.{none_begun, none_closed}
-use Rattle.saber_plan.specs.Facts.Lists.{slice-take}
 use Rattle.saber_plan.specs.Facts.Parts.{merge-empty_left}
-use Rattle.saber_laws.proofs.PartLaws.{group_part-append}
-use Rattle.saber_laws.proofs.RowLaws.{slice-placed}
-use Rattle.saber_laws.proofs.ShareLaws.{passing-append, part-take, shaped}
-use Rattle.saber_laws.proofs.EndLaws.{join_at, part_not_begun, lines_upto, arrived_twice}
-use Rattle.saber_laws.proofs.TaskCutLaws.{cut_rises, no_cut}
+use Rattle.saber_laws.proofs.PartLaws.{groups_join}
+use Rattle.saber_laws.proofs.ShareLaws.{passing-append, shaped}
+use Rattle.saber_laws.proofs.EndLaws.{parts_join, part_not_begun, lines_upto}
+use Rattle.saber_laws.proofs.TaskCutLaws.{cut_rises, no_tasks_no_rows}
 use Rattle.saber_laws.proofs.AssemblyLaws.{text_law, written_law, open_law}
 
 -- the text goes on with what the piece writes, where windows print their answers as they are
@@ -103,37 +98,17 @@ kept-none q w = elim (way q) as (λ u. by_way u (by_windows (unclosed q (going_o
 -- what the first k pieces make of an empty stage
 pub pieces_make : (q : Tree) → way q ≡ alike → Fits (frame q) → (n : ℕ) (r : Input) → Ordered no_rows r.rows → (start : List ℕ) (k : ℕ) → joined_to q n r (record { written = start; parts = empty }) k ≡ stage_at q n r start k
 pieces_make q e w n r o start k = ap (λ s. joined_to q n r s k) (λ i. record {
-  written = (sym (append-nil start) ∙ ap (λ l. start ++ l) (sym (ap (text q) (no_cut n r) ∙ text-none q w))) i;
-  parts = sym (ap (unclosed q) (no_cut n r) ∙ open-none q w) i;
+  written = (sym (append-nil start) ∙ ap (λ l. start ++ l) (sym (ap (text q) (no_tasks_no_rows n r) ∙ text-none q w))) i;
+  parts = sym (ap (unclosed q) (no_tasks_no_rows n r) ∙ open-none q w) i;
 }) ∙ joined_is q e w n r o start k
 
 -- ---- a piece looks at no later row
 
-pub piece-take : (q : Tree) (r : Input) (x y n : ℕ) → x ≤ y → y ≤ n → piece_between q (first_arrivals r n) x y ≡ piece_between q r x y
-unfolding piece_between shares_between
-piece-take q r x y n a b =
-    let f = frame q in
-    let before : first_arrivals (first_arrivals r n) x ≡ first_arrivals r x = arrived_twice r x n (le_trans a b) in
-    let after : first_arrivals (first_arrivals r n) y ≡ first_arrivals r y = arrived_twice r y n b in
-    let of = λ (wanted : Option Kind → Bool) (u v : Input) (at : ℕ → Part). of_kind wanted f (last_mark u) (last_mark v) at in
-    let whole = λ (u v : Input). flat_map (λ i. lines q i v.rows) (filter (λ i. is_complete (kind_of f i (last_mark u) (last_mark v))) (from (closed_count f (last_mark u)) (begun_count f (last_mark v) - closed_count f (last_mark u)))) in
-    λ j. piece_in (record {
-      closing = of is_closing (before j) (after j) (λ i. part-take q i r.rows x y n a b j);
-      pending = of is_pending (before j) (after j) (λ i. part-take q i r.rows x y n a b j);
-      opening = of is_opening (before j) (after j) (λ i. part-take q i r.rows x y n a b j);
-      lines = by_frame q (selected_lines q (slice-take r.rows x y n a b j)) (whole (before j) (after j));
-      closed = closed_count f (last_mark (after j));
-    })
-
 -- ---- what a fragment computes from the task's rows and the mark before them
-
--- a group part needs the rows from x to y and the mark before them alone
-pub part-local : (q : Tree) (i : ℕ) (xs : List Row) (x y : ℕ) → q.shape ≡ Group → part q i xs x y ≡ group_part q (passing_values q (filter (has (frame q) i) (placed_after (mark_of (take x xs)) (slice_range xs x y))))
-part-local q i xs x y e = ap (λ s. by_shape s (row_part q (inside (frame q) i xs x y)) (group_part q (passing_values q (inside (frame q) i xs x y))) (pair_part q x (inside (frame q) i xs 0 y))) e ∙ ap (λ l. group_part q (passing_values q (filter (has (frame q) i) l))) (slice-placed xs x y)
 
 -- a window that wasn't begun has its lines from the piece alone
 pub lines-whole : (q : Tree) (i : ℕ) (r : Input) (x y : ℕ) → Ordered no_rows r.rows → x ≤ y → begun (frame q) i (mark_at r x) ≡ false → lines q i (take y r.rows) ≡ part_lines q i (part q i r.rows x y)
-lines-whole q i r x y o a b = lines_upto q i r.rows y ∙ ap (λ p. part_lines q i p) (join_at q i r.rows 0 x y zero-le a ∙ ap (λ p. merge p (part q i r.rows x y)) (part_not_begun q i r x o b) ∙ merge-empty_left (part q i r.rows x y))
+lines-whole q i r x y o a b = lines_upto q i r.rows y ∙ ap (λ p. part_lines q i p) (parts_join q i r.rows 0 x y zero-le a ∙ ap (λ p. merge p (part q i r.rows x y)) (part_not_begun q i r x o b) ∙ merge-empty_left (part q i r.rows x y))
 
 -- ---- one more row of a task
 
@@ -143,13 +118,13 @@ tallied q us i = group_part q (passing_values q (filter (has (frame q) i) us))
 
 tally_case : (q : Tree) (us : List Placed) (i : ℕ) (x : Placed) (a b : Bool) → has (frame q) i x ≡ a → passes q.predicate x.row.values [] ≡ b
     → group_part q (passing_values q (filter (has (frame q) i) us) ++ passing_values q (cond a (x ∷ []) [])) ≡ cond (a && b) (merge (tallied q us i) (group_part q (x.row.values ∷ []))) (tallied q us i)
-tally_case q us i x true true e g = ap (λ c. group_part q (passing_values q (filter (has (frame q) i) us) ++ cond c (x.row.values ∷ []) [])) g ∙ group_part-append q (passing_values q (filter (has (frame q) i) us)) (x.row.values ∷ [])
+tally_case q us i x true true e g = ap (λ c. group_part q (passing_values q (filter (has (frame q) i) us) ++ cond c (x.row.values ∷ []) [])) g ∙ groups_join q (passing_values q (filter (has (frame q) i) us)) (x.row.values ∷ [])
 tally_case q us i x true false e g = ap (λ c. group_part q (passing_values q (filter (has (frame q) i) us) ++ cond c (x.row.values ∷ []) [])) g ∙ ap (group_part q) (append-nil _)
 tally_case q us i x false b e g = ap (group_part q) (append-nil _)
 
 -- a row that passes is merged into each window that has it, and no other
-pub tallied-push : (q : Tree) (us : List Placed) (i : ℕ) (x : Placed) → tallied q (us ++ x ∷ []) i ≡ cond (has (frame q) i x && passes q.predicate x.row.values []) (merge (tallied q us i) (group_part q (x.row.values ∷ []))) (tallied q us i)
-tallied-push q us i x = ap (λ l. group_part q (passing_values q l)) (filter-append (has (frame q) i) us (x ∷ [])) ∙ ap (group_part q) (passing-append q (filter (has (frame q) i) us) (cond (has (frame q) i x) (x ∷ []) [])) ∙ tally_case q us i x _ _ refl refl
+pub rows_add_to_groups : (q : Tree) (us : List Placed) (i : ℕ) (x : Placed) → tallied q (us ++ x ∷ []) i ≡ cond (has (frame q) i x && passes q.predicate x.row.values []) (merge (tallied q us i) (group_part q (x.row.values ∷ []))) (tallied q us i)
+rows_add_to_groups q us i x = ap (λ l. group_part q (passing_values q l)) (filter-append (has (frame q) i) us (x ∷ [])) ∙ ap (group_part q) (passing-append q (filter (has (frame q) i) us) (cond (has (frame q) i x) (x ∷ []) [])) ∙ tally_case q us i x _ _ refl refl
 
-pub pieces_law : PiecesMakeText
-pieces_law = pieces_make
+pub pieces_make_text : PiecesMakeText
+pieces_make_text = pieces_make

@@ -13,20 +13,20 @@ use Rattle.saber_plan.specs.Rows.{stamp}
 use Rattle.saber_plan.specs.Windows.{Frame, unwindowed, one, two, Fits, count_to, count_reached, is_reached, in_order, can_follow, end_mark, spans, step_mark, mark_after, has, begun, past, closed, begun_count, past_count, closed_count, Ordered, Placed, placed_after}
 
 -- the windows below the count are those that are reached
-pub count_to_is : (slide first far i : ℕ) → nat_le 1 slide ≡ true → nat_lt i (count_to slide first far) ≡ nat_le (i * slide + first) far
-count_to_is slide first far i h =
+pub counts_are_exact : (slide first far i : ℕ) → nat_le 1 slide ≡ true → nat_lt i (count_to slide first far) ≡ nat_le (i * slide + first) far
+counts_are_exact slide first far i h =
     let is_reached = le-div_iff_mul-le {k = slide} {x = i} {y = far - first} (leb-true 1 slide h) in
     grind (arith, nat_tests, is_reached.0, is_reached.1)
 
 count_from_one : (slide far i : ℕ) → nat_le 1 slide ≡ true → nat_lt i (count_to slide 1 far) ≡ nat_lt (i * slide) far
-count_from_one slide far i h = count_to_is slide 1 far i h ∙ grind (arith, nat_tests)
+count_from_one slide far i h = counts_are_exact slide 1 far i h ∙ grind (arith, nat_tests)
 
 count_from_zero : (slide far i : ℕ) → nat_le 1 slide ≡ true → nat_lt i (count_to slide 0 far) ≡ nat_le (i * slide) far
-count_from_zero slide far i h = count_to_is slide 0 far i h ∙ grind (arith, nat_tests)
+count_from_zero slide far i h = counts_are_exact slide 0 far i h ∙ grind (arith, nat_tests)
 
 count_reached_is : (slide first : ℕ) (last : Option ℤ) (i : ℕ) → nat_le 1 slide ≡ true → nat_lt i (count_reached slide first last) ≡ is_reached last (i * slide + first)
 count_reached_is slide first None i h = grind (arith, nat_tests)
-count_reached_is slide first (Some z) i h = count_to_is slide first (nat_abs z) i h
+count_reached_is slide first (Some z) i h = counts_are_exact slide first (nat_abs z) i h
 
 reached_from_zero : (slide : ℕ) (last : Option ℤ) (i : ℕ) → nat_le 1 slide ≡ true → nat_lt i (count_reached slide 0 last) ≡ is_reached last (i * slide)
 reached_from_zero slide None i h = grind (arith, nat_tests)
@@ -41,22 +41,22 @@ below_max i a b = grind (arith, nat_tests)
 -- a window is past exactly where its number is below the count
 past_is : (f : Frame) → Fits f → (i : ℕ) (m : Mark) → nat_lt i (past_count f m) ≡ past f i m
 past_is unwindowed w i m = grind (arith, nat_tests)
-past_is (one Rows s n) w i m = count_to_is s n m.left i w.0
+past_is (one Rows s n) w i m = counts_are_exact s n m.left i w.0
 past_is (one Range s n) w i m = count_reached_is s n m.last i w.0
-past_is (two Rows s n k) w i m = below_min i _ _ ∙ (λ j. count_to_is s n m.left i w.0 j && count_to_is s k m.right i w.0 j)
+past_is (two Rows s n k) w i m = below_min i _ _ ∙ (λ j. counts_are_exact s n m.left i w.0 j && counts_are_exact s k m.right i w.0 j)
 past_is (two Range s n k) w i m = count_reached_is s (max n k) m.last i w.0
 
 -- and begun exactly where it is below that count
-pub begun_is : (f : Frame) → Fits f → (i : ℕ) (m : Mark) → nat_lt i (begun_count f m) ≡ begun f i m
-begun_is unwindowed w i m = grind (arith, nat_tests)
-begun_is (one Rows s n) w i m = count_from_one s m.left i w.0
-begun_is (one Range s n) w i m = reached_from_zero s m.last i w.0
-begun_is (two Rows s n k) w i m = below_max i _ _ ∙ (λ j. count_from_one s m.left i w.0 j || count_from_one s m.right i w.0 j)
-begun_is (two Range s n k) w i m = reached_from_zero s m.last i w.0
+pub begun_are_counted : (f : Frame) → Fits f → (i : ℕ) (m : Mark) → nat_lt i (begun_count f m) ≡ begun f i m
+begun_are_counted unwindowed w i m = grind (arith, nat_tests)
+begun_are_counted (one Rows s n) w i m = count_from_one s m.left i w.0
+begun_are_counted (one Range s n) w i m = reached_from_zero s m.last i w.0
+begun_are_counted (two Rows s n k) w i m = below_max i _ _ ∙ (λ j. count_from_one s m.left i w.0 j || count_from_one s m.right i w.0 j)
+begun_are_counted (two Range s n k) w i m = reached_from_zero s m.last i w.0
 
 -- and closed exactly where it is below that one
-pub closed_is : (f : Frame) → Fits f → (i : ℕ) (m : Mark) → nat_lt i (closed_count f m) ≡ closed f i m
-closed_is f w i m = elim (m.ended) as (λ b. nat_lt i (cond b (begun_count f m) (past_count f m)) ≡ cond b (begun f i m) (past f i m)) [ true ↦ begun_is f w i m | false ↦ past_is f w i m ]
+pub closed_are_counted : (f : Frame) → Fits f → (i : ℕ) (m : Mark) → nat_lt i (closed_count f m) ≡ closed f i m
+closed_are_counted f w i m = elim (m.ended) as (λ b. nat_lt i (cond b (begun_count f m) (past_count f m)) ≡ cond b (begun f i m) (past f i m)) [ true ↦ begun_are_counted f w i m | false ↦ past_is f w i m ]
 
 -- ---- the end of the input
 
@@ -75,9 +75,9 @@ closed_past f i m e = ap (λ b. cond b (begun f i m) (past f i m)) e
 -- ---- the windows of a point
 
 -- the windows that hold a point are those from one count up to another
-pub spans_is : (slide size i p : ℕ) → nat_le 1 slide ≡ true → spans slide size i p ≡ (nat_le (count_to slide size p) i && nat_lt i (count_to slide 0 p))
-spans_is slide size i p h =
-    let low = count_to_is slide size p i h in
+pub points_span : (slide size i p : ℕ) → nat_le 1 slide ≡ true → spans slide size i p ≡ (nat_le (count_to slide size p) i && nat_lt i (count_to slide 0 p))
+points_span slide size i p h =
+    let low = counts_are_exact slide size p i h in
     let high = count_from_zero slide p i h in
     grind (arith, nat_tests, low, high)
 
@@ -150,8 +150,8 @@ past_begun (two Rows k n r) w i m h = let size = w.1 in grind (arith, nat_tests)
 past_begun (two Range k n r) w i m h = reached_less m.last _ _ (omega arith) h
 
 -- and so is one that is closed
-pub closed_begun : (f : Frame) → Fits f → (i : ℕ) (m : Mark) → closed f i m ≡ true → begun f i m ≡ true
-closed_begun f w i m = elim (m.ended) as (λ b. cond b (begun f i m) (past f i m) ≡ true → begun f i m ≡ true) [ true ↦ λ h. h | false ↦ λ h. past_begun f w i m h ]
+pub closed_are_begun : (f : Frame) → Fits f → (i : ℕ) (m : Mark) → closed f i m ≡ true → begun f i m ≡ true
+closed_are_begun f w i m = elim (m.ended) as (λ b. cond b (begun f i m) (past f i m) ≡ true → begun f i m ≡ true) [ true ↦ λ h. h | false ↦ λ h. past_begun f w i m h ]
 
 -- what is closed stays closed
 closed_on : (f : Frame) (i : ℕ) (m : Mark) (s : Side) (v : Values) → can_follow m (stamp v) ≡ true → closed f i m ≡ true → closed f i (then m s v) ≡ true
@@ -197,11 +197,11 @@ le_by_below : (a b : ℕ) → ((i : ℕ) → nat_lt i a ≡ true → nat_lt i b 
 le_by_below a b h = ⊎_elim (λ l. absurd (not_below b (h b (lt-ltb b a l)))) (λ l. l) (cases_lt b a)
 
 -- the counts rise with the rows
-pub closed_count_rises : (f : Frame) → Fits f → (m : Mark) (xs : List Row) → Ordered m xs → closed_count f m ≤ closed_count f (mark_after m xs)
-closed_count_rises f w m xs o = le_by_below _ _ (λ i h. closed_is f w i (mark_after m xs) ∙ closed_after f i m xs o (sym (closed_is f w i m) ∙ h))
+pub closed_stay : (f : Frame) → Fits f → (m : Mark) (xs : List Row) → Ordered m xs → closed_count f m ≤ closed_count f (mark_after m xs)
+closed_stay f w m xs o = le_by_below _ _ (λ i h. closed_are_counted f w i (mark_after m xs) ∙ closed_after f i m xs o (sym (closed_are_counted f w i m) ∙ h))
 
-pub begun_count_rises : (f : Frame) → Fits f → (m : Mark) (xs : List Row) → Ordered m xs → begun_count f m ≤ begun_count f (mark_after m xs)
-begun_count_rises f w m xs o = le_by_below _ _ (λ i h. begun_is f w i (mark_after m xs) ∙ begun_after f i m xs o (sym (begun_is f w i m) ∙ h))
+pub begun_stay : (f : Frame) → Fits f → (m : Mark) (xs : List Row) → Ordered m xs → begun_count f m ≤ begun_count f (mark_after m xs)
+begun_stay f w m xs o = le_by_below _ _ (λ i h. begun_are_counted f w i (mark_after m xs) ∙ begun_after f i m xs o (sym (begun_are_counted f w i m) ∙ h))
 
 -- the end of the input begins nothing
 pub begun_ending : (f : Frame) (i : ℕ) (e : Bool) (m : Mark) → begun f i (end_mark e m) ≡ begun f i m
@@ -220,12 +220,12 @@ begun_count_ending (two Range k n r) e m = refl
 
 -- and leaves closed what is
 pub closed_ending : (f : Frame) → Fits f → (i : ℕ) (e : Bool) (m : Mark) → closed f i m ≡ true → closed f i (end_mark e m) ≡ true
-closed_ending f w i true m h = begun_ending f i true m ∙ closed_begun f w i m h
+closed_ending f w i true m h = begun_ending f i true m ∙ closed_are_begun f w i m h
 closed_ending f w i false m h = h
 
 -- the closed are among the begun
 pub closed_within_begun : (f : Frame) → Fits f → (m : Mark) → closed_count f m ≤ begun_count f m
-closed_within_begun f w m = le_by_below _ _ (λ i h. begun_is f w i m ∙ closed_begun f w i m (sym (closed_is f w i m) ∙ h))
+closed_within_begun f w m = le_by_below _ _ (λ i h. begun_are_counted f w i m ∙ closed_are_begun f w i m (sym (closed_are_counted f w i m) ∙ h))
 
-pub closed_count_ending : (f : Frame) → Fits f → (e : Bool) (m : Mark) → closed_count f m ≤ closed_count f (end_mark e m)
-closed_count_ending f w e m = le_by_below _ _ (λ i h. closed_is f w i (end_mark e m) ∙ closed_ending f w i e m (sym (closed_is f w i m) ∙ h))
+pub ends_close_more : (f : Frame) → Fits f → (e : Bool) (m : Mark) → closed_count f m ≤ closed_count f (end_mark e m)
+ends_close_more f w e m = le_by_below _ _ (λ i h. closed_are_counted f w i (end_mark e m) ∙ closed_ending f w i e m (sym (closed_are_counted f w i m) ∙ h))

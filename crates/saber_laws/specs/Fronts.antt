@@ -1,8 +1,8 @@
 -- Laws of what was read so far, against all that is read in the end.
-use Rattle.std.specs.Prelude.{◌≡◌, ℕ, List, [], ◌∷◌, ◌++◌, ◌⊎◌}
+use Rattle.std.specs.Prelude.{◌≡◌, ℕ, List, [], ◌++◌, ◌⊎◌}
 use Rattle.saber_plan.specs.declared.rows.Row.{Row}
 use Rattle.saber_plan.specs.Rows.{Read, SideRules, cut, rows, whole}
-use Rattle.saber_plan.specs.Inputs.{merged_read, input}
+use Rattle.saber_plan.specs.Inputs.{merged_read}
 
 -- the first rows of a read: more may come behind them, or they are all of it
 pub record IsFirstOf (a b : Read) : Type 0 where
@@ -25,14 +25,3 @@ WholeLinesAreFirst = (s : SideRules) (bytes more : List ℕ) → FirstLines s by
 -- the merge of the first rows of two reads are the first of their merge
 abbrev pub MergesKeepFirst : Type 0
 MergesKeepFirst = (l r l' r' : Read) → IsFirstOf l l' → IsFirstOf r r' → IsFirstOf (merged_read l r) (merged_read l' r')
-
--- reads, each with the first rows of another
-abbrev pub EachIsFirst : List Read → List Read → Type 0
-EachIsFirst [] [] = Unit {0}
-EachIsFirst [] (b ∷ bs) = ⊥
-EachIsFirst (a ∷ more) [] = ⊥
-EachIsFirst (a ∷ more) (b ∷ bs) = IsFirstOf a b × EachIsFirst more bs
-
--- so the rows of a query's sources so far are the first of all its rows
-abbrev pub InputsKeepFirst : Type 0
-InputsKeepFirst = (so_far all : List Read) → EachIsFirst so_far all → IsFirstOf (input so_far) (input all)

@@ -1,5 +1,4 @@
 pub mod Windows
-pub mod Marks
 pub mod Ends
 pub mod Cuts
 pub mod Parts
@@ -10,8 +9,5 @@ pub mod Plans
 pub mod Inputs
 pub mod Fronts
 pub mod Pairs
-pub mod Kinds
-pub mod Numbers
-pub mod Groups
 pub mod Words
 pub mod Lists

@@ -1,6 +1,5 @@
 -- Laws of the substreams of key lists.
-use Rattle.std.specs.Prelude.{◌≡◌, ℕ, ◌+◌, ◌≤◌, List, [], ◌∷◌, ◌++◌, length, take, true, ℤ}
-use Rattle.std.specs.List.{AllByRecursion}
+use Rattle.std.specs.Prelude.{◌≡◌, ℕ, ◌+◌, ◌≤◌, List, [], ◌++◌, length, take, true, ℤ}
 use Rattle.std.specs.FinMap.{empty}
 use Rattle.saber_plan.specs.declared.rows.Side.TheVariants.{Left}
 use Rattle.saber_plan.specs.declared.rows.Row.{Row}
@@ -8,22 +7,14 @@ use Rattle.saber_plan.specs.declared.windows.Measure.TheVariants.{Rows}
 use Rattle.saber_plan.specs.Trees.{Tree}
 use Rattle.saber_plan.specs.Inputs.{Input}
 use Rattle.saber_plan.specs.GivenRows.{RowsFit}
-use Rattle.saber_plan.specs.Windows.{Fits, one, no_rows, count_to}
+use Rattle.saber_plan.specs.Windows.{one, no_rows, count_to}
 use Rattle.saber_plan.specs.Answers.{frame, substream, past_in, begun_in, closed_in_turn}
-use Rattle.saber_plan.specs.Tasks.{unclosed_by_list, places, places_after}
+use Rattle.saber_plan.specs.Tasks.{unclosed_by_list, places}
 use Rattle.saber_laws.specs.Inputs.{AllOn}
 
 -- the rows of a key list are such rows as the query is given: what is said of inputs holds for them by themselves
 abbrev pub SubstreamsFit : Type 0
 SubstreamsFit = (q : Tree) (k : List ℤ) (xs : List Row) → RowsFit q no_rows xs → RowsFit q no_rows (substream q k xs)
-
--- those of two lists of rows are those of the first, and then those of the second
-abbrev pub SubstreamsJoin : Type 0
-SubstreamsJoin = (q : Tree) (k : List ℤ) (xs ys : List Row) → substream q k (xs ++ ys) ≡ substream q k xs ++ substream q k ys
-
--- a row closes at most one window by rows
-abbrev pub RowsCloseOne : Type 0
-RowsCloseOne = (q : Tree) (slide size : ℕ) → frame q ≡ one Rows slide size → Fits (frame q) → (us : List Row) (r : Row) → past_in q (us ++ r ∷ []) ≤ past_in q us + 1
 
 -- what rows close, one after another
 abbrev pub TurnsGoOn : Type 0
@@ -46,11 +37,3 @@ NoListOpenBehind = (q : Tree) (r : Input) → r.ended ≡ true → unclosed_by_l
 -- no later row changes that
 abbrev pub PlacesStay : Type 0
 PlacesStay = (q : Tree) (xs : List Row) (x y n : ℕ) → x ≤ y → y ≤ n → places q (take n xs) x y ≡ places q xs x y
-
--- there is one for each row, and none is further back than there are rows
-pub record PlacesOf (q : Tree) (xs us : List Row) : Type 0 where
-  pub count : length (places_after q xs us) ≡ length us
-  pub low : AllByRecursion (λ p. p ≤ length xs + length us) (places_after q xs us)
-
-abbrev pub PlacesAreLow : Type 0
-PlacesAreLow = (q : Tree) (xs us : List Row) → PlacesOf q xs us

@@ -1,5 +1,5 @@
 -- Laws of the pairs of a join: one more row.
-use Rattle.std.specs.Prelude.{◌≡◌, ℕ, ◌≤◌, List, [], ◌∷◌, ◌++◌, filter, Bool, if◌then◌else◌}
+use Rattle.std.specs.Prelude.{◌≡◌, ℕ, ◌≤◌, List, [], ◌∷◌, ◌++◌, filter, if◌then◌else◌}
 use Rattle.saber_plan.specs.declared.rows.Row.{Row}
 use Rattle.saber_plan.specs.declared.windows.Mark.{Mark}
 use Rattle.saber_plan.specs.Trees.{Tree}
@@ -15,11 +15,6 @@ after_rows m xs r = record { row = r; before = mark_after m xs }
 -- a part of some rows with one row more: its pairs with them
 abbrev pub with_row : Tree → ℕ → List Placed → Placed → Part
 with_row q x us r = with_entries (pair_part q x us) (row_pairs q r (filter is_left us) (filter is_right us))
-
--- a row after some rows, of which these are chosen, adds its pairs with them
-abbrev pub RowsAddPairs : Type 0
-RowsAddPairs = (q : Tree) (x : ℕ) (chosen : Placed → Bool) (m : Mark) (xs : List Row) (r : Row) → x ≤ place (after_rows m xs r)
-    → pair_part q x (filter chosen (placed_after m xs) ++ after_rows m xs r ∷ []) ≡ with_row q x (filter chosen (placed_after m xs)) (after_rows m xs r)
 
 -- so each window that has the row gets its pairs, and no other
 abbrev pub WindowsGetPairs : Type 0

@@ -1,15 +1,11 @@
 -- Laws of parts: their merge, and the lines that they give.
-use Rattle.std.specs.Prelude.{◌≡◌, ℕ, ◌≤◌, List, [], ◌∷◌, ◌++◌, filter, length, take, true, false, ◌&&◌, if◌then◌else◌, ℤ}
-use Rattle.std.specs.FinMap.{get}
+use Rattle.std.specs.Prelude.{◌≡◌, ℕ, ◌≤◌, List, [], length, take, true, false}
 use Rattle.saber_plan.specs.declared.rows.Row.{Row}
 use Rattle.saber_plan.specs.Trees.{Tree}
 use Rattle.saber_plan.specs.Inputs.{Input}
-use Rattle.saber_plan.specs.Windows.{Ordered, no_rows, mark_at, closed, begun, Placed, has}
-use Rattle.saber_plan.specs.Answers.{lines, frame, passing_values}
-use Rattle.saber_plan.specs.Values.{passes}
-use Rattle.saber_plan.specs.Merges.{join, both}
-use Rattle.saber_plan.specs.Parts.{Part, part, no_part, merge, join_numbers, part_lines, group_part, pair_part}
-use Rattle.saber_plan.specs.Tasks.{Parts, full}
+use Rattle.saber_plan.specs.Windows.{Ordered, no_rows, mark_at, closed, begun}
+use Rattle.saber_plan.specs.Answers.{lines, frame}
+use Rattle.saber_plan.specs.Parts.{Part, part, no_part, merge, part_lines, group_part, pair_part}
 
 abbrev pub MergeIsAssociative : Type 0
 MergeIsAssociative = (a b c : Part) → merge (merge a b) c ≡ merge a (merge b c)
@@ -20,7 +16,7 @@ MergeHasUnit = (a : Part) → (merge no_part a ≡ a) × (merge a no_part ≡ a)
 
 -- the part of positions x to z is the merge of those of x to y and of y to z
 abbrev pub PartsJoin : Type 0
-PartsJoin = (q : Tree) (i : ℕ) (xs : List Row) (x y z : ℕ) → x ≤ y → y ≤ z → y ≤ length xs → part q i xs x z ≡ merge (part q i xs x y) (part q i xs y z)
+PartsJoin = (q : Tree) (i : ℕ) (xs : List Row) (x y z : ℕ) → x ≤ y → y ≤ z → part q i xs x z ≡ merge (part q i xs x y) (part q i xs y z)
 
 -- the answer lines of a window are the lines of its whole part
 abbrev pub PartHasLines : Type 0
@@ -32,18 +28,6 @@ ClosedLinesStay = (q : Tree) (i : ℕ) (r : Input) (x y : ℕ) → Ordered no_ro
     → lines q i (take y r.rows) ≡ lines q i (take x r.rows)
 
 -- ---- what a key has
-
--- a merge has for a key what both have, joined
-abbrev pub MergesGive : Type 0
-MergesGive = (a b : Part) (k : List ℤ) → get (merge a b) k ≡ join join_numbers (get a k) (get b k)
-
--- and so have the open parts of windows
-abbrev pub TakingInGives : Type 0
-TakingInGives = (a b : Parts) (i : ℕ) → get (both merge a b) i ≡ join merge (get a i) (get b i)
-
--- a merge is empty only where both are
-abbrev pub FullMerges : Type 0
-FullMerges = (a b : Part) → full (merge a b) ≡ join merge (full a) (full b)
 
 -- ---- which windows have a part
 
@@ -62,10 +46,3 @@ pub record OutsideParts (q : Tree) (i : ℕ) (r : Input) (x y : ℕ) : Type 0 wh
 
 abbrev pub PartsLieWithin : Type 0
 PartsLieWithin = (q : Tree) (i : ℕ) (r : Input) (x y : ℕ) → Ordered no_rows r.rows → x ≤ y → OutsideParts q i r x y
-
--- a row that passes is merged into each window that has it, and into no other
-abbrev pub RowsAddToGroups : Type 0
-RowsAddToGroups = (q : Tree) (us : List Placed) (i : ℕ) (r : Placed)
-    → group_part q (passing_values q (filter (has (frame q) i) (us ++ r ∷ [])))
-    ≡ (let part = group_part q (passing_values q (filter (has (frame q) i) us)) in
-    if has (frame q) i r && passes q.predicate r.row.values [] then merge part (group_part q (r.row.values ∷ [])) else part)

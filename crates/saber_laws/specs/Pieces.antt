@@ -1,15 +1,11 @@
 -- Laws of the pieces of tasks, and of the text that they make.
-use Rattle.std.specs.Prelude.{◌≡◌, ℕ, ◌≤◌, List, [], ◌++◌}
+use Rattle.std.specs.Prelude.{◌≡◌, ℕ, ◌≤◌, [], ◌++◌}
 use Rattle.std.specs.FinMap.{empty}
 use Rattle.saber_plan.specs.Trees.{Tree}
 use Rattle.saber_plan.specs.Inputs.{Input, first_arrivals, going_on}
 use Rattle.saber_plan.specs.Windows.{Fits, Ordered, no_rows}
 use Rattle.saber_plan.specs.Answers.{frame, text}
 use Rattle.saber_plan.specs.Tasks.{upto, unclosed, kept_behind, nothing_kept, plain_added, added_text, piece_between, written_by, left_by}
-
--- a piece looks at no later arrival
-abbrev pub PiecesStay : Type 0
-PiecesStay = (q : Tree) (r : Input) (x y n : ℕ) → x ≤ y → y ≤ n → piece_between q (first_arrivals r n) x y ≡ piece_between q r x y
 
 -- ---- one piece, after the text and the open parts of the arrivals before it
 
@@ -36,11 +32,6 @@ pub record Nothing (q : Tree) : Type 0 where
 
 abbrev pub NoRowsGiveNothing : Type 0
 NoRowsGiveNothing = (q : Tree) → Fits (frame q) → Nothing q
-
--- the text of more arrivals goes on from that of fewer
-abbrev pub TextGrows : Type 0
-TextGrows = (q : Tree) → Fits (frame q) → (r : Input) (x y : ℕ) → Ordered no_rows r.rows → x ≤ y
-    → (more : List ℕ) × (text q (first_arrivals r y) ≡ text q (first_arrivals r x) ++ more)
 
 -- no task has rows
 abbrev pub NoTasksNoRows : Type 0

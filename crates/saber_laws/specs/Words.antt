@@ -1,12 +1,12 @@
 -- Laws of the answers of windows, of which a query with a stream word prints what changes.
-use Rattle.std.specs.Prelude.{◌≡◌, ℕ, ◌≤◌, List, [], take, true, T, nat_le, if◌then◌else◌, Some, None}
+use Rattle.std.specs.Prelude.{◌≡◌, ℕ, ◌≤◌, List, [], take, T, nat_le, if◌then◌else◌, Some, None}
 use Rattle.std.specs.Ordering.{nat_cmp}
 use Rattle.std.specs.FinMap.{get, from_entries, is_sorted}
 use Rattle.saber_plan.specs.declared.rows.Row.{Row}
 use Rattle.saber_plan.specs.Trees.{Tree}
 use Rattle.saber_plan.specs.Inputs.{Input, first_arrivals}
-use Rattle.saber_plan.specs.Windows.{Fits, Ordered, no_rows, mark_at, closed}
-use Rattle.saber_plan.specs.Answers.{frame, window_answers, before_window, gains, losses, change_lines}
+use Rattle.saber_plan.specs.Windows.{Fits, Ordered, no_rows}
+use Rattle.saber_plan.specs.Answers.{frame, window_answers, before_window}
 use Rattle.saber_plan.specs.Merges.{both}
 use Rattle.saber_plan.specs.Parts.{Part, part, part_answers, merge}
 use Rattle.saber_plan.specs.Shares.{full, entries_in, handed_between}
@@ -17,23 +17,10 @@ use Rattle.saber_laws.specs.Shares.{Between}
 abbrev pub AnswersAreOfParts : Type 0
 AnswersAreOfParts = (q : Tree) (i : ℕ) (xs : List Row) (y : ℕ) → window_answers q i (take y xs) ≡ part_answers q (part q i xs 0 y)
 
--- no later arrival changes those of a closed window
-abbrev pub ClosedAnswersStay : Type 0
-ClosedAnswersStay = (q : Tree) (i : ℕ) (r : Input) (x y : ℕ) → Ordered no_rows r.rows → x ≤ y → closed (frame q) i (mark_at r x) ≡ true
-    → window_answers q i (take y r.rows) ≡ window_answers q i (take x r.rows)
-
 -- so what is kept stands before the first window that later arrivals close
 abbrev pub LastAnswersStay : Type 0
 LastAnswersStay = (q : Tree) → Fits (frame q) → (r : Input) (x y : ℕ) → Ordered no_rows r.rows → x ≤ y
     → before_window (λ i. window_answers q i (take y r.rows)) (closed_at q r x) ≡ last_answers q (first_arrivals r x)
-
--- where neither a window nor the one before it has an answer, nothing is printed
-pub record NothingChanges (q : Tree) (xs : List Row) (i : ℕ) : Type 0 where
-  pub gains : change_lines gains q xs i ≡ []
-  pub loses : change_lines losses q xs i ≡ []
-
-abbrev pub NoAnswersNoChange : Type 0
-NoAnswersNoChange = (q : Tree) (xs : List Row) (i : ℕ) → before_window (λ j. window_answers q j xs) i ≡ [] → window_answers q i xs ≡ [] → NothingChanges q xs i
 
 -- ---- what is handed on of windows
 

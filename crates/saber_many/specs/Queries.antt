@@ -4,7 +4,7 @@ use Rattle.saber_plan.specs.declared.plans.Shape.{Shape}
 use Rattle.saber_plan.specs.declared.plans.Shape.TheVariants.{Select, Group, Join}
 use Rattle.saber_plan.specs.Trees.{Tree}
 use Rattle.saber_plan.specs.Answers.{by_shape}
-use Rattle.saber_laws.proofs.TaskCutLaws.{upto-upto}
+use Rattle.saber_laws.proofs.TaskCutLaws.{first_of_first}
 use Rattle.saber_assembly.specs.declared.work.RunData.{RunData}
 use Rattle.saber_assembly.specs.Works.{input_of, with_input, first_tasks, first_needed}
 
@@ -21,4 +21,4 @@ pub own_needed : {O : Type 0} (plan : O → Tree) (told : RunData O) (t : ℕ) �
 own_needed plan told t alone = by_alone (plan told.operator).shape t _ alone
 
 pub first_fronts : {O : Type 0} (told : RunData O) (j k : ℕ) → k ≤ j → first_tasks (first_tasks told j) k ≡ first_tasks told k
-first_fronts told j k le = ap (with_input told) (upto-upto told.size (input_of told) j k le)
+first_fronts told j k le = ap (with_input told) (first_of_first told.size (input_of told) j k le)

@@ -10,7 +10,7 @@ use Rattle.saber_plan.specs.Facts.Rows.{is_left}
 use Rattle.saber_eval.specs.Widths.{widths}
 use Rattle.saber_eval.specs.Fitting.{PlanFits}
 use Rattle.saber_eval.proofs.FittingLaws.{one_stream as one_stream_fits}
-use Rattle.saber_laws.proofs.CheckedLaws.{group_has_one as groups_have_one_window}
+use Rattle.saber_laws.proofs.CheckedLaws.{groups_have_one_window}
 
 -- the plan fits each row of its stream
 pub plan_fits : (q : Tree) (r : Row) → IsChecked q → q.shape ≡ Group → IsRowOf q r → PlanFits q (widths r.values [])

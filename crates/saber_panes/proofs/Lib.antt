@@ -2,11 +2,11 @@ mod Fitting
 mod Divisors
 mod PaneMaps
 mod WorkedPanes
-mod PaneRows
+pub mod PaneRows
 mod PaneWindows
 mod PanePoints
 mod PaneParts
 mod PaneCuts
-mod PaneFolding
+pub mod PaneFolding
 mod PaneMerging
-mod PaneRooms
+pub mod PaneRooms

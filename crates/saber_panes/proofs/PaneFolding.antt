@@ -17,11 +17,11 @@ use Rattle.saber_plan.specs.Facts.Maps.{get-both, both-assoc, both-empty_right, 
 use Rattle.saber_partial.specs.Tallies.{CanMerge}
 use Rattle.saber_partial.specs.PartLaws.{OfRows}
 use Rattle.saber_panes.specs.Panes.{panes_in, pane_of, in_pane, is_counted, counted_rows, or_none, with_part, with_row_in, PanesOf, RowsRoom}
-use Rattle.saber_partial.proofs.Counted.{groups_of_rows, none_of_rows, more_rows, small_merge, small_stay}
+use Rattle.saber_partial.proofs.Counted.{groups_are_of_rows, none_of_rows, more_rows, small_merge, small_stay}
 use Rattle.saber_plan.specs.Facts.Rows.{placed_more}
 use Rattle.saber_plan.specs.Facts.Parts.{if_any}
 use Rattle.saber_panes.proofs.PaneRows.{values_in, get-panes, panes-append, counted-append}
-use Rattle.saber_laws.proofs.PartLaws.{merge-assoc as merge_is_associative}
+use Rattle.saber_laws.proofs.PartLaws.{merge_is_associative}
 
 -- ---- one row
 
@@ -91,11 +91,11 @@ of_any q [] p e = cc
 of_any q (x ∷ l) p e =
     let same : group_part q (values_in (x ∷ l)) ≡ p = cc in
     let long = length-map (x ∷ l) (λ (y : Placed). y.row.values) in
-    subst (OfRows q (length (x ∷ l))) same (subst (λ n. OfRows q n (group_part q (values_in (x ∷ l)))) long (groups_of_rows q (values_in (x ∷ l))))
+    subst (OfRows q (length (x ∷ l))) same (subst (λ n. OfRows q n (group_part q (values_in (x ∷ l)))) long (groups_are_of_rows q (values_in (x ∷ l))))
 
 -- panes of rows are of the rows in them
-pub panes_of_rows : (q : Tree) (us : List Placed) → PanesOf q (λ j. length (in_pane q j us)) (panes_in q us)
-panes_of_rows q us = record { at = λ j p e. of_any q (in_pane q j us) p (sym (get-panes q us j) ∙ e) }
+pub panes_are_of_rows : (q : Tree) (us : List Placed) → PanesOf q (λ j. length (in_pane q j us)) (panes_in q us)
+panes_are_of_rows q us = record { at = λ j p e. of_any q (in_pane q j us) p (sym (get-panes q us j) ∙ e) }
 
 of_join : (q : Tree) (n k : ℕ) (o p : Option Part) → ((a : Part) → o ≡ Some a → OfRows q n a) → ((a : Part) → p ≡ Some a → OfRows q k a) → OfRows q (n + k) (or_none (join merge o p))
 of_join q n k None None g h = more_rows q 0 (n + k) no_part (omega arith) (none_of_rows q)
@@ -127,9 +127,9 @@ room_for_row q m xs k x here is old room e =
     let at : Placed = record { row = x; before = mark_after m (take k xs) } in
     let j = pane_of (frame q) at in
     let us = so_far q m xs k in
-    let mine = of_both q room.has (λ j. length (in_pane q j us)) old (panes_in q us) room.panes (panes_of_rows q us) j in
+    let mine = of_both q room.has (λ j. length (in_pane q j us)) old (panes_in q us) room.panes (panes_are_of_rows q us) j in
     let more : length (in_pane q j (so_far q m xs (k + 1))) ≡ length (in_pane q j us) + 1 =
     ap (λ l. length (in_pane q j l)) (one_more q m xs k x here is ∙ ap (λ l. us ++ l) (counted_one q at e)) ∙ ap length (filter-append (λ (y : Placed). j == pane_of (frame q) y) us (at ∷ [])) ∙ length-append (in_pane q j us) (in_pane q j (at ∷ [])) ∙ ap (λ n. length (in_pane q j us) + n) (in_one q at) in
     let front = front_short q j m xs (k + 1) in
     let few = room.few j in
-    small_merge q (room.has j + length (in_pane q j us)) 1 _ (group_part q (x.values ∷ [])) mine (groups_of_rows q (x.values ∷ [])) (omega (arith, more, front, few))
+    small_merge q (room.has j + length (in_pane q j us)) 1 _ (group_part q (x.values ∷ [])) mine (groups_are_of_rows q (x.values ∷ [])) (omega (arith, more, front, few))

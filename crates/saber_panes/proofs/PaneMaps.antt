@@ -20,9 +20,6 @@ use Rattle.saber_plan.specs.Facts.Trees.{written, inserted, looked_up}
 use Rattle.saber_partial.specs.Tallies.{CanMerge}
 use Rattle.saber_panes.specs.Panes.{seen_panes, CanTakeIn}
 
-abbrev itself : {A : Type 0} → A → A
-itself x = x
-
 -- what `get` finds
 pub pane_at : (k : ℕ) (es : List (ℕ × Part)) (o : Option Part) → lookup (is_at (λ a. nat_cmp k a)) es ≡ o → get (seen_panes es) k ≡ o
 pane_at k es None f = sym (looked_up nat_cmp (λ k. k) (λ x. x) nat_cmp_total nat_cmp-IsAntisymmetric k es) ∙ ap (option_map (λ (x : Part). x)) f

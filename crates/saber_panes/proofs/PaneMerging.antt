@@ -13,7 +13,7 @@ use Rattle.saber_partial.specs.PartLaws.{OfRows}
 use Rattle.saber_panes.specs.Panes.{or_none, merged_panes, first_pane, pane_count, PanesOf, WindowRoom}
 use Rattle.saber_partial.proofs.Counted.{none_of_rows, more_rows, small_merge, small_stay}
 use Rattle.saber_panes.proofs.PaneWindows.{merged_first}
-use Rattle.saber_laws.proofs.PartLaws.{merge-assoc as merge_is_associative}
+use Rattle.saber_laws.proofs.PartLaws.{merge_is_associative}
 use Rattle.saber_plan.specs.Facts.Parts.{merge-empty_right}
 
 from-append : (a m n : ℕ) → from a (m + n) ≡ from a m ++ from (a + m) n

@@ -20,7 +20,7 @@ use Rattle.saber_panes.proofs.Divisors.{is_divisor, divisor_some}
 use Rattle.saber_panes.proofs.PaneRows.{values_in}
 use Rattle.saber_panes.proofs.PaneWindows.{Rises, rises-filter, within, window_rows}
 use Rattle.saber_panes.proofs.PanePoints.{points_rise, panes_rise, spans_panes, filter-filter, filter-map}
-use Rattle.saber_laws.proofs.NeedLaws.{has_is as rows_span}
+use Rattle.saber_laws.proofs.NeedLaws.{rows_span}
 
 -- ---- a row of a window's panes is one of the window
 
@@ -38,9 +38,6 @@ agree_case lo hi i p w false e f = ap (λ b. (nat_lt lo hi && p) && b) f ∙ pas
 
 -- its test, in the frame of one stream
 module _ (slide size : ℕ) (some : 1 ≤ size) (i : ℕ) (x : Placed) (p : Bool) where
-  d : ℕ
-  d = divisor size slide
-
   by_point : (measure : Measure) → Fits (one measure slide size) → (n : ℕ) → has (one measure slide size) i x ≡ spans slide size i n → point_by measure x ≡ n
       → ((nat_lt (first_window (one measure slide size) x) (past_window (one measure slide size) x) && p) && within (pane_of (one measure slide size)) (first_pane (one measure slide size) i) (pane_count (one measure slide size)) x) ≡ (has (one measure slide size) i x && p)
   by_point measure fits n e h =

@@ -1,23 +1,22 @@
 -- That callers meet what panes ask.
-use Rattle.std.proofs.Common.{◌≡◌, ℕ, zero, suc, ◌+◌, ◌≤◌, ◌^◌, List, [], ◌∷◌, filter, fold, length, Bool, true, false, cond, ◌||◌, ◌==◌, nat_le, Option, Some, None, refl, sym, ◌∙◌, ap, arith}
+use Rattle.std.proofs.Common.{◌≡◌, ℕ, zero, suc, ◌+◌, ◌≤◌, ◌^◌, List, [], ◌∷◌, filter, length, Bool, true, false, cond, ◌||◌, ◌==◌, refl, ◌∙◌, ap, arith}
 use Rattle.std.specs.List.{sum_by}
 use Rattle.std.proofs.lemmas.Bool.{both_ways}
 use Rattle.std.proofs.lemmas.Bool.Decides.{nat_tests}
-use Rattle.std.specs.FinMap.{get, retain_keys, get-retain_keys, nat_cmp-IsAntisymmetric}
 use Rattle.saber_plan.specs.declared.rows.Row.{Row}
 use Rattle.saber_plan.specs.declared.windows.Mark.{Mark}
 use Rattle.saber_plan.specs.Trees.{Tree}
-use Rattle.saber_plan.specs.Windows.{Frame, Placed, placed_after, mark_after, from}
+use Rattle.saber_plan.specs.Windows.{Placed, placed_after, mark_after, from}
 use Rattle.saber_plan.specs.Answers.{frame}
-use Rattle.saber_plan.specs.Parts.{Part, no_part, merge}
+use Rattle.saber_plan.specs.Parts.{no_part}
 use Rattle.saber_plan.specs.Tasks.{Parts}
 use Rattle.saber_plan.specs.Facts.Lists.{few_pass}
 use Rattle.saber_plan.specs.Facts.Rows.{length-placed}
-use Rattle.saber_panes.specs.Panes.{panes_here, pane_of, in_pane, is_counted, counted_rows, or_none, first_pane, pane_count, window_part, PanesOf, CanTakeIn, RowsRoom, WindowRoom}
+use Rattle.saber_panes.specs.Panes.{panes_here, pane_of, in_pane, is_counted, counted_rows, first_pane, pane_count, PanesOf, CanTakeIn, RowsRoom, WindowRoom}
 use Rattle.saber_partial.proofs.Counted.{none_of_rows, small_merge}
 use Rattle.saber_panes.proofs.PaneWindows.{within}
 use Rattle.saber_panes.proofs.PaneMerging.{from-none, from-first, sum_first}
-use Rattle.saber_panes.proofs.PaneFolding.{panes_of_rows}
+use Rattle.saber_panes.proofs.PaneFolding.{panes_are_of_rows}
 
 few_in : (q : Tree) (j : ℕ) (m : Mark) (xs : List Row) → length (in_pane q j (counted_rows q (placed_after m xs))) ≤ length xs
 few_in q j m xs =
@@ -26,21 +25,21 @@ few_in q j m xs =
     let c = length-placed m xs in
     omega (arith, a, b, c)
 
-pub rows_room : (q : Tree) (m : Mark) (xs ys : List Row) → length xs + length ys ≤ 2 ^ 40 → RowsRoom q (panes_here q m xs) (counted_rows q (placed_after (mark_after m xs) ys))
-rows_room q m xs ys l = record {
+pub rows_have_room : (q : Tree) (m : Mark) (xs ys : List Row) → length xs + length ys ≤ 2 ^ 40 → RowsRoom q (panes_here q m xs) (counted_rows q (placed_after (mark_after m xs) ys))
+rows_have_room q m xs ys l = record {
   has = λ j. length (in_pane q j (counted_rows q (placed_after m xs)));
-  panes = panes_of_rows q (counted_rows q (placed_after m xs));
+  panes = panes_are_of_rows q (counted_rows q (placed_after m xs));
   few = λ j. let a = few_in q j m xs in let b = few_in q j (mark_after m xs) ys in omega (arith, a, b, l);
 }
 
-pub can_join : (q : Tree) (m : Mark) (xs ys : List Row) → length xs + length ys ≤ 2 ^ 40 → CanTakeIn (panes_here q m xs) (panes_here q (mark_after m xs) ys)
-can_join q m xs ys l = record {
+pub panes_can_join : (q : Tree) (m : Mark) (xs ys : List Row) → length xs + length ys ≤ 2 ^ 40 → CanTakeIn (panes_here q m xs) (panes_here q (mark_after m xs) ys)
+panes_can_join q m xs ys l = record {
   at = λ j a b e f.
       let n = mark_after m xs in
       let low = few_in q j m xs in
       let high = few_in q j n ys in
       small_merge q (length (in_pane q j (counted_rows q (placed_after m xs)))) (length (in_pane q j (counted_rows q (placed_after n ys)))) a b
-      ((panes_of_rows q (counted_rows q (placed_after m xs))).at j a e) ((panes_of_rows q (counted_rows q (placed_after n ys))).at j b f) (omega (arith, low, high, l));
+      ((panes_are_of_rows q (counted_rows q (placed_after m xs))).at j a e) ((panes_are_of_rows q (counted_rows q (placed_after n ys))).at j b f) (omega (arith, low, high, l));
 }
 
 -- ---- the rows of a window's panes are no more than all
@@ -66,8 +65,8 @@ rows_within q us a (suc n) =
     let rest = rows_within q us (a + 1) n in
     omega (arith, cut, more, rest)
 
-pub window_room : (q : Tree) (i : ℕ) (us : List Placed) (m : Parts) → PanesOf q (λ j. length (in_pane q j us)) m → length us ≤ 2 ^ 40 → WindowRoom q i m no_part
-window_room q i us m g l = record {
+pub windows_have_room : (q : Tree) (i : ℕ) (us : List Placed) (m : Parts) → PanesOf q (λ j. length (in_pane q j us)) m → length us ≤ 2 ^ 40 → WindowRoom q i m no_part
+windows_have_room q i us m g l = record {
   has = λ j. length (in_pane q j us);
   own = 0;
   panes = g;
@@ -79,28 +78,3 @@ window_room q i us m g l = record {
 }
 
 -- ---- panes that are dropped
-
-kept_at : (m : Parts) (pane j : ℕ) → get (retain_keys m (λ j. nat_le pane j)) j ≡ cond (nat_le pane j) (get m j) None
-kept_at m pane j = get-retain_keys m (λ j. nat_le pane j) j (λ k e. ap (nat_le pane) (sym (nat_cmp-IsAntisymmetric j k e)))
-
-kept_some : (b : Bool) (o : Option Part) (p : Part) → cond b o None ≡ Some p → o ≡ Some p
-kept_some true o p e = e
-kept_some false o p e = cc
-
-pub dropped_fit : (q : Tree) (has : ℕ → ℕ) (m : Parts) (pane : ℕ) → PanesOf q has m → PanesOf q has (retain_keys m (λ j. nat_le pane j))
-dropped_fit q has m pane g = record { at = λ j p e. g.at j p (kept_some (nat_le pane j) (get m j) p (sym (kept_at m pane j) ∙ e)) }
-
-same_there : (m : Parts) (pane j : ℕ) → pane ≤ j → get (retain_keys m (λ j. nat_le pane j)) j ≡ get m j
-same_there m pane j l = kept_at m pane j ∙ (let there : nat_le pane j ≡ true = grind (arith, nat_tests) in ap (λ b. cond b (get m j) None) there)
-
-same_from : (m : Parts) (pane : ℕ) (p : Part) (a n : ℕ) → pane ≤ a → fold (λ x j. merge x (or_none (get (retain_keys m (λ j. nat_le pane j)) j))) p (from a n) ≡ fold (λ x j. merge x (or_none (get m j))) p (from a n)
-same_from m pane p a zero l =
-    ap (fold (λ x j. merge x (or_none (get (retain_keys m (λ j. nat_le pane j)) j))) p) (from-none a) ∙ sym (ap (fold (λ x j. merge x (or_none (get m j))) p) (from-none a))
-same_from m pane p a (suc n) l =
-    ap (fold (λ x j. merge x (or_none (get (retain_keys m (λ j. nat_le pane j)) j))) p) (from-first a n)
-    ∙ ap (λ o. fold (λ x j. merge x (or_none (get (retain_keys m (λ j. nat_le pane j)) j))) (merge p (or_none o)) (from (a + 1) n)) (same_there m pane a l)
-    ∙ same_from m pane (merge p (or_none (get m a))) (a + 1) n (omega (arith, l))
-    ∙ sym (ap (fold (λ x j. merge x (or_none (get m j))) p) (from-first a n))
-
-pub dropped_stay : (f : Frame) (i : ℕ) (m : Parts) (pane : ℕ) → pane ≤ first_pane f i → window_part f i (retain_keys m (λ j. nat_le pane j)) ≡ window_part f i m
-dropped_stay f i m pane l = same_from m pane no_part (first_pane f i) (pane_count f) l

@@ -18,7 +18,7 @@ use Rattle.saber_plan.specs.Facts.Maps.{get-both}
 use Rattle.saber_plan.specs.Facts.Rows.{placed-append}
 use Rattle.saber_plan.specs.Facts.Parts.{if_any}
 use Rattle.saber_panes.specs.Panes.{panes_in, panes_here, pane_of, pane_part, in_pane, is_counted, counted_rows, or_none}
-use Rattle.saber_laws.proofs.PartLaws.{group_part-append as groups_join}
+use Rattle.saber_laws.proofs.PartLaws.{groups_join}
 
 -- ---- numbers as keys
 
@@ -67,5 +67,5 @@ panes-append q us vs = same_map nat_cmp_total nat_cmp-IsAntisymmetric _ _ (λ k.
 pub counted-append : (q : Tree) (m : Mark) (xs ys : List Row) → counted_rows q (placed_after m (xs ++ ys)) ≡ counted_rows q (placed_after m xs) ++ counted_rows q (placed_after (mark_after m xs) ys)
 counted-append q m xs ys = ap (counted_rows q) (placed-append m xs ys) ∙ filter-append (is_counted q) (placed_after m xs) (placed_after (mark_after m xs) ys)
 
-pub rows_join : (q : Tree) (m : Mark) (xs ys : List Row) → panes_here q m (xs ++ ys) ≡ both merge (panes_here q m xs) (panes_here q (mark_after m xs) ys)
-rows_join q m xs ys = ap (panes_in q) (counted-append q m xs ys) ∙ panes-append q (counted_rows q (placed_after m xs)) (counted_rows q (placed_after (mark_after m xs) ys))
+pub panes_join : (q : Tree) (m : Mark) (xs ys : List Row) → panes_here q m (xs ++ ys) ≡ both merge (panes_here q m xs) (panes_here q (mark_after m xs) ys)
+panes_join q m xs ys = ap (panes_in q) (counted-append q m xs ys) ∙ panes-append q (counted_rows q (placed_after m xs)) (counted_rows q (placed_after (mark_after m xs) ys))

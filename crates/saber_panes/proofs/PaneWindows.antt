@@ -12,7 +12,7 @@ use Rattle.saber_plan.specs.Parts.{Part, no_part, group_part, merge}
 use Rattle.saber_plan.specs.Tasks.{Parts}
 use Rattle.saber_panes.specs.Panes.{panes_in, pane_of, in_pane, or_none, merged_panes}
 use Rattle.saber_panes.proofs.PaneRows.{pane_or_none, values_in}
-use Rattle.saber_laws.proofs.PartLaws.{group_part-append as groups_join, merge-assoc as merge_is_associative}
+use Rattle.saber_laws.proofs.PartLaws.{groups_join, merge_is_associative}
 use Rattle.saber_plan.specs.Facts.Parts.{merge-empty_left, merge-empty_right}
 
 -- ---- panes in a row

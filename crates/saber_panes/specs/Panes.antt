@@ -31,12 +31,6 @@ divisor_by (suc n) a b = if b == 0 then a else divisor_by n b (a % b)
 abbrev pub divisor : ℕ → ℕ → ℕ
 divisor a b = divisor_by b a b
 
--- how many points a pane has
-abbrev pub pane_width : Frame → ℕ
-pane_width unwindowed = 0
-pane_width (one measure slide size) = divisor size slide
-pane_width (two measure slide left right) = 0
-
 -- what sizes and slides count of a row of the one stream: its position, or its timestamp
 abbrev pub point_by : Measure → Placed → ℕ
 point_by Rows x = x.before.left

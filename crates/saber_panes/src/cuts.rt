@@ -31,7 +31,7 @@ fn divisor(a: u64, b: u64) -> u64
 }
 
 /// The window of a group query's stream.
-#[tactic(auto, using(saber_laws::proofs::CheckedLaws::group_has_one))]
+#[tactic(auto, using(saber_laws::proofs::CheckedLaws::groups_have_one_window))]
 pub(crate) fn window_of(plan: &Plan) -> Window
     requires checked { IsChecked (tree_of plan.now) }
     requires group { (tree_of plan.now).shape ≡ Group }

@@ -19,8 +19,5 @@ mod pane_laws;
 mod pane_part;
 mod panes;
 
-pub use pane_laws::{
-    dropped_panes_fit, dropped_panes_stay, panes_are_of_rows, panes_can_join, panes_join,
-    rows_have_room, windows_are_panes, windows_have_room,
-};
+pub use pane_laws::windows_are_panes;
 pub use panes::Panes;

@@ -277,7 +277,3 @@ key_here l i d xs h e = let there = h.there in part_here l.keys (i * l.width) d 
 -- rows of a table of the same layout
 pub alike_rows : (l m : Layout) (n : ℕ) (xs : List ℤ) (s t : Table) → l ≡ s.layout → m ≡ t.layout → s.layout ≡ t.layout → AreRows m n xs → AreRows l n xs
 alike_rows l m n xs s t a b c rows = subst (λ k. AreRows k n xs) (b ∙ sym c ∙ sym a) rows
-
--- a Vec's list from a place on
-pub rest_here : (a : ℕ) (d xs : List ℤ) → d ≡ xs → take (length d - a) (drop a d) ≡ drop a xs
-rest_here a d xs e = let long = length-drop a d in take_all (length d - a) (drop a d) (omega (arith, long)) ∙ ap (drop a) e

@@ -161,15 +161,6 @@ sums_have_room n vs k a = all_within (n * 2 ^ 86) (2 ^ 126) vs (omega (arith, k)
 
 -- ---- a step is a number of 128 bits
 
-within_fits : (x y : ℤ) → nat_abs x ≤ 2 ^ 126 → nat_abs y ≤ 2 ^ 86 → Fits128 (x +ℤ y)
-within_fits x y a b = (omega (arith, ints, a, b), omega (arith, ints, a, b))
-
-pub row_step_fits : (f : Fold) (x y : ℤ) → SumWithin (2 ^ 126) f x → SumWithin (2 ^ 86) f y → FitsStep f x y
-row_step_fits Sum x y a b = within_fits x y a b
-row_step_fits Min x y a b = tt
-row_step_fits Max x y a b = tt
-row_step_fits First x y a b = tt
-
 both_fit : (m n : ℕ) (x y : ℤ) → m + n ≤ 2 ^ 40 → nat_abs x ≤ m * 2 ^ 86 → nat_abs y ≤ n * 2 ^ 86 → Fits128 (x +ℤ y)
 both_fit m n x y k a b = (omega (arith, ints, k, a, b), omega (arith, ints, k, a, b))
 

@@ -10,7 +10,7 @@ use Rattle.saber_plan.specs.Facts.Parts.{merge-empty_left, merge-empty_right}
 use Rattle.saber_partial.specs.Tallies.{CanMerge}
 use Rattle.saber_partial.specs.MergeFacts.{can_ahead, can_back, can_behind, can_first, can_none, none_can}
 use Rattle.saber_partial.specs.Piles.{piled_part, CanPile}
-use Rattle.saber_laws.proofs.PartLaws.{merge-assoc as merge_is_associative}
+use Rattle.saber_laws.proofs.PartLaws.{merge_is_associative}
 
 -- ---- one part more
 
@@ -64,10 +64,6 @@ last_set (p ∷ []) zero a h = refl
 last_set (p ∷ []) (suc i) a h = absurd (omega (arith, h))
 last_set (p ∷ q ∷ ps) zero a h = absurd (omega (arith, h))
 last_set (p ∷ q ∷ ps) (suc i) a h = ap (λ l. p ∷ l) (last_set (q ∷ ps) i a (omega (arith, h)))
-
--- the last two become one
-pub last_two : (old mid rest : List Part) (a b : Part) → old ≡ mid ++ b ∷ [] → mid ≡ rest ++ a ∷ [] → CanPile old → Joined mid rest a b
-last_two old mid rest a b d e h = let front = can_pop mid b (subst CanPile d h) in joined mid rest a b e front.0 front.1
 
 -- ---- one part alone
 

@@ -7,7 +7,6 @@ use mir.Syntax.{w128}
 use mir.Val.{of_z, to_z}
 use borrow.Rule.Slice.PartMut.{put_mid}
 use Rattle.saber_plan.specs.declared.plans.Aggregate.{Aggregate}
-use Rattle.saber_plan.specs.declared.plans.Fold.TheVariants.{Sum}
 use Rattle.saber_plan.specs.Answers.{group_row}
 use Rattle.saber_plan.specs.Parts.{Number, Numbers, numbers, join_numbers}
 use Rattle.saber_partial.specs.declared.layout.Layout.{Layout}
@@ -18,19 +17,6 @@ use Rattle.saber_partial.specs.Printing.{joined_row}
 use Rattle.saber_partial.proofs.Folded.{length-stepped, length-over, length-folds, folds-with, values-with, with-front, stepped-front, with-stepped, one_row, folds-row, join_is_tally, row_is_tally}
 
 -- ---- layouts
-
-pub suits_layout : (l : Layout) (n : ℕ) (gs : List Aggregate) → n ≤ 8 → length gs ≤ 32 → length l.folds ≡ 32 → AllByRecursion (λ f. f ≡ Sum) (drop (length gs) l.folds) → Suits l n gs → IsLayout l
-suits_layout l n gs k h long rest s =
-    let a = s.keys in
-    let e = s.width in
-    let many : length gs ≡ l.width - (l.keys + 1) = omega (arith, a, e) in
-    record {
-      there = omega (arith, a, e);
-      few = omega (arith, a, e, h);
-      small = omega (arith, k, h, e);
-      long = long;
-      rest = subst (λ m. AllByRecursion (λ f. f ≡ Sum) (drop m l.folds)) many rest;
-    }
 
 -- ---- writes
 

@@ -248,11 +248,6 @@ module _ (out es fs : List (List ℤ × Numbers)) (i j : ℕ) (d : List ℤ × N
       ∙ run_greater e (drop (i + 1) es) xs (drop end fs) (below_cut fs j end order e.0 h)
       ∙ ap₂ weave (sym here) (cut fs j end order))
 
--- one more place below a key
-pub below_more : (es : List (List ℤ × Numbers)) (m n : ℕ) (k : List ℤ) → AllBelow es m n k → ((d : List ℤ × Numbers) → key_cmp (get_or es n d).0 k ≡ Less) → AllBelow es m (n + 1) k
-below_more es m n k h one j d low far =
-    ⊎_elim (λ (w : j ≡ n). ap (λ (i : ℕ). key_cmp (get_or es i d).0 k) w ∙ one d) (λ (w : j < n). h j d low w) (eq-or-lt_of_le (omega (arith, far)))
-
 -- and one before them
 pub below_first : (es : List (List ℤ × Numbers)) (m n : ℕ) (k : List ℤ) → ((d : List ℤ × Numbers) → key_cmp (get_or es m d).0 k ≡ Less) → AllBelow es (m + 1) n k → AllBelow es m n k
 below_first es m n k one h j d low far =

@@ -34,10 +34,6 @@ pub record IsGap (es : List (List ℤ × Numbers)) (k : List ℤ) (i : ℕ) : Ty
 abbrev pub AllBelow : List (List ℤ × Numbers) → ℕ → ℕ → List ℤ → Type 0
 AllBelow es m n k = (j : ℕ) (d : List ℤ × Numbers) → m ≤ j → j < n → key_cmp (get_or es j d).0 k ≡ Less
 
--- what a part has of a key can be joined with the numbers
-abbrev pub JoinsAt : Part → List ℤ → Numbers → Type 0
-JoinsAt m k v = (a : Numbers) → get m k ≡ Some a → CanJoin a v
-
 -- what both parts have of a key can be joined
 pub record JoinsFit (m n : Part) : Type 0 where
   pub at : (k : List ℤ) (a b : Numbers) → get m k ≡ Some a → get n k ≡ Some b → CanJoin a b

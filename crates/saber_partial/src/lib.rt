@@ -37,7 +37,6 @@ mod joined_answers;
 mod joined_lines;
 mod joined_values;
 mod later_row;
-mod laws;
 mod layout;
 mod lines;
 mod merges;
@@ -56,9 +55,6 @@ mod young;
 pub use aggregates::Aggregates;
 pub use gathering::Gathering;
 pub use groups::Partial;
-pub use laws::{
-    groups_are_of_rows, groups_can_merge, parts_are_of_rows, parts_can_merge, small_parts_merge,
-};
 pub use piles::Pile;
 pub use row_parts::{RowPart, RowParts};
 pub use steps::Steps;

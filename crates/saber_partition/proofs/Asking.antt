@@ -11,7 +11,7 @@ use Rattle.saber_plan.specs.Checked.{IsChecked, PartitionFits}
 use Rattle.saber_plan.specs.Answers.{way_of}
 use Rattle.saber_laws.specs.Plans.{OneWindow}
 use Rattle.saber_partition.specs.Streams.{Asks}
-use Rattle.saber_laws.proofs.CheckedLaws.{checked_fits as checked_fit, group_has_one as groups_have_one_window}
+use Rattle.saber_laws.proofs.CheckedLaws.{checked_fit, groups_have_one_window}
 
 record Told (ks : List ℕ) (ss : List Stream) (word : Option Word) : Type 0 where
   pub first : ℕ

@@ -23,7 +23,7 @@ use Rattle.saber_partition.specs.Pieces.{Made, mark_with, IsMade, ArePieces, Row
 use Rattle.saber_partition.proofs.Counting.{frame_is}
 use Rattle.saber_partition.proofs.Streaming.{lines_are}
 use Rattle.saber_partition.proofs.Listing.{substream_next, keeps_nothing, taken_more, IsKept, all_kept, last_is}
-use Rattle.saber_laws.proofs.ListLaws.{counted as streams_are_counted, fit as substreams_fit, turns as turns_go_on}
+use Rattle.saber_laws.proofs.ListLaws.{streams_are_counted, substreams_fit, turns_go_on}
 
 -- ---- one row
 

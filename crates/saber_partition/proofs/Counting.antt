@@ -17,8 +17,8 @@ use Rattle.saber_plan.specs.GivenRows.{IsRowOf, RowsFit}
 use Rattle.saber_plan.specs.Facts.Lists.{all_back}
 use Rattle.saber_plan.specs.Facts.Rows.{mark-append, is_left, fits_back}
 use Rattle.saber_partition.specs.Streams.{Asks}
-use Rattle.saber_laws.proofs.WindowLaws.{begun_count_rises as begun_stay}
-use Rattle.saber_laws.proofs.NeedLaws.{has_is as rows_span}
+use Rattle.saber_laws.proofs.WindowLaws.{begun_stay}
+use Rattle.saber_laws.proofs.NeedLaws.{rows_span}
 
 -- ---- counts
 
@@ -43,10 +43,6 @@ both_reach size p r l e = grind (arith, nat_tests)
 
 count_rises : (slide size p r : ℕ) → 1 ≤ slide → p ≤ r → count_to slide size p ≤ count_to slide size r
 count_rises slide size p r h l = count_case slide size p r (nat_le size p) (nat_le size r) h l (both_reach size p r l)
-
-under_case : (slide size p : ℕ) (b : Bool) → 1 ≤ slide → cond b ((p - size) / slide + 1) 0 ≤ (p - 0) / slide + 1
-under_case slide size p true h = let rises = div_rises slide (p - size) (p - 0) h (omega arith) in omega (arith, rises)
-under_case slide size p false h = omega arith
 
 -- ---- one row more
 

@@ -1,5 +1,5 @@
 -- Parts of rows in one list, as more come.
-use Rattle.std.proofs.Common.{◌≡◌, ◌<◌, ◌≤◌, ℕ, zero, suc, List, [], ◌∷◌, ◌++◌, length, length-append, map, get_or, Option, Some, None, refl, sym, ◌∙◌, ap, subst, arith}
+use Rattle.std.proofs.Common.{◌≡◌, ◌<◌, ℕ, zero, suc, List, [], ◌∷◌, ◌++◌, length, length-append, map, get_or, Option, Some, None, refl, sym, ◌∙◌, ap, subst, arith}
 use Rattle.std.specs.List.{AllByRecursion}
 use Rattle.saber_plan.specs.Parts.{Part, no_part}
 use Rattle.saber_partition.specs.declared.pieces.RowPiece.{RowPiece}
@@ -10,16 +10,6 @@ use Rattle.saber_partition.specs.Stores.{made_of, HasPart}
 pub all_push : {A : Type 0} (P : A → Type 0) (xs : List A) (x : A) → AllByRecursion P xs → P x → AllByRecursion P (xs ++ x ∷ [])
 all_push P [] x h g = (g, tt)
 all_push P (y ∷ xs) x h g = (h.0, all_push P xs x h.1 g)
-
-pub last_part : (ps : List Part) (p : Part) → get_or (ps ++ p ∷ []) (length ps) no_part ≡ p
-last_part [] p = refl
-last_part (o ∷ ps) p = last_part ps p
-
--- behind all there is none
-pub none_behind : (ps : List Part) (i : ℕ) → length ps ≤ i → get_or ps i no_part ≡ no_part
-none_behind [] i h = refl
-none_behind (p ∷ ps) zero h = absurd (omega (arith, h))
-none_behind (p ∷ ps) (suc i) h = none_behind ps i (omega (arith, h))
 
 -- ---- those that were there stay
 

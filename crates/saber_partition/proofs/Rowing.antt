@@ -1,5 +1,5 @@
 -- What one row gives.
-use Rattle.std.proofs.Common.{◌≡◌, ◌<◌, [], ◌∷◌, length, true, false, cond, sym, ◌∙◌, ap, subst}
+use Rattle.std.proofs.Common.{◌≡◌, ◌<◌, [], ◌∷◌, length, false, cond, sym, ◌∙◌, ap, subst}
 use Rattle.std.specs.List.{AllByRecursion}
 use Rattle.saber_plan.specs.declared.rows.Row.{Row}
 use Rattle.saber_plan.specs.declared.plans.Shape.TheVariants.{Group}
@@ -16,7 +16,7 @@ use Rattle.saber_partition.specs.Streams.{Asks, row_part}
 use Rattle.saber_eval.specs.Widths.{widths}
 use Rattle.saber_eval.specs.Fitting.{PlanFits}
 use Rattle.saber_eval.proofs.FittingLaws.{one_stream as one_stream_fits}
-use Rattle.saber_laws.proofs.CheckedLaws.{group_has_one as groups_have_one_window}
+use Rattle.saber_laws.proofs.CheckedLaws.{groups_have_one_window}
 use Rattle.saber_laws.proofs.CutLaws.{no_rows_no_part}
 
 -- a row of the one stream
@@ -35,9 +35,6 @@ module _ (q : Tree) (a : Asks q) (r : Row) (is : IsRowOf q r) where
   -- the columns of its key list are there
   pub lists_there : AllByRecursion (λ k. k < length r.values) q.partition
   lists_there = all_weaker (λ k. k < columns_on q.streams Left) (λ k. k < length r.values) (λ k h. subst (λ n. k < n) (sym (row_fits q r a.checked a.group is).count) h) q.partition a.checked.lists
-
-pub passing_part : (q : Tree) (r : Row) → passes q.predicate r.values [] ≡ true → group_part q (r.values ∷ []) ≡ row_part q r
-passing_part q r e = ap (λ b. group_part q (cond b (r.values ∷ []) [])) (sym e)
 
 pub failing_part : (q : Tree) (r : Row) → passes q.predicate r.values [] ≡ false → no_part ≡ row_part q r
 failing_part q r e = sym (no_rows_no_part q).of_groups ∙ ap (λ b. group_part q (cond b (r.values ∷ []) [])) (sym e)

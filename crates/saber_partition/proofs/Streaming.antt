@@ -22,10 +22,10 @@ use Rattle.saber_sliding.specs.Entries.{Entries, whole, dropped_entries, part_at
 use Rattle.saber_sliding.specs.EntryFacts.{all_map, all_dropped, all_put, part_at-dropped, whole-dropped, part_at-put, part_at-behind}
 use Rattle.saber_partition.specs.Streams.{part_of, lines_between, row_part, Entered, Holds, HoldStill, Printed, Comes, Came}
 use Rattle.saber_partition.proofs.Counting.{has_is, past_rises, begun_rises, lt_true, lt_false}
-use Rattle.saber_partial.proofs.Counted.{groups_of_rows as groups_are_of_rows, small_merge, small_stay}
-use Rattle.saber_laws.proofs.PartLaws.{group_part-append as groups_join}
+use Rattle.saber_partial.proofs.Counted.{groups_are_of_rows, small_merge, small_stay}
+use Rattle.saber_laws.proofs.PartLaws.{groups_join}
 use Rattle.saber_laws.proofs.CutLaws.{no_rows_no_part}
-use Rattle.saber_laws.proofs.ShareLaws.{lines-part as part_has_lines}
+use Rattle.saber_laws.proofs.ShareLaws.{part_has_lines}
 use Rattle.saber_plan.specs.Facts.Parts.{merge-empty_right}
 
 -- ---- windows that are done

@@ -16,9 +16,8 @@ use Rattle.saber_partition.specs.Streams.{Asks}
 use Rattle.saber_partition.specs.Lists.{Lists, TakenBy, TakenIn, held_lists, kept_in}
 use Rattle.saber_partition.specs.Pieces.{Made, IsMade, AreMade, ArePieces, IsOf, HasSeen, RowsCome, RowsCame, EndCame, Follow, Followed}
 use Rattle.saber_partition.proofs.Listing.{held_is, nothing_held}
-use Rattle.saber_laws.proofs.FlushLaws.{nothing_open}
-use Rattle.saber_laws.proofs.ListLaws.{no_list_open}
-use Rattle.saber_laws.proofs.EndLaws.{end_behind as ends_are_behind}
+use Rattle.saber_laws.proofs.ListLaws.{no_list_open_behind}
+use Rattle.saber_laws.proofs.EndLaws.{ends_are_behind}
 
 -- ---- making
 
@@ -109,7 +108,7 @@ list_keeps q a r = ap (λ w. by_way w (by_windows (unclosed q r)) (record { part
     (λ c. record { parts = unclosed q r; lists = empty; answers = last_answers q r })) a.has_lists
 
 held_by : (q : Tree) → Asks q → (b : Bool) (xs : List Row) (m : Lists) → TakenBy b q xs m → held_lists m ≡ unclosed_by_list q (record { rows = xs; ended = b })
-held_by q a true xs m t = ap held_lists t ∙ nothing_held ∙ sym (no_list_open nothing_open q (record { rows = xs; ended = true }) refl)
+held_by q a true xs m t = ap held_lists t ∙ nothing_held ∙ sym (no_list_open_behind q (record { rows = xs; ended = true }) refl)
 held_by q a false xs m t = held_is q a xs m t
 
 pub keeps_rightly : (q : Tree) → Asks q → (r : Input) (m : Lists) → TakenIn q r m → kept_in m ≡ kept_behind q r

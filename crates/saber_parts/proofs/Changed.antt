@@ -17,10 +17,10 @@ use Rattle.saber_plan.specs.Parts.{Part, Numbers, part, part_answers, group_answ
 use Rattle.saber_plan.specs.Tasks.{Parts, unclosed, closed_at, last_answers}
 use Rattle.saber_plan.specs.Shares.{Shares, full, entries_in, handed_between}
 use Rattle.saber_laws.specs.Shares.{Between}
-use Rattle.saber_laws.proofs.OpenLaws.{open_parts}
-use Rattle.saber_laws.proofs.EndLaws.{closed_rises}
-use Rattle.saber_laws.proofs.WordLaws.{of_parts, kept_stay}
-use Rattle.saber_laws.proofs.HandedLaws.{handed_rise, handed_parts, taken_handed, open_behind}
+use Rattle.saber_laws.proofs.OpenLaws.{open_parts_are}
+use Rattle.saber_laws.proofs.EndLaws.{closed_rise}
+use Rattle.saber_laws.proofs.WordLaws.{answers_are_of_parts, last_answers_stay}
+use Rattle.saber_laws.proofs.HandedLaws.{handed_rise, handed_parts_are, handed_is_taken_in, open_behind}
 use Rattle.saber_changes.specs.declared.cancel.Change.{Change}
 use Rattle.saber_changes.specs.declared.walk.Walk.{Walk}
 use Rattle.saber_changes.specs.Walks.{Stands, Walks, changes_from}
@@ -140,8 +140,8 @@ module _ (q : Tree) (m : Parts) (w : Walk) (s : Shares) (r : Input) (x y : ℕ) 
       fits = h.fits;
       rises = omega arith;
       rises_on = h.rises;
-      first = open_parts q r x y between i a (sym (ap (λ (n : Parts). get n i) h.unclosed_is) ∙ f);
-      second = handed_parts q r x y between i b (sym (ap (λ t. get (from_entries {R = nat_cmp} (entries_in t)) i) h.handed_is) ∙ g);
+      first = open_parts_are q r x y between i a (sym (ap (λ (n : Parts). get n i) h.unclosed_is) ∙ f);
+      second = handed_parts_are q r x y between i b (sym (ap (λ t. get (from_entries {R = nat_cmp} (entries_in t)) i) h.handed_is) ∙ g);
     };
   }
 
@@ -152,7 +152,7 @@ module _ (q : Tree) (m : Parts) (w : Walk) (s : Shares) (r : Input) (x y : ℕ) 
   whole i = part q i r.rows 0 y
 
   merged_at : (i : ℕ) → get merged i ≡ cond (nat_le (closed_at q r x) i) (full (whole i)) None
-  merged_at i = (λ j. get (both merge (h.unclosed_is j) (from_entries {R = nat_cmp} (entries_in (h.handed_is j)))) i) ∙ taken_handed q r x y between i
+  merged_at i = (λ j. get (both merge (h.unclosed_is j) (from_entries {R = nat_cmp} (entries_in (h.handed_is j)))) i) ∙ handed_is_taken_in q r x y between i
 
   closed_is : s.closed ≡ closed_at q r y
   unfolding handed_between
@@ -169,7 +169,7 @@ module _ (q : Tree) (m : Parts) (w : Walk) (s : Shares) (r : Input) (x y : ℕ) 
       ∙ ap (λ o. cond (nat_lt i s.closed) o None) (merged_at i)
 
   order : w.next ≤ s.closed
-  order = let low = closed_rises (frame q) h.windows r x y h.fits.ordered h.rises in let next = h.next_is in let past = closed_is in omega (arith, low, next, past)
+  order = let low = closed_rise (frame q) h.windows r x y h.fits.ordered h.rises in let next = h.next_is in let past = closed_is in omega (arith, low, next, past)
 
   pub closed_rise_on : Rises w.next s.closed (entries below)
   closed_rise_on = rise_from w.next s.closed (entries below) order (entries_sorted below)
@@ -184,16 +184,16 @@ module _ (q : Tree) (m : Parts) (w : Walk) (s : Shares) (r : Input) (x y : ℕ) 
   at i = window_answers q i (take y r.rows)
 
   pub stands : Stands at w
-  stands = h.last_is ∙ sym (kept_stay q h.windows r x y h.fits.ordered h.rises) ∙ ap (before_window at) (sym h.next_is)
+  stands = h.last_is ∙ sym (last_answers_stay q h.windows r x y h.fits.ordered h.rises) ∙ ap (before_window at) (sym h.next_is)
 
   pub told : Tells q at w.next s.closed (entries below)
-  told = tells q at whole (λ i. of_parts q i r.rows y) s.closed (entries below) w.next closed_rise_on (λ i l u.
+  told = tells q at whole (λ i. answers_are_of_parts q i r.rows y) s.closed (entries below) w.next closed_rise_on (λ i l u.
       let next = h.next_is in
       found i ∙ ap (λ b. cond b (cond (nat_le first i) (full (whole i)) None) None) (is_below i s.closed u) ∙ ap (λ b. cond b (full (whole i)) None) (is_from first i (omega (arith, l, next))))
 
   open_at : (i : ℕ) → get (retain_keys merged (λ i. nat_le s.closed i)) i ≡ get (unclosed q (first_arrivals r y)) i
   open_at i =
-      let low = closed_rises (frame q) h.windows r x y h.fits.ordered h.rises in
+      let low = closed_rise (frame q) h.windows r x y h.fits.ordered h.rises in
       get-retain_keys merged (λ i. nat_le s.closed i) i (λ k e. ap (nat_le s.closed) (sym (nat_cmp-IsAntisymmetric i k e)))
       ∙ ap (λ o. cond (nat_le s.closed i) o None) (merged_at i)
       ∙ ap (λ c. cond (nat_le c i) (cond (nat_le first i) (full (whole i)) None) None) closed_is

@@ -8,8 +8,8 @@ use Rattle.saber_plan.specs.Parts.{Part, merge}
 use Rattle.saber_plan.specs.Tasks.{Parts, Piece, piece_between, written_by, left_by}
 use Rattle.saber_plan.specs.Shares.{Shares, entries_in, piece_in}
 use Rattle.saber_laws.specs.Shares.{Between}
-use Rattle.saber_laws.proofs.SharesLaws.{make_piece, rise}
-use Rattle.saber_laws.proofs.OpenLaws.{open_parts, piece_parts}
+use Rattle.saber_laws.proofs.SharesLaws.{shares_make_piece, shares_rise}
+use Rattle.saber_laws.proofs.OpenLaws.{open_parts_are, piece_parts_are}
 use Rattle.saber_fragment.specs.declared.pieces.Piece.{Piece as Piece_of}
 use Rattle.saber_fragment.specs.Shown.{windows_by, shares_of}
 use Rattle.saber_parts.specs.Stored.{CanTakeIn, lines_of}
@@ -20,10 +20,10 @@ between_of q m s c = record { fits = c.windows; ordered = c.fits.ordered; rises 
 
 -- its windows rise
 pub rising_now : (q : Tree) (m : Parts) (s : Shares) → Continues q m s → T (is_sorted nat_cmp (entries_in s))
-rising_now q m s c = subst (λ t. T (is_sorted nat_cmp (entries_in t))) (sym c.shares_are) (rise q c.input c.from c.to (between_of q m s c))
+rising_now q m s c = subst (λ t. T (is_sorted nat_cmp (entries_in t))) (sym c.shares_are) (shares_rise q c.input c.from c.to (between_of q m s c))
 
 piece_is : (q : Tree) (m : Parts) (s : Shares) (c : Continues q m s) → piece_in s ≡ piece_between q c.input c.from c.to
-piece_is q m s c = ap piece_in c.shares_are ∙ make_piece q c.input c.from c.to (between_of q m s c)
+piece_is q m s c = ap piece_in c.shares_are ∙ shares_make_piece q c.input c.from c.to (between_of q m s c)
 
 -- parts that meet are of rows that follow one another
 pub can_take_in : (q : Tree) (m : Parts) (s : Shares) → Continues q m s → CanTakeIn q m (from_entries (entries_in s))
@@ -39,8 +39,8 @@ can_take_in q m s c = record {
         fits = c.fits;
         rises = omega arith;
         rises_on = c.rises;
-        first = open_parts q c.input c.from c.to h i a (sym (ap (λ (n : Parts). get n i) c.unclosed_is) ∙ f);
-        second = piece_parts q c.input c.from c.to h i b (sym (ap (λ (p : Piece). get p.parts i) (piece_is q m s c)) ∙ g);
+        first = open_parts_are q c.input c.from c.to h i a (sym (ap (λ (n : Parts). get n i) c.unclosed_is) ∙ f);
+        second = piece_parts_are q c.input c.from c.to h i b (sym (ap (λ (p : Piece). get p.parts i) (piece_is q m s c)) ∙ g);
       };
 }
 

@@ -1,11 +1,9 @@
 -- Rows counted by their key lists.
-use Rattle.std.proofs.Common.{◌≡◌, ◌≤◌, ◌<◌, ◌+◌, ◌==◌, ◌^◌, ℕ, zero, suc, List, [], ◌∷◌, ◌++◌, length, filter, take, drop, get_or, slice_get, ℤ, Bool, true, false, cond, Option, Some, None, unwrap_or, refl, sym, ◌∙◌, ap, subst, arith, length-append, append_assoc, append-nil}
+use Rattle.std.proofs.Common.{◌≡◌, ◌≤◌, ◌<◌, ◌+◌, ◌^◌, ℕ, zero, suc, List, [], ◌∷◌, ◌++◌, length, filter, take, drop, get_or, slice_get, ℤ, Bool, true, false, cond, Option, Some, None, unwrap_or, refl, sym, ◌∙◌, ap, arith, length-append, append_assoc, append-nil}
 use Rattle.std.proofs.lemmas.Cmp.{tied_itself}
 use Rattle.std.proofs.lemmas.List.{length-map, take_more, drop_more, drop_all}
 use Rattle.std.proofs.lemmas.Option.{get_or_from_slice_get}
-use Rattle.std.proofs.lemmas.Bool.Decides.{nat_tests}
 use Rattle.std.proofs.lemmas.List.Elements.{filter-append}
-use Rattle.std.specs.List.{AllByRecursion}
 use Rattle.std.specs.Ordering.{eq_by_cmp, is_eq}
 use Rattle.std.specs.FinMap.{insert}
 use Rattle.saber_plan.specs.declared.rows.Row.{Row}
@@ -17,7 +15,7 @@ use Rattle.saber_plan.specs.Trees.{Tree}
 use Rattle.saber_plan.specs.declared.plans.Shape.{Shape}
 use Rattle.saber_plan.specs.declared.plans.Shape.TheVariants.{Select, Group, Join}
 use Rattle.saber_plan.specs.declared.plans.Word.{Word}
-use Rattle.saber_plan.specs.Checked.{columns_on, IsChecked, PartitionFits}
+use Rattle.saber_plan.specs.Checked.{IsChecked, PartitionFits}
 use Rattle.saber_plan.specs.GivenRows.{IsRowOf, RowsFit}
 use Rattle.saber_plan.specs.Windows.{by_side, step_mark, mark_after, no_rows}
 use Rattle.saber_plan.specs.Facts.Lists.{all_at, all_back}
@@ -28,27 +26,11 @@ use Rattle.saber_plan.specs.Facts.Maps.{equal_if}
 use Rattle.saber_places.specs.declared.places.Places.{Places}
 use Rattle.saber_places.specs.Keys.{filled_key}
 use Rattle.saber_places.specs.Counts.{Tallies, seen_tallies, count_of}
-use Rattle.saber_places.specs.Counting.{Counts, places_behind, ArePlaced}
+use Rattle.saber_places.specs.Counting.{Counts, places_behind}
 use Rattle.saber_places.proofs.Filled.{filled_same}
 use Rattle.saber_places.proofs.Tallied.{counted_at, tally_at}
 
 -- ---- the streams of a query with PARTITION BY
-
-on_left : (ss : List Stream) (side : Side) → length ss ≡ 1 → 1 ≤ columns_on ss side → side ≡ Left
-on_left ss Left e h = refl
-on_left (s ∷ []) Right e h = absurd (omega (arith, h))
-on_left [] Right e h = absurd (omega (arith, e))
-on_left (s ∷ t ∷ ts) Right e h = absurd (omega (arith, e))
-
-all_below : (n m : ℕ) (ks : List ℕ) → n ≡ m → AllByRecursion (λ k. k < n) ks → AllByRecursion (λ k. k < m) ks
-all_below n m ks e h = subst (λ x. AllByRecursion (λ k. k < x) ks) e h
-
--- a row has the columns
-pub has_columns : (q : Tree) (xs : List Row) (p : Places) (r : Row) → Counts q xs p → IsRowOf q r → AllByRecursion (λ k. k < length r.values) p.columns.items
-has_columns q xs p r c f =
-    let side : r.side ≡ Left = on_left q.streams r.side c.one f.stream in
-    let width : columns_on q.streams Left ≡ length r.values = sym (f.fits.count ∙ ap (columns_on q.streams) side) in
-    subst (AllByRecursion (λ k. k < length r.values)) (sym c.columns) (all_below _ _ q.partition width c.there)
 
 -- ---- how many rows there are
 
@@ -130,9 +112,6 @@ module _ (q : Tree) (xs : List Row) (p : Places) (r : Row) (c : Counts q xs p) w
 
 -- ---- rows one after another
 
-no_first : (n : ℕ) → n ≡ 0 → 1 ≤ n → ⊥
-no_first n e h = omega (arith, e, h)
-
 -- PARTITION BY stands in a query of one stream
 pub one_stream : (ks : List ℕ) (shape : Shape) (ss : List Stream) (word : Option Word) → PartitionFits ks shape ss word → 1 ≤ length ks → length ss ≡ 1
 one_stream [] shape ss word f h = absurd (omega (arith, h))
@@ -152,16 +131,6 @@ counts_nothing q p c is none some = record {
   there = c.lists;
   count = λ k h. ap (λ es. count_of (seen_tallies es) (filled_key 8 k)) none ∙ ap (λ o. unwrap_or o 0) (tally_at (filled_key 8 k) [] None refl);
 }
-
-no_columns : (ks : List ℕ) → length ks ≡ 0 → ks ≡ []
-no_columns [] h = refl
-no_columns (k ∷ ks) h = absurd (omega (arith, h))
-
-pub some_columns : (n : ℕ) → (n == 0) ≡ false → 1 ≤ n
-some_columns n h = grind (arith, nat_tests, h)
-
-pub none_columns : (ks : List ℕ) → (length ks == 0) ≡ true → ks ≡ []
-none_columns ks h = let z : length ks ≡ 0 = grind (arith, nat_tests, h) in no_columns ks z
 
 pub all_few : (q : Tree) (xs : List Row) → RowsFit q no_rows xs → length xs < 2 ^ 63
 all_few q xs f = omega (arith, all_counted no_rows xs, f.left, f.right)
@@ -195,12 +164,6 @@ pub last_places : (q : Tree) (xs rows : List Row) (i : ℕ) (ps : List ℕ) → 
 unfolding places_after
 last_places q xs rows i ps far h = sym (append-nil ps) ∙ ap (λ l. ps ++ places_after q (xs ++ take i rows) l) (sym (drop_all i rows far)) ∙ h
 
-pub first_places : (q : Tree) (xs rows : List Row) → places_after q (xs ++ take 0 rows) (drop 0 rows) ≡ places_after q xs rows
-first_places q xs rows = ap (λ l. places_after q l rows) (append-nil xs)
-
 pub placed_by : (q : Tree) (ks : List ℕ) (xs rows : List Row) → 1 ≤ length ks → places_after q xs rows ≡ places_behind q ks xs rows
 placed_by q [] xs rows h = absurd (omega (arith, h))
 placed_by q (k ∷ ks) xs rows h = refl
-
-pub placed_none : (q : Tree) (xs rows : List Row) (ps : List ℕ) → q.partition ≡ [] → ps ≡ [] → ArePlaced q xs rows ps None
-placed_none q xs rows ps none e = record { places = e ∙ sym (ap (λ ks. places_behind q ks xs rows) none); counted = none }

@@ -3,18 +3,15 @@
 use Rattle.std.specs.Prelude.{ℕ, ◌+◌, ◌-◌, ◌/◌, max, List, [], ◌∷◌, map, filter, slice_range, Bool, false, if◌then◌else◌, nat_le, nat_lt, Option, Some, None}
 use Rattle.std.specs.List.{list_any}
 use Rattle.std.specs.Option.{option_map_or}
-use Rattle.std.specs.FinMap.{from_entries}
 use Rattle.saber_plan.specs.declared.rows.Row.{Row}
 use Rattle.saber_plan.specs.declared.windows.Mark.{Mark}
 use Rattle.saber_plan.specs.declared.windows.Measure.TheVariants.{Rows, Range}
-use Rattle.saber_plan.specs.declared.windows.Kind.{Kind}
 use Rattle.saber_plan.specs.Trees.{Tree}
 use Rattle.saber_plan.specs.Inputs.{Input}
-use Rattle.saber_plan.specs.Windows.{Frame, unwindowed, one, two, Placed, place, own, time, placed_from_start, has, mark_after, end_mark, last_mark, mark_at, by_side, count_to, closed_count, begun_count, from}
+use Rattle.saber_plan.specs.Windows.{Frame, unwindowed, one, two, Placed, place, own, time, placed_from_start, has, last_mark, mark_at, by_side, count_to, closed_count, begun_count, from}
 use Rattle.saber_plan.specs.Answers.{by_shape, frame}
-use Rattle.saber_plan.specs.Parts.{Part}
 use Rattle.saber_plan.specs.Tasks.{task_start, upto, task_count}
-use Rattle.saber_plan.specs.Shares.{Parts, Piece, piece_in, shares_here}
+use Rattle.saber_plan.specs.Shares.{Piece, piece_in, shares_here}
 pub use Rattle.saber_plan.specs.Shares.{is_closing, is_pending, is_opening}
 unfoldable pub use Rattle.saber_plan.specs.Shares.{of_kind, part_here}
 
@@ -75,28 +72,6 @@ wide q n r most = first_number (filter (λ t. nat_lt most (need q n r t)) (from 
 -- the piece, from those rows alone, and whether the input ends behind them
 unfoldable pub piece_here : Tree → Mark → List Row → List Row → Bool → Piece
 piece_here q m back rows ended = piece_in (shares_here q m back rows ended)
-
--- ---- the open parts of that piece, by the kind of their windows
-
--- the parts of such windows as a map
-abbrev pub parts_of : (Option Kind → Bool) → Frame → Mark → Mark → (ℕ → Part) → Parts
-parts_of wanted f a b part = from_entries (of_kind wanted f a b part)
-
--- those of a task's rows, of the windows of a kind
-abbrev kind_here : (Option Kind → Bool) → Tree → Mark → List Row → List Row → Bool → Parts
-kind_here wanted q m back rows ended =
-    let a = mark_after m back in
-    parts_of wanted (frame q) a (end_mark ended (mark_after a rows)) (λ i. part_here q i m back rows)
-
--- of windows that the rows close and did not begin, of those that they neither begin nor close, and of those that they begin and do not close
-abbrev pub closing_here : Tree → Mark → List Row → List Row → Bool → Parts
-closing_here q m back rows ended = kind_here is_closing q m back rows ended
-
-abbrev pub pending_here : Tree → Mark → List Row → List Row → Bool → Parts
-pending_here q m back rows ended = kind_here is_pending q m back rows ended
-
-abbrev pub opening_here : Tree → Mark → List Row → List Row → Bool → Parts
-opening_here q m back rows ended = kind_here is_opening q m back rows ended
 
 -- ---- the rows of a task and of its look-back
 

@@ -267,11 +267,11 @@ module _ {T R P S : Type 0} (is_told : T → ℕ → Type 0) (upto : T → ℕ �
       go None h t hold low high = absurd (h t hold)
       go (Some x) h t hold low high = let same = h.2 t hold in (x, refl, subst (λ z. first_of_task upto needs b.told z ≤ u) same low, subst (λ z. u ≤ z) same high)
 
-  pub whole_law : Falls → (s : St) (b : RingState T) (sh : As s b)
+  pub needs_are_whole : Falls → (s : St) (b : RingState T) (sh : As s b)
       → (b.filled ≤ first_of_task upto needs b.told b.assembled + size)
       × ((u : ℕ) → IsInNeed {R = R} {P = P} {S = S} is_told upto needs is_rows is_piece is_stage b u → IsWhole is_told upto needs is_rows is_piece is_stage size s b u)
       × ((t u : ℕ) → b.assembled ≤ t → t < b.filled → first_of_task upto needs b.told t ≤ u → u ≤ t → IsWhole is_told upto needs is_rows is_piece is_stage size s b u)
-  whole_law rises s b sh =
+  needs_are_whole rises s b sh =
       let k = sh.shape in let last = sh.blocks.room in let begun = begun_more b.fill b.filled in
       let each : (u : ℕ) → IsInNeed {R = R} {P = P} {S = S} is_told upto needs is_rows is_piece is_stage b u → IsWhole is_told upto needs is_rows is_piece is_stage size s b u =
       λ u need. let from = need.0 in let below = need.1 in let low : oldest size b ≤ u = omega arith in let near : u < oldest size b + size = omega arith in
@@ -307,11 +307,11 @@ module _ {T R P S : Type 0} (is_told : T → ℕ → Type 0) (upto : T → ℕ �
   not_begun b u kept fits le = absurd (omega arith)
   not_begun b u (read_by j) fits le = let below = fits.0 in let more = begun_more b.fill b.filled in absurd (omega arith)
 
-  pub words_law : (s : St) (b : RingState T) (sh : As s b)
+  pub block_words_are : (s : St) (b : RingState T) (sh : As s b)
       → ((u : ℕ) → oldest size b ≤ u → u < b.filled → (get_or s.words (u % size + 1 + size) 0 ≡ 4 * u + 2) ⊎ (get_or s.words (u % size + 1 + size) 0 ≡ 4 * u + 3))
       × FillWord {R = R} {P = P} {S = S} is_told upto needs is_rows is_piece is_stage size s b.filled b.fill
       × ((u : ℕ) → begun_of b.fill b.filled ≤ u → u < size → get_or s.words (u % size + 1 + size) 0 ≡ 4 * u)
-  words_law s b sh =
+  block_words_are s b sh =
       let more = begun_more b.fill b.filled in let few = begun_few b.fill b.filled in let pos = sh.shape.some_cell in (
         (λ u low below. ⊎_elim (λ (e : b.block u ≡ kept). inl (word_is s b sh u low (omega arith) kept e)) (λ (e : (j : ℕ) × (b.block u ≡ read_by j)). inr (word_is s b sh u low (omega arith) (read_by e.0) e.1)) (needed_block s b sh u below)),
         fill_word s b sh b.fill refl,

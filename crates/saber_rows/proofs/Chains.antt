@@ -12,8 +12,8 @@ use Rattle.saber_rows.specs.declared.ends.Stop.TheVariants.{AllRead, Failed}
 use Rattle.saber_rows.specs.Reader.{Reader, rest_of, CanFollow, answer_of}
 use Rattle.saber_rows.specs.Calls.{Moves, EndsBy, given_by, kept_by, last_after}
 use Rattle.saber_rows.specs.Laws.{MovesGoOn, ReadersStand}
-use Rattle.saber_rows.specs.Turns.{Steps, LineGives, TurnGives, IfAgain, HasEnough, NoneReady, same}
-use Rattle.saber_rows.proofs.ReadSteps.{given_none, enough_again}
+use Rattle.saber_rows.specs.Turns.{Steps, LineGives, TurnGives, NoneReady, same}
+use Rattle.saber_rows.proofs.ReadSteps.{given_none}
 
 -- ---- a turn without the source
 
@@ -38,12 +38,6 @@ line_turn (turns.Stop AllRead) old new had g = (g.0, refl, g.1)
 line_turn (turns.Stop (Failed ReadFault)) old new had g = absurd g.1
 line_turn (turns.Stop (Failed NoMemory)) old new had g = (g.0, refl, g.1)
 line_turn (turns.Stop (Failed (Bad n c))) old new had g = absurd g.1
-
--- what has enough before it has enough after it
-pub enough_line : (t : Turn) (old new : Reader) → LineGives t old new → HasEnough old → IfAgain t (HasEnough new)
-enough_line (turns.Row r) old new g h = tt
-enough_line turns.Again old new g h = enough_again old new g h
-enough_line (turns.Stop s) old new g h = tt
 
 -- ---- two moves are one
 

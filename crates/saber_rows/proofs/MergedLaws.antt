@@ -10,8 +10,8 @@ use Rattle.saber_rows.proofs.ReaderTexts.{none_comes, all_comes, can_come}
 use Rattle.saber_rows.proofs.Fronts.{stand, looked}
 use Rattle.saber_rows.proofs.MergedTurns.{takes_on, followed, is_ahead, in_turn, goes}
 
-pub go_on : MergesGoOn
-go_on f g a b c h1 h2 h3 k1 k2 k3 first next =
+pub merges_go_on : MergesGoOn
+merges_go_on f g a b c h1 h2 h3 k1 k2 k3 first next =
     let l = takes_on a.left.reader b.left.reader c.left.reader h1 h2 h3 first.left next.left in
     let r = takes_on a.right.reader b.right.reader c.right.reader k1 k2 k3 first.right next.right in
     record {
@@ -24,8 +24,8 @@ go_on f g a b c h1 h2 h3 k1 k2 k3 first next =
           ∙ ap f (next.rest p q z w x y);
     }
 
-pub stand_still : MergersStand
-stand_still m had hadr = record { left = stand m.left.reader had; right = stand m.right.reader hadr; rest = λ p q z w f g. refl }
+pub mergers_stand : MergersStand
+mergers_stand m had hadr = record { left = stand m.left.reader had; right = stand m.right.reader hadr; rest = λ p q z w f g. refl }
 
 -- what will come of a side is what was taken, and then what will come
 module _ (a b : Reader) (had has : Option (List ℕ)) (t : Takes a b had has) (z : List ℕ) (there : has ≡ Some z) where
@@ -52,14 +52,14 @@ module _ (f : Read → Read) (a b : Merger) (h1 h2 k1 k2 : Option (List ℕ)) (m
   by_told (Some z) None e g = refl
   by_told (Some z) (Some w) e g = ap Some (both_tell z w e g)
 
-pub tell : MergesTell
-tell f a b h1 h2 k1 k2 m = ap (λ l. merger_over a l k1) m.left.left ∙ ap (merger_over a (left_before m.left.taken h2)) m.right.left ∙ by_told f a b h1 h2 k1 k2 m h2 k2 refl refl
+pub merges_tell : MergesTell
+merges_tell f a b h1 h2 k1 k2 m = ap (λ l. merger_over a l k1) m.left.left ∙ ap (merger_over a (left_before m.left.taken h2)) m.right.left ∙ by_told f a b h1 h2 k1 k2 m h2 k2 refl refl
 
 -- a call of a reader alone is a look, after which the row in front is passed on
-pub pass : LinesPass
-pass (Ok (Some row)) old new had has c side last count p =
+pub lines_pass : LinesPass
+lines_pass (Ok (Some row)) old new had has c side last count p =
     let l = looked old new had has side last count p (Ok (Some row)) c in
     let h : Headed = record { reader = new; ahead = Some row } in
     record { fits = (is_ahead side last count h l.passed row refl).fits; ordered = in_turn side last count h l.passed row refl; passed = goes side last count h l.passed row refl }
-pass (Ok None) old new had has c side last count p = let l = looked old new had has side last count p (Ok None) c in (l.passed, l.finds.2)
-pass (Err e) old new had has c side last count p = let l = looked old new had has side last count p (Err e) c in (l.passed, l.finds.2)
+lines_pass (Ok None) old new had has c side last count p = let l = looked old new had has side last count p (Ok None) c in (l.passed, l.finds.2)
+lines_pass (Err e) old new had has c side last count p = let l = looked old new had has side last count p (Err e) c in (l.passed, l.finds.2)

@@ -15,7 +15,7 @@ use Rattle.saber_rows.specs.Merging.{Merger, settled_answer, Passed, MergeTurn}
 use Rattle.saber_rows.specs.MergedRows.{PutsFront, StillGives, MergeStands, MergesOne, MergesRows}
 use Rattle.saber_rows.proofs.Fronts.{stand, looks}
 use Rattle.saber_rows.proofs.MergedTurns.{front_is, none_some, found_fails, unfailed_yet, on_left, on_right, lesser_left, lesser_right}
-use Rattle.saber_rows.proofs.MergedLaws.{go_on, stand_still}
+use Rattle.saber_rows.proofs.MergedLaws.{merges_go_on, mergers_stand}
 
 -- a row that was held is what a call gives
 called : (row : Row) (old new : Reader) (left : Option (List ℕ)) → HoldsNext row old new → Called (Ok (Some row)) old new left left
@@ -101,7 +101,7 @@ module _ (n : ℕ) (o a b : Headed) (look : LooksQuick n a b) (rules : b.reader.
 
 pub same_stands : (a b : Merger) → b ≡ a → MergeStands a b
 same_stands a b e = subst (MergeStands a) (sym e) (record {
-  still = λ m p. record { moves = λ l r. stand_still a l r; passed = p; goes = λ h. h };
+  still = λ m p. record { moves = λ l r. mergers_stand a l r; passed = p; goes = λ h. h };
   left_rules = refl;
   right_rules = refl;
 })
@@ -111,7 +111,7 @@ stands_on a b c s t = record {
   still = λ m p.
       let k = s.still m p in
       let l = t.still m k.passed in
-      record { moves = λ x y. go_on (λ r. r) (λ r. r) a b c x x x y y y (k.moves x y) (l.moves x y); passed = l.passed; goes = λ h. l.goes (k.goes h) };
+      record { moves = λ x y. merges_go_on (λ r. r) (λ r. r) a b c x x x y y y (k.moves x y) (l.moves x y); passed = l.passed; goes = λ h. l.goes (k.goes h) };
   left_rules = t.left_rules ∙ s.left_rules;
   right_rules = t.right_rules ∙ s.right_rules;
 }

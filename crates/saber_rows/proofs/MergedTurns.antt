@@ -18,7 +18,7 @@ use Rattle.saber_rows.specs.Heads.{Headed, bare, look_of, led_by, side_rest, fro
 use Rattle.saber_rows.specs.Merging.{Merger, merger_rest, MergeAnswer, settled_answer, merge_answer, MergeMoves, StopsBy, Passed, MergeTurn}
 use Rattle.saber_rows.proofs.ReadSteps.{given_none, true_not_false}
 use Rattle.saber_rows.proofs.Fronts.{stand}
-use Rattle.saber_laws.proofs.MergedLaws.{merged_turns as merges_turn}
+use Rattle.saber_laws.proofs.MergedLaws.{merges_turn}
 
 -- ---- merged rows, by what is in front
 

@@ -7,7 +7,7 @@ use Rattle.saber_rows.specs.Buffer.{Gains}
 use Rattle.saber_rows.specs.LineFeeds.{onto_lines, HasNoFeed}
 use Rattle.saber_rows.specs.Reader.{Reader, rest_by, rest_of, NeedsMore}
 use Rattle.saber_rows.specs.Calls.{Moves}
-use Rattle.saber_rows.specs.Turns.{Steps, same, HasEnough}
+use Rattle.saber_rows.specs.Turns.{same, HasEnough}
 use Rattle.saber_rows.proofs.HeldRows.{is_not_above}
 
 -- a source gave nothing
@@ -46,10 +46,6 @@ needs_more r unended over none few feed = record {
 -- so one that has enough holds either
 pub not_enough : {P : Type 0} (r : Reader) → r.ended ≡ false → r.over ≡ None → due r.rules r.place ≡ [] → length r.held ≤ 4097 → HasNoFeed r.held → HasEnough r → P
 not_enough r unended over none few feed h = absurd (h (needs_more r unended over none few feed))
-
--- a reader that has enough has it still, after a line that is skipped
-pub enough_again : (old new : Reader) → Steps same old new → HasEnough old → HasEnough new
-enough_again old new g h n = h (record { unended = sym g.ended ∙ n.unended; none = g.rest true [] (λ e. true_not_false new.ended n.unended e) ∙ n.none })
 
 -- the same reader with other bytes, that saw the end or did not
 abbrev pub with_held : Reader → List ℕ → Bool → Reader

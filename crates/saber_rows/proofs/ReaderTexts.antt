@@ -48,8 +48,8 @@ module _ (out : Read → Read) (old new : Reader) (had has : Option (List ℕ)) 
   by_left (Some z) there = ap Some (comes z there old.ended refl)
 
   -- what a reader had to give is what its move gives, and then what it has
-  pub rest_told : rest_over old had ≡ option_map out (rest_over new has)
-  rest_told = ap (rest_over old) m.left ∙ by_left has refl
+  pub readers_tell : rest_over old had ≡ option_map out (rest_over new has)
+  readers_tell = ap (rest_over old) m.left ∙ by_left has refl
 
 some_of : (P : Read → Type 0) (f : Read → Read) (g : List ℕ → Read) (o : Option Read) (has : Option (List ℕ)) → o ≡ option_map f (option_map g has) → ((z : List ℕ) → P (f (g z))) → IfSome o P
 some_of P f g o None e h = subst (λ x. IfSome x P) (sym e) tt
@@ -57,7 +57,7 @@ some_of P f g o (Some z) e h = subst (λ x. IfSome x P) (sym e) (h z)
 
 -- an answer is what the definition has next
 pub is_next : (result : Result (Option Row) RowEnd) (old new : Reader) (had has : Option (List ℕ)) → Moves (given_by result) old new had has → EndsBy result new → IfSome (rest_over old had) (IsNext result)
-is_next result old new had has m ends = some_of (IsNext result) (given_by result) (λ z. rest_of false new (to_come new z)) (rest_over old had) has (rest_told (given_by result) old new had has m) (λ z. by_answer result ends z) where
+is_next result old new had has m ends = some_of (IsNext result) (given_by result) (λ z. rest_of false new (to_come new z)) (rest_over old had) has (readers_tell (given_by result) old new had has m) (λ z. by_answer result ends z) where
   by_answer : (a : Result (Option Row) RowEnd) → EndsBy a new → (z : List ℕ) → IsNext a (given_by a (rest_of false new (to_come new z)))
   by_answer (Ok (Some row)) h z = refl
   by_answer (Ok None) h z = ap (λ r. first_of_rows r.rows r.end) (h.0 (to_come new z) (can_come new z))

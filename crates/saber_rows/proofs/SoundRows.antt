@@ -20,14 +20,6 @@ pub no_end : (o : Option Behind) (f : Behind → End) → o ≡ None → option_
 no_end o f e = ap (option_map f) e
 
 module _ (s : SideRules) (p : Place) (last : Option ℕ) (over : Option Behind) (h : Sound s p last over) where
-  -- an empty line
-  pub sound_skip : Sound s (record { lines = p.lines + 1; high = p.high; accepted = p.accepted }) last over
-  sound_skip = record { fit = h.fit; in_time = h.in_time; few = h.few; lined = omega (arith, h.lined); none = h.none; was_due = h.was_due }
-
-  -- the end is known
-  pub sound_over : (b : Behind) → Sound s p last (Some b)
-  sound_over b = record { fit = h.fit; in_time = h.in_time; few = h.few; lined = h.lined; none = h.none; was_due = λ e. cc }
-
   not_falling : (o : Option ℕ) (zs : List ℤ) → WasDue s.slack p.high o → late s.slack p.high zs ≡ false → falls o zs ≡ false
   not_falling None zs w l = refl
   not_falling (Some t) zs w l = not_before_due s.slack p.high zs t l w
@@ -104,13 +96,3 @@ module _ (s : SideRules) (p : Place) (last : Option ℕ) (over : Option Behind) 
         none = λ z. absurd (omega (arith, g.none z));
         was_due = λ n. sym (due_is_ready s.slack p.high row) ∙ due_by row rest over r n;
       })
-
-  pub given_first : (row : Row) (rest : List Row) (t : ℕ) (a b : Reader) → p.accepted ≡ row ∷ rest → t ≡ stamp row.values → a.rules ≡ s → a.place ≡ p → a.last ≡ last → b.place ≡ record { lines = p.lines; high = p.high; accepted = rest } → b.last ≡ Some t → IsGiven row a b
-  given_first row rest t a b e own rs pl la pb lb =
-      let g = whole row rest e in
-      record {
-        fits = subst (λ r. RowFits r.side r.columns row) (sym rs) g.fit.0;
-        ordered = ap (λ l. falls l row.values) la ∙ g.in_time.0;
-        last = lb ∙ ap Some own;
-        rises = rw (pl, pb, e) (omega (arith, g.lined));
-      }

@@ -26,7 +26,6 @@ mod fed_lines;
 mod fields;
 mod heads;
 mod judge;
-mod laws;
 mod line_feeds;
 mod lines;
 mod merges;
@@ -35,8 +34,5 @@ mod quick_rows;
 mod waiting;
 
 pub use ends::{FedRow, RowEnd};
-pub use laws::{
-    lines_pass, mergers_stand, merges_go_on, merges_tell, moves_go_on, readers_stand, readers_tell,
-};
 pub use lines::Lines;
 pub use merges::Merge;

@@ -11,7 +11,7 @@ use Rattle.saber_plan.specs.Rows.{RowFits}
 use Rattle.saber_plan.specs.Checked.{ExprFits, IsChecked, IsPlain, ItemFits, group_width, columns_on}
 use Rattle.saber_plan.specs.GivenRows.{IsRowOf}
 use Rattle.saber_laws.specs.Plans.{NoWindow}
-use Rattle.saber_laws.proofs.CheckedLaws.{selection_has_none}
+use Rattle.saber_laws.proofs.CheckedLaws.{selections_have_no_window}
 use Rattle.saber_plan.specs.Windows.{Frame, unwindowed, has_windows, mark_after, end_mark, closed_count, begun_count, kind_of, from}
 use Rattle.saber_plan.specs.Answers.{by_shape, frame, selected_lines}
 use Rattle.saber_plan.specs.Parts.{Part, part_lines}
@@ -36,7 +36,7 @@ row_fits q w r h = subst₂ (λ side ss. RowFits side (columns_on ss side) r) (i
 -- the plan fits it
 pub plan_fits : (q : Tree) (r : Row) → IsChecked q → q.shape ≡ Select → IsPlain q → IsRowOf q r → PlanFits q (widths r.values [])
 plan_fits q r checked select plain h =
-    let w = selection_has_none q checked select plain.no_word in
+    let w = selections_have_no_window q checked select plain.no_word in
     one_stream q w.stream r checked w.streams (row_fits q w r h)
 
 -- and so do the items
@@ -60,7 +60,7 @@ none_of_kind wanted f a b p e = subst (λ g. [] ≡ of_kind wanted g a b p) (sym
 pub shares_are : (q : Tree) (m : Mark) (back rows : List Row) (ended : Bool) → IsChecked q → q.shape ≡ Select → IsPlain q → record { closing = []; pending = []; opening = []; lines = selected_lines q rows; closed = 0 } ≡ shares_here q m back rows ended
 unfolding shares_here piece_here
 shares_are q m back rows ended checked e plain =
-    let f = (selection_has_none q checked e plain.no_word).has_frame in
+    let f = (selections_have_no_window q checked e plain.no_word).has_frame in
     let a = mark_after m back in
     let b = end_mark ended (mark_after a rows) in
     let p : ℕ → Part = λ i. part_here q i m back rows in

@@ -1,10 +1,10 @@
 -- Entries and what they come to, as one more comes and the first goes.
-use Rattle.std.proofs.Common.{◌≡◌, ℕ, zero, suc, drop, ◌≤◌, ◌<◌, Bool, true, false, cond, nat_le, [], ◌∷◌, ◌++◌, length, refl, sym, ◌∙◌, ap, subst, subst₂, append-nil, append_assoc, get_or, arith}
+use Rattle.std.proofs.Common.{◌≡◌, ℕ, zero, suc, drop, ◌≤◌, ◌<◌, Bool, true, false, cond, nat_le, [], ◌∷◌, ◌++◌, length, refl, sym, ◌∙◌, ap, subst, subst₂, append-nil, append_assoc, arith}
 use Rattle.std.proofs.lemmas.Bool.{false≢true}
 use Rattle.std.proofs.lemmas.List.{length-map}
 use Rattle.saber_plan.specs.Parts.{Part, no_part, merge}
 use Rattle.saber_plan.specs.Facts.Parts.{merge-empty_left, merge-empty_right}
-use Rattle.saber_laws.proofs.PartLaws.{merge-assoc}
+use Rattle.saber_laws.proofs.PartLaws.{merge_is_associative}
 use Rattle.saber_partial.specs.Tallies.{CanMerge}
 use Rattle.saber_sliding.specs.Entries.{Entries, whole, followed_entries, pushed_entries, dropped_entries, merged_part, suffixes, queue_entries, CanFollow, Chained, Sound, IsSound}
 use Rattle.saber_sliding.specs.EntryFacts.{all_dropped}
@@ -28,15 +28,15 @@ whole_merged (e ∷ es) = refl
 
 merged-push : (n : ℕ) (p : Part) (es : Entries) → merged_part (es ++ last n p) ≡ merge (merged_part es) p
 merged-push n p [] = merge-empty_right p ∙ sym (merge-empty_left p)
-merged-push n p (e ∷ es) = ap (merge e.1) (merged-push n p es) ∙ sym (merge-assoc e.1 (merged_part es) p)
+merged-push n p (e ∷ es) = ap (merge e.1) (merged-push n p es) ∙ sym (merge_is_associative e.1 (merged_part es) p)
 
 pub followed_twice : (m p : Part) (es : Entries) → followed_entries (merge m p) es ≡ followed_entries p (followed_entries m es)
 followed_twice m p [] = refl
-followed_twice m p (e ∷ es) = λ i. (e.0, sym (merge-assoc e.1 m p) i) ∷ followed_twice m p es i
+followed_twice m p (e ∷ es) = λ i. (e.0, sym (merge_is_associative e.1 m p) i) ∷ followed_twice m p es i
 
 pub suffixes-push : (n : ℕ) (p : Part) (es : Entries) → suffixes (es ++ last n p) ≡ followed_entries p (suffixes es) ++ last n p
 suffixes-push n p [] = λ i. (n, (merge-empty_right p) i) ∷ []
-suffixes-push n p (e ∷ es) = λ i. (e.0, (ap (merge e.1) (merged-push n p es) ∙ sym (merge-assoc e.1 (merged_part es) p)) i) ∷ suffixes-push n p es i
+suffixes-push n p (e ∷ es) = λ i. (e.0, (ap (merge e.1) (merged-push n p es) ∙ sym (merge_is_associative e.1 (merged_part es) p)) i) ∷ suffixes-push n p es i
 
 pub followed-append : (p : Part) (es fs : Entries) → followed_entries p (es ++ fs) ≡ followed_entries p es ++ followed_entries p fs
 followed-append p [] fs = refl
@@ -96,10 +96,6 @@ pub late_none : (late : Bool) (front back : Entries) (p : Part) → late ≡ tru
 late_none true front back p e h = h
 late_none false front back p e h = absurd (false≢true e)
 
-pub not_late : (late : Bool) (front back : Entries) (p : Part) → late ≡ false → IsSound late front back p → Sound front back p
-not_late true front back p e h = absurd (false≢true (sym e))
-not_late false front back p e h = h
-
 chained_any : (late : Bool) (front back : Entries) (p : Part) → IsSound late front back p → Chained back
 chained_any true front back p h = h.1
 chained_any false front back p h = h.chained
@@ -123,9 +119,6 @@ pub record Turned (all back front : Entries) : Type 0 where
   pub all_is : all ≡ back ++ rest
   pub front_is : front ≡ suffixes rest
 
-pub turned_nil : (all front : Entries) → front ≡ [] → Turned all all front
-turned_nil all front e = record { rest = []; all_is = sym (append-nil all); front_is = e }
-
 pub chained_at : (es : Entries) (e : ℕ × Part) (fs : Entries) → Chained (es ++ e ∷ fs) → CanMerge e.1 (merged_part fs)
 chained_at [] e fs h = h.0
 chained_at (d ∷ es) e fs h = chained_at es e fs h.1
@@ -142,9 +135,6 @@ turned_more all back front es n p r t e m = record {
   front_is = λ i. (n, (m ∙ ap (merge p) (ap whole t.front_is ∙ whole_merged t.rest)) i) ∷ t.front_is i;
 }
 
-pub turned_all : (all front : Entries) → Turned all [] front → front ≡ suffixes all
-turned_all all front t = t.front_is ∙ ap suffixes (sym t.all_is)
-
 -- ---- a front with nothing in it
 
 pub nothing : (front : Entries) → length front ≤ 0 → front ≡ []
@@ -153,11 +143,6 @@ nothing (e ∷ front) h = absurd (omega (arith, h))
 
 pub whole_alone : (front back : Entries) (b : Part) → Sound front back b → length front ≤ 0 → b ≡ whole (queue_entries front back b)
 whole_alone front back b s h = s.merge_is ∙ sym (whole_merged back) ∙ ap (λ f. whole (queue_entries f back b)) (sym (nothing front h))
-
--- with entries at the front, it is the first of them and the back behind it
-pub whole_ahead : (front back : Entries) (b : Part) (e : ℕ × Part) → 0 < length front → e ≡ get_or front 0 e → whole (queue_entries front back b) ≡ merge e.1 b
-whole_ahead [] back b e h at = absurd (omega (arith, h))
-whole_ahead (f ∷ front) back b e h at = ap (λ (d : ℕ × Part). merge d.1 b) (sym at)
 
 -- ---- those at the front go
 

@@ -4,7 +4,7 @@ use Rattle.std.specs.List.{slice_get}
 use Rattle.std.proofs.lemmas.Bool.{false≢true}
 use Rattle.saber_plan.specs.Parts.{Part, merge}
 use Rattle.saber_plan.specs.Facts.Parts.{merge-empty_right}
-use Rattle.saber_laws.proofs.PartLaws.{merge-assoc}
+use Rattle.saber_laws.proofs.PartLaws.{merge_is_associative}
 use Rattle.saber_partial.specs.Tallies.{CanMerge}
 use Rattle.saber_partial.specs.MergeFacts.{can_ahead, can_none}
 use Rattle.saber_sliding.specs.Entries.{Entries, followed_entries, last_number, merged_part, suffixes, joined_entries, queue_entries, CanFollow, Chained, Sound, IsSound}
@@ -15,7 +15,7 @@ use Rattle.saber_sliding.proofs.Entered.{followed_twice, followed-append, follow
 merged-joined : (p : Part) (es : Entries) → 1 ≤ length es → merged_part (joined_entries p es) ≡ merge (merged_part es) p
 merged-joined p [] h = absurd (omega (arith, h))
 merged-joined p (e ∷ []) h = merge-empty_right (merge e.1 p) ∙ ap (λ m. merge m p) (sym (merge-empty_right e.1))
-merged-joined p (e ∷ f ∷ es) h = ap (merge e.1) (merged-joined p (f ∷ es) (omega arith)) ∙ sym (merge-assoc e.1 (merged_part (f ∷ es)) p)
+merged-joined p (e ∷ f ∷ es) h = ap (merge e.1) (merged-joined p (f ∷ es) (omega arith)) ∙ sym (merge_is_associative e.1 (merged_part (f ∷ es)) p)
 
 suffixes-joined : (p : Part) (es : Entries) → suffixes (joined_entries p es) ≡ followed_entries p (suffixes es)
 suffixes-joined p [] = refl

@@ -6,7 +6,7 @@ use Rattle.saber_plan.specs.declared.windows.Mark.{Mark}
 use Rattle.saber_plan.specs.declared.windows.Window.{Window}
 use Rattle.saber_plan.specs.Checked.{WindowFits}
 use Rattle.saber_plan.specs.Windows.{Frame, Fits, begun, begun_count, count_to, spans}
-use Rattle.saber_laws.proofs.WindowLaws.{begun_is as begun_are_counted, spans_is as points_span}
+use Rattle.saber_laws.proofs.WindowLaws.{begun_are_counted, points_span}
 
 -- the windows below the count of begun ones are begun
 pub begun_by : (f : Frame) (m : Mark) (n : ℕ) → Fits f → n ≡ begun_count f m → (i : ℕ) → nat_lt i n ≡ begun f i m

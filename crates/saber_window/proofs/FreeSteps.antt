@@ -40,7 +40,3 @@ module _ (d : Option ℕ) (first : ℕ) (ls : List (Option ℕ)) (closed i : ℕ
   -- there is none
   pub past : length ls ≤ i → free_of (first + i) (drop i ls) closed ≡ first + i
   past h = ap (λ k. free_of (first + i) k closed) (all_gone ls i h) ∙ none (first + i) closed
-
--- at the first block nothing is behind
-pub begin : (first closed : ℕ) (ls : List (Option ℕ)) → free_of first ls closed ≡ free_of (first + 0) (drop 0 ls) closed
-begin first closed ls = let e : first ≡ first + 0 = omega arith in ap (λ k. free_of k ls closed) e

@@ -4,7 +4,7 @@ use Rattle.std.proofs.lemmas.Bool.{lt-ltb, le-ltb}
 use Rattle.saber_plan.specs.declared.windows.Mark.{Mark}
 use Rattle.saber_plan.specs.declared.windows.Kind.TheVariants.{Opening, Closing, Pending, Complete}
 use Rattle.saber_plan.specs.Windows.{Frame, Fits, closed, begun, closed_count, begun_count, kind_of}
-use Rattle.saber_laws.proofs.WindowLaws.{begun_is as begun_are_counted, closed_is as closed_are_counted}
+use Rattle.saber_laws.proofs.WindowLaws.{begun_are_counted, closed_are_counted}
 use Rattle.saber_window.specs.declared.bounds.Bounds.{Bounds}
 use Rattle.saber_window.specs.Kinds.{kind_in, AreBounds}
 

@@ -1,5 +1,5 @@
 -- Rows of one stream in order: their marks, and which of them lie in the same windows.
-use Rattle.std.proofs.Common.{◌≡◌, ℕ, zero, suc, ◌+◌, ◌-◌, ◌≤◌, ◌<◌, List, [], ◌∷◌, length, take, drop, get_or, Bool, true, not, ◌&&◌, pos, Some, None, refl, sym, ◌∙◌, ap, subst, le_trans, le_refl, take-append-drop, arith}
+use Rattle.std.proofs.Common.{◌≡◌, ℕ, zero, suc, ◌+◌, ◌-◌, ◌≤◌, ◌<◌, List, [], ◌∷◌, length, take, drop, get_or, Bool, true, not, ◌&&◌, pos, Some, refl, sym, ◌∙◌, ap, subst, le_trans, le_refl, take-append-drop, arith}
 use Rattle.std.specs.List.{AllByRecursion, slice_get}
 use Rattle.std.proofs.lemmas.Bool.Decides.{nat_tests}
 use Rattle.std.proofs.lemmas.List.{length-take-le, length-drop, get_or-drop}
@@ -164,7 +164,3 @@ module _ (slide size : ℕ) where
 
 up : (s t : ℕ) → s ≤ t → in_order (Some (pos s)) t ≡ true
 up s t h = grind (arith, nat_tests)
-
-pub two_in_order : (l : ℕ) (a b : Row) → stamp a.values ≤ stamp b.values → Ordered (record { left = l; right = 0; last = None; ended = Bool.false }) (a ∷ b ∷ [])
-unfolding Ordered
-two_in_order l a b h = (refl, (up (stamp a.values) (stamp b.values) h, tt))

@@ -5,12 +5,8 @@ use Rattle.saber_plan.specs.declared.rows.Row.{Row}
 use Rattle.saber_plan.specs.declared.windows.Mark.{Mark}
 use Rattle.saber_plan.specs.declared.windows.Measure.{Measure}
 use Rattle.saber_plan.specs.Rows.{stamp, RowFits}
-use Rattle.saber_plan.specs.Windows.{Frame, Fits, Ordered, one, has, placed_after, begun_count, closed_count}
+use Rattle.saber_plan.specs.Windows.{Fits, Ordered, one, has, placed_after}
 use Rattle.saber_plan.specs.Needs.{first_window}
-
--- no more windows are closed than begun
-abbrev pub ClosedWithinBegun : Type 0
-ClosedWithinBegun = (f : Frame) → Fits f → (m : Mark) → closed_count f m ≤ begun_count f m
 
 -- a window of one stream that ends at a row or before it has neither that row nor a later one
 abbrev pub PastHaveNone : Type 0

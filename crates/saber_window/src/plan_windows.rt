@@ -43,7 +43,7 @@ impl Model for Windows {
 
 impl Windows {
     /// The windows of a checked plan.
-    #[tactic(auto, using(saber_laws::proofs::CheckedLaws::checked_fits))]
+    #[tactic(auto, using(saber_laws::proofs::CheckedLaws::checked_fit))]
     pub fn of_plan(p: &Plan) -> Windows
         requires { IsChecked (tree_of p.now) }
         ensures frame { result ≡ frame (tree_of p.now) }
@@ -109,7 +109,7 @@ impl Windows {
     }
 
     /// How many windows are closed behind this mark, as the function of this name.
-    #[tactic(auto, using(saber_laws::proofs::WindowLaws::closed_is, saber_laws::proofs::WindowLaws::closed_within_begun))]
+    #[tactic(auto, using(saber_laws::proofs::WindowLaws::closed_are_counted, saber_laws::proofs::WindowLaws::closed_within_begun))]
     pub fn closed_below(&self, m: &Mark) -> u64
         ensures count { result ≡ closed_count self.now m.now }
         ensures closed { (i : ℕ) → nat_lt i result ≡ closed self.now i m.now }

@@ -10,7 +10,7 @@ use saber_plan::Window;
 /// Windows count from 0, and window i has the points from i times the slide on, as many as the size
 /// (SABER 2016). Where the slide is greater than the size, a point between two windows lies in
 /// none.
-#[tactic(auto, using(saber_laws::proofs::WindowLaws::spans_is, crate::proofs::Counted::spans_by))]
+#[tactic(auto, using(saber_laws::proofs::WindowLaws::points_span, crate::proofs::Counted::spans_by))]
 pub fn windows_of(w: &Window, point: u64) -> Option<(u64, u64)>
     requires { WindowFits w.now }
     ensures some { IfSome result (λ r. (i : ℕ) → spans w.now.slide w.now.size i point ≡ (nat_le r.0 i && nat_le i r.1)) }
@@ -39,7 +39,7 @@ pub(crate) fn spans(slide: u64, size: u64, i: u64, point: u64) -> bool
 
 /// Window i of a slide and a size ends at a point or before it. Its end is the point after its
 /// last.
-#[tactic(auto, using(saber_laws::proofs::WindowLaws::count_to_is))]
+#[tactic(auto, using(saber_laws::proofs::WindowLaws::counts_are_exact))]
 #[inline]
 pub(crate) fn ends_by(slide: u64, size: u64, i: u64, point: u64) -> bool
     requires { 1 ≤ slide }

@@ -12,8 +12,8 @@ use Rattle.saber_plan.specs.Trees.{Tree}
 use Rattle.saber_plan.specs.Windows.{one, Fits, Ordered, Placed, step_mark, mark_after, placed_after, has, begun_count, count_to}
 use Rattle.saber_plan.specs.Answers.{frame}
 use Rattle.saber_plan.specs.Needs.{first_window, past_window}
-use Rattle.saber_laws.proofs.NeedLaws.{has_is as rows_span}
-use Rattle.saber_laws.proofs.WindowLaws.{begun_count_rises as begun_stay}
+use Rattle.saber_laws.proofs.NeedLaws.{rows_span}
+use Rattle.saber_laws.proofs.WindowLaws.{begun_stay}
 use Rattle.saber_laws.specs.Plans.{OneWindow}
 use Rattle.saber_windowed.specs.Found.{found_of}
 use Rattle.saber_windowed.specs.Open.{found_here}

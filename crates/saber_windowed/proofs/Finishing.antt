@@ -17,9 +17,9 @@ use Rattle.saber_plan.specs.GivenRows.{RowsFit}
 use Rattle.saber_plan.specs.Shares.{is_closed, shares_here, handed_here}
 use Rattle.saber_plan.specs.Facts.Numbers.{flat_map-from, flat_filter, numbered_is}
 use Rattle.saber_laws.specs.Plans.{OneWindow}
-use Rattle.saber_laws.proofs.CheckedLaws.{checked_fits as checked_fit, words_have_one as words_have_one_window}
-use Rattle.saber_laws.proofs.FlushLaws.{begin_none as ends_begin_none}
-use Rattle.saber_laws.proofs.WindowLaws.{begun_count_rises as begun_stay, closed_within_begun}
+use Rattle.saber_laws.proofs.CheckedLaws.{checked_fit, words_have_one_window}
+use Rattle.saber_laws.proofs.FlushLaws.{ends_begin_none}
+use Rattle.saber_laws.proofs.WindowLaws.{begun_stay, closed_within_begun}
 use Rattle.saber_fragment.specs.Shown.{windows_by}
 use Rattle.saber_window.specs.declared.bounds.Bounds.{Bounds}
 use Rattle.saber_window.specs.Kinds.{kind_in, AreBounds}

@@ -13,7 +13,7 @@ use Rattle.saber_eval.specs.Widths.{widths}
 use Rattle.saber_eval.specs.Fitting.{PlanFits}
 use Rattle.saber_eval.proofs.FittingLaws.{one_stream as one_stream_fits}
 use Rattle.saber_laws.specs.Plans.{OneWindow}
-use Rattle.saber_laws.proofs.CheckedLaws.{words_have_one as words_have_one_window}
+use Rattle.saber_laws.proofs.CheckedLaws.{words_have_one_window}
 use Rattle.saber_windowed.specs.Words.{HasWord}
 
 -- ---- rows

@@ -7,7 +7,7 @@ use Rattle.saber_plan.specs.Inputs.{Input}
 use Rattle.saber_plan.specs.Shares.{Shares, shares_here, shares_between, handed_here, handed_between}
 use Rattle.saber_fragment.specs.Drafts.{Sight, IsSightOf}
 use Rattle.saber_laws.specs.Shares.{Between}
-use Rattle.saber_laws.proofs.LocalLaws.{local as shares_are_local, hand_local as handed_are_local}
+use Rattle.saber_laws.proofs.LocalLaws.{shares_are_local, handed_are_local}
 use Rattle.saber_windowed.specs.Sights.{Gives, HandsOn}
 
 no_join : (s : Shape) → s ≡ Select → s ≢ Join

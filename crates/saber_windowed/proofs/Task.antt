@@ -11,7 +11,7 @@ use Rattle.saber_plan.specs.Answers.{frame}
 use Rattle.saber_plan.specs.Needs.{first_window, past_window}
 use Rattle.saber_plan.specs.Facts.Lists.{each-filter}
 use Rattle.saber_plan.specs.Facts.Rows.{placed-append, placed-one}
-use Rattle.saber_laws.proofs.NeedLaws.{has_is as rows_span}
+use Rattle.saber_laws.proofs.NeedLaws.{rows_span}
 use Rattle.saber_laws.specs.Pairs.{after_rows}
 use Rattle.saber_windowed.specs.Found.{Found, found_of, AllBelow}
 use Rattle.saber_windowed.specs.Open.{Windows, seen_windows, rows_in, AllEarlier, Takes, found_here, HoldsFrom}

@@ -5,8 +5,8 @@ use Rattle.saber_plan.specs.Trees.{Tree}
 use Rattle.saber_plan.specs.Windows.{last_mark}
 use Rattle.saber_plan.specs.Tasks.{task_start}
 use Rattle.saber_plan.specs.Needs.{free}
-use Rattle.saber_laws.proofs.TaskCutLaws.{upto-upto}
-use Rattle.saber_laws.proofs.GrowLaws.{free-upto, task_rows-upto, places-upto}
+use Rattle.saber_laws.proofs.TaskCutLaws.{first_of_first}
+use Rattle.saber_laws.proofs.GrowLaws.{first_tell_free, task_rows-upto, places-upto}
 use Rattle.saber_fragment.specs.declared.blocks.Block.{Block}
 use Rattle.saber_fragment.specs.declared.blocks.Earlier.{Earlier}
 use Rattle.saber_fragment.specs.Drafts.{EndWith, CanStart, Sight, own_sight, seen_back, CanLookBack, IsWhole, IsSightOf}
@@ -23,11 +23,11 @@ module _ {O : Type 0} (plan : O → Tree) (told : RunData O) where
   -- a block of the first tasks is one of all
   pub block_stays : (u : ℕ) (b : Block) → IsBlockOf plan (first_tasks told (u + 1)) u b → IsBlock (plan told.operator) told.size (input_of told) u b
   block_stays u b is = record {
-    earlier = subst (λ (z : Input). EndWith z.rows b.earlier) (upto-upto told.size (input_of told) (u + 1) u (before_next u)) is.block.earlier;
-    before = is.block.before ∙ ap last_mark (upto-upto told.size (input_of told) (u + 1) u (before_next u));
+    earlier = subst (λ (z : Input). EndWith z.rows b.earlier) (first_of_first told.size (input_of told) (u + 1) u (before_next u)) is.block.earlier;
+    before = is.block.before ∙ ap last_mark (first_of_first told.size (input_of told) (u + 1) u (before_next u));
     rows = is.block.rows ∙ task_rows-upto told.size (input_of told) (u + 1) u (le_refl (u + 1));
     places = is.block.places ∙ places-upto (plan told.operator) told.size (input_of told) (u + 1) u (le_refl (u + 1));
-    ended = is.block.ended ∙ ap (λ (z : Input). z.ended) (upto-upto told.size (input_of told) (u + 1) (u + 1) (le_refl (u + 1)));
+    ended = is.block.ended ∙ ap (λ (z : Input). z.ended) (first_of_first told.size (input_of told) (u + 1) (u + 1) (le_refl (u + 1)));
   }
 
 module _ {O D : Type 0} (plan : O → Tree) (has_seen : O → D → Sight → Type 0) (look_back : DraftsLookBack) (op : O) (told : RunData O) (t : ℕ) (suits : Suits op told) where
@@ -41,7 +41,7 @@ module _ {O D : Type 0} (plan : O → Tree) (has_seen : O → D → Sight → Ty
   sees_all tasks = look_back (plan told.operator) told.size (input_of told) t tasks.size tasks.windows tasks.fits
 
   first_is : first ≡ free (plan told.operator) told.size (input_of told) t
-  first_is = free-upto (plan told.operator) told.size (input_of told) t t (le_refl t)
+  first_is = first_tell_free (plan told.operator) told.size (input_of told) t t (le_refl t)
 
   pub can_start : (b : Block) → IsBlockOf plan told t b → CanStart (plan op) b
   can_start b is = subst (λ z. CanStart (plan z) b) suits ((sees_all is.tasks).starts b is.block is.opens)

@@ -1,5 +1,5 @@
 -- Facts on rows that follow one another, and on the marks between them. Any proof may cite them.
-use Rattle.std.proofs.Common.{◌≡◌, ℕ, suc, ◌+◌, ◌^◌, ◌≤◌, ◌<◌, List, [], ◌∷◌, ◌++◌, length, take, drop, get_or, refl, sym, ◌∙◌, ap, subst, subst₂, le_trans, take-append-drop, arith}
+use Rattle.std.proofs.Common.{◌≡◌, ℕ, suc, ◌+◌, ◌^◌, ◌≤◌, ◌<◌, List, [], ◌∷◌, ◌++◌, length, take, drop, get_or, refl, sym, ◌∙◌, ap, subst, le_trans, take-append-drop, arith}
 use Rattle.std.proofs.lemmas.Grind.{fold-append}
 use Rattle.std.proofs.lemmas.List.{take_more}
 use Rattle.std.specs.List.{AllByRecursion}
@@ -58,10 +58,6 @@ unfolding Ordered
 Ordered-append m [] ys o = (tt, o)
 Ordered-append m (x ∷ xs) ys o = let rest = Ordered-append (step_mark m x) xs ys o.1 in ((o.0, rest.0), rest.1)
 
-pub Ordered-none : (m : Mark) → Ordered m []
-unfolding Ordered
-Ordered-none m = tt
-
 -- rows in order, and rows in order behind them
 pub Ordered-join : (m : Mark) (xs ys : List Row) → Ordered m xs → Ordered (mark_after m xs) ys → Ordered m (xs ++ ys)
 unfolding Ordered
@@ -103,10 +99,6 @@ fits_back q m xs ys h =
       left = subst (λ (n : Mark). n.left ≤ 2 ^ 40) more h.left;
       right = subst (λ (n : Mark). n.right ≤ 2 ^ 40) more h.right;
     }
-
--- a task's rows, behind those that it looks back on
-pub task_fits : (q : Tree) (m n : Mark) (back rows xs : List Row) → RowsFit q m (back ++ rows) → n ≡ mark_after m back → xs ≡ rows → RowsFit q n xs
-task_fits q m n back rows xs h e s = subst₂ (RowsFit q) (sym e) (sym s) (fits_back q m back rows h)
 
 pub fits_take : (q : Tree) (m : Mark) (xs : List Row) (k : ℕ) → RowsFit q m xs → RowsFit q m (take k xs)
 fits_take q m xs k h = fits_front q m (take k xs) (drop k xs) (subst (RowsFit q m) (sym (take-append-drop k xs)) h)

@@ -1,5 +1,5 @@
-use Rattle.saber_ring.proofs.Readers.{whole_law}
+use Rattle.saber_ring.proofs.Readers.{needs_are_whole}
 use Rattle.saber_ring.proofs.laws.needs_are_whole.Goals as goal
 
 pub returns : goal.returns
-returns g c = λ size. whole_law g.W.Work.is_told g.W.Work.upto g.W.Work.first g.W.Work.is_rows g.W.Work.is_piece g.W.Work.is_stage size g.W.Work.rises
+returns g c = λ size. needs_are_whole g.W.Work.is_told g.W.Work.upto g.W.Work.first g.W.Work.is_rows g.W.Work.is_piece g.W.Work.is_stage size g.W.Work.rises

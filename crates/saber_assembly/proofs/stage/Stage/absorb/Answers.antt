@@ -5,7 +5,7 @@ use Rattle.saber_assembly.specs.Stages.{stage_view, IsPieceAt}
 use Rattle.saber_plan.specs.Stages.{After}
 use Rattle.saber_assembly.proofs.Stepping.{stepped}
 use Rattle.saber_assembly.specs.WorkLaws.{follows}
-use Rattle.saber_laws.proofs.TaskCutLaws.{cut_keeps as cuts_rise}
+use Rattle.saber_laws.proofs.TaskCutLaws.{cuts_rise}
 use Rattle.saber_assembly.proofs.stage.Stage.absorb.Goals as goal
 
 pub returns-in-Some-clause-keeps : goal.returns-in-Some-clause-keeps

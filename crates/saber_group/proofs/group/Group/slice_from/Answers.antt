@@ -9,7 +9,7 @@ use Rattle.saber_plan.specs.Facts.Rows.{left_small, right_small, few_rows, row_a
 use Rattle.saber_group.specs.SliceParts.{IsSlice}
 use Rattle.saber_group.proofs.RowsTogether.{lies}
 use Rattle.saber_group.proofs.Running.{SliceTo, starts_at, slice_nil, slice_more, slice_is}
-use Rattle.saber_partial.proofs.Counted.{groups_of_rows as groups_are_of_rows, small_merge}
+use Rattle.saber_partial.proofs.Counted.{groups_are_of_rows, small_merge}
 use Rattle.saber_laws.proofs.CutLaws.{no_rows_no_part}
 use Rattle.saber_group.proofs.GroupPlans.{has_window}
 use Rattle.saber_group.proofs.group.Group.slice_from.Goals as goal

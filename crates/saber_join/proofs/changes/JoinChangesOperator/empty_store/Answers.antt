@@ -6,7 +6,7 @@ use Rattle.saber_plan.specs.Answers.{frame}
 use Rattle.saber_plan.specs.Checked.{IsChecked}
 use Rattle.saber_parts.specs.Stored.{parts_by}
 use Rattle.saber_plan.specs.Facts.Counts.{none_closed}
-use Rattle.saber_laws.proofs.CheckedLaws.{checked_fits as checked_fit}
+use Rattle.saber_laws.proofs.CheckedLaws.{checked_fit}
 use Rattle.saber_join.proofs.changes.JoinChangesOperator.empty_store.Goals as goal
 
 pub returns-clause-contents : goal.returns-clause-contents

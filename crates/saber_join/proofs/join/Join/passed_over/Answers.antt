@@ -5,7 +5,7 @@ use Rattle.saber_plan.specs.Trees.{tree_of}
 use Rattle.saber_plan.specs.Answers.{frame}
 use Rattle.saber_plan.specs.Checked.{IsChecked}
 use Rattle.saber_plan.specs.Facts.Rows.{left_small, right_small}
-use Rattle.saber_laws.proofs.CheckedLaws.{checked_fits as checked_fit}
+use Rattle.saber_laws.proofs.CheckedLaws.{checked_fit}
 use Rattle.saber_join.proofs.Passing.{none_of_none, none_below}
 use Rattle.saber_join.proofs.join.Join.passed_over.Goals as goal
 

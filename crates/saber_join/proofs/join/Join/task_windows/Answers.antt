@@ -11,7 +11,7 @@ use Rattle.saber_window.specs.declared.bounds.Bounds.{Bounds}
 use Rattle.saber_window.specs.Kinds.{AreBounds}
 use Rattle.saber_join.specs.Open.{seen_parts, HoldsTask}
 use Rattle.saber_plan.specs.Facts.Trees.{sorted_seen}
-use Rattle.saber_laws.proofs.CheckedLaws.{checked_fits as checked_fit}
+use Rattle.saber_laws.proofs.CheckedLaws.{checked_fit}
 use Rattle.saber_join.proofs.Finishing.{of_task}
 use Rattle.saber_join.proofs.Passing.{ends_there, rest_fits, holds_all}
 use Rattle.saber_join.proofs.join.Join.task_windows.Goals as goal

@@ -14,7 +14,7 @@ use Rattle.saber_plan.specs.Facts.Rows.{left_small, right_small, mark_more, mark
 use Rattle.saber_join.specs.Rows.{AllOn}
 use Rattle.saber_join.specs.Keeping.{lefts_of, rights_of}
 use Rattle.saber_join.specs.Open.{seen_parts, Takes, HoldsTask}
-use Rattle.saber_laws.proofs.CheckedLaws.{checked_fits as checked_fit}
+use Rattle.saber_laws.proofs.CheckedLaws.{checked_fit}
 use Rattle.saber_join.proofs.Holding.{behind, lefts_push, rights_push, lefts_on, rights_on, fits_so_far}
 use Rattle.saber_join.proofs.Task.{HasParts, none_yet, row_taken, task_held}
 use Rattle.saber_join.proofs.join.Join.windows_of.Goals as goal

@@ -8,8 +8,8 @@ use Rattle.saber_plan.specs.Facts.Kept.{alike_added, alike_kept, alike_parts}
 use Rattle.saber_fragment.specs.Shown.{shares_of}
 use Rattle.saber_fragment.specs.Stores.{Continues}
 use Rattle.saber_parts.specs.Stored.{held_by, remainder_by}
-use Rattle.saber_laws.proofs.StepLaws.{open_step as open_goes_on, pieces_print}
-use Rattle.saber_laws.proofs.SharesLaws.{make_piece as shares_make_piece}
+use Rattle.saber_laws.proofs.StepLaws.{open_goes_on, pieces_print}
+use Rattle.saber_laws.proofs.SharesLaws.{shares_make_piece}
 use Rattle.saber_join.proofs.operator.JoinOperatorOperator.take_in.Goals as goal
 
 pub take_in-requires : goal.take_in-requires

@@ -7,7 +7,7 @@ use Rattle.saber_plan.specs.Windows.{Placed}
 use Rattle.saber_panes.specs.Panes.{pane_of}
 use Rattle.saber_panes.proofs.PaneCuts.{cut_some}
 use Rattle.saber_panes.proofs.PanePoints.{point_of_left, row_is_left}
-use Rattle.saber_laws.proofs.CheckedLaws.{group_has_one as groups_have_one_window}
+use Rattle.saber_laws.proofs.CheckedLaws.{groups_have_one_window}
 use Rattle.saber_panes.proofs.cuts.Cuts.pane_of.Goals as goal
 
 pub nonzero_div-result : goal.nonzero_div-result

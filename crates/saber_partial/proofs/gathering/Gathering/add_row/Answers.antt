@@ -6,7 +6,7 @@ use Rattle.saber_partial.specs.Tallies.{CanMerge}
 use Rattle.saber_partial.specs.MergeFacts.{can_ahead, can_behind}
 use Rattle.saber_partial.specs.Young.{young_part}
 use Rattle.saber_partial.proofs.Merging.{either}
-use Rattle.saber_laws.proofs.PartLaws.{merge-assoc as merge_is_associative}
+use Rattle.saber_laws.proofs.PartLaws.{merge_is_associative}
 use Rattle.saber_partial.proofs.gathering.Gathering.add_row.Goals as goal
 
 pub add_row-requires-clause-room : goal.add_row-requires-clause-room

@@ -9,7 +9,7 @@ use Rattle.saber_partial.specs.Sorted.{alone}
 use Rattle.saber_partial.proofs.Fitting.{aggregates_count}
 use Rattle.saber_partial.proofs.Merging.{either}
 use Rattle.saber_partial.proofs.RowParted.{all_more, of_rows_suit, row_more}
-use Rattle.saber_partial.proofs.Counted.{groups_of_rows as groups_are_of_rows}
+use Rattle.saber_partial.proofs.Counted.{groups_are_of_rows}
 use Rattle.saber_partial.proofs.row_parts.RowParts.push.Goals as goal
 
 pub suit-requires : goal.suit-requires

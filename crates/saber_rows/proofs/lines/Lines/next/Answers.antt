@@ -4,7 +4,7 @@ use Rattle.saber_rows.specs.Reader.{reader_of, gone_count}
 use Rattle.saber_rows.specs.Calls.{Moves, IsGiven, EndsBy, WantsMemory, given_by, last_after}
 use Rattle.saber_rows.specs.Turns.{HasEnough}
 use Rattle.saber_rows.proofs.Chains.{moved, none_given, stands}
-use Rattle.saber_rows.proofs.ReaderTexts.{is_next, rest_told, of_given, refused_ends, stopped}
+use Rattle.saber_rows.proofs.ReaderTexts.{is_next, readers_tell, of_given, refused_ends, stopped}
 use Rattle.saber_rows.proofs.lines.Lines.next.Goals as goal
 
 -- ---- a reader that stopped
@@ -13,7 +13,7 @@ pub returns-in-Some-clause-moves : goal.returns-in-Some-clause-moves
 returns-in-Some-clause-moves g c = rw c.answer.ensures (none_given c.in-Some.stop _ _ _ _ (stands (reader_of c.args.self.now) (g.S.Source.left c.args.source.now)))
 
 pub returns-in-Some-clause-rest : goal.returns-in-Some-clause-rest
-returns-in-Some-clause-rest g c = rest_told _ _ _ _ _ (returns-in-Some-clause-moves g c)
+returns-in-Some-clause-rest g c = readers_tell _ _ _ _ _ (returns-in-Some-clause-moves g c)
 
 pub returns-in-Some-clause-next : goal.returns-in-Some-clause-next
 returns-in-Some-clause-next g c e = absurd (stopped _ c.in-Some.stop c.in-Some.is e)
@@ -30,7 +30,7 @@ pub returns-in-Some-quick_row-clause-moves : goal.returns-in-Some-quick_row-clau
 returns-in-Some-quick_row-clause-moves g c = moved (before c.in-Some-quick_row.row) _ _ _ c.in-Some-quick_row.ensures.some
 
 pub returns-in-Some-quick_row-clause-rest : goal.returns-in-Some-quick_row-clause-rest
-returns-in-Some-quick_row-clause-rest g c = rest_told _ _ _ _ _ (returns-in-Some-quick_row-clause-moves g c)
+returns-in-Some-quick_row-clause-rest g c = readers_tell _ _ _ _ _ (returns-in-Some-quick_row-clause-moves g c)
 
 pub returns-in-Some-quick_row-clause-next : goal.returns-in-Some-quick_row-clause-next
 returns-in-Some-quick_row-clause-next g c _ = is_next (Ok (Some c.in-Some-quick_row.row)) _ _ _ _ (returns-in-Some-quick_row-clause-moves g c) tt
@@ -43,7 +43,7 @@ returns-in-None-clause-moves g c =
     subst (λ s. Moves (given_by c.advance.result) (reader_of s) (reader_of c.advance.new.self) (g.S.Source.left c.args.source.now) (g.S.Source.left c.advance.new.source)) same c.advance.ensures.moves
 
 pub returns-in-None-clause-rest : goal.returns-in-None-clause-rest
-returns-in-None-clause-rest g c = rest_told _ _ _ _ _ (returns-in-None-clause-moves g c)
+returns-in-None-clause-rest g c = readers_tell _ _ _ _ _ (returns-in-None-clause-moves g c)
 
 pub returns-in-None-clause-next : goal.returns-in-None-clause-next
 returns-in-None-clause-next g c _ = is_next c.advance.result _ _ _ _ (returns-in-None-clause-moves g c) c.advance.ensures.ends

@@ -4,7 +4,7 @@ use Rattle.saber_rows.specs.Reader.{reader_of, rest_over, gone_count}
 use Rattle.saber_rows.specs.Calls.{Moves, IsGiven, IsNext, EndsBy, WantsMemory, given_by}
 use Rattle.saber_rows.specs.FedTurns.{answer_in, given_in, kept_in, last_in}
 use Rattle.saber_rows.proofs.Chains.{moved, none_given, no_row, stands}
-use Rattle.saber_rows.proofs.ReaderTexts.{is_next, rest_told, refused_ends, stopped, same_answer}
+use Rattle.saber_rows.proofs.ReaderTexts.{is_next, readers_tell, refused_ends, stopped, same_answer}
 use Rattle.saber_rows.proofs.lines.Lines.next_fed.Goals as goal
 
 pub returns-in-Some-clause-moves : goal.returns-in-Some-clause-moves
@@ -26,7 +26,7 @@ returns-in-Some-advance_fed-clause-next g c _ =
     rw c.fed_row-in-Some-advance_fed.ensures (subst (λ s. IfSome (rest_over (reader_of s) w) (IsNext a)) same first)
 
 pub returns-in-Some-clause-rest : goal.returns-in-Some-clause-rest
-returns-in-Some-clause-rest g c = rest_told _ _ _ _ _ (returns-in-Some-clause-moves g c)
+returns-in-Some-clause-rest g c = readers_tell _ _ _ _ _ (returns-in-Some-clause-moves g c)
 
 pub returns-in-Some-clause-answer : goal.returns-in-Some-clause-answer
 returns-in-Some-clause-answer g c e = absurd (stopped _ c.in-Some.stop c.in-Some.is e)
@@ -59,7 +59,7 @@ pub returns-in-Some-clause-memory : goal.returns-in-Some-clause-memory
 returns-in-Some-clause-memory g c e = absurd (stopped _ c.in-Some.stop c.in-Some.is e)
 
 pub returns-in-Some-quick_row-clause-rest : goal.returns-in-Some-quick_row-clause-rest
-returns-in-Some-quick_row-clause-rest g c = rest_told _ _ _ _ _ (returns-in-Some-quick_row-clause-moves g c)
+returns-in-Some-quick_row-clause-rest g c = readers_tell _ _ _ _ _ (returns-in-Some-quick_row-clause-moves g c)
 
 pub returns-in-Some-quick_row-clause-next : goal.returns-in-Some-quick_row-clause-next
 returns-in-Some-quick_row-clause-next g c _ =
@@ -78,7 +78,7 @@ returns-in-None-clause-moves g c =
     (subst (λ o. Moves (given_in o) (reader_of c.quick_row.new.self) new had has) c.in-None.is c.advance_fed.ensures.moves)
 
 pub returns-in-None-clause-rest : goal.returns-in-None-clause-rest
-returns-in-None-clause-rest g c = rest_told _ _ _ _ _ (returns-in-None-clause-moves g c)
+returns-in-None-clause-rest g c = readers_tell _ _ _ _ _ (returns-in-None-clause-moves g c)
 
 pub returns-in-Some-advance_fed-clause-moves : goal.returns-in-Some-advance_fed-clause-moves
 returns-in-Some-advance_fed-clause-moves g c =
@@ -91,7 +91,7 @@ returns-in-Some-advance_fed-clause-moves g c =
     rw c.fed_row-in-Some-advance_fed.ensures (subst (λ s. Moves (given_by a) (reader_of s) new had has) same c.in-Some-advance_fed.ensures.moves)
 
 pub returns-in-Some-advance_fed-clause-rest : goal.returns-in-Some-advance_fed-clause-rest
-returns-in-Some-advance_fed-clause-rest g c = rest_told _ _ _ _ _ (returns-in-Some-advance_fed-clause-moves g c)
+returns-in-Some-advance_fed-clause-rest g c = readers_tell _ _ _ _ _ (returns-in-Some-advance_fed-clause-moves g c)
 
 pub returns-in-Some-advance_fed-clause-rules : goal.returns-in-Some-advance_fed-clause-rules
 returns-in-Some-advance_fed-clause-rules g c =

@@ -4,7 +4,7 @@ use Rattle.saber_plan.specs.Trees.{tree_of}
 use Rattle.saber_plan.specs.Checked.{IsChecked}
 use Rattle.saber_plan.specs.Answers.{frame}
 use Rattle.saber_plan.specs.Facts.Counts.{none_closed}
-use Rattle.saber_laws.proofs.CheckedLaws.{checked_fits as checked_fit}
+use Rattle.saber_laws.proofs.CheckedLaws.{checked_fit}
 use Rattle.saber_windowed.proofs.changes.WindowedChangesOperator.empty_store.Goals as goal
 
 pub returns-clause-taken : goal.returns-clause-taken

@@ -10,8 +10,8 @@ use Rattle.saber_fragment.specs.Shown.{shares_of}
 use Rattle.saber_fragment.specs.Stores.{Continues}
 use Rattle.saber_parts.specs.Stored.{held_by}
 use Rattle.saber_windowed.specs.Found.{part_of}
-use Rattle.saber_laws.proofs.StepLaws.{open_step as open_goes_on, pieces_print}
-use Rattle.saber_laws.proofs.SharesLaws.{make_piece as shares_make_piece}
+use Rattle.saber_laws.proofs.StepLaws.{open_goes_on, pieces_print}
+use Rattle.saber_laws.proofs.SharesLaws.{shares_make_piece}
 use Rattle.saber_windowed.proofs.operator.WindowedOperatorOperator.take_in.Goals as goal
 
 pub take_in-requires : goal.take_in-requires

@@ -9,7 +9,7 @@ use Rattle.saber_plan.specs.Windows.{step_mark}
 use Rattle.saber_plan.specs.Facts.Rows.{left_small, right_small, mark_more, row_at}
 use Rattle.saber_windowed.specs.Open.{seen_windows, Takes, HoldsFrom}
 use Rattle.saber_windowed.proofs.Task.{none_yet, row_taken, all_earlier}
-use Rattle.saber_laws.proofs.CheckedLaws.{checked_fits as checked_fit}
+use Rattle.saber_laws.proofs.CheckedLaws.{checked_fit}
 use Rattle.saber_windowed.proofs.select.WindowedSelect.windows_of.Goals as goal
 
 pub loop-i-init : goal.loop-i-init

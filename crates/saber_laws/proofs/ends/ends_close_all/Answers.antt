@@ -1,5 +1,0 @@
-use Rattle.saber_laws.proofs.FlushLaws.{ends_close}
-use Rattle.saber_laws.proofs.ends.ends_close_all.Goals as goal
-
-pub returns : goal.returns
-returns c = ends_close
