@@ -13,7 +13,7 @@ use Rattle.saber_plan.specs.declared.rows.Row.{Row}
 use Rattle.saber_plan.specs.declared.rows.RowCause.TheVariants.{TooManyLines, TooLong, FieldCount, TimeOrder}
 use Rattle.saber_plan.specs.Rows.{rows, Line, lines_of, without_cr, fields_of, is_digits, if_digits, number_of, bad_field, numbers, in_range, wide_field, falls, judge_numbers, judge_fields, judge, Judged, skipped, taken, refused, all_read, before, bad, Read, SideRules, most_held}
 use Rattle.saber_laws.specs.Inputs.{plain_by, after_plain}
-use Rattle.saber_laws.proofs.FileLaws.{plain_files as files_are_plain}
+use Rattle.saber_laws.proofs.FileLaws.{files_are_plain}
 use Rattle.saber_plan.specs.Windows.{from}
 use Rattle.saber_demo.specs.Generator.{state, drawn_number}
 use Rattle.saber_demo.specs.Rows.{row_of, row_line, demo_rows, generated_file}

@@ -3,7 +3,7 @@ use Rattle.saber_plan.specs.Trees.{tree_of}
 use Rattle.saber_plan.specs.GivenRows.{RowsFit}
 use Rattle.saber_plan.specs.Facts.Rows.{fits_back}
 use Rattle.saber_plan.specs.Windows.{no_rows}
-use Rattle.saber_laws.proofs.CheckedLaws.{group_has_one as groups_have_one_window}
+use Rattle.saber_laws.proofs.CheckedLaws.{groups_have_one_window}
 use Rattle.saber_edge_tests.specs.Filling.{fits_nil}
 use Rattle.saber_edge_tests.proofs.PanesFrom.{near}
 use Rattle.saber_edge_tests.proofs.panes.check_window.Goals as goal

@@ -2,8 +2,8 @@ use Rattle.std.proofs.Common.{◌++◌, sym, subst₂, length-append, arith}
 use Rattle.saber_plan.specs.Trees.{tree_of}
 use Rattle.saber_plan.specs.Windows.{no_rows, placed_after}
 use Rattle.saber_panes.specs.Panes.{panes_here, counted_rows, WindowRoom}
-use Rattle.saber_panes.proofs.PaneRooms.{window_room as windows_have_room}
-use Rattle.saber_panes.proofs.PaneFolding.{panes_of_rows as panes_are_of_rows}
+use Rattle.saber_panes.proofs.PaneRooms.{windows_have_room}
+use Rattle.saber_panes.proofs.PaneFolding.{panes_are_of_rows}
 use Rattle.saber_edge_tests.proofs.PanesFrom.{few_counted}
 use Rattle.saber_edge_tests.proofs.panes.lines_of_window.Goals as goal
 

@@ -4,8 +4,8 @@ use Rattle.saber_plan.specs.Parts.{merge}
 use Rattle.saber_plan.specs.Trees.{tree_of}
 use Rattle.saber_plan.specs.Windows.{placed_after}
 use Rattle.saber_panes.specs.Panes.{panes_here, counted_rows, RowsRoom}
-use Rattle.saber_panes.proofs.PaneRooms.{rows_room as rows_have_room}
-use Rattle.saber_panes.proofs.PaneRows.{rows_join as panes_join}
+use Rattle.saber_panes.proofs.PaneRooms.{rows_have_room}
+use Rattle.saber_panes.proofs.PaneRows.{panes_join}
 use Rattle.saber_edge_tests.proofs.PanesFrom.{no_panes}
 use Rattle.saber_edge_tests.proofs.panes.panes_of.Goals as goal
 

@@ -4,8 +4,8 @@ use Rattle.saber_plan.specs.Parts.{merge}
 use Rattle.saber_plan.specs.Trees.{tree_of}
 use Rattle.saber_plan.specs.Windows.{no_rows}
 use Rattle.saber_panes.specs.Panes.{panes_here, CanTakeIn}
-use Rattle.saber_panes.proofs.PaneRooms.{can_join as panes_can_join}
-use Rattle.saber_panes.proofs.PaneRows.{rows_join as panes_join}
+use Rattle.saber_panes.proofs.PaneRooms.{panes_can_join}
+use Rattle.saber_panes.proofs.PaneRows.{panes_join}
 use Rattle.saber_edge_tests.proofs.panes.panes_of_two.Goals as goal
 
 pub take_in-requires : goal.take_in-requires
