@@ -3,8 +3,8 @@
 //! The operators, dispatch, assembly, workers and engine are stated by it.
 //!
 //! - Parts: `blocks` (`Block`: a task's rows, the mark before them, rows before its own), `pieces`
-//!   (the parts of windows by kind, and text), `operator`, `look_back` (a law: `drafts_look_back`,
-//!   which takes and gives nothing).
+//!   (the parts of windows by kind, and text), `operator`, `look_back` (a law, which nobody calls:
+//!   `drafts_look_back`; proofs above import its lemma from `proofs/LookingBack.antt`).
 //! - Calls: `start` takes a task's own block and gives a draft, `look_back` takes each block before
 //!   it that the task looks back on, `finish` gives the piece; `take_in` takes the next task's
 //!   piece into the store and appends to the text, `drop_closed` lets the parts of closed windows

@@ -17,15 +17,11 @@ pub both_sides : (P : List Row → List Row → Type 0) → ((ys : List Row) →
 both_sides P none left step [] ys = none ys
 both_sides P none left step (x ∷ xs) ys = grows P left step x xs (both_sides P none left step xs) ys
 
--- ---- timestamps do not fall
-
 -- ---- each side's rows
 
 -- some rows, and then others, are a side's
 abbrev pub Begins : List Row → List Row → Type 0
 Begins us xs = (rest : List Row) × (us ++ rest ≡ xs)
-
--- ---- where it ends
 
 -- ---- one row of a merge, by the heads of both sides
 
@@ -48,5 +44,3 @@ merged_rest_left x xs e = refl
 pub merged_takes : (x : Row) (xs : List Row) (e : End) (y : Row) (ys : List Row) (d : End) → merged_rows (x ∷ xs) e (y ∷ ys) d ≡ cond (nat_le (stamp x.values) (stamp y.values)) (before x (merged_rows xs e (y ∷ ys) d)) (before y (merged_rows (x ∷ xs) e ys d))
 unfolding merged_rows
 merged_takes x xs e y ys d = refl
-
--- ---- positions on a side

@@ -3,8 +3,6 @@ use Rattle.std.proofs.Common.{[]}
 use Rattle.saber_laws.specs.Inputs.{MergeTurns}
 use Rattle.saber_laws.proofs.InputLaws.{merged_stops_left, merged_rest_right, merged_stops_right, merged_rest_left, merged_takes}
 
--- ---- rows of both, and no more
-
 -- ---- each side's rows
 
 pub merges_turn : MergeTurns

@@ -102,8 +102,6 @@ pieces_make q e w n r o start k = ap (λ s. joined_to q n r s k) (λ i. record {
   parts = sym (ap (unclosed q) (no_tasks_no_rows n r) ∙ open-none q w) i;
 }) ∙ joined_is q e w n r o start k
 
--- ---- a piece looks at no later row
-
 -- ---- what a fragment computes from the task's rows and the mark before them
 
 -- a window that wasn't begun has its lines from the piece alone

@@ -7,8 +7,6 @@ use Rattle.saber_plan.specs.Inputs.{Input}
 use Rattle.saber_plan.specs.Windows.{Frame, end_mark, begun, begun_count}
 use Rattle.saber_plan.specs.Tasks.{upto, task_count, unclosed}
 
--- ---- without the end
-
 -- ---- with it
 
 -- the end begins no window

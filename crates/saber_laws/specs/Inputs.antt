@@ -77,5 +77,3 @@ pub record MergeTurns : Type 0 where
   pub right_stops : (x : Row) (xs : List Row) (e d : End) → holds_up d ≡ true → merged_rows (x ∷ xs) e [] d ≡ record { rows = []; end = d }
   pub right_ended : (x : Row) (xs : List Row) (e : End) → merged_rows (x ∷ xs) e [] all_read ≡ record { rows = x ∷ xs; end = e }
   pub takes : (x : Row) (xs : List Row) (e : End) (y : Row) (ys : List Row) (d : End) → merged_rows (x ∷ xs) e (y ∷ ys) d ≡ lesser_first x xs e y ys d
-
--- ---- counts of each side

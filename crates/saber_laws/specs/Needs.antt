@@ -15,8 +15,6 @@ abbrev pub NeedsMakePieces : Type 0
 NeedsMakePieces = (q : Tree) → Fits (frame q) → (n : ℕ) (r : Input) (t : ℕ) → Ordered no_rows r.rows → 1 ≤ n
     → piece_here q (back_mark q n r t) (back_rows q n r t) (task_rows n r t) (task_ends n r t) ≡ piece q n r t
 
--- ---- the open parts of a piece, by kind
-
 -- ---- the free pointer
 
 -- a task looks back, and not forward

@@ -27,8 +27,6 @@ abbrev pub ClosedLinesStay : Type 0
 ClosedLinesStay = (q : Tree) (i : ℕ) (r : Input) (x y : ℕ) → Ordered no_rows r.rows → x ≤ y → closed (frame q) i (mark_at r x) ≡ true
     → lines q i (take y r.rows) ≡ lines q i (take x r.rows)
 
--- ---- what a key has
-
 -- ---- which windows have a part
 
 -- no row makes a part

@@ -7,5 +7,3 @@ use Rattle.saber_plan.specs.Windows.{Fits}
 -- a checked plan's windows have sizes and slides of at least 1, as the laws of windows ask
 abbrev pub CheckedFit : Type 0
 CheckedFit = (q : Tree) → IsChecked q → Fits (frame q)
-
--- ---- rows that are cut at positions

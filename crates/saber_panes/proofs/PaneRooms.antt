@@ -76,5 +76,3 @@ windows_have_room q i us m g l = record {
       let b = few_pass (within (pane_of (frame q)) (first_pane (frame q) i) (pane_count (frame q))) us in
       omega (arith, a, b, l);
 }
-
--- ---- panes that are dropped

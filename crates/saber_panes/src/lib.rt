@@ -3,7 +3,7 @@
 //! groups are made of, need no common divisor of size and slide.
 //!
 //! - Parts: `cuts` (points cut into panes), `pane_part` (a part whose every use is a step),
-//!   `panes`, `pane_laws`.
+//!   `panes`, `pane_laws` (a law, which nobody calls).
 //! - Calls: `Panes::fold` takes a task's rows with the mark before them, `window` merges the panes
 //!   of a window into a part, `take_in` takes in the panes of later rows, `drop_below` lets old
 //!   ones go.

@@ -99,9 +99,3 @@ small_stay q m n a b g h = record {
 
 pub more_rows : (q : Tree) (m n : ℕ) (a : Part) → m ≤ n → OfRows q m a → OfRows q n a
 more_rows q m n a l g = record { at = λ k x e. let w = g.at k x e in let low = w.0 in (omega (arith, l, low), w.1); keys = g.keys }
-
--- ---- pairs
-
--- ---- rows by themselves
-
--- ---- parts

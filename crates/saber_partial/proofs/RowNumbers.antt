@@ -16,8 +16,6 @@ use Rattle.saber_partial.specs.Flat.{entry_in, with_folds, IsLayout, IsRow, Suit
 use Rattle.saber_partial.specs.Printing.{joined_row}
 use Rattle.saber_partial.proofs.Folded.{length-stepped, length-over, length-folds, folds-with, values-with, with-front, stepped-front, with-stepped, one_row, folds-row, join_is_tally, row_is_tally}
 
--- ---- layouts
-
 -- ---- writes
 
 -- a list after a write at place k and one of all behind it

@@ -8,7 +8,8 @@
 //!   (`RowParts`: parts of one row each, in one list), `row_merges` (one of them taken in),
 //!   `young`, `piles` and `gathering` (rows gathered, few groups at a time), `headings`, `printed`,
 //!   `lines` and `joined_lines` (the text), `answers` and `joined_answers` (the same as values),
-//!   `steps` (merges counted), `laws` (by which callers meet what is required).
+//!   `steps` (merges counted). Lemmas by which callers meet what is required stand in
+//!   `proofs/Counted.antt`.
 //! - Calls: `Partial::add_row` takes a row, `merge` and `merge_from` the part of later rows, given
 //!   or lent, `lines` prints a window's part, `lines_with` two parts without their merge, `answers`
 //!   gives a part's answers as values; `RowParts::push` appends a row's part, `part` lends it, and

@@ -30,8 +30,6 @@ use Rattle.saber_places.specs.Counting.{Counts, places_behind}
 use Rattle.saber_places.proofs.Filled.{filled_same}
 use Rattle.saber_places.proofs.Tallied.{counted_at, tally_at}
 
--- ---- the streams of a query with PARTITION BY
-
 -- ---- how many rows there are
 
 filter_few : {A : Type 0} (p : A → Bool) (xs : List A) → length (filter p xs) ≤ length xs

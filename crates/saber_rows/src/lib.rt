@@ -4,7 +4,7 @@
 //! - Parts: `buffer`, `line_feeds` (bytes that are held), `numbers`, `fields`, `judge` (one line by
 //!   itself), `quick_rows` (usual rows in one pass), `waiting` (rows that wait for earlier ones),
 //!   `ends`, `lines` (the reader), `fed_buffer`, `fed_lines` (the same over a feed), `heads`,
-//!   `merges`, `laws`.
+//!   `merges`.
 //! - Calls: `Lines::next` takes a source, `next_fed` a feed, `Merge::next` two sources; each gives
 //!   a row, the end, or a `RowEnd`. `take_quick` appends rows that are held whole to a
 //!   `RowBuilder`.
@@ -12,7 +12,8 @@
 //!   nothing as yet, exactly where what waits decides nothing; `Merge::next` the row of lesser
 //!   time, the left one on a tie. An end, once given, is given for ever. A fault of reading is
 //!   real, and none is passed over. `take_quick` says of each row what `next` does. To open first:
-//!   `specs/Reader.antt` (what is left to give), `specs/Calls.antt` (what a call does).
+//!   `specs/Reader.antt` (what is left to give), `specs/Calls.antt` (what a call does). Lemmas on
+//!   several calls, one after another, are stated in `specs/Laws.antt`.
 //! - Not claimed: how many rows `take_quick` takes. Taking none keeps its contract; tests see that
 //!   it takes some.
 //! - Limits: 1 to 32 columns, 1 to `2^40` lines of at most 4,096 bytes, 1,048,576 rows that wait.

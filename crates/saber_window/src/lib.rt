@@ -6,7 +6,7 @@
 //!   marks behind them), `plans` (straight from a plan), `windowed` and `plan_windows` (`Windows`,
 //!   made once a task), `bounds` (what a window is to a task), `steps` and `slices` (where rows of
 //!   the same windows end), `lately` (windows kept till a row leaves them), `frees` (how far back a
-//!   task looks), `tasks` (windows in two tasks), `laws`.
+//!   task looks), `tasks` (windows in two tasks).
 //! - Calls: `Windows::of_plan` takes a checked plan; of it `closed_below` and `begun_below` take a
 //!   mark and count windows, `row_windows` takes a row and the mark before it and gives the first
 //!   window that has it and the one behind the last, `slice_end` tells where a slice ends.
