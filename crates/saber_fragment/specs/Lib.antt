@@ -2,4 +2,3 @@ pub mod Shown
 pub mod Drafts
 pub mod Stores
 pub mod LookBack
-pub mod TaskFacts

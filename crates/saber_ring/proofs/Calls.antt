@@ -13,16 +13,15 @@ use Rattle.saber_ring.specs.Shows.{first_of_task, AtHome, done, number_of, turn_
 use Rattle.saber_ring.specs.declared.view.Entry.TheVariants.{Claim, Deposit}
 use mathlib.Core.Logic.{dite}
 use native.Mathlib.Decide.{ℕ_discrete}
-use Rattle.saber_ring.specs.Seats.{cells_of, out_of, task_slots, is_lent, is_filling}
+use Rattle.saber_ring.specs.Seats.{cells_of, out_of, task_slots, is_lent}
 use Rattle.saber_ring.specs.Plays.{FindsDone, FindsDeposit, looked, leaving, led, looked_turn, begun, stored, more_filled, word_before, IsSpare, without_job, is_stopped, went_on, without_turn}
 use Rattle.saber_ring.proofs.Carries.{half, first_now, same_first, there_and_back, none_out}
 use Rattle.saber_core.specs.Works.{IsPieceOrMark}
-use Rattle.saber_ring.specs.Calls.{after_fill, FillsNext, Covers, NeedsBlock, HasJobOf, HasRowsOut, MayDeposit, HoldsTurn, StageAt, Releases, NoneClaimed, NoneDeposited}
+use Rattle.saber_ring.specs.Calls.{after_fill, FillsNext, Covers, NeedsBlock, HasJobOf, HasRowsOut, MayDeposit, HoldsTurn, Releases, NoneClaimed, NoneDeposited}
 use Rattle.saber_ring.specs.Releasing.{SetsDown}
 use Rattle.saber_ring.specs.Filling.{MayFill}
 use Rattle.saber_ring.specs.declared.frees.Frees.{Frees}
 use Rattle.saber_ring.specs.declared.view.FillState.TheVariants.{Waiting}
-use Rattle.saber_ring.proofs.Endings.{calm_waits}
 use Rattle.std.proofs.lemmas.Bool.Decides.{nat_tests}
 use Rattle.saber_ring.specs.declared.view.HeldTurn.{HeldTurn}
 use Rattle.saber_ring.specs.declared.view.TurnState.{TurnState}
@@ -49,16 +48,6 @@ module _ {T S : Type 0} (is_stage : T → ℕ → Bool → S → Type 0) (k : �
 pub its_turn : {T : Type 0} (k : ℕ) (state : TurnState) (o : Option (HeldTurn T)) → HoldsTurn k state o → (h : HeldTurn T) × (o ≡ Some h) × (h.behind ≡ k) × (h.state ≡ state)
 its_turn k state None d = absurd d
 its_turn k state (Some h) d = (h, refl, d.0, d.1)
-
-module _ {T S : Type 0} (is_stage : T → ℕ → Bool → S → Type 0) (k : ℕ) (state : TurnState) (stage : S) where
-  pub turn_told : (o : Option (HeldTurn T)) → HoldsTurn k state o → StageAt is_stage k state stage o → SetsDown is_stage k state stage o
-  turn_told None d st = d
-  turn_told (Some h) d st = (d.0, d.1, st)
-
-  pub leaving_told : (o : Option (HeldTurn T)) (h : HeldTurn T) (o' : Option (HeldTurn T)) → o ≡ Some h → o' ≡ Some (record h { state = Leaving }) → state ≡ TookPiece → HoldsTurn k state o → StageAt is_stage k state stage o → SetsDown is_stage k Leaving stage o'
-  leaving_told o h o' is now whole has st =
-      let d = subst (HoldsTurn k state) is has in let a = subst (StageAt is_stage k state stage) is st in
-      subst (SetsDown is_stage k Leaving stage) (sym now) (d.0, refl, subst (λ (z : TurnState). is_stage h.told k (is_stopped z) stage) whole a)
 
 -- a piece that isn't there for the last seat was not claimed
 pub none_claimed : {T : Type 0} (k : ℕ) (state : TurnState) (v : View T) (word : ℕ) → HoldsTurn k state v.turn → FindsDone v word → live v.base ≡ 1 → word ≢ 8 * k + 4 → word ≢ 8 * k + 6 → NoneClaimed k state v
@@ -164,16 +153,9 @@ module _ {T R : Type 0} (is_told : T → ℕ → Type 0) (upto : T → ℕ → T
   may_fill None h = absurd h
   may_fill (Some l) h = (l, refl, h.0, h.1, subst (λ (z : ℕ). is_rows (filled l.told rows) z rows) (sym h.0) h.2, subst (λ (z : ℕ). is_told (filled l.told rows) (z + 1)) (sym h.0) h.3, subst (λ (z : ℕ). z < first_of_task upto first l.told seen + size) (sym h.0) h.4)
 
-  pub let_fill : (o : Option (Lead T)) (l : Lead T) → o ≡ Some l → l.filled ≡ t → l.fill ≡ Waiting → is_rows (filled l.told rows) t rows → is_told (filled l.told rows) (t + 1) → t < first_of_task upto first l.told seen + size → MayFill is_told upto first filled is_rows size t rows seen o
-  let_fill o l is next waits a b c = subst (MayFill is_told upto first filled is_rows size t rows seen) (sym is) (next, waits, a, b, c)
-
 module _ {T : Type 0} (upto : T → ℕ → T) (first : T → ℕ → ℕ) (t : ℕ) (frees : Frees) (seen : ℕ) where
   pub covered : (o : Option (Lead T)) (l : Lead T) → o ≡ Some l → Covers upto first t frees seen o → (frees.base ≤ seen) × (t < frees.base + length frees.list.items) × ((k : ℕ) → frees.base ≤ k → k ≤ t → slice_index frees.list.items (k - frees.base) ≡ first_of_task upto first l.told k)
   covered o l is h = subst (Covers upto first t frees seen) is h
-
--- the first seat waits at the start of a call
-pub waits_now : {T : Type 0} (o : Option (Lead T)) (l : Lead T) → o ≡ Some l → is_filling o ≡ false → l.fill ≡ Waiting
-waits_now o l is calm = calm_waits l.fill (ap is_filling (sym is) ∙ calm)
 
 module _ {T R P S : Type 0} where
   -- where the seat is once the block is at home

@@ -18,7 +18,7 @@ use Rattle.saber_ring.specs.Plays.{went_on, goes_on}
 use Rattle.saber_ring.proofs.BlockFrames.{blocks_low, cell_low}
 use Rattle.saber_ring.proofs.Puts.{put, at_put, put_else, at_length}
 use Rattle.saber_ring.proofs.PhaseFacts.{false_true, some_same, won_by_same, taken_held, past_held}
-use Rattle.saber_ring.proofs.Moves.{no_find, Goes, job_put, lead_put}
+use Rattle.saber_ring.proofs.Moves.{no_find, job_put, lead_put}
 use Rattle.saber_ring.proofs.Frames.{fits_stay, knows_stay, cell_step, home_step, live_base, job_stays}
 use Rattle.saber_ring.proofs.Counts.{one, counts_more, due_give}
 use Rattle.saber_ring.proofs.Turns.{alone, holds_turn, others_not}
@@ -35,9 +35,6 @@ module _ {T R P S : Type 0} (is_told : T → ℕ → Type 0) (upto : T → ℕ �
 
   abbrev As : St → RingState T → Type 0
   As s b = ShowsAs is_told upto needs is_rows is_piece is_stage size s b
-
-  abbrev Moved : St → ℕ → ℕ → M → (ℕ → M → Type 0) → ℕ → Type 0
-  Moved = Goes is_told upto needs is_rows is_piece is_stage size
 
   beyond : (b : RingState T) (n u : ℕ) (ph : RingPhase) → b.filled ≤ u → b.given + size ≤ u → b.given ≤ u → Fits size b n u ph → 0 < size → ph ≡ idle
   beyond b n u idle a z l f p = refl

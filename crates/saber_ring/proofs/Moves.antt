@@ -4,7 +4,7 @@ use lib.Seq.{set-get_or}
 use Rattle.std.proofs.Math.Path.{transport}
 use Rattle.std.proofs.Math.Nat.{mod-eq_of_lt}
 use mathlib.Core.Logic.{dite}
-use mathlib.Core.Option.{none, some, some-injective}
+use mathlib.Core.Option.{none, some}
 use mathlib.Core.Option as maybe
 use native.Mathlib.Decide.{ℕ_discrete, dec_le}
 use lib.ListN.{get_elem?}
@@ -300,17 +300,6 @@ module _ {T R P S : Type 0} (is_told : T → ℕ → Type 0) (upto : T → ℕ �
           ),
         ),
       ))
-
-  after_filled : (b : RingState T) (n u : ℕ) (ph : RingPhase) → b.filled < u → b.given ≤ b.filled → Fits size b n u ph → ph ≡ idle
-  after_filled b n u idle l g f = refl
-  after_filled b n u ready l g f = let e = f.1 in absurd (omega arith)
-  after_filled b n u (held j) l g f = let e = f.1 in absurd (omega arith)
-  after_filled b n u (done m) l g f = let e = f.1 in absurd (omega arith)
-  after_filled b n u (taken m) l g f = let e = f.1 in absurd (omega arith)
-  after_filled b n u past l g f = absurd (omega (arith, f))
-
-  not_past : (b : RingState T) (n t : ℕ) (ph : RingPhase) → ph ≡ past → Fits size b n t ph → b.given ≤ t → ⊥
-  not_past b n t ph e f le = let l = subst (Fits size b n t) e f in omega arith
 
   -- the first seat looks at a cell
   pub looks_at_cell : (slots id : ℕ) (me : M) (i t : ℕ) → i ≡ t % size + 1 → Allows Rule slots id me i (λ n. n) (sees_cell (step slots i 0 0 none) me)

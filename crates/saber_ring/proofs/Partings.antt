@@ -120,9 +120,6 @@ module _ {T R P S : Type 0} (is_told : T → ℕ → Type 0) (upto : T → ℕ �
       }) (at_end set_views new u j e))
       (λ e. let p = total_append (λ (u : View T). times e u.own) set_views (new ∷ []) in let q = total_set (λ (u : View T). times e u.own) s.views id v w at in let c = sh.count e in let d = due_kept b b' refl e in omega arith)
 
-  abbrev pub spent_view : View T
-  spent_view = newcomer None
-
   pub joins : (id other : ℕ) (v w : View T) (l : Lead T) → v.lead ≡ Some l → IsLive v → IsLive w → w.job ≡ None → w.turn ≡ None → Joins Rule id v other w (joined v w) (newcomer None)
   joins id other v w l is_lead alive alive_too no_job no_turn s r at apart at_other =
       let b = r.0 in let sh = r.1 in let k = sh.shape in let mine = k.each_seat id v at in let lead = subst (HasLead upto b id) is_lead mine.lead in let n : ℕ = length s.views in

@@ -1,5 +1,5 @@
 -- What a cell's word tells.
-use Rattle.std.proofs.Common.{◌≡◌, ◌≢◌, ℕ, Bool, true, false, zero, suc, ◌+◌, ◌*◌, ◌%◌, ◌<◌, ◌≤◌, ◌⊎◌, inl, inr, sym, refl, ap, ◌∙◌, mod-lt, arith}
+use Rattle.std.proofs.Common.{◌≡◌, ◌≢◌, ℕ, Bool, true, false, zero, suc, ◌+◌, ◌*◌, ◌%◌, ◌<◌, ◌≤◌, sym, refl, ap, ◌∙◌, mod-lt, arith}
 use mathlib.Core.Logic.{dite}
 use native.Mathlib.Decide.{ℕ_discrete}
 use native.Mathlib.Nat.{add-mod_right}
@@ -32,16 +32,6 @@ number_small (done true) = omega arith
 number_small (taken false) = omega arith
 number_small (taken true) = omega arith
 number_small past = omega arith
-
-pub number_0 : (ph : RingPhase) → number_of ph ≡ 0 → (ph ≡ idle) ⊎ (ph ≡ past)
-number_0 idle e = inl refl
-number_0 ready e = absurd (omega arith)
-number_0 (held j) e = absurd (omega arith)
-number_0 (done false) e = absurd (omega arith)
-number_0 (done true) e = absurd (omega arith)
-number_0 (taken false) e = absurd (omega arith)
-number_0 (taken true) e = absurd (omega arith)
-number_0 past e = inr refl
 
 pub number_2 : (ph : RingPhase) → number_of ph ≡ 2 → ph ≡ ready
 number_2 idle e = absurd (omega arith)

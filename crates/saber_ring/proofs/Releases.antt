@@ -1,6 +1,6 @@
 -- The release of the turn keeps the rule, and so does the load before that of a piece in hand.
 use Rattle.std.proofs.Common.{◌≡◌, ◌≢◌, ℕ, Bool, true, false, ◌+◌, ◌*◌, ◌%◌, ◌<◌, ◌≤◌, List, ◌∷◌, length, get_or, set, sym, refl, ap, ◌∙◌, subst, mod-lt, le_refl, arith, length-set}
-use mathlib.Core.Option.{none, some, some-injective}
+use mathlib.Core.Option.{none, some}
 use mathlib.Core.Option as maybe
 use lib.ListN.{get_elem?}
 use Rattle.std.specs.Prelude.{Some}
@@ -17,7 +17,6 @@ use Rattle.saber_ring.specs.Plays.{leaving, is_stopped, without_turn, releases, 
 use Rattle.saber_ring.proofs.BlockFrames.{blocks_low, cell_low}
 use Rattle.saber_ring.proofs.Puts.{at_length}
 use Rattle.saber_ring.proofs.PhaseFacts.{false_true, or_says, some_same, free_won_by, won_by_same, taken_same}
-use Rattle.saber_ring.proofs.Moves.{Goes}
 use Rattle.saber_ring.proofs.Frames.{EmptyOf, empty_stays, fits_stay, knows_stay, cell_step, turn_step, home_step, home_turn, ordered, live_base}
 use Rattle.saber_ring.proofs.Counts.{counts_same, due_kept}
 use Rattle.saber_ring.proofs.Turns.{alone, same_jobs, holds_turn, others_not, halts_stopped, leaving_open}
@@ -34,9 +33,6 @@ module _ {T R P S : Type 0} (is_told : T → ℕ → Type 0) (upto : T → ℕ �
 
   abbrev As : St → RingState T → Type 0
   As s b = ShowsAs is_told upto needs is_rows is_piece is_stage size s b
-
-  abbrev Moved : St → ℕ → ℕ → M → (ℕ → M → Type 0) → ℕ → Type 0
-  Moved = Goes is_told upto needs is_rows is_piece is_stage size
 
   state_rests : (b : RingState T) (n : ℕ) (id : ℕ) (g : TurnState) → is_stopped g ≡ true → TurnFits b n (won_by id g) → IsTaken b n
   state_rests b n id Open e r = absurd cc

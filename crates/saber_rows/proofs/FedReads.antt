@@ -51,5 +51,3 @@ later_marked mark end ended true e before now = before e
 later_marked mark end ended false e before now = now e
 
 -- ---- nothing is there as yet
-
-module _ (old new : Reader) (w w' : List ℕ) (mark : Option EndMark) (h : HasNothing old w mark) (marked : old.ended ≡ false → new.ended ≡ true → mark ≡ Some EndMark.End) where
