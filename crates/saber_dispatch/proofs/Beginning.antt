@@ -16,7 +16,6 @@ use Rattle.saber_plan.specs.Checked.{IsChecked, StreamsFit, ColumnsFit, columns_
 use Rattle.saber_plan.specs.Needs.{block_lasts}
 use Rattle.saber_rows.specs.Reader.{new_reader}
 use Rattle.saber_rows.specs.Heads.{bare, SidePassed}
-use Rattle.saber_rows.specs.Laws.{ReadersStand, MergersStand}
 use Rattle.saber_dispatch.specs.declared.cutter.Cutter.{Cutter}
 use Rattle.saber_dispatch.specs.declared.lasts.Lasts.{Lasts}
 use Rattle.saber_dispatch.specs.Readings.{reading_of, Suits, Reads, IsOpen, RulesOf}
@@ -70,9 +69,9 @@ keeps_none q n l e w f i = record {
   list = i ∙ no_blocks q n ∙ ap (λ a. block_lasts (frame q) n (going_on []) a (0 - a)) (sym f);
 }
 
-pub cuts_nothing : ReadersStand → MergersStand → (q : Tree) → IsChecked q → Fits (frame q) → (s : Sizes) → SizesFit s → (c : Cutter) → c.size ≡ s.task → c.room ≡ s.ring → c.flush ≡ end_counts q s → reading_of c.reader ≡ fresh q (limits_of s) → c.mark ≡ no_rows → c.number ≡ 0 → c.ended ≡ None → LooksBack q s.task [] 0 c.lasts
+pub cuts_nothing : (q : Tree) → IsChecked q → Fits (frame q) → (s : Sizes) → SizesFit s → (c : Cutter) → c.size ≡ s.task → c.room ≡ s.ring → c.flush ≡ end_counts q s → reading_of c.reader ≡ fresh q (limits_of s) → c.mark ≡ no_rows → c.number ≡ 0 → c.ended ≡ None → LooksBack q s.task [] 0 c.lasts
     → (had : List (Option (List ℕ))) → Suits (fresh q (limits_of s)) had → Cuts q s had had c (going_on [])
-cuts_nothing law laws q checked fits s small c size room counts reader mark number ended back had suits =
+cuts_nothing q checked fits s small c size room counts reader mark number ended back had suits =
     let reads : Reads q no_rows (fresh q (limits_of s)) = reads_on q (limits_of s) q.streams refl checked.streams checked.columns small.lines.1 in
     let none : 0 ≡ c.number * s.task = omega (arith, ap (λ k. k * s.task) number) in
     record {
@@ -80,7 +79,7 @@ cuts_nothing law laws q checked fits s small c size room counts reader mark numb
       sizes = small;
       made = record { size = size; room = room };
       dropped = [];
-      took = subst (λ r. Took q no_rows (fresh q (limits_of s)) r had had []) (sym reader) (took_nothing law laws q no_rows (fresh q (limits_of s)) had suits reads);
+      took = subst (λ r. Took q no_rows (fresh q (limits_of s)) r had had []) (sym reader) (took_nothing q no_rows (fresh q (limits_of s)) had suits reads);
       count = number ∙ whole_tasks s.task 0 0 small.task.0 (omega arith);
       near = λ u l. absurd (omega (arith, l, number));
       whole = inl none;

@@ -13,10 +13,8 @@ use Rattle.saber_plan.specs.Windows.{by_side, Ordered, no_rows, step_mark, mark_
 use Rattle.saber_plan.specs.Inputs.{going_on}
 use Rattle.saber_plan.specs.Trees.{Tree}
 use Rattle.saber_plan.specs.declared.sizes.Sizes.{Sizes}
-use Rattle.saber_laws.specs.Needs.{NeedsStay}
 use Rattle.saber_plan.specs.GivenRows.{IsRowOf, RowsFit}
 use Rattle.saber_plan.specs.Needs.{free, need}
-use Rattle.saber_window.specs.Laws.{StampsFit}
 use Rattle.saber_fragment.specs.declared.blocks.Block.{Block}
 use Rattle.saber_fragment.specs.declared.blocks.Earlier.{Earlier}
 use Rattle.saber_fragment.specs.Drafts.{EndWith}
@@ -30,14 +28,15 @@ use Rattle.saber_dispatch.specs.Cutting.{AreWhole, LooksBack, Behind, IsTooWide,
 use Rattle.saber_dispatch.proofs.Fillings.{small as small_marks, mark_append}
 use Rattle.saber_dispatch.proofs.NextTasks.{upto_seam, need_stays}
 use Rattle.saber_plan.specs.Facts.Counts.{whole_tasks, one_task_more}
+use Rattle.saber_window.proofs.Stamps.{stamps_fit}
 
 pub on_ok : {X E : Type 0} (r : Result X E) (P Q : Type 0) → OnOk r P → (P → Q) → OnOk r Q
 on_ok (Ok x) P Q h f = f h
 on_ok (Err x) P Q h f = h
 
-pub times_of : StampsFit → (q : Tree) (xs : List Row) → AllByRecursion (IsRowOf q) xs → AllByRecursion (λ r. stamp r.values < 2 ^ 63) xs
-times_of law q [] h = tt
-times_of law q (x ∷ xs) h = (omega (arith, law _ _ x h.0.fits), times_of law q xs h.1)
+pub times_of : (q : Tree) (xs : List Row) → AllByRecursion (IsRowOf q) xs → AllByRecursion (λ r. stamp r.values < 2 ^ 63) xs
+times_of q [] h = tt
+times_of q (x ∷ xs) h = (omega (arith, stamps_fit _ _ x h.0.fits), times_of q xs h.1)
 
 -- ---- parts of lists
 
@@ -157,7 +156,7 @@ module _ (q : Tree) (s : Sizes) (had has : List (Option (List ℕ))) (c : Cutter
     });
   }
 
-  module _ (law : NeedsStay) (l : Option Lasts) (back : LooksBack q s.task (xs ++ rows) (c.number + 1) l) (near : need q s.task (going_on xs) c.number ≤ s.ring) where
+  module _ (l : Option Lasts) (back : LooksBack q s.task (xs ++ rows) (c.number + 1) l) (near : need q s.task (going_on xs) c.number ≤ s.ring) where
     abbrev pub given : Cutter
     given = record c { lasts = l; number = c.number + 1 }
 
@@ -185,7 +184,7 @@ module _ (q : Tree) (s : Sizes) (had has : List (Option (List ℕ))) (c : Cutter
     whole_by (Some NoMemory) h = absurd h
 
     stays : (u : ℕ) → u ≤ c.number → need q s.task (going_on xs) u ≤ s.ring → need q s.task (going_on (xs ++ rows)) u ≤ s.ring
-    stays u h k = subst (λ n. n ≤ s.ring) (need_stays law q s.task (going_on xs) (going_on (xs ++ rows)) c.number u some_size (upto_seam s.task xs rows false c.number some_size f.whole) h) k
+    stays u h k = subst (λ n. n ≤ s.ring) (need_stays q s.task (going_on xs) (going_on (xs ++ rows)) c.number u some_size (upto_seam s.task xs rows false c.number some_size f.whole) h) k
 
     near_by : (u : ℕ) → u < c.number + 1 → need q s.task (going_on (xs ++ rows)) u ≤ s.ring
     near_by u h = ⊎_elim (λ k. stays u (omega (arith, k)) (f.near u k)) (λ k. let same : u ≡ c.number = omega (arith, h, k) in stays u (omega (arith, same)) (subst (λ t. need q s.task (going_on xs) t ≤ s.ring) (sym same) near)) (cases_lt u c.number)

@@ -13,11 +13,13 @@ use Rattle.saber_plan.specs.Trees.{Tree}
 use Rattle.saber_plan.specs.GivenRows.{RowsFit}
 use Rattle.saber_plan.specs.Tasks.{task_start, upto}
 use Rattle.saber_plan.specs.Needs.{free, last_of, free_of}
-use Rattle.saber_laws.specs.Needs.{LastsTellFree, TasksLookBack, TasksLookOn, NeedsStay}
 use Rattle.saber_dispatch.specs.declared.lasts.Lasts.{Lasts}
 use Rattle.saber_dispatch.specs.Cutting.{KeepsLasts, Behind}
 use Rattle.saber_dispatch.proofs.Fillings.{ordered_append}
 use Rattle.saber_plan.specs.Facts.Counts.{tasks_have_rows, mark_count}
+use Rattle.saber_laws.proofs.LastLaws.{free_by_lasts as lasts_tell_free}
+use Rattle.saber_laws.proofs.GrowLaws.{need_kept as needs_stay}
+use Rattle.saber_laws.proofs.FreeLaws.{free_at_most as tasks_look_back, free_rises as tasks_look_on}
 
 -- ---- numbers in a row
 
@@ -84,18 +86,18 @@ module _ (q : Tree) (n : ℕ) (xs : List Row) (t : ℕ) (before : Mark) (b : Beh
   take_here = take_all (task_start n (going_on xs) t) xs (omega (arith, cut_here))
 
   -- the free pointer by what is kept
-  pub told : LastsTellFree → (l : Lasts) → KeepsLasts q n xs t l → free_of l.first l.list.items (closed_count l.windows before) ≡ free q n (going_on xs) t
-  told law l k =
+  pub told : (l : Lasts) → KeepsLasts q n xs t l → free_of l.first l.list.items (closed_count l.windows before) ≡ free q n (going_on xs) t
+  told l k =
       ap (λ (f : Frame). free_of l.first l.list.items (closed_count f before)) k.windows
       ∙ ap (λ (m : Mark). free_of l.first l.list.items (closed_count (frame q) m)) (b.mark ∙ sym (ap mark_of take_here))
       ∙ ap (λ ls. free_of l.first ls (closed_count (frame q) (mark_of (take (task_start n (going_on xs) t) xs)))) k.list
-      ∙ sym (law q b.windows n (going_on xs) t l.first b.ordered b.some k.join k.low k.at)
+      ∙ sym (lasts_tell_free q b.windows n (going_on xs) t l.first b.ordered b.some k.join k.low k.at)
 
   -- and what is kept then
-  pub looked : LastsTellFree → TasksLookBack → (old new : Lasts) (r : ℕ) → KeepsLasts q n xs t old → r ≡ free_of old.first old.list.items (closed_count old.windows before) → new.first ≡ r → new.list.items ≡ drop (r - old.first) old.list.items → new.windows ≡ old.windows → KeepsLasts q n xs t new
-  looked law back old new r k is first list windows =
-      let free_is : r ≡ free q n (going_on xs) t = is ∙ told law old k in
-      let within : free q n (going_on xs) t ≤ t = back q n (going_on xs) t b.some in
+  pub looked : (old new : Lasts) (r : ℕ) → KeepsLasts q n xs t old → r ≡ free_of old.first old.list.items (closed_count old.windows before) → new.first ≡ r → new.list.items ≡ drop (r - old.first) old.list.items → new.windows ≡ old.windows → KeepsLasts q n xs t new
+  looked old new r k is first list windows =
+      let free_is : r ≡ free q n (going_on xs) t = is ∙ told old k in
+      let within : free q n (going_on xs) t ≤ t = tasks_look_back q n (going_on xs) t b.some in
       let d : ℕ = r - old.first in
       let length_is : t - old.first ≡ (r - old.first) + (t - r) = omega (arith, k.low, k.at, free_is, within) in
       let at : old.first + (r - old.first) ≡ r = omega (arith, k.low, free_is) in
@@ -133,8 +135,8 @@ module _ (q : Tree) (n : ℕ) (xs : List Row) (t : ℕ) (before : Mark) (b : Beh
     upto_front = ap going_on (ap (λ k. take k (xs ++ rows)) cut_front ∙ take-append_seam xs rows)
 
     -- the task looks back as far with its rows there
-    pub free_stays : NeedsStay → free q n (going_on (xs ++ rows)) t ≡ free q n (going_on xs) t
-    free_stays law = sym (law q n (going_on (xs ++ rows)) t t b.some (omega arith)).free_pointer ∙ ap (λ l. free q n l t) upto_front
+    pub free_stays : free q n (going_on (xs ++ rows)) t ≡ free q n (going_on xs) t
+    free_stays = sym (needs_stay q n (going_on (xs ++ rows)) t t b.some (omega arith)).free_pointer ∙ ap (λ l. free q n l t) upto_front
 
     all_placed : placed_from_start (xs ++ rows) ≡ placed_from_start xs ++ placed_after before rows
     all_placed = placed_append no_rows xs rows ∙ ap (λ m. placed_from_start xs ++ placed_after m rows) (sym b.mark)
@@ -162,8 +164,8 @@ module _ (q : Tree) (n : ℕ) (xs : List Row) (t : ℕ) (before : Mark) (b : Beh
         ap (λ l. slice_range l (task_start n (going_on (xs ++ rows)) t) (task_start n (going_on (xs ++ rows)) (t + 1))) all_placed
         ∙ slice_back (placed_from_start xs) (placed_after before rows) (task_start n (going_on (xs ++ rows)) t) (task_start n (going_on (xs ++ rows)) (t + 1)) (omega (arith, cut_front, p)) (omega (arith, cut_back, p, r))
 
-    pub noted : TasksLookOn → NeedsStay → (old new : Lasts) → KeepsLasts q n xs t old → new.list.items ≡ old.list.items ++ last_of old.windows (placed_after before rows) ∷ [] → new.first ≡ old.first → new.windows ≡ old.windows → KeepsLasts q n (xs ++ rows) (t + 1) new
-    noted on stay old new k list first windows =
+    pub noted : (old new : Lasts) → KeepsLasts q n xs t old → new.list.items ≡ old.list.items ++ last_of old.windows (placed_after before rows) ∷ [] → new.first ≡ old.first → new.windows ≡ old.windows → KeepsLasts q n (xs ++ rows) (t + 1) new
+    noted old new k list first windows =
         let f = frame q in
         let a : ℕ = old.first in
         let g : ℕ → Option ℕ = λ u. last_of f (slice_range (placed_from_start xs) (task_start n (going_on xs) u) (task_start n (going_on xs) (u + 1))) in
@@ -177,7 +179,7 @@ module _ (q : Tree) (n : ℕ) (xs : List Row) (t : ℕ) (before : Mark) (b : Beh
         record {
           join = k.join;
           windows = windows ∙ k.windows;
-          low = omega (arith, first, k.low, free_stays stay, on q b.windows n (going_on (xs ++ rows)) t all_ordered b.some);
+          low = omega (arith, first, k.low, free_stays, tasks_look_on q b.windows n (going_on (xs ++ rows)) t all_ordered b.some);
           at = omega (arith, first, k.at);
           list = list ∙ ap (λ l. l ++ last_of old.windows (placed_after before rows) ∷ []) k.list ∙ ap (λ w. map g (from old.first (t - old.first)) ++ last_of w (placed_after before rows) ∷ []) k.windows ∙ sym all ∙ ap (λ i. map h (from i ((t + 1) - i))) (sym first);
         }

@@ -9,7 +9,6 @@ use Rattle.saber_plan.specs.Trees.{Tree}
 use Rattle.saber_plan.specs.declared.sizes.Sizes.{Sizes}
 use Rattle.saber_plan.specs.Inputs.{Input, going_on}
 use Rattle.saber_plan.specs.Needs.{need}
-use Rattle.saber_rows.specs.Laws.{MovesGoOn, MergesGoOn}
 use Rattle.saber_dispatch.specs.declared.ends.End.{End}
 use Rattle.saber_dispatch.specs.declared.ends.End.TheVariants.{AllRead, Bad, ReadFault, TooWide, NoMemory}
 use Rattle.saber_dispatch.specs.declared.reader.Reader.{Reader}
@@ -58,7 +57,7 @@ reads_now q s had has c r k e =
     let g : Goes q s c r k.dropped = subst (CutState q s c r k.dropped) e k.state in
     subst (λ m. Reads q m (reading_of c.reader)) (ap (λ l. mark_of (r.rows ++ l)) g.none_dropped ∙ ap mark_of (append-nil r.rows) ∙ sym g.mark) k.took.reads
 
-module _ (law : MovesGoOn) (laws : MergesGoOn) (q : Tree) (s : Sizes) (had has now : List (Option (List ℕ))) (c : Cutter) (r : Input) (k : Cuts q s had has c r) (open_still : c.ended ≡ None)
+module _ (q : Tree) (s : Sizes) (had has now : List (Option (List ℕ))) (c : Cutter) (r : Input) (k : Cuts q s had has c r) (open_still : c.ended ≡ None)
     (filled : Result (Unit {0}) End) (new : Reader) (mark : Mark) (start rows : List Row) (empty : start ≡ []) (f : Fills filled q c.size c.mark mark (reading_of c.reader) (reading_of new) has now start rows) where
   abbrev pub after : Option End → Cutter
   after e = record c { reader = new; mark = mark; ended = e }
@@ -74,7 +73,7 @@ module _ (law : MovesGoOn) (laws : MergesGoOn) (q : Tree) (s : Sizes) (had has n
   before_took = subst (Took q no_rows (fresh q (limits_of s)) (reading_of c.reader) had has) (ap (λ l. r.rows ++ l) goes.none_dropped ∙ append-nil r.rows) k.took
 
   all_took : Took q no_rows (fresh q (limits_of s)) (reading_of new) had now (r.rows ++ f.rows)
-  all_took = took_on law laws q no_rows (fresh q (limits_of s)) (reading_of c.reader) (reading_of new) had has now r.rows f.rows before_took (subst (λ m. Took q m (reading_of c.reader) (reading_of new) has now f.rows) goes.mark f.took)
+  all_took = took_on q no_rows (fresh q (limits_of s)) (reading_of c.reader) (reading_of new) had has now r.rows f.rows before_took (subst (λ m. Took q m (reading_of c.reader) (reading_of new) has now f.rows) goes.mark f.took)
 
   kept_rows : keeps_rows filled ≡ true → f.rows ≡ rows
   kept_rows e = sym (f.kept e ∙ ap (λ l. l ++ f.rows) empty)

@@ -5,7 +5,6 @@ use Rattle.saber_plan.specs.declared.windows.Mark.{Mark}
 use Rattle.saber_plan.specs.declared.sizes.Sizes.{Sizes}
 use Rattle.saber_plan.specs.Trees.{Tree}
 use Rattle.saber_plan.specs.Inputs.{Input, going_on}
-use Rattle.saber_rows.specs.Laws.{MovesGoOn, MergesGoOn}
 use Rattle.saber_dispatch.specs.declared.ends.End.{End}
 use Rattle.saber_dispatch.specs.declared.cutter.Cutter.{Cutter}
 use Rattle.saber_dispatch.specs.Cutting.{Cuts, Filled, ended_by, stops}
@@ -15,7 +14,7 @@ use Rattle.saber_dispatch.proofs.BlockReads.{is_rows, is_filled, is_ended}
 abbrev Lefts : Type 0
 Lefts = List (Option (List ℕ))
 
-module _ (law : MovesGoOn) (laws : MergesGoOn) (q : Tree) (s : Sizes) (had has : Lefts) (c : Cutter) (r : Input) (filled : Result (Unit {0}) End) (before : Mark) (rows : List Row) (k : Closes q s had has c r filled before rows) where
+module _ (q : Tree) (s : Sizes) (had has : Lefts) (c : Cutter) (r : Input) (filled : Result (Unit {0}) End) (before : Mark) (rows : List Row) (k : Closes q s had has c r filled before rows) where
   abbrev at : Option End → Cutter
   at e = record c { ended = e }
 
@@ -23,17 +22,17 @@ module _ (law : MovesGoOn) (laws : MergesGoOn) (q : Tree) (s : Sizes) (had has :
   with_end e = ap (λ (x : Cutter). record x { ended = e }) k.same
 
   pub closed_rows : r ≡ going_on r.rows
-  closed_rows = is_rows law laws q s had k.there has k.start r k.cuts k.goes filled c.reader c.mark [] rows refl k.fills
+  closed_rows = is_rows q s had k.there has k.start r k.cuts k.goes filled c.reader c.mark [] rows refl k.fills
 
   pub closed_filled : (o : Option End) → o ≡ ended_by filled → stops filled (length rows) ≡ None → Filled q s had has (at o) r.rows before rows
   closed_filled o e h =
-      let done = is_filled law laws q s had k.there has k.start r k.cuts k.goes filled c.reader c.mark [] rows refl k.fills filled refl h in
+      let done = is_filled q s had k.there has k.start r k.cuts k.goes filled c.reader c.mark [] rows refl k.fills filled refl h in
       let here = subst (λ (x : Cutter). Filled q s had has x r.rows k.start.mark rows) (sym (with_end (ended_by filled))) done in
       subst (λ (m : Mark). Filled q s had has (at o) r.rows m rows) (sym k.before_is) (subst (λ (y : Option End). Filled q s had has (at y) r.rows k.start.mark rows) (sym e) here)
 
   pub closed_ended : (o : Option End) (end : End) → o ≡ ended_by filled → stops filled (length rows) ≡ Some end → (o ≡ Some end) × Cuts q s had has (at o) r
   closed_ended o end e h =
-      let done = is_ended law laws q s had k.there has k.start r k.cuts k.goes filled c.reader c.mark [] rows refl k.fills filled end refl h in
+      let done = is_ended q s had k.there has k.start r k.cuts k.goes filled c.reader c.mark [] rows refl k.fills filled end refl h in
       let here = subst (λ (x : Cutter). Cuts q s had has x r) (sym (with_end (ended_by filled))) done.1 in
       (e ∙ done.0, subst (λ (y : Option End). Cuts q s had has (at y) r) (sym e) here)
 

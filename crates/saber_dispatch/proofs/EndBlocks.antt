@@ -1,5 +1,5 @@
 -- The block of the input's end, behind all rows.
-use Rattle.std.proofs.Common.{inr, ◌≡◌, ◌≤◌, ◌<◌, ◌^◌, ℕ, zero, suc, ◌+◌, ◌-◌, ◌*◌, ◌==◌, min, length, List, [], ◌∷◌, ◌++◌, Option, Some, Bool, true, false, ◌&&◌, ◌||◌, not, refl, sym, ◌∙◌, ap, subst, ⊎_elim, arith, append-nil}
+use Rattle.std.proofs.Common.{inr, ◌≡◌, ◌≤◌, ◌<◌, ◌^◌, ℕ, zero, suc, ◌+◌, ◌-◌, ◌*◌, ◌==◌, min, length, List, [], ◌++◌, Option, Some, Bool, true, false, ◌&&◌, ◌||◌, not, refl, sym, ◌∙◌, ap, subst, ⊎_elim, arith, append-nil}
 use Rattle.std.proofs.lemmas.Bool.{cases_lt}
 use Rattle.std.proofs.lemmas.List.{take_all}
 use Rattle.std.proofs.lemmas.Grind.{div_ceil_times}
@@ -11,10 +11,8 @@ use Rattle.saber_plan.specs.Windows.{no_rows, mark_of}
 use Rattle.saber_plan.specs.Inputs.{Input, going_on}
 use Rattle.saber_plan.specs.Trees.{Tree}
 use Rattle.saber_plan.specs.GivenRows.{RowsFit}
-use Rattle.saber_plan.specs.declared.rows.Row.{Row}
 use Rattle.saber_plan.specs.Tasks.{upto, task_count, row_tasks}
 use Rattle.saber_plan.specs.Needs.{free, need}
-use Rattle.saber_laws.specs.Needs.{NeedsStay}
 use Rattle.saber_fragment.specs.declared.blocks.Block.{Block}
 use Rattle.saber_dispatch.specs.declared.ends.End.TheVariants.{AllRead, TooWide}
 use Rattle.saber_dispatch.specs.declared.cutter.Cutter.{Cutter}
@@ -143,14 +141,14 @@ module _ (q : Tree) (s : Sizes) (had has : List (Option (List ℕ))) (c : Cutter
         let here = fits_in in
         upto_rows s.task all c.number (omega (arith, count_rows)) ∙ ap going_on (take_all (min (c.number * s.task) (length r.rows)) r.rows (omega (arith, here))) ∙ sym is_rows
 
-    module _ (law : NeedsStay) (l : Option Lasts) where
+    module _ (l : Option Lasts) where
       abbrev pub given : Cutter
       given = record c { lasts = l; number = c.number + 1; flush = false }
 
       near_all : (u : ℕ) → u < c.number + 1 → need q s.task all u ≤ s.ring
       near_all u h =
           let less : u ≤ c.number = omega (arith, h) in
-          let same : need q s.task r u ≡ need q s.task all u = need_stays law q s.task r all c.number u some_size front less in
+          let same : need q s.task r u ≡ need q s.task all u = need_stays q s.task r all c.number u some_size front less in
           subst (λ n. n ≤ s.ring) same (⊎_elim (λ j. k.near u j) (λ j. let at : u ≡ c.number = omega (arith, h, j) in subst (λ t. need q s.task r t ≤ s.ring) (sym at) near) (cases_lt u c.number))
 
       comes : EndComes q s given all k.dropped

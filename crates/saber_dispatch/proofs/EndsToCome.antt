@@ -1,5 +1,5 @@
 -- The blocks of an input, cut without its end, are those that are cut with it still to come; and the end's block behind them.
-use Rattle.std.proofs.Common.{◌≡◌, ◌≢◌, ◌≤◌, ℕ, ◌+◌, ◌-◌, ◌==◌, Bool, true, false, ◌&&◌, not, List, [], ◌∷◌, refl, sym, ◌∙◌, ap, subst, arith}
+use Rattle.std.proofs.Common.{◌≡◌, ◌≢◌, ◌≤◌, ℕ, Bool, true, false, List, [], ◌∷◌, refl, sym, ◌∙◌, ap, subst, arith}
 use Rattle.std.specs.Prelude.{Option, Some, None}
 use Rattle.saber_plan.specs.declared.plans.Shape.{Shape}
 use Rattle.saber_plan.specs.declared.plans.Shape.TheVariants.{Select, Group, Join}
@@ -10,15 +10,13 @@ use Rattle.saber_plan.specs.Inputs.{Input, going_on}
 use Rattle.saber_plan.specs.Needs.{free, need}
 use Rattle.saber_plan.specs.Tasks.{places_after}
 use Rattle.saber_plan.specs.Trees.{Tree}
-use Rattle.saber_laws.specs.Needs.{NeedsStay}
 use Rattle.saber_places.specs.Counting.{places_behind}
 use Rattle.saber_fragment.specs.declared.blocks.Block.{Block}
 use Rattle.saber_dispatch.specs.declared.cutter.Cutter.{Cutter}
 use Rattle.saber_dispatch.specs.declared.ends.End.{End}
 use Rattle.saber_dispatch.specs.declared.ends.End.TheVariants.{AllRead, Bad, ReadFault, TooWide, NoMemory}
 use Rattle.saber_dispatch.specs.Cutting.{Cuts, CutState, Flushes, IsThere, is_due, end_counts}
-use Rattle.saber_dispatch.specs.Ending.{without_end, with_end, end_given, due_at, is_end_due, GivesEnd, EndsEach}
-use Rattle.saber_dispatch.specs.Keeping.{IsPlaced}
+use Rattle.saber_dispatch.specs.Ending.{without_end, with_end, due_at, is_end_due, EndsEach}
 use Rattle.saber_dispatch.specs.Sources.{Lefts}
 use Rattle.saber_dispatch.proofs.EndBlocks.{end_near, end_next, end_cuts}
 
@@ -99,9 +97,9 @@ none_placed q [] xs = refl
 none_placed q (k ∷ ks) xs = refl
 
 -- a block like that, behind all rows
-pub ends_each : NeedsStay → (c : Cutter) (b : Block) → is_end_due c ≡ true → b.number ≡ c.number → b.first ≡ c.number → b.before ≡ c.mark → b.earlier.before ≡ c.mark → b.earlier.rows ≡ [] → b.rows ≡ [] → b.places.items ≡ [] → b.ended ≡ true
+pub ends_each : (c : Cutter) (b : Block) → is_end_due c ≡ true → b.number ≡ c.number → b.first ≡ c.number → b.before ≡ c.mark → b.earlier.before ≡ c.mark → b.earlier.rows ≡ [] → b.rows ≡ [] → b.places.items ≡ [] → b.ended ≡ true
     → EndsEach c b
-ends_each law c b due number first before behind alone none places ends q s had has r joins counts k =
+ends_each c b due number first before behind alone none places ends q s had has r joins counts k =
     let a : Cutter = with_end q s c in
     let w : Cuts q s had has a r = end_to_come q s had has c r k in
     let all = due_all c.number c.ended due in
@@ -112,5 +110,5 @@ ends_each law c b due number first before behind alone none places ends q s had 
     record {
       next = end_next q s had has a r w all.0 d b none ends near number before (first ∙ own) behind alone;
       placed = places ∙ sym (none_placed q q.partition r.rows) ∙ ap (places_behind q q.partition r.rows) (sym none);
-      cuts = end_cuts q s had has a r w all.0 d b none ends near law c.lasts;
+      cuts = end_cuts q s had has a r w all.0 d b none ends near c.lasts;
     }

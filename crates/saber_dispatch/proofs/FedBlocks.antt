@@ -9,7 +9,6 @@ use Rattle.saber_plan.specs.Sizes.{FileLimits, limits_of}
 use Rattle.saber_plan.specs.declared.windows.Stream.{Stream}
 use Rattle.saber_plan.specs.Trees.{Tree}
 use Rattle.saber_plan.specs.Inputs.{Input}
-use Rattle.saber_rows.specs.Laws.{ReadersStand, MergersStand}
 use Rattle.saber_fragment.specs.declared.blocks.Block.{Block}
 use Rattle.saber_dispatch.specs.declared.ends.End.{End}
 use Rattle.saber_dispatch.specs.declared.ends.End.TheVariants.{AllRead, Bad, ReadFault, TooWide, NoMemory}
@@ -44,21 +43,21 @@ module _ (q : Tree) (s : Sizes) (taken waiting : List ℕ) (c : Cutter) (r : Inp
   suits : Suits (reading_of c.reader) (only waiting)
   suits = still_suits (prepend (r.rows ++ k.dropped)) (fresh q (limits_of s)) (reading_of c.reader) (only taken) (only waiting) k.took.moves
 
-  begun_empty : ReadersStand → MergersStand → Begins q s taken waiting c r c.mark []
-  begun_empty law laws = record {
+  begun_empty : Begins q s taken waiting c r c.mark []
+  begun_empty = record {
     start = c;
     there = waiting;
     cuts = k;
     goes = e;
     same = refl;
     before_is = refl;
-    filling = filling_nothing law laws q c.mark (reading_of c.reader) (only waiting) [] suits (reads_now q s (only taken) (only waiting) c r k e);
+    filling = filling_nothing q c.mark (reading_of c.reader) (only waiting) [] suits (reads_now q s (only taken) (only waiting) c r k e);
     few = omega (arith, k.sizes.task);
     open_still = going.open_still;
   }
 
-  pub begun_new : ReadersStand → MergersStand → (rows : List Row) → rows ≡ [] → Begins q s taken waiting c r c.mark rows
-  begun_new law laws rows none = subst (λ (l : List Row). Begins q s taken waiting c r c.mark l) (sym none) (begun_empty law laws)
+  pub begun_new : (rows : List Row) → rows ≡ [] → Begins q s taken waiting c r c.mark rows
+  begun_new rows none = subst (λ (l : List Row). Begins q s taken waiting c r c.mark l) (sym none) begun_empty
 
   -- there was no memory to begin one
   pub lacks : Cuts q s (only taken) (only waiting) (record c { ended = Some NoMemory }) r

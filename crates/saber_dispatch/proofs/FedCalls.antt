@@ -17,7 +17,6 @@ use Rattle.saber_rows.specs.Reader.{gone_count, HasEnd, NeedsMore}
 use Rattle.saber_rows.specs.Calls.{Moves, IsGiven, WantsMemory}
 use Rattle.saber_rows.specs.FedTurns.{answer_in, given_in, kept_in, last_in, IsKnown}
 use Rattle.saber_rows.specs.Heads.{bare, Called, EndedBy, SidePassed}
-use Rattle.saber_rows.specs.Laws.{LinesPass}
 use Rattle.saber_dispatch.specs.declared.ends.End.TheVariants.{ReadFault}
 use Rattle.saber_dispatch.specs.declared.fed_reader.Got.TheVariants as gots
 use Rattle.saber_dispatch.specs.Readings.{one, RulesOf, ReadsOne}
@@ -105,7 +104,7 @@ module _ (old new : readers.Reader) (had has : Option (List ℕ)) where
     no : ◌≡◌ {A = Option Answer} None (Some a) → ⊥
     no i = cc
 
-  module _ (law : LinesPass) (q : Tree) (m : Mark) (r : ReadsOne q m old) where
+  module _ (q : Tree) (m : Mark) (r : ReadsOne q m old) where
     still_passed : FedCalled None old new had has → SidePassed Left m.last m.left (bare new)
     still_passed c =
         let p = r.passed in
@@ -120,15 +119,15 @@ module _ (old new : readers.Reader) (had has : Option (List ℕ)) where
         }
 
     pub stepped_fed : (result : Result FedRow RowEnd) → FedCalled (answer_in result) old new had has → GotNext q m (got_of result) (one old) (one new) (had ∷ []) (has ∷ [])
-    stepped_fed (Ok (FedRow.Row row)) c = stepped_one law q m old new had has r (Ok (Some row)) (called (Ok (Some row)) c)
-    stepped_fed (Ok FedRow.End) c = stepped_one law q m old new had has r (Ok None) (called (Ok None) c)
+    stepped_fed (Ok (FedRow.Row row)) c = stepped_one q m old new had has r (Ok (Some row)) (called (Ok (Some row)) c)
+    stepped_fed (Ok FedRow.End) c = stepped_one q m old new had has r (Ok None) (called (Ok None) c)
     stepped_fed (Ok FedRow.NotYet) c = record {
       moves = c.moves;
       reads = record { passed = still_passed c; no_right = r.no_right; goes_on = r.goes_on; rules = subst (RulesOf q Left) (sym c.rules) r.rules };
       needs = c.dry refl;
       open_still = c.answer (was_open old.answer refl c);
     }
-    stepped_fed (Err e) c = stepped_one law q m old new had has r (Err e) (called (Err e) c)
+    stepped_fed (Err e) c = stepped_one q m old new had has r (Err e) (called (Err e) c)
 
 -- ---- the mark
 

@@ -3,7 +3,6 @@ use Rattle.std.proofs.Common.{◌≡◌, ℕ, ◌+◌, List, [], ◌∷◌, ◌+
 use Rattle.saber_plan.specs.declared.rows.Row.{Row}
 use Rattle.saber_plan.specs.declared.windows.Mark.{Mark}
 use Rattle.saber_plan.specs.Trees.{Tree}
-use Rattle.saber_rows.specs.Laws.{MovesGoOn, MergesGoOn}
 use Rattle.saber_dispatch.specs.declared.ends.End.{End}
 use Rattle.saber_dispatch.specs.declared.fed_reader.Got.TheVariants as gots
 use Rattle.saber_dispatch.specs.declared.fed_fill.Progress.TheVariants as parts
@@ -13,10 +12,10 @@ use Rattle.saber_dispatch.specs.Filling.{prepend, Took, Filling}
 use Rattle.saber_dispatch.specs.FedReadings.{NextDry}
 use Rattle.saber_dispatch.proofs.Fillings.{go_on, still_suits}
 
-module _ (law : MovesGoOn) (laws : MergesGoOn) (n : ℕ) (q : Tree) (m mark : Mark) (old mid new : Reading) (had there has : Lefts) (start kept : List Row) (f : Filling n q m mark old mid had there start kept) where
+module _ (n : ℕ) (q : Tree) (m mark : Mark) (old mid new : Reading) (had there has : Lefts) (start kept : List Row) (f : Filling n q m mark old mid had there start kept) where
   took_dry : NextDry q mark mid new there has → Took q m old new had has f.rows
   took_dry d = record {
-    moves = go_on law laws (prepend f.rows) (λ rest. rest) old mid new had there has f.took.moves d.moves;
+    moves = go_on (prepend f.rows) (λ rest. rest) old mid new had there has f.took.moves d.moves;
     fits = f.took.fits;
     ordered = f.took.ordered;
     reads = subst (λ k. Reads q k new) f.mark d.reads;

@@ -21,13 +21,14 @@ use Rattle.saber_dispatch.specs.declared.fed_cutter.FedCutter.{FedCutter}
 use Rattle.saber_dispatch.specs.Readings.{Reading, one, two, reading_of, Suits, ReadMoves}
 use Rattle.saber_dispatch.specs.Filling.{prepend}
 use Rattle.saber_dispatch.specs.Cutting.{Cuts, fresh, end_of, told_end}
-use Rattle.saber_dispatch.specs.Leaving.{GaveAll, FaultsLeaveWholeTasks}
+use Rattle.saber_dispatch.specs.Leaving.{GaveAll}
 use Rattle.saber_plan.specs.Files.{wholes, input_of}
-use Rattle.saber_dispatch.specs.Telling.{AreNear, AreTasks, EndsNear, EndsAs, BlocksAreNear, BlocksAreTasks}
+use Rattle.saber_dispatch.specs.Telling.{AreNear, AreTasks, EndsNear, EndsAs}
 use Rattle.saber_dispatch.specs.FedReadings.{only, SawEnd, EndTold}
 use Rattle.saber_dispatch.specs.Feeding.{Begins, Gave, Agrees, CutsFed}
 use Rattle.saber_dispatch.specs.FeedLaws.{RefillsKeep, FedBlocksAreNear, FedBlocksAreTasks, LeavesWhole, CutsLeaveWholeTasks}
-use Rattle.saber_dispatch.proofs.TaskBlocks.{told_is}
+use Rattle.saber_dispatch.proofs.TaskBlocks.{told_is, near_law as blocks_are_near, law as blocks_are_tasks}
+use Rattle.saber_dispatch.proofs.Leavings.{law as faults_leave_whole_tasks}
 use Rattle.saber_dispatch.proofs.FedBlocks.{none_begun}
 
 same_bytes : (a b : List ℕ) → ◌≡◌ {A = Option (List ℕ)} (Some a) (Some b) → a ≡ b
@@ -159,32 +160,30 @@ refills q s taken taken' waiting waiting' mark mark' c r false k h = stays_keep 
 no_end : (c start : Cutter) → c ≡ record start { reader = c.reader; mark = c.mark } → start.ended ≡ None → end_of c ≡ None
 no_end c start e h = ap (told_end c.flush c.number) (ap (λ (x : Cutter). x.ended) e ∙ h)
 
-module _ (law : BlocksAreNear) where
-  near_of : (q : Tree) (s : Sizes) (taken waiting : List ℕ) (c : Cutter) (r : Input) (o : Option Begun) → Gave q s taken waiting c r o → AreNear q s c r
-  near_of q s taken waiting c r None g = law q s (only taken) (only waiting) c r g
-  near_of q s taken waiting c r (Some b) g = record {
-    given = (law q s (only taken) (only g.there) g.start r g.cuts).given;
-    told = subst (λ (e : Option End). EndsNear q s r e) (sym (no_end c g.start g.same g.goes)) tt;
-  }
+near_of : (q : Tree) (s : Sizes) (taken waiting : List ℕ) (c : Cutter) (r : Input) (o : Option Begun) → Gave q s taken waiting c r o → AreNear q s c r
+near_of q s taken waiting c r None g = blocks_are_near q s (only taken) (only waiting) c r g
+near_of q s taken waiting c r (Some b) g = record {
+  given = (blocks_are_near q s (only taken) (only g.there) g.start r g.cuts).given;
+  told = subst (λ (e : Option End). EndsNear q s r e) (sym (no_end c g.start g.same g.goes)) tt;
+}
 
-  pub near : FedBlocksAreNear
-  near q s taken waiting mark c r k = near_of q s taken waiting c.cutter r c.begun k.gave
+pub near : FedBlocksAreNear
+near q s taken waiting mark c r k = near_of q s taken waiting c.cutter r c.begun k.gave
 
-module _ (law : BlocksAreTasks) where
-  tasks_cut : (q : Tree) (s : Sizes) (all there : List ℕ) (c : Cutter) (r : Input) → Cuts q s (only all) (only there) c r → AreTasks q s c r (input_of q (limits_of s) (all ∷ []))
-  tasks_cut q s all there c r k =
-      law q s (all ∷ []) (only there) c r (read_suits (prepend (r.rows ++ k.dropped)) all there [] (fresh q (limits_of s)) (reading_of c.reader) all k.took.moves) k
+tasks_cut : (q : Tree) (s : Sizes) (all there : List ℕ) (c : Cutter) (r : Input) → Cuts q s (only all) (only there) c r → AreTasks q s c r (input_of q (limits_of s) (all ∷ []))
+tasks_cut q s all there c r k =
+    blocks_are_tasks q s (all ∷ []) (only there) c r (read_suits (prepend (r.rows ++ k.dropped)) all there [] (fresh q (limits_of s)) (reading_of c.reader) all k.took.moves) k
 
-  tasks_of : (q : Tree) (s : Sizes) (taken waiting more : List ℕ) (c : Cutter) (r : Input) (o : Option Begun) → Gave q s taken waiting c r o → (SawEnd (reading_of c.reader) → more ≡ []) → AreTasks q s c r (input_of q (limits_of s) ((taken ++ more) ∷ []))
-  tasks_of q s taken waiting more c r None g none = tasks_cut q s (taken ++ more) (waiting ++ more) c r (cuts_more q s taken more waiting c r g none)
-  tasks_of q s taken waiting more c r (Some b) g none = record {
-    tasks = (tasks_cut q s (taken ++ more) (g.there ++ more) g.start r (start_more q s taken more waiting c r b.before b.rows g none)).tasks;
-    ends = subst (λ (e : Option End). EndsAs q s e r (input_of q (limits_of s) ((taken ++ more) ∷ []))) (sym (no_end c g.start g.same g.goes)) tt;
-  }
+tasks_of : (q : Tree) (s : Sizes) (taken waiting more : List ℕ) (c : Cutter) (r : Input) (o : Option Begun) → Gave q s taken waiting c r o → (SawEnd (reading_of c.reader) → more ≡ []) → AreTasks q s c r (input_of q (limits_of s) ((taken ++ more) ∷ []))
+tasks_of q s taken waiting more c r None g none = tasks_cut q s (taken ++ more) (waiting ++ more) c r (cuts_more q s taken more waiting c r g none)
+tasks_of q s taken waiting more c r (Some b) g none = record {
+  tasks = (tasks_cut q s (taken ++ more) (g.there ++ more) g.start r (start_more q s taken more waiting c r b.before b.rows g none)).tasks;
+  ends = subst (λ (e : Option End). EndsAs q s e r (input_of q (limits_of s) ((taken ++ more) ∷ []))) (sym (no_end c g.start g.same g.goes)) tt;
+}
 
-  pub tasks : FedBlocksAreTasks
-  tasks q s taken waiting all mark c r k g =
-      subst (λ (z : List ℕ). AreTasks q s c.cutter r (input_of q (limits_of s) (z ∷ []))) (sym g.all_is) (tasks_of q s taken waiting g.more c.cutter r c.begun k.gave (λ h. g.ended (k.agrees.seen h)))
+pub tasks : FedBlocksAreTasks
+tasks q s taken waiting all mark c r k g =
+    subst (λ (z : List ℕ). AreTasks q s c.cutter r (input_of q (limits_of s) (z ∷ []))) (sym g.all_is) (tasks_of q s taken waiting g.more c.cutter r c.begun k.gave (λ h. g.ended (k.agrees.seen h)))
 
 -- ---- a feed that was cut off
 
@@ -204,8 +203,8 @@ whole_one q s taken r ts e count parts = record {
   tasks = subst (λ (z : List (List ℕ)). (k : ℕ) → k * s.task ≤ length (input (wholes q (limits_of s) z)).rows → upto s.task r k ≡ upto s.task (going_on (input (wholes q (limits_of s) z)).rows) k) e parts;
 }
 
-pub leave : FaultsLeaveWholeTasks → CutsLeaveWholeTasks
-leave law q s taken waiting mark c r side k e =
+pub leave : CutsLeaveWholeTasks
+leave q s taken waiting mark c r side k e =
     let is = told_is c.cutter.flush c.cutter.number c.cutter.ended (ReadFault side) e in
-    let w = law q s (only taken) (only waiting) c.cutter r side (none_begun q s taken waiting c.cutter r c.begun (ReadFault side) is.0 k.gave).1 e in
+    let w = faults_leave_whole_tasks q s (only taken) (only waiting) c.cutter r side (none_begun q s taken waiting c.cutter r c.begun (ReadFault side) is.0 k.gave).1 e in
     whole_one q s taken r w.taken (gave_one taken waiting w.taken w.left (k.agrees.told (ReadFault side) is.0).0) w.count w.tasks

@@ -12,11 +12,12 @@ use Rattle.saber_plan.specs.GivenRows.{IsRowOf}
 use Rattle.saber_rows.specs.Reader as readers
 use Rattle.saber_rows.specs.Calls.{Moves}
 use Rattle.saber_rows.specs.Merging.{Merger, MergeMoves}
-use Rattle.saber_rows.specs.Laws.{MovesGoOn, ReadersStand, MergesGoOn, MergersStand}
 use Rattle.saber_dispatch.specs.declared.ends.End.{End}
 use Rattle.saber_dispatch.specs.declared.ends.End.TheVariants.{NoMemory}
 use Rattle.saber_dispatch.specs.Readings.{Reading, one, two, Suits, ReadMoves, ReadEnds, Reads, IsOpen, NextRow, NextNone}
 use Rattle.saber_dispatch.specs.Filling.{prepend, Took, Filling, Fills}
+use Rattle.saber_rows.proofs.MergedLaws.{stand_still as mergers_stand, go_on as merges_go_on}
+use Rattle.saber_rows.proofs.Chains.{moves_go_on, readers_stand}
 
 abbrev pub Lefts : Type 0
 Lefts = List (Option (List ℕ))
@@ -57,26 +58,26 @@ head_is x y xs ys e = cc
 second_is : (x y z w : Option (List ℕ)) → ◌≡◌ {A = Lefts} (x ∷ z ∷ []) (y ∷ w ∷ []) → z ≡ w
 second_is x y z w e = cc
 
-pub go_on : MovesGoOn → MergesGoOn → (f g : Read → Read) (a b c : Reading) (h1 h2 h3 : Lefts) → ReadMoves f a b h1 h2 → ReadMoves g b c h2 h3 → ReadMoves (λ rest. f (g rest)) a c h1 h3
-go_on law laws f g (one a) b c h1 h2 h3 m n =
+pub go_on : (f g : Read → Read) (a b c : Reading) (h1 h2 h3 : Lefts) → ReadMoves f a b h1 h2 → ReadMoves g b c h2 h3 → ReadMoves (λ rest. f (g rest)) a c h1 h3
+go_on f g (one a) b c h1 h2 h3 m n =
     let k = one_moved f a b h1 h2 m in
     let l = one_moved g k.new c h2 h3 (subst (λ r. ReadMoves g r c h2 h3) k.new_is n) in
     let same : k.behind ≡ l.left = head_is k.behind l.left [] [] (sym k.has_is ∙ l.had_is) in
     subst (λ r. ReadMoves (λ rest. f (g rest)) (one a) r h1 h3) (sym l.new_is) (subst (λ x. ReadMoves (λ rest. f (g rest)) (one a) (one l.new) x h3) (sym k.had_is) (subst (λ x. ReadMoves (λ rest. f (g rest)) (one a) (one l.new) (k.left ∷ []) x) (sym l.has_is)
-    (law f g a k.new l.new k.left k.behind l.behind k.moves (subst (λ x. Moves g k.new l.new x l.behind) (sym same) l.moves))))
-go_on law laws f g (two a) b c h1 h2 h3 m n =
+    (moves_go_on f g a k.new l.new k.left k.behind l.behind k.moves (subst (λ x. Moves g k.new l.new x l.behind) (sym same) l.moves))))
+go_on f g (two a) b c h1 h2 h3 m n =
     let k = two_moved f a b h1 h2 m in
     let l = two_moved g k.new c h2 h3 (subst (λ r. ReadMoves g r c h2 h3) k.new_is n) in
     let same : k.behind ≡ l.left = head_is k.behind l.left _ _ (sym k.has_is ∙ l.had_is) in
     let same_right : k.behind_right ≡ l.right = second_is k.behind l.left k.behind_right l.right (sym k.has_is ∙ l.had_is) in
     subst (λ r. ReadMoves (λ rest. f (g rest)) (two a) r h1 h3) (sym l.new_is) (subst (λ x. ReadMoves (λ rest. f (g rest)) (two a) (two l.new) x h3) (sym k.had_is) (subst (λ x. ReadMoves (λ rest. f (g rest)) (two a) (two l.new) (k.left ∷ k.right ∷ []) x) (sym l.has_is)
-    (laws f g a k.new l.new k.left k.behind l.behind k.right k.behind_right l.behind_right k.moves
+    (merges_go_on f g a k.new l.new k.left k.behind l.behind k.right k.behind_right l.behind_right k.moves
     (subst (λ x. MergeMoves g k.new l.new x l.behind k.behind_right l.behind_right) (sym same) (subst (λ x. MergeMoves g k.new l.new l.left l.behind x l.behind_right) (sym same_right) l.moves)))))
 
-pub stand : ReadersStand → MergersStand → (r : Reading) (had : Lefts) → Suits r had → ReadMoves (λ rest. rest) r r had had
-stand law laws (one r) (x ∷ []) s = law r x
-stand law laws (two r) (x ∷ y ∷ []) s = laws r x y
-stand law laws r had s = absurd s
+pub stand : (r : Reading) (had : Lefts) → Suits r had → ReadMoves (λ rest. rest) r r had had
+stand (one r) (x ∷ []) s = readers_stand r x
+stand (two r) (x ∷ y ∷ []) s = mergers_stand r x y
+stand r had s = absurd s
 
 -- the reader that moved has as many sources
 pub still_suits : (f : Read → Read) (a b : Reading) (had has : Lefts) → ReadMoves f a b had has → Suits b has
@@ -120,54 +121,54 @@ prepend_both xs ys = λ i rest. record { rows = sym (append_assoc xs ys rest.row
 
 -- ---- rows that were taken
 
-pub took_nothing : ReadersStand → MergersStand → (q : Tree) (m : Mark) (r : Reading) (had : Lefts) → Suits r had → Reads q m r → Took q m r r had had []
-took_nothing law laws q m r had s h = record { moves = stand law laws r had s; fits = tt; ordered = ordered_none m; reads = h }
+pub took_nothing : (q : Tree) (m : Mark) (r : Reading) (had : Lefts) → Suits r had → Reads q m r → Took q m r r had had []
+took_nothing q m r had s h = record { moves = stand r had s; fits = tt; ordered = ordered_none m; reads = h }
 
 -- some and then others
-pub took_on : MovesGoOn → MergesGoOn → (q : Tree) (m : Mark) (a b c : Reading) (h1 h2 h3 : Lefts) (xs ys : List Row) → Took q m a b h1 h2 xs → Took q (mark_after m xs) b c h2 h3 ys → Took q m a c h1 h3 (xs ++ ys)
-took_on law laws q m a b c h1 h2 h3 xs ys t u = record {
-  moves = subst (λ f. ReadMoves f a c h1 h3) (prepend_both xs ys) (go_on law laws (prepend xs) (prepend ys) a b c h1 h2 h3 t.moves u.moves);
+pub took_on : (q : Tree) (m : Mark) (a b c : Reading) (h1 h2 h3 : Lefts) (xs ys : List Row) → Took q m a b h1 h2 xs → Took q (mark_after m xs) b c h2 h3 ys → Took q m a c h1 h3 (xs ++ ys)
+took_on q m a b c h1 h2 h3 xs ys t u = record {
+  moves = subst (λ f. ReadMoves f a c h1 h3) (prepend_both xs ys) (go_on (prepend xs) (prepend ys) a b c h1 h2 h3 t.moves u.moves);
   fits = all_append (IsRowOf q) xs ys t.fits u.fits;
   ordered = ordered_append m xs ys t.ordered u.ordered;
   reads = subst (λ n. Reads q n c) (sym (mark_append m xs ys)) u.reads;
 }
 
 -- and one more
-took_row : MovesGoOn → MergesGoOn → (q : Tree) (m : Mark) (a b c : Reading) (h1 h2 h3 : Lefts) (xs : List Row) (x : Row) → Took q m a b h1 h2 xs → NextRow q (mark_after m xs) x b c h2 h3 → Took q m a c h1 h3 (xs ++ x ∷ [])
-took_row law laws q m a b c h1 h2 h3 xs x t n = record {
-  moves = subst (λ f. ReadMoves f a c h1 h3) (prepend_push xs x) (go_on law laws (prepend xs) (before x) a b c h1 h2 h3 t.moves n.moves);
+took_row : (q : Tree) (m : Mark) (a b c : Reading) (h1 h2 h3 : Lefts) (xs : List Row) (x : Row) → Took q m a b h1 h2 xs → NextRow q (mark_after m xs) x b c h2 h3 → Took q m a c h1 h3 (xs ++ x ∷ [])
+took_row q m a b c h1 h2 h3 xs x t n = record {
+  moves = subst (λ f. ReadMoves f a c h1 h3) (prepend_push xs x) (go_on (prepend xs) (before x) a b c h1 h2 h3 t.moves n.moves);
   fits = all_append (IsRowOf q) xs (x ∷ []) t.fits (n.fits, tt);
   ordered = ordered_append m xs (x ∷ []) t.ordered (ordered_one (mark_after m xs) x n.ordered);
   reads = subst (λ k. Reads q k c) (sym (mark_append m xs (x ∷ []))) n.reads;
 }
 
-took_none : MovesGoOn → MergesGoOn → (q : Tree) (m : Mark) (a b c : Reading) (h1 h2 h3 : Lefts) (xs : List Row) (e : End) → Took q m a b h1 h2 xs → NextNone q (mark_after m xs) e b c h2 h3 → Took q m a c h1 h3 xs
-took_none law laws q m a b c h1 h2 h3 xs e t n = record { moves = go_on law laws (prepend xs) (λ rest. rest) a b c h1 h2 h3 t.moves n.moves; fits = t.fits; ordered = t.ordered; reads = n.reads }
+took_none : (q : Tree) (m : Mark) (a b c : Reading) (h1 h2 h3 : Lefts) (xs : List Row) (e : End) → Took q m a b h1 h2 xs → NextNone q (mark_after m xs) e b c h2 h3 → Took q m a c h1 h3 xs
+took_none q m a b c h1 h2 h3 xs e t n = record { moves = go_on (prepend xs) (λ rest. rest) a b c h1 h2 h3 t.moves n.moves; fits = t.fits; ordered = t.ordered; reads = n.reads }
 
 -- ---- a block's rows
 
-pub filling_nothing : ReadersStand → MergersStand → (q : Tree) (m : Mark) (r : Reading) (had : Lefts) (kept : List Row) → Suits r had → Reads q m r → Filling 0 q m m r r had had kept kept
-filling_nothing law laws q m r had kept s h = record { rows = []; took = took_nothing law laws q m r had s h; mark = refl; kept = sym (append-nil kept); count = refl }
+pub filling_nothing : (q : Tree) (m : Mark) (r : Reading) (had : Lefts) (kept : List Row) → Suits r had → Reads q m r → Filling 0 q m m r r had had kept kept
+filling_nothing q m r had kept s h = record { rows = []; took = took_nothing q m r had s h; mark = refl; kept = sym (append-nil kept); count = refl }
 
 pub filling_reads : (n : ℕ) (q : Tree) (m mark : Mark) (old mid : Reading) (had there : Lefts) (start kept : List Row) → Filling n q m mark old mid had there start kept → Reads q mark mid
 filling_reads n q m mark old mid had there start kept f = subst (λ k. Reads q k mid) (sym f.mark) f.took.reads
 
 -- some rows, and then others
-pub filling_on : MovesGoOn → MergesGoOn → (n k : ℕ) (q : Tree) (m mark after : Mark) (old mid new : Reading) (had there has : Lefts) (start kept more : List Row)
+pub filling_on : (n k : ℕ) (q : Tree) (m mark after : Mark) (old mid new : Reading) (had there has : Lefts) (start kept more : List Row)
     → Filling n q m mark old mid had there start kept → Filling k q mark after mid new there has kept more → Filling (n + k) q m after old new had has start more
-filling_on law laws n k q m mark after old mid new had there has start kept more f g = record {
+filling_on n k q m mark after old mid new had there has start kept more f g = record {
   rows = f.rows ++ g.rows;
-  took = took_on law laws q m old mid new had there has f.rows g.rows f.took (subst (λ x. Took q x mid new there has g.rows) f.mark g.took);
+  took = took_on q m old mid new had there has f.rows g.rows f.took (subst (λ x. Took q x mid new there has g.rows) f.mark g.took);
   mark = g.mark ∙ ap (λ x. mark_after x g.rows) f.mark ∙ sym (mark_append m f.rows g.rows);
   kept = g.kept ∙ ap (λ xs. xs ++ g.rows) f.kept ∙ append_assoc start f.rows g.rows;
   count = omega (arith, length-append f.rows g.rows, f.count, g.count);
 }
 
-module _ (law : MovesGoOn) (laws : MergesGoOn) (n : ℕ) (q : Tree) (m mark : Mark) (old mid new : Reading) (had there has : Lefts) (start kept : List Row) (f : Filling n q m mark old mid had there start kept) where
+module _ (n : ℕ) (q : Tree) (m mark : Mark) (old mid new : Reading) (had there has : Lefts) (start kept : List Row) (f : Filling n q m mark old mid had there start kept) where
   pub filling_more : (after : Mark) (more : List Row) (x : Row) → NextRow q mark x mid new there has → after ≡ step_mark mark x → more ≡ kept ++ x ∷ [] → Filling (n + 1) q m after old new had has start more
   filling_more after more x next e k = record {
     rows = f.rows ++ x ∷ [];
-    took = took_row law laws q m old mid new had there has f.rows x f.took (subst (λ k. NextRow q k x mid new there has) f.mark next);
+    took = took_row q m old mid new had there has f.rows x f.took (subst (λ k. NextRow q k x mid new there has) f.mark next);
     mark = e ∙ ap (λ j. step_mark j x) f.mark ∙ sym (mark_append m f.rows (x ∷ []));
     kept = k ∙ ap (λ l. l ++ x ∷ []) f.kept ∙ append_assoc start f.rows (x ∷ []);
     count = length-append f.rows (x ∷ []) ∙ ap (λ j. j + 1) f.count;
@@ -182,7 +183,7 @@ module _ (law : MovesGoOn) (laws : MergesGoOn) (n : ℕ) (q : Tree) (m mark : Ma
   pub filled_none : (size : ℕ) (e : End) → n < size → NextNone q mark e mid new there has → Fills (Err e) q size m mark old new had has start kept
   filled_none size e less next = record {
     rows = f.rows;
-    took = took_none law laws q m old mid new had there has f.rows e f.took (subst (λ k. NextNone q k e mid new there has) f.mark next);
+    took = took_none q m old mid new had there has f.rows e f.took (subst (λ k. NextNone q k e mid new there has) f.mark next);
     mark = f.mark;
     kept = λ _. f.kept;
     few = omega (arith, f.count, less);
@@ -195,7 +196,7 @@ module _ (law : MovesGoOn) (laws : MergesGoOn) (n : ℕ) (q : Tree) (m mark : Ma
   pub filled_lack : (size : ℕ) (after : Mark) (more : List Row) (x : Row) → n < size → NextRow q mark x mid new there has → after ≡ step_mark mark x → Fills (Err NoMemory) q size m after old new had has start more
   filled_lack size after more x less next e = record {
     rows = f.rows ++ x ∷ [];
-    took = took_row law laws q m old mid new had there has f.rows x f.took (subst (λ k. NextRow q k x mid new there has) f.mark next);
+    took = took_row q m old mid new had there has f.rows x f.took (subst (λ k. NextRow q k x mid new there has) f.mark next);
     mark = e ∙ ap (λ j. step_mark j x) f.mark ∙ sym (mark_append m f.rows (x ∷ []));
     kept = λ k. cc;
     few = omega (arith, f.count, less, length-append f.rows (x ∷ []));

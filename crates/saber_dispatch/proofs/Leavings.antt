@@ -12,7 +12,7 @@ use Rattle.saber_plan.specs.Rows.{Read, whole, rows, cut as unfinished}
 use Rattle.saber_plan.specs.Inputs.{Input, input, merged_read, going_on}
 use Rattle.saber_plan.specs.Trees.{Tree}
 use Rattle.saber_plan.specs.Tasks.{upto}
-use Rattle.saber_laws.specs.Fronts.{IsFirstOf, AllAreFirst, WholeLinesAreFirst, MergesKeepFirst}
+use Rattle.saber_laws.specs.Fronts.{IsFirstOf}
 use Rattle.saber_rows.specs.Reader as readers
 use Rattle.saber_rows.specs.Reader.{new_reader, CanFollow, nothing, NeedsMore}
 use Rattle.saber_rows.specs.Calls.{Moves}
@@ -27,6 +27,7 @@ use Rattle.saber_dispatch.specs.Leaving.{GaveAll, ReadsWhole, FaultsLeaveWholeTa
 use Rattle.saber_dispatch.proofs.Fillings.{one_moved, two_moved}
 use Rattle.saber_dispatch.proofs.NextTasks.{goes_on}
 use Rattle.saber_dispatch.proofs.TaskBlocks.{told_is}
+use Rattle.saber_laws.proofs.FrontLaws.{all_first as all_are_first, merges_first as merges_keep_first, whole_first as whole_lines_are_first}
 
 abbrev Lefts : Type 0
 Lefts = List (Option (List ℕ))
@@ -64,96 +65,95 @@ one_taken q limits ys new had has n m =
 
 -- ---- of two
 
-module _ (all_first : AllAreFirst) (lines_first : WholeLinesAreFirst) (merges_keep : MergesKeepFirst) where
-  two_taken : (q : Tree) (limits : FileLimits) (ys : List Row) (side : Side) (new : Merger) (had has had_right has_right : Option (List ℕ)) → MergeNeeds side new
-      → MergeMoves (prepend ys) (new_merger (new_reader (rules_on q limits Left)) (new_reader (rules_on q limits Right))) new had has had_right has_right → WasTaken q limits (had ∷ had_right ∷ []) (has ∷ has_right ∷ []) ys
-  two_taken q limits ys Left new had has had_right has_right n m =
-      let l = whole (rules_on q limits Left) in
-      let z = m.left.taken in
-      let w = m.right.taken in
-      let all = rows_of (merged_read (l (z ++ [])) (rows (rules_on q limits Right) (w ++ []))) _ ys (m.rest true false [] [] (unended_can new.left.reader n.0.unended) (none_can new.right.reader)) (n.1 [] (none_can new.right.reader)) in
-      let f : IsFirstOf (merged_read (l z) (whole (rules_on q limits Right) w)) (merged_read (l z) (rows (rules_on q limits Right) (w ++ []))) = merges_keep _ _ _ _ (all_first (l z)) (lines_first (rules_on q limits Right) w []).at_end in
-      record {
-        taken = z ∷ w ∷ [];
-        left = (m.left.left, (m.right.left, tt));
-        more = f.rest;
-        front = f.first ∙ ap (λ u. (merged_read (l u) (rows (rules_on q limits Right) (w ++ []))).rows) (sym (append-nil z)) ∙ all;
-      }
-  two_taken q limits ys Right new had has had_right has_right n m =
-      let r = whole (rules_on q limits Right) in
-      let z = m.left.taken in
-      let w = m.right.taken in
-      let all = rows_of (merged_read (rows (rules_on q limits Left) (z ++ [])) (r (w ++ []))) _ ys (m.rest false true [] [] (none_can new.left.reader) (unended_can new.right.reader n.0.unended)) (n.1 [] (none_can new.left.reader)) in
-      let f : IsFirstOf (merged_read (whole (rules_on q limits Left) z) (r w)) (merged_read (rows (rules_on q limits Left) (z ++ [])) (r w)) = merges_keep _ _ _ _ (lines_first (rules_on q limits Left) z []).at_end (all_first (r w)) in
-      record {
-        taken = z ∷ w ∷ [];
-        left = (m.left.left, (m.right.left, tt));
-        more = f.rest;
-        front = f.first ∙ ap (λ u. (merged_read (rows (rules_on q limits Left) (z ++ [])) (r u)).rows) (sym (append-nil w)) ∙ all;
-      }
-
-  -- ---- of either
-
-  right_needs : (r : readers.Reader) (side : Side) → ReadNeeds side (one r) → NeedsMore r
-  right_needs r Left n = n
-  right_needs r Right n = absurd n
-
-  two_needs : (m : Merger) (side : Side) → ReadNeeds side (two m) → MergeNeeds side m
-  two_needs m Left n = n
-  two_needs m Right n = n
-
-  as_one : (q : Tree) (limits : FileLimits) (ys : List Row) (side : Side) (b : Reading) (had has : Lefts) → ReadNeeds side b → ReadMoves (prepend ys) (one (new_reader (rules_on q limits Left))) b had has → WasTaken q limits had has ys
-  as_one q limits ys side b had has n m =
-      let k = one_moved (prepend ys) (new_reader (rules_on q limits Left)) b had has m in
-      let needs : NeedsMore k.new = right_needs k.new side (subst (ReadNeeds side) k.new_is n) in
-      subst (λ x. WasTaken q limits x has ys) (sym k.had_is) (subst (λ x. WasTaken q limits (k.left ∷ []) x ys) (sym k.has_is) (one_taken q limits ys k.new k.left k.behind needs k.moves))
-
-  taken_on : (q : Tree) (limits : FileLimits) (ys : List Row) (side : Side) (streams : List Stream) (b : Reading) (had has : Lefts) → ReadNeeds side b → ReadMoves (prepend ys) (fresh_on q limits streams) b had has → WasTaken q limits had has ys
-  taken_on q limits ys side [] b had has n m = as_one q limits ys side b had has n m
-  taken_on q limits ys side (s ∷ []) b had has n m = as_one q limits ys side b had has n m
-  taken_on q limits ys side (s ∷ t ∷ more) b had has n m =
-      let k = two_moved (prepend ys) (new_merger (new_reader (rules_on q limits Left)) (new_reader (rules_on q limits Right))) b had has m in
-      let needs : MergeNeeds side k.new = two_needs k.new side (subst (ReadNeeds side) k.new_is n) in
-      subst (λ x. WasTaken q limits x has ys) (sym k.had_is) (subst (λ x. WasTaken q limits (k.left ∷ k.right ∷ []) x ys) (sym k.has_is) (two_taken q limits ys side k.new k.left k.behind k.right k.behind_right needs k.moves))
-
-  -- ---- and so of the blocks
-
-  module _ (q : Tree) (s : Sizes) (had has : Lefts) (c : Cutter) (r : Input) (side : Side) (k : Cuts q s had has c r) (off : CutOff s c r k.dropped side) where
-    was : WasTaken q (limits_of s) had has (r.rows ++ k.dropped)
-    was = taken_on q (limits_of s) (r.rows ++ k.dropped) side q.streams (reading_of c.reader) had has off.needs k.took.moves
-
-    abbrev lines : List Row
-    lines = (input (wholes q (limits_of s) was.taken)).rows
-
-    longest : length lines < (c.number + 1) * s.task
-    longest =
-        let all : length lines + length was.more ≡ length r.rows + length k.dropped = sym (length-append lines was.more) ∙ ap length was.front ∙ length-append r.rows k.dropped in
-        let next : (c.number + 1) * s.task ≡ c.number * s.task + s.task = grind arith in
-        omega (arith, all, next, off.whole, off.few)
-
-    within : (j : ℕ) → j * s.task ≤ length lines → j ≤ c.number
-    within j h =
-        let far = longest in
-        let l : j < c.number + 1 = lt_of_mul-lt-mul_right s.task (omega (arith, h, far)) in
-        omega (arith, l)
-
-    same_tasks : (j : ℕ) → j * s.task ≤ length lines → upto s.task r j ≡ upto s.task (going_on lines) j
-    same_tasks j h =
-        let far : j * s.task ≤ length r.rows = omega (arith, mul-le-mul_right s.task (within j h), off.whole) in
-        let here : min (j * s.task) (length r.rows) ≡ j * s.task = omega (arith, far) in
-        let there : j * s.task ≡ min (j * s.task) (length lines) = omega (arith, h) in
-        let parts : take (j * s.task) r.rows ≡ take (j * s.task) lines = sym (take-append-le (j * s.task) r.rows k.dropped far) ∙ ap (take (j * s.task)) (sym was.front) ∙ take-append-le (j * s.task) lines was.more h in
-        ap (λ i. upto s.task i j) (goes_on r off.unended) ∙ ap going_on (ap (λ x. take x r.rows) here ∙ parts ∙ ap (λ x. take x lines) there)
-
-    reads_whole : ReadsWhole q s had has r
-    reads_whole = record {
-      taken = was.taken;
-      left = was.left;
-      count = subst (λ t. length lines / s.task ≤ t) k.count (within (length lines / s.task) (omega (arith, k.sizes.task)));
-      tasks = same_tasks;
+two_taken : (q : Tree) (limits : FileLimits) (ys : List Row) (side : Side) (new : Merger) (had has had_right has_right : Option (List ℕ)) → MergeNeeds side new
+    → MergeMoves (prepend ys) (new_merger (new_reader (rules_on q limits Left)) (new_reader (rules_on q limits Right))) new had has had_right has_right → WasTaken q limits (had ∷ had_right ∷ []) (has ∷ has_right ∷ []) ys
+two_taken q limits ys Left new had has had_right has_right n m =
+    let l = whole (rules_on q limits Left) in
+    let z = m.left.taken in
+    let w = m.right.taken in
+    let all = rows_of (merged_read (l (z ++ [])) (rows (rules_on q limits Right) (w ++ []))) _ ys (m.rest true false [] [] (unended_can new.left.reader n.0.unended) (none_can new.right.reader)) (n.1 [] (none_can new.right.reader)) in
+    let f : IsFirstOf (merged_read (l z) (whole (rules_on q limits Right) w)) (merged_read (l z) (rows (rules_on q limits Right) (w ++ []))) = merges_keep_first _ _ _ _ (all_are_first (l z)) (whole_lines_are_first (rules_on q limits Right) w []).at_end in
+    record {
+      taken = z ∷ w ∷ [];
+      left = (m.left.left, (m.right.left, tt));
+      more = f.rest;
+      front = f.first ∙ ap (λ u. (merged_read (l u) (rows (rules_on q limits Right) (w ++ []))).rows) (sym (append-nil z)) ∙ all;
+    }
+two_taken q limits ys Right new had has had_right has_right n m =
+    let r = whole (rules_on q limits Right) in
+    let z = m.left.taken in
+    let w = m.right.taken in
+    let all = rows_of (merged_read (rows (rules_on q limits Left) (z ++ [])) (r (w ++ []))) _ ys (m.rest false true [] [] (none_can new.left.reader) (unended_can new.right.reader n.0.unended)) (n.1 [] (none_can new.left.reader)) in
+    let f : IsFirstOf (merged_read (whole (rules_on q limits Left) z) (r w)) (merged_read (rows (rules_on q limits Left) (z ++ [])) (r w)) = merges_keep_first _ _ _ _ (whole_lines_are_first (rules_on q limits Left) z []).at_end (all_are_first (r w)) in
+    record {
+      taken = z ∷ w ∷ [];
+      left = (m.left.left, (m.right.left, tt));
+      more = f.rest;
+      front = f.first ∙ ap (λ u. (merged_read (rows (rules_on q limits Left) (z ++ [])) (r u)).rows) (sym (append-nil w)) ∙ all;
     }
 
-  pub law : FaultsLeaveWholeTasks
-  law q s had has c r side k e =
-      let is = told_is c.flush c.number c.ended (ReadFault side) e in
-      reads_whole q s had has c r side k (subst (CutState q s c r k.dropped) is.0 k.state)
+-- ---- of either
+
+right_needs : (r : readers.Reader) (side : Side) → ReadNeeds side (one r) → NeedsMore r
+right_needs r Left n = n
+right_needs r Right n = absurd n
+
+two_needs : (m : Merger) (side : Side) → ReadNeeds side (two m) → MergeNeeds side m
+two_needs m Left n = n
+two_needs m Right n = n
+
+as_one : (q : Tree) (limits : FileLimits) (ys : List Row) (side : Side) (b : Reading) (had has : Lefts) → ReadNeeds side b → ReadMoves (prepend ys) (one (new_reader (rules_on q limits Left))) b had has → WasTaken q limits had has ys
+as_one q limits ys side b had has n m =
+    let k = one_moved (prepend ys) (new_reader (rules_on q limits Left)) b had has m in
+    let needs : NeedsMore k.new = right_needs k.new side (subst (ReadNeeds side) k.new_is n) in
+    subst (λ x. WasTaken q limits x has ys) (sym k.had_is) (subst (λ x. WasTaken q limits (k.left ∷ []) x ys) (sym k.has_is) (one_taken q limits ys k.new k.left k.behind needs k.moves))
+
+taken_on : (q : Tree) (limits : FileLimits) (ys : List Row) (side : Side) (streams : List Stream) (b : Reading) (had has : Lefts) → ReadNeeds side b → ReadMoves (prepend ys) (fresh_on q limits streams) b had has → WasTaken q limits had has ys
+taken_on q limits ys side [] b had has n m = as_one q limits ys side b had has n m
+taken_on q limits ys side (s ∷ []) b had has n m = as_one q limits ys side b had has n m
+taken_on q limits ys side (s ∷ t ∷ more) b had has n m =
+    let k = two_moved (prepend ys) (new_merger (new_reader (rules_on q limits Left)) (new_reader (rules_on q limits Right))) b had has m in
+    let needs : MergeNeeds side k.new = two_needs k.new side (subst (ReadNeeds side) k.new_is n) in
+    subst (λ x. WasTaken q limits x has ys) (sym k.had_is) (subst (λ x. WasTaken q limits (k.left ∷ k.right ∷ []) x ys) (sym k.has_is) (two_taken q limits ys side k.new k.left k.behind k.right k.behind_right needs k.moves))
+
+-- ---- and so of the blocks
+
+module _ (q : Tree) (s : Sizes) (had has : Lefts) (c : Cutter) (r : Input) (side : Side) (k : Cuts q s had has c r) (off : CutOff s c r k.dropped side) where
+  was : WasTaken q (limits_of s) had has (r.rows ++ k.dropped)
+  was = taken_on q (limits_of s) (r.rows ++ k.dropped) side q.streams (reading_of c.reader) had has off.needs k.took.moves
+
+  abbrev lines : List Row
+  lines = (input (wholes q (limits_of s) was.taken)).rows
+
+  longest : length lines < (c.number + 1) * s.task
+  longest =
+      let all : length lines + length was.more ≡ length r.rows + length k.dropped = sym (length-append lines was.more) ∙ ap length was.front ∙ length-append r.rows k.dropped in
+      let next : (c.number + 1) * s.task ≡ c.number * s.task + s.task = grind arith in
+      omega (arith, all, next, off.whole, off.few)
+
+  within : (j : ℕ) → j * s.task ≤ length lines → j ≤ c.number
+  within j h =
+      let far = longest in
+      let l : j < c.number + 1 = lt_of_mul-lt-mul_right s.task (omega (arith, h, far)) in
+      omega (arith, l)
+
+  same_tasks : (j : ℕ) → j * s.task ≤ length lines → upto s.task r j ≡ upto s.task (going_on lines) j
+  same_tasks j h =
+      let far : j * s.task ≤ length r.rows = omega (arith, mul-le-mul_right s.task (within j h), off.whole) in
+      let here : min (j * s.task) (length r.rows) ≡ j * s.task = omega (arith, far) in
+      let there : j * s.task ≡ min (j * s.task) (length lines) = omega (arith, h) in
+      let parts : take (j * s.task) r.rows ≡ take (j * s.task) lines = sym (take-append-le (j * s.task) r.rows k.dropped far) ∙ ap (take (j * s.task)) (sym was.front) ∙ take-append-le (j * s.task) lines was.more h in
+      ap (λ i. upto s.task i j) (goes_on r off.unended) ∙ ap going_on (ap (λ x. take x r.rows) here ∙ parts ∙ ap (λ x. take x lines) there)
+
+  reads_whole : ReadsWhole q s had has r
+  reads_whole = record {
+    taken = was.taken;
+    left = was.left;
+    count = subst (λ t. length lines / s.task ≤ t) k.count (within (length lines / s.task) (omega (arith, k.sizes.task)));
+    tasks = same_tasks;
+  }
+
+pub law : FaultsLeaveWholeTasks
+law q s had has c r side k e =
+    let is = told_is c.flush c.number c.ended (ReadFault side) e in
+    reads_whole q s had has c r side k (subst (CutState q s c r k.dropped) is.0 k.state)

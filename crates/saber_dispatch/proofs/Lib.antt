@@ -1,3 +1,4 @@
+mod EndCounts
 pub mod ReadSteps
 pub mod FedCalls
 pub mod Fillings

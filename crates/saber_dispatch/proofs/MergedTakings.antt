@@ -9,14 +9,13 @@ use Rattle.saber_plan.specs.Rows.{stamp}
 use Rattle.saber_plan.specs.Windows.{by_side, step_mark, mark_after}
 use Rattle.saber_plan.specs.Trees.{Tree}
 use Rattle.saber_plan.specs.GivenRows.{IsRowOf}
-use Rattle.saber_rows.specs.Laws.{MovesGoOn, ReadersStand, MergesGoOn, MergersStand}
 use Rattle.saber_rows.specs.Merging.{Merger}
 use Rattle.saber_rows.specs.MergedRows.{StillGives, MergeStands, MergesOne, MergesRows, TakesMerged}
-use Rattle.saber_window.specs.Laws.{StampsFit}
 use Rattle.saber_dispatch.specs.Readings.{two, Reads, RulesOf, ReadsTwo, NextRow, IsOpen}
 use Rattle.saber_dispatch.specs.Filling.{Filling, TakesOn, prepend}
 use Rattle.saber_dispatch.proofs.ReadSteps.{stepped_two}
 use Rattle.saber_dispatch.proofs.Fillings.{Lefts, go_on, filling_nothing, filling_more, filling_still, filling_reads, small}
+use Rattle.saber_window.proofs.Stamps.{stamps_fit}
 
 -- a step counts one row
 counts_one : (m : Mark) (x : Row) → (step_mark m x).left + (step_mark m x).right ≡ m.left + m.right + 1
@@ -33,7 +32,7 @@ all_so : {A : Type 0} (P Q : A → Type 0) → ((x : A) → P x → Q x) → (xs
 all_so P Q f [] h = tt
 all_so P Q f (x ∷ xs) h = (f x h.0, all_so P Q f xs h.1)
 
-module _ (law : MovesGoOn) (laws : MergesGoOn) (stand : ReadersStand) (stands : MergersStand) (q : Tree) (m : Mark)
+module _ (q : Tree) (m : Mark)
     (old : Merger) (left right : Option (List ℕ)) (had : List Row) (r : ReadsTwo q m old) where
   abbrev here : Lefts
   here = left ∷ right ∷ []
@@ -48,7 +47,7 @@ module _ (law : MovesGoOn) (laws : MergesGoOn) (stand : ReadersStand) (stands : 
   none_taken : (new : Merger) (has : List Row) → new ≡ old → has ≡ had → Taken 0 new has
   none_taken new has e k = record {
     mark = m;
-    filling = filling_still 0 q m m (two old) (two old) (two new) here here had had has (ap two e) k (filling_nothing stand stands q m (two old) here had tt r);
+    filling = filling_still 0 q m m (two old) (two old) (two new) here here had had has (ap two e) k (filling_nothing q m (two old) here had tt r);
     total = omega arith;
     open_still = λ o. subst (λ x. IsOpen (two x)) (sym e) o;
   }
@@ -63,7 +62,7 @@ module _ (law : MovesGoOn) (laws : MergesGoOn) (stand : ReadersStand) (stands : 
     one_more : Taken (n + 1) new has
     one_more = record {
       mark = step_mark t.mark o.row;
-      filling = filling_more law laws n q m t.mark (two old) (two mid) (two new) here here here had there t.filling (step_mark t.mark o.row) has o.row next refl o.put;
+      filling = filling_more n q m t.mark (two old) (two mid) (two new) here here here had there t.filling (step_mark t.mark o.row) has o.row next refl o.put;
       total = omega (arith, counts_one t.mark o.row, t.total);
       open_still = λ _. next.open_still;
     }
@@ -91,7 +90,7 @@ module _ (law : MovesGoOn) (laws : MergesGoOn) (stand : ReadersStand) (stands : 
         filling = record {
           rows = f.rows;
           took = record {
-            moves = go_on law laws (prepend f.rows) (λ rest. rest) (two old) (two mid) (two new) here here here f.took.moves (k.moves left right);
+            moves = go_on (prepend f.rows) (λ rest. rest) (two old) (two mid) (two new) here here here f.took.moves (k.moves left right);
             fits = f.took.fits;
             ordered = f.took.ordered;
             reads = subst (λ x. Reads q x (two new)) f.mark now;
@@ -114,8 +113,8 @@ module _ (law : MovesGoOn) (laws : MergesGoOn) (stand : ReadersStand) (stands : 
     pub few_right : m.right + (length has - from) < 2 ^ 63
     pub times : AllByRecursion (λ x. stamp x.values < 2 ^ 63) (drop from has)
 
-  pub behind : StampsFit → (n from : ℕ) (new : Merger) (has : List Row) → from ≡ length had → TakesMerged n old new had has → Behind n from has
-  behind fit n from new has e t =
+  pub behind : (n from : ℕ) (new : Merger) (has : List Row) → from ≡ length had → TakesMerged n old new had has → Behind n from has
+  behind n from new has e t =
       let k = all_taken n new has t in
       let f = k.filling in
       let s = small q k.mark (two new) (filling_reads n q m k.mark (two old) (two new) here here had has f) in
@@ -125,15 +124,15 @@ module _ (law : MovesGoOn) (laws : MergesGoOn) (stand : ReadersStand) (stands : 
         within = omega (arith, e, long);
         few = omega (arith, e, long, f.count, k.total, s.0, s.1);
         few_right = omega (arith, e, long, f.count, k.total, s.0, s.1);
-        times = subst (AllByRecursion (λ x. stamp x.values < 2 ^ 63)) (sym rows) (all_so (IsRowOf q) (λ x. stamp x.values < 2 ^ 63) (λ x h. omega (arith, fit _ _ x h.fits)) f.rows f.took.fits);
+        times = subst (AllByRecursion (λ x. stamp x.values < 2 ^ 63)) (sym rows) (all_so (IsRowOf q) (λ x. stamp x.values < 2 ^ 63) (λ x h. omega (arith, stamps_fit _ _ x h.fits)) f.rows f.took.fits);
       }
 
-pub takes_merged : MovesGoOn → MergesGoOn → ReadersStand → MergersStand → (m after : Mark) (old new : Merger) (had has : List Row) (n from : ℕ)
+pub takes_merged : (m after : Mark) (old new : Merger) (had has : List Row) (n from : ℕ)
     → from ≡ length had → TakesMerged n old new had has → after ≡ mark_after m (drop from has) → TakesOn n m after (two old) (two new) had has
-takes_merged law laws stand stands m after old new had has n from e t a q (left ∷ right ∷ []) s r =
-    let k = all_taken law laws stand stands q m old left right had r n new has t in
+takes_merged m after old new had has n from e t a q (left ∷ right ∷ []) s r =
+    let k = all_taken q m old left right had r n new has t in
     let f = k.filling in
     let rows : drop from has ≡ f.rows = ap (λ i. drop i has) e ∙ ap (drop (length had)) f.kept ∙ drop_front had f.rows in
     let same : after ≡ k.mark = a ∙ ap (mark_after m) rows ∙ sym f.mark in
     (subst (λ x. Filling n q m x (two old) (two new) (left ∷ right ∷ []) (left ∷ right ∷ []) had has) (sym same) f, k.open_still)
-takes_merged law laws stand stands m after old new had has n from e t a q lefts s r = absurd s
+takes_merged m after old new had has n from e t a q lefts s r = absurd s

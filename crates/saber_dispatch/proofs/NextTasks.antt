@@ -12,10 +12,10 @@ use Rattle.saber_plan.specs.Trees.{Tree}
 use Rattle.saber_plan.specs.Windows.{from}
 use Rattle.saber_plan.specs.Tasks.{upto, row_tasks, task_count}
 use Rattle.saber_plan.specs.Needs.{need, wide, first_number}
-use Rattle.saber_laws.specs.Needs.{NeedsStay}
 use Rattle.saber_dispatch.specs.declared.ends.End.{End}
 use Rattle.saber_dispatch.specs.declared.ends.End.TheVariants.{TooWide}
 use Rattle.saber_dispatch.specs.Cutting.{too_wide}
+use Rattle.saber_laws.proofs.GrowLaws.{need_kept as needs_stay}
 
 -- ---- parts of an input
 
@@ -97,15 +97,15 @@ pub none_wide : (q : Tree) (n room : ℕ) (r : Input) (k : ℕ) → k ≡ task_c
 none_wide q n room r k e h = ap first_number (filter_none (λ t. nat_lt room (need q n r t)) 0 (task_count n r) (λ u l m. is_within room (need q n r u) (h u (omega (arith, m, e)))))
 
 -- what a task needs stays when arrivals follow the tasks up to it
-pub need_stays : NeedsStay → (q : Tree) (n : ℕ) (r more : Input) (d u : ℕ) → 1 ≤ n → upto n more d ≡ r → u ≤ d → need q n r u ≡ need q n more u
-need_stays law q n r more d u some front le = ap (λ i. need q n i u) (sym front) ∙ ap (λ f. u - f + 1) (law q n more d u some le).free_pointer
+pub need_stays : (q : Tree) (n : ℕ) (r more : Input) (d u : ℕ) → 1 ≤ n → upto n more d ≡ r → u ≤ d → need q n r u ≡ need q n more u
+need_stays q n r more d u some front le = ap (λ i. need q n i u) (sym front) ∙ ap (λ f. u - f + 1) (needs_stay q n more d u some le).free_pointer
 
 -- the task behind is the first, where it needs more
-pub first_wide : NeedsStay → (q : Tree) (n room : ℕ) (r more : Input) (t : ℕ) → 1 ≤ n → upto n more t ≡ r → t < task_count n more → ((u : ℕ) → u < t → need q n r u ≤ room) → room < need q n r t → wide q n more room ≡ Some t
-first_wide law q n room r more t some front there h wide =
+pub first_wide : (q : Tree) (n room : ℕ) (r more : Input) (t : ℕ) → 1 ≤ n → upto n more t ≡ r → t < task_count n more → ((u : ℕ) → u < t → need q n r u ≤ room) → room < need q n r t → wide q n more room ≡ Some t
+first_wide q n room r more t some front there h wide =
     first_found (λ u. nat_lt room (need q n more u)) 0 (task_count n more) t (omega arith) (omega (arith, there))
-    (λ u l m. is_within room (need q n more u) (subst (λ x. x ≤ room) (need_stays law q n r more t u some front (omega (arith, m))) (h u m)))
-    (is_beyond room (need q n more t) (subst (λ x. room < x) (need_stays law q n r more t t some front (omega arith)) wide))
+    (λ u l m. is_within room (need q n more u) (subst (λ x. x ≤ room) (need_stays q n r more t u some front (omega (arith, m))) (h u m)))
+    (is_beyond room (need q n more t) (subst (λ x. room < x) (need_stays q n r more t t some front (omega arith)) wide))
 
 -- ---- an end in place of a task
 

@@ -15,9 +15,9 @@ use Rattle.saber_rows.specs.Reader as readers
 use Rattle.saber_rows.specs.Reader.{HasEnd}
 use Rattle.saber_rows.specs.Calls.{EndsBy}
 use Rattle.saber_rows.specs.Heads.{bare, EndedBy, Called, SidePassed}
-use Rattle.saber_rows.specs.Laws.{LinesPass}
 use Rattle.saber_rows.specs.Merging.{Merger, MergeAnswer, MergeTurn, StopsBy}
 use Rattle.saber_dispatch.specs.Readings.{one, two, end_at, answer_one, answer_two, ReadEnds, RulesOf, ReadsOne, ReadsTwo, NextRow, Stepped}
+use Rattle.saber_rows.proofs.MergedLaws.{pass as lines_pass}
 
 pub if_some : {A : Type 0} (P Q : A → Type 0) (o : Option A) → IfSome o P → ((a : A) → P a → Q a) → IfSome o Q
 if_some P Q None h f = tt
@@ -42,13 +42,13 @@ follows m t e h = ap (λ b. not b && in_order m.last t) e ∙ h
 
 -- ---- one input
 
-module _ (law : LinesPass) (q : Tree) (m : Mark) (old new : readers.Reader) (had has : Option (List ℕ)) (r : ReadsOne q m old) where
+module _ (q : Tree) (m : Mark) (old new : readers.Reader) (had has : Option (List ℕ)) (r : ReadsOne q m old) where
   rules_kept : new.rules ≡ old.rules → RulesOf q Left new.rules
   rules_kept e = subst (RulesOf q Left) (sym e) r.rules
 
   row_comes : (row : Row) → Called (Ok (Some row)) old new had has → NextRow q m row (one old) (one new) (had ∷ []) (has ∷ [])
   row_comes row c =
-      let l = law (Ok (Some row)) old new had has c Left m.last m.left r.passed in
+      let l = lines_pass (Ok (Some row)) old new had has c Left m.last m.left r.passed in
       let side : row.side ≡ Left = l.fits.own ∙ l.passed.is_side in
       record {
         moves = c.moves;
@@ -82,8 +82,8 @@ module _ (law : LinesPass) (q : Tree) (m : Mark) (old new : readers.Reader) (had
 
   pub stepped_one : (a : Result (Option Row) RowEnd) → Called a old new had has → Stepped q m (answer_one a) (one old) (one new) (had ∷ []) (has ∷ [])
   stepped_one (Ok (Some row)) c = row_comes row c
-  stepped_one (Ok None) c = let l = law (Ok None) old new had has c Left m.last m.left r.passed in record { moves = c.moves; ends = l.1.0; reads = reads_still l.0 c.rules }
-  stepped_one (Err e) c = let l = law (Err e) old new had has c Left m.last m.left r.passed in record { moves = c.moves; ends = fails e l.0 l.1; reads = reads_still l.0 c.rules }
+  stepped_one (Ok None) c = let l = lines_pass (Ok None) old new had has c Left m.last m.left r.passed in record { moves = c.moves; ends = l.1.0; reads = reads_still l.0 c.rules }
+  stepped_one (Err e) c = let l = lines_pass (Err e) old new had has c Left m.last m.left r.passed in record { moves = c.moves; ends = fails e l.0 l.1; reads = reads_still l.0 c.rules }
 
 -- ---- two
 

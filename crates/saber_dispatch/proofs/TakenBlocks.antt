@@ -1,13 +1,11 @@
 -- A block that is taken back.
-use Rattle.std.proofs.Common.{◌≡◌, ◌≤◌, ◌<◌, ℕ, ◌*◌, length, List, [], ◌++◌, inl, inr, Bool, true, false, ◌||◌, refl, sym, ◌∙◌, ap, subst, append_assoc}
-use Rattle.saber_plan.specs.declared.rows.Row.{Row}
+use Rattle.std.proofs.Common.{◌≡◌, ◌<◌, ℕ, ◌*◌, List, ◌++◌, inl, inr, Bool, true, false, ◌||◌, refl, sym, ◌∙◌, ap, subst, append_assoc}
 use Rattle.saber_plan.specs.declared.sizes.Sizes.{Sizes}
 use Rattle.saber_plan.specs.Sizes.{limits_of}
 use Rattle.saber_plan.specs.Inputs.{Input}
 use Rattle.saber_plan.specs.Rows.{all_read}
 use Rattle.saber_plan.specs.Trees.{Tree}
 use Rattle.saber_plan.specs.Windows.{no_rows}
-use Rattle.saber_plan.specs.Needs.{need}
 use Rattle.std.specs.Prelude.{Option, Some, None}
 use Rattle.saber_io.specs.declared.feeds.EndMark.{EndMark}
 use Rattle.saber_fragment.specs.declared.blocks.Block.{Block}

@@ -11,7 +11,6 @@ use Rattle.saber_rows.specs.declared.ends.RowEnd.{RowEnd}
 use Rattle.saber_rows.specs.Reader as readers
 use Rattle.saber_rows.specs.Calls.{HoldsNext, TakesOne, TakesRows}
 use Rattle.saber_rows.specs.Heads.{Called}
-use Rattle.saber_rows.specs.Laws.{MovesGoOn, ReadersStand, LinesPass, MergesGoOn, MergersStand}
 use Rattle.saber_dispatch.specs.Readings.{Reading, one, Suits, Reads, ReadsOne, NextRow, IsOpen}
 use Rattle.saber_dispatch.specs.Filling.{Filling, TakesOn, prepend}
 use Rattle.saber_dispatch.proofs.ReadSteps.{stepped_one, left_more, right_same}
@@ -37,7 +36,7 @@ called row old new left h = record {
   counted = h.counted;
 }
 
-module _ (pass : LinesPass) (law : MovesGoOn) (laws : MergesGoOn) (stand : ReadersStand) (stands : MergersStand) (q : Tree) (m : Mark)
+module _ (q : Tree) (m : Mark)
     (old : readers.Reader) (left : Option (List ℕ)) (had : List Row) (r : ReadsOne q m old) where
   abbrev here : Lefts
   here = left ∷ []
@@ -54,7 +53,7 @@ module _ (pass : LinesPass) (law : MovesGoOn) (laws : MergesGoOn) (stand : Reade
   none_taken : (new : readers.Reader) (has : List Row) → new ≡ old → has ≡ had → Taken 0 new has
   none_taken new has e k = record {
     mark = m;
-    filling = filling_still 0 q m m (one old) (one old) (one new) here here had had has (ap one e) k (filling_nothing stand stands q m (one old) here had tt r);
+    filling = filling_still 0 q m m (one old) (one old) (one new) here here had had has (ap one e) k (filling_nothing q m (one old) here had tt r);
     left_is = omega arith;
     right_is = refl;
     ended_is = refl;
@@ -66,13 +65,13 @@ module _ (pass : LinesPass) (law : MovesGoOn) (laws : MergesGoOn) (stand : Reade
     reads = filling_reads n q m t.mark (one old) (one mid) here here had there t.filling
 
     next : NextRow q t.mark o.row (one mid) (one new) here here
-    next = stepped_one pass q t.mark mid new left left reads (Ok (Some o.row)) (called o.row mid new left o.holds)
+    next = stepped_one q t.mark mid new left left reads (Ok (Some o.row)) (called o.row mid new left o.holds)
 
     side : o.row.side ≡ Left
     side = o.holds.given.fits.own ∙ reads.passed.is_side
 
     longer : Filling (n + 1) q m (step_mark t.mark o.row) (one old) (one new) here here had has
-    longer = filling_more law laws n q m t.mark (one old) (one mid) (one new) here here here had there t.filling (step_mark t.mark o.row) has o.row next refl o.put
+    longer = filling_more n q m t.mark (one old) (one mid) (one new) here here here had there t.filling (step_mark t.mark o.row) has o.row next refl o.put
 
     one_more : Taken (n + 1) new has
     one_more = record {
@@ -126,18 +125,18 @@ module _ (pass : LinesPass) (law : MovesGoOn) (laws : MergesGoOn) (stand : Reade
     same_mark = ap (step_mark (record { left = count; right = m.right; last = m.last; ended = m.ended })) same_row
         ∙ (λ i. step_mark (record { left = count_is i; right = sym k.right_is i; last = m.last; ended = sym k.ended_is i }) t.3.row)
 
-pub takes_marked : LinesPass → MovesGoOn → MergesGoOn → ReadersStand → MergersStand → (m : Mark) (old new : readers.Reader) (had has : List Row) (n count i : ℕ) (last : Row)
+pub takes_marked : (m : Mark) (old new : readers.Reader) (had has : List Row) (n count i : ℕ) (last : Row)
     → TakesRows n old new had has → n ≢ 0 → count ≡ m.left + (n - 1) → i ≡ length has - 1 → Some last ≡ slice_get has i
     → TakesOn n m (step_mark (record { left = count; right = m.right; last = m.last; ended = m.ended }) last) (one old) (one new) had has
-takes_marked pass law laws stand stands m old new had has n count i last t some e at is q (left ∷ []) s r =
-    let k = marked pass law laws stand stands q m old left had r n new has count i last t some e at is in
+takes_marked m old new had has n count i last t some e at is q (left ∷ []) s r =
+    let k = marked q m old left had r n new has count i last t some e at is in
     (k.filling, λ _. k.open_still)
-takes_marked pass law laws stand stands m old new had has n count i last t some e at is q lefts s r = absurd s
+takes_marked m old new had has n count i last t some e at is q lefts s r = absurd s
 
 -- none came, and nothing changed
-pub takes_none : ReadersStand → MergersStand → (m : Mark) (old new : Reading) (had has : List Row) → new ≡ old → has ≡ had → TakesOn 0 m m old new had has
-takes_none stand stands m old new had has e k q lefts s r =
-    (filling_still 0 q m m old old new lefts lefts had had has e k (filling_nothing stand stands q m old lefts had s r), λ o. subst IsOpen (sym e) o)
+pub takes_none : (m : Mark) (old new : Reading) (had has : List Row) → new ≡ old → has ≡ had → TakesOn 0 m m old new had has
+takes_none m old new had has e k q lefts s r =
+    (filling_still 0 q m m old old new lefts lefts had had has e k (filling_nothing q m old lefts had s r), λ o. subst IsOpen (sym e) o)
 
 -- rows that were read, and then those that were taken as they were held
 pub record Further (n : ℕ) (q : Tree) (m after : Mark) (old new : Reading) (had has : Lefts) (start more : List Row) : Type 0 where
@@ -146,12 +145,12 @@ pub record Further (n : ℕ) (q : Tree) (m after : Mark) (old new : Reading) (ha
   pub suits : Suits new has
   pub reads : Reads q after new
 
-pub further : MovesGoOn → MergesGoOn → (n k : ℕ) (q : Tree) (m mark after : Mark) (old mid new : Reading) (had there : Lefts) (start kept more : List Row)
+pub further : (n k : ℕ) (q : Tree) (m mark after : Mark) (old mid new : Reading) (had there : Lefts) (start kept more : List Row)
     → Filling n q m mark old mid had there start kept → IsOpen mid → Suits mid there → TakesOn k mark after mid new kept more
     → Further (n + k) q m after old new had there start more
-further law laws n k q m mark after old mid new had there start kept more f o s t =
+further n k q m mark after old mid new had there start kept more f o s t =
     let g = t q there s (filling_reads n q m mark old mid had there start kept f) in
-    let both = filling_on law laws n k q m mark after old mid new had there there start kept more f g.0 in
+    let both = filling_on n k q m mark after old mid new had there there start kept more f g.0 in
     record {
       filling = both;
       opened = g.1 o;

@@ -16,11 +16,9 @@ use Rattle.saber_plan.specs.Inputs.{Input, going_on}
 use Rattle.saber_plan.specs.Trees.{Tree}
 use Rattle.saber_plan.specs.Tasks.{upto, row_tasks, task_count, run_input, is_all_read}
 use Rattle.saber_plan.specs.Needs.{need, wide}
-use Rattle.saber_laws.specs.Needs.{NeedsStay}
 use Rattle.saber_rows.specs.Reader as readers
 use Rattle.saber_rows.specs.Reader.{CanFollow, to_come, rest_over, nothing}
 use Rattle.saber_rows.specs.Merging.{merger_over}
-use Rattle.saber_rows.specs.Laws.{ReadersTell, MergesTell}
 use Rattle.saber_dispatch.specs.declared.ends.End.{End}
 use Rattle.saber_dispatch.specs.declared.ends.End.TheVariants.{AllRead, Bad, ReadFault, TooWide, NoMemory}
 use Rattle.saber_dispatch.specs.declared.cutter.Cutter.{Cutter}
@@ -31,6 +29,8 @@ use Rattle.saber_plan.specs.Files.{input_of}
 use Rattle.saber_dispatch.specs.Telling.{IsFirstWide, EndsNear, AreNear, BlocksAreNear, HasAll, EndsAs, AreTasks, BlocksAreTasks}
 use Rattle.saber_plan.specs.Facts.Counts.{later_task}
 use Rattle.saber_dispatch.proofs.NextTasks.{goes_on, upto_rows, upto_end, upto_seam, none_wide, first_wide, need_stays}
+use Rattle.saber_rows.proofs.MergedLaws.{tell as merges_tell}
+use Rattle.saber_rows.proofs.ReaderTexts.{rest_told as readers_tell}
 
 abbrev Lefts : Type 0
 Lefts = List (Option (List ℕ))
@@ -41,10 +41,10 @@ reading_over (one r) (a ∷ []) = rest_over r a
 reading_over (two m) (a ∷ b ∷ []) = merger_over m a b
 reading_over _ _ = None
 
-tells : ReadersTell → MergesTell → (f : Read → Read) (a b : Reading) (had has : Lefts) → ReadMoves f a b had has → reading_over a had ≡ option_map f (reading_over b has)
-tells law laws f (one a) (one b) (x ∷ []) (y ∷ []) m = law f a b x y m
-tells law laws f (two a) (two b) (x ∷ z ∷ []) (y ∷ w ∷ []) m = laws f a b x y z w m
-tells law laws f a b had has m = absurd m
+tells : (f : Read → Read) (a b : Reading) (had has : Lefts) → ReadMoves f a b had has → reading_over a had ≡ option_map f (reading_over b has)
+tells f (one a) (one b) (x ∷ []) (y ∷ []) m = readers_tell f a b x y m
+tells f (two a) (two b) (x ∷ z ∷ []) (y ∷ w ∷ []) m = merges_tell f a b x y z w m
+tells f a b had has m = absurd m
 
 fresh_over : (q : Tree) (limits : FileLimits) (streams : List Stream) (files : List (List ℕ)) → Suits (fresh_on q limits streams) (map Some files) → reading_over (fresh_on q limits streams) (map Some files) ≡ Some (input_of q limits files)
 fresh_over q limits [] (f ∷ []) s = refl
@@ -173,7 +173,7 @@ module _ (q : Tree) (s : Sizes) (had has : Lefts) (c : Cutter) (r : Input) (k : 
   pub given_near : wide q s.task r s.ring ≡ None
   given_near = none_wide q s.task s.ring r c.number k.count k.near
 
-  module _ (law : NeedsStay) (task needs : ℕ) (w : IsTooWide q s c r k.dropped task needs) where
+  module _ (task needs : ℕ) (w : IsTooWide q s c r k.dropped task needs) where
     -- of an input that begins with the tasks of the blocks given, and has one more
     wide_in : (more : Input) → upto s.task more c.number ≡ r → c.number < task_count s.task more → IsFirstWide q s r more task needs
     wide_in more front there =
@@ -182,8 +182,8 @@ module _ (q : Tree) (s : Sizes) (had has : Lefts) (c : Cutter) (r : Input) (k : 
         record {
           behind = ap (upto s.task more) at ∙ front;
           next = at ∙ k.count;
-          first = first_wide law q s.task s.ring r more c.number some_size front there k.near here ∙ ap Some (sym at);
-          needs_is = w.needs_is ∙ ap (need q s.task r) at ∙ need_stays law q s.task r more c.number c.number some_size front (omega arith) ∙ ap (need q s.task more) (sym at);
+          first = first_wide q s.task s.ring r more c.number some_size front there k.near here ∙ ap Some (sym at);
+          needs_is = w.needs_is ∙ ap (need q s.task r) at ∙ need_stays q s.task r more c.number c.number some_size front (omega arith) ∙ ap (need q s.task more) (sym at);
         }
 
     -- and has all that was read, and the end if the task is that
@@ -200,28 +200,27 @@ module _ (q : Tree) (s : Sizes) (had has : Lefts) (c : Cutter) (r : Input) (k : 
         let tasks : row_tasks s.task more ≡ row_tasks s.task r = ap (λ l. row_tasks s.task (going_on l)) same in
         wide_in more (front_of s.task c.number r.rows (k.dropped ++ ys) more some_size (count_rows w.unended) all (inr nothing_more) ∙ sym (goes_on r w.unended)) (omega (arith, with_end more.ended (row_tasks s.task more) (ends refl), tasks, count_rows w.unended))
 
-  module _ (law : NeedsStay) where
-    ends_near : (e : Option End) → end_of c ≡ e → EndsNear q s r e
-    ends_near (Some (TooWide task needs)) h =
-        let is = told_is c.flush c.number c.ended (TooWide task needs) h in
-        let w : IsTooWide q s c r k.dropped task needs = subst (CutState q s c r k.dropped) is.0 k.state in
-        let more : Input = record { rows = r.rows ++ k.dropped; ended = w.ended } in
-        (more, wide_among law task needs w more [] (ap (λ l. r.rows ++ l) (sym (append-nil k.dropped))) (λ d. refl) w.ended w.there (λ d. d) k.whole)
-    ends_near None h = tt
-    ends_near (Some AllRead) h = tt
-    ends_near (Some (Bad side line cause)) h = tt
-    ends_near (Some (ReadFault side)) h = tt
-    ends_near (Some NoMemory) h = tt
+  ends_near : (e : Option End) → end_of c ≡ e → EndsNear q s r e
+  ends_near (Some (TooWide task needs)) h =
+      let is = told_is c.flush c.number c.ended (TooWide task needs) h in
+      let w : IsTooWide q s c r k.dropped task needs = subst (CutState q s c r k.dropped) is.0 k.state in
+      let more : Input = record { rows = r.rows ++ k.dropped; ended = w.ended } in
+      (more, wide_among task needs w more [] (ap (λ l. r.rows ++ l) (sym (append-nil k.dropped))) (λ d. refl) w.ended w.there (λ d. d) k.whole)
+  ends_near None h = tt
+  ends_near (Some AllRead) h = tt
+  ends_near (Some (Bad side line cause)) h = tt
+  ends_near (Some (ReadFault side)) h = tt
+  ends_near (Some NoMemory) h = tt
 
-    pub are_near : AreNear q s c r
-    are_near = record { given = given_near; told = ends_near (end_of c) refl }
+  pub are_near : AreNear q s c r
+  are_near = record { given = given_near; told = ends_near (end_of c) refl }
 
-pub near_law : NeedsStay → BlocksAreNear
-near_law law q s had has c r k = are_near q s had has c r k law
+pub near_law : BlocksAreNear
+near_law q s had has c r k = are_near q s had has c r k
 
 -- ---- over inputs that tell
 
-module _ (law : ReadersTell) (laws : MergesTell) (stay : NeedsStay) (q : Tree) (s : Sizes) (files : List (List ℕ)) (has : Lefts) (c : Cutter) (r : Input) (u : Suits (fresh q (limits_of s)) (map Some files)) (k : Cuts q s (map Some files) has c r) where
+module _ (q : Tree) (s : Sizes) (files : List (List ℕ)) (has : Lefts) (c : Cutter) (r : Input) (u : Suits (fresh q (limits_of s)) (map Some files)) (k : Cuts q s (map Some files) has c r) where
   abbrev all : Read
   all = input_of q (limits_of s) files
 
@@ -229,7 +228,7 @@ module _ (law : ReadersTell) (laws : MergesTell) (stay : NeedsStay) (q : Tree) (
   run = run_input q s.flush all
 
   left_over : Rest (reading_over (reading_of c.reader) has) all (r.rows ++ k.dropped)
-  left_over = rest_of_all _ all (r.rows ++ k.dropped) (sym (fresh_over q (limits_of s) q.streams files u) ∙ tells law laws (prepend (r.rows ++ k.dropped)) (fresh q (limits_of s)) (reading_of c.reader) (map Some files) has k.took.moves)
+  left_over = rest_of_all _ all (r.rows ++ k.dropped) (sym (fresh_over q (limits_of s) q.streams files u) ∙ tells (prepend (r.rows ++ k.dropped)) (fresh q (limits_of s)) (reading_of c.reader) (map Some files) has k.took.moves)
 
   all_rows : all.rows ≡ r.rows ++ (k.dropped ++ left_over.rest.rows)
   all_rows = ap (λ (i : Read). i.rows) left_over.front ∙ append_assoc r.rows k.dropped left_over.rest.rows
@@ -297,7 +296,7 @@ module _ (law : ReadersTell) (laws : MergesTell) (stay : NeedsStay) (q : Tree) (
   ends_by (Some (TooWide task needs)) h =
       let is = told_is c.flush c.number c.ended (TooWide task needs) h in
       let w : IsTooWide q s c r k.dropped task needs = subst (CutState q s c r k.dropped) is.0 k.state in
-      wide_among q s (map Some files) has c r k stay task needs w run left_over.rest.rows all_rows (none_left w.ended w.there) w.ended w.there (end_by w.ended w.there) k.whole where
+      wide_among q s (map Some files) has c r k task needs w run left_over.rest.rows all_rows (none_left w.ended w.there) w.ended w.there (end_by w.ended w.there) k.whole where
         none_left : (e : Bool) → IsThere q s c r k.dropped e → k.dropped ≡ [] → left_over.rest.rows ≡ []
         none_left false t d = absurd (omega (arith, t, ap length d))
         none_left true t d = (ended all_read t.none_dropped t.has_end).2
@@ -310,5 +309,5 @@ module _ (law : ReadersTell) (laws : MergesTell) (stay : NeedsStay) (q : Tree) (
   are_tasks : AreTasks q s c r all
   are_tasks = record { tasks = tasks_by r.ended refl k.flushes; ends = ends_by (end_of c) refl }
 
-pub law : NeedsStay → ReadersTell → MergesTell → BlocksAreTasks
-law stay told laws q s files has c r u k = are_tasks told laws stay q s files has c r u k
+pub law : BlocksAreTasks
+law q s files has c r u k = are_tasks q s files has c r u k

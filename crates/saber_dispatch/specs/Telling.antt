@@ -1,5 +1,5 @@
 -- Blocks over inputs that tell their bytes, and which task is too wide.
-use Rattle.std.specs.Prelude.{◌≡◌, ℕ, List, [], map, Option, Some, None}
+use Rattle.std.specs.Prelude.{◌≡◌, ℕ, List, map, Option, Some, None}
 use Rattle.saber_plan.specs.Sizes.{limits_of}
 use Rattle.saber_plan.specs.declared.sizes.Sizes.{Sizes}
 use Rattle.saber_plan.specs.Rows.{Read, all_read, bad}

@@ -3,7 +3,6 @@ use crate::cutter::{Cut, Cutter, ended_by, stops};
 use crate::ends::End;
 use saber_flat::Rows;
 use saber_plan::Mark;
-use saber_rows::{merges_go_on, moves_go_on};
 
 impl Cutter {
     ghost use Rattle.std.specs.Prelude.{◌≡◌, Err};
@@ -28,8 +27,6 @@ impl Cutter {
         ensures told { (side : Side) → filled ≡ Err (End.ReadFault side) → result ≡ Cut.Ended (End.ReadFault side) }
         ensures lack { filled ≡ Err End.NoMemory → result ≡ Cut.Ended End.NoMemory }
     {
-        moves_go_on();
-        merges_go_on();
         self.ended = ended_by(filled);
         match stops(filled, rows.len()) {
             Some(end) => self.stop_at(end),

@@ -28,10 +28,7 @@ use crate::reader::Reader;
 use saber_flat::{RowBuilder, Rows};
 use saber_fragment::{Block, Earlier};
 use saber_io::Source;
-use saber_laws::{checked_fit, lasts_tell_free, needs_stay, tasks_look_back, tasks_look_on};
 use saber_plan::{Mark, NoMemory, Plan, Sizes};
-use saber_rows::{mergers_stand, merges_go_on, moves_go_on, readers_stand};
-use saber_window::stamps_fit;
 use std::alloc::Global;
 
 // A block has room for so many columns a row at first; with more of them it grows.
@@ -76,8 +73,6 @@ fn look_back(lasts: &mut Option<Lasts>, number: u64, before: &Mark) -> u64
     ensures within { result ≤ number }
     ensures few { number ≤ 2 ^ 41 }
 {
-    lasts_tell_free();
-    tasks_look_back();
     match lasts {
         None => number,
         Some(lasts) => lasts.look_back(before),
@@ -89,9 +84,6 @@ fn note(lasts: &mut Option<Lasts>, before: &Mark, rows: &Rows) -> Result<(), NoM
     requires { MayNote before.now rows.now lasts.old }
     ensures { OnOk result (NotesOn before.now rows.now lasts.old lasts.new) }
 {
-    tasks_look_on();
-    needs_stay();
-    stamps_fit();
     match lasts {
         None => Ok(()),
         Some(lasts) => lasts.note(before, rows),
@@ -182,9 +174,6 @@ impl Cutter {
         ensures fresh { IfOk result (λ c. reading_of c.reader ≡ fresh (tree_of plan.now) (limits_of sizes.now)) }
         ensures unended { IfOk result (λ c. c.ended ≡ None) }
     {
-        checked_fit();
-        readers_stand();
-        mergers_stand();
         let reader = reader_for(alloc, plan, sizes)?;
         Ok(Cutter {
             alloc,
@@ -212,7 +201,6 @@ impl Cutter {
         ensures stays { EndStays self.old self.new }
         ensures read { (side : Side) → result ≢ Cut.Ended (End.ReadFault side) }
     {
-        needs_stay();
         let first = look_back(&mut self.lasts, self.number, &before);
         if let Some(end) = too_wide(self.number, first, self.room) {
             self.ended = Some(end);
@@ -245,7 +233,6 @@ impl Cutter {
         ensures stays { EndStays self.old self.new }
         ensures read { (side : Side) → result ≢ Cut.Ended (End.ReadFault side) }
     {
-        needs_stay();
         let first = look_back(&mut self.lasts, self.number, &self.mark);
         if let Some(end) = too_wide(self.number, first, self.room) {
             self.ended = Some(end);
@@ -273,7 +260,6 @@ impl Cutter {
         ensures due { IfSome result (λ b. is_end_due self.now ≡ true) }
         ensures ends { IfSome result (EndsEach self.now) }
     {
-        needs_stay();
         let end = self.ended?;
         if !is_due(true, self.number, end) {
             return None;
@@ -330,8 +316,6 @@ impl Cutter {
         ensures good { ((side : Side) → result ≢ Cut.Ended (End.ReadFault side)) → each_input S.faults inputs.new ≡ each_input S.faults inputs.old }
         ensures count { NoneFell (each_input S.faults inputs.old) (each_input S.faults inputs.new) }
     {
-        moves_go_on();
-        merges_go_on();
         let room = self.size.saturating_mul(USUAL_COLUMNS);
         let Ok(mut rows) = RowBuilder::with_capacity(self.alloc, self.size, room) else {
             self.ended = Some(End::NoMemory);

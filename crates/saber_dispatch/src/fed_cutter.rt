@@ -9,7 +9,6 @@ use saber_flat::Rows;
 use saber_fragment::Block;
 use saber_io::Feed;
 use saber_plan::{Mark, NoMemory, Plan, Sizes};
-use saber_rows::{mergers_stand, readers_stand};
 use std::alloc::Global;
 
 // A block that isn't whole: what stands before it, and those of its rows that came.
@@ -101,8 +100,6 @@ impl FedCutter {
         ensures none { OnErr result (self.old.begun ≡ None) }
         ensures count { IfOk result (λ b. length b.rows ≡ begun_count self.old.begun) }
     {
-        readers_stand();
-        mergers_stand();
         match self.begun.take() {
             Some(begun) => Ok(begun),
             None => {

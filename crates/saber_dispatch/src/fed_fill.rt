@@ -14,8 +14,7 @@ use crate::reader::Reader;
 use saber_flat::{RowRef, Rows};
 use saber_io::Feed;
 use saber_plan::{Mark, NoMemory, Row};
-use saber_rows::{mergers_stand, merges_go_on, moves_go_on, readers_stand};
-use saber_window::{stamps_fit, step_mark};
+use saber_window::step_mark;
 
 /// What a block has come to.
 #[derive(Drop)]
@@ -57,9 +56,6 @@ pub(crate) fn fill_fed<F: Feed>(
     ensures count { F.faults feed.old ≤ F.faults feed.new }
     ensures stands { (F.taken feed.new ≡ F.taken feed.old) × (F.mark feed.new ≡ F.mark feed.old) }
 {
-    moves_go_on();
-    merges_go_on();
-    stamps_fit();
     'taking: while rows.len() < size {
         match reader.next_fed(feed) {
             Got::Row(row) => {

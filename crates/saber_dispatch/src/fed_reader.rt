@@ -12,7 +12,7 @@ use crate::ends::{End, end_at};
 use crate::reader::Reader;
 use saber_io::Feed;
 use saber_plan::{Row, Side};
-use saber_rows::{FedRow, Lines, RowEnd, lines_pass};
+use saber_rows::{FedRow, Lines, RowEnd};
 
 /// What a reader gives of a feed.
 #[derive(Drop)]
@@ -46,7 +46,6 @@ fn next_of_feed<F: Feed>(lines: &mut Lines, feed: &mut F) -> Got
     ensures count { F.faults feed.old ≤ F.faults feed.new }
     ensures stands { (F.taken feed.new ≡ F.taken feed.old) × (F.mark feed.new ≡ F.mark feed.old) }
 {
-    lines_pass();
     got_of(lines.next_fed(feed))
 }
 

@@ -14,8 +14,7 @@ use crate::reader::Reader;
 use saber_flat::{RowBuilder, RowRef};
 use saber_io::Source;
 use saber_plan::Mark;
-use saber_rows::{mergers_stand, merges_go_on, moves_go_on, readers_stand};
-use saber_window::{stamps_fit, step_mark};
+use saber_window::step_mark;
 
 /// Appends the next rows, until there are so many more, and steps the mark over them.
 pub(crate) fn fill<S: Source>(
@@ -36,11 +35,6 @@ pub(crate) fn fill<S: Source>(
     ensures good { ((side : Side) → result ≢ Err (End.ReadFault side)) → each_input S.faults inputs.new ≡ each_input S.faults inputs.old }
     ensures count { NoneFell (each_input S.faults inputs.old) (each_input S.faults inputs.new) }
 {
-    moves_go_on();
-    merges_go_on();
-    readers_stand();
-    mergers_stand();
-    stamps_fit();
     let mut done = 0;
     while done < size {
         done += reader.take_quick(mark, rows, size - done);

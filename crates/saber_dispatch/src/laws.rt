@@ -4,27 +4,19 @@ ghost use Rattle.saber_dispatch.specs.Supplying.{BlocksAreSupplied};
 ghost use Rattle.saber_dispatch.specs.Leaving.{FaultsLeaveWholeTasks};
 
 use saber_fragment::Operator;
-use saber_laws::{all_are_first, merges_keep_first, needs_stay, whole_lines_are_first};
-use saber_rows::{merges_tell, readers_tell};
 
 /// No block's task is too wide, and a task that is told in place of its block is the first one that
 /// is.
 pub fn blocks_are_near()
     ensures { BlocksAreNear }
-{
-    needs_stay();
-}
+{}
 
 /// Over inputs that tell their bytes, the blocks given so far are the first tasks of the run's
 /// input, in order; an end of all rows is the input's, and a task is too wide where it is the first
 /// such one.
 pub fn blocks_are_tasks()
     ensures { BlocksAreTasks }
-{
-    needs_stay();
-    readers_tell();
-    merges_tell();
-}
+{}
 
 /// A block that is given is the block of its task for the work of threads, and all that was filled
 /// then comes in the tasks up to it.
@@ -36,8 +28,4 @@ pub fn blocks_are_supplied<O: Operator>()
 /// is in a block.
 pub fn faults_leave_whole_tasks()
     ensures { FaultsLeaveWholeTasks }
-{
-    all_are_first();
-    whole_lines_are_first();
-    merges_keep_first();
-}
+{}

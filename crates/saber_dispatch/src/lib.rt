@@ -43,9 +43,7 @@ mod reader;
 pub use cutter::{Cut, Cutter};
 pub use ends::End;
 pub use fed_cutter::{FedCutter, Step};
-pub use fed_laws::{
-    cuts_leave_whole_tasks, fed_blocks_are_near, fed_blocks_are_tasks, refills_keep,
-};
+pub use fed_laws::{cuts_leave_whole_tasks, fed_blocks_are_near, fed_blocks_are_tasks};
 pub use inputs::Inputs;
 pub use keeper::Keeper;
 pub use laws::{blocks_are_near, blocks_are_supplied, blocks_are_tasks, faults_leave_whole_tasks};

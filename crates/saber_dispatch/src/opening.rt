@@ -9,11 +9,7 @@ ghost use Rattle.saber_dispatch.specs.Cutting.{LooksBack, end_counts, fresh};
 use crate::lasts::Lasts;
 use crate::letting::let_lines_go;
 use crate::reader::Reader;
-use saber_laws::{
-    groups_have_one_window, joins_have_two_windows, selections_have_no_window,
-    words_have_one_window,
-};
-use saber_plan::{NoMemory, Plan, Shape, Side, Sizes, Stream};
+use saber_plan::{NoMemory, Plan, Shape, Side, Sizes};
 use saber_rows::{Lines, Merge};
 use saber_window::Windows;
 use std::alloc::Global;
@@ -80,14 +76,11 @@ pub(crate) fn lasts_for(alloc: Global, plan: &Plan) -> Option<Lasts>
 
 /// Whether the end of the input is a task of a checked plan: that is asked for, and the query has
 /// windows.
+#[tactic(auto, using(crate::proofs::EndCounts::counts))]
 pub fn end_counts(plan: &Plan, sizes: &Sizes) -> bool
     requires { IsChecked (tree_of plan.now) }
     ensures { result ≡ end_counts (tree_of plan.now) sizes.now }
 {
-    selections_have_no_window();
-    words_have_one_window();
-    groups_have_one_window();
-    joins_have_two_windows();
     match plan.shape() {
         Shape::Select => match plan.word() {
             None => false,

@@ -8,7 +8,7 @@ ghost use Rattle.saber_rows.specs.declared.ends.RowEnd.{RowEnd};
 ghost use Rattle.saber_dispatch.specs.declared.ends.End.{End};
 ghost use Rattle.saber_rows.specs.Reader.{reader_of};
 ghost use Rattle.saber_rows.specs.Merging.{merger_of};
-ghost use Rattle.saber_dispatch.specs.Readings.{Reading, Reads, one, two, reading_of, answer_one, answer_two, Suits, Steps, FaultsAreReal};
+ghost use Rattle.saber_dispatch.specs.Readings.{Reads, one, two, reading_of, answer_one, answer_two, Suits, Steps, FaultsAreReal};
 ghost use Rattle.saber_dispatch.specs.Filling.{TakesOn};
 ghost use Rattle.saber_dispatch.specs.Sources.{each_input, NoneFell};
 ghost use Rattle.saber_plan.specs.Trees.{Tree};
@@ -18,10 +18,8 @@ use crate::inputs::Inputs;
 use saber_flat::RowBuilder;
 use saber_io::Source;
 use saber_plan::{Mark, Row, Side};
-use saber_rows::{
-    Lines, Merge, RowEnd, lines_pass, mergers_stand, merges_go_on, moves_go_on, readers_stand,
-};
-use saber_window::{stamps_fit, step_mark};
+use saber_rows::{Lines, Merge, RowEnd};
+use saber_window::step_mark;
 
 /// The reader of a query's inputs. Contracts see it as a `Reading`, by `reading_of`.
 #[derive(Drop)]
@@ -60,7 +58,6 @@ fn next_of_one<S: Source>(lines: &mut Lines, inputs: &mut Inputs<S>) -> Result<R
     ensures good { ((side : Side) → result ≢ Err (End.ReadFault side)) → each_input S.faults inputs.new ≡ each_input S.faults inputs.old }
     ensures count { NoneFell (each_input S.faults inputs.old) (each_input S.faults inputs.new) }
 {
-    lines_pass();
     match inputs {
         Inputs::One(source) => answer_one(lines.next(source)),
         Inputs::Two(..) => unreachable!(),
@@ -91,12 +88,6 @@ fn take_of_one(lines: &mut Lines, mark: &mut Mark, out: &mut RowBuilder, most: u
     ensures begun { out.new.begun ≡ [] }
     ensures takes { TakesOn result mark.old mark.new (one (reader_of lines.old)) (one (reader_of lines.new)) out.old.rows out.new.rows }
 {
-    lines_pass();
-    moves_go_on();
-    merges_go_on();
-    readers_stand();
-    mergers_stand();
-    stamps_fit();
     let taken = lines.take_quick(out, most);
     if taken == 0 {
         return 0;
@@ -137,11 +128,6 @@ fn take_of_two(merge: &mut Merge, mark: &mut Mark, out: &mut RowBuilder, most: u
     ensures begun { out.new.begun ≡ [] }
     ensures takes { TakesOn result mark.old mark.new (two (merger_of merge.old)) (two (merger_of merge.new)) out.old.rows out.new.rows }
 {
-    moves_go_on();
-    merges_go_on();
-    readers_stand();
-    mergers_stand();
-    stamps_fit();
     let from = out.len();
     let taken = merge.take_quick(out, most);
     *mark = mark_from(mark, out, from);

@@ -9,6 +9,7 @@ use Rattle.saber_dispatch.specs.Filling.{Filling}
 use Rattle.saber_dispatch.specs.FedReadings.{only, known_of, KnownStep, GotNext, NextDry, GotTold, EndTold}
 use Rattle.saber_dispatch.proofs.Fillings.{filling_reads, filling_more, filled_none, filled_lack, filled_all, small, pushed_ok}
 use Rattle.saber_dispatch.proofs.FedFillings.{filling_dry, filling_suits, one_longer, as_part, row_not_end}
+use Rattle.saber_window.proofs.Stamps.{stamps_fit}
 use Rattle.saber_dispatch.proofs.fed_fill.fill_fed.Goals as goal
 
 pub taking-init : goal.taking-init
@@ -27,7 +28,7 @@ pub next_fed-requires : goal.next_fed-requires
 next_fed-requires g c =
     let (q, m, first, had, f0) = c.requires.filling in
     let f = c.taking.invariant.filling q m first had f0 in
-    filling_suits c.moves_go_on.ensures c.merges_go_on.ensures (length c.taking.rows) q m c.taking.mark first (reading_of c.taking.reader) (reading_of c.taking.reader) had (only (g.F.Feed.waiting c.taking.feed)) (only (g.F.Feed.waiting c.taking.feed)) [] c.taking.rows f
+    filling_suits (length c.taking.rows) q m c.taking.mark first (reading_of c.taking.reader) (reading_of c.taking.reader) had (only (g.F.Feed.waiting c.taking.feed)) (only (g.F.Feed.waiting c.taking.feed)) [] c.taking.rows f
 
 pub step_mark-requires-clause-left : goal.step_mark-requires-clause-left
 step_mark-requires-clause-left g c =
@@ -51,7 +52,7 @@ step_mark-requires-clause-time g c =
     let r = filling_reads (length c.taking.rows) q m c.taking.mark first (reading_of c.taking.reader) had (only (w c.taking.feed)) [] c.taking.rows f in
     let n : NextRow q c.taking.mark c.in-Row.row (reading_of c.taking.reader) (reading_of c.next_fed.new.self) (only (w c.taking.feed)) (only (w c.next_fed.new.feed)) =
     subst (λ (a : Got). GotNext q c.taking.mark a (reading_of c.taking.reader) (reading_of c.next_fed.new.self) (only (w c.taking.feed)) (only (w c.next_fed.new.feed))) c.in-Row.is (c.next_fed.ensures.step q c.taking.mark r) in
-    omega (arith, c.stamps_fit.ensures _ _ c.in-Row.row n.fits.fits, ap (λ (x : Row). stamp x.values) c.of.ensures)
+    omega (arith, stamps_fit _ _ c.in-Row.row n.fits.fits, ap (λ (x : Row). stamp x.values) c.of.ensures)
 
 pub taking-preserved : goal.taking-preserved
 taking-preserved g c =
@@ -72,7 +73,7 @@ taking-preserved g c =
           let r = filling_reads (length c.taking.rows) q m c.taking.mark first old had had1 [] c.taking.rows f in
           let n : NextRow q c.taking.mark c.in-Row.row old new had1 has1 = subst (λ (a : Got). GotNext q c.taking.mark a old new had1 has1) c.in-Row.is (c.next_fed.ensures.step q c.taking.mark r) in
           subst (λ k. Filling k q m c.step_mark.result first new had has1 [] c.push.new.rows) (sym longer)
-          (filling_more c.moves_go_on.ensures c.merges_go_on.ensures (length c.taking.rows) q m c.taking.mark first old new had had1 has1 [] c.taking.rows f c.step_mark.result c.push.new.rows c.in-Row.row n (c.step_mark.ensures ∙ ap (step_mark c.taking.mark) c.of.ensures) e);
+          (filling_more (length c.taking.rows) q m c.taking.mark first old new had had1 has1 [] c.taking.rows f c.step_mark.result c.push.new.rows c.in-Row.row n (c.step_mark.ensures ∙ ap (step_mark c.taking.mark) c.of.ensures) e);
       few = omega (arith, longer, c.taking-test.true, c.len.ensures);
       opened = n0.open_still;
       short = λ m e.
@@ -98,7 +99,7 @@ returns-then-is_err-clause-fills g c q m first had f0 =
     let r = filling_reads (length c.taking.rows) q m c.taking.mark first old had had1 [] c.taking.rows f in
     let n : NextRow q c.taking.mark c.in-Row.row old new had1 has1 = subst (λ (a : Got). GotNext q c.taking.mark a old new had1 has1) c.in-Row.is (c.next_fed.ensures.step q c.taking.mark r) in
     let less : length c.taking.rows < c.args.size = omega (arith, c.taking-test.true, c.len.ensures) in
-    filled_lack c.moves_go_on.ensures c.merges_go_on.ensures (length c.taking.rows) q m c.taking.mark first old new had had1 has1 [] c.taking.rows f c.args.size c.step_mark.result c.push.new.rows c.in-Row.row less n (c.step_mark.ensures ∙ ap (step_mark c.taking.mark) c.of.ensures)
+    filled_lack (length c.taking.rows) q m c.taking.mark first old new had had1 has1 [] c.taking.rows f c.args.size c.step_mark.result c.push.new.rows c.in-Row.row less n (c.step_mark.ensures ∙ ap (step_mark c.taking.mark) c.of.ensures)
 
 pub returns-in-Dry-clause-fills : goal.returns-in-Dry-clause-fills
 returns-in-Dry-clause-fills g c q m first had f0 =
@@ -111,7 +112,7 @@ returns-in-Dry-clause-fills g c q m first had f0 =
     let r = filling_reads (length c.taking.rows) q m c.taking.mark first old had had1 [] c.taking.rows f in
     let n : NextDry q c.taking.mark old new had1 has1 = subst (λ (a : Got). GotNext q c.taking.mark a old new had1 has1) c.in-Dry.is (c.next_fed.ensures.step q c.taking.mark r) in
     record {
-      filling = filling_dry c.moves_go_on.ensures c.merges_go_on.ensures (length c.taking.rows) q m c.taking.mark first old new had had1 has1 [] c.taking.rows f n;
+      filling = filling_dry (length c.taking.rows) q m c.taking.mark first old new had had1 has1 [] c.taking.rows f n;
       few = omega (arith, c.taking-test.true, c.len.ensures);
       needs = n.needs;
       open_still = n.open_still;
@@ -128,7 +129,7 @@ returns-in-Ended-clause-fills g c q m first had f0 =
     let r = filling_reads (length c.taking.rows) q m c.taking.mark first old had had1 [] c.taking.rows f in
     let n : NextNone q c.taking.mark c.in-Ended.end old new had1 has1 = subst (λ (a : Got). GotNext q c.taking.mark a old new had1 has1) c.in-Ended.is (c.next_fed.ensures.step q c.taking.mark r) in
     let less : length c.taking.rows < c.args.size = omega (arith, c.taking-test.true, c.len.ensures) in
-    filled_none c.moves_go_on.ensures c.merges_go_on.ensures (length c.taking.rows) q m c.taking.mark first old new had had1 has1 [] c.taking.rows f c.args.size c.in-Ended.end less n
+    filled_none (length c.taking.rows) q m c.taking.mark first old new had had1 has1 [] c.taking.rows f c.args.size c.in-Ended.end less n
 
 pub returns-clause-fills : goal.returns-clause-fills
 returns-clause-fills g c q m first had f0 =

@@ -2,4 +2,4 @@ use Rattle.saber_dispatch.proofs.FedTasks.{tasks}
 use Rattle.saber_dispatch.proofs.fed_laws.fed_blocks_are_tasks.Goals as goal
 
 pub returns : goal.returns
-returns c = tasks c.blocks_are_tasks.ensures
+returns c = tasks

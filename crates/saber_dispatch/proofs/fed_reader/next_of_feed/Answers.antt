@@ -31,7 +31,7 @@ returns-clause-step g c q m r =
       stays = n.stays;
       counted = n.counted;
     } in
-    subst (λ a. GotNext q m a (one old) (one new) (only w) (only w')) (sym c.got_of.ensures) (stepped_fed old new (Some w) (Some w') c.lines_pass.ensures q m r c.next_fed.result called)
+    subst (λ a. GotNext q m a (one old) (one new) (only w) (only w')) (sym c.got_of.ensures) (stepped_fed old new (Some w) (Some w') q m r c.next_fed.result called)
 
 pub returns-clause-seen : goal.returns-clause-seen
 returns-clause-seen g c = seen_on (reader_of c.args.lines.now) (reader_of c.next_fed.new.self) (g.F.Feed.mark c.args.feed.now) c.next_fed.ensures.marked

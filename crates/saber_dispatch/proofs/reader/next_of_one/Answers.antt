@@ -30,7 +30,7 @@ returns-clause-step g c q m r =
       stays = n.stays;
       counted = n.counted;
     } in
-    let step = stepped_one c.lines_pass.ensures q m old new (left c.in-One.source) (left c.next.new.source) r c.next.result called in
+    let step = stepped_one q m old new (left c.in-One.source) (left c.next.new.source) r c.next.result called in
     subst (λ a. Stepped q m a (one old) (one new) (each_input left c.args.inputs.now) (left c.next.new.source ∷ [])) (sym c.answer_one.ensures)
     (subst (λ i. Stepped q m (answer_one c.next.result) (one old) (one new) (each_input left i) (left c.next.new.source ∷ [])) (sym c.in-One.is) step)
 

@@ -11,30 +11,30 @@ pub put_block-requires : goal.put_block-requires
 put_block-requires c =
     let (q, s, had, has, r, k) = c.requires in
     let h : stops c.args.filled (length c.args.rows) ≡ None = sym (c.stops.ensures ∙ ap (stops c.args.filled) c.len.ensures) ∙ c.in-None.is in
-    (q, s, had, has, r.rows, closed_filled c.moves_go_on.ensures c.merges_go_on.ensures q s had has c.args.self.now r c.args.filled c.args.before c.args.rows k c.ended_by-self.result c.ended_by-self.ensures h)
+    (q, s, had, has, r.rows, closed_filled q s had has c.args.self.now r c.args.filled c.args.before c.args.rows k c.ended_by-self.result c.ended_by-self.ensures h)
 
 pub stop_at-requires-clause-ended : goal.stop_at-requires-clause-ended
 stop_at-requires-clause-ended c =
     let (q, s, had, has, r, k) = c.requires in
     let h : stops c.args.filled (length c.args.rows) ≡ Some c.in-Some.end = sym (c.stops.ensures ∙ ap (stops c.args.filled) c.len.ensures) ∙ c.in-Some.is in
-    (closed_ended c.moves_go_on.ensures c.merges_go_on.ensures q s had has c.args.self.now r c.args.filled c.args.before c.args.rows k c.ended_by-self.result c.in-Some.end c.ended_by-self.ensures h).0
+    (closed_ended q s had has c.args.self.now r c.args.filled c.args.before c.args.rows k c.ended_by-self.result c.in-Some.end c.ended_by-self.ensures h).0
 
 pub stop_at-requires-clause-cuts : goal.stop_at-requires-clause-cuts
 stop_at-requires-clause-cuts c =
     let (q, s, had, has, r, k) = c.requires in
     let h : stops c.args.filled (length c.args.rows) ≡ Some c.in-Some.end = sym (c.stops.ensures ∙ ap (stops c.args.filled) c.len.ensures) ∙ c.in-Some.is in
-    (q, s, had, has, r, (closed_ended c.moves_go_on.ensures c.merges_go_on.ensures q s had has c.args.self.now r c.args.filled c.args.before c.args.rows k c.ended_by-self.result c.in-Some.end c.ended_by-self.ensures h).1)
+    (q, s, had, has, r, (closed_ended q s had has c.args.self.now r c.args.filled c.args.before c.args.rows k c.ended_by-self.result c.in-Some.end c.ended_by-self.ensures h).1)
 
 pub returns-in-Some-clause-cuts : goal.returns-in-Some-clause-cuts
 returns-in-Some-clause-cuts c q s had has r k =
     let h : stops c.args.filled (length c.args.rows) ≡ Some c.in-Some.end = sym (c.stops.ensures ∙ ap (stops c.args.filled) c.len.ensures) ∙ c.in-Some.is in
-    c.stop_at.ensures.cuts q s had has r (closed_ended c.moves_go_on.ensures c.merges_go_on.ensures q s had has c.args.self.now r c.args.filled c.args.before c.args.rows k c.ended_by-self.result c.in-Some.end c.ended_by-self.ensures h).1
+    c.stop_at.ensures.cuts q s had has r (closed_ended q s had has c.args.self.now r c.args.filled c.args.before c.args.rows k c.ended_by-self.result c.in-Some.end c.ended_by-self.ensures h).1
 
 pub returns-in-None-clause-cuts : goal.returns-in-None-clause-cuts
 returns-in-None-clause-cuts c q s had has r k =
     let h : stops c.args.filled (length c.args.rows) ≡ None = sym (c.stops.ensures ∙ ap (stops c.args.filled) c.len.ensures) ∙ c.in-None.is in
-    let cut = c.put_block.ensures.cuts q s had has r.rows (closed_filled c.moves_go_on.ensures c.merges_go_on.ensures q s had has c.args.self.now r c.args.filled c.args.before c.args.rows k c.ended_by-self.result c.ended_by-self.ensures h) in
-    let rows_alone : r ≡ going_on r.rows = closed_rows c.moves_go_on.ensures c.merges_go_on.ensures q s had has c.args.self.now r c.args.filled c.args.before c.args.rows k in
+    let cut = c.put_block.ensures.cuts q s had has r.rows (closed_filled q s had has c.args.self.now r c.args.filled c.args.before c.args.rows k c.ended_by-self.result c.ended_by-self.ensures h) in
+    let rows_alone : r ≡ going_on r.rows = closed_rows q s had has c.args.self.now r c.args.filled c.args.before c.args.rows k in
     subst (λ i. CutTo c.put_block.result q s had has c.put_block.new.self i) (sym rows_alone) cut
 
 pub returns-in-Some-clause-closed : goal.returns-in-Some-clause-closed
@@ -55,7 +55,7 @@ pub returns-in-Some-clause-read : goal.returns-in-Some-clause-read
 returns-in-Some-clause-read c side e =
     let (q, s, had, has, r, k) = c.requires in
     let h : stops c.args.filled (length c.args.rows) ≡ Some c.in-Some.end = sym (c.stops.ensures ∙ ap (stops c.args.filled) c.len.ensures) ∙ c.in-Some.is in
-    let is = (closed_ended c.moves_go_on.ensures c.merges_go_on.ensures q s had has c.args.self.now r c.args.filled c.args.before c.args.rows k c.ended_by-self.result c.in-Some.end c.ended_by-self.ensures h).0 in
+    let is = (closed_ended q s had has c.args.self.now r c.args.filled c.args.before c.args.rows k c.ended_by-self.result c.in-Some.end c.ended_by-self.ensures h).0 in
     ended_is c.args.filled (ReadFault side) (sym c.ended_by-self.ensures ∙ is ∙ ap (λ x. Some x) (c.stop_at.ensures.read side e))
 
 pub returns-in-None-clause-read : goal.returns-in-None-clause-read

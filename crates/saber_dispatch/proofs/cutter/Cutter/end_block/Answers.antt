@@ -9,4 +9,4 @@ returns-clause-ends c =
     let a = c.args.self.now in
     let block : Block = record { number = a.number; first = a.number; earlier = c.none.result; before = a.mark; rows = c.new.result; places = c.new-2.result; ended = true } in
     let due : is_end_due a ≡ true = search rules in
-    ends_each c.needs_stay.ensures a block due refl refl refl c.none.ensures.before c.none.ensures.rows c.new.ensures c.new-2.ensures.items refl
+    ends_each a block due refl refl refl c.none.ensures.before c.none.ensures.rows c.new.ensures c.new-2.ensures.items refl

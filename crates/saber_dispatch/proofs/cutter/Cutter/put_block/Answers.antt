@@ -66,7 +66,7 @@ returns c = record {
       let near = is_near q s had has a xs c.args.before c.args.rows f c.look_back-first.result is (near_end a.number c.look_back-first.result a.room (sym c.too_wide.ensures ∙ c.in_default.is)) in
       let block : Block = record { number = a.number; first = c.look_back-first.result; earlier = c.none.result; before = c.args.before; rows = c.args.rows; places = c.new.result; ended = false } in (
         is_next q s had has a xs c.args.before c.args.rows f block refl refl refl refl is (near_end a.number c.look_back-first.result a.room (sym c.too_wide.ensures ∙ c.in_default.is)) c.none.ensures.before c.none.ensures.rows,
-        given_cuts q s had has a xs c.args.before c.args.rows f c.needs_stay.ensures c.note.new.lasts back near,
+        given_cuts q s had has a xs c.args.before c.args.rows f c.note.new.lasts back near,
       );
   same = λ b e. refl;
   stays = record { reader = refl; all = λ e. e; fault = λ side e. e };

@@ -40,7 +40,7 @@ returns c = record {
       let is = c.look_back-first.ensures.first q s.task r.rows (behind q s had has a r k c.requires.ended c.requires.due) (back q s had has a r k c.requires.ended c.requires.due) in
       let near = end_near q s had has a r k c.requires.ended c.requires.due c.look_back-first.result is (near_end a.number c.look_back-first.result a.room (sym c.too_wide.ensures ∙ c.in_default.is)) in
       let block : Block = record { number = a.number; first = c.look_back-first.result; earlier = c.none.result; before = a.mark; rows = c.new.result; places = c.new-2.result; ended = true } in
-      (end_next q s had has a r k c.requires.ended c.requires.due block c.new.ensures refl near refl refl is c.none.ensures.before c.none.ensures.rows, end_cuts q s had has a r k c.requires.ended c.requires.due block c.new.ensures refl near c.needs_stay.ensures c.look_back-first.new.lasts);
+      (end_next q s had has a r k c.requires.ended c.requires.due block c.new.ensures refl near refl refl is c.none.ensures.before c.none.ensures.rows, end_cuts q s had has a r k c.requires.ended c.requires.due block c.new.ensures refl near c.look_back-first.new.lasts);
   all = λ b e. c.requires.ended;
   stays = record { reader = refl; all = λ e. e; fault = λ side e. e };
   read = λ side e. cc;

@@ -17,7 +17,7 @@ put_block-requires g c =
     let new = c.fill-filled.new in
     let f = c.fill-filled.ensures.fills q (reads_now q s had (l c.args.inputs.now) a r k c.requires.goes) in
     let h : stops c.fill-filled.result (length new.rows.rows) ≡ None = sym (c.stops.ensures ∙ ap (stops c.fill-filled.result) c.len.ensures) ∙ c.in-None.is in
-    let done = is_filled c.moves_go_on.ensures c.merges_go_on.ensures q s had (l c.args.inputs.now) (l new.inputs) a r k c.requires.goes c.fill-filled.result new.reader new.mark c.in-Ok.rows.rows new.rows.rows (ap (λ (b : Building). b.rows) c.in-Ok.ensures) f c.fill-filled.result refl h in (
+    let done = is_filled q s had (l c.args.inputs.now) (l new.inputs) a r k c.requires.goes c.fill-filled.result new.reader new.mark c.in-Ok.rows.rows new.rows.rows (ap (λ (b : Building). b.rows) c.in-Ok.ensures) f c.fill-filled.result refl h in (
       q,
       s,
       had,
@@ -35,7 +35,7 @@ stop_at-requires-clause-ended g c =
     let new = c.fill-filled.new in
     let f = c.fill-filled.ensures.fills q (reads_now q s had (l c.args.inputs.now) a r k c.requires.goes) in
     let h : stops c.fill-filled.result (length new.rows.rows) ≡ Some c.in-Some.end = sym (c.stops.ensures ∙ ap (stops c.fill-filled.result) c.len.ensures) ∙ c.in-Some.is in
-    c.ended_by-self.ensures ∙ (is_ended c.moves_go_on.ensures c.merges_go_on.ensures q s had (l c.args.inputs.now) (l new.inputs) a r k c.requires.goes c.fill-filled.result new.reader new.mark c.in-Ok.rows.rows new.rows.rows (ap (λ (b : Building). b.rows) c.in-Ok.ensures) f c.fill-filled.result c.in-Some.end refl h).0
+    c.ended_by-self.ensures ∙ (is_ended q s had (l c.args.inputs.now) (l new.inputs) a r k c.requires.goes c.fill-filled.result new.reader new.mark c.in-Ok.rows.rows new.rows.rows (ap (λ (b : Building). b.rows) c.in-Ok.ensures) f c.fill-filled.result c.in-Some.end refl h).0
 
 pub stop_at-requires-clause-cuts : goal.stop_at-requires-clause-cuts
 stop_at-requires-clause-cuts g c =
@@ -45,7 +45,7 @@ stop_at-requires-clause-cuts g c =
     let new = c.fill-filled.new in
     let f = c.fill-filled.ensures.fills q (reads_now q s had (l c.args.inputs.now) a r k c.requires.goes) in
     let h : stops c.fill-filled.result (length new.rows.rows) ≡ Some c.in-Some.end = sym (c.stops.ensures ∙ ap (stops c.fill-filled.result) c.len.ensures) ∙ c.in-Some.is in
-    let done = is_ended c.moves_go_on.ensures c.merges_go_on.ensures q s had (l c.args.inputs.now) (l new.inputs) a r k c.requires.goes c.fill-filled.result new.reader new.mark c.in-Ok.rows.rows new.rows.rows (ap (λ (b : Building). b.rows) c.in-Ok.ensures) f c.fill-filled.result c.in-Some.end refl h in
+    let done = is_ended q s had (l c.args.inputs.now) (l new.inputs) a r k c.requires.goes c.fill-filled.result new.reader new.mark c.in-Ok.rows.rows new.rows.rows (ap (λ (b : Building). b.rows) c.in-Ok.ensures) f c.fill-filled.result c.in-Some.end refl h in
     (q, s, had, l new.inputs, r, subst (λ e. Cuts q s had (l new.inputs) (record a { reader = new.reader; mark = new.mark; ended = e }) r) (sym c.ended_by-self.ensures) done.1)
 
 pub returns-in-Some-clause-cuts : goal.returns-in-Some-clause-cuts
@@ -55,7 +55,7 @@ returns-in-Some-clause-cuts g c q s had r k =
     let new = c.fill-filled.new in
     let f = c.fill-filled.ensures.fills q (reads_now q s had (l c.args.inputs.now) a r k c.requires.goes) in
     let h : stops c.fill-filled.result (length new.rows.rows) ≡ Some c.in-Some.end = sym (c.stops.ensures ∙ ap (stops c.fill-filled.result) c.len.ensures) ∙ c.in-Some.is in
-    let done = is_ended c.moves_go_on.ensures c.merges_go_on.ensures q s had (l c.args.inputs.now) (l new.inputs) a r k c.requires.goes c.fill-filled.result new.reader new.mark c.in-Ok.rows.rows new.rows.rows (ap (λ (b : Building). b.rows) c.in-Ok.ensures) f c.fill-filled.result c.in-Some.end refl h in
+    let done = is_ended q s had (l c.args.inputs.now) (l new.inputs) a r k c.requires.goes c.fill-filled.result new.reader new.mark c.in-Ok.rows.rows new.rows.rows (ap (λ (b : Building). b.rows) c.in-Ok.ensures) f c.fill-filled.result c.in-Some.end refl h in
     c.stop_at.ensures.cuts q s had (l new.inputs) r (subst (λ e. Cuts q s had (l new.inputs) (record a { reader = new.reader; mark = new.mark; ended = e }) r) (sym c.ended_by-self.ensures) done.1)
 
 pub returns-in-None-clause-cuts : goal.returns-in-None-clause-cuts
@@ -65,10 +65,10 @@ returns-in-None-clause-cuts g c q s had r k =
     let new = c.fill-filled.new in
     let f = c.fill-filled.ensures.fills q (reads_now q s had (l c.args.inputs.now) a r k c.requires.goes) in
     let h : stops c.fill-filled.result (length new.rows.rows) ≡ None = sym (c.stops.ensures ∙ ap (stops c.fill-filled.result) c.len.ensures) ∙ c.in-None.is in
-    let done = is_filled c.moves_go_on.ensures c.merges_go_on.ensures q s had (l c.args.inputs.now) (l new.inputs) a r k c.requires.goes c.fill-filled.result new.reader new.mark c.in-Ok.rows.rows new.rows.rows (ap (λ (b : Building). b.rows) c.in-Ok.ensures) f c.fill-filled.result refl h in
+    let done = is_filled q s had (l c.args.inputs.now) (l new.inputs) a r k c.requires.goes c.fill-filled.result new.reader new.mark c.in-Ok.rows.rows new.rows.rows (ap (λ (b : Building). b.rows) c.in-Ok.ensures) f c.fill-filled.result refl h in
     let cut = c.put_block.ensures.cuts q s had (l new.inputs) r.rows (subst (λ xs. Filled q s had (l new.inputs) (record a { reader = new.reader; mark = new.mark; ended = c.ended_by-self.result }) r.rows a.mark xs) (sym c.finish.ensures)
     (subst (λ e. Filled q s had (l new.inputs) (record a { reader = new.reader; mark = new.mark; ended = e }) r.rows a.mark new.rows.rows) (sym c.ended_by-self.ensures) done)) in
-    let rows_alone : r ≡ going_on r.rows = is_rows c.moves_go_on.ensures c.merges_go_on.ensures q s had (l c.args.inputs.now) (l new.inputs) a r k c.requires.goes c.fill-filled.result new.reader new.mark c.in-Ok.rows.rows new.rows.rows (ap (λ (b : Building). b.rows) c.in-Ok.ensures) f in
+    let rows_alone : r ≡ going_on r.rows = is_rows q s had (l c.args.inputs.now) (l new.inputs) a r k c.requires.goes c.fill-filled.result new.reader new.mark c.in-Ok.rows.rows new.rows.rows (ap (λ (b : Building). b.rows) c.in-Ok.ensures) f in
     subst (λ i. CutTo c.put_block.result q s had (l new.inputs) c.put_block.new.self i) (sym rows_alone) cut
 
 pub returns-in-Some-clause-good : goal.returns-in-Some-clause-good

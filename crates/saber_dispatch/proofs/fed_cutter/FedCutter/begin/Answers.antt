@@ -10,7 +10,7 @@ pub returns-in_ok-rows-in-None-clause-begins : goal.returns-in_ok-rows-in-None-c
 returns-in_ok-rows-in-None-clause-begins c q s taken w r g =
     let a = c.args.self.now in
     let k = was_none q s taken w a.cutter r a.begun (sym c.take.ensures.value ∙ c.in-None.is) g in
-    begun_new q s taken w a.cutter r k c.requires c.readers_stand.ensures c.mergers_stand.ensures c.in_ok-rows-in-None.rows c.in_ok-rows-in-None.ensures
+    begun_new q s taken w a.cutter r k c.requires c.in_ok-rows-in-None.rows c.in_ok-rows-in-None.ensures
 
 pub returns-in-Some-clause-count : goal.returns-in-Some-clause-count
 returns-in-Some-clause-count c = sym (ap begun_count (sym c.take.ensures.value ∙ c.in-Some.is))
