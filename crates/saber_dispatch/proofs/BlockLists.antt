@@ -17,9 +17,9 @@ use Rattle.saber_dispatch.specs.declared.lasts.Lasts.{Lasts}
 use Rattle.saber_dispatch.specs.Cutting.{KeepsLasts, Behind}
 use Rattle.saber_dispatch.proofs.Fillings.{ordered_append}
 use Rattle.saber_plan.specs.Facts.Counts.{tasks_have_rows, mark_count}
-use Rattle.saber_laws.proofs.LastLaws.{free_by_lasts as lasts_tell_free}
-use Rattle.saber_laws.proofs.GrowLaws.{need_kept as needs_stay}
-use Rattle.saber_laws.proofs.FreeLaws.{free_at_most as tasks_look_back, free_rises as tasks_look_on}
+use Rattle.saber_laws.proofs.LastLaws.{lasts_tell_free}
+use Rattle.saber_laws.proofs.GrowLaws.{needs_stay}
+use Rattle.saber_laws.proofs.FreeLaws.{tasks_look_back, tasks_look_on}
 
 -- ---- numbers in a row
 

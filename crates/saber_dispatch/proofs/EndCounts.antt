@@ -6,7 +6,7 @@ use Rattle.saber_plan.specs.declared.plans.Shape.TheVariants.{Select, Group, Joi
 use Rattle.saber_plan.specs.Trees.{Tree}
 use Rattle.saber_plan.specs.Windows.{has_windows}
 use Rattle.saber_plan.specs.Checked.{IsChecked}
-use Rattle.saber_laws.proofs.CheckedLaws.{selection_has_none as selections_have_no_window, words_have_one as words_have_one_window, group_has_one as groups_have_one_window, join_has_two as joins_have_two_windows}
+use Rattle.saber_laws.proofs.CheckedLaws.{selections_have_no_window, words_have_one_window, groups_have_one_window, joins_have_two_windows}
 use Rattle.saber_dispatch.specs.Cutting.{end_counts}
 
 none_counts : (asked has : Bool) → has ≡ false → false ≡ (asked && has)

@@ -16,7 +16,7 @@ use Rattle.saber_dispatch.specs.declared.ends.End.{End}
 use Rattle.saber_dispatch.specs.declared.ends.End.TheVariants.{NoMemory}
 use Rattle.saber_dispatch.specs.Readings.{Reading, one, two, Suits, ReadMoves, ReadEnds, Reads, IsOpen, NextRow, NextNone}
 use Rattle.saber_dispatch.specs.Filling.{prepend, Took, Filling, Fills}
-use Rattle.saber_rows.proofs.MergedLaws.{stand_still as mergers_stand, go_on as merges_go_on}
+use Rattle.saber_rows.proofs.MergedLaws.{mergers_stand, merges_go_on}
 use Rattle.saber_rows.proofs.Chains.{moves_go_on, readers_stand}
 
 abbrev pub Lefts : Type 0

@@ -27,7 +27,7 @@ use Rattle.saber_dispatch.specs.Leaving.{GaveAll, ReadsWhole, FaultsLeaveWholeTa
 use Rattle.saber_dispatch.proofs.Fillings.{one_moved, two_moved}
 use Rattle.saber_dispatch.proofs.NextTasks.{goes_on}
 use Rattle.saber_dispatch.proofs.TaskBlocks.{told_is}
-use Rattle.saber_laws.proofs.FrontLaws.{all_first as all_are_first, merges_first as merges_keep_first, whole_first as whole_lines_are_first}
+use Rattle.saber_laws.proofs.FrontLaws.{all_are_first, merges_keep_first, whole_lines_are_first}
 
 abbrev Lefts : Type 0
 Lefts = List (Option (List ℕ))

@@ -15,7 +15,7 @@ use Rattle.saber_plan.specs.Needs.{need, wide, first_number}
 use Rattle.saber_dispatch.specs.declared.ends.End.{End}
 use Rattle.saber_dispatch.specs.declared.ends.End.TheVariants.{TooWide}
 use Rattle.saber_dispatch.specs.Cutting.{too_wide}
-use Rattle.saber_laws.proofs.GrowLaws.{need_kept as needs_stay}
+use Rattle.saber_laws.proofs.GrowLaws.{needs_stay}
 
 -- ---- parts of an input
 

@@ -17,7 +17,7 @@ use Rattle.saber_rows.specs.Calls.{EndsBy}
 use Rattle.saber_rows.specs.Heads.{bare, EndedBy, Called, SidePassed}
 use Rattle.saber_rows.specs.Merging.{Merger, MergeAnswer, MergeTurn, StopsBy}
 use Rattle.saber_dispatch.specs.Readings.{one, two, end_at, answer_one, answer_two, ReadEnds, RulesOf, ReadsOne, ReadsTwo, NextRow, Stepped}
-use Rattle.saber_rows.proofs.MergedLaws.{pass as lines_pass}
+use Rattle.saber_rows.proofs.MergedLaws.{lines_pass}
 
 pub if_some : {A : Type 0} (P Q : A → Type 0) (o : Option A) → IfSome o P → ((a : A) → P a → Q a) → IfSome o Q
 if_some P Q None h f = tt

@@ -29,8 +29,8 @@ use Rattle.saber_plan.specs.Files.{input_of}
 use Rattle.saber_dispatch.specs.Telling.{IsFirstWide, EndsNear, AreNear, BlocksAreNear, HasAll, EndsAs, AreTasks, BlocksAreTasks}
 use Rattle.saber_plan.specs.Facts.Counts.{later_task}
 use Rattle.saber_dispatch.proofs.NextTasks.{goes_on, upto_rows, upto_end, upto_seam, none_wide, first_wide, need_stays}
-use Rattle.saber_rows.proofs.MergedLaws.{tell as merges_tell}
-use Rattle.saber_rows.proofs.ReaderTexts.{rest_told as readers_tell}
+use Rattle.saber_rows.proofs.MergedLaws.{merges_tell}
+use Rattle.saber_rows.proofs.ReaderTexts.{readers_tell}
 
 abbrev Lefts : Type 0
 Lefts = List (Option (List ℕ))

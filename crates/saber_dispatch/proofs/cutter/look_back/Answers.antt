@@ -3,7 +3,7 @@ use Rattle.saber_plan.specs.Inputs.{going_on}
 use Rattle.saber_plan.specs.Needs.{free}
 use Rattle.saber_dispatch.specs.Cutting.{LooksBack, KeepsLasts}
 use Rattle.saber_dispatch.proofs.BlockLists.{small, told, looked}
-use Rattle.saber_laws.proofs.FreeLaws.{free_at_most as tasks_look_back}
+use Rattle.saber_laws.proofs.FreeLaws.{tasks_look_back}
 use Rattle.saber_dispatch.proofs.cutter.look_back.Goals as goal
 
 pub look_back-requires : goal.look_back-requires

@@ -2,7 +2,7 @@ use Rattle.std.proofs.Common.{None, false, refl, ◌∙◌}
 use Rattle.saber_plan.specs.Trees.{tree_of}
 use Rattle.saber_dispatch.proofs.Beginning.{cuts_nothing}
 use Rattle.saber_dispatch.proofs.Serving.{back_alone}
-use Rattle.saber_laws.proofs.CheckedLaws.{checked_fits as checked_fit}
+use Rattle.saber_laws.proofs.CheckedLaws.{checked_fit}
 use Rattle.saber_dispatch.proofs.cutter.Cutter.new.Goals as goal
 
 pub returns-clause-cuts : goal.returns-clause-cuts
