@@ -10,7 +10,7 @@ ghost use Rattle.saber_engine.specs.FedSupplying.{feed_seen, fed_standing, FedAt
 
 use saber_assembly::SaberWork;
 use saber_crew::{Supplied, Supply};
-use saber_dispatch::{End, FedCutter, Keeper, Step, blocks_are_supplied, refills_keep};
+use saber_dispatch::{End, FedCutter, Keeper, Step};
 use saber_fragment::{Block, Operator};
 use saber_io::{Feed, Sink};
 use saber_plan::{NoMemory, Plan, Sizes};
@@ -107,8 +107,6 @@ fn try_next<F: Feed, J: BeginsFed, O: Operator>(
     ensures over { result ≡ Some Supplied.Over → IsSome blocks.new.end }
     ensures goes { result ≡ None → blocks.new.end ≡ None }
 {
-    blocks_are_supplied::<O>();
-    refills_keep();
     match blocks.cutter.step(feed) {
         Step::Block(block) => {
             let number = block.number;

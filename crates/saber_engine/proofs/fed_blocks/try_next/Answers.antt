@@ -29,7 +29,7 @@ returns-in-Ok-clause-gives g c told d h =
     record { on = n.cuts; taken_is = n.stands.0; mark_is = n.stands.1; again = λ x e. (if_some _ _ x e n.again).0; cause = n.cause; sound = n.sound; good = n.good; count = n.count; none = n.none } in
     let p = c.in-Ok.ensures in
     let passes : Passes c.args.blocks.now.keeper c.in-Block.block c.in-Ok.block c.pass_on.new.self = record { same = p.same; gives = p.gives; keeps = p.keeps; places = p.places } in
-    block_given g.O.Operator.plan g.J.BeginsFed.sizes g.J.BeginsFed.faults v w old new c.args.blocks.now.keeper c.args.blocks.now.end c.requires.goes c.step.result called told d h c.blocks_are_supplied.ensures c.in-Block.block c.in-Ok.block c.pass_on.new.self c.in-Block.is passes
+    block_given g.O.Operator.plan g.J.BeginsFed.sizes g.J.BeginsFed.faults v w old new c.args.blocks.now.keeper c.args.blocks.now.end c.requires.goes c.step.result called told d h c.in-Block.block c.in-Ok.block c.pass_on.new.self c.in-Block.is passes
 
 pub returns-in-Err-clause-gives : goal.returns-in-Err-clause-gives
 returns-in-Err-clause-gives g c told d h =
@@ -57,7 +57,7 @@ returns-then-refill-clause-gives g c told d h =
     let old = c.args.blocks.now.cutter in let new = c.step.new.self in let k = c.args.blocks.now.keeper in let end = c.args.blocks.now.end in
     let called : Stepped v w old new c.step.result =
     record { on = n.cuts; taken_is = n.stands.0; mark_is = n.stands.1; again = λ x e. (if_some _ _ x e n.again).0; cause = n.cause; sound = n.sound; good = n.good; count = n.count; none = n.none } in
-    refilled c.refills_keep.ensures plan s before w x new k end c.refill.result c.refill.ensures.more c.refill.ensures.count told d (dry plan s before v w old new k end c.requires.goes c.step.result called told d h c.in-Dry.is)
+    refilled plan s before w x new k end c.refill.result c.refill.ensures.more c.refill.ensures.count told d (dry plan s before v w old new k end c.requires.goes c.step.result called told d h c.in-Dry.is)
 
 pub returns-else-refill-clause-gives : goal.returns-else-refill-clause-gives
 returns-else-refill-clause-gives g c told d h =
@@ -67,4 +67,4 @@ returns-else-refill-clause-gives g c told d h =
     let old = c.args.blocks.now.cutter in let new = c.step.new.self in let k = c.args.blocks.now.keeper in let end = c.args.blocks.now.end in
     let called : Stepped v w old new c.step.result =
     record { on = n.cuts; taken_is = n.stands.0; mark_is = n.stands.1; again = λ x e. (if_some _ _ x e n.again).0; cause = n.cause; sound = n.sound; good = n.good; count = n.count; none = n.none } in
-    refilled c.refills_keep.ensures plan s before w x new k end c.refill.result c.refill.ensures.more c.refill.ensures.count told d (dry plan s before v w old new k end c.requires.goes c.step.result called told d h c.in-Dry.is)
+    refilled plan s before w x new k end c.refill.result c.refill.ensures.more c.refill.ensures.count told d (dry plan s before v w old new k end c.requires.goes c.step.result called told d h c.in-Dry.is)
