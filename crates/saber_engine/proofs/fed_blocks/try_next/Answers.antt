@@ -1,4 +1,5 @@
-use Rattle.std.proofs.Common.{subst}
+use Rattle.std.proofs.Common.{◌∙◌, sym, subst}
+use Rattle.saber_engine.proofs.FedDry.{adds_came, stays_dry}
 use Rattle.saber_dispatch.specs.Feeding.{StepTo}
 use Rattle.saber_assembly.specs.Works.{input_of}
 use Rattle.saber_engine.specs.FedSupplying.{FeedView, feed_seen}
@@ -68,3 +69,13 @@ returns-else-refill-clause-gives g c told d h =
     let called : Stepped v w old new c.step.result =
     record { on = n.cuts; taken_is = n.stands.0; mark_is = n.stands.1; again = λ x e. (if_some _ _ x e n.again).0; cause = n.cause; sound = n.sound; good = n.good; count = n.count; none = n.none } in
     refilled plan s before w x new k end c.refill.result c.refill.ensures.more c.refill.ensures.count told d (dry plan s before v w old new k end c.requires.goes c.step.result called told d h c.in-Dry.is)
+
+pub returns-else-refill-clause-dry : goal.returns-else-refill-clause-dry
+returns-else-refill-clause-dry g c e =
+    let f = g.F.Feed in let s = c.step.new.feed in let x = c.refill.new.self in let d = c.step.ensures.dry c.in-Dry.is in
+    stays_dry (f.taken s) (f.taken x) (f.waiting s) (f.waiting x) (f.mark s) (f.mark x) c.refill.result c.refill.ensures.more c.if-refill.false d
+
+pub returns-then-refill-clause-came : goal.returns-then-refill-clause-came
+returns-then-refill-clause-came g c e =
+    let f = g.F.Feed in let s = c.step.new.feed in let x = c.refill.new.self in let d = c.step.ensures.dry c.in-Dry.is in let n = c.step.ensures.stands in
+    (sym n.1 ∙ d.1, adds_came (f.taken c.args.feed.now) (f.taken s) (f.taken x) (f.waiting s) (f.waiting x) (f.mark s) (f.mark x) c.refill.result c.refill.ensures.more c.if-refill.true n.0 d.0)
