@@ -25,9 +25,6 @@ use crate::second::run_second;
 use crate::settle::settle;
 use saber_engine::{Inputs, RunEnd};
 use saber_io::{Gate, Sink, Source};
-use saber_laws::{
-    checked_fit, no_rows_give_nothing, no_tasks_no_rows, none_is_wide, tasks_make_all,
-};
 use saber_pipe::{Pipe, PipeName};
 use saber_plan::{Plan, Sizes};
 use std::alloc::Global;
@@ -188,11 +185,6 @@ pub fn chain<
     ensures write_good { result.second ≢ RunEnd.WriteFault → K.faults result.sink ≡ K.faults sink }
     ensures writes { K.faults sink ≤ K.faults result.sink }
 {
-    checked_fit();
-    no_rows_give_nothing();
-    no_tasks_no_rows();
-    none_is_wide();
-    tasks_make_all();
     match Pipe::new(alloc) {
         Ok(mut pipe) => {
             let alone = AtomicBool::new(false);

@@ -11,10 +11,9 @@ use crate::ends::{Ran, ended};
 use crate::ring_size::ring_size;
 use saber_assembly::{SaberWork, Stage};
 use saber_crew::{Over, run};
-use saber_dispatch::{Inputs, blocks_are_tasks, faults_leave_whole_tasks};
+use saber_dispatch::Inputs;
 use saber_fragment::Operator;
 use saber_io::{Gate, Pour, Source};
-use saber_laws::{checked_fit, first_of_first, no_rows_give_nothing, no_tasks_no_rows};
 use saber_plan::{Plan, Sizes};
 use std::alloc::Global;
 use std::marker::Brand;
@@ -51,12 +50,6 @@ where
     requires begins { (J.sizes ≡ sizes.now) × (J.lefts ≡ each_input S.left inputs.old) × (J.faults ≡ each_input S.faults inputs.old) }
     ensures { RunsPlan S.left S.faults K.written K.faults (tree_of plan.now) sizes.now inputs.old inputs.new sink result }
 {
-    checked_fit();
-    no_rows_give_nothing();
-    no_tasks_no_rows();
-    first_of_first();
-    blocks_are_tasks();
-    faults_leave_whole_tasks();
     let stage = Stage::new(alloc, operator, sink);
     let Ok(begun) = Blocks::<S, J>::new(alloc, plan, sizes) else {
         return ended(stage, Over::NoMemory, None);
