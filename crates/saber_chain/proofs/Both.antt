@@ -22,9 +22,9 @@ use Rattle.saber_plan.specs.Windows.{Fits}
 use Rattle.saber_plan.specs.Needs.{wide, first_open}
 use Rattle.saber_pipe.specs.Receipts.{Settled}
 use Rattle.saber_laws.proofs.FlushLaws.{tasks_make_all}
-use Rattle.saber_laws.proofs.WideLaws.{none_wide as none_is_wide}
-use Rattle.saber_laws.proofs.StepLaws.{none_gives_nothing as no_rows_give_nothing}
-use Rattle.saber_laws.proofs.TaskCutLaws.{no_cut as no_tasks_no_rows}
+use Rattle.saber_laws.proofs.WideLaws.{none_is_wide}
+use Rattle.saber_laws.proofs.StepLaws.{no_rows_give_nothing}
+use Rattle.saber_laws.proofs.TaskCutLaws.{no_tasks_no_rows}
 use Rattle.saber_dispatch.specs.declared.inputs.Inputs.{Inputs}
 use Rattle.saber_dispatch.specs.declared.inputs.Inputs.TheVariants.{One, Two}
 use Rattle.saber_plan.specs.declared.ends.RunEnd.{RunEnd}

@@ -27,8 +27,8 @@ use Rattle.saber_dispatch.specs.Telling.{AreNear, AreTasks, EndsNear, EndsAs}
 use Rattle.saber_dispatch.specs.FedReadings.{only, SawEnd, EndTold}
 use Rattle.saber_dispatch.specs.Feeding.{Begins, Gave, Agrees, CutsFed}
 use Rattle.saber_dispatch.specs.FeedLaws.{RefillsKeep, FedBlocksAreNear, FedBlocksAreTasks, LeavesWhole, CutsLeaveWholeTasks}
-use Rattle.saber_dispatch.proofs.TaskBlocks.{told_is, near_law as blocks_are_near, law as blocks_are_tasks}
-use Rattle.saber_dispatch.proofs.Leavings.{law as faults_leave_whole_tasks}
+use Rattle.saber_dispatch.proofs.TaskBlocks.{told_is, blocks_are_near, blocks_are_tasks}
+use Rattle.saber_dispatch.proofs.Leavings.{faults_leave_whole_tasks}
 use Rattle.saber_dispatch.proofs.FedBlocks.{none_begun}
 
 same_bytes : (a b : List ℕ) → ◌≡◌ {A = Option (List ℕ)} (Some a) (Some b) → a ≡ b
@@ -151,9 +151,9 @@ stays_keep taken taken' waiting waiting' mark mark' h q s c r k =
     subst (λ (t : List ℕ). CutsFed q s t waiting' mark' c r) (sym h.taken_is) (subst (λ (w : List ℕ). CutsFed q s taken w mark' c r) (sym h.waiting_is)
     (subst (λ (m : Option EndMark). CutsFed q s taken waiting m c r) (sym h.mark_is) k))
 
-pub refills : RefillsKeep
-refills q s taken taken' waiting waiting' mark mark' c r true k h = adds_keep taken taken' waiting waiting' mark mark' h q s c r k
-refills q s taken taken' waiting waiting' mark mark' c r false k h = stays_keep taken taken' waiting waiting' mark mark' h q s c r k
+pub refills_keep : RefillsKeep
+refills_keep q s taken taken' waiting waiting' mark mark' c r true k h = adds_keep taken taken' waiting waiting' mark mark' h q s c r k
+refills_keep q s taken taken' waiting waiting' mark mark' c r false k h = stays_keep taken taken' waiting waiting' mark mark' h q s c r k
 
 -- ---- a file that goes on
 
@@ -167,8 +167,8 @@ near_of q s taken waiting c r (Some b) g = record {
   told = subst (λ (e : Option End). EndsNear q s r e) (sym (no_end c g.start g.same g.goes)) tt;
 }
 
-pub near : FedBlocksAreNear
-near q s taken waiting mark c r k = near_of q s taken waiting c.cutter r c.begun k.gave
+pub fed_blocks_are_near : FedBlocksAreNear
+fed_blocks_are_near q s taken waiting mark c r k = near_of q s taken waiting c.cutter r c.begun k.gave
 
 tasks_cut : (q : Tree) (s : Sizes) (all there : List ℕ) (c : Cutter) (r : Input) → Cuts q s (only all) (only there) c r → AreTasks q s c r (input_of q (limits_of s) (all ∷ []))
 tasks_cut q s all there c r k =
@@ -181,8 +181,8 @@ tasks_of q s taken waiting more c r (Some b) g none = record {
   ends = subst (λ (e : Option End). EndsAs q s e r (input_of q (limits_of s) ((taken ++ more) ∷ []))) (sym (no_end c g.start g.same g.goes)) tt;
 }
 
-pub tasks : FedBlocksAreTasks
-tasks q s taken waiting all mark c r k g =
+pub fed_blocks_are_tasks : FedBlocksAreTasks
+fed_blocks_are_tasks q s taken waiting all mark c r k g =
     subst (λ (z : List ℕ). AreTasks q s c.cutter r (input_of q (limits_of s) (z ∷ []))) (sym g.all_is) (tasks_of q s taken waiting g.more c.cutter r c.begun k.gave (λ h. g.ended (k.agrees.seen h)))
 
 -- ---- a feed that was cut off
@@ -203,8 +203,8 @@ whole_one q s taken r ts e count parts = record {
   tasks = subst (λ (z : List (List ℕ)). (k : ℕ) → k * s.task ≤ length (input (wholes q (limits_of s) z)).rows → upto s.task r k ≡ upto s.task (going_on (input (wholes q (limits_of s) z)).rows) k) e parts;
 }
 
-pub leave : CutsLeaveWholeTasks
-leave q s taken waiting mark c r side k e =
+pub cuts_leave_whole_tasks : CutsLeaveWholeTasks
+cuts_leave_whole_tasks q s taken waiting mark c r side k e =
     let is = told_is c.cutter.flush c.cutter.number c.cutter.ended (ReadFault side) e in
     let w = faults_leave_whole_tasks q s (only taken) (only waiting) c.cutter r side (none_begun q s taken waiting c.cutter r c.begun (ReadFault side) is.0 k.gave).1 e in
     whole_one q s taken r w.taken (gave_one taken waiting w.taken w.left (k.agrees.told (ReadFault side) is.0).0) w.count w.tasks

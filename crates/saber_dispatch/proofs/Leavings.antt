@@ -153,7 +153,7 @@ module _ (q : Tree) (s : Sizes) (had has : Lefts) (c : Cutter) (r : Input) (side
     tasks = same_tasks;
   }
 
-pub law : FaultsLeaveWholeTasks
-law q s had has c r side k e =
+pub faults_leave_whole_tasks : FaultsLeaveWholeTasks
+faults_leave_whole_tasks q s had has c r side k e =
     let is = told_is c.flush c.number c.ended (ReadFault side) e in
     reads_whole q s had has c r side k (subst (CutState q s c r k.dropped) is.0 k.state)

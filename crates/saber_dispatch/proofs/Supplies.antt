@@ -126,5 +126,5 @@ module _ {O : Type 0} (plan : O → Tree) (told : RunData O) (s : Sizes) (b : Bl
     told_is = record { tasks = tasks; whole = stand.whole };
   }
 
-pub law : {O : Type 0} (plan : O → Tree) → BlocksAreSupplied plan
-law plan told s b size next placed = supplied plan told s b size next placed
+pub blocks_are_supplied : {O : Type 0} (plan : O → Tree) → BlocksAreSupplied plan
+blocks_are_supplied plan told s b size next placed = supplied plan told s b size next placed

@@ -215,8 +215,8 @@ module _ (q : Tree) (s : Sizes) (had has : Lefts) (c : Cutter) (r : Input) (k : 
   pub are_near : AreNear q s c r
   are_near = record { given = given_near; told = ends_near (end_of c) refl }
 
-pub near_law : BlocksAreNear
-near_law q s had has c r k = are_near q s had has c r k
+pub blocks_are_near : BlocksAreNear
+blocks_are_near q s had has c r k = are_near q s had has c r k
 
 -- ---- over inputs that tell
 
@@ -309,5 +309,5 @@ module _ (q : Tree) (s : Sizes) (files : List (List ℕ)) (has : Lefts) (c : Cut
   are_tasks : AreTasks q s c r all
   are_tasks = record { tasks = tasks_by r.ended refl k.flushes; ends = ends_by (end_of c) refl }
 
-pub law : BlocksAreTasks
-law q s files has c r u k = are_tasks q s files has c r u k
+pub blocks_are_tasks : BlocksAreTasks
+blocks_are_tasks q s files has c r u k = are_tasks q s files has c r u k

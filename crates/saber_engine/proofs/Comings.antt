@@ -10,8 +10,8 @@ use Rattle.saber_plan.specs.Trees.{Tree}
 use Rattle.saber_plan.specs.Tasks.{Kept, upto, task_count, run_input}
 use Rattle.saber_plan.specs.Answers.{text, frame}
 use Rattle.saber_plan.specs.Windows.{Fits}
-use Rattle.saber_laws.proofs.TaskCutLaws.{upto-upto as first_of_first, no_cut as no_tasks_no_rows}
-use Rattle.saber_laws.proofs.StepLaws.{none_gives_nothing as no_rows_give_nothing}
+use Rattle.saber_laws.proofs.TaskCutLaws.{first_of_first, no_tasks_no_rows}
+use Rattle.saber_laws.proofs.StepLaws.{no_rows_give_nothing}
 use Rattle.saber_assembly.specs.declared.stage.Stage.{Stage}
 use Rattle.saber_plan.specs.declared.stages.StageState.{StageState}
 use Rattle.saber_plan.specs.declared.stages.StageState.TheVariants as states

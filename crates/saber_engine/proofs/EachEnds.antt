@@ -9,7 +9,7 @@ use Rattle.saber_plan.specs.Inputs.{Input}
 use Rattle.saber_plan.specs.Sizes.{limits_of}
 use Rattle.saber_plan.specs.Tasks.{Kept}
 use Rattle.saber_plan.specs.Trees.{Tree}
-use Rattle.saber_laws.proofs.CheckedLaws.{checked_fits as checked_fit}
+use Rattle.saber_laws.proofs.CheckedLaws.{checked_fit}
 use Rattle.saber_fragment.specs.declared.blocks.Block.{Block}
 use Rattle.saber_assembly.specs.declared.stage.Stage.{Stage}
 use Rattle.saber_plan.specs.declared.stages.StageState.{StageState}
@@ -34,7 +34,7 @@ use Rattle.saber_dispatch.specs.Sources.{Lefts, each_input}
 use Rattle.saber_dispatch.specs.Supplying.{IsSupplied}
 use Rattle.saber_dispatch.proofs.EndsToCome.{due_all}
 use Rattle.saber_dispatch.proofs.TaskBlocks.{told_is}
-use Rattle.saber_dispatch.proofs.Supplies.{law as blocks_are_supplied}
+use Rattle.saber_dispatch.proofs.Supplies.{blocks_are_supplied}
 use Rattle.saber_many.specs.declared.member.Member.{Member}
 use Rattle.saber_many.specs.Alone.{CanDo}
 use Rattle.saber_many.specs.Laws.{AllThree, IsOnly}

@@ -31,7 +31,7 @@ use Rattle.saber_dispatch.specs.Cutting.{is_due, told_end}
 use Rattle.saber_dispatch.specs.Feeding.{CutsFed, CutsNothingFed, fed_end_of}
 use Rattle.saber_dispatch.specs.FedReadings.{EndTold}
 use Rattle.saber_dispatch.specs.FeedLaws.{GoesOn}
-use Rattle.saber_dispatch.proofs.FedTasks.{tasks as fed_blocks_are_tasks, leave as cuts_leave_whole_tasks}
+use Rattle.saber_dispatch.proofs.FedTasks.{fed_blocks_are_tasks, cuts_leave_whole_tasks}
 use Rattle.saber_plan.specs.declared.ends.RunEnd.{RunEnd}
 use Rattle.saber_plan.specs.declared.ends.RunEnd.TheVariants.{AllRead, ReadFault, WriteFault, NoMemory}
 use Rattle.saber_plan.specs.Files.{input_of}

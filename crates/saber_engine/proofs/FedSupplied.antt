@@ -18,8 +18,8 @@ use Rattle.saber_dispatch.specs.declared.fed_cutter.Step.TheVariants as steps
 use Rattle.saber_dispatch.specs.declared.keeper.Keeper.{Keeper}
 use Rattle.saber_dispatch.specs.Cutting.{IsNextBlock}
 use Rattle.saber_dispatch.specs.Feeding.{CutsFed, StepTo, StepsOn, TakenBackFed, fed_end_of}
-use Rattle.saber_dispatch.proofs.FedTasks.{refills as refills_keep}
-use Rattle.saber_dispatch.proofs.Supplies.{law as blocks_are_supplied}
+use Rattle.saber_dispatch.proofs.FedTasks.{refills_keep}
+use Rattle.saber_dispatch.proofs.Supplies.{blocks_are_supplied}
 use Rattle.saber_crew.specs.Supplies.{GivesRows}
 use Rattle.saber_engine.specs.FedSupplying.{FeedView, IsCounted, HasFed}
 use Rattle.saber_engine.proofs.Counts.{few_blocks, next_count}

@@ -29,8 +29,8 @@ use Rattle.saber_dispatch.specs.Readings.{Reading, one, two, Suits, ReadMoves}
 use Rattle.saber_dispatch.specs.Cutting.{Cuts, fresh, fresh_on}
 use Rattle.saber_dispatch.specs.Telling as telling
 use Rattle.saber_dispatch.specs.Leaving.{GaveAll}
-use Rattle.saber_dispatch.proofs.TaskBlocks.{law as blocks_are_tasks}
-use Rattle.saber_dispatch.proofs.Leavings.{law as faults_leave_whole_tasks}
+use Rattle.saber_dispatch.proofs.TaskBlocks.{blocks_are_tasks}
+use Rattle.saber_dispatch.proofs.Leavings.{faults_leave_whole_tasks}
 use Rattle.saber_plan.specs.declared.ends.RunEnd.{RunEnd}
 use Rattle.saber_plan.specs.declared.ends.RunEnd.TheVariants.{ReadFault, WriteFault, NoMemory}
 use Rattle.saber_engine.specs.Sources.{told_by}

@@ -10,7 +10,7 @@ use Rattle.saber_plan.specs.Answers.{frame}
 use Rattle.saber_plan.specs.Windows.{Fits, no_rows, Ordered}
 use Rattle.saber_plan.specs.GivenRows.{RowsFit}
 use Rattle.saber_plan.specs.Tasks.{Kept}
-use Rattle.saber_laws.proofs.TaskCutLaws.{no_cut as no_tasks_no_rows}
+use Rattle.saber_laws.proofs.TaskCutLaws.{no_tasks_no_rows}
 use Rattle.saber_assembly.specs.declared.stage.Stage.{Stage}
 use Rattle.saber_plan.specs.declared.stages.StageState.TheVariants.{Running}
 use Rattle.saber_assembly.specs.declared.work.RunData.{RunData}

@@ -16,7 +16,7 @@ use Rattle.saber_dispatch.specs.declared.cutter.Cut.TheVariants as cuts
 use Rattle.saber_dispatch.specs.declared.keeper.Keeper.{Keeper}
 use Rattle.saber_dispatch.specs.Sources.{Lefts, RoseAt, NoneFell}
 use Rattle.saber_dispatch.specs.Cutting.{Cuts, CutTo, CutsOn, IsNextBlock, TakenBack, end_of}
-use Rattle.saber_dispatch.proofs.Supplies.{law as blocks_are_supplied}
+use Rattle.saber_dispatch.proofs.Supplies.{blocks_are_supplied}
 use Rattle.saber_crew.specs.Supplies.{GivesRows}
 use Rattle.saber_engine.specs.Supplying.{HasGiven}
 use Rattle.saber_engine.proofs.Counts.{none_same, few_blocks, next_count}

@@ -11,7 +11,7 @@ use Rattle.saber_fragment.specs.declared.blocks.Block.{Block}
 use Rattle.saber_fragment.specs.declared.blocks.Earlier.{Earlier}
 use Rattle.saber_fragment.specs.Drafts.{EndWith, CanStart, Sight, own_sight, seen_back, CanLookBack, IsWhole, IsSightOf}
 use Rattle.saber_fragment.specs.LookBack.{IsBlock, SeesAll, sight_to}
-use Rattle.saber_fragment.proofs.LookingBack.{sees_all as drafts_look_back}
+use Rattle.saber_fragment.proofs.LookingBack.{drafts_look_back}
 use Rattle.saber_assembly.specs.declared.work.RunData.{RunData}
 use Rattle.saber_assembly.specs.Works.{input_of, AreTasks, first_tasks, first_needed, IsBlockOf, IsPieceOf}
 use Rattle.saber_ring.specs.Shows.{first_of_task}

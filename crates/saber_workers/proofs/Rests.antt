@@ -9,15 +9,15 @@ use Rattle.saber_plan.specs.Trees.{Tree}
 use Rattle.saber_plan.specs.Answers.{text}
 use Rattle.saber_plan.specs.Tasks.{Kept, upto, kept_behind}
 use Rattle.saber_plan.specs.Needs.{free}
-use Rattle.saber_laws.proofs.TaskCutLaws.{upto-upto as first_of_first}
-use Rattle.saber_laws.proofs.GrowLaws.{free-upto as first_tell_free}
+use Rattle.saber_laws.proofs.TaskCutLaws.{first_of_first}
+use Rattle.saber_laws.proofs.GrowLaws.{first_tell_free}
 use Rattle.saber_ring.specs.declared.view.SlotValue.TheVariants as slot
 use Rattle.saber_ring.specs.declared.view.TurnState.TheVariants.{Open, TookPiece, TookMark, WonStopped, Leaving}
 use Rattle.saber_ring.specs.Shows.{RingState, RingTurn, won_by, turn_word, extra, TurnFits, StageHome, first_of_task}
 use Rattle.saber_ring.specs.Shows as ring
 use Rattle.saber_ring.specs.Plays.{turn_behind}
 use Rattle.saber_ring.specs.Laws.{IsWhole, NeedsAreWhole}
-use Rattle.saber_ring.proofs.Readers.{whole_law as needs_are_whole}
+use Rattle.saber_ring.proofs.Readers.{needs_are_whole}
 use Rattle.saber_assembly.specs.declared.stage.Stage.{Stage}
 use Rattle.saber_plan.specs.declared.stages.StageState.{StageState}
 use Rattle.saber_plan.specs.declared.stages.StageState.TheVariants.{Running, SinkFailed, NoMemory}

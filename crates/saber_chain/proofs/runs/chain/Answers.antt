@@ -1,5 +1,5 @@
 use Rattle.saber_plan.specs.Trees.{tree_of}
-use Rattle.saber_laws.proofs.CheckedLaws.{checked_fits as checked_fit}
+use Rattle.saber_laws.proofs.CheckedLaws.{checked_fit}
 use Rattle.saber_chain.proofs.Both.{chains, narrow, no_pipe, takes_none}
 use Rattle.saber_chain.proofs.runs.chain.Goals as goal
 

@@ -1,5 +1,5 @@
-use Rattle.saber_dispatch.proofs.FedTasks.{tasks}
+use Rattle.saber_dispatch.proofs.FedTasks.{fed_blocks_are_tasks}
 use Rattle.saber_dispatch.proofs.fed_laws.fed_blocks_are_tasks.Goals as goal
 
 pub returns : goal.returns
-returns c = tasks
+returns c = fed_blocks_are_tasks

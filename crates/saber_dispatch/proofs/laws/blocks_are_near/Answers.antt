@@ -1,5 +1,5 @@
-use Rattle.saber_dispatch.proofs.TaskBlocks.{near_law}
+use Rattle.saber_dispatch.proofs.TaskBlocks.{blocks_are_near}
 use Rattle.saber_dispatch.proofs.laws.blocks_are_near.Goals as goal
 
 pub returns : goal.returns
-returns c = near_law
+returns c = blocks_are_near

@@ -1,5 +1,5 @@
-use Rattle.saber_dispatch.proofs.Supplies.{law}
+use Rattle.saber_dispatch.proofs.Supplies.{blocks_are_supplied}
 use Rattle.saber_dispatch.proofs.laws.blocks_are_supplied.Goals as goal
 
 pub returns : goal.returns
-returns g c = law g.O.Operator.plan
+returns g c = blocks_are_supplied g.O.Operator.plan

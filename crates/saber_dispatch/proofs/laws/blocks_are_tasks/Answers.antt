@@ -1,5 +1,5 @@
-use Rattle.saber_dispatch.proofs.TaskBlocks.{law}
+use Rattle.saber_dispatch.proofs.TaskBlocks.{blocks_are_tasks}
 use Rattle.saber_dispatch.proofs.laws.blocks_are_tasks.Goals as goal
 
 pub returns : goal.returns
-returns c = law
+returns c = blocks_are_tasks

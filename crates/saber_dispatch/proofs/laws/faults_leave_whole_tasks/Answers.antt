@@ -1,5 +1,5 @@
-use Rattle.saber_dispatch.proofs.Leavings.{law}
+use Rattle.saber_dispatch.proofs.Leavings.{faults_leave_whole_tasks}
 use Rattle.saber_dispatch.proofs.laws.faults_leave_whole_tasks.Goals as goal
 
 pub returns : goal.returns
-returns c = law
+returns c = faults_leave_whole_tasks

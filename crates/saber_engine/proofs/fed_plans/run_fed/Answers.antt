@@ -16,7 +16,7 @@ use Rattle.saber_engine.specs.Supplying.{first_told}
 use Rattle.saber_engine.specs.FedSupplying.{FeedView, feed_seen, HasFed}
 use Rattle.saber_engine.proofs.Starting.{begins}
 use Rattle.saber_engine.proofs.FedResults.{FedDone, fed_none, fed_done, fed_nothing}
-use Rattle.saber_laws.proofs.CheckedLaws.{checked_fits as checked_fit}
+use Rattle.saber_laws.proofs.CheckedLaws.{checked_fit}
 use Rattle.saber_engine.proofs.fed_plans.run_fed.Goals as goal
 
 pub run-ran-requires-clause-begins : goal.run-ran-requires-clause-begins

@@ -19,7 +19,7 @@ use Rattle.saber_dispatch.specs.Leaving.{GaveAll}
 use Rattle.saber_engine.specs.Supplying.{HasGiven, first_told}
 use Rattle.saber_engine.proofs.Starting.{given_none, begins}
 use Rattle.saber_engine.proofs.Results.{Done, done, done_nothing, suits, if_told, took, took_none}
-use Rattle.saber_laws.proofs.CheckedLaws.{checked_fits as checked_fit}
+use Rattle.saber_laws.proofs.CheckedLaws.{checked_fit}
 use Rattle.saber_engine.proofs.plans.run_plan.Goals as goal
 
 pub run-ran-requires-clause-begins : goal.run-ran-requires-clause-begins
