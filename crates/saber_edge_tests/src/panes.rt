@@ -64,7 +64,7 @@ fn panes_of_two<L: Ledger>(
 {
     let mut panes = panes_of(alloc, plan, &BEGINNING, one, steps)?;
     let later = panes_of(alloc, plan, mark, two, steps)?;
-    panes.take_in(later)?;
+    panes.take_in(later, steps)?;
     Ok(panes)
 }
 
@@ -131,13 +131,5 @@ fn windows_of_panes(rt: HostRuntime) -> Result<(), Fail> {
     for line in TABLE.lines() {
         check_line(&rt, rt.alloc(), line)?;
     }
-    Ok(())
-}
-
-// No operator merges parts in memory of their own.
-#[test]
-fn nothing_is_merged_with_nothing(rt: HostRuntime) -> Result<(), Fail> {
-    let none = Partial::empty(rt.alloc());
-    let _both = none.merged(rt.alloc(), &none)?;
     Ok(())
 }

@@ -1,5 +1,5 @@
 -- Panes as a finite map: one part more, and one pane after another.
-use Rattle.std.proofs.Common.{IfSome, ◌≤◌, ◌<◌, ◌≡◌, ℕ, List, [], ◌∷◌, map, filter, Bool, true, false, cond, T, Option, Some, None, option_map, refl, sym, ◌∙◌, ap, ap₂, subst, nat_cmp, arith}
+use Rattle.std.proofs.Common.{IfSome, ◌+◌, ◌≤◌, ◌<◌, ◌≡◌, ℕ, List, [], ◌∷◌, map, filter, Bool, true, false, cond, T, Option, Some, None, option_map, refl, sym, ◌∙◌, ap, ap₂, subst, nat_cmp, arith}
 use Rattle.std.specs.Cmp.{nat_cmp_total, tied_itself}
 use Rattle.std.specs.Ordering.{eq_by_cmp, is_eq}
 use Rattle.std.specs.Map.{lookup, set_value}
@@ -8,9 +8,9 @@ use Rattle.std.proofs.lemmas.Bool.Decides.{nat_tests}
 use Rattle.std.specs.BTreeMap.{BTreeMap, insert_entry, is_at}
 use Rattle.std.specs.BTreeMap.Range.{IsLeBy, IsLtBy, IsEntryInRange, IsRangeOf}
 use Rattle.std.specs.declared.ops.Bound.TheVariants.{Included, Excluded}
-use Rattle.std.specs.Option.{IsSome}
+use Rattle.std.specs.Option.{is_some, IsSome}
 use Rattle.std.specs.List.{slice_get}
-use Rattle.std.specs.FinMap.{get, insert, from_entries, find, is_sorted, retain_keys, get-from_entries, get-insert, get-retain_keys, same_map, nat_cmp-IsAntisymmetric}
+use Rattle.std.specs.FinMap.{get, insert, from_entries, find, is_sorted, len, retain_keys, get-from_entries, get-insert, get-retain_keys, len-insert, same_map, nat_cmp-IsAntisymmetric}
 use Rattle.std.specs.FinMap.Entries.{find_tied}
 use Rattle.saber_plan.specs.Merges.{joined_value, both}
 use Rattle.saber_plan.specs.Parts.{Part, merge}
@@ -59,6 +59,15 @@ pane_here m k a b es c g = c.at k a b g (get-from_entries nat_cmp_total ((k, b) 
 -- what entries of a tree map are seen as
 abbrev pub seen_list : List (ℕ × Part) → List (ℕ × Part)
 seen_list es = map (λ e. (e.0, e.1)) es
+
+-- with the first of them there is one pane more than without it
+with_first : (e : ℕ × Part) (es : List (ℕ × Part)) → T (is_sorted nat_cmp (e ∷ es)) → len (made (e ∷ es)) ≡ len (made es) + 1
+with_first e es s =
+    let none = ap is_some (get-from_entries nat_cmp_total es e.0 ∙ first_alone nat_cmp e es s) in
+    len-insert nat_cmp_total (made es) e.0 e.1 ∙ ap (λ b. cond b (len (made es)) (len (made es) + 1)) none
+
+pub one_fewer : (next all : List (ℕ × Part)) (k : ℕ) (b : Part) → all ≡ (k, b) ∷ next → T (is_sorted nat_cmp (seen_list all)) → len (seen_panes all) ≡ len (seen_panes next) + 1
+one_fewer next all k b left rising = ap (λ l. len (seen_panes l)) left ∙ with_first (k, b) (seen_list next) (subst (λ l. T (is_sorted nat_cmp (seen_list l))) left rising)
 
 -- the next pane taken in, and what is left
 module _ (m : Parts) (next all : List (ℕ × Part)) (k : ℕ) (b : Part) (after whole : Parts) (left : all ≡ (k, b) ∷ next) (new : after ≡ insert m k (joined_value merge (get m k) b))

@@ -10,7 +10,7 @@
 //! - Proved: they are seen as a map from panes to parts (`specs/Panes.antt`), and a window's panes
 //!   merge to its part (`windows_are_panes`). `fold` takes at most one step for each row that lies
 //!   in a window and passes WHERE, however many windows have it, `window` at most one for each of
-//!   its panes.
+//!   its panes, `take_in` at most one for each pane that comes.
 //! - Limits: group queries, and at most `2^40` rows.
 #![tactic(auto)]
 

@@ -76,16 +76,20 @@ impl PanePart {
         ensures ok { OnOk result (self.new ≡ merge self.old (group_part (tree_of plan.now) (row.now.values ∷ []))) }
         ensures steps { steps.new ≡ steps.old + 1 }
     {
-        steps.tick();
-        self.part.add_row(alloc, plan, row)
+        self.part.add_row(alloc, plan, row, steps)
     }
 
-    /// Merges in the part of later rows. It is no step of a fold or a window.
-    pub(crate) fn take_in(&mut self, other: PanePart) -> Result<(), NoMemory>
+    /// Merges in the part of later rows: one step.
+    pub(crate) fn take_in<L: Ledger>(
+        &mut self,
+        other: PanePart,
+        steps: &mut Steps<L>,
+    ) -> Result<(), NoMemory>
         requires { CanMerge self.old other }
-        ensures { OnOk result (self.new ≡ merge self.old other) }
+        ensures ok { OnOk result (self.new ≡ merge self.old other) }
+        ensures steps { steps.new ≡ steps.old + 1 }
     {
-        self.part.merge(other.part)
+        self.part.merge(other.part, steps)
     }
 
     /// Merges it into a part: one step.
@@ -99,6 +103,6 @@ impl PanePart {
         ensures ok { OnOk result (out.new ≡ merge out.old self.now) }
         ensures steps { steps.new ≡ steps.old + 1 }
     {
-        out.merge_counted(alloc, &self.part, steps)
+        out.merge_from(alloc, &self.part, steps)
     }
 }

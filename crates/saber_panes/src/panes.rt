@@ -1,6 +1,6 @@
 // Partial answers by pane.
 ghost use Rattle.std.specs.Prelude.{◌≡◌, ◌+◌, ◌≤◌, ◌^◌, ◌<◌, [], ◌∷◌, ℕ, length, nat_le, true, Some, None, IfSome, IfNone, OnOk};
-ghost use Rattle.std.specs.FinMap.{empty, retain_keys};
+ghost use Rattle.std.specs.FinMap.{empty, len, retain_keys};
 ghost use Rattle.saber_plan.specs.declared.plans.Shape.TheVariants.{Group};
 ghost use Rattle.saber_plan.specs.Trees.{tree_of};
 ghost use Rattle.saber_plan.specs.Checked.{IsChecked, WindowFits};
@@ -197,13 +197,19 @@ impl Panes {
         }
     }
 
-    // Takes in the part of later rows of one pane.
-    fn take_pane(&mut self, pane: u64, part: PanePart) -> Result<(), NoMemory>
+    // Takes in the part of later rows of one pane: one step at most.
+    fn take_pane<L: Ledger>(
+        &mut self,
+        pane: u64,
+        part: PanePart,
+        steps: &mut Steps<L>,
+    ) -> Result<(), NoMemory>
         requires { (a : Part) → joined_at self.old pane ≡ Some a → CanMerge a part }
-        ensures { OnOk result (self.new ≡ with_part self.old pane part) }
+        ensures ok { OnOk result (self.new ≡ with_part self.old pane part) }
+        ensures steps { steps.new ≤ steps.old + 1 }
     {
         match self.parts.get_mut(&pane) {
-            Some(mine) => mine.take_in(part),
+            Some(mine) => mine.take_in(part, steps),
             None => {
                 self.parts.insert(pane, part)?;
                 Ok(())
@@ -211,14 +217,16 @@ impl Panes {
         }
     }
 
-    /// Takes in the parts of later rows' panes. After want of memory they are only safe.
-    pub fn take_in(&mut self, other: Panes) -> Result<(), NoMemory>
+    /// Takes in the parts of later rows' panes: at most one step for each of these. After want of
+    /// memory they are only safe.
+    pub fn take_in<L: Ledger>(&mut self, other: Panes, steps: &mut Steps<L>) -> Result<(), NoMemory>
         requires { CanTakeIn self.old other }
-        ensures { OnOk result (self.new ≡ both merge self.old other) }
+        ensures ok { OnOk result (self.new ≡ both merge self.old other) }
+        ensures steps { steps.new ≤ steps.old + len other }
     {
         let _count = other.parts.len();
         for (pane, part) in other.parts {
-            self.take_pane(pane, part)?;
+            self.take_pane(pane, part, steps)?;
         }
         Ok(())
     }

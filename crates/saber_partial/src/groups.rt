@@ -9,7 +9,7 @@ ghost use Rattle.saber_partial.specs.Tallies.{CanMerge, FitsAt, with_row};
 
 use crate::aggregates::Aggregates;
 use crate::layout::Layout;
-use crate::merges::{merged, take_in};
+use crate::merges::take_in;
 use crate::places::place;
 use crate::steps::Steps;
 use crate::table::Table;
@@ -146,13 +146,15 @@ impl Partial {
     }
 
     /// Takes in what is known of later rows of the same window and plan, group by group, so that
-    /// tasks can be cut anywhere (SABER 2016, assembly). After want of memory it is only safe: some
-    /// groups are taken in and others not. `parts_can_merge` and `small_parts_merge` meet what it
-    /// requires.
-    pub fn merge(&mut self, other: Partial) -> Result<(), NoMemory>
+    /// tasks can be cut anywhere (SABER 2016, assembly): one step. After want of memory it is only
+    /// safe: some groups are taken in and others not. `parts_can_merge` and `small_parts_merge` meet
+    /// what it requires.
+    pub fn merge<L: Ledger>(&mut self, other: Partial, steps: &mut Steps<L>) -> Result<(), NoMemory>
         requires { CanMerge self.old other }
-        ensures { OnOk result (self.new ≡ merge self.old other) }
+        ensures ok { OnOk result (self.new ≡ merge self.old other) }
+        ensures steps { steps.new ≡ steps.old + 1 }
     {
+        steps.tick();
         if self.is_empty() {
             *self = other;
             return Ok(());
@@ -161,7 +163,7 @@ impl Partial {
         self.take_all(alloc, &other)
     }
 
-    // Takes in what is known of later rows where there is a group.
+    // Takes in what is known of later rows where there is a group. It counts no step.
     #[inline]
     fn take_all(&mut self, alloc: Global, other: &Partial) -> Result<(), NoMemory>
         requires some { full self.old ≡ Some self.old }
@@ -177,20 +179,9 @@ impl Partial {
     }
 
     /// Takes in what is known of later rows of the same plan, which is lent and stays as it is: one
-    /// part can go into many windows. After want of memory it is only safe, as with `merge`.
-    pub fn merge_from(&mut self, alloc: Global, other: &Partial) -> Result<(), NoMemory>
-        requires { CanMerge self.old other.now }
-        ensures { OnOk result (self.new ≡ merge self.old other.now) }
-    {
-        if self.is_empty() {
-            *self = other.copy(alloc)?;
-            return Ok(());
-        }
-        self.take_all(alloc, other)
-    }
-
-    /// The same, as one step of those that are counted.
-    pub fn merge_counted<L: Ledger>(
+    /// part can go into many windows. One step. After want of memory it is only safe, as with
+    /// `merge`.
+    pub fn merge_from<L: Ledger>(
         &mut self,
         alloc: Global,
         other: &Partial,
@@ -201,24 +192,10 @@ impl Partial {
         ensures steps { steps.new ≡ steps.old + 1 }
     {
         steps.tick();
-        self.merge_from(alloc, other)
-    }
-
-    /// The merge with what is known of later rows of the same plan, in memory of its own; both stay
-    /// as they are. It fails only for want of memory.
-    pub fn merged(&self, alloc: Global, other: &Partial) -> Result<Partial, NoMemory>
-        requires { CanMerge self.now other.now }
-        ensures { IfOk result (λ p. p ≡ merge self.now other.now) }
-    {
         if self.is_empty() {
-            return other.copy(alloc);
+            *self = other.copy(alloc)?;
+            return Ok(());
         }
-        if other.is_empty() {
-            return self.copy(alloc);
-        }
-        self.groups.has_one_layout();
-        other.groups.has_one_layout();
-        let groups = merged(alloc, &self.groups, &other.groups)?;
-        Ok(Partial { groups })
+        self.take_all(alloc, other)
     }
 }

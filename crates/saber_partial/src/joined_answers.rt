@@ -16,11 +16,13 @@ use crate::groups::Partial;
 use crate::layout::Layout;
 use crate::places::key_order;
 use crate::printed::number_of_both;
+use crate::steps::Steps;
 use crate::table::Table;
 use saber_changes::Answers;
 use saber_plan::{Expr, NoMemory, Plan};
 use std::alloc::Global;
 use std::cmp::Ordering;
+use std::sync::ledger::Ledger;
 
 // Puts the answers to the items, of a group that both have, into an empty list.
 #[inline(always)]
@@ -155,18 +157,21 @@ fn answers_woven(
 
 impl Partial {
     /// The answers of the merge with what is known of later rows of the same plan, as `answers`
-    /// gives them, without a list of the merge.
-    pub(crate) fn answers_with(
+    /// gives them, without a list of the merge: one step.
+    pub(crate) fn answers_with<L: Ledger>(
         &self,
         alloc: Global,
         later: &Partial,
         plan: &Plan,
+        steps: &mut Steps<L>,
     ) -> Result<Answers, NoMemory>
         requires checked { IsChecked (tree_of plan.now) }
         requires group { (tree_of plan.now).shape ≡ Group }
         requires can { CanMerge self.now later.now }
-        ensures { IfOk result (λ a. a ≡ part_answers (tree_of plan.now) (merge self.now later.now)) }
+        ensures ok { IfOk result (λ a. a ≡ part_answers (tree_of plan.now) (merge self.now later.now)) }
+        ensures steps { steps.new ≡ steps.old + 1 }
     {
+        steps.tick();
         if later.is_empty() {
             return self.answers(alloc, plan);
         }

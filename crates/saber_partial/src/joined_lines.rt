@@ -19,10 +19,12 @@ use crate::layout::Layout;
 use crate::lines::{write_groups, write_line};
 use crate::places::key_order;
 use crate::printed::number_of_both;
+use crate::steps::Steps;
 use crate::table::Table;
 use saber_digits::{end_line, flush, put_cell, start_line};
 use saber_plan::{Expr, NoMemory, Plan};
 use std::cmp::Ordering;
+use std::sync::ledger::Ledger;
 
 #[inline(always)]
 fn write_both_cells(
@@ -185,20 +187,23 @@ fn write_all_woven(
 
 impl Partial {
     /// Writes the lines of the merge with what is known of later rows of the same plan, as `lines`
-    /// does, without a list of the merge. Where memory is wanting, `out` stays as it was.
-    pub fn lines_with(
+    /// does, without a list of the merge: one step. Where memory is wanting, `out` stays as it was.
+    pub(crate) fn lines_with<L: Ledger>(
         &self,
         later: &Partial,
         plan: &Plan,
         window: u64,
         out: &mut Vec<u8>,
+        steps: &mut Steps<L>,
     ) -> Result<(), NoMemory>
         requires checked { IsChecked (tree_of plan.now) }
         requires group { (tree_of plan.now).shape ≡ Group }
         requires can { CanMerge self.now later.now }
         ensures ok { OnOk result (out.new.items ≡ out.old.items ++ part_lines (tree_of plan.now) window (merge self.now later.now)) }
         ensures err { OnErr result (out.new.items ≡ out.old.items) }
+        ensures steps { steps.new ≡ steps.old + 1 }
     {
+        steps.tick();
         if later.is_empty() {
             return self.lines(plan, window, out);
         }

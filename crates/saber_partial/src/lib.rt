@@ -8,22 +8,23 @@
 //!   (`RowParts`: parts of one row each, in one list), `row_merges` (one of them taken in),
 //!   `young`, `piles` and `gathering` (rows gathered, few groups at a time), `headings`, `printed`,
 //!   `lines` and `joined_lines` (the text), `answers` and `joined_answers` (the same as values),
-//!   `steps` (merges counted). Lemmas by which callers meet what is required stand in
-//!   `proofs/Counted.antt`.
+//!   `steps` (merges and added rows, counted). Lemmas by which callers meet what is required stand
+//!   in `proofs/Counted.antt`.
 //! - Calls: `Partial::add_row` takes a row, `merge` and `merge_from` the part of later rows, given
-//!   or lent, `lines` prints a window's part, `lines_with` two parts without their merge, `answers`
-//!   gives a part's answers as values; `RowParts::push` appends a row's part, `part` lends it, and
-//!   `Partial::merge_row`, `Partial::of_row_in` and `Pile::take_row` take it, the first and the
-//!   last without memory where its key is there; `Gathering::add_row` and `take_part`;
-//!   `Pile::take_from`, `lines` and `answers`, and `lines_behind` and `answers_behind` of a part
-//!   before them.
+//!   or lent, `lines` prints a window's part, `answers` gives a part's answers as values;
+//!   `RowParts::push` appends a row's part, `part` lends it, and `Partial::merge_row`,
+//!   `Partial::of_row_in` and `Pile::take_row` take it, the first and the last without memory where
+//!   its key is there; `Gathering::add_row` and `take_part`; `Pile::take_from`, `lines` and
+//!   `answers`, and `lines_behind` and `answers_behind` of a part before them.
 //! - Proved: each is the step of the definitions (`saber_plan/specs/Parts.antt`). A `Gathering` is
 //!   seen as the part of its rows; a `Pile` as the part of all that it took in, and in how many
-//!   pieces that lies: steps and pieces together grow by one a part. After want of memory `lines`,
-//!   `lines_with` and `Partial::add_row` leave all as it was; merges and gatherings are only safe
-//!   to let go.
-//! - Not claimed: which groups a row is compared with, how often a group is moved, and what takes
-//!   memory: that a pile's memory, and a part's that went, are used again.
+//!   pieces that lies: steps and pieces together grow by one a part. Each of `add_row`, `merge`,
+//!   `merge_from` and `merge_row` is one step of the `Steps` given, and no other call adds to a
+//!   `Partial` that is there. After want of memory `lines` and `Partial::add_row` leave all as it
+//!   was; merges and gatherings are only safe to let go.
+//! - Not claimed: how many steps a `Gathering` takes, which groups a row is compared with, how often
+//!   a group is moved, and what takes memory: that a pile's memory, and a part's that went, are used
+//!   again.
 //! - Limits: a group has at most `2^40` rows, each of which adds at most `2^86` to a sum.
 #![tactic(auto)]
 

@@ -213,20 +213,3 @@ pub(crate) fn take_in_row(groups: &mut Table, row: &[i128]) -> Result<(), NoMemo
         Err(i) => groups.insert(i, row),
     }
 }
-
-/// The groups of both, in a list of their own.
-pub(crate) fn merged(alloc: Global, groups: &Table, others: &Table) -> Result<Table, NoMemory>
-    requires alike { groups.now.layout ≡ others.now.layout }
-    requires mine { Rises groups.now.entries }
-    requires theirs { Rises others.now.entries }
-    requires can { JoinsFit (part_of groups.now.entries) (part_of others.now.entries) }
-    ensures rises { IfOk result (λ t. Rises t.entries) }
-    ensures part { IfOk result (λ t. part_of t.entries ≡ merge (part_of groups.now.entries) (part_of others.now.entries)) }
-{
-    if have_same_keys(groups, others) {
-        let mut both = groups.copy()?;
-        join_each(&mut both, others);
-        return Ok(both);
-    }
-    woven(alloc, groups, others, 0)
-}

@@ -73,8 +73,7 @@ fn merge_behind<L: Ledger>(
     let Some(last) = parts.last_mut() else {
         return Ok(());
     };
-    steps.tick();
-    match last.merge_from(alloc, part) {
+    match last.merge_from(alloc, part, steps) {
         Ok(()) => Ok(()),
         Err(lacks) => {
             parts.clear();
@@ -154,8 +153,7 @@ fn write_behind<L: Ledger>(
     let Some(part) = only(parts) else {
         return first.lines(plan, window, out);
     };
-    steps.tick();
-    first.lines_with(part, plan, window, out)
+    first.lines_with(part, plan, window, out, steps)
 }
 
 // The answers of a part and of what comes behind it, which is one part at most: one step at most.
@@ -176,8 +174,7 @@ fn answers_of_both<L: Ledger>(
     let Some(part) = only(parts) else {
         return first.answers(alloc, plan);
     };
-    steps.tick();
-    first.answers_with(alloc, part, plan)
+    first.answers_with(alloc, part, plan, steps)
 }
 
 // Whether the last part has few groups, or isn't twice as great as one of so many that comes behind
@@ -208,8 +205,7 @@ fn merge_row_behind<L: Ledger>(
     let Some(last) = parts.last_mut() else {
         return Ok(());
     };
-    steps.tick();
-    match last.merge_row(part) {
+    match last.merge_row(part, steps) {
         Ok(()) => Ok(()),
         Err(lacks) => {
             parts.clear();

@@ -1,13 +1,15 @@
 // A row's part taken into others.
-ghost use Rattle.std.specs.Prelude.{◌≡◌, IfOk, OnOk};
+ghost use Rattle.std.specs.Prelude.{◌≡◌, ◌+◌, IfOk, OnOk};
 ghost use Rattle.saber_plan.specs.Parts.{merge};
 ghost use Rattle.saber_partial.specs.Tallies.{CanMerge};
 
 use crate::groups::Partial;
 use crate::merges::take_in_row;
 use crate::row_parts::RowPart;
+use crate::steps::Steps;
 use saber_plan::NoMemory;
 use std::alloc::Global;
+use std::sync::ledger::Ledger;
 
 impl Partial {
     /// Becomes the part of a row, in the memory that it has. After want of memory it has no group.
@@ -33,12 +35,18 @@ impl Partial {
     }
 
     /// Takes in the part of a later row of the same plan, which is lent: one group, found by its
-    /// key, and no memory where it is there. Else as `merge_from`.
+    /// key, and no memory where it is there. One step. Else as `merge_from`.
     #[inline]
-    pub fn merge_row(&mut self, part: &RowPart) -> Result<(), NoMemory>
+    pub fn merge_row<L: Ledger>(
+        &mut self,
+        part: &RowPart,
+        steps: &mut Steps<L>,
+    ) -> Result<(), NoMemory>
         requires { CanMerge self.old part.now }
-        ensures { OnOk result (self.new ≡ merge self.old part.now) }
+        ensures ok { OnOk result (self.new ≡ merge self.old part.now) }
+        ensures steps { steps.new ≡ steps.old + 1 }
     {
+        steps.tick();
         if self.is_empty() {
             return self.set_to_row(part);
         }

@@ -12,10 +12,12 @@ ghost use Rattle.std.specs.List.{AllByRecursion};
 
 use crate::aggregates::Aggregates;
 use crate::groups::Partial;
+use crate::steps::Steps;
 use arrayvec::ArrayVec;
 use saber_flat::RowRef;
 use saber_plan::{NoMemory, Plan};
 use std::alloc::Global;
+use std::sync::ledger::Ledger;
 
 // The key list of a row, of at most eight columns.
 #[inline]
@@ -33,16 +35,24 @@ impl Partial {
     /// Adds a row of a group query's stream to the group of its key (CQL 2006, GROUP BY; without
     /// one, all rows have the empty key), whether or not it passes WHERE: callers ask
     /// `saber_eval::holds` once a row. Only the first row of a group takes memory; where that is
-    /// wanting, nothing changes. What the plan asks is worked out anew. `groups_can_merge` and
-    /// `small_parts_merge` meet `room`.
-    pub fn add_row(&mut self, alloc: Global, plan: &Plan, row: &RowRef) -> Result<(), NoMemory>
+    /// wanting, nothing changes. One step. What the plan asks is worked out anew.
+    /// `groups_can_merge` and `small_parts_merge` meet `room`.
+    pub fn add_row<L: Ledger>(
+        &mut self,
+        alloc: Global,
+        plan: &Plan,
+        row: &RowRef,
+        steps: &mut Steps<L>,
+    ) -> Result<(), NoMemory>
         requires checked { IsChecked (tree_of plan.now) }
         requires group { (tree_of plan.now).shape ≡ Group }
         requires row { RowFits Left (columns_on (tree_of plan.now).streams Left) row.now }
         requires room { CanMerge self.old (group_part (tree_of plan.now) (row.now.values ∷ [])) }
         ensures ok { OnOk result (self.new ≡ merge self.old (group_part (tree_of plan.now) (row.now.values ∷ []))) }
         ensures err { OnErr result (self.new ≡ self.old) }
+        ensures steps { steps.new ≡ steps.old + 1 }
     {
+        steps.tick();
         self.add_by(alloc, &Aggregates::of_plan(plan), row)
     }
 

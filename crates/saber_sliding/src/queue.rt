@@ -61,7 +61,7 @@ fn merge_behind<L: Ledger>(
     ensures steps { steps.new ≤ steps.old + 1 }
 {
     match front.front() {
-        Some(next) => part.merge_counted(alloc, &next.1, steps),
+        Some(next) => part.merge_from(alloc, &next.1, steps),
         None => Ok(()),
     }
 }

@@ -35,8 +35,7 @@ fn join_last<L: Ledger>(
     let Some(last) = back.last_mut() else {
         return Ok(());
     };
-    steps.tick();
-    last.1.merge_row(part)
+    last.1.merge_row(part, steps)
 }
 
 // The same, and the merge of all where that is kept: two steps, if each piece more counts for one.

@@ -23,6 +23,6 @@ returns g c =
     let q = tree_of c.args.plan.now in
     let one = c.args.one.now in
     let two = c.args.two.now in
-    c.in_ok-take_in.ensures
+    c.in_ok-take_in.ensures.ok
     ∙ (λ j. both merge (c.in_ok-panes.ensures j) ((c.in_ok-later.ensures ∙ ap (λ m. panes_here q m two) c.requires.meets) j))
     ∙ sym (panes_join q no_rows one two)

@@ -21,7 +21,7 @@ returns-in-Ok-clause-all g c =
     let same = c.args.parts.now.ok.0 in
     let long : length ps ≡ suc i = omega (arith, some, same) in
     let j = joined ps (take i ps) c.in-Some.last.now c.args.part.now (last_is ps i c.in-Some.last.now long c.in-Some.ensures.value) c.requires.can c.requires.room in
-    ap piled_part (last_set ps i c.merge_row.new.self long ∙ ap (λ (p : Part). take i ps ++ p ∷ []) c.in-Ok.ensures) ∙ j.all
+    ap piled_part (last_set ps i c.merge_row.new.self long ∙ ap (λ (p : Part). take i ps ++ p ∷ []) c.in-Ok.ensures.ok) ∙ j.all
 
 pub returns-in-Ok-clause-can : goal.returns-in-Ok-clause-can
 returns-in-Ok-clause-can g c =
@@ -31,4 +31,4 @@ returns-in-Ok-clause-can g c =
     let same = c.args.parts.now.ok.0 in
     let long : length ps ≡ suc i = omega (arith, some, same) in
     let j = joined ps (take i ps) c.in-Some.last.now c.args.part.now (last_is ps i c.in-Some.last.now long c.in-Some.ensures.value) c.requires.can c.requires.room in
-    subst CanPile (sym (last_set ps i c.merge_row.new.self long ∙ ap (λ (p : Part). take i ps ++ p ∷ []) c.in-Ok.ensures)) j.can
+    subst CanPile (sym (last_set ps i c.merge_row.new.self long ∙ ap (λ (p : Part). take i ps ++ p ∷ []) c.in-Ok.ensures.ok)) j.can

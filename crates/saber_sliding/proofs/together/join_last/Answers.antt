@@ -21,4 +21,4 @@ returns-clause-back g c =
     let some = c.in-Some.ensures.item in
     let same = c.args.back.now.ok.0 in
     let long : length es ≡ suc i = omega (arith, some, same) in
-    on_ok_weaker c.merge_row.result (λ new. ap (λ (m : Part). slice_set es i (d.0, m)) new ∙ last_set es i d c.args.part.now long c.in-Some.ensures.value) c.merge_row.ensures
+    on_ok_weaker c.merge_row.result (λ new. ap (λ (m : Part). slice_set es i (d.0, m)) new ∙ last_set es i d c.args.part.now long c.in-Some.ensures.value) c.merge_row.ensures.ok

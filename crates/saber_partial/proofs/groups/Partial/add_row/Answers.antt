@@ -11,17 +11,17 @@ use Rattle.saber_partial.specs.Tallies.{CanMerge}
 use Rattle.saber_partial.proofs.groups.Partial.add_row.Goals as goal
 
 pub add_by-requires-clause-checked : goal.add_by-requires-clause-checked
-add_by-requires-clause-checked c = subst (λ (p : Plan). IsChecked (tree_of p)) (sym c.of_plan.ensures) c.requires.checked
+add_by-requires-clause-checked g c = subst (λ (p : Plan). IsChecked (tree_of p)) (sym c.of_plan.ensures) c.requires.checked
 
 pub add_by-requires-clause-group : goal.add_by-requires-clause-group
-add_by-requires-clause-group c = subst (λ (p : Plan). (tree_of p).shape ≡ Group) (sym c.of_plan.ensures) c.requires.group
+add_by-requires-clause-group g c = subst (λ (p : Plan). (tree_of p).shape ≡ Group) (sym c.of_plan.ensures) c.requires.group
 
 pub add_by-requires-clause-row : goal.add_by-requires-clause-row
-add_by-requires-clause-row c = subst (λ (p : Plan). RowFits Left (columns_on (tree_of p).streams Left) c.args.row.now) (sym c.of_plan.ensures) c.requires.row
+add_by-requires-clause-row g c = subst (λ (p : Plan). RowFits Left (columns_on (tree_of p).streams Left) c.args.row.now) (sym c.of_plan.ensures) c.requires.row
 
 pub add_by-requires-clause-room : goal.add_by-requires-clause-room
-add_by-requires-clause-room c = subst (λ (p : Plan). CanMerge c.args.self.now (group_part (tree_of p) (c.args.row.now.values ∷ []))) (sym c.of_plan.ensures) c.requires.room
+add_by-requires-clause-room g c = subst (λ (p : Plan). CanMerge c.args.self.now (group_part (tree_of p) (c.args.row.now.values ∷ []))) (sym c.of_plan.ensures) c.requires.room
 
 pub returns-clause-ok : goal.returns-clause-ok
-returns-clause-ok c =
+returns-clause-ok g c =
     subst (λ (p : Plan). OnOk c.add_by.result (c.add_by.new.self ≡ merge c.args.self.now (group_part (tree_of p) (c.args.row.now.values ∷ [])))) c.of_plan.ensures c.add_by.ensures.ok

@@ -16,20 +16,20 @@ use Rattle.saber_partial.proofs.Rising.{can_all}
 use Rattle.saber_partial.proofs.Weaving.{weave_rises, weave_merge}
 use Rattle.saber_partial.proofs.groups.Partial.answers_with.Goals as goal
 
-pub returns-then-is_empty : goal.returns-then-is_empty
-returns-then-is_empty c =
+pub returns-then-is_empty-clause-ok : goal.returns-then-is_empty-clause-ok
+returns-then-is_empty-clause-ok g c =
     let mine = c.args.self.now in
     let same = sym (ap (merge mine) (c.is_empty.ensures.none c.if-is_empty.true) ∙ merge-empty_right mine) in
     subst (λ (p : Part). IfOk c.answers.result (λ a. a ≡ part_answers (tree_of c.args.plan.now) p)) same c.answers.ensures
 
-pub returns-then-is_empty-2 : goal.returns-then-is_empty-2
-returns-then-is_empty-2 c =
+pub returns-then-is_empty-2-clause-ok : goal.returns-then-is_empty-2-clause-ok
+returns-then-is_empty-2-clause-ok g c =
     let theirs = c.args.later.now in
     let same = sym (ap (λ (p : Part). merge p theirs) (c.is_empty-2.ensures.none c.if-is_empty-2.true) ∙ merge-empty_left theirs) in
     subst (λ (p : Part). IfOk c.answers-then-is_empty-2.result (λ a. a ≡ part_answers (tree_of c.args.plan.now) p)) same c.answers-then-is_empty-2.ensures
 
 pub answers_woven-requires-clause-alike : goal.answers_woven-requires-clause-alike
-answers_woven-requires-clause-alike c =
+answers_woven-requires-clause-alike g c =
     let es = c.self.inside.groups.entries in
     let fs = c.later.inside.groups.entries in
     let both = subst₂ CanMerge (sym c.self.view_is) (sym c.later.view_is) c.requires.can in
@@ -39,16 +39,16 @@ answers_woven-requires-clause-alike c =
     c.has_one_layout.ensures.each c.has_one_layout-2.ensures.each c.self.invariant c.later.invariant both mine theirs
 
 pub answers_woven-requires-clause-items : goal.answers_woven-requires-clause-items
-answers_woven-requires-clause-items c =
+answers_woven-requires-clause-items g c =
     subst (AllByRecursion IsLone) (sym c.items.ensures) (items_are_lone (tree_of c.args.plan.now) c.requires.checked c.requires.group)
 
 pub answers_woven-requires-clause-can : goal.answers_woven-requires-clause-can
-answers_woven-requires-clause-can c =
+answers_woven-requires-clause-can g c =
     let both = subst₂ CanMerge (sym c.self.view_is) (sym c.later.view_is) c.requires.can in
     can_all c.self.inside.groups.entries c.later.inside.groups.entries c.self.invariant c.later.invariant (record { at = both.at })
 
-pub returns : goal.returns
-returns c =
+pub returns-clause-ok : goal.returns-clause-ok
+returns-clause-ok g c =
     let es = c.self.inside.groups.entries in
     let fs = c.later.inside.groups.entries in
     let q = tree_of c.args.plan.now in

@@ -17,21 +17,21 @@ use Rattle.saber_partial.proofs.Weaving.{weave_rises, weave_merge}
 use Rattle.saber_partial.proofs.groups.Partial.lines_with.Goals as goal
 
 pub returns-then-is_empty-clause-ok : goal.returns-then-is_empty-clause-ok
-returns-then-is_empty-clause-ok c =
+returns-then-is_empty-clause-ok g c =
     let mine = c.args.self.now in
     let same = sym (ap (merge mine) (c.is_empty.ensures.none c.if-is_empty.true) ∙ merge-empty_right mine) in
     subst (λ (p : Part). OnOk c.lines.result (c.lines.new.out.items ≡ c.args.out.now.items ++ part_lines (tree_of c.args.plan.now) c.args.window p)) same
     c.lines.ensures.ok
 
 pub returns-then-is_empty-2-clause-ok : goal.returns-then-is_empty-2-clause-ok
-returns-then-is_empty-2-clause-ok c =
+returns-then-is_empty-2-clause-ok g c =
     let theirs = c.args.later.now in
     let same = sym (ap (λ (p : Part). merge p theirs) (c.is_empty-2.ensures.none c.if-is_empty-2.true) ∙ merge-empty_left theirs) in
     subst (λ (p : Part). OnOk c.lines-then-is_empty-2.result (c.lines-then-is_empty-2.new.out.items ≡ c.args.out.now.items ++ part_lines (tree_of c.args.plan.now) c.args.window p)) same
     c.lines-then-is_empty-2.ensures.ok
 
 pub write_all_woven-requires-clause-alike : goal.write_all_woven-requires-clause-alike
-write_all_woven-requires-clause-alike c =
+write_all_woven-requires-clause-alike g c =
     let es = c.self.inside.groups.entries in
     let fs = c.later.inside.groups.entries in
     let both = subst₂ CanMerge (sym c.self.view_is) (sym c.later.view_is) c.requires.can in
@@ -41,16 +41,16 @@ write_all_woven-requires-clause-alike c =
     c.has_one_layout.ensures.each c.has_one_layout-2.ensures.each c.self.invariant c.later.invariant both mine theirs
 
 pub write_all_woven-requires-clause-items : goal.write_all_woven-requires-clause-items
-write_all_woven-requires-clause-items c =
+write_all_woven-requires-clause-items g c =
     subst (AllByRecursion IsLone) (sym c.items.ensures) (items_are_lone (tree_of c.args.plan.now) c.requires.checked c.requires.group)
 
 pub write_all_woven-requires-clause-can : goal.write_all_woven-requires-clause-can
-write_all_woven-requires-clause-can c =
+write_all_woven-requires-clause-can g c =
     let both = subst₂ CanMerge (sym c.self.view_is) (sym c.later.view_is) c.requires.can in
     can_all c.self.inside.groups.entries c.later.inside.groups.entries c.self.invariant c.later.invariant (record { at = both.at })
 
 pub returns-in-Ok-clause-ok : goal.returns-in-Ok-clause-ok
-returns-in-Ok-clause-ok c =
+returns-in-Ok-clause-ok g c =
     let es = c.self.inside.groups.entries in
     let fs = c.later.inside.groups.entries in
     let out = c.args.out.now.items in

@@ -3,5 +3,5 @@ use Rattle.saber_plan.specs.Parts.{Part, merge}
 use Rattle.saber_plan.specs.Facts.Parts.{merge-empty_left}
 use Rattle.saber_partial.proofs.groups.Partial.merge.Goals as goal
 
-pub returns-then-is_empty : goal.returns-then-is_empty
-returns-then-is_empty c = c.other.view_is ∙ sym (merge-empty_left c.args.other) ∙ ap (λ (m : Part). merge m c.args.other) (sym (c.is_empty.ensures.none c.if-is_empty.true))
+pub returns-then-is_empty-clause-ok : goal.returns-then-is_empty-clause-ok
+returns-then-is_empty-clause-ok g c = c.other.view_is ∙ sym (merge-empty_left c.args.other) ∙ ap (λ (m : Part). merge m c.args.other) (sym (c.is_empty.ensures.none c.if-is_empty.true))

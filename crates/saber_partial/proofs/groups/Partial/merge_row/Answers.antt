@@ -11,14 +11,14 @@ use Rattle.saber_partial.proofs.FlatRows.{row_layout}
 use Rattle.saber_partial.proofs.Layouts.{one_layout, entry_in_full}
 use Rattle.saber_partial.proofs.groups.Partial.merge_row.Goals as goal
 
-pub returns-then-is_empty : goal.returns-then-is_empty
-returns-then-is_empty c =
+pub returns-then-is_empty-clause-ok : goal.returns-then-is_empty-clause-ok
+returns-then-is_empty-clause-ok g c =
     let p = c.args.part.now in
     subst (λ (m : Part). OnOk c.set_to_row.result (c.set_to_row.new.self ≡ m))
     (sym (merge-empty_left p) ∙ ap (λ (m : Part). merge m p) (sym (c.is_empty.ensures.none c.if-is_empty.true))) c.set_to_row.ensures
 
 pub take_in_row-requires-clause-row : goal.take_in_row-requires-clause-row
-take_in_row-requires-clause-row c =
+take_in_row-requires-clause-row g c =
     let s = c.self.inside.groups in
     let l = c.part.inside.layout.now in
     let r = c.part.inside.row.now in
@@ -28,7 +28,7 @@ take_in_row-requires-clause-row c =
     subst (λ (k : Layout). IsRow k r) (sym same) c.part.invariant.1
 
 pub take_in_row-requires-clause-can : goal.take_in_row-requires-clause-can
-take_in_row-requires-clause-can c =
+take_in_row-requires-clause-can g c =
     let s = c.self.inside.groups in
     let l = c.part.inside.layout.now in
     let r = c.part.inside.row.now in
@@ -37,8 +37,8 @@ take_in_row-requires-clause-can c =
     let same = one_layout s.layout l s.entries (entry_in l r ∷ []) c.has_one_layout.ensures.layout c.part.invariant.0 c.has_one_layout.ensures.each (row_layout l r c.part.invariant.0 c.part.invariant.1, tt) c.self.invariant tt both some (omega arith) in
     subst (λ (k : Layout). JoinsFit (part_of s.entries) (alone (entry_in k r))) (sym same) (record { at = both.at })
 
-pub returns : goal.returns
-returns c =
+pub returns-clause-ok : goal.returns-clause-ok
+returns-clause-ok g c =
     let s = c.self.inside.groups in
     let l = c.part.inside.layout.now in
     let r = c.part.inside.row.now in
