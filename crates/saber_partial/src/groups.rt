@@ -147,7 +147,7 @@ impl Partial {
 
     /// Takes in what is known of later rows of the same window and plan, group by group, so that
     /// tasks can be cut anywhere (SABER 2016, assembly): one step. After want of memory it is only
-    /// safe: some groups are taken in and others not. `parts_can_merge` and `small_parts_merge` meet
+    /// safe: some groups are taken in and others not. `small_merge` of `proofs/Counted.antt` meets
     /// what it requires.
     pub fn merge<L: Ledger>(&mut self, other: Partial, steps: &mut Steps<L>) -> Result<(), NoMemory>
         requires { CanMerge self.old other }

@@ -36,7 +36,7 @@ impl Partial {
     /// one, all rows have the empty key), whether or not it passes WHERE: callers ask
     /// `saber_eval::holds` once a row. Only the first row of a group takes memory; where that is
     /// wanting, nothing changes. One step. What the plan asks is worked out anew.
-    /// `groups_can_merge` and `small_parts_merge` meet `room`.
+    /// `small_merge` of `proofs/Counted.antt` meets `room`.
     pub fn add_row<L: Ledger>(
         &mut self,
         alloc: Global,
