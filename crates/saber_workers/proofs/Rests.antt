@@ -1,5 +1,5 @@
 -- The ring of a query whose turn is free.
-use Rattle.std.proofs.Common.{◌≡◌, ◌≢◌, ◌⊎◌, ◌≤◌, ◌<◌, ℕ, ◌+◌, ◌%◌, inl, inr, ⊎_elim, Bool, true, false, List, get_or, refl, sym, ◌∙◌, ap, subst, le_refl, arith}
+use Rattle.std.proofs.Common.{◌≡◌, ◌≢◌, ◌⊎◌, ◌≤◌, ◌<◌, ℕ, ◌+◌, ◌%◌, inl, inr, Bool, true, false, List, get_or, refl, sym, ◌∙◌, ap, subst, le_refl, arith}
 use mathlib.Core.Option.{some}
 use Rattle.std.specs.Prelude.{Option, map, [], ◌∷◌}
 use Rattle.saber_plan.specs.Inputs.{Input}
