@@ -4,3 +4,4 @@ pub mod Queries
 pub mod Labors
 pub mod Laws
 pub mod Alone
+pub mod Free

@@ -12,7 +12,7 @@ use Rattle.saber_assembly.specs.Works.{input_of, with_input, first_tasks, first_
 abbrev pub IsAlone : {O : Type 0} → (O → Tree) → RunData O → Type 0
 IsAlone plan told = (plan told.operator).shape ≢ Join
 
-by_alone : (s : Shape) (t j : ℕ) → s ≢ Join → by_shape s t t j ≡ t
+pub by_alone : (s : Shape) (t j : ℕ) → s ≢ Join → by_shape s t t j ≡ t
 by_alone Select t j alone = refl
 by_alone Group t j alone = refl
 by_alone Join t j alone = absurd (alone refl)

@@ -5,4 +5,5 @@ pub mod LookBacks
 pub mod Absorbings
 pub mod Pourings
 pub mod Drives
+pub mod FreeTurns
 pub mod Rests

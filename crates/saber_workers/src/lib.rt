@@ -12,7 +12,8 @@
 //!   for a job still in hand, and each take its give, but for one that stopped the stage. After
 //!   `work_alone` all tasks are given, or the stage is stopped. Where a turn claimed nothing, or
 //!   its job waits, the last refused step says why. `free_turns_are_at_rest` is the theorem's first
-//!   half: what the sink has, what is kept, and whose rows are whole, whenever the turn is free.
+//!   half: what the sink has, what is kept, and whose rows and pieces are whole, whenever the turn
+//!   is free.
 //! - Not claimed: that `work` works: one that does nothing keeps its contract, and so does a task
 //!   that is given up for want of memory.
 //! - Limits: those of the ring. `work` may wait for a block that another seat reads.
