@@ -7,3 +7,4 @@ pub mod Alone
 pub mod Ends
 pub mod Others
 pub mod Comes
+pub mod Says

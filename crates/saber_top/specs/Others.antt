@@ -1,7 +1,7 @@
 -- What `saber` says of a call, all its clauses in one.
 use Rattle.std.specs.Prelude.{◌≡◌, ◌≢◌, ℕ, List, [], None, Some, Option}
 use Rattle.saber_io.specs.Outside.{FilesView}
-use Rattle.saber_plan.specs.Outputs.{Rose, appended_text, AppendsPrefix}
+use Rattle.saber_plan.specs.Outputs.{Rose, appended_text, raised_count, AppendsPrefix}
 use Rattle.saber_words.specs.Commands.{chain, command_of}
 use Rattle.saber_words.specs.Chain.{AskedChain}
 use Rattle.saber_notes.specs.Notes.{status_of, note_of}
@@ -21,7 +21,7 @@ use Rattle.saber_top.specs.declared.ended.Top.{Top}
 use Rattle.saber_top.specs.declared.ended.TopEnd.TheVariants.{One}
 use Rattle.saber_top.specs.Shared.{parts_in}
 
-module _ {F K N : Type 0} (told : F → Option FilesView) (faults : F → ℕ) (written : K → Option (List ℕ)) (failed : K → ℕ) (noted_text : N → Option (List ℕ)) (note_faults : N → ℕ) where
+module _ {F K N : Type 0} (told : F → Option FilesView) (faults : F → ℕ) (written : K → Option (List ℕ)) (failed : K → ℕ) (noted_text : N → Option (List ℕ)) (note_faults note_writes : N → ℕ) where
   -- Of these words, over files and notes that stood so before and stand so now, with this sink, the call ended so. Each field is the clause of its name.
   pub record SaysSaber (words : List (List ℕ)) (old new : F) (sink : K) (notes_old notes_new : N) (e : Ended K) : Type 0 where
     pub status : e.status ≡ status_of e.outcome
@@ -46,6 +46,8 @@ module _ {F K N : Type 0} (told : F → Option FilesView) (faults : F → ℕ) (
     pub memory : e.noted ≡ noted_as.NoMemory → noted_text notes_new ≡ noted_text notes_old
     pub note : e.noted ≡ noted_as.Failed → Rose (note_faults notes_old) (note_faults notes_new)
     pub note_good : e.noted ≢ noted_as.Failed → note_faults notes_new ≡ note_faults notes_old
+    pub one : e.outcome ≢ Done → e.noted ≢ noted_as.NoMemory → note_writes notes_new ≡ raised_count (note_writes notes_old)
+    pub none : e.noted ≡ noted_as.NoMemory → note_writes notes_new ≡ note_writes notes_old
 
   -- The call is one of `saber`: it gives what that gives, and no parts.
   pub record IsSaber {T : Type 0} (words : List (List ℕ)) (old new : F) (sink : K) (notes_old notes_new : N) (top : Top K T) : Type 0 where

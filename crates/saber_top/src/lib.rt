@@ -1,6 +1,7 @@
 //! The top call `top`: `saber` of `saber_cli`, and the command `many` of several queries over one
-//! input. The program is `main` over it. `call.rt` holds the theorem, one clause a fact;
-//! docs/RULES.md ("What is promised of a call") has it in words.
+//! input. The program is `main` over it. `specs/Says.antt` holds the theorem, one field a fact, in
+//! one record, so that who hands it on hands on all; docs/RULES.md ("What is promised of a call")
+//! has it in words.
 //!
 //! - Parts, from the top: `call`, `ended` (what a call comes to), `many` (the command), `plans`
 //!   (the plans of all queries, and whether they can share an input), `left` (they are run over the

@@ -36,6 +36,8 @@ returns-clause-is g c =
         memory = says.memory;
         note = says.note;
         note_good = says.note_good;
+        one = says.one;
+        none = says.none;
       };
       end_is = refl;
       status_is = refl;
