@@ -18,7 +18,7 @@ use Rattle.saber_ring.specs.Shows as ring
 use Rattle.saber_ring.specs.Laws.{IsWhole, NeedsAreWhole}
 use Rattle.saber_ring.specs.Opening.{IsOpen, first_values}
 use Rattle.saber_ring.proofs.Openings.{opens}
-use Rattle.saber_ring.proofs.Readers.{whole_law as needs_are_whole}
+use Rattle.saber_ring.proofs.Readers.{needs_are_whole}
 use Rattle.saber_assembly.specs.declared.stage.Stage.{Stage}
 use Rattle.saber_assembly.specs.declared.work.RunData.{RunData}
 use Rattle.saber_assembly.specs.Stages.{stage_view}

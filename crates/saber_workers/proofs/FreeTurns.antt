@@ -8,7 +8,7 @@ use Rattle.saber_plan.specs.Inputs.{Input}
 use Rattle.saber_plan.specs.Trees.{Tree}
 use Rattle.saber_plan.specs.Answers.{text}
 use Rattle.saber_plan.specs.Tasks.{Kept, upto, kept_behind}
-use Rattle.saber_laws.proofs.TaskCutLaws.{upto-upto as first_of_first}
+use Rattle.saber_laws.proofs.TaskCutLaws.{first_of_first}
 use Rattle.saber_ring.specs.declared.view.SlotValue.TheVariants as slot
 use Rattle.saber_ring.specs.declared.view.TurnState.TheVariants.{Open, TookPiece, TookMark, WonStopped, Leaving}
 use Rattle.saber_ring.specs.Shows.{RingPhase, idle, ready, held, done, taken, past, number_of, RingState, RingTurn, won_by, turn_word, extra, Fits, TurnFits, TakenBy, StageHome, AtHome}
