@@ -68,11 +68,8 @@ not_true e = cc
 none_more : (k : ℕ) → k + 0 ≡ k
 none_more k = omega arith
 
-below : (j k : ℕ) → j + 1 ≤ k + 1 → j ≤ k
-below j k le = omega (arith, le)
-
-before : (j k : ℕ) → j + 1 ≤ k → j ≤ k
-before j k le = omega (arith, le)
+no_more : (j k : ℕ) → j + 1 ≤ k → j + 1 ≤ k + 0
+no_more j k le = omega (arith, le)
 
 module _ {O P S K : Type 0} (plan : O → Tree) (is_of : O → P → Input → ℕ → ℕ → Type 0) (contents : S → Kept) (taken : O → S → Input → Type 0)
     (written : K → Option (List ℕ)) (faults : K → ℕ) where
@@ -114,21 +111,22 @@ module _ {O P S K : Type 0} (plan : O → Tree) (is_of : O → P → Input → �
       )
 
   -- what is said of it
-  abbrev Stands : RunData O → ℕ → Bool → Stage S K → Type 0
-  Stands t k goes st =
-      (goes ≡ true → (st.state ≡ Running) × (st.k ≡ k)) × (goes ≡ false → (st.state ≢ Running) × (st.k ≤ k)) × HasOut plan contents written faults t st.k st
+  abbrev Stands : RunData O → ℕ → Bool → Bool → Stage S K → Type 0
+  Stands t k halted goes st =
+      (goes ≡ true → (st.state ≡ Running) × (st.k ≡ k)) × (goes ≡ false → (st.state ≢ Running) × (st.k + 1 ≤ k + extra halted))
+      × HasOut plan contents written faults t st.k st
 
-  by_goes : (t : RunData O) (k : ℕ) (goes : Bool) (st : Stage S K) → GoesBy first_tasks StageAt goes (first_tasks t k) k st → Stands t k goes st
+  by_goes : (t : RunData O) (k : ℕ) (goes : Bool) (st : Stage S K) → GoesBy first_tasks StageAt goes (first_tasks t k) k st → Stands t k false goes st
   by_goes t k true st is =
       (λ e. (is.runs refl, is.behind), λ e. absurd (not_true e), subst (λ j. HasOut plan contents written faults t j st) (sym is.behind) (runs_out plan contents taken written faults t k st is))
-  by_goes t k false st is = let x = stopped_out t k st is in (λ e. absurd (not_true (sym e)), λ e. (x.0, before st.k k x.1), x.2)
+  by_goes t k false st is = let x = stopped_out t k st is in (λ e. absurd (not_true (sym e)), λ e. (x.0, no_more st.k k x.1), x.2)
 
-  by_stop : (t : RunData O) (k : ℕ) (st : Stage S K) → StoppedAt first_tasks StageAt (first_tasks t (k + 1)) (k + 1) st → Stands t k false st
-  by_stop t k st is = let x = stopped_out t (k + 1) st is in (λ e. absurd (not_true (sym e)), λ e. (x.0, below st.k k x.1), x.2)
+  by_stop : (t : RunData O) (k : ℕ) (st : Stage S K) → StoppedAt first_tasks StageAt (first_tasks t (k + 1)) (k + 1) st → Stands t k true false st
+  by_stop t k st is = let x = stopped_out t (k + 1) st is in (λ e. absurd (not_true (sym e)), λ e. (x.0, x.1), x.2)
 
   -- the member of a query, among those at home
   abbrev Has : Bool → ℕ → ℕ → RunData O → List (Member (Stage S K)) → Type 0
-  Has halted k j t members = (m : Member (Stage S K)) × (get_elem? members j ≡ some m) × Stands t k m.goes m.stage × (halted ≡ true → m.goes ≡ false)
+  Has halted k j t members = (m : Member (Stage S K)) × (get_elem? members j ≡ some m) × Stands t k halted m.goes m.stage × (halted ≡ true → m.goes ≡ false)
 
   member_of : (told : List (RunData O)) (k : ℕ) (halted : Bool) (stages : Vec (Member (Stage S K)) Global) → StagesOf (all_upto first_tasks told (k + extra halted)) k halted stages
       → (j : ℕ) (t : RunData O) → get_elem? told j ≡ some t → Has halted k j t stages.items
@@ -138,7 +136,7 @@ module _ {O P S K : Type 0} (plan : O → Tree) (is_of : O → P → Input → �
       (z.0, z.1, by_goes t k z.0.goes z.0.stage is, λ e. absurd (not_true (sym e)))
   member_of told k true stages are j t at =
       let z = at_zip (StopsBy first_tasks StageAt (k + 1)) (all_upto first_tasks told (k + extra true)) stages.items j (first_tasks t (k + extra true)) are (at_upto first_tasks told (k + extra true) j t at) in
-      (z.0, z.1, subst (λ g. Stands t k g z.0.stage) (sym z.2.0) (by_stop t k z.0.stage z.2.1), λ e. z.2.0)
+      (z.0, z.1, subst (λ g. Stands t k true g z.0.stage) (sym z.2.0) (by_stop t k z.0.stage z.2.1), λ e. z.2.0)
 
   -- ---- the ring
 

@@ -12,7 +12,7 @@ use Rattle.saber_plan.specs.declared.stages.StageState.TheVariants.{Running}
 use Rattle.saber_fragment.specs.declared.blocks.Block.{Block}
 use Rattle.saber_fragment.specs.LookBack.{IsBlock}
 use Rattle.saber_ring.specs.declared.view.SlotValue.TheVariants as slot
-use Rattle.saber_ring.specs.Shows.{RingState}
+use Rattle.saber_ring.specs.Shows.{RingState, extra}
 use Rattle.saber_ring.specs.Plays.{turn_behind}
 use Rattle.saber_ring.specs.Laws.{TableOf, IsTable, IsWithOne}
 use Rattle.saber_assembly.specs.declared.stage.Stage.{Stage}
@@ -77,14 +77,14 @@ module _ {O P S K : Type 0} (plan : O → Tree) (is_of : O → P → Input → �
       IsOwnPiece t pieces = (piece : P) → get_elem? pieces.items j ≡ some (Some piece) → IsPieceOf plan is_of (first_tasks told (t + 1)) t piece
 
       -- With k tasks assembled: of the stages at home this is that of query j. While it goes on it runs, with k tasks behind it; else it stopped
-      -- at one of them, or at the next one, as all did where the ring is halted. The text of the tasks behind it is out. The rows of each task
-      -- that isn't assembled are whole. Each such task is still to do, or was handed in, and then its piece, or the mark, is at home; where the
-      -- ring is halted the first one was taken.
+      -- at one of these tasks, or, on a ring that is halted, where all have stopped, maybe at the next one. The text of the tasks behind it is
+      -- out. The rows of each task that isn't assembled are whole. Each such task is still to do, or was handed in, and then its piece, or the
+      -- mark, is at home; where the ring is halted the first one was taken.
       pub record IsOut (k : ℕ) (halted : Bool) (stages : Vec (Member (Stage S K)) Global) : Type 0 where
         pub member : Member (Stage S K)
         pub in_place : get_elem? stages.items j ≡ some member
         pub goes : member.goes ≡ true → (member.stage.state ≡ Running) × (member.stage.k ≡ k)
-        pub stops : member.goes ≡ false → (member.stage.state ≢ Running) × (member.stage.k ≤ k)
+        pub stops : member.goes ≡ false → (member.stage.state ≢ Running) × (member.stage.k + 1 ≤ k + extra halted)
         pub halts : halted ≡ true → member.goes ≡ false
         pub out : HasOut plan contents written faults told member.stage.k member.stage
         pub blocks : (u : ℕ) → free q n r k ≤ u → u < b.filled → AreOwnWhole u
