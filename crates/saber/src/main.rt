@@ -4,10 +4,10 @@
 //! - Call: `main` takes the runtime, and gives the status that `top` tells. Words that the system
 //!   can't hand over end it by `refuse_words`.
 //! - Proved: that it is safe; that the words go on as they are, in their order (`texts_of`); and
-//!   that what comes of them is what `top` says of answers, files and notes, or the status and the
-//!   note tell why the system couldn't hand the words over (`called`). That `main`, which takes no
-//!   clause, hands on the process's words, standard output, standard error and that status is to be
-//!   read.
+//!   that of what comes of them all holds that `top` says (`SaysTop`, its whole contract), or the
+//!   status and the note tell why the system couldn't hand the words over (`called`). That `main`,
+//!   which takes no clause, hands on the process's words, standard output, standard error and that
+//!   status is to be read.
 //! - Tested: `args`, `data`, `stdout` and `status` are one stored run, which the gate makes with
 //!   two compilers: it ends with a refused line, so the status isn't 0 and a note on standard
 //!   output would show.
@@ -61,7 +61,7 @@ fn texts_of<'a>(alloc: Global, texts: &'a [String]) -> Result<Vec<&'a str>, Word
 
 // Ends a call whose words can't be handed over, and gives the status.
 fn refused<N: Sink>(fault: WordsFault, notes: &mut N) -> u8
-    ensures { Refuses fault result (N.written notes.old) (N.written notes.new) }
+    ensures { Refuses N.written N.faults fault result notes.old notes.new }
 {
     refuse_words(fault, notes).status
 }
@@ -78,7 +78,7 @@ fn run<F: Files, U: Outs, K: Sink + Send + Drop, N: Sink, R: Threads + Wait + Sy
 ) -> u8
 where
     F::Src: Send + Drop,
-    ensures { IsOfTop F.told F.faults K.written K.faults N.written N.faults U.asked U.Out.written (map string_bytes texts.now) files.old files.new outs.old outs.new sink notes.old notes.new result }
+    ensures { IsOfTop F.told F.faults K.written K.faults N.written N.faults N.writes U.asked U.faults U.Out.written U.Out.faults (map string_bytes texts.now) files.old files.new outs.old outs.new sink notes.old notes.new result }
 {
     match texts_of(alloc, texts) {
         Ok(words) => {
@@ -103,8 +103,8 @@ fn called<F: Files, U: Outs, K: Sink + Send + Drop, N: Sink, R: Threads + Wait +
 ) -> u8
 where
     F::Src: Send + Drop,
-    ensures top { IfOk handed (λ texts. IsOfTop F.told F.faults K.written K.faults N.written N.faults U.asked U.Out.written (map string_bytes texts.items) files.old files.new outs.old outs.new sink notes.old notes.new result) }
-    ensures refused { IfErr handed (λ fault. Refuses fault result (N.written notes.old) (N.written notes.new)) }
+    ensures top { IfOk handed (λ texts. IsOfTop F.told F.faults K.written K.faults N.written N.faults N.writes U.asked U.faults U.Out.written U.Out.faults (map string_bytes texts.items) files.old files.new outs.old outs.new sink notes.old notes.new result) }
+    ensures refused { IfErr handed (λ fault. Refuses N.written N.faults fault result notes.old notes.new) }
     ensures unread { IfErr handed (λ fault. (files.new ≡ files.old) × (outs.new ≡ outs.old)) }
 {
     match handed {
