@@ -15,7 +15,7 @@ use Rattle.saber_plan.specs.Needs.{wide}
 use Rattle.saber_plan.specs.Trees.{Tree}
 use Rattle.saber_plan.specs.Sizes.{FileLimits}
 use Rattle.saber_laws.proofs.TaskCutLaws.{rows_fit as rows_have_tasks}
-use Rattle.saber_laws.proofs.WideLaws.{none_wide as none_is_wide}
+use Rattle.saber_laws.proofs.WideLaws.{none_is_wide}
 use Rattle.saber_words.specs.Demo.{AskedDemo}
 use Rattle.saber_words.specs.Commands.{Asked, demo, command_of}
 use Rattle.saber_words.specs.declared.commands.WordsFault.{WordsFault}

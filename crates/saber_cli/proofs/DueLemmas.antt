@@ -13,9 +13,9 @@ use Rattle.saber_notes.specs.declared.outcome.Outcome.{Outcome}
 use Rattle.saber_notes.specs.declared.outcome.Outcome.TheVariants.{Done, Usage, FileCount, QueryFault, SecondQueryFault, Unchainable, LineRefused, ChainLineRefused, OpenFault, ReadFault, TooWide, WriteFault, NoMemory}
 use Rattle.saber_check.proofs.FrontLaws.{a_plan_is_checked, front_has_plan, front_has_fault}
 use Rattle.saber_check.proofs.TextLaws.{fault_or_plan, one_plan}
-use Rattle.saber_laws.proofs.CheckedLaws.{checked_fits as checked_fit}
-use Rattle.saber_laws.proofs.StepLaws.{none_gives_nothing as no_rows_give_nothing}
-use Rattle.saber_laws.proofs.TaskCutLaws.{no_cut as no_tasks_no_rows}
+use Rattle.saber_laws.proofs.CheckedLaws.{checked_fit}
+use Rattle.saber_laws.proofs.StepLaws.{no_rows_give_nothing}
+use Rattle.saber_laws.proofs.TaskCutLaws.{no_tasks_no_rows}
 use Rattle.saber_cli.specs.Outcomes.{IsEarly, IsFileFault, IsQueryUnread}
 use Rattle.saber_cli.specs.Texts.{BeginsFile}
 use Rattle.saber_plan.specs.Runs.{Assembles, Reach, all_tasks, before_task, first_tasks, cut_off, reach_of}

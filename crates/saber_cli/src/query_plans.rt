@@ -57,7 +57,7 @@ fn as_second(outcome: Outcome) -> Outcome
 }
 
 // Whether a query has windows.
-#[tactic(auto, using(saber_laws::proofs::CheckedLaws::selection_has_none, saber_laws::proofs::CheckedLaws::words_have_one, saber_laws::proofs::CheckedLaws::group_has_one, saber_laws::proofs::CheckedLaws::join_has_two))]
+#[tactic(auto, using(saber_laws::proofs::CheckedLaws::selections_have_no_window, saber_laws::proofs::CheckedLaws::words_have_one_window, saber_laws::proofs::CheckedLaws::groups_have_one_window, saber_laws::proofs::CheckedLaws::joins_have_two_windows))]
 fn has_windows(plan: &Plan) -> bool
     requires { IsChecked (tree_of plan.now) }
     ensures { result ≡ has_windows (frame (tree_of plan.now)) }
