@@ -20,7 +20,7 @@ use Rattle.saber_notes.specs.declared.early.Early.{Early}
 use Rattle.saber_notes.specs.declared.early.Early.TheVariants.{Usage, QueryUnopened, QueryUnread, QueryFault, Unshareable, LeftUnopened, CreateFault, NoMemory}
 use Rattle.saber_notes.specs.declared.outcome.Outcome.{Outcome}
 use Rattle.saber_notes.specs.declared.outcome.Outcome.TheVariants.{WriteFault}
-use Rattle.saber_cli.specs.Alone.{RunsTell}
+use Rattle.saber_cli.proofs.AloneLemmas.{runs_tell}
 use Rattle.saber_cli.specs.Chained.{IsPlanned}
 use Rattle.saber_cli.specs.Due.{Contents, HasRun, contents_of}
 use Rattle.saber_cli.specs.Endings.{ended_as}
@@ -213,32 +213,32 @@ module _ {T : Type 0} (written : T → Option (List ℕ)) (failed : T → ℕ) (
   abbrev pub Over : Tree → Part T → Type 0
   Over q part = RunsOver written failed q (many_sizes m) m.left mid new part
 
-  answers_one : RunsTell → (t : FilesView) (query : List ℕ) (q : Tree) (part : Part T) (bytes : List ℕ) → IsPlanned t.contents query q → length q.streams ≡ 1 → contents_of t.contents (m.left ∷ []) ≡ Some (bytes ∷ [])
+  answers_one : (t : FilesView) (query : List ℕ) (q : Tree) (part : Part T) (bytes : List ℕ) → IsPlanned t.contents query q → length q.streams ≡ 1 → contents_of t.contents (m.left ∷ []) ≡ Some (bytes ∷ [])
       → (r : Over q part) → IfSome (contents_of t.contents (m.left ∷ [])) (λ all. GivesOver q (many_sizes m) all r.end part.tasks r.out) → AnswersAlone written t.contents (alone m query) part
-  answers_one tell t query q part bytes p one there r g = record {
+  answers_one t query q part bytes p one there r g = record {
     out = r.out;
     holds = r.holds;
     gives = subst (λ o. Gives t.contents (run (alone m query)) o part.tasks r.out) (sym r.tells.outcome_is)
-        (tell t.contents (alone m query) q (bytes ∷ []) r.end part.tasks r.out (has_run t.contents m query q p) one there (subst (λ x. IfSome x (λ all. GivesOver q (many_sizes m) all r.end part.tasks r.out)) there g));
+        (runs_tell t.contents (alone m query) q (bytes ∷ []) r.end part.tasks r.out (has_run t.contents m query q p) one there (subst (λ x. IfSome x (λ all. GivesOver q (many_sizes m) all r.end part.tasks r.out)) there g));
   }
 
-  answers_each : RunsTell → (t u : FilesView) (names : List (List ℕ)) (plans : List Plan) (parts : List (Part T)) (columns : ℕ) (bytes : List ℕ) → mid ≡ Some u → u.contents ≡ t.contents → ArePlanned t.contents names (map tree_of plans)
+  answers_each : (t u : FilesView) (names : List (List ℕ)) (plans : List Plan) (parts : List (Part T)) (columns : ℕ) (bytes : List ℕ) → mid ≡ Some u → u.contents ≡ t.contents → ArePlanned t.contents names (map tree_of plans)
       → AllByRecursion (HasStream columns) (map tree_of plans) → contents_of t.contents (m.left ∷ []) ≡ Some (bytes ∷ []) → AllZip (λ plan part. Over (tree_of plan) part) plans parts → AllZip (λ query part. AnswersAlone written t.contents (alone m query) part) names parts
-  answers_each tell t u [] [] [] columns bytes e same p share there r = tt
-  answers_each tell t u [] [] (part ∷ parts) columns bytes e same p share there r = absurd r
-  answers_each tell t u [] (plan ∷ plans) parts columns bytes e same p share there r = absurd p
-  answers_each tell t u (name ∷ names) [] parts columns bytes e same p share there r = absurd p
-  answers_each tell t u (name ∷ names) (plan ∷ plans) [] columns bytes e same p share there r = absurd r
-  answers_each tell t u (name ∷ names) (plan ∷ plans) (part ∷ parts) columns bytes e same p share there r =
+  answers_each t u [] [] [] columns bytes e same p share there r = tt
+  answers_each t u [] [] (part ∷ parts) columns bytes e same p share there r = absurd r
+  answers_each t u [] (plan ∷ plans) parts columns bytes e same p share there r = absurd p
+  answers_each t u (name ∷ names) [] parts columns bytes e same p share there r = absurd p
+  answers_each t u (name ∷ names) (plan ∷ plans) [] columns bytes e same p share there r = absurd r
+  answers_each t u (name ∷ names) (plan ∷ plans) (part ∷ parts) columns bytes e same p share there r =
       let gives = subst (λ o. IfSome o (λ (v : FilesView). IfSome (contents_of v.contents (m.left ∷ [])) (λ all. GivesOver (tree_of plan) (many_sizes m) all r.0.end part.tasks r.0.out))) e r.0.gives in (
-        answers_one tell t name (tree_of plan) part bytes p.0 share.0.one there r.0 (subst (λ files. IfSome (contents_of files (m.left ∷ [])) (λ all. GivesOver (tree_of plan) (many_sizes m) all r.0.end part.tasks r.0.out)) same gives),
-        answers_each tell t u names plans parts columns bytes e same p.1 share.1 there r.1,
+        answers_one t name (tree_of plan) part bytes p.0 share.0.one there r.0 (subst (λ files. IfSome (contents_of files (m.left ∷ [])) (λ all. GivesOver (tree_of plan) (many_sizes m) all r.0.end part.tasks r.0.out)) same gives),
+        answers_each t u names plans parts columns bytes e same p.1 share.1 there r.1,
       )
 
   -- the parts say what runs of the queries alone say
-  pub answers_told : RunsTell → (plans : List Plan) (parts : List (Part T)) → IfSome old (λ t. ArePlanned t.contents m.queries (map tree_of plans)) → MayShare (map tree_of plans) → AllRead m.queries old mid → IfSome mid (λ u. IsThere u.contents m.left)
+  pub answers_told : (plans : List Plan) (parts : List (Part T)) → IfSome old (λ t. ArePlanned t.contents m.queries (map tree_of plans)) → MayShare (map tree_of plans) → AllRead m.queries old mid → IfSome mid (λ u. IsThere u.contents m.left)
       → AllZip (λ plan part. Over (tree_of plan) part) plans parts → EachAnswers written m old parts
-  answers_told tell plans parts p share all left r = some_told old refl
+  answers_told plans parts p share all left r = some_told old refl
     where
       some_told : (o : Option FilesView) → old ≡ o → IfSome o (λ t. AllZip (λ query part. AnswersAlone written t.contents (alone m query) part) m.queries parts)
       some_told None e = tt
@@ -246,7 +246,7 @@ module _ {T : Type 0} (written : T → Option (List ℕ)) (failed : T → ℕ) (
           let u : FilesView = record { contents = t.contents; asked = t.asked ++ m.queries; closed = t.closed ++ all.given_back } in
           let mid_is : mid ≡ Some u = all.told ∙ ap (λ x. after_use x m.queries all.given_back) e in
           let there : IsThere t.contents m.left = told_at (λ v. IsThere v.contents m.left) mid u mid_is left in
-          answers_each tell t u m.queries plans parts (first_columns (map tree_of plans)) there.0 mid_is refl (told_at (λ v. ArePlanned v.contents m.queries (map tree_of plans)) old t e p) share (ap (option_and_then (λ bytes. Some (bytes ∷ []))) there.1) r
+          answers_each t u m.queries plans parts (first_columns (map tree_of plans)) there.0 mid_is refl (told_at (λ v. ArePlanned v.contents m.queries (map tree_of plans)) old t e p) share (ap (option_and_then (λ bytes. Some (bytes ∷ []))) there.1) r
 
   takes_one : (query : List ℕ) (q : Tree) (part : Part T) → IfSome old (λ t. IsPlanned t.contents query q) → AllRead m.queries old mid → Over q part → CutTakesLeft m old new query part
   takes_one query q part p all r k = some_told old refl

@@ -14,7 +14,6 @@ use crate::ended::TopEnd;
 use crate::left::run_left;
 use crate::parts::PartList;
 use crate::plans::shared_plans;
-use saber_cli::runs_tell;
 use saber_io::{Files, Gate, Outs};
 use saber_notes::Early;
 use saber_plan::Sizes;
@@ -77,7 +76,6 @@ fn many_parts<F: Files, U: Outs, G: Gate + Sync, R: Threads + Wait + Sync>(
     ensures outs_other { IfErr result (λ e. (IsCreateEnd e → ⊥) → U.faults outs.new ≡ U.faults outs.old) }
     ensures read { IfErr result (λ e. e ≢ Early.Usage) }
 {
-    runs_tell();
     let plans = match shared_plans(alloc, files, &many.queries) {
         Ok(plans) => plans,
         Err(early) => return Err(early),

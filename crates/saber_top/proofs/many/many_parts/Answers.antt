@@ -70,7 +70,7 @@ returns-in-Ok-run_left-clause-parts g c =
     record {
       early = tt;
       each = λ _. zip_long (λ plan part. RunsOver written failed (tree_of plan) (many_sizes m) m.left mid new part) plans parts over ∙ many;
-      answers = λ _. answers_told written failed m old mid new c.runs_tell.ensures plans parts planned c.in-Ok.ensures.share read c.in-Ok-run_left.ensures.there over;
+      answers = λ _. answers_told written failed m old mid new plans parts planned c.in-Ok.ensures.share read c.in-Ok-run_left.ensures.there over;
       taken = λ _. takes_told written failed m old mid new plans parts planned many read over;
       leaves = tt;
       leaves_each = λ _. left_leaves m (LeftRan (outcomes_of parts)) (RanFits n (outcomes_of parts)) trees old mid new (ran_follows n (outcomes_of parts)) planned c.in-Ok.ensures.share read c.in-Ok-run_left.ensures.used;
