@@ -3,7 +3,7 @@
 
 Without CRATE it looks through all crates. A line a file names them, with how many lines they have. A declaration is reached where its
 name stands in an answer, a contract, a module that is imported with it, or in another one that is reached; worked rows (`Worked*`,
-`Cases`, `Checks`) are reached by themselves. It reads names, not meanings: a row is a place to look, and the checker decides what may go.
+`*Cases`, `Checks`) are reached by themselves. It reads names, not meanings: a row is a place to look, and the checker decides what may go.
 """
 import collections
 import glob
@@ -14,8 +14,8 @@ import sys
 TOP = os.path.dirname(os.path.dirname(os.path.dirname(os.path.realpath(__file__))))
 NAME = r"[^\s:(){},.=]+"
 USE = re.compile(r"^\s*(?:ghost )?use (Rattle\.[\w.]+)\.\{([^}]*)\}", re.M)
-HEAD = re.compile(rf"^((?:abbrev |pub |record |data |ruleset |unfoldable )*)({NAME}(?:, {NAME})*)(?= :| \(.*\) :| \{{.*\}} :)")
-WORKED = ("Worked", "Cases", "Checks")
+HEAD = re.compile(rf"^((?:abbrev |pub |record |data |unfoldable )*)(?:({NAME}(?:, {NAME})*)(?= :| \(.*\) :| \{{.*\}} :)|ruleset ({NAME}) =)")
+WORKED = "^Worked|Cases$|^Checks$"
 
 
 def module_of(path):
@@ -57,7 +57,7 @@ class Module:
             if indent(line) > depth:
                 continue
             head = HEAD.match(body)
-            names = [it.strip() for it in head[2].split(",")] if head else None
+            names = [it.strip() for it in (head[2] or head[3]).split(",")] if head else None
             if head and (head[1] or not now or names != now[0]):
                 now = (names, number)
                 self.parts.append((names, number))
@@ -105,7 +105,7 @@ def roots_of(crate, modules, others):
         for way, name in re.findall(rf"(?:{crate}|crate)::((?:proofs|specs)(?:::\w+)+)::([\w-]+)", text):
             yield f"Rattle.{crate}." + way.replace("::", "."), name
     for module in modules:
-        worked = module.name.split(".")[-1].startswith(WORKED)
+        worked = re.search(WORKED, module.name.split(".")[-1])
         if worked:
             yield from ((module.name, name) for names, _ in module.parts for name in names)
         for start in module.heads:
