@@ -12,11 +12,11 @@ use Rattle.saber_plan.specs.declared.ends.RunEnd.TheVariants as ends
 use Rattle.saber_plan.specs.Files.{input_of}
 use Rattle.saber_plan.specs.Runs as run_defs
 use Rattle.saber_plan.specs.Runs.{Assembles, Reach, reach_of}
-use Rattle.saber_notes.specs.declared.outcome.InputFile.TheVariants.{Query, Left, Right, SecondQuery}
+use Rattle.saber_notes.specs.declared.outcome.InputFile.TheVariants.{Left, Right}
 use Rattle.saber_notes.specs.declared.outcome.Outcome.{Outcome}
 use Rattle.saber_notes.specs.declared.outcome.Outcome.TheVariants.{Done, Usage, FileCount, QueryFault, SecondQueryFault, Unchainable, LineRefused, ChainLineRefused, OpenFault, ReadFault, TooWide, WriteFault, NoMemory}
 use Rattle.saber_cli.specs.Uses.{IsOpened}
-use Rattle.saber_cli.specs.Outcomes.{IsClean, IsNoEnd, IsEarly, IsOfRun, IsUnopened, IsBeforeRun}
+use Rattle.saber_cli.specs.Outcomes.{IsClean, IsNoEnd, IsEarly, IsOfRun, IsUnopened}
 use Rattle.saber_cli.specs.Endings.{end_of, ended_as, file_on, EndsSo}
 use Rattle.saber_cli.specs.Answered.{Answered, AnsweredIn}
 use Rattle.saber_cli.proofs.DueLemmas.{nothing_assembled}
@@ -75,24 +75,6 @@ no_answer q n ring limits flush (Some all) o k h = record {
   ends = none_ends q n ring flush (input_of q limits all) o (unopened_no_end o h);
   puts = nothing_assembled q n (run_input q flush (input_of q limits all)) o k (no_end_early o (unopened_no_end o h));
 }
-
-pub unopened_of_run : (o : Outcome) → IsUnopened o → IsOfRun o
-unopened_of_run Done h = absurd h
-unopened_of_run Usage h = absurd h
-unopened_of_run (SecondQueryFault place why) h = absurd h
-unopened_of_run (Unchainable which) h = absurd h
-unopened_of_run (ChainLineRefused place why) h = absurd h
-unopened_of_run (FileCount s g) h = absurd h
-unopened_of_run (QueryFault b c) h = absurd h
-unopened_of_run (LineRefused s n c) h = absurd h
-unopened_of_run (OpenFault Query) h = absurd h
-unopened_of_run (OpenFault SecondQuery) h = absurd h
-unopened_of_run (OpenFault Left) h = tt
-unopened_of_run (OpenFault Right) h = tt
-unopened_of_run (ReadFault f) h = absurd h
-unopened_of_run (TooWide t n r) h = absurd h
-unopened_of_run WriteFault h = absurd h
-unopened_of_run NoMemory h = tt
 
 -- ---- over sources that may tell their bytes
 
@@ -176,22 +158,3 @@ run_opened ring (ends.ReadFault side) = tt
 run_opened ring (ends.TooWide task need) = tt
 run_opened ring ends.WriteFault = tt
 run_opened ring ends.NoMemory = tt
-
--- not before the run
-pub run_not_before : (o : Outcome) → IsOfRun o → IsOpened o → IsBeforeRun o → ⊥
-run_not_before Done h p b = b
-run_not_before Usage h p b = h
-run_not_before (SecondQueryFault place why) h p b = h
-run_not_before (Unchainable which) h p b = h
-run_not_before (ChainLineRefused place why) h p b = h
-run_not_before (FileCount s g) h p b = h
-run_not_before (QueryFault q c) h p b = h
-run_not_before (LineRefused s n c) h p b = b
-run_not_before (OpenFault f) h p b = p
-run_not_before (ReadFault Query) h p b = h
-run_not_before (ReadFault SecondQuery) h p b = h
-run_not_before (ReadFault Left) h p b = b
-run_not_before (ReadFault Right) h p b = b
-run_not_before (TooWide t n r) h p b = b
-run_not_before WriteFault h p b = b
-run_not_before NoMemory h p b = b

@@ -1,15 +1,14 @@
 -- One file that is opened, read and given back.
-use Rattle.std.proofs.Common.{Result, Ok, Err, IfOk, IfErr, OnOk, refl, sym, ◌≡◌, ℕ, ◌<◌, ◌≤◌, List, take, Option, Some, None, IfSome, ◌∙◌, ap, subst, arith}
-use Rattle.std.proofs.lemmas.Bool.Decides.{nat_tests}
+use Rattle.std.proofs.Common.{Result, Ok, Err, IfOk, IfErr, OnOk, refl, sym, ◌≡◌, ℕ, ◌<◌, List, take, Option, Some, None, IfSome, ◌∙◌, ap, subst, arith}
 use Rattle.saber_io.specs.Outside.{FilesView, after_asking, after_closing, raised_faults, Opens}
 use Rattle.saber_plan.specs.Outputs.{Rose}
 use Rattle.saber_notes.specs.declared.outcome.InputFile.{InputFile}
-use Rattle.saber_notes.specs.declared.outcome.InputFile.TheVariants.{Query, Left, Right, SecondQuery}
+use Rattle.saber_notes.specs.declared.outcome.InputFile.TheVariants.{Query}
 use Rattle.saber_notes.specs.declared.outcome.Outcome.{Outcome}
 use Rattle.saber_notes.specs.declared.outcome.Outcome.TheVariants.{Done, Usage, FileCount, QueryFault, SecondQueryFault, Unchainable, LineRefused, ChainLineRefused, OpenFault, ReadFault, TooWide, WriteFault, NoMemory}
-use Rattle.saber_cli.specs.Outcomes.{IsClean, IsFileFault}
+use Rattle.saber_cli.specs.Outcomes.{IsClean}
 use Rattle.saber_cli.specs.Texts.{BeginsFile, TakesFew, read_limit}
-use Rattle.saber_cli.specs.Uses.{Uses, used, IsOfQueryFile, IsOpened, IsOfText, IsOfQuery, outcome_of, KeepsFaults}
+use Rattle.saber_cli.specs.Uses.{Uses, used, IsOfQueryFile, IsOpened, IsOfText, outcome_of, KeepsFaults}
 
 -- what was read of a source that was opened is the beginning of its file
 pub opened_front : (told : Option FilesView) (name : List ℕ) (left : Option (List ℕ)) (text : List ℕ) → Opens told name left → IfSome left (λ whole. text ≡ take read_limit whole) → IfSome told (λ t. BeginsFile t.contents name text)
@@ -81,67 +80,11 @@ pub text_good : {X : Type 0} (r : Result X Outcome) (a b c f : ℕ) → IfErr r 
 text_good (Ok x) a b c f h z e k n = k ∙ ap (raised_faults b) z ∙ e
 text_good (Err o) a b c f h z e k n = absurd (text_not_clean o h n)
 
--- a text's read fault is a fault of the files
-text_cause : (o : Outcome) → IsOfText o → IsFileFault o → o ≡ ReadFault Query
-text_cause Done h f = absurd f
-text_cause Usage h f = absurd f
-text_cause (SecondQueryFault place why) h f = absurd f
-text_cause (Unchainable which) h f = absurd f
-text_cause (ChainLineRefused place why) h f = absurd f
-text_cause (FileCount s g) h f = absurd f
-text_cause (QueryFault b c) h f = absurd f
-text_cause (LineRefused s n c) h f = absurd f
-text_cause (OpenFault file) h f = absurd h
-text_cause (ReadFault Query) h f = refl
-text_cause (ReadFault Left) h f = absurd h
-text_cause (ReadFault SecondQuery) h f = absurd h
-text_cause (ReadFault Right) h f = absurd h
-text_cause (TooWide t n r) h f = absurd f
-text_cause WriteFault h f = absurd f
-text_cause NoMemory h f = absurd f
-
-pub text_fault : {X : Type 0} (r : Result X Outcome) (P : Type 0) → IfErr r IsOfText → IfErr r (λ o. o ≡ ReadFault Query → P) → IfErr r (λ o. IsFileFault o → P)
-text_fault (Ok x) P h k = tt
-text_fault (Err o) P h k = λ f. k (text_cause o h f)
-
-pub text_of_query : {X : Type 0} (r : Result X Outcome) → IfErr r IsOfText → IfErr r IsOfQuery
-text_of_query (Ok x) h = tt
-text_of_query (Err Done) h = absurd h
-text_of_query (Err Usage) h = absurd h
-text_of_query (Err (SecondQueryFault place why)) h = absurd h
-text_of_query (Err (Unchainable which)) h = absurd h
-text_of_query (Err (ChainLineRefused place why)) h = absurd h
-text_of_query (Err (FileCount s g)) h = absurd h
-text_of_query (Err (QueryFault b c)) h = absurd h
-text_of_query (Err (LineRefused s n c)) h = absurd h
-text_of_query (Err (OpenFault file)) h = absurd h
-text_of_query (Err (ReadFault Query)) h = tt
-text_of_query (Err (ReadFault Left)) h = absurd h
-text_of_query (Err (ReadFault SecondQuery)) h = absurd h
-text_of_query (Err (ReadFault Right)) h = absurd h
-text_of_query (Err (TooWide t n r)) h = absurd h
-text_of_query (Err WriteFault) h = absurd h
-text_of_query (Err NoMemory) h = tt
-
 -- ---- counts of faults
-
-pub keeps_more : (a b : ℕ) → a ≤ b → KeepsFaults a b
-keeps_more a b h = omega arith
-
--- giving a source back loses no fault
-pub keeps_raised : (a b f c : ℕ) → a ≤ b → c ≡ raised_faults b f → KeepsFaults a c
-keeps_raised a b f c h e = grind (arith, nat_tests)
-
--- faults of a source are a fault of its files
-pub rose_raised : (a b f c : ℕ) → a ≤ b → 0 < f → c ≡ raised_faults b f → Rose a c
-rose_raised a b f c h k e = grind (arith, nat_tests)
 
 -- a count that rose from nothing is above nothing
 pub rose_some : (a b : ℕ) → a ≡ 0 → Rose a b → 0 < b
 rose_some a b e h = omega arith
-
-pub keeps_keeps : (a b c : ℕ) → KeepsFaults a b → KeepsFaults b c → KeepsFaults a c
-keeps_keeps a b c h k = omega arith
 
 -- a count that rose later rose from before too
 pub keeps_rose : (a b c : ℕ) → KeepsFaults a b → Rose b c → Rose a c

@@ -1,24 +1,20 @@
 -- The plans of a chain's queries, and why there are none.
-use Rattle.std.proofs.Common.{◌≡◌, ◌≢◌, ℕ, List, [], ◌∷◌, length, Option, refl, sym, ◌∙◌, subst}
+use Rattle.std.proofs.Common.{◌≡◌, ℕ, List, [], length, Option, sym, ◌∙◌, subst}
 use Rattle.saber_io.specs.Outside.{FilesView}
-use Rattle.saber_plan.specs.declared.plans.Shape.{Shape}
-use Rattle.saber_plan.specs.declared.plans.Shape.TheVariants.{Select, Group, Join}
-use Rattle.saber_plan.specs.declared.windows.Stream.{Stream}
 use Rattle.saber_plan.specs.Trees.{Tree}
-use Rattle.saber_plan.specs.Checked.{IsChecked, StreamsFit}
 use Rattle.saber_words.specs.Chain.{AskedChain}
 use Rattle.saber_notes.specs.declared.outcome.InputFile.TheVariants.{Query, Left, Right, SecondQuery}
 use Rattle.saber_notes.specs.declared.outcome.Outcome.{Outcome}
 use Rattle.saber_notes.specs.declared.outcome.Outcome.TheVariants.{Done, Usage, FileCount, QueryFault, SecondQueryFault, Unchainable, LineRefused, ChainLineRefused, OpenFault, ReadFault, TooWide, WriteFault, NoMemory}
 use Rattle.saber_check.specs.Texts.{HasPlan}
-use Rattle.saber_cli.specs.Outcomes.{IsClean, IsFileFault, IsOfPlan, IsOfPlans, IsOfRun, IsOfSecond, IsOfShow}
+use Rattle.saber_cli.specs.Outcomes.{IsOfPlan, IsOfPlans, IsOfRun, IsOfSecond, IsOfShow}
 use Rattle.saber_cli.specs.Texts.{BeginsFile}
 use Rattle.saber_cli.specs.Planned.{IsTextFault}
 use Rattle.saber_cli.specs.Puts.{IsOfPut}
 use Rattle.saber_cli.specs.Uses.{Uses, unasked, unopened, used, IsOpened, IsOfQuery}
 use Rattle.saber_cli.specs.Due.{Contents, first_run, row_names}
 use Rattle.saber_cli.specs.Chained.{HasPlans, HasReason, IsPlanned}
-use Rattle.saber_cli.specs.Chaining.{IsMisfit, LacksPlan, as_second}
+use Rattle.saber_cli.specs.Chaining.{IsMisfit, LacksPlan}
 use Rattle.saber_cli.proofs.DueLemmas.{begun_plan, begun_fault}
 
 -- ---- one query
@@ -84,21 +80,6 @@ query_kinds (TooWide task need cells) h = absurd h
 query_kinds WriteFault h = absurd h
 query_kinds NoMemory h = tt
 
-pub text_kinds : (text : List ℕ) (o : Outcome) → IsTextFault text o → IsOfPlan o
-text_kinds text Done h = absurd h
-text_kinds text Usage h = absurd h
-text_kinds text (FileCount streams given) h = absurd h
-text_kinds text (QueryFault place why) h = tt
-text_kinds text (SecondQueryFault place why) h = absurd h
-text_kinds text (Unchainable which) h = absurd h
-text_kinds text (LineRefused side line why) h = absurd h
-text_kinds text (ChainLineRefused line why) h = absurd h
-text_kinds text (OpenFault file) h = absurd h
-text_kinds text (ReadFault file) h = absurd h
-text_kinds text (TooWide task need cells) h = absurd h
-text_kinds text WriteFault h = absurd h
-text_kinds text NoMemory h = tt
-
 refused_opened : (text : List ℕ) (o : Outcome) → IsTextFault text o → IsOpened o
 refused_opened text Done h = absurd h
 refused_opened text Usage h = absurd h
@@ -119,21 +100,6 @@ pub uses_refused : (name text : List ℕ) (o : Outcome) (old new : Option FilesV
 uses_refused name text o old new h (unasked e s) = cc
 uses_refused name text o old new h (unopened e s) = cc
 uses_refused name text o old new h (used left faults f c i p s) = used left faults (λ e. absurd (subst (IsTextFault text) e h)) (λ k. c tt) i (refused_opened text o h) s
-
-pub text_no_file : (text : List ℕ) (o : Outcome) → IsTextFault text o → IsFileFault o → ⊥
-text_no_file text Done h f = f
-text_no_file text Usage h f = f
-text_no_file text (FileCount streams given) h f = f
-text_no_file text (QueryFault place why) h f = f
-text_no_file text (SecondQueryFault place why) h f = f
-text_no_file text (Unchainable which) h f = f
-text_no_file text (LineRefused side line why) h f = f
-text_no_file text (ChainLineRefused line why) h f = f
-text_no_file text (OpenFault file) h f = h
-text_no_file text (ReadFault file) h f = h
-text_no_file text (TooWide task need cells) h f = f
-text_no_file text WriteFault h f = f
-text_no_file text NoMemory h f = f
 
 -- ---- the second query, as it is told
 
@@ -158,51 +124,6 @@ first_kinds (TooWide task need cells) h = absurd h
 first_kinds WriteFault h = absurd h
 first_kinds NoMemory h = tt
 
-pub second_kinds : (o : Outcome) → IsOfPlan o → IsOfPlans (as_second o)
-second_kinds Done h = absurd h
-second_kinds Usage h = absurd h
-second_kinds (FileCount streams given) h = absurd h
-second_kinds (QueryFault place why) h = tt
-second_kinds (SecondQueryFault place why) h = absurd h
-second_kinds (Unchainable which) h = absurd h
-second_kinds (LineRefused side line why) h = absurd h
-second_kinds (ChainLineRefused line why) h = absurd h
-second_kinds (OpenFault file) h = tt
-second_kinds (ReadFault file) h = tt
-second_kinds (TooWide task need cells) h = absurd h
-second_kinds WriteFault h = absurd h
-second_kinds NoMemory h = tt
-
-pub second_file : (o : Outcome) → IsFileFault (as_second o) → IsFileFault o
-second_file Done f = f
-second_file Usage f = f
-second_file (FileCount streams given) f = f
-second_file (QueryFault place why) f = f
-second_file (SecondQueryFault place why) f = f
-second_file (Unchainable which) f = f
-second_file (LineRefused side line why) f = f
-second_file (ChainLineRefused line why) f = f
-second_file (OpenFault file) f = tt
-second_file (ReadFault file) f = tt
-second_file (TooWide task need cells) f = f
-second_file WriteFault f = f
-second_file NoMemory f = f
-
-pub second_clean : (o : Outcome) → IsClean (as_second o) → IsClean o
-second_clean Done c = c
-second_clean Usage c = c
-second_clean (FileCount streams given) c = c
-second_clean (QueryFault place why) c = tt
-second_clean (SecondQueryFault place why) c = c
-second_clean (Unchainable which) c = c
-second_clean (LineRefused side line why) c = c
-second_clean (ChainLineRefused line why) c = c
-second_clean (OpenFault file) c = c
-second_clean (ReadFault file) c = c
-second_clean (TooWide task need cells) c = c
-second_clean WriteFault c = c
-second_clean NoMemory c = c
-
 -- ---- why nothing is run
 
 pub first_reason : (files : Contents) (a : AskedChain) (o : Outcome) → LacksPlan files a.first o → HasReason files a o
@@ -226,27 +147,6 @@ first_reason files a (TooWide task need cells) h = absurd h
 first_reason files a WriteFault h = absurd h
 first_reason files a NoMemory h = tt
 
-pub second_reason : (files : Contents) (a : AskedChain) (p : Tree) (o : Outcome) → IsPlanned files a.first p → LacksPlan files a.second o → HasReason files a (as_second o)
-second_reason files a p Done u h = absurd h
-second_reason files a p Usage u h = absurd h
-second_reason files a p (FileCount streams given) u h = absurd h
-second_reason files a p (QueryFault place why) u h = (p, u, h)
-second_reason files a p (SecondQueryFault place why) u h = absurd h
-second_reason files a p (Unchainable which) u h = absurd h
-second_reason files a p (LineRefused side line why) u h = absurd h
-second_reason files a p (ChainLineRefused line why) u h = absurd h
-second_reason files a p (OpenFault Query) u h = (p, u)
-second_reason files a p (OpenFault Left) u h = absurd h
-second_reason files a p (OpenFault Right) u h = absurd h
-second_reason files a p (OpenFault SecondQuery) u h = absurd h
-second_reason files a p (ReadFault Query) u h = (p, u)
-second_reason files a p (ReadFault Left) u h = absurd h
-second_reason files a p (ReadFault Right) u h = absurd h
-second_reason files a p (ReadFault SecondQuery) u h = absurd h
-second_reason files a p (TooWide task need cells) u h = absurd h
-second_reason files a p WriteFault u h = absurd h
-second_reason files a p NoMemory u h = tt
-
 pub misfit_reason : (files : Contents) (a : AskedChain) (p q : Tree) (n : ℕ) (o : Outcome) → HasPlans files a p q → n ≡ length (row_names (first_run a)) → IsMisfit p q n o → HasReason files a o
 misfit_reason files a p q n Done u e h = absurd h
 misfit_reason files a p q n Usage u e h = absurd h
@@ -264,51 +164,6 @@ misfit_reason files a p q n (ReadFault file) u e h = absurd h
 misfit_reason files a p q n (TooWide task need cells) u e h = absurd h
 misfit_reason files a p q n WriteFault u e h = absurd h
 misfit_reason files a p q n NoMemory u e h = absurd h
-
-pub misfit_kinds : (p q : Tree) (n : ℕ) (o : Outcome) → IsMisfit p q n o → IsOfPlans o
-misfit_kinds p q n Done h = absurd h
-misfit_kinds p q n Usage h = absurd h
-misfit_kinds p q n (FileCount streams given) h = tt
-misfit_kinds p q n (QueryFault place why) h = absurd h
-misfit_kinds p q n (SecondQueryFault place why) h = absurd h
-misfit_kinds p q n (Unchainable which) h = tt
-misfit_kinds p q n (LineRefused side line why) h = absurd h
-misfit_kinds p q n (ChainLineRefused line why) h = absurd h
-misfit_kinds p q n (OpenFault file) h = absurd h
-misfit_kinds p q n (ReadFault file) h = absurd h
-misfit_kinds p q n (TooWide task need cells) h = absurd h
-misfit_kinds p q n WriteFault h = absurd h
-misfit_kinds p q n NoMemory h = absurd h
-
-pub misfit_no_file : (p q : Tree) (n : ℕ) (o : Outcome) → IsMisfit p q n o → IsFileFault o → ⊥
-misfit_no_file p q n Done h f = f
-misfit_no_file p q n Usage h f = f
-misfit_no_file p q n (FileCount streams given) h f = f
-misfit_no_file p q n (QueryFault place why) h f = f
-misfit_no_file p q n (SecondQueryFault place why) h f = f
-misfit_no_file p q n (Unchainable which) h f = f
-misfit_no_file p q n (LineRefused side line why) h f = f
-misfit_no_file p q n (ChainLineRefused line why) h f = f
-misfit_no_file p q n (OpenFault file) h f = h
-misfit_no_file p q n (ReadFault file) h f = h
-misfit_no_file p q n (TooWide task need cells) h f = f
-misfit_no_file p q n WriteFault h f = f
-misfit_no_file p q n NoMemory h f = f
-
--- ---- plans
-
-one_stream_of : (s : Shape) (xs : List Stream) → StreamsFit s xs → s ≢ Join → length xs ≡ 1
-one_stream_of Select [] h n = absurd h
-one_stream_of Select (x ∷ []) h n = refl
-one_stream_of Select (x ∷ y ∷ ys) h n = absurd h
-one_stream_of Group [] h n = absurd h
-one_stream_of Group (x ∷ []) h n = refl
-one_stream_of Group (x ∷ y ∷ ys) h n = absurd h
-one_stream_of Join xs h n = absurd (n refl)
-
--- a query that is no join has one stream
-pub one_stream : (q : Tree) → IsChecked q → q.shape ≢ Join → length q.streams ≡ 1
-one_stream q h n = one_stream_of q.shape q.streams h.streams n
 
 -- ---- what no other command comes to
 

@@ -138,17 +138,6 @@ stays d (y ∷ ys) h =
     let rest : raised_faults d y.1 ≤ raised_by (raised_faults d y.1) ys = stays (raised_faults d y.1) ys small in
     omega (arith, more, rest)
 
-pub keeps_by : (c : ℕ) (ys : List Closed) → KeepsFaults c (raised_by c ys)
-keeps_by c [] = omega arith
-keeps_by c (y ∷ ys) =
-    let one : KeepsFaults c (raised_faults c y.1) = grind (arith, nat_tests) in
-    let rest : KeepsFaults (raised_faults c y.1) (raised_by (raised_faults c y.1) ys) = keeps_by (raised_faults c y.1) ys in
-    omega (arith, one, rest)
-
-none_raised : (c : ℕ) (ys : List Closed) → HadNoFaults ys → raised_by c ys ≡ c
-none_raised c [] h = refl
-none_raised c (y ∷ ys) h = let same : raised_faults c y.1 ≡ c = grind (arith, nat_tests, h.0) in ap (λ x. raised_by x ys) same ∙ none_raised c ys h.1
-
 -- behind a source that had faults
 rose_behind : (c f : ℕ) (ys : List Closed) → 0 < f → Rose c (raised_by (raised_faults c f) ys)
 rose_behind c f ys h =
@@ -288,6 +277,3 @@ module _ {S : Type 0} (left : S → Option (List ℕ)) (faults : S → ℕ) wher
   run_cause (TooWide t l w) i j a b c z e f h p r k = absurd k
   run_cause WriteFault i j a b c z e f h p r k = absurd k
   run_cause NoMemory i j a b c z e f h p r k = absurd k
-
-  pub run_good : (i j : Inputs S) (a b c : ℕ) → HadNoFaults (backs left faults i) → b ≡ a → c ≡ raised_by b (backs left faults j) → each_input faults j ≡ each_input faults i → c ≡ a
-  run_good i j a b c z e f g = f ∙ none_raised b (backs left faults j) (no_faults_same (backs left faults i) (backs left faults j) (faults_of left faults j ∙ g ∙ sym (faults_of left faults i)) z) ∙ e

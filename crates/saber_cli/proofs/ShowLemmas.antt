@@ -176,21 +176,6 @@ put_showed text shown (OpenFault f) out s k (no_text n w) = absurd k
 put_showed text shown (ReadFault f) out s k (no_text n w) = absurd k
 put_showed text shown (TooWide a b d) out s k (no_text n w) = absurd k
 
-pub put_kinds : (o : Outcome) → IsOfPut o → IsOfShow o
-put_kinds Done k = tt
-put_kinds WriteFault k = tt
-put_kinds NoMemory k = tt
-put_kinds Usage k = absurd k
-put_kinds (SecondQueryFault place why) k = absurd k
-put_kinds (Unchainable which) k = absurd k
-put_kinds (ChainLineRefused place why) k = absurd k
-put_kinds (FileCount a b) k = absurd k
-put_kinds (QueryFault a b) k = absurd k
-put_kinds (LineRefused a b d) k = absurd k
-put_kinds (OpenFault f) k = absurd k
-put_kinds (ReadFault f) k = absurd k
-put_kinds (TooWide a b d) k = absurd k
-
 -- a check gives what became of its query's text
 pub gives_show : (files : Contents) (c : AskedCheck) (text : List ℕ) (o : Outcome) (out : List ℕ) → BeginsFile files c.query text → Showed text o out → Gives files (check c) o 0 out
 gives_show files c text o out b (all_shown e s) = let w = begun_shows files c.query text out b s in gives_shown files c w.0 out o out w.1 w.2 (inl e) (whole_text e refl)

@@ -1,17 +1,15 @@
 -- How a run ends.
-use Rattle.std.proofs.Common.{◌≡◌, ℕ, Bool, true, false, ◌+◌, ◌≤◌, refl, sym, ◌∙◌, ap, subst, ⊎_elim, arith}
+use Rattle.std.proofs.Common.{◌≡◌, ℕ, Bool, true, false, ◌+◌, ◌≤◌, sym, ◌∙◌, ap, subst, ⊎_elim, arith}
 use Rattle.std.specs.Prelude.{◌⊎◌, Option, Some, None, IfSome}
 use Rattle.saber_ring.specs.declared.view.View.{View}
 use Rattle.saber_ring.specs.declared.view.Lead.{Lead}
 use Rattle.saber_ring.specs.Shows.{extra, start, first_view}
-use Rattle.saber_ring.specs.Opening.{Begins}
-use Rattle.saber_ring.specs.Closing.{Finishes, IsLast}
-use Rattle.saber_workers.specs.Seats.{OfBase}
-use Rattle.saber_workers.specs.Lasts.{GaveAll, HasFilled}
+use Rattle.saber_ring.specs.Closing.{Finishes}
+use Rattle.saber_workers.specs.Lasts.{GaveAll}
 use Rattle.saber_workers.proofs.Lasts.{behind_all}
 use Rattle.saber_crew.specs.declared.dispatch.Dispatched.{Dispatched}
 use Rattle.saber_crew.specs.declared.dispatch.Over.TheVariants.{Stopped}
-use Rattle.saber_crew.specs.Dispatches.{BeginsDispatch, DispatchedTo}
+use Rattle.saber_crew.specs.Dispatches.{DispatchedTo}
 use Rattle.saber_crew.specs.Runs.{BeginsRun, RunsTo}
 
 false_true : false ≡ true → ⊥
@@ -20,44 +18,8 @@ false_true e = cc
 no_more : (x : Bool) → x ≡ false → extra x ≡ 0
 no_more x e = ap extra e
 
-module _ {T : Type 0} (is_told : T → ℕ → Type 0) (upto : T → ℕ → T) (given : T → ℕ → Type 0) (ended : Type 0) where
-  -- no other seat is out, as at the start
-  pub is_last : (told : T) (dispatched : Dispatched) (o o' : Option (Lead T)) → o ≡ (start told).lead → DispatchedTo is_told upto given ended dispatched o o' → IsLast o'
-  is_last told dispatched None o' at e = absurd e
-  is_last told dispatched (Some l) None at e = absurd e
-  is_last told dispatched (Some l) (Some m) at e = e.1 ∙ ap out_or at
-    where
-      out_or : Option (Lead T) → ℕ
-      out_or None = 0
-      out_or (Some z) = z.out
-
-  pub all_filled : (dispatched : Dispatched) (o o' : Option (Lead T)) → DispatchedTo is_told upto given ended dispatched o o' → HasFilled dispatched.tasks o'
-  all_filled dispatched None o' e l at = absurd e
-  all_filled dispatched (Some l') None e l at = absurd e
-  all_filled dispatched (Some l') (Some m) e l at = subst (λ (z : Option (Lead T)). dispatched.tasks ≤ filled_or z) at (let same = e.0 in omega arith)
-    where
-      filled_or : Option (Lead T) → ℕ
-      filled_or None = 0
-      filled_or (Some z) = z.filled
-
 module _ {T S : Type 0} (is_told : T → ℕ → Type 0) (upto : T → ℕ → T) (is_stage : T → ℕ → Bool → S → Type 0) (suits : T → Type 0) (stage : S) (given : T → ℕ → Type 0) where
-  pub begins_ring : (o : Option T) → BeginsRun is_told is_stage suits given stage o → Begins is_told is_stage stage o
-  begins_ring None b = absurd b
-  begins_ring (Some told) b = (b.0, b.1)
-
-  pub begins_base : (o : Option T) (v : View T) → BeginsRun is_told is_stage suits given stage o → v ≡ first_view o → OfBase suits v.base
-  begins_base None v b is = absurd b
-  begins_base (Some told) v b is = subst (λ (z : View T). OfBase suits z.base) (sym is) b.2
-
-  pub begins_dispatch : (o : Option T) (v : View T) → BeginsRun is_told is_stage suits given stage o → v ≡ first_view o → BeginsDispatch is_told upto given v.lead
-  begins_dispatch None v b is = absurd b
-  begins_dispatch (Some told) v b is = subst (λ (z : View T). BeginsDispatch is_told upto given z.lead) (sym is) (refl, b.0, b.3)
-
   module _ (given' : T → ℕ → Type 0) (ended : Type 0) where
-    pub begins_last : (o : Option T) (u : View T) (dispatched : Dispatched) (o' : Option (Lead T)) → BeginsRun is_told is_stage suits given stage o → u ≡ first_view o → DispatchedTo is_told upto given' ended dispatched u.lead o' → IsLast o'
-    begins_last None u dispatched o' b is e = absurd b
-    begins_last (Some told) u dispatched o' b is e = is_last is_told upto given' ended told dispatched u.lead o' (λ i. (is i).lead) e
-
     module _ (again : (told : T) (d j k : ℕ) → is_told told d → k ≤ j → j ≤ d → upto (upto told j) k ≡ upto told k) (whole : (told : T) (d : ℕ) → is_told told d → upto told d ≡ told) (dispatched : Dispatched) (v : View T) (last : S) where
       runs_to : (told : T) (l m : Lead T) → is_told told 0 → l.told ≡ told → DispatchedTo is_told upto given' ended dispatched (Some l) (Some m) → Finishes upto is_stage v last (Some m) → (v.stopped ≡ true) ⊎ GaveAll dispatched.tasks v.own → (dispatched.over ≡ Stopped → v.stopped ≡ true)
           → RunsTo is_told upto is_stage given' ended told last dispatched

@@ -1,5 +1,5 @@
 -- Filling one task after another.
-use Rattle.std.proofs.Common.{◌≡◌, true, ℕ, ◌+◌, ◌-◌, ◌≤◌, ◌<◌, [], ◌∷◌, ◌++◌, length, refl, sym, ◌∙◌, ap, subst, length-append, arith}
+use Rattle.std.proofs.Common.{◌≡◌, true, ℕ, ◌+◌, ◌-◌, ◌≤◌, ◌<◌, [], ◌∷◌, ◌++◌, length, sym, ◌∙◌, ap, subst, length-append, arith}
 use mathlib.Core.Logic.{dite}
 use native.Mathlib.Decide.{ℕ_discrete}
 use Rattle.std.specs.Prelude.{Option, Some, None, slice_index}
@@ -14,15 +14,11 @@ use Rattle.saber_ring.specs.Freeing.{IsSlid}
 use Rattle.saber_crew.specs.declared.dispatch.Dispatched.{Dispatched}
 use Rattle.saber_crew.specs.declared.dispatch.Over.TheVariants.{AllGiven}
 use Rattle.saber_crew.specs.Supplies.{GivesRows}
-use Rattle.saber_crew.specs.Dispatches.{Puts, BeginsDispatch, AllDispatched, DispatchedTo, AreFrees}
+use Rattle.saber_crew.specs.Dispatches.{Puts, AllDispatched, DispatchedTo, AreFrees}
 
 module _ {T R : Type 0} (is_told : T → ℕ → Type 0) (filled : T → R → T) (upto : T → ℕ → T) (is_rows : T → ℕ → R → Type 0)
     (keeps : (told : T) (d k : ℕ) (rows : R) → is_told told d → is_told (filled told rows) (d + 1) → is_rows (filled told rows) d rows → k ≤ d → upto (filled told rows) k ≡ upto told k)
     (whole : (told : T) (d : ℕ) → is_told told d → upto told d ≡ told) where
-  pub dispatch_none : (given : T → ℕ → Type 0) (o : Option (Lead T)) → BeginsDispatch is_told upto given o → AllDispatched is_told upto given 0 o o
-  dispatch_none given None f = absurd f
-  dispatch_none given (Some l) f = (f.0, refl, f.1, refl, f.2)
-
   -- so many were given
   pub given_so_far : (given : T → ℕ → Type 0) (d : ℕ) (o o' : Option (Lead T)) → AllDispatched is_told upto given d o o' → (told : T) × (n : ℕ) × given told n
   given_so_far given d None o' e = absurd e
@@ -124,10 +120,6 @@ module _ {T R : Type 0} (is_told : T → ℕ → Type 0) (filled : T → R → T
             (a.0, λ k low lt. a.1 k low lt ∙ ap (λ z. first z k) (sym (keeps m.told d k r e.2 g.1 g.0 (omega arith))))
 
 module _ {T : Type 0} (is_told : T → ℕ → Type 0) (upto : T → ℕ → T) (first : T → ℕ → ℕ) where
-  pub frees_none : (given : T → ℕ → Type 0) (frees : Frees) (o : Option (Lead T)) → BeginsDispatch is_told upto given o → frees.base ≡ 0 → frees.list.items ≡ [] → AreFrees upto first 0 frees o
-  frees_none given frees None f base none = absurd f
-  frees_none given frees (Some l) f base none = (let long = ap length none in omega arith, λ k low lt. absurd (let no = lt in omega arith))
-
   -- the list covers what the fill asks of it, where nothing that it let go is seen as not assembled
   pub covers : (d : ℕ) (frees : Frees) (o : Option (Lead T)) → AreFrees upto first (d + 1) frees o → (seen : ℕ) → frees.base ≤ seen → Covers upto first d frees seen o
   covers d frees None a seen low = absurd a

@@ -2,4 +2,3 @@ pub mod Supplies
 pub mod Dispatches
 pub mod Spares
 pub mod Runs
-pub mod Notes

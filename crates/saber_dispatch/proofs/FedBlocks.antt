@@ -9,7 +9,6 @@ use Rattle.saber_plan.specs.Sizes.{FileLimits, limits_of}
 use Rattle.saber_plan.specs.declared.windows.Stream.{Stream}
 use Rattle.saber_plan.specs.Trees.{Tree}
 use Rattle.saber_plan.specs.Inputs.{Input}
-use Rattle.saber_fragment.specs.declared.blocks.Block.{Block}
 use Rattle.saber_dispatch.specs.declared.ends.End.{End}
 use Rattle.saber_dispatch.specs.declared.ends.End.TheVariants.{AllRead, Bad, ReadFault, TooWide, NoMemory}
 use Rattle.saber_dispatch.specs.declared.reader.Reader.{Reader}
@@ -22,7 +21,7 @@ use Rattle.saber_dispatch.specs.declared.fed_cutter.Step.{Step}
 use Rattle.saber_dispatch.specs.declared.fed_cutter.Step.TheVariants as steps
 use Rattle.saber_dispatch.specs.Readings.{reading_of, Suits}
 use Rattle.saber_dispatch.specs.Filling.{prepend, Fills}
-use Rattle.saber_dispatch.specs.Cutting.{Cuts, CutState, Goes, CutTo, CutsNothing, Flushes, fresh, fresh_on, told_end, end_of}
+use Rattle.saber_dispatch.specs.Cutting.{Cuts, CutState, Goes, CutTo, CutsNothing, fresh, fresh_on, told_end, end_of}
 use Rattle.saber_dispatch.specs.Closing.{Closes, ClosedBy, EndStays}
 use Rattle.saber_dispatch.specs.FedReadings.{only, SawEnd, IsSeen, EndTold, NothingWaits}
 use Rattle.saber_dispatch.specs.FedFilling.{Paused}
@@ -58,21 +57,6 @@ module _ (q : Tree) (s : Sizes) (taken waiting : List ℕ) (c : Cutter) (r : Inp
 
   pub begun_new : (rows : List Row) → rows ≡ [] → Begins q s taken waiting c r c.mark rows
   begun_new rows none = subst (λ (l : List Row). Begins q s taken waiting c r c.mark l) (sym none) begun_empty
-
-  -- there was no memory to begin one
-  pub lacks : Cuts q s (only taken) (only waiting) (record c { ended = Some NoMemory }) r
-  lacks = record {
-    windows = k.windows;
-    sizes = k.sizes;
-    made = record { size = k.made.size; room = k.made.room };
-    dropped = k.dropped;
-    took = k.took;
-    count = k.count;
-    near = k.near;
-    whole = k.whole;
-    flushes = subst (Flushes q s (record c { ended = Some NoMemory }) r k.dropped) (sym going.unended) (subst (Flushes q s c r k.dropped) going.unended k.flushes);
-    state = tt;
-  }
 
 -- ---- it is gone on with
 
@@ -162,13 +146,6 @@ cut_step cut q s taken w mark c r o none x a = subst (λ (y : Option Begun). Ste
   by_case : (k : Cut) → CutTo k q s (only taken) (only w) c r → StepTo (step_of k) q s taken w mark (record { cutter = c; begun = None }) r
   by_case (cuts.Block b) h = (h.0, record { gave = h.1; agrees = a })
   by_case (cuts.Ended e) h = (h.0, record { gave = h.1; agrees = a })
-
-pub cut_is : (cut : Cut) (e : End) → step_of cut ≡ steps.Ended e → cut ≡ cuts.Ended e
-cut_is (cuts.Block b) e h = cc
-cut_is (cuts.Ended x) e h = let same : x ≡ e = cc in ap (λ y. cuts.Ended y) same
-
-pub block_not_end : (step : Step) (b : Block) (e : End) → step ≡ steps.Block b → step ≡ steps.Ended e → ⊥
-block_not_end step b e h i = cc
 
 -- ---- before a block is begun
 

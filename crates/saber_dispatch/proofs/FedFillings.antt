@@ -32,15 +32,8 @@ module _ (n : ℕ) (q : Tree) (m mark : Mark) (old mid new : Reading) (had there
 pub one_longer : (xs ys : List Row) (x : Row) → ys ≡ xs ++ x ∷ [] → length ys ≡ length xs + 1
 one_longer xs ys x e = ap length e ∙ length-append xs (x ∷ [])
 
--- an end of the rows of a feed is that of the reader
-pub as_got : (a b : End) → parts.Ended a ≡ parts.Ended b → gots.Ended a ≡ gots.Ended b
-as_got a b e = let same : a ≡ b = cc in ap (λ x. gots.Ended x) same
-
 pub as_part : (a b : End) → gots.Ended a ≡ gots.Ended b → parts.Ended a ≡ parts.Ended b
 as_part a b e = let same : a ≡ b = cc in ap (λ x. parts.Ended x) same
 
 pub row_not_end : (row : Row) (end : End) → gots.Row row ≡ gots.Ended end → ⊥
 row_not_end row end e = cc
-
-pub dry_not_end : (end : End) → gots.Dry ≡ gots.Ended end → ⊥
-dry_not_end end e = cc

@@ -71,8 +71,3 @@ pub at_least : (ls : List (Option ℕ)) (first closed : ℕ) → first ≤ free_
 unfolding free_of
 at_least [] first closed = omega arith
 at_least (l ∷ ls) first closed = elim (reaches l closed) as (λ b. first ≤ cond b first (free_of (first + 1) ls closed)) [ true ↦ omega arith | false ↦ omega (arith, at_least ls (first + 1) closed) ]
-
-pub at_most : (ls : List (Option ℕ)) (first closed : ℕ) → free_of first ls closed ≤ first + length ls
-unfolding free_of
-at_most [] first closed = omega arith
-at_most (l ∷ ls) first closed = elim (reaches l closed) as (λ b. cond b first (free_of (first + 1) ls closed) ≤ first + length (l ∷ ls)) [ true ↦ omega arith | false ↦ omega (arith, at_most ls (first + 1) closed) ]

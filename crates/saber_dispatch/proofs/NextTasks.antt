@@ -23,9 +23,6 @@ use Rattle.saber_laws.proofs.GrowLaws.{needs_stay}
 pub goes_on : (r : Input) → r.ended ≡ false → r ≡ going_on r.rows
 goes_on r e = λ i. record { rows = r.rows; ended = e i }
 
-not_below : (l : ℕ) → nat_lt l l ≡ false
-not_below l = grind (arith, nat_tests)
-
 below_next : (l : ℕ) → nat_lt l (suc l) ≡ true
 below_next l = grind (arith, nat_tests)
 

@@ -1,7 +1,6 @@
 -- A block that is given, as the block of its task in the input with it.
-use Rattle.std.proofs.Common.{◌≡◌, ◌≤◌, ℕ, suc, zero, ◌+◌, ◌-◌, ◌*◌, min, length, List, [], ◌∷◌, ◌++◌, take, drop, slice_range, Bool, true, false, ◌||◌, nat_lt, refl, sym, ◌∙◌, ap, subst, arith, append-nil, length-append}
+use Rattle.std.proofs.Common.{◌≡◌, ◌≤◌, ℕ, suc, zero, ◌+◌, ◌-◌, ◌*◌, min, length, List, [], ◌∷◌, ◌++◌, take, drop, slice_range, Bool, true, false, ◌||◌, refl, sym, ◌∙◌, ap, subst, arith, append-nil, length-append}
 use Rattle.std.proofs.lemmas.List.{take_all, drop_all}
-use Rattle.std.proofs.lemmas.Bool.Decides.{nat_tests}
 use Rattle.std.proofs.lemmas.Grind.{div_ceil_times}
 use Rattle.std.proofs.Math.Seq.{drop-append_seam}
 use Rattle.saber_plan.specs.declared.rows.Row.{Row}
@@ -9,7 +8,7 @@ use Rattle.saber_plan.specs.declared.windows.Mark.{Mark}
 use Rattle.saber_plan.specs.declared.sizes.Sizes.{Sizes}
 use Rattle.saber_plan.specs.Inputs.{Input, going_on}
 use Rattle.saber_plan.specs.Trees.{Tree}
-use Rattle.saber_plan.specs.Windows.{mark_after, step_mark, last_mark, end_mark}
+use Rattle.saber_plan.specs.Windows.{mark_after, step_mark, last_mark}
 use Rattle.saber_plan.specs.Tasks.{task_start, upto, row_tasks, task_count, places, places_by}
 use Rattle.saber_plan.specs.Needs.{free, task_rows}
 use Rattle.saber_fragment.specs.declared.blocks.Block.{Block}
@@ -26,9 +25,6 @@ use Rattle.saber_dispatch.proofs.NextTasks.{goes_on, row_cut, upto_rows, upto_en
 take_nothing : {A : Type 0} (n : ℕ) → take {A = A} n [] ≡ []
 take_nothing zero = refl
 take_nothing (suc n) = refl
-
-not_below : (l x : ℕ) → x ≤ l → nat_lt l x ≡ false
-not_below l x h = grind (arith, nat_tests, h)
 
 -- the block of the next task of rows xs: its input's tasks up to it
 pub record Stands (q : Tree) (n : ℕ) (xs : List Row) (b : Block) (more : Input) : Type 0 where
@@ -73,9 +69,6 @@ module _ (q : Tree) (s : Sizes) (xs : List Row) (b : Block) (some : 1 ≤ s.task
 same_places : (q : Tree) (ks : List ℕ) (xs : List Row) (x y : ℕ) → places_behind q ks (take x xs) (slice_range xs x y) ≡ places_by q ks xs x y
 same_places q [] xs x y = refl
 same_places q (k ∷ ks) xs x y = refl
-
-no_end : (m : Mark) → end_mark false m ≡ m
-no_end m = refl
 
 unended : (m : Mark) (xs : List Row) → m.ended ≡ false → (mark_after m xs).ended ≡ false
 unended m [] h = h

@@ -49,5 +49,3 @@ none_gained old new had has g = g.behind ∙ ap (λ t. old ++ t) (none_taken g.t
 pub later_marked : {M : Type 0} (mark end : Option M) (ended b : Bool) → ended ≡ b → (ended ≡ true → mark ≡ end) → (ended ≡ false → mark ≡ end) → mark ≡ end
 later_marked mark end ended true e before now = before e
 later_marked mark end ended false e before now = now e
-
--- ---- nothing is there as yet

@@ -27,9 +27,6 @@ done_alone WriteFault e = absurd (omega (arith, e))
 done_alone (TooWide task need ring) e = absurd (omega (arith, e))
 done_alone NoMemory e = absurd (omega (arith, e))
 
-pub some_status : (o : Outcome) → o ≢ Done → status_of o ≢ 0
-some_status o n e = n (done_alone o e)
-
 -- any other end is told
 pub told_note : (o : Outcome) → o ≢ Done → note_of o ≡ one_note o
 told_note Done n = absurd (n refl)

@@ -1,8 +1,6 @@
 -- Entries that come to the end of others.
-use Rattle.std.proofs.Common.{◌≡◌, ℕ, Bool, true, false, ◌+◌, List, [], ◌∷◌, ◌++◌, refl, sym, ap, ◌∙◌, arith, append_assoc, append-nil, inl, inr, ⊎_elim}
-use Rattle.std.specs.Prelude.{◌⊎◌, ◌==◌, if◌then◌else◌, Option, Some, None}
-use Rattle.saber_ring.specs.declared.view.HeldTask.{HeldTask}
-use Rattle.std.proofs.lemmas.Bool.Decides.{nat_tests}
+use Rattle.std.proofs.Common.{◌≡◌, ℕ, Bool, true, false, ◌+◌, List, [], ◌∷◌, ◌++◌, ap, ◌∙◌, arith, append_assoc, inl, inr, ⊎_elim}
+use Rattle.std.specs.Prelude.{◌⊎◌, Option, Some, None}
 use Rattle.saber_ring.specs.declared.view.View.{View}
 use Rattle.saber_ring.specs.declared.view.HeldTurn.{HeldTurn}
 use Rattle.saber_ring.specs.declared.view.TurnState.{TurnState}
@@ -11,7 +9,7 @@ use Rattle.saber_ring.specs.declared.view.Entry.{Entry}
 use Rattle.saber_ring.specs.declared.view.Entry.TheVariants.{Claim, Deposit, Take, Give}
 use Rattle.saber_ring.specs.Shows.{times}
 use Rattle.saber_ring.specs.Calls.{Got, Gives, HoldsTurn, Releases}
-use Rattle.saber_workers.specs.Grows.{in_hand, IsKept, IsEven, IsStop, Grows}
+use Rattle.saber_workers.specs.Grows.{IsEven, IsStop, Grows}
 
 pub times_append : (e : Entry) (xs ys : List Entry) → times e (xs ++ ys) ≡ times e xs + times e ys
 times_append e [] ys = omega arith
@@ -23,13 +21,6 @@ false_true e = cc
 even_of : (more : List Entry) → IsEven more ⊎ ((false ≡ true) × IsStop more) → IsEven more
 even_of more (inl e) = e
 even_of more (inr s) = absurd (false_true s.0)
-
-claimed : (t u : ℕ) → times (Claim u) (Claim t ∷ []) ≡ (if u == t then 1 else 0)
-claimed t u = grind (arith, nat_tests)
-
-deposited : (t u : ℕ) (m : Bool) → times (Deposit u false) (Deposit t m ∷ []) + times (Deposit u true) (Deposit t m ∷ []) ≡ (if u == t then 1 else 0)
-deposited t u false = grind (arith, nat_tests)
-deposited t u true = grind (arith, nat_tests)
 
 module _ {T : Type 0} where
   -- entries with each take's give, and then others
@@ -58,32 +49,6 @@ module _ {T : Type 0} where
             (λ (e : (s ≡ true) × IsStop x). inr (e.0, (e.1.0, λ t. let p = times_append (Take t) x y in let q = times_append (Give t) x y in let u = even t in let v = e.1.1 t in omega arith))) f.3,
       )
 
-  -- no claim and no deposit
-  kept_none : (a b : View T) (more : List Entry) → b.job ≡ a.job → ((t : ℕ) → (times (Claim t) more ≡ 0) × (times (Deposit t false) more ≡ 0) × (times (Deposit t true) more ≡ 0)) → IsKept a.job b.job more
-  kept_none a b more same none t = let j : in_hand b.job t ≡ in_hand a.job t = ap (λ (z : Option (HeldTask T)). in_hand z t) same in let z = none t in let x = z.0 in let y = z.1 in let w = z.2 in omega arith
-
-  pub grows_not : (a b : View T) (s : Bool) → b.own ≡ a.own → b.job ≡ a.job → Grows a b s
-  grows_not a b s is same = ([], is ∙ sym (append-nil a.own), kept_none a b [] same (λ t. (refl, refl, refl)), inl (λ t. refl))
-
-  -- a take and its give
-  pub grows_give : (a c : View T) (mid : List Entry) (k : ℕ) (s : Bool) → mid ≡ a.own ++ Take k ∷ [] → c.own ≡ mid ++ Give k ∷ [] → c.job ≡ a.job → Grows a c s
-  grows_give a c mid k s one two same =
-      (Take k ∷ Give k ∷ [], two ∙ ap (λ (z : List Entry). z ++ Give k ∷ []) one ∙ append_assoc a.own (Take k ∷ []) (Give k ∷ []), kept_none a c (Take k ∷ Give k ∷ []) same (λ u. (refl, refl, refl)), inl (λ u. grind (arith, nat_tests)))
-
-  -- a take that stops the stage
-  pub grows_stop : (a b : View T) (k : ℕ) (s : Bool) → s ≡ true → b.own ≡ a.own ++ Take k ∷ [] → b.job ≡ a.job → Grows a b s
-  grows_stop a b k s is one same = (Take k ∷ [], one, kept_none a b (Take k ∷ []) same (λ u. (refl, refl, refl)), inr (is, (k, λ u. grind (arith, nat_tests))))
-
-  -- a claim, whose task is then in hand
-  pub grows_claim : (a b : View T) (x : HeldTask T) → a.job ≡ None → b.job ≡ Some x → b.own ≡ a.own ++ Claim x.task ∷ [] → Grows a b false
-  grows_claim a b x none some one =
-      (Claim x.task ∷ [], one, (λ t. let before : in_hand a.job t ≡ 0 = ap (λ (z : Option (HeldTask T)). in_hand z t) none in let after : in_hand b.job t ≡ (if t == x.task then 1 else 0) = ap (λ (z : Option (HeldTask T)). in_hand z t) some in let c = claimed x.task t in omega arith), inl (λ u. refl))
-
-  -- a deposit, of the task that was in hand
-  pub grows_deposit : (a b : View T) (x : HeldTask T) (m : Bool) → a.job ≡ Some x → b.job ≡ None → b.own ≡ a.own ++ Deposit x.task m ∷ [] → Grows a b false
-  grows_deposit a b x m some none one =
-      (Deposit x.task m ∷ [], one, (λ t. let before : in_hand a.job t ≡ (if t == x.task then 1 else 0) = ap (λ (z : Option (HeldTask T)). in_hand z t) some in let after : in_hand b.job t ≡ 0 = ap (λ (z : Option (HeldTask T)). in_hand z t) none in let c = deposited x.task t m in omega arith), inl (λ u. refl))
-
 module _ {P T : Type 0} (upto : T → ℕ → T) (is_piece : T → ℕ → P → Type 0) (size k : ℕ) (v v' : View T) where
   pub took_own : (piece : Option P) → Got upto is_piece size k v v' piece → v'.own ≡ v.own ++ Take k ∷ []
   took_own None g = ap (λ (z : View T). z.own) g.3
@@ -100,11 +65,3 @@ released_own size k v v' TookPiece r = ap (λ (z : View _). z.own) r.2
 released_own size k v v' TookMark r = ap (λ (z : View _). z.own) r.2
 released_own size k v v' WonStopped r = ap (λ (z : View _). z.own) r.2
 released_own size k v v' Leaving r = ap (λ (z : View _). z.own) r.2
-
--- and leaves the job
-pub released_job : {T : Type 0} (size k : ℕ) (v v' : View T) (state : TurnState) → Releases size k v v' state → v'.job ≡ v.job
-released_job size k v v' Open r = ap (λ (z : View _). z.job) r.2
-released_job size k v v' TookPiece r = ap (λ (z : View _). z.job) r.2
-released_job size k v v' TookMark r = ap (λ (z : View _). z.job) r.2
-released_job size k v v' WonStopped r = ap (λ (z : View _). z.job) r.2
-released_job size k v v' Leaving r = ap (λ (z : View _). z.job) r.2

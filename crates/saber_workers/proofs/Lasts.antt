@@ -2,14 +2,14 @@
 use Rattle.std.proofs.Common.{◌≡◌, ◌≢◌, ℕ, Bool, true, false, ◌+◌, ◌<◌, ◌≤◌, List, [], ◌∷◌, ◌++◌, refl, sym, ap, ◌∙◌, subst, arith, inl, inr}
 use mathlib.Core.Logic.{dite}
 use native.Mathlib.Decide.{ℕ_discrete, dec_le}
-use Rattle.std.specs.Prelude.{◌||◌, ◌⊎◌, Option, Some, None, IfSome}
+use Rattle.std.specs.Prelude.{◌⊎◌, Option, Some, None, IfSome}
 use Rattle.std.proofs.lemmas.Bool.Decides.{nat_tests}
 use Rattle.saber_ring.specs.declared.view.Lead.{Lead}
 use Rattle.saber_ring.specs.declared.view.View.{View}
 use Rattle.saber_ring.specs.Closing.{IsLast}
-use Rattle.saber_ring.specs.Calls.{Deposits, NotLast}
+use Rattle.saber_ring.specs.Calls.{NotLast}
 use Rattle.saber_ring.specs.declared.view.Entry.{Entry}
-use Rattle.saber_ring.specs.declared.view.Entry.TheVariants.{Claim, Deposit, Take, Give}
+use Rattle.saber_ring.specs.declared.view.Entry.TheVariants.{Claim, Take, Give}
 use Rattle.saber_ring.specs.Shows.{times}
 use Rattle.saber_ring.specs.Plays.{Leaves}
 use Rattle.saber_workers.specs.Grows.{Grows}
@@ -29,10 +29,6 @@ last_entry t own own' is z = let p = ap (times (Give t)) is ∙ times_append (Gi
 -- a task that was claimed just now
 pub just_claimed : (t : ℕ) (own own' : List Entry) → own' ≡ own ++ Claim t ∷ [] → times (Claim t) own' ≢ 0
 just_claimed t own own' is z = let p = ap (times (Claim t)) is ∙ times_append (Claim t) own (Claim t ∷ []) in let one : times (Claim t) (Claim t ∷ []) ≡ 1 = grind (arith, nat_tests) in omega arith
-
-pub deposited_own : {T P : Type 0} (size t : ℕ) (v v' : View T) (piece : Option P) → Deposits size t v v' piece → (m : Bool) × (v'.own ≡ v.own ++ Deposit t m ∷ [])
-deposited_own size t v v' None d = (true, ap (λ (z : View _). z.own) d)
-deposited_own size t v v' (Some p) d = (false, ap (λ (z : View _). z.own) d)
 
 -- one more task was taken and given
 pub gave_next : (k : ℕ) (own took gave : List Entry) → took ≡ own ++ Take k ∷ [] → gave ≡ took ++ Give k ∷ [] → GaveAll k own → GaveAll (k + 1) gave
@@ -59,14 +55,6 @@ claimed_more t lead v w s grows made l is out lt = still (Claim t) v.own w.own g
 pub done_by : (tasks : ℕ) (r x : Bool) (own : List Entry) → (r ≡ true → x ≡ true) → (r ≡ false → (k : ℕ) × GaveAll k own × (times (Claim k) own ≡ 0)) → ((t : ℕ) → t < tasks → times (Claim t) own ≢ 0) → (x ≡ true) ⊎ GaveAll tasks own
 done_by tasks true x own a b made = inl (a refl)
 done_by tasks false x own a b made = let o = b refl in inr (all_given tasks o.0 own made o.1 o.2)
-
-pub or_left : (x y : Bool) → x ≡ true → x || y ≡ true
-or_left true y e = refl
-or_left false y e = absurd cc
-
-pub or_right : (x y : Bool) → y ≡ true → x || y ≡ true
-or_right true y e = refl
-or_right false y e = e
 
 pub last_of : {T : Type 0} (o : Option (Lead T)) → IsLast o → (l : Lead T) × (o ≡ Some l) × (l.out ≡ 0)
 last_of None h = absurd h
