@@ -10,7 +10,7 @@ place, with the whole answer or a front of it and the note of what was wanted. N
   sizes     tools/any-sizes: random queries in tasks of several sizes, drawn from the seed
   malice    tools/malice: files, queries and words of bad shapes
   memory    tools/refuse-memory: each allocation refused in turn
-  large     100,000,000 rows from a pipe, with memory watched
+  large     100,000,000 rows from a pipe, and 300,000 groups, with memory watched
 
 With --seconds the first three are tried whole, then random queries and a pipe of fewer rows, as many as the time allows; malice and
 memory only where they are named. The status is 1 where something was wrong.
