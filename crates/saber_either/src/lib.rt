@@ -1,5 +1,5 @@
-//! Operators of two kinds as operators of one, so that they stand in one list: the engine runs
-//! several queries over one input by it.
+//! Operators of two kinds as operators of one: by it all operators that the engine runs are of one
+//! type, and several of them stand in one list.
 //!
 //! - Parts: `one_of` (`OneOf`: a thing of one kind or of another), `operator` (`OneOf` of two
 //!   operators is an `Operator`, whose drafts, pieces and stores are of the kind that it is of).

@@ -10,40 +10,17 @@ ghost use Rattle.saber_plan.specs.declared.ends.RunEnd.{RunEnd};
 ghost use Rattle.saber_plan.specs.Runs.{IsClean};
 ghost use Rattle.saber_engine.specs.FedRuns.{GivesFed, CutLeavesWhole};
 ghost use Rattle.saber_engine.specs.Endings.{MayStop};
-ghost use Rattle.saber_engine.specs.Runs.{RunsFed};
 
 use crate::ends::Ran;
-use crate::fed_groups::run_group;
-use crate::fed_selections::run_selection;
+use crate::fed_plans::run_fed;
+use crate::kinds::{AnyOperator, operator_of};
 use crate::spare::keep_freed;
-use saber_io::{EndMark, Feed, Gate, Plain, Pour, Sink};
-use saber_plan::{Plan, Shape, Sizes};
+use saber_io::{EndMark, Feed, Gate, Plain, Sink};
+use saber_plan::{Plan, Sizes};
 use std::alloc::Global;
+use std::marker::Brand;
 use std::sync::Wait;
 use std::thread::Threads;
-
-// Runs a plan by its shape. No join has one stream.
-fn run_shape<F: Feed, K: Pour + Send, G: Gate + Sync, R: Threads + Wait + Sync>(
-    rt: &R,
-    alloc: Global,
-    plan: &Plan,
-    feed: &mut F,
-    sink: K,
-    sizes: &Sizes,
-    gate: &G,
-) -> Ran<K>
-    requires checked { IsChecked (tree_of plan.now) }
-    requires one { length (tree_of plan.now).streams ≡ 1 }
-    requires sizes { SizesFit sizes.now }
-    requires fresh { F.waiting feed.old ≡ F.taken feed.old }
-    ensures { RunsFed F.taken F.mark F.faults K.written K.faults (tree_of plan.now) sizes.now feed.old feed.new sink result }
-{
-    match plan.shape() {
-        Shape::Select => run_selection(rt, alloc, plan, feed, sink, sizes, gate),
-        Shape::Group => run_group(rt, alloc, plan, feed, sink, sizes, gate),
-        Shape::Join => unreachable!(),
-    }
-}
 
 /// Runs a checked plan of one stream over a feed, of which nothing was given yet. Where the feed
 /// has nothing as yet, this thread works with the others, and pauses where there is no work.
@@ -85,7 +62,17 @@ pub fn engine_fed<F: Feed, K: Sink + Send, G: Gate + Sync, R: Threads + Wait + S
     ensures stopped { MayStop result.end result.stopped }
 {
     keep_freed(alloc);
-    let ran = run_shape(rt, alloc, plan, feed, Plain { sink }, sizes, gate);
+    let operator = operator_of(plan);
+    let ran = run_fed::<F, AnyOperator<'_>, Plain<K>, G, Brand, R>(
+        rt,
+        alloc,
+        &operator,
+        plan,
+        feed,
+        Plain { sink },
+        sizes,
+        gate,
+    );
     let Ran {
         end,
         sink: Plain { sink },

@@ -1,16 +1,18 @@
-// The operators of plans of one stream, of whichever kind.
-ghost use Rattle.std.specs.Prelude.{◌≡◌, length, IfOk, IsSome};
+// The operator of a plan, of whichever kind.
+ghost use Rattle.std.specs.Prelude.{◌≡◌, IfOk, IsSome};
 ghost use Rattle.std.specs.List.{AllByRecursion, AllZip};
 ghost use Rattle.saber_plan.specs.declared.plans.Shape.TheVariants as shapes;
 ghost use Rattle.saber_plan.specs.Checked.{IsChecked};
 ghost use Rattle.saber_plan.specs.Trees.{tree_of};
 ghost use Rattle.saber_either.specs.Cases.{of_one};
 ghost use Rattle.saber_engine.specs.Jobs.{tree_in};
+ghost use Rattle.saber_engine.specs.Ways.{tree_by};
 
 use crate::jobs::Job;
 use crate::ways::{Way, way_of};
 use saber_either::OneOf;
 use saber_group::{GroupChanges, GroupOperator};
+use saber_join::{JoinChanges, JoinOperator};
 use saber_partition::Partition;
 use saber_plan::{NoMemory, Plan, Shape};
 use saber_select::Select;
@@ -27,8 +29,12 @@ type Selection<'p> = OneOf<Select<'p>, Windowed<'p>>;
 /// That of a group query.
 type Grouping<'p> = OneOf<Partition<'p>, OneOf<GroupOperator<'p>, GroupChanges<'p>>>;
 
-/// That of a query of one stream.
-pub(crate) type Single<'p> = OneOf<Selection<'p>, Grouping<'p>>;
+/// That of a join.
+type Joining<'p> = OneOf<JoinOperator<'p>, JoinChanges<'p>>;
+
+/// The one type of operators that are run: ring, workers and crew are compiled for it once, and
+/// once it is shown that they may be sent and shared.
+pub(crate) type AnyOperator<'p> = OneOf<OneOf<Selection<'p>, Grouping<'p>>, Joining<'p>>;
 
 // The operator of a selection under a stream word.
 fn windowed_of(plan: &Plan) -> Windowed<'_>
@@ -69,16 +75,28 @@ fn grouping_of(plan: &Plan) -> Grouping<'_>
     }
 }
 
-/// The operator of a plan of one stream.
-pub(crate) fn operator_of(plan: &Plan) -> Single<'_>
+// The operator of a join.
+fn joining_of(plan: &Plan) -> Joining<'_>
     requires checked { IsChecked (tree_of plan.now) }
-    requires one { length (tree_of plan.now).streams ≡ 1 }
-    ensures { of_one (of_one tree_of (of_one tree_of tree_of)) (of_one tree_of (of_one tree_of tree_of)) result ≡ tree_of plan.now }
+    requires join { (tree_of plan.now).shape ≡ shapes.Join }
+    ensures { of_one tree_of tree_of result ≡ tree_of plan.now }
+{
+    match way_of(plan) {
+        Way::Alike => OneOf::First(JoinOperator::new(plan)),
+        Way::ByList => unreachable!(),
+        Way::Changing(change) => OneOf::Second(JoinChanges::new(plan, change)),
+    }
+}
+
+/// The operator of a plan.
+pub(crate) fn operator_of(plan: &Plan) -> AnyOperator<'_>
+    requires checked { IsChecked (tree_of plan.now) }
+    ensures { tree_by result ≡ tree_of plan.now }
 {
     match plan.shape() {
-        Shape::Select => OneOf::First(selection_of(plan)),
-        Shape::Group => OneOf::Second(grouping_of(plan)),
-        Shape::Join => unreachable!(),
+        Shape::Select => OneOf::First(OneOf::First(selection_of(plan))),
+        Shape::Group => OneOf::First(OneOf::Second(grouping_of(plan))),
+        Shape::Join => OneOf::Second(joining_of(plan)),
     }
 }
 
@@ -86,10 +104,9 @@ pub(crate) fn operator_of(plan: &Plan) -> Single<'_>
 pub(crate) fn operators_for<'p, K>(
     alloc: Global,
     jobs: &[Job<'p, K>],
-) -> Result<VecDeque<Single<'p>>, NoMemory>
+) -> Result<VecDeque<AnyOperator<'p>>, NoMemory>
     requires checked { AllByRecursion (λ job. IsChecked (tree_in job)) jobs.now }
-    requires one { AllByRecursion (λ job. length (tree_in job).streams ≡ 1) jobs.now }
-    ensures { IfOk result (λ ops. AllZip (λ op job. of_one (of_one tree_of (of_one tree_of tree_of)) (of_one tree_of (of_one tree_of tree_of)) op ≡ tree_in job) ops.items jobs.now) }
+    ensures { IfOk result (λ ops. AllZip (λ op job. tree_by op ≡ tree_in job) ops.items jobs.now) }
 {
     let Some((job, others)) = jobs.split_first() else {
         return Ok(VecDeque::new(alloc));

@@ -1,12 +1,11 @@
 //! A run of a plan over its inputs: cuts rows into tasks, has pieces made, assembles them in order.
 //! The chain and the top call run queries by it.
 //!
-//! - Parts: `ends` (how a run ends), `ring_size`, `spare` (memory stays with the process), `blocks`
-//!   and `plans` (a run of one operator), `ways` (how a plan answers), `selections`, `groups` and
-//!   `joins` (the operator of a plan, by its way), `run_engine` (a plan over sources),
-//!   `fed_blocks`, `fed_plans`, `fed_selections`, `fed_groups` and `fed_engine` (the same over a
-//!   feed); `jobs`, `dealt`, `kinds`, `last_task`, `shared_run` and `run_engines` (several plans
-//!   over one input).
+//! - Parts: `ends` (how a run ends), `ring_size`, `spare` (memory stays with the process), `ways`
+//!   (how a plan answers), `kinds` (the operator of a plan, of one type for all), `blocks`, `plans`
+//!   and `run_engine` (a plan over sources), `fed_blocks`, `fed_plans` and `fed_engine` (the same
+//!   over a feed); `jobs`, `dealt`, `last_task`, `shared_run` and `run_engines` (several plans over
+//!   one input).
 //! - Calls: `engine` takes a checked plan, sources, a sink, sizes and a gate, and gives the sink
 //!   back with how the run ended and how many tasks are assembled; `engine_pouring` takes a sink
 //!   that may hold bytes back, `engine_fed` a feed in place of sources; `engines` takes several
@@ -28,19 +27,14 @@ mod dealt;
 mod ends;
 mod fed_blocks;
 mod fed_engine;
-mod fed_groups;
 mod fed_plans;
-mod fed_selections;
-mod groups;
 mod jobs;
-mod joins;
 mod kinds;
 mod last_task;
 mod plans;
 mod ring_size;
 mod run_engine;
 mod run_engines;
-mod selections;
 mod shared_run;
 mod spare;
 mod ways;

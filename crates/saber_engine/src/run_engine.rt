@@ -10,41 +10,18 @@ ghost use Rattle.saber_engine.specs.Sources.{each_input, told_by, RoseAt, NoneFe
 ghost use Rattle.saber_engine.specs.Gives.{GivesTold, LeavesWhole};
 ghost use Rattle.saber_plan.specs.Runs.{IsClean};
 ghost use Rattle.saber_engine.specs.Endings.{MayStop};
-ghost use Rattle.saber_engine.specs.Runs.{RunsPlan};
 
 use crate::ends::Ran;
-use crate::groups::run_group;
-use crate::joins::run_join;
-use crate::selections::run_selection;
+use crate::kinds::{AnyOperator, operator_of};
+use crate::plans::run_plan;
 use crate::spare::keep_freed;
 use saber_dispatch::Inputs;
 use saber_io::{Gate, Plain, Pour, Sink, Source};
-use saber_plan::{Plan, Shape, Sizes};
+use saber_plan::{Plan, Sizes};
 use std::alloc::Global;
+use std::marker::Brand;
 use std::sync::Wait;
 use std::thread::Threads;
-
-// Runs a plan by its shape.
-fn run_shape<S: Source, K: Pour + Send, G: Gate + Sync, R: Threads + Wait + Sync>(
-    rt: &R,
-    alloc: Global,
-    plan: &Plan,
-    inputs: &mut Inputs<S>,
-    sink: K,
-    sizes: &Sizes,
-    gate: &G,
-) -> Ran<K>
-    requires checked { IsChecked (tree_of plan.now) }
-    requires inputs { length (each_input S.left inputs.old) ≡ length (tree_of plan.now).streams }
-    requires sizes { SizesFit sizes.now }
-    ensures { RunsPlan S.left S.faults K.written K.faults (tree_of plan.now) sizes.now inputs.old inputs.new sink result }
-{
-    match plan.shape() {
-        Shape::Select => run_selection(rt, alloc, plan, inputs, sink, sizes, gate),
-        Shape::Group => run_group(rt, alloc, plan, inputs, sink, sizes, gate),
-        Shape::Join => run_join(rt, alloc, plan, inputs, sink, sizes, gate),
-    }
-}
 
 /// Runs a checked plan over its inputs: cuts the rows into tasks of `sizes.task` rows, has the
 /// piece of each made by this thread and `sizes.threads` others round a ring of at most
@@ -86,7 +63,10 @@ pub fn engine_pouring<S: Source, K: Pour + Send, G: Gate + Sync, R: Threads + Wa
     ensures stopped { MayStop result.end result.stopped }
 {
     keep_freed(alloc);
-    run_shape(rt, alloc, plan, inputs, sink, sizes, gate)
+    let operator = operator_of(plan);
+    run_plan::<S, AnyOperator<'_>, K, G, Brand, R>(
+        rt, alloc, &operator, plan, inputs, sink, sizes, gate,
+    )
 }
 
 /// The same into a sink that holds nothing back.

@@ -10,7 +10,7 @@ ghost use Rattle.saber_engine.specs.Jobs.{tree_in, sink_in};
 
 use crate::ends::Ran;
 use crate::jobs::{Job, counts_for};
-use crate::kinds::{Single, operators_for};
+use crate::kinds::{AnyOperator, operators_for};
 use crate::shared_run::run_each;
 use crate::spare::keep_freed;
 use saber_dispatch::Inputs;
@@ -74,7 +74,7 @@ pub fn engines<'p, S: Source, K: Pour + Send, G: Gate + Sync, R: Threads + Wait 
         list: Vec::from(operators),
         stopped,
     };
-    let result = run_each::<S, Single<'p>, K, G, Brand, R>(
+    let result = run_each::<S, AnyOperator<'p>, K, G, Brand, R>(
         rt, alloc, &each, &counts, jobs, inputs, sizes, gate,
     );
     let Each {

@@ -77,7 +77,10 @@ impl<'a> Select<'a> {
         write_line(out, self.plan.items(), row)
     }
 
-    /// Writes the lines of the rows that pass, in the order of the rows, behind what `out` has.
+    /// Writes the lines of the rows that pass, in the order of the rows, behind what `out` has. It
+    /// stands by itself, since within a call that begins pieces of all operators it would cost each
+    /// row more.
+    #[inline(never)]
     pub(crate) fn write_rows(&self, rows: &Rows, out: &mut Vec<u8>) -> Result<(), NoMemory>
         requires { AllByRecursion (IsRowOf (tree_of self.now)) rows.now }
         ensures { OnOk result (out.new.items ≡ out.old.items ++ selected_lines (tree_of self.now) rows.now) }

@@ -1,6 +1,5 @@
 use denote.Param.Send.{sendable}
 use Rattle.std.proofs.Crossing.{crosses}
-use Rattle.std.proofs.Common.{◌≡◌, length}
 use Rattle.saber_plan.specs.Checked.{IsChecked}
 use Rattle.saber_engine.specs.Jobs.{tree_in}
 use Rattle.saber_engine.proofs.Queues.{lent_all}
@@ -11,11 +10,8 @@ use Rattle.saber_engine.proofs.run_engines.engines.Goals as goal
 pub counts_for-requires : goal.counts_for-requires
 counts_for-requires g c = record { checked = lent_all (λ job. IsChecked (tree_in job)) c.deref.result.now c.args.jobs.items c.deref.ensures.value c.requires.checked }
 
-pub operators_for-requires-clause-checked : goal.operators_for-requires-clause-checked
-operators_for-requires-clause-checked g c = lent_all (λ job. IsChecked (tree_in job)) c.deref-2.result.now c.args.jobs.items c.deref-2.ensures.value c.requires.checked
-
-pub operators_for-requires-clause-one : goal.operators_for-requires-clause-one
-operators_for-requires-clause-one g c = lent_all (λ job. length (tree_in job).streams ≡ 1) c.deref-2.result.now c.args.jobs.items c.deref-2.ensures.value c.requires.one
+pub operators_for-requires : goal.operators_for-requires
+operators_for-requires g c = record { checked = lent_all (λ job. IsChecked (tree_in job)) c.deref-2.result.now c.args.jobs.items c.deref-2.ensures.value c.requires.checked }
 
 pub run_each-result-requires-clause-share : goal.run_each-result-requires-clause-share
 run_each-result-requires-clause-share g c κs within =
