@@ -1,6 +1,5 @@
 -- A block that is dealt to several queries, and the end of the blocks.
-use Rattle.std.proofs.Common.{◌≡◌, ◌≢◌, ℕ, ◌+◌, ◌<◌, ◌^◌, List, [], ◌∷◌, ◌++◌, length, refl, sym, ◌∙◌, ap, subst, append-nil, arith}
-use Rattle.std.proofs.Math.Path.{transport}
+use Rattle.std.proofs.Common.{◌≡◌, ◌≢◌, ℕ, ◌+◌, ◌<◌, ◌^◌, List, [], ◌∷◌, ◌++◌, length, refl, sym, ap, subst, arith}
 use Rattle.std.specs.Prelude.{Option, Some, None}
 use Rattle.std.specs.List.{AllByRecursion, AllZip}
 use Rattle.saber_plan.specs.declared.rows.Row.{Row}
@@ -8,10 +7,8 @@ use Rattle.saber_plan.specs.declared.sizes.Sizes.{Sizes}
 use Rattle.saber_plan.specs.GivenRows.{RowsFit}
 use Rattle.saber_plan.specs.Inputs.{Input}
 use Rattle.saber_plan.specs.Trees.{Tree}
-use Rattle.saber_plan.specs.Windows.{no_rows, mark_of}
+use Rattle.saber_plan.specs.Windows.{no_rows}
 use Rattle.saber_fragment.specs.declared.blocks.Block.{Block}
-use Rattle.saber_fragment.specs.declared.blocks.Earlier.{Earlier}
-use Rattle.saber_fragment.specs.Drafts.{EndWith}
 use Rattle.saber_assembly.specs.declared.work.RunData.{RunData}
 use Rattle.saber_assembly.specs.Works.{IsTold, IsBlockOf, input_of, with_block}
 use Rattle.saber_dispatch.specs.declared.ends.End.{End}
@@ -22,7 +19,7 @@ use Rattle.saber_dispatch.specs.declared.cutter.Cut.TheVariants as cuts
 use Rattle.saber_dispatch.specs.declared.keeper.Keeper.{Keeper}
 use Rattle.saber_dispatch.specs.Sources.{Lefts}
 use Rattle.saber_dispatch.specs.Cutting.{Cuts, CutTo, TakenBack}
-use Rattle.saber_dispatch.specs.Keeping.{CountsRows, KeepsLast}
+use Rattle.saber_dispatch.specs.Keeping.{CountsRows}
 use Rattle.saber_many.specs.Queries.{IsAlone}
 use Rattle.saber_many.specs.Sharing.{each_filled, ToldAt, RowsAt, AreTold, AreRows}
 use Rattle.saber_engine.specs.Dealing.{IsLike, CanPass, Passes, DealsEach, GivenOne, GivenEach}
@@ -30,23 +27,9 @@ use Rattle.saber_engine.proofs.Supplied.{Called, block_given, taken_back, end_gi
 
 -- ---- one block
 
-ends_none : (xs : List Row) (e : Earlier) → e.before ≡ mark_of xs → e.rows ≡ [] → EndWith xs e
-ends_none xs e before none = record { front = xs; rows_are = sym (append-nil xs) ∙ ap (λ r. xs ++ r) (sym none); before_is = before }
-
 -- a block that is like another may be passed on where that may
 pub like_passes : (k : Keeper) (b l : Block) → IsLike b l → CanPass b k → (q : Tree) × (xs : List Row) × CountsRows k q xs × RowsFit q no_rows (xs ++ l.rows)
 like_passes k b l is (q, xs, counts, fits) = (q, xs, counts, subst (λ (z : Block). RowsFit q no_rows (xs ++ z.rows)) (sym is.same) fits)
-
--- and passed on, it is what that would be
-pub passes_like : (old : Keeper) (b l c : Block) (new : Keeper) → IsLike b l → Passes old l c new → Passes old b c new
-passes_like old b l c new is p =
-    let same : l.before ≡ b.before = ap (λ (z : Block). z.before) is.same in
-    record {
-      same = p.same ∙ ap (λ (z : Block). record z { earlier = c.earlier; places = c.places }) is.same;
-      gives = λ xs e w k. p.gives xs (same ∙ e) (ends_none xs l.earlier (is.before ∙ e) is.none) k;
-      keeps = λ xs e k. subst (λ (z : Block). KeepsLast new (xs ++ z.rows)) is.same (p.keeps xs (same ∙ e) k);
-      places = p.places;
-    }
 
 -- ---- a block for each
 
@@ -57,13 +40,6 @@ filled_some : {T R : Type 0} (filled : T → R → T) (ts : List T) (rs : List R
 filled_some filled [] rs some e = some refl
 filled_some filled (t ∷ ts) [] some e = not_none t ts e
 filled_some filled (t ∷ ts) (r ∷ rs) some e = not_none (filled t r) (each_filled filled ts rs) e
-
-pub deals_none : (b : Block) (ks : List Keeper) (cs : List Block) → length ks ≡ 0 → cs ≡ [] → DealsEach b ks cs ks
-deals_none b [] cs l e = subst (λ z. DealsEach b [] z []) (sym e) tt
-deals_none b (k ∷ ks) cs l e = absurd (omega (arith, l))
-
-pub deals_more : (b : Block) (k : Keeper) (ks all : List Keeper) (c : Block) (cs every : List Block) (l : Keeper) (ls : List Keeper) → all ≡ k ∷ ks → every ≡ c ∷ cs → Passes k b c l → DealsEach b ks cs ls → DealsEach b all every (l ∷ ls)
-deals_more b k ks all c cs every l ls e f one more = transport (λ i. DealsEach b (sym e i) (sym f i) (l ∷ ls)) (one, more)
 
 -- the cutter cut for the first of them
 pub first_cuts : {O : Type 0} (plan : O → Tree) (s : Sizes) (had has : Lefts) (before now : List ℕ) (c : Cutter) (end : Option End) (ks : List Keeper) (ts : List (RunData O)) (d : ℕ) → GivenEach plan s had has before now c end ks ts d

@@ -120,11 +120,3 @@ three_long R [] (y ∷ ys) zs h = absurd h
 three_long R (x ∷ xs) [] zs h = absurd h
 three_long R (x ∷ xs) (y ∷ ys) [] h = absurd h
 three_long R (x ∷ xs) (y ∷ ys) (z ∷ zs) h = ap suc (three_long R xs ys zs h.1)
-
-pub bases_long : {O S K A : Type 0} (R : O → A → Member (Stage S K) → Type 0) (n : ℕ) (wrote : K → Option (List ℕ)) (failed : K → ℕ) (ops : List O) (qs : List A) (ms : List (Member (Stage S K))) → AllThree R ops qs ms → length (bases n wrote failed ops ms) ≡ length qs
-bases_long R n wrote failed [] [] [] h = refl
-bases_long R n wrote failed [] [] (m ∷ ms) h = absurd h
-bases_long R n wrote failed [] (a ∷ qs) ms h = absurd h
-bases_long R n wrote failed (op ∷ ops) [] ms h = absurd h
-bases_long R n wrote failed (op ∷ ops) (a ∷ qs) [] h = absurd h
-bases_long R n wrote failed (op ∷ ops) (a ∷ qs) (m ∷ ms) h = ap suc (bases_long R n wrote failed ops qs ms h.1)

@@ -98,9 +98,6 @@ both_on false b h = absurd (not_both h)
 both_off : (a b : Bool) → b ≡ false → (a && b) ≡ true → ⊥
 both_off a b off h = not_both (sym off ∙ (both_on a b h).1)
 
-same_end : (a b : End) → ◌≡◌ {A = Option End} (Some a) (Some b) → a ≡ b
-same_end a b e = cc
-
 module _ {O S K : Type 0} (plan : O → Tree) (contents : S → Kept) (taken : O → S → Input → Type 0) (wrote : K → Option (List ℕ)) (failed : K → ℕ)
     (s : Sizes) (had has : Lefts) (before now : List ℕ) (c : Cutter) (end : Option End) (fed : Dispatched) where
   abbrev is_stage : RunData O → ℕ → Bool → Stage S K → Type 0
