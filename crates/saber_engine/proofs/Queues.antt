@@ -12,8 +12,6 @@ less_long x xs all y ys every e f l =
     let both : length (x ∷ xs) ≡ length (y ∷ ys) = ap length (sym e) ∙ l ∙ ap length f in
     omega (arith, both)
 
--- ---- where the first is taken off a list
-
 -- ---- where a list is lent, as long as it was
 
 pub written : {A : Type 0} (old : Vec A Global) (lent new : List A) → lent ≡ old.items → length new ≡ length lent → (with_items old new).items ≡ new
