@@ -46,7 +46,7 @@ mod shared_run;
 mod spare;
 mod ways;
 
-pub use ends::Ran;
+pub use ends::{Ran, Stopped};
 pub use fed_engine::engine_fed;
 pub use jobs::Job;
 pub use run_engine::{engine, engine_pouring};
