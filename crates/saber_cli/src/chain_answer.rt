@@ -59,8 +59,8 @@ fn lacked_as(first: RunEnd, stopped: bool, ring: u32) -> Outcome
 }
 
 // Whether the second query's stage was stopped.
-fn stopped_of(told: Option<Stopped>) -> bool
-    ensures { result ≡ stopped_of told }
+fn stopped_of(told: &Option<Stopped>) -> bool
+    ensures { result ≡ stopped_of told.now }
 {
     match told {
         None => false,
@@ -130,7 +130,7 @@ pub(crate) fn answer_chain<
         first_tasks: _,
         tasks,
     } = chain(rt, alloc, first, second, inputs, sink, sizes, gate);
-    let stopped = stopped_of(second_stopped);
+    let stopped = stopped_of(&second_stopped);
     RanBoth {
         outcome: chained_as(first_end, second_end, stopped, sizes.ring),
         stopped: second_stopped,

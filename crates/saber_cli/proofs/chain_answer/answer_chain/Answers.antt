@@ -1,26 +1,19 @@
 use Rattle.std.proofs.Common.{◌∙◌, sym, ap, subst}
 use Rattle.saber_plan.specs.Trees.{tree_of}
-use Rattle.saber_engine.specs.Endings.{MayStop}
 use Rattle.saber_engine.specs.Gives.{LeavesWhole}
 use Rattle.saber_engine.specs.Sources.{each_input}
 use Rattle.saber_cli.specs.Outcomes.{IsClean, IsOfChain}
 use Rattle.saber_cli.specs.Uses.{IsOpened}
 use Rattle.saber_cli.specs.Endings.{chained_as}
-use Rattle.saber_cli.proofs.ChainRunLemmas.{chained_clean, chained_kinds, chained_opened, chained_read, chained_write, may_stop, runs_chain}
+use Rattle.saber_cli.proofs.ChainRunLemmas.{chained_clean, chained_kinds, chained_opened, chained_read, chained_write, runs_so}
 use Rattle.saber_cli.proofs.chain_answer.answer_chain.Goals as goal
 
 pub returns-clause-runs : goal.returns-clause-runs
 returns-clause-runs g c =
     let e = c.chain-first_end.result in
     let n = c.chain-first_end.ensures in
-    let told = c.stopped_of-stopped.ensures in
-    let so = c.stopped_of-stopped.result in (
-      runs_chain (tree_of c.args.first.now) (tree_of c.args.second.now) c.args.sizes.now
-          (LeavesWhole (tree_of c.args.first.now) c.args.sizes.now (each_input g.S.Source.left c.args.inputs) (each_input g.S.Source.left e.inputs)) _ _ _ c.chained_as.result e so c.chained_as.ensures
-          (subst (MayStop e.second) (sym told) (may_stop e.first e.second e.second_stopped n.stopped)) n.gives n.whole n.never n.all n.cut n.narrow,
-      n.stopped,
-      told,
-    )
+    runs_so (tree_of c.args.first.now) (tree_of c.args.second.now) c.args.sizes.now (LeavesWhole (tree_of c.args.first.now) c.args.sizes.now (each_input g.S.Source.left c.args.inputs) (each_input g.S.Source.left e.inputs)) _ _ _
+    c.chained_as.result e c.stopped_of-stopped.result c.chained_as.ensures c.stopped_of-stopped.ensures n.stopped n.gives n.whole n.never n.all n.cut n.narrow
 
 pub returns-clause-kinds : goal.returns-clause-kinds
 returns-clause-kinds g c = subst IsOfChain (sym c.chained_as.ensures) (chained_kinds c.args.sizes.now.ring c.chain-first_end.result.first c.chain-first_end.result.second c.stopped_of-stopped.result)
