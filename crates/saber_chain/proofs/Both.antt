@@ -21,9 +21,10 @@ use Rattle.saber_plan.specs.Tasks.{upto, run_input}
 use Rattle.saber_plan.specs.Windows.{Fits}
 use Rattle.saber_plan.specs.Needs.{wide, first_open}
 use Rattle.saber_pipe.specs.Receipts.{Settled}
-use Rattle.saber_laws.specs.Ends.{TasksMakeAll}
-use Rattle.saber_laws.specs.Needs.{NoneIsWide}
-use Rattle.saber_laws.specs.Pieces.{NoRowsGiveNothing, NoTasksNoRows}
+use Rattle.saber_laws.proofs.FlushLaws.{tasks_make_all}
+use Rattle.saber_laws.proofs.WideLaws.{none_wide as none_is_wide}
+use Rattle.saber_laws.proofs.StepLaws.{none_gives_nothing as no_rows_give_nothing}
+use Rattle.saber_laws.proofs.TaskCutLaws.{no_cut as no_tasks_no_rows}
 use Rattle.saber_dispatch.specs.declared.inputs.Inputs.{Inputs}
 use Rattle.saber_dispatch.specs.declared.inputs.Inputs.TheVariants.{One, Two}
 use Rattle.saber_plan.specs.declared.ends.RunEnd.{RunEnd}
@@ -37,6 +38,7 @@ use Rattle.saber_chain.specs.Marks.{mark_after, IsWhole}
 use Rattle.saber_chain.specs.declared.chained.Chained.{Chained}
 use Rattle.saber_chain.specs.Firsts.{RunsFirst, RanFirst}
 use Rattle.saber_chain.specs.Seconds.{RunsSecond}
+use Rattle.saber_chain.specs.Stops.{SecondStops}
 use Rattle.saber_chain.specs.Chains.{Chains, RunsBoth}
 use Rattle.saber_chain.proofs.Settling.{settled}
 
@@ -54,27 +56,27 @@ own_rows Group streams fits one t x = omega arith
 own_rows Join streams fits one t x = absurd (two_streams streams fits one)
 
 -- no task of a query over one stream is too wide for a ring
-pub none_wide : NoneIsWide → (q : Tree) → IsChecked q → length q.streams ≡ 1 → (n ring : ℕ) (r : Input) → 1 ≤ ring → wide q n r ring ≡ None
-none_wide law q checked one n ring r some = law q n r ring (λ k below. let own = own_rows q.shape q.streams checked.streams one k (option_map_or (λ p. p / n) (first_open (frame q) (upto n r k)) k) in omega (arith, own, some))
+pub none_wide : (q : Tree) → IsChecked q → length q.streams ≡ 1 → (n ring : ℕ) (r : Input) → 1 ≤ ring → wide q n r ring ≡ None
+none_wide q checked one n ring r some = none_is_wide q n r ring (λ k below. let own = own_rows q.shape q.streams checked.streams one k (option_map_or (λ p. p / n) (first_open (frame q) (upto n r k)) k) in omega (arith, own, some))
 
 -- ---- whole texts
 
 -- a run with its text whole gives the text of all rows
-pub all_rows : TasksMakeAll → (q : Tree) (n ring : ℕ) (read : Read) (end : RunEnd) (tasks : ℕ) (out : List ℕ) → 1 ≤ n → IsWhole end → Gives q n ring false read end tasks out → out ≡ text q (going_on read.rows)
-all_rows law q n ring read AllRead tasks out some whole gives = let a = gives.assembles in a.answers (λ e. cc) ∙ ap (λ k. text q (upto n (going_on read.rows) k)) (a.all refl) ∙ ap (text q) (law n (going_on read.rows) some)
-all_rows law q n ring read (Bad side line cause) tasks out some whole gives = let a = gives.assembles in a.answers (λ e. cc) ∙ ap (λ k. text q (upto n (going_on read.rows) k)) (a.all refl) ∙ ap (text q) (law n (going_on read.rows) some)
-all_rows law q n ring read (ReadFault side) tasks out some whole gives = absurd (let h = whole in cc)
-all_rows law q n ring read (TooWide task wants) tasks out some whole gives = absurd (let h = whole in cc)
-all_rows law q n ring read WriteFault tasks out some whole gives = absurd (let h = whole in cc)
-all_rows law q n ring read NoMemory tasks out some whole gives = absurd (let h = whole in cc)
+pub all_rows : (q : Tree) (n ring : ℕ) (read : Read) (end : RunEnd) (tasks : ℕ) (out : List ℕ) → 1 ≤ n → IsWhole end → Gives q n ring false read end tasks out → out ≡ text q (going_on read.rows)
+all_rows q n ring read AllRead tasks out some whole gives = let a = gives.assembles in a.answers (λ e. cc) ∙ ap (λ k. text q (upto n (going_on read.rows) k)) (a.all refl) ∙ ap (text q) (tasks_make_all n (going_on read.rows) some)
+all_rows q n ring read (Bad side line cause) tasks out some whole gives = let a = gives.assembles in a.answers (λ e. cc) ∙ ap (λ k. text q (upto n (going_on read.rows) k)) (a.all refl) ∙ ap (text q) (tasks_make_all n (going_on read.rows) some)
+all_rows q n ring read (ReadFault side) tasks out some whole gives = absurd (let h = whole in cc)
+all_rows q n ring read (TooWide task wants) tasks out some whole gives = absurd (let h = whole in cc)
+all_rows q n ring read WriteFault tasks out some whole gives = absurd (let h = whole in cc)
+all_rows q n ring read NoMemory tasks out some whole gives = absurd (let h = whole in cc)
 
 -- and so do two of them, one over the text of the other
-pub both_texts : TasksMakeAll → (first second : Tree) (n ring : ℕ) (read : Read) (end end' : RunEnd) (tasks tasks' : ℕ) (between out : List ℕ) → 1 ≤ n
+pub both_texts : (first second : Tree) (n ring : ℕ) (read : Read) (end end' : RunEnd) (tasks tasks' : ℕ) (between out : List ℕ) → 1 ≤ n
     → IsWhole end → IsWhole end' → Gives first n ring false read end tasks between → Gives second n ring false (rows_between second between) end' tasks' out
     → out ≡ text_of_both first second (going_on read.rows)
-both_texts law first second n ring read end end' tasks tasks' between out some whole whole' g g' =
-    all_rows law second n ring (rows_between second between) end' tasks' out some whole' g'
-    ∙ ap (λ b. text second (going_on (rows_between second b).rows)) (all_rows law first n ring read end tasks between some whole g)
+both_texts first second n ring read end end' tasks tasks' between out some whole whole' g g' =
+    all_rows second n ring (rows_between second between) end' tasks' out some whole' g'
+    ∙ ap (λ b. text second (going_on (rows_between second b).rows)) (all_rows first n ring read end tasks between some whole g)
 
 -- ---- a chain
 
@@ -91,7 +93,7 @@ module _ {S K : Type 0} (left : S → Option (List ℕ)) (faults : S → ℕ) (w
   pub both_runs : (first second : Tree) (s : Sizes) (had has : Inputs S) (sink sink' : K) (c : Chained S K) (end end' : RunEnd) (tasks tasks' : ℕ) (out taken : List ℕ) (sent mark : Option EndMark)
       → RanFirst left faults first s had has end tasks out sent → RunsSecond second s taken mark (written sink) (written sink') end' tasks'
       → (end' ≡ WriteFault → Rose (sink_faults sink) (sink_faults sink')) → (end' ≢ WriteFault → sink_faults sink' ≡ sink_faults sink) → sink_faults sink ≤ sink_faults sink'
-      → {stopped : Bool} → MayStop end' stopped → c.second_stopped ≡ stopped
+      → {stopped : Bool} → MayStop end' stopped → c.second_stopped ≡ Some stopped
       → (c.first ≡ end) × (c.second ≡ end') → (c.first_tasks ≡ tasks) × (c.tasks ≡ tasks') → (c.inputs ≡ has) × (c.sink ≡ sink')
       → Settled out (Some (mark_after c.first)) taken mark → RunsBoth left faults written sink_faults first second s had sink c
   both_runs first second s had has sink sink' c end end' tasks tasks' out taken sent mark ran runs write good rises may same ends counts backs done =
@@ -104,14 +106,14 @@ module _ {S K : Type 0} (left : S → Option (List ℕ)) (faults : S → ℕ) (w
         write = λ e. subst (λ z. Rose (sink_faults sink) (sink_faults z)) (sym backs.1) (write (sym ends.1 ∙ e));
         write_good = λ n. ap sink_faults backs.1 ∙ good (λ e. n (ends.1 ∙ e));
         writes = subst (λ z. sink_faults sink ≤ sink_faults z) (sym backs.1) rises;
-        stopped = transport (λ i. MayStop (sym ends.1 i) (sym same i)) may;
+        stopped = transport (λ i. SecondStops c.first (sym ends.1 i) (sym same i)) may;
       }
 
   -- what both runs give is what a chain gives
-  pub chains : TasksMakeAll → (first second : Tree) (s : Sizes) (had : Inputs S) (sink : K) (c : Chained S K) → s.flush ≡ false → 1 ≤ s.task
+  pub chains : (first second : Tree) (s : Sizes) (had : Inputs S) (sink : K) (c : Chained S K) → s.flush ≡ false → 1 ≤ s.task
       → RunsBoth left faults written sink_faults first second s had sink c
       → Chains first second s (told_by left had) (written sink) (written c.sink) c
-  chains law first second s had sink c open_end some b = record {
+  chains first second s had sink c open_end some b = record {
     between = b.between;
     out = b.runs_second.out;
     written = b.runs_second.written;
@@ -119,41 +121,41 @@ module _ {S K : Type 0} (left : S → Option (List ℕ)) (faults : S → ℕ) (w
     gives_second = b.runs_second.gives;
     whole_tasks = b.runs_second.whole;
     whole_text = λ w w'. if_some (told_by left had)
-        (λ fs g. both_texts law first second s.task s.ring (input_of first (limits_of s) fs) c.first c.second c.first_tasks c.tasks b.between b.runs_second.out some w w' g b.runs_second.gives)
+        (λ fs g. both_texts first second s.task s.ring (input_of first (limits_of s) fs) c.first c.second c.first_tasks c.tasks b.between b.runs_second.out some w w' g b.runs_second.gives)
         (subst (λ z. IfSome (told_by left had) (λ fs. Gives first s.task s.ring z (input_of first (limits_of s) fs) c.first c.first_tasks b.between)) open_end b.runs_first.gives);
   }
 
   -- the second query never needs too many tasks' rows
-  pub narrow : NoneIsWide → (first second : Tree) (s : Sizes) (had : Inputs S) (sink : K) (c : Chained S K) → IsChecked second → length second.streams ≡ 1 → 1 ≤ s.ring
+  pub narrow : (first second : Tree) (s : Sizes) (had : Inputs S) (sink : K) (c : Chained S K) → IsChecked second → length second.streams ≡ 1 → 1 ≤ s.ring
       → RunsBoth left faults written sink_faults first second s had sink c → (task wants : ℕ) → c.second ≡ TooWide task wants → ⊥
-  narrow law first second s had sink c checked one some b task wants e =
+  narrow first second s had sink c checked one some b task wants e =
       let read = rows_between second b.between in
       let gives : Gives second s.task s.ring false read (TooWide task wants) c.tasks b.runs_second.out = subst (λ z. Gives second s.task s.ring false read z c.tasks b.runs_second.out) e b.runs_second.gives in
-      let clash : None ≡ Some task = sym (none_wide law second checked one s.task s.ring (run_input second false read) some) ∙ gives.ends.0 in cc
+      let clash : None ≡ Some task = sym (none_wide second checked one s.task s.ring (run_input second false read) some) ∙ gives.ends.0 in cc
 
 -- a run that lacks memory before its first task
-nothing_given : NoRowsGiveNothing → NoTasksNoRows → (q : Tree) → Fits (frame q) → (n ring : ℕ) (read : Read) → Gives q n ring false read NoMemory 0 []
-nothing_given nothing none q fits n ring read = record {
+nothing_given : (q : Tree) → Fits (frame q) → (n ring : ℕ) (read : Read) → Gives q n ring false read NoMemory 0 []
+nothing_given q fits n ring read = record {
   ends = tt;
   assembles = record {
     few = omega arith;
     all = λ e. cc;
     before = λ t e. cc;
-    answers = λ _. sym (nothing q fits).text ∙ ap (text q) (sym (none n (run_input q false read)));
+    answers = λ _. sym (no_rows_give_nothing q fits).text ∙ ap (text q) (sym (no_tasks_no_rows n (run_input q false read)));
     cut = λ e. cc;
   };
 }
 
 -- no memory for the pipe
-pub no_pipe : NoRowsGiveNothing → NoTasksNoRows → (first second : Tree) → Fits (frame first) → Fits (frame second) → (s : Sizes) (files : Option (List (List ℕ))) (had : Option (List ℕ))
+pub no_pipe : (first second : Tree) → Fits (frame first) → Fits (frame second) → (s : Sizes) (files : Option (List (List ℕ))) (had : Option (List ℕ))
     → {S K : Type 0} (inputs : Inputs S) (sink : K)
-    → Chains first second s files had had (record { first = NoMemory; second = NoMemory; second_stopped = false; inputs = inputs; sink = sink; first_tasks = 0; tasks = 0 })
-no_pipe nothing none first second fits fits' s files had inputs sink = record {
+    → Chains first second s files had had (record { first = NoMemory; second = NoMemory; second_stopped = None; inputs = inputs; sink = sink; first_tasks = 0; tasks = 0 })
+no_pipe first second fits fits' s files had inputs sink = record {
   between = [];
   out = [];
   written = appended-none had;
-  gives_first = if_all files (λ fs. nothing_given nothing none first fits s.task s.ring (input_of first (limits_of s) fs));
-  gives_second = nothing_given nothing none second fits' s.task s.ring (rows_between second []);
+  gives_first = if_all files (λ fs. nothing_given first fits s.task s.ring (input_of first (limits_of s) fs));
+  gives_second = nothing_given second fits' s.task s.ring (rows_between second []);
   whole_tasks = λ side e. cc;
   whole_text = λ w. absurd (let h : marks.Cut ≡ marks.End = w in cc);
 }

@@ -13,8 +13,8 @@ ghost use Rattle.saber_plan.specs.declared.ends.RunEnd.{RunEnd};
 ghost use Rattle.saber_engine.specs.Sources.{each_input, told_by, RoseAt, NoneFell, GaveAll};
 ghost use Rattle.saber_plan.specs.Runs.{IsClean};
 ghost use Rattle.saber_engine.specs.Gives.{LeavesWhole};
-ghost use Rattle.saber_engine.specs.Endings.{MayStop};
 ghost use Rattle.saber_chain.specs.Marks.{IsWhole, IsShort};
+ghost use Rattle.saber_chain.specs.Stops.{SecondStops};
 ghost use Rattle.saber_chain.specs.Firsts.{RanFirstTo};
 ghost use Rattle.saber_chain.specs.Chains.{Chains, RunsBoth};
 
@@ -25,9 +25,6 @@ use crate::second::run_second;
 use crate::settle::settle;
 use saber_engine::{Inputs, RunEnd};
 use saber_io::{Gate, Sink, Source};
-use saber_laws::{
-    checked_fit, no_rows_give_nothing, no_tasks_no_rows, none_is_wide, tasks_make_all,
-};
 use saber_pipe::{Pipe, PipeName};
 use saber_plan::{Plan, Sizes};
 use std::alloc::Global;
@@ -180,19 +177,14 @@ pub fn chain<
     ensures narrow { (task need : ℕ) → result.second ≢ RunEnd.TooWide task need }
 
     // The second query's stage was stopped where a write failed, maybe where memory lacked, and at
-    // no other end.
-    ensures stopped { MayStop result.second result.second_stopped }
+    // no other end. It has no stage only where both lacked memory.
+    ensures stopped { SecondStops result.first result.second result.second_stopped }
 
     // A fault of writing is real, none is passed over, and the count doesn't fall.
     ensures write { result.second ≡ RunEnd.WriteFault → Rose (K.faults sink) (K.faults result.sink) }
     ensures write_good { result.second ≢ RunEnd.WriteFault → K.faults result.sink ≡ K.faults sink }
     ensures writes { K.faults sink ≤ K.faults result.sink }
 {
-    checked_fit();
-    no_rows_give_nothing();
-    no_tasks_no_rows();
-    none_is_wide();
-    tasks_make_all();
     match Pipe::new(alloc) {
         Ok(mut pipe) => {
             let alone = AtomicBool::new(false);
@@ -203,7 +195,7 @@ pub fn chain<
         Err(_) => Chained {
             first: RunEnd::NoMemory,
             second: RunEnd::NoMemory,
-            second_stopped: false,
+            second_stopped: None,
             inputs,
             sink,
             first_tasks: 0,

@@ -13,15 +13,12 @@ use Rattle.saber_query.specs.Parsed.{Parsed}
 use Rattle.saber_query.specs.Lexing.{lexed_text}
 use Rattle.saber_query.specs.Reading.{token_of}
 use Rattle.saber_query.specs.Means.{MeansTree, TextFault, StopsAt, byte_of, first_byte}
+use Rattle.saber_query.proofs.RealLemmas.{lexed_fine as tokens_are_real}
 use Rattle.saber_check.specs.declared.fault.Fault.{Fault}
 use Rattle.saber_check.specs.Least.{rank, IsFirst}
 use Rattle.saber_check.specs.Faults.{faults}
 use Rattle.saber_check.specs.Texts.{HasFault, FailsChecks, means_none, fails_checks}
-use Rattle.saber_check.proofs.TextLaws.{HaveOneTree, same_tokens, same_query, means_or_not}
-
--- the tokens of a text are real
-abbrev pub AreReal : Type 0
-AreReal = (text : List ℕ) (ps : List Placed) → lexed_text text ≡ Ok ps → (length ps ≤ length text) × AllReal (map token_of ps)
+use Rattle.saber_check.proofs.TextLaws.{same_tokens, same_query, means_or_not}
 
 -- one byte and one cause
 abbrev pub IsSame : ℕ → ℕ → Cause → Cause → Type 0
@@ -135,43 +132,43 @@ wrong ExprTooWide b text f = absurd f
 wrong SumTooWide b text f = absurd f
 
 -- two stops of one text are one
-same_stop : AreReal → (text : List ℕ) (xs ys us vs : List Placed) → lexed_text text ≡ Ok (xs ++ ys) → lexed_text text ≡ Ok (us ++ vs) → Stops (map token_of xs) (map token_of ys) → Stops (map token_of us) (map token_of vs) → (xs ≡ us) × (ys ≡ vs)
-same_stop real text xs ys us vs e f s z = stop_once xs ys us vs (real text (us ++ vs) f).1 (same_tokens text (xs ++ ys) (us ++ vs) e f) s z
+same_stop : (text : List ℕ) (xs ys us vs : List Placed) → lexed_text text ≡ Ok (xs ++ ys) → lexed_text text ≡ Ok (us ++ vs) → Stops (map token_of xs) (map token_of ys) → Stops (map token_of us) (map token_of vs) → (xs ≡ us) × (ys ≡ vs)
+same_stop text xs ys us vs e f s z = stop_once xs ys us vs (tokens_are_real text (us ++ vs) f).1 (same_tokens text (xs ++ ys) (us ++ vs) e f) s z
 
 same_place : (text : List ℕ) (ys vs : List Placed) (b d : ℕ) → ys ≡ vs → b ≡ first_byte ys (length text) → d ≡ first_byte vs (length text) → b ≡ d
 same_place text ys vs b d h e f = e ∙ ap (λ l. first_byte l (length text)) h ∙ sym f
 
-split_clash : AreReal → (text : List ℕ) (b d : ℕ) → StopsAt (IsSyntax 64) text b → StopsAt (IsDeep 64) text d → ⊥
-split_clash real text b d f g =
-    let s = same_stop real text f.before f.rest g.before g.rest f.lexed g.lexed (syntax_stops (map token_of f.before) (map token_of f.rest) f.there) (deep_stops (map token_of g.before) (map token_of g.rest) g.there) in
+split_clash : (text : List ℕ) (b d : ℕ) → StopsAt (IsSyntax 64) text b → StopsAt (IsDeep 64) text d → ⊥
+split_clash text b d f g =
+    let s = same_stop text f.before f.rest g.before g.rest f.lexed g.lexed (syntax_stops (map token_of f.before) (map token_of f.rest) f.there) (deep_stops (map token_of g.before) (map token_of g.rest) g.there) in
     not_both (map token_of g.before) (map token_of g.rest) (subst (λ l. IsSyntax 64 (map token_of g.before) (map token_of l)) s.1 (subst (λ l. IsSyntax 64 (map token_of l) (map token_of f.rest)) s.0 f.there)) g.there
 
 lexed_clash : (text : List ℕ) (b : ℕ) (c : Cause) (ps : List Placed) → lexed_text text ≡ Err (At b c) → lexed_text text ≡ Ok ps → ⊥
 lexed_clash text b c ps e f = cc
 
-one_wrong : AreReal → (text : List ℕ) (b d : ℕ) (c e : Cause) → Wrong c b text → Wrong e d text → IsSame b d c e
-one_wrong real text b d c e (long h l p) (long k m q) = (p ∙ sym q, h ∙ sym k)
-one_wrong real text b d c e (long h l p) (no_tokens k m) = absurd (omega (arith, l, k))
-one_wrong real text b d c e (long h l p) (unfit k m) = let n : length text ≤ 65536 = m.short in absurd (omega (arith, l, n))
-one_wrong real text b d c e (long h l p) (deep k m) = let n : length text ≤ 65536 = m.short in absurd (omega (arith, l, n))
-one_wrong real text b d c e (no_tokens h l) (long k m q) = absurd (omega (arith, h, m))
-one_wrong real text b d c e (no_tokens h l) (no_tokens k m) =
+one_wrong : (text : List ℕ) (b d : ℕ) (c e : Cause) → Wrong c b text → Wrong e d text → IsSame b d c e
+one_wrong text b d c e (long h l p) (long k m q) = (p ∙ sym q, h ∙ sym k)
+one_wrong text b d c e (long h l p) (no_tokens k m) = absurd (omega (arith, l, k))
+one_wrong text b d c e (long h l p) (unfit k m) = let n : length text ≤ 65536 = m.short in absurd (omega (arith, l, n))
+one_wrong text b d c e (long h l p) (deep k m) = let n : length text ≤ 65536 = m.short in absurd (omega (arith, l, n))
+one_wrong text b d c e (no_tokens h l) (long k m q) = absurd (omega (arith, h, m))
+one_wrong text b d c e (no_tokens h l) (no_tokens k m) =
     let place : b ≡ d = cc in
     let cause : c ≡ e = cc in
     (place, cause)
-one_wrong real text b d c e (no_tokens h l) (unfit k m) = absurd (lexed_clash text b c (m.before ++ m.rest) l m.lexed)
-one_wrong real text b d c e (no_tokens h l) (deep k m) = absurd (lexed_clash text b c (m.before ++ m.rest) l m.lexed)
-one_wrong real text b d c e (unfit h l) (long k m q) = let n : length text ≤ 65536 = l.short in absurd (omega (arith, m, n))
-one_wrong real text b d c e (unfit h l) (no_tokens k m) = absurd (lexed_clash text d e (l.before ++ l.rest) m l.lexed)
-one_wrong real text b d c e (unfit h l) (unfit k m) =
-    let s = same_stop real text l.before l.rest m.before m.rest l.lexed m.lexed (syntax_stops (map token_of l.before) (map token_of l.rest) l.there) (syntax_stops (map token_of m.before) (map token_of m.rest) m.there) in
+one_wrong text b d c e (no_tokens h l) (unfit k m) = absurd (lexed_clash text b c (m.before ++ m.rest) l m.lexed)
+one_wrong text b d c e (no_tokens h l) (deep k m) = absurd (lexed_clash text b c (m.before ++ m.rest) l m.lexed)
+one_wrong text b d c e (unfit h l) (long k m q) = let n : length text ≤ 65536 = l.short in absurd (omega (arith, m, n))
+one_wrong text b d c e (unfit h l) (no_tokens k m) = absurd (lexed_clash text d e (l.before ++ l.rest) m l.lexed)
+one_wrong text b d c e (unfit h l) (unfit k m) =
+    let s = same_stop text l.before l.rest m.before m.rest l.lexed m.lexed (syntax_stops (map token_of l.before) (map token_of l.rest) l.there) (syntax_stops (map token_of m.before) (map token_of m.rest) m.there) in
     (same_place text l.rest m.rest b d s.1 l.place m.place, h ∙ sym k)
-one_wrong real text b d c e (unfit h l) (deep k m) = absurd (split_clash real text b d l m)
-one_wrong real text b d c e (deep h l) (long k m q) = let n : length text ≤ 65536 = l.short in absurd (omega (arith, m, n))
-one_wrong real text b d c e (deep h l) (no_tokens k m) = absurd (lexed_clash text d e (l.before ++ l.rest) m l.lexed)
-one_wrong real text b d c e (deep h l) (unfit k m) = absurd (split_clash real text d b m l)
-one_wrong real text b d c e (deep h l) (deep k m) =
-    let s = same_stop real text l.before l.rest m.before m.rest l.lexed m.lexed (deep_stops (map token_of l.before) (map token_of l.rest) l.there) (deep_stops (map token_of m.before) (map token_of m.rest) m.there) in
+one_wrong text b d c e (unfit h l) (deep k m) = absurd (split_clash text b d l m)
+one_wrong text b d c e (deep h l) (long k m q) = let n : length text ≤ 65536 = l.short in absurd (omega (arith, m, n))
+one_wrong text b d c e (deep h l) (no_tokens k m) = absurd (lexed_clash text d e (l.before ++ l.rest) m l.lexed)
+one_wrong text b d c e (deep h l) (unfit k m) = absurd (split_clash text d b m l)
+one_wrong text b d c e (deep h l) (deep k m) =
+    let s = same_stop text l.before l.rest m.before m.rest l.lexed m.lexed (deep_stops (map token_of l.before) (map token_of l.rest) l.there) (deep_stops (map token_of m.before) (map token_of m.rest) m.there) in
     (same_place text l.rest m.rest b d s.1 l.place m.place, h ∙ sym k)
 
 -- ---- what is wrong with a query
@@ -215,9 +212,9 @@ both_first f g (inr h) (inr k) =
 one_first : (fs : List Fault) (f g : Fault) → IsFirst f fs → IsFirst g fs → (f.index ≡ g.index) × (f.cause ≡ g.cause)
 one_first fs f g h k = both_first f g (h.first g k.there) (k.first f h.there)
 
-one_failure : HaveOneTree → (text : List ℕ) (b d : ℕ) (c e : Cause) → FailsChecks text b c → FailsChecks text d e → IsSame b d c e
-one_failure one text b d c e f g =
-    let same : query_of f.query.select ≡ query_of g.query.select = same_query one text f.query g.query f.means g.means in
+one_failure : (text : List ℕ) (b d : ℕ) (c e : Cause) → FailsChecks text b c → FailsChecks text d e → IsSame b d c e
+one_failure text b d c e f g =
+    let same : query_of f.query.select ≡ query_of g.query.select = same_query text f.query g.query f.means g.means in
     let starts : f.query.starts ≡ g.query.starts = f.means.starts ∙ ap (map byte_of) (same_tokens text f.means.placed g.means.placed f.means.lexed g.means.lexed) ∙ sym g.means.starts in
     let p : Fault = record { index = f.fails.index; cause = c } in
     let r : Fault = record { index = g.fails.index; cause = e } in
@@ -226,11 +223,11 @@ one_failure one text b d c e f g =
 
 -- ---- the law
 
-real_words : AreReal → (text : List ℕ) (p : Parsed) → MeansTree text p → AllReal (words (query_of p.select))
-real_words real text p m = subst AllReal (sym m.words) (real text m.placed m.lexed).1
+real_words : (text : List ℕ) (p : Parsed) → MeansTree text p → AllReal (words (query_of p.select))
+real_words text p m = subst AllReal (sym m.words) (tokens_are_real text m.placed m.lexed).1
 
-pub one_fault : HaveOneTree → AreReal → (text : List ℕ) (byte other : ℕ) (cause another : Cause) → HasFault text byte cause → HasFault text other another → IsSame byte other cause another
-one_fault one real text b d c e (means_none f) (means_none g) = one_wrong real text b d c e (wrong c b text f) (wrong e d text g)
-one_fault one real text b d c e (means_none f) (fails_checks g) = absurd (means_or_not c b text g.query (real_words real text g.query g.means) g.means f)
-one_fault one real text b d c e (fails_checks f) (means_none g) = absurd (means_or_not e d text f.query (real_words real text f.query f.means) f.means g)
-one_fault one real text b d c e (fails_checks f) (fails_checks g) = one_failure one text b d c e f g
+pub one_fault : (text : List ℕ) (byte other : ℕ) (cause another : Cause) → HasFault text byte cause → HasFault text other another → IsSame byte other cause another
+one_fault text b d c e (means_none f) (means_none g) = one_wrong text b d c e (wrong c b text f) (wrong e d text g)
+one_fault text b d c e (means_none f) (fails_checks g) = absurd (means_or_not c b text g.query (real_words text g.query g.means) g.means f)
+one_fault text b d c e (fails_checks f) (means_none g) = absurd (means_or_not e d text f.query (real_words text f.query f.means) f.means g)
+one_fault text b d c e (fails_checks f) (fails_checks g) = one_failure text b d c e f g

@@ -20,8 +20,8 @@ no_faults q [] e h = refl
 no_faults q (f ∷ fs) e h = absurd (subst (λ gs. ¬ ((k : ℕ) × (k < length gs) × (slice_index_or gs k f ≡ f))) e (h f.index f.cause) (0, omega arith, refl))
 
 -- the plan of a text is checked
-pub plan_of_text : (text : List ℕ) (tree : Tree) → HasPlan text tree → IsChecked tree
-plan_of_text text tree h = subst IsChecked (sym h.same) (plan_checked (query_of h.query.select) (no_faults (query_of h.query.select) _ refl h.faultless))
+pub a_plan_is_checked : (text : List ℕ) (tree : Tree) → HasPlan text tree → IsChecked tree
+a_plan_is_checked text tree h = subst IsChecked (sym h.same) (plan_checked (query_of h.query.select) (no_faults (query_of h.query.select) _ refl h.faultless))
 
 -- ---- the front
 

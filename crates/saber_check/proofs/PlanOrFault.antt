@@ -3,8 +3,9 @@ use Rattle.std.proofs.Common.{◌≡◌, ℕ, ◌<◌, List, length, Option, Som
 use Rattle.saber_plan.specs.Trees.{Tree}
 use Rattle.saber_query.specs.Trees.{query_of}
 use Rattle.saber_query.specs.Parsed.{Parsed, IsParsed}
-use Rattle.saber_query.specs.Means.{MeansTree, TextFault}
+use Rattle.saber_query.specs.Means.{MeansTree}
 use Rattle.saber_query.specs.declared.fault.Cause.{Cause}
+use Rattle.saber_query.proofs.Meanings.{told as a_text_means_a_query_or_has_a_fault}
 use Rattle.saber_check.specs.declared.fault.Fault.{Fault}
 use Rattle.saber_check.specs.Least.{least}
 use Rattle.saber_check.specs.Faults.{faults, width}
@@ -13,10 +14,6 @@ use Rattle.saber_check.specs.Texts.{HasPlan, HasFault, means_none, fails_checks}
 use Rattle.saber_check.proofs.FirstLaws.{first, none}
 use Rattle.saber_check.proofs.WidthLaws.{words_count}
 use Rattle.saber_check.proofs.IndexLaws.{fault_inside}
-
--- what the language says of each text
-abbrev pub AreTold : Type 0
-AreTold = (text : List ℕ) → ((q : Parsed) × IsParsed q.select q.starts × MeansTree text q) ⊎ ((byte : ℕ) × (cause : Cause) × TextFault cause byte text)
 
 abbrev Has : List ℕ → Type 0
 Has text = ((tree : Tree) × HasPlan text tree) ⊎ ((byte : ℕ) × (cause : Cause) × HasFault text byte cause)
@@ -36,8 +33,8 @@ by_least text p i m (Some f) e =
       fails_checks (record { query = p; means = m; fails = record { index = f.index; first = one; inside = inside; place = refl } }),
     )
 
-pub plan_or_fault : AreTold → (text : List ℕ) → Has text
-plan_or_fault told text = elim (told text) [
+pub plan_or_fault : (text : List ℕ) → Has text
+plan_or_fault text = elim (a_text_means_a_query_or_has_a_fault text) [
   | inl h ↦ by_least text h.0 h.1 h.2 (least (faults (query_of h.0.select))) refl
   | inr h ↦ inr (h.0, h.1, means_none h.2)
 ]

@@ -13,20 +13,17 @@ use Rattle.saber_query.specs.Parsed.{Parsed}
 use Rattle.saber_query.specs.Lexing.{lexed_text}
 use Rattle.saber_query.specs.Reading.{token_of}
 use Rattle.saber_query.specs.Means.{MeansTree, TextFault}
+use Rattle.saber_query.proofs.Unique.{one_tree as words_have_one_tree}
 use Rattle.saber_check.specs.Plans.{plan_tree}
 use Rattle.saber_check.specs.Outcome.{IsFaultless}
 use Rattle.saber_check.specs.Texts.{HasPlan, HasFault, means_none, fails_checks}
-
--- no two trees have the same words
-abbrev pub HaveOneTree : Type 0
-HaveOneTree = (q r : Query) → words q ≡ words r → q ≡ r
 
 -- a text has one list of tokens
 pub same_tokens : (text : List ℕ) (a b : List Placed) → lexed_text text ≡ Ok a → lexed_text text ≡ Ok b → a ≡ b
 same_tokens text a b e h = cc
 
-pub same_query : HaveOneTree → (text : List ℕ) (p r : Parsed) → MeansTree text p → MeansTree text r → query_of p.select ≡ query_of r.select
-same_query one text p r m n = one (query_of p.select) (query_of r.select) (m.words ∙ ap (map token_of) (same_tokens text m.placed n.placed m.lexed n.lexed) ∙ sym n.words)
+pub same_query : (text : List ℕ) (p r : Parsed) → MeansTree text p → MeansTree text r → query_of p.select ≡ query_of r.select
+same_query text p r m n = words_have_one_tree (query_of p.select) (query_of r.select) (m.words ∙ ap (map token_of) (same_tokens text m.placed n.placed m.lexed n.lexed) ∙ sym n.words)
 
 real_behind : (xs ys : List Token) → AllReal (xs ++ ys) → AllReal ys
 real_behind [] ys a = a
@@ -68,11 +65,11 @@ means_or_not NotGrouped b text p i m f = f
 means_or_not ExprTooWide b text p i m f = f
 means_or_not SumTooWide b text p i m f = f
 
-pub fault_or_plan : HaveOneTree → (text : List ℕ) (byte : ℕ) (cause : Cause) (tree : Tree) → HasFault text byte cause → ¬ (HasPlan text tree)
-fault_or_plan one text byte cause tree (means_none f) p = means_or_not cause byte text p.query p.parsed.real p.means f
-fault_or_plan one text byte cause tree (fails_checks f) p =
+pub fault_or_plan : (text : List ℕ) (byte : ℕ) (cause : Cause) (tree : Tree) → HasFault text byte cause → ¬ (HasPlan text tree)
+fault_or_plan text byte cause tree (means_none f) p = means_or_not cause byte text p.query p.parsed.real p.means f
+fault_or_plan text byte cause tree (fails_checks f) p =
     let P : Query → Type 0 = λ q. IsFaultless q in
-    subst P (same_query one text p.query f.query p.means f.means) p.faultless f.fails.index cause f.fails.first.there
+    subst P (same_query text p.query f.query p.means f.means) p.faultless f.fails.index cause f.fails.first.there
 
-pub one_plan : HaveOneTree → (text : List ℕ) (tree other : Tree) → HasPlan text tree → HasPlan text other → tree ≡ other
-one_plan one text tree other p r = p.same ∙ ap plan_tree (same_query one text p.query r.query p.means r.means) ∙ sym r.same
+pub one_plan : (text : List ℕ) (tree other : Tree) → HasPlan text tree → HasPlan text other → tree ≡ other
+one_plan text tree other p r = p.same ∙ ap plan_tree (same_query text p.query r.query p.means r.means) ∙ sym r.same

@@ -12,7 +12,8 @@
 //!   else the fault that stands first, of those at one word the first of `Cause`
 //!   (`specs/Faults.antt` lists all), or want of memory. The plan is checked (`IsChecked` of
 //!   `saber_plan`), which is what crates above rest on. Laws: a text has one plan or one first
-//!   fault, and not both; its first 65,537 bytes tell which.
+//!   fault, and not both. Lemmas of `proofs/FrontLaws.antt`: the plan of a text is checked, and its
+//!   first 65,537 bytes tell which it has.
 //! - Limits: docs/LANGUAGE.md has those of queries.
 #![tactic(auto)]
 
@@ -34,8 +35,8 @@ mod whole;
 
 pub use fault::Fault;
 pub use laws::{
-    a_fault_excludes_a_plan, a_front_tells_all, a_plan_is_checked, a_text_has_a_plan_or_a_fault,
-    a_text_has_one_fault, a_text_has_one_plan,
+    a_fault_excludes_a_plan, a_text_has_a_plan_or_a_fault, a_text_has_one_fault,
+    a_text_has_one_plan,
 };
 pub use query::check;
 pub use text::plan_of;

@@ -15,7 +15,6 @@ use Rattle.saber_plan.specs.Runs.{Assembles, Reach, reach_of}
 use Rattle.saber_notes.specs.declared.outcome.InputFile.TheVariants.{Query, Left, Right, SecondQuery}
 use Rattle.saber_notes.specs.declared.outcome.Outcome.{Outcome}
 use Rattle.saber_notes.specs.declared.outcome.Outcome.TheVariants.{Done, Usage, FileCount, QueryFault, SecondQueryFault, Unchainable, LineRefused, ChainLineRefused, OpenFault, ReadFault, TooWide, WriteFault, NoMemory}
-use Rattle.saber_cli.specs.Laws.{Laws}
 use Rattle.saber_cli.specs.Uses.{IsOpened}
 use Rattle.saber_cli.specs.Outcomes.{IsClean, IsNoEnd, IsEarly, IsOfRun, IsUnopened, IsBeforeRun}
 use Rattle.saber_cli.specs.Endings.{end_of, ended_as, file_on, EndsSo}
@@ -70,11 +69,11 @@ none_ends q n ring flush read WriteFault h = absurd h
 none_ends q n ring flush read NoMemory h = (tt, tt)
 
 -- files that gave nothing, whether they are there or not
-pub no_answer : Laws → (q : Tree) (n ring : ℕ) (limits : FileLimits) (flush : Bool) (content : Option (List (List ℕ))) (o : Outcome) → IsChecked q → IsUnopened o → AnsweredIn q n ring limits flush content o 0 []
-no_answer ls q n ring limits flush None o k h = (unopened_no_end o h, refl, refl)
-no_answer ls q n ring limits flush (Some all) o k h = record {
+pub no_answer : (q : Tree) (n ring : ℕ) (limits : FileLimits) (flush : Bool) (content : Option (List (List ℕ))) (o : Outcome) → IsChecked q → IsUnopened o → AnsweredIn q n ring limits flush content o 0 []
+no_answer q n ring limits flush None o k h = (unopened_no_end o h, refl, refl)
+no_answer q n ring limits flush (Some all) o k h = record {
   ends = none_ends q n ring flush (input_of q limits all) o (unopened_no_end o h);
-  puts = nothing_assembled ls q n (run_input q flush (input_of q limits all)) o k (no_end_early o (unopened_no_end o h));
+  puts = nothing_assembled q n (run_input q flush (input_of q limits all)) o k (no_end_early o (unopened_no_end o h));
 }
 
 pub unopened_of_run : (o : Outcome) → IsUnopened o → IsOfRun o

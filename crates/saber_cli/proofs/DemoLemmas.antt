@@ -14,8 +14,8 @@ use Rattle.saber_plan.specs.Tasks.{upto, task_count, row_tasks, run_input}
 use Rattle.saber_plan.specs.Needs.{wide}
 use Rattle.saber_plan.specs.Trees.{Tree}
 use Rattle.saber_plan.specs.Sizes.{FileLimits}
-use Rattle.saber_laws.specs.Cuts.{RowsHaveTasks}
-use Rattle.saber_laws.specs.Needs.{NoneIsWide}
+use Rattle.saber_laws.proofs.TaskCutLaws.{rows_fit as rows_have_tasks}
+use Rattle.saber_laws.proofs.WideLaws.{none_wide as none_is_wide}
 use Rattle.saber_words.specs.Demo.{AskedDemo}
 use Rattle.saber_words.specs.Commands.{Asked, demo, command_of}
 use Rattle.saber_words.specs.declared.commands.WordsFault.{WordsFault}
@@ -23,7 +23,7 @@ use Rattle.saber_words.specs.declared.commands.WordsFault.TheVariants as fault
 use Rattle.saber_demo.specs.Rows.{demo_rows, generated_file}
 use Rattle.saber_demo.specs.Query.{demo_tree}
 use Rattle.saber_demo.specs.Summary.{summary}
-use Rattle.saber_demo.specs.Laws.{GeneratedIsRead}
+use Rattle.saber_demo.proofs.ReadLaws.{generated_is_read}
 use Rattle.saber_dispatch.specs.declared.inputs.Inputs.{Inputs}
 use Rattle.saber_dispatch.specs.declared.inputs.Inputs.TheVariants.{One, Two}
 use Rattle.saber_plan.specs.declared.ends.RunEnd.{RunEnd}
@@ -51,17 +51,17 @@ abbrev pub demo_limits : FileLimits
 demo_limits = record { most = 2 ^ 40; slack = 0 }
 
 -- the generated file is read whole
-pub read_of : GeneratedIsRead → (seed n : ℕ) → n ≤ 2 ^ 20 → input_of demo_tree demo_limits (generated_file seed n ∷ []) ≡ record { rows = demo_rows seed n; end = all_read }
-read_of law seed n few = law seed n (2 ^ 40) few (omega arith)
+pub read_of : (seed n : ℕ) → n ≤ 2 ^ 20 → input_of demo_tree demo_limits (generated_file seed n ∷ []) ≡ record { rows = demo_rows seed n; end = all_read }
+read_of seed n few = generated_is_read seed n (2 ^ 40) few (omega arith)
 
 -- no task of it looks back
-none_wide : NoneIsWide → (n ring : ℕ) (r : Input) → 1 ≤ ring → wide demo_tree n r ring ≡ None
-none_wide law n ring r some = law demo_tree n r ring (λ k h. omega arith)
+none_wide : (n ring : ℕ) (r : Input) → 1 ≤ ring → wide demo_tree n r ring ≡ None
+none_wide n ring r some = none_is_wide demo_tree n r ring (λ k h. omega arith)
 
 -- all tasks have all rows
-all_rows : RowsHaveTasks → (n : ℕ) (xs : List Row) → 1 ≤ n → upto n (going_on xs) (task_count n (going_on xs)) ≡ going_on xs
-all_rows law n xs some =
-    let room : length xs ≤ row_tasks n (going_on xs) * n = law n (going_on xs) some in
+all_rows : (n : ℕ) (xs : List Row) → 1 ≤ n → upto n (going_on xs) (task_count n (going_on xs)) ≡ going_on xs
+all_rows n xs some =
+    let room : length xs ≤ row_tasks n (going_on xs) * n = rows_have_tasks (length xs) n some in
     let whole : length xs ≤ min (row_tasks n (going_on xs) * n) (length xs) = omega arith in
     ap going_on (take_all (min (row_tasks n (going_on xs) * n) (length xs)) xs whole)
 
@@ -79,14 +79,14 @@ never_rose sides.Right (Two s r) (One t) h = h
 never_rose sides.Right (Two s r) (Two t u) h = omega arith
 
 -- with all read, or for want of memory
-pub end_is : {S : Type 0} (n ring : ℕ) (read : Read) (e : RunEnd) (old new : Inputs S) → NoneIsWide → 1 ≤ ring → read.end ≡ all_read → run_defs.EndsAs demo_tree n ring (run_input demo_tree false read) e read
+pub end_is : {S : Type 0} (n ring : ℕ) (read : Read) (e : RunEnd) (old new : Inputs S) → 1 ≤ ring → read.end ≡ all_read → run_defs.EndsAs demo_tree n ring (run_input demo_tree false read) e read
     → ((side : Side) → e ≡ ends.ReadFault side → RoseAt side (each_input (λ (s : S). 0) old) (each_input (λ (s : S). 0) new)) → (e ≡ ends.WriteFault → ⊥) → IsWholeOrLacks e
-end_is n ring read ends.AllRead old new law some all h f w = tt
-end_is n ring read (ends.Bad side line cause) old new law some all h f w = let clash : all_read ≡ bad side line cause = sym all ∙ h.0 in cc
-end_is n ring read (ends.ReadFault side) old new law some all h f w = never_rose side old new (f side refl)
-end_is n ring read (ends.TooWide task needs) old new law some all h f w = let clash : None ≡ Some task = sym (none_wide law n ring (run_input demo_tree false read) some) ∙ h.0 in cc
-end_is n ring read ends.WriteFault old new law some all h f w = w refl
-end_is n ring read ends.NoMemory old new law some all h f w = tt
+end_is n ring read ends.AllRead old new some all h f w = tt
+end_is n ring read (ends.Bad side line cause) old new some all h f w = let clash : all_read ≡ bad side line cause = sym all ∙ h.0 in cc
+end_is n ring read (ends.ReadFault side) old new some all h f w = never_rose side old new (f side refl)
+end_is n ring read (ends.TooWide task needs) old new some all h f w = let clash : None ≡ Some task = sym (none_wide n ring (run_input demo_tree false read) some) ∙ h.0 in cc
+end_is n ring read ends.WriteFault old new some all h f w = w refl
+end_is n ring read ends.NoMemory old new some all h f w = tt
 
 -- ---- the run of the engine
 
@@ -103,19 +103,19 @@ pub record IsRunOf (d : AskedDemo) (q : Tree) (n : ℕ) (limits : FileLimits) (f
   pub rows : file ≡ generated_file d.seed d.rows
 
 -- what it gives then
-pub run_gives : GeneratedIsRead → (d : AskedDemo) (q : Tree) (n ring : ℕ) (limits : FileLimits) (flush : Bool) (file : List ℕ) (e : RunEnd) (tasks : ℕ) (out : List ℕ) → d.rows ≤ 2 ^ 20 → IsRunOf d q n limits flush file
+pub run_gives : (d : AskedDemo) (q : Tree) (n ring : ℕ) (limits : FileLimits) (flush : Bool) (file : List ℕ) (e : RunEnd) (tasks : ℕ) (out : List ℕ) → d.rows ≤ 2 ^ 20 → IsRunOf d q n limits flush file
     → run_defs.Gives q n ring flush (input_of q limits (file ∷ [])) e tasks out → run_defs.Gives demo_tree d.task ring false (demo_read d) e tasks out
-run_gives law d q n ring limits flush file e tasks out few r h =
-    let read : input_of q limits (file ∷ []) ≡ demo_read d = (λ i. input_of (r.plan i) (r.lines i) (r.rows i ∷ [])) ∙ read_of law d.seed d.rows few in
+run_gives d q n ring limits flush file e tasks out few r h =
+    let read : input_of q limits (file ∷ []) ≡ demo_read d = (λ i. input_of (r.plan i) (r.lines i) (r.rows i ∷ [])) ∙ read_of d.seed d.rows few in
     transport (λ i. run_defs.Gives (r.plan i) (r.task i) ring (r.goes_on i) (read i) e tasks out) h
 
 -- where all is read, the text of all tasks is the answer
-pub whole_answer : RowsHaveTasks → (d : AskedDemo) (ring tasks : ℕ) (e : RunEnd) (out : List ℕ) → 1 ≤ d.task → e ≡ ends.AllRead → run_defs.Gives demo_tree d.task ring false (demo_read d) e tasks out → IsAnswer d out tasks
-whole_answer law d ring tasks e out some is h =
+pub whole_answer : (d : AskedDemo) (ring tasks : ℕ) (e : RunEnd) (out : List ℕ) → 1 ≤ d.task → e ≡ ends.AllRead → run_defs.Gives demo_tree d.task ring false (demo_read d) e tasks out → IsAnswer d out tasks
+whole_answer d ring tasks e out some is h =
     let a : Assembles demo_tree d.task (generated_input d.seed d.rows) (reach_of ends.AllRead) tasks out = subst (λ (x : RunEnd). Assembles demo_tree d.task (generated_input d.seed d.rows) (reach_of x) tasks out) is h.assembles in
     let all : tasks ≡ tasks_of_run d = a.all refl in
     let rows : upto d.task (generated_input d.seed d.rows) tasks ≡ generated_input d.seed d.rows =
-    ap (upto d.task (generated_input d.seed d.rows)) all ∙ all_rows law d.task (demo_rows d.seed d.rows) some in
+    ap (upto d.task (generated_input d.seed d.rows)) all ∙ all_rows d.task (demo_rows d.seed d.rows) some in
     record { text_is = a.answers (λ e. cc) ∙ ap (text demo_tree) rows; tasks_are = all }
 
 -- what a sink has that had nothing

@@ -11,7 +11,11 @@ use Rattle.saber_check.specs.Texts.{HasPlan, HasFault}
 use Rattle.saber_words.specs.Commands.{Asked, run, check, demo, chain, AskedRun}
 use Rattle.saber_notes.specs.declared.outcome.Outcome.{Outcome}
 use Rattle.saber_notes.specs.declared.outcome.Outcome.TheVariants.{Done, Usage, FileCount, QueryFault, SecondQueryFault, Unchainable, LineRefused, ChainLineRefused, OpenFault, ReadFault, TooWide, WriteFault, NoMemory}
-use Rattle.saber_cli.specs.Laws.{Laws}
+use Rattle.saber_check.proofs.FrontLaws.{a_plan_is_checked, front_has_plan, front_has_fault}
+use Rattle.saber_check.proofs.TextLaws.{fault_or_plan, one_plan}
+use Rattle.saber_laws.proofs.CheckedLaws.{checked_fits as checked_fit}
+use Rattle.saber_laws.proofs.StepLaws.{none_gives_nothing as no_rows_give_nothing}
+use Rattle.saber_laws.proofs.TaskCutLaws.{no_cut as no_tasks_no_rows}
 use Rattle.saber_cli.specs.Outcomes.{IsEarly, IsFileFault, IsQueryUnread}
 use Rattle.saber_cli.specs.Texts.{BeginsFile}
 use Rattle.saber_plan.specs.Runs.{Assembles, Reach, all_tasks, before_task, first_tasks, cut_off, reach_of}
@@ -23,8 +27,8 @@ use Rattle.saber_cli.specs.Puts.{PutsOut, no_text}
 -- ---- nothing went out
 
 -- no task has a text
-pub no_task_text : Laws → (q : Tree) (n : ℕ) (u : Input) → IsChecked q → text q (upto n u 0) ≡ []
-no_task_text ls q n u h = ap (text q) (ls.no_rows n u) ∙ (ls.nothing q (ls.fits q h)).text
+pub no_task_text : (q : Tree) (n : ℕ) (u : Input) → IsChecked q → text q (upto n u 0) ≡ []
+no_task_text q n u h = ap (text q) (no_tasks_no_rows n u) ∙ (no_rows_give_nothing q (checked_fit q h)).text
 
 early_reach : (o : Outcome) → IsEarly o → reach_of (end_of o) ≡ first_tasks
 early_reach Done h = absurd h
@@ -41,12 +45,12 @@ early_reach (TooWide t n r) h = absurd h
 early_reach WriteFault h = absurd h
 early_reach NoMemory h = refl
 
-none_assembled : Laws → (q : Tree) (n : ℕ) (u : Input) → IsChecked q → Assembles q n u first_tasks 0 []
-none_assembled ls q n u k = record {
+none_assembled : (q : Tree) (n : ℕ) (u : Input) → IsChecked q → Assembles q n u first_tasks 0 []
+none_assembled q n u k = record {
   few = omega arith;
   all = λ e. absurd (not_all e);
   before = λ t e. absurd (not_before t e);
-  answers = λ w. sym (no_task_text ls q n u k);
+  answers = λ w. sym (no_task_text q n u k);
   cut = λ e. absurd (not_cut e);
 }
   where
@@ -59,27 +63,27 @@ none_assembled ls q n u k = record {
     not_cut : first_tasks ≡ cut_off → ⊥
     not_cut e = cc
 
-pub nothing_assembled : Laws → (q : Tree) (n : ℕ) (u : Input) (o : Outcome) → IsChecked q → IsEarly o → Assembles q n u (reach_of (end_of o)) 0 []
-nothing_assembled ls q n u o k h = subst (λ (x : Reach). Assembles q n u x 0 []) (sym (early_reach o h)) (none_assembled ls q n u k)
+pub nothing_assembled : (q : Tree) (n : ℕ) (u : Input) (o : Outcome) → IsChecked q → IsEarly o → Assembles q n u (reach_of (end_of o)) 0 []
+nothing_assembled q n u o k h = subst (λ (x : Reach). Assembles q n u x 0 []) (sym (early_reach o h)) (none_assembled q n u k)
 
-run_checked : Laws → (files : Contents) (r : AskedRun) (q : Tree) → HasRun files r q → IsChecked q
-run_checked ls files r q h = ls.plan_checked h.text q h.plan
+run_checked : (files : Contents) (r : AskedRun) (q : Tree) → HasRun files r q → IsChecked q
+run_checked files r q h = a_plan_is_checked h.text q h.plan
 
 -- where an early outcome comes, nothing went out, whatever is due
-pub early_puts : Laws → (files : Contents) (c : Asked) (o : Outcome) (d : Due) → IsEarly o → IsDueFor files c d → PutsOut d o 0 []
-early_puts ls files c o usage h d = (refl, refl)
-early_puts ls files c o missing h d = (refl, refl)
-early_puts ls files c o (tells text count) h d = (
+pub early_puts : (files : Contents) (c : Asked) (o : Outcome) (d : Due) → IsEarly o → IsDueFor files c d → PutsOut d o 0 []
+early_puts files c o usage h d = (refl, refl)
+early_puts files c o missing h d = (refl, refl)
+early_puts files c o (tells text count) h d = (
   record { few = omega arith; all = λ e. absurd (⊎_elim (λ a. subst IsEarly a h) (λ a. subst IsEarly a h) e) },
   no_text (λ e. subst IsEarly e h) refl,
 )
-early_puts ls files c o (faulty b k) h d = (refl, refl)
-early_puts ls files c o (unlike s g) h d = (refl, refl)
-early_puts ls files c o (shows out) h d = (refl, no_text (λ e. subst IsEarly e h) refl)
-early_puts ls files (run r) o (runs q n ring flush read) h d = nothing_assembled ls q n (run_input q flush read) o (run_checked ls files r q d.1) h
-early_puts ls files (check r) o (runs q n ring flush read) h d = absurd d
-early_puts ls files (demo x) o (runs q n ring flush read) h d = absurd d
-early_puts ls files (chain x) o (runs q n ring flush read) h d = absurd d
+early_puts files c o (faulty b k) h d = (refl, refl)
+early_puts files c o (unlike s g) h d = (refl, refl)
+early_puts files c o (shows out) h d = (refl, no_text (λ e. subst IsEarly e h) refl)
+early_puts files (run r) o (runs q n ring flush read) h d = nothing_assembled q n (run_input q flush read) o (run_checked files r q d.1) h
+early_puts files (check r) o (runs q n ring flush read) h d = absurd d
+early_puts files (demo x) o (runs q n ring flush read) h d = absurd d
+early_puts files (chain x) o (runs q n ring flush read) h d = absurd d
 
 -- ---- a fault of the query's file, and want of memory
 
@@ -133,16 +137,16 @@ memory_allowed_for files c (runs q n ring flush read) d = inr (inr (inr refl))
 -- ---- one text, one plan
 
 -- a run's plan is that of the text that its query file has
-pub run_plan : Laws → (files : Contents) (r : AskedRun) (q p : Tree) (whole : List ℕ) → HasRun files r q → content_in files r.query ≡ Some whole → HasPlan whole p → q ≡ p
-run_plan ls files r q p whole h e k =
+pub run_plan : (files : Contents) (r : AskedRun) (q p : Tree) (whole : List ℕ) → HasRun files r q → content_in files r.query ≡ Some whole → HasPlan whole p → q ≡ p
+run_plan files r q p whole h e k =
     let same : h.text ≡ whole = let f : Some h.text ≡ Some whole = sym h.there ∙ e in cc in
-    ls.one_plan whole q p (subst (λ t. HasPlan t q) same h.plan) k
+    one_plan whole q p (subst (λ t. HasPlan t q) same h.plan) k
 
 -- a text with a fault is no text of a run
-pub run_or_fault : Laws → (files : Contents) (r : AskedRun) (q : Tree) (whole : List ℕ) (byte : ℕ) (cause : Cause) → HasRun files r q → content_in files r.query ≡ Some whole → HasFault whole byte cause → ⊥
-run_or_fault ls files r q whole byte cause h e f =
+pub run_or_fault : (files : Contents) (r : AskedRun) (q : Tree) (whole : List ℕ) (byte : ℕ) (cause : Cause) → HasRun files r q → content_in files r.query ≡ Some whole → HasFault whole byte cause → ⊥
+run_or_fault files r q whole byte cause h e f =
     let same : h.text ≡ whole = let g : Some h.text ≡ Some whole = sym h.there ∙ e in cc in
-    ls.fault_or_plan whole byte cause q f (subst (λ t. HasPlan t q) same h.plan)
+    fault_or_plan whole byte cause q f (subst (λ t. HasPlan t q) same h.plan)
 
 pub same_refusal : (b d : ℕ) (c e : Cause) → (b ≡ d) × (c ≡ e) → QueryFault b c ≡ QueryFault d e
 same_refusal b d c e h = λ i. QueryFault (h.0 i) (h.1 i)
@@ -153,8 +157,8 @@ there_not_missing files name whole e n = cc
 
 -- ---- the front of a query file
 
-pub begun_plan : Laws → (files : Contents) (name text : List ℕ) (q : Tree) → BeginsFile files name text → HasPlan text q → (whole : List ℕ) × (content_in files name ≡ Some whole) × HasPlan whole q
-begun_plan ls files name text q b p = (b.whole, b.there, ls.front_plan b.whole q (subst (λ t. HasPlan t q) b.front p))
+pub begun_plan : (files : Contents) (name text : List ℕ) (q : Tree) → BeginsFile files name text → HasPlan text q → (whole : List ℕ) × (content_in files name ≡ Some whole) × HasPlan whole q
+begun_plan files name text q b p = (b.whole, b.there, front_has_plan b.whole q (subst (λ t. HasPlan t q) b.front p))
 
-pub begun_fault : Laws → (files : Contents) (name text : List ℕ) (byte : ℕ) (cause : Cause) → BeginsFile files name text → HasFault text byte cause → (whole : List ℕ) × (content_in files name ≡ Some whole) × HasFault whole byte cause
-begun_fault ls files name text byte cause b f = (b.whole, b.there, ls.front_fault b.whole byte cause (subst (λ t. HasFault t byte cause) b.front f))
+pub begun_fault : (files : Contents) (name text : List ℕ) (byte : ℕ) (cause : Cause) → BeginsFile files name text → HasFault text byte cause → (whole : List ℕ) × (content_in files name ≡ Some whole) × HasFault whole byte cause
+begun_fault files name text byte cause b f = (b.whole, b.there, front_has_fault b.whole byte cause (subst (λ t. HasFault t byte cause) b.front f))

@@ -11,7 +11,6 @@ use Rattle.saber_notes.specs.declared.outcome.InputFile.TheVariants.{Query, Left
 use Rattle.saber_notes.specs.declared.outcome.Outcome.{Outcome}
 use Rattle.saber_notes.specs.declared.outcome.Outcome.TheVariants.{Done, Usage, FileCount, QueryFault, SecondQueryFault, Unchainable, LineRefused, ChainLineRefused, OpenFault, ReadFault, TooWide, WriteFault, NoMemory}
 use Rattle.saber_check.specs.Texts.{HasPlan}
-use Rattle.saber_cli.specs.Laws.{Laws}
 use Rattle.saber_cli.specs.Outcomes.{IsClean, IsFileFault, IsOfPlan, IsOfPlans, IsOfRun, IsOfSecond, IsOfShow}
 use Rattle.saber_cli.specs.Texts.{BeginsFile}
 use Rattle.saber_cli.specs.Planned.{IsTextFault}
@@ -25,8 +24,8 @@ use Rattle.saber_cli.proofs.DueLemmas.{begun_plan, begun_fault}
 -- ---- one query
 
 -- the plan that was read is that of the whole text
-pub planned_of : Laws → (files : Contents) (name text : List ℕ) (q : Tree) → BeginsFile files name text → HasPlan text q → IsPlanned files name q
-planned_of ls files name text q b h = let w = begun_plan ls files name text q b h in record { text = w.0; there = w.1; plan = w.2 }
+pub planned_of : (files : Contents) (name text : List ℕ) (q : Tree) → BeginsFile files name text → HasPlan text q → IsPlanned files name q
+planned_of files name text q b h = let w = begun_plan files name text q b h in record { text = w.0; there = w.1; plan = w.2 }
 
 pub query_lacks_plan : (files : Contents) (name : List ℕ) (o : Outcome) → IsOfQuery o → LacksPlan files name o
 query_lacks_plan files name Done h = absurd h
@@ -49,20 +48,20 @@ query_lacks_plan files name (TooWide task need cells) h = absurd h
 query_lacks_plan files name WriteFault h = absurd h
 query_lacks_plan files name NoMemory h = tt
 
-pub text_lacks_plan : Laws → (files : Contents) (name text : List ℕ) (o : Outcome) → BeginsFile files name text → IsTextFault text o → LacksPlan files name o
-text_lacks_plan ls files name text Done b h = absurd h
-text_lacks_plan ls files name text Usage b h = absurd h
-text_lacks_plan ls files name text (FileCount streams given) b h = absurd h
-text_lacks_plan ls files name text (QueryFault place why) b h = begun_fault ls files name text place why b h
-text_lacks_plan ls files name text (SecondQueryFault place why) b h = absurd h
-text_lacks_plan ls files name text (Unchainable which) b h = absurd h
-text_lacks_plan ls files name text (LineRefused side line why) b h = absurd h
-text_lacks_plan ls files name text (ChainLineRefused line why) b h = absurd h
-text_lacks_plan ls files name text (OpenFault file) b h = absurd h
-text_lacks_plan ls files name text (ReadFault file) b h = absurd h
-text_lacks_plan ls files name text (TooWide task need cells) b h = absurd h
-text_lacks_plan ls files name text WriteFault b h = absurd h
-text_lacks_plan ls files name text NoMemory b h = tt
+pub text_lacks_plan : (files : Contents) (name text : List ℕ) (o : Outcome) → BeginsFile files name text → IsTextFault text o → LacksPlan files name o
+text_lacks_plan files name text Done b h = absurd h
+text_lacks_plan files name text Usage b h = absurd h
+text_lacks_plan files name text (FileCount streams given) b h = absurd h
+text_lacks_plan files name text (QueryFault place why) b h = begun_fault files name text place why b h
+text_lacks_plan files name text (SecondQueryFault place why) b h = absurd h
+text_lacks_plan files name text (Unchainable which) b h = absurd h
+text_lacks_plan files name text (LineRefused side line why) b h = absurd h
+text_lacks_plan files name text (ChainLineRefused line why) b h = absurd h
+text_lacks_plan files name text (OpenFault file) b h = absurd h
+text_lacks_plan files name text (ReadFault file) b h = absurd h
+text_lacks_plan files name text (TooWide task need cells) b h = absurd h
+text_lacks_plan files name text WriteFault b h = absurd h
+text_lacks_plan files name text NoMemory b h = tt
 
 pub query_kinds : (o : Outcome) → IsOfQuery o → IsOfPlan o
 query_kinds Done h = absurd h

@@ -11,7 +11,7 @@ use Rattle.saber_notes.specs.declared.outcome.InputFile.TheVariants.{Query}
 use Rattle.saber_notes.specs.declared.outcome.Outcome.{Outcome}
 use Rattle.saber_notes.specs.declared.outcome.Outcome.TheVariants.{Done, Usage, FileCount, QueryFault, SecondQueryFault, Unchainable, LineRefused, ChainLineRefused, OpenFault, ReadFault, TooWide, WriteFault, NoMemory}
 use Rattle.saber_plan.specs.Files.{input_of}
-use Rattle.saber_cli.specs.Laws.{Laws}
+use Rattle.saber_check.proofs.FaultLaws.{one_fault}
 use Rattle.saber_cli.specs.Outcomes.{IsEarly, IsFileFault, IsQueryUnread, IsOfRun, IsNoEnd}
 use Rattle.saber_cli.specs.Uses.{Uses, unasked, unopened, used, IsOfQuery}
 use Rattle.saber_cli.specs.Texts.{BeginsFile}
@@ -94,50 +94,50 @@ no_end_cause due WriteFault h = absurd h
 no_end_cause due NoMemory h = tt
 
 -- a query file that could not be read, or memory that lacked
-pub gives_no_text : Laws → (files : Contents) (c : Asked) → HasQuery c → (o : Outcome) → IsOfQuery o → Gives files c o 0 []
-gives_no_text ls files c a o h = record {
+pub gives_no_text : (files : Contents) (c : Asked) → HasQuery c → (o : Outcome) → IsOfQuery o → Gives files c o 0 []
+gives_no_text files c a o h = record {
   cause = no_end_cause (IsDueFor files c) o (query_no_end o h);
   allows = λ d k. lacks_allowed files c o d a (query_lacks o h) k;
-  puts = λ d k. early_puts ls files c o d (no_end_early o (query_no_end o h)) k;
+  puts = λ d k. early_puts files c o d (no_end_early o (query_no_end o h)) k;
 }
 
 -- ---- a text that is refused
 
 -- a query file that is there, with a text that has this fault
-refused_allowed : Laws → (files : Contents) (r : AskedRun) (whole : List ℕ) (byte : ℕ) (cause : Cause) (d : Due) → content_in files r.query ≡ Some whole → HasFault whole byte cause → IsDueFor files (run r) d → Allows d (QueryFault byte cause)
-refused_allowed ls files r whole byte cause usage e f d = absurd d
-refused_allowed ls files r whole byte cause missing e f (no_query m) = absurd (there_not_missing files r.query whole e m)
-refused_allowed ls files r whole byte cause missing e f (no_rows asked q s h l m) = let same : run r ≡ run asked = s in let same_run : r ≡ asked = cc in absurd (run_or_fault ls files r q whole byte cause (subst (λ a. HasRun files a q) (sym same_run) h) e f)
-refused_allowed ls files r whole byte cause (tells t n) e f d = absurd d
-refused_allowed ls files r whole byte cause (faulty b k) e f d =
+refused_allowed : (files : Contents) (r : AskedRun) (whole : List ℕ) (byte : ℕ) (cause : Cause) (d : Due) → content_in files r.query ≡ Some whole → HasFault whole byte cause → IsDueFor files (run r) d → Allows d (QueryFault byte cause)
+refused_allowed files r whole byte cause usage e f d = absurd d
+refused_allowed files r whole byte cause missing e f (no_query m) = absurd (there_not_missing files r.query whole e m)
+refused_allowed files r whole byte cause missing e f (no_rows asked q s h l m) = let same : run r ≡ run asked = s in let same_run : r ≡ asked = cc in absurd (run_or_fault files r q whole byte cause (subst (λ a. HasRun files a q) (sym same_run) h) e f)
+refused_allowed files r whole byte cause (tells t n) e f d = absurd d
+refused_allowed files r whole byte cause (faulty b k) e f d =
     let same : d.0 ≡ whole = let g : Some d.0 ≡ Some whole = sym d.1 ∙ e in cc in
-    inl (same_refusal byte b cause k (ls.one_fault whole byte b cause k f (subst (λ t. HasFault t b k) same d.2)))
-refused_allowed ls files r whole byte cause (unlike s g) e f d = absurd (run_or_fault ls files r d.0 whole byte cause d.1 e f)
-refused_allowed ls files r whole byte cause (shows out) e f d = absurd d
-refused_allowed ls files r whole byte cause (runs q size ring flush read) e f d = absurd (run_or_fault ls files r q whole byte cause d.1 e f)
+    inl (same_refusal byte b cause k (one_fault whole byte b cause k f (subst (λ t. HasFault t b k) same d.2)))
+refused_allowed files r whole byte cause (unlike s g) e f d = absurd (run_or_fault files r d.0 whole byte cause d.1 e f)
+refused_allowed files r whole byte cause (shows out) e f d = absurd d
+refused_allowed files r whole byte cause (runs q size ring flush read) e f d = absurd (run_or_fault files r q whole byte cause d.1 e f)
 
-gives_refusal : Laws → (files : Contents) (r : AskedRun) (whole : List ℕ) (byte : ℕ) (cause : Cause) → content_in files r.query ≡ Some whole → HasFault whole byte cause → Gives files (run r) (QueryFault byte cause) 0 []
-gives_refusal ls files r whole byte cause e f = record {
+gives_refusal : (files : Contents) (r : AskedRun) (whole : List ℕ) (byte : ℕ) (cause : Cause) → content_in files r.query ≡ Some whole → HasFault whole byte cause → Gives files (run r) (QueryFault byte cause) 0 []
+gives_refusal files r whole byte cause e f = record {
   cause = (whole, e, f);
-  allows = λ d k. refused_allowed ls files r whole byte cause d e f k;
-  puts = λ d k. early_puts ls files (run r) (QueryFault byte cause) d tt k;
+  allows = λ d k. refused_allowed files r whole byte cause d e f k;
+  puts = λ d k. early_puts files (run r) (QueryFault byte cause) d tt k;
 }
 
 -- a text without a plan
-pub gives_text_fault : Laws → (files : Contents) (r : AskedRun) (text : List ℕ) (o : Outcome) → BeginsFile files r.query text → IsTextFault text o → Gives files (run r) o 0 []
-gives_text_fault ls files r text Done b h = absurd h
-gives_text_fault ls files r text Usage b h = absurd h
-gives_text_fault ls files r text (SecondQueryFault place why) b h = absurd h
-gives_text_fault ls files r text (Unchainable which) b h = absurd h
-gives_text_fault ls files r text (ChainLineRefused place why) b h = absurd h
-gives_text_fault ls files r text (FileCount s g) b h = absurd h
-gives_text_fault ls files r text (LineRefused s n c) b h = absurd h
-gives_text_fault ls files r text (OpenFault f) b h = absurd h
-gives_text_fault ls files r text (ReadFault f) b h = absurd h
-gives_text_fault ls files r text (TooWide t n k) b h = absurd h
-gives_text_fault ls files r text WriteFault b h = absurd h
-gives_text_fault ls files r text NoMemory b h = gives_no_text ls files (run r) tt NoMemory tt
-gives_text_fault ls files r text (QueryFault byte cause) b h = let w = begun_fault ls files r.query text byte cause b h in gives_refusal ls files r w.0 byte cause w.1 w.2
+pub gives_text_fault : (files : Contents) (r : AskedRun) (text : List ℕ) (o : Outcome) → BeginsFile files r.query text → IsTextFault text o → Gives files (run r) o 0 []
+gives_text_fault files r text Done b h = absurd h
+gives_text_fault files r text Usage b h = absurd h
+gives_text_fault files r text (SecondQueryFault place why) b h = absurd h
+gives_text_fault files r text (Unchainable which) b h = absurd h
+gives_text_fault files r text (ChainLineRefused place why) b h = absurd h
+gives_text_fault files r text (FileCount s g) b h = absurd h
+gives_text_fault files r text (LineRefused s n c) b h = absurd h
+gives_text_fault files r text (OpenFault f) b h = absurd h
+gives_text_fault files r text (ReadFault f) b h = absurd h
+gives_text_fault files r text (TooWide t n k) b h = absurd h
+gives_text_fault files r text WriteFault b h = absurd h
+gives_text_fault files r text NoMemory b h = gives_no_text files (run r) tt NoMemory tt
+gives_text_fault files r text (QueryFault byte cause) b h = let w = begun_fault files r.query text byte cause b h in gives_refusal files r w.0 byte cause w.1 w.2
 
 -- a text that is refused ends the run behind its file
 pub text_fault_after : (text : List ℕ) (o : Outcome) → IsTextFault text o → IsRefused o
@@ -158,48 +158,48 @@ text_fault_after text NoMemory h = tt
 -- ---- a text with a plan
 
 -- the plan that was read is that of the whole text
-pub run_of : Laws → (files : Contents) (r : AskedRun) (text : List ℕ) (p : Tree) → BeginsFile files r.query text → HasPlan text p → HasRun files r p
-run_of ls files r text p b h = let w = begun_plan ls files r.query text p b h in record { text = w.0; there = w.1; plan = w.2 }
+pub run_of : (files : Contents) (r : AskedRun) (text : List ℕ) (p : Tree) → BeginsFile files r.query text → HasPlan text p → HasRun files r p
+run_of files r text p b h = let w = begun_plan files r.query text p b h in record { text = w.0; there = w.1; plan = w.2 }
 
-run_is : Laws → (files : Contents) (r : AskedRun) (p q : Tree) → HasRun files r p → HasRun files r q → q ≡ p
-run_is ls files r p q k h = run_plan ls files r q p k.text h k.there k.plan
+run_is : (files : Contents) (r : AskedRun) (p q : Tree) → HasRun files r p → HasRun files r q → q ≡ p
+run_is files r p q k h = run_plan files r q p k.text h k.there k.plan
 
 -- no fault is due
-not_faulty : Laws → (files : Contents) (r : AskedRun) (p : Tree) (b : ℕ) (k : Cause) → HasRun files r p → IsDueFor files (run r) (faulty b k) → ⊥
-not_faulty ls files r p b k u (text, e, f) = run_or_fault ls files r p text b k u e f
+not_faulty : (files : Contents) (r : AskedRun) (p : Tree) (b : ℕ) (k : Cause) → HasRun files r p → IsDueFor files (run r) (faulty b k) → ⊥
+not_faulty files r p b k u (text, e, f) = run_or_fault files r p text b k u e f
 
 -- ---- not as many files as streams
 
-like_again : Laws → (files : Contents) (r : AskedRun) (p q : Tree) → HasRun files r p → HasRun files r q → IsLike r q → IsLike r p
-like_again ls files r p q u h l = subst (IsLike r) (run_is ls files r p q u h) l
+like_again : (files : Contents) (r : AskedRun) (p q : Tree) → HasRun files r p → HasRun files r q → IsLike r q → IsLike r p
+like_again files r p q u h l = subst (IsLike r) (run_is files r p q u h) l
 
-unlike_allowed : Laws → (files : Contents) (r : AskedRun) (p : Tree) (d : Due) → HasRun files r p → (IsLike r p → ⊥) → IsDueFor files (run r) d → Allows d (FileCount (length p.streams) (length (row_names r)))
-unlike_allowed ls files r p usage u n d = absurd d
-unlike_allowed ls files r p missing u n (no_query m) = absurd (there_not_missing files r.query u.text u.there m)
-unlike_allowed ls files r p missing u n (no_rows asked q s h l m) =
+unlike_allowed : (files : Contents) (r : AskedRun) (p : Tree) (d : Due) → HasRun files r p → (IsLike r p → ⊥) → IsDueFor files (run r) d → Allows d (FileCount (length p.streams) (length (row_names r)))
+unlike_allowed files r p usage u n d = absurd d
+unlike_allowed files r p missing u n (no_query m) = absurd (there_not_missing files r.query u.text u.there m)
+unlike_allowed files r p missing u n (no_rows asked q s h l m) =
     let s' : run r ≡ run asked = s in
     let same : r ≡ asked = cc in
-    absurd (n (like_again ls files r p q u (subst (λ a. HasRun files a q) (sym same) h) (subst (λ a. IsLike a q) (sym same) l)))
-unlike_allowed ls files r p (tells t k) u n d = absurd d
-unlike_allowed ls files r p (faulty b k) u n d = absurd (not_faulty ls files r p b k u d)
-unlike_allowed ls files r p (unlike s g) u n d =
-    let streams : s ≡ length p.streams = sym d.2 ∙ ap (λ (t : Tree). length t.streams) (run_is ls files r p d.0 u d.1) in
+    absurd (n (like_again files r p q u (subst (λ a. HasRun files a q) (sym same) h) (subst (λ a. IsLike a q) (sym same) l)))
+unlike_allowed files r p (tells t k) u n d = absurd d
+unlike_allowed files r p (faulty b k) u n d = absurd (not_faulty files r p b k u d)
+unlike_allowed files r p (unlike s g) u n d =
+    let streams : s ≡ length p.streams = sym d.2 ∙ ap (λ (t : Tree). length t.streams) (run_is files r p d.0 u d.1) in
     inl (λ i. FileCount (sym streams i) (d.3 i))
-unlike_allowed ls files r p (shows out) u n d = absurd d
-unlike_allowed ls files r p (runs q size ring flush read) u n d = absurd (n (like_again ls files r p q u d.1 d.2))
+unlike_allowed files r p (shows out) u n d = absurd d
+unlike_allowed files r p (runs q size ring flush read) u n d = absurd (n (like_again files r p q u d.1 d.2))
 
-pub gives_unlike : Laws → (files : Contents) (r : AskedRun) (p : Tree) → HasRun files r p → (IsLike r p → ⊥) → Gives files (run r) (FileCount (length p.streams) (length (row_names r))) 0 []
-gives_unlike ls files r p u n = record {
+pub gives_unlike : (files : Contents) (r : AskedRun) (p : Tree) → HasRun files r p → (IsLike r p → ⊥) → Gives files (run r) (FileCount (length p.streams) (length (row_names r))) 0 []
+gives_unlike files r p u n = record {
   cause = (p, u, refl, refl, n);
-  allows = λ d k. unlike_allowed ls files r p d u n k;
-  puts = λ d k. early_puts ls files (run r) (FileCount (length p.streams) (length (row_names r))) d tt k;
+  allows = λ d k. unlike_allowed files r p d u n k;
+  puts = λ d k. early_puts files (run r) (FileCount (length p.streams) (length (row_names r))) d tt k;
 }
 
 -- ---- a run over its row files
 
 -- the number of files isn't refused
-alike : Laws → (files : Contents) (r : AskedRun) (p : Tree) (s g : ℕ) → HasRun files r p → IsLike r p → IsDueFor files (run r) (unlike s g) → ⊥
-alike ls files r p s g u l d = d.4 (sym d.2 ∙ ap (λ (t : Tree). length t.streams) (run_is ls files r p d.0 u d.1) ∙ l ∙ d.3)
+alike : (files : Contents) (r : AskedRun) (p : Tree) (s g : ℕ) → HasRun files r p → IsLike r p → IsDueFor files (run r) (unlike s g) → ⊥
+alike files r p s g u l d = d.4 (sym d.2 ∙ ap (λ (t : Tree). length t.streams) (run_is files r p d.0 u d.1) ∙ l ∙ d.3)
 
 -- the row files are asked for
 pub asks_rows : (files : Contents) (r : AskedRun) (p : Tree) → HasRun files r p → IsLike r p → AsksRows files (run r)
@@ -216,9 +216,9 @@ over_due : (files : Contents) (r : AskedRun) (p : Tree) (all : List (List ℕ)) 
 over_due files r p all u = (all, u.has, u.like, u.there, record { task = refl; cells = refl; closes = refl }, refl)
 
 -- and nothing else is
-due_is : Laws → (files : Contents) (r : AskedRun) (p : Tree) (all : List (List ℕ)) (q : Tree) (n ring : ℕ) (flush : Bool) (read : Read) → Over files r p all → IsDueFor files (run r) (runs q n ring flush read) → runs p r.task r.ring r.flush (input_of p (asked_limits r) all) ≡ runs q n ring flush read
-due_is ls files r p all q n ring flush read u d =
-    let same : q ≡ p = run_is ls files r p q u.has d.1 in
+due_is : (files : Contents) (r : AskedRun) (p : Tree) (all : List (List ℕ)) (q : Tree) (n ring : ℕ) (flush : Bool) (read : Read) → Over files r p all → IsDueFor files (run r) (runs q n ring flush read) → runs p r.task r.ring r.flush (input_of p (asked_limits r) all) ≡ runs q n ring flush read
+due_is files r p all q n ring flush read u d =
+    let same : q ≡ p = run_is files r p q u.has d.1 in
     let f : Some d.0 ≡ Some all = sym d.3 ∙ u.there in
     let same_all : d.0 ≡ all = cc in
     let rows : read ≡ input_of p (asked_limits r) all = d.5 ∙ (λ i. input_of (same i) (asked_limits r) (same_all i)) in
@@ -268,29 +268,29 @@ run_allows (TooWide t l r) q n ring flush read k f = inl (tt, f)
 run_allows WriteFault q n ring flush read k f = inr (inr (inl refl))
 run_allows NoMemory q n ring flush read k f = inr (inr (inr refl))
 
-over_allowed : Laws → (files : Contents) (r : AskedRun) (p : Tree) (all : List (List ℕ)) (o : Outcome) (d : Due) → Over files r p all → IsOfRun o → EndsSo p r.task r.ring r.flush (input_of p (asked_limits r) all) o → IsDueFor files (run r) d → Allows d o
-over_allowed ls files r p all o usage u k f d = absurd d
-over_allowed ls files r p all o missing u k f d = absurd (over_there files r p all u d)
-over_allowed ls files r p all o (tells t n) u k f d = absurd d
-over_allowed ls files r p all o (faulty b x) u k f d = absurd (not_faulty ls files r p b x u.has d)
-over_allowed ls files r p all o (unlike s g) u k f d = absurd (alike ls files r p s g u.has u.like d)
-over_allowed ls files r p all o (shows out) u k f d = absurd d
-over_allowed ls files r p all o (runs q n ring flush read) u k f d = subst (λ x. Allows x o) (due_is ls files r p all q n ring flush read u d) (run_allows o p r.task r.ring r.flush (input_of p (asked_limits r) all) k f)
+over_allowed : (files : Contents) (r : AskedRun) (p : Tree) (all : List (List ℕ)) (o : Outcome) (d : Due) → Over files r p all → IsOfRun o → EndsSo p r.task r.ring r.flush (input_of p (asked_limits r) all) o → IsDueFor files (run r) d → Allows d o
+over_allowed files r p all o usage u k f d = absurd d
+over_allowed files r p all o missing u k f d = absurd (over_there files r p all u d)
+over_allowed files r p all o (tells t n) u k f d = absurd d
+over_allowed files r p all o (faulty b x) u k f d = absurd (not_faulty files r p b x u.has d)
+over_allowed files r p all o (unlike s g) u k f d = absurd (alike files r p s g u.has u.like d)
+over_allowed files r p all o (shows out) u k f d = absurd d
+over_allowed files r p all o (runs q n ring flush read) u k f d = subst (λ x. Allows x o) (due_is files r p all q n ring flush read u d) (run_allows o p r.task r.ring r.flush (input_of p (asked_limits r) all) k f)
 
-over_puts : Laws → (files : Contents) (r : AskedRun) (p : Tree) (all : List (List ℕ)) (o : Outcome) (tasks : ℕ) (out : List ℕ) (d : Due) → Over files r p all → PutsOut (runs p r.task r.ring r.flush (input_of p (asked_limits r) all)) o tasks out → IsDueFor files (run r) d → PutsOut d o tasks out
-over_puts ls files r p all o tasks out usage u a d = absurd d
-over_puts ls files r p all o tasks out missing u a d = absurd (over_there files r p all u d)
-over_puts ls files r p all o tasks out (tells t n) u a d = absurd d
-over_puts ls files r p all o tasks out (faulty b x) u a d = absurd (not_faulty ls files r p b x u.has d)
-over_puts ls files r p all o tasks out (unlike s g) u a d = absurd (alike ls files r p s g u.has u.like d)
-over_puts ls files r p all o tasks out (shows t) u a d = absurd d
-over_puts ls files r p all o tasks out (runs q n ring flush read) u a d = subst (λ x. PutsOut x o tasks out) (due_is ls files r p all q n ring flush read u d) a
+over_puts : (files : Contents) (r : AskedRun) (p : Tree) (all : List (List ℕ)) (o : Outcome) (tasks : ℕ) (out : List ℕ) (d : Due) → Over files r p all → PutsOut (runs p r.task r.ring r.flush (input_of p (asked_limits r) all)) o tasks out → IsDueFor files (run r) d → PutsOut d o tasks out
+over_puts files r p all o tasks out usage u a d = absurd d
+over_puts files r p all o tasks out missing u a d = absurd (over_there files r p all u d)
+over_puts files r p all o tasks out (tells t n) u a d = absurd d
+over_puts files r p all o tasks out (faulty b x) u a d = absurd (not_faulty files r p b x u.has d)
+over_puts files r p all o tasks out (unlike s g) u a d = absurd (alike files r p s g u.has u.like d)
+over_puts files r p all o tasks out (shows t) u a d = absurd d
+over_puts files r p all o tasks out (runs q n ring flush read) u a d = subst (λ x. PutsOut x o tasks out) (due_is files r p all q n ring flush read u d) a
 
-over_gives : Laws → (files : Contents) (r : AskedRun) (p : Tree) (all : List (List ℕ)) (o : Outcome) (tasks : ℕ) (out : List ℕ) → Over files r p all → IsOfRun o → Answered p r.task r.ring r.flush (input_of p (asked_limits r) all) o tasks out → Gives files (run r) o tasks out
-over_gives ls files r p all o tasks out u k a = record {
+over_gives : (files : Contents) (r : AskedRun) (p : Tree) (all : List (List ℕ)) (o : Outcome) (tasks : ℕ) (out : List ℕ) → Over files r p all → IsOfRun o → Answered p r.task r.ring r.flush (input_of p (asked_limits r) all) o tasks out → Gives files (run r) o tasks out
+over_gives files r p all o tasks out u k a = record {
   cause = run_cause (IsDueFor files (run r)) o k (over_ends files r p all o u a.ends);
-  allows = λ d x. over_allowed ls files r p all o d u k a.ends x;
-  puts = λ d x. over_puts ls files r p all o tasks out d u a.puts x;
+  allows = λ d x. over_allowed files r p all o d u k a.ends x;
+  puts = λ d x. over_puts files r p all o tasks out d u a.puts x;
 }
 
 -- ---- a row file that isn't there
@@ -310,30 +310,30 @@ no_end_lacks (TooWide t n r) h = absurd h
 no_end_lacks WriteFault h = absurd h
 no_end_lacks NoMemory h = inr refl
 
-gone_allowed : Laws → (files : Contents) (r : AskedRun) (p : Tree) (o : Outcome) (d : Due) → HasRun files r p → IsLike r p → contents_of files (row_names r) ≡ None → IsNoEnd o → IsDueFor files (run r) d → Allows d o
-gone_allowed ls files r p o usage u l e h d = absurd d
-gone_allowed ls files r p o missing u l e h d = no_end_lacks o h
-gone_allowed ls files r p o (tells t n) u l e h d = absurd d
-gone_allowed ls files r p o (faulty b k) u l e h d = absurd (not_faulty ls files r p b k u d)
-gone_allowed ls files r p o (unlike s g) u l e h d = absurd (alike ls files r p s g u l d)
-gone_allowed ls files r p o (shows out) u l e h d = absurd d
-gone_allowed ls files r p o (runs q n ring flush read) u l e h d = let clash : Some d.0 ≡ None = sym d.3 ∙ e in cc
+gone_allowed : (files : Contents) (r : AskedRun) (p : Tree) (o : Outcome) (d : Due) → HasRun files r p → IsLike r p → contents_of files (row_names r) ≡ None → IsNoEnd o → IsDueFor files (run r) d → Allows d o
+gone_allowed files r p o usage u l e h d = absurd d
+gone_allowed files r p o missing u l e h d = no_end_lacks o h
+gone_allowed files r p o (tells t n) u l e h d = absurd d
+gone_allowed files r p o (faulty b k) u l e h d = absurd (not_faulty files r p b k u d)
+gone_allowed files r p o (unlike s g) u l e h d = absurd (alike files r p s g u l d)
+gone_allowed files r p o (shows out) u l e h d = absurd d
+gone_allowed files r p o (runs q n ring flush read) u l e h d = let clash : Some d.0 ≡ None = sym d.3 ∙ e in cc
 
-gone_gives : Laws → (files : Contents) (r : AskedRun) (p : Tree) (o : Outcome) (tasks : ℕ) (out : List ℕ) → HasRun files r p → IsLike r p → contents_of files (row_names r) ≡ None → IsNoEnd o → tasks ≡ 0 → out ≡ [] → Gives files (run r) o tasks out
-gone_gives ls files r p o tasks out u l e h t n = subst (λ x. Gives files (run r) o x out) (sym t) (subst (Gives files (run r) o 0) (sym n) (record {
+gone_gives : (files : Contents) (r : AskedRun) (p : Tree) (o : Outcome) (tasks : ℕ) (out : List ℕ) → HasRun files r p → IsLike r p → contents_of files (row_names r) ≡ None → IsNoEnd o → tasks ≡ 0 → out ≡ [] → Gives files (run r) o tasks out
+gone_gives files r p o tasks out u l e h t n = subst (λ x. Gives files (run r) o x out) (sym t) (subst (Gives files (run r) o 0) (sym n) (record {
   cause = no_end_cause (IsDueFor files (run r)) o h;
-  allows = λ d k. gone_allowed ls files r p o d u l e h k;
-  puts = λ d k. early_puts ls files (run r) o d (no_end_early o h) k;
+  allows = λ d k. gone_allowed files r p o d u l e h k;
+  puts = λ d k. early_puts files (run r) o d (no_end_early o h) k;
 }))
 
-answered_gives : Laws → (files : Contents) (r : AskedRun) (p : Tree) (content : Option (List (List ℕ))) (o : Outcome) (tasks : ℕ) (out : List ℕ) → HasRun files r p → IsLike r p → contents_of files (row_names r) ≡ content → IsOfRun o
+answered_gives : (files : Contents) (r : AskedRun) (p : Tree) (content : Option (List (List ℕ))) (o : Outcome) (tasks : ℕ) (out : List ℕ) → HasRun files r p → IsLike r p → contents_of files (row_names r) ≡ content → IsOfRun o
     → AnsweredIn p r.task r.ring (asked_limits r) r.flush content o tasks out → Gives files (run r) o tasks out
-answered_gives ls files r p None o tasks out u l e k a = gone_gives ls files r p o tasks out u l e a.0 a.1 a.2
-answered_gives ls files r p (Some all) o tasks out u l e k a = over_gives ls files r p all o tasks out (record { has = u; like = l; there = e }) k a
+answered_gives files r p None o tasks out u l e k a = gone_gives files r p o tasks out u l e a.0 a.1 a.2
+answered_gives files r p (Some all) o tasks out u l e k a = over_gives files r p all o tasks out (record { has = u; like = l; there = e }) k a
 
 -- a run over its row files, behind a query with as many streams
-pub gives_answer : Laws → (files : Contents) (r : AskedRun) (p : Tree) (o : Outcome) (tasks : ℕ) (out : List ℕ) → HasRun files r p → IsLike r p → IsOfRun o → AnsweredIn p r.task r.ring (asked_limits r) r.flush (contents_of files (row_names r)) o tasks out → Gives files (run r) o tasks out
-gives_answer ls files r p o tasks out u l k a = answered_gives ls files r p (contents_of files (row_names r)) o tasks out u l refl k a
+pub gives_answer : (files : Contents) (r : AskedRun) (p : Tree) (o : Outcome) (tasks : ℕ) (out : List ℕ) → HasRun files r p → IsLike r p → IsOfRun o → AnsweredIn p r.task r.ring (asked_limits r) r.flush (contents_of files (row_names r)) o tasks out → Gives files (run r) o tasks out
+gives_answer files r p o tasks out u l k a = answered_gives files r p (contents_of files (row_names r)) o tasks out u l refl k a
 
 -- ---- where files tell
 

@@ -20,7 +20,9 @@ use Rattle.saber_check.specs.Texts.{HasPlan, HasFault, fails_checks, IsFaultIn}
 use Rattle.saber_words.specs.Commands.{run, check, AskedCheck}
 use Rattle.saber_notes.specs.declared.outcome.Outcome.{Outcome}
 use Rattle.saber_notes.specs.declared.outcome.Outcome.TheVariants.{Done, Usage, FileCount, QueryFault, SecondQueryFault, Unchainable, LineRefused, ChainLineRefused, OpenFault, ReadFault, TooWide, WriteFault, NoMemory}
-use Rattle.saber_cli.specs.Laws.{Laws}
+use Rattle.saber_check.proofs.FaultLaws.{one_fault}
+use Rattle.saber_check.proofs.FrontLaws.{front_has_plan}
+use Rattle.saber_check.proofs.TextLaws.{fault_or_plan}
 use Rattle.saber_cli.specs.Outcomes.{IsBeforeRun, IsFileFault, IsQueryFault, IsOfShow}
 use Rattle.saber_cli.specs.Texts.{BeginsFile}
 use Rattle.saber_cli.specs.Planned.{IsTextFault}
@@ -46,20 +48,20 @@ plan_of_shows : (text out : List ℕ) (s : Shows text out) → HasPlan text (pla
 plan_of_shows text out s = record { query = s.query; parsed = s.parsed; means = s.means; faultless = s.faultless; same = refl }
 
 -- a text whose front shows is its front
-front_shows : Laws → (text out : List ℕ) → Shows (take 65537 text) out → Shows text out
-front_shows ls text out s =
-    let p : HasPlan text (plan_tree (query_of s.query.select)) = ls.front_plan text (plan_tree (query_of s.query.select)) (plan_of_shows (take 65537 text) out s) in
+front_shows : (text out : List ℕ) → Shows (take 65537 text) out → Shows text out
+front_shows text out s =
+    let p : HasPlan text (plan_tree (query_of s.query.select)) = front_has_plan text (plan_tree (query_of s.query.select)) (plan_of_shows (take 65537 text) out s) in
     let short : length text ≤ 65536 = p.means.short in
     let same : take 65537 text ≡ text = take_all 65537 text (omega (arith, short)) in
     subst (λ t. Shows t out) same s
 
 -- a text that shows is the whole of its file
-begun_shows : Laws → (files : Contents) (name text out : List ℕ) → BeginsFile files name text → Shows text out → (whole : List ℕ) × (content_in files name ≡ Some whole) × Shows whole out
-begun_shows ls files name text out b s = (b.whole, b.there, front_shows ls b.whole out (subst (λ t. Shows t out) b.front s))
+begun_shows : (files : Contents) (name text out : List ℕ) → BeginsFile files name text → Shows text out → (whole : List ℕ) × (content_in files name ≡ Some whole) × Shows whole out
+begun_shows files name text out b s = (b.whole, b.there, front_shows b.whole out (subst (λ t. Shows t out) b.front s))
 
 -- a text that shows has no fault
-shows_or_fault : Laws → (text out : List ℕ) (byte : ℕ) (cause : Cause) → Shows text out → HasFault text byte cause → ⊥
-shows_or_fault ls text out byte cause s f = ls.fault_or_plan text byte cause (plan_tree (query_of s.query.select)) f (plan_of_shows text out s)
+shows_or_fault : (text out : List ℕ) (byte : ℕ) (cause : Cause) → Shows text out → HasFault text byte cause → ⊥
+shows_or_fault text out byte cause s f = fault_or_plan text byte cause (plan_tree (query_of s.query.select)) f (plan_of_shows text out s)
 
 same_placed : (text : List ℕ) (a b : List Placed) → lexed_text text ≡ Ok a → lexed_text text ≡ Ok b → a ≡ b
 same_placed text a b e h = cc
@@ -95,64 +97,64 @@ shown_cause : (due : Due → Type 0) (o : Outcome) (shown : List ℕ) → due (s
 shown_cause due o shown s (inl e) = subst (HasCause due) (sym e) (inr (inl (record { out = shown; is_due = s })))
 shown_cause due o shown s (inr e) = subst (HasCause due) (sym e) (inr (inl (record { out = shown; is_due = s })))
 
-shown_allowed : Laws → (files : Contents) (c : AskedCheck) (whole shown : List ℕ) (o : Outcome) (d : Due) → content_in files c.query ≡ Some whole → Shows whole shown → (o ≡ Done) ⊎ (o ≡ WriteFault) → IsDueFor files (check c) d → Allows d o
-shown_allowed ls files c whole shown o usage e s k d = absurd d
-shown_allowed ls files c whole shown o missing e s k d = absurd (not_missing files c whole e d)
-shown_allowed ls files c whole shown o (tells t n) e s k d = absurd d
-shown_allowed ls files c whole shown o (faulty b x) e s k d = absurd (shows_or_fault ls whole shown b x s (due_fault files c whole b x e d))
-shown_allowed ls files c whole shown o (unlike x g) e s k d = absurd d
-shown_allowed ls files c whole shown o (shows t) e s (inl k) d = inl k
-shown_allowed ls files c whole shown o (shows t) e s (inr k) d = inr (inr (inl k))
-shown_allowed ls files c whole shown o (runs q n ring flush read) e s k d = absurd d
+shown_allowed : (files : Contents) (c : AskedCheck) (whole shown : List ℕ) (o : Outcome) (d : Due) → content_in files c.query ≡ Some whole → Shows whole shown → (o ≡ Done) ⊎ (o ≡ WriteFault) → IsDueFor files (check c) d → Allows d o
+shown_allowed files c whole shown o usage e s k d = absurd d
+shown_allowed files c whole shown o missing e s k d = absurd (not_missing files c whole e d)
+shown_allowed files c whole shown o (tells t n) e s k d = absurd d
+shown_allowed files c whole shown o (faulty b x) e s k d = absurd (shows_or_fault whole shown b x s (due_fault files c whole b x e d))
+shown_allowed files c whole shown o (unlike x g) e s k d = absurd d
+shown_allowed files c whole shown o (shows t) e s (inl k) d = inl k
+shown_allowed files c whole shown o (shows t) e s (inr k) d = inr (inr (inl k))
+shown_allowed files c whole shown o (runs q n ring flush read) e s k d = absurd d
 
-shown_puts : Laws → (files : Contents) (c : AskedCheck) (whole shown : List ℕ) (o : Outcome) (out : List ℕ) (d : Due) → content_in files c.query ≡ Some whole → Shows whole shown → PutsText shown o out → IsDueFor files (check c) d → PutsOut d o 0 out
-shown_puts ls files c whole shown o out usage e s p d = absurd d
-shown_puts ls files c whole shown o out missing e s p d = absurd (not_missing files c whole e d)
-shown_puts ls files c whole shown o out (tells t n) e s p d = absurd d
-shown_puts ls files c whole shown o out (faulty b x) e s p d = absurd (shows_or_fault ls whole shown b x s (due_fault files c whole b x e d))
-shown_puts ls files c whole shown o out (unlike x g) e s p d = absurd d
-shown_puts ls files c whole shown o out (shows t) e s p d = (refl, subst (λ x. PutsText x o out) (one_text whole shown t s (due_shows files c whole t e d)) p)
-shown_puts ls files c whole shown o out (runs q n ring flush read) e s p d = absurd d
+shown_puts : (files : Contents) (c : AskedCheck) (whole shown : List ℕ) (o : Outcome) (out : List ℕ) (d : Due) → content_in files c.query ≡ Some whole → Shows whole shown → PutsText shown o out → IsDueFor files (check c) d → PutsOut d o 0 out
+shown_puts files c whole shown o out usage e s p d = absurd d
+shown_puts files c whole shown o out missing e s p d = absurd (not_missing files c whole e d)
+shown_puts files c whole shown o out (tells t n) e s p d = absurd d
+shown_puts files c whole shown o out (faulty b x) e s p d = absurd (shows_or_fault whole shown b x s (due_fault files c whole b x e d))
+shown_puts files c whole shown o out (unlike x g) e s p d = absurd d
+shown_puts files c whole shown o out (shows t) e s p d = (refl, subst (λ x. PutsText x o out) (one_text whole shown t s (due_shows files c whole t e d)) p)
+shown_puts files c whole shown o out (runs q n ring flush read) e s p d = absurd d
 
-gives_shown : Laws → (files : Contents) (c : AskedCheck) (whole shown : List ℕ) (o : Outcome) (out : List ℕ) → content_in files c.query ≡ Some whole → Shows whole shown → (o ≡ Done) ⊎ (o ≡ WriteFault) → PutsText shown o out → Gives files (check c) o 0 out
-gives_shown ls files c whole shown o out e s k p = record {
+gives_shown : (files : Contents) (c : AskedCheck) (whole shown : List ℕ) (o : Outcome) (out : List ℕ) → content_in files c.query ≡ Some whole → Shows whole shown → (o ≡ Done) ⊎ (o ≡ WriteFault) → PutsText shown o out → Gives files (check c) o 0 out
+gives_shown files c whole shown o out e s k p = record {
   cause = shown_cause (IsDueFor files (check c)) o shown (whole, e, s) k;
-  allows = λ d x. shown_allowed ls files c whole shown o d e s k x;
-  puts = λ d x. shown_puts ls files c whole shown o out d e s p x;
+  allows = λ d x. shown_allowed files c whole shown o d e s k x;
+  puts = λ d x. shown_puts files c whole shown o out d e s p x;
 }
 
 -- ---- a text that is refused
 
-refused_allowed : Laws → (files : Contents) (c : AskedCheck) (whole : List ℕ) (byte : ℕ) (cause : Cause) (d : Due) → content_in files c.query ≡ Some whole → HasFault whole byte cause → IsDueFor files (check c) d → Allows d (QueryFault byte cause)
-refused_allowed ls files c whole byte cause usage e f d = absurd d
-refused_allowed ls files c whole byte cause missing e f d = absurd (not_missing files c whole e d)
-refused_allowed ls files c whole byte cause (tells t n) e f d = absurd d
-refused_allowed ls files c whole byte cause (faulty b x) e f d = inl (same_refusal byte b cause x (ls.one_fault whole byte b cause x f (due_fault files c whole b x e d)))
-refused_allowed ls files c whole byte cause (unlike x g) e f d = absurd d
-refused_allowed ls files c whole byte cause (shows t) e f d = absurd (shows_or_fault ls whole t byte cause (due_shows files c whole t e d) f)
-refused_allowed ls files c whole byte cause (runs q n ring flush read) e f d = absurd d
+refused_allowed : (files : Contents) (c : AskedCheck) (whole : List ℕ) (byte : ℕ) (cause : Cause) (d : Due) → content_in files c.query ≡ Some whole → HasFault whole byte cause → IsDueFor files (check c) d → Allows d (QueryFault byte cause)
+refused_allowed files c whole byte cause usage e f d = absurd d
+refused_allowed files c whole byte cause missing e f d = absurd (not_missing files c whole e d)
+refused_allowed files c whole byte cause (tells t n) e f d = absurd d
+refused_allowed files c whole byte cause (faulty b x) e f d = inl (same_refusal byte b cause x (one_fault whole byte b cause x f (due_fault files c whole b x e d)))
+refused_allowed files c whole byte cause (unlike x g) e f d = absurd d
+refused_allowed files c whole byte cause (shows t) e f d = absurd (shows_or_fault whole t byte cause (due_shows files c whole t e d) f)
+refused_allowed files c whole byte cause (runs q n ring flush read) e f d = absurd d
 
-gives_refused : Laws → (files : Contents) (c : AskedCheck) (whole : List ℕ) (byte : ℕ) (cause : Cause) → content_in files c.query ≡ Some whole → HasFault whole byte cause → Gives files (check c) (QueryFault byte cause) 0 []
-gives_refused ls files c whole byte cause e f = record {
+gives_refused : (files : Contents) (c : AskedCheck) (whole : List ℕ) (byte : ℕ) (cause : Cause) → content_in files c.query ≡ Some whole → HasFault whole byte cause → Gives files (check c) (QueryFault byte cause) 0 []
+gives_refused files c whole byte cause e f = record {
   cause = (whole, e, f);
-  allows = λ d x. refused_allowed ls files c whole byte cause d e f x;
-  puts = λ d x. early_puts ls files (check c) (QueryFault byte cause) d tt x;
+  allows = λ d x. refused_allowed files c whole byte cause d e f x;
+  puts = λ d x. early_puts files (check c) (QueryFault byte cause) d tt x;
 }
 
-gives_not_shown : Laws → (files : Contents) (c : AskedCheck) (text : List ℕ) (o : Outcome) → BeginsFile files c.query text → IsTextFault text o → Gives files (check c) o 0 []
-gives_not_shown ls files c text Done b h = absurd h
-gives_not_shown ls files c text Usage b h = absurd h
-gives_not_shown ls files c text (SecondQueryFault place why) b h = absurd h
-gives_not_shown ls files c text (Unchainable which) b h = absurd h
-gives_not_shown ls files c text (ChainLineRefused place why) b h = absurd h
-gives_not_shown ls files c text (FileCount s g) b h = absurd h
-gives_not_shown ls files c text (LineRefused s n k) b h = absurd h
-gives_not_shown ls files c text (OpenFault f) b h = absurd h
-gives_not_shown ls files c text (ReadFault f) b h = absurd h
-gives_not_shown ls files c text (TooWide t n k) b h = absurd h
-gives_not_shown ls files c text WriteFault b h = absurd h
-gives_not_shown ls files c text NoMemory b h = gives_no_text ls files (check c) tt NoMemory tt
-gives_not_shown ls files c text (QueryFault byte cause) b h = let w = begun_fault ls files c.query text byte cause b h in gives_refused ls files c w.0 byte cause w.1 w.2
+gives_not_shown : (files : Contents) (c : AskedCheck) (text : List ℕ) (o : Outcome) → BeginsFile files c.query text → IsTextFault text o → Gives files (check c) o 0 []
+gives_not_shown files c text Done b h = absurd h
+gives_not_shown files c text Usage b h = absurd h
+gives_not_shown files c text (SecondQueryFault place why) b h = absurd h
+gives_not_shown files c text (Unchainable which) b h = absurd h
+gives_not_shown files c text (ChainLineRefused place why) b h = absurd h
+gives_not_shown files c text (FileCount s g) b h = absurd h
+gives_not_shown files c text (LineRefused s n k) b h = absurd h
+gives_not_shown files c text (OpenFault f) b h = absurd h
+gives_not_shown files c text (ReadFault f) b h = absurd h
+gives_not_shown files c text (TooWide t n k) b h = absurd h
+gives_not_shown files c text WriteFault b h = absurd h
+gives_not_shown files c text NoMemory b h = gives_no_text files (check c) tt NoMemory tt
+gives_not_shown files c text (QueryFault byte cause) b h = let w = begun_fault files c.query text byte cause b h in gives_refused files c w.0 byte cause w.1 w.2
 
 -- ---- a check
 
@@ -190,10 +192,10 @@ put_kinds (ReadFault f) k = absurd k
 put_kinds (TooWide a b d) k = absurd k
 
 -- a check gives what became of its query's text
-pub gives_show : Laws → (files : Contents) (c : AskedCheck) (text : List ℕ) (o : Outcome) (out : List ℕ) → BeginsFile files c.query text → Showed text o out → Gives files (check c) o 0 out
-gives_show ls files c text o out b (all_shown e s) = let w = begun_shows ls files c.query text out b s in gives_shown ls files c w.0 out o out w.1 w.2 (inl e) (whole_text e refl)
-gives_show ls files c text o out b (cut_short shown n e s k) = let w = begun_shows ls files c.query text shown b s in gives_shown ls files c w.0 shown o out w.1 w.2 (inr e) (part n e k)
-gives_show ls files c text o out b (not_shown h k) = subst (Gives files (check c) o 0) (sym k) (gives_not_shown ls files c text o b h)
+pub gives_show : (files : Contents) (c : AskedCheck) (text : List ℕ) (o : Outcome) (out : List ℕ) → BeginsFile files c.query text → Showed text o out → Gives files (check c) o 0 out
+gives_show files c text o out b (all_shown e s) = let w = begun_shows files c.query text out b s in gives_shown files c w.0 out o out w.1 w.2 (inl e) (whole_text e refl)
+gives_show files c text o out b (cut_short shown n e s k) = let w = begun_shows files c.query text shown b s in gives_shown files c w.0 shown o out w.1 w.2 (inr e) (part n e k)
+gives_show files c text o out b (not_shown h k) = subst (Gives files (check c) o 0) (sym k) (gives_not_shown files c text o b h)
 
 -- where nothing was run, the text was refused
 pub show_early : (o : Outcome) → IsOfShow o → IsBeforeRun o → IsQueryFault o

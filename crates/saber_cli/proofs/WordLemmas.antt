@@ -6,7 +6,6 @@ use Rattle.saber_words.specs.declared.commands.WordsFault.TheVariants as fault
 use Rattle.saber_notes.specs.declared.outcome.InputFile.{InputFile}
 use Rattle.saber_notes.specs.declared.outcome.Outcome.{Outcome}
 use Rattle.saber_notes.specs.declared.outcome.Outcome.TheVariants.{Done, Usage, FileCount, QueryFault, SecondQueryFault, Unchainable, LineRefused, ChainLineRefused, OpenFault, ReadFault, TooWide, WriteFault, NoMemory}
-use Rattle.saber_cli.specs.Laws.{Laws}
 use Rattle.saber_io.specs.Outside.{FilesView}
 use Rattle.saber_cli.specs.Due.{Contents, Due, IsDueFor, IsDue, no_command, by_command, names_of, AsksRows}
 use Rattle.saber_cli.specs.Leaves.{LeavesTold}
@@ -79,9 +78,9 @@ memory_allowed : (ws : List (List ℕ)) (files : Contents) (d : Due) → IsDue w
 memory_allowed ws files d (no_command n u) = subst (λ x. Allows x NoMemory) (sym u) (inr refl)
 memory_allowed ws files d (by_command c k h) = memory_allowed_for files c d h
 
-memory_puts : Laws → (ws : List (List ℕ)) (files : Contents) (d : Due) → IsDue ws files d → PutsOut d NoMemory 0 []
-memory_puts ls ws files d (no_command n u) = subst (λ x. PutsOut x NoMemory 0 []) (sym u) (refl, refl)
-memory_puts ls ws files d (by_command c k h) = early_puts ls files c NoMemory d tt h
+memory_puts : (ws : List (List ℕ)) (files : Contents) (d : Due) → IsDue ws files d → PutsOut d NoMemory 0 []
+memory_puts ws files d (no_command n u) = subst (λ x. PutsOut x NoMemory 0 []) (sym u) (refl, refl)
+memory_puts ws files d (by_command c k h) = early_puts files c NoMemory d tt h
 
 -- nothing was read for want of words
 pub unread_not_read : (f : WordsFault) (file : InputFile) → unread f ≡ ReadFault file → ⊥
@@ -89,9 +88,9 @@ unread_not_read fault.NoMemory file e = cc
 unread_not_read fault.Usage file e = cc
 
 -- words of which no command was read
-pub unread_answers : Laws → (ws : List (List ℕ)) (files : Contents) (f : WordsFault) → (f ≡ fault.Usage → command_of ws ≡ None) → Answers ws files (unread f) 0 []
-unread_answers ls ws files fault.NoMemory h = record { cause = tt; allows = memory_allowed ws files; puts = memory_puts ls ws files }
-unread_answers ls ws files fault.Usage h = usage_answers ws files (h refl)
+pub unread_answers : (ws : List (List ℕ)) (files : Contents) (f : WordsFault) → (f ≡ fault.Usage → command_of ws ≡ None) → Answers ws files (unread f) 0 []
+unread_answers ws files fault.NoMemory h = record { cause = tt; allows = memory_allowed ws files; puts = memory_puts ws files }
+unread_answers ws files fault.Usage h = usage_answers ws files (h refl)
 
 -- none of their files is asked for
 pub unread_leave : (ws : List (List ℕ)) (c : Asked) (f : WordsFault) (told : Option FilesView) → (f ≡ fault.Usage → command_of ws ≡ None) → command_of ws ≡ Some c → LeavesTold c (unread f) told told

@@ -16,7 +16,8 @@ use Rattle.saber_chain.specs.Texts.{text_of_both}
 use Rattle.saber_notes.specs.declared.outcome.InputFile.TheVariants.{Query, Left, Right, SecondQuery}
 use Rattle.saber_notes.specs.declared.outcome.Outcome.{Outcome}
 use Rattle.saber_notes.specs.declared.outcome.Outcome.TheVariants.{Done, Usage, FileCount, QueryFault, SecondQueryFault, Unchainable, LineRefused, ChainLineRefused, OpenFault, ReadFault, TooWide, WriteFault, NoMemory}
-use Rattle.saber_cli.specs.Laws.{Laws}
+use Rattle.saber_check.proofs.FaultLaws.{one_fault}
+use Rattle.saber_check.proofs.TextLaws.{fault_or_plan}
 use Rattle.saber_cli.specs.Outcomes.{IsQueryUnread}
 use Rattle.saber_cli.specs.Endings.{chained_as, file_on}
 use Rattle.saber_cli.specs.Due.{Contents, IsFaulty, contents_of, first_run, row_names}
@@ -24,46 +25,46 @@ use Rattle.saber_cli.specs.Chained.{AsksChainRows, ChainsOver, HasReason, IsPlan
 use Rattle.saber_cli.proofs.DueLemmas.{same_refusal}
 
 -- a file has one text
-planned_or_fault : Laws → (files : Contents) (name : List ℕ) (q : Tree) (byte : ℕ) (cause : Cause) → IsPlanned files name q → IsFaulty files name byte cause → ⊥
-planned_or_fault ls files name q byte cause p f =
+planned_or_fault : (files : Contents) (name : List ℕ) (q : Tree) (byte : ℕ) (cause : Cause) → IsPlanned files name q → IsFaulty files name byte cause → ⊥
+planned_or_fault files name q byte cause p f =
     let both : Some p.text ≡ Some f.0 = sym p.there ∙ f.1 in
     let same : p.text ≡ f.0 = cc in
-    ls.fault_or_plan f.0 byte cause q f.2 (subst (λ t. HasPlan t q) same p.plan)
+    fault_or_plan f.0 byte cause q f.2 (subst (λ t. HasPlan t q) same p.plan)
 
-fault_is : Laws → (files : Contents) (name : List ℕ) (byte other : ℕ) (cause another : Cause) → IsFaulty files name byte cause → IsFaulty files name other another → QueryFault byte cause ≡ QueryFault other another
-fault_is ls files name byte other cause another f h =
+fault_is : (files : Contents) (name : List ℕ) (byte other : ℕ) (cause another : Cause) → IsFaulty files name byte cause → IsFaulty files name other another → QueryFault byte cause ≡ QueryFault other another
+fault_is files name byte other cause another f h =
     let both : Some f.0 ≡ Some h.0 = sym f.1 ∙ h.1 in
     let same : f.0 ≡ h.0 = cc in
-    same_refusal byte other cause another (ls.one_fault h.0 byte other cause another (subst (λ t. HasFault t byte cause) same f.2) h.2)
+    same_refusal byte other cause another (one_fault h.0 byte other cause another (subst (λ t. HasFault t byte cause) same f.2) h.2)
 
 -- a first query with a fault is told, and nothing behind it is asked for
-told_fault : Laws → (files : Contents) (a : AskedChain) (o : Outcome) (byte : ℕ) (cause : Cause) → IsFaulty files a.first byte cause → HasReason files a o → (o ≡ QueryFault byte cause) ⊎ (IsQueryUnread o ⊎ (o ≡ NoMemory))
-told_fault ls files a Done byte cause f h = absurd h
-told_fault ls files a Usage byte cause f h = absurd h
-told_fault ls files a (FileCount streams given) byte cause f h = absurd (planned_or_fault ls files a.first h.first byte cause h.plans.first f)
-told_fault ls files a (QueryFault place why) byte cause f h = inl (fault_is ls files a.first place byte why cause h f)
-told_fault ls files a (SecondQueryFault place why) byte cause f h = absurd (planned_or_fault ls files a.first h.0 byte cause h.1 f)
-told_fault ls files a (Unchainable Query) byte cause f h = absurd (planned_or_fault ls files a.first h.0 byte cause h.2.first f)
-told_fault ls files a (Unchainable Left) byte cause f h = absurd h
-told_fault ls files a (Unchainable Right) byte cause f h = absurd h
-told_fault ls files a (Unchainable SecondQuery) byte cause f h = absurd (planned_or_fault ls files a.first h.0 byte cause h.2.first f)
-told_fault ls files a (LineRefused side line why) byte cause f h = absurd h
-told_fault ls files a (ChainLineRefused line why) byte cause f h = absurd h
-told_fault ls files a (OpenFault Query) byte cause f h = inr (inl tt)
-told_fault ls files a (OpenFault Left) byte cause f h = absurd (planned_or_fault ls files a.first h.first byte cause h.plans.first f)
-told_fault ls files a (OpenFault Right) byte cause f h = absurd (planned_or_fault ls files a.first h.first byte cause h.plans.first f)
-told_fault ls files a (OpenFault SecondQuery) byte cause f h = absurd (planned_or_fault ls files a.first h.0 byte cause h.1 f)
-told_fault ls files a (ReadFault Query) byte cause f h = inr (inl tt)
-told_fault ls files a (ReadFault Left) byte cause f h = absurd h
-told_fault ls files a (ReadFault Right) byte cause f h = absurd h
-told_fault ls files a (ReadFault SecondQuery) byte cause f h = absurd (planned_or_fault ls files a.first h.0 byte cause h.1 f)
-told_fault ls files a (TooWide task need cells) byte cause f h = absurd h
-told_fault ls files a WriteFault byte cause f h = absurd h
-told_fault ls files a NoMemory byte cause f h = inr (inr refl)
+told_fault : (files : Contents) (a : AskedChain) (o : Outcome) (byte : ℕ) (cause : Cause) → IsFaulty files a.first byte cause → HasReason files a o → (o ≡ QueryFault byte cause) ⊎ (IsQueryUnread o ⊎ (o ≡ NoMemory))
+told_fault files a Done byte cause f h = absurd h
+told_fault files a Usage byte cause f h = absurd h
+told_fault files a (FileCount streams given) byte cause f h = absurd (planned_or_fault files a.first h.first byte cause h.plans.first f)
+told_fault files a (QueryFault place why) byte cause f h = inl (fault_is files a.first place byte why cause h f)
+told_fault files a (SecondQueryFault place why) byte cause f h = absurd (planned_or_fault files a.first h.0 byte cause h.1 f)
+told_fault files a (Unchainable Query) byte cause f h = absurd (planned_or_fault files a.first h.0 byte cause h.2.first f)
+told_fault files a (Unchainable Left) byte cause f h = absurd h
+told_fault files a (Unchainable Right) byte cause f h = absurd h
+told_fault files a (Unchainable SecondQuery) byte cause f h = absurd (planned_or_fault files a.first h.0 byte cause h.2.first f)
+told_fault files a (LineRefused side line why) byte cause f h = absurd h
+told_fault files a (ChainLineRefused line why) byte cause f h = absurd h
+told_fault files a (OpenFault Query) byte cause f h = inr (inl tt)
+told_fault files a (OpenFault Left) byte cause f h = absurd (planned_or_fault files a.first h.first byte cause h.plans.first f)
+told_fault files a (OpenFault Right) byte cause f h = absurd (planned_or_fault files a.first h.first byte cause h.plans.first f)
+told_fault files a (OpenFault SecondQuery) byte cause f h = absurd (planned_or_fault files a.first h.0 byte cause h.1 f)
+told_fault files a (ReadFault Query) byte cause f h = inr (inl tt)
+told_fault files a (ReadFault Left) byte cause f h = absurd h
+told_fault files a (ReadFault Right) byte cause f h = absurd h
+told_fault files a (ReadFault SecondQuery) byte cause f h = absurd (planned_or_fault files a.first h.0 byte cause h.1 f)
+told_fault files a (TooWide task need cells) byte cause f h = absurd h
+told_fault files a WriteFault byte cause f h = absurd h
+told_fault files a NoMemory byte cause f h = inr (inr refl)
 
-first_fault_told : Laws → (files : Contents) (leaves : Tree → RunEnd → ℕ → Type 0) (a : AskedChain) (o : Outcome) (tasks : ℕ) (had has : Option (List ℕ)) (byte : ℕ) (cause : Cause) → IsFaulty files a.first byte cause → ChainsOver files leaves a o tasks had has → (o ≡ QueryFault byte cause) ⊎ (IsQueryUnread o ⊎ (o ≡ NoMemory))
-first_fault_told ls files leaves a o tasks had has byte cause f (not_run h t n) = told_fault ls files a o byte cause f h
-first_fault_told ls files leaves a o tasks had has byte cause f (both_run r all e k) = absurd (planned_or_fault ls files a.first r.first byte cause r.plans.first f)
+first_fault_told : (files : Contents) (leaves : Tree → RunEnd → ℕ → Type 0) (a : AskedChain) (o : Outcome) (tasks : ℕ) (had has : Option (List ℕ)) (byte : ℕ) (cause : Cause) → IsFaulty files a.first byte cause → ChainsOver files leaves a o tasks had has → (o ≡ QueryFault byte cause) ⊎ (IsQueryUnread o ⊎ (o ≡ NoMemory))
+first_fault_told files leaves a o tasks had has byte cause f (not_run h t n) = told_fault files a o byte cause f h
+first_fault_told files leaves a o tasks had has byte cause f (both_run r all e k) = absurd (planned_or_fault files a.first r.first byte cause r.plans.first f)
 
 -- what is told as done was run, and the text of both went out
 done_is_text : (files : Contents) (leaves : Tree → RunEnd → ℕ → Type 0) (a : AskedChain) (tasks : ℕ) (had has : Option (List ℕ)) → ChainsOver files leaves a Done tasks had has

@@ -10,7 +10,6 @@ pub mod Puts
 pub mod Leaves
 pub mod RowFiles
 pub mod Taken
-pub mod Laws
 pub mod Shown
 pub mod Gives
 pub mod Unread
@@ -19,4 +18,3 @@ pub mod Tells
 pub mod Chained
 pub mod ChainLeaves
 pub mod Chaining
-pub mod Alone

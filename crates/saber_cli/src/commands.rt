@@ -11,7 +11,6 @@ ghost use Rattle.saber_cli.specs.Leaves.{LeavesTold};
 ghost use Rattle.saber_cli.specs.Taken.{TakesTold};
 
 use crate::answer::Ran;
-use crate::laws::laws;
 use crate::plans::planned;
 use crate::queries::query_text;
 use crate::runs::run_rows;
@@ -56,7 +55,6 @@ pub(crate) fn run_command<F: Files, K: Sink + Send, G: Gate + Sync, R: Threads +
     ensures write { result.outcome ≡ Outcome.WriteFault → Rose (K.faults sink) (K.faults result.sink) }
     ensures write_good { result.outcome ≢ Outcome.WriteFault → K.faults result.sink ≡ K.faults sink }
 {
-    laws();
     let text = match query_text(alloc, files, command.query) {
         Ok(text) => text,
         Err(outcome) => {
@@ -111,7 +109,6 @@ pub(crate) fn check_command<F: Files, K: Sink>(
     ensures write { result.outcome ≡ Outcome.WriteFault → Rose (K.faults sink) (K.faults result.sink) }
     ensures write_good { result.outcome ≢ Outcome.WriteFault → K.faults result.sink ≡ K.faults sink }
 {
-    laws();
     match query_text(alloc, files, command.query) {
         Ok(text) => put_text(alloc, &text, sink),
         Err(outcome) => Ran {

@@ -12,10 +12,9 @@ ghost use Rattle.saber_cli.specs.Tells.{IsAnswer, IsWholeOrLacks, TellsRun};
 
 use crate::answer::Ran;
 use crate::puts::put;
-use saber_demo::{Generated, TextSink, demo_is_checked, demo_plan, generated_is_read, summary};
+use saber_demo::{Generated, TextSink, demo_plan, summary};
 use saber_engine::{Inputs, Ran as Engine, RunEnd, engine};
 use saber_io::{Gate, Sink};
-use saber_laws::{none_is_wide, rows_have_tasks};
 use saber_notes::Outcome;
 use saber_plan::Sizes;
 use saber_words::Demo;
@@ -69,6 +68,7 @@ fn is_whole(end: RunEnd) -> bool
 }
 
 // Runs the query over the generated rows.
+#[tactic(auto, using(saber_demo::proofs::DemoQuery::demo_is_checked))]
 fn run_generated<G: Gate + Sync, R: Threads + Wait + Sync>(
     rt: &R,
     alloc: Global,
@@ -79,10 +79,6 @@ fn run_generated<G: Gate + Sync, R: Threads + Wait + Sync>(
     ensures answer { IsTrue result.whole → IsAnswer (asked_demo command.now) result.text.written result.tasks }
     ensures few { result.tasks ≤ tasks_of_run (asked_demo command.now) }
 {
-    demo_is_checked();
-    generated_is_read();
-    none_is_wide();
-    rows_have_tasks();
     let text = TextSink::new(alloc);
     let Ok(plan) = demo_plan(alloc) else {
         return Answer {

@@ -7,12 +7,12 @@
 //!   and `texts` (the query file), `shows` (the text of a checked query), `plans`, `sizes`, `runs`
 //!   (a run over the row files), `chains`, `query_plans` (the plans of a chain, and whether they
 //!   chain), `chain_answer` (the chain over sources), `demo`, `puts` (a text goes out), `row_files`
-//!   (they are opened and given back), `answer` (the engine over them), `laws` (those that proofs
-//!   here rest on).
+//!   (they are opened and given back), `answer` (the engine over them).
 //! - Calls: `saber` takes words, files, a sink and a sink for notes, and gives `Ended`;
 //!   `refuse_words` ends a call whose words the system can't hand over. Parts of it that a call
 //!   with several queries has too: `query_plan`, `open_row`, `close_rows`, `outcome_of`, and the
-//!   law `runs_tell`.
+//!   lemma `runs_tell` (`proofs/AloneLemmas.antt`): what its run of one query gives is what the
+//!   command `run` gives.
 //! - Proved: what goes out, which files are asked for and given back, which status and note comes,
 //!   and that each has its cause. Of `specs/` open `Outcomes`, `Due`, `Answered`, `Chained` and
 //!   `Leaves` first.
@@ -26,7 +26,6 @@ mod chain_answer;
 mod chains;
 mod commands;
 mod demo;
-mod laws;
 mod plans;
 mod puts;
 mod queries;
@@ -40,7 +39,6 @@ mod top;
 mod words;
 
 pub use answer::outcome_of;
-pub use laws::runs_tell;
 pub use query_plans::query_plan;
 pub use row_files::{close_rows, open_row};
 pub use saber_notes::{InputFile, Noted, Outcome};

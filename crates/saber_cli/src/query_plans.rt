@@ -14,14 +14,9 @@ ghost use Rattle.saber_cli.specs.Chained.{HasPlansTold, HasReason, IsChainable, 
 ghost use Rattle.saber_cli.specs.ChainLeaves.{LeavesChain};
 ghost use Rattle.saber_cli.specs.Chaining.{BothRead, IsMisfit, LacksPlan, as_second};
 
-use crate::laws::laws;
 use crate::plans::planned;
 use crate::queries::query_text;
 use saber_io::Files;
-use saber_laws::{
-    groups_have_one_window, joins_have_two_windows, selections_have_no_window,
-    words_have_one_window,
-};
 use saber_notes::{InputFile, Outcome};
 use saber_plan::{Plan, Shape};
 use saber_words::Chain;
@@ -39,7 +34,6 @@ pub fn query_plan<F: Files>(alloc: Global, files: &mut F, name: &str) -> Result<
     ensures read_good { IsClean (outcome_of result) → F.faults files.new ≡ F.faults files.old }
     ensures count { KeepsFaults (F.faults files.old) (F.faults files.new) }
 {
-    laws();
     let text = match query_text(alloc, files, name) {
         Ok(text) => text,
         Err(outcome) => return Err(outcome),
@@ -63,14 +57,11 @@ fn as_second(outcome: Outcome) -> Outcome
 }
 
 // Whether a query has windows.
+#[tactic(auto, using(saber_laws::proofs::CheckedLaws::selection_has_none, saber_laws::proofs::CheckedLaws::words_have_one, saber_laws::proofs::CheckedLaws::group_has_one, saber_laws::proofs::CheckedLaws::join_has_two))]
 fn has_windows(plan: &Plan) -> bool
     requires { IsChecked (tree_of plan.now) }
     ensures { result ≡ has_windows (frame (tree_of plan.now)) }
 {
-    selections_have_no_window();
-    words_have_one_window();
-    groups_have_one_window();
-    joins_have_two_windows();
     match plan.shape() {
         Shape::Select => match plan.word() {
             None => false,

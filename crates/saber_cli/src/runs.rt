@@ -14,7 +14,6 @@ ghost use Rattle.saber_cli.specs.Taken.{CutTakesRows};
 ghost use Rattle.saber_cli.specs.Uses.{KeepsFaults};
 
 use crate::answer::{Ran, answer};
-use crate::laws::laws;
 use crate::row_files::{close_rows, open_rows};
 use saber_io::{Files, Gate, Sink};
 use saber_plan::{Plan, Sizes};
@@ -51,7 +50,6 @@ pub(crate) fn run_rows<F: Files, K: Sink + Send, G: Gate + Sync, R: Threads + Wa
     ensures write { result.outcome ≡ Outcome.WriteFault → Rose (K.faults sink) (K.faults result.sink) }
     ensures write_good { result.outcome ≢ Outcome.WriteFault → K.faults result.sink ≡ K.faults sink }
 {
-    laws();
     match open_rows(alloc, files, command) {
         Ok(mut inputs) => {
             let ran = answer(rt, alloc, plan, &mut inputs, sink, sizes, gate);

@@ -18,7 +18,6 @@ use crate::answer::Ran;
 use crate::chains::chain_command;
 use crate::commands::{check_command, run_command};
 use crate::demo::demo_command;
-use crate::laws::laws;
 use saber_io::{Files, Gate, Sink};
 use saber_notes::Outcome;
 use saber_words::{Command, WordsFault, read_words};
@@ -64,7 +63,6 @@ where
     ensures write { result.outcome ≡ Outcome.WriteFault → Rose (K.faults sink) (K.faults result.sink) }
     ensures write_good { result.outcome ≢ Outcome.WriteFault → K.faults result.sink ≡ K.faults sink }
 {
-    laws();
     let command = match read_words(alloc, words) {
         Ok(command) => command,
         Err(fault) => {

@@ -1,5 +1,5 @@
 //! Threads round the first seat.
-ghost use Rattle.std.specs.Prelude.{◌≡◌, ◌^◌, ◌≤◌, true, None, Option, IsSome};
+ghost use Rattle.std.specs.Prelude.{◌≡◌, ◌+◌, ◌^◌, ◌≤◌, ◌<◌, true, None, Option, IsSome};
 ghost use Rattle.atomic_table.specs.Seated.{TableId};
 ghost use Rattle.std.specs.Thread.{IsSync};
 ghost use Rattle.saber_ring.specs.Words.{view, table, table_of};
@@ -31,6 +31,7 @@ fn lead<W: Work, L: Labor<W>, G: Gate, P: Supply<W>, R: Wait>(
     supply: &mut P,
     from: &mut P::From,
     is_alone: bool,
+    helpers: u32,
 ) -> Dispatched
 where
     W::Rows: Drop,
@@ -46,10 +47,11 @@ where
     ensures dispatched { DispatchedTo W.is_told W.upto (P.has_given supply.new from.new) (P.is_over supply.new) result (view seat.old).lead (view seat.new).lead }
     ensures few { result.tasks ≤ 2 ^ 42 }
     ensures stops { result.over ≡ Over.Stopped → (view seat.new).stopped ≡ true }
+    ensures helpers { result.helpers ≡ helpers }
 {
     let mut hand = Hand::new(0);
     let dispatched = dispatch(
-        rt, alloc, seat, ring, op, gate, stop, supply, from, &mut hand, is_alone,
+        rt, alloc, seat, ring, op, gate, stop, supply, from, &mut hand, is_alone, helpers,
     );
     stop.store(true, Ordering::SeqCst);
     finish_hand(rt, alloc, seat, ring, op, gate, hand);
@@ -137,8 +139,8 @@ where
     }
 }
 
-/// Starts so many threads, fills the ring, sets `stop`, and takes the threads' seats in. Where a
-/// thread can't be made, its part comes last, and ends at once.
+/// Starts so many threads beside those that were asked for, fills the ring, sets `stop`, and takes
+/// the threads' seats in. Where a thread can't be made, its part comes last, and ends at once.
 pub(crate) fn crew<
     W: Work + Send + Sync,
     L: Labor<W> + Sync,
@@ -158,6 +160,7 @@ pub(crate) fn crew<
     supply: &mut P,
     from: &mut P::From,
     is_alone: bool,
+    asked: u32,
 ) -> Dispatched
 where
     W::Rows: Drop + Send,
@@ -169,6 +172,7 @@ where
     requires none { (view seat.old).job ≡ None }
     requires suits { OfBase (L.suits op.now) (view seat.old).base }
     requires begins { BeginsDispatch W.is_told W.upto (P.has_given supply.old from.old) (view seat.old).lead }
+    requires helpers { asked + threads < 2 ^ 32 }
     ensures same { table seat.new ≡ table seat.old }
     ensures base { (view seat.new).base ≡ (view seat.old).base }
     ensures free { IsFree (view seat.new) }
@@ -176,13 +180,15 @@ where
     ensures dispatched { DispatchedTo W.is_told W.upto (P.has_given supply.new from.new) (P.is_over supply.new) result (view seat.old).lead (view seat.new).lead }
     ensures few { result.tasks ≤ 2 ^ 42 }
     ensures stops { result.over ≡ Over.Stopped → (view seat.new).stopped ≡ true }
+    ensures helpers { result.helpers ≡ asked + threads }
 {
     if threads == 0 {
         return lead(
-            rt, *alloc, seat, ring, op, gate, stop, supply, from, is_alone,
+            rt, *alloc, seat, ring, op, gate, stop, supply, from, is_alone, asked,
         );
     }
     let less = threads - 1;
+    let more = asked + 1;
     let mut theirs = T::part(seat, ring);
     let (_, dispatched) = join_mut(
         rt,
@@ -198,6 +204,7 @@ where
             requires none { (view seat.now).job ≡ None }
             requires suits { OfBase (L.suits op.now) (view seat.now).base }
             requires begins { BeginsDispatch W.is_told W.upto (P.has_given supply.now from.now) (view seat.now).lead }
+            requires helpers { more + less < 2 ^ 32 }
             ensures same { table seat.exit.now ≡ table seat.entry.now }
             ensures base { (view seat.exit.now).base ≡ (view seat.entry.now).base }
             ensures free { IsFree (view seat.exit.now) }
@@ -206,9 +213,10 @@ where
                 (view seat.entry.now).lead (view seat.exit.now).lead }
             ensures few { result.tasks ≤ 2 ^ 42 }
             ensures stops { result.over ≡ Over.Stopped → (view seat.exit.now).stopped ≡ true }
+            ensures helpers { result.helpers ≡ more + less }
         {
             crew::<W, L, G, P, T, R>(
-                rt, less, alloc, seat, ring, op, gate, stop, supply, from, is_alone,
+                rt, less, alloc, seat, ring, op, gate, stop, supply, from, is_alone, more,
             )
         },
     );

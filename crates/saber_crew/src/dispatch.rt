@@ -29,11 +29,13 @@ pub enum Over {
     NoMemory,
 }
 
-/// How many tasks were filled, and why no more.
+/// How many tasks were filled, and why no more; and how many threads were asked for beside the
+/// caller's.
 #[derive(Clone, Copy)]
 pub struct Dispatched {
     pub tasks: u64,
     pub over: Over,
+    pub helpers: u32,
 }
 
 // Fills task t if the ring has room and no stop is set; else the rows come back.
@@ -319,7 +321,7 @@ where
 }
 
 /// Fills all tasks of the supply, until the stage is stopped or memory is wanting. Where no other
-/// thread works, each is worked on as soon as it is filled.
+/// thread works, each is worked on as soon as it is filled. So many helpers were asked for.
 pub(crate) fn dispatch<W: Work, L: Labor<W>, G: Gate, P: Supply<W>, R: Wait>(
     rt: &R,
     alloc: Global,
@@ -332,6 +334,7 @@ pub(crate) fn dispatch<W: Work, L: Labor<W>, G: Gate, P: Supply<W>, R: Wait>(
     from: &mut P::From,
     hand: &mut Hand<W, L::Draft>,
     is_alone: bool,
+    helpers: u32,
 ) -> Dispatched
 where
     W::Rows: Drop,
@@ -348,6 +351,7 @@ where
     ensures dispatched { DispatchedTo W.is_told W.upto (P.has_given supply.new from.new) (P.is_over supply.new) result (view seat.old).lead (view seat.new).lead }
     ensures few { result.tasks ≤ 2 ^ 42 }
     ensures stops { result.over ≡ Over.Stopped → (view seat.new).stopped ≡ true }
+    ensures helpers { result.helpers ≡ helpers }
 {
     let mut tasks: u64 = 0;
     let mut frees = Frees {
@@ -357,20 +361,32 @@ where
     loop {
         let own = match next_rows(rt, alloc, seat, ring, op, gate, stop, supply, from, hand) {
             Ok(own) => own,
-            Err(over) => return Dispatched { tasks, over },
+            Err(over) => return Dispatched {
+                tasks,
+                over,
+                helpers,
+            },
         };
         let first = op.first(&own);
         // The task before was filled, so what is assembled is less than a ring behind it.
         let from = tasks.saturating_sub(ring.cells());
         let Ok(()) = frees.push(first, from) else {
             let over = Over::NoMemory;
-            return Dispatched { tasks, over };
+            return Dispatched {
+                tasks,
+                over,
+                helpers,
+            };
         };
         if !fill_next(
             rt, alloc, seat, ring, op, gate, stop, tasks, own, &frees, hand, is_alone,
         ) {
             let over = Over::Stopped;
-            return Dispatched { tasks, over };
+            return Dispatched {
+                tasks,
+                over,
+                helpers,
+            };
         }
         tasks += 1;
     }

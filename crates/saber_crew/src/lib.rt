@@ -5,13 +5,14 @@
 //! - Parts: `supply` (the trait: where tasks come from), `dispatch` (the loop of the first seat),
 //!   `crew` (threads, and their seats taken in again), `runs` (a whole run).
 //! - Call: `run` takes a `Labor`, a supply, a stage and sizes, and gives the stage back, with how
-//!   many tasks were filled and why no more.
+//!   many tasks were filled, why no more, and how many threads were asked for.
 //! - Proved, for any work and any supply (`RunsTo`, `specs/Runs.antt`): the stage has the first of
 //!   the tasks given behind it, all of them where it runs and the supply was over. `Ring::finish`
-//!   wants every seat back, so all threads have ended then. Where memory lacks for the ring, all is
-//!   as it was.
-//! - Not claimed: that threads help. Where one can't be made, the caller does its share. A full
-//!   ring is back-pressure: the first seat works meanwhile, and so it does where the supply is dry.
+//!   wants every seat back, so all threads have ended then. As many threads are asked for as
+//!   `sizes` has. Where memory lacks for the ring, all is as it was.
+//! - Not claimed: that threads are made, or help. Where one can't be, the caller does its share. A
+//!   full ring is back-pressure: the first seat works meanwhile, and so it does where the supply is
+//!   dry.
 //! - Limits: rings of 1 to 1,024 cells, `2^42` tasks. It waits for its threads and its supply.
 #![tactic(auto)]
 

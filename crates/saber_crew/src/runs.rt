@@ -42,6 +42,7 @@ where
     requires begins { BeginsRun W.is_told W.is_stage (L.suits op.now) (P.has_given supply.old from.old) stage J.told }
     requires size { (0 < sizes.now.ring) × (sizes.now.ring ≤ 1024) }
     ensures ended { IfOk result (λ r. RunsOver W.is_told W.upto W.is_stage (P.has_given supply.new from.new) (P.is_over supply.new) J.told r.0 r.1) }
+    ensures helpers { IfOk result (λ r. r.1.helpers ≡ sizes.now.threads) }
     ensures refused { IfErr result (λ back. (back ≡ stage) × (supply.new ≡ supply.old) × (from.new ≡ from.old)) }
 {
     let (ring, mut seat) = match Ring::<W>::new::<J>(alloc, sizes.ring, stage) {
@@ -61,6 +62,7 @@ where
         supply,
         from,
         sizes.threads == 0,
+        0,
     );
     work_alone(alloc, &mut seat, &ring, op, gate, dispatched.tasks);
     Ok((ring.finish(seat), dispatched))

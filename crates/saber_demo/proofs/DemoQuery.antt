@@ -1,6 +1,7 @@
--- The text of the demo's query has the plan that is built.
+-- The text of the demo's query has the plan that is built, and so that plan is checked.
 use Rattle.std.proofs.Common.{◌≡◌, ℕ, List, [], ◌∷◌, map, Some, None, false, codes, refl, subst, arith, rules, Result, Ok, Err}
 use Rattle.std.specs.Prelude.{Contains}
+use Rattle.saber_plan.specs.Checked.{IsChecked}
 use Rattle.saber_query.specs.declared.token.Placed.{Placed}
 use Rattle.saber_query.specs.declared.fault.QueryFault.{QueryFault}
 use Rattle.saber_query.specs.declared.tree.Select.{Select}
@@ -18,6 +19,7 @@ use Rattle.saber_check.specs.Least.{each}
 use Rattle.saber_check.specs.Faults.{faults, column_faults, factor_faults, prod_faults, expr_faults, item_faults, column_name_faults, decl_faults, window_faults, source_faults, second_faults, key_faults, group_faults}
 use Rattle.saber_check.specs.Bounds.{running_product, product_faults, sum_faults, running_sum}
 use Rattle.saber_check.specs.Texts.{HasPlan}
+use Rattle.saber_check.proofs.FrontLaws.{a_plan_is_checked}
 use Rattle.saber_demo.specs.Query.{demo_query, demo_tree}
 
 -- a column by itself
@@ -62,11 +64,14 @@ no_faults : faults (query_of demo_select) ≡ []
 unfolding faults column_faults factor_faults prod_faults expr_faults item_faults column_name_faults decl_faults window_faults source_faults second_faults key_faults group_faults running_product product_faults sum_faults running_sum each
 no_faults = refl
 
-pub has_plan : HasPlan demo_query demo_tree
-has_plan = record {
+pub demo_query_has_plan : HasPlan demo_query demo_tree
+demo_query_has_plan = record {
   query = demo_parsed;
   parsed = parsed;
   means = means;
   faultless = λ i c h. let f = subst (λ (fs : List Fault). Contains fs (record { index = i; cause = c })) no_faults h in omega (arith, f.1);
   same = refl;
 }
+
+pub demo_is_checked : IsChecked demo_tree
+demo_is_checked = a_plan_is_checked demo_query demo_tree demo_query_has_plan

@@ -11,12 +11,12 @@ use Rattle.std.proofs.lemmas.List.Folds.{list_all-append}
 use Rattle.saber_plan.specs.declared.rows.Side.TheVariants.{Left}
 use Rattle.saber_plan.specs.declared.rows.Row.{Row}
 use Rattle.saber_plan.specs.declared.rows.RowCause.TheVariants.{TooManyLines, TooLong, FieldCount, TimeOrder}
-use Rattle.saber_plan.specs.Rows.{Line, lines_of, without_cr, fields_of, is_digits, if_digits, number_of, bad_field, numbers, in_range, wide_field, falls, judge_numbers, judge_fields, judge, Judged, skipped, taken, refused, all_read, before, bad, Read, SideRules, most_held}
-use Rattle.saber_laws.specs.Inputs.{PlainFiles, plain_by, after_plain}
+use Rattle.saber_plan.specs.Rows.{rows, Line, lines_of, without_cr, fields_of, is_digits, if_digits, number_of, bad_field, numbers, in_range, wide_field, falls, judge_numbers, judge_fields, judge, Judged, skipped, taken, refused, all_read, before, bad, Read, SideRules, most_held}
+use Rattle.saber_laws.specs.Inputs.{plain_by, after_plain}
+use Rattle.saber_laws.proofs.FileLaws.{plain_files as files_are_plain}
 use Rattle.saber_plan.specs.Windows.{from}
 use Rattle.saber_demo.specs.Generator.{state, drawn_number}
-use Rattle.saber_demo.specs.Rows.{row_of, row_line, generated_file}
-use Rattle.saber_demo.specs.Laws.{GeneratedIsRead}
+use Rattle.saber_demo.specs.Rows.{row_of, row_line, demo_rows, generated_file}
 use Rattle.saber_demo.proofs.LineLaws.{both_true, all_weaker, fed_line, HasNoComma, field_before, last_field}
 
 -- ---- digits
@@ -230,7 +230,9 @@ drawn_small : (seed j : ℕ) → drawn_number seed j < 2 ^ 15
 unfolding state
 drawn_small seed j = let low : state seed (suc j) < 2 ^ 31 = omega arith in omega arith
 
-pub generated_read : PlainFiles → GeneratedIsRead
+-- it is read as the generated rows, and no line is refused
+pub generated_is_read : (seed n most : ℕ) → n ≤ 2 ^ 20 → n ≤ most
+    → rows (record { side = Left; columns = 3; most = most; slack = 0; room = most_held }) (generated_file seed n) ≡ record { rows = demo_rows seed n; end = all_read }
 unfolding NotLater
-generated_read plain_files seed n most few some =
-    plain_files (side most) (generated_file seed n) refl ∙ file_read (drawn_number seed) (drawn_small seed) most 0 n 0 None refl tt (omega arith) (omega arith)
+generated_is_read seed n most few some =
+    files_are_plain (side most) (generated_file seed n) refl ∙ file_read (drawn_number seed) (drawn_small seed) most 0 n 0 None refl tt (omega arith) (omega arith)

@@ -4,4 +4,3 @@ pub mod Feeds
 pub mod Summary
 pub mod Query
 pub mod TextSinks
-pub mod Laws

@@ -3,10 +3,10 @@ use saber_io::{
     Failed, Files, HostFiles, HostOuts, OpenFault, Outs, Sink, Source, StdSink, WriteFault,
 };
 use std::alloc::{AllocError, Global};
-use std::io;
 use std::io::{BufWriter, Read, Write};
 use std::process::Abort;
 use std::test::Fail;
+use std::{fs, io};
 
 fn assert_told<R: Abort>(rt: &R, told: &[u8], wanted: &[u8]) {
     assert!(rt; told == wanted);
@@ -196,4 +196,34 @@ fn creates_of_the_system(rt: HostRuntime) {
     assert!(rt; write_created(alloc, &mut outs, "/no/such/folder/a") == *b"???");
     assert!(rt; write_created(alloc, &mut outs, "/dev/null") == *b"+++");
     assert!(rt; write_created(alloc, &mut outs, "/dev/full") == *b"!!!");
+}
+
+// Creates a file of this name through the bound, and writes one piece.
+fn write_one<U: Outs>(alloc: Global, outs: &mut U, name: &str, piece: &[u8]) -> u8
+where
+    U::Out: Drop,
+{
+    match outs.create_file(alloc, name) {
+        Ok(mut out) => mark(out.write_all(piece)),
+        Err(_) => b'?',
+    }
+}
+
+// Two files beside each other, in the folder that the tests run in, one with a space in its name:
+// each is read back as what was written last, by reads that don't give all at once.
+#[test]
+fn created_files_are_read_back(rt: HostRuntime) -> Result<(), Fail> {
+    let alloc = rt.alloc();
+    let mut outs = HostOuts::new(rt);
+    let mut files = HostFiles::new(rt);
+    let mut told = Vec::new(alloc);
+    let long = write_created(alloc, &mut outs, "edge tests");
+    let gone = write_created(alloc, &mut outs, "edge");
+    let short = write_one(alloc, &mut outs, "edge", b"4,256\n");
+    tell_files(alloc, &mut told, &mut files, "edge tests\nedge\n")?;
+    let _long = fs::remove_file(&rt, "edge tests");
+    let _short = fs::remove_file(&rt, "edge");
+    assert!(rt; long == *b"+++" && gone == *b"+++" && short == b'+');
+    assert_told(&rt, &told, b"0,2\n|1,2\n|2,2\n|3,2\n|\n4,25|6\n|\n");
+    Ok(())
 }

@@ -11,10 +11,7 @@ use crate::keyed::{keyed_rows, table_of};
 use crate::plans::plan_of_groups;
 use crate::texts::{assert_text, cut};
 use saber_flat::Rows;
-use saber_laws::groups_have_one_window;
-use saber_panes::{
-    Panes, panes_are_of_rows, panes_can_join, panes_join, rows_have_room, windows_have_room,
-};
+use saber_panes::Panes;
 use saber_partial::{Partial, Steps};
 use saber_plan::{Mark, NoMemory, Plan};
 use std::alloc::Global;
@@ -43,8 +40,6 @@ fn panes_of<L: Ledger>(
     requires few { length rows.now ≤ 100 }
     ensures { IfOk result (λ p. p ≡ panes_here (tree_of plan.now) before.now rows.now) }
 {
-    panes_join();
-    rows_have_room();
     let mut panes = Panes::empty(alloc);
     panes.fold(alloc, plan, before, rows, steps)?;
     Ok(panes)
@@ -67,8 +62,6 @@ fn panes_of_two<L: Ledger>(
     requires few_second { length two.now ≤ 100 }
     ensures { IfOk result (λ p. p ≡ panes_here (tree_of plan.now) no_rows (one.now ++ two.now)) }
 {
-    panes_join();
-    panes_can_join();
     let mut panes = panes_of(alloc, plan, &BEGINNING, one, steps)?;
     let later = panes_of(alloc, plan, mark, two, steps)?;
     panes.take_in(later)?;
@@ -95,8 +88,6 @@ fn lines_of_window<L: Ledger>(
     requires parts { blank.parts ≡ L.parts }
     requires some { 0 < blank.parts }
 {
-    panes_are_of_rows();
-    windows_have_room();
     let mut steps = Steps::<L>::new(blank);
     let panes = panes_of_two(alloc, plan, one, mark, two, &mut steps)?;
     let mut part = Partial::empty(alloc);
@@ -110,7 +101,6 @@ fn lines_of_window<L: Ledger>(
 fn check_window(rt: &impl Abort, alloc: Global, plan: &Plan, wanted: &str) -> Result<(), NoMemory>
     requires { IsOfThree plan.now }
 {
-    groups_have_one_window();
     let table = table_of(rt, alloc, "0,1,10 1,1,20")?;
     let (one, mark) = keyed_rows(alloc, &BEGINNING, &table)?;
     let table = table_of(rt, alloc, "2,2,5 2,1,7 9,2,1")?;

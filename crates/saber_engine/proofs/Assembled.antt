@@ -7,7 +7,7 @@ use Rattle.saber_plan.specs.Inputs.{Input}
 use Rattle.saber_plan.specs.Trees.{Tree}
 use Rattle.saber_plan.specs.Answers.{text}
 use Rattle.saber_plan.specs.Tasks.{Kept, upto, kept_behind}
-use Rattle.saber_laws.specs.Cuts.{FirstOfFirst}
+use Rattle.saber_laws.proofs.TaskCutLaws.{upto-upto as first_of_first}
 use Rattle.saber_ring.specs.Shows.{extra}
 use Rattle.saber_assembly.specs.declared.stage.Stage.{Stage}
 use Rattle.saber_plan.specs.declared.stages.StageState.{StageState}
@@ -22,11 +22,11 @@ use Rattle.saber_crew.specs.Runs.{RunsTo}
 use Rattle.saber_engine.specs.Supplying.{first_told}
 
 -- a stage by the input of the first tasks is one by all of it
-after_all : FirstOfFirst → (q : Tree) (n : ℕ) (r : Input) (start : Start) (j : ℕ) (s : StageView) (state : StageState) → s.k ≤ j → (state ≡ SinkFailed → s.k + 1 ≤ j) → After q n (upto n r j) start s state → After q n r start s state
-after_all first q n r start j s Running le next a =
-    let same = first n r j s.k le in (a.0 ∙ ap (λ z. appended_text start.written (text q z)) same, a.1 ∙ ap (kept_behind q) same, a.2)
-after_all first q n r start j s SinkFailed le next a =
-    let same = first n r j s.k le in let more = first n r j (s.k + 1) (next refl) in let c = a.0.is_cut in (
+after_all : (q : Tree) (n : ℕ) (r : Input) (start : Start) (j : ℕ) (s : StageView) (state : StageState) → s.k ≤ j → (state ≡ SinkFailed → s.k + 1 ≤ j) → After q n (upto n r j) start s state → After q n r start s state
+after_all q n r start j s Running le next a =
+    let same = first_of_first n r j s.k le in (a.0 ∙ ap (λ z. appended_text start.written (text q z)) same, a.1 ∙ ap (kept_behind q) same, a.2)
+after_all q n r start j s SinkFailed le next a =
+    let same = first_of_first n r j s.k le in let more = first_of_first n r j (s.k + 1) (next refl) in let c = a.0.is_cut in (
       record {
         out = a.0.out;
         written_is = a.0.written_is;
@@ -40,12 +40,12 @@ after_all first q n r start j s SinkFailed le next a =
       a.1,
       a.2,
     )
-after_all first q n r start j s NoMemory le next a = (a.0 ∙ ap (λ z. appended_text start.written (text q z)) (first n r j s.k le), a.1)
+after_all q n r start j s NoMemory le next a = (a.0 ∙ ap (λ z. appended_text start.written (text q z)) (first_of_first n r j s.k le), a.1)
 
 apart : Running ≡ SinkFailed → ⊥
 apart e = cc
 
-module _ (first : FirstOfFirst) {O S K : Type 0} (plan : O → Tree) (contents : S → Kept) (taken : O → S → Input → Type 0) (wrote : K → Option (List ℕ)) (failed : K → ℕ) (op : O) (n : ℕ) (w : Option (List ℕ)) (f : ℕ) (given : RunData O → ℕ → Type 0) (over : Type 0) (s : Stage S K) (fed : Dispatched)
+module _ {O S K : Type 0} (plan : O → Tree) (contents : S → Kept) (taken : O → S → Input → Type 0) (wrote : K → Option (List ℕ)) (failed : K → ℕ) (op : O) (n : ℕ) (w : Option (List ℕ)) (f : ℕ) (given : RunData O → ℕ → Type 0) (over : Type 0) (s : Stage S K) (fed : Dispatched)
     (r : RunsTo (IsTold plan) first_tasks (IsStageOf plan (stage_view contents wrote failed) taken) given over (first_told op n w f) s fed) where
   pub op_is : r.told.operator ≡ op
   op_is = ap (λ (z : RunData O). z.operator) r.base_is
@@ -68,7 +68,7 @@ module _ (first : FirstOfFirst) {O S K : Type 0} (plan : O → Tree) (contents :
   pub after : After (plan op) n (input_of r.told) (record { written = w; faults = f }) (stage_view contents wrote failed s) s.state
   after =
       let v = stage_view contents wrote failed s in let j : ℕ = r.k + extra r.stopped in
-      transport (λ i. After (plan (op_is i)) (size_is i) (input_of r.told) (start_is i) v s.state) (after_all first (plan r.told.operator) r.told.size (input_of r.told) (start_of r.told) j v s.state (few_in r.stopped) (next_in r.stopped refl) r.stage_is.keeps.after)
+      transport (λ i. After (plan (op_is i)) (size_is i) (input_of r.told) (start_is i) v s.state) (after_all (plan r.told.operator) r.told.size (input_of r.told) (start_of r.told) j v s.state (few_in r.stopped) (next_in r.stopped refl) r.stage_is.keeps.after)
 
   pub few : s.k ≤ r.count
   few = let k = few_in r.stopped in omega (arith, k, r.within, r.few)

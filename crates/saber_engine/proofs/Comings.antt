@@ -10,8 +10,8 @@ use Rattle.saber_plan.specs.Trees.{Tree}
 use Rattle.saber_plan.specs.Tasks.{Kept, upto, task_count, run_input}
 use Rattle.saber_plan.specs.Answers.{text, frame}
 use Rattle.saber_plan.specs.Windows.{Fits}
-use Rattle.saber_laws.specs.Cuts.{FirstOfFirst}
-use Rattle.saber_laws.specs.Pieces.{NoRowsGiveNothing, NoTasksNoRows}
+use Rattle.saber_laws.proofs.TaskCutLaws.{upto-upto as first_of_first, no_cut as no_tasks_no_rows}
+use Rattle.saber_laws.proofs.StepLaws.{none_gives_nothing as no_rows_give_nothing}
 use Rattle.saber_assembly.specs.declared.stage.Stage.{Stage}
 use Rattle.saber_plan.specs.declared.stages.StageState.{StageState}
 use Rattle.saber_plan.specs.declared.stages.StageState.TheVariants as states
@@ -54,7 +54,7 @@ pub record Came (q : Tree) (s : Sizes) (c : Cutter) (end : Option End) (all : In
   pub write_good : end_of state over end ≢ WriteFault → faults ≡ f
   pub writes : f ≤ faults
 
-module _ (first : FirstOfFirst) {O S K : Type 0} (plan : O → Tree) (contents : S → Kept) (taken : O → S → Input → Type 0) (wrote : K → Option (List ℕ)) (failed : K → ℕ)
+module _ {O S K : Type 0} (plan : O → Tree) (contents : S → Kept) (taken : O → S → Input → Type 0) (wrote : K → Option (List ℕ)) (failed : K → ℕ)
     (op : O) (s : Sizes) (w : Option (List ℕ)) (f : ℕ) (IsGiven : RunData O → ℕ → Type 0) (IsOver : Type 0) (c : Cutter) (end : Option End) (stage : Stage S K) (fed : Dispatched)
     (r : RunsTo (IsTold plan) first_tasks (IsStageOf plan (stage_view contents wrote failed) taken) IsGiven IsOver (first_told op s.task w f) stage fed)
     (given : GivenBy s c end (told_input r.told) r.count) where
@@ -71,19 +71,19 @@ module _ (first : FirstOfFirst) {O S K : Type 0} (plan : O → Tree) (contents :
   count = given.count
 
   behind : stage.k ≤ r.count
-  behind = few first plan contents taken wrote failed op s.task w f IsGiven IsOver stage fed r
+  behind = few plan contents taken wrote failed op s.task w f IsGiven IsOver stage fed r
 
   behind_next : stage.state ≡ states.SinkFailed → stage.k + 1 ≤ r.count
-  behind_next = few_next first plan contents taken wrote failed op s.task w f IsGiven IsOver stage fed r
+  behind_next = few_next plan contents taken wrote failed op s.task w f IsGiven IsOver stage fed r
 
   stands : After q s.task all start (stage_view contents wrote failed stage) stage.state
-  stands = after first plan contents taken wrote failed op s.task w f IsGiven IsOver stage fed r
+  stands = after plan contents taken wrote failed op s.task w f IsGiven IsOver stage fed r
 
   stands_so : (state : StageState) → stage.state ≡ state → After q s.task all start (stage_view contents wrote failed stage) state
   stands_so state e = subst (After q s.task all start (stage_view contents wrote failed stage)) e stands
 
   whole_behind : stage.state ≡ states.Running → fed.over ≡ over_by.AllGiven → stage.k ≡ task_count s.task all
-  whole_behind h e = (all_behind first plan contents taken wrote failed op s.task w f IsGiven IsOver stage fed r h e).0 ∙ count
+  whole_behind h e = (all_behind plan contents taken wrote failed op s.task w f IsGiven IsOver stage fed r h e).0 ∙ count
 
   abbrev so_far : List ℕ
   so_far = text q (upto s.task all stage.k)
@@ -94,7 +94,7 @@ module _ (first : FirstOfFirst) {O S K : Type 0} (plan : O → Tree) (contents :
     whole_input = run_input q s.flush rows
 
     known : (j : ℕ) → j ≤ r.count → upto s.task all j ≡ upto s.task whole_input j
-    known j le = ap (λ i. upto s.task i j) t.tasks ∙ first s.task whole_input (task_count s.task all) j (subst (λ k. j ≤ k) count le)
+    known j le = ap (λ i. upto s.task i j) t.tasks ∙ first_of_first s.task whole_input (task_count s.task all) j (subst (λ k. j ≤ k) count le)
 
     most : r.count ≤ task_count s.task whole_input
     most =
@@ -185,14 +185,14 @@ module _ (first : FirstOfFirst) {O S K : Type 0} (plan : O → Tree) (contents :
 
 -- ---- a run that had no memory to begin
 
-pub gives_nothing : NoRowsGiveNothing → NoTasksNoRows → (q : Tree) → Fits (frame q) → (s : Sizes) (rows : Read) → Gives q s.task s.ring s.flush rows NoMemory 0 []
-gives_nothing nothing none q fits s rows = record {
+pub gives_nothing : (q : Tree) → Fits (frame q) → (s : Sizes) (rows : Read) → Gives q s.task s.ring s.flush rows NoMemory 0 []
+gives_nothing q fits s rows = record {
   ends = tt;
   assembles = record {
     few = omega arith;
     all = λ i. absurd (some_not_all i);
     before = λ u i. absurd (some_not_before u i);
-    answers = λ _. sym (ap (text q) (none s.task (run_input q s.flush rows)) ∙ (nothing q fits).text);
+    answers = λ _. sym (ap (text q) (no_tasks_no_rows s.task (run_input q s.flush rows)) ∙ (no_rows_give_nothing q fits).text);
     cut = λ i. absurd (some_not_cut i);
   };
 }

@@ -23,7 +23,6 @@ use Rattle.saber_dispatch.specs.declared.keeper.Keeper.{Keeper}
 use Rattle.saber_dispatch.specs.Sources.{Lefts}
 use Rattle.saber_dispatch.specs.Cutting.{Cuts, CutTo, TakenBack}
 use Rattle.saber_dispatch.specs.Keeping.{CountsRows, KeepsLast}
-use Rattle.saber_dispatch.specs.Supplying.{BlocksAreSupplied}
 use Rattle.saber_many.specs.Queries.{IsAlone}
 use Rattle.saber_many.specs.Sharing.{each_filled, ToldAt, RowsAt, AreTold, AreRows}
 use Rattle.saber_engine.specs.Dealing.{IsLike, CanPass, Passes, DealsEach, GivenOne, GivenEach}
@@ -98,41 +97,41 @@ module _ {O : Type 0} (plan : O → Tree) (s : Sizes) (had left has : Lefts) (be
   pub can_deal : (b : Block) → cut ≡ cuts.Block b → (ks : List Keeper) (ts : List (RunData O)) (d : ℕ) → GivenEach plan s had left before mid old end ks ts d → AllByRecursion (CanPass b) ks
   can_deal b e ks ts d h = each_can b e d ks ts h.1
 
-  one_given : BlocksAreSupplied plan → (b : Block) → cut ≡ cuts.Block b → (d : ℕ) (k l : Keeper) (c : Block) (t : RunData O) → Passes k b c l → Was d k t
+  one_given : (b : Block) → cut ≡ cuts.Block b → (d : ℕ) (k l : Keeper) (c : Block) (t : RunData O) → Passes k b c l → Was d k t
       → RowsAt (IsBlockOf plan) (IsAlone plan) d (with_block t c) c × ToldAt (IsTold plan) (IsAlone plan) (d + 1) (with_block t c) × GivenOne plan s had has before now new end (d + 1) l (with_block t c) × (d < 2 ^ 42)
-  one_given law b e d k l c t p h =
-      let g = block_given plan s had left has before mid now old new k end open_still cut called t d h.0 law b c l e p in
+  one_given b e d k l c t p h =
+      let g = block_given plan s had left has before mid now old new k end open_still cut called t d h.0 b c l e p in
       ((g.0, h.1), (g.1, h.1), (g.2, h.1), g.3)
 
-  each_given : BlocksAreSupplied plan → (b : Block) → cut ≡ cuts.Block b → (d : ℕ) (ks : List Keeper) (cs : List Block) (ls : List Keeper) (ts : List (RunData O)) → DealsEach b ks cs ls → AllZip (Was d) ks ts
+  each_given : (b : Block) → cut ≡ cuts.Block b → (d : ℕ) (ks : List Keeper) (cs : List Block) (ls : List Keeper) (ts : List (RunData O)) → DealsEach b ks cs ls → AllZip (Was d) ks ts
       → RowsEach plan s had has before now new end d ls cs (each_filled with_block ts cs)
-  each_given law b e d [] [] [] [] p h = record { rows = tt; told_are = tt; given = tt }
-  each_given law b e d [] [] [] (t ∷ ts) p h = absurd h
-  each_given law b e d [] [] (l ∷ ls) ts p h = absurd p
-  each_given law b e d [] (c ∷ cs) ls ts p h = absurd p
-  each_given law b e d (k ∷ ks) [] ls ts p h = absurd p
-  each_given law b e d (k ∷ ks) (c ∷ cs) [] ts p h = absurd p
-  each_given law b e d (k ∷ ks) (c ∷ cs) (l ∷ ls) [] p h = absurd h
-  each_given law b e d (k ∷ ks) (c ∷ cs) (l ∷ ls) (t ∷ ts) p h =
-      let g = one_given law b e d k l c t p.0 h.0 in
-      let more = each_given law b e d ks cs ls ts p.1 h.1 in
+  each_given b e d [] [] [] [] p h = record { rows = tt; told_are = tt; given = tt }
+  each_given b e d [] [] [] (t ∷ ts) p h = absurd h
+  each_given b e d [] [] (l ∷ ls) ts p h = absurd p
+  each_given b e d [] (c ∷ cs) ls ts p h = absurd p
+  each_given b e d (k ∷ ks) [] ls ts p h = absurd p
+  each_given b e d (k ∷ ks) (c ∷ cs) [] ts p h = absurd p
+  each_given b e d (k ∷ ks) (c ∷ cs) (l ∷ ls) [] p h = absurd h
+  each_given b e d (k ∷ ks) (c ∷ cs) (l ∷ ls) (t ∷ ts) p h =
+      let g = one_given b e d k l c t p.0 h.0 in
+      let more = each_given b e d ks cs ls ts p.1 h.1 in
       record { rows = (g.0, more.rows); told_are = (g.1, more.told_are); given = (g.2, more.given) }
 
-  few : BlocksAreSupplied plan → (b : Block) → cut ≡ cuts.Block b → (d : ℕ) (ks : List Keeper) (cs : List Block) (ls : List Keeper) (ts : List (RunData O)) → ts ≢ [] → DealsEach b ks cs ls → AllZip (Was d) ks ts → d < 2 ^ 42
-  few law b e d ks cs ls [] some p h = absurd (some refl)
-  few law b e d [] cs ls (t ∷ ts) some p h = absurd h
-  few law b e d (k ∷ ks) [] ls (t ∷ ts) some p h = absurd p
-  few law b e d (k ∷ ks) (c ∷ cs) [] (t ∷ ts) some p h = absurd p
-  few law b e d (k ∷ ks) (c ∷ cs) (l ∷ ls) (t ∷ ts) some p h = (one_given law b e d k l c t p.0 h.0).3
+  few : (b : Block) → cut ≡ cuts.Block b → (d : ℕ) (ks : List Keeper) (cs : List Block) (ls : List Keeper) (ts : List (RunData O)) → ts ≢ [] → DealsEach b ks cs ls → AllZip (Was d) ks ts → d < 2 ^ 42
+  few b e d ks cs ls [] some p h = absurd (some refl)
+  few b e d [] cs ls (t ∷ ts) some p h = absurd h
+  few b e d (k ∷ ks) [] ls (t ∷ ts) some p h = absurd p
+  few b e d (k ∷ ks) (c ∷ cs) [] (t ∷ ts) some p h = absurd p
+  few b e d (k ∷ ks) (c ∷ cs) (l ∷ ls) (t ∷ ts) some p h = (one_given b e d k l c t p.0 h.0).3
 
   -- the next task's block came, and each has its own
-  pub blocks_given : BlocksAreSupplied plan → (b : Block) → cut ≡ cuts.Block b → (ks : List Keeper) (cs : List Block) (ls : List Keeper) → DealsEach b ks cs ls → (ts : List (RunData O)) (d : ℕ) → GivenEach plan s had left before mid old end ks ts d
+  pub blocks_given : (b : Block) → cut ≡ cuts.Block b → (ks : List Keeper) (cs : List Block) (ls : List Keeper) → DealsEach b ks cs ls → (ts : List (RunData O)) (d : ℕ) → GivenEach plan s had left before mid old end ks ts d
       → AreRows (IsBlockOf plan) (IsAlone plan) (each_filled with_block ts cs) d cs × AreTold (IsTold plan) (IsAlone plan) (each_filled with_block ts cs) (d + 1)
       × GivenEach plan s had has before now new end ls (each_filled with_block ts cs) (d + 1) × (d < 2 ^ 42)
-  blocks_given law b e ks cs ls p ts d h =
-      let g = each_given law b e d ks cs ls ts p h.1 in
+  blocks_given b e ks cs ls p ts d h =
+      let g = each_given b e d ks cs ls ts p h.1 in
       let some = filled_some with_block ts cs h.0 in
-      ((some, g.rows), g.told_are, (some, g.given), few law b e d ks cs ls ts h.0 p h.1)
+      ((some, g.rows), g.told_are, (some, g.given), few b e d ks cs ls ts h.0 p h.1)
 
   each_back : (b : Block) (last : Cutter) → cut ≡ cuts.Block b → TakenBack b.number b.ended new last → (d : ℕ) (ks ls : List Keeper) (ts : List (RunData O)) → length ls ≡ length ks → AllZip (Was d) ks ts
       → AllZip (GivenOne plan s had has before now last (Some NoMemory) d) ls ts

@@ -4,14 +4,11 @@ use Rattle.std.proofs.Math.Path.{transport}
 use Rattle.std.specs.Prelude.{suc, Option, None}
 use Rattle.std.specs.List.{AllByRecursion, AllZip}
 use Rattle.saber_plan.specs.declared.sizes.Sizes.{Sizes}
-use Rattle.saber_plan.specs.Answers.{frame}
-use Rattle.saber_plan.specs.Checked.{IsChecked}
 use Rattle.saber_plan.specs.Inputs.{Input}
 use Rattle.saber_plan.specs.Sizes.{SizesFit, limits_of}
 use Rattle.saber_plan.specs.Tasks.{Kept}
 use Rattle.saber_plan.specs.Trees.{Tree}
-use Rattle.saber_plan.specs.Windows.{Fits}
-use Rattle.saber_laws.specs.Pieces.{NoTasksNoRows}
+use Rattle.saber_laws.proofs.CheckedLaws.{checked_fits as checked_fit}
 use Rattle.saber_assembly.specs.declared.stage.Stage.{Stage}
 use Rattle.saber_assembly.specs.declared.work.RunData.{RunData}
 use Rattle.saber_assembly.specs.Stages.{stage_view}
@@ -46,7 +43,7 @@ pub record BeginsEach {O S K : Type 0} (plan : O → Tree) (contents : S → Kep
   pub suits : AllZip Suits ops bs
   pub given : AllZip (GivenOne plan s had had before before c end 0) ks bs
 
-module _ (none : NoTasksNoRows) (checked_fits : (q : Tree) → IsChecked q → Fits (frame q)) {O S K : Type 0} (plan : O → Tree) (contents : S → Kept) (taken : O → S → Input → Type 0) (wrote : K → Option (List ℕ)) (failed : K → ℕ)
+module _ {O S K : Type 0} (plan : O → Tree) (contents : S → Kept) (taken : O → S → Input → Type 0) (wrote : K → Option (List ℕ)) (failed : K → ℕ)
     {A : Type 0} (tree : A → Tree) (sink : A → K) (s : Sizes) (fit : SizesFit s) (columns : ℕ) (had : Lefts) (before : List ℕ) (c : Cutter) (end : Option End) (open_still : end ≡ None) (goes : end_of c ≡ None)
     (suit : (q : Tree) → length q.streams ≡ 1 → readings.Suits (fresh q (limits_of s)) had) where
   module _ (op : O) (a : A) (k : Keeper) (m : Member (Stage S K)) (is : plan op ≡ tree a) (may : MayShare columns (tree a)) (cuts : CutsNothing (tree a) s c) (keeps : KeepsNone (tree a) k) (stands : Stands plan contents taken wrote failed op (sink a) m) where
@@ -67,7 +64,7 @@ module _ (none : NoTasksNoRows) (checked_fits : (q : Tree) → IsChecked q → F
 
     pub begins_one : ToldAt (IsTold plan) (IsAlone plan) 0 told × MemberAt first_tasks (IsStageOf plan (stage_view contents wrote failed) taken) 0 told m × Suits op told × GivenOne plan s had had before before c end 0 k told
     begins_one =
-        let b = begins plan contents taken wrote failed op s.task m.stage none (checked_fits (plan op) mine.checked) fit.task.0 (sink a) stands.sink_is stands.none stands.runs stands.keeps (HasGiven plan s had had before before c k end) given in
+        let b = begins plan contents taken wrote failed op s.task m.stage (checked_fit (plan op) mine.checked) fit.task.0 (sink a) stands.sink_is stands.none stands.runs stands.keeps (HasGiven plan s had had before before c k end) given in
         ((b.0, alone), subst (λ g. GoesBy first_tasks (IsStageOf plan (stage_view contents wrote failed) taken) g told 0 m.stage) (sym stands.goes) b.1, b.2, (b.3, alone))
 
   pub each_begins : (ops : List O) (qs : List A) (ks : List Keeper) (ms : List (Member (Stage S K))) → AllZip (λ op a. plan op ≡ tree a) ops qs → AllByRecursion (λ a. MayShare columns (tree a)) qs

@@ -1,18 +1,15 @@
 -- How each of several queries ended.
 use Rattle.std.proofs.Common.{◌≡◌, ◌≢◌, ℕ, ◌+◌, Bool, true, false, ◌&&◌, List, [], ◌∷◌, length, refl, sym, ◌∙◌, ap, subst, arith}
 use Rattle.std.proofs.Math.Path.{transport}
-use Rattle.std.specs.Prelude.{suc, Option, Some, None, IsSome}
+use Rattle.std.specs.Prelude.{suc, Option, Some, None, IsSome, Vec}
 use Rattle.std.specs.List.{AllByRecursion, AllZip}
+use Rattle.std.specs.declared.alloc.Global.{Global}
 use Rattle.saber_plan.specs.declared.sizes.Sizes.{Sizes}
-use Rattle.saber_plan.specs.Answers.{frame}
-use Rattle.saber_plan.specs.Checked.{IsChecked}
 use Rattle.saber_plan.specs.Inputs.{Input}
 use Rattle.saber_plan.specs.Sizes.{limits_of}
 use Rattle.saber_plan.specs.Tasks.{Kept}
 use Rattle.saber_plan.specs.Trees.{Tree}
-use Rattle.saber_plan.specs.Windows.{Fits}
-use Rattle.saber_laws.specs.Cuts.{FirstOfFirst}
-use Rattle.saber_laws.specs.Pieces.{NoRowsGiveNothing, NoTasksNoRows}
+use Rattle.saber_laws.proofs.CheckedLaws.{checked_fits as checked_fit}
 use Rattle.saber_fragment.specs.declared.blocks.Block.{Block}
 use Rattle.saber_assembly.specs.declared.stage.Stage.{Stage}
 use Rattle.saber_plan.specs.declared.stages.StageState.{StageState}
@@ -32,16 +29,19 @@ use Rattle.saber_dispatch.specs.declared.inputs.Inputs.{Inputs}
 use Rattle.saber_dispatch.specs.declared.keeper.Keeper.{Keeper}
 use Rattle.saber_dispatch.specs.Cutting.{end_counts}
 use Rattle.saber_dispatch.specs.Ending.{without_end, with_end, end_given, is_end_due, GivesEnd, EndsEach}
-use Rattle.saber_dispatch.specs.Leaving.{GaveAll, FaultsLeaveWholeTasks}
+use Rattle.saber_dispatch.specs.Leaving.{GaveAll}
 use Rattle.saber_dispatch.specs.Sources.{Lefts, each_input}
-use Rattle.saber_dispatch.specs.Supplying.{IsSupplied, BlocksAreSupplied}
-use Rattle.saber_dispatch.specs.Telling as telling
+use Rattle.saber_dispatch.specs.Supplying.{IsSupplied}
 use Rattle.saber_dispatch.proofs.EndsToCome.{due_all}
 use Rattle.saber_dispatch.proofs.TaskBlocks.{told_is}
+use Rattle.saber_dispatch.proofs.Supplies.{law as blocks_are_supplied}
 use Rattle.saber_many.specs.declared.member.Member.{Member}
 use Rattle.saber_many.specs.Alone.{CanDo}
 use Rattle.saber_many.specs.Laws.{AllThree, IsOnly}
-use Rattle.saber_many.specs.Queries.{IsAlone}
+use Rattle.saber_many.specs.Labors.{all_upto}
+use Rattle.saber_many.specs.Queries.{IsAlone, first_fronts}
+use Rattle.saber_many.specs.Sharing.{AreTold, AreStages}
+use Rattle.saber_many.proofs.EachRuns.{each as each_runs}
 use Rattle.saber_engine.specs.declared.ends.Ran.{Ran}
 use Rattle.saber_plan.specs.declared.ends.RunEnd.TheVariants.{NoMemory}
 use Rattle.saber_engine.specs.Dealing.{GivenOne, GivenEach}
@@ -101,7 +101,7 @@ both_off a b off h = not_both (sym off ∙ (both_on a b h).1)
 same_end : (a b : End) → ◌≡◌ {A = Option End} (Some a) (Some b) → a ≡ b
 same_end a b e = cc
 
-module _ (first : FirstOfFirst) (are : telling.BlocksAreTasks) (leave : FaultsLeaveWholeTasks) {O S K : Type 0} (plan : O → Tree) (law : BlocksAreSupplied plan) (contents : S → Kept) (taken : O → S → Input → Type 0) (wrote : K → Option (List ℕ)) (failed : K → ℕ)
+module _ {O S K : Type 0} (plan : O → Tree) (contents : S → Kept) (taken : O → S → Input → Type 0) (wrote : K → Option (List ℕ)) (failed : K → ℕ)
     (s : Sizes) (had has : Lefts) (before now : List ℕ) (c : Cutter) (end : Option End) (fed : Dispatched) where
   abbrev is_stage : RunData O → ℕ → Bool → Stage S K → Type 0
   is_stage = IsStageOf plan (stage_view contents wrote failed) taken
@@ -125,7 +125,7 @@ module _ (first : FirstOfFirst) (are : telling.BlocksAreTasks) (leave : FaultsLe
       r = o.run
 
       op_same : r.told.operator ≡ op
-      op_same = op_is first plan contents taken wrote failed op s.task w f (HasGiven plan (without_end s) had has before now c k end) (IsSome end) old fed r
+      op_same = op_is plan contents taken wrote failed op s.task w f (HasGiven plan (without_end s) had has before now c k end) (IsSome end) old fed r
 
       same_counts : end_counts (plan r.told.operator) s ≡ end_counts (plan op) s
       same_counts = ap (λ x. end_counts (plan x) s) op_same
@@ -133,13 +133,13 @@ module _ (first : FirstOfFirst) (are : telling.BlocksAreTasks) (leave : FaultsLe
       -- nobody was given the end
       still_by : (due : Bool) → (is_end_due c && end_counts (plan r.told.operator) s) ≡ due → (due ≡ true → old.state ≡ states.Running → fed.over ≢ over_by.AllGiven) → DoneSo old
       still_by false off not_all =
-          done first are leave plan contents taken wrote failed op s w f had has before now (with_end (plan r.told.operator) s c) k end old fed
+          done plan contents taken wrote failed op s w f had has before now (with_end (plan r.told.operator) s c) k end old fed
           (given_so (IsTold plan) first_tasks is_stage (HasGiven plan (without_end s) had has before now c k end) (HasGiven plan s had has before now (with_end (plan r.told.operator) s c) k end) (IsSome end) (IsSome end) (first_told op s.task w f) old fed r
           (other_given plan s had has before now c k end r.told r.count r.is_given off) (λ x. x))
       still_by true is not_all =
           let lacks : Cutter = record c { flush = end_counts (plan r.told.operator) s; ended = Some cuts.NoMemory } in
           let all = (due_all c.number c.ended (both_on (is_end_due c) (end_counts (plan r.told.operator) s) is).0).0 in
-          let d = done first are leave plan contents taken wrote failed op s w f had has before now lacks k (Some cuts.NoMemory) old fed
+          let d = done plan contents taken wrote failed op s w f had has before now lacks k (Some cuts.NoMemory) old fed
           (given_so (IsTold plan) first_tasks is_stage (HasGiven plan (without_end s) had has before now c k end) (HasGiven plan s had has before now lacks k (Some cuts.NoMemory)) (IsSome end) (IsSome (Some cuts.NoMemory)) (first_told op s.task w f) old fed r
           (stopped_given plan s had has before now c k end r.told r.count r.is_given all) (λ x. refl)) in
           subst (λ e. Done (plan op) s had has before now w f e old.k (wrote old.sink) (failed old.sink)) (end_same old.state fed.over (Some cuts.NoMemory) end (not_all refl)) d
@@ -156,7 +156,7 @@ module _ (first : FirstOfFirst) (are : telling.BlocksAreTasks) (leave : FaultsLe
         gives = each (plan r.told.operator) s had has (told_input r.told) o.alone (same_counts ∙ counts) r.is_given.cuts
 
         supplied : IsSupplied plan r.told b
-        supplied = law r.told s b r.is_given.size gives.next gives.placed
+        supplied = blocks_are_supplied plan r.told s b r.is_given.size gives.next gives.placed
 
         number : b.number ≡ r.count
         number = gives.next.number ∙ sym r.is_given.cuts.count ∙ sym r.is_given.count
@@ -194,7 +194,7 @@ module _ (first : FirstOfFirst) (are : telling.BlocksAreTasks) (leave : FaultsLe
         taken_so new t =
             let does = t.takes counts runs in
             let on = does.1 (with_block r.told b) r.count suits_more (next_block, o.alone) behind in
-            let d = done first are leave plan contents taken wrote failed op s w f had has before now (end_given c) k (Some cuts.AllRead) new (record fed { tasks = fed.tasks + 1 })
+            let d = done plan contents taken wrote failed op s w f had has before now (end_given c) k (Some cuts.AllRead) new (record fed { tasks = fed.tasks + 1 })
             (final_runs plan contents taken wrote failed given (IsSome end) (first_told op s.task w f) old fed r all runs b supplied number new (HasGiven plan s had has before now (end_given c) k (Some cuts.AllRead))
             (final_given plan s had has before now c k end r.told r.count r.is_given (due_all c.number c.ended due).0 b gives is_end) (IsSome (Some cuts.AllRead)) refl does.0 on) in
             subst (λ e. Done (plan op) s had has before now w f (end_of new.state fed.over e) new.k (wrote new.sink) (failed new.sink)) (sym is_end) d
@@ -240,13 +240,15 @@ module _ (first : FirstOfFirst) (are : telling.BlocksAreTasks) (leave : FaultsLe
   each_run count (t ∷ ts) (b ∷ bs) (m ∷ ms) [] r g = absurd g
   each_run count (t ∷ ts) (b ∷ bs) (m ∷ ms) (k ∷ ks) r g = (one_run count t b m k r.0 g.0, each_run count ts bs ms ks r.1 g.1)
 
-  -- the same, by the data and sizes that a run of all names
-  pub all_run : (ops : List O) (olds news : List (Member (Stage S K))) (ks : List Keeper) (n : ℕ) (z : Sizes) (l : Lefts) (b : List ℕ) → n ≡ s.task → z ≡ without_end s → l ≡ had → b ≡ before → (told : List (RunData O)) (count : ℕ) → GivenEach plan z l has b now c end ks told count
-      → AllThree (λ t base m. RunsTo (IsTold plan) first_tasks is_stage (IsOnly t count) (IsSome end) base m.stage fed) told (bases n wrote failed ops olds) news → AllZip (λ b m. RunsOne b m.stage) (bases s.task wrote failed ops olds) news
-  all_run ops olds news ks n z l b n_is z_is l_is b_is told count given runs =
+  -- a run of all is one of each, by the data and sizes that it names
+  pub all_run : (ops : List O) (olds : List (Member (Stage S K))) (news : Vec (Member (Stage S K)) Global) (ks : List Keeper) (n : ℕ) (z : Sizes) (l : Lefts) (b : List ℕ) → n ≡ s.task → z ≡ without_end s → l ≡ had → b ≡ before
+      → RunsTo (AreTold (IsTold plan) (IsAlone plan)) (all_upto first_tasks) (λ told k stopped (v : Vec (Member (Stage S K)) Global). AreStages first_tasks is_stage told k stopped v.items) (GivenEach plan z l has b now c end ks) (IsSome end) (bases n wrote failed ops olds) news fed
+      → AllZip (λ b m. RunsOne b m.stage) (bases s.task wrote failed ops olds) news.items
+  all_run ops olds news ks n z l b n_is z_is l_is b_is all =
+      let (told, count, given, runs) = each_runs (IsTold plan) (IsAlone plan) first_tasks is_stage first_fronts (λ (e : Option End) (k : List Keeper). GivenEach plan z l has b now c e k) (λ (e : Option End). IsSome e) (λ (v : Vec (Member (Stage S K)) Global). v.items) end ks (bases n wrote failed ops olds) news fed all in
       let g : GivenEach plan (without_end s) had has before now c end ks told count = transport (λ x. GivenEach plan (z_is x) (l_is x) has (b_is x) now c end ks told count) given in
-      let r : AllThree (RunsOnly count) told (bases s.task wrote failed ops olds) news = subst (λ m. AllThree (RunsOnly count) told (bases m wrote failed ops olds) news) n_is runs in
-      each_run count told (bases s.task wrote failed ops olds) news ks r g.1
+      let r : AllThree (RunsOnly count) told (bases s.task wrote failed ops olds) news.items = subst (λ m. AllThree (RunsOnly count) told (bases m wrote failed ops olds) news.items) n_is runs in
+      each_run count told (bases s.task wrote failed ops olds) news.items ks r g.1
 
   -- the end may be taken by each
   pub each_can : {A : Type 0} (R : O → A → Member (Stage S K) → Type 0) (last : Option Block) → ComesLast c fed.over last → (ops : List O) (qs : List A) (olds ms : List (Member (Stage S K))) → AllThree R ops qs olds → AllZip (λ b m. RunsOne b m.stage) (bases s.task wrote failed ops olds) ms
@@ -273,7 +275,7 @@ module _ (first : FirstOfFirst) (are : telling.BlocksAreTasks) (leave : FaultsLe
 
 -- ---- all of them
 
-module _ (first : FirstOfFirst) (are : telling.BlocksAreTasks) (leave : FaultsLeaveWholeTasks) {O S K X : Type 0} (plan : O → Tree) (law : BlocksAreSupplied plan) (contents : S → Kept) (taken : O → S → Input → Type 0) (wrote : K → Option (List ℕ)) (failed : K → ℕ) (left : X → Option (List ℕ)) (faults : X → ℕ)
+module _ {O S K X : Type 0} (plan : O → Tree) (contents : S → Kept) (taken : O → S → Input → Type 0) (wrote : K → Option (List ℕ)) (failed : K → ℕ) (left : X → Option (List ℕ)) (faults : X → ℕ)
     {A : Type 0} (tree : A → Tree) (sink : A → K) (s : Sizes) (columns : ℕ) (i j : Inputs X) (one : length (each_input left i) ≡ 1) (c : Cutter) (end : Option End) (fed : Dispatched) (last : Option Block) (comes : ComesLast c fed.over last) where
   abbrev had : Lefts
   had = each_input left i
@@ -288,12 +290,12 @@ module _ (first : FirstOfFirst) (are : telling.BlocksAreTasks) (leave : FaultsLe
   now = each_input faults j
 
   abbrev RunsAs : RunData O → Member (Stage S K) → Type 0
-  RunsAs base m = RunsOne first are leave plan law contents taken wrote failed s had has before now c end fed base m.stage
+  RunsAs base m = RunsOne plan contents taken wrote failed s had has before now c end fed base m.stage
 
   one_ran : (op : O) (a : A) (old mid new : Member (Stage S K)) (ran : Ran K) → plan op ≡ tree a → MayShare columns (tree a) → Stands plan contents taken wrote failed op (sink a) old → RunsAs (base_of s.task wrote failed op old) mid
       → Takes plan contents taken wrote failed (end_counts (plan op) s) op last mid.stage new.stage → EndsAs fed.over end new ran → RunsPlan left faults wrote failed (tree a) s i j (sink a) ran
   one_ran op a old mid new ran is may stands o takes ends =
-      let over = one_done first are leave plan law contents taken wrote failed s had has before now c end fed op (wrote old.stage.sink) (failed old.stage.sink) mid.stage o last comes new.stage takes in
+      let over = one_done plan contents taken wrote failed s had has before now c end fed op (wrote old.stage.sink) (failed old.stage.sink) mid.stage o last comes new.stage takes in
       let d : Done (tree a) s had has before now (wrote (sink a)) (failed (sink a)) ran.end ran.tasks (wrote ran.sink) (failed ran.sink) =
       transport (λ x. Done (is x) s had has before now (wrote (stands.sink_is x)) (failed (stands.sink_is x)) (sym ends.end_is x) (sym ends.tasks x) (wrote (sym ends.sink_is x)) (failed (sym ends.sink_is x))) over in
       plan_ran left faults wrote failed (tree a) s i j (sink a) ran (one ∙ sym may.one) d (took _ left i j _ _ o.run.is_given.cuts.took.moves) ends.may
@@ -324,14 +326,14 @@ module _ (first : FirstOfFirst) (are : telling.BlocksAreTasks) (leave : FaultsLe
 
 -- ---- where memory lacked to begin
 
-module _ (nothing : NoRowsGiveNothing) (none : NoTasksNoRows) (checked_fits : (q : Tree) → IsChecked q → Fits (frame q)) {O S K X : Type 0} (plan : O → Tree) (contents : S → Kept) (taken : O → S → Input → Type 0) (wrote : K → Option (List ℕ)) (failed : K → ℕ) (left : X → Option (List ℕ)) (faults : X → ℕ)
+module _ {O S K X : Type 0} (plan : O → Tree) (contents : S → Kept) (taken : O → S → Input → Type 0) (wrote : K → Option (List ℕ)) (failed : K → ℕ) (left : X → Option (List ℕ)) (faults : X → ℕ)
     {A : Type 0} (tree : A → Tree) (sink : A → K) (s : Sizes) (columns : ℕ) (i : Inputs X) (one : length (each_input left i) ≡ 1) where
   one_refused : (op : O) (a : A) (m : Member (Stage S K)) (ran : Ran K) → MayShare columns (tree a) → Stands plan contents taken wrote failed op (sink a) m → EndsAs over_by.NoMemory None m ran → RunsPlan left faults wrote failed (tree a) s i i (sink a) ran
   one_refused op a m ran may stands ends =
       let end_is : ran.end ≡ NoMemory = ends.end_is ∙ ap (λ z. end_of z over_by.NoMemory None) stands.runs in
       let tasks : ran.tasks ≡ 0 = ends.tasks ∙ stands.none in
       let sink_is : ran.sink ≡ sink a = ends.sink_is ∙ stands.sink_is in
-      let n = done_nothing nothing none (tree a) (checked_fits (tree a) may.checked) s (each_input left i) (each_input faults i) (wrote (sink a)) (failed (sink a)) in
+      let n = done_nothing (tree a) (checked_fit (tree a) may.checked) s (each_input left i) (each_input faults i) (wrote (sink a)) (failed (sink a)) in
       let d : Done (tree a) s (each_input left i) (each_input left i) (each_input faults i) (each_input faults i) (wrote (sink a)) (failed (sink a)) ran.end ran.tasks (wrote ran.sink) (failed ran.sink) =
       transport (λ x. Done (tree a) s (each_input left i) (each_input left i) (each_input faults i) (each_input faults i) (wrote (sink a)) (failed (sink a)) (sym end_is x) (sym tasks x) (wrote (sym sink_is x)) (failed (sym sink_is x))) n in
       plan_ran left faults wrote failed (tree a) s i i (sink a) ran (one ∙ sym may.one) d (took_none left i) ends.may

@@ -13,8 +13,6 @@ use Rattle.saber_plan.specs.Trees.{Tree}
 use Rattle.saber_plan.specs.Answers.{frame}
 use Rattle.saber_plan.specs.Windows.{Fits}
 use Rattle.saber_plan.specs.Tasks.{Kept}
-use Rattle.saber_laws.specs.Cuts.{FirstOfFirst}
-use Rattle.saber_laws.specs.Pieces.{NoRowsGiveNothing, NoTasksNoRows}
 use Rattle.saber_assembly.specs.declared.stage.Stage.{Stage}
 use Rattle.saber_plan.specs.declared.stages.StageState.{StageState}
 use Rattle.saber_plan.specs.declared.stages.StageState.TheVariants as states
@@ -32,7 +30,8 @@ use Rattle.saber_dispatch.specs.Keeping.{CountsRows}
 use Rattle.saber_dispatch.specs.Cutting.{is_due, told_end}
 use Rattle.saber_dispatch.specs.Feeding.{CutsFed, CutsNothingFed, fed_end_of}
 use Rattle.saber_dispatch.specs.FedReadings.{EndTold}
-use Rattle.saber_dispatch.specs.FeedLaws.{GoesOn, FedBlocksAreTasks, CutsLeaveWholeTasks}
+use Rattle.saber_dispatch.specs.FeedLaws.{GoesOn}
+use Rattle.saber_dispatch.proofs.FedTasks.{tasks as fed_blocks_are_tasks, leave as cuts_leave_whole_tasks}
 use Rattle.saber_plan.specs.declared.ends.RunEnd.{RunEnd}
 use Rattle.saber_plan.specs.declared.ends.RunEnd.TheVariants.{AllRead, ReadFault, WriteFault, NoMemory}
 use Rattle.saber_plan.specs.Files.{input_of}
@@ -113,7 +112,7 @@ pub record FedDone (q : Tree) (s : Sizes) (v : FeedView) (before : ℕ) (w : Opt
   pub reads : before ≤ v.faults
   pub writes : f ≤ faults
 
-module _ (first : FirstOfFirst) (are : FedBlocksAreTasks) (leave : CutsLeaveWholeTasks) {O S K : Type 0} (plan : O → Tree) (contents : S → Kept) (taken : O → S → Input → Type 0) (wrote : K → Option (List ℕ)) (failed : K → ℕ)
+module _ {O S K : Type 0} (plan : O → Tree) (contents : S → Kept) (taken : O → S → Input → Type 0) (wrote : K → Option (List ℕ)) (failed : K → ℕ)
     (op : O) (s : Sizes) (some : 1 ≤ s.task) (w : Option (List ℕ)) (f : ℕ) (v : FeedView) (before : ℕ) (c : FedCutter) (k : Keeper) (end : Option End) (stage : Stage S K) (fed : Dispatched)
     (r : RunsTo (IsTold plan) first_tasks (IsStageOf plan (stage_view contents wrote failed) taken) (HasFed plan s before v c k end) (IsSome end) (first_told op s.task w f) stage fed) where
   abbrev q : Tree
@@ -123,18 +122,18 @@ module _ (first : FirstOfFirst) (are : FedBlocksAreTasks) (leave : CutsLeaveWhol
   all_input = told_input r.told
 
   cuts : CutsFed q s v.taken v.waiting v.mark c all_input
-  cuts = subst (λ o. CutsFed (plan o) s v.taken v.waiting v.mark c all_input) (op_is first plan contents taken wrote failed op s.task w f (HasFed plan s before v c k end) (IsSome end) stage fed r) r.is_given.cuts
+  cuts = subst (λ o. CutsFed (plan o) s v.taken v.waiting v.mark c all_input) (op_is plan contents taken wrote failed op s.task w f (HasFed plan s before v c k end) (IsSome end) stage fed r) r.is_given.cuts
 
   given_by : GivenBy s c.cutter end all_input r.count
   given_by = record { size = some; count = r.is_given.count; ended = r.is_given.ended }
 
   came : Came q s c.cutter end all_input stage.state fed.over stage.k w (wrote stage.sink) f (failed stage.sink)
-  came = came_to first plan contents taken wrote failed op s w f (HasFed plan s before v c k end) (IsSome end) c.cutter end stage fed r given_by
+  came = came_to plan contents taken wrote failed op s w f (HasFed plan s before v c k end) (IsSome end) c.cutter end stage fed r given_by
 
   leaves : (side : Side) → end_of stage.state fed.over end ≡ ReadFault side → TakesWhole q s.task (limits_of s) stage.k v.taken
   leaves side e =
       let b = by_fault stage.state fed.over end side e in
-      let x = leave q s v.taken v.waiting v.mark c all_input side cuts (r.is_given.ended (cut.ReadFault side) b.ended) in
+      let x = cuts_leave_whole_tasks q s v.taken v.waiting v.mark c all_input side cuts (r.is_given.ended (cut.ReadFault side) b.ended) in
       record { tasks_are = let k = came.all_behind side e in omega (arith, x.count, k) }
 
   -- what the feed told where the blocks ended so
@@ -146,7 +145,7 @@ module _ (first : FirstOfFirst) (are : FedBlocksAreTasks) (leave : CutsLeaveWhol
   fed_done = record {
     out = came.out;
     written_is = came.written_is;
-    gives = λ bytes on. came.gives (input_of q (limits_of s) (bytes ∷ [])) (are q s v.taken v.waiting bytes v.mark c all_input cuts on);
+    gives = λ bytes on. came.gives (input_of q (limits_of s) (bytes ∷ [])) (fed_blocks_are_tasks q s v.taken v.waiting bytes v.mark c all_input cuts on);
     whole = leaves;
     all = λ e. told cut.AllRead (by_all stage.state fed.over end e);
     cut = λ side e. (told (cut.ReadFault side) (by_fault stage.state fed.over end side e).ended).1;
@@ -163,11 +162,11 @@ module _ (first : FirstOfFirst) (are : FedBlocksAreTasks) (leave : CutsLeaveWhol
 no_fault : (side : Side) → NoMemory ≡ ReadFault side → ⊥
 no_fault side e = cc
 
-pub fed_nothing : NoRowsGiveNothing → NoTasksNoRows → (q : Tree) → Fits (frame q) → (s : Sizes) (v : FeedView) (w : Option (List ℕ)) (f : ℕ) → FedDone q s v v.faults w f NoMemory 0 w f
-fed_nothing nothing none q fits s v w f = record {
+pub fed_nothing : (q : Tree) → Fits (frame q) → (s : Sizes) (v : FeedView) (w : Option (List ℕ)) (f : ℕ) → FedDone q s v v.faults w f NoMemory 0 w f
+fed_nothing q fits s v w f = record {
   out = [];
   written_is = appended-none w;
-  gives = λ bytes on. gives_nothing nothing none q fits s (input_of q (limits_of s) (bytes ∷ []));
+  gives = λ bytes on. gives_nothing q fits s (input_of q (limits_of s) (bytes ∷ []));
   whole = λ side e. absurd (no_fault side e);
   all = λ e. absurd (lack_not_all e);
   cut = λ side e. absurd (no_fault side e);

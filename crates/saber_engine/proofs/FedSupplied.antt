@@ -18,8 +18,8 @@ use Rattle.saber_dispatch.specs.declared.fed_cutter.Step.TheVariants as steps
 use Rattle.saber_dispatch.specs.declared.keeper.Keeper.{Keeper}
 use Rattle.saber_dispatch.specs.Cutting.{IsNextBlock}
 use Rattle.saber_dispatch.specs.Feeding.{CutsFed, StepTo, StepsOn, TakenBackFed, fed_end_of}
-use Rattle.saber_dispatch.specs.FeedLaws.{RefillsKeep}
-use Rattle.saber_dispatch.specs.Supplying.{BlocksAreSupplied}
+use Rattle.saber_dispatch.proofs.FedTasks.{refills as refills_keep}
+use Rattle.saber_dispatch.proofs.Supplies.{law as blocks_are_supplied}
 use Rattle.saber_crew.specs.Supplies.{GivesRows}
 use Rattle.saber_engine.specs.FedSupplying.{FeedView, IsCounted, HasFed}
 use Rattle.saber_engine.proofs.Counts.{few_blocks, next_count}
@@ -77,12 +77,12 @@ module _ {O : Type 0} (plan : O → Tree) (s : Sizes) (before : ℕ) (v w : Feed
       }
 
   -- the next task's block came, and was passed on
-  pub block_given : BlocksAreSupplied plan → (b c : Block) (l : Keeper) → step ≡ steps.Block b → Passes k b c l → GivesRows (IsTold plan) with_block (IsBlockOf plan) (HasFed plan s before w new l end) told d c
-  block_given law b c l e p =
+  pub block_given : (b c : Block) (l : Keeper) → step ≡ steps.Block b → Passes k b c l → GivesRows (IsTold plan) with_block (IsBlockOf plan) (HasFed plan s before w new l end) told d c
+  block_given b c l e p =
       let to = steps_to (steps.Block b) e in
       let next : IsNextBlock q s (input_of told) c = next_passed q s (input_of told) k b c l p (h.kept open_still) (h.placed open_still) to.0 in
       let number : c.number ≡ d = next.number ∙ sym h.count in
-      let is = law told s c h.size next (is_placed q s (input_of told) k b c l p (h.kept open_still) (h.placed open_still) to.0) in (
+      let is = blocks_are_supplied plan told s c h.size next (is_placed q s (input_of told) k b c l p (h.kept open_still) (h.placed open_still) to.0) in (
         subst (λ t. IsBlockOf plan (with_block told c) t c) number is.block,
         subst (λ t. IsTold plan (with_block told c) (t + 1)) number is.told_is,
         record {
@@ -158,10 +158,10 @@ module _ {O : Type 0} (plan : O → Tree) (s : Sizes) (before : ℕ) (v w : Feed
       by_case side f (Some x) k = absurd (h.sound open_still side (k ∙ ap (λ y. Some y) (sym (same_end e x (sym is ∙ called.again x k)) ∙ f)))
 
 -- a feed that was refilled has given what it gave before
-pub refilled : RefillsKeep → {O : Type 0} (plan : O → Tree) (s : Sizes) (before : ℕ) (v w : FeedView) (c : FedCutter) (k : Keeper) (end : Option End) (more : Bool) → Refills v.taken w.taken v.waiting w.waiting v.mark w.mark more → w.faults ≡ v.faults
+pub refilled : {O : Type 0} (plan : O → Tree) (s : Sizes) (before : ℕ) (v w : FeedView) (c : FedCutter) (k : Keeper) (end : Option End) (more : Bool) → Refills v.taken w.taken v.waiting w.waiting v.mark w.mark more → w.faults ≡ v.faults
     → (told : RunData O) (d : ℕ) → HasFed plan s before v c k end told d → HasFed plan s before w c k end told d
-refilled law plan s before v w c k end more fills same told d h = record {
-  cuts = law (plan told.operator) s v.taken w.taken v.waiting w.waiting v.mark w.mark c (input_of told) more h.cuts fills;
+refilled plan s before v w c k end more fills same told d h = record {
+  cuts = refills_keep (plan told.operator) s v.taken w.taken v.waiting w.waiting v.mark w.mark c (input_of told) more h.cuts fills;
   size = h.size;
   count = h.count;
   kept = h.kept;

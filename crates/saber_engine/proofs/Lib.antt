@@ -14,6 +14,7 @@ mod Comings
 mod Results
 mod Starting
 mod FedSupplied
+mod FedDry
 mod FedResults
 mod Shapes
 mod Stops

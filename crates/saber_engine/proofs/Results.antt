@@ -13,8 +13,6 @@ use Rattle.saber_plan.specs.Trees.{Tree}
 use Rattle.saber_plan.specs.Answers.{frame}
 use Rattle.saber_plan.specs.Windows.{Fits}
 use Rattle.saber_plan.specs.Tasks.{Kept}
-use Rattle.saber_laws.specs.Cuts.{FirstOfFirst}
-use Rattle.saber_laws.specs.Pieces.{NoRowsGiveNothing, NoTasksNoRows}
 use Rattle.saber_assembly.specs.declared.stage.Stage.{Stage}
 use Rattle.saber_assembly.specs.Stages.{stage_view}
 use Rattle.saber_assembly.specs.Works.{IsTold, input_of as told_input, first_tasks, IsStageOf}
@@ -30,7 +28,9 @@ use Rattle.saber_dispatch.specs.Sources.{Lefts, RoseAt, NoneFell, each_input}
 use Rattle.saber_dispatch.specs.Readings.{Reading, one, two, Suits, ReadMoves}
 use Rattle.saber_dispatch.specs.Cutting.{Cuts, fresh, fresh_on}
 use Rattle.saber_dispatch.specs.Telling as telling
-use Rattle.saber_dispatch.specs.Leaving.{GaveAll, FaultsLeaveWholeTasks}
+use Rattle.saber_dispatch.specs.Leaving.{GaveAll}
+use Rattle.saber_dispatch.proofs.TaskBlocks.{law as blocks_are_tasks}
+use Rattle.saber_dispatch.proofs.Leavings.{law as faults_leave_whole_tasks}
 use Rattle.saber_plan.specs.declared.ends.RunEnd.{RunEnd}
 use Rattle.saber_plan.specs.declared.ends.RunEnd.TheVariants.{ReadFault, WriteFault, NoMemory}
 use Rattle.saber_engine.specs.Sources.{told_by}
@@ -59,7 +59,7 @@ pub record Done (q : Tree) (s : Sizes) (had has : Lefts) (before now : List ℕ)
   pub reads : NoneFell before now
   pub writes : f ≤ faults
 
-module _ (first : FirstOfFirst) (are : telling.BlocksAreTasks) (leave : FaultsLeaveWholeTasks) {O S K : Type 0} (plan : O → Tree) (contents : S → Kept) (taken : O → S → Input → Type 0) (wrote : K → Option (List ℕ)) (failed : K → ℕ)
+module _ {O S K : Type 0} (plan : O → Tree) (contents : S → Kept) (taken : O → S → Input → Type 0) (wrote : K → Option (List ℕ)) (failed : K → ℕ)
     (op : O) (s : Sizes) (w : Option (List ℕ)) (f : ℕ) (had has : Lefts) (before now : List ℕ) (c : Cutter) (k : Keeper) (end : Option End) (stage : Stage S K) (fed : Dispatched)
     (r : RunsTo (IsTold plan) first_tasks (IsStageOf plan (stage_view contents wrote failed) taken) (HasGiven plan s had has before now c k end) (IsSome end) (first_told op s.task w f) stage fed) where
   abbrev q : Tree
@@ -69,21 +69,21 @@ module _ (first : FirstOfFirst) (are : telling.BlocksAreTasks) (leave : FaultsLe
   all = told_input r.told
 
   cuts : Cuts q s had has c all
-  cuts = subst (λ o. Cuts (plan o) s had has c all) (op_is first plan contents taken wrote failed op s.task w f (HasGiven plan s had has before now c k end) (IsSome end) stage fed r) r.is_given.cuts
+  cuts = subst (λ o. Cuts (plan o) s had has c all) (op_is plan contents taken wrote failed op s.task w f (HasGiven plan s had has before now c k end) (IsSome end) stage fed r) r.is_given.cuts
 
   given_by : GivenBy s c end all r.count
   given_by = record { size = cuts.sizes.task.0; count = r.is_given.count ∙ cuts.count; ended = r.is_given.ended }
 
   came : Came q s c end all stage.state fed.over stage.k w (wrote stage.sink) f (failed stage.sink)
-  came = came_to first plan contents taken wrote failed op s w f (HasGiven plan s had has before now c k end) (IsSome end) c end stage fed r given_by
+  came = came_to plan contents taken wrote failed op s w f (HasGiven plan s had has before now c k end) (IsSome end) c end stage fed r given_by
 
   told_so : (files : List (List ℕ)) → Suits (fresh q (limits_of s)) had → had ≡ map Some files → telling.AreTasks q s c all (input_of q (limits_of s) files)
-  told_so files suits e = are q s files has c all (subst (Suits (fresh q (limits_of s))) e suits) (subst (λ l. Cuts q s l has c all) e cuts)
+  told_so files suits e = blocks_are_tasks q s files has c all (subst (Suits (fresh q (limits_of s))) e suits) (subst (λ l. Cuts q s l has c all) e cuts)
 
   leaves : (side : Side) → end_of stage.state fed.over end ≡ ReadFault side → ReadsWhole q s.task (limits_of s) stage.k had has
   leaves side e =
       let b = by_fault stage.state fed.over end side e in
-      let x = leave q s had has c all side cuts (r.is_given.ended (cut.ReadFault side) b.ended) in
+      let x = faults_leave_whole_tasks q s had has c all side cuts (r.is_given.ended (cut.ReadFault side) b.ended) in
       record { taken = x.taken; left = x.left; tasks_are = let k = came.all_behind side e in omega (arith, x.count, k) }
 
   -- the run is over
@@ -106,11 +106,11 @@ module _ (first : FirstOfFirst) (are : telling.BlocksAreTasks) (leave : FaultsLe
 no_fault : (side : Side) → NoMemory ≡ ReadFault side → ⊥
 no_fault side e = cc
 
-pub done_nothing : NoRowsGiveNothing → NoTasksNoRows → (q : Tree) → Fits (frame q) → (s : Sizes) (had : Lefts) (before : List ℕ) (w : Option (List ℕ)) (f : ℕ) → Done q s had had before before w f NoMemory 0 w f
-done_nothing nothing none q fits s had before w f = record {
+pub done_nothing : (q : Tree) → Fits (frame q) → (s : Sizes) (had : Lefts) (before : List ℕ) (w : Option (List ℕ)) (f : ℕ) → Done q s had had before before w f NoMemory 0 w f
+done_nothing q fits s had before w f = record {
   out = [];
   written_is = appended-none w;
-  gives = λ files suits e. gives_nothing nothing none q fits s (input_of q (limits_of s) files);
+  gives = λ files suits e. gives_nothing q fits s (input_of q (limits_of s) files);
   whole = λ side e. absurd (no_fault side e);
   read = λ side e. absurd (no_fault side e);
   write = λ e. absurd (lack_not_write e);

@@ -10,7 +10,7 @@ use Rattle.saber_plan.specs.Answers.{frame}
 use Rattle.saber_plan.specs.Windows.{Fits, no_rows, Ordered}
 use Rattle.saber_plan.specs.GivenRows.{RowsFit}
 use Rattle.saber_plan.specs.Tasks.{Kept}
-use Rattle.saber_laws.specs.Pieces.{NoTasksNoRows}
+use Rattle.saber_laws.proofs.TaskCutLaws.{no_cut as no_tasks_no_rows}
 use Rattle.saber_assembly.specs.declared.stage.Stage.{Stage}
 use Rattle.saber_plan.specs.declared.stages.StageState.TheVariants.{Running}
 use Rattle.saber_assembly.specs.declared.work.RunData.{RunData}
@@ -62,13 +62,13 @@ module _ {O S K : Type 0} (plan : O → Tree) (contents : S → Kept) (taken : O
   told = first_told op n (wrote stage.sink) (failed stage.sink)
 
   -- a run begins with a new stage
-  pub begins : NoTasksNoRows → Fits (frame (plan op)) → 1 ≤ n → (sink : K) → stage.sink ≡ sink → stage.k ≡ 0 → stage.state ≡ Running
+  pub begins : Fits (frame (plan op)) → 1 ≤ n → (sink : K) → stage.sink ≡ sink → stage.k ≡ 0 → stage.state ≡ Running
       → ((m : ℕ) (r : Input) → Tasks (plan op) m r → Keeps (plan op) m r (record { written = wrote sink; faults = failed sink }) (taken op stage.store) (stage_view contents wrote failed stage))
       → (given : RunData O → ℕ → Type 0) → given told 0
       → BeginsRun (IsTold plan) (IsStageOf plan (stage_view contents wrote failed) taken) (Suits op) given stage (Some told)
-  begins none fits some sink sink_is no_task running keeps given is =
+  begins fits some sink sink_is no_task running keeps given is =
       let t : Tasks (plan op) n (going_on []) = record { windows = fits; fits = fits_none (plan op); size = some } in (
-        record { tasks = t; whole = none n (going_on []) },
+        record { tasks = t; whole = no_tasks_no_rows n (going_on []) },
         record {
           behind = no_task;
           keeps = subst (λ k. Keeps (plan op) n (going_on []) (record { written = wrote k; faults = failed k }) (taken op stage.store) (stage_view contents wrote failed stage)) (sym sink_is) (keeps n (going_on []) t);

@@ -16,7 +16,7 @@ use Rattle.saber_dispatch.specs.declared.cutter.Cut.TheVariants as cuts
 use Rattle.saber_dispatch.specs.declared.keeper.Keeper.{Keeper}
 use Rattle.saber_dispatch.specs.Sources.{Lefts, RoseAt, NoneFell}
 use Rattle.saber_dispatch.specs.Cutting.{Cuts, CutTo, CutsOn, IsNextBlock, TakenBack, end_of}
-use Rattle.saber_dispatch.specs.Supplying.{BlocksAreSupplied}
+use Rattle.saber_dispatch.proofs.Supplies.{law as blocks_are_supplied}
 use Rattle.saber_crew.specs.Supplies.{GivesRows}
 use Rattle.saber_engine.specs.Supplying.{HasGiven}
 use Rattle.saber_engine.proofs.Counts.{none_same, few_blocks, next_count}
@@ -54,13 +54,13 @@ module _ {O : Type 0} (plan : O → Tree) (s : Sizes) (had left has : Lefts) (be
   same_before = h.counted.good (λ side e. none_some (ReadFault side) (sym open_still ∙ e))
 
   -- the next task's block came, and was passed on
-  pub block_given : BlocksAreSupplied plan → (b c : Block) (l : Keeper) → cut ≡ cuts.Block b → Passes k b c l → GivesRows (IsTold plan) with_block (IsBlockOf plan) (HasGiven plan s had has before now new l end) told d c
-  block_given law b c l e p =
+  pub block_given : (b c : Block) (l : Keeper) → cut ≡ cuts.Block b → Passes k b c l → GivesRows (IsTold plan) with_block (IsBlockOf plan) (HasGiven plan s had has before now new l end) told d c
+  block_given b c l e p =
       let q : Tree = plan told.operator in
       let to : CutTo (cuts.Block b) q s had has new (input_of told) = subst (λ z. CutTo z q s had has new (input_of told)) e (called.on q s had (input_of told) h.cuts) in
       let next : IsNextBlock q s (input_of told) c = next_passed q s (input_of told) k b c l p (h.kept open_still) (h.placed open_still) to.0 in
       let number : c.number ≡ d = next.number ∙ sym h.cuts.count ∙ sym h.count in
-      let is = law told s c h.size next (is_placed q s (input_of told) k b c l p (h.kept open_still) (h.placed open_still) to.0) in
+      let is = blocks_are_supplied plan told s c h.size next (is_placed q s (input_of told) k b c l p (h.kept open_still) (h.placed open_still) to.0) in
       let same : now ≡ before = called.good (λ side f. block_not_end b (ReadFault side) (sym e ∙ f)) ∙ same_before in (
         subst (λ t. IsBlockOf plan (with_block told c) t c) number is.block,
         subst (λ t. IsTold plan (with_block told c) (t + 1)) number is.told_is,

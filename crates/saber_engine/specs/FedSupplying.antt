@@ -1,5 +1,5 @@
 -- What was given of a feed's rows, block after block.
-use Rattle.std.specs.Prelude.{◌≡◌, ◌≢◌, ◌≤◌, ℕ, List, Option, Some, None}
+use Rattle.std.specs.Prelude.{◌≡◌, ◌≢◌, ◌≤◌, ◌⊎◌, ◌++◌, ℕ, List, Option, Some, None}
 use Rattle.saber_plan.specs.Outputs.{Rose}
 use Rattle.saber_io.specs.declared.feeds.EndMark.{EndMark}
 use Rattle.saber_plan.specs.declared.rows.Side.{Side}
@@ -13,6 +13,7 @@ use Rattle.saber_dispatch.specs.declared.ends.End.{End}
 use Rattle.saber_dispatch.specs.declared.ends.End.TheVariants.{ReadFault}
 use Rattle.saber_dispatch.specs.declared.fed_cutter.FedCutter.{FedCutter}
 use Rattle.saber_dispatch.specs.declared.keeper.Keeper.{Keeper}
+use Rattle.saber_dispatch.specs.FedReadings.{NothingWaits}
 use Rattle.saber_dispatch.specs.Feeding.{CutsFed, fed_end_of}
 use Rattle.saber_dispatch.specs.Keeping.{KeepsLast, CountsRows}
 use Rattle.saber_crew.specs.declared.supply.Supplied.{Supplied}
@@ -24,6 +25,10 @@ pub record FeedView : Type 0 where
   pub waiting : List ℕ
   pub mark : Option EndMark
   pub faults : ℕ
+
+-- Nothing of a feed waits, and no mark was taken; or no mark was taken before, and all that waits came since.
+abbrev pub DryOrCame : Option EndMark → List ℕ → List ℕ → List ℕ → Option EndMark → Type 0
+DryOrCame had taken taken' waiting' mark' = NothingWaits waiting' mark' ⊎ ((had ≡ None) × (came : List ℕ) × (taken' ≡ (taken ++ came) ++ waiting'))
 
 -- a feed, seen so
 abbrev pub feed_seen : {F : Type 0} → (F → List ℕ) → (F → List ℕ) → (F → Option EndMark) → (F → ℕ) → F → FeedView

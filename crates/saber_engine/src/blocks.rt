@@ -11,7 +11,7 @@ ghost use Rattle.saber_engine.specs.Supplying.{standing_of, GivenAt, GivenSome, 
 
 use saber_assembly::SaberWork;
 use saber_crew::{Supplied, Supply};
-use saber_dispatch::{Cut, Cutter, End, Inputs, Keeper, blocks_are_supplied};
+use saber_dispatch::{Cut, Cutter, End, Inputs, Keeper};
 use saber_fragment::{Block, Operator};
 use saber_io::{Sink, Source};
 use saber_plan::{NoMemory, Plan, Sizes};
@@ -108,7 +108,6 @@ impl<S: Source, J: Begins, O: Operator, K: Sink> Supply<SaberWork<O, K>> for Blo
         // Files have each block at once, or none any more.
         ensures never { result ≢ Supplied.Dry }
     {
-        blocks_are_supplied::<O>();
         match self.end {
             Some(_) => Supplied::Over,
             None => match self.cutter.next_block(from) {

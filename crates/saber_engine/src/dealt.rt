@@ -11,7 +11,7 @@ use crate::blocks::Begins;
 use crate::jobs::{Job, keepers_for};
 use saber_assembly::SaberWork;
 use saber_crew::{Supplied, Supply};
-use saber_dispatch::{Cut, Cutter, End, Inputs, Keeper, blocks_are_supplied};
+use saber_dispatch::{Cut, Cutter, End, Inputs, Keeper};
 use saber_fragment::{Block, Earlier, Operator};
 use saber_io::{Sink, Source};
 use saber_many::Many;
@@ -179,7 +179,6 @@ impl<S: Source, J: Begins, O: Operator, K: Sink> Supply<Many<SaberWork<O, K>>> f
         // Files have each block at once, or none any more.
         ensures never { result ≢ Supplied.Dry }
     {
-        blocks_are_supplied::<O>();
         match self.end {
             Some(_) => Supplied::Over,
             None => match self.cutter.next_block(from) {

@@ -1,16 +1,17 @@
 // The blocks of a feed, as the tasks of a run.
-ghost use Rattle.std.specs.Prelude.{◌≡◌, ℕ, [], length, Some, None, IfOk, IsSome, false};
+ghost use Rattle.std.specs.Prelude.{◌≡◌, ℕ, [], ◌++◌, length, Some, None, IfOk, IsSome, false};
 ghost use Rattle.saber_plan.specs.Checked.{IsChecked};
 ghost use Rattle.saber_plan.specs.Sizes.{SizesFit};
 ghost use Rattle.saber_plan.specs.Trees.{tree_of};
 ghost use Rattle.saber_dispatch.specs.Feeding.{CutsNothingFed, fed_end_of};
+ghost use Rattle.saber_dispatch.specs.FedReadings.{NothingWaits};
 ghost use Rattle.saber_dispatch.specs.Keeping.{CountsRows};
 ghost use Rattle.saber_plan.specs.declared.sizes.Sizes.{Sizes};
-ghost use Rattle.saber_engine.specs.FedSupplying.{feed_seen, fed_standing, FedAt, FedSome, FeedsNext, TriesNext};
+ghost use Rattle.saber_engine.specs.FedSupplying.{feed_seen, fed_standing, FedAt, FedSome, FeedsNext, TriesNext, DryOrCame};
 
 use saber_assembly::SaberWork;
 use saber_crew::{Supplied, Supply};
-use saber_dispatch::{End, FedCutter, Keeper, Step, blocks_are_supplied, refills_keep};
+use saber_dispatch::{End, FedCutter, Keeper, Step};
 use saber_fragment::{Block, Operator};
 use saber_io::{Feed, Sink};
 use saber_plan::{NoMemory, Plan, Sizes};
@@ -106,9 +107,12 @@ fn try_next<F: Feed, J: BeginsFed, O: Operator>(
         (fed_standing (feed_seen F.taken F.waiting F.mark F.faults feed.new) blocks.new.cutter blocks.new.keeper blocks.new.end) result }
     ensures over { result ≡ Some Supplied.Over → IsSome blocks.new.end }
     ensures goes { result ≡ None → blocks.new.end ≡ None }
+
+    // It is dry only where nothing waits and no mark was taken; and where it is to be tried again,
+    // no mark was taken before, and all that waits came now.
+    ensures dry { result ≡ Some Supplied.Dry → NothingWaits (F.waiting feed.new) (F.mark feed.new) }
+    ensures came { result ≡ None → (F.mark feed.old ≡ None) × (F.taken feed.new ≡ F.taken feed.old ++ F.waiting feed.new) }
 {
-    blocks_are_supplied::<O>();
-    refills_keep();
     match blocks.cutter.step(feed) {
         Step::Block(block) => {
             let number = block.number;
@@ -150,6 +154,9 @@ impl<F: Feed, J: BeginsFed, O: Operator, K: Sink> Supply<SaberWork<O, K>> for Fe
             (fed_standing (feed_seen F.taken F.waiting F.mark F.faults from.old) self.old.cutter self.old.keeper self.old.end)
             (fed_standing (feed_seen F.taken F.waiting F.mark F.faults from.new) self.new.cutter self.new.keeper self.new.end) result }
         ensures over { result ≡ Supplied.Over → IsSome self.new.end }
+
+        // It is dry only where nothing waits and no mark was taken, or all that waits came now.
+        ensures dry { result ≡ Supplied.Dry → DryOrCame (F.mark from.old) (F.taken from.old) (F.taken from.new) (F.waiting from.new) (F.mark from.new) }
     {
         if self.end.is_some() {
             return Supplied::Over;

@@ -7,13 +7,11 @@ ghost use Rattle.saber_engine.specs.Runs.{RunsFed};
 
 use crate::ends::{Ran, ended};
 use crate::fed_blocks::{BeginsFed, FedBlocks};
-use crate::ring_size::ring_size;
+use crate::ring_size::run_sizes;
 use saber_assembly::{SaberWork, Stage};
 use saber_crew::{Over, run};
-use saber_dispatch::{cuts_leave_whole_tasks, fed_blocks_are_tasks};
 use saber_fragment::Operator;
 use saber_io::{Feed, Gate, Pour};
-use saber_laws::{checked_fit, first_of_first, no_rows_give_nothing, no_tasks_no_rows};
 use saber_plan::{Plan, Sizes};
 use std::alloc::Global;
 use std::marker::Brand;
@@ -51,17 +49,12 @@ where
     requires begins { (J.sizes ≡ sizes.now) × (J.faults ≡ F.faults feed.old) }
     ensures { RunsFed F.taken F.mark F.faults K.written K.faults (tree_of plan.now) sizes.now feed.old feed.new sink result }
 {
-    checked_fit();
-    no_rows_give_nothing();
-    no_tasks_no_rows();
-    first_of_first();
-    fed_blocks_are_tasks();
-    cuts_leave_whole_tasks();
     let stage = Stage::new(alloc, operator, sink);
     let Ok(begun) = FedBlocks::<F, J>::new(alloc, plan, sizes) else {
         return ended(stage, Over::NoMemory, None);
     };
     let mut blocks = begun;
+    let asked = run_sizes(plan, sizes);
     let ran = run::<SaberWork<O, K>, O, G, FedBlocks<F, J>, Brand, R>(
         rt,
         alloc,
@@ -70,10 +63,7 @@ where
         &mut blocks,
         feed,
         stage,
-        &Sizes {
-            ring: ring_size(plan, sizes),
-            ..*sizes
-        },
+        &asked,
     );
     let end = blocks.let_go();
     match ran {

@@ -8,13 +8,12 @@ ghost use Rattle.saber_engine.specs.Runs.{RunsPlan};
 
 use crate::blocks::{Begins, Blocks};
 use crate::ends::{Ran, ended};
-use crate::ring_size::ring_size;
+use crate::ring_size::run_sizes;
 use saber_assembly::{SaberWork, Stage};
 use saber_crew::{Over, run};
-use saber_dispatch::{Inputs, blocks_are_tasks, faults_leave_whole_tasks};
+use saber_dispatch::Inputs;
 use saber_fragment::Operator;
 use saber_io::{Gate, Pour, Source};
-use saber_laws::{checked_fit, first_of_first, no_rows_give_nothing, no_tasks_no_rows};
 use saber_plan::{Plan, Sizes};
 use std::alloc::Global;
 use std::marker::Brand;
@@ -51,17 +50,12 @@ where
     requires begins { (J.sizes ≡ sizes.now) × (J.lefts ≡ each_input S.left inputs.old) × (J.faults ≡ each_input S.faults inputs.old) }
     ensures { RunsPlan S.left S.faults K.written K.faults (tree_of plan.now) sizes.now inputs.old inputs.new sink result }
 {
-    checked_fit();
-    no_rows_give_nothing();
-    no_tasks_no_rows();
-    first_of_first();
-    blocks_are_tasks();
-    faults_leave_whole_tasks();
     let stage = Stage::new(alloc, operator, sink);
     let Ok(begun) = Blocks::<S, J>::new(alloc, plan, sizes) else {
         return ended(stage, Over::NoMemory, None);
     };
     let mut blocks = begun;
+    let asked = run_sizes(plan, sizes);
     let ran = run::<SaberWork<O, K>, O, G, Blocks<S, J>, Brand, R>(
         rt,
         alloc,
@@ -70,10 +64,7 @@ where
         &mut blocks,
         inputs,
         stage,
-        &Sizes {
-            ring: ring_size(plan, sizes),
-            ..*sizes
-        },
+        &asked,
     );
     let end = blocks.let_go();
     match ran {

@@ -17,11 +17,10 @@ use crate::last_task::{last_block, take_last};
 use crate::ring_size::near_size;
 use saber_assembly::{SaberWork, Stage};
 use saber_crew::{Over, run};
-use saber_dispatch::{Inputs, blocks_are_supplied, blocks_are_tasks, faults_leave_whole_tasks};
+use saber_dispatch::Inputs;
 use saber_fragment::Operator;
 use saber_io::{Gate, Pour, Source};
-use saber_laws::{checked_fit, first_of_first, no_rows_give_nothing, no_tasks_no_rows};
-use saber_many::{Each, Many, Member, each_runs};
+use saber_many::{Each, Many, Member};
 use saber_plan::Sizes;
 use std::alloc::Global;
 use std::collections::VecDeque;
@@ -86,14 +85,6 @@ where
     requires room { (length jobs.items ≤ deque_capacity members) × (length jobs.items ≤ deque_capacity rans) }
     ensures { AllZip (λ job ran. RunsPlan S.left S.faults K.written K.faults (tree_in job) sizes.now inputs.old inputs.new (sink_in job) ran) jobs.entry.items result.items }
 {
-    checked_fit();
-    no_rows_give_nothing();
-    no_tasks_no_rows();
-    first_of_first();
-    blocks_are_supplied::<O>();
-    blocks_are_tasks();
-    faults_leave_whole_tasks();
-    each_runs::<SaberWork<O, K>, Dealt<S, J>>();
     let threads = sizes_for(sizes, jobs.as_slice().len());
     let members = begin_all(alloc, operators, jobs, members);
     let mut dealt = dealt;

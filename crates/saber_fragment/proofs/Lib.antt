@@ -1,2 +1,2 @@
 mod Slicing
-mod LookingBack
+pub mod LookingBack

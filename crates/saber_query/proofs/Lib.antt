@@ -12,5 +12,5 @@ pub mod Checks
 pub mod LexBack
 pub mod Unique
 mod Made
-mod Meanings
-mod LongestLemmas
+pub mod Meanings
+pub mod LongestLemmas

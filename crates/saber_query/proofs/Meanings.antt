@@ -90,7 +90,7 @@ lex_bad (b ∷ bs) at q = follow_bad (step at q b) _ (step_bad at q b) (λ r. le
 
 -- ---- what a text comes to
 
-abbrev IsTold : List ℕ → Type 0
+abbrev pub IsTold : List ℕ → Type 0
 IsTold text = ((q : Parsed) × IsParsed q.select q.starts × MeansTree text q) ⊎ ((byte : ℕ) × (cause : Cause) × TextFault cause byte text)
 
 by_fate : (text : List ℕ) (ps : List Placed) → length text ≤ 65536 → lexed_text text ≡ Ok ps → (w : Fate) → Walk (start 64) (map token_of ps) w → IsTold text

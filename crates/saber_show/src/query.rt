@@ -9,7 +9,7 @@ use crate::declaration::{declared, decls};
 use crate::predicate::condition;
 use crate::select::{group, item, items, opened, second, shut, source};
 use crate::spell::{mark, word};
-use saber_query::{Keyword, Query, Select, Sign, spelled_tokens_are_read_back};
+use saber_query::{Keyword, Query, Select, Sign};
 use std::alloc::{AllocError as NoMemory, Global};
 
 #[tactic(auto, using(crate::proofs::SpellLemmas::joining))]
@@ -96,6 +96,5 @@ pub fn show(alloc: Global, query: &Query) -> Result<Vec<u8>, NoMemory>
     ensures text { IfOk result (λ v. v.items ≡ spelled_text (w.words (query_of query.now.select))) }
     ensures tokens { IfOk result (λ v. HasTokens v.items (w.words (query_of query.now.select))) }
 {
-    spelled_tokens_are_read_back();
     text(alloc, query.select())
 }

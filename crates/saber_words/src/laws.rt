@@ -1,9 +1,7 @@
 //! Which words are a command, in plain words.
 ghost use Rattle.std.specs.Prelude.{◌≡◌, ◌≢◌, ◌∷◌, [], None, Some, codes, List, ℕ, true};
 ghost use Rattle.std.specs.List.{list_all};
-ghost use Rattle.saber_words.specs.Commands.{chain_of, check_of, command_of, demo_of, is_file_name, run_of, chain, demo, run, AskedRun, HasSizes};
-ghost use Rattle.saber_words.specs.Chain.{AskedChain, HasChainSizes};
-ghost use Rattle.saber_words.specs.Demo.{AskedDemo, HasDemoSizes};
+ghost use Rattle.saber_words.specs.Commands.{chain_of, check_of, command_of, demo_of, is_file_name, run_of};
 ghost use Rattle.saber_words.specs.Many.{many_of, many_of_files, AskedMany, HasManySizes};
 
 /// A law with no code: what words of file names come to. The first word is the name of the program
@@ -25,15 +23,6 @@ pub fn words_of_file_names()
     ensures other { (program name : List ℕ) (rest : List (List ℕ))
         → name ≢ codes "run" → name ≢ codes "check" → name ≢ codes "demo" → name ≢ codes "chain"
         → command_of (program ∷ name ∷ rest) ≡ None }
-{}
-
-/// A law with no code: whatever the words, the run that they ask for has 1 to 65,536 rows a task,
-/// and files of 1 to `2^40` lines at most, whose timestamps fall by at most `2^40`; and a run over
-/// generated rows at most `2^20` of them (this project's limits). A chain has the sizes of a run.
-pub fn sizes_of_words()
-    ensures run { (words : List (List ℕ)) (r : AskedRun) → command_of words ≡ Some (run r) → HasSizes r }
-    ensures demo { (words : List (List ℕ)) (d : AskedDemo) → command_of words ≡ Some (demo d) → HasDemoSizes d }
-    ensures chain { (words : List (List ℕ)) (a : AskedChain) → command_of words ≡ Some (chain a) → HasChainSizes a }
 {}
 
 /// A law with no code: what words of `many` come to. File names alone are the left file and the

@@ -9,9 +9,9 @@
 //!   the same for `many`, which `read_words` takes for no command; `out_name` is the name of the
 //!   file that one of its queries writes to.
 //! - Proved: the command is exactly the one that the words ask for (`specs/Commands.antt` and
-//!   `specs/Many.antt`), and they are refused as no command only where they are none. Laws: what
-//!   words of file names alone come to, and that numbers lie within their ranges whatever the
-//!   words.
+//!   `specs/Many.antt`), and they are refused as no command only where they are none. Its numbers
+//!   lie within their ranges, whatever the words (clauses `sizes`). Laws: what words of file names
+//!   alone come to.
 //! - Not claimed: what `clap` would print. Its contract is the kit's, and trusted.
 //! - Limits: README.md has the ranges of options; `many` takes one to eight queries. A word of two
 //!   bytes or more that begins with `-` is no file name.
@@ -28,6 +28,6 @@ mod reading;
 mod table;
 
 pub use commands::{Chain, Check, Command, Demo, Many, Run, WordsFault};
-pub use laws::{sizes_of_words, words_of_file_names, words_of_many};
+pub use laws::{words_of_file_names, words_of_many};
 pub use many::{out_name, read_many};
 pub use reading::read_words;

@@ -10,7 +10,8 @@ use Rattle.saber_laws.proofs.GrowLaws.{free-upto, task_rows-upto, places-upto}
 use Rattle.saber_fragment.specs.declared.blocks.Block.{Block}
 use Rattle.saber_fragment.specs.declared.blocks.Earlier.{Earlier}
 use Rattle.saber_fragment.specs.Drafts.{EndWith, CanStart, Sight, own_sight, seen_back, CanLookBack, IsWhole, IsSightOf}
-use Rattle.saber_fragment.specs.LookBack.{DraftsLookBack, IsBlock, SeesAll, sight_to}
+use Rattle.saber_fragment.specs.LookBack.{IsBlock, SeesAll, sight_to}
+use Rattle.saber_fragment.proofs.LookingBack.{sees_all as drafts_look_back}
 use Rattle.saber_assembly.specs.declared.work.RunData.{RunData}
 use Rattle.saber_assembly.specs.Works.{input_of, AreTasks, first_tasks, first_needed, IsBlockOf, IsPieceOf}
 use Rattle.saber_ring.specs.Shows.{first_of_task}
@@ -30,7 +31,7 @@ module _ {O : Type 0} (plan : O → Tree) (told : RunData O) where
     ended = is.block.ended ∙ ap (λ (z : Input). z.ended) (upto-upto told.size (input_of told) (u + 1) (u + 1) (le_refl (u + 1)));
   }
 
-module _ {O D : Type 0} (plan : O → Tree) (has_seen : O → D → Sight → Type 0) (look_back : DraftsLookBack) (op : O) (told : RunData O) (t : ℕ) (suits : Suits op told) where
+module _ {O D : Type 0} (plan : O → Tree) (has_seen : O → D → Sight → Type 0) (op : O) (told : RunData O) (t : ℕ) (suits : Suits op told) where
   abbrev sight : Earlier → ℕ → Sight
   sight e u = sight_to (plan told.operator) told.size (input_of told) t e u
 
@@ -38,7 +39,7 @@ module _ {O D : Type 0} (plan : O → Tree) (has_seen : O → D → Sight → Ty
   first = first_of_task first_tasks (first_needed plan) told t
 
   sees_all : AreTasks plan told → SeesAll (plan told.operator) told.size (input_of told) t
-  sees_all tasks = look_back (plan told.operator) told.size (input_of told) t tasks.size tasks.windows tasks.fits
+  sees_all tasks = drafts_look_back (plan told.operator) told.size (input_of told) t tasks.size tasks.windows tasks.fits
 
   first_is : first ≡ free (plan told.operator) told.size (input_of told) t
   first_is = free-upto (plan told.operator) told.size (input_of told) t t (le_refl t)

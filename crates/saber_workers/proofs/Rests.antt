@@ -9,13 +9,15 @@ use Rattle.saber_plan.specs.Trees.{Tree}
 use Rattle.saber_plan.specs.Answers.{text}
 use Rattle.saber_plan.specs.Tasks.{Kept, upto, kept_behind}
 use Rattle.saber_plan.specs.Needs.{free}
-use Rattle.saber_laws.specs.Cuts.{FirstOfFirst, FirstTellFree}
+use Rattle.saber_laws.proofs.TaskCutLaws.{upto-upto as first_of_first}
+use Rattle.saber_laws.proofs.GrowLaws.{free-upto as first_tell_free}
 use Rattle.saber_ring.specs.declared.view.SlotValue.TheVariants as slot
 use Rattle.saber_ring.specs.declared.view.TurnState.TheVariants.{Open, TookPiece, TookMark, WonStopped, Leaving}
 use Rattle.saber_ring.specs.Shows.{RingState, RingTurn, won_by, turn_word, extra, TurnFits, StageHome, first_of_task}
 use Rattle.saber_ring.specs.Shows as ring
 use Rattle.saber_ring.specs.Plays.{turn_behind}
 use Rattle.saber_ring.specs.Laws.{IsWhole, NeedsAreWhole}
+use Rattle.saber_ring.proofs.Readers.{whole_law as needs_are_whole}
 use Rattle.saber_assembly.specs.declared.stage.Stage.{Stage}
 use Rattle.saber_plan.specs.declared.stages.StageState.{StageState}
 use Rattle.saber_plan.specs.declared.stages.StageState.TheVariants.{Running, SinkFailed, NoMemory}
@@ -24,7 +26,7 @@ use Rattle.saber_assembly.specs.Stages.{stage_view}
 use Rattle.saber_plan.specs.Stages.{StageView, Start, After}
 use Rattle.saber_plan.specs.Runs.{IsCut}
 use Rattle.saber_assembly.specs.Works.{input_of, first_tasks, start_of, first_needed, IsTold, IsBlockOf, IsPieceOf, IsStageOf}
-use Rattle.saber_assembly.specs.WorkLaws.{keeps_on}
+use Rattle.saber_assembly.specs.WorkLaws.{needed_rises, keeps_on}
 use Rattle.saber_workers.specs.Free.{QueryTable, KeepsRule, AreWhole, FirstAreOut}
 use Rattle.saber_workers.proofs.LookBacks.{block_stays}
 
@@ -47,10 +49,10 @@ none_more k = omega arith
 
 -- ---- what a stage wrote, by the rows of later tasks too
 
-cut_on : FirstOfFirst → (q : Tree) (n : ℕ) (r : Input) (d k : ℕ) (out : List ℕ) → k + 1 ≤ d → IsCut q n (upto n r d) k out → IsCut q n r k out
-cut_on first q n r d k out le is =
-    let same : upto n (upto n r d) k ≡ upto n r k = first n r d k (omega (arith, le)) in
-    let next : upto n (upto n r d) (k + 1) ≡ upto n r (k + 1) = first n r d (k + 1) le in
+cut_on : (q : Tree) (n : ℕ) (r : Input) (d k : ℕ) (out : List ℕ) → k + 1 ≤ d → IsCut q n (upto n r d) k out → IsCut q n r k out
+cut_on q n r d k out le is =
+    let same : upto n (upto n r d) k ≡ upto n r k = first_of_first n r d k (omega (arith, le)) in
+    let next : upto n (upto n r d) (k + 1) ≡ upto n r (k + 1) = first_of_first n r d (k + 1) le in
     record {
       more = is.more;
       rest = is.rest;
@@ -58,22 +60,19 @@ cut_on first q n r d k out le is =
       next_is = sym (ap (text q) next) ∙ is.next_is ∙ ap (λ z. text q z ++ (is.more ++ is.rest)) same;
     }
 
-after_on : FirstOfFirst → (q : Tree) (n : ℕ) (r : Input) (d : ℕ) (start : Start) (v : StageView) (x : StageState) → v.k + 1 ≤ d
+after_on : (q : Tree) (n : ℕ) (r : Input) (d : ℕ) (start : Start) (v : StageView) (x : StageState) → v.k + 1 ≤ d
     → After q n (upto n r d) start v x → After q n r start v x
-after_on first q n r d start v Running le a =
-    let same : upto n (upto n r d) v.k ≡ upto n r v.k = first n r d v.k (omega (arith, le)) in
+after_on q n r d start v Running le a =
+    let same : upto n (upto n r d) v.k ≡ upto n r v.k = first_of_first n r d v.k (omega (arith, le)) in
     (a.0 ∙ ap (λ z. appended_text start.written (text q z)) same, a.1 ∙ ap (kept_behind q) same, a.2)
-after_on first q n r d start v SinkFailed le a =
-    (record { out = a.0.out; written_is = a.0.written_is; is_cut = cut_on first q n r d v.k a.0.out le a.0.is_cut }, a.1, a.2)
-after_on first q n r d start v NoMemory le a =
-    let same : upto n (upto n r d) v.k ≡ upto n r v.k = first n r d v.k (omega (arith, le)) in
+after_on q n r d start v SinkFailed le a =
+    (record { out = a.0.out; written_is = a.0.written_is; is_cut = cut_on q n r d v.k a.0.out le a.0.is_cut }, a.1, a.2)
+after_on q n r d start v NoMemory le a =
+    let same : upto n (upto n r d) v.k ≡ upto n r v.k = first_of_first n r d v.k (omega (arith, le)) in
     (a.0 ∙ ap (λ z. appended_text start.written (text q z)) same, a.1)
 
 module _ {O P S K : Type 0} (plan : O → Tree) (is_of : O → P → Input → ℕ → ℕ → Type 0) (contents : S → Kept) (taken : O → S → Input → Type 0)
-    (written : K → Option (List ℕ)) (faults : K → ℕ)
-    (whole : NeedsAreWhole (IsTold plan) first_tasks (first_needed plan) (IsBlockOf plan) (IsPieceOf plan is_of) (IsStageOf plan (stage_view contents written faults) taken))
-    (first : FirstOfFirst) (free_is : FirstTellFree)
-    (size : ℕ) (s : QueryTable plan is_of contents taken written faults) (b : RingState (RunData O)) (sh : KeepsRule plan is_of contents taken written faults size s b) where
+    (written : K → Option (List ℕ)) (faults : K → ℕ) (size : ℕ) (s : QueryTable plan is_of contents taken written faults) (b : RingState (RunData O)) (sh : KeepsRule plan is_of contents taken written faults size s b) where
   abbrev q : Tree
   q = plan b.told.operator
 
@@ -86,7 +85,11 @@ module _ {O P S K : Type 0} (plan : O → Tree) (is_of : O → P → Input → �
   abbrev StageAt : RunData O → ℕ → Bool → Stage S K → Type 0
   StageAt = IsStageOf plan (stage_view contents written faults) taken
 
-  -- what the ring says of a block, in the words of queries
+  -- what the ring says of the blocks in need
+  rows_whole : NeedsAreWhole (IsTold plan) first_tasks (first_needed plan) (IsBlockOf plan) (IsPieceOf plan is_of) StageAt
+  rows_whole m = needs_are_whole (IsTold plan) first_tasks (first_needed plan) (IsBlockOf plan) (IsPieceOf plan is_of) StageAt m (needed_rises plan)
+
+  -- and of one of them, in the words of queries
   block_whole : (u : ℕ) → IsWhole (IsTold plan) first_tasks (first_needed plan) (IsBlockOf plan) (IsPieceOf plan is_of) StageAt size s b u
       → AreWhole plan is_of contents taken written faults size s b u
   block_whole u (inl home) =
@@ -94,13 +97,13 @@ module _ {O P S K : Type 0} (plan : O → Tree) (is_of : O → P → Input → �
   block_whole u (inr one) = inr one
 
   first_is : (t : ℕ) → first_of_task first_tasks (first_needed plan) b.told t ≡ free q n r t
-  first_is t = free_is q n r t t (le_refl t)
+  first_is t = first_tell_free q n r t t (le_refl t)
 
   blocks : (u : ℕ) → free q n r b.assembled ≤ u → u < b.filled → AreWhole plan is_of contents taken written faults size s b u
-  blocks u low high = block_whole u ((whole size s b sh).1 u (subst (λ z. z ≤ u) (sym (first_is b.assembled)) low, high))
+  blocks u low high = block_whole u ((rows_whole size s b sh).1 u (subst (λ z. z ≤ u) (sym (first_is b.assembled)) low, high))
 
   tasks : (t u : ℕ) → b.assembled ≤ t → t < b.filled → free q n r t ≤ u → u ≤ t → AreWhole plan is_of contents taken written faults size s b u
-  tasks t u from below low high = block_whole u ((whole size s b sh).2 t u from below (subst (λ z. z ≤ u) (sym (first_is t)) low) high)
+  tasks t u from below low high = block_whole u ((rows_whole size s b sh).2 t u from below (subst (λ z. z ≤ u) (sym (first_is t)) low) high)
 
   few : b.assembled ≤ 2 ^ 42
   few = let k = sh.shape in let a = k.assembled_given in let g = k.given_filled in let f = k.filled_end in omega (arith, a, g, f)
@@ -139,7 +142,7 @@ module _ {O P S K : Type 0} (plan : O → Tree) (is_of : O → P → Input → �
         sink = λ run. absurd (has.stops refl run);
         kept = λ run. absurd (has.stops refl run);
         good = λ run. absurd (has.stops refl run);
-        stopped = λ stop. after_on first q n r (b.assembled + 1) (start_of b.told) v st.state (subst (λ j. j + 1 ≤ b.assembled + 1) (sym has.behind) (le_refl (b.assembled + 1))) has.keeps.after;
+        stopped = λ stop. after_on q n r (b.assembled + 1) (start_of b.told) v st.state (subst (λ j. j + 1 ≤ b.assembled + 1) (sym has.behind) (le_refl (b.assembled + 1))) has.keeps.after;
         runs = λ run. absurd (has.stops refl run);
         stops = λ stop. sh.shape.turn_is ∙ ap (turn_word b.assembled) is;
         blocks = blocks;

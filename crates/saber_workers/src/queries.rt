@@ -9,7 +9,7 @@ ghost use Rattle.saber_workers.specs.Queries.{Suits, HasBlocks, CanLookBackOn, L
 
 use crate::labor::Labor;
 use saber_assembly::{Absorbed, SaberWork, Stage};
-use saber_fragment::{Block, Operator, drafts_look_back};
+use saber_fragment::{Block, Operator};
 use saber_io::{Pour, Sink};
 use std::alloc::Global;
 
@@ -47,7 +47,6 @@ impl<O: Operator, K: Pour> Labor<SaberWork<O, K>> for O {
         requires { IsOwn first_tasks (IsBlockOf O.plan) (Suits self.now) own.now }
         ensures { Begins first_tasks (first_needed O.plan) (IsBlockOf O.plan) (Suits self.now) (HasBlocks O.plan O.has_seen self.now) own.now result }
     {
-        drafts_look_back();
         let Ok(draft) = Operator::start(self, alloc, own) else {
             return None;
         };
@@ -58,7 +57,6 @@ impl<O: Operator, K: Pour> Labor<SaberWork<O, K>> for O {
         requires { CanLookBackOn O.plan O.has_seen self.now draft.old block.now }
         ensures { LooksBackOn O.plan O.has_seen self.now draft.old block.now result draft.new }
     {
-        drafts_look_back();
         let Ok(()) = Operator::look_back(self, alloc, draft, block) else {
             return false;
         };
@@ -69,7 +67,6 @@ impl<O: Operator, K: Pour> Labor<SaberWork<O, K>> for O {
         requires { CanFinish first_tasks (Suits self.now) (HasBlocks O.plan O.has_seen self.now) draft }
         ensures { Finishes first_tasks (Suits self.now) (HasBlocks O.plan O.has_seen self.now) (IsPieceOf O.plan O.is_of) draft result }
     {
-        drafts_look_back();
         let Ok(piece) = Operator::finish(self, alloc, draft) else {
             return None;
         };

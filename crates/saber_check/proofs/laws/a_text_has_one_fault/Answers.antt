@@ -2,4 +2,4 @@ use Rattle.saber_check.proofs.FaultLaws.{one_fault}
 use Rattle.saber_check.proofs.laws.a_text_has_one_fault.Goals as goal
 
 pub returns : goal.returns
-returns c = one_fault c.words_have_one_tree.ensures c.tokens_are_real.ensures
+returns c = one_fault

@@ -23,7 +23,7 @@ returns-in-Ok-clause-written g c =
       w.0,
       w.1,
       some_map (λ (t : FilesView). BeginsFile t.contents r.query c.in-Ok.text.items) (λ t. Gives t.contents (check r) o c.put_text.result.tasks w.0) _
-          (λ t b. subst (λ n. Gives t.contents (check r) o n w.0) (sym c.put_text.ensures.tasks) (gives_show c.laws.ensures t.contents r c.in-Ok.text.items o w.0 b show)) c.in-Ok.ensures.front,
+          (λ t b. subst (λ n. Gives t.contents (check r) o n w.0) (sym c.put_text.ensures.tasks) (gives_show t.contents r c.in-Ok.text.items o w.0 b show)) c.in-Ok.ensures.front,
     )
 
 pub returns-in-Ok-clause-early : goal.returns-in-Ok-clause-early
@@ -40,7 +40,7 @@ returns-in-Ok-clause-cause g c f = absurd (show_reads c.put_text.result.outcome 
 
 pub returns-in-Err-clause-written : goal.returns-in-Err-clause-written
 returns-in-Err-clause-written g c =
-    ([], appended-none _, for_any (λ (t : FilesView). Gives t.contents (asked_command (Check c.args.command.now)) c.in-Err.outcome 0 []) _ (λ t. gives_no_text c.laws.ensures t.contents (asked_command (Check c.args.command.now)) tt c.in-Err.outcome c.in-Err.ensures.kinds))
+    ([], appended-none _, for_any (λ (t : FilesView). Gives t.contents (asked_command (Check c.args.command.now)) c.in-Err.outcome 0 []) _ (λ t. gives_no_text t.contents (asked_command (Check c.args.command.now)) tt c.in-Err.outcome c.in-Err.ensures.kinds))
 
 pub returns-in-Err-clause-leaves : goal.returns-in-Err-clause-leaves
 returns-in-Err-clause-leaves g c = query_leaves _ [] (λ t. ⊥) c.in-Err.outcome _ _ c.in-Err.ensures.kinds c.in-Err.ensures.uses

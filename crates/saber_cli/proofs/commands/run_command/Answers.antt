@@ -21,7 +21,7 @@ use Rattle.saber_cli.proofs.commands.run_command.Goals as goal
 
 pub returns-in-Err-clause-written : goal.returns-in-Err-clause-written
 returns-in-Err-clause-written g c =
-    ([], appended-none _, for_any (λ (t : FilesView). Gives t.contents (asked_command (Run c.args.command.now)) c.in-Err.outcome 0 []) _ (λ t. gives_no_text c.laws.ensures t.contents (asked_command (Run c.args.command.now)) tt c.in-Err.outcome c.in-Err.ensures.kinds))
+    ([], appended-none _, for_any (λ (t : FilesView). Gives t.contents (asked_command (Run c.args.command.now)) c.in-Err.outcome 0 []) _ (λ t. gives_no_text t.contents (asked_command (Run c.args.command.now)) tt c.in-Err.outcome c.in-Err.ensures.kinds))
 
 pub returns-in-Err-clause-leaves : goal.returns-in-Err-clause-leaves
 returns-in-Err-clause-leaves g c = query_leaves _ _ (λ t. AsksRows t.contents (run (asked_run c.args.command.now))) c.in-Err.outcome _ _ c.in-Err.ensures.kinds c.in-Err.ensures.uses
@@ -30,7 +30,7 @@ pub returns-in-Err-planned-clause-written : goal.returns-in-Err-planned-clause-w
 returns-in-Err-planned-clause-written g c =
     let r : AskedRun = asked_run c.args.command.now in
     let err : IsTextFault c.in-Ok.text.items c.in-Err-planned.outcome = subst (λ t. IsTextFault t c.in-Err-planned.outcome) c.deref.ensures.value c.in-Err-planned.ensures.fault in
-    ([], appended-none _, some_map (λ (t : FilesView). BeginsFile t.contents r.query c.in-Ok.text.items) (λ t. Gives t.contents (run r) c.in-Err-planned.outcome 0 []) _ (λ t b. gives_text_fault c.laws.ensures t.contents r c.in-Ok.text.items c.in-Err-planned.outcome b err) c.in-Ok.ensures.front)
+    ([], appended-none _, some_map (λ (t : FilesView). BeginsFile t.contents r.query c.in-Ok.text.items) (λ t. Gives t.contents (run r) c.in-Err-planned.outcome 0 []) _ (λ t b. gives_text_fault t.contents r c.in-Ok.text.items c.in-Err-planned.outcome b err) c.in-Ok.ensures.front)
 
 pub returns-in-Err-planned-clause-leaves : goal.returns-in-Err-planned-clause-leaves
 returns-in-Err-planned-clause-leaves g c = refused_leaves _ _ (λ t. AsksRows t.contents (run (asked_run c.args.command.now))) c.in-Err-planned.outcome _ _ (text_fault_after _ c.in-Err-planned.outcome c.in-Err-planned.ensures.fault) c.in-Ok.ensures.uses
@@ -46,7 +46,7 @@ returns-then-streams-given-clause-written g c =
       [],
       appended-none _,
       some_map (λ (t : FilesView). BeginsFile t.contents r.query c.in-Ok.text.items) (λ t. Gives t.contents (run r) (FileCount (length c.streams.result.now) c.file_count-given.result) 0 []) _
-          (λ t b. subst (λ o. Gives t.contents (run r) o 0 []) (λ i. FileCount (sym streams i) (sym given i)) (gives_unlike c.laws.ensures t.contents r q (run_of c.laws.ensures t.contents r c.in-Ok.text.items q b ok) unlike)) c.in-Ok.ensures.front,
+          (λ t b. subst (λ o. Gives t.contents (run r) o 0 []) (λ i. FileCount (sym streams i) (sym given i)) (gives_unlike t.contents r q (run_of t.contents r c.in-Ok.text.items q b ok) unlike)) c.in-Ok.ensures.front,
     )
 
 pub returns-clause-written : goal.returns-clause-written
@@ -62,7 +62,7 @@ returns-clause-written g c =
       w.0,
       w.1,
       some_both (λ (t : FilesView). BeginsFile t.contents r.query c.in-Ok.text.items) (λ t. AnsweredIn q r.task r.ring (asked_limits r) r.flush (contents_of t.contents (row_names r)) o tasks w.0) (λ t. Gives t.contents (run r) o tasks w.0) _
-          (λ t b a. gives_answer c.laws.ensures t.contents r q o tasks w.0 (run_of c.laws.ensures t.contents r c.in-Ok.text.items q b ok) like c.run_rows.ensures.kinds a) c.in-Ok.ensures.front
+          (λ t b a. gives_answer t.contents r q o tasks w.0 (run_of t.contents r c.in-Ok.text.items q b ok) like c.run_rows.ensures.kinds a) c.in-Ok.ensures.front
           (used_contents (λ f. AnsweredIn q r.task r.ring (asked_limits r) r.flush (contents_of f (row_names r)) o tasks w.0) _ _ _ c.in-Ok.ensures.uses
           (sized (λ n ring m b. IfSome (g.F.Files.told c.query_text.new.files) (λ (t : FilesView). AnsweredIn q n ring m b (contents_of t.contents (row_names r)) o tasks w.0)) _ _ r.task r.ring _ (asked_limits r) _ r.flush z.task z.ring z.limits z.flush w.2)),
     )
@@ -73,7 +73,7 @@ returns-clause-leaves g c =
     let q : Tree = tree_of c.in-Ok-planned.plan in
     let ok : HasPlan c.in-Ok.text.items q = subst (λ t. HasPlan t q) c.deref.ensures.value c.in-Ok-planned.ensures.plan in
     let like : IsLike r q = sym (ap length c.streams.ensures) ∙ c.if-streams-given.false ∙ c.file_count-given.ensures in
-    let rows = some_map (λ (t : FilesView). BeginsFile t.contents r.query c.in-Ok.text.items) (λ t. AsksRows t.contents (run r)) (g.F.Files.told c.args.files.now) (λ t b. asks_rows t.contents r q (run_of c.laws.ensures t.contents r c.in-Ok.text.items q b ok) like) c.in-Ok.ensures.front in
+    let rows = some_map (λ (t : FilesView). BeginsFile t.contents r.query c.in-Ok.text.items) (λ t. AsksRows t.contents (run r)) (g.F.Files.told c.args.files.now) (λ t b. asks_rows t.contents r q (run_of t.contents r c.in-Ok.text.items q b ok) like) c.in-Ok.ensures.front in
     rows_leaves r c.run_rows.result.outcome _ _ _ rows c.in-Ok.ensures.uses c.run_rows.ensures.uses
 
 pub returns-clause-taken : goal.returns-clause-taken
@@ -86,7 +86,7 @@ returns-clause-taken g c asked_for e side k =
     let tasks = c.run_rows.result.tasks in
     let z = c.sizes_of-sizes.ensures in
     let ok : HasPlan c.in-Ok.text.items q = subst (λ t. HasPlan t q) c.deref.ensures.value c.in-Ok-planned.ensures.plan in
-    let has = some_map (λ (t : FilesView). BeginsFile t.contents r.query c.in-Ok.text.items) (λ t. HasRun t.contents r q) (told c.args.files.now) (λ t b. run_of c.laws.ensures t.contents r c.in-Ok.text.items q b ok) c.in-Ok.ensures.front in
+    let has = some_map (λ (t : FilesView). BeginsFile t.contents r.query c.in-Ok.text.items) (λ t. HasRun t.contents r q) (told c.args.files.now) (λ t b. run_of t.contents r c.in-Ok.text.items q b ok) c.in-Ok.ensures.front in
     let rows = sized (λ n ring m b. TakesRows q n m tasks (row_names r) (told c.query_text.new.files) (told c.run_rows.new.files)) _ _ r.task r.ring _ (asked_limits r) _ r.flush z.task z.ring z.limits z.flush (c.run_rows.ensures.taken side k) in
     subst (λ a. IfSome (told c.args.files.now) (λ (t : FilesView). (u : FilesView) × (told c.run_rows.new.files ≡ Some u) × TakesWhole a tasks t u)) same
     (takes_whole r q tasks (told c.args.files.now) (told c.query_text.new.files) (told c.run_rows.new.files) has c.in-Ok.ensures.uses rows)

@@ -21,13 +21,13 @@ pub returns-in-Ok-planned-clause-plan : goal.returns-in-Ok-planned-clause-plan
 returns-in-Ok-planned-clause-plan g c =
     let q : Tree = tree_of c.in-Ok-planned.plan in
     let ok : HasPlan c.in-Ok.text.items q = subst (λ t. HasPlan t q) c.deref.ensures.value c.in-Ok-planned.ensures.plan in
-    some_map (λ (t : FilesView). BeginsFile t.contents c.args.name.now c.in-Ok.text.items) (λ t. IsPlanned t.contents c.args.name.now q) _ (λ t b. planned_of c.laws.ensures t.contents c.args.name.now c.in-Ok.text.items q b ok) c.in-Ok.ensures.front
+    some_map (λ (t : FilesView). BeginsFile t.contents c.args.name.now c.in-Ok.text.items) (λ t. IsPlanned t.contents c.args.name.now q) _ (λ t b. planned_of t.contents c.args.name.now c.in-Ok.text.items q b ok) c.in-Ok.ensures.front
 
 pub returns-clause-lacks : goal.returns-clause-lacks
 returns-clause-lacks g c =
     let o = c.in-Err-planned.outcome in
     let err : IsTextFault c.in-Ok.text.items o = subst (λ t. IsTextFault t o) c.deref.ensures.value c.in-Err-planned.ensures.fault in
-    some_map (λ (t : FilesView). BeginsFile t.contents c.args.name.now c.in-Ok.text.items) (λ t. LacksPlan t.contents c.args.name.now o) _ (λ t b. text_lacks_plan c.laws.ensures t.contents c.args.name.now c.in-Ok.text.items o b err) c.in-Ok.ensures.front
+    some_map (λ (t : FilesView). BeginsFile t.contents c.args.name.now c.in-Ok.text.items) (λ t. LacksPlan t.contents c.args.name.now o) _ (λ t b. text_lacks_plan t.contents c.args.name.now c.in-Ok.text.items o b err) c.in-Ok.ensures.front
 
 pub returns-clause-uses : goal.returns-clause-uses
 returns-clause-uses g c = uses_refused c.args.name.now _ c.in-Err-planned.outcome _ _ c.in-Err-planned.ensures.fault c.in-Ok.ensures.uses

@@ -35,4 +35,4 @@ pub returns-in-Err-clause-written : goal.returns-in-Err-clause-written
 returns-in-Err-clause-written g c =
     let q = tree_of c.args.plan.now in
     let s = c.args.sizes.now in
-    ([], appended-none _, for_any (λ (t : FilesView). AnsweredIn q s.task s.ring (limits_of s) s.flush (contents_of t.contents (row_names (asked_run c.args.command.now))) c.in-Err.outcome 0 []) _ (λ t. no_answer c.laws.ensures q s.task s.ring (limits_of s) s.flush _ c.in-Err.outcome c.requires.checked c.in-Err.ensures.kinds))
+    ([], appended-none _, for_any (λ (t : FilesView). AnsweredIn q s.task s.ring (limits_of s) s.flush (contents_of t.contents (row_names (asked_run c.args.command.now))) c.in-Err.outcome 0 []) _ (λ t. no_answer q s.task s.ring (limits_of s) s.flush _ c.in-Err.outcome c.requires.checked c.in-Err.ensures.kinds))

@@ -27,7 +27,7 @@ returns-in-Err-clause-written g c =
       [],
       appended-none _,
       λ n. for_any (λ (t : FilesView). Answers ws t.contents c.unread.result 0 []) _
-          (λ t. subst (λ o. Answers ws t.contents o 0 []) (sym c.unread.ensures) (unread_answers c.laws.ensures ws t.contents c.in-Err.fault (λ e. c.in-Err.ensures.usage (ap Err e)))),
+          (λ t. subst (λ o. Answers ws t.contents o 0 []) (sym c.unread.ensures) (unread_answers ws t.contents c.in-Err.fault (λ e. c.in-Err.ensures.usage (ap Err e)))),
     )
 
 pub returns-in-Run-clause-written : goal.returns-in-Run-clause-written

@@ -23,7 +23,7 @@ returns-in-Err-clause-dispatched g c =
     let w = g.W.Work in let given = g.P.Supply.has_given in let e = c.next_rows.ensures in let lead = (view c.args.seat.now).lead in
     let before = given c.loop-own.supply c.loop-own.from in let after = given c.next_rows.new.supply c.next_rows.new.from in let at = (view c.next_rows.new.seat).lead in
     let all : AllDispatched w.is_told w.upto before c.loop-own.tasks lead at = subst (AllDispatched w.is_told w.upto before c.loop-own.tasks lead) (sym e.kept.0) c.loop-own.invariant.5 in
-    dispatch_ended w.is_told w.filled w.upto w.is_rows w.keeps w.whole before after c.loop-own.tasks (g.P.Supply.is_over c.next_rows.new.supply) (record { tasks = c.loop-own.tasks; over = c.in-Err.over }) lead at all
+    dispatch_ended w.is_told w.filled w.upto w.is_rows w.keeps w.whole before after c.loop-own.tasks (g.P.Supply.is_over c.next_rows.new.supply) (record { tasks = c.loop-own.tasks; over = c.in-Err.over; helpers = c.args.helpers }) lead at all
     c.in-Err.ensures.gives (λ is. e.over (c.in-Err.is ∙ ap Err is)) refl
 
 pub returns-in_default-clause-dispatched : goal.returns-in_default-clause-dispatched
@@ -31,7 +31,7 @@ returns-in_default-clause-dispatched g c =
     let w = g.W.Work in let given = g.P.Supply.has_given in let e = c.next_rows.ensures in let lead = (view c.args.seat.now).lead in
     let before = given c.loop-own.supply c.loop-own.from in let after = given c.next_rows.new.supply c.next_rows.new.from in let at = (view c.next_rows.new.seat).lead in
     let all : AllDispatched w.is_told w.upto before c.loop-own.tasks lead at = subst (AllDispatched w.is_told w.upto before c.loop-own.tasks lead) (sym e.kept.0) c.loop-own.invariant.5 in
-    dispatch_dropped w.is_told w.filled w.upto w.is_rows w.keeps w.whole before after c.loop-own.tasks c.in-Ok.own c.in-Ok.ensures.gives (g.P.Supply.is_over c.next_rows.new.supply) (record { tasks = c.loop-own.tasks; over = NoMemory }) lead at all refl no_memory
+    dispatch_dropped w.is_told w.filled w.upto w.is_rows w.keeps w.whole before after c.loop-own.tasks c.in-Ok.own c.in-Ok.ensures.gives (g.P.Supply.is_over c.next_rows.new.supply) (record { tasks = c.loop-own.tasks; over = NoMemory; helpers = c.args.helpers }) lead at all refl no_memory
 
 pub fill_next-requires-clause-frees : goal.fill_next-requires-clause-frees
 fill_next-requires-clause-frees g c =
@@ -50,7 +50,7 @@ returns-then-not-fill_next-clause-dispatched g c =
     let before = given c.loop-own.supply c.loop-own.from in let after = given c.next_rows.new.supply c.next_rows.new.from in let at = (view c.next_rows.new.seat).lead in
     let all : AllDispatched w.is_told w.upto before c.loop-own.tasks lead at = subst (AllDispatched w.is_told w.upto before c.loop-own.tasks lead) (sym e.kept.0) c.loop-own.invariant.5 in
     let p = subst (λ b. Puts w.filled c.in-Ok.own b at (view c.fill_next.new.seat).lead) c.if-not-fill_next.true c.fill_next.ensures.put in
-    let over = g.P.Supply.is_over c.next_rows.new.supply in let dispatched : Dispatched = record { tasks = c.loop-own.tasks; over = Stopped } in
+    let over = g.P.Supply.is_over c.next_rows.new.supply in let dispatched : Dispatched = record { tasks = c.loop-own.tasks; over = Stopped; helpers = c.args.helpers } in
     subst (λ o. DispatchedTo w.is_told w.upto after over dispatched lead o) (sym p) (dispatch_dropped w.is_told w.filled w.upto w.is_rows w.keeps w.whole before after c.loop-own.tasks c.in-Ok.own c.in-Ok.ensures.gives over dispatched lead at all refl no_stop)
 
 pub loop-own-preserved : goal.loop-own-preserved

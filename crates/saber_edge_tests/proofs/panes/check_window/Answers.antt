@@ -3,6 +3,7 @@ use Rattle.saber_plan.specs.Trees.{tree_of}
 use Rattle.saber_plan.specs.GivenRows.{RowsFit}
 use Rattle.saber_plan.specs.Facts.Rows.{fits_back}
 use Rattle.saber_plan.specs.Windows.{no_rows}
+use Rattle.saber_laws.proofs.CheckedLaws.{group_has_one as groups_have_one_window}
 use Rattle.saber_edge_tests.specs.Filling.{fits_nil}
 use Rattle.saber_edge_tests.proofs.PanesFrom.{near}
 use Rattle.saber_edge_tests.proofs.panes.check_window.Goals as goal
@@ -26,4 +27,4 @@ lines_of_window-requires-clause-meets g c = c.in_ok-one.ensures.mark no_rows [] 
 pub lines_of_window-requires-clause-near : goal.lines_of_window-requires-clause-near
 lines_of_window-requires-clause-near g c =
     let q = tree_of c.args.plan.now in
-    near q (c.groups_have_one_window.ensures q c.requires.0 c.requires.1)
+    near q (groups_have_one_window q c.requires.0 c.requires.1)

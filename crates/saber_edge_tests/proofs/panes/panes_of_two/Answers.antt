@@ -4,6 +4,8 @@ use Rattle.saber_plan.specs.Parts.{merge}
 use Rattle.saber_plan.specs.Trees.{tree_of}
 use Rattle.saber_plan.specs.Windows.{no_rows}
 use Rattle.saber_panes.specs.Panes.{panes_here, CanTakeIn}
+use Rattle.saber_panes.proofs.PaneRooms.{can_join as panes_can_join}
+use Rattle.saber_panes.proofs.PaneRows.{rows_join as panes_join}
 use Rattle.saber_edge_tests.proofs.panes.panes_of_two.Goals as goal
 
 pub take_in-requires : goal.take_in-requires
@@ -14,7 +16,7 @@ take_in-requires g c =
     let few = c.requires.few_first in
     let more = c.requires.few_second in
     subst₂ CanTakeIn (sym c.in_ok-panes.ensures) (ap (λ m. panes_here q m two) (sym c.requires.meets) ∙ sym c.in_ok-later.ensures)
-    (c.panes_can_join.ensures q no_rows one two (omega (arith, few, more)))
+    (panes_can_join q no_rows one two (omega (arith, few, more)))
 
 pub returns : goal.returns
 returns g c =
@@ -23,4 +25,4 @@ returns g c =
     let two = c.args.two.now in
     c.in_ok-take_in.ensures
     ∙ (λ j. both merge (c.in_ok-panes.ensures j) ((c.in_ok-later.ensures ∙ ap (λ m. panes_here q m two) c.requires.meets) j))
-    ∙ sym (c.panes_join.ensures q no_rows one two)
+    ∙ sym (panes_join q no_rows one two)

@@ -1,4 +1,5 @@
-use Rattle.std.proofs.Common.{subst}
+use Rattle.std.proofs.Common.{◌∙◌, sym, subst}
+use Rattle.saber_engine.proofs.FedDry.{adds_came, stays_dry}
 use Rattle.saber_dispatch.specs.Feeding.{StepTo}
 use Rattle.saber_assembly.specs.Works.{input_of}
 use Rattle.saber_engine.specs.FedSupplying.{FeedView, feed_seen}
@@ -29,7 +30,7 @@ returns-in-Ok-clause-gives g c told d h =
     record { on = n.cuts; taken_is = n.stands.0; mark_is = n.stands.1; again = λ x e. (if_some _ _ x e n.again).0; cause = n.cause; sound = n.sound; good = n.good; count = n.count; none = n.none } in
     let p = c.in-Ok.ensures in
     let passes : Passes c.args.blocks.now.keeper c.in-Block.block c.in-Ok.block c.pass_on.new.self = record { same = p.same; gives = p.gives; keeps = p.keeps; places = p.places } in
-    block_given g.O.Operator.plan g.J.BeginsFed.sizes g.J.BeginsFed.faults v w old new c.args.blocks.now.keeper c.args.blocks.now.end c.requires.goes c.step.result called told d h c.blocks_are_supplied.ensures c.in-Block.block c.in-Ok.block c.pass_on.new.self c.in-Block.is passes
+    block_given g.O.Operator.plan g.J.BeginsFed.sizes g.J.BeginsFed.faults v w old new c.args.blocks.now.keeper c.args.blocks.now.end c.requires.goes c.step.result called told d h c.in-Block.block c.in-Ok.block c.pass_on.new.self c.in-Block.is passes
 
 pub returns-in-Err-clause-gives : goal.returns-in-Err-clause-gives
 returns-in-Err-clause-gives g c told d h =
@@ -57,7 +58,7 @@ returns-then-refill-clause-gives g c told d h =
     let old = c.args.blocks.now.cutter in let new = c.step.new.self in let k = c.args.blocks.now.keeper in let end = c.args.blocks.now.end in
     let called : Stepped v w old new c.step.result =
     record { on = n.cuts; taken_is = n.stands.0; mark_is = n.stands.1; again = λ x e. (if_some _ _ x e n.again).0; cause = n.cause; sound = n.sound; good = n.good; count = n.count; none = n.none } in
-    refilled c.refills_keep.ensures plan s before w x new k end c.refill.result c.refill.ensures.more c.refill.ensures.count told d (dry plan s before v w old new k end c.requires.goes c.step.result called told d h c.in-Dry.is)
+    refilled plan s before w x new k end c.refill.result c.refill.ensures.more c.refill.ensures.count told d (dry plan s before v w old new k end c.requires.goes c.step.result called told d h c.in-Dry.is)
 
 pub returns-else-refill-clause-gives : goal.returns-else-refill-clause-gives
 returns-else-refill-clause-gives g c told d h =
@@ -67,4 +68,14 @@ returns-else-refill-clause-gives g c told d h =
     let old = c.args.blocks.now.cutter in let new = c.step.new.self in let k = c.args.blocks.now.keeper in let end = c.args.blocks.now.end in
     let called : Stepped v w old new c.step.result =
     record { on = n.cuts; taken_is = n.stands.0; mark_is = n.stands.1; again = λ x e. (if_some _ _ x e n.again).0; cause = n.cause; sound = n.sound; good = n.good; count = n.count; none = n.none } in
-    refilled c.refills_keep.ensures plan s before w x new k end c.refill.result c.refill.ensures.more c.refill.ensures.count told d (dry plan s before v w old new k end c.requires.goes c.step.result called told d h c.in-Dry.is)
+    refilled plan s before w x new k end c.refill.result c.refill.ensures.more c.refill.ensures.count told d (dry plan s before v w old new k end c.requires.goes c.step.result called told d h c.in-Dry.is)
+
+pub returns-else-refill-clause-dry : goal.returns-else-refill-clause-dry
+returns-else-refill-clause-dry g c e =
+    let f = g.F.Feed in let s = c.step.new.feed in let x = c.refill.new.self in let d = c.step.ensures.dry c.in-Dry.is in
+    stays_dry (f.taken s) (f.taken x) (f.waiting s) (f.waiting x) (f.mark s) (f.mark x) c.refill.result c.refill.ensures.more c.if-refill.false d
+
+pub returns-then-refill-clause-came : goal.returns-then-refill-clause-came
+returns-then-refill-clause-came g c e =
+    let f = g.F.Feed in let s = c.step.new.feed in let x = c.refill.new.self in let d = c.step.ensures.dry c.in-Dry.is in let n = c.step.ensures.stands in
+    (sym n.1 ∙ d.1, adds_came (f.taken c.args.feed.now) (f.taken s) (f.taken x) (f.waiting s) (f.waiting x) (f.mark s) (f.mark x) c.refill.result c.refill.ensures.more c.if-refill.true n.0 d.0)

@@ -16,6 +16,7 @@ use Rattle.saber_engine.specs.Supplying.{first_told}
 use Rattle.saber_engine.specs.FedSupplying.{FeedView, feed_seen, HasFed}
 use Rattle.saber_engine.proofs.Starting.{begins}
 use Rattle.saber_engine.proofs.FedResults.{FedDone, fed_none, fed_done, fed_nothing}
+use Rattle.saber_laws.proofs.CheckedLaws.{checked_fits as checked_fit}
 use Rattle.saber_engine.proofs.fed_plans.run_fed.Goals as goal
 
 pub run-ran-requires-clause-begins : goal.run-ran-requires-clause-begins
@@ -35,9 +36,9 @@ run-ran-requires-clause-begins g c spans live =
     let b = c.requires.begins in
     let nothing : CutsNothingFed (plan op) s cutter = subst (λ z. CutsNothingFed z s cutter) (sym c.requires.plan) c.in-Ok.ensures.cuts in
     let counts : CountsRows keeper (plan op) [] = subst (λ z. CountsRows keeper z []) (sym c.requires.plan) c.in-Ok.ensures.counted in
-    let fits : Fits (frame (plan op)) = subst (λ z. Fits (frame z)) (sym c.requires.plan) (c.checked_fit.ensures (tree_of c.args.plan.now) c.requires.checked) in
+    let fits : Fits (frame (plan op)) = subst (λ z. Fits (frame z)) (sym c.requires.plan) (checked_fit (tree_of c.args.plan.now) c.requires.checked) in
     let is : HasFed plan s v.faults v cutter keeper None (first_told op s.task (wrote stage.sink) (failed stage.sink)) 0 = fed_none plan op s v (wrote stage.sink) (failed stage.sink) cutter keeper nothing c.in-Ok.ensures.goes c.requires.fresh c.requires.sizes.task.0 c.in-Ok.ensures.kept counts in
-    begins plan g.O.Operator.contents g.O.Operator.has_taken wrote failed op s.task stage c.no_tasks_no_rows.ensures fits c.requires.sizes.task.0 c.args.sink e.sink e.none e.runs e.keeps (HasFed plan g.J.BeginsFed.sizes g.J.BeginsFed.faults v cutter keeper end)
+    begins plan g.O.Operator.contents g.O.Operator.has_taken wrote failed op s.task stage fits c.requires.sizes.task.0 c.args.sink e.sink e.none e.runs e.keeps (HasFed plan g.J.BeginsFed.sizes g.J.BeginsFed.faults v cutter keeper end)
     (transport (λ i. HasFed plan (sym b.0 i) (sym b.1 i) v cutter keeper (sym c.in-Ok.ensures.end i) (first_told op s.task (wrote stage.sink) (failed stage.sink)) 0) is)
 
 pub returns-in-Ok-ran : goal.returns-in-Ok-ran
@@ -64,7 +65,7 @@ returns-in-Ok-ran g c =
     let ends = x.end ∙ ap (end_of stage.state fed.over) c.let_go-end.ensures in
     let r : RunsTo (IsTold plan) first_tasks (IsStageOf plan (stage_view g.O.Operator.contents wrote failed) g.O.Operator.has_taken) (HasFed plan s before v cutter keeper end) (IsSome end) (first_told op s.task w f) stage fed =
     transport (λ i. RunsTo (IsTold plan) first_tasks (IsStageOf plan (stage_view g.O.Operator.contents wrote failed) g.O.Operator.has_taken) (HasFed plan (b.0 i) (b.1 i) v cutter keeper end) (IsSome end) (first_told op s.task (wrote (e.sink i)) (failed (e.sink i))) stage fed) c.in-Ok-ran.ensures.ended in
-    let over = fed_done c.first_of_first.ensures c.fed_blocks_are_tasks.ensures c.cuts_leave_whole_tasks.ensures plan g.O.Operator.contents g.O.Operator.has_taken wrote failed op s c.requires.sizes.task.0 w f v before cutter keeper end stage fed r in
+    let over = fed_done plan g.O.Operator.contents g.O.Operator.has_taken wrote failed op s c.requires.sizes.task.0 w f v before cutter keeper end stage fed r in
     let d : FedDone q s v before w f c.ended-in-Ok-ran.result.end c.ended-in-Ok-ran.result.tasks (wrote c.ended-in-Ok-ran.result.sink) (failed c.ended-in-Ok-ran.result.sink) =
     transport (λ i. FedDone (c.requires.plan i) s v before w f (sym ends i) (sym x.tasks i) (wrote (sym x.sink i)) (failed (sym x.sink i))) over in
     record {
@@ -96,7 +97,7 @@ returns-in_default g c =
     let ends : c.ended.result.end ≡ NoMemory = x.end ∙ ap (λ z. end_of z over_by.NoMemory None) e.runs in
     let counts : c.ended.result.tasks ≡ 0 = x.tasks ∙ e.none in
     let sink : c.ended.result.sink ≡ c.args.sink = x.sink ∙ e.sink in
-    let nothing = fed_nothing c.no_rows_give_nothing.ensures c.no_tasks_no_rows.ensures q (c.checked_fit.ensures q c.requires.checked) s v w f in
+    let nothing = fed_nothing q (checked_fit q c.requires.checked) s v w f in
     let d : FedDone q s v v.faults w f c.ended.result.end c.ended.result.tasks (wrote c.ended.result.sink) (failed c.ended.result.sink) =
     transport (λ i. FedDone q s v v.faults w f (sym ends i) (sym counts i) (wrote (sym sink i)) (failed (sym sink i))) nothing in
     record {
@@ -130,7 +131,7 @@ returns-in-Err g c =
     let ends : c.ended-in-Err.result.end ≡ NoMemory = x.end ∙ ap (λ z. end_of z.state over_by.NoMemory None) same.0 ∙ ap (λ z. end_of z over_by.NoMemory None) e.runs in
     let counts : c.ended-in-Err.result.tasks ≡ 0 = x.tasks ∙ ap (λ z. z.k) same.0 ∙ e.none in
     let sink : c.ended-in-Err.result.sink ≡ c.args.sink = x.sink ∙ ap (λ z. z.sink) same.0 ∙ e.sink in
-    let nothing = fed_nothing c.no_rows_give_nothing.ensures c.no_tasks_no_rows.ensures q (c.checked_fit.ensures q c.requires.checked) s v w f in
+    let nothing = fed_nothing q (checked_fit q c.requires.checked) s v w f in
     let d : FedDone q s (seen_as c.run-ran.new.from) v.faults w f c.ended-in-Err.result.end c.ended-in-Err.result.tasks (wrote c.ended-in-Err.result.sink) (failed c.ended-in-Err.result.sink) =
     transport (λ i. FedDone q s (seen_as (sym same.2 i)) v.faults w f (sym ends i) (sym counts i) (wrote (sym sink i)) (failed (sym sink i))) nothing in
     record {

@@ -19,6 +19,7 @@ use Rattle.saber_dispatch.specs.Leaving.{GaveAll}
 use Rattle.saber_engine.specs.Supplying.{HasGiven, first_told}
 use Rattle.saber_engine.proofs.Starting.{given_none, begins}
 use Rattle.saber_engine.proofs.Results.{Done, done, done_nothing, suits, if_told, took, took_none}
+use Rattle.saber_laws.proofs.CheckedLaws.{checked_fits as checked_fit}
 use Rattle.saber_engine.proofs.plans.run_plan.Goals as goal
 
 pub run-ran-requires-clause-begins : goal.run-ran-requires-clause-begins
@@ -40,9 +41,9 @@ run-ran-requires-clause-begins g c spans live =
     let nothing : CutsNothing (plan op) s cutter = subst (λ z. CutsNothing z s cutter) (sym c.requires.plan) c.in-Ok.ensures.cuts in
     let many : Suits (fresh (plan op) (limits_of s)) left = subst (λ z. Suits (fresh z (limits_of s)) left) (sym c.requires.plan) (suits q (limits_of s) g.S.Source.left c.args.inputs.now c.requires.inputs) in
     let counts : CountsRows keeper (plan op) [] = subst (λ z. CountsRows keeper z []) (sym c.requires.plan) c.in-Ok.ensures.counted in
-    let fits : Fits (frame (plan op)) = subst (λ z. Fits (frame z)) (sym c.requires.plan) (c.checked_fit.ensures q c.requires.checked) in
+    let fits : Fits (frame (plan op)) = subst (λ z. Fits (frame z)) (sym c.requires.plan) (checked_fit q c.requires.checked) in
     let is : HasGiven plan s left left faults faults cutter keeper None (first_told op s.task (wrote stage.sink) (failed stage.sink)) 0 = given_none plan op s left faults (wrote stage.sink) (failed stage.sink) cutter keeper nothing c.in-Ok.ensures.goes many c.in-Ok.ensures.kept counts in
-    begins plan g.O.Operator.contents g.O.Operator.has_taken wrote failed op s.task stage c.no_tasks_no_rows.ensures fits c.requires.sizes.task.0 c.args.sink e.sink e.none e.runs e.keeps (HasGiven plan g.J.Begins.sizes g.J.Begins.lefts left g.J.Begins.faults faults cutter keeper end)
+    begins plan g.O.Operator.contents g.O.Operator.has_taken wrote failed op s.task stage fits c.requires.sizes.task.0 c.args.sink e.sink e.none e.runs e.keeps (HasGiven plan g.J.Begins.sizes g.J.Begins.lefts left g.J.Begins.faults faults cutter keeper end)
     (transport (λ i. HasGiven plan (sym b.0 i) (sym b.1 i) left (sym b.2 i) faults cutter keeper (sym c.in-Ok.ensures.end i) (first_told op s.task (wrote stage.sink) (failed stage.sink)) 0) is)
 
 pub returns-in-Ok-ran : goal.returns-in-Ok-ran
@@ -70,7 +71,7 @@ returns-in-Ok-ran g c =
     let ends = x.end ∙ ap (end_of stage.state fed.over) c.let_go-end.ensures in
     let r : RunsTo (IsTold plan) first_tasks (IsStageOf plan (stage_view g.O.Operator.contents wrote failed) g.O.Operator.has_taken) (HasGiven plan s had has before now cutter keeper end) (IsSome end) (first_told op s.task w f) stage fed =
     transport (λ i. RunsTo (IsTold plan) first_tasks (IsStageOf plan (stage_view g.O.Operator.contents wrote failed) g.O.Operator.has_taken) (HasGiven plan (b.0 i) (b.1 i) has (b.2 i) now cutter keeper end) (IsSome end) (first_told op s.task (wrote (e.sink i)) (failed (e.sink i))) stage fed) c.in-Ok-ran.ensures.ended in
-    let over = done c.first_of_first.ensures c.blocks_are_tasks.ensures c.faults_leave_whole_tasks.ensures plan g.O.Operator.contents g.O.Operator.has_taken wrote failed op s w f had has before now cutter keeper end stage fed r in
+    let over = done plan g.O.Operator.contents g.O.Operator.has_taken wrote failed op s w f had has before now cutter keeper end stage fed r in
     let d : Done q s had has before now w f c.ended-in-Ok-ran.result.end c.ended-in-Ok-ran.result.tasks (wrote c.ended-in-Ok-ran.result.sink) (failed c.ended-in-Ok-ran.result.sink) =
     transport (λ i. Done (c.requires.plan i) s had has before now w f (sym ends i) (sym x.tasks i) (wrote (sym x.sink i)) (failed (sym x.sink i))) over in
     record {
@@ -101,7 +102,7 @@ returns-in_default g c =
     let ends : c.ended.result.end ≡ NoMemory = x.end ∙ ap (λ z. end_of z over_by.NoMemory None) e.runs in
     let counts : c.ended.result.tasks ≡ 0 = x.tasks ∙ e.none in
     let sink : c.ended.result.sink ≡ c.args.sink = x.sink ∙ e.sink in
-    let nothing = done_nothing c.no_rows_give_nothing.ensures c.no_tasks_no_rows.ensures q (c.checked_fit.ensures q c.requires.checked) s had before w f in
+    let nothing = done_nothing q (checked_fit q c.requires.checked) s had before w f in
     let d : Done q s had had before before w f c.ended.result.end c.ended.result.tasks (wrote c.ended.result.sink) (failed c.ended.result.sink) =
     transport (λ i. Done q s had had before before w f (sym ends i) (sym counts i) (wrote (sym sink i)) (failed (sym sink i))) nothing in
     record {
@@ -135,7 +136,7 @@ returns-in-Err g c =
     let ends : c.ended-in-Err.result.end ≡ NoMemory = x.end ∙ ap (λ z. end_of z.state over_by.NoMemory None) same.0 ∙ ap (λ z. end_of z over_by.NoMemory None) e.runs in
     let counts : c.ended-in-Err.result.tasks ≡ 0 = x.tasks ∙ ap (λ z. z.k) same.0 ∙ e.none in
     let sink : c.ended-in-Err.result.sink ≡ c.args.sink = x.sink ∙ ap (λ z. z.sink) same.0 ∙ e.sink in
-    let nothing = done_nothing c.no_rows_give_nothing.ensures c.no_tasks_no_rows.ensures q (c.checked_fit.ensures q c.requires.checked) s had before w f in
+    let nothing = done_nothing q (checked_fit q c.requires.checked) s had before w f in
     let d : Done q s had (left c.run-ran.new.from) before (faults c.run-ran.new.from) w f c.ended-in-Err.result.end c.ended-in-Err.result.tasks (wrote c.ended-in-Err.result.sink) (failed c.ended-in-Err.result.sink) =
     transport (λ i. Done q s had (left (sym same.2 i)) before (faults (sym same.2 i)) w f (sym ends i) (sym counts i) (wrote (sym sink i)) (failed (sym sink i))) nothing in
     record {

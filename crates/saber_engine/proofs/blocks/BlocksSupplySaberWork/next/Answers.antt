@@ -26,7 +26,7 @@ returns-in-Ok-clause-gives g c told d h =
     record { on = n.cuts; again = λ x e. (if_some _ _ x e n.again).0; cause = n.cause; sound = n.sound; good = n.good; count = n.count } in
     let p = c.in-Ok.ensures in
     let passes : Passes c.args.self.now.keeper c.in-Block.block c.in-Ok.block c.pass_on.new.self = record { same = p.same; gives = p.gives; keeps = p.keeps; places = p.places } in
-    block_given g.O.Operator.plan g.J.Begins.sizes g.J.Begins.lefts (left c.args.from.now) (left c.next_block.new.inputs) g.J.Begins.faults (faults c.args.from.now) (faults c.next_block.new.inputs) old new c.args.self.now.keeper c.args.self.now.end c.in-None.is cut called told d h c.blocks_are_supplied.ensures c.in-Block.block c.in-Ok.block c.pass_on.new.self c.in-Block.is passes
+    block_given g.O.Operator.plan g.J.Begins.sizes g.J.Begins.lefts (left c.args.from.now) (left c.next_block.new.inputs) g.J.Begins.faults (faults c.args.from.now) (faults c.next_block.new.inputs) old new c.args.self.now.keeper c.args.self.now.end c.in-None.is cut called told d h c.in-Block.block c.in-Ok.block c.pass_on.new.self c.in-Block.is passes
 
 pub returns-in-Err-clause-gives : goal.returns-in-Err-clause-gives
 returns-in-Err-clause-gives g c told d h =

@@ -34,7 +34,7 @@ returns-in-Ok-clause-gives g c told d h =
     let called : Called (left c.args.from.now) (left c.next_block.new.inputs) (faults c.args.from.now) (faults c.next_block.new.inputs) old new cut =
     record { on = n.cuts; again = λ x e. (if_some _ _ x e n.again).0; cause = n.cause; sound = n.sound; good = n.good; count = n.count } in
     blocks_given g.O.Operator.plan g.J.Begins.sizes g.J.Begins.lefts (left c.args.from.now) (left c.next_block.new.inputs) g.J.Begins.faults (faults c.args.from.now) (faults c.next_block.new.inputs) old new c.args.self.now.end c.in-None.is cut called
-    c.blocks_are_supplied.ensures c.in-Block.block c.in-Block.is c.args.self.now.keepers.items c.in-Ok.blocks.items c.deal-dealt.new.keepers.items c.in-Ok.ensures.deals told d h
+    c.in-Block.block c.in-Block.is c.args.self.now.keepers.items c.in-Ok.blocks.items c.deal-dealt.new.keepers.items c.in-Ok.ensures.deals told d h
 
 pub returns-in-Err-clause-gives : goal.returns-in-Err-clause-gives
 returns-in-Err-clause-gives g c told d h =
