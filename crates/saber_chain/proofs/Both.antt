@@ -38,6 +38,7 @@ use Rattle.saber_chain.specs.Marks.{mark_after, IsWhole}
 use Rattle.saber_chain.specs.declared.chained.Chained.{Chained}
 use Rattle.saber_chain.specs.Firsts.{RunsFirst, RanFirst}
 use Rattle.saber_chain.specs.Seconds.{RunsSecond}
+use Rattle.saber_chain.specs.Stops.{SecondStops}
 use Rattle.saber_chain.specs.Chains.{Chains, RunsBoth}
 use Rattle.saber_chain.proofs.Settling.{settled}
 
@@ -92,7 +93,7 @@ module _ {S K : Type 0} (left : S → Option (List ℕ)) (faults : S → ℕ) (w
   pub both_runs : (first second : Tree) (s : Sizes) (had has : Inputs S) (sink sink' : K) (c : Chained S K) (end end' : RunEnd) (tasks tasks' : ℕ) (out taken : List ℕ) (sent mark : Option EndMark)
       → RanFirst left faults first s had has end tasks out sent → RunsSecond second s taken mark (written sink) (written sink') end' tasks'
       → (end' ≡ WriteFault → Rose (sink_faults sink) (sink_faults sink')) → (end' ≢ WriteFault → sink_faults sink' ≡ sink_faults sink) → sink_faults sink ≤ sink_faults sink'
-      → {stopped : Bool} → MayStop end' stopped → c.second_stopped ≡ stopped
+      → {stopped : Bool} → MayStop end' stopped → c.second_stopped ≡ Some stopped
       → (c.first ≡ end) × (c.second ≡ end') → (c.first_tasks ≡ tasks) × (c.tasks ≡ tasks') → (c.inputs ≡ has) × (c.sink ≡ sink')
       → Settled out (Some (mark_after c.first)) taken mark → RunsBoth left faults written sink_faults first second s had sink c
   both_runs first second s had has sink sink' c end end' tasks tasks' out taken sent mark ran runs write good rises may same ends counts backs done =
@@ -105,7 +106,7 @@ module _ {S K : Type 0} (left : S → Option (List ℕ)) (faults : S → ℕ) (w
         write = λ e. subst (λ z. Rose (sink_faults sink) (sink_faults z)) (sym backs.1) (write (sym ends.1 ∙ e));
         write_good = λ n. ap sink_faults backs.1 ∙ good (λ e. n (ends.1 ∙ e));
         writes = subst (λ z. sink_faults sink ≤ sink_faults z) (sym backs.1) rises;
-        stopped = transport (λ i. MayStop (sym ends.1 i) (sym same i)) may;
+        stopped = transport (λ i. SecondStops c.first (sym ends.1 i) (sym same i)) may;
       }
 
   -- what both runs give is what a chain gives
@@ -148,7 +149,7 @@ nothing_given q fits n ring read = record {
 -- no memory for the pipe
 pub no_pipe : (first second : Tree) → Fits (frame first) → Fits (frame second) → (s : Sizes) (files : Option (List (List ℕ))) (had : Option (List ℕ))
     → {S K : Type 0} (inputs : Inputs S) (sink : K)
-    → Chains first second s files had had (record { first = NoMemory; second = NoMemory; second_stopped = false; inputs = inputs; sink = sink; first_tasks = 0; tasks = 0 })
+    → Chains first second s files had had (record { first = NoMemory; second = NoMemory; second_stopped = None; inputs = inputs; sink = sink; first_tasks = 0; tasks = 0 })
 no_pipe first second fits fits' s files had inputs sink = record {
   between = [];
   out = [];

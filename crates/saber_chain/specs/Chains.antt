@@ -10,13 +10,13 @@ use Rattle.saber_dispatch.specs.declared.inputs.Inputs.{Inputs}
 use Rattle.saber_plan.specs.declared.ends.RunEnd.TheVariants.{ReadFault, WriteFault}
 use Rattle.saber_plan.specs.Files.{input_of}
 use Rattle.saber_plan.specs.Runs.{Gives}
-use Rattle.saber_engine.specs.Endings.{MayStop}
 use Rattle.saber_engine.specs.FedRuns.{TakesWhole}
 use Rattle.saber_chain.specs.declared.chained.Chained.{Chained}
 use Rattle.saber_chain.specs.Texts.{between_limits, rows_between, text_of_both}
 use Rattle.saber_chain.specs.Marks.{mark_after, IsWhole}
 use Rattle.saber_chain.specs.Firsts.{RunsFirst}
 use Rattle.saber_chain.specs.Seconds.{ReadsBetween}
+use Rattle.saber_chain.specs.Stops.{SecondStops}
 
 -- What goes out is what the second query gives over the lines that the first one gave; and where both texts are whole, the text of both. The
 -- files of the first query may tell their bytes.
@@ -38,4 +38,4 @@ module _ {S K : Type 0} (left : S → Option (List ℕ)) (faults : S → ℕ) (w
     pub write : c.second ≡ WriteFault → Rose (sink_faults sink) (sink_faults c.sink)
     pub write_good : c.second ≢ WriteFault → sink_faults c.sink ≡ sink_faults sink
     pub writes : sink_faults sink ≤ sink_faults c.sink
-    pub stopped : MayStop c.second c.second_stopped
+    pub stopped : SecondStops c.first c.second c.second_stopped

@@ -3,3 +3,4 @@ pub mod Marks
 pub mod Firsts
 pub mod Seconds
 pub mod Chains
+pub mod Stops

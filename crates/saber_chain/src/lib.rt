@@ -26,4 +26,4 @@ mod settle;
 
 pub use chained::Chained;
 pub use runs::chain;
-pub use saber_engine::{Inputs, RunEnd};
+pub use saber_engine::{Inputs, RunEnd, Stopped};

@@ -13,8 +13,8 @@ ghost use Rattle.saber_plan.specs.declared.ends.RunEnd.{RunEnd};
 ghost use Rattle.saber_engine.specs.Sources.{each_input, told_by, RoseAt, NoneFell, GaveAll};
 ghost use Rattle.saber_plan.specs.Runs.{IsClean};
 ghost use Rattle.saber_engine.specs.Gives.{LeavesWhole};
-ghost use Rattle.saber_engine.specs.Endings.{MayStop};
 ghost use Rattle.saber_chain.specs.Marks.{IsWhole, IsShort};
+ghost use Rattle.saber_chain.specs.Stops.{SecondStops};
 ghost use Rattle.saber_chain.specs.Firsts.{RanFirstTo};
 ghost use Rattle.saber_chain.specs.Chains.{Chains, RunsBoth};
 
@@ -177,8 +177,8 @@ pub fn chain<
     ensures narrow { (task need : ℕ) → result.second ≢ RunEnd.TooWide task need }
 
     // The second query's stage was stopped where a write failed, maybe where memory lacked, and at
-    // no other end.
-    ensures stopped { MayStop result.second result.second_stopped }
+    // no other end. It has no stage only where both lacked memory.
+    ensures stopped { SecondStops result.first result.second result.second_stopped }
 
     // A fault of writing is real, none is passed over, and the count doesn't fall.
     ensures write { result.second ≡ RunEnd.WriteFault → Rose (K.faults sink) (K.faults result.sink) }
@@ -195,7 +195,7 @@ pub fn chain<
         Err(_) => Chained {
             first: RunEnd::NoMemory,
             second: RunEnd::NoMemory,
-            second_stopped: false,
+            second_stopped: None,
             inputs,
             sink,
             first_tasks: 0,

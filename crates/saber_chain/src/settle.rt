@@ -27,7 +27,7 @@ pub(crate) fn settle<S, K, P: PipeName, R: Wait>(
 ) -> Chained<S, K>
     requires mark { mark_by receipt ≡ Some (mark_after first.end) }
     ensures ends { (result.first ≡ first.end) × (result.second ≡ second.entry.ran.end) }
-    ensures stopped { result.second_stopped ≡ second.entry.ran.stopped }
+    ensures stopped { result.second_stopped ≡ Some second.entry.ran.stopped }
     ensures tasks { (result.first_tasks ≡ first.tasks) × (result.tasks ≡ second.entry.ran.tasks) }
     ensures given_back { (result.inputs ≡ first.inputs) × (result.sink ≡ second.entry.ran.sink) }
     ensures settled { Settled (written_by receipt) (Some (mark_after result.first)) (taken_by second.entry.relay) (mark_in second.entry.relay) }
@@ -37,7 +37,7 @@ pub(crate) fn settle<S, K, P: PipeName, R: Wait>(
     Chained {
         first: first.end,
         second: ran.end,
-        second_stopped: ran.stopped,
+        second_stopped: Some(ran.stopped),
         inputs: first.inputs,
         sink: ran.sink,
         first_tasks: first.tasks,

@@ -27,6 +27,7 @@ use Rattle.saber_chain.specs.Texts.{text_of_both}
 use Rattle.saber_chain.specs.Marks.{IsWhole, IsShort}
 use Rattle.saber_chain.specs.declared.chained.Chained.{Chained}
 use Rattle.saber_chain.specs.Chains.{Chains}
+use Rattle.saber_chain.specs.Stops.{SecondStops, stopped_of}
 use Rattle.saber_notes.specs.declared.outcome.InputFile.TheVariants.{Query, Left, Right, SecondQuery}
 use Rattle.saber_notes.specs.declared.outcome.Outcome.{Outcome}
 use Rattle.saber_notes.specs.declared.outcome.Outcome.TheVariants.{Done, Usage, FileCount, QueryFault, SecondQueryFault, Unchainable, LineRefused, ChainLineRefused, OpenFault, ReadFault, TooWide, WriteFault, NoMemory}
@@ -40,7 +41,7 @@ use Rattle.saber_cli.specs.RowFiles.{OpensAll, raised_by, after_use}
 use Rattle.saber_cli.specs.Chained.{AnswersChain, AsksChainRows, ChainsOver, CutTakesChain, HasPlans, HasReason, IsAnswered, IsChainable, RunsChain, chain_sizes, not_run, both_run}
 use Rattle.saber_cli.specs.Taken.{TakesOf, TakesRows}
 use Rattle.saber_cli.specs.ChainLeaves.{HadFaultsAt, LeavesChain, MatchesChain}
-use Rattle.saber_cli.specs.Chaining.{BothRead, ChainedIn, ChainedTold, CutTakes, UsesChainRows, all_run, none_run}
+use Rattle.saber_cli.specs.Chaining.{BothRead, ChainedIn, ChainedTold, CutTakes, RunsChainSo, UsesChainRows, all_run, none_run}
 use Rattle.saber_cli.proofs.FileLemmas.{rose_some}
 use Rattle.saber_cli.proofs.AnsweredLemmas.{clean_by, read_by, write_by}
 use Rattle.saber_cli.proofs.RowLemmas.{all_told, back_length, backs, both_used, faults_of, gave_length, lefts_of, no_faults_same, of_told, run_cause, run_takes}
@@ -193,13 +194,18 @@ chained_whole ring first ends.WriteFault stopped cut narrow h = absurd h
 chained_whole ring first ends.NoMemory true cut narrow h = absurd h
 chained_whole ring first ends.NoMemory false cut narrow h = absurd (lack_unanswered ring first h)
 
+-- the second query's stage, as the chain tells it
+may_stop : (first second : RunEnd) (told : Option Bool) → SecondStops first second told → MayStop second (stopped_of told)
+may_stop first second None s = subst (λ e. MayStop e false) (sym s.1) tt
+may_stop first second (Some stopped) s = s
+
 -- both runs of a chain, by how each ended
-pub runs_chain : {S K : Type 0} (p q : Tree) (s : Sizes) (leaves : RunEnd → ℕ → Type 0) (files : Option (List (List ℕ))) (had has : Option (List ℕ)) (o : Outcome) (e : Chained S K) → o ≡ chained_as s.ring e.first e.second e.second_stopped → MayStop e.second e.second_stopped → Chains p q s files had has e → leaves e.first e.first_tasks
+runs_chain : {S K : Type 0} (p q : Tree) (s : Sizes) (leaves : RunEnd → ℕ → Type 0) (files : Option (List (List ℕ))) (had has : Option (List ℕ)) (o : Outcome) (e : Chained S K) (stopped : Bool) → o ≡ chained_as s.ring e.first e.second stopped → MayStop e.second stopped → Chains p q s files had has e → leaves e.first e.first_tasks
     → e.first ≢ ends.WriteFault → (e.second ≡ ends.AllRead → IsWhole e.first) → ((side : Side) → e.second ≡ ends.ReadFault side → IsShort e.first) → ((task need : ℕ) → e.second ≢ ends.TooWide task need) → RunsChain p q s leaves files had has o e.tasks
-runs_chain p q s leaves files had has o e is stops g whole never all cut narrow = record {
+runs_chain p q s leaves files had has o e stopped is stops g whole never all cut narrow = record {
   first = e.first;
   second = e.second;
-  stopped = e.second_stopped;
+  stopped = stopped;
   stops = stops;
   first_tasks = e.first_tasks;
   outcome = is;
@@ -214,9 +220,19 @@ runs_chain p q s leaves files had has o e is stops g whole never all cut narrow 
   all = all;
   cut = cut;
   narrow = narrow;
-  whole = λ h. let w = chained_whole s.ring e.first e.second e.second_stopped cut narrow (subst IsAnswered is h) in
+  whole = λ h. let w = chained_whole s.ring e.first e.second stopped cut narrow (subst IsAnswered is h) in
       some_map (λ (fs : List (List ℕ)). g.out ≡ text_of_both p q (going_on (input_of p (limits_of s) fs).rows)) (λ fs. has ≡ appended_text had (text_of_both p q (going_on (input_of p (limits_of s) fs).rows))) files (λ fs k. g.written ∙ ap (appended_text had) k) (g.whole_text w.0 w.1);
 }
+
+-- and by what the second run tells of its stage
+pub runs_so : {S K : Type 0} (p q : Tree) (s : Sizes) (leaves : RunEnd → ℕ → Type 0) (files : Option (List (List ℕ))) (had has : Option (List ℕ)) (o : Outcome) (e : Chained S K) (stopped : Bool) → o ≡ chained_as s.ring e.first e.second stopped → stopped ≡ stopped_of e.second_stopped → SecondStops e.first e.second e.second_stopped → Chains p q s files had has e → leaves e.first e.first_tasks
+    → e.first ≢ ends.WriteFault → (e.second ≡ ends.AllRead → IsWhole e.first) → ((side : Side) → e.second ≡ ends.ReadFault side → IsShort e.first) → ((task need : ℕ) → e.second ≢ ends.TooWide task need) → RunsChainSo p q s leaves files had has o e.tasks e.second_stopped
+unfolding runs_chain
+runs_so p q s leaves files had has o e stopped is told stops g whole never all cut narrow = (
+  runs_chain p q s leaves files had has o e stopped is (subst (MayStop e.second) (sym told) (may_stop e.first e.second e.second_stopped stops)) g whole never all cut narrow,
+  stops,
+  told,
+)
 
 -- the same where more, or other things, are known of the first query's tasks
 runs_on : (p q : Tree) (s : Sizes) (A B : RunEnd → ℕ → Type 0) (files : Option (List (List ℕ))) (had has : Option (List ℕ)) (o : Outcome) (tasks : ℕ) → ((e : RunEnd) (n : ℕ) → A e n → B e n)

@@ -1,5 +1,5 @@
 -- What the parts of a chain come to: a query's plan, both plans, and the run over the row files.
-use Rattle.std.specs.Prelude.{◌≡◌, ◌≢◌, ◌≤◌, ℕ, suc, List, [], ◌∷◌, length, take, Option, Some, IfSome}
+use Rattle.std.specs.Prelude.{Bool, ◌≡◌, ◌≢◌, ◌≤◌, ℕ, suc, List, [], ◌∷◌, length, take, Option, Some, IfSome}
 use Rattle.saber_io.specs.Outside.{FilesView, Closed}
 use Rattle.saber_plan.specs.declared.plans.Shape.TheVariants.{Join}
 use Rattle.saber_plan.specs.declared.rows.Side.{Side}
@@ -8,6 +8,7 @@ use Rattle.saber_plan.specs.Sizes.{limits_of}
 use Rattle.saber_plan.specs.Trees.{Tree}
 use Rattle.saber_plan.specs.declared.ends.RunEnd.{RunEnd}
 use Rattle.saber_plan.specs.declared.ends.RunEnd.TheVariants as ends
+use Rattle.saber_chain.specs.Stops.{SecondStops, stopped_of}
 use Rattle.saber_notes.specs.declared.outcome.InputFile.TheVariants.{Query, SecondQuery}
 use Rattle.saber_notes.specs.declared.outcome.Outcome.{Outcome}
 use Rattle.saber_notes.specs.declared.outcome.Outcome.TheVariants.{QueryFault, SecondQueryFault, Unchainable, FileCount, OpenFault, ReadFault, NoMemory}
@@ -67,6 +68,10 @@ pub record UsesChainRows (names : List (List ℕ)) (o : Outcome) (old new : Opti
   pub told : new ≡ after_use old (take count names) given_back
   pub are_of : IfSome old (λ t. AreOf 0 t.contents given_back names)
   pub matches : (one two : Closed) → one.1 ≡ 0 → two.1 ≡ 0 → MatchesChain (suc (suc (length names))) o (suc (suc count)) (one ∷ two ∷ given_back)
+
+-- Both were run, and whether the second one's stage was stopped, by which the outcome goes, is what its own run tells.
+abbrev pub RunsChainSo : Tree → Tree → Sizes → (RunEnd → ℕ → Type 0) → Option (List (List ℕ)) → Option (List ℕ) → Option (List ℕ) → Outcome → ℕ → Option Bool → Type 0
+RunsChainSo p q s leaves files had has o tasks told = (runs : RunsChain p q s leaves files had has o tasks) × SecondStops runs.first runs.second told × (runs.stopped ≡ stopped_of told)
 
 -- Over row files with these bytes; or one of them was not opened.
 pub data ChainedIn (p q : Tree) (s : Sizes) (leaves : RunEnd → ℕ → Type 0) (content : Option (List (List ℕ))) (had has : Option (List ℕ)) (o : Outcome) (tasks : ℕ) : Type 0 where

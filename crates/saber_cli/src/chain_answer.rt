@@ -7,14 +7,15 @@ ghost use Rattle.saber_plan.specs.Sizes.{SizesFit};
 ghost use Rattle.saber_plan.specs.declared.ends.RunEnd.{RunEnd};
 ghost use Rattle.saber_engine.specs.Gives.{LeavesWhole};
 ghost use Rattle.saber_engine.specs.Sources.{each_input, told_by, GaveAll};
+ghost use Rattle.saber_chain.specs.Stops.{stopped_of};
 ghost use Rattle.saber_notes.specs.declared.outcome.Outcome.{Outcome};
 ghost use Rattle.saber_cli.specs.Outcomes.{IsClean, IsOfChain};
 ghost use Rattle.saber_cli.specs.Uses.{IsOpened};
 ghost use Rattle.saber_cli.specs.Endings.{ReadFaultsRose, chained_as, unless_cut};
-ghost use Rattle.saber_cli.specs.Chained.{RunsChain};
+ghost use Rattle.saber_cli.specs.Chaining.{RunsChainSo};
 
 use crate::answer::outcome_of;
-use saber_chain::{Chained, Inputs, RunEnd, chain};
+use saber_chain::{Chained, Inputs, RunEnd, Stopped, chain};
 use saber_io::{Gate, Sink, Source};
 use saber_notes::Outcome;
 use saber_plan::{Plan, Sizes};
@@ -26,6 +27,8 @@ use std::thread::Threads;
 /// are assembled.
 pub(crate) struct RanBoth<S, K> {
     pub(crate) outcome: Outcome,
+    /// Whether the second query's stage stopped, as its run tells it: by this goes the outcome.
+    pub(crate) stopped: Option<Stopped>,
     pub(crate) inputs: Inputs<S>,
     pub(crate) sink: K,
     pub(crate) tasks: u64,
@@ -52,6 +55,16 @@ fn lacked_as(first: RunEnd, stopped: bool, ring: u32) -> Outcome
         Outcome::NoMemory
     } else {
         unless_cut(first, Outcome::NoMemory, ring)
+    }
+}
+
+// Whether the second query's stage was stopped.
+fn stopped_of(told: &Option<Stopped>) -> bool
+    ensures { result ≡ stopped_of told.now }
+{
+    match told {
+        None => false,
+        Some(stopped) => stopped.told(),
     }
 }
 
@@ -94,8 +107,12 @@ pub(crate) fn answer_chain<
     requires one { length (tree_of second.now).streams ≡ 1 }
     requires sizes { SizesFit sizes.now }
     requires open_end { sizes.now.flush ≡ false }
-    ensures runs { RunsChain (tree_of first.now) (tree_of second.now) sizes.now
-        (LeavesWhole (tree_of first.now) sizes.now (each_input S.left inputs) (each_input S.left result.inputs)) (told_by S.left inputs) (K.written sink) (K.written result.sink) result.outcome result.tasks }
+
+    // The outcome goes by how each ended, and by whether the stage was stopped, as the second run
+    // tells it.
+    ensures runs { RunsChainSo (tree_of first.now) (tree_of second.now) sizes.now
+        (LeavesWhole (tree_of first.now) sizes.now (each_input S.left inputs) (each_input S.left result.inputs)) (told_by S.left inputs) (K.written sink) (K.written result.sink) result.outcome result.tasks
+        result.stopped }
     ensures kinds { IsOfChain result.outcome }
     ensures opened { IsOpened result.outcome }
     ensures takes { (taken : List (List ℕ)) × GaveAll (each_input S.left inputs) taken (each_input S.left result.inputs) }
@@ -113,8 +130,10 @@ pub(crate) fn answer_chain<
         first_tasks: _,
         tasks,
     } = chain(rt, alloc, first, second, inputs, sink, sizes, gate);
+    let stopped = stopped_of(&second_stopped);
     RanBoth {
-        outcome: chained_as(first_end, second_end, second_stopped, sizes.ring),
+        outcome: chained_as(first_end, second_end, stopped, sizes.ring),
+        stopped: second_stopped,
         inputs,
         sink,
         tasks,

@@ -96,6 +96,7 @@ where
         Ok(inputs) => {
             let RanBoth {
                 outcome,
+                stopped: _,
                 inputs,
                 sink,
                 tasks,

@@ -7,6 +7,7 @@ use saber_crew::Over;
 use saber_dispatch::End;
 use saber_io::Sink;
 use saber_plan::{RunEnd, StageState};
+use std::marker::Model;
 
 /// A run that ended, with its sink and the number of tasks that are assembled.
 #[derive(Drop)]
@@ -14,9 +15,35 @@ pub struct Ran<K> {
     pub end: RunEnd,
     pub sink: K,
     pub tasks: u64,
-    /// Whether the stage stopped, by a write that failed or for want of memory: then this end came
-    /// before that of the blocks.
-    pub stopped: bool,
+    /// Whether the stage stopped: then this end came before that of the blocks.
+    pub stopped: Stopped,
+}
+
+/// Whether the stage of a run stopped, by a write that failed or for want of memory. It is made
+/// where a run ends, by the stage that it had, and nowhere else: who has one has a run's, and can't
+/// tell otherwise.
+#[derive(Clone, Copy)]
+pub struct Stopped {
+    told: bool,
+}
+
+impl Model for Stopped {
+    ghost use Rattle.std.specs.Prelude.{Bool};
+
+    ghost Value = { Bool };
+
+    ghost view = { λ s. s.told };
+
+    ghost inverse = { λ told. record { told = told } };
+}
+
+impl Stopped {
+    /// Whether it did.
+    pub fn told(&self) -> bool
+        ensures { result ≡ self.now }
+    {
+        self.told
+    }
 }
 
 // How a run ends whose blocks ended so.
@@ -51,13 +78,15 @@ fn end_of(state: StageState, over: Over, end: Option<End>) -> RunEnd
 }
 
 // Whether a stage in this state was stopped.
-fn is_stopped(state: StageState) -> bool
+fn is_stopped(state: StageState) -> Stopped
     ensures { result ≡ is_stopped state }
 {
-    match state {
-        StageState::Running => false,
-        StageState::SinkFailed => true,
-        StageState::NoMemory => true,
+    Stopped {
+        told: match state {
+            StageState::Running => false,
+            StageState::SinkFailed => true,
+            StageState::NoMemory => true,
+        },
     }
 }
 

@@ -7,7 +7,7 @@ ghost use Rattle.saber_engine.specs.Runs.{RunsFed};
 
 use crate::ends::{Ran, ended};
 use crate::fed_blocks::{BeginsFed, FedBlocks};
-use crate::ring_size::ring_size;
+use crate::ring_size::run_sizes;
 use saber_assembly::{SaberWork, Stage};
 use saber_crew::{Over, run};
 use saber_fragment::Operator;
@@ -54,6 +54,7 @@ where
         return ended(stage, Over::NoMemory, None);
     };
     let mut blocks = begun;
+    let asked = run_sizes(plan, sizes);
     let ran = run::<SaberWork<O, K>, O, G, FedBlocks<F, J>, Brand, R>(
         rt,
         alloc,
@@ -62,10 +63,7 @@ where
         &mut blocks,
         feed,
         stage,
-        &Sizes {
-            ring: ring_size(plan, sizes),
-            ..*sizes
-        },
+        &asked,
     );
     let end = blocks.let_go();
     match ran {

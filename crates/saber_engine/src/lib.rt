@@ -18,7 +18,8 @@
 //!   several plans each has all that a run of it alone has.
 //! - Not claimed: time, progress of threads, or a cause for want of memory. Over one stream the
 //!   ring may have fewer cells than `--ring` says (`ring_size.rt`); no public contract speaks of
-//!   it.
+//!   it, nor of how many threads are asked for: `run_sizes`, `sizes_for` and `run` of
+//!   `saber_crew` do.
 //! - Limits: those of `Sizes`. A run waits for its threads.
 #![tactic(auto)]
 
@@ -39,7 +40,7 @@ mod shared_run;
 mod spare;
 mod ways;
 
-pub use ends::Ran;
+pub use ends::{Ran, Stopped};
 pub use fed_engine::engine_fed;
 pub use jobs::Job;
 pub use run_engine::{engine, engine_pouring};

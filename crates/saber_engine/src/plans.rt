@@ -8,7 +8,7 @@ ghost use Rattle.saber_engine.specs.Runs.{RunsPlan};
 
 use crate::blocks::{Begins, Blocks};
 use crate::ends::{Ran, ended};
-use crate::ring_size::ring_size;
+use crate::ring_size::run_sizes;
 use saber_assembly::{SaberWork, Stage};
 use saber_crew::{Over, run};
 use saber_dispatch::Inputs;
@@ -55,6 +55,7 @@ where
         return ended(stage, Over::NoMemory, None);
     };
     let mut blocks = begun;
+    let asked = run_sizes(plan, sizes);
     let ran = run::<SaberWork<O, K>, O, G, Blocks<S, J>, Brand, R>(
         rt,
         alloc,
@@ -63,10 +64,7 @@ where
         &mut blocks,
         inputs,
         stage,
-        &Sizes {
-            ring: ring_size(plan, sizes),
-            ..*sizes
-        },
+        &asked,
     );
     let end = blocks.let_go();
     match ran {

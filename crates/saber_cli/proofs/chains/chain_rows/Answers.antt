@@ -11,11 +11,11 @@ use Rattle.saber_cli.proofs.ChainRunLemmas.{chain_cause, chain_not_before, chain
 use Rattle.saber_cli.proofs.chains.chain_rows.Goals as goal
 
 pub returns-in-Ok-clause-written : goal.returns-in-Ok-clause-written
-returns-in-Ok-clause-written g c = let r = c.answer_chain-outcome.ensures.runs in (r.out, r.written)
+returns-in-Ok-clause-written g c = let r = c.answer_chain-outcome.ensures.runs.0 in (r.out, r.written)
 
 pub returns-in-Ok-clause-runs : goal.returns-in-Ok-clause-runs
 returns-in-Ok-clause-runs g c =
-    chain_runs g.F.Src.Source.left g.F.Src.Source.faults (tree_of c.args.first.now) (tree_of c.args.second.now) c.args.sizes.now (row_names (asked_run c.args.command.now)) _ _ c.answer_chain-outcome.result.outcome c.answer_chain-outcome.result.tasks _ _ _ _ _ c.in-Ok.ensures.opens c.in-Ok.ensures.asked c.close_rows.ensures.closed c.answer_chain-outcome.ensures.runs
+    chain_runs g.F.Src.Source.left g.F.Src.Source.faults (tree_of c.args.first.now) (tree_of c.args.second.now) c.args.sizes.now (row_names (asked_run c.args.command.now)) _ _ c.answer_chain-outcome.result.outcome c.answer_chain-outcome.result.tasks _ _ _ _ _ c.in-Ok.ensures.opens c.in-Ok.ensures.asked c.close_rows.ensures.closed c.answer_chain-outcome.ensures.runs.0
 
 pub returns-in-Ok-clause-early : goal.returns-in-Ok-clause-early
 returns-in-Ok-clause-early g c b = absurd (chain_not_before c.answer_chain-outcome.result.outcome c.answer_chain-outcome.ensures.kinds c.answer_chain-outcome.ensures.opened b)
