@@ -188,6 +188,17 @@ class Wrapper(unittest.TestCase):
             self.assertEqual(ran.returncode, 6)
             self.assertTrue(ran.stderr.startswith(b"saber: write fault\n"), ran.stderr)
 
+    def test_closed_files_are_not_other_ones(self):
+        both = "STREAM A(t, g, v); STREAM B(t, g, v); SELECT A.v FROM A [ROWS 2 SLIDE 2], B [ROWS 2 SLIDE 2];"
+        self.place.write("both.cql", both)
+        for command, status, note, outs in (
+            ("run both.cql few.csv /dev/stdin <&-", 5, b"saber: right: read fault\n", {}),
+            ("run sums.cql few.csv >&-", 6, b"saber: write fault\n", {}),
+            ("many bad.csv sums.cql >&- 2>&-", 4, b"", {"sums.cql.out": b""}),
+        ):
+            ran = subprocess.run(["bash", "-c", f"bin/saber {command}"], cwd=self.place.at, capture_output=True, check=False, env=self.place.environment)
+            self.assertEqual((ran.returncode, ran.stdout, ran.stderr, self.outs()), (status, b"", note, outs), command)
+
     def test_costs_little(self):
         def median(command):
             spent = []
