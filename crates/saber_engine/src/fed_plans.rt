@@ -7,7 +7,7 @@ ghost use Rattle.saber_engine.specs.Runs.{RunsFed};
 
 use crate::ends::{Ran, ended};
 use crate::fed_blocks::{BeginsFed, FedBlocks};
-use crate::ring_size::run_sizes;
+use crate::ring_size::ring_size;
 use saber_assembly::{SaberWork, Stage};
 use saber_crew::{Over, run};
 use saber_fragment::Operator;
@@ -54,7 +54,6 @@ where
         return ended(stage, Over::NoMemory, None);
     };
     let mut blocks = begun;
-    let asked = run_sizes(plan, sizes);
     let ran = run::<SaberWork<O, K>, O, G, FedBlocks<F, J>, Brand, R>(
         rt,
         alloc,
@@ -63,7 +62,10 @@ where
         &mut blocks,
         feed,
         stage,
-        &asked,
+        &Sizes {
+            ring: ring_size(plan, sizes),
+            ..*sizes
+        },
     );
     let end = blocks.let_go();
     match ran {

@@ -18,8 +18,7 @@
 //!   several plans each has all that a run of it alone has.
 //! - Not claimed: time, progress of threads, or a cause for want of memory. Over one stream the
 //!   ring may have fewer cells than `--ring` says (`ring_size.rt`); no public contract speaks of
-//!   it, nor of how many threads are asked for: `run_sizes`, `sizes_for` and `run` of
-//!   `saber_crew` do.
+//!   it.
 //! - Limits: those of `Sizes`. A run waits for its threads.
 #![tactic(auto)]
 

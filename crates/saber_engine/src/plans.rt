@@ -8,7 +8,7 @@ ghost use Rattle.saber_engine.specs.Runs.{RunsPlan};
 
 use crate::blocks::{Begins, Blocks};
 use crate::ends::{Ran, ended};
-use crate::ring_size::run_sizes;
+use crate::ring_size::ring_size;
 use saber_assembly::{SaberWork, Stage};
 use saber_crew::{Over, run};
 use saber_dispatch::Inputs;
@@ -55,7 +55,6 @@ where
         return ended(stage, Over::NoMemory, None);
     };
     let mut blocks = begun;
-    let asked = run_sizes(plan, sizes);
     let ran = run::<SaberWork<O, K>, O, G, Blocks<S, J>, Brand, R>(
         rt,
         alloc,
@@ -64,7 +63,10 @@ where
         &mut blocks,
         inputs,
         stage,
-        &asked,
+        &Sizes {
+            ring: ring_size(plan, sizes),
+            ..*sizes
+        },
     );
     let end = blocks.let_go();
     match ran {

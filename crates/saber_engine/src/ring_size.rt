@@ -1,5 +1,5 @@
-// How many cells the ring of a run has, and the sizes of the run.
-ghost use Rattle.std.specs.Prelude.{◌≡◌, ◌≢◌, ◌≤◌, ◌<◌, ◌^◌, length};
+// How many cells the ring of a run has.
+ghost use Rattle.std.specs.Prelude.{◌≡◌, ◌≢◌, ◌≤◌, ◌^◌, length};
 ghost use Rattle.saber_plan.specs.Trees.{tree_of};
 ghost use Rattle.saber_plan.specs.Sizes.{SizesFit};
 
@@ -23,7 +23,7 @@ pub(crate) fn near_size(sizes: &Sizes, threads: u32) -> u32
 // As many as are asked for. Over one stream no task needs the rows of another, so a few cells for
 // each thread do as well: there is always a task to do, and the rows of those that wait stay in the
 // processors' nearer memory.
-fn ring_size(plan: &Plan, sizes: &Sizes) -> u32
+pub(crate) fn ring_size(plan: &Plan, sizes: &Sizes) -> u32
     requires { SizesFit sizes.now }
     ensures within { (1 ≤ result) × (result ≤ 2 ^ 10) }
     ensures all { length (tree_of plan.now).streams ≢ 1 → result ≡ sizes.now.ring }
@@ -32,19 +32,5 @@ fn ring_size(plan: &Plan, sizes: &Sizes) -> u32
         near_size(sizes, sizes.threads)
     } else {
         sizes.ring
-    }
-}
-
-/// The sizes of the run of a plan, as they are asked for, but for the ring's.
-pub(crate) fn run_sizes(plan: &Plan, sizes: &Sizes) -> Sizes
-    requires { SizesFit sizes.now }
-    ensures task { result.task ≡ sizes.now.task }
-    ensures ring { (0 < result.ring) × (result.ring ≤ 1024) }
-    ensures all { length (tree_of plan.now).streams ≢ 1 → result.ring ≡ sizes.now.ring }
-    ensures threads { result.threads ≡ sizes.now.threads }
-{
-    Sizes {
-        ring: ring_size(plan, sizes),
-        ..*sizes
     }
 }
