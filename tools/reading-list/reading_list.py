@@ -1,8 +1,8 @@
 #!/usr/bin/env python3
 """reading_list.py [TREE [NAME ..]]: the definitions that the contracts of `saber` and `top` rest on, by crate and file.
 
-It counts them twice: of the two calls, and with the law of free turns (free.rt of saber_workers), the first half of what is
-claimed. A definition in a `mutual` block is one, with its own lines; lines are those without comments and empty ones, and the
+It counts them three times: of the two calls, with the law of free turns (free.rt of saber_workers), the first half of what is
+claimed, and with the same law of several queries (free.rt of saber_many). A definition in a `mutual` block is one, with its own lines; lines are those without comments and empty ones, and the
 heads of modules count with what stands in them. Types that the code declares and names of the kit are told apart, not read.
 
 By names and imports alone, so it is a list to read by, and no proof of anything. A name counts where a definition uses it:
@@ -18,7 +18,7 @@ import sys
 TREE = sys.argv[1] if len(sys.argv) > 1 else os.path.join(os.path.dirname(os.path.abspath(__file__)), "..", "..")
 ROOT = os.path.join(os.path.abspath(TREE), "crates")
 CALLS = ("saber_cli/src/top.rt", "saber_top/src/call.rt")
-LAW = "saber_workers/src/free.rt"
+LAWS = (("with the law of free turns", "saber_workers/src/free.rt"), ("with that of several queries", "saber_many/src/free.rt"))
 IMPORT = re.compile(r"(?:ghost |pub )?use ([\w.]+?)(?:\.\{(.*)\}| as ([\w'\-]+))?;?$")
 # Words before a definition's name.
 MARKS = ("abbrev", "unfoldable", "pub", "record", "data", "inductive")
@@ -248,9 +248,10 @@ def main():
         for it in roots(call):
             visit(it, seen, left_out)
     told("the calls `saber` and `top`", seen)
-    for it in roots(LAW):
-        visit(it, seen, left_out)
-    told("with the law of free turns", seen)
+    for title, law in LAWS:
+        for it in roots(law):
+            visit(it, seen, left_out)
+        told(title, seen)
     lines, files = counted(seen)
     for crate, count in sorted(lines.items(), key=lambda it: (-it[1], it[0])):
         print(f"{count:5d} {crate}:", ", ".join(sorted(map(os.path.basename, files[crate]))))

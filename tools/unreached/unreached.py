@@ -118,6 +118,9 @@ def main():
     crates = sys.argv[1:] or sorted(os.listdir(f"{TOP}/crates"))
     if crates[0].startswith("-"):
         sys.exit(__doc__)
+    unknown = [it for it in crates if not os.path.isdir(f"{TOP}/crates/{it}")]
+    if unknown:
+        sys.exit(f"no crate: {' '.join(unknown)}")
     files = [it for part in ("proofs", "specs") for it in glob.glob(f"{TOP}/crates/*/{part}/**/*.antt", recursive=True)]
     code = glob.glob(f"{TOP}/crates/*/src/**/*.rt", recursive=True)
     texts = {}
