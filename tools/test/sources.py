@@ -77,7 +77,7 @@ class Counts(unittest.TestCase):
 
 def code_names():
     """All names of code, of definitions, of tools and of files; comments name nothing."""
-    known = set()
+    known = set(NAME.findall(read("saber")))
     for part in ("crates", "tools", "edits", "examples", "docs"):
         for folder, _, files in os.walk(f"{trees.TOP}/{part}"):
             if f"{folder}/".find("/out/") < 0:
