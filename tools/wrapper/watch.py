@@ -29,9 +29,14 @@ def named(given):
     return words.files_of_rows(given) if shown else []
 
 
-def wait_through_signals(children):
-    """Has this process wait for the program whatever comes: what the terminal sends comes to both, the rest is handed on."""
+def wait_through_signals(children, early):
+    """Has this process wait for the program whatever comes: what the terminal sends comes to both, the rest is handed on.
+
+    What comes before the program is among the children is early.
+    """
     def hand_on(number, _frame):
+        if not children:
+            early.append(number)
         for child in children:
             with contextlib.suppress(ProcessLookupError):
                 child.send_signal(number)
@@ -59,14 +64,16 @@ def note_of(child, line):
 
 
 def main(program, given):
-    children = []
-    wait_through_signals(children)
+    children, early = [], []
+    wait_through_signals(children, early)
     try:
         child = subprocess.Popen([program, *given], stderr=subprocess.PIPE, close_fds=False)
     except OSError as error:
         places.say(f"{program}: {error.strerror}")
         return places.NOT_BUILT
     children.append(child)
+    for number in early:
+        child.send_signal(number)
     line = progress.Progress(child.pid, named(given))
     note = note_of(child, line)
     status = child.wait()
