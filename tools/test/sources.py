@@ -106,6 +106,33 @@ class Names(unittest.TestCase):
         self.assertEqual([], lost)
 
 
+def excerpts(text):
+    """The blocks of code whose first line is a comment with the path of a file: that path, and the lines below it."""
+    for path, body in re.findall(r"^ *```\w*\n *(?://|#|--) (\S+/\S+)\n(.*?)^ *```$", text, re.M | re.S):
+        yield path, [line.strip() for line in body.splitlines() if line.strip()]
+
+
+def lost_lines(path, lines):
+    """The first line of an excerpt that doesn't stand in its file behind those before it, or nothing."""
+    if not os.path.exists(f"{trees.TOP}/{path}"):
+        return [f"{path}: no such file"]
+    left = iter([line.strip() for line in read(path).splitlines()])
+    return [f"{path}: {line}" for line in lines if line not in left][:1]
+
+
+class Excerpts(unittest.TestCase):
+    def test_each_stands(self):
+        """Lines may be left out of a block, but none may be other than in the file, or in another order."""
+        found = [(name, *it) for name in ["README.md", *names("docs/*.md")] for it in excerpts(read(name))]
+        self.assertGreater(sum(name == "docs/ARCHITECTURE.md" for name, _, _ in found), 8)
+        self.assertEqual([], [f"{name}: {lost}" for name, path, lines in found for lost in lost_lines(path, lines)])
+
+    def test_a_moved_line_is_told(self):
+        self.assertEqual(lost_lines("tools/test/sources.py", ["import glob", "import os"]), [])
+        self.assertEqual(lost_lines("tools/test/sources.py", ["import os", "import glob"]), ["tools/test/sources.py: import glob"])
+        self.assertEqual(lost_lines("tools/test/nothing.py", []), ["tools/test/nothing.py: no such file"])
+
+
 class Lines(unittest.TestCase):
     def test_none_is_too_long(self):
         """But in blocks and tables, which hold texts as they are."""
