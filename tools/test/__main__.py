@@ -17,7 +17,7 @@ HERE = os.path.dirname(os.path.abspath(__file__))
 TOP = os.path.dirname(os.path.dirname(HERE))
 # A topic that takes longer has failed, in seconds.
 MOST = 900
-TOPICS = ["judged_words", "wrapper", "building", "terminal", "cases", "documents", "sources", "hints", "package", "rows", "faults", "races"]
+TOPICS = ["judged_words", "wrapper", "building", "terminal", "cases", "documents", "sources", "hints", "package", "rows", "performance", "faults", "races"]
 
 
 class Told(unittest.TextTestResult):
