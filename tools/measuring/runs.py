@@ -92,10 +92,14 @@ class Runner:
             self.wait(process, words)
             took = time.perf_counter() - begun
         with open(path, "rb") as file:
-            return took, hashlib.file_digest(file, "sha256").hexdigest()
+            return took, hashlib.sha256(file.read()).hexdigest()
 
     def peak(self, words):
-        """The greatest amount of memory that a run has had, in MB, as the system tells it each millisecond."""
+        """The greatest amount of memory that a run has had, in MB. A run that ends before it is seen is run again."""
+        return next(seen for seen in iter(lambda: self.seen_peak(words), None) if seen)
+
+    def seen_peak(self, words):
+        """The same as far as it is seen, as the system tells it each millisecond."""
         with open(os.devnull, "wb") as out:
             process = self.begun(words, out)
             most, ends = 0, time.monotonic() + self.clock.left()
