@@ -61,7 +61,7 @@ fn texts_of<'a>(alloc: Global, texts: &'a [String]) -> Result<Vec<&'a str>, Word
 
 // Ends a call whose words can't be handed over, and gives the status.
 fn refused<N: Sink>(fault: WordsFault, notes: &mut N) -> u8
-    ensures { Refuses N.written N.faults fault result notes.old notes.new }
+    ensures { Refuses N.written N.faults N.writes fault result notes.old notes.new }
 {
     refuse_words(fault, notes).status
 }
@@ -78,7 +78,7 @@ fn run<F: Files, U: Outs, K: Sink + Send + Drop, N: Sink, R: Threads + Wait + Sy
 ) -> u8
 where
     F::Src: Send + Drop,
-    ensures { IsOfTop F.told F.faults K.written K.faults N.written N.faults N.writes U.asked U.faults U.Out.written U.Out.faults (map string_bytes texts.now) files.old files.new outs.old outs.new sink notes.old notes.new result }
+    ensures { IsOfTop F.told F.faults K.written K.faults K.writes N.written N.faults N.writes U.asked U.faults U.Out.written U.Out.faults U.Out.writes (map string_bytes texts.now) files.old files.new outs.old outs.new sink notes.old notes.new result }
 {
     match texts_of(alloc, texts) {
         Ok(words) => {
@@ -103,8 +103,8 @@ fn called<F: Files, U: Outs, K: Sink + Send + Drop, N: Sink, R: Threads + Wait +
 ) -> u8
 where
     F::Src: Send + Drop,
-    ensures top { IfOk handed (λ texts. IsOfTop F.told F.faults K.written K.faults N.written N.faults N.writes U.asked U.faults U.Out.written U.Out.faults (map string_bytes texts.items) files.old files.new outs.old outs.new sink notes.old notes.new result) }
-    ensures refused { IfErr handed (λ fault. Refuses N.written N.faults fault result notes.old notes.new) }
+    ensures top { IfOk handed (λ texts. IsOfTop F.told F.faults K.written K.faults K.writes N.written N.faults N.writes U.asked U.faults U.Out.written U.Out.faults U.Out.writes (map string_bytes texts.items) files.old files.new outs.old outs.new sink notes.old notes.new result) }
+    ensures refused { IfErr handed (λ fault. Refuses N.written N.faults N.writes fault result notes.old notes.new) }
     ensures unread { IfErr handed (λ fault. (files.new ≡ files.old) × (outs.new ≡ outs.old)) }
 {
     match handed {

@@ -1,16 +1,18 @@
 -- One task more behind the stage.
-use Rattle.std.proofs.Common.{◌≡◌, ◌≢◌, ℕ, ◌≤◌, ◌+◌, ◌-◌, ◌^◌, min, List, ◌++◌, take, drop, Option, Some, None, refl, sym, ◌∙◌, ap, subst, arith, append_assoc, take-append-drop}
-use Rattle.saber_plan.specs.Outputs.{Rose, appended_text, AppendsPrefix}
+use Rattle.std.proofs.Common.{◌≡◌, ◌≢◌, ℕ, suc, ◌≤◌, ◌+◌, ◌-◌, ◌^◌, min, List, [], ◌++◌, take, drop, Option, Some, None, refl, sym, ◌∙◌, ap, subst, arith, append_assoc, take-append-drop}
+use Rattle.saber_plan.specs.Outputs.{raised_count, raised_by, Rose, appended_text, AppendsPrefix}
 use Rattle.saber_plan.specs.Trees.{Tree}
 use Rattle.saber_plan.specs.Answers.{text}
 use Rattle.saber_plan.specs.Tasks.{Kept, upto, kept_behind, task_start, added_text}
 use Rattle.saber_plan.specs.Inputs.{Input, first_arrivals}
+use Rattle.saber_plan.specs.Runs.{tasks_with_text}
 use Rattle.saber_plan.specs.Stages.{StageView, Start, Tasks, IsCutOff, After, Keeps}
 use Rattle.saber_plan.specs.declared.stages.StageState.TheVariants.{Running, SinkFailed, NoMemory}
 use Rattle.saber_assembly.specs.declared.stage.Absorbed.{Absorbed}
 use Rattle.saber_assembly.specs.declared.stage.Absorbed.TheVariants.{Done, Stopped}
 use Rattle.saber_laws.proofs.TaskCutLaws.{cuts_rise}
 use Rattle.saber_laws.proofs.StepLaws.{text_goes_on}
+use Rattle.saber_laws.proofs.WriteLaws.{writes_go_on}
 
 appended_twice : (o : Option (List ℕ)) (xs ys : List ℕ) → appended_text (appended_text o xs) ys ≡ appended_text o (xs ++ ys)
 appended_twice None xs ys = refl
@@ -32,6 +34,10 @@ pub record Step (old new : StageView) (result : Absorbed) (more : List ℕ) (lef
   pub memory : new.state ≡ NoMemory → new.written ≡ old.written
   pub good : new.state ≢ SinkFailed → new.faults ≡ old.faults
   pub count : old.faults ≤ new.faults
+  pub one : result ≡ Done → more ≢ [] → new.writes ≡ raised_count old.writes
+  pub no_text : result ≡ Done → more ≡ [] → new.writes ≡ old.writes
+  pub failed_one : new.state ≡ SinkFailed → new.writes ≡ raised_count old.writes
+  pub no_write : new.state ≡ NoMemory → new.writes ≡ old.writes
 
 done_if : (r : Absorbed) → (r ≡ Stopped → ⊥) → r ≡ Done
 done_if Done h = refl
@@ -53,6 +59,10 @@ module _ (q : Tree) (n : ℕ) (r : Input) (start : Start) (old new : StageView) 
   step_text : text q (upto n r (old.k + 1)) ≡ text q (upto n r old.k) ++ adds
   step_text = text_goes_on q t.windows r (task_start n r old.k) (task_start n r (old.k + 1)) t.fits.ordered rises
 
+  -- the count of writes behind k tasks
+  abbrev with_text : ℕ → ℕ
+  with_text k = raised_by start.writes (tasks_with_text q n r k)
+
   runs_on : new.state ≡ Running → After q n r start new Running
   runs_on run =
       let d : result ≡ Done = done_if result (λ z. h.stopped z run) in
@@ -60,6 +70,7 @@ module _ (q : Tree) (n : ℕ) (r : Input) (start : Start) (old new : StageView) 
         h.written d ∙ ap (λ o. appended_text o adds) a.0 ∙ appended_twice start.written (text q (upto n r old.k)) adds ∙ ap (appended_text start.written) (sym step_text ∙ ap (λ j. text q (upto n r j)) (sym k)),
         h.leaves d ∙ ap (λ j. kept_behind q (upto n r j)) (sym k),
         h.good (λ f. apart (sym run ∙ f)) ∙ a.2,
+        writes_go_on q n r old.k start.writes old.writes new.writes adds step_text a.3 (h.one d) (h.no_text d) ∙ ap with_text (sym k),
       )
     where
       apart : Running ≡ SinkFailed → ⊥
@@ -82,13 +93,24 @@ module _ (q : Tree) (n : ℕ) (r : Input) (start : Start) (old new : StageView) 
   not_done u = h.stays (stopped_if result (λ d. u (h.runs d)))
 
   fails : new.state ≡ SinkFailed → After q n r start new SinkFailed
-  fails f = (cut_off (not_done (λ r. apart (sym r ∙ f))) (h.failed f), rose_since start.faults old.faults new.faults a.2 (h.cause f), omega (arith, a.2, h.count))
+  fails f =
+      let k : new.k ≡ old.k = not_done (λ r. apart (sym r ∙ f)) in (
+        cut_off k (h.failed f),
+        rose_since start.faults old.faults new.faults a.2 (h.cause f),
+        omega (arith, a.2, h.count),
+        h.failed_one f ∙ ap raised_count (a.3 ∙ ap with_text (sym k)),
+      )
     where
       apart : Running ≡ SinkFailed → ⊥
       apart e = cc
 
   lacks : new.state ≡ NoMemory → After q n r start new NoMemory
-  lacks m = (h.memory m ∙ a.0 ∙ ap (λ j. appended_text start.written (text q (upto n r j))) (sym (not_done (λ r. apart (sym r ∙ m)))), h.good (λ f. unlike (sym m ∙ f)) ∙ a.2)
+  lacks m =
+      let k : new.k ≡ old.k = not_done (λ r. apart (sym r ∙ m)) in (
+        h.memory m ∙ a.0 ∙ ap (λ j. appended_text start.written (text q (upto n r j))) (sym k),
+        h.good (λ f. unlike (sym m ∙ f)) ∙ a.2,
+        h.no_write m ∙ a.3 ∙ ap with_text (sym k),
+      )
     where
       apart : Running ≡ NoMemory → ⊥
       apart e = cc

@@ -9,9 +9,16 @@ use Rattle.saber_fragment.specs.Stores.{CanTakeIn, OfArrivals, TakesIn}
 use Rattle.saber_plan.specs.Stages.{StageView, Start, Tasks, Keeps}
 use Rattle.saber_assembly.specs.declared.stage.Stage.{Stage}
 
--- a stage, seen so, by what its operator holds in a store, and by what its sink has written and its faults
-abbrev pub stage_view : {S K : Type 0} → (S → Kept) → (K → Option (List ℕ)) → (K → ℕ) → Stage S K → StageView
-stage_view contents written faults s = record { written = written s.sink; faults = faults s.sink; kept = contents s.store; k = s.k; state = s.state }
+-- a stage, seen so, by what its operator holds in a store, and by what its sink has written, its faults and its writes
+abbrev pub stage_view : {S K : Type 0} → (S → Kept) → (K → Option (List ℕ)) → (K → ℕ) → (K → ℕ) → Stage S K → StageView
+stage_view contents written faults writes s = record {
+  written = written s.sink;
+  faults = faults s.sink;
+  writes = writes s.sink;
+  kept = contents s.store;
+  k = s.k;
+  state = s.state;
+}
 
 -- the piece of task k, by what it is of
 abbrev pub IsPieceAt : ℕ → Input → ℕ → (Input → ℕ → ℕ → Type 0) → Type 0
@@ -57,14 +64,14 @@ module _ {O S P : Type 0} (plan : O → Tree) (contents : S → Kept) (taken : O
     abbrev pub TakesPiece : Stage S K → Stage S K → P → Type 0
     TakesPiece s t p = TakesIn (plan op) (contents s.store) (taken op s.store) (is_of op p) (taken op t.store)
 
-module _ {O S K : Type 0} (plan : O → Tree) (contents : S → Kept) (taken : O → S → Input → Type 0) (written : K → Option (List ℕ)) (faults : K → ℕ) (op : O) where
+module _ {O S K : Type 0} (plan : O → Tree) (contents : S → Kept) (taken : O → S → Input → Type 0) (written : K → Option (List ℕ)) (faults writes : K → ℕ) (op : O) where
   -- what a stage keeps of a run
   abbrev pub KeepsRun : ℕ → Input → Start → Stage S K → Type 0
-  KeepsRun n r start s = Keeps (plan op) n r start (taken op s.store) (stage_view contents written faults s)
+  KeepsRun n r start s = Keeps (plan op) n r start (taken op s.store) (stage_view contents written faults writes s)
 
   -- of each run over the sink it keeps what stands before the first task
   abbrev pub BeginsRuns : K → Stage S K → Type 0
-  BeginsRuns sink s = (n : ℕ) (r : Input) → Tasks (plan op) n r → KeepsRun n r (record { written = written sink; faults = faults sink }) s
+  BeginsRuns sink s = (n : ℕ) (r : Input) → Tasks (plan op) n r → KeepsRun n r (record { written = written sink; faults = faults sink; writes = writes sink }) s
 
   -- given the piece of the next task, it keeps what it should of each run of which it did
   abbrev pub KeepsRuns : {P : Type 0} → (O → P → Input → ℕ → ℕ → Type 0) → Stage S K → Option P → Stage S K → Type 0

@@ -14,9 +14,10 @@ use Rattle.saber_plan.specs.Needs.{free, task_rows}
 use Rattle.saber_laws.proofs.TaskCutLaws.{first_of_first, cut_rises, rows_fit}
 use Rattle.saber_laws.proofs.GrowLaws.{first_tell_free}
 use Rattle.saber_laws.proofs.FreeLaws.{tasks_look_back, tasks_look_on}
+use Rattle.saber_laws.proofs.WriteLaws.{first_with_text}
 use Rattle.saber_fragment.specs.declared.blocks.Block.{Block}
 use Rattle.saber_fragment.specs.Stores.{Follows, CanTakeIn}
-use Rattle.saber_plan.specs.Outputs.{appended_text}
+use Rattle.saber_plan.specs.Outputs.{raised_by, appended_text}
 use Rattle.saber_assembly.specs.declared.stage.Stage.{Stage}
 use Rattle.saber_plan.specs.declared.stages.StageState.TheVariants.{Running}
 use Rattle.saber_assembly.specs.declared.work.RunData.{RunData}
@@ -162,15 +163,21 @@ module _ {O : Type 0} (plan : O → Tree) where
 
   -- ---- the stage
 
-  module _ {S K : Type 0} (contents : S → Kept) (taken : O → S → Input → Type 0) (written : K → Option (List ℕ)) (faults : K → ℕ) where
+  module _ {S K : Type 0} (contents : S → Kept) (taken : O → S → Input → Type 0) (written : K → Option (List ℕ)) (faults writes : K → ℕ) where
     -- what a stage that runs after k tasks keeps, it keeps by the rows of later tasks too
-    pub keeps_on : (told : RunData O) (k : ℕ) (s : Stage S K) → IsStageOf plan (stage_view contents written faults) taken (first_tasks told k) k false s
-        → Keeps (plan told.operator) told.size (input_of told) (start_of told) (taken told.operator s.store) (stage_view contents written faults s)
+    pub keeps_on : (told : RunData O) (k : ℕ) (s : Stage S K) → IsStageOf plan (stage_view contents written faults writes) taken (first_tasks told k) k false s
+        → Keeps (plan told.operator) told.size (input_of told) (start_of told) (taken told.operator s.store) (stage_view contents written faults writes s)
     keeps_on told k s is =
-        let q = plan told.operator in let n = told.size in let r = input_of told in let v = stage_view contents written faults s in
+        let q = plan told.operator in let n = told.size in let r = input_of told in let v = stage_view contents written faults writes s in
         let a : After q n (upto n r k) (start_of told) v Running = subst (After q n (upto n r k) (start_of told) v) (is.runs refl) is.keeps.after in
-        let same : upto n (upto n r k) s.k ≡ upto n r s.k = first_of_first n r k s.k (subst (λ c. c ≤ k) (sym is.behind) (le_refl k)) in
-        let b : After q n r (start_of told) v Running = (a.0 ∙ ap (λ z. appended_text told.written (text q z)) same, a.1 ∙ ap (kept_behind q) same, a.2) in
+        let few : s.k ≤ k = subst (λ c. c ≤ k) (sym is.behind) (le_refl k) in
+        let same : upto n (upto n r k) s.k ≡ upto n r s.k = first_of_first n r k s.k few in
+        let b : After q n r (start_of told) v Running = (
+          a.0 ∙ ap (λ z. appended_text told.written (text q z)) same,
+          a.1 ∙ ap (kept_behind q) same,
+          a.2,
+          a.3 ∙ ap (raised_by told.writes) (first_with_text q n r k s.k few),
+        ) in
         record {
           after = subst (After q n r (start_of told) v) (sym (is.runs refl)) b;
           taken_is = λ run. subst (taken told.operator s.store) same (is.keeps.taken_is run);
@@ -178,7 +185,7 @@ module _ {O : Type 0} (plan : O → Tree) where
 
     -- its store can take in the next task's piece
     pub takes_next : {P : Type 0} (is_of : O → P → Input → ℕ → ℕ → Type 0) (told : RunData O) (k : ℕ) (s : Stage S K) (p : P)
-        → IsStageOf plan (stage_view contents written faults) taken (first_tasks told k) k false s → IsPieceOf plan is_of told k p
+        → IsStageOf plan (stage_view contents written faults writes) taken (first_tasks told k) k false s → IsPieceOf plan is_of told k p
         → CanTakeIn (plan told.operator) (contents s.store) (taken told.operator s.store) (is_of told.operator p)
     takes_next is_of told k s p is of =
         let q = plan told.operator in let n = told.size in let r = input_of told in
@@ -187,6 +194,6 @@ module _ {O : Type 0} (plan : O → Tree) where
           r,
           task_start n r s.k,
           task_start n r (s.k + 1),
-          follows q n r (start_of told) (stage_view contents written faults s) (taken told.operator s.store) (is_of told.operator p) of.tasks
+          follows q n r (start_of told) (stage_view contents written faults writes s) (taken told.operator s.store) (is_of told.operator p) of.tasks
               (cut_rises n r s.k) (keeps_on told k s is) (is.runs refl) piece,
         )

@@ -31,7 +31,7 @@ module _ {O : Type 0} where
 
   -- the sink at the start
   abbrev pub start_of : RunData O → Start
-  start_of told = record { written = told.written; faults = told.faults }
+  start_of told = record { written = told.written; faults = told.faults; writes = told.writes }
 
 module _ {O : Type 0} (plan : O → Tree) where
   -- an input that the plan can be given, in tasks of the run's size

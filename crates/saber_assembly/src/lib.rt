@@ -14,13 +14,15 @@
 //!   next task's text is out too; where memory lacked, or the mark came, no more is. What it
 //!   keeps is one record (`Keeps`), which `specs/Works.antt` makes a part of the ring's rule;
 //!   docs/RUN.md ties it to the headline.
-//! - Proved of the sink: by its count of writes, a task's text goes out in one write, and a task
-//!   without text makes none; behind `pour` it holds nothing back, or its other end had no room.
+//! - Proved of the sink: a task's text goes out in one write, and a task without text makes none. So
+//!   behind k tasks its count of writes rose by one for each of them that has text, and once more
+//!   where a write failed. Behind `pour` it holds nothing back, or its other end had no room.
 //! - The law (`gives_make_text`, `specs/Gives.antt`) ties the core, which knows no windows, to the
 //!   definitions: for any number of slots and seats and every list of events, the pieces of the
-//!   tasks given, taken in in the order of the gives, make the text of the windows that those
-//!   tasks' rows close. It is of plans whose windows print their answers as they are, or rows
-//!   theirs.
+//!   tasks given, taken in in the order of the gives, make the text of those tasks' rows, and leave
+//!   what is to be kept behind them. Of every plan it says so by what each task's arrivals add to
+//!   the text, as `absorb` does; of plans whose windows print their answers as they are, or rows
+//!   theirs, also by the parts in the pieces.
 //! - Not claimed: that a stage goes on: want of memory may stop it at any task.
 //! - Limits: fewer than `2^62` tasks.
 #![tactic(auto)]

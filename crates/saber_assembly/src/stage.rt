@@ -9,7 +9,7 @@ use saber_plan::StageState;
 use std::alloc::Global;
 
 /// What became of a piece.
-#[derive(Clone, Copy, Debug, PartialEq, Eq)]
+#[derive(Clone, Copy)]
 pub enum Absorbed {
     Done,
     Stopped,
@@ -61,7 +61,7 @@ impl<S: Drop, K: Sink> Stage<S, K> {
         ensures none { result.k ≡ 0 }
         ensures runs { result.state ≡ StageState.Running }
         ensures taken { O.has_taken operator.now result.store (going_on []) }
-        ensures keeps { BeginsRuns O.plan O.contents O.has_taken K.written K.faults operator.now sink result }
+        ensures keeps { BeginsRuns O.plan O.contents O.has_taken K.written K.faults K.writes operator.now sink result }
     {
         Stage {
             sink,
@@ -189,7 +189,7 @@ impl<S: Drop, K: Sink> Stage<S, K> {
         ensures no_write { self.new.state ≡ StageState.NoMemory → K.writes self.new.sink ≡ K.writes self.old.sink }
 
         // So a stage after k tasks, given the piece of task k, is one after k + 1, or stopped at k.
-        ensures keeps { KeepsRuns O.plan O.contents O.has_taken K.written K.faults operator.now O.is_of self.old piece self.new }
+        ensures keeps { KeepsRuns O.plan O.contents O.has_taken K.written K.faults K.writes operator.now O.is_of self.old piece self.new }
     {
         match piece {
             Some(piece) => self.absorb_piece(alloc, operator, piece),
@@ -214,7 +214,7 @@ impl<S: Drop, K: Pour> Stage<S, K> {
         ensures tasks { self.new.k ≡ self.old.k }
         ensures state { self.new.state ≡ self.old.state }
         ensures writes { K.writes self.new.sink ≡ K.writes self.old.sink }
-        ensures seen { (contents : S → Kept) → stage_view contents K.written K.faults self.new ≡ stage_view contents K.written K.faults self.old }
+        ensures seen { (contents : S → Kept) → stage_view contents K.written K.faults K.writes self.new ≡ stage_view contents K.written K.faults K.writes self.old }
     {
         self.sink.pour();
     }

@@ -22,6 +22,8 @@ pub struct RunData<O> {
     pub written: Option<LinkedList<u64>>,
     /// Its count of faults then.
     pub faults: u64,
+    /// Its count of writes then.
+    pub writes: u64,
     pub rows: Rows,
     /// Whether the input's end stands behind them.
     pub ended: bool,
@@ -55,7 +57,7 @@ impl<O: Operator, K: Sink> Work for SaberWork<O, K> {
 
     ghost first = { first_needed O.plan };
 
-    ghost is_stage = { IsStageOf O.plan (stage_view O.contents K.written K.faults) O.has_taken };
+    ghost is_stage = { IsStageOf O.plan (stage_view O.contents K.written K.faults K.writes) O.has_taken };
 
     ghost keeps = { λ told d k rows. block_keeps O.plan told d k rows };
 

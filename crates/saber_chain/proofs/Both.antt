@@ -4,7 +4,7 @@ use Rattle.std.proofs.Math.Path.{transport}
 use Rattle.std.specs.Option.{option_map_or}
 use Rattle.std.specs.Prelude.{Bool, Option, Some, None, IfSome, ◌/◌, false}
 use Rattle.saber_io.specs.Outside.{left_before}
-use Rattle.saber_plan.specs.Outputs.{Rose, appended-none}
+use Rattle.saber_plan.specs.Outputs.{Rose, raised_by, appended-none}
 use Rattle.saber_io.specs.declared.feeds.EndMark.{EndMark}
 use Rattle.saber_io.specs.declared.feeds.EndMark.TheVariants as marks
 use Rattle.saber_plan.specs.declared.plans.Shape.{Shape}
@@ -25,6 +25,7 @@ use Rattle.saber_laws.proofs.FlushLaws.{tasks_make_all}
 use Rattle.saber_laws.proofs.WideLaws.{none_is_wide}
 use Rattle.saber_laws.proofs.StepLaws.{no_rows_give_nothing}
 use Rattle.saber_laws.proofs.TaskCutLaws.{no_tasks_no_rows}
+use Rattle.saber_laws.proofs.WriteLaws.{no_tasks_no_text}
 use Rattle.saber_dispatch.specs.declared.inputs.Inputs.{Inputs}
 use Rattle.saber_dispatch.specs.declared.inputs.Inputs.TheVariants.{One, Two}
 use Rattle.saber_plan.specs.declared.ends.RunEnd.{RunEnd}
@@ -33,6 +34,7 @@ use Rattle.saber_plan.specs.Files.{input_of}
 use Rattle.saber_engine.specs.Sources.{each_input, told_by, GaveAll}
 use Rattle.saber_engine.specs.Endings.{MayStop}
 use Rattle.saber_plan.specs.Runs.{Gives}
+use Rattle.saber_chain.specs.Sinks.{SinkSeen, seen_of}
 use Rattle.saber_chain.specs.Texts.{rows_between, text_of_both}
 use Rattle.saber_chain.specs.Marks.{mark_after, IsWhole}
 use Rattle.saber_chain.specs.declared.chained.Chained.{Chained}
@@ -88,17 +90,17 @@ if_all : {A : Type 0} {P : A → Type 0} (o : Option A) → ((x : A) → P x) �
 if_all None f = tt
 if_all (Some x) f = f x
 
-module _ {S K : Type 0} (left : S → Option (List ℕ)) (faults : S → ℕ) (written : K → Option (List ℕ)) (sink_faults : K → ℕ) where
+module _ {S K : Type 0} (left : S → Option (List ℕ)) (faults : S → ℕ) (written : K → Option (List ℕ)) (sink_faults made : K → ℕ) where
   -- what comes of both runs, where the second one has read what it needs of the first one's text
   pub both_runs : (first second : Tree) (s : Sizes) (had has : Inputs S) (sink sink' : K) (c : Chained S K) (end end' : RunEnd) (tasks tasks' : ℕ) (out taken : List ℕ) (sent mark : Option EndMark)
-      → RanFirst left faults first s had has end tasks out sent → RunsSecond second s taken mark (written sink) (written sink') end' tasks'
+      → RanFirst left faults first s had has end tasks out sent → RunsSecond second s taken mark (seen_of written made sink) (seen_of written made sink') end' tasks'
       → (end' ≡ WriteFault → Rose (sink_faults sink) (sink_faults sink')) → (end' ≢ WriteFault → sink_faults sink' ≡ sink_faults sink) → sink_faults sink ≤ sink_faults sink'
       → {stopped : Bool} → MayStop end' stopped → c.second_stopped ≡ Some stopped
       → (c.first ≡ end) × (c.second ≡ end') → (c.first_tasks ≡ tasks) × (c.tasks ≡ tasks') → (c.inputs ≡ has) × (c.sink ≡ sink')
-      → Settled out (Some (mark_after c.first)) taken mark → RunsBoth left faults written sink_faults first second s had sink c
+      → Settled out (Some (mark_after c.first)) taken mark → RunsBoth left faults written sink_faults made first second s had sink c
   both_runs first second s had has sink sink' c end end' tasks tasks' out taken sent mark ran runs write good rises may same ends counts backs done =
       let f : RunsFirst left faults first s had c.inputs c.first c.first_tasks out = transport (λ i. RunsFirst left faults first s had (sym backs.0 i) (sym ends.0 i) (sym counts.0 i) out) ran.runs in
-      let r : RunsSecond second s taken mark (written sink) (written c.sink) c.second c.tasks = transport (λ i. RunsSecond second s taken mark (written sink) (written (sym backs.1 i)) (sym ends.1 i) (sym counts.1 i)) runs in
+      let r : RunsSecond second s taken mark (seen_of written made sink) (seen_of written made c.sink) c.second c.tasks = transport (λ i. RunsSecond second s taken mark (seen_of written made sink) (seen_of written made (sym backs.1 i)) (sym ends.1 i) (sym counts.1 i)) runs in
       record {
         between = out;
         runs_first = f;
@@ -111,14 +113,15 @@ module _ {S K : Type 0} (left : S → Option (List ℕ)) (faults : S → ℕ) (w
 
   -- what both runs give is what a chain gives
   pub chains : (first second : Tree) (s : Sizes) (had : Inputs S) (sink : K) (c : Chained S K) → s.flush ≡ false → 1 ≤ s.task
-      → RunsBoth left faults written sink_faults first second s had sink c
-      → Chains first second s (told_by left had) (written sink) (written c.sink) c
+      → RunsBoth left faults written sink_faults made first second s had sink c
+      → Chains first second s (told_by left had) (seen_of written made sink) (seen_of written made c.sink) c
   chains first second s had sink c open_end some b = record {
     between = b.between;
     out = b.runs_second.out;
     written = b.runs_second.written;
     gives_first = subst (λ z. IfSome (told_by left had) (λ fs. Gives first s.task s.ring z (input_of first (limits_of s) fs) c.first c.first_tasks b.between)) open_end b.runs_first.gives;
     gives_second = b.runs_second.gives;
+    one_write = b.runs_second.one_write;
     whole_tasks = b.runs_second.whole;
     whole_text = λ w w'. if_some (told_by left had)
         (λ fs g. both_texts first second s.task s.ring (input_of first (limits_of s) fs) c.first c.second c.first_tasks c.tasks b.between b.runs_second.out some w w' g b.runs_second.gives)
@@ -127,7 +130,7 @@ module _ {S K : Type 0} (left : S → Option (List ℕ)) (faults : S → ℕ) (w
 
   -- the second query never needs too many tasks' rows
   pub narrow : (first second : Tree) (s : Sizes) (had : Inputs S) (sink : K) (c : Chained S K) → IsChecked second → length second.streams ≡ 1 → 1 ≤ s.ring
-      → RunsBoth left faults written sink_faults first second s had sink c → (task wants : ℕ) → c.second ≡ TooWide task wants → ⊥
+      → RunsBoth left faults written sink_faults made first second s had sink c → (task wants : ℕ) → c.second ≡ TooWide task wants → ⊥
   narrow first second s had sink c checked one some b task wants e =
       let read = rows_between second b.between in
       let gives : Gives second s.task s.ring false read (TooWide task wants) c.tasks b.runs_second.out = subst (λ z. Gives second s.task s.ring false read z c.tasks b.runs_second.out) e b.runs_second.gives in
@@ -147,15 +150,16 @@ nothing_given q fits n ring read = record {
 }
 
 -- no memory for the pipe
-pub no_pipe : (first second : Tree) → Fits (frame first) → Fits (frame second) → (s : Sizes) (files : Option (List (List ℕ))) (had : Option (List ℕ))
+pub no_pipe : (first second : Tree) → Fits (frame first) → Fits (frame second) → (s : Sizes) (files : Option (List (List ℕ))) (had : SinkSeen)
     → {S K : Type 0} (inputs : Inputs S) (sink : K)
     → Chains first second s files had had (record { first = NoMemory; second = NoMemory; second_stopped = None; inputs = inputs; sink = sink; first_tasks = 0; tasks = 0 })
 no_pipe first second fits fits' s files had inputs sink = record {
   between = [];
   out = [];
-  written = appended-none had;
+  written = appended-none had.written;
   gives_first = if_all files (λ fs. nothing_given first fits s.task s.ring (input_of first (limits_of s) fs));
   gives_second = nothing_given second fits' s.task s.ring (rows_between second []);
+  one_write = ap (raised_by had.writes) (sym (no_tasks_no_text second s.task (run_input second false (rows_between second []))));
   whole_tasks = λ side e. cc;
   whole_text = λ w. absurd (let h : marks.Cut ≡ marks.End = w in cc);
 }

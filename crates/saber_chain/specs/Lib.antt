@@ -1,4 +1,5 @@
 pub mod Texts
+pub mod Sinks
 pub mod Marks
 pub mod Firsts
 pub mod Seconds

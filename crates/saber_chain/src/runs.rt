@@ -14,6 +14,7 @@ ghost use Rattle.saber_engine.specs.Sources.{each_input, told_by, RoseAt, NoneFe
 ghost use Rattle.saber_plan.specs.Runs.{IsClean};
 ghost use Rattle.saber_engine.specs.Gives.{LeavesWhole};
 ghost use Rattle.saber_chain.specs.Marks.{IsWhole, IsShort};
+ghost use Rattle.saber_chain.specs.Sinks.{seen_of};
 ghost use Rattle.saber_chain.specs.Stops.{SecondStops};
 ghost use Rattle.saber_chain.specs.Firsts.{RanFirstTo};
 ghost use Rattle.saber_chain.specs.Chains.{Chains, RunsBoth};
@@ -63,7 +64,7 @@ fn run_both<
     requires sizes { SizesFit sizes.now }
     requires new { IsNew pipe.old }
     requires named { P.id ≡ id_of pipe.old }
-    ensures { RunsBoth S.left S.faults K.written K.faults (tree_of first.now) (tree_of second.now) sizes.now inputs sink result }
+    ensures { RunsBoth S.left S.faults K.written K.faults K.writes (tree_of first.now) (tree_of second.now) sizes.now inputs sink result }
 {
     let (pipe_sink, feed) = pipe.ends::<R, P>(rt, alone);
     let job = FirstJob {
@@ -87,7 +88,7 @@ fn run_both<
             requires sizes { SizesFit sizes.now }
             requires same { job.sizes.now ≡ sizes.now }
             requires new { waiting feed ≡ taken feed }
-            ensures { RunsBoth S.left S.faults K.written K.faults (tree_of job.entry.plan.now) (tree_of second.entry.now) sizes.entry.now
+            ensures { RunsBoth S.left S.faults K.written K.faults K.writes (tree_of job.entry.plan.now) (tree_of second.entry.now) sizes.entry.now
                 job.entry.inputs sink result }
         {
             let promise = FirstPromise {
@@ -159,8 +160,9 @@ pub fn chain<
     requires sizes { SizesFit sizes.now }
     requires open_end { sizes.now.flush ≡ false }
 
-    // What goes out is the second query's text over the lines of the first.
-    ensures gives { Chains (tree_of first.now) (tree_of second.now) sizes.now (told_by S.left inputs) (K.written sink) (K.written result.sink) result }
+    // What goes out is the second query's text over the lines of the first, by one write for each of
+    // its tasks that has text.
+    ensures gives { Chains (tree_of first.now) (tree_of second.now) sizes.now (told_by S.left inputs) (seen_of K.written K.writes sink) (seen_of K.written K.writes result.sink) result }
 
     // The first query's end is as of a run of its own, but that it never fails to write.
     ensures whole { LeavesWhole (tree_of first.now) sizes.now (each_input S.left inputs) (each_input S.left result.inputs) result.first result.first_tasks }

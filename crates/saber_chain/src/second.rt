@@ -58,7 +58,7 @@ pub(crate) fn run_second<'a, K: Sink + Send, G: Gate + Sync, P: PipeName, R: Thr
     requires one { length (tree_of plan.now).streams ≡ 1 }
     requires sizes { SizesFit sizes.now }
     requires fresh { waiting feed ≡ taken feed }
-    ensures runs { RunsSecondTo K.written (tree_of plan.now) sizes.now (taken_by result.relay) (mark_in result.relay) sink result.ran }
+    ensures runs { RunsSecondTo K.written K.writes (tree_of plan.now) sizes.now (taken_by result.relay) (mark_in result.relay) sink result.ran }
     ensures write { result.ran.end ≡ RunEnd.WriteFault → Rose (K.faults sink) (K.faults result.ran.sink) }
     ensures write_good { result.ran.end ≢ RunEnd.WriteFault → K.faults result.ran.sink ≡ K.faults sink }
     ensures writes { K.faults sink ≤ K.faults result.ran.sink }

@@ -1,5 +1,4 @@
 mod Apart
-mod Appended
 mod Cancelling
 mod Spanned
 mod Tallied

@@ -6,8 +6,8 @@ ghost use Rattle.saber_changes.specs.Counts.{change_of};
 
 use crate::answers::Answers;
 use crate::counts::{counted, take};
-use crate::lines::write_line;
 use crate::rising::write_apart;
+use saber_digits::write_line;
 use saber_plan::NoMemory;
 use std::alloc::Global;
 

@@ -5,8 +5,7 @@
 //!
 //! - Parts: `answers` (`Answers`, of one window), `counts` and `cancel` (the lines of two windows
 //!   cancel one by one: those of one are counted in a map, those of the other take from it),
-//!   `rising` (the same in one walk over both, where the lines of both rise), `lines` (their text),
-//!   `walk` (`Walk`).
+//!   `rising` (the same in one walk over both, where the lines of both rise), `walk` (`Walk`).
 //! - Calls: `Walk::pass` takes the answers of a window, `Walk::reach` passes windows without any;
 //!   both append what the windows passed gain, or lose (`Change`).
 //! - Proved: for any answers by window, the text grows by the lines of the bag differences of the
@@ -21,7 +20,6 @@
 mod answers;
 mod cancel;
 mod counts;
-mod lines;
 mod rising;
 mod walk;
 

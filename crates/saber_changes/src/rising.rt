@@ -6,7 +6,7 @@ ghost use Rattle.saber_plan.specs.Texts.{Behind};
 ghost use Rattle.saber_changes.specs.Rising.{is_below, NoneBelow, Rises};
 
 use crate::answers::Answers;
-use crate::lines::write_line;
+use saber_digits::write_line;
 use saber_plan::NoMemory;
 use std::cmp::Ordering;
 

@@ -5,7 +5,7 @@ ghost use Rattle.saber_check.specs.Least.{rank, key, earlier};
 use saber_query::Cause;
 
 /// A fault and the index of the word where it stands, counted from 0.
-#[derive(Clone, Copy, Debug, PartialEq, Eq)]
+#[derive(Clone, Copy)]
 pub struct Fault {
     pub index: u64,
     pub cause: Cause,

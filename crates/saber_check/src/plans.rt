@@ -1,6 +1,7 @@
 // The plan of a query.
 ghost use Rattle.std.specs.Prelude.{◌≡◌, ◌+◌, ◌≤◌, ◌^◌, map, option_map, length, IfOk};
 ghost use Rattle.saber_plan.specs.Trees as t;
+ghost use Rattle.saber_plan.specs.Checked.{IsChecked};
 ghost use Rattle.saber_query.specs.Trees.{tests_of, query_of};
 ghost use Rattle.saber_check.specs.Widths.{decl_width, span};
 ghost use Rattle.saber_check.specs.Names.{decls, names};
@@ -136,6 +137,15 @@ fn plan_word(word: StreamWord) -> Word
     }
 }
 
+fn word(query: &Select) -> Option<Word>
+    ensures { result ≡ option_map plan_word (query_of query.now).word }
+{
+    match query.word {
+        Some(word) => Some(plan_word(word)),
+        None => None,
+    }
+}
+
 fn plan_where(alloc: Global, query: &Select) -> Result<Option<saber_plan::Pred>, NoMemory>
     requires { Small (query_of query.now) }
     ensures { IfOk result (λ p. option_map t.tests_of p ≡ option_map
@@ -161,7 +171,8 @@ fn shape(query: &Select) -> Shape
 
 /// The plan of a query without a fault.
 pub(crate) fn plan(alloc: Global, query: &Select) -> Result<Plan, NoMemory>
-    requires { Small (query_of query.now) }
+    requires small { Small (query_of query.now) }
+    requires checked { IsChecked (plan_tree (query_of query.now)) }
     ensures { IfOk result (λ p. t.tree_of p ≡ plan_tree (query_of query.now)) }
 {
     let streams = plan_streams(alloc, query)?;
@@ -169,11 +180,14 @@ pub(crate) fn plan(alloc: Global, query: &Select) -> Result<Plan, NoMemory>
     let Outputs { aggregates, items } = plan_outputs(alloc, query, &keys)?;
     let predicate = plan_where(alloc, query)?;
     let partition = plan_partition(alloc, query)?;
-    let plan = Plan::new(shape(query), streams, aggregates, items, keys, predicate).partitioned(
+    Ok(Plan::new(
+        shape(query),
+        streams,
+        aggregates,
+        items,
+        keys,
+        predicate,
         partition,
-    );
-    match query.word {
-        Some(word) => Ok(plan.streamed(plan_word(word))),
-        None => Ok(plan),
-    }
+        word(query),
+    ))
 }

@@ -23,6 +23,7 @@ use Rattle.saber_plan.specs.Files.{input_of}
 use Rattle.saber_engine.specs.Endings.{MayStop}
 use Rattle.saber_engine.specs.Gives as engine
 use Rattle.saber_plan.specs.Runs as run_defs
+use Rattle.saber_chain.specs.Sinks.{SinkSeen}
 use Rattle.saber_chain.specs.Texts.{text_of_both}
 use Rattle.saber_chain.specs.Marks.{IsWhole, IsShort}
 use Rattle.saber_chain.specs.declared.chained.Chained.{Chained}
@@ -200,7 +201,7 @@ may_stop first second None s = subst (λ e. MayStop e false) (sym s.1) tt
 may_stop first second (Some stopped) s = s
 
 -- both runs of a chain, by how each ended
-runs_chain : {S K : Type 0} (p q : Tree) (s : Sizes) (leaves : RunEnd → ℕ → Type 0) (files : Option (List (List ℕ))) (had has : Option (List ℕ)) (o : Outcome) (e : Chained S K) (stopped : Bool) → o ≡ chained_as s.ring e.first e.second stopped → MayStop e.second stopped → Chains p q s files had has e → leaves e.first e.first_tasks
+runs_chain : {S K : Type 0} (p q : Tree) (s : Sizes) (leaves : RunEnd → ℕ → Type 0) (files : Option (List (List ℕ))) (had has : SinkSeen) (o : Outcome) (e : Chained S K) (stopped : Bool) → o ≡ chained_as s.ring e.first e.second stopped → MayStop e.second stopped → Chains p q s files had has e → leaves e.first e.first_tasks
     → e.first ≢ ends.WriteFault → (e.second ≡ ends.AllRead → IsWhole e.first) → ((side : Side) → e.second ≡ ends.ReadFault side → IsShort e.first) → ((task need : ℕ) → e.second ≢ ends.TooWide task need) → RunsChain p q s leaves files had has o e.tasks
 runs_chain p q s leaves files had has o e stopped is stops g whole never all cut narrow = record {
   first = e.first;
@@ -214,6 +215,7 @@ runs_chain p q s leaves files had has o e stopped is stops g whole never all cut
   written = g.written;
   gives_first = g.gives_first;
   gives_second = g.gives_second;
+  one_write = g.one_write;
   whole_tasks = g.whole_tasks;
   whole_first = whole;
   never = never;
@@ -221,11 +223,11 @@ runs_chain p q s leaves files had has o e stopped is stops g whole never all cut
   cut = cut;
   narrow = narrow;
   whole = λ h. let w = chained_whole s.ring e.first e.second stopped cut narrow (subst IsAnswered is h) in
-      some_map (λ (fs : List (List ℕ)). g.out ≡ text_of_both p q (going_on (input_of p (limits_of s) fs).rows)) (λ fs. has ≡ appended_text had (text_of_both p q (going_on (input_of p (limits_of s) fs).rows))) files (λ fs k. g.written ∙ ap (appended_text had) k) (g.whole_text w.0 w.1);
+      some_map (λ (fs : List (List ℕ)). g.out ≡ text_of_both p q (going_on (input_of p (limits_of s) fs).rows)) (λ fs. has.written ≡ appended_text had.written (text_of_both p q (going_on (input_of p (limits_of s) fs).rows))) files (λ fs k. g.written ∙ ap (appended_text had.written) k) (g.whole_text w.0 w.1);
 }
 
 -- and by what the second run tells of its stage
-pub runs_so : {S K : Type 0} (p q : Tree) (s : Sizes) (leaves : RunEnd → ℕ → Type 0) (files : Option (List (List ℕ))) (had has : Option (List ℕ)) (o : Outcome) (e : Chained S K) (stopped : Bool) → o ≡ chained_as s.ring e.first e.second stopped → stopped ≡ stopped_of e.second_stopped → SecondStops e.first e.second e.second_stopped → Chains p q s files had has e → leaves e.first e.first_tasks
+pub runs_so : {S K : Type 0} (p q : Tree) (s : Sizes) (leaves : RunEnd → ℕ → Type 0) (files : Option (List (List ℕ))) (had has : SinkSeen) (o : Outcome) (e : Chained S K) (stopped : Bool) → o ≡ chained_as s.ring e.first e.second stopped → stopped ≡ stopped_of e.second_stopped → SecondStops e.first e.second e.second_stopped → Chains p q s files had has e → leaves e.first e.first_tasks
     → e.first ≢ ends.WriteFault → (e.second ≡ ends.AllRead → IsWhole e.first) → ((side : Side) → e.second ≡ ends.ReadFault side → IsShort e.first) → ((task need : ℕ) → e.second ≢ ends.TooWide task need) → RunsChainSo p q s leaves files had has o e.tasks e.second_stopped
 unfolding runs_chain
 runs_so p q s leaves files had has o e stopped is told stops g whole never all cut narrow = (
@@ -235,7 +237,7 @@ runs_so p q s leaves files had has o e stopped is told stops g whole never all c
 )
 
 -- the same where more, or other things, are known of the first query's tasks
-runs_on : (p q : Tree) (s : Sizes) (A B : RunEnd → ℕ → Type 0) (files : Option (List (List ℕ))) (had has : Option (List ℕ)) (o : Outcome) (tasks : ℕ) → ((e : RunEnd) (n : ℕ) → A e n → B e n)
+runs_on : (p q : Tree) (s : Sizes) (A B : RunEnd → ℕ → Type 0) (files : Option (List (List ℕ))) (had has : SinkSeen) (o : Outcome) (tasks : ℕ) → ((e : RunEnd) (n : ℕ) → A e n → B e n)
     → RunsChain p q s A files had has o tasks → RunsChain p q s B files had has o tasks
 runs_on p q s A B files had has o tasks f r = record {
   first = r.first;
@@ -249,6 +251,7 @@ runs_on p q s A B files had has o tasks f r = record {
   written = r.written;
   gives_first = r.gives_first;
   gives_second = r.gives_second;
+  one_write = r.one_write;
   whole_tasks = r.whole_tasks;
   whole_first = f r.first r.first_tasks r.whole_first;
   never = r.never;
@@ -366,7 +369,7 @@ module _ {S : Type 0} (left : S → Option (List ℕ)) (faults : S → ℕ) wher
   chain_cause o i j a b c fresh e f h p r k = run_cause left faults o i j a b c fresh e f (chain_or_run o h k) p r k
 
   -- what both runs come to over open sources is what they come to over their files
-  pub chain_runs : (p q : Tree) (s : Sizes) (names : List (List ℕ)) (had has : Option (List ℕ)) (o : Outcome) (tasks : ℕ) (i j : Inputs S) (a b c : Option FilesView) → IfSome a (λ t. OpensAll t.contents names (each_input left i))
+  pub chain_runs : (p q : Tree) (s : Sizes) (names : List (List ℕ)) (had has : SinkSeen) (o : Outcome) (tasks : ℕ) (i j : Inputs S) (a b c : Option FilesView) → IfSome a (λ t. OpensAll t.contents names (each_input left i))
       → b ≡ after_use a names [] → c ≡ after_use b [] (backs left faults j) → RunsChain p q s (engine.LeavesWhole p s (each_input left i) (each_input left j)) (told_by left i) had has o tasks
       → ChainedTold p q s names a c had has o tasks
   chain_runs p q s names had has o tasks i j None b c opens asked closed h = tt
@@ -398,7 +401,7 @@ unopened_reason files a WriteFault r h = absurd h
 unopened_reason files a NoMemory r h = tt
 
 -- what is known of the first query's tasks, in other words
-pub chained_on : (p q : Tree) (s : Sizes) (A B : RunEnd → ℕ → Type 0) (content : Option (List (List ℕ))) (had has : Option (List ℕ)) (o : Outcome) (tasks : ℕ) → ((e : RunEnd) (n : ℕ) → A e n → B e n)
+pub chained_on : (p q : Tree) (s : Sizes) (A B : RunEnd → ℕ → Type 0) (content : Option (List (List ℕ))) (had has : SinkSeen) (o : Outcome) (tasks : ℕ) → ((e : RunEnd) (n : ℕ) → A e n → B e n)
     → ChainedIn p q s A content had has o tasks → ChainedIn p q s B content had has o tasks
 chained_on p q s A B content had has o tasks f (none_run h t n) = none_run h t n
 chained_on p q s A B content had has o tasks f (all_run all e r) = all_run all e (runs_on p q s A B (Some all) had has o tasks f r)
@@ -421,7 +424,7 @@ cut_takes a p (Some t) mid new b = λ e n h side k.
     )
 
 -- the run over the row files, behind two plans that chain
-pub chain_over : (files : Contents) (leaves : Tree → RunEnd → ℕ → Type 0) (a : AskedChain) (p q : Tree) (o : Outcome) (tasks : ℕ) (had has : Option (List ℕ)) → HasPlans files a p q → IsChainable p q → IsLike (first_run a) p → ChainedIn p q (chain_sizes a) (leaves p) (contents_of files (row_names (first_run a))) had has o tasks → ChainsOver files leaves a o tasks had has
+pub chain_over : (files : Contents) (leaves : Tree → RunEnd → ℕ → Type 0) (a : AskedChain) (p q : Tree) (o : Outcome) (tasks : ℕ) (had has : SinkSeen) → HasPlans files a p q → IsChainable p q → IsLike (first_run a) p → ChainedIn p q (chain_sizes a) (leaves p) (contents_of files (row_names (first_run a))) had has o tasks → ChainsOver files leaves a o tasks had has
 chain_over files leaves a p q o tasks had has u k l (none_run h t n) = not_run (unopened_reason files a o (record { first = p; second = q; plans = u; chains = k; like = l }) h) t n
 chain_over files leaves a p q o tasks had has u k l (all_run all e r) = both_run (record { first = p; second = q; plans = u; chains = k; like = l }) all e r
 
@@ -432,7 +435,7 @@ read_contents P first second (Some t) new b h = subst (λ m. IfSome m (λ u. P u
 
 -- ---- words that were not read
 
-pub unread_chained : (ws : List (List ℕ)) (a : AskedChain) (f : WordsFault) (told new : Option FilesView) (w : Option (List ℕ)) → (f ≡ fault.Usage → command_of ws ≡ None) → command_of ws ≡ Some (chain a) → AnswersChain a (unread f) 0 told new w w
+pub unread_chained : (ws : List (List ℕ)) (a : AskedChain) (f : WordsFault) (told new : Option FilesView) (w : SinkSeen) → (f ≡ fault.Usage → command_of ws ≡ None) → command_of ws ≡ Some (chain a) → AnswersChain a (unread f) 0 told new w w
 unread_chained ws a fault.NoMemory None new w h is = tt
 unread_chained ws a fault.NoMemory (Some t) new w h is = not_run tt refl refl
 unread_chained ws a fault.Usage told new w h is = let clash : Some (chain a) ≡ None = sym is ∙ h refl in cc

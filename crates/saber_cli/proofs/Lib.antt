@@ -7,6 +7,7 @@ pub mod TakenLemmas
 pub mod DueLemmas
 pub mod RunLemmas
 pub mod ShowLemmas
+pub mod WriteLemmas
 pub mod WordLemmas
 pub mod WorkedEnds
 pub mod DemoLemmas

@@ -12,6 +12,7 @@ use Rattle.saber_plan.specs.declared.rows.Side.{Side}
 use Rattle.saber_plan.specs.declared.ends.RunEnd.{RunEnd}
 use Rattle.saber_plan.specs.declared.ends.RunEnd.TheVariants as ends
 use Rattle.saber_plan.specs.Files.{input_of}
+use Rattle.saber_chain.specs.Sinks.{SinkSeen}
 use Rattle.saber_chain.specs.Texts.{text_of_both}
 use Rattle.saber_notes.specs.declared.outcome.InputFile.TheVariants.{Query, Left, Right, SecondQuery}
 use Rattle.saber_notes.specs.declared.outcome.Outcome.{Outcome}
@@ -62,13 +63,13 @@ told_fault files a (TooWide task need cells) byte cause f h = absurd h
 told_fault files a WriteFault byte cause f h = absurd h
 told_fault files a NoMemory byte cause f h = inr (inr refl)
 
-first_fault_told : (files : Contents) (leaves : Tree → RunEnd → ℕ → Type 0) (a : AskedChain) (o : Outcome) (tasks : ℕ) (had has : Option (List ℕ)) (byte : ℕ) (cause : Cause) → IsFaulty files a.first byte cause → ChainsOver files leaves a o tasks had has → (o ≡ QueryFault byte cause) ⊎ (IsQueryUnread o ⊎ (o ≡ NoMemory))
+first_fault_told : (files : Contents) (leaves : Tree → RunEnd → ℕ → Type 0) (a : AskedChain) (o : Outcome) (tasks : ℕ) (had has : SinkSeen) (byte : ℕ) (cause : Cause) → IsFaulty files a.first byte cause → ChainsOver files leaves a o tasks had has → (o ≡ QueryFault byte cause) ⊎ (IsQueryUnread o ⊎ (o ≡ NoMemory))
 first_fault_told files leaves a o tasks had has byte cause f (not_run h t n) = told_fault files a o byte cause f h
 first_fault_told files leaves a o tasks had has byte cause f (both_run r all e k) = absurd (planned_or_fault files a.first r.first byte cause r.plans.first f)
 
 -- what is told as done was run, and the text of both went out
-done_is_text : (files : Contents) (leaves : Tree → RunEnd → ℕ → Type 0) (a : AskedChain) (tasks : ℕ) (had has : Option (List ℕ)) → ChainsOver files leaves a Done tasks had has
-    → (r : AsksChainRows files a) × (all : List (List ℕ)) × (contents_of files (row_names (first_run a)) ≡ Some all) × (has ≡ appended_text had (text_of_both r.first r.second (going_on (input_of r.first (limits_of (chain_sizes a)) all).rows)))
+done_is_text : (files : Contents) (leaves : Tree → RunEnd → ℕ → Type 0) (a : AskedChain) (tasks : ℕ) (had has : SinkSeen) → ChainsOver files leaves a Done tasks had has
+    → (r : AsksChainRows files a) × (all : List (List ℕ)) × (contents_of files (row_names (first_run a)) ≡ Some all) × (has.written ≡ appended_text had.written (text_of_both r.first r.second (going_on (input_of r.first (limits_of (chain_sizes a)) all).rows)))
 done_is_text files leaves a tasks had has (not_run h t n) = absurd h
 done_is_text files leaves a tasks had has (both_run r all e k) = (r, all, e, k.whole tt)
 

@@ -1,7 +1,7 @@
 -- What a chain comes to: two queries, of which the second one's rows are the lines of the first.
 use Rattle.std.specs.Prelude.{Bool, ◌≡◌, ◌≢◌, ◌⊎◌, ℕ, List, [], ◌∷◌, ◌++◌, length, Option, Some, IfSome, true, false}
 use Rattle.saber_io.specs.Outside.{FilesView, Closed, content_in}
-use Rattle.saber_plan.specs.Outputs.{appended_text}
+use Rattle.saber_plan.specs.Outputs.{raised_by, appended_text}
 use Rattle.saber_plan.specs.declared.rows.Side.{Side}
 use Rattle.saber_plan.specs.declared.plans.Shape.TheVariants.{Join}
 use Rattle.saber_plan.specs.declared.sizes.Sizes.{Sizes}
@@ -18,7 +18,8 @@ use Rattle.saber_plan.specs.Files.{input_of}
 use Rattle.saber_engine.specs.Endings.{MayStop}
 use Rattle.saber_plan.specs.Runs.{Gives}
 use Rattle.saber_engine.specs.FedRuns.{TakesWhole}
-use Rattle.saber_chain.specs.Texts.{between_limits, rows_between, text_of_both}
+use Rattle.saber_chain.specs.Sinks.{SinkSeen}
+use Rattle.saber_chain.specs.Texts.{between_limits, rows_between, writes_between, text_of_both}
 use Rattle.saber_chain.specs.Marks.{IsWhole, IsShort}
 use Rattle.saber_notes.specs.declared.outcome.InputFile.TheVariants.{Query, Left, Right, SecondQuery}
 use Rattle.saber_notes.specs.declared.outcome.Outcome.{Outcome}
@@ -106,9 +107,9 @@ IsAnswered (ChainLineRefused line cause) = Unit {0}
 IsAnswered _ = ⊥
 
 -- Both plans were run, the first one over row files with these bytes, if they tell, and the second one over what the first one gave; and the outcome
--- tells how each ended, and for want of memory of the second one whether its stage was stopped by that, or its rows ended so. The first one writes where no write fails. The second one reads to the end only where the first one's text is whole, and is
+-- tells how each ended, and for want of memory of the second one whether its stage was stopped by that, or its rows ended so. The first one writes where no write fails, and the second one once for each of its tasks that has text. The second one reads to the end only where the first one's text is whole, and is
 -- cut off only where it isn't; none of its tasks is too wide. What is known of how many tasks a first query that ended so has assembled holds of this one.
-pub record RunsChain (p q : Tree) (s : Sizes) (leaves : RunEnd → ℕ → Type 0) (files : Option (List (List ℕ))) (had has : Option (List ℕ)) (o : Outcome) (tasks : ℕ) : Type 0 where
+pub record RunsChain (p q : Tree) (s : Sizes) (leaves : RunEnd → ℕ → Type 0) (files : Option (List (List ℕ))) (had has : SinkSeen) (o : Outcome) (tasks : ℕ) : Type 0 where
   pub first : RunEnd
   pub second : RunEnd
   pub stopped : Bool
@@ -117,16 +118,17 @@ pub record RunsChain (p q : Tree) (s : Sizes) (leaves : RunEnd → ℕ → Type 
   pub outcome : o ≡ chained_as s.ring first second stopped
   pub between : List ℕ
   pub out : List ℕ
-  pub written : has ≡ appended_text had out
+  pub written : has.written ≡ appended_text had.written out
   pub gives_first : IfSome files (λ fs. Gives p s.task s.ring false (input_of p (limits_of s) fs) first first_tasks between)
   pub gives_second : Gives q s.task s.ring false (rows_between q between) second tasks out
+  pub one_write : has.writes ≡ raised_by had.writes (writes_between q s.task between second tasks)
   pub whole_tasks : (side : Side) → second ≡ ends.ReadFault side → TakesWhole q s.task between_limits tasks between
   pub whole_first : leaves first first_tasks
   pub never : first ≢ ends.WriteFault
   pub all : second ≡ ends.AllRead → IsWhole first
   pub cut : (side : Side) → second ≡ ends.ReadFault side → IsShort first
   pub narrow : (task need : ℕ) → second ≢ ends.TooWide task need
-  pub whole : IsAnswered o → IfSome files (λ fs. has ≡ appended_text had (text_of_both p q (going_on (input_of p (limits_of s) fs).rows)))
+  pub whole : IsAnswered o → IfSome files (λ fs. has.written ≡ appended_text had.written (text_of_both p q (going_on (input_of p (limits_of s) fs).rows)))
 
 -- the sizes that are asked for
 abbrev pub chain_sizes : AskedChain → Sizes
@@ -135,7 +137,7 @@ chain_sizes a = record { task = a.task; ring = a.ring; threads = a.threads; max_
 -- ---- the whole
 
 -- What a chain comes to over files that tell their contents: nothing was run, for a reason; or both queries were, over all row files.
-pub data ChainsOver (files : Contents) (leaves : Tree → RunEnd → ℕ → Type 0) (a : AskedChain) (o : Outcome) (tasks : ℕ) (had has : Option (List ℕ)) : Type 0 where
+pub data ChainsOver (files : Contents) (leaves : Tree → RunEnd → ℕ → Type 0) (a : AskedChain) (o : Outcome) (tasks : ℕ) (had has : SinkSeen) : Type 0 where
   not_run : HasReason files a o → tasks ≡ 0 → has ≡ had → ChainsOver files leaves a o tasks had has
   both_run : (r : AsksChainRows files a) (all : List (List ℕ)) → contents_of files (row_names (first_run a)) ≡ Some all
       → RunsChain r.first r.second (chain_sizes a) (leaves r.first) (Some all) had has o tasks → ChainsOver files leaves a o tasks had has
@@ -153,5 +155,5 @@ abbrev pub CutTakesChain : AskedChain → FilesView → Option FilesView → Tre
 CutTakesChain a old new q end tasks = (side : Side) → end ≡ ends.ReadFault side → (u : FilesView) × (new ≡ Some u) × TakesChain q a tasks old u
 
 -- the whole where files tell, before and after the call
-abbrev pub AnswersChain : AskedChain → Outcome → ℕ → Option FilesView → Option FilesView → Option (List ℕ) → Option (List ℕ) → Type 0
+abbrev pub AnswersChain : AskedChain → Outcome → ℕ → Option FilesView → Option FilesView → SinkSeen → SinkSeen → Type 0
 AnswersChain a o tasks told new had has = IfSome told (λ t. ChainsOver t.contents (CutTakesChain a t new) a o tasks had has)

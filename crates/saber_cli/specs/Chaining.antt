@@ -8,6 +8,7 @@ use Rattle.saber_plan.specs.Sizes.{limits_of}
 use Rattle.saber_plan.specs.Trees.{Tree}
 use Rattle.saber_plan.specs.declared.ends.RunEnd.{RunEnd}
 use Rattle.saber_plan.specs.declared.ends.RunEnd.TheVariants as ends
+use Rattle.saber_chain.specs.Sinks.{SinkSeen}
 use Rattle.saber_chain.specs.Stops.{SecondStops, stopped_of}
 use Rattle.saber_notes.specs.declared.outcome.InputFile.TheVariants.{Query, SecondQuery}
 use Rattle.saber_notes.specs.declared.outcome.Outcome.{Outcome}
@@ -70,11 +71,11 @@ pub record UsesChainRows (names : List (List ℕ)) (o : Outcome) (old new : Opti
   pub matches : (one two : Closed) → one.1 ≡ 0 → two.1 ≡ 0 → MatchesChain (suc (suc (length names))) o (suc (suc count)) (one ∷ two ∷ given_back)
 
 -- Both were run, and whether the second one's stage was stopped, by which the outcome goes, is what its own run tells.
-abbrev pub RunsChainSo : Tree → Tree → Sizes → (RunEnd → ℕ → Type 0) → Option (List (List ℕ)) → Option (List ℕ) → Option (List ℕ) → Outcome → ℕ → Option Bool → Type 0
+abbrev pub RunsChainSo : Tree → Tree → Sizes → (RunEnd → ℕ → Type 0) → Option (List (List ℕ)) → SinkSeen → SinkSeen → Outcome → ℕ → Option Bool → Type 0
 RunsChainSo p q s leaves files had has o tasks told = (runs : RunsChain p q s leaves files had has o tasks) × SecondStops runs.first runs.second told × (runs.stopped ≡ stopped_of told)
 
 -- Over row files with these bytes; or one of them was not opened.
-pub data ChainedIn (p q : Tree) (s : Sizes) (leaves : RunEnd → ℕ → Type 0) (content : Option (List (List ℕ))) (had has : Option (List ℕ)) (o : Outcome) (tasks : ℕ) : Type 0 where
+pub data ChainedIn (p q : Tree) (s : Sizes) (leaves : RunEnd → ℕ → Type 0) (content : Option (List (List ℕ))) (had has : SinkSeen) (o : Outcome) (tasks : ℕ) : Type 0 where
   none_run : IsUnopened o → tasks ≡ 0 → has ≡ had → ChainedIn p q s leaves content had has o tasks
   all_run : (all : List (List ℕ)) → content ≡ Some all → RunsChain p q s leaves (Some all) had has o tasks → ChainedIn p q s leaves content had has o tasks
 
@@ -83,5 +84,5 @@ abbrev pub CutTakes : Tree → Sizes → List (List ℕ) → Option FilesView �
 CutTakes p s names old new end tasks = (side : Side) → end ≡ ends.ReadFault side → TakesRows p s.task (limits_of s) tasks names old new
 
 -- over the row files with these names, where files tell
-abbrev pub ChainedTold : Tree → Tree → Sizes → List (List ℕ) → Option FilesView → Option FilesView → Option (List ℕ) → Option (List ℕ) → Outcome → ℕ → Type 0
+abbrev pub ChainedTold : Tree → Tree → Sizes → List (List ℕ) → Option FilesView → Option FilesView → SinkSeen → SinkSeen → Outcome → ℕ → Type 0
 ChainedTold p q s names told new had has o tasks = IfSome told (λ t. ChainedIn p q s (CutTakes p s names told new) (contents_of t.contents names) had has o tasks)

@@ -7,6 +7,7 @@ pub mod Planned
 pub mod Due
 pub mod Causes
 pub mod Puts
+pub mod Writes
 pub mod Leaves
 pub mod RowFiles
 pub mod Taken

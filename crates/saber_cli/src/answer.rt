@@ -11,6 +11,7 @@ ghost use Rattle.saber_cli.specs.Uses.{IsOpened};
 ghost use Rattle.saber_cli.specs.Endings.{ReadFaultsRose, ended_as, file_on};
 ghost use Rattle.saber_cli.specs.Answered.{AnsweredOver};
 ghost use Rattle.saber_cli.specs.Taken.{CutLeavesWhole};
+ghost use Rattle.saber_cli.specs.Writes.{WritesOver};
 
 use saber_engine::{Inputs, Ran as Engine, RunEnd, engine};
 use saber_io::{Gate, Sink, Source};
@@ -70,6 +71,7 @@ pub(crate) fn answer<S: Source, K: Sink + Send, G: Gate + Sync, R: Threads + Wai
     requires sizes { SizesFit sizes.now }
     ensures written { (out : List ℕ) × (K.written result.sink ≡ appended_text (K.written sink) out)
         × IfSome (told_by S.left inputs.old) (λ all. AnsweredOver (tree_of plan.now) sizes.now all result.outcome result.tasks out) }
+    ensures writes { IfSome (told_by S.left inputs.old) (λ all. WritesOver (tree_of plan.now) sizes.now all result.outcome result.tasks (K.writes sink) (K.writes result.sink)) }
     ensures kinds { IsOfRun result.outcome }
     ensures opened { IsOpened result.outcome }
     ensures taken { CutLeavesWhole (tree_of plan.now) sizes.now result.outcome result.tasks (each_input S.left inputs.old) (each_input S.left inputs.new) }

@@ -9,6 +9,7 @@ ghost use Rattle.saber_engine.specs.Gives.{LeavesWhole};
 ghost use Rattle.saber_engine.specs.Sources.{each_input, told_by, GaveAll};
 ghost use Rattle.saber_chain.specs.Stops.{stopped_of};
 ghost use Rattle.saber_notes.specs.declared.outcome.Outcome.{Outcome};
+ghost use Rattle.saber_chain.specs.Sinks.{seen_of};
 ghost use Rattle.saber_cli.specs.Outcomes.{IsClean, IsOfChain};
 ghost use Rattle.saber_cli.specs.Uses.{IsOpened};
 ghost use Rattle.saber_cli.specs.Endings.{ReadFaultsRose, chained_as, unless_cut};
@@ -111,7 +112,7 @@ pub(crate) fn answer_chain<
     // The outcome goes by how each ended, and by whether the stage was stopped, as the second run
     // tells it.
     ensures runs { RunsChainSo (tree_of first.now) (tree_of second.now) sizes.now
-        (LeavesWhole (tree_of first.now) sizes.now (each_input S.left inputs) (each_input S.left result.inputs)) (told_by S.left inputs) (K.written sink) (K.written result.sink) result.outcome result.tasks
+        (LeavesWhole (tree_of first.now) sizes.now (each_input S.left inputs) (each_input S.left result.inputs)) (told_by S.left inputs) (seen_of K.written K.writes sink) (seen_of K.written K.writes result.sink) result.outcome result.tasks
         result.stopped }
     ensures kinds { IsOfChain result.outcome }
     ensures opened { IsOpened result.outcome }

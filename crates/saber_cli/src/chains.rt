@@ -8,6 +8,7 @@ ghost use Rattle.saber_words.specs.declared.commands.Command.{Command};
 ghost use Rattle.saber_words.specs.Commands.{asked_command, asked_run, IsSized};
 ghost use Rattle.saber_words.specs.Chain.{asked_chain};
 ghost use Rattle.saber_notes.specs.declared.outcome.Outcome.{Outcome};
+ghost use Rattle.saber_chain.specs.Sinks.{seen_of};
 ghost use Rattle.saber_cli.specs.Outcomes.{IsClean, IsFileFault, IsBeforeRun, IsOfChain};
 ghost use Rattle.saber_cli.specs.Due.{first_run, row_names};
 ghost use Rattle.saber_cli.specs.Uses.{KeepsFaults};
@@ -82,7 +83,7 @@ where
     requires open_end { sizes.now.flush ≡ false }
     ensures written { (out : List ℕ) × (K.written result.sink ≡ appended_text (K.written sink) out) }
     ensures runs { ChainedTold (tree_of first.now) (tree_of second.now) sizes.now (row_names (asked_run command.now)) (F.told files.old) (F.told files.new)
-        (K.written sink) (K.written result.sink) result.outcome result.tasks }
+        (seen_of K.written K.writes sink) (seen_of K.written K.writes result.sink) result.outcome result.tasks }
     ensures early { IsBeforeRun result.outcome → (result.tasks ≡ 0) × (result.sink ≡ sink) }
     ensures kinds { IsOfChain result.outcome }
     ensures uses { UsesChainRows (row_names (asked_run command.now)) result.outcome (F.told files.old) (F.told files.new) }
@@ -128,7 +129,7 @@ where
     F::Src: Send + Drop,
     requires sizes { IsSized (asked_command (Command.Chain command.now)) }
     ensures written { (out : List ℕ) × (K.written result.sink ≡ appended_text (K.written sink) out) }
-    ensures chained { AnswersChain (asked_chain command.now) result.outcome result.tasks (F.told files.old) (F.told files.new) (K.written sink) (K.written result.sink) }
+    ensures chained { AnswersChain (asked_chain command.now) result.outcome result.tasks (F.told files.old) (F.told files.new) (seen_of K.written K.writes sink) (seen_of K.written K.writes result.sink) }
     ensures early { IsBeforeRun result.outcome → (result.tasks ≡ 0) × (result.sink ≡ sink) }
     ensures kinds { result.outcome ≢ Outcome.Usage }
     ensures leaves { LeavesChain (asked_chain command.now) result.outcome (F.told files.old) (F.told files.new) }

@@ -9,6 +9,7 @@ ghost use Rattle.saber_cli.specs.Due.{row_names};
 ghost use Rattle.saber_cli.specs.Gives.{Gives};
 ghost use Rattle.saber_cli.specs.Leaves.{LeavesTold};
 ghost use Rattle.saber_cli.specs.Taken.{TakesTold};
+ghost use Rattle.saber_cli.specs.Writes.{WritesTold};
 
 use crate::answer::Ran;
 use crate::plans::planned;
@@ -45,6 +46,7 @@ pub(crate) fn run_command<F: Files, K: Sink + Send, G: Gate + Sync, R: Threads +
     requires sizes { IsSized (asked_command (Command.Run command.now)) }
     ensures written { (out : List ℕ) × (K.written result.sink ≡ appended_text (K.written sink) out)
         × IfSome (F.told files.old) (λ t. Gives t.contents (asked_command (Command.Run command.now)) result.outcome result.tasks out) }
+    ensures writes { WritesTold (asked_command (Command.Run command.now)) (F.told files.old) result.outcome result.tasks (K.writes sink) (K.writes result.sink) }
     ensures early { IsBeforeRun result.outcome → (result.tasks ≡ 0) × (result.sink ≡ sink) }
     ensures kinds { result.outcome ≢ Outcome.Usage }
     ensures alone { IsOfSecond result.outcome → ⊥ }
@@ -100,6 +102,7 @@ pub(crate) fn check_command<F: Files, K: Sink>(
 ) -> Ran<K>
     ensures written { (out : List ℕ) × (K.written result.sink ≡ appended_text (K.written sink) out)
         × IfSome (F.told files.old) (λ t. Gives t.contents (asked_command (Command.Check command.now)) result.outcome result.tasks out) }
+    ensures writes { WritesTold (asked_command (Command.Check command.now)) (F.told files.old) result.outcome result.tasks (K.writes sink) (K.writes result.sink) }
     ensures early { IsBeforeRun result.outcome → (result.tasks ≡ 0) × (result.sink ≡ sink) }
     ensures kinds { result.outcome ≢ Outcome.Usage }
     ensures alone { IsOfSecond result.outcome → ⊥ }

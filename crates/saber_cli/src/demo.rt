@@ -1,6 +1,6 @@
 // The command `demo`: a run over generated rows, and the summary of its answer.
 ghost use Rattle.std.specs.Prelude.{◌≡◌, ◌≢◌, ◌≤◌, ◌^◌, ◌↔◌, false, IsTrue};
-ghost use Rattle.saber_plan.specs.Outputs.{raised_count, Rose};
+ghost use Rattle.saber_plan.specs.Outputs.{raised_by, raised_count, Rose};
 ghost use Rattle.saber_plan.specs.Sizes.{SizesFit};
 ghost use Rattle.saber_words.specs.declared.commands.Command.{Command};
 ghost use Rattle.saber_words.specs.Commands.{asked_command, IsSized};
@@ -9,6 +9,7 @@ ghost use Rattle.saber_plan.specs.declared.ends.RunEnd.{RunEnd};
 ghost use Rattle.saber_notes.specs.declared.outcome.Outcome.{Outcome};
 ghost use Rattle.saber_cli.specs.Demo.{tasks_of_run};
 ghost use Rattle.saber_cli.specs.Tells.{IsAnswer, IsWholeOrLacks, TellsRun};
+ghost use Rattle.saber_cli.specs.Writes.{text_writes};
 
 use crate::answer::Ran;
 use crate::puts::put;
@@ -125,6 +126,7 @@ fn tell<K: Sink>(alloc: Global, command: &Demo, answer: Answer, sink: K) -> Ran<
     ensures write_good { result.outcome ≢ Outcome.WriteFault → K.faults result.sink ≡ K.faults sink }
     ensures one { result.outcome ≡ Outcome.Done → K.writes result.sink ≡ raised_count (K.writes sink) }
     ensures one_cut { result.outcome ≡ Outcome.WriteFault → K.writes result.sink ≡ raised_count (K.writes sink) }
+    ensures writes { K.writes result.sink ≡ raised_by (K.writes sink) (text_writes result.outcome) }
 {
     let Answer {
         text: answered,
@@ -154,6 +156,7 @@ pub(crate) fn demo_command<K: Sink, G: Gate + Sync, R: Threads + Wait + Sync>(
     ensures write_good { result.outcome ≢ Outcome.WriteFault → K.faults result.sink ≡ K.faults sink }
     ensures one { result.outcome ≡ Outcome.Done → K.writes result.sink ≡ raised_count (K.writes sink) }
     ensures one_cut { result.outcome ≡ Outcome.WriteFault → K.writes result.sink ≡ raised_count (K.writes sink) }
+    ensures writes { K.writes result.sink ≡ raised_by (K.writes sink) (text_writes result.outcome) }
 {
     let answer = run_generated(rt, alloc, command, gate);
     tell(alloc, command, answer, sink)

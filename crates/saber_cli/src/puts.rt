@@ -1,8 +1,9 @@
 // A text that goes out.
 ghost use Rattle.std.specs.Prelude.{◌≡◌, ◌≢◌, ℕ, List};
-ghost use Rattle.saber_plan.specs.Outputs.{raised_count, Rose, appended_text};
+ghost use Rattle.saber_plan.specs.Outputs.{raised_by, raised_count, Rose, appended_text};
 ghost use Rattle.saber_notes.specs.declared.outcome.Outcome.{Outcome};
 ghost use Rattle.saber_cli.specs.Puts.{IsOfPut, PutsText};
+ghost use Rattle.saber_cli.specs.Writes.{text_writes};
 
 use crate::answer::Ran;
 use saber_io::{Sink, WriteFault};
@@ -17,6 +18,7 @@ pub(crate) fn put<K: Sink>(text: &[u8], mut sink: K, tasks: u64) -> Ran<K>
     ensures write_good { result.outcome ≢ Outcome.WriteFault → K.faults result.sink ≡ K.faults sink }
     ensures one { result.outcome ≢ Outcome.NoMemory → K.writes result.sink ≡ raised_count (K.writes sink) }
     ensures none { result.outcome ≡ Outcome.NoMemory → K.writes result.sink ≡ K.writes sink }
+    ensures writes { K.writes result.sink ≡ raised_by (K.writes sink) (text_writes result.outcome) }
 {
     match sink.write_all(text) {
         Ok(()) => Ran {

@@ -12,6 +12,7 @@ ghost use Rattle.saber_cli.specs.Answered.{AnsweredTold};
 ghost use Rattle.saber_cli.specs.RowFiles.{UsesRows};
 ghost use Rattle.saber_cli.specs.Taken.{CutTakesRows};
 ghost use Rattle.saber_cli.specs.Uses.{KeepsFaults};
+ghost use Rattle.saber_cli.specs.Writes.{WritesRows};
 
 use crate::answer::{Ran, answer};
 use crate::row_files::{close_rows, open_rows};
@@ -39,6 +40,7 @@ pub(crate) fn run_rows<F: Files, K: Sink + Send, G: Gate + Sync, R: Threads + Wa
     requires sizes { SizesFit sizes.now }
     ensures written { (out : List ℕ) × (K.written result.sink ≡ appended_text (K.written sink) out)
         × AnsweredTold (tree_of plan.now) sizes.now (row_names (asked_run command.now)) (F.told files.old) result.outcome result.tasks out }
+    ensures writes { WritesRows (tree_of plan.now) sizes.now (row_names (asked_run command.now)) (F.told files.old) result.outcome result.tasks (K.writes sink) (K.writes result.sink) }
     ensures early { IsBeforeRun result.outcome → (result.tasks ≡ 0) × (result.sink ≡ sink) }
     ensures kinds { IsOfRun result.outcome }
     ensures uses { UsesRows (row_names (asked_run command.now)) result.outcome (F.told files.old) (F.told files.new) }

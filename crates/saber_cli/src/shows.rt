@@ -1,6 +1,6 @@
 // The command `check`: a query's own text.
 ghost use Rattle.std.specs.Prelude.{◌≡◌, ◌≢◌, ℕ, List, [], ◌∷◌, ◌++◌, IfOk, IfErr, OnOk};
-ghost use Rattle.saber_plan.specs.Outputs.{raised_count, Rose, appended_text};
+ghost use Rattle.saber_plan.specs.Outputs.{raised_by, raised_count, Rose, appended_text};
 ghost use Rattle.saber_query.specs.Parsed.{IsParsed};
 ghost use Rattle.saber_query.specs.Trees.{query_of};
 ghost use Rattle.saber_query.specs.Words.{words};
@@ -12,6 +12,7 @@ ghost use Rattle.saber_cli.specs.Outcomes.{IsQueryFault, IsOfShow};
 ghost use Rattle.saber_cli.specs.Due.{Shows};
 ghost use Rattle.saber_cli.specs.Planned.{IsTextFault};
 ghost use Rattle.saber_cli.specs.Shown.{Showed};
+ghost use Rattle.saber_cli.specs.Writes.{text_writes};
 
 use crate::answer::Ran;
 use crate::plans::refused;
@@ -89,6 +90,7 @@ pub(crate) fn put_text<K: Sink>(alloc: Global, text: &[u8], sink: K) -> Ran<K>
     ensures write_good { result.outcome ≢ Outcome.WriteFault → K.faults result.sink ≡ K.faults sink }
     ensures one { result.outcome ≡ Outcome.Done → K.writes result.sink ≡ raised_count (K.writes sink) }
     ensures one_cut { result.outcome ≡ Outcome.WriteFault → K.writes result.sink ≡ raised_count (K.writes sink) }
+    ensures writes { K.writes result.sink ≡ raised_by (K.writes sink) (text_writes result.outcome) }
 {
     let out = match shown(alloc, text) {
         Ok(out) => out,

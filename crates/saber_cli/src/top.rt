@@ -6,6 +6,7 @@ ghost use Rattle.saber_words.specs.Chain.{AskedChain};
 ghost use Rattle.saber_notes.specs.Notes.{status_of, note_of};
 ghost use Rattle.saber_notes.specs.declared.outcome.Outcome.{Outcome};
 ghost use Rattle.saber_notes.specs.declared.note.Noted.{Noted};
+ghost use Rattle.saber_chain.specs.Sinks.{seen_of};
 ghost use Rattle.saber_cli.specs.Outcomes.{IsClean, IsFileFault, IsBeforeRun, IsOfSecond};
 ghost use Rattle.saber_cli.specs.Due.{IfRun, IfDemo, IfChain, IfPlain};
 ghost use Rattle.saber_cli.specs.Gives.{AnswersTold};
@@ -15,6 +16,7 @@ ghost use Rattle.saber_cli.specs.Leaves.{LeavesTold};
 ghost use Rattle.saber_cli.specs.Taken.{TakesTold};
 ghost use Rattle.saber_cli.specs.Tells.{TellsRun};
 ghost use Rattle.saber_cli.specs.Unread.{unread, EndsUnread};
+ghost use Rattle.saber_cli.specs.Writes.{WritesTold};
 
 use crate::answer::Ran;
 use crate::words::{run_words, unread};
@@ -65,6 +67,10 @@ where
         × AnswersTold (map (λ word. word.now) words.now) (F.told files.old) result.outcome result.tasks out }
     ensures before { IsBeforeRun result.outcome → (result.tasks ≡ 0) × (result.sink ≡ sink) }
 
+    // How often is written: of a run once for each of the tasks assembled that has text, and once
+    // more where that fails; of a text that goes out alone once.
+    ensures writes { IfPlain (map (λ word. word.now) words.now) (λ c. WritesTold c (F.told files.old) result.outcome result.tasks (K.writes sink) (K.writes result.sink)) }
+
     // A run over generated rows tells its summary, whatever files there are: of the seed and the
     // number of rows alone.
     ensures told { IfDemo (map (λ word. word.now) words.now) (λ d. TellsRun d result.outcome result.tasks (K.written sink) (K.written result.sink)) }
@@ -73,7 +79,7 @@ where
     // in the texts, in how they fit, or in both runs. Behind a fault of reading those lines are of
     // at least every whole task of what was taken of the row files.
     ensures chained { IfChain (map (λ word. word.now) words.now)
-        (λ a. AnswersChain a result.outcome result.tasks (F.told files.old) (F.told files.new) (K.written sink) (K.written result.sink)) }
+        (λ a. AnswersChain a result.outcome result.tasks (F.told files.old) (F.told files.new) (seen_of K.written K.writes sink) (seen_of K.written K.writes result.sink)) }
     ensures second { IsOfSecond result.outcome → (a : AskedChain) × (command_of (map (λ word. word.now) words.now) ≡ Some (chain a)) }
 
     // Words that are no command, whether the files tell or not.
@@ -147,6 +153,8 @@ pub fn refuse_words<N: Sink>(fault: WordsFault, notes: &mut N) -> Refused
     ensures memory { result.noted ≡ Noted.NoMemory → N.written notes.new ≡ N.written notes.old }
     ensures note { result.noted ≡ Noted.Failed → Rose (N.faults notes.old) (N.faults notes.new) }
     ensures note_good { result.noted ≢ Noted.Failed → N.faults notes.new ≡ N.faults notes.old }
+    ensures one { result.noted ≢ Noted.NoMemory → N.writes notes.new ≡ raised_count (N.writes notes.old) }
+    ensures none { result.noted ≡ Noted.NoMemory → N.writes notes.new ≡ N.writes notes.old }
 {
     let outcome = unread(fault);
     let noted = write_note(notes, outcome);

@@ -4,6 +4,7 @@ ghost use Rattle.saber_plan.specs.Outputs.{Rose, appended_text};
 ghost use Rattle.saber_words.specs.Commands.{chain, command_of};
 ghost use Rattle.saber_words.specs.Chain.{AskedChain};
 ghost use Rattle.saber_notes.specs.declared.outcome.Outcome.{Outcome};
+ghost use Rattle.saber_chain.specs.Sinks.{seen_of};
 ghost use Rattle.saber_cli.specs.Outcomes.{IsClean, IsFileFault, IsBeforeRun, IsOfSecond};
 ghost use Rattle.saber_cli.specs.Due.{IfRun, IfDemo, IfChain, IfPlain};
 ghost use Rattle.saber_cli.specs.Gives.{AnswersTold};
@@ -13,6 +14,7 @@ ghost use Rattle.saber_cli.specs.Leaves.{LeavesTold};
 ghost use Rattle.saber_cli.specs.Taken.{TakesTold};
 ghost use Rattle.saber_cli.specs.Tells.{TellsRun};
 ghost use Rattle.saber_cli.specs.Unread.{unread, EndsUnread};
+ghost use Rattle.saber_cli.specs.Writes.{WritesTold};
 
 use crate::answer::Ran;
 use crate::chains::chain_command;
@@ -49,11 +51,12 @@ where
     ensures written { (out : List ℕ) × (K.written result.sink ≡ appended_text (K.written sink) out)
         × AnswersTold (map (λ word. word.now) words.now) (F.told files.old) result.outcome result.tasks out }
     ensures chained { IfChain (map (λ word. word.now) words.now)
-        (λ a. AnswersChain a result.outcome result.tasks (F.told files.old) (F.told files.new) (K.written sink) (K.written result.sink)) }
+        (λ a. AnswersChain a result.outcome result.tasks (F.told files.old) (F.told files.new) (seen_of K.written K.writes sink) (seen_of K.written K.writes result.sink)) }
     ensures second { IsOfSecond result.outcome → (a : AskedChain) × (command_of (map (λ word. word.now) words.now) ≡ Some (chain a)) }
     ensures told { IfDemo (map (λ word. word.now) words.now) (λ d. TellsRun d result.outcome result.tasks (K.written sink) (K.written result.sink)) }
     ensures unread { command_of (map (λ word. word.now) words.now) ≡ None → EndsUnread result.outcome result.tasks files.old files.new sink result.sink }
     ensures usage { result.outcome ≡ Outcome.Usage → command_of (map (λ word. word.now) words.now) ≡ None }
+    ensures writes { IfPlain (map (λ word. word.now) words.now) (λ c. WritesTold c (F.told files.old) result.outcome result.tasks (K.writes sink) (K.writes result.sink)) }
     ensures early { IsBeforeRun result.outcome → (result.tasks ≡ 0) × (result.sink ≡ sink) }
     ensures leaves { IfPlain (map (λ word. word.now) words.now) (λ c. LeavesTold c result.outcome (F.told files.old) (F.told files.new)) }
     ensures leaves_chain { IfChain (map (λ word. word.now) words.now) (λ a. LeavesChain a result.outcome (F.told files.old) (F.told files.new)) }

@@ -2,7 +2,7 @@
 ghost use Rattle.std.specs.Prelude.{◌≡◌};
 
 /// Where a task stands, from its fill until it is given back.
-#[derive(Clone, Copy, Debug, PartialEq, Eq)]
+#[derive(Clone, Copy)]
 pub enum TaskPhase {
     /// Filled, and claimed by nobody.
     Ready,
@@ -15,7 +15,7 @@ pub enum TaskPhase {
 }
 
 /// What a seat does to a core. Seats are numbered from 0.
-#[derive(Clone, Copy, Debug, PartialEq, Eq)]
+#[derive(Clone, Copy)]
 pub enum Event {
     /// The next task is filled.
     Fill,

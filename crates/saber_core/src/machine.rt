@@ -12,7 +12,7 @@ use std::marker::Model;
 const TASK_LIMIT: u64 = 1 << 42;
 
 /// Who holds the turn, how many tasks were given by then, and whether the next is in its hand.
-#[derive(Clone, Copy, Debug, PartialEq, Eq)]
+#[derive(Clone, Copy)]
 pub struct Holder {
     pub seat: u32,
     pub given: u64,
@@ -20,7 +20,7 @@ pub struct Holder {
 }
 
 /// The slots of a ring and its turn, as a machine that one thread steps.
-#[derive(Debug, Drop)]
+#[derive(Drop)]
 pub struct Core {
     size: u32,
     seats: u32,

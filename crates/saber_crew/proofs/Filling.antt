@@ -1,10 +1,11 @@
 -- Filling one task after another.
-use Rattle.std.proofs.Common.{◌≡◌, true, ℕ, ◌+◌, ◌-◌, ◌≤◌, ◌<◌, [], ◌∷◌, ◌++◌, length, sym, ◌∙◌, ap, subst, length-append, arith}
+use Rattle.std.proofs.Common.{◌≡◌, true, ℕ, ◌+◌, ◌-◌, ◌≤◌, ◌<◌, [], ◌∷◌, ◌++◌, length, sym, ◌∙◌, ap, subst, length-append, le_trans, arith}
 use mathlib.Core.Logic.{dite}
 use native.Mathlib.Decide.{ℕ_discrete}
 use Rattle.std.specs.Prelude.{Option, Some, None, slice_index}
 use Rattle.std.proofs.lemmas.List.{get_or_append_left, get_or-drop, length-drop}
 use Rattle.std.proofs.Math.Seq.{get_or-append_seam}
+use Rattle.saber_ring.specs.declared.view.View.{View}
 use Rattle.saber_ring.specs.declared.view.Lead.{Lead}
 use Rattle.saber_ring.specs.declared.frees.Frees.{Frees}
 use Rattle.saber_ring.specs.Calls.{Covers, FillsNext}
@@ -14,7 +15,16 @@ use Rattle.saber_ring.specs.Freeing.{IsSlid}
 use Rattle.saber_crew.specs.declared.dispatch.Dispatched.{Dispatched}
 use Rattle.saber_crew.specs.declared.dispatch.Over.TheVariants.{AllGiven}
 use Rattle.saber_crew.specs.Supplies.{GivesRows}
-use Rattle.saber_crew.specs.Dispatches.{Puts, AllDispatched, DispatchedTo, AreFrees}
+use Rattle.saber_workers.specs.Seats.{WorksOn}
+use Rattle.saber_crew.specs.Dispatches.{FillsOn, Puts, AllDispatched, DispatchedTo, AreFrees}
+
+module _ {T : Type 0} where
+  pub then_fills : (a b c : View T) → FillsOn a b → FillsOn b c → FillsOn a c
+  then_fills a b c f g = record { base = g.base ∙ f.base; seen = le_trans f.seen g.seen }
+
+  -- a turn of work fills nothing
+  pub works_fills : (a b : View T) → WorksOn a b → FillsOn a b
+  works_fills a b w = record { base = w.base; seen = w.seen }
 
 module _ {T R : Type 0} (is_told : T → ℕ → Type 0) (filled : T → R → T) (upto : T → ℕ → T) (is_rows : T → ℕ → R → Type 0)
     (keeps : (told : T) (d k : ℕ) (rows : R) → is_told told d → is_told (filled told rows) (d + 1) → is_rows (filled told rows) d rows → k ≤ d → upto (filled told rows) k ≡ upto told k)

@@ -1,11 +1,17 @@
 -- What the first seat has filled.
 use Rattle.std.specs.Prelude.{◌≡◌, ◌<◌, ◌≤◌, ℕ, ◌+◌, ◌-◌, Bool, true, false, length, slice_index, Option, Some, None}
+use Rattle.saber_ring.specs.declared.view.View.{View}
 use Rattle.saber_ring.specs.declared.view.Lead.{Lead}
 use Rattle.saber_ring.specs.declared.frees.Frees.{Frees}
 use Rattle.saber_ring.specs.Plays.{more_filled}
 use Rattle.saber_ring.specs.Shows.{first_of_task}
 use Rattle.saber_crew.specs.declared.dispatch.Dispatched.{Dispatched}
 use Rattle.saber_crew.specs.declared.dispatch.Over.TheVariants.{AllGiven}
+
+-- a seat that fills keeps the fixed data, and what it saw behind the stage stays behind it
+pub record FillsOn {T : Type 0} (v w : View T) : Type 0 where
+  pub base : w.base ≡ v.base
+  pub seen : v.seen ≤ w.seen
 
 module _ {T R : Type 0} (filled : T → R → T) where
   -- one task more was filled, or none

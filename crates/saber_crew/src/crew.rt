@@ -1,10 +1,10 @@
 //! Threads round the first seat.
-ghost use Rattle.std.specs.Prelude.{◌≡◌, ◌+◌, ◌^◌, ◌≤◌, ◌<◌, true, None, Option, IsSome};
+ghost use Rattle.std.specs.Prelude.{◌≡◌, ◌+◌, ◌^◌, ◌≤◌, ◌<◌, true, Option, IsSome};
 ghost use Rattle.atomic_table.specs.Seated.{TableId};
 ghost use Rattle.std.specs.Thread.{IsSync};
 ghost use Rattle.saber_ring.specs.Words.{view, table, table_of};
 ghost use Rattle.saber_ring.specs.Seats.{parting};
-ghost use Rattle.saber_workers.specs.Seats.{IsFree, OfBase};
+ghost use Rattle.saber_workers.specs.Seats.{IsIdle, OfBase};
 ghost use Rattle.saber_crew.specs.Spares.{CanHelp, IsSpare, Rejoins, StaysSpare};
 ghost use Rattle.saber_crew.specs.Dispatches.{BeginsDispatch, DispatchedTo};
 
@@ -13,21 +13,15 @@ use crate::supply::Supply;
 use saber_core::Work;
 use saber_io::Gate;
 use saber_ring::{Ring, Seat};
-use saber_workers::{Hand, Labor, finish_hand, work_lent};
-use std::alloc::Global;
+use saber_workers::{Bench, Hand, Labor};
 use std::sync::Wait;
-use std::sync::atomic::{AtomicBool, Ordering};
+use std::sync::atomic::Ordering;
 use std::thread::{Threads, join_mut};
 
 // The caller's own part: fills the ring, sets `stop`, and hands in what it still has in hand.
 fn lead<W: Work, L: Labor<W>, G: Gate, P: Supply<W>, R: Wait>(
-    rt: &R,
-    alloc: Global,
+    bench: &Bench<'_, W, L, G, R>,
     seat: &mut Seat<W>,
-    ring: &Ring<W>,
-    op: &L,
-    gate: &G,
-    stop: &AtomicBool,
     supply: &mut P,
     from: &mut P::From,
     is_alone: bool,
@@ -35,26 +29,20 @@ fn lead<W: Work, L: Labor<W>, G: Gate, P: Supply<W>, R: Wait>(
 ) -> Dispatched
 where
     W::Rows: Drop,
-    requires own { table seat.old ≡ table_of ring.now }
-    requires free { IsFree (view seat.old) }
-    requires none { (view seat.old).job ≡ None }
-    requires suits { OfBase (L.suits op.now) (view seat.old).base }
+    requires idle { IsIdle bench.now.ring.now seat.old }
+    requires suits { OfBase (L.suits bench.now.op.now) (view seat.old).base }
     requires begins { BeginsDispatch W.is_told W.upto (P.has_given supply.old from.old) (view seat.old).lead }
-    ensures same { table seat.new ≡ table seat.old }
+    ensures idle { IsIdle bench.now.ring.now seat.new }
     ensures base { (view seat.new).base ≡ (view seat.old).base }
-    ensures free { IsFree (view seat.new) }
-    ensures none { (view seat.new).job ≡ None }
     ensures dispatched { DispatchedTo W.is_told W.upto (P.has_given supply.new from.new) (P.is_over supply.new) result (view seat.old).lead (view seat.new).lead }
     ensures few { result.tasks ≤ 2 ^ 42 }
     ensures stops { result.over ≡ Over.Stopped → (view seat.new).stopped ≡ true }
     ensures helpers { result.helpers ≡ helpers }
 {
     let mut hand = Hand::new(0);
-    let dispatched = dispatch(
-        rt, alloc, seat, ring, op, gate, stop, supply, from, &mut hand, is_alone, helpers,
-    );
-    stop.store(true, Ordering::SeqCst);
-    finish_hand(rt, alloc, seat, ring, op, gate, hand);
+    let dispatched = dispatch(bench, seat, supply, from, &mut hand, is_alone, helpers);
+    bench.stop.store(true, Ordering::SeqCst);
+    bench.finish_hand(seat, hand);
     dispatched
 }
 
@@ -74,17 +62,9 @@ pub(crate) trait Spare<W: Work>: Send {
         ensures spare { is_spare result (table_of ring.now) (view seat.old).base };
 
     /// Turns of work until `stop` is set.
-    fn help<L: Labor<W>, G: Gate, R: Wait>(
-        &mut self,
-        rt: &R,
-        alloc: Global,
-        ring: &Ring<W>,
-        op: &L,
-        gate: &G,
-        stop: &AtomicBool,
-    )
-        requires { CanHelp (is_spare self.old (table_of ring.now)) (L.suits op.now) }
-        ensures { (base : Option W.Data) → is_spare self.old (table_of ring.now) base → is_spare self.new (table_of ring.now) base };
+    fn help<L: Labor<W>, G: Gate, R: Wait>(&mut self, bench: &Bench<'_, W, L, G, R>)
+        requires { CanHelp (is_spare self.old (table_of bench.now.ring.now)) (L.suits bench.now.op.now) }
+        ensures { (base : Option W.Data) → is_spare self.old (table_of bench.now.ring.now) base → is_spare self.new (table_of bench.now.ring.now) base };
 
     /// The first seat takes it in.
     fn rejoin(self, seat: &mut Seat<W>, ring: &Ring<W>)
@@ -113,19 +93,11 @@ where
         seat.split(ring)
     }
 
-    fn help<L: Labor<W>, G: Gate, R: Wait>(
-        &mut self,
-        rt: &R,
-        alloc: Global,
-        ring: &Ring<W>,
-        op: &L,
-        gate: &G,
-        stop: &AtomicBool,
-    )
-        requires { CanHelp (IsSpare (table self.old) (view self.old) (table_of ring.now)) (L.suits op.now) }
-        ensures { StaysSpare (table self.old) (view self.old) (table self.new) (view self.new) (table_of ring.now) }
+    fn help<L: Labor<W>, G: Gate, R: Wait>(&mut self, bench: &Bench<'_, W, L, G, R>)
+        requires { CanHelp (IsSpare (table self.old) (view self.old) (table_of bench.now.ring.now)) (L.suits bench.now.op.now) }
+        ensures { StaysSpare (table self.old) (view self.old) (table self.new) (view self.new) (table_of bench.now.ring.now) }
     {
-        work_lent(rt, alloc, ring, self, op, gate, stop);
+        bench.work_lent(self);
     }
 
     fn rejoin(self, seat: &mut Seat<W>, ring: &Ring<W>)
@@ -149,14 +121,9 @@ pub(crate) fn crew<
     T: Spare<W>,
     R: Threads + Wait + Sync,
 >(
-    rt: &R,
+    bench: &Bench<'_, W, L, G, R>,
     threads: u32,
-    alloc: &Global,
     seat: &mut Seat<W>,
-    ring: &Ring<W>,
-    op: &L,
-    gate: &G,
-    stop: &AtomicBool,
     supply: &mut P,
     from: &mut P::From,
     is_alone: bool,
@@ -167,59 +134,46 @@ where
     W::Piece: Send,
     W::Stage: Send,
     L::Draft: Send,
-    requires own { table seat.old ≡ table_of ring.now }
-    requires free { IsFree (view seat.old) }
-    requires none { (view seat.old).job ≡ None }
-    requires suits { OfBase (L.suits op.now) (view seat.old).base }
+    requires idle { IsIdle bench.now.ring.now seat.old }
+    requires suits { OfBase (L.suits bench.now.op.now) (view seat.old).base }
     requires begins { BeginsDispatch W.is_told W.upto (P.has_given supply.old from.old) (view seat.old).lead }
     requires helpers { asked + threads < 2 ^ 32 }
-    ensures same { table seat.new ≡ table seat.old }
+    ensures idle { IsIdle bench.now.ring.now seat.new }
     ensures base { (view seat.new).base ≡ (view seat.old).base }
-    ensures free { IsFree (view seat.new) }
-    ensures none { (view seat.new).job ≡ None }
     ensures dispatched { DispatchedTo W.is_told W.upto (P.has_given supply.new from.new) (P.is_over supply.new) result (view seat.old).lead (view seat.new).lead }
     ensures few { result.tasks ≤ 2 ^ 42 }
     ensures stops { result.over ≡ Over.Stopped → (view seat.new).stopped ≡ true }
     ensures helpers { result.helpers ≡ asked + threads }
 {
     if threads == 0 {
-        return lead(
-            rt, *alloc, seat, ring, op, gate, stop, supply, from, is_alone, asked,
-        );
+        return lead(bench, seat, supply, from, is_alone, asked);
     }
     let less = threads - 1;
     let more = asked + 1;
-    let mut theirs = T::part(seat, ring);
+    let mut theirs = T::part(seat, bench.ring);
     let (_, dispatched) = join_mut(
-        rt,
+        bench.rt,
         &mut || -> ()
             requires sync { IsSync R.row }
-            requires spare { CanHelp (T.is_spare theirs (table_of ring.now)) (L.suits op.now) }
-            ensures spare { (base : Option W.Data) → T.is_spare theirs.entry (table_of ring.entry.now) base → T.is_spare theirs.exit (table_of ring.entry.now) base }
-        { theirs.help(rt, *alloc, ring, op, gate, stop) },
+            requires spare { CanHelp (T.is_spare theirs (table_of bench.now.ring.now)) (L.suits bench.now.op.now) }
+            ensures spare { (base : Option W.Data) → T.is_spare theirs.entry (table_of bench.entry.now.ring.now) base
+                → T.is_spare theirs.exit (table_of bench.entry.now.ring.now) base }
+        { theirs.help(bench) },
         &mut || -> Dispatched
             requires sync { IsSync R.row }
-            requires own { table seat.now ≡ table_of ring.now }
-            requires free { IsFree (view seat.now) }
-            requires none { (view seat.now).job ≡ None }
-            requires suits { OfBase (L.suits op.now) (view seat.now).base }
+            requires idle { IsIdle bench.now.ring.now seat.now }
+            requires suits { OfBase (L.suits bench.now.op.now) (view seat.now).base }
             requires begins { BeginsDispatch W.is_told W.upto (P.has_given supply.now from.now) (view seat.now).lead }
             requires helpers { more + less < 2 ^ 32 }
-            ensures same { table seat.exit.now ≡ table seat.entry.now }
+            ensures idle { IsIdle bench.entry.now.ring.now seat.exit.now }
             ensures base { (view seat.exit.now).base ≡ (view seat.entry.now).base }
-            ensures free { IsFree (view seat.exit.now) }
-            ensures none { (view seat.exit.now).job ≡ None }
             ensures dispatched { DispatchedTo W.is_told W.upto (P.has_given supply.exit.now from.exit.now) (P.is_over supply.exit.now) result
                 (view seat.entry.now).lead (view seat.exit.now).lead }
             ensures few { result.tasks ≤ 2 ^ 42 }
             ensures stops { result.over ≡ Over.Stopped → (view seat.exit.now).stopped ≡ true }
             ensures helpers { result.helpers ≡ more + less }
-        {
-            crew::<W, L, G, P, T, R>(
-                rt, less, alloc, seat, ring, op, gate, stop, supply, from, is_alone, more,
-            )
-        },
+        { crew::<W, L, G, P, T, R>(bench, less, seat, supply, from, is_alone, more) },
     );
-    theirs.rejoin(seat, ring);
+    theirs.rejoin(seat, bench.ring);
     dispatched
 }

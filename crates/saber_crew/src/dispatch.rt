@@ -1,22 +1,21 @@
 //! The first seat fills the ring.
-ghost use Rattle.std.specs.Prelude.{◌≡◌, ◌≢◌, ◌^◌, ◌<◌, ◌≤◌, ℕ, ◌+◌, true, false, None, length, IfSome, Err};
+ghost use Rattle.std.specs.Prelude.{◌≡◌, ◌^◌, ◌<◌, ◌≤◌, ℕ, ◌+◌, true, false, None, IfSome, Err};
 ghost use Rattle.saber_ring.specs.Calls.{FillsNext, Covers};
-ghost use Rattle.saber_ring.specs.Words.{view, table, table_of, cells};
-ghost use Rattle.saber_workers.specs.Seats.{IsFree, OfBase, SameSeat};
-ghost use Rattle.saber_workers.specs.Hands.{IsInHand};
+ghost use Rattle.saber_ring.specs.Words.{view, cells};
+ghost use Rattle.saber_workers.specs.Seats.{IsReady, OfBase, WorksOn};
+ghost use Rattle.saber_workers.specs.Hands.{IsHandOf};
 ghost use Rattle.saber_crew.specs.Supplies.{GivesAtLast};
-ghost use Rattle.saber_crew.specs.Dispatches.{Puts, BeginsDispatch, DispatchedTo};
+ghost use Rattle.saber_crew.specs.Dispatches.{FillsOn, Puts, BeginsDispatch, DispatchedTo};
 
 use crate::supply::{Supplied, Supply};
 use saber_core::Work;
 use saber_io::Gate;
 use saber_pause::Pause;
-use saber_ring::{Fill, Frees, Ring, Seat};
-use saber_workers::{Hand, Labor, turn_of_work};
-use std::alloc::Global;
+use saber_ring::{Fill, Frees, Seat};
+use saber_workers::{Bench, Hand, Labor};
 use std::collections::VecDeque;
 use std::sync::Wait;
-use std::sync::atomic::{AtomicBool, Ordering};
+use std::sync::atomic::Ordering;
 
 /// Why no more tasks were filled.
 #[derive(Clone, Copy, Debug, PartialEq, Eq)]
@@ -39,34 +38,30 @@ pub struct Dispatched {
 }
 
 // Fills task t if the ring has room and no stop is set; else the rows come back.
-fn offer<W: Work>(
+fn offer<W: Work, L: Labor<W>, G: Gate, R: Wait>(
+    bench: &Bench<'_, W, L, G, R>,
     seat: &mut Seat<W>,
-    ring: &Ring<W>,
-    stop: &AtomicBool,
     t: u64,
     rows: W::Rows,
     frees: &Frees,
 ) -> Option<W::Rows>
 where
     W::Rows: Drop,
-    requires own { table seat.old ≡ table_of ring.now }
-    requires free { IsFree (view seat.old) }
+    requires ready { IsReady bench.now.ring.now seat.old }
     requires next { FillsNext W.is_told W.filled W.is_rows t rows (view seat.old).lead }
     requires below { t < 2 ^ 42 }
     requires frees { Covers W.upto W.first t frees.now (view seat.old).seen (view seat.old).lead }
-    ensures same { table seat.new ≡ table seat.old }
-    ensures base { (view seat.new).base ≡ (view seat.old).base }
-    ensures free { IsFree (view seat.new) }
+    ensures ready { IsReady bench.now.ring.now seat.new }
+    ensures fills { FillsOn (view seat.old) (view seat.new) }
     ensures job { (view seat.new).job ≡ (view seat.old).job }
-    ensures seen { (view seat.old).seen ≤ (view seat.new).seen }
     ensures put { result ≡ None → Puts W.filled rows true (view seat.old).lead (view seat.new).lead }
-    ensures room { result ≡ None → t < (view seat.new).seen + cells ring.now }
+    ensures room { result ≡ None → t < (view seat.new).seen + cells bench.now.ring.now }
     ensures back { IfSome result (λ back. (back ≡ rows) × ((view seat.new).lead ≡ (view seat.old).lead)) }
 {
-    if stop.load(Ordering::SeqCst) {
+    if bench.stop.load(Ordering::SeqCst) {
         return Some(rows);
     }
-    match seat.fill(ring, t, rows, frees) {
+    match seat.fill(bench.ring, t, rows, frees) {
         Fill::Put => None,
         Fill::Full {
             place: _,
@@ -78,38 +73,28 @@ where
 
 // A turn of work, and a pause where it found nothing to do. False where the stage is stopped.
 fn turn<W: Work, L: Labor<W>, G: Gate, R: Wait>(
-    rt: &R,
-    alloc: Global,
+    bench: &Bench<'_, W, L, G, R>,
     seat: &mut Seat<W>,
-    ring: &Ring<W>,
-    op: &L,
-    gate: &G,
-    stop: &AtomicBool,
     hand: &mut Hand<W, L::Draft>,
     idle: &mut Pause,
 ) -> bool
-    requires own { table seat.old ≡ table_of ring.now }
-    requires free { IsFree (view seat.old) }
-    requires hand { IsInHand W.upto W.first (L.suits op.now) (L.has_blocks op.now) hand.old.held (view seat.old).job }
-    requires suits { OfBase (L.suits op.now) (view seat.old).base }
-    requires below { hand.old.cursor ≤ 2 ^ 42 }
-    ensures same { table seat.new ≡ table seat.old }
-    ensures kept { SameSeat (view seat.old) (view seat.new) }
-    ensures free { IsFree (view seat.new) }
-    ensures hand { IsInHand W.upto W.first (L.suits op.now) (L.has_blocks op.now) hand.new.held (view seat.new).job }
-    ensures below { hand.new.cursor ≤ 2 ^ 42 }
-    ensures seen { (view seat.old).seen ≤ (view seat.new).seen }
+    requires ready { IsReady bench.now.ring.now seat.old }
+    requires suits { OfBase (L.suits bench.now.op.now) (view seat.old).base }
+    requires hand { IsHandOf W.upto W.first (L.suits bench.now.op.now) (L.has_blocks bench.now.op.now) (view seat.old).job hand.old }
+    ensures ready { IsReady bench.now.ring.now seat.new }
+    ensures hand { IsHandOf W.upto W.first (L.suits bench.now.op.now) (L.has_blocks bench.now.op.now) (view seat.new).job hand.new }
+    ensures goes { WorksOn (view seat.old) (view seat.new) }
     ensures stops { result ≡ false → (view seat.new).stopped ≡ true }
 {
-    let turned = turn_of_work(alloc, seat, ring, op, gate, hand);
+    let turned = bench.turn_of_work(seat, hand);
     if turned.stopped {
-        stop.store(true, Ordering::SeqCst);
+        bench.stop.store(true, Ordering::SeqCst);
         return false;
     }
     if turned.claimed {
         idle.reset();
     } else {
-        idle.wait(rt);
+        idle.wait(bench.rt);
     }
     true
 }
@@ -117,34 +102,24 @@ fn turn<W: Work, L: Labor<W>, G: Gate, R: Wait>(
 // Turns of work where the supply has nothing yet: one, and more where another thread saw the stage
 // stopped, until this one sees it too. False where the stage is stopped.
 fn work_while_dry<W: Work, L: Labor<W>, G: Gate, R: Wait>(
-    rt: &R,
-    alloc: Global,
+    bench: &Bench<'_, W, L, G, R>,
     seat: &mut Seat<W>,
-    ring: &Ring<W>,
-    op: &L,
-    gate: &G,
-    stop: &AtomicBool,
     hand: &mut Hand<W, L::Draft>,
     idle: &mut Pause,
 ) -> bool
-    requires own { table seat.old ≡ table_of ring.now }
-    requires free { IsFree (view seat.old) }
-    requires hand { IsInHand W.upto W.first (L.suits op.now) (L.has_blocks op.now) hand.old.held (view seat.old).job }
-    requires suits { OfBase (L.suits op.now) (view seat.old).base }
-    requires below { hand.old.cursor ≤ 2 ^ 42 }
-    ensures same { table seat.new ≡ table seat.old }
-    ensures kept { SameSeat (view seat.old) (view seat.new) }
-    ensures free { IsFree (view seat.new) }
-    ensures hand { IsInHand W.upto W.first (L.suits op.now) (L.has_blocks op.now) hand.new.held (view seat.new).job }
-    ensures below { hand.new.cursor ≤ 2 ^ 42 }
-    ensures seen { (view seat.old).seen ≤ (view seat.new).seen }
+    requires ready { IsReady bench.now.ring.now seat.old }
+    requires suits { OfBase (L.suits bench.now.op.now) (view seat.old).base }
+    requires hand { IsHandOf W.upto W.first (L.suits bench.now.op.now) (L.has_blocks bench.now.op.now) (view seat.old).job hand.old }
+    ensures ready { IsReady bench.now.ring.now seat.new }
+    ensures hand { IsHandOf W.upto W.first (L.suits bench.now.op.now) (L.has_blocks bench.now.op.now) (view seat.new).job hand.new }
+    ensures goes { WorksOn (view seat.old) (view seat.new) }
     ensures stops { result ≡ false → (view seat.new).stopped ≡ true }
 {
-    for _ in rt.forever() {
-        if !turn(rt, alloc, seat, ring, op, gate, stop, hand, idle) {
+    for _ in bench.rt.forever() {
+        if !turn(bench, seat, hand, idle) {
             return false;
         }
-        if !stop.load(Ordering::SeqCst) {
+        if !bench.stop.load(Ordering::SeqCst) {
             return true;
         }
     }
@@ -154,41 +129,31 @@ fn work_while_dry<W: Work, L: Labor<W>, G: Gate, R: Wait>(
 // The rows of the next task, with turns of work while the supply has none yet. An error says why
 // none come any more: the supply is over, or the stage is stopped.
 fn next_rows<W: Work, L: Labor<W>, G: Gate, P: Supply<W>, R: Wait>(
-    rt: &R,
-    alloc: Global,
+    bench: &Bench<'_, W, L, G, R>,
     seat: &mut Seat<W>,
-    ring: &Ring<W>,
-    op: &L,
-    gate: &G,
-    stop: &AtomicBool,
     supply: &mut P,
     from: &mut P::From,
     hand: &mut Hand<W, L::Draft>,
 ) -> Result<W::Rows, Over>
-    requires own { table seat.old ≡ table_of ring.now }
-    requires free { IsFree (view seat.old) }
-    requires hand { IsInHand W.upto W.first (L.suits op.now) (L.has_blocks op.now) hand.old.held (view seat.old).job }
-    requires suits { OfBase (L.suits op.now) (view seat.old).base }
-    requires below { hand.old.cursor ≤ 2 ^ 42 }
+    requires ready { IsReady bench.now.ring.now seat.old }
+    requires suits { OfBase (L.suits bench.now.op.now) (view seat.old).base }
+    requires hand { IsHandOf W.upto W.first (L.suits bench.now.op.now) (L.has_blocks bench.now.op.now) (view seat.old).job hand.old }
     requires given { (told : W.Data) × (d : ℕ) × P.has_given supply.old from.old told d }
-    ensures same { table seat.new ≡ table seat.old }
-    ensures kept { SameSeat (view seat.old) (view seat.new) }
-    ensures free { IsFree (view seat.new) }
-    ensures hand { IsInHand W.upto W.first (L.suits op.now) (L.has_blocks op.now) hand.new.held (view seat.new).job }
-    ensures below { hand.new.cursor ≤ 2 ^ 42 }
-    ensures seen { (view seat.old).seen ≤ (view seat.new).seen }
+    ensures ready { IsReady bench.now.ring.now seat.new }
+    ensures hand { IsHandOf W.upto W.first (L.suits bench.now.op.now) (L.has_blocks bench.now.op.now) (view seat.new).job hand.new }
+    ensures goes { WorksOn (view seat.old) (view seat.new) }
     ensures gives { (told : W.Data) (d : ℕ) → P.has_given supply.old from.old told d
         → GivesAtLast W.is_told W.filled W.is_rows (P.has_given supply.new from.new) told d result }
     ensures over { result ≡ Err Over.AllGiven → P.is_over supply.new }
     ensures stops { result ≡ Err Over.Stopped → (view seat.new).stopped ≡ true }
 {
     let mut idle = Pause::new();
-    for _ in rt.forever() {
+    for _ in bench.rt.forever() {
         match supply.next(from) {
             Supplied::Rows(own) => return Ok(own),
             Supplied::Over => return Err(Over::AllGiven),
             Supplied::Dry => {
-                if !work_while_dry(rt, alloc, seat, ring, op, gate, stop, hand, &mut idle) {
+                if !work_while_dry(bench, seat, hand, &mut idle) {
                     return Err(Over::Stopped);
                 }
             }
@@ -199,13 +164,8 @@ fn next_rows<W: Work, L: Labor<W>, G: Gate, P: Supply<W>, R: Wait>(
 
 // Fills task t, with turns of work while the ring is full. False where the stage is stopped.
 fn put<W: Work, L: Labor<W>, G: Gate, R: Wait>(
-    rt: &R,
-    alloc: Global,
+    bench: &Bench<'_, W, L, G, R>,
     seat: &mut Seat<W>,
-    ring: &Ring<W>,
-    op: &L,
-    gate: &G,
-    stop: &AtomicBool,
     t: u64,
     rows: W::Rows,
     frees: &Frees,
@@ -213,31 +173,27 @@ fn put<W: Work, L: Labor<W>, G: Gate, R: Wait>(
 ) -> bool
 where
     W::Rows: Drop,
-    requires own { table seat.old ≡ table_of ring.now }
-    requires free { IsFree (view seat.old) }
-    requires hand { IsInHand W.upto W.first (L.suits op.now) (L.has_blocks op.now) hand.old.held (view seat.old).job }
-    requires suits { OfBase (L.suits op.now) (view seat.old).base }
+    requires ready { IsReady bench.now.ring.now seat.old }
+    requires suits { OfBase (L.suits bench.now.op.now) (view seat.old).base }
+    requires hand { IsHandOf W.upto W.first (L.suits bench.now.op.now) (L.has_blocks bench.now.op.now) (view seat.old).job hand.old }
     requires next { FillsNext W.is_told W.filled W.is_rows t rows (view seat.old).lead }
-    requires below { (t < 2 ^ 42) × (hand.old.cursor ≤ 2 ^ 42) }
+    requires below { t < 2 ^ 42 }
     requires frees { Covers W.upto W.first t frees.now (view seat.old).seen (view seat.old).lead }
-    ensures same { table seat.new ≡ table seat.old }
-    ensures base { (view seat.new).base ≡ (view seat.old).base }
-    ensures free { IsFree (view seat.new) }
-    ensures hand { IsInHand W.upto W.first (L.suits op.now) (L.has_blocks op.now) hand.new.held (view seat.new).job }
-    ensures below { hand.new.cursor ≤ 2 ^ 42 }
+    ensures ready { IsReady bench.now.ring.now seat.new }
+    ensures hand { IsHandOf W.upto W.first (L.suits bench.now.op.now) (L.has_blocks bench.now.op.now) (view seat.new).job hand.new }
+    ensures fills { FillsOn (view seat.old) (view seat.new) }
     ensures put { Puts W.filled rows result (view seat.old).lead (view seat.new).lead }
-    ensures seen { (view seat.old).seen ≤ (view seat.new).seen }
-    ensures room { result ≡ true → t < (view seat.new).seen + cells ring.now }
+    ensures room { result ≡ true → t < (view seat.new).seen + cells bench.now.ring.now }
     ensures stops { result ≡ false → (view seat.new).stopped ≡ true }
 {
     let mut rows = rows;
     let mut idle = Pause::new();
-    for _ in rt.forever() {
-        match offer(seat, ring, stop, t, rows, frees) {
+    for _ in bench.rt.forever() {
+        match offer(bench, seat, t, rows, frees) {
             None => return true,
             Some(back) => {
                 rows = back;
-                if !turn(rt, alloc, seat, ring, op, gate, stop, hand, &mut idle) {
+                if !turn(bench, seat, hand, &mut idle) {
                     return false;
                 }
             }
@@ -248,46 +204,32 @@ where
 
 // A turn of work at once where no other thread works, so that rows are worked on while they are at
 // hand.
-fn work_along<W: Work, L: Labor<W>, G: Gate>(
-    alloc: Global,
+fn work_along<W: Work, L: Labor<W>, G: Gate, R: Wait>(
+    bench: &Bench<'_, W, L, G, R>,
     seat: &mut Seat<W>,
-    ring: &Ring<W>,
-    op: &L,
-    gate: &G,
-    stop: &AtomicBool,
     hand: &mut Hand<W, L::Draft>,
     is_alone: bool,
 )
-    requires own { table seat.old ≡ table_of ring.now }
-    requires free { IsFree (view seat.old) }
-    requires hand { IsInHand W.upto W.first (L.suits op.now) (L.has_blocks op.now) hand.old.held (view seat.old).job }
-    requires suits { OfBase (L.suits op.now) (view seat.old).base }
-    requires below { hand.old.cursor ≤ 2 ^ 42 }
-    ensures same { table seat.new ≡ table seat.old }
-    ensures kept { SameSeat (view seat.old) (view seat.new) }
-    ensures free { IsFree (view seat.new) }
-    ensures hand { IsInHand W.upto W.first (L.suits op.now) (L.has_blocks op.now) hand.new.held (view seat.new).job }
-    ensures below { hand.new.cursor ≤ 2 ^ 42 }
-    ensures seen { (view seat.old).seen ≤ (view seat.new).seen }
+    requires ready { IsReady bench.now.ring.now seat.old }
+    requires suits { OfBase (L.suits bench.now.op.now) (view seat.old).base }
+    requires hand { IsHandOf W.upto W.first (L.suits bench.now.op.now) (L.has_blocks bench.now.op.now) (view seat.old).job hand.old }
+    ensures ready { IsReady bench.now.ring.now seat.new }
+    ensures hand { IsHandOf W.upto W.first (L.suits bench.now.op.now) (L.has_blocks bench.now.op.now) (view seat.new).job hand.new }
+    ensures goes { WorksOn (view seat.old) (view seat.new) }
 {
     if !is_alone {
         return;
     }
-    let turned = turn_of_work(alloc, seat, ring, op, gate, hand);
+    let turned = bench.turn_of_work(seat, hand);
     if turned.stopped {
-        stop.store(true, Ordering::SeqCst);
+        bench.stop.store(true, Ordering::SeqCst);
     }
 }
 
 // Fills task t, and works along. False where the stage is stopped.
 fn fill_next<W: Work, L: Labor<W>, G: Gate, R: Wait>(
-    rt: &R,
-    alloc: Global,
+    bench: &Bench<'_, W, L, G, R>,
     seat: &mut Seat<W>,
-    ring: &Ring<W>,
-    op: &L,
-    gate: &G,
-    stop: &AtomicBool,
     t: u64,
     rows: W::Rows,
     frees: &Frees,
@@ -296,40 +238,31 @@ fn fill_next<W: Work, L: Labor<W>, G: Gate, R: Wait>(
 ) -> bool
 where
     W::Rows: Drop,
-    requires own { table seat.old ≡ table_of ring.now }
-    requires free { IsFree (view seat.old) }
-    requires hand { IsInHand W.upto W.first (L.suits op.now) (L.has_blocks op.now) hand.old.held (view seat.old).job }
-    requires suits { OfBase (L.suits op.now) (view seat.old).base }
+    requires ready { IsReady bench.now.ring.now seat.old }
+    requires suits { OfBase (L.suits bench.now.op.now) (view seat.old).base }
+    requires hand { IsHandOf W.upto W.first (L.suits bench.now.op.now) (L.has_blocks bench.now.op.now) (view seat.old).job hand.old }
     requires next { FillsNext W.is_told W.filled W.is_rows t rows (view seat.old).lead }
-    requires below { (t < 2 ^ 42) × (hand.old.cursor ≤ 2 ^ 42) }
+    requires below { t < 2 ^ 42 }
     requires frees { Covers W.upto W.first t frees.now (view seat.old).seen (view seat.old).lead }
-    ensures same { table seat.new ≡ table seat.old }
-    ensures base { (view seat.new).base ≡ (view seat.old).base }
-    ensures free { IsFree (view seat.new) }
-    ensures hand { IsInHand W.upto W.first (L.suits op.now) (L.has_blocks op.now) hand.new.held (view seat.new).job }
-    ensures below { hand.new.cursor ≤ 2 ^ 42 }
+    ensures ready { IsReady bench.now.ring.now seat.new }
+    ensures hand { IsHandOf W.upto W.first (L.suits bench.now.op.now) (L.has_blocks bench.now.op.now) (view seat.new).job hand.new }
+    ensures fills { FillsOn (view seat.old) (view seat.new) }
     ensures put { Puts W.filled rows result (view seat.old).lead (view seat.new).lead }
-    ensures seen { (view seat.old).seen ≤ (view seat.new).seen }
-    ensures room { result ≡ true → t < (view seat.new).seen + cells ring.now }
+    ensures room { result ≡ true → t < (view seat.new).seen + cells bench.now.ring.now }
     ensures stops { result ≡ false → (view seat.new).stopped ≡ true }
 {
-    if !put(rt, alloc, seat, ring, op, gate, stop, t, rows, frees, hand) {
+    if !put(bench, seat, t, rows, frees, hand) {
         return false;
     }
-    work_along(alloc, seat, ring, op, gate, stop, hand, is_alone);
+    work_along(bench, seat, hand, is_alone);
     true
 }
 
 /// Fills all tasks of the supply, until the stage is stopped or memory is wanting. Where no other
 /// thread works, each is worked on as soon as it is filled. So many helpers were asked for.
 pub(crate) fn dispatch<W: Work, L: Labor<W>, G: Gate, P: Supply<W>, R: Wait>(
-    rt: &R,
-    alloc: Global,
+    bench: &Bench<'_, W, L, G, R>,
     seat: &mut Seat<W>,
-    ring: &Ring<W>,
-    op: &L,
-    gate: &G,
-    stop: &AtomicBool,
     supply: &mut P,
     from: &mut P::From,
     hand: &mut Hand<W, L::Draft>,
@@ -338,16 +271,13 @@ pub(crate) fn dispatch<W: Work, L: Labor<W>, G: Gate, P: Supply<W>, R: Wait>(
 ) -> Dispatched
 where
     W::Rows: Drop,
-    requires own { table seat.old ≡ table_of ring.now }
-    requires free { IsFree (view seat.old) }
-    requires hand { IsInHand W.upto W.first (L.suits op.now) (L.has_blocks op.now) hand.old.held (view seat.old).job }
-    requires suits { OfBase (L.suits op.now) (view seat.old).base }
-    requires below { hand.old.cursor ≤ 2 ^ 42 }
+    requires ready { IsReady bench.now.ring.now seat.old }
+    requires suits { OfBase (L.suits bench.now.op.now) (view seat.old).base }
+    requires hand { IsHandOf W.upto W.first (L.suits bench.now.op.now) (L.has_blocks bench.now.op.now) (view seat.old).job hand.old }
     requires begins { BeginsDispatch W.is_told W.upto (P.has_given supply.old from.old) (view seat.old).lead }
-    ensures same { table seat.new ≡ table seat.old }
+    ensures ready { IsReady bench.now.ring.now seat.new }
+    ensures hand { IsHandOf W.upto W.first (L.suits bench.now.op.now) (L.has_blocks bench.now.op.now) (view seat.new).job hand.new }
     ensures base { (view seat.new).base ≡ (view seat.old).base }
-    ensures free { IsFree (view seat.new) }
-    ensures hand { IsInHand W.upto W.first (L.suits op.now) (L.has_blocks op.now) hand.new.held (view seat.new).job }
     ensures dispatched { DispatchedTo W.is_told W.upto (P.has_given supply.new from.new) (P.is_over supply.new) result (view seat.old).lead (view seat.new).lead }
     ensures few { result.tasks ≤ 2 ^ 42 }
     ensures stops { result.over ≡ Over.Stopped → (view seat.new).stopped ≡ true }
@@ -356,10 +286,10 @@ where
     let mut tasks: u64 = 0;
     let mut frees = Frees {
         base: 0,
-        list: VecDeque::new(alloc),
+        list: VecDeque::new(bench.alloc),
     };
     loop {
-        let own = match next_rows(rt, alloc, seat, ring, op, gate, stop, supply, from, hand) {
+        let own = match next_rows(bench, seat, supply, from, hand) {
             Ok(own) => own,
             Err(over) => return Dispatched {
                 tasks,
@@ -367,9 +297,9 @@ where
                 helpers,
             },
         };
-        let first = op.first(&own);
+        let first = bench.op.first(&own);
         // The task before was filled, so what is assembled is less than a ring behind it.
-        let from = tasks.saturating_sub(ring.cells());
+        let from = tasks.saturating_sub(bench.ring.cells());
         let Ok(()) = frees.push(first, from) else {
             let over = Over::NoMemory;
             return Dispatched {
@@ -378,9 +308,7 @@ where
                 helpers,
             };
         };
-        if !fill_next(
-            rt, alloc, seat, ring, op, gate, stop, tasks, own, &frees, hand, is_alone,
-        ) {
+        if !fill_next(bench, seat, tasks, own, &frees, hand, is_alone) {
             let over = Over::Stopped;
             return Dispatched {
                 tasks,

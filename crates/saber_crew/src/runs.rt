@@ -9,7 +9,7 @@ use saber_core::Work;
 use saber_io::Gate;
 use saber_plan::Sizes;
 use saber_ring::{FixedData, Ring, Seat};
-use saber_workers::{Labor, work_alone};
+use saber_workers::{Bench, Labor};
 use std::alloc::Global;
 use std::sync::Wait;
 use std::sync::atomic::AtomicBool;
@@ -50,20 +50,31 @@ where
         Err((_, stage)) => return Err(stage),
     };
     let stop = AtomicBool::new(false);
-    let dispatched = crew::<W, L, G, P, Seat<W>, R>(
+    let bench = Bench {
         rt,
-        sizes.threads,
-        &alloc,
-        &mut seat,
-        &ring,
+        alloc,
+        ring: &ring,
         op,
         gate,
-        &stop,
+        stop: &stop,
+    };
+    let dispatched = crew::<W, L, G, P, Seat<W>, R>(
+        &bench,
+        sizes.threads,
+        &mut seat,
         supply,
         from,
         sizes.threads == 0,
         0,
     );
-    work_alone(alloc, &mut seat, &ring, op, gate, dispatched.tasks);
+    bench.work_alone(&mut seat, dispatched.tasks);
+    let Bench {
+        rt: _,
+        alloc: _,
+        ring: _,
+        op: _,
+        gate: _,
+        stop: _,
+    } = bench;
     Ok((ring.finish(seat), dispatched))
 }

@@ -1,5 +1,5 @@
 //! Where the tasks of a work come from.
-ghost use Rattle.std.specs.Prelude.{◌≡◌, ◌+◌, ◌<◌, ◌^◌, ◌≤◌, ℕ};
+ghost use Rattle.std.specs.Prelude.{◌≡◌, ◌<◌, ℕ};
 ghost use Rattle.saber_crew.specs.Supplies.{GivesOn};
 
 use saber_core::Work;

@@ -1,6 +1,11 @@
 -- The text of the demo's query has the plan that is built, and so that plan is checked.
 use Rattle.std.proofs.Common.{◌≡◌, ℕ, List, [], ◌∷◌, map, Some, None, false, codes, refl, subst, arith, rules, Result, Ok, Err}
 use Rattle.std.specs.Prelude.{Contains}
+use Rattle.saber_plan.specs.declared.expressions.Product.{Product}
+use Rattle.saber_plan.specs.declared.plans.Aggregate.{Aggregate}
+use Rattle.saber_plan.specs.declared.plans.Shape.TheVariants.{Group}
+use Rattle.saber_plan.specs.declared.windows.Stream.{Stream}
+use Rattle.saber_plan.specs.Trees.{tree}
 use Rattle.saber_plan.specs.Checked.{IsChecked}
 use Rattle.saber_query.specs.declared.token.Placed.{Placed}
 use Rattle.saber_query.specs.declared.fault.QueryFault.{QueryFault}
@@ -75,3 +80,8 @@ demo_query_has_plan = record {
 
 pub demo_is_checked : IsChecked demo_tree
 demo_is_checked = a_plan_is_checked demo_query demo_tree demo_query_has_plan
+
+-- and so are its parts, however they were made
+pub demo_parts_checked : (ss : List Stream) (gs : List Aggregate) (is : List (List Product)) (ks ps : List ℕ) → ss ≡ demo_tree.streams → gs ≡ demo_tree.aggregates → is ≡ demo_tree.items → ks ≡ demo_tree.keys → ps ≡ []
+    → IsChecked (tree Group ss gs is ks None ps None)
+demo_parts_checked ss gs is ks ps a b c d e = rw (a, b, c, d, e) demo_is_checked

@@ -46,6 +46,7 @@ fn streams(alloc: Global) -> Result<Vec<Stream>, NoMemory>
 }
 
 /// The plan of `STREAM D(t,g,v); SELECT g, COUNT(*), SUM(v) FROM D [RANGE 8 SLIDE 4] GROUP BY g`.
+#[tactic(auto, using(crate::proofs::DemoQuery::demo_parts_checked))]
 pub fn demo_plan(alloc: Global) -> Result<Plan, NoMemory>
     ensures { IfOk result (λ p. tree_of p ≡ demo_tree) }
 {
@@ -54,5 +55,14 @@ pub fn demo_plan(alloc: Global) -> Result<Plan, NoMemory>
     let items = items(alloc)?;
     let mut keys = Vec::new(alloc);
     keys.push(1)?;
-    Ok(Plan::new(Shape::Group, streams, aggregates, items, keys, None))
+    Ok(Plan::new(
+        Shape::Group,
+        streams,
+        aggregates,
+        items,
+        keys,
+        None,
+        Vec::new(alloc),
+        None,
+    ))
 }

@@ -1,8 +1,9 @@
 // Lines put together in an array, number by number, so that a list grows once in some lines.
-ghost use Rattle.std.specs.Prelude.{◌≡◌, ◌<◌, ◌+◌, ◌≤◌, ◌/◌, ◌%◌, ℕ, [], ◌∷◌, ◌++◌, take, decimal, OnOk, IfOk};
+ghost use Rattle.std.specs.Prelude.{◌≡◌, ◌<◌, ◌+◌, ◌≤◌, ◌/◌, ◌%◌, ℕ, [], ◌∷◌, ◌++◌, take, decimal, pos, OnOk, IfOk};
 ghost use Rattle.std.specs.Fmt.{signed_decimal};
+ghost use Rattle.saber_plan.specs.Answers as a;
 ghost use Rattle.saber_plan.specs.Texts.{Behind};
-ghost use Rattle.saber_digits.specs.Cells.{drafted_text};
+ghost use Rattle.saber_digits.specs.Cells.{cells, drafted_text};
 
 use crate::numbers::pair;
 use itoa::Buffer;
@@ -235,4 +236,37 @@ pub fn end_line(line: &mut [u8; 128], at: usize) -> usize
 {
     line[at] = b'\n';
     at + 1
+}
+
+// Writes each of some numbers with a comma before it, and returns where the last one ends.
+#[inline(always)]
+fn put_cells(
+    out: &mut Vec<u8>,
+    line: &mut [u8; 128],
+    start: usize,
+    numbers: &[i128],
+) -> Result<usize, NoMemory>
+    requires { start ≤ 121 }
+    ensures ok { IfOk result (λ end. drafted_text out.new.items line.new end ≡ drafted_text out.old.items line.old start ++ cells numbers.now) }
+    ensures room { IfOk result (λ end. end ≤ 121) }
+    ensures behind { Behind out.old.items out.new.items }
+{
+    let mut at = start;
+    for number in numbers {
+        at = put_cell(out, line, at, *number)?;
+    }
+    Ok(at)
+}
+
+/// Writes an answer as a line of a window behind what `out` has: the window's number and those of
+/// the answer in decimal, with commas between, and LF. Most lines fit in the array.
+pub fn write_line(out: &mut Vec<u8>, window: u64, answer: &[i128]) -> Result<(), NoMemory>
+    ensures ok { OnOk result (out.new.items ≡ out.old.items ++ a.line (pos window ∷ answer.now)) }
+    ensures behind { Behind out.old.items out.new.items }
+{
+    let mut line = [0; 128];
+    let first = put_number(&mut line, 0, i128::from(window));
+    let last = put_cells(out, &mut line, first, answer)?;
+    let end = end_line(&mut line, last);
+    flush(out, &line, end)
 }

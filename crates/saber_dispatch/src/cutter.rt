@@ -159,13 +159,13 @@ fn is_due(flush: bool, count: u64, end: End) -> bool
 }
 
 impl Cutter {
-    /// A cutter of a checked plan's inputs, which has read nothing. A block has `sizes.task` rows,
+    /// A cutter of a plan's inputs, which has read nothing. A block has `sizes.task` rows,
     /// and no task may need more than `sizes.ring` blocks, its own counted. With `sizes.flush` the
     /// end of the input is a block too, where the query has windows. The memory of the readers'
     /// buffers is taken here.
     pub fn new(alloc: Global, plan: &Plan, sizes: &Sizes) -> Result<Cutter, NoMemory>
-        requires checked { IsChecked (tree_of plan.now) }
         requires sizes { SizesFit sizes.now }
+        ensures checked { IsChecked (tree_of plan.now) }
         ensures cuts { IfOk result (CutsNothing (tree_of plan.now) sizes.now) }
 
         // It serves each other plan too whose rows are cut alike.

@@ -3,7 +3,7 @@ use saber_plan::{RowCause, Side};
 use saber_rows::RowEnd;
 
 /// Why no more blocks come of some inputs.
-#[derive(Clone, Copy, PartialEq, Eq)]
+#[derive(Clone, Copy)]
 pub enum End {
     /// All rows are in blocks.
     AllRead,

@@ -66,14 +66,14 @@ impl FedCutter {
     ghost use Rattle.saber_dispatch.specs.Feeding.{Agrees, Begins, BeginsOn, CutsFed, CutsNothingFed, IsShort, IsWaiting, StepsFrom, TakenBackFed, WaitsIfFew, StepsOn, begun_count, fed_end_of};
     ghost use Rattle.saber_dispatch.specs.FedReadings.{NothingWaits, IsCutOff};
 
-    /// A cutter of a checked plan of one stream, which was given nothing. A block has `sizes.task`
+    /// A cutter of a plan of one stream, which was given nothing. A block has `sizes.task`
     /// rows, and no task may need more than `sizes.ring` blocks, its own counted. With
     /// `sizes.flush` the end of the feed is a block too, where the query has windows. The memory of
     /// the reader's buffer is taken here.
     pub fn new(alloc: Global, plan: &Plan, sizes: &Sizes) -> Result<FedCutter, NoMemory>
-        requires checked { IsChecked (tree_of plan.now) }
         requires one { length (tree_of plan.now).streams ≡ 1 }
         requires sizes { SizesFit sizes.now }
+        ensures checked { IsChecked (tree_of plan.now) }
         ensures cuts { IfOk result (CutsNothingFed (tree_of plan.now) sizes.now) }
         ensures goes { IfOk result (λ c. fed_end_of c ≡ None) }
     {

@@ -3,7 +3,6 @@
 ghost use Rattle.std.specs.Prelude.{◌≡◌, ◌++◌, [], None, List, IfOk, OnOk, IfSome};
 ghost use Rattle.saber_plan.specs.declared.rows.Row.{Row};
 ghost use Rattle.saber_plan.specs.Trees.{Tree, tree_of};
-ghost use Rattle.saber_plan.specs.Checked.{IsChecked};
 ghost use Rattle.saber_plan.specs.GivenRows.{RowsFit};
 ghost use Rattle.saber_plan.specs.Windows.{no_rows};
 ghost use Rattle.saber_dispatch.specs.Keeping.{CountsRows, GivesLast, KeepsOn, OnlyAdded, PlacesNext, IsCopyOf, HasKept};
@@ -73,7 +72,6 @@ impl Keeper {
     /// For the blocks of a checked plan's tasks, of which none was given. Memory is taken for the
     /// columns of PARTITION BY.
     pub fn new(alloc: Global, plan: &Plan, sizes: &Sizes) -> Result<Keeper, NoMemory>
-        requires { IsChecked (tree_of plan.now) }
         ensures kept { IfOk result (λ k. k.kept ≡ None) }
         ensures counted { IfOk result (λ k. CountsRows k (tree_of plan.now) []) }
     {

@@ -47,9 +47,9 @@ fn two_readers(alloc: Global, left: u32, right: u32, sizes: &Sizes) -> Result<Re
 
 /// The reader of a plan's inputs.
 pub(crate) fn reader_for(alloc: Global, plan: &Plan, sizes: &Sizes) -> Result<Reader, NoMemory>
-    requires checked { IsChecked (tree_of plan.now) }
     requires sizes { SizesFit sizes.now }
-    ensures { IfOk result (λ r. reading_of r ≡ fresh (tree_of plan.now) (limits_of sizes.now)) }
+    ensures fresh { IfOk result (λ r. reading_of r ≡ fresh (tree_of plan.now) (limits_of sizes.now)) }
+    ensures checked { IsChecked (tree_of plan.now) }
 {
     match plan.streams() {
         [] => unreachable!(),
@@ -60,7 +60,6 @@ pub(crate) fn reader_for(alloc: Global, plan: &Plan, sizes: &Sizes) -> Result<Re
 
 /// What is kept to tell how far back tasks look, before the first block.
 pub(crate) fn lasts_for(alloc: Global, plan: &Plan) -> Option<Lasts>
-    requires { IsChecked (tree_of plan.now) }
     ensures { (n : ℕ) → LooksBack (tree_of plan.now) n [] 0 result }
 {
     match plan.shape() {
@@ -74,12 +73,12 @@ pub(crate) fn lasts_for(alloc: Global, plan: &Plan) -> Option<Lasts>
     }
 }
 
-/// Whether the end of the input is a task of a checked plan: that is asked for, and the query has
+/// Whether the end of the input is a task of a plan: that is asked for, and the query has
 /// windows.
 #[tactic(auto, using(crate::proofs::EndCounts::counts))]
 pub fn end_counts(plan: &Plan, sizes: &Sizes) -> bool
-    requires { IsChecked (tree_of plan.now) }
-    ensures { result ≡ end_counts (tree_of plan.now) sizes.now }
+    ensures counts { result ≡ end_counts (tree_of plan.now) sizes.now }
+    ensures checked { IsChecked (tree_of plan.now) }
 {
     match plan.shape() {
         Shape::Select => match plan.word() {

@@ -1,7 +1,7 @@
 -- What comes of a run, whatever gave its tasks.
-use Rattle.std.proofs.Common.{◌≡◌, ◌≢◌, ℕ, ◌+◌, ◌≤◌, List, [], ◌++◌, refl, sym, ◌∙◌, ap, subst, arith}
+use Rattle.std.proofs.Common.{◌≡◌, ◌≢◌, ℕ, suc, ◌+◌, ◌≤◌, List, [], ◌++◌, refl, sym, ◌∙◌, ap, subst, arith}
 use Rattle.std.specs.Prelude.{Option, Some, None}
-use Rattle.saber_plan.specs.Outputs.{Rose, appended_text}
+use Rattle.saber_plan.specs.Outputs.{raised_by, Rose, appended_text}
 use Rattle.saber_plan.specs.declared.rows.Side.{Side}
 use Rattle.saber_plan.specs.declared.sizes.Sizes.{Sizes}
 use Rattle.saber_plan.specs.Inputs.{Input}
@@ -12,13 +12,14 @@ use Rattle.saber_plan.specs.Answers.{text, frame}
 use Rattle.saber_plan.specs.Windows.{Fits}
 use Rattle.saber_laws.proofs.TaskCutLaws.{first_of_first, no_tasks_no_rows}
 use Rattle.saber_laws.proofs.StepLaws.{no_rows_give_nothing}
+use Rattle.saber_laws.proofs.WriteLaws.{first_with_text, no_tasks_no_text}
 use Rattle.saber_assembly.specs.declared.stage.Stage.{Stage}
 use Rattle.saber_plan.specs.declared.stages.StageState.{StageState}
 use Rattle.saber_plan.specs.declared.stages.StageState.TheVariants as states
 use Rattle.saber_assembly.specs.declared.work.RunData.{RunData}
 use Rattle.saber_assembly.specs.Stages.{stage_view}
 use Rattle.saber_plan.specs.Stages.{Start, After}
-use Rattle.saber_plan.specs.Runs.{IsCut, Gives, Assembles, Reach, all_tasks, before_task, first_tasks as some_tasks, cut_off}
+use Rattle.saber_plan.specs.Runs.{tasks_with_text, writes_of, IsCut, Gives, Assembles, Reach, all_tasks, before_task, first_tasks as some_tasks, cut_off}
 use Rattle.saber_assembly.specs.Works.{IsTold, input_of as told_input, first_tasks, IsStageOf}
 use Rattle.saber_crew.specs.declared.dispatch.Dispatched.{Dispatched}
 use Rattle.saber_crew.specs.declared.dispatch.Over.{Over}
@@ -30,7 +31,7 @@ use Rattle.saber_dispatch.specs.declared.cutter.Cutter.{Cutter}
 use Rattle.saber_dispatch.specs.Cutting.{end_of as cutter_end}
 use Rattle.saber_dispatch.specs.Telling as telling
 use Rattle.saber_plan.specs.declared.ends.RunEnd.{RunEnd}
-use Rattle.saber_plan.specs.declared.ends.RunEnd.TheVariants.{ReadFault, WriteFault, NoMemory}
+use Rattle.saber_plan.specs.declared.ends.RunEnd.TheVariants.{AllRead, Bad, ReadFault, TooWide, WriteFault, NoMemory}
 use Rattle.saber_engine.specs.Endings.{given_end, end_of}
 use Rattle.saber_engine.specs.Supplying.{first_told}
 use Rattle.saber_engine.proofs.Counts.{first_few}
@@ -45,7 +46,7 @@ pub record GivenBy (s : Sizes) (c : Cutter) (end : Option End) (all : Input) (d 
 
 -- What a run comes to of which the blocks have this input: what went out, over rows of which they are the first tasks, and what the sink tells.
 -- Where they ended by a fault of reading, all of them are behind.
-pub record Came (q : Tree) (s : Sizes) (c : Cutter) (end : Option End) (all : Input) (state : StageState) (over : Over) (tasks : ℕ) (w written : Option (List ℕ)) (f faults : ℕ) : Type 0 where
+pub record Came (q : Tree) (s : Sizes) (c : Cutter) (end : Option End) (all : Input) (state : StageState) (over : Over) (tasks : ℕ) (w written : Option (List ℕ)) (f faults times count : ℕ) : Type 0 where
   pub out : List ℕ
   pub written_is : written ≡ appended_text w out
   pub gives : (rows : Read) → telling.AreTasks q s c all rows → Gives q s.task s.ring s.flush rows (end_of state over end) tasks out
@@ -53,10 +54,23 @@ pub record Came (q : Tree) (s : Sizes) (c : Cutter) (end : Option End) (all : In
   pub write : end_of state over end ≡ WriteFault → Rose f faults
   pub write_good : end_of state over end ≢ WriteFault → faults ≡ f
   pub writes : f ≤ faults
+  pub one_write : (rows : Read) → telling.AreTasks q s c all rows → count ≡ raised_by times (writes_of q s.task (run_input q s.flush rows) (end_of state over end) tasks)
 
-module _ {O S K : Type 0} (plan : O → Tree) (contents : S → Kept) (taken : O → S → Input → Type 0) (wrote : K → Option (List ℕ)) (failed : K → ℕ)
-    (op : O) (s : Sizes) (w : Option (List ℕ)) (f : ℕ) (IsGiven : RunData O → ℕ → Type 0) (IsOver : Type 0) (c : Cutter) (end : Option End) (stage : Stage S K) (fed : Dispatched)
-    (r : RunsTo (IsTold plan) first_tasks (IsStageOf plan (stage_view contents wrote failed) taken) IsGiven IsOver (first_told op s.task w f) stage fed)
+-- a run writes once for each task that has text, unless its end is a write that failed
+by_no_fault : (q : Tree) (n : ℕ) (r : Input) (e : RunEnd) (k : ℕ) → e ≢ WriteFault → writes_of q n r e k ≡ tasks_with_text q n r k
+by_no_fault q n r AllRead k u = refl
+by_no_fault q n r (Bad side line cause) k u = refl
+by_no_fault q n r (ReadFault side) k u = refl
+by_no_fault q n r (TooWide task need) k u = refl
+by_no_fault q n r WriteFault k u = absurd (u refl)
+by_no_fault q n r NoMemory k u = refl
+
+not_failed : states.Running ≡ states.SinkFailed → ⊥
+not_failed e = cc
+
+module _ {O S K : Type 0} (plan : O → Tree) (contents : S → Kept) (taken : O → S → Input → Type 0) (wrote : K → Option (List ℕ)) (failed writes : K → ℕ)
+    (op : O) (s : Sizes) (w : Option (List ℕ)) (f times : ℕ) (IsGiven : RunData O → ℕ → Type 0) (IsOver : Type 0) (c : Cutter) (end : Option End) (stage : Stage S K) (fed : Dispatched)
+    (r : RunsTo (IsTold plan) first_tasks (IsStageOf plan (stage_view contents wrote failed writes) taken) IsGiven IsOver (first_told op s.task w f times) stage fed)
     (given : GivenBy s c end (told_input r.told) r.count) where
   abbrev q : Tree
   q = plan op
@@ -65,25 +79,25 @@ module _ {O S K : Type 0} (plan : O → Tree) (contents : S → Kept) (taken : O
   all = told_input r.told
 
   abbrev start : Start
-  start = record { written = w; faults = f }
+  start = record { written = w; faults = f; writes = times }
 
   count : r.count ≡ task_count s.task all
   count = given.count
 
   behind : stage.k ≤ r.count
-  behind = few plan contents taken wrote failed op s.task w f IsGiven IsOver stage fed r
+  behind = few plan contents taken wrote failed writes op s.task w f times IsGiven IsOver stage fed r
 
   behind_next : stage.state ≡ states.SinkFailed → stage.k + 1 ≤ r.count
-  behind_next = few_next plan contents taken wrote failed op s.task w f IsGiven IsOver stage fed r
+  behind_next = few_next plan contents taken wrote failed writes op s.task w f times IsGiven IsOver stage fed r
 
-  stands : After q s.task all start (stage_view contents wrote failed stage) stage.state
-  stands = after plan contents taken wrote failed op s.task w f IsGiven IsOver stage fed r
+  stands : After q s.task all start (stage_view contents wrote failed writes stage) stage.state
+  stands = after plan contents taken wrote failed writes op s.task w f times IsGiven IsOver stage fed r
 
-  stands_so : (state : StageState) → stage.state ≡ state → After q s.task all start (stage_view contents wrote failed stage) state
-  stands_so state e = subst (After q s.task all start (stage_view contents wrote failed stage)) e stands
+  stands_so : (state : StageState) → stage.state ≡ state → After q s.task all start (stage_view contents wrote failed writes stage) state
+  stands_so state e = subst (After q s.task all start (stage_view contents wrote failed writes stage)) e stands
 
   whole_behind : stage.state ≡ states.Running → fed.over ≡ over_by.AllGiven → stage.k ≡ task_count s.task all
-  whole_behind h e = (all_behind plan contents taken wrote failed op s.task w f IsGiven IsOver stage fed r h e).0 ∙ count
+  whole_behind h e = (all_behind plan contents taken wrote failed writes op s.task w f times IsGiven IsOver stage fed r h e).0 ∙ count
 
   abbrev so_far : List ℕ
   so_far = text q (upto s.task all stage.k)
@@ -101,6 +115,17 @@ module _ {O S K : Type 0} (plan : O → Tree) (contents : S → Kept) (taken : O
         let l : task_count s.task (upto s.task whole_input (task_count s.task all)) ≤ task_count s.task whole_input = first_few s.task whole_input (task_count s.task all) given.size in
         let same : task_count s.task all ≡ task_count s.task (upto s.task whole_input (task_count s.task all)) = ap (task_count s.task) t.tasks in
         omega (arith, l, same, count)
+
+    known_text : tasks_with_text q s.task all stage.k ≡ tasks_with_text q s.task whole_input stage.k
+    known_text = ap (λ i. tasks_with_text q s.task i stage.k) t.tasks ∙ first_with_text q s.task whole_input (task_count s.task all) stage.k (subst (λ k. stage.k ≤ k) count behind)
+
+    -- how often was written
+    counted : (state : StageState) → stage.state ≡ state → writes stage.sink ≡ raised_by times (writes_of q s.task whole_input (end_of state fed.over end) stage.k)
+    counted states.Running h =
+        (stands_so states.Running h).3
+        ∙ ap (raised_by times) (known_text ∙ sym (by_no_fault q s.task whole_input (end_of states.Running fed.over end) stage.k (λ e. not_failed (by_write states.Running fed.over end e))))
+    counted states.SinkFailed h = (stands_so states.SinkFailed h).3 ∙ ap (λ m. raised_by times (suc m)) known_text
+    counted states.NoMemory h = (stands_so states.NoMemory h).2 ∙ ap (raised_by times) known_text
 
     plain : (reach : Reach) → (reach ≡ all_tasks → stage.k ≡ task_count s.task whole_input) → ((u : ℕ) → reach ≡ before_task u → stage.k ≡ u) → (reach ≡ cut_off → ⊥) → Assembles q s.task whole_input reach stage.k so_far
     plain reach whole at u = record {
@@ -170,7 +195,7 @@ module _ {O S K : Type 0} (plan : O → Tree) (contents : S → Kept) (taken : O
   sink_rises states.NoMemory h = let a = (stands_so states.NoMemory h).1 in omega (arith, a)
 
   -- what it comes to
-  pub came_to : Came q s c end all stage.state fed.over stage.k w (wrote stage.sink) f (failed stage.sink)
+  pub came_to : Came q s c end all stage.state fed.over stage.k w (wrote stage.sink) f (failed stage.sink) times (writes stage.sink)
   came_to =
       let x = came stage.state refl fed.over refl end refl in
       record {
@@ -181,6 +206,7 @@ module _ {O S K : Type 0} (plan : O → Tree) (contents : S → Kept) (taken : O
         write = λ e. (stands_so states.SinkFailed (by_write stage.state fed.over end e)).1;
         write_good = sink_good stage.state refl;
         writes = sink_rises stage.state refl;
+        one_write = λ rows t. counted rows t stage.state refl;
       }
 
 -- ---- a run that had no memory to begin
@@ -196,3 +222,6 @@ gives_nothing q fits s rows = record {
     cut = λ i. absurd (some_not_cut i);
   };
 }
+
+pub writes_nothing : (q : Tree) (s : Sizes) (rows : Read) (times : ℕ) → times ≡ raised_by times (writes_of q s.task (run_input q s.flush rows) NoMemory 0)
+writes_nothing q s rows times = ap (raised_by times) (sym (no_tasks_no_text q s.task (run_input q s.flush rows)))

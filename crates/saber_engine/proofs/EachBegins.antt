@@ -36,19 +36,19 @@ not_none : {A : Type 0} (x : A) (xs : List A) → x ∷ xs ≡ [] → ⊥
 not_none x xs e = cc
 
 -- what a run of several begins with
-pub record BeginsEach {O S K : Type 0} (plan : O → Tree) (contents : S → Kept) (taken : O → S → Input → Type 0) (wrote : K → Option (List ℕ)) (failed : K → ℕ)
+pub record BeginsEach {O S K : Type 0} (plan : O → Tree) (contents : S → Kept) (taken : O → S → Input → Type 0) (wrote : K → Option (List ℕ)) (failed writes : K → ℕ)
     (s : Sizes) (had : Lefts) (before : List ℕ) (c : Cutter) (end : Option End) (ops : List O) (ks : List Keeper) (ms : List (Member (Stage S K))) (bs : List (RunData O)) : Type 0 where
   pub told_are : AllByRecursion (ToldAt (IsTold plan) (IsAlone plan) 0) bs
-  pub stages : AllZip (MemberAt first_tasks (IsStageOf plan (stage_view contents wrote failed) taken) 0) bs ms
+  pub stages : AllZip (MemberAt first_tasks (IsStageOf plan (stage_view contents wrote failed writes) taken) 0) bs ms
   pub suits : AllZip Suits ops bs
   pub given : AllZip (GivenOne plan s had had before before c end 0) ks bs
 
-module _ {O S K : Type 0} (plan : O → Tree) (contents : S → Kept) (taken : O → S → Input → Type 0) (wrote : K → Option (List ℕ)) (failed : K → ℕ)
+module _ {O S K : Type 0} (plan : O → Tree) (contents : S → Kept) (taken : O → S → Input → Type 0) (wrote : K → Option (List ℕ)) (failed writes : K → ℕ)
     {A : Type 0} (tree : A → Tree) (sink : A → K) (s : Sizes) (fit : SizesFit s) (columns : ℕ) (had : Lefts) (before : List ℕ) (c : Cutter) (end : Option End) (open_still : end ≡ None) (goes : end_of c ≡ None)
     (suit : (q : Tree) → length q.streams ≡ 1 → readings.Suits (fresh q (limits_of s)) had) where
-  module _ (op : O) (a : A) (k : Keeper) (m : Member (Stage S K)) (is : plan op ≡ tree a) (may : MayShare columns (tree a)) (cuts : CutsNothing (tree a) s c) (keeps : KeepsNone (tree a) k) (stands : Stands plan contents taken wrote failed op (sink a) m) where
+  module _ (op : O) (a : A) (k : Keeper) (m : Member (Stage S K)) (is : plan op ≡ tree a) (may : MayShare columns (tree a)) (cuts : CutsNothing (tree a) s c) (keeps : KeepsNone (tree a) k) (stands : Stands plan contents taken wrote failed writes op (sink a) m) where
     abbrev told : RunData O
-    told = base_of s.task wrote failed op m
+    told = base_of s.task wrote failed writes op m
 
     mine : MayShare columns (plan op)
     mine = subst (MayShare columns) (sym is) may
@@ -57,19 +57,19 @@ module _ {O S K : Type 0} (plan : O → Tree) (contents : S → Kept) (taken : O
     alone = λ e. no_join (plan op).shape (plan op).streams e mine.checked.streams mine.one
 
     no_rows : HasGiven plan s had had before before c k None told 0
-    no_rows = given_none plan op s had before (wrote m.stage.sink) (failed m.stage.sink) c k (subst (λ q. CutsNothing q s c) (sym is) cuts) goes (suit (plan op) mine.one) keeps.kept (subst (λ q. CountsRows k q []) (sym is) keeps.counted)
+    no_rows = given_none plan op s had before (wrote m.stage.sink) (failed m.stage.sink) (writes m.stage.sink) c k (subst (λ q. CutsNothing q s c) (sym is) cuts) goes (suit (plan op) mine.one) keeps.kept (subst (λ q. CountsRows k q []) (sym is) keeps.counted)
 
     given : HasGiven plan s had had before before c k end told 0
     given = subst (λ e. HasGiven plan s had had before before c k e told 0) (sym open_still) no_rows
 
-    pub begins_one : ToldAt (IsTold plan) (IsAlone plan) 0 told × MemberAt first_tasks (IsStageOf plan (stage_view contents wrote failed) taken) 0 told m × Suits op told × GivenOne plan s had had before before c end 0 k told
+    pub begins_one : ToldAt (IsTold plan) (IsAlone plan) 0 told × MemberAt first_tasks (IsStageOf plan (stage_view contents wrote failed writes) taken) 0 told m × Suits op told × GivenOne plan s had had before before c end 0 k told
     begins_one =
-        let b = begins plan contents taken wrote failed op s.task m.stage (checked_fit (plan op) mine.checked) fit.task.0 (sink a) stands.sink_is stands.none stands.runs stands.keeps (HasGiven plan s had had before before c k end) given in
-        ((b.0, alone), subst (λ g. GoesBy first_tasks (IsStageOf plan (stage_view contents wrote failed) taken) g told 0 m.stage) (sym stands.goes) b.1, b.2, (b.3, alone))
+        let b = begins plan contents taken wrote failed writes op s.task m.stage (checked_fit (plan op) mine.checked) fit.task.0 (sink a) stands.sink_is stands.none stands.runs stands.keeps (HasGiven plan s had had before before c k end) given in
+        ((b.0, alone), subst (λ g. GoesBy first_tasks (IsStageOf plan (stage_view contents wrote failed writes) taken) g told 0 m.stage) (sym stands.goes) b.1, b.2, (b.3, alone))
 
   pub each_begins : (ops : List O) (qs : List A) (ks : List Keeper) (ms : List (Member (Stage S K))) → AllZip (λ op a. plan op ≡ tree a) ops qs → AllByRecursion (λ a. MayShare columns (tree a)) qs
-      → AllByRecursion (λ a. CutsNothing (tree a) s c) qs → AllZip (λ a k. KeepsNone (tree a) k) qs ks → AllThree (λ op a m. Stands plan contents taken wrote failed op (sink a) m) ops qs ms
-      → BeginsEach plan contents taken wrote failed s had before c end ops ks ms (bases s.task wrote failed ops ms)
+      → AllByRecursion (λ a. CutsNothing (tree a) s c) qs → AllZip (λ a k. KeepsNone (tree a) k) qs ks → AllThree (λ op a m. Stands plan contents taken wrote failed writes op (sink a) m) ops qs ms
+      → BeginsEach plan contents taken wrote failed writes s had before c end ops ks ms (bases s.task wrote failed writes ops ms)
   each_begins [] [] [] [] is may cuts keeps stands = record { told_are = tt; stages = tt; suits = tt; given = tt }
   each_begins [] [] [] (m ∷ ms) is may cuts keeps stands = absurd stands
   each_begins [] [] (k ∷ ks) ms is may cuts keeps stands = absurd keeps
@@ -83,22 +83,22 @@ module _ {O S K : Type 0} (plan : O → Tree) (contents : S → Kept) (taken : O
       record { told_are = (one.0, more.told_are); stages = (one.1, more.stages); suits = (one.2, more.suits); given = (one.3, more.given) }
 
   -- where there are some
-  pub bases_some : (ops : List O) (qs : List A) (ms : List (Member (Stage S K))) → qs ≢ [] → AllThree (λ op a m. Stands plan contents taken wrote failed op (sink a) m) ops qs ms → bases s.task wrote failed ops ms ≢ []
+  pub bases_some : (ops : List O) (qs : List A) (ms : List (Member (Stage S K))) → qs ≢ [] → AllThree (λ op a m. Stands plan contents taken wrote failed writes op (sink a) m) ops qs ms → bases s.task wrote failed writes ops ms ≢ []
   bases_some [] [] ms some stands e = some refl
   bases_some [] (a ∷ qs) [] some stands e = stands
   bases_some [] (a ∷ qs) (m ∷ ms) some stands e = stands
   bases_some (op ∷ ops) [] ms some stands e = some refl
   bases_some (op ∷ ops) (a ∷ qs) [] some stands e = stands
-  bases_some (op ∷ ops) (a ∷ qs) (m ∷ ms) some stands e = not_none (base_of s.task wrote failed op m) (bases s.task wrote failed ops ms) e
+  bases_some (op ∷ ops) (a ∷ qs) (m ∷ ms) some stands e = not_none (base_of s.task wrote failed writes op m) (bases s.task wrote failed writes ops ms) e
 
   -- what is asked of a run of all, by the data and sizes that it names
   abbrev pub BeginsAll : List O → List Keeper → List (Member (Stage S K)) → ℕ → Sizes → Lefts → List ℕ → Type 0
   BeginsAll ops ks ms n z l b =
-      AreTold (IsTold plan) (IsAlone plan) (bases n wrote failed ops ms) 0 × AreStages first_tasks (IsStageOf plan (stage_view contents wrote failed) taken) (bases n wrote failed ops ms) 0 false ms
-      × AllSuit Suits ops (bases n wrote failed ops ms) × GivenEach plan z l had b before c end ks (bases n wrote failed ops ms) 0
+      AreTold (IsTold plan) (IsAlone plan) (bases n wrote failed writes ops ms) 0 × AreStages first_tasks (IsStageOf plan (stage_view contents wrote failed writes) taken) (bases n wrote failed writes ops ms) 0 false ms
+      × AllSuit Suits ops (bases n wrote failed writes ops ms) × GivenEach plan z l had b before c end ks (bases n wrote failed writes ops ms) 0
 
   pub begins_all : (ops : List O) (qs : List A) (ks : List Keeper) (ms : List (Member (Stage S K))) → qs ≢ [] → AllZip (λ op a. plan op ≡ tree a) ops qs → AllByRecursion (λ a. MayShare columns (tree a)) qs
-      → AllByRecursion (λ a. CutsNothing (tree a) s c) qs → AllZip (λ a k. KeepsNone (tree a) k) qs ks → AllThree (λ op a m. Stands plan contents taken wrote failed op (sink a) m) ops qs ms
+      → AllByRecursion (λ a. CutsNothing (tree a) s c) qs → AllZip (λ a k. KeepsNone (tree a) k) qs ks → AllThree (λ op a m. Stands plan contents taken wrote failed writes op (sink a) m) ops qs ms
       → (n : ℕ) (z : Sizes) (l : Lefts) (b : List ℕ) → n ≡ s.task → z ≡ s → l ≡ had → b ≡ before → BeginsAll ops ks ms n z l b
   begins_all ops qs ks ms some is may cuts keeps stands n z l b n_is z_is l_is b_is =
       let e = each_begins ops qs ks ms is may cuts keeps stands in

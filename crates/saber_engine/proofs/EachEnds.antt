@@ -6,6 +6,7 @@ use Rattle.std.specs.List.{AllByRecursion, AllZip}
 use Rattle.std.specs.declared.alloc.Global.{Global}
 use Rattle.saber_plan.specs.declared.sizes.Sizes.{Sizes}
 use Rattle.saber_plan.specs.Inputs.{Input}
+use Rattle.saber_plan.specs.Outputs.{raised_by}
 use Rattle.saber_plan.specs.Sizes.{limits_of}
 use Rattle.saber_plan.specs.Tasks.{Kept}
 use Rattle.saber_plan.specs.Trees.{Tree}
@@ -46,7 +47,7 @@ use Rattle.saber_engine.specs.declared.ends.Ran.{Ran}
 use Rattle.saber_plan.specs.declared.ends.RunEnd.TheVariants.{NoMemory}
 use Rattle.saber_engine.specs.Dealing.{GivenOne, GivenEach}
 use Rattle.saber_engine.specs.Endings.{end_of, MayStop}
-use Rattle.saber_plan.specs.Runs.{GivesOver}
+use Rattle.saber_plan.specs.Runs.{GivesOver, writes_over}
 use Rattle.saber_engine.specs.Jobs.{MayShare, Stands, base_of, bases, EndsAs}
 use Rattle.saber_engine.specs.LastTasks.{ComesLast, CanTake, TakesBlock, Takes, CanTakeEach, TakesEach}
 use Rattle.saber_engine.specs.Runs.{RunsPlan}
@@ -57,11 +58,12 @@ use Rattle.saber_engine.proofs.Finals.{other_given, stopped_given, final_given, 
 use Rattle.saber_engine.proofs.Results.{Done, done, done_nothing, suits, if_told, took, took_none}
 
 -- what a run comes to over inputs is what the engine says of its plan
-pub plan_ran : {X K : Type 0} (left : X → Option (List ℕ)) (faults : X → ℕ) (wrote : K → Option (List ℕ)) (failed : K → ℕ) (q : Tree) (s : Sizes) (i j : Inputs X) (sink : K) (ran : Ran K) → length (each_input left i) ≡ length q.streams
-    → Done q s (each_input left i) (each_input left j) (each_input faults i) (each_input faults j) (wrote sink) (failed sink) ran.end ran.tasks (wrote ran.sink) (failed ran.sink)
-    → (taken : List (List ℕ)) × GaveAll (each_input left i) taken (each_input left j) → MayStop ran.end ran.stopped → RunsPlan left faults wrote failed q s i j sink ran
-plan_ran left faults wrote failed q s i j sink ran many d takes may = record {
+pub plan_ran : {X K : Type 0} (left : X → Option (List ℕ)) (faults : X → ℕ) (wrote : K → Option (List ℕ)) (failed writes : K → ℕ) (q : Tree) (s : Sizes) (i j : Inputs X) (sink : K) (ran : Ran K) → length (each_input left i) ≡ length q.streams
+    → Done q s (each_input left i) (each_input left j) (each_input faults i) (each_input faults j) (wrote sink) (failed sink) (writes sink) ran.end ran.tasks (wrote ran.sink) (failed ran.sink) (writes ran.sink)
+    → (taken : List (List ℕ)) × GaveAll (each_input left i) taken (each_input left j) → MayStop ran.end ran.stopped → RunsPlan left faults wrote failed writes q s i j sink ran
+plan_ran left faults wrote failed writes q s i j sink ran many d takes may = record {
   gives = (d.out, d.written_is, if_told (λ files. GivesOver q s files ran.end ran.tasks d.out) left i (λ files h. d.gives files (suits q (limits_of s) left i many) h));
+  one_write = if_told (λ files. writes ran.sink ≡ raised_by (writes sink) (writes_over q s files ran.end ran.tasks)) left i (λ files h. d.one_write files (suits q (limits_of s) left i many) h);
   whole = d.whole;
   takes = takes;
   read = d.read;
@@ -98,10 +100,10 @@ both_on false b h = absurd (not_both h)
 both_off : (a b : Bool) → b ≡ false → (a && b) ≡ true → ⊥
 both_off a b off h = not_both (sym off ∙ (both_on a b h).1)
 
-module _ {O S K : Type 0} (plan : O → Tree) (contents : S → Kept) (taken : O → S → Input → Type 0) (wrote : K → Option (List ℕ)) (failed : K → ℕ)
+module _ {O S K : Type 0} (plan : O → Tree) (contents : S → Kept) (taken : O → S → Input → Type 0) (wrote : K → Option (List ℕ)) (failed writes : K → ℕ)
     (s : Sizes) (had has : Lefts) (before now : List ℕ) (c : Cutter) (end : Option End) (fed : Dispatched) where
   abbrev is_stage : RunData O → ℕ → Bool → Stage S K → Type 0
-  is_stage = IsStageOf plan (stage_view contents wrote failed) taken
+  is_stage = IsStageOf plan (stage_view contents wrote failed writes) taken
 
   -- the run of one without the end of the input, whose blocks a keeper of its own passed on
   pub record RunsOne (base : RunData O) (stage : Stage S K) : Type 0 where
@@ -109,20 +111,20 @@ module _ {O S K : Type 0} (plan : O → Tree) (contents : S → Kept) (taken : O
     pub run : RunsTo (IsTold plan) first_tasks is_stage (HasGiven plan (without_end s) had has before now c keeper end) (IsSome end) base stage fed
     pub alone : IsAlone plan run.told
 
-  module _ (op : O) (w : Option (List ℕ)) (f : ℕ) where
+  module _ (op : O) (w : Option (List ℕ)) (f times : ℕ) where
     -- what comes of it, with the end behind it
     abbrev DoneSo : Stage S K → Type 0
-    DoneSo stage = Done (plan op) s had has before now w f (end_of stage.state fed.over end) stage.k (wrote stage.sink) (failed stage.sink)
+    DoneSo stage = Done (plan op) s had has before now w f times (end_of stage.state fed.over end) stage.k (wrote stage.sink) (failed stage.sink) (writes stage.sink)
 
-    module _ (old : Stage S K) (o : RunsOne (first_told op s.task w f) old) where
+    module _ (old : Stage S K) (o : RunsOne (first_told op s.task w f times) old) where
       abbrev k : Keeper
       k = o.keeper
 
-      abbrev r : RunsTo (IsTold plan) first_tasks is_stage (HasGiven plan (without_end s) had has before now c k end) (IsSome end) (first_told op s.task w f) old fed
+      abbrev r : RunsTo (IsTold plan) first_tasks is_stage (HasGiven plan (without_end s) had has before now c k end) (IsSome end) (first_told op s.task w f times) old fed
       r = o.run
 
       op_same : r.told.operator ≡ op
-      op_same = op_is plan contents taken wrote failed op s.task w f (HasGiven plan (without_end s) had has before now c k end) (IsSome end) old fed r
+      op_same = op_is plan contents taken wrote failed writes op s.task w f times (HasGiven plan (without_end s) had has before now c k end) (IsSome end) old fed r
 
       same_counts : end_counts (plan r.told.operator) s ≡ end_counts (plan op) s
       same_counts = ap (λ x. end_counts (plan x) s) op_same
@@ -130,16 +132,16 @@ module _ {O S K : Type 0} (plan : O → Tree) (contents : S → Kept) (taken : O
       -- nobody was given the end
       still_by : (due : Bool) → (is_end_due c && end_counts (plan r.told.operator) s) ≡ due → (due ≡ true → old.state ≡ states.Running → fed.over ≢ over_by.AllGiven) → DoneSo old
       still_by false off not_all =
-          done plan contents taken wrote failed op s w f had has before now (with_end (plan r.told.operator) s c) k end old fed
-          (given_so (IsTold plan) first_tasks is_stage (HasGiven plan (without_end s) had has before now c k end) (HasGiven plan s had has before now (with_end (plan r.told.operator) s c) k end) (IsSome end) (IsSome end) (first_told op s.task w f) old fed r
+          done plan contents taken wrote failed writes op s w f times had has before now (with_end (plan r.told.operator) s c) k end old fed
+          (given_so (IsTold plan) first_tasks is_stage (HasGiven plan (without_end s) had has before now c k end) (HasGiven plan s had has before now (with_end (plan r.told.operator) s c) k end) (IsSome end) (IsSome end) (first_told op s.task w f times) old fed r
           (other_given plan s had has before now c k end r.told r.count r.is_given off) (λ x. x))
       still_by true is not_all =
           let lacks : Cutter = record c { flush = end_counts (plan r.told.operator) s; ended = Some cuts.NoMemory } in
           let all = (due_all c.number c.ended (both_on (is_end_due c) (end_counts (plan r.told.operator) s) is).0).0 in
-          let d = done plan contents taken wrote failed op s w f had has before now lacks k (Some cuts.NoMemory) old fed
-          (given_so (IsTold plan) first_tasks is_stage (HasGiven plan (without_end s) had has before now c k end) (HasGiven plan s had has before now lacks k (Some cuts.NoMemory)) (IsSome end) (IsSome (Some cuts.NoMemory)) (first_told op s.task w f) old fed r
+          let d = done plan contents taken wrote failed writes op s w f times had has before now lacks k (Some cuts.NoMemory) old fed
+          (given_so (IsTold plan) first_tasks is_stage (HasGiven plan (without_end s) had has before now c k end) (HasGiven plan s had has before now lacks k (Some cuts.NoMemory)) (IsSome end) (IsSome (Some cuts.NoMemory)) (first_told op s.task w f times) old fed r
           (stopped_given plan s had has before now c k end r.told r.count r.is_given all) (λ x. refl)) in
-          subst (λ e. Done (plan op) s had has before now w f e old.k (wrote old.sink) (failed old.sink)) (end_same old.state fed.over (Some cuts.NoMemory) end (not_all refl)) d
+          subst (λ e. Done (plan op) s had has before now w f times e old.k (wrote old.sink) (failed old.sink) (writes old.sink)) (end_same old.state fed.over (Some cuts.NoMemory) end (not_all refl)) d
 
       still : ((is_end_due c && end_counts (plan op) s) ≡ true → old.state ≡ states.Running → fed.over ≢ over_by.AllGiven) → DoneSo old
       still not_all = still_by (is_end_due c && end_counts (plan r.told.operator) s) refl (λ e. not_all (ap (λ b. is_end_due c && b) (sym same_counts) ∙ e))
@@ -162,15 +164,15 @@ module _ {O S K : Type 0} (plan : O → Tree) (contents : S → Kept) (taken : O
         given = HasGiven plan (without_end s) had has before now c k end
 
         next_block : IsBlockOf plan (with_block r.told b) r.count b
-        next_block = block plan contents taken wrote failed given (IsSome end) (first_told op s.task w f) old fed r all runs b supplied number
+        next_block = block plan contents taken wrote failed writes given (IsSome end) (first_told op s.task w f times) old fed r all runs b supplied number
 
         suits_more : Suits op (first_tasks (with_block r.told b) 0)
-        suits_more = ap (λ (t : RunData O). t.operator) (base_stays plan contents taken wrote failed given (IsSome end) (first_told op s.task w f) old fed r all runs b supplied number)
+        suits_more = ap (λ (t : RunData O). t.operator) (base_stays plan contents taken wrote failed writes given (IsSome end) (first_told op s.task w f times) old fed r all runs b supplied number)
 
         behind : is_stage (first_tasks (with_block r.told b) r.count) r.count false old
         behind =
-            subst (λ t. is_stage t r.count false old) (sym (front plan contents taken wrote failed given (IsSome end) (first_told op s.task w f) old fed r all runs b supplied number))
-            (all_behind plan contents taken wrote failed given (IsSome end) (first_told op s.task w f) old fed r all runs)
+            subst (λ t. is_stage t r.count false old) (sym (front plan contents taken wrote failed writes given (IsSome end) (first_told op s.task w f times) old fed r all runs b supplied number))
+            (all_behind plan contents taken wrote failed writes given (IsSome end) (first_told op s.task w f times) old fed r all runs)
 
         -- it may be taken
         can : CanDo first_tasks (IsBlockOf plan) is_stage (IsAlone plan) Suits op old b
@@ -187,31 +189,31 @@ module _ {O S K : Type 0} (plan : O → Tree) (contents : S → Kept) (taken : O
         is_end : end ≡ Some cuts.AllRead
         is_end = ended_so end refl (r.all all).1
 
-        taken_so : (new : Stage S K) → TakesBlock plan contents taken wrote failed (end_counts (plan op) s) op b old new → DoneSo new
+        taken_so : (new : Stage S K) → TakesBlock plan contents taken wrote failed writes (end_counts (plan op) s) op b old new → DoneSo new
         taken_so new t =
             let does = t.takes counts runs in
             let on = does.1 (with_block r.told b) r.count suits_more (next_block, o.alone) behind in
-            let d = done plan contents taken wrote failed op s w f had has before now (end_given c) k (Some cuts.AllRead) new (record fed { tasks = fed.tasks + 1 })
-            (final_runs plan contents taken wrote failed given (IsSome end) (first_told op s.task w f) old fed r all runs b supplied number new (HasGiven plan s had has before now (end_given c) k (Some cuts.AllRead))
+            let d = done plan contents taken wrote failed writes op s w f times had has before now (end_given c) k (Some cuts.AllRead) new (record fed { tasks = fed.tasks + 1 })
+            (final_runs plan contents taken wrote failed writes given (IsSome end) (first_told op s.task w f times) old fed r all runs b supplied number new (HasGiven plan s had has before now (end_given c) k (Some cuts.AllRead))
             (final_given plan s had has before now c k end r.told r.count r.is_given (due_all c.number c.ended due).0 b gives is_end) (IsSome (Some cuts.AllRead)) refl does.0 on) in
-            subst (λ e. Done (plan op) s had has before now w f (end_of new.state fed.over e) new.k (wrote new.sink) (failed new.sink)) (sym is_end) d
+            subst (λ e. Done (plan op) s had has before now w f times (end_of new.state fed.over e) new.k (wrote new.sink) (failed new.sink) (writes new.sink)) (sym is_end) d
 
-      by_state : (state : StageState) → old.state ≡ state → (b : Block) → fed.over ≡ over_by.AllGiven → is_end_due c ≡ true → EndsEach c b → end_counts (plan op) s ≡ true → (new : Stage S K) → TakesBlock plan contents taken wrote failed (end_counts (plan op) s) op b old new → DoneSo new
+      by_state : (state : StageState) → old.state ≡ state → (b : Block) → fed.over ≡ over_by.AllGiven → is_end_due c ≡ true → EndsEach c b → end_counts (plan op) s ≡ true → (new : Stage S K) → TakesBlock plan contents taken wrote failed writes (end_counts (plan op) s) op b old new → DoneSo new
       by_state states.Running e b all due each counts new t = taken_so b all due each counts e new t
       by_state states.SinkFailed e b all due each counts new t = stays new (t.stopped (λ h. sink_not_running (sym e ∙ h))) (λ x h. absurd (sink_not_running (sym e ∙ h)))
       by_state states.NoMemory e b all due each counts new t = stays new (t.stopped (λ h. lack_not_running (sym e ∙ h))) (λ x h. absurd (lack_not_running (sym e ∙ h)))
 
-      by_counts : (counts : Bool) → end_counts (plan op) s ≡ counts → (b : Block) → fed.over ≡ over_by.AllGiven → is_end_due c ≡ true → EndsEach c b → (new : Stage S K) → TakesBlock plan contents taken wrote failed (end_counts (plan op) s) op b old new → DoneSo new
+      by_counts : (counts : Bool) → end_counts (plan op) s ≡ counts → (b : Block) → fed.over ≡ over_by.AllGiven → is_end_due c ≡ true → EndsEach c b → (new : Stage S K) → TakesBlock plan contents taken wrote failed writes (end_counts (plan op) s) op b old new → DoneSo new
       by_counts true e b all due each new t = by_state old.state refl b all due each e new t
       by_counts false e b all due each new t = stays new (t.other e) (λ x. absurd (both_off (is_end_due c) (end_counts (plan op) s) e x))
 
       -- what comes of it
-      pub one_done : (last : Option Block) → ComesLast c fed.over last → (new : Stage S K) → Takes plan contents taken wrote failed (end_counts (plan op) s) op last old new → DoneSo new
+      pub one_done : (last : Option Block) → ComesLast c fed.over last → (new : Stage S K) → Takes plan contents taken wrote failed writes (end_counts (plan op) s) op last old new → DoneSo new
       one_done None comes new t = stays new t (λ is h all. not_both (sym (comes all) ∙ (both_on (is_end_due c) (end_counts (plan op) s) is).0))
       one_done (Some b) comes new t = by_counts (end_counts (plan op) s) refl b comes.0 comes.1 comes.2 new t
 
       -- the end may be taken by it
-      pub one_can : (last : Option Block) → ComesLast c fed.over last → CanTake plan contents taken wrote failed (end_counts (plan op) s) op last old
+      pub one_can : (last : Option Block) → ComesLast c fed.over last → CanTake plan contents taken wrote failed writes (end_counts (plan op) s) op last old
       one_can None comes = tt
       one_can (Some b) comes = λ counts runs. can b comes.0 comes.1 comes.2 counts runs
 
@@ -239,17 +241,17 @@ module _ {O S K : Type 0} (plan : O → Tree) (contents : S → Kept) (taken : O
 
   -- a run of all is one of each, by the data and sizes that it names
   pub all_run : (ops : List O) (olds : List (Member (Stage S K))) (news : Vec (Member (Stage S K)) Global) (ks : List Keeper) (n : ℕ) (z : Sizes) (l : Lefts) (b : List ℕ) → n ≡ s.task → z ≡ without_end s → l ≡ had → b ≡ before
-      → RunsTo (AreTold (IsTold plan) (IsAlone plan)) (all_upto first_tasks) (λ told k stopped (v : Vec (Member (Stage S K)) Global). AreStages first_tasks is_stage told k stopped v.items) (GivenEach plan z l has b now c end ks) (IsSome end) (bases n wrote failed ops olds) news fed
-      → AllZip (λ b m. RunsOne b m.stage) (bases s.task wrote failed ops olds) news.items
+      → RunsTo (AreTold (IsTold plan) (IsAlone plan)) (all_upto first_tasks) (λ told k stopped (v : Vec (Member (Stage S K)) Global). AreStages first_tasks is_stage told k stopped v.items) (GivenEach plan z l has b now c end ks) (IsSome end) (bases n wrote failed writes ops olds) news fed
+      → AllZip (λ b m. RunsOne b m.stage) (bases s.task wrote failed writes ops olds) news.items
   all_run ops olds news ks n z l b n_is z_is l_is b_is all =
-      let (told, count, given, runs) = each_runs (IsTold plan) (IsAlone plan) first_tasks is_stage first_fronts (λ (e : Option End) (k : List Keeper). GivenEach plan z l has b now c e k) (λ (e : Option End). IsSome e) (λ (v : Vec (Member (Stage S K)) Global). v.items) end ks (bases n wrote failed ops olds) news fed all in
+      let (told, count, given, runs) = each_runs (IsTold plan) (IsAlone plan) first_tasks is_stage first_fronts (λ (e : Option End) (k : List Keeper). GivenEach plan z l has b now c e k) (λ (e : Option End). IsSome e) (λ (v : Vec (Member (Stage S K)) Global). v.items) end ks (bases n wrote failed writes ops olds) news fed all in
       let g : GivenEach plan (without_end s) had has before now c end ks told count = transport (λ x. GivenEach plan (z_is x) (l_is x) has (b_is x) now c end ks told count) given in
-      let r : AllThree (RunsOnly count) told (bases s.task wrote failed ops olds) news.items = subst (λ m. AllThree (RunsOnly count) told (bases m wrote failed ops olds) news.items) n_is runs in
-      each_run count told (bases s.task wrote failed ops olds) news.items ks r g.1
+      let r : AllThree (RunsOnly count) told (bases s.task wrote failed writes ops olds) news.items = subst (λ m. AllThree (RunsOnly count) told (bases m wrote failed writes ops olds) news.items) n_is runs in
+      each_run count told (bases s.task wrote failed writes ops olds) news.items ks r g.1
 
   -- the end may be taken by each
-  pub each_can : {A : Type 0} (R : O → A → Member (Stage S K) → Type 0) (last : Option Block) → ComesLast c fed.over last → (ops : List O) (qs : List A) (olds ms : List (Member (Stage S K))) → AllThree R ops qs olds → AllZip (λ b m. RunsOne b m.stage) (bases s.task wrote failed ops olds) ms
-      → CanTakeEach plan contents taken wrote failed s last ops ms
+  pub each_can : {A : Type 0} (R : O → A → Member (Stage S K) → Type 0) (last : Option Block) → ComesLast c fed.over last → (ops : List O) (qs : List A) (olds ms : List (Member (Stage S K))) → AllThree R ops qs olds → AllZip (λ b m. RunsOne b m.stage) (bases s.task wrote failed writes ops olds) ms
+      → CanTakeEach plan contents taken wrote failed writes s last ops ms
   each_can R last comes [] [] [] [] t r = tt
   each_can R last comes [] [] [] (m ∷ ms) t r = absurd r
   each_can R last comes [] [] (o ∷ olds) ms t r = absurd t
@@ -257,10 +259,10 @@ module _ {O S K : Type 0} (plan : O → Tree) (contents : S → Kept) (taken : O
   each_can R last comes (op ∷ ops) [] olds ms t r = absurd t
   each_can R last comes (op ∷ ops) (a ∷ qs) [] ms t r = absurd t
   each_can R last comes (op ∷ ops) (a ∷ qs) (o ∷ olds) [] t r = absurd r
-  each_can R last comes (op ∷ ops) (a ∷ qs) (o ∷ olds) (m ∷ ms) t r = (one_can op (wrote o.stage.sink) (failed o.stage.sink) m.stage r.0 last comes, each_can R last comes ops qs olds ms t.1 r.1)
+  each_can R last comes (op ∷ ops) (a ∷ qs) (o ∷ olds) (m ∷ ms) t r = (one_can op (wrote o.stage.sink) (failed o.stage.sink) (writes o.stage.sink) m.stage r.0 last comes, each_can R last comes ops qs olds ms t.1 r.1)
 
   -- there are as many behind the run
-  pub runs_long : {A : Type 0} (R : O → A → Member (Stage S K) → Type 0) (ops : List O) (qs : List A) (olds ms : List (Member (Stage S K))) → AllThree R ops qs olds → AllZip (λ b m. RunsOne b m.stage) (bases s.task wrote failed ops olds) ms → length ms ≡ length ops
+  pub runs_long : {A : Type 0} (R : O → A → Member (Stage S K) → Type 0) (ops : List O) (qs : List A) (olds ms : List (Member (Stage S K))) → AllThree R ops qs olds → AllZip (λ b m. RunsOne b m.stage) (bases s.task wrote failed writes ops olds) ms → length ms ≡ length ops
   runs_long R [] [] [] [] t r = refl
   runs_long R [] [] [] (m ∷ ms) t r = absurd r
   runs_long R [] [] (o ∷ olds) ms t r = absurd t
@@ -272,7 +274,7 @@ module _ {O S K : Type 0} (plan : O → Tree) (contents : S → Kept) (taken : O
 
 -- ---- all of them
 
-module _ {O S K X : Type 0} (plan : O → Tree) (contents : S → Kept) (taken : O → S → Input → Type 0) (wrote : K → Option (List ℕ)) (failed : K → ℕ) (left : X → Option (List ℕ)) (faults : X → ℕ)
+module _ {O S K X : Type 0} (plan : O → Tree) (contents : S → Kept) (taken : O → S → Input → Type 0) (wrote : K → Option (List ℕ)) (failed writes : K → ℕ) (left : X → Option (List ℕ)) (faults : X → ℕ)
     {A : Type 0} (tree : A → Tree) (sink : A → K) (s : Sizes) (columns : ℕ) (i j : Inputs X) (one : length (each_input left i) ≡ 1) (c : Cutter) (end : Option End) (fed : Dispatched) (last : Option Block) (comes : ComesLast c fed.over last) where
   abbrev had : Lefts
   had = each_input left i
@@ -287,20 +289,20 @@ module _ {O S K X : Type 0} (plan : O → Tree) (contents : S → Kept) (taken :
   now = each_input faults j
 
   abbrev RunsAs : RunData O → Member (Stage S K) → Type 0
-  RunsAs base m = RunsOne plan contents taken wrote failed s had has before now c end fed base m.stage
+  RunsAs base m = RunsOne plan contents taken wrote failed writes s had has before now c end fed base m.stage
 
-  one_ran : (op : O) (a : A) (old mid new : Member (Stage S K)) (ran : Ran K) → plan op ≡ tree a → MayShare columns (tree a) → Stands plan contents taken wrote failed op (sink a) old → RunsAs (base_of s.task wrote failed op old) mid
-      → Takes plan contents taken wrote failed (end_counts (plan op) s) op last mid.stage new.stage → EndsAs fed.over end new ran → RunsPlan left faults wrote failed (tree a) s i j (sink a) ran
+  one_ran : (op : O) (a : A) (old mid new : Member (Stage S K)) (ran : Ran K) → plan op ≡ tree a → MayShare columns (tree a) → Stands plan contents taken wrote failed writes op (sink a) old → RunsAs (base_of s.task wrote failed writes op old) mid
+      → Takes plan contents taken wrote failed writes (end_counts (plan op) s) op last mid.stage new.stage → EndsAs fed.over end new ran → RunsPlan left faults wrote failed writes (tree a) s i j (sink a) ran
   one_ran op a old mid new ran is may stands o takes ends =
-      let over = one_done plan contents taken wrote failed s had has before now c end fed op (wrote old.stage.sink) (failed old.stage.sink) mid.stage o last comes new.stage takes in
-      let d : Done (tree a) s had has before now (wrote (sink a)) (failed (sink a)) ran.end ran.tasks (wrote ran.sink) (failed ran.sink) =
-      transport (λ x. Done (is x) s had has before now (wrote (stands.sink_is x)) (failed (stands.sink_is x)) (sym ends.end_is x) (sym ends.tasks x) (wrote (sym ends.sink_is x)) (failed (sym ends.sink_is x))) over in
-      plan_ran left faults wrote failed (tree a) s i j (sink a) ran (one ∙ sym may.one) d (took _ left i j _ _ o.run.is_given.cuts.took.moves) ends.may
+      let over = one_done plan contents taken wrote failed writes s had has before now c end fed op (wrote old.stage.sink) (failed old.stage.sink) (writes old.stage.sink) mid.stage o last comes new.stage takes in
+      let d : Done (tree a) s had has before now (wrote (sink a)) (failed (sink a)) (writes (sink a)) ran.end ran.tasks (wrote ran.sink) (failed ran.sink) (writes ran.sink) =
+      transport (λ x. Done (is x) s had has before now (wrote (stands.sink_is x)) (failed (stands.sink_is x)) (writes (stands.sink_is x)) (sym ends.end_is x) (sym ends.tasks x) (wrote (sym ends.sink_is x)) (failed (sym ends.sink_is x)) (writes (sym ends.sink_is x))) over in
+      plan_ran left faults wrote failed writes (tree a) s i j (sink a) ran (one ∙ sym may.one) d (took _ left i j _ _ o.run.is_given.cuts.took.moves) ends.may
 
   -- each ran as if it ran alone
   pub each_ran : (ops : List O) (qs : List A) (olds mids news : List (Member (Stage S K))) (rans : List (Ran K)) → AllZip (λ op a. plan op ≡ tree a) ops qs → AllByRecursion (λ a. MayShare columns (tree a)) qs
-      → AllThree (λ op a m. Stands plan contents taken wrote failed op (sink a) m) ops qs olds → AllZip RunsAs (bases s.task wrote failed ops olds) mids → TakesEach plan contents taken wrote failed s last ops mids news
-      → AllZip (EndsAs fed.over end) news rans → AllZip (λ a ran. RunsPlan left faults wrote failed (tree a) s i j (sink a) ran) qs rans
+      → AllThree (λ op a m. Stands plan contents taken wrote failed writes op (sink a) m) ops qs olds → AllZip RunsAs (bases s.task wrote failed writes ops olds) mids → TakesEach plan contents taken wrote failed writes s last ops mids news
+      → AllZip (EndsAs fed.over end) news rans → AllZip (λ a ran. RunsPlan left faults wrote failed writes (tree a) s i j (sink a) ran) qs rans
   each_ran [] [] [] [] [] [] is may stands runs takes ends = tt
   each_ran [] [] [] [] [] (x ∷ xs) is may stands runs takes ends = absurd ends
   each_ran [] [] [] [] (n ∷ ns) xs is may stands runs takes ends = absurd takes
@@ -317,27 +319,27 @@ module _ {O S K X : Type 0} (plan : O → Tree) (contents : S → Kept) (taken :
 
   -- by how the blocks ended, as they tell it when they go
   pub all_ran : (ops : List O) (qs : List A) (olds mids news : List (Member (Stage S K))) (rans : List (Ran K)) → AllZip (λ op a. plan op ≡ tree a) ops qs → AllByRecursion (λ a. MayShare columns (tree a)) qs
-      → AllThree (λ op a m. Stands plan contents taken wrote failed op (sink a) m) ops qs olds → AllZip RunsAs (bases s.task wrote failed ops olds) mids → TakesEach plan contents taken wrote failed s last ops mids news
-      → (over : Option End) → over ≡ end → AllZip (EndsAs fed.over over) news rans → AllZip (λ a ran. RunsPlan left faults wrote failed (tree a) s i j (sink a) ran) qs rans
+      → AllThree (λ op a m. Stands plan contents taken wrote failed writes op (sink a) m) ops qs olds → AllZip RunsAs (bases s.task wrote failed writes ops olds) mids → TakesEach plan contents taken wrote failed writes s last ops mids news
+      → (over : Option End) → over ≡ end → AllZip (EndsAs fed.over over) news rans → AllZip (λ a ran. RunsPlan left faults wrote failed writes (tree a) s i j (sink a) ran) qs rans
   all_ran ops qs olds mids news rans is may stands runs takes over over_is ends = each_ran ops qs olds mids news rans is may stands runs takes (subst (λ o. AllZip (EndsAs fed.over o) news rans) over_is ends)
 
 -- ---- where memory lacked to begin
 
-module _ {O S K X : Type 0} (plan : O → Tree) (contents : S → Kept) (taken : O → S → Input → Type 0) (wrote : K → Option (List ℕ)) (failed : K → ℕ) (left : X → Option (List ℕ)) (faults : X → ℕ)
+module _ {O S K X : Type 0} (plan : O → Tree) (contents : S → Kept) (taken : O → S → Input → Type 0) (wrote : K → Option (List ℕ)) (failed writes : K → ℕ) (left : X → Option (List ℕ)) (faults : X → ℕ)
     {A : Type 0} (tree : A → Tree) (sink : A → K) (s : Sizes) (columns : ℕ) (i : Inputs X) (one : length (each_input left i) ≡ 1) where
-  one_refused : (op : O) (a : A) (m : Member (Stage S K)) (ran : Ran K) → MayShare columns (tree a) → Stands plan contents taken wrote failed op (sink a) m → EndsAs over_by.NoMemory None m ran → RunsPlan left faults wrote failed (tree a) s i i (sink a) ran
+  one_refused : (op : O) (a : A) (m : Member (Stage S K)) (ran : Ran K) → MayShare columns (tree a) → Stands plan contents taken wrote failed writes op (sink a) m → EndsAs over_by.NoMemory None m ran → RunsPlan left faults wrote failed writes (tree a) s i i (sink a) ran
   one_refused op a m ran may stands ends =
       let end_is : ran.end ≡ NoMemory = ends.end_is ∙ ap (λ z. end_of z over_by.NoMemory None) stands.runs in
       let tasks : ran.tasks ≡ 0 = ends.tasks ∙ stands.none in
       let sink_is : ran.sink ≡ sink a = ends.sink_is ∙ stands.sink_is in
-      let n = done_nothing (tree a) (checked_fit (tree a) may.checked) s (each_input left i) (each_input faults i) (wrote (sink a)) (failed (sink a)) in
-      let d : Done (tree a) s (each_input left i) (each_input left i) (each_input faults i) (each_input faults i) (wrote (sink a)) (failed (sink a)) ran.end ran.tasks (wrote ran.sink) (failed ran.sink) =
-      transport (λ x. Done (tree a) s (each_input left i) (each_input left i) (each_input faults i) (each_input faults i) (wrote (sink a)) (failed (sink a)) (sym end_is x) (sym tasks x) (wrote (sym sink_is x)) (failed (sym sink_is x))) n in
-      plan_ran left faults wrote failed (tree a) s i i (sink a) ran (one ∙ sym may.one) d (took_none left i) ends.may
+      let n = done_nothing (tree a) (checked_fit (tree a) may.checked) s (each_input left i) (each_input faults i) (wrote (sink a)) (failed (sink a)) (writes (sink a)) in
+      let d : Done (tree a) s (each_input left i) (each_input left i) (each_input faults i) (each_input faults i) (wrote (sink a)) (failed (sink a)) (writes (sink a)) ran.end ran.tasks (wrote ran.sink) (failed ran.sink) (writes ran.sink) =
+      transport (λ x. Done (tree a) s (each_input left i) (each_input left i) (each_input faults i) (each_input faults i) (wrote (sink a)) (failed (sink a)) (writes (sink a)) (sym end_is x) (sym tasks x) (wrote (sym sink_is x)) (failed (sym sink_is x)) (writes (sym sink_is x))) n in
+      plan_ran left faults wrote failed writes (tree a) s i i (sink a) ran (one ∙ sym may.one) d (took_none left i) ends.may
 
   -- each is as it was
-  pub each_refused : (ops : List O) (qs : List A) (ms : List (Member (Stage S K))) (rans : List (Ran K)) → AllByRecursion (λ a. MayShare columns (tree a)) qs → AllThree (λ op a m. Stands plan contents taken wrote failed op (sink a) m) ops qs ms
-      → AllZip (EndsAs over_by.NoMemory None) ms rans → AllZip (λ a ran. RunsPlan left faults wrote failed (tree a) s i i (sink a) ran) qs rans
+  pub each_refused : (ops : List O) (qs : List A) (ms : List (Member (Stage S K))) (rans : List (Ran K)) → AllByRecursion (λ a. MayShare columns (tree a)) qs → AllThree (λ op a m. Stands plan contents taken wrote failed writes op (sink a) m) ops qs ms
+      → AllZip (EndsAs over_by.NoMemory None) ms rans → AllZip (λ a ran. RunsPlan left faults wrote failed writes (tree a) s i i (sink a) ran) qs rans
   each_refused [] [] [] [] may stands ends = tt
   each_refused [] [] [] (x ∷ xs) may stands ends = absurd ends
   each_refused [] [] (m ∷ ms) xs may stands ends = absurd stands

@@ -2,7 +2,7 @@
 use Rattle.std.proofs.Common.{◌≡◌, ◌≢◌, ℕ, ◌≤◌, Bool, true, false, List, [], ◌∷◌, refl, sym, ◌∙◌, subst, arith}
 use Rattle.std.specs.Prelude.{Option, Some, None, IsSome, if◌then◌else◌}
 use Rattle.std.specs.Int.{div_ceil}
-use Rattle.saber_plan.specs.Outputs.{Rose, appended_text, appended-none}
+use Rattle.saber_plan.specs.Outputs.{raised_by, Rose, appended_text, appended-none}
 use Rattle.saber_io.specs.declared.feeds.EndMark.TheVariants as marks
 use Rattle.saber_plan.specs.Facts.Counts.{tasks_have_rows}
 use Rattle.saber_plan.specs.Sizes.{limits_of}
@@ -35,7 +35,7 @@ use Rattle.saber_dispatch.proofs.FedTasks.{fed_blocks_are_tasks, cuts_leave_whol
 use Rattle.saber_plan.specs.declared.ends.RunEnd.{RunEnd}
 use Rattle.saber_plan.specs.declared.ends.RunEnd.TheVariants.{AllRead, ReadFault, WriteFault, NoMemory}
 use Rattle.saber_plan.specs.Files.{input_of}
-use Rattle.saber_plan.specs.Runs.{Gives, IsClean}
+use Rattle.saber_plan.specs.Runs.{Gives, IsClean, writes_over}
 use Rattle.saber_engine.specs.Endings.{given_end, end_of}
 use Rattle.saber_engine.specs.Supplying.{first_told}
 use Rattle.saber_engine.specs.FedRuns.{TakesWhole}
@@ -43,7 +43,7 @@ use Rattle.saber_engine.specs.FedSupplying.{FeedView, HasFed}
 use Rattle.saber_engine.proofs.Passed.{kept_none}
 use Rattle.saber_engine.proofs.Assembled.{op_is}
 use Rattle.saber_engine.proofs.Reaches.{by_fault, clean_end, lack_not_write}
-use Rattle.saber_engine.proofs.Comings.{GivenBy, Came, came_to, gives_nothing}
+use Rattle.saber_engine.proofs.Comings.{GivenBy, Came, came_to, gives_nothing, writes_nothing}
 
 -- ---- a run before its first block
 
@@ -51,8 +51,8 @@ none_some : {A : Type 0} (x : A) → ◌≡◌ {A = Option A} None (Some x) → 
 none_some x e = cc
 
 -- no block was given
-pub fed_none : {O : Type 0} (plan : O → Tree) (op : O) (s : Sizes) (v : FeedView) (w : Option (List ℕ)) (f : ℕ) (c : FedCutter) (k : Keeper) → CutsNothingFed (plan op) s c → fed_end_of c ≡ None → v.waiting ≡ v.taken → 1 ≤ s.task → k.kept ≡ None → CountsRows k (plan op) [] → HasFed plan s v.faults v c k None (first_told op s.task w f) 0
-fed_none plan op s v w f c k nothing open_still waits some kept counts = record {
+pub fed_none : {O : Type 0} (plan : O → Tree) (op : O) (s : Sizes) (v : FeedView) (w : Option (List ℕ)) (f times : ℕ) (c : FedCutter) (k : Keeper) → CutsNothingFed (plan op) s c → fed_end_of c ≡ None → v.waiting ≡ v.taken → 1 ≤ s.task → k.kept ≡ None → CountsRows k (plan op) [] → HasFed plan s v.faults v c k None (first_told op s.task w f times) 0
+fed_none plan op s v w f times c k nothing open_still waits some kept counts = record {
   cuts = subst (λ z. CutsFed (plan op) s v.taken z v.mark c (going_on [])) (sym waits) (nothing v.taken v.mark);
   size = refl;
   count = let few : div_ceil 0 s.task ≤ 0 = tasks_have_rows s.task 0 some in omega (arith, few);
@@ -98,7 +98,7 @@ told_is flush count (Some x) e h = by_case (is_due flush count x) h where
 -- ---- what a run comes to
 
 -- over a feed, seen so at its end, with such a count of faults when the run began, and a sink that had written so much and had such a count
-pub record FedDone (q : Tree) (s : Sizes) (v : FeedView) (before : ℕ) (w : Option (List ℕ)) (f : ℕ) (end : RunEnd) (tasks : ℕ) (written : Option (List ℕ)) (faults : ℕ) : Type 0 where
+pub record FedDone (q : Tree) (s : Sizes) (v : FeedView) (before : ℕ) (w : Option (List ℕ)) (f times : ℕ) (end : RunEnd) (tasks : ℕ) (written : Option (List ℕ)) (faults count : ℕ) : Type 0 where
   pub out : List ℕ
   pub written_is : written ≡ appended_text w out
   pub gives : (all : List ℕ) → GoesOn v.taken v.mark all → Gives q s.task s.ring s.flush (input_of q (limits_of s) (all ∷ [])) end tasks out
@@ -111,10 +111,11 @@ pub record FedDone (q : Tree) (s : Sizes) (v : FeedView) (before : ℕ) (w : Opt
   pub write_good : end ≢ WriteFault → faults ≡ f
   pub reads : before ≤ v.faults
   pub writes : f ≤ faults
+  pub one_write : (all : List ℕ) → GoesOn v.taken v.mark all → count ≡ raised_by times (writes_over q s (all ∷ []) end tasks)
 
-module _ {O S K : Type 0} (plan : O → Tree) (contents : S → Kept) (taken : O → S → Input → Type 0) (wrote : K → Option (List ℕ)) (failed : K → ℕ)
-    (op : O) (s : Sizes) (some : 1 ≤ s.task) (w : Option (List ℕ)) (f : ℕ) (v : FeedView) (before : ℕ) (c : FedCutter) (k : Keeper) (end : Option End) (stage : Stage S K) (fed : Dispatched)
-    (r : RunsTo (IsTold plan) first_tasks (IsStageOf plan (stage_view contents wrote failed) taken) (HasFed plan s before v c k end) (IsSome end) (first_told op s.task w f) stage fed) where
+module _ {O S K : Type 0} (plan : O → Tree) (contents : S → Kept) (taken : O → S → Input → Type 0) (wrote : K → Option (List ℕ)) (failed writes : K → ℕ)
+    (op : O) (s : Sizes) (some : 1 ≤ s.task) (w : Option (List ℕ)) (f times : ℕ) (v : FeedView) (before : ℕ) (c : FedCutter) (k : Keeper) (end : Option End) (stage : Stage S K) (fed : Dispatched)
+    (r : RunsTo (IsTold plan) first_tasks (IsStageOf plan (stage_view contents wrote failed writes) taken) (HasFed plan s before v c k end) (IsSome end) (first_told op s.task w f times) stage fed) where
   abbrev q : Tree
   q = plan op
 
@@ -122,13 +123,13 @@ module _ {O S K : Type 0} (plan : O → Tree) (contents : S → Kept) (taken : O
   all_input = told_input r.told
 
   cuts : CutsFed q s v.taken v.waiting v.mark c all_input
-  cuts = subst (λ o. CutsFed (plan o) s v.taken v.waiting v.mark c all_input) (op_is plan contents taken wrote failed op s.task w f (HasFed plan s before v c k end) (IsSome end) stage fed r) r.is_given.cuts
+  cuts = subst (λ o. CutsFed (plan o) s v.taken v.waiting v.mark c all_input) (op_is plan contents taken wrote failed writes op s.task w f times (HasFed plan s before v c k end) (IsSome end) stage fed r) r.is_given.cuts
 
   given_by : GivenBy s c.cutter end all_input r.count
   given_by = record { size = some; count = r.is_given.count; ended = r.is_given.ended }
 
-  came : Came q s c.cutter end all_input stage.state fed.over stage.k w (wrote stage.sink) f (failed stage.sink)
-  came = came_to plan contents taken wrote failed op s w f (HasFed plan s before v c k end) (IsSome end) c.cutter end stage fed r given_by
+  came : Came q s c.cutter end all_input stage.state fed.over stage.k w (wrote stage.sink) f (failed stage.sink) times (writes stage.sink)
+  came = came_to plan contents taken wrote failed writes op s w f times (HasFed plan s before v c k end) (IsSome end) c.cutter end stage fed r given_by
 
   leaves : (side : Side) → end_of stage.state fed.over end ≡ ReadFault side → TakesWhole q s.task (limits_of s) stage.k v.taken
   leaves side e =
@@ -141,7 +142,7 @@ module _ {O S K : Type 0} (plan : O → Tree) (contents : S → Kept) (taken : O
   told e is = cuts.agrees.told e (told_is c.cutter.flush c.cutter.number c.cutter.ended e (r.is_given.ended e is))
 
   -- the run is over
-  pub fed_done : FedDone q s v before w f (end_of stage.state fed.over end) stage.k (wrote stage.sink) (failed stage.sink)
+  pub fed_done : FedDone q s v before w f times (end_of stage.state fed.over end) stage.k (wrote stage.sink) (failed stage.sink) (writes stage.sink)
   fed_done = record {
     out = came.out;
     written_is = came.written_is;
@@ -155,6 +156,7 @@ module _ {O S K : Type 0} (plan : O → Tree) (contents : S → Kept) (taken : O
     write_good = came.write_good;
     reads = r.is_given.counted.rises;
     writes = came.writes;
+    one_write = λ bytes on. came.one_write (input_of q (limits_of s) (bytes ∷ [])) (fed_blocks_are_tasks q s v.taken v.waiting bytes v.mark c all_input cuts on);
   }
 
 -- ---- a run that had no memory to begin
@@ -162,8 +164,8 @@ module _ {O S K : Type 0} (plan : O → Tree) (contents : S → Kept) (taken : O
 no_fault : (side : Side) → NoMemory ≡ ReadFault side → ⊥
 no_fault side e = cc
 
-pub fed_nothing : (q : Tree) → Fits (frame q) → (s : Sizes) (v : FeedView) (w : Option (List ℕ)) (f : ℕ) → FedDone q s v v.faults w f NoMemory 0 w f
-fed_nothing q fits s v w f = record {
+pub fed_nothing : (q : Tree) → Fits (frame q) → (s : Sizes) (v : FeedView) (w : Option (List ℕ)) (f times : ℕ) → FedDone q s v v.faults w f times NoMemory 0 w f times
+fed_nothing q fits s v w f times = record {
   out = [];
   written_is = appended-none w;
   gives = λ bytes on. gives_nothing q fits s (input_of q (limits_of s) (bytes ∷ []));
@@ -176,4 +178,5 @@ fed_nothing q fits s v w f = record {
   write_good = λ _. refl;
   reads = omega arith;
   writes = omega arith;
+  one_write = λ bytes on. writes_nothing q s (input_of q (limits_of s) (bytes ∷ [])) times;
 }

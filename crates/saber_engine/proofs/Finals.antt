@@ -137,9 +137,9 @@ given_so is_told upto is_stage given other ended over base stage fed r g on = re
   runs = r.runs;
 }
 
-module _ {O S K : Type 0} (plan : O → Tree) (contents : S → Kept) (taken : O → S → Input → Type 0) (wrote : K → Option (List ℕ)) (failed : K → ℕ) where
+module _ {O S K : Type 0} (plan : O → Tree) (contents : S → Kept) (taken : O → S → Input → Type 0) (wrote : K → Option (List ℕ)) (failed writes : K → ℕ) where
   abbrev is_stage : RunData O → ℕ → Bool → Stage S K → Type 0
-  is_stage = IsStageOf plan (stage_view contents wrote failed) taken
+  is_stage = IsStageOf plan (stage_view contents wrote failed writes) taken
 
   module _ (given : RunData O → ℕ → Type 0) (ended : Type 0) (base : RunData O) (old : Stage S K) (fed : Dispatched) (r : RunsTo (IsTold plan) first_tasks is_stage given ended base old fed) (all : fed.over ≡ AllGiven) (runs : old.state ≡ Running) where
     goes_on : (x : Bool) → r.stopped ≡ x → x ≡ false

@@ -45,33 +45,33 @@ none_lacking c e = absurd (lack_not_given e)
 apart : false ≡ true → ⊥
 apart e = cc
 
-module _ {O S K : Type 0} (plan : O → Tree) (contents : S → Kept) (taken : O → S → Input → Type 0) (wrote : K → Option (List ℕ)) (failed : K → ℕ) (counts : Bool) (op : O) (old : Stage S K) (block : Option Block) where
+module _ {O S K : Type 0} (plan : O → Tree) (contents : S → Kept) (taken : O → S → Input → Type 0) (wrote : K → Option (List ℕ)) (failed writes : K → ℕ) (counts : Bool) (op : O) (old : Stage S K) (block : Option Block) where
   -- where it doesn't come
-  pub kept_none : block ≡ None → Takes plan contents taken wrote failed counts op block old old
-  kept_none e = subst (λ o. Takes plan contents taken wrote failed counts op o old old) (sym e) refl
+  pub kept_none : block ≡ None → Takes plan contents taken wrote failed writes counts op block old old
+  kept_none e = subst (λ o. Takes plan contents taken wrote failed writes counts op o old old) (sym e) refl
 
   module _ (b : Block) (is : block ≡ Some b) where
     -- where it is no task
-    pub kept_other : counts ≡ false → Takes plan contents taken wrote failed counts op block old old
+    pub kept_other : counts ≡ false → Takes plan contents taken wrote failed writes counts op block old old
     kept_other e =
-        let stays : TakesBlock plan contents taken wrote failed counts op b old old = record { other = λ _. refl; stopped = λ _. refl; takes = λ h runs. absurd (apart (sym e ∙ h)) } in
-        subst (λ o. Takes plan contents taken wrote failed counts op o old old) (sym is) stays
+        let stays : TakesBlock plan contents taken wrote failed writes counts op b old old = record { other = λ _. refl; stopped = λ _. refl; takes = λ h runs. absurd (apart (sym e ∙ h)) } in
+        subst (λ o. Takes plan contents taken wrote failed writes counts op o old old) (sym is) stays
 
     -- where the stage had stopped
-    pub kept_stopped : old.state ≢ Running → Takes plan contents taken wrote failed counts op block old old
+    pub kept_stopped : old.state ≢ Running → Takes plan contents taken wrote failed writes counts op block old old
     kept_stopped stopped =
-        let stays : TakesBlock plan contents taken wrote failed counts op b old old = record { other = λ _. refl; stopped = λ _. refl; takes = λ h runs. absurd (stopped runs) } in
-        subst (λ o. Takes plan contents taken wrote failed counts op o old old) (sym is) stays
+        let stays : TakesBlock plan contents taken wrote failed writes counts op b old old = record { other = λ _. refl; stopped = λ _. refl; takes = λ h runs. absurd (stopped runs) } in
+        subst (λ o. Takes plan contents taken wrote failed writes counts op o old old) (sym is) stays
 
     module _ (on : counts ≡ true) (runs : old.state ≡ Running) where
-      pub can_do : CanTake plan contents taken wrote failed counts op block old → CanDo first_tasks (IsBlockOf plan) (IsStageOf plan (stage_view contents wrote failed) taken) (IsAlone plan) Suits op old b
-      can_do h = let these : CanTake plan contents taken wrote failed counts op (Some b) old = subst (λ o. CanTake plan contents taken wrote failed counts op o old) is h in these on runs
+      pub can_do : CanTake plan contents taken wrote failed writes counts op block old → CanDo first_tasks (IsBlockOf plan) (IsStageOf plan (stage_view contents wrote failed writes) taken) (IsAlone plan) Suits op old b
+      can_do h = let these : CanTake plan contents taken wrote failed writes counts op (Some b) old = subst (λ o. CanTake plan contents taken wrote failed writes counts op o old) is h in these on runs
 
       -- where it goes on
-      pub taken_so : (new : Stage S K) (goes : Bool) → Does first_tasks (IsBlockOf plan) (IsStageOf plan (stage_view contents wrote failed) taken) (IsAlone plan) Suits op old b new goes → Takes plan contents taken wrote failed counts op block old new
+      pub taken_so : (new : Stage S K) (goes : Bool) → Does first_tasks (IsBlockOf plan) (IsStageOf plan (stage_view contents wrote failed writes) taken) (IsAlone plan) Suits op old b new goes → Takes plan contents taken wrote failed writes counts op block old new
       taken_so new goes does =
-          let takes : TakesBlock plan contents taken wrote failed counts op b old new = record { other = λ off. absurd (apart (sym off ∙ on)); stopped = λ stopped. absurd (stopped runs); takes = λ h k. (goes, does) } in
-          subst (λ o. Takes plan contents taken wrote failed counts op o old new) (sym is) takes
+          let takes : TakesBlock plan contents taken wrote failed writes counts op b old new = record { other = λ off. absurd (apart (sym off ∙ on)); stopped = λ stopped. absurd (stopped runs); takes = λ h k. (goes, does) } in
+          subst (λ o. Takes plan contents taken wrote failed writes counts op o old new) (sym is) takes
 
 -- ---- of which it is a task
 
@@ -85,31 +85,31 @@ tells_all plan tree s (op ∷ ops) (a ∷ qs) (e ∷ es) is t = (t.0 ∙ ap (λ 
 
 -- ---- the first and the others
 
-module _ {O S K : Type 0} (plan : O → Tree) (contents : S → Kept) (taken : O → S → Input → Type 0) (wrote : K → Option (List ℕ)) (failed : K → ℕ) (block : Option Block) where
+module _ {O S K : Type 0} (plan : O → Tree) (contents : S → Kept) (taken : O → S → Input → Type 0) (wrote : K → Option (List ℕ)) (failed writes : K → ℕ) (block : Option Block) where
   abbrev CanAll : List O → List Bool → List (Member (Stage S K)) → Type 0
-  CanAll ops es ms = (s : Sizes) × AllZip (Tells plan s) ops es × CanTakeEach plan contents taken wrote failed s block ops ms
+  CanAll ops es ms = (s : Sizes) × AllZip (Tells plan s) ops es × CanTakeEach plan contents taken wrote failed writes s block ops ms
 
   abbrev TakesAll : List O → List Bool → List (Member (Stage S K)) → List (Member (Stage S K)) → Type 0
-  TakesAll ops es ms ns = (s : Sizes) → AllZip (Tells plan s) ops es → TakesEach plan contents taken wrote failed s block ops ms ns
+  TakesAll ops es ms ns = (s : Sizes) → AllZip (Tells plan s) ops es → TakesEach plan contents taken wrote failed writes s block ops ms ns
 
   module _ (op : O) (ops all : List O) (e : Bool) (es every : List Bool) (m : Member (Stage S K)) (ms some : List (Member (Stage S K))) (all_is : all ≡ op ∷ ops) (every_is : every ≡ e ∷ es) (some_is : some ≡ m ∷ ms) where
     told : (s : Sizes) → AllZip (Tells plan s) all every → AllZip (Tells plan s) (op ∷ ops) (e ∷ es)
     told s t = transport (λ i. AllZip (Tells plan s) (all_is i) (every_is i)) t
 
-    can : (s : Sizes) → CanTakeEach plan contents taken wrote failed s block all some → CanTakeEach plan contents taken wrote failed s block (op ∷ ops) (m ∷ ms)
-    can s h = transport (λ i. CanTakeEach plan contents taken wrote failed s block (all_is i) (some_is i)) h
+    can : (s : Sizes) → CanTakeEach plan contents taken wrote failed writes s block all some → CanTakeEach plan contents taken wrote failed writes s block (op ∷ ops) (m ∷ ms)
+    can s h = transport (λ i. CanTakeEach plan contents taken wrote failed writes s block (all_is i) (some_is i)) h
 
-    pub first_can : CanAll all every some → CanTake plan contents taken wrote failed e op block m.stage
-    first_can (s, t, h) = subst (λ b. CanTake plan contents taken wrote failed b op block m.stage) (sym (told s t).0) (can s h).0
+    pub first_can : CanAll all every some → CanTake plan contents taken wrote failed writes e op block m.stage
+    first_can (s, t, h) = subst (λ b. CanTake plan contents taken wrote failed writes b op block m.stage) (sym (told s t).0) (can s h).0
 
     pub others_can : CanAll all every some → CanAll ops es ms
     others_can (s, t, h) = (s, (told s t).1, (can s h).1)
 
-    pub takes_more : (n : Member (Stage S K)) (ns : List (Member (Stage S K))) → Takes plan contents taken wrote failed e op block m.stage n.stage → TakesAll ops es ms ns → TakesAll all every some (n ∷ ns)
+    pub takes_more : (n : Member (Stage S K)) (ns : List (Member (Stage S K))) → Takes plan contents taken wrote failed writes e op block m.stage n.stage → TakesAll ops es ms ns → TakesAll all every some (n ∷ ns)
     takes_more n ns one more s t =
         let these = told s t in
-        let first : Takes plan contents taken wrote failed (end_counts (plan op) s) op block m.stage n.stage = subst (λ b. Takes plan contents taken wrote failed b op block m.stage n.stage) these.0 one in
-        transport (λ i. TakesEach plan contents taken wrote failed s block (sym all_is i) (sym some_is i) (n ∷ ns)) (first, more s these.1)
+        let first : Takes plan contents taken wrote failed writes (end_counts (plan op) s) op block m.stage n.stage = subst (λ b. Takes plan contents taken wrote failed writes b op block m.stage n.stage) these.0 one in
+        transport (λ i. TakesEach plan contents taken wrote failed writes s block (sym all_is i) (sym some_is i) (n ∷ ns)) (first, more s these.1)
 
   pub takes_none : (ops : List O) (es : List Bool) (ms : List (Member (Stage S K))) → length ops ≡ 0 → length ms ≡ length ops → TakesAll ops es ms ms
   takes_none [] es [] none many s t = tt
@@ -128,7 +128,7 @@ module _ {O S K : Type 0} (plan : O → Tree) (contents : S → Kept) (taken : O
   takes_nowhere ops es (m ∷ ms) none many s t = absurd (omega (arith, none))
 
   -- as many stay
-  pub takes_long : (s : Sizes) (ops : List O) (ms ns : List (Member (Stage S K))) → TakesEach plan contents taken wrote failed s block ops ms ns → length ns ≡ length ms
+  pub takes_long : (s : Sizes) (ops : List O) (ms ns : List (Member (Stage S K))) → TakesEach plan contents taken wrote failed writes s block ops ms ns → length ns ≡ length ms
   takes_long s [] [] [] t = refl
   takes_long s [] [] (n ∷ ns) t = absurd t
   takes_long s [] (m ∷ ms) ns t = absurd t

@@ -2,7 +2,7 @@
 use Rattle.std.proofs.Common.{◌≡◌, ◌≢◌, ℕ, ◌≤◌, List, [], ◌∷◌, length, map, refl, ◌∙◌, ap, subst, arith}
 use Rattle.std.specs.Prelude.{Option, Some, None, IfSome, IsSome, option_map, option_and_then}
 use Rattle.saber_io.specs.Outside.{left_before}
-use Rattle.saber_plan.specs.Outputs.{Rose, appended_text, appended-none}
+use Rattle.saber_plan.specs.Outputs.{raised_by, Rose, appended_text, appended-none}
 use Rattle.saber_plan.specs.Sizes.{FileLimits, limits_of}
 use Rattle.saber_plan.specs.declared.rows.Side.{Side}
 use Rattle.saber_plan.specs.declared.sizes.Sizes.{Sizes}
@@ -35,19 +35,19 @@ use Rattle.saber_plan.specs.declared.ends.RunEnd.{RunEnd}
 use Rattle.saber_plan.specs.declared.ends.RunEnd.TheVariants.{ReadFault, WriteFault, NoMemory}
 use Rattle.saber_engine.specs.Sources.{told_by}
 use Rattle.saber_plan.specs.Files.{input_of}
-use Rattle.saber_plan.specs.Runs.{Gives, IsClean}
+use Rattle.saber_plan.specs.Runs.{Gives, IsClean, writes_over}
 use Rattle.saber_engine.specs.Gives.{ReadsWhole}
 use Rattle.saber_engine.specs.Endings.{end_of}
 use Rattle.saber_engine.specs.Supplying.{HasGiven, first_told}
 use Rattle.saber_engine.proofs.Counts.{none_same}
 use Rattle.saber_engine.proofs.Assembled.{op_is}
 use Rattle.saber_engine.proofs.Reaches.{by_fault, clean_end, lack_not_write}
-use Rattle.saber_engine.proofs.Comings.{GivenBy, Came, came_to, gives_nothing}
+use Rattle.saber_engine.proofs.Comings.{GivenBy, Came, came_to, gives_nothing, writes_nothing}
 
 -- ---- what a run comes to
 
 -- over inputs that had so much left and such counts of faults, and a sink that had written so much and had such a count
-pub record Done (q : Tree) (s : Sizes) (had has : Lefts) (before now : List ℕ) (w : Option (List ℕ)) (f : ℕ) (end : RunEnd) (tasks : ℕ) (written : Option (List ℕ)) (faults : ℕ) : Type 0 where
+pub record Done (q : Tree) (s : Sizes) (had has : Lefts) (before now : List ℕ) (w : Option (List ℕ)) (f times : ℕ) (end : RunEnd) (tasks : ℕ) (written : Option (List ℕ)) (faults count : ℕ) : Type 0 where
   pub out : List ℕ
   pub written_is : written ≡ appended_text w out
   pub gives : (files : List (List ℕ)) → Suits (fresh q (limits_of s)) had → had ≡ map Some files → Gives q s.task s.ring s.flush (input_of q (limits_of s) files) end tasks out
@@ -58,10 +58,11 @@ pub record Done (q : Tree) (s : Sizes) (had has : Lefts) (before now : List ℕ)
   pub write_good : end ≢ WriteFault → faults ≡ f
   pub reads : NoneFell before now
   pub writes : f ≤ faults
+  pub one_write : (files : List (List ℕ)) → Suits (fresh q (limits_of s)) had → had ≡ map Some files → count ≡ raised_by times (writes_over q s files end tasks)
 
-module _ {O S K : Type 0} (plan : O → Tree) (contents : S → Kept) (taken : O → S → Input → Type 0) (wrote : K → Option (List ℕ)) (failed : K → ℕ)
-    (op : O) (s : Sizes) (w : Option (List ℕ)) (f : ℕ) (had has : Lefts) (before now : List ℕ) (c : Cutter) (k : Keeper) (end : Option End) (stage : Stage S K) (fed : Dispatched)
-    (r : RunsTo (IsTold plan) first_tasks (IsStageOf plan (stage_view contents wrote failed) taken) (HasGiven plan s had has before now c k end) (IsSome end) (first_told op s.task w f) stage fed) where
+module _ {O S K : Type 0} (plan : O → Tree) (contents : S → Kept) (taken : O → S → Input → Type 0) (wrote : K → Option (List ℕ)) (failed writes : K → ℕ)
+    (op : O) (s : Sizes) (w : Option (List ℕ)) (f times : ℕ) (had has : Lefts) (before now : List ℕ) (c : Cutter) (k : Keeper) (end : Option End) (stage : Stage S K) (fed : Dispatched)
+    (r : RunsTo (IsTold plan) first_tasks (IsStageOf plan (stage_view contents wrote failed writes) taken) (HasGiven plan s had has before now c k end) (IsSome end) (first_told op s.task w f times) stage fed) where
   abbrev q : Tree
   q = plan op
 
@@ -69,13 +70,13 @@ module _ {O S K : Type 0} (plan : O → Tree) (contents : S → Kept) (taken : O
   all = told_input r.told
 
   cuts : Cuts q s had has c all
-  cuts = subst (λ o. Cuts (plan o) s had has c all) (op_is plan contents taken wrote failed op s.task w f (HasGiven plan s had has before now c k end) (IsSome end) stage fed r) r.is_given.cuts
+  cuts = subst (λ o. Cuts (plan o) s had has c all) (op_is plan contents taken wrote failed writes op s.task w f times (HasGiven plan s had has before now c k end) (IsSome end) stage fed r) r.is_given.cuts
 
   given_by : GivenBy s c end all r.count
   given_by = record { size = cuts.sizes.task.0; count = r.is_given.count ∙ cuts.count; ended = r.is_given.ended }
 
-  came : Came q s c end all stage.state fed.over stage.k w (wrote stage.sink) f (failed stage.sink)
-  came = came_to plan contents taken wrote failed op s w f (HasGiven plan s had has before now c k end) (IsSome end) c end stage fed r given_by
+  came : Came q s c end all stage.state fed.over stage.k w (wrote stage.sink) f (failed stage.sink) times (writes stage.sink)
+  came = came_to plan contents taken wrote failed writes op s w f times (HasGiven plan s had has before now c k end) (IsSome end) c end stage fed r given_by
 
   told_so : (files : List (List ℕ)) → Suits (fresh q (limits_of s)) had → had ≡ map Some files → telling.AreTasks q s c all (input_of q (limits_of s) files)
   told_so files suits e = blocks_are_tasks q s files has c all (subst (Suits (fresh q (limits_of s))) e suits) (subst (λ l. Cuts q s l has c all) e cuts)
@@ -87,7 +88,7 @@ module _ {O S K : Type 0} (plan : O → Tree) (contents : S → Kept) (taken : O
       record { taken = x.taken; left = x.left; tasks_are = let k = came.all_behind side e in omega (arith, x.count, k) }
 
   -- the run is over
-  pub done : Done q s had has before now w f (end_of stage.state fed.over end) stage.k (wrote stage.sink) (failed stage.sink)
+  pub done : Done q s had has before now w f times (end_of stage.state fed.over end) stage.k (wrote stage.sink) (failed stage.sink) (writes stage.sink)
   done = record {
     out = came.out;
     written_is = came.written_is;
@@ -99,6 +100,7 @@ module _ {O S K : Type 0} (plan : O → Tree) (contents : S → Kept) (taken : O
     write_good = came.write_good;
     reads = r.is_given.counted.fell;
     writes = came.writes;
+    one_write = λ files suits e. came.one_write (input_of q (limits_of s) files) (told_so files suits e);
   }
 
 -- ---- a run that had no memory to begin
@@ -106,8 +108,8 @@ module _ {O S K : Type 0} (plan : O → Tree) (contents : S → Kept) (taken : O
 no_fault : (side : Side) → NoMemory ≡ ReadFault side → ⊥
 no_fault side e = cc
 
-pub done_nothing : (q : Tree) → Fits (frame q) → (s : Sizes) (had : Lefts) (before : List ℕ) (w : Option (List ℕ)) (f : ℕ) → Done q s had had before before w f NoMemory 0 w f
-done_nothing q fits s had before w f = record {
+pub done_nothing : (q : Tree) → Fits (frame q) → (s : Sizes) (had : Lefts) (before : List ℕ) (w : Option (List ℕ)) (f times : ℕ) → Done q s had had before before w f times NoMemory 0 w f times
+done_nothing q fits s had before w f times = record {
   out = [];
   written_is = appended-none w;
   gives = λ files suits e. gives_nothing q fits s (input_of q (limits_of s) files);
@@ -118,6 +120,7 @@ done_nothing q fits s had before w f = record {
   write_good = λ _. refl;
   reads = none_same before;
   writes = omega arith;
+  one_write = λ files suits e. writes_nothing q s (input_of q (limits_of s) files) times;
 }
 
 -- ---- inputs

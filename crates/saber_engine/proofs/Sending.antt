@@ -14,4 +14,4 @@ pred_sync : IsSync (pred.the_field).row
 pred_sync = sync-Pred Box-sync (search (sendable, crosses) depth 40) (search (sendable, crosses) depth 40) Vec-sync
 
 pub plan_sync : IsSync plan.the_row
-plan_sync = search (sendable, crosses, aggregate_sync, pred_sync) depth 40
+plan_sync = search (sendable, crosses, aggregate_sync, pred_sync) depth 40 fits 20000

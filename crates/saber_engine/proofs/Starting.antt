@@ -42,8 +42,8 @@ unfolding Ordered
 fits_none q = record { rows = tt; ordered = tt; left = omega arith; right = omega arith }
 
 -- no block was given
-pub given_none : {O : Type 0} (plan : O → Tree) (op : O) (s : Sizes) (had : Lefts) (before : List ℕ) (w : Option (List ℕ)) (f : ℕ) (c : Cutter) (k : Keeper) → CutsNothing (plan op) s c → end_of c ≡ None → readings.Suits (fresh (plan op) (limits_of s)) had → k.kept ≡ None → CountsRows k (plan op) [] → HasGiven plan s had had before before c k None (first_told op s.task w f) 0
-given_none plan op s had before w f c k nothing open_still suits kept counts =
+pub given_none : {O : Type 0} (plan : O → Tree) (op : O) (s : Sizes) (had : Lefts) (before : List ℕ) (w : Option (List ℕ)) (f times : ℕ) (c : Cutter) (k : Keeper) → CutsNothing (plan op) s c → end_of c ≡ None → readings.Suits (fresh (plan op) (limits_of s)) had → k.kept ≡ None → CountsRows k (plan op) [] → HasGiven plan s had had before before c k None (first_told op s.task w f times) 0
+given_none plan op s had before w f times c k nothing open_still suits kept counts =
     let cuts : Cuts (plan op) s had had c (going_on []) = nothing had suits in
     let few : div_ceil 0 s.task ≤ 0 = tasks_have_rows s.task 0 cuts.sizes.task.0 in
     record {
@@ -57,21 +57,21 @@ given_none plan op s had before w f c k nothing open_still suits kept counts =
       counted = record { fell = none_same before; good = λ _. refl; cause = λ side i. absurd (none_some (ReadFault side) i) };
     }
 
-module _ {O S K : Type 0} (plan : O → Tree) (contents : S → Kept) (taken : O → S → Input → Type 0) (wrote : K → Option (List ℕ)) (failed : K → ℕ) (op : O) (n : ℕ) (stage : Stage S K) where
+module _ {O S K : Type 0} (plan : O → Tree) (contents : S → Kept) (taken : O → S → Input → Type 0) (wrote : K → Option (List ℕ)) (failed writes : K → ℕ) (op : O) (n : ℕ) (stage : Stage S K) where
   abbrev told : RunData O
-  told = first_told op n (wrote stage.sink) (failed stage.sink)
+  told = first_told op n (wrote stage.sink) (failed stage.sink) (writes stage.sink)
 
   -- a run begins with a new stage
   pub begins : Fits (frame (plan op)) → 1 ≤ n → (sink : K) → stage.sink ≡ sink → stage.k ≡ 0 → stage.state ≡ Running
-      → ((m : ℕ) (r : Input) → Tasks (plan op) m r → Keeps (plan op) m r (record { written = wrote sink; faults = failed sink }) (taken op stage.store) (stage_view contents wrote failed stage))
+      → ((m : ℕ) (r : Input) → Tasks (plan op) m r → Keeps (plan op) m r (record { written = wrote sink; faults = failed sink; writes = writes sink }) (taken op stage.store) (stage_view contents wrote failed writes stage))
       → (given : RunData O → ℕ → Type 0) → given told 0
-      → BeginsRun (IsTold plan) (IsStageOf plan (stage_view contents wrote failed) taken) (Suits op) given stage (Some told)
+      → BeginsRun (IsTold plan) (IsStageOf plan (stage_view contents wrote failed writes) taken) (Suits op) given stage (Some told)
   begins fits some sink sink_is no_task running keeps given is =
       let t : Tasks (plan op) n (going_on []) = record { windows = fits; fits = fits_none (plan op); size = some } in (
         record { tasks = t; whole = no_tasks_no_rows n (going_on []) },
         record {
           behind = no_task;
-          keeps = subst (λ k. Keeps (plan op) n (going_on []) (record { written = wrote k; faults = failed k }) (taken op stage.store) (stage_view contents wrote failed stage)) (sym sink_is) (keeps n (going_on []) t);
+          keeps = subst (λ k. Keeps (plan op) n (going_on []) (record { written = wrote k; faults = failed k; writes = writes k }) (taken op stage.store) (stage_view contents wrote failed writes stage)) (sym sink_is) (keeps n (going_on []) t);
           runs = λ _. running;
           stops = λ e. absurd (not_both e);
         },

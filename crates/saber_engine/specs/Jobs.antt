@@ -37,19 +37,19 @@ pub record KeepsNone (q : Tree) (k : Keeper) : Type 0 where
   pub kept : k.kept ≡ None
   pub counted : CountsRows k q []
 
-module _ {O S K : Type 0} (plan : O → Tree) (contents : S → Kept) (taken : O → S → Input → Type 0) (written : K → Option (List ℕ)) (faults : K → ℕ) where
+module _ {O S K : Type 0} (plan : O → Tree) (contents : S → Kept) (taken : O → S → Input → Type 0) (written : K → Option (List ℕ)) (faults writes : K → ℕ) where
   -- a member that goes on, with this sink, whose stage has no task behind it
   pub record Stands (op : O) (sink : K) (m : Member (Stage S K)) : Type 0 where
     pub goes : m.goes ≡ true
     pub sink_is : m.stage.sink ≡ sink
     pub none : m.stage.k ≡ 0
     pub runs : m.stage.state ≡ Running
-    pub keeps : BeginsRuns plan contents taken written faults op sink m.stage
+    pub keeps : BeginsRuns plan contents taken written faults writes op sink m.stage
 
-module _ {O S K : Type 0} (size : ℕ) (written : K → Option (List ℕ)) (faults : K → ℕ) where
+module _ {O S K : Type 0} (size : ℕ) (written : K → Option (List ℕ)) (faults writes : K → ℕ) where
   -- the data of one before a block is filled, and those of all
   abbrev pub base_of : O → Member (Stage S K) → RunData O
-  base_of op m = first_told op size (written m.stage.sink) (faults m.stage.sink)
+  base_of op m = first_told op size (written m.stage.sink) (faults m.stage.sink) (writes m.stage.sink)
 
   abbrev pub bases : List O → List (Member (Stage S K)) → List (RunData O)
   bases [] ms = []

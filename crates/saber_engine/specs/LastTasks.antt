@@ -30,18 +30,18 @@ ComesLast c over (Some b) = (over ≡ AllGiven) × (is_end_due c ≡ true) × En
 abbrev pub Tells : {O : Type 0} → (O → Tree) → Sizes → O → Bool → Type 0
 Tells plan s op counts = counts ≡ end_counts (plan op) s
 
-module _ {O S K : Type 0} (plan : O → Tree) (contents : S → Kept) (has_taken : O → S → Input → Type 0) (written : K → Option (List ℕ)) (faults : K → ℕ) where
+module _ {O S K : Type 0} (plan : O → Tree) (contents : S → Kept) (has_taken : O → S → Input → Type 0) (written : K → Option (List ℕ)) (faults writes : K → ℕ) where
   module _ (counts : Bool) (op : O) where
     -- where it is a task, and the stage goes on, it is the next one
     abbrev pub CanTake : Option Block → Stage S K → Type 0
     CanTake None stage = Unit {0}
-    CanTake (Some b) stage = counts ≡ true → stage.state ≡ Running → CanDo first_tasks (IsBlockOf plan) (IsStageOf plan (stage_view contents written faults) has_taken) (IsAlone plan) Suits op stage b
+    CanTake (Some b) stage = counts ≡ true → stage.state ≡ Running → CanDo first_tasks (IsBlockOf plan) (IsStageOf plan (stage_view contents written faults writes) has_taken) (IsAlone plan) Suits op stage b
 
     -- then it is behind the stage, or stopped it; and any other stage stays
     pub record TakesBlock (b : Block) (old new : Stage S K) : Type 0 where
       pub other : counts ≡ false → new ≡ old
       pub stopped : old.state ≢ Running → new ≡ old
-      pub takes : counts ≡ true → old.state ≡ Running → (goes : Bool) × Does first_tasks (IsBlockOf plan) (IsStageOf plan (stage_view contents written faults) has_taken) (IsAlone plan) Suits op old b new goes
+      pub takes : counts ≡ true → old.state ≡ Running → (goes : Bool) × Does first_tasks (IsBlockOf plan) (IsStageOf plan (stage_view contents written faults writes) has_taken) (IsAlone plan) Suits op old b new goes
 
     abbrev pub Takes : Option Block → Stage S K → Stage S K → Type 0
     Takes None old new = new ≡ old

@@ -10,15 +10,16 @@ use Rattle.saber_dispatch.specs.declared.inputs.Inputs.{Inputs}
 use Rattle.saber_engine.specs.declared.ends.Ran.{Ran}
 use Rattle.saber_plan.specs.declared.ends.RunEnd.TheVariants.{AllRead, ReadFault, WriteFault}
 use Rattle.saber_engine.specs.Sources.{each_input, told_by, RoseAt, NoneFell, GaveAll}
-use Rattle.saber_engine.specs.Gives.{GivesTold, LeavesWhole}
+use Rattle.saber_engine.specs.Gives.{GivesTold, WritesTold, LeavesWhole}
 use Rattle.saber_plan.specs.Runs.{IsClean}
-use Rattle.saber_engine.specs.FedRuns.{GivesFed, CutLeavesWhole}
+use Rattle.saber_engine.specs.FedRuns.{GivesFed, WritesFed, CutLeavesWhole}
 use Rattle.saber_engine.specs.Endings.{MayStop}
 
-module _ {S K : Type 0} (left : S → Option (List ℕ)) (faults : S → ℕ) (written : K → Option (List ℕ)) (failed : K → ℕ) where
+module _ {S K : Type 0} (left : S → Option (List ℕ)) (faults : S → ℕ) (written : K → Option (List ℕ)) (failed made : K → ℕ) where
   -- over inputs
   pub record RunsPlan (q : Tree) (s : Sizes) (had has : Inputs S) (sink : K) (ran : Ran K) : Type 0 where
     pub gives : GivesTold q s (told_by left had) (written sink) (written ran.sink) ran.end ran.tasks
+    pub one_write : WritesTold q s (told_by left had) (made sink) (made ran.sink) ran.end ran.tasks
     pub whole : LeavesWhole q s (each_input left had) (each_input left has) ran.end ran.tasks
     pub takes : (taken : List (List ℕ)) × GaveAll (each_input left had) taken (each_input left has)
     pub read : (side : Side) → ran.end ≡ ReadFault side → RoseAt side (each_input faults had) (each_input faults has)
@@ -29,10 +30,11 @@ module _ {S K : Type 0} (left : S → Option (List ℕ)) (faults : S → ℕ) (w
     pub writes : failed sink ≤ failed ran.sink
     pub stopped : MayStop ran.end ran.stopped
 
-module _ {F K : Type 0} (taken : F → List ℕ) (mark : F → Option EndMark) (faults : F → ℕ) (written : K → Option (List ℕ)) (failed : K → ℕ) where
+module _ {F K : Type 0} (taken : F → List ℕ) (mark : F → Option EndMark) (faults : F → ℕ) (written : K → Option (List ℕ)) (failed made : K → ℕ) where
   -- over a feed
   pub record RunsFed (q : Tree) (s : Sizes) (had has : F) (sink : K) (ran : Ran K) : Type 0 where
     pub gives : GivesFed q s (taken has) (mark has) (written sink) (written ran.sink) ran.end ran.tasks
+    pub one_write : WritesFed q s (taken has) (mark has) (made sink) (made ran.sink) ran.end ran.tasks
     pub whole : CutLeavesWhole q s (taken has) ran.end ran.tasks
     pub all : ran.end ≡ AllRead → mark has ≡ Some marks.End
     pub cut : (side : Side) → ran.end ≡ ReadFault side → mark has ≡ Some marks.Cut

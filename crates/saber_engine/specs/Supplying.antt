@@ -37,8 +37,16 @@ pub record HasGiven {O : Type 0} (plan : O → Tree) (s : Sizes) (had has : Left
   pub counted : AreCounted end before now
 
 -- the data before a block is filled
-abbrev pub first_told : {O : Type 0} → O → ℕ → Option (List ℕ) → ℕ → RunData O
-first_told operator size written faults = record { operator = operator; size = size; written = written; faults = faults; rows = []; ended = false }
+abbrev pub first_told : {O : Type 0} → O → ℕ → Option (List ℕ) → ℕ → ℕ → RunData O
+first_told operator size written faults writes = record {
+  operator = operator;
+  size = size;
+  written = written;
+  faults = faults;
+  writes = writes;
+  rows = [];
+  ended = false;
+}
 
 -- where the blocks of inputs stand: what each input has left, and its count of faults; the cutter, and what is kept for the next block; and
 -- how the blocks ended, once they did

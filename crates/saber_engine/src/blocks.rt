@@ -1,6 +1,5 @@
 // The blocks of a query's inputs, as the tasks of a run.
 ghost use Rattle.std.specs.Prelude.{◌≡◌, ◌≢◌, ℕ, List, [], None, IfOk, IsSome, false};
-ghost use Rattle.saber_plan.specs.Checked.{IsChecked};
 ghost use Rattle.saber_plan.specs.Sizes.{SizesFit};
 ghost use Rattle.saber_plan.specs.Trees.{tree_of};
 ghost use Rattle.saber_plan.specs.declared.sizes.Sizes.{Sizes};
@@ -48,9 +47,8 @@ pub(crate) struct Blocks<S, J> {
 }
 
 impl<S, J> Blocks<S, J> {
-    /// Those of a checked plan's inputs, of which none was given.
+    /// Those of a plan's inputs, of which none was given.
     pub(crate) fn new(alloc: Global, plan: &Plan, sizes: &Sizes) -> Result<Blocks<S, J>, NoMemory>
-        requires checked { IsChecked (tree_of plan.now) }
         requires sizes { SizesFit sizes.now }
         ensures cuts { IfOk result (λ b. CutsNothing (tree_of plan.now) sizes.now b.cutter) }
         ensures goes { IfOk result (λ b. end_of b.cutter ≡ None) }

@@ -1,6 +1,5 @@
 // The blocks of a feed, as the tasks of a run.
 ghost use Rattle.std.specs.Prelude.{◌≡◌, ℕ, [], ◌++◌, length, Some, None, IfOk, IsSome, false};
-ghost use Rattle.saber_plan.specs.Checked.{IsChecked};
 ghost use Rattle.saber_plan.specs.Sizes.{SizesFit};
 ghost use Rattle.saber_plan.specs.Trees.{tree_of};
 ghost use Rattle.saber_dispatch.specs.Feeding.{CutsNothingFed, fed_end_of};
@@ -46,13 +45,12 @@ pub(crate) struct FedBlocks<F, J> {
 }
 
 impl<F, J> FedBlocks<F, J> {
-    /// Those of a feed for a checked plan of one stream, of which none was given.
+    /// Those of a feed for a plan of one stream, of which none was given.
     pub(crate) fn new(
         alloc: Global,
         plan: &Plan,
         sizes: &Sizes,
     ) -> Result<FedBlocks<F, J>, NoMemory>
-        requires checked { IsChecked (tree_of plan.now) }
         requires one { length (tree_of plan.now).streams ≡ 1 }
         requires sizes { SizesFit sizes.now }
         ensures cuts { IfOk result (λ b. CutsNothingFed (tree_of plan.now) sizes.now b.cutter) }

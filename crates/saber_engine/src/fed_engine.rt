@@ -1,14 +1,13 @@
-// The engine over a feed: a checked plan of one stream.
+// The engine over a feed: a plan of one stream.
 ghost use Rattle.std.specs.Prelude.{◌≡◌, ◌≢◌, ◌≤◌, Some, length};
 ghost use Rattle.saber_plan.specs.Outputs.{Rose};
 ghost use Rattle.saber_io.specs.declared.feeds.EndMark.{EndMark};
 ghost use Rattle.saber_plan.specs.declared.rows.Side.{Side};
 ghost use Rattle.saber_plan.specs.Trees.{tree_of};
-ghost use Rattle.saber_plan.specs.Checked.{IsChecked};
 ghost use Rattle.saber_plan.specs.Sizes.{SizesFit};
 ghost use Rattle.saber_plan.specs.declared.ends.RunEnd.{RunEnd};
 ghost use Rattle.saber_plan.specs.Runs.{IsClean};
-ghost use Rattle.saber_engine.specs.FedRuns.{GivesFed, CutLeavesWhole};
+ghost use Rattle.saber_engine.specs.FedRuns.{GivesFed, WritesFed, CutLeavesWhole};
 ghost use Rattle.saber_engine.specs.Endings.{MayStop};
 
 use crate::ends::Ran;
@@ -22,7 +21,7 @@ use std::marker::Brand;
 use std::sync::Wait;
 use std::thread::Threads;
 
-/// Runs a checked plan of one stream over a feed, of which nothing was given yet. Where the feed
+/// Runs a plan of one stream over a feed, of which nothing was given yet. Where the feed
 /// has nothing as yet, this thread works with the others, and pauses where there is no work.
 pub fn engine_fed<F: Feed, K: Sink + Send, G: Gate + Sync, R: Threads + Wait + Sync>(
     rt: &R,
@@ -33,7 +32,6 @@ pub fn engine_fed<F: Feed, K: Sink + Send, G: Gate + Sync, R: Threads + Wait + S
     sizes: &Sizes,
     gate: &G,
 ) -> Ran<K>
-    requires checked { IsChecked (tree_of plan.now) }
     requires one { length (tree_of plan.now).streams ≡ 1 }
     requires sizes { SizesFit sizes.now }
     requires fresh { F.waiting feed.old ≡ F.taken feed.old }
@@ -42,6 +40,9 @@ pub fn engine_fed<F: Feed, K: Sink + Send, G: Gate + Sync, R: Threads + Wait + S
     // ended: what goes out is the text of the first tasks' rows; with all read, or a line refused,
     // of all tasks, and of those before one that is too wide for the ring.
     ensures gives { GivesFed (tree_of plan.now) sizes.now (F.taken feed.new) (F.mark feed.new) (K.written sink) (K.written result.sink) result.end result.tasks }
+
+    // There is one write for each of them that has text, and one more where it failed.
+    ensures one_write { WritesFed (tree_of plan.now) sizes.now (F.taken feed.new) (F.mark feed.new) (K.writes sink) (K.writes result.sink) result.end result.tasks }
 
     // A feed that is cut off leaves at least every whole task assembled of what was taken.
     ensures whole { CutLeavesWhole (tree_of plan.now) sizes.now (F.taken feed.new) result.end result.tasks }

@@ -1,7 +1,6 @@
 // A run of one operator over a feed.
 ghost use Rattle.std.specs.Prelude.{◌≡◌, length};
 ghost use Rattle.saber_plan.specs.Trees.{tree_of};
-ghost use Rattle.saber_plan.specs.Checked.{IsChecked};
 ghost use Rattle.saber_plan.specs.Sizes.{SizesFit};
 ghost use Rattle.saber_engine.specs.Runs.{RunsFed};
 
@@ -18,7 +17,7 @@ use std::marker::Brand;
 use std::sync::Wait;
 use std::thread::Threads;
 
-/// Runs the operator of a checked plan of one stream over a feed. `J` names what there was when it
+/// Runs the operator of a plan of one stream over a feed. `J` names what there was when it
 /// began.
 pub(crate) fn run_fed<
     F: Feed,
@@ -42,13 +41,13 @@ where
     O::Piece: Send,
     O::Store: Send,
     requires plan { O.plan operator.now ≡ tree_of plan.now }
-    requires checked { IsChecked (tree_of plan.now) }
     requires one { length (tree_of plan.now).streams ≡ 1 }
     requires sizes { SizesFit sizes.now }
     requires fresh { F.waiting feed.old ≡ F.taken feed.old }
     requires begins { (J.sizes ≡ sizes.now) × (J.faults ≡ F.faults feed.old) }
-    ensures { RunsFed F.taken F.mark F.faults K.written K.faults (tree_of plan.now) sizes.now feed.old feed.new sink result }
+    ensures { RunsFed F.taken F.mark F.faults K.written K.faults K.writes (tree_of plan.now) sizes.now feed.old feed.new sink result }
 {
+    let ring = ring_size(plan, sizes);
     let stage = Stage::new(alloc, operator, sink);
     let Ok(begun) = FedBlocks::<F, J>::new(alloc, plan, sizes) else {
         return ended(stage, Over::NoMemory, None);
@@ -62,10 +61,7 @@ where
         &mut blocks,
         feed,
         stage,
-        &Sizes {
-            ring: ring_size(plan, sizes),
-            ..*sizes
-        },
+        &Sizes { ring, ..*sizes },
     );
     let end = blocks.let_go();
     match ran {

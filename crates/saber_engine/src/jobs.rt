@@ -89,7 +89,7 @@ fn begin_each<O: Operator, K: Sink>(
     requires many { length jobs.old.items ≡ length operators.now }
     requires none { (members.old.items ≡ []) × (deque_len members.old ≡ 0) }
     requires room { length operators.now ≤ deque_capacity members.old }
-    ensures stand { AllThree (λ op job m. Stands O.plan O.contents O.has_taken K.written K.faults op (sink_in job) m) operators.now jobs.old.items members.new.items }
+    ensures stand { AllThree (λ op job m. Stands O.plan O.contents O.has_taken K.written K.faults K.writes op (sink_in job) m) operators.now jobs.old.items members.new.items }
     ensures taken { deque_len jobs.new ≡ 0 }
     ensures len { deque_len members.new ≡ length operators.now }
     ensures room { deque_capacity members.new ≡ deque_capacity members.old }
@@ -118,7 +118,7 @@ pub(crate) fn begin_all<O: Operator, K: Sink>(
     requires many { length jobs.items ≡ length operators.now.list.items }
     requires none { (members.items ≡ []) × (deque_len members ≡ 0) }
     requires room { length operators.now.list.items ≤ deque_capacity members }
-    ensures stand { AllThree (λ op job m. Stands O.plan O.contents O.has_taken K.written K.faults op (sink_in job) m) operators.now.list.items jobs.entry.items result.items }
+    ensures stand { AllThree (λ op job m. Stands O.plan O.contents O.has_taken K.written K.faults K.writes op (sink_in job) m) operators.now.list.items jobs.entry.items result.items }
 {
     let mut jobs = VecDeque::from_vec(jobs);
     let mut members = members;

@@ -38,7 +38,6 @@ pub(crate) type AnyOperator<'p> = OneOf<OneOf<Selection<'p>, Grouping<'p>>, Join
 
 // The operator of a selection under a stream word.
 fn windowed_of(plan: &Plan) -> Windowed<'_>
-    requires checked { IsChecked (tree_of plan.now) }
     requires select { (tree_of plan.now).shape ≡ shapes.Select }
     requires word { IsSome (tree_of plan.now).word }
     ensures { of_one tree_of tree_of result ≡ tree_of plan.now }
@@ -52,7 +51,6 @@ fn windowed_of(plan: &Plan) -> Windowed<'_>
 
 // The operator of a selection.
 fn selection_of(plan: &Plan) -> Selection<'_>
-    requires checked { IsChecked (tree_of plan.now) }
     requires select { (tree_of plan.now).shape ≡ shapes.Select }
     ensures { of_one tree_of (of_one tree_of tree_of) result ≡ tree_of plan.now }
 {
@@ -64,7 +62,6 @@ fn selection_of(plan: &Plan) -> Selection<'_>
 
 // The operator of a group query.
 fn grouping_of(plan: &Plan) -> Grouping<'_>
-    requires checked { IsChecked (tree_of plan.now) }
     requires group { (tree_of plan.now).shape ≡ shapes.Group }
     ensures { of_one tree_of (of_one tree_of tree_of) result ≡ tree_of plan.now }
 {
@@ -77,7 +74,6 @@ fn grouping_of(plan: &Plan) -> Grouping<'_>
 
 // The operator of a join.
 fn joining_of(plan: &Plan) -> Joining<'_>
-    requires checked { IsChecked (tree_of plan.now) }
     requires join { (tree_of plan.now).shape ≡ shapes.Join }
     ensures { of_one tree_of tree_of result ≡ tree_of plan.now }
 {
@@ -90,7 +86,6 @@ fn joining_of(plan: &Plan) -> Joining<'_>
 
 /// The operator of a plan.
 pub(crate) fn operator_of(plan: &Plan) -> AnyOperator<'_>
-    requires checked { IsChecked (tree_of plan.now) }
     ensures { tree_by result ≡ tree_of plan.now }
 {
     match plan.shape() {

@@ -32,8 +32,8 @@ fn take_one<O: Operator, K: Pour>(
     member: &mut Member<Stage<O::Store, K>>,
     block: &Option<Block>,
 )
-    requires can { CanTake O.plan O.contents O.has_taken K.written K.faults counts operator.now block.now member.old.stage }
-    ensures takes { Takes O.plan O.contents O.has_taken K.written K.faults counts operator.now block.now member.old.stage member.new.stage }
+    requires can { CanTake O.plan O.contents O.has_taken K.written K.faults K.writes counts operator.now block.now member.old.stage }
+    ensures takes { Takes O.plan O.contents O.has_taken K.written K.faults K.writes counts operator.now block.now member.old.stage member.new.stage }
 {
     let Some(block) = block else {
         return;
@@ -59,8 +59,8 @@ fn take_each<O: Operator, K: Pour>(
     block: &Option<Block>,
 )
     requires many { length members.old ≡ length operators.now }
-    requires can { (s : Sizes) × AllZip (Tells O.plan s) operators.now counts.now × CanTakeEach O.plan O.contents O.has_taken K.written K.faults s block.now operators.now members.old }
-    ensures takes { (s : Sizes) → AllZip (Tells O.plan s) operators.now counts.now → TakesEach O.plan O.contents O.has_taken K.written K.faults s block.now operators.now members.old members.new }
+    requires can { (s : Sizes) × AllZip (Tells O.plan s) operators.now counts.now × CanTakeEach O.plan O.contents O.has_taken K.written K.faults K.writes s block.now operators.now members.old }
+    ensures takes { (s : Sizes) → AllZip (Tells O.plan s) operators.now counts.now → TakesEach O.plan O.contents O.has_taken K.written K.faults K.writes s block.now operators.now members.old members.new }
     ensures many { length members.new ≡ length members.old }
 {
     let Some((operator, others)) = operators.split_first() else {
@@ -85,8 +85,8 @@ pub(crate) fn take_last<O: Operator, K: Pour>(
     block: &Option<Block>,
 ) -> Vec<Member<Stage<O::Store, K>>>
     requires many { length members.items ≡ length operators.now.list.items }
-    requires can { (s : Sizes) × AllZip (Tells O.plan s) operators.now.list.items counts.now × CanTakeEach O.plan O.contents O.has_taken K.written K.faults s block.now operators.now.list.items members.items }
-    ensures takes { (s : Sizes) → AllZip (Tells O.plan s) operators.now.list.items counts.now → TakesEach O.plan O.contents O.has_taken K.written K.faults s block.now operators.now.list.items members.items result.items }
+    requires can { (s : Sizes) × AllZip (Tells O.plan s) operators.now.list.items counts.now × CanTakeEach O.plan O.contents O.has_taken K.written K.faults K.writes s block.now operators.now.list.items members.items }
+    ensures takes { (s : Sizes) → AllZip (Tells O.plan s) operators.now.list.items counts.now → TakesEach O.plan O.contents O.has_taken K.written K.faults K.writes s block.now operators.now.list.items members.items result.items }
 {
     let mut members = members;
     take_each::<O, K>(alloc, &operators.list, counts, &mut members, block);

@@ -13,7 +13,8 @@
 //! - Proved (`specs/Gives.antt`): over files that tell their bytes the sink holds the text of the
 //!   first tasks' rows: of all where all was read or a line refused, of those before the first task
 //!   that is too wide; after a failed read at least of every whole task; after a failed write a
-//!   front of the next task's text too. Every fault is real, and none is passed over. Over a feed
+//!   front of the next task's text too. There was one write for each of these tasks that has text,
+//!   and one more where it failed. Every fault is real, and none is passed over. Over a feed
 //!   the same holds for every file that goes on from what was taken (`specs/FedRuns.antt`). Of
 //!   several plans each has all that a run of it alone has.
 //! - Not claimed: time, progress of threads, or a cause for want of memory. Over one stream the

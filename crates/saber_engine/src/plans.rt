@@ -1,7 +1,6 @@
 // A run of one operator.
 ghost use Rattle.std.specs.Prelude.{◌≡◌, length};
 ghost use Rattle.saber_plan.specs.Trees.{tree_of};
-ghost use Rattle.saber_plan.specs.Checked.{IsChecked};
 ghost use Rattle.saber_plan.specs.Sizes.{SizesFit};
 ghost use Rattle.saber_engine.specs.Sources.{each_input};
 ghost use Rattle.saber_engine.specs.Runs.{RunsPlan};
@@ -20,7 +19,7 @@ use std::marker::Brand;
 use std::sync::Wait;
 use std::thread::Threads;
 
-/// Runs the operator of a checked plan over the plan's inputs. `J` names what there was when it
+/// Runs the operator of a plan over the plan's inputs. `J` names what there was when it
 /// began.
 pub(crate) fn run_plan<
     S: Source,
@@ -44,12 +43,12 @@ where
     O::Piece: Send,
     O::Store: Send,
     requires plan { O.plan operator.now ≡ tree_of plan.now }
-    requires checked { IsChecked (tree_of plan.now) }
     requires inputs { length (each_input S.left inputs.old) ≡ length (tree_of plan.now).streams }
     requires sizes { SizesFit sizes.now }
     requires begins { (J.sizes ≡ sizes.now) × (J.lefts ≡ each_input S.left inputs.old) × (J.faults ≡ each_input S.faults inputs.old) }
-    ensures { RunsPlan S.left S.faults K.written K.faults (tree_of plan.now) sizes.now inputs.old inputs.new sink result }
+    ensures { RunsPlan S.left S.faults K.written K.faults K.writes (tree_of plan.now) sizes.now inputs.old inputs.new sink result }
 {
+    let ring = ring_size(plan, sizes);
     let stage = Stage::new(alloc, operator, sink);
     let Ok(begun) = Blocks::<S, J>::new(alloc, plan, sizes) else {
         return ended(stage, Over::NoMemory, None);
@@ -63,10 +62,7 @@ where
         &mut blocks,
         inputs,
         stage,
-        &Sizes {
-            ring: ring_size(plan, sizes),
-            ..*sizes
-        },
+        &Sizes { ring, ..*sizes },
     );
     let end = blocks.let_go();
     match ran {

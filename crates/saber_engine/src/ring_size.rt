@@ -1,6 +1,7 @@
 // How many cells the ring of a run has.
 ghost use Rattle.std.specs.Prelude.{◌≡◌, ◌≢◌, ◌≤◌, ◌^◌, length};
 ghost use Rattle.saber_plan.specs.Trees.{tree_of};
+ghost use Rattle.saber_plan.specs.Checked.{IsChecked};
 ghost use Rattle.saber_plan.specs.Sizes.{SizesFit};
 
 use saber_plan::{Plan, Sizes};
@@ -26,6 +27,7 @@ pub(crate) fn near_size(sizes: &Sizes, threads: u32) -> u32
 pub(crate) fn ring_size(plan: &Plan, sizes: &Sizes) -> u32
     requires { SizesFit sizes.now }
     ensures within { (1 ≤ result) × (result ≤ 2 ^ 10) }
+    ensures checked { IsChecked (tree_of plan.now) }
     ensures all { length (tree_of plan.now).streams ≢ 1 → result ≡ sizes.now.ring }
 {
     if plan.streams().len() == 1 {

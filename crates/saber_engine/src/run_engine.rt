@@ -1,13 +1,12 @@
-// The engine: a checked plan over its inputs.
+// The engine: a plan over its inputs.
 ghost use Rattle.std.specs.Prelude.{◌≡◌, ◌≢◌, ◌≤◌, ℕ, List, length};
 ghost use Rattle.saber_plan.specs.Outputs.{Rose};
 ghost use Rattle.saber_plan.specs.declared.rows.Side.{Side};
 ghost use Rattle.saber_plan.specs.Trees.{tree_of};
-ghost use Rattle.saber_plan.specs.Checked.{IsChecked};
 ghost use Rattle.saber_plan.specs.Sizes.{SizesFit};
 ghost use Rattle.saber_plan.specs.declared.ends.RunEnd.{RunEnd};
 ghost use Rattle.saber_engine.specs.Sources.{each_input, told_by, RoseAt, NoneFell, GaveAll};
-ghost use Rattle.saber_engine.specs.Gives.{GivesTold, LeavesWhole};
+ghost use Rattle.saber_engine.specs.Gives.{GivesTold, WritesTold, LeavesWhole};
 ghost use Rattle.saber_plan.specs.Runs.{IsClean};
 ghost use Rattle.saber_engine.specs.Endings.{MayStop};
 
@@ -23,7 +22,7 @@ use std::marker::Brand;
 use std::sync::Wait;
 use std::thread::Threads;
 
-/// Runs a checked plan over its inputs: cuts the rows into tasks of `sizes.task` rows, has the
+/// Runs a plan over its inputs: cuts the rows into tasks of `sizes.task` rows, has the
 /// piece of each made by this thread and `sizes.threads` others round a ring of at most
 /// `sizes.ring` cells, and assembles the pieces in order; the text of each task goes out in one
 /// write. The sink may hold back what was written: it is told to let that go as each task is
@@ -37,13 +36,15 @@ pub fn engine_pouring<S: Source, K: Pour + Send, G: Gate + Sync, R: Threads + Wa
     sizes: &Sizes,
     gate: &G,
 ) -> Ran<K>
-    requires checked { IsChecked (tree_of plan.now) }
     requires inputs { length (each_input S.left inputs.old) ≡ length (tree_of plan.now).streams }
     requires sizes { SizesFit sizes.now }
 
     // What goes out is the text of the first tasks' rows; with all read, or a line refused, of all
     // tasks, and of those before one that is too wide for the ring.
     ensures gives { GivesTold (tree_of plan.now) sizes.now (told_by S.left inputs.old) (K.written sink) (K.written result.sink) result.end result.tasks }
+
+    // There is one write for each of them that has text, and one more where it failed.
+    ensures one_write { WritesTold (tree_of plan.now) sizes.now (told_by S.left inputs.old) (K.writes sink) (K.writes result.sink) result.end result.tasks }
 
     // A fault of reading leaves at least every whole task assembled of what was taken.
     ensures whole { LeavesWhole (tree_of plan.now) sizes.now (each_input S.left inputs.old) (each_input S.left inputs.new) result.end result.tasks }
@@ -79,13 +80,15 @@ pub fn engine<S: Source, K: Sink + Send, G: Gate + Sync, R: Threads + Wait + Syn
     sizes: &Sizes,
     gate: &G,
 ) -> Ran<K>
-    requires checked { IsChecked (tree_of plan.now) }
     requires inputs { length (each_input S.left inputs.old) ≡ length (tree_of plan.now).streams }
     requires sizes { SizesFit sizes.now }
 
     // What goes out is the text of the first tasks' rows; with all read, or a line refused, of all
     // tasks, and of those before one that is too wide for the ring.
     ensures gives { GivesTold (tree_of plan.now) sizes.now (told_by S.left inputs.old) (K.written sink) (K.written result.sink) result.end result.tasks }
+
+    // There is one write for each of them that has text, and one more where it failed.
+    ensures one_write { WritesTold (tree_of plan.now) sizes.now (told_by S.left inputs.old) (K.writes sink) (K.writes result.sink) result.end result.tasks }
 
     // A fault of reading leaves at least every whole task assembled of what was taken.
     ensures whole { LeavesWhole (tree_of plan.now) sizes.now (each_input S.left inputs.old) (each_input S.left inputs.new) result.end result.tasks }

@@ -54,7 +54,7 @@ pub fn engines<'p, S: Source, K: Pour + Send, G: Gate + Sync, R: Threads + Wait 
     requires threads { length jobs.items * sizes.now.threads ≤ 64 }
 
     // Of each query: all that is said of a run of it alone over the same input, into its own sink.
-    ensures each { IfOk result (λ rans. AllZip (λ job ran. RunsPlan S.left S.faults K.written K.faults (tree_in job) sizes.now inputs.old inputs.new (sink_in job) ran) jobs.entry.items rans.items) }
+    ensures each { IfOk result (λ rans. AllZip (λ job ran. RunsPlan S.left S.faults K.written K.faults K.writes (tree_in job) sizes.now inputs.old inputs.new (sink_in job) ran) jobs.entry.items rans.items) }
 
     // Before a row is read, memory may lack for all of them.
     ensures refused { IfErr result (λ back. (back ≡ jobs.entry) × (inputs.new ≡ inputs.old)) }

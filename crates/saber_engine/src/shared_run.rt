@@ -83,7 +83,7 @@ where
     requires goes_on { dealt.end ≡ None }
     requires none { (members.items ≡ []) × (deque_len members ≡ 0) × (rans.items ≡ []) × (deque_len rans ≡ 0) }
     requires room { (length jobs.items ≤ deque_capacity members) × (length jobs.items ≤ deque_capacity rans) }
-    ensures { AllZip (λ job ran. RunsPlan S.left S.faults K.written K.faults (tree_in job) sizes.now inputs.old inputs.new (sink_in job) ran) jobs.entry.items result.items }
+    ensures { AllZip (λ job ran. RunsPlan S.left S.faults K.written K.faults K.writes (tree_in job) sizes.now inputs.old inputs.new (sink_in job) ran) jobs.entry.items result.items }
 {
     let threads = sizes_for(sizes, jobs.as_slice().len());
     let members = begin_all(alloc, operators, jobs, members);
@@ -138,7 +138,7 @@ where
     requires sizes { SizesFit sizes.now }
     requires threads { length jobs.items * sizes.now.threads ≤ 64 }
     requires begins { (J.sizes ≡ without_end sizes.now) × (J.lefts ≡ each_input S.left inputs.old) × (J.faults ≡ each_input S.faults inputs.old) }
-    ensures each { IfOk result (λ rans. AllZip (λ job ran. RunsPlan S.left S.faults K.written K.faults (tree_in job) sizes.now inputs.old inputs.new (sink_in job) ran) jobs.entry.items rans.items) }
+    ensures each { IfOk result (λ rans. AllZip (λ job ran. RunsPlan S.left S.faults K.written K.faults K.writes (tree_in job) sizes.now inputs.old inputs.new (sink_in job) ran) jobs.entry.items rans.items) }
     ensures refused { IfErr result (λ back. (back ≡ jobs.entry) × (inputs.new ≡ inputs.old)) }
 {
     let Ok((members, rans)) = rooms(alloc, &jobs) else {

@@ -1,6 +1,7 @@
 // How a plan answers, which tells its operator.
 ghost use Rattle.std.specs.Prelude.{◌≡◌, [], Some};
 ghost use Rattle.saber_plan.specs.Trees.{tree_of};
+ghost use Rattle.saber_plan.specs.Checked.{IsChecked};
 ghost use Rattle.saber_plan.specs.Answers.{way, way_of};
 ghost use Rattle.saber_engine.specs.Ways.{way_by};
 
@@ -31,7 +32,8 @@ fn way_under(word: Word) -> Way
 
 /// The way of a plan.
 pub(crate) fn way_of(plan: &Plan) -> Way
-    ensures { way_by result ≡ way (tree_of plan.now) }
+    ensures way { way_by result ≡ way (tree_of plan.now) }
+    ensures checked { IsChecked (tree_of plan.now) }
 {
     match plan.partition() {
         [] => match plan.word() {

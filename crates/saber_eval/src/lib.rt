@@ -1,30 +1,34 @@
 //! Values of expressions and truth of predicates, over one row or over a pair of rows.
 //! Panes, partial answers, groups, joins and selections ask for them row by row.
 //!
-//! - Parts: `lib` (the calls), `values` (expressions), `predicates` (WHERE).
-//! - Calls: `value` and `holds` take an expression or a predicate and a row of the one stream,
-//!   `value2` and `holds2` a left and a right row; they give a number of 128 bits, or whether WHERE
-//!   holds.
+//! - Parts: `lib` (the calls), `values` (expressions), `predicates` (WHERE), `columns` (expressions
+//!   that are one column alone).
+//! - Calls: `value`, `holds` and `passes` take an expression, a predicate or a plan, and a row of
+//!   the one stream, `value2`, `holds2` and `passes2` a left and a right row; they give a number of
+//!   128 bits, or whether WHERE holds. `column_in` gives the column that an expression is.
 //! - Proved: they are the definitions of `saber_plan/specs/Values.antt`, without an error and
 //!   without memory. No value passes its expression's bound, nor `2^126`, and no step overflows.
 //! - What they require, that each column is there and nothing overflows, the check of a query has
-//!   made sure of: `one_stream` and `two_streams` of `proofs/FittingLaws.antt` hand it on to each
-//!   row, or pair, of the streams, in proofs above.
+//!   made sure of: `proofs/FittingLaws.antt` hands it on to each row of a group query and of a
+//!   selection, and to each pair of a join, in proofs above (`group_fits`, `selection_fits`,
+//!   `pair_fits`).
 //! - Limits: none of their own. Columns count from 0, and column 0 is the time.
 #![tactic(auto)]
 
 ghost use Rattle.std.specs.Prelude.{◌≡◌, ◌≤◌, ◌^◌, nat_abs, []};
-ghost use Rattle.saber_plan.specs.Trees.{tests_of};
+ghost use Rattle.saber_plan.specs.Trees.{tests_of, tree_of};
 ghost use Rattle.saber_plan.specs.Values as v;
 ghost use Rattle.saber_plan.specs.Bounds.{sum_bound};
-ghost use Rattle.saber_plan.specs.Checked.{ExprFits, SomeFit};
+ghost use Rattle.saber_plan.specs.Checked.{ExprFits, PredicateFits, SomeFit};
 ghost use Rattle.saber_eval.specs.Widths.{widths};
 
+mod columns;
 mod predicates;
 mod values;
 
+pub use columns::column_in;
 use saber_flat::RowRef;
-use saber_plan::{Expr, Pred};
+use saber_plan::{Expr, Plan, Pred};
 
 /// The value of an expression over a row of a query's one stream: whole numbers, exact. Columns
 /// count from 0, and column 0 is the timestamp. Without its sign it is at most the expression's
@@ -65,4 +69,28 @@ pub fn holds2(p: &Pred, left: &RowRef, right: &RowRef) -> bool
         (tests_of p.now) }
 {
     predicates::predicate_holds(p, left.values(), right.values())
+}
+
+/// Whether a row of a query's one stream passes WHERE. Where the query has none, each row does.
+#[inline(always)]
+pub fn passes(plan: &Plan, row: &RowRef) -> bool
+    requires { PredicateFits (widths row.now.values []) (tree_of plan.now).predicate }
+    ensures { result ≡ v.passes (tree_of plan.now).predicate row.now.values [] }
+{
+    match plan.predicate() {
+        Some(predicate) => holds(predicate, row),
+        None => true,
+    }
+}
+
+/// The same for a pair of a left and a right row.
+#[inline(always)]
+pub fn passes2(plan: &Plan, left: &RowRef, right: &RowRef) -> bool
+    requires { PredicateFits (widths left.now.values right.now.values) (tree_of plan.now).predicate }
+    ensures { result ≡ v.passes (tree_of plan.now).predicate left.now.values right.now.values }
+{
+    match plan.predicate() {
+        Some(predicate) => holds2(predicate, left, right),
+        None => true,
+    }
 }

@@ -1,5 +1,5 @@
 -- What a group query's plan says of its windows and of its rows.
-use Rattle.std.proofs.Common.{◌≡◌, [], subst, subst₂}
+use Rattle.std.proofs.Common.{◌≡◌, subst}
 use Rattle.saber_plan.specs.declared.rows.Row.{Row}
 use Rattle.saber_plan.specs.declared.rows.Side.TheVariants.{Left}
 use Rattle.saber_plan.specs.declared.plans.Plan.{Plan}
@@ -13,9 +13,6 @@ use Rattle.saber_plan.specs.GivenRows.{IsRowOf}
 use Rattle.saber_plan.specs.Facts.Rows.{is_left}
 use Rattle.saber_laws.specs.Plans.{OneWindow}
 use Rattle.saber_laws.proofs.CheckedLaws.{checked_fit, groups_have_one_window}
-use Rattle.saber_eval.specs.Widths.{widths}
-use Rattle.saber_eval.specs.Fitting.{PlanFits}
-use Rattle.saber_eval.proofs.FittingLaws.{one_stream as one_stream_fits}
 
 -- ---- windows
 
@@ -40,9 +37,3 @@ pub row_fits : (q : Tree) (r : Row) → IsChecked q → q.shape ≡ Group → Is
 row_fits q r checked group h =
     let w = groups_have_one_window q checked group in
     subst (λ side. RowFits side (columns_on q.streams side) r) (is_left q w.stream w.streams r h) h.fits
-
--- which the plan fits
-pub plan_fits : (q : Tree) (r : Row) → IsChecked q → q.shape ≡ Group → IsRowOf q r → PlanFits q (widths r.values [])
-plan_fits q r checked group h =
-    let w = groups_have_one_window q checked group in
-    one_stream_fits q w.stream r checked w.streams (subst₂ (λ side ss. RowFits side (columns_on ss side) r) (is_left q w.stream w.streams r h) w.streams h.fits)

@@ -3,7 +3,6 @@
 ghost use Rattle.std.specs.Prelude.{◌≡◌, ◌≤◌, ◌<◌, ◌+◌, ◌*◌, max, None, length, OnOk};
 ghost use Rattle.saber_plan.specs.declared.plans.Shape.TheVariants as shapes;
 ghost use Rattle.saber_plan.specs.Trees.{tree_of};
-ghost use Rattle.saber_plan.specs.Checked.{IsChecked};
 ghost use Rattle.saber_group.specs.SliceParts.{HoldStill};
 ghost use Rattle.saber_group.specs.SliceStores.{CanCome, CanGoOn};
 ghost use Rattle.saber_group.specs.ChangeStores.{HasPassed, HasWalkedOn, HasWalkedBy};
@@ -39,7 +38,6 @@ impl Open {
         out: &mut Vec<u8>,
         steps: &mut Steps<L>,
     ) -> Result<(), NoMemory>
-        requires checked { IsChecked (tree_of plan.now) }
         requires group { (tree_of plan.now).shape ≡ shapes.Group }
         requires walk { walk.old.next ≡ self.old.next }
         ensures next { OnOk result (self.new.next ≡ max self.old.next low) }

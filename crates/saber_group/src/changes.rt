@@ -2,7 +2,6 @@
 ghost use Rattle.std.specs.Prelude.{◌≡◌};
 ghost use Rattle.saber_plan.specs.declared.plans.Shape.TheVariants as shapes;
 ghost use Rattle.saber_plan.specs.Trees.{tree_of};
-ghost use Rattle.saber_plan.specs.Checked.{IsChecked};
 ghost use Rattle.saber_plan.specs.Answers.{by_change, way};
 ghost use Rattle.saber_changes.specs.Counts.{change_of};
 
@@ -21,17 +20,16 @@ pub struct GroupChanges<'a> {
 
 impl<'a> Model for GroupChanges<'a> {
     ghost use Rattle.std.specs.Prelude.{◌≡◌};
-    ghost use Rattle.std.specs.Coded.{codes};
     ghost use Rattle.saber_plan.specs.declared.plans.Plan.{Plan};
     ghost use Rattle.saber_plan.specs.declared.plans.Shape.TheVariants as shapes;
     ghost use Rattle.saber_plan.specs.Trees.{tree_of};
     ghost use Rattle.saber_plan.specs.Answers.{by_change, way};
-    ghost use Rattle.saber_plan.specs.contracts.predicates.Pred as e;
+    ghost use Rattle.saber_plan.specs.contracts.plans.Plan as e;
     ghost use Rattle.saber_changes.specs.Counts.{change_of};
 
     ghost Value = { Plan };
 
-    ghost coded = { Prim.hlevel (codes, e.the_row.coded) };
+    ghost coded = { e.the_row.coded };
 
     ghost view = { λ g. g.group };
 
@@ -41,7 +39,6 @@ impl<'a> Model for GroupChanges<'a> {
 impl<'a> GroupChanges<'a> {
     /// The operator of this plan, of whose word the change is. Takes no memory.
     pub fn new(plan: &'a Plan, change: Change) -> GroupChanges<'a>
-        requires checked { IsChecked (tree_of plan.now) }
         requires group { (tree_of plan.now).shape ≡ shapes.Group }
         requires changes { way (tree_of plan.now) ≡ by_change (change_of change) }
         ensures { result ≡ plan.now }

@@ -2,7 +2,6 @@
 ghost use Rattle.std.specs.Prelude.{◌≡◌, ◌≤◌, ◌^◌};
 ghost use Rattle.saber_plan.specs.declared.plans.Shape.TheVariants as shapes;
 ghost use Rattle.saber_plan.specs.Trees.{tree_of};
-ghost use Rattle.saber_plan.specs.Checked.{IsChecked};
 ghost use Rattle.saber_plan.specs.Windows.{closed_count, begun_count};
 ghost use Rattle.saber_plan.specs.Answers.{frame};
 ghost use Rattle.saber_plan.specs.Needs.{first_window, past_window};
@@ -29,12 +28,11 @@ impl<'a> Model for Group<'a> {
     ghost use Rattle.saber_plan.specs.Trees.{tree_of};
     ghost use Rattle.saber_plan.specs.Checked.{IsChecked};
     ghost use Rattle.saber_plan.specs.Answers.{frame};
-    ghost use Rattle.saber_plan.specs.contracts.predicates.Pred as e;
-    ghost use Rattle.std.specs.Coded.{codes};
+    ghost use Rattle.saber_plan.specs.contracts.plans.Plan as e;
 
     ghost Value = { Plan };
 
-    ghost coded = { Prim.hlevel (codes, e.the_row.coded) };
+    ghost coded = { e.the_row.coded };
 
     ghost view = { λ g. g.plan.now };
 
@@ -44,7 +42,6 @@ impl<'a> Model for Group<'a> {
 impl<'a> Group<'a> {
     /// That of this plan. Takes no memory.
     pub(crate) fn new(plan: &'a Plan) -> Group<'a>
-        requires checked { IsChecked (tree_of plan.now) }
         requires group { (tree_of plan.now).shape ≡ shapes.Group }
         ensures { result ≡ plan.now }
     {

@@ -2,7 +2,6 @@
 ghost use Rattle.std.specs.Prelude.{◌≡◌, ◌≤◌, ◌+◌, max, [], OnOk};
 ghost use Rattle.saber_plan.specs.declared.plans.Shape.TheVariants.{Group};
 ghost use Rattle.saber_plan.specs.Trees.{tree_of};
-ghost use Rattle.saber_plan.specs.Checked.{IsChecked};
 ghost use Rattle.saber_sliding.specs.Entries.{CanFollow};
 ghost use Rattle.saber_group.specs.SliceParts.{Entered, HoldStill, Printed};
 
@@ -62,7 +61,6 @@ impl Open {
         out: &mut Vec<u8>,
         steps: &mut Steps<L>,
     ) -> Result<(), NoMemory>
-        requires checked { IsChecked (tree_of plan.now) }
         requires group { (tree_of plan.now).shape ≡ Group }
         ensures next { OnOk result (self.new.next ≡ max self.old.next low) }
         ensures slices { OnOk result (HoldStill (tree_of plan.now) self.old.next self.old.slices.entries self.new.next self.new.slices.entries) }

@@ -3,7 +3,6 @@
 ghost use Rattle.std.specs.Prelude.{◌≡◌};
 ghost use Rattle.saber_plan.specs.declared.plans.Shape.TheVariants as shapes;
 ghost use Rattle.saber_plan.specs.Trees.{tree_of};
-ghost use Rattle.saber_plan.specs.Checked.{IsChecked};
 ghost use Rattle.saber_plan.specs.Answers.{alike, way};
 
 use crate::batch::Batch;
@@ -25,15 +24,14 @@ pub struct GroupOperator<'a> {
 
 impl<'a> Model for GroupOperator<'a> {
     ghost use Rattle.std.specs.Prelude.{◌≡◌};
-    ghost use Rattle.std.specs.Coded.{codes};
     ghost use Rattle.saber_plan.specs.declared.plans.Plan.{Plan};
     ghost use Rattle.saber_plan.specs.Trees.{tree_of};
     ghost use Rattle.saber_plan.specs.Answers.{alike, way};
-    ghost use Rattle.saber_plan.specs.contracts.predicates.Pred as e;
+    ghost use Rattle.saber_plan.specs.contracts.plans.Plan as e;
 
     ghost Value = { Plan };
 
-    ghost coded = { Prim.hlevel (codes, e.the_row.coded) };
+    ghost coded = { e.the_row.coded };
 
     ghost view = { λ g. g.group };
 
@@ -43,7 +41,6 @@ impl<'a> Model for GroupOperator<'a> {
 impl<'a> GroupOperator<'a> {
     /// The operator of this plan. Takes no memory.
     pub fn new(plan: &'a Plan) -> GroupOperator<'a>
-        requires checked { IsChecked (tree_of plan.now) }
         requires group { (tree_of plan.now).shape ≡ shapes.Group }
         requires alike { way (tree_of plan.now) ≡ alike }
         ensures { result ≡ plan.now }

@@ -1,32 +1,17 @@
 // The rows of a task, one by one and some at once.
-ghost use Rattle.std.specs.Prelude.{◌≡◌, ◌<◌, ◌≤◌, [], length, take};
-ghost use Rattle.saber_plan.specs.Values as v;
+ghost use Rattle.std.specs.Prelude.{◌≡◌, ◌<◌, ◌≤◌, length, take};
 ghost use Rattle.saber_plan.specs.Windows.{mark_after};
 ghost use Rattle.saber_plan.specs.Answers.{frame};
 ghost use Rattle.saber_plan.specs.Trees.{tree_of};
-ghost use Rattle.saber_plan.specs.GivenRows.{IsRowOf, RowsFit};
+ghost use Rattle.saber_plan.specs.GivenRows.{RowsFit};
 ghost use Rattle.saber_window.specs.Together.{LieTogether};
 
 use crate::batch::Batch;
 use crate::group::Group;
-use saber_eval::holds;
-use saber_flat::RowRef;
 use saber_plan::Mark;
 use saber_window::mark_behind;
 
 impl Group<'_> {
-    /// Whether a row passes WHERE.
-    #[tactic(auto, using(crate::proofs::GroupPlans::plan_fits))]
-    pub(crate) fn passes(&self, row: &RowRef) -> bool
-        requires { IsRowOf (tree_of self.now) row.now }
-        ensures { result ≡ v.passes (tree_of self.now).predicate row.now.values [] }
-    {
-        match self.plan.predicate() {
-            Some(predicate) => holds(predicate, row),
-            None => true,
-        }
-    }
-
     /// Where the rows end that lie in the same windows as row `from`, from there on, before which
     /// `mark` stands.
     pub(crate) fn slice_end(&self, batch: &Batch, from: usize, mark: &Mark) -> usize

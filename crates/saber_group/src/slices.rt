@@ -10,6 +10,7 @@ ghost use Rattle.saber_group.specs.SliceParts.{IsSlice, with_row};
 
 use crate::batch::Batch;
 use crate::group::Group;
+use saber_eval::passes;
 use saber_flat::RowRef;
 use saber_partial::{Gathering, Partial};
 use saber_plan::{Mark, NoMemory};
@@ -42,12 +43,13 @@ impl Slice {
 
 impl Group<'_> {
     // Whether a row counts: if it is wanted, and passes WHERE.
+    #[tactic(auto, using(saber_eval::proofs::FittingLaws::group_fits))]
     #[inline]
     fn counts(&self, is_wanted: bool, row: &RowRef) -> bool
         requires { IsRowOf (tree_of self.now) row.now }
         ensures { result ≡ is_wanted && passes (tree_of self.now).predicate row.now.values [] }
     {
-        is_wanted && self.passes(row)
+        is_wanted && passes(self.plan, row)
     }
 
     // Adds a row to a part, if it counts.

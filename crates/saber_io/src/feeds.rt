@@ -14,7 +14,7 @@ pub enum EndMark {
 }
 
 /// What a feed gives: so many bytes, its end, or nothing as yet.
-#[derive(Clone, Copy, PartialEq, Eq)]
+#[derive(Clone, Copy)]
 pub enum Fed {
     Bytes(usize),
     End,

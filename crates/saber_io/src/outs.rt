@@ -8,7 +8,7 @@ use crate::Sink;
 use std::alloc::{AllocError, AllocFailed, Global};
 
 /// Why a file wasn't created: it couldn't be, or memory was wanting.
-#[derive(Clone, Copy, Debug, PartialEq, Eq)]
+#[derive(Clone, Copy)]
 pub enum CreateFault {
     Failed,
     NoMemory,

@@ -10,11 +10,11 @@ ghost use Rattle.saber_plan.specs.Outputs.{raised_count, Rose, appended_text, Ap
 use std::alloc::{AllocError, AllocFailed, Global};
 
 /// A read that failed.
-#[derive(Clone, Copy, Debug, PartialEq, Eq)]
+#[derive(Clone, Copy)]
 pub struct Failed;
 
 /// Why a file wasn't opened: it couldn't be, or memory was wanting.
-#[derive(Clone, Copy, Debug, PartialEq, Eq)]
+#[derive(Clone, Copy)]
 pub enum OpenFault {
     Failed,
     NoMemory,

@@ -20,16 +20,13 @@ use Rattle.saber_laws.specs.Plans.{TwoWindows}
 use Rattle.saber_window.specs.declared.bounds.Bounds.{Bounds}
 use Rattle.saber_join.specs.Open.{seen_parts, HoldsTask}
 use Rattle.saber_window.specs.Kinds.{kind_in, AreBounds}
-use Rattle.saber_parts.specs.WindowFacts.{entry_is, no_entry}
-use Rattle.saber_parts.specs.Entries.{entry_if}
+use Rattle.saber_parts.specs.WindowFacts.{entry_is, no_entry, no_lines}
+use Rattle.saber_parts.specs.Entries.{entry_if, lines_if, entries_by, lines_by}
 use Rattle.saber_fragment.specs.Drafts.{Sight, IsWhole}
-use Rattle.saber_join.specs.Entries.{lines_if, entries_by, lines_by}
 use Rattle.saber_join.specs.Pieces.{AreOfTask}
 use Rattle.saber_plan.specs.Facts.Numbers.{flat_map-from, flat_none, flat_filter, from_more, numbered_is}
-use Rattle.saber_join.proofs.Entering.{no_lines}
 use Rattle.saber_join.proofs.Spread.{seen, part_in, part_is_in, rise_all, spread}
 use Rattle.saber_join.proofs.Beginning.{none_begun}
-use Rattle.saber_join.proofs.Answering.{lines_of_part}
 use Rattle.saber_laws.proofs.CheckedLaws.{checked_fit, joins_have_two_windows}
 use Rattle.saber_laws.proofs.WindowLaws.{begun_stay, closed_within_begun}
 use Rattle.saber_laws.proofs.FlushLaws.{ends_begin_none}
@@ -101,10 +98,10 @@ module _ (q : Tree) (checked : IsChecked q) (e : q.shape ≡ Join) (s : Sight) (
   abbrev complete : ℕ → Bool
   complete i = is_complete (kind_of (frame q) i a z)
 
-  lines_are : lines_by b es ≡ flat_map (λ i. part_lines q i (at i)) (filter complete (from c (n - c)))
+  lines_are : lines_by q b es ≡ flat_map (λ i. part_lines q i (at i)) (filter complete (from c (n - c)))
   lines_are =
-      by_number (λ i p. lines_if (is_complete (Some (kind_in b i))) i p) (λ i p. no_lines (is_complete (Some (kind_in b i))) i p) at c n within ends es sorted (λ i. part_is_in es i ∙ holds.at i)
-      ∙ flat_map-from _ (λ i. cond (complete i) (part_lines q i (at i)) []) c (n - c) (λ i l r j. cond (is_complete (kind i l r j)) (lines_of_part q e i (at i) j) [])
+      by_number (λ i p. lines_if (is_complete (Some (kind_in b i))) q i p) (λ i p. no_lines (is_complete (Some (kind_in b i))) q i p) at c n within ends es sorted (λ i. part_is_in es i ∙ holds.at i)
+      ∙ flat_map-from _ (λ i. cond (complete i) (part_lines q i (at i)) []) c (n - c) (λ i l r j. cond (is_complete (kind i l r j)) (part_lines q i (at i)) [])
       ∙ flat_filter (λ i. part_lines q i (at i)) complete (from c (n - c))
 
   -- so they are the task's, and what they hand on is what it hands on

@@ -6,7 +6,6 @@ pub mod Sides
 pub mod Adding
 pub mod Changing
 pub mod Meeting
-pub mod Entering
 pub mod Spread
 mod Tying
 mod Partners

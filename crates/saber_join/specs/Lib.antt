@@ -7,6 +7,5 @@ pub mod Ties
 pub mod Adding
 pub mod Keeping
 pub mod Open
-pub mod Entries
 pub mod Pieces
 pub mod Sights

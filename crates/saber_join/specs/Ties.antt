@@ -1,5 +1,5 @@
 -- Two expressions, one over each side, that are equal in each pair that passes WHERE; and the key of a row by them.
-use Rattle.std.specs.Prelude.{◌≡◌, ℕ, ◌-◌, ◌^◌, List, [], ◌∷◌, true, false, ◌||◌, if◌then◌else◌, Option, Some, None, ℤ, pos, neg_ℤ, int_lt}
+use Rattle.std.specs.Prelude.{◌≡◌, ℕ, ◌-◌, ◌^◌, List, true, ◌||◌, if◌then◌else◌, Option, Some, None, ℤ, pos, neg_ℤ, int_lt}
 use Rattle.std.specs.List.{AllByRecursion}
 use Rattle.saber_plan.specs.declared.rows.Side.{Side}
 use Rattle.saber_plan.specs.declared.rows.Side.TheVariants.{Left, Right}
@@ -11,6 +11,7 @@ use Rattle.saber_plan.specs.Trees.{Test, Both, Tests}
 use Rattle.saber_plan.specs.Values.{value, column_of, test_holds, all_hold, passes}
 use Rattle.saber_plan.specs.Checked.{ExprFits, TestFits, AllFit, PredicateFits}
 use Rattle.saber_plan.specs.Windows.{by_side}
+use Rattle.saber_eval.specs.Columns as alone
 
 pub record Ends : Type 0 where
   pub left : List Product
@@ -26,7 +27,7 @@ Over s ps = AllByRecursion (λ (p : Product). AllByRecursion (IsOf s) p.factors)
 
 -- an expression is the column of this number alone
 abbrev pub IsColumn : ℕ → List Product → Type 0
-IsColumn k ps = (s : Side) × (ps ≡ record { minus = false; factors = Column s k ∷ [] } ∷ [])
+IsColumn k ps = (s : Side) × alone.IsColumn s k ps
 
 -- they are equal where this holds of a left and a right row, and fit the columns that this fits
 pub record Ties (Holds : List ℤ → List ℤ → Type 0) (Fits : (Side → ℕ) → Type 0) (e : Ends) : Type 0 where

@@ -15,6 +15,10 @@ impl Assembles for Join<'_> {
 
     ghost shown = { λ part. part };
 
+    fn is_empty(&self, part: &Pairs) -> bool {
+        part.is_empty()
+    }
+
     fn merge(&self, into: &mut Pairs, from: Pairs) -> Result<(), NoMemory> {
         let _plan = &self.plan;
         into.merge(from)

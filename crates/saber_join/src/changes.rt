@@ -2,7 +2,6 @@
 ghost use Rattle.std.specs.Prelude.{◌≡◌};
 ghost use Rattle.saber_plan.specs.declared.plans.Shape.TheVariants as shapes;
 ghost use Rattle.saber_plan.specs.Trees.{tree_of};
-ghost use Rattle.saber_plan.specs.Checked.{IsChecked};
 ghost use Rattle.saber_plan.specs.Answers.{way, by_change};
 ghost use Rattle.saber_changes.specs.Counts.{change_of};
 
@@ -29,13 +28,12 @@ impl<'a> Model for JoinChanges<'a> {
     ghost use Rattle.saber_plan.specs.declared.plans.Plan.{Plan};
     ghost use Rattle.saber_plan.specs.Trees.{tree_of};
     ghost use Rattle.saber_plan.specs.Answers.{way, by_change};
-    ghost use Rattle.saber_plan.specs.contracts.predicates.Pred as e;
+    ghost use Rattle.saber_plan.specs.contracts.plans.Plan as e;
     ghost use Rattle.saber_changes.specs.Counts.{change_of};
-    ghost use Rattle.std.specs.Coded.{codes};
 
     ghost Value = { Plan };
 
-    ghost coded = { Prim.hlevel (codes, e.the_row.coded) };
+    ghost coded = { e.the_row.coded };
 
     ghost view = { λ o. o.join };
 
@@ -45,7 +43,6 @@ impl<'a> Model for JoinChanges<'a> {
 impl<'a> JoinChanges<'a> {
     /// The operator of this plan, whose stream word asks for this change. Takes no memory.
     pub fn new(plan: &'a Plan, change: Change) -> JoinChanges<'a>
-        requires checked { IsChecked (tree_of plan.now) }
         requires join { (tree_of plan.now).shape ≡ shapes.Join }
         requires changes { way (tree_of plan.now) ≡ by_change (change_of change) }
         ensures { result ≡ plan.now }

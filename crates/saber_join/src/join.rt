@@ -5,7 +5,7 @@ ghost use Rattle.saber_plan.specs.declared.rows.Side.TheVariants as sides;
 ghost use Rattle.saber_plan.specs.declared.plans.Shape.TheVariants as shapes;
 ghost use Rattle.saber_plan.specs.Trees.{tree_of};
 ghost use Rattle.saber_plan.specs.Values as v;
-ghost use Rattle.saber_plan.specs.Checked.{ExprFits, IsChecked};
+ghost use Rattle.saber_plan.specs.Checked.{ExprFits};
 ghost use Rattle.saber_plan.specs.Windows as w;
 ghost use Rattle.saber_plan.specs.Answers.{frame, items_over};
 ghost use Rattle.saber_plan.specs.Needs.{first_window, past_window};
@@ -17,7 +17,7 @@ ghost use Rattle.saber_join.specs.Rows.{IsOn};
 ghost use Rattle.saber_join.specs.Ties.{CanTie, key_in};
 
 use crate::ties::{Tie, tie_in};
-use saber_eval::{holds2, value2};
+use saber_eval::{passes2, value2};
 use saber_flat::RowRef;
 use saber_plan::{Expr, Mark, NoMemory, Plan, Side, Stream};
 use saber_window::{Bounds, Lately, Windows, step_mark};
@@ -39,12 +39,11 @@ impl<'a> Model for Join<'a> {
     ghost use Rattle.saber_plan.specs.Trees.{tree_of};
     ghost use Rattle.saber_plan.specs.Checked.{IsChecked};
     ghost use Rattle.saber_plan.specs.Answers.{frame};
-    ghost use Rattle.saber_plan.specs.contracts.predicates.Pred as e;
-    ghost use Rattle.std.specs.Coded.{codes};
+    ghost use Rattle.saber_plan.specs.contracts.plans.Plan as e;
 
     ghost Value = { Plan };
 
-    ghost coded = { Prim.hlevel (codes, e.the_row.coded) };
+    ghost coded = { e.the_row.coded };
 
     ghost view = { λ g. g.plan.now };
 
@@ -71,7 +70,6 @@ fn item_values(
 impl<'a> Join<'a> {
     /// The join of this plan. Takes no memory.
     pub(crate) fn new(plan: &'a Plan) -> Join<'a>
-        requires checked { IsChecked (tree_of plan.now) }
         requires join { (tree_of plan.now).shape ≡ shapes.Join }
         ensures { result ≡ plan.now }
     {
@@ -91,15 +89,13 @@ impl<'a> Join<'a> {
 
     /// Whether a pair of rows passes WHERE.
     #[tactic(auto, using(crate::proofs::Sides::plan_fits))]
+    #[inline(always)]
     pub(crate) fn passes(&self, left: &RowRef, right: &RowRef) -> bool
         requires left { IsOn (tree_of self.now) sides.Left left.now }
         requires right { IsOn (tree_of self.now) sides.Right right.now }
         ensures { result ≡ v.passes (tree_of self.now).predicate left.now.values right.now.values }
     {
-        match self.plan.predicate() {
-            Some(predicate) => holds2(predicate, left, right),
-            None => true,
-        }
+        passes2(self.plan, left, right)
     }
 
     /// What WHERE ties of a pair's rows, if it ties anything.

@@ -8,7 +8,7 @@
 //! - Parts: `join` (`Join`, over its plan), `ties` (the equality of WHERE that gives keys), `draft`
 //!   and `back` (rows looked back on), `seen`, `shelf` and `held_rows` (rows by buckets of their
 //!   keys), `windows` (the pairs of a task), `pairs`, `lines` and `answers` (a window's part, its
-//!   text and its answers), `gathered` and `pieces` (parts by kind, and what a task gives of them),
+//!   text and its answers), `pieces` (what a task gives of them),
 //!   `assembles` (their merge), `operator` and `changes` (the trait's calls).
 //! - Calls: `JoinOperator::new` takes a checked plan whose windows print their answers as they are,
 //!   without a stream word or with RSTREAM; `JoinChanges::new` takes one with ISTREAM or DSTREAM,
@@ -27,7 +27,6 @@ mod assembles;
 mod back;
 mod changes;
 mod draft;
-mod gathered;
 mod held_rows;
 mod join;
 mod lines;

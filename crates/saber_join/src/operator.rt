@@ -2,7 +2,6 @@
 ghost use Rattle.std.specs.Prelude.{◌≡◌};
 ghost use Rattle.saber_plan.specs.declared.plans.Shape.TheVariants as shapes;
 ghost use Rattle.saber_plan.specs.Trees.{tree_of};
-ghost use Rattle.saber_plan.specs.Checked.{IsChecked};
 ghost use Rattle.saber_plan.specs.Answers.{way, alike};
 
 use crate::draft::JoinDraft;
@@ -26,12 +25,11 @@ impl<'a> Model for JoinOperator<'a> {
     ghost use Rattle.saber_plan.specs.declared.plans.Plan.{Plan};
     ghost use Rattle.saber_plan.specs.Trees.{tree_of};
     ghost use Rattle.saber_plan.specs.Answers.{way, alike};
-    ghost use Rattle.saber_plan.specs.contracts.predicates.Pred as e;
-    ghost use Rattle.std.specs.Coded.{codes};
+    ghost use Rattle.saber_plan.specs.contracts.plans.Plan as e;
 
     ghost Value = { Plan };
 
-    ghost coded = { Prim.hlevel (codes, e.the_row.coded) };
+    ghost coded = { e.the_row.coded };
 
     ghost view = { λ o. o.join };
 
@@ -41,7 +39,6 @@ impl<'a> Model for JoinOperator<'a> {
 impl<'a> JoinOperator<'a> {
     /// The operator of this plan. Takes no memory.
     pub fn new(plan: &'a Plan) -> JoinOperator<'a>
-        requires checked { IsChecked (tree_of plan.now) }
         requires join { (tree_of plan.now).shape ≡ shapes.Join }
         requires alike { way (tree_of plan.now) ≡ alike }
         ensures { result ≡ plan.now }

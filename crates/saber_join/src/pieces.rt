@@ -1,10 +1,10 @@
 // What a task of a join gives.
 use crate::back::mark_before;
 use crate::draft::JoinDraft;
-use crate::gathered::{gather, handed_on};
 use crate::join::Join;
 use crate::pairs::Pairs;
 use saber_fragment::Piece;
+use saber_parts::{handed_of_windows, piece_of_windows};
 use saber_plan::NoMemory;
 use saber_window::{Bounds, end_mark};
 use std::alloc::Global;
@@ -55,8 +55,8 @@ impl Join<'_> {
             → IsSightOf (tree_of self.now) s r x y → shares_of (λ part. part) p ≡ shares_between (tree_of self.now) r x y) }
     {
         let (bounds, windows) = self.task_windows(alloc, draft)?;
-        let gathered = gather(alloc, &bounds, windows)?;
-        Ok(gathered.into_piece(bounds.closed_after))
+        let piece = piece_of_windows(alloc, self, &bounds, windows)?;
+        Ok(piece)
     }
 
     /// What such a task hands on, where a query prints what its windows gain or lose.
@@ -70,7 +70,7 @@ impl Join<'_> {
             → IsSightOf (tree_of self.now) s r x y → shares_of (λ part. part) p ≡ handed_between (tree_of self.now) r x y) }
     {
         let (bounds, windows) = self.task_windows(alloc, draft)?;
-        let gathered = handed_on(alloc, &bounds, windows)?;
-        Ok(gathered.into_piece(bounds.closed_after))
+        let piece = handed_of_windows(alloc, self, &bounds, windows)?;
+        Ok(piece)
     }
 }

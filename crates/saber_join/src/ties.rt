@@ -9,7 +9,7 @@ ghost use Rattle.saber_plan.specs.Checked.{ExprFits};
 ghost use Rattle.saber_eval.specs.Widths.{widths};
 ghost use Rattle.saber_join.specs.Ties.{IsOf, Over, IsColumn, TiesTest, TiesAll, TiesPairs, narrow};
 
-use saber_eval::value2;
+use saber_eval::{column_in, value2};
 use saber_flat::RowRef;
 use saber_plan::{Cmp, Expr, Factor, Pred, Side, Unit};
 use std::marker::Model;
@@ -35,20 +35,12 @@ impl<'a> Model for End<'a> {
 }
 
 // The number of the column that an expression is alone.
-fn column_in(e: &Expr) -> Option<usize>
+fn column_number(e: &Expr) -> Option<usize>
     ensures { IfSome result (λ k. IsColumn k e.now) }
 {
-    let products = e.as_slice();
-    if products.len() != 1 || products[0].minus {
-        return None;
-    }
-    let factors = products[0].factors.as_slice();
-    if factors.len() != 1 {
-        return None;
-    }
-    match &factors[0] {
-        Factor::Column { index, .. } => Some(*index as usize),
-        Factor::Constant(_) => None,
+    match column_in(e) {
+        Some(column) => Some(column.1 as usize),
+        None => None,
     }
 }
 
@@ -57,7 +49,7 @@ fn end_of(expr: &Expr) -> End<'_>
 {
     End {
         expr,
-        column: column_in(expr),
+        column: column_number(expr),
     }
 }
 

@@ -5,7 +5,7 @@ use Rattle.saber_plan.specs.declared.rows.Row.{Row}
 use Rattle.saber_plan.specs.declared.rows.RowCause.TheVariants.{TimeOrder, TooManyHeld}
 use Rattle.saber_plan.specs.Rows.{stamp, Line, Read, SideRules, Place, Judged, skipped, taken, refused, judge, judge_at, timed_line, late, crowds, is_due, due, raised_time, in_time, accept, without_cr, is_known, no_more, after_line, read_by}
 use Rattle.saber_laws.proofs.FileLaws.{From, from_in_time, not_negative, due_stays, not_before}
-use Rattle.saber_laws.proofs.InputLaws.{Begins}
+use Rattle.saber_laws.specs.Inputs.{Begins}
 
 later_waits : (slack : ℕ) (high : Option ℕ) (x y : Row) → is_due slack high x ≡ false → nat_le (stamp x.values) (stamp y.values) ≡ true → is_due slack high y ≡ false
 later_waits slack None x y e h = refl

@@ -1,15 +1,12 @@
 -- What the end of the input does to windows and tasks.
-use Rattle.std.proofs.Common.{◌≡◌, ℕ, suc, ◌+◌, ◌-◌, ◌*◌, ◌≤◌, min, List, [], length, Bool, true, false, cond, ◌&&◌, ◌||◌, nat_lt, refl, ◌∙◌, ap, arith}
+use Rattle.std.proofs.Common.{◌≡◌, ℕ, suc, ◌+◌, ◌-◌, ◌*◌, ◌≤◌, min, length, Bool, true, false, cond, ◌&&◌, ◌||◌, nat_lt, refl, ◌∙◌, ap, arith}
 use Rattle.std.proofs.lemmas.List.{take_all}
 use Rattle.std.proofs.lemmas.Bool.Decides.{nat_tests}
-use Rattle.saber_plan.specs.declared.rows.Row.{Row}
-use Rattle.saber_plan.specs.declared.windows.Mark.{Mark}
-use Rattle.saber_plan.specs.Trees.{Tree}
 use Rattle.saber_plan.specs.Inputs.{first_arrivals}
-use Rattle.saber_plan.specs.Windows.{mark_after, mark_of, end_mark, last_mark, closed_count, begun_count, past_count}
+use Rattle.saber_plan.specs.Windows.{mark_of, last_mark, closed_count, begun_count, past_count}
 use Rattle.saber_plan.specs.Answers.{frame}
 use Rattle.saber_plan.specs.Tasks.{task_start, row_tasks, task_count, unclosed}
-use Rattle.saber_laws.specs.Ends.{EndsBeginNone, NothingOpenBehind, TasksMakeAll}
+use Rattle.saber_laws.specs.Ends.{EndsBeginNone, EndsCloseAll, NothingOpenBehind, TasksMakeAll}
 use Rattle.saber_laws.proofs.WindowLaws.{begun_ending, begun_count_ending}
 use Rattle.saber_laws.proofs.TaskLaws.{no_numbers}
 use Rattle.saber_laws.proofs.TaskCutLaws.{rows_fit}
@@ -17,14 +14,8 @@ use Rattle.saber_laws.proofs.TaskCutLaws.{rows_fit}
 pub ends_begin_none : EndsBeginNone
 ends_begin_none f e m = record { tests = λ i. begun_ending f i e m; counts = begun_count_ending f e m }
 
--- ---- a task without rows
-
-module _ (q : Tree) (m : Mark) (back : List Row) where
-  abbrev a : Mark
-  a = mark_after m back
-
-  abbrev b : Mark
-  b = end_mark true (mark_after a [])
+pub ends_close_all : EndsCloseAll
+ends_close_all f m = begun_count_ending f true m
 
 -- ---- behind the end
 

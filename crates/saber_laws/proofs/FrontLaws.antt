@@ -8,7 +8,8 @@ use Rattle.saber_plan.specs.Inputs.{holds_up, alone, merged_rows}
 use Rattle.saber_laws.specs.Fronts.{IsFirstOf, AllAreFirst, WholeLinesAreFirst, MergesKeepFirst}
 use Rattle.saber_laws.proofs.FileLaws.{From}
 use Rattle.saber_laws.proofs.DueLaws.{accepted_from, due_first}
-use Rattle.saber_laws.proofs.InputLaws.{both_sides, Begins}
+use Rattle.saber_laws.specs.Inputs.{Begins}
+use Rattle.saber_laws.proofs.InputLaws.{both_sides}
 
 -- cut short, or all
 abbrev SoFar : Read → Read → Type 0

@@ -1,5 +1,5 @@
 -- The merged input of two sides.
-use Rattle.std.proofs.Common.{◌≡◌, ◌+◌, List, [], ◌∷◌, ◌++◌, true, cond, nat_le, refl, ap}
+use Rattle.std.proofs.Common.{◌≡◌, List, [], ◌∷◌, true, cond, nat_le, refl, ap}
 use Rattle.saber_plan.specs.declared.rows.Row.{Row}
 use Rattle.saber_plan.specs.Rows.{End, all_read, Read, before, stamp}
 use Rattle.saber_plan.specs.Inputs.{holds_up, merged_rows}
@@ -16,12 +16,6 @@ pub both_sides : (P : List Row → List Row → Type 0) → ((ys : List Row) →
     → (xs ys : List Row) → P xs ys
 both_sides P none left step [] ys = none ys
 both_sides P none left step (x ∷ xs) ys = grows P left step x xs (both_sides P none left step xs) ys
-
--- ---- each side's rows
-
--- some rows, and then others, are a side's
-abbrev pub Begins : List Row → List Row → Type 0
-Begins us xs = (rest : List Row) × (us ++ rest ≡ xs)
 
 -- ---- one row of a merge, by the heads of both sides
 

@@ -19,7 +19,9 @@ pub mod GrowLaws
 pub mod LastLaws
 pub mod PairingLaws
 pub mod InputLaws
+pub mod SideLaws
 pub mod StepLaws
+pub mod WriteLaws
 pub mod MergedLaws
 pub mod RowPairLaws
 pub mod CutLaws

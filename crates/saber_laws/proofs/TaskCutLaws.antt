@@ -6,7 +6,6 @@ use Rattle.std.proofs.lemmas.Bool.Decides.{nat_tests}
 use Rattle.std.proofs.lemmas.Bool.{cases_lt}
 use Rattle.saber_plan.specs.Inputs.{Input, first_arrivals, going_on}
 use Rattle.saber_plan.specs.Tasks.{task_start, upto, row_tasks}
-use Rattle.saber_laws.specs.Cuts.{RowsHaveTasks}
 use Rattle.saber_laws.proofs.EndLaws.{arrived_twice}
 
 keeps_case : (b : Bool) (c l k t x y : ℕ) → k ≤ t → x ≤ y → cond (b && nat_lt c k) (suc l) (min x l) ≤ cond (b && nat_lt c t) (suc l) (min y l)
@@ -41,9 +40,6 @@ no_tasks_no_rows n r = let none : 0 * n ≡ 0 = omega arith in ap (first_arrival
 -- the tasks with rows have all rows
 pub rows_fit : (l n : ℕ) → 1 ≤ n → l ≤ div_ceil l n * n
 rows_fit l n h = (div_ceil_times l n h).0
-
-pub rows_have_tasks : RowsHaveTasks
-rows_have_tasks n r h = rows_fit (length r.rows) n h
 
 before_case : (b : Bool) (c l k x p : ℕ) → (c < k → l ≤ x) → p < cond (b && nat_lt c k) (suc l) (min x l) → p < l → p < x
 before_case true c l k x p f h g = ⊎_elim (λ e. let all = f e in omega arith) (λ e. grind (arith, nat_tests)) (cases_lt c k)

@@ -4,7 +4,7 @@ use Rattle.std.specs.FinMap.{empty}
 use Rattle.saber_plan.specs.declared.windows.Mark.{Mark}
 use Rattle.saber_plan.specs.Trees.{Tree}
 use Rattle.saber_plan.specs.Inputs.{Input}
-use Rattle.saber_plan.specs.Windows.{Frame, end_mark, begun, begun_count}
+use Rattle.saber_plan.specs.Windows.{Frame, end_mark, begun, begun_count, closed_count}
 use Rattle.saber_plan.specs.Tasks.{upto, task_count, unclosed}
 
 -- ---- with it
@@ -16,6 +16,10 @@ pub record BeginsNone (f : Frame) (ended : Bool) (m : Mark) : Type 0 where
 
 abbrev pub EndsBeginNone : Type 0
 EndsBeginNone = (f : Frame) (ended : Bool) (m : Mark) → BeginsNone f ended m
+
+-- and closes those that are begun
+abbrev pub EndsCloseAll : Type 0
+EndsCloseAll = (f : Frame) (m : Mark) → closed_count f (end_mark true m) ≡ begun_count f m
 
 -- behind the end nothing is open
 abbrev pub NothingOpenBehind : Type 0

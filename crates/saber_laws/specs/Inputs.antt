@@ -1,12 +1,14 @@
 -- Laws of the rows of a file, and of the merged rows of two.
-use Rattle.std.specs.Prelude.{◌≡◌, ℕ, ◌+◌, ◌≤◌, List, [], ◌∷◌, filter, length, Bool, true, false, not, ◌&&◌, Option, Some, None, if◌then◌else◌, nat_le, ◌==◌}
+use Rattle.std.specs.Prelude.{◌≡◌, ℕ, ◌+◌, ◌≤◌, List, [], ◌∷◌, ◌++◌, filter, length, Bool, true, false, not, ◌&&◌, Option, Some, None, if◌then◌else◌, nat_le, ◌==◌}
 use Rattle.std.specs.List.{AllByRecursion}
 use Rattle.saber_plan.specs.declared.rows.Side.{Side}
+use Rattle.saber_plan.specs.declared.rows.Side.TheVariants.{Left, Right}
 use Rattle.saber_plan.specs.declared.rows.Row.{Row}
+use Rattle.saber_plan.specs.declared.windows.Mark.{Mark}
 use Rattle.saber_plan.specs.Rows.{Place, start, accept, judge_at, SideRules, RowFits, Line, lines_of, without_cr, is_known, Judged, skipped, taken, refused, judge, falls, End, all_read, cut, bad, Read, before, stamp, rows}
 use Rattle.saber_plan.specs.declared.rows.RowCause.TheVariants.{TimeOrder}
-use Rattle.saber_plan.specs.Windows.{no_rows, Ordered}
-use Rattle.saber_plan.specs.Inputs.{holds_up, merged_rows}
+use Rattle.saber_plan.specs.Windows.{by_side, no_rows, Ordered}
+use Rattle.saber_plan.specs.Inputs.{holds_up, merged_rows, merged_read}
 
 -- ---- the rows of a file
 
@@ -64,6 +66,36 @@ PlainFiles = (s : SideRules) (bytes : List ℕ) → s.slack ≡ 0 → rows s byt
 -- all rows are of a side
 abbrev pub AllOn : Side → List Row → Type 0
 AllOn s = AllByRecursion (λ r. r.side ≡ s)
+
+abbrev pub on : Side → Row → Bool
+on Left r = by_side r.side true false
+on Right r = by_side r.side false true
+
+-- the timestamps of the merge do not fall, where those of each side do not
+abbrev pub MergesAreOrdered : Type 0
+MergesAreOrdered = (l r : Read) (m : Mark) → Ordered m l.rows → Ordered m r.rows → Ordered m (merged_read l r).rows
+
+-- some rows, and then others, are a side's
+abbrev pub Begins : List Row → List Row → Type 0
+Begins us xs = (rest : List Row) × (us ++ rest ≡ xs)
+
+-- its rows of either side are the first of that side's
+pub record SidesBegin (l r : Read) : Type 0 where
+  pub left : Begins (filter (on Left) (merged_read l r).rows) l.rows
+  pub right : Begins (filter (on Right) (merged_read l r).rows) r.rows
+
+abbrev pub MergesBegin : Type 0
+MergesBegin = (l r : Read) → AllOn Left l.rows → AllOn Right r.rows → SidesBegin l r
+
+-- and all of them, where the merge is read to its end; then both sides are
+pub record SidesEnd (l r : Read) : Type 0 where
+  pub left_end : l.end ≡ all_read
+  pub right_end : r.end ≡ all_read
+  pub left_rows : filter (on Left) (merged_read l r).rows ≡ l.rows
+  pub right_rows : filter (on Right) (merged_read l r).rows ≡ r.rows
+
+abbrev pub MergesEnd : Type 0
+MergesEnd = (l r : Read) → AllOn Left l.rows → AllOn Right r.rows → (merged_read l r).end ≡ all_read → SidesEnd l r
 
 -- the head of lesser timestamp, the left on a tie, and then the merge of what is left
 abbrev pub lesser_first : Row → List Row → End → Row → List Row → End → Read

@@ -1,6 +1,4 @@
-pub mod Windows
 pub mod Ends
-pub mod Cuts
 pub mod Parts
 pub mod Pieces
 pub mod Shares

@@ -1,5 +1,5 @@
 -- Laws of the substreams of key lists.
-use Rattle.std.specs.Prelude.{◌≡◌, ℕ, ◌+◌, ◌≤◌, List, [], ◌++◌, length, take, true, ℤ}
+use Rattle.std.specs.Prelude.{◌≡◌, ℕ, ◌+◌, ◌≤◌, List, [], ◌∷◌, ◌++◌, length, take, true, ℤ}
 use Rattle.std.specs.FinMap.{empty}
 use Rattle.saber_plan.specs.declared.rows.Side.TheVariants.{Left}
 use Rattle.saber_plan.specs.declared.rows.Row.{Row}
@@ -7,7 +7,7 @@ use Rattle.saber_plan.specs.declared.windows.Measure.TheVariants.{Rows}
 use Rattle.saber_plan.specs.Trees.{Tree}
 use Rattle.saber_plan.specs.Inputs.{Input}
 use Rattle.saber_plan.specs.GivenRows.{RowsFit}
-use Rattle.saber_plan.specs.Windows.{one, no_rows, count_to}
+use Rattle.saber_plan.specs.Windows.{Fits, one, no_rows, count_to}
 use Rattle.saber_plan.specs.Answers.{frame, substream, past_in, begun_in, closed_in_turn}
 use Rattle.saber_plan.specs.Tasks.{unclosed_by_list, places}
 use Rattle.saber_laws.specs.Inputs.{AllOn}
@@ -15,6 +15,10 @@ use Rattle.saber_laws.specs.Inputs.{AllOn}
 -- the rows of a key list are such rows as the query is given: what is said of inputs holds for them by themselves
 abbrev pub SubstreamsFit : Type 0
 SubstreamsFit = (q : Tree) (k : List ℤ) (xs : List Row) → RowsFit q no_rows xs → RowsFit q no_rows (substream q k xs)
+
+-- a row closes at most one window by rows
+abbrev pub RowsCloseOne : Type 0
+RowsCloseOne = (q : Tree) (slide size : ℕ) → frame q ≡ one Rows slide size → Fits (frame q) → (us : List Row) (r : Row) → past_in q (us ++ r ∷ []) ≤ past_in q us + 1
 
 -- what rows close, one after another
 abbrev pub TurnsGoOn : Type 0

@@ -1,12 +1,11 @@
 -- Laws of needs: how far back a task looks, and what it makes of the rows that it needs.
-use Rattle.std.specs.Prelude.{◌≡◌, ℕ, ◌+◌, ◌-◌, ◌≤◌, ◌<◌, [], None}
-use Rattle.saber_plan.specs.declared.plans.Shape.TheVariants.{Join}
+use Rattle.std.specs.Prelude.{◌≡◌, ℕ, ◌≤◌, ◌<◌, None}
 use Rattle.saber_plan.specs.Trees.{Tree}
 use Rattle.saber_plan.specs.Inputs.{Input}
-use Rattle.saber_plan.specs.Windows.{Fits, Ordered, no_rows, closed_count}
+use Rattle.saber_plan.specs.Windows.{Fits, Ordered, no_rows}
 use Rattle.saber_plan.specs.Answers.{frame}
 use Rattle.saber_plan.specs.Tasks.{task_start, upto, task_count, piece}
-use Rattle.saber_plan.specs.Needs.{free, need, wide, piece_here, back_rows, task_rows, task_ends, task_mark, back_mark, free_of, block_lasts}
+use Rattle.saber_plan.specs.Needs.{free, need, wide, piece_here, back_rows, task_rows, task_ends, back_mark}
 
 -- ---- the rows that a task needs are enough
 
@@ -14,22 +13,6 @@ use Rattle.saber_plan.specs.Needs.{free, need, wide, piece_here, back_rows, task
 abbrev pub NeedsMakePieces : Type 0
 NeedsMakePieces = (q : Tree) → Fits (frame q) → (n : ℕ) (r : Input) (t : ℕ) → Ordered no_rows r.rows → 1 ≤ n
     → piece_here q (back_mark q n r t) (back_rows q n r t) (task_rows n r t) (task_ends n r t) ≡ piece q n r t
-
--- ---- the free pointer
-
--- a task looks back, and not forward
-abbrev pub TasksLookBack : Type 0
-TasksLookBack = (q : Tree) (n : ℕ) (r : Input) (t : ℕ) → 1 ≤ n → free q n r t ≤ t
-
--- and a later task looks no further back
-abbrev pub TasksLookOn : Type 0
-TasksLookOn = (q : Tree) → Fits (frame q) → (n : ℕ) (r : Input) (t : ℕ) → Ordered no_rows r.rows → 1 ≤ n → free q n r t ≤ free q n r (t + 1)
-
--- the free pointer of a join is what the greatest last windows of the blocks from an earlier one on say
-abbrev pub LastsTellFree : Type 0
-LastsTellFree = (q : Tree) → Fits (frame q) → (n : ℕ) (r : Input) (t first : ℕ) → Ordered no_rows r.rows → 1 ≤ n → q.shape ≡ Join
-    → first ≤ free q n r t → first ≤ t
-    → free q n r t ≡ free_of first (block_lasts (frame q) n r first (t - first)) (closed_count (frame q) (task_mark n r t))
 
 -- ---- rows that are added
 

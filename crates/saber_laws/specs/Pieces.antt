@@ -1,11 +1,12 @@
 -- Laws of the pieces of tasks, and of the text that they make.
-use Rattle.std.specs.Prelude.{◌≡◌, ℕ, ◌≤◌, [], ◌++◌}
+use Rattle.std.specs.Prelude.{◌≡◌, ℕ, ◌≤◌, ◌+◌, List, [], ◌∷◌, ◌++◌}
+use Rattle.std.specs.List.{range_with_len}
 use Rattle.std.specs.FinMap.{empty}
 use Rattle.saber_plan.specs.Trees.{Tree}
 use Rattle.saber_plan.specs.Inputs.{Input, first_arrivals, going_on}
 use Rattle.saber_plan.specs.Windows.{Fits, Ordered, no_rows}
 use Rattle.saber_plan.specs.Answers.{frame, text}
-use Rattle.saber_plan.specs.Tasks.{upto, unclosed, kept_behind, nothing_kept, plain_added, added_text, piece_between, written_by, left_by}
+use Rattle.saber_plan.specs.Tasks.{Kept, task_start, upto, unclosed, kept_behind, nothing_kept, plain_added, added_text, piece_between, written_by, left_by}
 
 -- ---- one piece, after the text and the open parts of the arrivals before it
 
@@ -33,6 +34,32 @@ pub record Nothing (q : Tree) : Type 0 where
 abbrev pub NoRowsGiveNothing : Type 0
 NoRowsGiveNothing = (q : Tree) → Fits (frame q) → Nothing q
 
--- no task has rows
-abbrev pub NoTasksNoRows : Type 0
-NoTasksNoRows = (n : ℕ) (r : Input) → upto n r 0 ≡ going_on []
+-- ---- the pieces of tasks, one after another, however the query answers
+
+-- what is written, and what is kept from task to task
+pub record Standing : Type 0 where
+  pub written : List ℕ
+  pub kept : Kept
+
+-- before the first task
+abbrev pub no_task_behind : List ℕ → Standing
+no_task_behind start = record { written = start; kept = nothing_kept }
+
+-- behind the first k tasks
+abbrev pub tasks_behind : Tree → ℕ → Input → List ℕ → ℕ → Standing
+tasks_behind q n r start k = record { written = start ++ text q (upto n r k); kept = kept_behind q (upto n r k) }
+
+-- Task k's piece is taken in: where what the arrivals before the task leave is kept, its own add to the text, and what they leave is kept then.
+pub record TakesTask (q : Tree) (n : ℕ) (r : Input) (k : ℕ) (old new : Standing) : Type 0 where
+  pub written : old.kept ≡ kept_behind q (upto n r k) → new.written ≡ old.written ++ added_text q r (task_start n r k) (task_start n r (k + 1))
+  pub kept : old.kept ≡ kept_behind q (upto n r k) → new.kept ≡ kept_behind q (upto n r (k + 1))
+
+-- those of these tasks are, one after another
+abbrev pub TakesTasks : Tree → ℕ → Input → List ℕ → Standing → Standing → Type 0
+TakesTasks q n r [] old new = old ≡ new
+TakesTasks q n r (k ∷ ks) old new = (next : Standing) × TakesTask q n r k old next × TakesTasks q n r ks next new
+
+-- those of the first k tasks make their text, and leave what is to be kept behind them
+abbrev pub TasksMakeText : Type 0
+TasksMakeText = (q : Tree) → Fits (frame q) → (n : ℕ) (r : Input) → Ordered no_rows r.rows → (start : List ℕ) (k : ℕ) (made : Standing)
+    → TakesTasks q n r (range_with_len 0 k) (no_task_behind start) made → made ≡ tasks_behind q n r start k

@@ -72,27 +72,27 @@ no_more : (j k : ℕ) → j + 1 ≤ k → j + 1 ≤ k + 0
 no_more j k le = omega (arith, le)
 
 module _ {O P S K : Type 0} (plan : O → Tree) (is_of : O → P → Input → ℕ → ℕ → Type 0) (contents : S → Kept) (taken : O → S → Input → Type 0)
-    (written : K → Option (List ℕ)) (faults : K → ℕ) where
+    (written : K → Option (List ℕ)) (faults writes : K → ℕ) where
   abbrev StageAt : RunData O → ℕ → Bool → Stage S K → Type 0
-  StageAt = IsStageOf plan (stage_view contents written faults) taken
+  StageAt = IsStageOf plan (stage_view contents written faults writes) taken
 
   abbrev ToldOf : List (RunData O) → ℕ → Type 0
-  ToldOf = AreToldOf plan is_of contents taken written faults
+  ToldOf = AreToldOf plan is_of contents taken written faults writes
 
   abbrev RowsOf : List (RunData O) → ℕ → Vec Block Global → Type 0
-  RowsOf = AreRowsOf plan is_of contents taken written faults
+  RowsOf = AreRowsOf plan is_of contents taken written faults writes
 
   abbrev PiecesOf : List (RunData O) → ℕ → VecDeque (Option P) Global → Type 0
-  PiecesOf = ArePiecesOf plan is_of contents taken written faults
+  PiecesOf = ArePiecesOf plan is_of contents taken written faults writes
 
   abbrev StagesOf : List (RunData O) → ℕ → Bool → Vec (Member (Stage S K)) Global → Type 0
-  StagesOf = AreStagesOf plan is_of contents taken written faults
+  StagesOf = AreStagesOf plan is_of contents taken written faults writes
 
   -- ---- the stage of one query
 
   -- one that stopped, at one of the first m tasks
   stopped_out : (t : RunData O) (m : ℕ) (st : Stage S K) → StoppedAt first_tasks StageAt (first_tasks t m) m st
-      → (st.state ≢ Running) × (st.k + 1 ≤ m) × HasOut plan contents written faults t st.k st
+      → (st.state ≢ Running) × (st.k + 1 ≤ m) × HasOut plan contents written faults writes t st.k st
   stopped_out t m st is =
       let front : is.front ≡ first_tasks t (is.behind + 1) =
       ⊎_elim
@@ -107,18 +107,18 @@ module _ {O P S K : Type 0} (plan : O → Tree) (is_of : O → P → Input → �
       let at : StageAt (first_tasks t (is.behind + 1)) is.behind true st = subst (λ z. StageAt z is.behind true st) front is.stage_is in (
         at.stops refl,
         subst (λ k. k + 1 ≤ m) (sym at.behind) low,
-        subst (λ k. HasOut plan contents written faults t k st) (sym at.behind) (stops_out plan contents taken written faults t is.behind st at),
+        subst (λ k. HasOut plan contents written faults writes t k st) (sym at.behind) (stops_out plan contents taken written faults writes t is.behind st at),
       )
 
   -- what is said of it
   abbrev Stands : RunData O → ℕ → Bool → Bool → Stage S K → Type 0
   Stands t k halted goes st =
       (goes ≡ true → (st.state ≡ Running) × (st.k ≡ k)) × (goes ≡ false → (st.state ≢ Running) × (st.k + 1 ≤ k + extra halted))
-      × HasOut plan contents written faults t st.k st
+      × HasOut plan contents written faults writes t st.k st
 
   by_goes : (t : RunData O) (k : ℕ) (goes : Bool) (st : Stage S K) → GoesBy first_tasks StageAt goes (first_tasks t k) k st → Stands t k false goes st
   by_goes t k true st is =
-      (λ e. (is.runs refl, is.behind), λ e. absurd (not_true e), subst (λ j. HasOut plan contents written faults t j st) (sym is.behind) (runs_out plan contents taken written faults t k st is))
+      (λ e. (is.runs refl, is.behind), λ e. absurd (not_true e), subst (λ j. HasOut plan contents written faults writes t j st) (sym is.behind) (runs_out plan contents taken written faults writes t k st is))
   by_goes t k false st is = let x = stopped_out t k st is in (λ e. absurd (not_true (sym e)), λ e. (x.0, no_more st.k k x.1), x.2)
 
   by_stop : (t : RunData O) (k : ℕ) (st : Stage S K) → StoppedAt first_tasks StageAt (first_tasks t (k + 1)) (k + 1) st → Stands t k true false st
@@ -153,7 +153,7 @@ module _ {O P S K : Type 0} (plan : O → Tree) (is_of : O → P → Input → �
   rows_whole : NeedsAreWhole ToldOf (all_upto first_tasks) (each_first (first_needed plan)) RowsOf PiecesOf StagesOf
   rows_whole m = needs_are_whole ToldOf (all_upto first_tasks) (each_first (first_needed plan)) RowsOf PiecesOf StagesOf m rises
 
-  module _ (size : ℕ) (s : SharedTable plan is_of contents taken written faults) (b : RingState (List (RunData O))) (sh : KeepsSharedRule plan is_of contents taken written faults size s b) where
+  module _ (size : ℕ) (s : SharedTable plan is_of contents taken written faults writes) (b : RingState (List (RunData O))) (sh : KeepsSharedRule plan is_of contents taken written faults writes size s b) where
     abbrev Rest : Type 0
     Rest = AtRest ToldOf (all_upto first_tasks) (each_first (first_needed plan)) RowsOf PiecesOf StagesOf size s b
 
@@ -169,7 +169,7 @@ module _ {O P S K : Type 0} (plan : O → Tree) (is_of : O → P → Input → �
 
       -- the blocks of all, in the words of the query
       block_whole : (u : ℕ) → IsWhole ToldOf (all_upto first_tasks) (each_first (first_needed plan)) RowsOf PiecesOf StagesOf size s b u
-          → AreOwnWhole plan is_of contents taken written faults size s b j t u
+          → AreOwnWhole plan is_of contents taken written faults writes size s b j t u
       block_whole u (inl home) =
           let z = at_zip (RowsAt (IsBlockOf plan) (IsAlone plan) u) (all_upto first_tasks b.told (u + 1)) home.1.0.items j (first_tasks t (u + 1)) home.1.2.1 (at_upto first_tasks b.told (u + 1) j t at) in
           inl (record {
@@ -180,15 +180,15 @@ module _ {O P S K : Type 0} (plan : O → Tree) (is_of : O → P → Input → �
           })
       block_whole u (inr one) = inr one
 
-      blocks : (u : ℕ) → free (plan t.operator) t.size (input_of t) b.assembled ≤ u → u < b.filled → AreOwnWhole plan is_of contents taken written faults size s b j t u
+      blocks : (u : ℕ) → free (plan t.operator) t.size (input_of t) b.assembled ≤ u → u < b.filled → AreOwnWhole plan is_of contents taken written faults writes size s b j t u
       blocks u low high = block_whole u ((rows_whole size s b sh).1 u (subst (λ z. z ≤ u) (own_free b.assembled ∙ sym (first_is b.assembled)) low, high))
 
-      tasks : (v u : ℕ) → b.assembled ≤ v → v < b.filled → free (plan t.operator) t.size (input_of t) v ≤ u → u ≤ v → AreOwnWhole plan is_of contents taken written faults size s b j t u
+      tasks : (v u : ℕ) → b.assembled ≤ v → v < b.filled → free (plan t.operator) t.size (input_of t) v ≤ u → u ≤ v → AreOwnWhole plan is_of contents taken written faults writes size s b j t u
       tasks v u from under low high = block_whole u ((rows_whole size s b sh).2 v u from under (subst (λ z. z ≤ u) (own_free v ∙ sym (first_is v)) low) high)
 
       -- a task that isn't assembled
       cell : (halted : Bool) (v : ℕ) → IsUnderWay ToldOf (all_upto first_tasks) (each_first (first_needed plan)) RowsOf PiecesOf StagesOf size s b halted v
-          → IsToDo size s.words s.homes v ⊎ (IsHandedIn size s.words s.homes v (IsOwnPiece plan is_of contents taken written faults size s b j t v) ⊎ ((v ≡ b.assembled) × (halted ≡ true) × IsTaken size s.words s.homes v))
+          → IsToDo size s.words s.homes v ⊎ (IsHandedIn size s.words s.homes v (IsOwnPiece plan is_of contents taken written faults writes size s b j t v) ⊎ ((v ≡ b.assembled) × (halted ≡ true) × IsTaken size s.words s.homes v))
       cell halted v (inl to_do) = inl to_do
       cell halted v (inr (inl (inl has))) =
           inr (inl (inl (record {
@@ -200,7 +200,7 @@ module _ {O P S K : Type 0} (plan : O → Tree) (is_of : O → P → Input → �
       cell halted v (inr (inl (inr mark))) = inr (inl (inr mark))
       cell halted v (inr (inr was)) = inr (inr was)
 
-      is_out : (rest : Rest) → IsOut plan is_of contents taken written faults size s b j t b.assembled rest.halted rest.stage
+      is_out : (rest : Rest) → IsOut plan is_of contents taken written faults writes size s b j t b.assembled rest.halted rest.stage
       is_out rest =
           let m = member_of b.told b.assembled rest.halted rest.stage rest.stage_is j t at in
           record {
@@ -215,7 +215,7 @@ module _ {O P S K : Type 0} (plan : O → Tree) (is_of : O → P → Input → �
             cells = λ v low high. cell rest.halted v (all_under_way ToldOf (all_upto first_tasks) (each_first (first_needed plan)) RowsOf PiecesOf StagesOf size s b sh rest v low high);
           }
 
-    pub at_rest : get_or s.words 0 0 % 2 ≡ 0 → EachIsOut plan is_of contents taken written faults size s b b.assembled
+    pub at_rest : get_or s.words 0 0 % 2 ≡ 0 → EachIsOut plan is_of contents taken written faults writes size s b b.assembled
     at_rest even =
         let rest : Rest = turns.at_rest ToldOf (all_upto first_tasks) (each_first (first_needed plan)) RowsOf PiecesOf StagesOf size s b sh even in
         record {
@@ -230,7 +230,7 @@ module _ {O P S K : Type 0} (plan : O → Tree) (is_of : O → P → Input → �
 
   -- the law speaks of some ring: a new one keeps the rule, and its turn is free
   pub new_one : (size : ℕ) (told : List (RunData O)) (words : List ℕ) (stages : Vec (Member (Stage S K)) Global) → 0 < size → size ≤ 1024 → ToldOf told 0 → StagesOf told 0 false stages → IsOpen size words
-      → (b : RingState (List (RunData O))) × KeepsSharedRule plan is_of contents taken written faults size (record { words = words; homes = map some (first_values size stages); views = start told ∷ [] }) b × (get_or words 0 0 % 2 ≡ 0)
+      → (b : RingState (List (RunData O))) × KeepsSharedRule plan is_of contents taken written faults writes size (record { words = words; homes = map some (first_values size stages); views = start told ∷ [] }) b × (get_or words 0 0 % 2 ≡ 0)
   new_one size told words stages some_cell few known runs is_open =
       let new = opens ToldOf (all_upto first_tasks) (each_first (first_needed plan)) RowsOf PiecesOf StagesOf (all_whole (IsTold plan) (IsAlone plan) first_tasks (tasks_whole plan)) size told words (first_values size stages) stages some_cell few known runs is_open refl in
       (new.0, new.1, ap (λ n. n % 2) is_open.1)

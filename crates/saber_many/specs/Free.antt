@@ -26,7 +26,7 @@ use Rattle.saber_many.specs.Labors.{all_upto, each_first}
 use Rattle.saber_many.specs.Queries.{IsAlone}
 
 module _ {O P S K : Type 0} (plan : O → Tree) (is_of : O → P → Input → ℕ → ℕ → Type 0) (contents : S → Kept) (taken : O → S → Input → Type 0)
-    (written : K → Option (List ℕ)) (faults : K → ℕ) where
+    (written : K → Option (List ℕ)) (faults writes : K → ℕ) where
   -- the work of several queries, by that of each
   abbrev pub AreToldOf : List (RunData O) → ℕ → Type 0
   AreToldOf told d = AreTold (IsTold plan) (IsAlone plan) told d
@@ -38,7 +38,7 @@ module _ {O P S K : Type 0} (plan : O → Tree) (is_of : O → P → Input → �
   ArePiecesOf told t pieces = ArePieces (IsPieceOf plan is_of) told t pieces.items
 
   abbrev pub AreStagesOf : List (RunData O) → ℕ → Bool → Vec (Member (Stage S K)) Global → Type 0
-  AreStagesOf told k stopped stages = AreStages first_tasks (IsStageOf plan (stage_view contents written faults) taken) told k stopped stages.items
+  AreStagesOf told k stopped stages = AreStages first_tasks (IsStageOf plan (stage_view contents written faults writes) taken) told k stopped stages.items
 
   -- the tables of the rings of several queries
   abbrev pub SharedTable : Type 0
@@ -86,7 +86,7 @@ module _ {O P S K : Type 0} (plan : O → Tree) (is_of : O → P → Input → �
         pub goes : member.goes ≡ true → (member.stage.state ≡ Running) × (member.stage.k ≡ k)
         pub stops : member.goes ≡ false → (member.stage.state ≢ Running) × (member.stage.k + 1 ≤ k + extra halted)
         pub halts : halted ≡ true → member.goes ≡ false
-        pub out : HasOut plan contents written faults told member.stage.k member.stage
+        pub out : HasOut plan contents written faults writes told member.stage.k member.stage
         pub blocks : (u : ℕ) → free q n r k ≤ u → u < b.filled → AreOwnWhole u
         pub tasks : (t u : ℕ) → k ≤ t → t < b.filled → free q n r t ≤ u → u ≤ t → AreOwnWhole u
         pub cells : (t : ℕ) → k ≤ t → t < b.filled → IsToDo size s.words s.homes t ⊎ (IsHandedIn size s.words s.homes t (IsOwnPiece t) ⊎ ((t ≡ k) × (halted ≡ true) × IsTaken size s.words s.homes t))

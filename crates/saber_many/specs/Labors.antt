@@ -41,6 +41,11 @@ module _ {L T R : Type 0} (upto : T → ℕ → T) (is_rows : T → ℕ → R �
     MakesEach labors rows made =
         (told : List T) (t : ℕ) → AllSuit suits labors (all_upto upto told 0) → AllZip (RowsAt is_rows alone t) told rows → ArePieces is_piece told t made
 
+-- the first of them is so
+abbrev pub FirstIs : {A : Type 0} → (A → Type 0) → List A → Type 0
+FirstIs P [] = ⊥
+FirstIs P (x ∷ xs) = P x
+
 -- it goes on no more
 abbrev pub HasStopped : {S : Type 0} → Member S → Type 0
 HasStopped member = member.goes ≡ false

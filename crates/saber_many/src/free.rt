@@ -11,5 +11,5 @@ use saber_io::Sink;
 /// handed in. A query whose stage stopped has the text of the tasks before that, whatever the
 /// others do.
 pub fn free_shared_turns_are_at_rest<O: Operator, K: Sink>()
-    ensures { FreeSharedTurnsAreAtRest O.plan O.is_of O.contents O.has_taken K.written K.faults }
+    ensures { FreeSharedTurnsAreAtRest O.plan O.is_of O.contents O.has_taken K.written K.faults K.writes }
 {}

@@ -1,10 +1,10 @@
 // Who does the works of a list.
-ghost use Rattle.std.specs.Prelude.{◌≡◌, ◌≤◌, ◌^◌, ◌<◌, ◌+◌, ℕ, List, [], true, false, None, IfSome};
+ghost use Rattle.std.specs.Prelude.{◌≡◌, ◌≢◌, ◌⊎◌, ⊤, ◌≤◌, ◌^◌, ◌<◌, ◌+◌, ℕ, List, [], true, false, None, IfSome};
 ghost use Rattle.std.specs.List.{AllByRecursion};
 ghost use Rattle.saber_ring.specs.Shows.{first_of_task};
 ghost use Rattle.saber_workers.specs.Labors.{IsOwn, Begins, CanLookBack, LooksBack, CanFinish, Finishes, IsNext, Absorbs};
 ghost use Rattle.saber_many.specs.Sharing.{AreRows, ArePieces, AreStages};
-ghost use Rattle.saber_many.specs.Labors.{flat, all_upto, each_first, AllSuit, CanMake, Makes, CanMakeEach, MakesEach, CanAbsorb, AbsorbsOne, CanAbsorbEach, AbsorbsEach, HasStopped};
+ghost use Rattle.saber_many.specs.Labors.{flat, all_upto, each_first, AllSuit, CanMake, Makes, CanMakeEach, MakesEach, CanAbsorb, AbsorbsOne, CanAbsorbEach, AbsorbsEach, HasStopped, FirstIs};
 
 use crate::member::Member;
 use crate::shareable::Shareable;
@@ -22,10 +22,30 @@ pub struct Each<L> {
     pub stopped: Vec<AtomicBool>,
 }
 
+// A flag of a work whose stage has stopped. What it holds no clause can say; so it is a type
+// parameter, and who tells that it was set has asked it.
+pub(crate) trait StopFlag {
+    ghost was_set: { Self → Type 0 };
+
+    // Whether it was set.
+    fn is_set(&self) -> bool
+        ensures { result ≡ true → Self.was_set self.now };
+}
+
+impl StopFlag for AtomicBool {
+    ghost was_set = { λ flag. ⊤ };
+
+    fn is_set(&self) -> bool {
+        self.load(Ordering::SeqCst)
+    }
+}
+
 // Whether the first of these works has stopped, as far as was told.
-fn has_stopped(stopped: &[AtomicBool]) -> bool {
+fn has_stopped<A: StopFlag>(stopped: &[A]) -> bool
+    ensures { result ≡ true → FirstIs A.was_set stopped.now }
+{
     match stopped.split_first() {
-        Some((first, _)) => first.load(Ordering::SeqCst),
+        Some((first, _)) => first.is_set(),
         None => false,
     }
 }
@@ -53,6 +73,7 @@ pub(crate) fn make<W: Shareable, L: Labor<W>>(
 ) -> Option<W::Piece>
     requires can { CanMake W.upto W.is_rows W.is_alone L.suits labor.now own.now }
     ensures makes { Makes W.upto W.is_rows W.is_alone L.suits W.is_piece labor.now own.now result }
+    ensures lacks { result ≡ None → L.lacked labor.now }
 {
     let Some(draft) = labor.start(alloc, own) else {
         return None;
@@ -60,15 +81,16 @@ pub(crate) fn make<W: Shareable, L: Labor<W>>(
     labor.finish(alloc, draft)
 }
 
-// The same, and none where its stage has stopped.
-fn make_one<W: Shareable, L: Labor<W>>(
+// The same, and none where its stage has stopped. Who gives none has asked both.
+fn make_one<W: Shareable, L: Labor<W>, A: StopFlag>(
     labor: &L,
-    stopped: &[AtomicBool],
+    stopped: &[A],
     alloc: Global,
     own: &W::Rows,
 ) -> Option<W::Piece>
     requires can { CanMake W.upto W.is_rows W.is_alone L.suits labor.now own.now }
     ensures makes { Makes W.upto W.is_rows W.is_alone L.suits W.is_piece labor.now own.now result }
+    ensures mark { result ≡ None → L.lacked labor.now ⊎ FirstIs A.was_set stopped.now }
 {
     if has_stopped(stopped) {
         return None;
@@ -95,7 +117,7 @@ where
         return VecDeque::new(alloc);
     };
     let mut pieces = make_each::<W, L>(others, others_of(stopped), alloc, rest);
-    let piece = make_one::<W, L>(labor, stopped, alloc, own);
+    let piece = make_one::<W, L, AtomicBool>(labor, stopped, alloc, own);
     match pieces.push_front(piece) {
         Ok(()) => pieces,
         Err(_) => VecDeque::new(alloc),
@@ -186,6 +208,9 @@ where
 
     ghost has_blocks = { λ each told t u draft. ArePieces W.is_piece told t draft.items };
 
+    // Where memory lacks for pieces, their list is there all the same.
+    ghost lacked = { λ each. ⊥ };
+
     fn first(&self, own: &Vec<W::Rows>) -> u64
         ensures { (told : List W.Data) (t : ℕ) → AreRows W.is_rows W.is_alone told t own.now.items → result ≡ first_of_task (all_upto W.upto) (each_first W.first) told t }
     {
@@ -197,7 +222,8 @@ where
 
     fn start(&self, alloc: Global, own: &Vec<W::Rows>) -> Option<VecDeque<Option<W::Piece>>>
         requires { IsOwn (all_upto W.upto) (λ told t rows. AreRows W.is_rows W.is_alone told t rows.items) (AllSuit L.suits self.now.list.items) own.now }
-        ensures { Begins (all_upto W.upto) (each_first W.first) (λ told t rows. AreRows W.is_rows W.is_alone told t rows.items) (AllSuit L.suits self.now.list.items) (λ told t u draft. ArePieces W.is_piece told t draft.items) own.now result }
+        ensures lacks { result ≢ None }
+        ensures begins { Begins (all_upto W.upto) (each_first W.first) (λ told t rows. AreRows W.is_rows W.is_alone told t rows.items) (AllSuit L.suits self.now.list.items) (λ told t u draft. ArePieces W.is_piece told t draft.items) own.now result }
     {
         Some(make_each::<W, L>(&self.list, &self.stopped, alloc, own))
     }
@@ -220,7 +246,8 @@ where
         draft: VecDeque<Option<W::Piece>>,
     ) -> Option<VecDeque<Option<W::Piece>>>
         requires { CanFinish (all_upto W.upto) (AllSuit L.suits self.now.list.items) (λ told t u draft. ArePieces W.is_piece told t draft.items) draft }
-        ensures { Finishes (all_upto W.upto) (AllSuit L.suits self.now.list.items) (λ told t u draft. ArePieces W.is_piece told t draft.items) (λ told t pieces. ArePieces W.is_piece told t pieces.items) draft result }
+        ensures lacks { result ≢ None }
+        ensures finishes { Finishes (all_upto W.upto) (AllSuit L.suits self.now.list.items) (λ told t u draft. ArePieces W.is_piece told t draft.items) (λ told t pieces. ArePieces W.is_piece told t pieces.items) draft result }
     {
         Some(draft)
     }

@@ -15,7 +15,8 @@
 //!   its own base data and by its own stage, whatever stopped the others. A member that stopped is
 //!   passed over from then on; the list of stages stops where the last one has. Where the works
 //!   are queries, each has what the theorem's first half says, whenever the turn is free
-//!   (`free_shared_turns_are_at_rest`).
+//!   (`free_shared_turns_are_at_rest`). A task of a work has the mark only where its labor says
+//!   that memory lacked, or the work's flag was set (`make_one`).
 //! - Not claimed: that no piece is made for a stage that stopped. A flag of each work tells workers
 //!   that it has; pieces that are under way are made, and its rows are dealt until all have
 //!   stopped. Where memory lacks for a list of pieces, others than the one that wanted it may have

@@ -4,7 +4,7 @@ use std::alloc::{AllocError, AllocFailed};
 
 /// How a call with several queries over one input ends where none of them is run. Queries are
 /// numbered from 1.
-#[derive(Clone, Copy, Debug, PartialEq, Eq)]
+#[derive(Clone, Copy)]
 pub enum Early {
     /// The words are no command.
     Usage,

@@ -6,7 +6,7 @@ use saber_query::Cause;
 use std::alloc::AllocError;
 
 /// A file that a command names.
-#[derive(Clone, Copy, Debug, PartialEq, Eq)]
+#[derive(Clone, Copy, PartialEq, Eq)]
 pub enum InputFile {
     Query,
     Left,
@@ -16,7 +16,7 @@ pub enum InputFile {
 }
 
 /// How a call of the program ends.
-#[derive(Clone, Copy, Debug, PartialEq, Eq)]
+#[derive(Clone, Copy, PartialEq, Eq)]
 pub enum Outcome {
     /// All is answered.
     Done,

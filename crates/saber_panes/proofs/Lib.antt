@@ -1,4 +1,3 @@
-mod Fitting
 mod Divisors
 mod PaneMaps
 mod WorkedPanes

@@ -1,16 +1,15 @@
 // How a plan's points are cut into panes.
-ghost use Rattle.std.specs.Prelude.{◌≡◌, ◌≤◌, ◌^◌, ◌<◌, ◌+◌, []};
+ghost use Rattle.std.specs.Prelude.{◌≡◌, ◌≤◌, ◌^◌, ◌<◌, ◌+◌};
 ghost use Rattle.saber_plan.specs.declared.plans.Shape.TheVariants.{Group};
 ghost use Rattle.saber_plan.specs.Trees.{tree_of};
 ghost use Rattle.saber_plan.specs.Answers.{frame};
 ghost use Rattle.saber_plan.specs.Checked.{IsChecked, WindowFits};
 ghost use Rattle.saber_plan.specs.GivenRows.{IsRowOf};
-ghost use Rattle.saber_plan.specs.Values as v;
 ghost use Rattle.saber_plan.specs.Windows as w;
 ghost use Rattle.saber_plan.specs.Windows.{one};
 ghost use Rattle.saber_panes.specs.Panes.{divisor, first_pane, is_counted, pane_count, pane_of};
 
-use saber_eval::holds;
+use saber_eval::passes;
 use saber_flat::RowRef;
 use saber_plan::{Mark, Plan, Window};
 use saber_window::{Windows, point, step_mark};
@@ -33,7 +32,6 @@ fn divisor(a: u64, b: u64) -> u64
 /// The window of a group query's stream.
 #[tactic(auto, using(saber_laws::proofs::CheckedLaws::groups_have_one_window))]
 pub(crate) fn window_of(plan: &Plan) -> Window
-    requires checked { IsChecked (tree_of plan.now) }
     requires group { (tree_of plan.now).shape ≡ Group }
     ensures frame { frame (tree_of plan.now) ≡ one result.measure result.slide result.size }
     ensures fits { WindowFits result }
@@ -73,13 +71,12 @@ impl<'a> Model for Cuts<'a> {
     ghost use Rattle.saber_plan.specs.Checked.{IsChecked, WindowFits};
     ghost use Rattle.saber_plan.specs.Windows.{one};
     ghost use Rattle.saber_plan.specs.Answers.{frame};
-    ghost use Rattle.saber_plan.specs.contracts.predicates.Pred as e;
-    ghost use Rattle.std.specs.Coded.{codes};
+    ghost use Rattle.saber_plan.specs.contracts.plans.Plan as e;
     ghost use Rattle.saber_panes.specs.Panes.{divisor, Cut};
 
     ghost Value = { Plan };
 
-    ghost coded = { Prim.hlevel (codes, e.the_row.coded) };
+    ghost coded = { e.the_row.coded };
 
     ghost view = { λ c. c.plan.now };
 
@@ -89,7 +86,6 @@ impl<'a> Model for Cuts<'a> {
 impl<'a> Cuts<'a> {
     /// How this plan's rows are cut.
     pub(crate) fn new(plan: &'a Plan) -> Cuts<'a>
-        requires checked { IsChecked (tree_of plan.now) }
         requires group { (tree_of plan.now).shape ≡ Group }
         ensures { result ≡ plan.now }
     {
@@ -122,28 +118,18 @@ impl<'a> Cuts<'a> {
         (first, first + self.window.size / self.width)
     }
 
-    // Whether a row passes WHERE.
-    #[tactic(auto, using(crate::proofs::Fitting::plan_fits))]
-    fn passes(&self, row: &RowRef) -> bool
-        requires { IsRowOf (tree_of self.now) row.now }
-        ensures { result ≡ v.passes (tree_of self.now).predicate row.now.values [] }
-    {
-        match self.plan.predicate() {
-            Some(predicate) => holds(predicate, row),
-            None => true,
-        }
-    }
-
     /// Whether a row lies in a window and passes WHERE.
+    #[tactic(auto, using(saber_eval::proofs::FittingLaws::group_fits))]
     pub(crate) fn is_counted(&self, row: &RowRef, before: &Mark) -> bool
         requires row { IsRowOf (tree_of self.now) row.now }
         requires left { before.now.left ≤ 2 ^ 40 }
         requires right { before.now.right ≤ 2 ^ 40 }
-        ensures { result ≡ is_counted (tree_of self.now) (record { row = row.now; before = before.now }) }
+        ensures is { result ≡ is_counted (tree_of self.now) (record { row = row.now; before = before.now }) }
+        ensures checked { IsChecked (tree_of self.now) }
     {
         let _plan = &self.plan;
         let (first, past) = self.windows.row_windows(row, before);
-        first < past && self.passes(row)
+        first < past && passes(self.plan, row)
     }
 
     /// The mark after one more row.

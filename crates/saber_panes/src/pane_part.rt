@@ -4,7 +4,7 @@ ghost use Rattle.saber_plan.specs.declared.rows.Side.TheVariants.{Left};
 ghost use Rattle.saber_plan.specs.declared.plans.Shape.TheVariants.{Group};
 ghost use Rattle.saber_plan.specs.Trees.{tree_of};
 ghost use Rattle.saber_plan.specs.Rows.{RowFits};
-ghost use Rattle.saber_plan.specs.Checked.{IsChecked, columns_on};
+ghost use Rattle.saber_plan.specs.Checked.{columns_on};
 ghost use Rattle.saber_plan.specs.Parts.{no_part, group_part, merge};
 ghost use Rattle.saber_partial.specs.Tallies.{CanMerge};
 
@@ -49,7 +49,6 @@ impl PanePart {
         row: &RowRef,
         steps: &mut Steps<L>,
     ) -> Result<PanePart, NoMemory>
-        requires checked { IsChecked (tree_of plan.now) }
         requires group { (tree_of plan.now).shape ≡ Group }
         requires row { RowFits Left (columns_on (tree_of plan.now).streams Left) row.now }
         requires room { CanMerge no_part (group_part (tree_of plan.now) (row.now.values ∷ [])) }
@@ -69,7 +68,6 @@ impl PanePart {
         row: &RowRef,
         steps: &mut Steps<L>,
     ) -> Result<(), NoMemory>
-        requires checked { IsChecked (tree_of plan.now) }
         requires group { (tree_of plan.now).shape ≡ Group }
         requires row { RowFits Left (columns_on (tree_of plan.now).streams Left) row.now }
         requires room { CanMerge self.old (group_part (tree_of plan.now) (row.now.values ∷ [])) }

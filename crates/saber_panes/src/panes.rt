@@ -3,7 +3,7 @@ ghost use Rattle.std.specs.Prelude.{◌≡◌, ◌+◌, ◌≤◌, ◌^◌, ◌<
 ghost use Rattle.std.specs.FinMap.{empty, len, retain_keys};
 ghost use Rattle.saber_plan.specs.declared.plans.Shape.TheVariants.{Group};
 ghost use Rattle.saber_plan.specs.Trees.{tree_of};
-ghost use Rattle.saber_plan.specs.Checked.{IsChecked, WindowFits};
+ghost use Rattle.saber_plan.specs.Checked.{IsChecked};
 ghost use Rattle.saber_plan.specs.Windows.{one, placed_after};
 ghost use Rattle.saber_plan.specs.Answers.{frame};
 ghost use Rattle.saber_plan.specs.GivenRows.{IsRowOf, RowsFit};
@@ -90,7 +90,6 @@ impl Panes {
         row: &RowRef,
         steps: &mut Steps<L>,
     ) -> Result<(), NoMemory>
-        requires checked { IsChecked (tree_of plan.now) }
         requires group { (tree_of plan.now).shape ≡ Group }
         requires cuts { cuts.now ≡ plan.now }
         requires row { IsRowOf (tree_of plan.now) row.now }
@@ -118,7 +117,6 @@ impl Panes {
         rows: &Rows,
         steps: &mut Steps<L>,
     ) -> Result<(), NoMemory>
-        requires checked { IsChecked (tree_of p.now) }
         requires group { (tree_of p.now).shape ≡ Group }
         requires rows { RowsFit (tree_of p.now) before.now rows.now }
         requires room { RowsRoom (tree_of p.now) self.old (counted_rows (tree_of p.now) (placed_after before.now rows.now)) }
@@ -176,7 +174,6 @@ impl Panes {
         out: &mut Partial,
         steps: &mut Steps<L>,
     ) -> Result<(), NoMemory>
-        requires checked { IsChecked (tree_of p.now) }
         requires group { (tree_of p.now).shape ≡ Group }
         requires near { first_pane (frame (tree_of p.now)) i + pane_count (frame (tree_of p.now)) < 2 ^ 64 }
         requires room { WindowRoom (tree_of p.now) i self.now out.old }

@@ -10,7 +10,6 @@ use Rattle.saber_plan.specs.Answers.{key_cmp, line, entry_lines, items_over}
 use Rattle.saber_plan.specs.Facts.Maps.{entries-from_rising}
 use Rattle.saber_plan.specs.Facts.Parts.{total, exact}
 use Rattle.saber_plan.specs.Parts.{Numbers, group_answer, answers_of, join_numbers, part_lines}
-use Rattle.saber_plan.specs.Texts.{Behind}
 use Rattle.saber_plan.specs.Trees.{Tree}
 use Rattle.saber_plan.specs.Values.{value}
 use Rattle.saber_partial.specs.Printing.{lines_for}
@@ -45,10 +44,6 @@ written_cell items k x row z out new low is h w =
     ap (λ l. l ++ cells rest) w
     ∙ append_assoc out (44 ∷ signed_decimal z) (cells rest)
     ∙ ap (λ l. out ++ cells l) (sym (next_asked items k x row z low is h))
-
--- what is behind a text that is behind another
-pub behind_both : (xs ys zs : List ℕ) → Behind xs ys → Behind ys zs → Behind xs zs
-behind_both xs ys zs a b = record { more = a.more ++ b.more; all = b.all ∙ ap (λ l. l ++ b.more) a.all ∙ append_assoc xs a.more b.more }
 
 -- the next entry of both
 module _ (es fs : List (List ℤ × Numbers)) (i j : ℕ) (x y : List ℤ × Numbers) (mine : drop i es ≡ x ∷ drop (i + 1) es) (theirs : drop j fs ≡ y ∷ drop (j + 1) fs) where

@@ -23,13 +23,12 @@ pub struct Aggregates<'a> {
 impl<'a> Model for Aggregates<'a> {
     ghost use Rattle.saber_plan.specs.declared.plans.Plan.{Plan};
     ghost use Rattle.saber_plan.specs.Trees.{tree_of};
-    ghost use Rattle.saber_plan.specs.contracts.predicates.Pred as e;
-    ghost use Rattle.std.specs.Coded.{codes};
+    ghost use Rattle.saber_plan.specs.contracts.plans.Plan as e;
     ghost use Rattle.saber_partial.specs.Sources.{AreFor};
 
     ghost Value = { Plan };
 
-    ghost coded = { Prim.hlevel (codes, e.the_row.coded) };
+    ghost coded = { e.the_row.coded };
 
     ghost view = { λ a. a.plan.now };
 
@@ -39,7 +38,6 @@ impl<'a> Model for Aggregates<'a> {
 impl<'a> Aggregates<'a> {
     /// What this plan asks. Takes no memory.
     pub fn of_plan(plan: &'a Plan) -> Aggregates<'a>
-        requires checked { IsChecked (tree_of plan.now) }
         requires group { (tree_of plan.now).shape ≡ Group }
         ensures { result ≡ plan.now }
     {
@@ -54,7 +52,8 @@ impl<'a> Aggregates<'a> {
     /// The columns of the key.
     #[inline]
     pub(crate) fn keys(&self) -> &[u32]
-        ensures { result.now ≡ (tree_of self.now).keys }
+        ensures is { result.now ≡ (tree_of self.now).keys }
+        ensures checked { IsChecked (tree_of self.now) }
     {
         self.plan.keys()
     }

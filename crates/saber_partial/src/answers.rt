@@ -3,7 +3,6 @@ ghost use Rattle.std.specs.Prelude.{◌≡◌, ◌≤◌, ◌∷◌, ◌++◌, [
 ghost use Rattle.std.specs.List.{AllByRecursion};
 ghost use Rattle.saber_plan.specs.declared.plans.Shape.TheVariants.{Group};
 ghost use Rattle.saber_plan.specs.Trees.{tree_of};
-ghost use Rattle.saber_plan.specs.Checked.{IsChecked};
 ghost use Rattle.saber_plan.specs.Answers.{items_over};
 ghost use Rattle.saber_plan.specs.Parts.{part_answers};
 ghost use Rattle.saber_partial.specs.Printing.{answers_under, IsLone};
@@ -79,7 +78,6 @@ impl Partial {
     /// The answers to the plan's items, a line for each group in the order of keys, without the
     /// window's number. It fails only for want of memory.
     pub fn answers(&self, alloc: Global, plan: &Plan) -> Result<Answers, NoMemory>
-        requires checked { IsChecked (tree_of plan.now) }
         requires group { (tree_of plan.now).shape ≡ Group }
         ensures { IfOk result (λ a. a ≡ part_answers (tree_of plan.now) self.now) }
     {

@@ -4,7 +4,7 @@ ghost use Rattle.saber_plan.specs.declared.rows.Side.TheVariants.{Left};
 ghost use Rattle.saber_plan.specs.declared.plans.Shape.TheVariants.{Group};
 ghost use Rattle.saber_plan.specs.Trees.{tree_of};
 ghost use Rattle.saber_plan.specs.Rows.{RowFits};
-ghost use Rattle.saber_plan.specs.Checked.{IsChecked, columns_on};
+ghost use Rattle.saber_plan.specs.Checked.{columns_on};
 ghost use Rattle.saber_plan.specs.Parts.{group_part, merge, no_part};
 ghost use Rattle.saber_partial.specs.Tallies.{CanMerge};
 ghost use Rattle.saber_partial.specs.Young.{young_part, IsOrder};
@@ -95,7 +95,6 @@ impl Gathering {
         aggregates: &Aggregates,
         row: &RowRef,
     ) -> Result<(), NoMemory>
-        requires checked { IsChecked (tree_of aggregates.now) }
         requires group { (tree_of aggregates.now).shape ≡ Group }
         requires row { RowFits Left (columns_on (tree_of aggregates.now).streams Left) row.now }
         requires room { CanMerge self.old (group_part (tree_of aggregates.now) (row.now.values ∷ [])) }

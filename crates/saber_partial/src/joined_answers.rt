@@ -3,7 +3,6 @@ ghost use Rattle.std.specs.Prelude.{◌≡◌, ◌≤◌, ◌<◌, ◌+◌, ◌�
 ghost use Rattle.std.specs.List.{AllByRecursion};
 ghost use Rattle.saber_plan.specs.declared.plans.Shape.TheVariants.{Group};
 ghost use Rattle.saber_plan.specs.Trees.{tree_of};
-ghost use Rattle.saber_plan.specs.Checked.{IsChecked};
 ghost use Rattle.saber_plan.specs.Answers.{items_over};
 ghost use Rattle.saber_plan.specs.Parts.{merge, part_answers};
 ghost use Rattle.saber_partial.specs.Flat.{entry_in, IsLayout, IsRow};
@@ -165,7 +164,6 @@ impl Partial {
         plan: &Plan,
         steps: &mut Steps<L>,
     ) -> Result<Answers, NoMemory>
-        requires checked { IsChecked (tree_of plan.now) }
         requires group { (tree_of plan.now).shape ≡ Group }
         requires can { CanMerge self.now later.now }
         ensures ok { IfOk result (λ a. a ≡ part_answers (tree_of plan.now) (merge self.now later.now)) }

@@ -3,7 +3,6 @@ ghost use Rattle.std.specs.Prelude.{◌≡◌, ◌≤◌, ◌<◌, ◌+◌, ◌�
 ghost use Rattle.std.specs.List.{AllByRecursion};
 ghost use Rattle.saber_plan.specs.declared.plans.Shape.TheVariants.{Group};
 ghost use Rattle.saber_plan.specs.Trees.{tree_of};
-ghost use Rattle.saber_plan.specs.Checked.{IsChecked};
 ghost use Rattle.saber_plan.specs.Answers.{items_over, line};
 ghost use Rattle.saber_plan.specs.Parts.{merge, part_lines};
 ghost use Rattle.saber_plan.specs.Texts.{Behind};
@@ -196,7 +195,6 @@ impl Partial {
         out: &mut Vec<u8>,
         steps: &mut Steps<L>,
     ) -> Result<(), NoMemory>
-        requires checked { IsChecked (tree_of plan.now) }
         requires group { (tree_of plan.now).shape ≡ Group }
         requires can { CanMerge self.now later.now }
         ensures ok { OnOk result (out.new.items ≡ out.old.items ++ part_lines (tree_of plan.now) window (merge self.now later.now)) }

@@ -3,7 +3,6 @@ ghost use Rattle.std.specs.Prelude.{◌≡◌, ◌≤◌, ◌∷◌, ◌++◌, [
 ghost use Rattle.std.specs.List.{AllByRecursion};
 ghost use Rattle.saber_plan.specs.declared.plans.Shape.TheVariants.{Group};
 ghost use Rattle.saber_plan.specs.Trees.{tree_of};
-ghost use Rattle.saber_plan.specs.Checked.{IsChecked};
 ghost use Rattle.saber_plan.specs.Answers.{items_over, line};
 ghost use Rattle.saber_plan.specs.Parts.{part_lines};
 ghost use Rattle.saber_plan.specs.Texts.{Behind};
@@ -107,7 +106,6 @@ impl Partial {
     /// window's number and the answers to the plan's items in decimal, with commas between, and LF
     /// (this project's rule). Where memory is wanting, `out` stays as it was.
     pub fn lines(&self, plan: &Plan, window: u64, out: &mut Vec<u8>) -> Result<(), NoMemory>
-        requires checked { IsChecked (tree_of plan.now) }
         requires group { (tree_of plan.now).shape ≡ Group }
         ensures ok { OnOk result (out.new.items ≡ out.old.items ++ part_lines (tree_of plan.now) window self.now) }
         ensures err { OnErr result (out.new.items ≡ out.old.items) }

@@ -1,7 +1,6 @@
 // Parts that follow one another, as few lists that fall in size.
 ghost use Rattle.std.specs.Prelude.{◌≡◌, ◌+◌, ◌<◌, ◌≤◌, ◌++◌, true, length, MatchOption, OnOk, OnErr, IfOk};
 ghost use Rattle.saber_plan.specs.declared.plans.Shape.TheVariants.{Group};
-ghost use Rattle.saber_plan.specs.Checked.{IsChecked};
 ghost use Rattle.saber_plan.specs.Parts.{merge, no_part, part_answers, part_lines};
 ghost use Rattle.saber_plan.specs.Trees.{tree_of};
 ghost use Rattle.saber_partial.specs.Tallies.{CanMerge};
@@ -142,7 +141,6 @@ fn write_behind<L: Ledger>(
     out: &mut Vec<u8>,
     steps: &mut Steps<L>,
 ) -> Result<(), NoMemory>
-    requires checked { IsChecked (tree_of plan.now) }
     requires group { (tree_of plan.now).shape ≡ Group }
     requires one { length parts.now ≤ 1 }
     requires can { CanMerge first.now (piled_part parts.now) }
@@ -164,7 +162,6 @@ fn answers_of_both<L: Ledger>(
     plan: &Plan,
     steps: &mut Steps<L>,
 ) -> Result<Answers, NoMemory>
-    requires checked { IsChecked (tree_of plan.now) }
     requires group { (tree_of plan.now).shape ≡ Group }
     requires one { length parts.now ≤ 1 }
     requires can { CanMerge first.now (piled_part parts.now) }
@@ -404,7 +401,6 @@ impl Pile {
         out: &mut Vec<u8>,
         steps: &mut Steps<L>,
     ) -> Result<(), NoMemory>
-        requires checked { IsChecked (tree_of plan.now) }
         requires group { (tree_of plan.now).shape ≡ Group }
         ensures ok { OnOk result (out.new.items ≡ out.old.items ++ part_lines (tree_of plan.now) window self.old.part) }
         ensures same { OnOk result (self.new.part ≡ self.old.part) }
@@ -428,7 +424,6 @@ impl Pile {
         out: &mut Vec<u8>,
         steps: &mut Steps<L>,
     ) -> Result<(), NoMemory>
-        requires checked { IsChecked (tree_of plan.now) }
         requires group { (tree_of plan.now).shape ≡ Group }
         requires can { CanMerge first.now self.old.part }
         ensures ok { OnOk result (out.new.items ≡ out.old.items ++ part_lines (tree_of plan.now) window (merge first.now self.old.part)) }
@@ -447,7 +442,6 @@ impl Pile {
         plan: &Plan,
         steps: &mut Steps<L>,
     ) -> Result<Answers, NoMemory>
-        requires checked { IsChecked (tree_of plan.now) }
         requires group { (tree_of plan.now).shape ≡ Group }
         ensures ok { IfOk result (λ a. a ≡ part_answers (tree_of plan.now) self.old.part) }
         ensures same { OnOk result (self.new.part ≡ self.old.part) }
@@ -468,7 +462,6 @@ impl Pile {
         plan: &Plan,
         steps: &mut Steps<L>,
     ) -> Result<Answers, NoMemory>
-        requires checked { IsChecked (tree_of plan.now) }
         requires group { (tree_of plan.now).shape ≡ Group }
         requires can { CanMerge first.now self.old.part }
         ensures ok { IfOk result (λ a. a ≡ part_answers (tree_of plan.now) (merge first.now self.old.part)) }

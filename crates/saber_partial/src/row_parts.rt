@@ -5,7 +5,7 @@ ghost use Rattle.saber_plan.specs.declared.rows.Side.TheVariants.{Left};
 ghost use Rattle.saber_plan.specs.declared.plans.Shape.TheVariants.{Group};
 ghost use Rattle.saber_plan.specs.Trees.{tree_of};
 ghost use Rattle.saber_plan.specs.Rows.{RowFits};
-ghost use Rattle.saber_plan.specs.Checked.{IsChecked, columns_on};
+ghost use Rattle.saber_plan.specs.Checked.{columns_on};
 ghost use Rattle.saber_plan.specs.Parts.{group_part, no_part};
 ghost use Rattle.saber_partial.specs.PartLaws.{OfRows};
 
@@ -85,7 +85,6 @@ impl RowParts {
     /// nothing changes.
     #[inline]
     pub fn push(&mut self, aggregates: &Aggregates, row: &RowRef) -> Result<(), NoMemory>
-        requires checked { IsChecked (tree_of aggregates.now) }
         requires group { (tree_of aggregates.now).shape ≡ Group }
         requires row { RowFits Left (columns_on (tree_of aggregates.now).streams Left) row.now }
         requires others { AllByRecursion (OfRows (tree_of aggregates.now) 1) self.old }

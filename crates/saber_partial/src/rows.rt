@@ -4,7 +4,7 @@ ghost use Rattle.saber_plan.specs.declared.rows.Side.TheVariants.{Left};
 ghost use Rattle.saber_plan.specs.declared.plans.Shape.TheVariants.{Group};
 ghost use Rattle.saber_plan.specs.Trees.{tree_of};
 ghost use Rattle.saber_plan.specs.Rows.{RowFits};
-ghost use Rattle.saber_plan.specs.Checked.{IsChecked, columns_on};
+ghost use Rattle.saber_plan.specs.Checked.{columns_on};
 ghost use Rattle.saber_plan.specs.Answers.{key};
 ghost use Rattle.saber_plan.specs.Parts.{group_part, merge};
 ghost use Rattle.saber_partial.specs.Tallies.{CanMerge};
@@ -34,7 +34,7 @@ pub(crate) fn push_key(list: &mut ArrayVec<i128, 8>, columns: &[u32], numbers: &
 impl Partial {
     /// Adds a row of a group query's stream to the group of its key (CQL 2006, GROUP BY; without
     /// one, all rows have the empty key), whether or not it passes WHERE: callers ask
-    /// `saber_eval::holds` once a row. Only the first row of a group takes memory; where that is
+    /// `saber_eval::passes` once a row. Only the first row of a group takes memory; where that is
     /// wanting, nothing changes. One step. What the plan asks is worked out anew.
     /// `small_merge` of `proofs/Counted.antt` meets `room`.
     pub fn add_row<L: Ledger>(
@@ -44,7 +44,6 @@ impl Partial {
         row: &RowRef,
         steps: &mut Steps<L>,
     ) -> Result<(), NoMemory>
-        requires checked { IsChecked (tree_of plan.now) }
         requires group { (tree_of plan.now).shape ≡ Group }
         requires row { RowFits Left (columns_on (tree_of plan.now).streams Left) row.now }
         requires room { CanMerge self.old (group_part (tree_of plan.now) (row.now.values ∷ [])) }
@@ -63,7 +62,6 @@ impl Partial {
         aggregates: &Aggregates,
         row: &RowRef,
     ) -> Result<(), NoMemory>
-        requires checked { IsChecked (tree_of aggregates.now) }
         requires group { (tree_of aggregates.now).shape ≡ Group }
         requires row { RowFits Left (columns_on (tree_of aggregates.now).streams Left) row.now }
         requires room { CanMerge self.old (group_part (tree_of aggregates.now) (row.now.values ∷ [])) }
@@ -78,7 +76,6 @@ impl Partial {
     /// The part of one row, as `Gathering` has it of some.
     #[inline(always)]
     pub fn of_row(alloc: Global, aggregates: &Aggregates, row: &RowRef) -> Result<Partial, NoMemory>
-        requires checked { IsChecked (tree_of aggregates.now) }
         requires group { (tree_of aggregates.now).shape ≡ Group }
         requires row { RowFits Left (columns_on (tree_of aggregates.now).streams Left) row.now }
         ensures { IfOk result (λ p. p ≡ group_part (tree_of aggregates.now) (row.now.values ∷ [])) }

@@ -6,9 +6,9 @@ ghost use Rattle.saber_plan.specs.Values as v;
 ghost use Rattle.saber_eval.specs.Widths.{widths};
 ghost use Rattle.saber_partial.specs.Sources.{AreSources, IsSource};
 
-use saber_eval::value;
+use saber_eval::{column_in, value};
 use saber_flat::RowRef;
-use saber_plan::{Aggregate, Expr, Factor, Side};
+use saber_plan::{Aggregate, Expr, Side};
 
 /// Where the value of an expression over a row comes from: a column alone, as most are, so that a
 /// row costs no walk through the expression, or the whole of it.
@@ -26,23 +26,15 @@ fn narrow(index: u32) -> Option<u8>
 }
 
 // The number of the column of a left row that an expression is alone.
-fn column_in(e: &Expr) -> Option<u8>
+fn left_column(e: &Expr) -> Option<u8>
     ensures { IfSome result (λ k. e.now ≡ lone k) }
 {
-    let products = e.as_slice();
-    if products.len() != 1 || products[0].minus {
-        return None;
-    }
-    let factors = products[0].factors.as_slice();
-    if factors.len() != 1 {
-        return None;
-    }
-    match &factors[0] {
-        Factor::Column { side, index } => match side {
-            Side::Left => narrow(*index),
+    match column_in(e) {
+        Some(column) => match column.0 {
+            Side::Left => narrow(column.1),
             Side::Right => None,
         },
-        Factor::Constant(_) => None,
+        None => None,
     }
 }
 
@@ -60,7 +52,7 @@ impl Source {
     fn of(e: &Expr) -> Source
         ensures { IsSource e.now result }
     {
-        match column_in(e) {
+        match left_column(e) {
             Some(column) => Source::Column(column),
             None => Source::Whole,
         }

@@ -5,7 +5,7 @@ ghost use Rattle.saber_plan.specs.declared.rows.Side.TheVariants.{Left};
 ghost use Rattle.saber_plan.specs.declared.plans.Shape.TheVariants.{Group};
 ghost use Rattle.saber_plan.specs.Trees.{tree_of};
 ghost use Rattle.saber_plan.specs.Rows.{RowFits};
-ghost use Rattle.saber_plan.specs.Checked.{IsChecked, columns_on};
+ghost use Rattle.saber_plan.specs.Checked.{columns_on};
 ghost use Rattle.saber_plan.specs.Answers.{key};
 ghost use Rattle.saber_plan.specs.Parts.{group_part, merge, no_part, numbers};
 ghost use Rattle.saber_partial.specs.Gathering.{CanCount};
@@ -207,7 +207,6 @@ impl Young {
     pub(crate) fn add_row(&mut self, aggregates: &Aggregates, row: &RowRef) -> Result<(), NoMemory>
         requires order { IsOrder self.old.order self.old.groups.entries }
         requires few { length self.old.groups.entries < 128 }
-        requires checked { IsChecked (tree_of aggregates.now) }
         requires group { (tree_of aggregates.now).shape ≡ Group }
         requires row { RowFits Left (columns_on (tree_of aggregates.now).streams Left) row.now }
         requires room { CanMerge (young_part self.old.order self.old.groups.entries) (group_part (tree_of aggregates.now) (row.now.values ∷ [])) }

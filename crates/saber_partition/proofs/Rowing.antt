@@ -13,9 +13,6 @@ use Rattle.saber_plan.specs.Parts.{no_part, group_part}
 use Rattle.saber_plan.specs.Facts.Lists.{all_weaker}
 use Rattle.saber_plan.specs.Facts.Rows.{is_left}
 use Rattle.saber_partition.specs.Streams.{Asks, row_part}
-use Rattle.saber_eval.specs.Widths.{widths}
-use Rattle.saber_eval.specs.Fitting.{PlanFits}
-use Rattle.saber_eval.proofs.FittingLaws.{one_stream as one_stream_fits}
 use Rattle.saber_laws.proofs.CheckedLaws.{groups_have_one_window}
 use Rattle.saber_laws.proofs.CutLaws.{no_rows_no_part}
 
@@ -24,12 +21,6 @@ pub row_fits : (q : Tree) (r : Row) → IsChecked q → q.shape ≡ Group → Is
 row_fits q r checked group h =
     let w = groups_have_one_window q checked group in
     subst (λ s. RowFits s (columns_on q.streams s) r) (is_left q w.stream w.streams r h) h.fits
-
--- which the plan fits
-pub plan_fits : (q : Tree) (r : Row) → IsChecked q → q.shape ≡ Group → IsRowOf q r → PlanFits q (widths r.values [])
-plan_fits q r checked group h =
-    let w = groups_have_one_window q checked group in
-    one_stream_fits q w.stream r checked w.streams (subst (λ ss. RowFits Left (columns_on ss Left) r) w.streams (row_fits q r checked group h))
 
 module _ (q : Tree) (a : Asks q) (r : Row) (is : IsRowOf q r) where
   -- the columns of its key list are there

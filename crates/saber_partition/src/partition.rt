@@ -1,7 +1,6 @@
 // A group query with PARTITION BY and its windows.
 ghost use Rattle.std.specs.Prelude.{◌≡◌, ◌≤◌, length};
 ghost use Rattle.saber_plan.specs.Trees.{tree_of};
-ghost use Rattle.saber_plan.specs.Checked.{IsChecked};
 
 use saber_partial::Aggregates;
 use saber_plan::Plan;
@@ -23,12 +22,11 @@ impl<'a> Model for Partition<'a> {
     ghost use Rattle.saber_plan.specs.Trees.{tree_of};
     ghost use Rattle.saber_plan.specs.Checked.{IsChecked};
     ghost use Rattle.saber_plan.specs.Answers.{frame};
-    ghost use Rattle.saber_plan.specs.contracts.predicates.Pred as e;
-    ghost use Rattle.std.specs.Coded.{codes};
+    ghost use Rattle.saber_plan.specs.contracts.plans.Plan as e;
 
     ghost Value = { Plan };
 
-    ghost coded = { Prim.hlevel (codes, e.the_row.coded) };
+    ghost coded = { e.the_row.coded };
 
     ghost view = { λ p. p.plan.now };
 
@@ -40,7 +38,6 @@ impl<'a> Partition<'a> {
 
     /// The operator of this plan. Takes no memory.
     pub fn new(plan: &'a Plan) -> Partition<'a>
-        requires checked { IsChecked (tree_of plan.now) }
         requires group { (tree_of plan.now).shape ≡ shapes.Group }
         requires lists { 1 ≤ length (tree_of plan.now).partition }
         ensures { result ≡ plan.now }

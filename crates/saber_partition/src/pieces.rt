@@ -4,7 +4,6 @@ ghost use Rattle.std.specs.List.{AllByRecursion};
 ghost use Rattle.saber_plan.specs.Answers.{key, list_of};
 ghost use Rattle.saber_plan.specs.GivenRows.{IsRowOf};
 ghost use Rattle.saber_plan.specs.Trees.{tree_of};
-ghost use Rattle.saber_plan.specs.Values as v;
 ghost use Rattle.std.specs.Prelude as l;
 ghost use Rattle.saber_partial.specs.PartLaws.{OfRows};
 ghost use Rattle.saber_partition.specs.Streams.{part_in, row_part};
@@ -14,7 +13,7 @@ ghost use Rattle.saber_partition.specs.Stores.{made_of, HasPart};
 use crate::letting::let_rows_go;
 use crate::partition::Partition;
 use arrayvec::ArrayVec;
-use saber_eval::holds;
+use saber_eval::passes;
 use saber_flat::{RowRef, Rows};
 use saber_partial::RowParts;
 use saber_plan::NoMemory;
@@ -60,20 +59,8 @@ fn place_at(places: &[u64], i: usize) -> u64
 }
 
 impl Partition<'_> {
-    // Whether a row passes WHERE.
-    #[tactic(auto, using(crate::proofs::Rowing::plan_fits))]
-    fn passes(&self, row: &RowRef) -> bool
-        requires { IsRowOf (tree_of self.now) row.now }
-        ensures { result ≡ v.passes (tree_of self.now).predicate row.now.values l.[] }
-    {
-        match self.plan.predicate() {
-            Some(predicate) => holds(predicate, row),
-            None => true,
-        }
-    }
-
     // Appends the part of a row to those of others, if the row passes, and says where it stands.
-    #[tactic(auto, using(crate::proofs::Rowing::row_fits, crate::proofs::Rowing::failing_part))]
+    #[tactic(auto, using(saber_eval::proofs::FittingLaws::group_fits, crate::proofs::Rowing::row_fits, crate::proofs::Rowing::failing_part))]
     fn push_part(&self, row: &RowRef, parts: &mut RowParts) -> Result<Option<usize>, NoMemory>
         requires row { IsRowOf (tree_of self.now) row.now }
         requires others { AllByRecursion (OfRows (tree_of self.now) 1) parts.old }
@@ -82,7 +69,7 @@ impl Partition<'_> {
         ensures there { IfOk result (λ at. IsPlace parts.new at) }
         ensures part { IfOk result (λ at. part_in parts.new at ≡ row_part (tree_of self.now) row.now) }
     {
-        if !self.passes(row) {
+        if !passes(self.plan, row) {
             return Ok(None);
         }
         let i = parts.len();

@@ -4,3 +4,4 @@ mod Cutting
 mod Dropping
 mod Ranged
 mod Storing
+mod Entering

@@ -1,7 +1,8 @@
 // What an operator does with the parts of its windows.
-ghost use Rattle.std.specs.Prelude.{◌≡◌, ◌++◌, OnOk, OnErr, IfOk};
+ghost use Rattle.std.specs.Prelude.{◌≡◌, ◌++◌, true, false, Some, OnOk, OnErr, IfOk};
 ghost use Rattle.saber_plan.specs.Trees.{Tree};
-ghost use Rattle.saber_plan.specs.Parts.{Part, merge, part_lines, part_answers};
+ghost use Rattle.saber_plan.specs.Parts.{Part, no_part, merge, part_lines, part_answers};
+ghost use Rattle.saber_plan.specs.Tasks.{full};
 ghost use Rattle.saber_plan.specs.GivenRows.{AreNeighbors};
 
 use saber_changes::Answers;
@@ -18,6 +19,11 @@ pub trait Assembles {
 
     /// What a part is for the definitions.
     ghost shown: { Self.Part → Part };
+
+    /// Whether a part has nothing, so that there is nothing to keep.
+    fn is_empty(&self, part: &Self::Part) -> bool
+        ensures none { result ≡ true → shown part.now ≡ no_part }
+        ensures some { result ≡ false → full (shown part.now) ≡ Some (shown part.now) };
 
     /// Takes in the part of later rows of the same window. After want of memory the part is only
     /// safe to let go.

@@ -5,22 +5,22 @@ use std::alloc::Global;
 /// The parts of windows that don't lie whole in the task, and the text of those that do. Windows
 /// come in rising order, so that each is put behind the others.
 #[derive(Drop)]
-pub struct Gathered<P> {
+pub(crate) struct Gathered<P> {
     /// The parts of windows that earlier tasks began and this one closes.
-    pub closing: Parts<P>,
+    pub(crate) closing: Parts<P>,
     /// Those of windows that earlier tasks began and later ones close.
-    pub pending: Parts<P>,
+    pub(crate) pending: Parts<P>,
     /// Those of windows that this task begins and later ones close.
-    pub opening: Parts<P>,
+    pub(crate) opening: Parts<P>,
     /// The lines of the windows that lie whole in the task.
-    pub text: Vec<u8>,
+    pub(crate) text: Vec<u8>,
 }
 
 impl<P: Drop> Gathered<P> {
     ghost use Rattle.std.specs.Prelude.{◌≡◌, []};
 
     /// Nothing yet. Takes no memory.
-    pub fn new(alloc: Global) -> Gathered<P>
+    pub(crate) fn new(alloc: Global) -> Gathered<P>
         ensures closing { result.closing ≡ [] }
         ensures pending { result.pending ≡ [] }
         ensures opening { result.opening ≡ [] }
@@ -35,7 +35,7 @@ impl<P: Drop> Gathered<P> {
     }
 
     /// All of it, as the piece of a task.
-    pub fn into_piece(self, closed_below: u64) -> Piece<P>
+    pub(crate) fn into_piece(self, closed_below: u64) -> Piece<P>
         ensures closing { result.closing ≡ self.closing }
         ensures pending { result.pending ≡ self.pending }
         ensures opening { result.opening ≡ self.opening }

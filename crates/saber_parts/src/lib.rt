@@ -1,10 +1,11 @@
 //! Parts by window, for operators each of whose windows has a part of its own, and their stores.
 //! Joins and selections with a window use it. Groups keep slices in place of parts by window.
 //!
-//! - Parts: `gathered` (what a task's windows give, by kind), `assembles` (the trait: how two parts
-//!   merge, and how a whole one is printed), `store`, `part_store`; `changes` and `change_store`
-//!   (the same under ISTREAM and DSTREAM, with the walk of `saber_changes`).
-//! - Calls: `PartStore::take_in` takes an operator that `Assembles`, the next task's piece, and the
+//! - Parts: `assembles` (the trait: how two parts merge, and how a whole one is printed),
+//!   `gathered` and `pieces` (what a task's windows give, by kind), `store`, `part_store`; `changes`
+//!   and `change_store` (the same under ISTREAM and DSTREAM, with the walk of `saber_changes`).
+//! - Calls: `piece_of_windows` makes a task's piece of the parts of its windows, and
+//!   `handed_of_windows` what it hands on under ISTREAM and DSTREAM. `PartStore::take_in` takes an operator that `Assembles`, the next task's piece, and the
 //!   text to which it appends; `drop_closed` lets the parts of closed windows go. `ChangeStore` has
 //!   the same two, and appends what windows gain or lose.
 //! - Proved: the text grows by what the piece adds, and the parts that it leaves open are kept
@@ -19,9 +20,10 @@ mod change_store;
 mod changes;
 mod gathered;
 mod part_store;
+mod pieces;
 mod store;
 
 pub use assembles::Assembles;
 pub use change_store::ChangeStore;
-pub use gathered::Gathered;
 pub use part_store::PartStore;
+pub use pieces::{handed_of_windows, piece_of_windows};

@@ -13,7 +13,7 @@ module _ {P : Type 0} {p : _} where
   abbrev pub to_send : Backlog P p → List Item
   to_send b = left_out b.left b.mark
 
-  -- nothing is left, or the pipe was full at one moment of the call, of the last items that were sent
+  -- nothing is left, or enough was sent for the pipe to have been full
   abbrev pub IsPoured : Backlog P p → Type 0
   IsPoured b = IsPouredOut b.left
 

@@ -4,7 +4,7 @@ use Rattle.crossbeam_queue.specs.Passes.{view}
 use Rattle.saber_io.specs.declared.feeds.EndMark.{EndMark}
 use Rattle.saber_pipe.specs.declared.items.Item.{Item}
 use Rattle.saber_pipe.specs.declared.left.Left.{Left}
-use Rattle.saber_pipe.specs.Outboxes.{sent_of, kept_of, whole_of, WasFull}
+use Rattle.saber_pipe.specs.Outboxes.{sent_of, kept_of, whole_of, MayHaveBeenFull}
 
 module _ {P : Type 0} {p : _} where
   -- what was sent
@@ -22,9 +22,9 @@ module _ {P : Type 0} {p : _} where
   whole_out (Left.Kept outbox) = whole_of outbox
   whole_out (Left.Sent receipt) = (view receipt.end).whole
 
-  -- nothing is left, or the pipe was full at one moment of the call, of the last items that were sent
+  -- nothing is left, or enough was sent for the pipe to have been full
   abbrev pub IsPouredOut : Left P p → Type 0
-  IsPouredOut (Left.Kept outbox) = WasFull outbox
+  IsPouredOut (Left.Kept outbox) = MayHaveBeenFull outbox
   IsPouredOut (Left.Sent receipt) = ⊤
 
   -- items from the front of what was left were sent, in order
@@ -34,7 +34,7 @@ module _ {P : Type 0} {p : _} where
     pub left_is : left_out old mark ≡ moved ++ left_out new mark
     pub whole_is : whole_out new ≡ whole_out old
 
-  -- the same is sent and left, and where nothing was left or the pipe was full it still is so
+  -- the same is sent and left, and where nothing was left or enough was sent it still is so
   pub record IsSameLeft (old new : Left P p) : Type 0 where
     pub sent_is : sent_out new ≡ sent_out old
     pub left_is : (mark : EndMark) → left_out new mark ≡ left_out old mark

@@ -28,9 +28,9 @@ module _ {P : Type 0} {p : _} where
   abbrev pub MaySend : Outbox P p → Type 0
   MaySend o = KeepsTo (whole_of o) (sent_of o) (kept_of o)
 
-  -- at one moment since the last send the pipe was full, of the last items that were sent
-  abbrev pub WasFull : Outbox P p → Type 0
-  WasFull o = Held 64 (HoldsLastOf (sent_of o))
+  -- At least as many items were sent as a full pipe holds, 64. That the pipe was full of them since the last send no clause can say, as some such list there always is then.
+  abbrev pub MayHaveBeenFull : Outbox P p → Type 0
+  MayHaveBeenFull o = Held 64 (HoldsLastOf (sent_of o))
 
   -- pieces from the front of what was kept were sent, in order
   pub record Moves (old new : Outbox P p) : Type 0 where
@@ -39,11 +39,11 @@ module _ {P : Type 0} {p : _} where
     pub kept_is : kept_of old ≡ moved ++ kept_of new
     pub whole_is : whole_of new ≡ whole_of old
 
-  -- nothing is kept, or the pipe was full
+  -- nothing is kept, or enough was sent for the pipe to have been full
   abbrev pub IsStill : Outbox P p → Type 0
-  IsStill o = (kept_of o ≡ []) ⊎ WasFull o
+  IsStill o = (kept_of o ≡ []) ⊎ MayHaveBeenFull o
 
-  -- the first piece that was kept is sent, or none is, and the pipe was full if one was kept
+  -- the first piece that was kept is sent, or none is, and enough was sent for the pipe to have been full if one was kept
   abbrev pub SendsOne : Outbox P p → Outbox P p → Bool → Type 0
   SendsOne old new true = Moves old new
   SendsOne old new false = Moves old new × (kept_of new ≡ kept_of old) × IsStill new

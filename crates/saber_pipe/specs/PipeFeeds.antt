@@ -46,15 +46,15 @@ module _ {R P : Type 0} {p : _} where
     pub got_is : got new ≡ got old ++ item ∷ []
     pub waiting_is : waiting new ≡ bytes_of (item ∷ [])
 
-  -- at one moment of the call the pipe held nothing: what was known to have been sent was taken (without that it would say only that some list is empty)
-  abbrev pub WasEmpty : PipeFeed R P p → Type 0
-  WasEmpty f = Held 0 (λ items. BeginsWith (got f ++ items) (known f))
+  -- All was taken that it knows to have been sent. That the pipe held nothing at one moment no clause can say, as an empty list there always is.
+  abbrev pub HasTakenKnown : PipeFeed R P p → Type 0
+  HasTakenKnown f = Held 0 (λ items. BeginsWith (got f ++ items) (known f))
 
   -- nothing is taken
   abbrev pub Keeping : PipeFeed R P p → PipeFeed R P p → Type 0
   Keeping old new = (got new ≡ got old) × (waiting new ≡ waiting old)
 
-  -- where bytes wait none are taken; else one item is taken, or the pipe was empty
+  -- where bytes wait none are taken; else one item is taken, or all was that it knows to have been sent
   abbrev pub TakesOne : PipeFeed R P p → PipeFeed R P p → Bool → Type 0
   TakesOne old new true = (Keeping old new × (waiting old ≢ [])) ⊎ Taking old new
-  TakesOne old new false = Keeping old new × (waiting old ≡ []) × WasEmpty new
+  TakesOne old new false = Keeping old new × (waiting old ≡ []) × HasTakenKnown new

@@ -3,7 +3,7 @@ use Rattle.std.specs.Prelude.{ℕ, ◌-◌, ◌^◌, min, List, ◌++◌, length
 use Rattle.saber_pipe.specs.declared.items.Item.{Item}
 use Rattle.saber_pipe.specs.declared.sink.PipeSink.{PipeSink}
 use Rattle.saber_pipe.specs.Order.{bytes_of}
-use Rattle.saber_pipe.specs.Outboxes.{sent_of, kept_of, WasFull}
+use Rattle.saber_pipe.specs.Outboxes.{sent_of, kept_of, MayHaveBeenFull}
 
 module _ {R P : Type 0} {p : _} where
   -- what the sink has sent
@@ -30,6 +30,6 @@ module _ {R P : Type 0} {p : _} where
   abbrev pub writes_of : PipeSink R P p → ℕ
   writes_of s = min (length (sent s ++ kept s)) (2 ^ 64 - 1)
 
-  -- at one moment since its last send the pipe was full, of the last items that were sent
-  abbrev pub HasBeenFull : PipeSink R P p → Type 0
-  HasBeenFull s = WasFull s.outbox
+  -- enough was sent for the pipe to have been full
+  abbrev pub MayHaveHadNoRoom : PipeSink R P p → Type 0
+  MayHaveHadNoRoom s = MayHaveBeenFull s.outbox

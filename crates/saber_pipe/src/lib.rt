@@ -10,14 +10,16 @@
 //!   lets go of what a writer left, `settle` takes the receipt.
 //! - Proved: what was sent is what was got, and then what the queue holds (`specs/Order.antt`);
 //!   behind a mark nothing is sent. No write fails but for want of memory; each of the others is
-//!   one piece more to send. `pour` keeps nothing, or the pipe was full since its last send;
-//!   `finish` leaves nothing, or its swap found `alone` set. `refill` is false only where all was
-//!   taken that its end knew to have been sent: of a relay with a backlog, all that was sent. What
-//!   was taken is a front of what was written, and all of it where a mark was taken, which is the
-//!   one that was sent (`settle`, `specs/Receipts.antt`); then nothing is left to send (`dismiss`).
-//! - Not claimed: that a reader reads, and what `alone` holds. A full pipe is back-pressure: a
-//!   writer waits for room, unless it is alone; then it never waits, and who reads later sends its
-//!   backlog on.
+//!   one piece more to send. `pour` keeps nothing, or 64 items at least were sent: with fewer the
+//!   pipe wasn't full. `finish` leaves nothing, or its backlog says that `alone` was set, and
+//!   `Backlog::send` says so only where it asked. `refill` is false only where all was taken that
+//!   its end knew to have been sent: of a relay with a backlog, all that was sent. What was taken is
+//!   a front of what was written, and all of it where a mark was taken, which is the one that was
+//!   sent (`settle`, `specs/Receipts.antt`); then nothing is left to send (`dismiss`).
+//! - Not claimed: that a reader reads, what `alone` holds, and that the pipe was full or empty at
+//!   the moment of a call: such a list there always is, so no clause can say it. A full pipe is
+//!   back-pressure: a writer waits for room, unless it is alone; then it never waits, and who reads
+//!   later sends its backlog on.
 //! - Limits: 64 items in the queue; what a sink that is alone keeps has no limit but memory.
 #![tactic(auto)]
 

@@ -33,7 +33,7 @@ impl<'a, P: PipeName> Outbox<'a, P> {
     ghost use Rattle.crossbeam_queue.specs.Passes.{view, IsPassOf, ruled_capacity};
     ghost use Rattle.saber_pipe.specs.declared.items.Item.TheVariants as item;
     ghost use Rattle.saber_pipe.specs.Order.{log, bytes_of};
-    ghost use Rattle.saber_pipe.specs.Outboxes.{sent_of, kept_of, whole_of, all_of, MaySend, WasFull, Moves, IsStill, SendsOne};
+    ghost use Rattle.saber_pipe.specs.Outboxes.{sent_of, kept_of, whole_of, all_of, MaySend, MayHaveBeenFull, Moves, IsStill, SendsOne};
     ghost use Rattle.saber_pipe.specs.Receipts.{promised};
 
     pub(crate) fn new(alloc: Global, line: &'a Line, end: End) -> Outbox<'a, P>
@@ -130,7 +130,7 @@ impl<'a, P: PipeName> Outbox<'a, P> {
         requires empty { kept_of self ≡ [] }
         requires may { whole_of self ≡ Some (all_of self mark) }
         ensures sent { IfOk result (λ r. ((view r.end).sent ≡ sent_of self.entry ++ item.Last mark ∷ []) × ((view r.end).whole ≡ whole_of self.entry)) }
-        ensures back { IfErr result (λ o. (sent_of o ≡ sent_of self.entry) × (kept_of o ≡ []) × (whole_of o ≡ whole_of self.entry) × WasFull o) }
+        ensures back { IfErr result (λ o. (sent_of o ≡ sent_of self.entry) × (kept_of o ≡ []) × (whole_of o ≡ whole_of self.entry) × MayHaveBeenFull o) }
     {
         let Outbox {
             line,

@@ -111,11 +111,11 @@ impl<'a, R: Wait, P: PipeName> Sink for PipeSink<'a, R, P> {
 
 impl<'a, R: Wait, P: PipeName> Pour for PipeSink<'a, R, P> {
     ghost use Rattle.std.specs.Prelude.{◌≡◌, ◌++◌, [], ◌⊎◌, Some};
-    ghost use Rattle.saber_pipe.specs.Sinks.{sent, kept, kept_bytes, written, faults_of, writes_of, HasBeenFull};
+    ghost use Rattle.saber_pipe.specs.Sinks.{sent, kept, kept_bytes, written, faults_of, writes_of, MayHaveHadNoRoom};
 
     ghost backlog = { kept_bytes };
 
-    ghost had_no_room = { HasBeenFull };
+    ghost had_no_room = { MayHaveHadNoRoom };
 
     // Sends all that is kept, and waits for room. Where the sink is alone, it sends what there is
     // room for, and never waits.
@@ -125,8 +125,8 @@ impl<'a, R: Wait, P: PipeName> Pour for PipeSink<'a, R, P> {
         ensures count { faults_of self.new ≡ faults_of self.old }
         ensures writes { writes_of self.new ≡ writes_of self.old }
         ensures all { sent self.new ++ kept self.new ≡ sent self.old ++ kept self.old }
-        ensures poured { (kept_bytes self.new ≡ []) ⊎ HasBeenFull self.new }
-        ensures until { (kept self.new ≡ []) ⊎ HasBeenFull self.new }
+        ensures poured { (kept_bytes self.new ≡ []) ⊎ MayHaveHadNoRoom self.new }
+        ensures until { (kept self.new ≡ []) ⊎ MayHaveHadNoRoom self.new }
     {
         let rt = self.rt;
         let mut pause = Pause::new();

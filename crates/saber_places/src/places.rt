@@ -2,7 +2,6 @@
 ghost use Rattle.std.specs.Prelude.{◌≡◌, ◌<◌, ◌^◌, ◌+◌, ◌++◌, ◌∷◌, [], List, length, IfOk, OnOk};
 ghost use Rattle.saber_plan.specs.declared.rows.Row.{Row};
 ghost use Rattle.saber_plan.specs.Trees.{Tree, tree_of};
-ghost use Rattle.saber_plan.specs.Checked.{IsChecked};
 ghost use Rattle.saber_plan.specs.GivenRows.{IsRowOf, RowsFit};
 ghost use Rattle.saber_plan.specs.Windows.{no_rows};
 ghost use Rattle.saber_plan.specs.Answers.{list_of, substream};
@@ -28,7 +27,6 @@ pub struct Places {
 impl Places {
     /// For a plan, before its first row; nothing without PARTITION BY.
     pub fn of_plan(alloc: Global, plan: &Plan) -> Result<Option<Places>, NoMemory>
-        requires { IsChecked (tree_of plan.now) }
         ensures { IfOk result (AreCounted (tree_of plan.now) []) }
     {
         let partition = plan.partition();

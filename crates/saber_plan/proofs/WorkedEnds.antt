@@ -1,5 +1,5 @@
 -- Worked answers of queries whose windows are closed by the end of the input.
-use Rattle.std.specs.Prelude.{◌≡◌, ℕ, List, [], ◌∷◌, map, true, false, None, codes, refl}
+use Rattle.std.specs.Prelude.{◌≡◌, ℕ, ◌-◌, ◌^◌, List, [], ◌∷◌, map, true, false, None, codes, refl}
 use Rattle.std.specs.Fmt.{digits}
 use Rattle.saber_plan.specs.declared.windows.Measure.TheVariants as measures
 use Rattle.saber_plan.specs.Trees.{Tree}
@@ -11,6 +11,9 @@ use Rattle.saber_plan.specs.Answers.{with_key, keys_of, lines, text}
 use Rattle.saber_plan.specs.Tasks.{run_input, task_start, task_count, piece, piece_between}
 use Rattle.saber_plan.specs.Shares.{shares_between}
 use Rattle.saber_plan.specs.Needs.{first_open, free, wide}
+use Rattle.saber_plan.specs.Outputs.{raised_by}
+use Rattle.saber_plan.specs.declared.ends.RunEnd.TheVariants as ends
+use Rattle.saber_plan.specs.Runs.{has_text, tasks_with_text, writes_of}
 use Rattle.saber_plan.proofs.Cases.{left_of, right_of, joining, five_lines, counted, sums_by_group}
 
 -- the input of a run over one file, with its end
@@ -62,6 +65,34 @@ flush_lines = refl
 flush_closes : (piece sums_by_group 2 (to_end sums_by_group five_lines) 3).closed ≡ 5
 unfolding lines_of fields_of judge read_by value_at placed_after from with_key keys_of lines piece_between shares_between digits
 flush_closes = refl
+
+-- ---- writes
+
+-- in tasks of one row, each second one closes a window, and so does the end
+which_have_text : map (has_text pairs 1 (to_end pairs five_lines)) (from 0 7) ≡ false ∷ true ∷ false ∷ true ∷ false ∷ true ∷ false ∷ []
+unfolding lines_of fields_of judge read_by value_at placed_after from with_key keys_of lines text digits
+which_have_text = refl
+
+two_of_five : tasks_with_text pairs 1 (to_end pairs five_lines) 5 ≡ 2
+unfolding lines_of fields_of judge read_by value_at placed_after from with_key keys_of lines text digits tasks_with_text
+two_of_five = refl
+
+-- a task with two lines has one write
+two_of_three : writes_of pairs 4 (to_end pairs five_lines) ends.AllRead 3 ≡ 2
+unfolding lines_of fields_of judge read_by value_at placed_after from with_key keys_of lines text digits tasks_with_text
+two_of_three = refl
+
+-- the write that failed counts too
+failed_write : writes_of pairs 1 (to_end pairs five_lines) ends.WriteFault 3 ≡ 2
+unfolding lines_of fields_of judge read_by value_at placed_after from with_key keys_of lines text digits tasks_with_text
+failed_write = refl
+
+three_more : raised_by 4 3 ≡ 7
+three_more = refl
+
+-- a count stands still at its last value
+no_more_to_count : raised_by (2 ^ 64 - 2) 3 ≡ 2 ^ 64 - 1
+no_more_to_count = refl
 
 -- ---- a join
 

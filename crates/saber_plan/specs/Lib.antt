@@ -22,3 +22,5 @@ pub mod Stages
 pub mod Texts
 pub mod Facts
 pub mod Codes
+pub mod TestCodes
+pub mod Views

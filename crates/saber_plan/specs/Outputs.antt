@@ -1,10 +1,15 @@
 -- What a sink has written, where it tells, and counts that only rise.
-use Rattle.std.specs.Prelude.{◌≡◌, ◌≤◌, ℕ, ◌+◌, ◌-◌, ◌^◌, min, List, [], ◌++◌, length, take, Option, Some, None, option_map}
+use Rattle.std.specs.Prelude.{◌≡◌, ◌≤◌, ℕ, zero, suc, ◌+◌, ◌-◌, ◌^◌, min, List, [], ◌++◌, length, take, Option, Some, None, option_map}
 use Rattle.std.proofs.Common.{refl, sym, ap, append-nil}
 
 -- a count after one more; at the last value of its type it stands still
 abbrev pub raised_count : ℕ → ℕ
 raised_count count = min (count + 1) (2 ^ 64 - 1)
+
+-- after n more
+abbrev pub raised_by : ℕ → ℕ → ℕ
+raised_by count zero = count
+raised_by count (suc n) = raised_count (raised_by count n)
 
 -- a count of faults rose, or stands at its last value
 abbrev pub Rose : ℕ → ℕ → Type 0

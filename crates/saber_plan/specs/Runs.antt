@@ -1,11 +1,12 @@
 -- What a run gives over inputs that tell their bytes.
-use Rattle.std.specs.Prelude.{Bool, ◌≡◌, ◌≢◌, ◌≤◌, ℕ, ◌+◌, List, ◌++◌, Some, None}
+use Rattle.std.specs.Prelude.{Bool, ◌≡◌, ◌≢◌, ◌≤◌, ℕ, suc, ◌+◌, List, ◌++◌, Some, None, filter, length, nat_lt}
 use Rattle.saber_plan.specs.declared.sizes.Sizes.{Sizes}
 use Rattle.saber_plan.specs.declared.ends.RunEnd.{RunEnd}
 use Rattle.saber_plan.specs.declared.ends.RunEnd.TheVariants.{AllRead, Bad, ReadFault, TooWide, WriteFault, NoMemory}
 use Rattle.saber_plan.specs.Rows.{Read, all_read, bad}
 use Rattle.saber_plan.specs.Inputs.{Input}
 use Rattle.saber_plan.specs.Trees.{Tree}
+use Rattle.saber_plan.specs.Windows.{from}
 use Rattle.saber_plan.specs.Answers.{text}
 use Rattle.saber_plan.specs.Tasks.{upto, task_count, run_input}
 use Rattle.saber_plan.specs.Needs.{need as blocks_needed, wide}
@@ -69,3 +70,23 @@ pub record Gives (q : Tree) (n ring : ℕ) (flush : Bool) (read : Read) (e : Run
 -- what a run of these sizes gives over files with these bytes
 abbrev pub GivesOver : Tree → Sizes → List (List ℕ) → RunEnd → ℕ → List ℕ → Type 0
 GivesOver q s files e tasks out = Gives q s.task s.ring s.flush (input_of q (limits_of s) files) e tasks out
+
+-- ---- writes
+
+-- task t has text: that of the first t + 1 tasks is longer than that of the first t
+abbrev pub has_text : Tree → ℕ → Input → ℕ → Bool
+has_text q n r t = nat_lt (length (text q (upto n r t))) (length (text q (upto n r (t + 1))))
+
+-- how many of the first k tasks of n rows have text
+unfoldable pub tasks_with_text : Tree → ℕ → Input → ℕ → ℕ
+tasks_with_text q n r k = length (filter (has_text q n r) (from 0 k))
+
+-- how many writes a run makes that ended so: one for each task of those assembled that has text, and the one that failed
+abbrev pub writes_of : Tree → ℕ → Input → RunEnd → ℕ → ℕ
+writes_of q n r AllRead tasks = tasks_with_text q n r tasks
+writes_of q n r WriteFault tasks = suc (tasks_with_text q n r tasks)
+writes_of q n r _ tasks = tasks_with_text q n r tasks
+
+-- of a run of these sizes over files with these bytes
+abbrev pub writes_over : Tree → Sizes → List (List ℕ) → RunEnd → ℕ → ℕ
+writes_over q s files e tasks = writes_of q s.task (run_input q s.flush (input_of q (limits_of s) files)) e tasks

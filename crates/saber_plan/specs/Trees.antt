@@ -1,13 +1,11 @@
 -- Predicates and plans as trees, without where they lie in memory.
-use Rattle.std.specs.Prelude.{ℕ, List, [], ◌∷◌, Option, option_map}
-use Rattle.std.specs.Option.{option_map_or}
+use Rattle.std.specs.Prelude.{ℕ, List, [], ◌∷◌, Option}
 use Rattle.saber_plan.specs.declared.predicates.Cmp.{Cmp}
 use Rattle.saber_plan.specs.declared.plans.Aggregate.{Aggregate}
 use Rattle.saber_plan.specs.declared.expressions.Product.{Product}
 use Rattle.saber_plan.specs.declared.plans.Shape.{Shape}
 use Rattle.saber_plan.specs.declared.plans.Word.{Word}
 use Rattle.saber_plan.specs.declared.windows.Stream.{Stream}
-use Rattle.saber_plan.specs.declared.plans.Plan.{Plan}
 use Rattle.saber_plan.specs.declared.predicates.Pred.{Pred, fold-Pred}
 use Rattle.saber_plan.specs.declared.predicates.Conj.{Conj, fold-Conj}
 use Rattle.saber_plan.specs.declared.predicates.Unit.{Unit as Unit_tree, fold-Unit, Unit-F}
@@ -64,6 +62,10 @@ pub record Tree : Type 0 where
   pub partition : List ℕ
   pub word : Option Word
 
--- a plan's tree
-abbrev pub tree_of : Plan → Tree
-tree_of p = record { shape = p.shape; streams = p.streams.items; aggregates = p.aggregates.items; items = p.items.items; keys = p.keys.items; predicate = option_map tests_of p.predicate; partition = option_map_or (λ v. v.items) p.partition []; word = p.word }
+-- the tree of these parts
+abbrev pub tree : Shape → List Stream → List Aggregate → List (List Product) → List ℕ → Option Tests → List ℕ → Option Word → Tree
+tree s ss gs is ks p l w = record { shape = s; streams = ss; aggregates = gs; items = is; keys = ks; predicate = p; partition = l; word = w }
+
+-- a plan's tree: the plan itself, as contracts see it
+abbrev pub tree_of : Tree → Tree
+tree_of q = q

@@ -10,11 +10,12 @@
 //!   of a run and of its files), `Windows`, `Overlap`, `Values`, `Bounds` (how great values get),
 //!   `Answers`, `Parts` (with `Merges`), `Shares`, `Tasks`, `Needs`, `Runs` (what goes out of a
 //!   run, by its end), `Texts`, `Outputs` and `Stages` (what a stage has of a run). `Checked` is
-//!   what every checked plan keeps, `GivenRows` the rows that it can be given. `Pairing` and
-//!   `Codes` say the same of pairs and of parts as code works with them; the lemmas of
+//!   what every plan keeps, `GivenRows` the rows that it can be given. `Pairing` and `Codes` say
+//!   the same of pairs and of parts as code works with them; `Views` is a plan's fields as its
+//!   tree, `TestCodes` the code of predicates; the lemmas of
 //!   `specs/Facts/` serve proofs, and no contract rests on them.
-//! - Calls: `Plan::new` takes a shape, streams, aggregates, items, keys and a predicate; `overlap`
-//!   a size and a slide.
+//! - Calls: `Plan::new` takes all parts of a plan, which have to be checked (`IsChecked`), and each
+//!   of a plan's calls tells that it is; `overlap` takes a size and a slide.
 //! - Proved: plans, expressions and predicates give back what they were built from; `overlap` is
 //!   how many windows have a point, at most. In `proofs/` the `Worked*` are small cases worked out
 //!   by hand, with which the checker finds the definitions to agree.

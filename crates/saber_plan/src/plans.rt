@@ -1,5 +1,6 @@
 // Checked queries.
 use crate::{Expr, Pred, Stream};
+use std::marker::Model;
 
 /// What kind of query it is: a selection of rows, groups over windows, or a join of two streams.
 #[derive(Clone, Copy, Debug, PartialEq, Eq)]
@@ -41,7 +42,8 @@ pub enum Word {
 /// the items of SELECT, the columns of GROUP BY (counted from 0), the predicate of WHERE, and,
 /// where the query has them, the columns of PARTITION BY and its stream word. An item is an
 /// expression over a row, over a pair of rows, or over a group, whose numbers are the columns of
-/// its key, how many rows it has, and its aggregates. Contracts see it as a tree.
+/// its key, how many rows it has, and its aggregates. Contracts see it as a tree, and every plan
+/// keeps what the checks of a query promise.
 #[derive(Drop)]
 pub struct Plan {
     shape: Shape,
@@ -50,17 +52,34 @@ pub struct Plan {
     items: Vec<Expr>,
     keys: Vec<u32>,
     predicate: Option<Pred>,
-    partition: Option<Vec<u32>>,
+    partition: Vec<u32>,
     word: Option<Word>,
 }
 
-impl Plan {
-    ghost use Rattle.std.specs.Prelude.{◌≡◌, [], None, Some, option_map};
-    ghost use Rattle.std.specs.Option.{option_map_or};
-    ghost use Rattle.saber_plan.specs.Trees.{tree_of, tests_of};
+impl Model for Plan {
+    ghost use Rattle.std.specs.Coded.{codes};
+    ghost use Rattle.saber_plan.specs.Trees.{Tree};
+    ghost use Rattle.saber_plan.specs.TestCodes.{coded_tests};
+    ghost use Rattle.saber_plan.specs.Checked.{IsChecked};
 
-    /// The plan of these parts, without PARTITION BY and a stream word. The check of a query makes
-    /// it.
+    ghost Value = { Tree };
+
+    ghost coded = { Prim.hlevel (codes, coded_tests (Prim.hlevel codes)) };
+
+    ghost use Rattle.saber_plan.specs.Views.{fields_tree};
+
+    ghost view = { fields_tree };
+
+    ghost invariant = { λ p. IsChecked (fields_tree p) };
+}
+
+impl Plan {
+    ghost use Rattle.std.specs.Prelude.{◌≡◌, option_map};
+    ghost use Rattle.saber_plan.specs.Trees.{tree, tree_of, tests_of};
+    ghost use Rattle.saber_plan.specs.Checked.{IsChecked};
+
+    /// The plan of these parts; without a clause PARTITION BY its columns are none. The check of a
+    /// query makes it.
     pub fn new(
         shape: Shape,
         streams: Vec<Stream>,
@@ -68,61 +87,12 @@ impl Plan {
         items: Vec<Expr>,
         keys: Vec<u32>,
         predicate: Option<Pred>,
+        partition: Vec<u32>,
+        word: Option<Word>,
     ) -> Plan
-        ensures { tree_of result ≡ record { shape = shape; streams = streams.items; aggregates = aggregates.items; items = items.items; keys = keys.items; predicate = option_map tests_of predicate; partition = []; word = None } }
+        requires checked { IsChecked (tree shape streams.items aggregates.items items.items keys.items (option_map tests_of predicate) partition.items word) }
+        ensures { tree_of result ≡ tree shape streams.items aggregates.items items.items keys.items (option_map tests_of predicate) partition.items word }
     {
-        Plan {
-            shape,
-            streams,
-            aggregates,
-            items,
-            keys,
-            predicate,
-            partition: None,
-            word: None,
-        }
-    }
-
-    /// The same plan with these columns of PARTITION BY.
-    pub fn partitioned(self, columns: Vec<u32>) -> Plan
-        ensures { tree_of result ≡ record (tree_of self) { partition = columns.items } }
-    {
-        let Plan {
-            shape,
-            streams,
-            aggregates,
-            items,
-            keys,
-            predicate,
-            partition: _partition,
-            word,
-        } = self;
-        Plan {
-            shape,
-            streams,
-            aggregates,
-            items,
-            keys,
-            predicate,
-            partition: Some(columns),
-            word,
-        }
-    }
-
-    /// The same plan with this stream word.
-    pub fn streamed(self, word: Word) -> Plan
-        ensures { tree_of result ≡ record (tree_of self) { word = Some word } }
-    {
-        let Plan {
-            shape,
-            streams,
-            aggregates,
-            items,
-            keys,
-            predicate,
-            partition,
-            word: _word,
-        } = self;
         Plan {
             shape,
             streams,
@@ -131,65 +101,70 @@ impl Plan {
             keys,
             predicate,
             partition,
-            word: Some(word),
+            word,
         }
     }
 
     /// Its shape.
     pub fn shape(&self) -> Shape
-        ensures { result ≡ (tree_of self.now).shape }
+        ensures is { result ≡ (tree_of self.now).shape }
+        ensures checked { IsChecked (tree_of self.now) }
     {
         self.shape
     }
 
     /// The streams of FROM, one or two.
     pub fn streams(&self) -> &[Stream]
-        ensures { result.now ≡ (tree_of self.now).streams }
+        ensures is { result.now ≡ (tree_of self.now).streams }
+        ensures checked { IsChecked (tree_of self.now) }
     {
         &self.streams
     }
 
     /// What a group gathers of its rows, beside their count.
     pub fn aggregates(&self) -> &[Aggregate]
-        ensures { result.now ≡ (tree_of self.now).aggregates }
+        ensures is { result.now ≡ (tree_of self.now).aggregates }
+        ensures checked { IsChecked (tree_of self.now) }
     {
         &self.aggregates
     }
 
     /// The items of SELECT.
     pub fn items(&self) -> &[Expr]
-        ensures { result.now ≡ (tree_of self.now).items }
+        ensures is { result.now ≡ (tree_of self.now).items }
+        ensures checked { IsChecked (tree_of self.now) }
     {
         &self.items
     }
 
     /// The columns of GROUP BY.
     pub fn keys(&self) -> &[u32]
-        ensures { result.now ≡ (tree_of self.now).keys }
+        ensures is { result.now ≡ (tree_of self.now).keys }
+        ensures checked { IsChecked (tree_of self.now) }
     {
         &self.keys
     }
 
     /// The predicate of WHERE.
     pub fn predicate(&self) -> Option<&Pred>
-        ensures { option_map (λ p. tests_of p.now) result ≡ (tree_of self.now).predicate }
+        ensures is { option_map (λ p. tests_of p.now) result ≡ (tree_of self.now).predicate }
+        ensures checked { IsChecked (tree_of self.now) }
     {
         self.predicate.as_ref()
     }
 
     /// The columns of PARTITION BY, counted from 0; none where the query has no such clause.
     pub fn partition(&self) -> &[u32]
-        ensures { result.now ≡ (tree_of self.now).partition }
+        ensures is { result.now ≡ (tree_of self.now).partition }
+        ensures checked { IsChecked (tree_of self.now) }
     {
-        match &self.partition {
-            Some(columns) => columns,
-            None => &[],
-        }
+        &self.partition
     }
 
     /// The stream word, if the query has one.
     pub fn word(&self) -> Option<Word>
-        ensures { result ≡ (tree_of self.now).word }
+        ensures is { result ≡ (tree_of self.now).word }
+        ensures checked { IsChecked (tree_of self.now) }
     {
         self.word
     }

@@ -7,7 +7,7 @@ use std::alloc::{AllocError, AllocFailed};
 /// What is wrong with a text or its query. The first five are of the text, found by `parse`, the
 /// others of the query that it means, found by the checks that follow. Where several begin at one
 /// word, the earlier here is told.
-#[derive(Clone, Copy, Debug, PartialEq, Eq)]
+#[derive(Clone, Copy, PartialEq, Eq)]
 pub enum Cause {
     /// More than 65,536 bytes.
     TooLong,
@@ -44,7 +44,7 @@ pub enum Cause {
 }
 
 /// A fault of a text: its cause and the byte where it stands, or want of memory.
-#[derive(Clone, Copy, Debug, PartialEq, Eq)]
+#[derive(Clone, Copy)]
 pub enum QueryFault {
     /// Memory ran out.
     NoMemory,

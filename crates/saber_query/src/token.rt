@@ -6,7 +6,7 @@ ghost use Rattle.saber_query.specs.Tokens.{keyword_among, keyword_of, word_of};
 use std::marker::Model;
 
 /// The reserved words, in any case.
-#[derive(Clone, Copy, PartialEq, Eq)]
+#[derive(Clone, Copy)]
 pub enum Keyword {
     Stream,
     Select,
@@ -31,7 +31,7 @@ pub enum Keyword {
 }
 
 /// The signs of one or two bytes.
-#[derive(Clone, Copy, PartialEq, Eq)]
+#[derive(Clone, Copy)]
 pub enum Sign {
     Open,
     Close,

@@ -60,7 +60,7 @@ pub struct Prod {
 }
 
 /// How a product is joined to those before it.
-#[derive(Clone, Copy, PartialEq, Eq)]
+#[derive(Clone, Copy)]
 pub enum Adding {
     Plus,
     Minus,
@@ -148,7 +148,7 @@ pub struct Source {
 }
 
 /// A comparison of two expressions.
-#[derive(Clone, Copy, PartialEq, Eq)]
+#[derive(Clone, Copy)]
 pub enum Cmp {
     Equal,
     Unequal,
@@ -328,7 +328,7 @@ impl Decls {
 /// The word before a SELECT in parentheses, which makes a stream of the answers of its windows: all
 /// of each window, those that the window before it lacks, or those of the window before it that it
 /// lacks.
-#[derive(Clone, Copy, Debug, PartialEq, Eq)]
+#[derive(Clone, Copy)]
 pub enum StreamWord {
     Rstream,
     Istream,

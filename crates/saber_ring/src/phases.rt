@@ -2,7 +2,7 @@
 ghost use Rattle.std.specs.Prelude.{◌≡◌};
 
 /// Where the word of a cell says that its task is.
-#[derive(Clone, Copy, PartialEq, Eq)]
+#[derive(Clone, Copy)]
 pub enum Phase {
     /// Free for the task.
     Idle,
@@ -23,7 +23,7 @@ pub enum Phase {
 }
 
 /// Where the word of a block says that its rows are.
-#[derive(Clone, Copy, PartialEq, Eq)]
+#[derive(Clone, Copy)]
 pub enum BlockPhase {
     /// Never filled.
     Empty,

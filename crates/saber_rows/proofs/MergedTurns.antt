@@ -368,3 +368,15 @@ settled_fails (Failed x) e h = cc
 pub unfailed_yet : (f r : Option Look) → settled_answer f r ≡ None → (f ≡ None → (e : RowEnd) → r ≢ Some (Failed e)) → (e : RowEnd) → r ≢ Some (Failed e)
 unfailed_yet None r h held e g = held refl e g
 unfailed_yet (Some l) r h held e g = settled_fails l e (subst (λ x. settled_answer (Some l) x ≡ None) g h)
+
+-- ---- an answer that is given again
+
+both_hold : (o : Option MergeAnswer) (E F : Type 0) (G : MergeAnswer → Type 0) → E → F → IfSome o G → IfSome o (λ a. G a × E × F)
+both_hold None E F G e f h = tt
+both_hold (Some a) E F G e f h = (h, e, f)
+
+-- what ended the merge is told by the look at the left side, and then by the right one
+pub again_behind : (left right : Option Look) (look : Look) (E F : Type 0) (G : MergeAnswer → Type 0) → IfSome left (λ l. (look ≡ l) × E × F) → IfSome (settled_answer (Some look) right) G
+    → IfSome (settled_answer left right) (λ a. G a × E × F)
+again_behind None right look E F G h g = tt
+again_behind (Some l) right look E F G h g = both_hold (settled_answer (Some l) right) E F G h.1 h.2 (subst (λ x. IfSome (settled_answer (Some x) right) G) h.0 g)

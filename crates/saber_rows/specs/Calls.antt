@@ -5,7 +5,8 @@ use Rattle.saber_plan.specs.Rows.{SideRules, Line, Read, End, all_read, cut, bad
 use Rattle.saber_io.specs.Outside.{left_before, EndsEmpty}
 use Rattle.saber_rows.specs.declared.ends.RowEnd.{RowEnd}
 use Rattle.saber_rows.specs.declared.ends.RowEnd.TheVariants.{ReadFault, NoMemory, Bad}
-use Rattle.saber_rows.specs.Reader.{Reader, gone_count, rest_of, rest_over, CanFollow, HasEnd, NeedsMore}
+use Rattle.saber_plan.specs.Outputs.{Rose}
+use Rattle.saber_rows.specs.Reader.{Reader, gone_count, rest_of, rest_over, nothing, CanFollow, HasEnd, NeedsMore}
 
 -- an answer's row and then these
 abbrev pub given_by : Result (Option Row) RowEnd → Read → Read
@@ -39,6 +40,20 @@ pub record Moves (out : Read → Read) (old new : Reader) (had has : Option (Lis
   pub still : old.ended ≡ true → (taken ≡ []) × (new.ended ≡ true)
   pub seen : old.ended ≡ false → new.ended ≡ true → EndsEmpty has
 
+-- The reader had to read: what it took before the last read made no row due and refused no line, with what it held, and it did not see the end.
+-- The last read gave at most 4,096 bytes.
+pub record LastRead (old : Reader) (had has : Option (List ℕ)) : Type 0 where
+  pub before : List ℕ
+  pub last : List ℕ
+  pub left : had ≡ left_before (before ++ last) has
+  pub few : length last ≤ 4096
+  pub unended : old.ended ≡ false
+  pub none : rest_of true old before ≡ nothing cut
+
+-- no read came once the answer was decided: there was none at all, or nothing before the last one decided it
+abbrev pub ReadsNoMore : {A : Type 0} → (A → Option (List ℕ)) → A → A → Reader → Type 0
+ReadsNoMore left was is old = (is ≡ was) ⊎ LastRead old (left was) (left is)
+
 -- a row of the reader's side, not before the last one; the reader then has its timestamp, and a line more that gives no row any more
 pub record IsGiven (row : Row) (old new : Reader) : Type 0 where
   pub fits : RowFits old.rules.side old.rules.columns row
@@ -58,6 +73,20 @@ EndsBy (Ok None) r = HasEnd all_read r × (r.ended ≡ true)
 EndsBy (Err (Bad n c)) r = HasEnd (bad r.rules.side n c) r
 EndsBy (Err ReadFault) r = NeedsMore r
 EndsBy (Err NoMemory) r = WantsMemory r.rules
+
+-- a read that failed shows in the count of faults; all else leaves it
+abbrev pub AnswerFaults : Result (Option Row) RowEnd → ℕ → ℕ → Type 0
+AnswerFaults (Ok o) was is = is ≡ was
+AnswerFaults (Err ReadFault) was is = Rose was is × (was ≤ is)
+AnswerFaults (Err NoMemory) was is = is ≡ was
+AnswerFaults (Err (Bad n c)) was is = is ≡ was
+
+-- where a reader is after an answer: it has the answer's timestamp, keeps an answer that ends it, and no line comes back
+pub record Reached (result : Result (Option Row) RowEnd) (old new : Reader) : Type 0 where
+  pub rules : new.rules ≡ old.rules
+  pub last : new.last ≡ last_after old.last result
+  pub answer : new.answer ≡ kept_by result
+  pub stays : gone_count old ≤ gone_count new
 
 -- what comes first of some rows and their end
 abbrev pub first_of_rows : List Row → End → Result (Option Row) RowEnd

@@ -1,5 +1,5 @@
 -- What one turn of a reader does: a line, or a read.
-use Rattle.std.specs.Prelude.{◌≡◌, ◌≤◌, ℕ, ◌+◌, ◌-◌, ◌*◌, length, if◌then◌else◌, List, [], ◌∷◌, ◌++◌, take, drop, Bool, true, false, Option, Some, None, MatchOption, is_some, Ok, Err}
+use Rattle.std.specs.Prelude.{◌≡◌, ◌≤◌, ◌<◌, ℕ, ◌+◌, ◌-◌, ◌*◌, length, if◌then◌else◌, List, [], ◌∷◌, ◌++◌, take, drop, Bool, true, false, Option, Some, None, MatchOption, is_some, Ok, Err}
 use Rattle.saber_plan.specs.declared.rows.Row.{Row}
 use Rattle.saber_plan.specs.Rows.{Line, Read, lines_of, before, SideRules, Place, End, Judged, judge_at, is_due, due, without_cr}
 use Rattle.saber_rows.specs.declared.ends.RowEnd.TheVariants.{ReadFault, NoMemory, Bad}
@@ -10,7 +10,9 @@ use Rattle.saber_rows.specs.declared.lines.Run.{Run}
 use Rattle.saber_rows.specs.declared.lines.Turn.{Turn}
 use Rattle.saber_rows.specs.declared.lines.Turn.TheVariants as turns
 use Rattle.saber_rows.specs.Reader.{Reader, gone_count, rest_of, CanFollow, NeedsMore, answer_of}
-use Rattle.saber_rows.specs.Calls.{Moves, IsGiven, EndsBy, TakesRows}
+use Rattle.saber_rows.specs.Calls.{Moves, IsGiven, EndsBy, TakesRows, AnswerFaults, ReadsNoMore}
+use Rattle.saber_rows.specs.LineFeeds.{HasNoFeed}
+use Rattle.saber_rows.specs.FedSteps.{StopsKnown}
 use Rattle.saber_rows.specs.Sound.{Sound}
 
 -- the rows as they are
@@ -109,6 +111,43 @@ IfNoFault (turns.Row row) P = P
 -- what is held decides the next answer with no read
 abbrev pub HasEnough : Reader → Type 0
 HasEnough r = ¬ NeedsMore r
+
+-- no row can be given, no line feed is held, and more may come
+pub record IsDrained (r : Reader) : Type 0 where
+  pub over : r.over ≡ None
+  pub none : due r.rules r.place ≡ []
+  pub unended : r.ended ≡ false
+  pub few : length r.held ≤ 4097
+  pub feed : HasNoFeed r.held
+
+-- what a turn does by what is held, whatever the source has: no read fails, and a refusal that stops the reader is known
+pub record HeldTurn (turn : Turn) (old new : Reader) : Type 0 where
+  pub gives : (had : Option (List ℕ)) → TurnGives turn old new had had
+  pub falls : IfAgain turn (work_left new < work_left old)
+  pub place : PlaceMoves turn old new
+  pub rules : new.rules ≡ old.rules
+  pub ended : new.ended ≡ old.ended
+  pub known : StopsKnown turn new
+  pub calm : IfFault turn ⊥
+  pub enough : HasEnough old → IfAgain turn (HasEnough new)
+
+-- what any turn does to the reader
+pub record Turned (turn : Turn) (old new : Reader) (had has : Option (List ℕ)) : Type 0 where
+  pub gives : TurnGives turn old new had has
+  pub falls : IfAgain turn (work_left new < work_left old)
+  pub place : PlaceMoves turn old new
+  pub rules : new.rules ≡ old.rules
+
+-- what any turn asks of the source: one read at most, and that only where what is held decides no answer
+pub record Asked {A : Type 0} (left : A → Option (List ℕ)) (turn : Turn) (was is : A) (old new : Reader) : Type 0 where
+  pub once : ReadsNoMore left was is old
+  pub enough : HasEnough old → (is ≡ was) × IfAgain turn (HasEnough new)
+
+-- a read that failed shows in the count of faults; all else leaves it
+abbrev pub TurnFaults : Turn → ℕ → ℕ → Type 0
+TurnFaults (turns.Row row) was is = is ≡ was
+TurnFaults turns.Again was is = is ≡ was
+TurnFaults (turns.Stop s) was is = AnswerFaults (answer_of s) was is
 
 -- the reader behind rows that were taken at the first look
 abbrev pub behind_run : Reader → Run → Reader

@@ -5,7 +5,7 @@ ghost use Rattle.saber_rows.specs.FedTurns.{answer_in};
 use saber_plan::{Row, RowCause};
 
 /// Why a reader gives no more rows, where that isn't the end of its source.
-#[derive(Clone, Copy, Debug, PartialEq, Eq)]
+#[derive(Clone, Copy)]
 pub enum RowEnd {
     /// A read failed. Comes first only in a call in which the source's count of faults rose.
     ReadFault,

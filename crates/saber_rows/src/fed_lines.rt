@@ -1,34 +1,25 @@
 // Rows from a feed.
 use crate::ends::{FedRow, RowEnd, Stop, fed_row};
-use crate::judge::LONGEST;
-use crate::line_feeds::line_feed_in;
 use crate::lines::{Lines, Turn};
 use saber_io::{Fed, Feed};
 use saber_plan::Row;
 
 impl Lines {
-    ghost use Rattle.std.specs.Prelude.{◌≡◌, ◌≢◌, ◌≤◌, ◌<◌, List, [], Option, IfOk, IfSome, IfNone, Some, None, Ok, Err, option_map, length, true, false, ℕ};
+    ghost use Rattle.std.specs.Prelude.{◌≡◌, ◌≢◌, ◌≤◌, ◌<◌, List, [], Option, IfOk, IfSome, IfNone, Some, None, Ok, Err, option_map, true, false, ℕ};
     ghost use Rattle.saber_io.specs.declared.feeds.EndMark.{EndMark};
     ghost use Rattle.saber_plan.specs.Outputs.{Rose};
     ghost use Rattle.saber_io.specs.Feeds.{IsCut};
-    ghost use Rattle.saber_plan.specs.Rows.{all_read, falls, RowFits, due};
-    ghost use Rattle.saber_rows.specs.Buffer.{bytes_of};
-    ghost use Rattle.saber_rows.specs.LineFeeds.{HasNoFeed};
+    ghost use Rattle.saber_plan.specs.Rows.{all_read, falls, RowFits};
     ghost use Rattle.saber_rows.specs.Reader.{reader_of, rest_of, rest_over, gone_count, HasEnd, EndsRefused, NeedsMore};
     ghost use Rattle.saber_rows.specs.Calls.{Moves, given_by, kept_by, last_after, IsGiven, EndsBy, IsNext, WantsMemory};
-    ghost use Rattle.saber_rows.specs.Turns.{TurnGives, PlaceMoves, work_left, IfAgain, IfFault, IfNoFault, HasEnough};
+    ghost use Rattle.saber_rows.specs.Turns.{TurnGives, PlaceMoves, work_left, IfAgain, IfFault, IfNoFault, HasEnough, IsDrained};
     ghost use Rattle.saber_rows.specs.declared.ends.RowEnd.{RowEnd};
     ghost use Rattle.saber_rows.specs.FedTurns.{answer_in, given_in, kept_in, last_in, IsDry, IsCutOff, HasNothing, Waits, IsKnown};
     ghost use Rattle.saber_rows.specs.FedSteps.{StopsKnown, StaysDry};
 
-    // Takes some more of a feed, if something is there. No line feed is held, and no row can be
-    // given.
+    // Takes some more of a feed, if something is there.
     fn fill_fed<F: Feed>(&mut self, feed: &mut F) -> Option<Turn>
-        requires over { self.old.over ≡ None }
-        requires none { due (reader_of self.old).rules (reader_of self.old).place ≡ [] }
-        requires unended { self.old.ended ≡ false }
-        requires room { length (bytes_of self.old.held) ≤ 4097 }
-        requires no_feed { HasNoFeed (bytes_of self.old.held) }
+        requires drained { IsDrained (reader_of self.old) }
         ensures gives { IfSome result (λ t. TurnGives t (reader_of self.old) (reader_of self.new) (Some (F.waiting feed.old)) (Some (F.waiting feed.new))) }
         ensures dry { IfNone result (StaysDry (reader_of self.old) (reader_of self.new) (F.waiting feed.old) (F.waiting feed.new) (F.mark feed.old)) }
         ensures falls { IfSome result (λ t. IfAgain t (work_left (reader_of self.new) < work_left (reader_of self.old))) }
@@ -77,16 +68,8 @@ impl Lines {
         ensures reads { HasEnough (reader_of self.old) → feed.new ≡ feed.old }
         ensures enough { HasEnough (reader_of self.old) → IfSome result (λ t. IfAgain t (HasEnough (reader_of self.new))) }
     {
-        if let Some(row) = self.give() {
-            return Some(Turn::Row(row));
-        }
-        if let Some(over) = self.over {
-            return Some(Turn::Stop(over.stop()));
-        }
-        match line_feed_in(self.held.bytes()) {
-            Some(n) => Some(self.take_line(n, true)),
-            None if self.ended => Some(self.take_last()),
-            None if self.held.bytes().len() > LONGEST + 1 => Some(self.refuse_long()),
+        match self.turn_held() {
+            Some(turn) => Some(turn),
             None => self.fill_fed(feed),
         }
     }

@@ -62,6 +62,7 @@ impl Head {
     ghost use Rattle.saber_rows.specs.declared.heads.Look.{Look};
     ghost use Rattle.saber_rows.specs.declared.ends.RowEnd.{RowEnd};
     ghost use Rattle.saber_rows.specs.Reader.{reader_of, NeedsMore};
+    ghost use Rattle.saber_rows.specs.Calls.{ReadsNoMore};
     ghost use Rattle.saber_rows.specs.Heads.{head_view, bare, LooksAfterAny, front_of};
     ghost use Rattle.saber_rows.specs.MergedRows.{PutsFront};
 
@@ -87,6 +88,7 @@ impl Head {
         ensures good { result ≢ Look.Failed RowEnd.ReadFault → S.faults source.new ≡ S.faults source.old }
         ensures count { S.faults source.old ≤ S.faults source.new }
         ensures reads { ¬ NeedsMore (head_view self.old).reader → source.new ≡ source.old }
+        ensures once { ReadsNoMore S.left source.old source.new (head_view self.old).reader }
     {
         if self.full {
             return Look::Found(stamp_of(self.row.values.as_slice()));

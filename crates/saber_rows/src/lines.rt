@@ -82,8 +82,8 @@ impl Lines {
     ghost use Rattle.saber_rows.specs.Judged.{judged_of, IfCounted};
     ghost use Rattle.saber_rows.specs.LineFeeds.{end_of, HasNoFeed};
     ghost use Rattle.saber_rows.specs.Reader.{reader_of, new_reader, rest_of, rest_over, gone_count, HasEnd, EndsRefused, NeedsMore};
-    ghost use Rattle.saber_rows.specs.Calls.{HoldsNext, TakesRows, Moves, given_by, kept_by, last_after, IsGiven, EndsBy, IsNext, WantsMemory};
-    ghost use Rattle.saber_rows.specs.Turns.{Steps, Runs, Fronts, IsLastIf, first_judged, LineGives, TurnGives, PlaceMoves, Stops, work_left, IfAgain, IfFault, IfNoFault, HasEnough, NoneReady, IsReady};
+    ghost use Rattle.saber_rows.specs.Calls.{HoldsNext, TakesRows, Moves, given_by, kept_by, last_after, IsGiven, EndsBy, IsNext, WantsMemory, LastRead, ReadsNoMore, AnswerFaults, Reached};
+    ghost use Rattle.saber_rows.specs.Turns.{Steps, Runs, Fronts, IsLastIf, first_judged, LineGives, TurnGives, PlaceMoves, Stops, work_left, IfAgain, HasEnough, NoneReady, IsReady, IsDrained, HeldTurn, Turned, Asked, TurnFaults};
 
     /// A reader with nothing read yet. A stream has 1 to 32 columns, and a file 1 to 2^40 lines,
     /// empty ones counted: this project's limits. The memory of its buffer is taken here; a call
@@ -271,21 +271,16 @@ impl Lines {
         Turn::Again
     }
 
-    // Reads some more. No line feed is held, and no row can be given.
+    // Reads some more.
     fn fill<S: Source>(&mut self, source: &mut S) -> Turn
-        requires over { self.old.over ≡ None }
-        requires none { due (reader_of self.old).rules (reader_of self.old).place ≡ [] }
-        requires unended { self.old.ended ≡ false }
-        requires room { length (bytes_of self.old.held) ≤ 4097 }
-        requires feed { HasNoFeed (bytes_of self.old.held) }
+        requires drained { IsDrained (reader_of self.old) }
         ensures gives { TurnGives result (reader_of self.old) (reader_of self.new) (S.left source.old) (S.left source.new) }
         ensures falls { IfAgain result (work_left (reader_of self.new) < work_left (reader_of self.old)) }
         ensures place { PlaceMoves result (reader_of self.old) (reader_of self.new) }
         ensures rules { (reader_of self.new).rules ≡ (reader_of self.old).rules }
         ensures stop { self.new.stop ≡ self.old.stop }
-        ensures cause { IfFault result (Rose (S.faults source.old) (S.faults source.new)) }
-        ensures good { IfNoFault result (S.faults source.new ≡ S.faults source.old) }
-        ensures count { S.faults source.old ≤ S.faults source.new }
+        ensures faults { TurnFaults result (S.faults source.old) (S.faults source.new) }
+        ensures last { LastRead (reader_of self.old) (S.left source.old) (S.left source.new) }
     {
         match self.held.fill(source) {
             Err(_) => Turn::Stop(Stop::Failed(RowEnd::ReadFault)),
@@ -488,29 +483,46 @@ impl Lines {
         run.taken
     }
 
-    // One step: a line, or a read.
-    fn turn<S: Source>(&mut self, source: &mut S) -> Turn
-        ensures gives { TurnGives result (reader_of self.old) (reader_of self.new) (S.left source.old) (S.left source.new) }
-        ensures falls { IfAgain result (work_left (reader_of self.new) < work_left (reader_of self.old)) }
-        ensures place { PlaceMoves result (reader_of self.old) (reader_of self.new) }
-        ensures rules { (reader_of self.new).rules ≡ (reader_of self.old).rules }
+    // One step by what is held: a row that waits, a line, or the end. None where that decides none.
+    #[inline]
+    pub(crate) fn turn_held(&mut self) -> Option<Turn>
+        ensures turns { IfSome result (λ t. HeldTurn t (reader_of self.old) (reader_of self.new)) }
+        ensures none { result ≡ None → (self.new ≡ self.old) × IsDrained (reader_of self.old) }
         ensures stop { self.new.stop ≡ self.old.stop }
-        ensures cause { IfFault result (Rose (S.faults source.old) (S.faults source.new)) }
-        ensures good { IfNoFault result (S.faults source.new ≡ S.faults source.old) }
-        ensures count { S.faults source.old ≤ S.faults source.new }
-        ensures reads { HasEnough (reader_of self.old) → source.new ≡ source.old }
-        ensures enough { HasEnough (reader_of self.old) → IfAgain result (HasEnough (reader_of self.new)) }
     {
-        if let Some(row) = self.give() {
-            return Turn::Row(row);
+        match self.give() {
+            Some(row) => Some(Turn::Row(row)),
+            None => self.line_held(),
         }
+    }
+
+    // The same where no row can be given.
+    fn line_held(&mut self) -> Option<Turn>
+        requires none_ready { NoneReady (reader_of self.old) }
+        ensures turns { IfSome result (λ t. HeldTurn t (reader_of self.old) (reader_of self.new)) }
+        ensures none { result ≡ None → (self.new ≡ self.old) × IsDrained (reader_of self.old) }
+        ensures stop { self.new.stop ≡ self.old.stop }
+    {
         if let Some(over) = self.over {
-            return Turn::Stop(over.stop());
+            return Some(Turn::Stop(over.stop()));
         }
         match line_feed_in(self.held.bytes()) {
-            Some(n) => self.take_line(n, true),
-            None if self.ended => self.take_last(),
-            None if self.held.bytes().len() > LONGEST + 1 => self.refuse_long(),
+            Some(n) => Some(self.take_line(n, true)),
+            None if self.ended => Some(self.take_last()),
+            None if self.held.bytes().len() > LONGEST + 1 => Some(self.refuse_long()),
+            None => None,
+        }
+    }
+
+    // One step: a line, or a read.
+    fn turn<S: Source>(&mut self, source: &mut S) -> Turn
+        ensures turns { Turned result (reader_of self.old) (reader_of self.new) (S.left source.old) (S.left source.new) }
+        ensures asks { Asked S.left result source.old source.new (reader_of self.old) (reader_of self.new) }
+        ensures faults { TurnFaults result (S.faults source.old) (S.faults source.new) }
+        ensures stop { self.new.stop ≡ self.old.stop }
+    {
+        match self.turn_held() {
+            Some(turn) => turn,
             None => self.fill(source),
         }
     }
@@ -522,13 +534,9 @@ impl Lines {
         ensures moves { Moves (given_by result) (reader_of self.old) (reader_of self.new) (S.left source.old) (S.left source.new) }
         ensures given { IfOk result (λ o. IfSome o (λ row. IsGiven row (reader_of self.old) (reader_of self.new))) }
         ensures ends { EndsBy result (reader_of self.new) }
-        ensures stays { gone_count (reader_of self.old) ≤ gone_count (reader_of self.new) }
-        ensures last { (reader_of self.new).last ≡ last_after (reader_of self.old).last result }
-        ensures rules { (reader_of self.new).rules ≡ (reader_of self.old).rules }
-        ensures answer { (reader_of self.new).answer ≡ kept_by result }
-        ensures cause { result ≡ Err RowEnd.ReadFault → Rose (S.faults source.old) (S.faults source.new) }
-        ensures good { result ≢ Err RowEnd.ReadFault → S.faults source.new ≡ S.faults source.old }
-        ensures count { S.faults source.old ≤ S.faults source.new }
+        ensures place { Reached result (reader_of self.old) (reader_of self.new) }
+        ensures faults { AnswerFaults result (S.faults source.old) (S.faults source.new) }
+        ensures once { ReadsNoMore S.left source.old source.new (reader_of self.old) }
         ensures reads { HasEnough (reader_of self.old) → source.new ≡ source.old }
     {
         loop {
@@ -579,8 +587,10 @@ impl Lines {
         ensures stays { gone_count (reader_of self.old) ≤ gone_count (reader_of self.new) }
         ensures counted { gone_count (reader_of self.new) ≤ (reader_of self.new).rules.most }
 
-        // It reads only where it can give no row, and holds no line that decides the answer.
+        // It reads only where it can give no row, and holds no line that decides the answer; and
+        // no more once it holds one.
         ensures reads { ¬ NeedsMore (reader_of self.old) → source.new ≡ source.old }
+        ensures once { ReadsNoMore S.left source.old source.new (reader_of self.old) }
     {
         if let Some(stop) = self.stop {
             return stop.answer();

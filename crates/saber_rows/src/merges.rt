@@ -21,6 +21,7 @@ impl Merge {
     ghost use Rattle.saber_rows.specs.declared.ends.RowEnd.{RowEnd};
     ghost use Rattle.saber_rows.specs.declared.heads.Look.{Look};
     ghost use Rattle.saber_rows.specs.Reader.{reader_of, NeedsMore};
+    ghost use Rattle.saber_rows.specs.Calls.{ReadsNoMore};
     ghost use Rattle.saber_rows.specs.Heads.{head_view, front_of};
     ghost use Rattle.saber_rows.specs.Merging.{merger_of, new_merger, settled_answer, merge_answer, Passed, StartsPassed, MergeTurns, RightTurns};
     ghost use Rattle.saber_rows.specs.MergedRows.{MergesOne, MergeStands, TakesMerged};
@@ -49,6 +50,7 @@ impl Merge {
         ensures right_rules { (merger_of self.new).right.reader.rules ≡ (merger_of self.old).right.reader.rules }
         ensures count { S.faults right.old ≤ S.faults right.new }
         ensures reads { ¬ NeedsMore (merger_of self.old).right.reader → right.new ≡ right.old }
+        ensures once { ReadsNoMore S.left right.old right.new (merger_of self.old).right.reader }
     {
         match self.right.look(right) {
             Look::Found(_) => Ok(self.right.take()),
@@ -73,6 +75,7 @@ impl Merge {
         ensures right_rules { (merger_of self.new).right.reader.rules ≡ (merger_of self.old).right.reader.rules }
         ensures count { S.faults right.old ≤ S.faults right.new }
         ensures reads { ¬ NeedsMore (merger_of self.old).right.reader → right.new ≡ right.old }
+        ensures once { ReadsNoMore S.left right.old right.new (merger_of self.old).right.reader }
     {
         match self.right.look(right) {
             Look::Found(other) => {
@@ -156,11 +159,13 @@ impl Merge {
         ensures right_count { S.faults right.old ≤ S.faults right.new }
 
         // What is fixed of the sides stays, and a side is read only where it holds no line that
-        // decides its next row.
+        // decides its next row; and no more once it holds one.
         ensures left_rules { (merger_of self.new).left.reader.rules ≡ (merger_of self.old).left.reader.rules }
         ensures right_rules { (merger_of self.new).right.reader.rules ≡ (merger_of self.old).right.reader.rules }
         ensures left_reads { ¬ NeedsMore (merger_of self.old).left.reader → left.new ≡ left.old }
         ensures right_reads { ¬ NeedsMore (merger_of self.old).right.reader → right.new ≡ right.old }
+        ensures left_once { ReadsNoMore S.left left.old left.new (merger_of self.old).left.reader }
+        ensures right_once { ReadsNoMore S.left right.old right.new (merger_of self.old).right.reader }
     {
         match self.left.look(left) {
             Look::Found(stamp) => self.lesser_row(stamp, right),

@@ -1,16 +1,13 @@
 -- What a selection's plan says of its rows, and what a task of one gives.
-use Rattle.std.proofs.Common.{◌≡◌, ℕ, List, [], ◌-◌, filter, flat_map, Option, Bool, true, false, cond, refl, sym, ◌∙◌, ap, subst, arith, subst₂}
+use Rattle.std.proofs.Common.{◌≡◌, ℕ, List, [], ◌-◌, filter, flat_map, Option, Bool, true, false, cond, refl, sym, ◌∙◌, ap, subst, arith}
 use Rattle.std.specs.List.{AllByRecursion}
 use Rattle.saber_plan.specs.declared.rows.Row.{Row}
-use Rattle.saber_plan.specs.declared.rows.Side.TheVariants.{Left}
 use Rattle.saber_plan.specs.declared.windows.Mark.{Mark}
 use Rattle.saber_plan.specs.declared.windows.Kind.{Kind}
 use Rattle.saber_plan.specs.declared.plans.Shape.TheVariants.{Select}
 use Rattle.saber_plan.specs.Trees.{Tree}
-use Rattle.saber_plan.specs.Rows.{RowFits}
-use Rattle.saber_plan.specs.Checked.{ExprFits, IsChecked, IsPlain, ItemFits, group_width, columns_on}
+use Rattle.saber_plan.specs.Checked.{ExprFits, IsChecked, IsPlain, ItemFits, group_width}
 use Rattle.saber_plan.specs.GivenRows.{IsRowOf}
-use Rattle.saber_laws.specs.Plans.{NoWindow}
 use Rattle.saber_laws.proofs.CheckedLaws.{selections_have_no_window}
 use Rattle.saber_plan.specs.Windows.{Frame, unwindowed, has_windows, mark_after, end_mark, closed_count, begun_count, kind_of, from}
 use Rattle.saber_plan.specs.Answers.{by_shape, frame, selected_lines}
@@ -18,30 +15,16 @@ use Rattle.saber_plan.specs.Parts.{Part, part_lines}
 use Rattle.saber_plan.specs.Tasks.{numbered_list, is_complete}
 use Rattle.saber_plan.specs.Needs.{of_kind, piece_here, part_here, is_closing, is_pending, is_opening}
 use Rattle.saber_plan.specs.Shares.{shares_here}
-use Rattle.saber_plan.specs.Facts.Rows.{is_left}
 use Rattle.saber_eval.specs.Widths.{widths}
-use Rattle.saber_eval.specs.Fitting.{PlanFits}
-use Rattle.saber_eval.proofs.FittingLaws.{one_stream}
-
--- ---- rows
+use Rattle.saber_eval.proofs.FittingLaws.{selection_fits}
 
 -- what its operator keeps
 abbrev pub IsSelection : Tree → Type 0
 IsSelection q = IsChecked q × (q.shape ≡ Select) × IsPlain q
 
--- a row of the one stream
-row_fits : (q : Tree) (w : NoWindow q) (r : Row) → IsRowOf q r → RowFits Left w.stream.columns r
-row_fits q w r h = subst₂ (λ side ss. RowFits side (columns_on ss side) r) (is_left q w.stream w.streams r h) w.streams h.fits
-
--- the plan fits it
-pub plan_fits : (q : Tree) (r : Row) → IsChecked q → q.shape ≡ Select → IsPlain q → IsRowOf q r → PlanFits q (widths r.values [])
-plan_fits q r checked select plain h =
-    let w = selections_have_no_window q checked select plain.no_word in
-    one_stream q w.stream r checked w.streams (row_fits q w r h)
-
--- and so do the items
-pub items_fit : (q : Tree) (r : Row) → IsChecked q → q.shape ≡ Select → IsPlain q → IsRowOf q r → AllByRecursion (ExprFits (widths r.values [])) q.items
-items_fit q r checked select plain h = subst (λ s. AllByRecursion (ItemFits s (widths r.values []) (group_width q)) q.items) select (plan_fits q r checked select plain h).items
+-- its items fit each row of the one stream
+pub items_fit : (q : Tree) (r : Row) → IsChecked q → q.shape ≡ Select → IsRowOf q r → AllByRecursion (ExprFits (widths r.values [])) q.items
+items_fit q r checked select h = subst (λ s. AllByRecursion (ItemFits s (widths r.values []) (group_width q)) q.items) select (selection_fits q r checked select h).items
 
 -- ---- what a task gives
 

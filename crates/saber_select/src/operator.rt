@@ -6,7 +6,7 @@ use std::alloc::Global;
 
 /// What a selection keeps from task to task: nothing, since it has no window (SABER 2016: a
 /// stateless operator's fragments are whole answers).
-#[derive(Clone, Copy, Debug, PartialEq, Eq)]
+#[derive(Clone, Copy)]
 pub struct NoStore;
 
 impl Operator for Select<'_> {

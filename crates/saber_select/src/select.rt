@@ -1,18 +1,17 @@
 // A selection, and the rows of a task.
-ghost use Rattle.std.specs.Prelude.{◌≡◌, ◌++◌, [], OnOk};
+ghost use Rattle.std.specs.Prelude.{◌≡◌, ◌++◌, OnOk};
 ghost use Rattle.std.specs.List.{AllByRecursion};
 ghost use Rattle.saber_plan.specs.declared.plans.Shape.TheVariants as shapes;
 ghost use Rattle.saber_plan.specs.Trees.{tree_of};
-ghost use Rattle.saber_plan.specs.Values as v;
-ghost use Rattle.saber_plan.specs.Checked.{IsChecked, IsPlain};
+ghost use Rattle.saber_plan.specs.Checked.{IsPlain};
 ghost use Rattle.saber_plan.specs.GivenRows.{IsRowOf};
 ghost use Rattle.saber_plan.specs.Answers.{selected_lines};
 ghost use Rattle.saber_select.specs.Printing.{row_text};
 
 use crate::lines::write_line;
-use saber_eval::holds;
+use saber_eval::passes;
 use saber_flat::{RowRef, Rows};
-use saber_plan::{NoMemory, Plan};
+use saber_plan::{Expr, NoMemory, Plan};
 use std::marker::Model;
 
 /// The operator of a checked selection over its plan: the rows that pass WHERE (CQL 2006: a
@@ -22,6 +21,7 @@ use std::marker::Model;
 #[derive(Drop)]
 pub struct Select<'a> {
     pub(crate) plan: &'a Plan,
+    items: &'a [Expr],
 }
 
 impl<'a> Model for Select<'a> {
@@ -30,51 +30,40 @@ impl<'a> Model for Select<'a> {
     ghost use Rattle.saber_plan.specs.declared.plans.Plan.{Plan};
     ghost use Rattle.saber_plan.specs.Trees.{tree_of};
     ghost use Rattle.saber_plan.specs.Checked.{IsChecked, IsPlain};
-    ghost use Rattle.saber_plan.specs.contracts.predicates.Pred as e;
-    ghost use Rattle.std.specs.Coded.{codes};
+    ghost use Rattle.saber_plan.specs.contracts.plans.Plan as e;
 
     ghost Value = { Plan };
 
-    ghost coded = { Prim.hlevel (codes, e.the_row.coded) };
+    ghost coded = { e.the_row.coded };
 
     ghost view = { λ s. s.plan.now };
 
-    ghost invariant = { λ s. IsChecked (tree_of s.plan.now) × ((tree_of s.plan.now).shape ≡ shapes.Select) × IsPlain (tree_of s.plan.now) };
+    ghost invariant = { λ s. IsChecked (tree_of s.plan.now) × ((tree_of s.plan.now).shape ≡ shapes.Select) × IsPlain (tree_of s.plan.now) × (s.items.now ≡ (tree_of s.plan.now).items) };
 }
 
 impl<'a> Select<'a> {
     /// The operator of this plan. Takes no memory.
     pub fn new(plan: &'a Plan) -> Select<'a>
-        requires checked { IsChecked (tree_of plan.now) }
         requires select { (tree_of plan.now).shape ≡ shapes.Select }
         requires plain { IsPlain (tree_of plan.now) }
         ensures { result ≡ plan.now }
     {
-        Select { plan }
-    }
-
-    // Whether a row passes WHERE.
-    #[tactic(auto, using(crate::proofs::Shown::plan_fits))]
-    fn passes(&self, row: &RowRef) -> bool
-        requires { IsRowOf (tree_of self.now) row.now }
-        ensures { result ≡ v.passes (tree_of self.now).predicate row.now.values [] }
-    {
-        match self.plan.predicate() {
-            Some(predicate) => holds(predicate, row),
-            None => true,
+        Select {
+            plan,
+            items: plan.items(),
         }
     }
 
     // A row's line, if the row passes.
-    #[tactic(auto, using(crate::proofs::Shown::items_fit))]
+    #[tactic(auto, using(saber_eval::proofs::FittingLaws::selection_fits, crate::proofs::Shown::items_fit))]
     fn write_row(&self, row: &RowRef, out: &mut Vec<u8>) -> Result<(), NoMemory>
         requires { IsRowOf (tree_of self.now) row.now }
         ensures { OnOk result (out.new.items ≡ out.old.items ++ row_text (tree_of self.now) row.now.values) }
     {
-        if !self.passes(row) {
+        if !passes(self.plan, row) {
             return Ok(());
         }
-        write_line(out, self.plan.items(), row)
+        write_line(out, self.items, row)
     }
 
     /// Writes the lines of the rows that pass, in the order of the rows, behind what `out` has. It

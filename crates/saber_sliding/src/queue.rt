@@ -1,7 +1,6 @@
 // Parts that follow one another, with the merge of all from any one on.
 ghost use Rattle.std.specs.Prelude.{◌≡◌, ◌+◌, ◌≤◌, [], ◌∷◌, ◌++◌, drop, length, false, OnOk, OnErr, IfOk};
 ghost use Rattle.saber_plan.specs.declared.plans.Shape.TheVariants.{Group};
-ghost use Rattle.saber_plan.specs.Checked.{IsChecked};
 ghost use Rattle.saber_plan.specs.Parts.{merge, no_part, part_answers, part_lines};
 ghost use Rattle.saber_plan.specs.Trees.{tree_of};
 ghost use Rattle.saber_partial.specs.Tallies.{CanMerge};
@@ -253,7 +252,6 @@ fn lines_settled<L: Ledger>(
     out: &mut Vec<u8>,
     steps: &mut Steps<L>,
 ) -> Result<(), NoMemory>
-    requires checked { IsChecked (tree_of plan.now) }
     requires group { (tree_of plan.now).shape ≡ Group }
     requires sound { IsSound late.old front.old.items back.old.items back_part.old.part }
     ensures ok { OnOk result (out.new.items ≡ out.old.items ++ part_lines (tree_of plan.now) window (whole (queue_entries front.old.items back.old.items back_part.old.part))) }
@@ -280,7 +278,6 @@ fn answers_settled<L: Ledger>(
     plan: &Plan,
     steps: &mut Steps<L>,
 ) -> Result<Answers, NoMemory>
-    requires checked { IsChecked (tree_of plan.now) }
     requires group { (tree_of plan.now).shape ≡ Group }
     requires sound { IsSound late.old front.old.items back.old.items back_part.old.part }
     ensures ok { IfOk result (λ a. a ≡ part_answers (tree_of plan.now) (whole (queue_entries front.old.items back.old.items back_part.old.part))) }
@@ -426,7 +423,6 @@ impl Sliding {
         out: &mut Vec<u8>,
         steps: &mut Steps<L>,
     ) -> Result<(), NoMemory>
-        requires checked { IsChecked (tree_of plan.now) }
         requires group { (tree_of plan.now).shape ≡ Group }
         ensures ok { OnOk result (out.new.items ≡ out.old.items ++ part_lines (tree_of plan.now) window (whole self.old.entries)) }
         ensures same { OnOk result (self.new.entries ≡ self.old.entries) }
@@ -461,7 +457,6 @@ impl Sliding {
         plan: &Plan,
         steps: &mut Steps<L>,
     ) -> Result<Answers, NoMemory>
-        requires checked { IsChecked (tree_of plan.now) }
         requires group { (tree_of plan.now).shape ≡ Group }
         ensures ok { IfOk result (λ a. a ≡ part_answers (tree_of plan.now) (whole self.old.entries)) }
         ensures same { OnOk result (self.new.entries ≡ self.old.entries) }

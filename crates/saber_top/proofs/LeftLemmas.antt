@@ -5,6 +5,7 @@ use Rattle.std.specs.Prelude.{option_and_then}
 use Rattle.std.specs.List.{AllByRecursion, AllZip}
 use Rattle.saber_io.specs.Outside.{FilesView, Closed, Opens, after_asking, left_before, raised_faults}
 use Rattle.saber_plan.specs.Outputs.{Rose, raised_count}
+use Rattle.saber_plan.specs.Outputs as outs
 use Rattle.saber_plan.specs.declared.plans.Plan.{Plan}
 use Rattle.saber_plan.specs.declared.rows.Side.{Side}
 use Rattle.saber_plan.specs.declared.rows.Side.TheVariants as sides
@@ -12,7 +13,7 @@ use Rattle.saber_plan.specs.declared.sizes.Sizes.{Sizes}
 use Rattle.saber_plan.specs.declared.ends.RunEnd.{RunEnd}
 use Rattle.saber_plan.specs.declared.ends.RunEnd.TheVariants as ends
 use Rattle.saber_plan.specs.Runs as run_defs
-use Rattle.saber_plan.specs.Runs.{GivesOver}
+use Rattle.saber_plan.specs.Runs.{GivesOver, writes_over}
 use Rattle.saber_plan.specs.Sizes.{limits_of}
 use Rattle.saber_plan.specs.Trees.{Tree, tree_of}
 use Rattle.saber_dispatch.specs.declared.inputs.Inputs.{Inputs}
@@ -92,10 +93,10 @@ raised_none c f h = grind (arith, nat_tests, h)
 
 -- ---- of one part
 
-module _ {S T : Type 0} (left : S → Option (List ℕ)) (faults : S → ℕ) (written : T → Option (List ℕ)) (failed : T → ℕ) (sizes : Sizes) (src now : S) where
+module _ {S T : Type 0} (left : S → Option (List ℕ)) (faults : S → ℕ) (written : T → Option (List ℕ)) (failed made : T → ℕ) (sizes : Sizes) (src now : S) where
   -- a run of one plan over the source, which stood so before and stands so now
   abbrev pub Runs : Tree → Part T → Type 0
-  Runs q part = RunsPart left faults written failed q sizes (One src) (One now) part
+  Runs q part = RunsPart left faults written failed made q sizes (One src) (One now) part
 
   -- the source as it was given back
   abbrev pub back : Closed
@@ -174,17 +175,26 @@ module _ {S T : Type 0} (left : S → Option (List ℕ)) (faults : S → ℕ) (w
         let told : told_by left (One src) ≡ Some (o.0 ∷ []) = ap (option_map (λ bytes. bytes ∷ [])) o.2 in
         subst (λ x. IfSome x (λ all. GivesOver q sizes all end tasks out)) (told ∙ sym there) h
 
+    writes_file : (q : Tree) (end : RunEnd) (tasks now_made : ℕ) (told : Option FilesView) → Opens told name (left src) → IfSome (told_by left (One src)) (λ all. now_made ≡ outs.raised_by 0 (writes_over q sizes all end tasks))
+        → IfSome told (λ t. IfSome (contents_of t.contents (name ∷ [])) (λ all. now_made ≡ outs.raised_by 0 (writes_over q sizes all end tasks)))
+    writes_file q end tasks now_made None o h = tt
+    writes_file q end tasks now_made (Some t) o h =
+        let there : contents_of t.contents (name ∷ []) ≡ Some (o.0 ∷ []) = ap (option_and_then (λ bytes. Some (bytes ∷ []))) o.1 in
+        let told : told_by left (One src) ≡ Some (o.0 ∷ []) = ap (option_map (λ bytes. bytes ∷ [])) o.2 in
+        subst (λ x. IfSome x (λ all. now_made ≡ outs.raised_by 0 (writes_over q sizes all end tasks))) (told ∙ sym there) h
+
     takes_file : (q : Tree) (tasks : ℕ) (told : Option FilesView) → Opens told name (left src) → ReadsWhole q sizes.task (limits_of sizes) tasks (left src ∷ []) (left now ∷ []) → IfSome told (λ t. TakesOf q sizes.task (limits_of sizes) tasks t.contents (name ∷ []) (back ∷ []))
     takes_file q tasks None o w = tt
     takes_file q tasks (Some t) o w = subst (λ x. ReadsWhole q sizes.task (limits_of sizes) tasks (x ∷ []) (left now ∷ [])) (o.2 ∙ sym o.1) w
 
-    over_one : (q : Tree) (part : Part T) → Opens a name (left src) → b ≡ after_asking a name → c ≡ after_use b [] (back ∷ []) → Runs q part → RunsOver written failed q sizes name a c part
+    over_one : (q : Tree) (part : Part T) → Opens a name (left src) → b ≡ after_asking a name → c ≡ after_use b [] (back ∷ []) → Runs q part → RunsOver written failed made q sizes name a c part
     over_one q part o asked closed r = record {
       end = r.end;
       out = r.out;
       tells = r.tells;
       holds = r.holds;
       gives = over_file q r.end part.tasks r.out a o r.gives;
+      one_write = writes_file q r.end part.tasks (made part.out) a o r.one_write;
       taken = λ side e. record {
         source = back;
         told = used_one a b c name back asked closed;
@@ -193,7 +203,7 @@ module _ {S T : Type 0} (left : S → Option (List ℕ)) (faults : S → ℕ) (w
     }
 
     pub over_all : (plans : List Plan) (parts : List (Part T)) → Opens a name (left src) → b ≡ after_asking a name → c ≡ after_use b [] (back ∷ []) → AllZip (λ plan part. Runs (tree_of plan) part) plans parts
-        → AllZip (λ plan part. RunsOver written failed (tree_of plan) sizes name a c part) plans parts
+        → AllZip (λ plan part. RunsOver written failed made (tree_of plan) sizes name a c part) plans parts
     over_all [] [] o asked closed r = tt
     over_all [] (part ∷ parts) o asked closed r = absurd r
     over_all (plan ∷ plans) [] o asked closed r = absurd r

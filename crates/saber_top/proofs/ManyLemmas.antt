@@ -3,12 +3,12 @@ use Rattle.std.proofs.Common.{◌≡◌, ◌≤◌, ◌≢◌, inl, inr, ℕ, ze
 use Rattle.std.specs.Prelude.{option_and_then}
 use Rattle.std.specs.List.{AllByRecursion, AllZip}
 use Rattle.saber_io.specs.Outside.{FilesView, Closed}
-use Rattle.saber_plan.specs.Outputs.{Rose}
+use Rattle.saber_plan.specs.Outputs.{Rose, raised_by}
 use Rattle.saber_plan.specs.declared.plans.Plan.{Plan}
 use Rattle.saber_plan.specs.declared.rows.Side.TheVariants as sides
 use Rattle.saber_plan.specs.declared.ends.RunEnd.{RunEnd}
 use Rattle.saber_plan.specs.declared.ends.RunEnd.TheVariants as ends
-use Rattle.saber_plan.specs.Runs.{GivesOver}
+use Rattle.saber_plan.specs.Runs.{GivesOver, writes_over}
 use Rattle.saber_plan.specs.Sizes.{limits_of}
 use Rattle.saber_plan.specs.Trees.{Tree, tree_of}
 use Rattle.saber_words.specs.Commands.{run}
@@ -21,6 +21,7 @@ use Rattle.saber_notes.specs.declared.early.Early.TheVariants.{Usage, QueryUnope
 use Rattle.saber_notes.specs.declared.outcome.Outcome.{Outcome}
 use Rattle.saber_notes.specs.declared.outcome.Outcome.TheVariants.{WriteFault}
 use Rattle.saber_cli.proofs.AloneLemmas.{runs_tell}
+use Rattle.saber_cli.proofs.WriteLemmas.{same_run, told_writes}
 use Rattle.saber_cli.specs.Chained.{IsPlanned}
 use Rattle.saber_cli.specs.Due.{Contents, HasRun, contents_of}
 use Rattle.saber_cli.specs.Endings.{ended_as}
@@ -209,38 +210,43 @@ write_by ring ends.NoMemory k = cc
 has_run : (files : Contents) (m : AskedMany) (query : List ℕ) (q : Tree) → IsPlanned files query q → HasRun files (alone m query) q
 has_run files m query q p = record { text = p.text; there = p.there; plan = p.plan }
 
-module _ {T : Type 0} (written : T → Option (List ℕ)) (failed : T → ℕ) (m : AskedMany) (old mid new : Option FilesView) where
+module _ {T : Type 0} (written : T → Option (List ℕ)) (failed made : T → ℕ) (m : AskedMany) (old mid new : Option FilesView) where
   abbrev pub Over : Tree → Part T → Type 0
-  Over q part = RunsOver written failed q (many_sizes m) m.left mid new part
+  Over q part = RunsOver written failed made q (many_sizes m) m.left mid new part
 
   answers_one : (t : FilesView) (query : List ℕ) (q : Tree) (part : Part T) (bytes : List ℕ) → IsPlanned t.contents query q → length q.streams ≡ 1 → contents_of t.contents (m.left ∷ []) ≡ Some (bytes ∷ [])
-      → (r : Over q part) → IfSome (contents_of t.contents (m.left ∷ [])) (λ all. GivesOver q (many_sizes m) all r.end part.tasks r.out) → AnswersAlone written t.contents (alone m query) part
-  answers_one t query q part bytes p one there r g = record {
+      → (r : Over q part) → IfSome (contents_of t.contents (m.left ∷ [])) (λ all. GivesOver q (many_sizes m) all r.end part.tasks r.out)
+      → IfSome (contents_of t.contents (m.left ∷ [])) (λ all. made part.out ≡ raised_by 0 (writes_over q (many_sizes m) all r.end part.tasks)) → AnswersAlone written made t.contents (alone m query) part
+  answers_one t query q part bytes p one there r g w = record {
     out = r.out;
     holds = r.holds;
     gives = subst (λ o. Gives t.contents (run (alone m query)) o part.tasks r.out) (sym r.tells.outcome_is)
         (runs_tell t.contents (alone m query) q (bytes ∷ []) r.end part.tasks r.out (has_run t.contents m query q p) one there (subst (λ x. IfSome x (λ all. GivesOver q (many_sizes m) all r.end part.tasks r.out)) there g));
+    one_write = same_run t.contents (alone m query) q part.outcome part.tasks 0 (made part.out) (contents_of t.contents (m.left ∷ [])) (has_run t.contents m query q p)
+        (told_writes q (many_sizes m) (contents_of t.contents (m.left ∷ [])) r.end part.outcome part.tasks 0 (made part.out) r.tells.outcome_is w);
   }
 
   answers_each : (t u : FilesView) (names : List (List ℕ)) (plans : List Plan) (parts : List (Part T)) (columns : ℕ) (bytes : List ℕ) → mid ≡ Some u → u.contents ≡ t.contents → ArePlanned t.contents names (map tree_of plans)
-      → AllByRecursion (HasStream columns) (map tree_of plans) → contents_of t.contents (m.left ∷ []) ≡ Some (bytes ∷ []) → AllZip (λ plan part. Over (tree_of plan) part) plans parts → AllZip (λ query part. AnswersAlone written t.contents (alone m query) part) names parts
+      → AllByRecursion (HasStream columns) (map tree_of plans) → contents_of t.contents (m.left ∷ []) ≡ Some (bytes ∷ []) → AllZip (λ plan part. Over (tree_of plan) part) plans parts → AllZip (λ query part. AnswersAlone written made t.contents (alone m query) part) names parts
   answers_each t u [] [] [] columns bytes e same p share there r = tt
   answers_each t u [] [] (part ∷ parts) columns bytes e same p share there r = absurd r
   answers_each t u [] (plan ∷ plans) parts columns bytes e same p share there r = absurd p
   answers_each t u (name ∷ names) [] parts columns bytes e same p share there r = absurd p
   answers_each t u (name ∷ names) (plan ∷ plans) [] columns bytes e same p share there r = absurd r
   answers_each t u (name ∷ names) (plan ∷ plans) (part ∷ parts) columns bytes e same p share there r =
-      let gives = subst (λ o. IfSome o (λ (v : FilesView). IfSome (contents_of v.contents (m.left ∷ [])) (λ all. GivesOver (tree_of plan) (many_sizes m) all r.0.end part.tasks r.0.out))) e r.0.gives in (
-        answers_one t name (tree_of plan) part bytes p.0 share.0.one there r.0 (subst (λ files. IfSome (contents_of files (m.left ∷ [])) (λ all. GivesOver (tree_of plan) (many_sizes m) all r.0.end part.tasks r.0.out)) same gives),
+      let gives = subst (λ o. IfSome o (λ (v : FilesView). IfSome (contents_of v.contents (m.left ∷ [])) (λ all. GivesOver (tree_of plan) (many_sizes m) all r.0.end part.tasks r.0.out))) e r.0.gives in
+      let writes = subst (λ o. IfSome o (λ (v : FilesView). IfSome (contents_of v.contents (m.left ∷ [])) (λ all. made part.out ≡ raised_by 0 (writes_over (tree_of plan) (many_sizes m) all r.0.end part.tasks)))) e r.0.one_write in (
+        answers_one t name (tree_of plan) part bytes p.0 share.0.one there r.0 (subst (λ files. IfSome (contents_of files (m.left ∷ [])) (λ all. GivesOver (tree_of plan) (many_sizes m) all r.0.end part.tasks r.0.out)) same gives)
+            (subst (λ files. IfSome (contents_of files (m.left ∷ [])) (λ all. made part.out ≡ raised_by 0 (writes_over (tree_of plan) (many_sizes m) all r.0.end part.tasks))) same writes),
         answers_each t u names plans parts columns bytes e same p.1 share.1 there r.1,
       )
 
   -- the parts say what runs of the queries alone say
   pub answers_told : (plans : List Plan) (parts : List (Part T)) → IfSome old (λ t. ArePlanned t.contents m.queries (map tree_of plans)) → MayShare (map tree_of plans) → AllRead m.queries old mid → IfSome mid (λ u. IsThere u.contents m.left)
-      → AllZip (λ plan part. Over (tree_of plan) part) plans parts → EachAnswers written m old parts
+      → AllZip (λ plan part. Over (tree_of plan) part) plans parts → EachAnswers written made m old parts
   answers_told plans parts p share all left r = some_told old refl
     where
-      some_told : (o : Option FilesView) → old ≡ o → IfSome o (λ t. AllZip (λ query part. AnswersAlone written t.contents (alone m query) part) m.queries parts)
+      some_told : (o : Option FilesView) → old ≡ o → IfSome o (λ t. AllZip (λ query part. AnswersAlone written made t.contents (alone m query) part) m.queries parts)
       some_told None e = tt
       some_told (Some t) e =
           let u : FilesView = record { contents = t.contents; asked = t.asked ++ m.queries; closed = t.closed ++ all.given_back } in
@@ -369,8 +375,8 @@ made_number m e old new h number k =
     (omega (arith, at_count.0, at_count.1), omega (arith, at_count.0, h.few))
 
 -- a call that lacked memory before anything else
-pub comes_to_nothing : {F U T : Type 0} (told : F → Option FilesView) (asked : U → Option (List (List ℕ))) (written : T → Option (List ℕ)) (m : AskedMany) (files : F) (outs : U) → ComesTo told asked written m files files outs outs (Before NoMemory) []
-comes_to_nothing told asked written m files outs = record {
+pub comes_to_nothing : {F U T : Type 0} (told : F → Option FilesView) (asked : U → Option (List (List ℕ))) (written : T → Option (List ℕ)) (made : T → ℕ) (m : AskedMany) (files : F) (outs : U) → ComesTo told asked written made m files files outs outs (Before NoMemory) []
+comes_to_nothing told asked written made m files outs = record {
   early = for_all (λ t. EndsEarly t.contents m NoMemory) (told files) (λ t. tt);
   each = λ k. let clash : Before NoMemory ≡ Each = k in cc;
   answers = λ k. let clash : Before NoMemory ≡ Each = k in cc;
@@ -383,10 +389,10 @@ comes_to_nothing told asked written m files outs = record {
 
 -- ---- words that were not read
 
-pub unread_comes : {F U T : Type 0} (told : F → Option FilesView) (asked : U → Option (List (List ℕ))) (written : T → Option (List ℕ)) (ws : List (List ℕ)) (m : AskedMany) (files : F) (outs : U) (f : WordsFault) → (f ≡ fault.Usage → many_of ws ≡ None) → many_of ws ≡ Some m
-    → ComesTo told asked written m files files outs outs (Before (unread_many f)) []
-unread_comes told asked written ws m files outs fault.NoMemory u is = comes_to_nothing told asked written m files outs
-unread_comes told asked written ws m files outs fault.Usage u is = let clash : Some m ≡ None = sym is ∙ u refl in cc
+pub unread_comes : {F U T : Type 0} (told : F → Option FilesView) (asked : U → Option (List (List ℕ))) (written : T → Option (List ℕ)) (made : T → ℕ) (ws : List (List ℕ)) (m : AskedMany) (files : F) (outs : U) (f : WordsFault) → (f ≡ fault.Usage → many_of ws ≡ None) → many_of ws ≡ Some m
+    → ComesTo told asked written made m files files outs outs (Before (unread_many f)) []
+unread_comes told asked written made ws m files outs fault.NoMemory u is = comes_to_nothing told asked written made m files outs
+unread_comes told asked written made ws m files outs fault.Usage u is = let clash : Some m ≡ None = sym is ∙ u refl in cc
 
 pub unread_true : {F T : Type 0} (faults : F → ℕ) (failed : T → ℕ) (files : F) (f : WordsFault) → IsTrueOf faults failed files files (Before (unread_many f)) []
 unread_true faults failed files fault.NoMemory = record { none = refl; statuses = tt; files = λ k. absurd k; files_good = λ k. refl; reads = tt; reads_good = tt; writes = tt; writes_good = tt }

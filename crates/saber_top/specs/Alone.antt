@@ -10,20 +10,23 @@ use Rattle.saber_notes.specs.declared.outcome.Outcome.TheVariants.{ReadFault}
 use Rattle.saber_cli.specs.Due.{Contents, HasRun, asked_limits}
 use Rattle.saber_cli.specs.Gives.{Gives}
 use Rattle.saber_cli.specs.Taken.{TakesOf}
+use Rattle.saber_cli.specs.Writes.{WritesIn}
 use Rattle.saber_top.specs.declared.parts.Part.{Part}
 use Rattle.saber_top.specs.Commands.{alone}
 use Rattle.saber_top.specs.Shared.{Holds}
 
--- The outcome has its cause, all that is due allows it, and what is due went out to the query's own file: all as the command `run` has it of this query
+-- The outcome has its cause, all that is due allows it, and what is due went out to the query's own file, which was new, by one write for each task that has
+-- text: all as the command `run` has it of this query
 -- over the same file with the same sizes, whatever became of the other queries.
-pub record AnswersAlone {T : Type 0} (written : T → Option (List ℕ)) (files : Contents) (r : AskedRun) (part : Part T) : Type 0 where
+pub record AnswersAlone {T : Type 0} (written : T → Option (List ℕ)) (writes : T → ℕ) (files : Contents) (r : AskedRun) (part : Part T) : Type 0 where
   pub out : List ℕ
   pub holds : Holds (written part.out) out
   pub gives : Gives files (run r) part.outcome part.tasks out
+  pub one_write : WritesIn files r part.outcome part.tasks 0 (writes part.out)
 
 -- so it is of each query and its part, over files that tell
-abbrev pub EachAnswers : {T : Type 0} → (T → Option (List ℕ)) → AskedMany → Option FilesView → List (Part T) → Type 0
-EachAnswers written m told parts = IfSome told (λ t. AllZip (λ query part. AnswersAlone written t.contents (alone m query) part) m.queries parts)
+abbrev pub EachAnswers : {T : Type 0} → (T → Option (List ℕ)) → (T → ℕ) → AskedMany → Option FilesView → List (Part T) → Type 0
+EachAnswers written writes m told parts = IfSome told (λ t. AllZip (λ query part. AnswersAlone written writes t.contents (alone m query) part) m.queries parts)
 
 -- The left file's source was given back behind those of all queries, and of what was taken of it at least every whole task of the whole lines is assembled.
 pub record TakesLeft (m : AskedMany) (r : AskedRun) (tasks : ℕ) (old new : FilesView) : Type 0 where

@@ -2,7 +2,7 @@
 use Rattle.std.specs.Prelude.{◌≡◌, ◌≢◌, ℕ, List, [], length, Option, IfSome}
 use Rattle.std.specs.List.{AllByRecursion, AllZip}
 use Rattle.saber_io.specs.Outside.{FilesView}
-use Rattle.saber_plan.specs.Outputs.{Rose, appended_text, AppendsPrefix}
+use Rattle.saber_plan.specs.Outputs.{Rose, appended_text, raised_count, AppendsPrefix}
 use Rattle.saber_words.specs.Many.{AskedMany}
 use Rattle.saber_notes.specs.Notes.{status_of}
 use Rattle.saber_notes.specs.declared.note.Noted.{Noted}
@@ -41,11 +41,11 @@ module _ {F T : Type 0} (faults : F → ℕ) (failed : T → ℕ) where
 
 -- ---- of what the words ask for
 
-module _ {F U T : Type 0} (told : F → Option FilesView) (asked : U → Option (List (List ℕ))) (written : T → Option (List ℕ)) where
+module _ {F U T : Type 0} (told : F → Option FilesView) (asked : U → Option (List (List ℕ))) (written : T → Option (List ℕ)) (writes : T → ℕ) where
   pub record ComesTo (m : AskedMany) (old new : F) (outs_old outs_new : U) (end : TopEnd) (parts : List (Part T)) : Type 0 where
     pub early : IfBefore end (λ e. IfSome (told old) (λ t. EndsEarly t.contents m e))
     pub each : end ≡ Each → length parts ≡ length m.queries
-    pub answers : end ≡ Each → EachAnswers written m (told old) parts
+    pub answers : end ≡ Each → EachAnswers written writes m (told old) parts
     pub taken : end ≡ Each → AllZip (CutTakesLeft m (told old) (told new)) m.queries parts
     pub leaves : IfBefore end (λ e. LeavesManyTold m (EarlyFits (length m.queries) e) (told old) (told new))
     pub leaves_each : end ≡ Each → LeavesManyTold m (RanFits (length m.queries) (outcomes_of parts)) (told old) (told new)
@@ -55,7 +55,7 @@ module _ {F U T : Type 0} (told : F → Option FilesView) (asked : U → Option 
 -- ---- notes
 
 -- The notes tell this text, in one write: the whole, or a prefix where their sink failed, or nothing where it lacked memory; and nothing with status 0.
-module _ {N : Type 0} (written : N → Option (List ℕ)) (faults : N → ℕ) where
+module _ {N : Type 0} (written : N → Option (List ℕ)) (faults writes : N → ℕ) where
   pub record TellsNotes (old new : N) (status : ℕ) (noted : Noted) (text : List ℕ) : Type 0 where
     pub nothing : status ≡ 0 → (noted ≡ noted_as.Nothing) × (new ≡ old)
     pub something : status ≢ 0 → noted ≢ noted_as.Nothing
@@ -64,3 +64,4 @@ module _ {N : Type 0} (written : N → Option (List ℕ)) (faults : N → ℕ) w
     pub memory : noted ≡ noted_as.NoMemory → written new ≡ written old
     pub note : noted ≡ noted_as.Failed → Rose (faults old) (faults new)
     pub note_good : noted ≢ noted_as.Failed → faults new ≡ faults old
+    pub one : status ≢ 0 → noted ≢ noted_as.NoMemory → writes new ≡ raised_count (writes old)

@@ -15,10 +15,11 @@ use Rattle.saber_top.specs.Commands.{out_names}
 abbrev pub naming_all : Option (List (List ℕ)) → List (List ℕ) → Option (List (List ℕ))
 naming_all asked names = option_map (λ all. all ++ names) asked
 
--- a file that was created a moment ago: nothing is written, and nothing failed
-pub record IsNew {T : Type 0} (written : T → Option (List ℕ)) (failed : T → ℕ) (out : T) : Type 0 where
+-- a file that was created a moment ago: nothing is written, by no write, and nothing failed
+pub record IsNew {T : Type 0} (written : T → Option (List ℕ)) (failed made : T → ℕ) (out : T) : Type 0 where
   pub empty : HoldsNothing (written out)
   pub good : failed out ≡ 0
+  pub unwritten : made out ≡ 0
 
 -- How many were asked for, of queries behind so many others, where none was run: those up to the one that could not be created, any number where memory
 -- lacked, and else none.
@@ -55,6 +56,6 @@ IsOfLeft LeftUnopened = Unit {0}
 IsOfLeft e = IsOfCreate e
 
 -- what an engine is to do for a plan: to run it, into a file that was created a moment ago
-pub record IsJobOf {T : Type 0} (written : T → Option (List ℕ)) (failed : T → ℕ) (plan : Plan) (job : Job (Plain T)) : Type 0 where
+pub record IsJobOf {T : Type 0} (written : T → Option (List ℕ)) (failed made : T → ℕ) (plan : Plan) (job : Job (Plain T)) : Type 0 where
   pub plan_is : tree_in job ≡ tree_of plan
-  pub new : IsNew written failed (sink_in job).sink
+  pub new : IsNew written failed made (sink_in job).sink

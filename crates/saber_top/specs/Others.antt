@@ -7,6 +7,7 @@ use Rattle.saber_words.specs.Chain.{AskedChain}
 use Rattle.saber_notes.specs.Notes.{status_of, note_of}
 use Rattle.saber_notes.specs.declared.outcome.Outcome.TheVariants.{Done, Usage, WriteFault}
 use Rattle.saber_notes.specs.declared.note.Noted.TheVariants as noted_as
+use Rattle.saber_chain.specs.Sinks.{seen_of}
 use Rattle.saber_cli.specs.declared.top.Ended.{Ended}
 use Rattle.saber_cli.specs.Outcomes.{IsClean, IsFileFault, IsBeforeRun, IsOfSecond}
 use Rattle.saber_cli.specs.Due.{IfRun, IfDemo, IfChain, IfPlain}
@@ -17,18 +18,20 @@ use Rattle.saber_cli.specs.Leaves.{LeavesTold}
 use Rattle.saber_cli.specs.Taken.{TakesTold}
 use Rattle.saber_cli.specs.Tells.{TellsRun}
 use Rattle.saber_cli.specs.Unread.{EndsUnread}
+use Rattle.saber_cli.specs.Writes.{WritesTold}
 use Rattle.saber_top.specs.declared.ended.Top.{Top}
 use Rattle.saber_top.specs.declared.ended.TopEnd.TheVariants.{One}
 use Rattle.saber_top.specs.Shared.{parts_in}
 
-module _ {F K N : Type 0} (told : F → Option FilesView) (faults : F → ℕ) (written : K → Option (List ℕ)) (failed : K → ℕ) (noted_text : N → Option (List ℕ)) (note_faults note_writes : N → ℕ) where
+module _ {F K N : Type 0} (told : F → Option FilesView) (faults : F → ℕ) (written : K → Option (List ℕ)) (failed made : K → ℕ) (noted_text : N → Option (List ℕ)) (note_faults note_writes : N → ℕ) where
   -- Of these words, over files and notes that stood so before and stand so now, with this sink, the call ended so. Each field is the clause of its name.
   pub record SaysSaber (words : List (List ℕ)) (old new : F) (sink : K) (notes_old notes_new : N) (e : Ended K) : Type 0 where
     pub status : e.status ≡ status_of e.outcome
     pub answers : (out : List ℕ) × (written e.sink ≡ appended_text (written sink) out) × AnswersTold words (told old) e.outcome e.tasks out
     pub before : IsBeforeRun e.outcome → (e.tasks ≡ 0) × (e.sink ≡ sink)
+    pub writes : IfPlain words (λ c. WritesTold c (told old) e.outcome e.tasks (made sink) (made e.sink))
     pub demo : IfDemo words (λ d. TellsRun d e.outcome e.tasks (written sink) (written e.sink))
-    pub chained : IfChain words (λ a. AnswersChain a e.outcome e.tasks (told old) (told new) (written sink) (written e.sink))
+    pub chained : IfChain words (λ a. AnswersChain a e.outcome e.tasks (told old) (told new) (seen_of written made sink) (seen_of written made e.sink))
     pub second : IsOfSecond e.outcome → (a : AskedChain) × (command_of words ≡ Some (chain a))
     pub unread : command_of words ≡ None → EndsUnread e.outcome e.tasks old new sink e.sink
     pub usage : e.outcome ≡ Usage → command_of words ≡ None

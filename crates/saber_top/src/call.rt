@@ -52,11 +52,11 @@ fn one_command<
 ) -> ended::Top<K, T>
 where
     F::Src: Send + Drop,
-    ensures is { IsSaber F.told F.faults K.written K.faults N.written N.faults N.writes (map (λ word. word.now) words.now) files.old files.new sink notes.old notes.new result }
+    ensures is { IsSaber F.told F.faults K.written K.faults K.writes N.written N.faults N.writes (map (λ word. word.now) words.now) files.old files.new sink notes.old notes.new result }
     ensures holds { (failed : T → ℕ) → IsTrueOf F.faults failed files.old files.new result.end (parts_in result.parts) }
     ensures one { (o : Outcome) × (result.end ≡ TopEnd.One o) }
     ensures status { result.status ≡ top_status result.end (outcomes_of (parts_in result.parts)) }
-    ensures notes { TellsNotes N.written N.faults notes.old notes.new result.status result.noted (top_notes result.end (outcomes_of (parts_in result.parts))) }
+    ensures notes { TellsNotes N.written N.faults N.writes notes.old notes.new result.status result.noted (top_notes result.end (outcomes_of (parts_in result.parts))) }
 {
     let Ended {
         status,
@@ -105,7 +105,7 @@ where
 
     // Each fact is a field of `SaysTop` (specs/Says.antt), or of a record there, and has the name by
     // which docs/RULES.md cites it.
-    ensures { SaysTop F.told F.faults K.written K.faults N.written N.faults N.writes U.asked U.faults U.Out.written U.Out.faults (map (λ word. word.now) words.now)
+    ensures { SaysTop F.told F.faults K.written K.faults K.writes N.written N.faults N.writes U.asked U.faults U.Out.written U.Out.faults U.Out.writes (map (λ word. word.now) words.now)
         files.old files.new outs.old outs.new sink notes.old notes.new result }
 {
     if !is_many(words) {

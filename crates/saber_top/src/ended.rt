@@ -3,7 +3,7 @@ use crate::parts::PartList;
 use saber_notes::{Early, Noted, Outcome};
 
 /// How a call ended.
-#[derive(Clone, Copy, Debug, PartialEq, Eq)]
+#[derive(Clone, Copy)]
 pub enum TopEnd {
     /// Of a command with one query, a chain, a demo, or words that are no command: so.
     One(Outcome),

@@ -50,7 +50,7 @@ fn run_source<S: Source, U: Outs, G: Gate + Sync, R: Threads + Wait + Sync>(
     requires threads { sizes.now.threads ≤ 8 }
 
     // Of each plan: what a run of it alone over this source gives.
-    ensures parts { IfOk result (λ parts. AllZip (λ plan part. RunsPart S.left S.faults U.Out.written U.Out.faults (tree_of plan) sizes.now inputs.old inputs.new part) plans.now (parts_in parts)) }
+    ensures parts { IfOk result (λ parts. AllZip (λ plan part. RunsPart S.left S.faults U.Out.written U.Out.faults U.Out.writes (tree_of plan) sizes.now inputs.old inputs.new part) plans.now (parts_in parts)) }
 
     ensures takes { OnOk result ((taken : List (List ℕ)) × GaveAll (each_input S.left inputs.old) taken (each_input S.left inputs.new)) }
 
@@ -109,7 +109,7 @@ pub(crate) fn run_left<F: Files, U: Outs, G: Gate + Sync, R: Threads + Wait + Sy
     requires threads { sizes.now.threads ≤ 8 }
 
     // Of each plan: what a run of it alone over this file gives.
-    ensures parts { IfOk result (λ parts. AllZip (λ plan part. RunsOver U.Out.written U.Out.faults (tree_of plan) sizes.now left.now (F.told files.old) (F.told files.new) part) plans.now (parts_in parts)) }
+    ensures parts { IfOk result (λ parts. AllZip (λ plan part. RunsOver U.Out.written U.Out.faults U.Out.writes (tree_of plan) sizes.now left.now (F.told files.old) (F.told files.new) part) plans.now (parts_in parts)) }
 
     // The files of the answers are created behind a left file that is there.
     ensures there { OnOk result (IfSome (F.told files.old) (λ t. IsThere t.contents left.now)) }

@@ -67,8 +67,8 @@ fn many_parts<F: Files, U: Outs, G: Gate + Sync, R: Threads + Wait + Sync>(
     gate: &G,
 ) -> Result<PartList<U::Out>, Early>
     requires { HasManySizes (asked_many many.now) }
-    ensures parts { IfOk result (λ parts. ComesTo F.told U.asked U.Out.written (asked_many many.now) files.old files.new outs.old outs.new TopEnd.Each (parts_in parts)) }
-    ensures early { IfErr result (λ e. ComesTo F.told U.asked U.Out.written (asked_many many.now) files.old files.new outs.old outs.new (TopEnd.Before e) []) }
+    ensures parts { IfOk result (λ parts. ComesTo F.told U.asked U.Out.written U.Out.writes (asked_many many.now) files.old files.new outs.old outs.new TopEnd.Each (parts_in parts)) }
+    ensures early { IfErr result (λ e. ComesTo F.told U.asked U.Out.written U.Out.writes (asked_many many.now) files.old files.new outs.old outs.new (TopEnd.Before e) []) }
     ensures parts_true { IfOk result (λ parts. IsTrueOf F.faults U.Out.faults files.old files.new TopEnd.Each (parts_in parts)) }
     ensures early_true { IfErr result (λ e. IsTrueOf F.faults U.Out.faults files.old files.new (TopEnd.Before e) []) }
     ensures outs { IfErr result (λ e. IsCreateEnd e → Rose (U.faults outs.old) (U.faults outs.new)) }
@@ -113,7 +113,7 @@ fn many_command<F: Files, U: Outs, G: Gate + Sync, R: Threads + Wait + Sync>(
     gate: &G,
 ) -> Came<U::Out>
     requires { HasManySizes (asked_many many.now) }
-    ensures comes { ComesTo F.told U.asked U.Out.written (asked_many many.now) files.old files.new outs.old outs.new result.end (parts_in result.parts) }
+    ensures comes { ComesTo F.told U.asked U.Out.written U.Out.writes (asked_many many.now) files.old files.new outs.old outs.new result.end (parts_in result.parts) }
     ensures holds { IsTrueOf F.faults U.Out.faults files.old files.new result.end (parts_in result.parts) }
     ensures kinds { IsOfMany result.end }
     ensures outs { EndsBy result.end IsCreateEnd → Rose (U.faults outs.old) (U.faults outs.new) }
@@ -150,7 +150,7 @@ pub(crate) fn many_words<F: Files, U: Outs, G: Gate + Sync, R: Threads + Wait + 
     gate: &G,
 ) -> Came<U::Out>
     ensures comes { (m : AskedMany) → many_of (map (λ word. word.now) words.now) ≡ Some m →
-        ComesTo F.told U.asked U.Out.written m files.old files.new outs.old outs.new result.end (parts_in result.parts) }
+        ComesTo F.told U.asked U.Out.written U.Out.writes m files.old files.new outs.old outs.new result.end (parts_in result.parts) }
     ensures holds { IsTrueOf F.faults U.Out.faults files.old files.new result.end (parts_in result.parts) }
     ensures kinds { IsOfMany result.end }
     ensures outs { EndsBy result.end IsCreateEnd → Rose (U.faults outs.old) (U.faults outs.new) }

@@ -24,7 +24,7 @@ fn create_out<U: Outs>(
     query: &str,
     number: u64,
 ) -> Result<U::Out, Early>
-    ensures new { IfOk result (IsNew U.Out.written U.Out.faults) }
+    ensures new { IfOk result (IsNew U.Out.written U.Out.faults U.Out.writes) }
     ensures asked { OnOk result (U.asked outs.new ≡ after_naming (U.asked outs.old) (out_name query.now)) }
     ensures refused { IfErr result (λ e. IsNotCreated number query.now e (U.asked outs.old) (U.asked outs.new)) }
     ensures cause { IfErr result (λ e. IsCreateEnd e → Rose (U.faults outs.old) (U.faults outs.new)) }
@@ -62,7 +62,7 @@ pub(crate) fn job_each<'p, U: Outs>(
 ) -> Result<VecDeque<Job<'p, Plain<U::Out>>>, Early>
     requires many { length plans.now ≡ length (map (λ name. name.now) names.now) }
     requires few { others + length names.now < 2 ^ 64 }
-    ensures jobs { IfOk result (λ jobs. AllZip (IsJobOf U.Out.written U.Out.faults) plans.entry.now jobs.items) }
+    ensures jobs { IfOk result (λ jobs. AllZip (IsJobOf U.Out.written U.Out.faults U.Out.writes) plans.entry.now jobs.items) }
     ensures made { OnOk result (U.asked outs.new ≡ naming_all (U.asked outs.old) (out_names (map (λ name. name.now) names.now))) }
     ensures early { IfErr result (λ e. MadeFirst (map (λ name. name.now) names.now) (EarlyMade others e) (U.asked outs.old) (U.asked outs.new)) }
     ensures kinds { IfErr result IsOfCreate }

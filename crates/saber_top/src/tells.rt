@@ -39,7 +39,7 @@ pub(crate) fn whole_status<T>(end: TopEnd, parts: &PartList<T>) -> u8
 pub(crate) fn tell<N: Sink, T>(notes: &mut N, end: TopEnd, parts: &PartList<T>) -> Noted
     requires kinds { IsOfMany end }
     requires few { length (parts_in parts.now) ≤ 8 }
-    ensures { TellsNotes N.written N.faults notes.old notes.new (top_status end (outcomes_of (parts_in parts.now))) result (top_notes end (outcomes_of (parts_in parts.now))) }
+    ensures { TellsNotes N.written N.faults N.writes notes.old notes.new (top_status end (outcomes_of (parts_in parts.now))) result (top_notes end (outcomes_of (parts_in parts.now))) }
 {
     match end {
         TopEnd::One(_) => unreachable!(),

@@ -117,11 +117,11 @@ impl Model for Lately {
 }
 
 impl Lately {
-    /// The windows of a checked plan, none of which was asked for yet.
+    /// The windows of a plan, none of which was asked for yet.
     #[tactic(auto, using(saber_laws::proofs::CheckedLaws::checked_fit))]
     pub fn of_plan(p: &Plan) -> Lately
-        requires { IsChecked (tree_of p.now) }
         ensures frame { result ≡ frame (tree_of p.now) }
+        ensures checked { IsChecked (tree_of p.now) }
     {
         Lately {
             windowed: windowed_of(p.streams()),

@@ -42,12 +42,12 @@ impl Model for Windows {
 }
 
 impl Windows {
-    /// The windows of a checked plan.
+    /// The windows of a plan.
     #[tactic(auto, using(saber_laws::proofs::CheckedLaws::checked_fit))]
     pub fn of_plan(p: &Plan) -> Windows
-        requires { IsChecked (tree_of p.now) }
         ensures frame { result ≡ frame (tree_of p.now) }
         ensures fits { Fits result }
+        ensures checked { IsChecked (tree_of p.now) }
     {
         Windows {
             windowed: windowed_of(p.streams()),

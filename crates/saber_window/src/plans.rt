@@ -2,7 +2,6 @@
 ghost use Rattle.std.specs.Prelude.{◌≡◌, ℕ, ◌≤◌, ◌||◌, not, nat_lt, is_none};
 ghost use Rattle.saber_plan.specs.Trees.{tree_of};
 ghost use Rattle.saber_plan.specs.Answers.{frame};
-ghost use Rattle.saber_plan.specs.Checked.{IsChecked};
 ghost use Rattle.saber_plan.specs.Windows.{begun, begun_count, closed, closed_count, kind_of};
 
 use crate::Windows;
@@ -13,7 +12,6 @@ use saber_plan::{Kind, Mark, Plan};
 /// all of the window's, and one of a join when it is for both streams. Where the input ended, all
 /// begun windows are closed (this project's own rule).
 pub fn closed_below(p: &Plan, m: &Mark) -> u64
-    requires { IsChecked (tree_of p.now) }
     ensures count { result ≡ closed_count (frame (tree_of p.now)) m.now }
     ensures closed { (i : ℕ) → nat_lt i result ≡ closed (frame (tree_of p.now)) i m.now }
     ensures begun { result ≤ begun_count (frame (tree_of p.now)) m.now }
@@ -25,7 +23,6 @@ pub fn closed_below(p: &Plan, m: &Mark) -> u64
 /// one by time when a row of its first timestamp or later came, and one of a join when it is for
 /// either stream (this project's own rule).
 pub fn begun_below(p: &Plan, m: &Mark) -> u64
-    requires { IsChecked (tree_of p.now) }
     ensures count { result ≡ begun_count (frame (tree_of p.now)) m.now }
     ensures begun { (i : ℕ) → nat_lt i result ≡ begun (frame (tree_of p.now)) i m.now }
 {
@@ -35,7 +32,6 @@ pub fn begun_below(p: &Plan, m: &Mark) -> u64
 /// What part of window i lies in a task's rows, those behind mark a and up to mark b, if any does:
 /// its end, its middle, its beginning, or all of it (SABER 2016).
 pub fn kind_of(p: &Plan, i: u64, a: &Mark, b: &Mark) -> Option<Kind>
-    requires { IsChecked (tree_of p.now) }
     ensures kind { result ≡ kind_of (frame (tree_of p.now)) i a.now b.now }
     ensures none { is_none result ≡ (closed (frame (tree_of p.now)) i a.now || not (begun (frame (tree_of p.now)) i b.now)) }
 {

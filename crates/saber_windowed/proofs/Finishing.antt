@@ -1,5 +1,6 @@
 -- All windows together are what the task gives.
-use Rattle.std.proofs.Common.{◌≡◌, ℕ, ◌+◌, ◌-◌, ◌≤◌, ◌<◌, List, [], ◌∷◌, filter, flat_map, Bool, cond, T, Option, Some, None, sym, ◌∙◌, ap, subst, le_trans, nat_cmp, arith}
+use Rattle.std.proofs.Common.{◌≡◌, ℕ, ◌+◌, ◌-◌, ◌≤◌, ◌<◌, List, [], ◌∷◌, filter, flat_map, Bool, cond, T, Option, Some, None, refl, sym, ◌∙◌, ap, subst, le_trans, nat_cmp, arith}
+use Rattle.std.proofs.lemmas.List.Folds.{flat_map-map}
 use Rattle.std.specs.Option.{option_map_or}
 use Rattle.std.specs.FinMap.{is_sorted}
 use Rattle.saber_plan.specs.declared.rows.Row.{Row}
@@ -23,17 +24,14 @@ use Rattle.saber_laws.proofs.WindowLaws.{begun_stay, closed_within_begun}
 use Rattle.saber_fragment.specs.Shown.{windows_by}
 use Rattle.saber_window.specs.declared.bounds.Bounds.{Bounds}
 use Rattle.saber_window.specs.Kinds.{kind_in, AreBounds}
-use Rattle.saber_parts.specs.WindowFacts.{entry_is}
-use Rattle.saber_parts.specs.Entries.{entry_if}
+use Rattle.saber_parts.specs.WindowFacts.{entry_is, no_entry, no_lines}
+use Rattle.saber_parts.specs.Entries.{entry_if, lines_if, entries_by, lines_by, given_by, handed_by}
 use Rattle.saber_windowed.specs.Words.{HasWord}
-use Rattle.saber_windowed.specs.Found.{Found, part_of, values_in, lines_for}
+use Rattle.saber_windowed.specs.Found.{Found, part_of}
 use Rattle.saber_windowed.specs.Open.{seen_windows, found_here, HoldsTask}
-use Rattle.saber_windowed.specs.Entries.{lines_if, entries_by, lines_by, Gave, HandedOn}
-use Rattle.saber_windowed.proofs.Finding.{rising-filter, placed_rising, found_rises}
-use Rattle.saber_windowed.proofs.Entering.{no_lines, no_entries}
 use Rattle.saber_windowed.proofs.Spread.{seen, rows_among_in, by_number}
 use Rattle.saber_windowed.proofs.Beginning.{none_begun}
-use Rattle.saber_windowed.proofs.Answering.{rows_part, lines_of_part}
+use Rattle.saber_windowed.proofs.Answering.{rows_part}
 
 -- what the operator of a selection with a stream word keeps
 abbrev pub IsWindowed : Tree → Type 0
@@ -79,48 +77,46 @@ module _ (q : Tree) (checked : IsChecked q) (e : q.shape ≡ Select) (has_word :
       let us = filter (has (frame q) i) (placed_after m rows) in
       rows_part q us ∙ sym (ap (λ s. by_shape s (row_part q us) (group_part q (passing_values q us)) (pair_part q (m.left + m.right + 0) us)) e)
 
-  entries_are : (wanted : Option Kind → Bool) → entries_by wanted b es ≡ of_kind wanted (frame q) m z (λ i. part_here q i m [] rows)
+  entries_are : (wanted : Option Kind → Bool) → entries_by wanted b (windows_by part_of es) ≡ of_kind wanted (frame q) m z (λ i. part_here q i m [] rows)
   unfolding of_kind
   entries_are wanted =
       let given_kind = λ (i : ℕ). cond (wanted (kind_of (frame q) i m z)) (full (part_here q i m [] rows)) None in
-      by_number (λ i r. entry_if (wanted (Some (kind_in b i))) i (part_of r)) (λ i. no_entries (wanted (Some (kind_in b i))) i) at c n within ends es sorted (λ i. rows_among_in es i ∙ holds.at i)
+      flat_map-map (λ (f : ℕ × Part). entry_if (wanted (Some (kind_in b f.0))) f.0 f.1) (λ (f : ℕ × List Found). (f.0, part_of f.1)) es
+      ∙ by_number (λ i r. entry_if (wanted (Some (kind_in b i))) i (part_of r)) (λ i. no_entry (wanted (Some (kind_in b i))) i (part_of []) refl) at c n within ends es sorted (λ i. rows_among_in es i ∙ holds.at i)
       ∙ flat_map-from _ (λ i. option_map_or (λ (r : Part). (i, r) ∷ []) (given_kind i) []) c (n - c) (λ i l r. (λ j. entry_if (wanted (kind i l r j)) i (part_is i j)) ∙ entry_is (wanted (kind_of (frame q) i m z)) i (part_here q i m [] rows))
       ∙ sym (numbered_is given_kind c (n - c))
-
-  here_lines : (i : ℕ) → lines_for i (values_in (at i)) ≡ part_lines q i (part_here q i m [] rows)
-  here_lines i = lines_of_part q e i (at i) (found_rises q _ (rising-filter (has (frame q) i) (placed_after m rows) (placed_rising m rows))) ∙ ap (part_lines q i) (part_is i)
 
   abbrev complete : ℕ → Bool
   complete i = is_complete (kind_of (frame q) i m z)
 
-  lines_are : lines_by b es ≡ flat_map (λ i. part_lines q i (part_here q i m [] rows)) (filter complete (from c (n - c)))
+  lines_are : lines_by q b (windows_by part_of es) ≡ flat_map (λ i. part_lines q i (part_here q i m [] rows)) (filter complete (from c (n - c)))
   lines_are =
-      by_number (λ i r. lines_if (is_complete (Some (kind_in b i))) i r) (λ i. no_lines (is_complete (Some (kind_in b i))) i) at c n within ends es sorted (λ i. rows_among_in es i ∙ holds.at i)
-      ∙ flat_map-from _ (λ i. cond (complete i) (part_lines q i (part_here q i m [] rows)) []) c (n - c) (λ i l r j. cond (is_complete (kind i l r j)) (here_lines i j) [])
+      flat_map-map (λ (f : ℕ × Part). lines_if (is_complete (Some (kind_in b f.0))) q f.0 f.1) (λ (f : ℕ × List Found). (f.0, part_of f.1)) es
+      ∙ by_number (λ i r. lines_if (is_complete (Some (kind_in b i))) q i (part_of r)) (λ i. no_lines (is_complete (Some (kind_in b i))) q i (part_of []) refl) at c n within ends es sorted (λ i. rows_among_in es i ∙ holds.at i)
+      ∙ flat_map-from _ (λ i. cond (complete i) (part_lines q i (part_here q i m [] rows)) []) c (n - c) (λ i l r j. cond (is_complete (kind i l r j)) (part_lines q i (part_is i j)) [])
       ∙ flat_filter (λ i. part_lines q i (part_here q i m [] rows)) complete (from c (n - c))
 
-  pub shares_are : (cs ps os : List (ℕ × List Found)) (t : List ℕ) → Gave b es cs ps os t
-      → record { closing = windows_by part_of cs; pending = windows_by part_of ps; opening = windows_by part_of os; lines = t; closed = b.closed_after } ≡ shares_here q m [] rows ended
+  -- so they give what the task gives
+  pub shares_are : given_by q b (windows_by part_of es) ≡ shares_here q m [] rows ended
   unfolding shares_here
-  shares_are cs ps os t gave =
+  shares_are =
       let whole = flat_map (λ i. part_lines q i (part_here q i m [] rows)) (filter complete (from c (n - c))) in
       λ j. record {
-        closing = (gave.closing ∙ entries_are is_closing) j;
-        pending = (gave.pending ∙ entries_are is_pending) j;
-        opening = (gave.opening ∙ entries_are is_opening) j;
-        lines = (gave.lines ∙ lines_are ∙ sym (ap (λ (f : Frame). cond (has_windows f) whole (selected_lines q rows)) w.has_frame)
+        closing = entries_are is_closing j;
+        pending = entries_are is_pending j;
+        opening = entries_are is_opening j;
+        lines = (lines_are ∙ sym (ap (λ (f : Frame). cond (has_windows f) whole (selected_lines q rows)) w.has_frame)
             ∙ ap (λ s. by_shape s (cond (has_windows (frame q)) whole (selected_lines q rows)) whole whole) (sym e)) j;
         closed = given.closed_after j;
       }
 
-  -- and what they hand on
-  pub handed_are : (cs ps os : List (ℕ × List Found)) (t : List ℕ) → HandedOn b es cs ps os t
-      → record { closing = windows_by part_of cs; pending = windows_by part_of ps; opening = windows_by part_of os; lines = t; closed = b.closed_after } ≡ handed_here q m [] rows ended
+  -- and hand on what it hands on
+  pub handed_are : handed_by b (windows_by part_of es) ≡ handed_here q m [] rows ended
   unfolding handed_here
-  handed_are cs ps os t gave = λ j. record {
-    closing = (gave.closing ∙ entries_are is_closed) j;
-    pending = (gave.pending ∙ entries_are is_pending) j;
-    opening = (gave.opening ∙ entries_are is_opening) j;
-    lines = gave.none j;
+  handed_are = λ j. record {
+    closing = entries_are is_closed j;
+    pending = entries_are is_pending j;
+    opening = entries_are is_opening j;
+    lines = [];
     closed = given.closed_after j;
   }

@@ -1,6 +1,5 @@
 pub mod Spotting
 pub mod Filled
-pub mod Entering
 pub mod Fitting
 pub mod Putting
 pub mod Finding

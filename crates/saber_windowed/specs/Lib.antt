@@ -2,5 +2,4 @@ pub mod Found
 pub mod Spots
 pub mod Words
 pub mod Open
-pub mod Entries
 pub mod Sights

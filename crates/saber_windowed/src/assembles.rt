@@ -16,6 +16,11 @@ impl Assembles for WindowedSelect<'_> {
 
     ghost shown = { part_of };
 
+    #[tactic(auto, using(crate::proofs::Filled::no_rows, crate::proofs::Filled::some_rows))]
+    fn is_empty(&self, part: &Picked) -> bool {
+        part.is_empty()
+    }
+
     fn merge(&self, into: &mut Picked, from: Picked) -> Result<(), NoMemory> {
         let _plan = &self.plan;
         into.rises();

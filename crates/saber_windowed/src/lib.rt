@@ -7,7 +7,7 @@
 //!
 //! - Parts: `picked` (`Picked`, the rows of one window), `lines` and `answers` (what is printed of
 //!   them), `select` (the selection, over its plan), `windows` (the windows of a task, by number),
-//!   `gathered` and `pieces` (what they give, by kind), `assembles` (their merge from task to
+//!   `pieces` (what they give), `assembles` (their merge from task to
 //!   task), `operator` (`WindowedOperator`, for RSTREAM), `changes` (`WindowedChanges`, for the
 //!   others).
 //! - Calls: `WindowedOperator::new` takes a checked plan, `WindowedChanges::new` one and which
@@ -24,7 +24,6 @@
 mod answers;
 mod assembles;
 mod changes;
-mod gathered;
 mod lines;
 mod operator;
 mod picked;

@@ -1,33 +1,11 @@
 // The lines of rows.
-ghost use Rattle.std.specs.Prelude.{◌≡◌, ◌∷◌, ◌++◌, OnOk, OnErr, pos};
-ghost use Rattle.saber_plan.specs.Answers.{line};
+ghost use Rattle.std.specs.Prelude.{◌≡◌, ◌++◌, OnOk, OnErr};
 ghost use Rattle.saber_plan.specs.Texts.{Behind};
-ghost use Rattle.saber_digits.specs.Cells.{cells};
 ghost use Rattle.saber_windowed.specs.Found.{lines_for, values_in};
 
 use crate::picked::Picked;
-use saber_digits::{write_cell, write_count};
+use saber_digits::write_line;
 use saber_plan::NoMemory;
-
-fn write_cells(out: &mut Vec<u8>, values: &[i128]) -> Result<(), NoMemory>
-    ensures ok { OnOk result (out.new.items ≡ out.old.items ++ cells values.now) }
-    ensures behind { Behind out.old.items out.new.items }
-{
-    for number in values {
-        write_cell(out, *number)?;
-    }
-    Ok(())
-}
-
-fn write_line(out: &mut Vec<u8>, window: u64, values: &[i128]) -> Result<(), NoMemory>
-    ensures ok { OnOk result (out.new.items ≡ out.old.items ++ line (pos window ∷ values.now)) }
-    ensures behind { Behind out.old.items out.new.items }
-{
-    write_count(out, window)?;
-    write_cells(out, values)?;
-    out.push(b'\n')?;
-    Ok(())
-}
 
 impl Picked {
     fn write_lines(&self, window: u64, out: &mut Vec<u8>) -> Result<(), NoMemory>

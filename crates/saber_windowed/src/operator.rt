@@ -3,7 +3,6 @@ ghost use Rattle.std.specs.Prelude.{◌≡◌, Some};
 ghost use Rattle.saber_plan.specs.declared.plans.Shape.TheVariants as shapes;
 ghost use Rattle.saber_plan.specs.declared.plans.Word.TheVariants as words;
 ghost use Rattle.saber_plan.specs.Trees.{tree_of};
-ghost use Rattle.saber_plan.specs.Checked.{IsChecked};
 
 use crate::picked::Picked;
 use crate::select::WindowedSelect;
@@ -25,12 +24,11 @@ impl<'a> Model for WindowedOperator<'a> {
     ghost use Rattle.saber_plan.specs.declared.plans.Plan.{Plan};
     ghost use Rattle.saber_plan.specs.Trees.{tree_of};
     ghost use Rattle.saber_plan.specs.Answers.{alike, way};
-    ghost use Rattle.saber_plan.specs.contracts.predicates.Pred as e;
-    ghost use Rattle.std.specs.Coded.{codes};
+    ghost use Rattle.saber_plan.specs.contracts.plans.Plan as e;
 
     ghost Value = { Plan };
 
-    ghost coded = { Prim.hlevel (codes, e.the_row.coded) };
+    ghost coded = { e.the_row.coded };
 
     ghost view = { λ o. o.select };
 
@@ -40,7 +38,6 @@ impl<'a> Model for WindowedOperator<'a> {
 impl<'a> WindowedOperator<'a> {
     /// The operator of this plan. Takes no memory.
     pub fn new(plan: &'a Plan) -> WindowedOperator<'a>
-        requires checked { IsChecked (tree_of plan.now) }
         requires select { (tree_of plan.now).shape ≡ shapes.Select }
         requires word { (tree_of plan.now).word ≡ Some words.Rstream }
         ensures { result ≡ plan.now }

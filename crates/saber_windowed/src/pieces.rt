@@ -10,10 +10,10 @@ ghost use Rattle.saber_window.specs.Kinds.{AreBounds};
 ghost use Rattle.saber_windowed.specs.Found.{part_of};
 ghost use Rattle.saber_windowed.specs.Open.{seen_windows, HoldsTask};
 
-use crate::gathered::{gather, handed_on};
 use crate::picked::Picked;
 use crate::select::WindowedSelect;
 use saber_fragment::{Block, Piece};
+use saber_parts::{handed_of_windows, piece_of_windows};
 use saber_plan::NoMemory;
 use saber_window::{Bounds, end_mark};
 use std::alloc::Global;
@@ -49,8 +49,8 @@ impl WindowedSelect<'_> {
         let bounds = found.1;
         // That its windows rise, which the proof needs, is told by the length.
         let _count = found.0.len();
-        let gathered = gather(alloc, &bounds, found.0)?;
-        Ok(gathered.into_piece(bounds.closed_after))
+        let piece = piece_of_windows(alloc, self, &bounds, found.0)?;
+        Ok(piece)
     }
 
     /// The piece of a task where they print what they gain or lose.
@@ -63,7 +63,7 @@ impl WindowedSelect<'_> {
         let bounds = found.1;
         // That its windows rise, which the proof needs, is told by the length.
         let _count = found.0.len();
-        let gathered = handed_on(alloc, &bounds, found.0)?;
-        Ok(gathered.into_piece(bounds.closed_after))
+        let piece = handed_of_windows(alloc, self, &bounds, found.0)?;
+        Ok(piece)
     }
 }

@@ -12,7 +12,7 @@ ghost use Rattle.saber_eval.specs.Widths.{widths};
 ghost use Rattle.saber_window.specs.Kinds.{AreBounds};
 ghost use Rattle.saber_windowed.specs.Words.{HasWord};
 
-use saber_eval::{holds, value};
+use saber_eval::{passes, value};
 use saber_flat::RowRef;
 use saber_plan::{Expr, Mark, NoMemory, Plan};
 use saber_window::{Bounds, Lately, Windows, step_mark};
@@ -33,13 +33,12 @@ impl<'a> Model for WindowedSelect<'a> {
     ghost use Rattle.saber_plan.specs.Trees.{tree_of};
     ghost use Rattle.saber_plan.specs.Checked.{IsChecked};
     ghost use Rattle.saber_plan.specs.Answers.{frame};
-    ghost use Rattle.saber_plan.specs.contracts.predicates.Pred as e;
-    ghost use Rattle.std.specs.Coded.{codes};
+    ghost use Rattle.saber_plan.specs.contracts.plans.Plan as e;
     ghost use Rattle.saber_windowed.specs.Words.{HasWord};
 
     ghost Value = { Plan };
 
-    ghost coded = { Prim.hlevel (codes, e.the_row.coded) };
+    ghost coded = { e.the_row.coded };
 
     ghost view = { λ s. s.plan.now };
 
@@ -61,10 +60,10 @@ fn put_values(values: &mut Vec<i128>, items: &[Expr], row: &RowRef) -> Result<()
 impl<'a> WindowedSelect<'a> {
     /// The selection of this plan. Takes no memory.
     pub(crate) fn new(plan: &'a Plan) -> WindowedSelect<'a>
-        requires checked { IsChecked (tree_of plan.now) }
         requires select { (tree_of plan.now).shape ≡ shapes.Select }
         requires word { HasWord (tree_of plan.now) }
-        ensures { result ≡ plan.now }
+        ensures is { result ≡ plan.now }
+        ensures checked { IsChecked (tree_of plan.now) }
     {
         WindowedSelect {
             plan,
@@ -73,15 +72,13 @@ impl<'a> WindowedSelect<'a> {
     }
 
     /// Whether a row passes WHERE.
-    #[tactic(auto, using(crate::proofs::Fitting::plan_fits))]
+    #[tactic(auto, using(saber_eval::proofs::FittingLaws::selection_fits))]
+    #[inline(always)]
     pub(crate) fn passes(&self, row: &RowRef) -> bool
         requires { IsRowOf (tree_of self.now) row.now }
         ensures { result ≡ v.passes (tree_of self.now).predicate row.now.values [] }
     {
-        match self.plan.predicate() {
-            Some(predicate) => holds(predicate, row),
-            None => true,
-        }
+        passes(self.plan, row)
     }
 
     /// Works out the values of the items over a row, in place of those that `values` has.

@@ -2,7 +2,7 @@
 use std::alloc::AllocError;
 
 /// To answer a query over its files. Each text is the name of a file.
-#[derive(Clone, Copy, PartialEq, Eq)]
+#[derive(Clone, Copy)]
 pub struct Run<'a> {
     /// The text of the query.
     pub query: &'a str,
@@ -26,14 +26,14 @@ pub struct Run<'a> {
 }
 
 /// To check a query, without its files. The text is the name of a file.
-#[derive(Clone, Copy, PartialEq, Eq)]
+#[derive(Clone, Copy)]
 pub struct Check<'a> {
     /// The text of the query.
     pub query: &'a str,
 }
 
 /// To run the demo's query over generated rows.
-#[derive(Clone, Copy, PartialEq, Eq)]
+#[derive(Clone, Copy)]
 pub struct Demo {
     /// What the generator begins with, 0 to 2,147,483,647.
     pub seed: u32,
@@ -49,7 +49,7 @@ pub struct Demo {
 
 /// To answer a query over its files, and a second one whose rows are the lines of the first one's
 /// answer: the number of a window is the time of such a row. Each text is the name of a file.
-#[derive(Clone, Copy, PartialEq, Eq)]
+#[derive(Clone, Copy)]
 pub struct Chain<'a> {
     /// The text of the first query.
     pub first: &'a str,
@@ -95,7 +95,7 @@ pub struct Many<'a> {
 }
 
 /// A command of the program.
-#[derive(Clone, Copy, PartialEq, Eq)]
+#[derive(Clone, Copy)]
 pub enum Command<'a> {
     /// `run QUERY LEFT [RIGHT] [--task N] [--ring B] [--threads T] [--max-lines M] [--slack S]
     /// [--final]`
@@ -110,7 +110,7 @@ pub enum Command<'a> {
 }
 
 /// Why no command was read.
-#[derive(Clone, Copy, PartialEq, Eq)]
+#[derive(Clone, Copy)]
 pub enum WordsFault {
     /// Memory ran out, whatever the words say.
     NoMemory,

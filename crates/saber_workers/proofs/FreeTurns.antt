@@ -1,14 +1,16 @@
 -- A ring of any work whose turn is free, and what a query's stage has out.
-use Rattle.std.proofs.Common.{◌^◌, ◌≡◌, ◌⊎◌, ◌≤◌, ◌<◌, ℕ, ◌+◌, ◌*◌, ◌%◌, inl, inr, Bool, true, false, List, ◌++◌, get_or, length, refl, sym, ◌∙◌, ap, subst, le_refl, arith}
+use Rattle.std.proofs.Common.{◌^◌, ◌≡◌, ◌⊎◌, ◌≤◌, ◌<◌, ℕ, suc, ◌+◌, ◌*◌, ◌%◌, inl, inr, Bool, true, false, List, ◌++◌, get_or, length, refl, sym, ◌∙◌, ap, subst, le_refl, arith}
 use mathlib.Core.Option.{some}
 use lib.ListN.{get_elem?}
 use Rattle.std.specs.Prelude.{Option}
-use Rattle.saber_plan.specs.Outputs.{appended_text}
+use Rattle.saber_plan.specs.Outputs.{raised_by, appended_text}
+use Rattle.saber_plan.specs.Runs.{tasks_with_text}
 use Rattle.saber_plan.specs.Inputs.{Input}
 use Rattle.saber_plan.specs.Trees.{Tree}
 use Rattle.saber_plan.specs.Answers.{text}
 use Rattle.saber_plan.specs.Tasks.{Kept, upto, kept_behind}
 use Rattle.saber_laws.proofs.TaskCutLaws.{first_of_first}
+use Rattle.saber_laws.proofs.WriteLaws.{first_with_text}
 use Rattle.saber_ring.specs.declared.view.SlotValue.TheVariants as slot
 use Rattle.saber_ring.specs.declared.view.TurnState.TheVariants.{Open, TookPiece, TookMark, WonStopped, Leaving}
 use Rattle.saber_ring.specs.Shows.{RingPhase, idle, ready, held, done, taken, past, number_of, RingState, RingTurn, won_by, turn_word, extra, Fits, TurnFits, TakenBy, StageHome, AtHome}
@@ -117,18 +119,18 @@ after_on : (q : Tree) (n : ℕ) (r : Input) (d : ℕ) (start : Start) (v : Stage
     → After q n (upto n r d) start v x → After q n r start v x
 after_on q n r d start v Running le a =
     let same : upto n (upto n r d) v.k ≡ upto n r v.k = first_of_first n r d v.k (omega (arith, le)) in
-    (a.0 ∙ ap (λ z. appended_text start.written (text q z)) same, a.1 ∙ ap (kept_behind q) same, a.2)
+    (a.0 ∙ ap (λ z. appended_text start.written (text q z)) same, a.1 ∙ ap (kept_behind q) same, a.2, a.3 ∙ ap (raised_by start.writes) (first_with_text q n r d v.k (omega (arith, le))))
 after_on q n r d start v SinkFailed le a =
-    (record { out = a.0.out; written_is = a.0.written_is; is_cut = cut_on q n r d v.k a.0.out le a.0.is_cut }, a.1, a.2)
+    (record { out = a.0.out; written_is = a.0.written_is; is_cut = cut_on q n r d v.k a.0.out le a.0.is_cut }, a.1, a.2, a.3 ∙ ap (λ m. raised_by start.writes (suc m)) (first_with_text q n r d v.k (omega (arith, le))))
 after_on q n r d start v NoMemory le a =
     let same : upto n (upto n r d) v.k ≡ upto n r v.k = first_of_first n r d v.k (omega (arith, le)) in
-    (a.0 ∙ ap (λ z. appended_text start.written (text q z)) same, a.1)
+    (a.0 ∙ ap (λ z. appended_text start.written (text q z)) same, a.1, a.2 ∙ ap (raised_by start.writes) (first_with_text q n r d v.k (omega (arith, le))))
 
 -- ---- the stage of a query
 
-module _ {O S K : Type 0} (plan : O → Tree) (contents : S → Kept) (taken_in : O → S → Input → Type 0) (written : K → Option (List ℕ)) (faults : K → ℕ) (told : RunData O) where
+module _ {O S K : Type 0} (plan : O → Tree) (contents : S → Kept) (taken_in : O → S → Input → Type 0) (written : K → Option (List ℕ)) (faults writes : K → ℕ) (told : RunData O) where
   abbrev StageAt : RunData O → ℕ → Bool → Stage S K → Type 0
-  StageAt = IsStageOf plan (stage_view contents written faults) taken_in
+  StageAt = IsStageOf plan (stage_view contents written faults writes) taken_in
 
   abbrev q : Tree
   q = plan told.operator
@@ -140,27 +142,29 @@ module _ {O S K : Type 0} (plan : O → Tree) (contents : S → Kept) (taken_in 
   r = input_of told
 
   -- one that runs, with k tasks behind it
-  pub runs_out : (k : ℕ) (st : Stage S K) → StageAt (first_tasks told k) k false st → HasOut plan contents written faults told k st
+  pub runs_out : (k : ℕ) (st : Stage S K) → StageAt (first_tasks told k) k false st → HasOut plan contents written faults writes told k st
   runs_out k st has =
-      let kept = keeps_on plan contents taken_in written faults told k st has in
-      let v : StageView = stage_view contents written faults st in
+      let kept = keeps_on plan contents taken_in written faults writes told k st has in
+      let v : StageView = stage_view contents written faults writes st in
       let a : After q n r (start_of told) v Running = subst (After q n r (start_of told) v) (has.runs refl) kept.after in
       record {
         behind = has.behind;
         sink = λ run. a.0 ∙ ap (λ j. appended_text told.written (text q (upto n r j))) has.behind;
         kept = λ run. a.1 ∙ ap (λ j. kept_behind q (upto n r j)) has.behind;
         good = λ run. a.2;
+        writes_are = λ run. a.3 ∙ ap (λ j. raised_by told.writes (tasks_with_text q n r j)) has.behind;
         stopped = λ stop. kept.after;
       }
 
   -- one that stopped at task k
-  pub stops_out : (k : ℕ) (st : Stage S K) → StageAt (first_tasks told (k + 1)) k true st → HasOut plan contents written faults told k st
+  pub stops_out : (k : ℕ) (st : Stage S K) → StageAt (first_tasks told (k + 1)) k true st → HasOut plan contents written faults writes told k st
   stops_out k st has =
-      let v : StageView = stage_view contents written faults st in
+      let v : StageView = stage_view contents written faults writes st in
       record {
         behind = has.behind;
         sink = λ run. absurd (has.stops refl run);
         kept = λ run. absurd (has.stops refl run);
         good = λ run. absurd (has.stops refl run);
+        writes_are = λ run. absurd (has.stops refl run);
         stopped = λ stop. after_on q n r (k + 1) (start_of told) v st.state (subst (λ j. j + 1 ≤ k + 1) (sym has.behind) (le_refl (k + 1))) has.keeps.after;
       }

@@ -1,3 +1,4 @@
+pub mod Works
 pub mod Grows
 pub mod Lasts
 pub mod Misses

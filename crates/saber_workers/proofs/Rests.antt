@@ -28,7 +28,7 @@ none_more : (k : ℕ) → k + 0 ≡ k
 none_more k = omega arith
 
 module _ {O P S K : Type 0} (plan : O → Tree) (is_of : O → P → Input → ℕ → ℕ → Type 0) (contents : S → Kept) (taken : O → S → Input → Type 0)
-    (written : K → Option (List ℕ)) (faults : K → ℕ) (size : ℕ) (s : QueryTable plan is_of contents taken written faults) (b : RingState (RunData O)) (sh : KeepsRule plan is_of contents taken written faults size s b) where
+    (written : K → Option (List ℕ)) (faults writes : K → ℕ) (size : ℕ) (s : QueryTable plan is_of contents taken written faults writes) (b : RingState (RunData O)) (sh : KeepsRule plan is_of contents taken written faults writes size s b) where
   abbrev q : Tree
   q = plan b.told.operator
 
@@ -39,7 +39,7 @@ module _ {O P S K : Type 0} (plan : O → Tree) (is_of : O → P → Input → �
   r = input_of b.told
 
   abbrev StageAt : RunData O → ℕ → Bool → Stage S K → Type 0
-  StageAt = IsStageOf plan (stage_view contents written faults) taken
+  StageAt = IsStageOf plan (stage_view contents written faults writes) taken
 
   -- what the ring says of the blocks in need
   rows_whole : NeedsAreWhole (IsTold plan) first_tasks (first_needed plan) (IsBlockOf plan) (IsPieceOf plan is_of) StageAt
@@ -47,7 +47,7 @@ module _ {O P S K : Type 0} (plan : O → Tree) (is_of : O → P → Input → �
 
   -- and of one of them, in the words of queries
   block_whole : (u : ℕ) → IsWhole (IsTold plan) first_tasks (first_needed plan) (IsBlockOf plan) (IsPieceOf plan is_of) StageAt size s b u
-      → AreWhole plan is_of contents taken written faults size s b u
+      → AreWhole plan is_of contents taken written faults writes size s b u
   block_whole u (inl home) =
       inl (record { word = home.0; rows = home.1.0; in_place = home.1.1; own = block_stays plan b.told u home.1.0 home.1.2 })
   block_whole u (inr one) = inr one
@@ -55,19 +55,19 @@ module _ {O P S K : Type 0} (plan : O → Tree) (is_of : O → P → Input → �
   first_is : (t : ℕ) → first_of_task first_tasks (first_needed plan) b.told t ≡ free q n r t
   first_is t = first_tell_free q n r t t (le_refl t)
 
-  blocks : (u : ℕ) → free q n r b.assembled ≤ u → u < b.filled → AreWhole plan is_of contents taken written faults size s b u
+  blocks : (u : ℕ) → free q n r b.assembled ≤ u → u < b.filled → AreWhole plan is_of contents taken written faults writes size s b u
   blocks u low high = block_whole u ((rows_whole size s b sh).1 u (subst (λ z. z ≤ u) (sym (first_is b.assembled)) low, high))
 
-  tasks : (t u : ℕ) → b.assembled ≤ t → t < b.filled → free q n r t ≤ u → u ≤ t → AreWhole plan is_of contents taken written faults size s b u
+  tasks : (t u : ℕ) → b.assembled ≤ t → t < b.filled → free q n r t ≤ u → u ≤ t → AreWhole plan is_of contents taken written faults writes size s b u
   tasks t u from below low high = block_whole u ((rows_whole size s b sh).2 t u from below (subst (λ z. z ≤ u) (sym (first_is t)) low) high)
 
   abbrev Rest : Type 0
   Rest = AtRest (IsTold plan) first_tasks (first_needed plan) (IsBlockOf plan) (IsPieceOf plan is_of) StageAt size s b
 
   -- what the stage at home has out
-  has_out : (y : Bool) (st : Stage S K) → StageAt (first_tasks b.told (b.assembled + extra y)) b.assembled y st → HasOut plan contents written faults b.told b.assembled st
-  has_out false st has = runs_out plan contents taken written faults b.told b.assembled st (subst (λ d. StageAt (first_tasks b.told d) b.assembled false st) (none_more b.assembled) has)
-  has_out true st has = stops_out plan contents taken written faults b.told b.assembled st has
+  has_out : (y : Bool) (st : Stage S K) → StageAt (first_tasks b.told (b.assembled + extra y)) b.assembled y st → HasOut plan contents written faults writes b.told b.assembled st
+  has_out false st has = runs_out plan contents taken written faults writes b.told b.assembled st (subst (λ d. StageAt (first_tasks b.told d) b.assembled false st) (none_more b.assembled) has)
+  has_out true st has = stops_out plan contents taken written faults writes b.told b.assembled st has
 
   -- the word of the turn is that of a stage that runs, or of a stopped one
   word_runs : (y : Bool) (st : Stage S K) → StageAt (first_tasks b.told (b.assembled + extra y)) b.assembled y st → st.state ≡ Running → turn_word b.assembled (ring.free y) ≡ turn_word b.assembled (ring.free false)
@@ -85,7 +85,7 @@ module _ {O P S K : Type 0} (plan : O → Tree) (is_of : O → P → Input → �
   cell rest t (inr (inl handed_in)) = inr (inl handed_in)
   cell rest t (inr (inr was)) = inr (inr (was.0, rest.stage_is.stops was.1, was.2))
 
-  pub at_rest : get_or s.words 0 0 % 2 ≡ 0 → FirstAreOut plan is_of contents taken written faults size s b b.assembled
+  pub at_rest : get_or s.words 0 0 % 2 ≡ 0 → FirstAreOut plan is_of contents taken written faults writes size s b b.assembled
   at_rest even =
       let rest : Rest = turns.at_rest (IsTold plan) first_tasks (first_needed plan) (IsBlockOf plan) (IsPieceOf plan is_of) StageAt size s b sh even in
       record {
@@ -102,9 +102,9 @@ module _ {O P S K : Type 0} (plan : O → Tree) (is_of : O → P → Input → �
 
 -- the law speaks of some ring: a new one keeps the rule, and its turn is free
 pub new_one : {O P S K : Type 0} (plan : O → Tree) (is_of : O → P → Input → ℕ → ℕ → Type 0) (contents : S → Kept) (taken : O → S → Input → Type 0)
-    (written : K → Option (List ℕ)) (faults : K → ℕ) (size : ℕ) (told : RunData O) (words : List ℕ) (stage : Stage S K) → 0 < size → size ≤ 1024 → IsTold plan told 0
-    → IsStageOf plan (stage_view contents written faults) taken told 0 false stage → IsOpen size words
-    → (b : RingState (RunData O)) × KeepsRule plan is_of contents taken written faults size (record { words = words; homes = map some (first_values size stage); views = start told ∷ [] }) b × (get_or words 0 0 % 2 ≡ 0)
-new_one plan is_of contents taken written faults size told words stage some_cell few known runs is_open =
-    let new = opens (IsTold plan) first_tasks (first_needed plan) (IsBlockOf plan) (IsPieceOf plan is_of) (IsStageOf plan (stage_view contents written faults) taken) (tasks_whole plan) size told words (first_values size stage) stage some_cell few known runs is_open refl in
+    (written : K → Option (List ℕ)) (faults writes : K → ℕ) (size : ℕ) (told : RunData O) (words : List ℕ) (stage : Stage S K) → 0 < size → size ≤ 1024 → IsTold plan told 0
+    → IsStageOf plan (stage_view contents written faults writes) taken told 0 false stage → IsOpen size words
+    → (b : RingState (RunData O)) × KeepsRule plan is_of contents taken written faults writes size (record { words = words; homes = map some (first_values size stage); views = start told ∷ [] }) b × (get_or words 0 0 % 2 ≡ 0)
+new_one plan is_of contents taken written faults writes size told words stage some_cell few known runs is_open =
+    let new = opens (IsTold plan) first_tasks (first_needed plan) (IsBlockOf plan) (IsPieceOf plan is_of) (IsStageOf plan (stage_view contents written faults writes) taken) (tasks_whole plan) size told words (first_values size stage) stage some_cell few known runs is_open refl in
     (new.0, new.1, ap (λ n. n % 2) is_open.1)

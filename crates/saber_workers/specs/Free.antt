@@ -3,7 +3,8 @@ use Rattle.std.specs.Prelude.{◌^◌, ◌≡◌, ◌≢◌, ◌⊎◌, ◌≤�
 use mathlib.Core.Option.{some}
 use mathlib.Core.Option as maybe
 use lib.ListN.{get_elem?}
-use Rattle.saber_plan.specs.Outputs.{appended_text}
+use Rattle.saber_plan.specs.Outputs.{raised_by, appended_text}
+use Rattle.saber_plan.specs.Runs.{tasks_with_text}
 use Rattle.saber_plan.specs.Inputs.{Input}
 use Rattle.saber_plan.specs.Trees.{Tree}
 use Rattle.saber_plan.specs.Answers.{text}
@@ -57,34 +58,35 @@ module _ {R P S : Type 0} (size : ℕ) (words : List ℕ) (homes : List (maybe.O
 
 -- ---- the stage
 
-module _ {O S K : Type 0} (plan : O → Tree) (contents : S → Kept) (written : K → Option (List ℕ)) (faults : K → ℕ) (told : RunData O) where
+module _ {O S K : Type 0} (plan : O → Tree) (contents : S → Kept) (written : K → Option (List ℕ)) (faults writes : K → ℕ) (told : RunData O) where
   abbrev asked : Tree
   asked = plan told.operator
 
   abbrev filled : Input
   filled = input_of told
 
-  -- With k tasks behind it: while it runs the sink has exactly what it had at the start and then the text of the first k tasks' rows, and
-  -- what is kept is exactly what is to be kept behind them; a stopped one wrote as `After` says.
+  -- With k tasks behind it: while it runs the sink has exactly what it had at the start and then the text of the first k tasks' rows, by one
+  -- write for each of them that has text, and what is kept is exactly what is to be kept behind them; a stopped one wrote as `After` says.
   pub record HasOut (k : ℕ) (stage : Stage S K) : Type 0 where
     pub behind : stage.k ≡ k
     pub sink : stage.state ≡ Running → written stage.sink ≡ appended_text told.written (text asked (upto told.size filled k))
     pub kept : stage.state ≡ Running → contents stage.store ≡ kept_behind asked (upto told.size filled k)
     pub good : stage.state ≡ Running → faults stage.sink ≡ told.faults
-    pub stopped : stage.state ≢ Running → After asked told.size filled (start_of told) (stage_view contents written faults stage) stage.state
+    pub writes_are : stage.state ≡ Running → writes stage.sink ≡ raised_by told.writes (tasks_with_text asked told.size filled k)
+    pub stopped : stage.state ≢ Running → After asked told.size filled (start_of told) (stage_view contents written faults writes stage) stage.state
 
 -- ---- the ring of a query
 
 module _ {O P S K : Type 0} (plan : O → Tree) (is_of : O → P → Input → ℕ → ℕ → Type 0) (contents : S → Kept) (taken : O → S → Input → Type 0)
-    (written : K → Option (List ℕ)) (faults : K → ℕ) where
+    (written : K → Option (List ℕ)) (faults writes : K → ℕ) where
   -- the tables of the rings of queries
   abbrev pub QueryTable : Type 0
-  QueryTable = TableOf (IsTold plan) first_tasks (first_needed plan) (IsBlockOf plan) (IsPieceOf plan is_of) (IsStageOf plan (stage_view contents written faults) taken)
+  QueryTable = TableOf (IsTold plan) first_tasks (first_needed plan) (IsBlockOf plan) (IsPieceOf plan is_of) (IsStageOf plan (stage_view contents written faults writes) taken)
 
   -- the table keeps the ring's rule, over the work of a query, and shows this state
   abbrev pub KeepsRule : ℕ → QueryTable → RingState (RunData O) → Type 0
   KeepsRule size s b =
-      IsTable (IsTold plan) first_tasks (first_needed plan) (IsBlockOf plan) (IsPieceOf plan is_of) (IsStageOf plan (stage_view contents written faults) taken) size s b
+      IsTable (IsTold plan) first_tasks (first_needed plan) (IsBlockOf plan) (IsPieceOf plan is_of) (IsStageOf plan (stage_view contents written faults writes) taken) size s b
 
   module _ (size : ℕ) (s : QueryTable) (b : RingState (RunData O)) where
     -- what was asked, in tasks of so many rows, and the input filled so far
@@ -101,7 +103,7 @@ module _ {O P S K : Type 0} (plan : O → Tree) (is_of : O → P → Input → �
     abbrev pub AreWhole : ℕ → Type 0
     AreWhole u =
         HasRows size s.words s.homes u (IsBlock q n r u)
-        ⊎ IsWithOne (IsTold plan) first_tasks (first_needed plan) (IsBlockOf plan) (IsPieceOf plan is_of) (IsStageOf plan (stage_view contents written faults) taken) size s b u
+        ⊎ IsWithOne (IsTold plan) first_tasks (first_needed plan) (IsBlockOf plan) (IsPieceOf plan is_of) (IsStageOf plan (stage_view contents written faults writes) taken) size s b u
 
     -- With k tasks assembled, of n rows each: the stage is at home, and the text of the first k tasks' rows is out. The rows of each task that
     -- isn't assembled are whole: each block from the first that task k needs to the last one filled is at home, with the rows of its own task,
@@ -111,7 +113,7 @@ module _ {O P S K : Type 0} (plan : O → Tree) (is_of : O → P → Input → �
       pub shown : turn_behind (slice_index s.words 0) ≡ k
       pub stage : Stage S K
       pub at_home : get_elem? s.homes 0 ≡ some (some (slot.Stage stage))
-      pub out : HasOut plan contents written faults b.told k stage
+      pub out : HasOut plan contents written faults writes b.told k stage
       pub runs : stage.state ≡ Running → slice_index s.words 0 ≡ 2 * k
       pub stops : stage.state ≢ Running → slice_index s.words 0 ≡ 2 * k + 2 ^ 62
       pub blocks : (u : ℕ) → free q n r k ≤ u → u < b.filled → AreWhole u

@@ -1,8 +1,9 @@
 -- What a seat has in hand from one turn of work to the next.
-use Rattle.std.specs.Prelude.{◌≡◌, ◌≤◌, ℕ, ◌+◌, Bool, true, false, Option, Some, None}
+use Rattle.std.specs.Prelude.{◌≡◌, ◌^◌, ◌≤◌, ℕ, ◌+◌, Bool, true, false, Option, Some, None}
 use Rattle.saber_ring.specs.declared.view.HeldTask.{HeldTask}
 use Rattle.saber_ring.specs.Shows.{first_of_task}
 use Rattle.saber_workers.specs.declared.hand.InHand.{InHand}
+use Rattle.saber_workers.specs.declared.hand.Hand.{Hand}
 use Rattle.saber_workers.specs.declared.hand.InHand.TheVariants.{Empty, Claimed, Begun}
 
 module _ {T : Type 0} (upto : T → ℕ → T) (first : T → ℕ → ℕ) (suits : T → Type 0) where
@@ -23,6 +24,11 @@ module _ {T D : Type 0} (upto : T → ℕ → T) (first : T → ℕ → ℕ) (su
   IsInHand Empty job = job ≡ None
   IsInHand (Claimed j) job = HoldsJob upto first suits j.task job
   IsInHand (Begun j next draft) job = HoldsJob upto first suits j.task job × HasSoFar upto first has_blocks j.task next draft job
+
+  -- the hand has the seat's job, and the next task to ask for is none that can't be
+  pub record IsHandOf {W R P S : Type 0} {g : _} (job : Option (HeldTask T)) (hand : Hand W D R P S T g) : Type 0 where
+    pub held : IsInHand hand.held job
+    pub below : hand.cursor ≤ 2 ^ 42
 
 -- nothing is in hand
 abbrev pub is_empty : {W D R P S T : Type 0} {g : _} → InHand W D R P S T g → Bool

@@ -5,4 +5,5 @@ pub mod Hands
 pub mod Lasts
 pub mod Queries
 pub mod Turns
+pub mod Makings
 pub mod Free

@@ -37,13 +37,13 @@ module _ {O D : Type 0} (plan : O → Tree) (has_seen : O → D → Sight → Ty
     LooksBackOn old block looked_back new = LooksBack first_tasks (first_needed plan) (IsBlockOf plan) (Suits op) (HasBlocks op) old block looked_back new
 
 module _ {O S K P : Type 0} (plan : O → Tree) (is_of : O → P → Input → ℕ → ℕ → Type 0) (contents : S → Kept)
-    (taken : O → S → Input → Type 0) (written : K → Option (List ℕ)) (faults : K → ℕ) (op : O) where
+    (taken : O → S → Input → Type 0) (written : K → Option (List ℕ)) (faults writes : K → ℕ) (op : O) where
   -- the piece is of the task that comes next to the stage, which runs
   abbrev pub IsNextPiece : Stage S K → Option P → Type 0
   IsNextPiece stage piece =
-      IsNext first_tasks (IsPieceOf plan is_of) (IsStageOf plan (stage_view contents written faults) taken) (Suits op) stage piece
+      IsNext first_tasks (IsPieceOf plan is_of) (IsStageOf plan (stage_view contents written faults writes) taken) (Suits op) stage piece
 
   -- the stage goes on by the piece, or is stopped
   abbrev pub AbsorbsPiece : Stage S K → Option P → Stage S K → Bool → Type 0
   AbsorbsPiece old piece new goes =
-      Absorbs first_tasks (IsPieceOf plan is_of) (IsStageOf plan (stage_view contents written faults) taken) (Suits op) old piece new goes
+      Absorbs first_tasks (IsPieceOf plan is_of) (IsStageOf plan (stage_view contents written faults writes) taken) (Suits op) old piece new goes

@@ -1,8 +1,13 @@
 -- What is asked of a seat, and what a turn of work does to it.
 use Rattle.std.specs.Prelude.{◌≡◌, ◌≢◌, ◌<◌, ◌≤◌, ℕ, ◌+◌, ◌*◌, ◌%◌, ◌⊎◌, Bool, true, false, if◌then◌else◌, nat_lt, Option, Some, None}
 use Rattle.saber_ring.specs.declared.view.View.{View}
+use Rattle.saber_ring.specs.declared.view.HeldTurn.{HeldTurn}
+use Rattle.saber_ring.specs.declared.view.TurnState.{TurnState}
+use Rattle.saber_ring.specs.declared.seat.Seat.{Seat}
+use Rattle.saber_ring.specs.declared.ring.Ring.{Ring}
+use Rattle.saber_ring.specs.Words.{view, table, table_of}
 use Rattle.saber_ring.specs.Shows.{turn_word, free}
-use Rattle.saber_ring.specs.Calls.{NotLast}
+use Rattle.saber_ring.specs.Calls.{NotLast, HoldsTurn, StageAt}
 
 -- no turn, and no block out for reading
 abbrev pub IsFree : {T : Type 0} → View T → Type 0
@@ -13,13 +18,32 @@ abbrev pub OfBase : {T : Type 0} → (T → Type 0) → Option T → Type 0
 OfBase P None = ⊥
 OfBase P (Some x) = P x
 
--- what the first seat knows, and the fixed data, stay
-abbrev pub SameSeat : {T : Type 0} → View T → View T → Type 0
-SameSeat v w = (w.lead ≡ v.lead) × (w.base ≡ v.base)
+module _ {W R P S T : Type 0} {g : _} (ring : Ring W R P S T) (seat : Seat W R P S T g) where
+  -- the seat is of this ring, without the turn, and with no block out
+  pub record IsReady : Type 0 where
+    pub own : table seat ≡ table_of ring
+    pub free : IsFree (view seat)
 
--- and all that it knows of tasks, with what it did
+  -- and it has no job
+  abbrev pub IsIdle : Type 0
+  IsIdle = IsReady × ((view seat).job ≡ None)
+
+-- the seat has the turn, whose stage has so many tasks behind it, and is stopped or goes on
+abbrev pub HasTurn : {T S : Type 0} → (T → ℕ → Bool → S → Type 0) → ℕ → TurnState → S → Option (HeldTurn T) → Type 0
+HasTurn is_stage k state stage turn = HoldsTurn k state turn × StageAt is_stage k state stage turn
+
+-- The seat took some steps more, or none. What the first seat knows, and the fixed data, stay; what it saw behind the stage stays behind
+-- it, and a stop that it saw stays seen.
+pub record WorksOn {T : Type 0} (v w : View T) : Type 0 where
+  pub lead : w.lead ≡ v.lead
+  pub base : w.base ≡ v.base
+  pub steps : v.saw.number ≤ w.saw.number
+  pub seen : v.seen ≤ w.seen
+  pub stays : v.stopped ≡ true → w.stopped ≡ true
+
+-- what it knows of tasks, what it did, and what it saw of a stop stay
 abbrev pub SameTasks : {T : Type 0} → View T → View T → Type 0
-SameTasks v w = SameSeat v w × (w.job ≡ v.job) × (w.own ≡ v.own) × (w.stopped ≡ v.stopped)
+SameTasks v w = (w.job ≡ v.job) × (w.own ≡ v.own) × (w.stopped ≡ v.stopped)
 
 -- its job and block, what it saw of a stop, and its last step that was refused stay
 abbrev pub SameWork : {T : Type 0} → View T → View T → Type 0
@@ -28,10 +52,6 @@ SameWork v w = (w.job ≡ v.job) × (w.block ≡ v.block) × (w.stopped ≡ v.st
 -- the next task to ask for, where this word was seen in place of the ready one
 abbrev pub next_cursor : ℕ → ℕ → ℕ
 next_cursor t word = if nat_lt (8 * t + 2) word then t + 1 else t
-
--- some steps more, or none, and what was seen behind the stage stays behind it
-abbrev pub StepsOn : {T : Type 0} → View T → View T → Type 0
-StepsOn v w = (v.saw.number ≤ w.saw.number) × (v.seen ≤ w.seen)
 
 module _ {T : Type 0} (size : ℕ) (v w : View T) where
   -- the claim of task t was refused by the seat's next step, which is the last that was refused

@@ -10,5 +10,5 @@ use saber_io::Sink;
 /// mark of want of memory, is at home: for every size of tasks and of the ring, and whatever seats
 /// did up to then, in any order.
 pub fn free_turns_are_at_rest<O: Operator, K: Sink>()
-    ensures { FreeTurnsAreAtRest O.plan O.is_of O.contents O.has_taken K.written K.faults }
+    ensures { FreeTurnsAreAtRest O.plan O.is_of O.contents O.has_taken K.written K.faults K.writes }
 {}

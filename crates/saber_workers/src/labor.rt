@@ -19,6 +19,9 @@ pub trait Labor<W: Work> {
     // The draft of a task has its own block, and of those before it all up to this one.
     ghost has_blocks: { Self → W.Data → ℕ → ℕ → Self.Draft → Type 0 };
 
+    // Memory lacked for a piece. Why, no clause can say; so who tells that has tried.
+    ghost lacked: { Self → Type 0 };
+
     /// The first block that a task needs, as the task's own says.
     fn first(&self, own: &W::Rows) -> u64
         ensures { (told : W.Data) (t : ℕ) → W.is_rows told t own.now → result ≡ first_of_task W.upto W.first told t };
@@ -26,7 +29,8 @@ pub trait Labor<W: Work> {
     /// Begins a task's piece with the task's own block. None for want of memory.
     fn start(&self, alloc: Global, own: &W::Rows) -> Option<Self::Draft>
         requires { IsOwn W.upto W.is_rows (suits self.now) own.now }
-        ensures { Begins W.upto W.first W.is_rows (suits self.now) (has_blocks self.now) own.now result };
+        ensures lacks { result ≡ None → lacked self.now }
+        ensures begins { Begins W.upto W.first W.is_rows (suits self.now) (has_blocks self.now) own.now result };
 
     /// Takes in the next of the blocks before the task's own. False for want of memory.
     fn look_back(&self, alloc: Global, draft: &mut Self::Draft, block: &W::Rows) -> bool
@@ -36,7 +40,8 @@ pub trait Labor<W: Work> {
     /// The piece, once all blocks are in. None for want of memory.
     fn finish(&self, alloc: Global, draft: Self::Draft) -> Option<W::Piece>
         requires { CanFinish W.upto (suits self.now) (has_blocks self.now) draft }
-        ensures { Finishes W.upto (suits self.now) (has_blocks self.now) W.is_piece draft result };
+        ensures lacks { result ≡ None → lacked self.now }
+        ensures finishes { Finishes W.upto (suits self.now) (has_blocks self.now) W.is_piece draft result };
 
     /// Takes a piece, or the mark of want of memory, into the stage. True where the stage goes on,
     /// with one task more behind it.

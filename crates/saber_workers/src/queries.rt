@@ -1,5 +1,5 @@
 //! The operators of queries as what makes pieces, and the ordered assembly as their stage.
-ghost use Rattle.std.specs.Prelude.{◌≡◌, ℕ, false, None};
+ghost use Rattle.std.specs.Prelude.{◌≡◌, ℕ, false, None, ⊤};
 ghost use Rattle.saber_ring.specs.Shows.{first_of_task};
 ghost use Rattle.saber_assembly.specs.declared.work.RunData.{RunData};
 ghost use Rattle.saber_assembly.specs.Stages.{HasPoured};
@@ -20,9 +20,9 @@ fn take_in<O: Operator, K: Sink>(
     stage: &mut Stage<O::Store, K>,
     piece: Option<O::Piece>,
 ) -> bool
-    requires { IsNextPiece O.plan O.is_of O.contents O.has_taken K.written K.faults op.now stage.old piece }
+    requires { IsNextPiece O.plan O.is_of O.contents O.has_taken K.written K.faults K.writes op.now stage.old piece }
     ensures none { piece ≡ None → result ≡ false }
-    ensures stage { AbsorbsPiece O.plan O.is_of O.contents O.has_taken K.written K.faults op.now stage.old piece stage.new result }
+    ensures stage { AbsorbsPiece O.plan O.is_of O.contents O.has_taken K.written K.faults K.writes op.now stage.old piece stage.new result }
 {
     match stage.absorb(alloc, op, piece) {
         Absorbed::Done => true,
@@ -36,6 +36,8 @@ impl<O: Operator, K: Pour> Labor<SaberWork<O, K>> for O {
     ghost suits = { Suits };
 
     ghost has_blocks = { HasBlocks O.plan O.has_seen };
+
+    ghost lacked = { λ op. ⊤ };
 
     fn first(&self, own: &Block) -> u64
         ensures { (told : RunData O) (t : ℕ) → IsBlockOf O.plan told t own.now → result ≡ first_of_task first_tasks (first_needed O.plan) told t }
@@ -74,9 +76,9 @@ impl<O: Operator, K: Pour> Labor<SaberWork<O, K>> for O {
     }
 
     fn absorb(&self, alloc: Global, stage: &mut Stage<O::Store, K>, piece: Option<O::Piece>) -> bool
-        requires { IsNextPiece O.plan O.is_of O.contents O.has_taken K.written K.faults self.now stage.old piece }
+        requires { IsNextPiece O.plan O.is_of O.contents O.has_taken K.written K.faults K.writes self.now stage.old piece }
         ensures none { piece ≡ None → result ≡ false }
-        ensures stage { AbsorbsPiece O.plan O.is_of O.contents O.has_taken K.written K.faults self.now stage.old piece stage.new result }
+        ensures stage { AbsorbsPiece O.plan O.is_of O.contents O.has_taken K.written K.faults K.writes self.now stage.old piece stage.new result }
         // And the sink was poured, also behind what stopped the stage.
         ensures poured { HasPoured K.backlog K.had_no_room stage.new }
     {

@@ -12,4 +12,6 @@ returns g c =
       memory = says.memory;
       note = says.note;
       note_good = says.note_good;
+      one = says.one;
+      none = says.none;
     }

@@ -37,7 +37,10 @@ pub first_fault-requires : goal.first_fault-requires
 first_fault-requires c = let h = small c.args.query.now _ (ap query_of c.select-tree.ensures.value) c.select-tree.ensures.parsed in omega (arith, h)
 
 pub plan-requires : goal.plan-requires
-plan-requires c = small c.args.query.now _ (ap query_of c.select-tree.ensures.value) c.select-tree.ensures.parsed
+plan-requires c = record {
+  small = small c.args.query.now _ (ap query_of c.select-tree.ensures.value) c.select-tree.ensures.parsed;
+  checked = plan_checked _ (least_gives _ (sym c.in-None.ensures));
+}
 
 pub offset_bounds-starts-fault : goal.offset_bounds-starts-fault
 offset_bounds-starts-fault c = let h = inside c.args.query.now _ _ c.in-Some.fault (ap query_of c.select-tree.ensures.value) c.starts.ensures c.select-tree.ensures.parsed c.in-Some.ensures in omega (arith, h)

@@ -5,6 +5,7 @@ use Rattle.saber_cli.specs.Outcomes.{IsClean, IsOfRun}
 use Rattle.saber_cli.specs.Uses.{IsOpened}
 use Rattle.saber_cli.specs.Endings.{ended_as}
 use Rattle.saber_cli.proofs.AnsweredLemmas.{told_answered, write_by, read_by, clean_by, run_kinds, run_opened}
+use Rattle.saber_cli.proofs.WriteLemmas.{told_writes}
 use Rattle.saber_cli.proofs.answer.answer.Goals as goal
 
 pub returns-clause-written : goal.returns-clause-written
@@ -33,3 +34,7 @@ returns-clause-write g c e = c.engine-end.ensures.write (write_by c.args.sizes.n
 
 pub returns-clause-write_good : goal.returns-clause-write_good
 returns-clause-write_good g c w = c.engine-end.ensures.write_good (λ e. w (c.outcome_of.ensures ∙ ap (ended_as c.args.sizes.now.ring) e))
+
+pub returns-clause-writes : goal.returns-clause-writes
+returns-clause-writes g c =
+    told_writes (tree_of c.args.plan.now) c.args.sizes.now _ c.engine-end.result.end c.outcome_of.result c.engine-end.result.tasks _ _ c.outcome_of.ensures c.engine-end.ensures.one_write

@@ -5,6 +5,7 @@ use Rattle.saber_plan.specs.Trees.{Tree, tree_of}
 use Rattle.saber_words.specs.Commands.{AskedRun, asked_run}
 use Rattle.saber_words.specs.Chain.{AskedChain, asked_chain}
 use Rattle.saber_plan.specs.declared.ends.RunEnd.{RunEnd}
+use Rattle.saber_chain.specs.Sinks.{seen_of}
 use Rattle.saber_cli.specs.Outcomes.{IsOfChain, IsOfPlans}
 use Rattle.saber_cli.specs.Due.{contents_of, first_run, row_names}
 use Rattle.saber_cli.specs.Chained.{AsksChainRows, ChainsOver, CutTakesChain, HasPlans, HasReason, chain_sizes, not_run}
@@ -22,7 +23,7 @@ pub returns-in-Err-clause-chained : goal.returns-in-Err-clause-chained
 returns-in-Err-clause-chained g c =
     let a : AskedChain = asked_chain c.args.command.now in
     let o = c.in-Err.outcome in
-    let w = g.K.Sink.written c.args.sink in
+    let w = seen_of g.K.Sink.written g.K.Sink.writes c.args.sink in
     let new = g.F.Files.told c.chain_plans.new.files in
     some_map (λ (t : FilesView). HasReason t.contents a o) (λ t. ChainsOver t.contents (CutTakesChain a t new) a o 0 w w) _ (λ t h. not_run h refl refl) c.in-Err.ensures.reason
 
@@ -37,8 +38,8 @@ returns-clause-chained g c =
     let o = c.chain_rows.result.outcome in
     let tasks = c.chain_rows.result.tasks in
     let told = g.F.Files.told in
-    let w = g.K.Sink.written c.args.sink in
-    let v = g.K.Sink.written c.chain_rows.result.sink in
+    let w = seen_of g.K.Sink.written g.K.Sink.writes c.args.sink in
+    let v = seen_of g.K.Sink.written g.K.Sink.writes c.chain_rows.result.sink in
     let rows : asked_run c.first_run-rows.result ≡ first_run a = c.first_run-rows.ensures in
     let sizes : c.chain_sizes-sizes.result ≡ chain_sizes a = c.chain_sizes-sizes.ensures.sizes in
     let names = row_names (first_run a) in

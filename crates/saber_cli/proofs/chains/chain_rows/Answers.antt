@@ -3,6 +3,7 @@ use Rattle.saber_io.specs.Outside.{FilesView}
 use Rattle.saber_plan.specs.Outputs.{appended-none}
 use Rattle.saber_plan.specs.Trees.{tree_of}
 use Rattle.saber_words.specs.Commands.{asked_run}
+use Rattle.saber_chain.specs.Sinks.{seen_of}
 use Rattle.saber_cli.specs.Due.{contents_of, row_names}
 use Rattle.saber_cli.specs.Chaining.{ChainedIn, CutTakes, none_run}
 use Rattle.saber_cli.proofs.AnsweredLemmas.{for_any}
@@ -34,7 +35,7 @@ returns-in-Err-clause-written g c = ([], appended-none _)
 
 pub returns-in-Err-clause-runs : goal.returns-in-Err-clause-runs
 returns-in-Err-clause-runs g c =
-    let w = g.K.Sink.written c.args.sink in let told = g.F.Files.told in
+    let w = seen_of g.K.Sink.written g.K.Sink.writes c.args.sink in let told = g.F.Files.told in
     for_any (λ (t : FilesView). ChainedIn (tree_of c.args.first.now) (tree_of c.args.second.now) c.args.sizes.now (CutTakes (tree_of c.args.first.now) c.args.sizes.now (row_names (asked_run c.args.command.now)) (told c.args.files.now) (told c.open_rows.new.files)) (contents_of t.contents (row_names (asked_run c.args.command.now))) w w c.in-Err.outcome 0) _ (λ t. none_run c.in-Err.ensures.kinds refl refl)
 
 pub returns-in-Err-clause-kinds : goal.returns-in-Err-clause-kinds

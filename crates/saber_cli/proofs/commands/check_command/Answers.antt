@@ -12,6 +12,8 @@ use Rattle.saber_cli.proofs.LeavesLemmas.{query_leaves, show_leaves}
 use Rattle.saber_cli.proofs.RunLemmas.{gives_no_text, some_map}
 use Rattle.saber_cli.proofs.ShowLemmas.{gives_show, show_early, show_reads}
 use Rattle.saber_cli.proofs.PlanLemmas.{query_alone, show_alone}
+use Rattle.saber_cli.specs.Uses.{IsOfQuery}
+use Rattle.saber_cli.proofs.WriteLemmas.{no_text_written}
 use Rattle.saber_cli.proofs.commands.check_command.Goals as goal
 
 pub returns-in-Ok-clause-written : goal.returns-in-Ok-clause-written
@@ -50,3 +52,6 @@ returns-in-Ok-clause-alone g c k = show_alone c.put_text.result.outcome c.put_te
 
 pub returns-in-Err-clause-alone : goal.returns-in-Err-clause-alone
 returns-in-Err-clause-alone g c k = query_alone c.in-Err.outcome c.in-Err.ensures.kinds k
+
+pub returns-in-Err-clause-writes : goal.returns-in-Err-clause-writes
+returns-in-Err-clause-writes g c = no_text_written c.in-Err.outcome _ (λ e. subst IsOfQuery e c.in-Err.ensures.kinds) (λ e. subst IsOfQuery e c.in-Err.ensures.kinds)

@@ -1,6 +1,6 @@
 use Rattle.std.proofs.Common.{◌≡◌, [], Some, IfSome, length, ◌∙◌, ap, sym, subst}
 use Rattle.saber_io.specs.Outside.{FilesView}
-use Rattle.saber_plan.specs.Outputs.{appended-none}
+use Rattle.saber_plan.specs.Outputs.{appended-none, raised_by}
 use Rattle.saber_check.specs.Texts.{HasPlan}
 use Rattle.saber_words.specs.declared.commands.Command.TheVariants.{Run}
 use Rattle.saber_words.specs.Commands.{AskedRun, run, asked_command, asked_run}
@@ -17,6 +17,13 @@ use Rattle.saber_cli.proofs.LeavesLemmas.{query_leaves, refused_leaves, rows_lea
 use Rattle.saber_cli.proofs.TakenLemmas.{takes_whole}
 use Rattle.saber_cli.proofs.RunLemmas.{gives_no_text, gives_text_fault, gives_unlike, gives_answer, run_of, asks_rows, sized, some_map, some_both, used_contents, text_fault_after}
 use Rattle.saber_cli.proofs.PlanLemmas.{query_alone, run_alone, text_alone}
+use Rattle.saber_plan.specs.Tasks.{run_input}
+use Rattle.saber_plan.specs.Files.{input_of}
+use Rattle.saber_plan.specs.Runs.{writes_of}
+use Rattle.saber_cli.specs.Endings.{end_of}
+use Rattle.saber_cli.specs.Uses.{IsOfQuery}
+use Rattle.saber_cli.specs.Writes.{run_writes}
+use Rattle.saber_cli.proofs.WriteLemmas.{run_unwritten, same_run}
 use Rattle.saber_cli.proofs.commands.run_command.Goals as goal
 
 pub returns-in-Err-clause-written : goal.returns-in-Err-clause-written
@@ -40,7 +47,7 @@ returns-then-streams-given-clause-written g c =
     let r : AskedRun = asked_run c.args.command.now in
     let q : Tree = tree_of c.in-Ok-planned.plan in
     let ok : HasPlan c.in-Ok.text.items q = subst (λ t. HasPlan t q) c.deref.ensures.value c.in-Ok-planned.ensures.plan in
-    let streams : length c.streams.result.now ≡ length q.streams = ap length c.streams.ensures in
+    let streams : length c.streams.result.now ≡ length q.streams = ap length c.streams.ensures.is in
     let given : c.file_count-given.result ≡ length (row_names r) = c.file_count-given.ensures in
     let unlike : IsLike r q → ⊥ = λ l. c.if-streams-given.true (streams ∙ l ∙ sym given) in (
       [],
@@ -58,7 +65,7 @@ returns-clause-written g c =
     let w = c.run_rows.ensures.written in
     let z = c.sizes_of-sizes.ensures in
     let ok : HasPlan c.in-Ok.text.items q = subst (λ t. HasPlan t q) c.deref.ensures.value c.in-Ok-planned.ensures.plan in
-    let like : IsLike r q = sym (ap length c.streams.ensures) ∙ c.if-streams-given.false ∙ c.file_count-given.ensures in (
+    let like : IsLike r q = sym (ap length c.streams.ensures.is) ∙ c.if-streams-given.false ∙ c.file_count-given.ensures in (
       w.0,
       w.1,
       some_both (λ (t : FilesView). BeginsFile t.contents r.query c.in-Ok.text.items) (λ t. AnsweredIn q r.task r.ring (asked_limits r) r.flush (contents_of t.contents (row_names r)) o tasks w.0) (λ t. Gives t.contents (run r) o tasks w.0) _
@@ -72,7 +79,7 @@ returns-clause-leaves g c =
     let r : AskedRun = asked_run c.args.command.now in
     let q : Tree = tree_of c.in-Ok-planned.plan in
     let ok : HasPlan c.in-Ok.text.items q = subst (λ t. HasPlan t q) c.deref.ensures.value c.in-Ok-planned.ensures.plan in
-    let like : IsLike r q = sym (ap length c.streams.ensures) ∙ c.if-streams-given.false ∙ c.file_count-given.ensures in
+    let like : IsLike r q = sym (ap length c.streams.ensures.is) ∙ c.if-streams-given.false ∙ c.file_count-given.ensures in
     let rows = some_map (λ (t : FilesView). BeginsFile t.contents r.query c.in-Ok.text.items) (λ t. AsksRows t.contents (run r)) (g.F.Files.told c.args.files.now) (λ t b. asks_rows t.contents r q (run_of t.contents r c.in-Ok.text.items q b ok) like) c.in-Ok.ensures.front in
     rows_leaves r c.run_rows.result.outcome _ _ _ rows c.in-Ok.ensures.uses c.run_rows.ensures.uses
 
@@ -99,3 +106,31 @@ returns-in-Err-planned-clause-alone g c k = text_alone _ c.in-Err-planned.outcom
 
 pub returns-clause-alone : goal.returns-clause-alone
 returns-clause-alone g c k = run_alone c.run_rows.result.outcome c.run_rows.ensures.kinds k
+
+pub returns-in-Err-clause-writes : goal.returns-in-Err-clause-writes
+returns-in-Err-clause-writes g c = run_unwritten (asked_run c.args.command.now) _ c.in-Err.outcome _ (λ e. subst IsOfQuery e c.in-Err.ensures.kinds)
+
+pub returns-in-Err-planned-clause-writes : goal.returns-in-Err-planned-clause-writes
+returns-in-Err-planned-clause-writes g c = run_unwritten (asked_run c.args.command.now) _ c.in-Err-planned.outcome _ (λ e. subst (IsTextFault _) e c.in-Err-planned.ensures.fault)
+
+pub returns-then-streams-given-clause-writes : goal.returns-then-streams-given-clause-writes
+returns-then-streams-given-clause-writes g c = run_unwritten (asked_run c.args.command.now) _ (FileCount (length c.streams.result.now) c.file_count-given.result) _ (λ e. cc)
+
+pub returns-clause-writes : goal.returns-clause-writes
+returns-clause-writes g c =
+    let told = g.F.Files.told in
+    let r : AskedRun = asked_run c.args.command.now in
+    let q : Tree = tree_of c.in-Ok-planned.plan in
+    let o = c.run_rows.result.outcome in
+    let tasks = c.run_rows.result.tasks in
+    let had = g.K.Sink.writes c.args.sink in
+    let now = g.K.Sink.writes c.run_rows.result.sink in
+    let z = c.sizes_of-sizes.ensures in
+    let ok : HasPlan c.in-Ok.text.items q = subst (λ t. HasPlan t q) c.deref.ensures.value c.in-Ok-planned.ensures.plan in
+    let rows =
+    sized (λ n ring m b. IfSome (told c.query_text.new.files) (λ (t : FilesView). IfSome (contents_of t.contents (row_names r)) (λ all. now ≡ raised_by had (writes_of q n (run_input q b (input_of q m all)) (end_of o) tasks))))
+    _ _ r.task r.ring _ (asked_limits r) _ r.flush z.task z.ring z.limits z.flush c.run_rows.ensures.writes in
+    let over = used_contents (λ f. IfSome (contents_of f (row_names r)) (λ all. now ≡ raised_by had (run_writes r q all o tasks))) _ _ _ c.in-Ok.ensures.uses rows in
+    some_both (λ (t : FilesView). BeginsFile t.contents r.query c.in-Ok.text.items) (λ t. IfSome (contents_of t.contents (row_names r)) (λ all. now ≡ raised_by had (run_writes r q all o tasks)))
+    (λ t. (p : Tree) → HasRun t.contents r p → IfSome (contents_of t.contents (row_names r)) (λ all. now ≡ raised_by had (run_writes r p all o tasks))) (told c.args.files.now)
+    (λ t b h. same_run t.contents r q o tasks had now (contents_of t.contents (row_names r)) (run_of t.contents r c.in-Ok.text.items q b ok) h) c.in-Ok.ensures.front over

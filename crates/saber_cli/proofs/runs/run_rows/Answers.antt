@@ -1,4 +1,4 @@
-use Rattle.std.proofs.Common.{[]}
+use Rattle.std.proofs.Common.{[], subst}
 use Rattle.saber_io.specs.Outside.{FilesView}
 use Rattle.saber_plan.specs.Outputs.{appended-none}
 use Rattle.saber_plan.specs.Trees.{tree_of}
@@ -8,6 +8,8 @@ use Rattle.saber_cli.specs.Due.{contents_of, row_names}
 use Rattle.saber_cli.specs.Answered.{AnsweredIn}
 use Rattle.saber_cli.proofs.AnsweredLemmas.{for_any, no_answer}
 use Rattle.saber_cli.proofs.RowLemmas.{run_uses, run_takes, run_answers, run_cause}
+use Rattle.saber_cli.specs.Outcomes.{IsUnopened}
+use Rattle.saber_cli.proofs.WriteLemmas.{rows_unwritten, rows_writes}
 use Rattle.saber_cli.proofs.runs.run_rows.Goals as goal
 
 pub returns-in-Ok-clause-written : goal.returns-in-Ok-clause-written
@@ -36,3 +38,11 @@ returns-in-Err-clause-written g c =
     let q = tree_of c.args.plan.now in
     let s = c.args.sizes.now in
     ([], appended-none _, for_any (λ (t : FilesView). AnsweredIn q s.task s.ring (limits_of s) s.flush (contents_of t.contents (row_names (asked_run c.args.command.now))) c.in-Err.outcome 0 []) _ (λ t. no_answer q s.task s.ring (limits_of s) s.flush _ c.in-Err.outcome c.requires.checked c.in-Err.ensures.kinds))
+
+pub returns-in-Ok-clause-writes : goal.returns-in-Ok-clause-writes
+returns-in-Ok-clause-writes g c =
+    rows_writes g.F.Src.Source.left g.F.Src.Source.faults (tree_of c.args.plan.now) c.args.sizes.now (row_names (asked_run c.args.command.now)) c.answer-ran.result.outcome c.answer-ran.result.tasks _ _ _ _ c.in-Ok.ensures.opens c.answer-ran.ensures.writes
+
+pub returns-in-Err-clause-writes : goal.returns-in-Err-clause-writes
+returns-in-Err-clause-writes g c =
+    rows_unwritten (tree_of c.args.plan.now) c.args.sizes.now (row_names (asked_run c.args.command.now)) _ c.in-Err.outcome _ (λ e. subst IsUnopened e c.in-Err.ensures.kinds)

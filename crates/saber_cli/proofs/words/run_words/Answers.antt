@@ -6,6 +6,7 @@ use Rattle.saber_words.specs.declared.commands.Command.TheVariants.{Run, Check}
 use Rattle.saber_words.specs.Commands.{run, demo, chain, asked_command, command_of}
 use Rattle.saber_words.specs.Chain.{asked_chain}
 use Rattle.saber_words.specs.Demo.{asked_demo}
+use Rattle.saber_chain.specs.Sinks.{seen_of}
 use Rattle.saber_cli.specs.Gives.{Gives, Answers}
 use Rattle.saber_cli.specs.Tells.{TellsRun}
 use Rattle.saber_cli.specs.Outcomes.{IsOfSecond}
@@ -19,6 +20,8 @@ use Rattle.saber_cli.proofs.AnsweredLemmas.{for_any}
 use Rattle.saber_cli.proofs.RunLemmas.{some_map}
 use Rattle.saber_cli.proofs.WordLemmas.{answers_of, unread_answers, unread_leave, unread_not_read}
 use Rattle.saber_cli.proofs.DemoLemmas.{gives_told, tell_leaves, unread_told}
+use Rattle.saber_cli.specs.Writes.{WritesTold}
+use Rattle.saber_cli.proofs.WriteLemmas.{unread_unwritten}
 use Rattle.saber_cli.proofs.words.run_words.Goals as goal
 
 pub returns-in-Err-clause-written : goal.returns-in-Err-clause-written
@@ -101,7 +104,7 @@ returns-in-Demo-clause-leaves g c a e n =
 pub returns-in-Err-clause-chained : goal.returns-in-Err-clause-chained
 returns-in-Err-clause-chained g c a is =
     let ws : List (List ℕ) = map (λ (word : Bor (List ℕ)). word.now) c.args.words.now in
-    let w = g.K.Sink.written c.args.sink in
+    let w = seen_of g.K.Sink.written g.K.Sink.writes c.args.sink in
     let told = g.F.Files.told c.args.files.now in
     subst (λ o. AnswersChain a o 0 told told w w) (sym c.unread.ensures) (unread_chained ws a c.in-Err.fault told told w (λ e. c.in-Err.ensures.usage (ap Err e)) is)
 
@@ -147,7 +150,7 @@ returns-in-Chain-clause-chained g c a e =
     let is : command_of ws ≡ Some (chain b) = c.in-Ok.ensures.taken ∙ ap (λ (x : Command). Some (asked_command x)) c.in-Chain.is in
     let both : Some (chain b) ≡ Some (chain a) = sym is ∙ e in
     let same : b ≡ a = cc in
-    subst (λ x. AnswersChain x c.chain_command.result.outcome c.chain_command.result.tasks (g.F.Files.told c.args.files.now) (g.F.Files.told c.chain_command.new.files) (g.K.Sink.written c.args.sink) (g.K.Sink.written c.chain_command.result.sink)) same c.chain_command.ensures.chained
+    subst (λ x. AnswersChain x c.chain_command.result.outcome c.chain_command.result.tasks (g.F.Files.told c.args.files.now) (g.F.Files.told c.chain_command.new.files) (seen_of g.K.Sink.written g.K.Sink.writes c.args.sink) (seen_of g.K.Sink.written g.K.Sink.writes c.chain_command.result.sink)) same c.chain_command.ensures.chained
 
 pub returns-in-Chain-clause-leaves_chain : goal.returns-in-Chain-clause-leaves_chain
 returns-in-Chain-clause-leaves_chain g c a e =
@@ -160,6 +163,47 @@ returns-in-Chain-clause-leaves_chain g c a e =
 
 pub returns-in-Chain-clause-leaves : goal.returns-in-Chain-clause-leaves
 returns-in-Chain-clause-leaves g c a e n =
+    let ws : List (List ℕ) = map (λ (word : Bor (List ℕ)). word.now) c.args.words.now in
+    let b = asked_chain c.in-Chain.chain in
+    let is : command_of ws ≡ Some (chain b) = c.in-Ok.ensures.taken ∙ ap (λ (x : Command). Some (asked_command x)) c.in-Chain.is in
+    let both : Some a ≡ Some (chain b) = sym e ∙ is in
+    let same : a ≡ chain b = cc in
+    absurd (subst IsPlain same n)
+
+pub returns-in-Err-clause-writes : goal.returns-in-Err-clause-writes
+returns-in-Err-clause-writes g c a is n =
+    let ws : List (List ℕ) = map (λ (word : Bor (List ℕ)). word.now) c.args.words.now in
+    let told = g.F.Files.told c.args.files.now in
+    let had = g.K.Sink.writes c.args.sink in
+    subst (λ o. WritesTold a told o 0 had had) (sym c.unread.ensures) (unread_unwritten ws a c.in-Err.fault told had (λ e. c.in-Err.ensures.usage (ap Err e)) is)
+
+pub returns-in-Run-clause-writes : goal.returns-in-Run-clause-writes
+returns-in-Run-clause-writes g c a e n =
+    let ws : List (List ℕ) = map (λ (word : Bor (List ℕ)). word.now) c.args.words.now in
+    let is : command_of ws ≡ Some (asked_command (Run c.in-Run.run')) = c.in-Ok.ensures.taken ∙ ap (λ (k : Command). Some (asked_command k)) c.in-Run.is in
+    let both : Some (asked_command (Run c.in-Run.run')) ≡ Some a = sym is ∙ e in
+    let same : asked_command (Run c.in-Run.run') ≡ a = cc in
+    subst (λ x. WritesTold x (g.F.Files.told c.args.files.now) c.run_command.result.outcome c.run_command.result.tasks (g.K.Sink.writes c.args.sink) (g.K.Sink.writes c.run_command.result.sink)) same c.run_command.ensures.writes
+
+pub returns-in-Check-clause-writes : goal.returns-in-Check-clause-writes
+returns-in-Check-clause-writes g c a e n =
+    let ws : List (List ℕ) = map (λ (word : Bor (List ℕ)). word.now) c.args.words.now in
+    let is : command_of ws ≡ Some (asked_command (Check c.in-Check.check)) = c.in-Ok.ensures.taken ∙ ap (λ (k : Command). Some (asked_command k)) c.in-Check.is in
+    let both : Some (asked_command (Check c.in-Check.check)) ≡ Some a = sym is ∙ e in
+    let same : asked_command (Check c.in-Check.check) ≡ a = cc in
+    subst (λ x. WritesTold x (g.F.Files.told c.args.files.now) c.check_command.result.outcome c.check_command.result.tasks (g.K.Sink.writes c.args.sink) (g.K.Sink.writes c.check_command.result.sink)) same c.check_command.ensures.writes
+
+pub returns-in-Demo-clause-writes : goal.returns-in-Demo-clause-writes
+returns-in-Demo-clause-writes g c a e n =
+    let ws : List (List ℕ) = map (λ (word : Bor (List ℕ)). word.now) c.args.words.now in
+    let d = asked_demo c.in-Demo.demo in
+    let is : command_of ws ≡ Some (demo d) = c.in-Ok.ensures.taken ∙ ap (λ (k : Command). Some (asked_command k)) c.in-Demo.is in
+    let both : Some (demo d) ≡ Some a = sym is ∙ e in
+    let same : demo d ≡ a = cc in
+    subst (λ x. WritesTold x (g.F.Files.told c.args.files.now) c.demo_command.result.outcome c.demo_command.result.tasks (g.K.Sink.writes c.args.sink) (g.K.Sink.writes c.demo_command.result.sink)) same c.demo_command.ensures.writes
+
+pub returns-in-Chain-clause-writes : goal.returns-in-Chain-clause-writes
+returns-in-Chain-clause-writes g c a e n =
     let ws : List (List ℕ) = map (λ (word : Bor (List ℕ)). word.now) c.args.words.now in
     let b = asked_chain c.in-Chain.chain in
     let is : command_of ws ≡ Some (chain b) = c.in-Ok.ensures.taken ∙ ap (λ (x : Command). Some (asked_command x)) c.in-Chain.is in

@@ -10,8 +10,8 @@ use Rattle.saber_engine.specs.Jobs.{tree_in}
 use Rattle.saber_engine.proofs.Serves.{serves_ok, still_fit}
 use Rattle.saber_engine.proofs.dealt.cutter_for.Goals as goal
 
-pub new-requires-clause-sizes : goal.new-requires-clause-sizes
-new-requires-clause-sizes g c = subst SizesFit (sym c.without_end-still.ensures) (still_fit c.args.sizes.now c.requires.sizes)
+pub new-requires : goal.new-requires
+new-requires g c = record { sizes = subst SizesFit (sym c.without_end-still.ensures) (still_fit c.args.sizes.now c.requires.sizes) }
 
 pub returns-clause-cuts : goal.returns-clause-cuts
 returns-clause-cuts g c =

@@ -30,6 +30,7 @@ run-ran-requires-clause-begins g c spans live =
     let q : Tree = tree_of c.args.plan.now in
     let wrote = g.K.Sink.written in
     let failed = g.K.Sink.faults in
+    let writes = g.K.Sink.writes in
     let left = each_input g.S.Source.left c.args.inputs.now in
     let faults = each_input g.S.Source.faults c.args.inputs.now in
     let cutter = c.in-Ok.begun.cutter in
@@ -41,10 +42,10 @@ run-ran-requires-clause-begins g c spans live =
     let nothing : CutsNothing (plan op) s cutter = subst (λ z. CutsNothing z s cutter) (sym c.requires.plan) c.in-Ok.ensures.cuts in
     let many : Suits (fresh (plan op) (limits_of s)) left = subst (λ z. Suits (fresh z (limits_of s)) left) (sym c.requires.plan) (suits q (limits_of s) g.S.Source.left c.args.inputs.now c.requires.inputs) in
     let counts : CountsRows keeper (plan op) [] = subst (λ z. CountsRows keeper z []) (sym c.requires.plan) c.in-Ok.ensures.counted in
-    let fits : Fits (frame (plan op)) = subst (λ z. Fits (frame z)) (sym c.requires.plan) (checked_fit q c.requires.checked) in
-    let is : HasGiven plan s left left faults faults cutter keeper None (first_told op s.task (wrote stage.sink) (failed stage.sink)) 0 = given_none plan op s left faults (wrote stage.sink) (failed stage.sink) cutter keeper nothing c.in-Ok.ensures.goes many c.in-Ok.ensures.kept counts in
-    begins plan g.O.Operator.contents g.O.Operator.has_taken wrote failed op s.task stage fits c.requires.sizes.task.0 c.args.sink e.sink e.none e.runs e.keeps (HasGiven plan g.J.Begins.sizes g.J.Begins.lefts left g.J.Begins.faults faults cutter keeper end)
-    (transport (λ i. HasGiven plan (sym b.0 i) (sym b.1 i) left (sym b.2 i) faults cutter keeper (sym c.in-Ok.ensures.end i) (first_told op s.task (wrote stage.sink) (failed stage.sink)) 0) is)
+    let fits : Fits (frame (plan op)) = subst (λ z. Fits (frame z)) (sym c.requires.plan) (checked_fit q c.ring_size-ring.ensures.checked) in
+    let is : HasGiven plan s left left faults faults cutter keeper None (first_told op s.task (wrote stage.sink) (failed stage.sink) (writes stage.sink)) 0 = given_none plan op s left faults (wrote stage.sink) (failed stage.sink) (writes stage.sink) cutter keeper nothing c.in-Ok.ensures.goes many c.in-Ok.ensures.kept counts in
+    begins plan g.O.Operator.contents g.O.Operator.has_taken wrote failed writes op s.task stage fits c.requires.sizes.task.0 c.args.sink e.sink e.none e.runs e.keeps (HasGiven plan g.J.Begins.sizes g.J.Begins.lefts left g.J.Begins.faults faults cutter keeper end)
+    (transport (λ i. HasGiven plan (sym b.0 i) (sym b.1 i) left (sym b.2 i) faults cutter keeper (sym c.in-Ok.ensures.end i) (first_told op s.task (wrote stage.sink) (failed stage.sink) (writes stage.sink)) 0) is)
 
 pub returns-in-Ok-ran : goal.returns-in-Ok-ran
 returns-in-Ok-ran g c =
@@ -54,12 +55,14 @@ returns-in-Ok-ran g c =
     let q : Tree = tree_of c.args.plan.now in
     let wrote = g.K.Sink.written in
     let failed = g.K.Sink.faults in
+    let writes = g.K.Sink.writes in
     let had = each_input g.S.Source.left c.args.inputs.now in
     let has = each_input g.S.Source.left c.run-ran.new.from in
     let before = each_input g.S.Source.faults c.args.inputs.now in
     let now = each_input g.S.Source.faults c.run-ran.new.from in
     let w = wrote c.args.sink in
     let f = failed c.args.sink in
+    let times = writes c.args.sink in
     let cutter = c.run-ran.new.supply.cutter in
     let keeper = c.run-ran.new.supply.keeper in
     let end = c.run-ran.new.supply.end in
@@ -69,13 +72,14 @@ returns-in-Ok-ran g c =
     let b = c.requires.begins in
     let x = c.ended-in-Ok-ran.ensures in
     let ends = x.end ∙ ap (end_of stage.state fed.over) c.let_go-end.ensures in
-    let r : RunsTo (IsTold plan) first_tasks (IsStageOf plan (stage_view g.O.Operator.contents wrote failed) g.O.Operator.has_taken) (HasGiven plan s had has before now cutter keeper end) (IsSome end) (first_told op s.task w f) stage fed =
-    transport (λ i. RunsTo (IsTold plan) first_tasks (IsStageOf plan (stage_view g.O.Operator.contents wrote failed) g.O.Operator.has_taken) (HasGiven plan (b.0 i) (b.1 i) has (b.2 i) now cutter keeper end) (IsSome end) (first_told op s.task (wrote (e.sink i)) (failed (e.sink i))) stage fed) c.in-Ok-ran.ensures.ended in
-    let over = done plan g.O.Operator.contents g.O.Operator.has_taken wrote failed op s w f had has before now cutter keeper end stage fed r in
-    let d : Done q s had has before now w f c.ended-in-Ok-ran.result.end c.ended-in-Ok-ran.result.tasks (wrote c.ended-in-Ok-ran.result.sink) (failed c.ended-in-Ok-ran.result.sink) =
-    transport (λ i. Done (c.requires.plan i) s had has before now w f (sym ends i) (sym x.tasks i) (wrote (sym x.sink i)) (failed (sym x.sink i))) over in
+    let r : RunsTo (IsTold plan) first_tasks (IsStageOf plan (stage_view g.O.Operator.contents wrote failed writes) g.O.Operator.has_taken) (HasGiven plan s had has before now cutter keeper end) (IsSome end) (first_told op s.task w f times) stage fed =
+    transport (λ i. RunsTo (IsTold plan) first_tasks (IsStageOf plan (stage_view g.O.Operator.contents wrote failed writes) g.O.Operator.has_taken) (HasGiven plan (b.0 i) (b.1 i) has (b.2 i) now cutter keeper end) (IsSome end) (first_told op s.task (wrote (e.sink i)) (failed (e.sink i)) (writes (e.sink i))) stage fed) c.in-Ok-ran.ensures.ended in
+    let over = done plan g.O.Operator.contents g.O.Operator.has_taken wrote failed writes op s w f times had has before now cutter keeper end stage fed r in
+    let d : Done q s had has before now w f times c.ended-in-Ok-ran.result.end c.ended-in-Ok-ran.result.tasks (wrote c.ended-in-Ok-ran.result.sink) (failed c.ended-in-Ok-ran.result.sink) (writes c.ended-in-Ok-ran.result.sink) =
+    transport (λ i. Done (c.requires.plan i) s had has before now w f times (sym ends i) (sym x.tasks i) (wrote (sym x.sink i)) (failed (sym x.sink i)) (writes (sym x.sink i))) over in
     record {
       gives = (d.out, d.written_is, if_told _ g.S.Source.left c.args.inputs.now (λ files h. d.gives files (suits q (limits_of s) g.S.Source.left c.args.inputs.now c.requires.inputs) h));
+      one_write = if_told _ g.S.Source.left c.args.inputs.now (λ files h. d.one_write files (suits q (limits_of s) g.S.Source.left c.args.inputs.now c.requires.inputs) h);
       whole = d.whole;
       takes = took _ g.S.Source.left c.args.inputs.now c.run-ran.new.from _ _ r.is_given.cuts.took.moves;
       read = d.read;
@@ -93,20 +97,23 @@ returns-in_default g c =
     let q : Tree = tree_of c.args.plan.now in
     let wrote = g.K.Sink.written in
     let failed = g.K.Sink.faults in
+    let writes = g.K.Sink.writes in
     let had = each_input g.S.Source.left c.args.inputs.now in
     let before = each_input g.S.Source.faults c.args.inputs.now in
     let w = wrote c.args.sink in
     let f = failed c.args.sink in
+    let times = writes c.args.sink in
     let e = c.new-stage.ensures in
     let x = c.ended.ensures in
     let ends : c.ended.result.end ≡ NoMemory = x.end ∙ ap (λ z. end_of z over_by.NoMemory None) e.runs in
     let counts : c.ended.result.tasks ≡ 0 = x.tasks ∙ e.none in
     let sink : c.ended.result.sink ≡ c.args.sink = x.sink ∙ e.sink in
-    let nothing = done_nothing q (checked_fit q c.requires.checked) s had before w f in
-    let d : Done q s had had before before w f c.ended.result.end c.ended.result.tasks (wrote c.ended.result.sink) (failed c.ended.result.sink) =
-    transport (λ i. Done q s had had before before w f (sym ends i) (sym counts i) (wrote (sym sink i)) (failed (sym sink i))) nothing in
+    let nothing = done_nothing q (checked_fit q c.ring_size-ring.ensures.checked) s had before w f times in
+    let d : Done q s had had before before w f times c.ended.result.end c.ended.result.tasks (wrote c.ended.result.sink) (failed c.ended.result.sink) (writes c.ended.result.sink) =
+    transport (λ i. Done q s had had before before w f times (sym ends i) (sym counts i) (wrote (sym sink i)) (failed (sym sink i)) (writes (sym sink i))) nothing in
     record {
       gives = (d.out, d.written_is, if_told _ g.S.Source.left c.args.inputs.now (λ files h. d.gives files (suits q (limits_of s) g.S.Source.left c.args.inputs.now c.requires.inputs) h));
+      one_write = if_told _ g.S.Source.left c.args.inputs.now (λ files h. d.one_write files (suits q (limits_of s) g.S.Source.left c.args.inputs.now c.requires.inputs) h);
       whole = d.whole;
       takes = took_none g.S.Source.left c.args.inputs.now;
       read = d.read;
@@ -124,23 +131,26 @@ returns-in-Err g c =
     let q : Tree = tree_of c.args.plan.now in
     let wrote = g.K.Sink.written in
     let failed = g.K.Sink.faults in
+    let writes = g.K.Sink.writes in
     let left = each_input g.S.Source.left in
     let faults = each_input g.S.Source.faults in
     let had = left c.args.inputs.now in
     let before = faults c.args.inputs.now in
     let w = wrote c.args.sink in
     let f = failed c.args.sink in
+    let times = writes c.args.sink in
     let e = c.new-stage.ensures in
     let same = c.in-Err.ensures.refused in
     let x = c.ended-in-Err.ensures in
     let ends : c.ended-in-Err.result.end ≡ NoMemory = x.end ∙ ap (λ z. end_of z.state over_by.NoMemory None) same.0 ∙ ap (λ z. end_of z over_by.NoMemory None) e.runs in
     let counts : c.ended-in-Err.result.tasks ≡ 0 = x.tasks ∙ ap (λ z. z.k) same.0 ∙ e.none in
     let sink : c.ended-in-Err.result.sink ≡ c.args.sink = x.sink ∙ ap (λ z. z.sink) same.0 ∙ e.sink in
-    let nothing = done_nothing q (checked_fit q c.requires.checked) s had before w f in
-    let d : Done q s had (left c.run-ran.new.from) before (faults c.run-ran.new.from) w f c.ended-in-Err.result.end c.ended-in-Err.result.tasks (wrote c.ended-in-Err.result.sink) (failed c.ended-in-Err.result.sink) =
-    transport (λ i. Done q s had (left (sym same.2 i)) before (faults (sym same.2 i)) w f (sym ends i) (sym counts i) (wrote (sym sink i)) (failed (sym sink i))) nothing in
+    let nothing = done_nothing q (checked_fit q c.ring_size-ring.ensures.checked) s had before w f times in
+    let d : Done q s had (left c.run-ran.new.from) before (faults c.run-ran.new.from) w f times c.ended-in-Err.result.end c.ended-in-Err.result.tasks (wrote c.ended-in-Err.result.sink) (failed c.ended-in-Err.result.sink) (writes c.ended-in-Err.result.sink) =
+    transport (λ i. Done q s had (left (sym same.2 i)) before (faults (sym same.2 i)) w f times (sym ends i) (sym counts i) (wrote (sym sink i)) (failed (sym sink i)) (writes (sym sink i))) nothing in
     record {
       gives = (d.out, d.written_is, if_told _ g.S.Source.left c.args.inputs.now (λ files h. d.gives files (suits q (limits_of s) g.S.Source.left c.args.inputs.now c.requires.inputs) h));
+      one_write = if_told _ g.S.Source.left c.args.inputs.now (λ files h. d.one_write files (suits q (limits_of s) g.S.Source.left c.args.inputs.now c.requires.inputs) h);
       whole = d.whole;
       takes = subst (λ i. (taken : List (List ℕ)) × GaveAll had taken (left i)) (sym same.2) (took_none g.S.Source.left c.args.inputs.now);
       read = d.read;

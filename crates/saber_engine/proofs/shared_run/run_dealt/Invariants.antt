@@ -3,4 +3,4 @@ use Rattle.saber_engine.specs.Jobs.{bases}
 use Rattle.saber_engine.proofs.shared_run.run_dealt.Given as goal
 
 abbrev pub ghosts-run : goal.ghosts-run
-ghosts-run g a = record { told = Some (bases a.sizes.now.task g.K.Sink.written g.K.Sink.faults a.op.now.list.items a.stage.items) }
+ghosts-run g a = record { told = Some (bases a.sizes.now.task g.K.Sink.written g.K.Sink.faults g.K.Sink.writes a.op.now.list.items a.stage.items) }

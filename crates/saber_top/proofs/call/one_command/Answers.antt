@@ -17,6 +17,7 @@ returns-clause-is g c =
         status = says.status;
         answers = says.answers;
         before = says.before;
+        writes = says.writes;
         demo = says.told;
         chained = says.chained;
         second = says.second;
@@ -80,4 +81,5 @@ returns-clause-notes g c =
       memory = says.memory;
       note = says.note;
       note_good = says.note_good;
+      one = λ n w. says.one (λ e. n (says.status ∙ ap status_of e)) w;
     }

@@ -42,6 +42,6 @@ returns g c =
       outs = came.outs;
       outs_good = came.outs_good;
       status = c.whole_status.ensures;
-      notes = subst (λ status. TellsNotes g.N.Sink.written g.N.Sink.faults c.args.notes.now c.tell-noted.new.notes status c.tell-noted.result
+      notes = subst (λ status. TellsNotes g.N.Sink.written g.N.Sink.faults g.N.Sink.writes c.args.notes.now c.tell-noted.new.notes status c.tell-noted.result
           (top_notes c.many_words-end.result.end (outcomes_of (parts_in c.many_words-end.result.parts)))) (sym c.whole_status.ensures) c.tell-noted.ensures;
     }

@@ -47,13 +47,14 @@ returns-in-Ok-run_source-clause-parts g c =
     let name = c.args.left.now in
     let written = g.U.Out.Sink.written in
     let failed = g.U.Out.Sink.faults in
+    let made = g.U.Out.Sink.writes in
     let sizes = c.args.sizes.now in
     let plans = c.args.plans.now in
     let parts = parts_in c.in-Ok-run_source.parts in
     let one = of_one left src c.run_source.new.inputs c.in-Ok-run_source.ensures.takes in
-    let runs = subst (λ i. AllZip (λ plan part. RunsPart left faults written failed (tree_of plan) sizes (One src) i part) plans parts) one.1 c.in-Ok-run_source.ensures.parts in
+    let runs = subst (λ i. AllZip (λ plan part. RunsPart left faults written failed made (tree_of plan) sizes (One src) i part) plans parts) one.1 c.in-Ok-run_source.ensures.parts in
     let closed : new ≡ after_use b [] (source_back left faults one.0 ∷ []) = subst (λ i. new ≡ after_use b [] (each_input (source_back left faults) i)) one.1 c.close_rows.ensures.closed in
-    over_all left faults written failed sizes src one.0 name a b new plans parts c.in-Ok.ensures.opens c.in-Ok.ensures.asked closed runs
+    over_all left faults written failed made sizes src one.0 name a b new plans parts c.in-Ok.ensures.opens c.in-Ok.ensures.asked closed runs
 
 pub returns-in-Ok-run_source-clause-there : goal.returns-in-Ok-run_source-clause-there
 returns-in-Ok-run_source-clause-there g c = left_there _ _ _ c.in-Ok.ensures.opens
@@ -70,14 +71,15 @@ returns-in-Ok-run_source-clause-used g c =
     let name = c.args.left.now in
     let written = g.U.Out.Sink.written in
     let failed = g.U.Out.Sink.faults in
+    let made = g.U.Out.Sink.writes in
     let sizes = c.args.sizes.now in
     let plans = c.args.plans.now in
     let parts = parts_in c.in-Ok-run_source.parts in
     let one = of_one left src c.run_source.new.inputs c.in-Ok-run_source.ensures.takes in
-    let runs = subst (λ i. AllZip (λ plan part. RunsPart left faults written failed (tree_of plan) sizes (One src) i part) plans parts) one.1 c.in-Ok-run_source.ensures.parts in
+    let runs = subst (λ i. AllZip (λ plan part. RunsPart left faults written failed made (tree_of plan) sizes (One src) i part) plans parts) one.1 c.in-Ok-run_source.ensures.parts in
     let closed : new ≡ after_use b [] (source_back left faults one.0 ∷ []) = subst (λ i. new ≡ after_use b [] (each_input (source_back left faults) i)) one.1 c.close_rows.ensures.closed in
     let taken = subst (λ i. (taken : List (List ℕ)) × GaveAll (each_input left (One src)) taken (each_input left i)) one.1 c.in-Ok-run_source.ensures.takes in
-    left_used left faults written failed sizes src one.0 name a b new (outcomes_of parts) c.in-Ok.ensures.opens c.in-Ok.ensures.asked closed taken (fits_all left faults written failed sizes src one.0 plans parts runs c.in-Ok.ensures.fresh)
+    left_used left faults written failed made sizes src one.0 name a b new (outcomes_of parts) c.in-Ok.ensures.opens c.in-Ok.ensures.asked closed taken (fits_all left faults written failed made sizes src one.0 plans parts runs c.in-Ok.ensures.fresh)
 
 pub returns-in-Ok-run_source-clause-reads : goal.returns-in-Ok-run_source-clause-reads
 returns-in-Ok-run_source-clause-reads g c =
@@ -91,16 +93,17 @@ returns-in-Ok-run_source-clause-reads g c =
     let name = c.args.left.now in
     let written = g.U.Out.Sink.written in
     let failed = g.U.Out.Sink.faults in
+    let made = g.U.Out.Sink.writes in
     let sizes = c.args.sizes.now in
     let plans = c.args.plans.now in
     let parts = parts_in c.in-Ok-run_source.parts in
     let one = of_one left src c.run_source.new.inputs c.in-Ok-run_source.ensures.takes in
-    let runs = subst (λ i. AllZip (λ plan part. RunsPart left faults written failed (tree_of plan) sizes (One src) i part) plans parts) one.1 c.in-Ok-run_source.ensures.parts in
+    let runs = subst (λ i. AllZip (λ plan part. RunsPart left faults written failed made (tree_of plan) sizes (One src) i part) plans parts) one.1 c.in-Ok-run_source.ensures.parts in
     let counted : g.F.Files.faults c.close_rows.new.files ≡ raised_by (g.F.Files.faults c.open_row.new.files) (source_back left faults one.0 ∷ []) = subst (λ i. g.F.Files.faults c.close_rows.new.files ≡ raised_by (g.F.Files.faults c.open_row.new.files) (each_input (source_back left faults) i)) one.1 c.close_rows.ensures.count in
     let old = g.F.Files.faults c.args.files.now in
     let mid = g.F.Files.faults c.open_row.new.files in
     let now = g.F.Files.faults c.close_rows.new.files in
-    let all = reads_all left faults written failed sizes src one.0 plans parts mid runs c.in-Ok.ensures.fresh in
+    let all = reads_all left faults written failed made sizes src one.0 plans parts mid runs c.in-Ok.ensures.fresh in
     subst (λ n. AllByRecursion (λ part. IsFileFault part.outcome → Rose n now) parts) c.in-Ok.ensures.good (subst (λ n. AllByRecursion (λ part. IsFileFault part.outcome → Rose mid n) parts) (sym counted) all)
 
 pub returns-in-Ok-run_source-clause-reads_good : goal.returns-in-Ok-run_source-clause-reads_good
@@ -115,16 +118,17 @@ returns-in-Ok-run_source-clause-reads_good g c =
     let name = c.args.left.now in
     let written = g.U.Out.Sink.written in
     let failed = g.U.Out.Sink.faults in
+    let made = g.U.Out.Sink.writes in
     let sizes = c.args.sizes.now in
     let plans = c.args.plans.now in
     let parts = parts_in c.in-Ok-run_source.parts in
     let one = of_one left src c.run_source.new.inputs c.in-Ok-run_source.ensures.takes in
-    let runs = subst (λ i. AllZip (λ plan part. RunsPart left faults written failed (tree_of plan) sizes (One src) i part) plans parts) one.1 c.in-Ok-run_source.ensures.parts in
+    let runs = subst (λ i. AllZip (λ plan part. RunsPart left faults written failed made (tree_of plan) sizes (One src) i part) plans parts) one.1 c.in-Ok-run_source.ensures.parts in
     let counted : g.F.Files.faults c.close_rows.new.files ≡ raised_by (g.F.Files.faults c.open_row.new.files) (source_back left faults one.0 ∷ []) = subst (λ i. g.F.Files.faults c.close_rows.new.files ≡ raised_by (g.F.Files.faults c.open_row.new.files) (each_input (source_back left faults) i)) one.1 c.close_rows.ensures.count in
     let old = g.F.Files.faults c.args.files.now in
     let mid = g.F.Files.faults c.open_row.new.files in
     let now = g.F.Files.faults c.close_rows.new.files in
-    let all = reads_good_all left faults written failed sizes src one.0 plans parts mid runs c.in-Ok.ensures.fresh in
+    let all = reads_good_all left faults written failed made sizes src one.0 plans parts mid runs c.in-Ok.ensures.fresh in
     subst (λ n. AllByRecursion (λ part. IsClean part.outcome → now ≡ n) parts) c.in-Ok.ensures.good (subst (λ n. AllByRecursion (λ part. IsClean part.outcome → n ≡ mid) parts) (sym counted) all)
 
 -- ---- none was

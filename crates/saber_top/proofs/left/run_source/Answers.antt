@@ -14,48 +14,53 @@ pub engines-requires-clause-some : goal.engines-requires-clause-some
 engines-requires-clause-some g c κs within =
     let written = g.U.Out.Sink.written in
     let failed = g.U.Out.Sink.faults in
+    let made = g.U.Out.Sink.writes in
     let plans = c.args.plans.now in
     let jobs = c.from.result.items in
-    let z : AllZip (IsJobOf written failed) plans jobs = subst (AllZip (IsJobOf written failed) plans) (sym c.from.ensures.0) c.in-Ok-job_each.ensures.jobs in
-    jobs_some written failed plans jobs z c.requires.some
+    let z : AllZip (IsJobOf written failed made) plans jobs = subst (AllZip (IsJobOf written failed made) plans) (sym c.from.ensures.0) c.in-Ok-job_each.ensures.jobs in
+    jobs_some written failed made plans jobs z c.requires.some
 
 pub engines-requires-clause-checked : goal.engines-requires-clause-checked
 engines-requires-clause-checked g c κs within =
     let written = g.U.Out.Sink.written in
     let failed = g.U.Out.Sink.faults in
+    let made = g.U.Out.Sink.writes in
     let plans = c.args.plans.now in
     let jobs = c.from.result.items in
-    let z : AllZip (IsJobOf written failed) plans jobs = subst (AllZip (IsJobOf written failed) plans) (sym c.from.ensures.0) c.in-Ok-job_each.ensures.jobs in
-    jobs_checked written failed plans jobs z c.requires.checked
+    let z : AllZip (IsJobOf written failed made) plans jobs = subst (AllZip (IsJobOf written failed made) plans) (sym c.from.ensures.0) c.in-Ok-job_each.ensures.jobs in
+    jobs_checked written failed made plans jobs z c.requires.checked
 
 pub engines-requires-clause-one : goal.engines-requires-clause-one
 engines-requires-clause-one g c κs within =
     let written = g.U.Out.Sink.written in
     let failed = g.U.Out.Sink.faults in
+    let made = g.U.Out.Sink.writes in
     let plans = c.args.plans.now in
     let jobs = c.from.result.items in
-    let z : AllZip (IsJobOf written failed) plans jobs = subst (AllZip (IsJobOf written failed) plans) (sym c.from.ensures.0) c.in-Ok-job_each.ensures.jobs in
+    let z : AllZip (IsJobOf written failed made) plans jobs = subst (AllZip (IsJobOf written failed made) plans) (sym c.from.ensures.0) c.in-Ok-job_each.ensures.jobs in
     let columns = first_columns (map tree_of plans) in
-    jobs_of_one written failed columns plans jobs z c.requires.share
+    jobs_of_one written failed made columns plans jobs z c.requires.share
 
 pub engines-requires-clause-alike : goal.engines-requires-clause-alike
 engines-requires-clause-alike g c κs within =
     let written = g.U.Out.Sink.written in
     let failed = g.U.Out.Sink.faults in
+    let made = g.U.Out.Sink.writes in
     let plans = c.args.plans.now in
     let jobs = c.from.result.items in
-    let z : AllZip (IsJobOf written failed) plans jobs = subst (AllZip (IsJobOf written failed) plans) (sym c.from.ensures.0) c.in-Ok-job_each.ensures.jobs in
+    let z : AllZip (IsJobOf written failed made) plans jobs = subst (AllZip (IsJobOf written failed made) plans) (sym c.from.ensures.0) c.in-Ok-job_each.ensures.jobs in
     let columns = first_columns (map tree_of plans) in
-    (columns, jobs_alike written failed columns plans jobs z c.requires.share)
+    (columns, jobs_alike written failed made columns plans jobs z c.requires.share)
 
 pub engines-requires-clause-threads : goal.engines-requires-clause-threads
 engines-requires-clause-threads g c κs within =
     let written = g.U.Out.Sink.written in
     let failed = g.U.Out.Sink.faults in
+    let made = g.U.Out.Sink.writes in
     let plans = c.args.plans.now in
     let jobs = c.from.result.items in
-    let z : AllZip (IsJobOf written failed) plans jobs = subst (AllZip (IsJobOf written failed) plans) (sym c.from.ensures.0) c.in-Ok-job_each.ensures.jobs in
-    let many : length jobs ≡ length plans = jobs_many written failed plans jobs z in
+    let z : AllZip (IsJobOf written failed made) plans jobs = subst (AllZip (IsJobOf written failed made) plans) (sym c.from.ensures.0) c.in-Ok-job_each.ensures.jobs in
+    let many : length jobs ≡ length plans = jobs_many written failed made plans jobs z in
     let few : length jobs * c.args.sizes.now.threads ≤ 8 * 8 = mul-le (length jobs) c.args.sizes.now.threads 8 8 (omega (arith, many, c.requires.few)) c.requires.threads in
     few
 
@@ -63,17 +68,19 @@ pub returns-in-Ok-engines-clause-parts : goal.returns-in-Ok-engines-clause-parts
 returns-in-Ok-engines-clause-parts g c =
     let written = g.U.Out.Sink.written in
     let failed = g.U.Out.Sink.faults in
+    let made = g.U.Out.Sink.writes in
     let plans = c.args.plans.now in
-    let z : AllZip (IsJobOf written failed) plans c.from.result.items = subst (AllZip (IsJobOf written failed) plans) (sym c.from.ensures.0) c.in-Ok-job_each.ensures.jobs in
-    parts_run g.S.Source.left g.S.Source.faults written failed c.args.sizes.now c.args.inputs.now c.engines.new.inputs plans c.from.result.items c.in-Ok-engines.rans.items (parts_in c.part_all.result) z c.in-Ok-engines.ensures.each c.part_all.ensures.parts
+    let z : AllZip (IsJobOf written failed made) plans c.from.result.items = subst (AllZip (IsJobOf written failed made) plans) (sym c.from.ensures.0) c.in-Ok-job_each.ensures.jobs in
+    parts_run g.S.Source.left g.S.Source.faults written failed made c.args.sizes.now c.args.inputs.now c.engines.new.inputs plans c.from.result.items c.in-Ok-engines.rans.items (parts_in c.part_all.result) z c.in-Ok-engines.ensures.each c.part_all.ensures.parts
 
 pub returns-in-Ok-engines-clause-takes : goal.returns-in-Ok-engines-clause-takes
 returns-in-Ok-engines-clause-takes g c =
     let written = g.U.Out.Sink.written in
     let failed = g.U.Out.Sink.faults in
+    let made = g.U.Out.Sink.writes in
     let plans = c.args.plans.now in
-    let z : AllZip (IsJobOf written failed) plans c.from.result.items = subst (AllZip (IsJobOf written failed) plans) (sym c.from.ensures.0) c.in-Ok-job_each.ensures.jobs in
-    took g.S.Source.left g.S.Source.faults written failed c.args.sizes.now c.args.inputs.now c.engines.new.inputs c.from.result.items c.in-Ok-engines.rans.items c.in-Ok-engines.ensures.each (jobs_some written failed plans c.from.result.items z c.requires.some)
+    let z : AllZip (IsJobOf written failed made) plans c.from.result.items = subst (AllZip (IsJobOf written failed made) plans) (sym c.from.ensures.0) c.in-Ok-job_each.ensures.jobs in
+    took g.S.Source.left g.S.Source.faults written failed made c.args.sizes.now c.args.inputs.now c.engines.new.inputs c.from.result.items c.in-Ok-engines.rans.items c.in-Ok-engines.ensures.each (jobs_some written failed made plans c.from.result.items z c.requires.some)
 
 -- ---- memory lacks for the parts, or before a row is read
 
@@ -88,8 +95,9 @@ pub part_all-requires-clause-room : goal.part_all-requires-clause-room
 part_all-requires-clause-room g c =
     let written = g.U.Out.Sink.written in
     let failed = g.U.Out.Sink.faults in
+    let made = g.U.Out.Sink.writes in
     let plans = c.args.plans.now in
-    let z : AllZip (IsJobOf written failed) plans c.from.result.items = subst (AllZip (IsJobOf written failed) plans) (sym c.from.ensures.0) c.in-Ok-job_each.ensures.jobs in
-    let many : length c.from.result.items ≡ length plans = jobs_many written failed plans c.from.result.items z in
-    let each : length c.in-Ok-engines.rans.items ≡ length c.from.result.items = zip_long (RunsJob g.S.Source.left g.S.Source.faults written failed c.args.sizes.now c.args.inputs.now c.engines.new.inputs) c.from.result.items c.in-Ok-engines.rans.items c.in-Ok-engines.ensures.each in
+    let z : AllZip (IsJobOf written failed made) plans c.from.result.items = subst (AllZip (IsJobOf written failed made) plans) (sym c.from.ensures.0) c.in-Ok-job_each.ensures.jobs in
+    let many : length c.from.result.items ≡ length plans = jobs_many written failed made plans c.from.result.items z in
+    let each : length c.in-Ok-engines.rans.items ≡ length c.from.result.items = zip_long (RunsJob g.S.Source.left g.S.Source.faults written failed made c.args.sizes.now c.args.inputs.now c.engines.new.inputs) c.from.result.items c.in-Ok-engines.rans.items c.in-Ok-engines.ensures.each in
     omega (arith, many, each, c.in-Ok.ensures.capacity)

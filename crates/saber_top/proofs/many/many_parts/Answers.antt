@@ -60,18 +60,19 @@ returns-in-Ok-run_left-clause-parts g c =
     let read : AllRead m.queries old mid = subst (λ x. AllRead x old mid) names c.in-Ok.ensures.read in
     let written = g.U.Out.Sink.written in
     let failed = g.U.Out.Sink.faults in
+    let made = g.U.Out.Sink.writes in
     let parts = parts_in c.in-Ok-run_left.parts in
     let sizes : c.sizes_of-sizes.result ≡ many_sizes m = c.sizes_of-sizes.ensures.sizes in
     let same : c.deref-2.result.now ≡ plans = c.deref-2.ensures.value in
-    let over_sizes = subst (λ s. AllZip (λ plan part. RunsOver written failed (tree_of plan) s m.left mid new part) c.deref-2.result.now parts) sizes c.in-Ok-run_left.ensures.parts in
-    let over = subst (λ x. AllZip (λ plan part. RunsOver written failed (tree_of plan) (many_sizes m) m.left mid new part) x parts) same over_sizes in
+    let over_sizes = subst (λ s. AllZip (λ plan part. RunsOver written failed made (tree_of plan) s m.left mid new part) c.deref-2.result.now parts) sizes c.in-Ok-run_left.ensures.parts in
+    let over = subst (λ x. AllZip (λ plan part. RunsOver written failed made (tree_of plan) (many_sizes m) m.left mid new part) x parts) same over_sizes in
     let many : length plans ≡ length m.queries = subst (λ x. length plans ≡ length x) names c.in-Ok.ensures.many in
     let n = length m.queries in
     record {
       early = tt;
-      each = λ _. zip_long (λ plan part. RunsOver written failed (tree_of plan) (many_sizes m) m.left mid new part) plans parts over ∙ many;
-      answers = λ _. answers_told written failed m old mid new plans parts planned c.in-Ok.ensures.share read c.in-Ok-run_left.ensures.there over;
-      taken = λ _. takes_told written failed m old mid new plans parts planned many read over;
+      each = λ _. zip_long (λ plan part. RunsOver written failed made (tree_of plan) (many_sizes m) m.left mid new part) plans parts over ∙ many;
+      answers = λ _. answers_told written failed made m old mid new plans parts planned c.in-Ok.ensures.share read c.in-Ok-run_left.ensures.there over;
+      taken = λ _. takes_told written failed made m old mid new plans parts planned many read over;
       leaves = tt;
       leaves_each = λ _. left_leaves m (LeftRan (outcomes_of parts)) (RanFits n (outcomes_of parts)) trees old mid new (ran_follows n (outcomes_of parts)) planned c.in-Ok.ensures.share read c.in-Ok-run_left.ensures.used;
       made = tt;
@@ -93,23 +94,24 @@ returns-in-Ok-run_left-clause-parts_true g c =
     let read : AllRead m.queries old mid = subst (λ x. AllRead x old mid) names c.in-Ok.ensures.read in
     let written = g.U.Out.Sink.written in
     let failed = g.U.Out.Sink.faults in
+    let made = g.U.Out.Sink.writes in
     let parts = parts_in c.in-Ok-run_left.parts in
     let sizes : c.sizes_of-sizes.result ≡ many_sizes m = c.sizes_of-sizes.ensures.sizes in
     let same : c.deref-2.result.now ≡ plans = c.deref-2.ensures.value in
-    let over_sizes = subst (λ s. AllZip (λ plan part. RunsOver written failed (tree_of plan) s m.left mid new part) c.deref-2.result.now parts) sizes c.in-Ok-run_left.ensures.parts in
-    let over = subst (λ x. AllZip (λ plan part. RunsOver written failed (tree_of plan) (many_sizes m) m.left mid new part) x parts) same over_sizes in
+    let over_sizes = subst (λ s. AllZip (λ plan part. RunsOver written failed made (tree_of plan) s m.left mid new part) c.deref-2.result.now parts) sizes c.in-Ok-run_left.ensures.parts in
+    let over = subst (λ x. AllZip (λ plan part. RunsOver written failed made (tree_of plan) (many_sizes m) m.left mid new part) x parts) same over_sizes in
     let faults = g.F.Files.faults in
     let now = faults c.run_left.new.files in
     let good : faults c.shared_plans.new.files ≡ faults c.args.files.now = c.in-Ok.ensures.good in
     record {
       none = tt;
-      statuses = statuses written failed m old mid new plans parts over;
+      statuses = statuses written failed made m old mid new plans parts over;
       files = λ k. absurd k;
       files_good = λ k. absurd k;
       reads = subst (λ n. AllByRecursion (λ part. IsFileFault part.outcome → Rose n now) parts) good c.in-Ok-run_left.ensures.reads;
       reads_good = subst (λ n. AllByRecursion (λ part. IsClean part.outcome → now ≡ n) parts) good c.in-Ok-run_left.ensures.reads_good;
-      writes = writes written failed m old mid new plans parts over;
-      writes_good = writes_good written failed m old mid new plans parts over;
+      writes = writes written failed made m old mid new plans parts over;
+      writes_good = writes_good written failed made m old mid new plans parts over;
     }
 
 -- ---- none was

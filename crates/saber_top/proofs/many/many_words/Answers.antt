@@ -20,8 +20,9 @@ returns-in-Err-clause-comes g c m is =
     let told = g.F.Files.told in
     let asked = g.U.Outs.asked in
     let written = g.U.Out.Sink.written in
-    subst (λ p. ComesTo told asked written m files files outs outs c.ended_before.result.end p) (sym none)
-    (subst (λ e. ComesTo told asked written m files files outs outs e []) (sym end) (unread_comes told asked written ws m files outs f (λ e. c.in-Err.ensures.usage (ap Err e)) is))
+    let made = g.U.Out.Sink.writes in
+    subst (λ p. ComesTo told asked written made m files files outs outs c.ended_before.result.end p) (sym none)
+    (subst (λ e. ComesTo told asked written made m files files outs outs e []) (sym end) (unread_comes told asked written made ws m files outs f (λ e. c.in-Err.ensures.usage (ap Err e)) is))
 
 pub returns-in-Err-clause-holds : goal.returns-in-Err-clause-holds
 returns-in-Err-clause-holds g c =
@@ -74,7 +75,7 @@ pub returns-in-Ok-clause-comes : goal.returns-in-Ok-clause-comes
 returns-in-Ok-clause-comes g c m is =
     let both : Some m ≡ Some (asked_many c.in-Ok.many) = sym is ∙ c.in-Ok.ensures.taken in
     let same : m ≡ asked_many c.in-Ok.many = cc in
-    subst (λ x. ComesTo g.F.Files.told g.U.Outs.asked g.U.Out.Sink.written x c.args.files.now c.many_command.new.files c.args.outs.now c.many_command.new.outs c.many_command.result.end (parts_in c.many_command.result.parts)) (sym same) c.many_command.ensures.comes
+    subst (λ x. ComesTo g.F.Files.told g.U.Outs.asked g.U.Out.Sink.written g.U.Out.Sink.writes x c.args.files.now c.many_command.new.files c.args.outs.now c.many_command.new.outs c.many_command.result.end (parts_in c.many_command.result.parts)) (sym same) c.many_command.ensures.comes
 
 pub returns-in-Ok-clause-usage : goal.returns-in-Ok-clause-usage
 returns-in-Ok-clause-usage g c k = absurd (c.many_command.ensures.read k)

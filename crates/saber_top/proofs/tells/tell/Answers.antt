@@ -13,7 +13,7 @@ returns-in-Before g c =
     let says = c.write_early.ensures in
     let e = c.in-Before.early in
     let os = outcomes_of (parts_in c.args.parts.now) in
-    let tells : TellsNotes g.N.Sink.written g.N.Sink.faults c.args.notes.now c.write_early.new.notes (early_status e) c.write_early.result (early_note e) = record {
+    let tells : TellsNotes g.N.Sink.written g.N.Sink.faults g.N.Sink.writes c.args.notes.now c.write_early.new.notes (early_status e) c.write_early.result (early_note e) = record {
       nothing = λ z. absurd (early_some e z);
       something = λ _. says.something;
       whole = says.whole;
@@ -21,8 +21,9 @@ returns-in-Before g c =
       memory = says.memory;
       note = says.cause;
       note_good = says.good;
+      one = λ _. says.one;
     } in
-    subst (λ x. TellsNotes g.N.Sink.written g.N.Sink.faults c.args.notes.now c.write_early.new.notes (top_status x os) c.write_early.result (top_notes x os)) (sym c.in-Before.is) tells
+    subst (λ x. TellsNotes g.N.Sink.written g.N.Sink.faults g.N.Sink.writes c.args.notes.now c.write_early.new.notes (top_status x os) c.write_early.result (top_notes x os)) (sym c.in-Before.is) tells
 
 pub returns-in-Each : goal.returns-in-Each
 returns-in-Each g c =
@@ -32,7 +33,7 @@ returns-in-Each g c =
     let os = outcomes_of (parts_in c.args.parts.now) in
     let text : notes_in c.add_each.new.report ≡ lines_from 1 os =
     c.add_each.ensures ∙ ap (λ x. x ++ lines_from 1 (outcomes_of c.as_slice.result.now)) c.new-report.ensures ∙ ap (λ parts. lines_from 1 (outcomes_of parts)) c.as_slice.ensures in
-    let tells : TellsNotes g.N.Sink.written g.N.Sink.faults c.args.notes.now c.write.new.notes (first_status os) c.write.result (query_lines os) = record {
+    let tells : TellsNotes g.N.Sink.written g.N.Sink.faults g.N.Sink.writes c.args.notes.now c.write.new.notes (first_status os) c.write.result (query_lines os) = record {
       nothing = λ z. says.nothing (text ∙ quiet 1 os z);
       something = λ n. says.something (λ e. loud 1 os n (sym text ∙ e));
       whole = λ w. says.whole w ∙ ap (appended_text old) text;
@@ -40,5 +41,6 @@ returns-in-Each g c =
       memory = says.memory;
       note = says.cause;
       note_good = says.good;
+      one = λ n. says.one (λ w. says.something (λ e. loud 1 os n (sym text ∙ e)) w);
     } in
-    subst (λ x. TellsNotes g.N.Sink.written g.N.Sink.faults c.args.notes.now c.write.new.notes (top_status x os) c.write.result (top_notes x os)) (sym c.in-Each.is) tells
+    subst (λ x. TellsNotes g.N.Sink.written g.N.Sink.faults g.N.Sink.writes c.args.notes.now c.write.new.notes (top_status x os) c.write.result (top_notes x os)) (sym c.in-Each.is) tells

@@ -13,8 +13,8 @@ returns-in-Some-clause-keeps g c n r start t kept e =
     let q = g.O.Operator.plan c.args.operator.now in
     let p = c.in-Some.piece in
     let of = g.O.Operator.is_of c.args.operator.now p in
-    let old = stage_view g.O.Operator.contents g.K.Sink.written g.K.Sink.faults c.args.self.now in
-    let new = stage_view g.O.Operator.contents g.K.Sink.written g.K.Sink.faults c.absorb_piece.new.self in
+    let old = stage_view g.O.Operator.contents g.K.Sink.written g.K.Sink.faults g.K.Sink.writes c.args.self.now in
+    let new = stage_view g.O.Operator.contents g.K.Sink.written g.K.Sink.faults g.K.Sink.writes c.absorb_piece.new.self in
     let x = task_start n r old.k in let y = task_start n r (old.k + 1) in
     let piece : IsPieceAt n r old.k of = subst (λ o. IfSome o (λ p. IsPieceAt n r old.k (g.O.Operator.is_of c.args.operator.now p))) c.in-Some.is e in
     let next : Follows q old.kept (g.O.Operator.has_taken c.args.operator.now c.args.self.now.store) of r x y =
@@ -33,6 +33,10 @@ returns-in-Some-clause-keeps g c n r start t kept e =
       memory = c.absorb_piece.ensures.memory;
       good = c.absorb_piece.ensures.good;
       count = c.absorb_piece.ensures.count;
+      one = λ d. c.absorb_piece.ensures.one d r x y next;
+      no_text = λ d. c.absorb_piece.ensures.no_text d r x y next;
+      failed_one = c.absorb_piece.ensures.failed_one;
+      no_write = c.absorb_piece.ensures.no_write;
     })
     (g.O.Operator.has_taken c.args.operator.now c.absorb_piece.new.self.store)
     (λ d. c.absorb_piece.ensures.taken d r x y next)

@@ -5,13 +5,10 @@ use Rattle.saber_plan.specs.declared.plans.Shape.TheVariants.{Group}
 use Rattle.saber_plan.specs.declared.rows.Side.TheVariants.{Left}
 use Rattle.saber_plan.specs.Trees.{tree_of}
 use Rattle.saber_plan.specs.Rows.{RowFits}
-use Rattle.saber_plan.specs.Checked.{IsChecked, columns_on}
+use Rattle.saber_plan.specs.Checked.{columns_on}
 use Rattle.saber_plan.specs.Parts.{group_part, merge}
 use Rattle.saber_partial.specs.Tallies.{CanMerge}
 use Rattle.saber_partial.proofs.groups.Partial.add_row.Goals as goal
-
-pub add_by-requires-clause-checked : goal.add_by-requires-clause-checked
-add_by-requires-clause-checked g c = subst (λ (p : Plan). IsChecked (tree_of p)) (sym c.of_plan.ensures) c.requires.checked
 
 pub add_by-requires-clause-group : goal.add_by-requires-clause-group
 add_by-requires-clause-group g c = subst (λ (p : Plan). (tree_of p).shape ≡ Group) (sym c.of_plan.ensures) c.requires.group

@@ -10,12 +10,12 @@ use Rattle.saber_partial.proofs.Listed.{part_listed}
 use Rattle.saber_partial.proofs.groups.Partial.answers.Goals as goal
 
 pub answers_in-requires : goal.answers_in-requires
-answers_in-requires c = subst (AllByRecursion IsLone) (sym c.items.ensures) (items_are_lone (tree_of c.args.plan.now) c.requires.checked c.requires.group)
+answers_in-requires c = subst (AllByRecursion IsLone) (sym c.items.ensures.is) (items_are_lone (tree_of c.args.plan.now) c.items.ensures.checked c.requires.group)
 
 pub returns : goal.returns
 returns c =
     let es = c.self.inside.groups.entries in
     let q = tree_of c.args.plan.now in
-    let all = ap (λ (is : List (List Product)). answers_under is es) c.items.ensures
+    let all = ap (λ (is : List (List Product)). answers_under is es) c.items.ensures.is
     ∙ part_listed q es c.requires.group c.self.invariant ∙ ap (part_answers q) c.self.view_is in
     subst (λ (l : a.Answers). IfOk c.answers_in.result (λ a. a ≡ l)) all c.answers_in.ensures

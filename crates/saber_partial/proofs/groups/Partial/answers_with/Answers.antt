@@ -40,7 +40,7 @@ answers_woven-requires-clause-alike g c =
 
 pub answers_woven-requires-clause-items : goal.answers_woven-requires-clause-items
 answers_woven-requires-clause-items g c =
-    subst (AllByRecursion IsLone) (sym c.items.ensures) (items_are_lone (tree_of c.args.plan.now) c.requires.checked c.requires.group)
+    subst (AllByRecursion IsLone) (sym c.items.ensures.is) (items_are_lone (tree_of c.args.plan.now) c.items.ensures.checked c.requires.group)
 
 pub answers_woven-requires-clause-can : goal.answers_woven-requires-clause-can
 answers_woven-requires-clause-can g c =
@@ -54,6 +54,6 @@ returns-clause-ok g c =
     let q = tree_of c.args.plan.now in
     let part = weave_merge es fs c.self.invariant c.later.invariant ∙ ap₂ merge c.self.view_is c.later.view_is in
     let rises = weave_rises es fs c.self.invariant c.later.invariant in
-    let all = ap (λ (is : List (List Product)). answers_under is (weave es fs)) c.items.ensures
+    let all = ap (λ (is : List (List Product)). answers_under is (weave es fs)) c.items.ensures.is
     ∙ part_listed q (weave es fs) c.requires.group rises ∙ ap (part_answers q) part in
     subst (λ (l : a.Answers). IfOk c.answers_woven.result (λ a. a ≡ l)) all c.answers_woven.ensures

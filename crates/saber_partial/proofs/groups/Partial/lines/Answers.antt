@@ -9,7 +9,7 @@ use Rattle.saber_partial.proofs.Lined.{part_lined}
 use Rattle.saber_partial.proofs.groups.Partial.lines.Goals as goal
 
 pub write_all-requires : goal.write_all-requires
-write_all-requires c = subst (AllByRecursion IsLone) (sym c.items.ensures) (items_are_lone (tree_of c.args.plan.now) c.requires.checked c.requires.group)
+write_all-requires c = subst (AllByRecursion IsLone) (sym c.items.ensures.is) (items_are_lone (tree_of c.args.plan.now) c.items.ensures.checked c.requires.group)
 
 pub returns-in-Ok-clause-ok : goal.returns-in-Ok-clause-ok
 returns-in-Ok-clause-ok c =
@@ -18,5 +18,5 @@ returns-in-Ok-clause-ok c =
     let q = tree_of c.args.plan.now in
     let w = c.args.window in
     c.in-Ok.ensures.ok
-    ∙ ap (λ (is : List (List Product)). out ++ lines_for w is es) c.items.ensures
+    ∙ ap (λ (is : List (List Product)). out ++ lines_for w is es) c.items.ensures.is
     ∙ ap (λ l. out ++ l) (part_lined q w es c.requires.group c.self.invariant ∙ ap (part_lines q w) c.self.view_is)

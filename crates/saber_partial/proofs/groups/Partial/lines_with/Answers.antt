@@ -42,7 +42,7 @@ write_all_woven-requires-clause-alike g c =
 
 pub write_all_woven-requires-clause-items : goal.write_all_woven-requires-clause-items
 write_all_woven-requires-clause-items g c =
-    subst (AllByRecursion IsLone) (sym c.items.ensures) (items_are_lone (tree_of c.args.plan.now) c.requires.checked c.requires.group)
+    subst (AllByRecursion IsLone) (sym c.items.ensures.is) (items_are_lone (tree_of c.args.plan.now) c.items.ensures.checked c.requires.group)
 
 pub write_all_woven-requires-clause-can : goal.write_all_woven-requires-clause-can
 write_all_woven-requires-clause-can g c =
@@ -59,5 +59,5 @@ returns-in-Ok-clause-ok g c =
     let part = weave_merge es fs c.self.invariant c.later.invariant ∙ ap₂ merge c.self.view_is c.later.view_is in
     let rises = weave_rises es fs c.self.invariant c.later.invariant in
     c.in-Ok.ensures.ok
-    ∙ ap (λ (is : List (List Product)). out ++ lines_for w is (weave es fs)) c.items.ensures
+    ∙ ap (λ (is : List (List Product)). out ++ lines_for w is (weave es fs)) c.items.ensures.is
     ∙ ap (λ l. out ++ l) (part_lined q w (weave es fs) c.requires.group rises ∙ ap (part_lines q w) part)

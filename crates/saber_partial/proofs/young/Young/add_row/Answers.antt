@@ -11,7 +11,7 @@ use Rattle.saber_partial.proofs.Adding.{add_at, add_fits}
 use Rattle.saber_partial.proofs.young.Young.add_row.Goals as goal
 
 pub add-requires-clause-fit : goal.add-requires-clause-fit
-add-requires-clause-fit c = aggregates_count (tree_of c.args.aggregates.now) c.requires.checked c.requires.group c.args.row.now.values c.requires.row.count
+add-requires-clause-fit c = aggregates_count (tree_of c.args.aggregates.now) c.keys.ensures.checked c.requires.group c.args.row.now.values c.requires.row.count
 
 pub add-requires-clause-room : goal.add-requires-clause-room
 add-requires-clause-room c =
@@ -19,7 +19,7 @@ add-requires-clause-room c =
     let zs = c.args.row.now.values in
     let m = young_part c.args.self.now.order c.args.self.now.groups.entries in
     let k = key c.keys.result.now zs in
-    let here : k ≡ key q.keys zs = ap (λ ks. key ks zs) c.keys.ensures in
+    let here : k ≡ key q.keys zs = ap (λ ks. key ks zs) c.keys.ensures.is in
     add_fits q m zs k here c.requires.room
 
 pub returns-clause-ok : goal.returns-clause-ok
@@ -28,6 +28,6 @@ returns-clause-ok c =
     let zs = c.args.row.now.values in
     let m = young_part c.args.self.now.order c.args.self.now.groups.entries in
     let k = key c.keys.result.now zs in
-    let here : k ≡ key q.keys zs = ap (λ ks. key ks zs) c.keys.ensures in
+    let here : k ≡ key q.keys zs = ap (λ ks. key ks zs) c.keys.ensures.is in
     subst (λ (x : Part). OnOk c.add.result (young_part c.add.new.self.order c.add.new.self.groups.entries ≡ x))
     (add_at q m zs k (joined_value join_numbers (get m k) (numbers q.aggregates (zs ∷ []))) here refl) c.add.ensures.ok

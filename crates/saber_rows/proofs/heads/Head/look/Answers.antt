@@ -1,4 +1,4 @@
-use Rattle.std.proofs.Common.{◌≡◌, Some, None, Ok, Err, sym, ◌∙◌, ap, subst}
+use Rattle.std.proofs.Common.{◌≡◌, Some, None, Ok, Err, sym, ◌∙◌, ap, subst, inl, refl, arith}
 use Rattle.saber_plan.specs.Rows.{stamp}
 use Rattle.saber_rows.specs.Reader.{reader_of}
 use Rattle.saber_rows.specs.declared.heads.Look.TheVariants.{Found, Ended, Failed}
@@ -98,3 +98,54 @@ returns-in-Err-clause-looks g c side last count p =
     } in
     subst (λ o. Looks (Failed c.in-Err.end) side last count (head_view c.args.self.now) (record { reader = new; ahead = o }) had has) (sym none)
     (looks old new had has side last count (head_view c.args.self.now).ahead none p c.next.result (Err c.in-Err.end) c.in-Err.is called)
+
+pub returns-then-self-clause-once : goal.returns-then-self-clause-once
+returns-then-self-clause-once g c = inl refl
+
+pub returns-in-Ok-Some-clause-once : goal.returns-in-Ok-Some-clause-once
+returns-in-Ok-Some-clause-once g c = c.next.ensures.once
+
+pub returns-in-Ok-None-clause-once : goal.returns-in-Ok-None-clause-once
+returns-in-Ok-None-clause-once g c = c.next.ensures.once
+
+pub returns-in-Err-clause-once : goal.returns-in-Err-clause-once
+returns-in-Err-clause-once g c = c.next.ensures.once
+
+pub returns-then-self-clause-rules : goal.returns-then-self-clause-rules
+returns-then-self-clause-rules g c = refl
+
+pub returns-then-self-clause-good : goal.returns-then-self-clause-good
+returns-then-self-clause-good g c _ = refl
+
+pub returns-then-self-clause-reads : goal.returns-then-self-clause-reads
+returns-then-self-clause-reads g c _ = refl
+
+pub returns-then-self-clause-count : goal.returns-then-self-clause-count
+returns-then-self-clause-count g c = omega arith
+
+pub returns-in-Ok-Some-clause-rules : goal.returns-in-Ok-Some-clause-rules
+returns-in-Ok-Some-clause-rules g c = c.next.ensures.rules
+
+pub returns-in-Ok-Some-clause-count : goal.returns-in-Ok-Some-clause-count
+returns-in-Ok-Some-clause-count g c = c.next.ensures.count
+
+pub returns-in-Ok-Some-clause-reads : goal.returns-in-Ok-Some-clause-reads
+returns-in-Ok-Some-clause-reads g c = c.next.ensures.reads
+
+pub returns-in-Ok-None-clause-rules : goal.returns-in-Ok-None-clause-rules
+returns-in-Ok-None-clause-rules g c = c.next.ensures.rules
+
+pub returns-in-Ok-None-clause-count : goal.returns-in-Ok-None-clause-count
+returns-in-Ok-None-clause-count g c = c.next.ensures.count
+
+pub returns-in-Ok-None-clause-reads : goal.returns-in-Ok-None-clause-reads
+returns-in-Ok-None-clause-reads g c = c.next.ensures.reads
+
+pub returns-in-Err-clause-rules : goal.returns-in-Err-clause-rules
+returns-in-Err-clause-rules g c = c.next.ensures.rules
+
+pub returns-in-Err-clause-count : goal.returns-in-Err-clause-count
+returns-in-Err-clause-count g c = c.next.ensures.count
+
+pub returns-in-Err-clause-reads : goal.returns-in-Err-clause-reads
+returns-in-Err-clause-reads g c = c.next.ensures.reads

@@ -1,9 +1,9 @@
-use Rattle.std.proofs.Common.{◌≡◌, ◌≤◌, ◌<◌, sym, ◌∙◌, ap, subst, false, Ok, Some, IfOk, IfSome}
+use Rattle.std.proofs.Common.{◌≡◌, ◌≤◌, ◌<◌, inl, refl, sym, ◌∙◌, ap, subst, false, Ok, Some, IfOk, IfSome}
 use Rattle.saber_plan.specs.Rows.{before, falls, RowFits}
 use Rattle.saber_rows.specs.Reader.{reader_of, gone_count}
-use Rattle.saber_rows.specs.Calls.{Moves, IsGiven, EndsBy, WantsMemory, given_by, last_after}
+use Rattle.saber_rows.specs.Calls.{Moves, IsGiven, EndsBy, WantsMemory, ReadsNoMore, given_by, last_after}
 use Rattle.saber_rows.specs.Turns.{HasEnough}
-use Rattle.saber_rows.proofs.Chains.{moved, none_given, stands}
+use Rattle.saber_rows.proofs.Chains.{moved, none_given, stands, fault_rose, faults_stay, faults_rise}
 use Rattle.saber_rows.proofs.ReaderTexts.{is_next, readers_tell, of_given, refused_ends, stopped}
 use Rattle.saber_rows.proofs.lines.Lines.next.Goals as goal
 
@@ -57,7 +57,7 @@ returns-in-None-clause-ended g c _ e = (subst (λ a. EndsBy a (reader_of c.advan
 pub returns-in-None-clause-rules : goal.returns-in-None-clause-rules
 returns-in-None-clause-rules g c =
     let same : c.quick_row.new.self ≡ c.args.self.now = c.quick_row.ensures.none c.in-None.is in
-    c.advance.ensures.rules ∙ ap (λ s. (reader_of s).rules) same
+    c.advance.ensures.place.rules ∙ ap (λ s. (reader_of s).rules) same
 
 pub returns-in-None-clause-refused : goal.returns-in-None-clause-refused
 returns-in-None-clause-refused g c _ = refused_ends c.advance.result _ _ (ap (λ r. r.side) (returns-in-None-clause-rules g c)) c.advance.ensures.ends
@@ -95,14 +95,37 @@ returns-in-None-clause-rises g c =
 pub returns-in-None-clause-last : goal.returns-in-None-clause-last
 returns-in-None-clause-last g c =
     let same : c.quick_row.new.self ≡ c.args.self.now = c.quick_row.ensures.none c.in-None.is in
-    c.advance.ensures.last ∙ ap (λ s. last_after (reader_of s).last c.advance.result) same
+    c.advance.ensures.place.last ∙ ap (λ s. last_after (reader_of s).last c.advance.result) same
 
 pub returns-in-None-clause-stays : goal.returns-in-None-clause-stays
 returns-in-None-clause-stays g c =
     let same : c.quick_row.new.self ≡ c.args.self.now = c.quick_row.ensures.none c.in-None.is in
-    subst (λ s. gone_count (reader_of s) ≤ gone_count (reader_of c.advance.new.self)) same c.advance.ensures.stays
+    subst (λ s. gone_count (reader_of s) ≤ gone_count (reader_of c.advance.new.self)) same c.advance.ensures.place.stays
 
 pub returns-in-None-clause-reads : goal.returns-in-None-clause-reads
 returns-in-None-clause-reads g c h =
     let same : c.quick_row.new.self ≡ c.args.self.now = c.quick_row.ensures.none c.in-None.is in
     c.advance.ensures.reads (subst (λ s. HasEnough (reader_of s)) (sym same) h)
+
+pub returns-in-None-clause-answer : goal.returns-in-None-clause-answer
+returns-in-None-clause-answer g c _ = c.advance.ensures.place.answer
+
+pub returns-in-None-clause-cause : goal.returns-in-None-clause-cause
+returns-in-None-clause-cause g c _ e = fault_rose c.advance.result _ _ c.advance.ensures.faults e
+
+pub returns-in-None-clause-good : goal.returns-in-None-clause-good
+returns-in-None-clause-good g c good = faults_stay c.advance.result _ _ c.advance.ensures.faults good
+
+pub returns-in-None-clause-count : goal.returns-in-None-clause-count
+returns-in-None-clause-count g c = faults_rise c.advance.result _ _ c.advance.ensures.faults
+
+pub returns-in-Some-clause-once : goal.returns-in-Some-clause-once
+returns-in-Some-clause-once g c = inl refl
+
+pub returns-in-Some-quick_row-clause-once : goal.returns-in-Some-quick_row-clause-once
+returns-in-Some-quick_row-clause-once g c = inl refl
+
+pub returns-in-None-clause-once : goal.returns-in-None-clause-once
+returns-in-None-clause-once g c =
+    let same : c.quick_row.new.self ≡ c.args.self.now = c.quick_row.ensures.none c.in-None.is in
+    subst (λ s. ReadsNoMore g.S.Source.left c.args.source.now c.advance.new.source (reader_of s)) same c.advance.ensures.once

@@ -1,59 +1,30 @@
-use Rattle.std.proofs.Common.{rules, ◌≡◌, ◌≤◌, None, false, sym, subst, length}
-use Rattle.saber_plan.specs.Rows.{before}
-use Rattle.saber_rows.specs.Buffer.{bytes_of}
-use Rattle.saber_rows.specs.LineFeeds.{HasNoFeed}
-use Rattle.saber_rows.specs.Reader.{reader_of, end_behind}
-use Rattle.saber_rows.specs.Turns.{TurnGives, NoneReady, HasEnough}
-use Rattle.saber_rows.proofs.ReadSteps.{not_enough}
-use Rattle.saber_rows.proofs.Chains.{moved, line_turn, not_ready}
-use Rattle.saber_rows.proofs.SoundRows.{no_end}
+use Rattle.std.proofs.Common.{sym, subst}
+use Rattle.saber_rows.specs.Reader.{reader_of}
+use Rattle.saber_rows.specs.Calls.{LastRead}
+use Rattle.saber_rows.specs.Turns.{Turned, IsDrained}
+use Rattle.saber_rows.proofs.Chains.{held_turned, held_asked, held_faults, read_asked, drained_needs}
 use Rattle.saber_rows.proofs.lines.Lines.turn.Goals as goal
 
-pub returns-in-Some-clause-gives : goal.returns-in-Some-clause-gives
-returns-in-Some-clause-gives g c = moved (before c.in-Some.row) _ _ _ c.in-Some.ensures.some
+pub returns-in-Some-clause-turns : goal.returns-in-Some-clause-turns
+returns-in-Some-clause-turns g c = held_turned c.in-Some.turn (reader_of c.args.self.now) (reader_of c.turn_held.new.self) (g.S.Source.left c.args.source.now) c.in-Some.ensures.turns
 
-pub fill-requires-clause-none : goal.fill-requires-clause-none
-fill-requires-clause-none g c =
-    let none : c.give.result ≡ None = search rules in
-    let over : c.give.new.self.over ≡ None = search rules in
-    not_ready (reader_of c.give.new.self) (subst (λ s. NoneReady (reader_of s)) (sym (c.give.ensures.none none).0) (c.give.ensures.none none).1) (no_end c.give.new.self.over (end_behind c.give.new.self.side) over)
+pub returns-in-Some-clause-asks : goal.returns-in-Some-clause-asks
+returns-in-Some-clause-asks g c = held_asked g.S.Source.left c.in-Some.turn c.args.source.now (reader_of c.args.self.now) (reader_of c.turn_held.new.self) c.in-Some.ensures.turns
 
-pub returns-in-Some-line_feed_in-clause-gives : goal.returns-in-Some-line_feed_in-clause-gives
-returns-in-Some-line_feed_in-clause-gives g c =
-    let none : c.give.result ≡ None = search rules in
-    subst (λ s. TurnGives c.take_line.result (reader_of s) (reader_of c.take_line.new.self) (g.S.Source.left c.args.source.now) (g.S.Source.left c.args.source.now)) (c.give.ensures.none none).0
-    (line_turn c.take_line.result _ _ _ c.take_line.ensures.gives)
+pub returns-in-Some-clause-faults : goal.returns-in-Some-clause-faults
+returns-in-Some-clause-faults g c = held_faults c.in-Some.turn (reader_of c.args.self.now) (reader_of c.turn_held.new.self) (g.S.Source.faults c.args.source.now) c.in-Some.ensures.turns
 
-pub returns-in-None-clause-gives : goal.returns-in-None-clause-gives
-returns-in-None-clause-gives g c =
-    let none : c.give.result ≡ None = search rules in
-    subst (λ s. TurnGives c.take_last.result (reader_of s) (reader_of c.take_last.new.self) (g.S.Source.left c.args.source.now) (g.S.Source.left c.args.source.now)) (c.give.ensures.none none).0
-    (line_turn c.take_last.result _ _ _ c.take_last.ensures.gives)
+pub fill-requires : goal.fill-requires
+fill-requires g c = let none = c.turn_held.ensures.none c.in-None.is in record { drained = subst (λ s. IsDrained (reader_of s)) (sym none.0) none.1 }
 
-pub returns-in-None-2-clause-gives : goal.returns-in-None-2-clause-gives
-returns-in-None-2-clause-gives g c =
-    let none : c.give.result ≡ None = search rules in
-    subst (λ s. TurnGives c.refuse_long.result (reader_of s) (reader_of c.refuse_long.new.self) (g.S.Source.left c.args.source.now) (g.S.Source.left c.args.source.now)) (c.give.ensures.none none).0
-    (line_turn c.refuse_long.result _ _ _ c.refuse_long.ensures.gives)
+pub returns-in-None-clause-turns : goal.returns-in-None-clause-turns
+returns-in-None-clause-turns g c =
+    let k = c.fill.ensures in
+    subst (λ s. Turned c.fill.result (reader_of s) (reader_of c.fill.new.self) (g.S.Source.left c.args.source.now) (g.S.Source.left c.fill.new.source)) (c.turn_held.ensures.none c.in-None.is).0
+    (record { gives = k.gives; falls = k.falls; place = k.place; rules = k.rules })
 
-pub returns-in-None-3-clause-reads : goal.returns-in-None-3-clause-reads
-returns-in-None-3-clause-reads g c h =
-    let none : c.give.result ≡ None = search rules in
-    let known : c.give.new.self.over ≡ None = search rules in
-    let over = no_end c.give.new.self.over (end_behind c.give.new.self.side) known in
-    let ready : NoneReady (reader_of c.give.new.self) = subst (λ s. NoneReady (reader_of s)) (sym (c.give.ensures.none none).0) (c.give.ensures.none none).1 in
-    let unended : c.give.new.self.ended ≡ false = search rules in
-    let few : length (bytes_of c.give.new.self.held) ≤ 4097 = search rules in
-    let feed : HasNoFeed (bytes_of c.give.new.self.held) = search rules in
-    not_enough (reader_of c.give.new.self) unended over (not_ready (reader_of c.give.new.self) ready over) few feed (subst (λ s. HasEnough (reader_of s)) (sym (c.give.ensures.none none).0) h)
-
-pub returns-in-None-3-clause-enough : goal.returns-in-None-3-clause-enough
-returns-in-None-3-clause-enough g c h =
-    let none : c.give.result ≡ None = search rules in
-    let known : c.give.new.self.over ≡ None = search rules in
-    let over = no_end c.give.new.self.over (end_behind c.give.new.self.side) known in
-    let ready : NoneReady (reader_of c.give.new.self) = subst (λ s. NoneReady (reader_of s)) (sym (c.give.ensures.none none).0) (c.give.ensures.none none).1 in
-    let unended : c.give.new.self.ended ≡ false = search rules in
-    let few : length (bytes_of c.give.new.self.held) ≤ 4097 = search rules in
-    let feed : HasNoFeed (bytes_of c.give.new.self.held) = search rules in
-    not_enough (reader_of c.give.new.self) unended over (not_ready (reader_of c.give.new.self) ready over) few feed (subst (λ s. HasEnough (reader_of s)) (sym (c.give.ensures.none none).0) h)
+pub returns-in-None-clause-asks : goal.returns-in-None-clause-asks
+returns-in-None-clause-asks g c =
+    let none = c.turn_held.ensures.none c.in-None.is in
+    let last = subst (λ s. LastRead (reader_of s) (g.S.Source.left c.args.source.now) (g.S.Source.left c.fill.new.source)) none.0 c.fill.ensures.last in
+    read_asked g.S.Source.left c.fill.result c.args.source.now c.fill.new.source (reader_of c.args.self.now) (reader_of c.fill.new.self) (drained_needs (reader_of c.args.self.now) none.1) last

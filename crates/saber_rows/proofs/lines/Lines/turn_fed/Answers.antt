@@ -1,68 +1,92 @@
-use Rattle.std.proofs.Common.{rules, ◌≡◌, ◌≤◌, None, Some, false, sym, subst, length}
-use Rattle.saber_plan.specs.Rows.{before}
-use Rattle.saber_rows.specs.Buffer.{bytes_of}
-use Rattle.saber_rows.specs.LineFeeds.{HasNoFeed}
-use Rattle.saber_rows.specs.Reader.{reader_of, end_behind}
-use Rattle.saber_rows.specs.Turns.{TurnGives, NoneReady, HasEnough}
-use Rattle.saber_rows.proofs.ReadSteps.{not_enough}
-use Rattle.saber_rows.proofs.Chains.{moved, line_turn, not_ready}
-use Rattle.saber_rows.proofs.SoundRows.{no_end}
+use Rattle.std.proofs.Common.{◌≡◌, ◌<◌, refl, sym, ◌∙◌, ap, subst, Some, IfSome, IfNone}
+use Rattle.saber_rows.specs.Reader.{reader_of}
+use Rattle.saber_rows.specs.FedSteps.{StaysDry}
+use Rattle.saber_rows.specs.Turns.{TurnGives, PlaceMoves, IsDrained, IfAgain, work_left}
+use Rattle.saber_rows.proofs.ReadSteps.{true_not_false}
+use Rattle.saber_rows.proofs.Chains.{drained_needs, held_calm, without_fault}
 use Rattle.saber_rows.proofs.lines.Lines.turn_fed.Goals as goal
 
+-- ---- by what is held
+
 pub returns-in-Some-clause-gives : goal.returns-in-Some-clause-gives
-returns-in-Some-clause-gives g c = moved (before c.in-Some.row) _ _ _ c.in-Some.ensures.some
+returns-in-Some-clause-gives g c = c.in-Some.ensures.turns.gives (Some (g.F.Feed.waiting c.args.feed.now))
 
-pub take_line-requires-clause-none : goal.take_line-requires-clause-none
-take_line-requires-clause-none g c =
-    let none : c.give.result ≡ None = search rules in
-    let over : c.give.new.self.over ≡ None = search rules in
-    not_ready (reader_of c.give.new.self) (subst (λ s. NoneReady (reader_of s)) (sym (c.give.ensures.none none).0) (c.give.ensures.none none).1) (no_end c.give.new.self.over (end_behind c.give.new.self.side) over)
+pub returns-in-Some-clause-falls : goal.returns-in-Some-clause-falls
+returns-in-Some-clause-falls g c = c.in-Some.ensures.turns.falls
 
-pub fill_fed-requires-clause-none : goal.fill_fed-requires-clause-none
-fill_fed-requires-clause-none g c =
-    let none : c.give.result ≡ None = search rules in
-    let over : c.give.new.self.over ≡ None = search rules in
-    not_ready (reader_of c.give.new.self) (subst (λ s. NoneReady (reader_of s)) (sym (c.give.ensures.none none).0) (c.give.ensures.none none).1) (no_end c.give.new.self.over (end_behind c.give.new.self.side) over)
+pub returns-in-Some-clause-place : goal.returns-in-Some-clause-place
+returns-in-Some-clause-place g c = c.in-Some.ensures.turns.place
 
-pub returns-in-Some-line_feed_in-clause-gives : goal.returns-in-Some-line_feed_in-clause-gives
-returns-in-Some-line_feed_in-clause-gives g c =
-    let none : c.give.result ≡ None = search rules in
-    let w = Some (g.F.Feed.waiting c.args.feed.now) in
-    subst (λ s. TurnGives c.take_line.result (reader_of s) (reader_of c.take_line.new.self) w w) (c.give.ensures.none none).0
-    (line_turn c.take_line.result _ _ _ c.take_line.ensures.gives)
+pub returns-in-Some-clause-rules : goal.returns-in-Some-clause-rules
+returns-in-Some-clause-rules g c = c.in-Some.ensures.turns.rules
+
+pub returns-in-Some-clause-known : goal.returns-in-Some-clause-known
+returns-in-Some-clause-known g c = c.in-Some.ensures.turns.known
+
+pub returns-in-Some-clause-enough : goal.returns-in-Some-clause-enough
+returns-in-Some-clause-enough g c = c.in-Some.ensures.turns.enough
+
+pub returns-in-Some-clause-marked : goal.returns-in-Some-clause-marked
+returns-in-Some-clause-marked g c unended ended = let k = c.in-Some.ensures.turns in true_not_false (reader_of c.turn_held.new.self).ended (k.ended ∙ unended) ended
+
+pub returns-in-Some-clause-cut : goal.returns-in-Some-clause-cut
+returns-in-Some-clause-cut g c = held_calm c.in-Some.turn _ c.in-Some.ensures.turns.calm
+
+pub returns-in-Some-clause-cause : goal.returns-in-Some-clause-cause
+returns-in-Some-clause-cause g c = held_calm c.in-Some.turn _ c.in-Some.ensures.turns.calm
+
+pub returns-in-Some-clause-good : goal.returns-in-Some-clause-good
+returns-in-Some-clause-good g c = without_fault c.in-Some.turn _ refl
+
+pub returns-in-Some-clause-reads : goal.returns-in-Some-clause-reads
+returns-in-Some-clause-reads g c _ = refl
+
+-- ---- by the feed
+
+pub fill_fed-requires : goal.fill_fed-requires
+fill_fed-requires g c = let none = c.turn_held.ensures.none c.in-None.is in record { drained = subst (λ s. IsDrained (reader_of s)) (sym none.0) none.1 }
 
 pub returns-in-None-clause-gives : goal.returns-in-None-clause-gives
-returns-in-None-clause-gives g c =
-    let none : c.give.result ≡ None = search rules in
-    let w = Some (g.F.Feed.waiting c.args.feed.now) in
-    subst (λ s. TurnGives c.take_last.result (reader_of s) (reader_of c.take_last.new.self) w w) (c.give.ensures.none none).0
-    (line_turn c.take_last.result _ _ _ c.take_last.ensures.gives)
+returns-in-None-clause-gives g c = subst (λ s. IfSome c.fill_fed.result (λ t. TurnGives t (reader_of s) (reader_of c.fill_fed.new.self) (Some (g.F.Feed.waiting c.args.feed.now)) (Some (g.F.Feed.waiting c.fill_fed.new.feed)))) (c.turn_held.ensures.none c.in-None.is).0 c.fill_fed.ensures.gives
 
-pub returns-in-None-2-clause-gives : goal.returns-in-None-2-clause-gives
-returns-in-None-2-clause-gives g c =
-    let none : c.give.result ≡ None = search rules in
-    let w = Some (g.F.Feed.waiting c.args.feed.now) in
-    subst (λ s. TurnGives c.refuse_long.result (reader_of s) (reader_of c.refuse_long.new.self) w w) (c.give.ensures.none none).0
-    (line_turn c.refuse_long.result _ _ _ c.refuse_long.ensures.gives)
+pub returns-in-None-clause-dry : goal.returns-in-None-clause-dry
+returns-in-None-clause-dry g c = subst (λ s. IfNone c.fill_fed.result (StaysDry (reader_of s) (reader_of c.fill_fed.new.self) (g.F.Feed.waiting c.args.feed.now) (g.F.Feed.waiting c.fill_fed.new.feed) (g.F.Feed.mark c.args.feed.now))) (c.turn_held.ensures.none c.in-None.is).0 c.fill_fed.ensures.dry
 
-pub returns-in-None-3-clause-reads : goal.returns-in-None-3-clause-reads
-returns-in-None-3-clause-reads g c h =
-    let none : c.give.result ≡ None = search rules in
-    let known : c.give.new.self.over ≡ None = search rules in
-    let over = no_end c.give.new.self.over (end_behind c.give.new.self.side) known in
-    let ready : NoneReady (reader_of c.give.new.self) = subst (λ s. NoneReady (reader_of s)) (sym (c.give.ensures.none none).0) (c.give.ensures.none none).1 in
-    let unended : c.give.new.self.ended ≡ false = search rules in
-    let few : length (bytes_of c.give.new.self.held) ≤ 4097 = search rules in
-    let feed : HasNoFeed (bytes_of c.give.new.self.held) = search rules in
-    not_enough (reader_of c.give.new.self) unended over (not_ready (reader_of c.give.new.self) ready over) few feed (subst (λ s. HasEnough (reader_of s)) (sym (c.give.ensures.none none).0) h)
+pub returns-in-None-clause-falls : goal.returns-in-None-clause-falls
+returns-in-None-clause-falls g c = subst (λ s. IfSome c.fill_fed.result (λ t. IfAgain t (work_left (reader_of c.fill_fed.new.self) < work_left (reader_of s)))) (c.turn_held.ensures.none c.in-None.is).0 c.fill_fed.ensures.falls
 
-pub returns-in-None-3-clause-enough : goal.returns-in-None-3-clause-enough
-returns-in-None-3-clause-enough g c h =
-    let none : c.give.result ≡ None = search rules in
-    let known : c.give.new.self.over ≡ None = search rules in
-    let over = no_end c.give.new.self.over (end_behind c.give.new.self.side) known in
-    let ready : NoneReady (reader_of c.give.new.self) = subst (λ s. NoneReady (reader_of s)) (sym (c.give.ensures.none none).0) (c.give.ensures.none none).1 in
-    let unended : c.give.new.self.ended ≡ false = search rules in
-    let few : length (bytes_of c.give.new.self.held) ≤ 4097 = search rules in
-    let feed : HasNoFeed (bytes_of c.give.new.self.held) = search rules in
-    not_enough (reader_of c.give.new.self) unended over (not_ready (reader_of c.give.new.self) ready over) few feed (subst (λ s. HasEnough (reader_of s)) (sym (c.give.ensures.none none).0) h)
+pub returns-in-None-clause-place : goal.returns-in-None-clause-place
+returns-in-None-clause-place g c = subst (λ s. IfSome c.fill_fed.result (λ t. PlaceMoves t (reader_of s) (reader_of c.fill_fed.new.self))) (c.turn_held.ensures.none c.in-None.is).0 c.fill_fed.ensures.place
+
+pub returns-in-None-clause-rules : goal.returns-in-None-clause-rules
+returns-in-None-clause-rules g c = c.fill_fed.ensures.rules ∙ ap (λ s. (reader_of s).rules) (c.turn_held.ensures.none c.in-None.is).0
+
+pub returns-in-None-clause-known : goal.returns-in-None-clause-known
+returns-in-None-clause-known g c = c.fill_fed.ensures.known
+
+pub returns-in-None-clause-cut : goal.returns-in-None-clause-cut
+returns-in-None-clause-cut g c = c.fill_fed.ensures.cut
+
+pub returns-in-None-clause-cause : goal.returns-in-None-clause-cause
+returns-in-None-clause-cause g c = c.fill_fed.ensures.cause
+
+pub returns-in-None-clause-good : goal.returns-in-None-clause-good
+returns-in-None-clause-good g c = c.fill_fed.ensures.good
+
+pub returns-in-None-clause-calm : goal.returns-in-None-clause-calm
+returns-in-None-clause-calm g c = c.fill_fed.ensures.calm
+
+pub returns-in-None-clause-count : goal.returns-in-None-clause-count
+returns-in-None-clause-count g c = c.fill_fed.ensures.count
+
+pub returns-in-None-clause-stands : goal.returns-in-None-clause-stands
+returns-in-None-clause-stands g c = c.fill_fed.ensures.stands
+
+pub returns-in-None-clause-marked : goal.returns-in-None-clause-marked
+returns-in-None-clause-marked g c _ ended = c.fill_fed.ensures.marked ended
+
+pub returns-in-None-clause-reads : goal.returns-in-None-clause-reads
+returns-in-None-clause-reads g c h = absurd (h (drained_needs (reader_of c.args.self.now) (c.turn_held.ensures.none c.in-None.is).1))
+
+pub returns-in-None-clause-enough : goal.returns-in-None-clause-enough
+returns-in-None-clause-enough g c h = absurd (h (drained_needs (reader_of c.args.self.now) (c.turn_held.ensures.none c.in-None.is).1))

@@ -1,7 +1,7 @@
-use Rattle.std.proofs.Common.{Ok, sym, subst}
+use Rattle.std.proofs.Common.{Ok, sym, subst, refl, ap, ◌∙◌}
 use Rattle.saber_plan.specs.declared.rows.Side.TheVariants.{Right}
 use Rattle.saber_rows.specs.declared.heads.Look.TheVariants.{Found, Ended, Failed}
-use Rattle.saber_rows.specs.Heads.{head_view, bare, front_of, Looks}
+use Rattle.saber_rows.specs.Heads.{Headed, head_view, bare, front_of, Looks}
 use Rattle.saber_rows.specs.Merging.{MergeTurn}
 use Rattle.saber_rows.proofs.MergedTurns.{only_right, both_ended, right_fails_end, on_right, none_some, front_is}
 use Rattle.saber_rows.proofs.merges.Merge.right_row.Goals as goal
@@ -39,3 +39,48 @@ returns-in-Failed-clause-turn g c m had p f =
     let e = c.in-Failed.end in
     let k : Looks (Failed e) Right m.last m.right a b h1 h2 = subst (λ l. Looks l Right m.last m.right a b h1 h2) c.in-Failed.is (c.look.ensures.looks Right m.last m.right p.right) in
     on_right m _ (Failed e) a b left _ h1 h2 h2 had had k (right_fails_end m (record { left = left; right = b }) had h2 (record { left = p.left; right = k.passed; held = λ h e n. none_some (front_of left) Ended h (front_is Ended left f) }) e f k.finds)
+
+pub returns-in-Found-clause-once : goal.returns-in-Found-clause-once
+returns-in-Found-clause-once g c = c.look.ensures.once
+
+pub returns-in-Ended-clause-once : goal.returns-in-Ended-clause-once
+returns-in-Ended-clause-once g c = c.look.ensures.once
+
+pub returns-in-Failed-clause-once : goal.returns-in-Failed-clause-once
+returns-in-Failed-clause-once g c = c.look.ensures.once
+
+pub returns-in-Found-clause-count : goal.returns-in-Found-clause-count
+returns-in-Found-clause-count g c = c.look.ensures.count
+
+pub returns-in-Found-clause-reads : goal.returns-in-Found-clause-reads
+returns-in-Found-clause-reads g c = c.look.ensures.reads
+
+pub returns-in-Found-clause-left_rules : goal.returns-in-Found-clause-left_rules
+returns-in-Found-clause-left_rules g c = refl
+
+pub returns-in-Ended-clause-count : goal.returns-in-Ended-clause-count
+returns-in-Ended-clause-count g c = c.look.ensures.count
+
+pub returns-in-Ended-clause-reads : goal.returns-in-Ended-clause-reads
+returns-in-Ended-clause-reads g c = c.look.ensures.reads
+
+pub returns-in-Ended-clause-left_rules : goal.returns-in-Ended-clause-left_rules
+returns-in-Ended-clause-left_rules g c = refl
+
+pub returns-in-Failed-clause-count : goal.returns-in-Failed-clause-count
+returns-in-Failed-clause-count g c = c.look.ensures.count
+
+pub returns-in-Failed-clause-reads : goal.returns-in-Failed-clause-reads
+returns-in-Failed-clause-reads g c = c.look.ensures.reads
+
+pub returns-in-Failed-clause-left_rules : goal.returns-in-Failed-clause-left_rules
+returns-in-Failed-clause-left_rules g c = refl
+
+pub returns-in-Found-clause-right_rules : goal.returns-in-Found-clause-right_rules
+returns-in-Found-clause-right_rules g c = ap (λ (h : Headed). h.reader.rules) c.take.ensures.rest ∙ c.look.ensures.rules
+
+pub returns-in-Ended-clause-right_rules : goal.returns-in-Ended-clause-right_rules
+returns-in-Ended-clause-right_rules g c = c.look.ensures.rules
+
+pub returns-in-Failed-clause-right_rules : goal.returns-in-Failed-clause-right_rules
+returns-in-Failed-clause-right_rules g c = c.look.ensures.rules

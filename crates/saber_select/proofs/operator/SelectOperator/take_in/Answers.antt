@@ -16,7 +16,7 @@ pub returns-clause-text : goal.returns-clause-text
 returns-clause-text c r x y f =
     let q = tree_of c.args.self.now in
     let text = c.args.piece in
-    let w = plain_way q (subst (λ (p : Plan). IsSelection (tree_of p)) c.self.view_is c.self.invariant).2 in
+    let w = plain_way q (subst (λ (p : Plan). IsSelection (tree_of p)) c.self.view_is (c.self.invariant.0, c.self.invariant.1, c.self.invariant.2)).2 in
     let kept : empty ≡ unclosed q (first_arrivals r x) = alike_parts q w empty (first_arrivals r x) f.kept_is in
     c.in_ok-extend_from_slice.ensures.items ∙ ap (λ l. c.args.out.now.items ++ l) (
     c.as_slice.ensures ∙ text_written q text (shares_between q r x y) f.of_is
@@ -26,7 +26,7 @@ returns-clause-text c r x y f =
 pub returns-clause-stays : goal.returns-clause-stays
 returns-clause-stays c r x y f =
     let q = tree_of c.args.self.now in
-    let w = plain_way q (subst (λ (p : Plan). IsSelection (tree_of p)) c.self.view_is c.self.invariant).2 in
+    let w = plain_way q (subst (λ (p : Plan). IsSelection (tree_of p)) c.self.view_is (c.self.invariant.0, c.self.invariant.1, c.self.invariant.2)).2 in
     let kept : empty ≡ unclosed q (first_arrivals r x) = alike_parts q w empty (first_arrivals r x) f.kept_is in
     ap by_windows (
     none_left q c.args.piece (shares_between q r x y) f.of_is

@@ -2,23 +2,13 @@ use Rattle.std.proofs.Common.{◌∙◌, nat_cmp, subst}
 use Rattle.saber_plan.specs.declared.plans.Plan.{Plan}
 use Rattle.saber_plan.specs.Trees.{tree_of}
 use Rattle.saber_plan.specs.Facts.Trees.{sorted_seen}
-use Rattle.saber_fragment.specs.Shown.{windows_by}
-use Rattle.saber_windowed.specs.Found.{part_of}
 use Rattle.saber_windowed.proofs.Finishing.{IsWindowed, handed_are}
 use Rattle.saber_windowed.proofs.select.WindowedSelect.handed_of.Goals as goal
 
 pub returns : goal.returns
 returns c =
     let own = c.args.own.now in
-    let q = tree_of c.args.self.now in
     let inv = subst (λ (p : Plan). IsWindowed (tree_of p)) c.self.view_is (c.self.invariant.0, c.self.invariant.1, c.self.invariant.3) in
-    let g = c.in_ok-gathered.gathered in
     let es = c.in_ok-found.found.0.entries in
-    (λ j. record {
-      closing = windows_by part_of (c.into_piece.ensures.closing j);
-      pending = windows_by part_of (c.into_piece.ensures.pending j);
-      opening = windows_by part_of (c.into_piece.ensures.opening j);
-      lines = c.into_piece.ensures.text j;
-      closed = c.into_piece.ensures.closed j;
-    })
-    ∙ handed_are q inv.0 inv.1 inv.2 own.before own.rows own.ended c.requires c.in_ok-found.found.1 c.in_ok-found.ensures.bounds es (sorted_seen nat_cmp (λ k. k) (λ x. x) es c.len-count.ensures.ordered) c.in_ok-found.ensures.windows g.closing g.pending g.opening g.text.items c.in_ok-gathered.ensures
+    c.in_ok-piece.ensures
+    ∙ handed_are (tree_of c.args.self.now) inv.0 inv.1 inv.2 own.before own.rows own.ended c.requires c.in_ok-found.found.1 c.in_ok-found.ensures.bounds es (sorted_seen nat_cmp (λ k. k) (λ x. x) es c.len-count.ensures.ordered) c.in_ok-found.ensures.windows

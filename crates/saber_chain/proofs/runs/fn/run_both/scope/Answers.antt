@@ -25,7 +25,7 @@ returns-in-Ok g c =
     let e = c.run_second-ran.ensures in
     let x = c.settle.ensures in
     let settled = subst (λ l. Settled (written_by ran.receipt) (Some (mark_after c.settle.result.first)) (bytes_of l) (mark_of l)) c.dismiss.ensures.feed.got_is x.settled in
-    both_runs left faults g.K.Sink.written g.K.Sink.faults (tree_of job.plan.now) (tree_of c.captures.second.now) c.captures.sizes.now job.inputs ran.ended.inputs c.captures.sink second.ran.sink c.settle.result
+    both_runs left faults g.K.Sink.written g.K.Sink.faults g.K.Sink.writes (tree_of job.plan.now) (tree_of c.captures.second.now) c.captures.sizes.now job.inputs ran.ended.inputs c.captures.sink second.ran.sink c.settle.result
     ran.ended.end second.ran.end ran.ended.tasks second.ran.tasks (written_by ran.receipt) (taken_by second.relay) (mark_by ran.receipt) (mark_in second.relay)
     first e.runs e.write e.write_good e.writes e.stopped x.stopped x.ends x.tasks x.given_back settled
 
@@ -41,6 +41,6 @@ returns-in-Err g c =
     let second = c.run_second-ran-in-Err.result in
     let e = c.run_second-ran-in-Err.ensures in
     let x = c.settle-in-Err.ensures in
-    both_runs left faults g.K.Sink.written g.K.Sink.faults (tree_of job.plan.now) (tree_of c.captures.second.now) c.captures.sizes.now job.inputs ran.ended.inputs c.captures.sink second.ran.sink c.settle-in-Err.result
+    both_runs left faults g.K.Sink.written g.K.Sink.faults g.K.Sink.writes (tree_of job.plan.now) (tree_of c.captures.second.now) c.captures.sizes.now job.inputs ran.ended.inputs c.captures.sink second.ran.sink c.settle-in-Err.result
     ran.ended.end second.ran.end ran.ended.tasks second.ran.tasks (written_by ran.receipt) (taken_by second.relay) (mark_by ran.receipt) (mark_in second.relay)
     first e.runs e.write e.write_good e.writes e.stopped x.stopped x.ends x.tasks x.given_back x.settled
