@@ -205,6 +205,25 @@ module _ (n : ℕ) (q : Tree) (m mark : Mark) (old mid new : Reading) (had there
     ends = λ i h. subst (λ j. ReadEnds j new) (same_end NoMemory i h) tt;
   }
 
+-- some rows, and then one more or none
+module _ (n : ℕ) (q : Tree) (m mark after : Mark) (old mid new : Reading) (had there has : Lefts) (start kept more : List Row) (f : Filling n q m mark old mid had there start kept) where
+  pub filling_next : (u : Unit {0}) → Fills (Ok u) q 1 mark after mid new there has kept more → Filling (n + 1) q m after old new had has start more
+  filling_next u g = filling_on n 1 q m mark after old mid new had there has start kept more f (record { rows = g.rows; took = g.took; mark = g.mark; kept = g.kept refl; count = (g.full u refl).0 })
+
+  pub filled_next : (size : ℕ) (e : End) → n < size → Fills (Err e) q 1 mark after mid new there has kept more → Fills (Err e) q size m after old new had has start more
+  filled_next size e less g = record {
+    rows = f.rows ++ g.rows;
+    took = took_on q m old mid new had there has f.rows g.rows f.took (subst (λ x. Took q x mid new there has g.rows) f.mark g.took);
+    mark = g.mark ∙ ap (λ x. mark_after x g.rows) f.mark ∙ sym (mark_append m f.rows g.rows);
+    kept = λ k. g.kept k ∙ ap (λ xs. xs ++ g.rows) f.kept ∙ append_assoc start f.rows g.rows;
+    few = omega (arith, length-append f.rows g.rows, f.count, g.few, less);
+    full = λ u h. absurd (err_not_ok e u h);
+    short = λ i h k. omega (arith, length-append f.rows g.rows, f.count, g.short i h k, less);
+    ends = g.ends;
+  } where
+    err_not_ok : (e : End) (u : Unit {0}) → ◌≡◌ {A = Result (Unit {0}) End} (Err e) (Ok u) → ⊥
+    err_not_ok e u h = cc
+
 pub filled_all : (size : ℕ) (u : Unit {0}) (q : Tree) (m mark : Mark) (old mid : Reading) (had there : Lefts) (start kept : List Row) → Filling size q m mark old mid had there start kept → IsOpen mid → Fills (Ok u) q size m mark old mid had there start kept
 filled_all size u q m mark old mid had there start kept f o = record {
   rows = f.rows;
@@ -246,6 +265,10 @@ as_row a b e = let same : a ≡ b = cc in ap (λ x. Err x) same
 
 pub as_fill : (a b : End) → ◌≡◌ {A = Result Row End} (Err a) (Err b) → ◌≡◌ {A = Result (Unit {0}) End} (Err a) (Err b)
 as_fill a b e = let same : a ≡ b = cc in ap (λ x. Err x) same
+
+-- a block that is filled is no end
+pub not_filled : (u : Unit {0}) (end : End) → ◌≡◌ {A = Result (Unit {0}) End} (Ok u) (Err end) → ⊥
+not_filled u end e = cc
 
 -- a row is no end
 pub not_both : (row : Row) (end : End) → ◌≡◌ {A = Result Row End} (Ok row) (Err end) → ⊥

@@ -201,6 +201,28 @@ impl MemFiles {
         }
         MemFile::open_named(alloc, files, name)
     }
+
+    // Keeps the name of a file that is asked for, and opens it.
+    fn ask(&mut self, alloc: Global, name: &str) -> Result<Option<MemOpened>, AllocError>
+        ensures none { IfOk result (λ o. IfNone o (
+            Contains self.old.fails (raised_count self.old.opens)
+            ⊎ (file_named self.old.files name.now ≡ None))) }
+        ensures unlisted { IfOk result (λ o. OnSome o (¬ Contains self.old.fails (raised_count self.old.opens))) }
+        ensures opened { IfOk result (λ o. IfSome o (λ s.
+            option_map opened_file (file_named self.old.files name.now) ≡ Some s)) }
+        ensures ok { OnOk result (self.new ≡ record self.old {
+          opens = raised_count self.old.opens;
+          asked = self.old.asked ++ name.now ∷ [];
+        }) }
+        ensures err { OnErr result (self.new ≡ self.old) }
+    {
+        let number = self.opens.saturating_add(1);
+        let source = MemFiles::open_numbered(alloc, &self.files, &self.fails, number, name)?;
+        let asked = String::from_str(alloc, name)?;
+        self.asked.push(asked)?;
+        self.opens = number;
+        Ok(source)
+    }
 }
 
 impl Files for MemFiles {
@@ -229,11 +251,7 @@ impl Files for MemFiles {
             OpensIn (told_of self.old).contents name.now (Some src.left)) }
         ensures count { self.old.faults ≤ self.new.faults }
     {
-        let number = self.opens.saturating_add(1);
-        let source = MemFiles::open_numbered(alloc, &self.files, &self.fails, number, name)?;
-        let asked = String::from_str(alloc, name)?;
-        self.asked.push(asked)?;
-        self.opens = number;
+        let source = self.ask(alloc, name)?;
         match source {
             Some(source) => Ok(source),
             None => {

@@ -1,5 +1,5 @@
 // Files that are created in memory.
-ghost use Rattle.std.specs.Prelude.{◌≡◌, ◌≢◌, ◌≤◌, [], Contains, IfOk, OnOk};
+ghost use Rattle.std.specs.Prelude.{◌≡◌, ◌≢◌, ◌≤◌, [], ◌∷◌, ◌++◌, Contains, IfOk, OnOk, OnErr};
 ghost use Rattle.saber_io.specs.declared.outs.CreateFault.{CreateFault};
 ghost use Rattle.saber_plan.specs.Outputs.{raised_count};
 ghost use Rattle.saber_io.specs.Outs.{fails_of, created_file, one_asked, one_failed};
@@ -80,6 +80,18 @@ impl MemOuts {
         }
     }
 
+    // Keeps the name of a file that is asked for, and tells which writes to it fail.
+    fn ask(&mut self, alloc: Global, name: &str) -> Result<Vec<(u64, u64)>, AllocError>
+        ensures fails { IfOk result (λ fails. fails.items ≡ fails_of self.old.writes name.now) }
+        ensures ok { OnOk result (self.new ≡ record self.old { asked = self.old.asked ++ name.now ∷ [] }) }
+        ensures err { OnErr result (self.new ≡ self.old) }
+    {
+        let fails = MemFail::of_name(alloc, &self.writes, name)?;
+        let asked = String::from_str(alloc, name)?;
+        self.asked.push(asked)?;
+        Ok(fails)
+    }
+
     /// The names that were asked for, in order.
     pub fn asked(&self) -> &[String]
         ensures { map string_bytes result.now ≡ self.now.asked }
@@ -108,10 +120,8 @@ impl Outs for MemOuts {
         ensures memory { result ≡ Err CreateFault.NoMemory → self.new ≡ self.old }
         ensures count { self.old.faults ≤ self.new.faults }
     {
+        let fails = self.ask(alloc, name)?;
         let number = self.creates.saturating_add(1);
-        let fails = MemFail::of_name(alloc, &self.writes, name)?;
-        let asked = String::from_str(alloc, name)?;
-        self.asked.push(asked)?;
         self.creates = number;
         if is_listed(&self.fails, number) {
             self.faults = self.faults.saturating_add(1);

@@ -16,7 +16,7 @@ use Rattle.saber_rows.specs.Reader.{Reader, rest_by, rest_of, nothing, CanFollow
 use Rattle.saber_rows.specs.Calls.{Moves, EndsBy, given_by, kept_by, last_after, LastRead, ReadsNoMore, AnswerFaults}
 use Rattle.saber_rows.specs.FedSteps.{StopsKnown}
 use Rattle.saber_rows.specs.Laws.{MovesGoOn, ReadersStand}
-use Rattle.saber_rows.specs.Turns.{Steps, LineGives, TurnGives, NoneReady, same, HeldTurn, Turned, Asked, TurnFaults, IsDrained, HasEnough, IfAgain, IfFault, IfNoFault, PlaceMoves, work_left}
+use Rattle.saber_rows.specs.Turns.{Steps, LineGives, TurnGives, NoneReady, same, HeldTurn, Turned, Asked, TurnFaults, IsDrained, HasEnough, IfAgain, IfFault, PlaceMoves, work_left}
 use Rattle.saber_rows.proofs.ReadSteps.{given_none, needs_more, true_not_false}
 
 -- ---- a turn without the source
@@ -156,14 +156,6 @@ held_calm (turns.Stop AllRead) P c = tt
 held_calm (turns.Stop (Failed ReadFault)) P c = absurd c
 held_calm (turns.Stop (Failed NoMemory)) P c = tt
 held_calm (turns.Stop (Failed (Bad n c'))) P c = tt
-
-pub without_fault : (t : Turn) (P : Type 0) → P → IfNoFault t P
-without_fault (turns.Row r) P p = p
-without_fault turns.Again P p = p
-without_fault (turns.Stop AllRead) P p = p
-without_fault (turns.Stop (Failed ReadFault)) P p = tt
-without_fault (turns.Stop (Failed NoMemory)) P p = p
-without_fault (turns.Stop (Failed (Bad n c))) P p = p
 
 pub read_asked : {A : Type 0} (left : A → Option (List ℕ)) (t : Turn) (was is : A) (old new : Reader) → NeedsMore old → LastRead old (left was) (left is) → Asked left t was is old new
 read_asked left t was is old new needs last = record { once = inr last; enough = λ h. absurd (h needs) }

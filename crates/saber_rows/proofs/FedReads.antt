@@ -8,10 +8,6 @@ use Rattle.saber_io.specs.Feeds.{Feeds}
 use Rattle.saber_plan.specs.Rows.{before}
 use Rattle.saber_rows.specs.Buffer.{Gains}
 use Rattle.saber_rows.specs.FedSizes.{size_of, Tells}
-use Rattle.saber_rows.specs.FedTurns.{HasNothing}
-use Rattle.saber_rows.specs.declared.ends.Behind.TheVariants as behinds
-use Rattle.saber_rows.specs.declared.lines.Turn.TheVariants as turns
-use Rattle.saber_rows.specs.Reader.{Reader}
 
 -- ---- what a feed gave
 

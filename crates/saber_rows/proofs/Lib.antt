@@ -17,6 +17,8 @@ pub mod Chains
 pub mod ReaderTexts
 pub mod QuickTakes
 pub mod FedReads
+pub mod FillSteps
+pub mod FedChains
 pub mod Fronts
 pub mod MergedTurns
 pub mod MergedLaws

@@ -79,7 +79,3 @@ refused_ends a side r e h line cause is = subst (λ s. HasEnd (bad s line cause)
 pub stopped : (o : Option Stop) (s : Stop) → o ≡ Some s → option_map answer_of o ≡ None → ⊥
 stopped None s e h = cc
 stopped (Some t) s e h = cc
-
--- an answer that is told twice is one
-pub same_answer : (o : Option (Result (Option Row) RowEnd)) (a b : Result (Option Row) RowEnd) → o ≡ Some a → o ≡ Some b → a ≡ b
-same_answer o a b e h = let one : Some a ≡ Some b = sym e ∙ h in cc

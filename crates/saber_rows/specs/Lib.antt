@@ -17,3 +17,4 @@ pub mod FedSizes
 pub mod FedTurns
 pub mod FedSteps
 pub mod MergedRows
+pub mod FedAnswers

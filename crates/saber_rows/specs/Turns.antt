@@ -99,15 +99,6 @@ IfFault (turns.Stop AllRead) P = Unit {0}
 IfFault turns.Again P = Unit {0}
 IfFault (turns.Row row) P = Unit {0}
 
--- a fact of a turn in which no read failed
-abbrev pub IfNoFault : Turn → Type 0 → Type 0
-IfNoFault (turns.Stop (Failed ReadFault)) P = Unit {0}
-IfNoFault (turns.Stop (Failed NoMemory)) P = P
-IfNoFault (turns.Stop (Failed (Bad n c))) P = P
-IfNoFault (turns.Stop AllRead) P = P
-IfNoFault turns.Again P = P
-IfNoFault (turns.Row row) P = P
-
 -- what is held decides the next answer with no read
 abbrev pub HasEnough : Reader → Type 0
 HasEnough r = ¬ NeedsMore r

@@ -1,5 +1,5 @@
 // How a reader ends.
-ghost use Rattle.std.specs.Prelude.{◌≡◌, Some};
+ghost use Rattle.std.specs.Prelude.{◌≡◌};
 ghost use Rattle.saber_rows.specs.FedTurns.{answer_in};
 
 use saber_plan::{Row, RowCause};
@@ -23,14 +23,15 @@ pub enum FedRow {
     NotYet,
 }
 
-// What the answer of a reader over a source is over a feed.
-pub(crate) fn fed_row(answer: Result<Option<Row>, RowEnd>) -> Result<FedRow, RowEnd>
-    ensures { answer_in result ≡ Some answer }
+// What the answer of a reader over a source is over a feed. None says that nothing is there as yet.
+pub(crate) fn fed_row(answer: Option<Result<Option<Row>, RowEnd>>) -> Result<FedRow, RowEnd>
+    ensures { answer_in result ≡ answer }
 {
     match answer {
-        Ok(Some(row)) => Ok(FedRow::Row(row)),
-        Ok(None) => Ok(FedRow::End),
-        Err(end) => Err(end),
+        None => Ok(FedRow::NotYet),
+        Some(Ok(Some(row))) => Ok(FedRow::Row(row)),
+        Some(Ok(None)) => Ok(FedRow::End),
+        Some(Err(end)) => Err(end),
     }
 }
 

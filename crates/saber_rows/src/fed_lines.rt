@@ -5,34 +5,26 @@ use saber_io::{Fed, Feed};
 use saber_plan::Row;
 
 impl Lines {
-    ghost use Rattle.std.specs.Prelude.{◌≡◌, ◌≢◌, ◌≤◌, ◌<◌, List, [], Option, IfOk, IfSome, IfNone, Some, None, Ok, Err, option_map, true, false, ℕ};
+    ghost use Rattle.std.specs.Prelude.{◌≡◌, ◌≢◌, ◌≤◌, IfOk, IfSome, IfNone, Some, None, Ok, Err, option_map, true, false};
     ghost use Rattle.saber_io.specs.declared.feeds.EndMark.{EndMark};
     ghost use Rattle.saber_plan.specs.Outputs.{Rose};
-    ghost use Rattle.saber_io.specs.Feeds.{IsCut};
-    ghost use Rattle.saber_plan.specs.Rows.{all_read, falls, RowFits};
-    ghost use Rattle.saber_rows.specs.Reader.{reader_of, rest_of, rest_over, gone_count, HasEnd, EndsRefused, NeedsMore};
-    ghost use Rattle.saber_rows.specs.Calls.{Moves, given_by, kept_by, last_after, IsGiven, EndsBy, IsNext, WantsMemory};
-    ghost use Rattle.saber_rows.specs.Turns.{TurnGives, PlaceMoves, work_left, IfAgain, IfFault, IfNoFault, HasEnough, IsDrained};
+    ghost use Rattle.saber_plan.specs.Rows.{all_read};
+    ghost use Rattle.saber_rows.specs.Reader.{reader_of, rest_over, gone_count, HasEnd, EndsRefused, NeedsMore};
+    ghost use Rattle.saber_rows.specs.Calls.{Moves, IsGiven, IsNext, WantsMemory};
+    ghost use Rattle.saber_rows.specs.Turns.{IfAgain, HasEnough, IsDrained, TurnFaults};
     ghost use Rattle.saber_rows.specs.declared.ends.RowEnd.{RowEnd};
     ghost use Rattle.saber_rows.specs.FedTurns.{answer_in, given_in, kept_in, last_in, IsDry, IsCutOff, HasNothing, Waits, IsKnown};
-    ghost use Rattle.saber_rows.specs.FedSteps.{StopsKnown, StaysDry};
+    ghost use Rattle.saber_rows.specs.FedSteps.{StaysDry};
+    ghost use Rattle.saber_rows.specs.FedAnswers.{FedTurned, FedAnswered, FedEnds, FedFaults};
 
     // Takes some more of a feed, if something is there.
     fn fill_fed<F: Feed>(&mut self, feed: &mut F) -> Option<Turn>
         requires drained { IsDrained (reader_of self.old) }
-        ensures gives { IfSome result (λ t. TurnGives t (reader_of self.old) (reader_of self.new) (Some (F.waiting feed.old)) (Some (F.waiting feed.new))) }
+        ensures turns { IfSome result (λ t. FedTurned t (reader_of self.old) (reader_of self.new) (F.waiting feed.old) (F.waiting feed.new) (F.mark feed.old)) }
         ensures dry { IfNone result (StaysDry (reader_of self.old) (reader_of self.new) (F.waiting feed.old) (F.waiting feed.new) (F.mark feed.old)) }
-        ensures falls { IfSome result (λ t. IfAgain t (work_left (reader_of self.new) < work_left (reader_of self.old))) }
-        ensures place { IfSome result (λ t. PlaceMoves t (reader_of self.old) (reader_of self.new)) }
-        ensures rules { (reader_of self.new).rules ≡ (reader_of self.old).rules }
-        ensures stop { self.new.stop ≡ self.old.stop }
-        ensures known { IfSome result (λ t. StopsKnown t (reader_of self.new)) }
-        ensures marked { (reader_of self.new).ended ≡ true → F.mark feed.old ≡ Some EndMark.End }
-        ensures cut { IfSome result (λ t. IfFault t (IsCut (F.waiting feed.old) (F.waiting feed.new) (F.mark feed.old))) }
-        ensures cause { IfSome result (λ t. IfFault t (Rose (F.faults feed.old) (F.faults feed.new))) }
-        ensures good { IfSome result (λ t. IfNoFault t (F.faults feed.new ≡ F.faults feed.old)) }
+        ensures faults { IfSome result (λ t. TurnFaults t (F.faults feed.old) (F.faults feed.new)) }
         ensures calm { IfNone result (F.faults feed.new ≡ F.faults feed.old) }
-        ensures count { F.faults feed.old ≤ F.faults feed.new }
+        ensures stop { self.new.stop ≡ self.old.stop }
         ensures stands { (F.taken feed.new ≡ F.taken feed.old) × (F.mark feed.new ≡ F.mark feed.old) }
     {
         let fed = match self.held.fill_fed(feed) {
@@ -51,19 +43,11 @@ impl Lines {
 
     // One step: a line, or bytes of the feed. None where nothing is there as yet.
     fn turn_fed<F: Feed>(&mut self, feed: &mut F) -> Option<Turn>
-        ensures gives { IfSome result (λ t. TurnGives t (reader_of self.old) (reader_of self.new) (Some (F.waiting feed.old)) (Some (F.waiting feed.new))) }
+        ensures turns { IfSome result (λ t. FedTurned t (reader_of self.old) (reader_of self.new) (F.waiting feed.old) (F.waiting feed.new) (F.mark feed.old)) }
         ensures dry { IfNone result (StaysDry (reader_of self.old) (reader_of self.new) (F.waiting feed.old) (F.waiting feed.new) (F.mark feed.old)) }
-        ensures falls { IfSome result (λ t. IfAgain t (work_left (reader_of self.new) < work_left (reader_of self.old))) }
-        ensures place { IfSome result (λ t. PlaceMoves t (reader_of self.old) (reader_of self.new)) }
-        ensures rules { (reader_of self.new).rules ≡ (reader_of self.old).rules }
-        ensures stop { self.new.stop ≡ self.old.stop }
-        ensures known { IfSome result (λ t. StopsKnown t (reader_of self.new)) }
-        ensures marked { (reader_of self.old).ended ≡ false → (reader_of self.new).ended ≡ true → F.mark feed.old ≡ Some EndMark.End }
-        ensures cut { IfSome result (λ t. IfFault t (IsCut (F.waiting feed.old) (F.waiting feed.new) (F.mark feed.old))) }
-        ensures cause { IfSome result (λ t. IfFault t (Rose (F.faults feed.old) (F.faults feed.new))) }
-        ensures good { IfSome result (λ t. IfNoFault t (F.faults feed.new ≡ F.faults feed.old)) }
+        ensures faults { IfSome result (λ t. TurnFaults t (F.faults feed.old) (F.faults feed.new)) }
         ensures calm { IfNone result (F.faults feed.new ≡ F.faults feed.old) }
-        ensures count { F.faults feed.old ≤ F.faults feed.new }
+        ensures stop { self.new.stop ≡ self.old.stop }
         ensures stands { (F.taken feed.new ≡ F.taken feed.old) × (F.mark feed.new ≡ F.mark feed.old) }
         ensures reads { HasEnough (reader_of self.old) → feed.new ≡ feed.old }
         ensures enough { HasEnough (reader_of self.old) → IfSome result (λ t. IfAgain t (HasEnough (reader_of self.new))) }
@@ -79,20 +63,9 @@ impl Lines {
     #[inline(never)]
     fn advance_fed<F: Feed>(&mut self, feed: &mut F) -> Option<Result<Option<Row>, RowEnd>>
         requires { self.old.stop ≡ None }
-        ensures moves { Moves (given_in result) (reader_of self.old) (reader_of self.new) (Some (F.waiting feed.old)) (Some (F.waiting feed.new)) }
-        ensures given { IfSome result (λ a. IfOk a (λ o. IfSome o (λ row. IsGiven row (reader_of self.old) (reader_of self.new)))) }
-        ensures ends { IfSome result (λ a. EndsBy a (reader_of self.new)) }
-        ensures known { IfSome result (λ a. IsKnown a (reader_of self.new)) }
-        ensures dry { IfNone result (IsDry (reader_of self.new) (F.waiting feed.new) (F.mark feed.old)) }
-        ensures stays { gone_count (reader_of self.old) ≤ gone_count (reader_of self.new) }
-        ensures last { (reader_of self.new).last ≡ last_in (reader_of self.old).last result }
-        ensures rules { (reader_of self.new).rules ≡ (reader_of self.old).rules }
-        ensures answer { (reader_of self.new).answer ≡ kept_in result }
-        ensures marked { (reader_of self.old).ended ≡ false → (reader_of self.new).ended ≡ true → F.mark feed.old ≡ Some EndMark.End }
-        ensures cut { result ≡ Some (Err RowEnd.ReadFault) → (F.waiting feed.new ≡ []) × (F.mark feed.old ≡ Some EndMark.Cut) }
-        ensures cause { result ≡ Some (Err RowEnd.ReadFault) → Rose (F.faults feed.old) (F.faults feed.new) }
-        ensures good { result ≢ Some (Err RowEnd.ReadFault) → F.faults feed.new ≡ F.faults feed.old }
-        ensures count { F.faults feed.old ≤ F.faults feed.new }
+        ensures call { FedAnswered result (reader_of self.old) (reader_of self.new) (F.waiting feed.old) (F.waiting feed.new) (F.mark feed.old) }
+        ensures ends { FedEnds result (reader_of self.new) (F.waiting feed.new) (F.mark feed.old) }
+        ensures faults { FedFaults result (F.faults feed.old) (F.faults feed.new) }
         ensures stands { (F.taken feed.new ≡ F.taken feed.old) × (F.mark feed.new ≡ F.mark feed.old) }
         ensures reads { HasEnough (reader_of self.old) → feed.new ≡ feed.old }
     {
@@ -108,6 +81,40 @@ impl Lines {
                     return Some(why.answer());
                 }
             }
+        }
+    }
+
+    // The same, where a row at the first look is given without a turn.
+    #[inline]
+    fn look_fed<F: Feed>(&mut self, feed: &mut F) -> Option<Result<Option<Row>, RowEnd>>
+        requires { self.old.stop ≡ None }
+        ensures call { FedAnswered result (reader_of self.old) (reader_of self.new) (F.waiting feed.old) (F.waiting feed.new) (F.mark feed.old) }
+        ensures ends { FedEnds result (reader_of self.new) (F.waiting feed.new) (F.mark feed.old) }
+        ensures faults { FedFaults result (F.faults feed.old) (F.faults feed.new) }
+        ensures stands { (F.taken feed.new ≡ F.taken feed.old) × (F.mark feed.new ≡ F.mark feed.old) }
+        ensures reads { HasEnough (reader_of self.old) → feed.new ≡ feed.old }
+    {
+        match self.quick_row() {
+            Some(row) => Some(Ok(Some(row))),
+            None => self.advance_fed(feed),
+        }
+    }
+
+    // The next answer. One that ended the reader is given again.
+    #[inline]
+    fn answer_fed<F: Feed>(&mut self, feed: &mut F) -> Option<Result<Option<Row>, RowEnd>>
+        ensures again { IfSome (reader_of self.old).answer (λ answer. (result ≡ Some answer) × (self.new ≡ self.old) × (feed.new ≡ feed.old)) }
+        ensures call { FedAnswered result (reader_of self.old) (reader_of self.new) (F.waiting feed.old) (F.waiting feed.new) (F.mark feed.old) }
+        ensures ends { (reader_of self.old).answer ≡ None → FedEnds result (reader_of self.new) (F.waiting feed.new) (F.mark feed.old) }
+        ensures cause { (reader_of self.old).answer ≡ None → result ≡ Some (Err RowEnd.ReadFault) → Rose (F.faults feed.old) (F.faults feed.new) }
+        ensures good { result ≢ Some (Err RowEnd.ReadFault) → F.faults feed.new ≡ F.faults feed.old }
+        ensures count { F.faults feed.old ≤ F.faults feed.new }
+        ensures stands { (F.taken feed.new ≡ F.taken feed.old) × (F.mark feed.new ≡ F.mark feed.old) }
+        ensures reads { HasEnough (reader_of self.old) → feed.new ≡ feed.old }
+    {
+        match self.stop {
+            Some(stop) => Some(stop.answer()),
+            None => self.look_fed(feed),
         }
     }
 
@@ -159,15 +166,7 @@ impl Lines {
         // It asks only where it can give no row, and holds no line that decides the answer.
         ensures reads { ¬ NeedsMore (reader_of self.old) → feed.new ≡ feed.old }
     {
-        if let Some(stop) = self.stop {
-            return fed_row(stop.answer());
-        }
-        if let Some(row) = self.quick_row() {
-            return fed_row(Ok(Some(row)));
-        }
-        match self.advance_fed(feed) {
-            None => Ok(FedRow::NotYet),
-            Some(answer) => fed_row(answer),
-        }
+        let answer = self.answer_fed(feed);
+        fed_row(answer)
     }
 }

@@ -3,8 +3,8 @@
 //!
 //! - Parts: `buffer`, `line_feeds` (bytes that are held), `numbers`, `fields`, `judge` (one line by
 //!   itself), `quick_rows` (usual rows in one pass), `waiting` (rows that wait for earlier ones),
-//!   `ends`, `lines` (the reader), `fed_buffer`, `fed_lines` (the same over a feed), `heads`,
-//!   `merges`.
+//!   `ends`, `lines` (the reader), `fast_path` (its usual rows, in one pass), `fed_buffer`,
+//!   `fed_lines` (the same over a feed), `heads`, `merges`.
 //! - Calls: `Lines::next` takes a source, `next_fed` a feed, `Merge::next` two sources; each gives
 //!   a row, the end, or a `RowEnd`. `take_quick` appends rows that are held whole to a
 //!   `RowBuilder`.
@@ -24,6 +24,7 @@
 
 mod buffer;
 mod ends;
+mod fast_path;
 mod fed_buffer;
 mod fed_lines;
 mod fields;

@@ -8,13 +8,9 @@ ghost use Rattle.saber_rows.specs.Sound.{side_rules, Sound, WasSeen, held_props}
 
 use crate::buffer::Buffer;
 use crate::ends::{Behind, RowEnd, Stop};
-use crate::judge::{
-    Judged, LONGEST, content_of, is_below, is_late, is_ready, judge_line, raise, stamp_of,
-};
+use crate::judge::{Judged, LONGEST, content_of, is_late, is_ready, judge_line, raise, stamp_of};
 use crate::line_feeds::{line_end, line_feed_in};
-use crate::quick_rows::{put_row, row_in};
 use crate::waiting::Waiting;
-use saber_flat::RowBuilder;
 use saber_io::Source;
 use saber_plan::{NoMemory, Row, RowCause, Side, Values};
 use std::alloc::Global;
@@ -27,19 +23,19 @@ const MOST_HELD: usize = 1048576;
 /// source it asks none again.
 #[derive(Drop)]
 pub struct Lines {
-    alloc: Global,
-    side: Side,
-    columns: u32,
-    max_lines: u64,
-    slack: u64,
+    pub(crate) alloc: Global,
+    pub(crate) side: Side,
+    pub(crate) columns: u32,
+    pub(crate) max_lines: u64,
+    pub(crate) slack: u64,
     // how many lines are behind
-    lines: u64,
+    pub(crate) lines: u64,
     // the greatest timestamp of the rows behind
-    high: Option<u64>,
+    pub(crate) high: Option<u64>,
     // the rows behind that were not given
     waiting: Waiting,
     // the timestamp of the last row that was given
-    last: Option<u64>,
+    pub(crate) last: Option<u64>,
     pub(crate) held: Buffer,
     // whether the source said that it ended
     pub(crate) ended: bool,
@@ -68,22 +64,22 @@ pub(crate) enum Turn {
 // Rows that were taken at the first look: how many, the bytes of their lines, and the greatest
 // timestamp and the last one behind them.
 #[derive(Drop)]
-struct Run {
-    taken: usize,
-    at: usize,
-    high: Option<u64>,
-    last: Option<u64>,
+pub(crate) struct Run {
+    pub(crate) taken: usize,
+    pub(crate) at: usize,
+    pub(crate) high: Option<u64>,
+    pub(crate) last: Option<u64>,
 }
 
 impl Lines {
-    ghost use Rattle.std.specs.Prelude.{◌≡◌, ◌≢◌, ◌≤◌, ◌^◌, ◌<◌, ◌+◌, [], ℕ, ℤ, List, Option, if◌then◌else◌, IfOk, IfSome, OnErr, OnSome, Some, None, Ok, Err, option_map, length, true, false};
+    ghost use Rattle.std.specs.Prelude.{◌≡◌, ◌≢◌, ◌≤◌, ◌^◌, ◌<◌, ◌+◌, [], ℕ, ℤ, List, Option, IfOk, IfSome, OnErr, None, Ok, Err, option_map, length, true, false};
     ghost use Rattle.saber_plan.specs.Outputs.{Rose};
-    ghost use Rattle.saber_plan.specs.Rows.{SideRules, rows, whole, all_read, before, falls, RowFits, stamp as stamp_in, skipped, taken, refused, judge, crowds, timed_line, due};
+    ghost use Rattle.saber_plan.specs.Rows.{rows, whole, all_read, before, falls, RowFits, stamp as stamp_in, skipped, taken, refused, judge, crowds, timed_line, due};
     ghost use Rattle.saber_rows.specs.Judged.{judged_of, IfCounted};
     ghost use Rattle.saber_rows.specs.LineFeeds.{end_of, HasNoFeed};
     ghost use Rattle.saber_rows.specs.Reader.{reader_of, new_reader, rest_of, rest_over, gone_count, HasEnd, EndsRefused, NeedsMore};
-    ghost use Rattle.saber_rows.specs.Calls.{HoldsNext, TakesRows, Moves, given_by, kept_by, last_after, IsGiven, EndsBy, IsNext, WantsMemory, LastRead, ReadsNoMore, AnswerFaults, Reached};
-    ghost use Rattle.saber_rows.specs.Turns.{Steps, Runs, Fronts, IsLastIf, first_judged, LineGives, TurnGives, PlaceMoves, Stops, work_left, IfAgain, HasEnough, NoneReady, IsReady, IsDrained, HeldTurn, Turned, Asked, TurnFaults};
+    ghost use Rattle.saber_rows.specs.Calls.{Moves, given_by, kept_by, last_after, IsGiven, EndsBy, IsNext, WantsMemory, LastRead, ReadsNoMore, AnswerFaults, Reached};
+    ghost use Rattle.saber_rows.specs.Turns.{Steps, Fronts, IsLastIf, first_judged, LineGives, PlaceMoves, work_left, IfAgain, HasEnough, NoneReady, IsReady, IsDrained, HeldTurn, Turned, Asked, TurnFaults};
 
     /// A reader with nothing read yet. A stream has 1 to 32 columns, and a file 1 to 2^40 lines,
     /// empty ones counted: this project's limits. The memory of its buffer is taken here; a call
@@ -274,10 +270,7 @@ impl Lines {
     // Reads some more.
     fn fill<S: Source>(&mut self, source: &mut S) -> Turn
         requires drained { IsDrained (reader_of self.old) }
-        ensures gives { TurnGives result (reader_of self.old) (reader_of self.new) (S.left source.old) (S.left source.new) }
-        ensures falls { IfAgain result (work_left (reader_of self.new) < work_left (reader_of self.old)) }
-        ensures place { PlaceMoves result (reader_of self.old) (reader_of self.new) }
-        ensures rules { (reader_of self.new).rules ≡ (reader_of self.old).rules }
+        ensures turns { Turned result (reader_of self.old) (reader_of self.new) (S.left source.old) (S.left source.new) }
         ensures stop { self.new.stop ≡ self.old.stop }
         ensures faults { TurnFaults result (S.faults source.old) (S.faults source.new) }
         ensures last { LastRead (reader_of self.old) (S.left source.old) (S.left source.new) }
@@ -364,123 +357,6 @@ impl Lines {
         let row = self.waiting.pop()?;
         self.last = Some(stamp_of(row.values.as_slice()));
         Some(row)
-    }
-
-    // The row at the front, if it is a row at the first look, and there is no slack. The source is
-    // not asked.
-    #[inline]
-    pub(crate) fn quick_row(&mut self) -> Option<Row>
-        ensures none { result ≡ None → self.new ≡ self.old }
-        ensures some { IfSome result (λ row. Steps (before row) (reader_of self.old) (reader_of self.new)) }
-        ensures given { IfSome result (λ row. IsGiven row (reader_of self.old) (reader_of self.new)) }
-        ensures rules { (reader_of self.new).rules ≡ (reader_of self.old).rules }
-        ensures stop { self.new.stop ≡ self.old.stop }
-    {
-        let mut row = self.no_row();
-        self.held_into(&mut row.values)?;
-        Some(row)
-    }
-
-    // Whether rows at the front that are rows at the first look are the next ones.
-    #[inline(always)]
-    fn is_plain(&self) -> bool
-        ensures slack { result ≡ true → self.now.slack ≡ 0 }
-        ensures goes { result ≡ true → self.now.stop ≡ None }
-        ensures over { result ≡ true → self.now.over ≡ None }
-    {
-        self.slack == 0 && self.stop.is_none() && self.over.is_none()
-    }
-
-    /// A row of the side without numbers, to be written into.
-    #[inline(always)]
-    pub(crate) fn no_row(&self) -> Row
-        ensures { result ≡ record { side = self.now.side; values = [] } }
-    {
-        Row {
-            side: self.side,
-            values: Values::new(self.alloc),
-        }
-    }
-
-    /// Writes the next row's numbers here, and tells its timestamp, if it is held and is a row at
-    /// the first look, and there is no slack. Where it is not, some of its numbers may be there.
-    /// The source is not asked.
-    #[inline(always)]
-    pub(crate) fn held_into(&mut self, values: &mut Values) -> Option<u64>
-        requires empty { values.old ≡ [] }
-        ensures none { result ≡ None → self.new ≡ self.old }
-        ensures own { IfSome result (λ time. time ≡ stamp_in values.new) }
-        ensures steps { IfSome result (λ time. Steps (before (record { side = self.old.side; values = values.new })) (reader_of self.old) (reader_of self.new)) }
-        ensures stop { self.new.stop ≡ self.old.stop }
-        ensures some { IfSome result (λ time. HoldsNext (record { side = self.old.side; values = values.new }) (reader_of self.old) (reader_of self.new)) }
-    {
-        if !self.is_plain() || self.lines >= self.max_lines {
-            return None;
-        }
-        let n = row_in(self.columns, self.held.bytes(), values)?;
-        let stamp = stamp_of(values.as_slice());
-        if is_below(self.high, stamp) {
-            return None;
-        }
-        self.high = Some(stamp);
-        self.last = Some(stamp);
-        self.held.consume(n + 1);
-        self.lines += 1;
-        Some(stamp)
-    }
-
-    // Appends the rows at the front, up to so many, as far as each is one at the first look.
-    #[inline(always)]
-    fn run(&self, out: &mut RowBuilder, most: usize) -> Run
-        requires begun { out.old.begun ≡ [] }
-        requires slack { self.now.slack ≡ 0 }
-        requires goes { self.now.stop ≡ None }
-        requires over { self.now.over ≡ None }
-        ensures most { result.taken ≤ most }
-        ensures begun { out.new.begun ≡ [] }
-        ensures runs { Runs (reader_of self.now) self.now.over result out.old.rows out.new.rows }
-    {
-        let side = self.side;
-        let columns = self.columns;
-        let held = self.held.bytes();
-        let most = most.min((self.max_lines - self.lines) as usize);
-        let mut run = Run {
-            taken: 0,
-            at: 0,
-            high: self.high,
-            last: self.last,
-        };
-        while run.taken < most {
-            let rest = &held[run.at..];
-            let Some((n, stamp)) = put_row(side, columns, rest, run.high, out) else {
-                return run;
-            };
-            run.taken += 1;
-            run.at += n + 1;
-            run.high = Some(stamp);
-            run.last = Some(stamp);
-        }
-        run
-    }
-
-    /// Appends the next rows, up to so many, as far as they are held whole and are rows at the
-    /// first look, and there is no slack. Answers how many they are. No source is asked.
-    #[inline(never)]
-    pub fn take_quick(&mut self, out: &mut RowBuilder, most: usize) -> usize
-        requires begun { out.old.begun ≡ [] }
-        ensures most { result ≤ most }
-        ensures begun { out.new.begun ≡ [] }
-        ensures rows { TakesRows result (reader_of self.old) (reader_of self.new) out.old.rows out.new.rows }
-    {
-        if !self.is_plain() {
-            return 0;
-        }
-        let run = self.run(out, most);
-        self.lines += run.taken as u64;
-        self.high = run.high;
-        self.last = run.last;
-        self.held.consume(run.at);
-        run.taken
     }
 
     // One step by what is held: a row that waits, a line, or the end. None where that decides none.

@@ -6,7 +6,7 @@ use Rattle.saber_dispatch.specs.declared.ends.End.TheVariants.{ReadFault}
 use Rattle.saber_dispatch.specs.declared.fed_reader.Got.{Got}
 use Rattle.saber_dispatch.specs.Readings.{reading_of, NextRow, NextNone}
 use Rattle.saber_dispatch.specs.Filling.{Filling}
-use Rattle.saber_dispatch.specs.FedReadings.{only, known_of, KnownStep, GotNext, NextDry, GotTold, EndTold}
+use Rattle.saber_dispatch.specs.FedReadings.{only, known_of, KnownStep, GotNext, NextDry, NothingWaits, GotTold, EndTold}
 use Rattle.saber_dispatch.proofs.Fillings.{filling_reads, filling_more, filled_none, filled_lack, filled_all, small, pushed_ok}
 use Rattle.saber_dispatch.proofs.FedFillings.{filling_dry, filling_suits, one_longer, as_part, row_not_end}
 use Rattle.saber_window.proofs.Stamps.{stamps_fit}
@@ -165,3 +165,50 @@ returns-clause-short g c f =
     let h = (c.taking.invariant.short f.unmarked f.goes).1 in
     let same : length c.taking.rows ≡ c.args.size = omega (arith, c.taking-test.false, c.len.ensures, c.taking.invariant.few) in
     absurd (omega (arith, f.few, h, same))
+
+-- ---- what the feed did
+
+pub returns-then-is_err-clause-seen : goal.returns-then-is_err-clause-seen
+returns-then-is_err-clause-seen g c s = c.next_fed.ensures.stands.1 ∙ c.next_fed.ensures.seen c.taking.invariant.seen s
+
+pub returns-then-is_err-clause-good : goal.returns-then-is_err-clause-good
+returns-then-is_err-clause-good g c h = c.next_fed.ensures.good (λ side e. row_not_end c.in-Row.row (ReadFault side) (sym c.in-Row.is ∙ e)) ∙ c.taking.invariant.same
+
+pub returns-then-is_err-clause-count : goal.returns-then-is_err-clause-count
+returns-then-is_err-clause-count g c = omega (arith, c.taking.invariant.same, c.next_fed.ensures.count)
+
+pub returns-then-is_err-clause-stands : goal.returns-then-is_err-clause-stands
+returns-then-is_err-clause-stands g c = (c.next_fed.ensures.stands.0 ∙ c.taking.invariant.taken, c.next_fed.ensures.stands.1 ∙ c.taking.invariant.mark)
+
+pub returns-in-Dry-clause-seen : goal.returns-in-Dry-clause-seen
+returns-in-Dry-clause-seen g c s = c.next_fed.ensures.stands.1 ∙ c.next_fed.ensures.seen c.taking.invariant.seen s
+
+pub returns-in-Dry-clause-told : goal.returns-in-Dry-clause-told
+returns-in-Dry-clause-told g c =
+    let w = g.F.Feed.waiting c.next_fed.new.feed in
+    let told = subst (λ (a : Got). GotTold a w (g.F.Feed.mark c.taking.feed)) c.in-Dry.is (c.next_fed.ensures.told c.taking.invariant.opened c.taking.invariant.seen) in
+    subst (NothingWaits w) (sym c.next_fed.ensures.stands.1) told
+
+pub returns-in-Dry-clause-count : goal.returns-in-Dry-clause-count
+returns-in-Dry-clause-count g c = omega (arith, c.taking.invariant.same, c.next_fed.ensures.count)
+
+pub returns-in-Dry-clause-stands : goal.returns-in-Dry-clause-stands
+returns-in-Dry-clause-stands g c = (c.next_fed.ensures.stands.0 ∙ c.taking.invariant.taken, c.next_fed.ensures.stands.1 ∙ c.taking.invariant.mark)
+
+pub returns-in-Ended-clause-count : goal.returns-in-Ended-clause-count
+returns-in-Ended-clause-count g c = omega (arith, c.taking.invariant.same, c.next_fed.ensures.count)
+
+pub returns-in-Ended-clause-stands : goal.returns-in-Ended-clause-stands
+returns-in-Ended-clause-stands g c = (c.next_fed.ensures.stands.0 ∙ c.taking.invariant.taken, c.next_fed.ensures.stands.1 ∙ c.taking.invariant.mark)
+
+pub returns-clause-seen : goal.returns-clause-seen
+returns-clause-seen g c = c.taking.invariant.seen
+
+pub returns-clause-good : goal.returns-clause-good
+returns-clause-good g c _ = c.taking.invariant.same
+
+pub returns-clause-count : goal.returns-clause-count
+returns-clause-count g c = omega (arith, c.taking.invariant.same)
+
+pub returns-clause-stands : goal.returns-clause-stands
+returns-clause-stands g c = (c.taking.invariant.taken, c.taking.invariant.mark)

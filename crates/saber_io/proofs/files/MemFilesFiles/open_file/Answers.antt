@@ -9,6 +9,4 @@ returns-in-Some-clause-opens c =
     opens-first c.args.self.now.files c.args.name.now c.in-Some.source found
 
 pub returns-in-None-clause-cause : goal.returns-in-None-clause-cause
-returns-in-None-clause-cause c = λ _.
-    rw (← c.self.view_is, ← c.saturating_add-number.ensures, ← c.deref.ensures.value, ← c.deref-2.ensures.value)
-    (rw c.in-None.is at c.in_ok-source.ensures.none)
+returns-in-None-clause-cause c = λ _. rw c.in-None.is at c.in_ok-source.ensures.none

@@ -1,6 +1,10 @@
-use Rattle.std.proofs.Common.{◌≡◌, Some, None, Ok, Err, sym, ◌∙◌, ap, subst, inl, refl, arith}
+use Rattle.std.proofs.Common.{◌≡◌, ℕ, Option, Some, None, Result, Ok, Err, sym, ◌∙◌, ap, subst, inl, refl, arith}
+use Rattle.saber_plan.specs.declared.rows.Row.{Row}
 use Rattle.saber_plan.specs.Rows.{stamp}
 use Rattle.saber_rows.specs.Reader.{reader_of}
+use Rattle.saber_rows.specs.declared.ends.RowEnd.{RowEnd}
+use Rattle.saber_rows.specs.declared.ends.RowEnd.TheVariants.{ReadFault}
+use Rattle.saber_rows.specs.declared.heads.Look.{Look}
 use Rattle.saber_rows.specs.declared.heads.Look.TheVariants.{Found, Ended, Failed}
 use Rattle.saber_rows.specs.Heads.{Called, head_view, Looks}
 use Rattle.saber_rows.proofs.Fronts.{if_some, in_front, none_in_front, looks, stays}
@@ -149,3 +153,34 @@ returns-in-Err-clause-count g c = c.next.ensures.count
 
 pub returns-in-Err-clause-reads : goal.returns-in-Err-clause-reads
 returns-in-Err-clause-reads g c = c.next.ensures.reads
+
+-- ---- the count of faults
+
+-- an answer is no fault, and what is found isn't either
+no_fault : (o : Option Row) → ◌≡◌ {A = Result (Option Row) RowEnd} (Ok o) (Err ReadFault) → ⊥
+no_fault o e = cc
+
+found_one : (n : ℕ) → ◌≡◌ {A = Look} (Found n) (Failed ReadFault) → ⊥
+found_one n e = cc
+
+found_none : ◌≡◌ {A = Look} Ended (Failed ReadFault) → ⊥
+found_none e = cc
+
+-- a fault is one of the look
+same_fault : (end : RowEnd) → ◌≡◌ {A = Result (Option Row) RowEnd} (Err end) (Err ReadFault) → ◌≡◌ {A = Look} (Failed end) (Failed ReadFault)
+same_fault end e = let same : end ≡ ReadFault = cc in ap (λ x. Failed x) same
+
+pub returns-in-Ok-Some-clause-cause : goal.returns-in-Ok-Some-clause-cause
+returns-in-Ok-Some-clause-cause g c _ e = absurd (found_one c.stamp_of-stamp.result e)
+
+pub returns-in-Ok-Some-clause-good : goal.returns-in-Ok-Some-clause-good
+returns-in-Ok-Some-clause-good g c _ = c.next.ensures.good (λ e. no_fault c.in-Ok-Some.field-0 (sym c.in-Ok-Some.is ∙ e))
+
+pub returns-in-Ok-None-clause-cause : goal.returns-in-Ok-None-clause-cause
+returns-in-Ok-None-clause-cause g c _ e = absurd (found_none e)
+
+pub returns-in-Ok-None-clause-good : goal.returns-in-Ok-None-clause-good
+returns-in-Ok-None-clause-good g c _ = c.next.ensures.good (λ e. no_fault c.in-Ok-None.field-0 (sym c.in-Ok-None.is ∙ e))
+
+pub returns-in-Err-clause-good : goal.returns-in-Err-clause-good
+returns-in-Err-clause-good g c h = c.next.ensures.good (λ e. h (same_fault c.in-Err.end (sym c.in-Err.is ∙ e)))

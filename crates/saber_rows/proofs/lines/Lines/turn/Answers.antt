@@ -19,9 +19,7 @@ fill-requires g c = let none = c.turn_held.ensures.none c.in-None.is in record {
 
 pub returns-in-None-clause-turns : goal.returns-in-None-clause-turns
 returns-in-None-clause-turns g c =
-    let k = c.fill.ensures in
-    subst (λ s. Turned c.fill.result (reader_of s) (reader_of c.fill.new.self) (g.S.Source.left c.args.source.now) (g.S.Source.left c.fill.new.source)) (c.turn_held.ensures.none c.in-None.is).0
-    (record { gives = k.gives; falls = k.falls; place = k.place; rules = k.rules })
+    subst (λ s. Turned c.fill.result (reader_of s) (reader_of c.fill.new.self) (g.S.Source.left c.args.source.now) (g.S.Source.left c.fill.new.source)) (c.turn_held.ensures.none c.in-None.is).0 c.fill.ensures.turns
 
 pub returns-in-None-clause-asks : goal.returns-in-None-clause-asks
 returns-in-None-clause-asks g c =
