@@ -15,8 +15,8 @@ use Rattle.saber_query.specs.Trees.{Query}
 use Rattle.saber_check.specs.declared.fault.Fault.{Fault}
 use Rattle.saber_check.specs.Least.{each}
 use Rattle.saber_check.specs.Widths.{factor_width, prod_width}
-use Rattle.saber_check.specs.Bounds.{factor_bound, within, running_product, product_bound, too_wide, product_faults, sum_faults, running_sum, expr_bound, factors, prods, products}
-use Rattle.saber_check.specs.Faults.{factor_faults, prod_faults, expr_faults}
+use Rattle.saber_check.specs.Bounds.{factor_bound, within, factors, products}
+use Rattle.saber_check.specs.Walked.{running_product, product_bound, too_wide, product_faults, sum_faults, running_sum, expr_bound, prods, factor_faults, prod_faults, expr_faults}
 use Rattle.saber_check.specs.Plans.{plan_factor, plan_term, plan_expr}
 use Rattle.saber_check.proofs.NoFaults.{before, behind, first_part, other_parts}
 

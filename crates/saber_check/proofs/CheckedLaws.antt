@@ -8,7 +8,8 @@ use Rattle.saber_check.specs.declared.fault.Fault.{Fault}
 use Rattle.saber_check.specs.Least.{each}
 use Rattle.saber_check.specs.Widths.{decl_width, item_width}
 use Rattle.saber_check.specs.Names.{decls, is_declared}
-use Rattle.saber_check.specs.Faults.{decl_faults, item_faults, source_faults, second_faults, second_part_faults, where_faults, group_part_faults, items, select_at, from_at, second_at, where_at, group_at, faults}
+use Rattle.saber_check.specs.Faults.{items}
+use Rattle.saber_check.specs.Walked.{decl_faults, item_faults, source_faults, second_faults, second_part_faults, where_faults, group_part_faults, select_at, from_at, second_at, where_at, group_at, faults}
 use Rattle.saber_check.specs.Plans.{plan_tree}
 use Rattle.saber_check.proofs.NoFaults.{before, behind}
 use Rattle.saber_check.proofs.ColumnLaws.{AreDeclared}

@@ -12,7 +12,8 @@ use Rattle.saber_query.specs.Trees.{Query}
 use Rattle.saber_check.specs.Least.{row}
 use Rattle.saber_check.specs.Widths.{second_width}
 use Rattle.saber_check.specs.Names.{same, among, declares, decls, names, names_stream, is_declared, has, lacks, is_from, in_first, in_second, is_unknown_stream, is_unknown_column, is_ambiguous}
-use Rattle.saber_check.specs.Faults.{own_name, column_faults}
+use Rattle.saber_check.specs.Faults.{own_name}
+use Rattle.saber_check.specs.Walked.{column_faults}
 use Rattle.saber_check.specs.Plans.{place_in, place, columns, is_left, second_name, plan_place, plan_side, plan_stream, streams}
 use Rattle.saber_check.proofs.NoFaults.{rows_and, is_true, or_right, not_both, same_names}
 

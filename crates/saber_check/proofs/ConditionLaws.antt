@@ -5,7 +5,7 @@ use Rattle.saber_plan.specs.Checked.{TestFits, AllFit, SomeFit, PredicateFits}
 use Rattle.saber_query.specs.Trees.{Query, Test, negated, enclosed, compare, Ands, no_more, and_also, Ors, no_other, or_else, Tests}
 use Rattle.saber_check.specs.declared.fault.Fault.{Fault}
 use Rattle.saber_check.specs.Widths.{expr_width, test_width, ands_width}
-use Rattle.saber_check.specs.Faults.{expr_faults, test_faults, ands_faults, ors_faults, tests_faults, where_faults}
+use Rattle.saber_check.specs.Walked.{expr_faults, test_faults, ands_faults, ors_faults, tests_faults, where_faults}
 use Rattle.saber_check.specs.Plans.{plan_test, plan_ands, plan_ors, plan_tests}
 use Rattle.saber_check.proofs.NoFaults.{before, behind}
 use Rattle.saber_check.proofs.ColumnLaws.{AreDeclared}

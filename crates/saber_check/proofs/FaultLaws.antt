@@ -15,9 +15,11 @@ use Rattle.saber_query.specs.Reading.{token_of}
 use Rattle.saber_query.specs.Means.{MeansTree, TextFault, StopsAt, byte_of, first_byte}
 use Rattle.saber_query.proofs.RealLemmas.{lexed_fine as tokens_are_real}
 use Rattle.saber_check.specs.declared.fault.Fault.{Fault}
-use Rattle.saber_check.specs.Least.{rank, IsFirst}
+use Rattle.saber_check.specs.Least.{rank}
+use Rattle.saber_check.specs.First.{IsFirst, IsNoLater}
 use Rattle.saber_check.specs.Faults.{faults}
 use Rattle.saber_check.specs.Texts.{HasFault, FailsChecks, means_none, fails_checks}
+use Rattle.saber_check.proofs.FirstLaws.{ranks}
 use Rattle.saber_check.proofs.TextLaws.{same_tokens, same_query, means_or_not}
 
 -- one byte and one cause
@@ -198,15 +200,15 @@ one_rank : (c e : Cause) → rank c ≡ rank e → c ≡ e
 one_rank c e h = sym (ranked c) ∙ ap cause_of h ∙ ranked e
 
 abbrev Comes : Fault → Fault → Type 0
-Comes f g = (f.index < g.index) ⊎ ((f.index ≡ g.index) × (rank f.cause ≤ rank g.cause))
+Comes f g = (f.index < g.index) ⊎ ((f.index ≡ g.index) × IsNoLater f.cause g.cause)
 
 both_first : (f g : Fault) → Comes f g → Comes g f → (f.index ≡ g.index) × (f.cause ≡ g.cause)
 both_first f g (inl h) (inl k) = absurd (omega (arith, h, k))
 both_first f g (inl h) (inr k) = let same : g.index ≡ f.index = k.0 in absurd (omega (arith, h, same))
 both_first f g (inr h) (inl k) = let same : f.index ≡ g.index = h.0 in absurd (omega (arith, k, same))
 both_first f g (inr h) (inr k) =
-    let low : rank f.cause ≤ rank g.cause = h.1 in
-    let high : rank g.cause ≤ rank f.cause = k.1 in
+    let low = ranks f.cause g.cause h.1 in
+    let high = ranks g.cause f.cause k.1 in
     (h.0, one_rank f.cause g.cause (omega (arith, low, high)))
 
 one_first : (fs : List Fault) (f g : Fault) → IsFirst f fs → IsFirst g fs → (f.index ≡ g.index) × (f.cause ≡ g.cause)

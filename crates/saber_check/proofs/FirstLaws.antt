@@ -1,12 +1,13 @@
 -- The least of some faults is the first of them.
-use Rattle.std.proofs.Common.{◌≡◌, ℕ, suc, zero, ◌+◌, ◌*◌, ◌<◌, ◌≤◌, ◌⊎◌, inl, inr, List, [], ◌∷◌, Option, Some, None, refl, sym, ◌∙◌, ap, arith, nat_le, Contains, subst, Bool, true, false, if◌then◌else◌}
+use Rattle.std.proofs.Common.{◌≡◌, ℕ, suc, zero, length, slice_index_or, ◌+◌, ◌*◌, ◌<◌, ◌≤◌, ◌⊎◌, inl, inr, List, [], ◌∷◌, Option, Some, None, refl, sym, ◌∙◌, ap, arith, nat_le, Contains, subst, Bool, true, false, if◌then◌else◌}
 use Rattle.std.specs.List.{AllByRecursion}
 use Rattle.std.proofs.lemmas.Bool.Decides.{nat_tests}
 use Rattle.std.proofs.lemmas.Bool.{cases_lt}
 use Rattle.saber_check.specs.declared.fault.Fault.{Fault}
 use Rattle.saber_query.specs.declared.fault.Cause.{Cause}
 use Rattle.saber_query.specs.declared.fault.Cause.TheVariants as cause
-use Rattle.saber_check.specs.Least.{key, sooner, least, rank, IsFirst}
+use Rattle.saber_check.specs.Least.{key, sooner, least, rank}
+use Rattle.saber_check.specs.First.{causes, IsFirst, IsNoLater}
 
 pub inside : (x : Fault) (xs : List Fault) (g : Fault) → Contains (x ∷ xs) g → (x ≡ g) ⊎ Contains xs g
 inside x xs g (zero, h, e) = inl e
@@ -40,6 +41,37 @@ rank_small cause.Shape = omega arith
 rank_small cause.NotGrouped = omega arith
 rank_small cause.ExprTooWide = omega arith
 rank_small cause.SumTooWide = omega arith
+
+-- ---- the order of causes
+
+-- their ranks go up by one from a number
+abbrev Up : ℕ → List Cause → Type 0
+Up n [] = Unit {0}
+Up n (c ∷ cs) = (rank c ≡ n) × Up (n + 1) cs
+
+all_up : Up 0 causes
+all_up = (refl, (refl, (refl, (refl, (refl, (refl, (refl, (refl, (refl, (refl, (refl, (refl, (refl, (refl, (refl, (refl, tt))))))))))))))))
+
+up_at : (n : ℕ) (cs : List Cause) (i : ℕ) (c : Cause) → Up n cs → i < length cs → rank (slice_index_or cs i c) ≡ n + i
+up_at n [] i c u h = absurd (omega arith)
+up_at n (d ∷ ds) zero c u h = let e : n ≡ n + 0 = omega arith in u.0 ∙ e
+up_at n (d ∷ ds) (suc i) c u h =
+    let r : rank (slice_index_or ds i c) ≡ n + 1 + i = up_at (n + 1) ds i c u.1 (omega arith) in
+    let e : n + 1 + i ≡ n + suc i = omega arith in
+    r ∙ e
+
+is_there : (c : Cause) → slice_index_or causes (rank c) c ≡ c
+is_there cause.TooLong = refl
+is_there _ = refl
+
+no_later : (c d : Cause) → rank c ≤ rank d → IsNoLater c d
+no_later c d h = (rank c, rank d, h, rank_small d, is_there c, is_there d)
+
+pub ranks : (c d : Cause) → IsNoLater c d → rank c ≤ rank d
+ranks c d (i, j, h, k, a, b) =
+    let x : rank c ≡ 0 + i = ap rank (sym a) ∙ up_at 0 causes i c all_up (omega (arith, h, k)) in
+    let y : rank d ≡ 0 + j = ap rank (sym b) ∙ up_at 0 causes j d all_up k in
+    omega (arith, h, x, y)
 
 order : (i a j b : ℕ) → a < 16 → b < 16 → 16 * i + a ≤ 16 * j + b → (i < j) ⊎ ((i ≡ j) × (a ≤ b))
 order i a j b h k l = elim (cases_lt i j) [ inl p ↦ inl p | inr p ↦ inr (omega arith, omega arith) ]
@@ -90,7 +122,7 @@ first xs f e =
     let l = lowest xs f e in
     record {
       there = l.there;
-      first = λ g m. order f.index (rank f.cause) g.index (rank g.cause) (rank_small f.cause) (rank_small g.cause) (l.low g m);
+      first = λ g m. elim (order f.index (rank f.cause) g.index (rank g.cause) (rank_small f.cause) (rank_small g.cause) (l.low g m)) [ inl p ↦ inl p | inr p ↦ inr (p.0, no_later f.cause g.cause p.1) ];
     }
 
 pub none : (xs : List Fault) → least xs ≡ None → (g : Fault) → ¬ (Contains xs g)

@@ -1,5 +1,5 @@
 -- The plan of a text is checked; and the first 65,537 bytes of a text tell its plan and its first fault.
-use Rattle.std.proofs.Common.{◌≡◌, ℕ, ◌<◌, ◌≤◌, List, [], ◌∷◌, length, take, slice_index_or, refl, sym, subst, arith}
+use Rattle.std.proofs.Common.{◌≡◌, ℕ, ◌<◌, ◌≤◌, List, [], ◌∷◌, length, take, slice_index_or, refl, sym, ◌∙◌, subst, arith}
 use Rattle.std.proofs.lemmas.List.{take_all, length-take}
 use Rattle.saber_plan.specs.Trees.{Tree}
 use Rattle.saber_plan.specs.Checked.{IsChecked}
@@ -12,6 +12,7 @@ use Rattle.saber_check.specs.Outcome.{IsFaultless}
 use Rattle.saber_check.specs.Faults.{faults}
 use Rattle.saber_check.specs.Texts.{HasPlan, HasFault, means_none, fails_checks}
 use Rattle.saber_check.proofs.CheckedLaws.{plan_checked}
+use Rattle.saber_check.proofs.WalkedLaws.{same_faults}
 
 -- ---- checked
 
@@ -21,7 +22,7 @@ no_faults q (f ∷ fs) e h = absurd (subst (λ gs. ¬ ((k : ℕ) × (k < length 
 
 -- the plan of a text is checked
 pub a_plan_is_checked : (text : List ℕ) (tree : Tree) → HasPlan text tree → IsChecked tree
-a_plan_is_checked text tree h = subst IsChecked (sym h.same) (plan_checked (query_of h.query.select) (no_faults (query_of h.query.select) _ refl h.faultless))
+a_plan_is_checked text tree h = subst IsChecked (sym h.same) (plan_checked (query_of h.query.select) (sym (same_faults (query_of h.query.select)) ∙ no_faults (query_of h.query.select) _ refl h.faultless))
 
 -- ---- the front
 

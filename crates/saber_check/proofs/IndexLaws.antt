@@ -23,8 +23,9 @@ use Rattle.saber_check.specs.declared.fault.Fault.{Fault}
 use Rattle.saber_check.specs.Least.{row, each}
 use Rattle.saber_check.specs.Widths.{name_width, second_width, column_width, factor_width, prod_width, term_width, expr_width, item_width, measure_width, window_width, source_width, second_source_width, test_width, ands_width, ors_width, where_width, decl_width, group_width, span}
 use Rattle.saber_check.specs.Names.{names, decls, same, among, names_stream, is_declared, is_unknown_stream, is_unknown_column, is_ambiguous}
-use Rattle.saber_check.specs.Bounds.{within, factor_bound, product_bound, product_faults, sum_faults, too_wide, factors, prods, products}
-use Rattle.saber_check.specs.Faults.{column_faults, factor_faults, prod_faults, expr_faults, content_faults, item_faults, column_name_faults, decl_faults, measure_faults, sizes_faults, window_faults, source_faults, second_faults, is_sum_wide, is_group, is_key, is_join, is_aggregate, is_out, most_windows, is_overlapping, has_windows, may_partition, measure_keys, among_columns, is_apart, test_faults, ands_faults, ors_faults, tests_faults, key_faults, group_faults, keys, items, select_at, from_at, second_at, where_at, group_at, faults, width}
+use Rattle.saber_check.specs.Bounds.{within, factor_bound, factors, products}
+use Rattle.saber_check.specs.Walked.{product_bound, product_faults, sum_faults, too_wide, prods, column_faults, factor_faults, prod_faults, expr_faults, content_faults, item_faults, decl_faults, measure_faults, window_faults, source_faults, second_faults, is_sum_wide, test_faults, ands_faults, ors_faults, tests_faults, key_faults, group_faults, select_at, from_at, second_at, where_at, group_at, faults, width}
+use Rattle.saber_check.specs.Faults.{column_name_faults, sizes_faults, is_group, is_key, is_join, is_aggregate, is_out, most_windows, is_overlapping, has_windows, may_partition, measure_keys, among_columns, is_apart, keys, items}
 use Rattle.saber_check.proofs.FirstLaws.{every}
 
 -- the faults stand before this word

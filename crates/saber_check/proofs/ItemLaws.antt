@@ -29,8 +29,9 @@ use Rattle.saber_check.specs.declared.outputs.Output.TheVariants as out
 use Rattle.saber_check.specs.Least.{each}
 use Rattle.saber_check.specs.Widths.{factor_width, prod_width, column_width, item_width}
 use Rattle.saber_check.specs.Names.{same, decls, declares}
-use Rattle.saber_check.specs.Bounds.{factors, prods, products, product_faults, sum_faults}
-use Rattle.saber_check.specs.Faults.{own_name, same_second, same_words, is_of_one, same_column, among_columns, column_faults, factor_faults, prod_faults, expr_faults, is_aggregate, any_aggregate, is_join, is_group, is_key, is_listed, partition_of, is_column_key, is_sum_wide, content_faults, item_faults, items, key_faults, keys_faults, group_faults, group_part_faults, keys}
+use Rattle.saber_check.specs.Bounds.{factors, products}
+use Rattle.saber_check.specs.Walked.{prods, product_faults, sum_faults, column_faults, factor_faults, prod_faults, expr_faults, is_sum_wide, content_faults, item_faults, key_faults, keys_faults, group_faults, group_part_faults}
+use Rattle.saber_check.specs.Faults.{own_name, same_second, same_words, is_of_one, same_column, among_columns, is_aggregate, any_aggregate, is_join, is_group, is_key, is_listed, partition_of, is_column_key, items, keys}
 use Rattle.saber_check.specs.Plans.{is_left, place, plan_place, plan_side, plan_factor, plan_term, plan_expr, plan_stream, plan_shape, places, plan_keys, plan_partition, key_place, plan_value, plan_output, gathered_aggregates, printed_numbers, plan_outputs, plan_aggregates, plan_items, plan_tree, streams}
 use Rattle.saber_check.proofs.NoFaults.{before, row_and, rows_and, first_part, other_parts, few, is_true, neither, not_both, same_names}
 use Rattle.saber_check.proofs.ColumnLaws.{AreDeclared, Found, found, left_there, column_there}

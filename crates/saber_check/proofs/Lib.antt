@@ -2,6 +2,7 @@ pub mod Lemmas
 pub mod PredLemmas
 pub mod Shapes
 pub mod WidthLaws
+pub mod WalkedLaws
 pub mod FirstLaws
 pub mod PlanLemmas
 pub mod OutputLaws

@@ -12,7 +12,8 @@ use Rattle.saber_query.specs.declared.tree.Window.{Window}
 use Rattle.saber_query.specs.declared.tree.Source.{Source}
 use Rattle.saber_query.specs.declared.tree.StreamWord.{StreamWord}
 use Rattle.saber_query.specs.Trees.{Query}
-use Rattle.saber_check.specs.Faults.{any_aggregate, items, keys, is_join, is_group, measure_keys, may_partition, measure_faults, window_faults, source_faults}
+use Rattle.saber_check.specs.Faults.{any_aggregate, items, keys, is_join, is_group, measure_keys, may_partition}
+use Rattle.saber_check.specs.Walked.{measure_faults, window_faults, source_faults}
 use Rattle.saber_check.specs.Plans.{plan_place, plan_measure, plan_window, plan_stream, plan_shape, plan_word, streams, places, plan_partition}
 use Rattle.saber_check.proofs.NoFaults.{is_true}
 use Rattle.saber_check.proofs.ColumnLaws.{AreDeclared}

@@ -8,7 +8,7 @@ use Rattle.saber_check.specs.Widths.{test_width, both_width, tests_width, ands_w
 use Rattle.saber_check.specs.declared.walk.Walk.{Walk}
 use Rattle.saber_check.specs.Least.{each, least, earlier, Visits}
 use Rattle.saber_check.proofs.Lemmas.{Going, going_done, walking}
-use Rattle.saber_check.specs.Faults.{test_faults, both_faults, tests_faults, ands_faults, ors_faults}
+use Rattle.saber_check.specs.Walked.{test_faults, both_faults, tests_faults, ands_faults, ors_faults}
 
 abbrev pub unit_width : Unit_tree → ℕ
 unit_width u = test_width (test_of u)

@@ -14,7 +14,8 @@ use Rattle.saber_check.specs.declared.walk.Walk.{Walk}
 use Rattle.saber_check.specs.Least.{key, sooner, earlier, least, row, is_settled, Visits}
 use Rattle.saber_check.specs.Widths.{second_width}
 use Rattle.saber_check.specs.Names.{names, among, is_unknown_stream, is_unknown_column, is_ambiguous}
-use Rattle.saber_check.specs.Faults.{column_faults, column_name_faults, key_faults, keys, among_columns}
+use Rattle.saber_check.specs.Faults.{column_name_faults, keys, among_columns}
+use Rattle.saber_check.specs.Walked.{column_faults, key_faults}
 use Rattle.saber_check.proofs.FirstLaws.{every, rank_small, first}
 use Rattle.saber_check.proofs.Lemmas.{least_none, earlier_none}
 

@@ -17,7 +17,8 @@ use Rattle.saber_query.specs.Trees.{Query}
 use Rattle.saber_check.specs.Least.{row, each}
 use Rattle.saber_check.specs.Widths.{measure_width, decl_width, name_width}
 use Rattle.saber_check.specs.Names.{same, names, decls, names_stream, is_declared}
-use Rattle.saber_check.specs.Faults.{is_out, most_windows, is_overlapping, is_join, measure_faults, sizes_faults, window_faults, has_windows, may_partition, partition_of, source_faults, second_faults, second_part_faults, same_measure, is_apart, is_group, is_selection, column_name_faults, decl_faults}
+use Rattle.saber_check.specs.Faults.{is_out, most_windows, is_overlapping, is_join, sizes_faults, has_windows, may_partition, partition_of, same_measure, is_apart, is_group, is_selection, column_name_faults}
+use Rattle.saber_check.specs.Walked.{measure_faults, window_faults, source_faults, second_faults, second_part_faults, decl_faults}
 use Rattle.saber_check.specs.Plans.{columns, plan_measure, plan_window, plan_stream, plan_shape, streams}
 use Rattle.saber_check.proofs.NoFaults.{before, behind, passes, rows_and, four_rows_and, first_part, other_parts, few, is_true, neither, not_both}
 

@@ -22,35 +22,35 @@ use Rattle.saber_query.specs.declared.token.Keyword.TheVariants as k
 use Rattle.saber_query.specs.declared.token.Sign.TheVariants as s
 use Rattle.saber_query.specs.Words as w
 use Rattle.saber_check.specs.Widths as n
-use Rattle.saber_check.specs.Faults.{width, closed_width}
+use Rattle.saber_check.specs.Walked.{width, closed_width}
 
-each_count : {X : Type 0} (t : Token) (words : X → List Token) (wide : X → ℕ) → ((x : X) → length (words x) ≡ wide x) → (xs : List X) → length (w.after_each t words xs) ≡ n.span wide xs
+pub each_count : {X : Type 0} (t : Token) (words : X → List Token) (wide : X → ℕ) → ((x : X) → length (words x) ≡ wide x) → (xs : List X) → length (w.after_each t words xs) ≡ n.span wide xs
 each_count t words wide h [] = refl
 each_count t words wide h (x ∷ xs) = omega (arith, length-append (words x) (w.after_each t words xs), h x, each_count t words wide h xs)
 
-second_count : (o : Option (List ℕ)) → length (w.second_words o) ≡ n.second_width o
+pub second_count : (o : Option (List ℕ)) → length (w.second_words o) ≡ n.second_width o
 second_count None = refl
 second_count (Some m) = refl
 
-column_count : (c : Column) → length (w.column_words c) ≡ n.column_width c
+pub column_count : (c : Column) → length (w.column_words c) ≡ n.column_width c
 column_count c = omega (arith, second_count c.second)
 
-factor_count : (x : Factor) → length (w.factor_words x) ≡ n.factor_width x
+pub factor_count : (x : Factor) → length (w.factor_words x) ≡ n.factor_width x
 factor_count (f.Column c) = column_count c
 factor_count (f.Number m) = refl
 factor_count (f.Negative m) = refl
 
-prod_count : (p : Prod) → length (w.prod_words p) ≡ n.prod_width p
+pub prod_count : (p : Prod) → length (w.prod_words p) ≡ n.prod_width p
 prod_count p = omega (arith, length-append {A = Token}, factor_count p.first, each_count (Mark s.Star) w.factor_words n.factor_width factor_count p.more)
 
 terms_count : (ts : List Term) → length (w.terms_words ts) ≡ n.span n.term_width ts
 terms_count [] = refl
 terms_count (t ∷ ts) = omega (arith, length-append {A = Token}, prod_count t.prod, terms_count ts)
 
-expr_count : (e : Expr) → length (w.expr_words e) ≡ n.expr_width e
+pub expr_count : (e : Expr) → length (w.expr_words e) ≡ n.expr_width e
 expr_count e = omega (arith, length-append {A = Token}, prod_count e.first, terms_count e.more)
 
-item_count : (i : Item) → length (w.item_words i) ≡ n.item_width i
+pub item_count : (i : Item) → length (w.item_words i) ≡ n.item_width i
 item_count Count = refl
 item_count (Sum e) = omega (arith, length-append {A = Token}, expr_count e)
 item_count (Min e) = omega (arith, length-append {A = Token}, expr_count e)
@@ -60,7 +60,7 @@ item_count (Value e) = expr_count e
 by_count : (g : Keys) → length (w.by_words g) ≡ 1 + (n.column_width g.first + n.span n.column_width g.more)
 by_count g = omega (arith, length-append (w.second_words g.first.second) (w.after_each (Mark s.Comma) w.column_words g.more), column_count g.first, each_count (Mark s.Comma) w.column_words n.column_width column_count g.more)
 
-measure_count : (m : Measure) → length (w.measure_words m) ≡ n.measure_width m
+pub measure_count : (m : Measure) → length (w.measure_words m) ≡ n.measure_width m
 measure_count Rows = refl
 measure_count Range = refl
 measure_count (Partition g) = omega (arith, length-append (w.by_words g) (Word k.Rows ∷ []), by_count g)
@@ -69,20 +69,20 @@ window_count : (o : Option Window) → length (w.window_words o) ≡ n.window_wi
 window_count None = refl
 window_count (Some v) = omega (arith, length-append (w.measure_words v.measure) (Number v.size ∷ Word k.Slide ∷ Number v.slide ∷ Mark s.CloseBracket ∷ []), measure_count v.measure)
 
-source_count : (x : Source) → length (w.source_words x) ≡ n.source_width x
+pub source_count : (x : Source) → length (w.source_words x) ≡ n.source_width x
 source_count x = omega (arith, window_count x.window)
 
-second_source_count : (o : Option Source) → length (w.second_source_words o) ≡ n.second_source_width o
+pub second_source_count : (o : Option Source) → length (w.second_source_words o) ≡ n.second_source_width o
 second_source_count None = refl
 second_source_count (Some x) = omega (arith, source_count x)
 
 mutual
-  test_count : (t : Test) → length (w.test_words t) ≡ n.test_width t
+  pub test_count : (t : Test) → length (w.test_words t) ≡ n.test_width t
   test_count (negated t) = omega (arith, test_count t)
   test_count (enclosed t a o) = omega (arith, length-append {A = Token}, test_count t, ands_count a, ors_count o)
   test_count (compare x c y) = omega (arith, length-append {A = Token}, expr_count x, expr_count y)
 
-  ands_count : (a : Ands) → length (w.ands_words a) ≡ n.ands_width a
+  pub ands_count : (a : Ands) → length (w.ands_words a) ≡ n.ands_width a
   ands_count no_more = refl
   ands_count (and_also t a) = omega (arith, length-append {A = Token}, test_count t, ands_count a)
 
@@ -90,7 +90,7 @@ mutual
   ors_count no_other = refl
   ors_count (or_else t a o) = omega (arith, length-append {A = Token}, test_count t, ands_count a, ors_count o)
 
-where_count : (o : Option Tests) → length (w.where_words o) ≡ n.where_width o
+pub where_count : (o : Option Tests) → length (w.where_words o) ≡ n.where_width o
 where_count None = refl
 where_count (Some t) = omega (arith, length-append {A = Token}, test_count t.first, ands_count t.ands, ors_count t.ors)
 
@@ -98,17 +98,17 @@ group_count : (o : Option Keys) → length (w.group_words o) ≡ n.group_width o
 group_count None = refl
 group_count (Some g) = omega (arith, by_count g)
 
-name_count : (m : List ℕ) → length (w.name_words m) ≡ n.name_width m
+pub name_count : (m : List ℕ) → length (w.name_words m) ≡ n.name_width m
 name_count m = refl
 
-decl_count : (d : Decl) → length (w.decl_words d) ≡ 1 + n.decl_width d
+pub decl_count : (d : Decl) → length (w.decl_words d) ≡ 1 + n.decl_width d
 decl_count d = omega (arith, length-append {A = Token}, each_count (Mark s.Comma) w.name_words n.name_width name_count d.more)
 
-decls_count : (ds : List Decl) → length (w.decls_words ds) ≡ n.span n.decl_width ds
+pub decls_count : (ds : List Decl) → length (w.decls_words ds) ≡ n.span n.decl_width ds
 decls_count [] = refl
 decls_count (d ∷ ds) = omega (arith, length-append (w.decl_words d) (w.decls_words ds), decl_count d, decls_count ds)
 
-opened_count : (o : Option StreamWord) → length (w.opened_words o) ≡ n.opened_width o
+pub opened_count : (o : Option StreamWord) → length (w.opened_words o) ≡ n.opened_width o
 opened_count None = refl
 opened_count (Some v) = refl
 

@@ -4,6 +4,7 @@
 use Rattle.std.specs.Prelude.{if◌then◌else◌, ℕ, ◌+◌, ◌^◌, ◌==◌, List, [], ◌∷◌, ◌++◌, length, take, Bool, true, false, not, ◌&&◌, ◌||◌, nat_lt, Option, Some, None, is_some, option_and_then}
 use Rattle.std.specs.Option.{option_map_or}
 use Rattle.saber_plan.specs.Checked.{most_overlap, most_overlap_joined}
+use Rattle.saber_query.specs.declared.token.Token.{Token}
 use Rattle.saber_plan.specs.Overlap.{overlap}
 use Rattle.saber_query.specs.declared.tree.Column.{Column}
 use Rattle.saber_query.specs.declared.tree.Factor.{Factor}
@@ -20,34 +21,40 @@ use Rattle.saber_query.specs.declared.tree.Keys.{Keys}
 use Rattle.saber_query.specs.declared.tree.Decl.{Decl}
 use Rattle.saber_check.specs.declared.fault.Fault.{Fault}
 use Rattle.saber_query.specs.declared.fault.Cause.TheVariants as cause
-use Rattle.saber_query.specs.Trees.{Test, negated, enclosed, compare, Ands, no_more, and_also, Ors, no_other, or_else, Tests, Both, Query}
-use Rattle.saber_check.specs.Widths.{column_width, factor_width, prod_width, expr_width, item_width, source_width, second_source_width, second_width, measure_width, test_width, ands_width, where_width, decl_width, name_width, opened_width, shut_width, group_width, span}
+use Rattle.saber_query.specs.Trees.{Test, negated, enclosed, compare, Ands, no_more, and_also, Ors, no_other, or_else, Query, enclosed_by}
+use Rattle.saber_query.specs.Words.{name_words, second_words, column_words, factor_words, prod_words, expr_words, item_words, measure_words, source_words, second_source_words, test_words, ands_words, where_words, outputs_words, declared_words, decl_words, decls_words, opened_words}
 use Rattle.saber_check.specs.Names.{decls, names, among, names_stream, is_declared, is_unknown_stream, is_unknown_column, is_ambiguous, is_of_first, is_of_second, same}
-use Rattle.saber_check.specs.Bounds.{product_faults, sum_faults, factors, products, expr_bound}
-use Rattle.saber_check.specs.Least.{row, each}
+use Rattle.saber_check.specs.Bounds.{factors, products, times, plus_fit, passes, expr_bound}
+use Rattle.saber_check.specs.Least.{row}
+
+-- The faults of parts that stand one after the other, the first at i, with a word between each two. A part's faults may depend on how
+-- many are before it, k for the first.
+abbrev pub each : {X : Type 0} → (X → List Token) → (ℕ → ℕ → X → List Fault) → ℕ → ℕ → List X → List Fault
+each words faults k i [] = []
+each words faults k i (x ∷ xs) = faults k i x ++ each words faults (k + 1) (i + length (words x) + 1) xs
 
 -- ---- expressions
 
 -- a column: its stream is none of FROM, its name is none of that stream's columns, or of both streams'
-unfoldable pub column_faults : Query → ℕ → Column → List Fault
+abbrev pub column_faults : Query → ℕ → Column → List Fault
 column_faults q i c =
     row (is_unknown_stream q c) i cause.UnknownStream
-    ++ row (is_unknown_column q c) (i + second_width c.second) cause.UnknownColumn
+    ++ row (is_unknown_column q c) (i + length (second_words c.second)) cause.UnknownColumn
     ++ row (is_ambiguous q c) i cause.Ambiguous
 
 -- the number that only its own minus makes small enough
-unfoldable pub factor_faults : Query → ℕ → Factor → List Fault
+abbrev pub factor_faults : Query → ℕ → Factor → List Fault
 factor_faults q i (f.Column c) = column_faults q i c
 factor_faults q i (f.Number n) = row (n == 9223372036854775808) i cause.NumberRange
 factor_faults q i (f.Negative n) = []
 
 -- its factors, and where it gets too wide
-unfoldable pub prod_faults : Query → ℕ → Prod → List Fault
-prod_faults q i p = each factor_width (λ k. factor_faults q) 0 i (factors p) ++ product_faults 1 i (factors p)
+abbrev pub prod_faults : Query → ℕ → Prod → List Fault
+prod_faults q i p = each factor_words (λ k. factor_faults q) 0 i (factors p) ++ passes factor_words times 1 i (factors p)
 
 -- its products, and where their sum gets too wide
-unfoldable pub expr_faults : Query → ℕ → Expr → List Fault
-expr_faults q i e = each prod_width (λ k. prod_faults q) 0 i (products e) ++ sum_faults 0 i (products e)
+abbrev pub expr_faults : Query → ℕ → Expr → List Fault
+expr_faults q i e = each prod_words (λ k. prod_faults q) 0 i (products e) ++ passes prod_words plus_fit 0 i (products e)
 
 -- ---- the shape
 
@@ -88,10 +95,7 @@ own_name c = option_map_or (λ n. n) c.second c.first
 
 -- neither has a second name, or both have the same
 abbrev pub same_second : Option (List ℕ) → Option (List ℕ) → Bool
-same_second None None = true
-same_second None (Some n) = false
-same_second (Some m) None = false
-same_second (Some m) (Some n) = same m n
+same_second m n = option_map_or (λ x. option_map_or (same x) n false) m (not (is_some n))
 
 -- two names of the same words, whatever they name
 abbrev pub same_words : Column → Column → Bool
@@ -150,12 +154,8 @@ content_faults q i (Max e) = expr_faults q (i + 2) e
 content_faults q i (Value e) = row (is_group q && not (is_key q e)) i cause.NotGrouped ++ expr_faults q i e
 
 -- at most 32 items; a join has no aggregate
-unfoldable pub item_faults : Query → ℕ → ℕ → Item → List Fault
+abbrev pub item_faults : Query → ℕ → ℕ → Item → List Fault
 item_faults q k i x = row (k == 32) i cause.TooMany ++ row (is_join q && is_aggregate x) i cause.Shape ++ content_faults q i x
-
--- those of all items, the first at i
-abbrev pub items_faults : Query → ℕ → List Fault
-items_faults q i = each item_width (item_faults q) 0 i (items q)
 
 -- ---- declarations
 
@@ -163,26 +163,22 @@ items_faults q i = each item_width (item_faults q) 0 i (items q)
 unfoldable pub column_name_faults : Decl → ℕ → ℕ → List ℕ → List Fault
 column_name_faults d k i n = row (k == 32) i cause.TooMany ++ row (among n (take k (names d))) i cause.DuplicateName
 
--- at most 8 declarations, each name once
-unfoldable pub decl_faults : Query → ℕ → ℕ → Decl → List Fault
+-- at most 8 declarations, each name once; i is the index of the word STREAM
+abbrev pub decl_faults : Query → ℕ → ℕ → Decl → List Fault
 decl_faults q k i d =
     row (k == 8) i cause.TooMany
     ++ row (names_stream (take k (decls q)) d.name) (i + 1) cause.DuplicateName
-    ++ each name_width (column_name_faults d) 0 (i + 3) (names d)
-
--- those of all declarations, the first at i
-abbrev pub decls_faults : Query → ℕ → List Fault
-decls_faults q i = each decl_width (decl_faults q) 0 i (decls q)
+    ++ each name_words (column_name_faults d) 0 (i + 3) (names d)
 
 -- ---- lists of columns
 
 -- at most 8 columns in GROUP BY or PARTITION BY, each once
-unfoldable pub key_faults : Query → Keys → ℕ → ℕ → Column → List Fault
+abbrev pub key_faults : Query → Keys → ℕ → ℕ → Column → List Fault
 key_faults q g k i c = row (k == 8) i cause.TooMany ++ row (among_columns q c (take k (keys g))) i cause.DuplicateName ++ column_faults q i c
 
 -- those of all its columns, the first at i
 abbrev pub keys_faults : Query → Keys → ℕ → List Fault
-keys_faults q g i = each column_width (key_faults q g) 0 i (keys g)
+keys_faults q g i = each column_words (key_faults q g) 0 i (keys g)
 
 -- ---- windows
 
@@ -198,12 +194,6 @@ most_windows q = if is_join q then most_overlap_joined else most_overlap
 abbrev pub is_overlapping : ℕ → Window → Bool
 is_overlapping most w = not (is_out w.size) && not (is_out w.slide) && nat_lt most (overlap w.size w.slide)
 
--- the columns of PARTITION BY
-abbrev pub measure_faults : Query → ℕ → Measure → List Fault
-measure_faults q i Rows = []
-measure_faults q i Range = []
-measure_faults q i (Partition g) = keys_faults q g (i + 2)
-
 -- i is the index of the size
 abbrev pub sizes_faults : ℕ → ℕ → Window → List Fault
 sizes_faults most i w =
@@ -211,9 +201,9 @@ sizes_faults most i w =
     ++ row (is_out w.slide) (i + 2) cause.WindowRange
     ++ row (is_overlapping most w) i cause.Overlap
 
--- i is the index of its bracket
-unfoldable pub window_faults : Query → ℕ → Window → List Fault
-window_faults q i w = measure_faults q (i + 1) w.measure ++ sizes_faults (most_windows q) (i + 1 + measure_width w.measure) w
+-- i is the index of its bracket: the columns of PARTITION BY, and what is behind the measure
+abbrev pub window_faults : Query → ℕ → Window → List Fault
+window_faults q i w = option_map_or (λ g. keys_faults q g (i + 3)) (measure_keys w.measure) [] ++ sizes_faults (most_windows q) (i + 1 + length (measure_words w.measure)) w
 
 -- the streams of every query have windows, but for a selection without a word
 abbrev pub has_windows : Query → Bool
@@ -232,10 +222,8 @@ stream_faults q i s =
     ++ row (is_some (partition_of s) && not (may_partition q)) (i + 1) cause.Shape
 
 -- and what is wrong with its window
-unfoldable pub source_faults : Query → ℕ → Source → List Fault
-source_faults q i s =
-    stream_faults q i s
-    ++ option_map_or (window_faults q (i + 1)) s.window []
+abbrev pub source_faults : Query → ℕ → Source → List Fault
+source_faults q i s = stream_faults q i s ++ option_map_or (window_faults q (i + 1)) s.window []
 
 -- sizes count timestamps
 abbrev pub is_range : Measure → Bool
@@ -252,83 +240,40 @@ abbrev pub is_apart : Option Window → Option Window → Bool
 is_apart v w = option_map_or (λ x. option_map_or (λ y. not (same_measure x.measure y.measure && x.slide == y.slide)) w false) v false
 
 -- the second stream of FROM is another than the first, and their windows pair
-unfoldable pub second_faults : Query → ℕ → Source → List Fault
+abbrev pub second_faults : Query → ℕ → Source → List Fault
 second_faults q i s = row (same q.from.name s.name) i cause.DuplicateName ++ row (is_apart q.from.window s.window) (i + 1) cause.Shape ++ source_faults q i s
 
 -- ---- predicates: the faults of their expressions
 
--- the two sides of a comparison, with its sign between them
-abbrev pub sides_faults : Query → ℕ → Expr → Expr → List Fault
-sides_faults q i x y = expr_faults q i x ++ expr_faults q (i + expr_width x + 1) y
-
-unfoldable mutual
+abbrev mutual
   pub test_faults : Query → ℕ → Test → List Fault
   test_faults q i (negated t) = test_faults q (i + 1) t
-  test_faults q i (enclosed t a o) = test_faults q (i + 1) t ++ ands_faults q (i + 1 + test_width t) a ++ ors_faults q (i + 1 + test_width t + ands_width a) o
-  test_faults q i (compare x c y) = sides_faults q i x y
+  test_faults q i (enclosed t a o) = test_faults q (i + 1) t ++ ands_faults q (i + 1 + length (test_words t)) a ++ ors_faults q (i + 1 + length (test_words t) + length (ands_words a)) o
+  test_faults q i (compare x c y) = expr_faults q i x ++ expr_faults q (i + length (expr_words x) + 1) y
 
   pub ands_faults : Query → ℕ → Ands → List Fault
   ands_faults q i no_more = []
-  ands_faults q i (and_also t a) = test_faults q (i + 1) t ++ ands_faults q (i + 1 + test_width t) a
+  ands_faults q i (and_also t a) = test_faults q (i + 1) t ++ ands_faults q (i + 1 + length (test_words t)) a
 
   pub ors_faults : Query → ℕ → Ors → List Fault
   ors_faults q i no_other = []
-  ors_faults q i (or_else t a o) = test_faults q (i + 1) t ++ ands_faults q (i + 1 + test_width t) a ++ ors_faults q (i + 1 + test_width t + ands_width a) o
-
--- units joined by AND, and those joined by OR
-abbrev pub both_faults : Query → ℕ → Both → List Fault
-both_faults q i b = test_faults q i b.first ++ ands_faults q (i + test_width b.first) b.ands
-
-abbrev pub tests_faults : Query → ℕ → Tests → List Fault
-tests_faults q i t = test_faults q i t.first ++ ands_faults q (i + test_width t.first) t.ands ++ ors_faults q (i + test_width t.first + ands_width t.ands) t.ors
+  ors_faults q i (or_else t a o) = test_faults q (i + 1) t ++ ands_faults q (i + 1 + length (test_words t)) a ++ ors_faults q (i + 1 + length (test_words t) + length (ands_words a)) o
 
 -- ---- the whole
 
--- i is the index of the word GROUP, which no join has
-unfoldable pub group_faults : Query → ℕ → Keys → List Fault
-group_faults q i g = row (is_join q) i cause.Shape ++ keys_faults q g (i + 2)
-
--- where SELECT, FROM, what is behind the first stream, WHERE and GROUP stand
-abbrev pub select_at : Query → ℕ
-select_at q = decl_width q.decl + span decl_width q.decls + 1 + opened_width q.word
-
-abbrev pub from_at : Query → ℕ
-from_at q = select_at q + 1 + item_width q.item + span item_width q.items
-
-abbrev pub second_at : Query → ℕ
-second_at q = from_at q + 1 + source_width q.from
-
-abbrev pub where_at : Query → ℕ
-where_at q = second_at q + second_source_width q.second
-
-abbrev pub group_at : Query → ℕ
-group_at q = where_at q + where_width q.predicate
-
--- what is behind the first stream, and WHERE and GROUP BY with what they say
-abbrev pub second_part_faults : Query → ℕ → List Fault
-second_part_faults q i = option_map_or (second_faults q (i + 1)) q.second []
-
-abbrev pub where_faults : Query → ℕ → List Fault
-where_faults q i = option_map_or (tests_faults q (i + 1)) q.predicate []
-
-abbrev pub group_part_faults : Query → ℕ → List Fault
-group_part_faults q i = option_map_or (group_faults q i) q.group []
-
--- all that is wrong with the query
-unfoldable pub faults : Query → List Fault
+-- All that is wrong with the query, behind the places of SELECT, FROM, what is behind the first stream, WHERE and GROUP. A declaration is
+-- the word STREAM and others; units behind WHERE stand as they would behind a parenthesis; and no join has GROUP BY, whose columns stand
+-- two words behind GROUP.
+abbrev pub faults : Query → List Fault
 faults q =
-    decls_faults q 0
-    ++ items_faults q (select_at q + 1)
-    ++ source_faults q (from_at q + 1) q.from
-    ++ second_part_faults q (second_at q)
-    ++ where_faults q (where_at q)
-    ++ group_part_faults q (group_at q)
-
--- a last semicolon is a word
-abbrev pub closed_width : Bool → ℕ
-closed_width false = 0
-closed_width true = 1
-
--- how many words there are
-abbrev pub width : Query → ℕ
-width q = group_at q + group_width q.group + shut_width q.word + closed_width q.closed
+    let select_at = length (decl_words q.decl ++ decls_words q.decls ++ opened_words q.word) in
+    let from_at = select_at + length (outputs_words q.item q.items) in
+    let second_at = from_at + 1 + length (source_words q.from) in
+    let where_at = second_at + length (second_source_words q.second) in
+    let group_at = where_at + length (where_words q.predicate) in
+    each declared_words (decl_faults q) 0 0 (decls q)
+    ++ each item_words (item_faults q) 0 (select_at + 1) (items q)
+    ++ source_faults q (from_at + 1) q.from
+    ++ option_map_or (second_faults q (second_at + 1)) q.second []
+    ++ option_map_or (λ t. test_faults q where_at (enclosed_by t)) q.predicate []
+    ++ option_map_or (λ g. row (is_join q) group_at cause.Shape ++ keys_faults q g (group_at + 2)) q.group []

@@ -1,12 +1,12 @@
 -- The first of some faults: the least place, and at one place the least rank.
-use Rattle.std.specs.Prelude.{◌≡◌, ℕ, ◌+◌, ◌*◌, ◌^◌, ◌<◌, ◌≤◌, ◌⊎◌, List, [], ◌∷◌, ◌++◌, Contains, Bool, true, false, if◌then◌else◌, nat_le, nat_lt, Option, Some, None}
+use Rattle.std.specs.Prelude.{◌≡◌, ℕ, ◌+◌, ◌*◌, ◌^◌, ◌≤◌, List, [], ◌∷◌, ◌++◌, Bool, true, false, if◌then◌else◌, nat_le, nat_lt, Option, Some, None}
 use Rattle.std.specs.Option.{option_map_or}
 use Rattle.saber_query.specs.declared.fault.Cause.{Cause}
 use Rattle.saber_query.specs.declared.fault.Cause.TheVariants as cause
 use Rattle.saber_check.specs.declared.fault.Fault.{Fault}
 use Rattle.saber_check.specs.declared.walk.Walk.{Walk}
 
--- the order of the causes at one place, the text's own first (this project's rule)
+-- the place of a cause among those of specs/First.antt
 abbrev pub rank : Cause → ℕ
 rank cause.TooLong = 0
 rank cause.BadByte = 1
@@ -59,11 +59,6 @@ at (Some i) c = record { index = i; cause = c } ∷ []
 unfoldable pub each : {X : Type 0} → (X → ℕ) → (ℕ → ℕ → X → List Fault) → ℕ → ℕ → List X → List Fault
 each width faults k i [] = []
 each width faults k i (x ∷ xs) = faults k i x ++ each width faults (k + 1) (i + width x + 1) xs
-
--- this fault is among them, and each of them has a greater place, or the same and no lesser rank
-pub record IsFirst (f : Fault) (fs : List Fault) : Type 0 where
-  pub there : Contains fs f
-  pub first : (g : Fault) → Contains fs g → (f.index < g.index) ⊎ ((f.index ≡ g.index) × (rank f.cause ≤ rank g.cause))
 
 -- what a walk does at a part of the query: it goes on behind the part, and takes note of the part's faults
 pub record Visits (old new : Walk) (width : ℕ) (faults : List Fault) : Type 0 where

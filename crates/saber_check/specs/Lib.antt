@@ -1,8 +1,10 @@
 pub mod Names
 pub mod Widths
 pub mod Least
+pub mod First
 pub mod Bounds
 pub mod Faults
+pub mod Walked
 pub mod Plans
 pub mod Outcome
 pub mod Texts

@@ -5,7 +5,7 @@ use Rattle.saber_query.specs.declared.fault.Cause.{Cause}
 use Rattle.saber_query.specs.declared.fault.QueryFault.{QueryFault}
 use Rattle.saber_query.specs.declared.fault.QueryFault.TheVariants.{NoMemory, At}
 use Rattle.saber_query.specs.Parsed.{Parsed}
-use Rattle.saber_check.specs.Least.{IsFirst}
+use Rattle.saber_check.specs.First.{IsFirst}
 use Rattle.saber_check.specs.Faults.{faults}
 
 -- something is wrong at the word of this index, by this cause

@@ -45,7 +45,8 @@ use Rattle.saber_query.specs.Trees.{Test, negated, enclosed, compare, Ands, no_m
 use Rattle.saber_check.specs.declared.outputs.Output.{Output}
 use Rattle.saber_check.specs.declared.outputs.Output.TheVariants as out
 use Rattle.saber_check.specs.Names.{same, names, decls, in_first}
-use Rattle.saber_check.specs.Faults.{own_name, keys, partition_of, items, is_join, is_group, width}
+use Rattle.saber_check.specs.Faults.{own_name, keys, partition_of, items, is_join, is_group}
+use Rattle.saber_check.specs.Walked.{width}
 use Rattle.saber_check.specs.Bounds.{factors}
 
 -- how many names stand before this one

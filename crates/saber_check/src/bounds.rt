@@ -4,9 +4,9 @@ ghost use Rattle.std.specs.Option.{option_map_or};
 ghost use Rattle.saber_query.specs.declared.fault.Cause.TheVariants.{ExprTooWide};
 ghost use Rattle.saber_query.specs.declared.tree.Term.{Term};
 ghost use Rattle.saber_check.specs.Least.{at};
-ghost use Rattle.saber_check.specs.Faults.{is_sum_wide};
+ghost use Rattle.saber_check.specs.Walked.{is_sum_wide, running_product, product_bound, product_faults, sum_faults, running_sum, expr_bound, prods};
 ghost use Rattle.saber_check.specs.Widths.{factor_width, prod_width, term_width, expr_width, span, second_width, column_width};
-ghost use Rattle.saber_check.specs.Bounds.{factor_bound, within, running_product, product_bound, product_faults, sum_faults, running_sum, expr_bound, factors, prods, products};
+ghost use Rattle.saber_check.specs.Bounds.{factor_bound, within, factors, products};
 
 use saber_query::{Column, Expr, Factor, Prod, Term};
 
@@ -81,7 +81,7 @@ fn prod_words(prod: &Prod) -> u64
     factor_words(&prod.first) + factors_words(prod.more.as_slice())
 }
 
-#[tactic(auto, unfolding(crate::specs::Bounds::product_faults))]
+#[tactic(auto, unfolding(crate::specs::Walked::product_faults))]
 fn factors_pass(first: u128, index: u64, factors: &[Factor]) -> Option<u64>
     requires first { first ≤ 2 ^ 126 }
     requires room { index + span factor_width factors.now ≤ 2 ^ 61 }
@@ -100,7 +100,7 @@ fn factors_pass(first: u128, index: u64, factors: &[Factor]) -> Option<u64>
 }
 
 /// The place of the factor at which a running product passes the limit.
-#[tactic(auto, unfolding(crate::specs::Bounds::product_faults))]
+#[tactic(auto, unfolding(crate::specs::Walked::product_faults))]
 pub(crate) fn product_passes(index: u64, prod: &Prod) -> Option<u64>
     requires { index + prod_width prod.now ≤ 2 ^ 60 }
     ensures { at result ExprTooWide ≡ product_faults 1 index (factors prod.now) }
@@ -115,7 +115,7 @@ pub(crate) fn product_passes(index: u64, prod: &Prod) -> Option<u64>
     }
 }
 
-#[tactic(auto, unfolding(crate::specs::Bounds::running_product))]
+#[tactic(auto, unfolding(crate::specs::Walked::running_product))]
 fn factors_bound(first: u128, factors: &[Factor]) -> Option<u128>
     requires first { first ≤ 2 ^ 126 }
     ensures value { result ≡ running_product first factors.now }
@@ -131,7 +131,7 @@ fn factors_bound(first: u128, factors: &[Factor]) -> Option<u128>
     Some(bound)
 }
 
-#[tactic(auto, unfolding(crate::specs::Bounds::running_product))]
+#[tactic(auto, unfolding(crate::specs::Walked::running_product))]
 fn product_bound(prod: &Prod) -> Option<u128>
     ensures value { result ≡ product_bound prod.now }
     ensures small { IfSome result (λ m. m ≤ 2 ^ 126) }
@@ -155,7 +155,7 @@ fn plus(sum: u128, prod: &Prod) -> Option<u128>
     }
 }
 
-#[tactic(auto, unfolding(crate::specs::Bounds::sum_faults))]
+#[tactic(auto, unfolding(crate::specs::Walked::sum_faults))]
 fn terms_pass(first: u128, index: u64, terms: &[Term]) -> Option<u64>
     requires first { first ≤ 2 ^ 126 }
     requires room { index + span term_width terms.now ≤ 2 ^ 61 }
@@ -174,7 +174,7 @@ fn terms_pass(first: u128, index: u64, terms: &[Term]) -> Option<u64>
 }
 
 /// The place of the product at which the running sum passes the limit.
-#[tactic(auto, unfolding(crate::specs::Bounds::sum_faults))]
+#[tactic(auto, unfolding(crate::specs::Walked::sum_faults))]
 pub(crate) fn sum_passes(index: u64, expr: &Expr) -> Option<u64>
     requires { index + expr_width expr.now ≤ 2 ^ 60 }
     ensures { at result ExprTooWide ≡ sum_faults 0 index (products expr.now) }
@@ -201,7 +201,7 @@ fn joined(sum: u128, prod: &Prod) -> Option<u128>
     }
 }
 
-#[tactic(auto, unfolding(crate::specs::Bounds::running_sum))]
+#[tactic(auto, unfolding(crate::specs::Walked::running_sum))]
 fn terms_bound(first: u128, terms: &[Term]) -> Option<u128>
     requires first { first ≤ 2 ^ 126 }
     ensures value { result ≡ running_sum first (prods terms.now) }
@@ -216,7 +216,7 @@ fn terms_bound(first: u128, terms: &[Term]) -> Option<u128>
     Some(sum)
 }
 
-#[tactic(auto, unfolding(crate::specs::Bounds::running_sum))]
+#[tactic(auto, unfolding(crate::specs::Walked::running_sum))]
 fn expr_bound(expr: &Expr) -> Option<u128>
     ensures value { result ≡ expr_bound expr.now }
 {

@@ -5,7 +5,8 @@ ghost use Rattle.saber_query.specs.Trees.{query_of};
 ghost use Rattle.saber_check.specs.Least.{row, each, Visits, Room};
 ghost use Rattle.saber_check.specs.Names.{names, names_stream, decls, among};
 ghost use Rattle.saber_check.specs.Widths.{name_width, column_width, expr_width, item_width, measure_width, source_width, decl_width, span};
-ghost use Rattle.saber_check.specs.Faults.{expr_faults, content_faults, item_faults, measure_faults, sizes_faults, window_faults, stream_faults, source_faults, second_faults, key_faults, group_faults, column_name_faults, decl_faults, items_faults, decls_faults, keys_faults, is_group, is_key, keys, among_columns};
+ghost use Rattle.saber_check.specs.Faults.{sizes_faults, stream_faults, column_name_faults, is_group, is_key, keys, among_columns};
+ghost use Rattle.saber_check.specs.Walked.{expr_faults, content_faults, item_faults, measure_faults, window_faults, source_faults, second_faults, key_faults, group_faults, decl_faults, items_faults, decls_faults, keys_faults};
 
 use crate::bounds::{column_words, is_sum_wide};
 use crate::names::{is_among, is_declared, is_named};
@@ -99,7 +100,7 @@ impl Walk {
         }
     }
 
-    #[tactic(auto, using(crate::proofs::Lemmas::walking), unfolding(crate::specs::Faults::item_faults))]
+    #[tactic(auto, using(crate::proofs::Lemmas::walking), unfolding(crate::specs::Walked::item_faults))]
     fn item(&mut self, query: &Select, grouped: bool, before: usize, item: &Item)
         requires room { Room self.old (item_width item.now) }
         requires grouped { grouped ≡ is_group (query_of query.now) }
@@ -143,7 +144,7 @@ impl Walk {
         self.skip(4);
     }
 
-    #[tactic(auto, using(crate::proofs::Lemmas::walking), unfolding(crate::specs::Faults::window_faults))]
+    #[tactic(auto, using(crate::proofs::Lemmas::walking), unfolding(crate::specs::Walked::window_faults))]
     fn window(&mut self, query: &Select, window: &Window)
         requires { Room self.old (5 + measure_width window.now.measure) }
         ensures { Visits self.old self.new (5 + measure_width window.now.measure)
@@ -171,7 +172,7 @@ impl Walk {
         self.report(is_parted_amiss(query, source), start + 1, Cause::Shape);
     }
 
-    #[tactic(auto, using(crate::proofs::Lemmas::walking), unfolding(crate::specs::Faults::source_faults))]
+    #[tactic(auto, using(crate::proofs::Lemmas::walking), unfolding(crate::specs::Walked::source_faults))]
     pub(crate) fn source(&mut self, query: &Select, source: &Source)
         requires { Room self.old (source_width source.now) }
         ensures { Visits self.old self.new (source_width source.now)
@@ -184,7 +185,7 @@ impl Walk {
         }
     }
 
-    #[tactic(auto, using(crate::proofs::Lemmas::walking), unfolding(crate::specs::Faults::second_faults))]
+    #[tactic(auto, using(crate::proofs::Lemmas::walking), unfolding(crate::specs::Walked::second_faults))]
     pub(crate) fn second(&mut self, query: &Select, source: &Source)
         requires { Room self.old (source_width source.now) }
         ensures { Visits self.old self.new (source_width source.now)
@@ -262,7 +263,7 @@ impl Walk {
         }
     }
 
-    #[tactic(auto, using(crate::proofs::Lemmas::walking), unfolding(crate::specs::Faults::decl_faults))]
+    #[tactic(auto, using(crate::proofs::Lemmas::walking), unfolding(crate::specs::Walked::decl_faults))]
     fn decl(&mut self, query: &Select, before: usize, decl: &Decl)
         requires room { Room self.old (decl_width decl.now) }
         requires before { before ≤ length query.now.decls + 1 }
@@ -305,7 +306,7 @@ impl Walk {
         }
     }
 
-    #[tactic(auto, using(crate::proofs::Lemmas::walking), unfolding(crate::specs::Faults::key_faults))]
+    #[tactic(auto, using(crate::proofs::Lemmas::walking), unfolding(crate::specs::Walked::key_faults))]
     fn report_key(&mut self, query: &Select, group: &Keys, before: usize, column: &Column)
         requires room { Room self.old (column_width column.now) }
         requires before { before ≤ length group.now.more + 1 }
@@ -333,7 +334,7 @@ impl Walk {
         }
     }
 
-    #[tactic(auto, using(crate::proofs::Lemmas::walking), unfolding(crate::specs::Faults::group_faults))]
+    #[tactic(auto, using(crate::proofs::Lemmas::walking), unfolding(crate::specs::Walked::group_faults))]
     pub(crate) fn group(&mut self, query: &Select, group: &Keys)
         requires { Room self.old (2 + column_width group.now.first + span column_width
             group.now.more) }

@@ -3,7 +3,7 @@ ghost use Rattle.std.specs.Prelude.{◌≡◌, ◌+◌, ◌≤◌, ◌^◌};
 ghost use Rattle.saber_check.specs.Least.{Visits, Room};
 ghost use Rattle.saber_query.specs.Trees.{test_of, both_of, tests_of, query_of};
 ghost use Rattle.saber_check.specs.Widths.{test_width, both_width, tests_width, expr_width};
-ghost use Rattle.saber_check.specs.Faults.{test_faults, both_faults, tests_faults, sides_faults};
+ghost use Rattle.saber_check.specs.Walked.{test_faults, both_faults, tests_faults, sides_faults};
 
 use crate::walk::Walk;
 use saber_query::{Conj, Expr, Pred, Select, Unit};
@@ -22,7 +22,7 @@ impl Walk {
     }
 
     #[cycle(pred)]
-    #[tactic(auto, using(crate::proofs::Lemmas::walking), unfolding(crate::specs::Faults::test_faults))]
+    #[tactic(auto, using(crate::proofs::Lemmas::walking), unfolding(crate::specs::Walked::test_faults))]
     fn unit(&mut self, query: &Select, unit: &Unit)
         requires { Room self.old (test_width (test_of unit.now)) }
         ensures { Visits self.old self.new (test_width (test_of unit.now))

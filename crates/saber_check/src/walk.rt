@@ -3,8 +3,7 @@ ghost use Rattle.std.specs.Prelude.{◌≡◌, ◌+◌, ◌≤◌, ◌^◌, [], 
 ghost use Rattle.saber_query.specs.Trees.{query_of};
 ghost use Rattle.saber_check.specs.Least.{at, earlier, least, row, each, is_settled, Visits, Room};
 ghost use Rattle.saber_check.specs.Widths.{column_width, factor_width, prod_width, term_width, expr_width, span, second_width};
-ghost use Rattle.saber_check.specs.Bounds.{prods};
-ghost use Rattle.saber_check.specs.Faults.{column_faults, factor_faults, prod_faults, expr_faults};
+ghost use Rattle.saber_check.specs.Walked.{prods, column_faults, factor_faults, prod_faults, expr_faults};
 
 use crate::bounds::{column_words, product_passes, sum_passes};
 use crate::fault::{Fault, earlier};
@@ -58,7 +57,7 @@ impl Walk {
         }
     }
 
-    #[tactic(auto, using(crate::proofs::Lemmas::walking), unfolding(crate::specs::Faults::column_faults))]
+    #[tactic(auto, using(crate::proofs::Lemmas::walking), unfolding(crate::specs::Walked::column_faults))]
     fn report_column(&mut self, query: &Select, column: &Column)
         requires { Room self.old (column_width column.now) }
         ensures { Visits self.old self.new (column_width column.now)
@@ -83,7 +82,7 @@ impl Walk {
         self.skip(1 + behind);
     }
 
-    #[tactic(auto, using(crate::proofs::Lemmas::walking), unfolding(crate::specs::Faults::factor_faults))]
+    #[tactic(auto, using(crate::proofs::Lemmas::walking), unfolding(crate::specs::Walked::factor_faults))]
     fn factor(&mut self, query: &Select, factor: &Factor)
         requires { Room self.old (factor_width factor.now) }
         ensures { Visits self.old self.new (factor_width factor.now)
@@ -127,7 +126,7 @@ impl Walk {
         }
     }
 
-    #[tactic(auto, using(crate::proofs::Lemmas::walking), unfolding(crate::specs::Faults::prod_faults, crate::specs::Least::each))]
+    #[tactic(auto, using(crate::proofs::Lemmas::walking), unfolding(crate::specs::Walked::prod_faults, crate::specs::Least::each))]
     fn prod(&mut self, query: &Select, prod: &Prod)
         requires { Room self.old (prod_width prod.now) }
         ensures { Visits self.old self.new (prod_width prod.now)
@@ -152,7 +151,7 @@ impl Walk {
         }
     }
 
-    #[tactic(auto, using(crate::proofs::Lemmas::walking), unfolding(crate::specs::Faults::expr_faults, crate::specs::Least::each))]
+    #[tactic(auto, using(crate::proofs::Lemmas::walking), unfolding(crate::specs::Walked::expr_faults, crate::specs::Least::each))]
     pub(crate) fn expr(&mut self, query: &Select, expr: &Expr)
         requires { Room self.old (expr_width expr.now) }
         ensures { Visits self.old self.new (expr_width expr.now)

@@ -3,7 +3,7 @@ ghost use Rattle.std.specs.Prelude.{◌≡◌, ◌+◌, ◌≤◌, ◌^◌, opti
 ghost use Rattle.saber_check.specs.Least.{Visits, Room, least};
 ghost use Rattle.saber_query.specs.Trees.{tests_of, query_of};
 ghost use Rattle.saber_check.specs.Widths.{second_source_width, where_width, opened_width, group_width};
-ghost use Rattle.saber_check.specs.Faults.{second_part_faults, where_faults, group_part_faults, faults, width};
+ghost use Rattle.saber_check.specs.Walked.{second_part_faults, where_faults, group_part_faults, faults, width};
 
 use crate::fault::Fault;
 use crate::walk::Walk;
@@ -54,7 +54,7 @@ fn opened_words(query: &Select) -> u64
 }
 
 /// The first fault of a query, with the index of its word.
-#[tactic(auto, using(crate::proofs::Lemmas::walking), unfolding(crate::specs::Faults::faults))]
+#[tactic(auto, using(crate::proofs::Lemmas::walking), unfolding(crate::specs::Walked::faults))]
 pub(crate) fn first_fault(query: &Select) -> Option<Fault>
     requires { width (query_of query.now) ≤ 2 ^ 60 }
     ensures { result ≡ least (faults (query_of query.now)) }

@@ -1,5 +1,5 @@
 -- The text of the demo's query has the plan that is built, and so that plan is checked.
-use Rattle.std.proofs.Common.{◌≡◌, ℕ, List, [], ◌∷◌, map, Some, None, false, codes, refl, subst, arith, rules, Result, Ok, Err}
+use Rattle.std.proofs.Common.{◌≡◌, ℕ, List, [], ◌∷◌, map, Some, None, false, codes, refl, ◌∙◌, subst, arith, rules, Result, Ok, Err}
 use Rattle.std.specs.Prelude.{Contains}
 use Rattle.saber_plan.specs.declared.expressions.Product.{Product}
 use Rattle.saber_plan.specs.declared.plans.Aggregate.{Aggregate}
@@ -21,10 +21,11 @@ use Rattle.saber_query.specs.Means.{MeansTree, byte_of}
 use Rattle.saber_query.specs.Parsed.{Parsed, IsParsed}
 use Rattle.saber_check.specs.declared.fault.Fault.{Fault}
 use Rattle.saber_check.specs.Least.{each}
-use Rattle.saber_check.specs.Faults.{faults, column_faults, factor_faults, prod_faults, expr_faults, item_faults, column_name_faults, decl_faults, window_faults, source_faults, second_faults, key_faults, group_faults}
-use Rattle.saber_check.specs.Bounds.{running_product, product_faults, sum_faults, running_sum}
+use Rattle.saber_check.specs.Faults.{column_name_faults}
+use Rattle.saber_check.specs.Walked.{faults, column_faults, factor_faults, prod_faults, expr_faults, item_faults, decl_faults, window_faults, source_faults, second_faults, key_faults, group_faults, running_product, product_faults, sum_faults, running_sum}
 use Rattle.saber_check.specs.Texts.{HasPlan}
 use Rattle.saber_check.proofs.FrontLaws.{a_plan_is_checked}
+use Rattle.saber_check.proofs.WalkedLaws.{same_faults}
 use Rattle.saber_demo.specs.Query.{demo_query, demo_tree}
 
 -- a column by itself
@@ -74,7 +75,7 @@ demo_query_has_plan = record {
   query = demo_parsed;
   parsed = parsed;
   means = means;
-  faultless = λ i c h. let f = subst (λ (fs : List Fault). Contains fs (record { index = i; cause = c })) no_faults h in omega (arith, f.1);
+  faultless = λ i c h. let f = subst (λ (fs : List Fault). Contains fs (record { index = i; cause = c })) (same_faults (query_of demo_select) ∙ no_faults) h in omega (arith, f.1);
   same = refl;
 }
 

@@ -1,5 +1,5 @@
 use Rattle.std.proofs.Common.{◌≡◌, ◌≤◌, ◌^◌, drop}
-use Rattle.saber_check.specs.Bounds.{running_product}
+use Rattle.saber_check.specs.Walked.{running_product}
 use Rattle.saber_check.proofs.bounds.factors_bound.Given as goal
 
 abbrev pub invariant-loop-factor : goal.invariant-loop-factor

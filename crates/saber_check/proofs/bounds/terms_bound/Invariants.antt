@@ -1,5 +1,5 @@
 use Rattle.std.proofs.Common.{◌≡◌, ◌≤◌, ◌^◌, drop}
-use Rattle.saber_check.specs.Bounds.{running_sum, prods}
+use Rattle.saber_check.specs.Walked.{running_sum, prods}
 use Rattle.saber_check.proofs.bounds.terms_bound.Given as goal
 
 abbrev pub invariant-loop-term : goal.invariant-loop-term

@@ -1,6 +1,6 @@
 use Rattle.std.proofs.Common.{◌≡◌, ◌≤◌, ◌^◌, ◌+◌, drop}
 use Rattle.saber_check.specs.Widths.{span, term_width}
-use Rattle.saber_check.specs.Bounds.{sum_faults, prods}
+use Rattle.saber_check.specs.Walked.{sum_faults, prods}
 use Rattle.saber_check.proofs.bounds.terms_pass.Given as goal
 
 abbrev pub invariant-loop-term : goal.invariant-loop-term

@@ -1,11 +1,13 @@
-use Rattle.std.proofs.Common.{◌≡◌, ℕ, ◌<◌, ◌≤◌, ◌^◌, List, length, Some, None, slice_index, sym, ◌∙◌, ap, subst, arith}
+use Rattle.std.proofs.Common.{◌≡◌, ℕ, ◌<◌, ◌≤◌, ◌^◌, List, length, Some, None, slice_index, Contains, sym, ◌∙◌, ap, subst, arith}
 use Rattle.saber_query.specs.Trees.{Query, query_of}
 use Rattle.saber_query.specs.Parsed.{Parsed, IsParsed}
 use Rattle.saber_check.specs.declared.fault.Fault.{Fault}
 use Rattle.saber_check.specs.Least.{least}
-use Rattle.saber_check.specs.Faults.{faults, width}
+use Rattle.saber_check.specs.First.{IsFirst}
+use Rattle.saber_check.specs.Walked.{faults, width}
 use Rattle.saber_check.specs.Outcome.{FailsAt, IsFaultless}
 use Rattle.saber_check.proofs.FirstLaws.{first, none}
+use Rattle.saber_check.proofs.WalkedLaws.{same_faults}
 use Rattle.saber_check.proofs.WidthLaws.{words_count}
 use Rattle.saber_check.proofs.IndexLaws.{fault_inside}
 use Rattle.saber_plan.specs.Trees.{Tree}
@@ -28,10 +30,10 @@ inside p q starts f e s h l =
 fails : (p : Parsed) (q : Query) (starts : List ℕ) (f : Fault) → q ≡ query_of p.select → starts ≡ p.starts → IsParsed p.select p.starts → Some f ≡ least (faults q) → FailsAt p (slice_index starts f.index) f.cause
 fails p q starts f e s h l =
     let l' : least (faults (query_of p.select)) ≡ Some f = ap (λ r. least (faults r)) (sym e) ∙ sym l in
-    record { index = f.index; first = first (faults (query_of p.select)) f l'; inside = omega (arith, (inside p q starts f e s h l).0, ap length s); place = ap (λ xs. slice_index xs f.index) s }
+    record { index = f.index; first = subst (IsFirst f) (sym (same_faults (query_of p.select))) (first (faults (query_of p.select)) f l'); inside = omega (arith, (inside p q starts f e s h l).0, ap length s); place = ap (λ xs. slice_index xs f.index) s }
 
 faultless : (p : Parsed) (q : Query) → q ≡ query_of p.select → None ≡ least (faults q) → IsFaultless (query_of p.select)
-faultless p q e l i c m = none (faults (query_of p.select)) (ap (λ r. least (faults r)) (sym e) ∙ sym l) _ m
+faultless p q e l i c m = none (faults (query_of p.select)) (ap (λ r. least (faults r)) (sym e) ∙ sym l) _ (subst (λ fs. Contains fs (record { index = i; cause = c })) (same_faults (query_of p.select)) m)
 
 pub first_fault-requires : goal.first_fault-requires
 first_fault-requires c = let h = small c.args.query.now _ (ap query_of c.select-tree.ensures.value) c.select-tree.ensures.parsed in omega (arith, h)

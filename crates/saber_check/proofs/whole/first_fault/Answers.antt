@@ -5,7 +5,8 @@ use Rattle.saber_check.specs.Names.{decls}
 use Rattle.saber_query.specs.Trees.{Query, query_of}
 use Rattle.saber_check.specs.Widths.{decl_width, item_width, source_width, second_source_width, where_width, opened_width, group_width, span}
 use Rattle.saber_check.specs.Least.{Visits, each, least, earlier}
-use Rattle.saber_check.specs.Faults.{decl_faults, item_faults, items, source_faults, second_part_faults, where_faults, group_part_faults, faults, select_at, from_at, second_at, where_at, group_at}
+use Rattle.saber_check.specs.Faults.{items}
+use Rattle.saber_check.specs.Walked.{decl_faults, item_faults, source_faults, second_part_faults, where_faults, group_part_faults, faults, select_at, from_at, second_at, where_at, group_at}
 use Rattle.saber_check.proofs.Lemmas.{least_append, least_none, earlier_none}
 use Rattle.saber_check.proofs.whole.first_fault.Goals as goal
 

@@ -1,5 +1,5 @@
 use Rattle.saber_check.specs.Widths.{decl_width}
-use Rattle.saber_check.specs.Faults.{decl_faults}
+use Rattle.saber_check.specs.Walked.{decl_faults}
 use Rattle.saber_check.proofs.Lemmas.{Going}
 use Rattle.saber_query.specs.Trees.{query_of}
 use Rattle.saber_check.proofs.walk.Walk.decls.Given as goal

@@ -4,9 +4,9 @@ use Rattle.saber_query.specs.declared.tree.Term.{Term}
 use Rattle.saber_check.specs.declared.fault.Fault.{Fault}
 use Rattle.saber_check.specs.declared.walk.Walk.{Walk}
 use Rattle.saber_check.specs.Widths.{prod_width, term_width, expr_width, span}
-use Rattle.saber_check.specs.Bounds.{prods, products, sum_faults}
+use Rattle.saber_check.specs.Bounds.{products}
+use Rattle.saber_check.specs.Walked.{prods, sum_faults, prod_faults, expr_faults}
 use Rattle.saber_check.specs.Least.{Visits, each, least, earlier}
-use Rattle.saber_check.specs.Faults.{prod_faults, expr_faults}
 use Rattle.saber_check.proofs.Lemmas.{each_more, walking}
 use Rattle.saber_query.specs.Trees.{Query}
 use Rattle.saber_check.proofs.walk.Walk.expr.Goals as goal

@@ -1,5 +1,5 @@
 use Rattle.saber_check.specs.Widths.{factor_width}
-use Rattle.saber_check.specs.Faults.{factor_faults}
+use Rattle.saber_check.specs.Walked.{factor_faults}
 use Rattle.saber_check.proofs.Lemmas.{Going}
 use Rattle.saber_query.specs.Trees.{query_of}
 use Rattle.saber_check.proofs.walk.Walk.factors.Given as goal

@@ -1,5 +1,5 @@
 use Rattle.saber_check.specs.Widths.{item_width}
-use Rattle.saber_check.specs.Faults.{item_faults}
+use Rattle.saber_check.specs.Walked.{item_faults}
 use Rattle.saber_check.proofs.Lemmas.{Going}
 use Rattle.saber_query.specs.Trees.{query_of}
 use Rattle.saber_check.proofs.walk.Walk.items.Given as goal

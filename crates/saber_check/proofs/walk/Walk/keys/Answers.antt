@@ -1,5 +1,5 @@
 use Rattle.saber_check.specs.Widths.{column_width}
-use Rattle.saber_check.specs.Faults.{key_faults}
+use Rattle.saber_check.specs.Walked.{key_faults}
 use Rattle.saber_check.proofs.Lemmas.{going_step, visits_all}
 use Rattle.saber_query.specs.Trees.{query_of}
 use Rattle.saber_check.proofs.walk.Walk.keys.Goals as goal

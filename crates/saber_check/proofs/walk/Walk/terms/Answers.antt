@@ -1,7 +1,7 @@
 use Rattle.std.proofs.Common.{◌+◌}
 use Rattle.saber_query.specs.declared.tree.Term.{Term}
 use Rattle.saber_check.specs.Widths.{term_width, prod_width}
-use Rattle.saber_check.specs.Faults.{prod_faults}
+use Rattle.saber_check.specs.Walked.{prod_faults}
 use Rattle.saber_check.proofs.Lemmas.{going_step, going_done, each_map}
 use Rattle.saber_query.specs.Trees.{query_of}
 use Rattle.saber_check.proofs.walk.Walk.terms.Goals as goal

@@ -1,6 +1,6 @@
 use Rattle.saber_query.specs.declared.tree.Term.{Term}
 use Rattle.saber_check.specs.Widths.{term_width}
-use Rattle.saber_check.specs.Faults.{prod_faults}
+use Rattle.saber_check.specs.Walked.{prod_faults}
 use Rattle.saber_check.proofs.Lemmas.{Going}
 use Rattle.saber_query.specs.Trees.{query_of}
 use Rattle.saber_check.proofs.walk.Walk.terms.Given as goal
